@@ -1,0 +1,85 @@
+//! The refusals of stacks, arenas and their insertions.
+
+use thiserror::Error;
+
+/// Memory was refused, or a constructor was asked for more than its type may ever hold.
+#[derive(Clone, Copy, Debug, PartialEq, Eq, Error)]
+#[error("memory allocation failed")]
+pub struct AllocError;
+
+/// A limit was asked for that lies below the slots in use.
+#[derive(Clone, Copy, Debug, PartialEq, Eq, Error)]
+#[error("the max capacity limit could not be reduced, because the capacity would also need to be reduced to equal it, and the capacity could not be reduced in this case")]
+pub struct MaxCapacityReductionError;
+
+/// The length has reached the capacity.
+#[derive(Clone, Copy, Debug, PartialEq, Eq, Error)]
+#[error("an operation would not be within existing capacity")]
+pub struct NotWithinCapacityError;
+
+/// The capacity was not changed.
+#[derive(Clone, Copy, Debug, PartialEq, Eq, Error)]
+pub enum ReallocationError {
+    /// The limit is reached, or is less than what was asked for.
+    #[error("a max capacity limit prevents growing the capacity")]
+    BeyondMaxCapacity,
+    /// Memory was refused, or there is no greater number of slots.
+    #[error("a memory reallocation failed")]
+    AllocError,
+}
+
+/// Nothing was inserted under the pointer asked for.
+#[derive(Clone, Copy, Debug, PartialEq, Eq, Error)]
+pub enum DirectInsertionError {
+    /// The index is above the capacity.
+    #[error("a direct insertion index points to an internal slot that does not fit within existing capacity")]
+    NotWithinCapacity,
+    /// An entry stands at the index.
+    #[error("a direct insertion index points to an internal slot where there is already an existing element")]
+    ExistingElementAtIndex,
+}
+
+/// Nothing was inserted into a chain. Carried for chained arenas; no call of this layer answers it.
+#[derive(Clone, Copy, Debug, PartialEq, Eq, Error)]
+pub enum ChainInsertionError {
+    /// The link that was asked for cannot be made.
+    #[error("a `LinkInsertKind` requirement was not met")]
+    FailedLinkRequirement,
+    /// The length has reached the capacity.
+    #[error("an operation would not be within existing capacity")]
+    NotWithinCapacity,
+    /// The limit is reached.
+    #[error("a max capacity limit prevents growing the capacity")]
+    BeyondMaxCapacity,
+    /// Memory was refused.
+    #[error("a memory reallocation failed")]
+    AllocError,
+}
+
+/// Nothing was inserted in order. Carried for ordered arenas; no call of this layer answers it.
+#[derive(Clone, Copy, Debug, PartialEq, Eq, Error)]
+pub enum OrdInsertionError {
+    /// The place that was asked for is not in order.
+    #[error("an `OrdInsertKind` requirement was not met")]
+    FailedOrdRequirement,
+    /// The length has reached the capacity.
+    #[error("an operation would not be within existing capacity")]
+    NotWithinCapacity,
+    /// The limit is reached.
+    #[error("a max capacity limit prevents growing the capacity")]
+    BeyondMaxCapacity,
+    /// Memory was refused.
+    #[error("a memory reallocation failed")]
+    AllocError,
+}
+
+/// Two places were not lent at once.
+#[derive(Clone, Copy, Debug, PartialEq, Eq, Error)]
+pub enum GetDisjointMutError {
+    /// There is nothing at one of the two places.
+    #[error("an index is out of bounds")]
+    IndexOutOfBounds,
+    /// Both places are the same one.
+    #[error("the indices overlap")]
+    OverlappingIndices,
+}

@@ -1,0 +1,61 @@
+//! Pointers: an index and a generation.
+
+ghost use Rattle.std.specs.Prelude.{◌≡◌, List, ℕ, ◌&&◌};
+ghost use Rattle.std.specs.Ordering.{then_cmp, on};
+
+use crate::generation::PtrGen;
+use crate::inx::PtrInx;
+use std::fmt::Debug;
+use std::hash::Hash;
+
+/// A pointer to an entry of an arena: an index and a generation, and no more.
+///
+/// Contracts speak of its `index_of` and `generation_of`. Two pointers are equal exactly where
+/// both are, and pointers go by their indexes first and then by their generations.
+pub trait Ptr: Debug + Hash + Clone + Copy + PartialEq + Eq + PartialOrd + Ord + 'static {
+    /// The type of indexes.
+    type Inx: PtrInx;
+
+    /// The type of generations.
+    type Gen: PtrGen;
+
+    /// The index.
+    ghost index_of: { Self → Self.Inx };
+
+    /// The generation.
+    ghost generation_of: { Self → Self.Gen };
+
+    /// The name of the type in texts.
+    ghost type_name: { List ℕ };
+
+    /// The name of the type in texts.
+    fn name() -> &'static str
+        ensures { result.now ≡ type_name };
+
+    /// The pointer of the greatest index of the type and the generation 1.
+    fn invalid() -> Self
+        ensures index { Self.Inx.number (index_of result) ≡ Self.Inx.greatest }
+        ensures generation { Self.Gen.number (generation_of result) ≡ 1 };
+
+    /// The index.
+    fn inx(self) -> Self::Inx
+        ensures { result ≡ index_of self };
+
+    /// The generation.
+    fn generation(self) -> Self::Gen
+        ensures { result ≡ generation_of self };
+
+    /// The pointer of an index and a generation.
+    fn _from_raw(inx: Self::Inx, generation: Self::Gen) -> Self
+        ensures index { index_of result ≡ inx }
+        ensures generation { generation_of result ≡ generation };
+
+    /// A pointer is its index and its generation.
+    ghost distinct: { (p q : Self) → index_of p ≡ index_of q → generation_of p ≡ generation_of q → p ≡ q };
+
+    /// Pointers are equal exactly where their indexes and generations are.
+    ghost equates: { (p q : Self) → Self.eq p q ≡ (Self.Inx.eq (index_of p) (index_of q) && Self.Gen.eq (generation_of p) (generation_of q)) };
+
+    /// Pointers go by their indexes first, and then by their generations.
+    ghost orders: { (p q : Self) → Self.cmp p q ≡ then_cmp (on index_of Self.Inx.cmp) (on generation_of Self.Gen.cmp) p q };
+}

@@ -1,6 +1,6 @@
 //! Indexes of an arena's entries, counted from 1.
 
-ghost use Rattle.std.specs.Prelude.{◌≡◌, ℕ, ◌≤◌, ◌<◌, ◌==◌, ◌^◌, ◌-◌, MatchOption};
+ghost use Rattle.std.specs.Prelude.{◌≡◌, ℕ, ◌≤◌, ◌<◌, ◌==◌, ◌^◌, ◌-◌, ◌↔◌, IsSome, IfSome, MatchOption};
 ghost use Rattle.std.specs.Ordering.{nat_cmp};
 ghost use Rattle.std.specs.Int.NonZero.{non_zero_usize_get};
 ghost use Rattle.std.proofs.Common.{refl, arith};
@@ -25,7 +25,8 @@ pub trait PtrInx: Debug + Hash + Clone + Copy + PartialEq + Eq + PartialOrd + Or
 
     /// The index of that number; none exactly past `max_index`.
     fn try_from_usize(inx: NonZeroUsize) -> Option<Self>
-        ensures { MatchOption result (greatest_index greatest < non_zero_usize_get inx) (λ i. number i ≡ non_zero_usize_get inx) };
+        ensures variant { IsSome result ↔ (non_zero_usize_get inx ≤ greatest_index greatest) }
+        ensures number { IfSome result (λ i. number i ≡ non_zero_usize_get inx) };
 
     /// The number of the index; none exactly past `max_index`.
     fn try_into_usize(this: Self) -> Option<NonZeroUsize>

@@ -1,0 +1,3 @@
+pub mod NumberedLists
+pub mod WellFormed
+pub mod Vectors

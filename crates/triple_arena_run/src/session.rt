@@ -1,0 +1,127 @@
+//! Sessions: commands that speak of entries by name.
+
+ghost use Rattle.std.specs.Prelude.{◌≡◌, ◌+◌, ◌-◌, ◌<◌, length, option_copied, true};
+ghost use Rattle.std.specs.Option.{option_map};
+ghost use Rattle.triple_arena_ptr.specs.Numbers.{first_generation};
+ghost use Rattle.triple_arena_run.specs.Numbered.{item};
+ghost use Rattle.triple_arena_run.specs.SessionState.{SessionState, new_session, link_name};
+ghost use Rattle.triple_arena_run.specs.SessionRun.{IsStep, link_pointer};
+
+use crate::arena::Arena;
+use crate::command::Command;
+use crate::node::Node;
+use crate::reply::Reply;
+use std::alloc::Global;
+use std::marker::Model;
+use triple_arena_ptr::{Ptr, PtrGen};
+
+/// An arena of data with links, and the pointers that were given: a name is the number of a pointer's place
+/// in the order of giving, and is never given again.
+#[derive(Drop)]
+pub struct Session<P: Ptr, X> {
+    arena: Arena<P, Node<X, P>>,
+    table: Vec<P>,
+}
+
+impl<P: Ptr, X> Model for Session<P, X> {
+    ghost use Rattle.triple_arena_run.specs.SessionState.{SessionState};
+
+    ghost Value = { SessionState X };
+
+    ghost use Rattle.triple_arena_run.specs.SessionLayout.{state_of};
+
+    ghost view = { λ s. state_of (λ p. (P.Inx.number (P.index_of p), P.Gen.number (P.generation_of p))) s.arena s.table.items };
+}
+
+impl<P: Ptr, X: Copy> Session<P, X> {
+    /// A session without names, which takes no memory.
+    pub fn new(alloc: Global) -> Self
+        requires { P.Gen.counting ≡ true }
+        ensures { result ≡ new_session (first_generation P.Gen.counting) }
+    {
+        Session {
+            arena: Arena::new(alloc),
+            table: Vec::new(alloc),
+        }
+    }
+
+    /// Runs a command, and replies.
+    pub fn step(&mut self, command: Command<X>) -> Reply<X>
+        ensures { IsStep P.Gen.counting P.Gen.greatest self.old command result self.new }
+    {
+        match command {
+            Command::Insert(datum, link) => self.insert(datum, link),
+            Command::Get(name) => self.get(name),
+            Command::Remove(name) => self.remove(name),
+        }
+    }
+
+    fn insert(&mut self, datum: X, link: Option<usize>) -> Reply<X>
+        ensures { IsStep P.Gen.counting P.Gen.greatest self.old (Command.Insert datum link) result self.new }
+    {
+        let Some(link) = self.link_pointer(link) else {
+            return Reply::BadName;
+        };
+        if self.table.reserve(1).is_err() {
+            return Reply::NoMemory;
+        }
+        match self.arena.insert(Node { datum, link }) {
+            Ok(p) => {
+                self.table.push_reserved(p);
+                Reply::Given(self.table.len(), false)
+            }
+            Err(_) => Reply::NoMemory,
+        }
+    }
+
+    fn get(&self, name: usize) -> Reply<X>
+        ensures { IsStep P.Gen.counting P.Gen.greatest self.now (Command.Get name) result self.now }
+    {
+        match self.pointer(name).and_then(|p| self.arena.get(p)) {
+            Some(node) => Reply::Found(node.datum, self.link_name(node.link)),
+            None => Reply::Nothing,
+        }
+    }
+
+    fn remove(&mut self, name: usize) -> Reply<X>
+        ensures { IsStep P.Gen.counting P.Gen.greatest self.old (Command.Remove name) result self.new }
+    {
+        let Some(p) = self.pointer(name) else {
+            return Reply::Invalid;
+        };
+        match self.arena.remove(p) {
+            Some((node, wrapped)) => {
+                Reply::Removed(node.datum, self.link_name(node.link), wrapped)
+            }
+            None => Reply::Invalid,
+        }
+    }
+
+    // The pointer of a name, if it was given.
+    fn pointer(&self, name: usize) -> Option<P>
+        ensures { option_map (λ p. (P.Inx.number (P.index_of p), P.Gen.number (P.generation_of p))) result ≡ item self.now.table name }
+    {
+        if name == 0 {
+            return None;
+        }
+        self.table.get(name - 1).copied()
+    }
+
+    // The pointer of a link, or none if the link is to a name that was never given.
+    fn link_pointer(&self, link: Option<usize>) -> Option<Option<P>>
+        ensures { option_map (λ o. option_map (λ p. (P.Inx.number (P.index_of p), P.Gen.number (P.generation_of p))) o) result ≡ link_pointer self.now.table link }
+    {
+        match link {
+            Some(name) => self.pointer(name).map(Some),
+            None => Some(None),
+        }
+    }
+
+    // The name of the pointer of a link.
+    fn link_name(&self, link: Option<P>) -> Option<usize>
+        ensures { result ≡ link_name self.now.table (option_map (λ p. (P.Inx.number (P.index_of p), P.Gen.number (P.generation_of p))) link) }
+    {
+        let place = self.table.iter().position(|p| Some(*p) == link)?;
+        Some(place + 1)
+    }
+}

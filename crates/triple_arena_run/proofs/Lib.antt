@@ -1,3 +1,4 @@
 pub mod NumberedLists
 pub mod WellFormed
 pub mod Vectors
+pub mod Mapped

@@ -42,6 +42,10 @@ module _ {T : Type 0} where
     pub free_once : (i : ℕ) → count_by (λ j. j == i) s.free ≡ cond (is_free (item s.slots i)) 1 0
     pub total : arena_len s + length s.free ≡ slot_count s
 
--- the same arena of other values
+-- the entry with another value under its generation
+abbrev pub map_entry : {T U : Type 0} → (T → U) → ℕ × T → ℕ × U
+map_entry f e = (e.0, f e.1)
+
+-- the arena with another value in each entry
 abbrev pub map_values : {T U : Type 0} → (T → U) → ArenaState T → ArenaState U
-map_values f s = record { slots = map (option_map (λ e. (e.0, f e.1))) s.slots; counter = s.counter; free = s.free }
+map_values f s = record { slots = map (option_map (map_entry f)) s.slots; counter = s.counter; free = s.free }

@@ -18,7 +18,7 @@ new_session counter = record { arena = record { slots = []; counter = counter; f
 
 -- the name of a pointer: the least place at which the table has it
 abbrev pub name_of : List Pointer → Pointer → Option ℕ
-name_of table p = option_map suc (position (is_same p) table)
+name_of table p = option_map suc (position (λ q. is_same q p) table)
 
 -- the name of the pointer of a link
 abbrev pub link_name : List Pointer → Option Pointer → Option ℕ

@@ -1,9 +1,11 @@
 //! Sessions: commands that speak of entries by name.
 
-ghost use Rattle.std.specs.Prelude.{◌≡◌, ◌+◌, ◌-◌, ◌<◌, length, option_copied, true};
+ghost use Rattle.std.specs.Prelude.{◌≡◌, ◌+◌, ◌-◌, ◌<◌, length, map, slice_get, IfSome, option_copied, true};
+ghost use Rattle.std.specs.List.{position};
 ghost use Rattle.std.specs.Option.{option_map};
 ghost use Rattle.triple_arena_ptr.specs.Numbers.{first_generation};
 ghost use Rattle.triple_arena_run.specs.Numbered.{item};
+ghost use Rattle.triple_arena_run.specs.Pointers.{numbers, is_same};
 ghost use Rattle.triple_arena_run.specs.SessionState.{SessionState, new_session, link_name};
 ghost use Rattle.triple_arena_run.specs.SessionRun.{IsStep, link_pointer};
 
@@ -29,8 +31,9 @@ impl<P: Ptr, X> Model for Session<P, X> {
     ghost Value = { SessionState X };
 
     ghost use Rattle.triple_arena_run.specs.SessionLayout.{state_of};
+    ghost use Rattle.triple_arena_run.specs.Pointers.{numbers};
 
-    ghost view = { λ s. state_of (λ p. (P.Inx.number (P.index_of p), P.Gen.number (P.generation_of p))) s.arena s.table.items };
+    ghost view = { λ s. state_of (numbers P.Inx.number P.Gen.number P.index_of P.generation_of) s.arena s.table.items };
 }
 
 impl<P: Ptr, X: Copy> Session<P, X> {
@@ -68,7 +71,7 @@ impl<P: Ptr, X: Copy> Session<P, X> {
         match self.arena.insert(Node { datum, link }) {
             Ok(p) => {
                 self.table.push_reserved(p);
-                Reply::Given(self.table.len(), false)
+                Reply::Given(self.table.as_slice().len(), false)
             }
             Err(_) => Reply::NoMemory,
         }
@@ -77,7 +80,10 @@ impl<P: Ptr, X: Copy> Session<P, X> {
     fn get(&self, name: usize) -> Reply<X>
         ensures { IsStep P.Gen.counting P.Gen.greatest self.now (Command.Get name) result self.now }
     {
-        match self.pointer(name).and_then(|p| self.arena.get(p)) {
+        let Some(p) = self.pointer(name) else {
+            return Reply::Nothing;
+        };
+        match self.arena.get(p) {
             Some(node) => Reply::Found(node.datum, self.link_name(node.link)),
             None => Reply::Nothing,
         }
@@ -90,8 +96,8 @@ impl<P: Ptr, X: Copy> Session<P, X> {
             return Reply::Invalid;
         };
         match self.arena.remove(p) {
-            Some((node, wrapped)) => {
-                Reply::Removed(node.datum, self.link_name(node.link), wrapped)
+            Some((Node { datum, link }, wrapped)) => {
+                Reply::Removed(datum, self.link_name(link), wrapped)
             }
             None => Reply::Invalid,
         }
@@ -99,17 +105,17 @@ impl<P: Ptr, X: Copy> Session<P, X> {
 
     // The pointer of a name, if it was given.
     fn pointer(&self, name: usize) -> Option<P>
-        ensures { option_map (λ p. (P.Inx.number (P.index_of p), P.Gen.number (P.generation_of p))) result ≡ item self.now.table name }
+        ensures { option_map (numbers P.Inx.number P.Gen.number P.index_of P.generation_of) result ≡ item self.now.table name }
     {
         if name == 0 {
             return None;
         }
-        self.table.get(name - 1).copied()
+        read(self.table.as_slice(), name - 1)
     }
 
     // The pointer of a link, or none if the link is to a name that was never given.
     fn link_pointer(&self, link: Option<usize>) -> Option<Option<P>>
-        ensures { option_map (λ o. option_map (λ p. (P.Inx.number (P.index_of p), P.Gen.number (P.generation_of p))) o) result ≡ link_pointer self.now.table link }
+        ensures { option_map (option_map (numbers P.Inx.number P.Gen.number P.index_of P.generation_of)) result ≡ link_pointer self.now.table link }
     {
         match link {
             Some(name) => self.pointer(name).map(Some),
@@ -119,9 +125,37 @@ impl<P: Ptr, X: Copy> Session<P, X> {
 
     // The name of the pointer of a link.
     fn link_name(&self, link: Option<P>) -> Option<usize>
-        ensures { result ≡ link_name self.now.table (option_map (λ p. (P.Inx.number (P.index_of p), P.Gen.number (P.generation_of p))) link) }
+        ensures { result ≡ link_name self.now.table (option_map (numbers P.Inx.number P.Gen.number P.index_of P.generation_of) link) }
     {
-        let place = self.table.iter().position(|p| Some(*p) == link)?;
-        Some(place + 1)
+        match link {
+            Some(p) => match place_of(self.table.as_slice(), p) {
+                Some(place) => Some(place + 1),
+                None => None,
+            },
+            None => None,
+        }
     }
+}
+
+// The item at a place, if there is one.
+fn read<T: Copy>(items: &[T], place: usize) -> Option<T>
+    ensures { result ≡ slice_get items.now place }
+{
+    items.get(place).copied()
+}
+
+// The first place at which a table has a pointer.
+fn place_of<P: Ptr>(table: &[P], p: P) -> Option<usize>
+    ensures place { result ≡ position (λ q. is_same q (numbers P.Inx.number P.Gen.number P.index_of P.generation_of p)) (map (numbers P.Inx.number P.Gen.number P.index_of P.generation_of) table.now) }
+    ensures within { IfSome result (λ place. place < length table.now) }
+{
+    first_equal(table, p)
+}
+
+// The first place at which a table has an item that is equal to this one.
+fn first_equal<T: PartialEq + Copy>(table: &[T], item: T) -> Option<usize>
+    ensures place { result ≡ position (λ x. T.eq x item) table.now }
+    ensures within { IfSome result (λ place. place < length table.now) }
+{
+    table.iter().position(|x| *x == item)
 }

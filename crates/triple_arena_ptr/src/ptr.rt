@@ -1,18 +1,28 @@
 //! Pointers: an index and a generation.
 
-ghost use Rattle.std.specs.Prelude.{◌≡◌, List, ℕ, ◌&&◌};
+ghost use Rattle.std.specs.Prelude.{◌≡◌, List, ℕ, [], ◌∷◌, ◌&&◌};
 ghost use Rattle.std.specs.Ordering.{then_cmp, on};
 
 use crate::generation::PtrGen;
 use crate::inx::PtrInx;
 use std::fmt::Debug;
 use std::hash::Hash;
+use triple_arena_base::Recast;
 
 /// A pointer to an entry of an arena: an index and a generation, and no more.
 ///
 /// Contracts speak of its `index_of` and `generation_of`. Two pointers are equal exactly where
 /// both are, and pointers go by their indexes first and then by their generations.
-pub trait Ptr: Debug + Hash + Clone + Copy + PartialEq + Eq + PartialOrd + Ord + 'static {
+pub trait Ptr: Debug
+    + Hash
+    + Clone
+    + Copy
+    + PartialEq
+    + Eq
+    + PartialOrd
+    + Ord
+    + Recast<Self>
+    + 'static {
     /// The type of indexes.
     type Inx: PtrInx;
 
@@ -58,4 +68,10 @@ pub trait Ptr: Debug + Hash + Clone + Copy + PartialEq + Eq + PartialOrd + Ord +
 
     /// Pointers go by their indexes first, and then by their generations.
     ghost orders: { (p q : Self) → Self.cmp p q ≡ then_cmp (on index_of Self.Inx.cmp) (on generation_of Self.Gen.cmp) p q };
+
+    /// A pointer holds itself.
+    ghost holds_itself: { (p : Self) → Self.held p ≡ p ∷ [] };
+
+    /// A pointer is replaced as a whole.
+    ghost refills: { (p q : Self) → Self.refill p (q ∷ []) ≡ q };
 }

@@ -11,23 +11,17 @@ use crate::ptr::Ptr;
 use std::cmp::Ordering;
 use std::num::NonZeroUsize;
 
-/// Whether two pointers are one and the same, which `==` tells.
-pub fn is_same<P: Ptr>(p: P, q: P) -> bool
-    ensures same { IsTrue result ↔ (p ≡ q) }
-    ensures parts { IsTrue result ↔ (P.index_of p ≡ P.index_of q) × (P.generation_of p ≡ P.generation_of q) }
-{
-    p == q
-}
+/// Equality, order and hash of pointers agree: `==` holds exactly of a pointer and itself, so does
+/// the answer `Equal`, and equal pointers are hashed alike. Pointers go by the number of the index
+/// first, and then by that of the generation.
+pub fn pointers_agree<P: Ptr>()
+    ensures equality { (p q : P) → IsTrue (P.eq p q) ↔ (p ≡ q) }
+    ensures order { (p q : P) → (P.cmp p q ≡ Ordering.Equal) ↔ (p ≡ q) }
+    ensures hash { (p q : P) → IsTrue (P.eq p q) → P.hash_input p ≡ P.hash_input q }
+    ensures by_index_first { (p q : P) → P.cmp p q ≡ then_cmp (on (λ r. P.Inx.number (P.index_of r)) nat_cmp) (on (λ r. P.Gen.number (P.generation_of r)) nat_cmp) p q }
+{}
 
-/// The order of two pointers, which `cmp` tells: that of the numbers of their indexes, and of their
-/// generations where these are equal.
-pub fn order<P: Ptr>(p: P, q: P) -> Ordering
-    ensures { result ≡ then_cmp (on (λ x. P.Inx.number (P.index_of x)) nat_cmp) (on (λ x. P.Gen.number (P.generation_of x)) nat_cmp) p q }
-{
-    p.cmp(&q)
-}
-
-/// The index again, from its number; none exactly past `max_index`.
+/// Index conversions are inverse: the index again, from its number; none exactly past `max_index`.
 pub fn index_through_number<I: PtrInx>(inx: I) -> Option<I>
     ensures same { IfSome result (λ i. i ≡ inx) }
     ensures some { IsSome result ↔ (I.number inx ≤ greatest_index I.greatest) }
@@ -35,7 +29,7 @@ pub fn index_through_number<I: PtrInx>(inx: I) -> Option<I>
     I::try_from_usize(I::try_into_usize(inx)?)
 }
 
-/// The number again, from its index; none exactly past `max_index`.
+/// Index conversions are inverse: the number again, from its index; none exactly past `max_index`.
 pub fn number_through_index<I: PtrInx>(number: NonZeroUsize) -> Option<NonZeroUsize>
     ensures same { IfSome result (λ n. n ≡ number) }
     ensures some { IsSome result ↔ (non_zero_usize_get number ≤ greatest_index I.greatest) }

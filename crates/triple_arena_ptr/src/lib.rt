@@ -20,7 +20,7 @@ mod text;
 
 pub use generation::PtrGen;
 pub use inx::PtrInx;
-pub use laws::{index_through_number, is_same, number_through_index, order};
+pub use laws::{index_through_number, number_through_index, pointers_agree};
 pub use p0::P0;
 pub use p1::P1;
 pub use p2::P2;

@@ -5,7 +5,7 @@ mod pairs;
 
 use crate::{
     P0, P1, P2, P3, P4, P5, Ptr, PtrGen, PtrInx, PtrNoGen, Q2, fmt_pointer, index_through_number,
-    is_same, number_through_index, order,
+    number_through_index, pointers_agree,
 };
 use byte_pointer::B;
 use std::cmp::Ordering;
@@ -266,7 +266,7 @@ fn hash_of<T: Hash>(value: &T) -> u64 {
 fn has_default<P: Ptr + Default>(name: &str) -> bool {
     let p = P::default();
     P::name() == name
-        && is_same(p, P::invalid())
+        && p == P::invalid()
         && p.inx() == P::Inx::best_effort_invalid()
         && p.generation() == P::Gen::one()
         && hash_of(&p) == hash_of(&P::invalid())
@@ -292,7 +292,8 @@ fn order_to<P: Ptr<Inx = NonZeroU8, Gen = NonZeroU8>>(
     generation: u8,
 ) -> Option<Ordering> {
     let q = P::_from_raw(NonZeroU8::new(inx)?, NonZeroU8::new(generation)?);
-    Some(order(p, q))
+    pointers_agree::<P>();
+    Some(p.cmp(&q))
 }
 
 #[test]
@@ -313,7 +314,7 @@ fn pointers_go_by_index_first(rt: HostRuntime) -> Result<(), Fail> {
     }
     let first: P0 = at(1).ok_or("no index")?;
     let second: P0 = at(2).ok_or("no index")?;
-    assert!(rt; first < second && first != second && !is_same(first, second));
+    assert!(rt; first < second && first != second);
     Ok(())
 }
 

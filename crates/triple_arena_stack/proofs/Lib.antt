@@ -1,0 +1,3 @@
+pub mod ClientLemmas
+mod FilledLemmas
+mod PairLemmas

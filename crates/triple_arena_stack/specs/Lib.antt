@@ -1,0 +1,3 @@
+pub mod StackKind
+pub mod Capacity
+pub mod Disjoint

@@ -1,5 +1,4 @@
 //! A stack in an array.
-ghost use Rattle.std.specs.Prelude.{◌≡◌, ◌+◌, ◌-◌, ◌<◌, ◌≤◌, List, [], ◌∷◌, ◌++◌, length, take, slice_get, slice_set, Some, None};
 
 use crate::stack::NonZeroInxGenericStack;
 use arrayvec::ArrayVec;

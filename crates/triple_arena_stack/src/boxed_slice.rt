@@ -1,5 +1,4 @@
 //! A stack whose room is fixed when it is made.
-ghost use Rattle.std.specs.Prelude.{◌≡◌, ◌+◌, ◌-◌, ◌<◌, ◌≤◌, List, [], ◌∷◌, ◌++◌, length, take, slice_get, slice_set, Some, None};
 
 use crate::stack::NonZeroInxGenericStack;
 use crate::vec::HeapStack;

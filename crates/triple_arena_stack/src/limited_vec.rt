@@ -1,5 +1,4 @@
 //! A stack on the heap, up to a limit that can be set.
-ghost use Rattle.std.specs.Prelude.{◌≡◌, ◌+◌, ◌-◌, ◌<◌, ◌≤◌, List, [], ◌∷◌, ◌++◌, length, take, slice_get, slice_set, Some, None};
 
 use crate::stack::{NonZeroInxGenericStack, SetMaxCapacity};
 use crate::vec::HeapStack;

@@ -1,5 +1,4 @@
 //! The one struct of the four stacks, round what each keeps.
-ghost use Rattle.std.specs.Prelude.{◌≡◌, ◌+◌, ◌-◌, ◌<◌, ◌≤◌, List, [], ◌∷◌, ◌++◌, length, take, slice_get, slice_set, Some, None};
 
 use crate::array::ArrayStack;
 use crate::boxed_slice::FixedStack;
@@ -29,7 +28,7 @@ pub type NonZeroInxArray<T, const LIMIT: usize> = NonZeroInxStack<T, ArrayStack<
 /// that is the same for every kind.
 #[derive(Drop)]
 pub struct NonZeroInxStack<T, K> {
-    pub(crate) kept: K,
+    kept: K,
     of: PhantomData<T>,
 }
 

@@ -1,12 +1,12 @@
 //! The place of an item that is not pushed yet.
-ghost use Rattle.std.specs.Prelude.{◌≡◌, ◌+◌, ◌<◌, ◌≤◌, ◌↔◌, length, ℕ, IsOk, IfOk, Err};
+ghost use Rattle.std.specs.Prelude.{◌≡◌, ◌+◌, ◌↔◌, length, ℕ, IsOk, IfOk, IsOkAnd, Err};
 ghost use Rattle.std.specs.Borrow.{sem};
 ghost use Rattle.std.specs.Int.NonZero.{non_zero_usize_get};
-ghost use Rattle.triple_arena_stack.specs.Capacity.{capacity_of, room_for_one_more, IsAtLimit};
+ghost use Rattle.triple_arena_stack.specs.Capacity.{room_for_one_more, HasPlace, IsFullAtLimit};
 ghost use Rattle.triple_arena_stack.specs.PushEntry.{entry_stack, entry_lender, entry_rests, entry_lends};
 
 use crate::non_zero_inx_stack::NonZeroInxStack;
-use crate::stack::NonZeroInxGenericStack;
+use crate::stack::{NonZeroInxGenericStack, grow_if_full};
 use crate::{ArrayStack, FixedStack, HeapStack, LimitedStack};
 use std::num::NonZeroUsize;
 use triple_arena_base::{NotWithinCapacityError, ReallocationError};
@@ -56,7 +56,8 @@ impl<T, K: NonZeroInxGenericStack<T>> NonZeroInxStack<T, K> {
     pub fn entry_push_within_capacity(
         &mut self,
     ) -> Result<PushEntry<'_, T, K>, NotWithinCapacityError>
-        ensures variant { IsOk result ↔ (length (K.items self.old) < capacity_of (K.room self.old) (K.limit self.old)) }
+        ensures variant { IsOk result
+            ↔ HasPlace (K.room self.old) (K.limit self.old) (length (K.items self.old)) }
         ensures stack { IfOk result (λ entry. entry_stack entry ≡ self.old) }
         ensures same_reference { IfOk result (λ entry. entry_lender entry ≡ self.entry.ghost_name) }
         ensures* refused { sem 𝓛 (entry_rests T.row K.row self.entry result) }
@@ -69,18 +70,22 @@ impl<T, K: NonZeroInxGenericStack<T>> NonZeroInxStack<T, K> {
 
     /// A place for one more item; a full stack grows first.
     ///
-    /// Refused as [`NonZeroInxGenericStack::grow_if_full`] is; then the stack is unchanged.
+    /// Refused as [`NonZeroInxGenericStack::push_reallocating`] is; then the stack is unchanged.
     pub fn entry_push_reallocating(&mut self) -> Result<PushEntry<'_, T, K>, ReallocationError>
         ensures items { IfOk result (λ entry. K.items (entry_stack entry) ≡ K.items self.old) }
         ensures limit { IfOk result (λ entry. K.limit (entry_stack entry) ≡ K.limit self.old) }
-        ensures room { IfOk result (λ entry. K.room (entry_stack entry) ≡ room_for_one_more (K.room self.old) (K.limit self.old) (length (K.items self.old))) }
-        ensures has_place { IfOk result (λ entry. length (K.items (entry_stack entry)) < capacity_of (K.room (entry_stack entry)) (K.limit (entry_stack entry))) }
-        ensures had_room { length (K.items self.old) < capacity_of (K.room self.old) (K.limit self.old) → IsOk result }
-        ensures beyond { (result ≡ Err ReallocationError.BeyondMaxCapacity) ↔ ((capacity_of (K.room self.old) (K.limit self.old) ≤ length (K.items self.old)) × IsAtLimit (K.limit self.old) (capacity_of (K.room self.old) (K.limit self.old))) }
+        ensures room { IfOk result (λ entry. K.room (entry_stack entry)
+            ≡ room_for_one_more (K.room self.old) (K.limit self.old) (length (K.items self.old))) }
+        ensures has_place { IfOk result (λ entry. HasPlace
+            (K.room (entry_stack entry)) (K.limit (entry_stack entry)) (length (K.items (entry_stack entry)))) }
+        ensures had_place { HasPlace (K.room self.old) (K.limit self.old) (length (K.items self.old))
+            → IsOkAnd result (λ entry. entry_stack entry ≡ self.old) }
+        ensures beyond { (result ≡ Err ReallocationError.BeyondMaxCapacity)
+            ↔ IsFullAtLimit (K.room self.old) (K.limit self.old) (length (K.items self.old)) }
         ensures same_reference { IfOk result (λ entry. entry_lender entry ≡ self.entry.ghost_name) }
         ensures* refused { sem 𝓛 (entry_rests T.row K.row self.entry result) }
     {
-        match self.grow_if_full() {
+        match grow_if_full(self) {
             Ok(()) => Ok(PushEntry { stack: self }),
             Err(refusal) => Err(refusal),
         }
@@ -90,10 +95,14 @@ impl<T, K: NonZeroInxGenericStack<T>> NonZeroInxStack<T, K> {
     pub fn entry_push(&mut self) -> Result<PushEntry<'_, T, K>, ReallocationError>
         ensures items { IfOk result (λ entry. K.items (entry_stack entry) ≡ K.items self.old) }
         ensures limit { IfOk result (λ entry. K.limit (entry_stack entry) ≡ K.limit self.old) }
-        ensures room { IfOk result (λ entry. K.room (entry_stack entry) ≡ room_for_one_more (K.room self.old) (K.limit self.old) (length (K.items self.old))) }
-        ensures has_place { IfOk result (λ entry. length (K.items (entry_stack entry)) < capacity_of (K.room (entry_stack entry)) (K.limit (entry_stack entry))) }
-        ensures had_room { length (K.items self.old) < capacity_of (K.room self.old) (K.limit self.old) → IsOk result }
-        ensures beyond { (result ≡ Err ReallocationError.BeyondMaxCapacity) ↔ ((capacity_of (K.room self.old) (K.limit self.old) ≤ length (K.items self.old)) × IsAtLimit (K.limit self.old) (capacity_of (K.room self.old) (K.limit self.old))) }
+        ensures room { IfOk result (λ entry. K.room (entry_stack entry)
+            ≡ room_for_one_more (K.room self.old) (K.limit self.old) (length (K.items self.old))) }
+        ensures has_place { IfOk result (λ entry. HasPlace
+            (K.room (entry_stack entry)) (K.limit (entry_stack entry)) (length (K.items (entry_stack entry)))) }
+        ensures had_place { HasPlace (K.room self.old) (K.limit self.old) (length (K.items self.old))
+            → IsOkAnd result (λ entry. entry_stack entry ≡ self.old) }
+        ensures beyond { (result ≡ Err ReallocationError.BeyondMaxCapacity)
+            ↔ IsFullAtLimit (K.room self.old) (K.limit self.old) (length (K.items self.old)) }
         ensures same_reference { IfOk result (λ entry. entry_lender entry ≡ self.entry.ghost_name) }
         ensures* refused { sem 𝓛 (entry_rests T.row K.row self.entry result) }
     {
@@ -103,7 +112,8 @@ impl<T, K: NonZeroInxGenericStack<T>> NonZeroInxStack<T, K> {
 
 impl<'a, T, K: NonZeroInxGenericStack<T>> NonZeroInxGenericStackPushEntryTrait<'a, T>
     for PushEntry<'a, T, K> {
-    ghost has_place = { λ entry. length (K.items (entry_stack entry)) < capacity_of (K.room (entry_stack entry)) (K.limit (entry_stack entry)) };
+    ghost has_place = { λ entry. HasPlace
+        (K.room (entry_stack entry)) (K.limit (entry_stack entry)) (length (K.items (entry_stack entry))) };
 
     ghost place = { λ entry. length (K.items (entry_stack entry)) + 1 };
 
@@ -113,9 +123,11 @@ impl<'a, T, K: NonZeroInxGenericStack<T>> NonZeroInxGenericStackPushEntryTrait<'
     }
 
     fn push(self, t: T) -> &'a mut T
-        requires { length (K.items (entry_stack self)) < capacity_of (K.room (entry_stack self)) (K.limit (entry_stack self)) }
+        requires { HasPlace
+            (K.room (entry_stack self)) (K.limit (entry_stack self)) (length (K.items (entry_stack self))) }
         ensures value { result.now ≡ t }
-        ensures* writes_back { sem 𝓛 (entry_lends T.row K.row K.with_items K.items self.entry result) }
+        ensures* writes_back { sem 𝓛
+            (entry_lends T.row K.row K.with_items K.items self.entry result) }
     {
         let PushEntry { stack } = self;
         let (_inx, item) = stack.push_reserved(t);

@@ -1,11 +1,11 @@
 //! The contract of every stack.
-ghost use Rattle.std.specs.Prelude.{◌≡◌, ◌≢◌, ◌+◌, ◌-◌, ◌^◌, ◌<◌, ◌≤◌, ◌==◌, ◌↔◌, List, [], ◌∷◌, ◌++◌, length, take, slice_get, slice_set, ℕ, Option, IsOk, IfOk, OnOk, OnErr};
+ghost use Rattle.std.specs.Prelude.{◌≡◌, ◌+◌, ◌-◌, ◌≤◌, ◌==◌, ◌↔◌, List, [], ◌∷◌, ◌++◌, length, take, slice_get, slice_set, ℕ, Option, IsOk, IfOk, OnOk, OnErr};
 ghost use Rattle.std.specs.Borrow.{sem, Lends, LendsIf, Array};
 ghost use Rattle.std.specs.Int.NonZero.{non_zero_usize_get};
 ghost use Rattle.std.specs.List.{refill};
 ghost use Rattle.std.specs.Option.{option_copied, option_copied_mut};
 ghost use Rattle.triple_arena_stack.specs.StackKind.{StackKind, new_room, new_limit, made_room, made_limit, CanHold, TakesNoMemory, reallocated_room, IsOfKind};
-ghost use Rattle.triple_arena_stack.specs.Capacity.{capacity_of, next_capacity, room_for_one_more, IsWithin, IsBeyond, IsAtLimit};
+ghost use Rattle.triple_arena_stack.specs.Capacity.{capacity_of, next_capacity, room_for_one_more, HasPlace, IsWithin, IsBeyond, IsFullAtLimit};
 ghost use Rattle.triple_arena_stack.specs.Disjoint.{DisjointAnswer, MayWork, Worked};
 
 use crate::pair::pair_of;
@@ -75,28 +75,36 @@ pub trait NonZeroInxGenericStack<T>: Sized {
     fn reallocate_min_capacity(&mut self, min_capacity: usize) -> Result<(), ReallocationError>
         ensures items { items self.new ≡ items self.old }
         ensures limit { limit self.new ≡ limit self.old }
-        ensures room { OnOk result (room self.new ≡ reallocated_room kind (room self.old) (length (items self.old)) min_capacity) }
+        ensures room { OnOk result (room self.new
+            ≡ reallocated_room kind (room self.old) (length (items self.old)) min_capacity) }
         ensures refused { OnErr result (self.new ≡ self.old) }
         ensures within { OnOk result (IsWithin (limit self.old) min_capacity) }
-        ensures beyond { (result ≡ Err ReallocationError.BeyondMaxCapacity) ↔ IsBeyond (limit self.old) min_capacity }
-        ensures succeeds { IsWithin (limit self.old) min_capacity → reallocated_room kind (room self.old) (length (items self.old)) min_capacity ≡ room self.old → IsOk result };
+        ensures beyond { (result ≡ Err ReallocationError.BeyondMaxCapacity)
+            ↔ IsBeyond (limit self.old) min_capacity }
+        ensures succeeds { IsWithin (limit self.old) min_capacity
+            → reallocated_room kind (room self.old) (length (items self.old)) min_capacity ≡ room self.old
+            → IsOk result };
 
     /// Pushes `t`, and gives its index and the item. There must be room.
     fn push_reserved(&mut self, t: T) -> (NonZeroUsize, &mut T)
-        requires { length (items self.old) < capacity_of (room self.old) (limit self.old) }
+        requires { HasPlace (room self.old) (limit self.old) (length (items self.old)) }
         ensures index { non_zero_usize_get result.0 ≡ length (items self.old) + 1 }
         ensures value { result.1.now ≡ t }
-        ensures* writes_back { sem 𝓛 (Lends Self.row T.row self.entry result.1 (λ w. with_items self.old (items self.old ++ w ∷ []))) };
+        ensures* writes_back { sem 𝓛 (Lends Self.row T.row self.entry result.1
+            (λ w. with_items self.old (items self.old ++ w ∷ []))) };
 
     /// The item at `inx`, for writing; None exactly past the length.
     fn get_mut(&mut self, inx: NonZeroUsize) -> Option<&mut T>
-        ensures value { option_copied_mut result ≡ slice_get (items self.old) (non_zero_usize_get inx - 1) }
-        ensures* writes_back { sem 𝓛 (LendsIf Self.row T.row self.entry result (λ w. with_items self.old (slice_set (items self.old) (non_zero_usize_get inx - 1) w)) self.old) };
+        ensures value { option_copied_mut result
+            ≡ slice_get (items self.old) (non_zero_usize_get inx - 1) }
+        ensures* writes_back { sem 𝓛 (LendsIf Self.row T.row self.entry result
+            (λ w. with_items self.old (slice_set (items self.old) (non_zero_usize_get inx - 1) w)) self.old) };
 
     /// Takes the item of the greatest index away; None exactly where there is none.
     fn pop(&mut self) -> Option<T>
         ensures value { result ≡ slice_get (items self.old) (length (items self.old) - 1) }
-        ensures items { self.new ≡ with_items self.old (take (length (items self.old) - 1) (items self.old)) };
+        ensures items { self.new
+            ≡ with_items self.old (take (length (items self.old) - 1) (items self.old)) };
 
     /// Drops all items. Room and limit stay.
     fn clear(&mut self)
@@ -111,7 +119,8 @@ pub trait NonZeroInxGenericStack<T>: Sized {
     /// The items, that of index 1 first, for writing.
     fn as_mut_slice(&mut self) -> &mut [T]
         ensures value { result.now ≡ items self.old }
-        ensures* writes_back { sem 𝓛 (Lends Self.row (Array T.row 0) self.entry result (λ ws. with_items self.old (refill (length (items self.old)) (items self.old) ws))) };
+        ensures* writes_back { sem 𝓛 (Lends Self.row (Array T.row 0) self.entry result
+            (λ ws. with_items self.old (refill (length (items self.old)) (items self.old) ws))) };
 
     // `with_items` puts in the items, and leaves room and limit
     ghost items_with_items: { (stack : Self) (xs : List T) → items (with_items stack xs) ≡ xs };
@@ -153,7 +162,8 @@ pub trait NonZeroInxGenericStack<T>: Sized {
     final fn push_within_capacity(&mut self, t: T) -> Result<NonZeroUsize, NotWithinCapacityError>
     where
         T: Drop,
-        ensures variant { IsOk result ↔ (length (items self.old) < capacity_of (room self.old) (limit self.old)) }
+        ensures variant { IsOk result
+            ↔ HasPlace (room self.old) (limit self.old) (length (items self.old)) }
         ensures index { IfOk result (λ inx. non_zero_usize_get inx ≡ length (items self.old) + 1) }
         ensures pushed { OnOk result (self.new ≡ with_items self.old (items self.old ++ t ∷ [])) }
         ensures refused { OnErr result (self.new ≡ self.old) }
@@ -165,50 +175,27 @@ pub trait NonZeroInxGenericStack<T>: Sized {
         Ok(inx)
     }
 
-    /// Makes room for one more item where the stack is full, and else does nothing.
+    /// Pushes `t`, and gives its index. A full stack grows first, to 4 places or to twice its
+    /// capacity, as far as the limit allows and there are numbers.
     ///
-    /// A full stack grows to 4 places, or to twice its capacity, as far as the limit allows and
-    /// there are numbers. `BeyondMaxCapacity` exactly where the limit is reached; else `AllocError`
-    /// where memory is refused, or there is no greater number. Neither changes the stack.
-    final fn grow_if_full(&mut self) -> Result<(), ReallocationError>
-        ensures items { items self.new ≡ items self.old }
-        ensures limit { limit self.new ≡ limit self.old }
-        ensures room { OnOk result (room self.new ≡ room_for_one_more (room self.old) (limit self.old) (length (items self.old))) }
-        ensures refused { OnErr result (self.new ≡ self.old) }
-        ensures had_room { length (items self.old) < capacity_of (room self.old) (limit self.old) → IsOk result × (self.new ≡ self.old) }
-        ensures beyond { (result ≡ Err ReallocationError.BeyondMaxCapacity) ↔ ((capacity_of (room self.old) (limit self.old) ≤ length (items self.old)) × IsAtLimit (limit self.old) (capacity_of (room self.old) (limit self.old))) }
-        ensures has_room { OnOk result (length (items self.new) < capacity_of (room self.new) (limit self.new)) }
-    {
-        let capacity = self.capacity();
-        if self.len() < capacity {
-            return Ok(());
-        }
-        let limit = self.max_capacity();
-        if limit.is_some_and(|limit| limit <= capacity) {
-            return Err(ReallocationError::BeyondMaxCapacity);
-        }
-        if capacity == usize::MAX {
-            return Err(ReallocationError::AllocError);
-        }
-        self.reallocate_min_capacity(grown(capacity, limit))
-    }
-
-    /// Pushes `t`, and gives its index; a full stack grows first.
-    ///
-    /// Refused as [`Self::grow_if_full`] is; then the stack is unchanged, and `t` is dropped. Where
-    /// the stack isn't full, no memory is taken.
+    /// `BeyondMaxCapacity` exactly where the stack is full and its limit is reached; else
+    /// `AllocError` where it is full and memory is refused, or there is no greater number. Then the
+    /// stack is unchanged, and `t` is dropped. Where the stack isn't full, no memory is taken.
     final fn push_reallocating(&mut self, t: T) -> Result<NonZeroUsize, ReallocationError>
     where
         T: Drop,
         ensures index { IfOk result (λ inx. non_zero_usize_get inx ≡ length (items self.old) + 1) }
         ensures items { OnOk result (items self.new ≡ items self.old ++ t ∷ []) }
-        ensures room { OnOk result (room self.new ≡ room_for_one_more (room self.old) (limit self.old) (length (items self.old))) }
+        ensures room { OnOk result (room self.new
+            ≡ room_for_one_more (room self.old) (limit self.old) (length (items self.old))) }
         ensures limit { limit self.new ≡ limit self.old }
         ensures refused { OnErr result (self.new ≡ self.old) }
-        ensures had_room { length (items self.old) < capacity_of (room self.old) (limit self.old) → IsOk result × (self.new ≡ with_items self.old (items self.old ++ t ∷ [])) }
-        ensures beyond { (result ≡ Err ReallocationError.BeyondMaxCapacity) ↔ ((capacity_of (room self.old) (limit self.old) ≤ length (items self.old)) × IsAtLimit (limit self.old) (capacity_of (room self.old) (limit self.old))) }
+        ensures had_place { HasPlace (room self.old) (limit self.old) (length (items self.old))
+            → IsOk result × (self.new ≡ with_items self.old (items self.old ++ t ∷ [])) }
+        ensures beyond { (result ≡ Err ReallocationError.BeyondMaxCapacity)
+            ↔ IsFullAtLimit (room self.old) (limit self.old) (length (items self.old)) }
     {
-        match self.grow_if_full() {
+        match grow_if_full(self) {
             Ok(()) => {
                 let (inx, _item) = self.push_reserved(t);
                 Ok(inx)
@@ -223,11 +210,14 @@ pub trait NonZeroInxGenericStack<T>: Sized {
         T: Drop,
         ensures index { IfOk result (λ inx. non_zero_usize_get inx ≡ length (items self.old) + 1) }
         ensures items { OnOk result (items self.new ≡ items self.old ++ t ∷ []) }
-        ensures room { OnOk result (room self.new ≡ room_for_one_more (room self.old) (limit self.old) (length (items self.old))) }
+        ensures room { OnOk result (room self.new
+            ≡ room_for_one_more (room self.old) (limit self.old) (length (items self.old))) }
         ensures limit { limit self.new ≡ limit self.old }
         ensures refused { OnErr result (self.new ≡ self.old) }
-        ensures had_room { length (items self.old) < capacity_of (room self.old) (limit self.old) → IsOk result × (self.new ≡ with_items self.old (items self.old ++ t ∷ [])) }
-        ensures beyond { (result ≡ Err ReallocationError.BeyondMaxCapacity) ↔ ((capacity_of (room self.old) (limit self.old) ≤ length (items self.old)) × IsAtLimit (limit self.old) (capacity_of (room self.old) (limit self.old))) }
+        ensures had_place { HasPlace (room self.old) (limit self.old) (length (items self.old))
+            → IsOk result × (self.new ≡ with_items self.old (items self.old ++ t ∷ [])) }
+        ensures beyond { (result ≡ Err ReallocationError.BeyondMaxCapacity)
+            ↔ IsFullAtLimit (room self.old) (limit self.old) (length (items self.old)) }
     {
         self.push_reallocating(t)
     }
@@ -241,7 +231,8 @@ pub trait NonZeroInxGenericStack<T>: Sized {
         first: NonZeroUsize,
         second: NonZeroUsize,
     ) -> Result<(), GetDisjointMutError>
-        ensures { DisjointAnswer (length (items self.now)) (non_zero_usize_get first) (non_zero_usize_get second) result }
+        ensures { DisjointAnswer (length (items self.now))
+            (non_zero_usize_get first) (non_zero_usize_get second) result }
     {
         let len = self.len();
         if first.get() > len || second.get() > len {
@@ -262,12 +253,14 @@ pub trait NonZeroInxGenericStack<T>: Sized {
         second: NonZeroUsize,
         f: F,
     ) -> Result<R, GetDisjointMutError>
-    where
-        F: Drop,
-        requires { MayWork F.FnOnce f (non_zero_usize_get first - 1) (non_zero_usize_get second - 1) (items self.old) }
-        ensures variant { DisjointAnswer (length (items self.old)) (non_zero_usize_get first) (non_zero_usize_get second) result }
+        requires { MayWork F.FnOnce f
+            (non_zero_usize_get first - 1) (non_zero_usize_get second - 1) (items self.old) }
+        ensures variant { DisjointAnswer (length (items self.old))
+            (non_zero_usize_get first) (non_zero_usize_get second) result }
         ensures refused { OnErr result (self.new ≡ self.old) }
-        ensures items { IfOk result (λ r. Worked F.FnOnce f (non_zero_usize_get first - 1) (non_zero_usize_get second - 1) (items self.old) r (items self.new)) }
+        ensures items { IfOk result (λ r. Worked F.FnOnce f
+            (non_zero_usize_get first - 1) (non_zero_usize_get second - 1)
+            (items self.old) r (items self.new)) }
         ensures others { self.new ≡ with_items self.old (items self.new) }
     {
         self.check_disjoint(first, second)?;
@@ -290,8 +283,40 @@ pub trait SetMaxCapacity<T>: NonZeroInxGenericStack<T> {
         ensures refused { OnErr result (self.new ≡ self.old) };
 }
 
+/// Makes room for one more item where the stack is full, and else does nothing.
+///
+/// Refused as [`NonZeroInxGenericStack::push_reallocating`] is; then the stack is unchanged.
+pub(crate) fn grow_if_full<T, S: NonZeroInxGenericStack<T>>(
+    stack: &mut S,
+) -> Result<(), ReallocationError>
+    ensures items { S.items stack.new ≡ S.items stack.old }
+    ensures limit { S.limit stack.new ≡ S.limit stack.old }
+    ensures room { OnOk result (S.room stack.new
+        ≡ room_for_one_more (S.room stack.old) (S.limit stack.old) (length (S.items stack.old))) }
+    ensures has_place { OnOk result
+        (HasPlace (S.room stack.new) (S.limit stack.new) (length (S.items stack.new))) }
+    ensures refused { OnErr result (stack.new ≡ stack.old) }
+    ensures had_place { HasPlace (S.room stack.old) (S.limit stack.old) (length (S.items stack.old))
+        → IsOk result × (stack.new ≡ stack.old) }
+    ensures beyond { (result ≡ Err ReallocationError.BeyondMaxCapacity)
+        ↔ IsFullAtLimit (S.room stack.old) (S.limit stack.old) (length (S.items stack.old)) }
+{
+    let capacity = stack.capacity();
+    if stack.len() < capacity {
+        return Ok(());
+    }
+    let limit = stack.max_capacity();
+    if limit.is_some_and(|most| most <= capacity) {
+        return Err(ReallocationError::BeyondMaxCapacity);
+    }
+    if capacity == usize::MAX {
+        return Err(ReallocationError::AllocError);
+    }
+    stack.reallocate_min_capacity(grown_capacity(capacity, limit))
+}
+
 // The capacity that a full stack grows to.
-fn grown(capacity: usize, limit: Option<usize>) -> usize
+fn grown_capacity(capacity: usize, limit: Option<usize>) -> usize
     ensures { result ≡ next_capacity capacity limit }
 {
     let next = if capacity == 0 {

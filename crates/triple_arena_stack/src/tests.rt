@@ -1,4 +1,8 @@
-//! What no clause of the stacks says: that calls succeed, texts, refusals by the machine, and a
-//! client that stands on the contract alone.
+//! What no clause of the stacks says: that their calls succeed, worked rows, refusals of memory, and
+//! a client that stands on the contract alone.
 
 mod client;
+mod entries;
+mod refusals;
+mod rows;
+mod token;

@@ -1,5 +1,4 @@
 //! A stack on the heap, without a limit.
-ghost use Rattle.std.specs.Prelude.{◌≡◌, ◌+◌, ◌-◌, ◌<◌, ◌≤◌, List, [], ◌∷◌, ◌++◌, length, take, slice_get, slice_set, Some, None, vec_len, vec_capacity};
 
 use crate::stack::NonZeroInxGenericStack;
 use std::alloc::Global;

@@ -177,6 +177,12 @@ pub fn is_at_limit<T, S: NonZeroInxGenericStack<Slot<T>>>(slots: &S) -> bool
     }
 }
 
+impl<T> Default for Slot<T> {
+    fn default() -> Self {
+        Slot::Free(0)
+    }
+}
+
 impl<T> Slot<T> {
     ghost use Rattle.triple_arena_stack.specs.contracts.tests.client.Slot.{the_row};
 

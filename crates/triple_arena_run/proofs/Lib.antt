@@ -1,2 +1,4 @@
 mod Numbers
+mod RunLaws
 mod Splits
+mod TextLaws

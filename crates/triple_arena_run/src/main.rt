@@ -2,7 +2,10 @@
 #![tactic(auto)]
 
 pub mod command;
+pub mod input;
 pub mod lines;
 pub mod reply;
+pub mod session;
+pub mod text;
 
 fn main() {}

@@ -4,5 +4,6 @@ pub mod ReplyText
 pub mod Runs
 pub mod TextRun
 pub mod LineRun
+pub mod Program
 pub mod SessionState
 pub mod SessionRun

@@ -1,3 +1,4 @@
+mod FormLaws
 mod Numbers
 mod RunLaws
 mod Splits

@@ -1,5 +1,6 @@
 pub mod Lines
 pub mod CommandText
+pub mod Forms
 pub mod ReplyText
 pub mod Runs
 pub mod TextRun

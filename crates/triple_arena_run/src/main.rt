@@ -3,6 +3,7 @@
 
 pub mod command;
 pub mod input;
+pub mod laws;
 pub mod lines;
 pub mod program;
 pub mod reply;

@@ -72,3 +72,6 @@ fn run_session<P: Ptr>(rt: &HostRuntime, mut session: Session<P, u64>) -> Result
         Err(_) => Err(TextError::Write),
     }
 }
+
+#[cfg(test)]
+mod tests;

@@ -88,6 +88,10 @@ impl fmt::Display for Wrapped {
     ghost output = { λ wrapped. Some (wrapped_text wrapped.0) };
 
     fn fmt<W: fmt::Write>(&self, f: &mut fmt::Formatter<W>) -> fmt::Result {
-        if self.0 { f.write_str(" wrapped") } else { Ok(()) }
+        if self.0 {
+            f.write_str(" wrapped")
+        } else {
+            Ok(())
+        }
     }
 }

@@ -93,11 +93,7 @@ enum LineEnd {
 }
 
 /// Runs a line, which may have no bytes.
-fn run_line<P: Ptr, W: Write>(
-    session: &mut Session<P, u64>,
-    line: &[u8],
-    output: &mut W,
-) -> LineEnd
+fn run_line<P: Ptr, W: Write>(session: &mut Session<P, u64>, line: &[u8], output: &mut W) -> LineEnd
     ensures { LineEnds (IsStep P.Gen.counting P.Gen.greatest) result line.now
         session.old session.new (W.contents output.old) (W.contents output.new) }
 {

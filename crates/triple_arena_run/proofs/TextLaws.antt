@@ -1,9 +1,9 @@
 -- The run of a text, line by line.
 use Rattle.std.proofs.Common.{◌≡◌, ℕ, ◌+◌, ◌-◌, ◌<◌, Bool, true, false, List, [], ◌∷◌, ◌++◌, Option, None, Some, Result, Ok, Err, length, take, drop, map, sym, ◌∙◌, ap, refl, subst, arith, slice_get, inl, inr, zero, suc, append_assoc, append-nil}
 use Rattle.std.specs.Prelude.{filter, IfSome, ◌⊎◌}
-use Rattle.std.specs.Io.KnownBytes.{Appends}
-use Rattle.std.proofs.KnownBytes.{Appends-nil, Appends-trans}
-use Rattle.std.proofs.lemmas.List.{map-append, take-append-drop}
+use Rattle.std.specs.Io.KnownBytes.{Appends, Keeps}
+use Rattle.std.proofs.KnownBytes.{Appends-nil, Appends-trans, Keeps-refl, Keeps-trans}
+use Rattle.std.proofs.lemmas.List.{map-append, take-append-drop, take_all}
 use Rattle.std.proofs.lemmas.List.Elements.{filter-append, All-append}
 use Rattle.std.proofs.lemmas.Grind.{flat_map-append}
 use Rattle.std.proofs.lemmas.Bool.Decides.{nat_tests}
@@ -17,7 +17,7 @@ use Rattle.triple_arena_run.specs.Lines.{has_bytes, lines_of}
 use Rattle.triple_arena_run.specs.CommandText.{command_of}
 use Rattle.triple_arena_run.specs.ReplyText.{tells_of_wrap, reply_line, reply_lines}
 use Rattle.triple_arena_run.specs.Runs.{IsRun, TellsOfNoWrap}
-use Rattle.triple_arena_run.specs.TextRun.{StandFor, IsMalformed, RunsLines, AnswersLines, AnswersToWrap, RunsThrough, StopsAtLine, StopsAtReply, IsTextRun}
+use Rattle.triple_arena_run.specs.TextRun.{StandFor, IsMalformed, RunsLines, AnswersLines, AnswersToWrap, RunsThrough, StopsAtLine, StopsAtReply, IsTextRun, RunsSome, IsFlushedRun}
 use Rattle.triple_arena_run.specs.LineRun.{RunsCommand, CommandEnds, LineEnds}
 use Rattle.triple_arena_run.proofs.RunLaws.{IsRun-append, TellsOfNoWrap-nil, TellsOfNoWrap-push}
 
@@ -133,5 +133,46 @@ module _ {S : Type 0} (Step : S → Command ℕ → Reply ℕ → S → Type 0) 
   IsTextRun-read (Some bytes) read text r s t a b is same ran = subst (λ z. IsTextRun Step (Some z) r s t a b) (is ∙ same) ran
 
   pub IsTextRun-unread : (known : Option (List ℕ)) (e : TextError) (s : S) (a : Option (List ℕ)) → (e ≡ error.Read) ⊎ (e ≡ error.NoMemory) → IsTextRun Step known (Err e) s s a a
-  IsTextRun-unread known e s a (inl is) = rw is (refl, refl)
-  IsTextRun-unread known e s a (inr is) = rw is (refl, refl)
+  IsTextRun-unread known e s a (inl is) = rw is (refl, Keeps-refl a)
+  IsTextRun-unread known e s a (inr is) = rw is (refl, Keeps-refl a)
+
+  -- ---- the flush after a run
+
+  Appends-kept : (a b c : Option (List ℕ)) (bs : List ℕ) → Appends a b bs → Keeps b c → Appends a c bs
+  Appends-kept None b c bs p q = tt
+  Appends-kept (Some x) None c bs p q = absurd p
+  Appends-kept (Some x) (Some y) None bs p q = absurd q
+  Appends-kept (Some x) (Some y) (Some z) bs p q = q ∙ p
+
+  AnswersLines-kept : (lines : List (List ℕ)) (s t : S) (a b c : Option (List ℕ)) → Keeps b c → AnswersLines Step lines s t a b → AnswersLines Step lines s t a c
+  AnswersLines-kept lines s t a b c kept ran = (ran.0, ran.1, ran.2, Appends-kept a b c (reply_lines ran.0) ran.3 kept)
+
+  RunsThrough-kept : (lines : List (List ℕ)) (s t : S) (a b c : Option (List ℕ)) → Keeps b c → RunsThrough Step lines s t a b → RunsThrough Step lines s t a c
+  RunsThrough-kept lines s t a b c kept (inl ran) = inl (AnswersLines-kept lines s t a b c kept ran)
+  RunsThrough-kept lines s t a b c kept (inr ran) = let more = ran.1 in inr (ran.0, (more.0, more.1, more.2, Appends-kept a b c (reply_lines more.0) more.3 kept))
+
+  IfSome-map : (known : Option (List ℕ)) (P Q : List ℕ → Type 0) → ((bytes : List ℕ) → P bytes → Q bytes) → IfSome known P → IfSome known Q
+  IfSome-map None P Q f holds = tt
+  IfSome-map (Some bytes) P Q f holds = f bytes holds
+
+  RunsSome-through : (lines : List (List ℕ)) (s t : S) (a b : Option (List ℕ)) → RunsThrough Step lines s t a b → RunsSome Step lines s t
+  RunsSome-through lines s t a b (inl ran) = (length lines, ran.0, subst (λ xs. RunsLines Step xs ran.0 s t) (sym (take_all (length lines) lines (omega arith))) ran.1)
+  RunsSome-through lines s t a b (inr ran) = (ran.0, ran.1.0, ran.1.1)
+
+  pub IsFlushedRun-flushed : (known : Option (List ℕ)) (r : Result (Unit {0}) TextError) (s t : S) (a b c : Option (List ℕ)) → IsTextRun Step known r s t a b → Keeps b c → IsFlushedRun Step known r s t a c
+  IsFlushedRun-flushed known (Ok x) s t a b c ran kept = IfSome-map known _ _ (λ bytes. RunsThrough-kept (lines_of bytes) s t a b c kept) ran
+  IsFlushedRun-flushed known (Err (error.Malformed n)) s t a b c ran kept = IfSome-map known _ _ (λ bytes stops. (stops.0, AnswersLines-kept (take (n - 1) (lines_of bytes)) s t a b c kept stops.1)) ran
+  IsFlushedRun-flushed known (Err error.Write) s t a b c ran kept = IfSome-map known _ _ (λ bytes stops. (stops.0, stops.1 ++ stops.2 ∷ [], stops.3)) ran
+  IsFlushedRun-flushed known (Err error.Read) s t a b c ran kept = (ran.0, Keeps-trans a b c ran.1 kept)
+  IsFlushedRun-flushed known (Err error.NoMemory) s t a b c ran kept = (ran.0, Keeps-trans a b c ran.1 kept)
+
+  RunsSome-none : (known : Option (List ℕ)) (s t : S) → t ≡ s → IfSome known (λ bytes. RunsSome Step (lines_of bytes) s t)
+  RunsSome-none None s t same = tt
+  RunsSome-none (Some bytes) s t same = (0, [], ([], refl, same))
+
+  pub IsFlushedRun-failed : (known : Option (List ℕ)) (r : Result (Unit {0}) TextError) (s t : S) (a b c : Option (List ℕ)) → IsTextRun Step known r s t a b → IsFlushedRun Step known (Err error.Write) s t a c
+  IsFlushedRun-failed known (Ok x) s t a b c ran = IfSome-map known _ _ (λ bytes. RunsSome-through (lines_of bytes) s t a b) ran
+  IsFlushedRun-failed known (Err (error.Malformed n)) s t a b c ran = IfSome-map known _ _ (λ bytes stops. (n - 1, stops.1.0, stops.1.1)) ran
+  IsFlushedRun-failed known (Err error.Write) s t a b c ran = IfSome-map known _ _ (λ bytes stops. (stops.0, stops.1 ++ stops.2 ∷ [], stops.3)) ran
+  IsFlushedRun-failed known (Err error.Read) s t a b c ran = RunsSome-none known s t ran.0
+  IsFlushedRun-failed known (Err error.NoMemory) s t a b c ran = RunsSome-none known s t ran.0

@@ -1,6 +1,6 @@
 -- What the run of a text does: its lines are taken in order, and the command of each runs and is answered by a line.
 use Rattle.std.specs.Prelude.{◌≡◌, ℕ, ◌-◌, ◌<◌, true, List, [], ◌∷◌, ◌++◌, Option, None, Some, Result, Ok, Err, IfSome, IsSomeAnd, take, map, filter, slice_get, ◌⊎◌}
-use Rattle.std.specs.Io.KnownBytes.{Appends}
+use Rattle.std.specs.Io.KnownBytes.{Appends, Keeps}
 use Rattle.triple_arena_run.specs.declared.command.Command.{Command}
 use Rattle.triple_arena_run.specs.declared.reply.Reply.{Reply}
 use Rattle.triple_arena_run.specs.declared.text.TextError.{TextError}
@@ -51,5 +51,15 @@ module _ {S : Type 0} (Step : S → Command ℕ → Reply ℕ → S → Type 0) 
   IsTextRun text (Ok done) s t old new = IfSome text (λ bytes. RunsThrough (lines_of bytes) s t old new)
   IsTextRun text (Err (Malformed n)) s t old new = IfSome text (λ bytes. StopsAtLine n (lines_of bytes) s t old new)
   IsTextRun text (Err Write) s t old new = IfSome text (λ bytes. StopsAtReply (lines_of bytes) s t)
-  IsTextRun text (Err Read) s t old new = (t ≡ s) × (new ≡ old)
-  IsTextRun text (Err NoMemory) s t old new = (t ≡ s) × (new ≡ old)
+  IsTextRun text (Err Read) s t old new = (t ≡ s) × Keeps old new
+  IsTextRun text (Err NoMemory) s t old new = (t ≡ s) × Keeps old new
+
+  -- The commands of the first lines ran, or none did.
+  abbrev pub RunsSome : List (List ℕ) → S → S → Type 0
+  RunsSome lines s t = (count : ℕ) × (replies : List (Reply ℕ)) × RunsLines (take count lines) replies s t
+
+  -- The same of a run whose writer was flushed after it: where a write or the flush failed, it isn't said how much
+  -- was written.
+  abbrev pub IsFlushedRun : Option (List ℕ) → Result (Unit {0}) TextError → S → S → Option (List ℕ) → Option (List ℕ) → Type 0
+  IsFlushedRun text (Err Write) s t old new = IfSome text (λ bytes. RunsSome (lines_of bytes) s t)
+  IsFlushedRun text outcome s t old new = IsTextRun text outcome s t old new

@@ -12,10 +12,10 @@ pub mod text;
 
 use program::{Kind, ProgramError, parse_args, status};
 use session::Session;
-use std::io::{BufWriter, ErrorKind, Write};
+use std::io::{BufWriter, ErrorKind};
 use std::process::ExitCode;
 use std::{env, io};
-use text::{TextError, run_text};
+use text::{TextError, run_text_and_flush};
 use triple_arena_ptr::{P0, Ptr};
 
 /// How many bytes of replies are gathered before they go out.
@@ -57,19 +57,13 @@ fn read_args(rt: &HostRuntime) -> io::Result<Option<Kind>> {
     Ok(parse_args(words.as_slice()))
 }
 
-/// Runs standard input. Replies are gathered in a buffer over standard output, which is flushed
-/// once, whatever the outcome was.
+/// Runs standard input. Replies are gathered in a buffer over standard output.
 fn run_session<P: Ptr>(rt: &HostRuntime, mut session: Session<P, u64>) -> Result<(), TextError> {
-    let Ok(mut output) = BufWriter::with_capacity(rt.alloc(), OUTPUT_BUFFER, io::writer(rt)) else {
-        return Err(TextError::NoMemory);
-    };
-    let outcome = run_text(&mut session, rt.alloc(), &mut rt.reader(), &mut output);
-    let flushed = output.flush();
-    // What a failed flush left is let go here: a dropped writer would try to write it once more.
-    let _ = output.into_parts();
-    match flushed {
-        Ok(()) => outcome,
-        Err(_) => Err(TextError::Write),
+    match BufWriter::with_capacity(rt.alloc(), OUTPUT_BUFFER, io::writer(rt)) {
+        Ok(output) => {
+            run_text_and_flush(&mut session, rt.alloc(), &mut rt.reader(), output).0
+        }
+        Err(_) => Err(TextError::NoMemory),
     }
 }
 

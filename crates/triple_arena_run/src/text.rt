@@ -1,9 +1,10 @@
 //! The run of a text: from the bytes of a reader to the bytes of a writer.
 
 ghost use Rattle.std.specs.Prelude.{◌≡◌};
+ghost use Rattle.std.specs.Io.Buffered.{writer_contents};
 ghost use Rattle.triple_arena_run.specs.Lines.{lines_of};
 ghost use Rattle.triple_arena_run.specs.SessionRun.{IsStep};
-ghost use Rattle.triple_arena_run.specs.TextRun.{IsTextRun};
+ghost use Rattle.triple_arena_run.specs.TextRun.{IsTextRun, IsFlushedRun};
 ghost use Rattle.triple_arena_run.specs.LineRun.{CommandEnds, LineEnds};
 
 use crate::command::parse_command;
@@ -11,7 +12,7 @@ use crate::input::read_text;
 use crate::lines::split_first;
 use crate::session::Session;
 use std::alloc::Global;
-use std::io::{Read, Write};
+use std::io::{BufWriter, Read, Write};
 use thiserror::Error;
 use triple_arena_ptr::Ptr;
 
@@ -51,6 +52,29 @@ pub fn run_text<P: Ptr, R: Read, W: Write>(
     match read_text(alloc, input) {
         Ok(text) => run_lines(session, text.as_slice(), output),
         Err(e) => Err(e),
+    }
+}
+
+/// Runs a text as `run_text` does, over a buffered writer. The writer is flushed once when the run
+/// has ended, whatever its outcome, and what it stood before is given back.
+///
+/// A failed flush is the error `Write`, and the bytes that it left are let go.
+pub fn run_text_and_flush<P: Ptr, R: Read, W: Write + Drop>(
+    session: &mut Session<P, u64>,
+    alloc: Global,
+    input: &mut R,
+    mut output: BufWriter<W>,
+) -> (Result<(), TextError>, W)
+    ensures { IsFlushedRun (IsStep P.Gen.counting P.Gen.greatest) (R.remaining input.old) result.0
+        session.old session.new (writer_contents W.contents output) (W.contents result.1) }
+{
+    let outcome = run_text(session, alloc, input, &mut output);
+    let flushed = output.flush();
+    // A writer that is dropped would try to write once more what a failed flush left.
+    let (inner, _left) = output.into_parts();
+    match flushed {
+        Ok(()) => (outcome, inner),
+        Err(_) => (Err(TextError::Write), inner),
     }
 }
 

@@ -1,4 +1,9 @@
-pub mod NumberedLists
-pub mod WellFormed
-pub mod Vectors
-pub mod Mapped
+mod NumberedLists
+mod WellFormed
+mod Vectors
+mod Mapped
+mod FormLaws
+mod Numbers
+mod RunLaws
+mod Splits
+mod TextLaws

@@ -7,3 +7,11 @@ pub mod Ending
 pub mod SessionState
 pub mod SessionLayout
 pub mod SessionRun
+pub mod Runs
+pub mod Lines
+pub mod CommandText
+pub mod Forms
+pub mod ReplyText
+pub mod TextRun
+pub mod LineRun
+pub mod Program

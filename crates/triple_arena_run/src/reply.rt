@@ -1,20 +1,97 @@
-//! Replies.
+//! Replies, and their text.
 
-/// The reply to a command. A `bool` tells whether the arena's counter wrapped.
+ghost use Rattle.std.specs.Prelude.{◌≡◌, Some};
+ghost use Rattle.triple_arena_run.specs.ReplyText.{tells_of_wrap, reply_text, link_text, wrapped_text};
+
+use std::fmt;
+
+/// The reply to one command. A `bool` tells whether the counter of generations wrapped.
 #[derive(Clone, Copy, Debug, PartialEq, Eq)]
 pub enum Reply<X> {
-    /// The datum stands under this new name.
+    /// A new name.
     Given(usize, bool),
-    /// Memory was refused, and nothing has changed.
+    /// There was no memory, and nothing has changed.
     NoMemory,
-    /// The datum under the name, and the name of its link.
+    /// The datum and the link under a name.
     Found(X, Option<usize>),
-    /// Nothing stands under the name: it was never given, or has ended.
+    /// The name to look up was never given, or has ended.
     Nothing,
-    /// The datum that was taken out, and the name of its link.
+    /// The datum and the link that were taken away, and their name has ended.
     Removed(X, Option<usize>, bool),
-    /// The name to remove was never given, or has ended.
+    /// The name to act on was never given, or has ended, and nothing has changed.
     Invalid,
-    /// The link is to a name that was never given.
+    /// The link's name was never given, and nothing has changed.
     BadName,
+}
+
+impl<X> Reply<X> {
+    /// Whether the reply tells that the counter wrapped. A run ends with such a reply.
+    pub fn tells_of_wrap(&self) -> bool
+        ensures { result ≡ tells_of_wrap self.now }
+    {
+        match self {
+            Reply::Given(_, wrapped) => *wrapped,
+            Reply::Removed(_, _, wrapped) => *wrapped,
+            _ => false,
+        }
+    }
+}
+
+/// A reply's text, without a line break: `found 10 -`. Numbers are decimal, no link is a dash,
+/// and ` wrapped` follows where the reply tells of a wrap.
+impl fmt::Display for Reply<u64> {
+    ghost output = { λ reply. Some (reply_text reply) };
+
+    fn fmt<W: fmt::Write>(&self, f: &mut fmt::Formatter<W>) -> fmt::Result {
+        match self {
+            Reply::Given(name, wrapped) => {
+                let wrapped = Wrapped(*wrapped);
+                write!(f, "given {name}{wrapped}")
+            }
+            Reply::NoMemory => f.write_str("no memory"),
+            Reply::Found(datum, link) => {
+                let link = Link(*link);
+                write!(f, "found {datum} {link}")
+            }
+            Reply::Nothing => f.write_str("nothing"),
+            Reply::Removed(datum, link, wrapped) => {
+                let link = Link(*link);
+                let wrapped = Wrapped(*wrapped);
+                write!(f, "removed {datum} {link}{wrapped}")
+            }
+            Reply::Invalid => f.write_str("invalid"),
+            Reply::BadName => f.write_str("bad name"),
+        }
+    }
+}
+
+/// A link as it is written: its name, or a dash.
+#[derive(Clone, Copy)]
+struct Link(Option<usize>);
+
+impl fmt::Display for Link {
+    ghost output = { λ link. Some (link_text link.0) };
+
+    fn fmt<W: fmt::Write>(&self, f: &mut fmt::Formatter<W>) -> fmt::Result {
+        match self.0 {
+            Some(name) => write!(f, "{name}"),
+            None => f.write_str("-"),
+        }
+    }
+}
+
+/// What follows the text of a reply that tells of a wrap.
+#[derive(Clone, Copy)]
+struct Wrapped(bool);
+
+impl fmt::Display for Wrapped {
+    ghost output = { λ wrapped. Some (wrapped_text wrapped.0) };
+
+    fn fmt<W: fmt::Write>(&self, f: &mut fmt::Formatter<W>) -> fmt::Result {
+        if self.0 {
+            f.write_str(" wrapped")
+        } else {
+            Ok(())
+        }
+    }
 }

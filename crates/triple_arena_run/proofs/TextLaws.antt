@@ -1,0 +1,178 @@
+-- The run of a text, line by line.
+use Rattle.std.proofs.Common.{◌≡◌, ℕ, ◌+◌, ◌-◌, ◌<◌, Bool, true, false, List, [], ◌∷◌, ◌++◌, Option, None, Some, Result, Ok, Err, length, take, drop, map, sym, ◌∙◌, ap, refl, subst, arith, slice_get, inl, inr, zero, suc, append_assoc, append-nil}
+use Rattle.std.specs.Prelude.{filter, IfSome, ◌⊎◌}
+use Rattle.std.specs.Io.KnownBytes.{Appends, Keeps}
+use Rattle.std.proofs.KnownBytes.{Appends-nil, Appends-trans, Keeps-refl, Keeps-trans}
+use Rattle.std.proofs.lemmas.List.{map-append, take-append-drop, take_all}
+use Rattle.std.proofs.lemmas.List.Elements.{filter-append, All-append}
+use Rattle.std.proofs.lemmas.Grind.{flat_map-append}
+use Rattle.std.proofs.lemmas.Bool.Decides.{nat_tests}
+use Rattle.triple_arena_run.specs.declared.command.Command.{Command}
+use Rattle.triple_arena_run.specs.declared.reply.Reply.{Reply}
+use Rattle.triple_arena_run.specs.declared.text.LineEnd.{LineEnd}
+use Rattle.triple_arena_run.specs.declared.text.LineEnd.TheVariants.{Answered, Wrapped, Malformed, Unwritten}
+use Rattle.triple_arena_run.specs.declared.text.TextError.{TextError}
+use Rattle.triple_arena_run.specs.declared.text.TextError.TheVariants as error
+use Rattle.triple_arena_run.specs.Lines.{has_bytes, lines_of}
+use Rattle.triple_arena_run.specs.CommandText.{command_of}
+use Rattle.triple_arena_run.specs.ReplyText.{tells_of_wrap, reply_line, reply_lines}
+use Rattle.triple_arena_run.specs.Runs.{IsRun, TellsOfNoWrap}
+use Rattle.triple_arena_run.specs.TextRun.{StandFor, IsMalformed, RunsLines, AnswersLines, AnswersToWrap, RunsThrough, StopsAtLine, StopsAtReply, IsTextRun, RunsSome, IsFlushedRun}
+use Rattle.triple_arena_run.specs.LineRun.{RunsCommand, CommandEnds, LineEnds}
+use Rattle.triple_arena_run.proofs.RunLaws.{IsRun-append, TellsOfNoWrap-nil, TellsOfNoWrap-push}
+
+StandFor-append : (xs ys : List (List ℕ)) (cs ds : List (Command ℕ)) → StandFor xs cs → StandFor ys ds → StandFor (xs ++ ys) (cs ++ ds)
+StandFor-append xs ys cs ds first second =
+    ap (map command_of) (filter-append has_bytes xs ys) ∙ map-append command_of (filter has_bytes xs) (filter has_bytes ys)
+    ∙ ap (λ z. z ++ map command_of (filter has_bytes ys)) first ∙ ap (λ z. map Some cs ++ z) second ∙ sym (map-append Some cs ds)
+
+Appends-lines : (a b c : Option (List ℕ)) (rs qs : List (Reply ℕ)) → Appends a b (reply_lines rs) → Appends b c (reply_lines qs) → Appends a c (reply_lines (rs ++ qs))
+Appends-lines a b c rs qs first second =
+    subst (Appends a c) (sym (flat_map-append reply_line rs qs)) (Appends-trans a b c (reply_lines rs) (reply_lines qs) first second)
+
+Appends-one : (a b : Option (List ℕ)) (reply : Reply ℕ) → Appends a b (reply_line reply) → Appends a b (reply_lines (reply ∷ []))
+Appends-one a b reply wrote = subst (Appends a b) (sym (append-nil (reply_line reply))) wrote
+
+TellsOfNoWrap-append : (rs qs : List (Reply ℕ)) → TellsOfNoWrap rs → TellsOfNoWrap qs → TellsOfNoWrap (rs ++ qs)
+TellsOfNoWrap-append = All-append (λ reply. tells_of_wrap reply ≡ false)
+
+-- the front of what is left of a list
+pub front-drop : (xs : List (List ℕ)) (i : ℕ) (y : List ℕ) (ys : List (List ℕ)) → drop i xs ≡ y ∷ ys
+    → (take (i + 1) xs ≡ take i xs ++ y ∷ []) × (drop (i + 1) xs ≡ ys) × (slice_get xs i ≡ Some y)
+front-drop [] zero y ys left = cc
+front-drop [] (suc i) y ys left = cc
+front-drop (x ∷ xs) zero y ys left = (cc, cc, cc)
+front-drop (x ∷ xs) (suc i) y ys left =
+    let more = front-drop xs i y ys left in
+    let e : suc i + 1 ≡ suc (i + 1) = omega arith in
+    (rw e (ap (λ z. x ∷ z) more.0), rw e more.1, more.2)
+
+module _ {S : Type 0} (Step : S → Command ℕ → Reply ℕ → S → Type 0) where
+  RunsLines-append : (s m t : S) (xs ys : List (List ℕ)) (rs qs : List (Reply ℕ)) → RunsLines Step xs rs s m → RunsLines Step ys qs m t → RunsLines Step (xs ++ ys) (rs ++ qs) s t
+  RunsLines-append s m t xs ys rs qs first second =
+      (first.0 ++ second.0, StandFor-append xs ys first.0 second.0 first.1 second.1, IsRun-append Step s m t first.0 second.0 rs qs first.2 second.2)
+
+  RunsLines-one : (s t : S) (line : List ℕ) (reply : Reply ℕ) → has_bytes line ≡ true → RunsCommand Step line reply s t → RunsLines Step (line ∷ []) (reply ∷ []) s t
+  RunsLines-one s t line reply some ran = (ran.0 ∷ [], grind (arith, nat_tests, some, ran.1), (t, ran.2, refl))
+
+  pub AnswersLines-nil : (s : S) (a : Option (List ℕ)) → AnswersLines Step [] s s a a
+  AnswersLines-nil s a = ([], ([], refl, refl), TellsOfNoWrap-nil, Appends-nil a)
+
+  AnswersLines-append : (s m t : S) (xs ys : List (List ℕ)) (a b c : Option (List ℕ)) → AnswersLines Step xs s m a b → AnswersLines Step ys m t b c → AnswersLines Step (xs ++ ys) s t a c
+  AnswersLines-append s m t xs ys a b c first second = (
+    first.0 ++ second.0,
+    RunsLines-append s m t xs ys first.0 second.0 first.1 second.1,
+    TellsOfNoWrap-append first.0 second.0 first.2 second.2,
+    Appends-lines a b c first.0 second.0 first.3 second.3,
+  )
+
+  AnswersToWrap-append : (s m t : S) (xs ys : List (List ℕ)) (a b c : Option (List ℕ)) → AnswersLines Step xs s m a b → AnswersToWrap Step ys m t b c → AnswersToWrap Step (xs ++ ys) s t a c
+  AnswersToWrap-append s m t xs ys a b c first second =
+      let end = second.2 in (
+        first.0 ++ second.0,
+        RunsLines-append s m t xs ys first.0 second.0 first.1 second.1,
+        (first.0 ++ end.0, end.1, ap (λ z. first.0 ++ z) end.2 ∙ sym (append_assoc first.0 end.0 (end.1 ∷ [])), TellsOfNoWrap-append first.0 end.0 first.2 end.3, end.4),
+        Appends-lines a b c first.0 second.0 first.3 second.3,
+      )
+
+  -- a line of no bytes does nothing
+  pub AnswersLines-empty : (s : S) (line : List ℕ) (a : Option (List ℕ)) → has_bytes line ≡ false → AnswersLines Step (line ∷ []) s s a a
+  AnswersLines-empty s line a empty = ([], ([], grind (arith, nat_tests, empty), refl), TellsOfNoWrap-nil, Appends-nil a)
+
+  pub LineEnds-command : (e : LineEnd) (line : List ℕ) (s t : S) (a b : Option (List ℕ)) → has_bytes line ≡ true → CommandEnds Step e line s t a b → LineEnds Step e line s t a b
+  LineEnds-command Answered line s t a b some ran = (ran.0 ∷ [], RunsLines-one s t line ran.0 some ran.1, TellsOfNoWrap-push [] ran.0 TellsOfNoWrap-nil ran.2, Appends-one a b ran.0 ran.3)
+  LineEnds-command Wrapped line s t a b some ran = (ran.0 ∷ [], RunsLines-one s t line ran.0 some ran.1, ([], ran.0, refl, TellsOfNoWrap-nil, ran.2), Appends-one a b ran.0 ran.3)
+  LineEnds-command Malformed line s t a b some ran = (some, ran.0, ran.1, ran.2)
+  LineEnds-command Unwritten line s t a b some ran = (ran.0, RunsLines-one s t line ran.0 some ran.1)
+
+  module _ (all : List (List ℕ)) (i : ℕ) (line : List ℕ) (after : List (List ℕ)) (left : drop i all ≡ line ∷ after) (s m t : S) (a b c : Option (List ℕ)) (first : AnswersLines Step (take i all) s m a b) where
+    -- one line more
+    pub AnswersLines-line : AnswersLines Step (line ∷ []) m t b c → AnswersLines Step (take (i + 1) all) s t a c
+    AnswersLines-line second =
+        subst (λ lines. AnswersLines Step lines s t a c) (sym (front-drop all i line after left).0) (AnswersLines-append s m t (take i all) (line ∷ []) a b c first second)
+
+    -- the last line
+    pub RunsThrough-last : after ≡ [] → AnswersLines Step (line ∷ []) m t b c → RunsThrough Step all s t a c
+    RunsThrough-last none second =
+        let end : drop i all ≡ line ∷ [] = left ∙ ap (λ z. line ∷ z) none in
+        let whole : take i all ++ line ∷ [] ≡ all = ap (λ z. take i all ++ z) (sym end) ∙ take-append-drop i all in
+        inl (subst (λ lines. AnswersLines Step lines s t a c) whole (AnswersLines-append s m t (take i all) (line ∷ []) a b c first second))
+
+    pub RunsThrough-wrapped : AnswersToWrap Step (line ∷ []) m t b c → RunsThrough Step all s t a c
+    RunsThrough-wrapped second =
+        inr (
+          i + 1,
+          subst (λ lines. AnswersToWrap Step lines s t a c) (sym (front-drop all i line after left).0) (AnswersToWrap-append s m t (take i all) (line ∷ []) a b c first second),
+        )
+
+    pub StopsAtLine-malformed : LineEnds Step Malformed line m t b c → StopsAtLine Step (i + 1) all s t a c
+    StopsAtLine-malformed stopped =
+        let n : i + 1 - 1 ≡ i = omega arith in (
+          (omega arith, rw n (rw ((front-drop all i line after left).2) (stopped.0, stopped.1))),
+          rw (n, stopped.2, stopped.3) first,
+        )
+
+    pub StopsAtReply-unwritten : LineEnds Step Unwritten line m t b c → StopsAtReply Step all s t
+    StopsAtReply-unwritten second = (
+      i + 1,
+      first.0,
+      second.0,
+      subst (λ lines. RunsLines Step lines (first.0 ++ second.0 ∷ []) s t) (sym (front-drop all i line after left).0)
+          (RunsLines-append s m t (take i all) (line ∷ []) first.0 (second.0 ∷ []) first.1 second.1),
+      first.2,
+    )
+
+  -- what holds of the text that was read holds of the bytes that the reader had, where it tells them
+  pub IsTextRun-read : (known : Option (List ℕ)) (read text : List ℕ) (r : Result (Unit {0}) TextError) (s t : S) (a b : Option (List ℕ)) → read ≡ text → IfSome known (λ bytes. text ≡ bytes)
+      → IsTextRun Step (Some read) r s t a b → IsTextRun Step known r s t a b
+  IsTextRun-read None read text (Ok x) s t a b is same ran = tt
+  IsTextRun-read None read text (Err (error.Malformed n)) s t a b is same ran = tt
+  IsTextRun-read None read text (Err error.Write) s t a b is same ran = tt
+  IsTextRun-read None read text (Err error.Read) s t a b is same ran = ran
+  IsTextRun-read None read text (Err error.NoMemory) s t a b is same ran = ran
+  IsTextRun-read (Some bytes) read text r s t a b is same ran = subst (λ z. IsTextRun Step (Some z) r s t a b) (is ∙ same) ran
+
+  pub IsTextRun-unread : (known : Option (List ℕ)) (e : TextError) (s : S) (a : Option (List ℕ)) → (e ≡ error.Read) ⊎ (e ≡ error.NoMemory) → IsTextRun Step known (Err e) s s a a
+  IsTextRun-unread known e s a (inl is) = rw is (refl, Keeps-refl a)
+  IsTextRun-unread known e s a (inr is) = rw is (refl, Keeps-refl a)
+
+  -- ---- the flush after a run
+
+  Appends-kept : (a b c : Option (List ℕ)) (bs : List ℕ) → Appends a b bs → Keeps b c → Appends a c bs
+  Appends-kept None b c bs p q = tt
+  Appends-kept (Some x) None c bs p q = absurd p
+  Appends-kept (Some x) (Some y) None bs p q = absurd q
+  Appends-kept (Some x) (Some y) (Some z) bs p q = q ∙ p
+
+  AnswersLines-kept : (lines : List (List ℕ)) (s t : S) (a b c : Option (List ℕ)) → Keeps b c → AnswersLines Step lines s t a b → AnswersLines Step lines s t a c
+  AnswersLines-kept lines s t a b c kept ran = (ran.0, ran.1, ran.2, Appends-kept a b c (reply_lines ran.0) ran.3 kept)
+
+  RunsThrough-kept : (lines : List (List ℕ)) (s t : S) (a b c : Option (List ℕ)) → Keeps b c → RunsThrough Step lines s t a b → RunsThrough Step lines s t a c
+  RunsThrough-kept lines s t a b c kept (inl ran) = inl (AnswersLines-kept lines s t a b c kept ran)
+  RunsThrough-kept lines s t a b c kept (inr ran) = let more = ran.1 in inr (ran.0, (more.0, more.1, more.2, Appends-kept a b c (reply_lines more.0) more.3 kept))
+
+  IfSome-map : (known : Option (List ℕ)) (P Q : List ℕ → Type 0) → ((bytes : List ℕ) → P bytes → Q bytes) → IfSome known P → IfSome known Q
+  IfSome-map None P Q f holds = tt
+  IfSome-map (Some bytes) P Q f holds = f bytes holds
+
+  RunsSome-through : (lines : List (List ℕ)) (s t : S) (a b : Option (List ℕ)) → RunsThrough Step lines s t a b → RunsSome Step lines s t
+  RunsSome-through lines s t a b (inl ran) = (length lines, ran.0, subst (λ xs. RunsLines Step xs ran.0 s t) (sym (take_all (length lines) lines (omega arith))) ran.1)
+  RunsSome-through lines s t a b (inr ran) = (ran.0, ran.1.0, ran.1.1)
+
+  pub IsFlushedRun-flushed : (known : Option (List ℕ)) (r : Result (Unit {0}) TextError) (s t : S) (a b c : Option (List ℕ)) → IsTextRun Step known r s t a b → Keeps b c → IsFlushedRun Step known r s t a c
+  IsFlushedRun-flushed known (Ok x) s t a b c ran kept = IfSome-map known _ _ (λ bytes. RunsThrough-kept (lines_of bytes) s t a b c kept) ran
+  IsFlushedRun-flushed known (Err (error.Malformed n)) s t a b c ran kept = IfSome-map known _ _ (λ bytes stops. (stops.0, AnswersLines-kept (take (n - 1) (lines_of bytes)) s t a b c kept stops.1)) ran
+  IsFlushedRun-flushed known (Err error.Write) s t a b c ran kept = IfSome-map known _ _ (λ bytes stops. (stops.0, stops.1 ++ stops.2 ∷ [], stops.3)) ran
+  IsFlushedRun-flushed known (Err error.Read) s t a b c ran kept = (ran.0, Keeps-trans a b c ran.1 kept)
+  IsFlushedRun-flushed known (Err error.NoMemory) s t a b c ran kept = (ran.0, Keeps-trans a b c ran.1 kept)
+
+  RunsSome-none : (known : Option (List ℕ)) (s t : S) → t ≡ s → IfSome known (λ bytes. RunsSome Step (lines_of bytes) s t)
+  RunsSome-none None s t same = tt
+  RunsSome-none (Some bytes) s t same = (0, [], ([], refl, same))
+
+  pub IsFlushedRun-failed : (known : Option (List ℕ)) (r : Result (Unit {0}) TextError) (s t : S) (a b c : Option (List ℕ)) → IsTextRun Step known r s t a b → IsFlushedRun Step known (Err error.Write) s t a c
+  IsFlushedRun-failed known (Ok x) s t a b c ran = IfSome-map known _ _ (λ bytes. RunsSome-through (lines_of bytes) s t a b) ran
+  IsFlushedRun-failed known (Err (error.Malformed n)) s t a b c ran = IfSome-map known _ _ (λ bytes stops. (n - 1, stops.1.0, stops.1.1)) ran
+  IsFlushedRun-failed known (Err error.Write) s t a b c ran = IfSome-map known _ _ (λ bytes stops. (stops.0, stops.1 ++ stops.2 ∷ [], stops.3)) ran
+  IsFlushedRun-failed known (Err error.Read) s t a b c ran = RunsSome-none known s t ran.0
+  IsFlushedRun-failed known (Err error.NoMemory) s t a b c ran = RunsSome-none known s t ran.0

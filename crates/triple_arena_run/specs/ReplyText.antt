@@ -1,0 +1,36 @@
+-- The line that a reply is written as.
+use Rattle.std.specs.Prelude.{ℕ, Bool, false, List, [], ◌∷◌, ◌++◌, Option, None, Some, codes, if◌then◌else◌}
+use Rattle.std.specs.Fmt.{decimal}
+use Rattle.std.specs.List.{flat_map}
+use Rattle.triple_arena_run.specs.declared.reply.Reply.{Reply}
+use Rattle.triple_arena_run.specs.declared.reply.Reply.TheVariants.{Given, NoMemory, Found, Nothing, Removed, Invalid, BadName}
+
+-- Whether a reply tells that the counter wrapped.
+abbrev pub tells_of_wrap : {X : Type 0} → Reply X → Bool
+tells_of_wrap (Given name wrapped) = wrapped
+tells_of_wrap (Removed datum link wrapped) = wrapped
+tells_of_wrap reply = false
+
+-- A link is written as its name, and no link as a dash.
+abbrev pub link_text : Option ℕ → List ℕ
+link_text None = codes "-"
+link_text (Some name) = decimal name
+
+abbrev pub wrapped_text : Bool → List ℕ
+wrapped_text wrapped = if wrapped then codes " wrapped" else []
+
+abbrev pub reply_text : Reply ℕ → List ℕ
+reply_text (Given name wrapped) = codes "given " ++ decimal name ++ wrapped_text wrapped
+reply_text NoMemory = codes "no memory"
+reply_text (Found datum link) = codes "found " ++ decimal datum ++ codes " " ++ link_text link
+reply_text Nothing = codes "nothing"
+reply_text (Removed datum link wrapped) = codes "removed " ++ decimal datum ++ codes " " ++ link_text link ++ wrapped_text wrapped
+reply_text Invalid = codes "invalid"
+reply_text BadName = codes "bad name"
+
+-- The line of a reply: its text, and a byte 0A.
+abbrev pub reply_line : Reply ℕ → List ℕ
+reply_line reply = reply_text reply ++ 10 ∷ []
+
+abbrev pub reply_lines : List (Reply ℕ) → List ℕ
+reply_lines replies = flat_map reply_line replies

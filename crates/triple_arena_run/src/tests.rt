@@ -1,0 +1,7 @@
+//! Runs of texts over memory, and the texts that no clause states.
+
+mod devices;
+mod forms;
+mod program;
+mod replies;
+mod runs;

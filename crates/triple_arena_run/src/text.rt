@@ -1,0 +1,157 @@
+//! The run of a text: from the bytes of a reader to the bytes of a writer.
+
+ghost use Rattle.std.specs.Prelude.{◌≡◌};
+ghost use Rattle.std.specs.Io.Buffered.{writer_contents};
+ghost use Rattle.triple_arena_run.specs.Lines.{lines_of};
+ghost use Rattle.triple_arena_run.specs.SessionRun.{IsStep};
+ghost use Rattle.triple_arena_run.specs.TextRun.{IsTextRun, IsFlushedRun};
+ghost use Rattle.triple_arena_run.specs.LineRun.{CommandEnds, LineEnds};
+
+use crate::command::parse_command;
+use crate::input::read_text;
+use crate::lines::split_first;
+use crate::session::Session;
+use std::alloc::Global;
+use std::io::{BufWriter, Read, Write};
+use thiserror::Error;
+use triple_arena_ptr::Ptr;
+
+/// Why a text wasn't run to its end.
+#[derive(Clone, Copy, Debug, PartialEq, Eq, Error)]
+pub enum TextError {
+    /// The line of this number, counted from 1, stands for no command. The lines before it have
+    /// run and were answered.
+    #[error("line {0}: malformed")]
+    Malformed(usize),
+    /// The reader failed, or hadn't ended after 4294967296 reads. Nothing has run.
+    #[error("read failed")]
+    Read,
+    /// The writer failed. The command whose reply was being written has run, and those before it.
+    #[error("write failed")]
+    Write,
+    /// There was no memory for the text. Nothing has run.
+    #[error("no memory")]
+    NoMemory,
+}
+
+/// Runs the commands of a text: reads the text to its end, and then takes its lines in order, each
+/// parsed, run and answered by one line before the next is parsed.
+///
+/// A line of no bytes is skipped. The run ends with the text, with the first reply that tells of
+/// a wrap, or with the error that comes first; `TextError` says what stands after each. A reply
+/// goes out by writes alone, without asking for memory, and nothing is flushed.
+pub fn run_text<P: Ptr, R: Read, W: Write>(
+    session: &mut Session<P, u64>,
+    alloc: Global,
+    input: &mut R,
+    output: &mut W,
+) -> Result<(), TextError>
+    ensures { IsTextRun (IsStep P.Gen.counting P.Gen.greatest) (R.remaining input.old) result
+        session.old session.new (W.contents output.old) (W.contents output.new) }
+{
+    match read_text(alloc, input) {
+        Ok(text) => run_lines(session, text.as_slice(), output),
+        Err(e) => Err(e),
+    }
+}
+
+/// Runs a text as `run_text` does, over a buffered writer. The writer is flushed once when the run
+/// has ended, whatever its outcome, and what it stood before is given back.
+///
+/// A failed flush is the error `Write`, and the bytes that it left are let go.
+pub fn run_text_and_flush<P: Ptr, R: Read, W: Write + Drop>(
+    session: &mut Session<P, u64>,
+    alloc: Global,
+    input: &mut R,
+    mut output: BufWriter<W>,
+) -> (Result<(), TextError>, W)
+    ensures { IsFlushedRun (IsStep P.Gen.counting P.Gen.greatest) (R.remaining input.old) result.0
+        session.old session.new (writer_contents W.contents output) (W.contents result.1) }
+{
+    let outcome = run_text(session, alloc, input, &mut output);
+    let flushed = output.flush();
+    // A writer that is dropped would try to write once more what a failed flush left.
+    let (inner, _left) = output.into_parts();
+    match flushed {
+        Ok(()) => (outcome, inner),
+        Err(_) => (Err(TextError::Write), inner),
+    }
+}
+
+/// Runs the lines of a text.
+fn run_lines<P: Ptr, W: Write>(
+    session: &mut Session<P, u64>,
+    text: &[u8],
+    output: &mut W,
+) -> Result<(), TextError>
+    ensures { IsTextRun (IsStep P.Gen.counting P.Gen.greatest) (Some text.now) result
+        session.old session.new (W.contents output.old) (W.contents output.new) }
+{
+    let mut rest = text;
+    let mut before = 0;
+    'lines: loop {
+        let (line, after) = split_first(rest, b'\n');
+        match run_line(session, line, output) {
+            LineEnd::Answered => {}
+            LineEnd::Wrapped => return Ok(()),
+            LineEnd::Malformed => return Err(TextError::Malformed(before + 1)),
+            LineEnd::Unwritten => return Err(TextError::Write),
+        }
+        match after {
+            None => return Ok(()),
+            Some(next) => {
+                rest = next;
+                before += 1;
+            }
+        }
+    }
+}
+
+/// How the run of one line ended.
+#[derive(Clone, Copy)]
+enum LineEnd {
+    Answered,
+    Wrapped,
+    Malformed,
+    Unwritten,
+}
+
+/// Runs a line, which may have no bytes.
+fn run_line<P: Ptr, W: Write>(session: &mut Session<P, u64>, line: &[u8], output: &mut W) -> LineEnd
+    ensures { LineEnds (IsStep P.Gen.counting P.Gen.greatest) result line.now
+        session.old session.new (W.contents output.old) (W.contents output.new) }
+{
+    if line.is_empty() {
+        LineEnd::Answered
+    } else {
+        run_command(session, line, output)
+    }
+}
+
+/// Runs the command of a line, and writes the line of its reply.
+fn run_command<P: Ptr, W: Write>(
+    session: &mut Session<P, u64>,
+    line: &[u8],
+    output: &mut W,
+) -> LineEnd
+    ensures { CommandEnds (IsStep P.Gen.counting P.Gen.greatest) result line.now
+        session.old session.new (W.contents output.old) (W.contents output.new) }
+{
+    match parse_command(line) {
+        None => LineEnd::Malformed,
+        Some(command) => {
+            let reply = session.step(command);
+            let wrapped = reply.tells_of_wrap();
+            match writeln!(output, "{reply}") {
+                Err(_) => LineEnd::Unwritten,
+                Ok(()) => {
+                    if wrapped {
+                        LineEnd::Wrapped
+                    } else {
+                        LineEnd::Answered
+                    }
+                }
+            }
+        }
+    }
+}

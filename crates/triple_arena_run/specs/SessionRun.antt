@@ -1,41 +1,64 @@
--- What a command does to a session.
-use Rattle.std.specs.Prelude.{◌≡◌, ℕ, ◌+◌, ◌-◌, Bool, true, false, List, [], ◌∷◌, ◌++◌, Option, None, Some, nat_lt, nat_le, ◌==◌, ◌&&◌, MatchBool, length, slice_index_or, slice_set, if◌then◌else◌}
+-- What each command makes of a session, and what is replied.
+use Rattle.std.specs.Prelude.{◌≡◌, ℕ, ◌+◌, Bool, false, List, [], ◌∷◌, ◌++◌, length, Option, Some, None, IsSome}
+use Rattle.std.specs.Option.{option_map}
 use Rattle.triple_arena_ptr.specs.Numbers.{raise, wraps}
-use Rattle.triple_arena_run.specs.SessionState.{SessionState}
 use Rattle.triple_arena_run.specs.declared.command.Command.{Command}
 use Rattle.triple_arena_run.specs.declared.command.Command.TheVariants.{Insert, Get, Remove}
 use Rattle.triple_arena_run.specs.declared.reply.Reply.{Reply}
 use Rattle.triple_arena_run.specs.declared.reply.Reply.TheVariants.{Given, NoMemory, Found, Nothing, Removed, Invalid, BadName}
+use Rattle.triple_arena_run.specs.Numbered.{item}
+use Rattle.triple_arena_run.specs.Pointers.{Pointer}
+use Rattle.triple_arena_run.specs.ArenaState.{look_up}
+use Rattle.triple_arena_run.specs.Insertion.{inserted, next_pointer}
+use Rattle.triple_arena_run.specs.Ending.{removed}
+use Rattle.triple_arena_run.specs.SessionState.{SessionState, link_name, named}
+
+-- the pointer of a link that is given as a name or as none: a bad link, to a name that was never given, has none
+abbrev pub link_pointer : List Pointer → Option ℕ → Option (Option Pointer)
+link_pointer table None = Some None
+link_pointer table (Some name) = option_map Some (item table name)
 
 module _ {X : Type 0} where
-  abbrev pub row_of : SessionState X → ℕ → Option (X × Option ℕ)
-  row_of s name = if name == 0 then None else slice_index_or s.rows (name - 1) None
+  -- the datum stands in the arena with its link, and its pointer in the table under the next name
+  abbrev pub with_row : SessionState X → X → Option Pointer → SessionState X
+  with_row s datum link = record { arena = inserted s.arena (datum, link); table = s.table ++ next_pointer s.arena ∷ [] }
 
-  abbrev pub is_given : SessionState X → Option ℕ → Bool
-  is_given s None = true
-  is_given s (Some name) = nat_lt 0 name && nat_le name (length s.rows)
+  abbrev pub insert_answer : SessionState X → X → Option (Option Pointer) → Reply X × SessionState X
+  insert_answer s datum (Some link) = (Given (length s.table + 1) false, with_row s datum link)
+  insert_answer s datum None = (BadName, s)
 
-  abbrev pub with_row : SessionState X → X × Option ℕ → SessionState X
-  with_row s node = record { rows = s.rows ++ Some node ∷ []; counter = s.counter }
+  abbrev pub get_reply : SessionState X → Option (X × Option Pointer) → Reply X
+  get_reply s (Some node) = Found node.0 (link_name s.table node.1)
+  get_reply s None = Nothing
 
-  abbrev pub found_reply : Option (X × Option ℕ) → Reply X
-  found_reply None = Nothing
-  found_reply (Some node) = Found node.0 node.1
+module _ {X : Type 0} (counting : Bool) (greatest : ℕ) where
+  abbrev pub without_row : SessionState X → Pointer → SessionState X
+  without_row s p = record s { arena = removed (raise counting greatest) s.arena p.0 }
 
-  abbrev pub removed_reply : Bool → Option (X × Option ℕ) → Reply X
-  removed_reply wrapped None = Invalid
-  removed_reply wrapped (Some node) = Removed node.0 node.1 wrapped
+  abbrev pub removed_reply : SessionState X → X × Option Pointer → Reply X
+  removed_reply s node = Removed node.0 (link_name s.table node.1) (wraps counting greatest s.arena.counter)
 
-  abbrev pub removed_state : Bool → ℕ → SessionState X → ℕ → Option (X × Option ℕ) → SessionState X
-  removed_state counting greatest s name None = s
-  removed_state counting greatest s name (Some node) = record { rows = slice_set s.rows (name - 1) None; counter = raise counting greatest s.counter }
+  abbrev pub remove_under : SessionState X → Pointer → Option (X × Option Pointer) → Reply X × SessionState X
+  remove_under s p (Some node) = (removed_reply s node, without_row s p)
+  remove_under s p None = (Invalid, s)
 
-  abbrev pub IsInsertion : SessionState X → X × Option ℕ → Reply X → SessionState X → Type 0
-  IsInsertion s node (Given name wrapped) t = (name ≡ length s.rows + 1) × (wrapped ≡ false) × (t ≡ with_row s node)
-  IsInsertion s node NoMemory t = t ≡ s
-  IsInsertion s node reply t = ⊥
+  abbrev pub remove_answer : SessionState X → Option Pointer → Reply X × SessionState X
+  remove_answer s (Some p) = remove_under s p (look_up s.arena p)
+  remove_answer s None = (Invalid, s)
 
-  abbrev pub IsStep : Bool → ℕ → SessionState X → Command X → Reply X → SessionState X → Type 0
-  IsStep counting greatest s (Insert datum link) reply t = MatchBool (is_given s link) (IsInsertion s (datum, link) reply t) ((reply ≡ BadName) × (t ≡ s))
-  IsStep counting greatest s (Get name) reply t = (reply ≡ found_reply (row_of s name)) × (t ≡ s)
-  IsStep counting greatest s (Remove name) reply t = (reply ≡ removed_reply (wraps counting greatest s.counter) (row_of s name)) × (t ≡ removed_state counting greatest s name (row_of s name))
+  -- the reply to a command, and the session after it, where no memory is refused
+  abbrev pub answer : SessionState X → Command X → Reply X × SessionState X
+  answer s (Insert datum link) = insert_answer s datum (link_pointer s.table link)
+  answer s (Get name) = (get_reply s (named s name), s)
+  answer s (Remove name) = remove_answer s (item s.table name)
+
+  -- an insertion with a good link, which alone may want memory
+  abbrev pub MayWantMemory : SessionState X → Command X → Type 0
+  MayWantMemory s (Insert datum link) = IsSome (link_pointer s.table link)
+  MayWantMemory s (Get name) = ⊥
+  MayWantMemory s (Remove name) = ⊥
+
+  -- a command, its reply and the session after it: the answer, or a refusal for want of memory, which changes nothing
+  abbrev pub IsStep : SessionState X → Command X → Reply X → SessionState X → Type 0
+  IsStep s command NoMemory t = MayWantMemory s command × (t ≡ s)
+  IsStep s command reply t = (reply, t) ≡ answer s command

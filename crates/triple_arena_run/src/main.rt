@@ -1,10 +1,13 @@
 //! Reads commands from standard input, and prints one reply a line.
 #![tactic(auto)]
 
+mod arena;
 pub mod command;
+mod entry;
 pub mod input;
 pub mod laws;
 pub mod lines;
+pub mod node;
 pub mod program;
 pub mod reply;
 pub mod session;

@@ -1,68 +1,60 @@
-//! A stand-in session.
+//! Sessions: commands that speak of entries by name.
 
-ghost use Rattle.std.specs.Prelude.{◌≡◌, [], true};
+ghost use Rattle.std.specs.Prelude.{◌≡◌, ◌+◌, ◌-◌, ◌<◌, length, map, slice_get, IfSome, option_copied, true};
+ghost use Rattle.std.specs.List.{position};
+ghost use Rattle.std.specs.Option.{option_map};
 ghost use Rattle.triple_arena_ptr.specs.Numbers.{first_generation};
-ghost use Rattle.triple_arena_run.specs.SessionState.{SessionState};
-ghost use Rattle.triple_arena_run.specs.SessionRun.{row_of, is_given, IsStep};
+ghost use Rattle.triple_arena_run.specs.Numbered.{item};
+ghost use Rattle.triple_arena_run.specs.Pointers.{numbers, is_same};
+ghost use Rattle.triple_arena_run.specs.SessionState.{SessionState, new_session, link_name};
+ghost use Rattle.triple_arena_run.specs.SessionRun.{IsStep, link_pointer};
 
+use crate::arena::Arena;
 use crate::command::Command;
+use crate::node::Node;
 use crate::reply::Reply;
 use std::alloc::Global;
 use std::marker::Model;
 use triple_arena_ptr::{Ptr, PtrGen};
 
+/// An arena of data with links, and the pointers that were given: a name is the number of a pointer's place
+/// in the order of giving, and is never given again.
 #[derive(Drop)]
 pub struct Session<P: Ptr, X> {
-    rows: Vec<Option<(X, Option<usize>)>>,
-    counter: P::Gen,
+    arena: Arena<P, Node<X, P>>,
+    table: Vec<P>,
 }
 
 impl<P: Ptr, X> Model for Session<P, X> {
+    ghost use Rattle.triple_arena_run.specs.SessionState.{SessionState};
+
     ghost Value = { SessionState X };
 
-    ghost view = { λ s. record { rows = s.rows.items; counter = P.Gen.number s.counter } };
+    ghost use Rattle.triple_arena_run.specs.SessionLayout.{state_of};
+    ghost use Rattle.triple_arena_run.specs.Pointers.{numbers};
+
+    ghost view = { λ s. state_of (numbers P.Inx.number P.Gen.number P.index_of P.generation_of) s.arena s.table.items };
 }
 
 impl<P: Ptr, X: Copy> Session<P, X> {
+    /// A session without names, which takes no memory.
     pub fn new(alloc: Global) -> Self
         requires { P.Gen.counting ≡ true }
-        ensures { result ≡ record { rows = []; counter = 2 } }
+        ensures { result ≡ new_session (first_generation P.Gen.counting) }
     {
         Session {
-            rows: Vec::new(alloc),
-            counter: P::Gen::two(),
+            arena: Arena::new(alloc),
+            table: Vec::new(alloc),
         }
     }
 
-    fn row(&self, name: usize) -> Option<(X, Option<usize>)>
-        ensures { result ≡ row_of self.now name }
-    {
-        if name == 0 || name > self.rows.len() {
-            None
-        } else {
-            self.rows[name - 1]
-        }
-    }
-
-    fn is_given(&self, link: Option<usize>) -> bool
-        ensures { result ≡ is_given self.now link }
-    {
-        match link {
-            None => true,
-            Some(name) => 0 < name && name <= self.rows.len(),
-        }
-    }
-
-    /// Runs one command.
+    /// Runs a command, and replies.
     pub fn step(&mut self, command: Command<X>) -> Reply<X>
         ensures { IsStep P.Gen.counting P.Gen.greatest self.old command result self.new }
     {
         match command {
             Command::Insert(datum, link) => self.insert(datum, link),
-            Command::Get(name) => match self.row(name) {
-                Some(node) => Reply::Found(node.0, node.1),
-                None => Reply::Nothing,
-            },
+            Command::Get(name) => self.get(name),
             Command::Remove(name) => self.remove(name),
         }
     }
@@ -70,26 +62,100 @@ impl<P: Ptr, X: Copy> Session<P, X> {
     fn insert(&mut self, datum: X, link: Option<usize>) -> Reply<X>
         ensures { IsStep P.Gen.counting P.Gen.greatest self.old (Command.Insert datum link) result self.new }
     {
-        if !self.is_given(link) {
+        let Some(link) = self.link_pointer(link) else {
             return Reply::BadName;
+        };
+        if self.table.reserve(1).is_err() {
+            return Reply::NoMemory;
         }
-        match self.rows.push(Some((datum, link))) {
-            Ok(()) => Reply::Given(self.rows.len(), false),
+        match self.arena.insert(Node { datum, link }) {
+            Ok(p) => {
+                self.table.push_reserved(p);
+                Reply::Given(self.table.as_slice().len(), false)
+            }
             Err(_) => Reply::NoMemory,
+        }
+    }
+
+    fn get(&self, name: usize) -> Reply<X>
+        ensures { IsStep P.Gen.counting P.Gen.greatest self.now (Command.Get name) result self.now }
+    {
+        let Some(p) = self.pointer(name) else {
+            return Reply::Nothing;
+        };
+        match self.arena.get(p) {
+            Some(node) => Reply::Found(node.datum, self.link_name(node.link)),
+            None => Reply::Nothing,
         }
     }
 
     fn remove(&mut self, name: usize) -> Reply<X>
         ensures { IsStep P.Gen.counting P.Gen.greatest self.old (Command.Remove name) result self.new }
     {
-        match self.row(name) {
-            None => Reply::Invalid,
-            Some(node) => {
-                self.rows[name - 1] = None;
-                let (counter, wrapped) = P::Gen::generational_inc(self.counter);
-                self.counter = counter;
-                Reply::Removed(node.0, node.1, wrapped)
+        let Some(p) = self.pointer(name) else {
+            return Reply::Invalid;
+        };
+        match self.arena.remove(p) {
+            Some((Node { datum, link }, wrapped)) => {
+                Reply::Removed(datum, self.link_name(link), wrapped)
             }
+            None => Reply::Invalid,
         }
     }
+
+    // The pointer of a name, if it was given.
+    fn pointer(&self, name: usize) -> Option<P>
+        ensures { option_map (numbers P.Inx.number P.Gen.number P.index_of P.generation_of) result ≡ item self.now.table name }
+    {
+        if name == 0 {
+            return None;
+        }
+        read(self.table.as_slice(), name - 1)
+    }
+
+    // The pointer of a link, or none if the link is to a name that was never given.
+    fn link_pointer(&self, link: Option<usize>) -> Option<Option<P>>
+        ensures { option_map (option_map (numbers P.Inx.number P.Gen.number P.index_of P.generation_of)) result ≡ link_pointer self.now.table link }
+    {
+        match link {
+            Some(name) => self.pointer(name).map(Some),
+            None => Some(None),
+        }
+    }
+
+    // The name of the pointer of a link.
+    fn link_name(&self, link: Option<P>) -> Option<usize>
+        ensures { result ≡ link_name self.now.table (option_map (numbers P.Inx.number P.Gen.number P.index_of P.generation_of) link) }
+    {
+        match link {
+            Some(p) => match place_of(self.table.as_slice(), p) {
+                Some(place) => Some(place + 1),
+                None => None,
+            },
+            None => None,
+        }
+    }
+}
+
+// The item at a place, if there is one.
+fn read<T: Copy>(items: &[T], place: usize) -> Option<T>
+    ensures { result ≡ slice_get items.now place }
+{
+    items.get(place).copied()
+}
+
+// The first place at which a table has a pointer.
+fn place_of<P: Ptr>(table: &[P], p: P) -> Option<usize>
+    ensures place { result ≡ position (λ q. is_same q (numbers P.Inx.number P.Gen.number P.index_of P.generation_of p)) (map (numbers P.Inx.number P.Gen.number P.index_of P.generation_of) table.now) }
+    ensures within { IfSome result (λ place. place < length table.now) }
+{
+    first_equal(table, p)
+}
+
+// The first place at which a table has an item that is equal to this one.
+fn first_equal<T: PartialEq + Copy>(table: &[T], item: T) -> Option<usize>
+    ensures place { result ≡ position (λ x. T.eq x item) table.now }
+    ensures within { IfSome result (λ place. place < length table.now) }
+{
+    table.iter().position(|x| *x == item)
 }

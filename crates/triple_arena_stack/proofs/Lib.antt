@@ -1,0 +1,4 @@
+pub mod ClientLemmas
+mod FilledLemmas
+mod PairLemmas
+mod PushedLemmas

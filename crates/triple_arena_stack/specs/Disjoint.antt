@@ -1,0 +1,49 @@
+-- Two items that are written at once.
+use Rattle.std.specs.Prelude.{◌≡◌, ℕ, ◌<◌, ◌≤◌, ◌≢◌, ◌⊎◌, List, Some, Result, Ok, Err, slice_get, slice_set}
+use Rattle.std.specs.Borrow.{MutBor}
+use Rattle.std.specs.Fn.{Once}
+use Rattle.triple_arena_base.specs.declared.errors.GetDisjointMutError.{GetDisjointMutError}
+use Rattle.triple_arena_base.specs.declared.errors.GetDisjointMutError.TheVariants.{IndexOutOfBounds, OverlappingIndices}
+
+-- two indices, counted from 1, name two of so many items
+abbrev pub AreTwo : ℕ → ℕ → ℕ → Type 0
+AreTwo len first second = (first ≤ len) × (second ≤ len) × (first ≢ second)
+
+-- why two indices, counted from 1, are refused at so many items
+abbrev pub IsRefused : ℕ → ℕ → ℕ → GetDisjointMutError → Type 0
+IsRefused len first second IndexOutOfBounds = (len < first) ⊎ (len < second)
+IsRefused len first second OverlappingIndices = (first ≤ len) × (second ≤ len) × (first ≡ second)
+
+-- the answer on two indices, counted from 1, at so many items
+abbrev pub DisjointAnswer : ℕ → ℕ → ℕ → {A : Type 0} → Result A GetDisjointMutError → Type 0
+DisjointAnswer len first second (Ok done) = AreTwo len first second
+DisjointAnswer len first second (Err e) = IsRefused len first second e
+
+-- the list with two other items
+abbrev pub set_both : {A : Type 0} → List A → ℕ → ℕ → A → A → List A
+set_both xs i j x y = slice_set (slice_set xs i x) j y
+
+module _ {F A R : Type 0} (g : Once F (MutBor A × (MutBor A × Unit {0})) (R × (MutBor A × (MutBor A × Unit {0})))) (f : F) where
+  -- f may be called at a `&mut` to x and one to y
+  abbrev pub FnOnceTakesAtPairMut : A → A → Type 0
+  FnOnceTakesAtPairMut x y = (p q : MutBor A) → p.now ≡ x → q.now ≡ y → g.pre f (p, (q, tt))
+
+  -- such a call may give r, and leave x' and y' there
+  pub record FnOnceReturnsAtPairMut (x y : A) (r : R) (x' y' : A) : Type 0 where
+    pub first : MutBor A
+    pub second : MutBor A
+    pub shows : (first.now ≡ x) × (second.now ≡ y)
+    pub left : MutBor A × (MutBor A × Unit {0})
+    pub met : g.post f (first, (second, tt)) (r, left)
+    pub leaves : (left.0.now ≡ x') × (left.1.0.now ≡ y')
+
+  -- f may be called at the items at two places
+  abbrev pub MayWork : ℕ → ℕ → List A → Type 0
+  MayWork i j old = (x y : A) → slice_get old i ≡ Some x → slice_get old j ≡ Some y → FnOnceTakesAtPairMut x y
+
+  -- a call of f at the items at two places gave r, and what it left stands there; no other item
+  -- changed
+  abbrev pub Worked : ℕ → ℕ → List A → R → List A → Type 0
+  Worked i j old r new =
+      (x y x' y' : A) × (slice_get old i ≡ Some x) × (slice_get old j ≡ Some y)
+      × FnOnceReturnsAtPairMut x y r x' y' × (new ≡ set_both old i j x' y')

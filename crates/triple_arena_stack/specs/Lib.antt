@@ -1,0 +1,5 @@
+pub mod StackKind
+pub mod StackState
+pub mod Capacity
+pub mod Disjoint
+pub mod PushEntry

@@ -1,0 +1,144 @@
+//! The place of an item that is not pushed yet.
+ghost use Rattle.std.specs.Prelude.{◌≡◌, ◌+◌, ◌↔◌, length, ℕ, IsOk, IfOk, IsOkAnd, Err};
+ghost use Rattle.std.specs.Borrow.{sem};
+ghost use Rattle.std.specs.Int.NonZero.{non_zero_usize_get};
+ghost use Rattle.triple_arena_stack.specs.Capacity.{room_for_one_more, HasPlace, IsFullAtLimit};
+ghost use Rattle.triple_arena_stack.specs.PushEntry.{entry_stack, entry_lender, entry_rests, entry_lends};
+
+use crate::non_zero_inx_stack::NonZeroInxStack;
+use crate::stack::{NonZeroInxGenericStack, grow_if_full};
+use crate::{ArrayStack, FixedStack, HeapStack, LimitedStack};
+use std::num::NonZeroUsize;
+use triple_arena_base::{NotWithinCapacityError, ReallocationError};
+
+/// An entry of a [`crate::NonZeroInxVec`].
+pub type NonZeroInxVecPushEntry<'a, T> = PushEntry<'a, T, HeapStack<T>>;
+
+/// An entry of a [`crate::NonZeroInxLimitedVec`].
+pub type NonZeroInxLimitedVecPushEntry<'a, T> = PushEntry<'a, T, LimitedStack<T>>;
+
+/// An entry of a [`crate::NonZeroInxBoxedSlice`].
+pub type NonZeroInxBoxedSlicePushEntry<'a, T> = PushEntry<'a, T, FixedStack<T>>;
+
+/// An entry of a [`crate::NonZeroInxArray`].
+pub type NonZeroInxArrayPushEntry<'a, T, const LIMIT: usize> =
+    PushEntry<'a, T, ArrayStack<T, LIMIT>>;
+
+/// A place on a stack for one more item. Dropped, it pushes nothing, and room that was made for it
+/// stays.
+pub struct PushEntry<'a, T, K> {
+    pub(crate) stack: &'a mut NonZeroInxStack<T, K>,
+}
+
+/// What can be done with a place for one more item.
+pub trait NonZeroInxGenericStackPushEntryTrait<'a, T> {
+    // the stack has a place for the item
+    ghost has_place: { Self → Type 0 };
+
+    // the index that the item will have
+    ghost place: { Self → ℕ };
+
+    /// The index that the item will have.
+    fn inx(&self) -> NonZeroUsize
+        requires { has_place self.now }
+        ensures { non_zero_usize_get result ≡ place self.now };
+
+    /// Pushes `t`, and gives the item on the stack.
+    fn push(self, t: T) -> &'a mut T
+        requires { has_place self }
+        ensures value { result.now ≡ t };
+}
+
+impl<T, K: NonZeroInxGenericStack<T>> NonZeroInxStack<T, K> {
+    /// A place for one more item, where the capacity has it. It takes no memory.
+    ///
+    /// Refused exactly where the length is the capacity; then the stack is unchanged.
+    pub fn entry_push_within_capacity(
+        &mut self,
+    ) -> Result<PushEntry<'_, T, K>, NotWithinCapacityError>
+        ensures variant { IsOk result
+            ↔ HasPlace (K.room self.old) (K.limit self.old) (length (K.items self.old)) }
+        ensures stack { IfOk result (λ entry. entry_stack entry ≡ self.old) }
+        ensures same_reference { IfOk result (λ entry. entry_lender entry ≡ self.entry.ghost_name) }
+        ensures* refused { sem 𝓛 (entry_rests T.row K.row self.entry result) }
+    {
+        if self.len() >= self.capacity() {
+            return Err(NotWithinCapacityError);
+        }
+        Ok(PushEntry { stack: self })
+    }
+
+    /// A place for one more item; a full stack grows first.
+    ///
+    /// Refused as [`NonZeroInxGenericStack::push_reallocating`] is; then the stack is unchanged.
+    pub fn entry_push_reallocating(&mut self) -> Result<PushEntry<'_, T, K>, ReallocationError>
+        ensures items { IfOk result (λ entry. K.items (entry_stack entry) ≡ K.items self.old) }
+        ensures limit { IfOk result (λ entry. K.limit (entry_stack entry) ≡ K.limit self.old) }
+        ensures room { IfOk result (λ entry. K.room (entry_stack entry)
+            ≡ room_for_one_more (K.room self.old) (K.limit self.old) (length (K.items self.old))) }
+        ensures has_place { IfOk result (λ entry. HasPlace
+            (K.room (entry_stack entry)) (K.limit (entry_stack entry)) (length (K.items (entry_stack entry)))) }
+        ensures had_place { HasPlace (K.room self.old) (K.limit self.old) (length (K.items self.old))
+            → IsOkAnd result (λ entry. entry_stack entry ≡ self.old) }
+        ensures beyond { (result ≡ Err ReallocationError.BeyondMaxCapacity)
+            ↔ IsFullAtLimit (K.room self.old) (K.limit self.old) (length (K.items self.old)) }
+        ensures same_reference { IfOk result (λ entry. entry_lender entry ≡ self.entry.ghost_name) }
+        ensures* refused { sem 𝓛 (entry_rests T.row K.row self.entry result) }
+    {
+        match grow_if_full(self) {
+            Ok(()) => Ok(PushEntry { stack: self }),
+            Err(refusal) => Err(refusal),
+        }
+    }
+
+    /// As [`Self::entry_push_reallocating`].
+    pub fn entry_push(&mut self) -> Result<PushEntry<'_, T, K>, ReallocationError>
+        ensures items { IfOk result (λ entry. K.items (entry_stack entry) ≡ K.items self.old) }
+        ensures limit { IfOk result (λ entry. K.limit (entry_stack entry) ≡ K.limit self.old) }
+        ensures room { IfOk result (λ entry. K.room (entry_stack entry)
+            ≡ room_for_one_more (K.room self.old) (K.limit self.old) (length (K.items self.old))) }
+        ensures has_place { IfOk result (λ entry. HasPlace
+            (K.room (entry_stack entry)) (K.limit (entry_stack entry)) (length (K.items (entry_stack entry)))) }
+        ensures had_place { HasPlace (K.room self.old) (K.limit self.old) (length (K.items self.old))
+            → IsOkAnd result (λ entry. entry_stack entry ≡ self.old) }
+        ensures beyond { (result ≡ Err ReallocationError.BeyondMaxCapacity)
+            ↔ IsFullAtLimit (K.room self.old) (K.limit self.old) (length (K.items self.old)) }
+        ensures same_reference { IfOk result (λ entry. entry_lender entry ≡ self.entry.ghost_name) }
+        ensures* refused { sem 𝓛 (entry_rests T.row K.row self.entry result) }
+    {
+        self.entry_push_reallocating()
+    }
+}
+
+impl<'a, T, K: NonZeroInxGenericStack<T>> NonZeroInxGenericStackPushEntryTrait<'a, T>
+    for PushEntry<'a, T, K> {
+    ghost has_place = { λ entry. HasPlace
+        (K.room (entry_stack entry)) (K.limit (entry_stack entry)) (length (K.items (entry_stack entry))) };
+
+    ghost place = { λ entry. length (K.items (entry_stack entry)) + 1 };
+
+    fn inx(&self) -> NonZeroUsize {
+        let _capacity = self.stack.capacity();
+        NonZeroUsize::MIN.saturating_add(self.stack.len())
+    }
+
+    fn push(self, t: T) -> &'a mut T
+        requires { HasPlace
+            (K.room (entry_stack self)) (K.limit (entry_stack self)) (length (K.items (entry_stack self))) }
+        ensures value { result.now ≡ t }
+        ensures* writes_back { sem 𝓛
+            (entry_lends T.row K.row K.with_items K.items self.entry result) }
+    {
+        let PushEntry { stack } = self;
+        let (_inx, item) = stack.push_reserved(t);
+        item
+    }
+}
+
+impl<T, K> Drop for PushEntry<'_, T, K> {
+    fn drop(self)
+        ensures { self.exit.0.now ≡ self.entry.stack.now }
+    {
+        let PushEntry { stack: _ } = self;
+    }
+}

@@ -1,9 +1,9 @@
-mod NumberedLists
-mod WellFormed
-mod Vectors
-mod Mapped
 mod FormLaws
+mod Mapped
+mod NumberedLists
 mod Numbers
 mod RunLaws
 mod Splits
 mod TextLaws
+mod Vectors
+mod WellFormed

@@ -88,7 +88,7 @@ fn run_lines<P: Ptr, W: Write>(
         session.old session.new (W.contents output.old) (W.contents output.new) }
 {
     let mut rest = text;
-    let mut before = 0;
+    let mut before = 0usize;
     'lines: loop {
         let (line, after) = split_first(rest, b'\n');
         match run_line(session, line, output) {

@@ -1,0 +1,31 @@
+-- Reallocation and growth of an arena.
+use Rattle.std.specs.Prelude.{◌≡◌, ℕ, ◌*◌, ◌≤◌, ◌==◌, cond, Option, min}
+use Rattle.triple_arena_stack.specs.StackKind.{StackKind, reallocated_room}
+use Rattle.triple_arena_stack.specs.Capacity.{capacity_of, IsAtLimit}
+use Rattle.triple_arena.specs.ArenaState.{ArenaState, slot_count, arena_len, capacity}
+use Rattle.triple_arena.specs.FreeList.{tidied}
+
+module _ {T : Type 0} where
+  -- the slots stay as they are, and there is room for so many
+  abbrev pub with_room_for : StackKind → ArenaState T → ℕ → ArenaState T
+  with_room_for kind s m = record s { room = reallocated_room kind s.room (slot_count s) m }
+
+  -- reallocation to so many: the free list is put in order first
+  abbrev pub reallocated : StackKind → ArenaState T → ℕ → ArenaState T
+  reallocated kind s m = with_room_for kind (tidied s) m
+
+  -- a reallocation to so many leaves the room as it is
+  abbrev pub KeepsRoom : StackKind → ArenaState T → ℕ → Type 0
+  KeepsRoom kind s m = (reallocated kind s m).room ≡ s.room
+
+  -- the capacity that a full arena grows to: 4 or twice, cut to the limit and to the greatest index
+  abbrev pub next_capacity : ArenaState T → ℕ
+  next_capacity s = min (capacity_of (cond (capacity s == 0) 4 (capacity s * 2)) s.limit) s.greatest
+
+  -- a full arena grows; any other stays as it is
+  abbrev pub grown : StackKind → ArenaState T → ArenaState T
+  grown kind s = cond (arena_len s == capacity s) (with_room_for kind s (next_capacity s)) s
+
+-- an arena of this capacity, this limit and so many entries is full, and its limit is reached
+abbrev pub IsFullAtLimit : ℕ → Option ℕ → ℕ → Type 0
+IsFullAtLimit capacity limit len = (capacity ≤ len) × IsAtLimit limit capacity

@@ -1,0 +1,37 @@
+-- The order that the free list of an arena is put into.
+use Rattle.std.specs.Prelude.{◌≡◌, ◌≤◌, false, ℕ, ◌+◌, List, [], ◌∷◌, Option, Some, None}
+use Rattle.triple_arena.specs.Numbered.{item}
+use Rattle.triple_arena.specs.ArenaState.{ArenaState, entry, is_free, slot_count}
+
+module _ {A : Type 0} where
+  -- a slot before others; none where it is free and the last
+  abbrev pub before : Option A → List (Option A) → List (Option A)
+  before (Some e) rest = Some e ∷ rest
+  before None [] = []
+  before None (x ∷ rest) = None ∷ x ∷ rest
+
+  -- the slots up to the last one with an entry
+  abbrev pub trimmed : List (Option A) → List (Option A)
+  trimmed [] = []
+  trimmed (x ∷ rest) = before x (trimmed rest)
+
+  -- the indexes of the slots without an entry, in rising order, where the first slot has the index `at`
+  abbrev pub gaps : ℕ → List (Option A) → List ℕ
+  gaps at [] = []
+  gaps at (None ∷ rest) = at ∷ gaps (at + 1) rest
+  gaps at (Some e ∷ rest) = gaps (at + 1) rest
+
+-- the slots end with the last entry, and the free indexes are the gaps in rising order
+abbrev pub tidied : {T : Type 0} → ArenaState T → ArenaState T
+tidied s = record s { slots = trimmed s.slots; free = gaps 1 (trimmed s.slots) }
+
+-- indexes in rising order, from `low` on
+abbrev pub IsRising : ℕ → List ℕ → Type 0
+IsRising low [] = Unit {0}
+IsRising low (i ∷ rest) = (low ≤ i) × IsRising (i + 1) rest
+
+-- every entry stays, the last slot has one, and the free indexes rise
+pub record IsInOrder {T : Type 0} (old new : ArenaState T) : Type 0 where
+  pub entries : (i : ℕ) → entry new i ≡ entry old i
+  pub ends_live : is_free (item new.slots (slot_count new)) ≡ false
+  pub rising : IsRising 1 new.free

@@ -1,0 +1,54 @@
+-- How an arena lies in its slots. No public clause cites this module.
+use Rattle.std.specs.Prelude.{◌≡◌, ℕ, zero, suc, ◌<◌, ◌==◌, cond, List, [], ◌∷◌, map, length, Option, Some, None}
+use Rattle.std.specs.Int.NonZero.{non_zero_usize_get}
+use Rattle.triple_arena.specs.Numbered.{item}
+use Rattle.triple_arena.specs.Entries.{entry_in}
+use Rattle.triple_arena.specs.ArenaState.{ArenaState, IsWellFormed, arena_len}
+use Rattle.triple_arena.specs.Slot.{entry_of}
+use Rattle.triple_arena.specs.declared.slot.ArenaSlot.{ArenaSlot}
+use Rattle.triple_arena.specs.declared.slot.ArenaSlot.TheVariants.{Free, Allocated}
+
+module _ {P T I G : Type 0} where
+  -- the index that the slot links to, or i where there is none
+  abbrev pub next_of : Option (ArenaSlot P T I G) → ℕ → ℕ
+  next_of None i = i
+  next_of (Some (Free link)) i = non_zero_usize_get link.next
+  next_of (Some (Allocated generation value)) i = i
+
+  -- the free index after i, if there is one
+  abbrev pub after : List (ArenaSlot P T I G) → ℕ → Option ℕ
+  after es i = cond (next_of (item es i) i == i) None (Some (next_of (item es i) i))
+
+  -- the indexes from a link on, at most so many
+  abbrev pub chain : List (ArenaSlot P T I G) → ℕ → Option ℕ → List ℕ
+  chain es zero from = []
+  chain es (suc fuel) None = []
+  chain es (suc fuel) (Some i) = i ∷ chain es fuel (after es i)
+
+  -- the state that these slots and this first free index stand for, with counter, room, limit and greatest index
+  abbrev pub state_of : (G → ℕ) → List (ArenaSlot P T I G) → Option ℕ → ℕ → ℕ → Option ℕ → ℕ → ArenaState T
+  state_of number es root counter room limit greatest =
+      record {
+        slots = map (entry_of number) es;
+        counter = counter;
+        free = chain es (length es) root;
+        room = room;
+        limit = limit;
+        greatest = greatest;
+      }
+
+  -- these free slots each link to the next, and the last to none
+  abbrev pub IsLinked : List (ArenaSlot P T I G) → Option ℕ → List ℕ → Type 0
+  IsLinked es from [] = from ≡ None
+  IsLinked es from (i ∷ rest) = (from ≡ Some i) × IsLinked es (after es i) rest
+
+  -- the slots, the first free index and the count of entries are those of the state
+  pub record Shows (number : G → ℕ) (es : List (ArenaSlot P T I G)) (root : Option ℕ) (len : ℕ) (s : ArenaState T) : Type 0 where
+    pub slots : map (entry_of number) es ≡ s.slots
+    pub linked : IsLinked es root s.free
+    pub counted : len ≡ arena_len s
+    pub well : IsWellFormed s
+
+  -- the generation and value that stand at an index
+  abbrev pub entry_at : (G → ℕ) → List (ArenaSlot P T I G) → ℕ → Option (ℕ × T)
+  entry_at number es i = entry_in (map (entry_of number) es) i

@@ -1,0 +1,10 @@
+pub mod Numbered
+pub mod Pointers
+pub mod Entries
+pub mod ArenaState
+pub mod Insertion
+pub mod Ending
+pub mod FreeList
+pub mod Capacity
+pub mod Slot
+pub mod Layout

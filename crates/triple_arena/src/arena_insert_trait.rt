@@ -1,0 +1,92 @@
+//! Insertion into an arena that gives the pointers.
+
+ghost use Rattle.std.specs.Prelude.{◌≡◌, ℕ, ◌<◌, ◌≢◌, ◌↔◌, IsOk, IfOk, OnOk, OnErr, Err};
+ghost use Rattle.triple_arena_ptr.specs.Numbers.{greatest_index};
+ghost use Rattle.triple_arena.specs.Pointers.{Pointer, numbers};
+ghost use Rattle.triple_arena.specs.Entries.{entry_count};
+ghost use Rattle.triple_arena.specs.Capacity.{IsFullAtLimit};
+
+use crate::arena_trait::ArenaTrait;
+use triple_arena_base::{NotWithinCapacityError, ReallocationError};
+use triple_arena_ptr::{Ptr, PtrGen, PtrInx};
+
+/// An arena whose insertions give the pointers of the new entries.
+pub trait ArenaInsertTrait<P: Ptr, T>: ArenaTrait<P, T> {
+    // the numbers of the pointer that the next insertion gives
+    ghost next: { Self → Pointer };
+
+    // what an insertion leaves
+    ghost inserted: { Self → T → Self };
+
+    // a full arena once it has grown; any other as it is
+    ghost grown: { Self → Self };
+
+    /// The pointer that the next insertion gives, on the condition that there is a place without
+    /// growth, which `len` and `capacity` tell.
+    fn next_ptr(&self) -> P
+        requires { entry_count (Self.slots self.now) < Self.fitting self.now }
+        ensures { numbers P.Inx.number P.Gen.number P.index_of P.generation_of result ≡ next self.now };
+
+    /// Inserts `t`, and gives its pointer, on the condition that there is a place without growth,
+    /// which `len` and `capacity` tell. It takes no memory.
+    fn insert_reserved(&mut self, t: T) -> P
+        requires { entry_count (Self.slots self.old) < Self.fitting self.old }
+        ensures pointer { numbers P.Inx.number P.Gen.number P.index_of P.generation_of result ≡ next self.old }
+        ensures inserted { self.new ≡ inserted self.old t };
+
+    /// Inserts `t`, and gives its pointer. A full arena grows first: to 4 slots or to twice its
+    /// capacity, as far as the limit allows and there are indexes.
+    ///
+    /// `BeyondMaxCapacity` exactly where the arena is full and its limit is reached; else
+    /// `AllocError` where it is full and memory is refused, or there is no greater index. Then the
+    /// arena is unchanged, and `t` is dropped. Where the arena isn't full, no memory is taken.
+    fn insert_reallocating(&mut self, t: T) -> Result<P, ReallocationError>
+    where
+        T: Drop,
+        ensures pointer { IfOk result
+            (λ p. numbers P.Inx.number P.Gen.number P.index_of P.generation_of p ≡ next self.old) }
+        ensures inserted { OnOk result (self.new ≡ inserted (grown self.old) t) }
+        ensures refused { OnErr result (self.new ≡ self.old) }
+        ensures beyond { (result ≡ Err ReallocationError.BeyondMaxCapacity)
+            ↔ IsFullAtLimit (Self.fitting self.old) (Self.limit self.old) (entry_count (Self.slots self.old)) }
+        ensures indexed { OnOk result (entry_count (Self.slots self.old) ≡ Self.fitting self.old
+            → Self.fitting self.old < greatest_index P.Inx.greatest) }
+        ensures had_place { entry_count (Self.slots self.old) < Self.fitting self.old → IsOk result };
+
+    /// Inserts `t`, and gives its pointer. It takes no memory.
+    ///
+    /// Refused exactly where there are as many entries as the capacity; then the arena is
+    /// unchanged, and `t` is dropped.
+    final fn insert_within_capacity(&mut self, t: T) -> Result<P, NotWithinCapacityError>
+    where
+        T: Drop,
+        ensures variant { IsOk result ↔ (entry_count (Self.slots self.old) < Self.fitting self.old) }
+        ensures pointer { IfOk result
+            (λ p. numbers P.Inx.number P.Gen.number P.index_of P.generation_of p ≡ next self.old) }
+        ensures inserted { OnOk result (self.new ≡ inserted self.old t) }
+        ensures refused { OnErr result (self.new ≡ self.old) }
+    {
+        if self.len() < self.capacity() {
+            Ok(self.insert_reserved(t))
+        } else {
+            Err(NotWithinCapacityError)
+        }
+    }
+
+    /// As [`Self::insert_reallocating`].
+    final fn insert(&mut self, t: T) -> Result<P, ReallocationError>
+    where
+        T: Drop,
+        ensures pointer { IfOk result
+            (λ p. numbers P.Inx.number P.Gen.number P.index_of P.generation_of p ≡ next self.old) }
+        ensures inserted { OnOk result (self.new ≡ inserted (grown self.old) t) }
+        ensures refused { OnErr result (self.new ≡ self.old) }
+        ensures beyond { (result ≡ Err ReallocationError.BeyondMaxCapacity)
+            ↔ IsFullAtLimit (Self.fitting self.old) (Self.limit self.old) (entry_count (Self.slots self.old)) }
+        ensures indexed { OnOk result (entry_count (Self.slots self.old) ≡ Self.fitting self.old
+            → Self.fitting self.old < greatest_index P.Inx.greatest) }
+        ensures had_place { entry_count (Self.slots self.old) < Self.fitting self.old → IsOk result }
+    {
+        self.insert_reallocating(t)
+    }
+}

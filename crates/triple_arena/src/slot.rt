@@ -1,0 +1,155 @@
+//! A slot of an arena.
+
+ghost use Rattle.std.specs.Prelude.{◌≡◌, ◌≢◌, ◌==◌, cond, None, Some, IsSome, IsNone, is_some, option_copied};
+ghost use Rattle.std.specs.Borrow.{Lends, sem};
+ghost use Rattle.std.specs.Int.NonZero.{non_zero_usize_get};
+ghost use Rattle.std.specs.Option.{option_map, option_and_then};
+ghost use Rattle.triple_arena.specs.Entries.{value_under};
+ghost use Rattle.triple_arena.specs.Slot.{entry_of, with_slot_value, with_slot_generation};
+
+use std::num::NonZeroUsize;
+use triple_arena_ptr::{Ptr, PtrGen};
+
+/// Names the next free slot, or its own where it is the last.
+#[derive(Clone, Copy)]
+pub struct FreeLink {
+    pub(crate) next: NonZeroUsize,
+}
+
+impl FreeLink {
+    // The link at `inx` to the next free slot, if there is one.
+    pub(crate) fn to(next: Option<NonZeroUsize>, inx: NonZeroUsize) -> Self
+        requires { option_map non_zero_usize_get next ≢ Some (non_zero_usize_get inx) }
+        ensures { cond (non_zero_usize_get result.next == non_zero_usize_get inx)
+            None (Some (non_zero_usize_get result.next)) ≡ option_map non_zero_usize_get next }
+    {
+        FreeLink {
+            next: next.unwrap_or(inx),
+        }
+    }
+
+    // The next free slot, where this is the link at `inx`.
+    pub(crate) fn after(self, inx: NonZeroUsize) -> Option<NonZeroUsize>
+        ensures { option_map non_zero_usize_get result
+            ≡ cond (non_zero_usize_get self.next == non_zero_usize_get inx)
+            None (Some (non_zero_usize_get self.next)) }
+    {
+        if self.next == inx {
+            None
+        } else {
+            Some(self.next)
+        }
+    }
+}
+
+/// A slot of an arena: free, or with an entry, which has a generation and a value.
+#[derive(Drop)]
+pub enum ArenaSlot<P: Ptr, T> {
+    /// A slot without an entry.
+    Free(FreeLink),
+    /// The generation and the value of an entry.
+    Allocated(P::Gen, T),
+}
+
+impl<P: Ptr, T> Default for ArenaSlot<P, T> {
+    /// A free slot.
+    fn default() -> Self {
+        ArenaSlot::Free(FreeLink {
+            next: NonZeroUsize::MIN,
+        })
+    }
+}
+
+impl<P: Ptr, T> ArenaSlot<P, T> {
+    ghost use Rattle.triple_arena.specs.contracts.slot.ArenaSlot.{the_row};
+
+    // Whether there is an entry.
+    pub(crate) fn is_live(&self) -> bool
+        ensures { result ≡ is_some (entry_of P.Gen.number self.now) }
+    {
+        matches!(self, ArenaSlot::Allocated(_, _))
+    }
+
+    // The generation and the value of the entry, if there is one.
+    pub(crate) fn entry(&self) -> Option<(P::Gen, &T)>
+        ensures { option_map (λ e. (P.Gen.number e.0, e.1.now)) result ≡ entry_of P.Gen.number self.now }
+    {
+        match self {
+            ArenaSlot::Allocated(generation, value) => Some((*generation, value)),
+            ArenaSlot::Free(_) => None,
+        }
+    }
+
+    // The value, if its entry has this generation.
+    pub(crate) fn value_under(&self, generation: P::Gen) -> Option<&T>
+        ensures { option_copied result
+            ≡ option_and_then (value_under (P.Gen.number generation)) (entry_of P.Gen.number self.now) }
+    {
+        match self {
+            ArenaSlot::Allocated(own, value) => {
+                if *own == generation {
+                    Some(value)
+                } else {
+                    None
+                }
+            }
+            ArenaSlot::Free(_) => None,
+        }
+    }
+
+    // The value of the entry, for writing.
+    pub(crate) fn value_mut(&mut self) -> &mut T
+        requires { IsSome (entry_of P.Gen.number self.old) }
+        ensures* lends { sem 𝓛 (Lends (the_row P.row T.row P.Inx.row P.Gen.row) T.row self.entry result (with_slot_value self.old)) }
+        ensures value { option_map (λ e. e.1) (entry_of P.Gen.number self.old) ≡ Some result.now }
+    {
+        match self {
+            ArenaSlot::Allocated(_, value) => value,
+            ArenaSlot::Free(_) => unreachable!(),
+        }
+    }
+
+    // Takes the generation and the value out of a slot with an entry.
+    pub(crate) fn into_entry(self) -> (P::Gen, T)
+        requires { IsSome (entry_of P.Gen.number self) }
+        ensures { entry_of P.Gen.number self ≡ Some (P.Gen.number result.0, result.1) }
+    {
+        match self {
+            ArenaSlot::Allocated(generation, value) => (generation, value),
+            ArenaSlot::Free(_) => unreachable!(),
+        }
+    }
+
+    // Takes the link out of a free slot.
+    pub(crate) fn into_link(self) -> FreeLink
+        requires { IsNone (entry_of P.Gen.number self) }
+        ensures { self ≡ ArenaSlot.Free result }
+    {
+        match self {
+            ArenaSlot::Free(link) => link,
+            ArenaSlot::Allocated(_, _) => unreachable!(),
+        }
+    }
+
+    // Puts another link on a free slot.
+    pub(crate) fn set_link(&mut self, link: FreeLink)
+        requires { IsNone (entry_of P.Gen.number self.old) }
+        ensures { self.new ≡ ArenaSlot.Free link }
+    {
+        match self {
+            ArenaSlot::Free(old) => *old = link,
+            ArenaSlot::Allocated(_, _) => unreachable!(),
+        }
+    }
+
+    // Puts another generation on the entry.
+    pub(crate) fn set_generation(&mut self, generation: P::Gen)
+        requires { IsSome (entry_of P.Gen.number self.old) }
+        ensures { self.new ≡ with_slot_generation self.old generation }
+    {
+        match self {
+            ArenaSlot::Allocated(own, _) => *own = generation,
+            ArenaSlot::Free(_) => unreachable!(),
+        }
+    }
+}

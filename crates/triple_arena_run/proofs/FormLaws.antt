@@ -1,5 +1,5 @@
 -- The command of a line and the forms of lines agree.
-use Rattle.std.proofs.Common.{◌≡◌, ℕ, ◌+◌, ◌-◌, ◌*◌, ◌^◌, ◌<◌, ◌≤◌, Bool, true, false, cond, List, [], ◌∷◌, ◌++◌, Option, None, Some, sym, ◌∙◌, ap, refl, subst, arith, inl, inr, length, append_assoc}
+use Rattle.std.proofs.Common.{◌≡◌, ℕ, ◌^◌, ◌<◌, Bool, true, false, cond, List, [], ◌∷◌, ◌++◌, Option, None, Some, sym, ◌∙◌, ap, refl, subst, arith, inl, inr, length, append_assoc}
 use Rattle.std.specs.Prelude.{codes, ◌⊎◌, ◌==◌, All, Contains}
 use Rattle.std.specs.Option.{option_map}
 use Rattle.std.specs.Char.{is_ascii_digit}
@@ -11,10 +11,9 @@ use Rattle.std.proofs.lemmas.List.Elements.{All-nil, All-cons, All-head, All-tai
 use Rattle.std.proofs.lemmas.List.Splits.{join_with_byte-slice_split, slice_split_at, slice_split_none, slice_split-cons_yes, slice_split-cons_no}
 use Rattle.std.proofs.lemmas.Str.Parse.{tells_digits}
 use Rattle.std.proofs.lemmas.Bool.Decides.{nat_tests}
-use Rattle.std.proofs.lemmas.Grind.{common_steps}
 use Rattle.triple_arena_run.specs.declared.command.Command.{Command}
 use Rattle.triple_arena_run.specs.declared.command.Command.TheVariants.{Insert, Get, Remove}
-use Rattle.triple_arena_run.specs.Lines.{words_of, lines_of}
+use Rattle.triple_arena_run.specs.Lines.{words_of}
 use Rattle.triple_arena_run.specs.CommandText.{command_of_words, command_of, number_of, link_of, insert_of}
 use Rattle.triple_arena_run.specs.Forms.{WritesNumber, WritesLink, HasForm, FormsAreExact, LinesAreExact}
 

@@ -1,7 +1,7 @@
 -- The run of a text, line by line.
-use Rattle.std.proofs.Common.{◌≡◌, ℕ, ◌+◌, ◌-◌, ◌<◌, Bool, true, false, List, [], ◌∷◌, ◌++◌, Option, None, Some, Result, Ok, Err, length, take, drop, map, sym, ◌∙◌, ap, refl, subst, arith, slice_get, inl, inr, zero, suc, append_assoc, append-nil}
+use Rattle.std.proofs.Common.{◌≡◌, ℕ, ◌+◌, ◌-◌, true, false, List, [], ◌∷◌, ◌++◌, Option, None, Some, Result, Ok, Err, length, take, drop, map, sym, ◌∙◌, ap, refl, subst, arith, slice_get, inl, inr, zero, suc, append_assoc, append-nil}
 use Rattle.std.specs.Prelude.{filter, IfSome, ◌⊎◌}
-use Rattle.std.specs.Io.KnownBytes.{Appends, Keeps}
+use Rattle.std.specs.Io.KnownBytes.{Appends, Keeps, append_known}
 use Rattle.std.proofs.KnownBytes.{Appends-nil, Appends-trans, Keeps-refl, Keeps-trans}
 use Rattle.std.proofs.lemmas.List.{map-append, take-append-drop, take_all}
 use Rattle.std.proofs.lemmas.List.Elements.{filter-append, All-append}
@@ -16,8 +16,8 @@ use Rattle.triple_arena_run.specs.declared.text.TextError.TheVariants as error
 use Rattle.triple_arena_run.specs.Lines.{has_bytes, lines_of}
 use Rattle.triple_arena_run.specs.CommandText.{command_of}
 use Rattle.triple_arena_run.specs.ReplyText.{tells_of_wrap, reply_line, reply_lines}
-use Rattle.triple_arena_run.specs.Runs.{IsRun, TellsOfNoWrap}
-use Rattle.triple_arena_run.specs.TextRun.{StandFor, IsMalformed, RunsLines, AnswersLines, AnswersToWrap, RunsThrough, StopsAtLine, StopsAtReply, IsTextRun, RunsSome, IsFlushedRun}
+use Rattle.triple_arena_run.specs.Runs.{TellsOfNoWrap}
+use Rattle.triple_arena_run.specs.TextRun.{StandFor, RunsLines, AnswersLines, AnswersToWrap, RunsThrough, StopsAtLine, StopsAtReply, IsTextRun, RunsSome, IsFlushedRun}
 use Rattle.triple_arena_run.specs.LineRun.{RunsCommand, CommandEnds, LineEnds}
 use Rattle.triple_arena_run.proofs.RunLaws.{IsRun-append, TellsOfNoWrap-nil, TellsOfNoWrap-push}
 
@@ -35,6 +35,14 @@ Appends-one a b reply wrote = subst (Appends a b) (sym (append-nil (reply_line r
 
 TellsOfNoWrap-append : (rs qs : List (Reply ℕ)) → TellsOfNoWrap rs → TellsOfNoWrap qs → TellsOfNoWrap (rs ++ qs)
 TellsOfNoWrap-append = All-append (λ reply. tells_of_wrap reply ≡ false)
+
+append_known-nil : (known : Option (List ℕ)) → append_known known [] ≡ known
+append_known-nil None = refl
+append_known-nil (Some bytes) = ap Some (append-nil bytes)
+
+-- what a writer held with its buffer it holds without, once the buffer has no bytes
+pub Keeps-emptied : (old known : Option (List ℕ)) (buffer : List ℕ) → buffer ≡ [] → Keeps old (append_known known buffer) → Keeps old known
+Keeps-emptied old known buffer empty kept = subst (Keeps old) (ap (append_known known) empty ∙ append_known-nil known) kept
 
 -- the front of what is left of a list
 pub front-drop : (xs : List (List ℕ)) (i : ℕ) (y : List ℕ) (ys : List (List ℕ)) → drop i xs ≡ y ∷ ys

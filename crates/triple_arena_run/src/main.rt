@@ -62,10 +62,9 @@ fn read_args(rt: &HostRuntime) -> io::Result<Option<Kind>> {
 
 /// Runs standard input. Replies are gathered in a buffer over standard output.
 fn run_session<P: Ptr>(rt: &HostRuntime, mut session: Session<P, u64>) -> Result<(), TextError> {
+    let mut input = rt.reader();
     match BufWriter::with_capacity(rt.alloc(), OUTPUT_BUFFER, io::writer(rt)) {
-        Ok(output) => {
-            run_text_and_flush(&mut session, rt.alloc(), &mut rt.reader(), output).0
-        }
+        Ok(output) => run_text_and_flush(&mut session, rt.alloc(), &mut input, output).0,
         Err(_) => Err(TextError::NoMemory),
     }
 }

@@ -1,8 +1,6 @@
 //! The run of a text: from the bytes of a reader to the bytes of a writer.
 
-ghost use Rattle.std.specs.Prelude.{◌≡◌};
 ghost use Rattle.std.specs.Io.Buffered.{writer_contents};
-ghost use Rattle.triple_arena_run.specs.Lines.{lines_of};
 ghost use Rattle.triple_arena_run.specs.SessionRun.{IsStep};
 ghost use Rattle.triple_arena_run.specs.TextRun.{IsTextRun, IsFlushedRun};
 ghost use Rattle.triple_arena_run.specs.LineRun.{CommandEnds, LineEnds};
@@ -56,9 +54,11 @@ pub fn run_text<P: Ptr, R: Read, W: Write>(
 }
 
 /// Runs a text as `run_text` does, over a buffered writer. The writer is flushed once when the run
-/// has ended, whatever its outcome, and what it stood before is given back.
+/// has ended, whatever its outcome, and the writer below it is given back.
 ///
-/// A failed flush is the error `Write`, and the bytes that it left are let go.
+/// A failed flush is the error `Write`, and the bytes that it left are let go. Of a run that failed
+/// by reading or for want of memory nothing was written, and at the other outcomes but `Write` the
+/// writer below holds each reply line.
 pub fn run_text_and_flush<P: Ptr, R: Read, W: Write + Drop>(
     session: &mut Session<P, u64>,
     alloc: Global,

@@ -4,8 +4,8 @@ use super::devices::{PieceReader, ShortWriter};
 use crate::command::Command;
 use crate::reply::Reply;
 use crate::session::Session;
-use crate::text::{TextError, run_text};
-use std::io::ErrorKind;
+use crate::text::{TextError, run_text, run_text_and_flush};
+use std::io::{BufWriter, ErrorKind};
 use std::test::Fail;
 use triple_arena_ptr::P0;
 
@@ -138,6 +138,36 @@ fn runs_no_further_where_a_write_fails(rt: HostRuntime) -> Result<(), Fail> {
         }
     }
     assert!(rt; failed && ended);
+    Ok(())
+}
+
+/// The writer below the buffer takes one write, or fails at the first.
+#[test]
+fn flushes_what_was_answered(rt: HostRuntime) -> Result<(), Fail> {
+    let rows: [(&[u8], Result<(), TextError>, usize); 3] = [
+        (b"insert 1 -\nget 1\n", Ok(()), 2),
+        (
+            b"insert 1 -\nwhat\nget 1\n",
+            Err(TextError::Malformed(2)),
+            1,
+        ),
+        (b"what\n", Err(TextError::Malformed(1)), 0),
+    ];
+    for (text, outcome, lines) in rows {
+        let mut session: Session<P0, u64> = Session::new(rt.alloc());
+        let mut input = text;
+        let output = BufWriter::new(rt.alloc(), ShortWriter::new(1))?;
+        let (answer, written) = run_text_and_flush(&mut session, rt.alloc(), &mut input, output);
+        assert!(rt; answer == outcome);
+        assert_eq!(rt; written.lines_ended(), lines);
+    }
+    let mut session: Session<P0, u64> = Session::new(rt.alloc());
+    let mut input = b"insert 1 -\nwhat\n".as_slice();
+    let output = BufWriter::new(rt.alloc(), ShortWriter::new(0))?;
+    let (answer, written) = run_text_and_flush(&mut session, rt.alloc(), &mut input, output);
+    assert!(rt; answer == Err(TextError::Write));
+    assert_eq!(rt; written.len, 0);
+    assert!(rt; session.step(Command::Get(1)) == Reply::Found(1, None));
     Ok(())
 }
 

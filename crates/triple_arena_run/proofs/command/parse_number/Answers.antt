@@ -1,4 +1,4 @@
-use Rattle.std.proofs.Common.{sym, ◌∙◌, rules}
+use Rattle.std.proofs.Common.{sym, ◌∙◌}
 use Rattle.triple_arena_run.proofs.Numbers.{number_of-parsed, number_of-other, IsUtf8-digits}
 use Rattle.triple_arena_run.proofs.command.parse_number.Goals as goal
 

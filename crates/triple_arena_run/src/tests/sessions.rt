@@ -73,3 +73,43 @@ fn a_node_prints_as_its_pair(rt: HostRuntime) -> Result<(), Fail> {
     assert_eq!(rt; text.as_str(), "(20, None)");
     Ok(())
 }
+
+/// Insertions with links and removals, each name looked up after each of them. Holds with ample
+/// memory, and also where any one request for memory is refused (`rt try --test --fail-alloc 1..`):
+/// then one insertion answers so, and names and entries are as they were.
+#[test]
+fn a_refused_insertion_changes_nothing(rt: HostRuntime) {
+    let mut session: Session<P0, u64> = Session::new(rt.alloc());
+    let mut rows: [Option<(u64, Option<usize>)>; 16] = [None; 16];
+    let mut given = 0;
+    let mut refused = 0;
+    for datum in 0..12 {
+        let link = if given == 0 { None } else { Some(given) };
+        match session.step(Command::Insert(datum, link)) {
+            Reply::Given(name, false) => {
+                given += 1;
+                assert_eq!(rt; name, given);
+                assert!(rt; name < 16);
+                rows[name] = Some((datum, link));
+            }
+            reply => {
+                assert!(rt; reply == Reply::NoMemory);
+                refused += 1;
+            }
+        }
+        if datum % 3 == 2 && given > 0 && given < 16 {
+            if let Some((removed, link)) = rows[given] {
+                assert!(rt; session.step(Command::Remove(given)) == Reply::Removed(removed, link, false));
+                rows[given] = None;
+            }
+        }
+        for name in 1..16 {
+            let reply = match rows[name] {
+                Some((datum, link)) => Reply::Found(datum, link),
+                None => Reply::Nothing,
+            };
+            assert!(rt; session.step(Command::Get(name)) == reply, "at {name} after {datum}");
+        }
+    }
+    assert!(rt; refused < 2 && given + refused == 12);
+}

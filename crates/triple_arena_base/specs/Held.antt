@@ -11,7 +11,7 @@ abbrev pub item_answer : {I : Type 0} → Option I → I → Result (Unit {0}) I
 item_answer (Some y) x = Ok tt
 item_answer None x = Err x
 
--- the items x and xs, where `image` is that of x, and ys is what becomes of xs if it has one
+-- the items x and xs, of which x has the image that is given, or none, and ys is what becomes of xs if it has one
 abbrev pub recast_from : {I : Type 0} → Option I → I → List I → List I → List I
 recast_from (Some y) x xs ys = y ∷ ys
 recast_from None x xs ys = x ∷ xs

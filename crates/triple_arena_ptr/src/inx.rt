@@ -29,12 +29,14 @@ pub trait PtrInx: Debug + Hash + Clone + Copy + PartialEq + Eq + PartialOrd + Or
 
     /// The index of that number; none exactly past `max_index`.
     fn try_from_usize(inx: NonZeroUsize) -> Option<Self>
-        ensures { MatchOption result (greatest_index greatest < non_zero_usize_get inx) (λ i. number i ≡ non_zero_usize_get inx) };
+        ensures { MatchOption result (greatest_index greatest < non_zero_usize_get inx)
+            (λ i. number i ≡ non_zero_usize_get inx) };
 
     /// The number of the index; none exactly past `max_index`.
     fn try_into_usize(this: Self) -> Option<NonZeroUsize>
         ensures within { number this ≤ greatest }
-        ensures number { MatchOption result (greatest_index greatest < number this) (λ n. non_zero_usize_get n ≡ number this) };
+        ensures number { MatchOption result (greatest_index greatest < number this)
+            (λ n. non_zero_usize_get n ≡ number this) };
 
     /// The greatest index of an arena: the smaller of the type's greatest number and `usize::MAX`.
     fn max_index() -> NonZeroUsize

@@ -35,7 +35,8 @@ struct Beside<'a, P> {
 impl<'a, P: Ptr + 'static> Iterator for Beside<'a, P> {
     type Item = (P, &'a mut u64);
 
-    ghost next_gives = { YieldsFirstBy {B = P × ℕ} (λ item. (item.0, item.1.now)) (λ s. map (λ v. (s.p, v)) s.values.now) };
+    ghost next_gives = { YieldsFirstBy {B = P × ℕ} (λ item. (item.0, item.1.now))
+        (λ s. map (λ v. (s.p, v)) s.values.now) };
 
     ghost remaining = { λ s. at_most (length s.values.now) };
 

@@ -51,7 +51,8 @@ pub trait PtrGen: Debug + Hash + Clone + Copy + PartialEq + Eq + PartialOrd + Or
 
     /// Writes the number in lower-case hexadecimal without prefix, and `()` of `()`.
     fn fmt_hex<W: fmt::Write>(this: Self, f: &mut fmt::Formatter<W>) -> fmt::Result
-        ensures { WritesOnOk W.write_str_gives f.old result (generation_hex counting (number this)) f.new };
+        ensures { WritesOnOk W.write_str_gives f.old result
+            (generation_hex counting (number this)) f.new };
 
     /// Numbers begin at 1.
     ghost positive: { (g : Self) → 1 ≤ number g };

@@ -4,7 +4,7 @@ ghost use Rattle.std.specs.Prelude.{◌≡◌, ℕ, ◌≤◌, ◌==◌, ◌^◌
 ghost use Rattle.std.specs.Fmt.{WritesOnOk};
 ghost use Rattle.std.specs.Ordering.{nat_cmp};
 ghost use Rattle.std.specs.Int.NonZero.{non_zero_u8_get, non_zero_u16_get, non_zero_u32_get, non_zero_u64_get, non_zero_u128_get};
-ghost use Rattle.std.proofs.Common.{refl, arith};
+ghost use Rattle.std.proofs.Common.{refl, arith, true≢false};
 ghost use Rattle.triple_arena_ptr.specs.Numbers.{raise, wraps, first_generation};
 ghost use Rattle.triple_arena_ptr.specs.PointerText.{generation_hex};
 ghost use Rattle.triple_arena_ptr.specs.NonZeroNumbers.{u8_distinct, u16_distinct, u32_distinct, u64_distinct, u128_distinct, unit_distinct};
@@ -56,6 +56,9 @@ pub trait PtrGen: Debug + Hash + Clone + Copy + PartialEq + Eq + PartialOrd + Or
 
     /// Numbers begin at 1.
     ghost positive: { (g : Self) → 1 ≤ number g };
+
+    /// A type that does not tell generations apart has one value.
+    ghost alone: { (g : Self) → counting ≡ false → number g ≡ 1 };
 
     /// The counter of a new arena is a number of the type.
     ghost first_within: { first_generation counting ≤ greatest };
@@ -109,6 +112,8 @@ impl PtrGen for NonZeroU8 {
 
     ghost positive = { λ g. g.ok };
 
+    ghost alone = { λ _ e. absurd (true≢false e) };
+
     ghost first_within = { omega arith };
 
     ghost distinct = { u8_distinct };
@@ -146,6 +151,8 @@ impl PtrGen for NonZeroU16 {
     }
 
     ghost positive = { λ g. g.ok };
+
+    ghost alone = { λ _ e. absurd (true≢false e) };
 
     ghost first_within = { omega arith };
 
@@ -185,6 +192,8 @@ impl PtrGen for NonZeroU32 {
 
     ghost positive = { λ g. g.ok };
 
+    ghost alone = { λ _ e. absurd (true≢false e) };
+
     ghost first_within = { omega arith };
 
     ghost distinct = { u32_distinct };
@@ -222,6 +231,8 @@ impl PtrGen for NonZeroU64 {
     }
 
     ghost positive = { λ g. g.ok };
+
+    ghost alone = { λ _ e. absurd (true≢false e) };
 
     ghost first_within = { omega arith };
 
@@ -261,6 +272,8 @@ impl PtrGen for NonZeroU128 {
 
     ghost positive = { λ g. g.ok };
 
+    ghost alone = { λ _ e. absurd (true≢false e) };
+
     ghost first_within = { omega arith };
 
     ghost distinct = { u128_distinct };
@@ -295,6 +308,8 @@ impl PtrGen for () {
     }
 
     ghost positive = { λ _. omega arith };
+
+    ghost alone = { λ _ _. refl };
 
     ghost first_within = { omega arith };
 

@@ -71,12 +71,10 @@ impl<T: Default + Drop, const LIMIT: usize> NonZeroInxGenericStack<T> for ArrayS
     }
 
     fn max_capacity(&self) -> Option<usize> {
-        let _ = &self.items;
         Some(LIMIT)
     }
 
     fn reallocate_min_capacity(&mut self, min_capacity: usize) -> Result<(), ReallocationError> {
-        let _ = &self.items;
         if min_capacity > LIMIT {
             return Err(ReallocationError::BeyondMaxCapacity);
         }

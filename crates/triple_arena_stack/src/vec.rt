@@ -68,12 +68,10 @@ impl<T> NonZeroInxGenericStack<T> for HeapStack<T> {
     }
 
     fn capacity(&self) -> usize {
-        let _len = self.items.len();
         self.room
     }
 
     fn max_capacity(&self) -> Option<usize> {
-        let _ = &self.room;
         None
     }
 

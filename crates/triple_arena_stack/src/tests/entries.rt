@@ -1,24 +1,54 @@
 //! Push entries, on each of the four stacks.
 
+ghost use Rattle.std.specs.Prelude.{◌≡◌, ◌+◌, [], ◌∷◌, ◌++◌, length, IfOk, OnOk, OnErr};
+ghost use Rattle.std.specs.Int.NonZero.{non_zero_usize_get};
+ghost use Rattle.triple_arena_stack.specs.Capacity.{room_for_one_more};
+
 use super::token::{Bounds, Token, bounds_of, has};
 use crate::{
     NonZeroInxArray, NonZeroInxArrayPushEntry, NonZeroInxBoxedSlice, NonZeroInxBoxedSlicePushEntry,
     NonZeroInxGenericStack, NonZeroInxGenericStackPushEntryTrait, NonZeroInxLimitedVec,
     NonZeroInxLimitedVecPushEntry, NonZeroInxStack, NonZeroInxVec, NonZeroInxVecPushEntry,
 };
+use std::num::NonZeroUsize;
 use std::process::Abort;
 use std::test::Fail;
 use triple_arena_base::{NotWithinCapacityError, ReallocationError};
 
+// Takes an entry of any stack and lets it go: nothing is pushed, and its room stays.
+fn index_of_entry<T, K: NonZeroInxGenericStack<T>>(
+    stack: &mut NonZeroInxStack<T, K>,
+) -> Result<NonZeroUsize, ReallocationError>
+    ensures index { IfOk result (λ inx. non_zero_usize_get inx ≡ length (K.items stack.old) + 1) }
+    ensures items { K.items stack.new ≡ K.items stack.old }
+    ensures room { OnOk result (K.room stack.new
+        ≡ room_for_one_more (K.room stack.old) (K.limit stack.old) (length (K.items stack.old))) }
+    ensures refused { OnErr result (stack.new ≡ stack.old) }
+{
+    let entry = stack.entry_push()?;
+    Ok(entry.inx())
+}
+
+// Pushes `first` where there is a place for it, and writes `second` over it.
+fn push_and_write<T: Drop, K: NonZeroInxGenericStack<T>>(
+    stack: &mut NonZeroInxStack<T, K>,
+    first: T,
+    second: T,
+) -> Result<(), NotWithinCapacityError>
+    ensures pushed { OnOk result (stack.new ≡ K.with_items stack.old (K.items stack.old ++ second ∷ [])) }
+    ensures refused { OnErr result (stack.new ≡ stack.old) }
+{
+    let entry = stack.entry_push_within_capacity()?;
+    *entry.push(first) = second;
+    Ok(())
+}
+
 #[test]
 fn a_dropped_entry_leaves_its_room(rt: HostRuntime) -> Result<(), Fail> {
     let mut stack: NonZeroInxVec<Token> = NonZeroInxVec::new(rt.alloc());
-    {
-        let entry = stack.entry_push()?;
-        assert_eq!(rt; entry.inx().get(), 1);
-    }
+    assert_eq!(rt; index_of_entry(&mut stack)?.get(), 1);
     assert_eq!(rt; bounds_of(&stack), Bounds { len: 0, capacity: 4, limit: None });
-    stack.entry_push()?.push(Token { number: 1 });
+    push_and_write(&mut stack, Token { number: 0 }, Token { number: 1 })?;
     assert!(rt; has(&stack, &[1]));
     assert_eq!(rt; stack.capacity(), 4);
     Ok(())

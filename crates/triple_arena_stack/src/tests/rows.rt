@@ -1,14 +1,15 @@
 //! Worked rows, on each of the four stacks through their contract.
 
 use super::client::{
-    Slot, empty, exchange, free, is_at_limit, made, put, put_growing, put_over, reserve, take_last,
-    take_value,
+    Holding, Slot, empty, exchange, free, is_at_limit, made, overwrite, put, put_growing, put_over,
+    reserve, take_last, take_value,
 };
 use super::token::{Bounds, Token, bounds_of, has, inx};
 use crate::{
     NonZeroInxArray, NonZeroInxBoxedSlice, NonZeroInxGenericStack, NonZeroInxLimitedVec,
     NonZeroInxVec, SetMaxCapacity, pair_if, pair_of,
 };
+use std::alloc::Global;
 use std::cell::Cell;
 use std::mem;
 use std::process::Abort;
@@ -61,9 +62,19 @@ fn a_limit_leaves_the_room(rt: HostRuntime) -> Result<(), Fail> {
     }
     assert_eq!(rt; stack.set_max_capacity(2), Err(MaxCapacityReductionError));
     assert_eq!(rt; bounds_of(&stack), Bounds { len: 3, capacity: 3, limit: Some(100) });
-    assert_eq!(rt; stack.set_max_capacity(3), Ok(()));
+    assert_eq!(rt; limit_to(&mut stack, 3), Ok(()));
+    assert_eq!(rt; limit_to(&mut stack, 2), Err(MaxCapacityReductionError));
+    assert_eq!(rt; bounds_of(&stack), Bounds { len: 3, capacity: 3, limit: Some(3) });
     assert!(rt; has(&stack, &[1, 2, 3]));
     Ok(())
+}
+
+// Sets the limit of any stack that has one.
+fn limit_to<S: SetMaxCapacity<Token>>(
+    stack: &mut S,
+    limit: usize,
+) -> Result<(), MaxCapacityReductionError> {
+    stack.set_max_capacity(limit)
 }
 
 #[test]
@@ -220,8 +231,9 @@ fn two_of_a_slice(rt: HostRuntime) {
 }
 
 // The client's calls on an empty stack of two places.
-fn each_call_of_the_client<S: NonZeroInxGenericStack<Slot<Token>>>(
+fn each_call_of_the_client<S: NonZeroInxGenericStack<Slot<Token>> + Drop>(
     rt: &impl Abort,
+    alloc: Global,
     slots: &mut S,
 ) -> Result<(), Fail> {
     assert_eq!(rt; put(slots, Token { number: 1 })?.get(), 1);
@@ -233,6 +245,12 @@ fn each_call_of_the_client<S: NonZeroInxGenericStack<Slot<Token>>>(
     free(slots, inx(2)?, 1);
     assert_eq!(rt; take_value(slots, inx(2)?, 1), None);
     assert!(rt; take_last(slots).is_some());
+    let mut holding = Holding { slots: made::<Token, S>(alloc, 2) };
+    assert!(rt; !overwrite(&mut holding, inx(1)?, Token { number: 5 }));
+    put(&mut holding.slots, Token { number: 6 })?;
+    assert!(rt; overwrite(&mut holding, inx(1)?, Token { number: 7 }));
+    assert_eq!(rt; take_value(&mut holding.slots, inx(1)?, 1), Some(Token { number: 7 }));
+    assert!(rt; !overwrite(&mut holding, inx(1)?, Token { number: 8 }));
     let (len, capacity) = (slots.len(), slots.capacity());
     if len < capacity {
         assert_eq!(rt; put_over(slots, Token { number: 4 }, 7).get(), 2);
@@ -250,10 +268,10 @@ fn the_client_on_each_stack(rt: HostRuntime) -> Result<(), Fail> {
     let mut limited: NonZeroInxLimitedVec<Slot<Token>> = made(rt.alloc(), 2);
     let mut fixed: NonZeroInxBoxedSlice<Slot<Token>> = made(rt.alloc(), 2);
     let mut array: NonZeroInxArray<Slot<Token>, 2> = made(rt.alloc(), 2);
-    each_call_of_the_client(&rt, &mut heap)?;
-    each_call_of_the_client(&rt, &mut limited)?;
-    each_call_of_the_client(&rt, &mut fixed)?;
-    each_call_of_the_client(&rt, &mut array)?;
+    each_call_of_the_client(&rt, rt.alloc(), &mut heap)?;
+    each_call_of_the_client(&rt, rt.alloc(), &mut limited)?;
+    each_call_of_the_client(&rt, rt.alloc(), &mut fixed)?;
+    each_call_of_the_client(&rt, rt.alloc(), &mut array)?;
     assert!(rt; !is_at_limit(&heap));
     assert!(rt; is_at_limit(&limited));
     assert!(rt; is_at_limit(&fixed));

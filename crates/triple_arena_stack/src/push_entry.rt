@@ -21,8 +21,11 @@ pub type NonZeroInxLimitedVecPushEntry<'a, T> = PushEntry<'a, T, LimitedStack<T>
 pub type NonZeroInxBoxedSlicePushEntry<'a, T> = PushEntry<'a, T, FixedStack<T>>;
 
 /// An entry of a [`crate::NonZeroInxArray`].
-pub type NonZeroInxArrayPushEntry<'a, T, const LIMIT: usize> =
-    PushEntry<'a, T, ArrayStack<T, LIMIT>>;
+pub type NonZeroInxArrayPushEntry<'a, T, const LIMIT: usize> = PushEntry<
+    'a,
+    T,
+    ArrayStack<T, LIMIT>,
+>;
 
 /// A place on a stack for one more item. Dropped, it pushes nothing, and room that was made for it
 /// stays.

@@ -24,7 +24,7 @@ use triple_arena_base::{
 ///
 /// Memory is asked for only where the room is made or changes. Where it is refused, items, room and
 /// limit stay as they were.
-pub trait NonZeroInxGenericStack<T>: Sized {
+pub trait NonZeroInxGenericStack<T> {
     // the items, that of index 1 first
     ghost items: { Self → List T };
 

@@ -213,8 +213,10 @@ impl<S> Holding<S> {
     where
         S: NonZeroInxGenericStack<Slot<T>>,
         ensures* writes_back { sem 𝓛 (LendsSo (the_row S.row) T.row self.entry result
-            (λ end w. OnSome result (end ≡ record self.old { slots = S.with_items self.old.slots
-                (slice_set (S.items self.old.slots) (non_zero_usize_get inx - 1) (Slot.Full w)) }))
+            (λ end w. OnSome result (end ≡ record self.old {
+              slots = S.with_items self.old.slots
+                  (slice_set (S.items self.old.slots) (non_zero_usize_get inx - 1) (Slot.Full w));
+            }))
             (λ end. end ≡ self.old)) }
     {
         match self.slots.get_mut(inx) {

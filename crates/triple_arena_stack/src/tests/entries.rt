@@ -4,7 +4,7 @@ ghost use Rattle.std.specs.Prelude.{◌≡◌, ◌+◌, [], ◌∷◌, ◌++◌,
 ghost use Rattle.std.specs.Int.NonZero.{non_zero_usize_get};
 ghost use Rattle.triple_arena_stack.specs.Capacity.{room_for_one_more};
 
-use super::token::{Bounds, Token, bounds_of, has};
+use super::token::{Token, bounds_of, has};
 use crate::{
     NonZeroInxArray, NonZeroInxArrayPushEntry, NonZeroInxBoxedSlice, NonZeroInxBoxedSlicePushEntry,
     NonZeroInxGenericStack, NonZeroInxGenericStackPushEntryTrait, NonZeroInxLimitedVec,
@@ -47,7 +47,7 @@ fn push_and_write<T: Drop, K: NonZeroInxGenericStack<T>>(
 fn a_dropped_entry_leaves_its_room(rt: HostRuntime) -> Result<(), Fail> {
     let mut stack: NonZeroInxVec<Token> = NonZeroInxVec::new(rt.alloc());
     assert_eq!(rt; index_of_entry(&mut stack)?.get(), 1);
-    assert_eq!(rt; bounds_of(&stack), Bounds { len: 0, capacity: 4, limit: None });
+    assert_eq!(rt; bounds_of(&stack), (0, 4, None));
     push_and_write(&mut stack, Token { number: 0 }, Token { number: 1 })?;
     assert!(rt; has(&stack, &[1]));
     assert_eq!(rt; stack.capacity(), 4);
@@ -58,10 +58,13 @@ fn a_dropped_entry_leaves_its_room(rt: HostRuntime) -> Result<(), Fail> {
 fn an_entry_of_a_full_heap_stack_makes_it_grow(rt: HostRuntime) -> Result<(), Fail> {
     let mut stack = NonZeroInxVec::with_min_capacity(rt.alloc(), 1)?;
     stack.push_within_capacity(Token { number: 1 })?;
-    assert_eq!(rt; stack.entry_push_within_capacity().err(), Some(NotWithinCapacityError));
+    assert_eq!(rt;
+        stack.entry_push_within_capacity().err(),
+        Some(NotWithinCapacityError)
+    );
     assert_eq!(rt; stack.capacity(), 1);
     assert_eq!(rt; stack.entry_push_reallocating()?.inx().get(), 2);
-    assert_eq!(rt; bounds_of(&stack), Bounds { len: 1, capacity: 2, limit: None });
+    assert_eq!(rt; bounds_of(&stack), (1, 2, None));
     Ok(())
 }
 
@@ -85,7 +88,10 @@ fn each_entry_call<K: NonZeroInxGenericStack<Token>>(
     assert!(rt; has(stack, &[10, 20]));
     let full = bounds_of(stack);
     let beyond = Some(ReallocationError::BeyondMaxCapacity);
-    assert_eq!(rt; stack.entry_push_within_capacity().err(), Some(NotWithinCapacityError));
+    assert_eq!(rt;
+        stack.entry_push_within_capacity().err(),
+        Some(NotWithinCapacityError)
+    );
     assert_eq!(rt; stack.entry_push_reallocating().err(), beyond);
     assert_eq!(rt; stack.entry_push().err(), beyond);
     assert_eq!(rt; bounds_of(stack), full);
@@ -108,7 +114,10 @@ fn each_entry_call_on_each_stack_with_a_limit(rt: HostRuntime) -> Result<(), Fai
 }
 
 // Pushes by an entry that must have its place, through the trait of entries alone.
-fn pushed_number<'a, E: NonZeroInxGenericStackPushEntryTrait<'a, Token>>(entry: E, number: u64) -> u64
+fn pushed_number<'a, E: NonZeroInxGenericStackPushEntryTrait<'a, Token>>(
+    entry: E,
+    number: u64,
+) -> u64
     requires { E.has_place entry }
 {
     entry.push(Token { number }).number

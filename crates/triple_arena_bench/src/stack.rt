@@ -16,6 +16,7 @@ struct Times {
     push: Duration,
     get: Duration,
     pop: Duration,
+    grow: Duration,
 }
 
 impl Times {
@@ -24,6 +25,7 @@ impl Times {
             push: self.push.min(other.push),
             get: self.get.min(other.get),
             pop: self.pop.min(other.pop),
+            grow: self.grow.min(other.grow),
         }
     }
 }
@@ -40,6 +42,7 @@ pub fn run(rt: &(impl Print + Clock), alloc: Global) -> anyhow::Result<()> {
         ("push", stack.push, vec.push),
         ("get", stack.get, vec.get),
         ("pop", stack.pop, vec.pop),
+        ("push with growth", stack.grow, vec.grow),
     ] {
         let ratio = ours.div_duration_f64(theirs);
         println!(rt; "{call}: stack {ours:?}, vector {theirs:?}, ratio {ratio:.2}")?;
@@ -70,7 +73,18 @@ fn time_vec(rt: &impl Clock, alloc: Global) -> anyhow::Result<Times> {
     }
     let pop = start.elapsed(rt)?;
     keep(sum)?;
-    Ok(Times { push, get, pop })
+    let mut vec = Vec::new(alloc);
+    let start = Instant::now(rt)?;
+    for number in 0..ITEMS {
+        vec.push(number as u64)?;
+    }
+    let grow = start.elapsed(rt)?;
+    Ok(Times {
+        push,
+        get,
+        pop,
+        grow,
+    })
 }
 
 fn time_stack(rt: &impl Clock, alloc: Global) -> anyhow::Result<Times> {
@@ -96,7 +110,18 @@ fn time_stack(rt: &impl Clock, alloc: Global) -> anyhow::Result<Times> {
     }
     let pop = start.elapsed(rt)?;
     keep(sum)?;
-    Ok(Times { push, get, pop })
+    let mut stack = NonZeroInxVec::new(alloc);
+    let start = Instant::now(rt)?;
+    for number in 0..ITEMS {
+        stack.push(number as u64)?;
+    }
+    let grow = start.elapsed(rt)?;
+    Ok(Times {
+        push,
+        get,
+        pop,
+        grow,
+    })
 }
 
 // Uses the sum, so that no loop is left out.

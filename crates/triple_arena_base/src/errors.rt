@@ -1,11 +1,18 @@
 //! The refusals of stacks, arenas and their insertions.
 
+use std::alloc;
 use thiserror::Error;
 
 /// Memory was refused, or a constructor was asked for more than its type may ever hold.
 #[derive(Clone, Copy, Debug, PartialEq, Eq, Error)]
 #[error("memory allocation failed")]
 pub struct AllocError;
+
+impl From<alloc::AllocError> for AllocError {
+    fn from(_refused: alloc::AllocError) -> AllocError {
+        AllocError
+    }
+}
 
 /// A limit was asked for that lies below the slots in use.
 #[derive(Clone, Copy, Debug, PartialEq, Eq, Error)]
@@ -26,6 +33,17 @@ pub enum ReallocationError {
     /// Memory was refused, or there is no greater number of slots.
     #[error("a memory reallocation failed")]
     AllocError,
+}
+
+impl From<alloc::AllocError> for ReallocationError {
+    ghost use Rattle.std.specs.Prelude.{◌≡◌};
+    ghost use Rattle.triple_arena_base.specs.declared.errors.ReallocationError.TheVariants.{AllocError};
+
+    ghost from_gives = { λ _ e. e ≡ AllocError };
+
+    fn from(_refused: alloc::AllocError) -> ReallocationError {
+        ReallocationError::AllocError
+    }
 }
 
 /// Nothing was inserted under the pointer asked for.

@@ -1,9 +1,20 @@
 //! Refusals, small answers and recasting: the ground that the arena crates share.
 #![tactic(auto)]
 
+mod advancer;
 mod errors;
+mod invalidation;
+mod nonzero_range;
+mod recast;
+mod recast_impls;
+#[cfg(test)]
+mod tests;
 
+pub use advancer::Advancer;
 pub use errors::{
     AllocError, ChainInsertionError, DirectInsertionError, GetDisjointMutError,
     MaxCapacityReductionError, NotWithinCapacityError, OrdInsertionError, ReallocationError,
 };
+pub use invalidation::{InvalidationOption, InvalidationResult};
+pub use nonzero_range::{IntoNonZeroUsizeIterator, NonZeroUsizeIterator, nzusize_iter};
+pub use recast::{Recast, Recaster};

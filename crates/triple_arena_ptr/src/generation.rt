@@ -1,15 +1,19 @@
 //! Generations, which tell apart the entries that stood at one index.
 
-ghost use Rattle.std.specs.Prelude.{◌≡◌, ℕ, ◌≤◌, ◌==◌, ◌^◌, ◌-◌, Bool, true};
+ghost use Rattle.std.specs.Prelude.{◌≡◌, ℕ, ◌≤◌, ◌==◌, ◌^◌, ◌-◌, Bool, true, false};
+ghost use Rattle.std.specs.Fmt.{WritesOnOk};
 ghost use Rattle.std.specs.Ordering.{nat_cmp};
-ghost use Rattle.std.specs.Int.NonZero.{non_zero_u64_get};
+ghost use Rattle.std.specs.Int.NonZero.{non_zero_u8_get, non_zero_u16_get, non_zero_u32_get, non_zero_u64_get, non_zero_u128_get};
 ghost use Rattle.std.proofs.Common.{refl, arith};
 ghost use Rattle.triple_arena_ptr.specs.Numbers.{raise, wraps, first_generation};
-ghost use Rattle.triple_arena_ptr.specs.NonZeroNumbers.{u64_distinct};
+ghost use Rattle.triple_arena_ptr.specs.PointerText.{generation_hex};
+ghost use Rattle.triple_arena_ptr.specs.NonZeroNumbers.{u8_distinct, u16_distinct, u32_distinct, u64_distinct, u128_distinct, unit_distinct};
 
+use crate::hex::fmt_hex_wide;
+use std::fmt;
 use std::fmt::Debug;
 use std::hash::Hash;
-use std::num::NonZeroU64;
+use std::num::{NonZeroU8, NonZeroU16, NonZeroU32, NonZeroU64, NonZeroU128};
 
 /// A generation: a number from 1 to the greatest of its type, or `()` where generations do not
 /// count.
@@ -45,6 +49,11 @@ pub trait PtrGen: Debug + Hash + Clone + Copy + PartialEq + Eq + PartialOrd + Or
         ensures raised { number result.0 ≡ raise counting greatest (number this) }
         ensures wrapped { result.1 ≡ wraps counting greatest (number this) };
 
+    /// Writes the number in lower-case hexadecimal without prefix, and `()` of `()`.
+    fn fmt_hex<W: fmt::Write>(this: Self, f: &mut fmt::Formatter<W>) -> fmt::Result
+        ensures { WritesOnOk W.write_str_gives f.old result
+            (generation_hex counting (number this)) f.new };
+
     /// Numbers begin at 1.
     ghost positive: { (g : Self) → 1 ≤ number g };
 
@@ -71,6 +80,120 @@ macro_rules! next_generation {
     };
 }
 
+impl PtrGen for NonZeroU8 {
+    ghost number = { non_zero_u8_get };
+
+    ghost greatest = { 2 ^ 8 - 1 };
+
+    ghost counting = { true };
+
+    fn counts() -> bool {
+        true
+    }
+
+    fn one() -> Self {
+        NonZeroU8::MIN
+    }
+
+    fn two() -> Self {
+        NonZeroU8::new(2).unwrap()
+    }
+
+    fn generational_inc(this: Self) -> (Self, bool) {
+        next_generation!(NonZeroU8, this)
+    }
+
+    fn fmt_hex<W: fmt::Write>(this: Self, f: &mut fmt::Formatter<W>) -> fmt::Result {
+        write!(f, "{this:x}")
+    }
+
+    ghost positive = { λ g. g.ok };
+
+    ghost first_within = { omega arith };
+
+    ghost distinct = { u8_distinct };
+
+    ghost equates = { λ _ _. refl };
+
+    ghost orders = { λ _ _. refl };
+}
+
+impl PtrGen for NonZeroU16 {
+    ghost number = { non_zero_u16_get };
+
+    ghost greatest = { 2 ^ 16 - 1 };
+
+    ghost counting = { true };
+
+    fn counts() -> bool {
+        true
+    }
+
+    fn one() -> Self {
+        NonZeroU16::MIN
+    }
+
+    fn two() -> Self {
+        NonZeroU16::new(2).unwrap()
+    }
+
+    fn generational_inc(this: Self) -> (Self, bool) {
+        next_generation!(NonZeroU16, this)
+    }
+
+    fn fmt_hex<W: fmt::Write>(this: Self, f: &mut fmt::Formatter<W>) -> fmt::Result {
+        write!(f, "{this:x}")
+    }
+
+    ghost positive = { λ g. g.ok };
+
+    ghost first_within = { omega arith };
+
+    ghost distinct = { u16_distinct };
+
+    ghost equates = { λ _ _. refl };
+
+    ghost orders = { λ _ _. refl };
+}
+
+impl PtrGen for NonZeroU32 {
+    ghost number = { non_zero_u32_get };
+
+    ghost greatest = { 2 ^ 32 - 1 };
+
+    ghost counting = { true };
+
+    fn counts() -> bool {
+        true
+    }
+
+    fn one() -> Self {
+        NonZeroU32::MIN
+    }
+
+    fn two() -> Self {
+        NonZeroU32::new(2).unwrap()
+    }
+
+    fn generational_inc(this: Self) -> (Self, bool) {
+        next_generation!(NonZeroU32, this)
+    }
+
+    fn fmt_hex<W: fmt::Write>(this: Self, f: &mut fmt::Formatter<W>) -> fmt::Result {
+        write!(f, "{this:x}")
+    }
+
+    ghost positive = { λ g. g.ok };
+
+    ghost first_within = { omega arith };
+
+    ghost distinct = { u32_distinct };
+
+    ghost equates = { λ _ _. refl };
+
+    ghost orders = { λ _ _. refl };
+}
+
 impl PtrGen for NonZeroU64 {
     ghost number = { non_zero_u64_get };
 
@@ -94,11 +217,88 @@ impl PtrGen for NonZeroU64 {
         next_generation!(NonZeroU64, this)
     }
 
+    fn fmt_hex<W: fmt::Write>(this: Self, f: &mut fmt::Formatter<W>) -> fmt::Result {
+        write!(f, "{this:x}")
+    }
+
     ghost positive = { λ g. g.ok };
 
     ghost first_within = { omega arith };
 
     ghost distinct = { u64_distinct };
+
+    ghost equates = { λ _ _. refl };
+
+    ghost orders = { λ _ _. refl };
+}
+
+impl PtrGen for NonZeroU128 {
+    ghost number = { non_zero_u128_get };
+
+    ghost greatest = { 2 ^ 128 - 1 };
+
+    ghost counting = { true };
+
+    fn counts() -> bool {
+        true
+    }
+
+    fn one() -> Self {
+        NonZeroU128::MIN
+    }
+
+    fn two() -> Self {
+        NonZeroU128::new(2).unwrap()
+    }
+
+    fn generational_inc(this: Self) -> (Self, bool) {
+        next_generation!(NonZeroU128, this)
+    }
+
+    fn fmt_hex<W: fmt::Write>(this: Self, f: &mut fmt::Formatter<W>) -> fmt::Result {
+        fmt_hex_wide(this.get(), f)
+    }
+
+    ghost positive = { λ g. g.ok };
+
+    ghost first_within = { omega arith };
+
+    ghost distinct = { u128_distinct };
+
+    ghost equates = { λ _ _. refl };
+
+    ghost orders = { λ _ _. refl };
+}
+
+/// The generation of types that tell no generations apart: there is one, which never changes.
+impl PtrGen for () {
+    ghost number = { λ _. 1 };
+
+    ghost greatest = { 1 };
+
+    ghost counting = { false };
+
+    fn counts() -> bool {
+        false
+    }
+
+    fn one() -> Self {}
+
+    fn two() -> Self {}
+
+    fn generational_inc(this: Self) -> (Self, bool) {
+        (this, false)
+    }
+
+    fn fmt_hex<W: fmt::Write>(_this: Self, f: &mut fmt::Formatter<W>) -> fmt::Result {
+        write!(f, "()")
+    }
+
+    ghost positive = { λ _. omega arith };
+
+    ghost first_within = { omega arith };
+
+    ghost distinct = { unit_distinct };
 
     ghost equates = { λ _ _. refl };
 

@@ -1,15 +1,19 @@
 //! Indexes of an arena's entries, counted from 1.
 
 ghost use Rattle.std.specs.Prelude.{◌≡◌, ℕ, ◌≤◌, ◌<◌, ◌==◌, ◌^◌, ◌-◌, MatchOption};
+ghost use Rattle.std.specs.Fmt.{WritesOnOk};
 ghost use Rattle.std.specs.Ordering.{nat_cmp};
-ghost use Rattle.std.specs.Int.NonZero.{non_zero_usize_get};
+ghost use Rattle.std.specs.Int.NonZero.{non_zero_usize_get, non_zero_u8_get, non_zero_u16_get, non_zero_u32_get, non_zero_u64_get, non_zero_u128_get};
 ghost use Rattle.std.proofs.Common.{refl, arith};
 ghost use Rattle.triple_arena_ptr.specs.Numbers.{greatest_index};
-ghost use Rattle.triple_arena_ptr.specs.NonZeroNumbers.{usize_distinct};
+ghost use Rattle.triple_arena_ptr.specs.PointerText.{hex};
+ghost use Rattle.triple_arena_ptr.specs.NonZeroNumbers.{usize_distinct, u8_distinct, u16_distinct, u32_distinct, u64_distinct, u128_distinct};
 
+use crate::hex::fmt_hex_wide;
+use std::fmt;
 use std::fmt::Debug;
 use std::hash::Hash;
-use std::num::NonZeroUsize;
+use std::num::{NonZeroU8, NonZeroU16, NonZeroU32, NonZeroU64, NonZeroU128, NonZeroUsize};
 
 /// An index: a number from 1 to the greatest of its type.
 ///
@@ -25,12 +29,14 @@ pub trait PtrInx: Debug + Hash + Clone + Copy + PartialEq + Eq + PartialOrd + Or
 
     /// The index of that number; none exactly past `max_index`.
     fn try_from_usize(inx: NonZeroUsize) -> Option<Self>
-        ensures { MatchOption result (greatest_index greatest < non_zero_usize_get inx) (λ i. number i ≡ non_zero_usize_get inx) };
+        ensures { MatchOption result (greatest_index greatest < non_zero_usize_get inx)
+            (λ i. number i ≡ non_zero_usize_get inx) };
 
     /// The number of the index; none exactly past `max_index`.
     fn try_into_usize(this: Self) -> Option<NonZeroUsize>
         ensures within { number this ≤ greatest }
-        ensures number { MatchOption result (greatest_index greatest < number this) (λ n. non_zero_usize_get n ≡ number this) };
+        ensures number { MatchOption result (greatest_index greatest < number this)
+            (λ n. non_zero_usize_get n ≡ number this) };
 
     /// The greatest index of an arena: the smaller of the type's greatest number and `usize::MAX`.
     fn max_index() -> NonZeroUsize
@@ -39,6 +45,10 @@ pub trait PtrInx: Debug + Hash + Clone + Copy + PartialEq + Eq + PartialOrd + Or
     /// The greatest index of the type, which an arena reaches last or never.
     fn best_effort_invalid() -> Self
         ensures { number result ≡ greatest };
+
+    /// Writes the number in lower-case hexadecimal without prefix.
+    fn fmt_hex<W: fmt::Write>(this: Self, f: &mut fmt::Formatter<W>) -> fmt::Result
+        ensures { WritesOnOk W.write_str_gives f.old result (hex (number this)) f.new };
 
     /// Numbers begin at 1.
     ghost positive: { (i : Self) → 1 ≤ number i };
@@ -77,11 +87,195 @@ impl PtrInx for NonZeroUsize {
         NonZeroUsize::MAX
     }
 
+    fn fmt_hex<W: fmt::Write>(this: Self, f: &mut fmt::Formatter<W>) -> fmt::Result {
+        write!(f, "{this:x}")
+    }
+
     ghost positive = { λ i. i.ok };
 
     ghost greatest_positive = { omega arith };
 
     ghost distinct = { usize_distinct };
+
+    ghost equates = { λ _ _. refl };
+
+    ghost orders = { λ _ _. refl };
+}
+
+impl PtrInx for NonZeroU8 {
+    ghost number = { non_zero_u8_get };
+
+    ghost greatest = { 2 ^ 8 - 1 };
+
+    fn try_from_usize(inx: NonZeroUsize) -> Option<Self> {
+        NonZeroU8::new(u8::try_from(inx.get()).ok()?)
+    }
+
+    fn try_into_usize(this: Self) -> Option<NonZeroUsize> {
+        NonZeroUsize::new(this.get() as usize)
+    }
+
+    fn max_index() -> NonZeroUsize {
+        NonZeroUsize::new(u8::MAX as usize).unwrap()
+    }
+
+    fn best_effort_invalid() -> Self {
+        NonZeroU8::MAX
+    }
+
+    fn fmt_hex<W: fmt::Write>(this: Self, f: &mut fmt::Formatter<W>) -> fmt::Result {
+        write!(f, "{this:x}")
+    }
+
+    ghost positive = { λ i. i.ok };
+
+    ghost greatest_positive = { omega arith };
+
+    ghost distinct = { u8_distinct };
+
+    ghost equates = { λ _ _. refl };
+
+    ghost orders = { λ _ _. refl };
+}
+
+impl PtrInx for NonZeroU16 {
+    ghost number = { non_zero_u16_get };
+
+    ghost greatest = { 2 ^ 16 - 1 };
+
+    fn try_from_usize(inx: NonZeroUsize) -> Option<Self> {
+        NonZeroU16::new(u16::try_from(inx.get()).ok()?)
+    }
+
+    fn try_into_usize(this: Self) -> Option<NonZeroUsize> {
+        NonZeroUsize::new(this.get() as usize)
+    }
+
+    fn max_index() -> NonZeroUsize {
+        NonZeroUsize::new(u16::MAX as usize).unwrap()
+    }
+
+    fn best_effort_invalid() -> Self {
+        NonZeroU16::MAX
+    }
+
+    fn fmt_hex<W: fmt::Write>(this: Self, f: &mut fmt::Formatter<W>) -> fmt::Result {
+        write!(f, "{this:x}")
+    }
+
+    ghost positive = { λ i. i.ok };
+
+    ghost greatest_positive = { omega arith };
+
+    ghost distinct = { u16_distinct };
+
+    ghost equates = { λ _ _. refl };
+
+    ghost orders = { λ _ _. refl };
+}
+
+impl PtrInx for NonZeroU32 {
+    ghost number = { non_zero_u32_get };
+
+    ghost greatest = { 2 ^ 32 - 1 };
+
+    fn try_from_usize(inx: NonZeroUsize) -> Option<Self> {
+        NonZeroU32::new(u32::try_from(inx.get()).ok()?)
+    }
+
+    fn try_into_usize(this: Self) -> Option<NonZeroUsize> {
+        NonZeroUsize::new(this.get() as usize)
+    }
+
+    fn max_index() -> NonZeroUsize {
+        NonZeroUsize::new(u32::MAX as usize).unwrap()
+    }
+
+    fn best_effort_invalid() -> Self {
+        NonZeroU32::MAX
+    }
+
+    fn fmt_hex<W: fmt::Write>(this: Self, f: &mut fmt::Formatter<W>) -> fmt::Result {
+        write!(f, "{this:x}")
+    }
+
+    ghost positive = { λ i. i.ok };
+
+    ghost greatest_positive = { omega arith };
+
+    ghost distinct = { u32_distinct };
+
+    ghost equates = { λ _ _. refl };
+
+    ghost orders = { λ _ _. refl };
+}
+
+impl PtrInx for NonZeroU64 {
+    ghost number = { non_zero_u64_get };
+
+    ghost greatest = { 2 ^ 64 - 1 };
+
+    fn try_from_usize(inx: NonZeroUsize) -> Option<Self> {
+        NonZeroU64::new(inx.get() as u64)
+    }
+
+    fn try_into_usize(this: Self) -> Option<NonZeroUsize> {
+        NonZeroUsize::new(this.get() as usize)
+    }
+
+    fn max_index() -> NonZeroUsize {
+        NonZeroUsize::MAX
+    }
+
+    fn best_effort_invalid() -> Self {
+        NonZeroU64::MAX
+    }
+
+    fn fmt_hex<W: fmt::Write>(this: Self, f: &mut fmt::Formatter<W>) -> fmt::Result {
+        write!(f, "{this:x}")
+    }
+
+    ghost positive = { λ i. i.ok };
+
+    ghost greatest_positive = { omega arith };
+
+    ghost distinct = { u64_distinct };
+
+    ghost equates = { λ _ _. refl };
+
+    ghost orders = { λ _ _. refl };
+}
+
+impl PtrInx for NonZeroU128 {
+    ghost number = { non_zero_u128_get };
+
+    ghost greatest = { 2 ^ 128 - 1 };
+
+    fn try_from_usize(inx: NonZeroUsize) -> Option<Self> {
+        NonZeroU128::new(inx.get() as u128)
+    }
+
+    fn try_into_usize(this: Self) -> Option<NonZeroUsize> {
+        NonZeroUsize::new(usize::try_from(this.get()).ok()?)
+    }
+
+    fn max_index() -> NonZeroUsize {
+        NonZeroUsize::MAX
+    }
+
+    fn best_effort_invalid() -> Self {
+        NonZeroU128::MAX
+    }
+
+    fn fmt_hex<W: fmt::Write>(this: Self, f: &mut fmt::Formatter<W>) -> fmt::Result {
+        fmt_hex_wide(this.get(), f)
+    }
+
+    ghost positive = { λ i. i.ok };
+
+    ghost greatest_positive = { omega arith };
+
+    ghost distinct = { u128_distinct };
 
     ghost equates = { λ _ _. refl };
 

@@ -2,11 +2,32 @@
 #![tactic(auto)]
 
 mod generation;
+mod hex;
 mod inx;
+mod laws;
 mod p0;
+mod p1;
+mod p2;
+mod p3;
+mod p4;
+mod p5;
 mod ptr;
+mod ptr_no_gen;
+mod q2;
+#[cfg(test)]
+mod tests;
+mod text;
 
 pub use generation::PtrGen;
 pub use inx::PtrInx;
+pub use laws::{index_through_number, number_through_index, pointers_agree};
 pub use p0::P0;
+pub use p1::P1;
+pub use p2::P2;
+pub use p3::P3;
+pub use p4::P4;
+pub use p5::P5;
 pub use ptr::Ptr;
+pub use ptr_no_gen::PtrNoGen;
+pub use q2::Q2;
+pub use text::fmt_pointer;

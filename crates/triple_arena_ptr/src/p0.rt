@@ -1,17 +1,23 @@
 //! The pointer of general use.
 
-ghost use Rattle.std.specs.Prelude.{suc, codes};
+ghost use Rattle.std.specs.Prelude.{◌≡◌, ◌^◌, ◌-◌, Some, true, suc, codes};
 ghost use Rattle.std.proofs.Common.{refl};
-ghost use Rattle.triple_arena_ptr.specs.NonZeroNumbers.{same_whole, usize_after, u64_after, usize_after_cancels, u64_after_cancels};
+ghost use Rattle.triple_arena_base.specs.Held.{held_itself, refill_itself};
+ghost use Rattle.triple_arena_base.specs.HeldLaws.{itself_held_refill, itself_refill_held, itself_refill_refill};
+ghost use Rattle.triple_arena_ptr.specs.NonZeroNumbers.{same_pair, usize_after, u64_after, usize_after_cancels, u64_after_cancels};
+ghost use Rattle.triple_arena_ptr.specs.PointerText.{pointer_text};
 
 use crate::generation::PtrGen;
 use crate::inx::PtrInx;
 use crate::ptr::Ptr;
+use crate::text::fmt_pointer;
+use std::fmt;
 use std::marker::Model;
 use std::num::{NonZeroU64, NonZeroUsize};
+use triple_arena_base::{Recast, Recaster};
 
 /// The pointer of general use: a `usize` index and a 64-bit generation.
-#[derive(Debug, Hash, Clone, Copy, PartialEq, Eq, PartialOrd, Ord)]
+#[derive(Hash, Clone, Copy, PartialEq, Eq, PartialOrd, Ord)]
 pub struct P0 {
     // In this order the derived order goes by index first.
     _internal_inx: usize,
@@ -20,9 +26,9 @@ pub struct P0 {
 
 impl Model for P0 {
     ghost use Rattle.std.specs.Prelude.{ℕ, suc, ◌-◌, ◌<◌};
-    ghost use Rattle.triple_arena_ptr.specs.NonZeroNumbers.{same_whole, suc_before};
+    ghost use Rattle.triple_arena_ptr.specs.NonZeroNumbers.{remade};
 
-    // The numbers before its two.
+    // The numbers before its two, neither of which is 0.
     ghost Value = { ℕ × ℕ };
 
     ghost view = { λ p. (p._internal_inx - 1, p._internal_gen - 1) };
@@ -31,7 +37,8 @@ impl Model for P0 {
 
     ghost inverse = { λ v. record { _internal_inx = suc v.0; _internal_gen = suc v.1 } };
 
-    ghost inverse_ok = { λ p h. same_whole (λ x y. record { _internal_inx = x; _internal_gen = y }) (suc (p._internal_inx - 1)) p._internal_inx (suc (p._internal_gen - 1)) p._internal_gen (suc_before p._internal_inx h.0) (suc_before p._internal_gen h.1) };
+    ghost inverse_ok = { λ p h. remade (λ i g. record { _internal_inx = i; _internal_gen = g })
+        p._internal_inx p._internal_gen h.0 h.1 };
 }
 
 impl Ptr for P0 {
@@ -71,9 +78,54 @@ impl Ptr for P0 {
         }
     }
 
-    ghost distinct = { λ p q i g. same_whole (λ x y. (x, y)) p.0 q.0 p.1 q.1 (usize_after_cancels p.0 q.0 i) (u64_after_cancels p.1 q.1 g) };
+    ghost distinct = { λ p q i g. same_pair p q
+        (usize_after_cancels p.0 q.0 i) (u64_after_cancels p.1 q.1 g) };
 
     ghost equates = { λ _ _. refl };
 
     ghost orders = { λ _ _. refl };
+
+    ghost holds_itself = { λ _. refl };
+
+    ghost refills = { λ _ _. refl };
+}
+
+impl Default for P0 {
+    ghost is_default = { λ p. (suc p.0 ≡ 2 ^ 64 - 1) × (suc p.1 ≡ 1) };
+
+    fn default() -> Self {
+        P0::invalid()
+    }
+}
+
+impl fmt::Debug for P0 {
+    ghost debug_output = { λ p. Some (pointer_text (codes "P0") (suc p.0) true (suc p.1)) };
+
+    fn fmt<W: fmt::Write>(&self, f: &mut fmt::Formatter<W>) -> fmt::Result {
+        fmt_pointer("P0", self.inx(), self.generation(), f)
+    }
+}
+
+impl fmt::Display for P0 {
+    ghost output = { λ p. Some (pointer_text (codes "P0") (suc p.0) true (suc p.1)) };
+
+    fn fmt<W: fmt::Write>(&self, f: &mut fmt::Formatter<W>) -> fmt::Result {
+        fmt_pointer("P0", self.inx(), self.generation(), f)
+    }
+}
+
+impl Recast<P0> for P0 {
+    ghost held = { held_itself };
+
+    ghost refill = { refill_itself };
+
+    fn recast<R: Recaster<Item = P0>>(&mut self, recaster: &R) -> Result<(), P0> {
+        recaster.recast_item(self)
+    }
+
+    ghost held_refill = { itself_held_refill };
+
+    ghost refill_held = { itself_refill_held };
+
+    ghost refill_refill = { itself_refill_refill };
 }

@@ -1,18 +1,167 @@
 //! Pointers: an index and a generation.
 
-ghost use Rattle.std.specs.Prelude.{◌≡◌, List, ℕ, ◌&&◌};
+ghost use Rattle.std.specs.Prelude.{◌≡◌, List, ℕ, [], ◌∷◌, ◌&&◌};
 ghost use Rattle.std.specs.Ordering.{then_cmp, on};
 
 use crate::generation::PtrGen;
 use crate::inx::PtrInx;
 use std::fmt::Debug;
 use std::hash::Hash;
+use triple_arena_base::Recast;
 
 /// A pointer to an entry of an arena: an index and a generation, and no more.
 ///
 /// Contracts speak of its `index_of` and `generation_of`. Two pointers are equal exactly where
-/// both are, and pointers go by their indexes first and then by their generations.
-pub trait Ptr: Debug + Hash + Clone + Copy + PartialEq + Eq + PartialOrd + Ord + 'static {
+/// both are, and pointers go by their indexes first and then by their generations. A pointer holds
+/// itself, and is recast as a whole.
+///
+/// # A pointer type of one's own
+///
+/// A type of one's own is written as below, where `B` has a byte index and a byte generation. Its
+/// fields are plain numbers that are never 0, and the index stands first, so that the derived order
+/// goes by it. Its model is the pair of the numbers before them: each such pair is a pointer. Other
+/// widths change the field types, the `NonZero` types and the `u8_` of the lemmas (`_from_raw`
+/// names those of both, where they differ). A type without a generation has the field
+/// `_internal_gen: ()`, `type Gen = ()` and the index alone as its model.
+///
+/// ```text
+/// ghost use Rattle.std.specs.Prelude.{◌≡◌, ◌^◌, ◌-◌, Some, true, suc, codes};
+/// ghost use Rattle.std.proofs.Common.{refl};
+/// ghost use Rattle.triple_arena_base.specs.Held.{held_itself, refill_itself};
+/// ghost use Rattle.triple_arena_base.specs.HeldLaws.{itself_held_refill, itself_refill_held, itself_refill_refill};
+/// ghost use Rattle.triple_arena_ptr.specs.NonZeroNumbers.{same_pair, u8_after, u8_after_cancels};
+/// ghost use Rattle.triple_arena_ptr.specs.PointerText.{pointer_text};
+///
+/// use std::fmt;
+/// use std::marker::Model;
+/// use std::num::NonZeroU8;
+/// use triple_arena_base::{Recast, Recaster};
+/// use triple_arena_ptr::{Ptr, PtrGen, PtrInx, fmt_pointer};
+///
+/// /// A byte index and a byte generation.
+/// #[derive(Hash, Clone, Copy, PartialEq, Eq, PartialOrd, Ord)]
+/// pub struct B {
+///     // In this order the derived order goes by index first.
+///     _internal_inx: u8,
+///     _internal_gen: u8,
+/// }
+///
+/// impl Model for B {
+///     ghost use Rattle.std.specs.Prelude.{ℕ, suc, ◌-◌, ◌<◌};
+///     ghost use Rattle.triple_arena_ptr.specs.NonZeroNumbers.{remade};
+///
+///     // The numbers before its two, neither of which is 0.
+///     ghost Value = { ℕ × ℕ };
+///
+///     ghost view = { λ p. (p._internal_inx - 1, p._internal_gen - 1) };
+///
+///     ghost invariant = { λ p. (0 < p._internal_inx) × (0 < p._internal_gen) };
+///
+///     ghost inverse = { λ v. record { _internal_inx = suc v.0; _internal_gen = suc v.1 } };
+///
+///     ghost inverse_ok = { λ p h. remade (λ i g. record { _internal_inx = i; _internal_gen = g })
+///         p._internal_inx p._internal_gen h.0 h.1 };
+/// }
+///
+/// impl Ptr for B {
+///     type Inx = NonZeroU8;
+///
+///     type Gen = NonZeroU8;
+///
+///     ghost index_of = { λ p. u8_after p.0 };
+///
+///     ghost generation_of = { λ p. u8_after p.1 };
+///
+///     ghost type_name = { codes "B" };
+///
+///     fn name() -> &'static str {
+///         "B"
+///     }
+///
+///     fn invalid() -> Self {
+///         B::_from_raw(PtrInx::best_effort_invalid(), PtrGen::one())
+///     }
+///
+///     #[tactic(auto, using(triple_arena_ptr::specs::NonZeroNumbers::u8_is_after))]
+///     fn inx(self) -> NonZeroU8 {
+///         NonZeroU8::new(self._internal_inx).unwrap()
+///     }
+///
+///     #[tactic(auto, using(triple_arena_ptr::specs::NonZeroNumbers::u8_is_after))]
+///     fn generation(self) -> NonZeroU8 {
+///         NonZeroU8::new(self._internal_gen).unwrap()
+///     }
+///
+///     #[tactic(auto, using(triple_arena_ptr::specs::NonZeroNumbers::u8_after_before))]
+///     fn _from_raw(inx: NonZeroU8, generation: NonZeroU8) -> Self {
+///         B {
+///             _internal_inx: inx.get(),
+///             _internal_gen: generation.get(),
+///         }
+///     }
+///
+///     ghost distinct = { λ p q i g. same_pair p q
+///         (u8_after_cancels p.0 q.0 i) (u8_after_cancels p.1 q.1 g) };
+///
+///     ghost equates = { λ _ _. refl };
+///
+///     ghost orders = { λ _ _. refl };
+///
+///     ghost holds_itself = { λ _. refl };
+///
+///     ghost refills = { λ _ _. refl };
+/// }
+///
+/// impl Default for B {
+///     ghost is_default = { λ p. (suc p.0 ≡ 2 ^ 8 - 1) × (suc p.1 ≡ 1) };
+///
+///     fn default() -> Self {
+///         B::invalid()
+///     }
+/// }
+///
+/// impl fmt::Debug for B {
+///     ghost debug_output = { λ p. Some (pointer_text (codes "B") (suc p.0) true (suc p.1)) };
+///
+///     fn fmt<W: fmt::Write>(&self, f: &mut fmt::Formatter<W>) -> fmt::Result {
+///         fmt_pointer("B", self.inx(), self.generation(), f)
+///     }
+/// }
+///
+/// impl fmt::Display for B {
+///     ghost output = { λ p. Some (pointer_text (codes "B") (suc p.0) true (suc p.1)) };
+///
+///     fn fmt<W: fmt::Write>(&self, f: &mut fmt::Formatter<W>) -> fmt::Result {
+///         fmt_pointer("B", self.inx(), self.generation(), f)
+///     }
+/// }
+///
+/// impl Recast<B> for B {
+///     ghost held = { held_itself };
+///
+///     ghost refill = { refill_itself };
+///
+///     fn recast<R: Recaster<Item = B>>(&mut self, recaster: &R) -> Result<(), B> {
+///         recaster.recast_item(self)
+///     }
+///
+///     ghost held_refill = { itself_held_refill };
+///
+///     ghost refill_held = { itself_refill_held };
+///
+///     ghost refill_refill = { itself_refill_refill };
+/// }
+/// ```
+pub trait Ptr: Debug
+    + Hash
+    + Clone
+    + Copy
+    + PartialEq
+    + Eq
+    + PartialOrd
+    + Ord
+    + Recast<Self>
+    + 'static {
     /// The type of indexes.
     type Inx: PtrInx;
 
@@ -51,11 +200,20 @@ pub trait Ptr: Debug + Hash + Clone + Copy + PartialEq + Eq + PartialOrd + Ord +
         ensures generation { generation_of result ≡ generation };
 
     /// A pointer is its index and its generation.
-    ghost distinct: { (p q : Self) → index_of p ≡ index_of q → generation_of p ≡ generation_of q → p ≡ q };
+    ghost distinct: { (p q : Self) → index_of p ≡ index_of q → generation_of p ≡ generation_of q
+        → p ≡ q };
 
     /// Pointers are equal exactly where their indexes and generations are.
-    ghost equates: { (p q : Self) → Self.eq p q ≡ (Self.Inx.eq (index_of p) (index_of q) && Self.Gen.eq (generation_of p) (generation_of q)) };
+    ghost equates: { (p q : Self) → Self.eq p q ≡ (Self.Inx.eq (index_of p) (index_of q)
+        && Self.Gen.eq (generation_of p) (generation_of q)) };
 
     /// Pointers go by their indexes first, and then by their generations.
-    ghost orders: { (p q : Self) → Self.cmp p q ≡ then_cmp (on index_of Self.Inx.cmp) (on generation_of Self.Gen.cmp) p q };
+    ghost orders: { (p q : Self) → Self.cmp p q
+        ≡ then_cmp (on index_of Self.Inx.cmp) (on generation_of Self.Gen.cmp) p q };
+
+    /// A pointer holds itself.
+    ghost holds_itself: { (p : Self) → Self.held p ≡ p ∷ [] };
+
+    /// A pointer is replaced as a whole.
+    ghost refills: { (p q : Self) → Self.refill p (q ∷ []) ≡ q };
 }

@@ -1,0 +1,7 @@
+pub mod Advancing
+pub mod Held
+pub mod HeldLaws
+pub mod HeldLists
+pub mod HeldVecs
+pub mod Invalidation
+pub mod NonZeroRange

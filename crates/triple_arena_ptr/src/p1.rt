@@ -1,0 +1,131 @@
+//! The pointer of a short index.
+
+ghost use Rattle.std.specs.Prelude.{◌≡◌, ◌^◌, ◌-◌, Some, true, suc, codes};
+ghost use Rattle.std.proofs.Common.{refl};
+ghost use Rattle.triple_arena_base.specs.Held.{held_itself, refill_itself};
+ghost use Rattle.triple_arena_base.specs.HeldLaws.{itself_held_refill, itself_refill_held, itself_refill_refill};
+ghost use Rattle.triple_arena_ptr.specs.NonZeroNumbers.{same_pair, u16_after, u64_after, u16_after_cancels, u64_after_cancels};
+ghost use Rattle.triple_arena_ptr.specs.PointerText.{pointer_text};
+
+use crate::generation::PtrGen;
+use crate::inx::PtrInx;
+use crate::ptr::Ptr;
+use crate::text::fmt_pointer;
+use std::fmt;
+use std::marker::Model;
+use std::num::{NonZeroU16, NonZeroU64};
+use triple_arena_base::{Recast, Recaster};
+
+/// A 16-bit index and a 64-bit generation.
+#[derive(Hash, Clone, Copy, PartialEq, Eq, PartialOrd, Ord)]
+pub struct P1 {
+    // In this order the derived order goes by index first.
+    _internal_inx: u16,
+    _internal_gen: u64,
+}
+
+impl Model for P1 {
+    ghost use Rattle.std.specs.Prelude.{ℕ, suc, ◌-◌, ◌<◌};
+    ghost use Rattle.triple_arena_ptr.specs.NonZeroNumbers.{remade};
+
+    // The numbers before its two, neither of which is 0.
+    ghost Value = { ℕ × ℕ };
+
+    ghost view = { λ p. (p._internal_inx - 1, p._internal_gen - 1) };
+
+    ghost invariant = { λ p. (0 < p._internal_inx) × (0 < p._internal_gen) };
+
+    ghost inverse = { λ v. record { _internal_inx = suc v.0; _internal_gen = suc v.1 } };
+
+    ghost inverse_ok = { λ p h. remade (λ i g. record { _internal_inx = i; _internal_gen = g })
+        p._internal_inx p._internal_gen h.0 h.1 };
+}
+
+impl Ptr for P1 {
+    type Inx = NonZeroU16;
+
+    type Gen = NonZeroU64;
+
+    ghost index_of = { λ p. u16_after p.0 };
+
+    ghost generation_of = { λ p. u64_after p.1 };
+
+    ghost type_name = { codes "P1" };
+
+    fn name() -> &'static str {
+        "P1"
+    }
+
+    fn invalid() -> Self {
+        P1::_from_raw(PtrInx::best_effort_invalid(), PtrGen::one())
+    }
+
+    #[tactic(auto, using(crate::specs::NonZeroNumbers::u16_is_after))]
+    fn inx(self) -> NonZeroU16 {
+        NonZeroU16::new(self._internal_inx).unwrap()
+    }
+
+    #[tactic(auto, using(crate::specs::NonZeroNumbers::u64_is_after))]
+    fn generation(self) -> NonZeroU64 {
+        NonZeroU64::new(self._internal_gen).unwrap()
+    }
+
+    #[tactic(auto, using(crate::specs::NonZeroNumbers::u16_after_before, crate::specs::NonZeroNumbers::u64_after_before))]
+    fn _from_raw(inx: NonZeroU16, generation: NonZeroU64) -> Self {
+        P1 {
+            _internal_inx: inx.get(),
+            _internal_gen: generation.get(),
+        }
+    }
+
+    ghost distinct = { λ p q i g. same_pair p q
+        (u16_after_cancels p.0 q.0 i) (u64_after_cancels p.1 q.1 g) };
+
+    ghost equates = { λ _ _. refl };
+
+    ghost orders = { λ _ _. refl };
+
+    ghost holds_itself = { λ _. refl };
+
+    ghost refills = { λ _ _. refl };
+}
+
+impl Default for P1 {
+    ghost is_default = { λ p. (suc p.0 ≡ 2 ^ 16 - 1) × (suc p.1 ≡ 1) };
+
+    fn default() -> Self {
+        P1::invalid()
+    }
+}
+
+impl fmt::Debug for P1 {
+    ghost debug_output = { λ p. Some (pointer_text (codes "P1") (suc p.0) true (suc p.1)) };
+
+    fn fmt<W: fmt::Write>(&self, f: &mut fmt::Formatter<W>) -> fmt::Result {
+        fmt_pointer("P1", self.inx(), self.generation(), f)
+    }
+}
+
+impl fmt::Display for P1 {
+    ghost output = { λ p. Some (pointer_text (codes "P1") (suc p.0) true (suc p.1)) };
+
+    fn fmt<W: fmt::Write>(&self, f: &mut fmt::Formatter<W>) -> fmt::Result {
+        fmt_pointer("P1", self.inx(), self.generation(), f)
+    }
+}
+
+impl Recast<P1> for P1 {
+    ghost held = { held_itself };
+
+    ghost refill = { refill_itself };
+
+    fn recast<R: Recaster<Item = P1>>(&mut self, recaster: &R) -> Result<(), P1> {
+        recaster.recast_item(self)
+    }
+
+    ghost held_refill = { itself_held_refill };
+
+    ghost refill_held = { itself_refill_held };
+
+    ghost refill_refill = { itself_refill_refill };
+}

@@ -1,8 +1,8 @@
 -- The run of a text, line by line.
 use Rattle.std.proofs.Common.{◌≡◌, ℕ, ◌+◌, ◌-◌, true, false, List, [], ◌∷◌, ◌++◌, Option, None, Some, Result, Ok, Err, length, take, drop, map, sym, ◌∙◌, ap, refl, subst, arith, slice_get, inl, inr, zero, suc, append_assoc, append-nil}
 use Rattle.std.specs.Prelude.{filter, IfSome, ◌⊎◌}
-use Rattle.std.specs.Io.KnownBytes.{Appends, Keeps, append_known}
-use Rattle.std.proofs.KnownBytes.{Appends-nil, Appends-trans, Keeps-refl, Keeps-trans}
+use Rattle.std.specs.Io.KnownBytes.{Appends}
+use Rattle.std.proofs.KnownBytes.{Appends-nil, Appends-trans, Keeps-refl}
 use Rattle.std.proofs.lemmas.List.{map-append, take-append-drop, take_all}
 use Rattle.std.proofs.lemmas.List.Elements.{filter-append, All-append}
 use Rattle.std.proofs.lemmas.Grind.{flat_map-append}
@@ -35,14 +35,6 @@ Appends-one a b reply wrote = subst (Appends a b) (sym (append-nil (reply_line r
 
 TellsOfNoWrap-append : (rs qs : List (Reply ℕ)) → TellsOfNoWrap rs → TellsOfNoWrap qs → TellsOfNoWrap (rs ++ qs)
 TellsOfNoWrap-append = All-append (λ reply. tells_of_wrap reply ≡ false)
-
-append_known-nil : (known : Option (List ℕ)) → append_known known [] ≡ known
-append_known-nil None = refl
-append_known-nil (Some bytes) = ap Some (append-nil bytes)
-
--- what a writer held with its buffer it holds without, once the buffer has no bytes
-pub Keeps-emptied : (old known : Option (List ℕ)) (buffer : List ℕ) → buffer ≡ [] → Keeps old (append_known known buffer) → Keeps old known
-Keeps-emptied old known buffer empty kept = subst (Keeps old) (ap (append_known known) empty ∙ append_known-nil known) kept
 
 -- the front of what is left of a list
 pub front-drop : (xs : List (List ℕ)) (i : ℕ) (y : List ℕ) (ys : List (List ℕ)) → drop i xs ≡ y ∷ ys
@@ -146,19 +138,6 @@ module _ {S : Type 0} (Step : S → Command ℕ → Reply ℕ → S → Type 0) 
 
   -- ---- the flush after a run
 
-  Appends-kept : (a b c : Option (List ℕ)) (bs : List ℕ) → Appends a b bs → Keeps b c → Appends a c bs
-  Appends-kept None b c bs p q = tt
-  Appends-kept (Some x) None c bs p q = absurd p
-  Appends-kept (Some x) (Some y) None bs p q = absurd q
-  Appends-kept (Some x) (Some y) (Some z) bs p q = q ∙ p
-
-  AnswersLines-kept : (lines : List (List ℕ)) (s t : S) (a b c : Option (List ℕ)) → Keeps b c → AnswersLines Step lines s t a b → AnswersLines Step lines s t a c
-  AnswersLines-kept lines s t a b c kept ran = (ran.0, ran.1, ran.2, Appends-kept a b c (reply_lines ran.0) ran.3 kept)
-
-  RunsThrough-kept : (lines : List (List ℕ)) (s t : S) (a b c : Option (List ℕ)) → Keeps b c → RunsThrough Step lines s t a b → RunsThrough Step lines s t a c
-  RunsThrough-kept lines s t a b c kept (inl ran) = inl (AnswersLines-kept lines s t a b c kept ran)
-  RunsThrough-kept lines s t a b c kept (inr ran) = let more = ran.1 in inr (ran.0, (more.0, more.1, more.2, Appends-kept a b c (reply_lines more.0) more.3 kept))
-
   IfSome-map : (known : Option (List ℕ)) (P Q : List ℕ → Type 0) → ((bytes : List ℕ) → P bytes → Q bytes) → IfSome known P → IfSome known Q
   IfSome-map None P Q f holds = tt
   IfSome-map (Some bytes) P Q f holds = f bytes holds
@@ -166,13 +145,6 @@ module _ {S : Type 0} (Step : S → Command ℕ → Reply ℕ → S → Type 0) 
   RunsSome-through : (lines : List (List ℕ)) (s t : S) (a b : Option (List ℕ)) → RunsThrough Step lines s t a b → RunsSome Step lines s t
   RunsSome-through lines s t a b (inl ran) = (length lines, ran.0, subst (λ xs. RunsLines Step xs ran.0 s t) (sym (take_all (length lines) lines (omega arith))) ran.1)
   RunsSome-through lines s t a b (inr ran) = (ran.0, ran.1.0, ran.1.1)
-
-  pub IsFlushedRun-flushed : (known : Option (List ℕ)) (r : Result (Unit {0}) TextError) (s t : S) (a b c : Option (List ℕ)) → IsTextRun Step known r s t a b → Keeps b c → IsFlushedRun Step known r s t a c
-  IsFlushedRun-flushed known (Ok x) s t a b c ran kept = IfSome-map known _ _ (λ bytes. RunsThrough-kept (lines_of bytes) s t a b c kept) ran
-  IsFlushedRun-flushed known (Err (error.Malformed n)) s t a b c ran kept = IfSome-map known _ _ (λ bytes stops. (stops.0, AnswersLines-kept (take (n - 1) (lines_of bytes)) s t a b c kept stops.1)) ran
-  IsFlushedRun-flushed known (Err error.Write) s t a b c ran kept = IfSome-map known _ _ (λ bytes stops. (stops.0, stops.1 ++ stops.2 ∷ [], stops.3)) ran
-  IsFlushedRun-flushed known (Err error.Read) s t a b c ran kept = (ran.0, Keeps-trans a b c ran.1 kept)
-  IsFlushedRun-flushed known (Err error.NoMemory) s t a b c ran kept = (ran.0, Keeps-trans a b c ran.1 kept)
 
   RunsSome-none : (known : Option (List ℕ)) (s t : S) → t ≡ s → IfSome known (λ bytes. RunsSome Step (lines_of bytes) s t)
   RunsSome-none None s t same = tt

@@ -1,11 +1,11 @@
 -- What a map of an arena's values, or of a table's pointers, leaves as it is.
-use Rattle.std.proofs.Common.{◌≡◌, ℕ, ◌+◌, ◌-◌, ◌==◌, ◌<◌, Bool, true, false, cond, List, [], ◌∷◌, ◌++◌, map, take, length, Option, Some, None, slice_get, refl, sym, ap, subst, ◌∙◌, nat_lt}
+use Rattle.std.proofs.Common.{◌≡◌, ℕ, ◌-◌, ◌==◌, ◌<◌, Bool, true, false, cond, List, [], ◌∷◌, ◌++◌, map, take, length, Option, Some, None, slice_get, refl, sym, ap, subst, ◌∙◌}
 use Rattle.std.specs.List.{position, position_or_len}
 use Rattle.std.specs.Option.{option_map, option_and_then}
 use Rattle.std.proofs.lemmas.List.{map-append, length-map, take-map}
 use Rattle.triple_arena_run.specs.Numbered.{item, with_item}
 use Rattle.triple_arena_run.specs.Pointers.{Pointer}
-use Rattle.triple_arena_run.specs.ArenaState.{ArenaState, entry, value_under, look_up, slot_count, map_entry, map_values}
+use Rattle.triple_arena_run.specs.ArenaState.{ArenaState, entry, value_under, look_up, map_entry, map_values}
 use Rattle.triple_arena_ptr.specs.Numbers.{raise, wraps}
 use Rattle.triple_arena_run.specs.declared.reply.Reply.{Reply}
 use Rattle.triple_arena_run.specs.declared.reply.Reply.TheVariants.{Removed, Invalid}
@@ -13,7 +13,7 @@ use Rattle.triple_arena_run.specs.declared.node.Node.{Node}
 use Rattle.triple_arena_run.specs.SessionState.{SessionState, link_name}
 use Rattle.triple_arena_run.specs.SessionLayout.{node_of, state_of}
 use Rattle.triple_arena_run.specs.SessionRun.{with_row, remove_answer}
-use Rattle.triple_arena_run.specs.Insertion.{place_among, place, inserted_among, inserted, next_pointer}
+use Rattle.triple_arena_run.specs.Insertion.{place_among, inserted_among, inserted, next_pointer}
 use Rattle.triple_arena_run.specs.Ending.{removed}
 use Rattle.triple_arena_run.proofs.NumberedLists.{item_at, item-map, map-with_item}
 
@@ -84,16 +84,16 @@ module _ {X P : Type 0} (pointer : P → Pointer) (arena : ArenaState (Node X P)
     pub row_removed : (node : Node X P) (link : Option ℕ) (wrapped : Bool) → look_up arena (pointer p) ≡ Some node → link ≡ link_name (map pointer table) (option_map pointer node.link) → wrapped ≡ wraps counting greatest arena.counter → new_arena ≡ removed (raise counting greatest) arena (pointer p).0 → ◌≡◌ {A = Reply X × SessionState X} (Removed node.datum link wrapped, state_of pointer new_arena table) (remove_answer counting greatest s (item s.table name))
     row_removed node link wrapped live link_is wrapped_is arena_is =
         rw has (
-          subst (λ t. ◌≡◌ {A = Reply X × SessionState X} (Removed node.datum link wrapped, state_of pointer new_arena table) (remove_answer counting greatest t (Some (pointer p)))) shows (
-            rw (look_up-mapped (node_of pointer) arena (pointer p), live, link_is, wrapped_is, arena_is, removed-mapped (node_of pointer) (raise counting greatest) arena (pointer p).0) refl
-          )
+        subst (λ t. ◌≡◌ {A = Reply X × SessionState X} (Removed node.datum link wrapped, state_of pointer new_arena table) (remove_answer counting greatest t (Some (pointer p)))) shows (
+        rw (look_up-mapped (node_of pointer) arena (pointer p), live, link_is, wrapped_is, arena_is, removed-mapped (node_of pointer) (raise counting greatest) arena (pointer p).0) refl
+        )
         )
 
     -- where there is nothing to remove, the session answers so
     pub row_not_removed : look_up arena (pointer p) ≡ None → new_arena ≡ arena → ◌≡◌ {A = Reply X × SessionState X} (Invalid, state_of pointer new_arena table) (remove_answer counting greatest s (item s.table name))
     row_not_removed ended arena_is =
         rw has (
-          subst (λ t. ◌≡◌ {A = Reply X × SessionState X} (Invalid, state_of pointer new_arena table) (remove_answer counting greatest t (Some (pointer p)))) shows (
-            rw (look_up-mapped (node_of pointer) arena (pointer p), ended, arena_is) refl
-          )
+        subst (λ t. ◌≡◌ {A = Reply X × SessionState X} (Invalid, state_of pointer new_arena table) (remove_answer counting greatest t (Some (pointer p)))) shows (
+        rw (look_up-mapped (node_of pointer) arena (pointer p), ended, arena_is) refl
+        )
         )

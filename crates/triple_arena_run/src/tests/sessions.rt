@@ -29,11 +29,13 @@ fn answers_by_name(rt: HostRuntime) {
 
 /// The 16-bit counter begins at 2, and each removal raises it by one: the 65534th wraps it.
 fn removes_to_the_wrap<P: Ptr>(rt: &impl Abort, session: &mut Session<P, u8>) {
-    for removal in 1..65535 {
-        let name = removal as usize;
+    for name in 1..65535usize {
         assert!(rt; session.step(Command::Insert(7, None)) == Reply::Given(name, false));
         let removed = session.step(Command::Remove(name));
-        assert!(rt; removed == Reply::Removed(7, None, removal == 65534), "at {removal}");
+        assert!(rt;
+            removed == Reply::Removed(7, None, name == 65534),
+            "at {name}"
+        );
     }
 }
 
@@ -82,34 +84,37 @@ fn a_refused_insertion_changes_nothing(rt: HostRuntime) {
     let mut session: Session<P0, u64> = Session::new(rt.alloc());
     let mut rows: [Option<(u64, Option<usize>)>; 16] = [None; 16];
     let mut given = 0;
-    let mut refused = 0;
+    let mut refused = false;
     for datum in 0..12 {
         let link = if given == 0 { None } else { Some(given) };
         match session.step(Command::Insert(datum, link)) {
             Reply::Given(name, false) => {
-                given += 1;
-                assert_eq!(rt; name, given);
-                assert!(rt; name < 16);
+                assert!(rt; given < name && name < 16);
+                given = name;
                 rows[name] = Some((datum, link));
             }
             reply => {
-                assert!(rt; reply == Reply::NoMemory);
-                refused += 1;
+                assert!(rt; reply == Reply::NoMemory && !refused);
+                refused = true;
             }
         }
-        if datum % 3 == 2 && given > 0 && given < 16 {
+        if datum % 3 == 2 && given < 16 {
             if let Some((removed, link)) = rows[given] {
-                assert!(rt; session.step(Command::Remove(given)) == Reply::Removed(removed, link, false));
+                let reply = session.step(Command::Remove(given));
+                assert!(rt; reply == Reply::Removed(removed, link, false));
                 rows[given] = None;
             }
         }
-        for name in 1..16 {
-            let reply = match rows[name] {
+        for (name, row) in rows.iter().enumerate() {
+            let expected = match *row {
                 Some((datum, link)) => Reply::Found(datum, link),
                 None => Reply::Nothing,
             };
-            assert!(rt; session.step(Command::Get(name)) == reply, "at {name} after {datum}");
+            assert!(rt;
+                session.step(Command::Get(name)) == expected,
+                "at {name} after {datum}"
+            );
         }
     }
-    assert!(rt; refused < 2 && given + refused == 12);
+    assert_eq!(rt; given, if refused { 11 } else { 12 });
 }

@@ -1,8 +1,8 @@
-use Rattle.std.proofs.Common.{◌≡◌, ◌+◌, List, ◌++◌, ◌∷◌, [], false, length, Some, ap, sym, ◌∙◌, refl, rules}
+use Rattle.std.proofs.Common.{◌≡◌, ◌+◌, List, ◌++◌, ◌∷◌, [], length, Some, ap, sym, ◌∙◌, refl}
 use Rattle.std.proofs.lemmas.List.{length-map, length_push}
 use Rattle.std.specs.Option.{option_map}
 use Rattle.triple_arena_run.specs.Pointers.{numbers}
-use Rattle.triple_arena_run.specs.SessionRun.{insert_answer, link_pointer, with_row}
+use Rattle.triple_arena_run.specs.SessionRun.{link_pointer}
 use Rattle.triple_arena_run.proofs.Mapped.{row_added}
 use Rattle.triple_arena_run.proofs.session.Session.insert.Goals as goal
 

@@ -12,7 +12,7 @@ use Rattle.triple_arena_run.specs.declared.reply.Reply.TheVariants.{Removed, Inv
 use Rattle.triple_arena_run.specs.declared.node.Node.{Node}
 use Rattle.triple_arena_run.specs.SessionState.{SessionState, link_name}
 use Rattle.triple_arena_run.specs.SessionLayout.{node_of, state_of}
-use Rattle.triple_arena_run.specs.SessionRun.{with_row, remove_answer}
+use Rattle.triple_arena_run.specs.SessionRun.{with_name, remove_answer}
 use Rattle.triple_arena_run.specs.Insertion.{place_among, inserted_among, inserted, next_pointer}
 use Rattle.triple_arena_run.specs.Ending.{removed}
 use Rattle.triple_arena_run.proofs.NumberedLists.{item_at, item-map, map-with_item}
@@ -73,11 +73,11 @@ item_read f xs ys n r read same positive =
 
 -- a session whose fields hold s
 module _ {X P : Type 0} (pointer : P → Pointer) (arena : ArenaState (Node X P)) (table : List P) (s : SessionState X) (shows : state_of pointer arena table ≡ s) where
-  -- an insertion into the arena, and its pointer at the end of the table, add a row
-  pub row_added : (datum : X) (link : Option P) (p : P) (new_arena : ArenaState (Node X P)) (new_table : List P) → pointer p ≡ next_pointer arena → new_arena ≡ inserted arena (record { datum = datum; link = link }) → new_table ≡ table ++ p ∷ [] → state_of pointer new_arena new_table ≡ with_row s datum (option_map pointer link)
-  row_added datum link p new_arena new_table given arena_is table_is =
+  -- an insertion into the arena, and its pointer at the end of the table, give a name
+  pub name_added : (datum : X) (link : Option P) (p : P) (new_arena : ArenaState (Node X P)) (new_table : List P) → pointer p ≡ next_pointer arena → new_arena ≡ inserted arena (record { datum = datum; link = link }) → new_table ≡ table ++ p ∷ [] → state_of pointer new_arena new_table ≡ with_name s datum (option_map pointer link)
+  name_added datum link p new_arena new_table given arena_is table_is =
       rw (arena_is, table_is, map-append pointer table (p ∷ []), given, inserted-mapped (node_of pointer) arena (record { datum = datum; link = link }), ← next_pointer-mapped (node_of pointer) arena)
-      (ap (λ t. with_row t datum (option_map pointer link)) shows)
+      (ap (λ t. with_name t datum (option_map pointer link)) shows)
 
   module _ (counting : Bool) (greatest : ℕ) (name : ℕ) (p : P) (has : item s.table name ≡ Some (pointer p)) (new_arena : ArenaState (Node X P)) where
     -- a removal from the arena answers as the session does

@@ -11,7 +11,8 @@ abbrev pub item_answer : {I : Type 0} → Option I → I → Result (Unit {0}) I
 item_answer (Some y) x = Ok tt
 item_answer None x = Err x
 
--- the items x and xs, where `image` is that of x, and ys is what becomes of xs if it has one
+-- the items x and xs, of which x has the image that is given, or none, and ys is what becomes of xs
+-- if it has one
 abbrev pub recast_from : {I : Type 0} → Option I → I → List I → List I → List I
 recast_from (Some y) x xs ys = y ∷ ys
 recast_from None x xs ys = x ∷ xs
@@ -55,7 +56,8 @@ held_all held (x ∷ xs) = held x ++ held_all held xs
 
 abbrev pub refill_all : {I T : Type 0} → (T → List I) → (T → List I → T) → List T → List I → List T
 refill_all held refill [] l = []
-refill_all held refill (x ∷ xs) l = refill x (take (length (held x)) l) ∷ refill_all held refill xs (drop (length (held x)) l)
+refill_all held refill (x ∷ xs) l =
+    refill x (take (length (held x)) l) ∷ refill_all held refill xs (drop (length (held x)) l)
 
 -- the laws of holding
 module _ {I T : Type 0} (held : T → List I) (refill : T → List I → T) where
@@ -69,4 +71,5 @@ module _ {I T : Type 0} (held : T → List I) (refill : T → List I → T) wher
 
   -- of two refills the last counts
   abbrev pub LastRefills : Type 0
-  LastRefills = (v : T) (l m : List I) → length l ≡ length (held v) → length m ≡ length (held v) → refill (refill v l) m ≡ refill v m
+  LastRefills = (v : T) (l m : List I) → length l ≡ length (held v) → length m ≡ length (held v)
+      → refill (refill v l) m ≡ refill v m

@@ -17,7 +17,8 @@ pub trait Advancer<C>: Drop {
 
     /// The next item, or none exactly where none is ahead; the items behind it are ahead then.
     fn advance(&mut self, collection: &C) -> Option<Self::Item>
-        ensures { TakesFirst (ahead self.old collection.now) result (ahead self.new collection.now) };
+        ensures { TakesFirst (ahead self.old collection.now) result
+            (ahead self.new collection.now) };
 
     /// A place nowhere: nothing is ahead, whatever the collection.
     fn empty() -> Self

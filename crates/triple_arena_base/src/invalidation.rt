@@ -47,8 +47,8 @@ impl<T> InvalidationOption<T> {
         }
     }
 
-    /// The same variant with `f` of the value, which is called once, on the condition that `f` may be
-    /// called with it.
+    /// The same variant with `f` of the value, which is called once, on the condition that `f` may
+    /// be called with it.
     pub fn map<U, F: FnOnce(T) -> U>(self, f: F) -> InvalidationOption<U>
         requires callable { F.pre f (allowed_option self) }
         ensures { MapsOption (F.post f) self result }
@@ -155,8 +155,8 @@ impl<T> InvalidationResult<T> {
         }
     }
 
-    /// The answer of a pointer that was valid, on the condition that this is not `InvalidPtr`, which
-    /// `is_invalid` tells.
+    /// The answer of a pointer that was valid, on the condition that this is not `InvalidPtr`,
+    /// which `is_invalid` tells.
     pub fn unwrap(self) -> InvalidationOption<T>
         requires { is_invalid self ≡ false }
         ensures { Some result ≡ as_option self }

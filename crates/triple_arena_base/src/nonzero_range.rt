@@ -75,7 +75,8 @@ impl Model for NonZeroUsizeIterator {
 
     ghost view = { λ it. numbers_through it.start it.end_inclusive };
 
-    ghost invariant = { λ it. IfSome it.end_inclusive (λ end. non_zero_usize_get it.start ≤ non_zero_usize_get end) };
+    ghost invariant = { λ it. IfSome it.end_inclusive
+        (λ end. non_zero_usize_get it.start ≤ non_zero_usize_get end) };
 }
 
 impl Iterator for NonZeroUsizeIterator {

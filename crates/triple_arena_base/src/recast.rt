@@ -32,15 +32,19 @@ pub trait Recast<I> {
     /// Replaces the held items by their images, in order. Refuses with the first one that has no
     /// image: the items before it are replaced then, and it and all behind it stay.
     fn recast<R: Recaster<Item = I>>(&mut self, recaster: &R) -> Result<(), I>
-        ensures after { self.new ≡ refill self.old (recast_items (R.image recaster.now) (held self.old)) }
+        ensures after { self.new ≡ refill self.old
+            (recast_items (R.image recaster.now) (held self.old)) }
         ensures answer { result ≡ recast_answer (R.image recaster.now) (held self.old) };
 
     /// A value that is filled with as many items as it holds then holds these.
-    ghost held_refill: { (v : Self) (l : List I) → length l ≡ length (held v) → held (refill v l) ≡ l };
+    ghost held_refill: { (v : Self) (l : List I) → length l ≡ length (held v)
+        → held (refill v l) ≡ l };
 
     /// A value that is filled with what it holds is unchanged.
     ghost refill_held: { (v : Self) → refill v (held v) ≡ v };
 
     /// Of two refills the last counts.
-    ghost refill_refill: { (v : Self) (l m : List I) → length l ≡ length (held v) → length m ≡ length (held v) → refill (refill v l) m ≡ refill v m };
+    ghost refill_refill: { (v : Self) (l m : List I) → length l ≡ length (held v)
+        → length m ≡ length (held v)
+        → refill (refill v l) m ≡ refill v m };
 }

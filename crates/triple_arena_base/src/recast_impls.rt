@@ -67,7 +67,8 @@ fn recast_slice<I, T: Recast<I>, R: Recaster<Item = I>>(
     items: &mut [T],
     recaster: &R,
 ) -> Result<(), I>
-    ensures after { items.new ≡ refill_all T.held T.refill items.old (recast_items (R.image recaster.now) (held_all T.held items.old)) }
+    ensures after { items.new ≡ refill_all T.held T.refill items.old
+        (recast_items (R.image recaster.now) (held_all T.held items.old)) }
     ensures answer { result ≡ recast_answer (R.image recaster.now) (held_all T.held items.old) }
 {
     for x in items.iter_mut() {

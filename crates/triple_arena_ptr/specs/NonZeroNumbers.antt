@@ -1,4 +1,4 @@
--- The values of the `NonZero` types: each is its number, and each number has the value of the number after it.
+-- The values of the `NonZero` types: each is its number, and each number has the value after it.
 use Rattle.std.specs.Prelude.{◌≡◌, ℕ, suc, ◌-◌, ◌<◌, refl}
 use Rattle.std.proofs.Common.{ap, sym, subst, ◌∙◌, arith}
 use Rattle.std.specs.Coded.{le_prop}
@@ -20,12 +20,18 @@ suc_cancels : (m n : ℕ) → suc m ≡ suc n → m ≡ n
 suc_cancels m n e = omega (arith, e)
 
 -- equal parts make an equal whole
-pub same_whole : {A B C : Type 0} (make : A → B → C) (a b : A) (c d : B) → a ≡ b → c ≡ d → make a c ≡ make b d
+same_whole : {A B C : Type 0} (make : A → B → C) (a b : A) (c d : B)
+    → a ≡ b → c ≡ d → make a c ≡ make b d
 same_whole make a b c d e f = ap (λ x. make x c) e ∙ ap (make b) f
 
+pub same_pair : (p q : ℕ × ℕ) → p.0 ≡ q.0 → p.1 ≡ q.1 → p ≡ q
+same_pair p q e f = same_whole (λ m n. (m, n)) p.0 q.0 p.1 q.1 e f
+
 -- two positive numbers are the ones after those before them
-pub remade : {C : Type 0} (make : ℕ → ℕ → C) (m n : ℕ) → 0 < m → 0 < n → make (suc (m - 1)) (suc (n - 1)) ≡ make m n
-remade make m n h k = same_whole make (suc (m - 1)) m (suc (n - 1)) n (suc_before m h) (suc_before n k)
+pub remade : {C : Type 0} (make : ℕ → ℕ → C) (m n : ℕ) → 0 < m → 0 < n
+    → make (suc (m - 1)) (suc (n - 1)) ≡ make m n
+remade make m n h k =
+    same_whole make (suc (m - 1)) m (suc (n - 1)) n (suc_before m h) (suc_before n k)
 
 -- a type whose values are made of the positive numbers
 module _ {A : Type 0} (value : A → ℕ) (make : (n : ℕ) → 0 < n → A) (positive : (x : A) → 0 < value x) (back : (x : A) → make (value x) (positive x) ≡ x) where

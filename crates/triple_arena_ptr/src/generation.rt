@@ -4,7 +4,7 @@ ghost use Rattle.std.specs.Prelude.{◌≡◌, ℕ, ◌≤◌, ◌==◌, ◌^◌
 ghost use Rattle.std.specs.Fmt.{WritesOnOk};
 ghost use Rattle.std.specs.Ordering.{nat_cmp};
 ghost use Rattle.std.specs.Int.NonZero.{non_zero_u8_get, non_zero_u16_get, non_zero_u32_get, non_zero_u64_get, non_zero_u128_get};
-ghost use Rattle.std.proofs.Common.{refl, arith};
+ghost use Rattle.std.proofs.Common.{refl, arith, true≢false};
 ghost use Rattle.triple_arena_ptr.specs.Numbers.{raise, wraps, first_generation};
 ghost use Rattle.triple_arena_ptr.specs.PointerText.{generation_hex};
 ghost use Rattle.triple_arena_ptr.specs.NonZeroNumbers.{u8_distinct, u16_distinct, u32_distinct, u64_distinct, u128_distinct, unit_distinct};
@@ -51,10 +51,14 @@ pub trait PtrGen: Debug + Hash + Clone + Copy + PartialEq + Eq + PartialOrd + Or
 
     /// Writes the number in lower-case hexadecimal without prefix, and `()` of `()`.
     fn fmt_hex<W: fmt::Write>(this: Self, f: &mut fmt::Formatter<W>) -> fmt::Result
-        ensures { WritesOnOk W.write_str_gives f.old result (generation_hex counting (number this)) f.new };
+        ensures { WritesOnOk W.write_str_gives f.old result
+            (generation_hex counting (number this)) f.new };
 
     /// Numbers begin at 1.
     ghost positive: { (g : Self) → 1 ≤ number g };
+
+    /// A type that does not tell generations apart has one value.
+    ghost alone: { (g : Self) → counting ≡ false → number g ≡ 1 };
 
     /// The counter of a new arena is a number of the type.
     ghost first_within: { first_generation counting ≤ greatest };
@@ -108,6 +112,8 @@ impl PtrGen for NonZeroU8 {
 
     ghost positive = { λ g. g.ok };
 
+    ghost alone = { λ _ e. absurd (true≢false e) };
+
     ghost first_within = { omega arith };
 
     ghost distinct = { u8_distinct };
@@ -145,6 +151,8 @@ impl PtrGen for NonZeroU16 {
     }
 
     ghost positive = { λ g. g.ok };
+
+    ghost alone = { λ _ e. absurd (true≢false e) };
 
     ghost first_within = { omega arith };
 
@@ -184,6 +192,8 @@ impl PtrGen for NonZeroU32 {
 
     ghost positive = { λ g. g.ok };
 
+    ghost alone = { λ _ e. absurd (true≢false e) };
+
     ghost first_within = { omega arith };
 
     ghost distinct = { u32_distinct };
@@ -221,6 +231,8 @@ impl PtrGen for NonZeroU64 {
     }
 
     ghost positive = { λ g. g.ok };
+
+    ghost alone = { λ _ e. absurd (true≢false e) };
 
     ghost first_within = { omega arith };
 
@@ -260,6 +272,8 @@ impl PtrGen for NonZeroU128 {
 
     ghost positive = { λ g. g.ok };
 
+    ghost alone = { λ _ e. absurd (true≢false e) };
+
     ghost first_within = { omega arith };
 
     ghost distinct = { u128_distinct };
@@ -294,6 +308,8 @@ impl PtrGen for () {
     }
 
     ghost positive = { λ _. omega arith };
+
+    ghost alone = { λ _ _. refl };
 
     ghost first_within = { omega arith };
 

@@ -35,7 +35,8 @@ pub trait PtrInx: Debug + Hash + Clone + Copy + PartialEq + Eq + PartialOrd + Or
     /// The number of the index; none exactly past `max_index`.
     fn try_into_usize(this: Self) -> Option<NonZeroUsize>
         ensures within { number this ≤ greatest }
-        ensures number { MatchOption result (greatest_index greatest < number this) (λ n. non_zero_usize_get n ≡ number this) };
+        ensures number { MatchOption result (greatest_index greatest < number this)
+            (λ n. non_zero_usize_get n ≡ number this) };
 
     /// The greatest index of an arena: the smaller of the type's greatest number and `usize::MAX`.
     fn max_index() -> NonZeroUsize

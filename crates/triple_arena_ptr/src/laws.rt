@@ -18,7 +18,9 @@ pub fn pointers_agree<P: Ptr>()
     ensures equality { (p q : P) → IsTrue (P.eq p q) ↔ (p ≡ q) }
     ensures order { (p q : P) → (P.cmp p q ≡ Ordering.Equal) ↔ (p ≡ q) }
     ensures hash { (p q : P) → IsTrue (P.eq p q) → P.hash_input p ≡ P.hash_input q }
-    ensures by_index_first { (p q : P) → P.cmp p q ≡ then_cmp (on (λ r. P.Inx.number (P.index_of r)) nat_cmp) (on (λ r. P.Gen.number (P.generation_of r)) nat_cmp) p q }
+    ensures by_index_first { (p q : P) → P.cmp p q ≡ then_cmp
+        (on (λ r. P.Inx.number (P.index_of r)) nat_cmp)
+        (on (λ r. P.Gen.number (P.generation_of r)) nat_cmp) p q }
 {}
 
 /// Index conversions are inverse: the index again, from its number; none exactly past `max_index`.

@@ -36,7 +36,8 @@ impl Model for P4 {
 
     ghost inverse = { λ i. record { _internal_inx = suc i; _internal_gen = tt } };
 
-    ghost inverse_ok = { λ p h. ap (λ i. record { _internal_inx = i; _internal_gen = tt }) (suc_before p._internal_inx h) };
+    ghost inverse_ok = { λ p h. ap (λ i. record { _internal_inx = i; _internal_gen = tt })
+        (suc_before p._internal_inx h) };
 }
 
 impl Ptr for P4 {

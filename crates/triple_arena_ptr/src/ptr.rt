@@ -20,8 +20,8 @@ use triple_arena_base::Recast;
 /// A type of one's own is written as below, where `B` has a byte index and a byte generation. Its
 /// fields are plain numbers that are never 0, and the index stands first, so that the derived order
 /// goes by it. Its model is the pair of the numbers before them: each such pair is a pointer. Other
-/// widths change the field types, the `NonZero` types and the `u8_` of the lemmas (`_from_raw` names
-/// those of both, where they differ). A type without a generation has the field
+/// widths change the field types, the `NonZero` types and the `u8_` of the lemmas (`_from_raw`
+/// names those of both, where they differ). A type without a generation has the field
 /// `_internal_gen: ()`, `type Gen = ()` and the index alone as its model.
 ///
 /// ```text
@@ -29,7 +29,7 @@ use triple_arena_base::Recast;
 /// ghost use Rattle.std.proofs.Common.{refl};
 /// ghost use Rattle.triple_arena_base.specs.Held.{held_itself, refill_itself};
 /// ghost use Rattle.triple_arena_base.specs.HeldLaws.{itself_held_refill, itself_refill_held, itself_refill_refill};
-/// ghost use Rattle.triple_arena_ptr.specs.NonZeroNumbers.{same_whole, u8_after, u8_after_cancels};
+/// ghost use Rattle.triple_arena_ptr.specs.NonZeroNumbers.{same_pair, u8_after, u8_after_cancels};
 /// ghost use Rattle.triple_arena_ptr.specs.PointerText.{pointer_text};
 ///
 /// use std::fmt;
@@ -59,7 +59,8 @@ use triple_arena_base::Recast;
 ///
 ///     ghost inverse = { λ v. record { _internal_inx = suc v.0; _internal_gen = suc v.1 } };
 ///
-///     ghost inverse_ok = { λ p h. remade (λ i g. record { _internal_inx = i; _internal_gen = g }) p._internal_inx p._internal_gen h.0 h.1 };
+///     ghost inverse_ok = { λ p h. remade (λ i g. record { _internal_inx = i; _internal_gen = g })
+///         p._internal_inx p._internal_gen h.0 h.1 };
 /// }
 ///
 /// impl Ptr for B {
@@ -99,7 +100,8 @@ use triple_arena_base::Recast;
 ///         }
 ///     }
 ///
-///     ghost distinct = { λ p q i g. same_whole (λ x y. (x, y)) p.0 q.0 p.1 q.1 (u8_after_cancels p.0 q.0 i) (u8_after_cancels p.1 q.1 g) };
+///     ghost distinct = { λ p q i g. same_pair p q
+///         (u8_after_cancels p.0 q.0 i) (u8_after_cancels p.1 q.1 g) };
 ///
 ///     ghost equates = { λ _ _. refl };
 ///
@@ -198,13 +200,16 @@ pub trait Ptr: Debug
         ensures generation { generation_of result ≡ generation };
 
     /// A pointer is its index and its generation.
-    ghost distinct: { (p q : Self) → index_of p ≡ index_of q → generation_of p ≡ generation_of q → p ≡ q };
+    ghost distinct: { (p q : Self) → index_of p ≡ index_of q → generation_of p ≡ generation_of q
+        → p ≡ q };
 
     /// Pointers are equal exactly where their indexes and generations are.
-    ghost equates: { (p q : Self) → Self.eq p q ≡ (Self.Inx.eq (index_of p) (index_of q) && Self.Gen.eq (generation_of p) (generation_of q)) };
+    ghost equates: { (p q : Self) → Self.eq p q ≡ (Self.Inx.eq (index_of p) (index_of q)
+        && Self.Gen.eq (generation_of p) (generation_of q)) };
 
     /// Pointers go by their indexes first, and then by their generations.
-    ghost orders: { (p q : Self) → Self.cmp p q ≡ then_cmp (on index_of Self.Inx.cmp) (on generation_of Self.Gen.cmp) p q };
+    ghost orders: { (p q : Self) → Self.cmp p q
+        ≡ then_cmp (on index_of Self.Inx.cmp) (on generation_of Self.Gen.cmp) p q };
 
     /// A pointer holds itself.
     ghost holds_itself: { (p : Self) → Self.held p ≡ p ∷ [] };

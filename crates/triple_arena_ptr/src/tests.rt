@@ -269,20 +269,51 @@ fn has_default<P: Ptr + Default>(name: &str) -> bool {
         && p == P::invalid()
         && p.inx() == P::Inx::best_effort_invalid()
         && p.generation() == P::Gen::one()
-        && hash_of(&p) == hash_of(&P::invalid())
+}
+
+/// Whether the first pointer of a type is told from its last by equality, order and hash, and not
+/// from itself.
+fn is_told_apart<P: Ptr>() -> bool {
+    let last = P::invalid();
+    match at::<P>(1) {
+        Some(first) => {
+            first.cmp(&last) == Ordering::Less
+                && first.cmp(&first) == Ordering::Equal
+                && first != last
+                && hash_of(&first) != hash_of(&last)
+                && hash_of(&last) == hash_of(&P::invalid())
+        }
+        None => false,
+    }
+}
+
+/// What recasting makes of the first and the last pointer of a type, where each is to be the last.
+fn recast_to_last<P: Ptr>() -> Option<(Result<(), P>, Result<(), P>, P)> {
+    let mut first = at::<P>(1)?;
+    let mut last = P::invalid();
+    let to_last = AllTo(last);
+    Some((first.recast(&to_last), last.recast(&to_last), first))
+}
+
+/// Whether a pointer type has its default, tells its pointers apart, and recasts them.
+fn is_whole<P: Ptr + Default>(name: &str) -> bool {
+    let last = P::invalid();
+    has_default::<P>(name)
+        && is_told_apart::<P>()
+        && recast_to_last::<P>() == Some((Ok(()), Err(last), last))
 }
 
 #[test]
-fn the_default_is_the_invalid_pointer(rt: HostRuntime) {
-    assert!(rt; has_default::<P0>("P0"));
-    assert!(rt; has_default::<P1>("P1"));
-    assert!(rt; has_default::<P2>("P2"));
-    assert!(rt; has_default::<P3>("P3"));
-    assert!(rt; has_default::<P4>("P4"));
-    assert!(rt; has_default::<P5>("P5"));
-    assert!(rt; has_default::<Q2>("Q2"));
-    assert!(rt; has_default::<PtrNoGen<P2>>("P2"));
-    assert!(rt; has_default::<B>("B"));
+fn every_pointer_type_is_whole(rt: HostRuntime) {
+    assert!(rt; is_whole::<P0>("P0"));
+    assert!(rt; is_whole::<P1>("P1"));
+    assert!(rt; is_whole::<P2>("P2"));
+    assert!(rt; is_whole::<P3>("P3"));
+    assert!(rt; is_whole::<P4>("P4"));
+    assert!(rt; is_whole::<P5>("P5"));
+    assert!(rt; is_whole::<Q2>("Q2"));
+    assert!(rt; is_whole::<PtrNoGen<P2>>("P2"));
+    assert!(rt; is_whole::<B>("B"));
 }
 
 /// How a pointer stands to the one of an index and a generation that are a number each.

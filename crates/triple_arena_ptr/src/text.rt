@@ -20,7 +20,8 @@ pub fn fmt_pointer<I: PtrInx, G: PtrGen, W: fmt::Write>(
     generation: G,
     f: &mut fmt::Formatter<W>,
 ) -> fmt::Result
-    ensures { WritesOnOk W.write_str_gives f.old result (pointer_text name.now (I.number inx) G.counting (G.number generation)) f.new }
+    ensures { WritesOnOk W.write_str_gives f.old result
+        (pointer_text name.now (I.number inx) G.counting (G.number generation)) f.new }
 {
     let inx = InxHex(inx);
     if G::counts() {

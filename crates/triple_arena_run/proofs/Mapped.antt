@@ -1,19 +1,19 @@
 -- What a map of an arena's values, or of a table's pointers, leaves as it is.
-use Rattle.std.proofs.Common.{◌≡◌, ℕ, ◌+◌, ◌-◌, ◌==◌, ◌<◌, Bool, true, false, cond, List, [], ◌∷◌, ◌++◌, map, take, length, Option, Some, None, slice_get, refl, sym, ap, subst, ◌∙◌, nat_lt}
+use Rattle.std.proofs.Common.{◌≡◌, ℕ, ◌-◌, ◌==◌, ◌<◌, Bool, true, false, cond, List, [], ◌∷◌, ◌++◌, map, take, length, Option, Some, None, slice_get, refl, sym, ap, subst, ◌∙◌}
 use Rattle.std.specs.List.{position, position_or_len}
 use Rattle.std.specs.Option.{option_map, option_and_then}
 use Rattle.std.proofs.lemmas.List.{map-append, length-map, take-map}
 use Rattle.triple_arena_run.specs.Numbered.{item, with_item}
 use Rattle.triple_arena_run.specs.Pointers.{Pointer}
-use Rattle.triple_arena_run.specs.ArenaState.{ArenaState, entry, value_under, look_up, slot_count, map_entry, map_values}
+use Rattle.triple_arena_run.specs.ArenaState.{ArenaState, entry, value_under, look_up, map_entry, map_values}
 use Rattle.triple_arena_ptr.specs.Numbers.{raise, wraps}
 use Rattle.triple_arena_run.specs.declared.reply.Reply.{Reply}
 use Rattle.triple_arena_run.specs.declared.reply.Reply.TheVariants.{Removed, Invalid}
 use Rattle.triple_arena_run.specs.declared.node.Node.{Node}
 use Rattle.triple_arena_run.specs.SessionState.{SessionState, link_name}
 use Rattle.triple_arena_run.specs.SessionLayout.{node_of, state_of}
-use Rattle.triple_arena_run.specs.SessionRun.{with_row, remove_answer}
-use Rattle.triple_arena_run.specs.Insertion.{place_among, place, inserted_among, inserted, next_pointer}
+use Rattle.triple_arena_run.specs.SessionRun.{with_name, remove_answer}
+use Rattle.triple_arena_run.specs.Insertion.{place_among, inserted_among, inserted, next_pointer}
 use Rattle.triple_arena_run.specs.Ending.{removed}
 use Rattle.triple_arena_run.proofs.NumberedLists.{item_at, item-map, map-with_item}
 
@@ -73,27 +73,27 @@ item_read f xs ys n r read same positive =
 
 -- a session whose fields hold s
 module _ {X P : Type 0} (pointer : P → Pointer) (arena : ArenaState (Node X P)) (table : List P) (s : SessionState X) (shows : state_of pointer arena table ≡ s) where
-  -- an insertion into the arena, and its pointer at the end of the table, add a row
-  pub row_added : (datum : X) (link : Option P) (p : P) (new_arena : ArenaState (Node X P)) (new_table : List P) → pointer p ≡ next_pointer arena → new_arena ≡ inserted arena (record { datum = datum; link = link }) → new_table ≡ table ++ p ∷ [] → state_of pointer new_arena new_table ≡ with_row s datum (option_map pointer link)
-  row_added datum link p new_arena new_table given arena_is table_is =
+  -- an insertion into the arena, and its pointer at the end of the table, give a name
+  pub name_added : (datum : X) (link : Option P) (p : P) (new_arena : ArenaState (Node X P)) (new_table : List P) → pointer p ≡ next_pointer arena → new_arena ≡ inserted arena (record { datum = datum; link = link }) → new_table ≡ table ++ p ∷ [] → state_of pointer new_arena new_table ≡ with_name s datum (option_map pointer link)
+  name_added datum link p new_arena new_table given arena_is table_is =
       rw (arena_is, table_is, map-append pointer table (p ∷ []), given, inserted-mapped (node_of pointer) arena (record { datum = datum; link = link }), ← next_pointer-mapped (node_of pointer) arena)
-      (ap (λ t. with_row t datum (option_map pointer link)) shows)
+      (ap (λ t. with_name t datum (option_map pointer link)) shows)
 
   module _ (counting : Bool) (greatest : ℕ) (name : ℕ) (p : P) (has : item s.table name ≡ Some (pointer p)) (new_arena : ArenaState (Node X P)) where
     -- a removal from the arena answers as the session does
     pub row_removed : (node : Node X P) (link : Option ℕ) (wrapped : Bool) → look_up arena (pointer p) ≡ Some node → link ≡ link_name (map pointer table) (option_map pointer node.link) → wrapped ≡ wraps counting greatest arena.counter → new_arena ≡ removed (raise counting greatest) arena (pointer p).0 → ◌≡◌ {A = Reply X × SessionState X} (Removed node.datum link wrapped, state_of pointer new_arena table) (remove_answer counting greatest s (item s.table name))
     row_removed node link wrapped live link_is wrapped_is arena_is =
         rw has (
-          subst (λ t. ◌≡◌ {A = Reply X × SessionState X} (Removed node.datum link wrapped, state_of pointer new_arena table) (remove_answer counting greatest t (Some (pointer p)))) shows (
-            rw (look_up-mapped (node_of pointer) arena (pointer p), live, link_is, wrapped_is, arena_is, removed-mapped (node_of pointer) (raise counting greatest) arena (pointer p).0) refl
-          )
+        subst (λ t. ◌≡◌ {A = Reply X × SessionState X} (Removed node.datum link wrapped, state_of pointer new_arena table) (remove_answer counting greatest t (Some (pointer p)))) shows (
+        rw (look_up-mapped (node_of pointer) arena (pointer p), live, link_is, wrapped_is, arena_is, removed-mapped (node_of pointer) (raise counting greatest) arena (pointer p).0) refl
+        )
         )
 
     -- where there is nothing to remove, the session answers so
     pub row_not_removed : look_up arena (pointer p) ≡ None → new_arena ≡ arena → ◌≡◌ {A = Reply X × SessionState X} (Invalid, state_of pointer new_arena table) (remove_answer counting greatest s (item s.table name))
     row_not_removed ended arena_is =
         rw has (
-          subst (λ t. ◌≡◌ {A = Reply X × SessionState X} (Invalid, state_of pointer new_arena table) (remove_answer counting greatest t (Some (pointer p)))) shows (
-            rw (look_up-mapped (node_of pointer) arena (pointer p), ended, arena_is) refl
-          )
+        subst (λ t. ◌≡◌ {A = Reply X × SessionState X} (Invalid, state_of pointer new_arena table) (remove_answer counting greatest t (Some (pointer p)))) shows (
+        rw (look_up-mapped (node_of pointer) arena (pointer p), ended, arena_is) refl
+        )
         )

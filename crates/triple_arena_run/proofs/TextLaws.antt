@@ -1,5 +1,5 @@
 -- The run of a text, line by line.
-use Rattle.std.proofs.Common.{◌≡◌, ℕ, ◌+◌, ◌-◌, true, false, List, [], ◌∷◌, ◌++◌, Option, None, Some, Result, Ok, Err, length, take, drop, map, sym, ◌∙◌, ap, refl, subst, arith, slice_get, inl, inr, zero, suc, append_assoc, append-nil}
+use Rattle.std.proofs.Common.{◌≡◌, ℕ, ◌+◌, ◌-◌, Bool, true, false, List, [], ◌∷◌, ◌++◌, Option, None, Some, Result, Ok, Err, length, take, drop, map, sym, ◌∙◌, ap, refl, subst, arith, slice_get, inl, inr, zero, suc, append_assoc, append-nil}
 use Rattle.std.specs.Prelude.{filter, IfSome, ◌⊎◌}
 use Rattle.std.specs.Io.KnownBytes.{Appends, Keeps, append_known}
 use Rattle.std.proofs.KnownBytes.{Appends-nil, Appends-trans, Keeps-refl, Keeps-trans}
@@ -16,7 +16,7 @@ use Rattle.triple_arena_run.specs.declared.text.TextError.TheVariants as error
 use Rattle.triple_arena_run.specs.Lines.{has_bytes, lines_of}
 use Rattle.triple_arena_run.specs.CommandText.{command_of}
 use Rattle.triple_arena_run.specs.ReplyText.{tells_of_wrap, reply_line, reply_lines}
-use Rattle.triple_arena_run.specs.Runs.{TellsOfNoWrap}
+use Rattle.triple_arena_run.specs.Runs.{TellsOfNoWrap, EndsInWrap}
 use Rattle.triple_arena_run.specs.TextRun.{StandFor, RunsLines, AnswersLines, AnswersToWrap, RunsThrough, StopsAtLine, StopsAtReply, IsTextRun, RunsSome, IsFlushedRun}
 use Rattle.triple_arena_run.specs.LineRun.{RunsCommand, CommandEnds, LineEnds}
 use Rattle.triple_arena_run.proofs.RunLaws.{IsRun-append, TellsOfNoWrap-nil, TellsOfNoWrap-push}
@@ -163,24 +163,32 @@ module _ {S : Type 0} (Step : S → Command ℕ → Reply ℕ → S → Type 0) 
   IfSome-map None P Q f holds = tt
   IfSome-map (Some bytes) P Q f holds = f bytes holds
 
+  -- after replies that tell of no wrap, the last one tells of none either, or the run ends in it
+  wrap_at_most_last : (before : List (Reply ℕ)) (last : Reply ℕ) → TellsOfNoWrap before → TellsOfNoWrap (before ++ last ∷ []) ⊎ EndsInWrap (before ++ last ∷ [])
+  wrap_at_most_last before last none = by_test (tells_of_wrap last) refl
+    where
+      by_test : (b : Bool) → tells_of_wrap last ≡ b → TellsOfNoWrap (before ++ last ∷ []) ⊎ EndsInWrap (before ++ last ∷ [])
+      by_test true told = inr (before, last, refl, none, told)
+      by_test false told = inl (TellsOfNoWrap-push before last none told)
+
   RunsSome-through : (lines : List (List ℕ)) (s t : S) (a b : Option (List ℕ)) → RunsThrough Step lines s t a b → RunsSome Step lines s t
-  RunsSome-through lines s t a b (inl ran) = (length lines, ran.0, subst (λ xs. RunsLines Step xs ran.0 s t) (sym (take_all (length lines) lines (omega arith))) ran.1)
-  RunsSome-through lines s t a b (inr ran) = (ran.0, ran.1.0, ran.1.1)
+  RunsSome-through lines s t a b (inl ran) = (length lines, ran.0, subst (λ xs. RunsLines Step xs ran.0 s t) (sym (take_all (length lines) lines (omega arith))) ran.1, inl ran.2)
+  RunsSome-through lines s t a b (inr ran) = (ran.0, ran.1.0, ran.1.1, inr ran.1.2)
 
   pub IsFlushedRun-flushed : (known : Option (List ℕ)) (r : Result (Unit {0}) TextError) (s t : S) (a b c : Option (List ℕ)) → IsTextRun Step known r s t a b → Keeps b c → IsFlushedRun Step known r s t a c
   IsFlushedRun-flushed known (Ok x) s t a b c ran kept = IfSome-map known _ _ (λ bytes. RunsThrough-kept (lines_of bytes) s t a b c kept) ran
   IsFlushedRun-flushed known (Err (error.Malformed n)) s t a b c ran kept = IfSome-map known _ _ (λ bytes stops. (stops.0, AnswersLines-kept (take (n - 1) (lines_of bytes)) s t a b c kept stops.1)) ran
-  IsFlushedRun-flushed known (Err error.Write) s t a b c ran kept = IfSome-map known _ _ (λ bytes stops. (stops.0, stops.1 ++ stops.2 ∷ [], stops.3)) ran
+  IsFlushedRun-flushed known (Err error.Write) s t a b c ran kept = IfSome-map known _ _ (λ bytes stops. (stops.0, stops.1 ++ stops.2 ∷ [], stops.3, wrap_at_most_last stops.1 stops.2 stops.4)) ran
   IsFlushedRun-flushed known (Err error.Read) s t a b c ran kept = (ran.0, Keeps-trans a b c ran.1 kept)
   IsFlushedRun-flushed known (Err error.NoMemory) s t a b c ran kept = (ran.0, Keeps-trans a b c ran.1 kept)
 
   RunsSome-none : (known : Option (List ℕ)) (s t : S) → t ≡ s → IfSome known (λ bytes. RunsSome Step (lines_of bytes) s t)
   RunsSome-none None s t same = tt
-  RunsSome-none (Some bytes) s t same = (0, [], ([], refl, same))
+  RunsSome-none (Some bytes) s t same = (0, [], ([], refl, same), inl TellsOfNoWrap-nil)
 
   pub IsFlushedRun-failed : (known : Option (List ℕ)) (r : Result (Unit {0}) TextError) (s t : S) (a b c : Option (List ℕ)) → IsTextRun Step known r s t a b → IsFlushedRun Step known (Err error.Write) s t a c
   IsFlushedRun-failed known (Ok x) s t a b c ran = IfSome-map known _ _ (λ bytes. RunsSome-through (lines_of bytes) s t a b) ran
-  IsFlushedRun-failed known (Err (error.Malformed n)) s t a b c ran = IfSome-map known _ _ (λ bytes stops. (n - 1, stops.1.0, stops.1.1)) ran
-  IsFlushedRun-failed known (Err error.Write) s t a b c ran = IfSome-map known _ _ (λ bytes stops. (stops.0, stops.1 ++ stops.2 ∷ [], stops.3)) ran
+  IsFlushedRun-failed known (Err (error.Malformed n)) s t a b c ran = IfSome-map known _ _ (λ bytes stops. (n - 1, stops.1.0, stops.1.1, inl stops.1.2)) ran
+  IsFlushedRun-failed known (Err error.Write) s t a b c ran = IfSome-map known _ _ (λ bytes stops. (stops.0, stops.1 ++ stops.2 ∷ [], stops.3, wrap_at_most_last stops.1 stops.2 stops.4)) ran
   IsFlushedRun-failed known (Err error.Read) s t a b c ran = RunsSome-none known s t ran.0
   IsFlushedRun-failed known (Err error.NoMemory) s t a b c ran = RunsSome-none known s t ran.0

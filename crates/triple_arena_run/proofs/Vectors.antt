@@ -137,9 +137,9 @@ module _ {I G T : Type 0} (index : I → ℕ) (generation : G → ℕ) (greatest
       → new_free ≡ cond b free (free ++ i ∷ [])
       → n ≡ length slots
       → ◌≡◌ {A = ArenaState T} (record { slots = map (entry_of generation) new_slots; counter = raise (generation counter); free = map index (reverse new_free) })
-        (cond b
-          (record { slots = take (n - 1) (map (entry_of generation) slots); counter = raise (generation counter); free = map index (reverse free) })
-          (record { slots = with_item (map (entry_of generation) slots) (index i) None; counter = raise (generation counter); free = index i ∷ map index (reverse free) }))
+      (cond b
+      (record { slots = take (n - 1) (map (entry_of generation) slots); counter = raise (generation counter); free = map index (reverse free) })
+      (record { slots = with_item (map (entry_of generation) slots) (index i) None; counter = raise (generation counter); free = index i ∷ map index (reverse free) }))
   removed_state raise new_slots new_free n true es ef en = rw (es, ef, en) (ap (λ xs. record { slots = xs; counter = raise (generation counter); free = map index (reverse free) }) (sym (take-map (entry_of generation) (length slots - 1) slots)))
   removed_state raise new_slots new_free n false es ef en =
       rw (es, ef)
@@ -159,7 +159,7 @@ module _ {I G T : Type 0} (index : I → ℕ) (generation : G → ℕ) (greatest
   vacated raise new_slots new_free new_room new_counter es ef er raised =
       let n : length (map (entry_of generation) slots) ≡ length slots = length-map slots (entry_of generation) in
       let state : state_of index generation new_slots new_free new_counter ≡ removed raise (state_of index generation slots free counter) (index i) =
-          rw (raised, n) (removed_state raise new_slots new_free (length slots) (index i == length slots) es ef refl) in
+      rw (raised, n) (removed_state raise new_slots new_free (length slots) (index i == length slots) es ef refl) in
       let fewer = shorter new_slots (index i == length slots) es in
       record {
         state = state;

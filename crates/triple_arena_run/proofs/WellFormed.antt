@@ -1,13 +1,13 @@
 -- Each change of an arena keeps it well formed.
-use Rattle.std.proofs.Common.{◌≡◌, ◌≢◌, ◌⊎◌, ℕ, zero, suc, ◌+◌, ◌-◌, ◌<◌, ◌≤◌, ◌==◌, Bool, true, false, List, [], ◌∷◌, ◌++◌, map, length, set, take, Option, Some, None, is_some, count_by, cond, slice_get, refl, sym, ap, subst, ◌∙◌, inl, inr, arith}
+use Rattle.std.proofs.Common.{◌≡◌, ◌≢◌, ℕ, zero, suc, ◌+◌, ◌-◌, ◌<◌, ◌==◌, List, [], ◌∷◌, ◌++◌, length, take, Option, Some, None, is_some, count_by, cond, refl, sym, ap, subst, ◌∙◌, inl, inr, arith}
 use Rattle.std.proofs.lemmas.Bool.{cases_eq}
 use Rattle.std.proofs.lemmas.List.{length_push}
 use Rattle.std.proofs.lemmas.List.Sums.{sum_by-set, sum_by_push, sum_by-cons}
 use Rattle.std.proofs.lemmas.Option.{slice_get_within, get_or_from_slice_get}
 use Rattle.std.specs.Option.{option_and_then}
 use Rattle.triple_arena_run.specs.Numbered.{item, with_item}
-use Rattle.triple_arena_run.specs.ArenaState.{ArenaState, entry, slot_count, arena_len, is_free, IsWellFormed}
-use Rattle.triple_arena_run.specs.Insertion.{place_among, place, inserted_among, inserted}
+use Rattle.triple_arena_run.specs.ArenaState.{ArenaState, entry, slot_count, is_free, IsWellFormed}
+use Rattle.triple_arena_run.specs.Insertion.{inserted_among, inserted}
 use Rattle.triple_arena_run.specs.Ending.{removed}
 use Rattle.triple_arena_run.proofs.NumberedLists.{eq_true, eq_false, item_within, item_past, item_nil, length-with_item, item-with_same, item-with_other, item-push_same, item-push_other, split_last}
 

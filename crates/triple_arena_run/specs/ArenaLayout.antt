@@ -1,5 +1,5 @@
 -- How an arena lies in its two vectors. No public clause cites this module.
-use Rattle.std.specs.Prelude.{◌≡◌, ℕ, ◌≤◌, List, map, reverse, length, Option}
+use Rattle.std.specs.Prelude.{ℕ, ◌≤◌, List, map, reverse, length, Option}
 use Rattle.std.specs.Option.{option_map}
 use Rattle.triple_arena_ptr.specs.Numbers.{greatest_index}
 use Rattle.triple_arena_run.specs.declared.entry.Entry.{Entry}

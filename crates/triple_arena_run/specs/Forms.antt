@@ -7,25 +7,25 @@ use Rattle.triple_arena_run.specs.declared.command.Command.TheVariants.{Insert, 
 use Rattle.triple_arena_run.specs.Lines.{lines_of}
 use Rattle.triple_arena_run.specs.CommandText.{command_of}
 
--- One or more digits write a number, which is below 2 ^ 64.
+-- one or more digits write a number, which is below 2 ^ 64.
 abbrev pub WritesNumber : List ℕ → ℕ → Type 0
 WritesNumber word n = IsNumeral 10 word × (digits_value 10 word ≡ n) × (n < 2 ^ 64)
 
--- A dash writes no link, and a number the link to the name of that number.
+-- a dash writes no link, and a number the link to the name of that number.
 abbrev pub WritesLink : List ℕ → Option ℕ → Type 0
 WritesLink word None = word ≡ codes "-"
 WritesLink word (Some name) = WritesNumber word name
 
--- A line has the form of a command.
+-- a line has the form of a command.
 abbrev pub HasForm : List ℕ → Command ℕ → Type 0
 HasForm line (Insert datum link) = (n l : List ℕ) × (line ≡ codes "insert " ++ n ++ codes " " ++ l) × WritesNumber n datum × WritesLink l link
 HasForm line (Get name) = (n : List ℕ) × (line ≡ codes "get " ++ n) × WritesNumber n name
 HasForm line (Remove name) = (n : List ℕ) × (line ≡ codes "remove " ++ n) × WritesNumber n name
 
--- A line stands for just the command whose form it has.
+-- a line stands for just the command whose form it has.
 abbrev pub FormsAreExact : Type 0
 FormsAreExact = (line : List ℕ) (command : Command ℕ) → (command_of line ≡ Some command) ↔ HasForm line command
 
--- A text is its lines with a byte 0A between, and no line has this byte.
+-- a text is its lines with a byte 0A between, and no line has this byte.
 abbrev pub LinesAreExact : Type 0
 LinesAreExact = (text : List ℕ) → (join_with_byte 10 (lines_of text) ≡ text) × All (λ line. ¬ (Contains line 10)) (lines_of text)

@@ -11,18 +11,18 @@ use Rattle.triple_arena_run.specs.ReplyText.{tells_of_wrap, reply_line}
 use Rattle.triple_arena_run.specs.TextRun.{RunsLines, AnswersLines, AnswersToWrap}
 
 module _ {S : Type 0} (Step : S → Command ℕ → Reply ℕ → S → Type 0) where
-  -- The command of the line ran, with this reply.
+  -- the command of the line ran, with this reply.
   abbrev pub RunsCommand : List ℕ → Reply ℕ → S → S → Type 0
   RunsCommand line reply s t = (command : Command ℕ) × (command_of line ≡ Some command) × Step s command reply t
 
-  -- A line that has bytes.
+  -- a line that has bytes.
   abbrev pub CommandEnds : LineEnd → List ℕ → S → S → Option (List ℕ) → Option (List ℕ) → Type 0
   CommandEnds Answered line s t old new = (reply : Reply ℕ) × RunsCommand line reply s t × (tells_of_wrap reply ≡ false) × Appends old new (reply_line reply)
   CommandEnds Wrapped line s t old new = (reply : Reply ℕ) × RunsCommand line reply s t × (tells_of_wrap reply ≡ true) × Appends old new (reply_line reply)
   CommandEnds Malformed line s t old new = (command_of line ≡ None) × (t ≡ s) × (new ≡ old)
   CommandEnds Unwritten line s t old new = (reply : Reply ℕ) × RunsCommand line reply s t
 
-  -- Any line.
+  -- any line.
   abbrev pub LineEnds : LineEnd → List ℕ → S → S → Option (List ℕ) → Option (List ℕ) → Type 0
   LineEnds Answered line s t old new = AnswersLines Step (line ∷ []) s t old new
   LineEnds Wrapped line s t old new = AnswersToWrap Step (line ∷ []) s t old new

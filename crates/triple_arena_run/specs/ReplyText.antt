@@ -5,13 +5,13 @@ use Rattle.std.specs.List.{flat_map}
 use Rattle.triple_arena_run.specs.declared.reply.Reply.{Reply}
 use Rattle.triple_arena_run.specs.declared.reply.Reply.TheVariants.{Given, NoMemory, Found, Nothing, Removed, Invalid, BadName}
 
--- Whether a reply tells that the counter wrapped.
+-- whether a reply tells that the counter wrapped.
 abbrev pub tells_of_wrap : {X : Type 0} → Reply X → Bool
 tells_of_wrap (Given name wrapped) = wrapped
 tells_of_wrap (Removed datum link wrapped) = wrapped
 tells_of_wrap reply = false
 
--- A link is written as its name, and no link as a dash.
+-- a link is written as its name, and no link as a dash.
 abbrev pub link_text : Option ℕ → List ℕ
 link_text None = codes "-"
 link_text (Some name) = decimal name
@@ -28,7 +28,7 @@ reply_text (Removed datum link wrapped) = codes "removed " ++ decimal datum ++ c
 reply_text Invalid = codes "invalid"
 reply_text BadName = codes "bad name"
 
--- The line of a reply: its text, and a byte 0A.
+-- the line of a reply: its text, and a byte 0A.
 abbrev pub reply_line : Reply ℕ → List ℕ
 reply_line reply = reply_text reply ++ 10 ∷ []
 

@@ -4,17 +4,17 @@ use Rattle.triple_arena_run.specs.declared.reply.Reply.{Reply}
 use Rattle.triple_arena_run.specs.ReplyText.{tells_of_wrap}
 
 module _ {S C R : Type 0} (Step : S → C → R → S → Type 0) where
-  -- The commands ran one after another from s, gave these replies, one each, and left t.
+  -- the commands ran one after another from s, gave these replies, one each, and left t.
   abbrev pub IsRun : S → List C → List R → S → Type 0
   IsRun s [] [] t = t ≡ s
   IsRun s (command ∷ commands) (reply ∷ replies) t = (m : S) × Step s command reply m × IsRun m commands replies t
   IsRun s commands replies t = ⊥
 
 module _ {X : Type 0} where
-  -- No reply tells of a wrap.
+  -- no reply tells of a wrap.
   abbrev pub TellsOfNoWrap : List (Reply X) → Type 0
   TellsOfNoWrap replies = All (λ reply. tells_of_wrap reply ≡ false) replies
 
-  -- The last reply tells of a wrap, and no other does.
+  -- the last reply tells of a wrap, and no other does.
   abbrev pub EndsInWrap : List (Reply X) → Type 0
   EndsInWrap replies = (before : List (Reply X)) × (last : Reply X) × (replies ≡ before ++ last ∷ []) × TellsOfNoWrap before × (tells_of_wrap last ≡ true)

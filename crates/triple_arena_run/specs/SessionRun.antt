@@ -19,29 +19,30 @@ link_pointer table None = Some None
 link_pointer table (Some name) = option_map Some (item table name)
 
 module _ {X : Type 0} where
-  -- the datum stands in the arena with its link, and its pointer in the table under the next name
-  abbrev pub with_row : SessionState X → X → Option Pointer → SessionState X
-  with_row s datum link = record { arena = inserted s.arena (datum, link); table = s.table ++ next_pointer s.arena ∷ [] }
+  -- the session with a new name: the datum stands in the arena with its link, and its pointer last in the table
+  abbrev pub with_name : SessionState X → X → Option Pointer → SessionState X
+  with_name s datum link = record { arena = inserted s.arena (datum, link); table = s.table ++ next_pointer s.arena ∷ [] }
 
+  -- insertion with the pointer of its link, if the link is good
   abbrev pub insert_answer : SessionState X → X → Option (Option Pointer) → Reply X × SessionState X
-  insert_answer s datum (Some link) = (Given (length s.table + 1) false, with_row s datum link)
+  insert_answer s datum (Some link) = (Given (length s.table + 1) false, with_name s datum link)
   insert_answer s datum None = (BadName, s)
 
+  -- the reply to a look-up of what stands under a name, if the name is live
   abbrev pub get_reply : SessionState X → Option (X × Option Pointer) → Reply X
   get_reply s (Some node) = Found node.0 (link_name s.table node.1)
   get_reply s None = Nothing
 
 module _ {X : Type 0} (counting : Bool) (greatest : ℕ) where
-  abbrev pub without_row : SessionState X → Pointer → SessionState X
-  without_row s p = record s { arena = removed (raise counting greatest) s.arena p.0 }
-
-  abbrev pub removed_reply : SessionState X → X × Option Pointer → Reply X
-  removed_reply s node = Removed node.0 (link_name s.table node.1) (wraps counting greatest s.arena.counter)
-
+  -- removal of what stands under a pointer, if it is live; the reply tells whether the counter wraps
   abbrev pub remove_under : SessionState X → Pointer → Option (X × Option Pointer) → Reply X × SessionState X
-  remove_under s p (Some node) = (removed_reply s node, without_row s p)
+  remove_under s p (Some node) = (
+    Removed node.0 (link_name s.table node.1) (wraps counting greatest s.arena.counter),
+    record s { arena = removed (raise counting greatest) s.arena p.0 },
+  )
   remove_under s p None = (Invalid, s)
 
+  -- removal under the pointer of a name, if the name was given
   abbrev pub remove_answer : SessionState X → Option Pointer → Reply X × SessionState X
   remove_answer s (Some p) = remove_under s p (look_up s.arena p)
   remove_answer s None = (Invalid, s)

@@ -10,43 +10,43 @@ use Rattle.triple_arena_run.specs.CommandText.{command_of}
 use Rattle.triple_arena_run.specs.ReplyText.{reply_lines}
 use Rattle.triple_arena_run.specs.Runs.{IsRun, TellsOfNoWrap, EndsInWrap}
 
--- Each line that has bytes stands for a command, and these are the commands, in order.
+-- each line that has bytes stands for a command, and these are the commands, in order.
 abbrev pub StandFor : List (List ℕ) → List (Command ℕ) → Type 0
 StandFor lines commands = map command_of (filter has_bytes lines) ≡ map Some commands
 
--- Line n, counted from 1, has bytes and stands for no command.
+-- line n, counted from 1, has bytes and stands for no command.
 abbrev pub IsMalformed : List (List ℕ) → ℕ → Type 0
 IsMalformed lines n = (0 < n) × IsSomeAnd (slice_get lines (n - 1)) (λ line. (has_bytes line ≡ true) × (command_of line ≡ None))
 
--- Of any kind of session: S is its state, and Step what a command and its reply do to it. A run goes from s to t,
+-- of any kind of session: S is its state, and Step what a command and its reply do to it. A run goes from s to t,
 -- and what the writer holds goes from old to new, where the writer tells it.
 module _ {S : Type 0} (Step : S → Command ℕ → Reply ℕ → S → Type 0) where
-  -- The commands that these lines stand for ran, with these replies.
+  -- the commands that these lines stand for ran, with these replies.
   abbrev pub RunsLines : List (List ℕ) → List (Reply ℕ) → S → S → Type 0
   RunsLines lines replies s t = (commands : List (Command ℕ)) × StandFor lines commands × IsRun Step s commands replies t
 
-  -- They ran, no reply told of a wrap, and the reply lines were written.
+  -- they ran, no reply told of a wrap, and the reply lines were written.
   abbrev pub AnswersLines : List (List ℕ) → S → S → Option (List ℕ) → Option (List ℕ) → Type 0
   AnswersLines lines s t old new = (replies : List (Reply ℕ)) × RunsLines lines replies s t × TellsOfNoWrap replies × Appends old new (reply_lines replies)
 
-  -- They ran, the last reply, and no other, told of a wrap, and the reply lines were written.
+  -- they ran, the last reply, and no other, told of a wrap, and the reply lines were written.
   abbrev pub AnswersToWrap : List (List ℕ) → S → S → Option (List ℕ) → Option (List ℕ) → Type 0
   AnswersToWrap lines s t old new = (replies : List (Reply ℕ)) × RunsLines lines replies s t × EndsInWrap replies × Appends old new (reply_lines replies)
 
-  -- All lines were answered, or those up to the first reply that told of a wrap.
+  -- all lines were answered, or those up to the first reply that told of a wrap.
   abbrev pub RunsThrough : List (List ℕ) → S → S → Option (List ℕ) → Option (List ℕ) → Type 0
   RunsThrough lines s t old new = AnswersLines lines s t old new ⊎ ((count : ℕ) × AnswersToWrap (take count lines) s t old new)
 
-  -- The lines before line n were answered, and line n stands for no command.
+  -- the lines before line n were answered, and line n stands for no command.
   abbrev pub StopsAtLine : ℕ → List (List ℕ) → S → S → Option (List ℕ) → Option (List ℕ) → Type 0
   StopsAtLine n lines s t old new = IsMalformed lines n × AnswersLines (take (n - 1) lines) s t old new
 
-  -- The first lines ran, at least one command among them, and no reply but the last told of a wrap. How much of
+  -- the first lines ran, at least one command among them, and no reply but the last told of a wrap. How much of
   -- the last reply line was written isn't said.
   abbrev pub StopsAtReply : List (List ℕ) → S → S → Type 0
   StopsAtReply lines s t = (count : ℕ) × (before : List (Reply ℕ)) × (last : Reply ℕ) × RunsLines (take count lines) (before ++ last ∷ []) s t × TellsOfNoWrap before
 
-  -- What a run did, by its outcome. The text is what the reader had left, where the reader tells it.
+  -- what a run did, by its outcome. The text is what the reader had left, where the reader tells it.
   abbrev pub IsTextRun : Option (List ℕ) → Result (Unit {0}) TextError → S → S → Option (List ℕ) → Option (List ℕ) → Type 0
   IsTextRun text (Ok done) s t old new = IfSome text (λ bytes. RunsThrough (lines_of bytes) s t old new)
   IsTextRun text (Err (Malformed n)) s t old new = IfSome text (λ bytes. StopsAtLine n (lines_of bytes) s t old new)
@@ -54,11 +54,11 @@ module _ {S : Type 0} (Step : S → Command ℕ → Reply ℕ → S → Type 0) 
   IsTextRun text (Err Read) s t old new = (t ≡ s) × Keeps old new
   IsTextRun text (Err NoMemory) s t old new = (t ≡ s) × Keeps old new
 
-  -- The commands of the first lines ran, or none did.
+  -- the commands of the first lines ran, or none did, and no reply but the last told of a wrap.
   abbrev pub RunsSome : List (List ℕ) → S → S → Type 0
-  RunsSome lines s t = (count : ℕ) × (replies : List (Reply ℕ)) × RunsLines (take count lines) replies s t
+  RunsSome lines s t = (count : ℕ) × (replies : List (Reply ℕ)) × RunsLines (take count lines) replies s t × (TellsOfNoWrap replies ⊎ EndsInWrap replies)
 
-  -- The same of a run whose writer was flushed after it: where a write or the flush failed, it isn't said how much
+  -- the same of a run whose writer was flushed after it: where a write or the flush failed, it isn't said how much
   -- was written.
   abbrev pub IsFlushedRun : Option (List ℕ) → Result (Unit {0}) TextError → S → S → Option (List ℕ) → Option (List ℕ) → Type 0
   IsFlushedRun text (Err Write) s t old new = IfSome text (λ bytes. RunsSome (lines_of bytes) s t)

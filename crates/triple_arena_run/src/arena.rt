@@ -145,7 +145,9 @@ fn push<I: PtrInx, G: Drop, T: Drop>(
     ensures err { OnErr result ((slots.new.items ≡ slots.old.items) × (vec_capacity free.old ≤ vec_capacity free.new)) }
     ensures free { free.new.items ≡ free.old.items }
 {
-    let next = NonZeroUsize::MIN.checked_add(slots.len()).ok_or(AllocError)?;
+    let next = NonZeroUsize::MIN
+        .checked_add(slots.len())
+        .ok_or(AllocError)?;
     let inx = I::try_from_usize(next).ok_or(AllocError)?;
     slots.reserve(1)?;
     free.reserve(next.get())?;
@@ -155,7 +157,11 @@ fn push<I: PtrInx, G: Drop, T: Drop>(
 
 // Takes the entry out of the slot of an index: the last slot goes, and any other index becomes the first
 // free one.
-fn vacate<I: PtrInx, G, T>(slots: &mut Vec<Option<Entry<G, T>>>, free: &mut Vec<I>, inx: I) -> Entry<G, T>
+fn vacate<I: PtrInx, G, T>(
+    slots: &mut Vec<Option<Entry<G, T>>>,
+    free: &mut Vec<I>,
+    inx: I,
+) -> Entry<G, T>
     requires live { IsSome (option_and_then (λ slot. slot) (item slots.old.items (I.number inx))) }
     requires room { length free.old.items < vec_capacity free.old }
     ensures entry { item slots.old.items (I.number inx) ≡ Some (Some result) }

@@ -37,7 +37,8 @@ impl<P: Ptr, X> Model for Session<P, X> {
 }
 
 impl<P: Ptr, X: Copy> Session<P, X> {
-    /// A session without names, which takes no memory.
+    /// A session that has given no name, on the condition that the generation of its pointers counts,
+    /// which `PtrGen::counts` tells. It takes no memory before the first insertion.
     pub fn new(alloc: Global) -> Self
         requires { P.Gen.counting ≡ true }
         ensures { result ≡ new_session (first_generation P.Gen.counting) }
@@ -48,7 +49,13 @@ impl<P: Ptr, X: Copy> Session<P, X> {
         }
     }
 
-    /// Runs a command, and replies.
+    /// Runs a command, and replies as the session run of the model does.
+    ///
+    /// `Insert` answers `BadName` for a link to a name that was never given; else `NoMemory` where
+    /// memory is refused, or where each index of the pointer type is taken; else `Given`, with the
+    /// next name. `Get` answers `Nothing`, and `Remove` answers `Invalid`, for a name that was never
+    /// given or has ended. Only `Given` and `Removed` change the session; where removal wraps the
+    /// counter, `Removed` tells so. The name of a link is looked for in the whole table of names.
     pub fn step(&mut self, command: Command<X>) -> Reply<X>
         ensures { IsStep P.Gen.counting P.Gen.greatest self.old command result self.new }
     {

@@ -5,3 +5,4 @@ mod forms;
 mod program;
 mod replies;
 mod runs;
+mod sessions;

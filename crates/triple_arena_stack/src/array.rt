@@ -1,5 +1,7 @@
 //! A stack in an array.
 
+use crate::non_zero_inx_stack::NonZeroInxStack;
+use crate::push_entry::PushEntry;
 use crate::stack::NonZeroInxGenericStack;
 use arrayvec::ArrayVec;
 use std::alloc::Global;
@@ -7,9 +9,18 @@ use std::marker::Model;
 use std::num::NonZeroUsize;
 use triple_arena_base::{AllocError, ReallocationError};
 
-/// A stack in an array of `LIMIT` places, which takes no memory.
-///
-/// Its places are filled with default items until they are pushed to.
+/// A stack in an array of `LIMIT` places, which takes no memory. Its room and its limit are `LIMIT`.
+pub type NonZeroInxArray<T, const LIMIT: usize> = NonZeroInxStack<T, ArrayStack<T, LIMIT>>;
+
+/// A place on a [`NonZeroInxArray`] for one more item.
+pub type NonZeroInxArrayPushEntry<'a, T, const LIMIT: usize> = PushEntry<
+    'a,
+    T,
+    ArrayStack<T, LIMIT>,
+>;
+
+/// What a [`NonZeroInxArray`] keeps: a vector of constant capacity, whose places are filled with
+/// default items until they are pushed to.
 #[derive(Drop)]
 pub struct ArrayStack<T, const LIMIT: usize> {
     items: ArrayVec<T, LIMIT>,
@@ -71,12 +82,10 @@ impl<T: Default + Drop, const LIMIT: usize> NonZeroInxGenericStack<T> for ArrayS
     }
 
     fn max_capacity(&self) -> Option<usize> {
-        let _ = &self.items;
         Some(LIMIT)
     }
 
     fn reallocate_min_capacity(&mut self, min_capacity: usize) -> Result<(), ReallocationError> {
-        let _ = &self.items;
         if min_capacity > LIMIT {
             return Err(ReallocationError::BeyondMaxCapacity);
         }

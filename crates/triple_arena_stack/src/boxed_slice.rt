@@ -1,5 +1,7 @@
 //! A stack whose room is fixed when it is made.
 
+use crate::non_zero_inx_stack::NonZeroInxStack;
+use crate::push_entry::PushEntry;
 use crate::stack::NonZeroInxGenericStack;
 use crate::vec::HeapStack;
 use std::alloc::Global;
@@ -7,7 +9,13 @@ use std::marker::Model;
 use std::num::NonZeroUsize;
 use triple_arena_base::{AllocError, ReallocationError};
 
-/// A stack on the heap whose room is fixed when it is made, and is its limit.
+/// A stack on the heap whose room is fixed when it is made, and is its limit. A new one has none.
+pub type NonZeroInxBoxedSlice<T> = NonZeroInxStack<T, FixedStack<T>>;
+
+/// A place on a [`NonZeroInxBoxedSlice`] for one more item.
+pub type NonZeroInxBoxedSlicePushEntry<'a, T> = PushEntry<'a, T, FixedStack<T>>;
+
+/// What a [`NonZeroInxBoxedSlice`] keeps: a stack on the heap that never reallocates.
 #[derive(Drop)]
 pub struct FixedStack<T> {
     heap: HeapStack<T>,

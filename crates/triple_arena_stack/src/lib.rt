@@ -3,25 +3,23 @@
 
 mod array;
 mod boxed_slice;
+mod growth;
 mod limited_vec;
 mod non_zero_inx_stack;
 mod pair;
 mod push_entry;
+mod set_max_capacity;
 mod stack;
 #[cfg(test)]
 mod tests;
 mod vec;
 
-pub use array::ArrayStack;
-pub use boxed_slice::FixedStack;
-pub use limited_vec::LimitedStack;
-pub use non_zero_inx_stack::{
-    NonZeroInxArray, NonZeroInxBoxedSlice, NonZeroInxLimitedVec, NonZeroInxStack, NonZeroInxVec,
-};
+pub use array::{ArrayStack, NonZeroInxArray, NonZeroInxArrayPushEntry};
+pub use boxed_slice::{FixedStack, NonZeroInxBoxedSlice, NonZeroInxBoxedSlicePushEntry};
+pub use limited_vec::{LimitedStack, NonZeroInxLimitedVec, NonZeroInxLimitedVecPushEntry};
+pub use non_zero_inx_stack::NonZeroInxStack;
 pub use pair::{pair_if, pair_of};
-pub use push_entry::{
-    NonZeroInxArrayPushEntry, NonZeroInxBoxedSlicePushEntry, NonZeroInxGenericStackPushEntryTrait,
-    NonZeroInxLimitedVecPushEntry, NonZeroInxVecPushEntry, PushEntry,
-};
-pub use stack::{NonZeroInxGenericStack, SetMaxCapacity};
-pub use vec::HeapStack;
+pub use push_entry::{NonZeroInxGenericStackPushEntryTrait, PushEntry};
+pub use set_max_capacity::SetMaxCapacity;
+pub use stack::NonZeroInxGenericStack;
+pub use vec::{HeapStack, NonZeroInxVec, NonZeroInxVecPushEntry};

@@ -1,13 +1,23 @@
 //! A stack on the heap, up to a limit that can be set.
 
-use crate::stack::{NonZeroInxGenericStack, SetMaxCapacity};
+use crate::non_zero_inx_stack::NonZeroInxStack;
+use crate::push_entry::PushEntry;
+use crate::set_max_capacity::SetMaxCapacity;
+use crate::stack::NonZeroInxGenericStack;
 use crate::vec::HeapStack;
 use std::alloc::Global;
 use std::marker::Model;
 use std::num::NonZeroUsize;
 use triple_arena_base::{AllocError, MaxCapacityReductionError, ReallocationError};
 
-/// A stack on the heap that holds no more items than a limit, which can be set.
+/// A stack on the heap, up to a limit that can be set. A new one has no room and the limit 0; one
+/// that is made for some items has their number as its limit.
+pub type NonZeroInxLimitedVec<T> = NonZeroInxStack<T, LimitedStack<T>>;
+
+/// A place on a [`NonZeroInxLimitedVec`] for one more item.
+pub type NonZeroInxLimitedVecPushEntry<'a, T> = PushEntry<'a, T, LimitedStack<T>>;
+
+/// What a [`NonZeroInxLimitedVec`] keeps: a stack on the heap, and a limit.
 ///
 /// The limit may lie below the room; then the room stays, and the capacity is the limit.
 #[derive(Drop)]

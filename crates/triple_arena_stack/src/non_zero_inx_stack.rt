@@ -1,31 +1,17 @@
 //! The one struct of the four stacks, round what each keeps.
 
-use crate::array::ArrayStack;
-use crate::boxed_slice::FixedStack;
-use crate::limited_vec::LimitedStack;
-use crate::stack::{NonZeroInxGenericStack, SetMaxCapacity};
-use crate::vec::HeapStack;
+use crate::set_max_capacity::SetMaxCapacity;
+use crate::stack::NonZeroInxGenericStack;
 use std::alloc::Global;
 use std::marker::{Model, PhantomData};
 use std::num::NonZeroUsize;
 use triple_arena_base::{AllocError, MaxCapacityReductionError, ReallocationError};
 
-/// A stack on the heap, without a limit.
-pub type NonZeroInxVec<T> = NonZeroInxStack<T, HeapStack<T>>;
-
-/// A stack on the heap, up to a limit that can be set.
-pub type NonZeroInxLimitedVec<T> = NonZeroInxStack<T, LimitedStack<T>>;
-
-/// A stack on the heap whose room is fixed when it is made.
-pub type NonZeroInxBoxedSlice<T> = NonZeroInxStack<T, FixedStack<T>>;
-
-/// A stack in an array of `LIMIT` places.
-pub type NonZeroInxArray<T, const LIMIT: usize> = NonZeroInxStack<T, ArrayStack<T, LIMIT>>;
-
-/// A stack of items of the type `T`, of the kind that `K` keeps.
+/// A stack of items of the type `T`, which are kept in a stack `K`.
 ///
-/// It is a stack as `K` is, and beside that gives push entries, which can only be lent by one struct
-/// that is the same for every kind.
+/// It is just such a stack as `K`, and gives push entries beside. The four stacks are
+/// [`crate::NonZeroInxVec`], [`crate::NonZeroInxLimitedVec`], [`crate::NonZeroInxBoxedSlice`] and
+/// [`crate::NonZeroInxArray`]; an entry is lent out of this one struct, so that it is written once.
 #[derive(Drop)]
 pub struct NonZeroInxStack<T, K> {
     kept: K,

@@ -5,29 +5,17 @@ ghost use Rattle.std.specs.Int.NonZero.{non_zero_usize_get};
 ghost use Rattle.triple_arena_stack.specs.Capacity.{room_for_one_more, HasPlace, IsFullAtLimit};
 ghost use Rattle.triple_arena_stack.specs.PushEntry.{entry_stack, entry_lender, entry_rests, entry_lends};
 
+use crate::growth::grow_if_full;
 use crate::non_zero_inx_stack::NonZeroInxStack;
-use crate::stack::{NonZeroInxGenericStack, grow_if_full};
-use crate::{ArrayStack, FixedStack, HeapStack, LimitedStack};
+use crate::stack::NonZeroInxGenericStack;
 use std::num::NonZeroUsize;
 use triple_arena_base::{NotWithinCapacityError, ReallocationError};
 
-/// An entry of a [`crate::NonZeroInxVec`].
-pub type NonZeroInxVecPushEntry<'a, T> = PushEntry<'a, T, HeapStack<T>>;
-
-/// An entry of a [`crate::NonZeroInxLimitedVec`].
-pub type NonZeroInxLimitedVecPushEntry<'a, T> = PushEntry<'a, T, LimitedStack<T>>;
-
-/// An entry of a [`crate::NonZeroInxBoxedSlice`].
-pub type NonZeroInxBoxedSlicePushEntry<'a, T> = PushEntry<'a, T, FixedStack<T>>;
-
-/// An entry of a [`crate::NonZeroInxArray`].
-pub type NonZeroInxArrayPushEntry<'a, T, const LIMIT: usize> =
-    PushEntry<'a, T, ArrayStack<T, LIMIT>>;
-
-/// A place on a stack for one more item. Dropped, it pushes nothing, and room that was made for it
-/// stays.
+/// A place on a stack for one more item.
+///
+/// Dropped, it pushes nothing; room that was made for it stays.
 pub struct PushEntry<'a, T, K> {
-    pub(crate) stack: &'a mut NonZeroInxStack<T, K>,
+    stack: &'a mut NonZeroInxStack<T, K>,
 }
 
 /// What can be done with a place for one more item.

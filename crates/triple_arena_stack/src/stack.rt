@@ -5,15 +5,15 @@ ghost use Rattle.std.specs.Int.NonZero.{non_zero_usize_get};
 ghost use Rattle.std.specs.List.{refill};
 ghost use Rattle.std.specs.Option.{option_copied, option_copied_mut};
 ghost use Rattle.triple_arena_stack.specs.StackKind.{StackKind, new_room, new_limit, made_room, made_limit, CanHold, TakesNoMemory, reallocated_room, IsOfKind};
-ghost use Rattle.triple_arena_stack.specs.Capacity.{capacity_of, next_capacity, room_for_one_more, HasPlace, IsWithin, IsBeyond, IsFullAtLimit};
+ghost use Rattle.triple_arena_stack.specs.Capacity.{capacity_of, room_for_one_more, HasPlace, IsWithin, IsBeyond, IsFullAtLimit};
 ghost use Rattle.triple_arena_stack.specs.Disjoint.{DisjointAnswer, MayWork, Worked};
 
+use crate::growth::grow_if_full;
 use crate::pair::pair_of;
 use std::alloc::Global;
 use std::num::NonZeroUsize;
 use triple_arena_base::{
-    AllocError, GetDisjointMutError, MaxCapacityReductionError, NotWithinCapacityError,
-    ReallocationError,
+    AllocError, GetDisjointMutError, NotWithinCapacityError, ReallocationError,
 };
 
 /// A list of items numbered from 1, with room for so many of them, and a limit or none.
@@ -24,7 +24,7 @@ use triple_arena_base::{
 ///
 /// Memory is asked for only where the room is made or changes. Where it is refused, items, room and
 /// limit stay as they were.
-pub trait NonZeroInxGenericStack<T>: Sized {
+pub trait NonZeroInxGenericStack<T> {
     // the items, that of index 1 first
     ghost items: { Self → List T };
 
@@ -267,65 +267,5 @@ pub trait NonZeroInxGenericStack<T>: Sized {
         let all = self.as_mut_slice();
         let (a, b) = pair_of(all, first.get() - 1, second.get() - 1);
         Ok(f(a, b))
-    }
-}
-
-/// A stack whose limit can be set.
-pub trait SetMaxCapacity<T>: NonZeroInxGenericStack<T> {
-    /// Sets the limit to `max_capacity`. Items and room stay. It takes no memory.
-    ///
-    /// Refused exactly where there are more items; then the stack is unchanged.
-    fn set_max_capacity(&mut self, max_capacity: usize) -> Result<(), MaxCapacityReductionError>
-        ensures variant { IsOk result ↔ (length (Self.items self.old) ≤ max_capacity) }
-        ensures items { Self.items self.new ≡ Self.items self.old }
-        ensures room { Self.room self.new ≡ Self.room self.old }
-        ensures limit { OnOk result (Self.limit self.new ≡ Some max_capacity) }
-        ensures refused { OnErr result (self.new ≡ self.old) };
-}
-
-/// Makes room for one more item where the stack is full, and else does nothing.
-///
-/// Refused as [`NonZeroInxGenericStack::push_reallocating`] is; then the stack is unchanged.
-pub(crate) fn grow_if_full<T, S: NonZeroInxGenericStack<T>>(
-    stack: &mut S,
-) -> Result<(), ReallocationError>
-    ensures items { S.items stack.new ≡ S.items stack.old }
-    ensures limit { S.limit stack.new ≡ S.limit stack.old }
-    ensures room { OnOk result (S.room stack.new
-        ≡ room_for_one_more (S.room stack.old) (S.limit stack.old) (length (S.items stack.old))) }
-    ensures has_place { OnOk result
-        (HasPlace (S.room stack.new) (S.limit stack.new) (length (S.items stack.new))) }
-    ensures refused { OnErr result (stack.new ≡ stack.old) }
-    ensures had_place { HasPlace (S.room stack.old) (S.limit stack.old) (length (S.items stack.old))
-        → IsOk result × (stack.new ≡ stack.old) }
-    ensures beyond { (result ≡ Err ReallocationError.BeyondMaxCapacity)
-        ↔ IsFullAtLimit (S.room stack.old) (S.limit stack.old) (length (S.items stack.old)) }
-{
-    let capacity = stack.capacity();
-    if stack.len() < capacity {
-        return Ok(());
-    }
-    let limit = stack.max_capacity();
-    if limit.is_some_and(|most| most <= capacity) {
-        return Err(ReallocationError::BeyondMaxCapacity);
-    }
-    if capacity == usize::MAX {
-        return Err(ReallocationError::AllocError);
-    }
-    stack.reallocate_min_capacity(grown_capacity(capacity, limit))
-}
-
-// The capacity that a full stack grows to.
-fn grown_capacity(capacity: usize, limit: Option<usize>) -> usize
-    ensures { result ≡ next_capacity capacity limit }
-{
-    let next = if capacity == 0 {
-        4
-    } else {
-        capacity.saturating_mul(2)
-    };
-    match limit {
-        Some(most) => next.min(most),
-        None => next,
     }
 }

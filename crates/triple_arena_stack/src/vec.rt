@@ -1,12 +1,20 @@
 //! A stack on the heap, without a limit.
 
+use crate::non_zero_inx_stack::NonZeroInxStack;
+use crate::push_entry::PushEntry;
 use crate::stack::NonZeroInxGenericStack;
 use std::alloc::Global;
 use std::marker::Model;
 use std::num::NonZeroUsize;
 use triple_arena_base::{AllocError, ReallocationError};
 
-/// A stack on the heap, without a limit: a vector whose room is an exact number.
+/// A stack on the heap, without a limit. A new one has no room; it grows as it is pushed to.
+pub type NonZeroInxVec<T> = NonZeroInxStack<T, HeapStack<T>>;
+
+/// A place on a [`NonZeroInxVec`] for one more item.
+pub type NonZeroInxVecPushEntry<'a, T> = PushEntry<'a, T, HeapStack<T>>;
+
+/// What a [`NonZeroInxVec`] keeps: a vector, and its room as an exact number.
 #[derive(Drop)]
 pub struct HeapStack<T> {
     items: Vec<T>,
@@ -68,12 +76,10 @@ impl<T> NonZeroInxGenericStack<T> for HeapStack<T> {
     }
 
     fn capacity(&self) -> usize {
-        let _len = self.items.len();
         self.room
     }
 
     fn max_capacity(&self) -> Option<usize> {
-        let _ = &self.room;
         None
     }
 

@@ -4,7 +4,7 @@ ghost use Rattle.std.specs.Prelude.{◌≡◌, ◌^◌, ◌-◌, Some, true, suc
 ghost use Rattle.std.proofs.Common.{refl};
 ghost use Rattle.triple_arena_base.specs.Held.{held_itself, refill_itself};
 ghost use Rattle.triple_arena_base.specs.HeldLaws.{itself_held_refill, itself_refill_held, itself_refill_refill};
-ghost use Rattle.triple_arena_ptr.specs.NonZeroNumbers.{same_whole, u8_after, u8_after_cancels};
+ghost use Rattle.triple_arena_ptr.specs.NonZeroNumbers.{same_pair, u8_after, u8_after_cancels};
 ghost use Rattle.triple_arena_ptr.specs.PointerText.{pointer_text};
 
 use crate::{Ptr, PtrGen, PtrInx, fmt_pointer};
@@ -34,7 +34,8 @@ impl Model for B {
 
     ghost inverse = { λ v. record { _internal_inx = suc v.0; _internal_gen = suc v.1 } };
 
-    ghost inverse_ok = { λ p h. remade (λ i g. record { _internal_inx = i; _internal_gen = g }) p._internal_inx p._internal_gen h.0 h.1 };
+    ghost inverse_ok = { λ p h. remade (λ i g. record { _internal_inx = i; _internal_gen = g })
+        p._internal_inx p._internal_gen h.0 h.1 };
 }
 
 impl Ptr for B {
@@ -74,7 +75,8 @@ impl Ptr for B {
         }
     }
 
-    ghost distinct = { λ p q i g. same_whole (λ x y. (x, y)) p.0 q.0 p.1 q.1 (u8_after_cancels p.0 q.0 i) (u8_after_cancels p.1 q.1 g) };
+    ghost distinct = { λ p q i g. same_pair p q
+        (u8_after_cancels p.0 q.0 i) (u8_after_cancels p.1 q.1 g) };
 
     ghost equates = { λ _ _. refl };
 

@@ -3,7 +3,7 @@
 ghost use Rattle.std.specs.Prelude.{◌≡◌, ℕ, ◌<◌, ◌↔◌, IsSome, IsOk, IfSome, length, map, true};
 ghost use Rattle.std.specs.Iterator.{YieldsFirstBy, at_most};
 
-use crate::{P0, P5, Ptr};
+use crate::{P0, P1, P2, P3, P4, P5, Ptr, Q2};
 use std::mem;
 use std::test::Fail;
 
@@ -35,7 +35,8 @@ struct Beside<'a, P> {
 impl<'a, P: Ptr + 'static> Iterator for Beside<'a, P> {
     type Item = (P, &'a mut u64);
 
-    ghost next_gives = { YieldsFirstBy {B = P × ℕ} (λ item. (item.0, item.1.now)) (λ s. map (λ v. (s.p, v)) s.values.now) };
+    ghost next_gives = { YieldsFirstBy {B = P × ℕ} (λ item. (item.0, item.1.now))
+        (λ s. map (λ v. (s.p, v)) s.values.now) };
 
     ghost remaining = { λ s. at_most (length s.values.now) };
 
@@ -61,12 +62,32 @@ fn a_pointer_beside_a_lent_value_is_held_and_written_through(rt: HostRuntime) ->
         }
         None => return Err("not found".into()),
     }
+    if let Some((q, value)) = found(&mut values, P1::invalid(), 0) {
+        assert_eq!(rt; q, P1::invalid());
+        *value = value.wrapping_add(1);
+    }
+    if let Some((q, value)) = found(&mut values, P2::invalid(), 0) {
+        assert_eq!(rt; q, P2::invalid());
+        *value = value.wrapping_add(1);
+    }
+    if let Some((q, value)) = found(&mut values, P3::invalid(), 0) {
+        assert_eq!(rt; q, P3::invalid());
+        *value = value.wrapping_add(1);
+    }
+    if let Some((q, value)) = found(&mut values, P4::invalid(), 0) {
+        assert_eq!(rt; q, P4::invalid());
+        *value = value.wrapping_add(1);
+    }
     if let Some((q, value)) = found(&mut values, P5::invalid(), 0) {
         assert_eq!(rt; q, P5::invalid());
-        *value = 5;
+        *value = value.wrapping_add(1);
+    }
+    if let Some((q, value)) = found(&mut values, Q2::invalid(), 0) {
+        assert_eq!(rt; q, Q2::invalid());
+        *value = value.wrapping_add(1);
     }
     assert!(rt; found(&mut values, p, 2).is_none());
-    assert_eq!(rt; values, [5, 7]);
+    assert_eq!(rt; values, [7, 7]);
     let mut value = 1;
     if let Ok((q, lent)) = allowed(&mut value, p, true) {
         assert_eq!(rt; q, p);
@@ -81,6 +102,6 @@ fn a_pointer_beside_a_lent_value_is_held_and_written_through(rt: HostRuntime) ->
         assert_eq!(rt; q, p);
         *value = value.wrapping_add(1);
     }
-    assert_eq!(rt; values, [6, 8]);
+    assert_eq!(rt; values, [8, 8]);
     Ok(())
 }

@@ -1,6 +1,6 @@
 //! A client of the stacks as an arena is one: proved over the contract alone, for every stack.
 ghost use Rattle.std.specs.Prelude.{◌≡◌, ◌≢◌, ◌+◌, ◌-◌, ◌<◌, ◌≤◌, ◌↔◌, List, [], ◌∷◌, ◌++◌, length, take, slice_get, slice_set, IsOk, IsSome, IfOk, IfSome, OnOk, OnErr, OnSome, Some, None, Err, IsTrue, true, false, max};
-ghost use Rattle.std.specs.Borrow.{sem, LendsIf};
+ghost use Rattle.std.specs.Borrow.{sem, LendsIf, LendsSo};
 ghost use Rattle.std.specs.Int.NonZero.{non_zero_usize_get};
 ghost use Rattle.triple_arena_stack.specs.Capacity.{capacity_of, room_for_one_more, IsAtLimit, IsBeyond, IsWithin};
 ghost use Rattle.triple_arena_stack.specs.StackKind.{IsOfKind, new_room, new_limit, made_room, made_limit, reallocated_room};
@@ -19,6 +19,28 @@ use triple_arena_base::{
 pub enum Slot<T> {
     Free(usize),
     Full(T),
+}
+
+impl<T> Default for Slot<T> {
+    fn default() -> Self {
+        Slot::Free(0)
+    }
+}
+
+impl<T> Slot<T> {
+    ghost use Rattle.triple_arena_stack.specs.contracts.tests.client.Slot.{the_row};
+
+    /// The value, for writing.
+    fn value_mut(&mut self) -> Option<&mut T>
+        ensures value { IfSome result (λ value. self.old ≡ Slot.Full value.now) }
+        ensures* writes_back { sem 𝓛
+            (LendsIf (the_row T.row) T.row self.entry result Slot.Full self.old) }
+    {
+        match self {
+            Slot::Full(value) => Some(value),
+            Slot::Free(_) => None,
+        }
+    }
 }
 
 /// Pushes a full slot where the capacity has a place for it.
@@ -177,23 +199,49 @@ pub fn is_at_limit<T, S: NonZeroInxGenericStack<Slot<T>>>(slots: &S) -> bool
     }
 }
 
-impl<T> Default for Slot<T> {
-    fn default() -> Self {
-        Slot::Free(0)
+/// The slots, as an arena holds them.
+#[derive(Drop)]
+pub struct Holding<S> {
+    pub slots: S,
+}
+
+impl<S> Holding<S> {
+    ghost use Rattle.triple_arena_stack.specs.contracts.tests.client.Holding.{the_row};
+
+    /// The value in the slot at `inx`, for writing.
+    pub fn value_mut<T>(&mut self, inx: NonZeroUsize) -> Option<&mut T>
+    where
+        S: NonZeroInxGenericStack<Slot<T>>,
+        ensures* writes_back { sem 𝓛 (LendsSo (the_row S.row) T.row self.entry result
+            (λ end w. OnSome result (end ≡ record self.old {
+              slots = S.with_items self.old.slots
+                  (slice_set (S.items self.old.slots) (non_zero_usize_get inx - 1) (Slot.Full w));
+            }))
+            (λ end. end ≡ self.old)) }
+    {
+        match self.slots.get_mut(inx) {
+            Some(slot) => slot.value_mut(),
+            None => None,
+        }
     }
 }
 
-impl<T> Slot<T> {
-    ghost use Rattle.triple_arena_stack.specs.contracts.tests.client.Slot.{the_row};
-
-    /// The value, for writing.
-    fn value_mut(&mut self) -> Option<&mut T>
-        ensures* writes_back { sem 𝓛 (LendsIf (the_row T.row) T.row self.entry result Slot.Full self.old) }
-        ensures value { IfSome result (λ value. self.old ≡ Slot.Full value.now) }
-    {
-        match self {
-            Slot::Full(value) => Some(value),
-            Slot::Free(_) => None,
+/// Writes a value over the one in the slot at `inx`, if there is one.
+pub fn overwrite<T: Drop, S: NonZeroInxGenericStack<Slot<T>>>(
+    holding: &mut Holding<S>,
+    inx: NonZeroUsize,
+    value: T,
+) -> bool
+    ensures items { IsTrue result → S.items holding.new.slots
+        ≡ slice_set (S.items holding.old.slots) (non_zero_usize_get inx - 1) (Slot.Full value) }
+    ensures room { S.room holding.new.slots ≡ S.room holding.old.slots }
+    ensures refused { result ≡ false → holding.new ≡ holding.old }
+{
+    match holding.value_mut(inx) {
+        Some(held) => {
+            *held = value;
+            true
         }
+        None => false,
     }
 }

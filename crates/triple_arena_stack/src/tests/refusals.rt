@@ -1,7 +1,7 @@
 //! Memory that is refused: by requests past what a vector may hold, and by the Nth request where the
 //! tests run as `rt try --test --fail-alloc N`.
 
-use super::token::{Bounds, Token, bounds_of, has, inx};
+use super::token::{Token, bounds_of, has, inx};
 use crate::{
     NonZeroInxArray, NonZeroInxBoxedSlice, NonZeroInxGenericStack,
     NonZeroInxGenericStackPushEntryTrait, NonZeroInxLimitedVec, NonZeroInxStack, NonZeroInxVec,
@@ -60,14 +60,20 @@ type Long = [u64; 1 << 59];
 #[test]
 fn a_refused_growth_changes_nothing(rt: HostRuntime) {
     let mut heap: NonZeroInxVec<Long> = NonZeroInxVec::new(rt.alloc());
-    assert_eq!(rt; heap.entry_push().err(), Some(ReallocationError::AllocError));
+    assert_eq!(rt;
+        heap.entry_push().err(),
+        Some(ReallocationError::AllocError)
+    );
     let refused = heap.entry_push_reallocating().err();
     assert_eq!(rt; refused, Some(ReallocationError::AllocError));
-    assert_eq!(rt; bounds_of(&heap), Bounds { len: 0, capacity: 0, limit: None });
+    assert_eq!(rt; bounds_of(&heap), (0, 0, None));
     let mut limited: NonZeroInxLimitedVec<Long> = NonZeroInxLimitedVec::new(rt.alloc());
     assert_eq!(rt; limited.set_max_capacity(9), Ok(()));
-    assert_eq!(rt; limited.entry_push().err(), Some(ReallocationError::AllocError));
-    assert_eq!(rt; bounds_of(&limited), Bounds { len: 0, capacity: 0, limit: Some(9) });
+    assert_eq!(rt;
+        limited.entry_push().err(),
+        Some(ReallocationError::AllocError)
+    );
+    assert_eq!(rt; bounds_of(&limited), (0, 0, Some(9)));
     // So long an item could not be dropped.
     mem::forget(heap);
     mem::forget(limited);
@@ -93,27 +99,34 @@ fn whatever_is_refused<K: NonZeroInxGenericStack<Token>>(
         if stack.reallocate_min_capacity(asked).is_err() {
             assert_eq!(rt; bounds_of(stack), before, "after {asked}");
         }
-        assert_eq!(rt; stack.len(), before.len);
+        assert_eq!(rt; stack.len(), before.0, "after {asked}");
         for _ in 0..9 {
-            let before = bounds_of(stack);
-            let number = (before.len as u64).saturating_add(1);
-            let pushed = stack.push(Token { number });
-            assert!(rt; pushed.is_ok() || before.len == before.capacity, "at {number}");
-            match pushed {
-                Ok(inx) => assert_eq!(rt; inx.get() as u64, number),
-                Err(_) => assert_eq!(rt; bounds_of(stack), before, "at {number}"),
-            }
-            assert!(rt; is_in_order(stack), "at {number}");
+            push_next(rt, stack);
         }
         let before = bounds_of(stack);
         if stack.entry_push().is_err() {
             assert_eq!(rt; bounds_of(stack), before);
         }
-        assert_eq!(rt; stack.len(), before.len);
+        assert_eq!(rt; stack.len(), before.0);
         for _ in 0..4 {
             drop(stack.pop());
         }
     }
+}
+
+// Pushes a token that is numbered as its index. Only a full stack may refuse it.
+fn push_next<S: NonZeroInxGenericStack<Token>>(rt: &impl Abort, stack: &mut S) {
+    let before = bounds_of(stack);
+    let (len, capacity, _) = before;
+    let number = (len as u64).saturating_add(1);
+    match stack.push(Token { number }) {
+        Ok(inx) => assert_eq!(rt; inx.get() as u64, number),
+        Err(_) => {
+            assert_eq!(rt; len, capacity, "at {number}");
+            assert_eq!(rt; bounds_of(stack), before, "at {number}");
+        }
+    }
+    assert!(rt; is_in_order(stack), "at {number}");
 }
 
 #[test]

@@ -1,14 +1,15 @@
 //! Worked rows, on each of the four stacks through their contract.
 
 use super::client::{
-    Slot, empty, exchange, free, is_at_limit, made, put, put_growing, put_over, reserve, take_last,
-    take_value,
+    Holding, Slot, empty, exchange, free, is_at_limit, made, overwrite, put, put_growing, put_over,
+    reserve, take_last, take_value,
 };
-use super::token::{Bounds, Token, bounds_of, has, inx};
+use super::token::{Token, bounds_of, has, inx};
 use crate::{
     NonZeroInxArray, NonZeroInxBoxedSlice, NonZeroInxGenericStack, NonZeroInxLimitedVec,
     NonZeroInxVec, SetMaxCapacity, pair_if, pair_of,
 };
+use std::alloc::Global;
 use std::cell::Cell;
 use std::mem;
 use std::process::Abort;
@@ -21,7 +22,7 @@ use triple_arena_base::{
 #[test]
 fn a_heap_stack_grows_to_four_and_then_to_twice(rt: HostRuntime) -> Result<(), Fail> {
     let mut stack = NonZeroInxVec::new(rt.alloc());
-    assert_eq!(rt; bounds_of(&stack), Bounds { len: 0, capacity: 0, limit: None });
+    assert_eq!(rt; bounds_of(&stack), (0, 0, None));
     for (number, capacity) in [(1, 4), (2, 4), (3, 4), (4, 4), (5, 8)] {
         assert_eq!(rt; stack.push(Token { number })?.get() as u64, number);
         assert_eq!(rt; stack.capacity(), capacity, "after {number}");
@@ -33,37 +34,61 @@ fn a_heap_stack_grows_to_four_and_then_to_twice(rt: HostRuntime) -> Result<(), F
 #[test]
 fn a_limited_stack_grows_to_its_limit(rt: HostRuntime) -> Result<(), Fail> {
     let mut stack = NonZeroInxLimitedVec::new(rt.alloc());
-    assert_eq!(rt; stack.push(Token { number: 0 }), Err(ReallocationError::BeyondMaxCapacity));
+    assert_eq!(rt;
+        stack.push(Token { number: 0 }),
+        Err(ReallocationError::BeyondMaxCapacity)
+    );
     assert_eq!(rt; stack.set_max_capacity(6), Ok(()));
     for (number, capacity) in [(1, 4), (2, 4), (3, 4), (4, 4), (5, 6), (6, 6)] {
-        assert_eq!(rt; stack.push_reallocating(Token { number })?.get() as u64, number);
+        assert_eq!(rt;
+            stack.push_reallocating(Token { number })?.get() as u64,
+            number
+        );
         assert_eq!(rt; stack.capacity(), capacity, "after {number}");
     }
-    assert_eq!(rt; stack.push(Token { number: 7 }), Err(ReallocationError::BeyondMaxCapacity));
-    assert_eq!(rt; bounds_of(&stack), Bounds { len: 6, capacity: 6, limit: Some(6) });
+    assert_eq!(rt;
+        stack.push(Token { number: 7 }),
+        Err(ReallocationError::BeyondMaxCapacity)
+    );
+    assert_eq!(rt; bounds_of(&stack), (6, 6, Some(6)));
     assert!(rt; has(&stack, &[1, 2, 3, 4, 5, 6]));
     Ok(())
 }
 
 #[test]
 fn a_limit_leaves_the_room(rt: HostRuntime) -> Result<(), Fail> {
-    let mut stack: NonZeroInxLimitedVec<Token> =
-        NonZeroInxLimitedVec::with_min_capacity(rt.alloc(), 8)?;
+    let mut stack: NonZeroInxLimitedVec<Token> = NonZeroInxLimitedVec::with_min_capacity(
+        rt.alloc(),
+        8,
+    )?;
     assert_eq!(rt; stack.set_max_capacity(2), Ok(()));
-    assert_eq!(rt; bounds_of(&stack), Bounds { len: 0, capacity: 2, limit: Some(2) });
+    assert_eq!(rt; bounds_of(&stack), (0, 2, Some(2)));
     assert_eq!(rt; stack.set_max_capacity(100), Ok(()));
-    assert_eq!(rt; bounds_of(&stack), Bounds { len: 0, capacity: 8, limit: Some(100) });
-    assert_eq!(rt; stack.reallocate_min_capacity(101), Err(ReallocationError::BeyondMaxCapacity));
+    assert_eq!(rt; bounds_of(&stack), (0, 8, Some(100)));
+    assert_eq!(rt;
+        stack.reallocate_min_capacity(101),
+        Err(ReallocationError::BeyondMaxCapacity)
+    );
     assert_eq!(rt; stack.reallocate_min_capacity(3), Ok(()));
-    assert_eq!(rt; bounds_of(&stack), Bounds { len: 0, capacity: 3, limit: Some(100) });
+    assert_eq!(rt; bounds_of(&stack), (0, 3, Some(100)));
     for number in 1..4 {
         stack.push_within_capacity(Token { number })?;
     }
     assert_eq!(rt; stack.set_max_capacity(2), Err(MaxCapacityReductionError));
-    assert_eq!(rt; bounds_of(&stack), Bounds { len: 3, capacity: 3, limit: Some(100) });
-    assert_eq!(rt; stack.set_max_capacity(3), Ok(()));
+    assert_eq!(rt; bounds_of(&stack), (3, 3, Some(100)));
+    assert_eq!(rt; limit_to(&mut stack, 3), Ok(()));
+    assert_eq!(rt; limit_to(&mut stack, 2), Err(MaxCapacityReductionError));
+    assert_eq!(rt; bounds_of(&stack), (3, 3, Some(3)));
     assert!(rt; has(&stack, &[1, 2, 3]));
     Ok(())
+}
+
+// Sets the limit of any stack that has one.
+fn limit_to<S: SetMaxCapacity<Token>>(
+    stack: &mut S,
+    limit: usize,
+) -> Result<(), MaxCapacityReductionError> {
+    stack.set_max_capacity(limit)
 }
 
 #[test]
@@ -88,10 +113,16 @@ fn a_fixed_stack_keeps_its_room(rt: HostRuntime) -> Result<(), Fail> {
     assert_eq!(rt; stack.push(Token { number: 2 })?.get(), 2);
     let refused = stack.push_within_capacity(Token { number: 3 });
     assert_eq!(rt; refused, Err(NotWithinCapacityError));
-    assert_eq!(rt; stack.push(Token { number: 3 }), Err(ReallocationError::BeyondMaxCapacity));
+    assert_eq!(rt;
+        stack.push(Token { number: 3 }),
+        Err(ReallocationError::BeyondMaxCapacity)
+    );
     assert_eq!(rt; stack.reallocate_min_capacity(1), Ok(()));
-    assert_eq!(rt; stack.reallocate_min_capacity(3), Err(ReallocationError::BeyondMaxCapacity));
-    assert_eq!(rt; bounds_of(&stack), Bounds { len: 2, capacity: 2, limit: Some(2) });
+    assert_eq!(rt;
+        stack.reallocate_min_capacity(3),
+        Err(ReallocationError::BeyondMaxCapacity)
+    );
+    assert_eq!(rt; bounds_of(&stack), (2, 2, Some(2)));
     assert!(rt; has(&stack, &[1, 2]));
     Ok(())
 }
@@ -101,10 +132,13 @@ fn an_array_has_its_places_and_no_more(rt: HostRuntime) -> Result<(), Fail> {
     let refused = NonZeroInxArray::<u64, 3>::with_min_capacity(rt.alloc(), 4);
     assert_eq!(rt; refused.err(), Some(AllocError));
     let mut stack = NonZeroInxArray::<u64, 3>::with_min_capacity(rt.alloc(), 3)?;
-    assert_eq!(rt; bounds_of(&stack), Bounds { len: 0, capacity: 3, limit: Some(3) });
+    assert_eq!(rt; bounds_of(&stack), (0, 3, Some(3)));
     assert_eq!(rt; stack.reallocate_min_capacity(1), Ok(()));
-    assert_eq!(rt; stack.reallocate_min_capacity(4), Err(ReallocationError::BeyondMaxCapacity));
-    assert_eq!(rt; bounds_of(&stack), Bounds { len: 0, capacity: 3, limit: Some(3) });
+    assert_eq!(rt;
+        stack.reallocate_min_capacity(4),
+        Err(ReallocationError::BeyondMaxCapacity)
+    );
+    assert_eq!(rt; bounds_of(&stack), (0, 3, Some(3)));
     let mut none = NonZeroInxArray::<u64, 0>::new(rt.alloc());
     assert_eq!(rt; none.push_within_capacity(1), Err(NotWithinCapacityError));
     assert_eq!(rt; none.push(1), Err(ReallocationError::BeyondMaxCapacity));
@@ -147,9 +181,9 @@ fn each_call<S: NonZeroInxGenericStack<Token> + Drop>(
     assert!(rt; has(&stack, &[1, 20, 30]));
 
     two_at_once(rt, &mut stack)?;
-    let before = bounds_of(&stack);
+    let (_, capacity, limit) = bounds_of(&stack);
     stack.clear();
-    assert_eq!(rt; bounds_of(&stack), Bounds { len: 0, ..before });
+    assert_eq!(rt; bounds_of(&stack), (0, capacity, limit));
     assert_eq!(rt; stack.pop(), None);
     Ok(())
 }
@@ -220,8 +254,9 @@ fn two_of_a_slice(rt: HostRuntime) {
 }
 
 // The client's calls on an empty stack of two places.
-fn each_call_of_the_client<S: NonZeroInxGenericStack<Slot<Token>>>(
+fn each_call_of_the_client<S: NonZeroInxGenericStack<Slot<Token>> + Drop>(
     rt: &impl Abort,
+    alloc: Global,
     slots: &mut S,
 ) -> Result<(), Fail> {
     assert_eq!(rt; put(slots, Token { number: 1 })?.get(), 1);
@@ -233,6 +268,17 @@ fn each_call_of_the_client<S: NonZeroInxGenericStack<Slot<Token>>>(
     free(slots, inx(2)?, 1);
     assert_eq!(rt; take_value(slots, inx(2)?, 1), None);
     assert!(rt; take_last(slots).is_some());
+    let mut holding = Holding {
+        slots: made::<Token, S>(alloc, 2),
+    };
+    assert!(rt; !overwrite(&mut holding, inx(1)?, Token { number: 5 }));
+    put(&mut holding.slots, Token { number: 6 })?;
+    assert!(rt; overwrite(&mut holding, inx(1)?, Token { number: 7 }));
+    assert_eq!(rt;
+        take_value(&mut holding.slots, inx(1)?, 1),
+        Some(Token { number: 7 })
+    );
+    assert!(rt; !overwrite(&mut holding, inx(1)?, Token { number: 8 }));
     let (len, capacity) = (slots.len(), slots.capacity());
     if len < capacity {
         assert_eq!(rt; put_over(slots, Token { number: 4 }, 7).get(), 2);
@@ -250,10 +296,10 @@ fn the_client_on_each_stack(rt: HostRuntime) -> Result<(), Fail> {
     let mut limited: NonZeroInxLimitedVec<Slot<Token>> = made(rt.alloc(), 2);
     let mut fixed: NonZeroInxBoxedSlice<Slot<Token>> = made(rt.alloc(), 2);
     let mut array: NonZeroInxArray<Slot<Token>, 2> = made(rt.alloc(), 2);
-    each_call_of_the_client(&rt, &mut heap)?;
-    each_call_of_the_client(&rt, &mut limited)?;
-    each_call_of_the_client(&rt, &mut fixed)?;
-    each_call_of_the_client(&rt, &mut array)?;
+    each_call_of_the_client(&rt, rt.alloc(), &mut heap)?;
+    each_call_of_the_client(&rt, rt.alloc(), &mut limited)?;
+    each_call_of_the_client(&rt, rt.alloc(), &mut fixed)?;
+    each_call_of_the_client(&rt, rt.alloc(), &mut array)?;
     assert!(rt; !is_at_limit(&heap));
     assert!(rt; is_at_limit(&limited));
     assert!(rt; is_at_limit(&fixed));
@@ -282,7 +328,11 @@ fn an_item_is_dropped_once(rt: HostRuntime) -> Result<(), Fail> {
             stack.push_within_capacity(Counted { drops: &drops })?;
         }
         assert_eq!(rt; drops.get(), 0);
-        assert!(rt; stack.push_within_capacity(Counted { drops: &drops }).is_err());
+        assert!(rt;
+            stack
+                .push_within_capacity(Counted { drops: &drops })
+                .is_err()
+        );
         assert_eq!(rt; drops.get(), 1, "a refused item");
         assert!(rt; stack.push(Counted { drops: &drops }).is_err());
         assert_eq!(rt; drops.get(), 2, "a refused item");

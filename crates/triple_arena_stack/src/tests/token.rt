@@ -10,21 +10,9 @@ pub struct Token {
     pub number: u64,
 }
 
-/// Length, capacity and limit of a stack.
-#[derive(Clone, Copy, Debug, PartialEq)]
-pub struct Bounds {
-    pub len: usize,
-    pub capacity: usize,
-    pub limit: Option<usize>,
-}
-
 /// Length, capacity and limit of `stack`.
-pub fn bounds_of<T, S: NonZeroInxGenericStack<T>>(stack: &S) -> Bounds {
-    Bounds {
-        len: stack.len(),
-        capacity: stack.capacity(),
-        limit: stack.max_capacity(),
-    }
+pub fn bounds_of<T, S: NonZeroInxGenericStack<T>>(stack: &S) -> (usize, usize, Option<usize>) {
+    (stack.len(), stack.capacity(), stack.max_capacity())
 }
 
 /// Whether the items of `stack` have just these numbers.

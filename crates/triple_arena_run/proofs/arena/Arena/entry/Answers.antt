@@ -1,4 +1,4 @@
-use Rattle.std.proofs.Common.{◌≡◌, ◌<◌, ◌-◌, length, sym, ◌∙◌, ap, arith}
+use Rattle.std.proofs.Common.{sym, ◌∙◌, ap, arith}
 use Rattle.triple_arena_run.proofs.Vectors.{entry_in_slot, entry_past}
 use Rattle.triple_arena_run.proofs.arena.Arena.entry.Goals as goal
 

@@ -1,4 +1,4 @@
-use Rattle.std.proofs.Common.{◌≡◌, List, [], sym, ap, ◌∙◌, vec_capacity, vec_len, length, arith, ◌+◌, ◌-◌, ◌≤◌, take, append-nil}
+use Rattle.std.proofs.Common.{◌≡◌, [], ap, ◌∙◌, vec_capacity, ◌-◌, take, append-nil}
 use Rattle.triple_arena_run.specs.Insertion.{place, inserted}
 use Rattle.triple_arena_run.proofs.Vectors.{IsPlaced, free_within, placed_on_free, placed_past}
 use Rattle.triple_arena_run.proofs.arena.Arena.insert.Goals.{in-Some, in-None+in_ok-inx-in-None}
@@ -11,12 +11,12 @@ fill-requires-after_bounds g c _ _ =
 placed : (g : _) (c : goal.After-_from_raw g) → IsPlaced g.P.Inx.PtrInx.number g.P.Gen.PtrGen.number g.P.Inx.PtrInx.greatest c.self.inside.slots.items c.self.inside.free.items c.self.inside.counter c.args.value c.match-pop.self-inside.slots.items c.match-pop.self-inside.free.items (vec_capacity c.match-pop.self-inside.free) c.match-pop.self-inside.counter c.match-pop.inx
 placed g c =
     elim c.match-pop.branch [
-      in-Some w ↦ rw (w.self-inside-is, w.inx-is, w.fill.ensures, w.in-Some.ensures.capacity) (placed_on_free g.P.Inx.PtrInx.number g.P.Gen.PtrGen.number g.P.Inx.PtrInx.greatest c.self.inside.slots.items c.self.inside.free.items c.pop.new.self.items w.in-Some.inx c.self.inside.counter w.in-Some.ensures.items c.args.value (vec_capacity c.self.inside.free) c.self.invariant)
+      | in-Some w ↦ rw (w.self-inside-is, w.inx-is, w.fill.ensures, w.in-Some.ensures.capacity) (placed_on_free g.P.Inx.PtrInx.number g.P.Gen.PtrGen.number g.P.Inx.PtrInx.greatest c.self.inside.slots.items c.self.inside.free.items c.pop.new.self.items w.in-Some.inx c.self.inside.counter w.in-Some.ensures.items c.args.value (vec_capacity c.self.inside.free) c.self.invariant)
       | in-None+in_ok-inx-in-None w ↦
-        let made = w.in_ok-inx-in-None.ensures in
-        let left : c.pop.new.self.items ≡ [] = w.in-None.ensures.rest ∙ ap (λ n. take (n - 1) c.self.inside.free.items) w.in-None.ensures.cases.0 in
-        let none : c.self.inside.free.items ≡ [] = w.in-None.ensures.items ∙ append-nil c.pop.new.self.items ∙ left in
-        rw (w.self-inside-is, w.inx-is, made.slots, made.free, left) (placed_past g.P.Inx.PtrInx.number g.P.Gen.PtrGen.number g.P.Inx.PtrInx.greatest c.self.inside.slots.items c.self.inside.free.items c.self.inside.counter c.args.value w.in_ok-inx-in-None.inx (vec_capacity c.self.inside.free) (vec_capacity w.push.new.free) none made.index made.within made.room c.self.invariant)
+          let made = w.in_ok-inx-in-None.ensures in
+          let left : c.pop.new.self.items ≡ [] = w.in-None.ensures.rest ∙ ap (λ n. take (n - 1) c.self.inside.free.items) w.in-None.ensures.cases.0 in
+          let none : c.self.inside.free.items ≡ [] = w.in-None.ensures.items ∙ append-nil c.pop.new.self.items ∙ left in
+          rw (w.self-inside-is, w.inx-is, made.slots, made.free, left) (placed_past g.P.Inx.PtrInx.number g.P.Gen.PtrGen.number g.P.Inx.PtrInx.greatest c.self.inside.slots.items c.self.inside.free.items c.self.inside.counter c.args.value w.in_ok-inx-in-None.inx (vec_capacity c.self.inside.free) (vec_capacity w.push.new.free) none made.index made.within made.room c.self.invariant)
     ]
 
 pub invariant_of-self-2 : goal.invariant_of-self-2

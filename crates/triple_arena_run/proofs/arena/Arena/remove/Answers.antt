@@ -1,6 +1,5 @@
-use Rattle.std.proofs.Common.{◌≡◌, true, is_some, sym, ap, ◌∙◌, vec_capacity}
+use Rattle.std.proofs.Common.{ap, ◌∙◌, vec_capacity}
 use Rattle.triple_arena_ptr.specs.Numbers.{raise}
-use Rattle.triple_arena_run.specs.ArenaState.{look_up}
 use Rattle.triple_arena_run.specs.Ending.{removed}
 use Rattle.triple_arena_run.proofs.Vectors.{IsVacated, live_slot, look_up_live, room_for_live, some_mapped, vacated}
 use Rattle.triple_arena_run.proofs.arena.Arena.remove.Goals as goal

@@ -1,7 +1,4 @@
-use Rattle.std.proofs.Common.{◌≡◌, Some, suc, refl, ap, add-one}
-use Rattle.std.specs.Option.{option_map}
-use Rattle.triple_arena_run.specs.Pointers.{numbers}
-use Rattle.triple_arena_run.specs.SessionState.{name_of}
+use Rattle.std.proofs.Common.{Some, refl, ap, add-one}
 use Rattle.triple_arena_run.proofs.session.Session.link_name.Goals as goal
 
 pub returns-in-Some-place_of : goal.returns-in-Some-place_of

@@ -1,4 +1,4 @@
-use Rattle.std.proofs.Common.{ap, refl, arith, rules, ◌∙◌}
+use Rattle.std.proofs.Common.{refl, arith, ◌∙◌}
 use Rattle.triple_arena_stack.proofs.PushedLemmas.{set-pushed, read-pushed}
 use Rattle.triple_arena_stack.proofs.vec.HeapStackNonZeroInxGenericStack.push_reserved.Goals as goal
 

@@ -1,0 +1,120 @@
+//! Sessions by their commands, at pointers of small generations too.
+
+use crate::command::Command;
+use crate::node::Node;
+use crate::reply::Reply;
+use crate::session::Session;
+use crate::text::run_text;
+use std::process::Abort;
+use std::test::Fail;
+use triple_arena_ptr::{P0, P3, Ptr, PtrGen};
+
+#[test]
+fn answers_by_name(rt: HostRuntime) {
+    let mut session: Session<P0, bool> = Session::new(rt.alloc());
+    assert!(rt; session.step(Command::Get(0)) == Reply::Nothing);
+    assert!(rt; session.step(Command::Insert(true, Some(1))) == Reply::BadName);
+    assert!(rt; session.step(Command::Insert(true, None)) == Reply::Given(1, false));
+    assert!(rt; session.step(Command::Insert(false, Some(1))) == Reply::Given(2, false));
+    assert!(rt; session.step(Command::Insert(false, Some(0))) == Reply::BadName);
+    assert!(rt; session.step(Command::Get(2)) == Reply::Found(false, Some(1)));
+    assert!(rt; session.step(Command::Remove(1)) == Reply::Removed(true, None, false));
+    assert!(rt; session.step(Command::Remove(1)) == Reply::Invalid);
+    assert!(rt; session.step(Command::Get(2)) == Reply::Found(false, Some(1)));
+    assert!(rt; session.step(Command::Insert(true, Some(1))) == Reply::Given(3, false));
+    assert!(rt; session.step(Command::Remove(2)) == Reply::Removed(false, Some(1), false));
+    assert!(rt; session.step(Command::Get(3)) == Reply::Found(true, Some(1)));
+    assert!(rt; session.step(Command::Get(4)) == Reply::Nothing);
+}
+
+/// The 16-bit counter begins at 2, and each removal raises it by one: the 65534th wraps it.
+fn removes_to_the_wrap<P: Ptr>(rt: &impl Abort, session: &mut Session<P, u8>) {
+    for name in 1..65535usize {
+        assert!(rt; session.step(Command::Insert(7, None)) == Reply::Given(name, false));
+        let removed = session.step(Command::Remove(name));
+        assert!(rt;
+            removed == Reply::Removed(7, None, name == 65534),
+            "at {name}"
+        );
+    }
+}
+
+#[test]
+fn tells_of_a_wrap_where_it_comes(rt: HostRuntime) {
+    assert!(rt; <P3 as Ptr>::Gen::counts());
+    let mut session: Session<P3, u8> = Session::new(rt.alloc());
+    removes_to_the_wrap(&rt, &mut session);
+}
+
+/// The run of a text ends with the reply that tells of a wrap: what follows isn't looked at.
+#[test]
+fn a_text_run_ends_at_a_wrap(rt: HostRuntime) -> Result<(), Fail> {
+    let mut session: Session<P3, u64> = Session::new(rt.alloc());
+    for name in 1..65534 {
+        assert!(rt; session.step(Command::Insert(1, None)) == Reply::Given(name, false));
+        assert!(rt; session.step(Command::Remove(name)) == Reply::Removed(1, None, false));
+    }
+    let mut input = b"insert 5 -\nremove 65534\nno command\ninsert 6 -\n".as_slice();
+    let mut output = Vec::new(rt.alloc());
+    assert!(rt; run_text(&mut session, rt.alloc(), &mut input, &mut output) == Ok(()));
+    assert_eq!(rt;
+        output.as_slice(),
+        b"given 65534\nremoved 5 - wrapped\n".as_slice()
+    );
+    assert!(rt; session.step(Command::Get(65535)) == Reply::Nothing);
+    Ok(())
+}
+
+#[test]
+fn a_node_prints_as_its_pair(rt: HostRuntime) -> Result<(), Fail> {
+    let node: Node<u64, P0> = Node {
+        datum: 20,
+        link: None,
+    };
+    let text = format!(in rt.alloc(); "{node:?}")?;
+    assert_eq!(rt; text.as_str(), "(20, None)");
+    Ok(())
+}
+
+/// Insertions with links and removals, each name looked up after each of them. Holds with ample
+/// memory, and also where any one request for memory is refused (`rt try --test --fail-alloc 1..`):
+/// then one insertion answers so, and names and entries are as they were.
+#[test]
+fn a_refused_insertion_changes_nothing(rt: HostRuntime) {
+    let mut session: Session<P0, u64> = Session::new(rt.alloc());
+    let mut rows: [Option<(u64, Option<usize>)>; 16] = [None; 16];
+    let mut given = 0;
+    let mut refused = false;
+    for datum in 0..12 {
+        let link = if given == 0 { None } else { Some(given) };
+        match session.step(Command::Insert(datum, link)) {
+            Reply::Given(name, false) => {
+                assert!(rt; given < name && name < 16);
+                given = name;
+                rows[name] = Some((datum, link));
+            }
+            reply => {
+                assert!(rt; reply == Reply::NoMemory && !refused);
+                refused = true;
+            }
+        }
+        if datum % 3 == 2 && given < 16 {
+            if let Some((removed, link)) = rows[given] {
+                let reply = session.step(Command::Remove(given));
+                assert!(rt; reply == Reply::Removed(removed, link, false));
+                rows[given] = None;
+            }
+        }
+        for (name, row) in rows.iter().enumerate() {
+            let expected = match *row {
+                Some((datum, link)) => Reply::Found(datum, link),
+                None => Reply::Nothing,
+            };
+            assert!(rt;
+                session.step(Command::Get(name)) == expected,
+                "at {name} after {datum}"
+            );
+        }
+    }
+    assert_eq!(rt; given, if refused { 11 } else { 12 });
+}

@@ -1,0 +1,51 @@
+//! How a full stack grows.
+ghost use Rattle.std.specs.Prelude.{◌≡◌, ◌↔◌, length, IsOk, OnOk, OnErr};
+ghost use Rattle.triple_arena_stack.specs.Capacity.{next_capacity, room_for_one_more, HasPlace, IsFullAtLimit};
+
+use crate::stack::NonZeroInxGenericStack;
+use triple_arena_base::ReallocationError;
+
+/// Makes room for one more item where the stack is full, and else does nothing.
+///
+/// Refused as [`NonZeroInxGenericStack::push_reallocating`] is; then the stack is unchanged.
+pub fn grow_if_full<T, S: NonZeroInxGenericStack<T>>(stack: &mut S) -> Result<(), ReallocationError>
+    ensures items { S.items stack.new ≡ S.items stack.old }
+    ensures limit { S.limit stack.new ≡ S.limit stack.old }
+    ensures room { OnOk result (S.room stack.new
+        ≡ room_for_one_more (S.room stack.old) (S.limit stack.old) (length (S.items stack.old))) }
+    ensures has_place { OnOk result
+        (HasPlace (S.room stack.new) (S.limit stack.new) (length (S.items stack.new))) }
+    ensures refused { OnErr result (stack.new ≡ stack.old) }
+    ensures had_place { HasPlace (S.room stack.old) (S.limit stack.old) (length (S.items stack.old))
+        → IsOk result × (stack.new ≡ stack.old) }
+    ensures beyond { (result ≡ Err ReallocationError.BeyondMaxCapacity)
+        ↔ IsFullAtLimit (S.room stack.old) (S.limit stack.old) (length (S.items stack.old)) }
+{
+    let capacity = stack.capacity();
+    if stack.len() < capacity {
+        return Ok(());
+    }
+    let limit = stack.max_capacity();
+    if limit.is_some_and(|most| most <= capacity) {
+        return Err(ReallocationError::BeyondMaxCapacity);
+    }
+    if capacity == usize::MAX {
+        return Err(ReallocationError::AllocError);
+    }
+    stack.reallocate_min_capacity(grown_capacity(capacity, limit))
+}
+
+// The capacity that a full stack grows to.
+fn grown_capacity(capacity: usize, limit: Option<usize>) -> usize
+    ensures { result ≡ next_capacity capacity limit }
+{
+    let next = if capacity == 0 {
+        4
+    } else {
+        capacity.saturating_mul(2)
+    };
+    match limit {
+        Some(most) => next.min(most),
+        None => next,
+    }
+}

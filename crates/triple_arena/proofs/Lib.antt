@@ -1,0 +1,4 @@
+pub mod NumberedLists
+pub mod WellFormed
+pub mod Links
+pub mod Tidying

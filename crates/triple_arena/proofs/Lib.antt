@@ -2,3 +2,4 @@ pub mod NumberedLists
 pub mod WellFormed
 pub mod Links
 pub mod Tidying
+pub mod Growth

@@ -1,5 +1,5 @@
 -- How the slots, and the links in them, follow each change of an arena.
-use Rattle.std.proofs.Common.{◌≡◌, ◌≢◌, ◌⊎◌, ℕ, zero, suc, ◌+◌, ◌-◌, ◌<◌, ◌≤◌, ◌==◌, Bool, true, false, List, [], ◌∷◌, ◌++◌, map, length, get_or, set, take, Option, Some, None, is_some, IsSome, count_by, cond, slice_get, refl, sym, ap, subst, ◌∙◌, inl, inr, arith, true≢false}
+use Rattle.std.proofs.Common.{◌≡◌, ◌≢◌, ◌⊎◌, ℕ, zero, suc, ◌+◌, ◌-◌, ◌<◌, ◌≤◌, ◌==◌, Bool, true, false, List, [], ◌∷◌, ◌++◌, map, length, get_or, set, take, Option, Some, None, is_some, IsSome, count_by, cond, slice_get, refl, sym, ap, subst, ◌∙◌, inl, inr, arith, true≢false, IfSome, ◌↔◌}
 use Rattle.std.proofs.lemmas.Bool.{cases_eq}
 use Rattle.std.proofs.lemmas.List.{length-take-le, length-set, length-map, length_push, map-set, map_push, take-map}
 use Rattle.std.proofs.lemmas.List.Sums.{sum_by-set, sum_by_push, sum_by-cons}
@@ -295,3 +295,36 @@ module _ {P T I G : Type 0} where
     pub Shows-stamped : (es : List (ArenaSlot P T I G)) (root : Option ℕ) (i len : ℕ) (g : G) (e : ArenaSlot P T I G) (s : ArenaState T) → item es i ≡ Some e → IsSome (entry_at number es i) → Shows number es root len s → Shows number (with_item es i (with_slot_generation e g)) root len (record s { slots = with_generation_in s.slots i (number g) })
     Shows-stamped es root i len g (Free link) s found live shows = absurd (true≢false (sym (rw (entry_item es i (Free link) found) at live)))
     Shows-stamped es root i len g (Allocated h v) s found live shows = Shows-restamped es root i len (number h) g v s (entry_item es i (Allocated h v) found) shows
+
+    -- the entry at an index, by what is read there
+    pub entry_read : (es : List (ArenaSlot P T I G)) (i : ℕ) (o : Option (ArenaSlot P T I G)) → item es i ≡ o → entry_at number es i ≡ option_and_then (entry_of number) o
+    entry_read es i None read = ap joined (item-map_none (entry_of number) es i read)
+    entry_read es i (Some e) read = entry_item es i e read
+
+    pub entry_none_past : (es : List (ArenaSlot P T I G)) (i : ℕ) → length es < i → entry_at number es i ≡ None
+    entry_none_past es i past = entry_read es i None (item_past es i past)
+
+    -- the root is the first free index
+    pub root_head : (es : List (ArenaSlot P T I G)) (root : Option ℕ) (i len : ℕ) (s : ArenaState T) → root ≡ Some i → Shows number es root len s → slice_get s.free 0 ≡ Some i
+    root_head es root i len s at_root shows = by_free s.free refl
+      where
+        by_free : (f : List ℕ) → s.free ≡ f → slice_get f 0 ≡ Some i
+        by_free [] e = absurd (let h = subst (IsLinked es root) e shows.linked in cc)
+        by_free (j ∷ rest) e = sym (subst (IsLinked es root) e shows.linked).0 ∙ at_root
+
+    -- the root is an index of the arena
+    pub root_indexed : (es : List (ArenaSlot P T I G)) (root : Option ℕ) (i len : ℕ) (s : ArenaState T) → root ≡ Some i → Shows number es root len s → i ≤ s.greatest
+    root_indexed es root i len s at_root shows =
+        omega (arith, (root_within number es root i len s at_root shows).1, shows.well.fits, length-map es (entry_of number), ap length shows.slots)
+
+    -- where no slot is free, one more fits before the greatest index
+    pub one_more : (es : List (ArenaSlot P T I G)) (root : Option ℕ) (len : ℕ) (s : ArenaState T) → root ≡ None → Shows number es root len s → arena_len s < capacity s → length es < s.greatest
+    one_more es root len s at_root shows room = omega (arith, full_at_none number es root len s at_root shows, room)
+
+-- an index that is within the greatest has its number
+pub index_of_number : {I : Type 0} (number : I → ℕ) (o : Option I) (i greatest : ℕ) → (IsSome o ↔ (i ≤ greatest)) → IfSome o (λ x. number x ≡ i) → i ≤ greatest → option_map number o ≡ Some i
+index_of_number number None i greatest some is within = absurd (true≢false (sym (some.1 within)))
+index_of_number number (Some x) i greatest some is within = ap Some is
+
+pub pointer_is : (a b x y : ℕ) → a ≡ x → b ≡ y → ◌≡◌ {A = ℕ × ℕ} (a, b) (x, y)
+pointer_is a b x y p q = rw (p, q) refl

@@ -4,6 +4,7 @@ use Rattle.std.proofs.lemmas.Bool.{cases_eq}
 use Rattle.std.proofs.lemmas.List.{length-map, drop_all, take-map}
 use Rattle.std.proofs.lemmas.List.Sums.{sum_by-cons}
 use Rattle.std.specs.Int.NonZero.{non_zero_usize_get}
+use Rattle.std.specs.declared.num.NonZeroUsize.{NonZeroUsize}
 use Rattle.triple_arena.specs.Numbered.{item, with_item}
 use Rattle.triple_arena.specs.ArenaState.{ArenaState, entry, is_free, IsWellFormed, arena_len, slot_count}
 use Rattle.triple_arena.specs.FreeList.{before, trimmed, gaps, tidied, IsRising, IsInOrder}
@@ -15,6 +16,11 @@ use Rattle.triple_arena.specs.declared.slot.ArenaSlot.{ArenaSlot}
 use Rattle.triple_arena.specs.declared.slot.ArenaSlot.TheVariants.{Free, Allocated}
 use Rattle.triple_arena.proofs.WellFormed.{count_head, count_tail}
 use Rattle.triple_arena.proofs.Links.{item-map_some, IsLinked-off}
+
+-- the number of an index, and 0 for none
+abbrev pub number_before : Option NonZeroUsize → ℕ
+number_before None = 0
+number_before (Some inx) = non_zero_usize_get inx
 
 module _ {T : Type 0} where
   -- a free slot at the end makes no difference

@@ -1,5 +1,5 @@
 -- Each change of an arena keeps it well formed.
-use Rattle.std.proofs.Common.{◌≡◌, ◌≢◌, ◌⊎◌, ℕ, zero, suc, ◌+◌, ◌-◌, ◌<◌, ◌≤◌, ◌==◌, Bool, true, false, List, [], ◌∷◌, ◌++◌, map, length, get_or, set, take, Option, Some, None, is_some, count_by, cond, slice_get, refl, sym, ap, subst, ◌∙◌, inl, inr, arith, true≢false, sub-one}
+use Rattle.std.proofs.Common.{◌≡◌, ◌≢◌, ◌⊎◌, ℕ, zero, suc, ◌+◌, ◌-◌, ◌<◌, ◌≤◌, ◌==◌, Bool, true, false, List, [], ◌∷◌, ◌++◌, map, length, get_or, set, take, Option, Some, None, is_some, IsSome, count_by, cond, slice_get, refl, sym, ap, subst, ◌∙◌, inl, inr, arith, true≢false, sub-one}
 use Rattle.std.proofs.lemmas.Bool.{cases_eq, eqb-true}
 use Rattle.std.proofs.lemmas.List.{length-set, length_push}
 use Rattle.std.proofs.lemmas.List.Sums.{sum_by-set, sum_by_push, sum_by-cons}
@@ -13,7 +13,7 @@ use Rattle.triple_arena.specs.Pointers.{Pointer}
 use Rattle.triple_arena.specs.Entries.{value_under, with_value_in, with_generation_in}
 use Rattle.triple_arena.specs.ArenaState.{ArenaState, new_arena, capacity, entry, look_up, slot_count, arena_len, is_free, IsWellFormed}
 use Rattle.triple_arena.specs.Insertion.{place_among, place, inserted_among, inserted}
-use Rattle.triple_arena.specs.Ending.{removed}
+use Rattle.triple_arena.specs.Ending.{removed, invalidated}
 
 -- the entry at an index is this one
 abbrev pub with_entry : {T : Type 0} → ArenaState T → ℕ → ℕ × T → ArenaState T
@@ -216,3 +216,39 @@ module _ {T : Type 0} where
   -- another generation of an entry
   pub with_generation_is : (xs : List (Option (ℕ × T))) (i h n : ℕ) (v : T) → joined (item xs i) ≡ Some (h, v) → with_generation_in xs i n ≡ with_item xs i (Some (n, v))
   with_generation_is xs i h n v found = ap (λ o. with_item xs i (option_map (λ e. (n, e.1)) o)) found
+
+  -- no entry stands past the greatest index
+  pub entry_past : (s : ArenaState T) (i : ℕ) → IsWellFormed s → s.greatest < i → entry s i ≡ None
+  entry_past s i well past = ap joined (item_past s.slots i (omega (arith, well.fits)))
+
+  pub entry_within : (s : ArenaState T) (i : ℕ) → IsWellFormed s → is_some (entry s i) ≡ true → (0 < i) × (i ≤ s.greatest)
+  entry_within s i well live = by_item (item s.slots i) refl live
+    where
+      by_item : (o : Option (Option (ℕ × T))) → item s.slots i ≡ o → is_some (joined o) ≡ true → (0 < i) × (i ≤ s.greatest)
+      by_item None h some = absurd (true≢false (sym some))
+      by_item (Some slot) h some =
+          let within = item_within s.slots i slot h in
+          (within.0, omega (arith, within.1, well.fits))
+
+  -- a valid pointer is that of an entry, and finds its value
+  pub live_entry : (s : ArenaState T) (p : Pointer) → is_some (look_up s p) ≡ true → is_some (entry s p.0) ≡ true
+  live_entry s p live = by_entry (entry s p.0) live
+    where
+      by_entry : (o : Option (ℕ × T)) → is_some (option_and_then (value_under p.1) o) ≡ true → is_some o ≡ true
+      by_entry None some = some
+      by_entry (Some e) some = refl
+
+  pub look_up_value : (s : ArenaState T) (p : Pointer) (v : T) → is_some (look_up s p) ≡ true → option_map (λ (e : ℕ × T). e.1) (entry s p.0) ≡ Some v → look_up s p ≡ Some v
+  look_up_value s p v live found = by_entry (entry s p.0) live found
+    where
+      by_test : (e : ℕ × T) (b : Bool) → is_some (cond b (Some e.1) None) ≡ true → Some e.1 ≡ Some v → cond b (Some e.1) None ≡ Some v
+      by_test e true some same = same
+      by_test e false some same = absurd (true≢false (sym some))
+
+      by_entry : (o : Option (ℕ × T)) → is_some (option_and_then (value_under p.1) o) ≡ true → option_map (λ (e : ℕ × T). e.1) o ≡ Some v → option_and_then (value_under p.1) o ≡ Some v
+      by_entry None some same = absurd (true≢false (sym some))
+      by_entry (Some e) some same = by_test e (e.0 == p.1) some same
+
+  -- a new generation at an index, which is the raised counter, is an invalidation
+  pub invalidated_is : (raise : ℕ → ℕ) (s : ArenaState T) (i j n : ℕ) → j ≡ i → n ≡ raise s.counter → record s { slots = with_generation_in s.slots j n; counter = n } ≡ invalidated raise s i
+  invalidated_is raise s i j n here raised = rw (here, raised) refl

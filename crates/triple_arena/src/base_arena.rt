@@ -2,7 +2,7 @@
 
 ghost use Rattle.std.specs.Prelude.{◌≡◌, ℕ, ◌≤◌, ◌<◌, ◌+◌, ◌==◌, ◌↔◌, ◌≢◌, cond, false, List, [], map, length, is_some, IsSome, IfSome, IsOk, IfOk, OnOk, OnErr, MatchOption, Some, None, Err, IsTrue, slice_get, option_copied, min, ◌*◌, ◌^◌};
 ghost use Rattle.std.specs.Int.NonZero.{non_zero_usize_get};
-ghost use Rattle.std.specs.Option.{option_map};
+ghost use Rattle.std.specs.Option.{option_map, option_and_then};
 ghost use Rattle.triple_arena_ptr.specs.Numbers.{greatest_index, raise, wraps, first_generation};
 ghost use Rattle.triple_arena_stack.specs.Capacity.{capacity_of, IsWithin, IsBeyond, IsAtLimit};
 ghost use Rattle.triple_arena_stack.specs.StackKind.{IsOfKind};
@@ -146,8 +146,10 @@ impl<P: Ptr, T, S: NonZeroInxGenericStack<ArenaSlot<P, T>>> ArenaTrait<P, T> for
     }
 
     fn get(&self, p: P) -> Option<&T> {
-        let inx = P::Inx::try_into_usize(p.inx())?;
-        self.slots.get(inx)?.value_under(p.generation())
+        match self.slot(p.inx()) {
+            Some(slot) => slot.value_under(p.generation()),
+            None => None,
+        }
     }
 
     fn get_mut(&mut self, p: P) -> Option<&mut T> {
@@ -158,8 +160,10 @@ impl<P: Ptr, T, S: NonZeroInxGenericStack<ArenaSlot<P, T>>> ArenaTrait<P, T> for
     }
 
     fn get_inx(&self, inx: P::Inx) -> Option<(P::Gen, &T)> {
-        let inx = P::Inx::try_into_usize(inx)?;
-        self.slots.get(inx)?.entry()
+        match self.slot(inx) {
+            Some(slot) => slot.entry(),
+            None => None,
+        }
     }
 
     fn generation_at(&self, inx: P::Inx) -> Option<P::Gen> {
@@ -328,14 +332,32 @@ impl<P: Ptr, T, S: NonZeroInxGenericStack<ArenaSlot<P, T>>> Arena<P, T, S> {
         }
     }
 
+    // The slot of an index, if there is one.
+    fn slot(&self, inx: P::Inx) -> Option<&ArenaSlot<P, T>>
+        ensures entry { option_and_then (entry_of P.Gen.number) (option_copied result)
+            ≡ entry self.now (P.Inx.number inx) }
+        ensures within { IsSome (entry self.now (P.Inx.number inx))
+            → P.Inx.number inx ≤ greatest_index P.Inx.greatest }
+    {
+        let slots = &self.slots;
+        match P::Inx::try_into_usize(inx) {
+            Some(inx) => slots.get(inx),
+            None => None,
+        }
+    }
+
     // The index of a pointer, if the pointer is valid.
     fn find(&self, p: P) -> Option<NonZeroUsize>
         ensures index { IfSome result (λ inx. non_zero_usize_get inx ≡ P.Inx.number (P.index_of p)) }
-        ensures live { is_some result ≡ is_some (look_up self.now (numbers P.Inx.number P.Gen.number P.index_of P.generation_of p)) }
+        ensures live { is_some result ≡ is_some (look_up self.now
+            (numbers P.Inx.number P.Gen.number P.index_of P.generation_of p)) }
     {
-        let inx = P::Inx::try_into_usize(p.inx())?;
-        self.slots.get(inx)?.value_under(p.generation())?;
-        Some(inx)
+        match self.slot(p.inx()) {
+            Some(slot) if slot.value_under(p.generation()).is_some() => {
+                P::Inx::try_into_usize(p.inx())
+            }
+            _ => None,
+        }
     }
 
     // An index, if an entry stands there.
@@ -343,9 +365,10 @@ impl<P: Ptr, T, S: NonZeroInxGenericStack<ArenaSlot<P, T>>> Arena<P, T, S> {
         ensures index { IfSome result (λ i. non_zero_usize_get i ≡ P.Inx.number inx) }
         ensures live { is_some result ≡ is_some (entry self.now (P.Inx.number inx)) }
     {
-        let inx = P::Inx::try_into_usize(inx)?;
-        self.slots.get(inx)?.entry()?;
-        Some(inx)
+        match self.slot(inx) {
+            Some(slot) if slot.is_live() => P::Inx::try_into_usize(inx),
+            _ => None,
+        }
     }
 
     // The pointer of the entry at an index.
@@ -396,8 +419,8 @@ impl<P: Ptr, T, S: NonZeroInxGenericStack<ArenaSlot<P, T>>> Arena<P, T, S> {
         if self.len < capacity {
             return Ok(());
         }
-        let limit = self.max_capacity();
-        if limit.is_some_and(|most| most <= capacity) {
+        let limit = self.slots.max_capacity();
+        if is_at_limit(limit, capacity) {
             return Err(ReallocationError::BeyondMaxCapacity);
         }
         let greatest = P::Inx::max_index().get();
@@ -405,6 +428,16 @@ impl<P: Ptr, T, S: NonZeroInxGenericStack<ArenaSlot<P, T>>> Arena<P, T, S> {
             return Err(ReallocationError::AllocError);
         }
         self.reallocate(grown_capacity(capacity, limit, greatest))
+    }
+}
+
+// Whether the limit, if there is one, is reached at this capacity.
+fn is_at_limit(limit: Option<usize>, capacity: usize) -> bool
+    ensures { IsTrue result ↔ IsAtLimit limit capacity }
+{
+    match limit {
+        Some(most) => most <= capacity,
+        None => false,
     }
 }
 

@@ -83,7 +83,7 @@ impl<P: Ptr, T, S: NonZeroInxGenericStack<ArenaSlot<P, T>>> Slots<P, T, S> {
 
     // The index that an insertion takes: the root, or one past the last slot.
     pub(crate) fn place(&self) -> NonZeroUsize
-        requires { length (S.items self.now.stack) < 2 ^ 64 - 1 }
+        requires { self.now.root ≡ None → length (S.items self.now.stack) < 2 ^ 64 - 1 }
         ensures { (s : ArenaState T) (len : ℕ)
             → Shows P.Gen.number (S.items self.now.stack) (option_map non_zero_usize_get self.now.root) len s
             → non_zero_usize_get result ≡ place s }

@@ -24,10 +24,12 @@ returns-then-get-len-clause-shows g c raise s len shows =
     (Shows-popped g.P.Gen.PtrGen.number raise items _ (non_zero_usize_get c.args.inx) len live.0 s (omega arith) live.1 shows)
 
 pub to-requires : goal.to-requires
-to-requires g c = root_not_live g.P.Gen.PtrGen.number _ _ _ _ c.requires.shown.0 c.requires.live c.requires.shown.2
+to-requires g c =
+    root_not_live g.P.Gen.PtrGen.number (g.S.NonZeroInxGenericStack.items c.args.self.now.stack) _ (non_zero_usize_get c.args.inx) c.requires.shown.1 c.requires.shown.0 c.requires.live c.requires.shown.2
 
 pub replace-requires : goal.replace-requires
-replace-requires g c = item_live g.P.Gen.PtrGen.number _ _ c.requires.live
+replace-requires g c =
+    item_live g.P.Gen.PtrGen.number (g.S.NonZeroInxGenericStack.items c.args.self.now.stack) (non_zero_usize_get c.args.inx) c.requires.live
 
 pub into_entry-requires-2-after_bounds : goal.into_entry-requires-2-after_bounds
 into_entry-requires-2-after_bounds g c κs within =
@@ -35,7 +37,7 @@ into_entry-requires-2-after_bounds g c κs within =
 
 pub returns-clause-entry : goal.returns-clause-entry
 returns-clause-entry g c =
-    entry_item g.P.Gen.PtrGen.number _ _ c.replace.result c.replace.ensures.value ∙ c.into_entry-2.ensures
+    entry_item g.P.Gen.PtrGen.number (g.S.NonZeroInxGenericStack.items c.args.self.now.stack) (non_zero_usize_get c.args.inx) c.replace.result c.replace.ensures.value ∙ c.into_entry-2.ensures
 
 pub returns-clause-shows : goal.returns-clause-shows
 returns-clause-shows g c raise s len shows =

@@ -1,0 +1,5 @@
+pub mod NumberedLists
+pub mod WellFormed
+pub mod Links
+pub mod Tidying
+pub mod Growth

@@ -1,10 +1,10 @@
 -- How an arena lies in its slots. No public clause cites this module.
 use Rattle.std.specs.Prelude.{◌≡◌, ℕ, zero, suc, ◌<◌, ◌==◌, cond, List, [], ◌∷◌, map, length, Option, Some, None}
 use Rattle.std.specs.Int.NonZero.{non_zero_usize_get}
-use Rattle.triple_arena.specs.Numbered.{item}
+use Rattle.triple_arena.specs.Numbered.{item, with_item}
 use Rattle.triple_arena.specs.Entries.{entry_in}
 use Rattle.triple_arena.specs.ArenaState.{ArenaState, IsWellFormed, arena_len}
-use Rattle.triple_arena.specs.Slot.{entry_of}
+use Rattle.triple_arena.specs.Slot.{entry_of, with_slot_value}
 use Rattle.triple_arena.specs.declared.slot.ArenaSlot.{ArenaSlot}
 use Rattle.triple_arena.specs.declared.slot.ArenaSlot.TheVariants.{Free, Allocated}
 
@@ -52,3 +52,8 @@ module _ {P T I G : Type 0} where
   -- the generation and value that stand at an index
   abbrev pub entry_at : (G → ℕ) → List (ArenaSlot P T I G) → ℕ → Option (ℕ × T)
   entry_at number es i = entry_in (map (entry_of number) es) i
+
+  -- the slots with another value in the entry at an index
+  abbrev pub with_value_at : List (ArenaSlot P T I G) → ℕ → Option (ArenaSlot P T I G) → T → List (ArenaSlot P T I G)
+  with_value_at es i None value = es
+  with_value_at es i (Some slot) value = with_item es i (with_slot_value slot value)

@@ -8,3 +8,4 @@ pub mod FreeList
 pub mod Capacity
 pub mod Slot
 pub mod Layout
+pub mod Lends

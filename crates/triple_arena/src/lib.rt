@@ -1,10 +1,14 @@
 //! Generational arenas: values in slots, each named by the pointer that its insertion gave.
 #![tactic(auto)]
 
+mod answers;
 mod arena_insert_trait;
 mod arena_trait;
+mod base_arena;
 mod slot;
+mod slots;
 
 pub use arena_insert_trait::ArenaInsertTrait;
 pub use arena_trait::ArenaTrait;
+pub use base_arena::Arena;
 pub use slot::{ArenaSlot, FreeLink};

@@ -1,0 +1,232 @@
+-- How the free slots are put in order.
+use Rattle.std.proofs.Common.{◌≡◌, ◌≢◌, ◌⊎◌, ℕ, zero, suc, ◌+◌, ◌-◌, ◌<◌, ◌≤◌, ◌==◌, Bool, true, false, List, [], ◌∷◌, ◌++◌, map, length, get_or, drop, set, take, Option, Some, None, is_some, IsSome, count_by, cond, slice_get, refl, sym, ap, subst, ◌∙◌, inl, inr, arith, true≢false}
+use Rattle.std.proofs.lemmas.Bool.{cases_eq}
+use Rattle.std.proofs.lemmas.List.{length-map, drop_all, take-map}
+use Rattle.std.proofs.lemmas.List.Sums.{sum_by-cons}
+use Rattle.std.specs.Int.NonZero.{non_zero_usize_get}
+use Rattle.std.specs.declared.num.NonZeroUsize.{NonZeroUsize}
+use Rattle.triple_arena.specs.Numbered.{item, with_item}
+use Rattle.triple_arena.specs.ArenaState.{ArenaState, entry, is_free, IsWellFormed, arena_len, slot_count}
+use Rattle.triple_arena.specs.FreeList.{before, trimmed, gaps, tidied, IsRising, IsInOrder}
+use Rattle.triple_arena.specs.Slot.{entry_of}
+use Rattle.triple_arena.specs.Layout.{next_of, after, IsLinked, Shows}
+use Rattle.triple_arena.proofs.NumberedLists.{joined, map-with_item, eq_true, eq_false, item_at, item_within, item-with_same, item-with_other, split_last}
+use Rattle.triple_arena.specs.declared.slot.FreeLink.{FreeLink}
+use Rattle.triple_arena.specs.declared.slot.ArenaSlot.{ArenaSlot}
+use Rattle.triple_arena.specs.declared.slot.ArenaSlot.TheVariants.{Free, Allocated}
+use Rattle.triple_arena.proofs.WellFormed.{count_head, count_tail}
+use Rattle.triple_arena.proofs.Links.{item-map_some, IsLinked-off}
+
+-- the number of an index, and 0 for none
+abbrev pub number_before : Option NonZeroUsize → ℕ
+number_before None = 0
+number_before (Some inx) = non_zero_usize_get inx
+
+module _ {T : Type 0} where
+  -- a free slot at the end makes no difference
+  trimmed_push : (xs : List (Option (ℕ × T))) → trimmed (xs ++ None ∷ []) ≡ trimmed xs
+  trimmed_push [] = refl
+  trimmed_push (x ∷ xs) = ap (before x) (trimmed_push xs)
+
+  vacant_is : (o : Option (Option (ℕ × T))) → is_free o ≡ true → o ≡ Some None
+  vacant_is None e = absurd (true≢false (sym e))
+  vacant_is (Some None) e = refl
+  vacant_is (Some (Some x)) e = absurd (true≢false (sym e))
+
+  pub trimmed_popped : (xs : List (Option (ℕ × T))) → is_free (item xs (length xs)) ≡ true → trimmed (take (length xs - 1) xs) ≡ trimmed xs
+  trimmed_popped xs free =
+      let found = vacant_is (item xs (length xs)) free in
+      let within = item_within xs (length xs) None found in
+      let split = split_last xs None found in
+      sym (ap trimmed split ∙ trimmed_push (take (length xs - 1) xs))
+
+  -- with none there the slots are trimmed
+  pub trimmed_done : (xs : List (Option (ℕ × T))) → is_free (item xs (length xs)) ≡ false → trimmed xs ≡ xs
+  trimmed_done [] live = refl
+  trimmed_done (None ∷ []) live = absurd (true≢false live)
+  trimmed_done (Some e ∷ []) live = refl
+  trimmed_done (None ∷ y ∷ ys) live = ap (before None) (trimmed_done (y ∷ ys) live)
+  trimmed_done (Some e ∷ y ∷ ys) live = ap (before (Some e)) (trimmed_done (y ∷ ys) live)
+
+  before_live : (x : Option (ℕ × T)) (ys : List (Option (ℕ × T))) → count_by is_some (before x ys) ≡ cond (is_some x) 1 0 + count_by is_some ys
+  before_live (Some e) ys = sum_by-cons (λ o. cond (is_some o) 1 0) (Some e) ys
+  before_live None [] = refl
+  before_live None (y ∷ ys) = sum_by-cons (λ o. cond (is_some o) 1 0) None (y ∷ ys)
+
+  pub trimmed_live : (xs : List (Option (ℕ × T))) → count_by is_some (trimmed xs) ≡ count_by is_some xs
+  trimmed_live [] = refl
+  trimmed_live (x ∷ xs) = omega (arith, before_live x (trimmed xs), trimmed_live xs, sum_by-cons (λ o. cond (is_some o) 1 0) x xs)
+
+  before_length : (x : Option (ℕ × T)) (ys : List (Option (ℕ × T))) → length (before x ys) ≤ 1 + length ys
+  before_length (Some e) ys = omega arith
+  before_length None [] = omega arith
+  before_length None (y ∷ ys) = omega arith
+
+  pub trimmed_length : (xs : List (Option (ℕ × T))) → length (trimmed xs) ≤ length xs
+  trimmed_length [] = omega arith
+  trimmed_length (x ∷ xs) = omega (arith, before_length x (trimmed xs), trimmed_length xs)
+
+  -- the gaps are above the indexes before the first slot
+  pub gaps_above : (at : ℕ) (xs : List (Option (ℕ × T))) (k : ℕ) → k < at → count_by (λ j. j == k) (gaps at xs) ≡ 0
+  gaps_above at [] k h = refl
+  gaps_above at (None ∷ xs) k h = count_tail at k (gaps (at + 1) xs) (λ e. omega arith) ∙ gaps_above (at + 1) xs k (omega arith)
+  gaps_above at (Some e ∷ xs) k h = gaps_above (at + 1) xs k (omega arith)
+
+  -- and each is one of them once
+  gaps_once : (at : ℕ) (xs : List (Option (ℕ × T))) (k i : ℕ) → i ≡ at + k → count_by (λ j. j == i) (gaps at xs) ≡ cond (is_free (slice_get xs k)) 1 0
+  gaps_once at [] k i e = refl
+  gaps_once at (None ∷ xs) zero i e =
+      let same : i ≡ at = omega arith in
+      rw same (count_head at (gaps (at + 1) xs) ∙ ap (λ n. 1 + n) (gaps_above (at + 1) xs at (omega arith)))
+  gaps_once at (None ∷ xs) (suc k) i e = count_tail at i (gaps (at + 1) xs) (λ h. omega arith) ∙ gaps_once (at + 1) xs k i (omega arith)
+  gaps_once at (Some x ∷ xs) zero i e = gaps_above (at + 1) xs i (omega arith)
+  gaps_once at (Some x ∷ xs) (suc k) i e = gaps_once (at + 1) xs k i (omega arith)
+
+  gaps_free : (xs : List (Option (ℕ × T))) (i : ℕ) → count_by (λ j. j == i) (gaps 1 xs) ≡ cond (is_free (item xs i)) 1 0
+  gaps_free xs zero = gaps_above 1 xs 0 (omega arith)
+  gaps_free xs (suc k) = gaps_once 1 xs k (suc k) (omega arith)
+
+  gaps_total : (at : ℕ) (xs : List (Option (ℕ × T))) → count_by is_some xs + length (gaps at xs) ≡ length xs
+  gaps_total at [] = refl
+  gaps_total at (None ∷ xs) = omega (arith, gaps_total (at + 1) xs, sum_by-cons (λ o. cond (is_some o) 1 0) None xs)
+  gaps_total at (Some e ∷ xs) = omega (arith, gaps_total (at + 1) xs, sum_by-cons (λ o. cond (is_some o) 1 0) (Some e) xs)
+
+  pub IsWellFormed-tidied : (s : ArenaState T) → IsWellFormed s → IsWellFormed (tidied s)
+  IsWellFormed-tidied s well =
+      record {
+        free_once = λ i. gaps_free (trimmed s.slots) i;
+        total = gaps_total 1 (trimmed s.slots);
+        fits = omega (arith, trimmed_length s.slots, well.fits);
+      }
+
+  entry_step : (xs : List (Option (ℕ × T))) (at : ℕ) (x : Option (ℕ × T)) → item xs (at + 1) ≡ Some x → drop at xs ≡ x ∷ drop (at + 1) xs
+  entry_step [] at x found = absurd (let n : at + 1 ≡ suc at = omega arith in let h = rw n at found in cc)
+  entry_step (y ∷ xs) zero x found = let same : y ≡ x = cc in ap (λ z. z ∷ xs) same
+  entry_step (y ∷ xs) (suc at) x found =
+      let n : suc at + 1 ≡ suc (suc at) = omega arith in
+      let m : at + 1 ≡ suc at = omega arith in
+      let rest = entry_step xs at x (rw m (rw n at found)) in
+      rw n (rw m at rest)
+
+module _ {A : Type 0} where
+  set_same : (xs : List A) (k : ℕ) (x : A) → slice_get xs k ≡ Some x → set xs k x ≡ xs
+  set_same [] k x found = refl
+  set_same (y ∷ xs) zero x found = let same : y ≡ x = cc in ap (λ z. z ∷ xs) (sym same)
+  set_same (y ∷ xs) (suc k) x found = ap (λ l. y ∷ l) (set_same xs k x found)
+
+  with_item_same : (xs : List A) (i : ℕ) (x : A) → item xs i ≡ Some x → with_item xs i x ≡ xs
+  with_item_same xs zero x found = refl
+  with_item_same xs (suc k) x found = set_same xs k x found
+
+IsRising-lower : (low high : ℕ) (xs : List ℕ) → low ≤ high → IsRising high xs → IsRising low xs
+IsRising-lower low high [] h r = tt
+IsRising-lower low high (i ∷ rest) h r = (omega (arith, r.0), r.1)
+
+module _ {T : Type 0} where
+  gaps_rising : (at : ℕ) (xs : List (Option (ℕ × T))) → IsRising at (gaps at xs)
+  gaps_rising at [] = tt
+  gaps_rising at (None ∷ xs) = (omega arith, gaps_rising (at + 1) xs)
+  gaps_rising at (Some e ∷ xs) = IsRising-lower at (at + 1) (gaps (at + 1) xs) (omega arith) (gaps_rising (at + 1) xs)
+
+  before_entry : (x : Option (ℕ × T)) (ys zs : List (Option (ℕ × T))) (k : ℕ) → ((j : ℕ) → joined (slice_get ys j) ≡ joined (slice_get zs j)) → joined (slice_get (before x ys) k) ≡ joined (slice_get (x ∷ zs) k)
+  before_entry (Some e) ys zs zero same = refl
+  before_entry (Some e) ys zs (suc k) same = same k
+  before_entry None [] zs zero same = refl
+  before_entry None [] zs (suc k) same = same k
+  before_entry None (y ∷ ys) zs zero same = refl
+  before_entry None (y ∷ ys) zs (suc k) same = same k
+
+  trimmed_entry : (xs : List (Option (ℕ × T))) (k : ℕ) → joined (slice_get (trimmed xs) k) ≡ joined (slice_get xs k)
+  trimmed_entry [] k = refl
+  trimmed_entry (x ∷ xs) k = before_entry x (trimmed xs) xs k (trimmed_entry xs)
+
+  before_last : (x : Option (ℕ × T)) (ys : List (Option (ℕ × T))) → is_free (item ys (length ys)) ≡ false → is_free (item (before x ys) (length (before x ys))) ≡ false
+  before_last (Some e) [] last = refl
+  before_last (Some e) (y ∷ ys) last = last
+  before_last None [] last = refl
+  before_last None (y ∷ ys) last = last
+
+  trimmed_last : (xs : List (Option (ℕ × T))) → is_free (item (trimmed xs) (length (trimmed xs))) ≡ false
+  trimmed_last [] = refl
+  trimmed_last (x ∷ xs) = before_last x (trimmed xs) (trimmed_last xs)
+
+  pub IsInOrder-tidied : (s : ArenaState T) → IsInOrder s (tidied s)
+  IsInOrder-tidied s = record { entries = by_index; ends_live = trimmed_last s.slots; rising = gaps_rising 1 (trimmed s.slots) }
+    where
+      by_index : (i : ℕ) → entry (tidied s) i ≡ entry s i
+      by_index zero = refl
+      by_index (suc k) = trimmed_entry s.slots k
+
+module _ {P T I G : Type 0} (number : G → ℕ) where
+  -- the slots from `at` on link in rising order
+  pub record LinkedFrom (old now : List (ArenaSlot P T I G)) (at : ℕ) (root : Option ℕ) : Type 0 where
+    pub same : map (entry_of number) now ≡ map (entry_of number) old
+    pub linked : IsLinked now root (gaps (at + 1) (drop at (map (entry_of number) old)))
+
+  -- a slot with no entry is free
+  pub free_slot : (e : ArenaSlot P T I G) → is_some (entry_of number e) ≡ false → (link : FreeLink) × (e ≡ Free link)
+  free_slot (Free link) none = (link, refl)
+  free_slot (Allocated g v) none = absurd (true≢false none)
+
+  -- the root is no index at or before `at`
+  pub root_past : (es : List (ArenaSlot P T I G)) (from : Option ℕ) (at : ℕ) (xs : List (Option (ℕ × T))) (i : ℕ) → i < at → IsLinked es from (gaps at xs) → from ≢ Some i
+  root_past es from at xs i h linked = by_gaps (gaps at xs) (gaps_above at xs i h) linked
+    where
+      by_gaps : (free : List ℕ) → count_by (λ j. j == i) free ≡ 0 → IsLinked es from free → from ≢ Some i
+      by_gaps [] none linked e = absurd (cc)
+      by_gaps (j ∷ rest) none linked e =
+          let same : j ≡ i = cc (linked.0) in
+          absurd (omega (arith, none, count_head i rest, ap (λ m. count_by (λ k. k == i) (m ∷ rest)) same))
+
+  -- the slots link as before where the one at hand has an entry
+  pub LinkedFrom-live : (old es : List (ArenaSlot P T I G)) (i at : ℕ) (root : Option ℕ) (e : ArenaSlot P T I G) → i ≡ at + 1 → LinkedFrom old es i root → item es i ≡ Some e → is_some (entry_of number e) ≡ true → LinkedFrom old es at root
+  LinkedFrom-live old es i at root e here l found live = by_entry (entry_of number e) refl live
+    where
+      by_entry : (o : Option (ℕ × T)) → entry_of number e ≡ o → is_some o ≡ true → LinkedFrom old es at root
+      by_entry None is some = absurd (true≢false (sym some))
+      by_entry (Some v) is some =
+          let there : item (map (entry_of number) old) (at + 1) ≡ Some (Some v) = ap (item (map (entry_of number) old)) (sym here) ∙ ap (λ xs. item xs i) (sym l.same) ∙ item-map_some (entry_of number) es i e found ∙ ap Some is in
+          record {
+            same = l.same;
+            linked = rw (entry_step (map (entry_of number) old) at (Some v) there) (rw here at l.linked);
+          }
+
+  -- a free slot links to what was the root, and is the root from then on
+  pub LinkedFrom-free : (old es es1 : List (ArenaSlot P T I G)) (i at : ℕ) (root : Option ℕ) (e : ArenaSlot P T I G) (link : FreeLink) → i ≡ at + 1 → LinkedFrom old es i root → item es i ≡ Some e → is_some (entry_of number e) ≡ false → cond (non_zero_usize_get link.next == i) None (Some (non_zero_usize_get link.next)) ≡ root → es1 ≡ with_item es i (Free link) → LinkedFrom old es1 at (Some i)
+  LinkedFrom-free old es es1 i at root e link here l found none links written =
+      let is = (free_slot e none).1 in
+      let within = item_within es i e found in
+      let vacant : item (map (entry_of number) es) i ≡ Some None = item-map_some (entry_of number) es i e found ∙ ap (λ x. Some (entry_of number x)) is in
+      let there : item (map (entry_of number) old) (at + 1) ≡ Some None = ap (item (map (entry_of number) old)) (sym here) ∙ ap (λ xs. item xs i) (sym l.same) ∙ vacant in
+      let next : after (with_item es i (Free link)) i ≡ root = rw (item-with_same es i (Free link) within.0 within.1) links in
+      let rest : IsLinked es root (gaps (i + 1) (drop i (map (entry_of number) old))) = l.linked in
+      let kept : IsLinked (with_item es i (Free link)) root (gaps (i + 1) (drop i (map (entry_of number) old))) = IsLinked-off es (with_item es i (Free link)) i root _ (λ j other. item-with_other es i j (Free link) other) (gaps_above (i + 1) (drop i (map (entry_of number) old)) i (omega arith)) rest in
+      rw written (record {
+        same = map-with_item (entry_of number) es i (Free link) ∙ with_item_same (map (entry_of number) es) i None vacant ∙ l.same;
+        linked = rw (entry_step (map (entry_of number) old) at None there) (ap Some here, rw (← here) (rw next kept));
+      })
+
+  pub LinkedFrom-start : (es : List (ArenaSlot P T I G)) → LinkedFrom es es (length es) None
+  LinkedFrom-start es =
+      record { same = refl; linked = rw (drop_all (length es) (map (entry_of number) es) (omega (arith, length-map es (entry_of number)))) refl }
+
+  pub LinkedFrom-done : (old es : List (ArenaSlot P T I G)) (at : ℕ) (root : Option ℕ) → at ≡ 0 → LinkedFrom old es at root → IsLinked es root (gaps 1 (map (entry_of number) old))
+  LinkedFrom-done old es at root none l = rw none at l.linked
+
+  pub LinkedFrom-root : (old es : List (ArenaSlot P T I G)) (i : ℕ) (root : Option ℕ) → LinkedFrom old es i root → root ≢ Some i
+  LinkedFrom-root old es i root l = root_past es root (i + 1) (drop i (map (entry_of number) old)) i (omega arith) l.linked
+
+  -- the slots end with the last entry, and their free ones link in rising order
+  pub Shows-tidied : (old es es1 : List (ArenaSlot P T I G)) (root root1 : Option ℕ) (len : ℕ) (s : ArenaState T) → map (entry_of number) es ≡ trimmed (map (entry_of number) old) → map (entry_of number) es1 ≡ map (entry_of number) es → IsLinked es1 root1 (gaps 1 (map (entry_of number) es)) → Shows number old root len s → Shows number es1 root1 len (tidied s)
+  Shows-tidied old es es1 root root1 len s cut same linked shows =
+      let is : map (entry_of number) es ≡ trimmed s.slots = cut ∙ ap trimmed shows.slots in
+      record {
+        slots = same ∙ is;
+        linked = rw is at linked;
+        counted = shows.counted ∙ sym (trimmed_live s.slots);
+        well = IsWellFormed-tidied s shows.well;
+      }
+
+  pub trimmed_popped_slot : (es : List (ArenaSlot P T I G)) → is_free (item (map (entry_of number) es) (length (map (entry_of number) es))) ≡ true → trimmed (map (entry_of number) (take (length es - 1) es)) ≡ trimmed (map (entry_of number) es)
+  trimmed_popped_slot es free =
+      ap trimmed (sym (take-map (entry_of number) (length es - 1) es) ∙ ap (λ n. take (n - 1) (map (entry_of number) es)) (sym (length-map es (entry_of number)))) ∙ trimmed_popped (map (entry_of number) es) free

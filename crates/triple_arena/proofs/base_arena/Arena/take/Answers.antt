@@ -1,0 +1,31 @@
+use Rattle.std.proofs.Common.{◌≡◌, ◌∙◌, IsSome, sym, ap, subst}
+use Rattle.std.specs.Int.NonZero.{non_zero_usize_get}
+use Rattle.triple_arena_ptr.specs.Numbers.{raise}
+use Rattle.triple_arena.specs.ArenaState.{entry}
+use Rattle.triple_arena.specs.Ending.{removed}
+use Rattle.triple_arena.proofs.WellFormed.{counter-removed, room-removed, limit-removed, greatest-removed}
+use Rattle.triple_arena.proofs.Links.{live_len, carried}
+use Rattle.triple_arena.proofs.base_arena.Arena.take.Goals as goal
+
+pub overflow_sub-self : goal.overflow_sub-self
+overflow_sub-self g c =
+    let live = subst (λ s. IsSome (entry s (non_zero_usize_get c.args.inx))) (sym c.self.view_is) c.requires in
+    live_len g.P.Gen.PtrGen.number (g.S.NonZeroInxGenericStack.items c.self.inside.slots.stack) _ (non_zero_usize_get c.args.inx) _ _ live c.self.invariant
+
+pub invariant_of-self : goal.invariant_of-self
+invariant_of-self g c =
+    (carried g.P.Gen.PtrGen.number _ _ _ _ _ _ _ _ _ _ _ _ _ c.args.self.now (removed (raise g.P.Gen.PtrGen.counting g.P.Gen.PtrGen.greatest) c.args.self.now (non_zero_usize_get c.args.inx)) c.self.invariant c.self.view_is
+    (c.vacate-taken.ensures.shows (raise g.P.Gen.PtrGen.counting g.P.Gen.PtrGen.greatest) c.args.self.now c.self.inside.len)
+    (c.generational_inc-counter.ensures.raised ∙ ap (λ s. raise g.P.Gen.PtrGen.counting g.P.Gen.PtrGen.greatest s.counter) c.self.view_is ∙ sym (counter-removed (raise g.P.Gen.PtrGen.counting g.P.Gen.PtrGen.greatest) c.args.self.now (non_zero_usize_get c.args.inx)))
+    (c.vacate-taken.ensures.room ∙ ap (λ s. s.room) c.self.view_is ∙ sym (room-removed (raise g.P.Gen.PtrGen.counting g.P.Gen.PtrGen.greatest) c.args.self.now (non_zero_usize_get c.args.inx)))
+    (c.vacate-taken.ensures.limit ∙ ap (λ s. s.limit) c.self.view_is ∙ sym (limit-removed (raise g.P.Gen.PtrGen.counting g.P.Gen.PtrGen.greatest) c.args.self.now (non_zero_usize_get c.args.inx)))
+    (ap (λ s. s.greatest) c.self.view_is ∙ sym (greatest-removed (raise g.P.Gen.PtrGen.counting g.P.Gen.PtrGen.greatest) c.args.self.now (non_zero_usize_get c.args.inx)))).0
+
+pub returns-clause-state : goal.returns-clause-state
+returns-clause-state g c =
+    (carried g.P.Gen.PtrGen.number _ _ _ _ _ _ _ _ _ _ _ _ _ c.args.self.now (removed (raise g.P.Gen.PtrGen.counting g.P.Gen.PtrGen.greatest) c.args.self.now (non_zero_usize_get c.args.inx)) c.self.invariant c.self.view_is
+    (c.vacate-taken.ensures.shows (raise g.P.Gen.PtrGen.counting g.P.Gen.PtrGen.greatest) c.args.self.now c.self.inside.len)
+    (c.generational_inc-counter.ensures.raised ∙ ap (λ s. raise g.P.Gen.PtrGen.counting g.P.Gen.PtrGen.greatest s.counter) c.self.view_is ∙ sym (counter-removed (raise g.P.Gen.PtrGen.counting g.P.Gen.PtrGen.greatest) c.args.self.now (non_zero_usize_get c.args.inx)))
+    (c.vacate-taken.ensures.room ∙ ap (λ s. s.room) c.self.view_is ∙ sym (room-removed (raise g.P.Gen.PtrGen.counting g.P.Gen.PtrGen.greatest) c.args.self.now (non_zero_usize_get c.args.inx)))
+    (c.vacate-taken.ensures.limit ∙ ap (λ s. s.limit) c.self.view_is ∙ sym (limit-removed (raise g.P.Gen.PtrGen.counting g.P.Gen.PtrGen.greatest) c.args.self.now (non_zero_usize_get c.args.inx)))
+    (ap (λ s. s.greatest) c.self.view_is ∙ sym (greatest-removed (raise g.P.Gen.PtrGen.counting g.P.Gen.PtrGen.greatest) c.args.self.now (non_zero_usize_get c.args.inx)))).1

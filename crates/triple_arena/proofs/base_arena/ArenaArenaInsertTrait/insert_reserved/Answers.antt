@@ -1,0 +1,25 @@
+use Rattle.std.proofs.Common.{◌≡◌, ◌∙◌, sym, ap}
+use Rattle.triple_arena.specs.Insertion.{inserted}
+use Rattle.triple_arena.proofs.WellFormed.{kept-inserted}
+use Rattle.triple_arena.proofs.Links.{carried}
+use Rattle.triple_arena.proofs.base_arena.ArenaArenaInsertTrait.insert_reserved.Goals as goal
+
+pub invariant_of-self : goal.invariant_of-self
+invariant_of-self g c =
+    let kept = kept-inserted c.args.self.now c.args.t in
+    (carried g.P.Gen.PtrGen.number _ _ _ _ _ _ _ _ _ _ _ _ _ c.args.self.now (inserted c.args.self.now c.args.t) c.self.invariant c.self.view_is
+    (λ shows. c.occupy.ensures.shows c.args.self.now c.self.inside.len shows c.requires (ap (λ s. s.counter) c.self.view_is))
+    (ap (λ s. s.counter) c.self.view_is ∙ sym kept.0)
+    (c.occupy.ensures.room ∙ ap (λ s. s.room) c.self.view_is ∙ sym kept.1)
+    (c.occupy.ensures.limit ∙ ap (λ s. s.limit) c.self.view_is ∙ sym kept.2)
+    (ap (λ s. s.greatest) c.self.view_is ∙ sym kept.3)).0
+
+pub returns-clause-inserted : goal.returns-clause-inserted
+returns-clause-inserted g c =
+    let kept = kept-inserted c.args.self.now c.args.t in
+    (carried g.P.Gen.PtrGen.number _ _ _ _ _ _ _ _ _ _ _ _ _ c.args.self.now (inserted c.args.self.now c.args.t) c.self.invariant c.self.view_is
+    (λ shows. c.occupy.ensures.shows c.args.self.now c.self.inside.len shows c.requires (ap (λ s. s.counter) c.self.view_is))
+    (ap (λ s. s.counter) c.self.view_is ∙ sym kept.0)
+    (c.occupy.ensures.room ∙ ap (λ s. s.room) c.self.view_is ∙ sym kept.1)
+    (c.occupy.ensures.limit ∙ ap (λ s. s.limit) c.self.view_is ∙ sym kept.2)
+    (ap (λ s. s.greatest) c.self.view_is ∙ sym kept.3)).1

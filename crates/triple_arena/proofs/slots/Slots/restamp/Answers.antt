@@ -1,0 +1,16 @@
+use Rattle.std.proofs.Common.{◌≡◌, ◌∙◌, Some, sym}
+use Rattle.std.specs.Int.NonZero.{non_zero_usize_get}
+use Rattle.triple_arena.proofs.NumberedLists.{item_at, with_item_at}
+use Rattle.triple_arena.proofs.Links.{entry_item, Shows-stamped}
+use Rattle.triple_arena.proofs.slots.Slots.restamp.Goals as goal
+
+pub set_generation-requires-after_bounds : goal.set_generation-requires-after_bounds
+set_generation-requires-after_bounds g c κs within =
+    let found = item_at _ _ c.args.inx.ok ∙ sym (rw c.unwrap-slot.ensures at c.get_mut.ensures.value) in
+    rw (← entry_item g.P.Gen.PtrGen.number (g.S.NonZeroInxGenericStack.items c.args.self.now.stack) (non_zero_usize_get c.args.inx) c.unwrap-slot.result.now found) c.requires
+
+pub returns-clause-shows : goal.returns-clause-shows
+returns-clause-shows g c s len shows =
+    let found = item_at _ _ c.args.inx.ok ∙ sym (rw c.unwrap-slot.ensures at c.get_mut.ensures.value) in
+    rw (g.met.S.NonZeroInxGenericStack.items_with_items, ← with_item_at (g.S.NonZeroInxGenericStack.items c.args.self.now.stack) (non_zero_usize_get c.args.inx) c.set_generation.new.self c.args.inx.ok, c.set_generation.ensures)
+    (Shows-stamped g.P.Gen.PtrGen.number _ _ _ len c.args.generation _ s found c.requires shows)

@@ -1,0 +1,458 @@
+//! The arena.
+
+ghost use Rattle.std.specs.Prelude.{◌≡◌, ℕ, ◌≤◌, ◌<◌, ◌+◌, ◌==◌, ◌↔◌, ◌≢◌, cond, false, List, [], map, length, is_some, IsSome, IfSome, IsOk, IfOk, OnOk, OnErr, MatchOption, Some, None, Err, IsTrue, slice_get, option_copied, min, ◌*◌, ◌^◌};
+ghost use Rattle.std.specs.Int.NonZero.{non_zero_usize_get};
+ghost use Rattle.std.specs.Option.{option_map, option_and_then};
+ghost use Rattle.triple_arena_ptr.specs.Numbers.{greatest_index, raise, wraps, first_generation};
+ghost use Rattle.triple_arena_stack.specs.Capacity.{capacity_of, IsWithin, IsBeyond, IsAtLimit};
+ghost use Rattle.triple_arena_stack.specs.StackKind.{IsOfKind};
+ghost use Rattle.triple_arena.specs.Pointers.{numbers};
+ghost use Rattle.triple_arena.specs.ArenaState.{ArenaState, new_arena, capacity, arena_len, entry, look_up, with_value, IsWellFormed};
+ghost use Rattle.triple_arena.specs.Insertion.{next_pointer, inserted};
+ghost use Rattle.triple_arena.specs.Ending.{removed, invalidated, cleared, told};
+ghost use Rattle.triple_arena.specs.FreeList.{tidied, IsInOrder};
+ghost use Rattle.triple_arena.specs.Capacity.{with_room_for, reallocated, KeepsRoom, next_capacity, grown, IsFullAtLimit};
+ghost use Rattle.triple_arena.specs.Slot.{entry_of};
+
+use crate::answers::{told, told_valid};
+use crate::arena_insert_trait::ArenaInsertTrait;
+use crate::arena_trait::ArenaTrait;
+use crate::slot::ArenaSlot;
+use crate::slots::Slots;
+use std::alloc::Global;
+use std::marker::Model;
+use std::num::NonZeroUsize;
+use triple_arena_base::{AllocError, InvalidationOption, InvalidationResult, ReallocationError};
+use triple_arena_ptr::{Ptr, PtrGen, PtrInx};
+use triple_arena_stack::{NonZeroInxGenericStack, NonZeroInxVec};
+
+/// A generational arena over a stack of slots.
+///
+/// Each insertion gives the new entry a pointer whose generation is the arena's counter, and each
+/// ending of an entry raises the counter, so that no pointer that was given names a later entry until
+/// the counter wraps; the calls that raise it tell of a wrap.
+///
+/// Insertion takes the index that was freed last, and where none is free the one past the last slot.
+/// `get`, `get_mut`, removal, and insertion within the capacity touch a constant number of slots and
+/// take no memory.
+#[derive(Drop)]
+pub struct Arena<
+    P: Ptr,
+    T,
+    S: NonZeroInxGenericStack<ArenaSlot<P, T>> = NonZeroInxVec<ArenaSlot<P, T>>,
+> {
+    slots: Slots<P, T, S>,
+    // How many entries there are.
+    len: usize,
+    // The generation of the next entry.
+    counter: P::Gen,
+}
+
+impl<P: Ptr, T, S: NonZeroInxGenericStack<ArenaSlot<P, T>>> Model for Arena<P, T, S> {
+    ghost use Rattle.triple_arena.specs.ArenaState.{ArenaState};
+
+    ghost Value = { ArenaState T };
+
+    ghost use Rattle.std.specs.Int.NonZero.{non_zero_usize_get};
+    ghost use Rattle.std.specs.Option.{option_map};
+    ghost use Rattle.triple_arena_ptr.specs.Numbers.{greatest_index};
+    ghost use Rattle.triple_arena.specs.Layout.{state_of, Shows};
+
+    ghost view = { λ a. state_of P.Gen.number (S.items a.slots.stack) (option_map non_zero_usize_get a.slots.root) (P.Gen.number a.counter) (S.room a.slots.stack) (S.limit a.slots.stack) (greatest_index P.Inx.greatest) };
+
+    ghost invariant = { λ a. Shows P.Gen.number (S.items a.slots.stack) (option_map non_zero_usize_get a.slots.root) a.len (state_of P.Gen.number (S.items a.slots.stack) (option_map non_zero_usize_get a.slots.root) (P.Gen.number a.counter) (S.room a.slots.stack) (S.limit a.slots.stack) (greatest_index P.Inx.greatest)) };
+}
+
+impl<P: Ptr, T, S: NonZeroInxGenericStack<ArenaSlot<P, T>>> ArenaTrait<P, T> for Arena<P, T, S> {
+    ghost use Rattle.std.specs.Prelude.{refl};
+
+    ghost slots = { λ s. s.slots };
+
+    ghost fitting = { capacity };
+
+    ghost limit = { λ s. s.limit };
+
+    ghost kind = { S.kind };
+
+    ghost fresh = { λ room limit. new_arena room limit (greatest_index P.Inx.greatest) (first_generation P.Gen.counting) };
+
+    ghost next_generation = { λ s. Some s.counter };
+
+    ghost with_value = { with_value };
+
+    ghost invalidates = { λ old i new. new ≡ invalidated (raise P.Gen.counting P.Gen.greatest) old i };
+
+    ghost renewed = { λ s _. raise P.Gen.counting P.Gen.greatest s.counter };
+
+    ghost removes = { λ old i new. new ≡ removed (raise P.Gen.counting P.Gen.greatest) old i };
+
+    ghost ending_wraps = { λ s. wraps P.Gen.counting P.Gen.greatest s.counter };
+
+    ghost clears = { λ old new. new ≡ cleared (raise P.Gen.counting P.Gen.greatest) old };
+
+    ghost clearing_wraps = { λ s. cond (arena_len s == 0) false (wraps P.Gen.counting P.Gen.greatest s.counter) };
+
+    ghost reallocates = { λ old m new. new ≡ reallocated S.kind old m };
+
+    ghost settles = { λ old _ new. new ≡ tidied old };
+
+    ghost keeps_room = { KeepsRoom S.kind };
+
+    fn new(alloc: Global) -> Self {
+        Arena::over(S::new(alloc))
+    }
+
+    fn with_min_capacity(alloc: Global, min_capacity: usize) -> Result<Self, AllocError> {
+        if min_capacity > P::Inx::max_index().get() {
+            return Err(AllocError);
+        }
+        match S::with_min_capacity(alloc, min_capacity) {
+            Ok(stack) => Ok(Arena::over(stack)),
+            Err(refusal) => Err(refusal),
+        }
+    }
+
+    fn capacity(&self) -> usize
+        ensures value { result ≡ capacity self.now }
+        ensures fits { length self.now.slots ≤ result }
+        ensures indexed { result ≤ greatest_index P.Inx.greatest }
+        ensures allowed { IsWithin self.now.limit result }
+        ensures greatest { self.now.greatest ≡ greatest_index P.Inx.greatest }
+    {
+        self.slots.capacity().min(P::Inx::max_index().get())
+    }
+
+    fn max_capacity(&self) -> Option<usize> {
+        self.slots.max_capacity()
+    }
+
+    fn reallocate_min_capacity(&mut self, min_capacity: usize) -> Result<(), ReallocationError> {
+        self.canonicalize_freelist();
+        if min_capacity > P::Inx::max_index().get() {
+            return Err(ReallocationError::AllocError);
+        }
+        self.reallocate(min_capacity)
+    }
+
+    fn len(&self) -> usize
+        ensures value { result ≡ arena_len self.now }
+        ensures well_formed { IsWellFormed self.now }
+    {
+        self.len
+    }
+
+    fn singular_generation(&self) -> Option<P::Gen> {
+        Some(self.counter)
+    }
+
+    fn get(&self, p: P) -> Option<&T> {
+        match self.slot(p.inx()) {
+            Some(slot) => slot.value_under(p.generation()),
+            None => None,
+        }
+    }
+
+    fn get_mut(&mut self, p: P) -> Option<&mut T> {
+        match self.find(p) {
+            Some(inx) => Some(self.slots.value_mut(inx)),
+            None => None,
+        }
+    }
+
+    fn get_inx(&self, inx: P::Inx) -> Option<(P::Gen, &T)> {
+        match self.slot(inx) {
+            Some(slot) => slot.entry(),
+            None => None,
+        }
+    }
+
+    fn generation_at(&self, inx: P::Inx) -> Option<P::Gen> {
+        let (generation, _value) = self.get_inx(inx)?;
+        Some(generation)
+    }
+
+    fn get_inx_mut(&mut self, inx: P::Inx) -> Option<&mut T> {
+        match self.find_inx(inx) {
+            Some(inx) => Some(self.slots.value_mut(inx)),
+            None => None,
+        }
+    }
+
+    fn find_first_inx_ptr(&self) -> Option<P> {
+        let inx = self.slots.first_live()?;
+        Some(self.ptr_at(inx))
+    }
+
+    fn find_last_inx_ptr(&self) -> Option<P> {
+        let inx = self.slots.last_live()?;
+        Some(self.ptr_at(inx))
+    }
+
+    fn invalidate(&mut self, p: P) -> InvalidationResult<P> {
+        let Some(inx) = self.find(p) else {
+            return InvalidationResult::InvalidPtr;
+        };
+        let (counter, wrapped) = P::Gen::generational_inc(self.counter);
+        self.slots.restamp(inx, counter);
+        self.counter = counter;
+        told_valid(wrapped, P::_from_raw(p.inx(), counter))
+    }
+
+    fn remove(&mut self, p: P) -> InvalidationResult<T> {
+        let Some(inx) = self.find(p) else {
+            return InvalidationResult::InvalidPtr;
+        };
+        let ((_generation, value), wrapped) = self.take(inx);
+        told_valid(wrapped, value)
+    }
+
+    fn remove_inx(&mut self, inx: P::Inx) -> InvalidationResult<(P::Gen, T)> {
+        let Some(inx) = self.find_inx(inx) else {
+            return InvalidationResult::InvalidPtr;
+        };
+        let (taken, wrapped) = self.take(inx);
+        told_valid(wrapped, taken)
+    }
+
+    fn clear(&mut self) -> InvalidationOption<()>
+    where
+        T: Drop,
+    {
+        let is_empty = self.len == 0;
+        self.slots.clear();
+        self.len = 0;
+        if is_empty {
+            return InvalidationOption::Success(());
+        }
+        let (counter, wrapped) = P::Gen::generational_inc(self.counter);
+        self.counter = counter;
+        told(wrapped, ())
+    }
+
+    ghost slots_fresh = { λ _ _. refl };
+
+    ghost limit_fresh = { λ _ _. refl };
+
+    ghost fitting_fresh = { λ _ _. refl };
+
+    ghost slots_with_value = { λ _ _ _. refl };
+
+    ghost limit_with_value = { λ _ _ _. refl };
+
+    ghost fitting_with_value = { λ _ _ _. refl };
+}
+
+impl<P: Ptr, T, S: NonZeroInxGenericStack<ArenaSlot<P, T>>> ArenaInsertTrait<P, T>
+    for Arena<P, T, S> {
+    ghost next = { next_pointer };
+
+    ghost inserted = { inserted };
+
+    ghost grown = { grown S.kind };
+
+    fn next_ptr(&self) -> P {
+        let inx = self.slots.place();
+        P::_from_raw(P::Inx::try_from_usize(inx).unwrap(), self.counter)
+    }
+
+    fn insert_reserved(&mut self, t: T) -> P {
+        let p = self.next_ptr();
+        self.slots.occupy(self.counter, t);
+        self.len += 1;
+        p
+    }
+
+    fn insert_reallocating(&mut self, t: T) -> Result<P, ReallocationError>
+    where
+        T: Drop,
+    {
+        self.grow_if_full()?;
+        Ok(self.insert_reserved(t))
+    }
+}
+
+impl<P: Ptr, T, S: NonZeroInxGenericStack<ArenaSlot<P, T>>> Arena<P, T, S> {
+    /// The counter: the generation of the next entry.
+    pub fn generation(&self) -> P::Gen
+        ensures { P.Gen.number result ≡ self.now.counter }
+    {
+        self.counter
+    }
+
+    /// Sets the counter. Pointers that were given before may come to name later entries.
+    pub fn set_generation(&mut self, generation: P::Gen)
+        ensures { self.new ≡ record self.old { counter = P.Gen.number generation } }
+    {
+        self.counter = generation;
+    }
+
+    /// Raises the counter.
+    pub fn inc_generation(&mut self) -> InvalidationOption<()>
+        ensures answer { result ≡ told (wraps P.Gen.counting P.Gen.greatest self.old.counter) tt }
+        ensures state { self.new ≡ record self.old { counter = raise P.Gen.counting P.Gen.greatest self.old.counter } }
+    {
+        let (counter, wrapped) = P::Gen::generational_inc(self.counter);
+        self.counter = counter;
+        told(wrapped, ())
+    }
+
+    /// Gives up the free slots past the last entry, and puts the other free indexes in rising order.
+    pub fn canonicalize_freelist(&mut self)
+        ensures state { self.new ≡ tidied self.old }
+        ensures in_order { IsInOrder self.old self.new }
+    {
+        self.slots.tidy();
+    }
+
+    /// The free index that the next insertion takes, if any is free.
+    pub fn freelist_root(&self) -> Option<P::Inx>
+        ensures { option_map P.Inx.number result ≡ slice_get self.now.free 0 }
+    {
+        P::Inx::try_from_usize(self.slots.root?)
+    }
+
+    /// The stack of the slots.
+    pub fn backing(&self) -> &S
+        ensures slots { map (entry_of P.Gen.number) (S.items result.now) ≡ self.now.slots }
+        ensures room { S.room result.now ≡ self.now.room }
+        ensures limit { S.limit result.now ≡ self.now.limit }
+    {
+        &self.slots.stack
+    }
+
+    // An arena over a stack that has no item.
+    fn over(stack: S) -> Self
+        requires { S.items stack ≡ [] }
+        ensures { result ≡ new_arena (S.room stack) (S.limit stack) (greatest_index P.Inx.greatest) (first_generation P.Gen.counting) }
+    {
+        Arena {
+            slots: Slots::over(stack),
+            len: 0,
+            counter: P::Gen::two(),
+        }
+    }
+
+    // The slot of an index, if there is one.
+    fn slot(&self, inx: P::Inx) -> Option<&ArenaSlot<P, T>>
+        ensures entry { option_and_then (entry_of P.Gen.number) (option_copied result)
+            ≡ entry self.now (P.Inx.number inx) }
+        ensures within { IsSome (entry self.now (P.Inx.number inx))
+            → P.Inx.number inx ≤ greatest_index P.Inx.greatest }
+    {
+        let slots = &self.slots;
+        match P::Inx::try_into_usize(inx) {
+            Some(inx) => slots.get(inx),
+            None => None,
+        }
+    }
+
+    // The index of a pointer, if the pointer is valid.
+    fn find(&self, p: P) -> Option<NonZeroUsize>
+        ensures index { IfSome result (λ inx. non_zero_usize_get inx ≡ P.Inx.number (P.index_of p)) }
+        ensures live { is_some result ≡ is_some (look_up self.now
+            (numbers P.Inx.number P.Gen.number P.index_of P.generation_of p)) }
+    {
+        match self.slot(p.inx()) {
+            Some(slot) if slot.value_under(p.generation()).is_some() => {
+                P::Inx::try_into_usize(p.inx())
+            }
+            _ => None,
+        }
+    }
+
+    // An index, if an entry stands there.
+    fn find_inx(&self, inx: P::Inx) -> Option<NonZeroUsize>
+        ensures index { IfSome result (λ i. non_zero_usize_get i ≡ P.Inx.number inx) }
+        ensures live { is_some result ≡ is_some (entry self.now (P.Inx.number inx)) }
+    {
+        match self.slot(inx) {
+            Some(slot) if slot.is_live() => P::Inx::try_into_usize(inx),
+            _ => None,
+        }
+    }
+
+    // The pointer of the entry at an index.
+    fn ptr_at(&self, inx: NonZeroUsize) -> P
+        requires { IsSome (entry self.now (non_zero_usize_get inx)) }
+        ensures { (h : ℕ) × (v : T) × (entry self.now (non_zero_usize_get inx) ≡ Some (h, v)) × (numbers P.Inx.number P.Gen.number P.index_of P.generation_of result ≡ (non_zero_usize_get inx, h)) }
+    {
+        let (generation, _value) = self.slots.get(inx).unwrap().entry().unwrap();
+        P::_from_raw(P::Inx::try_from_usize(inx).unwrap(), generation)
+    }
+
+    // Takes out the entry at an index, and tells whether the counter wrapped.
+    fn take(&mut self, inx: NonZeroUsize) -> ((P::Gen, T), bool)
+        requires { IsSome (entry self.old (non_zero_usize_get inx)) }
+        ensures entry { entry self.old (non_zero_usize_get inx) ≡ Some (P.Gen.number result.0.0, result.0.1) }
+        ensures wrapped { result.1 ≡ wraps P.Gen.counting P.Gen.greatest self.old.counter }
+        ensures state { self.new ≡ removed (raise P.Gen.counting P.Gen.greatest) self.old (non_zero_usize_get inx) }
+    {
+        let taken = self.slots.vacate(inx);
+        self.len -= 1;
+        let (counter, wrapped) = P::Gen::generational_inc(self.counter);
+        self.counter = counter;
+        (taken, wrapped)
+    }
+
+    // Reallocates the stack, and leaves the slots as they are.
+    fn reallocate(&mut self, min_capacity: usize) -> Result<(), ReallocationError>
+        ensures done { OnOk result (self.new ≡ with_room_for S.kind self.old min_capacity) }
+        ensures refused { OnErr result (self.new ≡ self.old) }
+        ensures within { OnOk result (IsWithin self.old.limit min_capacity) }
+        ensures beyond { (result ≡ Err ReallocationError.BeyondMaxCapacity) ↔ IsBeyond self.old.limit min_capacity }
+        ensures succeeds { IsWithin self.old.limit min_capacity → (with_room_for S.kind self.old min_capacity).room ≡ self.old.room → IsOk result }
+    {
+        self.slots.reallocate(min_capacity)?;
+        Ok(())
+    }
+
+    // Grows where there are as many entries as the capacity.
+    fn grow_if_full(&mut self) -> Result<(), ReallocationError>
+        ensures done { OnOk result (self.new ≡ grown S.kind self.old) }
+        ensures refused { OnErr result (self.new ≡ self.old) }
+        ensures has_place { OnOk result (arena_len self.new < capacity self.new) }
+        ensures beyond { (result ≡ Err ReallocationError.BeyondMaxCapacity) ↔ IsFullAtLimit (capacity self.old) self.old.limit (arena_len self.old) }
+        ensures indexed { OnOk result (arena_len self.old ≡ capacity self.old → capacity self.old < greatest_index P.Inx.greatest) }
+        ensures had_place { arena_len self.old < capacity self.old → IsOk result }
+    {
+        let capacity = self.capacity();
+        if self.len < capacity {
+            return Ok(());
+        }
+        let limit = self.slots.max_capacity();
+        if is_at_limit(limit, capacity) {
+            return Err(ReallocationError::BeyondMaxCapacity);
+        }
+        let greatest = P::Inx::max_index().get();
+        if capacity == greatest {
+            return Err(ReallocationError::AllocError);
+        }
+        self.reallocate(grown_capacity(capacity, limit, greatest))
+    }
+}
+
+// Whether the limit, if there is one, is reached at this capacity.
+fn is_at_limit(limit: Option<usize>, capacity: usize) -> bool
+    ensures { IsTrue result ↔ IsAtLimit limit capacity }
+{
+    match limit {
+        Some(most) => most <= capacity,
+        None => false,
+    }
+}
+
+// The capacity that a full arena grows to.
+fn grown_capacity(capacity: usize, limit: Option<usize>, greatest: usize) -> usize
+    requires { greatest < 2 ^ 64 }
+    ensures { result ≡ min (capacity_of (cond (capacity == 0) 4 (capacity * 2)) limit) greatest }
+{
+    let next = if capacity == 0 {
+        4
+    } else {
+        capacity.saturating_mul(2)
+    };
+    match limit {
+        Some(most) => next.min(most).min(greatest),
+        None => next.min(greatest),
+    }
+}

@@ -1,0 +1,278 @@
+//! The slots of an arena, and the free list that runs through them.
+
+ghost use Rattle.std.specs.Prelude.{◌≡◌, ◌≢◌, ◌<◌, ◌≤◌, ◌+◌, ◌-◌, ◌^◌, ◌==◌, ◌↔◌, ℕ, List, [], ◌∷◌, ◌++◌, map, length, take, Option, Some, None, IsSome, IsOk, IfOk, IfSome, OnOk, OnErr, Err, IsTrue, MatchOption, min, option_copied};
+ghost use Rattle.std.specs.Borrow.{sem, Lends};
+ghost use Rattle.std.specs.Int.NonZero.{non_zero_usize_get};
+ghost use Rattle.std.specs.Option.{option_map};
+ghost use Rattle.triple_arena_stack.specs.StackKind.{reallocated_room, IsOfKind};
+ghost use Rattle.triple_arena_stack.specs.Capacity.{capacity_of, IsWithin, IsBeyond};
+ghost use Rattle.triple_arena.specs.Numbered.{item, with_item};
+ghost use Rattle.triple_arena.specs.ArenaState.{ArenaState, arena_len, capacity, with_value, is_free};
+ghost use Rattle.triple_arena.specs.Insertion.{place, inserted};
+ghost use Rattle.triple_arena.specs.Ending.{removed};
+ghost use Rattle.triple_arena.specs.Entries.{with_generation_in};
+ghost use Rattle.triple_arena.specs.FreeList.{trimmed, gaps};
+ghost use Rattle.triple_arena.specs.Slot.{entry_of};
+ghost use Rattle.triple_arena.specs.Layout.{Shows, IsLinked, entry_at};
+
+use crate::slot::{ArenaSlot, FreeLink};
+use std::marker::PhantomData;
+use std::mem;
+use std::num::NonZeroUsize;
+use triple_arena_base::ReallocationError;
+use triple_arena_ptr::{Ptr, PtrGen};
+use triple_arena_stack::NonZeroInxGenericStack;
+
+/// The slots of an arena. Each free one links to the next, beginning at the root.
+///
+/// No other type reads, writes, pushes or pops a slot. The clauses speak of the arena states that the
+/// slots show, together with the number of entries, which the arena counts.
+#[derive(Drop)]
+pub(crate) struct Slots<P: Ptr, T, S: NonZeroInxGenericStack<ArenaSlot<P, T>>> {
+    pub(crate) stack: S,
+    // The first free slot, if there is one.
+    pub(crate) root: Option<NonZeroUsize>,
+    of: PhantomData<ArenaSlot<P, T>>,
+}
+
+impl<P: Ptr, T, S: NonZeroInxGenericStack<ArenaSlot<P, T>>> Slots<P, T, S> {
+    ghost use Rattle.triple_arena.specs.Lends.{lends_slot_value};
+
+    // The slots of a stack that has none.
+    pub(crate) fn over(stack: S) -> Self
+        ensures stack { result.stack ≡ stack }
+        ensures root { result.root ≡ None }
+    {
+        Slots {
+            stack,
+            root: None,
+            of: PhantomData,
+        }
+    }
+
+    // The slot of an index, if there is one.
+    pub(crate) fn get(&self, inx: NonZeroUsize) -> Option<&ArenaSlot<P, T>>
+        ensures { option_copied result ≡ item (S.items self.now.stack) (non_zero_usize_get inx) }
+    {
+        self.stack.get(inx)
+    }
+
+    // The value of the entry at an index, for writing.
+    pub(crate) fn value_mut(&mut self, inx: NonZeroUsize) -> &mut T
+        requires { IsSome (entry_at P.Gen.number (S.items self.old.stack) (non_zero_usize_get inx)) }
+        ensures* writes_back { sem 𝓛 (lends_slot_value P.row T.row S.row P.Inx.row P.Gen.row S.items S.with_items self.entry (non_zero_usize_get inx) result) }
+        ensures value { option_map (λ e. e.1) (entry_at P.Gen.number (S.items self.old.stack) (non_zero_usize_get inx)) ≡ Some result.now }
+    {
+        let slot = self.stack.get_mut(inx).unwrap();
+        slot.value_mut()
+    }
+
+    // Puts another generation on the entry at an index.
+    pub(crate) fn restamp(&mut self, inx: NonZeroUsize, generation: P::Gen)
+        requires { IsSome (entry_at P.Gen.number (S.items self.old.stack) (non_zero_usize_get inx)) }
+        ensures shows { (s : ArenaState T) (len : ℕ)
+            → Shows P.Gen.number (S.items self.old.stack) (option_map non_zero_usize_get self.old.root) len s
+            → Shows P.Gen.number (S.items self.new.stack) (option_map non_zero_usize_get self.new.root) len
+            (record s { slots = with_generation_in s.slots (non_zero_usize_get inx) (P.Gen.number generation) }) }
+        ensures room { S.room self.new.stack ≡ S.room self.old.stack }
+        ensures limit { S.limit self.new.stack ≡ S.limit self.old.stack }
+    {
+        let slot = self.stack.get_mut(inx).unwrap();
+        slot.set_generation(generation);
+    }
+
+    // The index that an insertion takes: the root, or one past the last slot.
+    pub(crate) fn place(&self) -> NonZeroUsize
+        requires { self.now.root ≡ None → length (S.items self.now.stack) < 2 ^ 64 - 1 }
+        ensures { (s : ArenaState T) (len : ℕ)
+            → Shows P.Gen.number (S.items self.now.stack) (option_map non_zero_usize_get self.now.root) len s
+            → non_zero_usize_get result ≡ place s }
+    {
+        match self.root {
+            Some(inx) => inx,
+            None => NonZeroUsize::MIN.saturating_add(self.stack.len()),
+        }
+    }
+
+    // Puts an entry at the place of an insertion.
+    pub(crate) fn occupy(&mut self, generation: P::Gen, value: T)
+        requires { (s : ArenaState T) × (len : ℕ)
+            × Shows P.Gen.number (S.items self.old.stack) (option_map non_zero_usize_get self.old.root) len s
+            × (arena_len s < capacity_of (S.room self.old.stack) (S.limit self.old.stack)) }
+        ensures shows { (s : ArenaState T) (len : ℕ)
+            → Shows P.Gen.number (S.items self.old.stack) (option_map non_zero_usize_get self.old.root) len s
+            → arena_len s < capacity s → P.Gen.number generation ≡ s.counter
+            → Shows P.Gen.number (S.items self.new.stack) (option_map non_zero_usize_get self.new.root) (len + 1)
+            (inserted s value) }
+        ensures room { S.room self.new.stack ≡ S.room self.old.stack }
+        ensures limit { S.limit self.new.stack ≡ S.limit self.old.stack }
+    {
+        let slot = ArenaSlot::Allocated(generation, value);
+        match self.root {
+            None => {
+                self.stack.push_reserved(slot);
+            }
+            Some(inx) => {
+                let link = replace(&mut self.stack, inx, slot).into_link();
+                self.root = link.after(inx);
+            }
+        }
+    }
+
+    // Takes out the entry at an index: the last slot goes, and any other becomes the first free one.
+    pub(crate) fn vacate(&mut self, inx: NonZeroUsize) -> (P::Gen, T)
+        requires live { IsSome (entry_at P.Gen.number (S.items self.old.stack) (non_zero_usize_get inx)) }
+        requires shown { (s : ArenaState T) × (len : ℕ)
+            × Shows P.Gen.number (S.items self.old.stack) (option_map non_zero_usize_get self.old.root) len s }
+        ensures entry { entry_at P.Gen.number (S.items self.old.stack) (non_zero_usize_get inx)
+            ≡ Some (P.Gen.number result.0, result.1) }
+        ensures shows { (raise : ℕ → ℕ) (s : ArenaState T) (len : ℕ)
+            → Shows P.Gen.number (S.items self.old.stack) (option_map non_zero_usize_get self.old.root) len s
+            → Shows P.Gen.number (S.items self.new.stack) (option_map non_zero_usize_get self.new.root) (len - 1)
+            (removed raise s (non_zero_usize_get inx)) }
+        ensures room { S.room self.new.stack ≡ S.room self.old.stack }
+        ensures limit { S.limit self.new.stack ≡ S.limit self.old.stack }
+    {
+        if inx.get() == self.stack.len() {
+            return self.stack.pop().unwrap().into_entry();
+        }
+        let slot = ArenaSlot::Free(FreeLink::to(self.root, inx));
+        self.root = Some(inx);
+        replace(&mut self.stack, inx, slot).into_entry()
+    }
+
+    // Drops all slots.
+    pub(crate) fn clear(&mut self)
+    where
+        T: Drop,
+        ensures items { S.items self.new.stack ≡ [] }
+        ensures root { self.new.root ≡ None }
+        ensures room { S.room self.new.stack ≡ S.room self.old.stack }
+        ensures limit { S.limit self.new.stack ≡ S.limit self.old.stack }
+    {
+        self.stack.clear();
+        self.root = None;
+    }
+
+    // How many slots there may be without growth, the indexes aside.
+    pub(crate) fn capacity(&self) -> usize
+        ensures value { result ≡ capacity_of (S.room self.now.stack) (S.limit self.now.stack) }
+        ensures within { length (S.items self.now.stack) ≤ result }
+    {
+        self.stack.capacity()
+    }
+
+    // The limit of the stack, if there is one.
+    pub(crate) fn max_capacity(&self) -> Option<usize>
+        ensures value { result ≡ S.limit self.now.stack }
+        ensures of_kind { IsOfKind S.kind (S.room self.now.stack) (S.limit self.now.stack) }
+    {
+        self.stack.max_capacity()
+    }
+
+    // Reallocates the stack, and leaves the slots as they are.
+    pub(crate) fn reallocate(&mut self, min_capacity: usize) -> Result<(), ReallocationError>
+        ensures items { S.items self.new.stack ≡ S.items self.old.stack }
+        ensures root { self.new.root ≡ self.old.root }
+        ensures limit { S.limit self.new.stack ≡ S.limit self.old.stack }
+        ensures room { OnOk result (S.room self.new.stack ≡ reallocated_room S.kind (S.room self.old.stack) (length (S.items self.old.stack)) min_capacity) }
+        ensures refused { OnErr result (S.room self.new.stack ≡ S.room self.old.stack) }
+        ensures within { OnOk result (IsWithin (S.limit self.old.stack) min_capacity) }
+        ensures beyond { (result ≡ Err ReallocationError.BeyondMaxCapacity) ↔ IsBeyond (S.limit self.old.stack) min_capacity }
+        ensures succeeds { IsWithin (S.limit self.old.stack) min_capacity → reallocated_room S.kind (S.room self.old.stack) (length (S.items self.old.stack)) min_capacity ≡ S.room self.old.stack → IsOk result }
+    {
+        self.stack.reallocate_min_capacity(min_capacity)
+    }
+
+    // Pops the free slots at the end, and links the others in rising order.
+    pub(crate) fn tidy(&mut self)
+        ensures slots { map (entry_of P.Gen.number) (S.items self.new.stack) ≡ trimmed (map (entry_of P.Gen.number) (S.items self.old.stack)) }
+        ensures linked { IsLinked (S.items self.new.stack) (option_map non_zero_usize_get self.new.root) (gaps 1 (trimmed (map (entry_of P.Gen.number) (S.items self.old.stack)))) }
+        ensures room { S.room self.new.stack ≡ S.room self.old.stack }
+        ensures limit { S.limit self.new.stack ≡ S.limit self.old.stack }
+    {
+        pop_free_end(&mut self.stack);
+        self.root = relink(&mut self.stack);
+    }
+
+    // The least index of an entry, if there is one.
+    pub(crate) fn first_live(&self) -> Option<NonZeroUsize>
+        ensures { MatchOption result ((i : ℕ) → entry_at P.Gen.number (S.items self.now.stack) i ≡ None) (λ inx. IsSome (entry_at P.Gen.number (S.items self.now.stack) (non_zero_usize_get inx)) × ((i : ℕ) → i < non_zero_usize_get inx → entry_at P.Gen.number (S.items self.now.stack) i ≡ None)) }
+    {
+        let slots = self.stack.as_slice();
+        for at in 0..slots.len() {
+            if slots[at].is_live() {
+                return Some(NonZeroUsize::MIN.saturating_add(at));
+            }
+        }
+        None
+    }
+
+    // The greatest index of an entry, if there is one.
+    pub(crate) fn last_live(&self) -> Option<NonZeroUsize>
+        ensures { MatchOption result ((i : ℕ) → entry_at P.Gen.number (S.items self.now.stack) i ≡ None) (λ inx. IsSome (entry_at P.Gen.number (S.items self.now.stack) (non_zero_usize_get inx)) × ((i : ℕ) → non_zero_usize_get inx < i → entry_at P.Gen.number (S.items self.now.stack) i ≡ None)) }
+    {
+        let slots = self.stack.as_slice();
+        let mut at = slots.len();
+        while at > 0 {
+            at -= 1;
+            if slots[at].is_live() {
+                return Some(NonZeroUsize::MIN.saturating_add(at));
+            }
+        }
+        None
+    }
+}
+
+// Puts an item in the place of the one at an index, which it gives.
+fn replace<X, S: NonZeroInxGenericStack<X>>(stack: &mut S, inx: NonZeroUsize, x: X) -> X
+    requires { IsSome (item (S.items stack.old) (non_zero_usize_get inx)) }
+    ensures value { item (S.items stack.old) (non_zero_usize_get inx) ≡ Some result }
+    ensures stack { stack.new ≡ S.with_items stack.old (with_item (S.items stack.old) (non_zero_usize_get inx) x) }
+{
+    let slot = stack.get_mut(inx).unwrap();
+    mem::replace(slot, x)
+}
+
+// Whether the last slot is free.
+fn has_free_end<P: Ptr, T, S: NonZeroInxGenericStack<ArenaSlot<P, T>>>(stack: &S) -> bool
+    ensures { result ≡ is_free (item (map (entry_of P.Gen.number) (S.items stack.now)) (length (map (entry_of P.Gen.number) (S.items stack.now)))) }
+{
+    match stack.as_slice().last() {
+        Some(slot) => !slot.is_live(),
+        None => false,
+    }
+}
+
+// Pops the free slots at the end.
+fn pop_free_end<P: Ptr, T, S: NonZeroInxGenericStack<ArenaSlot<P, T>>>(stack: &mut S)
+    ensures slots { map (entry_of P.Gen.number) (S.items stack.new) ≡ trimmed (map (entry_of P.Gen.number) (S.items stack.old)) }
+    ensures room { S.room stack.new ≡ S.room stack.old }
+    ensures limit { S.limit stack.new ≡ S.limit stack.old }
+{
+    'pops: while has_free_end(stack) {
+        stack.pop().unwrap().into_link();
+    }
+}
+
+// Links the free slots in rising order, and gives the index of the first.
+fn relink<P: Ptr, T, S: NonZeroInxGenericStack<ArenaSlot<P, T>>>(
+    stack: &mut S,
+) -> Option<NonZeroUsize>
+    ensures slots { map (entry_of P.Gen.number) (S.items stack.new) ≡ map (entry_of P.Gen.number) (S.items stack.old) }
+    ensures linked { IsLinked (S.items stack.new) (option_map non_zero_usize_get result) (gaps 1 (map (entry_of P.Gen.number) (S.items stack.old))) }
+    ensures room { S.room stack.new ≡ S.room stack.old }
+    ensures limit { S.limit stack.new ≡ S.limit stack.old }
+{
+    let mut root = None;
+    let mut next = NonZeroUsize::new(stack.len());
+    'links: while let Some(inx) = next {
+        if !stack.get(inx).unwrap().is_live() {
+            let slot = stack.get_mut(inx).unwrap();
+            slot.set_link(FreeLink::to(root, inx));
+            root = Some(inx);
+        }
+        next = NonZeroUsize::new(inx.get() - 1);
+    }
+    root
+}

@@ -1,9 +1,3 @@
-pub mod Numbered
-pub mod Pointers
-pub mod ArenaState
-pub mod ArenaLayout
-pub mod Insertion
-pub mod Ending
 pub mod SessionState
 pub mod SessionLayout
 pub mod SessionRun

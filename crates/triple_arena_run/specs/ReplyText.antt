@@ -3,7 +3,7 @@ use Rattle.std.specs.Prelude.{ℕ, Bool, false, List, [], ◌∷◌, ◌++◌, O
 use Rattle.std.specs.Fmt.{decimal}
 use Rattle.std.specs.List.{flat_map}
 use Rattle.triple_arena_run.specs.declared.reply.Reply.{Reply}
-use Rattle.triple_arena_run.specs.declared.reply.Reply.TheVariants.{Given, NoMemory, Found, Nothing, Removed, Invalid, BadName}
+use Rattle.triple_arena_run.specs.declared.reply.Reply.TheVariants.{Given, BeyondMaxCapacity, NoMemory, Found, Nothing, Removed, Invalid, BadName}
 
 -- whether a reply tells that the counter wrapped.
 abbrev pub tells_of_wrap : {X : Type 0} → Reply X → Bool
@@ -21,6 +21,7 @@ wrapped_text wrapped = if wrapped then codes " wrapped" else []
 
 abbrev pub reply_text : Reply ℕ → List ℕ
 reply_text (Given name wrapped) = codes "given " ++ decimal name ++ wrapped_text wrapped
+reply_text BeyondMaxCapacity = codes "beyond max capacity"
 reply_text NoMemory = codes "no memory"
 reply_text (Found datum link) = codes "found " ++ decimal datum ++ codes " " ++ link_text link
 reply_text Nothing = codes "nothing"

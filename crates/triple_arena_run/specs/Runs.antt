@@ -1,5 +1,5 @@
 -- Commands one after another.
-use Rattle.std.specs.Prelude.{◌≡◌, true, false, List, [], ◌∷◌, ◌++◌, All}
+use Rattle.std.specs.Prelude.{◌≡◌, true, false, List, [], ◌∷◌, ◌++◌, length, take, ◌⊎◌, All}
 use Rattle.triple_arena_run.specs.declared.reply.Reply.{Reply}
 use Rattle.triple_arena_run.specs.ReplyText.{tells_of_wrap}
 
@@ -18,3 +18,8 @@ module _ {X : Type 0} where
   -- the last reply tells of a wrap, and no other does.
   abbrev pub EndsInWrap : List (Reply X) → Type 0
   EndsInWrap replies = (before : List (Reply X)) × (last : Reply X) × (replies ≡ before ++ last ∷ []) × TellsOfNoWrap before × (tells_of_wrap last ≡ true)
+
+-- the first commands ran, one reply each: all of them and no reply told of a wrap, or those up to the first wrap
+abbrev pub RunsToWrap : {S C X : Type 0} → (S → C → Reply X → S → Type 0) → S → List C → List (Reply X) → S → Type 0
+RunsToWrap Step s commands replies t =
+    IsRun Step s (take (length replies) commands) replies t × ((TellsOfNoWrap replies × (length replies ≡ length commands)) ⊎ EndsInWrap replies)

@@ -1,39 +1,67 @@
 -- What each command makes of a session, and what is replied.
-use Rattle.std.specs.Prelude.{◌≡◌, ℕ, ◌+◌, Bool, false, List, [], ◌∷◌, ◌++◌, length, Option, Some, None, IsSome}
-use Rattle.std.specs.Option.{option_map}
+use Rattle.std.specs.Prelude.{◌≡◌, ℕ, ◌+◌, ◌≤◌, ◌==◌, nat_le, ◌⊎◌, Bool, false, cond, List, [], ◌∷◌, ◌++◌, length, Option, Some, None, IsSome}
+use Rattle.triple_arena_base.specs.declared.errors.ReallocationError.{ReallocationError}
+use Rattle.triple_arena_base.specs.declared.errors.ReallocationError.TheVariants as refused
 use Rattle.triple_arena_ptr.specs.Numbers.{raise, wraps}
+use Rattle.triple_arena_stack.specs.StackKind.{StackKind}
+use Rattle.triple_arena_stack.specs.Capacity.{room_for_one_more}
+use Rattle.triple_arena.specs.Numbered.{item}
+use Rattle.triple_arena.specs.Pointers.{Pointer}
+use Rattle.triple_arena.specs.ArenaState.{ArenaState, arena_len, capacity, look_up}
+use Rattle.triple_arena.specs.Insertion.{inserted, next_pointer}
+use Rattle.triple_arena.specs.Capacity.{grown}
+use Rattle.triple_arena.specs.Ending.{removed}
 use Rattle.triple_arena_run.specs.declared.command.Command.{Command}
 use Rattle.triple_arena_run.specs.declared.command.Command.TheVariants.{Insert, Get, Remove}
 use Rattle.triple_arena_run.specs.declared.reply.Reply.{Reply}
-use Rattle.triple_arena_run.specs.declared.reply.Reply.TheVariants.{Given, NoMemory, Found, Nothing, Removed, Invalid, BadName}
-use Rattle.triple_arena_run.specs.Numbered.{item}
-use Rattle.triple_arena_run.specs.Pointers.{Pointer}
-use Rattle.triple_arena_run.specs.ArenaState.{look_up}
-use Rattle.triple_arena_run.specs.Insertion.{inserted, next_pointer}
-use Rattle.triple_arena_run.specs.Ending.{removed}
-use Rattle.triple_arena_run.specs.SessionState.{SessionState, link_name, named}
+use Rattle.triple_arena_run.specs.declared.reply.Reply.TheVariants.{Given, BeyondMaxCapacity, NoMemory, Found, Nothing, Removed, Invalid, BadName}
+use Rattle.triple_arena_run.specs.SessionState.{SessionState, link_name, link_pointer, named}
 
--- the pointer of a link that is given as a name or as none: a bad link, to a name that was never given, has none
-abbrev pub link_pointer : List Pointer → Option ℕ → Option (Option Pointer)
-link_pointer table None = Some None
-link_pointer table (Some name) = option_map Some (item table name)
+-- whether there is a limit, and it is at or below this capacity
+abbrev pub is_at_limit : Option ℕ → ℕ → Bool
+is_at_limit None capacity = false
+is_at_limit (Some most) capacity = nat_le most capacity
+
+-- why an arena cannot take one more entry whatever memory there is: it is full, and its limit is reached, or else its
+-- indexes are all taken
+abbrev pub refusal : {T : Type 0} → ArenaState T → Option ReallocationError
+refusal s =
+    cond (arena_len s == capacity s)
+    (cond (is_at_limit s.limit (capacity s)) (Some refused.BeyondMaxCapacity) (cond (capacity s == s.greatest) (Some refused.AllocError) None))
+    None
 
 module _ {X : Type 0} where
-  -- the session with a new name: the datum stands in the arena with its link, and its pointer last in the table
-  abbrev pub with_name : SessionState X → X → Option Pointer → SessionState X
-  with_name s datum link = record { arena = inserted s.arena (datum, link); table = s.table ++ next_pointer s.arena ∷ [] }
-
-  -- insertion with the pointer of its link, if the link is good
-  abbrev pub insert_answer : SessionState X → X → Option (Option Pointer) → Reply X × SessionState X
-  insert_answer s datum (Some link) = (Given (length s.table + 1) false, with_name s datum link)
-  insert_answer s datum None = (BadName, s)
+  -- the reply to an insertion that is refused so
+  abbrev pub refused_reply : ReallocationError → Reply X
+  refused_reply refused.BeyondMaxCapacity = BeyondMaxCapacity
+  refused_reply refused.AllocError = NoMemory
 
   -- the reply to a look-up of what stands under a name, if the name is live
   abbrev pub get_reply : SessionState X → Option (X × Option Pointer) → Reply X
   get_reply s (Some node) = Found node.0 (link_name s.table node.1)
   get_reply s None = Nothing
 
-module _ {X : Type 0} (counting : Bool) (greatest : ℕ) where
+module _ {X : Type 0} (kind : StackKind) (counting : Bool) (greatest : ℕ) where
+  -- the session with a new name: the datum stands in the arena with its link, and its pointer last in the table; what was
+  -- full has grown first
+  abbrev pub with_name : SessionState X → X → Option Pointer → SessionState X
+  with_name s datum link =
+      record {
+        arena = inserted (grown kind s.arena) (datum, link);
+        table = s.table ++ next_pointer s.arena ∷ [];
+        table_room = room_for_one_more s.table_room None (length s.table);
+      }
+
+  -- insertion with a good link, where nothing or something stands against it
+  abbrev pub insert_unless : Option ReallocationError → SessionState X → X → Option Pointer → Reply X × SessionState X
+  insert_unless (Some why) s datum link = (refused_reply why, s)
+  insert_unless None s datum link = (Given (length s.table + 1) false, with_name s datum link)
+
+  -- insertion with the pointer of its link, if the link is good
+  abbrev pub insert_answer : SessionState X → X → Option (Option Pointer) → Reply X × SessionState X
+  insert_answer s datum (Some link) = insert_unless (refusal s.arena) s datum link
+  insert_answer s datum None = (BadName, s)
+
   -- removal of what stands under a pointer, if it is live; the reply tells whether the counter wraps
   abbrev pub remove_under : SessionState X → Pointer → Option (X × Option Pointer) → Reply X × SessionState X
   remove_under s p (Some node) = (
@@ -53,13 +81,19 @@ module _ {X : Type 0} (counting : Bool) (greatest : ℕ) where
   answer s (Get name) = (get_reply s (named s name), s)
   answer s (Remove name) = remove_answer s (item s.table name)
 
-  -- an insertion with a good link, which alone may want memory
+  -- memory may be refused to an insertion with a good link that nothing stands against, where the table has no room for
+  -- one more pointer, or the arena no place for one more entry
   abbrev pub MayWantMemory : SessionState X → Command X → Type 0
-  MayWantMemory s (Insert datum link) = IsSome (link_pointer s.table link)
+  MayWantMemory s (Insert datum link) =
+      IsSome (link_pointer s.table link) × (refusal s.arena ≡ None) × ((s.table_room ≤ length s.table) ⊎ (arena_len s.arena ≡ capacity s.arena))
   MayWantMemory s (Get name) = ⊥
   MayWantMemory s (Remove name) = ⊥
 
-  -- a command, its reply and the session after it: the answer, or a refusal for want of memory, which changes nothing
+  -- all stays, but that the table may have grown
+  abbrev pub StaysButRoom : SessionState X → SessionState X → Type 0
+  StaysButRoom s t = (t ≡ s) ⊎ (t ≡ record s { table_room = room_for_one_more s.table_room None (length s.table) })
+
+  -- a command, its reply and the session after it: the answer, or a refusal for want of memory
   abbrev pub IsStep : SessionState X → Command X → Reply X → SessionState X → Type 0
-  IsStep s command NoMemory t = MayWantMemory s command × (t ≡ s)
+  IsStep s command NoMemory t = ((NoMemory, t) ≡ answer s command) ⊎ (MayWantMemory s command × StaysButRoom s t)
   IsStep s command reply t = (reply, t) ≡ answer s command

@@ -10,7 +10,9 @@ use std::fmt;
 pub enum Reply<X> {
     /// A new name.
     Given(usize, bool),
-    /// There was no memory, and nothing has changed.
+    /// The arena's limit is reached, and nothing has changed.
+    BeyondMaxCapacity,
+    /// There was no memory, or no index, and nothing has changed.
     NoMemory,
     /// The datum and the link under a name.
     Found(X, Option<usize>),
@@ -48,6 +50,7 @@ impl fmt::Display for Reply<u64> {
                 let wrapped = Wrapped(*wrapped);
                 write!(f, "given {name}{wrapped}")
             }
+            Reply::BeyondMaxCapacity => f.write_str("beyond max capacity"),
             Reply::NoMemory => f.write_str("no memory"),
             Reply::Found(datum, link) => {
                 let link = Link(*link);

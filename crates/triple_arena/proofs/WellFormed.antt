@@ -10,7 +10,7 @@ use Rattle.triple_arena.proofs.NumberedLists.{joined, item_nil, eq_true, eq_fals
 use Rattle.std.specs.Option.{option_and_then, option_map}
 use Rattle.triple_arena.specs.Numbered.{item, with_item}
 use Rattle.triple_arena.specs.Pointers.{Pointer}
-use Rattle.triple_arena.specs.Entries.{value_under, with_value_in, with_generation_in}
+use Rattle.triple_arena.specs.Entries.{look_up_in, entry_in, value_under, with_value_in, with_generation_in}
 use Rattle.triple_arena.specs.ArenaState.{ArenaState, new_arena, capacity, entry, look_up, slot_count, arena_len, is_free, IsWellFormed}
 use Rattle.triple_arena.specs.Insertion.{place_among, place, inserted_among, inserted}
 use Rattle.triple_arena.specs.Ending.{removed, invalidated}
@@ -231,8 +231,8 @@ module _ {T : Type 0} where
           (within.0, omega (arith, within.1, well.fits))
 
   -- a valid pointer is that of an entry, and finds its value
-  pub live_entry : (s : ArenaState T) (p : Pointer) → is_some (look_up s p) ≡ true → is_some (entry s p.0) ≡ true
-  live_entry s p live = by_entry (entry s p.0) live
+  pub live_entry : (xs : List (Option (ℕ × T))) (p : Pointer) → is_some (look_up_in xs p) ≡ true → is_some (entry_in xs p.0) ≡ true
+  live_entry xs p live = by_entry (entry_in xs p.0) live
     where
       by_entry : (o : Option (ℕ × T)) → is_some (option_and_then (value_under p.1) o) ≡ true → is_some o ≡ true
       by_entry None some = some

@@ -31,10 +31,10 @@ links-preserved g c =
             LinkedFrom-free g.P.Gen.PtrGen.number _ items _ inx _ _ c.unwrap.result.now w.to.result here linked found (sym c.is_live.ensures ∙ w.if-not-is_live.true) w.to.ensures written,
           )
       | else-not-is_live w ↦ rw (w.stack-is, w.root-is, next) (
-          c.links.invariant.0,
-          c.links.invariant.1,
-          c.links.invariant.2,
-          omega (arith, below),
-          LinkedFrom-live g.P.Gen.PtrGen.number _ items inx _ _ c.unwrap.result.now here linked found (sym c.is_live.ensures ∙ w.if-not-is_live.false),
-        )
+        c.links.invariant.0,
+        c.links.invariant.1,
+        c.links.invariant.2,
+        omega (arith, below),
+        LinkedFrom-live g.P.Gen.PtrGen.number _ items inx _ _ c.unwrap.result.now here linked found (sym c.is_live.ensures ∙ w.if-not-is_live.false),
+      )
     ]

@@ -1,9 +1,9 @@
 -- How the slots, and the links in them, follow each change of an arena.
-use Rattle.std.proofs.Common.{◌≡◌, ◌≢◌, ◌⊎◌, ℕ, zero, suc, ◌+◌, ◌-◌, ◌<◌, ◌≤◌, ◌==◌, Bool, true, false, List, [], ◌∷◌, ◌++◌, map, length, get_or, set, take, Option, Some, None, is_some, IsSome, count_by, cond, slice_get, refl, sym, ap, subst, ◌∙◌, inl, inr, arith, true≢false, IfSome, ◌↔◌}
+use Rattle.std.proofs.Common.{◌≡◌, ◌≢◌, ◌⊎◌, ℕ, zero, suc, ◌+◌, ◌-◌, ◌<◌, ◌≤◌, ◌==◌, Bool, true, false, List, [], ◌∷◌, ◌++◌, map, length, get_or, set, take, Option, Some, None, is_some, IsSome, count_by, cond, slice_get, refl, sym, ap, subst, ◌∙◌, inl, inr, arith, true≢false, IfSome, ◌↔◌, not}
 use Rattle.std.proofs.lemmas.Bool.{cases_eq}
 use Rattle.std.proofs.lemmas.List.{length-take-le, length-set, length-map, length_push, map-set, map_push, take-map}
 use Rattle.std.proofs.lemmas.List.Sums.{sum_by-set, sum_by_push, sum_by-cons}
-use Rattle.std.proofs.lemmas.Option.{some_pair_parts, slice_get-map, slice_get_read}
+use Rattle.std.proofs.lemmas.Option.{some_pair_parts, slice_get-map, slice_get_read, slice_get_within}
 use Rattle.std.specs.Int.NonZero.{non_zero_usize_get}
 use Rattle.std.specs.Option.{option_and_then, option_map}
 use Rattle.triple_arena.specs.Numbered.{item, with_item}
@@ -16,8 +16,8 @@ use Rattle.triple_arena.specs.Layout.{entry_at, next_of, after, chain, state_of,
 use Rattle.triple_arena.specs.declared.slot.FreeLink.{FreeLink}
 use Rattle.triple_arena.specs.declared.slot.ArenaSlot.{ArenaSlot}
 use Rattle.triple_arena.specs.declared.slot.ArenaSlot.TheVariants.{Free, Allocated}
-use Rattle.triple_arena.proofs.NumberedLists.{joined, map-with_item, with_item_at, item_at, eq_true, eq_false, item_within, item_past, item-with_same, item-with_other, item-push_same, item-push_other, length-with_item, split_last}
-use Rattle.triple_arena.proofs.WellFormed.{with_entry, with_value_is, with_generation_is, entry_of_value, value_of_entry, live_counted, count_head, count_tail, first_free, live_item, live_not_free, count-with_item, IsWellFormed-inserted, IsWellFormed-removed, IsWellFormed-with_entry, IsWellFormed-counter, IsWellFormed-empty}
+use Rattle.triple_arena.proofs.NumberedLists.{joined, item_last, map-with_item, with_item_at, item_at, eq_true, eq_false, item_within, item_past, item-with_same, item-with_other, item-push_same, item-push_other, length-with_item, split_last}
+use Rattle.triple_arena.proofs.WellFormed.{with_entry, is_free_not, with_value_is, with_generation_is, entry_of_value, value_of_entry, live_counted, count_head, count_tail, first_free, live_item, live_not_free, count-with_item, IsWellFormed-inserted, IsWellFormed-removed, IsWellFormed-with_entry, IsWellFormed-counter, IsWellFormed-empty}
 
 module _ {A B : Type 0} (f : A → B) where
   pub item-map_some : (xs : List A) (i : ℕ) (x : A) → item xs i ≡ Some x → item (map f xs) i ≡ Some (f x)
@@ -320,6 +320,70 @@ module _ {P T I G : Type 0} where
     -- where no slot is free, one more fits before the greatest index
     pub one_more : (es : List (ArenaSlot P T I G)) (root : Option ℕ) (len : ℕ) (s : ArenaState T) → root ≡ None → Shows number es root len s → arena_len s < capacity s → length es < s.greatest
     one_more es root len s at_root shows room = omega (arith, full_at_none number es root len s at_root shows, room)
+
+    -- the arena after a write through a borrow of a value
+    pub lent : (es es' : List (ArenaSlot P T I G)) (root : Option ℕ) (len counter room room' : ℕ) (limit limit' : Option ℕ) (greatest : ℕ) (s : ArenaState T) (i : ℕ) (w : T) → Shows number es root len (state_of number es root counter room limit greatest) → state_of number es root counter room limit greatest ≡ s → IsSome (entry_at number es i) → es' ≡ with_value_at es i (item es i) w → room' ≡ room → limit' ≡ limit → Shows number es' root len (state_of number es' root counter room' limit' greatest) × (state_of number es' root counter room' limit' greatest ≡ with_value s i w)
+    lent es es' root len counter room room' limit limit' greatest s i w own is live written r l =
+        carried es es' root root len len counter counter room room' limit limit' greatest s (with_value s i w) own is (λ shows. rw written (Shows-with_value es root i len w s live shows)) (ap (λ t. t.counter) is) (r ∙ ap (λ t. t.room) is) (l ∙ ap (λ t. t.limit) is) (ap (λ t. t.greatest) is)
+
+    -- the entry of a slot that is read at a place
+    pub entry_here : (es xs : List (ArenaSlot P T I G)) (at : ℕ) (e : ArenaSlot P T I G) → xs ≡ es → at < length xs → e ≡ get_or xs at e → entry_at number es (at + 1) ≡ entry_of number e
+    entry_here es xs at e same within read =
+        let place : at + 1 - 1 ≡ at = omega arith in
+        let found : item xs (at + 1) ≡ Some e = item_at xs (at + 1) (omega arith) ∙ ap (slice_get xs) place ∙ slice_get_read xs (length xs) at e refl within read in
+        entry_item es (at + 1) e (ap (λ ys. item ys (at + 1)) (sym same) ∙ found)
+
+    pub none_everywhere : (es : List (ArenaSlot P T I G)) (n : ℕ) → length es ≤ n → ((i : ℕ) → i ≤ n → entry_at number es i ≡ None) → (i : ℕ) → entry_at number es i ≡ None
+    none_everywhere es n size below i = by_item (item es i) refl
+      where
+        by_item : (o : Option (ArenaSlot P T I G)) → item es i ≡ o → entry_at number es i ≡ None
+        by_item None h = entry_read es i None h
+        by_item (Some e) h = below i (omega (arith, (item_within es i e h).1, size))
+
+    pub none_above_zero : (es : List (ArenaSlot P T I G)) → ((i : ℕ) → 0 < i → entry_at number es i ≡ None) → (i : ℕ) → entry_at number es i ≡ None
+    none_above_zero es above i = by_item (item es i) refl
+      where
+        by_item : (o : Option (ArenaSlot P T I G)) → item es i ≡ o → entry_at number es i ≡ None
+        by_item None h = entry_read es i None h
+        by_item (Some e) h = above i (item_within es i e h).0
+
+    -- one index more without an entry
+    pub none_up_to : (es : List (ArenaSlot P T I G)) (at : ℕ) → ((i : ℕ) → i ≤ at → entry_at number es i ≡ None) → entry_at number es (at + 1) ≡ None → (i : ℕ) → i ≤ at + 1 → entry_at number es i ≡ None
+    none_up_to es at below here i within =
+        elim (cases_eq i (at + 1)) [
+          | inl same ↦ ap (entry_at number es) same ∙ here
+          | inr other ↦ below i (omega arith)
+        ]
+
+    pub none_from : (es : List (ArenaSlot P T I G)) (at : ℕ) → ((i : ℕ) → at < i → entry_at number es i ≡ None) → entry_at number es at ≡ None → (i : ℕ) → at - 1 < i → entry_at number es i ≡ None
+    none_from es at above here i within =
+        elim (cases_eq i at) [
+          | inl same ↦ ap (entry_at number es) same ∙ here
+          | inr other ↦ above i (omega arith)
+        ]
+
+    -- whether the last slot is free, by what is read there
+    pub free_end : (es xs : List (ArenaSlot P T I G)) (at : ℕ) (e : ArenaSlot P T I G) → xs ≡ es → at + 1 ≡ length xs → e ≡ get_or xs at e → is_free (item (map (entry_of number) es) (length (map (entry_of number) es))) ≡ not (is_some (entry_of number e))
+    free_end es xs at e same size read =
+        let place : at + 1 - 1 ≡ at = omega arith in
+        let found : item xs (at + 1) ≡ Some e = item_at xs (at + 1) (omega arith) ∙ ap (slice_get xs) place ∙ slice_get_read xs (length xs) at e refl (omega arith) read in
+        let end : length (map (entry_of number) es) ≡ at + 1 = length-map es (entry_of number) ∙ ap length (sym same) ∙ sym size in
+        ap (λ n. is_free (item (map (entry_of number) es) n)) end ∙ ap is_free (item-map_some (entry_of number) es (at + 1) e (ap (λ ys. item ys (at + 1)) (sym same) ∙ found)) ∙ is_free_not (entry_of number e)
+
+    -- a slot that is popped from a free end is free
+    pub free_popped : (es : List (ArenaSlot P T I G)) (e : ArenaSlot P T I G) → is_free (item (map (entry_of number) es) (length (map (entry_of number) es))) ≡ true → slice_get es (length es - 1) ≡ Some e → is_some (entry_of number e) ≡ false
+    free_popped es e free popped =
+        let within = slice_get_within es (length es - 1) e popped in
+        let found = item_last es (length es) e (omega arith) refl popped in
+        not_true (is_some (entry_of number e)) (sym (ap (λ n. is_free (item (map (entry_of number) es) n)) (length-map es (entry_of number)) ∙ ap is_free (item-map_some (entry_of number) es (length es) e found) ∙ is_free_not (entry_of number e)) ∙ free)
+      where
+        not_true : (b : Bool) → not b ≡ true → b ≡ false
+        not_true true h = absurd (true≢false (sym h))
+        not_true false h = refl
+
+pub none_of : {A : Type 0} (o : Option A) → is_some o ≡ false → o ≡ None
+none_of None h = refl
+none_of (Some x) h = absurd (true≢false h)
 
 -- an index that is within the greatest has its number
 pub index_of_number : {I : Type 0} (number : I → ℕ) (o : Option I) (i greatest : ℕ) → (IsSome o ↔ (i ≤ greatest)) → IfSome o (λ x. number x ≡ i) → i ≤ greatest → option_map number o ≡ Some i

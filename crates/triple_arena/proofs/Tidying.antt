@@ -4,7 +4,6 @@ use Rattle.std.proofs.lemmas.Bool.{cases_eq}
 use Rattle.std.proofs.lemmas.List.{length-map, drop_all, take-map}
 use Rattle.std.proofs.lemmas.List.Sums.{sum_by-cons}
 use Rattle.std.specs.Int.NonZero.{non_zero_usize_get}
-use Rattle.std.specs.declared.num.NonZeroUsize.{NonZeroUsize}
 use Rattle.triple_arena.specs.Numbered.{item, with_item}
 use Rattle.triple_arena.specs.ArenaState.{ArenaState, entry, is_free, IsWellFormed, arena_len, slot_count}
 use Rattle.triple_arena.specs.FreeList.{before, trimmed, gaps, tidied, IsRising, IsInOrder}
@@ -16,11 +15,6 @@ use Rattle.triple_arena.specs.declared.slot.ArenaSlot.{ArenaSlot}
 use Rattle.triple_arena.specs.declared.slot.ArenaSlot.TheVariants.{Free, Allocated}
 use Rattle.triple_arena.proofs.WellFormed.{count_head, count_tail}
 use Rattle.triple_arena.proofs.Links.{item-map_some, IsLinked-off}
-
--- the number of an index, and 0 for none
-abbrev pub number_before : Option NonZeroUsize → ℕ
-number_before None = 0
-number_before (Some inx) = non_zero_usize_get inx
 
 module _ {T : Type 0} where
   -- a free slot at the end makes no difference
@@ -217,12 +211,11 @@ module _ {P T I G : Type 0} (number : G → ℕ) where
   LinkedFrom-root old es i root l = root_past es root (i + 1) (drop i (map (entry_of number) old)) i (omega arith) l.linked
 
   -- the slots end with the last entry, and their free ones link in rising order
-  pub Shows-tidied : (old es es1 : List (ArenaSlot P T I G)) (root root1 : Option ℕ) (len : ℕ) (s : ArenaState T) → map (entry_of number) es ≡ trimmed (map (entry_of number) old) → map (entry_of number) es1 ≡ map (entry_of number) es → IsLinked es1 root1 (gaps 1 (map (entry_of number) es)) → Shows number old root len s → Shows number es1 root1 len (tidied s)
-  Shows-tidied old es es1 root root1 len s cut same linked shows =
-      let is : map (entry_of number) es ≡ trimmed s.slots = cut ∙ ap trimmed shows.slots in
+  pub Shows-tidied : (old es : List (ArenaSlot P T I G)) (root root1 : Option ℕ) (len : ℕ) (s : ArenaState T) → map (entry_of number) es ≡ trimmed (map (entry_of number) old) → IsLinked es root1 (gaps 1 (trimmed (map (entry_of number) old))) → Shows number old root len s → Shows number es root1 len (tidied s)
+  Shows-tidied old es root root1 len s cut linked shows =
       record {
-        slots = same ∙ is;
-        linked = rw is at linked;
+        slots = cut ∙ ap trimmed shows.slots;
+        linked = rw shows.slots at linked;
         counted = shows.counted ∙ sym (trimmed_live s.slots);
         well = IsWellFormed-tidied s shows.well;
       }

@@ -1,5 +1,5 @@
 -- Each change of an arena keeps it well formed.
-use Rattle.std.proofs.Common.{◌≡◌, ◌≢◌, ◌⊎◌, ℕ, zero, suc, ◌+◌, ◌-◌, ◌<◌, ◌≤◌, ◌==◌, Bool, true, false, List, [], ◌∷◌, ◌++◌, map, length, get_or, set, take, Option, Some, None, is_some, IsSome, count_by, cond, slice_get, refl, sym, ap, subst, ◌∙◌, inl, inr, arith, true≢false, sub-one}
+use Rattle.std.proofs.Common.{◌≡◌, ◌≢◌, ◌⊎◌, ℕ, zero, suc, ◌+◌, ◌-◌, ◌<◌, ◌≤◌, ◌==◌, Bool, true, false, List, [], ◌∷◌, ◌++◌, map, length, get_or, set, take, Option, Some, None, is_some, IsSome, count_by, cond, slice_get, refl, sym, ap, subst, ◌∙◌, inl, inr, arith, true≢false, sub-one, not}
 use Rattle.std.proofs.lemmas.Bool.{cases_eq, eqb-true}
 use Rattle.std.proofs.lemmas.List.{length-set, length_push}
 use Rattle.std.proofs.lemmas.List.Sums.{sum_by-set, sum_by_push, sum_by-cons}
@@ -10,7 +10,7 @@ use Rattle.triple_arena.proofs.NumberedLists.{joined, item_nil, eq_true, eq_fals
 use Rattle.std.specs.Option.{option_and_then, option_map}
 use Rattle.triple_arena.specs.Numbered.{item, with_item}
 use Rattle.triple_arena.specs.Pointers.{Pointer}
-use Rattle.triple_arena.specs.Entries.{value_under, with_value_in, with_generation_in}
+use Rattle.triple_arena.specs.Entries.{look_up_in, entry_in, value_under, with_value_in, with_generation_in}
 use Rattle.triple_arena.specs.ArenaState.{ArenaState, new_arena, capacity, entry, look_up, slot_count, arena_len, is_free, IsWellFormed}
 use Rattle.triple_arena.specs.Insertion.{place_among, place, inserted_among, inserted}
 use Rattle.triple_arena.specs.Ending.{removed, invalidated}
@@ -231,8 +231,8 @@ module _ {T : Type 0} where
           (within.0, omega (arith, within.1, well.fits))
 
   -- a valid pointer is that of an entry, and finds its value
-  pub live_entry : (s : ArenaState T) (p : Pointer) → is_some (look_up s p) ≡ true → is_some (entry s p.0) ≡ true
-  live_entry s p live = by_entry (entry s p.0) live
+  pub live_entry : (xs : List (Option (ℕ × T))) (p : Pointer) → is_some (look_up_in xs p) ≡ true → is_some (entry_in xs p.0) ≡ true
+  live_entry xs p live = by_entry (entry_in xs p.0) live
     where
       by_entry : (o : Option (ℕ × T)) → is_some (option_and_then (value_under p.1) o) ≡ true → is_some o ≡ true
       by_entry None some = some
@@ -252,3 +252,23 @@ module _ {T : Type 0} where
   -- a new generation at an index, which is the raised counter, is an invalidation
   pub invalidated_is : (raise : ℕ → ℕ) (s : ArenaState T) (i j n : ℕ) → j ≡ i → n ≡ raise s.counter → record s { slots = with_generation_in s.slots j n; counter = n } ≡ invalidated raise s i
   invalidated_is raise s i j n here raised = rw (here, raised) refl
+
+  -- what is read of an arena that is s, at the index of a valid pointer
+  pub value_read : (s t : ArenaState T) (p : Pointer) (i : ℕ) (v : T) → t ≡ s → i ≡ p.0 → is_some (look_up t p) ≡ true → option_map (λ (e : ℕ × T). e.1) (entry t i) ≡ Some v → look_up s p ≡ Some v
+  value_read s t p i v is here live read = sym (ap (λ a. look_up a p) is) ∙ look_up_value t p v live (sym (ap (λ n. option_map (λ (e : ℕ × T). e.1) (entry t n)) here) ∙ read)
+
+  pub entry_value_read : (s t : ArenaState T) (i j : ℕ) (v : T) → t ≡ s → j ≡ i → option_map (λ (e : ℕ × T). e.1) (entry t j) ≡ Some v → option_map (λ (e : ℕ × T). e.1) (entry s i) ≡ Some v
+  entry_value_read s t i j v is here read = sym (ap (λ a. option_map (λ (e : ℕ × T). e.1) (entry a j)) is ∙ ap (λ n. option_map (λ (e : ℕ × T). e.1) (entry s n)) here) ∙ read
+
+  -- where no index has an entry, there is none
+  pub none_counted : (xs : List (Option (ℕ × T))) → ((i : ℕ) → joined (item xs i) ≡ None) → count_by is_some xs ≡ 0
+  none_counted [] none = refl
+  none_counted (x ∷ xs) none = omega (arith, sum_by-cons (λ o. cond (is_some o) 1 0) x xs, ap {B = ℕ} (λ o. cond (is_some o) 1 0) (none 1), none_counted xs later)
+    where
+      later : (i : ℕ) → joined (item xs i) ≡ None
+      later zero = refl
+      later (suc k) = none (suc (suc k))
+
+  pub is_free_not : (o : Option (ℕ × T)) → is_free (Some o) ≡ not (is_some o)
+  is_free_not None = refl
+  is_free_not (Some e) = refl

@@ -179,13 +179,17 @@ impl<P: Ptr, T, S: NonZeroInxGenericStack<ArenaSlot<P, T>>> ArenaTrait<P, T> for
     }
 
     fn find_first_inx_ptr(&self) -> Option<P> {
-        let inx = self.slots.first_live()?;
-        Some(self.ptr_at(inx))
+        match self.slots.first_live() {
+            Some(inx) => Some(self.ptr_at(inx)),
+            None => None,
+        }
     }
 
     fn find_last_inx_ptr(&self) -> Option<P> {
-        let inx = self.slots.last_live()?;
-        Some(self.ptr_at(inx))
+        match self.slots.last_live() {
+            Some(inx) => Some(self.ptr_at(inx)),
+            None => None,
+        }
     }
 
     fn invalidate(&mut self, p: P) -> InvalidationResult<P> {

@@ -13,7 +13,7 @@ ghost use Rattle.triple_arena.specs.Ending.{removed};
 ghost use Rattle.triple_arena.specs.Entries.{with_generation_in};
 ghost use Rattle.triple_arena.specs.FreeList.{trimmed, gaps};
 ghost use Rattle.triple_arena.specs.Slot.{entry_of};
-ghost use Rattle.triple_arena.specs.Layout.{Shows, IsLinked, entry_at};
+ghost use Rattle.triple_arena.specs.Layout.{number_or_zero, Shows, IsLinked, entry_at};
 
 use crate::slot::{ArenaSlot, FreeLink};
 use std::marker::PhantomData;
@@ -238,10 +238,12 @@ fn replace<X, S: NonZeroInxGenericStack<X>>(stack: &mut S, inx: NonZeroUsize, x:
 fn has_free_end<P: Ptr, T, S: NonZeroInxGenericStack<ArenaSlot<P, T>>>(stack: &S) -> bool
     ensures { result ≡ is_free (item (map (entry_of P.Gen.number) (S.items stack.now)) (length (map (entry_of P.Gen.number) (S.items stack.now)))) }
 {
-    match stack.as_slice().last() {
-        Some(slot) => !slot.is_live(),
-        None => false,
+    let slots = stack.as_slice();
+    if slots.is_empty() {
+        return false;
     }
+    let end = slots.len() - 1;
+    !slots[end].is_live()
 }
 
 // Pops the free slots at the end.
@@ -265,14 +267,21 @@ fn relink<P: Ptr, T, S: NonZeroInxGenericStack<ArenaSlot<P, T>>>(
     ensures limit { S.limit stack.new ≡ S.limit stack.old }
 {
     let mut root = None;
-    let mut next = NonZeroUsize::new(stack.len());
+    let mut next = index_of(stack.len());
     'links: while let Some(inx) = next {
         if !stack.get(inx).unwrap().is_live() {
             let slot = stack.get_mut(inx).unwrap();
             slot.set_link(FreeLink::to(root, inx));
             root = Some(inx);
         }
-        next = NonZeroUsize::new(inx.get() - 1);
+        next = index_of(inx.get() - 1);
     }
     root
+}
+
+// The index of that number, if it is not 0.
+fn index_of(number: usize) -> Option<NonZeroUsize>
+    ensures { number_or_zero result ≡ number }
+{
+    NonZeroUsize::new(number)
 }

@@ -1,9 +1,6 @@
 mod FormLaws
 mod Mapped
-mod NumberedLists
 mod Numbers
 mod RunLaws
 mod Splits
 mod TextLaws
-mod Vectors
-mod WellFormed

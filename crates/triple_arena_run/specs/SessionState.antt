@@ -1,5 +1,5 @@
 -- What a session holds.
-use Rattle.std.specs.Prelude.{ℕ, suc, List, [], Option}
+use Rattle.std.specs.Prelude.{ℕ, suc, List, [], Option, Some, None}
 use Rattle.std.specs.List.{position}
 use Rattle.std.specs.Option.{option_map, option_and_then}
 use Rattle.triple_arena.specs.Numbered.{item}

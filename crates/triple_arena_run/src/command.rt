@@ -99,7 +99,7 @@ fn parse_name(word: &[u8]) -> Option<usize>
 }
 
 /// The number that a word writes. `str::parse` alone would take a plus before the digits.
-fn parse_number(word: &[u8]) -> Option<u64>
+pub(crate) fn parse_number(word: &[u8]) -> Option<u64>
     ensures { result ≡ number_of word.now }
 {
     if !is_all_digits(word) {

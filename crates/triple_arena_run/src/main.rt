@@ -1,9 +1,7 @@
 //! Reads commands from standard input, and prints one reply a line.
 #![tactic(auto)]
 
-mod arena;
 pub mod command;
-mod entry;
 pub mod input;
 pub mod laws;
 pub mod lines;
@@ -13,13 +11,28 @@ pub mod reply;
 pub mod session;
 pub mod text;
 
+use node::Node;
 use program::{Kind, ProgramError, parse_args, status};
 use session::Session;
 use std::io::{BufWriter, ErrorKind};
 use std::process::ExitCode;
 use std::{env, io};
 use text::{TextError, run_text_and_flush};
-use triple_arena_ptr::{P0, Ptr};
+use triple_arena::ArenaSlot;
+use triple_arena_ptr::P0;
+use triple_arena_stack::{
+    NonZeroInxArray, NonZeroInxBoxedSlice, NonZeroInxGenericStack, NonZeroInxLimitedVec,
+    NonZeroInxVec,
+};
+
+/// A slot of the program's arenas.
+type Slot = ArenaSlot<P0, Node<u64, P0>>;
+
+/// A session over each kind of stack.
+type HeapSession = Session<P0, u64, NonZeroInxVec<Slot>>;
+type LimitedSession = Session<P0, u64, NonZeroInxLimitedVec<Slot>>;
+type FixedSession = Session<P0, u64, NonZeroInxBoxedSlice<Slot>>;
+type ArraySession = Session<P0, u64, NonZeroInxArray<Slot, 8>>;
 
 /// How many bytes of replies are gathered before they go out.
 const OUTPUT_BUFFER: usize = 65536;
@@ -33,8 +46,18 @@ fn main(rt: HostRuntime) -> ExitCode {
 }
 
 fn run(rt: &HostRuntime) -> Result<(), ProgramError> {
+    let alloc = rt.alloc();
     let outcome = match read_kind(rt)? {
-        Kind::Heap => run_session(rt, Session::<P0, u64>::new(rt.alloc())),
+        Kind::Heap => run_session(rt, &mut HeapSession::new(alloc)),
+        Kind::Limited(most) => match LimitedSession::with_min_capacity(alloc, most) {
+            Ok(mut session) => run_session(rt, &mut session),
+            Err(_) => Err(TextError::NoMemory),
+        },
+        Kind::Fixed(slots) => match FixedSession::with_min_capacity(alloc, slots) {
+            Ok(mut session) => run_session(rt, &mut session),
+            Err(_) => Err(TextError::NoMemory),
+        },
+        Kind::Array => run_session(rt, &mut ArraySession::new(alloc)),
     };
     outcome.map_err(ProgramError::Run)
 }
@@ -61,10 +84,13 @@ fn read_args(rt: &HostRuntime) -> io::Result<Option<Kind>> {
 }
 
 /// Runs standard input. Replies are gathered in a buffer over standard output.
-fn run_session<P: Ptr>(rt: &HostRuntime, mut session: Session<P, u64>) -> Result<(), TextError> {
+fn run_session<S: NonZeroInxGenericStack<Slot>>(
+    rt: &HostRuntime,
+    session: &mut Session<P0, u64, S>,
+) -> Result<(), TextError> {
     let mut input = rt.reader();
     match BufWriter::with_capacity(rt.alloc(), OUTPUT_BUFFER, io::writer(rt)) {
-        Ok(output) => run_text_and_flush(&mut session, rt.alloc(), &mut input, output).0,
+        Ok(output) => run_text_and_flush(session, rt.alloc(), &mut input, output).0,
         Err(_) => Err(TextError::NoMemory),
     }
 }

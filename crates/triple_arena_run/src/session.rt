@@ -1,12 +1,14 @@
 //! Sessions: commands that speak of entries by name.
 
-ghost use Rattle.std.specs.Prelude.{◌≡◌, ◌+◌, ◌-◌, ◌<◌, ◌≤◌, length, map, slice_get, IfSome, IfOk, OnOk, OnErr, IsOk, None, true};
+ghost use Rattle.std.specs.Prelude.{◌≡◌, ◌+◌, ◌-◌, ◌<◌, ◌≤◌, ◌++◌, ◌∷◌, [], length, map, slice_get, IfSome, IfOk, OnOk, OnErr, IsOk, None, true};
 ghost use Rattle.std.specs.List.{position};
 ghost use Rattle.std.specs.Option.{option_map};
+ghost use Rattle.triple_arena_ptr.specs.Numbers.{greatest_index, first_generation};
 ghost use Rattle.triple_arena_stack.specs.Capacity.{room_for_one_more};
+ghost use Rattle.triple_arena_stack.specs.StackKind.{new_room, new_limit, made_room, made_limit, CanHold, TakesNoMemory};
 ghost use Rattle.triple_arena.specs.Numbered.{item};
 ghost use Rattle.triple_arena.specs.Pointers.{numbers, is_same};
-ghost use Rattle.triple_arena.specs.ArenaState.{ArenaState, arena_len, capacity, map_values};
+ghost use Rattle.triple_arena.specs.ArenaState.{ArenaState, new_arena, arena_len, capacity, map_values};
 ghost use Rattle.triple_arena_run.specs.Runs.{RunsToWrap};
 ghost use Rattle.triple_arena_run.specs.SessionState.{SessionState, node_of, new_session, link_name, link_pointer};
 ghost use Rattle.triple_arena_run.specs.SessionRun.{IsStep, refusal};
@@ -47,19 +49,41 @@ impl<P: Ptr, X, S: NonZeroInxGenericStack<ArenaSlot<P, Node<X, P>>>> Model for S
 }
 
 impl<P: Ptr, X: Copy, S: NonZeroInxGenericStack<ArenaSlot<P, Node<X, P>>>> Session<P, X, S> {
-    /// A session over an arena, that has given no name.
-    ///
-    /// On the conditions that the arena is empty, which `is_empty` tells, and that the generation of
-    /// its pointers counts, which `PtrGen::counts` tells.
-    pub fn new(alloc: Global, arena: Arena<P, Node<X, P>, S>) -> Self
-        requires empty { arena_len arena ≡ 0 }
-        requires counts { P.Gen.counting ≡ true }
-        ensures { result ≡ new_session (map_values (node_of (numbers P.Inx.number P.Gen.number P.index_of P.generation_of)) arena) }
+    /// A session over a new arena, that has given no name, on the condition that the generation of
+    /// its pointers counts, which `PtrGen::counts` tells. It takes no memory.
+    pub fn new(alloc: Global) -> Self
+        requires { P.Gen.counting ≡ true }
+        ensures { result ≡ new_session (new_arena (new_room S.kind) (new_limit S.kind)
+            (greatest_index P.Inx.greatest) (first_generation P.Gen.counting)) }
     {
         Session {
-            arena,
+            arena: Arena::new(alloc),
             table: NonZeroInxVec::new(alloc),
             alloc,
+        }
+    }
+
+    /// A session over an arena with room for `min_capacity` entries, on the same condition.
+    ///
+    /// Refused where the arena is: where `min_capacity` is past the greatest index or the places of
+    /// an array, and where memory is refused.
+    pub fn with_min_capacity(alloc: Global, min_capacity: usize) -> Result<Self, AllocError>
+        requires { P.Gen.counting ≡ true }
+        ensures made { IfOk result (λ session. session ≡ new_session (new_arena
+            (made_room S.kind min_capacity) (made_limit S.kind min_capacity)
+            (greatest_index P.Inx.greatest) (first_generation P.Gen.counting))) }
+        ensures holds { OnOk result
+            ((min_capacity ≤ greatest_index P.Inx.greatest) × CanHold S.kind min_capacity) }
+        ensures succeeds { min_capacity ≤ greatest_index P.Inx.greatest
+            → TakesNoMemory S.kind min_capacity → IsOk result }
+    {
+        match Arena::with_min_capacity(alloc, min_capacity) {
+            Ok(arena) => Ok(Session {
+                arena,
+                table: NonZeroInxVec::new(alloc),
+                alloc,
+            }),
+            Err(refusal) => Err(refusal),
         }
     }
 
@@ -92,15 +116,146 @@ impl<P: Ptr, X: Copy, S: NonZeroInxGenericStack<ArenaSlot<P, Node<X, P>>>> Sessi
             Some(ReallocationError::AllocError) => return Reply::NoMemory,
             None => {}
         }
-        if make_room(&mut self.table).is_err() {
-            return Reply::NoMemory;
+        match make_room(&mut self.table) {
+            Ok(()) => {}
+            Err(_) => return Reply::NoMemory,
         }
         match self.arena.insert(Node { datum, link }) {
-            Ok(p) => {
-                let (name, _given) = self.table.push_reserved(p);
-                Reply::Given(name.get(), false)
-            }
+            Ok(p) => Reply::Given(push_last(&mut self.table, p), false),
             Err(_) => Reply::NoMemory,
         }
     }
+
+    fn get(&self, name: usize) -> Reply<X>
+        ensures { IsStep S.kind P.Gen.counting P.Gen.greatest self.now (Command.Get name) result self.now }
+    {
+        let Some(p) = self.pointer(name) else {
+            return Reply::Nothing;
+        };
+        match self.arena.get(p) {
+            Some(node) => Reply::Found(node.datum, self.link_name(node.link)),
+            None => Reply::Nothing,
+        }
+    }
+
+    fn remove(&mut self, name: usize) -> Reply<X>
+        ensures { IsStep S.kind P.Gen.counting P.Gen.greatest self.old (Command.Remove name) result self.new }
+    {
+        let Some(p) = self.pointer(name) else {
+            return Reply::Invalid;
+        };
+        match self.arena.remove(p) {
+            InvalidationResult::Success(node) => self.removed(node, false),
+            InvalidationResult::GenerationOverflow(node) => self.removed(node, true),
+            InvalidationResult::InvalidPtr => Reply::Invalid,
+        }
+    }
+
+    // The reply that tells of a removed node.
+    fn removed(&self, node: Node<X, P>, wrapped: bool) -> Reply<X>
+        ensures { result ≡ Reply.Removed node.datum
+            (link_name self.now.table (option_map (numbers P.Inx.number P.Gen.number P.index_of P.generation_of) node.link)) wrapped }
+    {
+        Reply::Removed(node.datum, self.link_name(node.link), wrapped)
+    }
+
+    // Why the arena cannot take one more entry, whatever memory there is.
+    fn refusal(&self) -> Option<ReallocationError>
+        ensures why { result ≡ refusal self.now.arena }
+        ensures fits { arena_len self.now.arena ≤ capacity self.now.arena }
+    {
+        let capacity = self.arena.capacity();
+        if self.arena.len() < capacity {
+            return None;
+        }
+        match self.arena.max_capacity() {
+            Some(limit) if limit <= capacity => Some(ReallocationError::BeyondMaxCapacity),
+            _ if capacity == P::Inx::max_index().get() => Some(ReallocationError::AllocError),
+            _ => None,
+        }
+    }
+
+    // The pointer of a name, if it was given.
+    fn pointer(&self, name: usize) -> Option<P>
+        ensures { option_map (numbers P.Inx.number P.Gen.number P.index_of P.generation_of) result ≡ item self.now.table name }
+    {
+        if name == 0 {
+            return None;
+        }
+        read(self.table.as_slice(), name - 1)
+    }
+
+    // The pointer of a link, or none if the link is to a name that was never given.
+    fn link_pointer(&self, link: Option<usize>) -> Option<Option<P>>
+        ensures { option_map (option_map (numbers P.Inx.number P.Gen.number P.index_of P.generation_of)) result ≡ link_pointer self.now.table link }
+    {
+        match link {
+            Some(name) => self.pointer(name).map(Some),
+            None => Some(None),
+        }
+    }
+
+    // The name of the pointer of a link.
+    fn link_name(&self, link: Option<P>) -> Option<usize>
+        ensures { result ≡ link_name self.now.table (option_map (numbers P.Inx.number P.Gen.number P.index_of P.generation_of) link) }
+    {
+        match link {
+            Some(p) => match position_of(self.table.as_slice(), p) {
+                Some(position) => Some(position + 1),
+                None => None,
+            },
+            None => None,
+        }
+    }
+}
+
+// Makes room for one more item where there is none.
+fn make_room<T>(table: &mut NonZeroInxVec<T>) -> Result<(), ReallocationError>
+    ensures items { table.new.items ≡ table.old.items }
+    ensures grown { OnOk result (table.new.room
+        ≡ room_for_one_more table.old.room None (length table.old.items)) }
+    ensures room { OnOk result (length table.new.items < table.new.room) }
+    ensures had_room { length table.old.items < table.old.room → IsOk result }
+    ensures refused { OnErr result (table.new ≡ table.old) }
+{
+    match table.entry_push() {
+        Ok(_entry) => Ok(()),
+        Err(refusal) => Err(refusal),
+    }
+}
+
+// Pushes an item where there is room, and gives its number.
+fn push_last<T>(table: &mut NonZeroInxVec<T>, item: T) -> usize
+    requires { length table.old.items < table.old.room }
+    ensures number { result ≡ length table.old.items + 1 }
+    ensures items { table.new.items ≡ table.old.items ++ item ∷ [] }
+    ensures room { table.new.room ≡ table.old.room }
+{
+    let (inx, _item) = table.push_reserved(item);
+    inx.get()
+}
+
+// The item at a position, if there is one.
+fn read<T: Copy>(items: &[T], position: usize) -> Option<T>
+    ensures { result ≡ slice_get items.now position }
+{
+    items.get(position).copied()
+}
+
+// The first position at which a table has a pointer.
+fn position_of<P: Ptr>(table: &[P], p: P) -> Option<usize>
+    ensures position { result ≡ position
+        (λ q. is_same q (numbers P.Inx.number P.Gen.number P.index_of P.generation_of p))
+        (map (numbers P.Inx.number P.Gen.number P.index_of P.generation_of) table.now) }
+    ensures within { IfSome result (λ at. at < length table.now) }
+{
+    first_equal(table, p)
+}
+
+// The first position at which a table has an item that is equal to this one.
+fn first_equal<T: PartialEq + Copy>(table: &[T], item: T) -> Option<usize>
+    ensures position { result ≡ position (λ x. T.eq x item) table.now }
+    ensures within { IfSome result (λ at. at < length table.now) }
+{
+    table.iter().position(|x| *x == item)
 }

@@ -8,11 +8,14 @@ ghost use Rattle.triple_arena_run.specs.LineRun.{CommandEnds, LineEnds};
 use crate::command::parse_command;
 use crate::input::read_text;
 use crate::lines::split_first;
+use crate::node::Node;
 use crate::session::Session;
 use std::alloc::Global;
 use std::io::{BufWriter, Read, Write};
 use thiserror::Error;
+use triple_arena::ArenaSlot;
 use triple_arena_ptr::Ptr;
+use triple_arena_stack::NonZeroInxGenericStack;
 
 /// Why a text wasn't run to its end.
 #[derive(Clone, Copy, Debug, PartialEq, Eq, Error)]
@@ -38,13 +41,13 @@ pub enum TextError {
 /// A line of no bytes is skipped. The run ends with the text, with the first reply that tells of
 /// a wrap, or with the error that comes first; `TextError` says what stands after each. A reply
 /// goes out by writes alone, without asking for memory, and nothing is flushed.
-pub fn run_text<P: Ptr, R: Read, W: Write>(
-    session: &mut Session<P, u64>,
+pub fn run_text<P: Ptr, S: NonZeroInxGenericStack<ArenaSlot<P, Node<u64, P>>>, R: Read, W: Write>(
+    session: &mut Session<P, u64, S>,
     alloc: Global,
     input: &mut R,
     output: &mut W,
 ) -> Result<(), TextError>
-    ensures { IsTextRun (IsStep P.Gen.counting P.Gen.greatest) (R.remaining input.old) result
+    ensures { IsTextRun (IsStep S.kind P.Gen.counting P.Gen.greatest) (R.remaining input.old) result
         session.old session.new (W.contents output.old) (W.contents output.new) }
 {
     match read_text(alloc, input) {
@@ -59,13 +62,13 @@ pub fn run_text<P: Ptr, R: Read, W: Write>(
 /// A failed flush is the error `Write`, and the bytes that it left are let go. Of a run that failed
 /// by reading or for want of memory nothing was written, and at the other outcomes but `Write` the
 /// writer below holds each reply line.
-pub fn run_text_and_flush<P: Ptr, R: Read, W: Write + Drop>(
-    session: &mut Session<P, u64>,
+pub fn run_text_and_flush<P: Ptr, S: NonZeroInxGenericStack<ArenaSlot<P, Node<u64, P>>>, R: Read, W: Write + Drop>(
+    session: &mut Session<P, u64, S>,
     alloc: Global,
     input: &mut R,
     mut output: BufWriter<W>,
 ) -> (Result<(), TextError>, W)
-    ensures { IsFlushedRun (IsStep P.Gen.counting P.Gen.greatest) (R.remaining input.old) result.0
+    ensures { IsFlushedRun (IsStep S.kind P.Gen.counting P.Gen.greatest) (R.remaining input.old) result.0
         session.old session.new (writer_contents W.contents output) (W.contents result.1) }
 {
     let outcome = run_text(session, alloc, input, &mut output);
@@ -79,12 +82,12 @@ pub fn run_text_and_flush<P: Ptr, R: Read, W: Write + Drop>(
 }
 
 /// Runs the lines of a text.
-fn run_lines<P: Ptr, W: Write>(
-    session: &mut Session<P, u64>,
+fn run_lines<P: Ptr, S: NonZeroInxGenericStack<ArenaSlot<P, Node<u64, P>>>, W: Write>(
+    session: &mut Session<P, u64, S>,
     text: &[u8],
     output: &mut W,
 ) -> Result<(), TextError>
-    ensures { IsTextRun (IsStep P.Gen.counting P.Gen.greatest) (Some text.now) result
+    ensures { IsTextRun (IsStep S.kind P.Gen.counting P.Gen.greatest) (Some text.now) result
         session.old session.new (W.contents output.old) (W.contents output.new) }
 {
     let mut rest = text;
@@ -117,8 +120,8 @@ enum LineEnd {
 }
 
 /// Runs a line, which may have no bytes.
-fn run_line<P: Ptr, W: Write>(session: &mut Session<P, u64>, line: &[u8], output: &mut W) -> LineEnd
-    ensures { LineEnds (IsStep P.Gen.counting P.Gen.greatest) result line.now
+fn run_line<P: Ptr, S: NonZeroInxGenericStack<ArenaSlot<P, Node<u64, P>>>, W: Write>(session: &mut Session<P, u64, S>, line: &[u8], output: &mut W) -> LineEnd
+    ensures { LineEnds (IsStep S.kind P.Gen.counting P.Gen.greatest) result line.now
         session.old session.new (W.contents output.old) (W.contents output.new) }
 {
     if line.is_empty() {
@@ -129,12 +132,12 @@ fn run_line<P: Ptr, W: Write>(session: &mut Session<P, u64>, line: &[u8], output
 }
 
 /// Runs the command of a line, and writes the line of its reply.
-fn run_command<P: Ptr, W: Write>(
-    session: &mut Session<P, u64>,
+fn run_command<P: Ptr, S: NonZeroInxGenericStack<ArenaSlot<P, Node<u64, P>>>, W: Write>(
+    session: &mut Session<P, u64, S>,
     line: &[u8],
     output: &mut W,
 ) -> LineEnd
-    ensures { CommandEnds (IsStep P.Gen.counting P.Gen.greatest) result line.now
+    ensures { CommandEnds (IsStep S.kind P.Gen.counting P.Gen.greatest) result line.now
         session.old session.new (W.contents output.old) (W.contents output.new) }
 {
     match parse_command(line) {

@@ -134,7 +134,7 @@ with_table_room t = record t { table_room = room_for_one_more t.table_room None 
 full_from : (m n : ℕ) → m ≤ n → (m < n → false ≡ true) → m ≡ n
 full_from m n le below =
     elim (cases_eq m n) [
-      inl e ↦ e
+      | inl e ↦ e
       | inr other ↦ absurd (true≢false (sym (below (omega arith))))
     ]
 
@@ -144,9 +144,9 @@ module _ {X P : Type 0} (pointer : P → Pointer) (arena : ArenaState (Node X P)
   pub name_added : (datum : X) (link : Option P) (p : P) (new_arena : ArenaState (Node X P)) (new_table : List P) (new_room : ℕ) → pointer p ≡ next_pointer arena → new_arena ≡ inserted (grown kind arena) (record { datum = datum; link = link }) → new_table ≡ table ++ p ∷ [] → new_room ≡ room_for_one_more room None (length table) → state_of pointer new_arena new_table new_room ≡ with_name kind counting greatest s datum (option_map pointer link)
   name_added datum link p new_arena new_table new_room given arena_is table_is room_is =
       let grows : map_values (node_of pointer) new_arena ≡ inserted (grown kind (map_values (node_of pointer) arena)) (datum, option_map pointer link) =
-          ap (map_values (node_of pointer)) arena_is
-          ∙ inserted-mapped (node_of pointer) (grown kind arena) (record { datum = datum; link = link })
-          ∙ ap (λ t. inserted t (datum, option_map pointer link)) (grown-mapped (node_of pointer) kind arena) in
+      ap (map_values (node_of pointer)) arena_is
+      ∙ inserted-mapped (node_of pointer) (grown kind arena) (record { datum = datum; link = link })
+      ∙ ap (λ t. inserted t (datum, option_map pointer link)) (grown-mapped (node_of pointer) kind arena) in
       rw (grows, table_is, room_is, map-append pointer table (p ∷ []), given, ← next_pointer-mapped (node_of pointer) arena, ← length-map table pointer)
       (ap (λ t. with_name kind counting greatest t datum (option_map pointer link)) shows)
 
@@ -174,16 +174,16 @@ module _ {X P : Type 0} (pointer : P → Pointer) (arena : ArenaState (Node X P)
     pub row_removed : (node : Node X P) (wrapped : Bool) → look_up arena (pointer p) ≡ Some node → wraps counting greatest arena.counter ≡ wrapped → new_arena ≡ removed (raise counting greatest) arena (pointer p).0 → ◌≡◌ {A = Reply X × SessionState X} (Removed node.datum (link_name (map pointer table) (option_map pointer node.link)) wrapped, state_of pointer new_arena table room) (remove_answer kind counting greatest s (item s.table name))
     row_removed node wrapped live wrapped_is arena_is =
         rw has (
-          subst (λ t. ◌≡◌ {A = Reply X × SessionState X} (Removed node.datum (link_name (map pointer table) (option_map pointer node.link)) wrapped, state_of pointer new_arena table room) (remove_answer kind counting greatest t (Some (pointer p)))) shows (
-            rw (look_up-mapped (node_of pointer) arena (pointer p), live, ← wrapped_is, arena_is, removed-mapped (node_of pointer) (raise counting greatest) arena (pointer p).0) refl
-          )
+        subst (λ t. ◌≡◌ {A = Reply X × SessionState X} (Removed node.datum (link_name (map pointer table) (option_map pointer node.link)) wrapped, state_of pointer new_arena table room) (remove_answer kind counting greatest t (Some (pointer p)))) shows (
+        rw (look_up-mapped (node_of pointer) arena (pointer p), live, ← wrapped_is, arena_is, removed-mapped (node_of pointer) (raise counting greatest) arena (pointer p).0) refl
+        )
         )
 
     -- where there is nothing to remove, the session answers so
     pub row_not_removed : look_up arena (pointer p) ≡ None → new_arena ≡ arena → ◌≡◌ {A = Reply X × SessionState X} (Invalid, state_of pointer new_arena table room) (remove_answer kind counting greatest s (item s.table name))
     row_not_removed ended arena_is =
         rw has (
-          subst (λ t. ◌≡◌ {A = Reply X × SessionState X} (Invalid, state_of pointer new_arena table room) (remove_answer kind counting greatest t (Some (pointer p)))) shows (
-            rw (look_up-mapped (node_of pointer) arena (pointer p), ended, arena_is) refl
-          )
+        subst (λ t. ◌≡◌ {A = Reply X × SessionState X} (Invalid, state_of pointer new_arena table room) (remove_answer kind counting greatest t (Some (pointer p)))) shows (
+        rw (look_up-mapped (node_of pointer) arena (pointer p), ended, arena_is) refl
+        )
         )

@@ -30,8 +30,11 @@ type Slot = ArenaSlot<P0, Node<u64, P0>>;
 
 /// A session over each kind of stack.
 type HeapSession = Session<P0, u64, NonZeroInxVec<Slot>>;
+
 type LimitedSession = Session<P0, u64, NonZeroInxLimitedVec<Slot>>;
+
 type FixedSession = Session<P0, u64, NonZeroInxBoxedSlice<Slot>>;
+
 type ArraySession = Session<P0, u64, NonZeroInxArray<Slot, 8>>;
 
 /// How many bytes of replies are gathered before they go out.

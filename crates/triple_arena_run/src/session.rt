@@ -105,6 +105,29 @@ impl<P: Ptr, X: Copy, S: NonZeroInxGenericStack<ArenaSlot<P, Node<X, P>>>> Sessi
         }
     }
 
+    /// Runs the commands in order, and gives their replies, up to the first reply that tells of a
+    /// wrap, that one included.
+    ///
+    /// There is room for all replies first: where memory for it is refused, nothing is done.
+    pub fn run(&mut self, commands: &[Command<X>]) -> Result<Vec<Reply<X>>, AllocError>
+        ensures ran { IfOk result (λ replies. RunsToWrap (IsStep S.kind P.Gen.counting P.Gen.greatest)
+            self.old commands.now replies.items self.new) }
+        ensures refused { OnErr result (self.new ≡ self.old) }
+    {
+        let Ok(mut replies) = Vec::with_capacity(self.alloc, commands.len()) else {
+            return Err(AllocError);
+        };
+        'commands: for command in commands {
+            let reply = self.step(*command);
+            let wrapped = reply.tells_of_wrap();
+            replies.push_reserved(reply);
+            if wrapped {
+                return Ok(replies);
+            }
+        }
+        Ok(replies)
+    }
+
     fn insert(&mut self, datum: X, link: Option<usize>) -> Reply<X>
         ensures { IsStep S.kind P.Gen.counting P.Gen.greatest self.old (Command.Insert datum link) result self.new }
     {

@@ -62,7 +62,12 @@ pub fn run_text<P: Ptr, S: NonZeroInxGenericStack<ArenaSlot<P, Node<u64, P>>>, R
 /// A failed flush is the error `Write`, and the bytes that it left are let go. Of a run that failed
 /// by reading or for want of memory nothing was written, and at the other outcomes but `Write` the
 /// writer below holds each reply line.
-pub fn run_text_and_flush<P: Ptr, S: NonZeroInxGenericStack<ArenaSlot<P, Node<u64, P>>>, R: Read, W: Write + Drop>(
+pub fn run_text_and_flush<
+    P: Ptr,
+    S: NonZeroInxGenericStack<ArenaSlot<P, Node<u64, P>>>,
+    R: Read,
+    W: Write + Drop,
+>(
     session: &mut Session<P, u64, S>,
     alloc: Global,
     input: &mut R,
@@ -120,7 +125,11 @@ enum LineEnd {
 }
 
 /// Runs a line, which may have no bytes.
-fn run_line<P: Ptr, S: NonZeroInxGenericStack<ArenaSlot<P, Node<u64, P>>>, W: Write>(session: &mut Session<P, u64, S>, line: &[u8], output: &mut W) -> LineEnd
+fn run_line<P: Ptr, S: NonZeroInxGenericStack<ArenaSlot<P, Node<u64, P>>>, W: Write>(
+    session: &mut Session<P, u64, S>,
+    line: &[u8],
+    output: &mut W,
+) -> LineEnd
     ensures { LineEnds (IsStep S.kind P.Gen.counting P.Gen.greatest) result line.now
         session.old session.new (W.contents output.old) (W.contents output.new) }
 {

@@ -62,10 +62,9 @@ impl<T> NonZeroInxGenericStack<T> for FixedStack<T> {
     }
 
     fn with_min_capacity(alloc: Global, min_capacity: usize) -> Result<Self, AllocError> {
-        match HeapStack::with_min_capacity(alloc, min_capacity) {
-            Ok(heap) => Ok(FixedStack { heap }),
-            Err(refusal) => Err(refusal),
-        }
+        Ok(FixedStack {
+            heap: HeapStack::with_min_capacity(alloc, min_capacity)?,
+        })
     }
 
     fn capacity(&self) -> usize {

@@ -71,13 +71,10 @@ impl<T> NonZeroInxGenericStack<T> for LimitedStack<T> {
     }
 
     fn with_min_capacity(alloc: Global, min_capacity: usize) -> Result<Self, AllocError> {
-        match HeapStack::with_min_capacity(alloc, min_capacity) {
-            Ok(heap) => Ok(LimitedStack {
-                heap,
-                most: min_capacity,
-            }),
-            Err(refusal) => Err(refusal),
-        }
+        Ok(LimitedStack {
+            heap: HeapStack::with_min_capacity(alloc, min_capacity)?,
+            most: min_capacity,
+        })
     }
 
     fn capacity(&self) -> usize {

@@ -55,13 +55,10 @@ impl<T, K: NonZeroInxGenericStack<T>> NonZeroInxGenericStack<T> for NonZeroInxSt
     }
 
     fn with_min_capacity(alloc: Global, min_capacity: usize) -> Result<Self, AllocError> {
-        match K::with_min_capacity(alloc, min_capacity) {
-            Ok(kept) => Ok(NonZeroInxStack {
-                kept,
-                of: PhantomData,
-            }),
-            Err(refusal) => Err(refusal),
-        }
+        Ok(NonZeroInxStack {
+            kept: K::with_min_capacity(alloc, min_capacity)?,
+            of: PhantomData,
+        })
     }
 
     fn capacity(&self) -> usize {

@@ -73,10 +73,8 @@ impl<T, K: NonZeroInxGenericStack<T>> NonZeroInxStack<T, K> {
         ensures same_reference { IfOk result (λ entry. entry_lender entry ≡ self.entry.ghost_name) }
         ensures* refused { sem 𝓛 (entry_rests T.row K.row self.entry result) }
     {
-        match grow_if_full(self) {
-            Ok(()) => Ok(PushEntry { stack: self }),
-            Err(refusal) => Err(refusal),
-        }
+        grow_if_full(self)?;
+        Ok(PushEntry { stack: self })
     }
 
     /// As [`Self::entry_push_reallocating`].

@@ -195,13 +195,9 @@ pub trait NonZeroInxGenericStack<T> {
         ensures beyond { (result ≡ Err ReallocationError.BeyondMaxCapacity)
             ↔ IsFullAtLimit (room self.old) (limit self.old) (length (items self.old)) }
     {
-        match grow_if_full(self) {
-            Ok(()) => {
-                let (inx, _item) = self.push_reserved(t);
-                Ok(inx)
-            }
-            Err(refusal) => Err(refusal),
-        }
+        grow_if_full(self)?;
+        let (inx, _item) = self.push_reserved(t);
+        Ok(inx)
     }
 
     /// As [`Self::push_reallocating`].

@@ -66,13 +66,10 @@ impl<T> NonZeroInxGenericStack<T> for HeapStack<T> {
     }
 
     fn with_min_capacity(alloc: Global, min_capacity: usize) -> Result<Self, AllocError> {
-        match Vec::with_capacity(alloc, min_capacity) {
-            Ok(items) => Ok(HeapStack {
-                items,
-                room: min_capacity,
-            }),
-            Err(_) => Err(AllocError),
-        }
+        Ok(HeapStack {
+            items: Vec::with_capacity(alloc, min_capacity)?,
+            room: min_capacity,
+        })
     }
 
     fn capacity(&self) -> usize {
@@ -90,9 +87,7 @@ impl<T> NonZeroInxGenericStack<T> for HeapStack<T> {
         }
         if room > self.room {
             let more = room - self.items.len();
-            if self.items.reserve_exact(more).is_err() {
-                return Err(ReallocationError::AllocError);
-            }
+            self.items.reserve_exact(more)?;
         } else {
             self.items.shrink_to(room);
         }

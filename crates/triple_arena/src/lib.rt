@@ -7,6 +7,8 @@ mod arena_trait;
 mod base_arena;
 mod slot;
 mod slots;
+#[cfg(test)]
+mod tests;
 
 pub use arena_insert_trait::ArenaInsertTrait;
 pub use arena_trait::ArenaTrait;

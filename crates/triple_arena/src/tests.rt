@@ -1,0 +1,7 @@
+//! What no clause of the arenas says: that their calls succeed, worked rows, and refusals of memory.
+
+mod byte_pointer;
+mod calls;
+mod refusals;
+mod rows;
+mod token;

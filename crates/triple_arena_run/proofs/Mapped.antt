@@ -1,5 +1,5 @@
 -- What a map of an arena's values, or of a table's pointers, leaves as it is.
-use Rattle.std.proofs.Common.{◌≡◌, ℕ, ◌+◌, ◌-◌, ◌==◌, ◌<◌, ◌≤◌, zero, suc, Bool, true, false, cond, List, [], ◌∷◌, ◌++◌, map, take, length, Option, Some, None, is_some, slice_get, count_by, refl, sym, ap, subst, ◌∙◌, inl, inr, true≢false, arith}
+use Rattle.std.proofs.Common.{◌≡◌, ℕ, ◌+◌, ◌-◌, ◌==◌, ◌<◌, ◌≤◌, zero, suc, Bool, true, false, cond, List, [], ◌∷◌, ◌++◌, map, take, length, Option, Some, None, is_some, slice_get, refl, sym, ap, subst, ◌∙◌, inl, inr, true≢false, arith}
 use Rattle.std.proofs.lemmas.Bool.{cases_eq}
 use Rattle.std.specs.List.{position, position_or_len}
 use Rattle.std.specs.Option.{option_map, option_and_then}
@@ -11,7 +11,7 @@ use Rattle.triple_arena.specs.Numbered.{item, with_item}
 use Rattle.triple_arena.specs.Pointers.{Pointer}
 use Rattle.triple_arena.specs.Entries.{value_under, entry_count}
 use Rattle.triple_arena.specs.ArenaState.{ArenaState, arena_len, capacity, entry, look_up, slot_count, map_entry, map_values}
-use Rattle.triple_arena.specs.Insertion.{place_among, place, inserted_among, inserted, next_pointer}
+use Rattle.triple_arena.specs.Insertion.{place_among, inserted_among, inserted, next_pointer}
 use Rattle.triple_arena.specs.Capacity.{with_room_for, next_capacity, grown}
 use Rattle.triple_arena.specs.Ending.{removed, told_of}
 use Rattle.triple_arena_base.specs.declared.invalidation.InvalidationResult.TheVariants as told

@@ -1,5 +1,5 @@
 -- What each command makes of a session, and what is replied.
-use Rattle.std.specs.Prelude.{◌≡◌, ℕ, ◌+◌, ◌≤◌, ◌==◌, nat_le, ◌⊎◌, Bool, false, cond, List, [], ◌∷◌, ◌++◌, length, Option, Some, None, IsSome}
+use Rattle.std.specs.Prelude.{◌≡◌, ℕ, ◌+◌, ◌≤◌, ◌==◌, nat_le, ◌⊎◌, Bool, false, cond, [], ◌∷◌, ◌++◌, length, Option, Some, None, IsSome}
 use Rattle.triple_arena_base.specs.declared.errors.ReallocationError.{ReallocationError}
 use Rattle.triple_arena_base.specs.declared.errors.ReallocationError.TheVariants as refused
 use Rattle.triple_arena_ptr.specs.Numbers.{raise, wraps}

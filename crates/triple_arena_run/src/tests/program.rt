@@ -5,16 +5,36 @@ use crate::text::TextError;
 use std::test::Fail;
 
 #[test]
-fn takes_heap_or_no_argument(rt: HostRuntime) -> Result<(), Fail> {
-    assert!(rt; parse_args(&[]) == Some(Kind::Heap));
-    assert!(rt; parse_args(&["heap"]) == Some(Kind::Heap));
-    let wrong: [&[&str]; 6] = [
+fn takes_each_kind_and_nothing_else(rt: HostRuntime) -> Result<(), Fail> {
+    let right: [(&[&str], Kind); 8] = [
+        (&[], Kind::Heap),
+        (&["heap"], Kind::Heap),
+        (&["array"], Kind::Array),
+        (&["limited", "8"], Kind::Limited(8)),
+        (&["limited", "007"], Kind::Limited(7)),
+        (&["fixed", "0"], Kind::Fixed(0)),
+        (&["fixed", "12"], Kind::Fixed(12)),
+        (
+            &["limited", "18446744073709551615"],
+            Kind::Limited(18446744073709551615),
+        ),
+    ];
+    for (words, kind) in right {
+        assert!(rt; parse_args(words) == Some(kind));
+    }
+    let wrong: [&[&str]; 12] = [
         &[""],
         &["Heap"],
         &["heap "],
         &["heap", "heap"],
         &["limited"],
-        &["limited", "8"],
+        &["fixed"],
+        &["array", "8"],
+        &["limited", "-1"],
+        &["limited", "+1"],
+        &["fixed", ""],
+        &["fixed", "18446744073709551616"],
+        &["limited", "1", "1"],
     ];
     for words in wrong {
         assert!(rt; parse_args(words).is_none());

@@ -5,9 +5,10 @@ use std::test::Fail;
 
 #[test]
 fn writes_each_reply(rt: HostRuntime) -> Result<(), Fail> {
-    let rows: [(Reply<u64>, &str); 12] = [
+    let rows: [(Reply<u64>, &str); 13] = [
         (Reply::Given(1, false), "given 1"),
         (Reply::Given(20, true), "given 20 wrapped"),
+        (Reply::BeyondMaxCapacity, "beyond max capacity"),
         (Reply::NoMemory, "no memory"),
         (Reply::Found(10, None), "found 10 -"),
         (Reply::Found(0, Some(7)), "found 0 7"),

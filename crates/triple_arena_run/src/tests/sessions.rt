@@ -5,9 +5,15 @@ use crate::node::Node;
 use crate::reply::Reply;
 use crate::session::Session;
 use crate::text::run_text;
+use std::alloc::Global;
 use std::process::Abort;
 use std::test::Fail;
+use triple_arena::{ArenaSlot, ArenaTrait};
 use triple_arena_ptr::{P0, P3, Ptr, PtrGen};
+use triple_arena_stack::{
+    NonZeroInxArray, NonZeroInxBoxedSlice, NonZeroInxGenericStack, NonZeroInxLimitedVec,
+    NonZeroInxVec,
+};
 
 #[test]
 fn answers_by_name(rt: HostRuntime) {
@@ -117,4 +123,101 @@ fn a_refused_insertion_changes_nothing(rt: HostRuntime) {
         }
     }
     assert_eq!(rt; given, if refused { 11 } else { 12 });
+}
+
+type Slot = ArenaSlot<P0, Node<u64, P0>>;
+
+/// The text answered by a session over each kind of stack, with room for so many at first.
+fn replies_over<S: NonZeroInxGenericStack<Slot> + Drop>(
+    rt: &impl Abort,
+    alloc: Global,
+    room: Option<usize>,
+    text: &[u8],
+    replies: &[u8],
+) -> Result<(), Fail> {
+    let mut session: Session<P0, u64, S> = match room {
+        Some(room) => Session::with_min_capacity(alloc, room)?,
+        None => Session::new(alloc),
+    };
+    let mut input = text;
+    let mut output = Vec::new(alloc);
+    assert!(rt; run_text(&mut session, alloc, &mut input, &mut output) == Ok(()));
+    assert_eq!(rt; output.as_slice(), replies);
+    Ok(())
+}
+
+#[test]
+fn a_limit_refuses_and_a_removal_makes_place(rt: HostRuntime) -> Result<(), Fail> {
+    let text = b"insert 1 -\ninsert 2 -\ninsert 3 -\nremove 1\ninsert 4 -\nget 1\n".as_slice();
+    let replies =
+        b"given 1\ngiven 2\nbeyond max capacity\nremoved 1 -\ngiven 3\nnothing\n".as_slice();
+    let alloc = rt.alloc();
+    replies_over::<NonZeroInxLimitedVec<Slot>>(&rt, alloc, Some(2), text, replies)?;
+    replies_over::<NonZeroInxBoxedSlice<Slot>>(&rt, alloc, Some(2), text, replies)?;
+    replies_over::<NonZeroInxArray<Slot, 2>>(&rt, alloc, None, text, replies)?;
+    let unlimited = b"given 1\ngiven 2\ngiven 3\nremoved 1 -\ngiven 4\nnothing\n".as_slice();
+    replies_over::<NonZeroInxVec<Slot>>(&rt, alloc, Some(2), text, unlimited)
+}
+
+#[test]
+fn an_array_of_eight_takes_eight(rt: HostRuntime) -> Result<(), Fail> {
+    let text =
+        b"insert 1 -\ninsert 1 -\ninsert 1 -\ninsert 1 -\ninsert 1 -\ninsert 1 -\ninsert 1 -\ninsert 1 -\ninsert 1 -\n".as_slice();
+    let replies =
+        b"given 1\ngiven 2\ngiven 3\ngiven 4\ngiven 5\ngiven 6\ngiven 7\ngiven 8\nbeyond max capacity\n".as_slice();
+    replies_over::<NonZeroInxArray<Slot, 8>>(&rt, rt.alloc(), None, text, replies)
+}
+
+#[test]
+fn a_session_without_places_refuses_each_insertion(rt: HostRuntime) -> Result<(), Fail> {
+    let text = b"insert 5 -\nget 1\n".as_slice();
+    let replies = b"beyond max capacity\nnothing\n".as_slice();
+    replies_over::<NonZeroInxBoxedSlice<Slot>>(&rt, rt.alloc(), Some(0), text, replies)?;
+    replies_over::<NonZeroInxLimitedVec<Slot>>(&rt, rt.alloc(), None, text, replies)?;
+    let refused = Session::<P0, u64, NonZeroInxArray<Slot, 8>>::with_min_capacity(rt.alloc(), 9);
+    assert!(rt; refused.is_err());
+    Ok(())
+}
+
+#[test]
+fn a_run_gives_one_reply_for_each_command(rt: HostRuntime) -> Result<(), Fail> {
+    let mut session: Session<P0, u64> = Session::new(rt.alloc());
+    assert_eq!(rt; session.arena().len(), 0);
+    let commands = [
+        Command::Insert(10, None),
+        Command::Insert(20, Some(1)),
+        Command::Remove(1),
+        Command::Get(2),
+        Command::Get(1),
+    ];
+    let replies = session.run(&commands)?;
+    let expected = [
+        Reply::Given(1, false),
+        Reply::Given(2, false),
+        Reply::Removed(10, None, false),
+        Reply::Found(20, Some(1)),
+        Reply::Nothing,
+    ];
+    assert!(rt; replies.as_slice() == expected.as_slice());
+    assert_eq!(rt; session.arena().len(), 1);
+    assert!(rt; session.run(&[])?.is_empty());
+    Ok(())
+}
+
+/// The last of these removals wraps the 16-bit counter, and the run ends with its reply.
+#[test]
+fn a_run_ends_at_a_wrap(rt: HostRuntime) -> Result<(), Fail> {
+    let mut session: Session<P3, u64> = Session::new(rt.alloc());
+    for name in 1..65534 {
+        assert!(rt; session.step(Command::Insert(1, None)) == Reply::Given(name, false));
+        assert!(rt; session.step(Command::Remove(name)) == Reply::Removed(1, None, false));
+    }
+    let replies = session.run(&[
+        Command::Insert(5, None),
+        Command::Remove(65534),
+        Command::Insert(6, None),
+    ])?;
+    let expected = [Reply::Given(65534, false), Reply::Removed(5, None, true)];
+    assert!(rt; replies.as_slice() == expected.as_slice());
+    Ok(())
 }

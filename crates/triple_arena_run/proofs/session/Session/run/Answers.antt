@@ -1,4 +1,4 @@
-use Rattle.std.proofs.Common.{◌≡◌, ◌+◌, subst, sym, ap, ◌∙◌}
+use Rattle.std.proofs.Common.{◌+◌, subst, sym, ap, ◌∙◌}
 use Rattle.std.proofs.lemmas.List.{length_push}
 use Rattle.triple_arena_run.specs.SessionRun.{IsStep}
 use Rattle.triple_arena_run.proofs.RunLaws.{IsRun-more, RunsToWrap-wrapped, TellsOfNoWrap-push}

@@ -100,7 +100,8 @@ fn a_byte_index_ends_at_255(rt: HostRuntime) -> Result<(), Fail> {
     assert_eq!(rt; bounds_of(&arena), full);
     let made: Result<Arena<P5, Token>, AllocError> = Arena::with_min_capacity(rt.alloc(), 256);
     assert_eq!(rt; made.err(), Some(AllocError));
-    assert!(rt; Arena::<P5, Token>::with_min_capacity(rt.alloc(), 255).is_ok());
+    let greatest: Arena<P5, Token> = Arena::with_min_capacity(rt.alloc(), 255)?;
+    assert_eq!(rt; greatest.capacity(), 255);
     Ok(())
 }
 

@@ -189,6 +189,8 @@ pub trait NonZeroInxGenericStack<T> {
         ensures room { OnOk result (room self.new
             ≡ room_for_one_more (room self.old) (limit self.old) (length (items self.old))) }
         ensures limit { limit self.new ≡ limit self.old }
+        ensures fits { OnOk result
+            (length (items self.new) ≤ capacity_of (room self.new) (limit self.new)) }
         ensures refused { OnErr result (self.new ≡ self.old) }
         ensures had_place { HasPlace (room self.old) (limit self.old) (length (items self.old))
             → IsOk result × (self.new ≡ with_items self.old (items self.old ++ t ∷ [])) }
@@ -209,6 +211,8 @@ pub trait NonZeroInxGenericStack<T> {
         ensures room { OnOk result (room self.new
             ≡ room_for_one_more (room self.old) (limit self.old) (length (items self.old))) }
         ensures limit { limit self.new ≡ limit self.old }
+        ensures fits { OnOk result
+            (length (items self.new) ≤ capacity_of (room self.new) (limit self.new)) }
         ensures refused { OnErr result (self.new ≡ self.old) }
         ensures had_place { HasPlace (room self.old) (limit self.old) (length (items self.old))
             → IsOk result × (self.new ≡ with_items self.old (items self.old ++ t ∷ [])) }

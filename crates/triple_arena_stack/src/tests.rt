@@ -2,6 +2,7 @@
 //! a client that stands on the contract alone.
 
 mod client;
+mod drops;
 mod entries;
 mod refusals;
 mod rows;

@@ -1,5 +1,5 @@
-//! What no clause of the stacks says: that their calls succeed, worked rows, refusals of memory, and
-//! a client that stands on the contract alone.
+//! What no clause of the stacks says: that their calls succeed, worked rows, refusals of memory,
+//! and a client that stands on the contract alone.
 
 mod client;
 mod drops;

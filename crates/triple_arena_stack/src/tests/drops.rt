@@ -1,4 +1,5 @@
-//! Items that count their drops: each is dropped once, whatever the call, on each of the four stacks.
+//! Items that count their drops: each is dropped once, whatever the call, on each of the four
+//! stacks.
 
 use crate::{
     NonZeroInxArray, NonZeroInxBoxedSlice, NonZeroInxGenericStack, NonZeroInxLimitedVec,

@@ -36,7 +36,8 @@ fn push_and_write<T: Drop, K: NonZeroInxGenericStack<T>>(
     first: T,
     second: T,
 ) -> Result<(), NotWithinCapacityError>
-    ensures pushed { OnOk result (stack.new ≡ K.with_items stack.old (K.items stack.old ++ second ∷ [])) }
+    ensures pushed { OnOk result
+        (stack.new ≡ K.with_items stack.old (K.items stack.old ++ second ∷ [])) }
     ensures refused { OnErr result (stack.new ≡ stack.old) }
 {
     let entry = stack.entry_push_within_capacity()?;

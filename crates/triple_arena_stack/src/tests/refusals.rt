@@ -1,5 +1,5 @@
-//! Memory that is refused: by requests past what a vector may hold, and by the Nth request where the
-//! tests run as `rt try --test --fail-alloc N`.
+//! Memory that is refused: by requests past what a vector may hold, and by the Nth request where
+//! the tests run as `rt try --test --fail-alloc N`.
 
 use super::token::{Token, bounds_of, has, inx};
 use crate::{
@@ -102,7 +102,8 @@ fn a_refused_growth_changes_nothing(rt: HostRuntime) {
     mem::forget(limited);
 }
 
-// Whether `stack` has this length, capacity and limit, and items that are numbered as their indices.
+// Whether `stack` has this length, capacity and limit, and items that are numbered as their
+// indices.
 fn is_as_before<S: NonZeroInxGenericStack<Token>>(
     stack: &S,
     before: (usize, usize, Option<usize>),

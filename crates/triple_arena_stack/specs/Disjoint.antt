@@ -37,9 +37,9 @@ module _ {F A R : Type 0} (g : Once F (MutBor A × (MutBor A × Unit {0})) (R ×
     pub met : g.post f (first, (second, tt)) (r, left)
     pub leaves : (left.0.now ≡ x') × (left.1.0.now ≡ y')
 
-  -- f may be called at the items at two places
+  -- f may be called at the items at two places, where they are two
   abbrev pub MayWork : ℕ → ℕ → List A → Type 0
-  MayWork i j old = (x y : A) → slice_get old i ≡ Some x → slice_get old j ≡ Some y → FnOnceTakesAtPairMut x y
+  MayWork i j old = i ≢ j → (x y : A) → slice_get old i ≡ Some x → slice_get old j ≡ Some y → FnOnceTakesAtPairMut x y
 
   -- a call of f at the items at two places gave r, and what it left stands there; no other item
   -- changed

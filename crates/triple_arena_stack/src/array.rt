@@ -9,7 +9,8 @@ use std::marker::Model;
 use std::num::NonZeroUsize;
 use triple_arena_base::{AllocError, ReallocationError};
 
-/// A stack in an array of `LIMIT` places, which takes no memory. Its room and its limit are `LIMIT`.
+/// A stack in an array of `LIMIT` places, which takes no memory. Its room and its limit are
+/// `LIMIT`.
 pub type NonZeroInxArray<T, const LIMIT: usize> = NonZeroInxStack<T, ArrayStack<T, LIMIT>>;
 
 /// A place on a [`NonZeroInxArray`] for one more item.

@@ -7,7 +7,8 @@ use triple_arena_base::ReallocationError;
 
 /// Makes room for one more item where the stack is full, and else does nothing.
 ///
-/// Refused as [`NonZeroInxGenericStack::push_reallocating`] is; then the stack is unchanged.
+/// Refused as [`NonZeroInxGenericStack::push_reallocating`] is; then the stack is unchanged. A
+/// growth may move each item once.
 pub fn grow_if_full<T, S: NonZeroInxGenericStack<T>>(stack: &mut S) -> Result<(), ReallocationError>
     ensures items { S.items stack.new ≡ S.items stack.old }
     ensures limit { S.limit stack.new ≡ S.limit stack.old }

@@ -27,11 +27,20 @@ pub trait NonZeroInxGenericStackPushEntryTrait<'a, T> {
     ghost place: { Self → ℕ };
 
     /// The index that the item will have.
+    ///
+    /// The entry must have its place, as each entry that a stack gives has: by `variant` and
+    /// `stack` of `entry_push_within_capacity`, by `has_place` of `entry_push` and
+    /// `entry_push_reallocating`.
     fn inx(&self) -> NonZeroUsize
         requires { has_place self.now }
         ensures { non_zero_usize_get result ≡ place self.now };
 
-    /// Pushes `t`, and gives the item on the stack.
+    /// Pushes `t`, and gives the item on the stack. It takes no memory, and has no refusal.
+    ///
+    /// The entry must have its place, as each entry that a stack gives has: by `variant` and
+    /// `stack` of `entry_push_within_capacity`, by `has_place` of `entry_push` and
+    /// `entry_push_reallocating`. What is written through the reference stands on the stack after
+    /// the other items.
     fn push(self, t: T) -> &'a mut T
         requires { has_place self }
         ensures value { result.now ≡ t };
@@ -65,8 +74,10 @@ impl<T, K: NonZeroInxGenericStack<T>> NonZeroInxStack<T, K> {
         ensures room { IfOk result (λ entry. K.room (entry_stack entry)
             ≡ room_for_one_more (K.room self.old) (K.limit self.old) (length (K.items self.old))) }
         ensures has_place { IfOk result (λ entry. HasPlace
-            (K.room (entry_stack entry)) (K.limit (entry_stack entry)) (length (K.items (entry_stack entry)))) }
-        ensures had_place { HasPlace (K.room self.old) (K.limit self.old) (length (K.items self.old))
+            (K.room (entry_stack entry)) (K.limit (entry_stack entry))
+            (length (K.items (entry_stack entry)))) }
+        ensures had_place { HasPlace
+            (K.room self.old) (K.limit self.old) (length (K.items self.old))
             → IsOkAnd result (λ entry. entry_stack entry ≡ self.old) }
         ensures beyond { (result ≡ Err ReallocationError.BeyondMaxCapacity)
             ↔ IsFullAtLimit (K.room self.old) (K.limit self.old) (length (K.items self.old)) }
@@ -84,8 +95,10 @@ impl<T, K: NonZeroInxGenericStack<T>> NonZeroInxStack<T, K> {
         ensures room { IfOk result (λ entry. K.room (entry_stack entry)
             ≡ room_for_one_more (K.room self.old) (K.limit self.old) (length (K.items self.old))) }
         ensures has_place { IfOk result (λ entry. HasPlace
-            (K.room (entry_stack entry)) (K.limit (entry_stack entry)) (length (K.items (entry_stack entry)))) }
-        ensures had_place { HasPlace (K.room self.old) (K.limit self.old) (length (K.items self.old))
+            (K.room (entry_stack entry)) (K.limit (entry_stack entry))
+            (length (K.items (entry_stack entry)))) }
+        ensures had_place { HasPlace
+            (K.room self.old) (K.limit self.old) (length (K.items self.old))
             → IsOkAnd result (λ entry. entry_stack entry ≡ self.old) }
         ensures beyond { (result ≡ Err ReallocationError.BeyondMaxCapacity)
             ↔ IsFullAtLimit (K.room self.old) (K.limit self.old) (length (K.items self.old)) }
@@ -99,7 +112,8 @@ impl<T, K: NonZeroInxGenericStack<T>> NonZeroInxStack<T, K> {
 impl<'a, T, K: NonZeroInxGenericStack<T>> NonZeroInxGenericStackPushEntryTrait<'a, T>
     for PushEntry<'a, T, K> {
     ghost has_place = { λ entry. HasPlace
-        (K.room (entry_stack entry)) (K.limit (entry_stack entry)) (length (K.items (entry_stack entry))) };
+        (K.room (entry_stack entry)) (K.limit (entry_stack entry))
+        (length (K.items (entry_stack entry))) };
 
     ghost place = { λ entry. length (K.items (entry_stack entry)) + 1 };
 
@@ -110,7 +124,8 @@ impl<'a, T, K: NonZeroInxGenericStack<T>> NonZeroInxGenericStackPushEntryTrait<'
 
     fn push(self, t: T) -> &'a mut T
         requires { HasPlace
-            (K.room (entry_stack self)) (K.limit (entry_stack self)) (length (K.items (entry_stack self))) }
+            (K.room (entry_stack self)) (K.limit (entry_stack self))
+            (length (K.items (entry_stack self))) }
         ensures value { result.now ≡ t }
         ensures* writes_back { sem 𝓛
             (entry_lends T.row K.row K.with_items K.items self.entry result) }

@@ -19,8 +19,8 @@ use triple_arena_base::{
 /// A list of items numbered from 1, with room for so many of them, and a limit or none.
 ///
 /// The capacity is the smaller of room and limit; the length never passes it. What constructors and
-/// reallocation make of room and limit is told by the stack's kind: on the heap, on the heap up to a
-/// limit that can be set, fixed when it is made, or an array.
+/// reallocation make of room and limit is told by the stack's kind: on the heap, on the heap up to
+/// a limit that can be set, fixed when it is made, or an array.
 ///
 /// Memory is asked for only where the room is made or changes. Where it is refused, items, room and
 /// limit stay as they were.
@@ -48,7 +48,8 @@ pub trait NonZeroInxGenericStack<T> {
 
     /// An empty stack with room for `min_capacity` items.
     ///
-    /// Refused where memory is, and by an array of fewer places.
+    /// `AllocError` where memory is refused, or where the stack is an array of fewer places; never
+    /// where it takes no memory: for 0 items, and in an array within its places.
     fn with_min_capacity(alloc: Global, min_capacity: usize) -> Result<Self, AllocError>
         ensures items { IfOk result (λ stack. items stack ≡ []) }
         ensures room { IfOk result (λ stack. room stack ≡ made_room kind min_capacity) }
@@ -71,7 +72,7 @@ pub trait NonZeroInxGenericStack<T> {
     ///
     /// `BeyondMaxCapacity` exactly where the limit is below `min_capacity`; else `AllocError` where
     /// memory is refused. Neither changes the stack. Where the room stays the same, no memory is
-    /// taken.
+    /// taken; else a stack on the heap may move each item once.
     fn reallocate_min_capacity(&mut self, min_capacity: usize) -> Result<(), ReallocationError>
         ensures items { items self.new ≡ items self.old }
         ensures limit { limit self.new ≡ limit self.old }
@@ -82,10 +83,14 @@ pub trait NonZeroInxGenericStack<T> {
         ensures beyond { (result ≡ Err ReallocationError.BeyondMaxCapacity)
             ↔ IsBeyond (limit self.old) min_capacity }
         ensures succeeds { IsWithin (limit self.old) min_capacity
-            → reallocated_room kind (room self.old) (length (items self.old)) min_capacity ≡ room self.old
+            → reallocated_room kind (room self.old) (length (items self.old)) min_capacity
+            ≡ room self.old
             → IsOk result };
 
-    /// Pushes `t`, and gives its index and the item. There must be room.
+    /// Pushes `t`, and gives its index and the item. It takes no memory, and has no refusal.
+    ///
+    /// There must be a place: a caller that is not told of one tests `len() < capacity()` before.
+    /// What is written through the reference stands on the stack after the other items.
     fn push_reserved(&mut self, t: T) -> (NonZeroUsize, &mut T)
         requires { HasPlace (room self.old) (limit self.old) (length (items self.old)) }
         ensures index { non_zero_usize_get result.0 ≡ length (items self.old) + 1 }
@@ -94,11 +99,14 @@ pub trait NonZeroInxGenericStack<T> {
             (λ w. with_items self.old (items self.old ++ w ∷ []))) };
 
     /// The item at `inx`, for writing; None exactly past the length.
+    ///
+    /// What is written stands at `inx`; no other item changes, nor room nor limit.
     fn get_mut(&mut self, inx: NonZeroUsize) -> Option<&mut T>
         ensures value { option_copied_mut result
             ≡ slice_get (items self.old) (non_zero_usize_get inx - 1) }
         ensures* writes_back { sem 𝓛 (LendsIf Self.row T.row self.entry result
-            (λ w. with_items self.old (slice_set (items self.old) (non_zero_usize_get inx - 1) w)) self.old) };
+            (λ w. with_items self.old
+            (slice_set (items self.old) (non_zero_usize_get inx - 1) w)) self.old) };
 
     /// Takes the item of the greatest index away; None exactly where there is none.
     fn pop(&mut self) -> Option<T>
@@ -117,6 +125,8 @@ pub trait NonZeroInxGenericStack<T> {
         ensures { result.now ≡ items self.now };
 
     /// The items, that of index 1 first, for writing.
+    ///
+    /// What is written stands at the same places; length, room and limit stay.
     fn as_mut_slice(&mut self) -> &mut [T]
         ensures value { result.now ≡ items self.old }
         ensures* writes_back { sem 𝓛 (Lends Self.row (Array T.row 0) self.entry result
@@ -125,14 +135,17 @@ pub trait NonZeroInxGenericStack<T> {
     // `with_items` puts in the items, and leaves room and limit
     ghost items_with_items: { (stack : Self) (xs : List T) → items (with_items stack xs) ≡ xs };
 
-    ghost room_with_items: { (stack : Self) (xs : List T) → room (with_items stack xs) ≡ room stack };
+    ghost room_with_items: { (stack : Self) (xs : List T)
+        → room (with_items stack xs) ≡ room stack };
 
-    ghost limit_with_items: { (stack : Self) (xs : List T) → limit (with_items stack xs) ≡ limit stack };
+    ghost limit_with_items: { (stack : Self) (xs : List T)
+        → limit (with_items stack xs) ≡ limit stack };
 
     // items that were there change nothing, and of two changes the last counts
     ghost with_items_same: { (stack : Self) → with_items stack (items stack) ≡ stack };
 
-    ghost with_items_twice: { (stack : Self) (xs ys : List T) → with_items (with_items stack xs) ys ≡ with_items stack ys };
+    ghost with_items_twice: { (stack : Self) (xs ys : List T)
+        → with_items (with_items stack xs) ys ≡ with_items stack ys };
 
     /// How many items there are.
     final fn len(&self) -> usize
@@ -180,7 +193,8 @@ pub trait NonZeroInxGenericStack<T> {
     ///
     /// `BeyondMaxCapacity` exactly where the stack is full and its limit is reached; else
     /// `AllocError` where it is full and memory is refused, or there is no greater number. Then the
-    /// stack is unchanged, and `t` is dropped. Where the stack isn't full, no memory is taken.
+    /// stack is unchanged, and `t` is dropped. Where the stack isn't full, no memory is taken; a
+    /// growth may move each item once.
     final fn push_reallocating(&mut self, t: T) -> Result<NonZeroUsize, ReallocationError>
     where
         T: Drop,
@@ -189,6 +203,8 @@ pub trait NonZeroInxGenericStack<T> {
         ensures room { OnOk result (room self.new
             ≡ room_for_one_more (room self.old) (limit self.old) (length (items self.old))) }
         ensures limit { limit self.new ≡ limit self.old }
+        ensures fits { OnOk result
+            (length (items self.new) ≤ capacity_of (room self.new) (limit self.new)) }
         ensures refused { OnErr result (self.new ≡ self.old) }
         ensures had_place { HasPlace (room self.old) (limit self.old) (length (items self.old))
             → IsOk result × (self.new ≡ with_items self.old (items self.old ++ t ∷ [])) }
@@ -209,6 +225,8 @@ pub trait NonZeroInxGenericStack<T> {
         ensures room { OnOk result (room self.new
             ≡ room_for_one_more (room self.old) (limit self.old) (length (items self.old))) }
         ensures limit { limit self.new ≡ limit self.old }
+        ensures fits { OnOk result
+            (length (items self.new) ≤ capacity_of (room self.new) (limit self.new)) }
         ensures refused { OnErr result (self.new ≡ self.old) }
         ensures had_place { HasPlace (room self.old) (limit self.old) (length (items self.old))
             → IsOk result × (self.new ≡ with_items self.old (items self.old ++ t ∷ [])) }

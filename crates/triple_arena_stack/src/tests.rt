@@ -1,7 +1,8 @@
-//! What no clause of the stacks says: that their calls succeed, worked rows, refusals of memory, and
-//! a client that stands on the contract alone.
+//! What no clause of the stacks says: that their calls succeed, worked rows, refusals of memory,
+//! and a client that stands on the contract alone.
 
 mod client;
+mod drops;
 mod entries;
 mod refusals;
 mod rows;

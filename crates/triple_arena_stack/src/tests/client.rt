@@ -48,7 +48,8 @@ pub fn put<T: Drop, S: NonZeroInxGenericStack<Slot<T>>>(
     slots: &mut S,
     value: T,
 ) -> Result<NonZeroUsize, NotWithinCapacityError>
-    ensures variant { IsOk result ↔ (length (S.items slots.old) < capacity_of (S.room slots.old) (S.limit slots.old)) }
+    ensures variant { IsOk result
+        ↔ (length (S.items slots.old) < capacity_of (S.room slots.old) (S.limit slots.old)) }
     ensures index { IfOk result (λ inx. non_zero_usize_get inx ≡ length (S.items slots.old) + 1) }
     ensures items { OnOk result (S.items slots.new ≡ S.items slots.old ++ Slot.Full value ∷ []) }
     ensures room { S.room slots.new ≡ S.room slots.old }
@@ -80,9 +81,11 @@ pub fn put_growing<T: Drop, S: NonZeroInxGenericStack<Slot<T>>>(
     value: T,
 ) -> Result<NonZeroUsize, ReallocationError>
     ensures items { OnOk result (S.items slots.new ≡ S.items slots.old ++ Slot.Full value ∷ []) }
-    ensures room { OnOk result (S.room slots.new ≡ room_for_one_more (S.room slots.old) (S.limit slots.old) (length (S.items slots.old))) }
+    ensures room { OnOk result (S.room slots.new
+        ≡ room_for_one_more (S.room slots.old) (S.limit slots.old) (length (S.items slots.old))) }
     ensures refused { OnErr result (slots.new ≡ slots.old) }
-    ensures had_room { length (S.items slots.old) < capacity_of (S.room slots.old) (S.limit slots.old) → IsOk result }
+    ensures had_room { length (S.items slots.old)
+        < capacity_of (S.room slots.old) (S.limit slots.old) → IsOk result }
 {
     slots.push(Slot::Full(value))
 }
@@ -94,7 +97,8 @@ pub fn free<T: Drop, S: NonZeroInxGenericStack<Slot<T>>>(
     inx: NonZeroUsize,
     next: usize,
 )
-    ensures items { S.items slots.new ≡ slice_set (S.items slots.old) (non_zero_usize_get inx - 1) (Slot.Free next) }
+    ensures items { S.items slots.new
+        ≡ slice_set (S.items slots.old) (non_zero_usize_get inx - 1) (Slot.Free next) }
     ensures room { S.room slots.new ≡ S.room slots.old }
     ensures limit { S.limit slots.new ≡ S.limit slots.old }
 {
@@ -110,8 +114,10 @@ pub fn take_value<T: Drop, S: NonZeroInxGenericStack<Slot<T>>>(
     inx: NonZeroUsize,
     next: usize,
 ) -> Option<T>
-    ensures value { IfSome result (λ value. slice_get (S.items slots.old) (non_zero_usize_get inx - 1) ≡ Some (Slot.Full value)) }
-    ensures items { S.items slots.new ≡ slice_set (S.items slots.old) (non_zero_usize_get inx - 1) (Slot.Free next) }
+    ensures value { IfSome result (λ value.
+        slice_get (S.items slots.old) (non_zero_usize_get inx - 1) ≡ Some (Slot.Full value)) }
+    ensures items { S.items slots.new
+        ≡ slice_set (S.items slots.old) (non_zero_usize_get inx - 1) (Slot.Free next) }
     ensures room { S.room slots.new ≡ S.room slots.old }
     ensures limit { S.limit slots.new ≡ S.limit slots.old }
 {
@@ -131,8 +137,13 @@ pub fn exchange<T, S: NonZeroInxGenericStack<Slot<T>>>(
     first: NonZeroUsize,
     second: NonZeroUsize,
 ) -> Result<(), GetDisjointMutError>
-    ensures variant { DisjointAnswer (length (S.items slots.old)) (non_zero_usize_get first) (non_zero_usize_get second) result }
-    ensures items { (x y : Slot T) → slice_get (S.items slots.old) (non_zero_usize_get first - 1) ≡ Some x → slice_get (S.items slots.old) (non_zero_usize_get second - 1) ≡ Some y → OnOk result (S.items slots.new ≡ set_both (S.items slots.old) (non_zero_usize_get first - 1) (non_zero_usize_get second - 1) y x) }
+    ensures variant { DisjointAnswer (length (S.items slots.old))
+        (non_zero_usize_get first) (non_zero_usize_get second) result }
+    ensures items { (x y : Slot T)
+        → slice_get (S.items slots.old) (non_zero_usize_get first - 1) ≡ Some x
+        → slice_get (S.items slots.old) (non_zero_usize_get second - 1) ≡ Some y
+        → OnOk result (S.items slots.new ≡ set_both (S.items slots.old)
+        (non_zero_usize_get first - 1) (non_zero_usize_get second - 1) y x) }
     ensures refused { OnErr result (slots.new ≡ slots.old) }
     ensures room { S.room slots.new ≡ S.room slots.old }
 {
@@ -176,9 +187,12 @@ pub fn reserve<T, S: NonZeroInxGenericStack<Slot<T>>>(
 ) -> Result<usize, ReallocationError>
     ensures items { S.items slots.new ≡ S.items slots.old }
     ensures limit { S.limit slots.new ≡ S.limit slots.old }
-    ensures capacity { IfOk result (λ capacity. capacity ≡ capacity_of (reallocated_room S.kind (S.room slots.old) (length (S.items slots.old)) min_capacity) (S.limit slots.old)) }
+    ensures capacity { IfOk result (λ capacity. capacity ≡ capacity_of
+        (reallocated_room S.kind (S.room slots.old) (length (S.items slots.old)) min_capacity)
+        (S.limit slots.old)) }
     ensures refused { OnErr result (slots.new ≡ slots.old) }
-    ensures beyond { (result ≡ Err ReallocationError.BeyondMaxCapacity) ↔ IsBeyond (S.limit slots.old) min_capacity }
+    ensures beyond { (result ≡ Err ReallocationError.BeyondMaxCapacity)
+        ↔ IsBeyond (S.limit slots.old) min_capacity }
 {
     match slots.reallocate_min_capacity(min_capacity) {
         Ok(()) => Ok(slots.capacity()),
@@ -188,9 +202,11 @@ pub fn reserve<T, S: NonZeroInxGenericStack<Slot<T>>>(
 
 /// Whether the slots have reached their limit; a stack without one is on the heap.
 pub fn is_at_limit<T, S: NonZeroInxGenericStack<Slot<T>>>(slots: &S) -> bool
-    ensures value { IsTrue result ↔ IsAtLimit (S.limit slots.now) (capacity_of (S.room slots.now) (S.limit slots.now)) }
+    ensures value { IsTrue result
+        ↔ IsAtLimit (S.limit slots.now) (capacity_of (S.room slots.now) (S.limit slots.now)) }
     ensures of_kind { IsOfKind S.kind (S.room slots.now) (S.limit slots.now) }
-    ensures within { length (S.items slots.now) ≤ capacity_of (S.room slots.now) (S.limit slots.now) }
+    ensures within { length (S.items slots.now)
+        ≤ capacity_of (S.room slots.now) (S.limit slots.now) }
 {
     let capacity = slots.capacity();
     match slots.max_capacity() {

@@ -9,6 +9,7 @@ use crate::{
     NonZeroInxArray, NonZeroInxArrayPushEntry, NonZeroInxBoxedSlice, NonZeroInxBoxedSlicePushEntry,
     NonZeroInxGenericStack, NonZeroInxGenericStackPushEntryTrait, NonZeroInxLimitedVec,
     NonZeroInxLimitedVecPushEntry, NonZeroInxStack, NonZeroInxVec, NonZeroInxVecPushEntry,
+    SetMaxCapacity,
 };
 use std::num::NonZeroUsize;
 use std::process::Abort;
@@ -35,7 +36,8 @@ fn push_and_write<T: Drop, K: NonZeroInxGenericStack<T>>(
     first: T,
     second: T,
 ) -> Result<(), NotWithinCapacityError>
-    ensures pushed { OnOk result (stack.new ≡ K.with_items stack.old (K.items stack.old ++ second ∷ [])) }
+    ensures pushed { OnOk result
+        (stack.new ≡ K.with_items stack.old (K.items stack.old ++ second ∷ [])) }
     ensures refused { OnErr result (stack.new ≡ stack.old) }
 {
     let entry = stack.entry_push_within_capacity()?;
@@ -65,6 +67,20 @@ fn an_entry_of_a_full_heap_stack_makes_it_grow(rt: HostRuntime) -> Result<(), Fa
     assert_eq!(rt; stack.capacity(), 1);
     assert_eq!(rt; stack.entry_push_reallocating()?.inx().get(), 2);
     assert_eq!(rt; bounds_of(&stack), (1, 2, None));
+    Ok(())
+}
+
+#[test]
+fn an_entry_of_a_full_limited_stack_grows_to_the_limit(rt: HostRuntime) -> Result<(), Fail> {
+    let mut stack = NonZeroInxLimitedVec::new(rt.alloc());
+    assert_eq!(rt; stack.set_max_capacity(6), Ok(()));
+    for number in 1..5 {
+        stack.entry_push()?.push(Token { number });
+    }
+    assert_eq!(rt; bounds_of(&stack), (4, 4, Some(6)));
+    assert_eq!(rt; stack.entry_push()?.inx().get(), 5);
+    assert_eq!(rt; bounds_of(&stack), (4, 6, Some(6)));
+    assert!(rt; has(&stack, &[1, 2, 3, 4]));
     Ok(())
 }
 

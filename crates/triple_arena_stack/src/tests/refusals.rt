@@ -1,5 +1,5 @@
-//! Memory that is refused: by requests past what a vector may hold, and by the Nth request where the
-//! tests run as `rt try --test --fail-alloc N`.
+//! Memory that is refused: by requests past what a vector may hold, and by the Nth request where
+//! the tests run as `rt try --test --fail-alloc N`.
 
 use super::token::{Token, bounds_of, has, inx};
 use crate::{
@@ -7,22 +7,35 @@ use crate::{
     NonZeroInxGenericStackPushEntryTrait, NonZeroInxLimitedVec, NonZeroInxStack, NonZeroInxVec,
     SetMaxCapacity,
 };
+use std::alloc::Global;
 use std::mem;
 use std::process::Abort;
 use std::test::Fail;
-use triple_arena_base::{AllocError, ReallocationError};
+use triple_arena_base::{AllocError, NotWithinCapacityError, ReallocationError};
 
 // More tokens than a vector may hold.
 const TOO_MANY: usize = 1 << 61;
 
+// So long that two of them are more than a vector may hold. There is none.
+type Long = [u64; 1 << 59];
+
+// Makes a stack for more items than a vector may hold.
+fn refused_making<T, S: NonZeroInxGenericStack<T> + Drop>(
+    rt: &impl Abort,
+    alloc: Global,
+    asked: usize,
+) {
+    let made = S::with_min_capacity(alloc, asked);
+    assert_eq!(rt; made.err(), Some(AllocError), "at {asked}");
+}
+
 #[test]
 fn a_constructor_tells_of_no_memory(rt: HostRuntime) {
-    let heap = NonZeroInxVec::<Token>::with_min_capacity(rt.alloc(), TOO_MANY);
-    assert_eq!(rt; heap.err(), Some(AllocError));
-    let limited = NonZeroInxLimitedVec::<Token>::with_min_capacity(rt.alloc(), TOO_MANY);
-    assert_eq!(rt; limited.err(), Some(AllocError));
-    let fixed = NonZeroInxBoxedSlice::<Token>::with_min_capacity(rt.alloc(), TOO_MANY);
-    assert_eq!(rt; fixed.err(), Some(AllocError));
+    for asked in [TOO_MANY, usize::MAX] {
+        refused_making::<Token, NonZeroInxVec<Token>>(&rt, rt.alloc(), asked);
+        refused_making::<Token, NonZeroInxLimitedVec<Token>>(&rt, rt.alloc(), asked);
+        refused_making::<Token, NonZeroInxBoxedSlice<Token>>(&rt, rt.alloc(), asked);
+    }
 }
 
 // A reallocation of a stack that is allowed any number of items.
@@ -54,38 +67,116 @@ fn a_refused_reallocation_changes_nothing(rt: HostRuntime) -> Result<(), Fail> {
     refused_reallocation(&rt, &mut limited)
 }
 
-// So long that two of them are more than a vector may hold. There is none.
-type Long = [u64; 1 << 59];
+// Entries and reallocations of an empty stack, each of which asks for two items or more, too long
+// for a vector.
+fn refused_growth<K: NonZeroInxGenericStack<Long>>(
+    rt: &impl Abort,
+    stack: &mut NonZeroInxStack<Long, K>,
+) {
+    let before = bounds_of(stack);
+    let refusal = ReallocationError::AllocError;
+    assert_eq!(rt; stack.entry_push().err(), Some(refusal));
+    assert_eq!(rt; bounds_of(stack), before);
+    assert_eq!(rt; stack.entry_push_reallocating().err(), Some(refusal));
+    assert_eq!(rt; bounds_of(stack), before);
+    assert_eq!(rt; stack.reallocate_min_capacity(2), Err(refusal));
+    assert_eq!(rt; bounds_of(stack), before);
+    assert_eq!(rt;
+        stack.entry_push_within_capacity().err(),
+        Some(NotWithinCapacityError)
+    );
+    assert_eq!(rt; bounds_of(stack), before);
+}
 
 #[test]
 fn a_refused_growth_changes_nothing(rt: HostRuntime) {
-    let mut heap: NonZeroInxVec<Long> = NonZeroInxVec::new(rt.alloc());
-    assert_eq!(rt;
-        heap.entry_push().err(),
-        Some(ReallocationError::AllocError)
-    );
-    let refused = heap.entry_push_reallocating().err();
-    assert_eq!(rt; refused, Some(ReallocationError::AllocError));
+    let mut heap = NonZeroInxVec::new(rt.alloc());
+    refused_growth(&rt, &mut heap);
     assert_eq!(rt; bounds_of(&heap), (0, 0, None));
-    let mut limited: NonZeroInxLimitedVec<Long> = NonZeroInxLimitedVec::new(rt.alloc());
-    assert_eq!(rt; limited.set_max_capacity(9), Ok(()));
-    assert_eq!(rt;
-        limited.entry_push().err(),
-        Some(ReallocationError::AllocError)
-    );
-    assert_eq!(rt; bounds_of(&limited), (0, 0, Some(9)));
+    let mut limited = NonZeroInxLimitedVec::new(rt.alloc());
+    assert_eq!(rt; limited.set_max_capacity(2), Ok(()));
+    refused_growth(&rt, &mut limited);
+    assert_eq!(rt; bounds_of(&limited), (0, 0, Some(2)));
     // So long an item could not be dropped.
     mem::forget(heap);
     mem::forget(limited);
 }
 
-// Whether the items of `stack` are numbered as their indices.
-fn is_in_order<S: NonZeroInxGenericStack<Token>>(stack: &S) -> bool {
-    stack
-        .as_slice()
-        .iter()
-        .zip(1..u64::MAX)
-        .all(|(token, number)| token.number == number)
+// Whether `stack` has this length, capacity and limit, and items that are numbered as their
+// indices.
+fn is_as_before<S: NonZeroInxGenericStack<Token>>(
+    stack: &S,
+    before: (usize, usize, Option<usize>),
+) -> bool {
+    bounds_of(stack) == before
+        && stack
+            .as_slice()
+            .iter()
+            .zip(1..u64::MAX)
+            .all(|(token, number)| token.number == number)
+}
+
+// Whether no limit is in the way of one more item.
+fn is_below_limit<S: NonZeroInxGenericStack<Token>>(stack: &S) -> bool {
+    let (len, _, limit) = bounds_of(stack);
+    limit.is_none_or(|most| len < most)
+}
+
+// What a refusal answers, where the limit is or isn't in the way.
+fn refusal_at(is_below_limit: bool) -> ReallocationError {
+    if is_below_limit {
+        ReallocationError::AllocError
+    } else {
+        ReallocationError::BeyondMaxCapacity
+    }
+}
+
+// Pushes a token that is numbered as its index, by either call. Only a full stack may refuse it.
+fn push_next<S: NonZeroInxGenericStack<Token>>(rt: &impl Abort, stack: &mut S) {
+    let before = bounds_of(stack);
+    let (len, capacity, _) = before;
+    let number = (len as u64).saturating_add(1);
+    let refusal = refusal_at(is_below_limit(stack));
+    let pushed = if number % 2 == 0 {
+        stack.push(Token { number })
+    } else {
+        stack.push_reallocating(Token { number })
+    };
+    match pushed {
+        Ok(inx) => {
+            assert_eq!(rt; inx.get() as u64, number);
+            let after = bounds_of(stack);
+            assert_eq!(rt; after.0 as u64, number);
+            assert!(rt; is_as_before(stack, after), "at {number}");
+        }
+        Err(refused) => {
+            assert_eq!(rt; len, capacity, "at {number}");
+            assert_eq!(rt; refused, refusal, "at {number}");
+            assert!(rt; is_as_before(stack, before), "at {number}");
+        }
+    }
+}
+
+// Takes an entry of a stack, by either call, and lets it go. Only a full stack may refuse it.
+fn enter_next<K: NonZeroInxGenericStack<Token>>(
+    rt: &impl Abort,
+    stack: &mut NonZeroInxStack<Token, K>,
+) {
+    for is_first in [true, false] {
+        let before = bounds_of(stack);
+        let refusal = refusal_at(is_below_limit(stack));
+        let refused = if is_first {
+            stack.entry_push_reallocating().err()
+        } else {
+            stack.entry_push().err()
+        };
+        if let Some(refused) = refused {
+            assert_eq!(rt; refused, refusal);
+            assert_eq!(rt; before.0, before.1);
+            assert!(rt; is_as_before(stack, before));
+        }
+        assert_eq!(rt; stack.len(), before.0);
+    }
 }
 
 // Pushes, entries and reallocations, of which the machine may refuse any: each refusal leaves the
@@ -97,51 +188,75 @@ fn whatever_is_refused<K: NonZeroInxGenericStack<Token>>(
     for asked in [0, 3, 1, 9, 2, 20] {
         let before = bounds_of(stack);
         if stack.reallocate_min_capacity(asked).is_err() {
-            assert_eq!(rt; bounds_of(stack), before, "after {asked}");
+            assert!(rt; is_as_before(stack, before), "after {asked}");
         }
         assert_eq!(rt; stack.len(), before.0, "after {asked}");
+        enter_next(rt, stack);
         for _ in 0..9 {
             push_next(rt, stack);
         }
-        let before = bounds_of(stack);
-        if stack.entry_push().is_err() {
-            assert_eq!(rt; bounds_of(stack), before);
-        }
-        assert_eq!(rt; stack.len(), before.0);
+        enter_next(rt, stack);
         for _ in 0..4 {
             drop(stack.pop());
         }
     }
 }
 
-// Pushes a token that is numbered as its index. Only a full stack may refuse it.
-fn push_next<S: NonZeroInxGenericStack<Token>>(rt: &impl Abort, stack: &mut S) {
-    let before = bounds_of(stack);
-    let (len, capacity, _) = before;
-    let number = (len as u64).saturating_add(1);
-    match stack.push(Token { number }) {
-        Ok(inx) => assert_eq!(rt; inx.get() as u64, number),
-        Err(_) => {
-            assert_eq!(rt; len, capacity, "at {number}");
-            assert_eq!(rt; bounds_of(stack), before, "at {number}");
-        }
-    }
-    assert!(rt; is_in_order(stack), "at {number}");
+#[test]
+fn each_refusal_leaves_a_heap_stack_as_it_was(rt: HostRuntime) {
+    let mut heap = NonZeroInxVec::new(rt.alloc());
+    whatever_is_refused(&rt, &mut heap);
 }
 
 #[test]
-fn each_refusal_leaves_the_stack_as_it_was(rt: HostRuntime) {
-    let mut heap = NonZeroInxVec::new(rt.alloc());
-    whatever_is_refused(&rt, &mut heap);
+fn each_refusal_leaves_a_limited_stack_as_it_was(rt: HostRuntime) {
     let mut limited = NonZeroInxLimitedVec::new(rt.alloc());
     assert_eq!(rt; limited.set_max_capacity(15), Ok(()));
     whatever_is_refused(&rt, &mut limited);
-    let mut fixed = NonZeroInxBoxedSlice::with_min_capacity(rt.alloc(), 4);
-    if let Ok(fixed) = &mut fixed {
-        whatever_is_refused(&rt, fixed);
+}
+
+#[test]
+fn each_refusal_leaves_a_fixed_stack_and_an_array_as_they_were(rt: HostRuntime) {
+    match NonZeroInxBoxedSlice::with_min_capacity(rt.alloc(), 4) {
+        Ok(mut fixed) => whatever_is_refused(&rt, &mut fixed),
+        Err(refused) => assert_eq!(rt; refused, AllocError),
     }
     let mut array: NonZeroInxArray<Token, 4> = NonZeroInxArray::new(rt.alloc());
     whatever_is_refused(&rt, &mut array);
+}
+
+// Raises the limit of `stack`, to see its room, and lowers it again.
+fn room_of(rt: &impl Abort, stack: &mut NonZeroInxLimitedVec<Token>, limit: usize) -> usize {
+    assert_eq!(rt; stack.max_capacity(), Some(limit));
+    assert_eq!(rt; stack.set_max_capacity(usize::MAX), Ok(()));
+    let room = stack.capacity();
+    assert_eq!(rt; stack.set_max_capacity(limit), Ok(()));
+    room
+}
+
+#[test]
+fn a_refusal_leaves_the_room_above_a_limit(rt: HostRuntime) -> Result<(), Fail> {
+    let mut stack = NonZeroInxLimitedVec::with_min_capacity(rt.alloc(), 8)?;
+    for number in 1..3 {
+        stack.push(Token { number })?;
+    }
+    assert_eq!(rt; stack.set_max_capacity(2), Ok(()));
+    let beyond = ReallocationError::BeyondMaxCapacity;
+    assert_eq!(rt; stack.push(Token { number: 3 }), Err(beyond));
+    assert_eq!(rt; room_of(&rt, &mut stack, 2), 8);
+    assert_eq!(rt; stack.push_reallocating(Token { number: 3 }), Err(beyond));
+    assert_eq!(rt; room_of(&rt, &mut stack, 2), 8);
+    let refused = stack.push_within_capacity(Token { number: 3 });
+    assert_eq!(rt; refused, Err(NotWithinCapacityError));
+    assert_eq!(rt; room_of(&rt, &mut stack, 2), 8);
+    assert_eq!(rt; stack.entry_push().err(), Some(beyond));
+    assert_eq!(rt; room_of(&rt, &mut stack, 2), 8);
+    assert_eq!(rt; stack.reallocate_min_capacity(3), Err(beyond));
+    assert_eq!(rt; room_of(&rt, &mut stack, 2), 8);
+    assert!(rt; stack.set_max_capacity(1).is_err());
+    assert_eq!(rt; room_of(&rt, &mut stack, 2), 8);
+    assert!(rt; has(&stack, &[1, 2]));
+    Ok(())
 }
 
 #[test]

@@ -10,7 +10,6 @@ use crate::{
     NonZeroInxVec, SetMaxCapacity, pair_if, pair_of,
 };
 use std::alloc::Global;
-use std::cell::Cell;
 use std::mem;
 use std::process::Abort;
 use std::test::Fail;
@@ -307,41 +306,100 @@ fn the_client_on_each_stack(rt: HostRuntime) -> Result<(), Fail> {
     Ok(())
 }
 
-// An item that counts its drops.
-struct Counted<'a> {
-    drops: &'a Cell<u64>,
+#[test]
+fn a_new_fixed_stack_has_no_place(rt: HostRuntime) {
+    let mut stack = NonZeroInxBoxedSlice::new(rt.alloc());
+    assert_eq!(rt; bounds_of(&stack), (0, 0, Some(0)));
+    let refused = stack.push_within_capacity(Token { number: 1 });
+    assert_eq!(rt; refused, Err(NotWithinCapacityError));
+    assert_eq!(rt;
+        stack.push(Token { number: 1 }),
+        Err(ReallocationError::BeyondMaxCapacity)
+    );
+    assert_eq!(rt; stack.reallocate_min_capacity(0), Ok(()));
+    assert_eq!(rt; bounds_of(&stack), (0, 0, Some(0)));
 }
 
-impl Drop for Counted<'_> {
-    fn drop(self) {
-        let Counted { drops } = self;
-        drops.set(drops.get().wrapping_add(1));
+// Growth of a stack, made for one item and without a limit, of items of any size.
+fn growth_of<T: Copy + PartialEq + Drop, S: NonZeroInxGenericStack<T>>(
+    rt: &impl Abort,
+    stack: &mut S,
+    item: T,
+) -> Result<(), Fail> {
+    for (number, capacity) in [(1, 1), (2, 2), (3, 4), (4, 4), (5, 8)] {
+        assert_eq!(rt; stack.push(item)?.get(), number);
+        assert_eq!(rt; stack.capacity(), capacity, "after {number}");
     }
+    assert_eq!(rt; stack.reallocate_min_capacity(6), Ok(()));
+    assert_eq!(rt; bounds_of(stack), (5, 6, None));
+    assert!(rt; stack.as_slice().iter().all(|found| *found == item));
+    Ok(())
 }
 
 #[test]
-fn an_item_is_dropped_once(rt: HostRuntime) -> Result<(), Fail> {
-    let drops = Cell::new(0);
-    {
-        let mut stack = NonZeroInxBoxedSlice::with_min_capacity(rt.alloc(), 3)?;
-        for _ in 0..3 {
-            stack.push_within_capacity(Counted { drops: &drops })?;
-        }
-        assert_eq!(rt; drops.get(), 0);
-        assert!(rt;
-            stack
-                .push_within_capacity(Counted { drops: &drops })
-                .is_err()
-        );
-        assert_eq!(rt; drops.get(), 1, "a refused item");
-        assert!(rt; stack.push(Counted { drops: &drops }).is_err());
-        assert_eq!(rt; drops.get(), 2, "a refused item");
-        drop(stack.pop());
-        assert_eq!(rt; drops.get(), 3, "an item that was taken away");
-        stack.clear();
-        assert_eq!(rt; drops.get(), 5, "the others");
-        stack.push(Counted { drops: &drops })?;
-    }
-    assert_eq!(rt; drops.get(), 6, "the items of a stack that is dropped");
+fn growth_is_the_same_for_every_size(rt: HostRuntime) -> Result<(), Fail> {
+    growth_of(
+        &rt,
+        &mut NonZeroInxVec::with_min_capacity(rt.alloc(), 1)?,
+        (),
+    )?;
+    growth_of(
+        &rt,
+        &mut NonZeroInxVec::with_min_capacity(rt.alloc(), 1)?,
+        7u8,
+    )?;
+    growth_of(
+        &rt,
+        &mut NonZeroInxVec::with_min_capacity(rt.alloc(), 1)?,
+        [7u64; 200],
+    )?;
+    let mut new = NonZeroInxVec::new(rt.alloc());
+    new.push(())?;
+    assert_eq!(rt; bounds_of(&new), (1, 4, None));
+    let mut new = NonZeroInxVec::new(rt.alloc());
+    new.push([7u64; 200])?;
+    assert_eq!(rt; bounds_of(&new), (1, 4, None));
     Ok(())
+}
+
+// What reallocation of a stack with two items and room for four answers.
+fn answers_of_reallocation<S: NonZeroInxGenericStack<Token>>(
+    rt: &impl Abort,
+    stack: &mut S,
+    rooms: [(usize, usize); 4],
+) -> Result<(), Fail> {
+    for number in 1..3 {
+        stack.push(Token { number })?;
+    }
+    let limit = stack.max_capacity();
+    assert_eq!(rt; bounds_of(stack), (2, 4, limit));
+    for (asked, room) in rooms {
+        assert_eq!(rt; stack.reallocate_min_capacity(asked), Ok(()));
+        assert_eq!(rt; bounds_of(stack), (2, room, limit), "at {asked}");
+        assert!(rt; has(stack, &[1, 2]));
+    }
+    if limit.is_some() {
+        let (_, capacity, _) = bounds_of(stack);
+        for asked in [5, usize::MAX] {
+            assert_eq!(rt;
+                stack.reallocate_min_capacity(asked),
+                Err(ReallocationError::BeyondMaxCapacity)
+            );
+            assert_eq!(rt; bounds_of(stack), (2, capacity, limit), "at {asked}");
+            assert!(rt; has(stack, &[1, 2]));
+        }
+    }
+    Ok(())
+}
+
+#[test]
+fn reallocation_of_each_stack(rt: HostRuntime) -> Result<(), Fail> {
+    let mut heap = NonZeroInxVec::with_min_capacity(rt.alloc(), 4)?;
+    answers_of_reallocation(&rt, &mut heap, [(4, 4), (3, 3), (9, 9), (1, 2)])?;
+    let mut limited = NonZeroInxLimitedVec::with_min_capacity(rt.alloc(), 4)?;
+    answers_of_reallocation(&rt, &mut limited, [(4, 4), (3, 3), (0, 2), (4, 4)])?;
+    let mut fixed = NonZeroInxBoxedSlice::with_min_capacity(rt.alloc(), 4)?;
+    answers_of_reallocation(&rt, &mut fixed, [(4, 4), (3, 4), (0, 4), (4, 4)])?;
+    let mut array: NonZeroInxArray<Token, 4> = NonZeroInxArray::new(rt.alloc());
+    answers_of_reallocation(&rt, &mut array, [(4, 4), (3, 4), (0, 4), (4, 4)])
 }

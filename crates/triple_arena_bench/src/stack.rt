@@ -16,6 +16,7 @@ struct Times {
     push: Duration,
     get: Duration,
     pop: Duration,
+    again: Duration,
     grow: Duration,
 }
 
@@ -25,6 +26,7 @@ impl Times {
             push: self.push.min(other.push),
             get: self.get.min(other.get),
             pop: self.pop.min(other.pop),
+            again: self.again.min(other.again),
             grow: self.grow.min(other.grow),
         }
     }
@@ -42,6 +44,7 @@ pub fn run(rt: &(impl Print + Clock), alloc: Global) -> anyhow::Result<()> {
         ("push", stack.push, vec.push),
         ("get", stack.get, vec.get),
         ("pop", stack.pop, vec.pop),
+        ("push again", stack.again, vec.again),
         ("push with growth", stack.grow, vec.grow),
     ] {
         let ratio = ours.div_duration_f64(theirs);
@@ -73,6 +76,11 @@ fn time_vec(rt: &impl Clock, alloc: Global) -> anyhow::Result<Times> {
     }
     let pop = start.elapsed(rt)?;
     keep(sum)?;
+    let start = Instant::now(rt)?;
+    for number in 0..ITEMS {
+        vec.push(number as u64)?;
+    }
+    let again = start.elapsed(rt)?;
     let mut vec = Vec::new(alloc);
     let start = Instant::now(rt)?;
     for number in 0..ITEMS {
@@ -83,6 +91,7 @@ fn time_vec(rt: &impl Clock, alloc: Global) -> anyhow::Result<Times> {
         push,
         get,
         pop,
+        again,
         grow,
     })
 }
@@ -110,6 +119,11 @@ fn time_stack(rt: &impl Clock, alloc: Global) -> anyhow::Result<Times> {
     }
     let pop = start.elapsed(rt)?;
     keep(sum)?;
+    let start = Instant::now(rt)?;
+    for number in 0..ITEMS {
+        stack.push_within_capacity(number as u64)?;
+    }
+    let again = start.elapsed(rt)?;
     let mut stack = NonZeroInxVec::new(alloc);
     let start = Instant::now(rt)?;
     for number in 0..ITEMS {
@@ -120,6 +134,7 @@ fn time_stack(rt: &impl Clock, alloc: Global) -> anyhow::Result<Times> {
         push,
         get,
         pop,
+        again,
         grow,
     })
 }

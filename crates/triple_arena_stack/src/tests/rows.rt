@@ -330,7 +330,7 @@ fn growth_of<T: Copy + PartialEq + Drop, S: NonZeroInxGenericStack<T>>(
         assert_eq!(rt; stack.push(item)?.get(), number);
         assert_eq!(rt; stack.capacity(), capacity, "after {number}");
     }
-    assert_eq!(rt; stack.reallocate_min_capacity(6), Ok(()));
+    stack.reallocate_min_capacity(6)?;
     assert_eq!(rt; bounds_of(stack), (5, 6, None));
     assert!(rt; stack.as_slice().iter().all(|found| *found == item));
     Ok(())
@@ -374,7 +374,7 @@ fn answers_of_reallocation<S: NonZeroInxGenericStack<Token>>(
     let limit = stack.max_capacity();
     assert_eq!(rt; bounds_of(stack), (2, 4, limit));
     for (asked, room) in rooms {
-        assert_eq!(rt; stack.reallocate_min_capacity(asked), Ok(()));
+        stack.reallocate_min_capacity(asked)?;
         assert_eq!(rt; bounds_of(stack), (2, room, limit), "at {asked}");
         assert!(rt; has(stack, &[1, 2]));
     }

@@ -1,5 +1,5 @@
 -- A full arena that grows has room for one more entry.
-use Rattle.std.proofs.Common.{◌≡◌, ◌≢◌, ℕ, zero, suc, ◌*◌, ◌<◌, ◌≤◌, ◌==◌, Option, Some, None, Result, Ok, Err, OnOk, cond, max, min, arith}
+use Rattle.std.proofs.Common.{◌≢◌, ℕ, zero, suc, ◌*◌, ◌<◌, ◌==◌, Option, Some, None, Result, Ok, Err, OnOk, cond, min, arith}
 use Rattle.std.proofs.lemmas.Option.{same_Some}
 use Rattle.triple_arena_stack.specs.StackKind.{StackKind, reallocated_room, IsOfKind}
 use Rattle.triple_arena_stack.specs.StackKind.StackKind.{heap, limited, fixed, array}

@@ -1,14 +1,14 @@
 -- How the slots, and the links in them, follow each change of an arena.
-use Rattle.std.proofs.Common.{◌≡◌, ◌≢◌, ◌⊎◌, ℕ, zero, suc, ◌+◌, ◌-◌, ◌<◌, ◌≤◌, ◌==◌, Bool, true, false, List, [], ◌∷◌, ◌++◌, map, length, get_or, set, take, Option, Some, None, is_some, IsSome, count_by, cond, slice_get, refl, sym, ap, subst, ◌∙◌, inl, inr, arith, true≢false, IfSome, ◌↔◌, not}
+use Rattle.std.proofs.Common.{◌≡◌, ◌≢◌, ℕ, zero, suc, ◌+◌, ◌-◌, ◌<◌, ◌≤◌, ◌==◌, Bool, true, false, List, [], ◌∷◌, ◌++◌, map, length, get_or, take, Option, Some, None, is_some, IsSome, count_by, cond, slice_get, refl, sym, ap, subst, ◌∙◌, inl, inr, arith, true≢false, IfSome, ◌↔◌, not}
 use Rattle.std.proofs.lemmas.Bool.{cases_eq}
-use Rattle.std.proofs.lemmas.List.{length-take-le, length-set, length-map, length_push, map-set, map_push, take-map}
-use Rattle.std.proofs.lemmas.List.Sums.{sum_by-set, sum_by_push, sum_by-cons}
+use Rattle.std.proofs.lemmas.List.{length-take-le, length-map, length_push, map_push, take-map}
+use Rattle.std.proofs.lemmas.List.Sums.{sum_by_push}
 use Rattle.std.proofs.lemmas.Option.{some_pair_parts, slice_get-map, slice_get_read, slice_get_within}
 use Rattle.std.specs.Int.NonZero.{non_zero_usize_get}
 use Rattle.std.specs.Option.{option_and_then, option_map}
 use Rattle.triple_arena.specs.Numbered.{item, with_item}
-use Rattle.triple_arena.specs.Entries.{value_under, with_value_in, with_generation_in}
-use Rattle.triple_arena.specs.ArenaState.{ArenaState, new_arena, capacity, entry, look_up, slot_count, arena_len, is_free, with_value, IsWellFormed}
+use Rattle.triple_arena.specs.Entries.{with_generation_in}
+use Rattle.triple_arena.specs.ArenaState.{ArenaState, new_arena, capacity, slot_count, arena_len, is_free, with_value, IsWellFormed}
 use Rattle.triple_arena.specs.Insertion.{place_among, place, inserted_among, inserted}
 use Rattle.triple_arena.specs.Ending.{removed}
 use Rattle.triple_arena.specs.Slot.{entry_of, with_slot_value, with_slot_generation}
@@ -16,8 +16,8 @@ use Rattle.triple_arena.specs.Layout.{entry_at, next_of, after, chain, state_of,
 use Rattle.triple_arena.specs.declared.slot.FreeLink.{FreeLink}
 use Rattle.triple_arena.specs.declared.slot.ArenaSlot.{ArenaSlot}
 use Rattle.triple_arena.specs.declared.slot.ArenaSlot.TheVariants.{Free, Allocated}
-use Rattle.triple_arena.proofs.NumberedLists.{joined, item_last, map-with_item, with_item_at, item_at, eq_true, eq_false, item_within, item_past, item-with_same, item-with_other, item-push_same, item-push_other, length-with_item, split_last}
-use Rattle.triple_arena.proofs.WellFormed.{with_entry, is_free_not, with_value_is, with_generation_is, entry_of_value, value_of_entry, live_counted, count_head, count_tail, first_free, live_item, live_not_free, count-with_item, IsWellFormed-inserted, IsWellFormed-removed, IsWellFormed-with_entry, IsWellFormed-counter, IsWellFormed-empty}
+use Rattle.triple_arena.proofs.NumberedLists.{joined, item_last, map-with_item, item_at, eq_true, eq_false, item_within, item_past, item-with_same, item-with_other, item-push_other, split_last}
+use Rattle.triple_arena.proofs.WellFormed.{with_entry, is_free_not, with_value_is, with_generation_is, live_counted, count_head, count_tail, first_free, live_not_free, count-with_item, IsWellFormed-inserted, IsWellFormed-removed, IsWellFormed-with_entry, IsWellFormed-counter, IsWellFormed-empty}
 
 module _ {A B : Type 0} (f : A → B) where
   pub item-map_some : (xs : List A) (i : ℕ) (x : A) → item xs i ≡ Some x → item (map f xs) i ≡ Some (f x)

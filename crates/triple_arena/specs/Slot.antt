@@ -1,5 +1,5 @@
 -- What a slot holds.
-use Rattle.std.specs.Prelude.{◌≡◌, ℕ, Option, Some, None}
+use Rattle.std.specs.Prelude.{ℕ, Option, Some, None}
 use Rattle.triple_arena.specs.declared.slot.ArenaSlot.{ArenaSlot}
 use Rattle.triple_arena.specs.declared.slot.ArenaSlot.TheVariants.{Free, Allocated}
 

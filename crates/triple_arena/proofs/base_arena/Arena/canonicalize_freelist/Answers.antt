@@ -1,4 +1,4 @@
-use Rattle.std.proofs.Common.{◌≡◌, ◌∙◌, ap}
+use Rattle.std.proofs.Common.{◌∙◌, ap}
 use Rattle.triple_arena.specs.FreeList.{tidied}
 use Rattle.triple_arena.proofs.Links.{carried}
 use Rattle.triple_arena.proofs.Tidying.{Shows-tidied, IsInOrder-tidied}

@@ -1,4 +1,4 @@
-use Rattle.std.proofs.Common.{◌≡◌, ◌≢◌, ◌∙◌, ◌<◌, true≢false, sym, ap, subst, arith}
+use Rattle.std.proofs.Common.{◌≢◌, ◌∙◌, ◌<◌, true≢false, sym, ap, subst, arith}
 use Rattle.triple_arena_stack.specs.Capacity.{IsAtLimit}
 use Rattle.triple_arena_stack.specs.StackKind.{IsOfKind}
 use Rattle.triple_arena.specs.ArenaState.{capacity, IsWellFormed}

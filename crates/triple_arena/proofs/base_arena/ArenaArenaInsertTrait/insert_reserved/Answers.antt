@@ -1,4 +1,4 @@
-use Rattle.std.proofs.Common.{◌≡◌, ◌∙◌, sym, ap}
+use Rattle.std.proofs.Common.{◌∙◌, sym, ap}
 use Rattle.triple_arena.specs.Insertion.{inserted}
 use Rattle.triple_arena.proofs.WellFormed.{kept-inserted}
 use Rattle.triple_arena.proofs.Links.{carried}

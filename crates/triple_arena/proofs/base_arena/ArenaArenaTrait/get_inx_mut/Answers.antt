@@ -1,11 +1,9 @@
-use Rattle.std.proofs.Common.{◌≡◌, ◌∙◌, IsSome, map, inl, sym, ap, subst}
+use Rattle.std.proofs.Common.{◌∙◌, IsSome, inl, sym, ap, subst}
 use Rattle.std.proofs.Math.Path.{fun_ext}
 use Rattle.std.specs.Int.NonZero.{non_zero_usize_get}
-use Rattle.triple_arena.specs.Pointers.{numbers}
 use Rattle.triple_arena.specs.ArenaState.{ArenaState, with_value}
-use Rattle.triple_arena.specs.Slot.{entry_of}
 use Rattle.triple_arena.specs.Layout.{entry_at}
-use Rattle.triple_arena.proofs.WellFormed.{live_entry, value_read, entry_value_read}
+use Rattle.triple_arena.proofs.WellFormed.{entry_value_read}
 use Rattle.triple_arena.proofs.Links.{lent}
 use Rattle.triple_arena.proofs.base_arena.ArenaArenaTrait.get_inx_mut.Goals as goal
 

@@ -29,8 +29,8 @@ use triple_arena_stack::{NonZeroInxGenericStack, NonZeroInxVec};
 /// A generational arena over a stack of slots.
 ///
 /// Each insertion gives the new entry a pointer whose generation is the arena's counter, and each
-/// ending of an entry raises the counter, so that no pointer that was given names a later entry until
-/// the counter wraps; the calls that raise it tell of a wrap.
+/// ending of an entry raises the counter; the calls that raise it tell of a wrap. With generations
+/// that do not count, a pointer names whatever stands at its index.
 ///
 /// Insertion takes the index that was freed last, and where none is free the one past the last slot.
 /// `get`, `get_mut`, removal, and insertion within the capacity touch a constant number of slots and

@@ -12,7 +12,7 @@ pub enum Reply<X> {
     Given(usize, bool),
     /// The arena's limit is reached, and nothing has changed.
     BeyondMaxCapacity,
-    /// There was no memory, or no index, and nothing has changed.
+    /// There was no memory, or no index; entries, names, counter and capacity are as they were.
     NoMemory,
     /// The datum and the link under a name.
     Found(X, Option<usize>),

@@ -1,4 +1,4 @@
-//! Worked rows.
+//! What sequences of calls answer.
 
 use super::byte_pointer::B;
 use super::token::{Bounds, Token, bounds_of, has, inx, p0};

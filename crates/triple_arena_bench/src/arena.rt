@@ -51,7 +51,8 @@ impl Timings {
     }
 }
 
-/// Prints the least times of some runs with so many numbers, in nanoseconds for each number.
+/// Prints the least times of some runs with so many numbers, in nanoseconds for each number; clearing
+/// is one call, and its time is that of the call.
 pub fn run(rt: &(impl Print + Clock), alloc: Global, size: u32) -> anyhow::Result<()> {
     print(
         rt,
@@ -63,13 +64,13 @@ pub fn run(rt: &(impl Print + Clock), alloc: Global, size: u32) -> anyhow::Resul
 }
 
 fn print(rt: &impl Print, name: &str, size: u32, timings: Timings) -> anyhow::Result<()> {
-    let unit = Duration::from_nanos(size as u64);
-    for (operation, timing) in [
-        ("insert", timings.insert),
-        ("get", timings.get),
-        ("churn", timings.churn),
-        ("clear", timings.clear),
+    for (operation, calls, timing) in [
+        ("insert", size, timings.insert),
+        ("get", size, timings.get),
+        ("churn", size, timings.churn),
+        ("clear", 1, timings.clear),
     ] {
+        let unit = Duration::from_nanos(calls as u64);
         let nanoseconds = timing.time.div_duration_f64(unit);
         println!(rt; "{name} {size} {operation} {nanoseconds:.1} {}", timing.sum)?;
     }

@@ -1,15 +1,22 @@
-//! Times the stacks of `triple_arena_stack` against std's vector. It is a tool, and promises nothing.
+//! Times the stacks and the arena against std's vector. It is a tool, and promises nothing.
 #![tactic(auto)]
 
+mod arena;
 mod stack;
 
 use std::env;
 
-const USAGE: &str = "usage: triple_arena_bench stack";
+const USAGE: &str = "usage: triple_arena_bench stack | arena SIZES...";
 
 fn main(rt: HostRuntime) -> anyhow::Result<()> {
-    match env::args(&rt)?.nth(1) {
+    let mut args = env::args(&rt)?.skip(1);
+    match args.next() {
         Some(what) if what.as_str() == "stack" => stack::run(&rt, rt.alloc())?,
+        Some(what) if what.as_str() == "arena" => {
+            for size in args {
+                arena::run(&rt, rt.alloc(), size.as_str().parse()?)?;
+            }
+        }
         _ => println!(rt; "{USAGE}")?,
     }
     Ok(())

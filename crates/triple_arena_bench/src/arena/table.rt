@@ -1,0 +1,48 @@
+//! What an arena and a plain vector both do.
+
+use std::alloc::Global;
+use triple_arena::{Arena, ArenaInsertTrait, ArenaTrait};
+use triple_arena_base::ReallocationError;
+use triple_arena_ptr::P0;
+
+/// Numbers, each under the name that its insertion gave.
+pub trait Table: Drop {
+    type Name: Copy;
+
+    /// A table without numbers, and without room.
+    fn empty(alloc: Global) -> Self;
+
+    fn put(&mut self, number: u64) -> Result<Self::Name, ReallocationError>;
+
+    /// The number under `name`, or 0.
+    fn read(&self, name: Self::Name) -> u64;
+
+    /// Takes out the number under `name`, or gives 0.
+    fn take_out(&mut self, name: Self::Name) -> u64;
+
+    fn take_out_all(&mut self);
+}
+
+impl Table for Arena<P0, u64> {
+    type Name = P0;
+
+    fn empty(alloc: Global) -> Self {
+        Arena::new(alloc)
+    }
+
+    fn put(&mut self, number: u64) -> Result<P0, ReallocationError> {
+        self.insert(number)
+    }
+
+    fn read(&self, name: P0) -> u64 {
+        self.get(name).copied().unwrap_or(0)
+    }
+
+    fn take_out(&mut self, name: P0) -> u64 {
+        self.remove(name).allow().unwrap_or(0)
+    }
+
+    fn take_out_all(&mut self) {
+        self.clear();
+    }
+}

@@ -85,6 +85,25 @@ module _ {A : Type 0} where
   item-push_other xs zero x h = refl
   item-push_other xs (suc k) x h = slice_get-push_other xs k x (λ e. h (omega arith))
 
+  set-twice : (xs : List A) (k : ℕ) (x y : A) → set (set xs k x) k y ≡ set xs k y
+  set-twice [] k x y = refl
+  set-twice (z ∷ xs) zero x y = refl
+  set-twice (z ∷ xs) (suc k) x y = ap (λ l. z ∷ l) (set-twice xs k x y)
+
+  set-push : (xs : List A) (k : ℕ) (x y : A) → k ≡ length xs → set (xs ++ x ∷ []) k y ≡ xs ++ y ∷ []
+  set-push [] k x y e = rw e refl
+  set-push (z ∷ xs) zero x y e = absurd (omega arith)
+  set-push (z ∷ xs) (suc k) x y e = ap (λ l. z ∷ l) (set-push xs k x y (omega arith))
+
+  -- of two items that are put under one number the second stays
+  pub with_item-twice : (xs : List A) (i : ℕ) (x y : A) → with_item (with_item xs i x) i y ≡ with_item xs i y
+  with_item-twice xs zero x y = refl
+  with_item-twice xs (suc k) x y = set-twice xs k x y
+
+  pub with_item-push : (xs : List A) (i : ℕ) (x y : A) → i ≡ length xs + 1 → with_item (xs ++ x ∷ []) i y ≡ xs ++ y ∷ []
+  with_item-push xs zero x y e = absurd (omega arith)
+  with_item-push xs (suc k) x y e = set-push xs k x y (omega arith)
+
   -- a list with a last item is the rest and that item
   pub split_last : (xs : List A) (x : A) → item xs (length xs) ≡ Some x → xs ≡ take (length xs - 1) xs ++ x ∷ []
   split_last [] x e = absurd (cc)

@@ -9,3 +9,4 @@ pub mod Capacity
 pub mod Slot
 pub mod Layout
 pub mod Lends
+pub mod InsertEntry

@@ -411,7 +411,7 @@ impl<P: Ptr, T, S: NonZeroInxGenericStack<ArenaSlot<P, T>>> Arena<P, T, S> {
     }
 
     // Grows where there are as many entries as the capacity.
-    fn grow_if_full(&mut self) -> Result<(), ReallocationError>
+    pub(crate) fn grow_if_full(&mut self) -> Result<(), ReallocationError>
         ensures done { OnOk result (self.new ≡ grown S.kind self.old) }
         ensures refused { OnErr result (self.new ≡ self.old) }
         ensures has_place { OnOk result (arena_len self.new < capacity self.new) }

@@ -5,6 +5,7 @@ mod answers;
 mod arena_insert_trait;
 mod arena_trait;
 mod base_arena;
+mod insert_entry;
 mod slot;
 mod slots;
 #[cfg(test)]
@@ -13,4 +14,5 @@ mod tests;
 pub use arena_insert_trait::ArenaInsertTrait;
 pub use arena_trait::ArenaTrait;
 pub use base_arena::Arena;
+pub use insert_entry::{ArenaInsertEntry, ArenaInsertEntryTrait};
 pub use slot::{ArenaSlot, FreeLink};

@@ -4,7 +4,7 @@ ghost use Rattle.std.specs.Prelude.{◌≡◌, ◌^◌, ◌-◌, Some, true, suc
 ghost use Rattle.std.proofs.Common.{refl};
 ghost use Rattle.triple_arena_base.specs.Held.{held_itself, refill_itself};
 ghost use Rattle.triple_arena_base.specs.HeldLaws.{itself_held_refill, itself_refill_held, itself_refill_refill};
-ghost use Rattle.triple_arena_ptr.specs.NonZeroNumbers.{same_whole, u8_after, u8_after_cancels};
+ghost use Rattle.triple_arena_ptr.specs.NonZeroNumbers.{same_pair, u8_after, u8_after_cancels};
 ghost use Rattle.triple_arena_ptr.specs.PointerText.{pointer_text};
 
 use std::fmt;
@@ -74,7 +74,8 @@ impl Ptr for B {
         }
     }
 
-    ghost distinct = { λ p q i g. same_whole (λ x y. (x, y)) p.0 q.0 p.1 q.1 (u8_after_cancels p.0 q.0 i) (u8_after_cancels p.1 q.1 g) };
+    ghost distinct = { λ p q i g. same_pair p q
+        (u8_after_cancels p.0 q.0 i) (u8_after_cancels p.1 q.1 g) };
 
     ghost equates = { λ _ _. refl };
 

@@ -1,0 +1,173 @@
+//! The place of a value that is not inserted yet.
+ghost use Rattle.std.specs.Prelude.{◌≡◌, ◌<◌, ◌↔◌, IsOk, IfOk, OnOk, Err};
+ghost use Rattle.std.specs.Borrow.{sem, Lends, RestsIfErr};
+ghost use Rattle.triple_arena_ptr.specs.Numbers.{greatest_index};
+ghost use Rattle.triple_arena.specs.Pointers.{Pointer, numbers};
+ghost use Rattle.triple_arena.specs.ArenaState.{arena_len, capacity};
+ghost use Rattle.triple_arena.specs.Insertion.{next_pointer, inserted};
+ghost use Rattle.triple_arena.specs.Capacity.{grown, IsFullAtLimit};
+ghost use Rattle.triple_arena.specs.InsertEntry.{entry_arena, entry_reference, entry_lender};
+
+use crate::arena_insert_trait::ArenaInsertTrait;
+use crate::arena_trait::ArenaTrait;
+use crate::base_arena::Arena;
+use crate::slot::ArenaSlot;
+use triple_arena_base::{NotWithinCapacityError, ReallocationError};
+use triple_arena_ptr::{Ptr, PtrGen, PtrInx};
+use triple_arena_stack::{NonZeroInxGenericStack, NonZeroInxVec};
+
+/// A place in an arena for one more value.
+///
+/// Dropped, it inserts nothing; room that was made for it stays.
+#[derive(Drop)]
+pub struct ArenaInsertEntry<
+    'a,
+    P: Ptr,
+    T,
+    S: NonZeroInxGenericStack<ArenaSlot<P, T>> = NonZeroInxVec<ArenaSlot<P, T>>,
+> {
+    arena: &'a mut Arena<P, T, S>,
+}
+
+/// What can be done with a place for one more value.
+pub trait ArenaInsertEntryTrait<'a, P, T> {
+    // the numbers of a pointer's index and of its generation
+    ghost pointer: { P → Pointer };
+
+    // the arena has a place for the value
+    ghost has_place: { Self → Type 0 };
+
+    // the numbers of the pointer that the value will have
+    ghost next: { Self → Pointer };
+
+    /// The pointer that the value will have.
+    ///
+    /// The entry must have its place, as each entry that an arena gives has: by `variant` and
+    /// `arena` of `entry_insert_within_capacity`, by `has_place` of `entry_insert` and
+    /// `entry_insert_reallocating`.
+    fn ptr(&self) -> P
+        requires { has_place self.now }
+        ensures { pointer result ≡ next self.now };
+
+    /// Inserts `t` under the pointer that `ptr` tells, and gives the value in the arena. It takes no
+    /// memory, and has no refusal.
+    ///
+    /// The entry must have its place, as for `ptr`. The arena is as after an insertion of what was
+    /// last written through the reference.
+    fn insert(self, t: T) -> &'a mut T
+        requires { has_place self }
+        ensures value { result.now ≡ t };
+}
+
+impl<'a, P: Ptr, T, S: NonZeroInxGenericStack<ArenaSlot<P, T>>> ArenaInsertEntryTrait<'a, P, T>
+    for ArenaInsertEntry<'a, P, T, S> {
+    ghost use Rattle.triple_arena.specs.contracts.base_arena.Arena.{the_row};
+
+    ghost pointer = { numbers P.Inx.number P.Gen.number P.index_of P.generation_of };
+
+    ghost has_place = { λ entry. arena_len (entry_arena entry) < capacity (entry_arena entry) };
+
+    ghost next = { λ entry. next_pointer (entry_arena entry) };
+
+    fn ptr(&self) -> P
+        requires { arena_len (entry_arena self.now) < capacity (entry_arena self.now) }
+        ensures { numbers P.Inx.number P.Gen.number P.index_of P.generation_of result
+            ≡ next_pointer (entry_arena self.now) }
+    {
+        self.arena.next_ptr()
+    }
+
+    fn insert(self, t: T) -> &'a mut T
+        requires { arena_len (entry_arena self) < capacity (entry_arena self) }
+        ensures value { result.now ≡ t }
+        ensures* writes_back { sem 𝓛 (Lends
+            (the_row P.row T.row S.row P.Inx.row P.Gen.row
+            P.Ptr.own P.Debug P.Hash.own P.PartialEq P.PartialOrd.own P.Ord.own P.Recast
+            P.Inx.PtrInx.own P.Inx.Debug P.Inx.Hash.own P.Inx.PartialEq P.Inx.PartialOrd.own
+            P.Inx.Ord.own P.Gen.PtrGen.own P.Gen.Debug P.Gen.Hash.own P.Gen.PartialEq
+            P.Gen.PartialOrd.own P.Gen.Ord.own S.NonZeroInxGenericStack)
+            T.row (entry_reference self.entry) result (inserted (entry_arena self.entry))) }
+    {
+        let ArenaInsertEntry { arena } = self;
+        let _len = arena.len();
+        let p = arena.insert_reserved(t);
+        arena.get_mut(p).unwrap()
+    }
+}
+
+impl<P: Ptr, T, S: NonZeroInxGenericStack<ArenaSlot<P, T>>> Arena<P, T, S> {
+    ghost use Rattle.triple_arena.specs.contracts.base_arena.Arena.{the_row};
+
+    /// A place for one more value, where the capacity has it. It takes no memory.
+    ///
+    /// Refused exactly where there are as many entries as the capacity; then the arena is
+    /// unchanged.
+    pub fn entry_insert_within_capacity(
+        &mut self,
+    ) -> Result<ArenaInsertEntry<'_, P, T, S>, NotWithinCapacityError>
+        ensures variant { IsOk result ↔ (arena_len self.old < capacity self.old) }
+        ensures arena { IfOk result (λ entry. entry_arena entry ≡ self.old) }
+        ensures same_reference { IfOk result (λ entry. entry_lender entry ≡ self.entry.ghost_name) }
+        ensures* refused { sem 𝓛 (RestsIfErr
+            (the_row P.row T.row S.row P.Inx.row P.Gen.row
+            P.Ptr.own P.Debug P.Hash.own P.PartialEq P.PartialOrd.own P.Ord.own P.Recast
+            P.Inx.PtrInx.own P.Inx.Debug P.Inx.Hash.own P.Inx.PartialEq P.Inx.PartialOrd.own
+            P.Inx.Ord.own P.Gen.PtrGen.own P.Gen.Debug P.Gen.Hash.own P.Gen.PartialEq
+            P.Gen.PartialOrd.own P.Gen.Ord.own S.NonZeroInxGenericStack)
+            self.entry entry_lender result (λ end. end ≡ self.entry.now)) }
+    {
+        if self.len() >= self.capacity() {
+            return Err(NotWithinCapacityError);
+        }
+        Ok(ArenaInsertEntry { arena: self })
+    }
+
+    /// A place for one more value; a full arena grows first.
+    ///
+    /// Refused as [`ArenaInsertTrait::insert_reallocating`] is; then the arena is unchanged.
+    pub fn entry_insert_reallocating(
+        &mut self,
+    ) -> Result<ArenaInsertEntry<'_, P, T, S>, ReallocationError>
+        ensures arena { IfOk result (λ entry. entry_arena entry ≡ grown S.kind self.old) }
+        ensures has_place { IfOk result
+            (λ entry. arena_len (entry_arena entry) < capacity (entry_arena entry)) }
+        ensures beyond { (result ≡ Err ReallocationError.BeyondMaxCapacity)
+            ↔ IsFullAtLimit (capacity self.old) self.old.limit (arena_len self.old) }
+        ensures indexed { OnOk result (arena_len self.old ≡ capacity self.old
+            → capacity self.old < greatest_index P.Inx.greatest) }
+        ensures had_place { arena_len self.old < capacity self.old → IsOk result }
+        ensures same_reference { IfOk result (λ entry. entry_lender entry ≡ self.entry.ghost_name) }
+        ensures* refused { sem 𝓛 (RestsIfErr
+            (the_row P.row T.row S.row P.Inx.row P.Gen.row
+            P.Ptr.own P.Debug P.Hash.own P.PartialEq P.PartialOrd.own P.Ord.own P.Recast
+            P.Inx.PtrInx.own P.Inx.Debug P.Inx.Hash.own P.Inx.PartialEq P.Inx.PartialOrd.own
+            P.Inx.Ord.own P.Gen.PtrGen.own P.Gen.Debug P.Gen.Hash.own P.Gen.PartialEq
+            P.Gen.PartialOrd.own P.Gen.Ord.own S.NonZeroInxGenericStack)
+            self.entry entry_lender result (λ end. end ≡ self.entry.now)) }
+    {
+        self.grow_if_full()?;
+        Ok(ArenaInsertEntry { arena: self })
+    }
+
+    /// As [`Self::entry_insert_reallocating`].
+    pub fn entry_insert(&mut self) -> Result<ArenaInsertEntry<'_, P, T, S>, ReallocationError>
+        ensures arena { IfOk result (λ entry. entry_arena entry ≡ grown S.kind self.old) }
+        ensures has_place { IfOk result
+            (λ entry. arena_len (entry_arena entry) < capacity (entry_arena entry)) }
+        ensures beyond { (result ≡ Err ReallocationError.BeyondMaxCapacity)
+            ↔ IsFullAtLimit (capacity self.old) self.old.limit (arena_len self.old) }
+        ensures indexed { OnOk result (arena_len self.old ≡ capacity self.old
+            → capacity self.old < greatest_index P.Inx.greatest) }
+        ensures had_place { arena_len self.old < capacity self.old → IsOk result }
+        ensures same_reference { IfOk result (λ entry. entry_lender entry ≡ self.entry.ghost_name) }
+        ensures* refused { sem 𝓛 (RestsIfErr
+            (the_row P.row T.row S.row P.Inx.row P.Gen.row
+            P.Ptr.own P.Debug P.Hash.own P.PartialEq P.PartialOrd.own P.Ord.own P.Recast
+            P.Inx.PtrInx.own P.Inx.Debug P.Inx.Hash.own P.Inx.PartialEq P.Inx.PartialOrd.own
+            P.Inx.Ord.own P.Gen.PtrGen.own P.Gen.Debug P.Gen.Hash.own P.Gen.PartialEq
+            P.Gen.PartialOrd.own P.Gen.Ord.own S.NonZeroInxGenericStack)
+            self.entry entry_lender result (λ end. end ≡ self.entry.now)) }
+    {
+        self.entry_insert_reallocating()
+    }
+}

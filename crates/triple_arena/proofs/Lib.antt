@@ -3,3 +3,4 @@ pub mod WellFormed
 pub mod Links
 pub mod Tidying
 pub mod Growth
+pub mod Limits

@@ -5,6 +5,7 @@ mod answers;
 mod arena_insert_trait;
 mod arena_trait;
 mod base_arena;
+pub mod laws;
 mod slot;
 mod slots;
 #[cfg(test)]

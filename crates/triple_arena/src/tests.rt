@@ -2,6 +2,7 @@
 
 mod byte_pointer;
 mod calls;
+mod limits;
 mod refusals;
 mod rows;
 mod token;

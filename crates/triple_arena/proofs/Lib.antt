@@ -4,3 +4,4 @@ pub mod Links
 pub mod Tidying
 pub mod Growth
 pub mod Inserted
+pub mod Limits

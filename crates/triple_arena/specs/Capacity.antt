@@ -1,8 +1,8 @@
--- Reallocation and growth of an arena.
-use Rattle.std.specs.Prelude.{◌≡◌, ℕ, ◌*◌, ◌≤◌, ◌==◌, cond, Option, min}
+-- Reallocation, growth and limit of an arena.
+use Rattle.std.specs.Prelude.{◌≡◌, ℕ, ◌*◌, ◌<◌, ◌≤◌, ◌==◌, nat_lt, cond, Option, Some, None, min}
 use Rattle.triple_arena_stack.specs.StackKind.{StackKind, reallocated_room}
 use Rattle.triple_arena_stack.specs.Capacity.{capacity_of, IsAtLimit}
-use Rattle.triple_arena.specs.ArenaState.{ArenaState, slot_count, arena_len, capacity}
+use Rattle.triple_arena.specs.ArenaState.{ArenaState, slot_count, arena_len, capacity, entry}
 use Rattle.triple_arena.specs.FreeList.{tidied}
 
 module _ {T : Type 0} where
@@ -17,6 +17,19 @@ module _ {T : Type 0} where
   -- a reallocation to so many leaves the room as it is
   abbrev pub KeepsRoom : StackKind → ArenaState T → ℕ → Type 0
   KeepsRoom kind s m = (reallocated kind s m).room ≡ s.room
+
+  -- no entry stands past this index
+  abbrev pub EndsBy : ArenaState T → ℕ → Type 0
+  EndsBy s x = (i : ℕ) → x < i → entry s i ≡ None
+
+  -- the arena that a limit of x is set on: below the capacity, and so below the old limit, the free list is put in order
+  -- first
+  abbrev pub ready_for_limit : ArenaState T → ℕ → ArenaState T
+  ready_for_limit s x = cond (nat_lt x (capacity s)) (tidied s) s
+
+  -- the limit is x
+  abbrev pub with_limit : ArenaState T → ℕ → ArenaState T
+  with_limit s x = record (ready_for_limit s x) { limit = Some x }
 
   -- the capacity that a full arena grows to: 4 or twice, cut to the limit and to the greatest index
   abbrev pub next_capacity : ArenaState T → ℕ

@@ -6,6 +6,7 @@ mod arena_insert_trait;
 mod arena_trait;
 mod base_arena;
 mod insert_entry;
+pub mod laws;
 mod slot;
 mod slots;
 #[cfg(test)]

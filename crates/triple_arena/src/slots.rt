@@ -19,9 +19,9 @@ use crate::slot::{ArenaSlot, FreeLink};
 use std::marker::PhantomData;
 use std::mem;
 use std::num::NonZeroUsize;
-use triple_arena_base::ReallocationError;
+use triple_arena_base::{MaxCapacityReductionError, ReallocationError};
 use triple_arena_ptr::{Ptr, PtrGen};
-use triple_arena_stack::NonZeroInxGenericStack;
+use triple_arena_stack::{NonZeroInxGenericStack, SetMaxCapacity};
 
 /// The slots of an arena. Each free one links to the next, beginning at the root.
 ///
@@ -221,6 +221,23 @@ impl<P: Ptr, T, S: NonZeroInxGenericStack<ArenaSlot<P, T>>> Slots<P, T, S> {
             }
         }
         None
+    }
+}
+
+impl<P: Ptr, T, S: SetMaxCapacity<ArenaSlot<P, T>>> Slots<P, T, S> {
+    // Sets the limit of the stack, and leaves the slots as they are.
+    pub(crate) fn set_max_capacity(
+        &mut self,
+        max_capacity: usize,
+    ) -> Result<(), MaxCapacityReductionError>
+        ensures variant { IsOk result ↔ (length (S.items self.old.stack) ≤ max_capacity) }
+        ensures items { S.items self.new.stack ≡ S.items self.old.stack }
+        ensures root { self.new.root ≡ self.old.root }
+        ensures room { S.room self.new.stack ≡ S.room self.old.stack }
+        ensures limit { OnOk result (S.limit self.new.stack ≡ Some max_capacity) }
+        ensures refused { OnErr result (S.limit self.new.stack ≡ S.limit self.old.stack) }
+    {
+        self.stack.set_max_capacity(max_capacity)
     }
 }
 

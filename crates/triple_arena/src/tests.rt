@@ -3,6 +3,7 @@
 mod byte_pointer;
 mod calls;
 mod entries;
+mod limits;
 mod refusals;
 mod rows;
 mod token;

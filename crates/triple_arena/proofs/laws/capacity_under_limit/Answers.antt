@@ -1,0 +1,5 @@
+use Rattle.triple_arena.proofs.Limits.{capacity-with_limit}
+use Rattle.triple_arena.proofs.laws.capacity_under_limit.Goals as goal
+
+pub returns : goal.returns
+returns g c = capacity-with_limit

@@ -57,6 +57,7 @@ pub trait ArenaInsertTrait<P: Ptr, T>: ArenaTrait<P, T> {
     ///
     /// Refused exactly where there are as many entries as the capacity; then the arena is
     /// unchanged, and `t` is dropped.
+    #[inline(always)]
     final fn insert_within_capacity(&mut self, t: T) -> Result<P, NotWithinCapacityError>
     where
         T: Drop,
@@ -74,6 +75,7 @@ pub trait ArenaInsertTrait<P: Ptr, T>: ArenaTrait<P, T> {
     }
 
     /// As [`Self::insert_reallocating`].
+    #[inline(always)]
     final fn insert(&mut self, t: T) -> Result<P, ReallocationError>
     where
         T: Drop,

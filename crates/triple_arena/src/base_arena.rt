@@ -269,6 +269,7 @@ impl<P: Ptr, T, S: NonZeroInxGenericStack<ArenaSlot<P, T>>> ArenaInsertTrait<P, 
         p
     }
 
+    #[inline(always)]
     fn insert_reallocating(&mut self, t: T) -> Result<P, ReallocationError>
     where
         T: Drop,
@@ -401,7 +402,9 @@ impl<P: Ptr, T, S: NonZeroInxGenericStack<ArenaSlot<P, T>>> Arena<P, T, S> {
         (taken, wrapped)
     }
 
-    // Reallocates the stack, and leaves the slots as they are.
+    // Reallocates the stack, and leaves the slots as they are. It is rare, and kept out of insertion.
+    #[cold]
+    #[inline(never)]
     fn reallocate(&mut self, min_capacity: usize) -> Result<(), ReallocationError>
         ensures done { OnOk result (self.new ≡ with_room_for S.kind self.old min_capacity) }
         ensures refused { OnErr result (self.new ≡ self.old) }

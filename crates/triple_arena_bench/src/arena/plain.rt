@@ -21,6 +21,7 @@ impl Table for Plain {
         }
     }
 
+    #[inline(always)]
     fn put(&mut self, number: u64) -> Result<usize, ReallocationError> {
         let Some(inx) = self.free.pop() else {
             let end = self.numbers.len();

@@ -30,6 +30,7 @@ impl Table for Arena<P0, u64> {
         Arena::new(alloc)
     }
 
+    #[inline(always)]
     fn put(&mut self, number: u64) -> Result<P0, ReallocationError> {
         self.insert(number)
     }

@@ -185,6 +185,18 @@ module _ {T : Type 0} where
           let within = item_within s.slots i None (first_free s i rest well e).0 in
           (within.0, omega (arith, well.fits, within))
 
+  -- no entry stands at the place of an insertion
+  pub place_free : (s : ArenaState T) → IsWellFormed s → entry s (place s) ≡ None
+  place_free s well = by_free s.free refl
+    where
+      by_free : (f : List ℕ) → s.free ≡ f → entry s (place_among f (slot_count s)) ≡ None
+      by_free [] e = ap joined (item_past s.slots (slot_count s + 1) (omega arith))
+      by_free (i ∷ rest) e = ap joined (first_free s i rest well e).0
+
+  -- the entries are no more than the capacity
+  pub len_within : (s : ArenaState T) → IsWellFormed s → arena_len s ≤ capacity s
+  len_within s well = omega (arith, well.total, well.fits)
+
   -- the value under an index and a generation is that of the entry
   pub value_of_entry : (s : ArenaState T) (i h stamp : ℕ) (v : T) → entry s i ≡ Some (h, v) → is_some (look_up s (i, stamp)) ≡ true → look_up s (i, stamp) ≡ Some v
   value_of_entry s i h stamp v found some = by_test (h == stamp) (ap (option_and_then (value_under stamp)) found) some

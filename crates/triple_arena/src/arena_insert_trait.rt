@@ -1,9 +1,9 @@
 //! Insertion into an arena that gives the pointers.
 
-ghost use Rattle.std.specs.Prelude.{◌≡◌, ℕ, ◌<◌, ◌≢◌, ◌↔◌, IsOk, IfOk, OnOk, OnErr, Err};
+ghost use Rattle.std.specs.Prelude.{◌≡◌, ℕ, ◌<◌, ◌≢◌, ◌↔◌, IsOk, IfOk, OnOk, OnErr, None, Err};
 ghost use Rattle.triple_arena_ptr.specs.Numbers.{greatest_index};
 ghost use Rattle.triple_arena.specs.Pointers.{Pointer, numbers};
-ghost use Rattle.triple_arena.specs.Entries.{entry_count};
+ghost use Rattle.triple_arena.specs.Entries.{entry_in, entry_count};
 ghost use Rattle.triple_arena.specs.Capacity.{IsFullAtLimit};
 
 use crate::arena_trait::ArenaTrait;
@@ -22,16 +22,20 @@ pub trait ArenaInsertTrait<P: Ptr, T>: ArenaTrait<P, T> {
     ghost grown: { Self → Self };
 
     /// The pointer that the next insertion gives, on the condition that there is a place without
-    /// growth, which `len` and `capacity` tell.
+    /// growth, which `len` and `capacity` tell. No entry stands at its index.
     fn next_ptr(&self) -> P
         requires { entry_count (Self.slots self.now) < Self.fitting self.now }
-        ensures { numbers P.Inx.number P.Gen.number P.index_of P.generation_of result ≡ next self.now };
+        ensures pointer { numbers P.Inx.number P.Gen.number P.index_of P.generation_of result
+            ≡ next self.now }
+        ensures free { entry_in (Self.slots self.now) (P.Inx.number (P.index_of result)) ≡ None };
 
-    /// Inserts `t`, and gives its pointer, on the condition that there is a place without growth,
-    /// which `len` and `capacity` tell. It takes no memory.
+    /// Inserts `t` where no entry stood, and gives its pointer, on the condition that there is a
+    /// place without growth, which `len` and `capacity` tell. It takes no memory.
     fn insert_reserved(&mut self, t: T) -> P
         requires { entry_count (Self.slots self.old) < Self.fitting self.old }
-        ensures pointer { numbers P.Inx.number P.Gen.number P.index_of P.generation_of result ≡ next self.old }
+        ensures pointer { numbers P.Inx.number P.Gen.number P.index_of P.generation_of result
+            ≡ next self.old }
+        ensures free { entry_in (Self.slots self.old) (P.Inx.number (P.index_of result)) ≡ None }
         ensures inserted { self.new ≡ inserted self.old t };
 
     /// Inserts `t`, and gives its pointer. A full arena grows first: to 4 slots or to twice its

@@ -113,9 +113,10 @@ pub trait ArenaTrait<P: Ptr, T>: Sized {
         ensures succeeds { min_capacity ≤ greatest_index P.Inx.greatest
             → IsWithin (limit self.old) min_capacity → keeps_room self.old min_capacity → IsOk result };
 
-    /// How many entries there are.
+    /// How many entries there are: never more than the capacity.
     fn len(&self) -> usize
-        ensures { result ≡ entry_count (slots self.now) };
+        ensures value { result ≡ entry_count (slots self.now) }
+        ensures fits { entry_count (slots self.now) ≤ fitting self.now };
 
     /// The generation of the next insertion; none where an insertion is told its generation.
     fn singular_generation(&self) -> Option<P::Gen>

@@ -125,7 +125,10 @@ impl<P: Ptr, T, S: NonZeroInxGenericStack<ArenaSlot<P, T>>> ArenaTrait<P, T> for
         self.slots.capacity().min(P::Inx::max_index().get())
     }
 
-    fn max_capacity(&self) -> Option<usize> {
+    fn max_capacity(&self) -> Option<usize>
+        ensures value { result ≡ self.now.limit }
+        ensures of_kind { IsOfKind S.kind self.now.room self.now.limit }
+    {
         self.slots.max_capacity()
     }
 
@@ -139,6 +142,7 @@ impl<P: Ptr, T, S: NonZeroInxGenericStack<ArenaSlot<P, T>>> ArenaTrait<P, T> for
 
     fn len(&self) -> usize
         ensures value { result ≡ arena_len self.now }
+        ensures fits { arena_len self.now ≤ capacity self.now }
         ensures well_formed { IsWellFormed self.now }
     {
         self.len

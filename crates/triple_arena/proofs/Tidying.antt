@@ -7,6 +7,7 @@ use Rattle.triple_arena.specs.Numbered.{item, with_item}
 use Rattle.triple_arena.specs.ArenaState.{ArenaState, entry, is_free, IsWellFormed}
 use Rattle.triple_arena.specs.FreeList.{before, trimmed, gaps, tidied, IsRising, IsInOrder}
 use Rattle.triple_arena.specs.Slot.{entry_of}
+use Rattle.triple_arena.specs.EntryLaws.{entry-tidied}
 use Rattle.triple_arena.specs.Layout.{after, IsLinked, Shows}
 use Rattle.triple_arena.proofs.NumberedLists.{joined, map-with_item, item_within, item-with_same, item-with_other, split_last}
 use Rattle.triple_arena.specs.declared.slot.FreeLink.{FreeLink}
@@ -121,18 +122,6 @@ module _ {T : Type 0} where
   gaps_rising at (None ∷ xs) = (omega arith, gaps_rising (at + 1) xs)
   gaps_rising at (Some e ∷ xs) = IsRising-lower at (at + 1) (gaps (at + 1) xs) (omega arith) (gaps_rising (at + 1) xs)
 
-  before_entry : (x : Option (ℕ × T)) (ys zs : List (Option (ℕ × T))) (k : ℕ) → ((j : ℕ) → joined (slice_get ys j) ≡ joined (slice_get zs j)) → joined (slice_get (before x ys) k) ≡ joined (slice_get (x ∷ zs) k)
-  before_entry (Some e) ys zs zero same = refl
-  before_entry (Some e) ys zs (suc k) same = same k
-  before_entry None [] zs zero same = refl
-  before_entry None [] zs (suc k) same = same k
-  before_entry None (y ∷ ys) zs zero same = refl
-  before_entry None (y ∷ ys) zs (suc k) same = same k
-
-  trimmed_entry : (xs : List (Option (ℕ × T))) (k : ℕ) → joined (slice_get (trimmed xs) k) ≡ joined (slice_get xs k)
-  trimmed_entry [] k = refl
-  trimmed_entry (x ∷ xs) k = before_entry x (trimmed xs) xs k (trimmed_entry xs)
-
   before_last : (x : Option (ℕ × T)) (ys : List (Option (ℕ × T))) → is_free (item ys (length ys)) ≡ false → is_free (item (before x ys) (length (before x ys))) ≡ false
   before_last (Some e) [] last = refl
   before_last (Some e) (y ∷ ys) last = last
@@ -144,11 +133,7 @@ module _ {T : Type 0} where
   trimmed_last (x ∷ xs) = before_last x (trimmed xs) (trimmed_last xs)
 
   pub IsInOrder-tidied : (s : ArenaState T) → IsInOrder s (tidied s)
-  IsInOrder-tidied s = record { entries = by_index; ends_live = trimmed_last s.slots; rising = gaps_rising 1 (trimmed s.slots) }
-    where
-      by_index : (i : ℕ) → entry (tidied s) i ≡ entry s i
-      by_index zero = refl
-      by_index (suc k) = trimmed_entry s.slots k
+  IsInOrder-tidied s = record { entries = entry-tidied s; ends_live = trimmed_last s.slots; rising = gaps_rising 1 (trimmed s.slots) }
 
 module _ {P T I G : Type 0} (number : G → ℕ) where
   -- the slots from `at` on link in rising order

@@ -12,15 +12,14 @@ use Rattle.triple_arena.specs.Entries.{look_up_in, entry_in, value_under, with_v
 use Rattle.triple_arena.specs.ArenaState.{ArenaState, new_arena, capacity, entry, look_up, slot_count, arena_len, is_free, IsWellFormed}
 use Rattle.triple_arena.specs.Insertion.{place_among, place, inserted_among, inserted}
 use Rattle.triple_arena.specs.Ending.{removed, invalidated}
+pub use Rattle.triple_arena.specs.EntryLaws.{count_head, first_free}
+use Rattle.triple_arena.specs.EntryLaws.{by_case}
 
 -- the entry at an index is this one
 abbrev pub with_entry : {T : Type 0} → ArenaState T → ℕ → ℕ × T → ArenaState T
 with_entry s i e = record s { slots = with_item s.slots i (Some e) }
 
--- the count of an index in a list that begins with it, or with another
-pub count_head : (i : ℕ) (rest : List ℕ) → count_by (λ j. j == i) (i ∷ rest) ≡ 1 + count_by (λ j. j == i) rest
-count_head i rest = omega (arith, sum_by-cons (λ j. cond (j == i) 1 0) i rest, ap {B = ℕ} (λ b. cond b 1 0) (eq_true i i refl))
-
+-- the count of an index in a list that begins with another
 pub count_tail : (i j : ℕ) (rest : List ℕ) → i ≢ j → count_by (λ k. k == j) (i ∷ rest) ≡ count_by (λ k. k == j) rest
 count_tail i j rest h = omega (arith, sum_by-cons (λ k. cond (k == j) 1 0) i rest, ap {B = ℕ} (λ b. cond b 1 0) (eq_false i j h))
 
@@ -31,16 +30,6 @@ module _ {T : Type 0} where
   count-with_item xs (suc k) old new found =
       let within = slice_get_within xs k old found in
       rw (get_or_from_slice_get xs k old None found) at (sum_by-set (λ o. cond (is_some o) 1 0) xs k new None within)
-
-  vacant_cases : (o : Option (Option (ℕ × T))) (n : ℕ) → 1 + n ≡ cond (is_free o) 1 0 → (o ≡ Some None) × (n ≡ 0)
-  vacant_cases None n e = absurd (omega arith)
-  vacant_cases (Some None) n e = (refl, omega arith)
-  vacant_cases (Some (Some x)) n e = absurd (omega arith)
-
-  -- the first free index has a slot with no entry, and comes once
-  pub first_free : (s : ArenaState T) (i : ℕ) (rest : List ℕ) → IsWellFormed s → s.free ≡ i ∷ rest → (item s.slots i ≡ Some None) × (count_by (λ j. j == i) rest ≡ 0)
-  first_free s i rest well e =
-      vacant_cases (item s.slots i) _ (sym (count_head i rest) ∙ ap (count_by (λ j. j == i)) (sym e) ∙ well.free_once i)
 
   free_once-push : (s : ArenaState T) (e : ℕ × T) (i : ℕ) → IsWellFormed s → count_by (λ j. j == i) s.free ≡ cond (is_free (item (s.slots ++ Some e ∷ []) i)) 1 0
   free_once-push s e i well =
@@ -151,21 +140,17 @@ module _ {T : Type 0} where
   pub live_counted : (s : ArenaState T) (i : ℕ) (e : ℕ × T) → item s.slots i ≡ Some (Some e) → 1 ≤ arena_len s
   live_counted s i e found = omega (arith, count-with_item s.slots i (Some e) None found)
 
-  cond_same : {A : Type 0} (f : ArenaState T → A) (b : Bool) (s t : ArenaState T) (x : A) → f s ≡ x → f t ≡ x → f (cond b s t) ≡ x
-  cond_same f true s t x p q = p
-  cond_same f false s t x p q = q
-
   pub counter-removed : (raise : ℕ → ℕ) (s : ArenaState T) (i : ℕ) → (removed raise s i).counter ≡ raise s.counter
-  counter-removed raise s i = cond_same (λ t. t.counter) (i == slot_count s) _ _ (raise s.counter) refl refl
+  counter-removed raise s i = by_case (λ t. t.counter) (i == slot_count s) _ _ (raise s.counter) refl refl
 
   pub room-removed : (raise : ℕ → ℕ) (s : ArenaState T) (i : ℕ) → (removed raise s i).room ≡ s.room
-  room-removed raise s i = cond_same (λ t. t.room) (i == slot_count s) _ _ s.room refl refl
+  room-removed raise s i = by_case (λ t. t.room) (i == slot_count s) _ _ s.room refl refl
 
   pub limit-removed : (raise : ℕ → ℕ) (s : ArenaState T) (i : ℕ) → (removed raise s i).limit ≡ s.limit
-  limit-removed raise s i = cond_same (λ t. t.limit) (i == slot_count s) _ _ s.limit refl refl
+  limit-removed raise s i = by_case (λ t. t.limit) (i == slot_count s) _ _ s.limit refl refl
 
   pub greatest-removed : (raise : ℕ → ℕ) (s : ArenaState T) (i : ℕ) → (removed raise s i).greatest ≡ s.greatest
-  greatest-removed raise s i = cond_same (λ t. t.greatest) (i == slot_count s) _ _ s.greatest refl refl
+  greatest-removed raise s i = by_case (λ t. t.greatest) (i == slot_count s) _ _ s.greatest refl refl
 
   -- insertion leaves what is no entry
   pub kept-inserted : (s : ArenaState T) (v : T) → ((inserted s v).counter ≡ s.counter) × ((inserted s v).room ≡ s.room) × ((inserted s v).limit ≡ s.limit) × ((inserted s v).greatest ≡ s.greatest)
@@ -184,6 +169,18 @@ module _ {T : Type 0} where
       by_free (i ∷ rest) e =
           let within = item_within s.slots i None (first_free s i rest well e).0 in
           (within.0, omega (arith, well.fits, within))
+
+  -- no entry stands at the place of an insertion
+  pub place_free : (s : ArenaState T) → IsWellFormed s → entry s (place s) ≡ None
+  place_free s well = by_free s.free refl
+    where
+      by_free : (f : List ℕ) → s.free ≡ f → entry s (place_among f (slot_count s)) ≡ None
+      by_free [] e = ap joined (item_past s.slots (slot_count s + 1) (omega arith))
+      by_free (i ∷ rest) e = ap joined (first_free s i rest well e).0
+
+  -- the entries are no more than the capacity
+  pub len_within : (s : ArenaState T) → IsWellFormed s → arena_len s ≤ capacity s
+  len_within s well = omega (arith, well.total, well.fits)
 
   -- the value under an index and a generation is that of the entry
   pub value_of_entry : (s : ArenaState T) (i h stamp : ℕ) (v : T) → entry s i ≡ Some (h, v) → is_some (look_up s (i, stamp)) ≡ true → look_up s (i, stamp) ≡ Some v

@@ -1,5 +1,5 @@
 -- Entries by index: for each index from 1 on, the generation and the value of the entry that stands there, or nothing.
-use Rattle.std.specs.Prelude.{◌≡◌, ℕ, ◌<◌, ◌==◌, cond, List, count_by, Option, Some, None, is_some, IsSome}
+use Rattle.std.specs.Prelude.{◌≡◌, ◌≢◌, ℕ, ◌<◌, ◌==◌, cond, List, count_by, Option, Some, None, is_some, IsSome}
 use Rattle.std.specs.Option.{option_and_then, option_map}
 use Rattle.triple_arena.specs.Numbered.{item, with_item}
 use Rattle.triple_arena.specs.Pointers.{Pointer}
@@ -28,6 +28,15 @@ module _ {T : Type 0} where
   -- the same with another generation of the entry at an index, if there is one
   abbrev pub with_generation_in : List (Option (ℕ × T)) → ℕ → ℕ → List (Option (ℕ × T))
   with_generation_in slots i generation = with_item slots i (option_map (λ e. (generation, e.1)) (entry_in slots i))
+
+  -- the entry at an index is this one, or there is none, and at every other index it is as before
+  pub record ChangesAt (old : List (Option (ℕ × T))) (i : ℕ) (e : Option (ℕ × T)) (new : List (Option (ℕ × T))) : Type 0 where
+    pub there : entry_in new i ≡ e
+    pub others : (j : ℕ) → j ≢ i → entry_in new j ≡ entry_in old j
+
+  -- at every index the entry is as before
+  abbrev pub KeepsEntries : List (Option (ℕ × T)) → List (Option (ℕ × T)) → Type 0
+  KeepsEntries old new = (i : ℕ) → entry_in new i ≡ entry_in old i
 
   -- the pointer is that of the entry of least index
   pub record IsFirst (slots : List (Option (ℕ × T))) (p : Pointer) : Type 0 where

@@ -1,4 +1,5 @@
 pub mod Numbered
+pub mod NumberedLaws
 pub mod Pointers
 pub mod Entries
 pub mod ArenaState
@@ -6,6 +7,7 @@ pub mod Insertion
 pub mod Ending
 pub mod FreeList
 pub mod Capacity
+pub mod EntryLaws
 pub mod Slot
 pub mod Layout
 pub mod Lends

@@ -1,9 +1,9 @@
 //! Insertion into an arena that gives the pointers.
 
-ghost use Rattle.std.specs.Prelude.{◌≡◌, ℕ, ◌<◌, ◌≢◌, ◌↔◌, IsOk, IfOk, OnOk, OnErr, Err};
+ghost use Rattle.std.specs.Prelude.{◌≡◌, ℕ, ◌<◌, ◌≢◌, ◌↔◌, IsOk, IfOk, OnOk, OnErr, None, Some, Err};
 ghost use Rattle.triple_arena_ptr.specs.Numbers.{greatest_index};
 ghost use Rattle.triple_arena.specs.Pointers.{Pointer, numbers};
-ghost use Rattle.triple_arena.specs.Entries.{entry_count};
+ghost use Rattle.triple_arena.specs.Entries.{entry_in, entry_count, ChangesAt, KeepsEntries};
 ghost use Rattle.triple_arena.specs.Capacity.{IsFullAtLimit};
 
 use crate::arena_trait::ArenaTrait;
@@ -22,17 +22,22 @@ pub trait ArenaInsertTrait<P: Ptr, T>: ArenaTrait<P, T> {
     ghost grown: { Self → Self };
 
     /// The pointer that the next insertion gives, on the condition that there is a place without
-    /// growth, which `len` and `capacity` tell.
+    /// growth, which `len` and `capacity` tell. No entry stands at its index.
     fn next_ptr(&self) -> P
         requires { entry_count (Self.slots self.now) < Self.fitting self.now }
-        ensures { numbers P.Inx.number P.Gen.number P.index_of P.generation_of result ≡ next self.now };
+        ensures pointer { numbers P.Inx.number P.Gen.number P.index_of P.generation_of result
+            ≡ next self.now }
+        ensures free { entry_in (Self.slots self.now) (P.Inx.number (P.index_of result)) ≡ None };
 
-    /// Inserts `t`, and gives its pointer, on the condition that there is a place without growth,
-    /// which `len` and `capacity` tell. It takes no memory.
+    /// Inserts `t` where no entry stood, and gives its pointer, on the condition that there is a
+    /// place without growth, which `len` and `capacity` tell. It takes no memory.
     fn insert_reserved(&mut self, t: T) -> P
         requires { entry_count (Self.slots self.old) < Self.fitting self.old }
-        ensures pointer { numbers P.Inx.number P.Gen.number P.index_of P.generation_of result ≡ next self.old }
-        ensures inserted { self.new ≡ inserted self.old t };
+        ensures pointer { numbers P.Inx.number P.Gen.number P.index_of P.generation_of result
+            ≡ next self.old }
+        ensures free { entry_in (Self.slots self.old) (P.Inx.number (P.index_of result)) ≡ None }
+        ensures inserted { self.new ≡ inserted self.old t }
+        ensures valid { Self.valid self.old };
 
     /// Inserts `t`, and gives its pointer. A full arena grows first: to 4 slots or to twice its
     /// capacity, as far as the limit allows and there are indexes.
@@ -48,10 +53,35 @@ pub trait ArenaInsertTrait<P: Ptr, T>: ArenaTrait<P, T> {
         ensures inserted { OnOk result (self.new ≡ inserted (grown self.old) t) }
         ensures refused { OnErr result (self.new ≡ self.old) }
         ensures beyond { (result ≡ Err ReallocationError.BeyondMaxCapacity)
-            ↔ IsFullAtLimit (Self.fitting self.old) (Self.limit self.old) (entry_count (Self.slots self.old)) }
+            ↔ IsFullAtLimit
+            (Self.fitting self.old) (Self.limit self.old) (entry_count (Self.slots self.old)) }
         ensures indexed { OnOk result (entry_count (Self.slots self.old) ≡ Self.fitting self.old
             → Self.fitting self.old < greatest_index P.Inx.greatest) }
-        ensures had_place { entry_count (Self.slots self.old) < Self.fitting self.old → IsOk result };
+        ensures had_place { entry_count (Self.slots self.old) < Self.fitting self.old
+            → IsOk result }
+        ensures valid { Self.valid self.old };
+
+    // an insertion puts the value under the next pointer, and leaves every other entry, limit and
+    // capacity
+    ghost slots_inserted: { (arena : Self) (value : T) → Self.valid arena
+        → ChangesAt (Self.slots arena) (next arena).0 (Some ((next arena).1, value))
+        (Self.slots (inserted arena value)) };
+
+    ghost limit_inserted: { (arena : Self) (value : T)
+        → Self.limit (inserted arena value) ≡ Self.limit arena };
+
+    ghost fitting_inserted: { (arena : Self) (value : T)
+        → Self.fitting (inserted arena value) ≡ Self.fitting arena };
+
+    // growth leaves every entry, the limit, and what the next insertion gives
+    ghost slots_grown: { (arena : Self)
+        → KeepsEntries (Self.slots arena) (Self.slots (grown arena)) };
+
+    ghost limit_grown: { (arena : Self) → Self.limit (grown arena) ≡ Self.limit arena };
+
+    ghost next_grown: { (arena : Self) → next (grown arena) ≡ next arena };
+
+    ghost valid_grown: { (arena : Self) → Self.valid arena → Self.valid (grown arena) };
 
     /// Inserts `t`, and gives its pointer. It takes no memory.
     ///
@@ -61,11 +91,13 @@ pub trait ArenaInsertTrait<P: Ptr, T>: ArenaTrait<P, T> {
     final fn insert_within_capacity(&mut self, t: T) -> Result<P, NotWithinCapacityError>
     where
         T: Drop,
-        ensures variant { IsOk result ↔ (entry_count (Self.slots self.old) < Self.fitting self.old) }
+        ensures variant { IsOk result
+            ↔ (entry_count (Self.slots self.old) < Self.fitting self.old) }
         ensures pointer { IfOk result
             (λ p. numbers P.Inx.number P.Gen.number P.index_of P.generation_of p ≡ next self.old) }
         ensures inserted { OnOk result (self.new ≡ inserted self.old t) }
         ensures refused { OnErr result (self.new ≡ self.old) }
+        ensures valid { Self.valid self.old }
     {
         if self.len() < self.capacity() {
             Ok(self.insert_reserved(t))
@@ -84,10 +116,13 @@ pub trait ArenaInsertTrait<P: Ptr, T>: ArenaTrait<P, T> {
         ensures inserted { OnOk result (self.new ≡ inserted (grown self.old) t) }
         ensures refused { OnErr result (self.new ≡ self.old) }
         ensures beyond { (result ≡ Err ReallocationError.BeyondMaxCapacity)
-            ↔ IsFullAtLimit (Self.fitting self.old) (Self.limit self.old) (entry_count (Self.slots self.old)) }
+            ↔ IsFullAtLimit
+            (Self.fitting self.old) (Self.limit self.old) (entry_count (Self.slots self.old)) }
         ensures indexed { OnOk result (entry_count (Self.slots self.old) ≡ Self.fitting self.old
             → Self.fitting self.old < greatest_index P.Inx.greatest) }
-        ensures had_place { entry_count (Self.slots self.old) < Self.fitting self.old → IsOk result }
+        ensures had_place { entry_count (Self.slots self.old) < Self.fitting self.old
+            → IsOk result }
+        ensures valid { Self.valid self.old }
     {
         self.insert_reallocating(t)
     }

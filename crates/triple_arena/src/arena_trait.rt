@@ -7,7 +7,7 @@ ghost use Rattle.triple_arena_ptr.specs.Numbers.{greatest_index};
 ghost use Rattle.triple_arena_stack.specs.StackKind.{StackKind, new_room, new_limit, made_room, made_limit, CanHold, TakesNoMemory};
 ghost use Rattle.triple_arena_stack.specs.Capacity.{capacity_of, IsWithin, IsBeyond};
 ghost use Rattle.triple_arena.specs.Pointers.{numbers};
-ghost use Rattle.triple_arena.specs.Entries.{entry_in, look_up_in, entry_count, with_value_in, IsFirst, IsLast};
+ghost use Rattle.triple_arena.specs.Entries.{entry_in, look_up_in, entry_count, with_value_in, ChangesAt, KeepsEntries, IsFirst, IsLast};
 ghost use Rattle.triple_arena.specs.Ending.{told, told_of, map_told};
 
 use std::alloc::Global;
@@ -25,6 +25,9 @@ use triple_arena_ptr::{Ptr, PtrGen, PtrInx};
 pub trait ArenaTrait<P: Ptr, T>: Sized {
     // by index from 1, the generation and the value of the entry that stands there, or nothing
     ghost slots: { Self → List (Option (ℕ × T)) };
+
+    // what holds of every arena; the laws on insertion ask for it, and `len` and insertions tell it
+    ghost valid: { Self → Type 0 };
 
     // how many entries fit without growth
     ghost fitting: { Self → ℕ };
@@ -100,22 +103,27 @@ pub trait ArenaTrait<P: Ptr, T>: Sized {
     /// are in use. First the arena gives up what free slots it can, and that stays done where the
     /// rest is refused.
     ///
-    /// `AllocError` where `min_capacity` is past the greatest index; else `BeyondMaxCapacity` exactly
-    /// where the limit is below it; else `AllocError` where memory is refused. Where the room stays
-    /// the same, no memory is taken.
+    /// `AllocError` where `min_capacity` is past the greatest index; else `BeyondMaxCapacity`
+    /// exactly where the limit is below it; else `AllocError` where memory is refused. Where the
+    /// room stays the same, no memory is taken.
     fn reallocate_min_capacity(&mut self, min_capacity: usize) -> Result<(), ReallocationError>
         ensures done { OnOk result (reallocates self.old min_capacity self.new) }
         ensures refused { OnErr result (settles self.old min_capacity self.new) }
         ensures within { OnOk result
-            ((min_capacity ≤ greatest_index P.Inx.greatest) × IsWithin (limit self.old) min_capacity) }
+            ((min_capacity ≤ greatest_index P.Inx.greatest)
+            × IsWithin (limit self.old) min_capacity) }
         ensures beyond { (result ≡ Err ReallocationError.BeyondMaxCapacity)
-            ↔ ((min_capacity ≤ greatest_index P.Inx.greatest) × IsBeyond (limit self.old) min_capacity) }
+            ↔ ((min_capacity ≤ greatest_index P.Inx.greatest)
+            × IsBeyond (limit self.old) min_capacity) }
         ensures succeeds { min_capacity ≤ greatest_index P.Inx.greatest
-            → IsWithin (limit self.old) min_capacity → keeps_room self.old min_capacity → IsOk result };
+            → IsWithin (limit self.old) min_capacity
+            → keeps_room self.old min_capacity → IsOk result };
 
-    /// How many entries there are.
+    /// How many entries there are: never more than the capacity.
     fn len(&self) -> usize
-        ensures { result ≡ entry_count (slots self.now) };
+        ensures value { result ≡ entry_count (slots self.now) }
+        ensures fits { entry_count (slots self.now) ≤ fitting self.now }
+        ensures valid { valid self.now };
 
     /// The generation of the next insertion; none where an insertion is told its generation.
     fn singular_generation(&self) -> Option<P::Gen>
@@ -124,12 +132,14 @@ pub trait ArenaTrait<P: Ptr, T>: Sized {
     /// The value under `p`; none exactly where `p` is invalid.
     fn get(&self, p: P) -> Option<&T>
         ensures { option_copied result
-            ≡ look_up_in (slots self.now) (numbers P.Inx.number P.Gen.number P.index_of P.generation_of p) };
+            ≡ look_up_in (slots self.now)
+            (numbers P.Inx.number P.Gen.number P.index_of P.generation_of p) };
 
     /// The value under `p`, for writing; none exactly where `p` is invalid.
     fn get_mut(&mut self, p: P) -> Option<&mut T>
         ensures value { option_copied_mut result
-            ≡ look_up_in (slots self.old) (numbers P.Inx.number P.Gen.number P.index_of P.generation_of p) }
+            ≡ look_up_in (slots self.old)
+            (numbers P.Inx.number P.Gen.number P.index_of P.generation_of p) }
         ensures* writes_back { sem 𝓛 (LendsIf Self.row T.row self.entry result
             (with_value self.old (P.Inx.number (P.index_of p))) self.old) };
 
@@ -153,22 +163,26 @@ pub trait ArenaTrait<P: Ptr, T>: Sized {
     /// The pointer of the entry of least index; none exactly where there is no entry.
     fn find_first_inx_ptr(&self) -> Option<P>
         ensures { MatchOption result (entry_count (slots self.now) ≡ 0)
-            (λ p. IsFirst (slots self.now) (numbers P.Inx.number P.Gen.number P.index_of P.generation_of p)) };
+            (λ p. IsFirst (slots self.now)
+            (numbers P.Inx.number P.Gen.number P.index_of P.generation_of p)) };
 
     /// The pointer of the entry of greatest index; none exactly where there is no entry.
     fn find_last_inx_ptr(&self) -> Option<P>
         ensures { MatchOption result (entry_count (slots self.now) ≡ 0)
-            (λ p. IsLast (slots self.now) (numbers P.Inx.number P.Gen.number P.index_of P.generation_of p)) };
+            (λ p. IsLast (slots self.now)
+            (numbers P.Inx.number P.Gen.number P.index_of P.generation_of p)) };
 
     /// Gives the entry under `p` a new pointer, where the arena counts generations; `p` is invalid
     /// from then on.
     ///
     /// `InvalidPtr` exactly where `p` is invalid; then nothing changes.
     fn invalidate(&mut self, p: P) -> InvalidationResult<P>
-        ensures answer { map_told (numbers P.Inx.number P.Gen.number P.index_of P.generation_of) result
+        ensures answer { map_told
+            (numbers P.Inx.number P.Gen.number P.index_of P.generation_of) result
             ≡ told_of (ending_wraps self.old) (option_map
             (λ _. (P.Inx.number (P.index_of p), renewed self.old (P.Inx.number (P.index_of p))))
-            (look_up_in (slots self.old) (numbers P.Inx.number P.Gen.number P.index_of P.generation_of p))) }
+            (look_up_in (slots self.old)
+            (numbers P.Inx.number P.Gen.number P.index_of P.generation_of p))) }
         ensures done { IsSome (look_up_in (slots self.old)
             (numbers P.Inx.number P.Gen.number P.index_of P.generation_of p))
             → invalidates self.old (P.Inx.number (P.index_of p)) self.new }
@@ -212,14 +226,66 @@ pub trait ArenaTrait<P: Ptr, T>: Sized {
 
     ghost limit_fresh: { (room : ℕ) (most : Option ℕ) → limit (fresh room most) ≡ most };
 
-    ghost fitting_fresh: { (room : ℕ) (most : Option ℕ) → fitting (fresh room most) ≡ min (capacity_of room most) (greatest_index P.Inx.greatest) };
+    ghost fitting_fresh: { (room : ℕ) (most : Option ℕ)
+        → fitting (fresh room most) ≡ min (capacity_of room most) (greatest_index P.Inx.greatest) };
 
     // another value changes one entry's value, and leaves limit and capacity
-    ghost slots_with_value: { (arena : Self) (i : ℕ) (value : T) → slots (with_value arena i value) ≡ with_value_in (slots arena) i value };
+    ghost slots_with_value: { (arena : Self) (i : ℕ) (value : T)
+        → slots (with_value arena i value) ≡ with_value_in (slots arena) i value };
 
-    ghost limit_with_value: { (arena : Self) (i : ℕ) (value : T) → limit (with_value arena i value) ≡ limit arena };
+    ghost limit_with_value: { (arena : Self) (i : ℕ) (value : T)
+        → limit (with_value arena i value) ≡ limit arena };
 
-    ghost fitting_with_value: { (arena : Self) (i : ℕ) (value : T) → fitting (with_value arena i value) ≡ fitting arena };
+    ghost fitting_with_value: { (arena : Self) (i : ℕ) (value : T)
+        → fitting (with_value arena i value) ≡ fitting arena };
+
+    // a removal takes away the entry at its index alone, and leaves limit and capacity
+    ghost slots_removed: { (old : Self) (i : ℕ) (new : Self) → removes old i new
+        → ChangesAt (slots old) i None (slots new) };
+
+    ghost limit_removed: { (old : Self) (i : ℕ) (new : Self) → removes old i new
+        → limit new ≡ limit old };
+
+    ghost fitting_removed: { (old : Self) (i : ℕ) (new : Self) → removes old i new
+        → fitting new ≡ fitting old };
+
+    // an invalidation renews the generation of the entry at its index alone, and leaves limit and
+    // capacity
+    ghost slots_invalidated: { (old : Self) (i : ℕ) (new : Self) → invalidates old i new
+        → ChangesAt (slots old) i (option_map (λ e. (renewed old i, e.1)) (entry_in (slots old) i))
+        (slots new) };
+
+    ghost limit_invalidated: { (old : Self) (i : ℕ) (new : Self) → invalidates old i new
+        → limit new ≡ limit old };
+
+    ghost fitting_invalidated: { (old : Self) (i : ℕ) (new : Self) → invalidates old i new
+        → fitting new ≡ fitting old };
+
+    // clearing leaves no entry, and limit and capacity as they are
+    ghost slots_cleared: { (old new : Self) → clears old new
+        → (i : ℕ) → entry_in (slots new) i ≡ None };
+
+    ghost len_cleared: { (old new : Self) → clears old new → entry_count (slots new) ≡ 0 };
+
+    ghost limit_cleared: { (old new : Self) → clears old new → limit new ≡ limit old };
+
+    ghost fitting_cleared: { (old new : Self) → clears old new → fitting new ≡ fitting old };
+
+    // a reallocation leaves every entry and the limit, and one that is refused the capacity too
+    ghost slots_reallocated: { (old : Self) (m : ℕ) (new : Self) → reallocates old m new
+        → KeepsEntries (slots old) (slots new) };
+
+    ghost limit_reallocated: { (old : Self) (m : ℕ) (new : Self) → reallocates old m new
+        → limit new ≡ limit old };
+
+    ghost slots_settled: { (old : Self) (m : ℕ) (new : Self) → settles old m new
+        → KeepsEntries (slots old) (slots new) };
+
+    ghost limit_settled: { (old : Self) (m : ℕ) (new : Self) → settles old m new
+        → limit new ≡ limit old };
+
+    ghost fitting_settled: { (old : Self) (m : ℕ) (new : Self) → settles old m new
+        → fitting new ≡ fitting old };
 
     /// Whether there is no entry.
     final fn is_empty(&self) -> bool

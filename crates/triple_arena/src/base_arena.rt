@@ -35,9 +35,9 @@ use triple_arena_stack::{NonZeroInxGenericStack, NonZeroInxVec, SetMaxCapacity};
 /// ending of an entry raises the counter; the calls that raise it tell of a wrap. With generations
 /// that do not count, a pointer names whatever stands at its index.
 ///
-/// Insertion takes the index that was freed last, and where none is free the one past the last slot.
-/// `get`, `get_mut`, removal, and insertion within the capacity touch a constant number of slots and
-/// take no memory.
+/// Insertion takes the index that was freed last, and where none is free the one past the last
+/// slot. `get`, `get_mut`, removal, and insertion within the capacity touch a constant number of
+/// slots and take no memory.
 #[derive(Drop)]
 pub struct Arena<
     P: Ptr,
@@ -61,15 +61,25 @@ impl<P: Ptr, T, S: NonZeroInxGenericStack<ArenaSlot<P, T>>> Model for Arena<P, T
     ghost use Rattle.triple_arena_ptr.specs.Numbers.{greatest_index};
     ghost use Rattle.triple_arena.specs.Layout.{state_of, Shows};
 
-    ghost view = { λ a. state_of P.Gen.number (S.items a.slots.stack) (option_map non_zero_usize_get a.slots.root) (P.Gen.number a.counter) (S.room a.slots.stack) (S.limit a.slots.stack) (greatest_index P.Inx.greatest) };
+    ghost view = { λ a. state_of P.Gen.number (S.items a.slots.stack)
+        (option_map non_zero_usize_get a.slots.root) (P.Gen.number a.counter) (S.room a.slots.stack)
+        (S.limit a.slots.stack) (greatest_index P.Inx.greatest) };
 
-    ghost invariant = { λ a. Shows P.Gen.number (S.items a.slots.stack) (option_map non_zero_usize_get a.slots.root) a.len (state_of P.Gen.number (S.items a.slots.stack) (option_map non_zero_usize_get a.slots.root) (P.Gen.number a.counter) (S.room a.slots.stack) (S.limit a.slots.stack) (greatest_index P.Inx.greatest)) };
+    ghost invariant = { λ a. Shows P.Gen.number (S.items a.slots.stack)
+        (option_map non_zero_usize_get a.slots.root) a.len
+        (state_of P.Gen.number (S.items a.slots.stack) (option_map non_zero_usize_get a.slots.root)
+        (P.Gen.number a.counter) (S.room a.slots.stack) (S.limit a.slots.stack)
+        (greatest_index P.Inx.greatest)) };
 }
 
 impl<P: Ptr, T, S: NonZeroInxGenericStack<ArenaSlot<P, T>>> ArenaTrait<P, T> for Arena<P, T, S> {
     ghost use Rattle.std.specs.Prelude.{refl};
+    ghost use Rattle.std.proofs.Common.{ap};
+    ghost use Rattle.triple_arena.specs.EntryLaws.{slots-removed, limit_of-removed, fitting-removed, slots-invalidated, slots-cleared, slots-reallocated, slots-settled};
 
     ghost slots = { λ s. s.slots };
+
+    ghost valid = { IsWellFormed };
 
     ghost fitting = { capacity };
 
@@ -77,13 +87,15 @@ impl<P: Ptr, T, S: NonZeroInxGenericStack<ArenaSlot<P, T>>> ArenaTrait<P, T> for
 
     ghost kind = { S.kind };
 
-    ghost fresh = { λ room limit. new_arena room limit (greatest_index P.Inx.greatest) (first_generation P.Gen.counting) };
+    ghost fresh = { λ room limit. new_arena room limit (greatest_index P.Inx.greatest)
+        (first_generation P.Gen.counting) };
 
     ghost next_generation = { λ s. Some s.counter };
 
     ghost with_value = { with_value };
 
-    ghost invalidates = { λ old i new. new ≡ invalidated (raise P.Gen.counting P.Gen.greatest) old i };
+    ghost invalidates = { λ old i new.
+        new ≡ invalidated (raise P.Gen.counting P.Gen.greatest) old i };
 
     ghost renewed = { λ s _. raise P.Gen.counting P.Gen.greatest s.counter };
 
@@ -93,7 +105,8 @@ impl<P: Ptr, T, S: NonZeroInxGenericStack<ArenaSlot<P, T>>> ArenaTrait<P, T> for
 
     ghost clears = { λ old new. new ≡ cleared (raise P.Gen.counting P.Gen.greatest) old };
 
-    ghost clearing_wraps = { λ s. cond (arena_len s == 0) false (wraps P.Gen.counting P.Gen.greatest s.counter) };
+    ghost clearing_wraps = { λ s. cond (arena_len s == 0) false
+        (wraps P.Gen.counting P.Gen.greatest s.counter) };
 
     ghost reallocates = { λ old m new. new ≡ reallocated S.kind old m };
 
@@ -125,7 +138,10 @@ impl<P: Ptr, T, S: NonZeroInxGenericStack<ArenaSlot<P, T>>> ArenaTrait<P, T> for
         self.slots.capacity().min(P::Inx::max_index().get())
     }
 
-    fn max_capacity(&self) -> Option<usize> {
+    fn max_capacity(&self) -> Option<usize>
+        ensures value { result ≡ self.now.limit }
+        ensures of_kind { IsOfKind S.kind self.now.room self.now.limit }
+    {
         self.slots.max_capacity()
     }
 
@@ -139,6 +155,7 @@ impl<P: Ptr, T, S: NonZeroInxGenericStack<ArenaSlot<P, T>>> ArenaTrait<P, T> for
 
     fn len(&self) -> usize
         ensures value { result ≡ arena_len self.now }
+        ensures fits { arena_len self.now ≤ capacity self.now }
         ensures well_formed { IsWellFormed self.now }
     {
         self.len
@@ -247,10 +264,42 @@ impl<P: Ptr, T, S: NonZeroInxGenericStack<ArenaSlot<P, T>>> ArenaTrait<P, T> for
     ghost limit_with_value = { λ _ _ _. refl };
 
     ghost fitting_with_value = { λ _ _ _. refl };
+
+    ghost slots_removed = { slots-removed (raise P.Gen.counting P.Gen.greatest) };
+
+    ghost limit_removed = { limit_of-removed (raise P.Gen.counting P.Gen.greatest) };
+
+    ghost fitting_removed = { fitting-removed (raise P.Gen.counting P.Gen.greatest) };
+
+    ghost slots_invalidated = { slots-invalidated (raise P.Gen.counting P.Gen.greatest) };
+
+    ghost limit_invalidated = { λ _ _ _. ap (λ s. s.limit) };
+
+    ghost fitting_invalidated = { λ _ _ _. ap capacity };
+
+    ghost slots_cleared = { slots-cleared (raise P.Gen.counting P.Gen.greatest) };
+
+    ghost len_cleared = { λ _ _. ap arena_len };
+
+    ghost limit_cleared = { λ _ _. ap (λ s. s.limit) };
+
+    ghost fitting_cleared = { λ _ _. ap capacity };
+
+    ghost slots_reallocated = { slots-reallocated S.kind };
+
+    ghost limit_reallocated = { λ _ _ _. ap (λ s. s.limit) };
+
+    ghost slots_settled = { λ old _. slots-settled old };
+
+    ghost limit_settled = { λ _ _ _. ap (λ s. s.limit) };
+
+    ghost fitting_settled = { λ _ _ _. ap capacity };
 }
 
 impl<P: Ptr, T, S: NonZeroInxGenericStack<ArenaSlot<P, T>>> ArenaInsertTrait<P, T>
     for Arena<P, T, S> {
+    ghost use Rattle.triple_arena.specs.EntryLaws.{slots-inserted, limit-inserted, fitting-inserted, slots-grown, limit-grown, next-grown, well_formed-grown};
+
     ghost next = { next_pointer };
 
     ghost inserted = { inserted };
@@ -277,6 +326,20 @@ impl<P: Ptr, T, S: NonZeroInxGenericStack<ArenaSlot<P, T>>> ArenaInsertTrait<P, 
         self.grow_if_full()?;
         Ok(self.insert_reserved(t))
     }
+
+    ghost slots_inserted = { slots-inserted };
+
+    ghost limit_inserted = { limit-inserted };
+
+    ghost fitting_inserted = { fitting-inserted };
+
+    ghost slots_grown = { slots-grown S.kind };
+
+    ghost limit_grown = { limit-grown S.kind };
+
+    ghost next_grown = { next-grown S.kind };
+
+    ghost valid_grown = { well_formed-grown S.kind };
 }
 
 impl<P: Ptr, T, S: NonZeroInxGenericStack<ArenaSlot<P, T>>> Arena<P, T, S> {
@@ -297,14 +360,17 @@ impl<P: Ptr, T, S: NonZeroInxGenericStack<ArenaSlot<P, T>>> Arena<P, T, S> {
     /// Raises the counter.
     pub fn inc_generation(&mut self) -> InvalidationOption<()>
         ensures answer { result ≡ told (wraps P.Gen.counting P.Gen.greatest self.old.counter) tt }
-        ensures state { self.new ≡ record self.old { counter = raise P.Gen.counting P.Gen.greatest self.old.counter } }
+        ensures state { self.new ≡ record self.old {
+          counter = raise P.Gen.counting P.Gen.greatest self.old.counter;
+        } }
     {
         let (counter, wrapped) = P::Gen::generational_inc(self.counter);
         self.counter = counter;
         told(wrapped, ())
     }
 
-    /// Gives up the free slots past the last entry, and puts the other free indexes in rising order.
+    /// Gives up the free slots past the last entry, and puts the other free indexes in rising
+    /// order.
     pub fn canonicalize_freelist(&mut self)
         ensures state { self.new ≡ tidied self.old }
         ensures in_order { IsInOrder self.old self.new }
@@ -331,7 +397,8 @@ impl<P: Ptr, T, S: NonZeroInxGenericStack<ArenaSlot<P, T>>> Arena<P, T, S> {
     // An arena over a stack that has no item.
     fn over(stack: S) -> Self
         requires { S.items stack ≡ [] }
-        ensures { result ≡ new_arena (S.room stack) (S.limit stack) (greatest_index P.Inx.greatest) (first_generation P.Gen.counting) }
+        ensures { result ≡ new_arena (S.room stack) (S.limit stack) (greatest_index P.Inx.greatest)
+            (first_generation P.Gen.counting) }
     {
         Arena {
             slots: Slots::over(stack),
@@ -356,7 +423,8 @@ impl<P: Ptr, T, S: NonZeroInxGenericStack<ArenaSlot<P, T>>> Arena<P, T, S> {
 
     // The index of a pointer, if the pointer is valid.
     fn find(&self, p: P) -> Option<NonZeroUsize>
-        ensures index { IfSome result (λ inx. non_zero_usize_get inx ≡ P.Inx.number (P.index_of p)) }
+        ensures index { IfSome result
+            (λ inx. non_zero_usize_get inx ≡ P.Inx.number (P.index_of p)) }
         ensures live { is_some result ≡ is_some (look_up self.now
             (numbers P.Inx.number P.Gen.number P.index_of P.generation_of p)) }
     {
@@ -382,7 +450,9 @@ impl<P: Ptr, T, S: NonZeroInxGenericStack<ArenaSlot<P, T>>> Arena<P, T, S> {
     // The pointer of the entry at an index.
     fn ptr_at(&self, inx: NonZeroUsize) -> P
         requires { IsSome (entry self.now (non_zero_usize_get inx)) }
-        ensures { (h : ℕ) × (v : T) × (entry self.now (non_zero_usize_get inx) ≡ Some (h, v)) × (numbers P.Inx.number P.Gen.number P.index_of P.generation_of result ≡ (non_zero_usize_get inx, h)) }
+        ensures { (h : ℕ) × (v : T) × (entry self.now (non_zero_usize_get inx) ≡ Some (h, v))
+            × (numbers P.Inx.number P.Gen.number P.index_of P.generation_of result
+            ≡ (non_zero_usize_get inx, h)) }
     {
         let (generation, _value) = self.slots.get(inx).unwrap().entry().unwrap();
         P::_from_raw(P::Inx::try_from_usize(inx).unwrap(), generation)
@@ -391,9 +461,11 @@ impl<P: Ptr, T, S: NonZeroInxGenericStack<ArenaSlot<P, T>>> Arena<P, T, S> {
     // Takes out the entry at an index, and tells whether the counter wrapped.
     fn take(&mut self, inx: NonZeroUsize) -> ((P::Gen, T), bool)
         requires { IsSome (entry self.old (non_zero_usize_get inx)) }
-        ensures entry { entry self.old (non_zero_usize_get inx) ≡ Some (P.Gen.number result.0.0, result.0.1) }
+        ensures entry { entry self.old (non_zero_usize_get inx)
+            ≡ Some (P.Gen.number result.0.0, result.0.1) }
         ensures wrapped { result.1 ≡ wraps P.Gen.counting P.Gen.greatest self.old.counter }
-        ensures state { self.new ≡ removed (raise P.Gen.counting P.Gen.greatest) self.old (non_zero_usize_get inx) }
+        ensures state { self.new ≡ removed (raise P.Gen.counting P.Gen.greatest) self.old
+            (non_zero_usize_get inx) }
     {
         let taken = self.slots.vacate(inx);
         self.len -= 1;
@@ -409,8 +481,10 @@ impl<P: Ptr, T, S: NonZeroInxGenericStack<ArenaSlot<P, T>>> Arena<P, T, S> {
         ensures done { OnOk result (self.new ≡ with_room_for S.kind self.old min_capacity) }
         ensures refused { OnErr result (self.new ≡ self.old) }
         ensures within { OnOk result (IsWithin self.old.limit min_capacity) }
-        ensures beyond { (result ≡ Err ReallocationError.BeyondMaxCapacity) ↔ IsBeyond self.old.limit min_capacity }
-        ensures succeeds { IsWithin self.old.limit min_capacity → (with_room_for S.kind self.old min_capacity).room ≡ self.old.room → IsOk result }
+        ensures beyond { (result ≡ Err ReallocationError.BeyondMaxCapacity)
+            ↔ IsBeyond self.old.limit min_capacity }
+        ensures succeeds { IsWithin self.old.limit min_capacity
+            → (with_room_for S.kind self.old min_capacity).room ≡ self.old.room → IsOk result }
     {
         self.slots.reallocate(min_capacity)?;
         Ok(())
@@ -421,9 +495,12 @@ impl<P: Ptr, T, S: NonZeroInxGenericStack<ArenaSlot<P, T>>> Arena<P, T, S> {
         ensures done { OnOk result (self.new ≡ grown S.kind self.old) }
         ensures refused { OnErr result (self.new ≡ self.old) }
         ensures has_place { OnOk result (arena_len self.new < capacity self.new) }
-        ensures beyond { (result ≡ Err ReallocationError.BeyondMaxCapacity) ↔ IsFullAtLimit (capacity self.old) self.old.limit (arena_len self.old) }
-        ensures indexed { OnOk result (arena_len self.old ≡ capacity self.old → capacity self.old < greatest_index P.Inx.greatest) }
+        ensures beyond { (result ≡ Err ReallocationError.BeyondMaxCapacity)
+            ↔ IsFullAtLimit (capacity self.old) self.old.limit (arena_len self.old) }
+        ensures indexed { OnOk result (arena_len self.old ≡ capacity self.old
+            → capacity self.old < greatest_index P.Inx.greatest) }
         ensures had_place { arena_len self.old < capacity self.old → IsOk result }
+        ensures well_formed { IsWellFormed self.old }
     {
         let capacity = self.capacity();
         if self.len < capacity {
@@ -448,8 +525,8 @@ impl<P: Ptr, T, S: SetMaxCapacity<ArenaSlot<P, T>>> Arena<P, T, S> {
     /// Where the new limit is below the old one and the capacity, first the free list is put in
     /// order, as by `canonicalize_freelist`; that stays done where the limit is refused.
     ///
-    /// Refused exactly where an entry stands at an index past `max_capacity`; then all but the order
-    /// of the free list stays.
+    /// Refused exactly where an entry stands at an index past `max_capacity`; then all but the
+    /// order of the free list stays.
     pub fn set_max_capacity(&mut self, max_capacity: usize) -> Result<(), MaxCapacityReductionError>
         ensures variant { IsOk result ↔ EndsBy self.old max_capacity }
         ensures done { OnOk result (self.new ≡ with_limit self.old max_capacity) }

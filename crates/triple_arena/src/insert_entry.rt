@@ -1,4 +1,5 @@
 //! The place of a value that is not inserted yet.
+
 ghost use Rattle.std.specs.Prelude.{◌≡◌, ◌<◌, ◌↔◌, IsOk, IfOk, OnOk, Err};
 ghost use Rattle.std.specs.Borrow.{sem, Lends, RestsIfErr};
 ghost use Rattle.triple_arena_ptr.specs.Numbers.{greatest_index};
@@ -49,8 +50,8 @@ pub trait ArenaInsertEntryTrait<'a, P, T> {
         requires { has_place self.now }
         ensures { pointer result ≡ next self.now };
 
-    /// Inserts `t` under the pointer that `ptr` tells, and gives the value in the arena. It takes no
-    /// memory, and has no refusal.
+    /// Inserts `t` under the pointer that `ptr` tells, and gives the value in the arena. It takes
+    /// no memory, and has no refusal.
     ///
     /// The entry must have its place, as for `ptr`. The arena is as after an insertion of what was
     /// last written through the reference.

@@ -72,7 +72,8 @@ impl<P: Ptr, T> ArenaSlot<P, T> {
 
     // The generation and the value of the entry, if there is one.
     pub(crate) fn entry(&self) -> Option<(P::Gen, &T)>
-        ensures { option_map (λ e. (P.Gen.number e.0, e.1.now)) result ≡ entry_of P.Gen.number self.now }
+        ensures { option_map (λ e. (P.Gen.number e.0, e.1.now)) result
+            ≡ entry_of P.Gen.number self.now }
     {
         match self {
             ArenaSlot::Allocated(generation, value) => Some((*generation, value)),
@@ -83,7 +84,8 @@ impl<P: Ptr, T> ArenaSlot<P, T> {
     // The value, if its entry has this generation.
     pub(crate) fn value_under(&self, generation: P::Gen) -> Option<&T>
         ensures { option_copied result
-            ≡ option_and_then (value_under (P.Gen.number generation)) (entry_of P.Gen.number self.now) }
+            ≡ option_and_then
+            (value_under (P.Gen.number generation)) (entry_of P.Gen.number self.now) }
     {
         match self {
             ArenaSlot::Allocated(own, value) => {
@@ -100,7 +102,8 @@ impl<P: Ptr, T> ArenaSlot<P, T> {
     // The value of the entry, for writing.
     pub(crate) fn value_mut(&mut self) -> &mut T
         requires { IsSome (entry_of P.Gen.number self.old) }
-        ensures* lends { sem 𝓛 (Lends (the_row P.row T.row P.Inx.row P.Gen.row) T.row self.entry result (with_slot_value self.old)) }
+        ensures* lends { sem 𝓛 (Lends (the_row P.row T.row P.Inx.row P.Gen.row) T.row self.entry
+            result (with_slot_value self.old)) }
         ensures value { option_map (λ e. e.1) (entry_of P.Gen.number self.old) ≡ Some result.now }
     {
         match self {

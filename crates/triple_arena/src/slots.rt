@@ -25,8 +25,8 @@ use triple_arena_stack::{NonZeroInxGenericStack, SetMaxCapacity};
 
 /// The slots of an arena. Each free one links to the next, beginning at the root.
 ///
-/// No other type reads, writes, pushes or pops a slot. The clauses speak of the arena states that the
-/// slots show, together with the number of entries, which the arena counts.
+/// No other type reads, writes, pushes or pops a slot. The clauses speak of the arena states that
+/// the slots show, together with the number of entries, which the arena counts.
 #[derive(Drop)]
 pub(crate) struct Slots<P: Ptr, T, S: NonZeroInxGenericStack<ArenaSlot<P, T>>> {
     pub(crate) stack: S,
@@ -59,9 +59,13 @@ impl<P: Ptr, T, S: NonZeroInxGenericStack<ArenaSlot<P, T>>> Slots<P, T, S> {
 
     // The value of the entry at an index, for writing.
     pub(crate) fn value_mut(&mut self, inx: NonZeroUsize) -> &mut T
-        requires { IsSome (entry_at P.Gen.number (S.items self.old.stack) (non_zero_usize_get inx)) }
-        ensures* writes_back { sem 𝓛 (lends_slot_value P.row T.row S.row P.Inx.row P.Gen.row S.items S.with_items self.entry (non_zero_usize_get inx) result) }
-        ensures value { option_map (λ e. e.1) (entry_at P.Gen.number (S.items self.old.stack) (non_zero_usize_get inx)) ≡ Some result.now }
+        requires { IsSome (entry_at P.Gen.number (S.items self.old.stack)
+            (non_zero_usize_get inx)) }
+        ensures* writes_back { sem 𝓛 (lends_slot_value P.row T.row S.row P.Inx.row P.Gen.row
+            S.items S.with_items self.entry (non_zero_usize_get inx) result) }
+        ensures value { option_map (λ e. e.1)
+            (entry_at P.Gen.number (S.items self.old.stack) (non_zero_usize_get inx))
+            ≡ Some result.now }
     {
         let slot = self.stack.get_mut(inx).unwrap();
         slot.value_mut()
@@ -69,11 +73,16 @@ impl<P: Ptr, T, S: NonZeroInxGenericStack<ArenaSlot<P, T>>> Slots<P, T, S> {
 
     // Puts another generation on the entry at an index.
     pub(crate) fn restamp(&mut self, inx: NonZeroUsize, generation: P::Gen)
-        requires { IsSome (entry_at P.Gen.number (S.items self.old.stack) (non_zero_usize_get inx)) }
+        requires { IsSome (entry_at P.Gen.number (S.items self.old.stack)
+            (non_zero_usize_get inx)) }
         ensures shows { (s : ArenaState T) (len : ℕ)
-            → Shows P.Gen.number (S.items self.old.stack) (option_map non_zero_usize_get self.old.root) len s
-            → Shows P.Gen.number (S.items self.new.stack) (option_map non_zero_usize_get self.new.root) len
-            (record s { slots = with_generation_in s.slots (non_zero_usize_get inx) (P.Gen.number generation) }) }
+            → Shows P.Gen.number (S.items self.old.stack)
+            (option_map non_zero_usize_get self.old.root) len s
+            → Shows P.Gen.number (S.items self.new.stack)
+            (option_map non_zero_usize_get self.new.root) len
+            (record s {
+              slots = with_generation_in s.slots (non_zero_usize_get inx) (P.Gen.number generation);
+            }) }
         ensures room { S.room self.new.stack ≡ S.room self.old.stack }
         ensures limit { S.limit self.new.stack ≡ S.limit self.old.stack }
     {
@@ -85,7 +94,8 @@ impl<P: Ptr, T, S: NonZeroInxGenericStack<ArenaSlot<P, T>>> Slots<P, T, S> {
     pub(crate) fn place(&self) -> NonZeroUsize
         requires { self.now.root ≡ None → length (S.items self.now.stack) < 2 ^ 64 - 1 }
         ensures { (s : ArenaState T) (len : ℕ)
-            → Shows P.Gen.number (S.items self.now.stack) (option_map non_zero_usize_get self.now.root) len s
+            → Shows P.Gen.number (S.items self.now.stack)
+            (option_map non_zero_usize_get self.now.root) len s
             → non_zero_usize_get result ≡ place s }
     {
         match self.root {
@@ -97,12 +107,15 @@ impl<P: Ptr, T, S: NonZeroInxGenericStack<ArenaSlot<P, T>>> Slots<P, T, S> {
     // Puts an entry at the place of an insertion.
     pub(crate) fn occupy(&mut self, generation: P::Gen, value: T)
         requires { (s : ArenaState T) × (len : ℕ)
-            × Shows P.Gen.number (S.items self.old.stack) (option_map non_zero_usize_get self.old.root) len s
+            × Shows P.Gen.number (S.items self.old.stack)
+            (option_map non_zero_usize_get self.old.root) len s
             × (arena_len s < capacity_of (S.room self.old.stack) (S.limit self.old.stack)) }
         ensures shows { (s : ArenaState T) (len : ℕ)
-            → Shows P.Gen.number (S.items self.old.stack) (option_map non_zero_usize_get self.old.root) len s
+            → Shows P.Gen.number (S.items self.old.stack)
+            (option_map non_zero_usize_get self.old.root) len s
             → arena_len s < capacity s → P.Gen.number generation ≡ s.counter
-            → Shows P.Gen.number (S.items self.new.stack) (option_map non_zero_usize_get self.new.root) (len + 1)
+            → Shows P.Gen.number (S.items self.new.stack)
+            (option_map non_zero_usize_get self.new.root) (len + 1)
             (inserted s value) }
         ensures room { S.room self.new.stack ≡ S.room self.old.stack }
         ensures limit { S.limit self.new.stack ≡ S.limit self.old.stack }
@@ -119,16 +132,21 @@ impl<P: Ptr, T, S: NonZeroInxGenericStack<ArenaSlot<P, T>>> Slots<P, T, S> {
         }
     }
 
-    // Takes out the entry at an index: the last slot goes, and any other becomes the first free one.
+    // Takes out the entry at an index: the last slot goes, and any other becomes the first free
+    // one.
     pub(crate) fn vacate(&mut self, inx: NonZeroUsize) -> (P::Gen, T)
-        requires live { IsSome (entry_at P.Gen.number (S.items self.old.stack) (non_zero_usize_get inx)) }
+        requires live { IsSome (entry_at P.Gen.number (S.items self.old.stack)
+            (non_zero_usize_get inx)) }
         requires shown { (s : ArenaState T) × (len : ℕ)
-            × Shows P.Gen.number (S.items self.old.stack) (option_map non_zero_usize_get self.old.root) len s }
+            × Shows P.Gen.number (S.items self.old.stack)
+            (option_map non_zero_usize_get self.old.root) len s }
         ensures entry { entry_at P.Gen.number (S.items self.old.stack) (non_zero_usize_get inx)
             ≡ Some (P.Gen.number result.0, result.1) }
         ensures shows { (raise : ℕ → ℕ) (s : ArenaState T) (len : ℕ)
-            → Shows P.Gen.number (S.items self.old.stack) (option_map non_zero_usize_get self.old.root) len s
-            → Shows P.Gen.number (S.items self.new.stack) (option_map non_zero_usize_get self.new.root) (len - 1)
+            → Shows P.Gen.number (S.items self.old.stack)
+            (option_map non_zero_usize_get self.old.root) len s
+            → Shows P.Gen.number (S.items self.new.stack)
+            (option_map non_zero_usize_get self.new.root) (len - 1)
             (removed raise s (non_zero_usize_get inx)) }
         ensures room { S.room self.new.stack ≡ S.room self.old.stack }
         ensures limit { S.limit self.new.stack ≡ S.limit self.old.stack }
@@ -175,19 +193,28 @@ impl<P: Ptr, T, S: NonZeroInxGenericStack<ArenaSlot<P, T>>> Slots<P, T, S> {
         ensures items { S.items self.new.stack ≡ S.items self.old.stack }
         ensures root { self.new.root ≡ self.old.root }
         ensures limit { S.limit self.new.stack ≡ S.limit self.old.stack }
-        ensures room { OnOk result (S.room self.new.stack ≡ reallocated_room S.kind (S.room self.old.stack) (length (S.items self.old.stack)) min_capacity) }
+        ensures room { OnOk result (S.room self.new.stack ≡ reallocated_room S.kind
+            (S.room self.old.stack) (length (S.items self.old.stack)) min_capacity) }
         ensures refused { OnErr result (S.room self.new.stack ≡ S.room self.old.stack) }
         ensures within { OnOk result (IsWithin (S.limit self.old.stack) min_capacity) }
-        ensures beyond { (result ≡ Err ReallocationError.BeyondMaxCapacity) ↔ IsBeyond (S.limit self.old.stack) min_capacity }
-        ensures succeeds { IsWithin (S.limit self.old.stack) min_capacity → reallocated_room S.kind (S.room self.old.stack) (length (S.items self.old.stack)) min_capacity ≡ S.room self.old.stack → IsOk result }
+        ensures beyond { (result ≡ Err ReallocationError.BeyondMaxCapacity)
+            ↔ IsBeyond (S.limit self.old.stack) min_capacity }
+        ensures succeeds { IsWithin (S.limit self.old.stack) min_capacity
+            → reallocated_room S.kind
+            (S.room self.old.stack) (length (S.items self.old.stack)) min_capacity
+            ≡ S.room self.old.stack
+            → IsOk result }
     {
         self.stack.reallocate_min_capacity(min_capacity)
     }
 
     // Pops the free slots at the end, and links the others in rising order.
     pub(crate) fn tidy(&mut self)
-        ensures slots { map (entry_of P.Gen.number) (S.items self.new.stack) ≡ trimmed (map (entry_of P.Gen.number) (S.items self.old.stack)) }
-        ensures linked { IsLinked (S.items self.new.stack) (option_map non_zero_usize_get self.new.root) (gaps 1 (trimmed (map (entry_of P.Gen.number) (S.items self.old.stack)))) }
+        ensures slots { map (entry_of P.Gen.number) (S.items self.new.stack)
+            ≡ trimmed (map (entry_of P.Gen.number) (S.items self.old.stack)) }
+        ensures linked { IsLinked (S.items self.new.stack)
+            (option_map non_zero_usize_get self.new.root)
+            (gaps 1 (trimmed (map (entry_of P.Gen.number) (S.items self.old.stack)))) }
         ensures room { S.room self.new.stack ≡ S.room self.old.stack }
         ensures limit { S.limit self.new.stack ≡ S.limit self.old.stack }
     {
@@ -197,7 +224,11 @@ impl<P: Ptr, T, S: NonZeroInxGenericStack<ArenaSlot<P, T>>> Slots<P, T, S> {
 
     // The least index of an entry, if there is one.
     pub(crate) fn first_live(&self) -> Option<NonZeroUsize>
-        ensures { MatchOption result ((i : ℕ) → entry_at P.Gen.number (S.items self.now.stack) i ≡ None) (λ inx. IsSome (entry_at P.Gen.number (S.items self.now.stack) (non_zero_usize_get inx)) × ((i : ℕ) → i < non_zero_usize_get inx → entry_at P.Gen.number (S.items self.now.stack) i ≡ None)) }
+        ensures { MatchOption result
+            ((i : ℕ) → entry_at P.Gen.number (S.items self.now.stack) i ≡ None)
+            (λ inx. IsSome (entry_at P.Gen.number (S.items self.now.stack) (non_zero_usize_get inx))
+            × ((i : ℕ) → i < non_zero_usize_get inx
+            → entry_at P.Gen.number (S.items self.now.stack) i ≡ None)) }
     {
         let slots = self.stack.as_slice();
         for at in 0..slots.len() {
@@ -210,7 +241,11 @@ impl<P: Ptr, T, S: NonZeroInxGenericStack<ArenaSlot<P, T>>> Slots<P, T, S> {
 
     // The greatest index of an entry, if there is one.
     pub(crate) fn last_live(&self) -> Option<NonZeroUsize>
-        ensures { MatchOption result ((i : ℕ) → entry_at P.Gen.number (S.items self.now.stack) i ≡ None) (λ inx. IsSome (entry_at P.Gen.number (S.items self.now.stack) (non_zero_usize_get inx)) × ((i : ℕ) → non_zero_usize_get inx < i → entry_at P.Gen.number (S.items self.now.stack) i ≡ None)) }
+        ensures { MatchOption result
+            ((i : ℕ) → entry_at P.Gen.number (S.items self.now.stack) i ≡ None)
+            (λ inx. IsSome (entry_at P.Gen.number (S.items self.now.stack) (non_zero_usize_get inx))
+            × ((i : ℕ) → non_zero_usize_get inx < i
+            → entry_at P.Gen.number (S.items self.now.stack) i ≡ None)) }
     {
         let slots = self.stack.as_slice();
         let mut at = slots.len();
@@ -245,7 +280,8 @@ impl<P: Ptr, T, S: SetMaxCapacity<ArenaSlot<P, T>>> Slots<P, T, S> {
 fn replace<X, S: NonZeroInxGenericStack<X>>(stack: &mut S, inx: NonZeroUsize, x: X) -> X
     requires { IsSome (item (S.items stack.old) (non_zero_usize_get inx)) }
     ensures value { item (S.items stack.old) (non_zero_usize_get inx) ≡ Some result }
-    ensures stack { stack.new ≡ S.with_items stack.old (with_item (S.items stack.old) (non_zero_usize_get inx) x) }
+    ensures stack { stack.new ≡ S.with_items stack.old
+        (with_item (S.items stack.old) (non_zero_usize_get inx) x) }
 {
     let slot = stack.get_mut(inx).unwrap();
     mem::replace(slot, x)
@@ -253,7 +289,8 @@ fn replace<X, S: NonZeroInxGenericStack<X>>(stack: &mut S, inx: NonZeroUsize, x:
 
 // Whether the last slot is free.
 fn has_free_end<P: Ptr, T, S: NonZeroInxGenericStack<ArenaSlot<P, T>>>(stack: &S) -> bool
-    ensures { result ≡ is_free (item (map (entry_of P.Gen.number) (S.items stack.now)) (length (map (entry_of P.Gen.number) (S.items stack.now)))) }
+    ensures { result ≡ is_free (item (map (entry_of P.Gen.number) (S.items stack.now))
+        (length (map (entry_of P.Gen.number) (S.items stack.now)))) }
 {
     let slots = stack.as_slice();
     if slots.is_empty() {
@@ -265,7 +302,8 @@ fn has_free_end<P: Ptr, T, S: NonZeroInxGenericStack<ArenaSlot<P, T>>>(stack: &S
 
 // Pops the free slots at the end.
 fn pop_free_end<P: Ptr, T, S: NonZeroInxGenericStack<ArenaSlot<P, T>>>(stack: &mut S)
-    ensures slots { map (entry_of P.Gen.number) (S.items stack.new) ≡ trimmed (map (entry_of P.Gen.number) (S.items stack.old)) }
+    ensures slots { map (entry_of P.Gen.number) (S.items stack.new)
+        ≡ trimmed (map (entry_of P.Gen.number) (S.items stack.old)) }
     ensures room { S.room stack.new ≡ S.room stack.old }
     ensures limit { S.limit stack.new ≡ S.limit stack.old }
 {
@@ -278,8 +316,10 @@ fn pop_free_end<P: Ptr, T, S: NonZeroInxGenericStack<ArenaSlot<P, T>>>(stack: &m
 fn relink<P: Ptr, T, S: NonZeroInxGenericStack<ArenaSlot<P, T>>>(
     stack: &mut S,
 ) -> Option<NonZeroUsize>
-    ensures slots { map (entry_of P.Gen.number) (S.items stack.new) ≡ map (entry_of P.Gen.number) (S.items stack.old) }
-    ensures linked { IsLinked (S.items stack.new) (option_map non_zero_usize_get result) (gaps 1 (map (entry_of P.Gen.number) (S.items stack.old))) }
+    ensures slots { map (entry_of P.Gen.number) (S.items stack.new)
+        ≡ map (entry_of P.Gen.number) (S.items stack.old) }
+    ensures linked { IsLinked (S.items stack.new) (option_map non_zero_usize_get result)
+        (gaps 1 (map (entry_of P.Gen.number) (S.items stack.old))) }
     ensures room { S.room stack.new ≡ S.room stack.old }
     ensures limit { S.limit stack.new ≡ S.limit stack.old }
 {

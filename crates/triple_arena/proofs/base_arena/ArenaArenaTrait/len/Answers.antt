@@ -1,0 +1,7 @@
+use Rattle.std.proofs.Common.{subst}
+use Rattle.triple_arena.specs.ArenaState.{IsWellFormed}
+use Rattle.triple_arena.proofs.WellFormed.{len_within}
+use Rattle.triple_arena.proofs.base_arena.ArenaArenaTrait.len.Goals as goal
+
+pub returns-clause-fits : goal.returns-clause-fits
+returns-clause-fits g c = len_within c.args.self.now (subst IsWellFormed c.self.view_is c.self.invariant.well)

@@ -2,6 +2,7 @@
 
 mod devices;
 mod forms;
+mod kind_run;
 mod program;
 mod replies;
 mod runs;

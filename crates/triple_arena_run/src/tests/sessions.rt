@@ -160,15 +160,6 @@ fn a_limit_refuses_and_a_removal_makes_place(rt: HostRuntime) -> Result<(), Fail
 }
 
 #[test]
-fn an_array_of_eight_takes_eight(rt: HostRuntime) -> Result<(), Fail> {
-    let text =
-        b"insert 1 -\ninsert 1 -\ninsert 1 -\ninsert 1 -\ninsert 1 -\ninsert 1 -\ninsert 1 -\ninsert 1 -\ninsert 1 -\n".as_slice();
-    let replies =
-        b"given 1\ngiven 2\ngiven 3\ngiven 4\ngiven 5\ngiven 6\ngiven 7\ngiven 8\nbeyond max capacity\n".as_slice();
-    replies_over::<NonZeroInxArray<Slot, 8>>(&rt, rt.alloc(), None, text, replies)
-}
-
-#[test]
 fn a_session_without_places_refuses_each_insertion(rt: HostRuntime) -> Result<(), Fail> {
     let text = b"insert 5 -\nget 1\n".as_slice();
     let replies = b"beyond max capacity\nnothing\n".as_slice();

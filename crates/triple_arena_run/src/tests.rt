@@ -1,5 +1,6 @@
 //! Runs of texts over memory, and the texts that no clause states.
 
+mod byte_pointer;
 mod devices;
 mod forms;
 mod kind_run;

@@ -22,7 +22,7 @@ use Rattle.triple_arena_run.specs.declared.reply.Reply.{Reply}
 use Rattle.triple_arena_run.specs.declared.reply.Reply.TheVariants.{Removed, Invalid}
 use Rattle.triple_arena_run.specs.SessionState.{SessionState, node_of, link_name}
 use Rattle.triple_arena_run.specs.SessionLayout.{state_of}
-use Rattle.triple_arena_run.specs.SessionRun.{with_name, refusal, remove_answer, StaysButRoom}
+use Rattle.triple_arena_run.specs.SessionRun.{with_name, with_room_for_name, refusal, remove_answer, ArenaWantsMemory}
 
 module _ {A B : Type 0} (f : A → B) where
   item-map : (xs : List A) (i : ℕ) → item (map f xs) i ≡ option_map f (item xs i)
@@ -128,9 +128,6 @@ module _ {A : Type 0} where
   told_invalid true (Some y) e = absurd (cc)
   told_invalid false (Some y) e = absurd (cc)
 
-abbrev with_table_room : {X : Type 0} → SessionState X → SessionState X
-with_table_room t = record t { table_room = room_for_one_more t.table_room None (length t.table) }
-
 full_from : (m n : ℕ) → m ≤ n → (m < n → false ≡ true) → m ≡ n
 full_from m n le below =
     elim (cases_eq m n) [
@@ -160,14 +157,12 @@ module _ {X P : Type 0} (pointer : P → Pointer) (arena : ArenaState (Node X P)
   pub capacity-shown : capacity arena ≡ capacity s.arena
   capacity-shown = rw (← shows) refl
 
-  -- an arena that refused for want of memory was full
-  pub arena_full : arena_len s.arena ≤ capacity s.arena → (arena_len arena < capacity arena → false ≡ true) → arena_len s.arena ≡ capacity s.arena
-  arena_full fits below = full_from (arena_len s.arena) (capacity s.arena) fits (λ lt. below (rw (len-shown, capacity-shown) lt))
-
-  -- where the table has grown and all else is as it was
-  pub room_made : (new_arena : ArenaState (Node X P)) (new_table : List P) (new_room : ℕ) → new_arena ≡ arena → new_table ≡ table → new_room ≡ room_for_one_more room None (length table) → StaysButRoom kind counting greatest s (state_of pointer new_arena new_table new_room)
-  room_made new_arena new_table new_room arena_is table_is room_is =
-      inr (rw (arena_is, table_is, room_is, ← length-map table pointer) (ap (λ (t : SessionState X). with_table_room t) shows))
+  -- an arena that refused for want of memory was full, and the table had grown
+  pub arena_wants : arena_len s.arena ≤ capacity s.arena → (arena_len arena < capacity arena → false ≡ true) → (new_arena : ArenaState (Node X P)) (new_table : List P) (new_room : ℕ) → new_arena ≡ arena → new_table ≡ table → new_room ≡ room_for_one_more room None (length table) → ArenaWantsMemory kind counting greatest s (state_of pointer new_arena new_table new_room)
+  arena_wants fits below new_arena new_table new_room arena_is table_is room_is = (
+    full_from (arena_len s.arena) (capacity s.arena) fits (λ lt. below (rw (len-shown, capacity-shown) lt)),
+    rw (arena_is, table_is, room_is, ← length-map table pointer) (ap with_room_for_name shows),
+  )
 
   module _ (name : ℕ) (p : P) (has : item s.table name ≡ Some (pointer p)) (new_arena : ArenaState (Node X P)) where
     -- a removal from the arena answers as the session does

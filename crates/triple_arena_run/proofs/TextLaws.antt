@@ -17,7 +17,7 @@ use Rattle.triple_arena_run.specs.Lines.{has_bytes, lines_of}
 use Rattle.triple_arena_run.specs.CommandText.{command_of}
 use Rattle.triple_arena_run.specs.ReplyText.{tells_of_wrap, reply_line, reply_lines}
 use Rattle.triple_arena_run.specs.Runs.{TellsOfNoWrap, EndsInWrap}
-use Rattle.triple_arena_run.specs.TextRun.{StandFor, RunsLines, AnswersLines, AnswersToWrap, RunsThrough, StopsAtLine, StopsAtReply, IsTextRun, RunsSome, IsFlushedRun}
+use Rattle.triple_arena_run.specs.TextRun.{StandFor, RunsLines, AnswersLines, AnswersToWrap, RunsThrough, StopsAtLine, StopsAtReply, IsTextRun, RunsSome, IsFlushedRun, IsFlushed}
 use Rattle.triple_arena_run.specs.LineRun.{RunsCommand, CommandEnds, LineEnds}
 use Rattle.triple_arena_run.proofs.RunLaws.{IsRun-append, TellsOfNoWrap-nil, TellsOfNoWrap-push}
 
@@ -175,7 +175,7 @@ module _ {S : Type 0} (Step : S → Command ℕ → Reply ℕ → S → Type 0) 
   RunsSome-through lines s t a b (inl ran) = (length lines, ran.0, subst (λ xs. RunsLines Step xs ran.0 s t) (sym (take_all (length lines) lines (omega arith))) ran.1, inl ran.2)
   RunsSome-through lines s t a b (inr ran) = (ran.0, ran.1.0, ran.1.1, inr ran.1.2)
 
-  pub IsFlushedRun-flushed : (known : Option (List ℕ)) (r : Result (Unit {0}) TextError) (s t : S) (a b c : Option (List ℕ)) → IsTextRun Step known r s t a b → Keeps b c → IsFlushedRun Step known r s t a c
+  IsFlushedRun-flushed : (known : Option (List ℕ)) (r : Result (Unit {0}) TextError) (s t : S) (a b c : Option (List ℕ)) → IsTextRun Step known r s t a b → Keeps b c → IsFlushedRun Step known r s t a c
   IsFlushedRun-flushed known (Ok x) s t a b c ran kept = IfSome-map known _ _ (λ bytes. RunsThrough-kept (lines_of bytes) s t a b c kept) ran
   IsFlushedRun-flushed known (Err (error.Malformed n)) s t a b c ran kept = IfSome-map known _ _ (λ bytes stops. (stops.0, AnswersLines-kept (take (n - 1) (lines_of bytes)) s t a b c kept stops.1)) ran
   IsFlushedRun-flushed known (Err error.Write) s t a b c ran kept = IfSome-map known _ _ (λ bytes stops. (stops.0, stops.1 ++ stops.2 ∷ [], stops.3, wrap_at_most_last stops.1 stops.2 stops.4)) ran
@@ -186,9 +186,18 @@ module _ {S : Type 0} (Step : S → Command ℕ → Reply ℕ → S → Type 0) 
   RunsSome-none None s t same = tt
   RunsSome-none (Some bytes) s t same = (0, [], ([], refl, same), inl TellsOfNoWrap-nil)
 
-  pub IsFlushedRun-failed : (known : Option (List ℕ)) (r : Result (Unit {0}) TextError) (s t : S) (a b c : Option (List ℕ)) → IsTextRun Step known r s t a b → IsFlushedRun Step known (Err error.Write) s t a c
+  IsFlushedRun-failed : (known : Option (List ℕ)) (r : Result (Unit {0}) TextError) (s t : S) (a b c : Option (List ℕ)) → IsTextRun Step known r s t a b → IsFlushedRun Step known (Err error.Write) s t a c
   IsFlushedRun-failed known (Ok x) s t a b c ran = IfSome-map known _ _ (λ bytes. RunsSome-through (lines_of bytes) s t a b) ran
   IsFlushedRun-failed known (Err (error.Malformed n)) s t a b c ran = IfSome-map known _ _ (λ bytes stops. (n - 1, stops.1.0, stops.1.1, inl stops.1.2)) ran
   IsFlushedRun-failed known (Err error.Write) s t a b c ran = IfSome-map known _ _ (λ bytes stops. (stops.0, stops.1 ++ stops.2 ∷ [], stops.3, wrap_at_most_last stops.1 stops.2 stops.4)) ran
   IsFlushedRun-failed known (Err error.Read) s t a b c ran = RunsSome-none known s t ran.0
   IsFlushedRun-failed known (Err error.NoMemory) s t a b c ran = RunsSome-none known s t ran.0
+
+  -- a run, and the flush after it
+  pub IsFlushedRun-after : (known : Option (List ℕ)) (r q : Result (Unit {0}) TextError) (s t : S) (a b c : Option (List ℕ)) → IsTextRun Step known r s t a b → IsFlushed r q b c → IsFlushedRun Step known q s t a c
+  IsFlushedRun-after known r q s t a b c ran (inl flushed) = subst (λ z. IsFlushedRun Step known z s t a c) (sym flushed.0) (IsFlushedRun-flushed known r s t a b c ran flushed.1)
+  IsFlushedRun-after known r q s t a b c ran (inr failed) = subst (λ z. IsFlushedRun Step known z s t a c) (sym failed) (IsFlushedRun-failed known r s t a b c ran)
+
+  -- where there was no memory to begin, nothing ran
+  pub IsFlushedRun-not_begun : (known : Option (List ℕ)) (q : Result (Unit {0}) TextError) (s : S) (a c : Option (List ℕ)) → IsFlushed (Err error.NoMemory) q a c → IsFlushedRun Step known q s s a c
+  IsFlushedRun-not_begun known q s a c flushed = IsFlushedRun-after known (Err error.NoMemory) q s s a a c (refl, Keeps-refl a) flushed

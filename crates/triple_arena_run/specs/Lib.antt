@@ -9,3 +9,4 @@ pub mod ReplyText
 pub mod TextRun
 pub mod LineRun
 pub mod Program
+pub mod KindRun

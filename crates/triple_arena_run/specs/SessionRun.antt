@@ -1,5 +1,5 @@
 -- What each command makes of a session, and what is replied.
-use Rattle.std.specs.Prelude.{◌≡◌, ℕ, ◌+◌, ◌≤◌, ◌==◌, nat_le, ◌⊎◌, Bool, false, cond, [], ◌∷◌, ◌++◌, length, Option, Some, None, IsSome}
+use Rattle.std.specs.Prelude.{◌≡◌, ℕ, ◌+◌, ◌==◌, nat_le, ◌⊎◌, Bool, false, cond, [], ◌∷◌, ◌++◌, length, Option, Some, None, IsSome}
 use Rattle.triple_arena_base.specs.declared.errors.ReallocationError.{ReallocationError}
 use Rattle.triple_arena_base.specs.declared.errors.ReallocationError.TheVariants as refused
 use Rattle.triple_arena_ptr.specs.Numbers.{raise, wraps}
@@ -41,15 +41,18 @@ module _ {X : Type 0} where
   get_reply s (Some node) = Found node.0 (link_name s.table node.1)
   get_reply s None = Nothing
 
+  -- the session with room for one more pointer in its table, which has grown where it was full
+  abbrev pub with_room_for_name : SessionState X → SessionState X
+  with_room_for_name s = record s { table_room = room_for_one_more s.table_room None (length s.table) }
+
 module _ {X : Type 0} (kind : StackKind) (counting : Bool) (greatest : ℕ) where
-  -- the session with a new name: the datum stands in the arena with its link, and its pointer last in the table; what was
-  -- full has grown first
+  -- the session with a new name: the datum stands in the arena with its link, and its pointer last in the table; a full
+  -- arena has grown first
   abbrev pub with_name : SessionState X → X → Option Pointer → SessionState X
   with_name s datum link =
-      record {
+      record (with_room_for_name s) {
         arena = inserted (grown kind s.arena) (datum, link);
         table = s.table ++ next_pointer s.arena ∷ [];
-        table_room = room_for_one_more s.table_room None (length s.table);
       }
 
   -- insertion with a good link, where nothing or something stands against it
@@ -81,19 +84,21 @@ module _ {X : Type 0} (kind : StackKind) (counting : Bool) (greatest : ℕ) wher
   answer s (Get name) = (get_reply s (named s name), s)
   answer s (Remove name) = remove_answer s (item s.table name)
 
-  -- memory may be refused to an insertion with a good link that nothing stands against, where the table has no room for
-  -- one more pointer, or the arena no place for one more entry
-  abbrev pub MayWantMemory : SessionState X → Command X → Type 0
-  MayWantMemory s (Insert datum link) =
-      IsSome (link_pointer s.table link) × (refusal s.arena ≡ None) × ((s.table_room ≤ length s.table) ⊎ (arena_len s.arena ≡ capacity s.arena))
-  MayWantMemory s (Get name) = ⊥
-  MayWantMemory s (Remove name) = ⊥
+  -- nothing stands against an insertion: its link is good, and the arena can take one more entry
+  abbrev pub IsUnopposed : SessionState X → Command X → Type 0
+  IsUnopposed s (Insert datum link) = IsSome (link_pointer s.table link) × (refusal s.arena ≡ None)
+  IsUnopposed s (Get name) = ⊥
+  IsUnopposed s (Remove name) = ⊥
 
-  -- all stays, but that the table may have grown
-  abbrev pub StaysButRoom : SessionState X → SessionState X → Type 0
-  StaysButRoom s t = (t ≡ s) ⊎ (t ≡ record s { table_room = room_for_one_more s.table_room None (length s.table) })
+  -- the table was full and could not grow: all stays
+  abbrev pub TableWantsMemory : SessionState X → SessionState X → Type 0
+  TableWantsMemory s t = (length s.table ≡ s.table_room) × (t ≡ s)
+
+  -- the arena was full and could not grow: all stays, but for the room that the table had got before
+  abbrev pub ArenaWantsMemory : SessionState X → SessionState X → Type 0
+  ArenaWantsMemory s t = (arena_len s.arena ≡ capacity s.arena) × (t ≡ with_room_for_name s)
 
   -- a command, its reply and the session after it: the answer, or a refusal for want of memory
   abbrev pub IsStep : SessionState X → Command X → Reply X → SessionState X → Type 0
-  IsStep s command NoMemory t = ((NoMemory, t) ≡ answer s command) ⊎ (MayWantMemory s command × StaysButRoom s t)
+  IsStep s command NoMemory t = ((NoMemory, t) ≡ answer s command) ⊎ (IsUnopposed s command × (TableWantsMemory s t ⊎ ArenaWantsMemory s t))
   IsStep s command reply t = (reply, t) ≡ answer s command

@@ -63,3 +63,7 @@ module _ {S : Type 0} (Step : S → Command ℕ → Reply ℕ → S → Type 0) 
   abbrev pub IsFlushedRun : Option (List ℕ) → Result (Unit {0}) TextError → S → S → Option (List ℕ) → Option (List ℕ) → Type 0
   IsFlushedRun text (Err Write) s t old new = IfSome text (λ bytes. RunsSome (lines_of bytes) s t)
   IsFlushedRun text outcome s t old new = IsTextRun text outcome s t old new
+
+-- after a run of this outcome the writer was flushed: the outcome stays and what was written went out, or the flush failed
+abbrev pub IsFlushed : Result (Unit {0}) TextError → Result (Unit {0}) TextError → Option (List ℕ) → Option (List ℕ) → Type 0
+IsFlushed outcome flushed old new = ((flushed ≡ outcome) × Keeps old new) ⊎ (flushed ≡ Err Write)

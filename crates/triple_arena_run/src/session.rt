@@ -239,8 +239,12 @@ fn make_room<T>(table: &mut NonZeroInxVec<T>) -> Result<(), ReallocationError>
         ≡ room_for_one_more table.old.room None (length table.old.items)) }
     ensures room { OnOk result (length table.new.items < table.new.room) }
     ensures had_room { length table.old.items < table.old.room → IsOk result }
-    ensures refused { OnErr result (table.new ≡ table.old) }
+    ensures refused { OnErr result
+        ((length table.old.items ≡ table.old.room) × (table.new ≡ table.old)) }
 {
+    if table.len() < table.capacity() {
+        return Ok(());
+    }
     match table.entry_push() {
         Ok(_entry) => Ok(()),
         Err(refusal) => Err(refusal),

@@ -1,7 +1,9 @@
 //! Runs of texts over memory, and the texts that no clause states.
 
+mod byte_pointer;
 mod devices;
 mod forms;
+mod kind_run;
 mod program;
 mod replies;
 mod runs;

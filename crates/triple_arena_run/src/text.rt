@@ -2,7 +2,7 @@
 
 ghost use Rattle.std.specs.Io.Buffered.{writer_contents};
 ghost use Rattle.triple_arena_run.specs.SessionRun.{IsStep};
-ghost use Rattle.triple_arena_run.specs.TextRun.{IsTextRun, IsFlushedRun};
+ghost use Rattle.triple_arena_run.specs.TextRun.{IsTextRun, IsFlushedRun, IsFlushed};
 ghost use Rattle.triple_arena_run.specs.LineRun.{CommandEnds, LineEnds};
 
 use crate::command::parse_command;
@@ -59,9 +59,9 @@ pub fn run_text<P: Ptr, S: NonZeroInxGenericStack<ArenaSlot<P, Node<u64, P>>>, R
 /// Runs a text as `run_text` does, over a buffered writer. The writer is flushed once when the run
 /// has ended, whatever its outcome, and the writer below it is given back.
 ///
-/// A failed flush is the error `Write`, and the bytes that it left are let go. Of a run that failed
-/// by reading or for want of memory nothing was written, and at the other outcomes but `Write` the
-/// writer below holds each reply line.
+/// Of a run that failed by reading or for want of memory nothing was written, and at the other
+/// outcomes but `Write` the writer below holds each reply line. A failed flush is `Write`, as
+/// `flush_after` says.
 pub fn run_text_and_flush<
     P: Ptr,
     S: NonZeroInxGenericStack<ArenaSlot<P, Node<u64, P>>>,
@@ -77,6 +77,19 @@ pub fn run_text_and_flush<
         session.old session.new (writer_contents W.contents output) (W.contents result.1) }
 {
     let outcome = run_text(session, alloc, input, &mut output);
+    flush_after(outcome, output)
+}
+
+/// Flushes a buffered writer after a run of this outcome, and gives back the writer below it. A
+/// failed flush is the error `Write` whatever the outcome was, and the bytes that it left are let
+/// go.
+pub fn flush_after<W: Write + Drop>(
+    outcome: Result<(), TextError>,
+    mut output: BufWriter<W>,
+) -> (Result<(), TextError>, W)
+    ensures { IsFlushed outcome result.0
+        (writer_contents W.contents output) (W.contents result.1) }
+{
     let flushed = output.flush();
     // A writer that is dropped would try to write once more what a failed flush left.
     let (inner, _left) = output.into_parts();

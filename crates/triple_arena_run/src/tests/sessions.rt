@@ -1,5 +1,6 @@
 //! Sessions by their commands, at pointers of small generations too.
 
+use super::byte_pointer::B;
 use crate::command::Command;
 use crate::node::Node;
 use crate::reply::Reply;
@@ -84,7 +85,7 @@ fn a_node_prints_as_its_pair(rt: HostRuntime) -> Result<(), Fail> {
 
 /// Insertions with links and removals, each name looked up after each of them. Holds with ample
 /// memory, and also where any one request for memory is refused (`rt try --test --fail-alloc 1..`):
-/// then one insertion answers so, and names and entries are as they were.
+/// then one insertion answers so, and names, entries, capacity and counter are as they were.
 #[test]
 fn a_refused_insertion_changes_nothing(rt: HostRuntime) {
     let mut session: Session<P0, u64> = Session::new(rt.alloc());
@@ -93,6 +94,8 @@ fn a_refused_insertion_changes_nothing(rt: HostRuntime) {
     let mut refused = false;
     for datum in 0..12 {
         let link = if given == 0 { None } else { Some(given) };
+        let capacity = session.arena().capacity();
+        let generation = session.arena().generation();
         match session.step(Command::Insert(datum, link)) {
             Reply::Given(name, false) => {
                 assert!(rt; given < name && name < 16);
@@ -102,6 +105,8 @@ fn a_refused_insertion_changes_nothing(rt: HostRuntime) {
             reply => {
                 assert!(rt; reply == Reply::NoMemory && !refused);
                 refused = true;
+                assert_eq!(rt; session.arena().capacity(), capacity);
+                assert!(rt; session.arena().generation() == generation);
             }
         }
         if datum % 3 == 2 && given < 16 {
@@ -160,15 +165,6 @@ fn a_limit_refuses_and_a_removal_makes_place(rt: HostRuntime) -> Result<(), Fail
 }
 
 #[test]
-fn an_array_of_eight_takes_eight(rt: HostRuntime) -> Result<(), Fail> {
-    let text =
-        b"insert 1 -\ninsert 1 -\ninsert 1 -\ninsert 1 -\ninsert 1 -\ninsert 1 -\ninsert 1 -\ninsert 1 -\ninsert 1 -\n".as_slice();
-    let replies =
-        b"given 1\ngiven 2\ngiven 3\ngiven 4\ngiven 5\ngiven 6\ngiven 7\ngiven 8\nbeyond max capacity\n".as_slice();
-    replies_over::<NonZeroInxArray<Slot, 8>>(&rt, rt.alloc(), None, text, replies)
-}
-
-#[test]
 fn a_session_without_places_refuses_each_insertion(rt: HostRuntime) -> Result<(), Fail> {
     let text = b"insert 5 -\nget 1\n".as_slice();
     let replies = b"beyond max capacity\nnothing\n".as_slice();
@@ -204,20 +200,74 @@ fn a_run_gives_one_reply_for_each_command(rt: HostRuntime) -> Result<(), Fail> {
     Ok(())
 }
 
-/// The last of these removals wraps the 16-bit counter, and the run ends with its reply.
+/// The byte counter begins at 2, so the 254th removal wraps it, and what follows isn't run.
 #[test]
 fn a_run_ends_at_a_wrap(rt: HostRuntime) -> Result<(), Fail> {
-    let mut session: Session<P3, u64> = Session::new(rt.alloc());
-    for name in 1..65534 {
-        assert!(rt; session.step(Command::Insert(1, None)) == Reply::Given(name, false));
-        assert!(rt; session.step(Command::Remove(name)) == Reply::Removed(1, None, false));
+    let mut commands = Vec::new(rt.alloc());
+    for name in 1..256 {
+        commands.push(Command::Insert(5, None))?;
+        commands.push(Command::Remove(name))?;
     }
-    let replies = session.run(&[
-        Command::Insert(5, None),
-        Command::Remove(65534),
-        Command::Insert(6, None),
-    ])?;
-    let expected = [Reply::Given(65534, false), Reply::Removed(5, None, true)];
-    assert!(rt; replies.as_slice() == expected.as_slice());
+    let mut session: Session<B, u64> = Session::new(rt.alloc());
+    let replies = session.run(commands.as_slice())?;
+    assert_eq!(rt; replies.len(), 508);
+    for (position, reply) in replies.iter().enumerate() {
+        let expected = if position % 2 == 0 {
+            Reply::Given(position / 2 + 1, false)
+        } else {
+            Reply::Removed(5, None, position == 507)
+        };
+        assert!(rt; *reply == expected, "at {position}");
+    }
+    assert!(rt; session.step(Command::Get(255)) == Reply::Nothing);
+    assert_eq!(rt; session.arena().len(), 0);
+    Ok(())
+}
+
+type ByteSlot = ArenaSlot<B, Node<usize, B>>;
+
+/// Fills a session up to the greatest byte index. The next insertion is refused so, and names,
+/// entries, capacity and counter stay, until a removal makes place.
+fn takes_every_index<S: NonZeroInxGenericStack<ByteSlot>>(
+    rt: &impl Abort,
+    session: &mut Session<B, usize, S>,
+    refusal: Reply<usize>,
+) {
+    for name in 1..256 {
+        let reply = session.step(Command::Insert(name, link_before(name)));
+        assert!(rt; reply == Reply::Given(name, false), "at {name}");
+    }
+    assert_eq!(rt; session.arena().capacity(), 255);
+    let generation = session.arena().generation();
+    assert!(rt; session.step(Command::Insert(0, None)) == refusal);
+    assert_eq!(rt; session.arena().len(), 255);
+    assert_eq!(rt; session.arena().capacity(), 255);
+    assert!(rt; session.arena().generation() == generation);
+    for name in 1..256 {
+        let reply = session.step(Command::Get(name));
+        assert!(rt; reply == Reply::Found(name, link_before(name)), "at {name}");
+    }
+    assert!(rt; session.step(Command::Get(256)) == Reply::Nothing);
+    assert!(rt; session.step(Command::Remove(100)) == Reply::Removed(100, Some(99), false));
+    assert!(rt; session.step(Command::Insert(7, Some(255))) == Reply::Given(256, false));
+}
+
+fn link_before(name: usize) -> Option<usize> {
+    if name > 1 { Some(name - 1) } else { None }
+}
+
+/// Without a limit the 256th insertion wants an index that there is not. A limit at the greatest
+/// index is told first.
+#[test]
+fn an_arena_without_a_free_index_refuses(rt: HostRuntime) -> Result<(), Fail> {
+    let mut session: Session<B, usize> = Session::new(rt.alloc());
+    takes_every_index(&rt, &mut session, Reply::NoMemory);
+    let mut session: Session<B, usize, NonZeroInxLimitedVec<ByteSlot>> = Session::with_min_capacity(
+        rt.alloc(),
+        255,
+    )?;
+    takes_every_index(&rt, &mut session, Reply::BeyondMaxCapacity);
+    let past = Session::<B, usize>::with_min_capacity(rt.alloc(), 256);
+    assert!(rt; past.is_err());
     Ok(())
 }

@@ -4,7 +4,7 @@ use Rattle.std.specs.Option.{option_map}
 use Rattle.triple_arena.specs.Pointers.{numbers}
 use Rattle.triple_arena_run.specs.SessionState.{link_pointer}
 use Rattle.triple_arena_run.specs.SessionRun.{refusal}
-use Rattle.triple_arena_run.proofs.Mapped.{name_added, arena_full, room_made}
+use Rattle.triple_arena_run.proofs.Mapped.{name_added, arena_wants}
 use Rattle.triple_arena_run.proofs.session.Session.insert.Goals as goal
 
 pub returns-in-Ok-insert : goal.returns-in-Ok-insert
@@ -20,6 +20,5 @@ returns-in-Ok-insert g c =
 pub returns-in-Err-insert : goal.returns-in-Err-insert
 returns-in-Err-insert g c =
     let link : link_pointer c.args.self.now.table c.args.link ≡ Some (option_map (numbers g.P.Inx.PtrInx.number g.P.Gen.PtrGen.number g.P.Ptr.index_of g.P.Ptr.generation_of) c.in-Some.link) = sym c.link_pointer.ensures ∙ ap (option_map (option_map (numbers g.P.Inx.PtrInx.number g.P.Gen.PtrGen.number g.P.Ptr.index_of g.P.Ptr.generation_of))) c.in-Some.is in
-    let full = arena_full (numbers g.P.Inx.PtrInx.number g.P.Gen.PtrGen.number g.P.Ptr.index_of g.P.Ptr.generation_of) c.self.inside.arena c.self.inside.table.items c.self.inside.table.room c.args.self.now c.self.view_is g.S.NonZeroInxGenericStack.kind g.P.Gen.PtrGen.counting g.P.Gen.PtrGen.greatest c.refusal.ensures.fits c.in-Err-insert.ensures.had_place in
-    let stays = room_made (numbers g.P.Inx.PtrInx.number g.P.Gen.PtrGen.number g.P.Ptr.index_of g.P.Ptr.generation_of) c.self.inside.arena c.self.inside.table.items c.self.inside.table.room c.args.self.now c.self.view_is g.S.NonZeroInxGenericStack.kind g.P.Gen.PtrGen.counting g.P.Gen.PtrGen.greatest c.insert.new.self c.make_room.new.table.items c.make_room.new.table.room c.in-Err-insert.ensures.refused c.in-Ok.ensures.items c.in-Ok.ensures.grown in
-    inr ((ap is_some link, sym c.in-None.ensures.why, inr full), stays)
+    let full = arena_wants (numbers g.P.Inx.PtrInx.number g.P.Gen.PtrGen.number g.P.Ptr.index_of g.P.Ptr.generation_of) c.self.inside.arena c.self.inside.table.items c.self.inside.table.room c.args.self.now c.self.view_is g.S.NonZeroInxGenericStack.kind g.P.Gen.PtrGen.counting g.P.Gen.PtrGen.greatest c.refusal.ensures.fits c.in-Err-insert.ensures.had_place c.insert.new.self c.make_room.new.table.items c.make_room.new.table.room c.in-Err-insert.ensures.refused c.in-Ok.ensures.items c.in-Ok.ensures.grown in
+    inr ((ap is_some link, sym c.in-None.ensures.why), inr full)

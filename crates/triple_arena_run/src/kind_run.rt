@@ -1,0 +1,55 @@
+//! The run of the program: the session that was asked for, and the run of a text in it.
+
+ghost use Rattle.std.specs.Io.Buffered.{writer_contents};
+ghost use Rattle.triple_arena_run.specs.KindRun.{RunsKind};
+
+use crate::node::Node;
+use crate::program::Kind;
+use crate::session::Session;
+use crate::text::{TextError, flush_after, run_text_and_flush};
+use std::alloc::Global;
+use std::io::{BufWriter, Read, Write};
+use triple_arena::ArenaSlot;
+use triple_arena_ptr::P0;
+use triple_arena_stack::{
+    NonZeroInxArray, NonZeroInxBoxedSlice, NonZeroInxLimitedVec, NonZeroInxVec,
+};
+
+/// A slot of the program's arenas.
+type Slot = ArenaSlot<P0, Node<u64, P0>>;
+
+type HeapSession = Session<P0, u64, NonZeroInxVec<Slot>>;
+
+type LimitedSession = Session<P0, u64, NonZeroInxLimitedVec<Slot>>;
+
+type FixedSession = Session<P0, u64, NonZeroInxBoxedSlice<Slot>>;
+
+type ArraySession = Session<P0, u64, NonZeroInxArray<Slot, 8>>;
+
+/// Runs a text as `run_text_and_flush` does, in a new session of the kind that was asked for: over
+/// the heap; over the heap with this limit, which is its room at first too; over so many fixed
+/// places; or over an array of 8.
+///
+/// Where there is no memory for the session, the outcome is `NoMemory`, and nothing is read.
+pub fn run_kind<R: Read, W: Write + Drop>(
+    kind: Kind,
+    alloc: Global,
+    input: &mut R,
+    output: BufWriter<W>,
+) -> (Result<(), TextError>, W)
+    ensures { RunsKind kind (R.remaining input.old) result.0
+        (writer_contents W.contents output) (W.contents result.1) }
+{
+    match kind {
+        Kind::Heap => run_text_and_flush(&mut HeapSession::new(alloc), alloc, input, output),
+        Kind::Limited(most) => match LimitedSession::with_min_capacity(alloc, most) {
+            Ok(mut session) => run_text_and_flush(&mut session, alloc, input, output),
+            Err(_) => flush_after(Err(TextError::NoMemory), output),
+        },
+        Kind::Fixed(slots) => match FixedSession::with_min_capacity(alloc, slots) {
+            Ok(mut session) => run_text_and_flush(&mut session, alloc, input, output),
+            Err(_) => flush_after(Err(TextError::NoMemory), output),
+        },
+        Kind::Array => run_text_and_flush(&mut ArraySession::new(alloc), alloc, input, output),
+    }
+}

@@ -158,7 +158,7 @@ module _ {X P : Type 0} (pointer : P → Pointer) (arena : ArenaState (Node X P)
   capacity-shown = rw (← shows) refl
 
   -- an arena that refused for want of memory was full, and the table had grown
-  pub arena_wants : arena_len s.arena ≤ capacity s.arena → (arena_len arena < capacity arena → false ≡ true) → (new_arena : ArenaState (Node X P)) (new_table : List P) (new_room : ℕ) → new_arena ≡ arena → new_table ≡ table → new_room ≡ room_for_one_more room None (length table) → ArenaWantsMemory kind counting greatest s (state_of pointer new_arena new_table new_room)
+  pub arena_wants : arena_len s.arena ≤ capacity s.arena → (arena_len arena < capacity arena → false ≡ true) → (new_arena : ArenaState (Node X P)) (new_table : List P) (new_room : ℕ) → new_arena ≡ arena → new_table ≡ table → new_room ≡ room_for_one_more room None (length table) → ArenaWantsMemory s (state_of pointer new_arena new_table new_room)
   arena_wants fits below new_arena new_table new_room arena_is table_is room_is = (
     full_from (arena_len s.arena) (capacity s.arena) fits (λ lt. below (rw (len-shown, capacity-shown) lt)),
     rw (arena_is, table_is, room_is, ← length-map table pointer) (ap with_room_for_name shows),

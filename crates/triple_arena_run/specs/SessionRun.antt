@@ -45,6 +45,20 @@ module _ {X : Type 0} where
   abbrev pub with_room_for_name : SessionState X → SessionState X
   with_room_for_name s = record s { table_room = room_for_one_more s.table_room None (length s.table) }
 
+  -- nothing stands against an insertion: its link is good, and the arena can take one more entry
+  abbrev pub IsUnopposed : SessionState X → Command X → Type 0
+  IsUnopposed s (Insert datum link) = IsSome (link_pointer s.table link) × (refusal s.arena ≡ None)
+  IsUnopposed s (Get name) = ⊥
+  IsUnopposed s (Remove name) = ⊥
+
+  -- the table was full and could not grow: all stays
+  abbrev pub TableWantsMemory : SessionState X → SessionState X → Type 0
+  TableWantsMemory s t = (length s.table ≡ s.table_room) × (t ≡ s)
+
+  -- the arena was full and could not grow: all stays, but for the room that the table had got before
+  abbrev pub ArenaWantsMemory : SessionState X → SessionState X → Type 0
+  ArenaWantsMemory s t = (arena_len s.arena ≡ capacity s.arena) × (t ≡ with_room_for_name s)
+
 module _ {X : Type 0} (kind : StackKind) (counting : Bool) (greatest : ℕ) where
   -- the session with a new name: the datum stands in the arena with its link, and its pointer last in the table; a full
   -- arena has grown first
@@ -83,20 +97,6 @@ module _ {X : Type 0} (kind : StackKind) (counting : Bool) (greatest : ℕ) wher
   answer s (Insert datum link) = insert_answer s datum (link_pointer s.table link)
   answer s (Get name) = (get_reply s (named s name), s)
   answer s (Remove name) = remove_answer s (item s.table name)
-
-  -- nothing stands against an insertion: its link is good, and the arena can take one more entry
-  abbrev pub IsUnopposed : SessionState X → Command X → Type 0
-  IsUnopposed s (Insert datum link) = IsSome (link_pointer s.table link) × (refusal s.arena ≡ None)
-  IsUnopposed s (Get name) = ⊥
-  IsUnopposed s (Remove name) = ⊥
-
-  -- the table was full and could not grow: all stays
-  abbrev pub TableWantsMemory : SessionState X → SessionState X → Type 0
-  TableWantsMemory s t = (length s.table ≡ s.table_room) × (t ≡ s)
-
-  -- the arena was full and could not grow: all stays, but for the room that the table had got before
-  abbrev pub ArenaWantsMemory : SessionState X → SessionState X → Type 0
-  ArenaWantsMemory s t = (arena_len s.arena ≡ capacity s.arena) × (t ≡ with_room_for_name s)
 
   -- a command, its reply and the session after it: the answer, or a refusal for want of memory
   abbrev pub IsStep : SessionState X → Command X → Reply X → SessionState X → Type 0

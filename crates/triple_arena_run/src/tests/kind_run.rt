@@ -1,5 +1,6 @@
 //! The program's rows, from the arguments to what is written.
 
+use super::devices::ShortWriter;
 use crate::kind_run::run_kind;
 use crate::program::{Kind, parse_args};
 use crate::text::TextError;
@@ -69,4 +70,24 @@ fn says_that_there_is_no_memory_to_begin(rt: HostRuntime) -> Result<(), Fail> {
         assert_eq!(rt; input.len(), 11);
     }
     Ok(())
+}
+
+/// Holds with ample memory, and also where any one request for memory is refused
+/// (`rt try --test --fail-alloc 1..`): then nothing is written, or one insertion answers so.
+#[test]
+fn runs_or_says_that_memory_was_refused(rt: HostRuntime) {
+    for kind in [Kind::Heap, Kind::Limited(2), Kind::Fixed(2), Kind::Array] {
+        let Ok(output) = BufWriter::new(rt.alloc(), ShortWriter::new(256)) else {
+            continue;
+        };
+        let mut input = b"insert 1 -\ninsert 1 -\n".as_slice();
+        let (outcome, written) = run_kind(kind, rt.alloc(), &mut input, output);
+        if outcome == Ok(()) {
+            assert_eq!(rt; written.lines_ended(), 2);
+            assert!(rt; written.lines_of(b"no memory") < 2);
+        } else {
+            assert!(rt; outcome == Err(TextError::NoMemory));
+            assert_eq!(rt; written.len, 0);
+        }
+    }
 }

@@ -45,7 +45,8 @@ impl<P: Ptr, X, S: NonZeroInxGenericStack<ArenaSlot<P, Node<X, P>>>> Model for S
     ghost use Rattle.triple_arena.specs.Pointers.{numbers};
     ghost use Rattle.triple_arena_run.specs.SessionLayout.{state_of};
 
-    ghost view = { λ s. state_of (numbers P.Inx.number P.Gen.number P.index_of P.generation_of) s.arena s.table.items s.table.room };
+    ghost view = { λ s. state_of (numbers P.Inx.number P.Gen.number P.index_of P.generation_of)
+        s.arena s.table.items s.table.room };
 }
 
 impl<P: Ptr, X: Copy, S: NonZeroInxGenericStack<ArenaSlot<P, Node<X, P>>>> Session<P, X, S> {
@@ -89,12 +90,21 @@ impl<P: Ptr, X: Copy, S: NonZeroInxGenericStack<ArenaSlot<P, Node<X, P>>>> Sessi
 
     /// The arena: data with the pointers of their links.
     pub fn arena(&self) -> &Arena<P, Node<X, P>, S>
-        ensures { map_values (node_of (numbers P.Inx.number P.Gen.number P.index_of P.generation_of)) result.now ≡ self.now.arena }
+        ensures { map_values
+            (node_of (numbers P.Inx.number P.Gen.number P.index_of P.generation_of)) result.now
+            ≡ self.now.arena }
     {
         &self.arena
     }
 
-    /// Runs a command, and replies as the session run of the model does.
+    /// Runs a command, and gives its reply.
+    ///
+    /// An insertion is answered by the first that fits: `BadName` where the link was never given;
+    /// where the arena is full, `BeyondMaxCapacity` at its limit, or else `NoMemory` where its
+    /// indexes are all taken; `NoMemory` where the table or the arena must grow and memory is
+    /// refused; `Given` with the new name. A look-up gives `Found`, and a removal `Removed`, where
+    /// the name was given and hasn't ended, and `Nothing` or `Invalid` where not. All else stays,
+    /// but that after a `NoMemory` the table of names may have grown.
     pub fn step(&mut self, command: Command<X>) -> Reply<X>
         ensures { IsStep S.kind P.Gen.counting P.Gen.greatest self.old command result self.new }
     {
@@ -110,7 +120,8 @@ impl<P: Ptr, X: Copy, S: NonZeroInxGenericStack<ArenaSlot<P, Node<X, P>>>> Sessi
     ///
     /// There is room for all replies first: where memory for it is refused, nothing is done.
     pub fn run(&mut self, commands: &[Command<X>]) -> Result<Vec<Reply<X>>, AllocError>
-        ensures ran { IfOk result (λ replies. RunsToWrap (IsStep S.kind P.Gen.counting P.Gen.greatest)
+        ensures ran { IfOk result (λ replies.
+            RunsToWrap (IsStep S.kind P.Gen.counting P.Gen.greatest)
             self.old commands.now replies.items self.new) }
         ensures refused { OnErr result (self.new ≡ self.old) }
     {
@@ -129,7 +140,8 @@ impl<P: Ptr, X: Copy, S: NonZeroInxGenericStack<ArenaSlot<P, Node<X, P>>>> Sessi
     }
 
     fn insert(&mut self, datum: X, link: Option<usize>) -> Reply<X>
-        ensures { IsStep S.kind P.Gen.counting P.Gen.greatest self.old (Command.Insert datum link) result self.new }
+        ensures { IsStep S.kind P.Gen.counting P.Gen.greatest
+            self.old (Command.Insert datum link) result self.new }
     {
         let Some(link) = self.link_pointer(link) else {
             return Reply::BadName;
@@ -150,7 +162,8 @@ impl<P: Ptr, X: Copy, S: NonZeroInxGenericStack<ArenaSlot<P, Node<X, P>>>> Sessi
     }
 
     fn get(&self, name: usize) -> Reply<X>
-        ensures { IsStep S.kind P.Gen.counting P.Gen.greatest self.now (Command.Get name) result self.now }
+        ensures { IsStep S.kind P.Gen.counting P.Gen.greatest
+            self.now (Command.Get name) result self.now }
     {
         let Some(p) = self.pointer(name) else {
             return Reply::Nothing;
@@ -162,7 +175,8 @@ impl<P: Ptr, X: Copy, S: NonZeroInxGenericStack<ArenaSlot<P, Node<X, P>>>> Sessi
     }
 
     fn remove(&mut self, name: usize) -> Reply<X>
-        ensures { IsStep S.kind P.Gen.counting P.Gen.greatest self.old (Command.Remove name) result self.new }
+        ensures { IsStep S.kind P.Gen.counting P.Gen.greatest
+            self.old (Command.Remove name) result self.new }
     {
         let Some(p) = self.pointer(name) else {
             return Reply::Invalid;
@@ -177,7 +191,9 @@ impl<P: Ptr, X: Copy, S: NonZeroInxGenericStack<ArenaSlot<P, Node<X, P>>>> Sessi
     // The reply that tells of a removed node.
     fn removed(&self, node: Node<X, P>, wrapped: bool) -> Reply<X>
         ensures { result ≡ Reply.Removed node.datum
-            (link_name self.now.table (option_map (numbers P.Inx.number P.Gen.number P.index_of P.generation_of) node.link)) wrapped }
+            (link_name self.now.table
+            (option_map (numbers P.Inx.number P.Gen.number P.index_of P.generation_of) node.link))
+            wrapped }
     {
         Reply::Removed(node.datum, self.link_name(node.link), wrapped)
     }
@@ -200,7 +216,8 @@ impl<P: Ptr, X: Copy, S: NonZeroInxGenericStack<ArenaSlot<P, Node<X, P>>>> Sessi
 
     // The pointer of a name, if it was given.
     fn pointer(&self, name: usize) -> Option<P>
-        ensures { option_map (numbers P.Inx.number P.Gen.number P.index_of P.generation_of) result ≡ item self.now.table name }
+        ensures { option_map (numbers P.Inx.number P.Gen.number P.index_of P.generation_of) result
+            ≡ item self.now.table name }
     {
         if name == 0 {
             return None;
@@ -210,7 +227,9 @@ impl<P: Ptr, X: Copy, S: NonZeroInxGenericStack<ArenaSlot<P, Node<X, P>>>> Sessi
 
     // The pointer of a link, or none if the link is to a name that was never given.
     fn link_pointer(&self, link: Option<usize>) -> Option<Option<P>>
-        ensures { option_map (option_map (numbers P.Inx.number P.Gen.number P.index_of P.generation_of)) result ≡ link_pointer self.now.table link }
+        ensures { option_map
+            (option_map (numbers P.Inx.number P.Gen.number P.index_of P.generation_of)) result
+            ≡ link_pointer self.now.table link }
     {
         match link {
             Some(name) => self.pointer(name).map(Some),
@@ -220,7 +239,8 @@ impl<P: Ptr, X: Copy, S: NonZeroInxGenericStack<ArenaSlot<P, Node<X, P>>>> Sessi
 
     // The name of the pointer of a link.
     fn link_name(&self, link: Option<P>) -> Option<usize>
-        ensures { result ≡ link_name self.now.table (option_map (numbers P.Inx.number P.Gen.number P.index_of P.generation_of) link) }
+        ensures { result ≡ link_name self.now.table
+            (option_map (numbers P.Inx.number P.Gen.number P.index_of P.generation_of) link) }
     {
         match link {
             Some(p) => match position_of(self.table.as_slice(), p) {

@@ -9,7 +9,7 @@ use crate::text::run_text;
 use std::alloc::Global;
 use std::process::Abort;
 use std::test::Fail;
-use triple_arena::{ArenaSlot, ArenaTrait};
+use triple_arena::{Arena, ArenaInsertTrait, ArenaSlot, ArenaTrait};
 use triple_arena_ptr::{P0, P3, Ptr, PtrGen};
 use triple_arena_stack::{
     NonZeroInxArray, NonZeroInxBoxedSlice, NonZeroInxGenericStack, NonZeroInxLimitedVec,
@@ -74,12 +74,18 @@ fn a_text_run_ends_at_a_wrap(rt: HostRuntime) -> Result<(), Fail> {
 
 #[test]
 fn a_node_prints_as_its_pair(rt: HostRuntime) -> Result<(), Fail> {
-    let node: Node<u64, P0> = Node {
+    let mut arena: Arena<P0, u64> = Arena::new(rt.alloc());
+    let p = arena.insert(20)?;
+    let unlinked: Node<u64, P0> = Node {
         datum: 20,
         link: None,
     };
-    let text = format!(in rt.alloc(); "{node:?}")?;
-    assert_eq!(rt; text.as_str(), "(20, None)");
+    let linked = Node {
+        datum: 20,
+        link: Some(p),
+    };
+    let text = format!(in rt.alloc(); "{unlinked:?} {linked:?}")?;
+    assert_eq!(rt; text.as_str(), "(20, None) (20, Some(P0[1](2)))");
     Ok(())
 }
 

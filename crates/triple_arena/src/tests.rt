@@ -1,4 +1,4 @@
-//! What no clause of the arenas says: that their calls succeed, worked rows, and refusals of memory.
+//! What no clause of the arenas says: that their calls succeed, worked examples, and refusals of memory.
 
 mod byte_pointer;
 mod calls;

@@ -1,4 +1,4 @@
-//! What no clause of the stacks says: that their calls succeed, worked rows, refusals of memory,
+//! What no clause of the stacks says: that their calls succeed, worked examples, refusals of memory,
 //! and a client that stands on the contract alone.
 
 mod client;

@@ -1,4 +1,4 @@
-//! The program's rows, from the arguments to what is written.
+//! Whole runs of the program, from the arguments to what is written.
 
 use super::devices::ShortWriter;
 use crate::kind_run::run_kind;

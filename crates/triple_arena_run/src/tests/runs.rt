@@ -10,7 +10,7 @@ use std::test::Fail;
 use triple_arena_ptr::P0;
 
 #[test]
-fn answers_as_the_rows_say(rt: HostRuntime) -> Result<(), Fail> {
+fn answers_each_line(rt: HostRuntime) -> Result<(), Fail> {
     let rows: [(&[u8], Result<(), TextError>, &[u8]); 10] = [
         (
             b"insert 10 -\nget 1\nremove 1\nget 1\n",

@@ -1,4 +1,4 @@
-//! Worked rows, on each of the four stacks through their contract.
+//! Worked examples, on each of the four stacks through their contract.
 
 use super::client::{
     Holding, Slot, empty, exchange, free, is_at_limit, made, overwrite, put, put_growing, put_over,

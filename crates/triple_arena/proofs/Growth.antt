@@ -1,9 +1,9 @@
 -- A full arena that grows has room for one more entry.
-use Rattle.std.proofs.Common.{◌≢◌, ℕ, zero, suc, ◌*◌, ◌<◌, ◌==◌, Option, Some, None, Result, Ok, Err, OnOk, cond, min, arith}
+use Rattle.std.proofs.Common.{◌≢◌, ℕ, zero, suc, ◌*◌, ◌<◌, ◌≤◌, ◌≡◌, ◌==◌, Option, Some, None, Result, Ok, Err, OnOk, cond, min, arith}
 use Rattle.std.proofs.lemmas.Option.{same_Some}
 use Rattle.triple_arena_stack.specs.StackKind.{StackKind, reallocated_room, IsOfKind}
 use Rattle.triple_arena_stack.specs.StackKind.StackKind.{heap, limited, fixed, array}
-use Rattle.triple_arena_stack.specs.Capacity.{capacity_of, IsAtLimit}
+use Rattle.triple_arena_stack.specs.Capacity.{capacity_of, IsAtLimit, IsWithin}
 use Rattle.triple_arena.specs.ArenaState.{ArenaState, capacity, slot_count}
 use Rattle.triple_arena.specs.Capacity.{with_room_for, next_capacity}
 use Rattle.triple_arena.proofs.NumberedLists.{eq_false}
@@ -37,3 +37,20 @@ grown_room (array n) room (Some x) greatest len kind below inner =
 -- growth of an arena that is neither at its limit nor at the greatest index makes room
 pub grown_more : {T : Type 0} (k : StackKind) (s : ArenaState T) → IsOfKind k s.room s.limit → (IsAtLimit s.limit (capacity s) → ⊥) → capacity s ≢ s.greatest → capacity s < capacity (with_room_for k s (next_capacity s))
 grown_more k s kind below inner = grown_room k s.room s.limit s.greatest (slot_count s) kind below inner
+
+-- a reallocation that the limit allows makes place for what was asked
+pub place_made : (k : StackKind) (room len m : ℕ) (limit : Option ℕ) → IsOfKind k room limit → IsWithin limit m → m ≤ capacity_of (reallocated_room k room len m) limit
+place_made heap room len m None kind within = omega arith
+place_made heap room len m (Some most) kind within = absurd (cc)
+place_made limited room len m None kind within = omega arith
+place_made limited room len m (Some most) kind within = omega arith
+place_made fixed room len m None kind within = absurd (cc)
+place_made fixed room len m (Some most) kind within = let same = same_Some _ _ kind in omega arith
+place_made (array places) room len m None kind within = absurd (let h = kind.1 in cc)
+place_made (array places) room len m (Some most) kind within =
+    let same = same_Some _ _ kind.1 in
+    omega (arith, kind.0)
+
+pub place_after : {A E : Type 0} (r : Result A E) (k : StackKind) (room len m after : ℕ) (old new : Option ℕ) → IsOfKind k room old → new ≡ old → OnOk r (after ≡ reallocated_room k room len m) → OnOk r (IsWithin old m) → OnOk r (m ≤ capacity_of after new)
+place_after (Ok x) k room len m after old new kind same made within = rw (made, same) (place_made k room len m old kind within)
+place_after (Err e) k room len m after old new kind same made within = made

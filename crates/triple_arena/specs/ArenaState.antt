@@ -22,6 +22,7 @@ module _ {T : Type 0} where
   abbrev pub new_arena : ℕ → Option ℕ → ℕ → ℕ → ArenaState T
   new_arena room limit greatest counter = record { slots = []; counter = counter; free = []; room = room; limit = limit; greatest = greatest }
 
+  -- the number of slots
   abbrev pub slot_count : ArenaState T → ℕ
   slot_count s = length s.slots
 

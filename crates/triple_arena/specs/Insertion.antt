@@ -4,6 +4,7 @@ use Rattle.triple_arena.specs.Numbered.{with_item}
 use Rattle.triple_arena.specs.Pointers.{Pointer}
 use Rattle.triple_arena.specs.ArenaState.{ArenaState, slot_count}
 
+-- the first of these free indexes, or one past so many slots where there is none
 abbrev pub place_among : List ℕ → ℕ → ℕ
 place_among [] n = n + 1
 place_among (i ∷ rest) n = i
@@ -17,6 +18,8 @@ module _ {T : Type 0} where
   abbrev pub next_pointer : ArenaState T → Pointer
   next_pointer s = (place s, s.counter)
 
+  -- the value under the counter at the first of these free indexes, which is free no longer, or in a slot past the last
+  -- where there is none
   abbrev pub inserted_among : List ℕ → ArenaState T → T → ArenaState T
   inserted_among [] s value = record s { slots = s.slots ++ Some (s.counter, value) ∷ [] }
   inserted_among (i ∷ rest) s value = record s { slots = with_item s.slots i (Some (s.counter, value)); free = rest }

@@ -1,6 +1,6 @@
 //! What every arena answers.
 
-ghost use Rattle.std.specs.Prelude.{◌≡◌, ℕ, ◌≤◌, ◌<◌, ◌==◌, ◌↔◌, Bool, List, Option, length, is_some, IsSome, IsOk, IfOk, OnOk, OnErr, MatchOption, Some, None, Err, [], min, option_copied};
+ghost use Rattle.std.specs.Prelude.{◌≡◌, ℕ, ◌≤◌, ◌<◌, ◌==◌, ◌↔◌, Bool, List, Option, length, is_some, IsSome, IsOk, IfOk, OnOk, OnErr, MatchOption, None, Err, [], min, option_copied};
 ghost use Rattle.std.specs.Borrow.{sem, LendsIf};
 ghost use Rattle.std.specs.Option.{option_map, option_copied_mut};
 ghost use Rattle.triple_arena_ptr.specs.Numbers.{greatest_index};
@@ -117,7 +117,8 @@ pub trait ArenaTrait<P: Ptr, T>: Sized {
             × IsBeyond (limit self.old) min_capacity) }
         ensures succeeds { min_capacity ≤ greatest_index P.Inx.greatest
             → IsWithin (limit self.old) min_capacity
-            → keeps_room self.old min_capacity → IsOk result };
+            → keeps_room self.old min_capacity → IsOk result }
+        ensures place { OnOk result (min_capacity ≤ fitting self.new) };
 
     /// How many entries there are: never more than the capacity.
     fn len(&self) -> usize

@@ -1,6 +1,6 @@
 //! The arena.
 
-ghost use Rattle.std.specs.Prelude.{◌≡◌, ℕ, ◌≤◌, ◌<◌, ◌+◌, ◌==◌, ◌↔◌, ◌≢◌, cond, false, List, [], map, length, is_some, IsSome, IfSome, IsOk, IfOk, OnOk, OnErr, MatchOption, Some, None, Err, IsTrue, slice_get, option_copied, min, ◌*◌, ◌^◌};
+ghost use Rattle.std.specs.Prelude.{◌≡◌, ℕ, ◌≤◌, ◌<◌, ◌+◌, ◌==◌, ◌↔◌, ◌≢◌, cond, false, [], map, length, is_some, IsSome, IfSome, IsOk, IfOk, OnOk, OnErr, Some, None, Err, IsTrue, slice_get, option_copied, min, ◌*◌, ◌^◌};
 ghost use Rattle.std.specs.Int.NonZero.{non_zero_usize_get};
 ghost use Rattle.std.specs.Option.{option_map, option_and_then};
 ghost use Rattle.triple_arena_ptr.specs.Numbers.{greatest_index, raise, wraps, first_generation};
@@ -11,7 +11,7 @@ ghost use Rattle.triple_arena.specs.ArenaState.{ArenaState, new_arena, slot_coun
 ghost use Rattle.triple_arena.specs.Insertion.{next_pointer, inserted};
 ghost use Rattle.triple_arena.specs.Ending.{removed, invalidated, cleared, told};
 ghost use Rattle.triple_arena.specs.FreeList.{tidied, IsInOrder};
-ghost use Rattle.triple_arena.specs.Capacity.{with_room_for, reallocated, KeepsRoom, EndsBy, ready_for_limit, with_limit, next_capacity, grown, IsFullAtLimit};
+ghost use Rattle.triple_arena.specs.Capacity.{with_room_for, reallocated, KeepsRoom, EndsBy, ready_for_limit, with_limit, grown, IsFullAtLimit};
 ghost use Rattle.triple_arena.specs.Slot.{entry_of};
 
 use crate::answers::{told, told_valid};
@@ -248,9 +248,7 @@ impl<P: Ptr, T, S: NonZeroInxGenericStack<ArenaSlot<P, T>>> ArenaTrait<P, T> for
         if is_empty {
             return InvalidationOption::Success(());
         }
-        let (counter, wrapped) = P::Gen::generational_inc(self.counter);
-        self.counter = counter;
-        told(wrapped, ())
+        self.inc_generation()
     }
 
     ghost slots_fresh = { λ _ _. refl };
@@ -485,6 +483,8 @@ impl<P: Ptr, T, S: NonZeroInxGenericStack<ArenaSlot<P, T>>> Arena<P, T, S> {
             ↔ IsBeyond self.old.limit min_capacity }
         ensures succeeds { IsWithin self.old.limit min_capacity
             → (with_room_for S.kind self.old min_capacity).room ≡ self.old.room → IsOk result }
+        ensures place { OnOk result (min_capacity ≤ greatest_index P.Inx.greatest
+            → min_capacity ≤ capacity self.new) }
     {
         self.slots.reallocate(min_capacity)?;
         Ok(())

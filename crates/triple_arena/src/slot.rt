@@ -52,6 +52,8 @@ pub enum ArenaSlot<P: Ptr, T> {
 }
 
 impl<P: Ptr, T> Default for ArenaSlot<P, T> {
+    ghost is_default = { λ slot. entry_of P.Gen.number slot ≡ None };
+
     /// A free slot.
     fn default() -> Self {
         ArenaSlot::Free(FreeLink {

@@ -1,7 +1,7 @@
 //! The slots of an arena, and the free list that runs through them.
 
-ghost use Rattle.std.specs.Prelude.{◌≡◌, ◌≢◌, ◌<◌, ◌≤◌, ◌+◌, ◌-◌, ◌^◌, ◌==◌, ◌↔◌, ℕ, List, [], ◌∷◌, ◌++◌, map, length, take, Option, Some, None, IsSome, IsOk, IfOk, IfSome, OnOk, OnErr, Err, IsTrue, MatchOption, min, option_copied};
-ghost use Rattle.std.specs.Borrow.{sem, Lends};
+ghost use Rattle.std.specs.Prelude.{◌≡◌, ◌≢◌, ◌<◌, ◌≤◌, ◌+◌, ◌-◌, ◌^◌, ◌==◌, ◌↔◌, ℕ, [], map, length, Option, Some, None, IsSome, IsOk, OnOk, OnErr, Err, MatchOption, option_copied};
+ghost use Rattle.std.specs.Borrow.{sem};
 ghost use Rattle.std.specs.Int.NonZero.{non_zero_usize_get};
 ghost use Rattle.std.specs.Option.{option_map};
 ghost use Rattle.triple_arena_stack.specs.StackKind.{reallocated_room, IsOfKind};
@@ -204,7 +204,11 @@ impl<P: Ptr, T, S: NonZeroInxGenericStack<ArenaSlot<P, T>>> Slots<P, T, S> {
             (S.room self.old.stack) (length (S.items self.old.stack)) min_capacity
             ≡ S.room self.old.stack
             → IsOk result }
+        ensures place { OnOk result
+            (min_capacity ≤ capacity_of (S.room self.new.stack) (S.limit self.new.stack)) }
     {
+        // By its clause, room and limit are those of the stack's kind.
+        let _limit = self.stack.max_capacity();
         self.stack.reallocate_min_capacity(min_capacity)
     }
 

@@ -2,8 +2,16 @@
 
 mod byte_pointer;
 mod calls;
+mod drops;
 mod entries;
 mod limits;
+mod own_calls;
 mod refusals;
 mod rows;
+mod scarce;
+mod scarce_memory;
+mod state;
 mod token;
+mod two_refusals;
+mod wide_pointer;
+mod wraps;

@@ -1,13 +1,16 @@
 //! Each call of the traits, through them alone, on each stack and on pointers of each kind.
 
 use super::byte_pointer::B;
+use super::scarce::Scarce;
 use super::token::{Bounds, Token, bounds_of, has};
+use super::wide_pointer::W;
 use crate::{Arena, ArenaInsertTrait, ArenaSlot, ArenaTrait};
 use std::alloc::Global;
+use std::num::NonZeroU128;
 use std::process::Abort;
 use std::test::Fail;
 use triple_arena_base::{NotWithinCapacityError, ReallocationError};
-use triple_arena_ptr::{P0, P1, P4, P5, Ptr};
+use triple_arena_ptr::{P0, P1, P4, P5, Ptr, PtrNoGen};
 use triple_arena_stack::{
     NonZeroInxArray, NonZeroInxBoxedSlice, NonZeroInxLimitedVec, NonZeroInxVec,
 };
@@ -119,7 +122,8 @@ fn on_heap_stacks<P: Ptr>(rt: &impl Abort, alloc: Global) -> Result<(), Fail> {
 #[test]
 fn each_call_on_wide_pointers(rt: HostRuntime) -> Result<(), Fail> {
     on_heap_stacks::<P0>(&rt, rt.alloc())?;
-    on_heap_stacks::<P1>(&rt, rt.alloc())
+    on_heap_stacks::<P1>(&rt, rt.alloc())?;
+    on_heap_stacks::<W>(&rt, rt.alloc())
 }
 
 #[test]
@@ -140,11 +144,83 @@ fn each_call_over_an_array(rt: HostRuntime) -> Result<(), Fail> {
     );
     each_call(&rt, &mut wide)?;
     each_refusal(&rt, &mut wide)?;
+    let mut plain: Arena<P5, Token, NonZeroInxArray<ArenaSlot<P5, Token>, 3>> = Arena::new(
+        rt.alloc(),
+    );
+    each_call(&rt, &mut plain)?;
+    each_refusal(&rt, &mut plain)?;
     let mut bytes: Arena<B, Token, NonZeroInxArray<ArenaSlot<B, Token>, 3>> = Arena::new(
         rt.alloc(),
     );
     each_call(&rt, &mut bytes)?;
     each_refusal(&rt, &mut bytes)
+}
+
+// The calls where there is memory for the three places of the arena, and for no more.
+fn in_scarce_memory<P: Ptr>(rt: &impl Abort, alloc: Global) -> Result<(), Fail> {
+    let mut arena: Arena<P, Token, Scarce<ArenaSlot<P, Token>, 3>> = Arena::with_min_capacity(
+        alloc, 3,
+    )?;
+    arena.set_max_capacity(usize::MAX)?;
+    each_call(rt, &mut arena)
+}
+
+#[test]
+fn each_call_where_memory_is_refused(rt: HostRuntime) -> Result<(), Fail> {
+    in_scarce_memory::<P0>(&rt, rt.alloc())?;
+    in_scarce_memory::<P5>(&rt, rt.alloc())?;
+    in_scarce_memory::<B>(&rt, rt.alloc())?;
+    in_scarce_memory::<W>(&rt, rt.alloc())
+}
+
+#[test]
+fn an_index_past_64_bits_has_no_entry(rt: HostRuntime) -> Result<(), Fail> {
+    let mut arena: Arena<W, Token> = Arena::new(rt.alloc());
+    let p = arena.insert(Token { number: 1 })?;
+    let past = NonZeroU128::new(1 << 64).ok_or("2^64 is not 0")?;
+    // the same as that of the entry in the lower 64 bits
+    let alike = past.checked_add(1).ok_or("past 128 bits")?;
+    for index in [past, alike, NonZeroU128::MAX] {
+        assert!(rt; arena.get_inx(index).is_none());
+        assert!(rt; arena.get_inx_mut(index).is_none());
+        assert_eq!(rt; arena.generation_at(index), None);
+        assert!(rt; arena.remove_inx(index).is_invalid());
+        let q = W::_from_raw(index, p.generation());
+        assert!(rt; arena.get(q).is_none());
+        assert!(rt; arena.get_mut(q).is_none());
+        assert!(rt; arena.invalidate(q).is_invalid());
+        assert!(rt; arena.remove(q).is_invalid());
+    }
+    assert!(rt; has(&arena, p, 1));
+    assert_eq!(rt; arena.generation().get(), 2);
+    Ok(())
+}
+
+// Without generations an old pointer names what stands at its index.
+fn same_pointer_again<P: Ptr, A: ArenaInsertTrait<P, Token>>(
+    rt: &impl Abort,
+    arena: &mut A,
+) -> Result<(), Fail> {
+    let first = arena.insert(Token { number: 1 })?;
+    let second = arena.insert(Token { number: 2 })?;
+    assert_eq!(rt; arena.invalidate(first).allow(), Some(first));
+    assert_eq!(rt; arena.remove(first).allow(), Some(Token { number: 1 }));
+    assert!(rt; !arena.contains(first));
+    assert!(rt; arena.remove(first).is_invalid());
+    assert_eq!(rt; arena.insert(Token { number: 3 })?, first);
+    assert!(rt; has(arena, first, 3) && has(arena, second, 2));
+    assert!(rt; arena.clear().is_success());
+    assert!(rt; !arena.contains(first));
+    assert_eq!(rt; arena.insert(Token { number: 4 })?, first);
+    assert!(rt; has(arena, first, 4));
+    Ok(())
+}
+
+#[test]
+fn without_generations_an_index_is_a_pointer(rt: HostRuntime) -> Result<(), Fail> {
+    same_pointer_again(&rt, &mut Arena::<P4, Token>::new(rt.alloc()))?;
+    same_pointer_again(&rt, &mut Arena::<P5, Token>::new(rt.alloc()))?;
+    same_pointer_again(&rt, &mut Arena::<PtrNoGen<P0>, Token>::new(rt.alloc()))
 }
 
 #[test]

@@ -1,10 +1,11 @@
 //! Limits that are set.
 
+use super::state::state_of;
 use super::token::{Bounds, Token, bounds_of, has, inx, p0};
 use crate::{Arena, ArenaInsertTrait, ArenaSlot, ArenaTrait};
 use std::alloc::Global;
 use std::test::Fail;
-use triple_arena_base::{MaxCapacityReductionError, ReallocationError};
+use triple_arena_base::{MaxCapacityReductionError, NotWithinCapacityError, ReallocationError};
 use triple_arena_ptr::{P0, P5, Ptr};
 use triple_arena_stack::{NonZeroInxGenericStack, NonZeroInxLimitedVec, SetMaxCapacity};
 
@@ -65,12 +66,35 @@ fn a_limit_below_the_last_entry_is_refused(rt: HostRuntime) -> Result<(), Fail> 
 #[test]
 fn a_refused_limit_has_put_the_free_list_in_order(rt: HostRuntime) -> Result<(), Fail> {
     let mut arena = with_two_free(rt.alloc())?;
-    assert_eq!(rt; arena.freelist_root(), Some(inx(3)?));
+    let before = state_of(&rt, &arena);
+    assert_eq!(rt; (before.bounds, before.counter), (bounds(8, 8), 4));
+    assert_eq!(rt; (before.free[0], before.free[1], before.free[2]), (3, 1, 0));
+    let expected = before.in_order();
     assert_eq!(rt; limit_to(&mut arena, 4), Err(MaxCapacityReductionError));
-    assert_eq!(rt; bounds_of(&arena), bounds(8, 8));
-    assert_eq!(rt; arena.freelist_root(), Some(inx(1)?));
-    assert_eq!(rt; arena.generation().get(), 4);
-    assert!(rt; has(&arena, p0(5, 2)?, 5));
+    let after = state_of(&rt, &arena);
+    assert_eq!(rt; after, expected);
+    assert_eq!(rt; (after.free[0], after.free[1], after.free[2]), (1, 3, 0));
+    Ok(())
+}
+
+#[test]
+fn a_refusal_leaves_the_room_above_a_limit(rt: HostRuntime) -> Result<(), Fail> {
+    let mut arena: Limited<P0> = Arena::with_min_capacity(rt.alloc(), 8)?;
+    arena.insert(Token { number: 1 })?;
+    arena.insert(Token { number: 2 })?;
+    assert_eq!(rt; limit_to(&mut arena, 2), Ok(()));
+    let full = state_of(&rt, &arena);
+    let beyond = ReallocationError::BeyondMaxCapacity;
+    assert_eq!(rt; arena.insert(Token { number: 3 }), Err(beyond));
+    assert_eq!(rt; arena.insert_reallocating(Token { number: 3 }), Err(beyond));
+    let refused = arena.insert_within_capacity(Token { number: 3 });
+    assert_eq!(rt; refused, Err(NotWithinCapacityError));
+    assert_eq!(rt; arena.entry_insert().err(), Some(beyond));
+    assert_eq!(rt; arena.reallocate_min_capacity(3), Err(beyond));
+    assert_eq!(rt; limit_to(&mut arena, 1), Err(MaxCapacityReductionError));
+    assert_eq!(rt; state_of(&rt, &arena), full);
+    assert_eq!(rt; limit_to(&mut arena, usize::MAX), Ok(()));
+    assert_eq!(rt; arena.capacity(), 8);
     Ok(())
 }
 

@@ -1,12 +1,11 @@
 //! What sequences of calls answer.
 
-use super::byte_pointer::B;
 use super::token::{Bounds, Token, bounds_of, has, inx, p0};
 use crate::{Arena, ArenaInsertTrait, ArenaSlot, ArenaTrait};
-use std::num::{NonZeroU8, NonZeroU64, NonZeroUsize};
+use std::num::{NonZeroU64, NonZeroUsize};
 use std::test::Fail;
 use triple_arena_base::{AllocError, InvalidationOption, InvalidationResult, ReallocationError};
-use triple_arena_ptr::{P0, P4, P5, Ptr, PtrInx};
+use triple_arena_ptr::{P0, P4, P5, Ptr};
 use triple_arena_stack::{NonZeroInxGenericStack, NonZeroInxLimitedVec};
 
 #[test]
@@ -41,30 +40,6 @@ fn a_removal_at_the_end_pops_the_slot(rt: HostRuntime) -> Result<(), Fail> {
     assert_eq!(rt; arena.backing().len(), 1);
     assert_eq!(rt; arena.insert(Token { number: 3 })?, p0(2, 3)?);
     assert_eq!(rt; arena.freelist_root(), None);
-    Ok(())
-}
-
-#[test]
-fn a_byte_generation_wraps_at_its_end(rt: HostRuntime) -> Result<(), Fail> {
-    let mut arena: Arena<B, Token> = Arena::new(rt.alloc());
-    let mut expected = NonZeroU8::new(2).ok_or("2 is not 0")?;
-    for number in 0..253 {
-        let p = arena.insert(Token { number })?;
-        assert_eq!(rt; p, B::_from_raw(NonZeroU8::MIN, expected), "at {number}");
-        assert_eq!(rt;
-            arena.remove(p),
-            InvalidationResult::Success(Token { number })
-        );
-        expected = expected.checked_add(1).ok_or("past the end")?;
-    }
-    let last = arena.insert(Token { number: 253 })?;
-    assert_eq!(rt; last.generation(), NonZeroU8::MAX);
-    let wrapped = arena.remove(last);
-    assert_eq!(rt;
-        wrapped,
-        InvalidationResult::GenerationOverflow(Token { number: 253 })
-    );
-    assert_eq!(rt; arena.insert(Token { number: 254 })?.generation().get(), 2);
     Ok(())
 }
 

@@ -174,7 +174,7 @@ pub trait ArenaTrait<P: Ptr, T>: Sized {
             (numbers P.Inx.number P.Gen.number P.index_of P.generation_of p)) };
 
     /// Gives the entry under `p` a new pointer, where the arena counts generations; `p` is invalid
-    /// from then on.
+    /// from then on, unless the new generation is its own, as it may be once the counter wrapped.
     ///
     /// `InvalidPtr` exactly where `p` is invalid; then nothing changes.
     fn invalidate(&mut self, p: P) -> InvalidationResult<P>

@@ -32,8 +32,8 @@ use triple_arena_stack::{NonZeroInxGenericStack, NonZeroInxVec, SetMaxCapacity};
 /// A generational arena over a stack of slots.
 ///
 /// Each insertion gives the new entry a pointer whose generation is the arena's counter, and each
-/// ending of an entry raises the counter; the calls that raise it tell of a wrap. With generations
-/// that do not count, a pointer names whatever stands at its index.
+/// call that ends entries raises the counter once, and tells of a wrap. With generations that do
+/// not count, a pointer names whatever stands at its index.
 ///
 /// Insertion takes the index that was freed last, and where none is free the one past the last
 /// slot. `get`, `get_mut`, removal, and insertion within the capacity touch a constant number of
@@ -525,8 +525,8 @@ impl<P: Ptr, T, S: SetMaxCapacity<ArenaSlot<P, T>>> Arena<P, T, S> {
     /// Where the new limit is below the old one and the capacity, first the free list is put in
     /// order, as by `canonicalize_freelist`; that stays done where the limit is refused.
     ///
-    /// Refused exactly where an entry stands at an index past `max_capacity`; then all but the
-    /// order of the free list stays.
+    /// Refused exactly where an entry stands at an index past `max_capacity`; then all stays but the
+    /// free list, which is in order, without the free slots past the last entry.
     pub fn set_max_capacity(&mut self, max_capacity: usize) -> Result<(), MaxCapacityReductionError>
         ensures variant { IsOk result ↔ EndsBy self.old max_capacity }
         ensures done { OnOk result (self.new ≡ with_limit self.old max_capacity) }

@@ -6,7 +6,7 @@ ghost use Rattle.triple_arena.specs.FreeList.{tidied};
 ghost use Rattle.triple_arena.specs.Capacity.{EndsBy, with_limit};
 
 /// A limit that is set back: once a limit is set, the old one can be set again, and then the old
-/// capacity is there again. All else is as it was, the order of the free list aside.
+/// capacity is there again. All else is as it was, or as it was with the free list in order.
 pub fn limit_set_back<T>()
     ensures succeeds { (s : ArenaState T) (x most : ℕ) → IsWellFormed s → s.limit ≡ Some most
         → EndsBy (with_limit s x) most }

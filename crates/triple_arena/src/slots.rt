@@ -25,8 +25,9 @@ use triple_arena_stack::{NonZeroInxGenericStack, SetMaxCapacity};
 
 /// The slots of an arena. Each free one links to the next, beginning at the root.
 ///
-/// No other type reads, writes, pushes or pops a slot. The clauses speak of the arena states that
-/// the slots show, together with the number of entries, which the arena counts.
+/// No other type writes, pushes or pops a slot; look-ups borrow one from here. The clauses speak of
+/// the arena states that the slots show, together with the number of entries, which the arena
+/// counts.
 #[derive(Drop)]
 pub(crate) struct Slots<P: Ptr, T, S: NonZeroInxGenericStack<ArenaSlot<P, T>>> {
     pub(crate) stack: S,

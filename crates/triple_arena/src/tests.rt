@@ -1,7 +1,9 @@
-//! What no clause of the arenas says: that their calls succeed, worked examples, and refusals of memory.
+//! What no clause of the arenas says: that their calls succeed, worked examples, and refusals of
+//! memory.
 
 mod byte_pointer;
 mod calls;
+mod client;
 mod drops;
 mod entries;
 mod limits;

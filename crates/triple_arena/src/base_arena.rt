@@ -13,18 +13,20 @@ ghost use Rattle.triple_arena.specs.Ending.{removed, invalidated, cleared, told}
 ghost use Rattle.triple_arena.specs.FreeList.{tidied, IsInOrder};
 ghost use Rattle.triple_arena.specs.Capacity.{with_room_for, reallocated, KeepsRoom, EndsBy, ready_for_limit, with_limit, next_capacity, grown, IsFullAtLimit};
 ghost use Rattle.triple_arena.specs.Slot.{entry_of};
+ghost use Rattle.triple_arena.specs.Disjoint.{value_of, MayWork, Worked};
 
 use crate::answers::{told, told_valid};
 use crate::arena_insert_trait::ArenaInsertTrait;
 use crate::arena_trait::ArenaTrait;
+use crate::disjointable_arena_trait::DisjointableArenaTrait;
 use crate::slot::ArenaSlot;
 use crate::slots::Slots;
 use std::alloc::Global;
 use std::marker::Model;
 use std::num::NonZeroUsize;
 use triple_arena_base::{
-    AllocError, InvalidationOption, InvalidationResult, MaxCapacityReductionError,
-    ReallocationError,
+    AllocError, GetDisjointMutError, InvalidationOption, InvalidationResult,
+    MaxCapacityReductionError, ReallocationError,
 };
 use triple_arena_ptr::{Ptr, PtrGen, PtrInx};
 use triple_arena_stack::{NonZeroInxGenericStack, NonZeroInxVec, SetMaxCapacity};
@@ -278,6 +280,24 @@ impl<P: Ptr, T, S: NonZeroInxGenericStack<ArenaSlot<P, T>>> ArenaInsertTrait<P, 
     }
 }
 
+impl<P: Ptr, T, S: NonZeroInxGenericStack<ArenaSlot<P, T>>> DisjointableArenaTrait<P, T>
+    for Arena<P, T, S> {
+    fn with_disjoint_mut<R, F: FnOnce(&mut T, &mut T) -> R>(
+        &mut self,
+        first: P,
+        second: P,
+        f: F,
+    ) -> Result<R, GetDisjointMutError> {
+        let (Some(first), Some(second)) = (self.find(first), self.find(second)) else {
+            return Err(GetDisjointMutError::IndexOutOfBounds);
+        };
+        if first == second {
+            return Err(GetDisjointMutError::OverlappingIndices);
+        }
+        Ok(self.work_on_two(first, second, f))
+    }
+}
+
 impl<P: Ptr, T, S: NonZeroInxGenericStack<ArenaSlot<P, T>>> Arena<P, T, S> {
     /// The counter: the generation of the next entry.
     pub fn generation(&self) -> P::Gen
@@ -385,6 +405,25 @@ impl<P: Ptr, T, S: NonZeroInxGenericStack<ArenaSlot<P, T>>> Arena<P, T, S> {
     {
         let (generation, _value) = self.slots.get(inx).unwrap().entry().unwrap();
         P::_from_raw(P::Inx::try_from_usize(inx).unwrap(), generation)
+    }
+
+    // Calls `f` at the values of the entries at two indexes.
+    fn work_on_two<R, F: FnOnce(&mut T, &mut T) -> R>(
+        &mut self,
+        first: NonZeroUsize,
+        second: NonZeroUsize,
+        f: F,
+    ) -> R
+        requires first { IsSome (entry self.old (non_zero_usize_get first)) }
+        requires second { IsSome (entry self.old (non_zero_usize_get second)) }
+        requires apart { non_zero_usize_get first ≢ non_zero_usize_get second }
+        requires callable { MayWork F.FnOnce f (value_of (entry self.old (non_zero_usize_get first)))
+            (value_of (entry self.old (non_zero_usize_get second))) }
+        ensures { Worked F.FnOnce f (value_of (entry self.old (non_zero_usize_get first)))
+            (value_of (entry self.old (non_zero_usize_get second)))
+            result (λ x y. self.new ≡ with_value (with_value self.old (non_zero_usize_get first) x) (non_zero_usize_get second) y) }
+    {
+        self.slots.work_on_two(first, second, f)
     }
 
     // Takes out the entry at an index, and tells whether the counter wrapped.

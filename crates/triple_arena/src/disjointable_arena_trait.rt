@@ -1,0 +1,39 @@
+//! Two values of an arena, written at once.
+
+ghost use Rattle.std.specs.Prelude.{◌≡◌, ◌≢◌, IfOk, OnErr};
+ghost use Rattle.triple_arena.specs.Pointers.{numbers};
+ghost use Rattle.triple_arena.specs.Entries.{look_up_in};
+ghost use Rattle.triple_arena.specs.Disjoint.{DisjointAnswer, MayWork, Worked};
+
+use crate::arena_trait::ArenaTrait;
+use triple_arena_base::GetDisjointMutError;
+use triple_arena_ptr::{Ptr, PtrGen, PtrInx};
+
+/// An arena that lends two of its values at once, to a closure.
+pub trait DisjointableArenaTrait<P: Ptr, T>: ArenaTrait<P, T> {
+    /// Calls `f` at the values under two pointers, and gives its result; what it writes stands there,
+    /// and nothing else changes.
+    ///
+    /// `IndexOutOfBounds` where either pointer is invalid, else `OverlappingIndices` where they are
+    /// equal; then `f` isn't called, and the arena is unchanged.
+    fn with_disjoint_mut<R, F: FnOnce(&mut T, &mut T) -> R>(
+        &mut self,
+        first: P,
+        second: P,
+        f: F,
+    ) -> Result<R, GetDisjointMutError>
+        requires { P.Inx.number (P.index_of first) ≢ P.Inx.number (P.index_of second)
+            → MayWork F.FnOnce f
+            (look_up_in (Self.slots self.old) (numbers P.Inx.number P.Gen.number P.index_of P.generation_of first))
+            (look_up_in (Self.slots self.old) (numbers P.Inx.number P.Gen.number P.index_of P.generation_of second)) }
+        ensures variant { DisjointAnswer (Self.slots self.old)
+            (numbers P.Inx.number P.Gen.number P.index_of P.generation_of first)
+            (numbers P.Inx.number P.Gen.number P.index_of P.generation_of second) result }
+        ensures refused { OnErr result (self.new ≡ self.old) }
+        ensures worked { IfOk result (λ r. Worked F.FnOnce f
+            (look_up_in (Self.slots self.old) (numbers P.Inx.number P.Gen.number P.index_of P.generation_of first))
+            (look_up_in (Self.slots self.old) (numbers P.Inx.number P.Gen.number P.index_of P.generation_of second))
+            r (λ x y. self.new ≡ Self.with_value
+            (Self.with_value self.old (P.Inx.number (P.index_of first)) x)
+            (P.Inx.number (P.index_of second)) y)) };
+}

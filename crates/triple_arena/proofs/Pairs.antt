@@ -1,18 +1,17 @@
 -- How two values that a call wrote stand in the slots.
-use Rattle.std.proofs.Common.{◌≡◌, ◌≢◌, ℕ, ◌-◌, ◌<◌, true, List, ◌++◌, length, take, drop, slice_get, set, Option, Some, is_some, IsSome, sym, ap, subst, ◌∙◌}
+use Rattle.std.proofs.Common.{◌≡◌, ◌≢◌, ℕ, ◌-◌, ◌<◌, true, List, ◌++◌, length, take, drop, slice_get, set, Option, Some, None, is_some, IsSome, sym, ap, subst, ◌∙◌}
 use Rattle.std.proofs.Math.Seq.{take-append_seam}
 use Rattle.std.proofs.lemmas.List.{length-set}
-use Rattle.std.proofs.lemmas.Option.{some_pair_parts}
-use Rattle.std.specs.Borrow.{MutBor}
-use Rattle.std.specs.Fn.{Once}
+use Rattle.std.proofs.lemmas.Option.{same_Some, some_pair_parts}
 use Rattle.std.specs.List.{refill}
+use Rattle.std.specs.Option.{option_map}
 use Rattle.triple_arena_stack.specs.Disjoint.{set_both}
 use Rattle.triple_arena.specs.Numbered.{item, with_item}
 use Rattle.triple_arena.specs.Pointers.{Pointer}
 use Rattle.triple_arena.specs.ArenaState.{ArenaState, entry, look_up, with_value}
 use Rattle.triple_arena.specs.Slot.{entry_of, with_slot_value}
 use Rattle.triple_arena.specs.Layout.{entry_at, Shows, with_value_at}
-use Rattle.triple_arena.specs.Disjoint.{value_of, MayWork, Worked}
+use Rattle.triple_arena.specs.Disjoint.{PairOnce, value_of, MayWork}
 use Rattle.triple_arena.specs.declared.slot.ArenaSlot.{ArenaSlot}
 use Rattle.triple_arena.proofs.NumberedLists.{item_at, with_item_at, item-with_other}
 use Rattle.triple_arena.proofs.WellFormed.{entry_of_value}
@@ -64,11 +63,14 @@ module _ {T : Type 0} (s : ArenaState T) where
       let found_q = entry_of_value s q.0 q.1 valid_q in
       pointer_is p.0 p.1 q.0 q.1 here (some_pair_parts p.1 q.1 found_p.0 found_q.0 (sym found_p.1 ∙ ap (entry s) here ∙ found_q.1)).0
 
-module _ {F T R : Type 0} (g : Once F (MutBor T × (MutBor T × Unit {0})) (R × (MutBor T × (MutBor T × Unit {0})))) (f : F) (a b a' b' : Option T) (first : a ≡ a') (second : b ≡ b') where
-  -- a call at the same two values may be made, and was made
-  pub may_work_at : MayWork g f a b → MayWork g f a' b'
-  may_work_at may x y at_x at_y = may x y (first ∙ at_x) (second ∙ at_y)
+  -- an entry, by its generation and by its value
+  pub entry_by_parts : (i n h : ℕ) (x : T) → n ≡ i → Some h ≡ option_map (λ (e : ℕ × T). e.0) (entry s i) → value_of (entry s n) ≡ Some x → entry s i ≡ Some (h, x)
+  entry_by_parts i n h x here stamped read = by_entry (entry s i) stamped (sym (ap (λ m. value_of (entry s m)) here) ∙ read)
+    where
+      by_entry : (o : Option (ℕ × T)) → Some h ≡ option_map (λ (e : ℕ × T). e.0) o → value_of o ≡ Some x → o ≡ Some (h, x)
+      by_entry None stamped read = absurd (cc)
+      by_entry (Some e) stamped read = ap (λ n. Some (n, e.1)) (sym (same_Some h e.0 stamped)) ∙ ap (λ v. Some (h, v)) (same_Some e.1 x read)
 
-  pub worked_at : (r : R) (Left Left' : T → T → Type 0) → ((x y : T) → Left x y → Left' x y) → Worked g f a b r Left → Worked g f a' b' r Left'
-  worked_at r Left Left' left w =
-      (w.0, w.1, w.2, w.3, sym first ∙ w.4, sym second ∙ w.5, w.6, left w.2 w.3 w.7)
+-- a call that may be made at two values may be made at the same two
+pub may_work_at : {F T R : Type 0} (c : PairOnce F T R) (f : F) (a b a' b' : Option T) → a ≡ a' → b ≡ b' → MayWork c f a b → MayWork c f a' b'
+may_work_at c f a b a' b' first second may x y at_x at_y = may x y (first ∙ at_x) (second ∙ at_y)

@@ -8,6 +8,7 @@ mod base_arena;
 mod disjointable_arena_trait;
 mod insert_entry;
 pub mod laws;
+mod pair_call;
 mod slot;
 mod slots;
 #[cfg(test)]

@@ -16,6 +16,7 @@ ghost use Rattle.triple_arena.specs.Slot.{entry_of, with_slot_value};
 ghost use Rattle.triple_arena.specs.Layout.{number_or_zero, Shows, IsLinked, entry_at};
 ghost use Rattle.triple_arena.specs.Disjoint.{value_of, MayWork, Worked};
 
+use crate::pair_call::PairCall;
 use crate::slot::{ArenaSlot, FreeLink};
 use std::marker::PhantomData;
 use std::mem;
@@ -68,20 +69,20 @@ impl<P: Ptr, T, S: NonZeroInxGenericStack<ArenaSlot<P, T>>> Slots<P, T, S> {
         slot.value_mut()
     }
 
-    // Calls `f` at the values of the entries at two indexes.
-    pub(crate) fn work_on_two<R, F: FnOnce(&mut T, &mut T) -> R>(
+    // Makes the call at the values of the entries at two indexes.
+    pub(crate) fn work_on_two<R, C: PairCall<T, R>>(
         &mut self,
         first: NonZeroUsize,
         second: NonZeroUsize,
-        f: F,
+        call: C,
     ) -> R
         requires first { IsSome (entry_at P.Gen.number (S.items self.old.stack) (non_zero_usize_get first)) }
         requires second { IsSome (entry_at P.Gen.number (S.items self.old.stack) (non_zero_usize_get second)) }
         requires apart { non_zero_usize_get first ≢ non_zero_usize_get second }
-        requires callable { MayWork F.FnOnce f
+        requires callable { MayWork C.calls call
             (value_of (entry_at P.Gen.number (S.items self.old.stack) (non_zero_usize_get first)))
             (value_of (entry_at P.Gen.number (S.items self.old.stack) (non_zero_usize_get second))) }
-        ensures worked { Worked F.FnOnce f
+        ensures worked { Worked C.calls call
             (value_of (entry_at P.Gen.number (S.items self.old.stack) (non_zero_usize_get first)))
             (value_of (entry_at P.Gen.number (S.items self.old.stack) (non_zero_usize_get second)))
             result (λ x y. (s : ArenaState T) (len : ℕ)
@@ -93,7 +94,7 @@ impl<P: Ptr, T, S: NonZeroInxGenericStack<ArenaSlot<P, T>>> Slots<P, T, S> {
     {
         let slots = self.stack.as_mut_slice();
         let (a, b) = pair_of(slots, first.get() - 1, second.get() - 1);
-        work_in_two(a, b, f)
+        work_in_two(a, b, call)
     }
 
     // Puts another generation on the entry at an index.
@@ -270,18 +271,18 @@ impl<P: Ptr, T, S: SetMaxCapacity<ArenaSlot<P, T>>> Slots<P, T, S> {
     }
 }
 
-// Calls `f` at the values of two slots that have an entry.
-fn work_in_two<P: Ptr, T, R, F: FnOnce(&mut T, &mut T) -> R>(
+// Makes the call at the values of two slots that have an entry.
+fn work_in_two<P: Ptr, T, R, C: PairCall<T, R>>(
     first: &mut ArenaSlot<P, T>,
     second: &mut ArenaSlot<P, T>,
-    f: F,
+    call: C,
 ) -> R
     requires first { IsSome (entry_of P.Gen.number first.old) }
     requires second { IsSome (entry_of P.Gen.number second.old) }
-    requires callable { MayWork F.FnOnce f (value_of (entry_of P.Gen.number first.old)) (value_of (entry_of P.Gen.number second.old)) }
-    ensures { Worked F.FnOnce f (value_of (entry_of P.Gen.number first.old)) (value_of (entry_of P.Gen.number second.old)) result (λ x y. (first.new ≡ with_slot_value first.old x) × (second.new ≡ with_slot_value second.old y)) }
+    requires callable { MayWork C.calls call (value_of (entry_of P.Gen.number first.old)) (value_of (entry_of P.Gen.number second.old)) }
+    ensures { Worked C.calls call (value_of (entry_of P.Gen.number first.old)) (value_of (entry_of P.Gen.number second.old)) result (λ x y. (first.new ≡ with_slot_value first.old x) × (second.new ≡ with_slot_value second.old y)) }
 {
-    f(first.value_mut(), second.value_mut())
+    call.at(first.value_mut(), second.value_mut())
 }
 
 // Puts an item in the place of the one at an index, which it gives.

@@ -4,6 +4,7 @@ mod byte_pointer;
 mod calls;
 mod entries;
 mod limits;
+mod pairs;
 mod refusals;
 mod rows;
 mod token;

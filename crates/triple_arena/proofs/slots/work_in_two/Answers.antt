@@ -5,10 +5,10 @@ pub returns : goal.returns
 returns g c = (
   c.value_mut.result.now,
   c.value_mut-2.result.now,
-  c.f.new.arg2,
-  c.f.new.arg3,
+  c.at.new.first,
+  c.at.new.second,
   c.value_mut.ensures.value,
   c.value_mut-2.ensures.value,
-  record { first = _; second = _; shows = (refl, refl); left = _; met = c.f.ensures; leaves = (refl, refl) },
+  c.at.ensures,
   (refl, refl),
 )

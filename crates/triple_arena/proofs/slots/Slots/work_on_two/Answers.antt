@@ -20,7 +20,7 @@ work_in_two-requires-clause-callable g c κs within =
     let es = g.S.NonZeroInxGenericStack.items c.args.self.now.stack in
     let first = item_lent _ _ c.as_mut_slice-slots.ensures.value _ _ _ c.get.ensures.value c.args.first.ok c.pair_of-a.ensures.first in
     let second = item_lent _ _ c.as_mut_slice-slots.ensures.value _ _ _ c.get-2.ensures.value c.args.second.ok c.pair_of-a.ensures.second in
-    may_work_at g.F.FnOnce c.args.f _ _ _ _
+    may_work_at g.C.PairCall.calls c.args.call _ _ _ _
     (ap value_of (entry_item g.P.Gen.PtrGen.number es (non_zero_usize_get c.args.first) _ first))
     (ap value_of (entry_item g.P.Gen.PtrGen.number es (non_zero_usize_get c.args.second) _ second))
     c.requires.callable

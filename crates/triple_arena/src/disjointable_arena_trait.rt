@@ -10,9 +10,11 @@ use triple_arena_base::GetDisjointMutError;
 use triple_arena_ptr::{Ptr, PtrGen, PtrInx};
 
 /// An arena that lends two of its values at once, to a closure.
+///
+/// The closure must be callable at the two values, where there are two. Neither call takes memory.
 pub trait DisjointableArenaTrait<P: Ptr, T>: ArenaTrait<P, T> {
-    /// Calls `f` at the values under two pointers, and gives its result; what it writes stands there,
-    /// and nothing else changes.
+    /// Calls `f` at the values under two pointers, in their order, and gives its result; what it
+    /// writes stands there, and nothing else changes.
     ///
     /// `IndexOutOfBounds` where either pointer is invalid, else `OverlappingIndices` where they are
     /// equal; then `f` isn't called, and the arena is unchanged.
@@ -37,8 +39,8 @@ pub trait DisjointableArenaTrait<P: Ptr, T>: ArenaTrait<P, T> {
             (Self.with_value self.old (P.Inx.number (P.index_of first)) x)
             (P.Inx.number (P.index_of second)) y)) };
 
-    /// Calls `f` at the generations and the values of the entries at two indexes, and gives its
-    /// result; what it writes stands there, and nothing else changes.
+    /// Calls `f` at the entries at two indexes, in their order, each value after its generation, and
+    /// gives its result; what it writes stands there, and nothing else changes.
     ///
     /// `IndexOutOfBounds` where either index is past the slots, else `OverlappingIndices` where they
     /// are equal, else `IndexOutOfBounds` where either slot has no entry; then `f` isn't called, and

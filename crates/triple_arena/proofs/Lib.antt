@@ -5,3 +5,4 @@ pub mod Tidying
 pub mod Growth
 pub mod Inserted
 pub mod Limits
+pub mod Pairs

@@ -12,3 +12,4 @@ pub mod Slot
 pub mod Layout
 pub mod Lends
 pub mod InsertEntry
+pub mod Disjoint

@@ -6,6 +6,7 @@ ghost use Rattle.std.specs.Option.{option_map, option_and_then};
 ghost use Rattle.triple_arena_ptr.specs.Numbers.{greatest_index, raise, wraps, first_generation};
 ghost use Rattle.triple_arena_stack.specs.Capacity.{capacity_of, IsWithin, IsBeyond, IsAtLimit};
 ghost use Rattle.triple_arena_stack.specs.StackKind.{IsOfKind};
+ghost use Rattle.triple_arena_stack.specs.Disjoint.{DisjointAnswer};
 ghost use Rattle.triple_arena.specs.Pointers.{numbers};
 ghost use Rattle.triple_arena.specs.ArenaState.{ArenaState, new_arena, slot_count, capacity, arena_len, entry, look_up, with_value, IsWellFormed};
 ghost use Rattle.triple_arena.specs.Insertion.{next_pointer, inserted};
@@ -13,18 +14,21 @@ ghost use Rattle.triple_arena.specs.Ending.{removed, invalidated, cleared, told}
 ghost use Rattle.triple_arena.specs.FreeList.{tidied, IsInOrder};
 ghost use Rattle.triple_arena.specs.Capacity.{with_room_for, reallocated, KeepsRoom, EndsBy, ready_for_limit, with_limit, grown, IsFullAtLimit};
 ghost use Rattle.triple_arena.specs.Slot.{entry_of};
+ghost use Rattle.triple_arena.specs.Disjoint.{value_of, MayWork, Worked};
 
 use crate::answers::{told, told_valid};
 use crate::arena_insert_trait::ArenaInsertTrait;
 use crate::arena_trait::ArenaTrait;
+use crate::disjointable_arena_trait::DisjointableArenaTrait;
+use crate::pair_call::{AtEntries, AtValues, PairCall};
 use crate::slot::ArenaSlot;
 use crate::slots::Slots;
 use std::alloc::Global;
 use std::marker::Model;
 use std::num::NonZeroUsize;
 use triple_arena_base::{
-    AllocError, InvalidationOption, InvalidationResult, MaxCapacityReductionError,
-    ReallocationError,
+    AllocError, GetDisjointMutError, InvalidationOption, InvalidationResult,
+    MaxCapacityReductionError, ReallocationError,
 };
 use triple_arena_ptr::{Ptr, PtrGen, PtrInx};
 use triple_arena_stack::{NonZeroInxGenericStack, NonZeroInxVec, SetMaxCapacity};
@@ -340,6 +344,37 @@ impl<P: Ptr, T, S: NonZeroInxGenericStack<ArenaSlot<P, T>>> ArenaInsertTrait<P, 
     ghost valid_grown = { well_formed-grown S.kind };
 }
 
+impl<P: Ptr, T, S: NonZeroInxGenericStack<ArenaSlot<P, T>>> DisjointableArenaTrait<P, T>
+    for Arena<P, T, S> {
+    fn with_disjoint_mut<R, F: FnOnce(&mut T, &mut T) -> R>(
+        &mut self,
+        first: P,
+        second: P,
+        f: F,
+    ) -> Result<R, GetDisjointMutError> {
+        let (Some(first), Some(second)) = (self.find(first), self.find(second)) else {
+            return Err(GetDisjointMutError::IndexOutOfBounds);
+        };
+        if first == second {
+            return Err(GetDisjointMutError::OverlappingIndices);
+        }
+        Ok(self.work_on_two(first, second, AtValues { f }))
+    }
+
+    fn with_disjoint_inx_mut<R, F: FnOnce(P::Gen, &mut T, P::Gen, &mut T) -> R>(
+        &mut self,
+        first: P::Inx,
+        second: P::Inx,
+        f: F,
+    ) -> Result<R, GetDisjointMutError> {
+        let (i, j) = self.two_slots(first, second)?;
+        let (Some(a), Some(b)) = (self.generation_at(first), self.generation_at(second)) else {
+            return Err(GetDisjointMutError::IndexOutOfBounds);
+        };
+        Ok(self.work_on_two(i, j, AtEntries { f, a, b }))
+    }
+}
+
 impl<P: Ptr, T, S: NonZeroInxGenericStack<ArenaSlot<P, T>>> Arena<P, T, S> {
     /// The counter: the generation of the next entry.
     pub fn generation(&self) -> P::Gen
@@ -454,6 +489,47 @@ impl<P: Ptr, T, S: NonZeroInxGenericStack<ArenaSlot<P, T>>> Arena<P, T, S> {
     {
         let (generation, _value) = self.slots.get(inx).unwrap().entry().unwrap();
         P::_from_raw(P::Inx::try_from_usize(inx).unwrap(), generation)
+    }
+
+    // The numbers of two indexes that name two slots.
+    fn two_slots(
+        &self,
+        first: P::Inx,
+        second: P::Inx,
+    ) -> Result<(NonZeroUsize, NonZeroUsize), GetDisjointMutError>
+        ensures variant { DisjointAnswer (slot_count self.now) (P.Inx.number first) (P.Inx.number second) result }
+        ensures numbers { IfOk result (λ both. (non_zero_usize_get both.0 ≡ P.Inx.number first)
+            × (non_zero_usize_get both.1 ≡ P.Inx.number second)) }
+    {
+        match (
+            P::Inx::try_into_usize(first),
+            P::Inx::try_into_usize(second),
+        ) {
+            (Some(first), Some(second)) => {
+                self.slots.stack.check_disjoint(first, second)?;
+                Ok((first, second))
+            }
+            _ => Err(GetDisjointMutError::IndexOutOfBounds),
+        }
+    }
+
+    // Makes the call at the values of the entries at two indexes.
+    fn work_on_two<R, C: PairCall<T, R>>(
+        &mut self,
+        first: NonZeroUsize,
+        second: NonZeroUsize,
+        call: C,
+    ) -> R
+        requires first { IsSome (entry self.old (non_zero_usize_get first)) }
+        requires second { IsSome (entry self.old (non_zero_usize_get second)) }
+        requires apart { non_zero_usize_get first ≢ non_zero_usize_get second }
+        requires callable { MayWork C.calls call (value_of (entry self.old (non_zero_usize_get first)))
+            (value_of (entry self.old (non_zero_usize_get second))) }
+        ensures { Worked C.calls call (value_of (entry self.old (non_zero_usize_get first)))
+            (value_of (entry self.old (non_zero_usize_get second)))
+            result (λ x y. self.new ≡ with_value (with_value self.old (non_zero_usize_get first) x) (non_zero_usize_get second) y) }
+    {
+        self.slots.work_on_two(first, second, call)
     }
 
     // Takes out the entry at an index, and tells whether the counter wrapped.

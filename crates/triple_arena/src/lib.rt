@@ -5,8 +5,10 @@ mod answers;
 mod arena_insert_trait;
 mod arena_trait;
 mod base_arena;
+mod disjointable_arena_trait;
 mod insert_entry;
 pub mod laws;
+mod pair_call;
 mod slot;
 mod slots;
 #[cfg(test)]
@@ -15,5 +17,6 @@ mod tests;
 pub use arena_insert_trait::ArenaInsertTrait;
 pub use arena_trait::ArenaTrait;
 pub use base_arena::Arena;
+pub use disjointable_arena_trait::DisjointableArenaTrait;
 pub use insert_entry::{ArenaInsertEntry, ArenaInsertEntryTrait};
 pub use slot::{ArenaSlot, FreeLink};

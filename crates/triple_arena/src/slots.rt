@@ -12,16 +12,18 @@ ghost use Rattle.triple_arena.specs.Insertion.{place, inserted};
 ghost use Rattle.triple_arena.specs.Ending.{removed};
 ghost use Rattle.triple_arena.specs.Entries.{with_generation_in};
 ghost use Rattle.triple_arena.specs.FreeList.{trimmed, gaps};
-ghost use Rattle.triple_arena.specs.Slot.{entry_of};
+ghost use Rattle.triple_arena.specs.Slot.{entry_of, with_slot_value};
 ghost use Rattle.triple_arena.specs.Layout.{number_or_zero, Shows, IsLinked, entry_at};
+ghost use Rattle.triple_arena.specs.Disjoint.{value_of, MayWork, Worked};
 
+use crate::pair_call::PairCall;
 use crate::slot::{ArenaSlot, FreeLink};
 use std::marker::PhantomData;
 use std::mem;
 use std::num::NonZeroUsize;
 use triple_arena_base::{MaxCapacityReductionError, ReallocationError};
 use triple_arena_ptr::{Ptr, PtrGen};
-use triple_arena_stack::{NonZeroInxGenericStack, SetMaxCapacity};
+use triple_arena_stack::{NonZeroInxGenericStack, SetMaxCapacity, pair_of};
 
 /// The slots of an arena. Each free one links to the next, beginning at the root.
 ///
@@ -70,6 +72,34 @@ impl<P: Ptr, T, S: NonZeroInxGenericStack<ArenaSlot<P, T>>> Slots<P, T, S> {
     {
         let slot = self.stack.get_mut(inx).unwrap();
         slot.value_mut()
+    }
+
+    // Makes the call at the values of the entries at two indexes.
+    pub(crate) fn work_on_two<R, C: PairCall<T, R>>(
+        &mut self,
+        first: NonZeroUsize,
+        second: NonZeroUsize,
+        call: C,
+    ) -> R
+        requires first { IsSome (entry_at P.Gen.number (S.items self.old.stack) (non_zero_usize_get first)) }
+        requires second { IsSome (entry_at P.Gen.number (S.items self.old.stack) (non_zero_usize_get second)) }
+        requires apart { non_zero_usize_get first ≢ non_zero_usize_get second }
+        requires callable { MayWork C.calls call
+            (value_of (entry_at P.Gen.number (S.items self.old.stack) (non_zero_usize_get first)))
+            (value_of (entry_at P.Gen.number (S.items self.old.stack) (non_zero_usize_get second))) }
+        ensures worked { Worked C.calls call
+            (value_of (entry_at P.Gen.number (S.items self.old.stack) (non_zero_usize_get first)))
+            (value_of (entry_at P.Gen.number (S.items self.old.stack) (non_zero_usize_get second)))
+            result (λ x y. (s : ArenaState T) (len : ℕ)
+            → Shows P.Gen.number (S.items self.old.stack) (option_map non_zero_usize_get self.old.root) len s
+            → Shows P.Gen.number (S.items self.new.stack) (option_map non_zero_usize_get self.new.root) len
+            (with_value (with_value s (non_zero_usize_get first) x) (non_zero_usize_get second) y)) }
+        ensures room { S.room self.new.stack ≡ S.room self.old.stack }
+        ensures limit { S.limit self.new.stack ≡ S.limit self.old.stack }
+    {
+        let slots = self.stack.as_mut_slice();
+        let (a, b) = pair_of(slots, first.get() - 1, second.get() - 1);
+        work_in_two(a, b, call)
     }
 
     // Puts another generation on the entry at an index.
@@ -279,6 +309,20 @@ impl<P: Ptr, T, S: SetMaxCapacity<ArenaSlot<P, T>>> Slots<P, T, S> {
     {
         self.stack.set_max_capacity(max_capacity)
     }
+}
+
+// Makes the call at the values of two slots that have an entry.
+fn work_in_two<P: Ptr, T, R, C: PairCall<T, R>>(
+    first: &mut ArenaSlot<P, T>,
+    second: &mut ArenaSlot<P, T>,
+    call: C,
+) -> R
+    requires first { IsSome (entry_of P.Gen.number first.old) }
+    requires second { IsSome (entry_of P.Gen.number second.old) }
+    requires callable { MayWork C.calls call (value_of (entry_of P.Gen.number first.old)) (value_of (entry_of P.Gen.number second.old)) }
+    ensures { Worked C.calls call (value_of (entry_of P.Gen.number first.old)) (value_of (entry_of P.Gen.number second.old)) result (λ x y. (first.new ≡ with_slot_value first.old x) × (second.new ≡ with_slot_value second.old y)) }
+{
+    call.at(first.value_mut(), second.value_mut())
 }
 
 // Puts an item in the place of the one at an index, which it gives.

@@ -8,6 +8,7 @@ mod drops;
 mod entries;
 mod limits;
 mod own_calls;
+mod pairs;
 mod refusals;
 mod rows;
 mod scarce;

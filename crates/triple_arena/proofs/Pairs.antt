@@ -1,0 +1,76 @@
+-- How two values that a call wrote stand in the slots.
+use Rattle.std.proofs.Common.{◌≡◌, ◌≢◌, ℕ, ◌-◌, ◌<◌, true, List, ◌++◌, length, take, drop, slice_get, set, Option, Some, None, is_some, IsSome, sym, ap, subst, ◌∙◌}
+use Rattle.std.proofs.Math.Seq.{take-append_seam}
+use Rattle.std.proofs.lemmas.List.{length-set}
+use Rattle.std.proofs.lemmas.Option.{same_Some, some_pair_parts}
+use Rattle.std.specs.List.{refill}
+use Rattle.std.specs.Option.{option_map}
+use Rattle.triple_arena_stack.specs.Disjoint.{set_both}
+use Rattle.triple_arena.specs.Numbered.{item, with_item}
+use Rattle.triple_arena.specs.Pointers.{Pointer}
+use Rattle.triple_arena.specs.ArenaState.{ArenaState, entry, look_up, with_value}
+use Rattle.triple_arena.specs.Slot.{entry_of, with_slot_value}
+use Rattle.triple_arena.specs.Layout.{entry_at, Shows, with_value_at}
+use Rattle.triple_arena.specs.Disjoint.{PairOnce, value_of, MayWork}
+use Rattle.triple_arena.specs.declared.slot.ArenaSlot.{ArenaSlot}
+use Rattle.triple_arena.proofs.NumberedLists.{item_at, with_item_at, item-with_other}
+use Rattle.triple_arena.proofs.WellFormed.{entry_of_value}
+use Rattle.triple_arena.proofs.Links.{entry_item, Shows-with_value, pointer_is}
+
+refill-same_length : {X : Type 0} (xs ws : List X) → length ws ≡ length xs → refill (length xs) xs ws ≡ ws
+refill-same_length xs ws len =
+    ap (λ n. take n (ws ++ drop (length ws) xs)) (sym len) ∙ take-append_seam ws (drop (length ws) xs)
+
+module _ {X : Type 0} (xs all : List X) (is : all ≡ xs) where
+  -- a slot that is lent out of all of them
+  pub item_lent : (m i : ℕ) (x : X) → m ≡ i → 0 < i → Some x ≡ slice_get all (m - 1) → item xs i ≡ Some x
+  item_lent m i x here positive read = item_at xs i positive ∙ sym (rw (is, here) at read)
+
+  -- all of them, after two were written
+  pub both_lent : (m n i j : ℕ) (x y : X) → m ≡ i → n ≡ j → 0 < i → 0 < j → refill (length xs) xs (set_both all (m - 1) (n - 1) x y) ≡ with_item (with_item xs i x) j y
+  both_lent m n i j x y first second positive_i positive_j =
+      let size : length (set_both xs (i - 1) (j - 1) x y) ≡ length xs = length-set (set xs (i - 1) x) (j - 1) y ∙ length-set xs (i - 1) x in
+      rw (is, first, second, with_item_at xs i x positive_i, with_item_at (set xs (i - 1) x) j y positive_j) (refill-same_length xs (set_both xs (i - 1) (j - 1) x y) size)
+
+module _ {P T I G : Type 0} (number : G → ℕ) where
+  -- a slot at an index with an entry has this entry
+  pub live_slot : (es : List (ArenaSlot P T I G)) (i : ℕ) (e : ArenaSlot P T I G) → item es i ≡ Some e → IsSome (entry_at number es i) → IsSome (entry_of number e)
+  live_slot es i e there live = subst (λ o. IsSome o) (entry_item number es i e there) live
+
+  value_there : (es : List (ArenaSlot P T I G)) (root : Option ℕ) (i len : ℕ) (e : ArenaSlot P T I G) (w : T) (s : ArenaState T) → item es i ≡ Some e → IsSome (entry_at number es i) → Shows number es root len s → Shows number (with_item es i (with_slot_value e w)) root len (with_value s i w)
+  value_there es root i len e w s there live shows =
+      subst (λ o. Shows number (with_value_at es i o w) root len (with_value s i w)) there (Shows-with_value number es root i len w s live shows)
+
+  -- with other values in two slots the state has them too
+  pub both_written : (es es' : List (ArenaSlot P T I G)) (root : Option ℕ) (i j len : ℕ) (a b a' b' : ArenaSlot P T I G) (x y : T) (s : ArenaState T) → item es i ≡ Some a → item es j ≡ Some b → IsSome (entry_at number es i) → IsSome (entry_at number es j) → i ≢ j → a' ≡ with_slot_value a x → b' ≡ with_slot_value b y → es' ≡ with_item (with_item es i a') j b' → Shows number es root len s → Shows number es' root len (with_value (with_value s i x) j y)
+  both_written es es' root i j len a b a' b' x y s at_i at_j live_i live_j apart left_i left_j written shows =
+      let one = with_item es i (with_slot_value a x) in
+      let there : item one j ≡ Some b = item-with_other es i j (with_slot_value a x) (λ e. apart (sym e)) ∙ at_j in
+      let live : IsSome (entry_at number one j) = subst (λ o. IsSome o) (sym (entry_item number one j b there)) (live_slot es j b at_j live_j) in
+      rw (written, left_i, left_j) (value_there one root j len b y (with_value s i x) there live (value_there es root i len a x s at_i live_i shows))
+
+module _ {T : Type 0} (s : ArenaState T) where
+  -- the value under a valid pointer is that of the entry at its index
+  pub value_under_pointer : (p : Pointer) (i : ℕ) → i ≡ p.0 → is_some (look_up s p) ≡ true → value_of (entry s i) ≡ look_up s p
+  value_under_pointer p i here valid =
+      let found = entry_of_value s p.0 p.1 valid in
+      ap (λ n. value_of (entry s n)) here ∙ ap value_of found.1 ∙ sym found.2
+
+  -- two valid pointers with one index are one
+  pub same_pointer : (p q : Pointer) → is_some (look_up s p) ≡ true → is_some (look_up s q) ≡ true → p.0 ≡ q.0 → p ≡ q
+  same_pointer p q valid_p valid_q here =
+      let found_p = entry_of_value s p.0 p.1 valid_p in
+      let found_q = entry_of_value s q.0 q.1 valid_q in
+      pointer_is p.0 p.1 q.0 q.1 here (some_pair_parts p.1 q.1 found_p.0 found_q.0 (sym found_p.1 ∙ ap (entry s) here ∙ found_q.1)).0
+
+  -- an entry, by its generation and by its value
+  pub entry_by_parts : (i n h : ℕ) (x : T) → n ≡ i → Some h ≡ option_map (λ (e : ℕ × T). e.0) (entry s i) → value_of (entry s n) ≡ Some x → entry s i ≡ Some (h, x)
+  entry_by_parts i n h x here stamped read = by_entry (entry s i) stamped (sym (ap (λ m. value_of (entry s m)) here) ∙ read)
+    where
+      by_entry : (o : Option (ℕ × T)) → Some h ≡ option_map (λ (e : ℕ × T). e.0) o → value_of o ≡ Some x → o ≡ Some (h, x)
+      by_entry None stamped read = absurd (cc)
+      by_entry (Some e) stamped read = ap (λ n. Some (n, e.1)) (sym (same_Some h e.0 stamped)) ∙ ap (λ v. Some (h, v)) (same_Some e.1 x read)
+
+-- a call that may be made at two values may be made at the same two
+pub may_work_at : {F T R : Type 0} (c : PairOnce F T R) (f : F) (a b a' b' : Option T) → a ≡ a' → b ≡ b' → MayWork c f a b → MayWork c f a' b'
+may_work_at c f a b a' b' first second may x y at_x at_y = may x y (first ∙ at_x) (second ∙ at_y)

@@ -497,7 +497,8 @@ impl<P: Ptr, T, S: NonZeroInxGenericStack<ArenaSlot<P, T>>> Arena<P, T, S> {
         first: P::Inx,
         second: P::Inx,
     ) -> Result<(NonZeroUsize, NonZeroUsize), GetDisjointMutError>
-        ensures variant { DisjointAnswer (slot_count self.now) (P.Inx.number first) (P.Inx.number second) result }
+        ensures variant { DisjointAnswer (slot_count self.now)
+            (P.Inx.number first) (P.Inx.number second) result }
         ensures numbers { IfOk result (λ both. (non_zero_usize_get both.0 ≡ P.Inx.number first)
             × (non_zero_usize_get both.1 ≡ P.Inx.number second)) }
     {
@@ -527,7 +528,8 @@ impl<P: Ptr, T, S: NonZeroInxGenericStack<ArenaSlot<P, T>>> Arena<P, T, S> {
             (value_of (entry self.old (non_zero_usize_get second))) }
         ensures { Worked C.calls call (value_of (entry self.old (non_zero_usize_get first)))
             (value_of (entry self.old (non_zero_usize_get second)))
-            result (λ x y. self.new ≡ with_value (with_value self.old (non_zero_usize_get first) x) (non_zero_usize_get second) y) }
+            result (λ x y. self.new ≡ with_value
+            (with_value self.old (non_zero_usize_get first) x) (non_zero_usize_get second) y) }
     {
         self.slots.work_on_two(first, second, call)
     }

@@ -26,15 +26,19 @@ pub trait DisjointableArenaTrait<P: Ptr, T>: ArenaTrait<P, T> {
     ) -> Result<R, GetDisjointMutError>
         requires { P.Inx.number (P.index_of first) ≢ P.Inx.number (P.index_of second)
             → MayWork F.FnOnce f
-            (look_up_in (Self.slots self.old) (numbers P.Inx.number P.Gen.number P.index_of P.generation_of first))
-            (look_up_in (Self.slots self.old) (numbers P.Inx.number P.Gen.number P.index_of P.generation_of second)) }
+            (look_up_in (Self.slots self.old)
+            (numbers P.Inx.number P.Gen.number P.index_of P.generation_of first))
+            (look_up_in (Self.slots self.old)
+            (numbers P.Inx.number P.Gen.number P.index_of P.generation_of second)) }
         ensures variant { DisjointPtrAnswer (Self.slots self.old)
             (numbers P.Inx.number P.Gen.number P.index_of P.generation_of first)
             (numbers P.Inx.number P.Gen.number P.index_of P.generation_of second) result }
         ensures refused { OnErr result (self.new ≡ self.old) }
         ensures worked { IfOk result (λ r. Worked F.FnOnce f
-            (look_up_in (Self.slots self.old) (numbers P.Inx.number P.Gen.number P.index_of P.generation_of first))
-            (look_up_in (Self.slots self.old) (numbers P.Inx.number P.Gen.number P.index_of P.generation_of second))
+            (look_up_in (Self.slots self.old)
+            (numbers P.Inx.number P.Gen.number P.index_of P.generation_of first))
+            (look_up_in (Self.slots self.old)
+            (numbers P.Inx.number P.Gen.number P.index_of P.generation_of second))
             r (λ x y. self.new ≡ Self.with_value
             (Self.with_value self.old (P.Inx.number (P.index_of first)) x)
             (P.Inx.number (P.index_of second)) y)) };

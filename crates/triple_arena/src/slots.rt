@@ -319,8 +319,12 @@ fn work_in_two<P: Ptr, T, R, C: PairCall<T, R>>(
 ) -> R
     requires first { IsSome (entry_of P.Gen.number first.old) }
     requires second { IsSome (entry_of P.Gen.number second.old) }
-    requires callable { MayWork C.calls call (value_of (entry_of P.Gen.number first.old)) (value_of (entry_of P.Gen.number second.old)) }
-    ensures { Worked C.calls call (value_of (entry_of P.Gen.number first.old)) (value_of (entry_of P.Gen.number second.old)) result (λ x y. (first.new ≡ with_slot_value first.old x) × (second.new ≡ with_slot_value second.old y)) }
+    requires callable { MayWork C.calls call (value_of (entry_of P.Gen.number first.old))
+        (value_of (entry_of P.Gen.number second.old)) }
+    ensures { Worked C.calls call (value_of (entry_of P.Gen.number first.old))
+        (value_of (entry_of P.Gen.number second.old)) result
+        (λ x y. (first.new ≡ with_slot_value first.old x)
+        × (second.new ≡ with_slot_value second.old y)) }
 {
     call.at(first.value_mut(), second.value_mut())
 }

@@ -41,8 +41,8 @@ append_known-nil None = refl
 append_known-nil (Some bytes) = ap Some (append-nil bytes)
 
 -- what a writer held with its buffer it holds without, once the buffer has no bytes
-pub Keeps-emptied : (old known : Option (List ℕ)) (buffer : List ℕ) → buffer ≡ [] → Keeps old (append_known known buffer) → Keeps old known
-Keeps-emptied old known buffer empty kept = subst (Keeps old) (ap (append_known known) empty ∙ append_known-nil known) kept
+pub keeps_emptied : (old known : Option (List ℕ)) (buffer : List ℕ) → buffer ≡ [] → Keeps old (append_known known buffer) → Keeps old known
+keeps_emptied old known buffer empty kept = subst (Keeps old) (ap (append_known known) empty ∙ append_known-nil known) kept
 
 -- the front of what is left of a list
 pub front-drop : (xs : List (List ℕ)) (i : ℕ) (y : List ℕ) (ys : List (List ℕ)) → drop i xs ≡ y ∷ ys

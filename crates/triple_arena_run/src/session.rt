@@ -253,7 +253,7 @@ impl<P: Ptr, X: Copy, S: NonZeroInxGenericStack<ArenaSlot<P, Node<X, P>>>> Sessi
 }
 
 // Makes room for one more item where there is none.
-fn make_room<T>(table: &mut NonZeroInxVec<T>) -> Result<(), ReallocationError>
+fn make_room<T>(table: &mut NonZeroInxVec<T>) -> Result<(), AllocError>
     ensures items { table.new.items ≡ table.old.items }
     ensures grown { OnOk result (table.new.room
         ≡ room_for_one_more table.old.room None (length table.old.items)) }
@@ -267,7 +267,7 @@ fn make_room<T>(table: &mut NonZeroInxVec<T>) -> Result<(), ReallocationError>
     }
     match table.entry_push() {
         Ok(_entry) => Ok(()),
-        Err(refusal) => Err(refusal),
+        Err(_) => Err(AllocError),
     }
 }
 

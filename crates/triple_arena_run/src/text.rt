@@ -83,6 +83,7 @@ pub fn run_text_and_flush<
 /// Flushes a buffered writer after a run of this outcome, and gives back the writer below it. A
 /// failed flush is the error `Write` whatever the outcome was, and the bytes that it left are let
 /// go.
+#[tactic(auto, using(crate::proofs::TextLaws::keeps_emptied))]
 pub fn flush_after<W: Write + Drop>(
     outcome: Result<(), TextError>,
     mut output: BufWriter<W>,

@@ -1,8 +1,8 @@
 //! Callers that are generic over arenas: proved over the traits and their laws alone.
 
-ghost use Rattle.std.specs.Prelude.{◌≡◌, ◌≢◌, ℕ, None, Some, IsSome, OnOk, IfOk, OnErr};
+ghost use Rattle.std.specs.Prelude.{◌≡◌, ◌≢◌, ℕ, None, Some, OnOk, IfOk, OnErr};
 ghost use Rattle.triple_arena.specs.Pointers.{numbers};
-ghost use Rattle.triple_arena.specs.Entries.{entry_in, look_up_in, ChangesAt};
+ghost use Rattle.triple_arena.specs.Entries.{look_up_in};
 
 use crate::{Arena, ArenaInsertTrait, ArenaTrait};
 use std::mem;
@@ -25,27 +25,25 @@ fn exchange<P: Ptr, T, A: ArenaTrait<P, T>>(arena: &mut A, p: P, t: T) -> Result
     }
 }
 
-// Inserts a value: it stands under its pointer, and every other entry is as before.
+// Inserts a value: its pointer finds it.
 fn put<P: Ptr, T: Drop, A: ArenaInsertTrait<P, T>>(
     arena: &mut A,
     t: T,
 ) -> Result<P, ReallocationError>
-    ensures there { IfOk result (λ p. ChangesAt (A.slots arena.old) (P.Inx.number (P.index_of p))
-        (Some (P.Gen.number (P.generation_of p), t)) (A.slots arena.new)) }
+    ensures found { IfOk result (λ p. look_up_in (A.slots arena.new)
+        (numbers P.Inx.number P.Gen.number P.index_of P.generation_of p) ≡ Some t) }
     ensures refused { OnErr result (arena.new ≡ arena.old) }
 {
     arena.insert(t)
 }
 
-// Takes out what stands under a pointer: no entry stands at its index then, and every other is as
-// before.
+// Takes out what stands under a pointer: it finds nothing then, and pointers of other indexes find
+// what they found.
 fn take<P: Ptr, T, A: ArenaTrait<P, T>>(arena: &mut A, p: P) -> InvalidationResult<T>
-    ensures gone { IsSome (look_up_in (A.slots arena.old)
-        (numbers P.Inx.number P.Gen.number P.index_of P.generation_of p))
-        → ChangesAt (A.slots arena.old) (P.Inx.number (P.index_of p)) None (A.slots arena.new) }
-    ensures unchanged { look_up_in (A.slots arena.old)
-        (numbers P.Inx.number P.Gen.number P.index_of P.generation_of p) ≡ None
-        → arena.new ≡ arena.old }
+    ensures gone { look_up_in (A.slots arena.new)
+        (numbers P.Inx.number P.Gen.number P.index_of P.generation_of p) ≡ None }
+    ensures kept { (q : ℕ × ℕ) → q.0 ≢ P.Inx.number (P.index_of p)
+        → look_up_in (A.slots arena.new) q ≡ look_up_in (A.slots arena.old) q }
 {
     arena.remove(p)
 }

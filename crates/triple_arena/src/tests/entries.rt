@@ -68,6 +68,17 @@ fn a_dropped_entry_leaves_its_room(rt: HostRuntime) -> Result<(), Fail> {
 }
 
 #[test]
+fn an_insertion_after_a_dropped_entry_has_its_pointer(rt: HostRuntime) -> Result<(), Fail> {
+    let mut arena: Arena<P0, Token> = Arena::new(rt.alloc());
+    let entry = arena.entry_insert()?;
+    assert_eq!(rt; entry.ptr(), p0(1, 2)?);
+    drop(entry);
+    assert_eq!(rt; arena.insert(Token { number: 1 })?, p0(1, 2)?);
+    assert_eq!(rt; arena.capacity(), 4);
+    Ok(())
+}
+
+#[test]
 fn an_entry_takes_the_index_that_was_freed_last(rt: HostRuntime) -> Result<(), Fail> {
     let mut arena: Arena<P0, Token> = Arena::new(rt.alloc());
     for number in 1..5 {

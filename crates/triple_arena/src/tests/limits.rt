@@ -140,8 +140,8 @@ fn a_limit_that_is_set_back_gives_the_old_capacity(rt: HostRuntime) -> Result<()
     Ok(())
 }
 
-// Inserts as long as there is a place or room can be made, and gives how many entries there are then
-// and why the next was refused.
+// Inserts as long as there is a place or room can be made, and gives how many entries there are
+// then and why the next was refused.
 fn filled_under(alloc: Global, limit: usize) -> Result<(usize, ReallocationError), Fail> {
     let mut arena: Limited<P5> = Arena::new(alloc);
     arena.set_max_capacity(limit)?;

@@ -1,4 +1,5 @@
-//! The calls of an `Arena` beside those of the traits, over each stack and on pointers of each kind.
+//! The calls of an `Arena` beside those of the traits, over each stack and on pointers of each
+//! kind.
 
 use super::byte_pointer::B;
 use super::scarce::Scarce;

@@ -1,5 +1,5 @@
-//! Memory that is refused: by requests past what a vector may hold, and by the Nth request where the
-//! tests run as `rt try --test --fail-alloc N`.
+//! Memory that is refused: by requests past what a vector may hold, and by the Nth request where
+//! the tests run as `rt try --test --fail-alloc N`.
 
 use super::state::{State, state_of};
 use super::token::{Bounds, Token, bounds_of, has, inx, p0};

@@ -2,7 +2,7 @@
 
 use super::token::{Bounds, Token, bounds_of, has, inx, p0};
 use crate::{Arena, ArenaInsertTrait, ArenaSlot, ArenaTrait};
-use std::num::{NonZeroU64, NonZeroUsize};
+use std::num::{NonZeroU8, NonZeroU64, NonZeroUsize};
 use std::test::Fail;
 use triple_arena_base::{AllocError, InvalidationOption, InvalidationResult, ReallocationError};
 use triple_arena_ptr::{P0, P4, P5, Ptr};
@@ -30,6 +30,7 @@ fn a_removed_pointer_finds_nothing_again(rt: HostRuntime) -> Result<(), Fail> {
 fn a_removal_at_the_end_pops_the_slot(rt: HostRuntime) -> Result<(), Fail> {
     let mut arena: Arena<P0, Token> = Arena::new(rt.alloc());
     arena.insert(Token { number: 1 })?;
+    assert_eq!(rt; arena.freelist_root(), None);
     arena.insert(Token { number: 2 })?;
     assert_eq!(rt; arena.freelist_root(), None);
     assert_eq!(rt;
@@ -68,6 +69,13 @@ fn a_byte_index_ends_at_255(rt: HostRuntime) -> Result<(), Fail> {
     let refused = arena.insert(Token { number: 256 });
     assert_eq!(rt; refused, Err(ReallocationError::AllocError));
     assert_eq!(rt; bounds_of(&arena), full);
+    for number in 1..=255 {
+        let inx = NonZeroU8::new(number).ok_or("an index is counted from 1")?;
+        assert!(rt;
+            has(&arena, P5::_from_raw(inx, ()), number as u64),
+            "at {number}"
+        );
+    }
     assert_eq!(rt;
         arena.reallocate_min_capacity(256),
         Err(ReallocationError::AllocError)

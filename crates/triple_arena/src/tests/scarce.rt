@@ -6,8 +6,8 @@ use std::num::NonZeroUsize;
 use triple_arena_base::{AllocError, MaxCapacityReductionError, ReallocationError};
 use triple_arena_stack::{LimitedStack, NonZeroInxGenericStack, SetMaxCapacity};
 
-/// A stack whose limit can be set, where there is memory for `PLACES` items: each request for more is
-/// refused.
+/// A stack whose limit can be set, where there is memory for `PLACES` items: each request for more
+/// is refused.
 #[derive(Drop)]
 pub struct Scarce<T, const PLACES: usize> {
     limited: LimitedStack<T>,

@@ -1,5 +1,5 @@
 -- The order that the free list of an arena is put into.
-use Rattle.std.specs.Prelude.{◌≡◌, ◌≤◌, false, ℕ, ◌+◌, List, [], ◌∷◌, Option, Some, None}
+use Rattle.std.specs.Prelude.{◌≡◌, ◌≤◌, nat_le, false, ℕ, ◌+◌, List, [], ◌∷◌, length, filter, Option, Some, None}
 use Rattle.triple_arena.specs.Numbered.{item}
 use Rattle.triple_arena.specs.ArenaState.{ArenaState, entry, is_free, slot_count}
 
@@ -24,6 +24,14 @@ module _ {A : Type 0} where
 -- the slots end with the last entry, and the free indexes are the gaps in rising order
 abbrev pub tidied : {T : Type 0} → ArenaState T → ArenaState T
 tidied s = record s { slots = trimmed s.slots; free = gaps 1 (trimmed s.slots) }
+
+-- the slots end with the last entry, and the free indexes are those that are left, in their order
+abbrev pub without_free_end : {T : Type 0} → ArenaState T → ArenaState T
+without_free_end s =
+    record s {
+      slots = trimmed s.slots;
+      free = filter (λ i. nat_le i (length (trimmed s.slots))) s.free;
+    }
 
 -- indexes in rising order, from `low` on
 abbrev pub IsRising : ℕ → List ℕ → Type 0

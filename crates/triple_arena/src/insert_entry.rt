@@ -90,7 +90,6 @@ impl<'a, P: Ptr, T, S: NonZeroInxGenericStack<ArenaSlot<P, T>>> ArenaInsertEntry
             T.row (entry_reference self.entry) result (inserted (entry_arena self.entry))) }
     {
         let ArenaInsertEntry { arena } = self;
-        let _len = arena.len();
         let p = arena.insert_reserved(t);
         arena.get_mut(p).unwrap()
     }

@@ -5,15 +5,15 @@ use Rattle.triple_arena.proofs.insert_entry.ArenaInsertEntryArenaInsertEntryTrai
 
 pub unwrap-requires : goal.unwrap-requires
 unwrap-requires g c =
-    let found = found_inserted c.args.self.arena.now c.insert_reserved-p.new.self _ c.args.t c.len-len.ensures.well_formed c.insert_reserved-p.ensures.pointer c.insert_reserved-p.ensures.inserted in
+    let found = found_inserted c.args.self.arena.now c.insert_reserved-p.new.self _ c.args.t c.insert_reserved-p.ensures.valid c.insert_reserved-p.ensures.pointer c.insert_reserved-p.ensures.inserted in
     some_lent c.get_mut.result c.args.t (c.get_mut.ensures.value ∙ found)
 
 pub returns : goal.returns
 returns g c =
-    let found = found_inserted c.args.self.arena.now c.insert_reserved-p.new.self _ c.args.t c.len-len.ensures.well_formed c.insert_reserved-p.ensures.pointer c.insert_reserved-p.ensures.inserted in (
+    let found = found_inserted c.args.self.arena.now c.insert_reserved-p.new.self _ c.args.t c.insert_reserved-p.ensures.valid c.insert_reserved-p.ensures.pointer c.insert_reserved-p.ensures.inserted in (
       (
         refl,
-        λ w. rewritten c.args.self.arena.now c.insert_reserved-p.new.self _ c.args.t w c.len-len.ensures.well_formed (ap (λ p. p.0) c.insert_reserved-p.ensures.pointer) c.insert_reserved-p.ensures.inserted,
+        λ w. rewritten c.args.self.arena.now c.insert_reserved-p.new.self _ c.args.t w c.insert_reserved-p.ensures.valid (ap (λ p. p.0) c.insert_reserved-p.ensures.pointer) c.insert_reserved-p.ensures.inserted,
       ),
       record {
         value = same_Some _ _ ((rw c.unwrap.ensures at c.get_mut.ensures.value) ∙ found);

@@ -1,6 +1,6 @@
 //! Limits that are set.
 
-use super::state::state_of;
+use super::state::{assert_state, state_of};
 use super::token::{Bounds, Token, bounds_of, has, inx, p0};
 use crate::{Arena, ArenaInsertTrait, ArenaSlot, ArenaTrait};
 use std::alloc::Global;
@@ -71,9 +71,8 @@ fn a_refused_limit_has_put_the_free_list_in_order(rt: HostRuntime) -> Result<(),
     assert_eq!(rt; (before.free[0], before.free[1], before.free[2]), (3, 1, 0));
     let expected = before.in_order();
     assert_eq!(rt; limit_to(&mut arena, 4), Err(MaxCapacityReductionError));
-    let after = state_of(&rt, &arena);
-    assert_eq!(rt; after, expected);
-    assert_eq!(rt; (after.free[0], after.free[1], after.free[2]), (1, 3, 0));
+    assert_eq!(rt; (expected.free[0], expected.free[1], expected.free[2]), (1, 3, 0));
+    assert_state(&rt, &arena, &expected);
     Ok(())
 }
 
@@ -92,7 +91,7 @@ fn a_refusal_leaves_the_room_above_a_limit(rt: HostRuntime) -> Result<(), Fail> 
     assert_eq!(rt; arena.entry_insert().err(), Some(beyond));
     assert_eq!(rt; arena.reallocate_min_capacity(3), Err(beyond));
     assert_eq!(rt; limit_to(&mut arena, 1), Err(MaxCapacityReductionError));
-    assert_eq!(rt; state_of(&rt, &arena), full);
+    assert_state(&rt, &arena, &full);
     assert_eq!(rt; limit_to(&mut arena, usize::MAX), Ok(()));
     assert_eq!(rt; arena.capacity(), 8);
     Ok(())

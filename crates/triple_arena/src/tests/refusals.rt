@@ -1,7 +1,7 @@
 //! Memory that is refused: by requests past what a vector may hold, and by the Nth request where
 //! the tests run as `rt try --test --fail-alloc N`.
 
-use super::state::{State, state_of};
+use super::state::{State, assert_state, state_of};
 use super::token::{Bounds, Token, bounds_of, has, inx, p0};
 use crate::{Arena, ArenaInsertEntryTrait, ArenaInsertTrait, ArenaSlot, ArenaTrait};
 use std::alloc::Global;
@@ -65,7 +65,7 @@ fn refused_reallocation<S: NonZeroInxGenericStack<ArenaSlot<P0, Token>>>(
         let expected = before.in_order();
         let refused = arena.reallocate_min_capacity(asked);
         assert_eq!(rt; refused, Err(ReallocationError::AllocError), "at {asked}");
-        assert_eq!(rt; state_of(rt, arena), expected, "at {asked}");
+        assert_state(rt, arena, &expected);
         for number in 7..11 {
             arena.insert(Token { number })?;
         }
@@ -135,12 +135,12 @@ fn a_call_on_an_invalid_pointer_changes_nothing(rt: HostRuntime) -> Result<(), F
         assert!(rt; arena.get_mut(p).is_none());
         assert!(rt; arena.invalidate(p).is_invalid());
         assert!(rt; arena.remove(p).is_invalid());
-        assert_eq!(rt; state_of(&rt, &arena), before);
+        assert_state(&rt, &arena, &before);
     }
     for index in [2, 6, usize::MAX] {
         assert!(rt; arena.get_inx_mut(inx(index)?).is_none());
         assert!(rt; arena.remove_inx(inx(index)?).is_invalid());
-        assert_eq!(rt; state_of(&rt, &arena), before);
+        assert_state(&rt, &arena, &before);
     }
     Ok(())
 }
@@ -183,7 +183,7 @@ fn insert_next<S: NonZeroInxGenericStack<ArenaSlot<P0, Token>>>(
             } = before.bounds;
             assert_eq!(rt; len, capacity, "at {number}");
             assert_eq!(rt; refused, refusal_under(limit, capacity.saturating_add(1)));
-            assert_eq!(rt; state_of(rt, arena), before, "at {number}");
+            assert_state(rt, arena, &before);
         }
     }
 }
@@ -206,11 +206,11 @@ fn reallocate<S: NonZeroInxGenericStack<ArenaSlot<P0, Token>>>(
                 },
                 ..before
             };
-            assert_eq!(rt; after, expected, "at {asked}");
+            assert_state(rt, arena, &expected);
         }
         Err(refused) => {
             assert_eq!(rt; refused, refusal_under(before.bounds.limit, asked));
-            assert_eq!(rt; state_of(rt, arena), before, "at {asked}");
+            assert_state(rt, arena, &before);
         }
     }
 }

@@ -2,7 +2,7 @@
 
 use super::byte_pointer::B;
 use super::scarce::Scarce;
-use super::state::{State, state_of};
+use super::state::{assert_state, state_of};
 use super::token::{Token, inx};
 use crate::{Arena, ArenaInsertTrait, ArenaSlot, ArenaTrait};
 use std::alloc::Global;
@@ -10,33 +10,32 @@ use std::process::Abort;
 use std::test::Fail;
 use triple_arena_base::{AllocError, NotWithinCapacityError, ReallocationError};
 use triple_arena_ptr::{P0, P4, Ptr, PtrInx};
+use triple_arena_stack::NonZeroInxGenericStack;
 
 type InScarce<P, const PLACES: usize> = Arena<P, Token, Scarce<ArenaSlot<P, Token>, PLACES>>;
 
-// Each way to ask for one more place is refused memory, and leaves the arena at `before`.
-fn refuses_growth<P: Ptr, const PLACES: usize>(
+/// Each way to ask a full arena for one more place is refused so, and leaves it as it is.
+pub fn refuses_growth<P: Ptr, S: NonZeroInxGenericStack<ArenaSlot<P, Token>>>(
     rt: &impl Abort,
-    arena: &mut InScarce<P, PLACES>,
-    before: &State,
+    arena: &mut Arena<P, Token, S>,
+    refusal: ReallocationError,
 ) {
-    let refusal = ReallocationError::AllocError;
-    assert_eq!(rt; arena.insert(Token { number: 99 }), Err(refusal));
-    assert_eq!(rt; state_of(rt, arena), *before);
-    assert_eq!(rt;
-        arena.insert_reallocating(Token { number: 99 }),
-        Err(refusal)
-    );
-    assert_eq!(rt; state_of(rt, arena), *before);
-    assert_eq!(rt; arena.entry_insert().err(), Some(refusal));
-    assert_eq!(rt; state_of(rt, arena), *before);
-    assert_eq!(rt; arena.entry_insert_reallocating().err(), Some(refusal));
-    assert_eq!(rt; state_of(rt, arena), *before);
+    let before = state_of(rt, arena);
+    assert_eq!(rt; before.bounds.len, before.bounds.capacity);
+    assert!(rt; arena.insert(Token { number: 99 }) == Err(refusal));
+    assert_state(rt, arena, &before);
+    assert!(rt; arena.insert_reallocating(Token { number: 99 }) == Err(refusal));
+    assert_state(rt, arena, &before);
+    assert!(rt; arena.entry_insert().err() == Some(refusal));
+    assert_state(rt, arena, &before);
+    assert!(rt; arena.entry_insert_reallocating().err() == Some(refusal));
+    assert_state(rt, arena, &before);
     let refused = arena.insert_within_capacity(Token { number: 99 });
-    assert_eq!(rt; refused, Err(NotWithinCapacityError));
-    assert_eq!(rt; state_of(rt, arena), *before);
+    assert!(rt; refused == Err(NotWithinCapacityError));
+    assert_state(rt, arena, &before);
     let refused = arena.entry_insert_within_capacity().err();
-    assert_eq!(rt; refused, Some(NotWithinCapacityError));
-    assert_eq!(rt; state_of(rt, arena), *before);
+    assert!(rt; refused == Some(NotWithinCapacityError));
+    assert_state(rt, arena, &before);
 }
 
 // An arena that grew as long as there was memory, without a limit in its way.
@@ -60,12 +59,12 @@ fn grown<P: Ptr, const PLACES: usize>(
 fn refused_past<P: Ptr, const PLACES: usize>(rt: &impl Abort, alloc: Global) -> Result<(), Fail> {
     let mut arena: InScarce<P, PLACES> = grown(rt, alloc)?;
     let full = state_of(rt, &arena);
-    refuses_growth(rt, &mut arena, &full);
+    refuses_growth(rt, &mut arena, ReallocationError::AllocError);
     let refused = arena.reallocate_min_capacity(PLACES.saturating_add(1));
     assert_eq!(rt; refused, Err(ReallocationError::AllocError));
-    assert_eq!(rt; state_of(rt, &arena), full);
+    assert_state(rt, &arena, &full);
     assert_eq!(rt; arena.reallocate_min_capacity(PLACES), Ok(()));
-    assert_eq!(rt; state_of(rt, &arena), full);
+    assert_state(rt, &arena, &full);
     Ok(())
 }
 
@@ -103,7 +102,7 @@ fn a_reallocation_past_the_memory_puts_the_free_list_in_order(rt: HostRuntime) -
     for asked in [9, 16, 1 << 61, usize::MAX] {
         let refused = arena.reallocate_min_capacity(asked);
         assert_eq!(rt; refused, Err(ReallocationError::AllocError), "at {asked}");
-        assert_eq!(rt; state_of(&rt, &arena), expected, "at {asked}");
+        assert_state(&rt, &arena, &expected);
     }
     Ok(())
 }

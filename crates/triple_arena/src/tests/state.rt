@@ -54,6 +54,15 @@ pub fn state_of<P: Ptr, S: NonZeroInxGenericStack<ArenaSlot<P, Token>>>(
     }
 }
 
+/// Ends the test unless the state of `arena` is this one.
+pub fn assert_state<P: Ptr, S: NonZeroInxGenericStack<ArenaSlot<P, Token>>>(
+    rt: &impl Abort,
+    arena: &Arena<P, Token, S>,
+    expected: &State,
+) {
+    assert_eq!(rt; state_of(rt, arena), *expected);
+}
+
 // The numbers of the generation and of the value of the entry in a slot, if there is one.
 fn entry_in<P: Ptr>(rt: &impl Abort, slot: Option<&ArenaSlot<P, Token>>) -> Option<(u64, u64)> {
     match slot {

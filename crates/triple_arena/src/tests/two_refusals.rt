@@ -2,7 +2,8 @@
 
 use super::byte_pointer::B;
 use super::scarce::Scarce;
-use super::state::state_of;
+use super::scarce_memory::refuses_growth;
+use super::state::{assert_state, state_of};
 use super::token::{Token, inx};
 use crate::{Arena, ArenaInsertTrait, ArenaSlot, ArenaTrait};
 use std::process::Abort;
@@ -35,11 +36,10 @@ fn refuses_reallocation<P: Ptr, S: NonZeroInxGenericStack<ArenaSlot<P, Token>>>(
         let before = state_of(rt, arena);
         assert_eq!(rt; (before.slots, before.free[0], before.free[1]), (3, 3, 1));
         let expected = before.in_order();
+        assert_eq!(rt; (expected.slots, expected.free[0], expected.free[1]), (2, 1, 0));
         let refused = arena.reallocate_min_capacity(*asked);
         assert_eq!(rt; refused, Err(*refusal), "at {asked}");
-        let after = state_of(rt, arena);
-        assert_eq!(rt; after, expected, "at {asked}");
-        assert_eq!(rt; (after.slots, after.free[0], after.free[1]), (2, 1, 0));
+        assert_state(rt, arena, &expected);
     }
     Ok(())
 }
@@ -82,27 +82,6 @@ fn past_the_limit_and_the_memory(rt: HostRuntime) -> Result<(), Fail> {
     scarce.set_max_capacity(6)?;
     let asked = [(5, NO_MEMORY), (6, NO_MEMORY), (7, BEYOND)];
     refuses_reallocation(&rt, &mut scarce, &asked)
-}
-
-// Each insertion into a full arena is refused so, and changes nothing.
-fn refuses_growth<P: Ptr, S: NonZeroInxGenericStack<ArenaSlot<P, Token>>>(
-    rt: &impl Abort,
-    arena: &mut Arena<P, Token, S>,
-    refusal: ReallocationError,
-) {
-    let before = state_of(rt, arena);
-    assert_eq!(rt; before.bounds.len, before.bounds.capacity);
-    assert_eq!(rt; arena.insert(Token { number: 99 }), Err(refusal));
-    assert_eq!(rt; state_of(rt, arena), before);
-    assert_eq!(rt;
-        arena.insert_reallocating(Token { number: 99 }),
-        Err(refusal)
-    );
-    assert_eq!(rt; state_of(rt, arena), before);
-    assert_eq!(rt; arena.entry_insert().err(), Some(refusal));
-    assert_eq!(rt; state_of(rt, arena), before);
-    assert_eq!(rt; arena.entry_insert_reallocating().err(), Some(refusal));
-    assert_eq!(rt; state_of(rt, arena), before);
 }
 
 // Fills an arena that has places.

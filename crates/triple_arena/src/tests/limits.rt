@@ -71,7 +71,10 @@ fn a_refused_limit_has_put_the_free_list_in_order(rt: HostRuntime) -> Result<(),
     assert_eq!(rt; (before.free[0], before.free[1], before.free[2]), (3, 1, 0));
     let expected = before.in_order();
     assert_eq!(rt; limit_to(&mut arena, 4), Err(MaxCapacityReductionError));
-    assert_eq!(rt; (expected.free[0], expected.free[1], expected.free[2]), (1, 3, 0));
+    assert_eq!(rt;
+        (expected.free[0], expected.free[1], expected.free[2]),
+        (1, 3, 0)
+    );
     assert_state(&rt, &arena, &expected);
     Ok(())
 }

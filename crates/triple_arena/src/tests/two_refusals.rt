@@ -36,7 +36,10 @@ fn refuses_reallocation<P: Ptr, S: NonZeroInxGenericStack<ArenaSlot<P, Token>>>(
         let before = state_of(rt, arena);
         assert_eq!(rt; (before.slots, before.free[0], before.free[1]), (3, 3, 1));
         let expected = before.in_order();
-        assert_eq!(rt; (expected.slots, expected.free[0], expected.free[1]), (2, 1, 0));
+        assert_eq!(rt;
+            (expected.slots, expected.free[0], expected.free[1]),
+            (2, 1, 0)
+        );
         let refused = arena.reallocate_min_capacity(*asked);
         assert_eq!(rt; refused, Err(*refusal), "at {asked}");
         assert_state(rt, arena, &expected);

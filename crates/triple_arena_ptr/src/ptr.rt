@@ -21,9 +21,10 @@ use triple_arena_base::Recast;
 /// A type of one's own is written as below, where `B` has a byte index and a byte generation. Its
 /// fields are plain numbers that are never 0, and the index stands first, so that the derived order
 /// goes by it. Its model is the pair of the numbers before them: each such pair is a pointer. Other
-/// widths change the field types, the `NonZero` types and the `u8_` of the lemmas (`_from_raw`
-/// names those of both, where they differ). A type without a generation has the field
-/// `_internal_gen: ()`, `type Gen = ()` and the index alone as its model.
+/// widths change the field types, the `NonZero` types and the functions that make them, the `u8_`
+/// of the lemmas (`_from_raw` names those of both, where they differ), and in `is_default` the
+/// greatest index, `2 ^ 8 - 1`. A type without a generation has the field `_internal_gen: ()`,
+/// `type Gen = ()`, the index alone as its model, and 1 as the second of its numbers.
 ///
 /// ```text
 /// ghost use Rattle.std.specs.Prelude.{◌≡◌, ◌^◌, ◌-◌, Some, true, suc, codes};
@@ -37,7 +38,7 @@ use triple_arena_base::Recast;
 /// use std::marker::Model;
 /// use std::num::NonZeroU8;
 /// use triple_arena_base::{Recast, Recaster};
-/// use triple_arena_ptr::{Ptr, PtrGen, PtrInx, fmt_pointer};
+/// use triple_arena_ptr::{Ptr, PtrGen, PtrInx, fmt_pointer, non_zero_u8};
 ///
 /// /// A byte index and a byte generation.
 /// #[derive(Hash, Clone, Copy, PartialEq, Eq, PartialOrd, Ord)]
@@ -87,12 +88,12 @@ use triple_arena_base::Recast;
 ///
 ///     #[tactic(auto, using(triple_arena_ptr::specs::NonZeroNumbers::u8_is_after))]
 ///     fn inx(self) -> NonZeroU8 {
-///         NonZeroU8::new(self._internal_inx).unwrap()
+///         non_zero_u8(self._internal_inx)
 ///     }
 ///
 ///     #[tactic(auto, using(triple_arena_ptr::specs::NonZeroNumbers::u8_is_after))]
 ///     fn generation(self) -> NonZeroU8 {
-///         NonZeroU8::new(self._internal_gen).unwrap()
+///         non_zero_u8(self._internal_gen)
 ///     }
 ///
 ///     #[tactic(auto, using(triple_arena_ptr::specs::NonZeroNumbers::u8_after_before))]
@@ -115,6 +116,10 @@ use triple_arena_base::Recast;
 ///     ghost holds_itself = { λ _. refl };
 ///
 ///     ghost refills = { λ _ _. refl };
+///
+///     ghost clones = { λ _ _ e. e };
+///
+///     ghost clones_always = { λ _. tt };
 /// }
 ///
 /// impl Default for B {
@@ -190,6 +195,9 @@ pub trait Ptr: Debug
         ensures { result.now ≡ type_name };
 
     /// The pointer of the greatest index of the type and the generation 1.
+    ///
+    /// No arena gives it where generations count. Where they don't and the index type is small, it
+    /// can be the pointer of an entry: an arena of `P5` gives it to the entry at its index 255.
     fn invalid() -> Self
         ensures { numbers result ≡ (Self.Inx.greatest, 1) };
 
@@ -227,4 +235,10 @@ pub trait Ptr: Debug
 
     /// A pointer is replaced as a whole.
     ghost refills: { (p q : Self) → Self.refill p (q ∷ []) ≡ q };
+
+    /// A clone is the pointer itself.
+    ghost clones: { (p q : Self) → Self.is_clone p q → q ≡ p };
+
+    /// A clone takes no memory.
+    ghost clones_always: { (p : Self) → Self.is_infallible p };
 }

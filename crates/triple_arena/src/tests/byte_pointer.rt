@@ -88,6 +88,10 @@ impl Ptr for B {
     ghost holds_itself = { λ _. refl };
 
     ghost refills = { λ _ _. refl };
+
+    ghost clones = { λ _ _ e. e };
+
+    ghost clones_always = { λ _. tt };
 }
 
 impl Default for B {

@@ -1,8 +1,6 @@
-//! An item that is dropped and not copied, and what a stack of such items shows.
+//! An item that is dropped and not copied, and what a stack shows.
 
-use crate::NonZeroInxGenericStack;
-use std::num::NonZeroUsize;
-use std::test::Fail;
+use triple_arena_stack::NonZeroInxGenericStack;
 
 /// An item with a number.
 #[derive(Debug, Default, Drop, PartialEq)]
@@ -17,15 +15,19 @@ pub fn bounds_of<T, S: NonZeroInxGenericStack<T>>(stack: &S) -> (usize, usize, O
 
 /// Whether the items of `stack` have just these numbers.
 pub fn has<S: NonZeroInxGenericStack<Token>>(stack: &S, numbers: &[u64]) -> bool {
-    stack.len() == numbers.len()
-        && stack
-            .as_slice()
+    let tokens = stack.as_slice();
+    tokens.len() == numbers.len()
+        && tokens
             .iter()
             .zip(numbers)
             .all(|(token, number)| token.number == *number)
 }
 
-/// The index of this number.
-pub fn inx(number: usize) -> Result<NonZeroUsize, Fail> {
-    Ok(NonZeroUsize::new(number).ok_or("an index is counted from 1")?)
+/// Whether each item of `stack` has the number of its index.
+pub fn is_numbered<S: NonZeroInxGenericStack<Token>>(stack: &S) -> bool {
+    stack
+        .as_slice()
+        .iter()
+        .zip(1..u64::MAX)
+        .all(|(token, number)| token.number == number)
 }

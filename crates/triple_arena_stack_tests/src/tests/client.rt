@@ -6,13 +6,13 @@ ghost use Rattle.triple_arena_stack.specs.Capacity.{capacity_of, room_for_one_mo
 ghost use Rattle.triple_arena_stack.specs.StackKind.{IsOfKind, new_room, new_limit, made_room, made_limit, reallocated_room};
 ghost use Rattle.triple_arena_stack.specs.Disjoint.{DisjointAnswer, set_both};
 
-use crate::NonZeroInxGenericStack;
 use std::alloc::Global;
 use std::mem;
 use std::num::NonZeroUsize;
 use triple_arena_base::{
     AllocError, GetDisjointMutError, NotWithinCapacityError, ReallocationError,
 };
+use triple_arena_stack::NonZeroInxGenericStack;
 
 /// A slot as an arena has it: free, with the next free slot, or holding a value.
 #[derive(Drop)]
@@ -28,7 +28,7 @@ impl<T> Default for Slot<T> {
 }
 
 impl<T> Slot<T> {
-    ghost use Rattle.triple_arena_stack.specs.contracts.tests.client.Slot.{the_row};
+    ghost use Rattle.triple_arena_stack_tests.specs.contracts.tests.client.Slot.{the_row};
 
     /// The value, for writing.
     fn value_mut(&mut self) -> Option<&mut T>
@@ -222,7 +222,7 @@ pub struct Holding<S> {
 }
 
 impl<S> Holding<S> {
-    ghost use Rattle.triple_arena_stack.specs.contracts.tests.client.Holding.{the_row};
+    ghost use Rattle.triple_arena_stack_tests.specs.contracts.tests.client.Holding.{the_row};
 
     /// The value in the slot at `inx`, for writing.
     pub fn value_mut<T>(&mut self, inx: NonZeroUsize) -> Option<&mut T>

@@ -1,6 +1,6 @@
 use Rattle.std.proofs.Common.{refl, ap}
-use Rattle.triple_arena_stack.proofs.ClientLemmas.{set_same, on_some}
-use Rattle.triple_arena_stack.proofs.tests.client.Holding.value_mut.Goals as goal
+use Rattle.triple_arena_stack_tests.proofs.ClientLemmas.{set_same, on_some}
+use Rattle.triple_arena_stack_tests.proofs.tests.client.Holding.value_mut.Goals as goal
 
 pub returns-in-Some : goal.returns-in-Some
 returns-in-Some g c =

@@ -1,5 +1,5 @@
 use Rattle.std.proofs.Common.{ap, ◌∙◌}
-use Rattle.triple_arena_stack.proofs.tests.client.overwrite.Goals as goal
+use Rattle.triple_arena_stack_tests.proofs.tests.client.overwrite.Goals as goal
 
 pub returns-in-Some-clause-items : goal.returns-in-Some-clause-items
 returns-in-Some-clause-items g c on =

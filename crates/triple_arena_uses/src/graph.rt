@@ -1,0 +1,121 @@
+//! A directed graph: nodes in an arena, each with the pointers of its neighbours.
+//!
+//! No function has a clause. Each is proved all the same to return, whatever pointers it is given,
+//! without a panic or an access out of bounds.
+
+use std::alloc::{AllocError, Global};
+use std::collections::HashSet;
+use triple_arena::{Arena, ArenaInsertTrait, ArenaTrait};
+use triple_arena_base::ReallocationError;
+use triple_arena_ptr::P0;
+
+/// A node: its label, and the nodes that its edges lead to.
+#[derive(Drop)]
+pub struct Node {
+    pub label: u64,
+    pub neighbours: Vec<P0>,
+}
+
+/// A directed graph. An edge to a node that was removed leads nowhere.
+#[derive(Drop)]
+pub struct Graph {
+    nodes: Arena<P0, Node>,
+    alloc: Global,
+}
+
+impl Graph {
+    /// A graph without nodes.
+    pub fn new(alloc: Global) -> Self {
+        Graph {
+            nodes: Arena::new(alloc),
+            alloc,
+        }
+    }
+
+    /// A new node, without edges.
+    pub fn add(&mut self, label: u64) -> Result<P0, ReallocationError> {
+        self.nodes.insert(Node {
+            label,
+            neighbours: Vec::new(self.alloc),
+        })
+    }
+
+    /// A new edge. False, and no edge, where `from` isn't a node.
+    pub fn connect(&mut self, from: P0, to: P0) -> Result<bool, AllocError> {
+        let Some(node) = self.nodes.get_mut(from) else {
+            return Ok(false);
+        };
+        node.neighbours.push(to)?;
+        Ok(true)
+    }
+
+    /// Takes a node away, with the edges from it.
+    pub fn remove(&mut self, p: P0) -> Option<Node> {
+        self.nodes.remove(p).allow()
+    }
+
+    /// The labels of the nodes that edges lead to from `p`.
+    pub fn neighbour_labels(&self, p: P0) -> Result<Vec<u64>, AllocError> {
+        let mut labels = Vec::new(self.alloc);
+        if let Some(node) = self.nodes.get(p) {
+            for q in &node.neighbours {
+                if let Some(neighbour) = self.nodes.get(*q) {
+                    labels.push(neighbour.label)?;
+                }
+            }
+        }
+        Ok(labels)
+    }
+
+    /// The nodes that paths lead to from `start`, each once: itself, and then the nearer first.
+    pub fn reachable(&self, start: P0) -> Result<Vec<P0>, AllocError> {
+        let mut seen = HashSet::new(self.alloc);
+        let mut found = Vec::new(self.alloc);
+        if self.nodes.contains(start) {
+            seen.insert(start)?;
+            found.push(start)?;
+        }
+        // No more nodes are found than there are.
+        for place in 0..self.nodes.len() {
+            let Some(node) = found.get(place).and_then(|p| self.nodes.get(*p)) else {
+                break;
+            };
+            for q in &node.neighbours {
+                if self.nodes.contains(*q) && seen.insert(*q)? {
+                    found.push(*q)?;
+                }
+            }
+        }
+        Ok(found)
+    }
+}
+
+#[cfg(test)]
+mod tests {
+    use super::Graph;
+    use std::process::Abort;
+    use std::test::Fail;
+    use triple_arena_ptr::Ptr;
+
+    #[test]
+    fn paths_end_at_a_removed_node(rt: HostRuntime) -> Result<(), Fail> {
+        let mut graph = Graph::new(rt.alloc());
+        let a = graph.add(1)?;
+        let b = graph.add(2)?;
+        let c = graph.add(3)?;
+        let d = graph.add(4)?;
+        for (from, to) in [(a, b), (b, c), (c, a), (c, d), (d, d)] {
+            assert!(rt; graph.connect(from, to)?);
+        }
+        assert_eq!(rt; graph.reachable(b)?.as_slice(), [b, c, a, d].as_slice());
+        assert!(rt; graph.remove(c).is_some());
+        let e = graph.add(5)?;
+        assert_eq!(rt; e.inx(), c.inx(), "it stands where the removed node stood");
+        assert_eq!(rt; graph.reachable(a)?.as_slice(), [a, b].as_slice());
+        assert!(rt; graph.reachable(c)?.is_empty());
+        assert_eq!(rt; graph.neighbour_labels(a)?.as_slice(), [2].as_slice());
+        assert!(rt; graph.neighbour_labels(b)?.is_empty());
+        assert!(rt; !graph.connect(c, a)?);
+        Ok(())
+    }
+}

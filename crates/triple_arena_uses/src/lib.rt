@@ -1,0 +1,14 @@
+//! Users of the arena crates, a file each, to copy from.
+#![tactic(auto)]
+
+pub mod beside;
+pub mod counting_stack;
+pub mod graph;
+pub mod links;
+pub mod small_ptr;
+pub mod undo;
+
+pub use counting_stack::CountingStack;
+pub use graph::{Graph, Node};
+pub use links::Link;
+pub use small_ptr::SmallPtr;

@@ -1,6 +1,6 @@
 //! The run of the program: the session that was asked for, and the run of a text in it.
 
-ghost use Rattle.std.specs.Prelude.{◌≡◌, IsErr};
+ghost use Rattle.std.specs.Prelude.{◌≡◌, IsErr, IsNone};
 ghost use Rattle.std.specs.Io.Buffered.{writer_contents};
 ghost use Rattle.triple_arena_run.specs.KindRun.{RunsKind};
 ghost use Rattle.triple_arena_run.specs.Program.{asked_kind};
@@ -48,6 +48,7 @@ pub fn run_program<R: Read, W: Write + Drop>(
     ensures run { RunsProgram W.contents (asked_kind args) (R.remaining input.old)
         result.0 output result.1 }
     ensures unread { IsErr (asked_kind args) → input.new ≡ input.old }
+    ensures unbegun { IsNone result.1 → input.new ≡ input.old }
 {
     match asked_kind(&args) {
         Ok(kind) => match BufWriter::with_capacity(alloc, OUTPUT_BUFFER, output) {

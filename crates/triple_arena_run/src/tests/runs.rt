@@ -181,23 +181,21 @@ fn runs_to(
     (outcome, output.lines_ended())
 }
 
-/// Each write fails in turn. The command whose reply was being written has run, and no later one.
+/// Each write of two bytes fails in turn. The command whose reply was being written has run, and no
+/// later one.
 #[test]
 fn runs_no_further_where_a_write_fails(rt: HostRuntime) {
     let text = b"insert 1 -\ninsert 2 -\ninsert 3 -\n".as_slice();
     let lines = b"given 1\ngiven 2\ngiven 3\n".as_slice();
-    let mut failed = 0;
-    let mut ended = 0;
     for writes_before in 0..40 {
         let mut session: Session<P0, u64> = Session::new(rt.alloc());
         let mut output = ShortWriter::of_pieces(2, writes_before);
         let (outcome, answered) = runs_to(rt.alloc(), &mut session, text, &mut output);
         assert!(rt; output.is_front_of(lines));
-        if outcome == Ok(()) {
-            ended += 1;
+        if writes_before >= 12 {
+            assert!(rt; outcome == Ok(()));
             assert_eq!(rt; answered, 3);
         } else {
-            failed += 1;
             assert!(rt; outcome == Err(TextError::Write));
             assert_eq!(rt; output.len, writes_before * 2);
             assert!(rt; answered < 3);
@@ -205,7 +203,6 @@ fn runs_no_further_where_a_write_fails(rt: HostRuntime) {
             assert!(rt; replies(&mut session, Command::Get(answered + 2), Reply::Nothing));
         }
     }
-    assert_eq!(rt; (failed, ended), (12, 28));
 }
 
 // The text run over a buffer above a writer, and how many lines and bytes that then holds.

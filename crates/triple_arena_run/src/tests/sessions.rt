@@ -134,7 +134,7 @@ fn a_refused_insertion_changes_nothing(rt: HostRuntime) {
     let mut session: Session<P0, u64> = Session::new(rt.alloc());
     let mut rows: [Row; 16] = [None; 16];
     let mut given = 0;
-    let mut refused = 0;
+    let mut refused = false;
     for datum in 0..12 {
         let link = if given == 0 { None } else { Some(given) };
         match inserts(&rt, &mut session, datum, link) {
@@ -143,7 +143,10 @@ fn a_refused_insertion_changes_nothing(rt: HostRuntime) {
                 given = name;
                 rows[name] = Some((datum, link));
             }
-            None => refused += 1,
+            None => {
+                assert!(rt; !refused);
+                refused = true;
+            }
         }
         if datum % 3 == 2 && given < 16 {
             if let Some((removed, link)) = rows[given] {
@@ -154,7 +157,7 @@ fn a_refused_insertion_changes_nothing(rt: HostRuntime) {
         }
         holds(&rt, &mut session, &rows);
     }
-    assert!(rt; refused < 2 && given + refused == 12);
+    assert_eq!(rt; given, if refused { 11 } else { 12 });
 }
 
 type Slot = ArenaSlot<P0, Node<u64, P0>>;

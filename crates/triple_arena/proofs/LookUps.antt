@@ -1,15 +1,10 @@
 -- What look-ups find after a change at one index.
 use Rattle.std.proofs.Common.{◌≡◌, ◌≢◌, ℕ, List, Option, Some, None, IsSome, Result, Ok, Err, IfOk, OnOk, cond, refl, sym, ap, subst, ◌∙◌}
 use Rattle.std.specs.Option.{option_and_then, option_map}
-use Rattle.triple_arena.specs.Pointers.{Pointer}
+use Rattle.triple_arena_ptr.specs.Pointers.{Pointer}
 use Rattle.triple_arena.specs.Entries.{entry_in, value_under, look_up_in, ChangesAt, KeepsEntries}
 use Rattle.triple_arena.specs.NumberedLaws.{eq_true}
 use Rattle.triple_arena.proofs.WellFormed.{entry_of_value}
-
--- what follows from two clauses of a success
-pub on_success : {A E : Type 0} (P Q : A → Type 0) (B : Type 0) → ((x : A) → P x → B → Q x) → (r : Result A E) → IfOk r P → OnOk r B → IfOk r Q
-on_success P Q B f (Ok x) p b = f x p b
-on_success P Q B f (Err e) p b = p
 
 module _ {T : Type 0} (old new : List (Option (ℕ × T))) where
   -- pointers of other indexes find what they found
@@ -37,3 +32,14 @@ module _ {T : Type 0} (old new : List (Option (ℕ × T))) where
       ap (option_and_then (value_under generation)) (change.there ∙ ap (option_map (λ (e : ℕ × T). (generation, e.1))) found.1)
       ∙ ap (λ b. cond b (Some found.0) None) (eq_true generation generation refl)
       ∙ sym found.2
+
+-- the same of a call that inserts a value where it succeeds, and gives the pointer
+module _ {A X E T : Type 0} (slots : A → List (Option (ℕ × T))) (numbers : X → Pointer) (next : Pointer) (v : T) (old now new : A) (change : ChangesAt (slots old) next.0 (Some (next.1, v)) (slots new)) where
+  pub found_on_success : (r : Result X E) → IfOk r (λ p. numbers p ≡ next) → OnOk r (now ≡ new) → IfOk r (λ p. look_up_in (slots now) (numbers p) ≡ Some v)
+  found_on_success (Ok p) pointer is = rw is (new_found (slots old) (slots new) (numbers p) next v pointer change)
+  found_on_success (Err e) pointer is = pointer
+
+  pub others_on_success : (r : Result X E) → IfOk r (λ p. numbers p ≡ next) → OnOk r (now ≡ new) → IfOk r (λ p. (q : Pointer) → q.0 ≢ (numbers p).0 → look_up_in (slots now) q ≡ look_up_in (slots old) q)
+  others_on_success (Ok p) pointer is =
+      λ q away. rw is (others_found (slots old) (slots new) next.0 (Some (next.1, v)) change q (λ here. away (here ∙ sym (ap (λ (n : Pointer). n.0) pointer))))
+  others_on_success (Err e) pointer is = pointer

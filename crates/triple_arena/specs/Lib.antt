@@ -1,6 +1,5 @@
 pub mod Numbered
 pub mod NumberedLaws
-pub mod Pointers
 pub mod Entries
 pub mod ArenaState
 pub mod Insertion

@@ -2,7 +2,7 @@
 
 ghost use Rattle.std.specs.Prelude.{◌≡◌, ◌≢◌, ℕ, ◌+◌, ◌≤◌, ◌<◌, ◌↔◌, IsOk, IfOk, OnOk, OnErr, None, Some, Err};
 ghost use Rattle.triple_arena_ptr.specs.Numbers.{greatest_index};
-ghost use Rattle.triple_arena.specs.Pointers.{Pointer, numbers};
+ghost use Rattle.triple_arena_ptr.specs.Pointers.{Pointer};
 ghost use Rattle.triple_arena.specs.Entries.{entry_in, look_up_in, entry_count, ChangesAt, KeepsEntries};
 ghost use Rattle.triple_arena.specs.Capacity.{IsFullAtLimit};
 
@@ -25,17 +25,15 @@ pub trait ArenaInsertTrait<P: Ptr, T>: ArenaTrait<P, T> {
     /// growth, which `len` and `capacity` tell. No entry stands at its index.
     fn next_ptr(&self) -> P
         requires { entry_count (Self.slots self.now) < Self.fitting self.now }
-        ensures pointer { numbers P.Inx.number P.Gen.number P.index_of P.generation_of result
-            ≡ next self.now }
-        ensures free { entry_in (Self.slots self.now) (P.Inx.number (P.index_of result)) ≡ None };
+        ensures pointer { P.numbers result ≡ next self.now }
+        ensures free { entry_in (Self.slots self.now) (P.numbers result).0 ≡ None };
 
     /// Inserts `t` where no entry stood, and gives its pointer, on the condition that there is a
     /// place without growth, which `len` and `capacity` tell. It takes no memory.
     fn insert_reserved(&mut self, t: T) -> P
         requires { entry_count (Self.slots self.old) < Self.fitting self.old }
-        ensures pointer { numbers P.Inx.number P.Gen.number P.index_of P.generation_of result
-            ≡ next self.old }
-        ensures free { entry_in (Self.slots self.old) (P.Inx.number (P.index_of result)) ≡ None }
+        ensures pointer { P.numbers result ≡ next self.old }
+        ensures free { entry_in (Self.slots self.old) (P.numbers result).0 ≡ None }
         ensures inserted { self.new ≡ inserted self.old t }
         ensures valid { Self.valid self.old };
 
@@ -49,10 +47,8 @@ pub trait ArenaInsertTrait<P: Ptr, T>: ArenaTrait<P, T> {
     fn insert_reallocating(&mut self, t: T) -> Result<P, ReallocationError>
     where
         T: Drop,
-        ensures pointer { IfOk result
-            (λ p. numbers P.Inx.number P.Gen.number P.index_of P.generation_of p ≡ next self.old) }
-        ensures free { IfOk result
-            (λ p. entry_in (Self.slots self.old) (P.Inx.number (P.index_of p)) ≡ None) }
+        ensures pointer { IfOk result (λ p. P.numbers p ≡ next self.old) }
+        ensures free { IfOk result (λ p. entry_in (Self.slots self.old) (P.numbers p).0 ≡ None) }
         ensures inserted { OnOk result (self.new ≡ inserted (grown self.old) t) }
         ensures refused { OnErr result (self.new ≡ self.old) }
         ensures beyond { (result ≡ Err ReallocationError.BeyondMaxCapacity)
@@ -70,8 +66,8 @@ pub trait ArenaInsertTrait<P: Ptr, T>: ArenaTrait<P, T> {
     ghost generation_next: { (arena : Self) (generation : ℕ)
         → Self.next_generation arena ≡ Some generation → (next arena).1 ≡ generation };
 
-    // an insertion puts the value under the next pointer, so that there is one entry more, and leaves
-    // every other entry, limit and capacity
+    // an insertion puts the value under the next pointer, so that there is one entry more, and
+    // leaves every other entry, limit and capacity
     ghost slots_inserted: { (arena : Self) (value : T) → Self.valid arena
         → ChangesAt (Self.slots arena) (next arena).0 (Some ((next arena).1, value))
         (Self.slots (inserted arena value)) };
@@ -115,13 +111,10 @@ pub trait ArenaInsertTrait<P: Ptr, T>: ArenaTrait<P, T> {
         T: Drop,
         ensures variant { IsOk result
             ↔ (entry_count (Self.slots self.old) < Self.fitting self.old) }
-        ensures pointer { IfOk result
-            (λ p. numbers P.Inx.number P.Gen.number P.index_of P.generation_of p ≡ next self.old) }
-        ensures free { IfOk result
-            (λ p. entry_in (Self.slots self.old) (P.Inx.number (P.index_of p)) ≡ None) }
-        ensures found { IfOk result (λ p. look_up_in (Self.slots self.new)
-            (numbers P.Inx.number P.Gen.number P.index_of P.generation_of p) ≡ Some t) }
-        ensures others { IfOk result (λ p. (q : Pointer) → q.0 ≢ P.Inx.number (P.index_of p)
+        ensures pointer { IfOk result (λ p. P.numbers p ≡ next self.old) }
+        ensures free { IfOk result (λ p. entry_in (Self.slots self.old) (P.numbers p).0 ≡ None) }
+        ensures found { IfOk result (λ p. look_up_in (Self.slots self.new) (P.numbers p) ≡ Some t) }
+        ensures others { IfOk result (λ p. (q : Pointer) → q.0 ≢ (P.numbers p).0
             → look_up_in (Self.slots self.new) q ≡ look_up_in (Self.slots self.old) q) }
         ensures inserted { OnOk result (self.new ≡ inserted self.old t) }
         ensures refused { OnErr result (self.new ≡ self.old) }
@@ -139,13 +132,10 @@ pub trait ArenaInsertTrait<P: Ptr, T>: ArenaTrait<P, T> {
     final fn insert(&mut self, t: T) -> Result<P, ReallocationError>
     where
         T: Drop,
-        ensures pointer { IfOk result
-            (λ p. numbers P.Inx.number P.Gen.number P.index_of P.generation_of p ≡ next self.old) }
-        ensures free { IfOk result
-            (λ p. entry_in (Self.slots self.old) (P.Inx.number (P.index_of p)) ≡ None) }
-        ensures found { IfOk result (λ p. look_up_in (Self.slots self.new)
-            (numbers P.Inx.number P.Gen.number P.index_of P.generation_of p) ≡ Some t) }
-        ensures others { IfOk result (λ p. (q : Pointer) → q.0 ≢ P.Inx.number (P.index_of p)
+        ensures pointer { IfOk result (λ p. P.numbers p ≡ next self.old) }
+        ensures free { IfOk result (λ p. entry_in (Self.slots self.old) (P.numbers p).0 ≡ None) }
+        ensures found { IfOk result (λ p. look_up_in (Self.slots self.new) (P.numbers p) ≡ Some t) }
+        ensures others { IfOk result (λ p. (q : Pointer) → q.0 ≢ (P.numbers p).0
             → look_up_in (Self.slots self.new) q ≡ look_up_in (Self.slots self.old) q) }
         ensures inserted { OnOk result (self.new ≡ inserted (grown self.old) t) }
         ensures refused { OnErr result (self.new ≡ self.old) }

@@ -4,9 +4,9 @@ ghost use Rattle.std.specs.Prelude.{◌≡◌, ◌≢◌, ℕ, ◌+◌, ◌≤�
 ghost use Rattle.std.specs.Borrow.{sem, LendsIf};
 ghost use Rattle.std.specs.Option.{option_map, option_copied_mut};
 ghost use Rattle.triple_arena_ptr.specs.Numbers.{greatest_index};
+ghost use Rattle.triple_arena_ptr.specs.Pointers.{Pointer};
 ghost use Rattle.triple_arena_stack.specs.StackKind.{StackKind, new_room, new_limit, made_room, made_limit, CanHold, TakesNoMemory};
 ghost use Rattle.triple_arena_stack.specs.Capacity.{capacity_of, IsWithin, IsBeyond};
-ghost use Rattle.triple_arena.specs.Pointers.{Pointer, numbers};
 ghost use Rattle.triple_arena.specs.Entries.{entry_in, look_up_in, entry_count, with_value_in, ChangesAt, KeepsEntries, IsFirst, IsLast};
 ghost use Rattle.triple_arena.specs.Ending.{told, told_of, map_told};
 
@@ -132,17 +132,13 @@ pub trait ArenaTrait<P: Ptr, T>: Sized {
 
     /// The value under `p`; none exactly where `p` is invalid.
     fn get(&self, p: P) -> Option<&T>
-        ensures { option_copied result
-            ≡ look_up_in (slots self.now)
-            (numbers P.Inx.number P.Gen.number P.index_of P.generation_of p) };
+        ensures { option_copied result ≡ look_up_in (slots self.now) (P.numbers p) };
 
     /// The value under `p`, for writing; none exactly where `p` is invalid.
     fn get_mut(&mut self, p: P) -> Option<&mut T>
-        ensures value { option_copied_mut result
-            ≡ look_up_in (slots self.old)
-            (numbers P.Inx.number P.Gen.number P.index_of P.generation_of p) }
+        ensures value { option_copied_mut result ≡ look_up_in (slots self.old) (P.numbers p) }
         ensures* writes_back { sem 𝓛 (LendsIf Self.row T.row self.entry result
-            (with_value self.old (P.Inx.number (P.index_of p))) self.old) };
+            (with_value self.old (P.numbers p).0) self.old) };
 
     /// The generation and the value of the entry at `inx`; none exactly where there is no entry.
     fn get_inx(&self, inx: P::Inx) -> Option<(P::Gen, &T)>
@@ -164,57 +160,43 @@ pub trait ArenaTrait<P: Ptr, T>: Sized {
     /// The pointer of the entry of least index; none exactly where there is no entry.
     fn find_first_inx_ptr(&self) -> Option<P>
         ensures { MatchOption result (entry_count (slots self.now) ≡ 0)
-            (λ p. IsFirst (slots self.now)
-            (numbers P.Inx.number P.Gen.number P.index_of P.generation_of p)) };
+            (λ p. IsFirst (slots self.now) (P.numbers p)) };
 
     /// The pointer of the entry of greatest index; none exactly where there is no entry.
     fn find_last_inx_ptr(&self) -> Option<P>
         ensures { MatchOption result (entry_count (slots self.now) ≡ 0)
-            (λ p. IsLast (slots self.now)
-            (numbers P.Inx.number P.Gen.number P.index_of P.generation_of p)) };
+            (λ p. IsLast (slots self.now) (P.numbers p)) };
 
     /// Gives the entry under `p` a new pointer, where the arena counts generations; `p` is invalid
     /// from then on, unless the new generation is its own, as it may be once the counter wrapped.
     ///
     /// `InvalidPtr` exactly where `p` is invalid; then nothing changes.
     fn invalidate(&mut self, p: P) -> InvalidationResult<P>
-        ensures answer { map_told
-            (numbers P.Inx.number P.Gen.number P.index_of P.generation_of) result
-            ≡ told_of (ending_wraps self.old) (option_map
-            (λ _. (P.Inx.number (P.index_of p), renewed self.old (P.Inx.number (P.index_of p))))
-            (look_up_in (slots self.old)
-            (numbers P.Inx.number P.Gen.number P.index_of P.generation_of p))) }
-        ensures done { IsSome (look_up_in (slots self.old)
-            (numbers P.Inx.number P.Gen.number P.index_of P.generation_of p))
-            → invalidates self.old (P.Inx.number (P.index_of p)) self.new }
-        ensures found { IsSome (look_up_in (slots self.old)
-            (numbers P.Inx.number P.Gen.number P.index_of P.generation_of p))
-            → look_up_in (slots self.new)
-            (P.Inx.number (P.index_of p), renewed self.old (P.Inx.number (P.index_of p)))
-            ≡ look_up_in (slots self.old)
-            (numbers P.Inx.number P.Gen.number P.index_of P.generation_of p) }
-        ensures others { (q : Pointer) → q.0 ≢ P.Inx.number (P.index_of p)
+        ensures answer { map_told P.numbers result ≡ told_of (ending_wraps self.old) (option_map
+            (λ _. ((P.numbers p).0, renewed self.old (P.numbers p).0))
+            (look_up_in (slots self.old) (P.numbers p))) }
+        ensures done { IsSome (look_up_in (slots self.old) (P.numbers p))
+            → invalidates self.old (P.numbers p).0 self.new }
+        ensures found { IsSome (look_up_in (slots self.old) (P.numbers p))
+            → look_up_in (slots self.new) ((P.numbers p).0, renewed self.old (P.numbers p).0)
+            ≡ look_up_in (slots self.old) (P.numbers p) }
+        ensures others { (q : Pointer) → q.0 ≢ (P.numbers p).0
             → look_up_in (slots self.new) q ≡ look_up_in (slots self.old) q }
-        ensures unchanged { look_up_in (slots self.old)
-            (numbers P.Inx.number P.Gen.number P.index_of P.generation_of p) ≡ None
+        ensures unchanged { look_up_in (slots self.old) (P.numbers p) ≡ None
             → self.new ≡ self.old };
 
     /// Takes out the entry under `p`, and gives its value.
     ///
     /// `InvalidPtr` exactly where `p` is invalid; then nothing changes.
     fn remove(&mut self, p: P) -> InvalidationResult<T>
-        ensures answer { result ≡ told_of (ending_wraps self.old) (look_up_in (slots self.old)
-            (numbers P.Inx.number P.Gen.number P.index_of P.generation_of p)) }
-        ensures done { IsSome (look_up_in (slots self.old)
-            (numbers P.Inx.number P.Gen.number P.index_of P.generation_of p))
-            → removes self.old (P.Inx.number (P.index_of p)) self.new }
-        ensures gone { look_up_in (slots self.new)
-            (numbers P.Inx.number P.Gen.number P.index_of P.generation_of p) ≡ None }
-        ensures others { (q : Pointer)
-            → q ≢ numbers P.Inx.number P.Gen.number P.index_of P.generation_of p
+        ensures answer { result
+            ≡ told_of (ending_wraps self.old) (look_up_in (slots self.old) (P.numbers p)) }
+        ensures done { IsSome (look_up_in (slots self.old) (P.numbers p))
+            → removes self.old (P.numbers p).0 self.new }
+        ensures gone { look_up_in (slots self.new) (P.numbers p) ≡ None }
+        ensures others { (q : Pointer) → q ≢ P.numbers p
             → look_up_in (slots self.new) q ≡ look_up_in (slots self.old) q }
-        ensures unchanged { look_up_in (slots self.old)
-            (numbers P.Inx.number P.Gen.number P.index_of P.generation_of p) ≡ None
+        ensures unchanged { look_up_in (slots self.old) (P.numbers p) ≡ None
             → self.new ≡ self.old };
 
     /// Takes out the entry at `inx`, and gives its generation and its value.
@@ -260,8 +242,8 @@ pub trait ArenaTrait<P: Ptr, T>: Sized {
     ghost fitting_with_value: { (arena : Self) (i : ℕ) (value : T)
         → fitting (with_value arena i value) ≡ fitting arena };
 
-    // a removal takes away the entry at its index alone, so that there is one less, and leaves limit
-    // and capacity
+    // a removal takes away the entry at its index alone, so that there is one less, and leaves
+    // limit and capacity
     ghost slots_removed: { (old : Self) (i : ℕ) (new : Self) → removes old i new
         → ChangesAt (slots old) i None (slots new) };
 
@@ -331,8 +313,7 @@ pub trait ArenaTrait<P: Ptr, T>: Sized {
 
     /// Whether `p` is valid.
     final fn contains(&self, p: P) -> bool
-        ensures { result ≡ is_some (look_up_in (slots self.now)
-            (numbers P.Inx.number P.Gen.number P.index_of P.generation_of p)) }
+        ensures { result ≡ is_some (look_up_in (slots self.now) (P.numbers p)) }
     {
         self.get(p).is_some()
     }

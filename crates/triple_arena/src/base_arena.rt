@@ -7,7 +7,6 @@ ghost use Rattle.triple_arena_ptr.specs.Numbers.{greatest_index, raise, wraps, f
 ghost use Rattle.triple_arena_stack.specs.Capacity.{capacity_of, IsWithin, IsBeyond, IsAtLimit};
 ghost use Rattle.triple_arena_stack.specs.StackKind.{IsOfKind};
 ghost use Rattle.triple_arena_stack.specs.Disjoint.{DisjointAnswer};
-ghost use Rattle.triple_arena.specs.Pointers.{numbers};
 ghost use Rattle.triple_arena.specs.ArenaState.{ArenaState, new_arena, slot_count, capacity, arena_len, entry, look_up, with_value, IsWellFormed};
 ghost use Rattle.triple_arena.specs.Insertion.{next_pointer, inserted};
 ghost use Rattle.triple_arena.specs.Ending.{removed, invalidated, cleared, told};
@@ -496,10 +495,8 @@ impl<P: Ptr, T, S: NonZeroInxGenericStack<ArenaSlot<P, T>>> Arena<P, T, S> {
 
     // The index of a pointer, if the pointer is valid.
     fn find(&self, p: P) -> Option<NonZeroUsize>
-        ensures index { IfSome result
-            (λ inx. non_zero_usize_get inx ≡ P.Inx.number (P.index_of p)) }
-        ensures live { is_some result ≡ is_some (look_up self.now
-            (numbers P.Inx.number P.Gen.number P.index_of P.generation_of p)) }
+        ensures index { IfSome result (λ inx. non_zero_usize_get inx ≡ (P.numbers p).0) }
+        ensures live { is_some result ≡ is_some (look_up self.now (P.numbers p)) }
     {
         match self.slot(p.inx()) {
             Some(slot) if slot.value_under(p.generation()).is_some() => {
@@ -524,8 +521,7 @@ impl<P: Ptr, T, S: NonZeroInxGenericStack<ArenaSlot<P, T>>> Arena<P, T, S> {
     fn ptr_at(&self, inx: NonZeroUsize) -> P
         requires { IsSome (entry self.now (non_zero_usize_get inx)) }
         ensures { (h : ℕ) × (v : T) × (entry self.now (non_zero_usize_get inx) ≡ Some (h, v))
-            × (numbers P.Inx.number P.Gen.number P.index_of P.generation_of result
-            ≡ (non_zero_usize_get inx, h)) }
+            × (P.numbers result ≡ (non_zero_usize_get inx, h)) }
     {
         let (generation, _value) = self.slots.get(inx).unwrap().entry().unwrap();
         P::_from_raw(P::Inx::try_from_usize(inx).unwrap(), generation)

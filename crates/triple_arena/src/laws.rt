@@ -25,9 +25,9 @@ pub fn capacity_under_limit<T>()
         → capacity (with_limit s x) ≡ min (min s.room x) s.greatest }
 {}
 
-/// A new arena is well formed, and each step of a well-formed arena leaves it so: an insertion where
-/// there is a place, a removal where there is an entry, a limit that no entry stands past, and every
-/// other step.
+/// A new arena is well formed, and each step of a well-formed arena leaves it so: an insertion
+/// where there is a place, a removal where there is an entry, a limit that no entry stands past,
+/// and every other step.
 pub fn well_formed_stays<T>()
     ensures fresh { (room : ℕ) (limit : Option ℕ) (greatest counter : ℕ)
         → IsWellFormed {T = T} (new_arena room limit greatest counter) }

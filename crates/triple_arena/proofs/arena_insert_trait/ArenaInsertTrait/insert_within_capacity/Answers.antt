@@ -1,5 +1,5 @@
 use Rattle.std.proofs.Common.{◌∙◌, sym, ap}
-use Rattle.triple_arena.specs.Pointers.{Pointer}
+use Rattle.triple_arena_ptr.specs.Pointers.{Pointer}
 use Rattle.triple_arena.proofs.LookUps.{others_found}
 use Rattle.triple_arena.proofs.arena_insert_trait.ArenaInsertTrait.insert_within_capacity.Goals as goal
 

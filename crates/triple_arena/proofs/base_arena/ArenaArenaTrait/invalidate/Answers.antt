@@ -1,7 +1,6 @@
 use Rattle.std.proofs.Common.{◌∙◌, IsSome, ap, sym, refl}
 use Rattle.std.specs.Int.NonZero.{non_zero_usize_get}
 use Rattle.triple_arena_ptr.specs.Numbers.{raise}
-use Rattle.triple_arena.specs.Pointers.{numbers}
 use Rattle.triple_arena.specs.Entries.{with_generation_in}
 use Rattle.triple_arena.specs.ArenaState.{look_up}
 use Rattle.triple_arena.specs.EntryLaws.{slots-invalidated}
@@ -31,11 +30,11 @@ returns-clause-done g c live =
 
 pub returns-clause-found : goal.returns-clause-found
 returns-clause-found g c live =
-    let p = numbers g.P.Inx.PtrInx.number g.P.Gen.PtrGen.number g.P.Ptr.index_of g.P.Ptr.generation_of c.args.p in
+    let p = g.P.Ptr.numbers c.args.p in
     renewed_found c.args.self.now.slots _ p (raise g.P.Gen.PtrGen.counting g.P.Gen.PtrGen.greatest c.args.self.now.counter) live (slots-invalidated (raise g.P.Gen.PtrGen.counting g.P.Gen.PtrGen.greatest) c.args.self.now p.0 _ (returns-clause-done g c live))
 
 pub returns-clause-others : goal.returns-clause-others
 returns-clause-others g c q away =
-    let p = numbers g.P.Inx.PtrInx.number g.P.Gen.PtrGen.number g.P.Ptr.index_of g.P.Ptr.generation_of c.args.p in
+    let p = g.P.Ptr.numbers c.args.p in
     let live : IsSome (look_up c.args.self.now p) = sym (rw c.in-Some.is at c.find.ensures.live) in
     others_found c.args.self.now.slots _ p.0 _ (slots-invalidated (raise g.P.Gen.PtrGen.counting g.P.Gen.PtrGen.greatest) c.args.self.now p.0 _ (returns-clause-done g c live)) q away

@@ -5,7 +5,7 @@ ghost use Rattle.std.specs.Prelude.{◌≡◌, ◌^◌, ◌-◌, Some, true, suc
 ghost use Rattle.std.proofs.Common.{refl};
 ghost use Rattle.triple_arena_base.specs.Held.{held_itself, refill_itself};
 ghost use Rattle.triple_arena_base.specs.HeldLaws.{itself_held_refill, itself_refill_held, itself_refill_refill};
-ghost use Rattle.triple_arena_ptr.specs.NonZeroNumbers.{same_pair, u64_after, u64_after_cancels, u128_after, u128_after_cancels};
+ghost use Rattle.triple_arena_ptr.specs.NonZeroValues.{same_pair, u64_after, u64_after_cancels, u128_after, u128_after_cancels};
 ghost use Rattle.triple_arena_ptr.specs.PointerText.{pointer_text};
 
 use std::fmt;
@@ -24,7 +24,7 @@ pub struct Wide {
 
 impl Model for Wide {
     ghost use Rattle.std.specs.Prelude.{ℕ, suc, ◌-◌, ◌<◌};
-    ghost use Rattle.triple_arena_ptr.specs.NonZeroNumbers.{remade};
+    ghost use Rattle.triple_arena_ptr.specs.NonZeroValues.{remade};
 
     // The numbers before its two, neither of which is 0.
     ghost Value = { ℕ × ℕ };
@@ -58,17 +58,17 @@ impl Ptr for Wide {
         Wide::_from_raw(PtrInx::best_effort_invalid(), PtrGen::one())
     }
 
-    #[tactic(auto, using(triple_arena_ptr::specs::NonZeroNumbers::u128_is_after))]
+    #[tactic(auto, using(triple_arena_ptr::specs::NonZeroValues::u128_is_after))]
     fn inx(self) -> NonZeroU128 {
         NonZeroU128::new(self._internal_inx).unwrap()
     }
 
-    #[tactic(auto, using(triple_arena_ptr::specs::NonZeroNumbers::u64_is_after))]
+    #[tactic(auto, using(triple_arena_ptr::specs::NonZeroValues::u64_is_after))]
     fn generation(self) -> NonZeroU64 {
         NonZeroU64::new(self._internal_gen).unwrap()
     }
 
-    #[tactic(auto, using(triple_arena_ptr::specs::NonZeroNumbers::u128_after_before, triple_arena_ptr::specs::NonZeroNumbers::u64_after_before))]
+    #[tactic(auto, using(triple_arena_ptr::specs::NonZeroValues::u128_after_before, triple_arena_ptr::specs::NonZeroValues::u64_after_before))]
     fn _from_raw(inx: NonZeroU128, generation: NonZeroU64) -> Self {
         Wide {
             _internal_inx: inx.get(),

@@ -10,6 +10,9 @@ ghost use Rattle.triple_arena_ptr.specs.PointerText.{hex};
 ghost use Rattle.triple_arena_ptr.specs.NonZeroNumbers.{usize_distinct, u8_distinct, u16_distinct, u32_distinct, u64_distinct, u128_distinct};
 
 use crate::hex::fmt_hex_wide;
+use crate::non_zero::{
+    non_zero_u8, non_zero_u16, non_zero_u32, non_zero_u64, non_zero_u128, non_zero_usize,
+};
 use std::fmt;
 use std::fmt::Debug;
 use std::hash::Hash;
@@ -76,7 +79,7 @@ impl PtrInx for NonZeroUsize {
     }
 
     fn try_into_usize(this: Self) -> Option<NonZeroUsize> {
-        NonZeroUsize::new(this.get())
+        Some(this)
     }
 
     fn max_index() -> NonZeroUsize {
@@ -108,11 +111,11 @@ impl PtrInx for NonZeroU8 {
     ghost greatest = { 2 ^ 8 - 1 };
 
     fn try_from_usize(inx: NonZeroUsize) -> Option<Self> {
-        NonZeroU8::new(u8::try_from(inx.get()).ok()?)
+        Some(non_zero_u8(u8::try_from(inx.get()).ok()?))
     }
 
     fn try_into_usize(this: Self) -> Option<NonZeroUsize> {
-        NonZeroUsize::new(this.get() as usize)
+        Some(non_zero_usize(this.get() as usize))
     }
 
     fn max_index() -> NonZeroUsize {
@@ -144,11 +147,11 @@ impl PtrInx for NonZeroU16 {
     ghost greatest = { 2 ^ 16 - 1 };
 
     fn try_from_usize(inx: NonZeroUsize) -> Option<Self> {
-        NonZeroU16::new(u16::try_from(inx.get()).ok()?)
+        Some(non_zero_u16(u16::try_from(inx.get()).ok()?))
     }
 
     fn try_into_usize(this: Self) -> Option<NonZeroUsize> {
-        NonZeroUsize::new(this.get() as usize)
+        Some(non_zero_usize(this.get() as usize))
     }
 
     fn max_index() -> NonZeroUsize {
@@ -180,11 +183,11 @@ impl PtrInx for NonZeroU32 {
     ghost greatest = { 2 ^ 32 - 1 };
 
     fn try_from_usize(inx: NonZeroUsize) -> Option<Self> {
-        NonZeroU32::new(u32::try_from(inx.get()).ok()?)
+        Some(non_zero_u32(u32::try_from(inx.get()).ok()?))
     }
 
     fn try_into_usize(this: Self) -> Option<NonZeroUsize> {
-        NonZeroUsize::new(this.get() as usize)
+        Some(non_zero_usize(this.get() as usize))
     }
 
     fn max_index() -> NonZeroUsize {
@@ -216,11 +219,11 @@ impl PtrInx for NonZeroU64 {
     ghost greatest = { 2 ^ 64 - 1 };
 
     fn try_from_usize(inx: NonZeroUsize) -> Option<Self> {
-        NonZeroU64::new(inx.get() as u64)
+        Some(non_zero_u64(inx.get() as u64))
     }
 
     fn try_into_usize(this: Self) -> Option<NonZeroUsize> {
-        NonZeroUsize::new(this.get() as usize)
+        Some(non_zero_usize(this.get() as usize))
     }
 
     fn max_index() -> NonZeroUsize {
@@ -252,11 +255,11 @@ impl PtrInx for NonZeroU128 {
     ghost greatest = { 2 ^ 128 - 1 };
 
     fn try_from_usize(inx: NonZeroUsize) -> Option<Self> {
-        NonZeroU128::new(inx.get() as u128)
+        Some(non_zero_u128(inx.get() as u128))
     }
 
     fn try_into_usize(this: Self) -> Option<NonZeroUsize> {
-        NonZeroUsize::new(usize::try_from(this.get()).ok()?)
+        Some(non_zero_usize(usize::try_from(this.get()).ok()?))
     }
 
     fn max_index() -> NonZeroUsize {

@@ -9,6 +9,7 @@ ghost use Rattle.triple_arena_ptr.specs.PointerText.{pointer_text};
 
 use crate::generation::PtrGen;
 use crate::inx::PtrInx;
+use crate::non_zero::non_zero_u16;
 use crate::ptr::Ptr;
 use crate::text::fmt_pointer;
 use std::fmt;
@@ -50,6 +51,8 @@ impl Ptr for P3 {
 
     ghost generation_of = { λ p. u16_after p.1 };
 
+    ghost numbers = { λ p. (suc p.0, suc p.1) };
+
     ghost type_name = { codes "P3" };
 
     fn name() -> &'static str {
@@ -62,12 +65,12 @@ impl Ptr for P3 {
 
     #[tactic(auto, using(crate::specs::NonZeroNumbers::u16_is_after))]
     fn inx(self) -> NonZeroU16 {
-        NonZeroU16::new(self._internal_inx).unwrap()
+        non_zero_u16(self._internal_inx)
     }
 
     #[tactic(auto, using(crate::specs::NonZeroNumbers::u16_is_after))]
     fn generation(self) -> NonZeroU16 {
-        NonZeroU16::new(self._internal_gen).unwrap()
+        non_zero_u16(self._internal_gen)
     }
 
     #[tactic(auto, using(crate::specs::NonZeroNumbers::u16_after_before))]
@@ -77,6 +80,8 @@ impl Ptr for P3 {
             _internal_gen: generation.get(),
         }
     }
+
+    ghost numbers_of = { λ _. refl };
 
     ghost distinct = { λ p q i g. same_pair p q
         (u16_after_cancels p.0 q.0 i) (u16_after_cancels p.1 q.1 g) };
@@ -88,6 +93,10 @@ impl Ptr for P3 {
     ghost holds_itself = { λ _. refl };
 
     ghost refills = { λ _ _. refl };
+
+    ghost clones = { λ _ _ e. e };
+
+    ghost clones_always = { λ _. tt };
 }
 
 impl Default for P3 {

@@ -8,6 +8,7 @@ ghost use Rattle.triple_arena_ptr.specs.NonZeroNumbers.{usize_after, usize_after
 ghost use Rattle.triple_arena_ptr.specs.PointerText.{pointer_text};
 
 use crate::inx::PtrInx;
+use crate::non_zero::non_zero_usize;
 use crate::ptr::Ptr;
 use crate::text::fmt_pointer;
 use std::fmt;
@@ -49,6 +50,8 @@ impl Ptr for P4 {
 
     ghost generation_of = { λ _. tt };
 
+    ghost numbers = { λ p. (suc p, 1) };
+
     ghost type_name = { codes "P4" };
 
     fn name() -> &'static str {
@@ -61,7 +64,7 @@ impl Ptr for P4 {
 
     #[tactic(auto, using(crate::specs::NonZeroNumbers::usize_is_after))]
     fn inx(self) -> NonZeroUsize {
-        NonZeroUsize::new(self._internal_inx).unwrap()
+        non_zero_usize(self._internal_inx)
     }
 
     fn generation(self) {}
@@ -74,6 +77,8 @@ impl Ptr for P4 {
         }
     }
 
+    ghost numbers_of = { λ _. refl };
+
     ghost distinct = { λ p q i _. usize_after_cancels p q i };
 
     ghost equates = { λ _ _. refl };
@@ -83,6 +88,10 @@ impl Ptr for P4 {
     ghost holds_itself = { λ _. refl };
 
     ghost refills = { λ _ _. refl };
+
+    ghost clones = { λ _ _ e. e };
+
+    ghost clones_always = { λ _. tt };
 }
 
 impl Default for P4 {

@@ -8,6 +8,7 @@ ghost use Rattle.triple_arena_ptr.specs.NonZeroNumbers.{u8_after, u8_after_cance
 ghost use Rattle.triple_arena_ptr.specs.PointerText.{pointer_text};
 
 use crate::inx::PtrInx;
+use crate::non_zero::non_zero_u8;
 use crate::ptr::Ptr;
 use crate::text::fmt_pointer;
 use std::fmt;
@@ -49,6 +50,8 @@ impl Ptr for P5 {
 
     ghost generation_of = { λ _. tt };
 
+    ghost numbers = { λ p. (suc p, 1) };
+
     ghost type_name = { codes "P5" };
 
     fn name() -> &'static str {
@@ -61,7 +64,7 @@ impl Ptr for P5 {
 
     #[tactic(auto, using(crate::specs::NonZeroNumbers::u8_is_after))]
     fn inx(self) -> NonZeroU8 {
-        NonZeroU8::new(self._internal_inx).unwrap()
+        non_zero_u8(self._internal_inx)
     }
 
     fn generation(self) {}
@@ -74,6 +77,8 @@ impl Ptr for P5 {
         }
     }
 
+    ghost numbers_of = { λ _. refl };
+
     ghost distinct = { λ p q i _. u8_after_cancels p q i };
 
     ghost equates = { λ _ _. refl };
@@ -83,6 +88,10 @@ impl Ptr for P5 {
     ghost holds_itself = { λ _. refl };
 
     ghost refills = { λ _ _. refl };
+
+    ghost clones = { λ _ _ e. e };
+
+    ghost clones_always = { λ _. tt };
 }
 
 impl Default for P5 {

@@ -2,6 +2,7 @@
 
 ghost use Rattle.std.specs.Prelude.{◌≡◌, List, ℕ, [], ◌∷◌, ◌&&◌};
 ghost use Rattle.std.specs.Ordering.{then_cmp, on};
+ghost use Rattle.triple_arena_ptr.specs.Pointers.{Pointer};
 
 use crate::generation::PtrGen;
 use crate::inx::PtrInx;
@@ -11,18 +12,19 @@ use triple_arena_base::Recast;
 
 /// A pointer to an entry of an arena: an index and a generation, and no more.
 ///
-/// Contracts speak of its `index_of` and `generation_of`. Two pointers are equal exactly where
-/// both are, and pointers go by their indexes first and then by their generations. A pointer holds
-/// itself, and is recast as a whole.
+/// Contracts speak of its `index_of` and `generation_of`, and of its `numbers`, those of the two.
+/// Two pointers are equal exactly where both are, and pointers go by their indexes first and then
+/// by their generations. A pointer holds itself, and is recast as a whole.
 ///
 /// # A pointer type of one's own
 ///
 /// A type of one's own is written as below, where `B` has a byte index and a byte generation. Its
 /// fields are plain numbers that are never 0, and the index stands first, so that the derived order
 /// goes by it. Its model is the pair of the numbers before them: each such pair is a pointer. Other
-/// widths change the field types, the `NonZero` types and the `u8_` of the lemmas (`_from_raw`
-/// names those of both, where they differ). A type without a generation has the field
-/// `_internal_gen: ()`, `type Gen = ()` and the index alone as its model.
+/// widths change the field types, the `NonZero` types and the functions that make them, the `u8_`
+/// of the lemmas (`_from_raw` names those of both, where they differ), and in `is_default` the
+/// greatest index, `2 ^ 8 - 1`. A type without a generation has the field `_internal_gen: ()`,
+/// `type Gen = ()`, the index alone as its model, and 1 as the second of its numbers.
 ///
 /// ```text
 /// ghost use Rattle.std.specs.Prelude.{◌≡◌, ◌^◌, ◌-◌, Some, true, suc, codes};
@@ -36,7 +38,7 @@ use triple_arena_base::Recast;
 /// use std::marker::Model;
 /// use std::num::NonZeroU8;
 /// use triple_arena_base::{Recast, Recaster};
-/// use triple_arena_ptr::{Ptr, PtrGen, PtrInx, fmt_pointer};
+/// use triple_arena_ptr::{Ptr, PtrGen, PtrInx, fmt_pointer, non_zero_u8};
 ///
 /// /// A byte index and a byte generation.
 /// #[derive(Hash, Clone, Copy, PartialEq, Eq, PartialOrd, Ord)]
@@ -72,6 +74,8 @@ use triple_arena_base::Recast;
 ///
 ///     ghost generation_of = { λ p. u8_after p.1 };
 ///
+///     ghost numbers = { λ p. (suc p.0, suc p.1) };
+///
 ///     ghost type_name = { codes "B" };
 ///
 ///     fn name() -> &'static str {
@@ -84,12 +88,12 @@ use triple_arena_base::Recast;
 ///
 ///     #[tactic(auto, using(triple_arena_ptr::specs::NonZeroNumbers::u8_is_after))]
 ///     fn inx(self) -> NonZeroU8 {
-///         NonZeroU8::new(self._internal_inx).unwrap()
+///         non_zero_u8(self._internal_inx)
 ///     }
 ///
 ///     #[tactic(auto, using(triple_arena_ptr::specs::NonZeroNumbers::u8_is_after))]
 ///     fn generation(self) -> NonZeroU8 {
-///         NonZeroU8::new(self._internal_gen).unwrap()
+///         non_zero_u8(self._internal_gen)
 ///     }
 ///
 ///     #[tactic(auto, using(triple_arena_ptr::specs::NonZeroNumbers::u8_after_before))]
@@ -99,6 +103,8 @@ use triple_arena_base::Recast;
 ///             _internal_gen: generation.get(),
 ///         }
 ///     }
+///
+///     ghost numbers_of = { λ _. refl };
 ///
 ///     ghost distinct = { λ p q i g. same_pair p q
 ///         (u8_after_cancels p.0 q.0 i) (u8_after_cancels p.1 q.1 g) };
@@ -110,6 +116,10 @@ use triple_arena_base::Recast;
 ///     ghost holds_itself = { λ _. refl };
 ///
 ///     ghost refills = { λ _ _. refl };
+///
+///     ghost clones = { λ _ _ e. e };
+///
+///     ghost clones_always = { λ _. tt };
 /// }
 ///
 /// impl Default for B {
@@ -174,6 +184,9 @@ pub trait Ptr: Debug
     /// The generation.
     ghost generation_of: { Self → Self.Gen };
 
+    /// The pointer as two numbers: that of its index and that of its generation.
+    ghost numbers: { Self → Pointer };
+
     /// The name of the type in texts.
     ghost type_name: { List ℕ };
 
@@ -182,9 +195,11 @@ pub trait Ptr: Debug
         ensures { result.now ≡ type_name };
 
     /// The pointer of the greatest index of the type and the generation 1.
+    ///
+    /// No arena gives it where generations count. Where they don't and the index type is small, it
+    /// can be the pointer of an entry: an arena of `P5` gives it to the entry at its index 255.
     fn invalid() -> Self
-        ensures index { Self.Inx.number (index_of result) ≡ Self.Inx.greatest }
-        ensures generation { Self.Gen.number (generation_of result) ≡ 1 };
+        ensures { numbers result ≡ (Self.Inx.greatest, 1) };
 
     /// The index.
     fn inx(self) -> Self::Inx
@@ -198,6 +213,10 @@ pub trait Ptr: Debug
     fn _from_raw(inx: Self::Inx, generation: Self::Gen) -> Self
         ensures index { index_of result ≡ inx }
         ensures generation { generation_of result ≡ generation };
+
+    /// The numbers of a pointer are that of its index and that of its generation.
+    ghost numbers_of: { (p : Self) → numbers p
+        ≡ (Self.Inx.number (index_of p), Self.Gen.number (generation_of p)) };
 
     /// A pointer is its index and its generation.
     ghost distinct: { (p q : Self) → index_of p ≡ index_of q → generation_of p ≡ generation_of q
@@ -216,4 +235,10 @@ pub trait Ptr: Debug
 
     /// A pointer is replaced as a whole.
     ghost refills: { (p q : Self) → Self.refill p (q ∷ []) ≡ q };
+
+    /// A clone is the pointer itself.
+    ghost clones: { (p q : Self) → Self.is_clone p q → q ≡ p };
+
+    /// A clone takes no memory.
+    ghost clones_always: { (p : Self) → Self.is_infallible p };
 }

@@ -9,17 +9,30 @@ ghost use Rattle.triple_arena_ptr.specs.PointerText.{pointer_text};
 use crate::inx::PtrInx;
 use crate::ptr::Ptr;
 use crate::text::fmt_pointer;
+use std::alloc::AllocError;
 use std::fmt;
 use std::marker::{Model, PhantomData};
 use triple_arena_base::{Recast, Recaster};
 
 /// The pointer of `P`'s name and index type that has no generation. `PtrNoGen<P0>` is written
 /// without the second parameter, which stands for the index type.
-#[derive(Hash, Clone, Copy, PartialEq, Eq, PartialOrd, Ord)]
+#[derive(Hash, Copy, PartialEq, Eq, PartialOrd, Ord)]
 pub struct PtrNoGen<P: Ptr, I = <P as Ptr>::Inx> {
     _internal_inx: I,
     _internal_gen: (),
     of: PhantomData<P>,
+}
+
+impl<P: Ptr, I: Copy> Clone for PtrNoGen<P, I> {
+    ghost use Rattle.std.specs.Prelude.{⊤};
+
+    ghost is_clone = { λ p q. q ≡ p };
+
+    ghost is_infallible = { λ _. ⊤ };
+
+    fn clone(&self) -> Result<PtrNoGen<P, I>, AllocError> {
+        Ok(*self)
+    }
 }
 
 impl<P: Ptr, I> Model for PtrNoGen<P, I> {
@@ -39,6 +52,8 @@ impl<I: PtrInx, P: Ptr<Inx = I>> Ptr for PtrNoGen<P, I> {
     ghost index_of = { λ p. p };
 
     ghost generation_of = { λ _. tt };
+
+    ghost numbers = { λ p. (I.number p, 1) };
 
     ghost type_name = { P.type_name };
 
@@ -64,6 +79,8 @@ impl<I: PtrInx, P: Ptr<Inx = I>> Ptr for PtrNoGen<P, I> {
         }
     }
 
+    ghost numbers_of = { λ _. refl };
+
     ghost distinct = { λ _ _ i _. i };
 
     ghost equates = { λ _ _. refl };
@@ -73,6 +90,10 @@ impl<I: PtrInx, P: Ptr<Inx = I>> Ptr for PtrNoGen<P, I> {
     ghost holds_itself = { λ _. refl };
 
     ghost refills = { λ _ _. refl };
+
+    ghost clones = { λ _ _ e. e };
+
+    ghost clones_always = { λ _. tt };
 }
 
 impl<I: PtrInx, P: Ptr<Inx = I>> Default for PtrNoGen<P, I> {

@@ -1,6 +1,7 @@
 ghost use Rattle.std.specs.Prelude.{Some, None, if◌then◌else◌, ◌==◌, suc};
 
 mod byte_pointer;
+mod callers;
 mod pairs;
 
 use crate::{
@@ -314,6 +315,31 @@ fn every_pointer_type_is_whole(rt: HostRuntime) {
     assert!(rt; is_whole::<Q2>("Q2"));
     assert!(rt; is_whole::<PtrNoGen<P2>>("P2"));
     assert!(rt; is_whole::<B>("B"));
+}
+
+/// Whether two pointers that differ in the generation alone are hashed alike, and two equal ones.
+/// Where generations don't count, the first two are equal too.
+fn are_hashed_alike<P: Ptr>() -> Option<(bool, bool)> {
+    let p = at::<P>(1)?;
+    let before = P::_from_raw(p.inx(), P::Gen::one());
+    let again = P::_from_raw(p.inx(), p.generation());
+    Some((
+        hash_of(&p) == hash_of(&before),
+        hash_of(&p) == hash_of(&again),
+    ))
+}
+
+#[test]
+fn generations_are_hashed(rt: HostRuntime) {
+    assert_eq!(rt; are_hashed_alike::<P0>(), Some((false, true)));
+    assert_eq!(rt; are_hashed_alike::<P1>(), Some((false, true)));
+    assert_eq!(rt; are_hashed_alike::<P2>(), Some((false, true)));
+    assert_eq!(rt; are_hashed_alike::<P3>(), Some((false, true)));
+    assert_eq!(rt; are_hashed_alike::<P4>(), Some((true, true)));
+    assert_eq!(rt; are_hashed_alike::<P5>(), Some((true, true)));
+    assert_eq!(rt; are_hashed_alike::<Q2>(), Some((false, true)));
+    assert_eq!(rt; are_hashed_alike::<PtrNoGen<P2>>(), Some((true, true)));
+    assert_eq!(rt; are_hashed_alike::<B>(), Some((false, true)));
 }
 
 /// How a pointer stands to the one of an index and a generation that are a number each.

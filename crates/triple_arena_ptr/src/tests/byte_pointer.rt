@@ -7,7 +7,7 @@ ghost use Rattle.triple_arena_base.specs.HeldLaws.{itself_held_refill, itself_re
 ghost use Rattle.triple_arena_ptr.specs.NonZeroNumbers.{same_pair, u8_after, u8_after_cancels};
 ghost use Rattle.triple_arena_ptr.specs.PointerText.{pointer_text};
 
-use crate::{Ptr, PtrGen, PtrInx, fmt_pointer};
+use crate::{Ptr, PtrGen, PtrInx, fmt_pointer, non_zero_u8};
 use std::fmt;
 use std::marker::Model;
 use std::num::NonZeroU8;
@@ -47,6 +47,8 @@ impl Ptr for B {
 
     ghost generation_of = { λ p. u8_after p.1 };
 
+    ghost numbers = { λ p. (suc p.0, suc p.1) };
+
     ghost type_name = { codes "B" };
 
     fn name() -> &'static str {
@@ -59,12 +61,12 @@ impl Ptr for B {
 
     #[tactic(auto, using(crate::specs::NonZeroNumbers::u8_is_after))]
     fn inx(self) -> NonZeroU8 {
-        NonZeroU8::new(self._internal_inx).unwrap()
+        non_zero_u8(self._internal_inx)
     }
 
     #[tactic(auto, using(crate::specs::NonZeroNumbers::u8_is_after))]
     fn generation(self) -> NonZeroU8 {
-        NonZeroU8::new(self._internal_gen).unwrap()
+        non_zero_u8(self._internal_gen)
     }
 
     #[tactic(auto, using(crate::specs::NonZeroNumbers::u8_after_before))]
@@ -74,6 +76,8 @@ impl Ptr for B {
             _internal_gen: generation.get(),
         }
     }
+
+    ghost numbers_of = { λ _. refl };
 
     ghost distinct = { λ p q i g. same_pair p q
         (u8_after_cancels p.0 q.0 i) (u8_after_cancels p.1 q.1 g) };
@@ -85,6 +89,10 @@ impl Ptr for B {
     ghost holds_itself = { λ _. refl };
 
     ghost refills = { λ _ _. refl };
+
+    ghost clones = { λ _ _ e. e };
+
+    ghost clones_always = { λ _. tt };
 }
 
 impl Default for B {

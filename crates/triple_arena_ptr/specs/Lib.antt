@@ -1,3 +1,4 @@
 pub mod Numbers
 pub mod NonZeroNumbers
+pub mod Pointers
 pub mod PointerText

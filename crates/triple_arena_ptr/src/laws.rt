@@ -12,15 +12,15 @@ use std::cmp::Ordering;
 use std::num::NonZeroUsize;
 
 /// Equality, order and hash of pointers agree: `==` holds exactly of a pointer and itself, so does
-/// the answer `Equal`, and equal pointers are hashed alike. Pointers go by the number of the index
-/// first, and then by that of the generation.
+/// the answer `Equal`, and equal pointers are hashed alike. A pointer is its two numbers, and
+/// pointers go by that of the index first, and then by that of the generation.
 pub fn pointers_agree<P: Ptr>()
     ensures equality { (p q : P) → IsTrue (P.eq p q) ↔ (p ≡ q) }
     ensures order { (p q : P) → (P.cmp p q ≡ Ordering.Equal) ↔ (p ≡ q) }
     ensures hash { (p q : P) → IsTrue (P.eq p q) → P.hash_input p ≡ P.hash_input q }
+    ensures numbers { (p q : P) → (P.numbers p ≡ P.numbers q) ↔ (p ≡ q) }
     ensures by_index_first { (p q : P) → P.cmp p q ≡ then_cmp
-        (on (λ r. P.Inx.number (P.index_of r)) nat_cmp)
-        (on (λ r. P.Gen.number (P.generation_of r)) nat_cmp) p q }
+        (on (λ r. (P.numbers r).0) nat_cmp) (on (λ r. (P.numbers r).1) nat_cmp) p q }
 {}
 
 /// Index conversions are inverse: the index again, from its number; none exactly past `max_index`.

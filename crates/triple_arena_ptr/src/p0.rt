@@ -50,6 +50,8 @@ impl Ptr for P0 {
 
     ghost generation_of = { λ p. u64_after p.1 };
 
+    ghost numbers = { λ p. (suc p.0, suc p.1) };
+
     ghost type_name = { codes "P0" };
 
     fn name() -> &'static str {
@@ -77,6 +79,8 @@ impl Ptr for P0 {
             _internal_gen: generation.get(),
         }
     }
+
+    ghost numbers_of = { λ _. refl };
 
     ghost distinct = { λ p q i g. same_pair p q
         (usize_after_cancels p.0 q.0 i) (u64_after_cancels p.1 q.1 g) };

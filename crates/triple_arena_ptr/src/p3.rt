@@ -50,6 +50,8 @@ impl Ptr for P3 {
 
     ghost generation_of = { λ p. u16_after p.1 };
 
+    ghost numbers = { λ p. (suc p.0, suc p.1) };
+
     ghost type_name = { codes "P3" };
 
     fn name() -> &'static str {
@@ -77,6 +79,8 @@ impl Ptr for P3 {
             _internal_gen: generation.get(),
         }
     }
+
+    ghost numbers_of = { λ _. refl };
 
     ghost distinct = { λ p q i g. same_pair p q
         (u16_after_cancels p.0 q.0 i) (u16_after_cancels p.1 q.1 g) };

@@ -49,6 +49,8 @@ impl Ptr for P4 {
 
     ghost generation_of = { λ _. tt };
 
+    ghost numbers = { λ p. (suc p, 1) };
+
     ghost type_name = { codes "P4" };
 
     fn name() -> &'static str {
@@ -73,6 +75,8 @@ impl Ptr for P4 {
             _internal_gen: generation,
         }
     }
+
+    ghost numbers_of = { λ _. refl };
 
     ghost distinct = { λ p q i _. usize_after_cancels p q i };
 

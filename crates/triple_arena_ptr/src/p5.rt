@@ -49,6 +49,8 @@ impl Ptr for P5 {
 
     ghost generation_of = { λ _. tt };
 
+    ghost numbers = { λ p. (suc p, 1) };
+
     ghost type_name = { codes "P5" };
 
     fn name() -> &'static str {
@@ -73,6 +75,8 @@ impl Ptr for P5 {
             _internal_gen: generation,
         }
     }
+
+    ghost numbers_of = { λ _. refl };
 
     ghost distinct = { λ p q i _. u8_after_cancels p q i };
 

@@ -2,6 +2,7 @@
 
 ghost use Rattle.std.specs.Prelude.{◌≡◌, List, ℕ, [], ◌∷◌, ◌&&◌};
 ghost use Rattle.std.specs.Ordering.{then_cmp, on};
+ghost use Rattle.triple_arena_ptr.specs.Pointers.{Pointer};
 
 use crate::generation::PtrGen;
 use crate::inx::PtrInx;
@@ -11,9 +12,9 @@ use triple_arena_base::Recast;
 
 /// A pointer to an entry of an arena: an index and a generation, and no more.
 ///
-/// Contracts speak of its `index_of` and `generation_of`. Two pointers are equal exactly where
-/// both are, and pointers go by their indexes first and then by their generations. A pointer holds
-/// itself, and is recast as a whole.
+/// Contracts speak of its `index_of` and `generation_of`, and of its `numbers`, those of the two.
+/// Two pointers are equal exactly where both are, and pointers go by their indexes first and then
+/// by their generations. A pointer holds itself, and is recast as a whole.
 ///
 /// # A pointer type of one's own
 ///
@@ -72,6 +73,8 @@ use triple_arena_base::Recast;
 ///
 ///     ghost generation_of = { λ p. u8_after p.1 };
 ///
+///     ghost numbers = { λ p. (suc p.0, suc p.1) };
+///
 ///     ghost type_name = { codes "B" };
 ///
 ///     fn name() -> &'static str {
@@ -99,6 +102,8 @@ use triple_arena_base::Recast;
 ///             _internal_gen: generation.get(),
 ///         }
 ///     }
+///
+///     ghost numbers_of = { λ _. refl };
 ///
 ///     ghost distinct = { λ p q i g. same_pair p q
 ///         (u8_after_cancels p.0 q.0 i) (u8_after_cancels p.1 q.1 g) };
@@ -174,6 +179,9 @@ pub trait Ptr: Debug
     /// The generation.
     ghost generation_of: { Self → Self.Gen };
 
+    /// The pointer as two numbers: that of its index and that of its generation.
+    ghost numbers: { Self → Pointer };
+
     /// The name of the type in texts.
     ghost type_name: { List ℕ };
 
@@ -183,8 +191,7 @@ pub trait Ptr: Debug
 
     /// The pointer of the greatest index of the type and the generation 1.
     fn invalid() -> Self
-        ensures index { Self.Inx.number (index_of result) ≡ Self.Inx.greatest }
-        ensures generation { Self.Gen.number (generation_of result) ≡ 1 };
+        ensures { numbers result ≡ (Self.Inx.greatest, 1) };
 
     /// The index.
     fn inx(self) -> Self::Inx
@@ -198,6 +205,10 @@ pub trait Ptr: Debug
     fn _from_raw(inx: Self::Inx, generation: Self::Gen) -> Self
         ensures index { index_of result ≡ inx }
         ensures generation { generation_of result ≡ generation };
+
+    /// The numbers of a pointer are that of its index and that of its generation.
+    ghost numbers_of: { (p : Self) → numbers p
+        ≡ (Self.Inx.number (index_of p), Self.Gen.number (generation_of p)) };
 
     /// A pointer is its index and its generation.
     ghost distinct: { (p q : Self) → index_of p ≡ index_of q → generation_of p ≡ generation_of q

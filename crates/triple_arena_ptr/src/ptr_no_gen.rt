@@ -40,6 +40,8 @@ impl<I: PtrInx, P: Ptr<Inx = I>> Ptr for PtrNoGen<P, I> {
 
     ghost generation_of = { λ _. tt };
 
+    ghost numbers = { λ p. (I.number p, 1) };
+
     ghost type_name = { P.type_name };
 
     fn name() -> &'static str {
@@ -63,6 +65,8 @@ impl<I: PtrInx, P: Ptr<Inx = I>> Ptr for PtrNoGen<P, I> {
             of: PhantomData,
         }
     }
+
+    ghost numbers_of = { λ _. refl };
 
     ghost distinct = { λ _ _ i _. i };
 

@@ -46,6 +46,8 @@ impl Ptr for B {
 
     ghost generation_of = { λ p. u8_after p.1 };
 
+    ghost numbers = { λ p. (suc p.0, suc p.1) };
+
     ghost type_name = { codes "B" };
 
     fn name() -> &'static str {
@@ -73,6 +75,8 @@ impl Ptr for B {
             _internal_gen: generation.get(),
         }
     }
+
+    ghost numbers_of = { λ _. refl };
 
     ghost distinct = { λ p q i g. same_pair p q
         (u8_after_cancels p.0 q.0 i) (u8_after_cancels p.1 q.1 g) };

@@ -8,6 +8,7 @@ pub mod Ending
 pub mod FreeList
 pub mod Capacity
 pub mod EntryLaws
+pub mod LengthLaws
 pub mod Slot
 pub mod Layout
 pub mod Lends

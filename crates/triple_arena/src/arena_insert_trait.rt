@@ -1,9 +1,9 @@
 //! Insertion into an arena that gives the pointers.
 
-ghost use Rattle.std.specs.Prelude.{◌≡◌, ◌<◌, ◌↔◌, IsOk, IfOk, OnOk, OnErr, None, Some, Err};
+ghost use Rattle.std.specs.Prelude.{◌≡◌, ◌≢◌, ℕ, ◌+◌, ◌≤◌, ◌<◌, ◌↔◌, IsOk, IfOk, OnOk, OnErr, None, Some, Err};
 ghost use Rattle.triple_arena_ptr.specs.Numbers.{greatest_index};
 ghost use Rattle.triple_arena.specs.Pointers.{Pointer, numbers};
-ghost use Rattle.triple_arena.specs.Entries.{entry_in, entry_count, ChangesAt, KeepsEntries};
+ghost use Rattle.triple_arena.specs.Entries.{entry_in, look_up_in, entry_count, ChangesAt, KeepsEntries};
 ghost use Rattle.triple_arena.specs.Capacity.{IsFullAtLimit};
 
 use crate::arena_trait::ArenaTrait;
@@ -39,8 +39,9 @@ pub trait ArenaInsertTrait<P: Ptr, T>: ArenaTrait<P, T> {
         ensures inserted { self.new ≡ inserted self.old t }
         ensures valid { Self.valid self.old };
 
-    /// Inserts `t`, and gives its pointer. A full arena grows first: to 4 slots or to twice its
-    /// capacity, as far as the limit allows and there are indexes.
+    /// Inserts `t`, and gives its pointer. A full arena grows first: its capacity never falls, and
+    /// it has a place then. An `Arena` grows to 4 slots or to twice its capacity, as far as the
+    /// limit allows and there are indexes.
     ///
     /// `BeyondMaxCapacity` exactly where the arena is full and its limit is reached; else
     /// `AllocError` where it is full and memory is refused, or there is no greater index. Then the
@@ -50,6 +51,8 @@ pub trait ArenaInsertTrait<P: Ptr, T>: ArenaTrait<P, T> {
         T: Drop,
         ensures pointer { IfOk result
             (λ p. numbers P.Inx.number P.Gen.number P.index_of P.generation_of p ≡ next self.old) }
+        ensures free { IfOk result
+            (λ p. entry_in (Self.slots self.old) (P.Inx.number (P.index_of p)) ≡ None) }
         ensures inserted { OnOk result (self.new ≡ inserted (grown self.old) t) }
         ensures refused { OnErr result (self.new ≡ self.old) }
         ensures beyond { (result ≡ Err ReallocationError.BeyondMaxCapacity)
@@ -58,14 +61,23 @@ pub trait ArenaInsertTrait<P: Ptr, T>: ArenaTrait<P, T> {
         ensures indexed { OnOk result (entry_count (Self.slots self.old) ≡ Self.fitting self.old
             → Self.fitting self.old < greatest_index P.Inx.greatest) }
         ensures had_place { entry_count (Self.slots self.old) < Self.fitting self.old
-            → IsOk result }
+            → IsOk result × (self.new ≡ inserted self.old t) }
+        ensures place { OnOk result (entry_count (Self.slots (grown self.old))
+            < Self.fitting (grown self.old)) }
         ensures valid { Self.valid self.old };
 
-    // an insertion puts the value under the next pointer, and leaves every other entry, limit and
-    // capacity
+    // the generation of the next pointer is the one that the arena tells, where it tells one
+    ghost generation_next: { (arena : Self) (generation : ℕ)
+        → Self.next_generation arena ≡ Some generation → (next arena).1 ≡ generation };
+
+    // an insertion puts the value under the next pointer, so that there is one entry more, and leaves
+    // every other entry, limit and capacity
     ghost slots_inserted: { (arena : Self) (value : T) → Self.valid arena
         → ChangesAt (Self.slots arena) (next arena).0 (Some ((next arena).1, value))
         (Self.slots (inserted arena value)) };
+
+    ghost len_inserted: { (arena : Self) (value : T) → Self.valid arena
+        → entry_count (Self.slots (inserted arena value)) ≡ entry_count (Self.slots arena) + 1 };
 
     ghost limit_inserted: { (arena : Self) (value : T)
         → Self.limit (inserted arena value) ≡ Self.limit arena };
@@ -73,9 +85,19 @@ pub trait ArenaInsertTrait<P: Ptr, T>: ArenaTrait<P, T> {
     ghost fitting_inserted: { (arena : Self) (value : T)
         → Self.fitting (inserted arena value) ≡ Self.fitting arena };
 
-    // growth leaves every entry, the limit, and what the next insertion gives
+    // growth leaves an arena that has a place as it is
+    ghost same_grown: { (arena : Self) → entry_count (Self.slots arena) < Self.fitting arena
+        → grown arena ≡ arena };
+
+    // growth leaves every entry, the limit, and what the next insertion gives; the capacity never
+    // falls
     ghost slots_grown: { (arena : Self)
         → KeepsEntries (Self.slots arena) (Self.slots (grown arena)) };
+
+    ghost len_grown: { (arena : Self)
+        → entry_count (Self.slots (grown arena)) ≡ entry_count (Self.slots arena) };
+
+    ghost fitting_grown: { (arena : Self) → Self.fitting arena ≤ Self.fitting (grown arena) };
 
     ghost limit_grown: { (arena : Self) → Self.limit (grown arena) ≡ Self.limit arena };
 
@@ -95,6 +117,12 @@ pub trait ArenaInsertTrait<P: Ptr, T>: ArenaTrait<P, T> {
             ↔ (entry_count (Self.slots self.old) < Self.fitting self.old) }
         ensures pointer { IfOk result
             (λ p. numbers P.Inx.number P.Gen.number P.index_of P.generation_of p ≡ next self.old) }
+        ensures free { IfOk result
+            (λ p. entry_in (Self.slots self.old) (P.Inx.number (P.index_of p)) ≡ None) }
+        ensures found { IfOk result (λ p. look_up_in (Self.slots self.new)
+            (numbers P.Inx.number P.Gen.number P.index_of P.generation_of p) ≡ Some t) }
+        ensures others { IfOk result (λ p. (q : Pointer) → q.0 ≢ P.Inx.number (P.index_of p)
+            → look_up_in (Self.slots self.new) q ≡ look_up_in (Self.slots self.old) q) }
         ensures inserted { OnOk result (self.new ≡ inserted self.old t) }
         ensures refused { OnErr result (self.new ≡ self.old) }
         ensures valid { Self.valid self.old }
@@ -113,6 +141,12 @@ pub trait ArenaInsertTrait<P: Ptr, T>: ArenaTrait<P, T> {
         T: Drop,
         ensures pointer { IfOk result
             (λ p. numbers P.Inx.number P.Gen.number P.index_of P.generation_of p ≡ next self.old) }
+        ensures free { IfOk result
+            (λ p. entry_in (Self.slots self.old) (P.Inx.number (P.index_of p)) ≡ None) }
+        ensures found { IfOk result (λ p. look_up_in (Self.slots self.new)
+            (numbers P.Inx.number P.Gen.number P.index_of P.generation_of p) ≡ Some t) }
+        ensures others { IfOk result (λ p. (q : Pointer) → q.0 ≢ P.Inx.number (P.index_of p)
+            → look_up_in (Self.slots self.new) q ≡ look_up_in (Self.slots self.old) q) }
         ensures inserted { OnOk result (self.new ≡ inserted (grown self.old) t) }
         ensures refused { OnErr result (self.new ≡ self.old) }
         ensures beyond { (result ≡ Err ReallocationError.BeyondMaxCapacity)
@@ -121,7 +155,9 @@ pub trait ArenaInsertTrait<P: Ptr, T>: ArenaTrait<P, T> {
         ensures indexed { OnOk result (entry_count (Self.slots self.old) ≡ Self.fitting self.old
             → Self.fitting self.old < greatest_index P.Inx.greatest) }
         ensures had_place { entry_count (Self.slots self.old) < Self.fitting self.old
-            → IsOk result }
+            → IsOk result × (self.new ≡ inserted self.old t) }
+        ensures place { OnOk result (entry_count (Self.slots (grown self.old))
+            < Self.fitting (grown self.old)) }
         ensures valid { Self.valid self.old }
     {
         self.insert_reallocating(t)

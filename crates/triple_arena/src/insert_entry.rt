@@ -1,6 +1,6 @@
 //! The place of a value that is not inserted yet.
 
-ghost use Rattle.std.specs.Prelude.{◌≡◌, ◌<◌, ◌↔◌, IsOk, IfOk, OnOk, Err};
+ghost use Rattle.std.specs.Prelude.{◌≡◌, ◌<◌, ◌↔◌, IsTrue, IsOk, IfOk, IsOkAnd, OnOk, Err};
 ghost use Rattle.std.specs.Borrow.{sem, Lends, RestsIfErr};
 ghost use Rattle.triple_arena_ptr.specs.Numbers.{greatest_index};
 ghost use Rattle.triple_arena.specs.Pointers.{Pointer, numbers};
@@ -20,7 +20,6 @@ use triple_arena_stack::{NonZeroInxGenericStack, NonZeroInxVec};
 /// A place in an arena for one more value.
 ///
 /// Dropped, it inserts nothing; room that was made for it stays.
-#[derive(Drop)]
 pub struct ArenaInsertEntry<
     'a,
     P: Ptr,
@@ -41,11 +40,15 @@ pub trait ArenaInsertEntryTrait<'a, P, T> {
     // the numbers of the pointer that the value will have
     ghost next: { Self → Pointer };
 
+    /// Whether the entry has its place, as each entry that an arena gives has.
+    fn has_place(&self) -> bool
+        ensures { IsTrue result ↔ has_place self.now };
+
     /// The pointer that the value will have.
     ///
     /// The entry must have its place, as each entry that an arena gives has: by `variant` and
     /// `arena` of `entry_insert_within_capacity`, by `has_place` of `entry_insert` and
-    /// `entry_insert_reallocating`.
+    /// `entry_insert_reallocating`. [`Self::has_place`] tells it of any other.
     fn ptr(&self) -> P
         requires { has_place self.now }
         ensures { pointer result ≡ next self.now };
@@ -69,6 +72,10 @@ impl<'a, P: Ptr, T, S: NonZeroInxGenericStack<ArenaSlot<P, T>>> ArenaInsertEntry
     ghost has_place = { λ entry. arena_len (entry_arena entry) < capacity (entry_arena entry) };
 
     ghost next = { λ entry. next_pointer (entry_arena entry) };
+
+    fn has_place(&self) -> bool {
+        self.arena.len() < self.arena.capacity()
+    }
 
     fn ptr(&self) -> P
         requires { arena_len (entry_arena self.now) < capacity (entry_arena self.now) }
@@ -135,7 +142,8 @@ impl<P: Ptr, T, S: NonZeroInxGenericStack<ArenaSlot<P, T>>> Arena<P, T, S> {
             ↔ IsFullAtLimit (capacity self.old) self.old.limit (arena_len self.old) }
         ensures indexed { OnOk result (arena_len self.old ≡ capacity self.old
             → capacity self.old < greatest_index P.Inx.greatest) }
-        ensures had_place { arena_len self.old < capacity self.old → IsOk result }
+        ensures had_place { arena_len self.old < capacity self.old
+            → IsOkAnd result (λ entry. entry_arena entry ≡ self.old) }
         ensures same_reference { IfOk result (λ entry. entry_lender entry ≡ self.entry.ghost_name) }
         ensures* refused { sem 𝓛 (RestsIfErr
             (the_row P.row T.row S.row P.Inx.row P.Gen.row
@@ -158,7 +166,8 @@ impl<P: Ptr, T, S: NonZeroInxGenericStack<ArenaSlot<P, T>>> Arena<P, T, S> {
             ↔ IsFullAtLimit (capacity self.old) self.old.limit (arena_len self.old) }
         ensures indexed { OnOk result (arena_len self.old ≡ capacity self.old
             → capacity self.old < greatest_index P.Inx.greatest) }
-        ensures had_place { arena_len self.old < capacity self.old → IsOk result }
+        ensures had_place { arena_len self.old < capacity self.old
+            → IsOkAnd result (λ entry. entry_arena entry ≡ self.old) }
         ensures same_reference { IfOk result (λ entry. entry_lender entry ≡ self.entry.ghost_name) }
         ensures* refused { sem 𝓛 (RestsIfErr
             (the_row P.row T.row S.row P.Inx.row P.Gen.row
@@ -169,5 +178,13 @@ impl<P: Ptr, T, S: NonZeroInxGenericStack<ArenaSlot<P, T>>> Arena<P, T, S> {
             self.entry entry_lender result (λ end. end ≡ self.entry.now)) }
     {
         self.entry_insert_reallocating()
+    }
+}
+
+impl<P: Ptr, T, S: NonZeroInxGenericStack<ArenaSlot<P, T>>> Drop for ArenaInsertEntry<'_, P, T, S> {
+    fn drop(self)
+        ensures { self.exit.0.now ≡ self.entry.arena.now }
+    {
+        let ArenaInsertEntry { arena: _ } = self;
     }
 }

@@ -47,6 +47,8 @@ impl Ptr for B {
 
     ghost generation_of = { λ p. u8_after p.1 };
 
+    ghost numbers = { λ p. (suc p.0, suc p.1) };
+
     ghost type_name = { codes "B" };
 
     fn name() -> &'static str {
@@ -75,6 +77,8 @@ impl Ptr for B {
         }
     }
 
+    ghost numbers_of = { λ _. refl };
+
     ghost distinct = { λ p q i g. same_pair p q
         (usize_after_cancels p.0 q.0 i) (u8_after_cancels p.1 q.1 g) };
 
@@ -85,6 +89,10 @@ impl Ptr for B {
     ghost holds_itself = { λ _. refl };
 
     ghost refills = { λ _ _. refl };
+
+    ghost clones = { λ _ _ e. e };
+
+    ghost clones_always = { λ _. tt };
 }
 
 impl Default for B {

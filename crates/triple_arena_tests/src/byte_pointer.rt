@@ -48,6 +48,8 @@ impl Ptr for Narrow {
 
     ghost generation_of = { λ p. u8_after p.1 };
 
+    ghost numbers = { λ p. (suc p.0, suc p.1) };
+
     ghost type_name = { codes "Narrow" };
 
     fn name() -> &'static str {
@@ -76,6 +78,8 @@ impl Ptr for Narrow {
         }
     }
 
+    ghost numbers_of = { λ _. refl };
+
     ghost distinct = { λ p q i g. same_pair p q
         (u8_after_cancels p.0 q.0 i) (u8_after_cancels p.1 q.1 g) };
 
@@ -86,6 +90,10 @@ impl Ptr for Narrow {
     ghost holds_itself = { λ _. refl };
 
     ghost refills = { λ _ _. refl };
+
+    ghost clones = { λ _ _ e. e };
+
+    ghost clones_always = { λ _. tt };
 }
 
 impl Default for Narrow {

@@ -35,6 +35,8 @@ impl<T, const PLACES: usize> NonZeroInxGenericStack<T> for Scarce<T, PLACES> {
 
     ghost kind = { limited };
 
+    ghost has_memory = { λ _. ⊥ };
+
     ghost with_items = { λ stack xs. record stack { items = xs } };
 
     ghost items_with_items = { λ stack xs. refl };

@@ -48,6 +48,8 @@ impl Ptr for Wide {
 
     ghost generation_of = { λ p. u64_after p.1 };
 
+    ghost numbers = { λ p. (suc p.0, suc p.1) };
+
     ghost type_name = { codes "Wide" };
 
     fn name() -> &'static str {
@@ -76,6 +78,8 @@ impl Ptr for Wide {
         }
     }
 
+    ghost numbers_of = { λ _. refl };
+
     ghost distinct = { λ p q i g. same_pair p q
         (u128_after_cancels p.0 q.0 i) (u64_after_cancels p.1 q.1 g) };
 
@@ -86,6 +90,10 @@ impl Ptr for Wide {
     ghost holds_itself = { λ _. refl };
 
     ghost refills = { λ _ _. refl };
+
+    ghost clones = { λ _ _ e. e };
+
+    ghost clones_always = { λ _. tt };
 }
 
 impl Default for Wide {

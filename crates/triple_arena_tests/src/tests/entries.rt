@@ -1,7 +1,6 @@
 //! Insertion entries, on arenas over each of the four stacks.
 
 ghost use Rattle.std.specs.Prelude.{◌≡◌, IfOk, OnOk, OnErr};
-ghost use Rattle.triple_arena.specs.Pointers.{numbers};
 ghost use Rattle.triple_arena.specs.Insertion.{next_pointer};
 ghost use Rattle.triple_arena.specs.Capacity.{grown};
 
@@ -21,9 +20,7 @@ use triple_arena_stack::NonZeroInxGenericStack;
 fn pointer_of_entry<P: Ptr, T, S: NonZeroInxGenericStack<ArenaSlot<P, T>>>(
     arena: &mut Arena<P, T, S>,
 ) -> Result<P, ReallocationError>
-    ensures pointer { IfOk result
-        (λ p. numbers P.Inx.number P.Gen.number P.index_of P.generation_of p
-        ≡ next_pointer (grown S.kind arena.old)) }
+    ensures pointer { IfOk result (λ p. P.numbers p ≡ next_pointer (grown S.kind arena.old)) }
     ensures grown { OnOk result (arena.new ≡ grown S.kind arena.old) }
     ensures refused { OnErr result (arena.new ≡ arena.old) }
 {

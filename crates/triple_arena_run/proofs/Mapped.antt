@@ -11,12 +11,12 @@ use Rattle.triple_arena.specs.Numbered.{item, with_item}
 use Rattle.triple_arena.specs.Entries.{value_under, entry_count}
 use Rattle.triple_arena.specs.ArenaState.{ArenaState, arena_len, capacity, entry, look_up, slot_count, map_entry, map_values}
 use Rattle.triple_arena.specs.Insertion.{place_among, inserted_among, inserted, next_pointer}
-use Rattle.triple_arena.specs.Capacity.{with_room_for, next_capacity, grown}
+use Rattle.triple_arena.specs.Capacity.{with_room_for, grown}
 use Rattle.triple_arena.specs.Ending.{removed, told_of}
 use Rattle.triple_arena_base.specs.declared.invalidation.InvalidationResult.TheVariants as told
 use Rattle.triple_arena_ptr.specs.Numbers.{raise, wraps}
 use Rattle.triple_arena_ptr.specs.Pointers.{Pointer}
-use Rattle.triple_arena_stack.specs.Capacity.{room_for_one_more}
+use Rattle.triple_arena_stack.specs.Capacity.{room_for_one_more, next_capacity, CanGrow}
 use Rattle.triple_arena_run.specs.declared.node.Node.{Node}
 use Rattle.triple_arena_run.specs.declared.reply.Reply.{Reply}
 use Rattle.triple_arena_run.specs.declared.reply.Reply.TheVariants.{Removed, Invalid}
@@ -99,7 +99,7 @@ module _ {T U : Type 0} (f : T → U) where
   pub grown-mapped : (kind : StackKind) (s : ArenaState T) → map_values f (grown kind s) ≡ grown kind (map_values f s)
   grown-mapped kind s = rw (len-mapped s, length-map s.slots (option_map (map_entry f))) (by_test (arena_len s == capacity s))
     where
-      by_test : (b : Bool) → map_values f (cond b (with_room_for kind s (next_capacity s)) s) ≡ cond b (record (map_values f s) { room = reallocated_room kind s.room (slot_count s) (next_capacity s) }) (map_values f s)
+      by_test : (b : Bool) → map_values f (cond b (with_room_for kind s (next_capacity (capacity s) s.limit s.greatest)) s) ≡ cond b (record (map_values f s) { room = reallocated_room kind s.room (slot_count s) (next_capacity (capacity s) s.limit s.greatest) }) (map_values f s)
       by_test true = refl
       by_test false = refl
 
@@ -157,10 +157,11 @@ module _ {X P : Type 0} (pointer : P → Pointer) (arena : ArenaState (Node X P)
   pub capacity-shown : capacity arena ≡ capacity s.arena
   capacity-shown = rw (← shows) refl
 
-  -- an arena that refused for want of memory was full, and the table had grown
-  pub arena_wants : arena_len s.arena ≤ capacity s.arena → (arena_len arena < capacity arena → false ≡ true) → (new_arena : ArenaState (Node X P)) (new_table : List P) (new_room : ℕ) → new_arena ≡ arena → new_table ≡ table → new_room ≡ room_for_one_more room None (length table) → ArenaWantsMemory s (state_of pointer new_arena new_table new_room)
-  arena_wants fits below new_arena new_table new_room arena_is table_is room_is = (
+  -- an arena that refused for want of memory was full and could not grow, and the table had grown
+  pub arena_wants : (has_memory : ℕ → Type 0) (last : ℕ) → s.arena.greatest ≡ last → (CanGrow has_memory (capacity arena) arena.limit last → false ≡ true) → arena_len s.arena ≤ capacity s.arena → (arena_len arena < capacity arena → false ≡ true) → (new_arena : ArenaState (Node X P)) (new_table : List P) (new_room : ℕ) → new_arena ≡ arena → new_table ≡ table → new_room ≡ room_for_one_more room None (length table) → ArenaWantsMemory has_memory s (state_of pointer new_arena new_table new_room)
+  arena_wants has_memory last at_last given fits below new_arena new_table new_room arena_is table_is room_is = (
     full_from (arena_len s.arena) (capacity s.arena) fits (λ lt. below (rw (len-shown, capacity-shown) lt)),
+    (λ can. true≢false (sym (given (subst (λ n. CanGrow has_memory (capacity arena) arena.limit n) (rw (← shows) at at_last) (subst (λ t. CanGrow has_memory (capacity t.arena) t.arena.limit t.arena.greatest) (sym shows) can))))),
     rw (arena_is, table_is, room_is, ← length-map table pointer) (ap with_room_for_name shows),
   )
 

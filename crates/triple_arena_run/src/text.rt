@@ -63,7 +63,7 @@ pub fn run_text<P: Ptr, S: NonZeroInxGenericStack<ArenaSlot<P, Node<u64, P>>>, R
     input: &mut R,
     output: &mut W,
 ) -> Result<(), TextError>
-    ensures { IsTextRun (IsStep S.kind P.Gen.counting P.Gen.greatest) (R.remaining input.old) result
+    ensures { IsTextRun (IsStep S.kind S.has_memory P.Gen.counting P.Gen.greatest) (R.remaining input.old) result
         session.old session.new (W.contents output.old) (W.contents output.new) }
 {
     match read_text(alloc, input) {
@@ -89,7 +89,7 @@ pub fn run_text_and_flush<
     input: &mut R,
     mut output: BufWriter<W>,
 ) -> (Result<(), TextError>, W)
-    ensures { IsFlushedRun (IsStep S.kind P.Gen.counting P.Gen.greatest) (R.remaining input.old) result.0
+    ensures { IsFlushedRun (IsStep S.kind S.has_memory P.Gen.counting P.Gen.greatest) (R.remaining input.old) result.0
         session.old session.new (writer_contents W.contents output) (W.contents result.1) }
 {
     let outcome = run_text(session, alloc, input, &mut output);
@@ -122,7 +122,7 @@ fn run_lines<P: Ptr, S: NonZeroInxGenericStack<ArenaSlot<P, Node<u64, P>>>, W: W
     text: &[u8],
     output: &mut W,
 ) -> Result<(), TextError>
-    ensures { IsTextRun (IsStep S.kind P.Gen.counting P.Gen.greatest) (Some text.now) result
+    ensures { IsTextRun (IsStep S.kind S.has_memory P.Gen.counting P.Gen.greatest) (Some text.now) result
         session.old session.new (W.contents output.old) (W.contents output.new) }
 {
     let mut rest = text;
@@ -160,7 +160,7 @@ fn run_line<P: Ptr, S: NonZeroInxGenericStack<ArenaSlot<P, Node<u64, P>>>, W: Wr
     line: &[u8],
     output: &mut W,
 ) -> LineEnd
-    ensures { LineEnds (IsStep S.kind P.Gen.counting P.Gen.greatest) result line.now
+    ensures { LineEnds (IsStep S.kind S.has_memory P.Gen.counting P.Gen.greatest) result line.now
         session.old session.new (W.contents output.old) (W.contents output.new) }
 {
     if line.is_empty() {
@@ -176,7 +176,7 @@ fn run_command<P: Ptr, S: NonZeroInxGenericStack<ArenaSlot<P, Node<u64, P>>>, W:
     line: &[u8],
     output: &mut W,
 ) -> LineEnd
-    ensures { CommandEnds (IsStep S.kind P.Gen.counting P.Gen.greatest) result line.now
+    ensures { CommandEnds (IsStep S.kind S.has_memory P.Gen.counting P.Gen.greatest) result line.now
         session.old session.new (W.contents output.old) (W.contents output.new) }
 {
     match parse_command(line) {

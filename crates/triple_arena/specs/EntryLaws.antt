@@ -7,8 +7,8 @@ use Rattle.std.specs.Option.{option_map}
 use Rattle.triple_arena_stack.specs.StackKind.{StackKind, reallocated_room}
 use Rattle.triple_arena_stack.specs.StackKind.StackKind.{heap, limited, fixed, array}
 use Rattle.triple_arena_stack.specs.Capacity.{capacity_of, next_capacity}
-use Rattle.triple_arena.specs.Numbered.{item, with_item}
-use Rattle.triple_arena.specs.NumberedLaws.{joined, eq_true, eq_false, item_past, item-with_other, item-push_same, item-push_other}
+use Rattle.triple_arena.specs.Items.{item, with_item}
+use Rattle.triple_arena.specs.ItemLaws.{joined, eq_true, eq_false, item_past, item-with_other, item-push_same, item-push_other}
 use Rattle.triple_arena.specs.Entries.{entry_in, ChangesAt, KeepsEntries}
 use Rattle.triple_arena.specs.ArenaState.{ArenaState, capacity, slot_count, arena_len, is_free, IsWellFormed}
 use Rattle.triple_arena.specs.Insertion.{place_among, place, next_pointer, inserted_among, inserted}

@@ -7,7 +7,7 @@ ghost use Rattle.std.specs.Option.{option_map};
 ghost use Rattle.triple_arena_stack.specs.StackKind.{reallocated_room, IsOfKind};
 ghost use Rattle.triple_arena_stack.specs.Capacity.{capacity_of, IsWithin, IsBeyond};
 ghost use Rattle.triple_arena_stack.specs.Disjoint.{MayWork, Worked};
-ghost use Rattle.triple_arena.specs.Numbered.{item, with_item};
+ghost use Rattle.triple_arena.specs.Items.{item, with_item};
 ghost use Rattle.triple_arena.specs.ArenaState.{ArenaState, arena_len, capacity, with_value, is_free};
 ghost use Rattle.triple_arena.specs.Insertion.{place, inserted};
 ghost use Rattle.triple_arena.specs.Ending.{removed};

@@ -6,7 +6,7 @@ use Rattle.triple_arena_ptr.specs.Numbers.{raise, wraps}
 use Rattle.triple_arena_ptr.specs.Pointers.{Pointer}
 use Rattle.triple_arena_stack.specs.StackKind.{StackKind}
 use Rattle.triple_arena_stack.specs.Capacity.{room_for_one_more, CanGrow}
-use Rattle.triple_arena.specs.Numbered.{item}
+use Rattle.triple_arena.specs.Items.{item}
 use Rattle.triple_arena.specs.ArenaState.{ArenaState, arena_len, capacity, look_up}
 use Rattle.triple_arena.specs.Insertion.{inserted, next_pointer}
 use Rattle.triple_arena.specs.Capacity.{grown}

@@ -7,7 +7,7 @@ ghost use Rattle.triple_arena_ptr.specs.Numbers.{greatest_index, first_generatio
 ghost use Rattle.triple_arena_ptr.specs.Pointers.{is_same};
 ghost use Rattle.triple_arena_stack.specs.Capacity.{room_for_one_more};
 ghost use Rattle.triple_arena_stack.specs.StackKind.{new_room, new_limit, made_room, made_limit, CanHold, TakesNoMemory};
-ghost use Rattle.triple_arena.specs.Numbered.{item};
+ghost use Rattle.triple_arena.specs.Items.{item};
 ghost use Rattle.triple_arena.specs.ArenaState.{ArenaState, new_arena, arena_len, capacity, map_values};
 ghost use Rattle.triple_arena_run.specs.Runs.{RunsToWrap};
 ghost use Rattle.triple_arena_run.specs.SessionState.{SessionState, node_of, new_session, link_name, link_pointer};
@@ -42,9 +42,9 @@ impl<P: Ptr, X, S: NonZeroInxGenericStack<ArenaSlot<P, Node<X, P>>>> Model for S
 
     ghost Value = { SessionState X };
 
-    ghost use Rattle.triple_arena_run.specs.SessionLayout.{state_of};
+    ghost use Rattle.triple_arena_run.specs.SessionLayout.{session_of};
 
-    ghost view = { λ s. state_of P.numbers s.arena s.table.items s.table.room };
+    ghost view = { λ s. session_of P.numbers s.arena s.table.items s.table.room };
 }
 
 impl<P: Ptr, X: Copy, S: NonZeroInxGenericStack<ArenaSlot<P, Node<X, P>>>> Session<P, X, S> {

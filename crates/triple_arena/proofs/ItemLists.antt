@@ -3,8 +3,8 @@ use Rattle.std.proofs.Common.{◌≡◌, ℕ, zero, suc, ◌+◌, ◌-◌, ◌<�
 use Rattle.std.proofs.lemmas.List.{length-set, map-set}
 use Rattle.std.proofs.lemmas.Option.{slice_get-map}
 use Rattle.std.specs.Option.{option_map}
-use Rattle.triple_arena.specs.Numbered.{item, with_item}
-pub use Rattle.triple_arena.specs.NumberedLaws.{joined, eq_true, eq_false, item_within, item_past, item-with_other, item-push_same, item-push_other, with_item-past, split_last}
+use Rattle.triple_arena.specs.Items.{item, with_item}
+pub use Rattle.triple_arena.specs.ItemLaws.{joined, eq_true, eq_false, item_within, item_past, item-with_other, item-push_same, item-push_other, with_item-past, split_last}
 
 module _ {A : Type 0} where
   slice_get-set_same : (xs : List A) (k : ℕ) (x : A) → k < length xs → slice_get (set xs k x) k ≡ Some x

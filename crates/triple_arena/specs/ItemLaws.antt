@@ -3,7 +3,7 @@ use Rattle.std.proofs.Common.{◌≡◌, ◌≢◌, ℕ, zero, suc, ◌+◌, ◌
 use Rattle.std.proofs.lemmas.Bool.Decides.{nat_tests}
 use Rattle.std.proofs.lemmas.Option.{slice_get_within, slice_get_past}
 use Rattle.std.specs.Option.{option_and_then}
-use Rattle.triple_arena.specs.Numbered.{item, with_item}
+use Rattle.triple_arena.specs.Items.{item, with_item}
 
 -- the entry of a slot, if there is a slot and it has one
 abbrev pub joined : {A : Type 0} → Option (Option A) → Option A

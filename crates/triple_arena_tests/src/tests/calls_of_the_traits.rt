@@ -129,21 +129,17 @@ fn each_call_on_pointers_with_byte_generations(rt: HostRuntime) {
     on_heap_stacks::<B>(&rt, rt.alloc());
 }
 
-// Over an array.
-fn over_an_array<P: Ptr>(rt: &impl Abort, alloc: Global)
-where
-    P::Gen: Numbered,
-{
-    let mut array = new_arena::<P, Places<P, 3>>(alloc);
-    each_call(rt, &mut array, Some(3));
-    each_refusal(rt, &mut array);
-}
-
 #[test]
 fn each_call_over_an_array(rt: HostRuntime) {
-    over_an_array::<P0>(&rt, rt.alloc());
-    over_an_array::<P5>(&rt, rt.alloc());
-    over_an_array::<Narrow>(&rt, rt.alloc());
+    let mut wide = new_arena::<P0, Places<P0, 3>>(rt.alloc());
+    each_call(&rt, &mut wide, Some(3));
+    each_refusal(&rt, &mut wide);
+    let mut plain = new_arena::<P5, Places<P5, 3>>(rt.alloc());
+    each_call(&rt, &mut plain, Some(3));
+    each_refusal(&rt, &mut plain);
+    let mut bytes = new_arena::<Narrow, Places<Narrow, 3>>(rt.alloc());
+    each_call(&rt, &mut bytes, Some(3));
+    each_refusal(&rt, &mut bytes);
 }
 
 // Where there is memory for the three places of the arena, and for no more.

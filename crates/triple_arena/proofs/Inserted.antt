@@ -2,8 +2,8 @@
 use Rattle.std.proofs.Common.{◌≡◌, ℕ, ◌+◌, List, [], ◌∷◌, Option, Some, None, IsSome, cond, refl, ap, ◌∙◌}
 use Rattle.std.specs.Borrow.{MutBor}
 use Rattle.std.specs.Option.{option_and_then, option_copied_mut}
+use Rattle.triple_arena_ptr.specs.Pointers.{Pointer}
 use Rattle.triple_arena.specs.Numbered.{item}
-use Rattle.triple_arena.specs.Pointers.{Pointer}
 use Rattle.triple_arena.specs.Entries.{value_under}
 use Rattle.triple_arena.specs.ArenaState.{ArenaState, slot_count, look_up, with_value, IsWellFormed}
 use Rattle.triple_arena.specs.Insertion.{place_among, place, next_pointer, inserted_among, inserted}

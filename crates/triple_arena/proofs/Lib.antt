@@ -4,5 +4,7 @@ pub mod Links
 pub mod Tidying
 pub mod Growth
 pub mod Inserted
+pub mod LookUps
 pub mod Limits
 pub mod Pairs
+pub mod Steps

@@ -1,10 +1,10 @@
 -- More laws of lists whose items are numbered from 1.
-use Rattle.std.proofs.Common.{◌≡◌, ℕ, zero, suc, ◌+◌, ◌-◌, ◌<◌, ◌≤◌, List, [], ◌∷◌, ◌++◌, map, length, set, take, Some, None, slice_get, refl, ap, ◌∙◌, arith}
+use Rattle.std.proofs.Common.{◌≡◌, ℕ, zero, suc, ◌+◌, ◌-◌, ◌<◌, ◌≤◌, List, [], ◌∷◌, ◌++◌, map, length, set, Some, None, slice_get, refl, ap, ◌∙◌, arith}
 use Rattle.std.proofs.lemmas.List.{length-set, map-set}
 use Rattle.std.proofs.lemmas.Option.{slice_get-map}
 use Rattle.std.specs.Option.{option_map}
 use Rattle.triple_arena.specs.Numbered.{item, with_item}
-pub use Rattle.triple_arena.specs.NumberedLaws.{joined, eq_true, eq_false, item_within, item_past, item-with_other, item-push_same, item-push_other}
+pub use Rattle.triple_arena.specs.NumberedLaws.{joined, eq_true, eq_false, item_within, item_past, item-with_other, item-push_same, item-push_other, with_item-past, split_last}
 
 module _ {A : Type 0} where
   slice_get-set_same : (xs : List A) (k : ℕ) (x : A) → k < length xs → slice_get (set xs k x) k ≡ Some x
@@ -54,15 +54,6 @@ module _ {A : Type 0} where
   pub with_item-push : (xs : List A) (i : ℕ) (x y : A) → i ≡ length xs + 1 → with_item (xs ++ x ∷ []) i y ≡ xs ++ y ∷ []
   with_item-push xs zero x y e = absurd (omega arith)
   with_item-push xs (suc k) x y e = set-push xs k x y (omega arith)
-
-  -- a list with a last item is the rest and that item
-  pub split_last : (xs : List A) (x : A) → item xs (length xs) ≡ Some x → xs ≡ take (length xs - 1) xs ++ x ∷ []
-  split_last [] x e = absurd (cc)
-  split_last (y ∷ []) x e = let same : y ≡ x = cc in ap (λ z. z ∷ []) same
-  split_last (y ∷ z ∷ xs) x e =
-      let n : length (y ∷ z ∷ xs) - 1 ≡ suc (length xs) = omega arith in
-      let m : length (z ∷ xs) - 1 ≡ length xs = omega arith in
-      rw n (ap (λ l. y ∷ l) (rw m at (split_last (z ∷ xs) x e)))
 
 module _ {A B : Type 0} (f : A → B) where
   pub item-map : (xs : List A) (i : ℕ) → item (map f xs) i ≡ option_map f (item xs i)

@@ -5,9 +5,9 @@ use Rattle.std.proofs.lemmas.List.{length-set}
 use Rattle.std.proofs.lemmas.Option.{same_Some, some_pair_parts}
 use Rattle.std.specs.List.{refill}
 use Rattle.std.specs.Option.{option_map}
+use Rattle.triple_arena_ptr.specs.Pointers.{Pointer}
 use Rattle.triple_arena_stack.specs.Disjoint.{set_both}
 use Rattle.triple_arena.specs.Numbered.{item, with_item}
-use Rattle.triple_arena.specs.Pointers.{Pointer}
 use Rattle.triple_arena.specs.ArenaState.{ArenaState, entry, look_up, with_value}
 use Rattle.triple_arena.specs.Slot.{entry_of, with_slot_value}
 use Rattle.triple_arena.specs.Layout.{entry_at, Shows, with_value_at}
@@ -53,14 +53,14 @@ module _ {T : Type 0} (s : ArenaState T) where
   -- the value under a valid pointer is that of the entry at its index
   pub value_under_pointer : (p : Pointer) (i : ℕ) → i ≡ p.0 → is_some (look_up s p) ≡ true → value_of (entry s i) ≡ look_up s p
   value_under_pointer p i here valid =
-      let found = entry_of_value s p.0 p.1 valid in
+      let found = entry_of_value s.slots p.0 p.1 valid in
       ap (λ n. value_of (entry s n)) here ∙ ap value_of found.1 ∙ sym found.2
 
   -- two valid pointers with one index are one
   pub same_pointer : (p q : Pointer) → is_some (look_up s p) ≡ true → is_some (look_up s q) ≡ true → p.0 ≡ q.0 → p ≡ q
   same_pointer p q valid_p valid_q here =
-      let found_p = entry_of_value s p.0 p.1 valid_p in
-      let found_q = entry_of_value s q.0 q.1 valid_q in
+      let found_p = entry_of_value s.slots p.0 p.1 valid_p in
+      let found_q = entry_of_value s.slots q.0 q.1 valid_q in
       pointer_is p.0 p.1 q.0 q.1 here (some_pair_parts p.1 q.1 found_p.0 found_q.0 (sym found_p.1 ∙ ap (entry s) here ∙ found_q.1)).0
 
   -- an entry, by its generation and by its value

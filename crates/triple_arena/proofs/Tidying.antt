@@ -8,6 +8,7 @@ use Rattle.triple_arena.specs.ArenaState.{ArenaState, is_free, IsWellFormed}
 use Rattle.triple_arena.specs.FreeList.{before, trimmed, gaps, tidied, IsRising, IsInOrder}
 use Rattle.triple_arena.specs.Slot.{entry_of}
 use Rattle.triple_arena.specs.EntryLaws.{entry-tidied}
+use Rattle.triple_arena.specs.LengthLaws.{trimmed_live}
 use Rattle.triple_arena.specs.Layout.{after, IsLinked, Shows}
 use Rattle.triple_arena.proofs.NumberedLists.{map-with_item, item_within, item-with_same, item-with_other, split_last}
 use Rattle.triple_arena.specs.declared.slot.FreeLink.{FreeLink}
@@ -41,15 +42,6 @@ module _ {T : Type 0} where
   trimmed_done (Some e ∷ []) live = refl
   trimmed_done (None ∷ y ∷ ys) live = ap (before None) (trimmed_done (y ∷ ys) live)
   trimmed_done (Some e ∷ y ∷ ys) live = ap (before (Some e)) (trimmed_done (y ∷ ys) live)
-
-  before_live : (x : Option (ℕ × T)) (ys : List (Option (ℕ × T))) → count_by is_some (before x ys) ≡ cond (is_some x) 1 0 + count_by is_some ys
-  before_live (Some e) ys = sum_by-cons (λ o. cond (is_some o) 1 0) (Some e) ys
-  before_live None [] = refl
-  before_live None (y ∷ ys) = sum_by-cons (λ o. cond (is_some o) 1 0) None (y ∷ ys)
-
-  pub trimmed_live : (xs : List (Option (ℕ × T))) → count_by is_some (trimmed xs) ≡ count_by is_some xs
-  trimmed_live [] = refl
-  trimmed_live (x ∷ xs) = omega (arith, before_live x (trimmed xs), trimmed_live xs, sum_by-cons (λ o. cond (is_some o) 1 0) x xs)
 
   before_length : (x : Option (ℕ × T)) (ys : List (Option (ℕ × T))) → length (before x ys) ≤ 1 + length ys
   before_length (Some e) ys = omega arith
@@ -108,7 +100,7 @@ module _ {A : Type 0} where
   set_same (y ∷ xs) zero x found = let same : y ≡ x = cc in ap (λ z. z ∷ xs) (sym same)
   set_same (y ∷ xs) (suc k) x found = ap (λ l. y ∷ l) (set_same xs k x found)
 
-  with_item_same : (xs : List A) (i : ℕ) (x : A) → item xs i ≡ Some x → with_item xs i x ≡ xs
+  pub with_item_same : (xs : List A) (i : ℕ) (x : A) → item xs i ≡ Some x → with_item xs i x ≡ xs
   with_item_same xs zero x found = refl
   with_item_same xs (suc k) x found = set_same xs k x found
 

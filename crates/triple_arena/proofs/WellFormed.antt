@@ -2,18 +2,18 @@
 use Rattle.std.proofs.Common.{◌≡◌, ◌≢◌, ℕ, zero, suc, ◌+◌, ◌-◌, ◌<◌, ◌≤◌, ◌==◌, Bool, true, false, List, [], ◌∷◌, ◌++◌, length, take, Option, Some, None, is_some, count_by, cond, refl, sym, ap, subst, ◌∙◌, inl, inr, arith, true≢false, not}
 use Rattle.std.proofs.lemmas.Bool.{cases_eq, eqb-true}
 use Rattle.std.proofs.lemmas.List.{length_push}
-use Rattle.std.proofs.lemmas.List.Sums.{sum_by-set, sum_by_push, sum_by-cons}
-use Rattle.std.proofs.lemmas.Option.{slice_get_within, get_or_from_slice_get}
+use Rattle.std.proofs.lemmas.List.Sums.{sum_by_push, sum_by-cons}
+use Rattle.triple_arena_ptr.specs.Pointers.{Pointer}
 use Rattle.triple_arena.proofs.NumberedLists.{joined, item_nil, eq_true, eq_false, item_within, item_past, length-with_item, item-with_same, item-with_other, item-push_same, item-push_other, split_last}
 use Rattle.std.specs.Option.{option_and_then, option_map}
 use Rattle.triple_arena.specs.Numbered.{item, with_item}
-use Rattle.triple_arena.specs.Pointers.{Pointer}
 use Rattle.triple_arena.specs.Entries.{look_up_in, entry_in, value_under, with_value_in, with_generation_in}
 use Rattle.triple_arena.specs.ArenaState.{ArenaState, new_arena, capacity, entry, look_up, slot_count, arena_len, is_free, IsWellFormed}
 use Rattle.triple_arena.specs.Insertion.{place_among, place, inserted_among, inserted}
 use Rattle.triple_arena.specs.Ending.{removed, invalidated}
 pub use Rattle.triple_arena.specs.EntryLaws.{count_head, first_free}
 use Rattle.triple_arena.specs.EntryLaws.{by_case}
+pub use Rattle.triple_arena.specs.LengthLaws.{count-with_item}
 
 -- the entry at an index is this one
 abbrev pub with_entry : {T : Type 0} → ArenaState T → ℕ → ℕ × T → ArenaState T
@@ -24,13 +24,6 @@ pub count_tail : (i j : ℕ) (rest : List ℕ) → i ≢ j → count_by (λ k. k
 count_tail i j rest h = omega (arith, sum_by-cons (λ k. cond (k == j) 1 0) i rest, ap {B = ℕ} (λ b. cond b 1 0) (eq_false i j h))
 
 module _ {T : Type 0} where
-  -- the count of entries after a write under an index
-  pub count-with_item : (xs : List (Option (ℕ × T))) (i : ℕ) (old new : Option (ℕ × T)) → item xs i ≡ Some old → count_by is_some (with_item xs i new) + cond (is_some old) 1 0 ≡ count_by is_some xs + cond (is_some new) 1 0
-  count-with_item xs zero old new found = absurd (cc)
-  count-with_item xs (suc k) old new found =
-      let within = slice_get_within xs k old found in
-      rw (get_or_from_slice_get xs k old None found) at (sum_by-set (λ o. cond (is_some o) 1 0) xs k new None within)
-
   free_once-push : (s : ArenaState T) (e : ℕ × T) (i : ℕ) → IsWellFormed s → count_by (λ j. j == i) s.free ≡ cond (is_free (item (s.slots ++ Some e ∷ []) i)) 1 0
   free_once-push s e i well =
       elim (cases_eq i (length s.slots + 1)) [
@@ -191,16 +184,16 @@ module _ {T : Type 0} where
       by_test false e some = absurd (cc)
 
   -- a live index and generation have an entry
-  pub entry_of_value : (s : ArenaState T) (i stamp : ℕ) → is_some (look_up s (i, stamp)) ≡ true → (v : T) × (entry s i ≡ Some (stamp, v)) × (look_up s (i, stamp) ≡ Some v)
-  entry_of_value s i stamp some = by_entry (entry s i) refl some
+  pub entry_of_value : (xs : List (Option (ℕ × T))) (i stamp : ℕ) → is_some (look_up_in xs (i, stamp)) ≡ true → (v : T) × (entry_in xs i ≡ Some (stamp, v)) × (look_up_in xs (i, stamp) ≡ Some v)
+  entry_of_value xs i stamp some = by_entry (entry_in xs i) refl some
     where
-      by_test : (e : ℕ × T) (b : Bool) → (e.0 == stamp) ≡ b → entry s i ≡ Some e → is_some (cond b (Some e.1) None) ≡ true → (v : T) × (entry s i ≡ Some (stamp, v)) × (look_up s (i, stamp) ≡ Some v)
+      by_test : (e : ℕ × T) (b : Bool) → (e.0 == stamp) ≡ b → entry_in xs i ≡ Some e → is_some (cond b (Some e.1) None) ≡ true → (v : T) × (entry_in xs i ≡ Some (stamp, v)) × (look_up_in xs (i, stamp) ≡ Some v)
       by_test e true t h some =
           let same : e.0 ≡ stamp = eqb-true e.0 stamp t in
           (e.1, h ∙ ap (λ n. Some (n, e.1)) same, ap (option_and_then (value_under stamp)) h ∙ ap (λ b. cond b (Some e.1) None) t)
       by_test e false t h some = absurd (cc)
 
-      by_entry : (o : Option (ℕ × T)) → entry s i ≡ o → is_some (option_and_then (value_under stamp) o) ≡ true → (v : T) × (entry s i ≡ Some (stamp, v)) × (look_up s (i, stamp) ≡ Some v)
+      by_entry : (o : Option (ℕ × T)) → entry_in xs i ≡ o → is_some (option_and_then (value_under stamp) o) ≡ true → (v : T) × (entry_in xs i ≡ Some (stamp, v)) × (look_up_in xs (i, stamp) ≡ Some v)
       by_entry None h some = absurd (cc)
       by_entry (Some e) h some = by_test e (e.0 == stamp) refl h some
 

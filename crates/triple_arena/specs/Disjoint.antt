@@ -5,8 +5,8 @@ use Rattle.std.specs.Fn.{Once}
 use Rattle.std.specs.Option.{option_map}
 use Rattle.triple_arena_base.specs.declared.errors.GetDisjointMutError.{GetDisjointMutError}
 use Rattle.triple_arena_base.specs.declared.errors.GetDisjointMutError.TheVariants.{IndexOutOfBounds, OverlappingIndices}
+use Rattle.triple_arena_ptr.specs.Pointers.{Pointer}
 use Rattle.triple_arena_stack.specs.Disjoint.{AreTwo, IsRefused, FnOnceTakesAtPairMut, FnOnceReturnsAtPairMut}
-use Rattle.triple_arena.specs.Pointers.{Pointer}
 use Rattle.triple_arena.specs.Entries.{entry_in, look_up_in}
 
 module _ {T : Type 0} where

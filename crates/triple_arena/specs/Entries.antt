@@ -1,8 +1,8 @@
 -- Entries by index: for each index from 1 on, the generation and the value of the entry that stands there, or nothing.
 use Rattle.std.specs.Prelude.{◌≡◌, ◌≢◌, ℕ, ◌<◌, ◌==◌, cond, List, count_by, Option, Some, None, is_some, IsSome}
 use Rattle.std.specs.Option.{option_and_then, option_map}
+use Rattle.triple_arena_ptr.specs.Pointers.{Pointer}
 use Rattle.triple_arena.specs.Numbered.{item, with_item}
-use Rattle.triple_arena.specs.Pointers.{Pointer}
 
 module _ {T : Type 0} where
   -- the entry at an index, if there is one

@@ -1,5 +1,5 @@
 -- What each change of an arena leaves of its entries, by their indexes, and of its limit and capacity.
-use Rattle.std.proofs.Common.{◌≡◌, ◌≢◌, ℕ, zero, suc, ◌+◌, ◌-◌, ◌≤◌, ◌==◌, Bool, true, false, List, [], ◌∷◌, length, set, take, Option, Some, None, cond, count_by, min, slice_get, refl, sym, ap, subst, ◌∙◌, inl, inr, arith}
+use Rattle.std.proofs.Common.{◌≡◌, ◌≢◌, ℕ, zero, suc, ◌+◌, ◌-◌, ◌*◌, ◌<◌, ◌≤◌, ◌==◌, Bool, true, false, List, [], ◌∷◌, length, set, take, Option, Some, None, cond, count_by, min, slice_get, refl, sym, ap, subst, ◌∙◌, inl, inr, arith}
 use Rattle.std.proofs.lemmas.Bool.{cases_eq}
 use Rattle.std.proofs.lemmas.List.{length-take-le}
 use Rattle.std.proofs.lemmas.List.Sums.{sum_by-cons}
@@ -21,13 +21,27 @@ pub count_head : (i : ℕ) (rest : List ℕ) → count_by (λ j. j == i) (i ∷ 
 count_head i rest = omega (arith, sum_by-cons (λ j. cond (j == i) 1 0) i rest, ap {B = ℕ} (λ b. cond b 1 0) (eq_true i i refl))
 
 -- a reallocation leaves room for what fits
-within_room : (kind : StackKind) (room len m greatest : ℕ) (limit : Option ℕ) → len ≤ min (capacity_of room limit) greatest → len ≤ min (capacity_of (reallocated_room kind room len m) limit) greatest
+pub within_room : (kind : StackKind) (room len m greatest : ℕ) (limit : Option ℕ) → len ≤ min (capacity_of room limit) greatest → len ≤ min (capacity_of (reallocated_room kind room len m) limit) greatest
 within_room heap room len m greatest None fits = omega arith
 within_room heap room len m greatest (Some most) fits = omega arith
 within_room limited room len m greatest None fits = omega arith
 within_room limited room len m greatest (Some most) fits = omega arith
 within_room fixed room len m greatest limit fits = fits
 within_room (array places) room len m greatest limit fits = fits
+
+-- the capacity that a full arena asks for is a greater one
+pub doubled : (c : ℕ) → c < cond (c == 0) 4 (c * 2)
+doubled zero = omega arith
+doubled (suc c) = rw (eq_false (suc c) 0 (λ e. omega arith)) (omega arith)
+
+-- a reallocation to a capacity that is no less leaves one that is no less
+kept_room : (kind : StackKind) (room len m greatest : ℕ) (limit : Option ℕ) → min (capacity_of room limit) greatest ≤ m → min (capacity_of room limit) greatest ≤ min (capacity_of (reallocated_room kind room len (min (capacity_of m limit) greatest)) limit) greatest
+kept_room heap room len m greatest None more = omega arith
+kept_room heap room len m greatest (Some most) more = omega arith
+kept_room limited room len m greatest None more = omega arith
+kept_room limited room len m greatest (Some most) more = omega arith
+kept_room fixed room len m greatest limit more = omega arith
+kept_room (array places) room len m greatest limit more = omega arith
 
 module _ {T : Type 0} where
   set_entry : (xs : List (Option (ℕ × T))) (k : ℕ) (e : Option (ℕ × T)) → (slice_get xs k ≡ None → e ≡ None) → joined (slice_get (set xs k e) k) ≡ e
@@ -180,3 +194,18 @@ module _ {T : Type 0} where
             total = well.total;
             fits = within_room kind s.room (slot_count s) (next_capacity s) s.greatest s.limit well.fits;
           }
+
+  pub fitting-grown : (kind : StackKind) (s : ArenaState T) → capacity s ≤ capacity (grown kind s)
+  fitting-grown kind s = by_test (arena_len s == capacity s)
+    where
+      by_test : (b : Bool) → capacity s ≤ capacity (cond b (with_room_for kind s (next_capacity s)) s)
+      by_test false = omega arith
+      by_test true = kept_room kind s.room (slot_count s) (cond (capacity s == 0) 4 (capacity s * 2)) s.greatest s.limit (omega (arith, doubled (capacity s)))
+
+  -- an arena that has a place stays as it is
+  pub same-grown : (kind : StackKind) (s : ArenaState T) → arena_len s < capacity s → grown kind s ≡ s
+  same-grown kind s place = rw (eq_false (arena_len s) (capacity s) (λ e. omega arith)) refl
+
+  -- the counter is the generation of the next pointer
+  pub generation-next : (s : ArenaState T) (generation : ℕ) → Some s.counter ≡ Some generation → (next_pointer s).1 ≡ generation
+  generation-next s generation told = cc

@@ -1,5 +1,6 @@
 -- What contracts see of an insertion entry.
-use Rattle.std.specs.Borrow.{MutBor, GName}
+use Rattle.std.specs.Prelude.{◌≡◌, Result}
+use Rattle.std.specs.Borrow.{RestsIfErr, Fml, RattleType, MutBor, GName}
 use Rattle.triple_arena.specs.ArenaState.{ArenaState}
 use Rattle.triple_arena.specs.declared.insert_entry.ArenaInsertEntry.{ArenaInsertEntry}
 
@@ -15,3 +16,7 @@ module _ {P T S I G : Type 0} where
   -- the ghost name of the reference to the arena
   abbrev pub entry_lender : ArenaInsertEntry P T S I G → GName
   entry_lender entry = entry.arena.ghost_name
+
+  -- refused, the arena stays as it is
+  abbrev pub entry_rests : (arena_row : RattleType) → MutBor arena_row.Denot → {E : Type 0} → Result (ArenaInsertEntry P T S I G) E → Fml
+  entry_rests arena_row arena result = RestsIfErr arena_row arena entry_lender result (λ end. end ≡ arena.now)

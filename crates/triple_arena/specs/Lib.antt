@@ -1,6 +1,5 @@
 pub mod Numbered
 pub mod NumberedLaws
-pub mod Pointers
 pub mod Entries
 pub mod ArenaState
 pub mod Insertion
@@ -8,6 +7,7 @@ pub mod Ending
 pub mod FreeList
 pub mod Capacity
 pub mod EntryLaws
+pub mod LengthLaws
 pub mod Slot
 pub mod Layout
 pub mod Lends

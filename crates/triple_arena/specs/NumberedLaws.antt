@@ -1,5 +1,5 @@
 -- Laws of lists whose items are numbered from 1.
-use Rattle.std.proofs.Common.{◌≡◌, ◌≢◌, ℕ, zero, suc, ◌+◌, ◌<◌, ◌≤◌, ◌==◌, true, false, List, [], ◌∷◌, ◌++◌, length, set, Option, Some, None, slice_get, refl, ap, arith}
+use Rattle.std.proofs.Common.{◌≡◌, ◌≢◌, ℕ, zero, suc, ◌+◌, ◌-◌, ◌<◌, ◌≤◌, ◌==◌, true, false, List, [], ◌∷◌, ◌++◌, length, set, take, Option, Some, None, slice_get, refl, ap, arith}
 use Rattle.std.proofs.lemmas.Bool.Decides.{nat_tests}
 use Rattle.std.proofs.lemmas.Option.{slice_get_within, slice_get_past}
 use Rattle.std.specs.Option.{option_and_then}
@@ -54,3 +54,22 @@ module _ {A : Type 0} where
   pub item-push_other : (xs : List A) (i : ℕ) (x : A) → i ≢ length xs + 1 → item (xs ++ x ∷ []) i ≡ item xs i
   item-push_other xs zero x h = refl
   item-push_other xs (suc k) x h = slice_get-push_other xs k x (λ e. h (omega arith))
+
+  set-past : (xs : List A) (k : ℕ) (x : A) → slice_get xs k ≡ None → set xs k x ≡ xs
+  set-past [] k x e = refl
+  set-past (y ∷ xs) zero x e = absurd (cc)
+  set-past (y ∷ xs) (suc k) x e = ap (λ l. y ∷ l) (set-past xs k x e)
+
+  -- an item is put only where one stands
+  pub with_item-past : (xs : List A) (i : ℕ) (x : A) → item xs i ≡ None → with_item xs i x ≡ xs
+  with_item-past xs zero x e = refl
+  with_item-past xs (suc k) x e = set-past xs k x e
+
+  -- a list with a last item is the rest and that item
+  pub split_last : (xs : List A) (x : A) → item xs (length xs) ≡ Some x → xs ≡ take (length xs - 1) xs ++ x ∷ []
+  split_last [] x e = absurd (cc)
+  split_last (y ∷ []) x e = let same : y ≡ x = cc in ap (λ z. z ∷ []) same
+  split_last (y ∷ z ∷ xs) x e =
+      let n : length (y ∷ z ∷ xs) - 1 ≡ suc (length xs) = omega arith in
+      let m : length (z ∷ xs) - 1 ≡ length xs = omega arith in
+      rw n (ap (λ l. y ∷ l) (rw m at (split_last (z ∷ xs) x e)))

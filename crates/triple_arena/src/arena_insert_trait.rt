@@ -1,9 +1,9 @@
 //! Insertion into an arena that gives the pointers.
 
-ghost use Rattle.std.specs.Prelude.{◌≡◌, ◌<◌, ◌↔◌, IsOk, IfOk, OnOk, OnErr, None, Some, Err};
+ghost use Rattle.std.specs.Prelude.{◌≡◌, ◌≢◌, ℕ, ◌+◌, ◌≤◌, ◌<◌, ◌↔◌, IsOk, IfOk, OnOk, OnErr, None, Some, Err};
 ghost use Rattle.triple_arena_ptr.specs.Numbers.{greatest_index};
-ghost use Rattle.triple_arena.specs.Pointers.{Pointer, numbers};
-ghost use Rattle.triple_arena.specs.Entries.{entry_in, entry_count, ChangesAt, KeepsEntries};
+ghost use Rattle.triple_arena_ptr.specs.Pointers.{Pointer};
+ghost use Rattle.triple_arena.specs.Entries.{entry_in, look_up_in, entry_count, ChangesAt, KeepsEntries};
 ghost use Rattle.triple_arena.specs.Capacity.{IsFullAtLimit};
 
 use crate::arena_trait::ArenaTrait;
@@ -25,22 +25,21 @@ pub trait ArenaInsertTrait<P: Ptr, T>: ArenaTrait<P, T> {
     /// growth, which `len` and `capacity` tell. No entry stands at its index.
     fn next_ptr(&self) -> P
         requires { entry_count (Self.slots self.now) < Self.fitting self.now }
-        ensures pointer { numbers P.Inx.number P.Gen.number P.index_of P.generation_of result
-            ≡ next self.now }
-        ensures free { entry_in (Self.slots self.now) (P.Inx.number (P.index_of result)) ≡ None };
+        ensures pointer { P.numbers result ≡ next self.now }
+        ensures free { entry_in (Self.slots self.now) (P.numbers result).0 ≡ None };
 
     /// Inserts `t` where no entry stood, and gives its pointer, on the condition that there is a
     /// place without growth, which `len` and `capacity` tell. It takes no memory.
     fn insert_reserved(&mut self, t: T) -> P
         requires { entry_count (Self.slots self.old) < Self.fitting self.old }
-        ensures pointer { numbers P.Inx.number P.Gen.number P.index_of P.generation_of result
-            ≡ next self.old }
-        ensures free { entry_in (Self.slots self.old) (P.Inx.number (P.index_of result)) ≡ None }
+        ensures pointer { P.numbers result ≡ next self.old }
+        ensures free { entry_in (Self.slots self.old) (P.numbers result).0 ≡ None }
         ensures inserted { self.new ≡ inserted self.old t }
         ensures valid { Self.valid self.old };
 
-    /// Inserts `t`, and gives its pointer. A full arena grows first: to 4 slots or to twice its
-    /// capacity, as far as the limit allows and there are indexes.
+    /// Inserts `t`, and gives its pointer. A full arena grows first: its capacity never falls, and
+    /// it has a place then. An `Arena` grows to 4 slots or to twice its capacity, as far as the
+    /// limit allows and there are indexes.
     ///
     /// `BeyondMaxCapacity` exactly where the arena is full and its limit is reached; else
     /// `AllocError` where it is full and memory is refused, or there is no greater index. Then the
@@ -48,8 +47,8 @@ pub trait ArenaInsertTrait<P: Ptr, T>: ArenaTrait<P, T> {
     fn insert_reallocating(&mut self, t: T) -> Result<P, ReallocationError>
     where
         T: Drop,
-        ensures pointer { IfOk result
-            (λ p. numbers P.Inx.number P.Gen.number P.index_of P.generation_of p ≡ next self.old) }
+        ensures pointer { IfOk result (λ p. P.numbers p ≡ next self.old) }
+        ensures free { IfOk result (λ p. entry_in (Self.slots self.old) (P.numbers p).0 ≡ None) }
         ensures inserted { OnOk result (self.new ≡ inserted (grown self.old) t) }
         ensures refused { OnErr result (self.new ≡ self.old) }
         ensures beyond { (result ≡ Err ReallocationError.BeyondMaxCapacity)
@@ -58,14 +57,23 @@ pub trait ArenaInsertTrait<P: Ptr, T>: ArenaTrait<P, T> {
         ensures indexed { OnOk result (entry_count (Self.slots self.old) ≡ Self.fitting self.old
             → Self.fitting self.old < greatest_index P.Inx.greatest) }
         ensures had_place { entry_count (Self.slots self.old) < Self.fitting self.old
-            → IsOk result }
+            → IsOk result × (self.new ≡ inserted self.old t) }
+        ensures place { OnOk result (entry_count (Self.slots (grown self.old))
+            < Self.fitting (grown self.old)) }
         ensures valid { Self.valid self.old };
 
-    // an insertion puts the value under the next pointer, and leaves every other entry, limit and
-    // capacity
+    // the generation of the next pointer is the one that the arena tells, where it tells one
+    ghost generation_next: { (arena : Self) (generation : ℕ)
+        → Self.next_generation arena ≡ Some generation → (next arena).1 ≡ generation };
+
+    // an insertion puts the value under the next pointer, so that there is one entry more, and
+    // leaves every other entry, limit and capacity
     ghost slots_inserted: { (arena : Self) (value : T) → Self.valid arena
         → ChangesAt (Self.slots arena) (next arena).0 (Some ((next arena).1, value))
         (Self.slots (inserted arena value)) };
+
+    ghost len_inserted: { (arena : Self) (value : T) → Self.valid arena
+        → entry_count (Self.slots (inserted arena value)) ≡ entry_count (Self.slots arena) + 1 };
 
     ghost limit_inserted: { (arena : Self) (value : T)
         → Self.limit (inserted arena value) ≡ Self.limit arena };
@@ -73,9 +81,19 @@ pub trait ArenaInsertTrait<P: Ptr, T>: ArenaTrait<P, T> {
     ghost fitting_inserted: { (arena : Self) (value : T)
         → Self.fitting (inserted arena value) ≡ Self.fitting arena };
 
-    // growth leaves every entry, the limit, and what the next insertion gives
+    // growth leaves an arena that has a place as it is
+    ghost same_grown: { (arena : Self) → entry_count (Self.slots arena) < Self.fitting arena
+        → grown arena ≡ arena };
+
+    // growth leaves every entry, the limit, and what the next insertion gives; the capacity never
+    // falls
     ghost slots_grown: { (arena : Self)
         → KeepsEntries (Self.slots arena) (Self.slots (grown arena)) };
+
+    ghost len_grown: { (arena : Self)
+        → entry_count (Self.slots (grown arena)) ≡ entry_count (Self.slots arena) };
+
+    ghost fitting_grown: { (arena : Self) → Self.fitting arena ≤ Self.fitting (grown arena) };
 
     ghost limit_grown: { (arena : Self) → Self.limit (grown arena) ≡ Self.limit arena };
 
@@ -93,8 +111,11 @@ pub trait ArenaInsertTrait<P: Ptr, T>: ArenaTrait<P, T> {
         T: Drop,
         ensures variant { IsOk result
             ↔ (entry_count (Self.slots self.old) < Self.fitting self.old) }
-        ensures pointer { IfOk result
-            (λ p. numbers P.Inx.number P.Gen.number P.index_of P.generation_of p ≡ next self.old) }
+        ensures pointer { IfOk result (λ p. P.numbers p ≡ next self.old) }
+        ensures free { IfOk result (λ p. entry_in (Self.slots self.old) (P.numbers p).0 ≡ None) }
+        ensures found { IfOk result (λ p. look_up_in (Self.slots self.new) (P.numbers p) ≡ Some t) }
+        ensures others { IfOk result (λ p. (q : Pointer) → q.0 ≢ (P.numbers p).0
+            → look_up_in (Self.slots self.new) q ≡ look_up_in (Self.slots self.old) q) }
         ensures inserted { OnOk result (self.new ≡ inserted self.old t) }
         ensures refused { OnErr result (self.new ≡ self.old) }
         ensures valid { Self.valid self.old }
@@ -111,8 +132,11 @@ pub trait ArenaInsertTrait<P: Ptr, T>: ArenaTrait<P, T> {
     final fn insert(&mut self, t: T) -> Result<P, ReallocationError>
     where
         T: Drop,
-        ensures pointer { IfOk result
-            (λ p. numbers P.Inx.number P.Gen.number P.index_of P.generation_of p ≡ next self.old) }
+        ensures pointer { IfOk result (λ p. P.numbers p ≡ next self.old) }
+        ensures free { IfOk result (λ p. entry_in (Self.slots self.old) (P.numbers p).0 ≡ None) }
+        ensures found { IfOk result (λ p. look_up_in (Self.slots self.new) (P.numbers p) ≡ Some t) }
+        ensures others { IfOk result (λ p. (q : Pointer) → q.0 ≢ (P.numbers p).0
+            → look_up_in (Self.slots self.new) q ≡ look_up_in (Self.slots self.old) q) }
         ensures inserted { OnOk result (self.new ≡ inserted (grown self.old) t) }
         ensures refused { OnErr result (self.new ≡ self.old) }
         ensures beyond { (result ≡ Err ReallocationError.BeyondMaxCapacity)
@@ -121,7 +145,9 @@ pub trait ArenaInsertTrait<P: Ptr, T>: ArenaTrait<P, T> {
         ensures indexed { OnOk result (entry_count (Self.slots self.old) ≡ Self.fitting self.old
             → Self.fitting self.old < greatest_index P.Inx.greatest) }
         ensures had_place { entry_count (Self.slots self.old) < Self.fitting self.old
-            → IsOk result }
+            → IsOk result × (self.new ≡ inserted self.old t) }
+        ensures place { OnOk result (entry_count (Self.slots (grown self.old))
+            < Self.fitting (grown self.old)) }
         ensures valid { Self.valid self.old }
     {
         self.insert_reallocating(t)

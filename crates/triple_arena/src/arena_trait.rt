@@ -1,12 +1,12 @@
 //! What every arena answers.
 
-ghost use Rattle.std.specs.Prelude.{◌≡◌, ℕ, ◌≤◌, ◌<◌, ◌==◌, ◌↔◌, Bool, List, Option, length, is_some, IsSome, IsOk, IfOk, OnOk, OnErr, MatchOption, None, Err, [], min, option_copied};
+ghost use Rattle.std.specs.Prelude.{◌≡◌, ◌≢◌, ℕ, ◌+◌, ◌≤◌, ◌<◌, ◌==◌, ◌↔◌, Bool, List, Option, length, is_some, IsSome, IsOk, IfOk, OnOk, OnErr, MatchOption, None, Err, [], min, option_copied};
 ghost use Rattle.std.specs.Borrow.{sem, LendsIf};
 ghost use Rattle.std.specs.Option.{option_map, option_copied_mut};
 ghost use Rattle.triple_arena_ptr.specs.Numbers.{greatest_index};
+ghost use Rattle.triple_arena_ptr.specs.Pointers.{Pointer};
 ghost use Rattle.triple_arena_stack.specs.StackKind.{StackKind, new_room, new_limit, made_room, made_limit, CanHold, TakesNoMemory};
 ghost use Rattle.triple_arena_stack.specs.Capacity.{capacity_of, IsWithin, IsBeyond};
-ghost use Rattle.triple_arena.specs.Pointers.{numbers};
 ghost use Rattle.triple_arena.specs.Entries.{entry_in, look_up_in, entry_count, with_value_in, ChangesAt, KeepsEntries, IsFirst, IsLast};
 ghost use Rattle.triple_arena.specs.Ending.{told, told_of, map_told};
 
@@ -132,17 +132,13 @@ pub trait ArenaTrait<P: Ptr, T>: Sized {
 
     /// The value under `p`; none exactly where `p` is invalid.
     fn get(&self, p: P) -> Option<&T>
-        ensures { option_copied result
-            ≡ look_up_in (slots self.now)
-            (numbers P.Inx.number P.Gen.number P.index_of P.generation_of p) };
+        ensures { option_copied result ≡ look_up_in (slots self.now) (P.numbers p) };
 
     /// The value under `p`, for writing; none exactly where `p` is invalid.
     fn get_mut(&mut self, p: P) -> Option<&mut T>
-        ensures value { option_copied_mut result
-            ≡ look_up_in (slots self.old)
-            (numbers P.Inx.number P.Gen.number P.index_of P.generation_of p) }
+        ensures value { option_copied_mut result ≡ look_up_in (slots self.old) (P.numbers p) }
         ensures* writes_back { sem 𝓛 (LendsIf Self.row T.row self.entry result
-            (with_value self.old (P.Inx.number (P.index_of p))) self.old) };
+            (with_value self.old (P.numbers p).0) self.old) };
 
     /// The generation and the value of the entry at `inx`; none exactly where there is no entry.
     fn get_inx(&self, inx: P::Inx) -> Option<(P::Gen, &T)>
@@ -164,44 +160,43 @@ pub trait ArenaTrait<P: Ptr, T>: Sized {
     /// The pointer of the entry of least index; none exactly where there is no entry.
     fn find_first_inx_ptr(&self) -> Option<P>
         ensures { MatchOption result (entry_count (slots self.now) ≡ 0)
-            (λ p. IsFirst (slots self.now)
-            (numbers P.Inx.number P.Gen.number P.index_of P.generation_of p)) };
+            (λ p. IsFirst (slots self.now) (P.numbers p)) };
 
     /// The pointer of the entry of greatest index; none exactly where there is no entry.
     fn find_last_inx_ptr(&self) -> Option<P>
         ensures { MatchOption result (entry_count (slots self.now) ≡ 0)
-            (λ p. IsLast (slots self.now)
-            (numbers P.Inx.number P.Gen.number P.index_of P.generation_of p)) };
+            (λ p. IsLast (slots self.now) (P.numbers p)) };
 
     /// Gives the entry under `p` a new pointer, where the arena counts generations; `p` is invalid
     /// from then on, unless the new generation is its own, as it may be once the counter wrapped.
     ///
     /// `InvalidPtr` exactly where `p` is invalid; then nothing changes.
     fn invalidate(&mut self, p: P) -> InvalidationResult<P>
-        ensures answer { map_told
-            (numbers P.Inx.number P.Gen.number P.index_of P.generation_of) result
-            ≡ told_of (ending_wraps self.old) (option_map
-            (λ _. (P.Inx.number (P.index_of p), renewed self.old (P.Inx.number (P.index_of p))))
-            (look_up_in (slots self.old)
-            (numbers P.Inx.number P.Gen.number P.index_of P.generation_of p))) }
-        ensures done { IsSome (look_up_in (slots self.old)
-            (numbers P.Inx.number P.Gen.number P.index_of P.generation_of p))
-            → invalidates self.old (P.Inx.number (P.index_of p)) self.new }
-        ensures unchanged { look_up_in (slots self.old)
-            (numbers P.Inx.number P.Gen.number P.index_of P.generation_of p) ≡ None
+        ensures answer { map_told P.numbers result ≡ told_of (ending_wraps self.old) (option_map
+            (λ _. ((P.numbers p).0, renewed self.old (P.numbers p).0))
+            (look_up_in (slots self.old) (P.numbers p))) }
+        ensures done { IsSome (look_up_in (slots self.old) (P.numbers p))
+            → invalidates self.old (P.numbers p).0 self.new }
+        ensures found { IsSome (look_up_in (slots self.old) (P.numbers p))
+            → look_up_in (slots self.new) ((P.numbers p).0, renewed self.old (P.numbers p).0)
+            ≡ look_up_in (slots self.old) (P.numbers p) }
+        ensures others { (q : Pointer) → q.0 ≢ (P.numbers p).0
+            → look_up_in (slots self.new) q ≡ look_up_in (slots self.old) q }
+        ensures unchanged { look_up_in (slots self.old) (P.numbers p) ≡ None
             → self.new ≡ self.old };
 
     /// Takes out the entry under `p`, and gives its value.
     ///
     /// `InvalidPtr` exactly where `p` is invalid; then nothing changes.
     fn remove(&mut self, p: P) -> InvalidationResult<T>
-        ensures answer { result ≡ told_of (ending_wraps self.old) (look_up_in (slots self.old)
-            (numbers P.Inx.number P.Gen.number P.index_of P.generation_of p)) }
-        ensures done { IsSome (look_up_in (slots self.old)
-            (numbers P.Inx.number P.Gen.number P.index_of P.generation_of p))
-            → removes self.old (P.Inx.number (P.index_of p)) self.new }
-        ensures unchanged { look_up_in (slots self.old)
-            (numbers P.Inx.number P.Gen.number P.index_of P.generation_of p) ≡ None
+        ensures answer { result
+            ≡ told_of (ending_wraps self.old) (look_up_in (slots self.old) (P.numbers p)) }
+        ensures done { IsSome (look_up_in (slots self.old) (P.numbers p))
+            → removes self.old (P.numbers p).0 self.new }
+        ensures gone { look_up_in (slots self.new) (P.numbers p) ≡ None }
+        ensures others { (q : Pointer) → q ≢ P.numbers p
+            → look_up_in (slots self.new) q ≡ look_up_in (slots self.old) q }
+        ensures unchanged { look_up_in (slots self.old) (P.numbers p) ≡ None
             → self.new ≡ self.old };
 
     /// Takes out the entry at `inx`, and gives its generation and its value.
@@ -212,15 +207,19 @@ pub trait ArenaTrait<P: Ptr, T>: Sized {
             ≡ told_of (ending_wraps self.old) (entry_in (slots self.old) (P.Inx.number inx)) }
         ensures done { IsSome (entry_in (slots self.old) (P.Inx.number inx))
             → removes self.old (P.Inx.number inx) self.new }
+        ensures gone { entry_in (slots self.new) (P.Inx.number inx) ≡ None }
+        ensures others { (q : Pointer) → q.0 ≢ P.Inx.number inx
+            → look_up_in (slots self.new) q ≡ look_up_in (slots self.old) q }
         ensures unchanged { entry_in (slots self.old) (P.Inx.number inx) ≡ None
             → self.new ≡ self.old };
 
-    /// Drops all entries. The capacity stays.
+    /// Drops all entries, and raises the counter once if there was one. The capacity stays.
     fn clear(&mut self) -> InvalidationOption<()>
     where
         T: Drop,
         ensures answer { result ≡ told (clearing_wraps self.old) tt }
-        ensures done { clears self.old self.new };
+        ensures done { clears self.old self.new }
+        ensures gone { (q : Pointer) → look_up_in (slots self.new) q ≡ None };
 
     // an arena without slots has none, and its limit and capacity are those asked for
     ghost slots_fresh: { (room : ℕ) (limit : Option ℕ) → slots (fresh room limit) ≡ [] };
@@ -230,9 +229,12 @@ pub trait ArenaTrait<P: Ptr, T>: Sized {
     ghost fitting_fresh: { (room : ℕ) (most : Option ℕ)
         → fitting (fresh room most) ≡ min (capacity_of room most) (greatest_index P.Inx.greatest) };
 
-    // another value changes one entry's value, and leaves limit and capacity
+    // another value changes one entry's value, and leaves the number of entries, limit and capacity
     ghost slots_with_value: { (arena : Self) (i : ℕ) (value : T)
         → slots (with_value arena i value) ≡ with_value_in (slots arena) i value };
+
+    ghost len_with_value: { (arena : Self) (i : ℕ) (value : T)
+        → entry_count (slots (with_value arena i value)) ≡ entry_count (slots arena) };
 
     ghost limit_with_value: { (arena : Self) (i : ℕ) (value : T)
         → limit (with_value arena i value) ≡ limit arena };
@@ -240,9 +242,14 @@ pub trait ArenaTrait<P: Ptr, T>: Sized {
     ghost fitting_with_value: { (arena : Self) (i : ℕ) (value : T)
         → fitting (with_value arena i value) ≡ fitting arena };
 
-    // a removal takes away the entry at its index alone, and leaves limit and capacity
+    // a removal takes away the entry at its index alone, so that there is one less, and leaves
+    // limit and capacity
     ghost slots_removed: { (old : Self) (i : ℕ) (new : Self) → removes old i new
         → ChangesAt (slots old) i None (slots new) };
+
+    ghost len_removed: { (old : Self) (i : ℕ) (new : Self) → removes old i new
+        → IsSome (entry_in (slots old) i)
+        → entry_count (slots new) + 1 ≡ entry_count (slots old) };
 
     ghost limit_removed: { (old : Self) (i : ℕ) (new : Self) → removes old i new
         → limit new ≡ limit old };
@@ -250,11 +257,14 @@ pub trait ArenaTrait<P: Ptr, T>: Sized {
     ghost fitting_removed: { (old : Self) (i : ℕ) (new : Self) → removes old i new
         → fitting new ≡ fitting old };
 
-    // an invalidation renews the generation of the entry at its index alone, and leaves limit and
-    // capacity
+    // an invalidation renews the generation of the entry at its index alone, and leaves the number
+    // of entries, limit and capacity
     ghost slots_invalidated: { (old : Self) (i : ℕ) (new : Self) → invalidates old i new
         → ChangesAt (slots old) i (option_map (λ e. (renewed old i, e.1)) (entry_in (slots old) i))
         (slots new) };
+
+    ghost len_invalidated: { (old : Self) (i : ℕ) (new : Self) → invalidates old i new
+        → entry_count (slots new) ≡ entry_count (slots old) };
 
     ghost limit_invalidated: { (old : Self) (i : ℕ) (new : Self) → invalidates old i new
         → limit new ≡ limit old };
@@ -276,11 +286,17 @@ pub trait ArenaTrait<P: Ptr, T>: Sized {
     ghost slots_reallocated: { (old : Self) (m : ℕ) (new : Self) → reallocates old m new
         → KeepsEntries (slots old) (slots new) };
 
+    ghost len_reallocated: { (old : Self) (m : ℕ) (new : Self) → reallocates old m new
+        → entry_count (slots new) ≡ entry_count (slots old) };
+
     ghost limit_reallocated: { (old : Self) (m : ℕ) (new : Self) → reallocates old m new
         → limit new ≡ limit old };
 
     ghost slots_settled: { (old : Self) (m : ℕ) (new : Self) → settles old m new
         → KeepsEntries (slots old) (slots new) };
+
+    ghost len_settled: { (old : Self) (m : ℕ) (new : Self) → settles old m new
+        → entry_count (slots new) ≡ entry_count (slots old) };
 
     ghost limit_settled: { (old : Self) (m : ℕ) (new : Self) → settles old m new
         → limit new ≡ limit old };
@@ -297,8 +313,7 @@ pub trait ArenaTrait<P: Ptr, T>: Sized {
 
     /// Whether `p` is valid.
     final fn contains(&self, p: P) -> bool
-        ensures { result ≡ is_some (look_up_in (slots self.now)
-            (numbers P.Inx.number P.Gen.number P.index_of P.generation_of p)) }
+        ensures { result ≡ is_some (look_up_in (slots self.now) (P.numbers p)) }
     {
         self.get(p).is_some()
     }

@@ -7,7 +7,6 @@ ghost use Rattle.triple_arena_ptr.specs.Numbers.{greatest_index, raise, wraps, f
 ghost use Rattle.triple_arena_stack.specs.Capacity.{capacity_of, IsWithin, IsBeyond, IsAtLimit};
 ghost use Rattle.triple_arena_stack.specs.StackKind.{IsOfKind};
 ghost use Rattle.triple_arena_stack.specs.Disjoint.{DisjointAnswer};
-ghost use Rattle.triple_arena.specs.Pointers.{numbers};
 ghost use Rattle.triple_arena.specs.ArenaState.{ArenaState, new_arena, slot_count, capacity, arena_len, entry, look_up, with_value, IsWellFormed};
 ghost use Rattle.triple_arena.specs.Insertion.{next_pointer, inserted};
 ghost use Rattle.triple_arena.specs.Ending.{removed, invalidated, cleared, told};
@@ -80,42 +79,57 @@ impl<P: Ptr, T, S: NonZeroInxGenericStack<ArenaSlot<P, T>>> ArenaTrait<P, T> for
     ghost use Rattle.std.specs.Prelude.{refl};
     ghost use Rattle.std.proofs.Common.{ap};
     ghost use Rattle.triple_arena.specs.EntryLaws.{slots-removed, limit_of-removed, fitting-removed, slots-invalidated, slots-cleared, slots-reallocated, slots-settled};
+    ghost use Rattle.triple_arena.specs.LengthLaws.{len-with_value, len-removed, len-invalidated, len-reallocated, len-settled};
 
+    // the entries of the slots, and nothing for a free one
     ghost slots = { λ s. s.slots };
 
+    // the free list has each free index once, and the slots are no more than fit
     ghost valid = { IsWellFormed };
 
+    // the smallest of room, limit and greatest index
     ghost fitting = { capacity };
 
     ghost limit = { λ s. s.limit };
 
     ghost kind = { S.kind };
 
+    // no slot, and the first generation as the counter
     ghost fresh = { λ room limit. new_arena room limit (greatest_index P.Inx.greatest)
         (first_generation P.Gen.counting) };
 
+    // the counter
     ghost next_generation = { λ s. Some s.counter };
 
     ghost with_value = { with_value };
 
+    // the counter is raised, and the entry has it as its generation
     ghost invalidates = { λ old i new.
         new ≡ invalidated (raise P.Gen.counting P.Gen.greatest) old i };
 
+    // the raised counter
     ghost renewed = { λ s _. raise P.Gen.counting P.Gen.greatest s.counter };
 
+    // the counter is raised; the last slot goes, and any other becomes the first free one
     ghost removes = { λ old i new. new ≡ removed (raise P.Gen.counting P.Gen.greatest) old i };
 
+    // the counter is the greatest generation
     ghost ending_wraps = { λ s. wraps P.Gen.counting P.Gen.greatest s.counter };
 
+    // no slot is left; the counter is raised once if there was an entry
     ghost clears = { λ old new. new ≡ cleared (raise P.Gen.counting P.Gen.greatest) old };
 
+    // there was an entry, and the counter is the greatest generation
     ghost clearing_wraps = { λ s. cond (arena_len s == 0) false
         (wraps P.Gen.counting P.Gen.greatest s.counter) };
 
+    // the free list is put in order, and then the room is changed as the stack's kind does it
     ghost reallocates = { λ old m new. new ≡ reallocated S.kind old m };
 
+    // the free list is put in order
     ghost settles = { λ old _ new. new ≡ tidied old };
 
+    // the room that the stack's kind makes of it, once the free list is in order, is the old one
     ghost keeps_room = { KeepsRoom S.kind };
 
     fn new(alloc: Global) -> Self {
@@ -263,17 +277,23 @@ impl<P: Ptr, T, S: NonZeroInxGenericStack<ArenaSlot<P, T>>> ArenaTrait<P, T> for
 
     ghost slots_with_value = { λ _ _ _. refl };
 
+    ghost len_with_value = { len-with_value };
+
     ghost limit_with_value = { λ _ _ _. refl };
 
     ghost fitting_with_value = { λ _ _ _. refl };
 
     ghost slots_removed = { slots-removed (raise P.Gen.counting P.Gen.greatest) };
 
+    ghost len_removed = { len-removed (raise P.Gen.counting P.Gen.greatest) };
+
     ghost limit_removed = { limit_of-removed (raise P.Gen.counting P.Gen.greatest) };
 
     ghost fitting_removed = { fitting-removed (raise P.Gen.counting P.Gen.greatest) };
 
     ghost slots_invalidated = { slots-invalidated (raise P.Gen.counting P.Gen.greatest) };
+
+    ghost len_invalidated = { len-invalidated (raise P.Gen.counting P.Gen.greatest) };
 
     ghost limit_invalidated = { λ _ _ _. ap (λ s. s.limit) };
 
@@ -289,9 +309,13 @@ impl<P: Ptr, T, S: NonZeroInxGenericStack<ArenaSlot<P, T>>> ArenaTrait<P, T> for
 
     ghost slots_reallocated = { slots-reallocated S.kind };
 
+    ghost len_reallocated = { len-reallocated S.kind };
+
     ghost limit_reallocated = { λ _ _ _. ap (λ s. s.limit) };
 
     ghost slots_settled = { λ old _. slots-settled old };
+
+    ghost len_settled = { λ old _. len-settled old };
 
     ghost limit_settled = { λ _ _ _. ap (λ s. s.limit) };
 
@@ -300,12 +324,17 @@ impl<P: Ptr, T, S: NonZeroInxGenericStack<ArenaSlot<P, T>>> ArenaTrait<P, T> for
 
 impl<P: Ptr, T, S: NonZeroInxGenericStack<ArenaSlot<P, T>>> ArenaInsertTrait<P, T>
     for Arena<P, T, S> {
-    ghost use Rattle.triple_arena.specs.EntryLaws.{slots-inserted, limit-inserted, fitting-inserted, slots-grown, limit-grown, next-grown, well_formed-grown};
+    ghost use Rattle.triple_arena.specs.EntryLaws.{slots-inserted, limit-inserted, fitting-inserted, slots-grown, limit-grown, next-grown, well_formed-grown, fitting-grown, same-grown, generation-next};
+    ghost use Rattle.triple_arena.specs.LengthLaws.{len-inserted, len-grown};
 
+    // the first free index, or one past the last slot, under the counter
     ghost next = { next_pointer };
 
+    // the value stands there, and the index is free no longer
     ghost inserted = { inserted };
 
+    // a full arena has room for 4 slots or for twice its capacity, as far as the limit allows and
+    // there are indexes
     ghost grown = { grown S.kind };
 
     fn next_ptr(&self) -> P {
@@ -329,13 +358,23 @@ impl<P: Ptr, T, S: NonZeroInxGenericStack<ArenaSlot<P, T>>> ArenaInsertTrait<P, 
         Ok(self.insert_reserved(t))
     }
 
+    ghost generation_next = { generation-next };
+
     ghost slots_inserted = { slots-inserted };
+
+    ghost len_inserted = { len-inserted };
 
     ghost limit_inserted = { limit-inserted };
 
     ghost fitting_inserted = { fitting-inserted };
 
+    ghost same_grown = { same-grown S.kind };
+
     ghost slots_grown = { slots-grown S.kind };
+
+    ghost len_grown = { len-grown S.kind };
+
+    ghost fitting_grown = { fitting-grown S.kind };
 
     ghost limit_grown = { limit-grown S.kind };
 
@@ -456,10 +495,8 @@ impl<P: Ptr, T, S: NonZeroInxGenericStack<ArenaSlot<P, T>>> Arena<P, T, S> {
 
     // The index of a pointer, if the pointer is valid.
     fn find(&self, p: P) -> Option<NonZeroUsize>
-        ensures index { IfSome result
-            (λ inx. non_zero_usize_get inx ≡ P.Inx.number (P.index_of p)) }
-        ensures live { is_some result ≡ is_some (look_up self.now
-            (numbers P.Inx.number P.Gen.number P.index_of P.generation_of p)) }
+        ensures index { IfSome result (λ inx. non_zero_usize_get inx ≡ (P.numbers p).0) }
+        ensures live { is_some result ≡ is_some (look_up self.now (P.numbers p)) }
     {
         match self.slot(p.inx()) {
             Some(slot) if slot.value_under(p.generation()).is_some() => {
@@ -484,8 +521,7 @@ impl<P: Ptr, T, S: NonZeroInxGenericStack<ArenaSlot<P, T>>> Arena<P, T, S> {
     fn ptr_at(&self, inx: NonZeroUsize) -> P
         requires { IsSome (entry self.now (non_zero_usize_get inx)) }
         ensures { (h : ℕ) × (v : T) × (entry self.now (non_zero_usize_get inx) ≡ Some (h, v))
-            × (numbers P.Inx.number P.Gen.number P.index_of P.generation_of result
-            ≡ (non_zero_usize_get inx, h)) }
+            × (P.numbers result ≡ (non_zero_usize_get inx, h)) }
     {
         let (generation, _value) = self.slots.get(inx).unwrap().entry().unwrap();
         P::_from_raw(P::Inx::try_from_usize(inx).unwrap(), generation)

@@ -1,7 +1,6 @@
 //! Two values of an arena, written at once.
 
 ghost use Rattle.std.specs.Prelude.{◌≡◌, ◌≢◌, IfOk, OnErr};
-ghost use Rattle.triple_arena.specs.Pointers.{numbers};
 ghost use Rattle.triple_arena.specs.Entries.{entry_in, look_up_in};
 ghost use Rattle.triple_arena.specs.Disjoint.{DisjointPtrAnswer, DisjointInxAnswer, MayWork, Worked, MayWorkAtEntries, WorkedAtEntries};
 
@@ -24,24 +23,17 @@ pub trait DisjointableArenaTrait<P: Ptr, T>: ArenaTrait<P, T> {
         second: P,
         f: F,
     ) -> Result<R, GetDisjointMutError>
-        requires { P.Inx.number (P.index_of first) ≢ P.Inx.number (P.index_of second)
-            → MayWork F.FnOnce f
-            (look_up_in (Self.slots self.old)
-            (numbers P.Inx.number P.Gen.number P.index_of P.generation_of first))
-            (look_up_in (Self.slots self.old)
-            (numbers P.Inx.number P.Gen.number P.index_of P.generation_of second)) }
+        requires { (P.numbers first).0 ≢ (P.numbers second).0 → MayWork F.FnOnce f
+            (look_up_in (Self.slots self.old) (P.numbers first))
+            (look_up_in (Self.slots self.old) (P.numbers second)) }
         ensures variant { DisjointPtrAnswer (Self.slots self.old)
-            (numbers P.Inx.number P.Gen.number P.index_of P.generation_of first)
-            (numbers P.Inx.number P.Gen.number P.index_of P.generation_of second) result }
+            (P.numbers first) (P.numbers second) result }
         ensures refused { OnErr result (self.new ≡ self.old) }
         ensures worked { IfOk result (λ r. Worked F.FnOnce f
-            (look_up_in (Self.slots self.old)
-            (numbers P.Inx.number P.Gen.number P.index_of P.generation_of first))
-            (look_up_in (Self.slots self.old)
-            (numbers P.Inx.number P.Gen.number P.index_of P.generation_of second))
+            (look_up_in (Self.slots self.old) (P.numbers first))
+            (look_up_in (Self.slots self.old) (P.numbers second))
             r (λ x y. self.new ≡ Self.with_value
-            (Self.with_value self.old (P.Inx.number (P.index_of first)) x)
-            (P.Inx.number (P.index_of second)) y)) };
+            (Self.with_value self.old (P.numbers first).0 x) (P.numbers second).0 y)) };
 
     /// Calls `f` at the entries at two indexes, in their order, each value after its generation, and
     /// gives its result; what it writes stands there, and nothing else changes.

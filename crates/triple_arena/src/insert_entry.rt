@@ -1,13 +1,13 @@
 //! The place of a value that is not inserted yet.
 
-ghost use Rattle.std.specs.Prelude.{◌≡◌, ◌<◌, ◌↔◌, IsOk, IfOk, OnOk, Err};
-ghost use Rattle.std.specs.Borrow.{sem, Lends, RestsIfErr};
+ghost use Rattle.std.specs.Prelude.{◌≡◌, ◌<◌, ◌↔◌, IsTrue, IsOk, IfOk, IsOkAnd, OnOk, Err};
+ghost use Rattle.std.specs.Borrow.{sem, Lends, RattleType};
 ghost use Rattle.triple_arena_ptr.specs.Numbers.{greatest_index};
-ghost use Rattle.triple_arena.specs.Pointers.{Pointer, numbers};
+ghost use Rattle.triple_arena_ptr.specs.Pointers.{Pointer};
 ghost use Rattle.triple_arena.specs.ArenaState.{arena_len, capacity};
 ghost use Rattle.triple_arena.specs.Insertion.{next_pointer, inserted};
 ghost use Rattle.triple_arena.specs.Capacity.{grown, IsFullAtLimit};
-ghost use Rattle.triple_arena.specs.InsertEntry.{entry_arena, entry_reference, entry_lender};
+ghost use Rattle.triple_arena.specs.InsertEntry.{entry_arena, entry_reference, entry_lender, entry_rests};
 
 use crate::arena_insert_trait::ArenaInsertTrait;
 use crate::arena_trait::ArenaTrait;
@@ -20,7 +20,6 @@ use triple_arena_stack::{NonZeroInxGenericStack, NonZeroInxVec};
 /// A place in an arena for one more value.
 ///
 /// Dropped, it inserts nothing; room that was made for it stays.
-#[derive(Drop)]
 pub struct ArenaInsertEntry<
     'a,
     P: Ptr,
@@ -28,6 +27,21 @@ pub struct ArenaInsertEntry<
     S: NonZeroInxGenericStack<ArenaSlot<P, T>> = NonZeroInxVec<ArenaSlot<P, T>>,
 > {
     arena: &'a mut Arena<P, T, S>,
+}
+
+// An arena as what its entries borrow from: its type, as clauses on loans name it.
+pub trait LendingArena {
+    ghost arena_row: { RattleType };
+}
+
+impl<P: Ptr, T, S: NonZeroInxGenericStack<ArenaSlot<P, T>>> LendingArena for Arena<P, T, S> {
+    ghost use Rattle.triple_arena.specs.contracts.base_arena.Arena.{the_row};
+
+    ghost arena_row = { the_row P.row T.row S.row P.Inx.row P.Gen.row
+        P.Ptr.own P.Debug P.Hash.own P.PartialEq P.PartialOrd.own P.Ord.own P.Recast
+        P.Inx.PtrInx.own P.Inx.Debug P.Inx.Hash.own P.Inx.PartialEq P.Inx.PartialOrd.own
+        P.Inx.Ord.own P.Gen.PtrGen.own P.Gen.Debug P.Gen.Hash.own P.Gen.PartialEq
+        P.Gen.PartialOrd.own P.Gen.Ord.own S.NonZeroInxGenericStack };
 }
 
 /// What can be done with a place for one more value.
@@ -41,11 +55,15 @@ pub trait ArenaInsertEntryTrait<'a, P, T> {
     // the numbers of the pointer that the value will have
     ghost next: { Self → Pointer };
 
+    /// Whether the entry has its place, as each entry that an arena gives has.
+    fn has_place(&self) -> bool
+        ensures { IsTrue result ↔ has_place self.now };
+
     /// The pointer that the value will have.
     ///
     /// The entry must have its place, as each entry that an arena gives has: by `variant` and
     /// `arena` of `entry_insert_within_capacity`, by `has_place` of `entry_insert` and
-    /// `entry_insert_reallocating`.
+    /// `entry_insert_reallocating`. [`Self::has_place`] tells it of any other.
     fn ptr(&self) -> P
         requires { has_place self.now }
         ensures { pointer result ≡ next self.now };
@@ -62,18 +80,19 @@ pub trait ArenaInsertEntryTrait<'a, P, T> {
 
 impl<'a, P: Ptr, T, S: NonZeroInxGenericStack<ArenaSlot<P, T>>> ArenaInsertEntryTrait<'a, P, T>
     for ArenaInsertEntry<'a, P, T, S> {
-    ghost use Rattle.triple_arena.specs.contracts.base_arena.Arena.{the_row};
-
-    ghost pointer = { numbers P.Inx.number P.Gen.number P.index_of P.generation_of };
+    ghost pointer = { P.numbers };
 
     ghost has_place = { λ entry. arena_len (entry_arena entry) < capacity (entry_arena entry) };
 
     ghost next = { λ entry. next_pointer (entry_arena entry) };
 
+    fn has_place(&self) -> bool {
+        self.arena.len() < self.arena.capacity()
+    }
+
     fn ptr(&self) -> P
         requires { arena_len (entry_arena self.now) < capacity (entry_arena self.now) }
-        ensures { numbers P.Inx.number P.Gen.number P.index_of P.generation_of result
-            ≡ next_pointer (entry_arena self.now) }
+        ensures { P.numbers result ≡ next_pointer (entry_arena self.now) }
     {
         self.arena.next_ptr()
     }
@@ -82,11 +101,7 @@ impl<'a, P: Ptr, T, S: NonZeroInxGenericStack<ArenaSlot<P, T>>> ArenaInsertEntry
         requires { arena_len (entry_arena self) < capacity (entry_arena self) }
         ensures value { result.now ≡ t }
         ensures* writes_back { sem 𝓛 (Lends
-            (the_row P.row T.row S.row P.Inx.row P.Gen.row
-            P.Ptr.own P.Debug P.Hash.own P.PartialEq P.PartialOrd.own P.Ord.own P.Recast
-            P.Inx.PtrInx.own P.Inx.Debug P.Inx.Hash.own P.Inx.PartialEq P.Inx.PartialOrd.own
-            P.Inx.Ord.own P.Gen.PtrGen.own P.Gen.Debug P.Gen.Hash.own P.Gen.PartialEq
-            P.Gen.PartialOrd.own P.Gen.Ord.own S.NonZeroInxGenericStack)
+            ⟦<Arena<P, T, S> as LendingArena>⟧.arena_row
             T.row (entry_reference self.entry) result (inserted (entry_arena self.entry))) }
     {
         let ArenaInsertEntry { arena } = self;
@@ -96,8 +111,6 @@ impl<'a, P: Ptr, T, S: NonZeroInxGenericStack<ArenaSlot<P, T>>> ArenaInsertEntry
 }
 
 impl<P: Ptr, T, S: NonZeroInxGenericStack<ArenaSlot<P, T>>> Arena<P, T, S> {
-    ghost use Rattle.triple_arena.specs.contracts.base_arena.Arena.{the_row};
-
     /// A place for one more value, where the capacity has it. It takes no memory.
     ///
     /// Refused exactly where there are as many entries as the capacity; then the arena is
@@ -108,13 +121,8 @@ impl<P: Ptr, T, S: NonZeroInxGenericStack<ArenaSlot<P, T>>> Arena<P, T, S> {
         ensures variant { IsOk result ↔ (arena_len self.old < capacity self.old) }
         ensures arena { IfOk result (λ entry. entry_arena entry ≡ self.old) }
         ensures same_reference { IfOk result (λ entry. entry_lender entry ≡ self.entry.ghost_name) }
-        ensures* refused { sem 𝓛 (RestsIfErr
-            (the_row P.row T.row S.row P.Inx.row P.Gen.row
-            P.Ptr.own P.Debug P.Hash.own P.PartialEq P.PartialOrd.own P.Ord.own P.Recast
-            P.Inx.PtrInx.own P.Inx.Debug P.Inx.Hash.own P.Inx.PartialEq P.Inx.PartialOrd.own
-            P.Inx.Ord.own P.Gen.PtrGen.own P.Gen.Debug P.Gen.Hash.own P.Gen.PartialEq
-            P.Gen.PartialOrd.own P.Gen.Ord.own S.NonZeroInxGenericStack)
-            self.entry entry_lender result (λ end. end ≡ self.entry.now)) }
+        ensures* refused { sem 𝓛 (entry_rests
+            ⟦<Arena<P, T, S> as LendingArena>⟧.arena_row self.entry result) }
     {
         if self.len() >= self.capacity() {
             return Err(NotWithinCapacityError);
@@ -135,15 +143,11 @@ impl<P: Ptr, T, S: NonZeroInxGenericStack<ArenaSlot<P, T>>> Arena<P, T, S> {
             ↔ IsFullAtLimit (capacity self.old) self.old.limit (arena_len self.old) }
         ensures indexed { OnOk result (arena_len self.old ≡ capacity self.old
             → capacity self.old < greatest_index P.Inx.greatest) }
-        ensures had_place { arena_len self.old < capacity self.old → IsOk result }
+        ensures had_place { arena_len self.old < capacity self.old
+            → IsOkAnd result (λ entry. entry_arena entry ≡ self.old) }
         ensures same_reference { IfOk result (λ entry. entry_lender entry ≡ self.entry.ghost_name) }
-        ensures* refused { sem 𝓛 (RestsIfErr
-            (the_row P.row T.row S.row P.Inx.row P.Gen.row
-            P.Ptr.own P.Debug P.Hash.own P.PartialEq P.PartialOrd.own P.Ord.own P.Recast
-            P.Inx.PtrInx.own P.Inx.Debug P.Inx.Hash.own P.Inx.PartialEq P.Inx.PartialOrd.own
-            P.Inx.Ord.own P.Gen.PtrGen.own P.Gen.Debug P.Gen.Hash.own P.Gen.PartialEq
-            P.Gen.PartialOrd.own P.Gen.Ord.own S.NonZeroInxGenericStack)
-            self.entry entry_lender result (λ end. end ≡ self.entry.now)) }
+        ensures* refused { sem 𝓛 (entry_rests
+            ⟦<Arena<P, T, S> as LendingArena>⟧.arena_row self.entry result) }
     {
         self.grow_if_full()?;
         Ok(ArenaInsertEntry { arena: self })
@@ -158,16 +162,20 @@ impl<P: Ptr, T, S: NonZeroInxGenericStack<ArenaSlot<P, T>>> Arena<P, T, S> {
             ↔ IsFullAtLimit (capacity self.old) self.old.limit (arena_len self.old) }
         ensures indexed { OnOk result (arena_len self.old ≡ capacity self.old
             → capacity self.old < greatest_index P.Inx.greatest) }
-        ensures had_place { arena_len self.old < capacity self.old → IsOk result }
+        ensures had_place { arena_len self.old < capacity self.old
+            → IsOkAnd result (λ entry. entry_arena entry ≡ self.old) }
         ensures same_reference { IfOk result (λ entry. entry_lender entry ≡ self.entry.ghost_name) }
-        ensures* refused { sem 𝓛 (RestsIfErr
-            (the_row P.row T.row S.row P.Inx.row P.Gen.row
-            P.Ptr.own P.Debug P.Hash.own P.PartialEq P.PartialOrd.own P.Ord.own P.Recast
-            P.Inx.PtrInx.own P.Inx.Debug P.Inx.Hash.own P.Inx.PartialEq P.Inx.PartialOrd.own
-            P.Inx.Ord.own P.Gen.PtrGen.own P.Gen.Debug P.Gen.Hash.own P.Gen.PartialEq
-            P.Gen.PartialOrd.own P.Gen.Ord.own S.NonZeroInxGenericStack)
-            self.entry entry_lender result (λ end. end ≡ self.entry.now)) }
+        ensures* refused { sem 𝓛 (entry_rests
+            ⟦<Arena<P, T, S> as LendingArena>⟧.arena_row self.entry result) }
     {
         self.entry_insert_reallocating()
+    }
+}
+
+impl<P: Ptr, T, S: NonZeroInxGenericStack<ArenaSlot<P, T>>> Drop for ArenaInsertEntry<'_, P, T, S> {
+    fn drop(self)
+        ensures { self.exit.0.now ≡ self.entry.arena.now }
+    {
+        let ArenaInsertEntry { arena: _ } = self;
     }
 }

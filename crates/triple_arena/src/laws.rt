@@ -1,9 +1,12 @@
 //! What holds of every arena: laws over several calls.
 
-ghost use Rattle.std.specs.Prelude.{◌≡◌, ◌⊎◌, ℕ, Some, min};
-ghost use Rattle.triple_arena.specs.ArenaState.{ArenaState, capacity, IsWellFormed};
+ghost use Rattle.std.specs.Prelude.{◌≡◌, ◌⊎◌, ◌<◌, ℕ, Option, Some, IsSome, min};
+ghost use Rattle.triple_arena_stack.specs.StackKind.{StackKind};
+ghost use Rattle.triple_arena.specs.ArenaState.{ArenaState, new_arena, arena_len, capacity, entry, with_value, IsWellFormed};
+ghost use Rattle.triple_arena.specs.Insertion.{inserted};
+ghost use Rattle.triple_arena.specs.Ending.{removed, invalidated, cleared};
 ghost use Rattle.triple_arena.specs.FreeList.{tidied};
-ghost use Rattle.triple_arena.specs.Capacity.{EndsBy, with_limit};
+ghost use Rattle.triple_arena.specs.Capacity.{EndsBy, reallocated, with_limit, grown};
 
 /// A limit that is set back: once a limit is set, the old one can be set again, and then the old
 /// capacity is there again. All else is as it was, or as it was with the free list in order.
@@ -20,4 +23,30 @@ pub fn limit_set_back<T>()
 pub fn capacity_under_limit<T>()
     ensures { (s : ArenaState T) (x : ℕ)
         → capacity (with_limit s x) ≡ min (min s.room x) s.greatest }
+{}
+
+/// A new arena is well formed, and each step of a well-formed arena leaves it so: an insertion
+/// where there is a place, a removal where there is an entry, a limit that no entry stands past,
+/// and every other step.
+pub fn well_formed_stays<T>()
+    ensures fresh { (room : ℕ) (limit : Option ℕ) (greatest counter : ℕ)
+        → IsWellFormed {T = T} (new_arena room limit greatest counter) }
+    ensures inserted { (s : ArenaState T) (value : T) → IsWellFormed s → arena_len s < capacity s
+        → IsWellFormed (inserted s value) }
+    ensures with_value { (s : ArenaState T) (i : ℕ) (value : T) → IsWellFormed s
+        → IsWellFormed (with_value s i value) }
+    ensures invalidated { (raise : ℕ → ℕ) (s : ArenaState T) (i : ℕ) → IsWellFormed s
+        → IsWellFormed (invalidated raise s i) }
+    ensures removed { (raise : ℕ → ℕ) (s : ArenaState T) (i : ℕ) → IsWellFormed s
+        → IsSome (entry s i) → IsWellFormed (removed raise s i) }
+    ensures cleared { (raise : ℕ → ℕ) (s : ArenaState T) → IsWellFormed (cleared raise s) }
+    ensures tidied { (s : ArenaState T) → IsWellFormed s → IsWellFormed (tidied s) }
+    ensures reallocated { (kind : StackKind) (s : ArenaState T) (m : ℕ) → IsWellFormed s
+        → IsWellFormed (reallocated kind s m) }
+    ensures with_limit { (s : ArenaState T) (x : ℕ) → IsWellFormed s → EndsBy s x
+        → IsWellFormed (with_limit s x) }
+    ensures grown { (kind : StackKind) (s : ArenaState T) → IsWellFormed s
+        → IsWellFormed (grown kind s) }
+    ensures counter { (s : ArenaState T) (counter : ℕ) → IsWellFormed s
+        → IsWellFormed (record s { counter = counter }) }
 {}

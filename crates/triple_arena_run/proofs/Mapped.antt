@@ -8,7 +8,6 @@ use Rattle.std.proofs.lemmas.List.Sums.{sum_by-cons}
 use Rattle.std.proofs.lemmas.Option.{slice_get-map}
 use Rattle.triple_arena_stack.specs.StackKind.{StackKind, reallocated_room}
 use Rattle.triple_arena.specs.Numbered.{item, with_item}
-use Rattle.triple_arena.specs.Pointers.{Pointer}
 use Rattle.triple_arena.specs.Entries.{value_under, entry_count}
 use Rattle.triple_arena.specs.ArenaState.{ArenaState, arena_len, capacity, entry, look_up, slot_count, map_entry, map_values}
 use Rattle.triple_arena.specs.Insertion.{place_among, inserted_among, inserted, next_pointer}
@@ -16,6 +15,7 @@ use Rattle.triple_arena.specs.Capacity.{with_room_for, next_capacity, grown}
 use Rattle.triple_arena.specs.Ending.{removed, told_of}
 use Rattle.triple_arena_base.specs.declared.invalidation.InvalidationResult.TheVariants as told
 use Rattle.triple_arena_ptr.specs.Numbers.{raise, wraps}
+use Rattle.triple_arena_ptr.specs.Pointers.{Pointer}
 use Rattle.triple_arena_stack.specs.Capacity.{room_for_one_more}
 use Rattle.triple_arena_run.specs.declared.node.Node.{Node}
 use Rattle.triple_arena_run.specs.declared.reply.Reply.{Reply}

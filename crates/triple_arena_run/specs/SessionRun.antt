@@ -3,10 +3,10 @@ use Rattle.std.specs.Prelude.{◌≡◌, ℕ, ◌+◌, ◌==◌, nat_le, ◌⊎�
 use Rattle.triple_arena_base.specs.declared.errors.ReallocationError.{ReallocationError}
 use Rattle.triple_arena_base.specs.declared.errors.ReallocationError.TheVariants as refused
 use Rattle.triple_arena_ptr.specs.Numbers.{raise, wraps}
+use Rattle.triple_arena_ptr.specs.Pointers.{Pointer}
 use Rattle.triple_arena_stack.specs.StackKind.{StackKind}
 use Rattle.triple_arena_stack.specs.Capacity.{room_for_one_more}
 use Rattle.triple_arena.specs.Numbered.{item}
-use Rattle.triple_arena.specs.Pointers.{Pointer}
 use Rattle.triple_arena.specs.ArenaState.{ArenaState, arena_len, capacity, look_up}
 use Rattle.triple_arena.specs.Insertion.{inserted, next_pointer}
 use Rattle.triple_arena.specs.Capacity.{grown}

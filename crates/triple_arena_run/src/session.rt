@@ -4,10 +4,10 @@ ghost use Rattle.std.specs.Prelude.{◌≡◌, ◌+◌, ◌-◌, ◌<◌, ◌≤
 ghost use Rattle.std.specs.List.{position};
 ghost use Rattle.std.specs.Option.{option_map};
 ghost use Rattle.triple_arena_ptr.specs.Numbers.{greatest_index, first_generation};
+ghost use Rattle.triple_arena_ptr.specs.Pointers.{is_same};
 ghost use Rattle.triple_arena_stack.specs.Capacity.{room_for_one_more};
 ghost use Rattle.triple_arena_stack.specs.StackKind.{new_room, new_limit, made_room, made_limit, CanHold, TakesNoMemory};
 ghost use Rattle.triple_arena.specs.Numbered.{item};
-ghost use Rattle.triple_arena.specs.Pointers.{numbers, is_same};
 ghost use Rattle.triple_arena.specs.ArenaState.{ArenaState, new_arena, arena_len, capacity, map_values};
 ghost use Rattle.triple_arena_run.specs.Runs.{RunsToWrap};
 ghost use Rattle.triple_arena_run.specs.SessionState.{SessionState, node_of, new_session, link_name, link_pointer};
@@ -42,11 +42,9 @@ impl<P: Ptr, X, S: NonZeroInxGenericStack<ArenaSlot<P, Node<X, P>>>> Model for S
 
     ghost Value = { SessionState X };
 
-    ghost use Rattle.triple_arena.specs.Pointers.{numbers};
     ghost use Rattle.triple_arena_run.specs.SessionLayout.{state_of};
 
-    ghost view = { λ s. state_of (numbers P.Inx.number P.Gen.number P.index_of P.generation_of)
-        s.arena s.table.items s.table.room };
+    ghost view = { λ s. state_of P.numbers s.arena s.table.items s.table.room };
 }
 
 impl<P: Ptr, X: Copy, S: NonZeroInxGenericStack<ArenaSlot<P, Node<X, P>>>> Session<P, X, S> {
@@ -90,9 +88,7 @@ impl<P: Ptr, X: Copy, S: NonZeroInxGenericStack<ArenaSlot<P, Node<X, P>>>> Sessi
 
     /// The arena: data with the pointers of their links.
     pub fn arena(&self) -> &Arena<P, Node<X, P>, S>
-        ensures { map_values
-            (node_of (numbers P.Inx.number P.Gen.number P.index_of P.generation_of)) result.now
-            ≡ self.now.arena }
+        ensures { map_values (node_of P.numbers) result.now ≡ self.now.arena }
     {
         &self.arena
     }
@@ -191,9 +187,7 @@ impl<P: Ptr, X: Copy, S: NonZeroInxGenericStack<ArenaSlot<P, Node<X, P>>>> Sessi
     // The reply that tells of a removed node.
     fn removed(&self, node: Node<X, P>, wrapped: bool) -> Reply<X>
         ensures { result ≡ Reply.Removed node.datum
-            (link_name self.now.table
-            (option_map (numbers P.Inx.number P.Gen.number P.index_of P.generation_of) node.link))
-            wrapped }
+            (link_name self.now.table (option_map P.numbers node.link)) wrapped }
     {
         Reply::Removed(node.datum, self.link_name(node.link), wrapped)
     }
@@ -216,8 +210,7 @@ impl<P: Ptr, X: Copy, S: NonZeroInxGenericStack<ArenaSlot<P, Node<X, P>>>> Sessi
 
     // The pointer of a name, if it was given.
     fn pointer(&self, name: usize) -> Option<P>
-        ensures { option_map (numbers P.Inx.number P.Gen.number P.index_of P.generation_of) result
-            ≡ item self.now.table name }
+        ensures { option_map P.numbers result ≡ item self.now.table name }
     {
         if name == 0 {
             return None;
@@ -227,9 +220,7 @@ impl<P: Ptr, X: Copy, S: NonZeroInxGenericStack<ArenaSlot<P, Node<X, P>>>> Sessi
 
     // The pointer of a link, or none if the link is to a name that was never given.
     fn link_pointer(&self, link: Option<usize>) -> Option<Option<P>>
-        ensures { option_map
-            (option_map (numbers P.Inx.number P.Gen.number P.index_of P.generation_of)) result
-            ≡ link_pointer self.now.table link }
+        ensures { option_map (option_map P.numbers) result ≡ link_pointer self.now.table link }
     {
         match link {
             Some(name) => self.pointer(name).map(Some),
@@ -239,8 +230,7 @@ impl<P: Ptr, X: Copy, S: NonZeroInxGenericStack<ArenaSlot<P, Node<X, P>>>> Sessi
 
     // The name of the pointer of a link.
     fn link_name(&self, link: Option<P>) -> Option<usize>
-        ensures { result ≡ link_name self.now.table
-            (option_map (numbers P.Inx.number P.Gen.number P.index_of P.generation_of) link) }
+        ensures { result ≡ link_name self.now.table (option_map P.numbers link) }
     {
         match link {
             Some(p) => match position_of(self.table.as_slice(), p) {
@@ -291,9 +281,8 @@ fn read<T: Copy>(items: &[T], position: usize) -> Option<T>
 
 // The first position at which a table has a pointer.
 fn position_of<P: Ptr>(table: &[P], p: P) -> Option<usize>
-    ensures position { result ≡ position
-        (λ q. is_same q (numbers P.Inx.number P.Gen.number P.index_of P.generation_of p))
-        (map (numbers P.Inx.number P.Gen.number P.index_of P.generation_of) table.now) }
+    ensures position { result
+        ≡ position (λ q. is_same q (P.numbers p)) (map P.numbers table.now) }
     ensures within { IfSome result (λ at. at < length table.now) }
 {
     first_equal(table, p)

@@ -1,7 +1,6 @@
 //! Callers that are generic over arenas: proved over the traits and their laws alone.
 
 ghost use Rattle.std.specs.Prelude.{◌≡◌, ◌≢◌, ℕ, None, Some, OnOk, IfOk, OnErr};
-ghost use Rattle.triple_arena.specs.Pointers.{numbers};
 ghost use Rattle.triple_arena.specs.Entries.{look_up_in};
 
 use crate::{Arena, ArenaInsertTrait, ArenaTrait};
@@ -13,10 +12,8 @@ use triple_arena_ptr::{P0, Ptr, PtrGen, PtrInx};
 
 // Puts another value under a pointer, and gives the one that stood there.
 fn exchange<P: Ptr, T, A: ArenaTrait<P, T>>(arena: &mut A, p: P, t: T) -> Result<T, T>
-    ensures value { IfOk result (λ old. look_up_in (A.slots arena.old)
-        (numbers P.Inx.number P.Gen.number P.index_of P.generation_of p) ≡ Some old) }
-    ensures written { OnOk result
-        (arena.new ≡ A.with_value arena.old (P.Inx.number (P.index_of p)) t) }
+    ensures value { IfOk result (λ old. look_up_in (A.slots arena.old) (P.numbers p) ≡ Some old) }
+    ensures written { OnOk result (arena.new ≡ A.with_value arena.old (P.numbers p).0 t) }
     ensures refused { OnErr result (arena.new ≡ arena.old) }
 {
     match arena.get_mut(p) {
@@ -30,8 +27,7 @@ fn put<P: Ptr, T: Drop, A: ArenaInsertTrait<P, T>>(
     arena: &mut A,
     t: T,
 ) -> Result<P, ReallocationError>
-    ensures found { IfOk result (λ p. look_up_in (A.slots arena.new)
-        (numbers P.Inx.number P.Gen.number P.index_of P.generation_of p) ≡ Some t) }
+    ensures found { IfOk result (λ p. look_up_in (A.slots arena.new) (P.numbers p) ≡ Some t) }
     ensures refused { OnErr result (arena.new ≡ arena.old) }
 {
     arena.insert(t)
@@ -40,9 +36,8 @@ fn put<P: Ptr, T: Drop, A: ArenaInsertTrait<P, T>>(
 // Takes out what stands under a pointer: it finds nothing then, and pointers of other indexes find
 // what they found.
 fn take<P: Ptr, T, A: ArenaTrait<P, T>>(arena: &mut A, p: P) -> InvalidationResult<T>
-    ensures gone { look_up_in (A.slots arena.new)
-        (numbers P.Inx.number P.Gen.number P.index_of P.generation_of p) ≡ None }
-    ensures kept { (q : ℕ × ℕ) → q.0 ≢ P.Inx.number (P.index_of p)
+    ensures gone { look_up_in (A.slots arena.new) (P.numbers p) ≡ None }
+    ensures kept { (q : ℕ × ℕ) → q.0 ≢ (P.numbers p).0
         → look_up_in (A.slots arena.new) q ≡ look_up_in (A.slots arena.old) q }
 {
     arena.remove(p)

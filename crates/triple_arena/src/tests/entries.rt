@@ -2,7 +2,6 @@
 
 ghost use Rattle.std.specs.Prelude.{◌≡◌, IfOk, OnOk, OnErr};
 ghost use Rattle.triple_arena_ptr.specs.Numbers.{greatest_index};
-ghost use Rattle.triple_arena.specs.Pointers.{numbers};
 ghost use Rattle.triple_arena.specs.Insertion.{next_pointer, inserted};
 ghost use Rattle.triple_arena.specs.Capacity.{grown};
 
@@ -24,9 +23,7 @@ use triple_arena_stack::{
 fn pointer_of_entry<P: Ptr, T, S: NonZeroInxGenericStack<ArenaSlot<P, T>>>(
     arena: &mut Arena<P, T, S>,
 ) -> Result<P, ReallocationError>
-    ensures pointer { IfOk result
-        (λ p. numbers P.Inx.number P.Gen.number P.index_of P.generation_of p
-        ≡ next_pointer (grown S.kind arena.old)) }
+    ensures pointer { IfOk result (λ p. P.numbers p ≡ next_pointer (grown S.kind arena.old)) }
     ensures grown { OnOk result (arena.new ≡ grown S.kind arena.old) }
     ensures refused { OnErr result (arena.new ≡ arena.old) }
 {

@@ -1,7 +1,6 @@
 //! Two values at once, by pointers and by indexes.
 
 ghost use Rattle.std.specs.Prelude.{◌≡◌, ℕ, Some, OnOk, OnErr};
-ghost use Rattle.triple_arena.specs.Pointers.{numbers};
 ghost use Rattle.triple_arena.specs.Entries.{entry_in, look_up_in};
 ghost use Rattle.triple_arena.specs.Disjoint.{DisjointPtrAnswer, DisjointInxAnswer};
 
@@ -22,14 +21,13 @@ fn swap<P: Ptr, T, A: DisjointableArenaTrait<P, T>>(
     second: P,
 ) -> Result<(), GetDisjointMutError>
     ensures variant { DisjointPtrAnswer (A.slots arena.old)
-        (numbers P.Inx.number P.Gen.number P.index_of P.generation_of first)
-        (numbers P.Inx.number P.Gen.number P.index_of P.generation_of second) result }
+        (P.numbers first) (P.numbers second) result }
     ensures refused { OnErr result (arena.new ≡ arena.old) }
     ensures swapped { (x y : T)
-        → look_up_in (A.slots arena.old) (numbers P.Inx.number P.Gen.number P.index_of P.generation_of first) ≡ Some x
-        → look_up_in (A.slots arena.old) (numbers P.Inx.number P.Gen.number P.index_of P.generation_of second) ≡ Some y
+        → look_up_in (A.slots arena.old) (P.numbers first) ≡ Some x
+        → look_up_in (A.slots arena.old) (P.numbers second) ≡ Some y
         → OnOk result (arena.new ≡ A.with_value
-        (A.with_value arena.old (P.Inx.number (P.index_of first)) y) (P.Inx.number (P.index_of second)) x) }
+        (A.with_value arena.old (P.numbers first).0 y) (P.numbers second).0 x) }
 {
     arena.with_disjoint_mut(first, second, |a, b| mem::swap(a, b))
 }

@@ -1,6 +1,7 @@
 use Rattle.std.proofs.Common.{◌∙◌, ap, subst, arith}
 use Rattle.std.specs.Int.NonZero.{non_zero_usize_get}
 use Rattle.std.specs.Option.{option_map}
+use Rattle.triple_arena_ptr.specs.Pointers.{Pointer}
 use Rattle.triple_arena.specs.ArenaState.{entry}
 use Rattle.triple_arena.specs.Layout.{Shows}
 use Rattle.triple_arena.proofs.WellFormed.{place_within, place_free}
@@ -20,10 +21,12 @@ unwrap-requires g c =
 pub returns-clause-pointer : goal.returns-clause-pointer
 returns-clause-pointer g c =
     let shows = subst (Shows g.P.Gen.PtrGen.number _ _ _) c.self.view_is c.self.invariant in
-    pointer_is _ _ _ _ (ap g.P.Inx.PtrInx.number c._from_raw.ensures.index ∙ rw c.unwrap.ensures at c.try_from_usize.ensures.number ∙ c.place-inx.ensures c.args.self.now _ shows)
+    g.met.P.Ptr.numbers_of c._from_raw.result
+    ∙ pointer_is _ _ _ _ (ap g.P.Inx.PtrInx.number c._from_raw.ensures.index ∙ rw c.unwrap.ensures at c.try_from_usize.ensures.number ∙ c.place-inx.ensures c.args.self.now _ shows)
     (ap g.P.Gen.PtrGen.number c._from_raw.ensures.generation ∙ ap (λ s. s.counter) c.self.view_is)
 
 pub returns-clause-free : goal.returns-clause-free
 returns-clause-free g c =
     let shows = subst (Shows g.P.Gen.PtrGen.number _ _ _) c.self.view_is c.self.invariant in
-    ap (entry c.args.self.now) (ap g.P.Inx.PtrInx.number c._from_raw.ensures.index ∙ rw c.unwrap.ensures at c.try_from_usize.ensures.number ∙ c.place-inx.ensures c.args.self.now _ shows) ∙ place_free c.args.self.now shows.well
+    ap (λ (n : Pointer). entry c.args.self.now n.0) (g.met.P.Ptr.numbers_of c._from_raw.result)
+    ∙ ap (entry c.args.self.now) (ap g.P.Inx.PtrInx.number c._from_raw.ensures.index ∙ rw c.unwrap.ensures at c.try_from_usize.ensures.number ∙ c.place-inx.ensures c.args.self.now _ shows) ∙ place_free c.args.self.now shows.well

@@ -1,7 +1,6 @@
 use Rattle.std.proofs.Common.{◌∙◌, IsSome, map, inl, sym, ap, subst}
 use Rattle.std.proofs.Math.Path.{fun_ext}
 use Rattle.std.specs.Int.NonZero.{non_zero_usize_get}
-use Rattle.triple_arena.specs.Pointers.{numbers}
 use Rattle.triple_arena.specs.ArenaState.{ArenaState, with_value}
 use Rattle.triple_arena.specs.Slot.{entry_of}
 use Rattle.triple_arena.specs.Layout.{entry_at}
@@ -11,19 +10,19 @@ use Rattle.triple_arena.proofs.base_arena.ArenaArenaTrait.get_mut.Goals as goal
 
 pub invariant_of-self-lent : goal.invariant_of-self-lent
 invariant_of-self-lent g c w =
-    let live = subst (λ n. IsSome (entry_at g.P.Gen.PtrGen.number (g.S.NonZeroInxGenericStack.items c.self.inside.slots.stack) n)) (sym c.in-Some.ensures.index) (live_entry (map (entry_of g.P.Gen.PtrGen.number) (g.S.NonZeroInxGenericStack.items c.self.inside.slots.stack)) (numbers g.P.Inx.PtrInx.number g.P.Gen.PtrGen.number g.P.Ptr.index_of g.P.Ptr.generation_of c.args.p) (sym c.in-Some.ensures.live)) in
+    let live = subst (λ n. IsSome (entry_at g.P.Gen.PtrGen.number (g.S.NonZeroInxGenericStack.items c.self.inside.slots.stack) n)) (sym c.in-Some.ensures.index) (live_entry (map (entry_of g.P.Gen.PtrGen.number) (g.S.NonZeroInxGenericStack.items c.self.inside.slots.stack)) (g.P.Ptr.numbers c.args.p) (sym c.in-Some.ensures.live)) in
     (lent g.P.Gen.PtrGen.number _ _ _ _ _ _ _ _ _ _ c.args.self.now (non_zero_usize_get c.in-Some.inx) w c.self.invariant c.self.view_is live
     (g.met.S.NonZeroInxGenericStack.items_with_items _ _) (g.met.S.NonZeroInxGenericStack.room_with_items _ _) (g.met.S.NonZeroInxGenericStack.limit_with_items _ _)).0
 
 pub returns-in-Some : goal.returns-in-Some
 returns-in-Some g c =
-    let live = subst (λ n. IsSome (entry_at g.P.Gen.PtrGen.number (g.S.NonZeroInxGenericStack.items c.self.inside.slots.stack) n)) (sym c.in-Some.ensures.index) (live_entry (map (entry_of g.P.Gen.PtrGen.number) (g.S.NonZeroInxGenericStack.items c.self.inside.slots.stack)) (numbers g.P.Inx.PtrInx.number g.P.Gen.PtrGen.number g.P.Ptr.index_of g.P.Ptr.generation_of c.args.p) (sym c.in-Some.ensures.live)) in (
+    let live = subst (λ n. IsSome (entry_at g.P.Gen.PtrGen.number (g.S.NonZeroInxGenericStack.items c.self.inside.slots.stack) n)) (sym c.in-Some.ensures.index) (live_entry (map (entry_of g.P.Gen.PtrGen.number) (g.S.NonZeroInxGenericStack.items c.self.inside.slots.stack)) (g.P.Ptr.numbers c.args.p) (sym c.in-Some.ensures.live)) in (
       ap (λ (F : g.row.T.Denot → ArenaState g.row.T.Denot). inl (c.value_mut.result.ghost_name, F)) (fun_ext (λ w.
           (lent g.P.Gen.PtrGen.number _ _ _ _ _ _ _ _ _ _ c.args.self.now (non_zero_usize_get c.in-Some.inx) w c.self.invariant c.self.view_is live
           (g.met.S.NonZeroInxGenericStack.items_with_items _ _) (g.met.S.NonZeroInxGenericStack.room_with_items _ _) (g.met.S.NonZeroInxGenericStack.limit_with_items _ _)).1
           ∙ ap (λ n. with_value c.args.self.now n w) c.in-Some.ensures.index)),
       record {
-        value = sym (value_read c.args.self.now _ (numbers g.P.Inx.PtrInx.number g.P.Gen.PtrGen.number g.P.Ptr.index_of g.P.Ptr.generation_of c.args.p) (non_zero_usize_get c.in-Some.inx) _ c.self.view_is c.in-Some.ensures.index (sym c.in-Some.ensures.live) c.value_mut.ensures.value);
+        value = sym (value_read c.args.self.now _ (g.P.Ptr.numbers c.args.p) (non_zero_usize_get c.in-Some.inx) _ c.self.view_is c.in-Some.ensures.index (sym c.in-Some.ensures.live) c.value_mut.ensures.value);
         writes_back = tt;
       },
     )

@@ -1,14 +1,14 @@
 use Rattle.std.proofs.Common.{◌≡◌, ◌∙◌, true, is_some, sym}
 use Rattle.std.specs.Int.NonZero.{non_zero_usize_get}
-use Rattle.triple_arena.specs.Pointers.{Pointer, numbers}
+use Rattle.triple_arena_ptr.specs.Pointers.{Pointer}
 use Rattle.triple_arena.specs.ArenaState.{look_up}
 use Rattle.triple_arena.proofs.Pairs.{value_under_pointer}
 use Rattle.triple_arena.proofs.base_arena.ArenaDisjointableArenaTrait.with_disjoint_mut.Goals as goal
 
 pub returns-clause-worked : goal.returns-clause-worked
 returns-clause-worked g c =
-    let first : Pointer = numbers g.P.Inx.PtrInx.number g.P.Gen.PtrGen.number g.P.Ptr.index_of g.P.Ptr.generation_of c.args.first in
-    let second : Pointer = numbers g.P.Inx.PtrInx.number g.P.Gen.PtrGen.number g.P.Ptr.index_of g.P.Ptr.generation_of c.args.second in
+    let first : Pointer = g.P.Ptr.numbers c.args.first in
+    let second : Pointer = g.P.Ptr.numbers c.args.second in
     let at_first : non_zero_usize_get c.in-Some-Some.first ≡ first.0 = rw c.in-Some-Some.is-0 at c.find.ensures.index in
     let at_second : non_zero_usize_get c.in-Some-Some.second ≡ second.0 = rw c.in-Some-Some.is-1 at c.find-2.ensures.index in
     let first_valid : is_some (look_up c.args.self.now first) ≡ true = sym (rw c.in-Some-Some.is-0 at c.find.ensures.live) in

@@ -1,0 +1,67 @@
+-- Each step of a well-formed arena leaves it well formed.
+use Rattle.std.proofs.Common.{◌≡◌, ℕ, ◌≤◌, Bool, true, false, Option, Some, None, IsSome, cond, min, nat_lt, refl, arith}
+use Rattle.std.specs.Option.{option_map}
+use Rattle.triple_arena_stack.specs.StackKind.{StackKind}
+use Rattle.triple_arena_stack.specs.Capacity.{capacity_of}
+use Rattle.triple_arena.specs.Numbered.{item, with_item}
+use Rattle.triple_arena.specs.NumberedLaws.{joined, with_item-past}
+use Rattle.triple_arena.specs.Entries.{with_generation_in}
+use Rattle.triple_arena.specs.ArenaState.{ArenaState, slot_count, capacity, entry, with_value, IsWellFormed}
+use Rattle.triple_arena.specs.Ending.{removed, invalidated, cleared}
+use Rattle.triple_arena.specs.FreeList.{tidied}
+use Rattle.triple_arena.specs.Capacity.{EndsBy, reallocated, with_limit}
+use Rattle.triple_arena.specs.EntryLaws.{within_room}
+use Rattle.triple_arena.specs.LengthLaws.{live_slot}
+use Rattle.triple_arena.proofs.WellFormed.{IsWellFormed-with_entry, IsWellFormed-counter, IsWellFormed-removed, IsWellFormed-empty}
+use Rattle.triple_arena.proofs.Tidying.{IsWellFormed-tidied, with_item_same}
+use Rattle.triple_arena.proofs.Limits.{ready_ends}
+
+module _ {T : Type 0} where
+  -- an entry that is changed, if there is one
+  changed_stays : (change : ℕ × T → ℕ × T) (s : ArenaState T) (i : ℕ) → IsWellFormed s → IsWellFormed (record s { slots = with_item s.slots i (option_map change (entry s i)) })
+  changed_stays change s i well = by_item (item s.slots i) refl
+    where
+      by_item : (o : Option (Option (ℕ × T))) → item s.slots i ≡ o → IsWellFormed (record s { slots = with_item s.slots i (option_map change (joined o)) })
+      by_item None e = rw (with_item-past s.slots i None e) well
+      by_item (Some None) e = rw (with_item_same s.slots i None e) well
+      by_item (Some (Some x)) e = IsWellFormed-with_entry s i x (change x) well e
+
+  pub with_value_stays : (s : ArenaState T) (i : ℕ) (value : T) → IsWellFormed s → IsWellFormed (with_value s i value)
+  with_value_stays s i value well = changed_stays (λ e. (e.0, value)) s i well
+
+  pub invalidated_stays : (raise : ℕ → ℕ) (s : ArenaState T) (i : ℕ) → IsWellFormed s → IsWellFormed (invalidated raise s i)
+  invalidated_stays raise s i well =
+      IsWellFormed-counter (record s { slots = with_generation_in s.slots i (raise s.counter) }) (raise s.counter) (changed_stays (λ e. (raise s.counter, e.1)) s i well)
+
+  pub removed_stays : (raise : ℕ → ℕ) (s : ArenaState T) (i : ℕ) → IsWellFormed s → IsSome (entry s i) → IsWellFormed (removed raise s i)
+  removed_stays raise s i well live =
+      let found = live_slot s.slots i live in
+      IsWellFormed-removed raise s i found.0 well found.1
+
+  pub cleared_stays : (raise : ℕ → ℕ) (s : ArenaState T) → IsWellFormed (cleared raise s)
+  cleared_stays raise s = IsWellFormed-empty s.room s.limit s.greatest (cleared raise s).counter
+
+  pub reallocated_stays : (kind : StackKind) (s : ArenaState T) (m : ℕ) → IsWellFormed s → IsWellFormed (reallocated kind s m)
+  reallocated_stays kind s m well =
+      let order = IsWellFormed-tidied s well in
+      record {
+        free_once = order.free_once;
+        total = order.total;
+        fits = within_room kind s.room (slot_count (tidied s)) m s.greatest s.limit order.fits;
+      }
+
+  pub with_limit_stays : (s : ArenaState T) (x : ℕ) → IsWellFormed s → EndsBy s x → IsWellFormed (with_limit s x)
+  with_limit_stays s x well ends =
+      by_order (nat_lt x (capacity s)) ((ready_ends s x well.fits).1 ends)
+    where
+      limited : (t : ArenaState T) → IsWellFormed t → slot_count t ≤ x → IsWellFormed (record t { limit = Some x })
+      limited t kept below =
+          record { free_once = kept.free_once; total = kept.total; fits = by_limit t.limit kept.fits }
+        where
+          by_limit : (o : Option ℕ) → slot_count t ≤ min (capacity_of t.room o) t.greatest → slot_count t ≤ min (min t.room x) t.greatest
+          by_limit None fits = omega arith
+          by_limit (Some most) fits = omega arith
+
+      by_order : (b : Bool) → slot_count (cond b (tidied s) s) ≤ x → IsWellFormed (record (cond b (tidied s) s) { limit = Some x })
+      by_order true below = limited (tidied s) (IsWellFormed-tidied s well) below
+      by_order false below = limited s well below

@@ -3,9 +3,9 @@ use Rattle.std.proofs.Common.{◌≢◌, ℕ, ◌*◌, ◌<◌, ◌≤◌, ◌�
 use Rattle.std.proofs.lemmas.Option.{same_Some}
 use Rattle.triple_arena_stack.specs.StackKind.{StackKind, reallocated_room, IsOfKind}
 use Rattle.triple_arena_stack.specs.StackKind.StackKind.{heap, limited, fixed, array}
-use Rattle.triple_arena_stack.specs.Capacity.{capacity_of, IsAtLimit, IsWithin}
+use Rattle.triple_arena_stack.specs.Capacity.{capacity_of, IsAtLimit, IsWithin, next_capacity}
 use Rattle.triple_arena.specs.ArenaState.{ArenaState, capacity, slot_count}
-use Rattle.triple_arena.specs.Capacity.{with_room_for, next_capacity}
+use Rattle.triple_arena.specs.Capacity.{with_room_for}
 use Rattle.triple_arena.specs.EntryLaws.{doubled}
 
 pub on_ok : {A E P Q : Type 0} (r : Result A E) → (P → Q) → OnOk r P → OnOk r Q
@@ -31,7 +31,7 @@ grown_room (array n) room (Some x) greatest len kind below inner =
     absurd (omega (arith, inner, under, same, kind.0))
 
 -- growth of an arena that is neither at its limit nor at the greatest index makes room
-pub grown_more : {T : Type 0} (k : StackKind) (s : ArenaState T) → IsOfKind k s.room s.limit → (IsAtLimit s.limit (capacity s) → ⊥) → capacity s ≢ s.greatest → capacity s < capacity (with_room_for k s (next_capacity s))
+pub grown_more : {T : Type 0} (k : StackKind) (s : ArenaState T) → IsOfKind k s.room s.limit → (IsAtLimit s.limit (capacity s) → ⊥) → capacity s ≢ s.greatest → capacity s < capacity (with_room_for k s (next_capacity (capacity s) s.limit s.greatest))
 grown_more k s kind below inner = grown_room k s.room s.limit s.greatest (slot_count s) kind below inner
 
 -- a reallocation that the limit allows makes place for what was asked

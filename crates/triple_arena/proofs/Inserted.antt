@@ -3,11 +3,11 @@ use Rattle.std.proofs.Common.{◌≡◌, ℕ, ◌+◌, List, [], ◌∷◌, Opti
 use Rattle.std.specs.Borrow.{MutBor}
 use Rattle.std.specs.Option.{option_and_then, option_copied_mut}
 use Rattle.triple_arena_ptr.specs.Pointers.{Pointer}
-use Rattle.triple_arena.specs.Numbered.{item}
+use Rattle.triple_arena.specs.Items.{item}
 use Rattle.triple_arena.specs.Entries.{value_under}
 use Rattle.triple_arena.specs.ArenaState.{ArenaState, slot_count, look_up, with_value, IsWellFormed}
 use Rattle.triple_arena.specs.Insertion.{place_among, place, next_pointer, inserted_among, inserted}
-use Rattle.triple_arena.proofs.NumberedLists.{joined, eq_true, item_within, item-with_same, item-push_same, with_item-twice, with_item-push}
+use Rattle.triple_arena.proofs.ItemLists.{joined, eq_true, item_within, item-with_same, item-push_same, with_item-twice, with_item-push}
 use Rattle.triple_arena.proofs.WellFormed.{first_free, with_value_is}
 
 module _ {T : Type 0} where

@@ -1,4 +1,4 @@
-pub mod NumberedLists
+pub mod ItemLists
 pub mod WellFormed
 pub mod Links
 pub mod Tidying

@@ -1,12 +1,12 @@
 -- How a change of the limit finds and leaves an arena.
 use Rattle.std.proofs.Common.{◌≡◌, ℕ, ◌<◌, ◌≤◌, ◌↔◌, ◌⊎◌, inl, inr, Bool, true, false, List, [], ◌∷◌, length, Option, Some, None, Result, Ok, Err, IsOk, OnErr, cond, min, nat_lt, refl, sym, ap, ◌∙◌, arith, true≢false}
 use Rattle.std.proofs.lemmas.Bool.{ltb-true, ltb-false}
-use Rattle.triple_arena.specs.Numbered.{item}
+use Rattle.triple_arena.specs.Items.{item}
 use Rattle.triple_arena.specs.Entries.{entry_in}
 use Rattle.triple_arena.specs.ArenaState.{ArenaState, capacity, slot_count, is_free, IsWellFormed}
 use Rattle.triple_arena.specs.FreeList.{trimmed, tidied}
 use Rattle.triple_arena.specs.Capacity.{EndsBy, ready_for_limit, with_limit}
-use Rattle.triple_arena.proofs.NumberedLists.{joined, item_past}
+use Rattle.triple_arena.proofs.ItemLists.{joined, item_past}
 use Rattle.triple_arena.proofs.Tidying.{trimmed_length, IsInOrder-tidied}
 
 module _ {T : Type 0} where

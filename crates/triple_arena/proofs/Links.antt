@@ -6,7 +6,7 @@ use Rattle.std.proofs.lemmas.List.Sums.{sum_by_push}
 use Rattle.std.proofs.lemmas.Option.{some_pair_parts, slice_get-map, slice_get_read, slice_get_within}
 use Rattle.std.specs.Int.NonZero.{non_zero_usize_get}
 use Rattle.std.specs.Option.{option_and_then, option_map}
-use Rattle.triple_arena.specs.Numbered.{item, with_item}
+use Rattle.triple_arena.specs.Items.{item, with_item}
 use Rattle.triple_arena.specs.Entries.{with_generation_in}
 use Rattle.triple_arena.specs.ArenaState.{ArenaState, new_arena, capacity, slot_count, arena_len, is_free, with_value, IsWellFormed}
 use Rattle.triple_arena.specs.Insertion.{place_among, place, inserted_among, inserted}
@@ -16,7 +16,7 @@ use Rattle.triple_arena.specs.Layout.{entry_at, next_of, after, chain, state_of,
 use Rattle.triple_arena.specs.declared.slot.FreeLink.{FreeLink}
 use Rattle.triple_arena.specs.declared.slot.ArenaSlot.{ArenaSlot}
 use Rattle.triple_arena.specs.declared.slot.ArenaSlot.TheVariants.{Free, Allocated}
-use Rattle.triple_arena.proofs.NumberedLists.{joined, item_last, map-with_item, item_at, eq_true, eq_false, item_within, item_past, item-with_same, item-with_other, item-push_other, split_last}
+use Rattle.triple_arena.proofs.ItemLists.{joined, item_last, map-with_item, item_at, eq_true, eq_false, item_within, item_past, item-with_same, item-with_other, item-push_other, split_last}
 use Rattle.triple_arena.proofs.WellFormed.{with_entry, is_free_not, with_value_is, with_generation_is, live_counted, count_head, count_tail, first_free, live_not_free, count-with_item, IsWellFormed-inserted, IsWellFormed-removed, IsWellFormed-with_entry, IsWellFormed-counter, IsWellFormed-empty}
 
 module _ {A B : Type 0} (f : A → B) where

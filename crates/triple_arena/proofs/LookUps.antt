@@ -3,7 +3,7 @@ use Rattle.std.proofs.Common.{◌≡◌, ◌≢◌, ℕ, List, Option, Some, Non
 use Rattle.std.specs.Option.{option_and_then, option_map}
 use Rattle.triple_arena_ptr.specs.Pointers.{Pointer}
 use Rattle.triple_arena.specs.Entries.{entry_in, value_under, look_up_in, ChangesAt, KeepsEntries}
-use Rattle.triple_arena.specs.NumberedLaws.{eq_true}
+use Rattle.triple_arena.specs.ItemLaws.{eq_true}
 use Rattle.triple_arena.proofs.WellFormed.{entry_of_value}
 
 module _ {T : Type 0} (old new : List (Option (ℕ × T))) where

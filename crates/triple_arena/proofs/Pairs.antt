@@ -6,14 +6,14 @@ use Rattle.std.proofs.lemmas.Option.{same_Some, some_pair_parts}
 use Rattle.std.specs.List.{refill}
 use Rattle.std.specs.Option.{option_map}
 use Rattle.triple_arena_ptr.specs.Pointers.{Pointer}
-use Rattle.triple_arena_stack.specs.Disjoint.{set_both}
-use Rattle.triple_arena.specs.Numbered.{item, with_item}
+use Rattle.triple_arena_stack.specs.Disjoint.{set_both, MayWork}
+use Rattle.triple_arena.specs.Items.{item, with_item}
 use Rattle.triple_arena.specs.ArenaState.{ArenaState, entry, look_up, with_value}
 use Rattle.triple_arena.specs.Slot.{entry_of, with_slot_value}
 use Rattle.triple_arena.specs.Layout.{entry_at, Shows, with_value_at}
-use Rattle.triple_arena.specs.Disjoint.{PairOnce, value_of, MayWork}
+use Rattle.triple_arena.specs.Disjoint.{PairOnce, value_of}
 use Rattle.triple_arena.specs.declared.slot.ArenaSlot.{ArenaSlot}
-use Rattle.triple_arena.proofs.NumberedLists.{item_at, with_item_at, item-with_other}
+use Rattle.triple_arena.proofs.ItemLists.{item_at, with_item_at, item-with_other}
 use Rattle.triple_arena.proofs.WellFormed.{entry_of_value}
 use Rattle.triple_arena.proofs.Links.{entry_item, Shows-with_value, pointer_is}
 

@@ -3,8 +3,8 @@ use Rattle.std.proofs.Common.{◌≡◌, ℕ, ◌≤◌, Bool, true, false, Opti
 use Rattle.std.specs.Option.{option_map}
 use Rattle.triple_arena_stack.specs.StackKind.{StackKind}
 use Rattle.triple_arena_stack.specs.Capacity.{capacity_of}
-use Rattle.triple_arena.specs.Numbered.{item, with_item}
-use Rattle.triple_arena.specs.NumberedLaws.{joined, with_item-past}
+use Rattle.triple_arena.specs.Items.{item, with_item}
+use Rattle.triple_arena.specs.ItemLaws.{joined, with_item-past}
 use Rattle.triple_arena.specs.Entries.{with_generation_in}
 use Rattle.triple_arena.specs.ArenaState.{ArenaState, slot_count, capacity, entry, with_value, IsWellFormed}
 use Rattle.triple_arena.specs.Ending.{removed, invalidated, cleared}

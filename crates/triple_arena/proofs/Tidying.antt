@@ -3,14 +3,14 @@ use Rattle.std.proofs.Common.{◌≡◌, ◌≢◌, ℕ, zero, suc, ◌+◌, ◌
 use Rattle.std.proofs.lemmas.List.{length-map, drop_all, take-map}
 use Rattle.std.proofs.lemmas.List.Sums.{sum_by-cons}
 use Rattle.std.specs.Int.NonZero.{non_zero_usize_get}
-use Rattle.triple_arena.specs.Numbered.{item, with_item}
+use Rattle.triple_arena.specs.Items.{item, with_item}
 use Rattle.triple_arena.specs.ArenaState.{ArenaState, is_free, IsWellFormed}
 use Rattle.triple_arena.specs.FreeList.{before, trimmed, gaps, tidied, IsRising, IsInOrder}
 use Rattle.triple_arena.specs.Slot.{entry_of}
 use Rattle.triple_arena.specs.EntryLaws.{entry-tidied}
 use Rattle.triple_arena.specs.LengthLaws.{trimmed_live}
 use Rattle.triple_arena.specs.Layout.{after, IsLinked, Shows}
-use Rattle.triple_arena.proofs.NumberedLists.{map-with_item, item_within, item-with_same, item-with_other, split_last}
+use Rattle.triple_arena.proofs.ItemLists.{map-with_item, item_within, item-with_same, item-with_other, split_last}
 use Rattle.triple_arena.specs.declared.slot.FreeLink.{FreeLink}
 use Rattle.triple_arena.specs.declared.slot.ArenaSlot.{ArenaSlot}
 use Rattle.triple_arena.specs.declared.slot.ArenaSlot.TheVariants.{Free, Allocated}

@@ -1,7 +1,7 @@
 -- Reallocation, growth and limit of an arena.
-use Rattle.std.specs.Prelude.{◌≡◌, ℕ, ◌*◌, ◌<◌, ◌≤◌, ◌==◌, nat_lt, cond, Option, Some, None, min}
+use Rattle.std.specs.Prelude.{◌≡◌, ℕ, ◌<◌, ◌==◌, nat_lt, cond, Some, None}
 use Rattle.triple_arena_stack.specs.StackKind.{StackKind, reallocated_room}
-use Rattle.triple_arena_stack.specs.Capacity.{capacity_of, IsAtLimit}
+use Rattle.triple_arena_stack.specs.Capacity.{next_capacity}
 use Rattle.triple_arena.specs.ArenaState.{ArenaState, slot_count, arena_len, capacity, entry}
 use Rattle.triple_arena.specs.FreeList.{tidied}
 
@@ -31,14 +31,6 @@ module _ {T : Type 0} where
   abbrev pub with_limit : ArenaState T → ℕ → ArenaState T
   with_limit s x = record (ready_for_limit s x) { limit = Some x }
 
-  -- the capacity that a full arena grows to: 4 or twice, cut to the limit and to the greatest index
-  abbrev pub next_capacity : ArenaState T → ℕ
-  next_capacity s = min (capacity_of (cond (capacity s == 0) 4 (capacity s * 2)) s.limit) s.greatest
-
   -- a full arena grows; any other stays as it is
   abbrev pub grown : StackKind → ArenaState T → ArenaState T
-  grown kind s = cond (arena_len s == capacity s) (with_room_for kind s (next_capacity s)) s
-
--- an arena of this capacity, this limit and so many entries is full, and its limit is reached
-abbrev pub IsFullAtLimit : ℕ → Option ℕ → ℕ → Type 0
-IsFullAtLimit capacity limit len = (capacity ≤ len) × IsAtLimit limit capacity
+  grown kind s = cond (arena_len s == capacity s) (with_room_for kind s (next_capacity (capacity s) s.limit s.greatest)) s

@@ -33,17 +33,6 @@ module _ {T : Type 0} where
 abbrev pub PairOnce : Type 0 → Type 0 → Type 0 → Type 1
 PairOnce F T R = Once F (MutBor T × (MutBor T × Unit {0})) (R × (MutBor T × (MutBor T × Unit {0})))
 
-module _ {F T R : Type 0} (c : PairOnce F T R) (f : F) where
-  -- f may be called at two values, where both are there
-  abbrev pub MayWork : Option T → Option T → Type 0
-  MayWork first second = (x y : T) → first ≡ Some x → second ≡ Some y → FnOnceTakesAtPairMut c f x y
-
-  -- a call of f at two values gave r, and this holds of what it left there
-  abbrev pub Worked : Option T → Option T → R → (T → T → Type 0) → Type 0
-  Worked first second r Left =
-      (x y x' y' : T) × (first ≡ Some x) × (second ≡ Some y)
-      × FnOnceReturnsAtPairMut c f x y r x' y' × Left x' y'
-
 module _ {F G T R : Type 0} (c : Once F (G × (MutBor T × (G × (MutBor T × Unit {0})))) (R × (MutBor T × (MutBor T × Unit {0})))) where
   -- its calls at two values, each after its generation
   abbrev pub after_generations : G → G → PairOnce F T R

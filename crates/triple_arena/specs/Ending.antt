@@ -4,7 +4,7 @@ use Rattle.triple_arena_base.specs.declared.invalidation.InvalidationOption.{Inv
 use Rattle.triple_arena_base.specs.declared.invalidation.InvalidationOption.TheVariants as option
 use Rattle.triple_arena_base.specs.declared.invalidation.InvalidationResult.{InvalidationResult}
 use Rattle.triple_arena_base.specs.declared.invalidation.InvalidationResult.TheVariants.{Success, GenerationOverflow, InvalidPtr}
-use Rattle.triple_arena.specs.Numbered.{with_item}
+use Rattle.triple_arena.specs.Items.{with_item}
 use Rattle.triple_arena.specs.Entries.{with_generation_in}
 use Rattle.triple_arena.specs.ArenaState.{ArenaState, slot_count, arena_len}
 

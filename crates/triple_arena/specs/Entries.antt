@@ -2,7 +2,7 @@
 use Rattle.std.specs.Prelude.{◌≡◌, ◌≢◌, ℕ, ◌<◌, ◌==◌, cond, List, count_by, Option, Some, None, is_some, IsSome}
 use Rattle.std.specs.Option.{option_and_then, option_map}
 use Rattle.triple_arena_ptr.specs.Pointers.{Pointer}
-use Rattle.triple_arena.specs.Numbered.{item, with_item}
+use Rattle.triple_arena.specs.Items.{item, with_item}
 
 module _ {T : Type 0} where
   -- the entry at an index, if there is one

@@ -6,15 +6,15 @@ use Rattle.std.proofs.lemmas.List.Sums.{sum_by-cons}
 use Rattle.std.specs.Option.{option_map}
 use Rattle.triple_arena_stack.specs.StackKind.{StackKind, reallocated_room}
 use Rattle.triple_arena_stack.specs.StackKind.StackKind.{heap, limited, fixed, array}
-use Rattle.triple_arena_stack.specs.Capacity.{capacity_of}
-use Rattle.triple_arena.specs.Numbered.{item, with_item}
-use Rattle.triple_arena.specs.NumberedLaws.{joined, eq_true, eq_false, item_past, item-with_other, item-push_same, item-push_other}
+use Rattle.triple_arena_stack.specs.Capacity.{capacity_of, next_capacity}
+use Rattle.triple_arena.specs.Items.{item, with_item}
+use Rattle.triple_arena.specs.ItemLaws.{joined, eq_true, eq_false, item_past, item-with_other, item-push_same, item-push_other}
 use Rattle.triple_arena.specs.Entries.{entry_in, ChangesAt, KeepsEntries}
 use Rattle.triple_arena.specs.ArenaState.{ArenaState, capacity, slot_count, arena_len, is_free, IsWellFormed}
 use Rattle.triple_arena.specs.Insertion.{place_among, place, next_pointer, inserted_among, inserted}
 use Rattle.triple_arena.specs.Ending.{removed, invalidated, cleared}
 use Rattle.triple_arena.specs.FreeList.{before, trimmed, tidied}
-use Rattle.triple_arena.specs.Capacity.{with_room_for, reallocated, next_capacity, grown}
+use Rattle.triple_arena.specs.Capacity.{with_room_for, reallocated, grown}
 
 -- the count of an index in a list that begins with it
 pub count_head : (i : ℕ) (rest : List ℕ) → count_by (λ j. j == i) (i ∷ rest) ≡ 1 + count_by (λ j. j == i) rest
@@ -186,19 +186,19 @@ module _ {T : Type 0} where
   pub well_formed-grown : (kind : StackKind) (s : ArenaState T) → IsWellFormed s → IsWellFormed (grown kind s)
   well_formed-grown kind s well = by_test (arena_len s == capacity s)
     where
-      by_test : (b : Bool) → IsWellFormed (cond b (with_room_for kind s (next_capacity s)) s)
+      by_test : (b : Bool) → IsWellFormed (cond b (with_room_for kind s (next_capacity (capacity s) s.limit s.greatest)) s)
       by_test false = well
       by_test true =
           record {
             free_once = well.free_once;
             total = well.total;
-            fits = within_room kind s.room (slot_count s) (next_capacity s) s.greatest s.limit well.fits;
+            fits = within_room kind s.room (slot_count s) (next_capacity (capacity s) s.limit s.greatest) s.greatest s.limit well.fits;
           }
 
   pub fitting-grown : (kind : StackKind) (s : ArenaState T) → capacity s ≤ capacity (grown kind s)
   fitting-grown kind s = by_test (arena_len s == capacity s)
     where
-      by_test : (b : Bool) → capacity s ≤ capacity (cond b (with_room_for kind s (next_capacity s)) s)
+      by_test : (b : Bool) → capacity s ≤ capacity (cond b (with_room_for kind s (next_capacity (capacity s) s.limit s.greatest)) s)
       by_test false = omega arith
       by_test true = kept_room kind s.room (slot_count s) (cond (capacity s == 0) 4 (capacity s * 2)) s.greatest s.limit (omega (arith, doubled (capacity s)))
 

@@ -1,6 +1,6 @@
 -- The order that the free list of an arena is put into.
 use Rattle.std.specs.Prelude.{◌≡◌, ◌≤◌, nat_le, false, ℕ, ◌+◌, List, [], ◌∷◌, length, filter, Option, Some, None}
-use Rattle.triple_arena.specs.Numbered.{item}
+use Rattle.triple_arena.specs.Items.{item}
 use Rattle.triple_arena.specs.ArenaState.{ArenaState, entry, is_free, slot_count}
 
 module _ {A : Type 0} where

@@ -1,7 +1,7 @@
 -- Insertion into an arena.
 use Rattle.std.specs.Prelude.{ℕ, ◌+◌, List, [], ◌∷◌, ◌++◌, Some}
 use Rattle.triple_arena_ptr.specs.Pointers.{Pointer}
-use Rattle.triple_arena.specs.Numbered.{with_item}
+use Rattle.triple_arena.specs.Items.{with_item}
 use Rattle.triple_arena.specs.ArenaState.{ArenaState, slot_count}
 
 -- the first of these free indexes, or one past so many slots where there is none

@@ -5,8 +5,8 @@ use Rattle.std.proofs.lemmas.List.Sums.{sum_by-set, sum_by_push, sum_by-cons}
 use Rattle.std.proofs.lemmas.Option.{slice_get_within, get_or_from_slice_get}
 use Rattle.std.specs.Option.{option_map}
 use Rattle.triple_arena_stack.specs.StackKind.{StackKind}
-use Rattle.triple_arena.specs.Numbered.{item, with_item}
-use Rattle.triple_arena.specs.NumberedLaws.{joined, eq_true, eq_false, with_item-past, split_last}
+use Rattle.triple_arena.specs.Items.{item, with_item}
+use Rattle.triple_arena.specs.ItemLaws.{joined, eq_true, eq_false, with_item-past, split_last}
 use Rattle.triple_arena.specs.Entries.{entry_in, entry_count}
 use Rattle.triple_arena.specs.ArenaState.{ArenaState, arena_len, capacity, slot_count, with_value, IsWellFormed}
 use Rattle.triple_arena.specs.Insertion.{inserted_among, inserted}

@@ -1,5 +1,5 @@
-pub mod Numbered
-pub mod NumberedLaws
+pub mod Items
+pub mod ItemLaws
 pub mod Entries
 pub mod ArenaState
 pub mod Insertion

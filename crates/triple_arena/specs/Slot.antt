@@ -1,7 +1,13 @@
 -- What a slot holds.
-use Rattle.std.specs.Prelude.{ℕ, Option, Some, None}
+use Rattle.std.specs.Prelude.{ℕ, ◌==◌, cond, Option, Some, None}
+use Rattle.std.specs.Int.NonZero.{non_zero_usize_get}
+use Rattle.triple_arena.specs.declared.slot.FreeLink.{FreeLink}
 use Rattle.triple_arena.specs.declared.slot.ArenaSlot.{ArenaSlot}
 use Rattle.triple_arena.specs.declared.slot.ArenaSlot.TheVariants.{Free, Allocated}
+
+-- the index that the link of the free slot at index i leads to, if it leads to one
+abbrev pub next_free : FreeLink → ℕ → Option ℕ
+next_free link i = cond (non_zero_usize_get link.next == i) None (Some (non_zero_usize_get link.next))
 
 module _ {P T I G : Type 0} where
   -- the generation, by its number, and the value of the slot's entry, if it has one

@@ -3,8 +3,8 @@
 ghost use Rattle.std.specs.Prelude.{◌≡◌, ◌≢◌, ℕ, ◌+◌, ◌≤◌, ◌<◌, ◌↔◌, IsOk, IfOk, OnOk, OnErr, None, Some, Err};
 ghost use Rattle.triple_arena_ptr.specs.Numbers.{greatest_index};
 ghost use Rattle.triple_arena_ptr.specs.Pointers.{Pointer};
+ghost use Rattle.triple_arena_stack.specs.Capacity.{IsFullAtLimit, CanGrow};
 ghost use Rattle.triple_arena.specs.Entries.{entry_in, look_up_in, entry_count, ChangesAt, KeepsEntries};
-ghost use Rattle.triple_arena.specs.Capacity.{IsFullAtLimit};
 
 use crate::arena_trait::ArenaTrait;
 use triple_arena_base::{NotWithinCapacityError, ReallocationError};
@@ -43,7 +43,8 @@ pub trait ArenaInsertTrait<P: Ptr, T>: ArenaTrait<P, T> {
     ///
     /// `BeyondMaxCapacity` exactly where the arena is full and its limit is reached; else
     /// `AllocError` where it is full and memory is refused, or there is no greater index. Then the
-    /// arena is unchanged, and `t` is dropped. Where the arena isn't full, no memory is taken.
+    /// arena is unchanged, and `t` is dropped. Where the arena isn't full, no memory is taken; a full
+    /// one grows wherever limit, indexes and memory allow it.
     fn insert_reallocating(&mut self, t: T) -> Result<P, ReallocationError>
     where
         T: Drop,
@@ -54,6 +55,8 @@ pub trait ArenaInsertTrait<P: Ptr, T>: ArenaTrait<P, T> {
         ensures beyond { (result ≡ Err ReallocationError.BeyondMaxCapacity)
             ↔ IsFullAtLimit
             (Self.fitting self.old) (Self.limit self.old) (entry_count (Self.slots self.old)) }
+        ensures given { CanGrow Self.has_memory (Self.fitting self.old) (Self.limit self.old)
+            (greatest_index P.Inx.greatest) → IsOk result }
         ensures indexed { OnOk result (entry_count (Self.slots self.old) ≡ Self.fitting self.old
             → Self.fitting self.old < greatest_index P.Inx.greatest) }
         ensures had_place { entry_count (Self.slots self.old) < Self.fitting self.old
@@ -142,6 +145,8 @@ pub trait ArenaInsertTrait<P: Ptr, T>: ArenaTrait<P, T> {
         ensures beyond { (result ≡ Err ReallocationError.BeyondMaxCapacity)
             ↔ IsFullAtLimit
             (Self.fitting self.old) (Self.limit self.old) (entry_count (Self.slots self.old)) }
+        ensures given { CanGrow Self.has_memory (Self.fitting self.old) (Self.limit self.old)
+            (greatest_index P.Inx.greatest) → IsOk result }
         ensures indexed { OnOk result (entry_count (Self.slots self.old) ≡ Self.fitting self.old
             → Self.fitting self.old < greatest_index P.Inx.greatest) }
         ensures had_place { entry_count (Self.slots self.old) < Self.fitting self.old

@@ -21,7 +21,9 @@ use triple_arena_ptr::{Ptr, PtrGen, PtrInx};
 ///
 /// The slots lie in a stack; the capacity is that of the stack, but at most the greatest index of
 /// the pointer type. Memory is asked for only by `with_min_capacity`, by `reallocate_min_capacity`
-/// where it changes the room, and by an insertion into a full arena.
+/// where it changes the room, and by an insertion into a full arena. For which requests it is there
+/// is told by `has_memory`, as the stack tells it, and these calls succeed where it says so: a body
+/// over any stack that gives up without asking has no proof.
 pub trait ArenaTrait<P: Ptr, T>: Sized {
     // by index from 1, the generation and the value of the entry that stands there, or nothing
     ghost slots: { Self → List (Option (ℕ × T)) };
@@ -37,6 +39,9 @@ pub trait ArenaTrait<P: Ptr, T>: Sized {
 
     // what constructors and reallocation make of room and limit
     ghost kind: { StackKind };
+
+    // where room for so many slots is asked for, memory is there
+    ghost has_memory: { ℕ → Type 0 };
 
     // the arena without slots, of this room and this limit
     ghost fresh: { ℕ → Option ℕ → Self };
@@ -71,6 +76,9 @@ pub trait ArenaTrait<P: Ptr, T>: Sized {
     // a reallocation to so many leaves the room as it is
     ghost keeps_room: { Self → ℕ → Type 0 };
 
+    // for the room that a reallocation to so many asks for, memory is there
+    ghost gets_room: { Self → ℕ → Type 0 };
+
     /// An arena without slots, with the room and the limit of a new stack. It takes no memory.
     fn new(alloc: Global) -> Self
         ensures { result ≡ fresh (new_room kind) (new_limit kind) };
@@ -78,14 +86,16 @@ pub trait ArenaTrait<P: Ptr, T>: Sized {
     /// An arena without slots, over a stack with room for `min_capacity`.
     ///
     /// Refused where `min_capacity` is past the greatest index, and where the stack refuses it: an
-    /// array of fewer places, and any other where memory is refused.
+    /// array of fewer places, and any other where memory is refused, which it isn't where it is there.
     fn with_min_capacity(alloc: Global, min_capacity: usize) -> Result<Self, AllocError>
         ensures made { IfOk result
             (λ arena. arena ≡ fresh (made_room kind min_capacity) (made_limit kind min_capacity)) }
         ensures holds { OnOk result
             ((min_capacity ≤ greatest_index P.Inx.greatest) × CanHold kind min_capacity) }
         ensures succeeds { min_capacity ≤ greatest_index P.Inx.greatest
-            → TakesNoMemory kind min_capacity → IsOk result };
+            → TakesNoMemory kind min_capacity → IsOk result }
+        ensures given { min_capacity ≤ greatest_index P.Inx.greatest
+            → CanHold kind min_capacity → has_memory min_capacity → IsOk result };
 
     /// How many entries fit without growth: the capacity of the stack, but at most the greatest
     /// index.
@@ -104,8 +114,8 @@ pub trait ArenaTrait<P: Ptr, T>: Sized {
     /// rest is refused.
     ///
     /// `AllocError` where `min_capacity` is past the greatest index; else `BeyondMaxCapacity`
-    /// exactly where the limit is below it; else `AllocError` where memory is refused. Where the
-    /// room stays the same, no memory is taken.
+    /// exactly where the limit is below it; else `AllocError` where memory is refused, which it isn't
+    /// where it is there for the new room. Where the room stays the same, no memory is taken.
     fn reallocate_min_capacity(&mut self, min_capacity: usize) -> Result<(), ReallocationError>
         ensures done { OnOk result (reallocates self.old min_capacity self.new) }
         ensures refused { OnErr result (settles self.old min_capacity self.new) }
@@ -118,6 +128,9 @@ pub trait ArenaTrait<P: Ptr, T>: Sized {
         ensures succeeds { min_capacity ≤ greatest_index P.Inx.greatest
             → IsWithin (limit self.old) min_capacity
             → keeps_room self.old min_capacity → IsOk result }
+        ensures given { min_capacity ≤ greatest_index P.Inx.greatest
+            → IsWithin (limit self.old) min_capacity
+            → gets_room self.old min_capacity → IsOk result }
         ensures place { OnOk result (min_capacity ≤ fitting self.new) };
 
     /// How many entries there are: never more than the capacity.

@@ -4,16 +4,16 @@ ghost use Rattle.std.specs.Prelude.{◌≡◌, ℕ, ◌≤◌, ◌<◌, ◌+◌,
 ghost use Rattle.std.specs.Int.NonZero.{non_zero_usize_get};
 ghost use Rattle.std.specs.Option.{option_map, option_and_then};
 ghost use Rattle.triple_arena_ptr.specs.Numbers.{greatest_index, raise, wraps, first_generation};
-ghost use Rattle.triple_arena_stack.specs.Capacity.{capacity_of, IsWithin, IsBeyond, IsAtLimit};
+ghost use Rattle.triple_arena_stack.specs.Capacity.{IsWithin, IsBeyond, IsAtLimit, next_capacity, IsFullAtLimit, CanGrow};
 ghost use Rattle.triple_arena_stack.specs.StackKind.{IsOfKind};
-ghost use Rattle.triple_arena_stack.specs.Disjoint.{DisjointAnswer};
+ghost use Rattle.triple_arena_stack.specs.Disjoint.{DisjointAnswer, MayWork, Worked};
 ghost use Rattle.triple_arena.specs.ArenaState.{ArenaState, new_arena, slot_count, capacity, arena_len, entry, look_up, with_value, IsWellFormed};
 ghost use Rattle.triple_arena.specs.Insertion.{next_pointer, inserted};
 ghost use Rattle.triple_arena.specs.Ending.{removed, invalidated, cleared, told};
 ghost use Rattle.triple_arena.specs.FreeList.{tidied, IsInOrder};
-ghost use Rattle.triple_arena.specs.Capacity.{with_room_for, reallocated, KeepsRoom, EndsBy, ready_for_limit, with_limit, grown, IsFullAtLimit};
+ghost use Rattle.triple_arena.specs.Capacity.{with_room_for, reallocated, KeepsRoom, EndsBy, ready_for_limit, with_limit, grown};
 ghost use Rattle.triple_arena.specs.Slot.{entry_of};
-ghost use Rattle.triple_arena.specs.Disjoint.{value_of, MayWork, Worked};
+ghost use Rattle.triple_arena.specs.Disjoint.{value_of};
 
 use crate::answers::{told, told_valid};
 use crate::arena_insert_trait::ArenaInsertTrait;
@@ -94,6 +94,8 @@ impl<P: Ptr, T, S: NonZeroInxGenericStack<ArenaSlot<P, T>>> ArenaTrait<P, T> for
 
     ghost kind = { S.kind };
 
+    ghost has_memory = { S.has_memory };
+
     // no slot, and the first generation as the counter
     ghost fresh = { λ room limit. new_arena room limit (greatest_index P.Inx.greatest)
         (first_generation P.Gen.counting) };
@@ -131,6 +133,8 @@ impl<P: Ptr, T, S: NonZeroInxGenericStack<ArenaSlot<P, T>>> ArenaTrait<P, T> for
 
     // the room that the stack's kind makes of it, once the free list is in order, is the old one
     ghost keeps_room = { KeepsRoom S.kind };
+
+    ghost gets_room = { λ s m. S.has_memory (reallocated S.kind s m).room };
 
     fn new(alloc: Global) -> Self {
         Arena::over(S::new(alloc))
@@ -597,6 +601,8 @@ impl<P: Ptr, T, S: NonZeroInxGenericStack<ArenaSlot<P, T>>> Arena<P, T, S> {
             ↔ IsBeyond self.old.limit min_capacity }
         ensures succeeds { IsWithin self.old.limit min_capacity
             → (with_room_for S.kind self.old min_capacity).room ≡ self.old.room → IsOk result }
+        ensures given { IsWithin self.old.limit min_capacity
+            → S.has_memory (with_room_for S.kind self.old min_capacity).room → IsOk result }
         ensures place { OnOk result (min_capacity ≤ greatest_index P.Inx.greatest
             → min_capacity ≤ capacity self.new) }
     {
@@ -611,6 +617,8 @@ impl<P: Ptr, T, S: NonZeroInxGenericStack<ArenaSlot<P, T>>> Arena<P, T, S> {
         ensures has_place { OnOk result (arena_len self.new < capacity self.new) }
         ensures beyond { (result ≡ Err ReallocationError.BeyondMaxCapacity)
             ↔ IsFullAtLimit (capacity self.old) self.old.limit (arena_len self.old) }
+        ensures given { CanGrow S.has_memory (capacity self.old) self.old.limit
+            (greatest_index P.Inx.greatest) → IsOk result }
         ensures indexed { OnOk result (arena_len self.old ≡ capacity self.old
             → capacity self.old < greatest_index P.Inx.greatest) }
         ensures had_place { arena_len self.old < capacity self.old → IsOk result }
@@ -684,7 +692,7 @@ fn is_at_limit(limit: Option<usize>, capacity: usize) -> bool
 // The capacity that a full arena grows to.
 fn grown_capacity(capacity: usize, limit: Option<usize>, greatest: usize) -> usize
     requires { greatest < 2 ^ 64 }
-    ensures { result ≡ min (capacity_of (cond (capacity == 0) 4 (capacity * 2)) limit) greatest }
+    ensures { result ≡ next_capacity capacity limit greatest }
 {
     let next = if capacity == 0 {
         4

@@ -1,8 +1,9 @@
 //! Two values of an arena, written at once.
 
 ghost use Rattle.std.specs.Prelude.{◌≡◌, ◌≢◌, IfOk, OnErr};
+ghost use Rattle.triple_arena_stack.specs.Disjoint.{MayWork, Worked};
 ghost use Rattle.triple_arena.specs.Entries.{entry_in, look_up_in};
-ghost use Rattle.triple_arena.specs.Disjoint.{DisjointPtrAnswer, DisjointInxAnswer, MayWork, Worked, MayWorkAtEntries, WorkedAtEntries};
+ghost use Rattle.triple_arena.specs.Disjoint.{DisjointPtrAnswer, DisjointInxAnswer, MayWorkAtEntries, WorkedAtEntries};
 
 use crate::arena_trait::ArenaTrait;
 use triple_arena_base::GetDisjointMutError;

@@ -4,9 +4,10 @@ ghost use Rattle.std.specs.Prelude.{◌≡◌, ◌<◌, ◌↔◌, IsTrue, IsOk,
 ghost use Rattle.std.specs.Borrow.{sem, Lends, RattleType};
 ghost use Rattle.triple_arena_ptr.specs.Numbers.{greatest_index};
 ghost use Rattle.triple_arena_ptr.specs.Pointers.{Pointer};
+ghost use Rattle.triple_arena_stack.specs.Capacity.{IsFullAtLimit, CanGrow};
 ghost use Rattle.triple_arena.specs.ArenaState.{arena_len, capacity};
 ghost use Rattle.triple_arena.specs.Insertion.{next_pointer, inserted};
-ghost use Rattle.triple_arena.specs.Capacity.{grown, IsFullAtLimit};
+ghost use Rattle.triple_arena.specs.Capacity.{grown};
 ghost use Rattle.triple_arena.specs.InsertEntry.{entry_arena, entry_reference, entry_lender, entry_rests};
 
 use crate::arena_insert_trait::ArenaInsertTrait;
@@ -141,6 +142,8 @@ impl<P: Ptr, T, S: NonZeroInxGenericStack<ArenaSlot<P, T>>> Arena<P, T, S> {
             (λ entry. arena_len (entry_arena entry) < capacity (entry_arena entry)) }
         ensures beyond { (result ≡ Err ReallocationError.BeyondMaxCapacity)
             ↔ IsFullAtLimit (capacity self.old) self.old.limit (arena_len self.old) }
+        ensures given { CanGrow S.has_memory (capacity self.old) self.old.limit
+            (greatest_index P.Inx.greatest) → IsOk result }
         ensures indexed { OnOk result (arena_len self.old ≡ capacity self.old
             → capacity self.old < greatest_index P.Inx.greatest) }
         ensures had_place { arena_len self.old < capacity self.old
@@ -160,6 +163,8 @@ impl<P: Ptr, T, S: NonZeroInxGenericStack<ArenaSlot<P, T>>> Arena<P, T, S> {
             (λ entry. arena_len (entry_arena entry) < capacity (entry_arena entry)) }
         ensures beyond { (result ≡ Err ReallocationError.BeyondMaxCapacity)
             ↔ IsFullAtLimit (capacity self.old) self.old.limit (arena_len self.old) }
+        ensures given { CanGrow S.has_memory (capacity self.old) self.old.limit
+            (greatest_index P.Inx.greatest) → IsOk result }
         ensures indexed { OnOk result (arena_len self.old ≡ capacity self.old
             → capacity self.old < greatest_index P.Inx.greatest) }
         ensures had_place { arena_len self.old < capacity self.old

@@ -11,8 +11,6 @@ pub mod laws;
 mod pair_call;
 mod slot;
 mod slots;
-#[cfg(test)]
-mod tests;
 
 pub use arena_insert_trait::ArenaInsertTrait;
 pub use arena_trait::ArenaTrait;

@@ -5,7 +5,7 @@ ghost use Rattle.std.specs.Borrow.{Lends, sem};
 ghost use Rattle.std.specs.Int.NonZero.{non_zero_usize_get};
 ghost use Rattle.std.specs.Option.{option_map, option_and_then};
 ghost use Rattle.triple_arena.specs.Entries.{value_under};
-ghost use Rattle.triple_arena.specs.Slot.{entry_of, with_slot_value, with_slot_generation};
+ghost use Rattle.triple_arena.specs.Slot.{entry_of, next_free, with_slot_value, with_slot_generation};
 
 use std::num::NonZeroUsize;
 use triple_arena_ptr::{Ptr, PtrGen};
@@ -28,11 +28,12 @@ impl FreeLink {
         }
     }
 
-    // The next free slot, where this is the link at `inx`.
-    pub(crate) fn after(self, inx: NonZeroUsize) -> Option<NonZeroUsize>
+    /// The free index that comes after `inx` in the free list, where this is the link of the free
+    /// slot at `inx`; none where `inx` comes last. From `freelist_root` on, the links of `backing`
+    /// go through all free indexes in the order in which insertion takes them.
+    pub fn after(self, inx: NonZeroUsize) -> Option<NonZeroUsize>
         ensures { option_map non_zero_usize_get result
-            ≡ cond (non_zero_usize_get self.next == non_zero_usize_get inx)
-            None (Some (non_zero_usize_get self.next)) }
+            ≡ next_free self (non_zero_usize_get inx) }
     {
         if self.next == inx {
             None

@@ -6,7 +6,8 @@ ghost use Rattle.std.specs.Int.NonZero.{non_zero_usize_get};
 ghost use Rattle.std.specs.Option.{option_map};
 ghost use Rattle.triple_arena_stack.specs.StackKind.{reallocated_room, IsOfKind};
 ghost use Rattle.triple_arena_stack.specs.Capacity.{capacity_of, IsWithin, IsBeyond};
-ghost use Rattle.triple_arena.specs.Numbered.{item, with_item};
+ghost use Rattle.triple_arena_stack.specs.Disjoint.{MayWork, Worked};
+ghost use Rattle.triple_arena.specs.Items.{item, with_item};
 ghost use Rattle.triple_arena.specs.ArenaState.{ArenaState, arena_len, capacity, with_value, is_free};
 ghost use Rattle.triple_arena.specs.Insertion.{place, inserted};
 ghost use Rattle.triple_arena.specs.Ending.{removed};
@@ -14,7 +15,7 @@ ghost use Rattle.triple_arena.specs.Entries.{with_generation_in};
 ghost use Rattle.triple_arena.specs.FreeList.{trimmed, gaps};
 ghost use Rattle.triple_arena.specs.Slot.{entry_of, with_slot_value};
 ghost use Rattle.triple_arena.specs.Layout.{number_or_zero, Shows, IsLinked, entry_at};
-ghost use Rattle.triple_arena.specs.Disjoint.{value_of, MayWork, Worked};
+ghost use Rattle.triple_arena.specs.Disjoint.{value_of};
 
 use crate::pair_call::PairCall;
 use crate::slot::{ArenaSlot, FreeLink};
@@ -234,6 +235,10 @@ impl<P: Ptr, T, S: NonZeroInxGenericStack<ArenaSlot<P, T>>> Slots<P, T, S> {
             → reallocated_room S.kind
             (S.room self.old.stack) (length (S.items self.old.stack)) min_capacity
             ≡ S.room self.old.stack
+            → IsOk result }
+        ensures given { IsWithin (S.limit self.old.stack) min_capacity
+            → S.has_memory (reallocated_room S.kind
+            (S.room self.old.stack) (length (S.items self.old.stack)) min_capacity)
             → IsOk result }
         ensures place { OnOk result
             (min_capacity ≤ capacity_of (S.room self.new.stack) (S.limit self.new.stack)) }

@@ -1,4 +1,4 @@
 pub mod Numbers
-pub mod NonZeroNumbers
+pub mod NonZeroValues
 pub mod Pointers
 pub mod PointerText

@@ -7,7 +7,7 @@ ghost use Rattle.std.specs.Int.NonZero.{non_zero_u8_get, non_zero_u16_get, non_z
 ghost use Rattle.std.proofs.Common.{refl, arith, true≢false};
 ghost use Rattle.triple_arena_ptr.specs.Numbers.{raise, wraps, first_generation};
 ghost use Rattle.triple_arena_ptr.specs.PointerText.{generation_hex};
-ghost use Rattle.triple_arena_ptr.specs.NonZeroNumbers.{u8_distinct, u16_distinct, u32_distinct, u64_distinct, u128_distinct, unit_distinct};
+ghost use Rattle.triple_arena_ptr.specs.NonZeroValues.{u8_distinct, u16_distinct, u32_distinct, u64_distinct, u128_distinct, unit_distinct};
 
 use crate::hex::fmt_hex_wide;
 use std::fmt;

@@ -7,7 +7,7 @@ ghost use Rattle.std.specs.Int.NonZero.{non_zero_usize_get, non_zero_u8_get, non
 ghost use Rattle.std.proofs.Common.{refl, arith};
 ghost use Rattle.triple_arena_ptr.specs.Numbers.{greatest_index};
 ghost use Rattle.triple_arena_ptr.specs.PointerText.{hex};
-ghost use Rattle.triple_arena_ptr.specs.NonZeroNumbers.{usize_distinct, u8_distinct, u16_distinct, u32_distinct, u64_distinct, u128_distinct};
+ghost use Rattle.triple_arena_ptr.specs.NonZeroValues.{usize_distinct, u8_distinct, u16_distinct, u32_distinct, u64_distinct, u128_distinct};
 
 use crate::hex::fmt_hex_wide;
 use crate::non_zero::{

@@ -4,7 +4,7 @@ ghost use Rattle.std.specs.Prelude.{◌≡◌, ◌^◌, ◌-◌, Some, true, suc
 ghost use Rattle.std.proofs.Common.{refl};
 ghost use Rattle.triple_arena_base.specs.Held.{held_itself, refill_itself};
 ghost use Rattle.triple_arena_base.specs.HeldLaws.{itself_held_refill, itself_refill_held, itself_refill_refill};
-ghost use Rattle.triple_arena_ptr.specs.NonZeroNumbers.{same_pair, u16_after, u64_after, u16_after_cancels, u64_after_cancels};
+ghost use Rattle.triple_arena_ptr.specs.NonZeroValues.{same_pair, u16_after, u64_after, u16_after_cancels, u64_after_cancels};
 ghost use Rattle.triple_arena_ptr.specs.PointerText.{pointer_text};
 
 use crate::generation::PtrGen;
@@ -27,7 +27,7 @@ pub struct P1 {
 
 impl Model for P1 {
     ghost use Rattle.std.specs.Prelude.{ℕ, suc, ◌-◌, ◌<◌};
-    ghost use Rattle.triple_arena_ptr.specs.NonZeroNumbers.{remade};
+    ghost use Rattle.triple_arena_ptr.specs.NonZeroValues.{remade};
 
     // The numbers before its two, neither of which is 0.
     ghost Value = { ℕ × ℕ };
@@ -63,17 +63,17 @@ impl Ptr for P1 {
         P1::_from_raw(PtrInx::best_effort_invalid(), PtrGen::one())
     }
 
-    #[tactic(auto, using(crate::specs::NonZeroNumbers::u16_is_after))]
+    #[tactic(auto, using(crate::specs::NonZeroValues::u16_is_after))]
     fn inx(self) -> NonZeroU16 {
         non_zero_u16(self._internal_inx)
     }
 
-    #[tactic(auto, using(crate::specs::NonZeroNumbers::u64_is_after))]
+    #[tactic(auto, using(crate::specs::NonZeroValues::u64_is_after))]
     fn generation(self) -> NonZeroU64 {
         non_zero_u64(self._internal_gen)
     }
 
-    #[tactic(auto, using(crate::specs::NonZeroNumbers::u16_after_before, crate::specs::NonZeroNumbers::u64_after_before))]
+    #[tactic(auto, using(crate::specs::NonZeroValues::u16_after_before, crate::specs::NonZeroValues::u64_after_before))]
     fn _from_raw(inx: NonZeroU16, generation: NonZeroU64) -> Self {
         P1 {
             _internal_inx: inx.get(),

@@ -4,7 +4,7 @@ ghost use Rattle.std.specs.Prelude.{◌≡◌, ◌^◌, ◌-◌, Some, true, suc
 ghost use Rattle.std.proofs.Common.{refl};
 ghost use Rattle.triple_arena_base.specs.Held.{held_itself, refill_itself};
 ghost use Rattle.triple_arena_base.specs.HeldLaws.{itself_held_refill, itself_refill_held, itself_refill_refill};
-ghost use Rattle.triple_arena_ptr.specs.NonZeroNumbers.{same_pair, usize_after, u16_after, usize_after_cancels, u16_after_cancels};
+ghost use Rattle.triple_arena_ptr.specs.NonZeroValues.{same_pair, usize_after, u16_after, usize_after_cancels, u16_after_cancels};
 ghost use Rattle.triple_arena_ptr.specs.PointerText.{pointer_text};
 
 use crate::generation::PtrGen;
@@ -27,7 +27,7 @@ pub struct P2 {
 
 impl Model for P2 {
     ghost use Rattle.std.specs.Prelude.{ℕ, suc, ◌-◌, ◌<◌};
-    ghost use Rattle.triple_arena_ptr.specs.NonZeroNumbers.{remade};
+    ghost use Rattle.triple_arena_ptr.specs.NonZeroValues.{remade};
 
     // The numbers before its two, neither of which is 0.
     ghost Value = { ℕ × ℕ };
@@ -63,17 +63,17 @@ impl Ptr for P2 {
         P2::_from_raw(PtrInx::best_effort_invalid(), PtrGen::one())
     }
 
-    #[tactic(auto, using(crate::specs::NonZeroNumbers::usize_is_after))]
+    #[tactic(auto, using(crate::specs::NonZeroValues::usize_is_after))]
     fn inx(self) -> NonZeroUsize {
         non_zero_usize(self._internal_inx)
     }
 
-    #[tactic(auto, using(crate::specs::NonZeroNumbers::u16_is_after))]
+    #[tactic(auto, using(crate::specs::NonZeroValues::u16_is_after))]
     fn generation(self) -> NonZeroU16 {
         non_zero_u16(self._internal_gen)
     }
 
-    #[tactic(auto, using(crate::specs::NonZeroNumbers::usize_after_before, crate::specs::NonZeroNumbers::u16_after_before))]
+    #[tactic(auto, using(crate::specs::NonZeroValues::usize_after_before, crate::specs::NonZeroValues::u16_after_before))]
     fn _from_raw(inx: NonZeroUsize, generation: NonZeroU16) -> Self {
         P2 {
             _internal_inx: inx.get(),

@@ -4,7 +4,7 @@ ghost use Rattle.std.specs.Prelude.{◌≡◌, ◌^◌, ◌-◌, Some, false, su
 ghost use Rattle.std.proofs.Common.{refl};
 ghost use Rattle.triple_arena_base.specs.Held.{held_itself, refill_itself};
 ghost use Rattle.triple_arena_base.specs.HeldLaws.{itself_held_refill, itself_refill_held, itself_refill_refill};
-ghost use Rattle.triple_arena_ptr.specs.NonZeroNumbers.{usize_after, usize_after_cancels};
+ghost use Rattle.triple_arena_ptr.specs.NonZeroValues.{usize_after, usize_after_cancels};
 ghost use Rattle.triple_arena_ptr.specs.PointerText.{pointer_text};
 
 use crate::inx::PtrInx;
@@ -26,7 +26,7 @@ pub struct P4 {
 impl Model for P4 {
     ghost use Rattle.std.specs.Prelude.{ℕ, suc, ◌-◌, ◌<◌};
     ghost use Rattle.std.proofs.Common.{ap};
-    ghost use Rattle.triple_arena_ptr.specs.NonZeroNumbers.{suc_before};
+    ghost use Rattle.triple_arena_ptr.specs.NonZeroValues.{suc_before};
 
     // The number before its index, which is not 0.
     ghost Value = { ℕ };
@@ -62,14 +62,14 @@ impl Ptr for P4 {
         P4::_from_raw(PtrInx::best_effort_invalid(), ())
     }
 
-    #[tactic(auto, using(crate::specs::NonZeroNumbers::usize_is_after))]
+    #[tactic(auto, using(crate::specs::NonZeroValues::usize_is_after))]
     fn inx(self) -> NonZeroUsize {
         non_zero_usize(self._internal_inx)
     }
 
     fn generation(self) {}
 
-    #[tactic(auto, using(crate::specs::NonZeroNumbers::usize_after_before))]
+    #[tactic(auto, using(crate::specs::NonZeroValues::usize_after_before))]
     fn _from_raw(inx: NonZeroUsize, generation: ()) -> Self {
         P4 {
             _internal_inx: inx.get(),

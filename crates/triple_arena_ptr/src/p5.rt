@@ -4,7 +4,7 @@ ghost use Rattle.std.specs.Prelude.{◌≡◌, ◌^◌, ◌-◌, Some, false, su
 ghost use Rattle.std.proofs.Common.{refl};
 ghost use Rattle.triple_arena_base.specs.Held.{held_itself, refill_itself};
 ghost use Rattle.triple_arena_base.specs.HeldLaws.{itself_held_refill, itself_refill_held, itself_refill_refill};
-ghost use Rattle.triple_arena_ptr.specs.NonZeroNumbers.{u8_after, u8_after_cancels};
+ghost use Rattle.triple_arena_ptr.specs.NonZeroValues.{u8_after, u8_after_cancels};
 ghost use Rattle.triple_arena_ptr.specs.PointerText.{pointer_text};
 
 use crate::inx::PtrInx;
@@ -26,7 +26,7 @@ pub struct P5 {
 impl Model for P5 {
     ghost use Rattle.std.specs.Prelude.{ℕ, suc, ◌-◌, ◌<◌};
     ghost use Rattle.std.proofs.Common.{ap};
-    ghost use Rattle.triple_arena_ptr.specs.NonZeroNumbers.{suc_before};
+    ghost use Rattle.triple_arena_ptr.specs.NonZeroValues.{suc_before};
 
     // The number before its index, which is not 0.
     ghost Value = { ℕ };
@@ -62,14 +62,14 @@ impl Ptr for P5 {
         P5::_from_raw(PtrInx::best_effort_invalid(), ())
     }
 
-    #[tactic(auto, using(crate::specs::NonZeroNumbers::u8_is_after))]
+    #[tactic(auto, using(crate::specs::NonZeroValues::u8_is_after))]
     fn inx(self) -> NonZeroU8 {
         non_zero_u8(self._internal_inx)
     }
 
     fn generation(self) {}
 
-    #[tactic(auto, using(crate::specs::NonZeroNumbers::u8_after_before))]
+    #[tactic(auto, using(crate::specs::NonZeroValues::u8_after_before))]
     fn _from_raw(inx: NonZeroU8, generation: ()) -> Self {
         P5 {
             _internal_inx: inx.get(),

@@ -31,7 +31,7 @@ use triple_arena_base::Recast;
 /// ghost use Rattle.std.proofs.Common.{refl};
 /// ghost use Rattle.triple_arena_base.specs.Held.{held_itself, refill_itself};
 /// ghost use Rattle.triple_arena_base.specs.HeldLaws.{itself_held_refill, itself_refill_held, itself_refill_refill};
-/// ghost use Rattle.triple_arena_ptr.specs.NonZeroNumbers.{same_pair, u8_after, u8_after_cancels};
+/// ghost use Rattle.triple_arena_ptr.specs.NonZeroValues.{same_pair, u8_after, u8_after_cancels};
 /// ghost use Rattle.triple_arena_ptr.specs.PointerText.{pointer_text};
 ///
 /// use std::fmt;
@@ -50,7 +50,7 @@ use triple_arena_base::Recast;
 ///
 /// impl Model for B {
 ///     ghost use Rattle.std.specs.Prelude.{ℕ, suc, ◌-◌, ◌<◌};
-///     ghost use Rattle.triple_arena_ptr.specs.NonZeroNumbers.{remade};
+///     ghost use Rattle.triple_arena_ptr.specs.NonZeroValues.{remade};
 ///
 ///     // The numbers before its two, neither of which is 0.
 ///     ghost Value = { ℕ × ℕ };
@@ -86,17 +86,17 @@ use triple_arena_base::Recast;
 ///         B::_from_raw(PtrInx::best_effort_invalid(), PtrGen::one())
 ///     }
 ///
-///     #[tactic(auto, using(triple_arena_ptr::specs::NonZeroNumbers::u8_is_after))]
+///     #[tactic(auto, using(triple_arena_ptr::specs::NonZeroValues::u8_is_after))]
 ///     fn inx(self) -> NonZeroU8 {
 ///         non_zero_u8(self._internal_inx)
 ///     }
 ///
-///     #[tactic(auto, using(triple_arena_ptr::specs::NonZeroNumbers::u8_is_after))]
+///     #[tactic(auto, using(triple_arena_ptr::specs::NonZeroValues::u8_is_after))]
 ///     fn generation(self) -> NonZeroU8 {
 ///         non_zero_u8(self._internal_gen)
 ///     }
 ///
-///     #[tactic(auto, using(triple_arena_ptr::specs::NonZeroNumbers::u8_after_before))]
+///     #[tactic(auto, using(triple_arena_ptr::specs::NonZeroValues::u8_after_before))]
 ///     fn _from_raw(inx: NonZeroU8, generation: NonZeroU8) -> Self {
 ///         B {
 ///             _internal_inx: inx.get(),
@@ -196,8 +196,9 @@ pub trait Ptr: Debug
 
     /// The pointer of the greatest index of the type and the generation 1.
     ///
-    /// No arena gives it where generations count. Where they don't and the index type is small, it
-    /// can be the pointer of an entry: an arena of `P5` gives it to the entry at its index 255.
+    /// Where generations count, no arena gives it to an entry unless its counter was set to 1.
+    /// Where they don't and the index type is small, an entry can have it: in an arena of `P5`, the
+    /// one at the index 255.
     fn invalid() -> Self
         ensures { numbers result ≡ (Self.Inx.greatest, 1) };
 

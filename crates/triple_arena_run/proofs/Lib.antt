@@ -4,3 +4,4 @@ mod Numbers
 mod RunLaws
 mod Splits
 mod TextLaws
+mod Writes

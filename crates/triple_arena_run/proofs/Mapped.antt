@@ -7,21 +7,21 @@ use Rattle.std.proofs.lemmas.List.{map-append, length-map, take-map, map-set}
 use Rattle.std.proofs.lemmas.List.Sums.{sum_by-cons}
 use Rattle.std.proofs.lemmas.Option.{slice_get-map}
 use Rattle.triple_arena_stack.specs.StackKind.{StackKind, reallocated_room}
-use Rattle.triple_arena.specs.Numbered.{item, with_item}
+use Rattle.triple_arena.specs.Items.{item, with_item}
 use Rattle.triple_arena.specs.Entries.{value_under, entry_count}
 use Rattle.triple_arena.specs.ArenaState.{ArenaState, arena_len, capacity, entry, look_up, slot_count, map_entry, map_values}
 use Rattle.triple_arena.specs.Insertion.{place_among, inserted_among, inserted, next_pointer}
-use Rattle.triple_arena.specs.Capacity.{with_room_for, next_capacity, grown}
+use Rattle.triple_arena.specs.Capacity.{with_room_for, grown}
 use Rattle.triple_arena.specs.Ending.{removed, told_of}
 use Rattle.triple_arena_base.specs.declared.invalidation.InvalidationResult.TheVariants as told
 use Rattle.triple_arena_ptr.specs.Numbers.{raise, wraps}
 use Rattle.triple_arena_ptr.specs.Pointers.{Pointer}
-use Rattle.triple_arena_stack.specs.Capacity.{room_for_one_more}
+use Rattle.triple_arena_stack.specs.Capacity.{room_for_one_more, next_capacity, CanGrow}
 use Rattle.triple_arena_run.specs.declared.node.Node.{Node}
 use Rattle.triple_arena_run.specs.declared.reply.Reply.{Reply}
 use Rattle.triple_arena_run.specs.declared.reply.Reply.TheVariants.{Removed, Invalid}
 use Rattle.triple_arena_run.specs.SessionState.{SessionState, node_of, link_name}
-use Rattle.triple_arena_run.specs.SessionLayout.{state_of}
+use Rattle.triple_arena_run.specs.SessionLayout.{session_of}
 use Rattle.triple_arena_run.specs.SessionRun.{with_name, with_room_for_name, refusal, remove_answer, ArenaWantsMemory}
 
 module _ {A B : Type 0} (f : A → B) where
@@ -99,7 +99,7 @@ module _ {T U : Type 0} (f : T → U) where
   pub grown-mapped : (kind : StackKind) (s : ArenaState T) → map_values f (grown kind s) ≡ grown kind (map_values f s)
   grown-mapped kind s = rw (len-mapped s, length-map s.slots (option_map (map_entry f))) (by_test (arena_len s == capacity s))
     where
-      by_test : (b : Bool) → map_values f (cond b (with_room_for kind s (next_capacity s)) s) ≡ cond b (record (map_values f s) { room = reallocated_room kind s.room (slot_count s) (next_capacity s) }) (map_values f s)
+      by_test : (b : Bool) → map_values f (cond b (with_room_for kind s (next_capacity (capacity s) s.limit s.greatest)) s) ≡ cond b (record (map_values f s) { room = reallocated_room kind s.room (slot_count s) (next_capacity (capacity s) s.limit s.greatest) }) (map_values f s)
       by_test true = refl
       by_test false = refl
 
@@ -136,9 +136,9 @@ full_from m n le below =
     ]
 
 -- a session whose fields hold s
-module _ {X P : Type 0} (pointer : P → Pointer) (arena : ArenaState (Node X P)) (table : List P) (room : ℕ) (s : SessionState X) (shows : state_of pointer arena table room ≡ s) (kind : StackKind) (counting : Bool) (greatest : ℕ) where
+module _ {X P : Type 0} (pointer : P → Pointer) (arena : ArenaState (Node X P)) (table : List P) (room : ℕ) (s : SessionState X) (shows : session_of pointer arena table room ≡ s) (kind : StackKind) (counting : Bool) (greatest : ℕ) where
   -- an insertion into the arena, and its pointer at the end of the table, give a name
-  pub name_added : (datum : X) (link : Option P) (p : P) (new_arena : ArenaState (Node X P)) (new_table : List P) (new_room : ℕ) → pointer p ≡ next_pointer arena → new_arena ≡ inserted (grown kind arena) (record { datum = datum; link = link }) → new_table ≡ table ++ p ∷ [] → new_room ≡ room_for_one_more room None (length table) → state_of pointer new_arena new_table new_room ≡ with_name kind counting greatest s datum (option_map pointer link)
+  pub name_added : (datum : X) (link : Option P) (p : P) (new_arena : ArenaState (Node X P)) (new_table : List P) (new_room : ℕ) → pointer p ≡ next_pointer arena → new_arena ≡ inserted (grown kind arena) (record { datum = datum; link = link }) → new_table ≡ table ++ p ∷ [] → new_room ≡ room_for_one_more room None (length table) → session_of pointer new_arena new_table new_room ≡ with_name kind counting greatest s datum (option_map pointer link)
   name_added datum link p new_arena new_table new_room given arena_is table_is room_is =
       let grows : map_values (node_of pointer) new_arena ≡ inserted (grown kind (map_values (node_of pointer) arena)) (datum, option_map pointer link) =
       ap (map_values (node_of pointer)) arena_is
@@ -157,28 +157,29 @@ module _ {X P : Type 0} (pointer : P → Pointer) (arena : ArenaState (Node X P)
   pub capacity-shown : capacity arena ≡ capacity s.arena
   capacity-shown = rw (← shows) refl
 
-  -- an arena that refused for want of memory was full, and the table had grown
-  pub arena_wants : arena_len s.arena ≤ capacity s.arena → (arena_len arena < capacity arena → false ≡ true) → (new_arena : ArenaState (Node X P)) (new_table : List P) (new_room : ℕ) → new_arena ≡ arena → new_table ≡ table → new_room ≡ room_for_one_more room None (length table) → ArenaWantsMemory s (state_of pointer new_arena new_table new_room)
-  arena_wants fits below new_arena new_table new_room arena_is table_is room_is = (
+  -- an arena that refused for want of memory was full and could not grow, and the table had grown
+  pub arena_wants : (has_memory : ℕ → Type 0) (last : ℕ) → s.arena.greatest ≡ last → (CanGrow has_memory (capacity arena) arena.limit last → false ≡ true) → arena_len s.arena ≤ capacity s.arena → (arena_len arena < capacity arena → false ≡ true) → (new_arena : ArenaState (Node X P)) (new_table : List P) (new_room : ℕ) → new_arena ≡ arena → new_table ≡ table → new_room ≡ room_for_one_more room None (length table) → ArenaWantsMemory has_memory s (session_of pointer new_arena new_table new_room)
+  arena_wants has_memory last at_last given fits below new_arena new_table new_room arena_is table_is room_is = (
     full_from (arena_len s.arena) (capacity s.arena) fits (λ lt. below (rw (len-shown, capacity-shown) lt)),
+    (λ can. true≢false (sym (given (subst (λ n. CanGrow has_memory (capacity arena) arena.limit n) (rw (← shows) at at_last) (subst (λ t. CanGrow has_memory (capacity t.arena) t.arena.limit t.arena.greatest) (sym shows) can))))),
     rw (arena_is, table_is, room_is, ← length-map table pointer) (ap with_room_for_name shows),
   )
 
   module _ (name : ℕ) (p : P) (has : item s.table name ≡ Some (pointer p)) (new_arena : ArenaState (Node X P)) where
     -- a removal from the arena answers as the session does
-    pub row_removed : (node : Node X P) (wrapped : Bool) → look_up arena (pointer p) ≡ Some node → wraps counting greatest arena.counter ≡ wrapped → new_arena ≡ removed (raise counting greatest) arena (pointer p).0 → ◌≡◌ {A = Reply X × SessionState X} (Removed node.datum (link_name (map pointer table) (option_map pointer node.link)) wrapped, state_of pointer new_arena table room) (remove_answer kind counting greatest s (item s.table name))
+    pub row_removed : (node : Node X P) (wrapped : Bool) → look_up arena (pointer p) ≡ Some node → wraps counting greatest arena.counter ≡ wrapped → new_arena ≡ removed (raise counting greatest) arena (pointer p).0 → ◌≡◌ {A = Reply X × SessionState X} (Removed node.datum (link_name (map pointer table) (option_map pointer node.link)) wrapped, session_of pointer new_arena table room) (remove_answer kind counting greatest s (item s.table name))
     row_removed node wrapped live wrapped_is arena_is =
         rw has (
-        subst (λ t. ◌≡◌ {A = Reply X × SessionState X} (Removed node.datum (link_name (map pointer table) (option_map pointer node.link)) wrapped, state_of pointer new_arena table room) (remove_answer kind counting greatest t (Some (pointer p)))) shows (
+        subst (λ t. ◌≡◌ {A = Reply X × SessionState X} (Removed node.datum (link_name (map pointer table) (option_map pointer node.link)) wrapped, session_of pointer new_arena table room) (remove_answer kind counting greatest t (Some (pointer p)))) shows (
         rw (look_up-mapped (node_of pointer) arena (pointer p), live, ← wrapped_is, arena_is, removed-mapped (node_of pointer) (raise counting greatest) arena (pointer p).0) refl
         )
         )
 
     -- where there is nothing to remove, the session answers so
-    pub row_not_removed : look_up arena (pointer p) ≡ None → new_arena ≡ arena → ◌≡◌ {A = Reply X × SessionState X} (Invalid, state_of pointer new_arena table room) (remove_answer kind counting greatest s (item s.table name))
+    pub row_not_removed : look_up arena (pointer p) ≡ None → new_arena ≡ arena → ◌≡◌ {A = Reply X × SessionState X} (Invalid, session_of pointer new_arena table room) (remove_answer kind counting greatest s (item s.table name))
     row_not_removed ended arena_is =
         rw has (
-        subst (λ t. ◌≡◌ {A = Reply X × SessionState X} (Invalid, state_of pointer new_arena table room) (remove_answer kind counting greatest t (Some (pointer p)))) shows (
+        subst (λ t. ◌≡◌ {A = Reply X × SessionState X} (Invalid, session_of pointer new_arena table room) (remove_answer kind counting greatest t (Some (pointer p)))) shows (
         rw (look_up-mapped (node_of pointer) arena (pointer p), ended, arena_is) refl
         )
         )

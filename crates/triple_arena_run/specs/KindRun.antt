@@ -18,13 +18,13 @@ greatest = 2 ^ 64 - 1
 abbrev pub first_session : ℕ → Option ℕ → SessionState ℕ
 first_session room limit = new_session (new_arena room limit (greatest_index greatest) (first_generation true))
 
--- the text ran over a stack of this kind, from this session
-abbrev pub RunsOver : StackKind → SessionState ℕ → Option (List ℕ) → Result (Unit {0}) TextError → Option (List ℕ) → Option (List ℕ) → Type 0
-RunsOver kind first text outcome old new = (last : SessionState ℕ) × IsFlushedRun (IsStep kind true greatest) text outcome first last old new
+-- the text ran over a stack of this kind, where memory is there for such requests, from this session
+abbrev pub RunsOver : StackKind → (ℕ → Type 0) → SessionState ℕ → Option (List ℕ) → Result (Unit {0}) TextError → Option (List ℕ) → Option (List ℕ) → Type 0
+RunsOver kind has_memory first text outcome old new = (last : SessionState ℕ) × IsFlushedRun (IsStep kind has_memory true greatest) text outcome first last old new
 
 -- the text ran in the session that the program's arguments ask for
 abbrev pub RunsKind : Kind → Option (List ℕ) → Result (Unit {0}) TextError → Option (List ℕ) → Option (List ℕ) → Type 0
-RunsKind Heap = RunsOver heap (first_session 0 None)
-RunsKind (Limited n) = RunsOver limited (first_session n (Some n))
-RunsKind (Fixed n) = RunsOver fixed (first_session n (Some n))
-RunsKind Array = RunsOver (array 8) (first_session 8 (Some 8))
+RunsKind Heap = RunsOver heap (λ _. ⊥) (first_session 0 None)
+RunsKind (Limited n) = RunsOver limited (λ _. ⊥) (first_session n (Some n))
+RunsKind (Fixed n) = RunsOver fixed (λ _. ⊥) (first_session n (Some n))
+RunsKind Array = RunsOver (array 8) (λ _. Unit {0}) (first_session 8 (Some 8))

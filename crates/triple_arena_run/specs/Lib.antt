@@ -8,5 +8,7 @@ pub mod Forms
 pub mod ReplyText
 pub mod TextRun
 pub mod LineRun
+pub mod ErrorText
 pub mod Program
 pub mod KindRun
+pub mod ProgramRun

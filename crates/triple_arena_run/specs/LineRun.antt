@@ -8,7 +8,7 @@ use Rattle.triple_arena_run.specs.declared.text.LineEnd.TheVariants.{Answered, W
 use Rattle.triple_arena_run.specs.Lines.{has_bytes}
 use Rattle.triple_arena_run.specs.CommandText.{command_of}
 use Rattle.triple_arena_run.specs.ReplyText.{tells_of_wrap, reply_line}
-use Rattle.triple_arena_run.specs.TextRun.{RunsLines, AnswersLines, AnswersToWrap}
+use Rattle.triple_arena_run.specs.TextRun.{AppendsCut, RunsLines, AnswersLines, AnswersToWrap}
 
 module _ {S : Type 0} (Step : S → Command ℕ → Reply ℕ → S → Type 0) where
   -- the command of the line ran, with this reply.
@@ -20,11 +20,11 @@ module _ {S : Type 0} (Step : S → Command ℕ → Reply ℕ → S → Type 0) 
   CommandEnds Answered line s t old new = (reply : Reply ℕ) × RunsCommand line reply s t × (tells_of_wrap reply ≡ false) × Appends old new (reply_line reply)
   CommandEnds Wrapped line s t old new = (reply : Reply ℕ) × RunsCommand line reply s t × (tells_of_wrap reply ≡ true) × Appends old new (reply_line reply)
   CommandEnds Malformed line s t old new = (command_of line ≡ None) × (t ≡ s) × (new ≡ old)
-  CommandEnds Unwritten line s t old new = (reply : Reply ℕ) × RunsCommand line reply s t
+  CommandEnds Unwritten line s t old new = (reply : Reply ℕ) × RunsCommand line reply s t × AppendsCut old new [] (reply_line reply)
 
   -- any line.
   abbrev pub LineEnds : LineEnd → List ℕ → S → S → Option (List ℕ) → Option (List ℕ) → Type 0
   LineEnds Answered line s t old new = AnswersLines Step (line ∷ []) s t old new
   LineEnds Wrapped line s t old new = AnswersToWrap Step (line ∷ []) s t old new
   LineEnds Malformed line s t old new = (has_bytes line ≡ true) × (command_of line ≡ None) × (t ≡ s) × (new ≡ old)
-  LineEnds Unwritten line s t old new = (reply : Reply ℕ) × RunsLines Step (line ∷ []) (reply ∷ []) s t
+  LineEnds Unwritten line s t old new = (reply : Reply ℕ) × RunsLines Step (line ∷ []) (reply ∷ []) s t × AppendsCut old new [] (reply_line reply)

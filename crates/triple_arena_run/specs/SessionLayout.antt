@@ -6,5 +6,5 @@ use Rattle.triple_arena_run.specs.declared.node.Node.{Node}
 use Rattle.triple_arena_run.specs.SessionState.{SessionState, node_of}
 
 -- the session with this arena, and with a table of these pointers and this room
-abbrev pub state_of : {X P : Type 0} → (P → Pointer) → ArenaState (Node X P) → List P → ℕ → SessionState X
-state_of pointer arena table room = record { arena = map_values (node_of pointer) arena; table = map pointer table; table_room = room }
+abbrev pub session_of : {X P : Type 0} → (P → Pointer) → ArenaState (Node X P) → List P → ℕ → SessionState X
+session_of pointer arena table room = record { arena = map_values (node_of pointer) arena; table = map pointer table; table_room = room }

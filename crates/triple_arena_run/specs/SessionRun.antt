@@ -5,8 +5,8 @@ use Rattle.triple_arena_base.specs.declared.errors.ReallocationError.TheVariants
 use Rattle.triple_arena_ptr.specs.Numbers.{raise, wraps}
 use Rattle.triple_arena_ptr.specs.Pointers.{Pointer}
 use Rattle.triple_arena_stack.specs.StackKind.{StackKind}
-use Rattle.triple_arena_stack.specs.Capacity.{room_for_one_more}
-use Rattle.triple_arena.specs.Numbered.{item}
+use Rattle.triple_arena_stack.specs.Capacity.{room_for_one_more, CanGrow}
+use Rattle.triple_arena.specs.Items.{item}
 use Rattle.triple_arena.specs.ArenaState.{ArenaState, arena_len, capacity, look_up}
 use Rattle.triple_arena.specs.Insertion.{inserted, next_pointer}
 use Rattle.triple_arena.specs.Capacity.{grown}
@@ -55,9 +55,13 @@ module _ {X : Type 0} where
   abbrev pub TableWantsMemory : SessionState X → SessionState X → Type 0
   TableWantsMemory s t = (length s.table ≡ s.table_room) × (t ≡ s)
 
-  -- the arena was full and could not grow: all stays, but for the room that the table had got before
-  abbrev pub ArenaWantsMemory : SessionState X → SessionState X → Type 0
-  ArenaWantsMemory s t = (arena_len s.arena ≡ capacity s.arena) × (t ≡ with_room_for_name s)
+  -- the arena was full and could not grow, where memory is there for such requests: all stays, but for the room that the
+  -- table had got before
+  abbrev pub ArenaWantsMemory : (ℕ → Type 0) → SessionState X → SessionState X → Type 0
+  ArenaWantsMemory has_memory s t =
+      (arena_len s.arena ≡ capacity s.arena)
+      × (CanGrow has_memory (capacity s.arena) s.arena.limit s.arena.greatest → ⊥)
+      × (t ≡ with_room_for_name s)
 
 module _ {X : Type 0} (kind : StackKind) (counting : Bool) (greatest : ℕ) where
   -- the session with a new name: the datum stands in the arena with its link, and its pointer last in the table; a full
@@ -98,7 +102,10 @@ module _ {X : Type 0} (kind : StackKind) (counting : Bool) (greatest : ℕ) wher
   answer s (Get name) = (get_reply s (named s name), s)
   answer s (Remove name) = remove_answer s (item s.table name)
 
+module _ {X : Type 0} (kind : StackKind) (has_memory : ℕ → Type 0) (counting : Bool) (greatest : ℕ) where
   -- a command, its reply and the session after it: the answer, or a refusal for want of memory
   abbrev pub IsStep : SessionState X → Command X → Reply X → SessionState X → Type 0
-  IsStep s command NoMemory t = ((NoMemory, t) ≡ answer s command) ⊎ (IsUnopposed s command × (TableWantsMemory s t ⊎ ArenaWantsMemory s t))
-  IsStep s command reply t = (reply, t) ≡ answer s command
+  IsStep s command NoMemory t =
+      ((NoMemory, t) ≡ answer kind counting greatest s command)
+      ⊎ (IsUnopposed s command × (TableWantsMemory s t ⊎ ArenaWantsMemory has_memory s t))
+  IsStep s command reply t = (reply, t) ≡ answer kind counting greatest s command

@@ -7,7 +7,7 @@ ghost use Rattle.triple_arena_ptr.specs.Numbers.{greatest_index, first_generatio
 ghost use Rattle.triple_arena_ptr.specs.Pointers.{is_same};
 ghost use Rattle.triple_arena_stack.specs.Capacity.{room_for_one_more};
 ghost use Rattle.triple_arena_stack.specs.StackKind.{new_room, new_limit, made_room, made_limit, CanHold, TakesNoMemory};
-ghost use Rattle.triple_arena.specs.Numbered.{item};
+ghost use Rattle.triple_arena.specs.Items.{item};
 ghost use Rattle.triple_arena.specs.ArenaState.{ArenaState, new_arena, arena_len, capacity, map_values};
 ghost use Rattle.triple_arena_run.specs.Runs.{RunsToWrap};
 ghost use Rattle.triple_arena_run.specs.SessionState.{SessionState, node_of, new_session, link_name, link_pointer};
@@ -42,9 +42,9 @@ impl<P: Ptr, X, S: NonZeroInxGenericStack<ArenaSlot<P, Node<X, P>>>> Model for S
 
     ghost Value = { SessionState X };
 
-    ghost use Rattle.triple_arena_run.specs.SessionLayout.{state_of};
+    ghost use Rattle.triple_arena_run.specs.SessionLayout.{session_of};
 
-    ghost view = { λ s. state_of P.numbers s.arena s.table.items s.table.room };
+    ghost view = { λ s. session_of P.numbers s.arena s.table.items s.table.room };
 }
 
 impl<P: Ptr, X: Copy, S: NonZeroInxGenericStack<ArenaSlot<P, Node<X, P>>>> Session<P, X, S> {
@@ -75,6 +75,8 @@ impl<P: Ptr, X: Copy, S: NonZeroInxGenericStack<ArenaSlot<P, Node<X, P>>>> Sessi
             ((min_capacity ≤ greatest_index P.Inx.greatest) × CanHold S.kind min_capacity) }
         ensures succeeds { min_capacity ≤ greatest_index P.Inx.greatest
             → TakesNoMemory S.kind min_capacity → IsOk result }
+        ensures given { min_capacity ≤ greatest_index P.Inx.greatest
+            → CanHold S.kind min_capacity → S.has_memory min_capacity → IsOk result }
     {
         match Arena::with_min_capacity(alloc, min_capacity) {
             Ok(arena) => Ok(Session {
@@ -102,7 +104,7 @@ impl<P: Ptr, X: Copy, S: NonZeroInxGenericStack<ArenaSlot<P, Node<X, P>>>> Sessi
     /// the name was given and hasn't ended, and `Nothing` or `Invalid` where not. All else stays,
     /// but that after a `NoMemory` the table of names may have grown.
     pub fn step(&mut self, command: Command<X>) -> Reply<X>
-        ensures { IsStep S.kind P.Gen.counting P.Gen.greatest self.old command result self.new }
+        ensures { IsStep S.kind S.has_memory P.Gen.counting P.Gen.greatest self.old command result self.new }
     {
         match command {
             Command::Insert(datum, link) => self.insert(datum, link),
@@ -117,7 +119,7 @@ impl<P: Ptr, X: Copy, S: NonZeroInxGenericStack<ArenaSlot<P, Node<X, P>>>> Sessi
     /// There is room for all replies first: where memory for it is refused, nothing is done.
     pub fn run(&mut self, commands: &[Command<X>]) -> Result<Vec<Reply<X>>, AllocError>
         ensures ran { IfOk result (λ replies.
-            RunsToWrap (IsStep S.kind P.Gen.counting P.Gen.greatest)
+            RunsToWrap (IsStep S.kind S.has_memory P.Gen.counting P.Gen.greatest)
             self.old commands.now replies.items self.new) }
         ensures refused { OnErr result (self.new ≡ self.old) }
     {
@@ -136,7 +138,7 @@ impl<P: Ptr, X: Copy, S: NonZeroInxGenericStack<ArenaSlot<P, Node<X, P>>>> Sessi
     }
 
     fn insert(&mut self, datum: X, link: Option<usize>) -> Reply<X>
-        ensures { IsStep S.kind P.Gen.counting P.Gen.greatest
+        ensures { IsStep S.kind S.has_memory P.Gen.counting P.Gen.greatest
             self.old (Command.Insert datum link) result self.new }
     {
         let Some(link) = self.link_pointer(link) else {
@@ -158,7 +160,7 @@ impl<P: Ptr, X: Copy, S: NonZeroInxGenericStack<ArenaSlot<P, Node<X, P>>>> Sessi
     }
 
     fn get(&self, name: usize) -> Reply<X>
-        ensures { IsStep S.kind P.Gen.counting P.Gen.greatest
+        ensures { IsStep S.kind S.has_memory P.Gen.counting P.Gen.greatest
             self.now (Command.Get name) result self.now }
     {
         let Some(p) = self.pointer(name) else {
@@ -171,7 +173,7 @@ impl<P: Ptr, X: Copy, S: NonZeroInxGenericStack<ArenaSlot<P, Node<X, P>>>> Sessi
     }
 
     fn remove(&mut self, name: usize) -> Reply<X>
-        ensures { IsStep S.kind P.Gen.counting P.Gen.greatest
+        ensures { IsStep S.kind S.has_memory P.Gen.counting P.Gen.greatest
             self.old (Command.Remove name) result self.new }
     {
         let Some(p) = self.pointer(name) else {
@@ -196,6 +198,7 @@ impl<P: Ptr, X: Copy, S: NonZeroInxGenericStack<ArenaSlot<P, Node<X, P>>>> Sessi
     fn refusal(&self) -> Option<ReallocationError>
         ensures why { result ≡ refusal self.now.arena }
         ensures fits { arena_len self.now.arena ≤ capacity self.now.arena }
+        ensures greatest { self.now.arena.greatest ≡ greatest_index P.Inx.greatest }
     {
         let capacity = self.arena.capacity();
         if self.arena.len() < capacity {

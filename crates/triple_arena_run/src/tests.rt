@@ -8,3 +8,5 @@ mod program;
 mod replies;
 mod runs;
 mod sessions;
+mod steps;
+mod texts;

@@ -1,6 +1,8 @@
 //! The run of a text: from the bytes of a reader to the bytes of a writer.
 
+ghost use Rattle.std.specs.Prelude.{Some};
 ghost use Rattle.std.specs.Io.Buffered.{writer_contents};
+ghost use Rattle.triple_arena_run.specs.ErrorText.{error_text};
 ghost use Rattle.triple_arena_run.specs.SessionRun.{IsStep};
 ghost use Rattle.triple_arena_run.specs.TextRun.{IsTextRun, IsFlushedRun, IsFlushed};
 ghost use Rattle.triple_arena_run.specs.LineRun.{CommandEnds, LineEnds};
@@ -9,31 +11,45 @@ use crate::command::parse_command;
 use crate::input::read_text;
 use crate::lines::split_first;
 use crate::node::Node;
+use crate::output::write_reply;
 use crate::session::Session;
 use std::alloc::Global;
+use std::error::Error;
+use std::fmt;
 use std::io::{BufWriter, Read, Write};
-use thiserror::Error;
 use triple_arena::ArenaSlot;
 use triple_arena_ptr::Ptr;
 use triple_arena_stack::NonZeroInxGenericStack;
 
 /// Why a text wasn't run to its end.
-#[derive(Clone, Copy, Debug, PartialEq, Eq, Error)]
+#[derive(Clone, Copy, Debug, PartialEq, Eq)]
 pub enum TextError {
     /// The line of this number, counted from 1, stands for no command. The lines before it have
     /// run and were answered.
-    #[error("line {0}: malformed")]
     Malformed(usize),
     /// The reader failed, or hadn't ended after 4294967296 reads. Nothing has run.
-    #[error("read failed")]
     Read,
     /// The writer failed. The command whose reply was being written has run, and those before it.
-    #[error("write failed")]
+    /// The replies before went out whole, and that one in part or not at all.
     Write,
     /// There was no memory for the text. Nothing has run.
-    #[error("no memory")]
     NoMemory,
 }
+
+impl fmt::Display for TextError {
+    ghost output = { λ e. Some (error_text e) };
+
+    fn fmt<W: fmt::Write>(&self, f: &mut fmt::Formatter<W>) -> fmt::Result {
+        match self {
+            TextError::Malformed(line) => write!(f, "line {line}: malformed"),
+            TextError::Read => f.write_str("read failed"),
+            TextError::Write => f.write_str("write failed"),
+            TextError::NoMemory => f.write_str("no memory"),
+        }
+    }
+}
+
+impl Error for TextError {}
 
 /// Runs the commands of a text: reads the text to its end, and then takes its lines in order, each
 /// parsed, run and answered by one line before the next is parsed.
@@ -47,7 +63,7 @@ pub fn run_text<P: Ptr, S: NonZeroInxGenericStack<ArenaSlot<P, Node<u64, P>>>, R
     input: &mut R,
     output: &mut W,
 ) -> Result<(), TextError>
-    ensures { IsTextRun (IsStep S.kind P.Gen.counting P.Gen.greatest) (R.remaining input.old) result
+    ensures { IsTextRun (IsStep S.kind S.has_memory P.Gen.counting P.Gen.greatest) (R.remaining input.old) result
         session.old session.new (W.contents output.old) (W.contents output.new) }
 {
     match read_text(alloc, input) {
@@ -60,8 +76,8 @@ pub fn run_text<P: Ptr, S: NonZeroInxGenericStack<ArenaSlot<P, Node<u64, P>>>, R
 /// has ended, whatever its outcome, and the writer below it is given back.
 ///
 /// Of a run that failed by reading or for want of memory nothing was written, and at the other
-/// outcomes but `Write` the writer below holds each reply line. A failed flush is `Write`, as
-/// `flush_after` says.
+/// outcomes but `Write` the writer below holds each reply line. At `Write` it holds a front of the
+/// reply lines of the commands that ran. A failed flush is `Write`, as `flush_after` says.
 pub fn run_text_and_flush<
     P: Ptr,
     S: NonZeroInxGenericStack<ArenaSlot<P, Node<u64, P>>>,
@@ -73,7 +89,7 @@ pub fn run_text_and_flush<
     input: &mut R,
     mut output: BufWriter<W>,
 ) -> (Result<(), TextError>, W)
-    ensures { IsFlushedRun (IsStep S.kind P.Gen.counting P.Gen.greatest) (R.remaining input.old) result.0
+    ensures { IsFlushedRun (IsStep S.kind S.has_memory P.Gen.counting P.Gen.greatest) (R.remaining input.old) result.0
         session.old session.new (writer_contents W.contents output) (W.contents result.1) }
 {
     let outcome = run_text(session, alloc, input, &mut output);
@@ -82,7 +98,7 @@ pub fn run_text_and_flush<
 
 /// Flushes a buffered writer after a run of this outcome, and gives back the writer below it. A
 /// failed flush is the error `Write` whatever the outcome was, and the bytes that it left are let
-/// go.
+/// go: a front of what was written stands in the writer below.
 #[tactic(auto, using(crate::proofs::TextLaws::keeps_emptied))]
 pub fn flush_after<W: Write + Drop>(
     outcome: Result<(), TextError>,
@@ -106,7 +122,7 @@ fn run_lines<P: Ptr, S: NonZeroInxGenericStack<ArenaSlot<P, Node<u64, P>>>, W: W
     text: &[u8],
     output: &mut W,
 ) -> Result<(), TextError>
-    ensures { IsTextRun (IsStep S.kind P.Gen.counting P.Gen.greatest) (Some text.now) result
+    ensures { IsTextRun (IsStep S.kind S.has_memory P.Gen.counting P.Gen.greatest) (Some text.now) result
         session.old session.new (W.contents output.old) (W.contents output.new) }
 {
     let mut rest = text;
@@ -144,7 +160,7 @@ fn run_line<P: Ptr, S: NonZeroInxGenericStack<ArenaSlot<P, Node<u64, P>>>, W: Wr
     line: &[u8],
     output: &mut W,
 ) -> LineEnd
-    ensures { LineEnds (IsStep S.kind P.Gen.counting P.Gen.greatest) result line.now
+    ensures { LineEnds (IsStep S.kind S.has_memory P.Gen.counting P.Gen.greatest) result line.now
         session.old session.new (W.contents output.old) (W.contents output.new) }
 {
     if line.is_empty() {
@@ -160,7 +176,7 @@ fn run_command<P: Ptr, S: NonZeroInxGenericStack<ArenaSlot<P, Node<u64, P>>>, W:
     line: &[u8],
     output: &mut W,
 ) -> LineEnd
-    ensures { CommandEnds (IsStep S.kind P.Gen.counting P.Gen.greatest) result line.now
+    ensures { CommandEnds (IsStep S.kind S.has_memory P.Gen.counting P.Gen.greatest) result line.now
         session.old session.new (W.contents output.old) (W.contents output.new) }
 {
     match parse_command(line) {
@@ -168,7 +184,7 @@ fn run_command<P: Ptr, S: NonZeroInxGenericStack<ArenaSlot<P, Node<u64, P>>>, W:
         Some(command) => {
             let reply = session.step(command);
             let wrapped = reply.tells_of_wrap();
-            match writeln!(output, "{reply}") {
+            match write_reply(output, &reply) {
                 Err(_) => LineEnd::Unwritten,
                 Ok(()) => {
                     if wrapped {

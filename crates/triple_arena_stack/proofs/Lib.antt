@@ -1,4 +1,3 @@
-pub mod ClientLemmas
 mod FilledLemmas
 mod PairLemmas
 mod PushedLemmas

@@ -1,5 +1,5 @@
 -- Two items that are written at once.
-use Rattle.std.specs.Prelude.{◌≡◌, ℕ, ◌<◌, ◌≤◌, ◌≢◌, ◌⊎◌, List, Some, Result, Ok, Err, slice_get, slice_set}
+use Rattle.std.specs.Prelude.{◌≡◌, ℕ, ◌<◌, ◌≤◌, ◌≢◌, ◌⊎◌, List, Option, Some, Result, Ok, Err, slice_set}
 use Rattle.std.specs.Borrow.{MutBor}
 use Rattle.std.specs.Fn.{Once}
 use Rattle.triple_arena_base.specs.declared.errors.GetDisjointMutError.{GetDisjointMutError}
@@ -37,13 +37,12 @@ module _ {F A R : Type 0} (g : Once F (MutBor A × (MutBor A × Unit {0})) (R ×
     pub met : g.post f (first, (second, tt)) (r, left)
     pub leaves : (left.0.now ≡ x') × (left.1.0.now ≡ y')
 
-  -- f may be called at the items at two places, where they are two
-  abbrev pub MayWork : ℕ → ℕ → List A → Type 0
-  MayWork i j old = i ≢ j → (x y : A) → slice_get old i ≡ Some x → slice_get old j ≡ Some y → FnOnceTakesAtPairMut x y
+  -- f may be called at two values, where both are there
+  abbrev pub MayWork : Option A → Option A → Type 0
+  MayWork first second = (x y : A) → first ≡ Some x → second ≡ Some y → FnOnceTakesAtPairMut x y
 
-  -- a call of f at the items at two places gave r, and what it left stands there; no other item
-  -- changed
-  abbrev pub Worked : ℕ → ℕ → List A → R → List A → Type 0
-  Worked i j old r new =
-      (x y x' y' : A) × (slice_get old i ≡ Some x) × (slice_get old j ≡ Some y)
-      × FnOnceReturnsAtPairMut x y r x' y' × (new ≡ set_both old i j x' y')
+  -- a call of f at two values gave r, and this holds of what it left there
+  abbrev pub Worked : Option A → Option A → R → (A → A → Type 0) → Type 0
+  Worked first second r Left =
+      (x y x' y' : A) × (first ≡ Some x) × (second ≡ Some y)
+      × FnOnceReturnsAtPairMut x y r x' y' × Left x' y'

@@ -50,6 +50,8 @@ impl<T: Default + Drop, const LIMIT: usize> NonZeroInxGenericStack<T> for ArrayS
 
     ghost kind = { array LIMIT };
 
+    ghost has_memory = { λ _. Unit {0} };
+
     ghost with_items = { λ _ xs. xs };
 
     ghost items_with_items = { λ stack xs. refl };

@@ -43,6 +43,8 @@ impl<T> NonZeroInxGenericStack<T> for FixedStack<T> {
 
     ghost kind = { fixed };
 
+    ghost has_memory = { λ _. ⊥ };
+
     ghost with_items = { λ stack xs. record stack { items = xs } };
 
     ghost items_with_items = { λ stack xs. refl };

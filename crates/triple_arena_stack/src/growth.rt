@@ -1,6 +1,6 @@
 //! How a full stack grows.
 ghost use Rattle.std.specs.Prelude.{◌≡◌, ◌↔◌, length, IsOk, OnOk, OnErr};
-ghost use Rattle.triple_arena_stack.specs.Capacity.{next_capacity, room_for_one_more, HasPlace, IsFullAtLimit};
+ghost use Rattle.triple_arena_stack.specs.Capacity.{capacity_of, most_places, next_capacity, room_for_one_more, HasPlace, IsFullAtLimit, CanGrow};
 
 use crate::stack::NonZeroInxGenericStack;
 use triple_arena_base::ReallocationError;
@@ -20,7 +20,10 @@ pub fn grow_if_full<T, S: NonZeroInxGenericStack<T>>(stack: &mut S) -> Result<()
     ensures had_place { HasPlace (S.room stack.old) (S.limit stack.old) (length (S.items stack.old))
         → IsOk result × (stack.new ≡ stack.old) }
     ensures beyond { (result ≡ Err ReallocationError.BeyondMaxCapacity)
-        ↔ IsFullAtLimit (S.room stack.old) (S.limit stack.old) (length (S.items stack.old)) }
+        ↔ IsFullAtLimit (capacity_of (S.room stack.old) (S.limit stack.old))
+        (S.limit stack.old) (length (S.items stack.old)) }
+    ensures given { CanGrow S.has_memory (capacity_of (S.room stack.old) (S.limit stack.old))
+        (S.limit stack.old) most_places → IsOk result }
 {
     let capacity = stack.capacity();
     if stack.len() < capacity {
@@ -38,7 +41,7 @@ pub fn grow_if_full<T, S: NonZeroInxGenericStack<T>>(stack: &mut S) -> Result<()
 
 // The capacity that a full stack grows to.
 fn grown_capacity(capacity: usize, limit: Option<usize>) -> usize
-    ensures { result ≡ next_capacity capacity limit }
+    ensures { result ≡ next_capacity capacity limit most_places }
 {
     let next = if capacity == 0 {
         4

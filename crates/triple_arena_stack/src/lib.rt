@@ -10,8 +10,6 @@ mod pair;
 mod push_entry;
 mod set_max_capacity;
 mod stack;
-#[cfg(test)]
-mod tests;
 mod vec;
 
 pub use array::{ArrayStack, NonZeroInxArray, NonZeroInxArrayPushEntry};

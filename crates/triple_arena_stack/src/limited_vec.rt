@@ -51,6 +51,8 @@ impl<T> NonZeroInxGenericStack<T> for LimitedStack<T> {
 
     ghost kind = { limited };
 
+    ghost has_memory = { λ _. ⊥ };
+
     ghost with_items = { λ stack xs. record stack { items = xs } };
 
     ghost items_with_items = { λ stack xs. refl };

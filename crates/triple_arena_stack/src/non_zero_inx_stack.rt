@@ -35,6 +35,8 @@ impl<T, K: NonZeroInxGenericStack<T>> NonZeroInxGenericStack<T> for NonZeroInxSt
 
     ghost kind = { K.kind };
 
+    ghost has_memory = { K.has_memory };
+
     ghost with_items = { K.with_items };
 
     ghost items_with_items = { K.items_with_items };

@@ -1,12 +1,12 @@
 //! The contract of every stack.
-ghost use Rattle.std.specs.Prelude.{◌≡◌, ◌+◌, ◌-◌, ◌≤◌, ◌==◌, ◌↔◌, List, [], ◌∷◌, ◌++◌, length, take, slice_get, slice_set, ℕ, Option, IsOk, IfOk, OnOk, OnErr};
+ghost use Rattle.std.specs.Prelude.{◌≡◌, ◌≢◌, ◌+◌, ◌-◌, ◌≤◌, ◌==◌, ◌↔◌, List, [], ◌∷◌, ◌++◌, length, take, slice_get, slice_set, ℕ, Option, IsOk, IfOk, OnOk, OnErr};
 ghost use Rattle.std.specs.Borrow.{sem, Lends, LendsIf, Array};
 ghost use Rattle.std.specs.Int.NonZero.{non_zero_usize_get};
 ghost use Rattle.std.specs.List.{refill};
 ghost use Rattle.std.specs.Option.{option_copied, option_copied_mut};
 ghost use Rattle.triple_arena_stack.specs.StackKind.{StackKind, new_room, new_limit, made_room, made_limit, CanHold, TakesNoMemory, reallocated_room, IsOfKind};
-ghost use Rattle.triple_arena_stack.specs.Capacity.{capacity_of, room_for_one_more, HasPlace, IsWithin, IsBeyond, IsFullAtLimit};
-ghost use Rattle.triple_arena_stack.specs.Disjoint.{DisjointAnswer, MayWork, Worked};
+ghost use Rattle.triple_arena_stack.specs.Capacity.{capacity_of, most_places, room_for_one_more, HasPlace, IsWithin, IsBeyond, IsFullAtLimit, CanGrow};
+ghost use Rattle.triple_arena_stack.specs.Disjoint.{DisjointAnswer, set_both, MayWork, Worked};
 
 use crate::growth::grow_if_full;
 use crate::pair::pair_of;
@@ -23,7 +23,127 @@ use triple_arena_base::{
 /// a limit that can be set, fixed when it is made, or an array.
 ///
 /// Memory is asked for only where the room is made or changes. Where it is refused, items, room and
-/// limit stay as they were.
+/// limit stay as they were. For which requests it is there is told by `has_memory`, and a call that
+/// makes or changes the room succeeds where it says so: a body over any stack that gives up without
+/// asking has no proof. A stack on the heap says so of no number, and an array, which takes no
+/// memory, of each.
+///
+/// # A stack of one's own
+///
+/// A stack of one's own is most simply written round another, as below, where `Counting` counts its
+/// pushes. Its model is the inner stack, so that each member and each law is that stack's. The count
+/// stays outside the model: the contract has a push leave all but the items as it was.
+///
+/// ```text
+/// use std::alloc::Global;
+/// use std::marker::{Model, PhantomData};
+/// use std::num::NonZeroUsize;
+/// use triple_arena_base::{AllocError, ReallocationError};
+/// use triple_arena_stack::NonZeroInxGenericStack;
+///
+/// /// A stack that counts its pushes.
+/// #[derive(Drop)]
+/// pub struct Counting<T, S: NonZeroInxGenericStack<T>> {
+///     inner: S,
+///     pushes: u64,
+///     items: PhantomData<T>,
+/// }
+///
+/// impl<T, S: NonZeroInxGenericStack<T>> Model for Counting<T, S> {
+///     ghost Value = { S };
+///
+///     ghost coded = { S.code };
+///
+///     ghost view = { λ c. c.inner };
+/// }
+///
+/// impl<T, S: NonZeroInxGenericStack<T>> Counting<T, S> {
+///     /// How many pushes there were.
+///     pub fn pushes(&self) -> u64 {
+///         self.pushes
+///     }
+/// }
+///
+/// impl<T, S: NonZeroInxGenericStack<T>> NonZeroInxGenericStack<T> for Counting<T, S> {
+///     ghost items = { S.items };
+///
+///     ghost room = { S.room };
+///
+///     ghost limit = { S.limit };
+///
+///     ghost kind = { S.kind };
+///
+///     ghost has_memory = { S.has_memory };
+///
+///     ghost with_items = { S.with_items };
+///
+///     fn new(alloc: Global) -> Self {
+///         Counting {
+///             inner: S::new(alloc),
+///             pushes: 0,
+///             items: PhantomData,
+///         }
+///     }
+///
+///     fn with_min_capacity(alloc: Global, min_capacity: usize) -> Result<Self, AllocError> {
+///         Ok(Counting {
+///             inner: S::with_min_capacity(alloc, min_capacity)?,
+///             pushes: 0,
+///             items: PhantomData,
+///         })
+///     }
+///
+///     fn capacity(&self) -> usize {
+///         self.inner.capacity()
+///     }
+///
+///     fn max_capacity(&self) -> Option<usize> {
+///         self.inner.max_capacity()
+///     }
+///
+///     fn reallocate_min_capacity(&mut self, min_capacity: usize) -> Result<(), ReallocationError> {
+///         self.inner.reallocate_min_capacity(min_capacity)
+///     }
+///
+///     fn push_reserved(&mut self, t: T) -> (NonZeroUsize, &mut T) {
+///         self.pushes = self.pushes.saturating_add(1);
+///         self.inner.push_reserved(t)
+///     }
+///
+///     fn get_mut(&mut self, inx: NonZeroUsize) -> Option<&mut T> {
+///         self.inner.get_mut(inx)
+///     }
+///
+///     fn pop(&mut self) -> Option<T> {
+///         self.inner.pop()
+///     }
+///
+///     fn clear(&mut self)
+///     where
+///         T: Drop,
+///     {
+///         self.inner.clear();
+///     }
+///
+///     fn as_slice(&self) -> &[T] {
+///         self.inner.as_slice()
+///     }
+///
+///     fn as_mut_slice(&mut self) -> &mut [T] {
+///         self.inner.as_mut_slice()
+///     }
+///
+///     ghost items_with_items = { S.items_with_items };
+///
+///     ghost room_with_items = { S.room_with_items };
+///
+///     ghost limit_with_items = { S.limit_with_items };
+///
+///     ghost with_items_same = { S.with_items_same };
+///
+///     ghost with_items_twice = { S.with_items_twice };
+/// }
+/// ```
 pub trait NonZeroInxGenericStack<T> {
     // the items, that of index 1 first
     ghost items: { Self → List T };
@@ -37,6 +157,10 @@ pub trait NonZeroInxGenericStack<T> {
     // what constructors and reallocation make of room and limit
     ghost kind: { StackKind };
 
+    // where room for so many items is asked for, memory is there: a stack says so only of numbers
+    // for which it never refuses memory
+    ghost has_memory: { ℕ → Type 0 };
+
     // the same stack with other items
     ghost with_items: { Self → List T → Self };
 
@@ -49,13 +173,15 @@ pub trait NonZeroInxGenericStack<T> {
     /// An empty stack with room for `min_capacity` items.
     ///
     /// `AllocError` where memory is refused, or where the stack is an array of fewer places; never
-    /// where it takes no memory: for 0 items, and in an array within its places.
+    /// where it takes no memory, for 0 items and in an array within its places, nor where memory is
+    /// there.
     fn with_min_capacity(alloc: Global, min_capacity: usize) -> Result<Self, AllocError>
         ensures items { IfOk result (λ stack. items stack ≡ []) }
         ensures room { IfOk result (λ stack. room stack ≡ made_room kind min_capacity) }
         ensures limit { IfOk result (λ stack. limit stack ≡ made_limit kind min_capacity) }
         ensures holds { OnOk result (CanHold kind min_capacity) }
-        ensures succeeds { TakesNoMemory kind min_capacity → IsOk result };
+        ensures succeeds { TakesNoMemory kind min_capacity → IsOk result }
+        ensures given { CanHold kind min_capacity → has_memory min_capacity → IsOk result };
 
     /// How many items fit: the smaller of room and limit.
     fn capacity(&self) -> usize
@@ -71,8 +197,9 @@ pub trait NonZeroInxGenericStack<T> {
     /// there.
     ///
     /// `BeyondMaxCapacity` exactly where the limit is below `min_capacity`; else `AllocError` where
-    /// memory is refused. Neither changes the stack. Where the room stays the same, no memory is
-    /// taken; else a stack on the heap may move each item once.
+    /// memory is refused, which it isn't where memory is there for the new room. Neither changes the
+    /// stack. Where the room stays the same, no memory is taken; else a stack on the heap may move
+    /// each item once.
     fn reallocate_min_capacity(&mut self, min_capacity: usize) -> Result<(), ReallocationError>
         ensures items { items self.new ≡ items self.old }
         ensures limit { limit self.new ≡ limit self.old }
@@ -85,6 +212,10 @@ pub trait NonZeroInxGenericStack<T> {
         ensures succeeds { IsWithin (limit self.old) min_capacity
             → reallocated_room kind (room self.old) (length (items self.old)) min_capacity
             ≡ room self.old
+            → IsOk result }
+        ensures given { IsWithin (limit self.old) min_capacity
+            → has_memory (reallocated_room kind
+            (room self.old) (length (items self.old)) min_capacity)
             → IsOk result };
 
     /// Pushes `t`, and gives its index and the item. It takes no memory, and has no refusal.
@@ -193,8 +324,8 @@ pub trait NonZeroInxGenericStack<T> {
     ///
     /// `BeyondMaxCapacity` exactly where the stack is full and its limit is reached; else
     /// `AllocError` where it is full and memory is refused, or there is no greater number. Then the
-    /// stack is unchanged, and `t` is dropped. Where the stack isn't full, no memory is taken; a
-    /// growth may move each item once.
+    /// stack is unchanged, and `t` is dropped. Where the stack isn't full, no memory is taken; a full
+    /// one grows wherever limit, numbers and memory allow it, and may move each item once.
     final fn push_reallocating(&mut self, t: T) -> Result<NonZeroUsize, ReallocationError>
     where
         T: Drop,
@@ -209,7 +340,10 @@ pub trait NonZeroInxGenericStack<T> {
         ensures had_place { HasPlace (room self.old) (limit self.old) (length (items self.old))
             → IsOk result × (self.new ≡ with_items self.old (items self.old ++ t ∷ [])) }
         ensures beyond { (result ≡ Err ReallocationError.BeyondMaxCapacity)
-            ↔ IsFullAtLimit (room self.old) (limit self.old) (length (items self.old)) }
+            ↔ IsFullAtLimit (capacity_of (room self.old) (limit self.old))
+            (limit self.old) (length (items self.old)) }
+        ensures given { CanGrow has_memory (capacity_of (room self.old) (limit self.old))
+            (limit self.old) most_places → IsOk result }
     {
         grow_if_full(self)?;
         let (inx, _item) = self.push_reserved(t);
@@ -231,7 +365,10 @@ pub trait NonZeroInxGenericStack<T> {
         ensures had_place { HasPlace (room self.old) (limit self.old) (length (items self.old))
             → IsOk result × (self.new ≡ with_items self.old (items self.old ++ t ∷ [])) }
         ensures beyond { (result ≡ Err ReallocationError.BeyondMaxCapacity)
-            ↔ IsFullAtLimit (room self.old) (limit self.old) (length (items self.old)) }
+            ↔ IsFullAtLimit (capacity_of (room self.old) (limit self.old))
+            (limit self.old) (length (items self.old)) }
+        ensures given { CanGrow has_memory (capacity_of (room self.old) (limit self.old))
+            (limit self.old) most_places → IsOk result }
     {
         self.push_reallocating(t)
     }
@@ -267,14 +404,17 @@ pub trait NonZeroInxGenericStack<T> {
         second: NonZeroUsize,
         f: F,
     ) -> Result<R, GetDisjointMutError>
-        requires { MayWork F.FnOnce f
-            (non_zero_usize_get first - 1) (non_zero_usize_get second - 1) (items self.old) }
+        requires { non_zero_usize_get first ≢ non_zero_usize_get second → MayWork F.FnOnce f
+            (slice_get (items self.old) (non_zero_usize_get first - 1))
+            (slice_get (items self.old) (non_zero_usize_get second - 1)) }
         ensures variant { DisjointAnswer (length (items self.old))
             (non_zero_usize_get first) (non_zero_usize_get second) result }
         ensures refused { OnErr result (self.new ≡ self.old) }
         ensures items { IfOk result (λ r. Worked F.FnOnce f
-            (non_zero_usize_get first - 1) (non_zero_usize_get second - 1)
-            (items self.old) r (items self.new)) }
+            (slice_get (items self.old) (non_zero_usize_get first - 1))
+            (slice_get (items self.old) (non_zero_usize_get second - 1))
+            r (λ x y. items self.new ≡ set_both (items self.old)
+            (non_zero_usize_get first - 1) (non_zero_usize_get second - 1) x y)) }
         ensures others { self.new ≡ with_items self.old (items self.new) }
     {
         self.check_disjoint(first, second)?;

@@ -46,6 +46,8 @@ impl<T> NonZeroInxGenericStack<T> for HeapStack<T> {
 
     ghost kind = { heap };
 
+    ghost has_memory = { λ _. ⊥ };
+
     ghost with_items = { λ stack xs. record stack { items = xs } };
 
     ghost items_with_items = { λ stack xs. refl };

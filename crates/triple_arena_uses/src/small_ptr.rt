@@ -4,7 +4,7 @@ ghost use Rattle.std.specs.Prelude.{◌≡◌, ◌^◌, ◌-◌, Some, true, suc
 ghost use Rattle.std.proofs.Common.{refl};
 ghost use Rattle.triple_arena_base.specs.Held.{held_itself, refill_itself};
 ghost use Rattle.triple_arena_base.specs.HeldLaws.{itself_held_refill, itself_refill_held, itself_refill_refill};
-ghost use Rattle.triple_arena_ptr.specs.NonZeroNumbers.{same_pair, u32_after, u32_after_cancels};
+ghost use Rattle.triple_arena_ptr.specs.NonZeroValues.{same_pair, u32_after, u32_after_cancels};
 ghost use Rattle.triple_arena_ptr.specs.PointerText.{pointer_text};
 
 use std::fmt;
@@ -25,7 +25,7 @@ pub struct SmallPtr {
 
 impl Model for SmallPtr {
     ghost use Rattle.std.specs.Prelude.{ℕ, suc, ◌-◌, ◌<◌};
-    ghost use Rattle.triple_arena_ptr.specs.NonZeroNumbers.{remade};
+    ghost use Rattle.triple_arena_ptr.specs.NonZeroValues.{remade};
 
     // The numbers before its two, neither of which is 0.
     ghost Value = { ℕ × ℕ };
@@ -59,17 +59,17 @@ impl Ptr for SmallPtr {
         SmallPtr::_from_raw(PtrInx::best_effort_invalid(), PtrGen::one())
     }
 
-    #[tactic(auto, using(triple_arena_ptr::specs::NonZeroNumbers::u32_is_after))]
+    #[tactic(auto, using(triple_arena_ptr::specs::NonZeroValues::u32_is_after))]
     fn inx(self) -> NonZeroU32 {
         NonZeroU32::new(self._internal_inx).unwrap()
     }
 
-    #[tactic(auto, using(triple_arena_ptr::specs::NonZeroNumbers::u32_is_after))]
+    #[tactic(auto, using(triple_arena_ptr::specs::NonZeroValues::u32_is_after))]
     fn generation(self) -> NonZeroU32 {
         NonZeroU32::new(self._internal_gen).unwrap()
     }
 
-    #[tactic(auto, using(triple_arena_ptr::specs::NonZeroNumbers::u32_after_before))]
+    #[tactic(auto, using(triple_arena_ptr::specs::NonZeroValues::u32_after_before))]
     fn _from_raw(inx: NonZeroU32, generation: NonZeroU32) -> Self {
         SmallPtr {
             _internal_inx: inx.get(),

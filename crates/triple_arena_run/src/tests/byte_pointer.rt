@@ -4,7 +4,7 @@ ghost use Rattle.std.specs.Prelude.{◌≡◌, ◌^◌, ◌-◌, Some, true, suc
 ghost use Rattle.std.proofs.Common.{refl};
 ghost use Rattle.triple_arena_base.specs.Held.{held_itself, refill_itself};
 ghost use Rattle.triple_arena_base.specs.HeldLaws.{itself_held_refill, itself_refill_held, itself_refill_refill};
-ghost use Rattle.triple_arena_ptr.specs.NonZeroNumbers.{same_pair, u8_after, u8_after_cancels};
+ghost use Rattle.triple_arena_ptr.specs.NonZeroValues.{same_pair, u8_after, u8_after_cancels};
 ghost use Rattle.triple_arena_ptr.specs.PointerText.{pointer_text};
 
 use std::fmt;
@@ -23,7 +23,7 @@ pub struct B {
 
 impl Model for B {
     ghost use Rattle.std.specs.Prelude.{ℕ, suc, ◌-◌, ◌<◌};
-    ghost use Rattle.triple_arena_ptr.specs.NonZeroNumbers.{remade};
+    ghost use Rattle.triple_arena_ptr.specs.NonZeroValues.{remade};
 
     // The numbers before its two, neither of which is 0.
     ghost Value = { ℕ × ℕ };
@@ -58,17 +58,17 @@ impl Ptr for B {
         B::_from_raw(PtrInx::best_effort_invalid(), PtrGen::one())
     }
 
-    #[tactic(auto, using(triple_arena_ptr::specs::NonZeroNumbers::u8_is_after))]
+    #[tactic(auto, using(triple_arena_ptr::specs::NonZeroValues::u8_is_after))]
     fn inx(self) -> NonZeroU8 {
         NonZeroU8::new(self._internal_inx).unwrap()
     }
 
-    #[tactic(auto, using(triple_arena_ptr::specs::NonZeroNumbers::u8_is_after))]
+    #[tactic(auto, using(triple_arena_ptr::specs::NonZeroValues::u8_is_after))]
     fn generation(self) -> NonZeroU8 {
         NonZeroU8::new(self._internal_gen).unwrap()
     }
 
-    #[tactic(auto, using(triple_arena_ptr::specs::NonZeroNumbers::u8_after_before))]
+    #[tactic(auto, using(triple_arena_ptr::specs::NonZeroValues::u8_after_before))]
     fn _from_raw(inx: NonZeroU8, generation: NonZeroU8) -> Self {
         B {
             _internal_inx: inx.get(),

@@ -11,6 +11,16 @@ pub struct PieceReader<'a> {
     pub failure: ErrorKind,
 }
 
+impl<'a> PieceReader<'a> {
+    pub fn new(text: &'a [u8], reads_before: usize, failure: ErrorKind) -> PieceReader<'a> {
+        PieceReader {
+            rest: text,
+            reads_before,
+            failure,
+        }
+    }
+}
+
 impl<'a> Read for PieceReader<'a> {
     fn read(&mut self, buf: &mut [u8]) -> io::Result<usize> {
         if self.reads_before == 0 {
@@ -23,21 +33,34 @@ impl<'a> Read for PieceReader<'a> {
     }
 }
 
-/// Holds up to 256 bytes, and fails at the write of a given number and after it.
+/// Holds up to 256 bytes, takes at most so many at a write, and fails at the write of a given
+/// number and after it.
 #[derive(Drop)]
 pub struct ShortWriter {
     pub bytes: [u8; 256],
     pub len: usize,
+    pub most: usize,
     pub writes_before: usize,
 }
 
 impl ShortWriter {
+    /// Takes all of a write.
     pub fn new(writes_before: usize) -> ShortWriter {
+        ShortWriter::of_pieces(256, writes_before)
+    }
+
+    pub fn of_pieces(most: usize, writes_before: usize) -> ShortWriter {
         ShortWriter {
             bytes: [0; 256],
             len: 0,
+            most,
             writes_before,
         }
+    }
+
+    /// Whether what it holds is the front of a text.
+    pub fn is_front_of(&self, text: &[u8]) -> bool {
+        self.len <= 256 && text.starts_with(&self.bytes[..self.len])
     }
 
     /// How many lines it holds to their end.
@@ -56,17 +79,18 @@ impl ShortWriter {
 
 impl Write for ShortWriter {
     fn write(&mut self, buf: &[u8]) -> io::Result<usize> {
-        if self.writes_before == 0 || self.len > 256 || 256 - self.len < buf.len() {
+        let piece = &buf[..buf.len().min(self.most)];
+        if self.writes_before == 0 || self.len > 256 || 256 - self.len < piece.len() {
             return Err(io::Error::from(ErrorKind::Other));
         }
         self.writes_before -= 1;
-        for byte in buf {
+        for byte in piece {
             if self.len < 256 {
                 self.bytes[self.len] = *byte;
                 self.len += 1;
             }
         }
-        Ok(buf.len())
+        Ok(piece.len())
     }
 
     fn flush(&mut self) -> io::Result<()> {

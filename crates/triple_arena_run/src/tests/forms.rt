@@ -1,10 +1,9 @@
 //! The forms of command lines.
 
 use crate::command::{Command, parse_command};
-use std::test::Fail;
 
 #[test]
-fn reads_each_form(rt: HostRuntime) -> Result<(), Fail> {
+fn reads_each_form(rt: HostRuntime) {
     let rows: [(&[u8], Command<u64>); 7] = [
         (b"insert 10 -", Command::Insert(10, None)),
         (b"insert 0 3", Command::Insert(0, Some(3))),
@@ -23,11 +22,10 @@ fn reads_each_form(rt: HostRuntime) -> Result<(), Fail> {
     for (line, command) in rows {
         assert!(rt; parse_command(line) == Some(command));
     }
-    Ok(())
 }
 
 #[test]
-fn refuses_every_other_line(rt: HostRuntime) -> Result<(), Fail> {
+fn refuses_every_other_line(rt: HostRuntime) {
     let lines: [&[u8]; 28] = [
         b"",
         b" ",
@@ -61,5 +59,4 @@ fn refuses_every_other_line(rt: HostRuntime) -> Result<(), Fail> {
     for line in lines {
         assert!(rt; parse_command(line).is_none());
     }
-    Ok(())
 }

@@ -1,60 +1,121 @@
-//! Whole runs of the program, from the arguments to what is written.
+//! Whole runs of the program, from its arguments to what is written.
 
 use super::devices::ShortWriter;
-use crate::kind_run::run_kind;
-use crate::program::{Kind, parse_args};
+use crate::kind_run::{run_kind, run_program};
+use crate::program::{Kind, Outcome};
 use crate::text::TextError;
 use std::alloc::Global;
-use std::io::{BufWriter, Write};
+use std::io;
+use std::io::{BufWriter, ErrorKind, Write};
 use std::process::Abort;
 use std::test::Fail;
 
-/// With these arguments the text is run to its end, and answered so.
-fn answers(
+// The arguments of these words.
+fn args_of(alloc: Global, words: &[&str]) -> io::Result<Vec<String>> {
+    let mut args = Vec::new(alloc);
+    for word in words {
+        args.push(String::from_str(alloc, *word)?)?;
+    }
+    Ok(args)
+}
+
+// With these arguments the program runs the text to this outcome, and writes these lines.
+fn runs(
     rt: &impl Abort,
     alloc: Global,
     words: &[&str],
     text: &[u8],
-    replies: &[u8],
-) -> Result<(), Fail> {
-    let kind = parse_args(words);
-    assert!(rt; kind.is_some());
+    outcome: Outcome,
+    lines: &[u8],
+) {
     let mut input = text;
-    let output = BufWriter::new(alloc, Vec::new(alloc))?;
-    let (outcome, written) = run_kind(kind.unwrap_or(Kind::Heap), alloc, &mut input, output);
-    assert!(rt; outcome == Ok(()));
-    assert_eq!(rt; written.as_slice(), replies);
-    Ok(())
+    let (ended, output) = run_program(args_of(alloc, words), alloc, &mut input, Vec::new(alloc));
+    assert!(rt; ended == outcome, "{words:?}");
+    match output {
+        Some(written) => assert_eq!(rt; written.as_slice(), lines),
+        None => panic!(rt; "there is memory"),
+    }
 }
 
+const WELL: Outcome = Outcome::Ran(Ok(()));
+
 #[test]
-fn a_limit_of_two_refuses_the_third(rt: HostRuntime) -> Result<(), Fail> {
+fn a_limit_of_two_refuses_the_third(rt: HostRuntime) {
     let text = b"insert 1 -\ninsert 2 -\ninsert 3 -\nremove 1\ninsert 4 -\nget 1\n".as_slice();
     let limited =
         b"given 1\ngiven 2\nbeyond max capacity\nremoved 1 -\ngiven 3\nnothing\n".as_slice();
     let unlimited = b"given 1\ngiven 2\ngiven 3\nremoved 1 -\ngiven 4\nnothing\n".as_slice();
-    let alloc = rt.alloc();
-    answers(&rt, alloc, &["limited", "2"], text, limited)?;
-    answers(&rt, alloc, &["fixed", "2"], text, limited)?;
-    answers(&rt, alloc, &["heap"], text, unlimited)?;
-    answers(&rt, alloc, &[], text, unlimited)
+    let rows: [(&[&str], &[u8]); 4] = [
+        (&["limited", "2"], limited),
+        (&["fixed", "2"], limited),
+        (&["heap"], unlimited),
+        (&[], unlimited),
+    ];
+    for (words, lines) in rows {
+        runs(&rt, rt.alloc(), words, text, WELL, lines);
+    }
 }
 
 #[test]
-fn an_array_refuses_the_ninth(rt: HostRuntime) -> Result<(), Fail> {
+fn an_array_refuses_the_ninth(rt: HostRuntime) {
     let text =
         b"insert 1 -\ninsert 1 -\ninsert 1 -\ninsert 1 -\ninsert 1 -\ninsert 1 -\ninsert 1 -\ninsert 1 -\ninsert 1 -\n".as_slice();
-    let replies =
+    let lines =
         b"given 1\ngiven 2\ngiven 3\ngiven 4\ngiven 5\ngiven 6\ngiven 7\ngiven 8\nbeyond max capacity\n".as_slice();
-    answers(&rt, rt.alloc(), &["array"], text, replies)
+    runs(&rt, rt.alloc(), &["array"], text, WELL, lines);
 }
 
 #[test]
-fn no_place_refuses_the_first(rt: HostRuntime) -> Result<(), Fail> {
+fn no_place_refuses_the_first(rt: HostRuntime) {
     let text = b"insert 5 -\nget 1\n".as_slice();
-    let replies = b"beyond max capacity\nnothing\n".as_slice();
-    answers(&rt, rt.alloc(), &["limited", "0"], text, replies)?;
-    answers(&rt, rt.alloc(), &["fixed", "0"], text, replies)
+    let lines = b"beyond max capacity\nnothing\n".as_slice();
+    let rows: [&[&str]; 2] = [&["limited", "0"], &["fixed", "0"]];
+    for words in rows {
+        runs(&rt, rt.alloc(), words, text, WELL, lines);
+    }
+}
+
+/// No machine has memory for the greatest number of entries.
+#[test]
+fn tells_how_it_ended(rt: HostRuntime) {
+    let text = b"insert 1 -\ninsert 2 1\ninsert 3 -\nget\nget 1\n".as_slice();
+    let limited = b"given 1\ngiven 2\nbeyond max capacity\n".as_slice();
+    let unlimited = b"given 1\ngiven 2\ngiven 3\n".as_slice();
+    let malformed = Outcome::Ran(Err(TextError::Malformed(4)));
+    let no_memory = Outcome::Ran(Err(TextError::NoMemory));
+    let rows: [(&[&str], Outcome, &[u8]); 9] = [
+        (&["limited", "2"], malformed, limited),
+        (&["fixed", "2"], malformed, limited),
+        (&["array"], malformed, unlimited),
+        (&[], malformed, unlimited),
+        (&["limited", "18446744073709551615"], no_memory, b""),
+        (&["fixed", "18446744073709551615"], no_memory, b""),
+        (&["limited"], Outcome::WrongArguments, b""),
+        (&["heap", "2"], Outcome::WrongArguments, b""),
+        (&["limited", "2", "2"], Outcome::WrongArguments, b""),
+    ];
+    for (words, outcome, lines) in rows {
+        runs(&rt, rt.alloc(), words, text, outcome, lines);
+    }
+}
+
+/// Arguments that are no text are wrong, and those that memory was refused for are not.
+#[test]
+fn tells_of_arguments_that_it_has_not(rt: HostRuntime) {
+    let rows = [
+        (ErrorKind::InvalidData, Outcome::WrongArguments),
+        (
+            ErrorKind::OutOfMemory,
+            Outcome::Ran(Err(TextError::NoMemory)),
+        ),
+    ];
+    for (kind, outcome) in rows {
+        let mut input = b"insert 1 -\n".as_slice();
+        let args = Err(io::Error::from(kind));
+        let (ended, _) = run_program(args, rt.alloc(), &mut input, Vec::new(rt.alloc()));
+        assert!(rt; ended == outcome);
+        assert_eq!(rt; input.len(), 11);
+    }
 }
 
 /// No machine has memory for so many entries. Nothing is read, and what was gathered before goes out.
@@ -76,18 +137,22 @@ fn says_that_there_is_no_memory_to_begin(rt: HostRuntime) -> Result<(), Fail> {
 /// (`rt try --test --fail-alloc 1..`): then nothing is written, or one insertion answers so.
 #[test]
 fn runs_or_says_that_memory_was_refused(rt: HostRuntime) {
-    for kind in [Kind::Heap, Kind::Limited(2), Kind::Fixed(2), Kind::Array] {
-        let Ok(output) = BufWriter::new(rt.alloc(), ShortWriter::new(256)) else {
-            continue;
-        };
+    let rows: [&[&str]; 4] = [&["heap"], &["limited", "2"], &["fixed", "2"], &["array"]];
+    for words in rows {
+        let args = args_of(rt.alloc(), words);
         let mut input = b"insert 1 -\ninsert 1 -\n".as_slice();
-        let (outcome, written) = run_kind(kind, rt.alloc(), &mut input, output);
-        if outcome == Ok(()) {
-            assert_eq!(rt; written.lines_ended(), 2);
-            assert!(rt; written.lines_of(b"no memory") < 2);
-        } else {
-            assert!(rt; outcome == Err(TextError::NoMemory));
-            assert_eq!(rt; written.len, 0);
+        let (outcome, output) = run_program(args, rt.alloc(), &mut input, ShortWriter::new(256));
+        match output {
+            Some(written) => {
+                if outcome == WELL {
+                    assert_eq!(rt; written.lines_ended(), 2);
+                    assert!(rt; written.lines_of(b"no memory") < 2);
+                } else {
+                    assert!(rt; outcome == Outcome::Ran(Err(TextError::NoMemory)));
+                    assert_eq!(rt; written.len, 0);
+                }
+            }
+            None => assert!(rt; outcome == Outcome::Ran(Err(TextError::NoMemory))),
         }
     }
 }

@@ -1,11 +1,12 @@
 //! Sessions by their commands, at pointers of small generations too.
 
 use super::byte_pointer::B;
+use super::steps::{follow, generation, replies, sizes};
+use super::texts::answers_text;
 use crate::command::Command;
 use crate::node::Node;
 use crate::reply::Reply;
 use crate::session::Session;
-use crate::text::run_text;
 use std::alloc::Global;
 use std::process::Abort;
 use std::test::Fail;
@@ -19,57 +20,60 @@ use triple_arena_stack::{
 #[test]
 fn answers_by_name(rt: HostRuntime) {
     let mut session: Session<P0, bool> = Session::new(rt.alloc());
-    assert!(rt; session.step(Command::Get(0)) == Reply::Nothing);
-    assert!(rt; session.step(Command::Insert(true, Some(1))) == Reply::BadName);
-    assert!(rt; session.step(Command::Insert(true, None)) == Reply::Given(1, false));
-    assert!(rt; session.step(Command::Insert(false, Some(1))) == Reply::Given(2, false));
-    assert!(rt; session.step(Command::Insert(false, Some(0))) == Reply::BadName);
-    assert!(rt; session.step(Command::Get(2)) == Reply::Found(false, Some(1)));
-    assert!(rt; session.step(Command::Remove(1)) == Reply::Removed(true, None, false));
-    assert!(rt; session.step(Command::Remove(1)) == Reply::Invalid);
-    assert!(rt; session.step(Command::Get(2)) == Reply::Found(false, Some(1)));
-    assert!(rt; session.step(Command::Insert(true, Some(1))) == Reply::Given(3, false));
-    assert!(rt; session.step(Command::Remove(2)) == Reply::Removed(false, Some(1), false));
-    assert!(rt; session.step(Command::Get(3)) == Reply::Found(true, Some(1)));
-    assert!(rt; session.step(Command::Get(4)) == Reply::Nothing);
+    follow(
+        &rt,
+        &mut session,
+        &[
+            (Command::Get(0), Reply::Nothing),
+            (Command::Insert(true, Some(1)), Reply::BadName),
+            (Command::Insert(true, None), Reply::Given(1, false)),
+            (Command::Insert(false, Some(1)), Reply::Given(2, false)),
+            (Command::Insert(false, Some(0)), Reply::BadName),
+            (Command::Get(2), Reply::Found(false, Some(1))),
+            (Command::Remove(1), Reply::Removed(true, None, false)),
+            (Command::Remove(1), Reply::Invalid),
+            (Command::Get(2), Reply::Found(false, Some(1))),
+            (Command::Insert(true, Some(1)), Reply::Given(3, false)),
+            (Command::Remove(2), Reply::Removed(false, Some(1), false)),
+            (Command::Get(3), Reply::Found(true, Some(1))),
+            (Command::Get(4), Reply::Nothing),
+        ],
+    );
 }
 
-/// The 16-bit counter begins at 2, and each removal raises it by one: the 65534th wraps it.
-fn removes_to_the_wrap<P: Ptr>(rt: &impl Abort, session: &mut Session<P, u8>) {
-    for name in 1..65535usize {
-        assert!(rt; session.step(Command::Insert(7, None)) == Reply::Given(name, false));
-        let removed = session.step(Command::Remove(name));
-        assert!(rt;
-            removed == Reply::Removed(7, None, name == 65534),
-            "at {name}"
-        );
+// Inserts a datum and removes its name, from the first name to before the last, and expects the
+// removal of one name alone to tell of a wrap.
+fn comes_and_goes(rt: &impl Abort, session: &mut Session<P3, u64>, last: usize, wraps: usize) {
+    for name in 1..last {
+        let given = replies(session, Command::Insert(7, None), Reply::Given(name, false));
+        let reply = Reply::Removed(7, None, name == wraps);
+        let removed = replies(session, Command::Remove(name), reply);
+        assert!(rt; given && removed, "at {name}");
     }
 }
 
+/// The 16-bit counter begins at 2, and each removal raises it by one: the 65534th wraps it.
 #[test]
 fn tells_of_a_wrap_where_it_comes(rt: HostRuntime) {
     assert!(rt; <P3 as Ptr>::Gen::counts());
-    let mut session: Session<P3, u8> = Session::new(rt.alloc());
-    removes_to_the_wrap(&rt, &mut session);
+    let mut session: Session<P3, u64> = Session::new(rt.alloc());
+    comes_and_goes(&rt, &mut session, 65535, 65534);
 }
 
 /// The run of a text ends with the reply that tells of a wrap: what follows isn't looked at.
 #[test]
-fn a_text_run_ends_at_a_wrap(rt: HostRuntime) -> Result<(), Fail> {
+fn a_text_run_ends_at_a_wrap(rt: HostRuntime) {
     let mut session: Session<P3, u64> = Session::new(rt.alloc());
-    for name in 1..65534 {
-        assert!(rt; session.step(Command::Insert(1, None)) == Reply::Given(name, false));
-        assert!(rt; session.step(Command::Remove(name)) == Reply::Removed(1, None, false));
-    }
-    let mut input = b"insert 5 -\nremove 65534\nno command\ninsert 6 -\n".as_slice();
-    let mut output = Vec::new(rt.alloc());
-    assert!(rt; run_text(&mut session, rt.alloc(), &mut input, &mut output) == Ok(()));
-    assert_eq!(rt;
-        output.as_slice(),
-        b"given 65534\nremoved 5 - wrapped\n".as_slice()
+    comes_and_goes(&rt, &mut session, 65534, 0);
+    answers_text(
+        &rt,
+        rt.alloc(),
+        &mut session,
+        b"insert 5 -\nremove 65534\nno command\ninsert 6 -\n",
+        Ok(()),
+        b"given 65534\nremoved 5 - wrapped\n",
     );
-    assert!(rt; session.step(Command::Get(65535)) == Reply::Nothing);
-    Ok(())
+    follow(&rt, &mut session, &[(Command::Get(65535), Reply::Nothing)]);
 }
 
 #[test]
@@ -89,49 +93,69 @@ fn a_node_prints_as_its_pair(rt: HostRuntime) -> Result<(), Fail> {
     Ok(())
 }
 
+// What stands under a name.
+type Row = Option<(u64, Option<usize>)>;
+
+// Expects each name to be answered as its row says.
+fn holds(rt: &impl Abort, session: &mut Session<P0, u64>, rows: &[Row; 16]) {
+    for (name, row) in rows.iter().enumerate() {
+        let reply = match *row {
+            Some((datum, link)) => Reply::Found(datum, link),
+            None => Reply::Nothing,
+        };
+        assert!(rt; replies(session, Command::Get(name), reply), "at {name}");
+    }
+}
+
+// The name that an insertion gave, if it gave one. Else memory was refused, and capacity and
+// counter are as they were.
+fn inserts(
+    rt: &impl Abort,
+    session: &mut Session<P0, u64>,
+    datum: u64,
+    link: Option<usize>,
+) -> Option<usize> {
+    let before = (sizes(session), generation(session));
+    match session.step(Command::Insert(datum, link)) {
+        Reply::Given(name, false) => Some(name),
+        reply => {
+            assert!(rt; reply == Reply::NoMemory);
+            assert!(rt; (sizes(session), generation(session)) == before);
+            None
+        }
+    }
+}
+
 /// Insertions with links and removals, each name looked up after each of them. Holds with ample
 /// memory, and also where any one request for memory is refused (`rt try --test --fail-alloc 1..`):
 /// then one insertion answers so, and names, entries, capacity and counter are as they were.
 #[test]
 fn a_refused_insertion_changes_nothing(rt: HostRuntime) {
     let mut session: Session<P0, u64> = Session::new(rt.alloc());
-    let mut rows: [Option<(u64, Option<usize>)>; 16] = [None; 16];
+    let mut rows: [Row; 16] = [None; 16];
     let mut given = 0;
     let mut refused = false;
     for datum in 0..12 {
         let link = if given == 0 { None } else { Some(given) };
-        let capacity = session.arena().capacity();
-        let generation = session.arena().generation();
-        match session.step(Command::Insert(datum, link)) {
-            Reply::Given(name, false) => {
+        match inserts(&rt, &mut session, datum, link) {
+            Some(name) => {
                 assert!(rt; given < name && name < 16);
                 given = name;
                 rows[name] = Some((datum, link));
             }
-            reply => {
-                assert!(rt; reply == Reply::NoMemory && !refused);
+            None => {
+                assert!(rt; !refused);
                 refused = true;
-                assert_eq!(rt; session.arena().capacity(), capacity);
-                assert!(rt; session.arena().generation() == generation);
             }
         }
         if datum % 3 == 2 && given < 16 {
             if let Some((removed, link)) = rows[given] {
-                let reply = session.step(Command::Remove(given));
-                assert!(rt; reply == Reply::Removed(removed, link, false));
+                let reply = Reply::Removed(removed, link, false);
+                assert!(rt; replies(&mut session, Command::Remove(given), reply));
                 rows[given] = None;
             }
         }
-        for (name, row) in rows.iter().enumerate() {
-            let expected = match *row {
-                Some((datum, link)) => Reply::Found(datum, link),
-                None => Reply::Nothing,
-            };
-            assert!(rt;
-                session.step(Command::Get(name)) == expected,
-                "at {name} after {datum}"
-            );
-        }
+        holds(&rt, &mut session, &rows);
     }
     assert_eq!(rt; given, if refused { 11 } else { 12 });
 }
@@ -139,52 +163,69 @@ fn a_refused_insertion_changes_nothing(rt: HostRuntime) {
 type Slot = ArenaSlot<P0, Node<u64, P0>>;
 
 /// The text answered by a session over each kind of stack, with room for so many at first.
-fn replies_over<S: NonZeroInxGenericStack<Slot> + Drop>(
+fn answers_over<S: NonZeroInxGenericStack<Slot> + Drop>(
     rt: &impl Abort,
     alloc: Global,
-    room: Option<usize>,
+    room: usize,
     text: &[u8],
-    replies: &[u8],
-) -> Result<(), Fail> {
-    let mut session: Session<P0, u64, S> = match room {
-        Some(room) => Session::with_min_capacity(alloc, room)?,
-        None => Session::new(alloc),
-    };
-    let mut input = text;
-    let mut output = Vec::new(alloc);
-    assert!(rt; run_text(&mut session, alloc, &mut input, &mut output) == Ok(()));
-    assert_eq!(rt; output.as_slice(), replies);
-    Ok(())
+    lines: &[u8],
+) {
+    match Session::<P0, u64, S>::with_min_capacity(alloc, room) {
+        Ok(mut session) => answers_text(rt, alloc, &mut session, text, Ok(()), lines),
+        Err(_) => panic!(rt; "there is memory"),
+    }
+}
+
+/// The same, by a session that is made without room.
+fn answers_over_new<S: NonZeroInxGenericStack<Slot> + Drop>(
+    rt: &impl Abort,
+    alloc: Global,
+    text: &[u8],
+    lines: &[u8],
+) {
+    let mut session: Session<P0, u64, S> = Session::new(alloc);
+    answers_text(rt, alloc, &mut session, text, Ok(()), lines);
 }
 
 #[test]
-fn a_limit_refuses_and_a_removal_makes_place(rt: HostRuntime) -> Result<(), Fail> {
+fn a_limit_refuses_and_a_removal_makes_place(rt: HostRuntime) {
     let text = b"insert 1 -\ninsert 2 -\ninsert 3 -\nremove 1\ninsert 4 -\nget 1\n".as_slice();
-    let replies =
+    let limited =
         b"given 1\ngiven 2\nbeyond max capacity\nremoved 1 -\ngiven 3\nnothing\n".as_slice();
-    let alloc = rt.alloc();
-    replies_over::<NonZeroInxLimitedVec<Slot>>(&rt, alloc, Some(2), text, replies)?;
-    replies_over::<NonZeroInxBoxedSlice<Slot>>(&rt, alloc, Some(2), text, replies)?;
-    replies_over::<NonZeroInxArray<Slot, 2>>(&rt, alloc, None, text, replies)?;
     let unlimited = b"given 1\ngiven 2\ngiven 3\nremoved 1 -\ngiven 4\nnothing\n".as_slice();
-    replies_over::<NonZeroInxVec<Slot>>(&rt, alloc, Some(2), text, unlimited)
+    let alloc = rt.alloc();
+    answers_over::<NonZeroInxLimitedVec<Slot>>(&rt, alloc, 2, text, limited);
+    answers_over::<NonZeroInxBoxedSlice<Slot>>(&rt, alloc, 2, text, limited);
+    answers_over_new::<NonZeroInxArray<Slot, 2>>(&rt, alloc, text, limited);
+    answers_over::<NonZeroInxVec<Slot>>(&rt, alloc, 2, text, unlimited);
 }
 
 #[test]
-fn a_session_without_places_refuses_each_insertion(rt: HostRuntime) -> Result<(), Fail> {
+fn a_session_without_places_refuses_each_insertion(rt: HostRuntime) {
     let text = b"insert 5 -\nget 1\n".as_slice();
-    let replies = b"beyond max capacity\nnothing\n".as_slice();
-    replies_over::<NonZeroInxBoxedSlice<Slot>>(&rt, rt.alloc(), Some(0), text, replies)?;
-    replies_over::<NonZeroInxLimitedVec<Slot>>(&rt, rt.alloc(), None, text, replies)?;
+    let lines = b"beyond max capacity\nnothing\n".as_slice();
+    answers_over::<NonZeroInxBoxedSlice<Slot>>(&rt, rt.alloc(), 0, text, lines);
+    answers_over_new::<NonZeroInxLimitedVec<Slot>>(&rt, rt.alloc(), text, lines);
     let refused = Session::<P0, u64, NonZeroInxArray<Slot, 8>>::with_min_capacity(rt.alloc(), 9);
     assert!(rt; refused.is_err());
-    Ok(())
+}
+
+// The commands run, and their replies.
+fn runs<P: Ptr>(
+    rt: &impl Abort,
+    session: &mut Session<P, u64>,
+    commands: &[Command<u64>],
+) -> Vec<Reply<u64>> {
+    match session.run(commands) {
+        Ok(told) => told,
+        Err(_) => panic!(rt; "there is memory"),
+    }
 }
 
 #[test]
-fn a_run_gives_one_reply_for_each_command(rt: HostRuntime) -> Result<(), Fail> {
+fn a_run_gives_one_reply_for_each_command(rt: HostRuntime) {
     let mut session: Session<P0, u64> = Session::new(rt.alloc());
-    assert_eq!(rt; session.arena().len(), 0);
+    assert_eq!(rt; sizes(&session).0, 0);
     let commands = [
         Command::Insert(10, None),
         Command::Insert(20, Some(1)),
@@ -192,7 +233,6 @@ fn a_run_gives_one_reply_for_each_command(rt: HostRuntime) -> Result<(), Fail> {
         Command::Get(2),
         Command::Get(1),
     ];
-    let replies = session.run(&commands)?;
     let expected = [
         Reply::Given(1, false),
         Reply::Given(2, false),
@@ -200,24 +240,22 @@ fn a_run_gives_one_reply_for_each_command(rt: HostRuntime) -> Result<(), Fail> {
         Reply::Found(20, Some(1)),
         Reply::Nothing,
     ];
-    assert!(rt; replies.as_slice() == expected.as_slice());
-    assert_eq!(rt; session.arena().len(), 1);
-    assert!(rt; session.run(&[])?.is_empty());
-    Ok(())
+    assert!(rt; runs(&rt, &mut session, &commands).as_slice() == expected.as_slice());
+    assert_eq!(rt; sizes(&session).0, 1);
+    assert!(rt; runs(&rt, &mut session, &[]).is_empty());
 }
 
 /// The byte counter begins at 2, so the 254th removal wraps it, and what follows isn't run.
 #[test]
-fn a_run_ends_at_a_wrap(rt: HostRuntime) -> Result<(), Fail> {
-    let mut commands = Vec::new(rt.alloc());
+fn a_run_ends_at_a_wrap(rt: HostRuntime) {
+    let mut commands = [Command::Insert(5, None); 510];
     for name in 1..256 {
-        commands.push(Command::Insert(5, None))?;
-        commands.push(Command::Remove(name))?;
+        commands[2 * name - 1] = Command::Remove(name);
     }
     let mut session: Session<B, u64> = Session::new(rt.alloc());
-    let replies = session.run(commands.as_slice())?;
-    assert_eq!(rt; replies.len(), 508);
-    for (position, reply) in replies.iter().enumerate() {
+    let told = runs(&rt, &mut session, &commands);
+    assert_eq!(rt; told.len(), 508);
+    for (position, reply) in told.iter().enumerate() {
         let expected = if position % 2 == 0 {
             Reply::Given(position / 2 + 1, false)
         } else {
@@ -225,37 +263,43 @@ fn a_run_ends_at_a_wrap(rt: HostRuntime) -> Result<(), Fail> {
         };
         assert!(rt; *reply == expected, "at {position}");
     }
-    assert!(rt; session.step(Command::Get(255)) == Reply::Nothing);
-    assert_eq!(rt; session.arena().len(), 0);
-    Ok(())
+    follow(&rt, &mut session, &[(Command::Get(255), Reply::Nothing)]);
+    assert_eq!(rt; sizes(&session).0, 0);
 }
 
-type ByteSlot = ArenaSlot<B, Node<usize, B>>;
+type ByteSlot = ArenaSlot<B, Node<u64, B>>;
 
 /// Fills a session up to the greatest byte index. The next insertion is refused so, and names,
 /// entries, capacity and counter stay, until a removal makes place.
 fn takes_every_index<S: NonZeroInxGenericStack<ByteSlot>>(
     rt: &impl Abort,
-    session: &mut Session<B, usize, S>,
-    refusal: Reply<usize>,
+    session: &mut Session<B, u64, S>,
+    refusal: Reply<u64>,
 ) {
     for name in 1..256 {
-        let reply = session.step(Command::Insert(name, link_before(name)));
-        assert!(rt; reply == Reply::Given(name, false), "at {name}");
+        let command = Command::Insert(name as u64, link_before(name));
+        assert!(rt;
+            replies(session, command, Reply::Given(name, false)),
+            "at {name}"
+        );
     }
-    assert_eq!(rt; session.arena().capacity(), 255);
-    let generation = session.arena().generation();
-    assert!(rt; session.step(Command::Insert(0, None)) == refusal);
-    assert_eq!(rt; session.arena().len(), 255);
-    assert_eq!(rt; session.arena().capacity(), 255);
-    assert!(rt; session.arena().generation() == generation);
+    let before = (sizes(session), generation(session));
+    assert_eq!(rt; before.0, (255, 255));
+    assert!(rt; replies(session, Command::Insert(0, None), refusal));
+    assert!(rt; (sizes(session), generation(session)) == before);
     for name in 1..256 {
-        let reply = session.step(Command::Get(name));
-        assert!(rt; reply == Reply::Found(name, link_before(name)), "at {name}");
+        let reply = Reply::Found(name as u64, link_before(name));
+        assert!(rt; replies(session, Command::Get(name), reply), "at {name}");
     }
-    assert!(rt; session.step(Command::Get(256)) == Reply::Nothing);
-    assert!(rt; session.step(Command::Remove(100)) == Reply::Removed(100, Some(99), false));
-    assert!(rt; session.step(Command::Insert(7, Some(255))) == Reply::Given(256, false));
+    follow(
+        rt,
+        session,
+        &[
+            (Command::Get(256), Reply::Nothing),
+            (Command::Remove(100), Reply::Removed(100, Some(99), false)),
+            (Command::Insert(7, Some(255)), Reply::Given(256, false)),
+        ],
+    );
 }
 
 fn link_before(name: usize) -> Option<usize> {
@@ -265,15 +309,13 @@ fn link_before(name: usize) -> Option<usize> {
 /// Without a limit the 256th insertion wants an index that there is not. A limit at the greatest
 /// index is told first.
 #[test]
-fn an_arena_without_a_free_index_refuses(rt: HostRuntime) -> Result<(), Fail> {
-    let mut session: Session<B, usize> = Session::new(rt.alloc());
+fn an_arena_without_a_free_index_refuses(rt: HostRuntime) {
+    let mut session: Session<B, u64> = Session::new(rt.alloc());
     takes_every_index(&rt, &mut session, Reply::NoMemory);
-    let mut session: Session<B, usize, NonZeroInxLimitedVec<ByteSlot>> = Session::with_min_capacity(
-        rt.alloc(),
-        255,
-    )?;
-    takes_every_index(&rt, &mut session, Reply::BeyondMaxCapacity);
-    let past = Session::<B, usize>::with_min_capacity(rt.alloc(), 256);
+    match Session::<B, u64, NonZeroInxLimitedVec<ByteSlot>>::with_min_capacity(rt.alloc(), 255) {
+        Ok(mut session) => takes_every_index(&rt, &mut session, Reply::BeyondMaxCapacity),
+        Err(_) => panic!(rt; "there is memory"),
+    }
+    let past = Session::<B, u64>::with_min_capacity(rt.alloc(), 256);
     assert!(rt; past.is_err());
-    Ok(())
 }

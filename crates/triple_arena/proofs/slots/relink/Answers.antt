@@ -1,8 +1,8 @@
 use Rattle.std.proofs.Common.{◌≡◌, ◌∙◌, ◌+◌, ◌-◌, length, sym, ap, arith}
 use Rattle.std.specs.Int.NonZero.{non_zero_usize_get}
 use Rattle.triple_arena.specs.Layout.{number_or_zero}
-use Rattle.triple_arena.specs.Numbered.{with_item}
-use Rattle.triple_arena.proofs.NumberedLists.{item_at, with_item_at, length-with_item}
+use Rattle.triple_arena.specs.Items.{with_item}
+use Rattle.triple_arena.proofs.ItemLists.{item_at, with_item_at, length-with_item}
 use Rattle.triple_arena.proofs.Tidying.{LinkedFrom-live, LinkedFrom-free, LinkedFrom-root}
 use Rattle.triple_arena.proofs.slots.relink.Goals.{then-not-is_live, else-not-is_live}
 use Rattle.triple_arena.proofs.slots.relink.Goals as goal

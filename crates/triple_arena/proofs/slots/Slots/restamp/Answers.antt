@@ -1,6 +1,6 @@
 use Rattle.std.proofs.Common.{◌∙◌, sym}
 use Rattle.std.specs.Int.NonZero.{non_zero_usize_get}
-use Rattle.triple_arena.proofs.NumberedLists.{item_at, with_item_at}
+use Rattle.triple_arena.proofs.ItemLists.{item_at, with_item_at}
 use Rattle.triple_arena.proofs.Links.{entry_item, Shows-stamped}
 use Rattle.triple_arena.proofs.slots.Slots.restamp.Goals as goal
 

@@ -1,6 +1,6 @@
 use Rattle.std.proofs.Common.{◌≢◌, ◌∙◌, length, sym, arith}
 use Rattle.std.specs.Int.NonZero.{non_zero_usize_get}
-use Rattle.triple_arena.proofs.NumberedLists.{item_last}
+use Rattle.triple_arena.proofs.ItemLists.{item_last}
 use Rattle.triple_arena.proofs.Links.{entry_item, item_live, live_in, root_not_live, Shows-popped, Shows-freed}
 use Rattle.triple_arena.proofs.slots.Slots.vacate.Goals as goal
 

@@ -1,7 +1,7 @@
 use Rattle.std.proofs.Common.{◌∙◌, sym, refl}
 use Rattle.std.specs.Int.NonZero.{non_zero_usize_get}
 use Rattle.triple_arena.specs.Slot.{with_slot_value}
-use Rattle.triple_arena.proofs.NumberedLists.{item_at, with_item_at}
+use Rattle.triple_arena.proofs.ItemLists.{item_at, with_item_at}
 use Rattle.triple_arena.proofs.Links.{entry_item}
 use Rattle.triple_arena.proofs.slots.Slots.value_mut.Goals as goal
 

@@ -19,5 +19,5 @@ returns-in-Ok-insert g c =
 pub returns-in-Err-insert : goal.returns-in-Err-insert
 returns-in-Err-insert g c =
     let link : link_pointer c.args.self.now.table c.args.link ≡ Some (option_map g.P.Ptr.numbers c.in-Some.link) = sym c.link_pointer.ensures ∙ ap (option_map (option_map g.P.Ptr.numbers)) c.in-Some.is in
-    let full = arena_wants g.P.Ptr.numbers c.self.inside.arena c.self.inside.table.items c.self.inside.table.room c.args.self.now c.self.view_is g.S.NonZeroInxGenericStack.kind g.P.Gen.PtrGen.counting g.P.Gen.PtrGen.greatest c.refusal.ensures.fits (λ place. (c.in-Err-insert.ensures.had_place place).0) c.insert.new.self c.make_room.new.table.items c.make_room.new.table.room c.in-Err-insert.ensures.refused c.in-Ok.ensures.items c.in-Ok.ensures.grown in
+    let full = arena_wants g.P.Ptr.numbers c.self.inside.arena c.self.inside.table.items c.self.inside.table.room c.args.self.now c.self.view_is g.S.NonZeroInxGenericStack.kind g.P.Gen.PtrGen.counting g.P.Gen.PtrGen.greatest g.S.NonZeroInxGenericStack.has_memory _ c.refusal.ensures.greatest c.in-Err-insert.ensures.given c.refusal.ensures.fits (λ place. (c.in-Err-insert.ensures.had_place place).0) c.insert.new.self c.make_room.new.table.items c.make_room.new.table.room c.in-Err-insert.ensures.refused c.in-Ok.ensures.items c.in-Ok.ensures.grown in
     inr ((ap is_some link, sym c.in-None.ensures.why), inr full)

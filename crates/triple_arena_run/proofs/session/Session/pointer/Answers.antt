@@ -1,5 +1,5 @@
 use Rattle.std.proofs.Common.{ap, ◌∙◌, arith}
-use Rattle.triple_arena.specs.Numbered.{item}
+use Rattle.triple_arena.specs.Items.{item}
 use Rattle.triple_arena_run.proofs.Mapped.{item_read}
 use Rattle.triple_arena_run.proofs.session.Session.pointer.Goals as goal
 

@@ -1,6 +1,6 @@
 use Rattle.std.proofs.Common.{◌≡◌, Some, is_some, ap, sym, ◌∙◌}
 use Rattle.std.specs.Option.{option_map}
-use Rattle.triple_arena.specs.Numbered.{item}
+use Rattle.triple_arena.specs.Items.{item}
 use Rattle.triple_arena.specs.ArenaState.{look_up}
 use Rattle.triple_arena_ptr.specs.Numbers.{wraps}
 use Rattle.triple_arena_run.proofs.Mapped.{row_removed, row_not_removed, told_success, told_overflow, told_invalid}

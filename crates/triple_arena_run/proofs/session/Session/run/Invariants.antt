@@ -5,7 +5,7 @@ use Rattle.triple_arena_run.proofs.session.Session.run.Given as goal
 
 abbrev pub invariant-commands : goal.invariant-commands
 invariant-commands g l = record {
-  ran : IsRun (IsStep g.S.NonZeroInxGenericStack.kind g.P.Gen.PtrGen.counting g.P.Gen.PtrGen.greatest) l.initial.self (take l.command-index l.commands) l.replies.items l.self;
+  ran : IsRun (IsStep g.S.NonZeroInxGenericStack.kind g.S.NonZeroInxGenericStack.has_memory g.P.Gen.PtrGen.counting g.P.Gen.PtrGen.greatest) l.initial.self (take l.command-index l.commands) l.replies.items l.self;
   told : TellsOfNoWrap l.replies.items;
   count : length l.replies.items ≡ l.command-index;
   room : length l.commands ≤ vec_capacity l.replies;

@@ -1,0 +1,5 @@
+//! Tests of stacks by public calls.
+#![tactic(auto)]
+
+#[cfg(test)]
+mod tests;

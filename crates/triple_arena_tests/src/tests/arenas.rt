@@ -1,0 +1,54 @@
+//! New arenas over each stack.
+
+use super::token::Token;
+use crate::Scarce;
+use std::alloc::Global;
+use std::process::Abort;
+use triple_arena::{Arena, ArenaSlot, ArenaTrait};
+use triple_arena_base::AllocError;
+use triple_arena_ptr::Ptr;
+use triple_arena_stack::{
+    NonZeroInxArray, NonZeroInxBoxedSlice, NonZeroInxGenericStack, NonZeroInxLimitedVec,
+    NonZeroInxVec,
+};
+
+pub type Heap<P> = NonZeroInxVec<ArenaSlot<P, Token>>;
+
+pub type Limited<P> = NonZeroInxLimitedVec<ArenaSlot<P, Token>>;
+
+pub type Fixed<P> = NonZeroInxBoxedSlice<ArenaSlot<P, Token>>;
+
+pub type Places<P, const N: usize> = NonZeroInxArray<ArenaSlot<P, Token>, N>;
+
+pub type Little<P, const N: usize> = Scarce<ArenaSlot<P, Token>, N>;
+
+/// An arena as `new` makes it.
+pub fn new_arena<P: Ptr, S: NonZeroInxGenericStack<ArenaSlot<P, Token>>>(
+    alloc: Global,
+) -> Arena<P, Token, S> {
+    Arena::new(alloc)
+}
+
+/// An arena with this room, which there is memory for.
+pub fn with_room<P: Ptr, S: NonZeroInxGenericStack<ArenaSlot<P, Token>>>(
+    rt: &impl Abort,
+    alloc: Global,
+    room: usize,
+) -> Arena<P, Token, S> {
+    match Arena::with_min_capacity(alloc, room) {
+        Ok(arena) => arena,
+        Err(AllocError) => panic!(rt; "no memory for {room}"),
+    }
+}
+
+/// The capacity of an arena that is made with this room.
+pub fn capacity_made<P: Ptr, S: NonZeroInxGenericStack<ArenaSlot<P, Token>> + Drop>(
+    alloc: Global,
+    room: usize,
+) -> Result<usize, AllocError> {
+    let made: Result<Arena<P, Token, S>, AllocError> = Arena::with_min_capacity(alloc, room);
+    match made {
+        Ok(arena) => Ok(arena.capacity()),
+        Err(refused) => Err(refused),
+    }
+}

@@ -1,0 +1,113 @@
+//! Two values at once, by pointers and by indexes: callers that are proved over any arena that
+//! lends two, and what they answer.
+
+ghost use Rattle.std.specs.Prelude.{◌≡◌, ℕ, Some, OnOk, OnErr};
+ghost use Rattle.triple_arena.specs.Entries.{entry_in, look_up_in};
+ghost use Rattle.triple_arena.specs.Disjoint.{DisjointPtrAnswer, DisjointInxAnswer};
+
+use super::numbered::Numbered;
+use super::token::Token;
+use super::told::Told;
+use std::mem;
+use triple_arena::DisjointableArenaTrait;
+use triple_arena_base::GetDisjointMutError;
+use triple_arena_ptr::{Ptr, PtrGen, PtrInx};
+
+// Exchanges the values under two pointers of any arena.
+fn exchange_two<P: Ptr, T, A: DisjointableArenaTrait<P, T>>(
+    arena: &mut A,
+    first: P,
+    second: P,
+) -> Result<(), GetDisjointMutError>
+    ensures variant { DisjointPtrAnswer (A.slots arena.old)
+        (P.numbers first) (P.numbers second) result }
+    ensures refused { OnErr result (arena.new ≡ arena.old) }
+    ensures swapped { (x y : T)
+        → look_up_in (A.slots arena.old) (P.numbers first) ≡ Some x
+        → look_up_in (A.slots arena.old) (P.numbers second) ≡ Some y
+        → OnOk result (arena.new ≡ A.with_value
+        (A.with_value arena.old (P.numbers first).0 y) (P.numbers second).0 x) }
+{
+    arena.with_disjoint_mut(first, second, |a, b| mem::swap(a, b))
+}
+
+// Exchanges the values at two indexes of any arena.
+fn exchange_two_inx<P: Ptr, T, A: DisjointableArenaTrait<P, T>>(
+    arena: &mut A,
+    first: P::Inx,
+    second: P::Inx,
+) -> Result<(), GetDisjointMutError>
+    ensures variant { DisjointInxAnswer (A.slots arena.old)
+        (P.Inx.number first) (P.Inx.number second) result }
+    ensures refused { OnErr result (arena.new ≡ arena.old) }
+    ensures swapped { (g h : ℕ) (x y : T)
+        → entry_in (A.slots arena.old) (P.Inx.number first) ≡ Some (g, x)
+        → entry_in (A.slots arena.old) (P.Inx.number second) ≡ Some (h, y)
+        → OnOk result (arena.new ≡ A.with_value
+        (A.with_value arena.old (P.Inx.number first) y) (P.Inx.number second) x) }
+{
+    arena.with_disjoint_inx_mut(first, second, |_, a, _, b| mem::swap(a, b))
+}
+
+/// Exchanges the values under two pointers.
+pub fn swap<P: Ptr, A: DisjointableArenaTrait<P, Token>>(
+    arena: &mut A,
+    first: P,
+    second: P,
+) -> Told {
+    match exchange_two(arena, first, second) {
+        Ok(()) => Told::Done,
+        Err(refused) => Told::Apart(refused),
+    }
+}
+
+/// Exchanges the values at two indexes.
+pub fn swap_inx<P: Ptr, A: DisjointableArenaTrait<P, Token>>(
+    arena: &mut A,
+    first: P::Inx,
+    second: P::Inx,
+) -> Told {
+    match exchange_two_inx(arena, first, second) {
+        Ok(()) => Told::Done,
+        Err(refused) => Told::Apart(refused),
+    }
+}
+
+/// Writes a number under the first of two pointers, and answers those that stood under both.
+pub fn lend<P: Ptr, A: DisjointableArenaTrait<P, Token>>(
+    arena: &mut A,
+    first: P,
+    second: P,
+    number: u64,
+) -> Told {
+    let found = arena.with_disjoint_mut(first, second, |a, b| {
+        let found = (a.number, b.number);
+        a.number = number;
+        found
+    });
+    match found {
+        Ok((a, b)) => Told::Both(a, b),
+        Err(refused) => Told::Apart(refused),
+    }
+}
+
+/// Writes a value at the second of two indexes, and answers the entries that stood at both.
+pub fn lend_inx<P: Ptr, A: DisjointableArenaTrait<P, Token>>(
+    arena: &mut A,
+    first: P::Inx,
+    second: P::Inx,
+    number: u64,
+) -> Told
+where
+    P::Gen: Numbered,
+{
+    let found = arena.with_disjoint_inx_mut(first, second, |g, a, h, b| {
+        let found = (g, a.number, h, b.number);
+        *b = Token { number };
+        found
+    });
+    match found {
+        Ok((g, a, h, b)) => Told::BothHeld(g.told_number(), a, h.told_number(), b),
+        Err(refused) => Told::Apart(refused),
+    }
+}

@@ -1,0 +1,143 @@
+//! All that an arena shows of itself, to compare before and after a call.
+
+use super::numbered::{Numbered, index_number};
+use super::token::Token;
+use std::num::NonZeroUsize;
+use std::process::Abort;
+use triple_arena::{Arena, ArenaSlot, ArenaTrait};
+use triple_arena_ptr::{Ptr, PtrInx};
+use triple_arena_stack::NonZeroInxGenericStack;
+
+/// How many slots of an arena are shown.
+pub const SLOTS: usize = 256;
+
+/// The whole state of an arena of no more than `SLOTS` slots.
+#[derive(Debug, Drop, PartialEq)]
+pub struct State {
+    pub len: usize,
+    pub capacity: usize,
+    pub limit: Option<usize>,
+    pub counter: u64,
+    pub slots: usize,
+    // by index from 1, the numbers of the generation and of the value of the entry
+    pub entries: [Option<(u64, u64)>; SLOTS],
+    // the free indexes in the order in which insertion takes them, and then 0
+    pub free: [usize; SLOTS],
+}
+
+/// The state of `arena`.
+pub fn state_of<P: Ptr, S: NonZeroInxGenericStack<ArenaSlot<P, Token>>>(
+    rt: &impl Abort,
+    arena: &Arena<P, Token, S>,
+) -> State
+where
+    P::Gen: Numbered,
+{
+    assert!(rt; arena.backing().len() <= SLOTS);
+    State {
+        len: arena.len(),
+        capacity: arena.capacity(),
+        limit: arena.max_capacity(),
+        counter: arena.generation().told_number(),
+        slots: arena.backing().len(),
+        entries: entries_in(arena.backing().as_slice()),
+        free: free_in(arena.backing().as_slice(), first_free(arena)),
+    }
+}
+
+/// Ends the test unless the state of `arena` is this one.
+pub fn assert_state<P: Ptr, S: NonZeroInxGenericStack<ArenaSlot<P, Token>>>(
+    rt: &impl Abort,
+    arena: &Arena<P, Token, S>,
+    expected: &State,
+)
+where
+    P::Gen: Numbered,
+{
+    assert_eq!(rt; state_of(rt, arena), *expected);
+}
+
+// The first free index, if any is free.
+fn first_free<P: Ptr, S: NonZeroInxGenericStack<ArenaSlot<P, Token>>>(
+    arena: &Arena<P, Token, S>,
+) -> Option<NonZeroUsize> {
+    P::Inx::try_into_usize(arena.freelist_root()?)
+}
+
+// The numbers of the generation and of the value of the entry in a slot, if there is one.
+fn entry_in<P: Ptr>(slot: &ArenaSlot<P, Token>) -> Option<(u64, u64)>
+where
+    P::Gen: Numbered,
+{
+    match slot {
+        ArenaSlot::Allocated(generation, token) => Some((generation.told_number(), token.number)),
+        ArenaSlot::Free(_) => None,
+    }
+}
+
+// The entries of these slots.
+fn entries_in<P: Ptr>(slots: &[ArenaSlot<P, Token>]) -> [Option<(u64, u64)>; SLOTS]
+where
+    P::Gen: Numbered,
+{
+    let mut entries = [None; SLOTS];
+    for at in 0..SLOTS {
+        entries[at] = match slots.get(at) {
+            Some(slot) => entry_in(slot),
+            None => None,
+        };
+    }
+    entries
+}
+
+// The free index after one.
+fn free_after<P: Ptr>(slots: &[ArenaSlot<P, Token>], inx: NonZeroUsize) -> Option<NonZeroUsize> {
+    match slots.get(inx.get() - 1) {
+        Some(ArenaSlot::Free(link)) => link.after(inx),
+        _ => None,
+    }
+}
+
+// The free indexes of these slots from the first on.
+fn free_in<P: Ptr>(slots: &[ArenaSlot<P, Token>], first: Option<NonZeroUsize>) -> [usize; SLOTS] {
+    let mut free = [0; SLOTS];
+    let mut next = first;
+    for place in 0..SLOTS {
+        if let Some(inx) = next {
+            free[place] = inx.get();
+            next = free_after(slots, inx);
+        }
+    }
+    free
+}
+
+impl State {
+    /// The first three places of the free list.
+    pub fn first_free(&self) -> [usize; 3] {
+        [self.free[0], self.free[1], self.free[2]]
+    }
+
+    /// The same without free slots past the last entry, and with the other free indexes in rising
+    /// order.
+    pub fn in_order(self) -> Self {
+        let mut slots = 0;
+        for at in 0..SLOTS {
+            if self.entries[at].is_some() {
+                slots = at + 1;
+            }
+        }
+        let mut free = [0; SLOTS];
+        let mut place = 0;
+        for at in 0..SLOTS {
+            if at < slots && self.entries[at].is_none() && place < SLOTS {
+                free[place] = at + 1;
+                place += 1;
+            }
+        }
+        State {
+            slots,
+            free,
+            ..self
+        }
+    }
+}

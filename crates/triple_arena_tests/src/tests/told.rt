@@ -1,0 +1,166 @@
+//! What a call answers, by numbers.
+
+use super::numbered::{Numbered, index_number};
+use super::token::Token;
+use triple_arena_base::{
+    GetDisjointMutError, InvalidationOption, InvalidationResult, NotWithinCapacityError,
+    ReallocationError,
+};
+use triple_arena_ptr::Ptr;
+
+/// What a call answers: a pointer by the numbers of its index and its generation, a value by its
+/// number.
+#[derive(Clone, Copy, Debug, PartialEq)]
+pub enum Told {
+    /// It was done, and gives nothing.
+    Done,
+    /// It gives none.
+    Nothing,
+    /// The pointer or the index has no entry.
+    Invalid,
+    Is(bool),
+    Size(usize),
+    /// Length, capacity and limit.
+    Bounds(usize, usize, Option<usize>),
+    Generation(u64),
+    /// A pointer.
+    At(usize, u64),
+    /// A value.
+    Holds(u64),
+    /// A generation and a value.
+    Held(u64, u64),
+    /// Two values.
+    Both(u64, u64),
+    /// Two generations, each before its value.
+    BothHeld(u64, u64, u64, u64),
+    /// A value that is given back.
+    GivenBack(u64),
+    // The same where the counter wrapped.
+    Wrapped,
+    WrappedAt(usize, u64),
+    WrappedHolds(u64),
+    WrappedHeld(u64, u64),
+    /// There is no place within the capacity.
+    Full,
+    Refused(ReallocationError),
+    /// The limit is below the last entry.
+    LimitRefused,
+    /// Two values can't be lent.
+    Apart(GetDisjointMutError),
+}
+
+// The number under which a type of generations tells the generation of this number.
+fn told_as<G: Numbered>(number: u64) -> u64 {
+    match G::of_number(number) {
+        Some(generation) => generation.told_number(),
+        None => number,
+    }
+}
+
+impl Told {
+    /// The same on pointers whose generations are of the type `G`.
+    pub fn at_type<G: Numbered>(self) -> Told {
+        match self {
+            Told::Generation(g) => Told::Generation(told_as::<G>(g)),
+            Told::At(index, g) => Told::At(index, told_as::<G>(g)),
+            Told::Held(g, number) => Told::Held(told_as::<G>(g), number),
+            Told::BothHeld(g, a, h, b) => Told::BothHeld(told_as::<G>(g), a, told_as::<G>(h), b),
+            Told::WrappedAt(index, g) => Told::WrappedAt(index, told_as::<G>(g)),
+            Told::WrappedHeld(g, number) => Told::WrappedHeld(told_as::<G>(g), number),
+            told => told,
+        }
+    }
+}
+
+/// A pointer.
+pub fn told_pointer<P: Ptr>(p: P) -> Told
+where
+    P::Gen: Numbered,
+{
+    Told::At(index_number(p.inx()), p.generation().told_number())
+}
+
+/// A pointer, if there is one.
+pub fn told_found<P: Ptr>(p: Option<P>) -> Told
+where
+    P::Gen: Numbered,
+{
+    match p {
+        Some(p) => told_pointer(p),
+        None => Told::Nothing,
+    }
+}
+
+/// The pointer of a new entry, or what refused it.
+pub fn told_inserted<P: Ptr>(inserted: Result<P, ReallocationError>) -> Told
+where
+    P::Gen: Numbered,
+{
+    match inserted {
+        Ok(p) => told_pointer(p),
+        Err(refused) => Told::Refused(refused),
+    }
+}
+
+/// The pointer of a new entry, or that there was no place.
+pub fn told_within<P: Ptr>(inserted: Result<P, NotWithinCapacityError>) -> Told
+where
+    P::Gen: Numbered,
+{
+    match inserted {
+        Ok(p) => told_pointer(p),
+        Err(NotWithinCapacityError) => Told::Full,
+    }
+}
+
+/// A value that was taken out.
+pub fn told_taken(taken: InvalidationResult<Token>) -> Told {
+    match taken {
+        InvalidationResult::Success(token) => Told::Holds(token.number),
+        InvalidationResult::GenerationOverflow(token) => Told::WrappedHolds(token.number),
+        InvalidationResult::InvalidPtr => Told::Invalid,
+    }
+}
+
+/// A generation and a value that were taken out.
+pub fn told_entry<G: Numbered>(taken: InvalidationResult<(G, Token)>) -> Told {
+    match taken {
+        InvalidationResult::Success((generation, token)) => {
+            Told::Held(generation.told_number(), token.number)
+        }
+        InvalidationResult::GenerationOverflow((generation, token)) => {
+            Told::WrappedHeld(generation.told_number(), token.number)
+        }
+        InvalidationResult::InvalidPtr => Told::Invalid,
+    }
+}
+
+/// A pointer that was renewed.
+pub fn told_renewed<P: Ptr>(renewed: InvalidationResult<P>) -> Told
+where
+    P::Gen: Numbered,
+{
+    match renewed {
+        InvalidationResult::Success(p) => told_pointer(p),
+        InvalidationResult::GenerationOverflow(p) => {
+            Told::WrappedAt(index_number(p.inx()), p.generation().told_number())
+        }
+        InvalidationResult::InvalidPtr => Told::Invalid,
+    }
+}
+
+/// Whether the counter wrapped.
+pub fn told_raise(raised: InvalidationOption<()>) -> Told {
+    match raised {
+        InvalidationOption::Success(()) => Told::Done,
+        InvalidationOption::GenerationOverflow(()) => Told::Wrapped,
+    }
+}
+
+/// A generation, if there is one.
+pub fn told_generation<G: Numbered>(generation: Option<G>) -> Told {
+    match generation {
+        Some(generation) => Told::Generation(generation.told_number()),
+        None => Told::Nothing,
+    }
+}

@@ -1,0 +1,320 @@
+//! Worked sequences of calls.
+
+use super::arenas::{Heap, Limited, capacity_made, new_arena};
+use super::tables::{Call, follow};
+use super::token::Token;
+use super::told::Told;
+use std::alloc::Global;
+use std::process::Abort;
+use triple_arena::ArenaSlot;
+use triple_arena_base::{AllocError, ReallocationError};
+use triple_arena_ptr::{P0, P4, P5};
+
+// Makes each call on an arena without slots, and expects its answer.
+fn from_empty(rt: &impl Abort, alloc: Global, steps: &[(Call, Told)]) {
+    let mut arena = new_arena::<P0, Heap<P0>>(alloc);
+    follow(rt, &mut arena, steps);
+}
+
+#[test]
+fn a_removed_pointer_finds_nothing_again(rt: HostRuntime) {
+    from_empty(
+        &rt,
+        rt.alloc(),
+        &[
+            (Call::Insert(1), Told::At(1, 2)),
+            (Call::Insert(2), Told::At(2, 2)),
+            (Call::Remove(1, 2), Told::Holds(1)),
+            (Call::Get(1, 2), Told::Nothing),
+            (Call::Remove(1, 2), Told::Invalid),
+            (Call::Insert(3), Told::At(1, 3)),
+            (Call::Contains(1, 2), Told::Is(false)),
+            (Call::Get(1, 3), Told::Holds(3)),
+            (Call::Get(2, 2), Told::Holds(2)),
+        ],
+    );
+}
+
+#[test]
+fn a_removal_at_the_end_pops_the_slot(rt: HostRuntime) {
+    from_empty(
+        &rt,
+        rt.alloc(),
+        &[
+            (Call::Insert(1), Told::At(1, 2)),
+            (Call::Root, Told::Nothing),
+            (Call::Insert(2), Told::At(2, 2)),
+            (Call::Root, Told::Nothing),
+            (Call::Remove(2, 2), Told::Holds(2)),
+            (Call::Root, Told::Nothing),
+            (Call::Slots, Told::Size(1)),
+            (Call::Insert(3), Told::At(2, 3)),
+            (Call::Root, Told::Nothing),
+        ],
+    );
+}
+
+#[test]
+fn a_new_limited_arena_takes_no_entry(rt: HostRuntime) {
+    let mut arena = new_arena::<P0, Limited<P0>>(rt.alloc());
+    let beyond = Told::Refused(ReallocationError::BeyondMaxCapacity);
+    follow(
+        &rt,
+        &mut arena,
+        &[
+            (Call::Insert(1), beyond),
+            (Call::Bounds, Told::Bounds(0, 0, Some(0))),
+        ],
+    );
+}
+
+#[test]
+fn clearing_raises_the_counter_once(rt: HostRuntime) {
+    from_empty(
+        &rt,
+        rt.alloc(),
+        &[
+            (Call::Clear, Told::Done),
+            (Call::Generation, Told::Generation(2)),
+            (Call::Insert(1), Told::At(1, 2)),
+            (Call::Insert(2), Told::At(2, 2)),
+            (Call::Clear, Told::Done),
+            (Call::Generation, Told::Generation(3)),
+            (Call::Bounds, Told::Bounds(0, 4, None)),
+            (Call::Slots, Told::Size(0)),
+            (Call::Insert(3), Told::At(1, 3)),
+        ],
+    );
+}
+
+#[test]
+fn clearing_forgets_the_free_indexes(rt: HostRuntime) {
+    from_empty(
+        &rt,
+        rt.alloc(),
+        &[
+            (Call::Insert(1), Told::At(1, 2)),
+            (Call::Insert(2), Told::At(2, 2)),
+            (Call::Insert(3), Told::At(3, 2)),
+            (Call::RemoveInx(1), Told::Held(2, 1)),
+            (Call::Root, Told::Size(1)),
+            (Call::Clear, Told::Done),
+            (Call::Root, Told::Nothing),
+            (Call::Insert(4), Told::At(1, 4)),
+            (Call::Insert(5), Told::At(2, 4)),
+        ],
+    );
+}
+
+#[test]
+fn an_invalidated_pointer_finds_nothing(rt: HostRuntime) {
+    from_empty(
+        &rt,
+        rt.alloc(),
+        &[
+            (Call::Insert(1), Told::At(1, 2)),
+            (Call::Invalidate(1, 2), Told::At(1, 3)),
+            (Call::Get(1, 2), Told::Nothing),
+            (Call::Invalidate(1, 2), Told::Invalid),
+            (Call::Get(1, 3), Told::Holds(1)),
+            (Call::Insert(2), Told::At(2, 3)),
+        ],
+    );
+}
+
+// Five entries, of which the first and then the third are removed.
+fn with_two_free(rt: &impl Abort, alloc: Global, steps: &[(Call, Told)]) {
+    let mut arena = new_arena::<P0, Heap<P0>>(alloc);
+    follow(
+        rt,
+        &mut arena,
+        &[
+            (Call::Insert(1), Told::At(1, 2)),
+            (Call::Insert(2), Told::At(2, 2)),
+            (Call::Insert(3), Told::At(3, 2)),
+            (Call::Insert(4), Told::At(4, 2)),
+            (Call::Insert(5), Told::At(5, 2)),
+            (Call::Remove(1, 2), Told::Holds(1)),
+            (Call::Remove(3, 2), Told::Holds(3)),
+        ],
+    );
+    follow(rt, &mut arena, steps);
+}
+
+#[test]
+fn insertion_takes_the_index_that_was_freed_last(rt: HostRuntime) {
+    with_two_free(
+        &rt,
+        rt.alloc(),
+        &[
+            (Call::Root, Told::Size(3)),
+            (Call::Insert(6), Told::At(3, 4)),
+            (Call::Root, Told::Size(1)),
+            (Call::Insert(7), Told::At(1, 4)),
+            (Call::Root, Told::Nothing),
+            (Call::Insert(8), Told::At(6, 4)),
+        ],
+    );
+}
+
+#[test]
+fn in_order_the_least_free_index_comes_first(rt: HostRuntime) {
+    with_two_free(
+        &rt,
+        rt.alloc(),
+        &[
+            (Call::Canonicalize, Told::Done),
+            (Call::Root, Told::Size(1)),
+            (Call::Insert(6), Told::At(1, 4)),
+            (Call::Insert(7), Told::At(3, 4)),
+            (Call::Insert(8), Told::At(6, 4)),
+        ],
+    );
+}
+
+#[test]
+fn reallocation_gives_up_the_free_end_slots(rt: HostRuntime) {
+    from_empty(
+        &rt,
+        rt.alloc(),
+        &[
+            (Call::Insert(1), Told::At(1, 2)),
+            (Call::Insert(2), Told::At(2, 2)),
+            (Call::Insert(3), Told::At(3, 2)),
+            (Call::Insert(4), Told::At(4, 2)),
+            (Call::Insert(5), Told::At(5, 2)),
+            (Call::RemoveInx(2), Told::Held(2, 2)),
+            (Call::RemoveInx(4), Told::Held(2, 4)),
+            (Call::RemoveInx(5), Told::Held(2, 5)),
+            (Call::Slots, Told::Size(4)),
+            (Call::Reallocate(0), Told::Done),
+            (Call::Slots, Told::Size(3)),
+            (Call::Bounds, Told::Bounds(2, 3, None)),
+            (Call::Insert(6), Told::At(2, 5)),
+            (Call::Insert(7), Told::At(4, 5)),
+            (Call::Bounds, Told::Bounds(4, 6, None)),
+        ],
+    );
+}
+
+#[test]
+fn the_first_and_the_last_entry(rt: HostRuntime) {
+    from_empty(
+        &rt,
+        rt.alloc(),
+        &[
+            (Call::First, Told::Nothing),
+            (Call::Last, Told::Nothing),
+            (Call::Insert(1), Told::At(1, 2)),
+            (Call::Insert(2), Told::At(2, 2)),
+            (Call::Insert(3), Told::At(3, 2)),
+            (Call::Insert(4), Told::At(4, 2)),
+            (Call::Insert(5), Told::At(5, 2)),
+            (Call::Remove(1, 2), Told::Holds(1)),
+            (Call::Remove(4, 2), Told::Holds(4)),
+            (Call::Remove(5, 2), Told::Holds(5)),
+            (Call::First, Told::At(2, 2)),
+            (Call::Last, Told::At(3, 2)),
+        ],
+    );
+}
+
+#[test]
+fn the_counter_can_be_set_and_raised(rt: HostRuntime) {
+    from_empty(
+        &rt,
+        rt.alloc(),
+        &[
+            (Call::SetGeneration(u64::MAX), Told::Done),
+            (Call::SingularGeneration, Told::Generation(u64::MAX)),
+            (Call::Insert(1), Told::At(1, u64::MAX)),
+            (Call::IncGeneration, Told::Wrapped),
+            (Call::Generation, Told::Generation(2)),
+            (Call::IncGeneration, Told::Done),
+            (Call::Insert(2), Told::At(2, 3)),
+        ],
+    );
+}
+
+#[test]
+fn an_index_past_the_slots_has_no_entry(rt: HostRuntime) {
+    from_empty(
+        &rt,
+        rt.alloc(),
+        &[
+            (Call::Insert(1), Told::At(1, 2)),
+            (Call::GetInx(usize::MAX), Told::Nothing),
+            (Call::GetInxMut(usize::MAX), Told::Nothing),
+            (Call::GenerationAt(usize::MAX), Told::Nothing),
+            (Call::RemoveInx(usize::MAX), Told::Invalid),
+            (Call::GetInx(2), Told::Nothing),
+            (Call::GetInxMut(2), Told::Nothing),
+            (Call::GenerationAt(2), Told::Nothing),
+            (Call::RemoveInx(2), Told::Invalid),
+            // the invalid pointer
+            (Call::Remove(usize::MAX, 1), Told::Invalid),
+            (Call::Get(1, 2), Told::Holds(1)),
+        ],
+    );
+}
+
+#[test]
+fn a_byte_index_ends_at_255(rt: HostRuntime) {
+    let mut arena = new_arena::<P5, Heap<P5>>(rt.alloc());
+    for number in 1..256 {
+        let capacity = match number {
+            1..=4 => 4,
+            5..=8 => 8,
+            9..=16 => 16,
+            17..=32 => 32,
+            33..=64 => 64,
+            65..=128 => 128,
+            _ => 255,
+        };
+        follow(
+            &rt,
+            &mut arena,
+            &[
+                (Call::Insert(number as u64), Told::At(number, 1)),
+                (Call::Bounds, Told::Bounds(number, capacity, None)),
+            ],
+        );
+    }
+    let refused = Told::Refused(ReallocationError::AllocError);
+    let full = (Call::Bounds, Told::Bounds(255, 255, None));
+    follow(&rt, &mut arena, &[(Call::Insert(256), refused), full]);
+    for number in 1..256 {
+        follow(
+            &rt,
+            &mut arena,
+            &[(Call::Get(number, 1), Told::Holds(number as u64))],
+        );
+    }
+    follow(&rt, &mut arena, &[(Call::Reallocate(256), refused), full]);
+    let made = capacity_made::<P5, Heap<P5>>(rt.alloc(), 256);
+    assert_eq!(rt; made, Err(AllocError));
+    let made = capacity_made::<P5, Heap<P5>>(rt.alloc(), 255);
+    assert_eq!(rt; made, Ok(255));
+}
+
+#[test]
+fn without_generations_an_invalidated_pointer_stays_valid(rt: HostRuntime) {
+    let mut arena = new_arena::<P4, Heap<P4>>(rt.alloc());
+    follow(
+        &rt,
+        &mut arena,
+        &[
+            (Call::Insert(1), Told::At(1, 1)),
+            (Call::Invalidate(1, 1), Told::At(1, 1)),
+            (Call::Get(1, 1), Told::Holds(1)),
+            (Call::IncGeneration, Told::Done),
+            (Call::Clear, Told::Done),
+        ],
+    );
+}
+
+#[test]
+fn a_default_slot_is_free(rt: HostRuntime) {
+    let slot: ArenaSlot<P0, Token> = ArenaSlot::default();
+    assert!(rt; matches!(slot, ArenaSlot::Free(_)));
+}

@@ -1,4 +1,5 @@
-//! Insertion, reading, churn and clearing of an arena and of a plain vector with free indexes.
+//! Insertion, reading, churn and clearing of an arena, with the pointer of general use and with the
+//! small one, and of a plain vector with free indexes.
 
 mod plain;
 mod random;
@@ -12,6 +13,7 @@ use std::time::{Clock, Duration, Instant};
 use table::Table;
 use triple_arena::Arena;
 use triple_arena_ptr::P0;
+use triple_arena_uses::SmallPtr;
 
 const RUNS: usize = 5;
 
@@ -59,6 +61,12 @@ pub fn run(rt: &(impl Print + Clock), alloc: Global, size: u32) -> anyhow::Resul
         "arena",
         size,
         time::<_, Arena<P0, u64>>(rt, alloc, size)?,
+    )?;
+    print(
+        rt,
+        "small",
+        size,
+        time::<_, Arena<SmallPtr, u64>>(rt, alloc, size)?,
     )?;
     print(rt, "vector", size, time::<_, Plain>(rt, alloc, size)?)
 }

@@ -39,6 +39,8 @@ impl<T, S: NonZeroInxGenericStack<T>> NonZeroInxGenericStack<T> for CountingStac
 
     ghost kind = { S.kind };
 
+    ghost has_memory = { S.has_memory };
+
     ghost with_items = { S.with_items };
 
     fn new(alloc: Global) -> Self {

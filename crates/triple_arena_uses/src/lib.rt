@@ -3,12 +3,15 @@
 
 pub mod beside;
 pub mod counting_stack;
+pub mod entity_table;
+pub mod first_arena;
 pub mod graph;
 pub mod links;
 pub mod small_ptr;
 pub mod undo;
 
 pub use counting_stack::CountingStack;
+pub use entity_table::{Entity, EntityTable};
 pub use graph::{Graph, Node};
 pub use links::Link;
 pub use small_ptr::SmallPtr;

@@ -1,6 +1,5 @@
 //! A type of one's own that holds pointers, and follows them where they are renamed.
 
-ghost use Rattle.std.specs.Prelude.{◌≡◌};
 ghost use Rattle.std.proofs.Common.{ap};
 ghost use Rattle.triple_arena_base.specs.Held.{held_itself, refill_itself, held_option, refill_option};
 ghost use Rattle.triple_arena_base.specs.HeldLaws.{itself_held_refill, itself_refill_held, itself_refill_refill, option_held_refill, option_refill_held, option_refill_refill};
@@ -9,7 +8,7 @@ use triple_arena_base::{Recast, Recaster};
 use triple_arena_ptr::P0;
 
 /// A link with a weight, which may lead nowhere.
-#[derive(Clone, Copy, PartialEq, Eq, Debug, Drop)]
+#[derive(Clone, Copy, PartialEq, Eq, Debug)]
 pub struct Link {
     pub weight: u32,
     pub target: Option<P0>,

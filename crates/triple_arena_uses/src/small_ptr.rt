@@ -11,11 +11,11 @@ use std::fmt;
 use std::marker::Model;
 use std::num::NonZeroU32;
 use triple_arena_base::{Recast, Recaster};
-use triple_arena_ptr::{Ptr, PtrGen, PtrInx, fmt_pointer};
+use triple_arena_ptr::{Ptr, PtrGen, PtrInx, fmt_pointer, non_zero_u32};
 
 /// The small pointer: a 32-bit index and a 32-bit generation, in 8 bytes where `P0` has 16.
 ///
-/// It fits an arena of at most 2^32 - 1 entries; its counter wraps after as many ends of entries.
+/// Both go up to 2^32 - 1: an arena has at most so many entries, and its counter wraps sooner.
 #[derive(Hash, Clone, Copy, PartialEq, Eq, PartialOrd, Ord)]
 pub struct SmallPtr {
     // In this order the derived order goes by index first.
@@ -49,6 +49,8 @@ impl Ptr for SmallPtr {
 
     ghost generation_of = { λ p. u32_after p.1 };
 
+    ghost numbers = { λ p. (suc p.0, suc p.1) };
+
     ghost type_name = { codes "SmallPtr" };
 
     fn name() -> &'static str {
@@ -61,12 +63,12 @@ impl Ptr for SmallPtr {
 
     #[tactic(auto, using(triple_arena_ptr::specs::NonZeroValues::u32_is_after))]
     fn inx(self) -> NonZeroU32 {
-        NonZeroU32::new(self._internal_inx).unwrap()
+        non_zero_u32(self._internal_inx)
     }
 
     #[tactic(auto, using(triple_arena_ptr::specs::NonZeroValues::u32_is_after))]
     fn generation(self) -> NonZeroU32 {
-        NonZeroU32::new(self._internal_gen).unwrap()
+        non_zero_u32(self._internal_gen)
     }
 
     #[tactic(auto, using(triple_arena_ptr::specs::NonZeroValues::u32_after_before))]
@@ -76,6 +78,8 @@ impl Ptr for SmallPtr {
             _internal_gen: generation.get(),
         }
     }
+
+    ghost numbers_of = { λ _. refl };
 
     ghost distinct = { λ p q i g. same_pair p q
         (u32_after_cancels p.0 q.0 i) (u32_after_cancels p.1 q.1 g) };
@@ -87,6 +91,10 @@ impl Ptr for SmallPtr {
     ghost holds_itself = { λ _. refl };
 
     ghost refills = { λ _ _. refl };
+
+    ghost clones = { λ _ _ e. e };
+
+    ghost clones_always = { λ _. tt };
 }
 
 impl Default for SmallPtr {

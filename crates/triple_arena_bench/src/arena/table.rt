@@ -3,7 +3,7 @@
 use std::alloc::Global;
 use triple_arena::{Arena, ArenaInsertTrait, ArenaTrait};
 use triple_arena_base::ReallocationError;
-use triple_arena_ptr::P0;
+use triple_arena_ptr::Ptr;
 
 /// Numbers, each under the name that its insertion gave.
 pub trait Table: Drop {
@@ -23,23 +23,23 @@ pub trait Table: Drop {
     fn take_out_all(&mut self);
 }
 
-impl Table for Arena<P0, u64> {
-    type Name = P0;
+impl<P: Ptr> Table for Arena<P, u64> {
+    type Name = P;
 
     fn empty(alloc: Global) -> Self {
         Arena::new(alloc)
     }
 
     #[inline(always)]
-    fn put(&mut self, number: u64) -> Result<P0, ReallocationError> {
+    fn put(&mut self, number: u64) -> Result<P, ReallocationError> {
         self.insert(number)
     }
 
-    fn read(&self, name: P0) -> u64 {
+    fn read(&self, name: P) -> u64 {
         self.get(name).copied().unwrap_or(0)
     }
 
-    fn take_out(&mut self, name: P0) -> u64 {
+    fn take_out(&mut self, name: P) -> u64 {
         self.remove(name).allow().unwrap_or(0)
     }
 

@@ -1,0 +1,148 @@
+//! A table of entities, each with its health and perhaps a parent, over any stack.
+//!
+//! The clauses speak of look-ups alone: what each pointer finds before a call, and after it.
+
+ghost use Rattle.std.specs.Prelude.{◌≡◌, ◌≢◌, ◌-◌, None, Some, IfOk, OnErr, is_some, option_copied};
+ghost use Rattle.std.specs.Option.{option_map, option_and_then};
+ghost use Rattle.triple_arena_ptr.specs.Pointers.{Pointer};
+ghost use Rattle.triple_arena.specs.ArenaState.{look_up, entry};
+ghost use Rattle.triple_arena_uses.specs.Entities.{numbers, spawned, damaged};
+
+use std::alloc::Global;
+use std::marker::Model;
+use triple_arena::{Arena, ArenaInsertTrait, ArenaSlot, ArenaTrait};
+use triple_arena_base::ReallocationError;
+use triple_arena_ptr::P0;
+use triple_arena_stack::{NonZeroInxGenericStack, NonZeroInxVec};
+
+/// An entity: its health, and the one that spawned it.
+#[derive(Clone, Copy, PartialEq, Eq, Debug)]
+pub struct Entity {
+    pub health: u32,
+    pub parent: Option<P0>,
+}
+
+/// A table of entities, each named by the pointer that its spawning gave.
+#[derive(Drop)]
+pub struct EntityTable<
+    S: NonZeroInxGenericStack<ArenaSlot<P0, Entity>> = NonZeroInxVec<ArenaSlot<P0, Entity>>,
+> {
+    entities: Arena<P0, Entity, S>,
+}
+
+impl<S: NonZeroInxGenericStack<ArenaSlot<P0, Entity>>> Model for EntityTable<S> {
+    ghost use Rattle.triple_arena.specs.ArenaState.{ArenaState};
+    ghost use Rattle.triple_arena_uses.specs.declared.entity_table.Entity.{Entity};
+
+    ghost Value = { ArenaState Entity };
+
+    ghost view = { λ table. table.entities };
+}
+
+impl<S: NonZeroInxGenericStack<ArenaSlot<P0, Entity>>> EntityTable<S> {
+    /// A table without entities.
+    pub fn new(alloc: Global) -> Self
+        ensures { (q : Pointer) → look_up result q ≡ None }
+    {
+        EntityTable {
+            entities: Arena::new(alloc),
+        }
+    }
+
+    /// A new entity of health 100. No entity stood at its index.
+    ///
+    /// Refused as an insertion into an arena is; then nothing changes.
+    pub fn spawn(&mut self, parent: Option<P0>) -> Result<P0, ReallocationError>
+        ensures found { IfOk result (λ p. look_up self.new (numbers p) ≡ Some (spawned parent)) }
+        ensures fresh { IfOk result (λ p. entry self.old (numbers p).0 ≡ None) }
+        ensures others { IfOk result (λ p. (q : Pointer) → q ≢ numbers p
+            → look_up self.new q ≡ look_up self.old q) }
+        ensures refused { OnErr result (self.new ≡ self.old) }
+    {
+        self.entities.insert(Entity {
+            health: 100,
+            parent,
+        })
+    }
+
+    /// Takes an entity away, and tells whether there was one. Its children keep its pointer, which
+    /// finds nothing then.
+    pub fn despawn(&mut self, p: P0) -> bool
+        ensures answer { result ≡ is_some (look_up self.old (numbers p)) }
+        ensures gone { look_up self.new (numbers p) ≡ None }
+        ensures others { (q : Pointer) → q ≢ numbers p → look_up self.new q ≡ look_up self.old q }
+    {
+        self.entities.remove(p).allow().is_some()
+    }
+
+    /// Takes health from an entity, and tells what is left; none where there is no such entity.
+    pub fn damage(&mut self, p: P0, by: u32) -> Option<u32>
+        ensures answer { result ≡ option_map (λ e. e.health - by) (look_up self.old (numbers p)) }
+        ensures damaged { look_up self.new (numbers p)
+            ≡ option_map (damaged by) (look_up self.old (numbers p)) }
+        ensures others { (q : Pointer) → q ≢ numbers p → look_up self.new q ≡ look_up self.old q }
+    {
+        let entity = self.entities.get_mut(p)?;
+        entity.health = entity.health.saturating_sub(by);
+        Some(entity.health)
+    }
+
+    /// The entity under a pointer.
+    pub fn get(&self, p: P0) -> Option<&Entity>
+        ensures { option_copied result ≡ look_up self.now (numbers p) }
+    {
+        self.entities.get(p)
+    }
+
+    /// The pointer of an entity's parent, which may be gone.
+    pub fn parent_of(&self, p: P0) -> Option<P0>
+        ensures { result ≡ option_and_then (λ e. e.parent) (look_up self.now (numbers p)) }
+    {
+        self.entities.get(p)?.parent
+    }
+}
+
+#[cfg(test)]
+mod tests {
+    use super::{Entity, EntityTable};
+    use std::process::Abort;
+    use std::test::Fail;
+    use triple_arena_base::ReallocationError;
+    use triple_arena_stack::NonZeroInxArray;
+
+    #[test]
+    fn a_child_outlives_its_parent(rt: HostRuntime) -> Result<(), Fail> {
+        let mut table: EntityTable = EntityTable::new(rt.alloc());
+        let mother = table.spawn(None)?;
+        let child = table.spawn(Some(mother))?;
+        assert_eq!(rt; table.parent_of(child), Some(mother));
+        assert_eq!(rt; table.damage(child, 30), Some(70));
+        assert!(rt; table.despawn(mother));
+        assert!(rt; !table.despawn(mother));
+        let sister = table.spawn(Some(mother))?;
+        assert_eq!(rt; table.get(mother), None, "no other entity is taken for her");
+        assert_eq!(rt; table.damage(mother, 1), None);
+        let left = Entity {
+            health: 70,
+            parent: Some(mother),
+        };
+        assert_eq!(rt; table.get(child).copied(), Some(left));
+        assert_eq!(rt; table.damage(child, 100), Some(0));
+        assert_eq!(rt; table.damage(sister, 0), Some(100));
+        Ok(())
+    }
+
+    #[test]
+    fn a_table_in_an_array_is_full_at_last(rt: HostRuntime) -> Result<(), Fail> {
+        let mut table: EntityTable<NonZeroInxArray<_, 2>> = EntityTable::new(rt.alloc());
+        let first = table.spawn(None)?;
+        table.spawn(None)?;
+        assert_eq!(rt;
+            table.spawn(None),
+            Err(ReallocationError::BeyondMaxCapacity)
+        );
+        assert!(rt; table.despawn(first));
+        assert!(rt; table.spawn(None).is_ok());
+        Ok(())
+    }
+}

@@ -1,7 +1,10 @@
 use Rattle.std.proofs.Common.{rules, sym, ◌∙◌, ◌≡◌, ◌∷◌, [], drop, refl}
 use Rattle.triple_arena_run.specs.Lines.{lines_of}
-use Rattle.triple_arena_run.proofs.TextLaws.{AnswersLines-line, RunsThrough-last, RunsThrough-wrapped, StopsAtLine-malformed, StopsAtReply-unwritten, front-drop}
+use Rattle.triple_arena_run.proofs.TextLaws.{AnswersLines-nil, AnswersLines-line, RunsThrough-last, RunsThrough-wrapped, StopsAtLine-malformed, StopsAtReply-unwritten, front-drop}
 use Rattle.triple_arena_run.proofs.text.run_lines.Goals as goal
+
+pub lines-init : goal.lines-init
+lines-init g c = record { ran = AnswersLines-nil _ _ _; left = refl; room = search rules }
 
 pub returns-in-Wrapped : goal.returns-in-Wrapped
 returns-in-Wrapped g c =

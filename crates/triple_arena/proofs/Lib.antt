@@ -8,3 +8,4 @@ pub mod LookUps
 pub mod Limits
 pub mod Pairs
 pub mod Steps
+pub mod Walking

@@ -333,6 +333,20 @@ module _ {P T I G : Type 0} where
         let found : item xs (at + 1) ≡ Some e = item_at xs (at + 1) (omega arith) ∙ ap (slice_get xs) place ∙ slice_get_read xs (length xs) at e refl within read in
         entry_item es (at + 1) e (ap (λ ys. item ys (at + 1)) (sym same) ∙ found)
 
+    pub none_past : (es : List (ArenaSlot P T I G)) (i : ℕ) → length es < i → entry_at number es i ≡ None
+    none_past es i past = by_item (item es i) refl
+      where
+        by_item : (o : Option (ArenaSlot P T I G)) → item es i ≡ o → entry_at number es i ≡ None
+        by_item None h = entry_read es i None h
+        by_item (Some e) h = absurd (omega (arith, (item_within es i e h).1, past))
+
+    pub none_above : (es : List (ArenaSlot P T I G)) (i : ℕ) → (0 < i → entry_at number es i ≡ None) → entry_at number es i ≡ None
+    none_above es i above = by_item (item es i) refl
+      where
+        by_item : (o : Option (ArenaSlot P T I G)) → item es i ≡ o → entry_at number es i ≡ None
+        by_item None h = entry_read es i None h
+        by_item (Some e) h = above (item_within es i e h).0
+
     pub none_everywhere : (es : List (ArenaSlot P T I G)) (n : ℕ) → length es ≤ n → ((i : ℕ) → i ≤ n → entry_at number es i ≡ None) → (i : ℕ) → entry_at number es i ≡ None
     none_everywhere es n size below i = by_item (item es i) refl
       where

@@ -54,7 +54,7 @@ module _ {T : Type 0} where
   entry_set xs (suc k) e none = set_entry xs k e none
 
   -- an entry that is put at an index, or taken away there
-  changes_at : (xs : List (Option (ℕ × T))) (i : ℕ) (e : Option (ℕ × T)) → (item xs i ≡ None → e ≡ None) → ChangesAt xs i e (with_item xs i e)
+  pub changes_at : (xs : List (Option (ℕ × T))) (i : ℕ) (e : Option (ℕ × T)) → (item xs i ≡ None → e ≡ None) → ChangesAt xs i e (with_item xs i e)
   changes_at xs i e none =
       record { there = entry_set xs i e none; others = λ j other. ap joined (item-with_other xs i j e other) }
 

@@ -8,8 +8,11 @@ pub mod FreeList
 pub mod Capacity
 pub mod EntryLaws
 pub mod LengthLaws
+pub mod Walks
+pub mod WalkLaws
 pub mod Slot
 pub mod Layout
 pub mod Lends
 pub mod InsertEntry
+pub mod Drains
 pub mod Disjoint

@@ -9,9 +9,12 @@ ghost use Rattle.triple_arena_stack.specs.StackKind.{StackKind, new_room, new_li
 ghost use Rattle.triple_arena_stack.specs.Capacity.{capacity_of, IsWithin, IsBeyond};
 ghost use Rattle.triple_arena.specs.Entries.{entry_in, look_up_in, entry_count, with_value_in, ChangesAt, KeepsEntries, IsFirst, IsLast};
 ghost use Rattle.triple_arena.specs.Ending.{told, told_of, map_told};
+ghost use Rattle.triple_arena.specs.Walks.{Stand, standing_at, IsAtFirst};
 
 use std::alloc::Global;
-use triple_arena_base::{AllocError, InvalidationOption, InvalidationResult, ReallocationError};
+use triple_arena_base::{
+    Advancer, AllocError, InvalidationOption, InvalidationResult, ReallocationError,
+};
 use triple_arena_ptr::{Ptr, PtrGen, PtrInx};
 
 /// An arena: values in slots that are numbered from 1, each named by a pointer.
@@ -25,6 +28,12 @@ use triple_arena_ptr::{Ptr, PtrGen, PtrInx};
 /// is told by `has_memory`, as the stack tells it, and these calls succeed where it says so: a body
 /// over any stack that gives up without asking has no proof.
 pub trait ArenaTrait<P: Ptr, T>: Sized {
+    /// A place in the arena, which goes from entry to entry.
+    type PtrAdvancer: Advancer<Self, Item = P>;
+
+    // where an advancer stands
+    ghost stand: { Self.PtrAdvancer → Stand };
+
     // by index from 1, the generation and the value of the entry that stands there, or nothing
     ghost slots: { Self → List (Option (ℕ × T)) };
 
@@ -179,6 +188,16 @@ pub trait ArenaTrait<P: Ptr, T>: Sized {
     fn find_last_inx_ptr(&self) -> Option<P>
         ensures { MatchOption result (entry_count (slots self.now) ≡ 0)
             (λ p. IsLast (slots self.now) (P.numbers p)) };
+
+    /// A forward advancer at the entry of least index, or nowhere where there is no entry.
+    fn advancer(&self) -> Self::PtrAdvancer
+        ensures { IsAtFirst (slots self.now) (stand result) };
+
+    /// An advancer at `inx`, forward or in reverse. Past the greatest index a forward one is
+    /// nowhere, and one in reverse is at the greatest.
+    fn advancer_inx(&self, inx: P::Inx, reverse: bool) -> Self::PtrAdvancer
+        ensures { stand result
+            ≡ standing_at (greatest_index P.Inx.greatest) (P.Inx.number inx) reverse };
 
     /// Gives the entry under `p` a new pointer, where the arena counts generations; `p` is invalid
     /// from then on, unless the new generation is its own, as it may be once the counter wrapped.

@@ -1,6 +1,6 @@
 //! The arena.
 
-ghost use Rattle.std.specs.Prelude.{◌≡◌, ℕ, ◌≤◌, ◌<◌, ◌+◌, ◌==◌, ◌↔◌, ◌≢◌, cond, false, [], map, length, is_some, IsSome, IfSome, IsOk, IfOk, OnOk, OnErr, Some, None, Err, IsTrue, slice_get, option_copied, min, ◌*◌, ◌^◌};
+ghost use Rattle.std.specs.Prelude.{◌≡◌, ℕ, ◌≤◌, ◌<◌, ◌+◌, ◌==◌, ◌↔◌, ◌≢◌, cond, false, [], map, length, is_some, IsSome, IfSome, IsOk, IfOk, OnOk, OnErr, Some, None, Err, IsTrue, slice_get, option_copied, min, MatchOption, ◌-◌, ◌*◌, ◌^◌};
 ghost use Rattle.std.specs.Int.NonZero.{non_zero_usize_get};
 ghost use Rattle.std.specs.Option.{option_map, option_and_then};
 ghost use Rattle.triple_arena_ptr.specs.Numbers.{greatest_index, raise, wraps, first_generation};
@@ -16,6 +16,7 @@ ghost use Rattle.triple_arena.specs.Slot.{entry_of};
 ghost use Rattle.triple_arena.specs.Disjoint.{value_of};
 
 use crate::answers::{told, told_valid};
+use crate::arena_iterators::PtrAdvancer;
 use crate::arena_insert_trait::ArenaInsertTrait;
 use crate::arena_trait::ArenaTrait;
 use crate::disjointable_arena_trait::DisjointableArenaTrait;
@@ -80,6 +81,11 @@ impl<P: Ptr, T, S: NonZeroInxGenericStack<ArenaSlot<P, T>>> ArenaTrait<P, T> for
     ghost use Rattle.std.proofs.Common.{ap};
     ghost use Rattle.triple_arena.specs.EntryLaws.{slots-removed, limit_of-removed, fitting-removed, slots-invalidated, slots-cleared, slots-reallocated, slots-settled};
     ghost use Rattle.triple_arena.specs.LengthLaws.{len-with_value, len-removed, len-invalidated, len-reallocated, len-settled};
+
+    type PtrAdvancer = PtrAdvancer<P>;
+
+    // an advancer is seen as its stand
+    ghost stand = { λ s. s };
 
     // the entries of the slots, and nothing for a free one
     ghost slots = { λ s. s.slots };
@@ -232,6 +238,14 @@ impl<P: Ptr, T, S: NonZeroInxGenericStack<ArenaSlot<P, T>>> ArenaTrait<P, T> for
             Some(inx) => Some(self.ptr_at(inx)),
             None => None,
         }
+    }
+
+    fn advancer(&self) -> PtrAdvancer<P> {
+        PtrAdvancer::from(self.slots.first_live())
+    }
+
+    fn advancer_inx(&self, inx: P::Inx, reverse: bool) -> PtrAdvancer<P> {
+        PtrAdvancer::at(inx, reverse)
     }
 
     fn invalidate(&mut self, p: P) -> InvalidationResult<P> {
@@ -470,6 +484,37 @@ impl<P: Ptr, T, S: NonZeroInxGenericStack<ArenaSlot<P, T>>> Arena<P, T, S> {
         &self.slots.stack
     }
 
+    // The least index of an entry at or above this one, if there is one.
+    pub(crate) fn live_from(&self, from: NonZeroUsize) -> Option<NonZeroUsize>
+        ensures { MatchOption result
+            ((i : ℕ) → non_zero_usize_get from ≤ i → entry self.now i ≡ None)
+            (λ inx. IsSome (entry self.now (non_zero_usize_get inx))
+            × (non_zero_usize_get from ≤ non_zero_usize_get inx)
+            × ((i : ℕ) → non_zero_usize_get from ≤ i → i < non_zero_usize_get inx
+            → entry self.now i ≡ None)) }
+    {
+        self.slots.live_from(from)
+    }
+
+    // The greatest index of an entry at or below this one, if there is one.
+    pub(crate) fn live_to(&self, to: NonZeroUsize) -> Option<NonZeroUsize>
+        ensures { MatchOption result
+            ((i : ℕ) → i ≤ non_zero_usize_get to → entry self.now i ≡ None)
+            (λ inx. IsSome (entry self.now (non_zero_usize_get inx))
+            × (non_zero_usize_get inx ≤ non_zero_usize_get to)
+            × ((i : ℕ) → i ≤ non_zero_usize_get to → non_zero_usize_get inx < i
+            → entry self.now i ≡ None)) }
+    {
+        self.slots.live_to(to)
+    }
+
+    // The index past the last slot, or the greatest number.
+    pub(crate) fn next_slot(&self) -> NonZeroUsize
+        ensures { non_zero_usize_get result ≡ min (slot_count self.now + 1) (2 ^ 64 - 1) }
+    {
+        NonZeroUsize::MIN.saturating_add(self.slots.stack.len())
+    }
+
     // An arena over a stack that has no item.
     fn over(stack: S) -> Self
         requires { S.items stack ≡ [] }
@@ -522,7 +567,7 @@ impl<P: Ptr, T, S: NonZeroInxGenericStack<ArenaSlot<P, T>>> Arena<P, T, S> {
     }
 
     // The pointer of the entry at an index.
-    fn ptr_at(&self, inx: NonZeroUsize) -> P
+    pub(crate) fn ptr_at(&self, inx: NonZeroUsize) -> P
         requires { IsSome (entry self.now (non_zero_usize_get inx)) }
         ensures { (h : ℕ) × (v : T) × (entry self.now (non_zero_usize_get inx) ≡ Some (h, v))
             × (P.numbers result ≡ (non_zero_usize_get inx, h)) }

@@ -3,8 +3,10 @@
 
 mod answers;
 mod arena_insert_trait;
+pub mod arena_iterators;
 mod arena_trait;
 mod base_arena;
+mod compact_arena_trait;
 mod disjointable_arena_trait;
 mod insert_entry;
 pub mod laws;
@@ -15,6 +17,7 @@ mod slots;
 pub use arena_insert_trait::ArenaInsertTrait;
 pub use arena_trait::ArenaTrait;
 pub use base_arena::Arena;
+pub use compact_arena_trait::CompactArenaTrait;
 pub use disjointable_arena_trait::DisjointableArenaTrait;
 pub use insert_entry::{ArenaInsertEntry, ArenaInsertEntryTrait};
 pub use slot::{ArenaSlot, FreeLink};

@@ -297,6 +297,48 @@ impl<P: Ptr, T, S: NonZeroInxGenericStack<ArenaSlot<P, T>>> Slots<P, T, S> {
         }
         None
     }
+
+    // The least index of an entry at or above this one, if there is one.
+    pub(crate) fn live_from(&self, from: NonZeroUsize) -> Option<NonZeroUsize>
+        ensures { MatchOption result
+            ((i : ℕ) → non_zero_usize_get from ≤ i
+            → entry_at P.Gen.number (S.items self.now.stack) i ≡ None)
+            (λ inx. IsSome (entry_at P.Gen.number (S.items self.now.stack) (non_zero_usize_get inx))
+            × (non_zero_usize_get from ≤ non_zero_usize_get inx)
+            × ((i : ℕ) → non_zero_usize_get from ≤ i → i < non_zero_usize_get inx
+            → entry_at P.Gen.number (S.items self.now.stack) i ≡ None)) }
+    {
+        let slots = self.stack.as_slice();
+        let mut at = from.get() - 1;
+        'up: while at < slots.len() {
+            if slots[at].is_live() {
+                return Some(NonZeroUsize::MIN.saturating_add(at));
+            }
+            at += 1;
+        }
+        None
+    }
+
+    // The greatest index of an entry at or below this one, if there is one.
+    pub(crate) fn live_to(&self, to: NonZeroUsize) -> Option<NonZeroUsize>
+        ensures { MatchOption result
+            ((i : ℕ) → i ≤ non_zero_usize_get to
+            → entry_at P.Gen.number (S.items self.now.stack) i ≡ None)
+            (λ inx. IsSome (entry_at P.Gen.number (S.items self.now.stack) (non_zero_usize_get inx))
+            × (non_zero_usize_get inx ≤ non_zero_usize_get to)
+            × ((i : ℕ) → i ≤ non_zero_usize_get to → non_zero_usize_get inx < i
+            → entry_at P.Gen.number (S.items self.now.stack) i ≡ None)) }
+    {
+        let slots = self.stack.as_slice();
+        let mut at = slots.len().min(to.get());
+        'down: while at > 0 {
+            at -= 1;
+            if slots[at].is_live() {
+                return Some(NonZeroUsize::MIN.saturating_add(at));
+            }
+        }
+        None
+    }
 }
 
 impl<P: Ptr, T, S: SetMaxCapacity<ArenaSlot<P, T>>> Slots<P, T, S> {

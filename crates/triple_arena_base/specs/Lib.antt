@@ -1,4 +1,3 @@
-pub mod Advancing
 pub mod Held
 pub mod HeldLaws
 pub mod HeldLists

@@ -1,26 +1,30 @@
 //! Walks that borrow their collection for each step alone.
 
-ghost use Rattle.std.specs.Prelude.{◌≡◌, List, []};
-ghost use Rattle.triple_arena_base.specs.Advancing.{TakesFirst};
+ghost use Rattle.std.specs.Prelude.{◌≡◌, ℕ, ◌<◌, Option, None, IsSome};
 
 /// A place in a collection `C`, which goes on to the next item on each call.
 ///
-/// The collection is borrowed for each call alone, so that it may change between two of them. What
-/// an advancer would still answer, if the collection stayed as it is, is the list `ahead`: each
-/// call takes its first item, so a walk over a collection that stays ends.
+/// The collection is borrowed for each call alone, so that it may change between two of them. Each
+/// advancer says by `advances` what a call answers, and where it stands then. Over a collection that
+/// stays a walk ends: each answered item takes one from `left`.
 pub trait Advancer<C>: Drop {
     /// What is answered.
     type Item;
 
-    /// The items that are still to come, in order, if the collection stays as it is.
-    ghost ahead: { Self → C → List Self.Item };
+    /// What a call answers over a collection, and what the advancer is after it.
+    ghost advances: { Self → C → Option Self.Item → Self → Type 0 };
 
-    /// The next item, or none exactly where none is ahead; the items behind it are ahead then.
+    /// How many more calls answer an item at most, if the collection stays as it is.
+    ghost left: { Self → C → ℕ };
+
+    /// The next item, or none.
     fn advance(&mut self, collection: &C) -> Option<Self::Item>
-        ensures { TakesFirst (ahead self.old collection.now) result
-            (ahead self.new collection.now) };
+        ensures steps { advances self.old collection.now result self.new }
+        ensures fewer { IsSome result
+            → left self.new collection.now < left self.old collection.now };
 
-    /// A place nowhere: nothing is ahead, whatever the collection.
+    /// A place nowhere: each call answers none and leaves it there, whatever the collection.
     fn empty() -> Self
-        ensures { (collection : C) → ahead result collection ≡ [] };
+        ensures { (collection : C) (answer : Option Self.Item) (next : Self)
+            → advances result collection answer next → (answer ≡ None) × (next ≡ result) };
 }

@@ -1,5 +1,4 @@
-ghost use Rattle.std.specs.Prelude.{◌≡◌, ◌-◌, [], Some, None, if◌then◌else◌, ◌==◌, length};
-ghost use Rattle.std.specs.List.{range_with_len};
+ghost use Rattle.std.specs.Prelude.{◌≡◌, ◌⊎◌, ◌+◌, ◌-◌, ◌≤◌, ◌<◌, IsTrue, false, Some, None, MatchOption, if◌then◌else◌, ◌==◌};
 ghost use Rattle.triple_arena_base.specs.Held.{held_itself, refill_itself};
 ghost use Rattle.triple_arena_base.specs.HeldLaws.{itself_held_refill, itself_refill_held, itself_refill_refill};
 
@@ -204,7 +203,12 @@ struct Below {
 impl Advancer<u64> for Below {
     type Item = u64;
 
-    ghost ahead = { λ b end. if b.over then [] else range_with_len b.place (end - b.place) };
+    ghost advances = { λ b end answer next. MatchOption answer
+        ((IsTrue b.over ⊎ (end ≤ b.place)) × (next ≡ b))
+        (λ n. (n ≡ b.place) × (b.place < end) × (b.over ≡ false)
+        × (next ≡ record b { place = b.place + 1 })) };
+
+    ghost left = { λ b end. if b.over then 0 else end - b.place };
 
     fn advance(&mut self, end: &u64) -> Option<u64> {
         if self.over || *end <= self.place {

@@ -1,0 +1,44 @@
+-- Advancers and drains of an arena.
+use Rattle.std.proofs.Common.{◌≡◌, ℕ, ◌<◌, Bool, true, false, IsSome, List, Option, Some, None, MatchOption, refl, sym, inl, inr, true≢false}
+use Rattle.std.proofs.lemmas.Bool.{cases_lt}
+use Rattle.std.specs.Int.NonZero.{non_zero_usize_get}
+use Rattle.std.specs.declared.num.NonZeroUsize.{NonZeroUsize}
+use Rattle.triple_arena_base.specs.declared.invalidation.InvalidationOption.{InvalidationOption}
+use Rattle.triple_arena_base.specs.Invalidation.{is_invalid, as_option, overflowing_option, allowed_option}
+use Rattle.triple_arena.specs.Entries.{entry_in}
+use Rattle.triple_arena.specs.Ending.{told, told_of}
+use Rattle.triple_arena.specs.Layout.{number_or_zero}
+use Rattle.triple_arena.specs.Walks.{IsAtFirst}
+use Rattle.triple_arena.specs.WalkLaws.{some_or_none, live_within, up_yes}
+
+-- a forward advancer at the least index of an entry, if there is one
+pub at_first : {T : Type 0} (slots : List (Option (ℕ × T))) (o : Option NonZeroUsize) → MatchOption o ((i : ℕ) → entry_in slots i ≡ None) (λ inx. IsSome (entry_in slots (non_zero_usize_get inx)) × ((i : ℕ) → i < non_zero_usize_get inx → entry_in slots i ≡ None)) → IsAtFirst slots (record { place = number_or_zero o; reverse = false })
+at_first slots None none =
+    record { forward = refl; live = inl refl; all = λ j live. absurd (some_or_none _ live (none j)) }
+at_first slots (Some inx) found =
+    record {
+      forward = refl;
+      live = inr found.0;
+      all = λ j live. elim (cases_lt j (non_zero_usize_get inx)) [
+        | inl below ↦ absurd (some_or_none _ live (found.1 j below))
+        | inr from ↦ up_yes (non_zero_usize_get inx) j (live_within slots (non_zero_usize_get inx) found.0).0 from
+      ];
+    }
+
+-- the answer of a removal of a live entry is not that of an invalid pointer, and has its value
+pub not_invalid : {A : Type 0} (wrapped : Bool) (o : Option A) → IsSome o → is_invalid (told_of wrapped o) ≡ false
+not_invalid wrapped None live = absurd (true≢false (sym live))
+not_invalid true (Some x) live = refl
+not_invalid false (Some x) live = refl
+
+pub unwrapped : {A : Type 0} (wrapped : Bool) (x : A) (answer : InvalidationOption A) → Some answer ≡ as_option (told_of wrapped (Some x)) → answer ≡ told wrapped x
+unwrapped true x answer e = cc
+unwrapped false x answer e = cc
+
+pub overflowing_told : {A : Type 0} (wrapped : Bool) (x : A) → overflowing_option (told wrapped x) ≡ (x, wrapped)
+overflowing_told true x = refl
+overflowing_told false x = refl
+
+pub allowed_told : {A : Type 0} (wrapped : Bool) (x : A) → allowed_option (told wrapped x) ≡ x
+allowed_told true x = refl
+allowed_told false x = refl

@@ -1,0 +1,21 @@
+use Rattle.std.proofs.Common.{◌≡◌, ◌∷◌, ◌∙◌, sym, ap, refl, length, arith}
+use Rattle.triple_arena.specs.WalkLaws.{ahead_taken, ahead_none, ahead_after_none}
+use Rattle.triple_arena.proofs.arena_iterators.iter.IterIterator.next.Goals as goal
+
+pub returns-clause-steps : goal.returns-clause-steps
+returns-clause-steps g c =
+    sym c.self.view_is ∙ ahead_taken _ _ _ _ _ c.self.invariant (g.met.A.CompactArenaTrait.advanced _ _ _ _ c.in-Some.ensures.steps) c.unwrap.result.now (sym (rw c.unwrap.ensures at c.get.ensures))
+
+pub returns-clause-goes : goal.returns-clause-goes
+returns-clause-goes g c =
+    record {
+      on = λ f. (tt, tt, omega (arith, ap length (returns-clause-steps g c)));
+      keeps = tt;
+      rests = λ f. tt;
+    }
+
+pub returns-in_default-clause-steps : goal.returns-in_default-clause-steps
+returns-in_default-clause-steps g c = (
+  sym c.self.view_is ∙ ahead_none _ _ _ _ (g.met.A.CompactArenaTrait.advanced _ _ _ _ c.in_default.ensures.steps),
+  ahead_after_none _ _ _ _ c.self.invariant (g.met.A.CompactArenaTrait.advanced _ _ _ _ c.in_default.ensures.steps),
+)

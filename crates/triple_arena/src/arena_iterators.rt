@@ -1,0 +1,9 @@
+//! Walks over arenas: advancers, iterators and drains.
+
+mod drain;
+mod iter;
+mod ptr_advancer;
+
+pub use drain::{CapacityDrain, Drain};
+pub use iter::{Iter, Ptrs, Vals};
+pub use ptr_advancer::PtrAdvancer;

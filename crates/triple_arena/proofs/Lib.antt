@@ -9,3 +9,4 @@ pub mod Limits
 pub mod Pairs
 pub mod Steps
 pub mod Walking
+pub mod Visiting

@@ -33,7 +33,7 @@ module _ {P T A : Type 0} (slots : A → List (Option (ℕ × T))) (removes : A 
       MatchOption item
       ((entry_count (slots old) ≡ 0) × (new ≡ old))
       (λ taken. (p : P) × (value : T) × (taken ≡ told (wraps old) (p, value)) × IsFirst (slots old) (numbers p)
-        × (look_up_in (slots old) (numbers p) ≡ Some value) × removes old (numbers p).0 new)
+      × (look_up_in (slots old) (numbers p) ≡ Some value) × removes old (numbers p).0 new)
 
   -- an advancer goes on, and the entry that it answers is removed
   abbrev pub TakeStep : ℕ → A → Stand → Option (P × InvalidationOption T) → A → Stand → Type 0
@@ -41,4 +41,4 @@ module _ {P T A : Type 0} (slots : A → List (Option (ℕ × T))) (removes : A 
       MatchOption taken
       (Steps greatest (slots old) before None after × (new ≡ old))
       (λ item. (value : T) × (item.1 ≡ told (wraps old) value) × Steps greatest (slots old) before (Some (numbers item.0)) after
-        × (look_up_in (slots old) (numbers item.0) ≡ Some value) × removes old (numbers item.0).0 new)
+      × (look_up_in (slots old) (numbers item.0) ≡ Some value) × removes old (numbers item.0).0 new)

@@ -10,6 +10,7 @@ pub mod EntryLaws
 pub mod LengthLaws
 pub mod Walks
 pub mod WalkLaws
+pub mod Visits
 pub mod Slot
 pub mod Layout
 pub mod Lends

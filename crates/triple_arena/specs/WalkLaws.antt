@@ -83,13 +83,13 @@ same_up : (greatest place i j : ℕ) → j ≤ greatest → 0 < place → place 
 same_up greatest place i j within above_zero from none other =
     elim (cases_lt j i) [
       | inl below ↦
-          let before : j < place = elim (cases_lt j place) [ | inl h ↦ h | inr h ↦ absurd (none (up_yes place j above_zero h) below) ] in
+          let before : j < place = elim (cases_lt j place) [ inl h ↦ h | inr h ↦ absurd (none (up_yes place j above_zero h) below) ] in
           (elim (place_cases greatest (i + 1)) [
             | inl t ↦ rw t.0 (up_no (i + 1) j (omega (arith, below)))
             | inr f ↦ rw f.0 refl
           ]) ∙ sym (up_no place j before)
       | inr above ↦
-          let past : i < j = elim (cases_eq j i) [ | inl h ↦ absurd (other h) | inr h ↦ omega (arith, above) ] in
+          let past : i < j = elim (cases_eq j i) [ inl h ↦ absurd (other h) | inr h ↦ omega (arith, above) ] in
           (elim (place_cases greatest (i + 1)) [
             | inl t ↦ rw t.0 (up_yes (i + 1) j (omega arith) (omega (arith, past)))
             | inr f ↦ absurd (omega (arith, f.1, past))
@@ -100,10 +100,10 @@ same_down : (place i j : ℕ) → 0 < j → 0 < place → i ≤ place → (down 
 same_down place i j low above_zero to none other =
     elim (cases_lt i j) [
       | inl above ↦
-          let past : place < j = elim (cases_lt place j) [ | inl h ↦ h | inr h ↦ absurd (none (down_yes place j above_zero h) above) ] in
+          let past : place < j = elim (cases_lt place j) [ inl h ↦ h | inr h ↦ absurd (none (down_yes place j above_zero h) above) ] in
           down_no (i - 1) j (omega (arith, above)) ∙ sym (down_no place j past)
       | inr below ↦
-          let before : j < i = elim (cases_eq j i) [ | inl h ↦ absurd (other h) | inr h ↦ omega (arith, below) ] in
+          let before : j < i = elim (cases_eq j i) [ inl h ↦ absurd (other h) | inr h ↦ omega (arith, below) ] in
           down_yes (i - 1) j (omega (arith, before)) (omega (arith, before)) ∙ sym (down_yes place j above_zero (omega (arith, before)))
     ]
 
@@ -123,6 +123,11 @@ after_none greatest n (suc place) j within =
       | inl t ↦ rw t.0 (up_no (max (suc place) (n + 1) + 1) j (omega (arith, within)))
       | inr f ↦ rw f.0 refl
     ])
+
+-- indexes that rise from some index on rise from any below it
+rising_below : (low high : ℕ) (is : List ℕ) → low ≤ high → IsRising high is → IsRising low is
+rising_below low high [] below rising = tt
+rising_below low high (i ∷ rest) below rising = (omega (arith, below, rising.0), rising.1)
 
 -- the pointers whose index meets a test
 abbrev met : (ℕ → Bool) → List Pointer → List Pointer
@@ -279,13 +284,14 @@ module _ {T : Type 0} where
       let next : p.0 ≡ suc (p.0 - 1) = omega (arith, low) in
       subst (λ w. entries_ahead b slots ≡ (p, w) ∷ entries_ahead a slots) same
       (entries_taken (is_ahead b) (is_ahead a) 1 slots p.0 (p.0 - 1) (p.1, f.value) place
-        (joined_some (slice_get slots (p.0 - 1)) (p.1, f.value) (subst (λ n. entry_in slots n ≡ Some (p.1, f.value)) next f.entry))
-        t.was t.gone
-        (λ j k at live below. before j (live_slot slots j k at live) below)
-        (λ j k at live other. t.same j (live_slot slots j k at live) other))
+      (joined_some (slice_get slots (p.0 - 1)) (p.1, f.value) (subst (λ n. entry_in slots n ≡ Some (p.1, f.value)) next f.entry))
+      t.was t.gone
+      (λ j k at live below. before j (live_slot slots j k at live) below)
+      (λ j k at live other. t.same j (live_slot slots j k at live) other))
     where
       some_same : {A : Type 0} {x y : A} → Some x ≡ Some y → x ≡ y
       some_same e = cc
+
       before : (j : ℕ) → IsSome (entry_in slots j) → j < p.0 → is_ahead b j ≡ false
       before j live below = by_test (is_ahead b j) refl
         where
@@ -380,8 +386,8 @@ module _ {T : Type 0} where
   rises_from greatest low s ((slots, p) ∷ rest) t forward from (u, step, walk) =
       let ahead = ahead_from s p.0 forward step.answers.1 in
       let at : u.place ≡ place_of greatest (p.0 + 1) = ap (λ (v : Stand). v.place) step.moves ∙ ap (λ b. cond b (p.0 - 1) (place_of greatest (p.0 + 1))) forward in
-      let on : (u.place ≡ 0) ⊎ (p.0 + 1 ≤ u.place) = elim (place_cases greatest (p.0 + 1)) [ | inl here ↦ inr (omega (arith, at, here.0)) | inr nowhere ↦ inl (at ∙ nowhere.0) ] in (
-        elim from [ | inl nowhere ↦ absurd (omega (arith, nowhere, ahead.0)) | inr below ↦ omega (arith, below, ahead.1) ],
+      let on : (u.place ≡ 0) ⊎ (p.0 + 1 ≤ u.place) = elim (place_cases greatest (p.0 + 1)) [ inl here ↦ inr (omega (arith, at, here.0)) | inr nowhere ↦ inl (at ∙ nowhere.0) ] in (
+        elim from [ inl nowhere ↦ absurd (omega (arith, nowhere, ahead.0)) | inr below ↦ omega (arith, below, ahead.1) ],
         rises_from greatest (p.0 + 1) u rest t (forward_stays greatest slots s (Some p) u step ∙ forward) on walk,
       )
 
@@ -435,3 +441,73 @@ module _ {T : Type 0} where
   pub ahead_taken_out : (greatest : ℕ) (slots left : List (Option (ℕ × T))) (b : Stand) (p : Pointer) (a : Stand) (v : T) → b.reverse ≡ false → Steps greatest slots b (Some p) a → look_up_in slots p ≡ Some v → ChangesAt slots p.0 None left → entries_ahead b slots ≡ (p, v) ∷ entries_ahead a left
   ahead_taken_out greatest slots left b p a v forward s is change =
       ahead_taken greatest slots b p a forward s v is ∙ ap (λ rest. (p, v) ∷ rest) (sym (ahead_changed greatest slots left b p a None s change))
+
+  -- the indexes of the entries rise
+  keys_rise : (at : ℕ) (xs : List (Option (ℕ × T))) → IsRising at (map (λ p. p.0) (keys_of (entries_where (λ i. true) at xs)))
+  keys_rise at [] = tt
+  keys_rise at (None ∷ xs) = rising_below at (at + 1) _ (omega arith) (keys_rise (at + 1) xs)
+  keys_rise at (Some e ∷ xs) = (omega arith, keys_rise (at + 1) xs)
+
+  pub keys_rising : (slots : List (Option (ℕ × T))) → IsRising 1 (map (λ p. p.0) (keys slots))
+  keys_rising slots = keys_rise 1 slots
+
+  -- each entry's pointer is among them
+  key_of : (at : ℕ) (xs : List (Option (ℕ × T))) (i k : ℕ) (e : ℕ × T) → i ≡ at + k → slice_get xs k ≡ Some (Some e) → Contains (keys_of (entries_where (λ j. true) at xs)) (i, e.0)
+  key_of at [] i k e place found = absurd (cc)
+  key_of at (None ∷ xs) i zero e place found = absurd (cc)
+  key_of at (Some x ∷ xs) i zero e place found =
+      let here : at ≡ i = omega (arith, place) in
+      let is : x ≡ e = cc in
+      (zero, omega arith, rw (here, is) refl)
+  key_of at (None ∷ xs) i (suc k) e place found = key_of (at + 1) xs i k e (omega (arith, place)) found
+  key_of at (Some x ∷ xs) i (suc k) e place found =
+      let later = key_of (at + 1) xs i k e (omega (arith, place)) found in
+      (suc later.0, omega (arith, later.1), later.2)
+
+  slot_at : (slots : List (Option (ℕ × T))) (i : ℕ) (e : ℕ × T) → entry_in slots i ≡ Some e → (k : ℕ) × (i ≡ 1 + k) × (slice_get slots k ≡ Some (Some e))
+  slot_at slots zero e found = absurd (cc)
+  slot_at slots (suc k) e found = (k, omega arith, joined_some (slice_get slots k) e found)
+
+  pub live_key : (slots : List (Option (ℕ × T))) (p : Pointer) → IsSome (look_up_in slots p) → Contains (keys slots) p
+  live_key slots p live =
+      let f = found slots p live in
+      let slot = slot_at slots p.0 (p.1, f.value) f.entry in
+      key_of 1 slots p.0 slot.0 (p.1, f.value) slot.1 slot.2
+
+  -- and no other is
+  entry_of_key : (at : ℕ) (xs : List (Option (ℕ × T))) (j : ℕ) (p : Pointer) → j < length (keys_of (entries_where (λ i. true) at xs)) → slice_index_or (keys_of (entries_where (λ i. true) at xs)) j p ≡ p → (k : ℕ) × (v : T) × (p.0 ≡ at + k) × (slice_get xs k ≡ Some (Some (p.1, v)))
+  entry_of_key at [] j p within is = absurd (omega (arith, within))
+  entry_of_key at (None ∷ xs) j p within is =
+      let later = entry_of_key (at + 1) xs j p within is in
+      (suc later.0, later.1, omega (arith, later.2), later.3)
+  entry_of_key at (Some e ∷ xs) zero p within is =
+      (zero, e.1, omega (arith, ap (λ (q : Pointer). q.0) is), ap (λ (q : Pointer). Some (Some (q.1, e.1))) is)
+  entry_of_key at (Some e ∷ xs) (suc j) p within is =
+      let later = entry_of_key (at + 1) xs j p (omega (arith, within)) is in
+      (suc later.0, later.1, omega (arith, later.2), later.3)
+
+  pub key_live : (slots : List (Option (ℕ × T))) (p : Pointer) → Contains (keys slots) p → IsSome (look_up_in slots p)
+  key_live slots p key =
+      let found = entry_of_key 1 slots key.0 p key.1 key.2 in
+      let entry : entry_in slots p.0 ≡ Some (p.1, found.1) = slot_of slots p.0 found.0 found.2 ∙ ap joined found.3 in
+      rw (entry, eq_true p.1 p.1 refl) refl
+
+  -- the pointer of greatest index is the last of them
+  last_key : (at : ℕ) (xs : List (Option (ℕ × T))) (i k : ℕ) (e : ℕ × T) → i ≡ at + k → slice_get xs k ≡ Some (Some e) → ((m : ℕ) → k < m → joined (slice_get xs m) ≡ None) → (before : List Pointer) × (keys_of (entries_where (λ j. true) at xs) ≡ before ++ (i, e.0) ∷ [])
+  last_key at [] i k e place found none = absurd (cc)
+  last_key at (None ∷ xs) i zero e place found none = absurd (cc)
+  last_key at (Some x ∷ xs) i zero e place found none =
+      let here : at ≡ i = omega (arith, place) in
+      let is : x ≡ e = cc in
+      let rest = entries_none (λ j. true) (at + 1) xs (λ j m at' live. absurd (some_or_none _ live (none (suc m) (omega arith)))) in
+      ([], ap (λ entries. (at, x.0) ∷ keys_of entries) rest ∙ rw (here, is) refl)
+  last_key at (None ∷ xs) i (suc k) e place found none = last_key (at + 1) xs i k e (omega (arith, place)) found (λ m past. none (suc m) (omega (arith, past)))
+  last_key at (Some x ∷ xs) i (suc k) e place found none =
+      let later = last_key (at + 1) xs i k e (omega (arith, place)) found (λ m past. none (suc m) (omega (arith, past))) in
+      ((at, x.0) ∷ later.0, ap (λ rest. (at, x.0) ∷ rest) later.1)
+
+  pub keys_end : (slots : List (Option (ℕ × T))) (p : Pointer) → IsLast slots p → (before : List Pointer) × (keys slots ≡ before ++ p ∷ [])
+  keys_end slots p last =
+      let f = found slots p last.live in
+      let slot = slot_at slots p.0 (p.1, f.value) f.entry in
+      last_key 1 slots p.0 slot.0 (p.1, f.value) slot.1 slot.2 (λ m past. sym (slot_of slots (suc m) m (omega arith)) ∙ last.none_above (suc m) (omega (arith, past, slot.1)))

@@ -16,8 +16,8 @@ ghost use Rattle.triple_arena.specs.Slot.{entry_of};
 ghost use Rattle.triple_arena.specs.Disjoint.{value_of};
 
 use crate::answers::{told, told_valid};
-use crate::arena_iterators::PtrAdvancer;
 use crate::arena_insert_trait::ArenaInsertTrait;
+use crate::arena_iterators::PtrAdvancer;
 use crate::arena_trait::ArenaTrait;
 use crate::disjointable_arena_trait::DisjointableArenaTrait;
 use crate::pair_call::{AtEntries, AtValues, PairCall};

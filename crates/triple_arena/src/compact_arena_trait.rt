@@ -1,8 +1,10 @@
 //! Arenas that generic code walks.
 
-ghost use Rattle.std.specs.Prelude.{◌≡◌, Option, map};
+ghost use Rattle.std.specs.Prelude.{◌≡◌, ℕ, Option, map};
 ghost use Rattle.std.specs.Option.{option_map};
 ghost use Rattle.triple_arena_ptr.specs.Numbers.{greatest_index};
+ghost use Rattle.triple_arena.specs.Entries.{entry_in};
+ghost use Rattle.triple_arena.specs.Visits.{IsVisited};
 ghost use Rattle.triple_arena.specs.Walks.{Steps, entries, keys, values};
 ghost use Rattle.triple_arena.specs.Drains.{IsDraining, drain_arena, drain_lender};
 
@@ -10,6 +12,7 @@ use crate::arena_iterators::{Drain, Iter, Ptrs, Vals};
 use crate::arena_trait::ArenaTrait;
 use crate::base_arena::Arena;
 use crate::slot::ArenaSlot;
+use triple_arena_base::Advancer;
 use triple_arena_ptr::{Ptr, PtrInx};
 use triple_arena_stack::NonZeroInxGenericStack;
 
@@ -43,6 +46,23 @@ pub trait CompactArenaTrait<P: Ptr, T>: ArenaTrait<P, T> {
         ensures { result ≡ values (Self.slots self.now) }
     {
         Vals::over(self)
+    }
+
+    /// Calls `f` at each entry, in the order of the indexes: at its pointer, and at its value, for
+    /// writing. Limit and capacity stay, and it takes no memory.
+    final fn for_each_mut<F: FnMut(P, &mut T)>(&mut self, mut f: F)
+        requires callable { F.IsAlwaysCallable f }
+        ensures visited { (i : ℕ) → IsVisited P.numbers F.step i
+            (entry_in (Self.slots self.old) i) (entry_in (Self.slots self.new) i) }
+        ensures limit { Self.limit self.new ≡ Self.limit self.old }
+        ensures capacity { Self.fitting self.new ≡ Self.fitting self.old }
+    {
+        let mut advancer = self.advancer();
+        'walk: while let Some(p) = advancer.advance(self) {
+            if let Some(value) = self.get_mut(p) {
+                f(p, value);
+            }
+        }
     }
 
     /// Takes out the entries, in the order of their indexes, one with each step. Let go, it clears

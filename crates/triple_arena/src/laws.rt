@@ -1,11 +1,14 @@
 //! What holds of every arena: laws over several calls.
 
-ghost use Rattle.std.specs.Prelude.{◌≡◌, ◌⊎◌, ◌<◌, ℕ, Option, Some, IsSome, min};
+ghost use Rattle.std.specs.Prelude.{◌≡◌, ◌⊎◌, ◌↔◌, ◌<◌, ℕ, List, [], ◌∷◌, ◌++◌, map, All, Contains, Option, Some, None, IsSome, false, min};
 ghost use Rattle.triple_arena_stack.specs.StackKind.{StackKind};
+ghost use Rattle.triple_arena_ptr.specs.Pointers.{Pointer};
+ghost use Rattle.triple_arena.specs.Entries.{entry_in, look_up_in, IsLast};
 ghost use Rattle.triple_arena.specs.ArenaState.{ArenaState, new_arena, arena_len, capacity, entry, with_value, IsWellFormed};
 ghost use Rattle.triple_arena.specs.Insertion.{inserted};
 ghost use Rattle.triple_arena.specs.Ending.{removed, invalidated, cleared};
-ghost use Rattle.triple_arena.specs.FreeList.{tidied};
+ghost use Rattle.triple_arena.specs.FreeList.{tidied, IsRising};
+ghost use Rattle.triple_arena.specs.Walks.{Stand, Steps, Walk, IsAtFirst, keys};
 ghost use Rattle.triple_arena.specs.Capacity.{EndsBy, reallocated, with_limit, grown};
 
 /// A limit that is set back: once a limit is set, the old one can be set again, and then the old
@@ -49,4 +52,29 @@ pub fn well_formed_stays<T>()
         → IsWellFormed (grown kind s) }
     ensures counter { (s : ArenaState T) (counter : ℕ) → IsWellFormed s
         → IsWellFormed (record s { counter = counter }) }
+{}
+
+/// The pointers of a walk (`keys`): those of all entries, and no others, with rising indexes. The
+/// pointer that `find_last_inx_ptr` answers is the last.
+pub fn walk_in_order<T>()
+    ensures rising { (slots : List (Option (ℕ × T))) → IsRising 1 (map (λ p. p.0) (keys slots)) }
+    ensures all { (slots : List (Option (ℕ × T))) (p : Pointer)
+        → IsSome (look_up_in slots p) ↔ Contains (keys slots) p }
+    ensures last { (slots : List (Option (ℕ × T))) (p : Pointer) → IsLast slots p
+        → (before : List Pointer) × (keys slots ≡ before ++ p ∷ []) }
+{}
+
+/// A forward advancer rises, and sees all that stays: the indexes that it answers rise up to its
+/// first `None`, also where the arena changes between two steps; and one that `advancer` gave
+/// answers each index that is live at its making and at every step up to there.
+pub fn forward_walk<T>()
+    ensures rises { (greatest : ℕ) (from : Stand)
+        (turns : List (List (Option (ℕ × T)) × Pointer)) (to : Stand) → from.reverse ≡ false
+        → Walk greatest from turns to → IsRising from.place (map (λ turn. turn.1.0) turns) }
+    ensures sees { (greatest : ℕ) (first : List (Option (ℕ × T))) (from : Stand)
+        (turns : List (List (Option (ℕ × T)) × Pointer)) (to : Stand)
+        (last : List (Option (ℕ × T))) (end : Stand) (i : ℕ) → IsAtFirst first from
+        → Walk greatest from turns to → Steps greatest last to None end
+        → IsSome (entry_in first i) → All (λ turn. IsSome (entry_in turn.0 i)) turns
+        → IsSome (entry_in last i) → Contains (map (λ turn. turn.1.0) turns) i }
 {}

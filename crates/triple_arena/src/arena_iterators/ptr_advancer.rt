@@ -73,7 +73,7 @@ impl<P: Ptr> PtrAdvancer<P> {
     fn pass(&mut self, inx: NonZeroUsize)
         ensures { self.new ≡ record self.old {
           place = cond self.old.reverse (non_zero_usize_get inx - 1)
-            (place_of (greatest_index P.Inx.greatest) (non_zero_usize_get inx + 1));
+              (place_of (greatest_index P.Inx.greatest) (non_zero_usize_get inx + 1));
         } }
     {
         self.place = if self.reverse {

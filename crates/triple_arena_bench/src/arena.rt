@@ -1,5 +1,5 @@
-//! Insertion, reading, churn and clearing of an arena, with the pointer of general use and with the
-//! small one, and of a plain vector with free indexes.
+//! Insertion, reading, churn, a walk and clearing of an arena, with the pointer of general use and with
+//! the small one, and of a plain vector with free indexes.
 
 mod plain;
 mod random;
@@ -30,6 +30,7 @@ struct Timings {
     insert: Timing,
     get: Timing,
     churn: Timing,
+    iterate: Timing,
     clear: Timing,
 }
 
@@ -48,6 +49,7 @@ impl Timings {
             insert: self.insert.least(other.insert),
             get: self.get.least(other.get),
             churn: self.churn.least(other.churn),
+            iterate: self.iterate.least(other.iterate),
             clear: self.clear.least(other.clear),
         }
     }
@@ -76,6 +78,7 @@ fn print(rt: &impl Print, name: &str, size: u32, timings: Timings) -> anyhow::Re
         ("insert", size, timings.insert),
         ("get", size, timings.get),
         ("churn", size, timings.churn),
+        ("iterate", size, timings.iterate),
         ("clear", 1, timings.clear),
     ] {
         let unit = Duration::from_nanos(calls as u64);
@@ -107,6 +110,7 @@ fn time_once<C: Clock, T: Table>(
         insert: time_insert(rt, size, &mut table, names)?,
         get: time_get(rt, size, &table, names)?,
         churn: time_churn(rt, size, &mut table, names)?,
+        iterate: time_iterate(rt, &table)?,
         clear: time_clear(rt, &mut table, names)?,
     })
 }
@@ -161,6 +165,14 @@ fn time_churn<T: Table>(
             *name = table.put(random.next())?;
         }
     }
+    let time = start.elapsed(rt)?;
+    Ok(Timing { time, sum })
+}
+
+// The numbers lie as the churn left them.
+fn time_iterate<T: Table>(rt: &impl Clock, table: &T) -> anyhow::Result<Timing> {
+    let start = Instant::now(rt)?;
+    let sum = table.sum_all();
     let time = start.elapsed(rt)?;
     Ok(Timing { time, sum })
 }

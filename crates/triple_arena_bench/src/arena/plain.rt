@@ -40,6 +40,14 @@ impl Table for Plain {
         self.numbers.get(inx).copied().flatten().unwrap_or(0)
     }
 
+    fn sum_all(&self) -> u64 {
+        let mut sum = 0u64;
+        for number in self.numbers.iter().flatten() {
+            sum = sum.wrapping_add(*number);
+        }
+        sum
+    }
+
     fn take_out(&mut self, inx: usize) -> u64 {
         let Some(number) = self.numbers.get_mut(inx).and_then(Option::take) else {
             return 0;

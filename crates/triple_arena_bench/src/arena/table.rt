@@ -1,7 +1,7 @@
 //! What an arena and a plain vector both do.
 
 use std::alloc::Global;
-use triple_arena::{Arena, ArenaInsertTrait, ArenaTrait};
+use triple_arena::{Arena, ArenaInsertTrait, ArenaTrait, CompactArenaTrait};
 use triple_arena_base::ReallocationError;
 use triple_arena_ptr::Ptr;
 
@@ -16,6 +16,9 @@ pub trait Table: Drop {
 
     /// The number under `name`, or 0.
     fn read(&self, name: Self::Name) -> u64;
+
+    /// The sum of all numbers, in the order in which they lie.
+    fn sum_all(&self) -> u64;
 
     /// Takes out the number under `name`, or gives 0.
     fn take_out(&mut self, name: Self::Name) -> u64;
@@ -37,6 +40,14 @@ impl<P: Ptr> Table for Arena<P, u64> {
 
     fn read(&self, name: P) -> u64 {
         self.get(name).copied().unwrap_or(0)
+    }
+
+    fn sum_all(&self) -> u64 {
+        let mut sum = 0u64;
+        for number in self.vals() {
+            sum = sum.wrapping_add(*number);
+        }
+        sum
     }
 
     fn take_out(&mut self, name: P) -> u64 {

@@ -1,6 +1,6 @@
 -- More laws of lists whose items are numbered from 1.
-use Rattle.std.proofs.Common.{◌≡◌, ℕ, zero, suc, ◌+◌, ◌-◌, ◌<◌, ◌≤◌, List, [], ◌∷◌, ◌++◌, map, length, set, Some, None, slice_get, refl, ap, ◌∙◌, arith}
-use Rattle.std.proofs.lemmas.List.{length-set, map-set}
+use Rattle.std.proofs.Common.{◌≡◌, ℕ, zero, suc, ◌+◌, ◌-◌, ◌<◌, ◌≤◌, List, [], ◌∷◌, ◌++◌, map, length, set, take, Some, None, slice_get, refl, ap, ◌∙◌, arith}
+use Rattle.std.proofs.lemmas.List.{length-set, length-take-le, map-set}
 use Rattle.std.proofs.lemmas.Option.{slice_get-map}
 use Rattle.std.specs.Option.{option_map}
 use Rattle.triple_arena.specs.Items.{item, with_item}
@@ -54,6 +54,29 @@ module _ {A : Type 0} where
   pub with_item-push : (xs : List A) (i : ℕ) (x y : A) → i ≡ length xs + 1 → with_item (xs ++ x ∷ []) i y ≡ xs ++ y ∷ []
   with_item-push xs zero x y e = absurd (omega arith)
   with_item-push xs (suc k) x y e = set-push xs k x y (omega arith)
+
+  slice_get-take : (n : ℕ) (xs : List A) (k : ℕ) → k < n → slice_get (take n xs) k ≡ slice_get xs k
+  slice_get-take zero xs k h = absurd (omega arith)
+  slice_get-take (suc n) [] k h = refl
+  slice_get-take (suc n) (x ∷ xs) zero h = refl
+  slice_get-take (suc n) (x ∷ xs) (suc k) h = slice_get-take n xs k (omega arith)
+
+  -- the items up to a number
+  pub item-take : (n : ℕ) (xs : List A) (i : ℕ) → i ≤ n → item (take n xs) i ≡ item xs i
+  item-take n xs zero h = refl
+  item-take n xs (suc k) h = slice_get-take n xs k (omega arith)
+
+  take-take : (n m : ℕ) (xs : List A) → n ≤ m → take n (take m xs) ≡ take n xs
+  take-take zero m xs h = refl
+  take-take (suc n) zero xs h = absurd (omega arith)
+  take-take (suc n) (suc m) [] h = refl
+  take-take (suc n) (suc m) (x ∷ xs) h = ap (λ l. x ∷ l) (take-take n m xs (omega arith))
+
+  -- a front of a list without its last item is a front of it
+  pub front_popped : (old xs : List A) → xs ≡ take (length xs) old → take (length xs - 1) xs ≡ take (length (take (length xs - 1) xs)) old
+  front_popped old xs front =
+      let n : length (take (length xs - 1) xs) ≡ length xs - 1 = length-take-le (length xs - 1) xs (omega arith) in
+      rw n (ap (take (length xs - 1)) front ∙ take-take (length xs - 1) (length xs) old (omega arith))
 
 module _ {A B : Type 0} (f : A → B) where
   pub item-map : (xs : List A) (i : ℕ) → item (map f xs) i ≡ option_map f (item xs i)

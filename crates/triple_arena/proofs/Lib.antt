@@ -6,6 +6,9 @@ pub mod Growth
 pub mod Inserted
 pub mod LookUps
 pub mod Limits
+pub mod UpTo
+pub mod Turning
+pub mod FreeEnd
 pub mod Pairs
 pub mod Steps
 pub mod Walking

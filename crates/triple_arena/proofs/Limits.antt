@@ -16,7 +16,7 @@ module _ {T : Type 0} where
   last_live y (z ∷ zs) live none = last_live z zs live none
 
   -- slots that end with an entry are no more than an index that no entry is past
-  ends_within : (xs : List (Option (ℕ × T))) (x : ℕ) → is_free (item xs (length xs)) ≡ false → ((i : ℕ) → x < i → entry_in xs i ≡ None) → length xs ≤ x
+  pub ends_within : (xs : List (Option (ℕ × T))) (x : ℕ) → is_free (item xs (length xs)) ≡ false → ((i : ℕ) → x < i → entry_in xs i ≡ None) → length xs ≤ x
   ends_within [] x live none = omega arith
   ends_within (y ∷ ys) x live none =
       let past : x < length (y ∷ ys) → ⊥ = λ h. last_live y ys live (none (length (y ∷ ys)) h) in

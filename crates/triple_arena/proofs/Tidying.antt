@@ -7,7 +7,7 @@ use Rattle.triple_arena.specs.Items.{item, with_item}
 use Rattle.triple_arena.specs.ArenaState.{ArenaState, is_free, IsWellFormed}
 use Rattle.triple_arena.specs.FreeList.{before, trimmed, gaps, tidied, IsRising, IsInOrder}
 use Rattle.triple_arena.specs.Slot.{entry_of}
-use Rattle.triple_arena.specs.EntryLaws.{entry-tidied}
+use Rattle.triple_arena.specs.EntryLaws.{entry-trimmed}
 use Rattle.triple_arena.specs.LengthLaws.{trimmed_live}
 use Rattle.triple_arena.specs.Layout.{after, IsLinked, Shows}
 use Rattle.triple_arena.proofs.ItemLists.{map-with_item, item_within, item-with_same, item-with_other, split_last}
@@ -120,12 +120,12 @@ module _ {T : Type 0} where
   before_last None [] last = refl
   before_last None (y ∷ ys) last = last
 
-  trimmed_last : (xs : List (Option (ℕ × T))) → is_free (item (trimmed xs) (length (trimmed xs))) ≡ false
+  pub trimmed_last : (xs : List (Option (ℕ × T))) → is_free (item (trimmed xs) (length (trimmed xs))) ≡ false
   trimmed_last [] = refl
   trimmed_last (x ∷ xs) = before_last x (trimmed xs) (trimmed_last xs)
 
   pub IsInOrder-tidied : (s : ArenaState T) → IsInOrder s (tidied s)
-  IsInOrder-tidied s = record { entries = entry-tidied s; ends_live = trimmed_last s.slots; rising = gaps_rising 1 (trimmed s.slots) }
+  IsInOrder-tidied s = record { entries = entry-trimmed s.slots; ends_live = trimmed_last s.slots; rising = gaps_rising 1 (trimmed s.slots) }
 
 module _ {P T I G : Type 0} (number : G → ℕ) where
   -- the slots from `at` on link in rising order

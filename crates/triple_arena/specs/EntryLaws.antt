@@ -13,7 +13,7 @@ use Rattle.triple_arena.specs.Entries.{entry_in, ChangesAt, KeepsEntries}
 use Rattle.triple_arena.specs.ArenaState.{ArenaState, capacity, slot_count, arena_len, is_free, IsWellFormed}
 use Rattle.triple_arena.specs.Insertion.{place_among, place, next_pointer, inserted_among, inserted}
 use Rattle.triple_arena.specs.Ending.{removed, invalidated, cleared}
-use Rattle.triple_arena.specs.FreeList.{before, trimmed, tidied}
+use Rattle.triple_arena.specs.FreeList.{before, trimmed, tidied, without_free_end}
 use Rattle.triple_arena.specs.Capacity.{with_room_for, reallocated, grown}
 
 -- the count of an index in a list that begins with it
@@ -124,16 +124,20 @@ module _ {T : Type 0} where
   trimmed_entry [] k = refl
   trimmed_entry (x ∷ xs) k = before_entry x (trimmed xs) xs k (trimmed_entry xs)
 
-  -- the order of the free list leaves every entry
-  pub entry-tidied : (s : ArenaState T) (i : ℕ) → entry_in (tidied s).slots i ≡ entry_in s.slots i
-  entry-tidied s zero = refl
-  entry-tidied s (suc k) = trimmed_entry s.slots k
+  pub entry-trimmed : (xs : List (Option (ℕ × T))) (i : ℕ) → entry_in (trimmed xs) i ≡ entry_in xs i
+  entry-trimmed xs zero = refl
+  entry-trimmed xs (suc k) = trimmed_entry xs k
 
+  -- the order of the free list leaves every entry
   pub slots-settled : (old new : ArenaState T) → new ≡ tidied old → KeepsEntries old.slots new.slots
-  slots-settled old new is i = ap (λ s. entry_in s.slots i) is ∙ entry-tidied old i
+  slots-settled old new is i = ap (λ s. entry_in s.slots i) is ∙ entry-trimmed old.slots i
+
+  -- and so do free slots at the end that are taken away
+  pub slots-without_free_end : (old new : ArenaState T) → new ≡ without_free_end old → KeepsEntries old.slots new.slots
+  slots-without_free_end old new is i = ap (λ s. entry_in s.slots i) is ∙ entry-trimmed old.slots i
 
   pub slots-reallocated : (kind : StackKind) (old : ArenaState T) (m : ℕ) (new : ArenaState T) → new ≡ reallocated kind old m → KeepsEntries old.slots new.slots
-  slots-reallocated kind old m new is i = ap (λ s. entry_in s.slots i) is ∙ entry-tidied old i
+  slots-reallocated kind old m new is i = ap (λ s. entry_in s.slots i) is ∙ entry-trimmed old.slots i
 
   vacant_cases : (o : Option (Option (ℕ × T))) (n : ℕ) → 1 + n ≡ cond (is_free o) 1 0 → (o ≡ Some None) × (n ≡ 0)
   vacant_cases None n e = absurd (omega arith)

@@ -25,13 +25,13 @@ module _ {A : Type 0} where
 abbrev pub tidied : {T : Type 0} → ArenaState T → ArenaState T
 tidied s = record s { slots = trimmed s.slots; free = gaps 1 (trimmed s.slots) }
 
+-- the indexes that are at most n, in their order
+abbrev pub up_to : ℕ → List ℕ → List ℕ
+up_to n indexes = filter (λ i. nat_le i n) indexes
+
 -- the slots end with the last entry, and the free indexes are those that are left, in their order
 abbrev pub without_free_end : {T : Type 0} → ArenaState T → ArenaState T
-without_free_end s =
-    record s {
-      slots = trimmed s.slots;
-      free = filter (λ i. nat_le i (length (trimmed s.slots))) s.free;
-    }
+without_free_end s = record s { slots = trimmed s.slots; free = up_to (length (trimmed s.slots)) s.free }
 
 -- indexes in rising order, from `low` on
 abbrev pub IsRising : ℕ → List ℕ → Type 0

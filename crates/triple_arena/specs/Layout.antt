@@ -1,10 +1,10 @@
 -- How an arena lies in its slots. No public clause cites this module.
-use Rattle.std.specs.Prelude.{◌≡◌, ℕ, zero, suc, ◌==◌, cond, List, [], ◌∷◌, map, length, Option, Some, None}
+use Rattle.std.specs.Prelude.{◌≡◌, ◌≤◌, ℕ, zero, suc, ◌==◌, cond, List, [], ◌∷◌, map, length, count_by, Option, Some, None}
 use Rattle.std.specs.Int.NonZero.{non_zero_usize_get}
 use Rattle.std.specs.declared.num.NonZeroUsize.{NonZeroUsize}
 use Rattle.triple_arena.specs.Items.{item, with_item}
 use Rattle.triple_arena.specs.Entries.{entry_in}
-use Rattle.triple_arena.specs.ArenaState.{ArenaState, IsWellFormed, arena_len}
+use Rattle.triple_arena.specs.ArenaState.{ArenaState, IsWellFormed, arena_len, is_free}
 use Rattle.triple_arena.specs.Slot.{entry_of, with_slot_value}
 use Rattle.triple_arena.specs.declared.slot.ArenaSlot.{ArenaSlot}
 use Rattle.triple_arena.specs.declared.slot.ArenaSlot.TheVariants.{Free, Allocated}
@@ -47,6 +47,12 @@ module _ {P T I G : Type 0} where
   abbrev pub IsLinked : List (ArenaSlot P T I G) → Option ℕ → List ℕ → Type 0
   IsLinked es from [] = from ≡ None
   IsLinked es from (i ∷ rest) = (from ≡ Some i) × IsLinked es (after es i) rest
+
+  -- these are indexes of free slots, each once, which link to each other in this order
+  pub record IsFreeList (number : G → ℕ) (es : List (ArenaSlot P T I G)) (from : Option ℕ) (free : List ℕ) : Type 0 where
+    pub linked : IsLinked es from free
+    pub once : (i : ℕ) → count_by (λ j. j == i) free ≤ cond (is_free (item (map (entry_of number) es) i)) 1 0
+    pub fits : length free ≤ length es
 
   -- the slots, the first free index and the count of entries are those of the state
   pub record Shows (number : G → ℕ) (es : List (ArenaSlot P T I G)) (root : Option ℕ) (len : ℕ) (s : ArenaState T) : Type 0 where

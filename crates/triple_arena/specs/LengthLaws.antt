@@ -11,7 +11,7 @@ use Rattle.triple_arena.specs.Entries.{entry_in, entry_count}
 use Rattle.triple_arena.specs.ArenaState.{ArenaState, arena_len, capacity, slot_count, with_value, IsWellFormed}
 use Rattle.triple_arena.specs.Insertion.{inserted_among, inserted}
 use Rattle.triple_arena.specs.Ending.{removed, invalidated}
-use Rattle.triple_arena.specs.FreeList.{before, trimmed, tidied}
+use Rattle.triple_arena.specs.FreeList.{before, trimmed, tidied, without_free_end}
 use Rattle.triple_arena.specs.Capacity.{reallocated, grown}
 use Rattle.triple_arena.specs.EntryLaws.{by_case, first_free}
 
@@ -75,6 +75,9 @@ module _ {T : Type 0} where
 
   pub len-settled : (old new : ArenaState T) → new ≡ tidied old → arena_len new ≡ arena_len old
   len-settled old new is = ap arena_len is ∙ trimmed_live old.slots
+
+  pub len-without_free_end : (old new : ArenaState T) → new ≡ without_free_end old → arena_len new ≡ arena_len old
+  len-without_free_end old new is = ap arena_len is ∙ trimmed_live old.slots
 
   pub len-reallocated : (kind : StackKind) (old : ArenaState T) (m : ℕ) (new : ArenaState T) → new ≡ reallocated kind old m → arena_len new ≡ arena_len old
   len-reallocated kind old m new is = ap arena_len is ∙ trimmed_live old.slots

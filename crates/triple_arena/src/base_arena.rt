@@ -4,13 +4,15 @@ ghost use Rattle.std.specs.Prelude.{◌≡◌, ℕ, ◌≤◌, ◌<◌, ◌+◌,
 ghost use Rattle.std.specs.Int.NonZero.{non_zero_usize_get};
 ghost use Rattle.std.specs.Option.{option_map, option_and_then};
 ghost use Rattle.triple_arena_ptr.specs.Numbers.{greatest_index, raise, wraps, first_generation};
+ghost use Rattle.triple_arena_ptr.specs.Pointers.{Pointer};
 ghost use Rattle.triple_arena_stack.specs.Capacity.{IsWithin, IsBeyond, IsAtLimit, next_capacity, IsFullAtLimit, CanGrow};
 ghost use Rattle.triple_arena_stack.specs.StackKind.{IsOfKind};
 ghost use Rattle.triple_arena_stack.specs.Disjoint.{DisjointAnswer, MayWork, Worked};
-ghost use Rattle.triple_arena.specs.ArenaState.{ArenaState, new_arena, slot_count, capacity, arena_len, entry, look_up, with_value, IsWellFormed};
+ghost use Rattle.triple_arena.specs.Items.{item};
+ghost use Rattle.triple_arena.specs.ArenaState.{ArenaState, new_arena, slot_count, capacity, arena_len, entry, look_up, with_value, is_free, IsWellFormed};
 ghost use Rattle.triple_arena.specs.Insertion.{next_pointer, inserted};
 ghost use Rattle.triple_arena.specs.Ending.{removed, invalidated, cleared, told};
-ghost use Rattle.triple_arena.specs.FreeList.{tidied, IsInOrder};
+ghost use Rattle.triple_arena.specs.FreeList.{tidied, without_free_end, IsInOrder};
 ghost use Rattle.triple_arena.specs.Capacity.{with_room_for, reallocated, KeepsRoom, EndsBy, ready_for_limit, with_limit, grown};
 ghost use Rattle.triple_arena.specs.Slot.{entry_of};
 ghost use Rattle.triple_arena.specs.Disjoint.{value_of};
@@ -466,6 +468,21 @@ impl<P: Ptr, T, S: NonZeroInxGenericStack<ArenaSlot<P, T>>> Arena<P, T, S> {
         ensures in_order { IsInOrder self.old self.new }
     {
         self.slots.tidy();
+    }
+
+    /// Gives up the free slots past the last entry. The other free indexes keep their order, and no
+    /// entry moves.
+    ///
+    /// It takes no memory. Where the last slot is free it touches each free slot, and else that
+    /// slot alone.
+    pub fn remove_free_end_slots(&mut self)
+        ensures state { self.new ≡ without_free_end self.old }
+        ensures kept { (q : Pointer) → look_up self.new q ≡ look_up self.old q }
+        ensures same_len { arena_len self.new ≡ arena_len self.old }
+        ensures same_capacity { capacity self.new ≡ capacity self.old }
+        ensures ends_live { is_free (item self.new.slots (slot_count self.new)) ≡ false }
+    {
+        self.slots.remove_free_end();
     }
 
     /// The free index that the next insertion takes, if any is free.

@@ -7,7 +7,7 @@ ghost use Rattle.triple_arena.specs.Entries.{entry_in, look_up_in, IsLast};
 ghost use Rattle.triple_arena.specs.ArenaState.{ArenaState, new_arena, arena_len, capacity, entry, with_value, IsWellFormed};
 ghost use Rattle.triple_arena.specs.Insertion.{inserted};
 ghost use Rattle.triple_arena.specs.Ending.{removed, invalidated, cleared};
-ghost use Rattle.triple_arena.specs.FreeList.{tidied, IsRising};
+ghost use Rattle.triple_arena.specs.FreeList.{tidied, without_free_end, IsRising};
 ghost use Rattle.triple_arena.specs.Walks.{Stand, Steps, Walk, IsAtFirst, keys};
 ghost use Rattle.triple_arena.specs.Capacity.{EndsBy, reallocated, with_limit, grown};
 
@@ -44,6 +44,8 @@ pub fn well_formed_stays<T>()
         → IsSome (entry s i) → IsWellFormed (removed raise s i) }
     ensures cleared { (raise : ℕ → ℕ) (s : ArenaState T) → IsWellFormed (cleared raise s) }
     ensures tidied { (s : ArenaState T) → IsWellFormed s → IsWellFormed (tidied s) }
+    ensures without_free_end { (s : ArenaState T) → IsWellFormed s
+        → IsWellFormed (without_free_end s) }
     ensures reallocated { (kind : StackKind) (s : ArenaState T) (m : ℕ) → IsWellFormed s
         → IsWellFormed (reallocated kind s m) }
     ensures with_limit { (s : ArenaState T) (x : ℕ) → IsWellFormed s → EndsBy s x

@@ -137,6 +137,17 @@ impl<P: Ptr, T> ArenaSlot<P, T> {
         }
     }
 
+    // The link of a free slot.
+    pub(crate) fn link(&self) -> FreeLink
+        requires { IsNone (entry_of P.Gen.number self.now) }
+        ensures { self.now ≡ ArenaSlot.Free result }
+    {
+        match self {
+            ArenaSlot::Free(link) => *link,
+            ArenaSlot::Allocated(_, _) => unreachable!(),
+        }
+    }
+
     // Puts another link on a free slot.
     pub(crate) fn set_link(&mut self, link: FreeLink)
         requires { IsNone (entry_of P.Gen.number self.old) }

@@ -1,6 +1,6 @@
 //! The slots of an arena, and the free list that runs through them.
 
-ghost use Rattle.std.specs.Prelude.{◌≡◌, ◌≢◌, ◌<◌, ◌≤◌, ◌+◌, ◌-◌, ◌^◌, ◌==◌, ◌↔◌, ℕ, [], map, length, Option, Some, None, IsSome, IsOk, OnOk, OnErr, Err, MatchOption, option_copied};
+ghost use Rattle.std.specs.Prelude.{◌≡◌, ◌≢◌, ◌<◌, ◌≤◌, ◌+◌, ◌-◌, ◌^◌, ◌==◌, ◌↔◌, ℕ, List, [], map, length, take, reverse, Option, Some, None, IsSome, IsOk, OnOk, OnErr, Err, MatchOption, option_copied};
 ghost use Rattle.std.specs.Borrow.{sem};
 ghost use Rattle.std.specs.Int.NonZero.{non_zero_usize_get};
 ghost use Rattle.std.specs.Option.{option_map};
@@ -12,9 +12,9 @@ ghost use Rattle.triple_arena.specs.ArenaState.{ArenaState, arena_len, capacity,
 ghost use Rattle.triple_arena.specs.Insertion.{place, inserted};
 ghost use Rattle.triple_arena.specs.Ending.{removed};
 ghost use Rattle.triple_arena.specs.Entries.{with_generation_in};
-ghost use Rattle.triple_arena.specs.FreeList.{trimmed, gaps};
+ghost use Rattle.triple_arena.specs.FreeList.{trimmed, gaps, up_to, without_free_end};
 ghost use Rattle.triple_arena.specs.Slot.{entry_of, with_slot_value};
-ghost use Rattle.triple_arena.specs.Layout.{number_or_zero, Shows, IsLinked, entry_at};
+ghost use Rattle.triple_arena.specs.Layout.{number_or_zero, Shows, IsLinked, IsFreeList, entry_at};
 ghost use Rattle.triple_arena.specs.Disjoint.{value_of};
 
 use crate::pair_call::PairCall;
@@ -262,6 +262,31 @@ impl<P: Ptr, T, S: NonZeroInxGenericStack<ArenaSlot<P, T>>> Slots<P, T, S> {
         self.root = relink(&mut self.stack);
     }
 
+    // Pops the free slots at the end, and takes them out of the free list. The rest of it keeps its
+    // order.
+    pub(crate) fn remove_free_end(&mut self)
+        requires { (s : ArenaState T) × (len : ℕ)
+            × Shows P.Gen.number (S.items self.old.stack)
+            (option_map non_zero_usize_get self.old.root) len s }
+        ensures shows { (s : ArenaState T) (len : ℕ)
+            → Shows P.Gen.number (S.items self.old.stack)
+            (option_map non_zero_usize_get self.old.root) len s
+            → Shows P.Gen.number (S.items self.new.stack)
+            (option_map non_zero_usize_get self.new.root) len
+            (without_free_end s) }
+        ensures room { S.room self.new.stack ≡ S.room self.old.stack }
+        ensures limit { S.limit self.new.stack ≡ S.limit self.old.stack }
+    {
+        if !has_free_end(&self.stack) {
+            return;
+        }
+        let end = self.live_end();
+        // Turned round twice, the list has its order again.
+        let turned = turn_round(&mut self.stack, self.root, end);
+        self.root = turn_round(&mut self.stack, turned, end);
+        pop_free_end(&mut self.stack);
+    }
+
     // The least index of an entry, if there is one.
     pub(crate) fn first_live(&self) -> Option<NonZeroUsize>
         ensures { MatchOption result
@@ -339,6 +364,16 @@ impl<P: Ptr, T, S: NonZeroInxGenericStack<ArenaSlot<P, T>>> Slots<P, T, S> {
         }
         None
     }
+
+    // How many slots there are up to the last entry.
+    fn live_end(&self) -> usize
+        ensures { result ≡ length (trimmed (map (entry_of P.Gen.number) (S.items self.now.stack))) }
+    {
+        match self.last_live() {
+            Some(inx) => inx.get(),
+            None => 0,
+        }
+    }
 }
 
 impl<P: Ptr, T, S: SetMaxCapacity<ArenaSlot<P, T>>> Slots<P, T, S> {
@@ -404,6 +439,9 @@ fn has_free_end<P: Ptr, T, S: NonZeroInxGenericStack<ArenaSlot<P, T>>>(stack: &S
 fn pop_free_end<P: Ptr, T, S: NonZeroInxGenericStack<ArenaSlot<P, T>>>(stack: &mut S)
     ensures slots { map (entry_of P.Gen.number) (S.items stack.new)
         ≡ trimmed (map (entry_of P.Gen.number) (S.items stack.old)) }
+    ensures items { S.items stack.new
+        ≡ take (length (trimmed (map (entry_of P.Gen.number) (S.items stack.old))))
+        (S.items stack.old) }
     ensures room { S.room stack.new ≡ S.room stack.old }
     ensures limit { S.limit stack.new ≡ S.limit stack.old }
 {
@@ -434,6 +472,38 @@ fn relink<P: Ptr, T, S: NonZeroInxGenericStack<ArenaSlot<P, T>>>(
         next = index_of(inx.get() - 1);
     }
     root
+}
+
+// Links the slots of a free list in the opposite order, but for those past `end`, and gives the
+// index of the first.
+fn turn_round<P: Ptr, T, S: NonZeroInxGenericStack<ArenaSlot<P, T>>>(
+    stack: &mut S,
+    root: Option<NonZeroUsize>,
+    end: usize,
+) -> Option<NonZeroUsize>
+    requires { (free : List ℕ) × IsFreeList P.Gen.number (S.items stack.old)
+        (option_map non_zero_usize_get root) free }
+    ensures slots { map (entry_of P.Gen.number) (S.items stack.new)
+        ≡ map (entry_of P.Gen.number) (S.items stack.old) }
+    ensures turned { (free : List ℕ)
+        → IsFreeList P.Gen.number (S.items stack.old) (option_map non_zero_usize_get root) free
+        → IsFreeList P.Gen.number (S.items stack.new) (option_map non_zero_usize_get result)
+        (reverse (up_to end free)) }
+    ensures room { S.room stack.new ≡ S.room stack.old }
+    ensures limit { S.limit stack.new ≡ S.limit stack.old }
+{
+    let mut turned = None;
+    let mut next = root;
+    'turns: while let Some(inx) = next {
+        let slot = stack.get_mut(inx).unwrap();
+        let link = slot.link();
+        slot.set_link(FreeLink::to(turned, inx));
+        if inx.get() <= end {
+            turned = Some(inx);
+        }
+        next = link.after(inx);
+    }
+    turned
 }
 
 // The index of that number, if it is not 0.

@@ -1,6 +1,7 @@
 use Rattle.triple_arena.proofs.Steps.{with_value_stays, invalidated_stays, removed_stays, cleared_stays, reallocated_stays, with_limit_stays}
 use Rattle.triple_arena.proofs.WellFormed.{IsWellFormed-empty, IsWellFormed-inserted, IsWellFormed-counter}
 use Rattle.triple_arena.proofs.Tidying.{IsWellFormed-tidied}
+use Rattle.triple_arena.proofs.FreeEnd.{IsWellFormed-without_free_end}
 use Rattle.triple_arena.specs.EntryLaws.{well_formed-grown}
 use Rattle.triple_arena.proofs.laws.well_formed_stays.Goals as goal
 
@@ -24,6 +25,9 @@ returns-clause-cleared g c = cleared_stays
 
 pub returns-clause-tidied : goal.returns-clause-tidied
 returns-clause-tidied g c = IsWellFormed-tidied
+
+pub returns-clause-without_free_end : goal.returns-clause-without_free_end
+returns-clause-without_free_end g c = IsWellFormed-without_free_end
 
 pub returns-clause-reallocated : goal.returns-clause-reallocated
 returns-clause-reallocated g c = reallocated_stays

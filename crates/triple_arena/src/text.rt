@@ -1,0 +1,19 @@
+//! The text of an arena.
+
+use crate::base_arena::Arena;
+use crate::slot::ArenaSlot;
+use std::fmt;
+use triple_arena_ptr::Ptr;
+use triple_arena_stack::NonZeroInxGenericStack;
+
+impl<P: Ptr, T: fmt::Debug, S: NonZeroInxGenericStack<ArenaSlot<P, T>>> fmt::Debug
+    for Arena<P, T, S> {
+    /// Writes `{pointer: value, ..}`, by index.
+    fn fmt<W: fmt::Write>(&self, f: &mut fmt::Formatter<W>) -> fmt::Result {
+        let mut entries = f.debug_map();
+        for (p, value) in self {
+            entries.entry(&p, value);
+        }
+        entries.finish()
+    }
+}

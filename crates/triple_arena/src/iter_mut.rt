@@ -1,8 +1,9 @@
 //! The iterators that lend each value of an arena for writing.
 
-ghost use Rattle.std.specs.Prelude.{◌≡◌, length};
+ghost use Rattle.std.specs.Prelude.{◌≡◌, ◌<◌, ◌^◌, length};
 ghost use Rattle.std.specs.Borrow.{sem};
 ghost use Rattle.std.specs.Iterator.{YieldsFirstBy, item_count};
+ghost use Rattle.triple_arena.specs.ArenaState.{arena_len};
 ghost use Rattle.triple_arena.specs.InOrder.{entries_in_order, values_in_order};
 ghost use Rattle.triple_arena.specs.Lent.{lent_rest, lent_name, lends_values};
 ghost use Rattle.triple_arena.specs.Values.{with_values_of, KeepsPointers};
@@ -35,7 +36,8 @@ impl<'a, P: Ptr, T> Model for IterMut<'a, P, T> {
     ghost use Rattle.std.specs.Int.NonZero.{non_zero_usize_get};
     ghost use Rattle.triple_arena_ptr.specs.Numbers.{greatest_index};
     ghost use Rattle.triple_arena_ptr.specs.Pointers.{Pointer};
-    ghost use Rattle.triple_arena.specs.InOrder.{entries_from};
+    ghost use Rattle.triple_arena.specs.ArenaState.{arena_len};
+ghost use Rattle.triple_arena.specs.InOrder.{entries_from};
     ghost use Rattle.triple_arena.specs.Slot.{entry_of};
 
     ghost Value = { List (Pointer × T) × GName };
@@ -121,6 +123,8 @@ impl<P: Ptr, T, S: NonZeroInxGenericStack<ArenaSlot<P, T>>> Arena<P, T, S> {
             self.entry (lent_name result) (with_values_of self.old)) }
         ensures keeps { KeepsPointers self.old }
         ensures rest { lent_rest result ≡ entries_in_order self.old.slots }
+        ensures len { length (lent_rest result) ≡ arena_len self.old }
+        ensures fits { arena_len self.old < 2 ^ 64 }
     {
         let left = self.slot_count();
         IterMut {
@@ -137,6 +141,8 @@ impl<P: Ptr, T, S: NonZeroInxGenericStack<ArenaSlot<P, T>>> Arena<P, T, S> {
             self.entry (lent_name result) (with_values_of self.old)) }
         ensures keeps { KeepsPointers self.old }
         ensures rest { lent_rest result ≡ values_in_order self.old.slots }
+        ensures len { length (lent_rest result) ≡ arena_len self.old }
+        ensures fits { arena_len self.old < 2 ^ 64 }
     {
         ValsMut {
             entries: self.iter_mut(),
@@ -158,6 +164,8 @@ impl<'a, P: Ptr, T, S: NonZeroInxGenericStack<ArenaSlot<P, T>>> IntoIterator
             self.entry (lent_name result) (with_values_of self.old)) }
         ensures keeps { KeepsPointers self.old }
         ensures into_iter_gives { lent_rest result ≡ entries_in_order self.old.slots }
+        ensures len { length (lent_rest result) ≡ arena_len self.old }
+        ensures fits { arena_len self.old < 2 ^ 64 }
     {
         self.iter_mut()
     }

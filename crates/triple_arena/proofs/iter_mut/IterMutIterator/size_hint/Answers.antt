@@ -5,5 +5,5 @@ use Rattle.triple_arena.proofs.iter_mut.IterMutIterator.size_hint.Goals as goal
 
 pub returns-clause-upper : goal.returns-clause-upper
 returns-clause-upper g c =
-    let fewer = length-entries g.P.Gen.PtrGen.number c.self.inside.walk.now (non_zero_usize_get c.self.inside.next) in
+    let fewer = length-entries g.P.Gen.PtrGen.number (non_zero_usize_get c.self.inside.next) c.self.inside.walk.now in
     (tt, rw (← c.self.view_is) (omega (arith, fewer, c.self.invariant.0)))

@@ -10,9 +10,9 @@ module _ {T : Type 0} where
   entries_from i (Some e ∷ slots) = ((i, e.0), e.1) ∷ entries_from (i + 1) slots
 
   -- the entries, each after its pointer
-  abbrev pub entries_in_order : List (Option (ℕ × T)) → List (Pointer × T)
-  entries_in_order slots = entries_from 1 slots
+  abbrev pub entries : List (Option (ℕ × T)) → List (Pointer × T)
+  entries slots = entries_from 1 slots
 
   -- the values
-  abbrev pub values_in_order : List (Option (ℕ × T)) → List T
-  values_in_order slots = map (λ e. e.1) (entries_in_order slots)
+  abbrev pub values : List (Option (ℕ × T)) → List T
+  values slots = map (λ e. e.1) (entries slots)

@@ -23,10 +23,10 @@ use crate::arena_insert_trait::ArenaInsertTrait;
 use crate::arena_trait::ArenaTrait;
 use crate::disjointable_arena_trait::DisjointableArenaTrait;
 use crate::insert_entry::LendingArena;
+use crate::lent_slots::LentSlots;
 use crate::pair_call::{AtEntries, AtValues, PairCall};
 use crate::slot::ArenaSlot;
 use crate::slots::Slots;
-use crate::walk::Walk;
 use std::alloc::Global;
 use std::marker::{Model, PhantomData};
 use std::num::NonZeroUsize;
@@ -587,14 +587,14 @@ impl<P: Ptr, T, S: NonZeroInxGenericStack<ArenaSlot<P, T>>> Arena<P, T, S> {
         self.slots.stack.len()
     }
 
-    // The right to write the values of all slots, and no more.
-    pub(crate) fn walk(&mut self) -> Walk<'_, P, T>
+    // The slots, so that their values alone can be written.
+    pub(crate) fn lend_slots(&mut self) -> LentSlots<'_, P, T>
         ensures* writes_back { sem 𝓛 (lends_values ⟦<Arena<P, T, S> as LendingArena>⟧.arena_row
             self.entry result.tie (with_values_of self.old)) }
         ensures slots { map (entry_of P.Gen.number) result.now ≡ self.old.slots }
     {
         let slots = self.slots.as_mut_slice();
-        Walk {
+        LentSlots {
             at: slots.as_mut_ptr(),
             mark: PhantomData,
         }

@@ -3,21 +3,20 @@
 
 mod answers;
 mod arena_insert_trait;
+pub mod arena_iterators;
 mod arena_trait;
 mod base_arena;
 mod disjointable_arena_trait;
 mod insert_entry;
-mod iter_mut;
 pub mod laws;
+mod lent_slots;
 mod pair_call;
 mod slot;
 mod slots;
-mod walk;
 
 pub use arena_insert_trait::ArenaInsertTrait;
 pub use arena_trait::ArenaTrait;
 pub use base_arena::Arena;
 pub use disjointable_arena_trait::DisjointableArenaTrait;
 pub use insert_entry::{ArenaInsertEntry, ArenaInsertEntryTrait};
-pub use iter_mut::{IterMut, ValsMut};
 pub use slot::{ArenaSlot, FreeLink};

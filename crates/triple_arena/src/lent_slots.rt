@@ -1,4 +1,4 @@
-//! A walk over slots that lends one value after another, and changes nothing else.
+//! Slots that are lent so that their values alone can be written.
 
 ghost use Rattle.std.specs.Prelude.{◌≡◌, ◌<◌, List, ◌∷◌, length};
 ghost use Rattle.std.specs.Borrow.{GName};
@@ -13,7 +13,8 @@ use std::marker::{Model, PhantomData};
 use triple_arena_ptr::Ptr;
 
 /// The right to write the values of slots that lie in a row, for as long as 'a lasts.
-pub(crate) struct Walk<'a, P: Ptr, T> {
+#[derive(Drop)]
+pub(crate) struct LentSlots<'a, P: Ptr, T> {
     // The first slot.
     pub(crate) at: *mut ArenaSlot<P, T>,
     pub(crate) mark: PhantomData<&'a mut ArenaSlot<P, T>>,
@@ -25,18 +26,12 @@ pub(crate) struct Walk<'a, P: Ptr, T> {
     ghost now: { List (ArenaSlot P T P.Inx P.Gen) },
 }
 
-impl<'a, P: Ptr, T> Model for Walk<'a, P, T> {
+impl<'a, P: Ptr, T> Model for LentSlots<'a, P, T> {
     // the slots are lent, whatever their values
     ghost also_owns = { λ l. kept_at P.row T.row P.Inx.row P.Gen.row 'a l.name l.at l.now };
 }
 
-impl<P: Ptr, T> Drop for Walk<'_, P, T> {
-    fn drop(self) {
-        let Self { at: _, mark: _ } = self;
-    }
-}
-
-impl<'a, P: Ptr, T> Walk<'a, P, T> {
+impl<'a, P: Ptr, T> LentSlots<'a, P, T> {
     // The generation of the first slot's entry, if it has one. There has to be a slot.
     pub(crate) fn generation(&mut self) -> Option<P::Gen>
         requires { 0 < length self.old.now }

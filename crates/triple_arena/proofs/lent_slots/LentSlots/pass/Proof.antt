@@ -1,4 +1,4 @@
--- `generation` reads the first slot. Assumes `Logic`.
+-- `pass` lends the value of the first slot. Assumes `Logic`.
 use mathlib.Core.Path.{◌≡◌, refl, sym, ap, subst, ◌∙◌}
 use mathlib.Core.Option as Core
 use Prim.Native.Nat.{ℕ, suc, ◌+◌, ◌*◌, ◌<◌, ◌^◌}
@@ -21,20 +21,7 @@ use prog.Wp.{Env, Calls, Loops, WpFn, Tables}
 use types.Logic.{Logic, sem}
 use contract.Monad.{fact, fact_use, Fun}
 use contract.Running.{tables, tables_of}
-use contract.BorrowLft.{◌⊑◌, ⊑_trans, ⊑_static, meet_⊑_left, meet_⊑_right}
-use base.FractionLaws.{common}
-use base.Logic.{ex, wand, apply∗}
-use base.Fml.{fdead, Incl-refl, Incl-trans}
-use types.Kit.{assume}
-use types.Tokens.{bor_new, lent_back, lft_new, lft_end, lft-common}
-use types.Mut.{close_ref}
-use types.Run.{hop}
-use denote.Memory.{hidden_shr}
-use denote.Ref.{Bor}
-use contract.Monad.{fact_i}
-use Rattle.std.specs.Option.{option_map}
-use Rattle.triple_arena.specs.Slot.{entry_of}
-use Rattle.triple_arena.proofs.slot.ArenaSlot.TheLaws as S-laws
+use contract.BorrowLft.{◌⊑◌}
 use contract.Lifetimes.{Lfts, Shares, AllOutlive, lft_at}
 use sound.WpLaws.{WpFn-mono, FmC, fm_of}
 use types.Kit.{Item, ‵, ◌⊛◌, some, given, later, await, at_ret, updating, now, show, ◌$◌, ◌∵◌, !, qed, by, move, keep, raw, use0, use1, use2, drop, split, split3, join, group, pick, learn, rewrite, fsplit, fsplit3, fjoin, fjoin3, fpack, feq_i, feq_l, frame, suffices, done}
@@ -78,20 +65,22 @@ use Rattle.std.proofs.VecSteps.Shapes.{after as after_body}
 use Rattle.std.proofs.Common.{Option, Some, None}
 use Rattle.std.specs.Option.{option_copied_mut}
 use Rattle.std.specs.contracts.option.Option as O-type
-use Rattle.triple_arena.specs.Kept.{kept_all, Kept, kept_at}
+use Rattle.triple_arena.specs.Slot.{entry_of, with_slot_value}
+use Rattle.triple_arena.specs.Disjoint.{value_of}
+use Rattle.triple_arena.specs.Kept.{kept, kept_all, Kept, kept_at}
 use Rattle.triple_arena.proofs.Listing.{first_of}
-use Rattle.triple_arena.proofs.Keeping.{kept_all-self}
+use Rattle.triple_arena.proofs.Keeping.{kept-self, kept_all-self, kept-written}
 use Rattle.triple_arena.specs.declared.slot.ArenaSlot.{ArenaSlot}
-use Rattle.triple_arena.specs.declared.walk.Walk.{Walk}
+use Rattle.triple_arena.specs.declared.lent_slots.LentSlots.{LentSlots}
 use Rattle.triple_arena.specs.contracts.slot.ArenaSlot as S-type
-use Rattle.triple_arena.specs.contracts.walk.Walk as W-type
-use Rattle.triple_arena.specs.contracts.walk.Walk.generation as F
-use Rattle.triple_arena.specs.contracts.slot.ArenaSlot.generation as G-fn
-use Rattle.triple_arena.proofs.slot.ArenaSlot.generation.Met.{met}
-use Rattle.triple_arena.specs.contracts.walk.Walk.generation.Key.{name as #self}
-use Rattle.triple_arena.proofs.walk.Walk.TheLaws as W-laws
-use Rattle.triple_arena.proofs.walk.Walk.generation.Statement as stated
-use Rattle.triple_arena.proofs.walk.Walk.generation.Code as code
+use Rattle.triple_arena.specs.contracts.lent_slots.LentSlots as W-type
+use Rattle.triple_arena.specs.contracts.lent_slots.LentSlots.pass as F
+use Rattle.triple_arena.specs.contracts.slot.ArenaSlot.live_value_mut as G-fn
+use Rattle.triple_arena.proofs.slot.ArenaSlot.live_value_mut.Met.{met}
+use Rattle.triple_arena.specs.contracts.lent_slots.LentSlots.pass.Key.{name as #self}
+use Rattle.triple_arena.proofs.lent_slots.LentSlots.TheLaws as W-laws
+use Rattle.triple_arena.proofs.lent_slots.LentSlots.pass.Statement as stated
+use Rattle.triple_arena.proofs.lent_slots.LentSlots.pass.Code as code
 use Rattle.std.specs.declared.clone.Clone as gClone
 use Rattle.std.specs.declared.fmt.Debug as gDebug
 use Rattle.std.specs.declared.cmp.Eq as gEq
@@ -128,7 +117,7 @@ module _ (P T I G : RattleType) (P-Ptr : gPtr.Ghosts P.Denot I.Denot G.Denot) (P
   X = ArenaSlot P.Denot T.Denot I.Denot G.Denot
 
   abbrev Wd : Type 0
-  Wd = Walk P.Denot T.Denot I.Denot G.Denot
+  Wd = LentSlots P.Denot T.Denot I.Denot G.Denot
 
   abbrev kinds : List Kind
   kinds = a_type ∷ a_type ∷ a_type ∷ a_type ∷ []
@@ -154,8 +143,45 @@ module _ (P T I G : RattleType) (P-Ptr : gPtr.Ghosts P.Denot I.Denot G.Denot) (P
   abbrev Asks : Wd → Type 0
   Asks d = 0 < length d.now
 
+  -- this slot in memory, whatever its value
+  abbrev One : X → SemTy
+  One x = record { rep = X; coded = Sr.coded; size = 0; own_at = λ w b o. (mem Sr).own_at (kept rP rT rI rG x w) b o }
+
   abbrev Many : List X → SemTy
   Many xs = Kept rP rT rI rG xs
+
+  abbrev name_of : Option (MutBor T.Denot) → Core.Option GName
+  name_of None = Core.none
+  name_of (Some m) = Core.some m.ghost_name
+
+  module _ {M : Type 1} {𝓤 : Ura M} (𝓛 : Logic 𝓤) where
+    open 𝓛 use {H, A}
+
+    mend : (x : X) (xs : List X) (b o : ℕ) (w : X) (ws : List X) → ent 𝓤 (sep 𝓤 (sem 𝓛 ((One x).own_at w b o)) (sep 𝓤 (sem 𝓛 ((Many xs).own_at ws b (o + (mem Sr).size))) (emp 𝓤))) (sem 𝓛 ((Many (x ∷ xs)).own_at (w ∷ ws) b o))
+    mend x xs b o w ws = qed 𝓛 (‵ ((mem Sr).own_at (kept rP rT rI rG x w) b o) ∷ ‵ ((Arr (mem Sr) (length xs)).own_at (kept_all rP rT rI rG xs ws) b (o + (mem Sr).size)) ∷ raw (emp 𝓤) ∷ []) ∵
+        move ! (1 ∷ []) $ fsplit ! $ feq_l ! (λ e. move ! (1 ∷ 0 ∷ []) $ fjoin ! $ feq_i ! ℕ (suc (length (kept_all rP rT rI rG xs ws))) (suc (length xs)) (ap suc e) $ fjoin ! $ keep ! (0 ∷ []) $ done !)
+
+    -- the value's loan, or none, closes the slot's
+    module _ (x : X) (b o : ℕ) (γ δ : GName) (κ : Lft) (q : Share) (n : ℕ) where
+      abbrev Open : List (Item 𝓤)
+      Open = raw (aged 𝓤 H A n κ q (Borrowed (One x) b o γ)) ∷ ‵ (fobs γ (Sr.coded.code x)) ∷ ‵ (fauth γ (Sr.coded.code x)) ∷ ‵ (flent (deep n κ) (Borrowed (mem Sr) b o δ)) ∷ []
+
+      shut : (r : Option (MutBor T.Denot)) → ent 𝓤 (sep 𝓤 (sem 𝓛 (follows_if Sr rT δ (name_of r) (with_slot_value x) x)) (sep 𝓤 (aged 𝓤 H A n κ q (Borrowed (One x) b o γ)) (sep 𝓤 (A.obs γ (Sr.coded.code x)) (sep 𝓤 (A.auth γ (Sr.coded.code x)) (A.lent (deep n κ) (Borrowed (mem Sr) b o δ)))))) (H.⇛ (A.lft κ q))
+      unfolding follows_by
+      shut (Some m) =
+          let back : (w : T.Denot) → ent 𝓤 (sep 𝓤 (sem 𝓛 ((mem Sr).own_at (with_slot_value x w) b o)) (emp 𝓤)) (sem 𝓛 ((One x).own_at (with_slot_value x w) b o)) = λ w.
+          qed 𝓛 (‵ ((mem Sr).own_at (with_slot_value x w) b o) ∷ raw (emp 𝓤) ∷ []) ∵ rewrite ! 0 (λ (z : X). ‵ ((mem Sr).own_at z b o)) (sym (kept-written rP rT rI rG x w)) refl $ keep ! (0 ∷ []) $ done ! in
+          qed 𝓛 (‵ (follows Sr rT δ m.ghost_name (with_slot_value x)) ∷ Open) ∵ updating ! $ nothing ! $ move ! (2 ∷ 3 ∷ 4 ∷ 5 ∷ 1 ∷ 0 ∷ []) $ group ! 6 $
+          use1 𝓛 (later (‵ (flft κ q) ⊛ ‵ (after (One x) (mem rT) γ m.ghost_name (with_slot_value x))))
+          (closes_following 𝓛 (One x) (mem Sr) (mem rT) (with_slot_value x) (with_slot_value x) κ q b o b o γ δ m.ghost_name (emp 𝓤) back n (Sr.coded.code x) (Sr.coded.code x)) $ await ! tt $ split ! $ now ! $ keep ! (0 ∷ []) $ done !
+      shut None =
+          let back : (w : X) → ent 𝓤 (sep 𝓤 (sem 𝓛 ((mem Sr).own_at x b o)) (emp 𝓤)) (sem 𝓛 ((One x).own_at x b o)) = λ w.
+          qed 𝓛 (‵ ((mem Sr).own_at x b o) ∷ raw (emp 𝓤) ∷ []) ∵ rewrite ! 0 (λ (z : X). ‵ ((mem Sr).own_at z b o)) (sym (kept-self rP rT rI rG x)) refl $ keep ! (0 ∷ []) $ done ! in
+          qed 𝓛 (‵ (fres δ (Sr.coded.code x)) ∷ Open) ∵ updating ! $ name_new ! tt (Sr.coded.code x) (λ ν.
+          move ! (2 ∷ 1 ∷ []) $ use2 𝓛 (‵ (follows Sr Sr δ ν (λ _. x))) (follows_said 𝓛 Sr δ ν x x) $
+          nothing ! $ move ! (3 ∷ 4 ∷ 5 ∷ 6 ∷ 1 ∷ 0 ∷ []) $ group ! 6 $
+          use1 𝓛 (later (‵ (flft κ q) ⊛ ‵ (after (One x) (mem Sr) γ ν (λ _. x))))
+          (closes_following 𝓛 (One x) (mem Sr) (mem Sr) (λ _. x) (λ _. x) κ q b o b o γ δ ν (emp 𝓤) back n (Sr.coded.code x) (Sr.coded.code x)) $ await ! tt $ split ! $ now ! $ keep ! (0 ∷ []) $ done !)
 
   module _ (LP : Laws P) (LT : Laws T) (LI : Laws I) (LG : Laws G) {M : Type 1} {𝓤 : Ura M} (𝓛 : Logic 𝓤) (at : Memory → SProp 𝓤) (run : Routine → Fun 𝓤) where
     open 𝓛 use {H, A}
@@ -179,11 +205,15 @@ module _ (P T I G : RattleType) (P-Ptr : gPtr.Ghosts P.Denot I.Denot G.Denot) (P
       abbrev It : RattleType
       It = Wr κs
 
+      -- the row of the result, and its laws
+      abbrev Ref : RattleType
+      Ref = MutRef (named 1) κ' rT
+
       abbrev Opt : RattleType
-      Opt = O-type.the_row rG
+      Opt = O-type.the_row Ref
 
       Opt-laws : Laws Opt
-      Opt-laws = option_laws rG (copied_laws 3 G LG)
+      Opt-laws = option_laws Ref (of_field (mut_ref_field (record { mir = named 1; lft = κ' }) rT tt) (mut_ref_laws (record { mir = named 1; lft = κ' }) rT tt) refl (mut_ref_shared (record { mir = named 1; lft = κ' }) rT tt (row_shared rT (param_laws 1 T LT))))
 
       abbrev self : MutBor Wd
       self = record { ref_ptr = (rb, ro); ghost_name = γ; now = h }
@@ -235,36 +265,9 @@ module _ (P T I G : RattleType) (P-Ptr : gPtr.Ghosts P.Denot I.Denot G.Denot) (P
       abbrev others : Item 𝓤
       others = ‵ (flft c₂ qs.1.1.0) ⊛ ‵ (flft c₃ qs.1.1.1.0) ⊛ ‵ (flft c₄ qs.1.1.1.1.0) ⊛ ‵ (flft c₅ qs.1.1.1.1.1.0) ⊛ ‵ ftrue
 
-      abbrev Lives : Type 0
-      Lives = (c₂ ⊑ P.lives) × (c₃ ⊑ T.lives) × ([] ⊑ I.lives) × ([] ⊑ G.lives)
-
-      lives : (Z : SProp 𝓤) → ent 𝓤 (Q Z) (fact 𝓤 Lives)
-      lives Z =
-          let Z₁ = sep 𝓤 (f [] G) Z in let Z₂ = sep 𝓤 (f [] I) Z₁ in let Z₃ = sep 𝓤 (f [] P) Z₂ in let Z₄ = sep 𝓤 (f c₅ G) Z₃ in let Z₅ = sep 𝓤 (f c₄ I) Z₄ in let Z₆ = sep 𝓤 (f c₃ T) Z₅ in
-          let to₂ = via 𝓤 Z₆ (snd∗ 𝓤 (f c₂ P) Z₆) (via 𝓤 Z₅ (snd∗ 𝓤 (f c₃ T) Z₅) (via 𝓤 Z₄ (snd∗ 𝓤 (f c₄ I) Z₄) (via 𝓤 Z₃ (snd∗ 𝓤 (f c₅ G) Z₃) (snd∗ 𝓤 (f [] P) Z₂)))) in
-          fact_use 𝓤 (c₂ ⊑ P.lives) (fst∗ 𝓤 (f c₂ P) Z₆) (λ p. fact_use 𝓤 (c₃ ⊑ T.lives) (via 𝓤 Z₆ (snd∗ 𝓤 (f c₂ P) Z₆) (fst∗ 𝓤 (f c₃ T) Z₅)) (λ t.
-          fact_use 𝓤 ([] ⊑ I.lives) (via 𝓤 Z₂ to₂ (fst∗ 𝓤 (f [] I) Z₁)) (λ i. fact_use 𝓤 ([] ⊑ G.lives) (via 𝓤 Z₂ to₂ (via 𝓤 Z₁ (snd∗ 𝓤 (f [] I) Z₁) (fst∗ 𝓤 (f [] G) Z))) (λ g. fact_i 𝓤 Lives (Q Z) (p, t, i, g)))))
-
-      -- a slot is lent as a `&` for a new lifetime, with the way back
-      abbrev Lent : Share → ℕ → ℕ → X → ℕ × Share → SProp 𝓤
-      Lent s b o x n = sep 𝓤 (sem 𝓛 (hidden_shr Sr (n.0 ∷ κ') x b o)) (sep 𝓤 (A.lft (n.0 ∷ κ') n.1) (wand 𝓤 (A.lft (n.0 ∷ κ') n.1) (H.⇛ (sep 𝓤 (sem 𝓛 (part_at Sr full_share x b o)) (A.lft κ' s)))))
-
-      lends : κ' ⊑ Sr.lives → (q₀ : Share) (b o : ℕ) (x : X) → ent 𝓤 (sep 𝓤 (sem 𝓛 (part_at Sr full_share x b o)) (A.lft κ' q₀)) (H.⇛ (ex 𝓤 (Lent q₀ b o x)))
-      lends le q₀ b o x =
-          let P₀ : Fml = part_at Sr full_share x b o in
-          qed 𝓛 (‵ P₀ ∷ ‵ (flft κ' q₀) ∷ []) ∵ updating ! $ move ! (1 ∷ []) $ lft_new ! tt (λ n.
-          let c : Lft = n ∷ κ' in
-          let s : Share = (common full_share q₀).0 in
-          let Back : SProp 𝓤 = wand 𝓤 (A.lft c s) (sep 𝓤 (A.lft (n ∷ []) full_share) (A.lft κ' q₀)) in
-          use2 𝓛 (‵ (flft c s) ⊛ raw Back) (lft-common 𝓛 (n ∷ []) κ' full_share q₀) $ split ! $ move ! (2 ∷ []) $ bor_new ! tt c $ move ! (0 ∷ 2 ∷ []) $
-          use2 𝓛 (later (‵ (hidden_shr Sr c x b o) ⊛ ‵ (flft c s))) ((S-laws.the_row_laws rP rT rI rG (copied_laws 0 P LP) (param_laws 1 T LT) (copied_laws 2 I LI) (copied_laws 3 G LG)).shares 𝓛 x c ((c, s) ∷ []) b o (Incl-trans (meet_⊑_right (n ∷ []) κ') le) (Incl-refl c)) $ await ! tt $ split ! $
-          now ! $ show ! (Lent q₀ b o x) (n, s) $ frame ! $ frame ! $ assume ! (‵ (flft c s)) $ updating ! $ move ! (0 ∷ 2 ∷ []) $
-          use2 𝓛 (‵ (flft (n ∷ []) full_share) ⊛ ‵ (flft κ' q₀)) (apply∗ 𝓤 (A.lft c s) (sep 𝓤 (A.lft (n ∷ []) full_share) (A.lft κ' q₀))) $ split ! $ lft_end ! tt $
-          use1 𝓛 (‵ (fdead c)) (𝓛.lfts.dead-incl c (n ∷ []) (meet_⊑_left (n ∷ []) κ')) $ move ! (0 ∷ 2 ∷ []) $ lent_back ! tt $ now ! $ done !)
-
       module _ (C : Calls 𝓤 H) (Λ : Loops 𝓤 H) where
-        walk : (fm : FmC 𝓤 H 𝓛.laws C) → Triple 𝓤 (C (G-fn.Key.name args)) (triple_of 𝓛 (G-fn.signature P T I G) (G-fn.spec P T I G P-Ptr P-Ptr-dict P-Debug P-Debug-dict P-Hash P-Hash-dict P-Eq P-Eq-dict P-PartialEq P-PartialEq-dict P-Clone P-Clone-dict P-PartialOrd P-PartialOrd-dict P-Ord P-Ord-dict P-Recast P-Recast-dict P-Inx-PtrInx P-Inx-PtrInx-dict P-Inx-Debug P-Inx-Debug-dict P-Inx-Hash P-Inx-Hash-dict P-Inx-Eq P-Inx-Eq-dict P-Inx-PartialEq P-Inx-PartialEq-dict P-Inx-Clone P-Inx-Clone-dict P-Inx-PartialOrd P-Inx-PartialOrd-dict P-Inx-Ord P-Inx-Ord-dict P-Gen-PtrGen P-Gen-PtrGen-dict P-Gen-Debug P-Gen-Debug-dict P-Gen-Hash P-Gen-Hash-dict P-Gen-Eq P-Gen-Eq-dict P-Gen-PartialEq P-Gen-PartialEq-dict P-Gen-Clone P-Gen-Clone-dict P-Gen-PartialOrd P-Gen-PartialOrd-dict P-Gen-Ord P-Gen-Ord-dict 𝓛 at run)) → Asks h → Lives → ent 𝓤 ((walk_of 𝓛 end stayed spec).pre bound) (WpFn 𝓤 H C Λ function (vptr rb ro ∷ []) Post)
-        walk fm callee asked alive =
+        walk : (fm : FmC 𝓤 H 𝓛.laws C) → Triple 𝓤 (C (G-fn.Key.name args)) (triple_of 𝓛 (G-fn.signature P T I G) (G-fn.spec P T I G P-Ptr P-Ptr-dict P-Debug P-Debug-dict P-Hash P-Hash-dict P-Eq P-Eq-dict P-PartialEq P-PartialEq-dict P-Clone P-Clone-dict P-PartialOrd P-PartialOrd-dict P-Ord P-Ord-dict P-Recast P-Recast-dict P-Inx-PtrInx P-Inx-PtrInx-dict P-Inx-Debug P-Inx-Debug-dict P-Inx-Hash P-Inx-Hash-dict P-Inx-Eq P-Inx-Eq-dict P-Inx-PartialEq P-Inx-PartialEq-dict P-Inx-Clone P-Inx-Clone-dict P-Inx-PartialOrd P-Inx-PartialOrd-dict P-Inx-Ord P-Inx-Ord-dict P-Gen-PtrGen P-Gen-PtrGen-dict P-Gen-Debug P-Gen-Debug-dict P-Gen-Hash P-Gen-Hash-dict P-Gen-Eq P-Gen-Eq-dict P-Gen-PartialEq P-Gen-PartialEq-dict P-Gen-Clone P-Gen-Clone-dict P-Gen-PartialOrd P-Gen-PartialOrd-dict P-Gen-Ord P-Gen-Ord-dict 𝓛 at run)) → Asks h → ent 𝓤 ((walk_of 𝓛 end stayed spec).pre bound) (WpFn 𝓤 H C Λ function (vptr rb ro ∷ []) Post)
+        walk fm callee asked =
             let G' = triple_of 𝓛 (G-fn.signature P T I G) (G-fn.spec P T I G P-Ptr P-Ptr-dict P-Debug P-Debug-dict P-Hash P-Hash-dict P-Eq P-Eq-dict P-PartialEq P-PartialEq-dict P-Clone P-Clone-dict P-PartialOrd P-PartialOrd-dict P-Ord P-Ord-dict P-Recast P-Recast-dict P-Inx-PtrInx P-Inx-PtrInx-dict P-Inx-Debug P-Inx-Debug-dict P-Inx-Hash P-Inx-Hash-dict P-Inx-Eq P-Inx-Eq-dict P-Inx-PartialEq P-Inx-PartialEq-dict P-Inx-Clone P-Inx-Clone-dict P-Inx-PartialOrd P-Inx-PartialOrd-dict P-Inx-Ord P-Inx-Ord-dict P-Gen-PtrGen P-Gen-PtrGen-dict P-Gen-Debug P-Gen-Debug-dict P-Gen-Hash P-Gen-Hash-dict P-Gen-Eq P-Gen-Eq-dict P-Gen-PartialEq P-Gen-PartialEq-dict P-Gen-Clone P-Gen-Clone-dict P-Gen-PartialOrd P-Gen-PartialOrd-dict P-Gen-Ord P-Gen-Ord-dict 𝓛 at run) in
             let found = first_of h.now asked in
             let x : X = found.0 in
@@ -286,51 +289,74 @@ module _ (P T I G : RattleType) (P-Ptr : gPtr.Ghosts P.Denot I.Denot G.Denot) (P
             let spelled : vs ≡ word b o ∷ [] = lowers.val_is h vs is ∙ ap (λ (p : Ptr). lowers.lowered (record h { at = p }) ∷ []) e in
             rewrite ! 2 (λ (ws : List Val). ‵ (cell_at full_share It.mir ws rb ro)) spelled refl $
             fsplit ! $ pure_l ! (room Sr (length h.now)) (λ rm. fsplit ! $
-            let le : κ' ⊑ Sr.lives = S-laws.the_within rP rT rI rG κ' (⊑_trans κ' c₂ P.lives within.1.1.1.0 alive.0) (⊑_trans κ' c₃ T.lives within.1.1.1.1.0 alive.1) (⊑_trans κ' [] I.lives (⊑_static κ') alive.2) (⊑_trans κ' [] G.lives (⊑_static κ') alive.3) in
+            let long : length h.now ≡ suc (length ys) = ap length was in
+            let mul : suc (length ys) * s ≡ length ys * s + s = suc-mul (length ys) s in
+            let fit : suc (length ys) * s < 2 ^ 63 = subst (λ (k : ℕ). k * s < 2 ^ 63) long rm.1 in
+            let once : 1 * s ≡ s = one-mul s in
+            let tiny : s < 2 ^ 64 = omega arith in
+            let f₁ : 1 * s < 2 ^ 64 = omega arith in
+            let on : 1 * s + o ≡ o + s = omega arith in
+            let rm' : Room Sr (length ys) = (omega (arith, rm.0), omega arith) in
+            -- [obs of the slots; their borrow; the fields; the walk's cell; the open borrow; obs; auth; the token of 'a; the others; true; what is required]
             rewrite ! 0 (λ (zs : List X). ‵ (fobs h.name ((coded_list Sr.coded).code zs))) was refl $ rewrite ! 1 (λ (zs : List X). ‵ (fbor κ' (Borrowed (Many zs) b o h.name))) was refl $
+            -- the code: the first slot's reference, and the pointer past it
             move ! (3 ∷ []) $ use1 𝓛 (‵ (fat full_share written rb ro (word b o))) (𝓛.laws.raw_at full_share written rb ro (word b o)) $
             first ! $ blocks ! $
-            sets_last ! (addr ! (through ! refl (fld ! refl (hop ! (look_in ! 0 (sub ! 0 refl (whole !))) (stop !))))) refl (tt, tt) $
+            sets ! (of_opd ! (load ! (through ! refl (fld ! refl (stop !))) (look_in ! 0 (sub ! 0 refl (whole !))))) refl (tt, tt) $
+            sets ! (bin ! (lit ! tt) (size_lit ! (record { fits = tiny })) (record { fits = f₁ })) refl (tt, record { fits = f₁ }) $
+            sets ! (bin ! (get ! refl) (get ! refl) tt) refl (tt, tt) $
+            assigns ! (of_opd ! (get ! refl)) (through ! refl (fld ! refl (stop !))) (store_in ! 0 (sub ! 0 refl (whole !)) (tt, tt)) $
+            sets_last ! (addr ! (through ! refl (stop !))) refl (tt, tt) $
             exec ! C Λ En (after_body 1 function.body) (at_ret En Post) $
             sets ! (of_opd ! (get ! refl)) refl (tt, tt) $
-            use1 𝓛 (‵ (fat full_share (bare written) rb ro (word b o))) (𝓛.laws.at_raw full_share written rb ro (word b o)) $
+            sets ! (addr ! (through ! refl (stop !))) refl (tt, tt) $
+            use1 𝓛 (‵ (fat full_share (bare written) rb ro (word b (1 * s + o)))) (𝓛.laws.at_raw full_share written rb ro (word b (1 * s + o))) $
+            rewrite ! 0 (λ (k : ℕ). ‵ (fat full_share (bare written) rb ro (word b k))) on refl $
             -- [the walk's cell; obs of the slots; their borrow; the fields; the open borrow; obs; auth; the token of 'a; the others; true; what is required]
             move ! (7 ∷ []) $ use1 𝓛 (‵ (flft κ' (left q')) ⊛ ‵ (flft κ' (right q'))) (𝓛.lfts.lft_split κ' q') $ split ! $
             move ! (3 ∷ 4 ∷ 0 ∷ []) $ open_ref ! tt (Many xs) {x = xs} {b = b} {o = o} $
             rewrite ! 0 (λ (zs : List X). ‵ ((Arr (mem Sr) (length xs)).own_at zs b o)) (kept_all-self rP rT rI rG xs) refl $ fsplit ! $ drop ! $ fsplit ! $
             -- [the slot; the rest; the slots' open borrow; obs; auth; half; the cell; the fields; the open borrow; obs; auth; the others; true; what is required]
-            move ! (0 ∷ 5 ∷ []) $ use2 𝓛 (later (some (λ (n : ℕ × Share). raw (Lent (right q') b o x n)))) (lends le (right q') b o x) $ await ! tt $ pick ! (λ n.
-            let c : Lft = n.0 ∷ κ' in
-            let lent_slot : Bor X = record { ref_ptr = (b, o); now = x } in
-            let Ends : SProp 𝓤 = wand 𝓤 (A.lft c n.1) (H.⇛ (sep 𝓤 (sem 𝓛 (part_at Sr full_share x b o)) (A.lft κ' (right q')))) in
-            let z : G'.Ghost = (((c, κs.1.1), (n.1, qs.1.1), (⊑_trans c κ' c₂ (meet_⊑_right (n.0 ∷ []) κ') within.1.1.1.0, (⊑_trans c κ' c₃ (meet_⊑_right (n.0 ∷ []) κ') within.1.1.1.1.0, tt)), (lent_slot, tt), (vptr b o ∷ [], tt)), tt) in
-            use1 𝓛 (‵ (hidden_shr Sr c x b o) ⊛ ‵ (flft c n.1) ⊛ raw Ends) (id⊢ 𝓤 _) $ split3 ! $
-            feq_i ! (List Val) (vptr b o ∷ []) (vptr b o ∷ []) refl $ fjoin ! $
-            move ! (0 ∷ 13 ∷ []) $ fjoin ! $ move ! (1 ∷ 12 ∷ []) $ join ! $ move ! (0 ∷ 1 ∷ []) $ join ! $ move ! (0 ∷ 11 ∷ []) $ join ! $
+            rewrite ! 0 (λ (z : X). ‵ ((mem Sr).own_at z b o)) (sym (kept-self rP rT rI rG x)) refl $
+            move ! (1 ∷ []) $ feq_i ! ℕ (length ys) (length ys) refl $ fjoin ! $
+            rewrite ! 0 (λ (zs : List X). ‵ ((Arr (mem Sr) (length ys)).own_at zs b (o + s))) (sym (kept_all-self rP rT rI rG ys)) refl $
+            nothing ! $ move ! (3 ∷ 4 ∷ 5 ∷ 2 ∷ 1 ∷ 0 ∷ []) $ group ! 6 $
+            use1 𝓛 (later (some (λ (γs : GName × GName). (‵ (fobs γs.0 (Sr.coded.code x)) ⊛ ‵ (fbor κ' (Borrowed (One x) b o γs.0))) ⊛ (‵ (fobs γs.1 ((coded_list Sr.coded).code ys)) ⊛ ‵ (fbor κ' (Borrowed (Many ys) b (o + s) γs.1)))
+            ⊛ ‵ (flft κ' (left q')) ⊛ ‵ (after₂ (Many xs) (One x) (Many ys) h.name γs.0 γs.1 (λ w ws. w ∷ ws)))))
+            (takes_two 𝓛 (Many xs) (One x) (Many ys) (λ w ws. w ∷ ws) κ' (left q') b o b o b (o + s) h.name (emp 𝓤) (mend 𝓛 x ys b o) ((coded_list Sr.coded).code xs) ((coded_list Sr.coded).code xs) x ys) $ await ! tt $ pick ! (λ γs. split3 ! $
+            move ! (2 ∷ []) $ split ! $ move ! (1 ∷ []) $ drop ! $ move ! (1 ∷ []) $ split ! $ move ! (0 ∷ 1 ∷ 2 ∷ []) $
+            -- [obs; the borrow of the slot; half; the rest; half; the cell; the fields; the open borrow; obs; auth; the others; true; what is required]
+            open_ref ! tt (One x) {x = x} {b = b} {o = o} $
+            rewrite ! 0 (λ (z : X). ‵ ((mem Sr).own_at z b o)) (kept-self rP rT rI rG x) refl $
+            name_new ! tt (Sr.coded.code x) (λ δ.
+            let lent_slot : MutBor X = record { ref_ptr = (b, o); ghost_name = δ; now = x } in
+            let z : G'.Ghost = ((κs.1, (right q', qs.1.1), (within.1.1.1.0, (within.1.1.1.1.0, tt)), (lent_slot, tt), (vptr b o ∷ [], tt)), tt) in
+            move ! (2 ∷ 1 ∷ []) $ fjoin ! $ fpack ! X (λ y. fsep ((mem Sr).own_at y b o) (fauth δ (Sr.coded.code y))) x $
+            move ! (2 ∷ []) $ ages ! (λ n. move ! (1 ∷ []) $ bor_new_deep ! tt n κ' $
+            move ! (3 ∷ 0 ∷ []) $ feq_i ! (List Val) (vptr b o ∷ []) (vptr b o ∷ []) refl $ fjoin3 ! $
+            -- [the reference; the right; the aged borrow; obs; auth; the rest; half; the cell; the fields; the open borrow; obs; auth; the others; true; what is required]
+            move ! (0 ∷ 13 ∷ []) $ fjoin ! $ move ! (6 ∷ 12 ∷ []) $ join ! $ move ! (0 ∷ 1 ∷ []) $ join ! $ move ! (0 ∷ 11 ∷ []) $ join ! $
             use1 𝓛 (raw (G'.pre z)) (id⊢ 𝓤 _) $
             calls_at ! fm G' callee z (and_then ! (get ! refl) (no_more !)) (λ v.
-            use1 𝓛 (later (some (λ (r : Option G.Denot). ((‵ (flft c n.1) ⊛ others) ⊛ ‵ (Opt.own_val r (v ∷ []))) ⊛
-            some (λ (ws : Unit {0} × Unit {0}). ‵ (lasts (G-fn.ended P T I G P-Ptr P-Ptr-dict P-Debug P-Debug-dict P-Hash P-Hash-dict P-Eq P-Eq-dict P-PartialEq P-PartialEq-dict P-Clone P-Clone-dict P-PartialOrd P-PartialOrd-dict P-Ord P-Ord-dict P-Recast P-Recast-dict P-Inx-PtrInx P-Inx-PtrInx-dict P-Inx-Debug P-Inx-Debug-dict P-Inx-Hash P-Inx-Hash-dict P-Inx-Eq P-Inx-Eq-dict P-Inx-PartialEq P-Inx-PartialEq-dict P-Inx-Clone P-Inx-Clone-dict P-Inx-PartialOrd P-Inx-PartialOrd-dict P-Inx-Ord P-Inx-Ord-dict P-Gen-PtrGen P-Gen-PtrGen-dict P-Gen-Debug P-Gen-Debug-dict P-Gen-Hash P-Gen-Hash-dict P-Gen-Eq P-Gen-Eq-dict P-Gen-PartialEq P-Gen-PartialEq-dict P-Gen-Clone P-Gen-Clone-dict P-Gen-PartialOrd P-Gen-PartialOrd-dict P-Gen-Ord P-Gen-Ord-dict) (c, κs.1.1) (lent_slot, tt) ws) ⊛ raw (fact 𝓤 (option_map P-Gen-PtrGen.number r ≡ option_map (λ e. e.0) (entry_of P-Gen-PtrGen.number x))))))) (id⊢ 𝓤 _) $
+            use1 𝓛 (later (some (λ (r : Option (MutBor T.Denot)). ((‵ (flft κ' (right q')) ⊛ others) ⊛ ‵ (Opt.own_val r (v ∷ []))) ⊛
+            some (λ (ws : Unit {0} × Unit {0}). ‵ (lasts (G-fn.ended P T I G P-Ptr P-Ptr-dict P-Debug P-Debug-dict P-Hash P-Hash-dict P-Eq P-Eq-dict P-PartialEq P-PartialEq-dict P-Clone P-Clone-dict P-PartialOrd P-PartialOrd-dict P-Ord P-Ord-dict P-Recast P-Recast-dict P-Inx-PtrInx P-Inx-PtrInx-dict P-Inx-Debug P-Inx-Debug-dict P-Inx-Hash P-Inx-Hash-dict P-Inx-Eq P-Inx-Eq-dict P-Inx-PartialEq P-Inx-PartialEq-dict P-Inx-Clone P-Inx-Clone-dict P-Inx-PartialOrd P-Inx-PartialOrd-dict P-Inx-Ord P-Inx-Ord-dict P-Gen-PtrGen P-Gen-PtrGen-dict P-Gen-Debug P-Gen-Debug-dict P-Gen-Hash P-Gen-Hash-dict P-Gen-Eq P-Gen-Eq-dict P-Gen-PartialEq P-Gen-PartialEq-dict P-Gen-Clone P-Gen-Clone-dict P-Gen-PartialOrd P-Gen-PartialOrd-dict P-Gen-Ord P-Gen-Ord-dict) κs.1 (lent_slot, tt) ws) ⊛ (‵ (follows_if Sr rT δ (name_of r) (with_slot_value x) x) ⊛ raw (fact 𝓤 (option_copied_mut r ≡ value_of (entry_of P-Gen-PtrGen.number x)))))))) (id⊢ 𝓤 _) $
             await ! tt $ pick ! (λ r. split ! $ split ! $
-            move ! (2 ∷ []) $ pick ! (λ ws. split ! $ drop ! $ heard ! _ (λ val.
-            split ! $ move ! (0 ∷ 3 ∷ []) $ use2 𝓛 (later (‵ (part_at Sr full_share x b o) ⊛ ‵ (flft κ' (right q')))) (apply∗ 𝓤 (A.lft c n.1) (H.⇛ (sep 𝓤 (sem 𝓛 (part_at Sr full_share x b o)) (A.lft κ' (right q'))))) $ await ! tt $ split ! $
-            -- [the slot; half; the others; the option; the rest; the slots' open borrow; obs; auth; the cell; the fields; the open borrow; obs; auth]
-            move ! (0 ∷ 4 ∷ []) $ fjoin ! $ feq_i ! ℕ (length xs) (length xs) refl $ fjoin ! $
-            rewrite ! 0 (λ (zs : List X). ‵ ((Arr (mem Sr) (length xs)).own_at zs b o)) (sym (kept_all-self rP rT rI rG xs)) refl $
-            move ! (0 ∷ 4 ∷ 5 ∷ 6 ∷ []) $ close_ref ! tt (Many xs) xs $
-            move ! (2 ∷ 3 ∷ []) $ use2 𝓛 (‵ (flft κ' q')) (𝓛.lfts.lft_join κ' q') $
-            move ! (4 ∷ []) $ peeks ! Opt _ (shows 𝓛 Opt) r (v ∷ []) (λ ty.
+            move ! (2 ∷ []) $ pick ! (λ ws. split ! $ drop ! $ split ! $ move ! (1 ∷ []) $ heard ! _ (λ val.
+            -- [what follows; the tokens; the option; the right; the aged borrow; obs; auth; the rest; the cell; the fields; the open borrow; obs; auth]
+            move ! (0 ∷ 4 ∷ 5 ∷ 6 ∷ 3 ∷ []) $ group ! 5 $
+            use1 𝓛 (later (‵ (flft κ' (left q')))) (shut 𝓛 x b o γs.0 δ κ' (left q') n r) $ await ! tt $
+            move ! (1 ∷ []) $ split ! $ move ! (2 ∷ 0 ∷ []) $ use2 𝓛 (‵ (flft κ' q')) (𝓛.lfts.lft_join κ' q') $
+            -- [the token of 'a; the others; the option; the rest; the cell; the fields; the open borrow; obs; auth]
+            move ! (2 ∷ []) $ peeks ! Opt _ (shows 𝓛 Opt) r (v ∷ []) (λ ty.
             lands_as ! refl refl ((Opt-laws.lawful 𝓛).typed r (v ∷ []) ty).0 $
-            -- [the option; the token of 'a; obs of the slots; their borrow; the others; the cell; the fields; the open borrow; obs; auth]
-            let new : Wd = record { at = block_ptr b o; mark = record {}; name = h.name; tie = h.tie; now = h.now } in
-            let kept : new ≡ h = ap (λ (p : Ptr). record h { at = p }) (sym e) in
-            rewrite ! 2 (λ (zs : List X). ‵ (fobs h.name ((coded_list Sr.coded).code zs))) (sym was) refl $ rewrite ! 3 (λ (zs : List X). ‵ (fbor κ' (Borrowed (Many zs) b o h.name))) (sym was) refl $
-            move ! (2 ∷ 3 ∷ []) $ fjoin ! $ pure_i ! (room Sr (length h.now)) (tt, tt) rm $ fjoin ! $
-            use0 𝓛 (‵ ((Struct (shape (Wo κs))).own_val (block_ptr b o, (tt, tt)) (word b o ∷ []))) (made b o) $ fjoin ! $
-            move ! (4 ∷ 0 ∷ 6 ∷ 7 ∷ 8 ∷ []) $ closes ! tt It new (word b o ∷ []) rb ro $
+            let new : Wd = record { at = block_ptr b (o + s); mark = record {}; name = γs.1; tie = h.tie; now = ys } in
+            move ! (3 ∷ []) $ split ! $ fjoin ! $ pure_i ! (room Sr (length ys)) (tt, tt) rm' $ fjoin ! $
+            use0 𝓛 (‵ ((Struct (shape (Wo κs))).own_val (block_ptr b (o + s), (tt, tt)) (word b (o + s) ∷ []))) (made b (o + s)) $ fjoin ! $
+            -- [the walk; the option; the token of 'a; the others; the cell; the fields; the open borrow; obs; auth]
+            move ! (4 ∷ 0 ∷ 6 ∷ 7 ∷ 8 ∷ []) $ closes ! tt It new (word b (o + s) ∷ []) rb ro $
             returns ! (look_at ! 0 refl) $ free_all ! refl $ keep ! (0 ∷ 1 ∷ 2 ∷ 4 ∷ 5 ∷ 3 ∷ []) $
-            suffices ! _ (ends_at 𝓛 end stayed spec bound v r (new, tt) (tt, tt)) $ says ! (x, ys, was, kept, val) $
-            move ! (3 ∷ 4 ∷ []) $ join ! $ move ! (3 ∷ 0 ∷ []) $ join ! $ frame ! $ feq_i ! (List Val) (vptr rb ro ∷ []) (vptr rb ro ∷ []) refl $ fjoin3 ! $ nothing ! $ move ! (1 ∷ 0 ∷ []) $ fjoin ! $ done !)))))))))))
+            suffices ! _ (ends_at 𝓛 end stayed spec bound v r (new, tt) (tt, tt)) $ says ! (x, was, val) $
+            move ! (3 ∷ 4 ∷ []) $ join ! $ move ! (3 ∷ 0 ∷ []) $ join ! $ frame ! $ feq_i ! (List Val) (vptr rb ro ∷ []) (vptr rb ro ∷ []) refl $ fjoin3 ! $ nothing ! $ move ! (1 ∷ 0 ∷ []) $ fjoin ! $ done !)))))))))))))
 
     meets : (𝓣 : Tables 𝓤 H) → Triple 𝓤 (𝓣.C (G-fn.Key.name args)) (triple_of 𝓛 (G-fn.signature P T I G) (G-fn.spec P T I G P-Ptr P-Ptr-dict P-Debug P-Debug-dict P-Hash P-Hash-dict P-Eq P-Eq-dict P-PartialEq P-PartialEq-dict P-Clone P-Clone-dict P-PartialOrd P-PartialOrd-dict P-Ord P-Ord-dict P-Recast P-Recast-dict P-Inx-PtrInx P-Inx-PtrInx-dict P-Inx-Debug P-Inx-Debug-dict P-Inx-Hash P-Inx-Hash-dict P-Inx-Eq P-Inx-Eq-dict P-Inx-PartialEq P-Inx-PartialEq-dict P-Inx-Clone P-Inx-Clone-dict P-Inx-PartialOrd P-Inx-PartialOrd-dict P-Inx-Ord P-Inx-Ord-dict P-Gen-PtrGen P-Gen-PtrGen-dict P-Gen-Debug P-Gen-Debug-dict P-Gen-Hash P-Gen-Hash-dict P-Gen-Eq P-Gen-Eq-dict P-Gen-PartialEq P-Gen-PartialEq-dict P-Gen-Clone P-Gen-Clone-dict P-Gen-PartialOrd P-Gen-PartialOrd-dict P-Gen-Ord P-Gen-Ord-dict 𝓛 at run)) → Meets 𝓛 end.signature (WpFn 𝓤 H 𝓣.C 𝓣.Λ function) (closing 𝓛 end spec)
     meets 𝓣 callee =
@@ -339,12 +365,11 @@ module _ (P T I G : RattleType) (P-Ptr : gPtr.Ghosts P.Denot I.Denot G.Denot) (P
         (λ κs qs bounds a g are. let Want = (spec κs a).requires g in
         let On : SProp 𝓤 = on_entry 𝓛 end.signature κs qs a (vptr a.0.ref_ptr.0 a.0.ref_ptr.1 ∷ [], tt) in
         fact_use 𝓤 (Asks a.0.now) (via 𝓤 Want (snd∗ 𝓤 On Want) (last κs qs bounds a.0.ref_ptr.0 a.0.ref_ptr.1 a.0.ghost_name a.0.now (fact 𝓤 (Asks a.0.now)))) (λ asked.
-        fact_use 𝓤 (Lives κs qs bounds a.0.ref_ptr.0 a.0.ref_ptr.1 a.0.ghost_name a.0.now) (via 𝓤 Want (snd∗ 𝓤 On Want) (lives κs qs bounds a.0.ref_ptr.0 a.0.ref_ptr.1 a.0.ghost_name a.0.now (fact 𝓤 (Asks a.0.now)))) (λ alive.
-        walk κs qs bounds a.0.ref_ptr.0 a.0.ref_ptr.1 a.0.ghost_name a.0.now 𝓣.C 𝓣.Λ (fm_of 𝓤 H 𝓛.laws 𝓣) callee asked alive))))
+        walk κs qs bounds a.0.ref_ptr.0 a.0.ref_ptr.1 a.0.ghost_name a.0.now 𝓣.C 𝓣.Λ (fm_of 𝓤 H 𝓛.laws 𝓣) callee asked)))
 
-pub generation_spec : {M : Type 1} → stated.statement M
+pub pass_spec : {M : Type 1} → stated.statement M
 unfolding tables_of
-generation_spec 𝓤 𝓛 𝓜 𝓡 wired P T I G LP LT LI LG CP CI CG P-Ptr P-Ptr-dict P-Debug P-Debug-dict P-Hash P-Hash-dict P-Eq P-Eq-dict P-PartialEq P-PartialEq-dict P-Clone P-Clone-dict P-PartialOrd P-PartialOrd-dict P-Ord P-Ord-dict P-Recast P-Recast-dict P-Inx-PtrInx P-Inx-PtrInx-dict P-Inx-Debug P-Inx-Debug-dict P-Inx-Hash P-Inx-Hash-dict P-Inx-Eq P-Inx-Eq-dict P-Inx-PartialEq P-Inx-PartialEq-dict P-Inx-Clone P-Inx-Clone-dict P-Inx-PartialOrd P-Inx-PartialOrd-dict P-Inx-Ord P-Inx-Ord-dict P-Gen-PtrGen P-Gen-PtrGen-dict P-Gen-Debug P-Gen-Debug-dict P-Gen-Hash P-Gen-Hash-dict P-Gen-Eq P-Gen-Eq-dict P-Gen-PartialEq P-Gen-PartialEq-dict P-Gen-Clone P-Gen-Clone-dict P-Gen-PartialOrd P-Gen-PartialOrd-dict P-Gen-Ord P-Gen-Ord-dict m0 m1 m2 m3 m4 m5 m6 m7 m8 m9 m10 m11 m12 m13 m14 m15 m16 m17 m18 m19 m20 m21 m22 m23 m24 =
+pass_spec 𝓤 𝓛 𝓜 𝓡 wired P T I G LP LT LI LG CP CI CG P-Ptr P-Ptr-dict P-Debug P-Debug-dict P-Hash P-Hash-dict P-Eq P-Eq-dict P-PartialEq P-PartialEq-dict P-Clone P-Clone-dict P-PartialOrd P-PartialOrd-dict P-Ord P-Ord-dict P-Recast P-Recast-dict P-Inx-PtrInx P-Inx-PtrInx-dict P-Inx-Debug P-Inx-Debug-dict P-Inx-Hash P-Inx-Hash-dict P-Inx-Eq P-Inx-Eq-dict P-Inx-PartialEq P-Inx-PartialEq-dict P-Inx-Clone P-Inx-Clone-dict P-Inx-PartialOrd P-Inx-PartialOrd-dict P-Inx-Ord P-Inx-Ord-dict P-Gen-PtrGen P-Gen-PtrGen-dict P-Gen-Debug P-Gen-Debug-dict P-Gen-Hash P-Gen-Hash-dict P-Gen-Eq P-Gen-Eq-dict P-Gen-PartialEq P-Gen-PartialEq-dict P-Gen-Clone P-Gen-Clone-dict P-Gen-PartialOrd P-Gen-PartialOrd-dict P-Gen-Ord P-Gen-Ord-dict m0 m1 m2 m3 m4 m5 m6 m7 m8 m9 m10 m11 m12 m13 m14 m15 m16 m17 m18 m19 m20 m21 m22 m23 m24 =
     let 𝓣 : Tables 𝓤 𝓛.H = tables_of 𝓤 𝓛.H 𝓜 (tables 𝓤 𝓛.H 𝓜 𝓡 𝓡.env) in
     entered 𝓤 𝓛.H (triple_of 𝓛 (end P T I G P-Ptr P-Ptr-dict P-Debug P-Debug-dict P-Hash P-Hash-dict P-Eq P-Eq-dict P-PartialEq P-PartialEq-dict P-Clone P-Clone-dict P-PartialOrd P-PartialOrd-dict P-Ord P-Ord-dict P-Recast P-Recast-dict P-Inx-PtrInx P-Inx-PtrInx-dict P-Inx-Debug P-Inx-Debug-dict P-Inx-Hash P-Inx-Hash-dict P-Inx-Eq P-Inx-Eq-dict P-Inx-PartialEq P-Inx-PartialEq-dict P-Inx-Clone P-Inx-Clone-dict P-Inx-PartialOrd P-Inx-PartialOrd-dict P-Inx-Ord P-Inx-Ord-dict P-Gen-PtrGen P-Gen-PtrGen-dict P-Gen-Debug P-Gen-Debug-dict P-Gen-Hash P-Gen-Hash-dict P-Gen-Eq P-Gen-Eq-dict P-Gen-PartialEq P-Gen-PartialEq-dict P-Gen-Clone P-Gen-Clone-dict P-Gen-PartialOrd P-Gen-PartialOrd-dict P-Gen-Ord P-Gen-Ord-dict).signature (closing 𝓛 (end P T I G P-Ptr P-Ptr-dict P-Debug P-Debug-dict P-Hash P-Hash-dict P-Eq P-Eq-dict P-PartialEq P-PartialEq-dict P-Clone P-Clone-dict P-PartialOrd P-PartialOrd-dict P-Ord P-Ord-dict P-Recast P-Recast-dict P-Inx-PtrInx P-Inx-PtrInx-dict P-Inx-Debug P-Inx-Debug-dict P-Inx-Hash P-Inx-Hash-dict P-Inx-Eq P-Inx-Eq-dict P-Inx-PartialEq P-Inx-PartialEq-dict P-Inx-Clone P-Inx-Clone-dict P-Inx-PartialOrd P-Inx-PartialOrd-dict P-Inx-Ord P-Inx-Ord-dict P-Gen-PtrGen P-Gen-PtrGen-dict P-Gen-Debug P-Gen-Debug-dict P-Gen-Hash P-Gen-Hash-dict P-Gen-Eq P-Gen-Eq-dict P-Gen-PartialEq P-Gen-PartialEq-dict P-Gen-Clone P-Gen-Clone-dict P-Gen-PartialOrd P-Gen-PartialOrd-dict P-Gen-Ord P-Gen-Ord-dict) (spec P T I G P-Ptr P-Ptr-dict P-Debug P-Debug-dict P-Hash P-Hash-dict P-Eq P-Eq-dict P-PartialEq P-PartialEq-dict P-Clone P-Clone-dict P-PartialOrd P-PartialOrd-dict P-Ord P-Ord-dict P-Recast P-Recast-dict P-Inx-PtrInx P-Inx-PtrInx-dict P-Inx-Debug P-Inx-Debug-dict P-Inx-Hash P-Inx-Hash-dict P-Inx-Eq P-Inx-Eq-dict P-Inx-PartialEq P-Inx-PartialEq-dict P-Inx-Clone P-Inx-Clone-dict P-Inx-PartialOrd P-Inx-PartialOrd-dict P-Inx-Ord P-Inx-Ord-dict P-Gen-PtrGen P-Gen-PtrGen-dict P-Gen-Debug P-Gen-Debug-dict P-Gen-Hash P-Gen-Hash-dict P-Gen-Eq P-Gen-Eq-dict P-Gen-PartialEq P-Gen-PartialEq-dict P-Gen-Clone P-Gen-Clone-dict P-Gen-PartialOrd P-Gen-PartialOrd-dict P-Gen-Ord P-Gen-Ord-dict LP LT LI LG 𝓛 𝓜.mem 𝓡.returns))) 𝓣.C 𝓣.Λ (#self (args P T I G P-Ptr P-Ptr-dict P-Debug P-Debug-dict P-Hash P-Hash-dict P-Eq P-Eq-dict P-PartialEq P-PartialEq-dict P-Clone P-Clone-dict P-PartialOrd P-PartialOrd-dict P-Ord P-Ord-dict P-Recast P-Recast-dict P-Inx-PtrInx P-Inx-PtrInx-dict P-Inx-Debug P-Inx-Debug-dict P-Inx-Hash P-Inx-Hash-dict P-Inx-Eq P-Inx-Eq-dict P-Inx-PartialEq P-Inx-PartialEq-dict P-Inx-Clone P-Inx-Clone-dict P-Inx-PartialOrd P-Inx-PartialOrd-dict P-Inx-Ord P-Inx-Ord-dict P-Gen-PtrGen P-Gen-PtrGen-dict P-Gen-Debug P-Gen-Debug-dict P-Gen-Hash P-Gen-Hash-dict P-Gen-Eq P-Gen-Eq-dict P-Gen-PartialEq P-Gen-PartialEq-dict P-Gen-Clone P-Gen-Clone-dict P-Gen-PartialOrd P-Gen-PartialOrd-dict P-Gen-Ord P-Gen-Ord-dict)) (function P T I G P-Ptr P-Ptr-dict P-Debug P-Debug-dict P-Hash P-Hash-dict P-Eq P-Eq-dict P-PartialEq P-PartialEq-dict P-Clone P-Clone-dict P-PartialOrd P-PartialOrd-dict P-Ord P-Ord-dict P-Recast P-Recast-dict P-Inx-PtrInx P-Inx-PtrInx-dict P-Inx-Debug P-Inx-Debug-dict P-Inx-Hash P-Inx-Hash-dict P-Inx-Eq P-Inx-Eq-dict P-Inx-PartialEq P-Inx-PartialEq-dict P-Inx-Clone P-Inx-Clone-dict P-Inx-PartialOrd P-Inx-PartialOrd-dict P-Inx-Ord P-Inx-Ord-dict P-Gen-PtrGen P-Gen-PtrGen-dict P-Gen-Debug P-Gen-Debug-dict P-Gen-Hash P-Gen-Hash-dict P-Gen-Eq P-Gen-Eq-dict P-Gen-PartialEq P-Gen-PartialEq-dict P-Gen-Clone P-Gen-Clone-dict P-Gen-PartialOrd P-Gen-PartialOrd-dict P-Gen-Ord P-Gen-Ord-dict) (code.unfolded 𝓤 𝓛.H 𝓜 𝓡 wired (P, (T, (I, (G, tt)))) P-Ptr-dict P-Debug-dict P-Hash-dict P-Eq-dict P-PartialEq-dict P-Clone-dict P-PartialOrd-dict P-Ord-dict P-Recast-dict P-Inx-PtrInx-dict P-Inx-Debug-dict P-Inx-Hash-dict P-Inx-Eq-dict P-Inx-PartialEq-dict P-Inx-Clone-dict P-Inx-PartialOrd-dict P-Inx-Ord-dict P-Gen-PtrGen-dict P-Gen-Debug-dict P-Gen-Hash-dict P-Gen-Eq-dict P-Gen-PartialEq-dict P-Gen-Clone-dict P-Gen-PartialOrd-dict P-Gen-Ord-dict)
-    (meets P T I G P-Ptr P-Ptr-dict P-Debug P-Debug-dict P-Hash P-Hash-dict P-Eq P-Eq-dict P-PartialEq P-PartialEq-dict P-Clone P-Clone-dict P-PartialOrd P-PartialOrd-dict P-Ord P-Ord-dict P-Recast P-Recast-dict P-Inx-PtrInx P-Inx-PtrInx-dict P-Inx-Debug P-Inx-Debug-dict P-Inx-Hash P-Inx-Hash-dict P-Inx-Eq P-Inx-Eq-dict P-Inx-PartialEq P-Inx-PartialEq-dict P-Inx-Clone P-Inx-Clone-dict P-Inx-PartialOrd P-Inx-PartialOrd-dict P-Inx-Ord P-Inx-Ord-dict P-Gen-PtrGen P-Gen-PtrGen-dict P-Gen-Debug P-Gen-Debug-dict P-Gen-Hash P-Gen-Hash-dict P-Gen-Eq P-Gen-Eq-dict P-Gen-PartialEq P-Gen-PartialEq-dict P-Gen-Clone P-Gen-Clone-dict P-Gen-PartialOrd P-Gen-PartialOrd-dict P-Gen-Ord P-Gen-Ord-dict LP LT LI LG 𝓛 𝓜.mem 𝓡.returns 𝓣 (met 𝓤 𝓛 𝓜 𝓡 (code.calls-triple_arena::slot::ArenaSlot::generation 𝓡.env wired) P T I G LP LT LI LG CP CI CG P-Ptr P-Ptr-dict P-Debug P-Debug-dict P-Hash P-Hash-dict P-Eq P-Eq-dict P-PartialEq P-PartialEq-dict P-Clone P-Clone-dict P-PartialOrd P-PartialOrd-dict P-Ord P-Ord-dict P-Recast P-Recast-dict P-Inx-PtrInx P-Inx-PtrInx-dict P-Inx-Debug P-Inx-Debug-dict P-Inx-Hash P-Inx-Hash-dict P-Inx-Eq P-Inx-Eq-dict P-Inx-PartialEq P-Inx-PartialEq-dict P-Inx-Clone P-Inx-Clone-dict P-Inx-PartialOrd P-Inx-PartialOrd-dict P-Inx-Ord P-Inx-Ord-dict P-Gen-PtrGen P-Gen-PtrGen-dict P-Gen-Debug P-Gen-Debug-dict P-Gen-Hash P-Gen-Hash-dict P-Gen-Eq P-Gen-Eq-dict P-Gen-PartialEq P-Gen-PartialEq-dict P-Gen-Clone P-Gen-Clone-dict P-Gen-PartialOrd P-Gen-PartialOrd-dict P-Gen-Ord P-Gen-Ord-dict m0 m1 m2 m3 m4 m5 m6 m7 m8 m9 m10 m11 m12 m13 m14 m15 m16 m17 m18 m19 m20 m21 m22 m23 m24))
+    (meets P T I G P-Ptr P-Ptr-dict P-Debug P-Debug-dict P-Hash P-Hash-dict P-Eq P-Eq-dict P-PartialEq P-PartialEq-dict P-Clone P-Clone-dict P-PartialOrd P-PartialOrd-dict P-Ord P-Ord-dict P-Recast P-Recast-dict P-Inx-PtrInx P-Inx-PtrInx-dict P-Inx-Debug P-Inx-Debug-dict P-Inx-Hash P-Inx-Hash-dict P-Inx-Eq P-Inx-Eq-dict P-Inx-PartialEq P-Inx-PartialEq-dict P-Inx-Clone P-Inx-Clone-dict P-Inx-PartialOrd P-Inx-PartialOrd-dict P-Inx-Ord P-Inx-Ord-dict P-Gen-PtrGen P-Gen-PtrGen-dict P-Gen-Debug P-Gen-Debug-dict P-Gen-Hash P-Gen-Hash-dict P-Gen-Eq P-Gen-Eq-dict P-Gen-PartialEq P-Gen-PartialEq-dict P-Gen-Clone P-Gen-Clone-dict P-Gen-PartialOrd P-Gen-PartialOrd-dict P-Gen-Ord P-Gen-Ord-dict LP LT LI LG 𝓛 𝓜.mem 𝓡.returns 𝓣 (met 𝓤 𝓛 𝓜 𝓡 (code.calls-triple_arena::slot::ArenaSlot::live_value_mut 𝓡.env wired) P T I G LP LT LI LG CP CI CG P-Ptr P-Ptr-dict P-Debug P-Debug-dict P-Hash P-Hash-dict P-Eq P-Eq-dict P-PartialEq P-PartialEq-dict P-Clone P-Clone-dict P-PartialOrd P-PartialOrd-dict P-Ord P-Ord-dict P-Recast P-Recast-dict P-Inx-PtrInx P-Inx-PtrInx-dict P-Inx-Debug P-Inx-Debug-dict P-Inx-Hash P-Inx-Hash-dict P-Inx-Eq P-Inx-Eq-dict P-Inx-PartialEq P-Inx-PartialEq-dict P-Inx-Clone P-Inx-Clone-dict P-Inx-PartialOrd P-Inx-PartialOrd-dict P-Inx-Ord P-Inx-Ord-dict P-Gen-PtrGen P-Gen-PtrGen-dict P-Gen-Debug P-Gen-Debug-dict P-Gen-Hash P-Gen-Hash-dict P-Gen-Eq P-Gen-Eq-dict P-Gen-PartialEq P-Gen-PartialEq-dict P-Gen-Clone P-Gen-Clone-dict P-Gen-PartialOrd P-Gen-PartialOrd-dict P-Gen-Ord P-Gen-Ord-dict m0 m1 m2 m3 m4 m5 m6 m7 m8 m9 m10 m11 m12 m13 m14 m15 m16 m17 m18 m19 m20 m21 m22 m23 m24))

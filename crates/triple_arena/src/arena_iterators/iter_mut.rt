@@ -4,14 +4,14 @@ ghost use Rattle.std.specs.Prelude.{◌≡◌, ◌<◌, ◌^◌, length};
 ghost use Rattle.std.specs.Borrow.{sem};
 ghost use Rattle.std.specs.Iterator.{YieldsFirstBy, item_count};
 ghost use Rattle.triple_arena.specs.ArenaState.{arena_len};
-ghost use Rattle.triple_arena.specs.InOrder.{entries_in_order, values_in_order};
+ghost use Rattle.triple_arena.specs.InOrder.{entries, values};
 ghost use Rattle.triple_arena.specs.Lent.{lent_rest, lent_name, lends_values};
 ghost use Rattle.triple_arena.specs.Values.{with_values_of, KeepsPointers};
 
 use crate::base_arena::Arena;
 use crate::insert_entry::LendingArena;
+use crate::lent_slots::LentSlots;
 use crate::slot::ArenaSlot;
-use crate::walk::Walk;
 use std::marker::Model;
 use std::num::NonZeroUsize;
 use triple_arena_ptr::{Ptr, PtrGen, PtrInx};
@@ -23,7 +23,7 @@ use triple_arena_stack::NonZeroInxGenericStack;
 /// A clause sees it as the entries that are left, each after its pointer, and the name of its loan.
 #[derive(Drop)]
 pub struct IterMut<'a, P: Ptr, T> {
-    walk: Walk<'a, P, T>,
+    slots: LentSlots<'a, P, T>,
     // How many slots are left.
     left: usize,
     // The index of the first of them.
@@ -36,17 +36,19 @@ impl<'a, P: Ptr, T> Model for IterMut<'a, P, T> {
     ghost use Rattle.std.specs.Int.NonZero.{non_zero_usize_get};
     ghost use Rattle.triple_arena_ptr.specs.Numbers.{greatest_index};
     ghost use Rattle.triple_arena_ptr.specs.Pointers.{Pointer};
-    ghost use Rattle.triple_arena.specs.ArenaState.{arena_len};
-ghost use Rattle.triple_arena.specs.InOrder.{entries_from};
+    ghost use Rattle.triple_arena.specs.InOrder.{entries_from};
     ghost use Rattle.triple_arena.specs.Slot.{entry_of};
 
     ghost Value = { List (Pointer × T) × GName };
 
-    ghost view = { λ s. (entries_from (non_zero_usize_get s.next)
-        (map (entry_of P.Gen.number) s.walk.now), s.walk.tie) };
+    ghost view = { λ s. (
+      entries_from (non_zero_usize_get s.next)
+          (map (entry_of P.Gen.number) s.slots.now),
+      s.slots.tie,
+    ) };
 
     // as many slots are left, and their indexes are of the index type
-    ghost invariant = { λ s. (s.left ≡ length s.walk.now)
+    ghost invariant = { λ s. (s.left ≡ length s.slots.now)
         × (non_zero_usize_get s.next + s.left ≤ greatest_index P.Inx.greatest + 1) };
 }
 
@@ -64,10 +66,10 @@ impl<'a, P: Ptr, T: 'a> Iterator for IterMut<'a, P, T> {
     fn next(&mut self) -> Option<(P, &'a mut T)> {
         'slots: while self.left > 0 {
             let inx = self.next;
-            let generation = self.walk.generation();
             self.left -= 1;
             self.next = inx.saturating_add(1);
-            if let Some(value) = self.walk.pass() {
+            let generation = self.slots.generation();
+            if let Some(value) = self.slots.pass() {
                 let inx = P::Inx::try_from_usize(inx).unwrap();
                 return Some((P::_from_raw(inx, generation.unwrap()), value));
             }
@@ -122,13 +124,13 @@ impl<P: Ptr, T, S: NonZeroInxGenericStack<ArenaSlot<P, T>>> Arena<P, T, S> {
         ensures* writes_back { sem 𝓛 (lends_values ⟦<Arena<P, T, S> as LendingArena>⟧.arena_row
             self.entry (lent_name result) (with_values_of self.old)) }
         ensures keeps { KeepsPointers self.old }
-        ensures rest { lent_rest result ≡ entries_in_order self.old.slots }
+        ensures rest { lent_rest result ≡ entries self.old.slots }
         ensures len { length (lent_rest result) ≡ arena_len self.old }
         ensures fits { arena_len self.old < 2 ^ 64 }
     {
         let left = self.slot_count();
         IterMut {
-            walk: self.walk(),
+            slots: self.lend_slots(),
             left,
             next: NonZeroUsize::MIN,
         }
@@ -140,7 +142,7 @@ impl<P: Ptr, T, S: NonZeroInxGenericStack<ArenaSlot<P, T>>> Arena<P, T, S> {
         ensures* writes_back { sem 𝓛 (lends_values ⟦<Arena<P, T, S> as LendingArena>⟧.arena_row
             self.entry (lent_name result) (with_values_of self.old)) }
         ensures keeps { KeepsPointers self.old }
-        ensures rest { lent_rest result ≡ values_in_order self.old.slots }
+        ensures rest { lent_rest result ≡ values self.old.slots }
         ensures len { length (lent_rest result) ≡ arena_len self.old }
         ensures fits { arena_len self.old < 2 ^ 64 }
     {
@@ -156,14 +158,14 @@ impl<'a, P: Ptr, T, S: NonZeroInxGenericStack<ArenaSlot<P, T>>> IntoIterator
 
     type IntoIter = IterMut<'a, P, T>;
 
-    ghost into_iter_gives = { λ arena it. lent_rest it ≡ entries_in_order arena.now.slots };
+    ghost into_iter_gives = { λ arena it. lent_rest it ≡ entries arena.now.slots };
 
     /// As [`Arena::iter_mut`].
     fn into_iter(self) -> IterMut<'a, P, T>
         ensures* writes_back { sem 𝓛 (lends_values ⟦<Arena<P, T, S> as LendingArena>⟧.arena_row
             self.entry (lent_name result) (with_values_of self.old)) }
         ensures keeps { KeepsPointers self.old }
-        ensures into_iter_gives { lent_rest result ≡ entries_in_order self.old.slots }
+        ensures into_iter_gives { lent_rest result ≡ entries self.old.slots }
         ensures len { length (lent_rest result) ≡ arena_len self.old }
         ensures fits { arena_len self.old < 2 ^ 64 }
     {

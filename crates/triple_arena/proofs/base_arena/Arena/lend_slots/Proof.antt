@@ -1,4 +1,4 @@
--- `walk` lends the slots of an arena so that only values can change. Assumes `Logic`.
+-- `lend_slots` lends the slots of an arena so that only values can change. Assumes `Logic`.
 use mathlib.Core.Path.{◌≡◌, refl, sym, ap, subst, ◌∙◌}
 use Prim.Native.Nat.{ℕ, ◌+◌}
 use mathlib.Core.List.{List, [], ◌∷◌, map}
@@ -72,19 +72,19 @@ use Rattle.triple_arena.specs.Lends.{with_slots}
 use Rattle.triple_arena.proofs.Keeping.{filled-own, filled-kept, length-filled, refilled, kept_within}
 use Rattle.triple_arena.specs.declared.slot.ArenaSlot.{ArenaSlot}
 use Rattle.triple_arena.specs.declared.slots.Slots.{Slots}
-use Rattle.triple_arena.specs.declared.walk.Walk.{Walk}
+use Rattle.triple_arena.specs.declared.lent_slots.LentSlots.{LentSlots}
 use Rattle.triple_arena.specs.contracts.slot.ArenaSlot as S-type
 use Rattle.triple_arena.specs.contracts.slots.Slots as Slots-type
-use Rattle.triple_arena.specs.contracts.walk.Walk as W-type
+use Rattle.triple_arena.specs.contracts.lent_slots.LentSlots as W-type
 use Rattle.triple_arena.specs.contracts.base_arena.Arena as A-type
 use Rattle.triple_arena.specs.contracts.base_arena.Arena.TheInside as I-type
-use Rattle.triple_arena.specs.contracts.base_arena.Arena.walk as F
+use Rattle.triple_arena.specs.contracts.base_arena.Arena.lend_slots as F
 use Rattle.triple_arena.specs.contracts.slots.Slots.as_mut_slice as G-fn
 use Rattle.triple_arena.proofs.slots.Slots.as_mut_slice.Met.{met}
 use Rattle.triple_arena.proofs.slots.Slots.TheLaws as Slots-laws
-use Rattle.triple_arena.specs.contracts.base_arena.Arena.walk.Key.{name as #self}
-use Rattle.triple_arena.proofs.base_arena.Arena.walk.Statement as stated
-use Rattle.triple_arena.proofs.base_arena.Arena.walk.Code as code
+use Rattle.triple_arena.specs.contracts.base_arena.Arena.lend_slots.Key.{name as #self}
+use Rattle.triple_arena.proofs.base_arena.Arena.lend_slots.Statement as stated
+use Rattle.triple_arena.proofs.base_arena.Arena.lend_slots.Code as code
 use Rattle.std.specs.declared.clone.Clone as gClone
 use Rattle.std.specs.declared.fmt.Debug as gDebug
 use Rattle.std.specs.declared.cmp.Eq as gEq
@@ -329,7 +329,7 @@ module _ (P T S I G : RattleType) (P-Ptr : gPtr.Ghosts P.Denot I.Denot G.Denot) 
             (takes_part 𝓛 (KeptBy xs) (Kept rP rT rI rG xs) H₂ κ q b o b o ν (emp 𝓤) back₂ (Ar.coded.code d) (Ar.coded.code d) xs) $ await ! tt $ pick ! (λ μ. split3 ! $
             move ! (2 ∷ []) $ split ! $ move ! (1 ∷ []) $ drop ! $
             -- [the token; obs; the borrow; what follows; the others]
-            let lent : Walk P.Denot T.Denot I.Denot G.Denot = record { at = block_ptr b o; mark = record {}; name = μ; tie = ν; now = xs } in
+            let lent : LentSlots P.Denot T.Denot I.Denot G.Denot = record { at = block_ptr b o; mark = record {}; name = μ; tie = ν; now = xs } in
             let out : Val = vstruct (vcons (vptr b o) (vcons (vstruct vnil) vnil)) in
             move ! (1 ∷ 2 ∷ []) $ fjoin ! $ pure_i ! (room Sr n') (tt, tt) rm $ fjoin ! $ use0 𝓛 (‵ ((Struct (shape W-of)).own_val (block_ptr b o, (tt, tt)) (out ∷ []))) (made b o) $ fjoin ! $
             returns ! (look_at ! 0 refl) $ free_all ! refl $ keep ! (0 ∷ 1 ∷ 2 ∷ 3 ∷ []) $
@@ -342,9 +342,9 @@ module _ (P T S I G : RattleType) (P-Ptr : gPtr.Ghosts P.Denot I.Denot G.Denot) 
         (walked 𝓛 end stayed spec (WpFn 𝓤 H 𝓣.C 𝓣.Λ function) (λ κs. (mut_vals, tt)) (λ κs. (mut_Tells (named 0) κs.0 Ar, tt))
         (λ κs qs bounds a g are. walk κs qs bounds a.0.ref_ptr.0 a.0.ref_ptr.1 a.0.ghost_name a.0.now 𝓣.C 𝓣.Λ (fm_of 𝓤 H 𝓛.laws 𝓣) callee))
 
-pub walk_spec : {M : Type 1} → stated.statement M
+pub lend_slots_spec : {M : Type 1} → stated.statement M
 unfolding tables_of
-walk_spec 𝓤 𝓛 𝓜 𝓡 wired P T S I G LP LT LS LI LG CP CI CG P-Ptr P-Ptr-dict P-Debug P-Debug-dict P-Hash P-Hash-dict P-Eq P-Eq-dict P-PartialEq P-PartialEq-dict P-Clone P-Clone-dict P-PartialOrd P-PartialOrd-dict P-Ord P-Ord-dict P-Recast P-Recast-dict P-Inx-PtrInx P-Inx-PtrInx-dict P-Inx-Debug P-Inx-Debug-dict P-Inx-Hash P-Inx-Hash-dict P-Inx-Eq P-Inx-Eq-dict P-Inx-PartialEq P-Inx-PartialEq-dict P-Inx-Clone P-Inx-Clone-dict P-Inx-PartialOrd P-Inx-PartialOrd-dict P-Inx-Ord P-Inx-Ord-dict P-Gen-PtrGen P-Gen-PtrGen-dict P-Gen-Debug P-Gen-Debug-dict P-Gen-Hash P-Gen-Hash-dict P-Gen-Eq P-Gen-Eq-dict P-Gen-PartialEq P-Gen-PartialEq-dict P-Gen-Clone P-Gen-Clone-dict P-Gen-PartialOrd P-Gen-PartialOrd-dict P-Gen-Ord P-Gen-Ord-dict S-NonZeroInxGenericStack S-NonZeroInxGenericStack-dict m0 m1 m2 m3 m4 m5 m6 m7 m8 m9 m10 m11 m12 m13 m14 m15 m16 m17 m18 m19 m20 m21 m22 m23 m24 m25 =
+lend_slots_spec 𝓤 𝓛 𝓜 𝓡 wired P T S I G LP LT LS LI LG CP CI CG P-Ptr P-Ptr-dict P-Debug P-Debug-dict P-Hash P-Hash-dict P-Eq P-Eq-dict P-PartialEq P-PartialEq-dict P-Clone P-Clone-dict P-PartialOrd P-PartialOrd-dict P-Ord P-Ord-dict P-Recast P-Recast-dict P-Inx-PtrInx P-Inx-PtrInx-dict P-Inx-Debug P-Inx-Debug-dict P-Inx-Hash P-Inx-Hash-dict P-Inx-Eq P-Inx-Eq-dict P-Inx-PartialEq P-Inx-PartialEq-dict P-Inx-Clone P-Inx-Clone-dict P-Inx-PartialOrd P-Inx-PartialOrd-dict P-Inx-Ord P-Inx-Ord-dict P-Gen-PtrGen P-Gen-PtrGen-dict P-Gen-Debug P-Gen-Debug-dict P-Gen-Hash P-Gen-Hash-dict P-Gen-Eq P-Gen-Eq-dict P-Gen-PartialEq P-Gen-PartialEq-dict P-Gen-Clone P-Gen-Clone-dict P-Gen-PartialOrd P-Gen-PartialOrd-dict P-Gen-Ord P-Gen-Ord-dict S-NonZeroInxGenericStack S-NonZeroInxGenericStack-dict m0 m1 m2 m3 m4 m5 m6 m7 m8 m9 m10 m11 m12 m13 m14 m15 m16 m17 m18 m19 m20 m21 m22 m23 m24 m25 =
     let 𝓣 : Tables 𝓤 𝓛.H = tables_of 𝓤 𝓛.H 𝓜 (tables 𝓤 𝓛.H 𝓜 𝓡 𝓡.env) in
     let laws : StackLaws P T S I G P-Ptr P-Ptr-dict P-Debug P-Debug-dict P-Hash P-Hash-dict P-Eq P-Eq-dict P-PartialEq P-PartialEq-dict P-Clone P-Clone-dict P-PartialOrd P-PartialOrd-dict P-Ord P-Ord-dict P-Recast P-Recast-dict P-Inx-PtrInx P-Inx-PtrInx-dict P-Inx-Debug P-Inx-Debug-dict P-Inx-Hash P-Inx-Hash-dict P-Inx-Eq P-Inx-Eq-dict P-Inx-PartialEq P-Inx-PartialEq-dict P-Inx-Clone P-Inx-Clone-dict P-Inx-PartialOrd P-Inx-PartialOrd-dict P-Inx-Ord P-Inx-Ord-dict P-Gen-PtrGen P-Gen-PtrGen-dict P-Gen-Debug P-Gen-Debug-dict P-Gen-Hash P-Gen-Hash-dict P-Gen-Eq P-Gen-Eq-dict P-Gen-PartialEq P-Gen-PartialEq-dict P-Gen-Clone P-Gen-Clone-dict P-Gen-PartialOrd P-Gen-PartialOrd-dict P-Gen-Ord P-Gen-Ord-dict S-NonZeroInxGenericStack S-NonZeroInxGenericStack-dict = record { of_items = m25.items_with_items; of_room = m25.room_with_items; of_limit = m25.limit_with_items } in
     entered 𝓤 𝓛.H (triple_of 𝓛 (end P T S I G P-Ptr P-Ptr-dict P-Debug P-Debug-dict P-Hash P-Hash-dict P-Eq P-Eq-dict P-PartialEq P-PartialEq-dict P-Clone P-Clone-dict P-PartialOrd P-PartialOrd-dict P-Ord P-Ord-dict P-Recast P-Recast-dict P-Inx-PtrInx P-Inx-PtrInx-dict P-Inx-Debug P-Inx-Debug-dict P-Inx-Hash P-Inx-Hash-dict P-Inx-Eq P-Inx-Eq-dict P-Inx-PartialEq P-Inx-PartialEq-dict P-Inx-Clone P-Inx-Clone-dict P-Inx-PartialOrd P-Inx-PartialOrd-dict P-Inx-Ord P-Inx-Ord-dict P-Gen-PtrGen P-Gen-PtrGen-dict P-Gen-Debug P-Gen-Debug-dict P-Gen-Hash P-Gen-Hash-dict P-Gen-Eq P-Gen-Eq-dict P-Gen-PartialEq P-Gen-PartialEq-dict P-Gen-Clone P-Gen-Clone-dict P-Gen-PartialOrd P-Gen-PartialOrd-dict P-Gen-Ord P-Gen-Ord-dict S-NonZeroInxGenericStack S-NonZeroInxGenericStack-dict).signature (closing 𝓛 (end P T S I G P-Ptr P-Ptr-dict P-Debug P-Debug-dict P-Hash P-Hash-dict P-Eq P-Eq-dict P-PartialEq P-PartialEq-dict P-Clone P-Clone-dict P-PartialOrd P-PartialOrd-dict P-Ord P-Ord-dict P-Recast P-Recast-dict P-Inx-PtrInx P-Inx-PtrInx-dict P-Inx-Debug P-Inx-Debug-dict P-Inx-Hash P-Inx-Hash-dict P-Inx-Eq P-Inx-Eq-dict P-Inx-PartialEq P-Inx-PartialEq-dict P-Inx-Clone P-Inx-Clone-dict P-Inx-PartialOrd P-Inx-PartialOrd-dict P-Inx-Ord P-Inx-Ord-dict P-Gen-PtrGen P-Gen-PtrGen-dict P-Gen-Debug P-Gen-Debug-dict P-Gen-Hash P-Gen-Hash-dict P-Gen-Eq P-Gen-Eq-dict P-Gen-PartialEq P-Gen-PartialEq-dict P-Gen-Clone P-Gen-Clone-dict P-Gen-PartialOrd P-Gen-PartialOrd-dict P-Gen-Ord P-Gen-Ord-dict S-NonZeroInxGenericStack S-NonZeroInxGenericStack-dict) (spec P T S I G P-Ptr P-Ptr-dict P-Debug P-Debug-dict P-Hash P-Hash-dict P-Eq P-Eq-dict P-PartialEq P-PartialEq-dict P-Clone P-Clone-dict P-PartialOrd P-PartialOrd-dict P-Ord P-Ord-dict P-Recast P-Recast-dict P-Inx-PtrInx P-Inx-PtrInx-dict P-Inx-Debug P-Inx-Debug-dict P-Inx-Hash P-Inx-Hash-dict P-Inx-Eq P-Inx-Eq-dict P-Inx-PartialEq P-Inx-PartialEq-dict P-Inx-Clone P-Inx-Clone-dict P-Inx-PartialOrd P-Inx-PartialOrd-dict P-Inx-Ord P-Inx-Ord-dict P-Gen-PtrGen P-Gen-PtrGen-dict P-Gen-Debug P-Gen-Debug-dict P-Gen-Hash P-Gen-Hash-dict P-Gen-Eq P-Gen-Eq-dict P-Gen-PartialEq P-Gen-PartialEq-dict P-Gen-Clone P-Gen-Clone-dict P-Gen-PartialOrd P-Gen-PartialOrd-dict P-Gen-Ord P-Gen-Ord-dict S-NonZeroInxGenericStack S-NonZeroInxGenericStack-dict LP LT LS LI LG laws 𝓛 𝓜.mem 𝓡.returns))) 𝓣.C 𝓣.Λ (#self (args P T S I G P-Ptr P-Ptr-dict P-Debug P-Debug-dict P-Hash P-Hash-dict P-Eq P-Eq-dict P-PartialEq P-PartialEq-dict P-Clone P-Clone-dict P-PartialOrd P-PartialOrd-dict P-Ord P-Ord-dict P-Recast P-Recast-dict P-Inx-PtrInx P-Inx-PtrInx-dict P-Inx-Debug P-Inx-Debug-dict P-Inx-Hash P-Inx-Hash-dict P-Inx-Eq P-Inx-Eq-dict P-Inx-PartialEq P-Inx-PartialEq-dict P-Inx-Clone P-Inx-Clone-dict P-Inx-PartialOrd P-Inx-PartialOrd-dict P-Inx-Ord P-Inx-Ord-dict P-Gen-PtrGen P-Gen-PtrGen-dict P-Gen-Debug P-Gen-Debug-dict P-Gen-Hash P-Gen-Hash-dict P-Gen-Eq P-Gen-Eq-dict P-Gen-PartialEq P-Gen-PartialEq-dict P-Gen-Clone P-Gen-Clone-dict P-Gen-PartialOrd P-Gen-PartialOrd-dict P-Gen-Ord P-Gen-Ord-dict S-NonZeroInxGenericStack S-NonZeroInxGenericStack-dict)) (function P T S I G P-Ptr P-Ptr-dict P-Debug P-Debug-dict P-Hash P-Hash-dict P-Eq P-Eq-dict P-PartialEq P-PartialEq-dict P-Clone P-Clone-dict P-PartialOrd P-PartialOrd-dict P-Ord P-Ord-dict P-Recast P-Recast-dict P-Inx-PtrInx P-Inx-PtrInx-dict P-Inx-Debug P-Inx-Debug-dict P-Inx-Hash P-Inx-Hash-dict P-Inx-Eq P-Inx-Eq-dict P-Inx-PartialEq P-Inx-PartialEq-dict P-Inx-Clone P-Inx-Clone-dict P-Inx-PartialOrd P-Inx-PartialOrd-dict P-Inx-Ord P-Inx-Ord-dict P-Gen-PtrGen P-Gen-PtrGen-dict P-Gen-Debug P-Gen-Debug-dict P-Gen-Hash P-Gen-Hash-dict P-Gen-Eq P-Gen-Eq-dict P-Gen-PartialEq P-Gen-PartialEq-dict P-Gen-Clone P-Gen-Clone-dict P-Gen-PartialOrd P-Gen-PartialOrd-dict P-Gen-Ord P-Gen-Ord-dict S-NonZeroInxGenericStack S-NonZeroInxGenericStack-dict) (code.unfolded 𝓤 𝓛.H 𝓜 𝓡 wired (P, (T, (S, (I, (G, tt))))) P-Ptr-dict P-Debug-dict P-Hash-dict P-Eq-dict P-PartialEq-dict P-Clone-dict P-PartialOrd-dict P-Ord-dict P-Recast-dict P-Inx-PtrInx-dict P-Inx-Debug-dict P-Inx-Hash-dict P-Inx-Eq-dict P-Inx-PartialEq-dict P-Inx-Clone-dict P-Inx-PartialOrd-dict P-Inx-Ord-dict P-Gen-PtrGen-dict P-Gen-Debug-dict P-Gen-Hash-dict P-Gen-Eq-dict P-Gen-PartialEq-dict P-Gen-Clone-dict P-Gen-PartialOrd-dict P-Gen-Ord-dict S-NonZeroInxGenericStack-dict)

@@ -1,18 +1,16 @@
 -- What the slots and the state are, where values alone change.
-use Rattle.std.proofs.Common.{◌≡◌, ℕ, zero, suc, ◌+◌, ◌≤◌, ◌<◌, ◌==◌, Bool, true, false, List, [], ◌∷◌, ◌++◌, map, length, take, drop, Option, Some, None, is_some, IsSome, cond, slice_get, refl, sym, ap, subst, ◌∙◌, arith}
+use Rattle.std.proofs.Common.{◌≡◌, ℕ, zero, suc, ◌+◌, ◌==◌, Bool, true, false, List, [], ◌∷◌, ◌++◌, map, length, take, drop, Option, Some, None, is_some, cond, slice_get, refl, sym, ap, subst, ◌∙◌}
 use Rattle.std.proofs.Math.Seq.{take-append_seam}
-use Rattle.std.specs.Int.NonZero.{non_zero_usize_get}
 use Rattle.std.specs.List.{fold, refill}
 use Rattle.std.specs.Option.{option_map, option_and_then}
 use denote.RattleType.{RattleType}
-use Rattle.triple_arena_ptr.specs.Pointers.{Pointer}
 use Rattle.triple_arena.specs.Items.{item}
-use Rattle.triple_arena.specs.Entries.{entry_count, entry_in, look_up_in, value_under}
+use Rattle.triple_arena.specs.Entries.{entry_count, value_under}
 use Rattle.triple_arena.specs.ArenaState.{ArenaState, is_free, IsWellFormed}
 use Rattle.triple_arena.specs.Slot.{entry_of, with_slot_value}
 use Rattle.triple_arena.specs.Layout.{next_of, after, state_of, IsLinked, Shows}
 use Rattle.triple_arena.specs.Kept.{filled, filled_all, kept, kept_all}
-use Rattle.triple_arena.specs.Values.{with_value_of, with_values_in, with_values_of, generations_in, SamePointers, KeepsPointers}
+use Rattle.triple_arena.specs.Values.{with_value_of, with_values_in, with_values_of, generations_in, KeepsPointers}
 use Rattle.triple_arena.specs.declared.slot.ArenaSlot.{ArenaSlot}
 use Rattle.triple_arena.specs.declared.slot.ArenaSlot.TheVariants.{Free, Allocated}
 use Rattle.triple_arena.proofs.ItemLists.{joined}

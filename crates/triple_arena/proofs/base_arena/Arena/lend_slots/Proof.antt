@@ -1,8 +1,7 @@
 -- `lend_slots` lends the slots of an arena so that only values can change. Assumes `Logic`.
-use mathlib.Core.Path.{◌≡◌, refl, sym, ap, subst, ◌∙◌}
+use mathlib.Core.Path.{◌≡◌, refl, sym, ap, ◌∙◌}
 use Prim.Native.Nat.{ℕ, ◌+◌}
 use mathlib.Core.List.{List, [], ◌∷◌, map}
-use mathlib.Core.Option.{Option}
 use lib.ListN.{length}
 use seplogic.Ra.Ura.{Ura}
 use base.Fraction.{full_share, left, right}
@@ -10,9 +9,8 @@ use mir.Syntax.{Fn, Args, Kind, Dict, dcons, dnil, named, a_type}
 use mir.MapTy.{inst_fn}
 use mir.Val.{Val, vptr, vstruct, vcons, vnil}
 use base.Logic.{SProp, ent, emp, sep, id⊢}
-use base.Fml.{Lft, GName, Share, Fml, fsep, ftrue, flft, fobs, fbor, fauth, flent}
+use base.Fml.{Lft, GName, Share, fsep, ftrue, flft, fobs, fbor, fauth}
 use base.Stored.{coded_list}
-use ghost.Rules.{aged}
 use prog.Memory.{Memory, up, align}
 use prog.Routine.{Routine}
 use prog.Wp.{Calls, Loops, WpFn, Tables}
@@ -27,7 +25,7 @@ use types.Run.{stop, fld, addr, hop, from, and_then, no_more, returns, enter}
 use types.ByLocal.{alloc_all, pass_all, free_all, look_at, look_in_at, get, sets, lands_as, through}
 use types.SemTy.{Arr, SemTy, Body as Borrowed}
 use types.Follow.{takes_part, closes_following, after}
-use types.Late.{deep, ages, bor_new_deep}
+use types.Late.{ages, bor_new_deep}
 use types.Mut.{open_ref}
 use types.Tokens.{name_new}
 use denote.Exit.{no}
@@ -52,7 +50,6 @@ use denote.Struct.Pick.{rest_at, field_out, field_back}
 use denote.Struct.Struct.{Struct}
 use denote.Struct.Owning.{Owning, shape}
 use denote.Triple.Clauses.{Clauses, Ended, closing, lasts}
-use denote.Triple.Entry.{on_entry}
 use denote.Triple.Spec.{Meets, triple_of}
 use denote.Triple.Table.{entered}
 use denote.Triple.Walked.{says, Stays, stay_dropped, walk_of, walked, ends_at, Goes-spent_ref, walk_Meets}

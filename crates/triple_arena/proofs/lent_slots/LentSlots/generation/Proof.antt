@@ -1,9 +1,6 @@
 -- `generation` reads the first slot. Assumes `Logic`.
-use mathlib.Core.Path.{◌≡◌, refl, sym, ap, subst, ◌∙◌}
-use mathlib.Core.Option as Core
-use Prim.Native.Nat.{ℕ, suc, ◌+◌, ◌*◌, ◌<◌, ◌^◌}
-use native.Mathlib.Nat.{one-mul, suc-mul}
-use native.Mathlib.Omega.{arith}
+use mathlib.Core.Path.{◌≡◌, refl, sym, ap, ◌∙◌}
+use Prim.Native.Nat.{ℕ, ◌<◌}
 use mathlib.Core.List.{List, [], ◌∷◌}
 use lib.ListN.{length}
 use seplogic.Ra.Ura.{Ura}
@@ -13,7 +10,7 @@ use mir.MapTy.{inst_fn}
 use mir.Raw.{raw as bare}
 use mir.Val.{Val, vptr, vstruct, vcons, vnil}
 use base.Logic.{SProp, ent, emp, sep, via, fst∗, snd∗, mono_r, id⊢}
-use base.Fml.{Lft, GName, Share, Fml, fsep, ftrue, flft, fobs, fbor, fobor, fauth, fres, fat}
+use base.Fml.{Lft, GName, Share, Fml, ftrue, flft, fobs, fbor, fat}
 use base.Stored.{coded_list}
 use prog.Memory.{Memory}
 use prog.Routine.{Routine}
@@ -37,34 +34,24 @@ use Rattle.triple_arena.specs.Slot.{entry_of}
 use Rattle.triple_arena.proofs.slot.ArenaSlot.TheLaws as S-laws
 use contract.Lifetimes.{Lfts, Shares, AllOutlive, lft_at}
 use sound.WpLaws.{WpFn-mono, FmC, fm_of}
-use types.Kit.{Item, ‵, ◌⊛◌, some, given, later, await, at_ret, updating, now, show, ◌$◌, ◌∵◌, !, qed, by, move, keep, raw, use0, use1, use2, drop, split, split3, join, group, pick, learn, rewrite, fsplit, fsplit3, fjoin, fjoin3, fpack, feq_i, feq_l, frame, suffices, done}
-use types.Part.{whole, sub, look_in, store_in}
-use types.Run.{stop, fld, load, addr, lit, size_lit, bin, of_opd, assigns, first, blocks, exec, returns, enter, and_then, no_more}
+use types.Kit.{Item, ‵, ◌⊛◌, some, later, await, at_ret, updating, now, show, ◌$◌, ◌∵◌, !, qed, move, keep, raw, use0, use1, use2, drop, split, split3, join, pick, rewrite, fsplit, fsplit3, fjoin, fjoin3, feq_i, frame, suffices, done}
+use types.Part.{whole, sub, look_in}
+use types.Run.{stop, fld, addr, of_opd, first, blocks, exec, returns, enter, and_then, no_more}
 use types.ByLocal.{alloc_all, pass_all, free_all, look_at, get, through, sets, sets_last, env, lands_as}
 use types.SemTy.{Arr, SemTy, Body as Borrowed}
-use types.Follow.{takes_two, closes_following, after, after₂}
-use types.Late.{deep, ages, bor_new_deep}
 use types.Mut.{open_ref}
-use types.Tokens.{name_new, name_done}
-use denote.Exit.{no}
-use denote.Follow.{follows, follows_by, follows_if, follows_said}
 use denote.Laws.{shows}
 use denote.RattleType.{RattleType, owns}
 use denote.Memory.{mem, cell_at, part_at}
-use denote.Param.{param, copied, bounded, layout}
-use denote.Param.Laws.{Laws, param_laws, copied_laws, of_field, row_shared}
-use denote.Struct.Laws.{mut_ref_laws}
-use denote.Struct.Field.{mut_ref_field}
-use denote.Param.Shared.{mut_ref_shared}
+use denote.Param.{param, copied, bounded}
+use denote.Param.Laws.{Laws, param_laws, copied_laws}
 use Rattle.std.proofs.option.Option.TheLaws.{the_row_laws as option_laws}
-use ghost.Rules.{aged}
-use base.Fml.{flent}
 use denote.RawPtr.{Ptr, block_ptr, in_a_block}
 use denote.Ref.{MutBor, MutRef, mut_vals, mut_Tells}
 use denote.Shadow.{pure_l, pure_i, makes_shadow}
 use denote.Signature.{plain, named_lft}
-use denote.Slice.{Room, room}
-use denote.Steps.{nothing, opens, closes, peeks, heard, only}
+use denote.Slice.{room}
+use denote.Steps.{nothing, opens, closes, peeks, heard}
 use denote.Struct.Struct.{Struct}
 use denote.Struct.Owning.{Owning, shape}
 use denote.Triple.Call.{calls_at}
@@ -75,10 +62,9 @@ use denote.Triple.Statement.{Triple}
 use denote.Triple.Table.{entered}
 use denote.Triple.Walked.{says, Stays, stay_ref, walk_of, walked, ends_at, Goes-ref, walk_Meets}
 use Rattle.std.proofs.VecSteps.Shapes.{after as after_body}
-use Rattle.std.proofs.Common.{Option, Some, None}
-use Rattle.std.specs.Option.{option_copied_mut}
+use Rattle.std.proofs.Common.{Option}
 use Rattle.std.specs.contracts.option.Option as O-type
-use Rattle.triple_arena.specs.Kept.{kept_all, Kept, kept_at}
+use Rattle.triple_arena.specs.Kept.{Kept, kept_at}
 use Rattle.triple_arena.proofs.Listing.{first_of}
 use Rattle.triple_arena.proofs.Keeping.{kept_all-self}
 use Rattle.triple_arena.specs.declared.slot.ArenaSlot.{ArenaSlot}

@@ -12,8 +12,8 @@ use mir.Syntax.{Fn, Args, Kind, Dict, dcons, dnil, Ty, Sym, named, a_type, ty_pt
 use mir.MapTy.{inst_fn}
 use mir.Raw.{raw as bare}
 use mir.Val.{Val, vptr, vstruct, vcons, vnil}
-use base.Logic.{SProp, ent, emp, sep, via, fst∗, snd∗, mono_r, id⊢}
-use base.Fml.{Lft, GName, Share, Fml, fsep, ftrue, flft, fobs, fbor, fobor, fauth, fres, fat}
+use base.Logic.{SProp, ent, emp, sep, via, snd∗, mono_r, id⊢}
+use base.Fml.{Lft, GName, Share, fsep, ftrue, flft, fobs, fbor, fauth, fres, fat}
 use base.Stored.{coded_list}
 use prog.Memory.{Memory}
 use prog.Routine.{Routine}
@@ -24,7 +24,7 @@ use contract.Running.{tables, tables_of}
 use contract.BorrowLft.{◌⊑◌}
 use contract.Lifetimes.{Lfts, Shares, AllOutlive, lft_at}
 use sound.WpLaws.{WpFn-mono, FmC, fm_of}
-use types.Kit.{Item, ‵, ◌⊛◌, some, given, later, await, at_ret, updating, now, show, ◌$◌, ◌∵◌, !, qed, by, move, keep, raw, use0, use1, use2, drop, split, split3, join, group, pick, learn, rewrite, fsplit, fsplit3, fjoin, fjoin3, fpack, feq_i, feq_l, frame, suffices, done}
+use types.Kit.{Item, ‵, ◌⊛◌, some, later, await, at_ret, updating, now, ◌$◌, ◌∵◌, !, qed, move, keep, raw, use0, use1, use2, drop, split, split3, join, group, pick, rewrite, fsplit, fsplit3, fjoin, fjoin3, fpack, feq_i, feq_l, frame, suffices, done}
 use types.Part.{whole, sub, look_in, store_in}
 use types.Run.{stop, fld, load, addr, lit, size_lit, bin, of_opd, assigns, first, blocks, exec, returns, enter, and_then, no_more}
 use types.ByLocal.{alloc_all, pass_all, free_all, look_at, get, through, sets, sets_last, env, lands_as}
@@ -32,13 +32,12 @@ use types.SemTy.{Arr, SemTy, Body as Borrowed}
 use types.Follow.{takes_two, closes_following, after, after₂}
 use types.Late.{deep, ages, bor_new_deep}
 use types.Mut.{open_ref}
-use types.Tokens.{name_new, name_done}
-use denote.Exit.{no}
+use types.Tokens.{name_new}
 use denote.Follow.{follows, follows_by, follows_if, follows_said}
 use denote.Laws.{shows}
 use denote.RattleType.{RattleType, owns}
-use denote.Memory.{mem, cell_at, part_at}
-use denote.Param.{param, copied, bounded, layout}
+use denote.Memory.{mem, cell_at}
+use denote.Param.{param, copied, bounded}
 use denote.Param.Laws.{Laws, param_laws, copied_laws, of_field, row_shared}
 use denote.Struct.Laws.{mut_ref_laws}
 use denote.Struct.Field.{mut_ref_field}
@@ -51,7 +50,7 @@ use denote.Ref.{MutBor, MutRef, mut_vals, mut_Tells}
 use denote.Shadow.{pure_l, pure_i, makes_shadow}
 use denote.Signature.{plain, named_lft}
 use denote.Slice.{Room, room}
-use denote.Steps.{nothing, opens, closes, peeks, heard, only}
+use denote.Steps.{nothing, opens, closes, peeks, heard}
 use denote.Struct.Struct.{Struct}
 use denote.Struct.Owning.{Owning, shape}
 use denote.Triple.Call.{calls_at}

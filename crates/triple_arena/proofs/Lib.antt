@@ -10,6 +10,8 @@ pub mod UpTo
 pub mod Turning
 pub mod FreeEnd
 pub mod Pairs
+pub mod Keeping
+pub mod Listing
 pub mod Steps
 pub mod Walking
 pub mod Visiting

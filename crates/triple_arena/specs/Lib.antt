@@ -14,6 +14,9 @@ pub mod Visits
 pub mod Slot
 pub mod Layout
 pub mod Lends
+pub mod Kept
+pub mod Values
+pub mod Lent
 pub mod InsertEntry
 pub mod Drains
 pub mod Disjoint

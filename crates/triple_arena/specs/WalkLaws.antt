@@ -10,7 +10,7 @@ use Rattle.triple_arena.specs.ItemLaws.{joined, item_within, eq_true, eq_false}
 use Rattle.triple_arena.specs.Entries.{entry_in, look_up_in, value_under, entry_count, ChangesAt, with_value_in, IsFirst, IsLast}
 use Rattle.triple_arena.specs.EntryLaws.{changes_at}
 use Rattle.triple_arena.specs.FreeList.{IsRising}
-use Rattle.triple_arena.specs.Walks.{Stand, place_of, is_ahead, is_before, moved, steps_left, Answers, Steps, IsAtFirst, IsBeforeAll, Walk, put_entry, entries_where, entries, entries_ahead, keys_of, keys, keys_ahead}
+use Rattle.triple_arena.specs.Walks.{Stand, place_of, is_ahead, is_before, moved, steps_left, Answers, Steps, IsAtFirst, IsBeforeAll, Walk, put_entry, entries_where, entries_from, entries, entries_ahead, keys_of, keys, keys_ahead}
 
 positive : (n : ℕ) → nat_lt 0 (suc n) ≡ true
 positive n = le-leb 1 (suc n) (omega arith)
@@ -197,7 +197,7 @@ module _ {T : Type 0} where
   entries_none f at (Some x ∷ xs) none =
       rw (none at zero (omega arith) refl) (entries_none f (at + 1) xs (λ j k e. none j (suc k) (omega arith)))
 
-  entries_count : (at : ℕ) (xs : List (Option (ℕ × T))) → length (entries_where (λ i. true) at xs) ≡ count_by is_some xs
+  entries_count : (at : ℕ) (xs : List (Option (ℕ × T))) → length (entries_from at xs) ≡ count_by is_some xs
   entries_count at [] = refl
   entries_count at (None ∷ xs) = omega (arith, entries_count (at + 1) xs, sum_by-cons (λ o. cond (is_some o) 1 0) None xs)
   entries_count at (Some x ∷ xs) = omega (arith, entries_count (at + 1) xs, sum_by-cons (λ o. cond (is_some o) 1 0) (Some x) xs)
@@ -335,7 +335,7 @@ module _ {T : Type 0} where
   keys_cond true x xs = refl
   keys_cond false x xs = refl
 
-  keys_where : (f : ℕ → Bool) (at : ℕ) (xs : List (Option (ℕ × T))) → keys_of (entries_where f at xs) ≡ met f (keys_of (entries_where (λ i. true) at xs))
+  keys_where : (f : ℕ → Bool) (at : ℕ) (xs : List (Option (ℕ × T))) → keys_of (entries_where f at xs) ≡ met f (keys_of (entries_from at xs))
   keys_where f at [] = refl
   keys_where f at (None ∷ xs) = keys_where f (at + 1) xs
   keys_where f at (Some e ∷ xs) =
@@ -443,7 +443,7 @@ module _ {T : Type 0} where
       ahead_taken greatest slots b p a forward s v is ∙ ap (λ rest. (p, v) ∷ rest) (sym (ahead_changed greatest slots left b p a None s change))
 
   -- the indexes of the entries rise
-  keys_rise : (at : ℕ) (xs : List (Option (ℕ × T))) → IsRising at (map (λ p. p.0) (keys_of (entries_where (λ i. true) at xs)))
+  keys_rise : (at : ℕ) (xs : List (Option (ℕ × T))) → IsRising at (map (λ p. p.0) (keys_of (entries_from at xs)))
   keys_rise at [] = tt
   keys_rise at (None ∷ xs) = rising_below at (at + 1) _ (omega arith) (keys_rise (at + 1) xs)
   keys_rise at (Some e ∷ xs) = (omega arith, keys_rise (at + 1) xs)
@@ -452,7 +452,7 @@ module _ {T : Type 0} where
   keys_rising slots = keys_rise 1 slots
 
   -- each entry's pointer is among them
-  key_of : (at : ℕ) (xs : List (Option (ℕ × T))) (i k : ℕ) (e : ℕ × T) → i ≡ at + k → slice_get xs k ≡ Some (Some e) → Contains (keys_of (entries_where (λ j. true) at xs)) (i, e.0)
+  key_of : (at : ℕ) (xs : List (Option (ℕ × T))) (i k : ℕ) (e : ℕ × T) → i ≡ at + k → slice_get xs k ≡ Some (Some e) → Contains (keys_of (entries_from at xs)) (i, e.0)
   key_of at [] i k e place found = absurd (cc)
   key_of at (None ∷ xs) i zero e place found = absurd (cc)
   key_of at (Some x ∷ xs) i zero e place found =
@@ -475,7 +475,7 @@ module _ {T : Type 0} where
       key_of 1 slots p.0 slot.0 (p.1, f.value) slot.1 slot.2
 
   -- and no other is
-  entry_of_key : (at : ℕ) (xs : List (Option (ℕ × T))) (j : ℕ) (p : Pointer) → j < length (keys_of (entries_where (λ i. true) at xs)) → slice_index_or (keys_of (entries_where (λ i. true) at xs)) j p ≡ p → (k : ℕ) × (v : T) × (p.0 ≡ at + k) × (slice_get xs k ≡ Some (Some (p.1, v)))
+  entry_of_key : (at : ℕ) (xs : List (Option (ℕ × T))) (j : ℕ) (p : Pointer) → j < length (keys_of (entries_from at xs)) → slice_index_or (keys_of (entries_from at xs)) j p ≡ p → (k : ℕ) × (v : T) × (p.0 ≡ at + k) × (slice_get xs k ≡ Some (Some (p.1, v)))
   entry_of_key at [] j p within is = absurd (omega (arith, within))
   entry_of_key at (None ∷ xs) j p within is =
       let later = entry_of_key (at + 1) xs j p within is in
@@ -493,7 +493,7 @@ module _ {T : Type 0} where
       rw (entry, eq_true p.1 p.1 refl) refl
 
   -- the pointer of greatest index is the last of them
-  last_key : (at : ℕ) (xs : List (Option (ℕ × T))) (i k : ℕ) (e : ℕ × T) → i ≡ at + k → slice_get xs k ≡ Some (Some e) → ((m : ℕ) → k < m → joined (slice_get xs m) ≡ None) → (before : List Pointer) × (keys_of (entries_where (λ j. true) at xs) ≡ before ++ (i, e.0) ∷ [])
+  last_key : (at : ℕ) (xs : List (Option (ℕ × T))) (i k : ℕ) (e : ℕ × T) → i ≡ at + k → slice_get xs k ≡ Some (Some e) → ((m : ℕ) → k < m → joined (slice_get xs m) ≡ None) → (before : List Pointer) × (keys_of (entries_from at xs) ≡ before ++ (i, e.0) ∷ [])
   last_key at [] i k e place found none = absurd (cc)
   last_key at (None ∷ xs) i zero e place found none = absurd (cc)
   last_key at (Some x ∷ xs) i zero e place found none =

@@ -76,9 +76,13 @@ module _ {T : Type 0} where
   entries_where f at [] = []
   entries_where f at (slot ∷ rest) = put_entry (f at) at slot (entries_where f (at + 1) rest)
 
+  -- all entries, in rising order, where the first slot has the index `at`
+  abbrev pub entries_from : ℕ → List (Option (ℕ × T)) → List (Pointer × T)
+  entries_from at slots = entries_where (λ i. true) at slots
+
   -- all entries, in rising order
   abbrev pub entries : List (Option (ℕ × T)) → List (Pointer × T)
-  entries slots = entries_where (λ i. true) 1 slots
+  entries slots = entries_from 1 slots
 
   -- the entries ahead of a forward stand, in the order in which they are met
   abbrev pub entries_ahead : Stand → List (Option (ℕ × T)) → List (Pointer × T)

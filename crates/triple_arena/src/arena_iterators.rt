@@ -2,8 +2,10 @@
 
 mod drain;
 mod iter;
+mod iter_mut;
 mod ptr_advancer;
 
 pub use drain::{CapacityDrain, Drain};
 pub use iter::{Iter, Ptrs, Vals};
+pub use iter_mut::{IterMut, ValsMut};
 pub use ptr_advancer::PtrAdvancer;

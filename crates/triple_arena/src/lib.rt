@@ -12,6 +12,7 @@ mod indexing;
 mod insert_entry;
 pub mod laws;
 mod lending_arena;
+mod lent_slots;
 mod pair_call;
 mod slot;
 mod slots;

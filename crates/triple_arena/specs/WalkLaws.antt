@@ -197,13 +197,13 @@ module _ {T : Type 0} where
   entries_none f at (Some x ∷ xs) none =
       rw (none at zero (omega arith) refl) (entries_none f (at + 1) xs (λ j k e. none j (suc k) (omega arith)))
 
-  entries_count : (at : ℕ) (xs : List (Option (ℕ × T))) → length (entries_from at xs) ≡ count_by is_some xs
-  entries_count at [] = refl
-  entries_count at (None ∷ xs) = omega (arith, entries_count (at + 1) xs, sum_by-cons (λ o. cond (is_some o) 1 0) None xs)
-  entries_count at (Some x ∷ xs) = omega (arith, entries_count (at + 1) xs, sum_by-cons (λ o. cond (is_some o) 1 0) (Some x) xs)
+  pub length-entries_from : (at : ℕ) (xs : List (Option (ℕ × T))) → length (entries_from at xs) ≡ count_by is_some xs
+  length-entries_from at [] = refl
+  length-entries_from at (None ∷ xs) = omega (arith, length-entries_from (at + 1) xs, sum_by-cons (λ o. cond (is_some o) 1 0) None xs)
+  length-entries_from at (Some x ∷ xs) = omega (arith, length-entries_from (at + 1) xs, sum_by-cons (λ o. cond (is_some o) 1 0) (Some x) xs)
 
   pub length-entries : (slots : List (Option (ℕ × T))) → length (entries slots) ≡ entry_count slots
-  length-entries slots = entries_count 1 slots
+  length-entries slots = length-entries_from 1 slots
 
   pub some_or_none : (e : Option (ℕ × T)) → IsSome e → e ≡ None → ⊥
   some_or_none None h e = true≢false (sym h)

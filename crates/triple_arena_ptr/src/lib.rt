@@ -15,8 +15,6 @@ mod p5;
 mod ptr;
 mod ptr_no_gen;
 mod q2;
-#[cfg(test)]
-mod tests;
 mod text;
 
 pub use generation::PtrGen;

@@ -3,11 +3,10 @@
 ghost use Rattle.std.specs.Prelude.{◌≡◌, ℕ, ◌<◌, ◌↔◌, IsSome, IsOk, IfSome, length, map, true};
 ghost use Rattle.std.specs.Iterator.{YieldsFirstBy, at_most};
 
-use crate::{P0, P1, P2, P3, P4, P5, Ptr, Q2};
 use std::mem;
-use std::test::Fail;
+use triple_arena_ptr::{P0, P1, P2, P3, P4, P5, Ptr, Q2};
 
-/// A pointer and the value at a place, in an `Option`.
+// A pointer and the value at a place, in an `Option`.
 fn found<P: Ptr>(items: &mut [u64], p: P, place: usize) -> Option<(P, &mut u64)>
     ensures found { IsSome result ↔ (place < length items.old) }
     ensures pointer { IfSome result (λ x. x.0 ≡ p) }
@@ -18,14 +17,14 @@ fn found<P: Ptr>(items: &mut [u64], p: P, place: usize) -> Option<(P, &mut u64)>
     }
 }
 
-/// A pointer and the value, in a `Result`.
+// A pointer and the value, in a `Result`.
 fn allowed(value: &mut u64, p: P0, allowed: bool) -> Result<(P0, &mut u64), P0>
     ensures { IsOk result ↔ (allowed ≡ true) }
 {
     if allowed { Ok((p, value)) } else { Err(p) }
 }
 
-/// Each value of a slice with one pointer.
+// Each value of a slice with one pointer.
 #[derive(Drop)]
 struct Beside<'a, P> {
     p: P,
@@ -51,43 +50,65 @@ impl<'a, P: Ptr + 'static> Iterator for Beside<'a, P> {
     }
 }
 
+// Whether a pointer of a type is held beside a lent value, through which another is written. It is
+// a macro and no function with a parameter, since each test is to be a caller at its very type.
+macro_rules! is_held {
+    ($pointer:ident) => {{
+        let mut values = [1, 2];
+        let held = match found(&mut values, $pointer::invalid(), 1) {
+            Some((q, value)) => {
+                *value = 7;
+                q == $pointer::invalid()
+            }
+            None => false,
+        };
+        held && values == [1, 7]
+    }};
+}
+
 #[test]
-fn a_pointer_beside_a_lent_value_is_held_and_written_through(rt: HostRuntime) -> Result<(), Fail> {
+fn a_p0_beside_a_lent_value(rt: HostRuntime) {
+    assert!(rt; is_held!(P0));
+}
+
+#[test]
+fn a_p1_beside_a_lent_value(rt: HostRuntime) {
+    assert!(rt; is_held!(P1));
+}
+
+#[test]
+fn a_p2_beside_a_lent_value(rt: HostRuntime) {
+    assert!(rt; is_held!(P2));
+}
+
+#[test]
+fn a_p3_beside_a_lent_value(rt: HostRuntime) {
+    assert!(rt; is_held!(P3));
+}
+
+#[test]
+fn a_p4_beside_a_lent_value(rt: HostRuntime) {
+    assert!(rt; is_held!(P4));
+}
+
+#[test]
+fn a_p5_beside_a_lent_value(rt: HostRuntime) {
+    assert!(rt; is_held!(P5));
+}
+
+#[test]
+fn a_q2_beside_a_lent_value(rt: HostRuntime) {
+    assert!(rt; is_held!(Q2));
+}
+
+#[test]
+fn no_pointer_beside_a_value_past_the_end(rt: HostRuntime) {
+    assert!(rt; found(&mut [1, 2], P0::invalid(), 2).is_none());
+}
+
+#[test]
+fn a_pointer_beside_a_lent_value_in_a_result(rt: HostRuntime) {
     let p = P0::invalid();
-    let mut values = [1, 2];
-    match found(&mut values, p, 1) {
-        Some((q, value)) => {
-            assert_eq!(rt; q, p);
-            *value = 7;
-        }
-        None => return Err("not found".into()),
-    }
-    if let Some((q, value)) = found(&mut values, P1::invalid(), 0) {
-        assert_eq!(rt; q, P1::invalid());
-        *value = value.wrapping_add(1);
-    }
-    if let Some((q, value)) = found(&mut values, P2::invalid(), 0) {
-        assert_eq!(rt; q, P2::invalid());
-        *value = value.wrapping_add(1);
-    }
-    if let Some((q, value)) = found(&mut values, P3::invalid(), 0) {
-        assert_eq!(rt; q, P3::invalid());
-        *value = value.wrapping_add(1);
-    }
-    if let Some((q, value)) = found(&mut values, P4::invalid(), 0) {
-        assert_eq!(rt; q, P4::invalid());
-        *value = value.wrapping_add(1);
-    }
-    if let Some((q, value)) = found(&mut values, P5::invalid(), 0) {
-        assert_eq!(rt; q, P5::invalid());
-        *value = value.wrapping_add(1);
-    }
-    if let Some((q, value)) = found(&mut values, Q2::invalid(), 0) {
-        assert_eq!(rt; q, Q2::invalid());
-        *value = value.wrapping_add(1);
-    }
-    assert!(rt; found(&mut values, p, 2).is_none());
-    assert_eq!(rt; values, [7, 7]);
     let mut value = 1;
     if let Ok((q, lent)) = allowed(&mut value, p, true) {
         assert_eq!(rt; q, p);
@@ -95,6 +116,12 @@ fn a_pointer_beside_a_lent_value_is_held_and_written_through(rt: HostRuntime) ->
     }
     assert_eq!(rt; value, 2);
     assert!(rt; allowed(&mut value, p, false).is_err());
+}
+
+#[test]
+fn a_pointer_beside_each_lent_value(rt: HostRuntime) {
+    let p = P0::invalid();
+    let mut values = [7, 7];
     for (q, value) in (Beside {
         p,
         values: &mut values,
@@ -103,5 +130,4 @@ fn a_pointer_beside_a_lent_value_is_held_and_written_through(rt: HostRuntime) ->
         *value = value.wrapping_add(1);
     }
     assert_eq!(rt; values, [8, 8]);
-    Ok(())
 }

@@ -7,11 +7,11 @@ ghost use Rattle.triple_arena_base.specs.HeldLaws.{itself_held_refill, itself_re
 ghost use Rattle.triple_arena_ptr.specs.NonZeroValues.{same_pair, u8_after, u8_after_cancels};
 ghost use Rattle.triple_arena_ptr.specs.PointerText.{pointer_text};
 
-use crate::{Ptr, PtrGen, PtrInx, fmt_pointer, non_zero_u8};
 use std::fmt;
 use std::marker::Model;
 use std::num::NonZeroU8;
 use triple_arena_base::{Recast, Recaster};
+use triple_arena_ptr::{Ptr, PtrGen, PtrInx, fmt_pointer, non_zero_u8};
 
 /// A byte index and a byte generation.
 #[derive(Hash, Clone, Copy, PartialEq, Eq, PartialOrd, Ord)]
@@ -59,17 +59,17 @@ impl Ptr for B {
         B::_from_raw(PtrInx::best_effort_invalid(), PtrGen::one())
     }
 
-    #[tactic(auto, using(crate::specs::NonZeroValues::u8_is_after))]
+    #[tactic(auto, using(triple_arena_ptr::specs::NonZeroValues::u8_is_after))]
     fn inx(self) -> NonZeroU8 {
         non_zero_u8(self._internal_inx)
     }
 
-    #[tactic(auto, using(crate::specs::NonZeroValues::u8_is_after))]
+    #[tactic(auto, using(triple_arena_ptr::specs::NonZeroValues::u8_is_after))]
     fn generation(self) -> NonZeroU8 {
         non_zero_u8(self._internal_gen)
     }
 
-    #[tactic(auto, using(crate::specs::NonZeroValues::u8_after_before))]
+    #[tactic(auto, using(triple_arena_ptr::specs::NonZeroValues::u8_after_before))]
     fn _from_raw(inx: NonZeroU8, generation: NonZeroU8) -> Self {
         B {
             _internal_inx: inx.get(),

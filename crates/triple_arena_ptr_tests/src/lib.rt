@@ -1,0 +1,5 @@
+//! Tests of pointers by public calls.
+#![tactic(auto)]
+
+#[cfg(test)]
+mod tests;

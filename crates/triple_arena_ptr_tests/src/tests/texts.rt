@@ -1,0 +1,101 @@
+//! The texts of pointers, and of indexes and generations of each width.
+
+use super::byte_pointer::B;
+use super::pointers::at;
+use std::alloc::Global;
+use std::fmt;
+use std::num::{NonZeroU8, NonZeroU16, NonZeroU32, NonZeroU64, NonZeroU128, NonZeroUsize};
+use triple_arena_ptr::{P0, P1, P2, P3, P4, P5, Ptr, PtrGen, PtrInx, PtrNoGen, Q2, fmt_pointer};
+
+// Whether Display writes this text.
+fn displays<T: fmt::Display + Drop>(alloc: Global, value: T, text: &str) -> bool {
+    match value.to_string(alloc) {
+        Ok(written) => written.as_str() == text,
+        Err(_) => false,
+    }
+}
+
+// Whether Debug writes this text.
+fn debugs<T: fmt::Debug + Drop>(alloc: Global, value: T, text: &str) -> bool {
+    match format!(in alloc; "{value:?}") {
+        Ok(written) => written.as_str() == text,
+        Err(_) => false,
+    }
+}
+
+// Whether Display and Debug write this text for the pointer of an index number.
+fn has_text<P: Ptr + fmt::Display>(alloc: Global, number: usize, text: &str) -> bool {
+    match at::<P>(number) {
+        Some(p) => displays(alloc, p, text) && debugs(alloc, p, text),
+        None => false,
+    }
+}
+
+#[test]
+fn pointers_have_their_texts(rt: HostRuntime) {
+    let alloc = rt.alloc();
+    assert!(rt; has_text::<P0>(alloc, 26, "P0[1a](2)"));
+    assert!(rt; has_text::<P0>(alloc, 10, "P0[a](2)"));
+    assert!(rt; has_text::<P1>(alloc, 26, "P1[1a](2)"));
+    assert!(rt; has_text::<P2>(alloc, 26, "P2[1a](2)"));
+    assert!(rt; has_text::<P3>(alloc, 26, "P3[1a](2)"));
+    assert!(rt; has_text::<P4>(alloc, 26, "P4[1a]"));
+    assert!(rt; has_text::<P5>(alloc, 26, "P5[1a]"));
+    assert!(rt; has_text::<Q2>(alloc, 26, "Q2[1a](2)"));
+    assert!(rt; has_text::<PtrNoGen<P0>>(alloc, 1, "P0[1]"));
+    assert!(rt; has_text::<PtrNoGen<P1>>(alloc, 26, "P1[1a]"));
+    assert!(rt; has_text::<B>(alloc, 26, "B[1a](2)"));
+}
+
+// Whether Display writes this text for the invalid pointer, and Debug for the default one.
+fn invalid_has_text<P: Ptr + Default + fmt::Display>(alloc: Global, text: &str) -> bool {
+    displays(alloc, P::invalid(), text) && debugs(alloc, P::default(), text)
+}
+
+#[test]
+fn invalid_pointers_have_their_texts(rt: HostRuntime) {
+    assert!(rt; invalid_has_text::<P0>(rt.alloc(), "P0[ffffffffffffffff](1)"));
+    assert!(rt; invalid_has_text::<P5>(rt.alloc(), "P5[ff]"));
+}
+
+// An index and a generation as a pointer's text shows them.
+#[derive(Drop)]
+struct Parts<I, G>(I, G);
+
+impl<I: PtrInx, G: PtrGen> fmt::Display for Parts<I, G> {
+    fn fmt<W: fmt::Write>(&self, f: &mut fmt::Formatter<W>) -> fmt::Result {
+        fmt_pointer("W", self.0, self.1, f)
+    }
+}
+
+// A generation as `fmt_hex` writes it.
+#[derive(Drop)]
+struct Hex<G>(G);
+
+impl<G: PtrGen> fmt::Display for Hex<G> {
+    fn fmt<W: fmt::Write>(&self, f: &mut fmt::Formatter<W>) -> fmt::Result {
+        G::fmt_hex(self.0, f)
+    }
+}
+
+// Whether a pointer of this index and this generation has this text.
+fn parts_have_text<I: PtrInx, G: PtrGen>(alloc: Global, inx: I, generation: G, text: &str) -> bool {
+    displays(alloc, Parts(inx, generation), text)
+}
+
+#[test]
+fn numbers_of_each_width_have_their_texts(rt: HostRuntime) {
+    let alloc = rt.alloc();
+    let wide = NonZeroU128::new(0x1_0000_0000_0000_00ab).unwrap();
+    let text = "W[100000000000000ab](ffffffffffffffffffffffffffffffff)";
+    assert!(rt; parts_have_text(alloc, wide, NonZeroU128::MAX, text));
+    let text = "W[ffffffffffffffff](ffffffffffffffff)";
+    assert!(rt; parts_have_text(alloc, NonZeroU64::MAX, NonZeroU64::MAX, text));
+    let text = "W[ffffffff](ffffffff)";
+    assert!(rt; parts_have_text(alloc, NonZeroU32::MAX, NonZeroU32::MAX, text));
+    assert!(rt; parts_have_text(alloc, NonZeroU16::MAX, NonZeroU16::MAX, "W[ffff](ffff)"));
+    assert!(rt; parts_have_text(alloc, NonZeroU8::MAX, NonZeroU8::MIN, "W[ff](1)"));
+    assert!(rt; parts_have_text(alloc, NonZeroUsize::MAX, (), "W[ffffffffffffffff]"));
+    assert!(rt; displays(alloc, Hex(()), "()"));
+    assert!(rt; displays(alloc, Hex(NonZeroU8::MAX), "ff"));
+}

@@ -1,7 +1,7 @@
 //! New arenas over each stack.
 
+use super::scarce_stack::Scarce;
 use super::token::Token;
-use crate::Scarce;
 use std::alloc::Global;
 use std::process::Abort;
 use triple_arena::{Arena, ArenaSlot, ArenaTrait};

@@ -3,10 +3,10 @@
 
 use super::arenas::{Fixed, Heap, Limited, Little, Places, new_arena, with_room};
 use super::numbered::Numbered;
+use super::pointers::{B, Narrow, Wide};
 use super::tables::{Call, follow, follow_limited};
 use super::token::Token;
 use super::told::Told;
-use crate::{B, Narrow, Wide};
 use std::alloc::Global;
 use std::process::Abort;
 use triple_arena::{Arena, ArenaSlot};

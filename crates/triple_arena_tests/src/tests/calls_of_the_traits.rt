@@ -2,11 +2,11 @@
 
 use super::arenas::{Fixed, Heap, Limited, Little, Places, new_arena, with_room};
 use super::numbered::Numbered;
+use super::pointers::{B, Narrow, Wide};
 use super::tables::{Call, follow, follow_limited};
 use super::token::Token;
 use super::told::Told;
 use super::trait_calls;
-use crate::{B, Narrow, Wide};
 use std::alloc::Global;
 use std::num::{NonZeroU64, NonZeroU128};
 use std::process::Abort;

@@ -1,8 +1,8 @@
 //! Values that count their drops: each is dropped once, whatever the call, over each stack.
 
 use super::own_calls::{entry_ptr, set_limit};
+use super::scarce_stack::Scarce;
 use super::told::Told;
-use crate::Scarce;
 use std::alloc::Global;
 use std::cell::Cell;
 use std::process::Abort;

@@ -6,10 +6,10 @@ ghost use Rattle.triple_arena.specs.Capacity.{grown};
 
 use super::arenas::{Fixed, Heap, Limited, Places, new_arena, with_room};
 use super::numbered::Numbered;
+use super::pointers::Narrow;
 use super::tables::{Call, follow};
 use super::token::Token;
 use super::told::{Told, told_inserted};
-use crate::Narrow;
 use std::process::Abort;
 use triple_arena::{Arena, ArenaInsertEntryTrait, ArenaSlot};
 use triple_arena_base::ReallocationError;

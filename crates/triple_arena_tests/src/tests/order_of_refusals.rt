@@ -2,12 +2,12 @@
 
 use super::arenas::{Fixed, Limited, Little, Places, new_arena, with_room};
 use super::numbered::Numbered;
+use super::pointers::Narrow;
 use super::refused_growth::refuses_growth;
 use super::state::state_of;
 use super::tables::{Call, follow, follow_limited, follow_tidied};
 use super::token::Token;
 use super::told::Told;
-use crate::Narrow;
 use std::process::Abort;
 use triple_arena::{Arena, ArenaSlot};
 use triple_arena_base::ReallocationError;

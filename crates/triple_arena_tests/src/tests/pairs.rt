@@ -2,11 +2,11 @@
 
 use super::arenas::{Heap, Places, new_arena, with_room};
 use super::numbered::Numbered;
+use super::pointers::{B, Narrow};
 use super::state::{assert_state, state_of};
 use super::tables::{Call, follow, follow_unchanged};
 use super::token::Token;
 use super::told::Told;
-use crate::{B, Narrow};
 use std::alloc::Global;
 use std::process::Abort;
 use triple_arena::{Arena, ArenaSlot};

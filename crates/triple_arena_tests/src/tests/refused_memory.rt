@@ -2,11 +2,11 @@
 
 use super::arenas::{Little, capacity_made, new_arena};
 use super::numbered::Numbered;
+use super::pointers::Narrow;
 use super::refused_growth::refuses_growth;
 use super::tables::{Call, follow, follow_limited, follow_tidied, follow_unchanged, made};
 use super::token::Token;
 use super::told::Told;
-use crate::Narrow;
 use std::alloc::Global;
 use std::process::Abort;
 use triple_arena::{Arena, ArenaTrait};

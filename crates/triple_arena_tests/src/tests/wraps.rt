@@ -2,10 +2,10 @@
 
 use super::arenas::{Fixed, Heap, Limited, Places, new_arena, with_room};
 use super::numbered::Numbered;
+use super::pointers::{B, Narrow};
 use super::tables::{Call, follow};
 use super::token::Token;
 use super::told::Told;
-use crate::{B, Narrow};
 use std::alloc::Global;
 use std::process::Abort;
 use triple_arena::ArenaSlot;

@@ -1,7 +1,7 @@
 //! The place of a value that is not inserted yet.
 
 ghost use Rattle.std.specs.Prelude.{◌≡◌, ◌<◌, ◌↔◌, IsTrue, IsOk, IfOk, IsOkAnd, OnOk, Err};
-ghost use Rattle.std.specs.Borrow.{sem, Lends, RattleType};
+ghost use Rattle.std.specs.Borrow.{sem, Lends};
 ghost use Rattle.triple_arena_ptr.specs.Numbers.{greatest_index};
 ghost use Rattle.triple_arena_ptr.specs.Pointers.{Pointer};
 ghost use Rattle.triple_arena_stack.specs.Capacity.{IsFullAtLimit, CanGrow};
@@ -13,9 +13,10 @@ ghost use Rattle.triple_arena.specs.InsertEntry.{entry_arena, entry_reference, e
 use crate::arena_insert_trait::ArenaInsertTrait;
 use crate::arena_trait::ArenaTrait;
 use crate::base_arena::Arena;
+use crate::lending_arena::LendingArena;
 use crate::slot::ArenaSlot;
 use triple_arena_base::{NotWithinCapacityError, ReallocationError};
-use triple_arena_ptr::{Ptr, PtrGen, PtrInx};
+use triple_arena_ptr::{Ptr, PtrInx};
 use triple_arena_stack::{NonZeroInxGenericStack, NonZeroInxVec};
 
 /// A place in an arena for one more value.
@@ -28,21 +29,6 @@ pub struct ArenaInsertEntry<
     S: NonZeroInxGenericStack<ArenaSlot<P, T>> = NonZeroInxVec<ArenaSlot<P, T>>,
 > {
     arena: &'a mut Arena<P, T, S>,
-}
-
-// An arena as what its entries borrow from: its type, as clauses on loans name it.
-pub trait LendingArena {
-    ghost arena_row: { RattleType };
-}
-
-impl<P: Ptr, T, S: NonZeroInxGenericStack<ArenaSlot<P, T>>> LendingArena for Arena<P, T, S> {
-    ghost use Rattle.triple_arena.specs.contracts.base_arena.Arena.{the_row};
-
-    ghost arena_row = { the_row P.row T.row S.row P.Inx.row P.Gen.row
-        P.Ptr.own P.Debug P.Hash.own P.PartialEq P.PartialOrd.own P.Ord.own P.Recast
-        P.Inx.PtrInx.own P.Inx.Debug P.Inx.Hash.own P.Inx.PartialEq P.Inx.PartialOrd.own
-        P.Inx.Ord.own P.Gen.PtrGen.own P.Gen.Debug P.Gen.Hash.own P.Gen.PartialEq
-        P.Gen.PartialOrd.own P.Gen.Ord.own S.NonZeroInxGenericStack };
 }
 
 /// What can be done with a place for one more value.

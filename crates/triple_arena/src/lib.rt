@@ -6,11 +6,14 @@ mod arena_insert_trait;
 mod arena_trait;
 mod base_arena;
 mod disjointable_arena_trait;
+mod indexing;
 mod insert_entry;
 pub mod laws;
+mod lending_arena;
 mod pair_call;
 mod slot;
 mod slots;
+mod text;
 
 pub use arena_insert_trait::ArenaInsertTrait;
 pub use arena_trait::ArenaTrait;

@@ -1,0 +1,23 @@
+//! Arenas as clauses on loans name them.
+
+ghost use Rattle.std.specs.Borrow.{RattleType};
+
+use crate::base_arena::Arena;
+use crate::slot::ArenaSlot;
+use triple_arena_ptr::Ptr;
+use triple_arena_stack::NonZeroInxGenericStack;
+
+// An arena as what is borrowed from: its type, as clauses on loans name it.
+pub trait LendingArena {
+    ghost arena_row: { RattleType };
+}
+
+impl<P: Ptr, T, S: NonZeroInxGenericStack<ArenaSlot<P, T>>> LendingArena for Arena<P, T, S> {
+    ghost use Rattle.triple_arena.specs.contracts.base_arena.Arena.{the_row};
+
+    ghost arena_row = { the_row P.row T.row S.row P.Inx.row P.Gen.row
+        P.Ptr.own P.Debug P.Hash.own P.PartialEq P.PartialOrd.own P.Ord.own P.Recast
+        P.Inx.PtrInx.own P.Inx.Debug P.Inx.Hash.own P.Inx.PartialEq P.Inx.PartialOrd.own
+        P.Inx.Ord.own P.Gen.PtrGen.own P.Gen.Debug P.Gen.Hash.own P.Gen.PartialEq
+        P.Gen.PartialOrd.own P.Gen.Ord.own S.NonZeroInxGenericStack };
+}

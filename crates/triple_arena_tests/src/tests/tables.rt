@@ -4,7 +4,7 @@ use super::numbered::{Numbered, generation, inx, pointer};
 use super::state::{State, assert_state, state_of};
 use super::token::Token;
 use super::told::{Told, told_found, told_generation, told_raise};
-use super::{own_calls, pair_calls, trait_calls};
+use super::{index_calls, own_calls, pair_calls, trait_calls};
 use std::process::Abort;
 use triple_arena::{Arena, ArenaInsertTrait, ArenaSlot, ArenaTrait, DisjointableArenaTrait};
 use triple_arena_ptr::Ptr;
@@ -49,9 +49,14 @@ pub enum Call {
     SetGeneration(u64),
     IncGeneration,
     Canonicalize,
+    RemoveFreeEnd,
     Root,
     Slots,
     SlotAt(usize),
+    GetInxUnwrap(usize),
+    WriteInxUnwrap(usize, u64),
+    Index(usize, u64),
+    WriteIndex(usize, u64, u64),
     EntryPtr,
     EntryPtrReallocating,
     EntryPtrWithin,
@@ -158,9 +163,21 @@ where
             arena.canonicalize_freelist();
             Told::Done
         }
+        Call::RemoveFreeEnd => {
+            arena.remove_free_end_slots();
+            Told::Done
+        }
         Call::Root => own_calls::root(arena),
         Call::Slots => Told::Size(arena.backing().len()),
         Call::SlotAt(index) => own_calls::slot_at(arena, inx(rt, index)),
+        Call::GetInxUnwrap(index) => index_calls::get_inx_unwrap(arena, inx(rt, index)),
+        Call::WriteInxUnwrap(index, value) => {
+            index_calls::write_inx_unwrap(arena, inx(rt, index), value)
+        }
+        Call::Index(index, number) => index_calls::index(arena, pointer(rt, index, number)),
+        Call::WriteIndex(index, number, value) => {
+            index_calls::write_index(arena, pointer(rt, index, number), value)
+        }
         Call::EntryPtr => own_calls::entry_ptr(arena),
         Call::EntryPtrReallocating => own_calls::entry_ptr_reallocating(arena),
         Call::EntryPtrWithin => own_calls::entry_ptr_within(arena),

@@ -1,0 +1,84 @@
+//! The look-ups of an arena that have no refusal, each alone, and what it answers.
+
+ghost use Rattle.std.specs.Prelude.{◌≡◌, IsSome, Some};
+ghost use Rattle.std.specs.Option.{option_map};
+ghost use Rattle.triple_arena.specs.ArenaState.{entry, look_up, with_value};
+
+use super::token::Token;
+use super::told::Told;
+use std::mem;
+use triple_arena::{Arena, ArenaSlot, ArenaTrait};
+use triple_arena_ptr::{Ptr, PtrInx};
+use triple_arena_stack::NonZeroInxGenericStack;
+
+/// The value at an index, if an entry stands there.
+pub fn get_inx_unwrap<P: Ptr, S: NonZeroInxGenericStack<ArenaSlot<P, Token>>>(
+    arena: &Arena<P, Token, S>,
+    inx: P::Inx,
+) -> Told {
+    if arena.generation_at(inx).is_none() {
+        return Told::Nothing;
+    }
+    Told::Holds(arena.get_inx_unwrap(inx).number)
+}
+
+// Puts another value at an index that has an entry, and gives the one that stood there.
+fn exchange_at<P: Ptr, T, S: NonZeroInxGenericStack<ArenaSlot<P, T>>>(
+    arena: &mut Arena<P, T, S>,
+    inx: P::Inx,
+    t: T,
+) -> T
+    requires { IsSome (entry arena.old (P.Inx.number inx)) }
+    ensures value { option_map (λ e. e.1) (entry arena.old (P.Inx.number inx)) ≡ Some result }
+    ensures written { arena.new ≡ with_value arena.old (P.Inx.number inx) t }
+{
+    mem::replace(arena.get_inx_mut_unwrap(inx), t)
+}
+
+/// Writes a number at an index, if an entry stands there, and answers the one that stood there.
+pub fn write_inx_unwrap<P: Ptr, S: NonZeroInxGenericStack<ArenaSlot<P, Token>>>(
+    arena: &mut Arena<P, Token, S>,
+    inx: P::Inx,
+    number: u64,
+) -> Told {
+    if arena.generation_at(inx).is_none() {
+        return Told::Nothing;
+    }
+    Told::Holds(exchange_at(arena, inx, Token { number }).number)
+}
+
+/// The value under a pointer, if it is valid.
+pub fn index<P: Ptr, S: NonZeroInxGenericStack<ArenaSlot<P, Token>>>(
+    arena: &Arena<P, Token, S>,
+    p: P,
+) -> Told {
+    if !arena.contains(p) {
+        return Told::Nothing;
+    }
+    Told::Holds(arena[p].number)
+}
+
+// Puts another value under a valid pointer, and gives the one that stood there.
+fn exchange_under<P: Ptr, T, S: NonZeroInxGenericStack<ArenaSlot<P, T>>>(
+    arena: &mut Arena<P, T, S>,
+    p: P,
+    t: T,
+) -> T
+    requires { IsSome (look_up arena.old (P.numbers p)) }
+    ensures value { look_up arena.old (P.numbers p) ≡ Some result }
+    ensures written { arena.new ≡ with_value arena.old (P.numbers p).0 t }
+{
+    mem::replace(&mut arena[p], t)
+}
+
+/// Writes a number under a pointer, if it is valid, and answers the one that stood there.
+pub fn write_index<P: Ptr, S: NonZeroInxGenericStack<ArenaSlot<P, Token>>>(
+    arena: &mut Arena<P, Token, S>,
+    p: P,
+    number: u64,
+) -> Told {
+    if !arena.contains(p) {
+        return Told::Nothing;
+    }
+    Told::Holds(exchange_under(arena, p, Token { number }).number)
+}

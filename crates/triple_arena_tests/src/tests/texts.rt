@@ -1,0 +1,153 @@
+//! The text of an arena.
+
+use super::arenas::{Fixed, Heap, Limited, Places, new_arena, with_room};
+use super::numbered::Numbered;
+use super::tables::{Call, follow};
+use super::token::Token;
+use super::told::Told;
+use crate::Narrow;
+use std::alloc::{AllocError, Global};
+use std::fmt;
+use std::fmt::{Debug, Write};
+use std::process::Abort;
+use std::test::Fail;
+use triple_arena::{Arena, ArenaInsertTrait, ArenaSlot, ArenaTrait};
+use triple_arena_ptr::{P0, P4, Ptr, Q2};
+use triple_arena_stack::NonZeroInxGenericStack;
+
+// The text of any arena.
+fn text_of<P: Ptr, T: Debug, S: NonZeroInxGenericStack<ArenaSlot<P, T>>>(
+    alloc: Global,
+    arena: &Arena<P, T, S>,
+) -> Result<String, AllocError> {
+    format!(in alloc; "{arena:?}")
+}
+
+// Three entries, of which the second goes, and the third gets a new pointer.
+fn with_two_left<P: Ptr, S: NonZeroInxGenericStack<ArenaSlot<P, Token>>>(
+    rt: &impl Abort,
+    arena: &mut Arena<P, Token, S>,
+)
+where
+    P::Gen: Numbered,
+{
+    follow(
+        rt,
+        arena,
+        &[
+            (Call::Insert(7), Told::At(1, 2)),
+            (Call::Insert(6), Told::At(2, 2)),
+            (Call::Insert(8), Told::At(3, 2)),
+            (Call::RemoveInx(2), Told::Held(2, 6)),
+            (Call::Invalidate(3, 2), Told::At(3, 4)),
+        ],
+    );
+}
+
+// The text of an arena with place for three and no entry, and its text with two entries.
+fn has_texts<P: Ptr, S: NonZeroInxGenericStack<ArenaSlot<P, Token>>>(
+    rt: &impl Abort,
+    alloc: Global,
+    arena: &mut Arena<P, Token, S>,
+    expected: &str,
+) -> Result<(), AllocError>
+where
+    P::Gen: Numbered,
+{
+    assert_eq!(rt; text_of(alloc, arena)?.as_str(), "{}");
+    with_two_left(rt, arena);
+    assert_eq!(rt; text_of(alloc, arena)?.as_str(), expected);
+    Ok(())
+}
+
+#[test]
+fn entries_stand_by_index_over_each_stack(rt: HostRuntime) -> Result<(), Fail> {
+    let alloc = rt.alloc();
+    has_texts(
+        &rt,
+        alloc,
+        &mut new_arena::<P0, Heap<P0>>(alloc),
+        "{P0[1](2): Token { number: 7 }, P0[3](4): Token { number: 8 }}",
+    )?;
+    has_texts(
+        &rt,
+        alloc,
+        &mut with_room::<Q2, Limited<Q2>>(&rt, alloc, 3),
+        "{Q2[1](2): Token { number: 7 }, Q2[3](4): Token { number: 8 }}",
+    )?;
+    has_texts(
+        &rt,
+        alloc,
+        &mut with_room::<P4, Fixed<P4>>(&rt, alloc, 3),
+        "{P4[1]: Token { number: 7 }, P4[3]: Token { number: 8 }}",
+    )?;
+    has_texts(
+        &rt,
+        alloc,
+        &mut new_arena::<Narrow, Places<Narrow, 3>>(alloc),
+        "{Narrow[1](2): Token { number: 7 }, Narrow[3](4): Token { number: 8 }}",
+    )?;
+    Ok(())
+}
+
+#[test]
+fn a_value_has_its_own_text(rt: HostRuntime) -> Result<(), Fail> {
+    let alloc = rt.alloc();
+    let mut words: Arena<P0, &str> = Arena::new(alloc);
+    words.insert("test")?;
+    assert_eq!(rt; text_of(alloc, &words)?.as_str(), r#"{P0[1](2): "test"}"#);
+    words.insert("hello")?;
+    assert_eq!(rt;
+        text_of(alloc, &words)?.as_str(),
+        r#"{P0[1](2): "test", P0[2](2): "hello"}"#
+    );
+    let mut links: Arena<P0, (u64, Option<P0>)> = Arena::new(alloc);
+    let first = links.insert((42, None))?;
+    links.insert((1337, Some(first)))?;
+    assert_eq!(rt;
+        text_of(alloc, &links)?.as_str(),
+        "{P0[1](2): (42, None), P0[2](2): (1337, Some(P0[1](2)))}"
+    );
+    Ok(())
+}
+
+// Takes so many pieces of a text, and refuses each one behind them.
+#[derive(Drop)]
+struct Refusing {
+    pieces_left: usize,
+    refusals: usize,
+}
+
+impl Write for Refusing {
+    fn write_str(&mut self, _text: &str) -> fmt::Result {
+        if self.pieces_left == 0 {
+            self.refusals = self.refusals.saturating_add(1);
+            return Err(fmt::Error);
+        }
+        self.pieces_left -= 1;
+        Ok(())
+    }
+}
+
+#[test]
+fn a_writer_that_fails_is_asked_no_more(rt: HostRuntime) {
+    let mut arena = new_arena::<P0, Heap<P0>>(rt.alloc());
+    with_two_left(&rt, &mut arena);
+    let mut whole = Refusing {
+        pieces_left: 100,
+        refusals: 0,
+    };
+    assert_eq!(rt; write!(whole, "{arena:?}"), Ok(()));
+    for pieces_left in 0..usize::saturating_sub(100, whole.pieces_left) {
+        let mut writer = Refusing {
+            pieces_left,
+            refusals: 0,
+        };
+        assert_eq!(rt;
+            write!(writer, "{arena:?}"),
+            Err(fmt::Error),
+            "after {pieces_left}"
+        );
+        assert_eq!(rt; writer.refusals, 1, "after {pieces_left}");
+    }
+}

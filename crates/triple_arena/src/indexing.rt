@@ -2,8 +2,8 @@
 
 ghost use Rattle.std.specs.Prelude.{◌≡◌, Some, IsSome};
 ghost use Rattle.std.specs.Borrow.{sem, Lends};
+ghost use Rattle.std.specs.Option.{option_map};
 ghost use Rattle.triple_arena.specs.ArenaState.{entry, look_up, with_value};
-ghost use Rattle.triple_arena.specs.Disjoint.{value_of};
 
 use crate::arena_trait::ArenaTrait;
 use crate::base_arena::Arena;
@@ -19,7 +19,7 @@ impl<P: Ptr, T, S: NonZeroInxGenericStack<ArenaSlot<P, T>>> Arena<P, T, S> {
     /// There must be one, which `generation_at` and `get_inx` tell.
     pub fn get_inx_unwrap(&self, inx: P::Inx) -> &T
         requires { IsSome (entry self.now (P.Inx.number inx)) }
-        ensures { value_of (entry self.now (P.Inx.number inx)) ≡ Some result.now }
+        ensures { option_map (λ e. e.1) (entry self.now (P.Inx.number inx)) ≡ Some result.now }
     {
         let (_generation, value) = self.get_inx(inx).unwrap();
         value
@@ -30,7 +30,8 @@ impl<P: Ptr, T, S: NonZeroInxGenericStack<ArenaSlot<P, T>>> Arena<P, T, S> {
     /// There must be one, which `generation_at` and `get_inx` tell.
     pub fn get_inx_mut_unwrap(&mut self, inx: P::Inx) -> &mut T
         requires { IsSome (entry self.old (P.Inx.number inx)) }
-        ensures value { value_of (entry self.old (P.Inx.number inx)) ≡ Some result.now }
+        ensures value { option_map (λ e. e.1) (entry self.old (P.Inx.number inx))
+            ≡ Some result.now }
         ensures* writes_back { sem 𝓛 (Lends ⟦<Arena<P, T, S> as LendingArena>⟧.arena_row T.row
             self.entry result (with_value self.old (P.Inx.number inx))) }
     {

@@ -15,3 +15,7 @@ spawned parent = record { health = 100; parent = parent }
 -- an entity that has lost some health
 abbrev pub damaged : ℕ → Entity → Entity
 damaged by e = record e { health = e.health - by }
+
+-- an entity of whole health
+abbrev pub healed : Entity → Entity
+healed e = record e { health = 100 }

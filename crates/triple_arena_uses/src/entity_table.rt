@@ -2,12 +2,12 @@
 //!
 //! The clauses speak of look-ups alone: what each pointer finds before a call, and after it.
 
-ghost use Rattle.std.specs.Prelude.{◌≡◌, ◌≢◌, ◌-◌, None, Some, IfOk, OnErr, is_some, option_copied};
+ghost use Rattle.std.specs.Prelude.{◌≡◌, ◌≢◌, ◌-◌, None, Some, IfOk, OnErr, IsSome, is_some, option_copied};
 ghost use Rattle.std.specs.Option.{option_map, option_and_then};
 ghost use Rattle.triple_arena_ptr.specs.Pointers.{Pointer};
 ghost use Rattle.triple_arena.specs.ArenaState.{look_up, entry};
 ghost use Rattle.triple_arena.specs.Values.{SamePointers};
-ghost use Rattle.triple_arena_uses.specs.Entities.{numbers, spawned, damaged};
+ghost use Rattle.triple_arena_uses.specs.Entities.{numbers, spawned, damaged, healed};
 
 use std::alloc::Global;
 use std::marker::Model;
@@ -97,6 +97,16 @@ impl<S: NonZeroInxGenericStack<ArenaSlot<P0, Entity>>> EntityTable<S> {
         }
     }
 
+    /// Gives an entity back its whole health. There must be such an entity, which `get` tells.
+    pub fn heal(&mut self, p: P0)
+        requires { IsSome (look_up self.old (numbers p)) }
+        ensures healed { look_up self.new (numbers p)
+            ≡ option_map healed (look_up self.old (numbers p)) }
+        ensures others { (q : Pointer) → q ≢ numbers p → look_up self.new q ≡ look_up self.old q }
+    {
+        self.entities[p].health = 100;
+    }
+
     /// The entity under a pointer.
     pub fn get(&self, p: P0) -> Option<&Entity>
         ensures { option_copied result ≡ look_up self.now (numbers p) }
@@ -138,6 +148,10 @@ mod tests {
         };
         assert_eq!(rt; table.get(child).copied(), Some(left));
         assert_eq!(rt; table.damage(child, 100), Some(0));
+        if table.get(child).is_some() {
+            table.heal(child);
+        }
+        assert_eq!(rt; table.damage(child, 0), Some(100));
         assert_eq!(rt; table.damage(sister, 0), Some(100));
         Ok(())
     }

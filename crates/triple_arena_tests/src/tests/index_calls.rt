@@ -1,8 +1,8 @@
 //! The look-ups of an arena that have no refusal, each alone, and what it answers.
 
 ghost use Rattle.std.specs.Prelude.{◌≡◌, IsSome, Some};
+ghost use Rattle.std.specs.Option.{option_map};
 ghost use Rattle.triple_arena.specs.ArenaState.{entry, look_up, with_value};
-ghost use Rattle.triple_arena.specs.Disjoint.{value_of};
 
 use super::token::Token;
 use super::told::Told;
@@ -29,7 +29,7 @@ fn exchange_at<P: Ptr, T, S: NonZeroInxGenericStack<ArenaSlot<P, T>>>(
     t: T,
 ) -> T
     requires { IsSome (entry arena.old (P.Inx.number inx)) }
-    ensures value { value_of (entry arena.old (P.Inx.number inx)) ≡ Some result }
+    ensures value { option_map (λ e. e.1) (entry arena.old (P.Inx.number inx)) ≡ Some result }
     ensures written { arena.new ≡ with_value arena.old (P.Inx.number inx) t }
 {
     mem::replace(arena.get_inx_mut_unwrap(inx), t)

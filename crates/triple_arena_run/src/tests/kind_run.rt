@@ -1,6 +1,7 @@
 //! Whole runs of the program, from its arguments to what is written.
 
 use super::devices::ShortWriter;
+use super::texts::expect;
 use crate::kind_run::{run_kind, run_program};
 use crate::program::{Kind, Outcome};
 use crate::text::TextError;
@@ -126,8 +127,8 @@ fn says_that_there_is_no_memory_to_begin(rt: HostRuntime) -> Result<(), Fail> {
         let mut output = BufWriter::new(rt.alloc(), Vec::new(rt.alloc()))?;
         output.write_all(b"before\n")?;
         let (outcome, written) = run_kind(kind, rt.alloc(), &mut input, output);
-        assert!(rt; outcome == Err(TextError::NoMemory));
-        assert_eq!(rt; written.as_slice(), b"before\n".as_slice());
+        let no_memory = Err(TextError::NoMemory);
+        expect(&rt, outcome, written.as_slice(), no_memory, b"before\n");
         assert_eq!(rt; input.len(), 11);
     }
     Ok(())

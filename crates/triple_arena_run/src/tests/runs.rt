@@ -1,8 +1,8 @@
 //! Runs of texts over memory.
 
 use super::devices::{PieceReader, ShortWriter};
-use super::steps::{follow, replies};
-use super::texts::{answers, answers_text};
+use super::steps::{follow, new_session, replies};
+use super::texts::{answers, answers_text, writes};
 use crate::command::Command;
 use crate::reply::Reply;
 use crate::session::Session;
@@ -20,7 +20,7 @@ fn from_new(
     outcome: Result<(), TextError>,
     lines: &[u8],
 ) {
-    let mut session: Session<P0, u64> = Session::new(alloc);
+    let mut session = new_session(alloc);
     answers_text(rt, alloc, &mut session, text, outcome, lines);
 }
 
@@ -73,7 +73,8 @@ fn answers_each_line(rt: HostRuntime) {
 
 #[test]
 fn goes_on_with_the_session_that_it_left(rt: HostRuntime) {
-    let mut session: Session<P0, u64> = Session::new(rt.alloc());
+    let mut session = new_session(rt.alloc());
+    let mut output = Vec::new(rt.alloc());
     let texts: [(&[u8], Result<(), TextError>, &[u8]); 2] = [
         (
             b"insert 1 -\nwhat\n",
@@ -86,61 +87,96 @@ fn goes_on_with_the_session_that_it_left(rt: HostRuntime) {
             b"given 1\ngiven 2\nfound 2 1\n",
         ),
     ];
-    let mut output = Vec::new(rt.alloc());
     for (text, outcome, lines) in texts {
         let mut input = text;
-        let answer = run_text(&mut session, rt.alloc(), &mut input, &mut output);
-        assert!(rt; answer == outcome, "at {outcome:?}");
-        assert_eq!(rt; output.as_slice(), lines);
+        writes(
+            &rt,
+            rt.alloc(),
+            &mut session,
+            &mut input,
+            &mut output,
+            outcome,
+            lines,
+        );
     }
+}
+
+// A read fails, and a session that has given a name is as it was.
+fn fails_to_read(rt: &impl Abort, alloc: Global, reads_before: usize) {
+    let mut session = new_session(alloc);
+    let before = [(Command::Insert(7, None), Reply::Given(1, false))];
+    follow(rt, &mut session, &before);
+    let mut input = PieceReader::new(b"insert 1 -\nremove 1\n", reads_before, ErrorKind::Other);
+    let failed = Err(TextError::Read);
+    answers(rt, alloc, &mut session, &mut input, failed, b"");
+    let after = [
+        (Command::Get(1), Reply::Found(7, None)),
+        (Command::Insert(8, None), Reply::Given(2, false)),
+    ];
+    follow(rt, &mut session, &after);
 }
 
 /// Each read of a text fails in turn, the one that would find its end too.
 #[test]
 fn changes_nothing_where_a_read_fails(rt: HostRuntime) {
     for reads_before in 0..6 {
-        let mut session: Session<P0, u64> = Session::new(rt.alloc());
-        follow(
-            &rt,
-            &mut session,
-            &[(Command::Insert(7, None), Reply::Given(1, false))],
-        );
-        let mut input = PieceReader::new(b"insert 1 -\nremove 1\n", reads_before, ErrorKind::Other);
-        let failed = Err(TextError::Read);
-        answers(&rt, rt.alloc(), &mut session, &mut input, failed, b"");
-        follow(
-            &rt,
-            &mut session,
-            &[
-                (Command::Get(1), Reply::Found(7, None)),
-                (Command::Insert(8, None), Reply::Given(2, false)),
-            ],
-        );
+        fails_to_read(&rt, rt.alloc(), reads_before);
     }
+}
+
+// A read is interrupted, and the text runs to its end.
+fn reads_on(rt: &impl Abort, alloc: Global, reads_before: usize) {
+    let mut session = new_session(alloc);
+    let mut input = PieceReader::new(b"insert 1 -\n", reads_before, ErrorKind::Interrupted);
+    answers(rt, alloc, &mut session, &mut input, Ok(()), b"given 1\n");
 }
 
 #[test]
 fn reads_on_after_an_interruption(rt: HostRuntime) {
     for reads_before in 0..4 {
-        let mut session: Session<P0, u64> = Session::new(rt.alloc());
-        let mut input = PieceReader::new(b"insert 1 -\n", reads_before, ErrorKind::Interrupted);
-        answers(
-            &rt,
-            rt.alloc(),
-            &mut session,
-            &mut input,
-            Ok(()),
-            b"given 1\n",
-        );
+        reads_on(&rt, rt.alloc(), reads_before);
     }
+}
+
+// Expects each name up to `given` to find this datum without a link, and each after it, up to
+// `last`, nothing.
+fn finds_up_to(
+    rt: &impl Abort,
+    session: &mut Session<P0, u64>,
+    datum: u64,
+    given: usize,
+    last: usize,
+) {
+    for name in 1..=last {
+        let reply = if name <= given {
+            Reply::Found(datum, None)
+        } else {
+            Reply::Nothing
+        };
+        assert!(rt; replies(session, Command::Get(name), reply), "at {name}");
+    }
+}
+
+// A text of insertions of 5, read in pieces, ends so and gives this many names of 101.
+fn reads_pieces(
+    rt: &impl Abort,
+    alloc: Global,
+    input: &mut PieceReader,
+    outcome: Result<(), TextError>,
+    given: usize,
+) {
+    let mut session = new_session(alloc);
+    let mut output = Vec::new(alloc);
+    let answer = run_text(&mut session, alloc, input, &mut output);
+    assert!(rt; answer == outcome, "at {outcome:?}");
+    finds_up_to(rt, &mut session, 5, given, 101);
 }
 
 /// A text of 1,100 bytes comes in 275 reads, one more finds its end, and any of them may be
 /// interrupted or fail.
 #[test]
 fn takes_hundreds_of_reads(rt: HostRuntime) {
-    let lines = [*b"insert 5 -\n"; 100];
-    let text = lines.as_flattened();
+    let text = [*b"insert 5 -\n"; 100];
     let failed = Err(TextError::Read);
     let rows = [
         (usize::MAX, ErrorKind::Other, Ok(()), 100),
@@ -150,69 +186,65 @@ fn takes_hundreds_of_reads(rt: HostRuntime) {
         (276, ErrorKind::Other, Ok(()), 100),
     ];
     for (reads_before, failure, outcome, given) in rows {
-        let mut session: Session<P0, u64> = Session::new(rt.alloc());
-        let mut input = PieceReader::new(text, reads_before, failure);
-        let mut output = Vec::new(rt.alloc());
-        let answer = run_text(&mut session, rt.alloc(), &mut input, &mut output);
-        assert!(rt; answer == outcome, "at {reads_before}");
-        for name in 1..102 {
-            let reply = if name <= given {
-                Reply::Found(5, None)
-            } else {
-                Reply::Nothing
-            };
-            assert!(rt;
-                replies(&mut session, Command::Get(name), reply),
-                "at {name}"
-            );
-        }
+        let mut input = PieceReader::new(text.as_flattened(), reads_before, failure);
+        reads_pieces(&rt, rt.alloc(), &mut input, outcome, given);
     }
 }
 
-// The text run over a writer, and how many lines it then holds to their end.
+// How a run ended, and how many lines and bytes its output then held.
+type End = (Result<(), TextError>, usize, usize);
+
+// A text run over a writer: its end, and whether a front of these lines was written.
 fn runs_to(
     alloc: Global,
     session: &mut Session<P0, u64>,
     text: &[u8],
-    output: &mut ShortWriter,
-) -> (Result<(), TextError>, usize) {
+    mut output: ShortWriter,
+    lines: &[u8],
+) -> (End, bool) {
     let mut input = text;
-    let outcome = run_text(session, alloc, &mut input, output);
-    (outcome, output.lines_ended())
+    let outcome = run_text(session, alloc, &mut input, &mut output);
+    let end = (outcome, output.lines_ended(), output.len);
+    (end, output.is_front_of(lines))
+}
+
+// Three insertions run over a writer that takes so many writes of two bytes: this is their end, and
+// so many of them have run.
+fn stops_writing(rt: &impl Abort, alloc: Global, writes_before: usize, end: End, ran: usize) {
+    let mut session = new_session(alloc);
+    let ended = runs_to(
+        alloc,
+        &mut session,
+        b"insert 1 -\ninsert 1 -\ninsert 1 -\n",
+        ShortWriter::of_pieces(2, writes_before),
+        b"given 1\ngiven 2\ngiven 3\n",
+    );
+    assert!(rt; ended == (end, true), "at {writes_before}");
+    finds_up_to(rt, &mut session, 1, ran, 4);
 }
 
 /// Each write of two bytes fails in turn. The command whose reply was being written has run, and no
 /// later one.
 #[test]
 fn runs_no_further_where_a_write_fails(rt: HostRuntime) {
-    let text = b"insert 1 -\ninsert 2 -\ninsert 3 -\n".as_slice();
-    let lines = b"given 1\ngiven 2\ngiven 3\n".as_slice();
-    for writes_before in 0..40 {
-        let mut session: Session<P0, u64> = Session::new(rt.alloc());
-        let mut output = ShortWriter::of_pieces(2, writes_before);
-        let (outcome, answered) = runs_to(rt.alloc(), &mut session, text, &mut output);
-        assert!(rt; output.is_front_of(lines));
-        if writes_before >= 12 {
-            assert!(rt; outcome == Ok(()));
-            assert_eq!(rt; answered, 3);
-        } else {
-            assert!(rt; outcome == Err(TextError::Write));
-            assert_eq!(rt; output.len, writes_before * 2);
-            assert!(rt; answered < 3);
-            assert!(rt; !replies(&mut session, Command::Get(answered + 1), Reply::Nothing));
-            assert!(rt; replies(&mut session, Command::Get(answered + 2), Reply::Nothing));
-        }
+    for writes_before in 0..12 {
+        let answered = writes_before / 4;
+        let end = (Err(TextError::Write), answered, writes_before * 2);
+        stops_writing(&rt, rt.alloc(), writes_before, end, answered + 1);
+    }
+    for writes_before in 12..40 {
+        stops_writing(&rt, rt.alloc(), writes_before, (Ok(()), 3, 24), 3);
     }
 }
 
-// The text run over a buffer above a writer, and how many lines and bytes that then holds.
+// A text run over a buffer above a writer, and what that then holds.
 fn flushes_to(
     rt: &impl Abort,
     alloc: Global,
     session: &mut Session<P0, u64>,
     text: &[u8],
     writes_before: usize,
-) -> (Result<(), TextError>, usize, usize) {
+) -> End {
     let Ok(output) = BufWriter::new(alloc, ShortWriter::new(writes_before)) else {
         panic!(rt; "there is memory");
     };
@@ -221,45 +253,53 @@ fn flushes_to(
     (outcome, written.lines_ended(), written.len)
 }
 
+// A text runs so in a new session, and its first name then has this reply.
+fn flushes(
+    rt: &impl Abort,
+    alloc: Global,
+    text: &[u8],
+    writes_before: usize,
+    end: End,
+    reply: Reply<u64>,
+) {
+    let mut session = new_session(alloc);
+    let ended = flushes_to(rt, alloc, &mut session, text, writes_before);
+    assert!(rt; ended == end, "at {end:?}");
+    follow(rt, &mut session, &[(Command::Get(1), reply)]);
+}
+
 /// The writer below the buffer takes one write, or fails at the first.
 #[test]
 fn flushes_what_was_answered(rt: HostRuntime) {
     let found = Reply::Found(1, None);
-    let rows: [(
-        &[u8],
-        usize,
-        Result<(), TextError>,
-        usize,
-        usize,
-        Reply<u64>,
-    ); 4] = [
-        (b"insert 1 -\nget 1\n", 1, Ok(()), 2, 18, found),
+    let malformed = |line| Err(TextError::Malformed(line));
+    let rows: [(&[u8], usize, End, Reply<u64>); 4] = [
+        (b"insert 1 -\nget 1\n", 1, (Ok(()), 2, 18), found),
+        (b"insert 1 -\nwhat\nget 1\n", 1, (malformed(2), 1, 8), found),
+        (b"what\n", 1, (malformed(1), 0, 0), Reply::Nothing),
         (
-            b"insert 1 -\nwhat\nget 1\n",
-            1,
-            Err(TextError::Malformed(2)),
-            1,
-            8,
+            b"insert 1 -\nwhat\n",
+            0,
+            (Err(TextError::Write), 0, 0),
             found,
         ),
-        (
-            b"what\n",
-            1,
-            Err(TextError::Malformed(1)),
-            0,
-            0,
-            Reply::Nothing,
-        ),
-        (b"insert 1 -\nwhat\n", 0, Err(TextError::Write), 0, 0, found),
     ];
-    for (text, writes_before, outcome, lines, bytes, reply) in rows {
-        let mut session: Session<P0, u64> = Session::new(rt.alloc());
-        let answer = flushes_to(&rt, rt.alloc(), &mut session, text, writes_before);
-        assert!(rt; answer == (outcome, lines, bytes), "at {outcome:?}");
-        assert!(rt;
-            replies(&mut session, Command::Get(1), reply),
-            "at {outcome:?}"
-        );
+    for (text, writes_before, end, reply) in rows {
+        flushes(&rt, rt.alloc(), text, writes_before, end, reply);
+    }
+}
+
+// How many names a run of five insertions gave, of which one may be refused memory, or the run.
+fn given_by(rt: &impl Abort, outcome: Result<(), TextError>, output: &ShortWriter) -> usize {
+    if outcome == Ok(()) {
+        let refused = output.lines_of(b"no memory");
+        assert_eq!(rt; output.lines_ended(), 5);
+        assert!(rt; refused < 2);
+        5 - refused
+    } else {
+        assert!(rt; outcome == Err(TextError::NoMemory));
+        assert_eq!(rt; output.len, 0);
+        0
     }
 }
 
@@ -268,22 +308,10 @@ fn flushes_what_was_answered(rt: HostRuntime) {
 /// insertion that asked answers so, and its name is given to the next.
 #[test]
 fn answers_no_memory_where_it_is_refused(rt: HostRuntime) {
-    let mut session: Session<P0, u64> = Session::new(rt.alloc());
-    let text = b"insert 1 -\ninsert 1 -\ninsert 1 -\ninsert 1 -\ninsert 1 -\n".as_slice();
+    let mut session = new_session(rt.alloc());
+    let mut input = b"insert 1 -\ninsert 1 -\ninsert 1 -\ninsert 1 -\ninsert 1 -\n".as_slice();
     let mut output = ShortWriter::new(256);
-    let (outcome, answered) = runs_to(rt.alloc(), &mut session, text, &mut output);
-    let mut given = 0;
-    if outcome == Ok(()) {
-        assert_eq!(rt; answered, 5);
-        let refused = output.lines_of(b"no memory");
-        assert!(rt; refused < 2);
-        given = 5 - refused;
-    } else {
-        assert!(rt; outcome == Err(TextError::NoMemory));
-        assert_eq!(rt; output.len, 0);
-    }
-    for name in 1..7 {
-        let found = replies(&mut session, Command::Get(name), Reply::Found(1, None));
-        assert_eq!(rt; found, name <= given, "at {name}");
-    }
+    let outcome = run_text(&mut session, rt.alloc(), &mut input, &mut output);
+    let given = given_by(&rt, outcome, &output);
+    finds_up_to(&rt, &mut session, 1, given, 6);
 }

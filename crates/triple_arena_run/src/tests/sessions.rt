@@ -1,16 +1,17 @@
 //! Sessions by their commands, at pointers of small generations too.
 
 use super::byte_pointer::B;
-use super::steps::{follow, generation, replies, sizes};
+use super::steps::{Row, extent, follow, has_extent, holds, new_session, replies};
 use super::texts::answers_text;
 use crate::command::Command;
 use crate::node::Node;
 use crate::reply::Reply;
 use crate::session::Session;
 use std::alloc::Global;
+use std::array;
+use std::num::NonZeroUsize;
 use std::process::Abort;
-use std::test::Fail;
-use triple_arena::{Arena, ArenaInsertTrait, ArenaSlot, ArenaTrait};
+use triple_arena::ArenaSlot;
 use triple_arena_ptr::{P0, P3, Ptr, PtrGen};
 use triple_arena_stack::{
     NonZeroInxArray, NonZeroInxBoxedSlice, NonZeroInxGenericStack, NonZeroInxLimitedVec,
@@ -76,53 +77,78 @@ fn a_text_run_ends_at_a_wrap(rt: HostRuntime) {
     follow(&rt, &mut session, &[(Command::Get(65535), Reply::Nothing)]);
 }
 
-#[test]
-fn a_node_prints_as_its_pair(rt: HostRuntime) -> Result<(), Fail> {
-    let mut arena: Arena<P0, u64> = Arena::new(rt.alloc());
-    let p = arena.insert(20)?;
-    let unlinked: Node<u64, P0> = Node {
-        datum: 20,
-        link: None,
-    };
-    let linked = Node {
-        datum: 20,
-        link: Some(p),
-    };
-    let text = format!(in rt.alloc(); "{unlinked:?} {linked:?}")?;
-    assert_eq!(rt; text.as_str(), "(20, None) (20, Some(P0[1](2)))");
-    Ok(())
-}
-
-// What stands under a name.
-type Row = Option<(u64, Option<usize>)>;
-
-// Expects each name to be answered as its row says.
-fn holds(rt: &impl Abort, session: &mut Session<P0, u64>, rows: &[Row; 16]) {
-    for (name, row) in rows.iter().enumerate() {
-        let reply = match *row {
-            Some((datum, link)) => Reply::Found(datum, link),
-            None => Reply::Nothing,
-        };
-        assert!(rt; replies(session, Command::Get(name), reply), "at {name}");
+// Whether Debug writes this text for a node of the datum 20 and this link.
+fn prints(alloc: Global, link: Option<P0>, text: &str) -> bool {
+    let node = Node { datum: 20u64, link };
+    match format!(in alloc; "{node:?}") {
+        Ok(written) => written.as_str() == text,
+        Err(_) => false,
     }
 }
 
-// The name that an insertion gave, if it gave one. Else memory was refused, and capacity and
+#[test]
+fn a_node_prints_as_its_pair(rt: HostRuntime) {
+    let p = P0::_from_raw(NonZeroUsize::MIN, PtrGen::two());
+    assert!(rt; prints(rt.alloc(), None, "(20, None)"));
+    assert!(rt; prints(rt.alloc(), Some(p), "(20, Some(P0[1](2)))"));
+}
+
+// The name that an insertion gave. None where memory was refused, and then length, capacity and
 // counter are as they were.
-fn inserts(
+fn inserted(
     rt: &impl Abort,
     session: &mut Session<P0, u64>,
     datum: u64,
     link: Option<usize>,
 ) -> Option<usize> {
-    let before = (sizes(session), generation(session));
+    let before = extent(session);
     match session.step(Command::Insert(datum, link)) {
         Reply::Given(name, false) => Some(name),
         reply => {
-            assert!(rt; reply == Reply::NoMemory);
-            assert!(rt; (sizes(session), generation(session)) == before);
+            assert!(rt; reply == Reply::NoMemory && has_extent(session, before));
             None
         }
+    }
+}
+
+// What is expected of a session: what stands under each name, which name was given last, and
+// whether memory was refused.
+#[derive(Drop)]
+struct Expected {
+    rows: [Row; 16],
+    given: usize,
+    refused: bool,
+}
+
+impl Expected {
+    // A link to the name that was given last.
+    fn link(&self) -> Option<usize> {
+        if self.given == 0 {
+            None
+        } else {
+            Some(self.given)
+        }
+    }
+
+    // Keeps what stands under the name that an insertion gave, a later one than before. Memory may
+    // be refused once.
+    fn keep(&mut self, rt: &impl Abort, name: Option<usize>, datum: u64) {
+        match name {
+            Some(name) => {
+                assert!(rt; self.given < name && name < 16);
+                self.rows[name] = Some((datum, self.link()));
+                self.given = name;
+            }
+            None => {
+                assert!(rt; !self.refused);
+                self.refused = true;
+            }
+        }
+    }
+
+    // Takes what stands under the name that was given last.
+    fn take(&mut self) -> Row {
+        self.rows.get_mut(self.given)?.take()
     }
 }
 
@@ -131,38 +157,30 @@ fn inserts(
 /// then one insertion answers so, and names, entries, capacity and counter are as they were.
 #[test]
 fn a_refused_insertion_changes_nothing(rt: HostRuntime) {
-    let mut session: Session<P0, u64> = Session::new(rt.alloc());
-    let mut rows: [Row; 16] = [None; 16];
-    let mut given = 0;
-    let mut refused = false;
+    let mut session = new_session(rt.alloc());
+    let mut expected = Expected {
+        rows: [None; 16],
+        given: 0,
+        refused: false,
+    };
     for datum in 0..12 {
-        let link = if given == 0 { None } else { Some(given) };
-        match inserts(&rt, &mut session, datum, link) {
-            Some(name) => {
-                assert!(rt; given < name && name < 16);
-                given = name;
-                rows[name] = Some((datum, link));
-            }
-            None => {
-                assert!(rt; !refused);
-                refused = true;
-            }
+        let name = inserted(&rt, &mut session, datum, expected.link());
+        expected.keep(&rt, name, datum);
+        if datum % 3 == 2
+            && let Some((datum, link)) = expected.take()
+        {
+            let reply = Reply::Removed(datum, link, false);
+            assert!(rt; replies(&mut session, Command::Remove(expected.given), reply));
         }
-        if datum % 3 == 2 && given < 16 {
-            if let Some((removed, link)) = rows[given] {
-                let reply = Reply::Removed(removed, link, false);
-                assert!(rt; replies(&mut session, Command::Remove(given), reply));
-                rows[given] = None;
-            }
-        }
-        holds(&rt, &mut session, &rows);
+        holds(&rt, &mut session, &expected.rows);
     }
-    assert_eq!(rt; given, if refused { 11 } else { 12 });
+    assert_eq!(rt; expected.given, if expected.refused { 11 } else { 12 });
 }
 
 type Slot = ArenaSlot<P0, Node<u64, P0>>;
 
-/// The text answered by a session over each kind of stack, with room for so many at first.
+// Expects a session over a kind of stack, with room for so many at first, to answer a text by these
+// lines.
 fn answers_over<S: NonZeroInxGenericStack<Slot> + Drop>(
     rt: &impl Abort,
     alloc: Global,
@@ -176,7 +194,7 @@ fn answers_over<S: NonZeroInxGenericStack<Slot> + Drop>(
     }
 }
 
-/// The same, by a session that is made without room.
+// The same of a session that is made without room.
 fn answers_over_new<S: NonZeroInxGenericStack<Slot> + Drop>(
     rt: &impl Abort,
     alloc: Global,
@@ -200,32 +218,36 @@ fn a_limit_refuses_and_a_removal_makes_place(rt: HostRuntime) {
     answers_over::<NonZeroInxVec<Slot>>(&rt, alloc, 2, text, unlimited);
 }
 
+// Whether a session is made with room for so many.
+fn has_places<S: NonZeroInxGenericStack<Slot> + Drop>(alloc: Global, room: usize) -> bool {
+    Session::<P0, u64, S>::with_min_capacity(alloc, room).is_ok()
+}
+
 #[test]
 fn a_session_without_places_refuses_each_insertion(rt: HostRuntime) {
     let text = b"insert 5 -\nget 1\n".as_slice();
     let lines = b"beyond max capacity\nnothing\n".as_slice();
     answers_over::<NonZeroInxBoxedSlice<Slot>>(&rt, rt.alloc(), 0, text, lines);
     answers_over_new::<NonZeroInxLimitedVec<Slot>>(&rt, rt.alloc(), text, lines);
-    let refused = Session::<P0, u64, NonZeroInxArray<Slot, 8>>::with_min_capacity(rt.alloc(), 9);
-    assert!(rt; refused.is_err());
+    assert!(rt; !has_places::<NonZeroInxArray<Slot, 8>>(rt.alloc(), 9));
 }
 
-// The commands run, and their replies.
+// Whether the commands run, and have just these replies.
 fn runs<P: Ptr>(
-    rt: &impl Abort,
     session: &mut Session<P, u64>,
     commands: &[Command<u64>],
-) -> Vec<Reply<u64>> {
+    replies: &[Reply<u64>],
+) -> bool {
     match session.run(commands) {
-        Ok(told) => told,
-        Err(_) => panic!(rt; "there is memory"),
+        Ok(told) => told.as_slice() == replies,
+        Err(_) => false,
     }
 }
 
 #[test]
 fn a_run_gives_one_reply_for_each_command(rt: HostRuntime) {
-    let mut session: Session<P0, u64> = Session::new(rt.alloc());
-    assert_eq!(rt; sizes(&session).0, 0);
+    let mut session = new_session(rt.alloc());
+    assert_eq!(rt; extent(&session).0, 0);
     let commands = [
         Command::Insert(10, None),
         Command::Insert(20, Some(1)),
@@ -233,67 +255,89 @@ fn a_run_gives_one_reply_for_each_command(rt: HostRuntime) {
         Command::Get(2),
         Command::Get(1),
     ];
-    let expected = [
+    let replies = [
         Reply::Given(1, false),
         Reply::Given(2, false),
         Reply::Removed(10, None, false),
         Reply::Found(20, Some(1)),
         Reply::Nothing,
     ];
-    assert!(rt; runs(&rt, &mut session, &commands).as_slice() == expected.as_slice());
-    assert_eq!(rt; sizes(&session).0, 1);
-    assert!(rt; runs(&rt, &mut session, &[]).is_empty());
+    assert!(rt; runs(&mut session, &commands, &replies));
+    assert_eq!(rt; extent(&session).0, 1);
+    assert!(rt; runs(&mut session, &[], &[]));
+}
+
+// The command at a position of insertions that are each before the removal of their name, and its
+// reply, of which that at 507 tells of a wrap.
+fn step_at(position: usize) -> (Command<u64>, Reply<u64>) {
+    let name = position / 2 + 1;
+    if position % 2 == 0 {
+        (Command::Insert(5, None), Reply::Given(name, false))
+    } else {
+        (
+            Command::Remove(name),
+            Reply::Removed(5, None, position == 507),
+        )
+    }
 }
 
 /// The byte counter begins at 2, so the 254th removal wraps it, and what follows isn't run.
 #[test]
 fn a_run_ends_at_a_wrap(rt: HostRuntime) {
-    let mut commands = [Command::Insert(5, None); 510];
-    for name in 1..256 {
-        commands[2 * name - 1] = Command::Remove(name);
-    }
+    let commands: [Command<u64>; 510] = array::from_fn(|position| step_at(position).0);
+    let replies: [Reply<u64>; 508] = array::from_fn(|position| step_at(position).1);
     let mut session: Session<B, u64> = Session::new(rt.alloc());
-    let told = runs(&rt, &mut session, &commands);
-    assert_eq!(rt; told.len(), 508);
-    for (position, reply) in told.iter().enumerate() {
-        let expected = if position % 2 == 0 {
-            Reply::Given(position / 2 + 1, false)
-        } else {
-            Reply::Removed(5, None, position == 507)
-        };
-        assert!(rt; *reply == expected, "at {position}");
-    }
+    assert!(rt; runs(&mut session, &commands, &replies));
     follow(&rt, &mut session, &[(Command::Get(255), Reply::Nothing)]);
-    assert_eq!(rt; sizes(&session).0, 0);
+    assert_eq!(rt; extent(&session).0, 0);
 }
 
 type ByteSlot = ArenaSlot<B, Node<u64, B>>;
 
-/// Fills a session up to the greatest byte index. The next insertion is refused so, and names,
-/// entries, capacity and counter stay, until a removal makes place.
-fn takes_every_index<S: NonZeroInxGenericStack<ByteSlot>>(
-    rt: &impl Abort,
-    session: &mut Session<B, u64, S>,
-    refusal: Reply<u64>,
-) {
+// A datum for each name, and a link to the name before it.
+fn entry_of(name: usize) -> (u64, Option<usize>) {
+    let link = if name > 1 { Some(name - 1) } else { None };
+    (name as u64, link)
+}
+
+// What then stands under each name; there is none of 0.
+fn row_of(name: usize) -> Row {
+    if name > 0 { Some(entry_of(name)) } else { None }
+}
+
+// Inserts as many entries as there are byte indexes.
+fn fills<S: NonZeroInxGenericStack<ByteSlot>>(rt: &impl Abort, session: &mut Session<B, u64, S>) {
     for name in 1..256 {
-        let command = Command::Insert(name as u64, link_before(name));
+        let (datum, link) = entry_of(name);
+        let command = Command::Insert(datum, link);
         assert!(rt;
             replies(session, command, Reply::Given(name, false)),
             "at {name}"
         );
     }
-    let before = (sizes(session), generation(session));
-    assert_eq!(rt; before.0, (255, 255));
-    assert!(rt; replies(session, Command::Insert(0, None), refusal));
-    assert!(rt; (sizes(session), generation(session)) == before);
-    for name in 1..256 {
-        let reply = Reply::Found(name as u64, link_before(name));
-        assert!(rt; replies(session, Command::Get(name), reply), "at {name}");
-    }
+}
+
+// Fills a session, made with this room, up to the greatest byte index. The next insertion is refused
+// so, and names, entries, capacity and counter stay, until a removal makes place.
+fn takes_every_index<S: NonZeroInxGenericStack<ByteSlot> + Drop>(
+    rt: &impl Abort,
+    alloc: Global,
+    room: usize,
+    refusal: Reply<u64>,
+) {
+    let Ok(mut session) = Session::<B, u64, S>::with_min_capacity(alloc, room) else {
+        panic!(rt; "there is memory");
+    };
+    fills(rt, &mut session);
+    let before = extent(&session);
+    assert_eq!(rt; (before.0, before.1), (255, 255));
+    assert!(rt; replies(&mut session, Command::Insert(0, None), refusal));
+    assert!(rt; has_extent(&session, before));
+    let rows: [Row; 256] = array::from_fn(row_of);
+    holds(rt, &mut session, &rows);
     follow(
         rt,
-        session,
+        &mut session,
         &[
             (Command::Get(256), Reply::Nothing),
             (Command::Remove(100), Reply::Removed(100, Some(99), false)),
@@ -302,20 +346,16 @@ fn takes_every_index<S: NonZeroInxGenericStack<ByteSlot>>(
     );
 }
 
-fn link_before(name: usize) -> Option<usize> {
-    if name > 1 { Some(name - 1) } else { None }
-}
-
 /// Without a limit the 256th insertion wants an index that there is not. A limit at the greatest
 /// index is told first.
 #[test]
 fn an_arena_without_a_free_index_refuses(rt: HostRuntime) {
-    let mut session: Session<B, u64> = Session::new(rt.alloc());
-    takes_every_index(&rt, &mut session, Reply::NoMemory);
-    match Session::<B, u64, NonZeroInxLimitedVec<ByteSlot>>::with_min_capacity(rt.alloc(), 255) {
-        Ok(mut session) => takes_every_index(&rt, &mut session, Reply::BeyondMaxCapacity),
-        Err(_) => panic!(rt; "there is memory"),
-    }
-    let past = Session::<B, u64>::with_min_capacity(rt.alloc(), 256);
-    assert!(rt; past.is_err());
+    takes_every_index::<NonZeroInxVec<ByteSlot>>(&rt, rt.alloc(), 0, Reply::NoMemory);
+    let refusal = Reply::BeyondMaxCapacity;
+    takes_every_index::<NonZeroInxLimitedVec<ByteSlot>>(&rt, rt.alloc(), 255, refusal);
+}
+
+#[test]
+fn no_session_has_room_past_the_greatest_index(rt: HostRuntime) {
+    assert!(rt; Session::<B, u64>::with_min_capacity(rt.alloc(), 256).is_err());
 }

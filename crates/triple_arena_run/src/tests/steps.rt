@@ -1,14 +1,20 @@
-//! The steps of a session as values, so that a test is a table of them.
+//! A new session, and its steps as values, so that a test is a table of them.
 
 use crate::command::Command;
 use crate::node::Node;
 use crate::reply::Reply;
 use crate::session::Session;
+use std::alloc::Global;
 use std::fmt::Debug;
 use std::process::Abort;
 use triple_arena::{ArenaSlot, ArenaTrait};
-use triple_arena_ptr::Ptr;
+use triple_arena_ptr::{P0, Ptr};
 use triple_arena_stack::NonZeroInxGenericStack;
+
+/// A new session at the pointer of general use.
+pub fn new_session(alloc: Global) -> Session<P0, u64> {
+    Session::new(alloc)
+}
 
 /// Whether a command is answered so.
 pub fn replies<P: Ptr, X: Copy + PartialEq, S: NonZeroInxGenericStack<ArenaSlot<P, Node<X, P>>>>(
@@ -30,16 +36,36 @@ pub fn follow<
     }
 }
 
-/// How many entries the arena holds, and for how many it has room.
-pub fn sizes<P: Ptr, X: Copy, S: NonZeroInxGenericStack<ArenaSlot<P, Node<X, P>>>>(
-    session: &Session<P, X, S>,
-) -> (usize, usize) {
-    (session.arena().len(), session.arena().capacity())
+/// What stands under a name.
+pub type Row = Option<(u64, Option<usize>)>;
+
+/// Expects each name to be answered as its row says; the first row is that of 0.
+pub fn holds<P: Ptr, S: NonZeroInxGenericStack<ArenaSlot<P, Node<u64, P>>>>(
+    rt: &impl Abort,
+    session: &mut Session<P, u64, S>,
+    rows: &[Row],
+) {
+    for (name, row) in rows.iter().enumerate() {
+        let reply = match *row {
+            Some((datum, link)) => Reply::Found(datum, link),
+            None => Reply::Nothing,
+        };
+        assert!(rt; replies(session, Command::Get(name), reply), "at {name}");
+    }
 }
 
-/// The generation of the arena's counter.
-pub fn generation<P: Ptr, X: Copy, S: NonZeroInxGenericStack<ArenaSlot<P, Node<X, P>>>>(
+/// How many entries the arena holds, for how many it has room, and the generation of its counter.
+pub fn extent<P: Ptr, X: Copy, S: NonZeroInxGenericStack<ArenaSlot<P, Node<X, P>>>>(
     session: &Session<P, X, S>,
-) -> P::Gen {
-    session.arena().generation()
+) -> (usize, usize, P::Gen) {
+    let arena = session.arena();
+    (arena.len(), arena.capacity(), arena.generation())
+}
+
+/// Whether the arena still has this extent.
+pub fn has_extent<P: Ptr, X: Copy, S: NonZeroInxGenericStack<ArenaSlot<P, Node<X, P>>>>(
+    session: &Session<P, X, S>,
+    before: (usize, usize, P::Gen),
+) -> bool {
+    extent(session) == before
 }

@@ -28,4 +28,5 @@ mod token;
 mod told;
 mod trait_calls;
 mod worked_sequences;
+mod walks;
 mod wraps;

@@ -10,10 +10,10 @@ use std::process::Abort;
 use triple_arena::Arena;
 use triple_arena_ptr::P0;
 
-type Heaped = Arena<P0, Token, Heap<P0>>;
+pub type Heaped = Arena<P0, Token, Heap<P0>>;
 
-// So many entries, each with its index as its value, of which some are removed in turn.
-fn with_removed(rt: &impl Abort, alloc: Global, entries: usize, removed: &[usize]) -> Heaped {
+/// So many entries, each with its index as its value, of which some are removed in turn.
+pub fn with_removed(rt: &impl Abort, alloc: Global, entries: usize, removed: &[usize]) -> Heaped {
     let mut arena = new_arena::<P0, Heap<P0>>(alloc);
     for index in 1..=entries {
         let told = Told::At(index, 2);

@@ -5,7 +5,7 @@ use super::numbered::Numbered;
 use super::tables::{Call, follow};
 use super::token::Token;
 use super::told::Told;
-use crate::Narrow;
+use super::pointers::Narrow;
 use std::alloc::{AllocError, Global};
 use std::fmt;
 use std::fmt::{Debug, Write};
@@ -85,7 +85,7 @@ fn entries_stand_by_index_over_each_stack(rt: HostRuntime) -> Result<(), Fail> {
         &rt,
         alloc,
         &mut new_arena::<Narrow, Places<Narrow, 3>>(alloc),
-        "{Narrow[1](2): Token { number: 7 }, Narrow[3](4): Token { number: 8 }}",
+        "{PtrOf[1](2): Token { number: 7 }, PtrOf[3](4): Token { number: 8 }}",
     )?;
     Ok(())
 }

@@ -7,4 +7,6 @@ pub mod Inserted
 pub mod LookUps
 pub mod Limits
 pub mod Pairs
+pub mod Keeping
+pub mod Listing
 pub mod Steps

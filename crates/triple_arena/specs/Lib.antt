@@ -11,5 +11,9 @@ pub mod LengthLaws
 pub mod Slot
 pub mod Layout
 pub mod Lends
+pub mod Kept
+pub mod Values
+pub mod InOrder
+pub mod Lent
 pub mod InsertEntry
 pub mod Disjoint

@@ -1,6 +1,7 @@
 //! The arena.
 
 ghost use Rattle.std.specs.Prelude.{◌≡◌, ℕ, ◌≤◌, ◌<◌, ◌+◌, ◌==◌, ◌↔◌, ◌≢◌, cond, false, [], map, length, is_some, IsSome, IfSome, IsOk, IfOk, OnOk, OnErr, Some, None, Err, IsTrue, slice_get, option_copied, min, ◌*◌, ◌^◌};
+ghost use Rattle.std.specs.Borrow.{sem};
 ghost use Rattle.std.specs.Int.NonZero.{non_zero_usize_get};
 ghost use Rattle.std.specs.Option.{option_map, option_and_then};
 ghost use Rattle.triple_arena_ptr.specs.Numbers.{greatest_index, raise, wraps, first_generation};
@@ -14,16 +15,20 @@ ghost use Rattle.triple_arena.specs.FreeList.{tidied, IsInOrder};
 ghost use Rattle.triple_arena.specs.Capacity.{with_room_for, reallocated, KeepsRoom, EndsBy, ready_for_limit, with_limit, grown};
 ghost use Rattle.triple_arena.specs.Slot.{entry_of};
 ghost use Rattle.triple_arena.specs.Disjoint.{value_of};
+ghost use Rattle.triple_arena.specs.Values.{with_values_of};
+ghost use Rattle.triple_arena.specs.Lent.{lends_values};
 
 use crate::answers::{told, told_valid};
 use crate::arena_insert_trait::ArenaInsertTrait;
 use crate::arena_trait::ArenaTrait;
 use crate::disjointable_arena_trait::DisjointableArenaTrait;
+use crate::insert_entry::LendingArena;
+use crate::lent_slots::LentSlots;
 use crate::pair_call::{AtEntries, AtValues, PairCall};
 use crate::slot::ArenaSlot;
 use crate::slots::Slots;
 use std::alloc::Global;
-use std::marker::Model;
+use std::marker::{Model, PhantomData};
 use std::num::NonZeroUsize;
 use triple_arena_base::{
     AllocError, GetDisjointMutError, InvalidationOption, InvalidationResult,
@@ -572,6 +577,27 @@ impl<P: Ptr, T, S: NonZeroInxGenericStack<ArenaSlot<P, T>>> Arena<P, T, S> {
             (with_value self.old (non_zero_usize_get first) x) (non_zero_usize_get second) y) }
     {
         self.slots.work_on_two(first, second, call)
+    }
+
+    // How many slots there are.
+    pub(crate) fn slot_count(&self) -> usize
+        ensures value { result ≡ slot_count self.now }
+        ensures indexed { result ≤ greatest_index P.Inx.greatest }
+    {
+        self.slots.stack.len()
+    }
+
+    // The slots, so that their values alone can be written.
+    pub(crate) fn lend_slots(&mut self) -> LentSlots<'_, P, T>
+        ensures* writes_back { sem 𝓛 (lends_values ⟦<Arena<P, T, S> as LendingArena>⟧.arena_row
+            self.entry result.tie (with_values_of self.old)) }
+        ensures slots { map (entry_of P.Gen.number) result.now ≡ self.old.slots }
+    {
+        let slots = self.slots.as_mut_slice();
+        LentSlots {
+            at: slots.as_mut_ptr(),
+            mark: PhantomData,
+        }
     }
 
     // Takes out the entry at an index, and tells whether the counter wrapped.

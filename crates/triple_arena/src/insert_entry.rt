@@ -30,7 +30,7 @@ pub struct ArenaInsertEntry<
     arena: &'a mut Arena<P, T, S>,
 }
 
-// An arena as what its entries borrow from: its type, as clauses on loans name it.
+// An arena as what its entries and iterators borrow from: its type, as clauses on loans name it.
 pub trait LendingArena {
     ghost arena_row: { RattleType };
 }

@@ -3,11 +3,13 @@
 
 mod answers;
 mod arena_insert_trait;
+pub mod arena_iterators;
 mod arena_trait;
 mod base_arena;
 mod disjointable_arena_trait;
 mod insert_entry;
 pub mod laws;
+mod lent_slots;
 mod pair_call;
 mod slot;
 mod slots;

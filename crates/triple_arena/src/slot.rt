@@ -1,10 +1,11 @@
 //! A slot of an arena.
 
 ghost use Rattle.std.specs.Prelude.{◌≡◌, ◌≢◌, ◌==◌, cond, None, Some, IsSome, IsNone, is_some, option_copied};
-ghost use Rattle.std.specs.Borrow.{Lends, sem};
+ghost use Rattle.std.specs.Borrow.{Lends, LendsIf, sem};
 ghost use Rattle.std.specs.Int.NonZero.{non_zero_usize_get};
-ghost use Rattle.std.specs.Option.{option_map, option_and_then};
+ghost use Rattle.std.specs.Option.{option_map, option_and_then, option_copied_mut};
 ghost use Rattle.triple_arena.specs.Entries.{value_under};
+ghost use Rattle.triple_arena.specs.Disjoint.{value_of};
 ghost use Rattle.triple_arena.specs.Slot.{entry_of, next_free, with_slot_value, with_slot_generation};
 
 use std::num::NonZeroUsize;
@@ -112,6 +113,29 @@ impl<P: Ptr, T> ArenaSlot<P, T> {
         match self {
             ArenaSlot::Allocated(_, value) => value,
             ArenaSlot::Free(_) => unreachable!(),
+        }
+    }
+
+    // The generation of the entry, if there is one.
+    pub(crate) fn generation(&self) -> Option<P::Gen>
+        ensures { option_map P.Gen.number result
+            ≡ option_map (λ e. e.0) (entry_of P.Gen.number self.now) }
+    {
+        match self {
+            ArenaSlot::Allocated(generation, _) => Some(*generation),
+            ArenaSlot::Free(_) => None,
+        }
+    }
+
+    // The value of the entry, for writing, if there is one.
+    pub(crate) fn live_value_mut(&mut self) -> Option<&mut T>
+        ensures* lends { sem 𝓛 (LendsIf (the_row P.row T.row P.Inx.row P.Gen.row) T.row self.entry
+            result (with_slot_value self.old) self.old) }
+        ensures value { option_copied_mut result ≡ value_of (entry_of P.Gen.number self.old) }
+    {
+        match self {
+            ArenaSlot::Allocated(_, value) => Some(value),
+            ArenaSlot::Free(_) => None,
         }
     }
 

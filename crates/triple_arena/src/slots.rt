@@ -40,7 +40,7 @@ pub(crate) struct Slots<P: Ptr, T, S: NonZeroInxGenericStack<ArenaSlot<P, T>>> {
 }
 
 impl<P: Ptr, T, S: NonZeroInxGenericStack<ArenaSlot<P, T>>> Slots<P, T, S> {
-    ghost use Rattle.triple_arena.specs.Lends.{lends_slot_value};
+    ghost use Rattle.triple_arena.specs.Lends.{lends_slot_value, lends_slots};
 
     // The slots of a stack that has none.
     pub(crate) fn over(stack: S) -> Self
@@ -73,6 +73,15 @@ impl<P: Ptr, T, S: NonZeroInxGenericStack<ArenaSlot<P, T>>> Slots<P, T, S> {
     {
         let slot = self.stack.get_mut(inx).unwrap();
         slot.value_mut()
+    }
+
+    // The slots, for writing.
+    pub(crate) fn as_mut_slice(&mut self) -> &mut [ArenaSlot<P, T>]
+        ensures* writes_back { sem 𝓛 (lends_slots P.row T.row S.row P.Inx.row P.Gen.row
+            S.items S.with_items self.entry result) }
+        ensures value { result.now ≡ S.items self.old.stack }
+    {
+        self.stack.as_mut_slice()
     }
 
     // Makes the call at the values of the entries at two indexes.

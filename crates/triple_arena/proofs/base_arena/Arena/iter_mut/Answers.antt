@@ -1,0 +1,18 @@
+use Rattle.std.proofs.Common.{refl, ap, length, ◌∙◌, arith}
+use Rattle.triple_arena.specs.InOrder.{entries}
+use Rattle.triple_arena.proofs.Keeping.{keeps_pointers}
+use Rattle.triple_arena.proofs.Listing.{length-entries_from, count_within}
+use Rattle.triple_arena.proofs.base_arena.Arena.iter_mut.Goals as goal
+
+pub returns : goal.returns
+returns g c =
+    let rest = ap entries c.lend_slots.ensures.slots in (
+      (refl, λ w. refl),
+      record {
+        writes_back = tt;
+        keeps = keeps_pointers c.args.self.now;
+        rest = rest;
+        len = ap length rest ∙ length-entries_from 1 c.args.self.now.slots;
+        fits = omega (arith, count_within c.args.self.now.slots);
+      },
+    )

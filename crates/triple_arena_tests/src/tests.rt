@@ -24,3 +24,5 @@ mod told;
 mod trait_calls;
 mod worked_sequences;
 mod wraps;
+mod writing;
+mod writing_calls;

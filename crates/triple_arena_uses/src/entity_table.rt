@@ -6,6 +6,7 @@ ghost use Rattle.std.specs.Prelude.{◌≡◌, ◌≢◌, ◌-◌, None, Some, I
 ghost use Rattle.std.specs.Option.{option_map, option_and_then};
 ghost use Rattle.triple_arena_ptr.specs.Pointers.{Pointer};
 ghost use Rattle.triple_arena.specs.ArenaState.{look_up, entry};
+ghost use Rattle.triple_arena.specs.Values.{SamePointers};
 ghost use Rattle.triple_arena_uses.specs.Entities.{numbers, spawned, damaged};
 
 use std::alloc::Global;
@@ -87,6 +88,15 @@ impl<S: NonZeroInxGenericStack<ArenaSlot<P0, Entity>>> EntityTable<S> {
         Some(entity.health)
     }
 
+    /// Takes health from each entity. Who is there stays, each under its pointer.
+    pub fn damage_all(&mut self, by: u32)
+        ensures { SamePointers self.old self.new }
+    {
+        for (_p, Entity { health, .. }) in &mut self.entities {
+            *health = health.saturating_sub(by);
+        }
+    }
+
     /// The entity under a pointer.
     pub fn get(&self, p: P0) -> Option<&Entity>
         ensures { option_copied result ≡ look_up self.now (numbers p) }
@@ -129,6 +139,21 @@ mod tests {
         assert_eq!(rt; table.get(child).copied(), Some(left));
         assert_eq!(rt; table.damage(child, 100), Some(0));
         assert_eq!(rt; table.damage(sister, 0), Some(100));
+        Ok(())
+    }
+
+    #[test]
+    fn each_entity_is_damaged(rt: HostRuntime) -> Result<(), Fail> {
+        let mut table: EntityTable = EntityTable::new(rt.alloc());
+        let first = table.spawn(None)?;
+        let second = table.spawn(None)?;
+        let third = table.spawn(None)?;
+        assert_eq!(rt; table.damage(third, 80), Some(20));
+        assert!(rt; table.despawn(second));
+        table.damage_all(30);
+        assert_eq!(rt; table.damage(first, 0), Some(70));
+        assert_eq!(rt; table.damage(second, 0), None);
+        assert_eq!(rt; table.damage(third, 0), Some(0));
         Ok(())
     }
 

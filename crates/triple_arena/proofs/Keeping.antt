@@ -76,8 +76,8 @@ module _ {T : Type 0} where
   pub keeps_pointers : (s : ArenaState T) → KeepsPointers s
   keeps_pointers s w =
       record {
-        generations = generations-kept s.slots w.slots;
         pointers = λ q. at-kept (λ o. is_some (option_and_then (value_under q.1) (joined o))) (under-kept q.1) s.slots w.slots q.0;
+        generations = generations-kept s.slots w.slots;
         len = count-kept s.slots w.slots;
         counter = refl;
         free = refl;

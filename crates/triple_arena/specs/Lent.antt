@@ -11,6 +11,6 @@ module _ {A : Type 0} where
   abbrev pub lent_name : List A × GName → GName
   lent_name s = s.1
 
--- once the loan of this name ends, the arena has some values that were written
+-- once the loan of this name ends, the arena is this function of an arena that has the values that were written
 abbrev pub lends_values : (arena_row : RattleType) → MutBor arena_row.Denot → GName → (arena_row.Denot → arena_row.Denot) → Fml
 lends_values arena_row arena name written = follows arena_row arena_row arena.ghost_name name written

@@ -27,8 +27,8 @@ module _ {T : Type 0} where
 
   -- the same pointers are valid, and nothing but values differs
   pub record SamePointers (old new : ArenaState T) : Type 0 where
-    pub generations : generations_in new.slots ≡ generations_in old.slots
     pub pointers : (q : Pointer) → is_some (look_up new q) ≡ is_some (look_up old q)
+    pub generations : generations_in new.slots ≡ generations_in old.slots
     pub len : arena_len new ≡ arena_len old
     pub counter : new.counter ≡ old.counter
     pub free : new.free ≡ old.free
@@ -36,6 +36,6 @@ module _ {T : Type 0} where
     pub limit : new.limit ≡ old.limit
     pub greatest : new.greatest ≡ old.greatest
 
-  -- whatever values are written
+  -- whatever values are written, the same pointers are valid
   abbrev pub KeepsPointers : ArenaState T → Type 0
   KeepsPointers s = (w : ArenaState T) → SamePointers s (with_values_of s w)

@@ -12,7 +12,7 @@ use crate::slot::ArenaSlot;
 use std::marker::{Model, PhantomData};
 use triple_arena_ptr::Ptr;
 
-/// The right to write the values of slots that lie in a row, for as long as 'a lasts.
+/// The right to write the values of slots that lie in a row, and no more.
 #[derive(Drop)]
 pub(crate) struct LentSlots<'a, P: Ptr, T> {
     // The first slot.
@@ -43,8 +43,8 @@ impl<'a, P: Ptr, T> LentSlots<'a, P, T> {
         first.generation()
     }
 
-    // The value of the first slot's entry, if it has one; the slot is behind then. There has to be a
-    // slot.
+    // The value of the first slot's entry, if it has one; the slot isn't held any longer. There
+    // has to be a slot.
     pub(crate) fn pass(&mut self) -> Option<&'a mut T>
         requires { 0 < length self.old.now }
         ensures { (x : ArenaSlot P T P.Inx P.Gen) × (self.old.now ≡ x ∷ self.new.now)

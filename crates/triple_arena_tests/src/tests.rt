@@ -30,3 +30,5 @@ mod trait_calls;
 mod worked_sequences;
 mod walks;
 mod wraps;
+mod writing;
+mod writing_calls;

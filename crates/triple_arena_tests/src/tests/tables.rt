@@ -4,7 +4,7 @@ use super::numbered::{Numbered, generation, inx, pointer};
 use super::state::{State, assert_state, state_of};
 use super::token::Token;
 use super::told::{Told, told_found, told_generation, told_raise};
-use super::{index_calls, own_calls, pair_calls, trait_calls};
+use super::{index_calls, own_calls, pair_calls, trait_calls, writing_calls};
 use std::process::Abort;
 use triple_arena::{Arena, ArenaInsertTrait, ArenaSlot, ArenaTrait, DisjointableArenaTrait};
 use triple_arena_ptr::Ptr;
@@ -64,6 +64,9 @@ pub enum Call {
     EntryInsertReallocating(u64),
     EntryInsertWithin(u64),
     EntryWrite(u64, u64),
+    AddToEach(u64),
+    AddToEachEntry(u64),
+    AddToEachValue(u64),
     // of an `Arena` over a stack whose limit can be set
     SetLimit(usize),
 }
@@ -187,6 +190,9 @@ where
         }
         Call::EntryInsertWithin(number) => own_calls::entry_insert_within(arena, number),
         Call::EntryWrite(first, second) => own_calls::entry_write(arena, first, second),
+        Call::AddToEach(number) => writing_calls::add_to_each(arena, number),
+        Call::AddToEachEntry(number) => writing_calls::add_to_each_entry(arena, number),
+        Call::AddToEachValue(number) => writing_calls::add_to_each_value(arena, number),
         Call::Swap(_, _) | Call::SwapInx(_, _) | Call::Lend(_, _, _) | Call::LendInx(_, _, _) => {
             lent(rt, arena, call)
         }

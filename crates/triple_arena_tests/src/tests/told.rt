@@ -8,6 +8,9 @@ use triple_arena_base::{
 };
 use triple_arena_ptr::Ptr;
 
+/// How many of the entries that a walk met are told.
+pub const MET: usize = 3;
+
 /// What a call answers: a pointer by the numbers of its index and its generation, a value by its
 /// number.
 #[derive(Clone, Copy, Debug, PartialEq)]
@@ -47,6 +50,10 @@ pub enum Told {
     LimitRefused,
     /// Two values can't be lent.
     Apart(GetDisjointMutError),
+    /// The first entries that a walk met, each by its index, its generation and its value.
+    Met([Option<(usize, u64, u64)>; MET]),
+    /// The first values that a walk met.
+    MetValues([Option<u64>; MET]),
 }
 
 // The number under which a type of generations tells the generation of this number.
@@ -55,6 +62,20 @@ fn told_as<G: Numbered>(number: u64) -> u64 {
         Some(generation) => generation.told_number(),
         None => number,
     }
+}
+
+// The same entry on pointers whose generations are of the type `G`.
+fn met_as<G: Numbered>(met: Option<(usize, u64, u64)>) -> Option<(usize, u64, u64)> {
+    let (index, g, number) = met?;
+    Some((index, told_as::<G>(g), number))
+}
+
+// The same entries on pointers whose generations are of the type `G`.
+fn all_met_as<G: Numbered>(
+    met: [Option<(usize, u64, u64)>; MET],
+) -> [Option<(usize, u64, u64)>; MET] {
+    let [first, second, third] = met;
+    [met_as::<G>(first), met_as::<G>(second), met_as::<G>(third)]
 }
 
 impl Told {
@@ -67,6 +88,7 @@ impl Told {
             Told::BothHeld(g, a, h, b) => Told::BothHeld(told_as::<G>(g), a, told_as::<G>(h), b),
             Told::WrappedAt(index, g) => Told::WrappedAt(index, told_as::<G>(g)),
             Told::WrappedHeld(g, number) => Told::WrappedHeld(told_as::<G>(g), number),
+            Told::Met(met) => Told::Met(all_met_as::<G>(met)),
             told => told,
         }
     }

@@ -1,4 +1,8 @@
--- `lend_slots` lends the slots of an arena so that only values can change. Assumes `Logic`.
+-- `lend_slots` lends the slots of an arena so that their values alone can change. It is proved by hand, since it makes a raw
+-- pointer. The token of the lifetime is halved. One half opens the arena, whose slots are lent to `as_mut_slice` with the
+-- other; what that lends is turned into a loan of these slots with other values, and what it gives back closes the arena,
+-- whose invariant holds of them (`put_keeps`). The names of what the bounds bring are those of the function's statement, as
+-- `rt check --generated` prints it. Assumes `Logic`.
 use mathlib.Core.Path.{◌≡◌, refl, sym, ap, ◌∙◌}
 use Prim.Native.Nat.{ℕ, ◌+◌}
 use mathlib.Core.List.{List, [], ◌∷◌, map}
@@ -54,7 +58,7 @@ use denote.Triple.Spec.{Meets, triple_of}
 use denote.Triple.Table.{entered}
 use denote.Triple.Walked.{says, Stays, stay_dropped, walk_of, walked, ends_at, Goes-spent_ref, walk_Meets}
 use denote.Triple.Call.{calls_at}
-use denote.Triple.Statement.{Triple}
+use denote.Triple.Statement.{Contract, Triple}
 use mir.Syntax.{w64}
 use Rattle.std.specs.Borrow.{Array}
 use Rattle.std.specs.List.{refill}
@@ -72,7 +76,7 @@ use Rattle.triple_arena.specs.declared.slots.Slots.{Slots}
 use Rattle.triple_arena.specs.declared.lent_slots.LentSlots.{LentSlots}
 use Rattle.triple_arena.specs.contracts.slot.ArenaSlot as S-type
 use Rattle.triple_arena.specs.contracts.slots.Slots as Slots-type
-use Rattle.triple_arena.specs.contracts.lent_slots.LentSlots as W-type
+use Rattle.triple_arena.specs.contracts.lent_slots.LentSlots as L-type
 use Rattle.triple_arena.specs.contracts.base_arena.Arena as A-type
 use Rattle.triple_arena.specs.contracts.base_arena.Arena.TheInside as I-type
 use Rattle.triple_arena.specs.contracts.base_arena.Arena.lend_slots as F
@@ -95,7 +99,25 @@ use Rattle.triple_arena_ptr.specs.declared.generation.PtrGen as gPtrGen
 use Rattle.triple_arena_ptr.specs.declared.inx.PtrInx as gPtrInx
 use Rattle.triple_arena_base.specs.declared.recast.Recast as gRecast
 
-module _ (P T S I G : RattleType) (P-Ptr : gPtr.Ghosts P.Denot I.Denot G.Denot) (P-Ptr-dict : Dict) (P-Debug : gDebug.Ghosts P.Denot) (P-Debug-dict : Dict) (P-Hash : gHash.Ghosts P.Denot) (P-Hash-dict : Dict) (P-Eq : gEq.Ghosts P.Denot) (P-Eq-dict : Dict) (P-PartialEq : gPartialEq.Ghosts P.Denot) (P-PartialEq-dict : Dict) (P-Clone : gClone.Ghosts P.Denot) (P-Clone-dict : Dict) (P-PartialOrd : gPartialOrd.Ghosts P.Denot) (P-PartialOrd-dict : Dict) (P-Ord : gOrd.Ghosts P.Denot) (P-Ord-dict : Dict) (P-Recast : gRecast.Ghosts P.Denot P.Denot) (P-Recast-dict : Dict) (P-Inx-PtrInx : gPtrInx.Ghosts I.Denot) (P-Inx-PtrInx-dict : Dict) (P-Inx-Debug : gDebug.Ghosts I.Denot) (P-Inx-Debug-dict : Dict) (P-Inx-Hash : gHash.Ghosts I.Denot) (P-Inx-Hash-dict : Dict) (P-Inx-Eq : gEq.Ghosts I.Denot) (P-Inx-Eq-dict : Dict) (P-Inx-PartialEq : gPartialEq.Ghosts I.Denot) (P-Inx-PartialEq-dict : Dict) (P-Inx-Clone : gClone.Ghosts I.Denot) (P-Inx-Clone-dict : Dict) (P-Inx-PartialOrd : gPartialOrd.Ghosts I.Denot) (P-Inx-PartialOrd-dict : Dict) (P-Inx-Ord : gOrd.Ghosts I.Denot) (P-Inx-Ord-dict : Dict) (P-Gen-PtrGen : gPtrGen.Ghosts G.Denot) (P-Gen-PtrGen-dict : Dict) (P-Gen-Debug : gDebug.Ghosts G.Denot) (P-Gen-Debug-dict : Dict) (P-Gen-Hash : gHash.Ghosts G.Denot) (P-Gen-Hash-dict : Dict) (P-Gen-Eq : gEq.Ghosts G.Denot) (P-Gen-Eq-dict : Dict) (P-Gen-PartialEq : gPartialEq.Ghosts G.Denot) (P-Gen-PartialEq-dict : Dict) (P-Gen-Clone : gClone.Ghosts G.Denot) (P-Gen-Clone-dict : Dict) (P-Gen-PartialOrd : gPartialOrd.Ghosts G.Denot) (P-Gen-PartialOrd-dict : Dict) (P-Gen-Ord : gOrd.Ghosts G.Denot) (P-Gen-Ord-dict : Dict) (S-NonZeroInxGenericStack : gNonZeroInxGenericStack.Ghosts S.Denot (ArenaSlot P.Denot T.Denot I.Denot G.Denot)) (S-NonZeroInxGenericStack-dict : Dict) where
+module _ (P T S I G : RattleType) (P-Ptr : gPtr.Ghosts P.Denot I.Denot G.Denot) (P-Ptr-dict : Dict)
+    (P-Debug : gDebug.Ghosts P.Denot) (P-Debug-dict : Dict) (P-Hash : gHash.Ghosts P.Denot) (P-Hash-dict : Dict)
+    (P-Eq : gEq.Ghosts P.Denot) (P-Eq-dict : Dict) (P-PartialEq : gPartialEq.Ghosts P.Denot)
+    (P-PartialEq-dict : Dict) (P-Clone : gClone.Ghosts P.Denot) (P-Clone-dict : Dict)
+    (P-PartialOrd : gPartialOrd.Ghosts P.Denot) (P-PartialOrd-dict : Dict) (P-Ord : gOrd.Ghosts P.Denot)
+    (P-Ord-dict : Dict) (P-Recast : gRecast.Ghosts P.Denot P.Denot) (P-Recast-dict : Dict)
+    (P-Inx-PtrInx : gPtrInx.Ghosts I.Denot) (P-Inx-PtrInx-dict : Dict) (P-Inx-Debug : gDebug.Ghosts I.Denot)
+    (P-Inx-Debug-dict : Dict) (P-Inx-Hash : gHash.Ghosts I.Denot) (P-Inx-Hash-dict : Dict)
+    (P-Inx-Eq : gEq.Ghosts I.Denot) (P-Inx-Eq-dict : Dict) (P-Inx-PartialEq : gPartialEq.Ghosts I.Denot)
+    (P-Inx-PartialEq-dict : Dict) (P-Inx-Clone : gClone.Ghosts I.Denot) (P-Inx-Clone-dict : Dict)
+    (P-Inx-PartialOrd : gPartialOrd.Ghosts I.Denot) (P-Inx-PartialOrd-dict : Dict) (P-Inx-Ord : gOrd.Ghosts I.Denot)
+    (P-Inx-Ord-dict : Dict) (P-Gen-PtrGen : gPtrGen.Ghosts G.Denot) (P-Gen-PtrGen-dict : Dict)
+    (P-Gen-Debug : gDebug.Ghosts G.Denot) (P-Gen-Debug-dict : Dict) (P-Gen-Hash : gHash.Ghosts G.Denot)
+    (P-Gen-Hash-dict : Dict) (P-Gen-Eq : gEq.Ghosts G.Denot) (P-Gen-Eq-dict : Dict)
+    (P-Gen-PartialEq : gPartialEq.Ghosts G.Denot) (P-Gen-PartialEq-dict : Dict)
+    (P-Gen-Clone : gClone.Ghosts G.Denot) (P-Gen-Clone-dict : Dict) (P-Gen-PartialOrd : gPartialOrd.Ghosts G.Denot)
+    (P-Gen-PartialOrd-dict : Dict) (P-Gen-Ord : gOrd.Ghosts G.Denot) (P-Gen-Ord-dict : Dict)
+    (S-NonZeroInxGenericStack : gNonZeroInxGenericStack.Ghosts S.Denot (ArenaSlot P.Denot T.Denot I.Denot G.Denot))
+    (S-NonZeroInxGenericStack-dict : Dict) where
   abbrev rP : RattleType
   rP = copied 0 P
 
@@ -127,10 +149,14 @@ module _ (P T S I G : RattleType) (P-Ptr : gPtr.Ghosts P.Denot I.Denot G.Denot) 
 
   -- the arena, and its fields
   abbrev Ar : RattleType
-  Ar = A-type.the_row rP rT rS rI rG P-Ptr P-Debug P-Hash P-PartialEq P-PartialOrd P-Ord P-Recast P-Inx-PtrInx P-Inx-Debug P-Inx-Hash P-Inx-PartialEq P-Inx-PartialOrd P-Inx-Ord P-Gen-PtrGen P-Gen-Debug P-Gen-Hash P-Gen-PartialEq P-Gen-PartialOrd P-Gen-Ord S-NonZeroInxGenericStack
+  Ar = A-type.the_row rP rT rS rI rG P-Ptr P-Debug P-Hash P-PartialEq P-PartialOrd P-Ord P-Recast P-Inx-PtrInx
+      P-Inx-Debug P-Inx-Hash P-Inx-PartialEq P-Inx-PartialOrd P-Inx-Ord P-Gen-PtrGen P-Gen-Debug P-Gen-Hash
+      P-Gen-PartialEq P-Gen-PartialOrd P-Gen-Ord S-NonZeroInxGenericStack
 
   abbrev Inside : RattleType
-  Inside = I-type.the_row rP rT rS rI rG P-Ptr P-Debug P-Hash P-PartialEq P-PartialOrd P-Ord P-Recast P-Inx-PtrInx P-Inx-Debug P-Inx-Hash P-Inx-PartialEq P-Inx-PartialOrd P-Inx-Ord P-Gen-PtrGen P-Gen-Debug P-Gen-Hash P-Gen-PartialEq P-Gen-PartialOrd P-Gen-Ord S-NonZeroInxGenericStack
+  Inside = I-type.the_row rP rT rS rI rG P-Ptr P-Debug P-Hash P-PartialEq P-PartialOrd P-Ord P-Recast P-Inx-PtrInx
+      P-Inx-Debug P-Inx-Hash P-Inx-PartialEq P-Inx-PartialOrd P-Inx-Ord P-Gen-PtrGen P-Gen-Debug P-Gen-Hash
+      P-Gen-PartialEq P-Gen-PartialOrd P-Gen-Ord S-NonZeroInxGenericStack
 
   abbrev St : Type 0
   St = ArenaState T.Denot
@@ -145,10 +171,14 @@ module _ (P T S I G : RattleType) (P-Ptr : gPtr.Ghosts P.Denot I.Denot G.Denot) 
   with_items = S-NonZeroInxGenericStack.with_items
 
   abbrev view : Inside.Denot → St
-  view = A-type.the_view rP rT rS rI rG P-Ptr P-Debug P-Hash P-PartialEq P-PartialOrd P-Ord P-Recast P-Inx-PtrInx P-Inx-Debug P-Inx-Hash P-Inx-PartialEq P-Inx-PartialOrd P-Inx-Ord P-Gen-PtrGen P-Gen-Debug P-Gen-Hash P-Gen-PartialEq P-Gen-PartialOrd P-Gen-Ord S-NonZeroInxGenericStack
+  view = A-type.the_view rP rT rS rI rG P-Ptr P-Debug P-Hash P-PartialEq P-PartialOrd P-Ord P-Recast P-Inx-PtrInx
+      P-Inx-Debug P-Inx-Hash P-Inx-PartialEq P-Inx-PartialOrd P-Inx-Ord P-Gen-PtrGen P-Gen-Debug P-Gen-Hash
+      P-Gen-PartialEq P-Gen-PartialOrd P-Gen-Ord S-NonZeroInxGenericStack
 
   abbrev good : Inside.Denot → Type 0
-  good = A-type.the_invariant rP rT rS rI rG P-Ptr P-Debug P-Hash P-PartialEq P-PartialOrd P-Ord P-Recast P-Inx-PtrInx P-Inx-Debug P-Inx-Hash P-Inx-PartialEq P-Inx-PartialOrd P-Inx-Ord P-Gen-PtrGen P-Gen-Debug P-Gen-Hash P-Gen-PartialEq P-Gen-PartialOrd P-Gen-Ord S-NonZeroInxGenericStack
+  good = A-type.the_invariant rP rT rS rI rG P-Ptr P-Debug P-Hash P-PartialEq P-PartialOrd P-Ord P-Recast
+      P-Inx-PtrInx P-Inx-Debug P-Inx-Hash P-Inx-PartialEq P-Inx-PartialOrd P-Inx-Ord P-Gen-PtrGen P-Gen-Debug
+      P-Gen-Hash P-Gen-PartialEq P-Gen-PartialOrd P-Gen-Ord S-NonZeroInxGenericStack
 
   abbrev ms : List Member
   ms = record { row = Slr; ty = lone Slr.mir } ∷ record { row = usize; ty = lone usize.mir } ∷ record { row = rG; ty = lone rG.mir } ∷ []
@@ -161,13 +191,36 @@ module _ (P T S I G : RattleType) (P-Ptr : gPtr.Ghosts P.Denot I.Denot G.Denot) 
   kinds = a_type ∷ a_type ∷ a_type ∷ a_type ∷ a_type ∷ []
 
   abbrev args : Args
-  args = bounded kinds (P, (T, (S, (I, (G, tt))))) (dcons P-Ptr-dict (dcons P-Debug-dict (dcons P-Hash-dict (dcons P-Eq-dict (dcons P-PartialEq-dict (dcons P-Clone-dict (dcons P-PartialOrd-dict (dcons P-Ord-dict (dcons P-Recast-dict (dcons P-Inx-PtrInx-dict (dcons P-Inx-Debug-dict (dcons P-Inx-Hash-dict (dcons P-Inx-Eq-dict (dcons P-Inx-PartialEq-dict (dcons P-Inx-Clone-dict (dcons P-Inx-PartialOrd-dict (dcons P-Inx-Ord-dict (dcons P-Gen-PtrGen-dict (dcons P-Gen-Debug-dict (dcons P-Gen-Hash-dict (dcons P-Gen-Eq-dict (dcons P-Gen-PartialEq-dict (dcons P-Gen-Clone-dict (dcons P-Gen-PartialOrd-dict (dcons P-Gen-Ord-dict (dcons S-NonZeroInxGenericStack-dict dnil))))))))))))))))))))))))))
+  args = bounded kinds (P, (T, (S, (I, (G, tt))))) (dcons P-Ptr-dict (dcons P-Debug-dict (dcons P-Hash-dict (dcons
+      P-Eq-dict (dcons P-PartialEq-dict (dcons P-Clone-dict (dcons P-PartialOrd-dict (dcons P-Ord-dict (dcons
+      P-Recast-dict (dcons P-Inx-PtrInx-dict (dcons P-Inx-Debug-dict (dcons P-Inx-Hash-dict (dcons P-Inx-Eq-dict
+      (dcons P-Inx-PartialEq-dict (dcons P-Inx-Clone-dict (dcons P-Inx-PartialOrd-dict (dcons P-Inx-Ord-dict (dcons
+      P-Gen-PtrGen-dict (dcons P-Gen-Debug-dict (dcons P-Gen-Hash-dict (dcons P-Gen-Eq-dict (dcons
+      P-Gen-PartialEq-dict (dcons P-Gen-Clone-dict (dcons P-Gen-PartialOrd-dict (dcons P-Gen-Ord-dict (dcons
+      S-NonZeroInxGenericStack-dict dnil))))))))))))))))))))))))))
 
   abbrev function : Fn
   function = inst_fn args code.function
 
   abbrev end : Ended
-  end = F.ended P T S I G P-Ptr P-Ptr-dict P-Debug P-Debug-dict P-Hash P-Hash-dict P-Eq P-Eq-dict P-PartialEq P-PartialEq-dict P-Clone P-Clone-dict P-PartialOrd P-PartialOrd-dict P-Ord P-Ord-dict P-Recast P-Recast-dict P-Inx-PtrInx P-Inx-PtrInx-dict P-Inx-Debug P-Inx-Debug-dict P-Inx-Hash P-Inx-Hash-dict P-Inx-Eq P-Inx-Eq-dict P-Inx-PartialEq P-Inx-PartialEq-dict P-Inx-Clone P-Inx-Clone-dict P-Inx-PartialOrd P-Inx-PartialOrd-dict P-Inx-Ord P-Inx-Ord-dict P-Gen-PtrGen P-Gen-PtrGen-dict P-Gen-Debug P-Gen-Debug-dict P-Gen-Hash P-Gen-Hash-dict P-Gen-Eq P-Gen-Eq-dict P-Gen-PartialEq P-Gen-PartialEq-dict P-Gen-Clone P-Gen-Clone-dict P-Gen-PartialOrd P-Gen-PartialOrd-dict P-Gen-Ord P-Gen-Ord-dict S-NonZeroInxGenericStack S-NonZeroInxGenericStack-dict
+  end = F.ended P T S I G P-Ptr P-Ptr-dict P-Debug P-Debug-dict P-Hash P-Hash-dict P-Eq P-Eq-dict P-PartialEq
+      P-PartialEq-dict P-Clone P-Clone-dict P-PartialOrd P-PartialOrd-dict P-Ord P-Ord-dict P-Recast P-Recast-dict
+      P-Inx-PtrInx P-Inx-PtrInx-dict P-Inx-Debug P-Inx-Debug-dict P-Inx-Hash P-Inx-Hash-dict P-Inx-Eq P-Inx-Eq-dict
+      P-Inx-PartialEq P-Inx-PartialEq-dict P-Inx-Clone P-Inx-Clone-dict P-Inx-PartialOrd P-Inx-PartialOrd-dict
+      P-Inx-Ord P-Inx-Ord-dict P-Gen-PtrGen P-Gen-PtrGen-dict P-Gen-Debug P-Gen-Debug-dict P-Gen-Hash
+      P-Gen-Hash-dict P-Gen-Eq P-Gen-Eq-dict P-Gen-PartialEq P-Gen-PartialEq-dict P-Gen-Clone P-Gen-Clone-dict
+      P-Gen-PartialOrd P-Gen-PartialOrd-dict P-Gen-Ord P-Gen-Ord-dict S-NonZeroInxGenericStack
+      S-NonZeroInxGenericStack-dict
+
+  abbrev called_end : Ended
+  called_end = G-fn.ended P T S I G P-Ptr P-Ptr-dict P-Debug P-Debug-dict P-Hash P-Hash-dict P-Eq P-Eq-dict
+      P-PartialEq P-PartialEq-dict P-Clone P-Clone-dict P-PartialOrd P-PartialOrd-dict P-Ord P-Ord-dict P-Recast
+      P-Recast-dict P-Inx-PtrInx P-Inx-PtrInx-dict P-Inx-Debug P-Inx-Debug-dict P-Inx-Hash P-Inx-Hash-dict P-Inx-Eq
+      P-Inx-Eq-dict P-Inx-PartialEq P-Inx-PartialEq-dict P-Inx-Clone P-Inx-Clone-dict P-Inx-PartialOrd
+      P-Inx-PartialOrd-dict P-Inx-Ord P-Inx-Ord-dict P-Gen-PtrGen P-Gen-PtrGen-dict P-Gen-Debug P-Gen-Debug-dict
+      P-Gen-Hash P-Gen-Hash-dict P-Gen-Eq P-Gen-Eq-dict P-Gen-PartialEq P-Gen-PartialEq-dict P-Gen-Clone
+      P-Gen-Clone-dict P-Gen-PartialOrd P-Gen-PartialOrd-dict P-Gen-Ord P-Gen-Ord-dict S-NonZeroInxGenericStack
+      S-NonZeroInxGenericStack-dict
 
   abbrev stayed : Stays end.signature.params end.kept
   stayed = (stay_dropped (mut_ref_to (0 ∷ []) tt (plain (λ _. Ar))) no, tt)
@@ -180,12 +233,14 @@ module _ (P T S I G : RattleType) (P-Ptr : gPtr.Ghosts P.Denot I.Denot G.Denot) 
   abbrev put : D → List X → St → D
   put t xs s = with_slots rP rT rS rI rG items with_items t (filled_all xs s.slots)
 
+  -- three laws of the stack
   pub record StackLaws : Type 0 where
     pub of_items : (s : S.Denot) (xs : List X) → items (with_items s xs) ≡ xs
     pub of_room : (s : S.Denot) (xs : List X) → S-NonZeroInxGenericStack.room (with_items s xs) ≡ S-NonZeroInxGenericStack.room s
     pub of_limit : (s : S.Denot) (xs : List X) → S-NonZeroInxGenericStack.limit (with_items s xs) ≡ S-NonZeroInxGenericStack.limit s
 
   module _ (laws : StackLaws) where
+    -- the arena's invariant holds then, and it is the arena with those values
     put_keeps : (a : Inside.Denot) (w : St) → good a
         → good (record a { slots = put a.slots (items a.slots.stack) w }) × (view (record a { slots = put a.slots (items a.slots.stack) w }) ≡ with_values_of (view a) w)
     put_keeps a w ok =
@@ -202,7 +257,25 @@ module _ (P T S I G : RattleType) (P-Ptr : gPtr.Ghosts P.Denot I.Denot G.Denot) 
     open 𝓛 use {H, A}
 
     abbrev spec : Clauses 𝓤 end
-    spec = F.clauses P T S I G P-Ptr P-Ptr-dict P-Debug P-Debug-dict P-Hash P-Hash-dict P-Eq P-Eq-dict P-PartialEq P-PartialEq-dict P-Clone P-Clone-dict P-PartialOrd P-PartialOrd-dict P-Ord P-Ord-dict P-Recast P-Recast-dict P-Inx-PtrInx P-Inx-PtrInx-dict P-Inx-Debug P-Inx-Debug-dict P-Inx-Hash P-Inx-Hash-dict P-Inx-Eq P-Inx-Eq-dict P-Inx-PartialEq P-Inx-PartialEq-dict P-Inx-Clone P-Inx-Clone-dict P-Inx-PartialOrd P-Inx-PartialOrd-dict P-Inx-Ord P-Inx-Ord-dict P-Gen-PtrGen P-Gen-PtrGen-dict P-Gen-Debug P-Gen-Debug-dict P-Gen-Hash P-Gen-Hash-dict P-Gen-Eq P-Gen-Eq-dict P-Gen-PartialEq P-Gen-PartialEq-dict P-Gen-Clone P-Gen-Clone-dict P-Gen-PartialOrd P-Gen-PartialOrd-dict P-Gen-Ord P-Gen-Ord-dict S-NonZeroInxGenericStack S-NonZeroInxGenericStack-dict 𝓛 at run
+    spec = F.clauses P T S I G P-Ptr P-Ptr-dict P-Debug P-Debug-dict P-Hash P-Hash-dict P-Eq P-Eq-dict P-PartialEq
+        P-PartialEq-dict P-Clone P-Clone-dict P-PartialOrd P-PartialOrd-dict P-Ord P-Ord-dict P-Recast P-Recast-dict
+        P-Inx-PtrInx P-Inx-PtrInx-dict P-Inx-Debug P-Inx-Debug-dict P-Inx-Hash P-Inx-Hash-dict P-Inx-Eq
+        P-Inx-Eq-dict P-Inx-PartialEq P-Inx-PartialEq-dict P-Inx-Clone P-Inx-Clone-dict P-Inx-PartialOrd
+        P-Inx-PartialOrd-dict P-Inx-Ord P-Inx-Ord-dict P-Gen-PtrGen P-Gen-PtrGen-dict P-Gen-Debug P-Gen-Debug-dict
+        P-Gen-Hash P-Gen-Hash-dict P-Gen-Eq P-Gen-Eq-dict P-Gen-PartialEq P-Gen-PartialEq-dict P-Gen-Clone
+        P-Gen-Clone-dict P-Gen-PartialOrd P-Gen-PartialOrd-dict P-Gen-Ord P-Gen-Ord-dict S-NonZeroInxGenericStack
+        S-NonZeroInxGenericStack-dict 𝓛 at run
+
+    -- the contract of the call
+    abbrev Called : Contract 𝓤
+    Called = triple_of 𝓛 (G-fn.signature P T S I G) (G-fn.spec P T S I G P-Ptr P-Ptr-dict P-Debug P-Debug-dict
+        P-Hash P-Hash-dict P-Eq P-Eq-dict P-PartialEq P-PartialEq-dict P-Clone P-Clone-dict P-PartialOrd
+        P-PartialOrd-dict P-Ord P-Ord-dict P-Recast P-Recast-dict P-Inx-PtrInx P-Inx-PtrInx-dict P-Inx-Debug
+        P-Inx-Debug-dict P-Inx-Hash P-Inx-Hash-dict P-Inx-Eq P-Inx-Eq-dict P-Inx-PartialEq P-Inx-PartialEq-dict
+        P-Inx-Clone P-Inx-Clone-dict P-Inx-PartialOrd P-Inx-PartialOrd-dict P-Inx-Ord P-Inx-Ord-dict P-Gen-PtrGen
+        P-Gen-PtrGen-dict P-Gen-Debug P-Gen-Debug-dict P-Gen-Hash P-Gen-Hash-dict P-Gen-Eq P-Gen-Eq-dict
+        P-Gen-PartialEq P-Gen-PartialEq-dict P-Gen-Clone P-Gen-Clone-dict P-Gen-PartialOrd P-Gen-PartialOrd-dict
+        P-Gen-Ord P-Gen-Ord-dict S-NonZeroInxGenericStack S-NonZeroInxGenericStack-dict 𝓛 at run)
 
     module _ (κs : Lfts 6) (qs : Shares 6) (within : AllOutlive 6 end.signature.outlives κs) (rb ro : ℕ) (γ : GName) (d : St) where
       abbrev κ : Lft
@@ -220,16 +293,20 @@ module _ (P T S I G : RattleType) (P-Ptr : gPtr.Ghosts P.Denot I.Denot G.Denot) 
       abbrev Post : Val → SProp 𝓤
       Post = (walk_of 𝓛 end stayed spec).post bound
 
-      abbrev W-of : Owning
-      W-of = W-type.the_type (named_lft 6 0 tt κs) rP rT rI rG P-Ptr P-Debug P-Hash P-PartialEq P-PartialOrd P-Ord P-Recast P-Inx-PtrInx P-Inx-Debug P-Inx-Hash P-Inx-PartialEq P-Inx-PartialOrd P-Inx-Ord P-Gen-PtrGen P-Gen-Debug P-Gen-Hash P-Gen-PartialEq P-Gen-PartialOrd P-Gen-Ord
+      abbrev L-of : Owning
+      L-of = L-type.the_type (named_lft 6 0 tt κs) rP rT rI rG P-Ptr P-Debug P-Hash P-PartialEq P-PartialOrd P-Ord
+          P-Recast P-Inx-PtrInx P-Inx-Debug P-Inx-Hash P-Inx-PartialEq P-Inx-PartialOrd P-Inx-Ord P-Gen-PtrGen
+          P-Gen-Debug P-Gen-Hash P-Gen-PartialEq P-Gen-PartialOrd P-Gen-Ord
 
-      made : (b o : ℕ) → ent 𝓤 (emp 𝓤) (sem 𝓛 ((Struct (shape W-of)).own_val (block_ptr b o, (tt, tt)) (vstruct (vcons (vptr b o) (vcons (vstruct vnil) vnil)) ∷ [])))
-      made b o = makes_shadow 𝓛 ((Struct (shape W-of)).own_val (block_ptr b o, (tt, tt)) (vstruct (vcons (vptr b o) (vcons (vstruct vnil) vnil)) ∷ [])) (λ vss. (tt, (tt, ((λ uss. (tt, tt)), tt)))) ((vptr b o ∷ [], (vstruct vnil ∷ [], tt)), (refl, (refl, ((tt, (refl, tt)), tt))))
+      -- what lent slots own as a value, which is nothing
+      made : (b o : ℕ) → ent 𝓤 (emp 𝓤) (sem 𝓛 ((Struct (shape L-of)).own_val (block_ptr b o, (tt, tt)) (vstruct (vcons (vptr b o) (vcons (vstruct vnil) vnil)) ∷ [])))
+      made b o = makes_shadow 𝓛 ((Struct (shape L-of)).own_val (block_ptr b o, (tt, tt)) (vstruct (vcons (vptr b o) (vcons (vstruct vnil) vnil)) ∷ [])) (λ vss. (tt, (tt, ((λ uss. (tt, tt)), tt)))) ((vptr b o ∷ [], (vstruct vnil ∷ [], tt)), (refl, (refl, ((tt, (refl, tt)), tt))))
 
       module _ (a : Inside.Denot) where
         abbrev t : D
         t = a.slots
 
+        -- the arena but for its slots
         abbrev Back : SProp 𝓤
         Back = sep 𝓤 (sem 𝓛 (rest_at full_share ms 0 (t, (a.len, (a.counter, tt))) rb ro 0)) (PartsBack 𝓛 full_share [] ms rb ro)
 
@@ -237,6 +314,7 @@ module _ (P T S I G : RattleType) (P-Ptr : gPtr.Ghosts P.Denot I.Denot G.Denot) 
         unfolding part_of
         field_of = field_out 𝓛 full_share [] ms ((Slots-laws.the_row_laws rP rT rS rI rG (copied_laws 0 P LP) (param_laws 1 T LT) (param_laws 2 S LS) (copied_laws 3 I LI) (copied_laws 4 G LG)).lawful 𝓛, (uint_Lawful 𝓛 w64, ((copied_laws 4 G LG).lawful 𝓛, tt))) (t, (a.len, (a.counter, tt))) rb ro 0
 
+        -- with slots whose values were written it is an arena again
         back : view a ≡ d → good a → (w : St) → ent 𝓤 (sep 𝓤 (sem 𝓛 ((mem Slr).own_at (put t (items t.stack) w) rb (ro + off))) Back) (sem 𝓛 ((mem Ar).own_at (with_values_of d w) rb ro))
         unfolding part_of
         back seen ok w =
@@ -254,9 +332,8 @@ module _ (P T S I G : RattleType) (P-Ptr : gPtr.Ghosts P.Denot I.Denot G.Denot) 
       Asks = (spec κs (self, tt)).requires tt
 
       module _ (C : Calls 𝓤 H) (Λ : Loops 𝓤 H) where
-        walk : (fm : FmC 𝓤 H 𝓛.laws C) → (G-met : Triple 𝓤 (C (G-fn.Key.name args)) (triple_of 𝓛 (G-fn.signature P T S I G) (G-fn.spec P T S I G P-Ptr P-Ptr-dict P-Debug P-Debug-dict P-Hash P-Hash-dict P-Eq P-Eq-dict P-PartialEq P-PartialEq-dict P-Clone P-Clone-dict P-PartialOrd P-PartialOrd-dict P-Ord P-Ord-dict P-Recast P-Recast-dict P-Inx-PtrInx P-Inx-PtrInx-dict P-Inx-Debug P-Inx-Debug-dict P-Inx-Hash P-Inx-Hash-dict P-Inx-Eq P-Inx-Eq-dict P-Inx-PartialEq P-Inx-PartialEq-dict P-Inx-Clone P-Inx-Clone-dict P-Inx-PartialOrd P-Inx-PartialOrd-dict P-Inx-Ord P-Inx-Ord-dict P-Gen-PtrGen P-Gen-PtrGen-dict P-Gen-Debug P-Gen-Debug-dict P-Gen-Hash P-Gen-Hash-dict P-Gen-Eq P-Gen-Eq-dict P-Gen-PartialEq P-Gen-PartialEq-dict P-Gen-Clone P-Gen-Clone-dict P-Gen-PartialOrd P-Gen-PartialOrd-dict P-Gen-Ord P-Gen-Ord-dict S-NonZeroInxGenericStack S-NonZeroInxGenericStack-dict 𝓛 at run))) → ent 𝓤 ((walk_of 𝓛 end stayed spec).pre bound) (WpFn 𝓤 H C Λ function (vptr rb ro ∷ []) Post)
+        walk : (fm : FmC 𝓤 H 𝓛.laws C) → (G-met : Triple 𝓤 (C (G-fn.Key.name args)) Called) → ent 𝓤 ((walk_of 𝓛 end stayed spec).pre bound) (WpFn 𝓤 H C Λ function (vptr rb ro ∷ []) Post)
         walk fm callee =
-            let G' = triple_of 𝓛 (G-fn.signature P T S I G) (G-fn.spec P T S I G P-Ptr P-Ptr-dict P-Debug P-Debug-dict P-Hash P-Hash-dict P-Eq P-Eq-dict P-PartialEq P-PartialEq-dict P-Clone P-Clone-dict P-PartialOrd P-PartialOrd-dict P-Ord P-Ord-dict P-Recast P-Recast-dict P-Inx-PtrInx P-Inx-PtrInx-dict P-Inx-Debug P-Inx-Debug-dict P-Inx-Hash P-Inx-Hash-dict P-Inx-Eq P-Inx-Eq-dict P-Inx-PartialEq P-Inx-PartialEq-dict P-Inx-Clone P-Inx-Clone-dict P-Inx-PartialOrd P-Inx-PartialOrd-dict P-Inx-Ord P-Inx-Ord-dict P-Gen-PtrGen P-Gen-PtrGen-dict P-Gen-Debug P-Gen-Debug-dict P-Gen-Hash P-Gen-Hash-dict P-Gen-Eq P-Gen-Eq-dict P-Gen-PartialEq P-Gen-PartialEq-dict P-Gen-Clone P-Gen-Clone-dict P-Gen-PartialOrd P-Gen-PartialOrd-dict P-Gen-Ord P-Gen-Ord-dict S-NonZeroInxGenericStack S-NonZeroInxGenericStack-dict 𝓛 at run) in
             qed 𝓛 (((‵ (flft κ q) ⊛ others) ⊛ ‵ (owns (MutRef (named 0) κ Ar ∷ []) (self, tt) (vptr rb ro ∷ [], tt))) ∷ raw Asks ∷ []) ∵ enter ! C Λ function (vptr rb ro ∷ []) _ $
             alloc_all ! (λ l. pass_all ! refl ((tt, tt), tt) $
             sets ! (addr ! (through ! refl (fld ! refl (stop !)))) refl (tt, tt) $
@@ -273,17 +350,17 @@ module _ (P T S I G : RattleType) (P-Ptr : gPtr.Ghosts P.Denot I.Denot G.Denot) 
             use1 𝓛 (‵ (part_at Slr full_share t rb (ro + off)) ⊛ raw (Back a)) (field_of a) $ split ! $
             name_new ! tt (Slr.coded.code t) (λ δ.
             let lent_slots : MutBor D = record { ref_ptr = (rb, ro + off); ghost_name = δ; now = t } in
-            let z : G'.Ghost = ((κs, (right q, qs.1), within, (lent_slots, tt), (vptr rb (ro + off) ∷ [], tt)), tt) in
+            let z : Called.Ghost = ((κs, (right q, qs.1), within, (lent_slots, tt), (vptr rb (ro + off) ∷ [], tt)), tt) in
             -- [obs; auth; the slots; what is left; the open borrow; obs; auth; half; the others; true; what is required]
             move ! (2 ∷ 1 ∷ []) $ fjoin ! $ fpack ! D (λ y. fsep ((mem Slr).own_at y rb (ro + off)) (fauth δ (Slr.coded.code y))) t $
             move ! (3 ∷ []) $ ages ! (λ n. move ! (1 ∷ []) $ bor_new_deep ! tt n κ $
             -- [the borrow; the right; the aged borrow; obs; what is left; obs; auth; half; the others; true; what is required]
             move ! (3 ∷ 0 ∷ []) $ feq_i ! (List Val) (vptr rb (ro + off) ∷ []) (vptr rb (ro + off) ∷ []) refl $ fjoin3 ! $
             move ! (0 ∷ 8 ∷ []) $ fjoin ! $ move ! (6 ∷ 7 ∷ []) $ join ! $ move ! (0 ∷ 1 ∷ []) $ join ! $ move ! (0 ∷ 6 ∷ []) $ join ! $
-            use1 𝓛 (raw (G'.pre z)) (id⊢ 𝓤 _) $
-            calls_at ! fm G' callee z (and_then ! (get ! refl) (no_more !)) (λ v.
+            use1 𝓛 (raw (Called.pre z)) (id⊢ 𝓤 _) $
+            calls_at ! fm Called callee z (and_then ! (get ! refl) (no_more !)) (λ v.
             use1 𝓛 (later (some (λ (r : MutBor (List X)). ((‵ (flft κ (right q)) ⊛ others) ⊛ ‵ ((MutSlice (named 0) κ Sr).own_val r (v ∷ []))) ⊛
-            some (λ (ws : Unit {0} × Unit {0}). ‵ (lasts (G-fn.ended P T S I G P-Ptr P-Ptr-dict P-Debug P-Debug-dict P-Hash P-Hash-dict P-Eq P-Eq-dict P-PartialEq P-PartialEq-dict P-Clone P-Clone-dict P-PartialOrd P-PartialOrd-dict P-Ord P-Ord-dict P-Recast P-Recast-dict P-Inx-PtrInx P-Inx-PtrInx-dict P-Inx-Debug P-Inx-Debug-dict P-Inx-Hash P-Inx-Hash-dict P-Inx-Eq P-Inx-Eq-dict P-Inx-PartialEq P-Inx-PartialEq-dict P-Inx-Clone P-Inx-Clone-dict P-Inx-PartialOrd P-Inx-PartialOrd-dict P-Inx-Ord P-Inx-Ord-dict P-Gen-PtrGen P-Gen-PtrGen-dict P-Gen-Debug P-Gen-Debug-dict P-Gen-Hash P-Gen-Hash-dict P-Gen-Eq P-Gen-Eq-dict P-Gen-PartialEq P-Gen-PartialEq-dict P-Gen-Clone P-Gen-Clone-dict P-Gen-PartialOrd P-Gen-PartialOrd-dict P-Gen-Ord P-Gen-Ord-dict S-NonZeroInxGenericStack S-NonZeroInxGenericStack-dict) κs (lent_slots, tt) ws) ⊛ (‵ (follows Slr (Array Sr 0) δ r.ghost_name (with_slots rP rT rS rI rG items with_items t)) ⊛ raw (fact 𝓤 (r.now ≡ es))))))) (id⊢ 𝓤 _) $
+            some (λ (ws : Unit {0} × Unit {0}). ‵ (lasts called_end κs (lent_slots, tt) ws) ⊛ (‵ (follows Slr (Array Sr 0) δ r.ghost_name (with_slots rP rT rS rI rG items with_items t)) ⊛ raw (fact 𝓤 (r.now ≡ es))))))) (id⊢ 𝓤 _) $
             await ! tt $ pick ! (λ r. split ! $ split ! $
             let b : ℕ = r.ref_ptr.0 in let o : ℕ = r.ref_ptr.1 in let ρ : GName = r.ghost_name in let xs : List X = r.now in let n' : ℕ = length xs in
             move ! (2 ∷ []) $ pick ! (λ ws. split ! $ drop ! $ split ! $ move ! (1 ∷ []) $ heard ! _ (λ is.
@@ -328,12 +405,12 @@ module _ (P T S I G : RattleType) (P-Ptr : gPtr.Ghosts P.Denot I.Denot G.Denot) 
             -- [the token; obs; the borrow; what follows; the others]
             let lent : LentSlots P.Denot T.Denot I.Denot G.Denot = record { at = block_ptr b o; mark = record {}; name = μ; tie = ν; now = xs } in
             let out : Val = vstruct (vcons (vptr b o) (vcons (vstruct vnil) vnil)) in
-            move ! (1 ∷ 2 ∷ []) $ fjoin ! $ pure_i ! (room Sr n') (tt, tt) rm $ fjoin ! $ use0 𝓛 (‵ ((Struct (shape W-of)).own_val (block_ptr b o, (tt, tt)) (out ∷ []))) (made b o) $ fjoin ! $
+            move ! (1 ∷ 2 ∷ []) $ fjoin ! $ pure_i ! (room Sr n') (tt, tt) rm $ fjoin ! $ use0 𝓛 (‵ ((Struct (shape L-of)).own_val (block_ptr b o, (tt, tt)) (out ∷ []))) (made b o) $ fjoin ! $
             returns ! (look_at ! 0 refl) $ free_all ! refl $ keep ! (0 ∷ 1 ∷ 2 ∷ 3 ∷ []) $
             suffices ! _ (ends_at 𝓛 end stayed spec bound out lent (tt, tt) (tt, tt)) $
             nothing ! $ nothing ! $ fjoin ! $ join ! $ move ! (1 ∷ 3 ∷ []) $ join ! $ join ! $ frame ! $ says ! (sym shown) $ done !))))))))))))
 
-    meets : (𝓣 : Tables 𝓤 H) → Triple 𝓤 (𝓣.C (G-fn.Key.name args)) (triple_of 𝓛 (G-fn.signature P T S I G) (G-fn.spec P T S I G P-Ptr P-Ptr-dict P-Debug P-Debug-dict P-Hash P-Hash-dict P-Eq P-Eq-dict P-PartialEq P-PartialEq-dict P-Clone P-Clone-dict P-PartialOrd P-PartialOrd-dict P-Ord P-Ord-dict P-Recast P-Recast-dict P-Inx-PtrInx P-Inx-PtrInx-dict P-Inx-Debug P-Inx-Debug-dict P-Inx-Hash P-Inx-Hash-dict P-Inx-Eq P-Inx-Eq-dict P-Inx-PartialEq P-Inx-PartialEq-dict P-Inx-Clone P-Inx-Clone-dict P-Inx-PartialOrd P-Inx-PartialOrd-dict P-Inx-Ord P-Inx-Ord-dict P-Gen-PtrGen P-Gen-PtrGen-dict P-Gen-Debug P-Gen-Debug-dict P-Gen-Hash P-Gen-Hash-dict P-Gen-Eq P-Gen-Eq-dict P-Gen-PartialEq P-Gen-PartialEq-dict P-Gen-Clone P-Gen-Clone-dict P-Gen-PartialOrd P-Gen-PartialOrd-dict P-Gen-Ord P-Gen-Ord-dict S-NonZeroInxGenericStack S-NonZeroInxGenericStack-dict 𝓛 at run)) → Meets 𝓛 end.signature (WpFn 𝓤 H 𝓣.C 𝓣.Λ function) (closing 𝓛 end spec)
+    meets : (𝓣 : Tables 𝓤 H) → Triple 𝓤 (𝓣.C (G-fn.Key.name args)) Called → Meets 𝓛 end.signature (WpFn 𝓤 H 𝓣.C 𝓣.Λ function) (closing 𝓛 end spec)
     meets 𝓣 callee =
         walk_Meets 𝓛 end stayed (Goes-spent_ref 𝓛 6 (0 ∷ []) tt (plain (λ _. Ar)), tt) spec (WpFn 𝓤 H 𝓣.C 𝓣.Λ function) (WpFn-mono 𝓤 H 𝓛.laws 𝓣 function)
         (walked 𝓛 end stayed spec (WpFn 𝓤 H 𝓣.C 𝓣.Λ function) (λ κs. (mut_vals, tt)) (λ κs. (mut_Tells (named 0) κs.0 Ar, tt))
@@ -341,8 +418,100 @@ module _ (P T S I G : RattleType) (P-Ptr : gPtr.Ghosts P.Denot I.Denot G.Denot) 
 
 pub lend_slots_spec : {M : Type 1} → stated.statement M
 unfolding tables_of
-lend_slots_spec 𝓤 𝓛 𝓜 𝓡 wired P T S I G LP LT LS LI LG CP CI CG P-Ptr P-Ptr-dict P-Debug P-Debug-dict P-Hash P-Hash-dict P-Eq P-Eq-dict P-PartialEq P-PartialEq-dict P-Clone P-Clone-dict P-PartialOrd P-PartialOrd-dict P-Ord P-Ord-dict P-Recast P-Recast-dict P-Inx-PtrInx P-Inx-PtrInx-dict P-Inx-Debug P-Inx-Debug-dict P-Inx-Hash P-Inx-Hash-dict P-Inx-Eq P-Inx-Eq-dict P-Inx-PartialEq P-Inx-PartialEq-dict P-Inx-Clone P-Inx-Clone-dict P-Inx-PartialOrd P-Inx-PartialOrd-dict P-Inx-Ord P-Inx-Ord-dict P-Gen-PtrGen P-Gen-PtrGen-dict P-Gen-Debug P-Gen-Debug-dict P-Gen-Hash P-Gen-Hash-dict P-Gen-Eq P-Gen-Eq-dict P-Gen-PartialEq P-Gen-PartialEq-dict P-Gen-Clone P-Gen-Clone-dict P-Gen-PartialOrd P-Gen-PartialOrd-dict P-Gen-Ord P-Gen-Ord-dict S-NonZeroInxGenericStack S-NonZeroInxGenericStack-dict m0 m1 m2 m3 m4 m5 m6 m7 m8 m9 m10 m11 m12 m13 m14 m15 m16 m17 m18 m19 m20 m21 m22 m23 m24 m25 =
+lend_slots_spec 𝓤 𝓛 𝓜 𝓡 wired P T S I G LP LT LS LI LG CP CI CG P-Ptr P-Ptr-dict P-Debug P-Debug-dict P-Hash
+    P-Hash-dict P-Eq P-Eq-dict P-PartialEq P-PartialEq-dict P-Clone P-Clone-dict P-PartialOrd P-PartialOrd-dict
+    P-Ord P-Ord-dict P-Recast P-Recast-dict P-Inx-PtrInx P-Inx-PtrInx-dict P-Inx-Debug P-Inx-Debug-dict P-Inx-Hash
+    P-Inx-Hash-dict P-Inx-Eq P-Inx-Eq-dict P-Inx-PartialEq P-Inx-PartialEq-dict P-Inx-Clone P-Inx-Clone-dict
+    P-Inx-PartialOrd P-Inx-PartialOrd-dict P-Inx-Ord P-Inx-Ord-dict P-Gen-PtrGen P-Gen-PtrGen-dict P-Gen-Debug
+    P-Gen-Debug-dict P-Gen-Hash P-Gen-Hash-dict P-Gen-Eq P-Gen-Eq-dict P-Gen-PartialEq P-Gen-PartialEq-dict
+    P-Gen-Clone P-Gen-Clone-dict P-Gen-PartialOrd P-Gen-PartialOrd-dict P-Gen-Ord P-Gen-Ord-dict
+    S-NonZeroInxGenericStack S-NonZeroInxGenericStack-dict m0 m1 m2 m3 m4 m5 m6 m7 m8 m9 m10 m11 m12 m13 m14 m15 m16
+    m17 m18 m19 m20 m21 m22 m23 m24 m25 =
     let 𝓣 : Tables 𝓤 𝓛.H = tables_of 𝓤 𝓛.H 𝓜 (tables 𝓤 𝓛.H 𝓜 𝓡 𝓡.env) in
-    let laws : StackLaws P T S I G P-Ptr P-Ptr-dict P-Debug P-Debug-dict P-Hash P-Hash-dict P-Eq P-Eq-dict P-PartialEq P-PartialEq-dict P-Clone P-Clone-dict P-PartialOrd P-PartialOrd-dict P-Ord P-Ord-dict P-Recast P-Recast-dict P-Inx-PtrInx P-Inx-PtrInx-dict P-Inx-Debug P-Inx-Debug-dict P-Inx-Hash P-Inx-Hash-dict P-Inx-Eq P-Inx-Eq-dict P-Inx-PartialEq P-Inx-PartialEq-dict P-Inx-Clone P-Inx-Clone-dict P-Inx-PartialOrd P-Inx-PartialOrd-dict P-Inx-Ord P-Inx-Ord-dict P-Gen-PtrGen P-Gen-PtrGen-dict P-Gen-Debug P-Gen-Debug-dict P-Gen-Hash P-Gen-Hash-dict P-Gen-Eq P-Gen-Eq-dict P-Gen-PartialEq P-Gen-PartialEq-dict P-Gen-Clone P-Gen-Clone-dict P-Gen-PartialOrd P-Gen-PartialOrd-dict P-Gen-Ord P-Gen-Ord-dict S-NonZeroInxGenericStack S-NonZeroInxGenericStack-dict = record { of_items = m25.items_with_items; of_room = m25.room_with_items; of_limit = m25.limit_with_items } in
-    entered 𝓤 𝓛.H (triple_of 𝓛 (end P T S I G P-Ptr P-Ptr-dict P-Debug P-Debug-dict P-Hash P-Hash-dict P-Eq P-Eq-dict P-PartialEq P-PartialEq-dict P-Clone P-Clone-dict P-PartialOrd P-PartialOrd-dict P-Ord P-Ord-dict P-Recast P-Recast-dict P-Inx-PtrInx P-Inx-PtrInx-dict P-Inx-Debug P-Inx-Debug-dict P-Inx-Hash P-Inx-Hash-dict P-Inx-Eq P-Inx-Eq-dict P-Inx-PartialEq P-Inx-PartialEq-dict P-Inx-Clone P-Inx-Clone-dict P-Inx-PartialOrd P-Inx-PartialOrd-dict P-Inx-Ord P-Inx-Ord-dict P-Gen-PtrGen P-Gen-PtrGen-dict P-Gen-Debug P-Gen-Debug-dict P-Gen-Hash P-Gen-Hash-dict P-Gen-Eq P-Gen-Eq-dict P-Gen-PartialEq P-Gen-PartialEq-dict P-Gen-Clone P-Gen-Clone-dict P-Gen-PartialOrd P-Gen-PartialOrd-dict P-Gen-Ord P-Gen-Ord-dict S-NonZeroInxGenericStack S-NonZeroInxGenericStack-dict).signature (closing 𝓛 (end P T S I G P-Ptr P-Ptr-dict P-Debug P-Debug-dict P-Hash P-Hash-dict P-Eq P-Eq-dict P-PartialEq P-PartialEq-dict P-Clone P-Clone-dict P-PartialOrd P-PartialOrd-dict P-Ord P-Ord-dict P-Recast P-Recast-dict P-Inx-PtrInx P-Inx-PtrInx-dict P-Inx-Debug P-Inx-Debug-dict P-Inx-Hash P-Inx-Hash-dict P-Inx-Eq P-Inx-Eq-dict P-Inx-PartialEq P-Inx-PartialEq-dict P-Inx-Clone P-Inx-Clone-dict P-Inx-PartialOrd P-Inx-PartialOrd-dict P-Inx-Ord P-Inx-Ord-dict P-Gen-PtrGen P-Gen-PtrGen-dict P-Gen-Debug P-Gen-Debug-dict P-Gen-Hash P-Gen-Hash-dict P-Gen-Eq P-Gen-Eq-dict P-Gen-PartialEq P-Gen-PartialEq-dict P-Gen-Clone P-Gen-Clone-dict P-Gen-PartialOrd P-Gen-PartialOrd-dict P-Gen-Ord P-Gen-Ord-dict S-NonZeroInxGenericStack S-NonZeroInxGenericStack-dict) (spec P T S I G P-Ptr P-Ptr-dict P-Debug P-Debug-dict P-Hash P-Hash-dict P-Eq P-Eq-dict P-PartialEq P-PartialEq-dict P-Clone P-Clone-dict P-PartialOrd P-PartialOrd-dict P-Ord P-Ord-dict P-Recast P-Recast-dict P-Inx-PtrInx P-Inx-PtrInx-dict P-Inx-Debug P-Inx-Debug-dict P-Inx-Hash P-Inx-Hash-dict P-Inx-Eq P-Inx-Eq-dict P-Inx-PartialEq P-Inx-PartialEq-dict P-Inx-Clone P-Inx-Clone-dict P-Inx-PartialOrd P-Inx-PartialOrd-dict P-Inx-Ord P-Inx-Ord-dict P-Gen-PtrGen P-Gen-PtrGen-dict P-Gen-Debug P-Gen-Debug-dict P-Gen-Hash P-Gen-Hash-dict P-Gen-Eq P-Gen-Eq-dict P-Gen-PartialEq P-Gen-PartialEq-dict P-Gen-Clone P-Gen-Clone-dict P-Gen-PartialOrd P-Gen-PartialOrd-dict P-Gen-Ord P-Gen-Ord-dict S-NonZeroInxGenericStack S-NonZeroInxGenericStack-dict LP LT LS LI LG laws 𝓛 𝓜.mem 𝓡.returns))) 𝓣.C 𝓣.Λ (#self (args P T S I G P-Ptr P-Ptr-dict P-Debug P-Debug-dict P-Hash P-Hash-dict P-Eq P-Eq-dict P-PartialEq P-PartialEq-dict P-Clone P-Clone-dict P-PartialOrd P-PartialOrd-dict P-Ord P-Ord-dict P-Recast P-Recast-dict P-Inx-PtrInx P-Inx-PtrInx-dict P-Inx-Debug P-Inx-Debug-dict P-Inx-Hash P-Inx-Hash-dict P-Inx-Eq P-Inx-Eq-dict P-Inx-PartialEq P-Inx-PartialEq-dict P-Inx-Clone P-Inx-Clone-dict P-Inx-PartialOrd P-Inx-PartialOrd-dict P-Inx-Ord P-Inx-Ord-dict P-Gen-PtrGen P-Gen-PtrGen-dict P-Gen-Debug P-Gen-Debug-dict P-Gen-Hash P-Gen-Hash-dict P-Gen-Eq P-Gen-Eq-dict P-Gen-PartialEq P-Gen-PartialEq-dict P-Gen-Clone P-Gen-Clone-dict P-Gen-PartialOrd P-Gen-PartialOrd-dict P-Gen-Ord P-Gen-Ord-dict S-NonZeroInxGenericStack S-NonZeroInxGenericStack-dict)) (function P T S I G P-Ptr P-Ptr-dict P-Debug P-Debug-dict P-Hash P-Hash-dict P-Eq P-Eq-dict P-PartialEq P-PartialEq-dict P-Clone P-Clone-dict P-PartialOrd P-PartialOrd-dict P-Ord P-Ord-dict P-Recast P-Recast-dict P-Inx-PtrInx P-Inx-PtrInx-dict P-Inx-Debug P-Inx-Debug-dict P-Inx-Hash P-Inx-Hash-dict P-Inx-Eq P-Inx-Eq-dict P-Inx-PartialEq P-Inx-PartialEq-dict P-Inx-Clone P-Inx-Clone-dict P-Inx-PartialOrd P-Inx-PartialOrd-dict P-Inx-Ord P-Inx-Ord-dict P-Gen-PtrGen P-Gen-PtrGen-dict P-Gen-Debug P-Gen-Debug-dict P-Gen-Hash P-Gen-Hash-dict P-Gen-Eq P-Gen-Eq-dict P-Gen-PartialEq P-Gen-PartialEq-dict P-Gen-Clone P-Gen-Clone-dict P-Gen-PartialOrd P-Gen-PartialOrd-dict P-Gen-Ord P-Gen-Ord-dict S-NonZeroInxGenericStack S-NonZeroInxGenericStack-dict) (code.unfolded 𝓤 𝓛.H 𝓜 𝓡 wired (P, (T, (S, (I, (G, tt))))) P-Ptr-dict P-Debug-dict P-Hash-dict P-Eq-dict P-PartialEq-dict P-Clone-dict P-PartialOrd-dict P-Ord-dict P-Recast-dict P-Inx-PtrInx-dict P-Inx-Debug-dict P-Inx-Hash-dict P-Inx-Eq-dict P-Inx-PartialEq-dict P-Inx-Clone-dict P-Inx-PartialOrd-dict P-Inx-Ord-dict P-Gen-PtrGen-dict P-Gen-Debug-dict P-Gen-Hash-dict P-Gen-Eq-dict P-Gen-PartialEq-dict P-Gen-Clone-dict P-Gen-PartialOrd-dict P-Gen-Ord-dict S-NonZeroInxGenericStack-dict)
-    (meets P T S I G P-Ptr P-Ptr-dict P-Debug P-Debug-dict P-Hash P-Hash-dict P-Eq P-Eq-dict P-PartialEq P-PartialEq-dict P-Clone P-Clone-dict P-PartialOrd P-PartialOrd-dict P-Ord P-Ord-dict P-Recast P-Recast-dict P-Inx-PtrInx P-Inx-PtrInx-dict P-Inx-Debug P-Inx-Debug-dict P-Inx-Hash P-Inx-Hash-dict P-Inx-Eq P-Inx-Eq-dict P-Inx-PartialEq P-Inx-PartialEq-dict P-Inx-Clone P-Inx-Clone-dict P-Inx-PartialOrd P-Inx-PartialOrd-dict P-Inx-Ord P-Inx-Ord-dict P-Gen-PtrGen P-Gen-PtrGen-dict P-Gen-Debug P-Gen-Debug-dict P-Gen-Hash P-Gen-Hash-dict P-Gen-Eq P-Gen-Eq-dict P-Gen-PartialEq P-Gen-PartialEq-dict P-Gen-Clone P-Gen-Clone-dict P-Gen-PartialOrd P-Gen-PartialOrd-dict P-Gen-Ord P-Gen-Ord-dict S-NonZeroInxGenericStack S-NonZeroInxGenericStack-dict LP LT LS LI LG laws 𝓛 𝓜.mem 𝓡.returns 𝓣 (met 𝓤 𝓛 𝓜 𝓡 (code.calls-triple_arena::slots::Slots::as_mut_slice 𝓡.env wired) P T S I G LP LT LS LI LG CP CI CG P-Ptr P-Ptr-dict P-Debug P-Debug-dict P-Hash P-Hash-dict P-Eq P-Eq-dict P-PartialEq P-PartialEq-dict P-Clone P-Clone-dict P-PartialOrd P-PartialOrd-dict P-Ord P-Ord-dict P-Recast P-Recast-dict P-Inx-PtrInx P-Inx-PtrInx-dict P-Inx-Debug P-Inx-Debug-dict P-Inx-Hash P-Inx-Hash-dict P-Inx-Eq P-Inx-Eq-dict P-Inx-PartialEq P-Inx-PartialEq-dict P-Inx-Clone P-Inx-Clone-dict P-Inx-PartialOrd P-Inx-PartialOrd-dict P-Inx-Ord P-Inx-Ord-dict P-Gen-PtrGen P-Gen-PtrGen-dict P-Gen-Debug P-Gen-Debug-dict P-Gen-Hash P-Gen-Hash-dict P-Gen-Eq P-Gen-Eq-dict P-Gen-PartialEq P-Gen-PartialEq-dict P-Gen-Clone P-Gen-Clone-dict P-Gen-PartialOrd P-Gen-PartialOrd-dict P-Gen-Ord P-Gen-Ord-dict S-NonZeroInxGenericStack S-NonZeroInxGenericStack-dict m0 m1 m2 m3 m4 m5 m6 m7 m8 m9 m10 m11 m12 m13 m14 m15 m16 m17 m18 m19 m20 m21 m22 m23 m24 m25))
+    let laws : StackLaws P T S I G P-Ptr P-Ptr-dict P-Debug P-Debug-dict P-Hash P-Hash-dict P-Eq P-Eq-dict
+    P-PartialEq P-PartialEq-dict P-Clone P-Clone-dict P-PartialOrd P-PartialOrd-dict P-Ord P-Ord-dict P-Recast
+    P-Recast-dict P-Inx-PtrInx P-Inx-PtrInx-dict P-Inx-Debug P-Inx-Debug-dict P-Inx-Hash P-Inx-Hash-dict
+    P-Inx-Eq P-Inx-Eq-dict P-Inx-PartialEq P-Inx-PartialEq-dict P-Inx-Clone P-Inx-Clone-dict P-Inx-PartialOrd
+    P-Inx-PartialOrd-dict P-Inx-Ord P-Inx-Ord-dict P-Gen-PtrGen P-Gen-PtrGen-dict P-Gen-Debug P-Gen-Debug-dict
+    P-Gen-Hash P-Gen-Hash-dict P-Gen-Eq P-Gen-Eq-dict P-Gen-PartialEq P-Gen-PartialEq-dict P-Gen-Clone
+    P-Gen-Clone-dict P-Gen-PartialOrd P-Gen-PartialOrd-dict P-Gen-Ord P-Gen-Ord-dict S-NonZeroInxGenericStack
+    S-NonZeroInxGenericStack-dict = record {
+      of_items = m25.items_with_items;
+      of_room = m25.room_with_items;
+      of_limit = m25.limit_with_items;
+    } in
+    entered 𝓤 𝓛.H (triple_of 𝓛 (end P T S I G P-Ptr P-Ptr-dict P-Debug P-Debug-dict P-Hash P-Hash-dict P-Eq
+    P-Eq-dict P-PartialEq P-PartialEq-dict P-Clone P-Clone-dict P-PartialOrd P-PartialOrd-dict P-Ord P-Ord-dict
+    P-Recast P-Recast-dict P-Inx-PtrInx P-Inx-PtrInx-dict P-Inx-Debug P-Inx-Debug-dict P-Inx-Hash
+    P-Inx-Hash-dict P-Inx-Eq P-Inx-Eq-dict P-Inx-PartialEq P-Inx-PartialEq-dict P-Inx-Clone P-Inx-Clone-dict
+    P-Inx-PartialOrd P-Inx-PartialOrd-dict P-Inx-Ord P-Inx-Ord-dict P-Gen-PtrGen P-Gen-PtrGen-dict P-Gen-Debug
+    P-Gen-Debug-dict P-Gen-Hash P-Gen-Hash-dict P-Gen-Eq P-Gen-Eq-dict P-Gen-PartialEq P-Gen-PartialEq-dict
+    P-Gen-Clone P-Gen-Clone-dict P-Gen-PartialOrd P-Gen-PartialOrd-dict P-Gen-Ord P-Gen-Ord-dict
+    S-NonZeroInxGenericStack S-NonZeroInxGenericStack-dict).signature (closing 𝓛 (end P T S I G P-Ptr P-Ptr-dict
+    P-Debug P-Debug-dict P-Hash P-Hash-dict P-Eq P-Eq-dict P-PartialEq P-PartialEq-dict P-Clone P-Clone-dict
+    P-PartialOrd P-PartialOrd-dict P-Ord P-Ord-dict P-Recast P-Recast-dict P-Inx-PtrInx P-Inx-PtrInx-dict
+    P-Inx-Debug P-Inx-Debug-dict P-Inx-Hash P-Inx-Hash-dict P-Inx-Eq P-Inx-Eq-dict P-Inx-PartialEq
+    P-Inx-PartialEq-dict P-Inx-Clone P-Inx-Clone-dict P-Inx-PartialOrd P-Inx-PartialOrd-dict P-Inx-Ord
+    P-Inx-Ord-dict P-Gen-PtrGen P-Gen-PtrGen-dict P-Gen-Debug P-Gen-Debug-dict P-Gen-Hash P-Gen-Hash-dict
+    P-Gen-Eq P-Gen-Eq-dict P-Gen-PartialEq P-Gen-PartialEq-dict P-Gen-Clone P-Gen-Clone-dict P-Gen-PartialOrd
+    P-Gen-PartialOrd-dict P-Gen-Ord P-Gen-Ord-dict S-NonZeroInxGenericStack S-NonZeroInxGenericStack-dict) (spec
+    P T S I G P-Ptr P-Ptr-dict P-Debug P-Debug-dict P-Hash P-Hash-dict P-Eq P-Eq-dict P-PartialEq
+    P-PartialEq-dict P-Clone P-Clone-dict P-PartialOrd P-PartialOrd-dict P-Ord P-Ord-dict P-Recast P-Recast-dict
+    P-Inx-PtrInx P-Inx-PtrInx-dict P-Inx-Debug P-Inx-Debug-dict P-Inx-Hash P-Inx-Hash-dict P-Inx-Eq
+    P-Inx-Eq-dict P-Inx-PartialEq P-Inx-PartialEq-dict P-Inx-Clone P-Inx-Clone-dict P-Inx-PartialOrd
+    P-Inx-PartialOrd-dict P-Inx-Ord P-Inx-Ord-dict P-Gen-PtrGen P-Gen-PtrGen-dict P-Gen-Debug P-Gen-Debug-dict
+    P-Gen-Hash P-Gen-Hash-dict P-Gen-Eq P-Gen-Eq-dict P-Gen-PartialEq P-Gen-PartialEq-dict P-Gen-Clone
+    P-Gen-Clone-dict P-Gen-PartialOrd P-Gen-PartialOrd-dict P-Gen-Ord P-Gen-Ord-dict S-NonZeroInxGenericStack
+    S-NonZeroInxGenericStack-dict LP LT LS LI LG laws 𝓛 𝓜.mem 𝓡.returns))) 𝓣.C 𝓣.Λ (#self (args P T S I G P-Ptr
+    P-Ptr-dict P-Debug P-Debug-dict P-Hash P-Hash-dict P-Eq P-Eq-dict P-PartialEq P-PartialEq-dict P-Clone
+    P-Clone-dict P-PartialOrd P-PartialOrd-dict P-Ord P-Ord-dict P-Recast P-Recast-dict P-Inx-PtrInx
+    P-Inx-PtrInx-dict P-Inx-Debug P-Inx-Debug-dict P-Inx-Hash P-Inx-Hash-dict P-Inx-Eq P-Inx-Eq-dict
+    P-Inx-PartialEq P-Inx-PartialEq-dict P-Inx-Clone P-Inx-Clone-dict P-Inx-PartialOrd P-Inx-PartialOrd-dict
+    P-Inx-Ord P-Inx-Ord-dict P-Gen-PtrGen P-Gen-PtrGen-dict P-Gen-Debug P-Gen-Debug-dict P-Gen-Hash
+    P-Gen-Hash-dict P-Gen-Eq P-Gen-Eq-dict P-Gen-PartialEq P-Gen-PartialEq-dict P-Gen-Clone P-Gen-Clone-dict
+    P-Gen-PartialOrd P-Gen-PartialOrd-dict P-Gen-Ord P-Gen-Ord-dict S-NonZeroInxGenericStack
+    S-NonZeroInxGenericStack-dict)) (function P T S I G P-Ptr P-Ptr-dict P-Debug P-Debug-dict P-Hash P-Hash-dict
+    P-Eq P-Eq-dict P-PartialEq P-PartialEq-dict P-Clone P-Clone-dict P-PartialOrd P-PartialOrd-dict P-Ord
+    P-Ord-dict P-Recast P-Recast-dict P-Inx-PtrInx P-Inx-PtrInx-dict P-Inx-Debug P-Inx-Debug-dict P-Inx-Hash
+    P-Inx-Hash-dict P-Inx-Eq P-Inx-Eq-dict P-Inx-PartialEq P-Inx-PartialEq-dict P-Inx-Clone P-Inx-Clone-dict
+    P-Inx-PartialOrd P-Inx-PartialOrd-dict P-Inx-Ord P-Inx-Ord-dict P-Gen-PtrGen P-Gen-PtrGen-dict P-Gen-Debug
+    P-Gen-Debug-dict P-Gen-Hash P-Gen-Hash-dict P-Gen-Eq P-Gen-Eq-dict P-Gen-PartialEq P-Gen-PartialEq-dict
+    P-Gen-Clone P-Gen-Clone-dict P-Gen-PartialOrd P-Gen-PartialOrd-dict P-Gen-Ord P-Gen-Ord-dict
+    S-NonZeroInxGenericStack S-NonZeroInxGenericStack-dict) (code.unfolded 𝓤 𝓛.H 𝓜 𝓡 wired (
+      P,
+      (
+        T,
+        (
+          S,
+          (
+            I,
+            (
+              G,
+              tt,
+            ),
+          ),
+        ),
+      ),
+    ) P-Ptr-dict P-Debug-dict P-Hash-dict P-Eq-dict P-PartialEq-dict P-Clone-dict P-PartialOrd-dict
+    P-Ord-dict P-Recast-dict P-Inx-PtrInx-dict P-Inx-Debug-dict P-Inx-Hash-dict P-Inx-Eq-dict
+    P-Inx-PartialEq-dict P-Inx-Clone-dict P-Inx-PartialOrd-dict P-Inx-Ord-dict P-Gen-PtrGen-dict
+    P-Gen-Debug-dict P-Gen-Hash-dict P-Gen-Eq-dict P-Gen-PartialEq-dict P-Gen-Clone-dict P-Gen-PartialOrd-dict
+    P-Gen-Ord-dict S-NonZeroInxGenericStack-dict)
+    (meets P T S I G P-Ptr P-Ptr-dict P-Debug P-Debug-dict P-Hash P-Hash-dict P-Eq P-Eq-dict P-PartialEq
+    P-PartialEq-dict P-Clone P-Clone-dict P-PartialOrd P-PartialOrd-dict P-Ord P-Ord-dict P-Recast P-Recast-dict
+    P-Inx-PtrInx P-Inx-PtrInx-dict P-Inx-Debug P-Inx-Debug-dict P-Inx-Hash P-Inx-Hash-dict P-Inx-Eq
+    P-Inx-Eq-dict P-Inx-PartialEq P-Inx-PartialEq-dict P-Inx-Clone P-Inx-Clone-dict P-Inx-PartialOrd
+    P-Inx-PartialOrd-dict P-Inx-Ord P-Inx-Ord-dict P-Gen-PtrGen P-Gen-PtrGen-dict P-Gen-Debug P-Gen-Debug-dict
+    P-Gen-Hash P-Gen-Hash-dict P-Gen-Eq P-Gen-Eq-dict P-Gen-PartialEq P-Gen-PartialEq-dict P-Gen-Clone
+    P-Gen-Clone-dict P-Gen-PartialOrd P-Gen-PartialOrd-dict P-Gen-Ord P-Gen-Ord-dict S-NonZeroInxGenericStack
+    S-NonZeroInxGenericStack-dict LP LT LS LI LG laws 𝓛 𝓜.mem 𝓡.returns 𝓣 (met 𝓤 𝓛 𝓜 𝓡
+    (code.calls-triple_arena::slots::Slots::as_mut_slice 𝓡.env wired) P T S I G LP LT LS LI LG CP CI CG P-Ptr
+    P-Ptr-dict P-Debug P-Debug-dict P-Hash P-Hash-dict P-Eq P-Eq-dict P-PartialEq P-PartialEq-dict P-Clone
+    P-Clone-dict P-PartialOrd P-PartialOrd-dict P-Ord P-Ord-dict P-Recast P-Recast-dict P-Inx-PtrInx
+    P-Inx-PtrInx-dict P-Inx-Debug P-Inx-Debug-dict P-Inx-Hash P-Inx-Hash-dict P-Inx-Eq P-Inx-Eq-dict
+    P-Inx-PartialEq P-Inx-PartialEq-dict P-Inx-Clone P-Inx-Clone-dict P-Inx-PartialOrd P-Inx-PartialOrd-dict
+    P-Inx-Ord P-Inx-Ord-dict P-Gen-PtrGen P-Gen-PtrGen-dict P-Gen-Debug P-Gen-Debug-dict P-Gen-Hash
+    P-Gen-Hash-dict P-Gen-Eq P-Gen-Eq-dict P-Gen-PartialEq P-Gen-PartialEq-dict P-Gen-Clone P-Gen-Clone-dict
+    P-Gen-PartialOrd P-Gen-PartialOrd-dict P-Gen-Ord P-Gen-Ord-dict S-NonZeroInxGenericStack
+    S-NonZeroInxGenericStack-dict m0 m1 m2 m3 m4 m5 m6 m7 m8 m9 m10 m11 m12 m13 m14 m15 m16 m17 m18 m19 m20 m21
+    m22 m23 m24 m25))

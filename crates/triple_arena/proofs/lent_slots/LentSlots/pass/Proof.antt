@@ -1,4 +1,8 @@
--- `pass` lends the value of the first slot. Assumes `Logic`.
+-- `pass` lends the value of the first slot, if it has one, and goes past the slot. It is proved by hand, since it follows a
+-- raw pointer. The loan of the slots is cut in that of the first and that of the others (`mend` says how the two make one
+-- again); the first slot is opened and lent to `live_value_mut`, and what that lends, or that it lends nothing, closes the
+-- slot (`shut`). The names of what the bounds bring are those of the function's statement, as `rt check --generated` prints
+-- it. Assumes `Logic`.
 use mathlib.Core.Path.{◌≡◌, refl, sym, ap, subst, ◌∙◌}
 use mathlib.Core.Option as Core
 use Prim.Native.Nat.{ℕ, suc, ◌+◌, ◌*◌, ◌<◌, ◌^◌}
@@ -57,7 +61,7 @@ use denote.Triple.Call.{calls_at}
 use denote.Triple.Clauses.{Clauses, Ended, closing, lasts}
 use denote.Triple.Entry.{on_entry}
 use denote.Triple.Spec.{Meets, triple_of}
-use denote.Triple.Statement.{Triple}
+use denote.Triple.Statement.{Contract, Triple}
 use denote.Triple.Table.{entered}
 use denote.Triple.Walked.{says, Stays, stay_ref, walk_of, walked, ends_at, Goes-ref, walk_Meets}
 use Rattle.std.proofs.VecSteps.Shapes.{after as after_body}
@@ -72,12 +76,12 @@ use Rattle.triple_arena.proofs.Keeping.{kept-self, kept_all-self, kept-written}
 use Rattle.triple_arena.specs.declared.slot.ArenaSlot.{ArenaSlot}
 use Rattle.triple_arena.specs.declared.lent_slots.LentSlots.{LentSlots}
 use Rattle.triple_arena.specs.contracts.slot.ArenaSlot as S-type
-use Rattle.triple_arena.specs.contracts.lent_slots.LentSlots as W-type
+use Rattle.triple_arena.specs.contracts.lent_slots.LentSlots as L-type
 use Rattle.triple_arena.specs.contracts.lent_slots.LentSlots.pass as F
 use Rattle.triple_arena.specs.contracts.slot.ArenaSlot.live_value_mut as G-fn
 use Rattle.triple_arena.proofs.slot.ArenaSlot.live_value_mut.Met.{met}
 use Rattle.triple_arena.specs.contracts.lent_slots.LentSlots.pass.Key.{name as #self}
-use Rattle.triple_arena.proofs.lent_slots.LentSlots.TheLaws as W-laws
+use Rattle.triple_arena.proofs.lent_slots.LentSlots.TheLaws as L-laws
 use Rattle.triple_arena.proofs.lent_slots.LentSlots.pass.Statement as stated
 use Rattle.triple_arena.proofs.lent_slots.LentSlots.pass.Code as code
 use Rattle.std.specs.declared.clone.Clone as gClone
@@ -96,7 +100,23 @@ use Rattle.triple_arena_base.specs.declared.recast.Recast as gRecast
 abbrev phantom : Sym
 phantom = 99 ∷ 111 ∷ 114 ∷ 101 ∷ 58 ∷ 58 ∷ 109 ∷ 97 ∷ 114 ∷ 107 ∷ 101 ∷ 114 ∷ 58 ∷ 58 ∷ 80 ∷ 104 ∷ 97 ∷ 110 ∷ 116 ∷ 111 ∷ 109 ∷ 68 ∷ 97 ∷ 116 ∷ 97 ∷ []
 
-module _ (P T I G : RattleType) (P-Ptr : gPtr.Ghosts P.Denot I.Denot G.Denot) (P-Ptr-dict : Dict) (P-Debug : gDebug.Ghosts P.Denot) (P-Debug-dict : Dict) (P-Hash : gHash.Ghosts P.Denot) (P-Hash-dict : Dict) (P-Eq : gEq.Ghosts P.Denot) (P-Eq-dict : Dict) (P-PartialEq : gPartialEq.Ghosts P.Denot) (P-PartialEq-dict : Dict) (P-Clone : gClone.Ghosts P.Denot) (P-Clone-dict : Dict) (P-PartialOrd : gPartialOrd.Ghosts P.Denot) (P-PartialOrd-dict : Dict) (P-Ord : gOrd.Ghosts P.Denot) (P-Ord-dict : Dict) (P-Recast : gRecast.Ghosts P.Denot P.Denot) (P-Recast-dict : Dict) (P-Inx-PtrInx : gPtrInx.Ghosts I.Denot) (P-Inx-PtrInx-dict : Dict) (P-Inx-Debug : gDebug.Ghosts I.Denot) (P-Inx-Debug-dict : Dict) (P-Inx-Hash : gHash.Ghosts I.Denot) (P-Inx-Hash-dict : Dict) (P-Inx-Eq : gEq.Ghosts I.Denot) (P-Inx-Eq-dict : Dict) (P-Inx-PartialEq : gPartialEq.Ghosts I.Denot) (P-Inx-PartialEq-dict : Dict) (P-Inx-Clone : gClone.Ghosts I.Denot) (P-Inx-Clone-dict : Dict) (P-Inx-PartialOrd : gPartialOrd.Ghosts I.Denot) (P-Inx-PartialOrd-dict : Dict) (P-Inx-Ord : gOrd.Ghosts I.Denot) (P-Inx-Ord-dict : Dict) (P-Gen-PtrGen : gPtrGen.Ghosts G.Denot) (P-Gen-PtrGen-dict : Dict) (P-Gen-Debug : gDebug.Ghosts G.Denot) (P-Gen-Debug-dict : Dict) (P-Gen-Hash : gHash.Ghosts G.Denot) (P-Gen-Hash-dict : Dict) (P-Gen-Eq : gEq.Ghosts G.Denot) (P-Gen-Eq-dict : Dict) (P-Gen-PartialEq : gPartialEq.Ghosts G.Denot) (P-Gen-PartialEq-dict : Dict) (P-Gen-Clone : gClone.Ghosts G.Denot) (P-Gen-Clone-dict : Dict) (P-Gen-PartialOrd : gPartialOrd.Ghosts G.Denot) (P-Gen-PartialOrd-dict : Dict) (P-Gen-Ord : gOrd.Ghosts G.Denot) (P-Gen-Ord-dict : Dict) where
+module _ (P T I G : RattleType) (P-Ptr : gPtr.Ghosts P.Denot I.Denot G.Denot) (P-Ptr-dict : Dict)
+    (P-Debug : gDebug.Ghosts P.Denot) (P-Debug-dict : Dict) (P-Hash : gHash.Ghosts P.Denot) (P-Hash-dict : Dict)
+    (P-Eq : gEq.Ghosts P.Denot) (P-Eq-dict : Dict) (P-PartialEq : gPartialEq.Ghosts P.Denot)
+    (P-PartialEq-dict : Dict) (P-Clone : gClone.Ghosts P.Denot) (P-Clone-dict : Dict)
+    (P-PartialOrd : gPartialOrd.Ghosts P.Denot) (P-PartialOrd-dict : Dict) (P-Ord : gOrd.Ghosts P.Denot)
+    (P-Ord-dict : Dict) (P-Recast : gRecast.Ghosts P.Denot P.Denot) (P-Recast-dict : Dict)
+    (P-Inx-PtrInx : gPtrInx.Ghosts I.Denot) (P-Inx-PtrInx-dict : Dict) (P-Inx-Debug : gDebug.Ghosts I.Denot)
+    (P-Inx-Debug-dict : Dict) (P-Inx-Hash : gHash.Ghosts I.Denot) (P-Inx-Hash-dict : Dict)
+    (P-Inx-Eq : gEq.Ghosts I.Denot) (P-Inx-Eq-dict : Dict) (P-Inx-PartialEq : gPartialEq.Ghosts I.Denot)
+    (P-Inx-PartialEq-dict : Dict) (P-Inx-Clone : gClone.Ghosts I.Denot) (P-Inx-Clone-dict : Dict)
+    (P-Inx-PartialOrd : gPartialOrd.Ghosts I.Denot) (P-Inx-PartialOrd-dict : Dict) (P-Inx-Ord : gOrd.Ghosts I.Denot)
+    (P-Inx-Ord-dict : Dict) (P-Gen-PtrGen : gPtrGen.Ghosts G.Denot) (P-Gen-PtrGen-dict : Dict)
+    (P-Gen-Debug : gDebug.Ghosts G.Denot) (P-Gen-Debug-dict : Dict) (P-Gen-Hash : gHash.Ghosts G.Denot)
+    (P-Gen-Hash-dict : Dict) (P-Gen-Eq : gEq.Ghosts G.Denot) (P-Gen-Eq-dict : Dict)
+    (P-Gen-PartialEq : gPartialEq.Ghosts G.Denot) (P-Gen-PartialEq-dict : Dict)
+    (P-Gen-Clone : gClone.Ghosts G.Denot) (P-Gen-Clone-dict : Dict) (P-Gen-PartialOrd : gPartialOrd.Ghosts G.Denot)
+    (P-Gen-PartialOrd-dict : Dict) (P-Gen-Ord : gOrd.Ghosts G.Denot) (P-Gen-Ord-dict : Dict) where
   abbrev rP : RattleType
   rP = copied 0 P
 
@@ -109,43 +129,72 @@ module _ (P T I G : RattleType) (P-Ptr : gPtr.Ghosts P.Denot I.Denot G.Denot) (P
   abbrev rG : RattleType
   rG = copied 3 G
 
+  -- a slot
   abbrev Sr : RattleType
   Sr = S-type.the_row rP rT rI rG
 
   abbrev X : Type 0
   X = ArenaSlot P.Denot T.Denot I.Denot G.Denot
 
-  abbrev Wd : Type 0
-  Wd = LentSlots P.Denot T.Denot I.Denot G.Denot
+  -- lent slots, and how they own
+  abbrev Ls : Type 0
+  Ls = LentSlots P.Denot T.Denot I.Denot G.Denot
 
   abbrev kinds : List Kind
   kinds = a_type ∷ a_type ∷ a_type ∷ a_type ∷ []
 
   abbrev args : Args
-  args = bounded kinds (P, (T, (I, (G, tt)))) (dcons P-Ptr-dict (dcons P-Debug-dict (dcons P-Hash-dict (dcons P-Eq-dict (dcons P-PartialEq-dict (dcons P-Clone-dict (dcons P-PartialOrd-dict (dcons P-Ord-dict (dcons P-Recast-dict (dcons P-Inx-PtrInx-dict (dcons P-Inx-Debug-dict (dcons P-Inx-Hash-dict (dcons P-Inx-Eq-dict (dcons P-Inx-PartialEq-dict (dcons P-Inx-Clone-dict (dcons P-Inx-PartialOrd-dict (dcons P-Inx-Ord-dict (dcons P-Gen-PtrGen-dict (dcons P-Gen-Debug-dict (dcons P-Gen-Hash-dict (dcons P-Gen-Eq-dict (dcons P-Gen-PartialEq-dict (dcons P-Gen-Clone-dict (dcons P-Gen-PartialOrd-dict (dcons P-Gen-Ord-dict dnil)))))))))))))))))))))))))
+  args = bounded kinds (P, (T, (I, (G, tt)))) (dcons P-Ptr-dict (dcons P-Debug-dict (dcons P-Hash-dict (dcons
+      P-Eq-dict (dcons P-PartialEq-dict (dcons P-Clone-dict (dcons P-PartialOrd-dict (dcons P-Ord-dict (dcons
+      P-Recast-dict (dcons P-Inx-PtrInx-dict (dcons P-Inx-Debug-dict (dcons P-Inx-Hash-dict (dcons P-Inx-Eq-dict
+      (dcons P-Inx-PartialEq-dict (dcons P-Inx-Clone-dict (dcons P-Inx-PartialOrd-dict (dcons P-Inx-Ord-dict (dcons
+      P-Gen-PtrGen-dict (dcons P-Gen-Debug-dict (dcons P-Gen-Hash-dict (dcons P-Gen-Eq-dict (dcons
+      P-Gen-PartialEq-dict (dcons P-Gen-Clone-dict (dcons P-Gen-PartialOrd-dict (dcons P-Gen-Ord-dict
+      dnil)))))))))))))))))))))))))
 
   abbrev function : Fn
   function = inst_fn args code.function
 
   abbrev end : Ended
-  end = F.ended P T I G P-Ptr P-Ptr-dict P-Debug P-Debug-dict P-Hash P-Hash-dict P-Eq P-Eq-dict P-PartialEq P-PartialEq-dict P-Clone P-Clone-dict P-PartialOrd P-PartialOrd-dict P-Ord P-Ord-dict P-Recast P-Recast-dict P-Inx-PtrInx P-Inx-PtrInx-dict P-Inx-Debug P-Inx-Debug-dict P-Inx-Hash P-Inx-Hash-dict P-Inx-Eq P-Inx-Eq-dict P-Inx-PartialEq P-Inx-PartialEq-dict P-Inx-Clone P-Inx-Clone-dict P-Inx-PartialOrd P-Inx-PartialOrd-dict P-Inx-Ord P-Inx-Ord-dict P-Gen-PtrGen P-Gen-PtrGen-dict P-Gen-Debug P-Gen-Debug-dict P-Gen-Hash P-Gen-Hash-dict P-Gen-Eq P-Gen-Eq-dict P-Gen-PartialEq P-Gen-PartialEq-dict P-Gen-Clone P-Gen-Clone-dict P-Gen-PartialOrd P-Gen-PartialOrd-dict P-Gen-Ord P-Gen-Ord-dict
+  end = F.ended P T I G P-Ptr P-Ptr-dict P-Debug P-Debug-dict P-Hash P-Hash-dict P-Eq P-Eq-dict P-PartialEq
+      P-PartialEq-dict P-Clone P-Clone-dict P-PartialOrd P-PartialOrd-dict P-Ord P-Ord-dict P-Recast P-Recast-dict
+      P-Inx-PtrInx P-Inx-PtrInx-dict P-Inx-Debug P-Inx-Debug-dict P-Inx-Hash P-Inx-Hash-dict P-Inx-Eq P-Inx-Eq-dict
+      P-Inx-PartialEq P-Inx-PartialEq-dict P-Inx-Clone P-Inx-Clone-dict P-Inx-PartialOrd P-Inx-PartialOrd-dict
+      P-Inx-Ord P-Inx-Ord-dict P-Gen-PtrGen P-Gen-PtrGen-dict P-Gen-Debug P-Gen-Debug-dict P-Gen-Hash
+      P-Gen-Hash-dict P-Gen-Eq P-Gen-Eq-dict P-Gen-PartialEq P-Gen-PartialEq-dict P-Gen-Clone P-Gen-Clone-dict
+      P-Gen-PartialOrd P-Gen-PartialOrd-dict P-Gen-Ord P-Gen-Ord-dict
 
-  abbrev Wo : Lfts 6 → Owning
-  Wo κs = W-type.the_type (named_lft 6 1 tt κs) rP rT rI rG P-Ptr P-Debug P-Hash P-PartialEq P-PartialOrd P-Ord P-Recast P-Inx-PtrInx P-Inx-Debug P-Inx-Hash P-Inx-PartialEq P-Inx-PartialOrd P-Inx-Ord P-Gen-PtrGen P-Gen-Debug P-Gen-Hash P-Gen-PartialEq P-Gen-PartialOrd P-Gen-Ord
+  abbrev called_end : Ended
+  called_end = G-fn.ended P T I G P-Ptr P-Ptr-dict P-Debug P-Debug-dict P-Hash P-Hash-dict P-Eq P-Eq-dict
+      P-PartialEq P-PartialEq-dict P-Clone P-Clone-dict P-PartialOrd P-PartialOrd-dict P-Ord P-Ord-dict P-Recast
+      P-Recast-dict P-Inx-PtrInx P-Inx-PtrInx-dict P-Inx-Debug P-Inx-Debug-dict P-Inx-Hash P-Inx-Hash-dict P-Inx-Eq
+      P-Inx-Eq-dict P-Inx-PartialEq P-Inx-PartialEq-dict P-Inx-Clone P-Inx-Clone-dict P-Inx-PartialOrd
+      P-Inx-PartialOrd-dict P-Inx-Ord P-Inx-Ord-dict P-Gen-PtrGen P-Gen-PtrGen-dict P-Gen-Debug P-Gen-Debug-dict
+      P-Gen-Hash P-Gen-Hash-dict P-Gen-Eq P-Gen-Eq-dict P-Gen-PartialEq P-Gen-PartialEq-dict P-Gen-Clone
+      P-Gen-Clone-dict P-Gen-PartialOrd P-Gen-PartialOrd-dict P-Gen-Ord P-Gen-Ord-dict
 
-  abbrev Wr : Lfts 6 → RattleType
-  Wr κs = W-type.the_row (named_lft 6 1 tt κs) rP rT rI rG P-Ptr P-Debug P-Hash P-PartialEq P-PartialOrd P-Ord P-Recast P-Inx-PtrInx P-Inx-Debug P-Inx-Hash P-Inx-PartialEq P-Inx-PartialOrd P-Inx-Ord P-Gen-PtrGen P-Gen-Debug P-Gen-Hash P-Gen-PartialEq P-Gen-PartialOrd P-Gen-Ord
+  abbrev Lo : Lfts 6 → Owning
+  Lo κs = L-type.the_type (named_lft 6 1 tt κs) rP rT rI rG P-Ptr P-Debug P-Hash P-PartialEq P-PartialOrd P-Ord
+      P-Recast P-Inx-PtrInx P-Inx-Debug P-Inx-Hash P-Inx-PartialEq P-Inx-PartialOrd P-Inx-Ord P-Gen-PtrGen
+      P-Gen-Debug P-Gen-Hash P-Gen-PartialEq P-Gen-PartialOrd P-Gen-Ord
+
+  abbrev Lr : Lfts 6 → RattleType
+  Lr κs = L-type.the_row (named_lft 6 1 tt κs) rP rT rI rG P-Ptr P-Debug P-Hash P-PartialEq P-PartialOrd P-Ord
+      P-Recast P-Inx-PtrInx P-Inx-Debug P-Inx-Hash P-Inx-PartialEq P-Inx-PartialOrd P-Inx-Ord P-Gen-PtrGen
+      P-Gen-Debug P-Gen-Hash P-Gen-PartialEq P-Gen-PartialOrd P-Gen-Ord
 
   abbrev stayed : Stays end.signature.params end.kept
-  stayed = (stay_ref (0 ∷ []) tt (plain Wr), tt)
+  stayed = (stay_ref (0 ∷ []) tt (plain Lr), tt)
 
-  abbrev Asks : Wd → Type 0
+  -- what is required
+  abbrev Asks : Ls → Type 0
   Asks d = 0 < length d.now
 
   -- this slot in memory, whatever its value
   abbrev One : X → SemTy
   One x = record { rep = X; coded = Sr.coded; size = 0; own_at = λ w b o. (mem Sr).own_at (kept rP rT rI rG x w) b o }
 
+  -- these slots in memory, whatever their values
   abbrev Many : List X → SemTy
   Many xs = Kept rP rT rI rG xs
 
@@ -156,6 +205,7 @@ module _ (P T I G : RattleType) (P-Ptr : gPtr.Ghosts P.Denot I.Denot G.Denot) (P
   module _ {M : Type 1} {𝓤 : Ura M} (𝓛 : Logic 𝓤) where
     open 𝓛 use {H, A}
 
+    -- a slot and those behind it are these slots
     mend : (x : X) (xs : List X) (b o : ℕ) (w : X) (ws : List X) → ent 𝓤 (sep 𝓤 (sem 𝓛 ((One x).own_at w b o)) (sep 𝓤 (sem 𝓛 ((Many xs).own_at ws b (o + (mem Sr).size))) (emp 𝓤))) (sem 𝓛 ((Many (x ∷ xs)).own_at (w ∷ ws) b o))
     mend x xs b o w ws = qed 𝓛 (‵ ((mem Sr).own_at (kept rP rT rI rG x w) b o) ∷ ‵ ((Arr (mem Sr) (length xs)).own_at (kept_all rP rT rI rG xs ws) b (o + (mem Sr).size)) ∷ raw (emp 𝓤) ∷ []) ∵
         move ! (1 ∷ []) $ fsplit ! $ feq_l ! (λ e. move ! (1 ∷ 0 ∷ []) $ fjoin ! $ feq_i ! ℕ (suc (length (kept_all rP rT rI rG xs ws))) (suc (length xs)) (ap suc e) $ fjoin ! $ keep ! (0 ∷ []) $ done !)
@@ -186,9 +236,26 @@ module _ (P T I G : RattleType) (P-Ptr : gPtr.Ghosts P.Denot I.Denot G.Denot) (P
     open 𝓛 use {H, A}
 
     abbrev spec : Clauses 𝓤 end
-    spec = F.clauses P T I G P-Ptr P-Ptr-dict P-Debug P-Debug-dict P-Hash P-Hash-dict P-Eq P-Eq-dict P-PartialEq P-PartialEq-dict P-Clone P-Clone-dict P-PartialOrd P-PartialOrd-dict P-Ord P-Ord-dict P-Recast P-Recast-dict P-Inx-PtrInx P-Inx-PtrInx-dict P-Inx-Debug P-Inx-Debug-dict P-Inx-Hash P-Inx-Hash-dict P-Inx-Eq P-Inx-Eq-dict P-Inx-PartialEq P-Inx-PartialEq-dict P-Inx-Clone P-Inx-Clone-dict P-Inx-PartialOrd P-Inx-PartialOrd-dict P-Inx-Ord P-Inx-Ord-dict P-Gen-PtrGen P-Gen-PtrGen-dict P-Gen-Debug P-Gen-Debug-dict P-Gen-Hash P-Gen-Hash-dict P-Gen-Eq P-Gen-Eq-dict P-Gen-PartialEq P-Gen-PartialEq-dict P-Gen-Clone P-Gen-Clone-dict P-Gen-PartialOrd P-Gen-PartialOrd-dict P-Gen-Ord P-Gen-Ord-dict 𝓛 at run
+    spec = F.clauses P T I G P-Ptr P-Ptr-dict P-Debug P-Debug-dict P-Hash P-Hash-dict P-Eq P-Eq-dict P-PartialEq
+        P-PartialEq-dict P-Clone P-Clone-dict P-PartialOrd P-PartialOrd-dict P-Ord P-Ord-dict P-Recast P-Recast-dict
+        P-Inx-PtrInx P-Inx-PtrInx-dict P-Inx-Debug P-Inx-Debug-dict P-Inx-Hash P-Inx-Hash-dict P-Inx-Eq
+        P-Inx-Eq-dict P-Inx-PartialEq P-Inx-PartialEq-dict P-Inx-Clone P-Inx-Clone-dict P-Inx-PartialOrd
+        P-Inx-PartialOrd-dict P-Inx-Ord P-Inx-Ord-dict P-Gen-PtrGen P-Gen-PtrGen-dict P-Gen-Debug P-Gen-Debug-dict
+        P-Gen-Hash P-Gen-Hash-dict P-Gen-Eq P-Gen-Eq-dict P-Gen-PartialEq P-Gen-PartialEq-dict P-Gen-Clone
+        P-Gen-Clone-dict P-Gen-PartialOrd P-Gen-PartialOrd-dict P-Gen-Ord P-Gen-Ord-dict 𝓛 at run
 
-    module _ (κs : Lfts 6) (qs : Shares 6) (within : AllOutlive 6 end.signature.outlives κs) (rb ro : ℕ) (γ : GName) (h : Wd) where
+    -- the contract of the call
+    abbrev Called : Contract 𝓤
+    Called = triple_of 𝓛 (G-fn.signature P T I G) (G-fn.spec P T I G P-Ptr P-Ptr-dict P-Debug P-Debug-dict P-Hash
+        P-Hash-dict P-Eq P-Eq-dict P-PartialEq P-PartialEq-dict P-Clone P-Clone-dict P-PartialOrd P-PartialOrd-dict
+        P-Ord P-Ord-dict P-Recast P-Recast-dict P-Inx-PtrInx P-Inx-PtrInx-dict P-Inx-Debug P-Inx-Debug-dict
+        P-Inx-Hash P-Inx-Hash-dict P-Inx-Eq P-Inx-Eq-dict P-Inx-PartialEq P-Inx-PartialEq-dict P-Inx-Clone
+        P-Inx-Clone-dict P-Inx-PartialOrd P-Inx-PartialOrd-dict P-Inx-Ord P-Inx-Ord-dict P-Gen-PtrGen
+        P-Gen-PtrGen-dict P-Gen-Debug P-Gen-Debug-dict P-Gen-Hash P-Gen-Hash-dict P-Gen-Eq P-Gen-Eq-dict
+        P-Gen-PartialEq P-Gen-PartialEq-dict P-Gen-Clone P-Gen-Clone-dict P-Gen-PartialOrd P-Gen-PartialOrd-dict
+        P-Gen-Ord P-Gen-Ord-dict 𝓛 at run)
+
+    module _ (κs : Lfts 6) (qs : Shares 6) (within : AllOutlive 6 end.signature.outlives κs) (rb ro : ℕ) (γ : GName) (h : Ls) where
       abbrev κ : Lft
       κ = κs.0
 
@@ -202,7 +269,7 @@ module _ (P T I G : RattleType) (P-Ptr : gPtr.Ghosts P.Denot I.Denot G.Denot) (P
       q' = qs.1.0
 
       abbrev It : RattleType
-      It = Wr κs
+      It = Lr κs
 
       -- the row of the result, and its laws
       abbrev Ref : RattleType
@@ -214,7 +281,7 @@ module _ (P T I G : RattleType) (P-Ptr : gPtr.Ghosts P.Denot I.Denot G.Denot) (P
       Opt-laws : Laws Opt
       Opt-laws = option_laws Ref (of_field (mut_ref_field (record { mir = named 1; lft = κ' }) rT tt) (mut_ref_laws (record { mir = named 1; lft = κ' }) rT tt) refl (mut_ref_shared (record { mir = named 1; lft = κ' }) rT tt (row_shared rT (param_laws 1 T LT))))
 
-      abbrev self : MutBor Wd
+      abbrev self : MutBor Ls
       self = record { ref_ptr = (rb, ro); ghost_name = γ; now = h }
 
       abbrev bound : (walk_of 𝓛 end stayed spec).Ghost
@@ -227,11 +294,16 @@ module _ (P T I G : RattleType) (P-Ptr : gPtr.Ghosts P.Denot I.Denot G.Denot) (P
       word b o = vstruct (vcons (vptr b o) (vcons (vstruct vnil) vnil))
 
       abbrev written : Ty
-      written = ty_struct (W-type.struct (named_lft 6 1 tt κs) rP rT rI rG P-Ptr P-Debug P-Hash P-PartialEq P-PartialOrd P-Ord P-Recast P-Inx-PtrInx P-Inx-Debug P-Inx-Hash P-Inx-PartialEq P-Inx-PartialOrd P-Inx-Ord P-Gen-PtrGen P-Gen-Debug P-Gen-Hash P-Gen-PartialEq P-Gen-PartialOrd P-Gen-Ord).name (tcons ty_ptr (tcons (ty_struct phantom tnil) tnil))
+      written = ty_struct (L-type.struct (named_lft 6 1 tt κs) rP rT rI rG P-Ptr P-Debug P-Hash P-PartialEq
+          P-PartialOrd P-Ord P-Recast P-Inx-PtrInx P-Inx-Debug P-Inx-Hash P-Inx-PartialEq P-Inx-PartialOrd P-Inx-Ord
+          P-Gen-PtrGen P-Gen-Debug P-Gen-Hash P-Gen-PartialEq P-Gen-PartialOrd P-Gen-Ord).name (tcons ty_ptr (tcons
+          (ty_struct phantom tnil) tnil))
 
-      made : (b o : ℕ) → ent 𝓤 (emp 𝓤) (sem 𝓛 ((Struct (shape (Wo κs))).own_val (block_ptr b o, (tt, tt)) (word b o ∷ [])))
-      made b o = makes_shadow 𝓛 ((Struct (shape (Wo κs))).own_val (block_ptr b o, (tt, tt)) (word b o ∷ [])) (λ vss. (tt, (tt, ((λ uss. (tt, tt)), tt)))) ((vptr b o ∷ [], (vstruct vnil ∷ [], tt)), (refl, (refl, ((tt, (refl, tt)), tt))))
+      -- what lent slots own as a value, which is nothing
+      made : (b o : ℕ) → ent 𝓤 (emp 𝓤) (sem 𝓛 ((Struct (shape (Lo κs))).own_val (block_ptr b o, (tt, tt)) (word b o ∷ [])))
+      made b o = makes_shadow 𝓛 ((Struct (shape (Lo κs))).own_val (block_ptr b o, (tt, tt)) (word b o ∷ [])) (λ vss. (tt, (tt, ((λ uss. (tt, tt)), tt)))) ((vptr b o ∷ [], (vstruct vnil ∷ [], tt)), (refl, (refl, ((tt, (refl, tt)), tt))))
 
+      -- how long the types last, and what else is required
       abbrev f : Lft → RattleType → SProp 𝓤
       f c Y = fact 𝓤 (c ⊑ Y.lives)
 
@@ -265,16 +337,18 @@ module _ (P T I G : RattleType) (P-Ptr : gPtr.Ghosts P.Denot I.Denot G.Denot) (P
       others = ‵ (flft c₂ qs.1.1.0) ⊛ ‵ (flft c₃ qs.1.1.1.0) ⊛ ‵ (flft c₄ qs.1.1.1.1.0) ⊛ ‵ (flft c₅ qs.1.1.1.1.1.0) ⊛ ‵ ftrue
 
       module _ (C : Calls 𝓤 H) (Λ : Loops 𝓤 H) where
-        walk : (fm : FmC 𝓤 H 𝓛.laws C) → Triple 𝓤 (C (G-fn.Key.name args)) (triple_of 𝓛 (G-fn.signature P T I G) (G-fn.spec P T I G P-Ptr P-Ptr-dict P-Debug P-Debug-dict P-Hash P-Hash-dict P-Eq P-Eq-dict P-PartialEq P-PartialEq-dict P-Clone P-Clone-dict P-PartialOrd P-PartialOrd-dict P-Ord P-Ord-dict P-Recast P-Recast-dict P-Inx-PtrInx P-Inx-PtrInx-dict P-Inx-Debug P-Inx-Debug-dict P-Inx-Hash P-Inx-Hash-dict P-Inx-Eq P-Inx-Eq-dict P-Inx-PartialEq P-Inx-PartialEq-dict P-Inx-Clone P-Inx-Clone-dict P-Inx-PartialOrd P-Inx-PartialOrd-dict P-Inx-Ord P-Inx-Ord-dict P-Gen-PtrGen P-Gen-PtrGen-dict P-Gen-Debug P-Gen-Debug-dict P-Gen-Hash P-Gen-Hash-dict P-Gen-Eq P-Gen-Eq-dict P-Gen-PartialEq P-Gen-PartialEq-dict P-Gen-Clone P-Gen-Clone-dict P-Gen-PartialOrd P-Gen-PartialOrd-dict P-Gen-Ord P-Gen-Ord-dict 𝓛 at run)) → Asks h → ent 𝓤 ((walk_of 𝓛 end stayed spec).pre bound) (WpFn 𝓤 H C Λ function (vptr rb ro ∷ []) Post)
+        walk : (fm : FmC 𝓤 H 𝓛.laws C) → Triple 𝓤 (C (G-fn.Key.name args)) Called → Asks h → ent 𝓤 ((walk_of 𝓛 end stayed spec).pre bound) (WpFn 𝓤 H C Λ function (vptr rb ro ∷ []) Post)
         walk fm callee asked =
-            let G' = triple_of 𝓛 (G-fn.signature P T I G) (G-fn.spec P T I G P-Ptr P-Ptr-dict P-Debug P-Debug-dict P-Hash P-Hash-dict P-Eq P-Eq-dict P-PartialEq P-PartialEq-dict P-Clone P-Clone-dict P-PartialOrd P-PartialOrd-dict P-Ord P-Ord-dict P-Recast P-Recast-dict P-Inx-PtrInx P-Inx-PtrInx-dict P-Inx-Debug P-Inx-Debug-dict P-Inx-Hash P-Inx-Hash-dict P-Inx-Eq P-Inx-Eq-dict P-Inx-PartialEq P-Inx-PartialEq-dict P-Inx-Clone P-Inx-Clone-dict P-Inx-PartialOrd P-Inx-PartialOrd-dict P-Inx-Ord P-Inx-Ord-dict P-Gen-PtrGen P-Gen-PtrGen-dict P-Gen-Debug P-Gen-Debug-dict P-Gen-Hash P-Gen-Hash-dict P-Gen-Eq P-Gen-Eq-dict P-Gen-PartialEq P-Gen-PartialEq-dict P-Gen-Clone P-Gen-Clone-dict P-Gen-PartialOrd P-Gen-PartialOrd-dict P-Gen-Ord P-Gen-Ord-dict 𝓛 at run) in
             let found = first_of h.now asked in
             let x : X = found.0 in
             let ys : List X = found.1 in
             let xs : List X = x ∷ ys in
             let was : h.now ≡ xs = found.2 in
             let s : ℕ = (mem Sr).size in
-            let lowers = W-laws.lowers (named_lft 6 1 tt κs) rP rT rI rG P-Ptr P-Debug P-Hash P-PartialEq P-PartialOrd P-Ord P-Recast P-Inx-PtrInx P-Inx-Debug P-Inx-Hash P-Inx-PartialEq P-Inx-PartialOrd P-Inx-Ord P-Gen-PtrGen P-Gen-Debug P-Gen-Hash P-Gen-PartialEq P-Gen-PartialOrd P-Gen-Ord (copied_laws 0 P LP) (param_laws 1 T LT) (copied_laws 2 I LI) (copied_laws 3 G LG) in
+            let lowers = L-laws.lowers (named_lft 6 1 tt κs) rP rT rI rG P-Ptr P-Debug P-Hash P-PartialEq
+            P-PartialOrd P-Ord P-Recast P-Inx-PtrInx P-Inx-Debug P-Inx-Hash P-Inx-PartialEq P-Inx-PartialOrd
+            P-Inx-Ord P-Gen-PtrGen P-Gen-Debug P-Gen-Hash P-Gen-PartialEq P-Gen-PartialOrd P-Gen-Ord
+            (copied_laws 0 P LP) (param_laws 1 T LT) (copied_laws 2 I LI) (copied_laws 3 G LG) in
             qed 𝓛 (((‵ (flft κ q) ⊛ ‵ (flft κ' q') ⊛ others) ⊛ ‵ (owns (MutRef (named 0) κ It ∷ []) (self, tt) (vptr rb ro ∷ [], tt))) ∷ raw (Q (fact 𝓤 (Asks h))) ∷ []) ∵ enter ! C Λ function (vptr rb ro ∷ []) _ $
             alloc_all ! (λ l. pass_all ! refl ((tt, tt), tt) $
             let En : Env 𝓤 H = env function.locals l in
@@ -296,7 +370,7 @@ module _ (P T I G : RattleType) (P-Ptr : gPtr.Ghosts P.Denot I.Denot G.Denot) (P
             let f₁ : 1 * s < 2 ^ 64 = omega arith in
             let on : 1 * s + o ≡ o + s = omega arith in
             let rm' : Room Sr (length ys) = (omega (arith, rm.0), omega arith) in
-            -- [obs of the slots; their borrow; the fields; the walk's cell; the open borrow; obs; auth; the token of 'a; the others; true; what is required]
+            -- [obs of the slots; their borrow; the fields; the cell; the open borrow; obs; auth; the token of 'a; the others; true; what is required]
             rewrite ! 0 (λ (zs : List X). ‵ (fobs h.name ((coded_list Sr.coded).code zs))) was refl $ rewrite ! 1 (λ (zs : List X). ‵ (fbor κ' (Borrowed (Many zs) b o h.name))) was refl $
             -- the code: the first slot's reference, and the pointer past it
             move ! (3 ∷ []) $ use1 𝓛 (‵ (fat full_share written rb ro (word b o))) (𝓛.laws.raw_at full_share written rb ro (word b o)) $
@@ -311,7 +385,7 @@ module _ (P T I G : RattleType) (P-Ptr : gPtr.Ghosts P.Denot I.Denot G.Denot) (P
             sets ! (addr ! (through ! refl (stop !))) refl (tt, tt) $
             use1 𝓛 (‵ (fat full_share (bare written) rb ro (word b (1 * s + o)))) (𝓛.laws.at_raw full_share written rb ro (word b (1 * s + o))) $
             rewrite ! 0 (λ (k : ℕ). ‵ (fat full_share (bare written) rb ro (word b k))) on refl $
-            -- [the walk's cell; obs of the slots; their borrow; the fields; the open borrow; obs; auth; the token of 'a; the others; true; what is required]
+            -- [the cell; obs of the slots; their borrow; the fields; the open borrow; obs; auth; the token of 'a; the others; true; what is required]
             move ! (7 ∷ []) $ use1 𝓛 (‵ (flft κ' (left q')) ⊛ ‵ (flft κ' (right q'))) (𝓛.lfts.lft_split κ' q') $ split ! $
             move ! (3 ∷ 4 ∷ 0 ∷ []) $ open_ref ! tt (Many xs) {x = xs} {b = b} {o = o} $
             rewrite ! 0 (λ (zs : List X). ‵ ((Arr (mem Sr) (length xs)).own_at zs b o)) (kept_all-self rP rT rI rG xs) refl $ fsplit ! $ drop ! $ fsplit ! $
@@ -329,16 +403,16 @@ module _ (P T I G : RattleType) (P-Ptr : gPtr.Ghosts P.Denot I.Denot G.Denot) (P
             rewrite ! 0 (λ (z : X). ‵ ((mem Sr).own_at z b o)) (kept-self rP rT rI rG x) refl $
             name_new ! tt (Sr.coded.code x) (λ δ.
             let lent_slot : MutBor X = record { ref_ptr = (b, o); ghost_name = δ; now = x } in
-            let z : G'.Ghost = ((κs.1, (right q', qs.1.1), (within.1.1.1.0, (within.1.1.1.1.0, tt)), (lent_slot, tt), (vptr b o ∷ [], tt)), tt) in
+            let z : Called.Ghost = ((κs.1, (right q', qs.1.1), (within.1.1.1.0, (within.1.1.1.1.0, tt)), (lent_slot, tt), (vptr b o ∷ [], tt)), tt) in
             move ! (2 ∷ 1 ∷ []) $ fjoin ! $ fpack ! X (λ y. fsep ((mem Sr).own_at y b o) (fauth δ (Sr.coded.code y))) x $
             move ! (2 ∷ []) $ ages ! (λ n. move ! (1 ∷ []) $ bor_new_deep ! tt n κ' $
             move ! (3 ∷ 0 ∷ []) $ feq_i ! (List Val) (vptr b o ∷ []) (vptr b o ∷ []) refl $ fjoin3 ! $
             -- [the reference; the right; the aged borrow; obs; auth; the rest; half; the cell; the fields; the open borrow; obs; auth; the others; true; what is required]
             move ! (0 ∷ 13 ∷ []) $ fjoin ! $ move ! (6 ∷ 12 ∷ []) $ join ! $ move ! (0 ∷ 1 ∷ []) $ join ! $ move ! (0 ∷ 11 ∷ []) $ join ! $
-            use1 𝓛 (raw (G'.pre z)) (id⊢ 𝓤 _) $
-            calls_at ! fm G' callee z (and_then ! (get ! refl) (no_more !)) (λ v.
+            use1 𝓛 (raw (Called.pre z)) (id⊢ 𝓤 _) $
+            calls_at ! fm Called callee z (and_then ! (get ! refl) (no_more !)) (λ v.
             use1 𝓛 (later (some (λ (r : Option (MutBor T.Denot)). ((‵ (flft κ' (right q')) ⊛ others) ⊛ ‵ (Opt.own_val r (v ∷ []))) ⊛
-            some (λ (ws : Unit {0} × Unit {0}). ‵ (lasts (G-fn.ended P T I G P-Ptr P-Ptr-dict P-Debug P-Debug-dict P-Hash P-Hash-dict P-Eq P-Eq-dict P-PartialEq P-PartialEq-dict P-Clone P-Clone-dict P-PartialOrd P-PartialOrd-dict P-Ord P-Ord-dict P-Recast P-Recast-dict P-Inx-PtrInx P-Inx-PtrInx-dict P-Inx-Debug P-Inx-Debug-dict P-Inx-Hash P-Inx-Hash-dict P-Inx-Eq P-Inx-Eq-dict P-Inx-PartialEq P-Inx-PartialEq-dict P-Inx-Clone P-Inx-Clone-dict P-Inx-PartialOrd P-Inx-PartialOrd-dict P-Inx-Ord P-Inx-Ord-dict P-Gen-PtrGen P-Gen-PtrGen-dict P-Gen-Debug P-Gen-Debug-dict P-Gen-Hash P-Gen-Hash-dict P-Gen-Eq P-Gen-Eq-dict P-Gen-PartialEq P-Gen-PartialEq-dict P-Gen-Clone P-Gen-Clone-dict P-Gen-PartialOrd P-Gen-PartialOrd-dict P-Gen-Ord P-Gen-Ord-dict) κs.1 (lent_slot, tt) ws) ⊛ (‵ (follows_if Sr rT δ (name_of r) (with_slot_value x) x) ⊛ raw (fact 𝓤 (option_copied_mut r ≡ value_of (entry_of P-Gen-PtrGen.number x)))))))) (id⊢ 𝓤 _) $
+            some (λ (ws : Unit {0} × Unit {0}). ‵ (lasts called_end κs.1 (lent_slot, tt) ws) ⊛ (‵ (follows_if Sr rT δ (name_of r) (with_slot_value x) x) ⊛ raw (fact 𝓤 (option_copied_mut r ≡ value_of (entry_of P-Gen-PtrGen.number x)))))))) (id⊢ 𝓤 _) $
             await ! tt $ pick ! (λ r. split ! $ split ! $
             move ! (2 ∷ []) $ pick ! (λ ws. split ! $ drop ! $ split ! $ move ! (1 ∷ []) $ heard ! _ (λ val.
             -- [what follows; the tokens; the option; the right; the aged borrow; obs; auth; the rest; the cell; the fields; the open borrow; obs; auth]
@@ -348,19 +422,19 @@ module _ (P T I G : RattleType) (P-Ptr : gPtr.Ghosts P.Denot I.Denot G.Denot) (P
             -- [the token of 'a; the others; the option; the rest; the cell; the fields; the open borrow; obs; auth]
             move ! (2 ∷ []) $ peeks ! Opt _ (shows 𝓛 Opt) r (v ∷ []) (λ ty.
             lands_as ! refl refl ((Opt-laws.lawful 𝓛).typed r (v ∷ []) ty).0 $
-            let new : Wd = record { at = block_ptr b (o + s); mark = record {}; name = γs.1; tie = h.tie; now = ys } in
+            let new : Ls = record { at = block_ptr b (o + s); mark = record {}; name = γs.1; tie = h.tie; now = ys } in
             move ! (3 ∷ []) $ split ! $ fjoin ! $ pure_i ! (room Sr (length ys)) (tt, tt) rm' $ fjoin ! $
-            use0 𝓛 (‵ ((Struct (shape (Wo κs))).own_val (block_ptr b (o + s), (tt, tt)) (word b (o + s) ∷ []))) (made b (o + s)) $ fjoin ! $
-            -- [the walk; the option; the token of 'a; the others; the cell; the fields; the open borrow; obs; auth]
+            use0 𝓛 (‵ ((Struct (shape (Lo κs))).own_val (block_ptr b (o + s), (tt, tt)) (word b (o + s) ∷ []))) (made b (o + s)) $ fjoin ! $
+            -- [the lent slots; the option; the token of 'a; the others; the cell; the fields; the open borrow; obs; auth]
             move ! (4 ∷ 0 ∷ 6 ∷ 7 ∷ 8 ∷ []) $ closes ! tt It new (word b (o + s) ∷ []) rb ro $
             returns ! (look_at ! 0 refl) $ free_all ! refl $ keep ! (0 ∷ 1 ∷ 2 ∷ 4 ∷ 5 ∷ 3 ∷ []) $
             suffices ! _ (ends_at 𝓛 end stayed spec bound v r (new, tt) (tt, tt)) $ says ! (x, was, val) $
             move ! (3 ∷ 4 ∷ []) $ join ! $ move ! (3 ∷ 0 ∷ []) $ join ! $ frame ! $ feq_i ! (List Val) (vptr rb ro ∷ []) (vptr rb ro ∷ []) refl $ fjoin3 ! $ nothing ! $ move ! (1 ∷ 0 ∷ []) $ fjoin ! $ done !)))))))))))))
 
-    meets : (𝓣 : Tables 𝓤 H) → Triple 𝓤 (𝓣.C (G-fn.Key.name args)) (triple_of 𝓛 (G-fn.signature P T I G) (G-fn.spec P T I G P-Ptr P-Ptr-dict P-Debug P-Debug-dict P-Hash P-Hash-dict P-Eq P-Eq-dict P-PartialEq P-PartialEq-dict P-Clone P-Clone-dict P-PartialOrd P-PartialOrd-dict P-Ord P-Ord-dict P-Recast P-Recast-dict P-Inx-PtrInx P-Inx-PtrInx-dict P-Inx-Debug P-Inx-Debug-dict P-Inx-Hash P-Inx-Hash-dict P-Inx-Eq P-Inx-Eq-dict P-Inx-PartialEq P-Inx-PartialEq-dict P-Inx-Clone P-Inx-Clone-dict P-Inx-PartialOrd P-Inx-PartialOrd-dict P-Inx-Ord P-Inx-Ord-dict P-Gen-PtrGen P-Gen-PtrGen-dict P-Gen-Debug P-Gen-Debug-dict P-Gen-Hash P-Gen-Hash-dict P-Gen-Eq P-Gen-Eq-dict P-Gen-PartialEq P-Gen-PartialEq-dict P-Gen-Clone P-Gen-Clone-dict P-Gen-PartialOrd P-Gen-PartialOrd-dict P-Gen-Ord P-Gen-Ord-dict 𝓛 at run)) → Meets 𝓛 end.signature (WpFn 𝓤 H 𝓣.C 𝓣.Λ function) (closing 𝓛 end spec)
+    meets : (𝓣 : Tables 𝓤 H) → Triple 𝓤 (𝓣.C (G-fn.Key.name args)) Called → Meets 𝓛 end.signature (WpFn 𝓤 H 𝓣.C 𝓣.Λ function) (closing 𝓛 end spec)
     meets 𝓣 callee =
-        walk_Meets 𝓛 end stayed (Goes-ref 𝓛 6 0 tt (plain Wr), tt) spec (WpFn 𝓤 H 𝓣.C 𝓣.Λ function) (WpFn-mono 𝓤 H 𝓛.laws 𝓣 function)
-        (walked 𝓛 end stayed spec (WpFn 𝓤 H 𝓣.C 𝓣.Λ function) (λ κs. (mut_vals, tt)) (λ κs. (mut_Tells (named 0) κs.0 (Wr κs), tt))
+        walk_Meets 𝓛 end stayed (Goes-ref 𝓛 6 0 tt (plain Lr), tt) spec (WpFn 𝓤 H 𝓣.C 𝓣.Λ function) (WpFn-mono 𝓤 H 𝓛.laws 𝓣 function)
+        (walked 𝓛 end stayed spec (WpFn 𝓤 H 𝓣.C 𝓣.Λ function) (λ κs. (mut_vals, tt)) (λ κs. (mut_Tells (named 0) κs.0 (Lr κs), tt))
         (λ κs qs bounds a g are. let Want = (spec κs a).requires g in
         let On : SProp 𝓤 = on_entry 𝓛 end.signature κs qs a (vptr a.0.ref_ptr.0 a.0.ref_ptr.1 ∷ [], tt) in
         fact_use 𝓤 (Asks a.0.now) (via 𝓤 Want (snd∗ 𝓤 On Want) (last κs qs bounds a.0.ref_ptr.0 a.0.ref_ptr.1 a.0.ghost_name a.0.now (fact 𝓤 (Asks a.0.now)))) (λ asked.
@@ -368,7 +442,67 @@ module _ (P T I G : RattleType) (P-Ptr : gPtr.Ghosts P.Denot I.Denot G.Denot) (P
 
 pub pass_spec : {M : Type 1} → stated.statement M
 unfolding tables_of
-pass_spec 𝓤 𝓛 𝓜 𝓡 wired P T I G LP LT LI LG CP CI CG P-Ptr P-Ptr-dict P-Debug P-Debug-dict P-Hash P-Hash-dict P-Eq P-Eq-dict P-PartialEq P-PartialEq-dict P-Clone P-Clone-dict P-PartialOrd P-PartialOrd-dict P-Ord P-Ord-dict P-Recast P-Recast-dict P-Inx-PtrInx P-Inx-PtrInx-dict P-Inx-Debug P-Inx-Debug-dict P-Inx-Hash P-Inx-Hash-dict P-Inx-Eq P-Inx-Eq-dict P-Inx-PartialEq P-Inx-PartialEq-dict P-Inx-Clone P-Inx-Clone-dict P-Inx-PartialOrd P-Inx-PartialOrd-dict P-Inx-Ord P-Inx-Ord-dict P-Gen-PtrGen P-Gen-PtrGen-dict P-Gen-Debug P-Gen-Debug-dict P-Gen-Hash P-Gen-Hash-dict P-Gen-Eq P-Gen-Eq-dict P-Gen-PartialEq P-Gen-PartialEq-dict P-Gen-Clone P-Gen-Clone-dict P-Gen-PartialOrd P-Gen-PartialOrd-dict P-Gen-Ord P-Gen-Ord-dict m0 m1 m2 m3 m4 m5 m6 m7 m8 m9 m10 m11 m12 m13 m14 m15 m16 m17 m18 m19 m20 m21 m22 m23 m24 =
+pass_spec 𝓤 𝓛 𝓜 𝓡 wired P T I G LP LT LI LG CP CI CG P-Ptr P-Ptr-dict P-Debug P-Debug-dict P-Hash P-Hash-dict P-Eq
+    P-Eq-dict P-PartialEq P-PartialEq-dict P-Clone P-Clone-dict P-PartialOrd P-PartialOrd-dict P-Ord P-Ord-dict
+    P-Recast P-Recast-dict P-Inx-PtrInx P-Inx-PtrInx-dict P-Inx-Debug P-Inx-Debug-dict P-Inx-Hash P-Inx-Hash-dict
+    P-Inx-Eq P-Inx-Eq-dict P-Inx-PartialEq P-Inx-PartialEq-dict P-Inx-Clone P-Inx-Clone-dict P-Inx-PartialOrd
+    P-Inx-PartialOrd-dict P-Inx-Ord P-Inx-Ord-dict P-Gen-PtrGen P-Gen-PtrGen-dict P-Gen-Debug P-Gen-Debug-dict
+    P-Gen-Hash P-Gen-Hash-dict P-Gen-Eq P-Gen-Eq-dict P-Gen-PartialEq P-Gen-PartialEq-dict P-Gen-Clone
+    P-Gen-Clone-dict P-Gen-PartialOrd P-Gen-PartialOrd-dict P-Gen-Ord P-Gen-Ord-dict m0 m1 m2 m3 m4 m5 m6 m7 m8 m9
+    m10 m11 m12 m13 m14 m15 m16 m17 m18 m19 m20 m21 m22 m23 m24 =
     let 𝓣 : Tables 𝓤 𝓛.H = tables_of 𝓤 𝓛.H 𝓜 (tables 𝓤 𝓛.H 𝓜 𝓡 𝓡.env) in
-    entered 𝓤 𝓛.H (triple_of 𝓛 (end P T I G P-Ptr P-Ptr-dict P-Debug P-Debug-dict P-Hash P-Hash-dict P-Eq P-Eq-dict P-PartialEq P-PartialEq-dict P-Clone P-Clone-dict P-PartialOrd P-PartialOrd-dict P-Ord P-Ord-dict P-Recast P-Recast-dict P-Inx-PtrInx P-Inx-PtrInx-dict P-Inx-Debug P-Inx-Debug-dict P-Inx-Hash P-Inx-Hash-dict P-Inx-Eq P-Inx-Eq-dict P-Inx-PartialEq P-Inx-PartialEq-dict P-Inx-Clone P-Inx-Clone-dict P-Inx-PartialOrd P-Inx-PartialOrd-dict P-Inx-Ord P-Inx-Ord-dict P-Gen-PtrGen P-Gen-PtrGen-dict P-Gen-Debug P-Gen-Debug-dict P-Gen-Hash P-Gen-Hash-dict P-Gen-Eq P-Gen-Eq-dict P-Gen-PartialEq P-Gen-PartialEq-dict P-Gen-Clone P-Gen-Clone-dict P-Gen-PartialOrd P-Gen-PartialOrd-dict P-Gen-Ord P-Gen-Ord-dict).signature (closing 𝓛 (end P T I G P-Ptr P-Ptr-dict P-Debug P-Debug-dict P-Hash P-Hash-dict P-Eq P-Eq-dict P-PartialEq P-PartialEq-dict P-Clone P-Clone-dict P-PartialOrd P-PartialOrd-dict P-Ord P-Ord-dict P-Recast P-Recast-dict P-Inx-PtrInx P-Inx-PtrInx-dict P-Inx-Debug P-Inx-Debug-dict P-Inx-Hash P-Inx-Hash-dict P-Inx-Eq P-Inx-Eq-dict P-Inx-PartialEq P-Inx-PartialEq-dict P-Inx-Clone P-Inx-Clone-dict P-Inx-PartialOrd P-Inx-PartialOrd-dict P-Inx-Ord P-Inx-Ord-dict P-Gen-PtrGen P-Gen-PtrGen-dict P-Gen-Debug P-Gen-Debug-dict P-Gen-Hash P-Gen-Hash-dict P-Gen-Eq P-Gen-Eq-dict P-Gen-PartialEq P-Gen-PartialEq-dict P-Gen-Clone P-Gen-Clone-dict P-Gen-PartialOrd P-Gen-PartialOrd-dict P-Gen-Ord P-Gen-Ord-dict) (spec P T I G P-Ptr P-Ptr-dict P-Debug P-Debug-dict P-Hash P-Hash-dict P-Eq P-Eq-dict P-PartialEq P-PartialEq-dict P-Clone P-Clone-dict P-PartialOrd P-PartialOrd-dict P-Ord P-Ord-dict P-Recast P-Recast-dict P-Inx-PtrInx P-Inx-PtrInx-dict P-Inx-Debug P-Inx-Debug-dict P-Inx-Hash P-Inx-Hash-dict P-Inx-Eq P-Inx-Eq-dict P-Inx-PartialEq P-Inx-PartialEq-dict P-Inx-Clone P-Inx-Clone-dict P-Inx-PartialOrd P-Inx-PartialOrd-dict P-Inx-Ord P-Inx-Ord-dict P-Gen-PtrGen P-Gen-PtrGen-dict P-Gen-Debug P-Gen-Debug-dict P-Gen-Hash P-Gen-Hash-dict P-Gen-Eq P-Gen-Eq-dict P-Gen-PartialEq P-Gen-PartialEq-dict P-Gen-Clone P-Gen-Clone-dict P-Gen-PartialOrd P-Gen-PartialOrd-dict P-Gen-Ord P-Gen-Ord-dict LP LT LI LG 𝓛 𝓜.mem 𝓡.returns))) 𝓣.C 𝓣.Λ (#self (args P T I G P-Ptr P-Ptr-dict P-Debug P-Debug-dict P-Hash P-Hash-dict P-Eq P-Eq-dict P-PartialEq P-PartialEq-dict P-Clone P-Clone-dict P-PartialOrd P-PartialOrd-dict P-Ord P-Ord-dict P-Recast P-Recast-dict P-Inx-PtrInx P-Inx-PtrInx-dict P-Inx-Debug P-Inx-Debug-dict P-Inx-Hash P-Inx-Hash-dict P-Inx-Eq P-Inx-Eq-dict P-Inx-PartialEq P-Inx-PartialEq-dict P-Inx-Clone P-Inx-Clone-dict P-Inx-PartialOrd P-Inx-PartialOrd-dict P-Inx-Ord P-Inx-Ord-dict P-Gen-PtrGen P-Gen-PtrGen-dict P-Gen-Debug P-Gen-Debug-dict P-Gen-Hash P-Gen-Hash-dict P-Gen-Eq P-Gen-Eq-dict P-Gen-PartialEq P-Gen-PartialEq-dict P-Gen-Clone P-Gen-Clone-dict P-Gen-PartialOrd P-Gen-PartialOrd-dict P-Gen-Ord P-Gen-Ord-dict)) (function P T I G P-Ptr P-Ptr-dict P-Debug P-Debug-dict P-Hash P-Hash-dict P-Eq P-Eq-dict P-PartialEq P-PartialEq-dict P-Clone P-Clone-dict P-PartialOrd P-PartialOrd-dict P-Ord P-Ord-dict P-Recast P-Recast-dict P-Inx-PtrInx P-Inx-PtrInx-dict P-Inx-Debug P-Inx-Debug-dict P-Inx-Hash P-Inx-Hash-dict P-Inx-Eq P-Inx-Eq-dict P-Inx-PartialEq P-Inx-PartialEq-dict P-Inx-Clone P-Inx-Clone-dict P-Inx-PartialOrd P-Inx-PartialOrd-dict P-Inx-Ord P-Inx-Ord-dict P-Gen-PtrGen P-Gen-PtrGen-dict P-Gen-Debug P-Gen-Debug-dict P-Gen-Hash P-Gen-Hash-dict P-Gen-Eq P-Gen-Eq-dict P-Gen-PartialEq P-Gen-PartialEq-dict P-Gen-Clone P-Gen-Clone-dict P-Gen-PartialOrd P-Gen-PartialOrd-dict P-Gen-Ord P-Gen-Ord-dict) (code.unfolded 𝓤 𝓛.H 𝓜 𝓡 wired (P, (T, (I, (G, tt)))) P-Ptr-dict P-Debug-dict P-Hash-dict P-Eq-dict P-PartialEq-dict P-Clone-dict P-PartialOrd-dict P-Ord-dict P-Recast-dict P-Inx-PtrInx-dict P-Inx-Debug-dict P-Inx-Hash-dict P-Inx-Eq-dict P-Inx-PartialEq-dict P-Inx-Clone-dict P-Inx-PartialOrd-dict P-Inx-Ord-dict P-Gen-PtrGen-dict P-Gen-Debug-dict P-Gen-Hash-dict P-Gen-Eq-dict P-Gen-PartialEq-dict P-Gen-Clone-dict P-Gen-PartialOrd-dict P-Gen-Ord-dict)
-    (meets P T I G P-Ptr P-Ptr-dict P-Debug P-Debug-dict P-Hash P-Hash-dict P-Eq P-Eq-dict P-PartialEq P-PartialEq-dict P-Clone P-Clone-dict P-PartialOrd P-PartialOrd-dict P-Ord P-Ord-dict P-Recast P-Recast-dict P-Inx-PtrInx P-Inx-PtrInx-dict P-Inx-Debug P-Inx-Debug-dict P-Inx-Hash P-Inx-Hash-dict P-Inx-Eq P-Inx-Eq-dict P-Inx-PartialEq P-Inx-PartialEq-dict P-Inx-Clone P-Inx-Clone-dict P-Inx-PartialOrd P-Inx-PartialOrd-dict P-Inx-Ord P-Inx-Ord-dict P-Gen-PtrGen P-Gen-PtrGen-dict P-Gen-Debug P-Gen-Debug-dict P-Gen-Hash P-Gen-Hash-dict P-Gen-Eq P-Gen-Eq-dict P-Gen-PartialEq P-Gen-PartialEq-dict P-Gen-Clone P-Gen-Clone-dict P-Gen-PartialOrd P-Gen-PartialOrd-dict P-Gen-Ord P-Gen-Ord-dict LP LT LI LG 𝓛 𝓜.mem 𝓡.returns 𝓣 (met 𝓤 𝓛 𝓜 𝓡 (code.calls-triple_arena::slot::ArenaSlot::live_value_mut 𝓡.env wired) P T I G LP LT LI LG CP CI CG P-Ptr P-Ptr-dict P-Debug P-Debug-dict P-Hash P-Hash-dict P-Eq P-Eq-dict P-PartialEq P-PartialEq-dict P-Clone P-Clone-dict P-PartialOrd P-PartialOrd-dict P-Ord P-Ord-dict P-Recast P-Recast-dict P-Inx-PtrInx P-Inx-PtrInx-dict P-Inx-Debug P-Inx-Debug-dict P-Inx-Hash P-Inx-Hash-dict P-Inx-Eq P-Inx-Eq-dict P-Inx-PartialEq P-Inx-PartialEq-dict P-Inx-Clone P-Inx-Clone-dict P-Inx-PartialOrd P-Inx-PartialOrd-dict P-Inx-Ord P-Inx-Ord-dict P-Gen-PtrGen P-Gen-PtrGen-dict P-Gen-Debug P-Gen-Debug-dict P-Gen-Hash P-Gen-Hash-dict P-Gen-Eq P-Gen-Eq-dict P-Gen-PartialEq P-Gen-PartialEq-dict P-Gen-Clone P-Gen-Clone-dict P-Gen-PartialOrd P-Gen-PartialOrd-dict P-Gen-Ord P-Gen-Ord-dict m0 m1 m2 m3 m4 m5 m6 m7 m8 m9 m10 m11 m12 m13 m14 m15 m16 m17 m18 m19 m20 m21 m22 m23 m24))
+    entered 𝓤 𝓛.H (triple_of 𝓛 (end P T I G P-Ptr P-Ptr-dict P-Debug P-Debug-dict P-Hash P-Hash-dict P-Eq P-Eq-dict
+    P-PartialEq P-PartialEq-dict P-Clone P-Clone-dict P-PartialOrd P-PartialOrd-dict P-Ord P-Ord-dict P-Recast
+    P-Recast-dict P-Inx-PtrInx P-Inx-PtrInx-dict P-Inx-Debug P-Inx-Debug-dict P-Inx-Hash P-Inx-Hash-dict
+    P-Inx-Eq P-Inx-Eq-dict P-Inx-PartialEq P-Inx-PartialEq-dict P-Inx-Clone P-Inx-Clone-dict P-Inx-PartialOrd
+    P-Inx-PartialOrd-dict P-Inx-Ord P-Inx-Ord-dict P-Gen-PtrGen P-Gen-PtrGen-dict P-Gen-Debug P-Gen-Debug-dict
+    P-Gen-Hash P-Gen-Hash-dict P-Gen-Eq P-Gen-Eq-dict P-Gen-PartialEq P-Gen-PartialEq-dict P-Gen-Clone
+    P-Gen-Clone-dict P-Gen-PartialOrd P-Gen-PartialOrd-dict P-Gen-Ord P-Gen-Ord-dict).signature (closing 𝓛 (end
+    P T I G P-Ptr P-Ptr-dict P-Debug P-Debug-dict P-Hash P-Hash-dict P-Eq P-Eq-dict P-PartialEq P-PartialEq-dict
+    P-Clone P-Clone-dict P-PartialOrd P-PartialOrd-dict P-Ord P-Ord-dict P-Recast P-Recast-dict P-Inx-PtrInx
+    P-Inx-PtrInx-dict P-Inx-Debug P-Inx-Debug-dict P-Inx-Hash P-Inx-Hash-dict P-Inx-Eq P-Inx-Eq-dict
+    P-Inx-PartialEq P-Inx-PartialEq-dict P-Inx-Clone P-Inx-Clone-dict P-Inx-PartialOrd P-Inx-PartialOrd-dict
+    P-Inx-Ord P-Inx-Ord-dict P-Gen-PtrGen P-Gen-PtrGen-dict P-Gen-Debug P-Gen-Debug-dict P-Gen-Hash
+    P-Gen-Hash-dict P-Gen-Eq P-Gen-Eq-dict P-Gen-PartialEq P-Gen-PartialEq-dict P-Gen-Clone P-Gen-Clone-dict
+    P-Gen-PartialOrd P-Gen-PartialOrd-dict P-Gen-Ord P-Gen-Ord-dict) (spec P T I G P-Ptr P-Ptr-dict P-Debug
+    P-Debug-dict P-Hash P-Hash-dict P-Eq P-Eq-dict P-PartialEq P-PartialEq-dict P-Clone P-Clone-dict
+    P-PartialOrd P-PartialOrd-dict P-Ord P-Ord-dict P-Recast P-Recast-dict P-Inx-PtrInx P-Inx-PtrInx-dict
+    P-Inx-Debug P-Inx-Debug-dict P-Inx-Hash P-Inx-Hash-dict P-Inx-Eq P-Inx-Eq-dict P-Inx-PartialEq
+    P-Inx-PartialEq-dict P-Inx-Clone P-Inx-Clone-dict P-Inx-PartialOrd P-Inx-PartialOrd-dict P-Inx-Ord
+    P-Inx-Ord-dict P-Gen-PtrGen P-Gen-PtrGen-dict P-Gen-Debug P-Gen-Debug-dict P-Gen-Hash P-Gen-Hash-dict
+    P-Gen-Eq P-Gen-Eq-dict P-Gen-PartialEq P-Gen-PartialEq-dict P-Gen-Clone P-Gen-Clone-dict P-Gen-PartialOrd
+    P-Gen-PartialOrd-dict P-Gen-Ord P-Gen-Ord-dict LP LT LI LG 𝓛 𝓜.mem 𝓡.returns))) 𝓣.C 𝓣.Λ (#self (args P T I G
+    P-Ptr P-Ptr-dict P-Debug P-Debug-dict P-Hash P-Hash-dict P-Eq P-Eq-dict P-PartialEq P-PartialEq-dict P-Clone
+    P-Clone-dict P-PartialOrd P-PartialOrd-dict P-Ord P-Ord-dict P-Recast P-Recast-dict P-Inx-PtrInx
+    P-Inx-PtrInx-dict P-Inx-Debug P-Inx-Debug-dict P-Inx-Hash P-Inx-Hash-dict P-Inx-Eq P-Inx-Eq-dict
+    P-Inx-PartialEq P-Inx-PartialEq-dict P-Inx-Clone P-Inx-Clone-dict P-Inx-PartialOrd P-Inx-PartialOrd-dict
+    P-Inx-Ord P-Inx-Ord-dict P-Gen-PtrGen P-Gen-PtrGen-dict P-Gen-Debug P-Gen-Debug-dict P-Gen-Hash
+    P-Gen-Hash-dict P-Gen-Eq P-Gen-Eq-dict P-Gen-PartialEq P-Gen-PartialEq-dict P-Gen-Clone P-Gen-Clone-dict
+    P-Gen-PartialOrd P-Gen-PartialOrd-dict P-Gen-Ord P-Gen-Ord-dict)) (function P T I G P-Ptr P-Ptr-dict P-Debug
+    P-Debug-dict P-Hash P-Hash-dict P-Eq P-Eq-dict P-PartialEq P-PartialEq-dict P-Clone P-Clone-dict
+    P-PartialOrd P-PartialOrd-dict P-Ord P-Ord-dict P-Recast P-Recast-dict P-Inx-PtrInx P-Inx-PtrInx-dict
+    P-Inx-Debug P-Inx-Debug-dict P-Inx-Hash P-Inx-Hash-dict P-Inx-Eq P-Inx-Eq-dict P-Inx-PartialEq
+    P-Inx-PartialEq-dict P-Inx-Clone P-Inx-Clone-dict P-Inx-PartialOrd P-Inx-PartialOrd-dict P-Inx-Ord
+    P-Inx-Ord-dict P-Gen-PtrGen P-Gen-PtrGen-dict P-Gen-Debug P-Gen-Debug-dict P-Gen-Hash P-Gen-Hash-dict
+    P-Gen-Eq P-Gen-Eq-dict P-Gen-PartialEq P-Gen-PartialEq-dict P-Gen-Clone P-Gen-Clone-dict P-Gen-PartialOrd
+    P-Gen-PartialOrd-dict P-Gen-Ord P-Gen-Ord-dict) (code.unfolded 𝓤 𝓛.H 𝓜 𝓡 wired (P, (T, (I, (G, tt))))
+    P-Ptr-dict P-Debug-dict P-Hash-dict P-Eq-dict P-PartialEq-dict P-Clone-dict P-PartialOrd-dict P-Ord-dict
+    P-Recast-dict P-Inx-PtrInx-dict P-Inx-Debug-dict P-Inx-Hash-dict P-Inx-Eq-dict P-Inx-PartialEq-dict
+    P-Inx-Clone-dict P-Inx-PartialOrd-dict P-Inx-Ord-dict P-Gen-PtrGen-dict P-Gen-Debug-dict P-Gen-Hash-dict
+    P-Gen-Eq-dict P-Gen-PartialEq-dict P-Gen-Clone-dict P-Gen-PartialOrd-dict P-Gen-Ord-dict)
+    (meets P T I G P-Ptr P-Ptr-dict P-Debug P-Debug-dict P-Hash P-Hash-dict P-Eq P-Eq-dict P-PartialEq
+    P-PartialEq-dict P-Clone P-Clone-dict P-PartialOrd P-PartialOrd-dict P-Ord P-Ord-dict P-Recast P-Recast-dict
+    P-Inx-PtrInx P-Inx-PtrInx-dict P-Inx-Debug P-Inx-Debug-dict P-Inx-Hash P-Inx-Hash-dict P-Inx-Eq
+    P-Inx-Eq-dict P-Inx-PartialEq P-Inx-PartialEq-dict P-Inx-Clone P-Inx-Clone-dict P-Inx-PartialOrd
+    P-Inx-PartialOrd-dict P-Inx-Ord P-Inx-Ord-dict P-Gen-PtrGen P-Gen-PtrGen-dict P-Gen-Debug P-Gen-Debug-dict
+    P-Gen-Hash P-Gen-Hash-dict P-Gen-Eq P-Gen-Eq-dict P-Gen-PartialEq P-Gen-PartialEq-dict P-Gen-Clone
+    P-Gen-Clone-dict P-Gen-PartialOrd P-Gen-PartialOrd-dict P-Gen-Ord P-Gen-Ord-dict LP LT LI LG 𝓛 𝓜.mem
+    𝓡.returns 𝓣 (met 𝓤 𝓛 𝓜 𝓡 (code.calls-triple_arena::slot::ArenaSlot::live_value_mut 𝓡.env wired) P T I G LP
+    LT LI LG CP CI CG P-Ptr P-Ptr-dict P-Debug P-Debug-dict P-Hash P-Hash-dict P-Eq P-Eq-dict P-PartialEq
+    P-PartialEq-dict P-Clone P-Clone-dict P-PartialOrd P-PartialOrd-dict P-Ord P-Ord-dict P-Recast P-Recast-dict
+    P-Inx-PtrInx P-Inx-PtrInx-dict P-Inx-Debug P-Inx-Debug-dict P-Inx-Hash P-Inx-Hash-dict P-Inx-Eq
+    P-Inx-Eq-dict P-Inx-PartialEq P-Inx-PartialEq-dict P-Inx-Clone P-Inx-Clone-dict P-Inx-PartialOrd
+    P-Inx-PartialOrd-dict P-Inx-Ord P-Inx-Ord-dict P-Gen-PtrGen P-Gen-PtrGen-dict P-Gen-Debug P-Gen-Debug-dict
+    P-Gen-Hash P-Gen-Hash-dict P-Gen-Eq P-Gen-Eq-dict P-Gen-PartialEq P-Gen-PartialEq-dict P-Gen-Clone
+    P-Gen-Clone-dict P-Gen-PartialOrd P-Gen-PartialOrd-dict P-Gen-Ord P-Gen-Ord-dict m0 m1 m2 m3 m4 m5 m6 m7 m8
+    m9 m10 m11 m12 m13 m14 m15 m16 m17 m18 m19 m20 m21 m22 m23 m24))

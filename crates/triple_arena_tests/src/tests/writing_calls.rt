@@ -1,0 +1,85 @@
+//! Writing to each value of an arena: callers that are proved over any arena, and what they met.
+
+ghost use Rattle.triple_arena.specs.Values.{SamePointers};
+
+use super::numbered::{Numbered, index_number};
+use super::token::Token;
+use super::told::{MET, Told};
+use triple_arena::{Arena, ArenaSlot};
+use triple_arena_ptr::Ptr;
+use triple_arena_stack::NonZeroInxGenericStack;
+
+// An entry by its index, its generation and its value.
+fn entry_of<P: Ptr>(p: P, token: &Token) -> (usize, u64, u64)
+where
+    P::Gen: Numbered,
+{
+    (
+        index_number(p.inx()),
+        p.generation().told_number(),
+        token.number,
+    )
+}
+
+/// Adds a number to each value in a loop over the arena.
+pub fn add_to_each<P: Ptr, S: NonZeroInxGenericStack<ArenaSlot<P, Token>>>(
+    arena: &mut Arena<P, Token, S>,
+    number: u64,
+) -> Told
+where
+    P::Gen: Numbered,
+    ensures { SamePointers arena.old arena.new }
+{
+    let mut met = [None; MET];
+    let mut place = 0;
+    for (p, token) in arena {
+        if place < MET {
+            met[place] = Some(entry_of(p, token));
+            place += 1;
+        }
+        token.number = token.number.wrapping_add(number);
+    }
+    Told::Met(met)
+}
+
+/// The same by `iter_mut`.
+pub fn add_to_each_entry<P: Ptr, S: NonZeroInxGenericStack<ArenaSlot<P, Token>>>(
+    arena: &mut Arena<P, Token, S>,
+    number: u64,
+) -> Told
+where
+    P::Gen: Numbered,
+    ensures { SamePointers arena.old arena.new }
+{
+    let mut met = [None; MET];
+    let mut place = 0;
+    let mut entries = arena.iter_mut();
+    while let Some((p, token)) = entries.next() {
+        if place < MET {
+            met[place] = Some(entry_of(p, token));
+            place += 1;
+        }
+        token.number = token.number.wrapping_add(number);
+    }
+    Told::Met(met)
+}
+
+/// The same by `vals_mut`.
+pub fn add_to_each_value<P: Ptr, S: NonZeroInxGenericStack<ArenaSlot<P, Token>>>(
+    arena: &mut Arena<P, Token, S>,
+    number: u64,
+) -> Told
+    ensures { SamePointers arena.old arena.new }
+{
+    let mut met = [None; MET];
+    let mut place = 0;
+    let mut values = arena.vals_mut();
+    while let Some(token) = values.next() {
+        if place < MET {
+            met[place] = Some(token.number);
+            place += 1;
+        }
+        token.number = token.number.wrapping_add(number);
+    }
+    Told::MetValues(met)
+}

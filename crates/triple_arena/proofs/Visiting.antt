@@ -1,46 +1,35 @@
 -- Closures that are called at each entry.
-use Rattle.std.proofs.Common.{◌≡◌, ◌≢◌, ℕ, Bool, true, false, not, List, Option, Some, None, IsSome, refl, sym, ap, ◌∙◌, inl, inr}
-use Rattle.std.proofs.lemmas.Bool.{cases_eq}
+use Rattle.std.proofs.Common.{◌≡◌, ℕ, List, [], ◌∷◌, ◌++◌, Option, Some, None, false, refl, sym, ap, subst, ◌∙◌, append_assoc, append-nil}
 use Rattle.std.specs.Borrow.{MutBor}
-use Rattle.std.specs.Option.{option_map}
 use Rattle.triple_arena_ptr.specs.Pointers.{Pointer}
-use Rattle.triple_arena.specs.Entries.{entry_in, look_up_in, with_value_in}
-use Rattle.triple_arena.specs.ItemLaws.{joined}
-use Rattle.triple_arena.specs.EntryLaws.{changes_at}
-use Rattle.triple_arena.specs.Walks.{Stand, is_ahead, Steps}
-use Rattle.triple_arena.specs.Visits.{CalledAt, IsVisited, IsVisitedIf}
-use Rattle.triple_arena.specs.WalkLaws.{taken, found}
+use Rattle.triple_arena.specs.Entries.{look_up_in, with_value_in}
+use Rattle.triple_arena.specs.Walks.{Stand, Steps, IsAtFirst, entries, entries_ahead, entries_behind}
+use Rattle.triple_arena.specs.Visits.{CalledAt, Visits}
+use Rattle.triple_arena.specs.WalkLaws.{ahead_taken, ahead_written, ahead_none, ahead_first, behind_written, none_behind, all_behind}
 
 module _ {P T F : Type 0} (numbers : P → Pointer) (step : F → P → MutBor T → Unit {0} → MutBor T → F → Type 0) where
-  pub called_at : (f : F) (p : P) (shown : MutBor T) (r : Unit {0}) (left : MutBor T) (f' : F) → step f p shown r left f' → CalledAt numbers step (numbers p) shown.now left.now
-  called_at f p shown r left f' called =
-      record { before = f; after = f'; pointer = p; names = refl; shown = shown; shows = refl; left = left; called = called; leaves = refl }
+  pub called_at : (f : F) (p : P) (shown : MutBor T) (r : Unit {0}) (left : MutBor T) (after : F) → step f p shown r left after → CalledAt numbers step f (numbers p) shown.now left.now after
+  called_at f p shown r left after called =
+      record { pointer = p; names = refl; shown = shown; shows = refl; left = left; called = called; leaves = refl }
 
-  none_if : (t t' : Bool) (j : ℕ) (o : Option (ℕ × T)) → IsVisitedIf numbers step t j o None → IsVisitedIf numbers step t' j o None
-  none_if true true j o h = h
-  none_if true false j None h = refl
-  none_if true false j (Some e) h = absurd (let n = h.2 in cc)
-  none_if false true j None h = refl
-  none_if false true j (Some e) h = absurd (cc)
-  none_if false false j o h = h
+  -- what calls at the entries ahead leave stands after those behind, and all are what calls from the start on leave
+  abbrev pub GoesOn : F → List (Pointer × T) → Stand → List (Option (ℕ × T)) → F → Type 0
+  GoesOn start old s slots f =
+      (left : List (Pointer × T)) (last : F) → Visits numbers step f (entries_ahead s slots) left last
+      → Visits numbers step start old (entries_behind s slots ++ left) last
 
-  -- where the entries that are not ahead are visited, and the one that is answered is, those that are not ahead are
-  pub visited_ahead : (greatest : ℕ) (slots : List (Option (ℕ × T))) (b : Stand) (p : Pointer) (a : Stand) (old : ℕ → Option (ℕ × T)) (v w : T) → Steps greatest slots b (Some p) a → look_up_in slots p ≡ Some v → CalledAt numbers step p v w → ((j : ℕ) → IsVisitedIf numbers step (not (is_ahead b j)) j (old j) (entry_in slots j)) → (j : ℕ) → IsVisitedIf numbers step (not (is_ahead a j)) j (old j) (entry_in (with_value_in slots p.0 w) j)
-  visited_ahead greatest slots b p a old v w s is call so_far j =
-      let t = taken greatest slots b p a s in
-      let e = found slots p t.live in
-      let same_value : e.value ≡ v = some_same (sym e.looked_up ∙ is) in
-      let here = rw t.was at (so_far p.0) in
-      let was : old p.0 ≡ Some (p.1, v) = sym here ∙ e.entry ∙ ap (λ u. Some (p.1, u)) same_value in
-      let there = changes_at slots p.0 (option_map (λ x. (x.0, w)) (entry_in slots p.0)) (λ none. ap (λ slot. option_map (λ (x : ℕ × T). (x.0, w)) (joined slot)) none) in
-      elim (cases_eq j p.0) [
-        | inl same ↦ rw (same, t.gone, was) (w, call, there.there ∙ ap (option_map (λ (x : ℕ × T). (x.0, w))) e.entry)
-        | inr other ↦ rw (there.others j other) (by_entry j other (entry_in slots j) refl)
-      ]
-    where
-      some_same : {A : Type 0} {x y : A} → Some x ≡ Some y → x ≡ y
-      some_same e = cc
+  pub begins : (start : F) (slots : List (Option (ℕ × T))) (s : Stand) → IsAtFirst slots s → GoesOn start (entries slots) s slots start
+  begins start slots s first left last visits =
+      rw (none_behind slots s first) (subst (λ es. Visits numbers step start es left last) (ahead_first slots s first) visits)
 
-      by_entry : (j : ℕ) → j ≢ p.0 → (o : Option (ℕ × T)) → entry_in slots j ≡ o → IsVisitedIf numbers step (not (is_ahead a j)) j (old j) (entry_in slots j)
-      by_entry j other None e = rw e (none_if (not (is_ahead b j)) (not (is_ahead a j)) j (old j) (rw e at (so_far j)))
-      by_entry j other (Some x) e = rw ((taken greatest slots b p a s).same j (rw e refl) other) (so_far j)
+  pub goes_on : (start : F) (old : List (Pointer × T)) (greatest : ℕ) (slots : List (Option (ℕ × T))) (b : Stand) (p : Pointer) (a : Stand) (f : F) (v w : T) (after : F) → b.reverse ≡ false → Steps greatest slots b (Some p) a → look_up_in slots p ≡ Some v → CalledAt numbers step f p v w after → GoesOn start old b slots f → GoesOn start old a (with_value_in slots p.0 w) after
+  goes_on start old greatest slots b p a f v w after forward s is call so_far left last visits =
+      let later = subst (λ es. Visits numbers step after es left last) (ahead_written greatest slots b p a w s) visits in
+      let from = subst (λ es. Visits numbers step f es ((p, w) ∷ left) last) (sym (ahead_taken greatest slots b p a forward s v is)) (w, after, left, call, refl, later) in
+      let behind = ap (λ es. es ++ left) (behind_written greatest slots b p a w forward s) ∙ append_assoc (entries_behind b slots) ((p, w) ∷ []) left in
+      subst (λ es. Visits numbers step start old es last) (sym behind) (so_far ((p, w) ∷ left) last from)
+
+  pub ends : (start : F) (old : List (Pointer × T)) (greatest : ℕ) (slots : List (Option (ℕ × T))) (b a : Stand) (f : F) → Steps greatest slots b None a → GoesOn start old b slots f → Visits numbers step start old (entries slots) f
+  ends start old greatest slots b a f s so_far =
+      let none = subst (λ es. Visits numbers step f es [] f) (sym (ahead_none greatest slots b a s)) (refl, refl) in
+      subst (λ es. Visits numbers step start old es f) (append-nil (entries_behind b slots) ∙ all_behind greatest slots b a s) (so_far [] f none)

@@ -11,6 +11,7 @@ pub mod LengthLaws
 pub mod Walks
 pub mod WalkLaws
 pub mod Visits
+pub mod VisitLaws
 pub mod Slot
 pub mod Layout
 pub mod Lends

@@ -1,5 +1,5 @@
 -- Laws of walks: what a step leaves ahead.
-use Rattle.std.proofs.Common.{◌≡◌, ◌≢◌, ℕ, zero, suc, ◌+◌, ◌-◌, ◌<◌, ◌≤◌, nat_le, nat_lt, ◌&&◌, Bool, true, false, IsTrue, IsSome, List, [], ◌∷◌, map, length, Option, Some, None, is_some, count_by, cond, slice_get, slice_index_or, All, Contains, ◌++◌, refl, sym, ap, subst, ◌∙◌, inl, inr, arith, true≢false, ◌⊎◌, max}
+use Rattle.std.proofs.Common.{◌≡◌, ◌≢◌, ℕ, zero, suc, ◌+◌, ◌-◌, ◌<◌, ◌≤◌, nat_le, nat_lt, ◌&&◌, not, Bool, true, false, IsTrue, IsSome, List, [], ◌∷◌, map, length, Option, Some, None, is_some, count_by, cond, slice_get, slice_index_or, All, Contains, ◌++◌, refl, sym, ap, subst, ◌∙◌, inl, inr, arith, true≢false, ◌⊎◌, max}
 use Rattle.std.proofs.lemmas.List.Sums.{sum_by-cons}
 use Rattle.std.proofs.lemmas.Bool.{cases_eq, cases_lt, le-leb}
 use Rattle.std.proofs.lemmas.Bool.Decides.{leb_tells}
@@ -10,7 +10,7 @@ use Rattle.triple_arena.specs.ItemLaws.{joined, item_within, eq_true, eq_false}
 use Rattle.triple_arena.specs.Entries.{entry_in, look_up_in, value_under, entry_count, ChangesAt, with_value_in, IsFirst, IsLast}
 use Rattle.triple_arena.specs.EntryLaws.{changes_at}
 use Rattle.triple_arena.specs.FreeList.{IsRising}
-use Rattle.triple_arena.specs.Walks.{Stand, place_of, is_ahead, is_before, moved, steps_left, Answers, Steps, IsAtFirst, IsBeforeAll, Walk, put_entry, entries_where, entries_from, entries, entries_ahead, keys_of, keys, keys_ahead}
+use Rattle.triple_arena.specs.Walks.{Stand, place_of, is_ahead, moved, steps_left, Answers, Steps, IsAtFirst, IsBeforeAll, Walk, put_entry, entries_where, entries_from, entries, entries_ahead, entries_behind, keys_of, keys, keys_ahead}
 
 positive : (n : ℕ) → nat_lt 0 (suc n) ≡ true
 positive n = le-leb 1 (suc n) (omega arith)
@@ -183,6 +183,36 @@ module _ {T : Type 0} where
       let no' = same at zero (omega arith) refl (λ h. absurd (omega arith)) ∙ no in
       rw (no, no') (entries_taken f g (at + 1) xs i k e (omega arith) found was gone (λ j m at'. none j (suc m) (omega arith)) (λ j m at'. same j (suc m) (omega arith)))
 
+  -- none where the test holds of no live index
+  entries_none : (f : ℕ → Bool) (at : ℕ) (xs : List (Option (ℕ × T))) → ((j k : ℕ) → j ≡ at + k → IsSome (joined (slice_get xs k)) → f j ≡ false) → entries_where f at xs ≡ []
+  entries_none f at [] none = refl
+  entries_none f at (None ∷ xs) none = entries_none f (at + 1) xs (λ j k e. none j (suc k) (omega arith))
+  entries_none f at (Some x ∷ xs) none =
+      rw (none at zero (omega arith) refl) (entries_none f (at + 1) xs (λ j k e. none j (suc k) (omega arith)))
+
+  put_append : (asked : Bool) (at : ℕ) (o : Option (ℕ × T)) (xs ys : List (Pointer × T)) → put_entry asked at o (xs ++ ys) ≡ put_entry asked at o xs ++ ys
+  put_append asked at None xs ys = refl
+  put_append true at (Some e) xs ys = refl
+  put_append false at (Some e) xs ys = refl
+
+  -- one that adds the last of them
+  entries_given : (f g : ℕ → Bool) (at : ℕ) (xs : List (Option (ℕ × T))) (i k : ℕ) (e : ℕ × T) → i ≡ at + k → slice_get xs k ≡ Some (Some e) → f i ≡ false → g i ≡ true → ((j m : ℕ) → j ≡ at + m → IsSome (joined (slice_get xs m)) → i < j → f j ≡ false) → ((j m : ℕ) → j ≡ at + m → IsSome (joined (slice_get xs m)) → j ≢ i → g j ≡ f j) → entries_where g at xs ≡ entries_where f at xs ++ ((i, e.0), e.1) ∷ []
+  entries_given f g at [] i k e place found was now none same = absurd (cc)
+  entries_given f g at (None ∷ xs) i zero e place found was now none same = absurd (cc)
+  entries_given f g at (Some x ∷ xs) i zero e place found was now none same =
+      let here : at ≡ i = omega arith in
+      let is : x ≡ e = cc in
+      let rest : entries_where f (at + 1) xs ≡ [] = entries_none f (at + 1) xs (λ j m at' live. none j (suc m) (omega arith) live (omega arith)) in
+      let rest' : entries_where g (at + 1) xs ≡ [] = entries_agree g f (at + 1) xs (λ j m at' live. same j (suc m) (omega arith) live (λ h. absurd (omega arith))) ∙ rest in
+      rw (here, was, now, rw here at rest, rw here at rest', is) refl
+  entries_given f g at (None ∷ xs) i (suc k) e place found was now none same =
+      entries_given f g (at + 1) xs i k e (omega arith) found was now (λ j m at'. none j (suc m) (omega arith)) (λ j m at'. same j (suc m) (omega arith))
+  entries_given f g at (Some x ∷ xs) i (suc k) e place found was now none same =
+      let later = entries_given f g (at + 1) xs i k e (omega arith) found was now (λ j m at'. none j (suc m) (omega arith)) (λ j m at'. same j (suc m) (omega arith)) in
+      ap (λ asked. put_entry asked at (Some x) (entries_where g (at + 1) xs)) (same at zero (omega arith) refl (λ h. absurd (omega arith)))
+      ∙ ap (put_entry (f at) at (Some x)) later
+      ∙ put_append (f at) at (Some x) (entries_where f (at + 1) xs) (((i, e.0), e.1) ∷ [])
+
   live_slot : (slots : List (Option (ℕ × T))) (j k : ℕ) → j ≡ 1 + k → IsSome (joined (slice_get slots k)) → IsSome (entry_in slots j)
   live_slot slots zero k e live = absurd (omega arith)
   live_slot slots (suc m) k e live = let same : m ≡ k = omega arith in rw same live
@@ -190,12 +220,6 @@ module _ {T : Type 0} where
   joined_some : (o : Option (Option (ℕ × T))) (e : ℕ × T) → joined o ≡ Some e → o ≡ Some (Some e)
   joined_some None e h = absurd (cc)
   joined_some (Some o) e h = ap Some h
-
-  entries_none : (f : ℕ → Bool) (at : ℕ) (xs : List (Option (ℕ × T))) → ((j k : ℕ) → j ≡ at + k → IsSome (joined (slice_get xs k)) → f j ≡ false) → entries_where f at xs ≡ []
-  entries_none f at [] none = refl
-  entries_none f at (None ∷ xs) none = entries_none f (at + 1) xs (λ j k e. none j (suc k) (omega arith))
-  entries_none f at (Some x ∷ xs) none =
-      rw (none at zero (omega arith) refl) (entries_none f (at + 1) xs (λ j k e. none j (suc k) (omega arith)))
 
   pub length-entries_from : (at : ℕ) (xs : List (Option (ℕ × T))) → length (entries_from at xs) ≡ count_by is_some xs
   length-entries_from at [] = refl
@@ -299,14 +323,20 @@ module _ {T : Type 0} where
           by_test false e = e
           by_test true e = absurd (some_or_none _ live (s.answers.2 j e (rw forward (le-leb (suc j) p.0 below))))
 
-  -- nothing was ahead of an advancer that answers none, and nothing is
-  pub ahead_none : (greatest : ℕ) (slots : List (Option (ℕ × T))) (b a : Stand) → Steps greatest slots b None a → entries_ahead b slots ≡ []
-  ahead_none greatest slots b a s =
-      entries_none (is_ahead b) 1 slots (λ j k at live. by_test j (live_slot slots j k at live) (is_ahead b j) refl)
+  -- where none is answered, no entry was ahead, and all were behind
+  not_ahead : (greatest : ℕ) (slots : List (Option (ℕ × T))) (b a : Stand) → Steps greatest slots b None a → (j : ℕ) → IsSome (entry_in slots j) → is_ahead b j ≡ false
+  not_ahead greatest slots b a s j live = by_test (is_ahead b j) refl
     where
-      by_test : (j : ℕ) → IsSome (entry_in slots j) → (t : Bool) → is_ahead b j ≡ t → is_ahead b j ≡ false
-      by_test j live false e = e
-      by_test j live true e = absurd (some_or_none _ live (s.answers j e))
+      by_test : (t : Bool) → is_ahead b j ≡ t → is_ahead b j ≡ false
+      by_test false e = e
+      by_test true e = absurd (some_or_none _ live (s.answers j e))
+
+  pub ahead_none : (greatest : ℕ) (slots : List (Option (ℕ × T))) (b a : Stand) → Steps greatest slots b None a → entries_ahead b slots ≡ []
+  ahead_none greatest slots b a s = entries_none (is_ahead b) 1 slots (λ j k at live. not_ahead greatest slots b a s j (live_slot slots j k at live))
+
+  pub all_behind : (greatest : ℕ) (slots : List (Option (ℕ × T))) (b a : Stand) → Steps greatest slots b None a → entries_behind b slots ≡ entries slots
+  all_behind greatest slots b a s =
+      entries_agree (λ i. not (is_ahead b i)) (λ i. true) 1 slots (λ j k at live. ap not (not_ahead greatest slots b a s j (live_slot slots j k at live)))
 
   -- where every entry is ahead, all are
   pub ahead_all : (slots : List (Option (ℕ × T))) (s : Stand) → ((i : ℕ) → IsSome (entry_in slots i) → IsTrue (is_ahead s i)) → entries_ahead s slots ≡ entries slots
@@ -315,6 +345,9 @@ module _ {T : Type 0} where
   -- all entries are ahead of an advancer at the first one
   pub ahead_first : (slots : List (Option (ℕ × T))) (s : Stand) → IsAtFirst slots s → entries_ahead s slots ≡ entries slots
   ahead_first slots s first = ahead_all slots s first.all
+
+  pub none_behind : (slots : List (Option (ℕ × T))) (s : Stand) → IsAtFirst slots s → entries_behind s slots ≡ []
+  none_behind slots s first = entries_none (λ i. not (is_ahead s i)) 1 slots (λ j k at live. ap not (first.all j (live_slot slots j k at live)))
 
   -- a step keeps the direction
   pub forward_stays : (greatest : ℕ) (slots : List (Option (ℕ × T))) (b : Stand) (r : Option Pointer) (a : Stand) → Steps greatest slots b r a → a.reverse ≡ b.reverse
@@ -364,6 +397,10 @@ module _ {T : Type 0} where
   some_answer numbers greatest slots b None a s more = absurd (omega (arith, more, ap length (keys_none greatest slots b a s)))
   some_answer numbers greatest slots b (Some p) a s more = refl
 
+  slot_at : (slots : List (Option (ℕ × T))) (i : ℕ) (e : ℕ × T) → entry_in slots i ≡ Some e → (k : ℕ) × (i ≡ 1 + k) × (slice_get slots k ≡ Some (Some e))
+  slot_at slots zero e found = absurd (cc)
+  slot_at slots (suc k) e found = (k, omega arith, joined_some (slice_get slots k) e found)
+
   slot_of : (slots : List (Option (ℕ × T))) (j k : ℕ) → j ≡ 1 + k → entry_in slots j ≡ joined (slice_get slots k)
   slot_of slots zero k e = absurd (omega (arith, e))
   slot_of slots (suc m) k e = let same : m ≡ k = omega (arith, e) in rw same refl
@@ -375,13 +412,37 @@ module _ {T : Type 0} where
       let other : (j : ℕ) → is_ahead a j ≡ true → j ≢ p.0 = λ j yes e. true≢false (sym yes ∙ ap (is_ahead a) e ∙ gone) in
       entries_same (is_ahead a) 1 new slots (λ j k at yes. sym (slot_of new j k at) ∙ change.others j (other j yes) ∙ slot_of slots j k at)
 
+  written : (slots : List (Option (ℕ × T))) (i : ℕ) (w : T) → ChangesAt slots i (option_map (λ e. (e.0, w)) (entry_in slots i)) (with_value_in slots i w)
+  written slots i w =
+      changes_at slots i (option_map (λ e. (e.0, w)) (entry_in slots i)) (λ none. ap (λ slot. option_map (λ (x : ℕ × T). (x.0, w)) (joined slot)) none)
+
   pub ahead_written : (greatest : ℕ) (slots : List (Option (ℕ × T))) (b : Stand) (p : Pointer) (a : Stand) (w : T) → Steps greatest slots b (Some p) a → entries_ahead a (with_value_in slots p.0 w) ≡ entries_ahead a slots
   ahead_written greatest slots b p a w s =
-      ahead_changed greatest slots (with_value_in slots p.0 w) b p a (option_map (λ e. (e.0, w)) (entry_in slots p.0)) s
-      (changes_at slots p.0 (option_map (λ e. (e.0, w)) (entry_in slots p.0)) (λ none. ap (λ slot. option_map (λ (x : ℕ × T). (x.0, w)) (joined slot)) none))
+      ahead_changed greatest slots (with_value_in slots p.0 w) b p a (option_map (λ e. (e.0, w)) (entry_in slots p.0)) s (written slots p.0 w)
+
+  -- and the entry that was answered comes last of those behind
+  pub behind_written : (greatest : ℕ) (slots : List (Option (ℕ × T))) (b : Stand) (p : Pointer) (a : Stand) (w : T) → b.reverse ≡ false → Steps greatest slots b (Some p) a → entries_behind a (with_value_in slots p.0 w) ≡ entries_behind b slots ++ (p, w) ∷ []
+  behind_written greatest slots b p a w forward s =
+      let t = taken greatest slots b p a s in
+      let entry = (found slots p t.live).entry in
+      let change = written slots p.0 w in
+      let here : entry_in (with_value_in slots p.0 w) p.0 ≡ Some (p.1, w) = change.there ∙ ap (option_map (λ (e : ℕ × T). (e.0, w))) entry in
+      let slot = slot_at (with_value_in slots p.0 w) p.0 (p.1, w) here in
+      let from = ahead_from b p.0 forward t.was in
+      let ahead : (j : ℕ) → p.0 < j → is_ahead b j ≡ true = λ j above. rw forward (up_yes b.place j from.0 (omega (arith, from.1, above))) in
+      let was : (j k : ℕ) → j ≡ 1 + k → j ≢ p.0 → joined (slice_get (with_value_in slots p.0 w) k) ≡ joined (slice_get slots k) = λ j k at other. sym (slot_of (with_value_in slots p.0 w) j k at) ∙ change.others j other ∙ slot_of slots j k at in
+      entries_given (λ i. not (is_ahead b i)) (λ i. not (is_ahead a i)) 1 (with_value_in slots p.0 w) p.0 slot.0 (p.1, w) slot.1 slot.2 (ap not t.was) (ap not t.gone)
+      (λ j k at live above. ap not (ahead j above))
+      (λ j k at live other. ap not (t.same j (live_slot slots j k at (subst IsSome (was j k at other) live)) other))
+      ∙ ap (λ es. es ++ (p, w) ∷ []) (entries_same (λ i. not (is_ahead b i)) 1 (with_value_in slots p.0 w) slots (λ j k at yes. was j k at (λ e. true≢false (sym yes ∙ ap (λ i. not (is_ahead b i)) e ∙ ap not t.was))))
+
+  -- a walk goes on by one more step
+  pub walk_more : (greatest : ℕ) (s : Stand) (turns : List (List (Option (ℕ × T)) × Pointer)) (t : Stand) (slots : List (Option (ℕ × T))) (p : Pointer) (u : Stand) → Walk greatest s turns t → Steps greatest slots t (Some p) u → Walk greatest s (turns ++ (slots, p) ∷ []) u
+  walk_more greatest s [] t slots p u walk step = (u, subst (λ v. Steps greatest slots v (Some p) u) walk step, refl)
+  walk_more greatest s ((first, q) ∷ rest) t slots p u (v, begins, walk) step = (v, begins, walk_more greatest v rest t slots p u walk step)
 
   -- the indexes that a forward walk answers rise, from its place on
-  rises_from : (greatest low : ℕ) (s : Stand) (turns : List (List (Option (ℕ × T)) × Pointer)) (t : Stand) → s.reverse ≡ false → (s.place ≡ 0) ⊎ (low ≤ s.place) → Walk greatest s turns t → IsRising low (map (λ turn. turn.1.0) turns)
+  pub rises_from : (greatest low : ℕ) (s : Stand) (turns : List (List (Option (ℕ × T)) × Pointer)) (t : Stand) → s.reverse ≡ false → (s.place ≡ 0) ⊎ (low ≤ s.place) → Walk greatest s turns t → IsRising low (map (λ turn. turn.1.0) turns)
   rises_from greatest low s [] t forward from walk = tt
   rises_from greatest low s ((slots, p) ∷ rest) t forward from (u, step, walk) =
       let ahead = ahead_from s p.0 forward step.answers.1 in
@@ -463,10 +524,6 @@ module _ {T : Type 0} where
   key_of at (Some x ∷ xs) i (suc k) e place found =
       let later = key_of (at + 1) xs i k e (omega (arith, place)) found in
       (suc later.0, omega (arith, later.1), later.2)
-
-  slot_at : (slots : List (Option (ℕ × T))) (i : ℕ) (e : ℕ × T) → entry_in slots i ≡ Some e → (k : ℕ) × (i ≡ 1 + k) × (slice_get slots k ≡ Some (Some e))
-  slot_at slots zero e found = absurd (cc)
-  slot_at slots (suc k) e found = (k, omega arith, joined_some (slice_get slots k) e found)
 
   pub live_key : (slots : List (Option (ℕ × T))) (p : Pointer) → IsSome (look_up_in slots p) → Contains (keys slots) p
   live_key slots p live =

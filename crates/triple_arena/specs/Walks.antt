@@ -1,5 +1,5 @@
 -- Walks over the entries of an arena, by their indexes.
-use Rattle.std.specs.Prelude.{◌≡◌, ℕ, ◌+◌, ◌-◌, ◌≤◌, nat_le, nat_lt, ◌&&◌, Bool, true, false, IsTrue, IsSome, cond, List, [], ◌∷◌, map, length, Option, Some, None, max, min, ◌⊎◌}
+use Rattle.std.specs.Prelude.{◌≡◌, ℕ, ◌+◌, ◌-◌, ◌≤◌, nat_le, nat_lt, ◌&&◌, not, Bool, true, false, IsTrue, IsSome, cond, List, [], ◌∷◌, map, length, Option, Some, None, max, min, ◌⊎◌}
 use Rattle.triple_arena_ptr.specs.Pointers.{Pointer}
 use Rattle.triple_arena.specs.Entries.{entry_in, look_up_in}
 
@@ -87,6 +87,10 @@ module _ {T : Type 0} where
   -- the entries ahead of a forward stand, in the order in which they are met
   abbrev pub entries_ahead : Stand → List (Option (ℕ × T)) → List (Pointer × T)
   entries_ahead s slots = entries_where (is_ahead s) 1 slots
+
+  -- the others, in rising order: a forward stand has passed them
+  abbrev pub entries_behind : Stand → List (Option (ℕ × T)) → List (Pointer × T)
+  entries_behind s slots = entries_where (λ i. not (is_ahead s i)) 1 slots
 
   -- the pointers of entries
   abbrev pub keys_of : List (Pointer × T) → List Pointer

@@ -1,10 +1,9 @@
 //! Arenas that generic code walks.
 
-ghost use Rattle.std.specs.Prelude.{◌≡◌, ℕ, Option, map};
+ghost use Rattle.std.specs.Prelude.{◌≡◌, Option, map};
 ghost use Rattle.std.specs.Option.{option_map};
 ghost use Rattle.triple_arena_ptr.specs.Numbers.{greatest_index};
-ghost use Rattle.triple_arena.specs.Entries.{entry_in};
-ghost use Rattle.triple_arena.specs.Visits.{IsVisited};
+ghost use Rattle.triple_arena.specs.Visits.{Visits};
 ghost use Rattle.triple_arena.specs.Walks.{Steps, entries, keys, values};
 ghost use Rattle.triple_arena.specs.Drains.{IsDraining, drain_arena, drain_lender};
 
@@ -52,8 +51,8 @@ pub trait CompactArenaTrait<P: Ptr, T>: ArenaTrait<P, T> {
     /// writing. Limit and capacity stay, and it takes no memory.
     final fn for_each_mut<F: FnMut(P, &mut T)>(&mut self, mut f: F)
         requires callable { F.IsAlwaysCallable f }
-        ensures visited { (i : ℕ) → IsVisited P.numbers F.step i
-            (entry_in (Self.slots self.old) i) (entry_in (Self.slots self.new) i) }
+        ensures visited { (last : F) × Visits P.numbers F.step f
+            (entries (Self.slots self.old)) (entries (Self.slots self.new)) last }
         ensures limit { Self.limit self.new ≡ Self.limit self.old }
         ensures capacity { Self.fitting self.new ≡ Self.fitting self.old }
     {

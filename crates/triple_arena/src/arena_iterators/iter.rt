@@ -78,18 +78,22 @@ impl<'a, P: Ptr, T, S: NonZeroInxGenericStack<ArenaSlot<P, T>>> IntoIterator
 /// The pointers of the entries of an arena, in the order of their indexes.
 #[derive(Drop)]
 pub struct Ptrs<'a, P: Ptr, T, A: CompactArenaTrait<P, T>> {
-    entries: Iter<'a, P, T, A>,
+    arena: &'a A,
+    advancer: A::PtrAdvancer,
+    of: PhantomData<(P, T)>,
 }
 
 impl<'a, P: Ptr, T, A: CompactArenaTrait<P, T>> Model for Ptrs<'a, P, T, A> {
-    ghost use Rattle.std.specs.Prelude.{List};
+    ghost use Rattle.std.specs.Prelude.{List, ◌≡◌, false};
     ghost use Rattle.triple_arena_ptr.specs.Pointers.{Pointer};
-    ghost use Rattle.triple_arena.specs.Walks.{keys_of};
+    ghost use Rattle.triple_arena.specs.Walks.{keys_ahead};
 
     // What is left.
     ghost Value = { List Pointer };
 
-    ghost view = { λ i. keys_of i.entries };
+    ghost view = { λ i. keys_ahead (A.stand i.advancer) (A.slots i.arena.now) };
+
+    ghost invariant = { λ i. (A.stand i.advancer).reverse ≡ false };
 }
 
 impl<'a, P: Ptr, T, A: CompactArenaTrait<P, T>> Ptrs<'a, P, T, A> {
@@ -97,12 +101,14 @@ impl<'a, P: Ptr, T, A: CompactArenaTrait<P, T>> Ptrs<'a, P, T, A> {
         ensures { result ≡ keys (A.slots arena.now) }
     {
         Ptrs {
-            entries: Iter::over(arena),
+            arena,
+            advancer: arena.advancer(),
+            of: PhantomData,
         }
     }
 }
 
-impl<'a, P: Ptr, T: 'a, A: CompactArenaTrait<P, T>> Iterator for Ptrs<'a, P, T, A> {
+impl<'a, P: Ptr, T, A: CompactArenaTrait<P, T>> Iterator for Ptrs<'a, P, T, A> {
     type Item = P;
 
     ghost next_gives = { YieldsFirstBy P.numbers (λ rest. rest) };
@@ -110,10 +116,7 @@ impl<'a, P: Ptr, T: 'a, A: CompactArenaTrait<P, T>> Iterator for Ptrs<'a, P, T, 
     ghost remaining = { λ rest. at_most (length rest) };
 
     fn next(&mut self) -> Option<P> {
-        let Some((p, _value)) = self.entries.next() else {
-            return None;
-        };
-        Some(p)
+        self.advancer.advance(self.arena)
     }
 
     fn size_hint(&self) -> (usize, Option<usize>) {

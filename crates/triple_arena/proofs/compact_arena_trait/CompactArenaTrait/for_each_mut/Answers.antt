@@ -1,19 +1,34 @@
-use Rattle.std.proofs.Common.{◌≡◌, ◌∙◌, sym, of_calls}
-use Rattle.triple_arena.specs.Entries.{entry_in}
-use Rattle.triple_arena.specs.WalkLaws.{taken}
-use Rattle.triple_arena.proofs.Visiting.{visited_ahead, called_at}
+use Rattle.std.proofs.Common.{◌∙◌, sym, refl, of_calls}
+use Rattle.triple_arena.specs.WalkLaws.{taken, forward_stays}
+use Rattle.triple_arena.proofs.Visiting.{begins, goes_on, ends, called_at}
 use Rattle.triple_arena.proofs.compact_arena_trait.CompactArenaTrait.for_each_mut.Goals as goal
 
+pub walk-init : goal.walk-init
+walk-init g c =
+    record {
+      callable = search of_calls;
+      forward = c.advancer-advancer.ensures.forward;
+      goes_on = begins g.P.Ptr.numbers (goal.F-step g) _ _ _ c.advancer-advancer.ensures;
+      limit = refl;
+      fitting = refl;
+    }
+
 pub walk-smaller-in-Some-get_mut : goal.walk-smaller-in-Some-get_mut
-walk-smaller-in-Some-get_mut g c = (taken _ _ _ _ _ (rw c.in-Some.is at (g.met.Self.CompactArenaTrait.advanced _ _ _ _ c.advance.ensures.steps))).fewer
+walk-smaller-in-Some-get_mut g c = (taken _ _ _ _ _ (g.met.Self.CompactArenaTrait.advanced _ _ _ _ c.in-Some.ensures.steps)).fewer
 
 pub walk-preserved-in-Some-get_mut : goal.walk-preserved-in-Some-get_mut
-walk-preserved-in-Some-get_mut g c = (
-  search of_calls,
-  λ i. rw (g.met.Self.ArenaTrait.slots_with_value _ _ _) (visited_ahead g.P.Ptr.numbers (goal.F-step g) _ _ _ _ _ (entry_in (g.Self.ArenaTrait.slots c.args.self.now)) _ _
-      (g.met.Self.CompactArenaTrait.advanced _ _ _ _ c.in-Some.ensures.steps) (sym c.in-Some-get_mut.ensures.value)
-      (called_at g.P.Ptr.numbers (goal.F-step g) c.walk.f c.in-Some.p c.in-Some-get_mut.value c.f.result _ c.f.new.self c.f.ensures)
-      c.walk.invariant.1 i),
-  g.met.Self.ArenaTrait.limit_with_value _ _ _ ∙ c.walk.invariant.2,
-  g.met.Self.ArenaTrait.fitting_with_value _ _ _ ∙ c.walk.invariant.3,
-)
+walk-preserved-in-Some-get_mut g c =
+    let steps = g.met.Self.CompactArenaTrait.advanced _ _ _ _ c.in-Some.ensures.steps in
+    record {
+      callable = search of_calls;
+      forward = forward_stays _ _ _ _ _ steps ∙ c.walk.invariant.forward;
+      goes_on = rw (g.met.Self.ArenaTrait.slots_with_value _ _ _) (goes_on g.P.Ptr.numbers (goal.F-step g) _ _ _ _ _ _ _ _ _ _ _ c.walk.invariant.forward steps (sym c.in-Some-get_mut.ensures.value)
+          (called_at g.P.Ptr.numbers (goal.F-step g) c.walk.f c.in-Some.p c.in-Some-get_mut.value c.f.result _ c.f.new.self c.f.ensures)
+          c.walk.invariant.goes_on);
+      limit = g.met.Self.ArenaTrait.limit_with_value _ _ _ ∙ c.walk.invariant.limit;
+      fitting = g.met.Self.ArenaTrait.fitting_with_value _ _ _ ∙ c.walk.invariant.fitting;
+    }
+
+pub returns-clause-visited : goal.returns-clause-visited
+returns-clause-visited g c =
+    (c.walk.f, ends g.P.Ptr.numbers (goal.F-step g) _ _ _ _ _ _ _ (g.met.Self.CompactArenaTrait.advanced _ _ _ _ c.in_default.ensures.steps) c.walk.invariant.goes_on)

@@ -1,7 +1,7 @@
 //! Cloning into an arena.
 
-ghost use Rattle.std.specs.Prelude.{◌≡◌, ℕ, ◌≤◌, ◌<◌, List, Option, Result};
-ghost use Rattle.triple_arena_stack.specs.Capacity.{IsWithin};
+ghost use Rattle.std.specs.Prelude.{◌≡◌, ℕ, ◌≤◌, ◌<◌, ◌↔◌, Err, List, Option, Result};
+ghost use Rattle.triple_arena_stack.specs.Capacity.{IsWithin, IsBeyond};
 ghost use Rattle.triple_arena.specs.Entries.{KeepsEntries};
 ghost use Rattle.triple_arena.specs.FreeList.{last_index};
 ghost use Rattle.triple_arena.specs.Walks.{entries};
@@ -10,7 +10,7 @@ ghost use Rattle.triple_arena.specs.Cloning.{IsCloneAnswer, IsRoomRefusal};
 
 use crate::arena_trait::ArenaTrait;
 use crate::compact_arena_trait::CompactArenaTrait;
-use triple_arena_base::CloneFromError;
+use triple_arena_base::{CloneFromError, ReallocationError};
 use triple_arena_ptr::Ptr;
 
 /// An arena that takes over the entries of another, under the same pointers.
@@ -24,8 +24,9 @@ pub trait ArenaCloneFromWith<P: Ptr, T>: ArenaTrait<P, T> {
     /// the source's, or 2 where it has none.
     ///
     /// `Reallocation` only where the source's last index is above the capacity, and as
-    /// `reallocate_min_capacity` refuses that index; then every entry is as it was. Where memory is
-    /// there and the limit allows it, it isn't refused so. `Map` exactly where `map` refuses an
+    /// `reallocate_min_capacity` refuses that index: `BeyondMaxCapacity` exactly where the limit is
+    /// below it; then every entry is as it was. Where memory is there and the limit allows it, it
+    /// isn't refused so. `Map` exactly where `map` refuses an
     /// entry; then exactly those that were mapped before stand. The room changes only where the last
     /// index is above the capacity, and no memory is taken elsewhere.
     fn clone_from_with<U, E, A: CompactArenaTrait<P, U>, M: FnMut(P, &U) -> Result<T, E>>(
@@ -45,6 +46,10 @@ pub trait ArenaCloneFromWith<P: Ptr, T>: ArenaTrait<P, T> {
             → Self.settles self.old (last_index (A.slots source.now)) self.new }
         ensures short { IsRoomRefusal result
             → Self.fitting self.old < last_index (A.slots source.now) }
+        ensures beyond { (result
+            ≡ Err (CloneFromError.Reallocation ReallocationError.BeyondMaxCapacity))
+            ↔ ((Self.fitting self.old < last_index (A.slots source.now))
+            × IsBeyond (Self.limit self.old) (last_index (A.slots source.now))) }
         ensures given { IsWithin (Self.limit self.old) (last_index (A.slots source.now))
             → Self.gets_room self.old (last_index (A.slots source.now)) → IsRoomRefusal result
             → ⊥ };

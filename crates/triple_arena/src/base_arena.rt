@@ -746,6 +746,9 @@ impl<P: Ptr, T, S: NonZeroInxGenericStack<ArenaSlot<P, T>>> Arena<P, T, S> {
         ensures done { OnOk result (self.new ≡ ready_for S.kind self.old min_capacity) }
         ensures refused { OnErr result (self.new ≡ tidied self.old) }
         ensures short { OnErr result (capacity self.old < min_capacity) }
+        ensures beyond { (result ≡ Err ReallocationError.BeyondMaxCapacity)
+            ↔ ((capacity self.old < min_capacity) × (min_capacity ≤ greatest_index P.Inx.greatest)
+            × IsBeyond self.old.limit min_capacity) }
         ensures given { min_capacity ≤ greatest_index P.Inx.greatest
             → IsWithin self.old.limit min_capacity
             → S.has_memory (reallocated S.kind self.old min_capacity).room → IsOk result }

@@ -1,4 +1,4 @@
-use Rattle.std.proofs.Common.{of_calls, ◌≡◌, ◌∙◌, ◌≤◌, ℕ, length, map, refl, sym, ap, arith}
+use Rattle.std.proofs.Common.{of_calls, ◌≡◌, ◌∙◌, ℕ, map, refl, sym, ap, arith}
 use Rattle.std.proofs.lemmas.List.{length-map}
 use Rattle.std.specs.Option.{option_copied}
 use Rattle.std.specs.Int.NonZero.{non_zero_usize_get}

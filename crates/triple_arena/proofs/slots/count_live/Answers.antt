@@ -1,4 +1,4 @@
-use Rattle.std.proofs.Common.{◌≡◌, ◌∙◌, ◌+◌, cond, sym, ap, arith}
+use Rattle.std.proofs.Common.{◌∙◌, sym, arith}
 use Rattle.triple_arena.specs.Slot.{entry_of}
 use Rattle.triple_arena.proofs.CopyLemmas.{count_step}
 use Rattle.triple_arena.proofs.slots.count_live.Goals.{then-is_live, else-is_live}

@@ -1,4 +1,4 @@
-use Rattle.std.proofs.Common.{◌≡◌, ◌∙◌, ◌≤◌, length, map, refl, ap, arith}
+use Rattle.std.proofs.Common.{◌∙◌, ◌≤◌, length, map, refl, ap, arith}
 use Rattle.std.proofs.lemmas.List.{length-map}
 use Rattle.triple_arena.specs.ArenaState.{capacity}
 use Rattle.triple_arena.specs.FreeList.{laid_out}

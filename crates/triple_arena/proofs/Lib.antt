@@ -15,3 +15,4 @@ pub mod Listing
 pub mod Steps
 pub mod Walking
 pub mod Visiting
+pub mod CopyLemmas

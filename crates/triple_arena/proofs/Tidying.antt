@@ -4,8 +4,8 @@ use Rattle.std.proofs.lemmas.List.{length-map, drop_all, take-map}
 use Rattle.std.proofs.lemmas.List.Sums.{sum_by-cons}
 use Rattle.std.specs.Int.NonZero.{non_zero_usize_get}
 use Rattle.triple_arena.specs.Items.{item, with_item}
-use Rattle.triple_arena.specs.ArenaState.{ArenaState, is_free, IsWellFormed}
-use Rattle.triple_arena.specs.FreeList.{before, trimmed, gaps, tidied, IsRising, IsInOrder}
+use Rattle.triple_arena.specs.ArenaState.{ArenaState, is_free, IsWellFormed, arena_len, capacity}
+use Rattle.triple_arena.specs.FreeList.{before, trimmed, gaps, tidied, laid_out, IsRising, IsInOrder}
 use Rattle.triple_arena.specs.Slot.{entry_of}
 use Rattle.triple_arena.specs.EntryLaws.{entry-trimmed}
 use Rattle.triple_arena.specs.LengthLaws.{trimmed_live}
@@ -185,6 +185,11 @@ module _ {P T I G : Type 0} (number : G → ℕ) where
 
   pub LinkedFrom-root : (old es : List (ArenaSlot P T I G)) (i : ℕ) (root : Option ℕ) → LinkedFrom old es i root → root ≢ Some i
   LinkedFrom-root old es i root l = root_past es root (i + 1) (drop i (map (entry_of number) old)) i (omega arith) l.linked
+
+  -- slots whose free ones link in rising order
+  pub Shows-laid_out : (es : List (ArenaSlot P T I G)) (root : Option ℕ) (len : ℕ) (s : ArenaState T) (xs : List (Option (ℕ × T))) (counter : ℕ) → map (entry_of number) es ≡ xs → IsLinked es root (gaps 1 xs) → len ≡ arena_len (laid_out s xs counter) → length xs ≤ capacity s → Shows number es root len (laid_out s xs counter)
+  Shows-laid_out es root len s xs counter slots linked counted fits =
+      record { slots = slots; linked = linked; counted = counted; well = record { free_once = λ i. gaps_free xs i; total = gaps_total 1 xs; fits = fits } }
 
   -- the slots end with the last entry, and their free ones link in rising order
   pub Shows-tidied : (old es : List (ArenaSlot P T I G)) (root root1 : Option ℕ) (len : ℕ) (s : ArenaState T) → map (entry_of number) es ≡ trimmed (map (entry_of number) old) → IsLinked es root1 (gaps 1 (trimmed (map (entry_of number) old))) → Shows number old root len s → Shows number es root1 len (tidied s)

@@ -18,6 +18,10 @@ module _ {T : Type 0} where
   abbrev pub KeepsRoom : StackKind → ArenaState T → ℕ → Type 0
   KeepsRoom kind s m = (reallocated kind s m).room ≡ s.room
 
+  -- the arena with a place for so many: where they are past the capacity, it is reallocated
+  abbrev pub ready_for : StackKind → ArenaState T → ℕ → ArenaState T
+  ready_for kind s m = cond (nat_lt (capacity s) m) (reallocated kind s m) s
+
   -- no entry stands past this index
   abbrev pub EndsBy : ArenaState T → ℕ → Type 0
   EndsBy s x = (i : ℕ) → x < i → entry s i ≡ None

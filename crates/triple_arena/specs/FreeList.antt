@@ -15,6 +15,10 @@ module _ {A : Type 0} where
   trimmed [] = []
   trimmed (x ∷ rest) = before x (trimmed rest)
 
+  -- the greatest index of an entry, or 0 where there is none
+  abbrev pub last_index : List (Option A) → ℕ
+  last_index slots = length (trimmed slots)
+
   -- the indexes of the slots without an entry, in rising order, where the first slot has the index `at`
   abbrev pub gaps : ℕ → List (Option A) → List ℕ
   gaps at [] = []
@@ -24,6 +28,10 @@ module _ {A : Type 0} where
 -- the slots end with the last entry, and the free indexes are the gaps in rising order
 abbrev pub tidied : {T : Type 0} → ArenaState T → ArenaState T
 tidied s = record s { slots = trimmed s.slots; free = gaps 1 (trimmed s.slots) }
+
+-- these slots under this counter; the free indexes are the gaps in rising order
+abbrev pub laid_out : {T : Type 0} → ArenaState T → List (Option (ℕ × T)) → ℕ → ArenaState T
+laid_out s slots counter = record s { slots = slots; counter = counter; free = gaps 1 slots }
 
 -- the indexes that are at most n, in their order
 abbrev pub up_to : ℕ → List ℕ → List ℕ

@@ -20,4 +20,7 @@ pub mod Values
 pub mod Lent
 pub mod InsertEntry
 pub mod Drains
+pub mod Copying
+pub mod Cloning
+pub mod CloningLaws
 pub mod Disjoint

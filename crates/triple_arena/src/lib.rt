@@ -2,12 +2,16 @@
 #![tactic(auto)]
 
 mod answers;
+mod arena_clone_trait;
 mod arena_insert_trait;
 pub mod arena_iterators;
 mod arena_trait;
 mod base_arena;
 mod compact_arena_trait;
+mod copying;
 mod disjointable_arena_trait;
+mod ends;
+mod entry_slot;
 mod indexing;
 mod insert_entry;
 pub mod laws;
@@ -18,6 +22,7 @@ mod slot;
 mod slots;
 mod text;
 
+pub use arena_clone_trait::ArenaCloneFromWith;
 pub use arena_insert_trait::ArenaInsertTrait;
 pub use arena_trait::ArenaTrait;
 pub use base_arena::Arena;

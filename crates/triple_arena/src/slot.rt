@@ -8,6 +8,7 @@ ghost use Rattle.triple_arena.specs.Entries.{value_under};
 ghost use Rattle.triple_arena.specs.Disjoint.{value_of};
 ghost use Rattle.triple_arena.specs.Slot.{entry_of, next_free, with_slot_value, with_slot_generation};
 
+use crate::entry_slot::EntrySlot;
 use std::num::NonZeroUsize;
 use triple_arena_ptr::{Ptr, PtrGen};
 
@@ -192,5 +193,18 @@ impl<P: Ptr, T> ArenaSlot<P, T> {
             ArenaSlot::Allocated(own, _) => *own = generation,
             ArenaSlot::Free(_) => unreachable!(),
         }
+    }
+}
+
+impl<P: Ptr, T> EntrySlot<P, T> for ArenaSlot<P, T> {
+    // the entry, as the state of an arena has it
+    ghost entry = { entry_of P.Gen.number };
+
+    fn vacant() -> Self {
+        ArenaSlot::default()
+    }
+
+    fn holding(generation: P::Gen, value: T) -> Self {
+        ArenaSlot::Allocated(generation, value)
     }
 }

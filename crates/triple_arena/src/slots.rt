@@ -11,12 +11,17 @@ ghost use Rattle.triple_arena.specs.Items.{item, with_item};
 ghost use Rattle.triple_arena.specs.ArenaState.{ArenaState, arena_len, capacity, with_value, is_free};
 ghost use Rattle.triple_arena.specs.Insertion.{place, inserted};
 ghost use Rattle.triple_arena.specs.Ending.{removed};
-ghost use Rattle.triple_arena.specs.Entries.{with_generation_in};
-ghost use Rattle.triple_arena.specs.FreeList.{trimmed, gaps, up_to, without_free_end};
+ghost use Rattle.triple_arena.specs.Entries.{with_generation_in, entry_count};
+ghost use Rattle.triple_arena.specs.FreeList.{trimmed, last_index, gaps, up_to, without_free_end};
+ghost use Rattle.triple_arena.specs.Walks.{entries};
+ghost use Rattle.triple_arena.specs.Copying.{Copies};
 ghost use Rattle.triple_arena.specs.Slot.{entry_of, with_slot_value};
 ghost use Rattle.triple_arena.specs.Layout.{number_or_zero, Shows, IsLinked, IsFreeList, entry_at};
 ghost use Rattle.triple_arena.specs.Disjoint.{value_of};
 
+use crate::arena_trait::ArenaTrait;
+use crate::compact_arena_trait::CompactArenaTrait;
+use crate::copying::copy_entries;
 use crate::pair_call::PairCall;
 use crate::slot::{ArenaSlot, FreeLink};
 use std::marker::PhantomData;
@@ -296,6 +301,39 @@ impl<P: Ptr, T, S: NonZeroInxGenericStack<ArenaSlot<P, T>>> Slots<P, T, S> {
         pop_free_end(&mut self.stack);
     }
 
+    // Holds the entries of an arena alone, under the same pointers, each mapped by the closure, up to
+    // its first refusal, and links the gaps in rising order. Gives the number of entries.
+    pub(crate) fn copy<U, E, A: CompactArenaTrait<P, U>, M: FnMut(P, &U) -> Result<T, E>>(
+        &mut self,
+        source: &A,
+        f: M,
+    ) -> (usize, Result<(), E>)
+    where
+        T: Drop,
+        requires callable { M.IsAlwaysCallable f }
+        requires fits { last_index (A.slots source.now)
+            ≤ capacity_of (S.room self.old.stack) (S.limit self.old.stack) }
+        ensures copied { Copies P.numbers M.step f (entries (A.slots source.now)) result.1
+            (map (entry_of P.Gen.number) (S.items self.new.stack)) }
+        ensures ends { length (S.items self.new.stack) ≤ last_index (A.slots source.now) }
+        ensures linked { IsLinked (S.items self.new.stack)
+            (option_map non_zero_usize_get self.new.root)
+            (gaps 1 (map (entry_of P.Gen.number) (S.items self.new.stack))) }
+        ensures count { result.0
+            ≡ entry_count (map (entry_of P.Gen.number) (S.items self.new.stack)) }
+        ensures room { S.room self.new.stack ≡ S.room self.old.stack }
+        ensures limit { S.limit self.new.stack ≡ S.limit self.old.stack }
+    {
+        self.stack.clear();
+        let answer = copy_entries::<P, T, ArenaSlot<P, T>, S, U, E, A, M>(
+            &mut self.stack,
+            source,
+            f,
+        );
+        self.root = relink(&mut self.stack);
+        (count_live(&self.stack), answer)
+    }
+
     // The least index of an entry, if there is one.
     pub(crate) fn first_live(&self) -> Option<NonZeroUsize>
         ensures { MatchOption result
@@ -457,6 +495,19 @@ fn pop_free_end<P: Ptr, T, S: NonZeroInxGenericStack<ArenaSlot<P, T>>>(stack: &m
     'pops: while has_free_end(stack) {
         stack.pop().unwrap().into_link();
     }
+}
+
+// How many entries there are.
+fn count_live<P: Ptr, T, S: NonZeroInxGenericStack<ArenaSlot<P, T>>>(stack: &S) -> usize
+    ensures { result ≡ entry_count (map (entry_of P.Gen.number) (S.items stack.now)) }
+{
+    let mut count = 0;
+    'count: for slot in stack.as_slice() {
+        if slot.is_live() {
+            count += 1;
+        }
+    }
+    count
 }
 
 // Links the free slots in rising order, and gives the index of the first.

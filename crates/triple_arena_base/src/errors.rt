@@ -101,3 +101,25 @@ pub enum GetDisjointMutError {
     #[error("the indices overlap")]
     OverlappingIndices,
 }
+
+/// A source was not cloned whole.
+#[derive(Clone, Copy, Debug, PartialEq, Eq, Error)]
+pub enum CloneFromError<E> {
+    /// The target did not get room for the source, and no entry of it changed.
+    #[error("the target could not hold the source")]
+    Reallocation(ReallocationError),
+    /// The map refused an entry, or its clone was refused; the entries before it stand.
+    #[error("the map refused an entry")]
+    Map(E),
+}
+
+impl<E> From<ReallocationError> for CloneFromError<E> {
+    ghost use Rattle.std.specs.Prelude.{◌≡◌};
+    ghost use Rattle.triple_arena_base.specs.declared.errors.CloneFromError.TheVariants.{Reallocation};
+
+    ghost from_gives = { λ refusal e. e ≡ Reallocation refusal };
+
+    fn from(refusal: ReallocationError) -> CloneFromError<E> {
+        CloneFromError::Reallocation(refusal)
+    }
+}

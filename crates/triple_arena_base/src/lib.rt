@@ -12,7 +12,7 @@ mod tests;
 
 pub use advancer::Advancer;
 pub use errors::{
-    AllocError, ChainInsertionError, DirectInsertionError, GetDisjointMutError,
+    AllocError, ChainInsertionError, CloneFromError, DirectInsertionError, GetDisjointMutError,
     MaxCapacityReductionError, NotWithinCapacityError, OrdInsertionError, ReallocationError,
 };
 pub use invalidation::{InvalidationOption, InvalidationResult};

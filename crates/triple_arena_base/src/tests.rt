@@ -3,9 +3,9 @@ ghost use Rattle.triple_arena_base.specs.Held.{held_itself, refill_itself};
 ghost use Rattle.triple_arena_base.specs.HeldLaws.{itself_held_refill, itself_refill_held, itself_refill_refill};
 
 use crate::{
-    Advancer, AllocError, ChainInsertionError, DirectInsertionError, GetDisjointMutError,
-    InvalidationOption, InvalidationResult, MaxCapacityReductionError, NotWithinCapacityError,
-    OrdInsertionError, ReallocationError, Recast, Recaster, nzusize_iter,
+    Advancer, AllocError, ChainInsertionError, CloneFromError, DirectInsertionError,
+    GetDisjointMutError, InvalidationOption, InvalidationResult, MaxCapacityReductionError,
+    NotWithinCapacityError, OrdInsertionError, ReallocationError, Recast, Recaster, nzusize_iter,
 };
 use std::alloc;
 use std::num::NonZeroUsize;
@@ -80,6 +80,14 @@ fn refusals_have_their_texts(rt: HostRuntime) -> Result<(), Fail> {
             GetDisjointMutError::OverlappingIndices.to_string(alloc)?,
             "the indices overlap",
         ),
+        (
+            CloneFromError::<u8>::Reallocation(ReallocationError::AllocError).to_string(alloc)?,
+            "the target could not hold the source",
+        ),
+        (
+            CloneFromError::Map(3u8).to_string(alloc)?,
+            "the map refused an entry",
+        ),
     ];
     for (text, wanted) in texts.iter() {
         assert_eq!(rt; text.as_str(), *wanted);
@@ -99,6 +107,16 @@ fn a_refusal_of_std_becomes_ours(rt: HostRuntime) -> Result<(), Fail> {
     assert_eq!(rt; refused, Err(AllocError));
     let refused = ReallocationError::from(alloc::AllocError);
     assert_eq!(rt; refused, ReallocationError::AllocError);
+    Ok(())
+}
+
+#[test]
+fn a_refused_reallocation_refuses_cloning(rt: HostRuntime) -> Result<(), Fail> {
+    let refused: CloneFromError<u8> = CloneFromError::from(ReallocationError::BeyondMaxCapacity);
+    assert_eq!(rt;
+        refused,
+        CloneFromError::Reallocation(ReallocationError::BeyondMaxCapacity)
+    );
     Ok(())
 }
 

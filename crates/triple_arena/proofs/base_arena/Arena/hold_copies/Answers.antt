@@ -1,0 +1,35 @@
+use Rattle.std.proofs.Common.{◌∙◌, ◌≤◌, length, map, refl, ap, arith}
+use Rattle.std.proofs.lemmas.List.{length-map}
+use Rattle.triple_arena.specs.ArenaState.{capacity}
+use Rattle.triple_arena.specs.FreeList.{laid_out}
+use Rattle.triple_arena.specs.Slot.{entry_of}
+use Rattle.triple_arena.proofs.Links.{carried}
+use Rattle.triple_arena.proofs.Tidying.{Shows-laid_out}
+use Rattle.triple_arena.proofs.base_arena.Arena.hold_copies.Goals as goal
+
+pub invariant_of-self : goal.invariant_of-self
+invariant_of-self g c =
+    let items = g.S.NonZeroInxGenericStack.items c.copy-len.new.self.stack in
+    let xs = map (entry_of g.P.Gen.PtrGen.number) items in
+    let n = g.P.Gen.PtrGen.number c.args.counter in
+    let fits : length xs ≤ capacity c.args.self.now = omega (arith, c.copy-len.ensures.ends, c.requires.fits, length-map items (entry_of g.P.Gen.PtrGen.number)) in
+    (carried g.P.Gen.PtrGen.number _ items _ _ _ c.copy-len.result.0 _ n _ _ _ _ _ c.args.self.now (laid_out c.args.self.now xs n) c.self.invariant c.self.view_is
+    (λ _. Shows-laid_out g.P.Gen.PtrGen.number items _ c.copy-len.result.0 c.args.self.now xs n refl c.copy-len.ensures.linked c.copy-len.ensures.count fits)
+    refl
+    (c.copy-len.ensures.room ∙ ap (λ s. s.room) c.self.view_is)
+    (c.copy-len.ensures.limit ∙ ap (λ s. s.limit) c.self.view_is)
+    (ap (λ s. s.greatest) c.self.view_is)).0
+
+pub returns : goal.returns
+returns g c =
+    let items = g.S.NonZeroInxGenericStack.items c.copy-len.new.self.stack in
+    let xs = map (entry_of g.P.Gen.PtrGen.number) items in
+    let n = g.P.Gen.PtrGen.number c.args.counter in
+    let fits : length xs ≤ capacity c.args.self.now = omega (arith, c.copy-len.ensures.ends, c.requires.fits, length-map items (entry_of g.P.Gen.PtrGen.number)) in
+    let both = carried g.P.Gen.PtrGen.number _ items _ _ _ c.copy-len.result.0 _ n _ _ _ _ _ c.args.self.now (laid_out c.args.self.now xs n) c.self.invariant c.self.view_is
+    (λ _. Shows-laid_out g.P.Gen.PtrGen.number items _ c.copy-len.result.0 c.args.self.now xs n refl c.copy-len.ensures.linked c.copy-len.ensures.count fits)
+    refl
+    (c.copy-len.ensures.room ∙ ap (λ s. s.room) c.self.view_is)
+    (c.copy-len.ensures.limit ∙ ap (λ s. s.limit) c.self.view_is)
+    (ap (λ s. s.greatest) c.self.view_is) in
+    (xs, c.copy-len.ensures.copied, both.1)

@@ -1,0 +1,31 @@
+use Rattle.std.proofs.Common.{◌≡◌, ◌∙◌, sym, ap, true≢false}
+use Rattle.std.specs.Option.{option_map}
+use Rattle.triple_arena_ptr.specs.Numbers.{first_generation}
+use Rattle.triple_arena.specs.FreeList.{laid_out}
+use Rattle.triple_arena.specs.Capacity.{ready_for}
+use Rattle.triple_arena.specs.Cloning.{counter_of}
+use Rattle.triple_arena.proofs.CopyLemmas.{on_copies}
+use Rattle.triple_arena.proofs.base_arena.ArenaArenaCloneFromWith.clone_from_with.Goals.{in-Some, in-None}
+use Rattle.triple_arena.proofs.base_arena.ArenaArenaCloneFromWith.clone_from_with.Goals as goal
+
+pub returns-in-Err-clause-given : goal.returns-in-Err-clause-given
+returns-in-Err-clause-given g c within memory refusal =
+    let ok = c.in-Err.ensures.given c.last_index.ensures.indexed (rw c.last_index.ensures.value within) (rw c.last_index.ensures.value memory) in
+    true≢false (sym ok)
+
+pub returns-in-Err-hold_copies-clause-cloned : goal.returns-in-Err-hold_copies-clause-cloned
+returns-in-Err-hold_copies-clause-cloned g c answer is =
+    let number = g.P.Gen.PtrGen.number in
+    let first = first_generation g.P.Gen.PtrGen.counting in
+    let kind = g.S.NonZeroInxGenericStack.kind in
+    let counter : number c.match-singular_generation.counter ≡ counter_of first (g.A.ArenaTrait.next_generation c.args.source.now) =
+    elim c.match-singular_generation.branch [
+      | in-Some w ↦ ap number w.counter-is ∙ ap (counter_of first) (ap (option_map number) (sym w.in-Some.is) ∙ c.singular_generation.ensures)
+      | in-None w ↦ ap number w.counter-is ∙ w.two-counter.ensures ∙ ap (counter_of first) (ap (option_map number) (sym w.in-None.is) ∙ c.singular_generation.ensures)
+    ] in
+    let ready = c.in_default.ensures.done ∙ ap (ready_for kind c.args.self.now) c.last_index.ensures.value in
+    let h = c.in-Err-hold_copies.ensures in (
+      h.0,
+      on_copies _ _ _ _ _ answer _ is h.1,
+      h.2 ∙ ap (λ s. laid_out s h.0 (number c.match-singular_generation.counter)) ready ∙ ap (laid_out (ready_for kind c.args.self.now _) h.0) counter,
+    )

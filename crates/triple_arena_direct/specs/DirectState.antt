@@ -67,3 +67,7 @@ module _ {T : Type 0} where
   -- reallocation to so many: free slots past them go first
   abbrev pub reallocated : StackKind → DirectState T → ℕ → DirectState T
   reallocated kind s m = with_room_for kind (settled s m) m
+
+  -- so many slots are allowed
+  abbrev pub with_limit : DirectState T → ℕ → DirectState T
+  with_limit s x = record s { limit = Some x }

@@ -7,7 +7,7 @@ ghost use Rattle.triple_arena_ptr.specs.Numbers.{greatest_index};
 ghost use Rattle.triple_arena_stack.specs.Capacity.{IsWithin, IsBeyond};
 ghost use Rattle.triple_arena_stack.specs.StackKind.{IsOfKind};
 ghost use Rattle.triple_arena.specs.Entries.{entry_in, look_up_in};
-ghost use Rattle.triple_arena_direct.specs.DirectState.{DirectState, new_direct, generation_of, slot_count, direct_len, direct_capacity, Fits, with_value, removed, cleared, settled, with_room_for, reallocated};
+ghost use Rattle.triple_arena_direct.specs.DirectState.{DirectState, new_direct, generation_of, slot_count, direct_len, direct_capacity, Fits, with_value, removed, cleared, settled, with_room_for, reallocated, with_limit};
 ghost use Rattle.triple_arena_direct.specs.Slot.{slot_entry};
 
 use crate::direct_arena_iterators::PtrAdvancer;
@@ -17,9 +17,12 @@ use std::alloc::Global;
 use std::marker::Model;
 use std::num::NonZeroUsize;
 use triple_arena::{ArenaTrait, CompactArenaTrait};
-use triple_arena_base::{AllocError, InvalidationOption, InvalidationResult, ReallocationError};
+use triple_arena_base::{
+    AllocError, InvalidationOption, InvalidationResult, MaxCapacityReductionError,
+    ReallocationError,
+};
 use triple_arena_ptr::{Ptr, PtrGen, PtrInx};
-use triple_arena_stack::{NonZeroInxGenericStack, NonZeroInxVec};
+use triple_arena_stack::{NonZeroInxGenericStack, NonZeroInxVec, SetMaxCapacity};
 
 /// An arena over a stack of slots, whose entries are put under pointers of the caller's choice: it
 /// has no counter and no free list.
@@ -316,6 +319,17 @@ impl<P: Ptr, T, S: NonZeroInxGenericStack<DirectSlot<P, T>>> DirectArena<P, T, S
         &self.slots.stack
     }
 
+    /// Pops free slots at the end, at most `num`, and tells how many. It takes no memory, and no
+    /// entry moves.
+    pub fn pop_free_end_slots(&mut self, num: usize) -> usize
+        ensures state { self.new ≡ settled self.old (slot_count self.old - num) }
+        ensures popped { result ≡ slot_count self.old - slot_count self.new }
+    {
+        let before = self.slots.stack.len();
+        self.shorten(before.saturating_sub(num));
+        before.saturating_sub(self.slots.stack.len())
+    }
+
     // An arena over a stack that has no item.
     fn over(stack: S) -> Self
         requires { S.items stack ≡ [] }
@@ -466,6 +480,34 @@ impl<P: Ptr, T, S: NonZeroInxGenericStack<DirectSlot<P, T>>> DirectArena<P, T, S
         // By its clause, room and limit are those of the stack's kind.
         let _limit = self.slots.stack.max_capacity();
         self.slots.stack.reallocate_min_capacity(min_capacity)?;
+        Ok(())
+    }
+}
+
+impl<P: Ptr, T, S: SetMaxCapacity<DirectSlot<P, T>>> DirectArena<P, T, S> {
+    /// Sets the limit to `max_capacity`, a number of slots. It takes no memory, and the room stays:
+    /// the capacity is then the smallest of room, limit and greatest index.
+    ///
+    /// First free slots at the end go, as far as there are more slots than `max_capacity`; that
+    /// stays done where the limit is refused. Refused exactly where more slots are left.
+    pub fn set_max_capacity(&mut self, max_capacity: usize) -> Result<(), MaxCapacityReductionError>
+        ensures variant { IsOk result
+            ↔ (slot_count (settled self.old max_capacity) ≤ max_capacity) }
+        ensures done { OnOk result (self.new
+            ≡ with_limit (settled self.old max_capacity) max_capacity) }
+        ensures refused { OnErr result (self.new ≡ settled self.old max_capacity) }
+    {
+        self.shorten(max_capacity);
+        self.set_limit(max_capacity)
+    }
+
+    // Sets the limit of the stack, and leaves the slots as they are.
+    fn set_limit(&mut self, limit: usize) -> Result<(), MaxCapacityReductionError>
+        ensures variant { IsOk result ↔ (slot_count self.old ≤ limit) }
+        ensures done { OnOk result (self.new ≡ with_limit self.old limit) }
+        ensures refused { OnErr result (self.new ≡ self.old) }
+    {
+        self.slots.stack.set_max_capacity(limit)?;
         Ok(())
     }
 }

@@ -1,0 +1,117 @@
+-- How the count and the state of a direct arena follow its slots.
+use Rattle.std.proofs.Common.{◌≡◌, ℕ, ◌+◌, ◌-◌, ◌<◌, ◌≤◌, ◌^◌, List, [], ◌∷◌, zero, suc, inl, inr, map, length, take, Option, Some, None, MatchOption, is_some, IsSome, cond, min, max, refl, sym, ap, subst, ◌∙◌, arith, true, false}
+use Rattle.std.proofs.lemmas.Bool.{cases_lt}
+use Rattle.std.specs.Int.NonZero.{non_zero_usize_get}
+use Rattle.std.specs.declared.num.NonZeroUsize.{NonZeroUsize}
+use Rattle.std.specs.Option.{option_map}
+use Rattle.triple_arena_base.specs.declared.invalidation.InvalidationResult.{InvalidationResult}
+use Rattle.triple_arena_base.specs.declared.invalidation.InvalidationResult.TheVariants.{Success}
+use Rattle.triple_arena_ptr.specs.Pointers.{Pointer}
+use Rattle.triple_arena_stack.specs.StackKind.{StackKind}
+use Rattle.triple_arena.specs.Items.{item, with_item}
+use Rattle.triple_arena.specs.ItemLaws.{joined, with_item-past, item_past}
+use Rattle.triple_arena.specs.Entries.{entry_in, look_up_in, with_value_in}
+use Rattle.triple_arena.specs.Ending.{told_of}
+use Rattle.triple_arena.specs.EntryLaws.{within_room}
+use Rattle.triple_arena.specs.FreeList.{trimmed}
+use Rattle.triple_arena.proofs.ItemLists.{length-with_item, map-with_item}
+use Rattle.triple_arena.proofs.Links.{item-map_none}
+use Rattle.triple_arena.proofs.WellFormed.{entry_of_value}
+use Rattle.triple_arena_direct.specs.DirectState.{DirectState, generation_of, slot_count, direct_len, direct_capacity, Fits, with_value, removed, shortened, settled, with_room_for}
+use Rattle.triple_arena_direct.specs.StepLaws.{len-with_value, len_taken, count-shortened}
+use Rattle.triple_arena_direct.specs.Slot.{slot_entry, with_slot_value}
+use Rattle.triple_arena_direct.specs.Layout.{direct_of, entry_at, with_value_at, Counts}
+use Rattle.triple_arena_direct.specs.declared.slot.DirectSlot.{DirectSlot}
+use Rattle.triple_arena_direct.specs.declared.slot.DirectSlot.TheVariants.{Free, Allocated}
+use Rattle.triple_arena_direct.proofs.SlotEntries.{entry_item}
+
+module _ {A : Type 0} where
+  length-front : (n : ℕ) (xs : List A) → length (take n xs) ≤ length xs
+  length-front zero xs = omega arith
+  length-front (suc n) [] = omega arith
+  length-front (suc n) (x ∷ xs) = omega (arith, length-front n xs)
+
+module _ {T : Type 0} where
+  pub Counts-removed : (len : ℕ) (s : DirectState T) (i : ℕ) → IsSome (entry_in s.slots i) → Counts len s → Counts (len - 1) (removed s i)
+  Counts-removed len s i live counts =
+      record {
+        counted = omega (arith, len_taken s i live, counts.counted);
+        fits = omega (arith, length-with_item s.slots i None, counts.fits);
+      }
+
+  pub Counts-with_value : (len : ℕ) (s : DirectState T) (i : ℕ) (w : T) → Counts len s → Counts len (with_value s i w)
+  Counts-with_value len s i w counts =
+      record {
+        counted = counts.counted ∙ sym (len-with_value s i w);
+        fits = omega (arith, length-with_item s.slots i (option_map (λ (e : ℕ × T). (e.0, w)) (entry_in s.slots i)), counts.fits);
+      }
+
+  pub Counts-settled : (len : ℕ) (s : DirectState T) (m : ℕ) → Counts len s → Counts len (settled s m)
+  Counts-settled len s m counts =
+      record {
+        counted = counts.counted ∙ sym (count-shortened m s.slots);
+        fits = omega (arith, length-front (max (length (trimmed s.slots)) m) s.slots, counts.fits);
+      }
+
+  pub Counts-room : (kind : StackKind) (len : ℕ) (s : DirectState T) (m : ℕ) → Counts len s → Counts len (with_room_for kind s m)
+  Counts-room kind len s m counts =
+      record { counted = counts.counted; fits = within_room kind s.room (slot_count s) m s.greatest s.limit counts.fits }
+
+  -- the value that is read at the index of a valid pointer
+  pub value_read : (xs ys : List (Option (ℕ × T))) (p : Pointer) (i : ℕ) (v : T) → xs ≡ ys → i ≡ p.0 → is_some (look_up_in xs p) ≡ true → option_map (λ (e : ℕ × T). e.1) (entry_in xs i) ≡ Some v → look_up_in ys p ≡ Some v
+  value_read xs ys p i v same here live read =
+      let found = entry_of_value ys p.0 p.1 (ap (λ (zs : List (Option (ℕ × T))). is_some (look_up_in zs p)) (sym same) ∙ live) in
+      found.2
+      ∙ sym (ap (option_map (λ (e : ℕ × T). e.1)) found.1)
+      ∙ ap (λ n. option_map (λ (e : ℕ × T). e.1) (entry_in ys n)) (sym here)
+      ∙ ap (λ (zs : List (Option (ℕ × T))). option_map (λ (e : ℕ × T). e.1) (entry_in zs i)) (sym same)
+      ∙ read
+
+  pub entry_value_read : (xs ys : List (Option (ℕ × T))) (i j : ℕ) (v : T) → xs ≡ ys → j ≡ i → option_map (λ (e : ℕ × T). e.1) (entry_in xs j) ≡ Some v → option_map (λ (e : ℕ × T). e.1) (entry_in ys i) ≡ Some v
+  entry_value_read xs ys i j v same here read =
+      ap (λ n. option_map (λ (e : ℕ × T). e.1) (entry_in ys n)) (sym here)
+      ∙ ap (λ (zs : List (Option (ℕ × T))). option_map (λ (e : ℕ × T). e.1) (entry_in zs j)) (sym same)
+      ∙ read
+
+  -- the greatest index of an entry, from the one that is met first downward
+  pub greatest_of_all : (xs : List (Option (ℕ × T))) (o : Option NonZeroUsize) (to : ℕ) → length xs ≤ to → MatchOption o ((i : ℕ) → i ≤ to → entry_in xs i ≡ None) (λ inx. IsSome (entry_in xs (non_zero_usize_get inx)) × (non_zero_usize_get inx ≤ to) × ((i : ℕ) → i ≤ to → non_zero_usize_get inx < i → entry_in xs i ≡ None)) → MatchOption o ((i : ℕ) → entry_in xs i ≡ None) (λ inx. IsSome (entry_in xs (non_zero_usize_get inx)) × ((i : ℕ) → non_zero_usize_get inx < i → entry_in xs i ≡ None))
+  greatest_of_all xs None to all none = λ i. elim (cases_lt to i) [
+    | inl past ↦ ap joined (item_past xs i (omega (arith, past, all)))
+    | inr within ↦ none i within
+  ]
+  greatest_of_all xs (Some inx) to all found = (
+    found.0,
+    λ i above. elim (cases_lt to i) [
+      | inl past ↦ ap joined (item_past xs i (omega (arith, past, all)))
+      | inr within ↦ found.2 i within above
+    ],
+  )
+
+module _ {P T I G : Type 0} (number : G → ℕ) where
+  -- slots that are those of a state, with its count, make an arena of that state
+  pub made : (es : List (DirectSlot P T I G)) (len room : ℕ) (limit : Option ℕ) (greatest : ℕ) (s : DirectState T) → map (slot_entry number) es ≡ s.slots → room ≡ s.room → limit ≡ s.limit → greatest ≡ s.greatest → Counts len s → Counts len (direct_of number es room limit greatest) × (direct_of number es room limit greatest ≡ s)
+  made es len room limit greatest s slots r l g counts =
+      let is : direct_of number es room limit greatest ≡ s = rw (slots, r, l, g) refl in
+      (rw is counts, is)
+
+  value_written : (x : DirectSlot P T I G) (w : T) → slot_entry number (with_slot_value x w) ≡ option_map (λ (e : ℕ × T). (e.0, w)) (slot_entry number x)
+  value_written Free w = refl
+  value_written (Allocated g v) w = refl
+
+  written : (es : List (DirectSlot P T I G)) (i : ℕ) (w : T) → map (slot_entry number) (with_value_at es i (item es i) w) ≡ with_value_in (map (slot_entry number) es) i w
+  written es i w = by_item (item es i) refl
+    where
+      by_item : (o : Option (DirectSlot P T I G)) → item es i ≡ o → map (slot_entry number) (with_value_at es i o w) ≡ with_value_in (map (slot_entry number) es) i w
+      by_item None none =
+          sym (with_item-past (map (slot_entry number) es) i (option_map (λ (e : ℕ × T). (e.0, w)) (entry_at number es i)) (item-map_none (slot_entry number) es i none))
+      by_item (Some x) found =
+          map-with_item (slot_entry number) es i (with_slot_value x w)
+          ∙ ap (with_item (map (slot_entry number) es) i) (value_written x w ∙ ap (option_map (λ (e : ℕ × T). (e.0, w))) (sym (entry_item number es i x found)))
+
+  -- the arena after a write through a borrow of a value
+  pub lent : (es es' : List (DirectSlot P T I G)) (len room room' : ℕ) (limit limit' : Option ℕ) (greatest : ℕ) (s : DirectState T) (i : ℕ) (w : T) → Counts len (direct_of number es room limit greatest) → direct_of number es room limit greatest ≡ s → es' ≡ with_value_at es i (item es i) w → room' ≡ room → limit' ≡ limit → Counts len (direct_of number es' room' limit' greatest) × (direct_of number es' room' limit' greatest ≡ with_value s i w)
+  lent es es' len room room' limit limit' greatest s i w own is put r l =
+      made es' len room' limit' greatest (with_value s i w)
+      (ap (map (slot_entry number)) put ∙ written es i w ∙ ap (λ (t : DirectState T). with_value_in t.slots i w) is)
+      (r ∙ ap (λ (t : DirectState T). t.room) is) (l ∙ ap (λ (t : DirectState T). t.limit) is) (ap (λ (t : DirectState T). t.greatest) is)
+      (Counts-with_value len s i w (subst (Counts len) is own))

@@ -1,0 +1,3 @@
+pub mod SlotEntries
+pub mod Shortening
+pub mod Held

@@ -1,0 +1,24 @@
+use Rattle.std.proofs.Common.{◌∙◌, sym, refl}
+use Rattle.std.specs.Int.NonZero.{non_zero_usize_get}
+use Rattle.triple_arena_direct.specs.Slot.{with_slot_value}
+use Rattle.triple_arena.proofs.ItemLists.{item_at, with_item_at}
+use Rattle.triple_arena_direct.proofs.SlotEntries.{entry_item}
+use Rattle.triple_arena_direct.proofs.slots.Slots.value_mut.Goals as goal
+
+pub value_mut-requires-after_bounds : goal.value_mut-requires-after_bounds
+value_mut-requires-after_bounds g c κs within =
+    let found = item_at _ _ c.args.inx.ok ∙ sym (rw c.unwrap-slot.ensures at c.get_mut.ensures.value) in
+    rw (← entry_item g.P.Gen.PtrGen.number (g.S.NonZeroInxGenericStack.items c.args.self.now.stack) (non_zero_usize_get c.args.inx) c.unwrap-slot.result.now found) c.requires
+
+pub returns : goal.returns
+returns g c =
+    let found = item_at _ _ c.args.inx.ok ∙ sym (rw c.unwrap-slot.ensures at c.get_mut.ensures.value) in (
+      (
+        refl,
+        λ w. rw (found, with_item_at (g.S.NonZeroInxGenericStack.items c.args.self.now.stack) (non_zero_usize_get c.args.inx) (with_slot_value c.unwrap-slot.result.now w) c.args.inx.ok) refl,
+      ),
+      record {
+        writes_back = tt;
+        value = rw (entry_item g.P.Gen.PtrGen.number (g.S.NonZeroInxGenericStack.items c.args.self.now.stack) (non_zero_usize_get c.args.inx) c.unwrap-slot.result.now found) c.value_mut.ensures.value;
+      },
+    )

@@ -1,0 +1,73 @@
+-- What a direct arena holds, and what each call makes of it.
+use Rattle.std.specs.Prelude.{◌≡◌, ◌≤◌, ℕ, List, [], length, take, Option, Some, None, max, min}
+use Rattle.triple_arena_stack.specs.StackKind.{StackKind, reallocated_room}
+use Rattle.triple_arena_stack.specs.Capacity.{capacity_of}
+use Rattle.triple_arena.specs.Items.{with_item}
+use Rattle.triple_arena.specs.Entries.{entry_in, entry_count, with_value_in}
+use Rattle.triple_arena.specs.FreeList.{trimmed}
+
+-- by index, from 1 to the number of slots, the generation and the value of the entry that stands there, or nothing; for how
+-- many slots there is room, and how many are allowed, if there is a limit; and the greatest index
+pub record DirectState (T : Type 0) : Type 0 where
+  pub slots : List (Option (ℕ × T))
+  pub room : ℕ
+  pub limit : Option ℕ
+  pub greatest : ℕ
+
+module _ {T : Type 0} where
+  -- the generation of an entry; 0 where there is none
+  abbrev pub generation_of : Option (ℕ × T) → ℕ
+  generation_of None = 0
+  generation_of (Some e) = e.0
+
+  -- the slots without the free ones at the end, but for those up to index m
+  abbrev pub shortened : ℕ → List (Option (ℕ × T)) → List (Option (ℕ × T))
+  shortened m slots = take (max (length (trimmed slots)) m) slots
+
+  -- an arena without slots
+  abbrev pub new_direct : ℕ → Option ℕ → ℕ → DirectState T
+  new_direct room limit greatest = record { slots = []; room = room; limit = limit; greatest = greatest }
+
+  -- the number of slots
+  abbrev pub slot_count : DirectState T → ℕ
+  slot_count s = length s.slots
+
+  -- the number of entries
+  abbrev pub direct_len : DirectState T → ℕ
+  direct_len s = entry_count s.slots
+
+  -- how many slots fit without growth: the smallest of room, limit and greatest index
+  abbrev pub direct_capacity : DirectState T → ℕ
+  direct_capacity s = min (capacity_of s.room s.limit) s.greatest
+
+  -- the slots are no more than fit
+  abbrev pub Fits : DirectState T → Type 0
+  Fits s = slot_count s ≤ direct_capacity s
+
+  -- another value in the entry at an index
+  abbrev pub with_value : DirectState T → ℕ → T → DirectState T
+  with_value s i value = record s { slots = with_value_in s.slots i value }
+
+  -- removal at an index: its slot is free, also where it is the last
+  abbrev pub removed : DirectState T → ℕ → DirectState T
+  removed s i = record s { slots = with_item s.slots i None }
+
+  -- clearing: no slot is left
+  abbrev pub cleared : DirectState T → DirectState T
+  cleared s = record s { slots = [] }
+
+  -- free slots at the end go, but for those up to index m
+  abbrev pub settled : DirectState T → ℕ → DirectState T
+  settled s m = record s { slots = shortened m s.slots }
+
+  -- there is room for so many
+  abbrev pub with_room_for : StackKind → DirectState T → ℕ → DirectState T
+  with_room_for kind s m = record s { room = reallocated_room kind s.room (slot_count s) m }
+
+  -- reallocation to so many: free slots past them go first
+  abbrev pub reallocated : StackKind → DirectState T → ℕ → DirectState T
+  reallocated kind s m = with_room_for kind (settled s m) m
+
+  -- so many slots are allowed
+  abbrev pub with_limit : DirectState T → ℕ → DirectState T
+  with_limit s x = record s { limit = Some x }

@@ -1,0 +1,16 @@
+-- What the slots of a direct arena end as, where a `&mut` to a value is returned. No public clause cites this module.
+use Rattle.std.specs.Prelude.{ℕ, List}
+use Rattle.std.specs.Borrow.{Lends, Fml, RattleType, MutBor}
+use Rattle.triple_arena.specs.Items.{item}
+use Rattle.triple_arena_direct.specs.Layout.{with_value_at}
+use Rattle.triple_arena_direct.specs.declared.slot.DirectSlot.{DirectSlot}
+use Rattle.triple_arena_direct.specs.declared.slots.Slots.{Slots}
+use Rattle.triple_arena_direct.specs.contracts.slots.Slots.{the_row}
+
+module _ (P T S I G : RattleType) (items : S.Denot → List (DirectSlot P.Denot T.Denot I.Denot G.Denot)) (with_items : S.Denot → List (DirectSlot P.Denot T.Denot I.Denot G.Denot) → S.Denot) where
+  -- once the borrow ends, the entry at that index has the value that was last written
+  abbrev pub lends_slot_value : MutBor (Slots P.Denot T.Denot S.Denot I.Denot G.Denot) → ℕ → MutBor T.Denot → Fml
+  lends_slot_value slots i value =
+      Lends (the_row P T S I G) T slots value (λ w. record slots.now {
+        stack = with_items slots.now.stack (with_value_at (items slots.now.stack) i (item (items slots.now.stack) i) w);
+      })

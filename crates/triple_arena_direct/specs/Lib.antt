@@ -1,0 +1,5 @@
+pub mod DirectState
+pub mod Slot
+pub mod Layout
+pub mod Lends
+pub mod StepLaws

@@ -1,0 +1,518 @@
+//! The direct arena.
+
+ghost use Rattle.std.specs.Prelude.{◌≡◌, ℕ, ◌≤◌, ◌<◌, ◌+◌, ◌^◌, ◌↔◌, false, [], map, length, is_some, IsSome, IfSome, IsOk, OnOk, OnErr, Some, None, Err, option_copied, min, MatchOption, ◌-◌};
+ghost use Rattle.std.specs.Int.NonZero.{non_zero_usize_get};
+ghost use Rattle.std.specs.Option.{option_and_then};
+ghost use Rattle.triple_arena_ptr.specs.Numbers.{greatest_index};
+ghost use Rattle.triple_arena_stack.specs.Capacity.{IsWithin, IsBeyond};
+ghost use Rattle.triple_arena_stack.specs.StackKind.{IsOfKind};
+ghost use Rattle.triple_arena.specs.Entries.{entry_in, look_up_in};
+ghost use Rattle.triple_arena_direct.specs.DirectState.{DirectState, new_direct, generation_of, slot_count, direct_len, direct_capacity, Fits, with_value, removed, cleared, settled, with_room_for, reallocated, with_limit};
+ghost use Rattle.triple_arena_direct.specs.Slot.{slot_entry};
+
+use crate::direct_arena_iterators::PtrAdvancer;
+use crate::slot::DirectSlot;
+use crate::slots::{self, Slots};
+use std::alloc::Global;
+use std::marker::Model;
+use std::num::NonZeroUsize;
+use triple_arena::{ArenaTrait, CompactArenaTrait};
+use triple_arena_base::{
+    AllocError, InvalidationOption, InvalidationResult, MaxCapacityReductionError,
+    ReallocationError,
+};
+use triple_arena_ptr::{Ptr, PtrGen, PtrInx};
+use triple_arena_stack::{NonZeroInxGenericStack, NonZeroInxVec, SetMaxCapacity};
+
+/// An arena over a stack of slots, whose entries are put under pointers of the caller's choice: it
+/// has no counter and no free list.
+///
+/// A removal leaves a free slot, also at the end. `get`, `get_mut` and removal touch a constant
+/// number of slots and take no memory.
+#[derive(Drop)]
+pub struct DirectArena<
+    P: Ptr,
+    T,
+    S: NonZeroInxGenericStack<DirectSlot<P, T>> = NonZeroInxVec<DirectSlot<P, T>>,
+> {
+    slots: Slots<P, T, S>,
+    // How many entries there are.
+    len: usize,
+}
+
+impl<P: Ptr, T, S: NonZeroInxGenericStack<DirectSlot<P, T>>> Model for DirectArena<P, T, S> {
+    ghost use Rattle.triple_arena_direct.specs.DirectState.{DirectState};
+
+    ghost Value = { DirectState T };
+
+    ghost use Rattle.triple_arena_ptr.specs.Numbers.{greatest_index};
+    ghost use Rattle.triple_arena_direct.specs.Layout.{direct_of, Counts};
+
+    ghost view = { λ a. direct_of P.Gen.number (S.items a.slots.stack) (S.room a.slots.stack) (S.limit a.slots.stack)
+        (greatest_index P.Inx.greatest) };
+
+    ghost invariant = { λ a. Counts a.len (direct_of P.Gen.number (S.items a.slots.stack)
+        (S.room a.slots.stack) (S.limit a.slots.stack) (greatest_index P.Inx.greatest)) };
+}
+
+impl<P: Ptr, T, S: NonZeroInxGenericStack<DirectSlot<P, T>>> ArenaTrait<P, T>
+    for DirectArena<P, T, S> {
+    ghost use Rattle.std.specs.Prelude.{refl};
+    ghost use Rattle.std.proofs.Common.{ap};
+    ghost use Rattle.triple_arena_direct.specs.StepLaws.{len-with_value, slots-removed, len-removed, slots-kept, slots-cleared, slots-settled, len-settled, slots-reallocated, len-reallocated};
+
+    type PtrAdvancer = PtrAdvancer<P>;
+
+    // an advancer is seen as its stand
+    ghost stand = { λ s. s };
+
+    // the entries of the slots, and nothing for a free one
+    ghost slots = { λ s. s.slots };
+
+    // the slots are no more than fit
+    ghost valid = { Fits };
+
+    // the smallest of room, limit and greatest index
+    ghost fitting = { direct_capacity };
+
+    ghost limit = { λ s. s.limit };
+
+    ghost kind = { S.kind };
+
+    ghost has_memory = { S.has_memory };
+
+    // no slot
+    ghost fresh = { λ room limit. new_direct room limit (greatest_index P.Inx.greatest) };
+
+    // an insertion is told its generation
+    ghost next_generation = { λ _. None };
+
+    ghost with_value = { with_value };
+
+    // all stays, the generation too
+    ghost invalidates = { λ old _ new. new ≡ old };
+
+    ghost renewed = { λ s i. generation_of (entry_in s.slots i) };
+
+    // the slot is free
+    ghost removes = { λ old i new. new ≡ removed old i };
+
+    // there is no counter
+    ghost ending_wraps = { λ _. false };
+
+    // no slot is left
+    ghost clears = { λ old new. new ≡ cleared old };
+
+    ghost clearing_wraps = { λ _. false };
+
+    // free slots past the new capacity go, and then the room is changed as the stack's kind does it
+    ghost reallocates = { λ old m new. new ≡ reallocated S.kind old m };
+
+    // free slots past the capacity that was asked for go
+    ghost settles = { λ old m new. new ≡ settled old m };
+
+    // the room that the stack's kind makes of it, once those slots are gone, is the old one
+    ghost keeps_room = { λ s m. (reallocated S.kind s m).room ≡ s.room };
+
+    ghost gets_room = { λ s m. S.has_memory (reallocated S.kind s m).room };
+
+    fn new(alloc: Global) -> Self {
+        DirectArena::over(S::new(alloc))
+    }
+
+    fn with_min_capacity(alloc: Global, min_capacity: usize) -> Result<Self, AllocError> {
+        if min_capacity > P::Inx::max_index().get() {
+            return Err(AllocError);
+        }
+        match S::with_min_capacity(alloc, min_capacity) {
+            Ok(stack) => Ok(DirectArena::over(stack)),
+            Err(refusal) => Err(refusal),
+        }
+    }
+
+    fn capacity(&self) -> usize
+        ensures value { result ≡ direct_capacity self.now }
+        ensures fits { length self.now.slots ≤ result }
+        ensures indexed { result ≤ greatest_index P.Inx.greatest }
+        ensures allowed { IsWithin self.now.limit result }
+        ensures greatest { self.now.greatest ≡ greatest_index P.Inx.greatest }
+    {
+        self.slots.stack.capacity().min(P::Inx::max_index().get())
+    }
+
+    fn max_capacity(&self) -> Option<usize>
+        ensures value { result ≡ self.now.limit }
+        ensures of_kind { IsOfKind S.kind self.now.room self.now.limit }
+    {
+        self.slots.stack.max_capacity()
+    }
+
+    /// Changes the room so that there is place for `min_capacity` slots, and for those that are in
+    /// use. First free slots at the end go, as far as there are more slots than `min_capacity`; that
+    /// stays done where the rest is refused.
+    fn reallocate_min_capacity(&mut self, min_capacity: usize) -> Result<(), ReallocationError> {
+        self.shorten(min_capacity);
+        if min_capacity > P::Inx::max_index().get() {
+            return Err(ReallocationError::AllocError);
+        }
+        self.reallocate(min_capacity)
+    }
+
+    fn len(&self) -> usize
+        ensures value { result ≡ direct_len self.now }
+        ensures fits { direct_len self.now ≤ direct_capacity self.now }
+        ensures valid { Fits self.now }
+    {
+        self.len
+    }
+
+    fn singular_generation(&self) -> Option<P::Gen> {
+        None
+    }
+
+    fn get(&self, p: P) -> Option<&T> {
+        match self.slot(p.inx()) {
+            Some(slot) => slot.value_under(p.generation()),
+            None => None,
+        }
+    }
+
+    fn get_mut(&mut self, p: P) -> Option<&mut T> {
+        match self.find(p) {
+            Some(inx) => Some(self.slots.value_mut(inx)),
+            None => None,
+        }
+    }
+
+    fn get_inx(&self, inx: P::Inx) -> Option<(P::Gen, &T)> {
+        match self.slot(inx) {
+            Some(slot) => slot.entry(),
+            None => None,
+        }
+    }
+
+    fn generation_at(&self, inx: P::Inx) -> Option<P::Gen> {
+        let (generation, _value) = self.get_inx(inx)?;
+        Some(generation)
+    }
+
+    fn get_inx_mut(&mut self, inx: P::Inx) -> Option<&mut T> {
+        match self.find_inx(inx) {
+            Some(inx) => Some(self.slots.value_mut(inx)),
+            None => None,
+        }
+    }
+
+    fn find_first_inx_ptr(&self) -> Option<P> {
+        match self.first_live() {
+            Some(inx) => Some(self.ptr_at(inx)),
+            None => None,
+        }
+    }
+
+    fn find_last_inx_ptr(&self) -> Option<P> {
+        match self.last_live() {
+            Some(inx) => Some(self.ptr_at(inx)),
+            None => None,
+        }
+    }
+
+    fn advancer(&self) -> PtrAdvancer<P> {
+        PtrAdvancer::from(self.first_live())
+    }
+
+    fn advancer_inx(&self, inx: P::Inx, reverse: bool) -> PtrAdvancer<P> {
+        PtrAdvancer::at(inx, reverse)
+    }
+
+    fn invalidate(&mut self, p: P) -> InvalidationResult<P> {
+        let Some(_inx) = self.find(p) else {
+            return InvalidationResult::InvalidPtr;
+        };
+        InvalidationResult::Success(p)
+    }
+
+    fn remove(&mut self, p: P) -> InvalidationResult<T> {
+        let Some(inx) = self.find(p) else {
+            return InvalidationResult::InvalidPtr;
+        };
+        let (_generation, value) = self.take(inx);
+        InvalidationResult::Success(value)
+    }
+
+    fn remove_inx(&mut self, inx: P::Inx) -> InvalidationResult<(P::Gen, T)> {
+        let Some(inx) = self.find_inx(inx) else {
+            return InvalidationResult::InvalidPtr;
+        };
+        InvalidationResult::Success(self.take(inx))
+    }
+
+    fn clear(&mut self) -> InvalidationOption<()>
+    where
+        T: Drop,
+    {
+        self.slots.stack.clear();
+        self.len = 0;
+        InvalidationOption::Success(())
+    }
+
+    ghost slots_fresh = { λ _ _. refl };
+
+    ghost limit_fresh = { λ _ _. refl };
+
+    ghost fitting_fresh = { λ _ _. refl };
+
+    ghost slots_with_value = { λ _ _ _. refl };
+
+    ghost len_with_value = { len-with_value };
+
+    ghost limit_with_value = { λ _ _ _. refl };
+
+    ghost fitting_with_value = { λ _ _ _. refl };
+
+    ghost slots_removed = { slots-removed };
+
+    ghost len_removed = { len-removed };
+
+    ghost limit_removed = { λ _ _ _. ap (λ s. s.limit) };
+
+    ghost fitting_removed = { λ _ _ _. ap direct_capacity };
+
+    ghost slots_invalidated = { slots-kept };
+
+    ghost len_invalidated = { λ _ _ _. ap direct_len };
+
+    ghost limit_invalidated = { λ _ _ _. ap (λ s. s.limit) };
+
+    ghost fitting_invalidated = { λ _ _ _. ap direct_capacity };
+
+    ghost slots_cleared = { slots-cleared };
+
+    ghost len_cleared = { λ _ _. ap direct_len };
+
+    ghost limit_cleared = { λ _ _. ap (λ s. s.limit) };
+
+    ghost fitting_cleared = { λ _ _. ap direct_capacity };
+
+    ghost slots_reallocated = { slots-reallocated S.kind };
+
+    ghost len_reallocated = { len-reallocated S.kind };
+
+    ghost limit_reallocated = { λ _ _ _. ap (λ s. s.limit) };
+
+    ghost slots_settled = { slots-settled };
+
+    ghost len_settled = { len-settled };
+
+    ghost limit_settled = { λ _ _ _. ap (λ s. s.limit) };
+
+    ghost fitting_settled = { λ _ _ _. ap direct_capacity };
+}
+
+impl<P: Ptr, T, S: NonZeroInxGenericStack<DirectSlot<P, T>>> DirectArena<P, T, S> {
+    /// The stack of the slots.
+    pub fn backing(&self) -> &S
+        ensures slots { map (slot_entry P.Gen.number) (S.items result.now) ≡ self.now.slots }
+        ensures room { S.room result.now ≡ self.now.room }
+        ensures limit { S.limit result.now ≡ self.now.limit }
+    {
+        &self.slots.stack
+    }
+
+    /// Pops free slots at the end, at most `num`, and tells how many. It takes no memory, and no
+    /// entry moves.
+    pub fn pop_free_end_slots(&mut self, num: usize) -> usize
+        ensures state { self.new ≡ settled self.old (slot_count self.old - num) }
+        ensures popped { result ≡ slot_count self.old - slot_count self.new }
+    {
+        let before = self.slots.stack.len();
+        self.shorten(before.saturating_sub(num));
+        before.saturating_sub(self.slots.stack.len())
+    }
+
+    // An arena over a stack that has no item.
+    fn over(stack: S) -> Self
+        requires { S.items stack ≡ [] }
+        ensures { result ≡ new_direct (S.room stack) (S.limit stack)
+            (greatest_index P.Inx.greatest) }
+    {
+        DirectArena {
+            slots: Slots::over(stack),
+            len: 0,
+        }
+    }
+
+    // The slot of an index, if there is one.
+    fn slot(&self, inx: P::Inx) -> Option<&DirectSlot<P, T>>
+        ensures entry { option_and_then (slot_entry P.Gen.number) (option_copied result)
+            ≡ entry_in self.now.slots (P.Inx.number inx) }
+        ensures within { IsSome (entry_in self.now.slots (P.Inx.number inx))
+            → P.Inx.number inx ≤ greatest_index P.Inx.greatest }
+    {
+        let stack = &self.slots.stack;
+        match P::Inx::try_into_usize(inx) {
+            Some(inx) => slots::slot_at(stack, inx),
+            None => None,
+        }
+    }
+
+    // The index of a pointer, if the pointer is valid.
+    fn find(&self, p: P) -> Option<NonZeroUsize>
+        ensures index { IfSome result (λ inx. non_zero_usize_get inx ≡ (P.numbers p).0) }
+        ensures live { is_some result ≡ is_some (look_up_in self.now.slots (P.numbers p)) }
+    {
+        match self.slot(p.inx()) {
+            Some(slot) if slot.value_under(p.generation()).is_some() => {
+                P::Inx::try_into_usize(p.inx())
+            }
+            _ => None,
+        }
+    }
+
+    // An index, if an entry stands there.
+    fn find_inx(&self, inx: P::Inx) -> Option<NonZeroUsize>
+        ensures index { IfSome result (λ i. non_zero_usize_get i ≡ P.Inx.number inx) }
+        ensures live { is_some result ≡ is_some (entry_in self.now.slots (P.Inx.number inx)) }
+    {
+        match self.slot(inx) {
+            Some(slot) if slot.is_live() => P::Inx::try_into_usize(inx),
+            _ => None,
+        }
+    }
+
+    // The pointer of the entry at an index.
+    pub(crate) fn ptr_at(&self, inx: NonZeroUsize) -> P
+        requires { IsSome (entry_in self.now.slots (non_zero_usize_get inx)) }
+        ensures { (h : ℕ) × (v : T) × (entry_in self.now.slots (non_zero_usize_get inx) ≡ Some (h, v))
+            × (P.numbers result ≡ (non_zero_usize_get inx, h)) }
+    {
+        let (generation, _value) = slots::slot_at(&self.slots.stack, inx)
+            .unwrap()
+            .entry()
+            .unwrap();
+        P::_from_raw(P::Inx::try_from_usize(inx).unwrap(), generation)
+    }
+
+    // The least index of an entry at or above this one, if there is one.
+    pub(crate) fn live_from(&self, from: NonZeroUsize) -> Option<NonZeroUsize>
+        ensures { MatchOption result
+            ((i : ℕ) → non_zero_usize_get from ≤ i → entry_in self.now.slots i ≡ None)
+            (λ inx. IsSome (entry_in self.now.slots (non_zero_usize_get inx))
+            × (non_zero_usize_get from ≤ non_zero_usize_get inx)
+            × ((i : ℕ) → non_zero_usize_get from ≤ i → i < non_zero_usize_get inx
+            → entry_in self.now.slots i ≡ None)) }
+    {
+        slots::live_from(&self.slots.stack, from)
+    }
+
+    // The greatest index of an entry at or below this one, if there is one.
+    pub(crate) fn live_to(&self, to: NonZeroUsize) -> Option<NonZeroUsize>
+        ensures { MatchOption result
+            ((i : ℕ) → i ≤ non_zero_usize_get to → entry_in self.now.slots i ≡ None)
+            (λ inx. IsSome (entry_in self.now.slots (non_zero_usize_get inx))
+            × (non_zero_usize_get inx ≤ non_zero_usize_get to)
+            × ((i : ℕ) → i ≤ non_zero_usize_get to → non_zero_usize_get inx < i
+            → entry_in self.now.slots i ≡ None)) }
+    {
+        slots::live_to(&self.slots.stack, to)
+    }
+
+    // The least index of an entry, if there is one.
+    fn first_live(&self) -> Option<NonZeroUsize>
+        ensures { MatchOption result
+            ((i : ℕ) → entry_in self.now.slots i ≡ None)
+            (λ inx. IsSome (entry_in self.now.slots (non_zero_usize_get inx))
+            × ((i : ℕ) → i < non_zero_usize_get inx → entry_in self.now.slots i ≡ None)) }
+    {
+        self.live_from(NonZeroUsize::MIN)
+    }
+
+    // The greatest index of an entry, if there is one.
+    fn last_live(&self) -> Option<NonZeroUsize>
+        ensures { MatchOption result
+            ((i : ℕ) → entry_in self.now.slots i ≡ None)
+            (λ inx. IsSome (entry_in self.now.slots (non_zero_usize_get inx))
+            × ((i : ℕ) → non_zero_usize_get inx < i → entry_in self.now.slots i ≡ None)) }
+    {
+        self.live_to(self.next_slot())
+    }
+
+    // The index past the last slot, or the greatest number.
+    pub(crate) fn next_slot(&self) -> NonZeroUsize
+        ensures value { non_zero_usize_get result ≡ min (slot_count self.now + 1) (2 ^ 64 - 1) }
+        ensures past { slot_count self.now ≤ non_zero_usize_get result }
+    {
+        NonZeroUsize::MIN.saturating_add(self.slots.stack.len())
+    }
+
+    // Takes out the entry at an index.
+    fn take(&mut self, inx: NonZeroUsize) -> (P::Gen, T)
+        requires { IsSome (entry_in self.old.slots (non_zero_usize_get inx)) }
+        ensures entry { entry_in self.old.slots (non_zero_usize_get inx)
+            ≡ Some (P.Gen.number result.0, result.1) }
+        ensures state { self.new ≡ removed self.old (non_zero_usize_get inx) }
+    {
+        self.len -= 1;
+        slots::vacate(&mut self.slots.stack, inx)
+    }
+
+    // Pops the free slots at the end, as long as there are more slots than `len`.
+    fn shorten(&mut self, len: usize)
+        ensures { self.new ≡ settled self.old len }
+    {
+        slots::shorten(&mut self.slots.stack, len);
+    }
+
+    // Reallocates the stack, and leaves the slots as they are.
+    fn reallocate(&mut self, min_capacity: usize) -> Result<(), ReallocationError>
+        ensures done { OnOk result (self.new ≡ with_room_for S.kind self.old min_capacity) }
+        ensures refused { OnErr result (self.new ≡ self.old) }
+        ensures within { OnOk result (IsWithin self.old.limit min_capacity) }
+        ensures beyond { (result ≡ Err ReallocationError.BeyondMaxCapacity)
+            ↔ IsBeyond self.old.limit min_capacity }
+        ensures succeeds { IsWithin self.old.limit min_capacity
+            → (with_room_for S.kind self.old min_capacity).room ≡ self.old.room → IsOk result }
+        ensures given { IsWithin self.old.limit min_capacity
+            → S.has_memory (with_room_for S.kind self.old min_capacity).room → IsOk result }
+        ensures place { OnOk result (min_capacity ≤ greatest_index P.Inx.greatest
+            → min_capacity ≤ direct_capacity self.new) }
+    {
+        // By its clause, room and limit are those of the stack's kind.
+        let _limit = self.slots.stack.max_capacity();
+        self.slots.stack.reallocate_min_capacity(min_capacity)?;
+        Ok(())
+    }
+}
+
+impl<P: Ptr, T, S: SetMaxCapacity<DirectSlot<P, T>>> DirectArena<P, T, S> {
+    /// Sets the limit to `max_capacity`, a number of slots. It takes no memory, and the room stays:
+    /// the capacity is then the smallest of room, limit and greatest index.
+    ///
+    /// First free slots at the end go, as far as there are more slots than `max_capacity`; that
+    /// stays done where the limit is refused. Refused exactly where more slots are left.
+    pub fn set_max_capacity(&mut self, max_capacity: usize) -> Result<(), MaxCapacityReductionError>
+        ensures variant { IsOk result
+            ↔ (slot_count (settled self.old max_capacity) ≤ max_capacity) }
+        ensures done { OnOk result (self.new
+            ≡ with_limit (settled self.old max_capacity) max_capacity) }
+        ensures refused { OnErr result (self.new ≡ settled self.old max_capacity) }
+    {
+        self.shorten(max_capacity);
+        self.set_limit(max_capacity)
+    }
+
+    // Sets the limit of the stack, and leaves the slots as they are.
+    fn set_limit(&mut self, limit: usize) -> Result<(), MaxCapacityReductionError>
+        ensures variant { IsOk result ↔ (slot_count self.old ≤ limit) }
+        ensures done { OnOk result (self.new ≡ with_limit self.old limit) }
+        ensures refused { OnErr result (self.new ≡ self.old) }
+    {
+        self.slots.stack.set_max_capacity(limit)?;
+        Ok(())
+    }
+}
+
+impl<P: Ptr, T, S: NonZeroInxGenericStack<DirectSlot<P, T>>> CompactArenaTrait<P, T>
+    for DirectArena<P, T, S> {
+    ghost advanced = { λ _ _ _ _ steps. steps };
+}

@@ -1,0 +1,24 @@
+//! The iterators of a direct arena.
+
+ghost use Rattle.std.specs.Prelude.{◌≡◌};
+ghost use Rattle.triple_arena.specs.Walks.{entries};
+
+use crate::direct_arena::DirectArena;
+use crate::slot::DirectSlot;
+use triple_arena::CompactArenaTrait;
+use triple_arena::arena_iterators::Iter;
+use triple_arena_ptr::Ptr;
+use triple_arena_stack::NonZeroInxGenericStack;
+
+impl<'a, P: Ptr, T, S: NonZeroInxGenericStack<DirectSlot<P, T>>> IntoIterator
+    for &'a DirectArena<P, T, S> {
+    type Item = (P, &'a T);
+
+    type IntoIter = Iter<'a, P, T, DirectArena<P, T, S>>;
+
+    ghost into_iter_gives = { λ arena iter. iter ≡ entries arena.now.slots };
+
+    fn into_iter(self) -> Iter<'a, P, T, DirectArena<P, T, S>> {
+        self.iter()
+    }
+}

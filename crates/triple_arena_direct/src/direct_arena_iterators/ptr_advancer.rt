@@ -1,0 +1,136 @@
+//! The advancer of a direct arena.
+
+ghost use Rattle.std.specs.Prelude.{◌≡◌, ◌+◌, ◌-◌, cond, false};
+ghost use Rattle.std.specs.Int.NonZero.{non_zero_usize_get};
+ghost use Rattle.std.specs.Option.{option_map};
+ghost use Rattle.triple_arena_ptr.specs.Numbers.{greatest_index};
+ghost use Rattle.triple_arena.specs.Layout.{number_or_zero};
+ghost use Rattle.triple_arena.specs.Walks.{place_of, standing_at, steps_left, Steps};
+
+use crate::direct_arena::DirectArena;
+use crate::slot::DirectSlot;
+use std::marker::{Model, PhantomData};
+use std::num::NonZeroUsize;
+use triple_arena::ArenaTrait;
+use triple_arena_base::Advancer;
+use triple_arena_ptr::{Ptr, PtrInx};
+use triple_arena_stack::NonZeroInxGenericStack;
+
+/// A place in an arena, or none, and a direction: it goes from live index to live index.
+///
+/// A forward one answers the pointer of the least live index at or above its place, and then stands
+/// one past it; where there is none, one past the greater of its place and the index after the last
+/// slot. One in reverse answers that of the greatest live index at or below its place, and then
+/// stands one below it; where there is none, nowhere. The arena may change between two steps: the
+/// place of a forward one only rises, and that of one in reverse only falls, so that each walk ends.
+#[derive(Drop)]
+pub struct PtrAdvancer<P: Ptr> {
+    // None is nowhere.
+    place: Option<NonZeroUsize>,
+    reverse: bool,
+    of: PhantomData<P>,
+}
+
+impl<P: Ptr> Model for PtrAdvancer<P> {
+    ghost use Rattle.triple_arena.specs.Walks.{Stand};
+    ghost use Rattle.triple_arena.specs.Layout.{number_or_zero};
+
+    ghost Value = { Stand };
+
+    ghost view = { λ a. record { place = number_or_zero a.place; reverse = a.reverse } };
+}
+
+impl<P: Ptr> PtrAdvancer<P> {
+    // A forward one at an index, or nowhere.
+    pub(crate) fn from(place: Option<NonZeroUsize>) -> Self
+        ensures { result ≡ record { place = number_or_zero place; reverse = false } }
+    {
+        PtrAdvancer {
+            place,
+            reverse: false,
+            of: PhantomData,
+        }
+    }
+
+    // One at the index that is named.
+    pub(crate) fn at(inx: P::Inx, reverse: bool) -> Self
+        ensures { result ≡ standing_at
+            (greatest_index P.Inx.greatest) (P.Inx.number inx) reverse }
+    {
+        let place = match P::Inx::try_into_usize(inx) {
+            Some(inx) => Some(inx),
+            None if reverse => Some(P::Inx::max_index()),
+            None => None,
+        };
+        PtrAdvancer {
+            place,
+            reverse,
+            of: PhantomData,
+        }
+    }
+
+    // Goes on from an answer at an index.
+    fn pass(&mut self, inx: NonZeroUsize)
+        ensures { self.new ≡ record self.old {
+          place = cond self.old.reverse (non_zero_usize_get inx - 1)
+              (place_of (greatest_index P.Inx.greatest) (non_zero_usize_get inx + 1));
+        } }
+    {
+        self.place = if self.reverse {
+            NonZeroUsize::new(inx.get() - 1)
+        } else {
+            place_after::<P>(inx)
+        };
+    }
+}
+
+impl<P: Ptr, T, S: NonZeroInxGenericStack<DirectSlot<P, T>>> Advancer<DirectArena<P, T, S>>
+    for PtrAdvancer<P> {
+    type Item = P;
+
+    ghost advances = { λ before arena answer after.
+        Steps (greatest_index P.Inx.greatest) arena.slots before (option_map P.numbers answer) after };
+
+    ghost left = { λ s _. steps_left (greatest_index P.Inx.greatest) s };
+
+    fn advance(&mut self, arena: &DirectArena<P, T, S>) -> Option<P> {
+        // By its clauses, no slot is past the greatest index.
+        let _capacity = arena.capacity();
+        let place = self.place?;
+        let found = if self.reverse {
+            arena.live_to(place)
+        } else {
+            arena.live_from(place)
+        };
+        match found {
+            Some(inx) => {
+                self.pass(inx);
+                Some(arena.ptr_at(inx))
+            }
+            None => {
+                self.place = if self.reverse {
+                    None
+                } else {
+                    place_after::<P>(place.max(arena.next_slot()))
+                };
+                None
+            }
+        }
+    }
+
+    fn empty() -> Self {
+        PtrAdvancer::from(None)
+    }
+}
+
+// The index after this one, if there is one.
+fn place_after<P: Ptr>(inx: NonZeroUsize) -> Option<NonZeroUsize>
+    ensures { number_or_zero result
+        ≡ place_of (greatest_index P.Inx.greatest) (non_zero_usize_get inx + 1) }
+{
+    let greatest = P::Inx::max_index().get();
+    match inx.checked_add(1) {
+        Some(next) if next.get() <= greatest => Some(next),
+        _ => None,
+    }
+}

@@ -1,0 +1,12 @@
+//! Arenas whose entries are put under pointers of the caller's choice.
+#![tactic(auto)]
+
+mod direct_arena;
+pub mod direct_arena_iterators;
+mod indexing;
+mod slot;
+mod slots;
+mod text;
+
+pub use direct_arena::DirectArena;
+pub use slot::DirectSlot;

@@ -9,6 +9,7 @@ pub mod graph;
 pub mod links;
 pub mod small_ptr;
 pub mod undo;
+pub mod walks;
 
 pub use counting_stack::CountingStack;
 pub use entity_table::{Entity, EntityTable};

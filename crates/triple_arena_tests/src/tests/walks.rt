@@ -193,23 +193,6 @@ fn iterators_give_the_entries_by_index(rt: HostRuntime) {
     assert_eq!(rt; numbers(&arena), [Some(12), Some(14), Some(15)]);
 }
 
-// The pointer of an item, and the number of its value.
-fn told_owned(item: Option<(P0, Token)>) -> Option<(Told, u64)> {
-    match item {
-        Some((p, token)) => Some((told_pointer(p), token.number)),
-        None => None,
-    }
-}
-
-#[test]
-fn an_arena_that_is_used_up_gives_its_entries(rt: HostRuntime) {
-    let arena = with_removed(&rt, rt.alloc(), 4, &[1, 3]);
-    let mut drain = arena.into_iter();
-    assert_eq!(rt; told_owned(drain.next()), Some((Told::At(2, 2), 2)));
-    assert_eq!(rt; told_owned(drain.next()), Some((Told::At(4, 2), 4)));
-    assert_eq!(rt; told_owned(drain.next()), None);
-}
-
 // What a step of a drain takes out: a pointer and the number of its value, and whether the counter
 // wrapped.
 type Drained = Option<(Told, u64, bool)>;

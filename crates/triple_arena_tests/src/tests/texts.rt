@@ -2,10 +2,10 @@
 
 use super::arenas::{Fixed, Heap, Limited, Places, new_arena, with_room};
 use super::numbered::Numbered;
+use super::pointers::Narrow;
 use super::tables::{Call, follow};
 use super::token::Token;
 use super::told::Told;
-use super::pointers::Narrow;
 use std::alloc::{AllocError, Global};
 use std::fmt;
 use std::fmt::{Debug, Write};

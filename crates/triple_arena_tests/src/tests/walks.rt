@@ -59,7 +59,10 @@ fn advancers_go_from_entry_to_entry(rt: HostRuntime) {
     assert_eq!(rt; steps_from(&arena, inx(&rt, 4), true), [three, one, none]);
     assert_eq!(rt; steps_from(&arena, inx(&rt, 9), true), [five, three, one]);
     assert_eq!(rt; steps_from(&arena, inx(&rt, 6), false), [none, none, none]);
-    assert_eq!(rt; three_steps(&arena, &mut Advancer::<Heaped>::empty()), [none, none, none]);
+    assert_eq!(rt;
+        three_steps(&arena, &mut Advancer::<Heaped>::empty()),
+        [none, none, none]
+    );
 }
 
 #[test]
@@ -76,8 +79,9 @@ fn an_arena_without_entries_has_nothing_to_walk(rt: HostRuntime) {
 fn a_forward_advancer_goes_on_while_the_arena_changes(rt: HostRuntime) {
     let mut arena = with_removed(&rt, rt.alloc(), 5, &[2, 4]);
     let mut advancer = arena.advancer_inx(inx(&rt, 2), false);
-    assert_eq!(
-        rt; three_steps(&arena, &mut advancer), [Told::At(3, 2), Told::At(5, 2), Told::Nothing]
+    assert_eq!(rt;
+        three_steps(&arena, &mut advancer),
+        [Told::At(3, 2), Told::At(5, 2), Told::Nothing]
     );
     follow(
         &rt,
@@ -89,8 +93,9 @@ fn a_forward_advancer_goes_on_while_the_arena_changes(rt: HostRuntime) {
             (Call::Insert(9), Told::At(7, 4)),
         ],
     );
-    assert_eq!(
-        rt; three_steps(&arena, &mut advancer), [Told::At(7, 4), Told::Nothing, Told::Nothing]
+    assert_eq!(rt;
+        three_steps(&arena, &mut advancer),
+        [Told::At(7, 4), Told::Nothing, Told::Nothing]
     );
 }
 
@@ -107,8 +112,14 @@ fn wide_steps(rt: &impl Abort, alloc: Global, number: u128, reverse: bool) -> [T
 #[test]
 fn indexes_past_any_slot(rt: HostRuntime) {
     let none = Told::Nothing;
-    assert_eq!(rt; wide_steps(&rt, rt.alloc(), 1 << 64, true), [Told::At(1, 2), none, none]);
-    assert_eq!(rt; wide_steps(&rt, rt.alloc(), 1 << 64, false), [none, none, none]);
+    assert_eq!(rt;
+        wide_steps(&rt, rt.alloc(), 1 << 64, true),
+        [Told::At(1, 2), none, none]
+    );
+    assert_eq!(rt;
+        wide_steps(&rt, rt.alloc(), 1 << 64, false),
+        [none, none, none]
+    );
 }
 
 // The first three pointers.
@@ -187,7 +198,10 @@ fn iterators_give_the_entries_by_index(rt: HostRuntime) {
     let (two, four, five) = (Told::At(2, 2), Told::At(4, 2), Told::At(5, 2));
     assert_eq!(rt; pointers(&arena), [two, four, five]);
     assert_eq!(rt; numbers(&arena), [Some(2), Some(4), Some(5)]);
-    assert_eq!(rt; items(&arena), [Some((two, 2)), Some((four, 4)), Some((five, 5))]);
+    assert_eq!(rt;
+        items(&arena),
+        [Some((two, 2)), Some((four, 4)), Some((five, 5))]
+    );
     assert_eq!(rt; sums(&arena), (11, 11));
     add_ten(&mut arena);
     assert_eq!(rt; numbers(&arena), [Some(12), Some(14), Some(15)]);
@@ -236,9 +250,13 @@ where
 #[test]
 fn a_drain_takes_out_each_entry(rt: HostRuntime) {
     let mut arena = with_removed(&rt, rt.alloc(), 2, &[]);
-    assert_eq!(
-        rt; drain_three(&mut arena),
-        [Some((Told::At(1, 2), 1, false)), Some((Told::At(2, 2), 2, false)), None]
+    assert_eq!(rt;
+        drain_three(&mut arena),
+        [
+            Some((Told::At(1, 2), 1, false)),
+            Some((Told::At(2, 2), 2, false)),
+            None
+        ]
     );
     follow(
         &rt,
@@ -258,7 +276,10 @@ fn a_drain_that_is_let_go_clears(rt: HostRuntime) {
     follow(
         &rt,
         &mut arena,
-        &[(Call::Slots, Told::Size(0)), (Call::Insert(4), Told::At(1, 4))],
+        &[
+            (Call::Slots, Told::Size(0)),
+            (Call::Insert(4), Told::At(1, 4)),
+        ],
     );
 }
 

@@ -2,11 +2,11 @@
 
 use super::arenas::{Fixed, Heap, Limited, Little, Places, new_arena, with_room};
 use super::numbered::Numbered;
+use super::pointers::{B, Narrow, Wide};
 use super::state::{SLOTS, assert_state, state_of};
 use super::tables::{Call, follow, follow_unchanged};
 use super::token::Token;
 use super::told::Told;
-use crate::{B, Narrow, Wide};
 use std::process::Abort;
 use triple_arena::{Arena, ArenaSlot};
 use triple_arena_ptr::{P0, P4, Ptr};

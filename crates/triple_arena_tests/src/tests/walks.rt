@@ -12,7 +12,7 @@ use std::num::NonZeroU128;
 use std::process::Abort;
 use triple_arena::{ArenaTrait, CompactArenaTrait};
 use triple_arena_base::{Advancer, InvalidationOption};
-use triple_arena_ptr::{P0, Ptr};
+use triple_arena_ptr::{Ptr, Q2};
 
 // What an advancer answers in three steps.
 fn three_steps<P: Ptr, A: CompactArenaTrait<P, Token>>(
@@ -63,6 +63,13 @@ fn advancers_go_from_entry_to_entry(rt: HostRuntime) {
         three_steps(&arena, &mut Advancer::<Heaped>::empty()),
         [none, none, none]
     );
+}
+
+#[test]
+fn from_past_the_slots_one_in_reverse_goes_down(rt: HostRuntime) {
+    let arena = with_removed(&rt, rt.alloc(), 2, &[]);
+    let steps = steps_from(&arena, inx(&rt, 9), true);
+    assert_eq!(rt; steps, [Told::At(2, 2), Told::At(1, 2), Told::Nothing]);
 }
 
 #[test]
@@ -205,6 +212,13 @@ fn iterators_give_the_entries_by_index(rt: HostRuntime) {
     assert_eq!(rt; sums(&arena), (11, 11));
     add_ten(&mut arena);
     assert_eq!(rt; numbers(&arena), [Some(12), Some(14), Some(15)]);
+}
+
+#[test]
+fn a_walk_gives_pointers_of_the_arena_s_own_type(rt: HostRuntime) {
+    let mut arena = new_arena::<Q2, Heap<Q2>>(rt.alloc());
+    follow(&rt, &mut arena, &[(Call::Insert(7), Told::At(1, 2))]);
+    assert_eq!(rt; items(&arena), [Some((Told::At(1, 2), 7)), None, None]);
 }
 
 // What a step of a drain takes out: a pointer and the number of its value, and whether the counter

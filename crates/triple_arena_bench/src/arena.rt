@@ -1,4 +1,4 @@
-//! Insertion, reading, churn, a walk and clearing of an arena, with the pointer of general use and with
+//! Insertion, reading, churn, two walks and clearing of an arena, with the pointer of general use and with
 //! the small one, and of a plain vector with free indexes.
 
 mod plain;
@@ -31,6 +31,7 @@ struct Timings {
     get: Timing,
     churn: Timing,
     iterate: Timing,
+    write: Timing,
     clear: Timing,
 }
 
@@ -50,6 +51,7 @@ impl Timings {
             get: self.get.least(other.get),
             churn: self.churn.least(other.churn),
             iterate: self.iterate.least(other.iterate),
+            write: self.write.least(other.write),
             clear: self.clear.least(other.clear),
         }
     }
@@ -79,6 +81,7 @@ fn print(rt: &impl Print, name: &str, size: u32, timings: Timings) -> anyhow::Re
         ("get", size, timings.get),
         ("churn", size, timings.churn),
         ("iterate", size, timings.iterate),
+        ("write", size, timings.write),
         ("clear", 1, timings.clear),
     ] {
         let unit = Duration::from_nanos(calls as u64);
@@ -111,6 +114,7 @@ fn time_once<C: Clock, T: Table>(
         get: time_get(rt, size, &table, names)?,
         churn: time_churn(rt, size, &mut table, names)?,
         iterate: time_iterate(rt, &table)?,
+        write: time_write(rt, &mut table)?,
         clear: time_clear(rt, &mut table, names)?,
     })
 }
@@ -174,6 +178,15 @@ fn time_iterate<T: Table>(rt: &impl Clock, table: &T) -> anyhow::Result<Timing> 
     let start = Instant::now(rt)?;
     let sum = table.sum_all();
     let time = start.elapsed(rt)?;
+    Ok(Timing { time, sum })
+}
+
+// Nothing is read while it is timed: the sum is of all numbers afterwards.
+fn time_write<T: Table>(rt: &impl Clock, table: &mut T) -> anyhow::Result<Timing> {
+    let start = Instant::now(rt)?;
+    table.add_to_all(1);
+    let time = start.elapsed(rt)?;
+    let sum = table.sum_all();
     Ok(Timing { time, sum })
 }
 

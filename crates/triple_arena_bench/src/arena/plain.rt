@@ -48,6 +48,12 @@ impl Table for Plain {
         sum
     }
 
+    fn add_to_all(&mut self, n: u64) {
+        for number in self.numbers.iter_mut().flatten() {
+            *number = number.wrapping_add(n);
+        }
+    }
+
     fn take_out(&mut self, inx: usize) -> u64 {
         let Some(number) = self.numbers.get_mut(inx).and_then(Option::take) else {
             return 0;

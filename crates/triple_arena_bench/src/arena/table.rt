@@ -20,6 +20,9 @@ pub trait Table: Drop {
     /// The sum of all numbers, in the order in which they lie.
     fn sum_all(&self) -> u64;
 
+    /// Adds `n` to each number, modulo 2^64, in the order in which they lie.
+    fn add_to_all(&mut self, n: u64);
+
     /// Takes out the number under `name`, or gives 0.
     fn take_out(&mut self, name: Self::Name) -> u64;
 
@@ -48,6 +51,12 @@ impl<P: Ptr> Table for Arena<P, u64> {
             sum = sum.wrapping_add(*number);
         }
         sum
+    }
+
+    fn add_to_all(&mut self, n: u64) {
+        for (_p, number) in self {
+            *number = number.wrapping_add(n);
+        }
     }
 
     fn take_out(&mut self, name: P) -> u64 {

@@ -140,7 +140,7 @@ impl<P: Ptr, T: Drop, S: NonZeroInxGenericStack<ArenaSlot<P, T>> + Drop> IntoIte
 }
 
 // Goes on to the next entry, and takes it out.
-fn take_next<P: Ptr, T, A: CompactArenaTrait<P, T>>(
+pub(crate) fn take_next<P: Ptr, T, A: CompactArenaTrait<P, T>>(
     arena: &mut A,
     advancer: &mut A::PtrAdvancer,
 ) -> Option<(P, InvalidationOption<T>)>

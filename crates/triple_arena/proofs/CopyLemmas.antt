@@ -25,7 +25,7 @@ module _ {T : Type 0} where
   gap_entries at zero = refl
   gap_entries at (suc n) = gap_entries (at + 1) n
 
-  entries_append : (at : ℕ) (xs ys : List (Option (ℕ × T))) → entries_from at (xs ++ ys) ≡ entries_from at xs ++ entries_from (at + length xs) ys
+  pub entries_append : (at : ℕ) (xs ys : List (Option (ℕ × T))) → entries_from at (xs ++ ys) ≡ entries_from at xs ++ entries_from (at + length xs) ys
   entries_append at [] ys = let e : at + 0 ≡ at = omega arith in rw e refl
   entries_append at (None ∷ xs) ys = let e : at + 1 + length xs ≡ at + suc (length xs) = omega arith in rw (← e) (entries_append (at + 1) xs ys)
   entries_append at (Some x ∷ xs) ys = let e : at + 1 + length xs ≡ at + suc (length xs) = omega arith in rw (← e) (ap (λ l. ((at, x.0), x.1) ∷ l) (entries_append (at + 1) xs ys))

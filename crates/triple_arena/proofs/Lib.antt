@@ -16,3 +16,4 @@ pub mod Steps
 pub mod Walking
 pub mod Visiting
 pub mod CopyLemmas
+pub mod TransferLemmas

@@ -20,6 +20,7 @@ pub mod Values
 pub mod Lent
 pub mod InsertEntry
 pub mod Drains
+pub mod Transfers
 pub mod Copying
 pub mod Cloning
 pub mod CloningLaws

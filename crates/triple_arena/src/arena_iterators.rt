@@ -5,6 +5,7 @@ mod iter;
 mod iter_mut;
 mod ptr_advancer;
 
+pub(crate) use drain::take_next;
 pub use drain::{CapacityDrain, Drain};
 pub use iter::{Iter, Ptrs, Vals};
 pub use iter_mut::{IterMut, ValsMut};

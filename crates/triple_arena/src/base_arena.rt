@@ -17,6 +17,8 @@ ghost use Rattle.triple_arena.specs.FreeList.{tidied, laid_out, last_index, with
 ghost use Rattle.triple_arena.specs.Capacity.{with_room_for, reallocated, ready_for, KeepsRoom, EndsBy, ready_for_limit, with_limit, grown};
 ghost use Rattle.triple_arena.specs.Walks.{entries};
 ghost use Rattle.triple_arena.specs.Copying.{Copies};
+ghost use Rattle.triple_arena.specs.Transfers.{Transfers};
+ghost use Rattle.triple_arena.specs.Entries.{entry_count};
 ghost use Rattle.triple_arena.specs.Cloning.{counter_of};
 ghost use Rattle.triple_arena.specs.Slot.{entry_of};
 ghost use Rattle.triple_arena.specs.Disjoint.{value_of};
@@ -28,6 +30,7 @@ use crate::arena_clone_trait::ArenaCloneFromWith;
 use crate::arena_insert_trait::ArenaInsertTrait;
 use crate::arena_iterators::PtrAdvancer;
 use crate::arena_trait::ArenaTrait;
+use crate::arena_transfer_trait::ArenaTransfer;
 use crate::compact_arena_trait::CompactArenaTrait;
 use crate::disjointable_arena_trait::DisjointableArenaTrait;
 use crate::ends::last_index;
@@ -451,6 +454,58 @@ impl<P: Ptr, T, S: NonZeroInxGenericStack<ArenaSlot<P, T>>> ArenaCloneFromWith<P
     ghost fitting_cloned = { fitting-cloned S.kind (first_generation P.Gen.counting) };
 }
 
+impl<P: Ptr, T, S: NonZeroInxGenericStack<ArenaSlot<P, T>>> ArenaTransfer<P, T> for Arena<P, T, S> {
+    ghost use Rattle.triple_arena.specs.CloningLaws.{slots-transferred, limit-transferred, fitting-transferred, next-transferred};
+
+    // what was given stands, in room for so many; no index is free, and the counter is the new
+    // generation
+    ghost transfers = { λ old generation put new.
+        new ≡ laid_out (ready_for S.kind old (length put)) put generation };
+
+    fn transfer_reallocating<
+        Q: Ptr,
+        U,
+        A: CompactArenaTrait<Q, U>,
+        M: FnMut(Q, InvalidationOption<U>, P) -> T,
+    >(&mut self, new_generation: P::Gen, source: &mut A, map: M) -> Result<(), ReallocationError>
+    where
+        T: Drop,
+        requires callable { M.IsAlwaysCallable map }
+        ensures done { OnOk result ((put : List (Option (ℕ × T)))
+            × Transfers Q.numbers P.numbers M.step A.slots A.removes A.ending_wraps
+            (P.Gen.number new_generation) map source.old source.new put
+            × (self.new ≡ laid_out (ready_for S.kind self.old (length put)) put
+            (P.Gen.number new_generation))) }
+        ensures counted { OnOk result (arena_len self.new ≡ entry_count (A.slots source.old)) }
+        ensures emptied { OnOk result (entry_count (A.slots source.new) ≡ 0) }
+        ensures refused { OnErr result (self.new ≡ tidied self.old) }
+        ensures whole { OnErr result (source.new ≡ source.old) }
+        ensures short { OnErr result (capacity self.old < entry_count (A.slots source.old)) }
+        ensures indexed { OnOk result (entry_count (A.slots source.old)
+            ≤ greatest_index P.Inx.greatest) }
+        ensures beyond { (result ≡ Err ReallocationError.BeyondMaxCapacity)
+            ↔ ((capacity self.old < entry_count (A.slots source.old))
+            × (entry_count (A.slots source.old) ≤ greatest_index P.Inx.greatest)
+            × IsBeyond self.old.limit (entry_count (A.slots source.old))) }
+        ensures given { entry_count (A.slots source.old) ≤ greatest_index P.Inx.greatest
+            → IsWithin self.old.limit (entry_count (A.slots source.old))
+            → S.has_memory (reallocated S.kind self.old (entry_count (A.slots source.old))).room
+            → IsOk result }
+    {
+        self.make_room(source.len())?;
+        self.take_over(new_generation, source, map);
+        Ok(())
+    }
+
+    ghost slots_transferred = { slots-transferred S.kind };
+
+    ghost limit_transferred = { limit-transferred S.kind };
+
+    ghost fitting_transferred = { fitting-transferred S.kind };
+
+    ghost next_transferred = { next-transferred S.kind };
+}
+
 impl<P: Ptr, T, S: NonZeroInxGenericStack<ArenaSlot<P, T>>> DisjointableArenaTrait<P, T>
     for Arena<P, T, S> {
     fn with_disjoint_mut<R, F: FnOnce(&mut T, &mut T) -> R>(
@@ -753,6 +808,7 @@ impl<P: Ptr, T, S: NonZeroInxGenericStack<ArenaSlot<P, T>>> Arena<P, T, S> {
             → IsWithin self.old.limit min_capacity
             → S.has_memory (reallocated S.kind self.old min_capacity).room → IsOk result }
         ensures place { OnOk result (min_capacity ≤ capacity self.new) }
+        ensures indexed { OnOk result (min_capacity ≤ greatest_index P.Inx.greatest) }
     {
         if min_capacity <= self.capacity() {
             return Ok(());
@@ -780,6 +836,30 @@ impl<P: Ptr, T, S: NonZeroInxGenericStack<ArenaSlot<P, T>>> Arena<P, T, S> {
         self.len = len;
         self.counter = counter;
         answer
+    }
+
+    // Takes the entries of an arena out, one by one in order, and holds them alone, from index 1 on,
+    // each mapped by the closure, under this generation.
+    fn take_over<Q: Ptr, U, A: CompactArenaTrait<Q, U>, M: FnMut(Q, InvalidationOption<U>, P) -> T>(
+        &mut self,
+        generation: P::Gen,
+        source: &mut A,
+        f: M,
+    )
+    where
+        T: Drop,
+        requires callable { M.IsAlwaysCallable f }
+        requires fits { entry_count (A.slots source.old) ≤ capacity self.old }
+        ensures transferred { (put : List (Option (ℕ × T)))
+            × Transfers Q.numbers P.numbers M.step A.slots A.removes A.ending_wraps
+            (P.Gen.number generation) f source.old source.new put
+            × (self.new ≡ laid_out self.old put (P.Gen.number generation))
+            × (length put ≡ entry_count (A.slots source.old)) }
+        ensures emptied { entry_count (A.slots source.new) ≡ 0 }
+        ensures counted { arena_len self.new ≡ entry_count (A.slots source.old) }
+    {
+        self.len = self.slots.take_over(generation, source, f);
+        self.counter = generation;
     }
 
     // Grows where there are as many entries as the capacity.

@@ -4,6 +4,7 @@ ghost use Rattle.std.specs.Prelude.{◌≡◌, ◌≢◌, ◌<◌, ◌≤◌, �
 ghost use Rattle.std.specs.Borrow.{sem};
 ghost use Rattle.std.specs.Int.NonZero.{non_zero_usize_get};
 ghost use Rattle.std.specs.Option.{option_map};
+ghost use Rattle.triple_arena_ptr.specs.Numbers.{greatest_index};
 ghost use Rattle.triple_arena_stack.specs.StackKind.{reallocated_room, IsOfKind};
 ghost use Rattle.triple_arena_stack.specs.Capacity.{capacity_of, IsWithin, IsBeyond};
 ghost use Rattle.triple_arena_stack.specs.Disjoint.{MayWork, Worked};
@@ -15,6 +16,7 @@ ghost use Rattle.triple_arena.specs.Entries.{with_generation_in, entry_count};
 ghost use Rattle.triple_arena.specs.FreeList.{trimmed, last_index, gaps, up_to, without_free_end};
 ghost use Rattle.triple_arena.specs.Walks.{entries};
 ghost use Rattle.triple_arena.specs.Copying.{Copies};
+ghost use Rattle.triple_arena.specs.Transfers.{Transfers};
 ghost use Rattle.triple_arena.specs.Slot.{entry_of, with_slot_value};
 ghost use Rattle.triple_arena.specs.Layout.{number_or_zero, Shows, IsLinked, IsFreeList, entry_at};
 ghost use Rattle.triple_arena.specs.Disjoint.{value_of};
@@ -24,11 +26,12 @@ use crate::compact_arena_trait::CompactArenaTrait;
 use crate::copying::copy_entries;
 use crate::pair_call::PairCall;
 use crate::slot::{ArenaSlot, FreeLink};
+use crate::transferring::transfer_entries;
 use std::marker::PhantomData;
 use std::mem;
 use std::num::NonZeroUsize;
-use triple_arena_base::{MaxCapacityReductionError, ReallocationError};
-use triple_arena_ptr::{Ptr, PtrGen};
+use triple_arena_base::{InvalidationOption, MaxCapacityReductionError, ReallocationError};
+use triple_arena_ptr::{Ptr, PtrGen, PtrInx};
 use triple_arena_stack::{NonZeroInxGenericStack, SetMaxCapacity, pair_of};
 
 /// The slots of an arena. Each free one links to the next, beginning at the root.
@@ -332,6 +335,41 @@ impl<P: Ptr, T, S: NonZeroInxGenericStack<ArenaSlot<P, T>>> Slots<P, T, S> {
         );
         self.root = relink(&mut self.stack);
         (count_live(&self.stack), answer)
+    }
+
+    // Takes the entries of an arena out, one by one in order, and holds them alone, from index 1 on,
+    // each mapped by the closure, under this generation. Gives their number.
+    pub(crate) fn take_over<
+        Q: Ptr,
+        U,
+        A: CompactArenaTrait<Q, U>,
+        M: FnMut(Q, InvalidationOption<U>, P) -> T,
+    >(&mut self, generation: P::Gen, source: &mut A, f: M) -> usize
+    where
+        T: Drop,
+        requires callable { M.IsAlwaysCallable f }
+        requires fits { entry_count (A.slots source.old)
+            ≤ capacity_of (S.room self.old.stack) (S.limit self.old.stack) }
+        requires indexed { entry_count (A.slots source.old) ≤ greatest_index P.Inx.greatest }
+        ensures transferred { Transfers Q.numbers P.numbers M.step A.slots A.removes
+            A.ending_wraps (P.Gen.number generation) f source.old source.new
+            (map (entry_of P.Gen.number) (S.items self.new.stack)) }
+        ensures emptied { entry_count (A.slots source.new) ≡ 0 }
+        ensures count { result ≡ entry_count (A.slots source.old) }
+        ensures many { length (S.items self.new.stack) ≡ entry_count (A.slots source.old) }
+        ensures root { self.new.root ≡ None }
+        ensures room { S.room self.new.stack ≡ S.room self.old.stack }
+        ensures limit { S.limit self.new.stack ≡ S.limit self.old.stack }
+    {
+        self.stack.clear();
+        self.root = None;
+        transfer_entries::<P, T, ArenaSlot<P, T>, S, Q, U, A, M>(
+            &mut self.stack,
+            generation,
+            source,
+            f,
+        );
+        self.stack.len()
     }
 
     // The least index of an entry, if there is one.

@@ -98,7 +98,8 @@ impl<P: Ptr, T, A: CompactArenaTrait<P, T>> Model for CapacityDrain<P, T, A> {
 }
 
 impl<P: Ptr, T, A: CompactArenaTrait<P, T>> CapacityDrain<P, T, A> {
-    pub(crate) fn over(arena: A) -> Self
+    /// A drain of this arena, with all its entries ahead: for the `IntoIterator` of an arena.
+    pub fn over(arena: A) -> Self
         ensures { result ≡ entries (A.slots arena) }
     {
         let advancer = arena.advancer();
@@ -139,7 +140,7 @@ impl<P: Ptr, T: Drop, S: NonZeroInxGenericStack<ArenaSlot<P, T>> + Drop> IntoIte
 }
 
 // Goes on to the next entry, and takes it out.
-fn take_next<P: Ptr, T, A: CompactArenaTrait<P, T>>(
+pub(crate) fn take_next<P: Ptr, T, A: CompactArenaTrait<P, T>>(
     arena: &mut A,
     advancer: &mut A::PtrAdvancer,
 ) -> Option<(P, InvalidationOption<T>)>

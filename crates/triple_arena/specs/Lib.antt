@@ -24,3 +24,4 @@ pub mod Copying
 pub mod Cloning
 pub mod CloningLaws
 pub mod Disjoint
+pub mod Histories

@@ -1,6 +1,6 @@
 -- Laws of histories: each model call takes every history that fits to one that fits.
 use Rattle.std.proofs.Common.{◌≡◌, ◌≢◌, ◌⊎◌, ℕ, ◌+◌, ◌<◌, ◌≤◌, ◌==◌, ◌&&◌, ◌||◌, Bool, true, false, not, List, [], ◌∷◌, ◌++◌, length, Option, Some, None, is_some, IsSome, IsTrue, cond, refl, sym, ap, subst, ◌∙◌, inl, inr, arith, true≢false}
-use Rattle.std.proofs.lemmas.Bool.{cases_eq, and_parts, or_cases}
+use Rattle.std.proofs.lemmas.Bool.{cases_eq, cases_Bool, and_parts, or_cases}
 use Rattle.std.specs.Option.{option_map}
 use Rattle.triple_arena_ptr.specs.Numbers.{raise, wraps}
 use Rattle.triple_arena_ptr.specs.Pointers.{Pointer, is_same}
@@ -13,10 +13,11 @@ use Rattle.triple_arena.specs.Ending.{removed, invalidated, cleared}
 use Rattle.triple_arena.specs.Capacity.{grown}
 use Rattle.triple_arena.specs.EntryLaws.{by_case, slots-removed, slots-invalidated, slots-cleared, slots-inserted, slots-grown}
 use Rattle.triple_arena.proofs.WellFormed.{kept-inserted, place_free, counter-removed, live_item, live_counted}
+use Rattle.triple_arena.specs.Compression.{closed_up, compressed, raised_if_any, counter_after, wraps_after}
 use Rattle.triple_arena.specs.Walks.{keys}
 use Rattle.triple_arena.specs.WalkLaws.{found}
 use Rattle.triple_arena.specs.Histories.{has, AreDistinct, ModelCall, insertion, removal, invalidation, clearing, compression, resizing, given_by, ended_by, History, begun_with, and_then, given, ended, remains, followed_by, CountsUp, is_live, Fits, Continues, IsModelCall, AreModelCalls}
-use Rattle.triple_arena.proofs.PointerLists.{has-append, has_head, has_one, one_is, one_not, false_unless, distinct-append, live_in, live_in_one, live_same, has-keys, distinct-keys}
+use Rattle.triple_arena.proofs.PointerLists.{has-append, has_head, has_one, one_is, one_not, or_none, other_index, same_is, keys_from, false_unless, distinct-append, live_in, live_in_one, live_same, has-keys, distinct-keys}
 
 -- what was given and has not ended, after a call that gave what was not given, and ended what was live
 after_call : (g e new gone : Bool) → (new ≡ true → (e ≡ false) × (gone ≡ false)) → (((g && not e) && not gone) || new) ≡ ((g || new) && not (e || gone))
@@ -168,6 +169,29 @@ module _ {T : Type 0} where
   dead : (s : ArenaState T) (p : Pointer) → arena_len s ≡ 0 → is_live s p ≡ false
   dead s p none = false_unless (is_live s p) (λ live. live_some s p live none)
 
+  -- the pointers of entries that were closed up have the new generation
+  closed_up_generation : (n at : ℕ) (values : List T) (p : Pointer) → has (keys_from at (closed_up n values)) p ≡ true → p.1 ≡ n
+  closed_up_generation n at [] p e = absurd (true≢false (sym e))
+  closed_up_generation n at (v ∷ values) p e =
+      elim (cases_Bool (is_same p (at, n))) [
+        | inl so ↦ ap (λ (q : Pointer). q.1) (same_is p (at, n) so)
+        | inr differs ↦ closed_up_generation n (at + 1) values p (sym (or_none _ _ differs) ∙ e)
+      ]
+
+  -- the history of an arena's own pointers, where no live generation is above the counter
+  pub Fits-keys : (s : ArenaState T) → ((p : Pointer) → IsTrue (is_live s p) → p.1 ≤ s.counter) → Fits (begun_with (keys s.slots)) s
+  Fits-keys s below =
+      record {
+        given_once = distinct-keys s;
+        live = λ p. sym (has-keys s p) ∙ and_true (has (keys s.slots) p);
+        given_by_now = λ p e. below p (sym (has-keys s p) ∙ e);
+        ended_before = λ p e. absurd (true≢false (sym e));
+      }
+    where
+      and_true : (b : Bool) → b ≡ (b && not false)
+      and_true true = refl
+      and_true false = refl
+
   module _ (raise : ℕ → ℕ) (s : ArenaState T) where
     -- removal ends the pointer
     moves-removed : (q : Pointer) → s.counter < raise s.counter → is_live s q ≡ true → MovesPointers s [] (q ∷ []) (removed raise s q.0)
@@ -235,6 +259,31 @@ module _ {T : Type 0} where
           rises = raised_rises up;
         }
 
+    -- compression ends every pointer, and gives those of the first indexes under the raised counter
+    moves-compressed : (values : List T) → length values ≡ arena_len s → (arena_len s ≢ 0 → s.counter < raise s.counter) → MovesPointers s (keys (closed_up (raised_if_any raise s) values)) (keys s.slots) (compressed s (raised_if_any raise s) values)
+    moves-compressed values len up =
+        let t : ArenaState T = compressed s (raised_if_any raise s) values in
+        record {
+          live = λ p. sym (has-keys t p) ∙ gone_and_new (is_live s p) (has (keys s.slots) p) (has (keys t.slots) p) (sym (has-keys s p));
+          once = distinct-keys t;
+          fresh = λ p e.
+            let some = closed_up_some t.counter values p e in
+            (closed_up_generation t.counter 1 values p e, inr (rw (eq_false (arena_len s) 0 (λ none. some (len ∙ none))) (up (λ none. some (len ∙ none)))));
+          ends = λ p e.
+            let live = sym (has-keys s p) ∙ e in
+            (live, omega (arith, raised_for p e, up (live_some s p live)));
+          rises = raised_rises up;
+        }
+      where
+        closed_up_some : (n : ℕ) (vs : List T) (p : Pointer) → has (keys (closed_up n vs)) p ≡ true → length vs ≢ 0
+        closed_up_some n [] p e none = true≢false (sym e)
+        closed_up_some n (v ∷ vs) p e none = omega (arith, none)
+
+  -- after a compression with a reset, the history of the pointers that stand there fits
+  pub Fits-compressed : (s t : ArenaState T) (counter : ℕ) (values : List T) → t ≡ compressed s counter values → Fits (begun_with (keys t.slots)) t
+  Fits-compressed s t counter values is =
+      rw is (Fits-keys (compressed s counter values) (λ p live. omega (arith, closed_up_generation counter 1 values p (has-keys (compressed s counter values) p ∙ live))))
+
   -- each model call that does not wrap takes every history that fits to one that fits
   pub Continues-call : (s : ArenaState T) (call : ModelCall) (t : ArenaState T) → IsModelCall s call t → Continues s (call ∷ []) t
   Continues-call s (insertion p) t call = Continues-inserted s t p call.0 call.1 call.2 call.3
@@ -244,7 +293,8 @@ module _ {T : Type 0} where
       Continues-moved s t (invalidation p q) (rw (call.1, call.2) (moves-invalidated (λ n. n + 1) s p (omega arith) call.0))
   Continues-call s (clearing ps) t call =
       Continues-moved s t (clearing ps) (rw (call.0, call.1) (moves-cleared (λ n. n + 1) s (λ some. omega arith)))
-  Continues-call s (compression ps qs) t call = absurd call
+  Continues-call s (compression ps qs) t call =
+      Continues-moved s t (compression ps qs) (rw (call.2, call.3, call.4) (moves-compressed (λ n. n + 1) s call.0 call.1 (λ some. omega arith)))
   Continues-call s resizing t call = Continues-resized s t call.0 call.1
 
   -- and so do model calls one after another
@@ -259,20 +309,6 @@ module _ {T : Type 0} where
       followed-append : (h : History) (a b : List ModelCall) → followed_by h (a ++ b) ≡ followed_by (followed_by h a) b
       followed-append h [] b = refl
       followed-append h (call ∷ a) b = followed-append (and_then h call) a b
-
-  -- the history of an arena's own pointers, where no live generation is above the counter
-  pub Fits-keys : (s : ArenaState T) → ((p : Pointer) → IsTrue (is_live s p) → p.1 ≤ s.counter) → Fits (begun_with (keys s.slots)) s
-  Fits-keys s below =
-      record {
-        given_once = distinct-keys s;
-        live = λ p. sym (has-keys s p) ∙ and_true (has (keys s.slots) p);
-        given_by_now = λ p e. below p (sym (has-keys s p) ∙ e);
-        ended_before = λ p e. absurd (true≢false (sym e));
-      }
-    where
-      and_true : (b : Bool) → b ≡ (b && not false)
-      and_true true = refl
-      and_true false = refl
 
   -- the empty history fits every empty arena
   pub Fits-empty : (s : ArenaState T) → arena_len s ≡ 0 → Fits (begun_with []) s
@@ -330,6 +366,16 @@ module _ {T : Type 0} (counting : Bool) (greatest : ℕ) (s t : ArenaState T) wh
   Continues-invalidated p counts live is =
       Continues-moved s t (invalidation p (p.0, raise counting greatest s.counter)) (rw is (moves-invalidated (raise counting greatest) s p (up counting greatest s.counter counts) live))
 
+  -- where a raise for the entries does not wrap
+  up_for : CountsUp counting (cond (arena_len s == 0) false (wraps counting greatest s.counter)) → arena_len s ≢ 0 → s.counter < raise counting greatest s.counter
+  up_for counts some =
+      up counting greatest s.counter (counts.0, sym (ap (λ b. cond b false (wraps counting greatest s.counter)) (eq_false (arena_len s) 0 some)) ∙ counts.1)
+
   pub Continues-cleared : CountsUp counting (cond (arena_len s == 0) false (wraps counting greatest s.counter)) → t ≡ cleared (raise counting greatest) s → Continues s (clearing (keys s.slots) ∷ []) t
   Continues-cleared counts is =
-      Continues-moved s t (clearing (keys s.slots)) (rw is (moves-cleared (raise counting greatest) s (λ some. up counting greatest s.counter (counts.0, sym (ap (λ b. cond b false (wraps counting greatest s.counter)) (eq_false (arena_len s) 0 some)) ∙ counts.1))))
+      Continues-moved s t (clearing (keys s.slots)) (rw is (moves-cleared (raise counting greatest) s (up_for counts)))
+
+  pub Continues-compressed : (first : ℕ) (reset : Bool) (values : List T) → reset ≡ false → CountsUp counting (wraps_after (wraps counting greatest) reset s) → length values ≡ arena_len s → t ≡ compressed s (counter_after first (raise counting greatest) reset s) values → Continues s (compression (keys s.slots) (keys t.slots) ∷ []) t
+  Continues-compressed first true values kept counts len is = absurd (true≢false kept)
+  Continues-compressed first false values kept counts len is =
+      Continues-moved s t (compression (keys s.slots) (keys t.slots)) (rw is (moves-compressed (raise counting greatest) s values len (up_for counts)))

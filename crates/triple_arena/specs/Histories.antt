@@ -1,11 +1,12 @@
 -- Which pointers an arena gave, and which of them have ended.
-use Rattle.std.specs.Prelude.{◌≡◌, ℕ, ◌+◌, ◌<◌, ◌≤◌, ◌&&◌, not, IsTrue, Bool, true, false, List, [], ◌∷◌, ◌++◌, is_some}
+use Rattle.std.specs.Prelude.{◌≡◌, ℕ, ◌+◌, ◌<◌, ◌≤◌, ◌&&◌, not, IsTrue, Bool, true, false, List, [], ◌∷◌, ◌++◌, length, is_some}
 use Rattle.std.specs.List.{list_any}
 use Rattle.triple_arena_ptr.specs.Pointers.{Pointer, is_same}
 use Rattle.triple_arena.specs.Entries.{KeepsEntries}
-use Rattle.triple_arena.specs.ArenaState.{ArenaState, look_up, IsWellFormed}
+use Rattle.triple_arena.specs.ArenaState.{ArenaState, arena_len, look_up, IsWellFormed}
 use Rattle.triple_arena.specs.Insertion.{next_pointer, inserted}
 use Rattle.triple_arena.specs.Ending.{removed, invalidated, cleared}
+use Rattle.triple_arena.specs.Compression.{compressed, raised_if_any}
 use Rattle.triple_arena.specs.Walks.{keys}
 
 -- whether a list has this pointer
@@ -101,7 +102,9 @@ module _ {T : Type 0} where
   IsModelCall s (removal p) t = IsTrue (is_live s p) × (t ≡ removed (λ n. n + 1) s p.0)
   IsModelCall s (invalidation p q) t = IsTrue (is_live s p) × (q ≡ (p.0, t.counter)) × (t ≡ invalidated (λ n. n + 1) s p.0)
   IsModelCall s (clearing ps) t = (ps ≡ keys s.slots) × (t ≡ cleared (λ n. n + 1) s)
-  IsModelCall s (compression ps qs) t = ⊥
+  IsModelCall s (compression ps qs) t =
+      (values : List T) × (length values ≡ arena_len s) × (ps ≡ keys s.slots) × (qs ≡ keys t.slots)
+      × (t ≡ compressed s (raised_if_any (λ n. n + 1) s) values)
   IsModelCall s resizing t = KeepsEntries s.slots t.slots × (t.counter ≡ s.counter)
 
   -- model calls one after another, of which none wraps the counter

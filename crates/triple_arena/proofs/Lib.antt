@@ -17,3 +17,5 @@ pub mod Walking
 pub mod Visiting
 pub mod CopyLemmas
 pub mod TransferLemmas
+pub mod PointerLists
+pub mod HistoryLaws

@@ -24,4 +24,5 @@ pub mod Transfers
 pub mod Copying
 pub mod Cloning
 pub mod CloningLaws
+pub mod CopyLaws
 pub mod Disjoint

@@ -25,5 +25,6 @@ pub mod Copying
 pub mod Compression
 pub mod Cloning
 pub mod CloningLaws
+pub mod CopyLaws
 pub mod Disjoint
 pub mod Histories

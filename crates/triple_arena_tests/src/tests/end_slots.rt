@@ -1,99 +1,93 @@
 //! Free slots at the end, taken away by themselves.
 
-use super::arenas::{Heap, new_arena};
-use super::state::{SLOTS, State, assert_state, state_of};
-use super::tables::{Call, follow, follow_unchanged};
-use super::token::Token;
-use super::told::Told;
 use std::alloc::Global;
-use std::process::Abort;
-use triple_arena::Arena;
+use std::test::Fail;
 use triple_arena_ptr::P0;
+use triple_arena_test_kit::{
+    Call, Removed, SLOTS, State, Steps, TestedArena, Told, Trial, Unchanged, Wrong, follow_to,
+    on_heap,
+};
 
-pub type Heaped = Arena<P0, Token, Heap<P0>>;
+// What is tried on an arena of so many entries, of which some were removed in turn.
+fn after_removals<T: Trial + Drop>(
+    alloc: Global,
+    entries: usize,
+    removed: &[usize],
+    trial: T,
+) -> Result<(), Wrong> {
+    on_heap::<P0, _>(alloc, None, &(Removed { entries, removed }, trial))
+}
 
-/// So many entries, each with its index as its value, of which some are removed in turn.
-pub fn with_removed(rt: &impl Abort, alloc: Global, entries: usize, removed: &[usize]) -> Heaped {
-    let mut arena = new_arena::<P0, Heap<P0>>(alloc);
-    for index in 1..=entries {
-        let told = Told::At(index, 2);
-        follow(rt, &mut arena, &[(Call::Insert(index as u64), told)]);
+#[test]
+fn popped_slots_leave_the_free_list(rt: HostRuntime) -> Result<(), Fail> {
+    let steps = Steps(&[
+        (Call::Slots, Told::Size(4)),
+        (Call::Root, Told::Size(4)),
+        (Call::RemoveFreeEnd, Told::Done),
+        (Call::Slots, Told::Size(3)),
+        (Call::Root, Told::Size(2)),
+        (Call::Bounds, Told::Bounds(2, 8, None)),
+        (Call::Insert(5), Told::At(2, 5)),
+        (Call::Insert(6), Told::At(4, 5)),
+    ]);
+    after_removals(rt.alloc(), 5, &[2, 4, 5], steps)?;
+    Ok(())
+}
+
+// The first four of six slots stay, with the free indexes 3 and 1.
+#[derive(Drop)]
+struct EndsAtFour;
+
+impl Trial for EndsAtFour {
+    fn on<A: TestedArena>(&self, arena: &mut A) -> Result<(), Wrong> {
+        let before = arena.state();
+        let mut free = [0; SLOTS];
+        free[0] = 3;
+        free[1] = 1;
+        let expected = State {
+            slots: 4,
+            free,
+            ..before
+        };
+        follow_to(arena, &[(Call::RemoveFreeEnd, Told::Done)], &expected)
     }
-    for index in removed {
-        let told = Told::Held(2, *index as u64);
-        follow(rt, &mut arena, &[(Call::RemoveInx(*index), told)]);
-    }
-    arena
 }
 
 #[test]
-fn popped_slots_leave_the_free_list(rt: HostRuntime) {
-    follow(
-        &rt,
-        &mut with_removed(&rt, rt.alloc(), 5, &[2, 4, 5]),
-        &[
-            (Call::Slots, Told::Size(4)),
-            (Call::Root, Told::Size(4)),
-            (Call::RemoveFreeEnd, Told::Done),
-            (Call::Slots, Told::Size(3)),
-            (Call::Root, Told::Size(2)),
-            (Call::Bounds, Told::Bounds(2, 8, None)),
-            (Call::Insert(5), Told::At(2, 5)),
-            (Call::Insert(6), Told::At(4, 5)),
-        ],
-    );
+fn the_rest_of_the_free_list_keeps_its_order(rt: HostRuntime) -> Result<(), Fail> {
+    let before = Steps(&[
+        (Call::Slots, Told::Size(6)),
+        (Call::FirstFree, Told::Free([3, 5, 1])),
+    ]);
+    let after = Steps(&[
+        (Call::Insert(7), Told::At(3, 7)),
+        (Call::Insert(8), Told::At(1, 7)),
+        (Call::Insert(9), Told::At(5, 7)),
+    ]);
+    let trial = (before, (EndsAtFour, after));
+    after_removals(rt.alloc(), 7, &[6, 1, 5, 3, 7], trial)?;
+    Ok(())
 }
 
 #[test]
-fn the_rest_of_the_free_list_keeps_its_order(rt: HostRuntime) {
-    let mut arena = with_removed(&rt, rt.alloc(), 7, &[6, 1, 5, 3, 7]);
-    let before = state_of(&rt, &arena);
-    assert_eq!(rt; (before.slots, before.first_free()), (6, [3, 5, 1]));
-    follow(&rt, &mut arena, &[(Call::RemoveFreeEnd, Told::Done)]);
-    let mut free = [0; SLOTS];
-    free[0] = 3;
-    free[1] = 1;
-    let expected = State {
-        slots: 4,
-        free,
-        ..before
-    };
-    assert_state(&rt, &arena, &expected);
-    follow(
-        &rt,
-        &mut arena,
-        &[
-            (Call::Insert(7), Told::At(3, 7)),
-            (Call::Insert(8), Told::At(1, 7)),
-            (Call::Insert(9), Told::At(5, 7)),
-        ],
-    );
+fn where_the_last_slot_has_an_entry_all_stays(rt: HostRuntime) -> Result<(), Fail> {
+    let nothing = Unchanged(&[(Call::RemoveFreeEnd, Told::Done)]);
+    after_removals(rt.alloc(), 0, &[], nothing)?;
+    after_removals(rt.alloc(), 5, &[], nothing)?;
+    after_removals(rt.alloc(), 5, &[2, 4, 1], nothing)?;
+    Ok(())
 }
 
 #[test]
-fn where_the_last_slot_has_an_entry_all_stays(rt: HostRuntime) {
-    let nothing = [(Call::RemoveFreeEnd, Told::Done)];
-    follow_unchanged(&rt, &mut with_removed(&rt, rt.alloc(), 0, &[]), &nothing);
-    follow_unchanged(&rt, &mut with_removed(&rt, rt.alloc(), 5, &[]), &nothing);
-    follow_unchanged(
-        &rt,
-        &mut with_removed(&rt, rt.alloc(), 5, &[2, 4, 1]),
-        &nothing,
-    );
-}
-
-#[test]
-fn where_all_slots_are_free_none_is_left(rt: HostRuntime) {
-    follow(
-        &rt,
-        &mut with_removed(&rt, rt.alloc(), 3, &[1, 2, 3]),
-        &[
-            (Call::Slots, Told::Size(2)),
-            (Call::RemoveFreeEnd, Told::Done),
-            (Call::Slots, Told::Size(0)),
-            (Call::Root, Told::Nothing),
-            (Call::Bounds, Told::Bounds(0, 4, None)),
-            (Call::Insert(3), Told::At(1, 5)),
-        ],
-    );
+fn where_all_slots_are_free_none_is_left(rt: HostRuntime) -> Result<(), Fail> {
+    let steps = Steps(&[
+        (Call::Slots, Told::Size(2)),
+        (Call::RemoveFreeEnd, Told::Done),
+        (Call::Slots, Told::Size(0)),
+        (Call::Root, Told::Nothing),
+        (Call::Bounds, Told::Bounds(0, 4, None)),
+        (Call::Insert(3), Told::At(1, 5)),
+    ]);
+    after_removals(rt.alloc(), 3, &[1, 2, 3], steps)?;
+    Ok(())
 }

@@ -4,17 +4,15 @@ ghost use Rattle.std.specs.Prelude.{◌≡◌, IfOk, OnOk, OnErr};
 ghost use Rattle.triple_arena.specs.Insertion.{next_pointer};
 ghost use Rattle.triple_arena.specs.Capacity.{grown};
 
-use super::arenas::{Fixed, Heap, Limited, Places, new_arena, with_room};
-use super::numbered::Numbered;
-use super::pointers::Narrow;
-use super::tables::{Call, follow};
-use super::token::Token;
-use super::told::{Told, told_inserted};
-use std::process::Abort;
+use std::test::Fail;
 use triple_arena::{Arena, ArenaInsertEntryTrait, ArenaSlot};
 use triple_arena_base::ReallocationError;
 use triple_arena_ptr::{P0, P4, P5, Ptr, PtrGen, PtrInx};
 use triple_arena_stack::NonZeroInxGenericStack;
+use triple_arena_test_kit::{
+    Call, Heap, Narrow, Steps, TestedArena, Told, Trial, Wrong, follow, from_empty, new_arena,
+    on_array, on_fixed, on_heap, on_limited, pointer, step,
+};
 
 // Takes an entry of any arena and lets it go: nothing is inserted, and its room stays.
 fn pointer_of_entry<P: Ptr, T, S: NonZeroInxGenericStack<ArenaSlot<P, T>>>(
@@ -28,22 +26,11 @@ fn pointer_of_entry<P: Ptr, T, S: NonZeroInxGenericStack<ArenaSlot<P, T>>>(
     Ok(entry.ptr())
 }
 
-// The pointer of an entry that is let go.
-fn told_entry_of<P: Ptr, S: NonZeroInxGenericStack<ArenaSlot<P, Token>>>(
-    arena: &mut Arena<P, Token, S>,
-) -> Told
-where
-    P::Gen: Numbered,
-{
-    told_inserted(pointer_of_entry(arena))
-}
-
 #[test]
-fn a_dropped_entry_leaves_its_room(rt: HostRuntime) {
+fn a_dropped_entry_leaves_its_room(rt: HostRuntime) -> Result<(), Fail> {
     let mut arena = new_arena::<P0, Heap<P0>>(rt.alloc());
-    assert_eq!(rt; told_entry_of(&mut arena), Told::At(1, 2));
+    assert!(rt; pointer_of_entry(&mut arena) == Ok(pointer(1, 2)));
     follow(
-        &rt,
         &mut arena,
         &[
             (Call::Bounds, Told::Bounds(0, 4, None)),
@@ -52,27 +39,27 @@ fn a_dropped_entry_leaves_its_room(rt: HostRuntime) {
             (Call::Get(1, 2), Told::Holds(1)),
             (Call::Bounds, Told::Bounds(1, 4, None)),
         ],
-    );
+    )?;
+    Ok(())
 }
 
 #[test]
-fn an_insertion_after_a_dropped_entry_has_its_pointer(rt: HostRuntime) {
-    follow(
-        &rt,
-        &mut new_arena::<P0, Heap<P0>>(rt.alloc()),
+fn an_insertion_after_a_dropped_entry_has_its_pointer(rt: HostRuntime) -> Result<(), Fail> {
+    from_empty::<P0>(
+        rt.alloc(),
         &[
             (Call::EntryPtr, Told::At(1, 2)),
             (Call::Insert(1), Told::At(1, 2)),
             (Call::Bounds, Told::Bounds(1, 4, None)),
         ],
-    );
+    )?;
+    Ok(())
 }
 
 #[test]
-fn an_entry_takes_the_index_that_was_freed_last(rt: HostRuntime) {
-    follow(
-        &rt,
-        &mut new_arena::<P0, Heap<P0>>(rt.alloc()),
+fn an_entry_takes_the_index_that_was_freed_last(rt: HostRuntime) -> Result<(), Fail> {
+    from_empty::<P0>(
+        rt.alloc(),
         &[
             (Call::EntryInsert(1), Told::At(1, 2)),
             (Call::EntryInsert(2), Told::At(2, 2)),
@@ -89,109 +76,92 @@ fn an_entry_takes_the_index_that_was_freed_last(rt: HostRuntime) {
             (Call::Root, Told::Size(2)),
             (Call::Bounds, Told::Bounds(3, 4, None)),
         ],
-    );
+    )?;
+    Ok(())
 }
 
 #[test]
-fn an_entry_of_a_full_arena_makes_it_grow(rt: HostRuntime) {
-    follow(
-        &rt,
-        &mut with_room::<P0, Heap<P0>>(&rt, rt.alloc(), 1),
-        &[
-            (Call::Insert(1), Told::At(1, 2)),
-            (Call::EntryPtrWithin, Told::Full),
-            (Call::Bounds, Told::Bounds(1, 1, None)),
-            (Call::EntryPtrReallocating, Told::At(2, 2)),
-            (Call::Bounds, Told::Bounds(1, 2, None)),
-            (Call::Get(1, 2), Told::Holds(1)),
-        ],
-    );
+fn an_entry_of_a_full_arena_makes_it_grow(rt: HostRuntime) -> Result<(), Fail> {
+    let steps = Steps(&[
+        (Call::Insert(1), Told::At(1, 2)),
+        (Call::EntryPtrWithin, Told::Full),
+        (Call::Bounds, Told::Bounds(1, 1, None)),
+        (Call::EntryPtrReallocating, Told::At(2, 2)),
+        (Call::Bounds, Told::Bounds(1, 2, None)),
+        (Call::Get(1, 2), Told::Holds(1)),
+    ]);
+    on_heap::<P0, _>(rt.alloc(), Some(1), &steps)?;
+    Ok(())
 }
 
-#[test]
-fn an_entry_past_the_greatest_index_is_refused(rt: HostRuntime) {
-    let mut arena = new_arena::<P5, Heap<P5>>(rt.alloc());
-    for index in 1..256 {
-        follow(
-            &rt,
-            &mut arena,
-            &[(Call::EntryInsert(0), Told::At(index, 1))],
-        );
+// Insertions by entries up to the greatest byte index, and one more entry.
+#[derive(Drop)]
+struct UpTo255;
+
+impl Trial for UpTo255 {
+    fn on<A: TestedArena>(&self, arena: &mut A) -> Result<(), Wrong> {
+        for index in 1..256 {
+            step(arena, Call::EntryInsert(0), Told::At(index, 1))?;
+        }
+        let full = (Call::Bounds, Told::Bounds(255, 255, None));
+        let refused = Told::Refused(ReallocationError::AllocError);
+        follow(arena, &[full, (Call::EntryPtr, refused), full])
     }
-    let full = (Call::Bounds, Told::Bounds(255, 255, None));
-    let refused = Told::Refused(ReallocationError::AllocError);
-    follow(&rt, &mut arena, &[full, (Call::EntryPtr, refused), full]);
 }
+
+#[test]
+fn an_entry_past_the_greatest_index_is_refused(rt: HostRuntime) -> Result<(), Fail> {
+    on_heap::<P5, _>(rt.alloc(), None, &UpTo255)?;
+    Ok(())
+}
+
+const BEYOND: Told = Told::Refused(ReallocationError::BeyondMaxCapacity);
+
+const FULL: (Call, Told) = (Call::Bounds, Told::Bounds(2, 2, Some(2)));
 
 // The calls on the entries of an arena that has two places, no entry and a limit of two.
-fn each_entry_call<P: Ptr, S: NonZeroInxGenericStack<ArenaSlot<P, Token>>>(
-    rt: &impl Abort,
-    arena: &mut Arena<P, Token, S>,
-)
-where
-    P::Gen: Numbered,
-{
-    let beyond = Told::Refused(ReallocationError::BeyondMaxCapacity);
-    let full = (Call::Bounds, Told::Bounds(2, 2, Some(2)));
-    follow(
-        rt,
-        arena,
-        &[
-            (Call::EntryPtrWithin, Told::At(1, 2)),
-            (Call::EntryPtrReallocating, Told::At(1, 2)),
-            (Call::EntryPtr, Told::At(1, 2)),
-            (Call::IsEmpty, Told::Is(true)),
-            (Call::EntryWrite(1, 10), Told::Done),
-            (Call::EntryInsert(2), Told::At(2, 2)),
-            (Call::Write(2, 2, 20), Told::Holds(2)),
-            (Call::Get(1, 2), Told::Holds(10)),
-            (Call::Get(2, 2), Told::Holds(20)),
-            full,
-            (Call::EntryPtrWithin, Told::Full),
-            (Call::EntryPtrReallocating, beyond),
-            (Call::EntryPtr, beyond),
-            full,
-            (Call::Get(1, 2), Told::Holds(10)),
-            (Call::Get(2, 2), Told::Holds(20)),
-        ],
-    );
-}
+const EACH_ENTRY_CALL: Steps<'_> = Steps(&[
+    (Call::EntryPtrWithin, Told::At(1, 2)),
+    (Call::EntryPtrReallocating, Told::At(1, 2)),
+    (Call::EntryPtr, Told::At(1, 2)),
+    (Call::IsEmpty, Told::Is(true)),
+    (Call::EntryWrite(1, 10), Told::Done),
+    (Call::EntryInsert(2), Told::At(2, 2)),
+    (Call::Write(2, 2, 20), Told::Holds(2)),
+    (Call::Get(1, 2), Told::Holds(10)),
+    (Call::Get(2, 2), Told::Holds(20)),
+    FULL,
+    (Call::EntryPtrWithin, Told::Full),
+    (Call::EntryPtrReallocating, BEYOND),
+    (Call::EntryPtr, BEYOND),
+    FULL,
+    (Call::Get(1, 2), Told::Holds(10)),
+    (Call::Get(2, 2), Told::Holds(20)),
+]);
 
 #[test]
-fn each_entry_call_on_each_stack_with_a_limit(rt: HostRuntime) {
-    let mut limited = with_room::<P0, Limited<P0>>(&rt, rt.alloc(), 2);
-    each_entry_call(&rt, &mut limited);
-    let mut fixed = with_room::<P4, Fixed<P4>>(&rt, rt.alloc(), 2);
-    each_entry_call(&rt, &mut fixed);
-    each_entry_call(&rt, &mut new_arena::<Narrow, Places<Narrow, 2>>(rt.alloc()));
+fn each_entry_call_on_each_stack_with_a_limit(rt: HostRuntime) -> Result<(), Fail> {
+    on_limited::<P0, _>(rt.alloc(), Some(2), &EACH_ENTRY_CALL)?;
+    on_fixed::<P4, _>(rt.alloc(), Some(2), &EACH_ENTRY_CALL)?;
+    on_array::<Narrow, 2, _>(rt.alloc(), &EACH_ENTRY_CALL)?;
+    Ok(())
 }
 
-// Inserts by each of the three calls, on an arena with place for three.
-fn each_entry_insertion<S: NonZeroInxGenericStack<ArenaSlot<P0, Token>>>(
-    rt: &impl Abort,
-    arena: &mut Arena<P0, Token, S>,
-) {
-    follow(
-        rt,
-        arena,
-        &[
-            (Call::EntryInsert(1), Told::At(1, 2)),
-            (Call::EntryInsertReallocating(2), Told::At(2, 2)),
-            (Call::EntryInsertWithin(3), Told::At(3, 2)),
-            (Call::Get(1, 2), Told::Holds(1)),
-            (Call::Get(2, 2), Told::Holds(2)),
-            (Call::Get(3, 2), Told::Holds(3)),
-        ],
-    );
-}
+// Insertions by each of the three calls, on an arena with place for three.
+const EACH_ENTRY_INSERTION: Steps<'_> = Steps(&[
+    (Call::EntryInsert(1), Told::At(1, 2)),
+    (Call::EntryInsertReallocating(2), Told::At(2, 2)),
+    (Call::EntryInsertWithin(3), Told::At(3, 2)),
+    (Call::Get(1, 2), Told::Holds(1)),
+    (Call::Get(2, 2), Told::Holds(2)),
+    (Call::Get(3, 2), Told::Holds(3)),
+]);
 
 #[test]
-fn an_entry_over_each_stack_by_its_name(rt: HostRuntime) {
-    let mut heap = with_room::<P0, Heap<P0>>(&rt, rt.alloc(), 3);
-    each_entry_insertion(&rt, &mut heap);
-    let mut limited = with_room::<P0, Limited<P0>>(&rt, rt.alloc(), 3);
-    each_entry_insertion(&rt, &mut limited);
-    let mut fixed = with_room::<P0, Fixed<P0>>(&rt, rt.alloc(), 3);
-    each_entry_insertion(&rt, &mut fixed);
-    each_entry_insertion(&rt, &mut new_arena::<P0, Places<P0, 3>>(rt.alloc()));
+fn an_entry_over_each_stack_by_its_name(rt: HostRuntime) -> Result<(), Fail> {
+    on_heap::<P0, _>(rt.alloc(), Some(3), &EACH_ENTRY_INSERTION)?;
+    on_limited::<P0, _>(rt.alloc(), Some(3), &EACH_ENTRY_INSERTION)?;
+    on_fixed::<P0, _>(rt.alloc(), Some(3), &EACH_ENTRY_INSERTION)?;
+    on_array::<P0, 3, _>(rt.alloc(), &EACH_ENTRY_INSERTION)?;
+    Ok(())
 }

@@ -1,93 +1,57 @@
 //! The text of an arena.
 
-use super::arenas::{Fixed, Heap, Limited, Places, new_arena, with_room};
-use super::numbered::Numbered;
-use super::pointers::Narrow;
-use super::tables::{Call, follow};
-use super::token::Token;
-use super::told::Told;
 use std::alloc::{AllocError, Global};
 use std::fmt;
 use std::fmt::{Debug, Write};
-use std::process::Abort;
 use std::test::Fail;
-use triple_arena::{Arena, ArenaInsertTrait, ArenaSlot, ArenaTrait};
-use triple_arena_ptr::{P0, P4, Ptr, Q2};
-use triple_arena_stack::NonZeroInxGenericStack;
-
-// The text of any arena.
-fn text_of<P: Ptr, T: Debug, S: NonZeroInxGenericStack<ArenaSlot<P, T>>>(
-    alloc: Global,
-    arena: &Arena<P, T, S>,
-) -> Result<String, AllocError> {
-    format!(in alloc; "{arena:?}")
-}
+use triple_arena::{Arena, ArenaInsertTrait, ArenaTrait};
+use triple_arena_ptr::{P0, P4, Q2};
+use triple_arena_test_kit::{
+    Call, Heap, Narrow, Steps, TestedArena, Told, Trial, Wrong, has_text, new_arena, on_array,
+    on_fixed, on_heap, on_limited,
+};
 
 // Three entries, of which the second goes, and the third gets a new pointer.
-fn with_two_left<P: Ptr, S: NonZeroInxGenericStack<ArenaSlot<P, Token>>>(
-    rt: &impl Abort,
-    arena: &mut Arena<P, Token, S>,
-)
-where
-    P::Gen: Numbered,
-{
-    follow(
-        rt,
-        arena,
-        &[
-            (Call::Insert(7), Told::At(1, 2)),
-            (Call::Insert(6), Told::At(2, 2)),
-            (Call::Insert(8), Told::At(3, 2)),
-            (Call::RemoveInx(2), Told::Held(2, 6)),
-            (Call::Invalidate(3, 2), Told::At(3, 4)),
-        ],
-    );
-}
+const TWO_LEFT: Steps<'_> = Steps(&[
+    (Call::Insert(7), Told::At(1, 2)),
+    (Call::Insert(6), Told::At(2, 2)),
+    (Call::Insert(8), Told::At(3, 2)),
+    (Call::RemoveInx(2), Told::Held(2, 6)),
+    (Call::Invalidate(3, 2), Told::At(3, 4)),
+]);
 
 // The text of an arena with place for three and no entry, and its text with two entries.
-fn has_texts<P: Ptr, S: NonZeroInxGenericStack<ArenaSlot<P, Token>>>(
-    rt: &impl Abort,
+#[derive(Drop)]
+struct HasTexts {
     alloc: Global,
-    arena: &mut Arena<P, Token, S>,
-    expected: &str,
-) -> Result<(), AllocError>
-where
-    P::Gen: Numbered,
-{
-    assert_eq!(rt; text_of(alloc, arena)?.as_str(), "{}");
-    with_two_left(rt, arena);
-    assert_eq!(rt; text_of(alloc, arena)?.as_str(), expected);
-    Ok(())
+    expected: &'static str,
+}
+
+impl Trial for HasTexts {
+    fn on<A: TestedArena>(&self, arena: &mut A) -> Result<(), Wrong> {
+        has_text(arena, self.alloc, "{}")?;
+        TWO_LEFT.on(arena)?;
+        has_text(arena, self.alloc, self.expected)
+    }
 }
 
 #[test]
 fn entries_stand_by_index_over_each_stack(rt: HostRuntime) -> Result<(), Fail> {
     let alloc = rt.alloc();
-    has_texts(
-        &rt,
-        alloc,
-        &mut new_arena::<P0, Heap<P0>>(alloc),
-        "{P0[1](2): Token { number: 7 }, P0[3](4): Token { number: 8 }}",
-    )?;
-    has_texts(
-        &rt,
-        alloc,
-        &mut with_room::<Q2, Limited<Q2>>(&rt, alloc, 3),
-        "{Q2[1](2): Token { number: 7 }, Q2[3](4): Token { number: 8 }}",
-    )?;
-    has_texts(
-        &rt,
-        alloc,
-        &mut with_room::<P4, Fixed<P4>>(&rt, alloc, 3),
-        "{P4[1]: Token { number: 7 }, P4[3]: Token { number: 8 }}",
-    )?;
-    has_texts(
-        &rt,
-        alloc,
-        &mut new_arena::<Narrow, Places<Narrow, 3>>(alloc),
-        "{PtrOf[1](2): Token { number: 7 }, PtrOf[3](4): Token { number: 8 }}",
-    )?;
+    let expected = "{P0[1](2): Token { number: 7 }, P0[3](4): Token { number: 8 }}";
+    on_heap::<P0, _>(alloc, None, &HasTexts { alloc, expected })?;
+    let expected = "{Q2[1](2): Token { number: 7 }, Q2[3](4): Token { number: 8 }}";
+    on_limited::<Q2, _>(alloc, Some(3), &HasTexts { alloc, expected })?;
+    let expected = "{P4[1]: Token { number: 7 }, P4[3]: Token { number: 8 }}";
+    on_fixed::<P4, _>(alloc, Some(3), &HasTexts { alloc, expected })?;
+    let expected = "{PtrOf[1](2): Token { number: 7 }, PtrOf[3](4): Token { number: 8 }}";
+    on_array::<Narrow, 3, _>(alloc, &HasTexts { alloc, expected })?;
     Ok(())
+}
+
+// The text of an arena on the heap.
+fn text_of<T: Debug>(alloc: Global, arena: &Arena<P0, T>) -> Result<String, AllocError> {
+    format!(in alloc; "{arena:?}")
 }
 
 #[test]
@@ -130,9 +94,9 @@ impl Write for Refusing {
 }
 
 #[test]
-fn a_writer_that_fails_is_asked_no_more(rt: HostRuntime) {
+fn a_writer_that_fails_is_asked_no_more(rt: HostRuntime) -> Result<(), Fail> {
     let mut arena = new_arena::<P0, Heap<P0>>(rt.alloc());
-    with_two_left(&rt, &mut arena);
+    TWO_LEFT.on(&mut arena)?;
     let mut whole = Refusing {
         pieces_left: 100,
         refusals: 0,
@@ -150,4 +114,5 @@ fn a_writer_that_fails_is_asked_no_more(rt: HostRuntime) {
         );
         assert_eq!(rt; writer.refusals, 1, "after {pieces_left}");
     }
+    Ok(())
 }

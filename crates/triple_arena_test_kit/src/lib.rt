@@ -37,7 +37,6 @@ pub use tested_arena::{
 pub use token::Token;
 pub use told::{MET, Told};
 pub use trial::{
-    Removed, Steps, Tidied, Trial, Unchanged, from_empty, on_array, on_fixed, on_heap, on_limited,
-    on_little,
+    Removed, Steps, Tidied, Trial, Unchanged, from_empty, on_fixed, on_heap, on_limited, on_little,
 };
 pub use walk_calls::next_steps;

@@ -1,6 +1,6 @@
 //! What is tried on arenas, and the arenas over each stack that it is tried on.
 
-use crate::arenas::{Fixed, Heap, Limited, Little, Places, new_arena, with_room};
+use crate::arenas::{Fixed, Heap, Limited, Little, new_arena, with_room};
 use crate::call::Call;
 use crate::numbered::Numbered;
 use crate::tables::{Wrong, follow, follow_tidied, follow_unchanged, step};
@@ -123,14 +123,6 @@ where
 {
     let mut arena: Arena<P, Token, Fixed<P>> = made(alloc, room)?;
     trial.on(&mut arena)
-}
-
-/// Tries it on an arena in an array of `N` places.
-pub fn on_array<P: Ptr, const N: usize, T: Trial>(alloc: Global, trial: &T) -> Result<(), Wrong>
-where
-    P::Gen: Numbered,
-{
-    trial.on(&mut new_arena::<P, Places<P, N>>(alloc))
 }
 
 /// Tries it on an arena whose limit can be set, where there is memory for `N` places, with this room

@@ -6,8 +6,8 @@ use std::test::Fail;
 use triple_arena_base::ReallocationError;
 use triple_arena_ptr::{P0, P1, P2, P3, P4, P5, Ptr, PtrNoGen, Q2};
 use triple_arena_test_kit::{
-    B, Call, Narrow, Numbered, Steps, Told, Wide, Wrong, on_array, on_fixed, on_heap, on_limited,
-    on_little,
+    B, Call, Narrow, Numbered, Places, Steps, Told, Trial, Wide, Wrong, new_arena, on_fixed,
+    on_heap, on_limited, on_little,
 };
 
 // Each call, on an arena with place for six and no entry.
@@ -87,9 +87,9 @@ fn each_own_call_over_each_stack_on_the_heap(rt: HostRuntime) -> Result<(), Fail
 
 #[test]
 fn each_own_call_over_an_array(rt: HostRuntime) -> Result<(), Fail> {
-    on_array::<P0, 6, _>(rt.alloc(), &EACH_OWN_CALL)?;
-    on_array::<P5, 6, _>(rt.alloc(), &EACH_OWN_CALL)?;
-    on_array::<Narrow, 6, _>(rt.alloc(), &EACH_OWN_CALL)?;
+    EACH_OWN_CALL.on(&mut new_arena::<P0, Places<P0, 6>>(rt.alloc()))?;
+    EACH_OWN_CALL.on(&mut new_arena::<P5, Places<P5, 6>>(rt.alloc()))?;
+    EACH_OWN_CALL.on(&mut new_arena::<Narrow, Places<Narrow, 6>>(rt.alloc()))?;
     Ok(())
 }
 

@@ -7,8 +7,8 @@ use triple_arena::{Arena, ArenaTrait};
 use triple_arena_base::ReallocationError;
 use triple_arena_ptr::{P0, P1, P4, P5, Ptr, PtrNoGen};
 use triple_arena_test_kit::{
-    B, Call, Heap, Narrow, Numbered, Steps, TestedArena, Token, Told, Trial, Wide, Wrong, follow,
-    new_arena, on_array, on_fixed, on_heap, on_limited, on_little,
+    B, Call, Heap, Narrow, Numbered, Places, Steps, TestedArena, Token, Told, Trial, Wide, Wrong,
+    follow, new_arena, on_fixed, on_heap, on_limited, on_little,
 };
 
 // Each call, on an arena with three places, this limit and no entry.
@@ -118,9 +118,9 @@ fn each_call_on_pointers_with_byte_generations(rt: HostRuntime) -> Result<(), Fa
 
 #[test]
 fn each_call_over_an_array(rt: HostRuntime) -> Result<(), Fail> {
-    on_array::<P0, 3, _>(rt.alloc(), &UNDER_A_LIMIT)?;
-    on_array::<P5, 3, _>(rt.alloc(), &UNDER_A_LIMIT)?;
-    on_array::<Narrow, 3, _>(rt.alloc(), &UNDER_A_LIMIT)?;
+    UNDER_A_LIMIT.on(&mut new_arena::<P0, Places<P0, 3>>(rt.alloc()))?;
+    UNDER_A_LIMIT.on(&mut new_arena::<P5, Places<P5, 3>>(rt.alloc()))?;
+    UNDER_A_LIMIT.on(&mut new_arena::<Narrow, Places<Narrow, 3>>(rt.alloc()))?;
     Ok(())
 }
 
@@ -217,6 +217,6 @@ fn a_new_arena_over_each_stack(rt: HostRuntime) -> Result<(), Fail> {
     let no_place = Steps(&[(Call::Bounds, Told::Bounds(0, 0, Some(0)))]);
     on_fixed::<P0, _>(rt.alloc(), None, &no_place)?;
     let eight_places = Steps(&[(Call::Bounds, Told::Bounds(0, 8, Some(8)))]);
-    on_array::<P0, 8, _>(rt.alloc(), &eight_places)?;
+    eight_places.on(&mut new_arena::<P0, Places<P0, 8>>(rt.alloc()))?;
     Ok(())
 }

@@ -8,7 +8,7 @@ use triple_arena_ptr::P0;
 use triple_arena_stack::NonZeroInxGenericStack;
 use triple_arena_test_kit::{
     Call, Fixed, Heap, Limited, Places, State, Steps, TestedArena, Tidied, Told, Trial, Unchanged,
-    Wrong, capacity_made, has_state, is_told, on_array, on_fixed, on_heap, on_limited, step,
+    Wrong, capacity_made, has_state, is_told, new_arena, on_fixed, on_heap, on_limited, step,
     where_there_is_memory,
 };
 
@@ -286,7 +286,7 @@ fn each_refusal_under_a_limit_leaves_the_arena_as_it_was(rt: HostRuntime) -> Res
 fn each_refusal_of_fixed_room_and_arrays_leaves_the_arena_as_it_was(
     rt: HostRuntime,
 ) -> Result<(), Fail> {
-    on_array::<P0, 8, _>(rt.alloc(), &WhateverIsRefused)?;
+    WhateverIsRefused.on(&mut new_arena::<P0, Places<P0, 8>>(rt.alloc()))?;
     let tried = on_fixed::<P0, _>(rt.alloc(), Some(5), &WhateverIsRefused);
     where_there_is_memory(tried)?;
     Ok(())

@@ -7,7 +7,7 @@ use std::test::Fail;
 use triple_arena::{Arena, ArenaInsertTrait, ArenaTrait};
 use triple_arena_ptr::{P0, P4, Q2};
 use triple_arena_test_kit::{
-    Call, Heap, Narrow, Steps, TestedArena, Told, Trial, Wrong, has_text, new_arena, on_array,
+    Call, Heap, Narrow, Places, Steps, TestedArena, Told, Trial, Wrong, has_text, new_arena,
     on_fixed, on_heap, on_limited,
 };
 
@@ -45,7 +45,7 @@ fn entries_stand_by_index_over_each_stack(rt: HostRuntime) -> Result<(), Fail> {
     let expected = "{P4[1]: Token { number: 7 }, P4[3]: Token { number: 8 }}";
     on_fixed::<P4, _>(alloc, Some(3), &HasTexts { alloc, expected })?;
     let expected = "{PtrOf[1](2): Token { number: 7 }, PtrOf[3](4): Token { number: 8 }}";
-    on_array::<Narrow, 3, _>(alloc, &HasTexts { alloc, expected })?;
+    HasTexts { alloc, expected }.on(&mut new_arena::<Narrow, Places<Narrow, 3>>(alloc))?;
     Ok(())
 }
 

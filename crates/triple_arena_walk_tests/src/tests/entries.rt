@@ -10,8 +10,8 @@ use triple_arena_base::ReallocationError;
 use triple_arena_ptr::{P0, P4, P5, Ptr, PtrGen, PtrInx};
 use triple_arena_stack::NonZeroInxGenericStack;
 use triple_arena_test_kit::{
-    Call, Heap, Narrow, Steps, TestedArena, Told, Trial, Wrong, follow, from_empty, new_arena,
-    on_array, on_fixed, on_heap, on_limited, pointer, step,
+    Call, Heap, Narrow, Places, Steps, TestedArena, Told, Trial, Wrong, follow, from_empty,
+    new_arena, on_fixed, on_heap, on_limited, pointer, step,
 };
 
 // Takes an entry of any arena and lets it go: nothing is inserted, and its room stays.
@@ -143,7 +143,7 @@ const EACH_ENTRY_CALL: Steps<'_> = Steps(&[
 fn each_entry_call_on_each_stack_with_a_limit(rt: HostRuntime) -> Result<(), Fail> {
     on_limited::<P0, _>(rt.alloc(), Some(2), &EACH_ENTRY_CALL)?;
     on_fixed::<P4, _>(rt.alloc(), Some(2), &EACH_ENTRY_CALL)?;
-    on_array::<Narrow, 2, _>(rt.alloc(), &EACH_ENTRY_CALL)?;
+    EACH_ENTRY_CALL.on(&mut new_arena::<Narrow, Places<Narrow, 2>>(rt.alloc()))?;
     Ok(())
 }
 
@@ -162,6 +162,6 @@ fn an_entry_over_each_stack_by_its_name(rt: HostRuntime) -> Result<(), Fail> {
     on_heap::<P0, _>(rt.alloc(), Some(3), &EACH_ENTRY_INSERTION)?;
     on_limited::<P0, _>(rt.alloc(), Some(3), &EACH_ENTRY_INSERTION)?;
     on_fixed::<P0, _>(rt.alloc(), Some(3), &EACH_ENTRY_INSERTION)?;
-    on_array::<P0, 3, _>(rt.alloc(), &EACH_ENTRY_INSERTION)?;
+    EACH_ENTRY_INSERTION.on(&mut new_arena::<P0, Places<P0, 3>>(rt.alloc()))?;
     Ok(())
 }

@@ -3,3 +3,7 @@ pub mod Slot
 pub mod Layout
 pub mod Lends
 pub mod StepLaws
+pub mod InsertionLaws
+pub mod CloningLaws
+pub mod Mirrors
+pub mod InsertEntry

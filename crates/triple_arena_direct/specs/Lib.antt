@@ -2,6 +2,8 @@ pub mod DirectState
 pub mod Slot
 pub mod Layout
 pub mod Lends
+pub mod Kept
+pub mod Values
 pub mod StepLaws
 pub mod InsertionLaws
 pub mod CloningLaws

@@ -2,6 +2,7 @@
 
 ghost use Rattle.std.specs.Prelude.{◌≡◌, ◌≢◌, ℕ, List, Option, IfOk, ◌≤◌, ◌<◌, ◌+◌, ◌^◌, ◌↔◌, false, [], map, length, is_some, IsSome, IfSome, IsOk, OnOk, OnErr, Some, None, Err, option_copied, min, MatchOption, ◌-◌};
 ghost use Rattle.std.specs.Int.NonZero.{non_zero_usize_get};
+ghost use Rattle.std.specs.Borrow.{sem};
 ghost use Rattle.std.specs.Option.{option_and_then};
 ghost use Rattle.triple_arena_ptr.specs.Numbers.{greatest_index};
 ghost use Rattle.triple_arena_stack.specs.Capacity.{IsWithin, IsBeyond};
@@ -14,19 +15,22 @@ ghost use Rattle.triple_arena.specs.Walks.{entries};
 ghost use Rattle.triple_arena.specs.Copying.{Copies};
 ghost use Rattle.triple_arena_stack.specs.Disjoint.{DisjointAnswer, MayWork, Worked};
 ghost use Rattle.triple_arena_direct.specs.DirectState.{DirectState, new_direct, generation_of, slot_count, direct_len, direct_capacity, Fits, with_value, inserted_at, removed, cleared, settled, with_room_for, reallocated, ready_for, with_slots, with_limit};
+ghost use Rattle.triple_arena.specs.Lent.{lends_values};
+ghost use Rattle.triple_arena_direct.specs.Values.{with_values_of};
 ghost use Rattle.triple_arena_direct.specs.Slot.{slot_entry};
 
 use crate::direct_arena_iterators::PtrAdvancer;
+use crate::lent_slots::LentSlots;
 use crate::slot::DirectSlot;
 use crate::slots::{self, Slots};
 use std::alloc::Global;
-use std::marker::Model;
+use std::marker::{Model, PhantomData};
 use std::num::NonZeroUsize;
 use triple_arena::ends::last_index;
 use triple_arena::pair_call::{AtEntries, AtValues, PairCall};
 use triple_arena::{
     ArenaCloneFromWith, ArenaDirectInsertTrait, ArenaTrait, CompactArenaTrait,
-    DisjointableArenaTrait,
+    DisjointableArenaTrait, LendingArena,
 };
 use triple_arena_base::{
     AllocError, CloneFromError, GetDisjointMutError, InvalidationOption, InvalidationResult,
@@ -541,6 +545,28 @@ impl<P: Ptr, T, S: NonZeroInxGenericStack<DirectSlot<P, T>>> DirectArena<P, T, S
         ensures past { slot_count self.now ≤ non_zero_usize_get result }
     {
         NonZeroUsize::MIN.saturating_add(self.slots.stack.len())
+    }
+
+    // How many slots there are.
+    pub(crate) fn slot_count(&self) -> usize
+        ensures value { result ≡ slot_count self.now }
+        ensures indexed { result ≤ greatest_index P.Inx.greatest }
+    {
+        self.slots.stack.len()
+    }
+
+    // The slots, so that their values alone can be written.
+    pub(crate) fn lend_slots(&mut self) -> LentSlots<'_, P, T>
+        ensures* writes_back { sem 𝓛 (lends_values
+            ⟦<DirectArena<P, T, S> as LendingArena>⟧.arena_row
+            self.entry result.tie (with_values_of self.old)) }
+        ensures slots { map (slot_entry P.Gen.number) result.now ≡ self.old.slots }
+    {
+        let slots = self.slots.as_mut_slice();
+        LentSlots {
+            at: slots.as_mut_ptr(),
+            mark: PhantomData,
+        }
     }
 
     // The numbers of two indexes that name two slots.

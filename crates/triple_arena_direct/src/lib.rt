@@ -7,6 +7,7 @@ mod indexing;
 mod insert_entry;
 pub mod laws;
 mod lending_arena;
+mod lent_slots;
 mod slot;
 mod slots;
 mod text;

@@ -1,8 +1,9 @@
 //! A slot of a direct arena.
 
 ghost use Rattle.std.specs.Prelude.{◌≡◌, None, Some, IsSome, IsNone, is_some, option_copied};
-ghost use Rattle.std.specs.Borrow.{Lends, sem};
-ghost use Rattle.std.specs.Option.{option_map, option_and_then};
+ghost use Rattle.std.specs.Borrow.{Lends, LendsIf, sem};
+ghost use Rattle.std.specs.Option.{option_map, option_and_then, option_copied_mut};
+ghost use Rattle.triple_arena.specs.Disjoint.{value_of};
 ghost use Rattle.triple_arena.specs.Entries.{value_under};
 ghost use Rattle.triple_arena_direct.specs.Slot.{slot_entry, with_slot_value};
 
@@ -77,6 +78,29 @@ impl<P: Ptr, T> DirectSlot<P, T> {
         match self {
             DirectSlot::Allocated(_, value) => value,
             DirectSlot::Free => unreachable!(),
+        }
+    }
+
+    // The generation of the entry, if there is one.
+    pub(crate) fn generation(&self) -> Option<P::Gen>
+        ensures { option_map P.Gen.number result
+            ≡ option_map (λ e. e.0) (slot_entry P.Gen.number self.now) }
+    {
+        match self {
+            DirectSlot::Allocated(generation, _) => Some(*generation),
+            DirectSlot::Free => None,
+        }
+    }
+
+    // The value of the entry, for writing, if there is one.
+    pub(crate) fn live_value_mut(&mut self) -> Option<&mut T>
+        ensures* lends { sem 𝓛 (LendsIf (the_row P.row T.row P.Inx.row P.Gen.row) T.row self.entry
+            result (with_slot_value self.old) self.old) }
+        ensures value { option_copied_mut result ≡ value_of (slot_entry P.Gen.number self.old) }
+    {
+        match self {
+            DirectSlot::Allocated(_, value) => Some(value),
+            DirectSlot::Free => None,
         }
     }
 

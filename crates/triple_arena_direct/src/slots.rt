@@ -35,7 +35,7 @@ pub(crate) struct Slots<P: Ptr, T, S: NonZeroInxGenericStack<DirectSlot<P, T>>> 
 }
 
 impl<P: Ptr, T, S: NonZeroInxGenericStack<DirectSlot<P, T>>> Slots<P, T, S> {
-    ghost use Rattle.triple_arena_direct.specs.Lends.{lends_slot_value};
+    ghost use Rattle.triple_arena_direct.specs.Lends.{lends_slot_value, lends_slots};
 
     // The slots of a stack.
     pub(crate) fn over(stack: S) -> Self
@@ -45,6 +45,15 @@ impl<P: Ptr, T, S: NonZeroInxGenericStack<DirectSlot<P, T>>> Slots<P, T, S> {
             stack,
             of: PhantomData,
         }
+    }
+
+    // The slots, for writing.
+    pub(crate) fn as_mut_slice(&mut self) -> &mut [DirectSlot<P, T>]
+        ensures* writes_back { sem 𝓛 (lends_slots P.row T.row S.row P.Inx.row P.Gen.row
+            S.items S.with_items self.entry result) }
+        ensures value { result.now ≡ S.items self.old.stack }
+    {
+        self.stack.as_mut_slice()
     }
 
     // The value of the entry at an index, for writing.

@@ -1,4 +1,5 @@
-//! Tests of arenas by public calls, as tables of calls and answers.
+//! Tests of arenas by public calls, as tables of calls and answers: insertion, look-ups, endings,
+//! growth, limits and refusals.
 #![tactic(auto)]
 
 #[cfg(test)]

@@ -1,60 +1,47 @@
 //! Arenas of thousands of entries.
 
-use super::arenas::{Heap, Limited, capacity_made, new_arena, with_room};
-use super::tables::{Call, follow};
-use super::token::Token;
-use super::told::Told;
-use std::process::Abort;
-use triple_arena::{Arena, ArenaSlot};
+use std::test::Fail;
 use triple_arena_ptr::P0;
-use triple_arena_stack::NonZeroInxGenericStack;
+use triple_arena_test_kit::{
+    Call, Heap, TestedArena, Told, Trial, Wrong, capacity_made, on_heap, on_limited, step,
+};
 
-// Inserts 5000 values in an arena without slots, ends every second, and inserts as many again.
-fn holds_thousands<S: NonZeroInxGenericStack<ArenaSlot<P0, Token>>>(
-    rt: &impl Abort,
-    arena: &mut Arena<P0, Token, S>,
-) {
-    for index in 1..5001 {
-        follow(
-            rt,
-            arena,
-            &[(Call::Insert(index as u64), Told::At(index, 2))],
-        );
+// 5000 insertions in an arena without slots, the ends of every second, and as many insertions
+// again. Then length, capacity and limit are these.
+#[derive(Drop)]
+struct Thousands {
+    bounds: Told,
+}
+
+impl Trial for Thousands {
+    fn on<A: TestedArena>(&self, arena: &mut A) -> Result<(), Wrong> {
+        for index in 1..5001 {
+            step(arena, Call::Insert(index as u64), Told::At(index, 2))?;
+        }
+        for half in 1..2501 {
+            let index = 2 * half;
+            step(arena, Call::RemoveInx(index), Told::Held(2, index as u64))?;
+        }
+        // from the last that was freed to the first; the slot of the last entry was given up
+        for half in 1..2500 {
+            step(arena, Call::Insert(0), Told::At(5000 - 2 * half, 2502))?;
+        }
+        step(arena, Call::Insert(0), Told::At(5000, 2502))?;
+        step(arena, Call::Bounds, self.bounds)
     }
-    for half in 1..2501 {
-        follow(
-            rt,
-            arena,
-            &[(Call::RemoveInx(2 * half), Told::Held(2, 2 * half as u64))],
-        );
-    }
-    // from the last that was freed to the first; the slot of the last entry was given up
-    for half in 1..2500 {
-        let index = 5000 - 2 * half;
-        follow(rt, arena, &[(Call::Insert(0), Told::At(index, 2502))]);
-    }
-    follow(rt, arena, &[(Call::Insert(0), Told::At(5000, 2502))]);
 }
 
 #[test]
-fn thousands_of_entries(rt: HostRuntime) {
-    let mut heap = new_arena::<P0, Heap<P0>>(rt.alloc());
-    holds_thousands(&rt, &mut heap);
-    follow(
-        &rt,
-        &mut heap,
-        &[(Call::Bounds, Told::Bounds(5000, 8192, None))],
-    );
+fn thousands_of_entries(rt: HostRuntime) -> Result<(), Fail> {
+    let bounds = Told::Bounds(5000, 8192, None);
+    on_heap::<P0, _>(rt.alloc(), None, &Thousands { bounds })?;
+    Ok(())
 }
 
 #[test]
-fn room_for_thousands(rt: HostRuntime) {
+fn room_for_thousands(rt: HostRuntime) -> Result<(), Fail> {
     assert_eq!(rt; capacity_made::<P0, Heap<P0>>(rt.alloc(), 5000), Ok(5000));
-    let mut limited = with_room::<P0, Limited<P0>>(&rt, rt.alloc(), 5000);
-    holds_thousands(&rt, &mut limited);
-    follow(
-        &rt,
-        &mut limited,
-        &[(Call::Bounds, Told::Bounds(5000, 5000, Some(5000)))],
-    );
+    let bounds = Told::Bounds(5000, 5000, Some(5000));
+    on_limited::<P0, _>(rt.alloc(), Some(5000), &Thousands { bounds })?;
+    Ok(())
 }

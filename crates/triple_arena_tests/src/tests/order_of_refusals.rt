@@ -1,140 +1,136 @@
 //! Two refusals that are due at once: which of them comes, and that the state stays.
 
-use super::arenas::{Fixed, Limited, Little, Places, new_arena, with_room};
-use super::numbered::Numbered;
-use super::pointers::Narrow;
-use super::refused_growth::refuses_growth;
-use super::state::state_of;
-use super::tables::{Call, follow, follow_limited, follow_tidied};
-use super::token::Token;
-use super::told::Told;
-use std::process::Abort;
-use triple_arena::{Arena, ArenaSlot};
+use super::refused_growth::RefusesGrowth;
+use std::test::Fail;
 use triple_arena_base::ReallocationError;
-use triple_arena_ptr::{P0, P1, P5, Ptr};
-use triple_arena_stack::{NonZeroInxGenericStack, SetMaxCapacity};
+use triple_arena_ptr::{P0, P1, P5};
+use triple_arena_test_kit::{
+    Call, Narrow, Places, Steps, TestedArena, Tidied, Told, Trial, Wrong, new_arena, on_fixed,
+    on_limited, on_little, step,
+};
 
 const BEYOND: Told = Told::Refused(ReallocationError::BeyondMaxCapacity);
 
 const NO_MEMORY: Told = Told::Refused(ReallocationError::AllocError);
 
+// Four entries, of which the last goes and two before it, so that the third slot is free at the end.
+const THREE_FREE: Steps<'_> = Steps(&[
+    (Call::Clear, Told::Done),
+    (Call::SetGeneration(2), Told::Done),
+    (Call::Insert(1), Told::At(1, 2)),
+    (Call::Insert(2), Told::At(2, 2)),
+    (Call::Insert(3), Told::At(3, 2)),
+    (Call::Insert(4), Told::At(4, 2)),
+    (Call::RemoveInx(1), Told::Held(2, 1)),
+    (Call::RemoveInx(3), Told::Held(2, 3)),
+    (Call::RemoveInx(4), Told::Held(2, 4)),
+    (Call::Slots, Told::Size(3)),
+    (Call::FirstFree, Told::Free([3, 1, 0])),
+]);
+
 // Each reallocation that is asked for is refused so, and puts the free list in order all the same.
-fn refuses_reallocation<P: Ptr, S: NonZeroInxGenericStack<ArenaSlot<P, Token>>>(
-    rt: &impl Abort,
-    arena: &mut Arena<P, Token, S>,
-    asked: &[(usize, Told)],
-)
-where
-    P::Gen: Numbered,
-{
-    for (asked, refused) in asked {
-        follow(
-            rt,
-            arena,
-            &[
-                (Call::Clear, Told::Done),
-                (Call::SetGeneration(2), Told::Done),
-                (Call::Insert(1), Told::At(1, 2)),
-                (Call::Insert(2), Told::At(2, 2)),
-                (Call::Insert(3), Told::At(3, 2)),
-                (Call::Insert(4), Told::At(4, 2)),
-                (Call::RemoveInx(1), Told::Held(2, 1)),
-                (Call::RemoveInx(3), Told::Held(2, 3)),
-                (Call::RemoveInx(4), Told::Held(2, 4)),
-                (Call::Slots, Told::Size(3)),
-            ],
-        );
-        let before = state_of(rt, arena);
-        assert_eq!(rt; before.first_free(), [3, 1, 0]);
-        let expected = before.in_order();
-        assert_eq!(rt; expected.slots, 2);
-        assert_eq!(rt; expected.first_free(), [1, 0, 0]);
-        follow_tidied(rt, arena, &[(Call::Reallocate(*asked), *refused)]);
+#[derive(Drop)]
+struct RefusesReallocation<'a> {
+    asked: &'a [(usize, Told)],
+}
+
+impl Trial for RefusesReallocation<'_> {
+    fn on<A: TestedArena>(&self, arena: &mut A) -> Result<(), Wrong> {
+        for (asked, refused) in self.asked {
+            THREE_FREE.on(arena)?;
+            Tidied(&[
+                (Call::Reallocate(*asked), *refused),
+                (Call::Slots, Told::Size(2)),
+                (Call::FirstFree, Told::Free([1, 0, 0])),
+            ])
+            .on(arena)?;
+        }
+        Ok(())
     }
 }
 
 #[test]
-fn past_the_greatest_index_and_the_limit(rt: HostRuntime) {
-    let asked = [
-        (5, BEYOND),
-        (255, BEYOND),
-        (256, NO_MEMORY),
-        (usize::MAX, NO_MEMORY),
-    ];
-    let mut limited = with_room::<P5, Limited<P5>>(&rt, rt.alloc(), 4);
-    refuses_reallocation(&rt, &mut limited, &asked);
-    let mut fixed = with_room::<P5, Fixed<P5>>(&rt, rt.alloc(), 4);
-    refuses_reallocation(&rt, &mut fixed, &asked);
-    let mut array = new_arena::<P5, Places<P5, 4>>(rt.alloc());
-    refuses_reallocation(&rt, &mut array, &asked);
-    let mut words = with_room::<P1, Limited<P1>>(&rt, rt.alloc(), 4);
-    let asked = [(5, BEYOND), (65535, BEYOND), (65536, NO_MEMORY)];
-    refuses_reallocation(&rt, &mut words, &asked);
+fn past_the_greatest_index_and_the_limit(rt: HostRuntime) -> Result<(), Fail> {
+    let bytes = RefusesReallocation {
+        asked: &[
+            (5, BEYOND),
+            (255, BEYOND),
+            (256, NO_MEMORY),
+            (usize::MAX, NO_MEMORY),
+        ],
+    };
+    on_limited::<P5, _>(rt.alloc(), Some(4), &bytes)?;
+    on_fixed::<P5, _>(rt.alloc(), Some(4), &bytes)?;
+    bytes.on(&mut new_arena::<P5, Places<P5, 4>>(rt.alloc()))?;
+    let words = RefusesReallocation {
+        asked: &[(5, BEYOND), (65535, BEYOND), (65536, NO_MEMORY)],
+    };
+    on_limited::<P1, _>(rt.alloc(), Some(4), &words)?;
+    Ok(())
 }
 
 #[test]
-fn past_the_limit_and_the_memory(rt: HostRuntime) {
-    let asked = [(5, BEYOND), (1 << 61, BEYOND), (usize::MAX, BEYOND)];
-    let mut limited = with_room::<P0, Limited<P0>>(&rt, rt.alloc(), 4);
-    refuses_reallocation(&rt, &mut limited, &asked);
-    let mut little = with_room::<P0, Little<P0, 4>>(&rt, rt.alloc(), 4);
-    refuses_reallocation(&rt, &mut little, &asked);
-    follow_limited(&rt, &mut little, &[(Call::SetLimit(6), Told::Done)]);
-    let asked = [(5, NO_MEMORY), (6, NO_MEMORY), (7, BEYOND)];
-    refuses_reallocation(&rt, &mut little, &asked);
-}
-
-// Fills an arena that has this many places and no entry.
-fn fill<P: Ptr, S: NonZeroInxGenericStack<ArenaSlot<P, Token>>>(
-    rt: &impl Abort,
-    arena: &mut Arena<P, Token, S>,
-    places: usize,
-)
-where
-    P::Gen: Numbered,
-{
-    for index in 0..places {
-        follow(
-            rt,
-            arena,
-            &[(Call::InsertWithinCapacity(0), Told::At(index + 1, 2))],
-        );
-    }
+fn past_the_limit_and_the_memory(rt: HostRuntime) -> Result<(), Fail> {
+    let at_four = RefusesReallocation {
+        asked: &[(5, BEYOND), (1 << 61, BEYOND), (usize::MAX, BEYOND)],
+    };
+    on_limited::<P0, _>(rt.alloc(), Some(4), &at_four)?;
+    let set_to_six = Steps(&[(Call::SetLimit(6), Told::Done)]);
+    let at_six = RefusesReallocation {
+        asked: &[(5, NO_MEMORY), (6, NO_MEMORY), (7, BEYOND)],
+    };
+    on_little::<P0, 4, _>(rt.alloc(), Some(4), &(at_four, (set_to_six, at_six)))?;
+    Ok(())
 }
 
 // A full arena is refused growth so at its limit, so under a limit of one more, and so at its limit
 // again.
-fn refuses_growth_at_limits<P: Ptr, S: SetMaxCapacity<ArenaSlot<P, Token>>>(
-    rt: &impl Abort,
-    arena: &mut Arena<P, Token, S>,
+#[derive(Drop)]
+struct RefusesAtLimits {
     places: usize,
-)
-where
-    P::Gen: Numbered,
-{
-    fill(rt, arena, places);
-    refuses_growth(rt, arena, BEYOND);
-    follow_limited(
-        rt,
-        arena,
-        &[(Call::SetLimit(places.saturating_add(1)), Told::Done)],
-    );
-    refuses_growth(rt, arena, NO_MEMORY);
-    follow_limited(rt, arena, &[(Call::SetLimit(places), Told::Done)]);
-    refuses_growth(rt, arena, BEYOND);
+}
+
+impl Trial for RefusesAtLimits {
+    fn on<A: TestedArena>(&self, arena: &mut A) -> Result<(), Wrong> {
+        let more = self.places.saturating_add(1);
+        Filled {
+            places: self.places,
+        }
+        .on(arena)?;
+        RefusesGrowth { refused: BEYOND }.on(arena)?;
+        step(arena, Call::SetLimit(more), Told::Done)?;
+        RefusesGrowth { refused: NO_MEMORY }.on(arena)?;
+        step(arena, Call::SetLimit(self.places), Told::Done)?;
+        RefusesGrowth { refused: BEYOND }.on(arena)
+    }
+}
+
+// So many insertions, in an arena that has as many places and no entry.
+#[derive(Drop)]
+struct Filled {
+    places: usize,
+}
+
+impl Trial for Filled {
+    fn on<A: TestedArena>(&self, arena: &mut A) -> Result<(), Wrong> {
+        for index in 1..=self.places {
+            step(arena, Call::InsertWithinCapacity(0), Told::At(index, 2))?;
+        }
+        Ok(())
+    }
 }
 
 #[test]
-fn growth_at_the_limit_and_the_greatest_index(rt: HostRuntime) {
-    let mut limited = with_room::<Narrow, Limited<Narrow>>(&rt, rt.alloc(), 255);
-    refuses_growth_at_limits(&rt, &mut limited, 255);
-    let mut fixed = with_room::<Narrow, Fixed<Narrow>>(&rt, rt.alloc(), 255);
-    fill(&rt, &mut fixed, 255);
-    refuses_growth(&rt, &mut fixed, BEYOND);
+fn growth_at_the_limit_and_the_greatest_index(rt: HostRuntime) -> Result<(), Fail> {
+    let places = 255;
+    on_limited::<Narrow, _>(rt.alloc(), Some(places), &RefusesAtLimits { places })?;
+    let full = (Filled { places }, RefusesGrowth { refused: BEYOND });
+    on_fixed::<Narrow, _>(rt.alloc(), Some(places), &full)?;
+    Ok(())
 }
 
 #[test]
-fn growth_at_the_limit_and_the_end_of_memory(rt: HostRuntime) {
-    let mut little = with_room::<P0, Little<P0, 3>>(&rt, rt.alloc(), 3);
-    refuses_growth_at_limits(&rt, &mut little, 3);
+fn growth_at_the_limit_and_the_end_of_memory(rt: HostRuntime) -> Result<(), Fail> {
+    on_little::<P0, 3, _>(rt.alloc(), Some(3), &RefusesAtLimits { places: 3 })?;
+    Ok(())
 }

@@ -1,36 +1,25 @@
 //! A full arena that is refused one more place, by each call that asks for it.
 
-use super::numbered::Numbered;
-use super::state::state_of;
-use super::tables::{Call, follow_unchanged};
-use super::token::Token;
-use super::told::Told;
-use std::process::Abort;
-use triple_arena::{Arena, ArenaSlot};
-use triple_arena_ptr::Ptr;
-use triple_arena_stack::NonZeroInxGenericStack;
+use triple_arena_test_kit::{Call, TestedArena, Told, Trial, Unchanged, Wrong};
 
 /// Each way to ask a full arena for one more place is refused so, and leaves it as it is.
-pub fn refuses_growth<P: Ptr, S: NonZeroInxGenericStack<ArenaSlot<P, Token>>>(
-    rt: &impl Abort,
-    arena: &mut Arena<P, Token, S>,
-    refused: Told,
-)
-where
-    P::Gen: Numbered,
-{
-    let before = state_of(rt, arena);
-    assert_eq!(rt; before.len, before.capacity);
-    follow_unchanged(
-        rt,
-        arena,
-        &[
+#[derive(Drop)]
+pub struct RefusesGrowth {
+    pub refused: Told,
+}
+
+impl Trial for RefusesGrowth {
+    fn on<A: TestedArena>(&self, arena: &mut A) -> Result<(), Wrong> {
+        let refused = self.refused;
+        Unchanged(&[
+            (Call::NextPtr, Told::Full),
             (Call::Insert(99), refused),
             (Call::InsertReallocating(99), refused),
             (Call::EntryPtr, refused),
             (Call::EntryPtrReallocating, refused),
             (Call::InsertWithinCapacity(99), Told::Full),
             (Call::EntryPtrWithin, Told::Full),
-        ],
-    );
+        ])
+        .on(arena)
+    }
 }

@@ -1,18 +1,16 @@
 //! What refused calls leave: the whole state before and after each.
 
-use super::arenas::{Fixed, Heap, Limited, Places, capacity_made, new_arena};
-use super::numbered::Numbered;
-use super::state::{State, assert_state, state_of};
-use super::tables::{Call, follow, follow_limited, follow_tidied, follow_unchanged, made};
-use super::token::Token;
-use super::told::Told;
-use super::{own_calls, trait_calls};
 use std::mem;
-use std::process::Abort;
+use std::test::Fail;
 use triple_arena::{Arena, ArenaSlot, ArenaTrait};
 use triple_arena_base::{AllocError, ReallocationError};
 use triple_arena_ptr::P0;
 use triple_arena_stack::NonZeroInxGenericStack;
+use triple_arena_test_kit::{
+    Call, Fixed, Heap, Limited, Places, State, Steps, TestedArena, Tidied, Told, Trial, Unchanged,
+    Wrong, capacity_made, has_state, is_told, new_arena, on_fixed, on_heap, on_limited, step,
+    where_there_is_memory,
+};
 
 // More slots than a vector may hold.
 const TOO_MANY: usize = 1 << 61;
@@ -36,140 +34,157 @@ fn a_constructor_tells_of_no_memory(rt: HostRuntime) {
     assert_eq!(rt; array, Err(AllocError));
 }
 
-// Two reallocations of an arena that is allowed any number of slots.
-fn refused_reallocation<S: NonZeroInxGenericStack<ArenaSlot<P0, Token>>>(
-    rt: &impl Abort,
-    arena: &mut Arena<P0, Token, S>,
-) {
-    follow(
-        rt,
-        arena,
-        &[
-            (Call::Insert(1), Told::At(1, 2)),
-            (Call::Insert(2), Told::At(2, 2)),
-            (Call::Insert(3), Told::At(3, 2)),
-            (Call::Insert(4), Told::At(4, 2)),
-            (Call::Insert(5), Told::At(5, 2)),
-            (Call::Insert(6), Told::At(6, 2)),
-            (Call::RemoveInx(1), Told::Held(2, 1)),
-            (Call::RemoveInx(3), Told::Held(2, 3)),
-            (Call::RemoveInx(5), Told::Held(2, 5)),
-            (Call::RemoveInx(6), Told::Held(2, 6)),
-            (Call::Slots, Told::Size(5)),
-            (Call::Root, Told::Size(5)),
-        ],
-    );
-    follow_tidied(rt, arena, &[(Call::Reallocate(TOO_MANY), NO_MEMORY)]);
-    follow(
-        rt,
-        arena,
-        &[
-            (Call::Insert(7), Told::At(1, 6)),
-            (Call::Insert(8), Told::At(3, 6)),
-            (Call::Insert(9), Told::At(5, 6)),
-            (Call::Insert(10), Told::At(6, 6)),
-            (Call::RemoveInx(1), Told::Held(6, 7)),
-            (Call::RemoveInx(3), Told::Held(6, 8)),
-            (Call::RemoveInx(5), Told::Held(6, 9)),
-            (Call::RemoveInx(6), Told::Held(6, 10)),
-            (Call::Slots, Told::Size(5)),
-            (Call::Root, Told::Size(5)),
-        ],
-    );
-    follow_tidied(rt, arena, &[(Call::Reallocate(usize::MAX), NO_MEMORY)]);
-    follow(
-        rt,
-        arena,
-        &[
-            (Call::Insert(7), Told::At(1, 10)),
-            (Call::Insert(8), Told::At(3, 10)),
-            (Call::Insert(9), Told::At(5, 10)),
-            (Call::Insert(10), Told::At(6, 10)),
-            (Call::Get(2, 2), Told::Holds(2)),
-            (Call::Get(4, 2), Told::Holds(4)),
-        ],
-    );
+// Insertions and removals before, between and behind two reallocations of an arena that is allowed
+// any number of slots.
+const BEFORE: Steps<'_> = Steps(&[
+    (Call::Insert(1), Told::At(1, 2)),
+    (Call::Insert(2), Told::At(2, 2)),
+    (Call::Insert(3), Told::At(3, 2)),
+    (Call::Insert(4), Told::At(4, 2)),
+    (Call::Insert(5), Told::At(5, 2)),
+    (Call::Insert(6), Told::At(6, 2)),
+    (Call::RemoveInx(1), Told::Held(2, 1)),
+    (Call::RemoveInx(3), Told::Held(2, 3)),
+    (Call::RemoveInx(5), Told::Held(2, 5)),
+    (Call::RemoveInx(6), Told::Held(2, 6)),
+    (Call::Slots, Told::Size(5)),
+    (Call::Root, Told::Size(5)),
+]);
+
+const BETWEEN: Steps<'_> = Steps(&[
+    (Call::Insert(7), Told::At(1, 6)),
+    (Call::Insert(8), Told::At(3, 6)),
+    (Call::Insert(9), Told::At(5, 6)),
+    (Call::Insert(10), Told::At(6, 6)),
+    (Call::RemoveInx(1), Told::Held(6, 7)),
+    (Call::RemoveInx(3), Told::Held(6, 8)),
+    (Call::RemoveInx(5), Told::Held(6, 9)),
+    (Call::RemoveInx(6), Told::Held(6, 10)),
+    (Call::Slots, Told::Size(5)),
+    (Call::Root, Told::Size(5)),
+]);
+
+const BEHIND: Steps<'_> = Steps(&[
+    (Call::Insert(7), Told::At(1, 10)),
+    (Call::Insert(8), Told::At(3, 10)),
+    (Call::Insert(9), Told::At(5, 10)),
+    (Call::Insert(10), Told::At(6, 10)),
+    (Call::Get(2, 2), Told::Holds(2)),
+    (Call::Get(4, 2), Told::Holds(4)),
+]);
+
+// The two reallocations, each of which is refused, and puts the free list in order.
+#[derive(Drop)]
+struct RefusedTwice;
+
+impl Trial for RefusedTwice {
+    fn on<A: TestedArena>(&self, arena: &mut A) -> Result<(), Wrong> {
+        BEFORE.on(arena)?;
+        Tidied(&[(Call::Reallocate(TOO_MANY), NO_MEMORY)]).on(arena)?;
+        BETWEEN.on(arena)?;
+        Tidied(&[(Call::Reallocate(usize::MAX), NO_MEMORY)]).on(arena)?;
+        BEHIND.on(arena)
+    }
 }
 
 #[test]
-fn a_refused_reallocation_has_put_the_free_list_in_order(rt: HostRuntime) {
-    refused_reallocation(&rt, &mut new_arena::<P0, Heap<P0>>(rt.alloc()));
-    let mut limited = new_arena::<P0, Limited<P0>>(rt.alloc());
-    follow_limited(
-        &rt,
-        &mut limited,
-        &[(Call::SetLimit(usize::MAX), Told::Done)],
-    );
-    refused_reallocation(&rt, &mut limited);
+fn a_refused_reallocation_has_put_the_free_list_in_order(rt: HostRuntime) -> Result<(), Fail> {
+    on_heap::<P0, _>(rt.alloc(), None, &RefusedTwice)?;
+    let unlimited = Steps(&[(Call::SetLimit(usize::MAX), Told::Done)]);
+    on_limited::<P0, _>(rt.alloc(), None, &(unlimited, RefusedTwice))?;
+    Ok(())
 }
 
-// Length, capacity and limit, counter, first free index and slots of an arena of any values.
-fn shown<T, S: NonZeroInxGenericStack<ArenaSlot<P0, T>>>(
-    arena: &Arena<P0, T, S>,
-) -> (Told, u64, Told, usize) {
-    (
-        trait_calls::bounds(arena),
-        arena.generation().told_number(),
-        own_calls::root(arena),
-        arena.backing().len(),
-    )
+// That an arena of no entries is as it was made.
+fn is_as_made<T, S: NonZeroInxGenericStack<ArenaSlot<P0, T>>>(arena: &Arena<P0, T, S>) -> bool {
+    arena.is_empty()
+        && arena.capacity() == 0
+        && arena.max_capacity().is_none()
+        && arena.generation().get() == 2
+        && arena.freelist_root().is_none()
+        && arena.backing().len() == 0
+}
+
+// What refuses an entry.
+fn refusal<T, S: NonZeroInxGenericStack<ArenaSlot<P0, T>>>(
+    arena: &mut Arena<P0, T, S>,
+) -> Option<ReallocationError> {
+    arena.entry_insert().err()
+}
+
+// The same by `entry_insert_reallocating`.
+fn refusal_reallocating<T, S: NonZeroInxGenericStack<ArenaSlot<P0, T>>>(
+    arena: &mut Arena<P0, T, S>,
+) -> Option<ReallocationError> {
+    arena.entry_insert_reallocating().err()
+}
+
+// Whether there is no place for an entry.
+fn has_no_place<T, S: NonZeroInxGenericStack<ArenaSlot<P0, T>>>(
+    arena: &mut Arena<P0, T, S>,
+) -> bool {
+    arena.entry_insert_within_capacity().is_err()
 }
 
 // Entries of an arena without slots, each of which asks for more slots than a vector may hold.
 #[test]
 fn a_refused_growth_changes_nothing(rt: HostRuntime) {
     let mut arena: Arena<P0, Long> = Arena::new(rt.alloc());
-    let before = (Told::Bounds(0, 0, None), 2, Told::Nothing, 0);
-    assert_eq!(rt; own_calls::entry_ptr(&mut arena), NO_MEMORY);
-    assert_eq!(rt; shown(&arena), before);
-    assert_eq!(rt; own_calls::entry_ptr_reallocating(&mut arena), NO_MEMORY);
-    assert_eq!(rt; shown(&arena), before);
-    assert_eq!(rt; own_calls::entry_ptr_within(&mut arena), Told::Full);
-    assert_eq!(rt; shown(&arena), before);
+    let refused = Some(ReallocationError::AllocError);
+    assert!(rt; is_as_made(&arena));
+    assert!(rt; refusal(&mut arena) == refused);
+    assert!(rt; is_as_made(&arena));
+    assert!(rt; refusal_reallocating(&mut arena) == refused);
+    assert!(rt; is_as_made(&arena));
+    assert!(rt; has_no_place(&mut arena));
+    assert!(rt; is_as_made(&arena));
     // So long a value could not be dropped.
     mem::forget(arena);
 }
 
-#[test]
-fn a_call_on_an_invalid_pointer_changes_nothing(rt: HostRuntime) {
-    let mut arena = new_arena::<P0, Heap<P0>>(rt.alloc());
-    follow(
-        &rt,
-        &mut arena,
-        &[
-            (Call::Insert(1), Told::At(1, 2)),
-            (Call::Insert(2), Told::At(2, 2)),
-            (Call::Insert(3), Told::At(3, 2)),
-            (Call::Insert(4), Told::At(4, 2)),
-            (Call::Insert(5), Told::At(5, 2)),
-            (Call::Remove(2, 2), Told::Holds(2)),
-            (Call::Remove(4, 2), Told::Holds(4)),
-            (Call::Insert(6), Told::At(4, 4)),
-        ],
-    );
-    // of free slots, of earlier and later generations, and past the slots
-    for (index, generation) in [(2, 2), (2, 4), (4, 2), (1, 4), (1, 1), (6, 4)] {
-        follow_unchanged(
-            &rt,
-            &mut arena,
-            &[
+// Removals and an insertion, which leave the second slot free, and a later generation at the fourth.
+const ENDED: Steps<'_> = Steps(&[
+    (Call::Insert(1), Told::At(1, 2)),
+    (Call::Insert(2), Told::At(2, 2)),
+    (Call::Insert(3), Told::At(3, 2)),
+    (Call::Insert(4), Told::At(4, 2)),
+    (Call::Insert(5), Told::At(5, 2)),
+    (Call::Remove(2, 2), Told::Holds(2)),
+    (Call::Remove(4, 2), Told::Holds(4)),
+    (Call::Insert(6), Told::At(4, 4)),
+]);
+
+// The calls by pointers and by indexes that have no entry.
+#[derive(Drop)]
+struct NothingIsNamed;
+
+impl Trial for NothingIsNamed {
+    fn on<A: TestedArena>(&self, arena: &mut A) -> Result<(), Wrong> {
+        // of free slots, of earlier and later generations, and past the slots
+        for (index, generation) in [(2, 2), (2, 4), (4, 2), (1, 4), (1, 1), (6, 4)] {
+            Unchanged(&[
                 (Call::Get(index, generation), Told::Nothing),
                 (Call::GetMut(index, generation), Told::Nothing),
                 (Call::Invalidate(index, generation), Told::Invalid),
                 (Call::Remove(index, generation), Told::Invalid),
-            ],
-        );
-    }
-    for index in [2, 6, usize::MAX] {
-        follow_unchanged(
-            &rt,
-            &mut arena,
-            &[
+            ])
+            .on(arena)?;
+        }
+        for index in [2, 6, usize::MAX] {
+            Unchanged(&[
                 (Call::GetInxMut(index), Told::Nothing),
                 (Call::RemoveInx(index), Told::Invalid),
-            ],
-        );
+            ])
+            .on(arena)?;
+        }
+        Ok(())
     }
+}
+
+#[test]
+fn a_call_on_an_invalid_pointer_changes_nothing(rt: HostRuntime) -> Result<(), Fail> {
+    on_heap::<P0, _>(rt.alloc(), None, &(ENDED, NothingIsNamed))?;
+    Ok(())
 }
 
 // What refuses room for `asked` slots, under this limit.
@@ -191,94 +206,90 @@ fn insertion(number: u64) -> Call {
 }
 
 // Inserts a token. Only a full arena may refuse it, and then stays as it is.
-fn insert_next<S: NonZeroInxGenericStack<ArenaSlot<P0, Token>>>(
-    rt: &impl Abort,
-    arena: &mut Arena<P0, Token, S>,
-    number: u64,
-) {
-    let before = state_of(rt, arena);
-    let told = made(rt, arena, insertion(number));
+fn insert_next<A: TestedArena>(arena: &mut A, number: u64) -> Result<(), Wrong> {
+    let before = arena.state();
+    let call = insertion(number);
+    let told = arena.answer(call);
     if let Told::At(index, generation) = told {
-        follow(
-            rt,
-            arena,
-            &[(Call::Get(index, generation), Told::Holds(number))],
-        );
-    } else {
-        assert_eq!(rt; before.len, before.capacity, "at {number}");
-        let refused = refusal_under(before.limit, before.capacity.saturating_add(1));
-        assert_eq!(rt; told, refused, "at {number}");
-        assert_state(rt, arena, &before);
+        return step(arena, Call::Get(index, generation), Told::Holds(number));
     }
+    let full = Told::Bounds(before.capacity, before.capacity, before.limit);
+    step(arena, Call::Bounds, full)?;
+    let refused = refusal_under(before.limit, before.capacity.saturating_add(1));
+    is_told(call, told, refused)?;
+    has_state(arena, call, &before)
 }
 
 // Reallocates, which puts the free list in order, refused or not.
-fn reallocate<S: NonZeroInxGenericStack<ArenaSlot<P0, Token>>>(
-    rt: &impl Abort,
-    arena: &mut Arena<P0, Token, S>,
-    asked: usize,
-) {
-    let before = state_of(rt, arena).in_order();
-    let told = made(rt, arena, Call::Reallocate(asked));
+fn reallocate<A: TestedArena>(arena: &mut A, asked: usize) -> Result<(), Wrong> {
+    let before = arena.state().in_order();
+    let call = Call::Reallocate(asked);
+    let told = arena.answer(call);
     if told == Told::Done {
-        let capacity = arena.capacity();
-        assert!(rt; capacity >= asked, "at {asked}");
-        assert_state(rt, arena, &State { capacity, ..before });
+        let capacity = arena.state().capacity;
+        let expected = State { capacity, ..before };
+        has_state(arena, call, &expected)?;
+        is_told(call, Told::Is(capacity >= asked), Told::Is(true))
     } else {
-        assert_eq!(rt; told, refusal_under(before.limit, asked), "at {asked}");
-        assert_state(rt, arena, &before);
+        is_told(call, told, refusal_under(before.limit, asked))?;
+        has_state(arena, call, &before)
     }
 }
 
 // Removes the first entry and renews the last, where there are entries.
-fn end_first_and_renew_last<S: NonZeroInxGenericStack<ArenaSlot<P0, Token>>>(
-    rt: &impl Abort,
-    arena: &mut Arena<P0, Token, S>,
-) {
-    if let Told::At(index, generation) = made(rt, arena, Call::First) {
-        let removed = made(rt, arena, Call::Remove(index, generation));
-        assert!(rt; matches!(removed, Told::Holds(_)));
+fn end_first_and_renew_last<A: TestedArena>(arena: &mut A) -> Result<(), Wrong> {
+    if let Told::At(index, generation) = arena.answer(Call::First) {
+        let call = Call::Remove(index, generation);
+        let removed = matches!(arena.answer(call), Told::Holds(_));
+        is_told(call, Told::Is(removed), Told::Is(true))?;
     }
-    if let Told::At(index, generation) = made(rt, arena, Call::Last) {
-        let renewed = made(rt, arena, Call::Invalidate(index, generation));
-        assert!(rt; matches!(renewed, Told::At(_, _)));
+    if let Told::At(index, generation) = arena.answer(Call::Last) {
+        let call = Call::Invalidate(index, generation);
+        let renewed = matches!(arena.answer(call), Told::At(_, _));
+        is_told(call, Told::Is(renewed), Told::Is(true))?;
     }
+    Ok(())
 }
 
 // Insertions, removals and reallocations, of which the machine may refuse any.
-fn whatever_is_refused<S: NonZeroInxGenericStack<ArenaSlot<P0, Token>>>(
-    rt: &impl Abort,
-    arena: &mut Arena<P0, Token, S>,
-) {
-    for asked in [0, 3, 1, 9, 2, 20] {
-        reallocate(rt, arena, asked);
-        for number in 0..9 {
-            insert_next(rt, arena, number);
+#[derive(Drop)]
+struct WhateverIsRefused;
+
+impl Trial for WhateverIsRefused {
+    fn on<A: TestedArena>(&self, arena: &mut A) -> Result<(), Wrong> {
+        for asked in [0, 3, 1, 9, 2, 20] {
+            reallocate(arena, asked)?;
+            for number in 0..9 {
+                insert_next(arena, number)?;
+            }
+            end_first_and_renew_last(arena)?;
+            end_first_and_renew_last(arena)?;
         }
-        end_first_and_renew_last(rt, arena);
-        end_first_and_renew_last(rt, arena);
+        Ok(())
     }
 }
 
 #[test]
-fn each_refusal_over_the_heap_leaves_the_arena_as_it_was(rt: HostRuntime) {
-    whatever_is_refused(&rt, &mut new_arena::<P0, Heap<P0>>(rt.alloc()));
+fn each_refusal_over_the_heap_leaves_the_arena_as_it_was(rt: HostRuntime) -> Result<(), Fail> {
+    on_heap::<P0, _>(rt.alloc(), None, &WhateverIsRefused)?;
+    Ok(())
 }
 
 #[test]
-fn each_refusal_under_a_limit_leaves_the_arena_as_it_was(rt: HostRuntime) {
-    let mut arena = new_arena::<P0, Limited<P0>>(rt.alloc());
-    follow_limited(&rt, &mut arena, &[(Call::SetLimit(15), Told::Done)]);
-    whatever_is_refused(&rt, &mut arena);
+fn each_refusal_under_a_limit_leaves_the_arena_as_it_was(rt: HostRuntime) -> Result<(), Fail> {
+    let limit = Steps(&[(Call::SetLimit(15), Told::Done)]);
+    on_limited::<P0, _>(rt.alloc(), None, &(limit, WhateverIsRefused))?;
+    Ok(())
 }
 
 #[test]
-fn each_refusal_of_fixed_room_and_arrays_leaves_the_arena_as_it_was(rt: HostRuntime) {
-    whatever_is_refused(&rt, &mut new_arena::<P0, Places<P0, 8>>(rt.alloc()));
-    match Arena::<P0, Token, Fixed<P0>>::with_min_capacity(rt.alloc(), 5) {
-        Ok(mut fixed) => whatever_is_refused(&rt, &mut fixed),
-        Err(refused) => assert_eq!(rt; refused, AllocError),
-    }
+fn each_refusal_of_fixed_room_and_arrays_leaves_the_arena_as_it_was(
+    rt: HostRuntime,
+) -> Result<(), Fail> {
+    WhateverIsRefused.on(&mut new_arena::<P0, Places<P0, 8>>(rt.alloc()))?;
+    let tried = on_fixed::<P0, _>(rt.alloc(), Some(5), &WhateverIsRefused);
+    where_there_is_memory(tried)?;
+    Ok(())
 }
 
 #[test]

@@ -1,25 +1,18 @@
 //! Worked sequences of calls.
 
-use super::arenas::{Heap, Limited, capacity_made, new_arena};
-use super::tables::{Call, follow};
-use super::token::Token;
-use super::told::Told;
 use std::alloc::Global;
-use std::process::Abort;
+use std::test::Fail;
 use triple_arena::ArenaSlot;
 use triple_arena_base::{AllocError, ReallocationError};
 use triple_arena_ptr::{P0, P4, P5};
-
-// Makes each call on an arena without slots, and expects its answer.
-fn from_empty(rt: &impl Abort, alloc: Global, steps: &[(Call, Told)]) {
-    let mut arena = new_arena::<P0, Heap<P0>>(alloc);
-    follow(rt, &mut arena, steps);
-}
+use triple_arena_test_kit::{
+    Call, Heap, Steps, TestedArena, Token, Told, Trial, Wrong, capacity_made, from_empty, on_heap,
+    on_limited, step,
+};
 
 #[test]
-fn a_removed_pointer_finds_nothing_again(rt: HostRuntime) {
-    from_empty(
-        &rt,
+fn a_removed_pointer_finds_nothing_again(rt: HostRuntime) -> Result<(), Fail> {
+    from_empty::<P0>(
         rt.alloc(),
         &[
             (Call::Insert(1), Told::At(1, 2)),
@@ -32,13 +25,13 @@ fn a_removed_pointer_finds_nothing_again(rt: HostRuntime) {
             (Call::Get(1, 3), Told::Holds(3)),
             (Call::Get(2, 2), Told::Holds(2)),
         ],
-    );
+    )?;
+    Ok(())
 }
 
 #[test]
-fn a_removal_at_the_end_pops_the_slot(rt: HostRuntime) {
-    from_empty(
-        &rt,
+fn a_removal_at_the_end_pops_the_slot(rt: HostRuntime) -> Result<(), Fail> {
+    from_empty::<P0>(
         rt.alloc(),
         &[
             (Call::Insert(1), Told::At(1, 2)),
@@ -51,27 +44,27 @@ fn a_removal_at_the_end_pops_the_slot(rt: HostRuntime) {
             (Call::Insert(3), Told::At(2, 3)),
             (Call::Root, Told::Nothing),
         ],
-    );
+    )?;
+    Ok(())
 }
 
 #[test]
-fn a_new_limited_arena_takes_no_entry(rt: HostRuntime) {
-    let mut arena = new_arena::<P0, Limited<P0>>(rt.alloc());
+fn a_new_limited_arena_takes_no_entry(rt: HostRuntime) -> Result<(), Fail> {
     let beyond = Told::Refused(ReallocationError::BeyondMaxCapacity);
-    follow(
-        &rt,
-        &mut arena,
-        &[
+    on_limited::<P0, _>(
+        rt.alloc(),
+        None,
+        &Steps(&[
             (Call::Insert(1), beyond),
             (Call::Bounds, Told::Bounds(0, 0, Some(0))),
-        ],
-    );
+        ]),
+    )?;
+    Ok(())
 }
 
 #[test]
-fn clearing_raises_the_counter_once(rt: HostRuntime) {
-    from_empty(
-        &rt,
+fn clearing_raises_the_counter_once(rt: HostRuntime) -> Result<(), Fail> {
+    from_empty::<P0>(
         rt.alloc(),
         &[
             (Call::Clear, Told::Done),
@@ -84,13 +77,13 @@ fn clearing_raises_the_counter_once(rt: HostRuntime) {
             (Call::Slots, Told::Size(0)),
             (Call::Insert(3), Told::At(1, 3)),
         ],
-    );
+    )?;
+    Ok(())
 }
 
 #[test]
-fn clearing_forgets_the_free_indexes(rt: HostRuntime) {
-    from_empty(
-        &rt,
+fn clearing_forgets_the_free_indexes(rt: HostRuntime) -> Result<(), Fail> {
+    from_empty::<P0>(
         rt.alloc(),
         &[
             (Call::Insert(1), Told::At(1, 2)),
@@ -103,13 +96,13 @@ fn clearing_forgets_the_free_indexes(rt: HostRuntime) {
             (Call::Insert(4), Told::At(1, 4)),
             (Call::Insert(5), Told::At(2, 4)),
         ],
-    );
+    )?;
+    Ok(())
 }
 
 #[test]
-fn an_invalidated_pointer_finds_nothing(rt: HostRuntime) {
-    from_empty(
-        &rt,
+fn an_invalidated_pointer_finds_nothing(rt: HostRuntime) -> Result<(), Fail> {
+    from_empty::<P0>(
         rt.alloc(),
         &[
             (Call::Insert(1), Told::At(1, 2)),
@@ -119,32 +112,29 @@ fn an_invalidated_pointer_finds_nothing(rt: HostRuntime) {
             (Call::Get(1, 3), Told::Holds(1)),
             (Call::Insert(2), Told::At(2, 3)),
         ],
-    );
+    )?;
+    Ok(())
 }
 
 // Five entries, of which the first and then the third are removed.
-fn with_two_free(rt: &impl Abort, alloc: Global, steps: &[(Call, Told)]) {
-    let mut arena = new_arena::<P0, Heap<P0>>(alloc);
-    follow(
-        rt,
-        &mut arena,
-        &[
-            (Call::Insert(1), Told::At(1, 2)),
-            (Call::Insert(2), Told::At(2, 2)),
-            (Call::Insert(3), Told::At(3, 2)),
-            (Call::Insert(4), Told::At(4, 2)),
-            (Call::Insert(5), Told::At(5, 2)),
-            (Call::Remove(1, 2), Told::Holds(1)),
-            (Call::Remove(3, 2), Told::Holds(3)),
-        ],
-    );
-    follow(rt, &mut arena, steps);
+const TWO_FREE: Steps<'_> = Steps(&[
+    (Call::Insert(1), Told::At(1, 2)),
+    (Call::Insert(2), Told::At(2, 2)),
+    (Call::Insert(3), Told::At(3, 2)),
+    (Call::Insert(4), Told::At(4, 2)),
+    (Call::Insert(5), Told::At(5, 2)),
+    (Call::Remove(1, 2), Told::Holds(1)),
+    (Call::Remove(3, 2), Told::Holds(3)),
+]);
+
+// The calls on an arena with these entries.
+fn with_two_free(alloc: Global, steps: &[(Call, Told)]) -> Result<(), Wrong> {
+    on_heap::<P0, _>(alloc, None, &(TWO_FREE, Steps(steps)))
 }
 
 #[test]
-fn insertion_takes_the_index_that_was_freed_last(rt: HostRuntime) {
+fn insertion_takes_the_index_that_was_freed_last(rt: HostRuntime) -> Result<(), Fail> {
     with_two_free(
-        &rt,
         rt.alloc(),
         &[
             (Call::Root, Told::Size(3)),
@@ -154,13 +144,13 @@ fn insertion_takes_the_index_that_was_freed_last(rt: HostRuntime) {
             (Call::Root, Told::Nothing),
             (Call::Insert(8), Told::At(6, 4)),
         ],
-    );
+    )?;
+    Ok(())
 }
 
 #[test]
-fn in_order_the_least_free_index_comes_first(rt: HostRuntime) {
+fn in_order_the_least_free_index_comes_first(rt: HostRuntime) -> Result<(), Fail> {
     with_two_free(
-        &rt,
         rt.alloc(),
         &[
             (Call::Canonicalize, Told::Done),
@@ -169,13 +159,13 @@ fn in_order_the_least_free_index_comes_first(rt: HostRuntime) {
             (Call::Insert(7), Told::At(3, 4)),
             (Call::Insert(8), Told::At(6, 4)),
         ],
-    );
+    )?;
+    Ok(())
 }
 
 #[test]
-fn reallocation_gives_up_the_free_end_slots(rt: HostRuntime) {
-    from_empty(
-        &rt,
+fn reallocation_gives_up_the_free_end_slots(rt: HostRuntime) -> Result<(), Fail> {
+    from_empty::<P0>(
         rt.alloc(),
         &[
             (Call::Insert(1), Told::At(1, 2)),
@@ -194,13 +184,13 @@ fn reallocation_gives_up_the_free_end_slots(rt: HostRuntime) {
             (Call::Insert(7), Told::At(4, 5)),
             (Call::Bounds, Told::Bounds(4, 6, None)),
         ],
-    );
+    )?;
+    Ok(())
 }
 
 #[test]
-fn the_first_and_the_last_entry(rt: HostRuntime) {
-    from_empty(
-        &rt,
+fn the_first_and_the_last_entry(rt: HostRuntime) -> Result<(), Fail> {
+    from_empty::<P0>(
         rt.alloc(),
         &[
             (Call::First, Told::Nothing),
@@ -216,13 +206,13 @@ fn the_first_and_the_last_entry(rt: HostRuntime) {
             (Call::First, Told::At(2, 2)),
             (Call::Last, Told::At(3, 2)),
         ],
-    );
+    )?;
+    Ok(())
 }
 
 #[test]
-fn the_counter_can_be_set_and_raised(rt: HostRuntime) {
-    from_empty(
-        &rt,
+fn the_counter_can_be_set_and_raised(rt: HostRuntime) -> Result<(), Fail> {
+    from_empty::<P0>(
         rt.alloc(),
         &[
             (Call::SetGeneration(u64::MAX), Told::Done),
@@ -233,13 +223,13 @@ fn the_counter_can_be_set_and_raised(rt: HostRuntime) {
             (Call::IncGeneration, Told::Done),
             (Call::Insert(2), Told::At(2, 3)),
         ],
-    );
+    )?;
+    Ok(())
 }
 
 #[test]
-fn an_index_past_the_slots_has_no_entry(rt: HostRuntime) {
-    from_empty(
-        &rt,
+fn an_index_past_the_slots_has_no_entry(rt: HostRuntime) -> Result<(), Fail> {
+    from_empty::<P0>(
         rt.alloc(),
         &[
             (Call::Insert(1), Told::At(1, 2)),
@@ -255,54 +245,60 @@ fn an_index_past_the_slots_has_no_entry(rt: HostRuntime) {
             (Call::Remove(usize::MAX, 1), Told::Invalid),
             (Call::Get(1, 2), Told::Holds(1)),
         ],
-    );
+    )?;
+    Ok(())
+}
+
+// The capacity of an arena on the heap after so many insertions, up to 255.
+fn grown_capacity(insertions: usize) -> usize {
+    match insertions {
+        1..=4 => 4,
+        5..=8 => 8,
+        9..=16 => 16,
+        17..=32 => 32,
+        33..=64 => 64,
+        65..=128 => 128,
+        _ => 255,
+    }
+}
+
+// Insertions up to the greatest byte index, and one more.
+#[derive(Drop)]
+struct UpTo255;
+
+impl Trial for UpTo255 {
+    fn on<A: TestedArena>(&self, arena: &mut A) -> Result<(), Wrong> {
+        for number in 1..256 {
+            step(arena, Call::Insert(number as u64), Told::At(number, 1))?;
+            let bounds = Told::Bounds(number, grown_capacity(number), None);
+            step(arena, Call::Bounds, bounds)?;
+        }
+        let refused = Told::Refused(ReallocationError::AllocError);
+        let full = Told::Bounds(255, 255, None);
+        step(arena, Call::Insert(256), refused)?;
+        step(arena, Call::Bounds, full)?;
+        for number in 1..256 {
+            step(arena, Call::Get(number, 1), Told::Holds(number as u64))?;
+        }
+        step(arena, Call::Reallocate(256), refused)?;
+        step(arena, Call::Bounds, full)
+    }
 }
 
 #[test]
-fn a_byte_index_ends_at_255(rt: HostRuntime) {
-    let mut arena = new_arena::<P5, Heap<P5>>(rt.alloc());
-    for number in 1..256 {
-        let capacity = match number {
-            1..=4 => 4,
-            5..=8 => 8,
-            9..=16 => 16,
-            17..=32 => 32,
-            33..=64 => 64,
-            65..=128 => 128,
-            _ => 255,
-        };
-        follow(
-            &rt,
-            &mut arena,
-            &[
-                (Call::Insert(number as u64), Told::At(number, 1)),
-                (Call::Bounds, Told::Bounds(number, capacity, None)),
-            ],
-        );
-    }
-    let refused = Told::Refused(ReallocationError::AllocError);
-    let full = (Call::Bounds, Told::Bounds(255, 255, None));
-    follow(&rt, &mut arena, &[(Call::Insert(256), refused), full]);
-    for number in 1..256 {
-        follow(
-            &rt,
-            &mut arena,
-            &[(Call::Get(number, 1), Told::Holds(number as u64))],
-        );
-    }
-    follow(&rt, &mut arena, &[(Call::Reallocate(256), refused), full]);
+fn a_byte_index_ends_at_255(rt: HostRuntime) -> Result<(), Fail> {
+    on_heap::<P5, _>(rt.alloc(), None, &UpTo255)?;
     let made = capacity_made::<P5, Heap<P5>>(rt.alloc(), 256);
     assert_eq!(rt; made, Err(AllocError));
     let made = capacity_made::<P5, Heap<P5>>(rt.alloc(), 255);
     assert_eq!(rt; made, Ok(255));
+    Ok(())
 }
 
 #[test]
-fn without_generations_an_invalidated_pointer_stays_valid(rt: HostRuntime) {
-    let mut arena = new_arena::<P4, Heap<P4>>(rt.alloc());
-    follow(
-        &rt,
-        &mut arena,
+fn without_generations_an_invalidated_pointer_stays_valid(rt: HostRuntime) -> Result<(), Fail> {
+    from_empty::<P4>(
+        rt.alloc(),
         &[
             (Call::Insert(1), Told::At(1, 1)),
             (Call::Invalidate(1, 1), Told::At(1, 1)),
@@ -310,7 +306,8 @@ fn without_generations_an_invalidated_pointer_stays_valid(rt: HostRuntime) {
             (Call::IncGeneration, Told::Done),
             (Call::Clear, Told::Done),
         ],
-    );
+    )?;
+    Ok(())
 }
 
 #[test]

@@ -1,48 +1,41 @@
 //! Where the counter wraps, and what each call that raises it tells.
 
-use super::arenas::{Fixed, Heap, Limited, Places, new_arena, with_room};
-use super::numbered::Numbered;
-use super::pointers::{B, Narrow};
-use super::tables::{Call, follow};
-use super::token::Token;
-use super::told::Told;
 use std::alloc::Global;
-use std::process::Abort;
-use triple_arena::ArenaSlot;
-use triple_arena_ptr::{P5, Ptr};
-use triple_arena_stack::NonZeroInxGenericStack;
+use std::test::Fail;
+use triple_arena_ptr::P5;
+use triple_arena_test_kit::{
+    B, Call, Narrow, Places, TestedArena, Told, Trial, Wrong, follow, from_empty, new_arena,
+    on_fixed, on_heap, on_limited, step,
+};
 
 // 253 times an insertion and its removal, which raise a byte counter from 2 to its end.
-fn each_generation<P: Ptr>(rt: &impl Abort, alloc: Global)
-where
-    P::Gen: Numbered,
-{
-    let mut arena = new_arena::<P, Heap<P>>(alloc);
-    for generation in 2..255 {
+#[derive(Drop)]
+struct EachGeneration;
+
+impl Trial for EachGeneration {
+    fn on<A: TestedArena>(&self, arena: &mut A) -> Result<(), Wrong> {
+        for generation in 2..255 {
+            let told = Told::At(1, generation);
+            step(arena, Call::Insert(generation), told)?;
+            let told = Told::Holds(generation);
+            step(arena, Call::Remove(1, generation), told)?;
+        }
         follow(
-            rt,
-            &mut arena,
+            arena,
             &[
-                (Call::Insert(generation), Told::At(1, generation)),
-                (Call::Remove(1, generation), Told::Holds(generation)),
+                (Call::Insert(255), Told::At(1, 255)),
+                (Call::Remove(1, 255), Told::WrappedHolds(255)),
+                (Call::Insert(256), Told::At(1, 2)),
             ],
-        );
+        )
     }
-    follow(
-        rt,
-        &mut arena,
-        &[
-            (Call::Insert(255), Told::At(1, 255)),
-            (Call::Remove(1, 255), Told::WrappedHolds(255)),
-            (Call::Insert(256), Told::At(1, 2)),
-        ],
-    );
 }
 
 #[test]
-fn a_byte_generation_wraps_at_its_end(rt: HostRuntime) {
-    each_generation::<Narrow>(&rt, rt.alloc());
-    each_generation::<B>(&rt, rt.alloc());
+fn a_byte_generation_wraps_at_its_end(rt: HostRuntime) -> Result<(), Fail> {
+    on_heap::<Narrow, _>(rt.alloc(), None, &EachGeneration)?;
+    on_heap::<B, _>(rt.alloc(), None, &EachGeneration)?;
+    Ok(())
 }
 
 // The first of two answers, or the second where the counter wraps.
@@ -50,37 +43,35 @@ fn either(wraps: bool, told: Told, told_wrapped: Told) -> Told {
     if wraps { told_wrapped } else { told }
 }
 
-// Makes the calls on an arena whose counter is `counter`, with one entry, of the number 7.
-fn from_one_entry<S: NonZeroInxGenericStack<ArenaSlot<Narrow, Token>> + Drop>(
-    rt: &impl Abort,
-    alloc: Global,
+// The calls after an insertion of the number 7 under this counter.
+#[derive(Drop)]
+struct FromOneEntry<'a> {
     counter: u64,
-    steps: &[(Call, Told)],
-) {
-    let mut arena = with_room::<Narrow, S>(rt, alloc, 2);
-    follow(
-        rt,
-        &mut arena,
-        &[
-            (Call::SetGeneration(counter), Told::Done),
-            (Call::Insert(7), Told::At(1, counter)),
-        ],
-    );
-    follow(rt, &mut arena, steps);
+    steps: &'a [(Call, Told)],
+}
+
+impl Trial for FromOneEntry<'_> {
+    fn on<A: TestedArena>(&self, arena: &mut A) -> Result<(), Wrong> {
+        step(arena, Call::SetGeneration(self.counter), Told::Done)?;
+        step(arena, Call::Insert(7), Told::At(1, self.counter))?;
+        follow(arena, self.steps)
+    }
+}
+
+// The same over each stack.
+fn from_one_entry(alloc: Global, counter: u64, steps: &[(Call, Told)]) -> Result<(), Wrong> {
+    let trial = FromOneEntry { counter, steps };
+    on_heap::<Narrow, _>(alloc, Some(2), &trial)?;
+    on_limited::<Narrow, _>(alloc, Some(2), &trial)?;
+    on_fixed::<Narrow, _>(alloc, Some(2), &trial)?;
+    trial.on(&mut new_arena::<Narrow, Places<Narrow, 2>>(alloc))
 }
 
 // Each raise from `before` gives `after`, and tells whether it wrapped.
-fn each_raise<S: NonZeroInxGenericStack<ArenaSlot<Narrow, Token>> + Drop>(
-    rt: &impl Abort,
-    alloc: Global,
-    before: u64,
-    after: u64,
-    wraps: bool,
-) {
+fn each_raise(alloc: Global, before: u64, after: u64, wraps: bool) -> Result<(), Wrong> {
     let counter = (Call::Generation, Told::Generation(after));
     let renewed = either(wraps, Told::At(1, after), Told::WrappedAt(1, after));
-    from_one_entry::<S>(
-        rt,
+    from_one_entry(
         alloc,
         before,
         &[
@@ -91,10 +82,9 @@ fn each_raise<S: NonZeroInxGenericStack<ArenaSlot<Narrow, Token>> + Drop>(
             (Call::Invalidate(1, before), Told::Invalid),
             counter,
         ],
-    );
+    )?;
     let taken = either(wraps, Told::Holds(7), Told::WrappedHolds(7));
-    from_one_entry::<S>(
-        rt,
+    from_one_entry(
         alloc,
         before,
         &[
@@ -104,10 +94,9 @@ fn each_raise<S: NonZeroInxGenericStack<ArenaSlot<Narrow, Token>> + Drop>(
             counter,
             (Call::Insert(8), Told::At(1, after)),
         ],
-    );
+    )?;
     let taken = either(wraps, Told::Held(before, 7), Told::WrappedHeld(before, 7));
-    from_one_entry::<S>(
-        rt,
+    from_one_entry(
         alloc,
         before,
         &[
@@ -116,10 +105,9 @@ fn each_raise<S: NonZeroInxGenericStack<ArenaSlot<Narrow, Token>> + Drop>(
             (Call::RemoveInx(1), Told::Invalid),
             counter,
         ],
-    );
+    )?;
     let raised = either(wraps, Told::Done, Told::Wrapped);
-    from_one_entry::<S>(
-        rt,
+    from_one_entry(
         alloc,
         before,
         &[
@@ -127,9 +115,8 @@ fn each_raise<S: NonZeroInxGenericStack<ArenaSlot<Narrow, Token>> + Drop>(
             counter,
             (Call::Insert(8), Told::At(1, after)),
         ],
-    );
-    from_one_entry::<S>(
-        rt,
+    )?;
+    from_one_entry(
         alloc,
         before,
         &[
@@ -137,56 +124,57 @@ fn each_raise<S: NonZeroInxGenericStack<ArenaSlot<Narrow, Token>> + Drop>(
             counter,
             (Call::Get(1, before), Told::Holds(7)),
         ],
-    );
+    )
 }
 
-// Raises from the greatest generation, from the one below it, and from the two lowest.
-fn raises_over<S: NonZeroInxGenericStack<ArenaSlot<Narrow, Token>> + Drop>(
-    rt: &impl Abort,
-    alloc: Global,
-) {
-    each_raise::<S>(rt, alloc, 255, 2, true);
-    each_raise::<S>(rt, alloc, 254, 255, false);
-    each_raise::<S>(rt, alloc, 2, 3, false);
-    each_raise::<S>(rt, alloc, 1, 2, false);
+// From the greatest generation, from the one below it, and from the two lowest.
+#[test]
+fn each_raise_of_a_byte_counter(rt: HostRuntime) -> Result<(), Fail> {
+    each_raise(rt.alloc(), 255, 2, true)?;
+    each_raise(rt.alloc(), 254, 255, false)?;
+    each_raise(rt.alloc(), 2, 3, false)?;
+    each_raise(rt.alloc(), 1, 2, false)?;
+    Ok(())
 }
 
 #[test]
-fn each_raise_of_a_byte_counter(rt: HostRuntime) {
-    raises_over::<Heap<Narrow>>(&rt, rt.alloc());
-    raises_over::<Limited<Narrow>>(&rt, rt.alloc());
-    raises_over::<Fixed<Narrow>>(&rt, rt.alloc());
-    raises_over::<Places<Narrow, 2>>(&rt, rt.alloc());
-}
-
-#[test]
-fn clearing_an_empty_arena_never_wraps(rt: HostRuntime) {
-    follow(
-        &rt,
-        &mut new_arena::<Narrow, Heap<Narrow>>(rt.alloc()),
+fn clearing_an_empty_arena_never_wraps(rt: HostRuntime) -> Result<(), Fail> {
+    from_empty::<Narrow>(
+        rt.alloc(),
         &[
             (Call::SetGeneration(255), Told::Done),
             (Call::Clear, Told::Done),
             (Call::Generation, Told::Generation(255)),
         ],
-    );
+    )?;
+    Ok(())
+}
+
+// 300 times the calls that raise a counter, where generations do not count.
+#[derive(Drop)]
+struct NeverCounts;
+
+impl Trial for NeverCounts {
+    fn on<A: TestedArena>(&self, arena: &mut A) -> Result<(), Wrong> {
+        for number in 0..300 {
+            follow(
+                arena,
+                &[
+                    (Call::Insert(number), Told::At(1, 1)),
+                    (Call::Invalidate(1, 1), Told::At(1, 1)),
+                    (Call::IncGeneration, Told::Done),
+                    (Call::Remove(1, 1), Told::Holds(number)),
+                    (Call::Insert(number), Told::At(1, 1)),
+                    (Call::Clear, Told::Done),
+                ],
+            )?;
+        }
+        Ok(())
+    }
 }
 
 #[test]
-fn a_counter_that_does_not_count_never_wraps(rt: HostRuntime) {
-    let mut arena = new_arena::<P5, Heap<P5>>(rt.alloc());
-    for number in 0..300 {
-        follow(
-            &rt,
-            &mut arena,
-            &[
-                (Call::Insert(number), Told::At(1, 1)),
-                (Call::Invalidate(1, 1), Told::At(1, 1)),
-                (Call::IncGeneration, Told::Done),
-                (Call::Remove(1, 1), Told::Holds(number)),
-                (Call::Insert(number), Told::At(1, 1)),
-                (Call::Clear, Told::Done),
-            ],
-        );
-    }
+fn a_counter_that_does_not_count_never_wraps(rt: HostRuntime) -> Result<(), Fail> {
+    on_heap::<P5, _>(rt.alloc(), None, &NeverCounts)?;
+    Ok(())
 }

@@ -1,9 +1,8 @@
 //! New arenas over each stack.
 
-use super::scarce_stack::Scarce;
-use super::token::Token;
+use crate::scarce_stack::Scarce;
+use crate::token::Token;
 use std::alloc::Global;
-use std::process::Abort;
 use triple_arena::{Arena, ArenaSlot, ArenaTrait};
 use triple_arena_base::AllocError;
 use triple_arena_ptr::Ptr;
@@ -29,16 +28,12 @@ pub fn new_arena<P: Ptr, S: NonZeroInxGenericStack<ArenaSlot<P, Token>>>(
     Arena::new(alloc)
 }
 
-/// An arena with this room, which there is memory for.
+/// An arena with this room, where there is memory for it.
 pub fn with_room<P: Ptr, S: NonZeroInxGenericStack<ArenaSlot<P, Token>>>(
-    rt: &impl Abort,
     alloc: Global,
     room: usize,
-) -> Arena<P, Token, S> {
-    match Arena::with_min_capacity(alloc, room) {
-        Ok(arena) => arena,
-        Err(AllocError) => panic!(rt; "no memory for {room}"),
-    }
+) -> Result<Arena<P, Token, S>, AllocError> {
+    Arena::with_min_capacity(alloc, room)
 }
 
 /// The capacity of an arena that is made with this room.

@@ -3,17 +3,15 @@
 ghost use Rattle.std.specs.Prelude.{◌≡◌, ◌≢◌, ℕ, None, Some, OnOk, IfOk, OnErr};
 ghost use Rattle.triple_arena.specs.Entries.{look_up_in};
 
-use super::arenas::{Heap, Limited, new_arena, with_room};
-use super::numbered::pointer;
-use super::tables::{Call, follow};
-use super::token::Token;
-use super::told::{Told, told_inserted, told_taken};
 use std::mem;
-use std::process::Abort;
+use std::test::Fail;
 use triple_arena::{Arena, ArenaInsertTrait, ArenaSlot, ArenaTrait};
 use triple_arena_base::{InvalidationResult, ReallocationError};
 use triple_arena_ptr::{P0, Ptr, PtrGen, PtrInx};
 use triple_arena_stack::NonZeroInxGenericStack;
+use triple_arena_test_kit::{
+    Call, Heap, Limited, Token, Told, new_arena, pointer, step, with_room,
+};
 
 // Puts another value under a pointer, and gives the one that stood there.
 fn exchange<P: Ptr, T, A: ArenaTrait<P, T>>(arena: &mut A, p: P, t: T) -> Result<T, T>
@@ -50,32 +48,42 @@ fn take<P: Ptr, T, A: ArenaTrait<P, T>>(arena: &mut A, p: P) -> InvalidationResu
     arena.remove(p)
 }
 
-// What `exchange` answers: the number that stood there, or the one that is given back.
-fn told_exchange<A: ArenaTrait<P0, Token>>(arena: &mut A, p: P0, number: u64) -> Told {
+// The number that stood under a pointer, or the one that is given back.
+fn exchange_number<A: ArenaTrait<P0, Token>>(
+    arena: &mut A,
+    p: P0,
+    number: u64,
+) -> Result<u64, u64> {
     match exchange(arena, p, Token { number }) {
-        Ok(token) => Told::Holds(token.number),
-        Err(token) => Told::GivenBack(token.number),
+        Ok(token) => Ok(token.number),
+        Err(token) => Err(token.number),
     }
 }
 
-fn told_put<A: ArenaInsertTrait<P0, Token>>(arena: &mut A, number: u64) -> Told {
-    told_inserted(put(arena, Token { number }))
+// The pointer of a new number, where there is a place for it.
+fn put_number<A: ArenaInsertTrait<P0, Token>>(arena: &mut A, number: u64) -> Option<P0> {
+    put(arena, Token { number }).ok()
 }
 
-fn told_take<A: ArenaTrait<P0, Token>>(arena: &mut A, p: P0) -> Told {
-    told_taken(take(arena, p))
+// The number that is taken out, if there is one, where the counter doesn't wrap.
+fn take_number<A: ArenaTrait<P0, Token>>(arena: &mut A, p: P0) -> Option<u64> {
+    match take(arena, p) {
+        InvalidationResult::Success(token) => Some(token.number),
+        _ => None,
+    }
 }
 
 #[test]
-fn callers_over_any_arena(rt: HostRuntime) {
+fn callers_over_any_arena(rt: HostRuntime) -> Result<(), Fail> {
     let mut arena = new_arena::<P0, Heap<P0>>(rt.alloc());
-    let p = pointer(&rt, 1, 2);
-    assert_eq!(rt; told_put(&mut arena, 10), Told::At(1, 2));
-    assert_eq!(rt; told_put(&mut arena, 20), Told::At(2, 2));
-    assert_eq!(rt; told_exchange(&mut arena, p, 11), Told::Holds(10));
-    assert_eq!(rt; told_take(&mut arena, p), Told::Holds(11));
-    assert_eq!(rt; told_exchange(&mut arena, p, 12), Told::GivenBack(12));
-    follow(&rt, &mut arena, &[(Call::Get(2, 2), Told::Holds(20))]);
+    let p = pointer(1, 2);
+    assert!(rt; put_number(&mut arena, 10) == Some(p));
+    assert!(rt; put_number(&mut arena, 20) == Some(pointer(2, 2)));
+    assert!(rt; exchange_number(&mut arena, p, 11) == Ok(10));
+    assert!(rt; take_number(&mut arena, p) == Some(11));
+    assert!(rt; exchange_number(&mut arena, p, 12) == Err(12));
+    step(&mut arena, Call::Get(2, 2), Told::Holds(20))?;
+    Ok(())
 }
 
 // Makes place for one more entry, and inserts there.
@@ -90,27 +98,33 @@ fn insert_in_new_place<P: Ptr, T: Drop, A: ArenaInsertTrait<P, T>>(
     Ok(arena.insert_reserved(t))
 }
 
-fn told_in_new_place<S: NonZeroInxGenericStack<ArenaSlot<P0, Token>>>(
+// The pointer of a new number, or what refused it.
+fn number_in_new_place<S: NonZeroInxGenericStack<ArenaSlot<P0, Token>>>(
     arena: &mut Arena<P0, Token, S>,
     number: u64,
-) -> Told {
-    told_inserted(insert_in_new_place(arena, Token { number }))
+) -> Result<P0, ReallocationError> {
+    insert_in_new_place(arena, Token { number })
 }
 
 #[test]
-fn a_reallocation_and_then_a_reserved_insertion(rt: HostRuntime) {
+fn a_reallocation_and_then_a_reserved_insertion(rt: HostRuntime) -> Result<(), Fail> {
     let mut heap = new_arena::<P0, Heap<P0>>(rt.alloc());
     for index in 1..100 {
-        assert_eq!(rt; told_in_new_place(&mut heap, 7), Told::At(index, 2));
-        follow(
-            &rt,
-            &mut heap,
-            &[(Call::Bounds, Told::Bounds(index, index, None))],
+        assert!(rt;
+            number_in_new_place(&mut heap, 7) == Ok(pointer(index, 2)),
+            "at {index}"
         );
+        step(&mut heap, Call::Bounds, Told::Bounds(index, index, None))?;
     }
-    let mut limited = with_room::<P0, Limited<P0>>(&rt, rt.alloc(), 1);
-    assert_eq!(rt; told_in_new_place(&mut limited, 7), Told::At(1, 2));
-    let beyond = Told::Refused(ReallocationError::BeyondMaxCapacity);
-    assert_eq!(rt; told_in_new_place(&mut limited, 8), beyond);
-    follow(&rt, &mut limited, &[(Call::Get(1, 2), Told::Holds(7))]);
+    Ok(())
+}
+
+#[test]
+fn a_reallocation_past_the_limit_inserts_nothing(rt: HostRuntime) -> Result<(), Fail> {
+    let mut limited = with_room::<P0, Limited<P0>>(rt.alloc(), 1)?;
+    assert!(rt; number_in_new_place(&mut limited, 7) == Ok(pointer(1, 2)));
+    let beyond = Err(ReallocationError::BeyondMaxCapacity);
+    assert!(rt; number_in_new_place(&mut limited, 8) == beyond);
+    step(&mut limited, Call::Get(1, 2), Told::Holds(7))?;
+    Ok(())
 }

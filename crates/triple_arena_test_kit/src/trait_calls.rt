@@ -1,8 +1,8 @@
 //! The calls of the traits of arenas, each alone, and what it answers.
 
-use super::numbered::Numbered;
-use super::token::Token;
-use super::told::{
+use crate::numbered::Numbered;
+use crate::token::Token;
+use crate::told::{
     Told, told_entry, told_generation, told_inserted, told_pointer, told_raise, told_renewed,
     told_taken, told_within,
 };

@@ -5,9 +5,9 @@ ghost use Rattle.std.specs.Prelude.{◌≡◌, ℕ, Some, OnOk, OnErr};
 ghost use Rattle.triple_arena.specs.Entries.{entry_in, look_up_in};
 ghost use Rattle.triple_arena.specs.Disjoint.{DisjointPtrAnswer, DisjointInxAnswer};
 
-use super::numbered::Numbered;
-use super::token::Token;
-use super::told::Told;
+use crate::numbered::Numbered;
+use crate::token::Token;
+use crate::told::Told;
 use std::mem;
 use triple_arena::DisjointableArenaTrait;
 use triple_arena_base::GetDisjointMutError;

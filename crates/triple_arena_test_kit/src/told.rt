@@ -1,14 +1,14 @@
 //! What a call answers, by numbers.
 
-use super::numbered::{Numbered, index_number};
-use super::token::Token;
+use crate::numbered::{Numbered, index_number};
+use crate::token::Token;
 use triple_arena_base::{
     GetDisjointMutError, InvalidationOption, InvalidationResult, NotWithinCapacityError,
     ReallocationError,
 };
 use triple_arena_ptr::Ptr;
 
-/// How many of the entries that a walk met are told.
+/// How many of the entries that a walk met are told, and of the free indexes.
 pub const MET: usize = 3;
 
 /// What a call answers: a pointer by the numbers of its index and its generation, a value by its
@@ -50,10 +50,18 @@ pub enum Told {
     LimitRefused,
     /// Two values can't be lent.
     Apart(GetDisjointMutError),
+    /// The first free indexes in the order in which insertion takes them, and then 0.
+    Free([usize; MET]),
     /// The first entries that a walk met, each by its index, its generation and its value.
     Met([Option<(usize, u64, u64)>; MET]),
     /// The first values that a walk met.
     MetValues([Option<u64>; MET]),
+    /// The first pointers that a walk met.
+    MetPointers([Option<(usize, u64)>; MET]),
+    /// The first entries that a drain took out, and of each whether the counter wrapped.
+    Drained([Option<(usize, u64, u64, bool)>; MET]),
+    /// The arena has no such call, or its pointers have no such numbers.
+    NoSuchCall,
 }
 
 // The number under which a type of generations tells the generation of this number.
@@ -78,6 +86,42 @@ fn all_met_as<G: Numbered>(
     [met_as::<G>(first), met_as::<G>(second), met_as::<G>(third)]
 }
 
+// The same pointer of the type whose generations are `G`.
+fn pointer_as<G: Numbered>(met: Option<(usize, u64)>) -> Option<(usize, u64)> {
+    let (index, g) = met?;
+    Some((index, told_as::<G>(g)))
+}
+
+// The same pointers of the type whose generations are `G`.
+fn all_pointers_as<G: Numbered>(met: [Option<(usize, u64)>; MET]) -> [Option<(usize, u64)>; MET] {
+    let [first, second, third] = met;
+    [
+        pointer_as::<G>(first),
+        pointer_as::<G>(second),
+        pointer_as::<G>(third),
+    ]
+}
+
+// The same entry of a drain.
+fn drained_as<G: Numbered>(
+    met: Option<(usize, u64, u64, bool)>,
+) -> Option<(usize, u64, u64, bool)> {
+    let (index, g, number, wrapped) = met?;
+    Some((index, told_as::<G>(g), number, wrapped))
+}
+
+// The same entries of a drain.
+fn all_drained_as<G: Numbered>(
+    met: [Option<(usize, u64, u64, bool)>; MET],
+) -> [Option<(usize, u64, u64, bool)>; MET] {
+    let [first, second, third] = met;
+    [
+        drained_as::<G>(first),
+        drained_as::<G>(second),
+        drained_as::<G>(third),
+    ]
+}
+
 impl Told {
     /// The same on pointers whose generations are of the type `G`.
     pub fn at_type<G: Numbered>(self) -> Told {
@@ -89,6 +133,8 @@ impl Told {
             Told::WrappedAt(index, g) => Told::WrappedAt(index, told_as::<G>(g)),
             Told::WrappedHeld(g, number) => Told::WrappedHeld(told_as::<G>(g), number),
             Told::Met(met) => Told::Met(all_met_as::<G>(met)),
+            Told::MetPointers(met) => Told::MetPointers(all_pointers_as::<G>(met)),
+            Told::Drained(met) => Told::Drained(all_drained_as::<G>(met)),
             told => told,
         }
     }

@@ -4,8 +4,8 @@ ghost use Rattle.std.specs.Prelude.{◌≡◌, IsSome, Some};
 ghost use Rattle.std.specs.Option.{option_map};
 ghost use Rattle.triple_arena.specs.ArenaState.{entry, look_up, with_value};
 
-use super::token::Token;
-use super::told::Told;
+use crate::token::Token;
+use crate::told::Told;
 use std::mem;
 use triple_arena::{Arena, ArenaSlot, ArenaTrait};
 use triple_arena_ptr::{Ptr, PtrInx};

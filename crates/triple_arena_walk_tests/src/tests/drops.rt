@@ -1,8 +1,5 @@
 //! Values that count their drops: each is dropped once, whatever the call, over each stack.
 
-use super::own_calls::{entry_ptr, set_limit};
-use super::scarce_stack::Scarce;
-use super::told::Told;
 use std::alloc::Global;
 use std::cell::Cell;
 use std::process::Abort;
@@ -10,8 +7,9 @@ use triple_arena::{Arena, ArenaInsertEntryTrait, ArenaInsertTrait, ArenaSlot, Ar
 use triple_arena_base::AllocError;
 use triple_arena_ptr::{P0, Ptr};
 use triple_arena_stack::{
-    NonZeroInxArray, NonZeroInxBoxedSlice, NonZeroInxLimitedVec, NonZeroInxVec,
+    NonZeroInxArray, NonZeroInxBoxedSlice, NonZeroInxLimitedVec, NonZeroInxVec, SetMaxCapacity,
 };
+use triple_arena_test_kit::{Scarce, pointer};
 
 // A value that counts its drop.
 struct Counted<'a> {
@@ -182,44 +180,109 @@ fn each_refused_drop<'a, A: ArenaInsertTrait<P0, Counted<'a>> + Drop>(
     assert_eq!(rt; drops.get(), 6);
 }
 
+type OnHeap<'a> = Over<'a, NonZeroInxVec<Slot<'a>>>;
+
+type OnLimited<'a> = Over<'a, NonZeroInxLimitedVec<Slot<'a>>>;
+
+type OnFixed<'a> = Over<'a, NonZeroInxBoxedSlice<Slot<'a>>>;
+
+type InArray<'a> = Over<'a, NonZeroInxArray<Slot<'a>, 3>>;
+
+type InLittle<'a> = Over<'a, Scarce<Slot<'a>, 3>>;
+
 #[test]
-fn a_value_in_an_arena_is_dropped_once(rt: HostRuntime) {
+fn a_value_on_the_heap_is_dropped_once(rt: HostRuntime) {
     let drops = Cell::new(0);
-    let heap: Over<'_, NonZeroInxVec<Slot<'_>>> = with_three_places(&rt, rt.alloc());
-    each_drop(&rt, heap, &drops);
-    let drops = Cell::new(0);
-    let limited: Over<'_, NonZeroInxLimitedVec<Slot<'_>>> = with_three_places(&rt, rt.alloc());
-    each_drop(&rt, limited, &drops);
-    let drops = Cell::new(0);
-    let fixed: Over<'_, NonZeroInxBoxedSlice<Slot<'_>>> = with_three_places(&rt, rt.alloc());
-    each_drop(&rt, fixed, &drops);
-    let drops = Cell::new(0);
-    let array: Over<'_, NonZeroInxArray<Slot<'_>, 3>> = with_three_places(&rt, rt.alloc());
-    each_drop(&rt, array, &drops);
+    each_drop(
+        &rt,
+        with_three_places::<OnHeap<'_>>(&rt, rt.alloc()),
+        &drops,
+    );
 }
 
 #[test]
-fn a_value_that_is_refused_is_dropped_once(rt: HostRuntime) {
+fn a_value_under_a_limit_is_dropped_once(rt: HostRuntime) {
     let drops = Cell::new(0);
-    let mut scarce: Over<'_, Scarce<Slot<'_>, 3>> = with_three_places(&rt, rt.alloc());
-    assert_eq!(rt; set_limit(&mut scarce, usize::MAX), Told::Done);
+    each_drop(
+        &rt,
+        with_three_places::<OnLimited<'_>>(&rt, rt.alloc()),
+        &drops,
+    );
+}
+
+#[test]
+fn a_value_in_fixed_room_is_dropped_once(rt: HostRuntime) {
+    let drops = Cell::new(0);
+    each_drop(
+        &rt,
+        with_three_places::<OnFixed<'_>>(&rt, rt.alloc()),
+        &drops,
+    );
+}
+
+#[test]
+fn a_value_in_an_array_is_dropped_once(rt: HostRuntime) {
+    let drops = Cell::new(0);
+    each_drop(
+        &rt,
+        with_three_places::<InArray<'_>>(&rt, rt.alloc()),
+        &drops,
+    );
+}
+
+// Whether an arena takes any limit.
+fn is_unlimited<'a, S: SetMaxCapacity<Slot<'a>>>(arena: &mut Over<'a, S>) -> bool {
+    arena.set_max_capacity(usize::MAX).is_ok()
+}
+
+#[test]
+fn a_value_that_memory_refuses_is_dropped_once(rt: HostRuntime) {
+    let drops = Cell::new(0);
+    let mut scarce: InLittle<'_> = with_three_places(&rt, rt.alloc());
+    assert!(rt; is_unlimited(&mut scarce));
     each_refused_drop(&rt, scarce, &drops);
+}
+
+#[test]
+fn a_value_that_a_limit_refuses_is_dropped_once(rt: HostRuntime) {
     let drops = Cell::new(0);
-    let limited: Over<'_, NonZeroInxLimitedVec<Slot<'_>>> = with_three_places(&rt, rt.alloc());
-    each_refused_drop(&rt, limited, &drops);
+    each_refused_drop(
+        &rt,
+        with_three_places::<OnLimited<'_>>(&rt, rt.alloc()),
+        &drops,
+    );
+}
+
+#[test]
+fn a_value_that_fixed_room_refuses_is_dropped_once(rt: HostRuntime) {
     let drops = Cell::new(0);
-    let fixed: Over<'_, NonZeroInxBoxedSlice<Slot<'_>>> = with_three_places(&rt, rt.alloc());
-    each_refused_drop(&rt, fixed, &drops);
+    each_refused_drop(
+        &rt,
+        with_three_places::<OnFixed<'_>>(&rt, rt.alloc()),
+        &drops,
+    );
+}
+
+#[test]
+fn a_value_that_an_array_refuses_is_dropped_once(rt: HostRuntime) {
     let drops = Cell::new(0);
-    let array: Over<'_, NonZeroInxArray<Slot<'_>, 3>> = with_three_places(&rt, rt.alloc());
-    each_refused_drop(&rt, array, &drops);
+    each_refused_drop(
+        &rt,
+        with_three_places::<InArray<'_>>(&rt, rt.alloc()),
+        &drops,
+    );
+}
+
+// The pointer of an entry that is let go.
+fn entry_ptr<'a>(arena: &mut OnHeap<'a>) -> Option<P0> {
+    match arena.entry_insert() {
+        Ok(entry) => Some(entry.ptr()),
+        Err(_) => None,
+    }
 }
 
 // Inserts by an entry, and writes another value over it: whether there was an entry.
-fn writes_over_entry<'a>(
-    arena: &mut Over<'a, NonZeroInxVec<Slot<'a>>>,
-    drops: &'a Cell<u64>,
-) -> bool {
+fn writes_over_entry<'a>(arena: &mut OnHeap<'a>, drops: &'a Cell<u64>) -> bool {
     match arena.entry_insert() {
         Ok(entry) => {
             let value = entry.insert(new_value(drops));
@@ -233,8 +296,8 @@ fn writes_over_entry<'a>(
 #[test]
 fn a_value_of_an_entry_is_dropped_once(rt: HostRuntime) {
     let drops = Cell::new(0);
-    let mut arena: Over<'_, NonZeroInxVec<Slot<'_>>> = with_three_places(&rt, rt.alloc());
-    assert_eq!(rt; entry_ptr(&mut arena), Told::At(1, 2));
+    let mut arena: OnHeap<'_> = with_three_places(&rt, rt.alloc());
+    assert!(rt; entry_ptr(&mut arena) == Some(pointer(1, 2)));
     assert_eq!(rt; drops.get(), 0);
     assert!(rt; writes_over_entry(&mut arena, &drops));
     assert_eq!(rt;

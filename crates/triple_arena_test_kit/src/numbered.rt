@@ -1,7 +1,6 @@
 //! Pointers by their numbers.
 
 use std::num::{NonZeroU8, NonZeroU16, NonZeroU64, NonZeroUsize};
-use std::process::Abort;
 use triple_arena_ptr::{Ptr, PtrGen, PtrInx};
 
 /// A generation that a table gives by its number.
@@ -53,30 +52,28 @@ impl Numbered for () {
     }
 }
 
-/// The index of this number.
-pub fn inx<I: PtrInx>(rt: &impl Abort, index: usize) -> I {
-    if let Some(number) = NonZeroUsize::new(index)
-        && let Some(inx) = I::try_from_usize(number)
-    {
-        return inx;
-    }
-    panic!(rt; "no index {index}")
+/// The index of this number, if the type has it.
+pub fn named_index<I: PtrInx>(index: usize) -> Option<I> {
+    I::try_from_usize(NonZeroUsize::new(index)?)
 }
 
-/// The generation of this number.
-pub fn generation<G: Numbered>(rt: &impl Abort, number: u64) -> G {
-    match G::of_number(number) {
-        Some(generation) => generation,
-        None => panic!(rt; "no generation {number}"),
+/// The index of this number; where the type has none, one past those that it has entries at.
+pub fn inx<I: PtrInx>(index: usize) -> I {
+    match named_index(index) {
+        Some(inx) => inx,
+        None => I::best_effort_invalid(),
     }
 }
 
-/// The pointer of these numbers.
-pub fn pointer<P: Ptr>(rt: &impl Abort, index: usize, number: u64) -> P
+/// The pointer of these numbers; where the type has none, the invalid one.
+pub fn pointer<P: Ptr>(index: usize, number: u64) -> P
 where
     P::Gen: Numbered,
 {
-    P::_from_raw(inx(rt, index), generation(rt, number))
+    match P::Gen::of_number(number) {
+        Some(generation) => P::_from_raw(inx(index), generation),
+        None => P::invalid(),
+    }
 }
 
 /// The number of an index, and 0 of one past those of any slot.

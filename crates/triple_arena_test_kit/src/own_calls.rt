@@ -5,9 +5,9 @@ ghost use Rattle.triple_arena.specs.ArenaState.{arena_len, capacity};
 ghost use Rattle.triple_arena.specs.InsertEntry.{entry_arena};
 ghost use Rattle.triple_arena.specs.Insertion.{inserted};
 
-use super::numbered::{Numbered, index_number};
-use super::token::Token;
-use super::told::{Told, told_pointer};
+use crate::numbered::{Numbered, index_number};
+use crate::token::Token;
+use crate::told::{Told, told_pointer};
 use std::num::NonZeroUsize;
 use triple_arena::{Arena, ArenaInsertEntry, ArenaInsertEntryTrait, ArenaSlot};
 use triple_arena_base::{MaxCapacityReductionError, NotWithinCapacityError};
@@ -21,14 +21,57 @@ pub fn root<P: Ptr, T, S: NonZeroInxGenericStack<ArenaSlot<P, T>>>(arena: &Arena
     }
 }
 
-/// What stands in the slot of this index.
-pub fn slot_at<P: Ptr, S: NonZeroInxGenericStack<ArenaSlot<P, Token>>>(
-    arena: &Arena<P, Token, S>,
-    inx: NonZeroUsize,
+/// The generation of the counter.
+pub fn counter<P: Ptr, T, S: NonZeroInxGenericStack<ArenaSlot<P, T>>>(
+    arena: &Arena<P, T, S>,
 ) -> Told
 where
     P::Gen: Numbered,
 {
+    Told::Generation(arena.generation().told_number())
+}
+
+pub fn set_generation<P: Ptr, T, S: NonZeroInxGenericStack<ArenaSlot<P, T>>>(
+    arena: &mut Arena<P, T, S>,
+    number: u64,
+) -> Told
+where
+    P::Gen: Numbered,
+{
+    match P::Gen::of_number(number) {
+        Some(generation) => {
+            arena.set_generation(generation);
+            Told::Done
+        }
+        None => Told::NoSuchCall,
+    }
+}
+
+pub fn canonicalize<P: Ptr, T, S: NonZeroInxGenericStack<ArenaSlot<P, T>>>(
+    arena: &mut Arena<P, T, S>,
+) -> Told {
+    arena.canonicalize_freelist();
+    Told::Done
+}
+
+pub fn remove_free_end<P: Ptr, T, S: NonZeroInxGenericStack<ArenaSlot<P, T>>>(
+    arena: &mut Arena<P, T, S>,
+) -> Told {
+    arena.remove_free_end_slots();
+    Told::Done
+}
+
+/// What stands in the slot of this index.
+pub fn slot_at<P: Ptr, S: NonZeroInxGenericStack<ArenaSlot<P, Token>>>(
+    arena: &Arena<P, Token, S>,
+    index: usize,
+) -> Told
+where
+    P::Gen: Numbered,
+{
+    let Some(inx) = NonZeroUsize::new(index) else {
+        return Told::NoSuchCall;
+    };
     match arena.backing().get(inx) {
         Some(ArenaSlot::Allocated(generation, token)) => {
             Told::Held(generation.told_number(), token.number)

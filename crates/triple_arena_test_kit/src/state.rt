@@ -1,18 +1,17 @@
 //! All that an arena shows of itself, to compare before and after a call.
 
-use super::numbered::{Numbered, index_number};
-use super::token::Token;
+use crate::numbered::{Numbered, index_number};
+use crate::token::Token;
 use std::num::NonZeroUsize;
-use std::process::Abort;
 use triple_arena::{Arena, ArenaSlot, ArenaTrait};
 use triple_arena_ptr::{Ptr, PtrInx};
 use triple_arena_stack::NonZeroInxGenericStack;
 
-/// How many slots of an arena are shown.
+/// How many slots of an arena are shown: as many as byte indexes name, and one.
 pub const SLOTS: usize = 256;
 
 /// The whole state of an arena of no more than `SLOTS` slots.
-#[derive(Debug, Drop, PartialEq)]
+#[derive(Clone, Copy, Debug, PartialEq)]
 pub struct State {
     pub len: usize,
     pub capacity: usize,
@@ -25,15 +24,13 @@ pub struct State {
     pub free: [usize; SLOTS],
 }
 
-/// The state of `arena`.
+/// The state of `arena`; of more than `SLOTS` slots, the first.
 pub fn state_of<P: Ptr, S: NonZeroInxGenericStack<ArenaSlot<P, Token>>>(
-    rt: &impl Abort,
     arena: &Arena<P, Token, S>,
 ) -> State
 where
     P::Gen: Numbered,
 {
-    assert!(rt; arena.backing().len() <= SLOTS);
     State {
         len: arena.len(),
         capacity: arena.capacity(),
@@ -43,18 +40,6 @@ where
         entries: entries_in(arena.backing().as_slice()),
         free: free_in(arena.backing().as_slice(), first_free(arena)),
     }
-}
-
-/// Ends the test unless the state of `arena` is this one.
-pub fn assert_state<P: Ptr, S: NonZeroInxGenericStack<ArenaSlot<P, Token>>>(
-    rt: &impl Abort,
-    arena: &Arena<P, Token, S>,
-    expected: &State,
-)
-where
-    P::Gen: Numbered,
-{
-    assert_eq!(rt; state_of(rt, arena), *expected);
 }
 
 // The first free index, if any is free.

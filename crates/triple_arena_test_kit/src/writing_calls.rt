@@ -2,9 +2,9 @@
 
 ghost use Rattle.triple_arena.specs.Values.{SamePointers};
 
-use super::numbered::{Numbered, index_number};
-use super::token::Token;
-use super::told::{MET, Told};
+use crate::numbered::{Numbered, index_number};
+use crate::token::Token;
+use crate::told::{MET, Told};
 use triple_arena::{Arena, ArenaSlot};
 use triple_arena_ptr::Ptr;
 use triple_arena_stack::NonZeroInxGenericStack;

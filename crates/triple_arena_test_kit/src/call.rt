@@ -1,0 +1,183 @@
+//! Calls of an arena as values, so that a test is a table of calls and their answers.
+
+use crate::numbered::{Numbered, named_index};
+use triple_arena_ptr::Ptr;
+
+/// A call. A pointer is given by the numbers of its index and its generation, a new value by its
+/// number.
+#[derive(Clone, Copy, Debug, PartialEq)]
+pub enum Call {
+    // of every arena, to read
+    IsEmpty,
+    Bounds,
+    SingularGeneration,
+    NextPtr,
+    Get(usize, u64),
+    GetInx(usize),
+    Contains(usize, u64),
+    GenerationAt(usize),
+    First,
+    Last,
+    // of every arena, to change it
+    Insert(u64),
+    InsertReallocating(u64),
+    InsertWithinCapacity(u64),
+    InsertReserved(u64),
+    GetMut(usize, u64),
+    GetInxMut(usize),
+    Write(usize, u64, u64),
+    WriteInx(usize, u64),
+    Invalidate(usize, u64),
+    Remove(usize, u64),
+    RemoveInx(usize),
+    Clear,
+    Reallocate(usize),
+    // of every arena that can be walked
+    Pointers,
+    Values,
+    Entries,
+    StepsFromFirst,
+    StepsFrom(usize, bool),
+    NoSteps,
+    AddToAll(u64),
+    Drain(usize),
+    // of every arena, at two pointers or two indexes
+    Swap((usize, u64), (usize, u64)),
+    SwapInx(usize, usize),
+    Lend((usize, u64), (usize, u64), u64),
+    LendInx(usize, usize, u64),
+    // of an `Arena`
+    Generation,
+    SetGeneration(u64),
+    IncGeneration,
+    Canonicalize,
+    RemoveFreeEnd,
+    Root,
+    Slots,
+    FirstFree,
+    SlotAt(usize),
+    GetInxUnwrap(usize),
+    WriteInxUnwrap(usize, u64),
+    Index(usize, u64),
+    WriteIndex(usize, u64, u64),
+    EntryPtr,
+    EntryPtrReallocating,
+    EntryPtrWithin,
+    EntryInsert(u64),
+    EntryInsertReallocating(u64),
+    EntryInsertWithin(u64),
+    EntryWrite(u64, u64),
+    AddToEach(u64),
+    AddToEachEntry(u64),
+    AddToEachValue(u64),
+    // of an `Arena` over a stack whose limit can be set
+    SetLimit(usize),
+}
+
+/// What a call needs of an arena.
+#[derive(Clone, Copy, Debug, PartialEq)]
+pub enum Kind {
+    /// Any arena has it.
+    OfAny,
+    /// Arenas that insert by themselves have it.
+    Insertion,
+    /// Arenas that can be walked have it.
+    Walk,
+    /// Arenas that lend two values have it.
+    OfTwo,
+    // of an `Arena`: on its slots and its counter, on its entries, to write to each value
+    Own,
+    Entry,
+    Writing,
+}
+
+// Whether there is a pointer of these numbers.
+fn has_pointer<P: Ptr>(index: usize, number: u64) -> bool
+where
+    P::Gen: Numbered,
+{
+    has_index::<P>(index) && P::Gen::of_number(number).is_some()
+}
+
+// Whether there is an index of this number.
+fn has_index<P: Ptr>(index: usize) -> bool {
+    named_index::<P::Inx>(index).is_some()
+}
+
+impl Call {
+    /// Whether the pointers and indexes of the call are there in this type of pointers.
+    pub fn has_names<P: Ptr>(self) -> bool
+    where
+        P::Gen: Numbered,
+    {
+        match self {
+            Call::Get(index, number)
+            | Call::Contains(index, number)
+            | Call::GetMut(index, number)
+            | Call::Write(index, number, _)
+            | Call::Invalidate(index, number)
+            | Call::Remove(index, number)
+            | Call::Index(index, number)
+            | Call::WriteIndex(index, number, _) => has_pointer::<P>(index, number),
+            Call::GetInx(index)
+            | Call::GenerationAt(index)
+            | Call::GetInxMut(index)
+            | Call::WriteInx(index, _)
+            | Call::RemoveInx(index)
+            | Call::StepsFrom(index, _)
+            | Call::SlotAt(index)
+            | Call::GetInxUnwrap(index)
+            | Call::WriteInxUnwrap(index, _) => has_index::<P>(index),
+            Call::Swap((i, g), (j, h)) | Call::Lend((i, g), (j, h), _) => {
+                has_pointer::<P>(i, g) && has_pointer::<P>(j, h)
+            }
+            Call::SwapInx(i, j) | Call::LendInx(i, j, _) => {
+                has_index::<P>(i) && has_index::<P>(j)
+            }
+            Call::SetGeneration(number) => P::Gen::of_number(number).is_some(),
+            _ => true,
+        }
+    }
+    /// What the call needs of an arena.
+    pub fn kind(self) -> Kind {
+        match self {
+            Call::NextPtr
+            | Call::Insert(_)
+            | Call::InsertReallocating(_)
+            | Call::InsertWithinCapacity(_)
+            | Call::InsertReserved(_) => Kind::Insertion,
+            Call::Pointers
+            | Call::Values
+            | Call::Entries
+            | Call::StepsFromFirst
+            | Call::StepsFrom(_, _)
+            | Call::NoSteps
+            | Call::AddToAll(_)
+            | Call::Drain(_) => Kind::Walk,
+            Call::Swap(_, _) | Call::SwapInx(_, _) | Call::Lend(_, _, _) | Call::LendInx(_, _, _) =>
+                { Kind::OfTwo }
+            Call::Generation
+            | Call::SetGeneration(_)
+            | Call::IncGeneration
+            | Call::Canonicalize
+            | Call::RemoveFreeEnd
+            | Call::Root
+            | Call::Slots
+            | Call::FirstFree
+            | Call::SlotAt(_)
+            | Call::GetInxUnwrap(_)
+            | Call::WriteInxUnwrap(_, _)
+            | Call::Index(_, _)
+            | Call::WriteIndex(_, _, _) => Kind::Own,
+            Call::EntryPtr
+            | Call::EntryPtrReallocating
+            | Call::EntryPtrWithin
+            | Call::EntryInsert(_)
+            | Call::EntryInsertReallocating(_)
+            | Call::EntryInsertWithin(_)
+            | Call::EntryWrite(_, _) => Kind::Entry,
+            Call::AddToEach(_) | Call::AddToEachEntry(_) | Call::AddToEachValue(_) => Kind::Writing,
+            _ => Kind::OfAny,
+        }
+    }
+}

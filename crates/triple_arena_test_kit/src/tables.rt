@@ -1,0 +1,117 @@
+//! Tables of calls and answers, and what first differs from them.
+
+use crate::call::Call;
+use crate::state::State;
+use crate::tested_arena::TestedArena;
+use crate::told::Told;
+use std::alloc;
+use std::alloc::Global;
+use triple_arena_base::AllocError;
+
+/// The first thing that a test found to be wrong.
+#[derive(Clone, Copy, Debug, PartialEq)]
+pub enum Wrong {
+    /// A call told this, where another answer was expected.
+    Answer(Call, Told, Told),
+    /// After a call the arena was in this state, where another was expected.
+    State(Call, State, State),
+    /// The text of an arena was another one.
+    Text(&'static str),
+    /// There was no memory for the arena.
+    NoMemory,
+}
+
+impl From<AllocError> for Wrong {
+    fn from(_refused: AllocError) -> Wrong {
+        Wrong::NoMemory
+    }
+}
+
+impl From<alloc::AllocError> for Wrong {
+    fn from(_refused: alloc::AllocError) -> Wrong {
+        Wrong::NoMemory
+    }
+}
+
+/// The same, where memory for the arena may be refused, and then nothing is wrong.
+pub fn where_there_is_memory(tried: Result<(), Wrong>) -> Result<(), Wrong> {
+    match tried {
+        Err(Wrong::NoMemory) => Ok(()),
+        tried => tried,
+    }
+}
+
+/// That a call told what was expected.
+pub fn is_told(call: Call, told: Told, expected: Told) -> Result<(), Wrong> {
+    if told == expected {
+        Ok(())
+    } else {
+        Err(Wrong::Answer(call, told, expected))
+    }
+}
+
+/// That an arena is in this state after a call.
+pub fn has_state<A: TestedArena>(arena: &A, call: Call, expected: &State) -> Result<(), Wrong> {
+    let state = arena.state();
+    if state == *expected {
+        Ok(())
+    } else {
+        Err(Wrong::State(call, state, *expected))
+    }
+}
+
+/// That an arena has this text.
+pub fn has_text<A: TestedArena>(
+    arena: &A,
+    alloc: Global,
+    expected: &'static str,
+) -> Result<(), Wrong> {
+    if arena.text(alloc)?.as_str() == expected {
+        Ok(())
+    } else {
+        Err(Wrong::Text(expected))
+    }
+}
+
+/// Makes a call, and expects its answer.
+pub fn step<A: TestedArena>(arena: &mut A, call: Call, expected: Told) -> Result<(), Wrong> {
+    let told = arena.answer(call);
+    is_told(call, told, A::expected(expected))
+}
+
+/// Makes each call, and expects its answer.
+pub fn follow<A: TestedArena>(arena: &mut A, steps: &[(Call, Told)]) -> Result<(), Wrong> {
+    for (call, expected) in steps {
+        step(arena, *call, *expected)?;
+    }
+    Ok(())
+}
+
+/// Makes each call, and expects its answer, and this state after it.
+pub fn follow_to<A: TestedArena>(
+    arena: &mut A,
+    steps: &[(Call, Told)],
+    state: &State,
+) -> Result<(), Wrong> {
+    for (call, expected) in steps {
+        step(arena, *call, *expected)?;
+        has_state(arena, *call, state)?;
+    }
+    Ok(())
+}
+
+/// Makes each call, and expects its answer. Each leaves the whole state as it was.
+pub fn follow_unchanged<A: TestedArena>(
+    arena: &mut A,
+    steps: &[(Call, Told)],
+) -> Result<(), Wrong> {
+    let before = arena.state();
+    follow_to(arena, steps, &before)
+}
+
+/// Makes each call, and expects its answer. Each leaves the whole state as it was, but for the free
+/// list, which is in order.
+pub fn follow_tidied<A: TestedArena>(arena: &mut A, steps: &[(Call, Told)]) -> Result<(), Wrong> {
+    let before = arena.state();
+    follow_to(arena, steps, &before.in_order())
+}

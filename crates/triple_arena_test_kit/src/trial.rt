@@ -1,0 +1,148 @@
+//! What is tried on arenas, and the arenas over each stack that it is tried on.
+
+use crate::arenas::{Fixed, Heap, Limited, Little, new_arena, with_room};
+use crate::call::Call;
+use crate::numbered::Numbered;
+use crate::tables::{Wrong, follow, follow_tidied, follow_unchanged, step};
+use crate::tested_arena::{TestedArena, WithLimit};
+use crate::token::Token;
+use crate::told::Told;
+use std::alloc::Global;
+use triple_arena::{Arena, ArenaSlot};
+use triple_arena_base::AllocError;
+use triple_arena_ptr::Ptr;
+use triple_arena_stack::NonZeroInxGenericStack;
+
+/// What is tried on an arena.
+pub trait Trial {
+    /// Tries it, and tells the first thing that is wrong.
+    fn on<A: TestedArena>(&self, arena: &mut A) -> Result<(), Wrong>;
+}
+
+/// A table of calls and answers, tried by making each call.
+#[derive(Clone, Copy)]
+pub struct Steps<'a>(pub &'a [(Call, Told)]);
+
+impl Trial for Steps<'_> {
+    fn on<A: TestedArena>(&self, arena: &mut A) -> Result<(), Wrong> {
+        follow(arena, self.0)
+    }
+}
+
+/// A table of calls, each of which leaves the whole state as it was.
+#[derive(Clone, Copy)]
+pub struct Unchanged<'a>(pub &'a [(Call, Told)]);
+
+impl Trial for Unchanged<'_> {
+    fn on<A: TestedArena>(&self, arena: &mut A) -> Result<(), Wrong> {
+        follow_unchanged(arena, self.0)
+    }
+}
+
+/// A table of calls, each of which leaves the whole state as it was, but for the free list, which is
+/// in order.
+#[derive(Clone, Copy)]
+pub struct Tidied<'a>(pub &'a [(Call, Told)]);
+
+impl Trial for Tidied<'_> {
+    fn on<A: TestedArena>(&self, arena: &mut A) -> Result<(), Wrong> {
+        follow_tidied(arena, self.0)
+    }
+}
+
+/// So many insertions in an arena without slots whose counter is 2, each of its index, and then some
+/// removals.
+#[derive(Clone, Copy)]
+pub struct Removed<'a> {
+    pub entries: usize,
+    pub removed: &'a [usize],
+}
+
+impl Trial for Removed<'_> {
+    fn on<A: TestedArena>(&self, arena: &mut A) -> Result<(), Wrong> {
+        for index in 1..=self.entries {
+            step(arena, Call::Insert(index as u64), Told::At(index, 2))?;
+        }
+        for index in self.removed {
+            step(arena, Call::RemoveInx(*index), Told::Held(2, *index as u64))?;
+        }
+        Ok(())
+    }
+}
+
+/// The first, and then the second on the same arena.
+impl<A: Trial, B: Trial> Trial for (A, B) {
+    fn on<C: TestedArena>(&self, arena: &mut C) -> Result<(), Wrong> {
+        self.0.on(arena)?;
+        self.1.on(arena)
+    }
+}
+
+// An arena with this room, or as `new` makes it.
+fn made<P: Ptr, S: NonZeroInxGenericStack<ArenaSlot<P, Token>>>(
+    alloc: Global,
+    room: Option<usize>,
+) -> Result<Arena<P, Token, S>, AllocError> {
+    match room {
+        Some(room) => with_room(alloc, room),
+        None => Ok(new_arena(alloc)),
+    }
+}
+
+/// Tries it on an arena on the heap, with this room or as `new` makes it.
+pub fn on_heap<P: Ptr, T: Trial>(alloc: Global, room: Option<usize>, trial: &T) -> Result<(), Wrong>
+where
+    P::Gen: Numbered,
+{
+    let mut arena: Arena<P, Token, Heap<P>> = made(alloc, room)?;
+    trial.on(&mut arena)
+}
+
+/// Tries it on an arena on the heap whose limit can be set, with this room as its limit, or as
+/// `new` makes it.
+pub fn on_limited<P: Ptr, T: Trial>(
+    alloc: Global,
+    room: Option<usize>,
+    trial: &T,
+) -> Result<(), Wrong>
+where
+    P::Gen: Numbered,
+{
+    let arena: Arena<P, Token, Limited<P>> = made(alloc, room)?;
+    trial.on(&mut WithLimit { arena })
+}
+
+/// Tries it on an arena of fixed room, or as `new` makes it.
+pub fn on_fixed<P: Ptr, T: Trial>(
+    alloc: Global,
+    room: Option<usize>,
+    trial: &T,
+) -> Result<(), Wrong>
+where
+    P::Gen: Numbered,
+{
+    let mut arena: Arena<P, Token, Fixed<P>> = made(alloc, room)?;
+    trial.on(&mut arena)
+}
+
+/// Tries it on an arena whose limit can be set, where there is memory for `N` places, with this room
+/// as its limit, or as `new` makes it.
+pub fn on_little<P: Ptr, const N: usize, T: Trial>(
+    alloc: Global,
+    room: Option<usize>,
+    trial: &T,
+) -> Result<(), Wrong>
+where
+    P::Gen: Numbered,
+{
+    let arena: Arena<P, Token, Little<P, N>> = made(alloc, room)?;
+    trial.on(&mut WithLimit { arena })
+}
+
+/// Follows a table on an arena as `new` makes it on the heap.
+pub fn from_empty<P: Ptr>(alloc: Global, steps: &[(Call, Told)]) -> Result<(), Wrong>
+where
+    P::Gen: Numbered,
+{
+    on_heap::<P, Steps<'_>>(alloc, None, &Steps(steps))
+}

@@ -1,0 +1,11 @@
+//! What no clause of the arenas says of walks, entries, pairs, texts and drops: that their calls
+//! succeed, and worked examples.
+
+mod drops;
+mod end_slots;
+mod entries;
+mod generic_callers;
+mod pairs;
+mod texts;
+mod walks;
+mod writing;

@@ -1,0 +1,148 @@
+//! Writing to each value of an arena.
+
+use std::test::Fail;
+use triple_arena_ptr::{P0, P4};
+use triple_arena_test_kit::{
+    B, Call, Narrow, Places, SLOTS, State, Steps, TestedArena, Told, Trial, Unchanged, Wide, Wrong,
+    follow_to, new_arena, on_fixed, on_heap, on_limited, on_little, step,
+};
+
+// A call that adds ten to each value, with what it met: it leaves the arena with these values as it
+// was.
+#[derive(Drop)]
+struct AddsTen {
+    step: (Call, Told),
+}
+
+impl Trial for AddsTen {
+    fn on<A: TestedArena>(&self, arena: &mut A) -> Result<(), Wrong> {
+        let expected = with_ten_more(arena.state());
+        follow_to(arena, &[self.step], &expected)
+    }
+}
+
+// The same state with values that are ten higher.
+fn with_ten_more(state: State) -> State {
+    let mut expected = state;
+    for at in 0..SLOTS {
+        expected.entries[at] = raised(expected.entries[at]);
+    }
+    expected
+}
+
+// The same entry with a value that is ten higher.
+fn raised(entry: Option<(u64, u64)>) -> Option<(u64, u64)> {
+    let (generation, number) = entry?;
+    Some((generation, number.wrapping_add(10)))
+}
+
+// Five values come, and two of them go.
+const THREE_LEFT: Steps<'_> = Steps(&[
+    (Call::Insert(1), Told::At(1, 2)),
+    (Call::Insert(2), Told::At(2, 2)),
+    (Call::Insert(3), Told::At(3, 2)),
+    (Call::Insert(4), Told::At(4, 2)),
+    (Call::Insert(5), Told::At(5, 2)),
+    (Call::Remove(2, 2), Told::Holds(2)),
+    (Call::Remove(4, 2), Told::Holds(4)),
+]);
+
+// What is found once ten was added three times.
+const THIRTY_MORE: Steps<'_> = Steps(&[
+    (Call::Get(1, 2), Told::Holds(31)),
+    (Call::Get(2, 2), Told::Nothing),
+    (Call::Get(3, 2), Told::Holds(33)),
+    (Call::Get(5, 2), Told::Holds(35)),
+]);
+
+// Ten is added to each of three, by each way to write to all values.
+#[derive(Drop)]
+struct ThreeOfFive;
+
+impl Trial for ThreeOfFive {
+    fn on<A: TestedArena>(&self, arena: &mut A) -> Result<(), Wrong> {
+        THREE_LEFT.on(arena)?;
+        let met = Told::Met([Some((1, 2, 1)), Some((3, 2, 3)), Some((5, 2, 5))]);
+        let step = (Call::AddToEach(10), met);
+        AddsTen { step }.on(arena)?;
+        let met = Told::Met([Some((1, 2, 11)), Some((3, 2, 13)), Some((5, 2, 15))]);
+        let step = (Call::AddToEachEntry(10), met);
+        AddsTen { step }.on(arena)?;
+        let met = Told::MetValues([Some(21), Some(23), Some(25)]);
+        let step = (Call::AddToEachValue(10), met);
+        AddsTen { step }.on(arena)?;
+        THIRTY_MORE.on(arena)
+    }
+}
+
+#[test]
+fn ten_is_added_to_three_of_five_on_wide_pointers(rt: HostRuntime) -> Result<(), Fail> {
+    on_heap::<P0, _>(rt.alloc(), None, &ThreeOfFive)?;
+    on_limited::<P0, _>(rt.alloc(), Some(5), &ThreeOfFive)?;
+    on_fixed::<P0, _>(rt.alloc(), Some(5), &ThreeOfFive)?;
+    ThreeOfFive.on(&mut new_arena::<P0, Places<P0, 5>>(rt.alloc()))?;
+    on_heap::<Wide, _>(rt.alloc(), None, &ThreeOfFive)?;
+    Ok(())
+}
+
+#[test]
+fn ten_is_added_to_three_of_five_on_byte_pointers(rt: HostRuntime) -> Result<(), Fail> {
+    on_heap::<B, _>(rt.alloc(), None, &ThreeOfFive)?;
+    on_heap::<Narrow, _>(rt.alloc(), None, &ThreeOfFive)?;
+    on_little::<Narrow, 5, _>(rt.alloc(), Some(5), &ThreeOfFive)?;
+    Ok(())
+}
+
+#[test]
+fn nothing_is_met_in_an_arena_without_entries(rt: HostRuntime) -> Result<(), Fail> {
+    let nothing = Unchanged(&[
+        (Call::AddToEach(10), Told::Met([None, None, None])),
+        (Call::AddToEachEntry(10), Told::Met([None, None, None])),
+        (
+            Call::AddToEachValue(10),
+            Told::MetValues([None, None, None]),
+        ),
+    ]);
+    let the_last_alone = Steps(&[
+        (Call::Insert(1), Told::At(1, 2)),
+        (Call::Insert(2), Told::At(2, 2)),
+        (Call::Insert(3), Told::At(3, 2)),
+        (Call::Remove(1, 2), Told::Holds(1)),
+        (Call::Remove(2, 2), Told::Holds(2)),
+        (Call::AddToEach(1), Told::Met([Some((3, 2, 3)), None, None])),
+        (Call::Remove(3, 2), Told::Holds(4)),
+    ]);
+    let trial = (nothing, (the_last_alone, nothing));
+    on_heap::<P0, _>(rt.alloc(), None, &trial)?;
+    Ok(())
+}
+
+// Every slot has an entry, up to the greatest index.
+#[derive(Drop)]
+struct Each255;
+
+impl Trial for Each255 {
+    fn on<A: TestedArena>(&self, arena: &mut A) -> Result<(), Wrong> {
+        for index in 1..256 {
+            step(arena, Call::Insert(7), Told::At(index, 2))?;
+        }
+        let first = Told::Met([Some((1, 2, 7)), Some((2, 2, 7)), Some((3, 2, 7))]);
+        let step = (Call::AddToEach(10), first);
+        AddsTen { step }.on(arena)?;
+        let first = Told::MetValues([Some(17), Some(17), Some(17)]);
+        let step = (Call::AddToEachValue(10), first);
+        AddsTen { step }.on(arena)
+    }
+}
+
+#[test]
+fn each_of_255_entries_is_met(rt: HostRuntime) -> Result<(), Fail> {
+    on_heap::<Narrow, _>(rt.alloc(), Some(255), &Each255)?;
+    Ok(())
+}
+
+#[test]
+fn without_generations_the_entries_are_met_by_their_indexes(rt: HostRuntime) -> Result<(), Fail> {
+    on_heap::<P4, _>(rt.alloc(), None, &ThreeOfFive)?;
+    Ok(())
+}

@@ -17,7 +17,7 @@ use Rattle.triple_arena.proofs.ItemLists.{joined}
 use Rattle.triple_arena.proofs.Links.{settled}
 
 module _ {T : Type 0} where
-  length-kept : (es ws : List (Option (ℕ × T))) → length (with_values_in es ws) ≡ length es
+  pub length-kept : (es ws : List (Option (ℕ × T))) → length (with_values_in es ws) ≡ length es
   length-kept [] ws = refl
   length-kept (e ∷ es) [] = refl
   length-kept (e ∷ es) (w ∷ ws) = ap suc (length-kept es ws)
@@ -29,11 +29,11 @@ module _ {T : Type 0} where
   counts a (Some e ∷ es) (None ∷ ws) = counts (a + 1) es ws
   counts a (Some e ∷ es) (Some w ∷ ws) = counts (a + 1) es ws
 
-  count-kept : (es ws : List (Option (ℕ × T))) → entry_count (with_values_in es ws) ≡ entry_count es
+  pub count-kept : (es ws : List (Option (ℕ × T))) → entry_count (with_values_in es ws) ≡ entry_count es
   count-kept es ws = counts 0 es ws
 
   -- what a test tells of each slot that no value changes, it tells of the slots
-  at-kept : {A : Type 0} (f : Option (Option (ℕ × T)) → A) → ((e w : Option (ℕ × T)) → f (Some (with_value_of e w)) ≡ f (Some e)) → (es ws : List (Option (ℕ × T))) (i : ℕ) → f (item (with_values_in es ws) i) ≡ f (item es i)
+  pub at-kept : {A : Type 0} (f : Option (Option (ℕ × T)) → A) → ((e w : Option (ℕ × T)) → f (Some (with_value_of e w)) ≡ f (Some e)) → (es ws : List (Option (ℕ × T))) (i : ℕ) → f (item (with_values_in es ws) i) ≡ f (item es i)
   at-kept f same es ws zero = refl
   at-kept f same [] ws (suc k) = refl
   at-kept f same (e ∷ es) [] (suc k) = refl
@@ -58,12 +58,12 @@ module _ {T : Type 0} where
   generation-kept (Some e) None = refl
   generation-kept (Some e) (Some w) = refl
 
-  generations-kept : (es ws : List (Option (ℕ × T))) → generations_in (with_values_in es ws) ≡ generations_in es
+  pub generations-kept : (es ws : List (Option (ℕ × T))) → generations_in (with_values_in es ws) ≡ generations_in es
   generations-kept [] ws = refl
   generations-kept (e ∷ es) [] = refl
   generations-kept (e ∷ es) (w ∷ ws) = rw (generation-kept e w, generations-kept es ws) refl
 
-  under-kept : (generation : ℕ) (e w : Option (ℕ × T)) → is_some (option_and_then (value_under generation) (with_value_of e w)) ≡ is_some (option_and_then (value_under generation) e)
+  pub under-kept : (generation : ℕ) (e w : Option (ℕ × T)) → is_some (option_and_then (value_under generation) (with_value_of e w)) ≡ is_some (option_and_then (value_under generation) e)
   under-kept generation None w = refl
   under-kept generation (Some e) None = refl
   under-kept generation (Some e) (Some w) = by_test (e.0 == generation)

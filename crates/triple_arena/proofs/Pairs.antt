@@ -8,7 +8,8 @@ use Rattle.std.specs.Option.{option_map}
 use Rattle.triple_arena_ptr.specs.Pointers.{Pointer}
 use Rattle.triple_arena_stack.specs.Disjoint.{set_both, MayWork}
 use Rattle.triple_arena.specs.Items.{item, with_item}
-use Rattle.triple_arena.specs.ArenaState.{ArenaState, entry, look_up, with_value}
+use Rattle.triple_arena.specs.ArenaState.{ArenaState, with_value}
+use Rattle.triple_arena.specs.Entries.{entry_in, look_up_in}
 use Rattle.triple_arena.specs.Slot.{entry_of, with_slot_value}
 use Rattle.triple_arena.specs.Layout.{entry_at, Shows, with_value_at}
 use Rattle.triple_arena.specs.Disjoint.{PairOnce, value_of}
@@ -49,23 +50,23 @@ module _ {P T I G : Type 0} (number : G → ℕ) where
       let live : IsSome (entry_at number one j) = subst (λ o. IsSome o) (sym (entry_item number one j b there)) (live_slot es j b at_j live_j) in
       rw (written, left_i, left_j) (value_there one root j len b y (with_value s i x) there live (value_there es root i len a x s at_i live_i shows))
 
-module _ {T : Type 0} (s : ArenaState T) where
+module _ {T : Type 0} (slots : List (Option (ℕ × T))) where
   -- the value under a valid pointer is that of the entry at its index
-  pub value_under_pointer : (p : Pointer) (i : ℕ) → i ≡ p.0 → is_some (look_up s p) ≡ true → value_of (entry s i) ≡ look_up s p
+  pub value_under_pointer : (p : Pointer) (i : ℕ) → i ≡ p.0 → is_some (look_up_in slots p) ≡ true → value_of (entry_in slots i) ≡ look_up_in slots p
   value_under_pointer p i here valid =
-      let found = entry_of_value s.slots p.0 p.1 valid in
-      ap (λ n. value_of (entry s n)) here ∙ ap value_of found.1 ∙ sym found.2
+      let found = entry_of_value slots p.0 p.1 valid in
+      ap (λ n. value_of (entry_in slots n)) here ∙ ap value_of found.1 ∙ sym found.2
 
   -- two valid pointers with one index are one
-  pub same_pointer : (p q : Pointer) → is_some (look_up s p) ≡ true → is_some (look_up s q) ≡ true → p.0 ≡ q.0 → p ≡ q
+  pub same_pointer : (p q : Pointer) → is_some (look_up_in slots p) ≡ true → is_some (look_up_in slots q) ≡ true → p.0 ≡ q.0 → p ≡ q
   same_pointer p q valid_p valid_q here =
-      let found_p = entry_of_value s.slots p.0 p.1 valid_p in
-      let found_q = entry_of_value s.slots q.0 q.1 valid_q in
-      pointer_is p.0 p.1 q.0 q.1 here (some_pair_parts p.1 q.1 found_p.0 found_q.0 (sym found_p.1 ∙ ap (entry s) here ∙ found_q.1)).0
+      let found_p = entry_of_value slots p.0 p.1 valid_p in
+      let found_q = entry_of_value slots q.0 q.1 valid_q in
+      pointer_is p.0 p.1 q.0 q.1 here (some_pair_parts p.1 q.1 found_p.0 found_q.0 (sym found_p.1 ∙ ap (entry_in slots) here ∙ found_q.1)).0
 
   -- an entry, by its generation and by its value
-  pub entry_by_parts : (i n h : ℕ) (x : T) → n ≡ i → Some h ≡ option_map (λ (e : ℕ × T). e.0) (entry s i) → value_of (entry s n) ≡ Some x → entry s i ≡ Some (h, x)
-  entry_by_parts i n h x here stamped read = by_entry (entry s i) stamped (sym (ap (λ m. value_of (entry s m)) here) ∙ read)
+  pub entry_by_parts : (i n h : ℕ) (x : T) → n ≡ i → Some h ≡ option_map (λ (e : ℕ × T). e.0) (entry_in slots i) → value_of (entry_in slots n) ≡ Some x → entry_in slots i ≡ Some (h, x)
+  entry_by_parts i n h x here stamped read = by_entry (entry_in slots i) stamped (sym (ap (λ m. value_of (entry_in slots m)) here) ∙ read)
     where
       by_entry : (o : Option (ℕ × T)) → Some h ≡ option_map (λ (e : ℕ × T). e.0) o → value_of o ≡ Some x → o ≡ Some (h, x)
       by_entry None stamped read = absurd (cc)

@@ -7,8 +7,8 @@ ghost use Rattle.triple_arena.specs.FreeList.{last_index};
 use crate::arena_trait::ArenaTrait;
 use triple_arena_ptr::{Ptr, PtrInx};
 
-// The greatest index of an entry, or 0 where there is none.
-pub(crate) fn last_index<P: Ptr, T, A: ArenaTrait<P, T>>(arena: &A) -> usize
+/// The greatest index of an entry, or 0 where there is none.
+pub fn last_index<P: Ptr, T, A: ArenaTrait<P, T>>(arena: &A) -> usize
     ensures value { result ≡ last_index (A.slots arena.now) }
     ensures indexed { result ≤ greatest_index P.Inx.greatest }
 {

@@ -3,6 +3,7 @@
 
 mod answers;
 mod arena_clone_trait;
+mod arena_direct_insert_trait;
 mod arena_insert_trait;
 pub mod arena_iterators;
 mod arena_trait;
@@ -11,20 +12,21 @@ mod base_arena;
 mod compact_arena_trait;
 pub mod copying;
 mod disjointable_arena_trait;
-mod ends;
+pub mod ends;
 mod entry_slot;
 mod indexing;
 mod insert_entry;
 pub mod laws;
 mod lending_arena;
 mod lent_slots;
-mod pair_call;
+pub mod pair_call;
 mod slot;
 mod slots;
 mod text;
 pub mod transferring;
 
 pub use arena_clone_trait::ArenaCloneFromWith;
+pub use arena_direct_insert_trait::{ArenaDirectInsertEntryTrait, ArenaDirectInsertTrait};
 pub use arena_insert_trait::ArenaInsertTrait;
 pub use arena_trait::ArenaTrait;
 pub use arena_transfer_trait::ArenaTransfer;
@@ -33,4 +35,5 @@ pub use compact_arena_trait::CompactArenaTrait;
 pub use disjointable_arena_trait::DisjointableArenaTrait;
 pub use entry_slot::EntrySlot;
 pub use insert_entry::{ArenaInsertEntry, ArenaInsertEntryTrait};
+pub use lending_arena::LendingArena;
 pub use slot::{ArenaSlot, FreeLink};

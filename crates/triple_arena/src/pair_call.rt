@@ -1,23 +1,25 @@
-//! Calls at two values.
+//! Calls at two values, for arenas that lend two of their values at once.
 
 ghost use Rattle.triple_arena_stack.specs.Disjoint.{FnOnceTakesAtPairMut, FnOnceReturnsAtPairMut};
 ghost use Rattle.triple_arena.specs.Disjoint.{PairOnce, after_generations};
 
-// What may be called once, at two values.
-//
-// The closures of the two calls on pairs differ in their arguments; the slots ask for this alone.
-pub(crate) trait PairCall<T, R> {
+/// What may be called once, at two values.
+///
+/// The closures of the two calls on pairs differ in their arguments; the slots ask for this alone.
+pub trait PairCall<T, R> {
     // what a call asks, and what it gives and leaves
     ghost calls: { PairOnce Self T R };
 
+    /// Makes the call.
     fn at(self, first: &mut T, second: &mut T) -> R
         requires { FnOnceTakesAtPairMut calls self first.old second.old }
         ensures { FnOnceReturnsAtPairMut calls self first.old second.old result first.new second.new };
 }
 
-// A closure that takes the values alone.
-pub(crate) struct AtValues<F> {
-    pub(crate) f: F,
+/// A closure that takes the values alone.
+pub struct AtValues<F> {
+    /// The closure.
+    pub f: F,
 }
 
 impl<T, R, F: FnOnce(&mut T, &mut T) -> R> PairCall<T, R> for AtValues<F> {
@@ -32,12 +34,14 @@ impl<T, R, F: FnOnce(&mut T, &mut T) -> R> PairCall<T, R> for AtValues<F> {
     }
 }
 
-// A closure that takes each value after its generation.
-pub(crate) struct AtEntries<F, G> {
-    pub(crate) f: F,
-    // The generations of the first value and of the second.
-    pub(crate) a: G,
-    pub(crate) b: G,
+/// A closure that takes each value after its generation.
+pub struct AtEntries<F, G> {
+    /// The closure.
+    pub f: F,
+    /// The generation of the first value.
+    pub a: G,
+    /// The generation of the second value.
+    pub b: G,
 }
 
 impl<T, R, G, F: FnOnce(G, &mut T, G, &mut T) -> R> PairCall<T, R> for AtEntries<F, G> {

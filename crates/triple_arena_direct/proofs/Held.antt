@@ -1,24 +1,28 @@
 -- How the count and the state of a direct arena follow its slots.
-use Rattle.std.proofs.Common.{◌≡◌, ℕ, ◌+◌, ◌-◌, ◌<◌, ◌≤◌, ◌^◌, List, [], ◌∷◌, zero, suc, inl, inr, map, length, take, Option, Some, None, MatchOption, is_some, IsSome, cond, min, max, refl, sym, ap, subst, ◌∙◌, arith, true, false}
-use Rattle.std.proofs.lemmas.Bool.{cases_lt}
+use Rattle.std.proofs.Common.{◌≡◌, ◌≢◌, ℕ, ◌+◌, ◌-◌, ◌<◌, ◌≤◌, ◌^◌, List, [], ◌∷◌, zero, suc, inl, inr, map, length, take, Option, Some, None, MatchOption, is_some, IsSome, cond, min, max, refl, sym, ap, subst, ◌∙◌, arith, true, false}
+use Rattle.std.proofs.lemmas.Bool.{cases_lt, cases_eq}
+use Rattle.std.proofs.lemmas.List.Sums.{count_by-le-length}
 use Rattle.std.specs.Int.NonZero.{non_zero_usize_get}
 use Rattle.std.specs.declared.num.NonZeroUsize.{NonZeroUsize}
-use Rattle.std.specs.Option.{option_map}
+use Rattle.std.specs.Option.{option_map, option_and_then}
 use Rattle.triple_arena_base.specs.declared.invalidation.InvalidationResult.{InvalidationResult}
 use Rattle.triple_arena_base.specs.declared.invalidation.InvalidationResult.TheVariants.{Success}
 use Rattle.triple_arena_ptr.specs.Pointers.{Pointer}
 use Rattle.triple_arena_stack.specs.StackKind.{StackKind}
 use Rattle.triple_arena.specs.Items.{item, with_item}
-use Rattle.triple_arena.specs.ItemLaws.{joined, with_item-past, item_past}
-use Rattle.triple_arena.specs.Entries.{entry_in, look_up_in, with_value_in}
+use Rattle.triple_arena.specs.ItemLaws.{joined, eq_false, with_item-past, item_past}
+use Rattle.triple_arena.specs.Entries.{entry_in, entry_count, look_up_in, value_under, with_value_in, ChangesAt}
 use Rattle.triple_arena.specs.Ending.{told_of}
 use Rattle.triple_arena.specs.EntryLaws.{within_room}
+use Rattle.triple_arena.specs.DirectInsertion.{IsVacant}
 use Rattle.triple_arena.specs.FreeList.{trimmed}
-use Rattle.triple_arena.proofs.ItemLists.{length-with_item, map-with_item}
-use Rattle.triple_arena.proofs.Links.{item-map_none}
-use Rattle.triple_arena.proofs.WellFormed.{entry_of_value}
-use Rattle.triple_arena_direct.specs.DirectState.{DirectState, generation_of, slot_count, direct_len, direct_capacity, Fits, with_value, removed, shortened, settled, with_room_for}
+use Rattle.triple_arena.proofs.ItemLists.{length-with_item, map-with_item, with_item-twice, item-with_other}
+use Rattle.triple_arena.proofs.Links.{item-map_none, pointer_is}
+use Rattle.triple_arena.proofs.LookUps.{others_found, new_found}
+use Rattle.triple_arena.proofs.WellFormed.{entry_of_value, with_value_is}
+use Rattle.triple_arena_direct.specs.DirectState.{DirectState, generation_of, slot_count, direct_len, direct_capacity, Fits, with_value, extended, inserted_at, removed, shortened, settled, with_room_for, with_slots}
 use Rattle.triple_arena_direct.specs.StepLaws.{len-with_value, len_taken, count-shortened}
+use Rattle.triple_arena_direct.specs.InsertionLaws.{length-extended, slots-inserted_at, len-inserted_at}
 use Rattle.triple_arena_direct.specs.Slot.{slot_entry, with_slot_value}
 use Rattle.triple_arena_direct.specs.Layout.{direct_of, entry_at, with_value_at, Counts}
 use Rattle.triple_arena_direct.specs.declared.slot.DirectSlot.{DirectSlot}
@@ -39,6 +43,52 @@ module _ {T : Type 0} where
         fits = omega (arith, length-with_item s.slots i None, counts.fits);
       }
 
+  -- there are no more entries than indexes
+  pub counted_within : (len : ℕ) (s : DirectState T) → Counts len s → len ≤ s.greatest
+  counted_within len s counts = omega (arith, count_by-le-length is_some s.slots, counts.counted, counts.fits)
+
+  pub Counts-inserted_at : (len : ℕ) (s : DirectState T) (p : Pointer) (v : T) → 0 < p.0 → IsVacant s.slots (direct_capacity s) p.0 → Counts len s → Counts (len + 1) (inserted_at s p v)
+  Counts-inserted_at len s p v positive vacant counts =
+      record {
+        counted = omega (arith, len-inserted_at s p v positive vacant, counts.counted);
+        fits = omega (arith, length-with_item (extended s.slots p.0) p.0 (Some (p.1, v)), length-extended s.slots p.0, vacant.within, counts.fits);
+      }
+
+  inserted_changes : (old new : DirectState T) (p : Pointer) (v : T) → 0 < p.0 → new ≡ inserted_at old p v → ChangesAt old.slots p.0 (Some (p.1, v)) new.slots
+  inserted_changes old new p v positive is = rw is (slots-inserted_at old p v positive)
+
+  -- the pointer of an insertion finds the value
+  pub found_inserted_at : (old new : DirectState T) (p : Pointer) (v : T) → 0 < p.0 → new ≡ inserted_at old p v → look_up_in new.slots p ≡ Some v
+  found_inserted_at old new p v positive is =
+      new_found old.slots new.slots p p v refl (inserted_changes old new p v positive is)
+
+  stale : (generation h : ℕ) (v : T) → h ≢ generation → option_and_then (value_under generation) (Some (h, v)) ≡ None
+  stale generation h v other = ap (λ b. cond b (Some v) None) (eq_false h generation other)
+
+  -- every other pointer finds what it found
+  pub others_inserted_at : (old new : DirectState T) (p : Pointer) (v : T) → 0 < p.0 → entry_in old.slots p.0 ≡ None → new ≡ inserted_at old p v → (q : Pointer) → q ≢ p → look_up_in new.slots q ≡ look_up_in old.slots q
+  others_inserted_at old new p v positive free is q other =
+      elim (cases_eq q.0 p.0) [
+        | inl here ↦
+            ap (option_and_then (value_under q.1)) (ap (entry_in new.slots) here ∙ change.there)
+            ∙ stale q.1 p.1 v (λ same. other (pointer_is q.0 q.1 p.0 p.1 here (sym same)))
+            ∙ sym (ap (option_and_then (value_under q.1)) (ap (entry_in old.slots) here ∙ free))
+        | inr away ↦ others_found old.slots new.slots p.0 (Some (p.1, v)) change q away
+      ]
+    where
+      change : ChangesAt old.slots p.0 (Some (p.1, v)) new.slots
+      change = inserted_changes old new p v positive is
+
+  -- what is written under the pointer of an insertion stands as if it was inserted
+  pub rewritten_at : (old new : DirectState T) (p : Pointer) (v w : T) → 0 < p.0 → new ≡ inserted_at old p v → with_value new p.0 w ≡ inserted_at old p w
+  rewritten_at old new p v w positive is =
+      let put = slots-inserted_at old p v positive in
+      ap (λ s. with_value s p.0 w) is
+      ∙ ap (λ xs. record old { slots = xs }) (
+      with_value_is (inserted_at old p v).slots p.0 p.1 v w put.there
+      ∙ with_item-twice (extended old.slots p.0) p.0 (Some (p.1, v)) (Some (p.1, w))
+      )
+
   pub Counts-with_value : (len : ℕ) (s : DirectState T) (i : ℕ) (w : T) → Counts len s → Counts len (with_value s i w)
   Counts-with_value len s i w counts =
       record {
@@ -52,6 +102,9 @@ module _ {T : Type 0} where
         counted = counts.counted ∙ sym (count-shortened m s.slots);
         fits = omega (arith, length-front (max (length (trimmed s.slots)) m) s.slots, counts.fits);
       }
+
+  pub Counts-slots : (len : ℕ) (s : DirectState T) (xs : List (Option (ℕ × T))) → len ≡ entry_count xs → length xs ≤ direct_capacity s → Counts len (with_slots s xs)
+  Counts-slots len s xs counted fits = record { counted = counted; fits = fits }
 
   pub Counts-room : (kind : StackKind) (len : ℕ) (s : DirectState T) (m : ℕ) → Counts len s → Counts len (with_room_for kind s m)
   Counts-room kind len s m counts =
@@ -107,6 +160,16 @@ module _ {P T I G : Type 0} (number : G → ℕ) where
       by_item (Some x) found =
           map-with_item (slot_entry number) es i (with_slot_value x w)
           ∙ ap (with_item (map (slot_entry number) es) i) (value_written x w ∙ ap (option_map (λ (e : ℕ × T). (e.0, w))) (sym (entry_item number es i x found)))
+
+  -- with other values in two slots the entries have them too
+  pub both_written : (es es' : List (DirectSlot P T I G)) (i j : ℕ) (a b a' b' : DirectSlot P T I G) (x y : T) → item es i ≡ Some a → item es j ≡ Some b → i ≢ j → a' ≡ with_slot_value a x → b' ≡ with_slot_value b y → es' ≡ with_item (with_item es i a') j b' → map (slot_entry number) es' ≡ with_value_in (with_value_in (map (slot_entry number) es) i x) j y
+  both_written es es' i j a b a' b' x y at_i at_j apart left_i left_j is =
+      let one : List (DirectSlot P T I G) = with_item es i (with_slot_value a x) in
+      let there : item one j ≡ Some b = item-with_other es i j (with_slot_value a x) (λ e. apart (sym e)) ∙ at_j in
+      let first : map (slot_entry number) one ≡ with_value_in (map (slot_entry number) es) i x = ap (λ o. map (slot_entry number) (with_value_at es i o x)) (sym at_i) ∙ written es i x in
+      let second : map (slot_entry number) (with_item one j (with_slot_value b y)) ≡ with_value_in (map (slot_entry number) one) j y = ap (λ o. map (slot_entry number) (with_value_at one j o y)) (sym there) ∙ written one j y in
+      ap (map (slot_entry number)) (is ∙ ap (λ s. with_item (with_item es i s) j b') left_i ∙ ap (with_item one j) left_j)
+      ∙ second ∙ ap (λ xs. with_value_in xs j y) first
 
   -- the arena after a write through a borrow of a value
   pub lent : (es es' : List (DirectSlot P T I G)) (len room room' : ℕ) (limit limit' : Option ℕ) (greatest : ℕ) (s : DirectState T) (i : ℕ) (w : T) → Counts len (direct_of number es room limit greatest) → direct_of number es room limit greatest ≡ s → es' ≡ with_value_at es i (item es i) w → room' ≡ room → limit' ≡ limit → Counts len (direct_of number es' room' limit' greatest) × (direct_of number es' room' limit' greatest ≡ with_value s i w)

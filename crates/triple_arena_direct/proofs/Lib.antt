@@ -1,3 +1,5 @@
 pub mod SlotEntries
 pub mod Shortening
 pub mod Held
+pub mod Keeping
+pub mod Mirroring

@@ -1,5 +1,5 @@
 -- Entries that are read in the slots of a direct arena.
-use Rattle.std.proofs.Common.{◌≡◌, ℕ, ◌+◌, ◌-◌, ◌<◌, ◌≤◌, ◌==◌, Bool, true, false, List, map, length, get_or, take, Option, Some, None, is_some, IsSome, not, slice_get, refl, sym, ap, ◌∙◌, arith, true≢false}
+use Rattle.std.proofs.Common.{◌≡◌, ℕ, ◌+◌, ◌-◌, ◌<◌, ◌≤◌, ◌==◌, Bool, true, false, List, map, length, get_or, take, Option, Some, None, is_some, IsSome, not, slice_get, refl, sym, ap, subst, ◌∙◌, arith, true≢false}
 use Rattle.std.proofs.lemmas.List.{length-map, take-map}
 use Rattle.std.proofs.lemmas.Option.{slice_get_read, slice_get_within}
 use Rattle.std.specs.Option.{option_map}
@@ -29,6 +29,10 @@ module _ {P T I G : Type 0} (number : G → ℕ) where
       by_item : (o : Option (DirectSlot P T I G)) → item es i ≡ o → IsSome (item es i)
       by_item None h = absurd (true≢false (sym (rw (item-map_none (slot_entry number) es i h) at live)))
       by_item (Some e) h = ap is_some h
+
+  -- a slot at an index with an entry has this entry
+  pub live_slot : (es : List (DirectSlot P T I G)) (i : ℕ) (e : DirectSlot P T I G) → item es i ≡ Some e → IsSome (entry_at number es i) → IsSome (slot_entry number e)
+  live_slot es i e there live = subst (λ o. IsSome o) (entry_item es i e there) live
 
   -- the entry of a slot that is read at a place
   pub entry_here : (es xs : List (DirectSlot P T I G)) (at : ℕ) (e : DirectSlot P T I G) → xs ≡ es → at < length xs → e ≡ get_or xs at e → entry_at number es (at + 1) ≡ slot_entry number e

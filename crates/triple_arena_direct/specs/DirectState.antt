@@ -1,5 +1,6 @@
 -- What a direct arena holds, and what each call makes of it.
-use Rattle.std.specs.Prelude.{◌≡◌, ◌≤◌, ℕ, List, [], length, take, Option, Some, None, max, min}
+use Rattle.std.specs.Prelude.{◌≡◌, ◌≤◌, ◌-◌, ℕ, nat_lt, cond, List, [], ◌++◌, length, take, replicate, Option, Some, None, max, min}
+use Rattle.triple_arena_ptr.specs.Pointers.{Pointer}
 use Rattle.triple_arena_stack.specs.StackKind.{StackKind, reallocated_room}
 use Rattle.triple_arena_stack.specs.Capacity.{capacity_of}
 use Rattle.triple_arena.specs.Items.{with_item}
@@ -23,6 +24,10 @@ module _ {T : Type 0} where
   -- the slots without the free ones at the end, but for those up to index m
   abbrev pub shortened : ℕ → List (Option (ℕ × T)) → List (Option (ℕ × T))
   shortened m slots = take (max (length (trimmed slots)) m) slots
+
+  -- the slots with free ones after them, so that there are at least so many
+  abbrev pub extended : List (Option (ℕ × T)) → ℕ → List (Option (ℕ × T))
+  extended slots n = slots ++ replicate (n - length slots) None
 
   -- an arena without slots
   abbrev pub new_direct : ℕ → Option ℕ → ℕ → DirectState T
@@ -48,6 +53,11 @@ module _ {T : Type 0} where
   abbrev pub with_value : DirectState T → ℕ → T → DirectState T
   with_value s i value = record s { slots = with_value_in s.slots i value }
 
+  -- insertion under a pointer: the value stands at its index, under its generation, and the slots that were missing below
+  -- are free
+  abbrev pub inserted_at : DirectState T → Pointer → T → DirectState T
+  inserted_at s p value = record s { slots = with_item (extended s.slots p.0) p.0 (Some (p.1, value)) }
+
   -- removal at an index: its slot is free, also where it is the last
   abbrev pub removed : DirectState T → ℕ → DirectState T
   removed s i = record s { slots = with_item s.slots i None }
@@ -67,6 +77,14 @@ module _ {T : Type 0} where
   -- reallocation to so many: free slots past them go first
   abbrev pub reallocated : StackKind → DirectState T → ℕ → DirectState T
   reallocated kind s m = with_room_for kind (settled s m) m
+
+  -- the arena with a place for so many: where they are past the capacity, it is reallocated
+  abbrev pub ready_for : StackKind → DirectState T → ℕ → DirectState T
+  ready_for kind s m = cond (nat_lt (direct_capacity s) m) (reallocated kind s m) s
+
+  -- the arena with these slots
+  abbrev pub with_slots : DirectState T → List (Option (ℕ × T)) → DirectState T
+  with_slots s slots = record s { slots = slots }
 
   -- so many slots are allowed
   abbrev pub with_limit : DirectState T → ℕ → DirectState T

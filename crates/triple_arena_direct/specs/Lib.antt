@@ -2,4 +2,10 @@ pub mod DirectState
 pub mod Slot
 pub mod Layout
 pub mod Lends
+pub mod Kept
+pub mod Values
 pub mod StepLaws
+pub mod InsertionLaws
+pub mod CloningLaws
+pub mod Mirrors
+pub mod InsertEntry

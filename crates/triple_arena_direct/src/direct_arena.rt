@@ -1,25 +1,40 @@
 //! The direct arena.
 
-ghost use Rattle.std.specs.Prelude.{◌≡◌, ℕ, ◌≤◌, ◌<◌, ◌+◌, ◌^◌, ◌↔◌, false, [], map, length, is_some, IsSome, IfSome, IsOk, OnOk, OnErr, Some, None, Err, option_copied, min, MatchOption, ◌-◌};
+ghost use Rattle.std.specs.Prelude.{◌≡◌, ◌≢◌, ℕ, List, Option, IfOk, ◌≤◌, ◌<◌, ◌+◌, ◌^◌, ◌↔◌, false, [], map, length, is_some, IsSome, IfSome, IsOk, OnOk, OnErr, Some, None, Err, option_copied, min, MatchOption, ◌-◌};
 ghost use Rattle.std.specs.Int.NonZero.{non_zero_usize_get};
+ghost use Rattle.std.specs.Borrow.{sem};
 ghost use Rattle.std.specs.Option.{option_and_then};
 ghost use Rattle.triple_arena_ptr.specs.Numbers.{greatest_index};
 ghost use Rattle.triple_arena_stack.specs.Capacity.{IsWithin, IsBeyond};
 ghost use Rattle.triple_arena_stack.specs.StackKind.{IsOfKind};
 ghost use Rattle.triple_arena.specs.Entries.{entry_in, look_up_in};
-ghost use Rattle.triple_arena_direct.specs.DirectState.{DirectState, new_direct, generation_of, slot_count, direct_len, direct_capacity, Fits, with_value, removed, cleared, settled, with_room_for, reallocated, with_limit};
+ghost use Rattle.triple_arena.specs.DirectInsertion.{IsVacant};
+ghost use Rattle.triple_arena.specs.Disjoint.{value_of};
+ghost use Rattle.triple_arena.specs.FreeList.{last_index};
+ghost use Rattle.triple_arena.specs.Walks.{entries};
+ghost use Rattle.triple_arena.specs.Copying.{Copies};
+ghost use Rattle.triple_arena_stack.specs.Disjoint.{DisjointAnswer, MayWork, Worked};
+ghost use Rattle.triple_arena_direct.specs.DirectState.{DirectState, new_direct, generation_of, slot_count, direct_len, direct_capacity, Fits, with_value, inserted_at, removed, cleared, settled, with_room_for, reallocated, ready_for, with_slots, with_limit};
+ghost use Rattle.triple_arena.specs.Lent.{lends_values};
+ghost use Rattle.triple_arena_direct.specs.Values.{with_values_of};
 ghost use Rattle.triple_arena_direct.specs.Slot.{slot_entry};
 
 use crate::direct_arena_iterators::PtrAdvancer;
+use crate::lent_slots::LentSlots;
 use crate::slot::DirectSlot;
 use crate::slots::{self, Slots};
 use std::alloc::Global;
-use std::marker::Model;
+use std::marker::{Model, PhantomData};
 use std::num::NonZeroUsize;
-use triple_arena::{ArenaTrait, CompactArenaTrait};
+use triple_arena::ends::last_index;
+use triple_arena::pair_call::{AtEntries, AtValues, PairCall};
+use triple_arena::{
+    ArenaCloneFromWith, ArenaDirectInsertTrait, ArenaTrait, CompactArenaTrait,
+    DisjointableArenaTrait, LendingArena,
+};
 use triple_arena_base::{
-    AllocError, InvalidationOption, InvalidationResult, MaxCapacityReductionError,
-    ReallocationError,
+    AllocError, CloneFromError, GetDisjointMutError, InvalidationOption, InvalidationResult,
+    MaxCapacityReductionError, ReallocationError,
 };
 use triple_arena_ptr::{Ptr, PtrGen, PtrInx};
 use triple_arena_stack::{NonZeroInxGenericStack, NonZeroInxVec, SetMaxCapacity};
@@ -309,6 +324,93 @@ impl<P: Ptr, T, S: NonZeroInxGenericStack<DirectSlot<P, T>>> ArenaTrait<P, T>
     ghost fitting_settled = { λ _ _ _. ap direct_capacity };
 }
 
+impl<P: Ptr, T, S: NonZeroInxGenericStack<DirectSlot<P, T>>> ArenaDirectInsertTrait<P, T>
+    for DirectArena<P, T, S> {
+    ghost use Rattle.std.specs.Prelude.{refl};
+    ghost use Rattle.triple_arena_direct.specs.InsertionLaws.{slots-inserted_at, len-inserted_at};
+
+    // the value stands at the index, under the generation, and the slots that were missing below
+    // are free
+    ghost inserted_at = { inserted_at };
+
+    fn direct_insert_reserved(&mut self, p: P, t: T) {
+        // By its clauses, it is at most the greatest index.
+        let _capacity = self.capacity();
+        let inx = P::Inx::try_into_usize(p.inx()).unwrap();
+        self.put(inx, p.generation(), t);
+    }
+
+    ghost slots_inserted_at = { slots-inserted_at };
+
+    ghost len_inserted_at = { len-inserted_at };
+
+    ghost limit_inserted_at = { λ _ _ _. refl };
+
+    ghost fitting_inserted_at = { λ _ _ _. refl };
+}
+
+impl<P: Ptr, T, S: NonZeroInxGenericStack<DirectSlot<P, T>>> ArenaCloneFromWith<P, T>
+    for DirectArena<P, T, S> {
+    ghost use Rattle.triple_arena_direct.specs.CloningLaws.{kept-cloned, limit-cloned, fitting-cloned};
+
+    // the slots of the copy stand, in room for the last index; there is no counter
+    ghost clones = { λ old last _ copy new. new ≡ with_slots (ready_for S.kind old last) copy };
+
+    fn clone_from_with<U, E, A: CompactArenaTrait<P, U>, M: FnMut(P, &U) -> Result<T, E>>(
+        &mut self,
+        source: &A,
+        map: M,
+    ) -> Result<(), CloneFromError<E>>
+    where
+        T: Drop,
+    {
+        if let Err(refusal) = self.make_room(last_index(source)) {
+            return Err(CloneFromError::Reallocation(refusal));
+        }
+        match self.hold_copies(source, map) {
+            Ok(()) => Ok(()),
+            Err(refusal) => Err(CloneFromError::Map(refusal)),
+        }
+    }
+
+    ghost slots_cloned = { kept-cloned S.kind };
+
+    ghost limit_cloned = { limit-cloned S.kind };
+
+    ghost fitting_cloned = { fitting-cloned S.kind };
+}
+
+impl<P: Ptr, T, S: NonZeroInxGenericStack<DirectSlot<P, T>>> DisjointableArenaTrait<P, T>
+    for DirectArena<P, T, S> {
+    fn with_disjoint_mut<R, F: FnOnce(&mut T, &mut T) -> R>(
+        &mut self,
+        first: P,
+        second: P,
+        f: F,
+    ) -> Result<R, GetDisjointMutError> {
+        let (Some(first), Some(second)) = (self.find(first), self.find(second)) else {
+            return Err(GetDisjointMutError::IndexOutOfBounds);
+        };
+        if first == second {
+            return Err(GetDisjointMutError::OverlappingIndices);
+        }
+        Ok(self.work_on_two(first, second, AtValues { f }))
+    }
+
+    fn with_disjoint_inx_mut<R, F: FnOnce(P::Gen, &mut T, P::Gen, &mut T) -> R>(
+        &mut self,
+        first: P::Inx,
+        second: P::Inx,
+        f: F,
+    ) -> Result<R, GetDisjointMutError> {
+        let (i, j) = self.two_slots(first, second)?;
+        let (Some(a), Some(b)) = (self.generation_at(first), self.generation_at(second)) else {
+            return Err(GetDisjointMutError::IndexOutOfBounds);
+        };
+        Ok(self.work_on_two(i, j, AtEntries { f, a, b }))
+    }
+}
+
 impl<P: Ptr, T, S: NonZeroInxGenericStack<DirectSlot<P, T>>> DirectArena<P, T, S> {
     /// The stack of the slots.
     pub fn backing(&self) -> &S
@@ -443,6 +545,123 @@ impl<P: Ptr, T, S: NonZeroInxGenericStack<DirectSlot<P, T>>> DirectArena<P, T, S
         ensures past { slot_count self.now ≤ non_zero_usize_get result }
     {
         NonZeroUsize::MIN.saturating_add(self.slots.stack.len())
+    }
+
+    // How many slots there are.
+    pub(crate) fn slot_count(&self) -> usize
+        ensures value { result ≡ slot_count self.now }
+        ensures indexed { result ≤ greatest_index P.Inx.greatest }
+    {
+        self.slots.stack.len()
+    }
+
+    // The slots, so that their values alone can be written.
+    pub(crate) fn lend_slots(&mut self) -> LentSlots<'_, P, T>
+        ensures* writes_back { sem 𝓛 (lends_values
+            ⟦<DirectArena<P, T, S> as LendingArena>⟧.arena_row
+            self.entry result.tie (with_values_of self.old)) }
+        ensures slots { map (slot_entry P.Gen.number) result.now ≡ self.old.slots }
+    {
+        let slots = self.slots.as_mut_slice();
+        LentSlots {
+            at: slots.as_mut_ptr(),
+            mark: PhantomData,
+        }
+    }
+
+    // The numbers of two indexes that name two slots.
+    fn two_slots(
+        &self,
+        first: P::Inx,
+        second: P::Inx,
+    ) -> Result<(NonZeroUsize, NonZeroUsize), GetDisjointMutError>
+        ensures variant { DisjointAnswer (slot_count self.now)
+            (P.Inx.number first) (P.Inx.number second) result }
+        ensures numbers { IfOk result (λ both. (non_zero_usize_get both.0 ≡ P.Inx.number first)
+            × (non_zero_usize_get both.1 ≡ P.Inx.number second)) }
+    {
+        match (
+            P::Inx::try_into_usize(first),
+            P::Inx::try_into_usize(second),
+        ) {
+            (Some(first), Some(second)) => {
+                self.slots.stack.check_disjoint(first, second)?;
+                Ok((first, second))
+            }
+            _ => Err(GetDisjointMutError::IndexOutOfBounds),
+        }
+    }
+
+    // Makes the call at the values of the entries at two indexes.
+    fn work_on_two<R, C: PairCall<T, R>>(
+        &mut self,
+        first: NonZeroUsize,
+        second: NonZeroUsize,
+        call: C,
+    ) -> R
+        requires first { IsSome (entry_in self.old.slots (non_zero_usize_get first)) }
+        requires second { IsSome (entry_in self.old.slots (non_zero_usize_get second)) }
+        requires apart { non_zero_usize_get first ≢ non_zero_usize_get second }
+        requires callable { MayWork C.calls call
+            (value_of (entry_in self.old.slots (non_zero_usize_get first)))
+            (value_of (entry_in self.old.slots (non_zero_usize_get second))) }
+        ensures { Worked C.calls call
+            (value_of (entry_in self.old.slots (non_zero_usize_get first)))
+            (value_of (entry_in self.old.slots (non_zero_usize_get second)))
+            result (λ x y. self.new ≡ with_value
+            (with_value self.old (non_zero_usize_get first) x) (non_zero_usize_get second) y) }
+    {
+        slots::work_on_two(&mut self.slots.stack, first, second, call)
+    }
+
+    // Reallocates where so many are past the capacity.
+    fn make_room(&mut self, min_capacity: usize) -> Result<(), ReallocationError>
+        ensures done { OnOk result (self.new ≡ ready_for S.kind self.old min_capacity) }
+        ensures refused { OnErr result (self.new ≡ settled self.old min_capacity) }
+        ensures short { OnErr result (direct_capacity self.old < min_capacity) }
+        ensures beyond { (result ≡ Err ReallocationError.BeyondMaxCapacity)
+            ↔ ((direct_capacity self.old < min_capacity)
+            × (min_capacity ≤ greatest_index P.Inx.greatest)
+            × IsBeyond self.old.limit min_capacity) }
+        ensures given { min_capacity ≤ greatest_index P.Inx.greatest
+            → IsWithin self.old.limit min_capacity
+            → S.has_memory (reallocated S.kind self.old min_capacity).room → IsOk result }
+        ensures place { OnOk result (min_capacity ≤ direct_capacity self.new) }
+    {
+        if min_capacity <= self.capacity() {
+            return Ok(());
+        }
+        self.reallocate_min_capacity(min_capacity)
+    }
+
+    // Holds the entries of an arena alone, under the same pointers, each mapped by the closure, up to
+    // its first refusal.
+    fn hold_copies<U, E, A: CompactArenaTrait<P, U>, M: FnMut(P, &U) -> Result<T, E>>(
+        &mut self,
+        source: &A,
+        f: M,
+    ) -> Result<(), E>
+    where
+        T: Drop,
+        requires callable { M.IsAlwaysCallable f }
+        requires fits { last_index (A.slots source.now) ≤ direct_capacity self.old }
+        ensures { (new : List (Option (ℕ × T)))
+            × Copies P.numbers M.step f (entries (A.slots source.now)) result new
+            × (self.new ≡ with_slots self.old new) }
+    {
+        let (len, answer) = slots::copy(&mut self.slots.stack, source, f);
+        self.len = len;
+        answer
+    }
+
+    // Puts an entry at an index where none stands.
+    fn put(&mut self, inx: NonZeroUsize, generation: P::Gen, value: T)
+        requires { IsVacant self.old.slots (direct_capacity self.old) (non_zero_usize_get inx) }
+        ensures { self.new ≡ inserted_at self.old
+            (non_zero_usize_get inx, P.Gen.number generation) value }
+    {
+        slots::occupy(&mut self.slots.stack, inx, generation, value);
+        self.len += 1;
     }
 
     // Takes out the entry at an index.

@@ -4,9 +4,14 @@
 mod direct_arena;
 pub mod direct_arena_iterators;
 mod indexing;
+mod insert_entry;
+pub mod laws;
+mod lending_arena;
+mod lent_slots;
 mod slot;
 mod slots;
 mod text;
 
 pub use direct_arena::DirectArena;
+pub use insert_entry::ArenaDirectInsertEntry;
 pub use slot::DirectSlot;

@@ -1,11 +1,13 @@
 //! A slot of a direct arena.
 
 ghost use Rattle.std.specs.Prelude.{◌≡◌, None, Some, IsSome, IsNone, is_some, option_copied};
-ghost use Rattle.std.specs.Borrow.{Lends, sem};
-ghost use Rattle.std.specs.Option.{option_map, option_and_then};
+ghost use Rattle.std.specs.Borrow.{Lends, LendsIf, sem};
+ghost use Rattle.std.specs.Option.{option_map, option_and_then, option_copied_mut};
+ghost use Rattle.triple_arena.specs.Disjoint.{value_of};
 ghost use Rattle.triple_arena.specs.Entries.{value_under};
 ghost use Rattle.triple_arena_direct.specs.Slot.{slot_entry, with_slot_value};
 
+use triple_arena::EntrySlot;
 use triple_arena_ptr::{Ptr, PtrGen};
 
 /// A slot of a direct arena: free, or with an entry, which has a generation and a value.
@@ -79,6 +81,29 @@ impl<P: Ptr, T> DirectSlot<P, T> {
         }
     }
 
+    // The generation of the entry, if there is one.
+    pub(crate) fn generation(&self) -> Option<P::Gen>
+        ensures { option_map P.Gen.number result
+            ≡ option_map (λ e. e.0) (slot_entry P.Gen.number self.now) }
+    {
+        match self {
+            DirectSlot::Allocated(generation, _) => Some(*generation),
+            DirectSlot::Free => None,
+        }
+    }
+
+    // The value of the entry, for writing, if there is one.
+    pub(crate) fn live_value_mut(&mut self) -> Option<&mut T>
+        ensures* lends { sem 𝓛 (LendsIf (the_row P.row T.row P.Inx.row P.Gen.row) T.row self.entry
+            result (with_slot_value self.old) self.old) }
+        ensures value { option_copied_mut result ≡ value_of (slot_entry P.Gen.number self.old) }
+    {
+        match self {
+            DirectSlot::Allocated(_, value) => Some(value),
+            DirectSlot::Free => None,
+        }
+    }
+
     // Takes the generation and the value out of a slot with an entry.
     pub(crate) fn into_entry(self) -> (P::Gen, T)
         requires { IsSome (slot_entry P.Gen.number self) }
@@ -98,5 +123,18 @@ impl<P: Ptr, T> DirectSlot<P, T> {
             DirectSlot::Free => {}
             DirectSlot::Allocated(_, _) => unreachable!(),
         }
+    }
+}
+
+impl<P: Ptr, T> EntrySlot<P, T> for DirectSlot<P, T> {
+    // the entry, as the state of an arena has it
+    ghost entry = { slot_entry P.Gen.number };
+
+    fn vacant() -> Self {
+        DirectSlot::Free
+    }
+
+    fn holding(generation: P::Gen, value: T) -> Self {
+        DirectSlot::Allocated(generation, value)
     }
 }

@@ -6,7 +6,7 @@ ghost use Rattle.triple_arena.specs.Walks.{entries};
 use crate::direct_arena::DirectArena;
 use crate::slot::DirectSlot;
 use triple_arena::CompactArenaTrait;
-use triple_arena::arena_iterators::Iter;
+use triple_arena::arena_iterators::{CapacityDrain, Iter};
 use triple_arena_ptr::Ptr;
 use triple_arena_stack::NonZeroInxGenericStack;
 
@@ -20,5 +20,18 @@ impl<'a, P: Ptr, T, S: NonZeroInxGenericStack<DirectSlot<P, T>>> IntoIterator
 
     fn into_iter(self) -> Iter<'a, P, T, DirectArena<P, T, S>> {
         self.iter()
+    }
+}
+
+impl<P: Ptr, T: Drop, S: NonZeroInxGenericStack<DirectSlot<P, T>> + Drop> IntoIterator
+    for DirectArena<P, T, S> {
+    type Item = (P, T);
+
+    type IntoIter = CapacityDrain<P, T, DirectArena<P, T, S>>;
+
+    ghost into_iter_gives = { λ arena drain. drain ≡ entries arena.slots };
+
+    fn into_iter(self) -> CapacityDrain<P, T, DirectArena<P, T, S>> {
+        CapacityDrain::over(self)
     }
 }

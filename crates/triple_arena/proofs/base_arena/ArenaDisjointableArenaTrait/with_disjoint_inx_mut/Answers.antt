@@ -14,8 +14,8 @@ returns-clause-worked g c =
       w.1,
       w.2,
       w.3,
-      entry_by_parts c.args.self.now _ _ _ _ at_first (rw c.in-Some-Some.is-0 at c.generation_at.ensures) w.4,
-      entry_by_parts c.args.self.now _ _ _ _ at_second (rw c.in-Some-Some.is-1 at c.generation_at-2.ensures) w.5,
+      entry_by_parts c.args.self.now.slots _ _ _ _ at_first (rw c.in-Some-Some.is-0 at c.generation_at.ensures) w.4,
+      entry_by_parts c.args.self.now.slots _ _ _ _ at_second (rw c.in-Some-Some.is-1 at c.generation_at-2.ensures) w.5,
       record { first = w.6.first; second = w.6.second; shows = w.6.shows; left = w.6.left; met = w.6.met; leaves = w.6.leaves },
       rw (at_first, at_second) at w.7,
     )

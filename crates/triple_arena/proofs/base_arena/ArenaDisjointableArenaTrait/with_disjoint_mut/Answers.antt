@@ -18,8 +18,8 @@ returns-clause-worked g c =
       w.1,
       w.2,
       w.3,
-      sym (value_under_pointer c.args.self.now first _ at_first first_valid) ∙ w.4,
-      sym (value_under_pointer c.args.self.now second _ at_second second_valid) ∙ w.5,
+      sym (value_under_pointer c.args.self.now.slots first _ at_first first_valid) ∙ w.4,
+      sym (value_under_pointer c.args.self.now.slots second _ at_second second_valid) ∙ w.5,
       record { first = w.6.first; second = w.6.second; shows = w.6.shows; left = w.6.left; met = w.6.met; leaves = w.6.leaves },
       rw (at_first, at_second) at w.7,
     )

@@ -1,0 +1,45 @@
+//! What holds of direct arenas: laws over several calls.
+
+ghost use Rattle.std.specs.Prelude.{◌≡◌, ◌≤◌, ℕ, List, Option, Some, None, Ok};
+ghost use Rattle.std.specs.List.{FoldsTo};
+ghost use Rattle.triple_arena_ptr.specs.Pointers.{Pointer};
+ghost use Rattle.triple_arena.specs.Entries.{entry_in, KeepsEntries};
+ghost use Rattle.triple_arena.specs.ArenaState.{ArenaState, IsWellFormed};
+ghost use Rattle.triple_arena.specs.Insertion.{next_pointer, inserted};
+ghost use Rattle.triple_arena.specs.Ending.{removed};
+ghost use Rattle.triple_arena.specs.Walks.{entries};
+ghost use Rattle.triple_arena.specs.Copying.{Copies};
+ghost use Rattle.triple_arena.specs.DirectInsertion.{IsVacant};
+ghost use Rattle.triple_arena_direct.specs.DirectState.{DirectState, direct_capacity};
+ghost use Rattle.triple_arena_direct.specs.Mirrors.{Change, SamePointers, Makes, Follows};
+ghost use Rattle.triple_arena_direct.specs.Mirrors.Change.{comes, goes};
+
+use triple_arena_ptr::Ptr;
+
+/// A mirror keeps the pointers: a direct arena that is given each insertion and each removal of
+/// another arena has exactly that one's pointers, if it had them before. While its capacity reaches
+/// the index, there is a place for the insertion, and neither change makes its capacity another.
+pub fn mirror_keeps_pointers<T, U>()
+    ensures kept { (slots : List (Option (ℕ × T))) (mirror : DirectState U)
+        (changes : List Change) (after : List (Option (ℕ × T))) (followed : DirectState U)
+        → SamePointers slots mirror.slots
+        → FoldsTo Makes slots changes after → FoldsTo Follows mirror changes followed
+        → SamePointers after followed.slots }
+    ensures has_place { (slots : List (Option (ℕ × T))) (mirror : DirectState U) (i : ℕ)
+        → SamePointers slots mirror.slots → entry_in slots i ≡ None → i ≤ direct_capacity mirror
+        → IsVacant mirror.slots (direct_capacity mirror) i }
+    ensures same_capacity { (mirror : DirectState U) (changes : List Change)
+        (followed : DirectState U) → FoldsTo Follows mirror changes followed
+        → direct_capacity followed ≡ direct_capacity mirror }
+    ensures insertion { (s : ArenaState T) (value : T) → IsWellFormed s
+        → Makes s.slots (comes (next_pointer s)) (inserted s value).slots }
+    ensures removal { (raise : ℕ → ℕ) (s : ArenaState T) (i : ℕ)
+        → Makes s.slots (goes i) (removed raise s i).slots }
+{}
+
+/// A clone that wasn't refused has exactly the pointers of its source.
+pub fn clone_has_the_pointers<P: Ptr, T, U, E, M: FnMut(P, &T) -> Result<U, E>>()
+    ensures { (f : M) (source : List (Option (ℕ × T))) (copy clone : List (Option (ℕ × U)))
+        → Copies P.numbers M.step f (entries source) (Ok tt) copy → KeepsEntries copy clone
+        → SamePointers source clone }
+{}

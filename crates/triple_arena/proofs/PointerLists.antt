@@ -71,6 +71,18 @@ distinct-append (x ∷ xs) ys d e apart = (
   distinct-append xs ys d.1 e (λ p here. false_unless (has xs p) (λ there. true≢false (sym (has_tail p x xs there) ∙ apart p here))),
 )
 
+in_last : (ps : List Pointer) (p : Pointer) → has (ps ++ p ∷ []) p ≡ true
+in_last [] p = has_head p []
+in_last (q ∷ ps) p = has_tail p q (ps ++ p ∷ []) (in_last ps p)
+
+-- where no pointer comes twice, the last one does not come before
+pub distinct_last : (ps : List Pointer) (p : Pointer) → AreDistinct (ps ++ p ∷ []) → has ps p ≡ false
+distinct_last [] p d = refl
+distinct_last (q ∷ ps) p d =
+    or_false (is_same p q) (has ps p)
+    (false_unless (is_same p q) (λ same. true≢false (sym (in_last ps p) ∙ ap (has (ps ++ p ∷ [])) (same_is p q same) ∙ d.0)))
+    (distinct_last ps p d.1)
+
 module _ {T : Type 0} where
   -- whether a slot that holds this has the pointer's generation
   abbrev pub live_in : ℕ → Option (ℕ × T) → Bool

@@ -1,5 +1,5 @@
 -- Which pointers an arena gave, and which of them have ended.
-use Rattle.std.specs.Prelude.{◌≡◌, ℕ, ◌+◌, ◌<◌, ◌≤◌, ◌&&◌, not, IsTrue, Bool, true, false, List, [], ◌∷◌, ◌++◌, length, is_some}
+use Rattle.std.specs.Prelude.{◌≡◌, ◌+◌, ◌<◌, ◌≤◌, ◌&&◌, not, IsTrue, Bool, true, false, List, [], ◌∷◌, ◌++◌, length, is_some}
 use Rattle.std.specs.List.{list_any}
 use Rattle.triple_arena_ptr.specs.Pointers.{Pointer, is_same}
 use Rattle.triple_arena.specs.Entries.{KeepsEntries}
@@ -76,8 +76,8 @@ abbrev pub CountsUp : Bool → Bool → Type 0
 CountsUp counting wraps = (counting ≡ true) × (wraps ≡ false)
 
 -- an arena goes on from another by these model calls: whatever history fits it, then fits followed by them
-abbrev pub GoesOn : {A : Type 0} → (History → A → Type 0) → A → List ModelCall → A → Type 0
-GoesOn fits old calls new = (h : History) → fits h old → fits (followed_by h calls) new
+abbrev pub Continues : {A : Type 0} → (History → A → Type 0) → A → List ModelCall → A → Type 0
+Continues fits old calls new = (h : History) → fits h old → fits (followed_by h calls) new
 
 module _ {T : Type 0} where
   -- whether the arena has an entry under this pointer
@@ -91,10 +91,6 @@ module _ {T : Type 0} where
     pub live : (p : Pointer) → is_live s p ≡ remains h p
     pub given_by_now : (p : Pointer) → IsTrue (has (given h) p) → p.1 ≤ s.counter
     pub ended_before : (p : Pointer) → IsTrue (has (ended h) p) → p.1 < s.counter
-
-  -- an arena goes on from another by these model calls
-  abbrev pub Continues : ArenaState T → List ModelCall → ArenaState T → Type 0
-  Continues s calls t = GoesOn Fits s calls t
 
   -- a model call that does not wrap the counter: where it raises it, it adds one
   abbrev pub IsModelCall : ArenaState T → ModelCall → ArenaState T → Type 0

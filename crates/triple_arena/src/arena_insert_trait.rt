@@ -1,10 +1,11 @@
 //! Insertion into an arena that gives the pointers.
 
-ghost use Rattle.std.specs.Prelude.{◌≡◌, ◌≢◌, ℕ, ◌+◌, ◌≤◌, ◌<◌, ◌↔◌, IsOk, IfOk, OnOk, OnErr, None, Some, Err};
+ghost use Rattle.std.specs.Prelude.{◌≡◌, ◌≢◌, ℕ, ◌+◌, ◌≤◌, ◌<◌, ◌↔◌, ◌∷◌, [], IsOk, IfOk, OnOk, OnErr, None, Some, Err};
 ghost use Rattle.triple_arena_ptr.specs.Numbers.{greatest_index};
 ghost use Rattle.triple_arena_ptr.specs.Pointers.{Pointer};
 ghost use Rattle.triple_arena_stack.specs.Capacity.{IsFullAtLimit, CanGrow};
 ghost use Rattle.triple_arena.specs.Entries.{entry_in, look_up_in, entry_count, ChangesAt, KeepsEntries};
+ghost use Rattle.triple_arena.specs.Histories.{insertion, Continues};
 
 use crate::arena_trait::ArenaTrait;
 use triple_arena_base::{NotWithinCapacityError, ReallocationError};
@@ -35,7 +36,8 @@ pub trait ArenaInsertTrait<P: Ptr, T>: ArenaTrait<P, T> {
         ensures pointer { P.numbers result ≡ next self.old }
         ensures free { entry_in (Self.slots self.old) (P.numbers result).0 ≡ None }
         ensures inserted { self.new ≡ inserted self.old t }
-        ensures valid { Self.valid self.old };
+        ensures valid { Self.valid self.old }
+        ensures fresh { Continues Self.fits self.old (insertion (P.numbers result) ∷ []) self.new };
 
     /// Inserts `t`, and gives its pointer. A full arena grows first: its capacity never falls, and
     /// it has a place then. An `Arena` grows to 4 slots or to twice its capacity, as far as the
@@ -63,7 +65,9 @@ pub trait ArenaInsertTrait<P: Ptr, T>: ArenaTrait<P, T> {
             → IsOk result × (self.new ≡ inserted self.old t) }
         ensures place { OnOk result (entry_count (Self.slots (grown self.old))
             < Self.fitting (grown self.old)) }
-        ensures valid { Self.valid self.old };
+        ensures valid { Self.valid self.old }
+        ensures fresh { IfOk result
+            (λ p. Continues Self.fits self.old (insertion (P.numbers p) ∷ []) self.new) };
 
     // the generation of the next pointer is the one that the arena tells, where it tells one
     ghost generation_next: { (arena : Self) (generation : ℕ)
@@ -122,6 +126,8 @@ pub trait ArenaInsertTrait<P: Ptr, T>: ArenaTrait<P, T> {
         ensures inserted { OnOk result (self.new ≡ inserted self.old t) }
         ensures refused { OnErr result (self.new ≡ self.old) }
         ensures valid { Self.valid self.old }
+        ensures fresh { IfOk result
+            (λ p. Continues Self.fits self.old (insertion (P.numbers p) ∷ []) self.new) }
     {
         if self.len() < self.capacity() {
             Ok(self.insert_reserved(t))
@@ -154,6 +160,8 @@ pub trait ArenaInsertTrait<P: Ptr, T>: ArenaTrait<P, T> {
         ensures place { OnOk result (entry_count (Self.slots (grown self.old))
             < Self.fitting (grown self.old)) }
         ensures valid { Self.valid self.old }
+        ensures fresh { IfOk result
+            (λ p. Continues Self.fits self.old (insertion (P.numbers p) ∷ []) self.new) }
     {
         self.insert_reallocating(t)
     }

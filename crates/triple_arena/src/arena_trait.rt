@@ -1,6 +1,6 @@
 //! What every arena answers.
 
-ghost use Rattle.std.specs.Prelude.{◌≡◌, ◌≢◌, ℕ, ◌+◌, ◌≤◌, ◌<◌, ◌==◌, ◌↔◌, Bool, List, Option, length, is_some, IsSome, IsOk, IfOk, OnOk, OnErr, MatchOption, None, Err, [], min, option_copied};
+ghost use Rattle.std.specs.Prelude.{◌≡◌, ◌≢◌, ℕ, ◌+◌, ◌≤◌, ◌<◌, ◌==◌, ◌↔◌, ◌∷◌, Bool, List, Option, length, is_some, IsSome, IsOk, IfOk, OnOk, OnErr, MatchOption, None, Some, Err, [], min, option_copied};
 ghost use Rattle.std.specs.Borrow.{sem, LendsIf};
 ghost use Rattle.std.specs.Option.{option_map, option_copied_mut};
 ghost use Rattle.triple_arena_ptr.specs.Numbers.{greatest_index};
@@ -9,7 +9,8 @@ ghost use Rattle.triple_arena_stack.specs.StackKind.{StackKind, new_room, new_li
 ghost use Rattle.triple_arena_stack.specs.Capacity.{capacity_of, IsWithin, IsBeyond};
 ghost use Rattle.triple_arena.specs.Entries.{entry_in, look_up_in, entry_count, with_value_in, ChangesAt, KeepsEntries, IsFirst, IsLast};
 ghost use Rattle.triple_arena.specs.Ending.{told, told_of, map_told};
-ghost use Rattle.triple_arena.specs.Walks.{Stand, standing_at, IsAtFirst};
+ghost use Rattle.triple_arena.specs.Walks.{Stand, standing_at, IsAtFirst, keys};
+ghost use Rattle.triple_arena.specs.Histories.{History, removal, invalidation, clearing, resizing, remains, CountsUp, Continues};
 
 use std::alloc::Global;
 use triple_arena_base::{
@@ -57,6 +58,10 @@ pub trait ArenaTrait<P: Ptr, T>: Sized {
 
     // the generation of the next insertion, where the arena gives it
     ghost next_generation: { Self → Option ℕ };
+
+    // a history fits: it gave no pointer twice, and those valid are the ones that it gave and did not
+    // end; an arena that promises this of no history has none
+    ghost fits: { History → Self → Type 0 };
 
     // the same with another value in the entry at an index
     ghost with_value: { Self → ℕ → T → Self };
@@ -140,7 +145,8 @@ pub trait ArenaTrait<P: Ptr, T>: Sized {
         ensures given { min_capacity ≤ greatest_index P.Inx.greatest
             → IsWithin (limit self.old) min_capacity
             → gets_room self.old min_capacity → IsOk result }
-        ensures place { OnOk result (min_capacity ≤ fitting self.new) };
+        ensures place { OnOk result (min_capacity ≤ fitting self.new) }
+        ensures fresh { Continues fits self.old (resizing ∷ []) self.new };
 
     /// How many entries there are: never more than the capacity.
     fn len(&self) -> usize
@@ -154,13 +160,19 @@ pub trait ArenaTrait<P: Ptr, T>: Sized {
 
     /// The value under `p`; none exactly where `p` is invalid.
     fn get(&self, p: P) -> Option<&T>
-        ensures { option_copied result ≡ look_up_in (slots self.now) (P.numbers p) };
+        ensures value { option_copied result ≡ look_up_in (slots self.now) (P.numbers p) }
+        ensures fresh { (h : History) → fits h self.now
+            → is_some result ≡ remains h (P.numbers p) };
 
     /// The value under `p`, for writing; none exactly where `p` is invalid.
     fn get_mut(&mut self, p: P) -> Option<&mut T>
         ensures value { option_copied_mut result ≡ look_up_in (slots self.old) (P.numbers p) }
         ensures* writes_back { sem 𝓛 (LendsIf Self.row T.row self.entry result
-            (with_value self.old (P.numbers p).0) self.old) };
+            (with_value self.old (P.numbers p).0) self.old) }
+        ensures found { (h : History) → fits h self.old
+            → is_some result ≡ remains h (P.numbers p) }
+        ensures fresh { (value : T) → Continues fits self.old []
+            (with_value self.old (P.numbers p).0 value) };
 
     /// The generation and the value of the entry at `inx`; none exactly where there is no entry.
     fn get_inx(&self, inx: P::Inx) -> Option<(P::Gen, &T)>
@@ -177,7 +189,9 @@ pub trait ArenaTrait<P: Ptr, T>: Sized {
         ensures value { option_copied_mut result
             ≡ option_map (λ e. e.1) (entry_in (slots self.old) (P.Inx.number inx)) }
         ensures* writes_back { sem 𝓛 (LendsIf Self.row T.row self.entry result
-            (with_value self.old (P.Inx.number inx)) self.old) };
+            (with_value self.old (P.Inx.number inx)) self.old) }
+        ensures fresh { (value : T) → Continues fits self.old []
+            (with_value self.old (P.Inx.number inx) value) };
 
     /// The pointer of the entry of least index; none exactly where there is no entry.
     fn find_first_inx_ptr(&self) -> Option<P>
@@ -215,7 +229,11 @@ pub trait ArenaTrait<P: Ptr, T>: Sized {
         ensures others { (q : Pointer) → q.0 ≢ (P.numbers p).0
             → look_up_in (slots self.new) q ≡ look_up_in (slots self.old) q }
         ensures unchanged { look_up_in (slots self.old) (P.numbers p) ≡ None
-            → self.new ≡ self.old };
+            → self.new ≡ self.old }
+        ensures fresh { IsSome (look_up_in (slots self.old) (P.numbers p))
+            → CountsUp P.Gen.counting (ending_wraps self.old) → Continues fits self.old
+            (invalidation (P.numbers p) ((P.numbers p).0, renewed self.old (P.numbers p).0) ∷ [])
+            self.new };
 
     /// Takes out the entry under `p`, and gives its value.
     ///
@@ -229,7 +247,10 @@ pub trait ArenaTrait<P: Ptr, T>: Sized {
         ensures others { (q : Pointer) → q ≢ P.numbers p
             → look_up_in (slots self.new) q ≡ look_up_in (slots self.old) q }
         ensures unchanged { look_up_in (slots self.old) (P.numbers p) ≡ None
-            → self.new ≡ self.old };
+            → self.new ≡ self.old }
+        ensures fresh { IsSome (look_up_in (slots self.old) (P.numbers p))
+            → CountsUp P.Gen.counting (ending_wraps self.old)
+            → Continues fits self.old (removal (P.numbers p) ∷ []) self.new };
 
     /// Takes out the entry at `inx`, and gives its generation and its value.
     ///
@@ -243,7 +264,11 @@ pub trait ArenaTrait<P: Ptr, T>: Sized {
         ensures others { (q : Pointer) → q.0 ≢ P.Inx.number inx
             → look_up_in (slots self.new) q ≡ look_up_in (slots self.old) q }
         ensures unchanged { entry_in (slots self.old) (P.Inx.number inx) ≡ None
-            → self.new ≡ self.old };
+            → self.new ≡ self.old }
+        ensures fresh { (generation : ℕ) (value : T)
+            → entry_in (slots self.old) (P.Inx.number inx) ≡ Some (generation, value)
+            → CountsUp P.Gen.counting (ending_wraps self.old)
+            → Continues fits self.old (removal (P.Inx.number inx, generation) ∷ []) self.new };
 
     /// Drops all entries, and raises the counter once if there was one. The capacity stays.
     fn clear(&mut self) -> InvalidationOption<()>
@@ -251,7 +276,9 @@ pub trait ArenaTrait<P: Ptr, T>: Sized {
         T: Drop,
         ensures answer { result ≡ told (clearing_wraps self.old) tt }
         ensures done { clears self.old self.new }
-        ensures gone { (q : Pointer) → look_up_in (slots self.new) q ≡ None };
+        ensures gone { (q : Pointer) → look_up_in (slots self.new) q ≡ None }
+        ensures fresh { CountsUp P.Gen.counting (clearing_wraps self.old)
+            → Continues fits self.old (clearing (keys (slots self.old)) ∷ []) self.new };
 
     // an arena without slots has none, and its limit and capacity are those asked for
     ghost slots_fresh: { (room : ℕ) (limit : Option ℕ) → slots (fresh room limit) ≡ [] };
@@ -345,7 +372,8 @@ pub trait ArenaTrait<P: Ptr, T>: Sized {
 
     /// Whether `p` is valid.
     final fn contains(&self, p: P) -> bool
-        ensures { result ≡ is_some (look_up_in (slots self.now) (P.numbers p)) }
+        ensures value { result ≡ is_some (look_up_in (slots self.now) (P.numbers p)) }
+        ensures fresh { (h : History) → fits h self.now → result ≡ remains h (P.numbers p) }
     {
         self.get(p).is_some()
     }

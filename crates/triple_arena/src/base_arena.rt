@@ -1,6 +1,6 @@
 //! The arena.
 
-ghost use Rattle.std.specs.Prelude.{◌≡◌, ℕ, List, Option, ◌≤◌, ◌<◌, ◌+◌, ◌==◌, ◌↔◌, ◌≢◌, cond, false, [], map, length, is_some, IsSome, IfSome, IsOk, IfOk, OnOk, OnErr, Some, None, Err, IsTrue, slice_get, option_copied, min, MatchOption, ◌-◌, ◌*◌, ◌^◌};
+ghost use Rattle.std.specs.Prelude.{◌≡◌, ℕ, List, Option, ◌≤◌, ◌<◌, ◌+◌, ◌==◌, ◌∷◌, ◌↔◌, ◌≢◌, cond, false, [], map, length, is_some, IsSome, IfSome, IsOk, IfOk, OnOk, OnErr, Some, None, Err, IsTrue, slice_get, option_copied, min, MatchOption, ◌-◌, ◌*◌, ◌^◌};
 ghost use Rattle.std.specs.Borrow.{sem};
 ghost use Rattle.std.specs.Int.NonZero.{non_zero_usize_get};
 ghost use Rattle.std.specs.Option.{option_map, option_and_then};
@@ -24,6 +24,7 @@ ghost use Rattle.triple_arena.specs.Slot.{entry_of};
 ghost use Rattle.triple_arena.specs.Disjoint.{value_of};
 ghost use Rattle.triple_arena.specs.Values.{with_values_of};
 ghost use Rattle.triple_arena.specs.Lent.{lends_values};
+ghost use Rattle.triple_arena.specs.Histories.{resizing, Fits, Continues, CountsUp};
 
 use crate::answers::{told, told_valid};
 use crate::arena_clone_trait::ArenaCloneFromWith;
@@ -124,6 +125,9 @@ impl<P: Ptr, T, S: NonZeroInxGenericStack<ArenaSlot<P, T>>> ArenaTrait<P, T> for
 
     // the counter
     ghost next_generation = { λ s. Some s.counter };
+
+    // no pointer is given twice, and exactly those that were given and have not ended are valid
+    ghost fits = { Fits };
 
     ghost with_value = { with_value };
 
@@ -558,6 +562,8 @@ impl<P: Ptr, T, S: NonZeroInxGenericStack<ArenaSlot<P, T>>> Arena<P, T, S> {
         ensures state { self.new ≡ record self.old {
           counter = raise P.Gen.counting P.Gen.greatest self.old.counter;
         } }
+        ensures fresh { CountsUp P.Gen.counting (wraps P.Gen.counting P.Gen.greatest
+            self.old.counter) → Continues Fits self.old [] self.new }
     {
         let (counter, wrapped) = P::Gen::generational_inc(self.counter);
         self.counter = counter;
@@ -569,6 +575,7 @@ impl<P: Ptr, T, S: NonZeroInxGenericStack<ArenaSlot<P, T>>> Arena<P, T, S> {
     pub fn canonicalize_freelist(&mut self)
         ensures state { self.new ≡ tidied self.old }
         ensures in_order { IsInOrder self.old self.new }
+        ensures fresh { Continues Fits self.old (resizing ∷ []) self.new }
     {
         self.slots.tidy();
     }
@@ -584,6 +591,7 @@ impl<P: Ptr, T, S: NonZeroInxGenericStack<ArenaSlot<P, T>>> Arena<P, T, S> {
         ensures same_len { arena_len self.new ≡ arena_len self.old }
         ensures same_capacity { capacity self.new ≡ capacity self.old }
         ensures ends_live { is_free (item self.new.slots (slot_count self.new)) ≡ false }
+        ensures fresh { Continues Fits self.old (resizing ∷ []) self.new }
     {
         self.slots.remove_free_end();
     }
@@ -905,6 +913,7 @@ impl<P: Ptr, T, S: SetMaxCapacity<ArenaSlot<P, T>>> Arena<P, T, S> {
         ensures variant { IsOk result ↔ EndsBy self.old max_capacity }
         ensures done { OnOk result (self.new ≡ with_limit self.old max_capacity) }
         ensures refused { OnErr result (self.new ≡ tidied self.old) }
+        ensures fresh { Continues Fits self.old (resizing ∷ []) self.new }
     {
         self.make_ready_for_limit(max_capacity);
         self.set_limit(max_capacity)

@@ -1,10 +1,11 @@
 //! Arenas that generic code walks.
 
-ghost use Rattle.std.specs.Prelude.{◌≡◌, Option, map};
+ghost use Rattle.std.specs.Prelude.{◌≡◌, [], Option, map};
 ghost use Rattle.std.specs.Option.{option_map};
 ghost use Rattle.triple_arena_ptr.specs.Numbers.{greatest_index};
 ghost use Rattle.triple_arena.specs.Visits.{Visits};
 ghost use Rattle.triple_arena.specs.Walks.{Steps, entries, keys, values};
+ghost use Rattle.triple_arena.specs.Histories.{Continues};
 ghost use Rattle.triple_arena.specs.Drains.{IsDraining, drain_arena, drain_lender};
 
 use crate::arena_iterators::{Drain, Iter, Ptrs, Vals};
@@ -55,6 +56,7 @@ pub trait CompactArenaTrait<P: Ptr, T>: ArenaTrait<P, T> {
             (entries (Self.slots self.old)) (entries (Self.slots self.new)) last }
         ensures limit { Self.limit self.new ≡ Self.limit self.old }
         ensures capacity { Self.fitting self.new ≡ Self.fitting self.old }
+        ensures fresh { Continues Self.fits self.old [] self.new }
     {
         let mut advancer = self.advancer();
         'walk: while let Some(p) = advancer.advance(self) {

@@ -1,8 +1,9 @@
 //! Two values of an arena, written at once.
 
-ghost use Rattle.std.specs.Prelude.{◌≡◌, ◌≢◌, IfOk, OnErr};
+ghost use Rattle.std.specs.Prelude.{◌≡◌, ◌≢◌, [], IfOk, OnErr};
 ghost use Rattle.triple_arena_stack.specs.Disjoint.{MayWork, Worked};
 ghost use Rattle.triple_arena.specs.Entries.{entry_in, look_up_in};
+ghost use Rattle.triple_arena.specs.Histories.{Continues};
 ghost use Rattle.triple_arena.specs.Disjoint.{DisjointPtrAnswer, DisjointInxAnswer, MayWorkAtEntries, WorkedAtEntries};
 
 use crate::arena_trait::ArenaTrait;
@@ -34,7 +35,8 @@ pub trait DisjointableArenaTrait<P: Ptr, T>: ArenaTrait<P, T> {
             (look_up_in (Self.slots self.old) (P.numbers first))
             (look_up_in (Self.slots self.old) (P.numbers second))
             r (λ x y. self.new ≡ Self.with_value
-            (Self.with_value self.old (P.numbers first).0 x) (P.numbers second).0 y)) };
+            (Self.with_value self.old (P.numbers first).0 x) (P.numbers second).0 y)) }
+        ensures fresh { Continues Self.fits self.old [] self.new };
 
     /// Calls `f` at the entries at two indexes, in their order, each value after its generation, and
     /// gives its result; what it writes stands there, and nothing else changes.
@@ -59,5 +61,6 @@ pub trait DisjointableArenaTrait<P: Ptr, T>: ArenaTrait<P, T> {
             (entry_in (Self.slots self.old) (P.Inx.number first))
             (entry_in (Self.slots self.old) (P.Inx.number second))
             r (λ x y. self.new ≡ Self.with_value
-            (Self.with_value self.old (P.Inx.number first) x) (P.Inx.number second) y)) };
+            (Self.with_value self.old (P.Inx.number first) x) (P.Inx.number second) y)) }
+        ensures fresh { Continues Self.fits self.old [] self.new };
 }

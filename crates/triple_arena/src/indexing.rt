@@ -1,9 +1,10 @@
 //! Look-ups in an arena that have no refusal.
 
-ghost use Rattle.std.specs.Prelude.{◌≡◌, Some, IsSome};
+ghost use Rattle.std.specs.Prelude.{◌≡◌, [], Some, IsSome};
 ghost use Rattle.std.specs.Borrow.{sem, Lends};
 ghost use Rattle.std.specs.Option.{option_map};
 ghost use Rattle.triple_arena.specs.ArenaState.{entry, look_up, with_value};
+ghost use Rattle.triple_arena.specs.Histories.{Fits, Continues};
 
 use crate::arena_trait::ArenaTrait;
 use crate::base_arena::Arena;
@@ -34,6 +35,8 @@ impl<P: Ptr, T, S: NonZeroInxGenericStack<ArenaSlot<P, T>>> Arena<P, T, S> {
             ≡ Some result.now }
         ensures* writes_back { sem 𝓛 (Lends ⟦<Arena<P, T, S> as LendingArena>⟧.arena_row T.row
             self.entry result (with_value self.old (P.Inx.number inx))) }
+        ensures fresh { (value : T)
+            → Continues Fits self.old [] (with_value self.old (P.Inx.number inx) value) }
     {
         self.get_inx_mut(inx).unwrap()
     }
@@ -61,6 +64,8 @@ impl<P: Ptr, T, S: NonZeroInxGenericStack<ArenaSlot<P, T>>> IndexMut<P> for Aren
         ensures value { look_up self.old (P.numbers p) ≡ Some result.now }
         ensures* writes_back { sem 𝓛 (Lends ⟦<Arena<P, T, S> as LendingArena>⟧.arena_row T.row
             self.entry result (with_value self.old (P.numbers p).0)) }
+        ensures fresh { (value : T)
+            → Continues Fits self.old [] (with_value self.old (P.numbers p).0 value) }
     {
         self.get_mut(p).unwrap()
     }

@@ -1,6 +1,6 @@
 //! The place of a value that is not inserted yet.
 
-ghost use Rattle.std.specs.Prelude.{◌≡◌, ◌<◌, ◌↔◌, IsTrue, IsOk, IfOk, IsOkAnd, OnOk, Err};
+ghost use Rattle.std.specs.Prelude.{◌≡◌, ◌<◌, ◌↔◌, ◌∷◌, [], IsTrue, IsOk, IfOk, IsOkAnd, OnOk, Err};
 ghost use Rattle.std.specs.Borrow.{sem, Lends};
 ghost use Rattle.triple_arena_ptr.specs.Numbers.{greatest_index};
 ghost use Rattle.triple_arena_ptr.specs.Pointers.{Pointer};
@@ -8,6 +8,7 @@ ghost use Rattle.triple_arena_stack.specs.Capacity.{IsFullAtLimit, CanGrow};
 ghost use Rattle.triple_arena.specs.ArenaState.{arena_len, capacity};
 ghost use Rattle.triple_arena.specs.Insertion.{next_pointer, inserted};
 ghost use Rattle.triple_arena.specs.Capacity.{grown};
+ghost use Rattle.triple_arena.specs.Histories.{insertion, Fits, Continues};
 ghost use Rattle.triple_arena.specs.InsertEntry.{entry_arena, entry_reference, entry_lender, entry_rests};
 
 use crate::arena_insert_trait::ArenaInsertTrait;
@@ -90,6 +91,9 @@ impl<'a, P: Ptr, T, S: NonZeroInxGenericStack<ArenaSlot<P, T>>> ArenaInsertEntry
         ensures* writes_back { sem 𝓛 (Lends
             ⟦<Arena<P, T, S> as LendingArena>⟧.arena_row
             T.row (entry_reference self.entry) result (inserted (entry_arena self.entry))) }
+        ensures fresh { (value : T) → Continues Fits (entry_arena self.entry)
+            (insertion (next_pointer (entry_arena self.entry)) ∷ [])
+            (inserted (entry_arena self.entry) value) }
     {
         let ArenaInsertEntry { arena } = self;
         let p = arena.insert_reserved(t);
@@ -107,6 +111,7 @@ impl<P: Ptr, T, S: NonZeroInxGenericStack<ArenaSlot<P, T>>> Arena<P, T, S> {
     ) -> Result<ArenaInsertEntry<'_, P, T, S>, NotWithinCapacityError>
         ensures variant { IsOk result ↔ (arena_len self.old < capacity self.old) }
         ensures arena { IfOk result (λ entry. entry_arena entry ≡ self.old) }
+        ensures fresh { IfOk result (λ entry. Continues Fits self.old [] (entry_arena entry)) }
         ensures same_reference { IfOk result (λ entry. entry_lender entry ≡ self.entry.ghost_name) }
         ensures* refused { sem 𝓛 (entry_rests
             ⟦<Arena<P, T, S> as LendingArena>⟧.arena_row self.entry result) }
@@ -124,6 +129,7 @@ impl<P: Ptr, T, S: NonZeroInxGenericStack<ArenaSlot<P, T>>> Arena<P, T, S> {
         &mut self,
     ) -> Result<ArenaInsertEntry<'_, P, T, S>, ReallocationError>
         ensures arena { IfOk result (λ entry. entry_arena entry ≡ grown S.kind self.old) }
+        ensures fresh { IfOk result (λ entry. Continues Fits self.old [] (entry_arena entry)) }
         ensures has_place { IfOk result
             (λ entry. arena_len (entry_arena entry) < capacity (entry_arena entry)) }
         ensures beyond { (result ≡ Err ReallocationError.BeyondMaxCapacity)
@@ -145,6 +151,7 @@ impl<P: Ptr, T, S: NonZeroInxGenericStack<ArenaSlot<P, T>>> Arena<P, T, S> {
     /// As [`Self::entry_insert_reallocating`].
     pub fn entry_insert(&mut self) -> Result<ArenaInsertEntry<'_, P, T, S>, ReallocationError>
         ensures arena { IfOk result (λ entry. entry_arena entry ≡ grown S.kind self.old) }
+        ensures fresh { IfOk result (λ entry. Continues Fits self.old [] (entry_arena entry)) }
         ensures has_place { IfOk result
             (λ entry. arena_len (entry_arena entry) < capacity (entry_arena entry)) }
         ensures beyond { (result ≡ Err ReallocationError.BeyondMaxCapacity)

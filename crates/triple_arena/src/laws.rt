@@ -10,7 +10,8 @@ ghost use Rattle.triple_arena.specs.Ending.{removed, invalidated, cleared};
 ghost use Rattle.triple_arena.specs.FreeList.{tidied, without_free_end, IsRising};
 ghost use Rattle.triple_arena.specs.Walks.{Stand, Steps, Walk, IsAtFirst, keys};
 ghost use Rattle.triple_arena.specs.Capacity.{EndsBy, reallocated, with_limit, grown};
-ghost use Rattle.triple_arena.specs.Histories.{ModelCall, History, begun_with, followed_by, is_live, remains, Fits, Continues, IsModelCall, AreModelCalls};
+ghost use Rattle.triple_arena.specs.Histories.{has, ModelCall, insertion, History, begun_with, and_then, given, ended, followed_by, is_live, Fits, Continues, IsModelCall, AreModelCalls};
+ghost use Rattle.triple_arena.specs.Compression.{closed_up, compressed};
 
 /// A limit that is set back: once a limit is set, the old one can be set again, and then the old
 /// capacity is there again. All else is as it was, or as it was with the free list in order.
@@ -89,13 +90,20 @@ pub fn pointers_are_fresh<T>()
     ensures empty { (s : ArenaState T) → arena_len s ≡ 0 → Fits (begun_with []) s }
     ensures begun { (s : ArenaState T) → ((p : Pointer) → IsTrue (is_live s p) → p.1 ≤ s.counter)
         → Fits (begun_with (keys s.slots)) s }
+    ensures reset { (s : ArenaState T) (counter : ℕ) (values : List T)
+        → Fits (begun_with (keys (closed_up counter values))) (compressed s counter values) }
     ensures call { (s : ArenaState T) (call : ModelCall) (t : ArenaState T) → IsModelCall s call t
-        → Continues s (call ∷ []) t }
+        → Continues Fits s (call ∷ []) t }
     ensures calls { (s : ArenaState T) (calls : List ModelCall) (t : ArenaState T)
-        → AreModelCalls s calls t → Continues s calls t }
+        → AreModelCalls s calls t → Continues Fits s calls t }
     ensures one_after_another { (s m t : ArenaState T) (first second : List ModelCall)
-        → Continues s first m → Continues m second t → Continues s (first ++ second) t }
+        → Continues Fits s first m → Continues Fits m second t
+        → Continues Fits s (first ++ second) t }
+    ensures new { (h : History) (p : Pointer) (s : ArenaState T) → Fits (and_then h (insertion p)) s
+        → has (given h) p ≡ false }
+    ensures gone { (h : History) (calls : List ModelCall) (t : ArenaState T) (p : Pointer)
+        → IsTrue (has (ended h) p) → Fits (followed_by h calls) t → is_live t p ≡ false }
     ensures never_live { (s : ArenaState T) (calls : List ModelCall) (t : ArenaState T)
-        (p : Pointer) → arena_len s ≡ 0 → p.1 < s.counter → Continues s calls t
+        (p : Pointer) → arena_len s ≡ 0 → p.1 < s.counter → Continues Fits s calls t
         → is_live t p ≡ false }
 {}

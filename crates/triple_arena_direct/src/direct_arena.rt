@@ -102,6 +102,9 @@ impl<P: Ptr, T, S: NonZeroInxGenericStack<DirectSlot<P, T>>> ArenaTrait<P, T>
     // an insertion is told its generation
     ghost next_generation = { λ _. None };
 
+    // none, since insertion is told the pointer
+    ghost fits = { λ _ _. ⊥ };
+
     ghost with_value = { with_value };
 
     // all stays, the generation too

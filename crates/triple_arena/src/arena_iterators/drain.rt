@@ -1,9 +1,10 @@
 //! Draining any compact arena.
 
-ghost use Rattle.std.specs.Prelude.{◌≡◌, length};
+ghost use Rattle.std.specs.Prelude.{◌≡◌, ◌∷◌, [], length};
 ghost use Rattle.std.specs.Iterator.{YieldsFirstBy, at_most};
 ghost use Rattle.triple_arena_ptr.specs.Numbers.{greatest_index};
-ghost use Rattle.triple_arena.specs.Walks.{steps_left, entries};
+ghost use Rattle.triple_arena.specs.Walks.{steps_left, entries, keys};
+ghost use Rattle.triple_arena.specs.Histories.{clearing, CountsUp, Continues};
 ghost use Rattle.triple_arena.specs.Drains.{DrainStep, TakeStep, IsDraining, drain_arena, drain_lender, drain_stand};
 
 use crate::answers::told;
@@ -13,7 +14,7 @@ use crate::compact_arena_trait::CompactArenaTrait;
 use crate::slot::ArenaSlot;
 use std::marker::{Model, PhantomData};
 use triple_arena_base::{Advancer, InvalidationOption};
-use triple_arena_ptr::{Ptr, PtrInx};
+use triple_arena_ptr::{Ptr, PtrGen, PtrInx};
 use triple_arena_stack::NonZeroInxGenericStack;
 
 /// Takes the entries out of an arena, in the order of their indexes.
@@ -28,7 +29,10 @@ pub struct Drain<'a, P: Ptr, T: Drop, A: CompactArenaTrait<P, T>> {
 
 impl<'a, P: Ptr, T: Drop, A: CompactArenaTrait<P, T>> Drop for Drain<'a, P, T, A> {
     fn drop(self)
-        ensures { A.clears (drain_arena self.entry) self.exit.0.now }
+        ensures cleared { A.clears (drain_arena self.entry) self.exit.0.now }
+        ensures fresh { CountsUp P.Gen.counting (A.clearing_wraps (drain_arena self.entry))
+            → Continues A.fits (drain_arena self.entry)
+            (clearing (keys (A.slots (drain_arena self.entry))) ∷ []) self.exit.0.now }
     {
         let Drain {
             arena,
@@ -60,7 +64,7 @@ impl<'a, P: Ptr, T: Drop, A: CompactArenaTrait<P, T>> Iterator for Drain<'a, P, 
 
     ghost next_gives = { λ before item after. (drain_lender after ≡ drain_lender before)
         × (IsDraining A.slots A.stand before
-        → DrainStep A.slots A.removes A.ending_wraps P.numbers
+        → DrainStep A.slots A.fits A.removes A.ending_wraps P.Gen.counting P.numbers
         (drain_arena before) item (drain_arena after) × IsDraining A.slots A.stand after) };
 
     ghost remaining = { λ drain.
@@ -144,7 +148,7 @@ pub(crate) fn take_next<P: Ptr, T, A: CompactArenaTrait<P, T>>(
     arena: &mut A,
     advancer: &mut A::PtrAdvancer,
 ) -> Option<(P, InvalidationOption<T>)>
-    ensures step { TakeStep A.slots A.removes A.ending_wraps P.numbers
+    ensures step { TakeStep A.slots A.fits A.removes A.ending_wraps P.Gen.counting P.numbers
         (greatest_index P.Inx.greatest) arena.old (A.stand advancer.old) result
         arena.new (A.stand advancer.new) }
 {

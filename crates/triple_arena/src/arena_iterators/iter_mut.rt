@@ -1,9 +1,10 @@
 //! The iterators that lend each value of an arena for writing.
 
-ghost use Rattle.std.specs.Prelude.{◌≡◌, ◌<◌, ◌^◌, length};
+ghost use Rattle.std.specs.Prelude.{◌≡◌, ◌<◌, ◌^◌, [], length};
 ghost use Rattle.std.specs.Borrow.{sem};
 ghost use Rattle.std.specs.Iterator.{YieldsFirstBy, item_count};
-ghost use Rattle.triple_arena.specs.ArenaState.{arena_len};
+ghost use Rattle.triple_arena.specs.ArenaState.{ArenaState, arena_len};
+ghost use Rattle.triple_arena.specs.Histories.{Fits, Continues};
 ghost use Rattle.triple_arena.specs.Walks.{entries, values};
 ghost use Rattle.triple_arena.specs.Lent.{lent_rest, lent_name, lends_values};
 ghost use Rattle.triple_arena.specs.Values.{with_values_of, KeepsPointers};
@@ -124,6 +125,8 @@ impl<P: Ptr, T, S: NonZeroInxGenericStack<ArenaSlot<P, T>>> Arena<P, T, S> {
         ensures* writes_back { sem 𝓛 (lends_values ⟦<Arena<P, T, S> as LendingArena>⟧.arena_row
             self.entry (lent_name result) (with_values_of self.old)) }
         ensures keeps { KeepsPointers self.old }
+        ensures fresh { (w : ArenaState T)
+            → Continues Fits self.old [] (with_values_of self.old w) }
         ensures rest { lent_rest result ≡ entries self.old.slots }
         ensures len { length (lent_rest result) ≡ arena_len self.old }
         ensures fits { arena_len self.old < 2 ^ 64 }
@@ -142,6 +145,8 @@ impl<P: Ptr, T, S: NonZeroInxGenericStack<ArenaSlot<P, T>>> Arena<P, T, S> {
         ensures* writes_back { sem 𝓛 (lends_values ⟦<Arena<P, T, S> as LendingArena>⟧.arena_row
             self.entry (lent_name result) (with_values_of self.old)) }
         ensures keeps { KeepsPointers self.old }
+        ensures fresh { (w : ArenaState T)
+            → Continues Fits self.old [] (with_values_of self.old w) }
         ensures rest { lent_rest result ≡ values self.old.slots }
         ensures len { length (lent_rest result) ≡ arena_len self.old }
         ensures fits { arena_len self.old < 2 ^ 64 }
@@ -165,6 +170,8 @@ impl<'a, P: Ptr, T, S: NonZeroInxGenericStack<ArenaSlot<P, T>>> IntoIterator
         ensures* writes_back { sem 𝓛 (lends_values ⟦<Arena<P, T, S> as LendingArena>⟧.arena_row
             self.entry (lent_name result) (with_values_of self.old)) }
         ensures keeps { KeepsPointers self.old }
+        ensures fresh { (w : ArenaState T)
+            → Continues Fits self.old [] (with_values_of self.old w) }
         ensures into_iter_gives { lent_rest result ≡ entries self.old.slots }
         ensures len { length (lent_rest result) ≡ arena_len self.old }
         ensures fits { arena_len self.old < 2 ^ 64 }

@@ -16,12 +16,12 @@ pub unwrap-requires : goal.unwrap-requires
 unwrap-requires g c =
     let steps = rw c.in-Some.is at (g.met.A.CompactArenaTrait.advanced _ _ _ _ c.advance.ensures.steps) in
     let n = next_of _ _ _ c.args.f _ _ _ _ _ _ c.walk.invariant.3 steps in
-    shared_some c.get.result n.value (c.get.ensures ∙ n.found)
+    shared_some c.get.result n.value (c.get.ensures.value ∙ n.found)
 
 pub returns-in-Err-clause-copied : goal.returns-in-Err-clause-copied
 returns-in-Err-clause-copied g c =
     let steps = rw c.in-Some.is at (g.met.A.CompactArenaTrait.advanced _ _ _ _ c.advance.ensures.steps) in
-    copy_refused _ _ _ c.args.f _ c.in-Some.p _ _ c.walk.f c.f.new.self _ c.unwrap.result c.in-Err.refusal c.walk.invariant.3 steps (sym c.get.ensures ∙ ap option_copied c.unwrap.ensures) c.in-Err.ensures
+    copy_refused _ _ _ c.args.f _ c.in-Some.p _ _ c.walk.f c.f.new.self _ c.unwrap.result c.in-Err.refusal c.walk.invariant.3 steps (sym c.get.ensures.value ∙ ap option_copied c.unwrap.ensures) c.in-Err.ensures
 
 pub returns-in-Err-clause-ends : goal.returns-in-Err-clause-ends
 returns-in-Err-clause-ends g c = omega (arith, c.walk.invariant.3.ends, length-map (g.S.NonZeroInxGenericStack.items c.walk.stack) g.X.EntrySlot.entry)
@@ -57,7 +57,7 @@ walk-preserved g c =
       search of_calls,
       c.push_at.ensures.room ∙ c.walk.invariant.1,
       c.push_at.ensures.limit ∙ c.walk.invariant.2,
-      copy_on _ _ _ c.args.f _ c.in-Some.p _ _ c.walk.f c.f.new.self _ _ c.unwrap.result c.in-Ok.value c.walk.invariant.3 steps (sym c.get.ensures ∙ ap option_copied c.unwrap.ensures) c.in-Ok.ensures (c.push_at.ensures.slots ∙ ap (λ q. put_after (map g.X.EntrySlot.entry (g.S.NonZeroInxGenericStack.items c.walk.stack)) q c.in-Ok.value) pointer),
+      copy_on _ _ _ c.args.f _ c.in-Some.p _ _ c.walk.f c.f.new.self _ _ c.unwrap.result c.in-Ok.value c.walk.invariant.3 steps (sym c.get.ensures.value ∙ ap option_copied c.unwrap.ensures) c.in-Ok.ensures (c.push_at.ensures.slots ∙ ap (λ q. put_after (map g.X.EntrySlot.entry (g.S.NonZeroInxGenericStack.items c.walk.stack)) q c.in-Ok.value) pointer),
     )
 
 pub returns-clause-copied : goal.returns-clause-copied

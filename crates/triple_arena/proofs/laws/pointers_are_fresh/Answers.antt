@@ -1,4 +1,5 @@
-use Rattle.triple_arena.proofs.HistoryLaws.{Fits-empty, Fits-keys, Continues-call, Continues-calls, Continues-append, never_live}
+use Rattle.std.proofs.Common.{refl}
+use Rattle.triple_arena.proofs.HistoryLaws.{Fits-empty, Fits-keys, Continues-call, Continues-calls, Continues-append, Fits-compressed, new_pointer, gone_for_good, never_live}
 use Rattle.triple_arena.proofs.laws.pointers_are_fresh.Goals as goal
 
 pub returns-clause-empty : goal.returns-clause-empty
@@ -18,3 +19,12 @@ returns-clause-one_after_another g c = Continues-append
 
 pub returns-clause-never_live : goal.returns-clause-never_live
 returns-clause-never_live g c = never_live
+
+pub returns-clause-reset : goal.returns-clause-reset
+returns-clause-reset g c s counter values = Fits-compressed s _ counter values refl
+
+pub returns-clause-new : goal.returns-clause-new
+returns-clause-new g c = new_pointer
+
+pub returns-clause-gone : goal.returns-clause-gone
+returns-clause-gone g c = gone_for_good

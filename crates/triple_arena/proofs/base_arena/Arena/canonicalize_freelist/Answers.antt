@@ -2,6 +2,7 @@ use Rattle.std.proofs.Common.{◌∙◌, ap}
 use Rattle.triple_arena.specs.FreeList.{tidied}
 use Rattle.triple_arena.proofs.Links.{carried}
 use Rattle.triple_arena.proofs.Tidying.{Shows-tidied, IsInOrder-tidied}
+use Rattle.triple_arena.proofs.HistoryLaws.{Continues-tidied}
 use Rattle.triple_arena.proofs.base_arena.Arena.canonicalize_freelist.Goals as goal
 
 pub invariant_of-self : goal.invariant_of-self
@@ -24,3 +25,6 @@ returns-clause-state g c =
 
 pub returns-clause-in_order : goal.returns-clause-in_order
 returns-clause-in_order g c = rw (returns-clause-state g c) (IsInOrder-tidied c.args.self.now)
+
+pub returns-clause-fresh : goal.returns-clause-fresh
+returns-clause-fresh g c = Continues-tidied c.args.self.now _ (returns-clause-state g c)

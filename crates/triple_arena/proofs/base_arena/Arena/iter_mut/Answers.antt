@@ -2,6 +2,7 @@ use Rattle.std.proofs.Common.{refl, ap, length, ◌∙◌, arith}
 use Rattle.triple_arena.specs.Walks.{entries}
 use Rattle.triple_arena.proofs.Keeping.{keeps_pointers}
 use Rattle.triple_arena.specs.WalkLaws.{length-entries}
+use Rattle.triple_arena.proofs.HistoryLaws.{Continues-values_of}
 use Rattle.triple_arena.proofs.Listing.{count_within}
 use Rattle.triple_arena.proofs.base_arena.Arena.iter_mut.Goals as goal
 
@@ -12,6 +13,7 @@ returns g c =
       record {
         writes_back = tt;
         keeps = keeps_pointers c.args.self.now;
+        fresh = Continues-values_of c.args.self.now;
         rest = rest;
         len = ap length rest ∙ length-entries c.args.self.now.slots;
         fits = omega (arith, count_within c.args.self.now.slots);

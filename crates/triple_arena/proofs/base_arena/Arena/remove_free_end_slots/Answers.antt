@@ -8,6 +8,7 @@ use Rattle.triple_arena.specs.EntryLaws.{slots-without_free_end}
 use Rattle.triple_arena.specs.LengthLaws.{len-without_free_end}
 use Rattle.triple_arena.proofs.Links.{carried}
 use Rattle.triple_arena.proofs.Tidying.{trimmed_last}
+use Rattle.triple_arena.proofs.HistoryLaws.{Continues-resized}
 use Rattle.triple_arena.proofs.base_arena.Arena.remove_free_end_slots.Goals as goal
 
 pub invariant_of-self : goal.invariant_of-self
@@ -38,3 +39,7 @@ returns-clause-same_len g c = len-without_free_end c.args.self.now _ (returns-cl
 pub returns-clause-ends_live : goal.returns-clause-ends_live
 returns-clause-ends_live g c =
     ap (λ s. is_free (item s.slots (slot_count s))) (returns-clause-state g c) ∙ trimmed_last c.args.self.now.slots
+
+pub returns-clause-fresh : goal.returns-clause-fresh
+returns-clause-fresh g c =
+    Continues-resized c.args.self.now _ (slots-without_free_end c.args.self.now _ (returns-clause-state g c)) (ap (λ s. s.counter) (returns-clause-state g c))

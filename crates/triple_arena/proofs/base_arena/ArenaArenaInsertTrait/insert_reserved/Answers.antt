@@ -1,7 +1,8 @@
-use Rattle.std.proofs.Common.{◌∙◌, sym, ap}
+use Rattle.std.proofs.Common.{◌∙◌, sym, ap, rules}
 use Rattle.triple_arena.specs.Insertion.{inserted}
 use Rattle.triple_arena.proofs.WellFormed.{kept-inserted}
 use Rattle.triple_arena.proofs.Links.{carried}
+use Rattle.triple_arena.proofs.HistoryLaws.{Continues-inserted}
 use Rattle.triple_arena.proofs.base_arena.ArenaArenaInsertTrait.insert_reserved.Goals as goal
 
 pub invariant_of-self : goal.invariant_of-self
@@ -23,3 +24,13 @@ returns-clause-inserted g c =
     (c.occupy.ensures.room ∙ ap (λ s. s.room) c.self.view_is ∙ sym kept.1)
     (c.occupy.ensures.limit ∙ ap (λ s. s.limit) c.self.view_is ∙ sym kept.2)
     (ap (λ s. s.greatest) c.self.view_is ∙ sym kept.3)).1
+
+pub returns-clause-valid : goal.returns-clause-valid
+returns-clause-valid g c = search rules
+
+pub returns-clause-pointer : goal.returns-clause-pointer
+returns-clause-pointer g c = search rules
+
+pub returns-clause-fresh : goal.returns-clause-fresh
+returns-clause-fresh g c =
+    Continues-inserted c.args.self.now _ _ c.args.t (returns-clause-valid g c) (returns-clause-pointer g c) (returns-clause-inserted g c)

@@ -5,6 +5,7 @@ use Rattle.triple_arena.specs.ArenaState.{ArenaState, with_value}
 use Rattle.triple_arena.specs.Layout.{entry_at}
 use Rattle.triple_arena.proofs.WellFormed.{entry_value_read}
 use Rattle.triple_arena.proofs.Links.{lent}
+use Rattle.triple_arena.proofs.HistoryLaws.{Continues-written}
 use Rattle.triple_arena.proofs.base_arena.ArenaArenaTrait.get_inx_mut.Goals as goal
 
 pub invariant_of-self-lent : goal.invariant_of-self-lent
@@ -23,5 +24,6 @@ returns-in-Some g c =
       record {
         value = sym (entry_value_read c.args.self.now _ (g.P.Inx.PtrInx.number c.args.inx) (non_zero_usize_get c.in-Some.inx) _ c.self.view_is c.in-Some.ensures.index c.value_mut.ensures.value);
         writes_back = tt;
+        fresh = Continues-written c.args.self.now (g.P.Inx.PtrInx.number c.args.inx);
       },
     )

@@ -1,11 +1,12 @@
-use Rattle.std.proofs.Common.{◌∙◌, IsSome, map, inl, sym, ap, subst}
+use Rattle.std.proofs.Common.{◌≡◌, ◌∙◌, IsSome, None, map, inl, sym, ap, subst, rules}
 use Rattle.std.proofs.Math.Path.{fun_ext}
 use Rattle.std.specs.Int.NonZero.{non_zero_usize_get}
-use Rattle.triple_arena.specs.ArenaState.{ArenaState, with_value}
+use Rattle.triple_arena.specs.ArenaState.{ArenaState, look_up, with_value}
 use Rattle.triple_arena.specs.Slot.{entry_of}
 use Rattle.triple_arena.specs.Layout.{entry_at}
 use Rattle.triple_arena.proofs.WellFormed.{live_entry, value_read}
 use Rattle.triple_arena.proofs.Links.{lent}
+use Rattle.triple_arena.proofs.HistoryLaws.{Continues-written, found_as_given}
 use Rattle.triple_arena.proofs.base_arena.ArenaArenaTrait.get_mut.Goals as goal
 
 pub invariant_of-self-lent : goal.invariant_of-self-lent
@@ -21,8 +22,23 @@ returns-in-Some g c =
           (lent g.P.Gen.PtrGen.number _ _ _ _ _ _ _ _ _ _ c.args.self.now (non_zero_usize_get c.in-Some.inx) w c.self.invariant c.self.view_is live
           (g.met.S.NonZeroInxGenericStack.items_with_items _ _) (g.met.S.NonZeroInxGenericStack.room_with_items _ _) (g.met.S.NonZeroInxGenericStack.limit_with_items _ _)).1
           ∙ ap (λ n. with_value c.args.self.now n w) c.in-Some.ensures.index)),
+      let value = sym (value_read c.args.self.now _ (g.P.Ptr.numbers c.args.p) (non_zero_usize_get c.in-Some.inx) _ c.self.view_is c.in-Some.ensures.index (sym c.in-Some.ensures.live) c.value_mut.ensures.value) in
+          record {
+            value = value;
+            writes_back = tt;
+            found = found_as_given c.args.self.now (g.P.Ptr.numbers c.args.p) _ value;
+            fresh = Continues-written c.args.self.now (g.P.Ptr.numbers c.args.p).0;
+          },
+    )
+
+pub returns-in-None : goal.returns-in-None
+returns-in-None g c =
+    let none : None ≡ look_up c.args.self.now (g.P.Ptr.numbers c.args.p) = search rules in (
+      search rules,
       record {
-        value = sym (value_read c.args.self.now _ (g.P.Ptr.numbers c.args.p) (non_zero_usize_get c.in-Some.inx) _ c.self.view_is c.in-Some.ensures.index (sym c.in-Some.ensures.live) c.value_mut.ensures.value);
+        value = none;
         writes_back = tt;
+        found = found_as_given c.args.self.now (g.P.Ptr.numbers c.args.p) None none;
+        fresh = Continues-written c.args.self.now (g.P.Ptr.numbers c.args.p).0;
       },
     )

@@ -7,6 +7,7 @@ use Rattle.triple_arena.specs.EntryLaws.{slots-invalidated}
 use Rattle.triple_arena.proofs.WellFormed.{invalidated_is}
 use Rattle.triple_arena.proofs.Links.{Shows-counter, carried}
 use Rattle.triple_arena.proofs.LookUps.{renewed_found, others_found}
+use Rattle.triple_arena.proofs.HistoryLaws.{Continues-invalidated}
 use Rattle.triple_arena.proofs.base_arena.ArenaArenaTrait.invalidate.Goals as goal
 
 pub invariant_of-self : goal.invariant_of-self
@@ -38,3 +39,7 @@ returns-clause-others g c q away =
     let p = g.P.Ptr.numbers c.args.p in
     let live : IsSome (look_up c.args.self.now p) = sym (rw c.in-Some.is at c.find.ensures.live) in
     others_found c.args.self.now.slots _ p.0 _ (slots-invalidated (raise g.P.Gen.PtrGen.counting g.P.Gen.PtrGen.greatest) c.args.self.now p.0 _ (returns-clause-done g c live)) q away
+
+pub returns-clause-fresh : goal.returns-clause-fresh
+returns-clause-fresh g c live counts =
+    Continues-invalidated g.P.Gen.PtrGen.counting g.P.Gen.PtrGen.greatest c.args.self.now _ (g.P.Ptr.numbers c.args.p) counts live (returns-clause-done g c live)

@@ -11,6 +11,7 @@ walk-init g c =
       goes_on = begins g.P.Ptr.numbers (goal.F-step g) _ _ _ c.advancer-advancer.ensures;
       limit = refl;
       fitting = refl;
+      fresh = λ h fits. fits;
     }
 
 pub walk-smaller-in-Some-get_mut : goal.walk-smaller-in-Some-get_mut
@@ -27,6 +28,7 @@ walk-preserved-in-Some-get_mut g c =
           c.walk.invariant.goes_on);
       limit = g.met.Self.ArenaTrait.limit_with_value _ _ _ ∙ c.walk.invariant.limit;
       fitting = g.met.Self.ArenaTrait.fitting_with_value _ _ _ ∙ c.walk.invariant.fitting;
+      fresh = λ h fits. c.get_mut.ensures.fresh _ h (c.walk.invariant.fresh h fits);
     }
 
 pub returns-clause-visited : goal.returns-clause-visited

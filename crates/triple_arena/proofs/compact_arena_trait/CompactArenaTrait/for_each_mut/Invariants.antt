@@ -1,6 +1,7 @@
-use Rattle.std.proofs.Common.{◌≡◌, false}
+use Rattle.std.proofs.Common.{◌≡◌, [], false}
 use Rattle.triple_arena_ptr.specs.Numbers.{greatest_index}
 use Rattle.triple_arena.specs.Walks.{entries, steps_left}
+use Rattle.triple_arena.specs.Histories.{Continues}
 use Rattle.triple_arena.proofs.Visiting.{GoesOn}
 use Rattle.triple_arena.proofs.compact_arena_trait.CompactArenaTrait.for_each_mut.Given as goal
 
@@ -11,6 +12,7 @@ invariant-walk g l = record {
   goes_on : GoesOn g.P.Ptr.numbers (goal.F-step g) l.fn.f (entries (g.Self.ArenaTrait.slots l.fn.self)) (g.Self.ArenaTrait.stand l.advancer) (g.Self.ArenaTrait.slots l.self) l.f;
   limit : g.Self.ArenaTrait.limit l.self ≡ g.Self.ArenaTrait.limit l.fn.self;
   fitting : g.Self.ArenaTrait.fitting l.self ≡ g.Self.ArenaTrait.fitting l.fn.self;
+  fresh : Continues g.Self.ArenaTrait.fits l.fn.self [] l.self;
 }
 
 abbrev pub decreases-walk : goal.decreases-walk

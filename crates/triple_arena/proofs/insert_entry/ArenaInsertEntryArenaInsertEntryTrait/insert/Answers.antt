@@ -1,6 +1,8 @@
 use Rattle.std.proofs.Common.{◌∙◌, ap, refl}
 use Rattle.std.proofs.lemmas.Option.{same_Some}
 use Rattle.triple_arena.proofs.Inserted.{found_inserted, rewritten, some_lent}
+use Rattle.triple_arena.specs.Insertion.{inserted}
+use Rattle.triple_arena.proofs.HistoryLaws.{Continues-inserted}
 use Rattle.triple_arena.proofs.insert_entry.ArenaInsertEntryArenaInsertEntryTrait.insert.Goals as goal
 
 pub unwrap-requires : goal.unwrap-requires
@@ -18,5 +20,6 @@ returns g c =
       record {
         value = same_Some _ _ ((rw c.unwrap.ensures at c.get_mut.ensures.value) ∙ found);
         writes_back = tt;
+        fresh = λ v. Continues-inserted c.args.self.arena.now (inserted c.args.self.arena.now v) _ v c.insert_reserved-p.ensures.valid refl refl;
       },
     )

@@ -15,7 +15,7 @@ pub returns-clause-steps : goal.returns-clause-steps
 returns-clause-steps g c =
     let step = c.in-Some.ensures.step in
     let value = sym (c.allow.ensures ∙ ap allowed_option step.1 ∙ allowed_told _ _) in
-    sym c.self.view_is ∙ ahead_taken_out _ _ _ _ _ _ _ c.self.invariant step.2 (step.3 ∙ ap Some value) (g.met.A.ArenaTrait.slots_removed _ _ _ step.4)
+    sym c.self.view_is ∙ ahead_taken_out _ _ _ _ _ _ _ c.self.invariant step.2 (step.3 ∙ ap Some value) (g.met.A.ArenaTrait.slots_removed _ _ _ step.4.0)
 
 pub returns-clause-goes : goal.returns-clause-goes
 returns-clause-goes g c =

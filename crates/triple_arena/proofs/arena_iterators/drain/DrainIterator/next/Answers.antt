@@ -16,7 +16,7 @@ returns-clause-steps g c =
       refl,
       λ draining. (
         (_, step.0, rw taken at c.told.ensures, answer_first _ _ _ _ _ draining step.2, step.3, step.4),
-        others_ahead _ _ _ _ _ _ draining step.2 (g.met.A.ArenaTrait.slots_removed _ _ _ step.4),
+        others_ahead _ _ _ _ _ _ draining step.2 (g.met.A.ArenaTrait.slots_removed _ _ _ step.4.0),
       ),
     )
 

@@ -4,7 +4,7 @@ use Rattle.triple_arena.proofs.arena_iterators.iter.IterIterator.next.Goals as g
 
 pub returns-clause-steps : goal.returns-clause-steps
 returns-clause-steps g c =
-    sym c.self.view_is ∙ ahead_taken _ _ _ _ _ c.self.invariant (g.met.A.CompactArenaTrait.advanced _ _ _ _ c.in-Some.ensures.steps) c.unwrap.result.now (sym (rw c.unwrap.ensures at c.get.ensures))
+    sym c.self.view_is ∙ ahead_taken _ _ _ _ _ c.self.invariant (g.met.A.CompactArenaTrait.advanced _ _ _ _ c.in-Some.ensures.steps) c.unwrap.result.now (sym (rw c.unwrap.ensures at c.get.ensures.value))
 
 pub returns-clause-goes : goal.returns-clause-goes
 returns-clause-goes g c =

@@ -15,4 +15,6 @@ pub mod Listing
 pub mod Steps
 pub mod Walking
 pub mod Visiting
+pub mod Compressing
+pub mod Compaction
 pub mod CopyLemmas

@@ -22,6 +22,8 @@ pub mod InsertEntry
 pub mod Drains
 pub mod Copying
 pub mod Compression
+pub mod Moves
+pub mod CompressionLaws
 pub mod Cloning
 pub mod CloningLaws
 pub mod Disjoint

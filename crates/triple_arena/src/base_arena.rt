@@ -23,6 +23,8 @@ ghost use Rattle.triple_arena.specs.Disjoint.{value_of};
 ghost use Rattle.triple_arena.specs.Values.{with_values_of};
 ghost use Rattle.triple_arena.specs.Lent.{lends_values};
 
+mod compaction;
+
 use crate::answers::{told, told_valid};
 use crate::arena_clone_trait::ArenaCloneFromWith;
 use crate::arena_insert_trait::ArenaInsertTrait;

@@ -1,3 +1,4 @@
 pub mod SlotEntries
 pub mod Shortening
 pub mod Held
+pub mod Compaction

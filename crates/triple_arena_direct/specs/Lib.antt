@@ -3,3 +3,4 @@ pub mod Slot
 pub mod Layout
 pub mod Lends
 pub mod StepLaws
+pub mod CompressionLaws

@@ -10,13 +10,15 @@ ghost use Rattle.triple_arena.specs.Entries.{entry_in, look_up_in};
 ghost use Rattle.triple_arena_direct.specs.DirectState.{DirectState, new_direct, generation_of, slot_count, direct_len, direct_capacity, Fits, with_value, removed, cleared, settled, with_room_for, reallocated, with_limit};
 ghost use Rattle.triple_arena_direct.specs.Slot.{slot_entry};
 
+mod compaction;
+
 use crate::direct_arena_iterators::PtrAdvancer;
 use crate::slot::DirectSlot;
 use crate::slots::{self, Slots};
 use std::alloc::Global;
 use std::marker::Model;
 use std::num::NonZeroUsize;
-use triple_arena::{ArenaTrait, CompactArenaTrait};
+use triple_arena::ArenaTrait;
 use triple_arena_base::{
     AllocError, InvalidationOption, InvalidationResult, MaxCapacityReductionError,
     ReallocationError,
@@ -510,9 +512,4 @@ impl<P: Ptr, T, S: SetMaxCapacity<DirectSlot<P, T>>> DirectArena<P, T, S> {
         self.slots.stack.set_max_capacity(limit)?;
         Ok(())
     }
-}
-
-impl<P: Ptr, T, S: NonZeroInxGenericStack<DirectSlot<P, T>>> CompactArenaTrait<P, T>
-    for DirectArena<P, T, S> {
-    ghost advanced = { λ _ _ _ _ steps. steps };
 }

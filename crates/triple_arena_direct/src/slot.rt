@@ -6,6 +6,7 @@ ghost use Rattle.std.specs.Option.{option_map, option_and_then};
 ghost use Rattle.triple_arena.specs.Entries.{value_under};
 ghost use Rattle.triple_arena_direct.specs.Slot.{slot_entry, with_slot_value};
 
+use triple_arena::EntrySlot;
 use triple_arena_ptr::{Ptr, PtrGen};
 
 /// A slot of a direct arena: free, or with an entry, which has a generation and a value.
@@ -94,6 +95,33 @@ impl<P: Ptr, T> DirectSlot<P, T> {
     pub(crate) fn let_go(self)
         requires { IsNone (slot_entry P.Gen.number self) }
     {
+        match self {
+            DirectSlot::Free => {}
+            DirectSlot::Allocated(_, _) => unreachable!(),
+        }
+    }
+}
+
+impl<P: Ptr, T> EntrySlot<P, T> for DirectSlot<P, T> {
+    // the entry, as the state of a direct arena has it
+    ghost entry = { slot_entry P.Gen.number };
+
+    fn vacant() -> Self {
+        DirectSlot::Free
+    }
+
+    fn holding(generation: P::Gen, value: T) -> Self {
+        DirectSlot::Allocated(generation, value)
+    }
+
+    fn unpack(self) -> Option<(P::Gen, T)> {
+        match self {
+            DirectSlot::Allocated(generation, value) => Some((generation, value)),
+            DirectSlot::Free => None,
+        }
+    }
+
+    fn discard(self) {
         match self {
             DirectSlot::Free => {}
             DirectSlot::Allocated(_, _) => unreachable!(),

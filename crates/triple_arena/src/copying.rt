@@ -1,4 +1,4 @@
-//! Copies of an arena's entries, mapped by a closure.
+//! Copies of an arena's entries, mapped by a closure, in slots of any kind.
 
 ghost use Rattle.std.specs.Prelude.{◌≡◌, ◌<◌, ◌≤◌, ◌-◌, ◌++◌, None, [], map, length, replicate};
 ghost use Rattle.std.specs.Int.NonZero.{non_zero_usize_get};
@@ -51,9 +51,11 @@ fn push_at<P: Ptr, T, X: EntrySlot<P, T>, S: NonZeroInxGenericStack<X>>(
     stack.push_reserved(X::holding(generation, value));
 }
 
-// Puts the entries of an arena into the slots of an empty stack, under the same pointers, in order,
-// each mapped by the closure, up to its first refusal.
-pub(crate) fn copy_entries<
+/// Puts the entries of `source` into the slots of a stack that has none, under the same pointers,
+/// each mapped by `f`, which is called at them in the order of their indexes, up to its first
+/// refusal (`Copies`): for the cloning of an arena over such slots. The slots end with the last
+/// entry that was mapped. It takes no memory.
+pub fn copy_entries<
     P: Ptr,
     T,
     X: EntrySlot<P, T>,

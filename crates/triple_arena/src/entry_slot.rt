@@ -5,7 +5,8 @@ ghost use Rattle.std.specs.Option.{option_map};
 
 use triple_arena_ptr::{Ptr, PtrGen};
 
-/// A slot with an entry or without one.
+/// A slot with an entry or without one, as an arena's own slots are: what is filled or emptied
+/// through this trait is so in the same way in each arena (`copy_entries`, `close_up`).
 pub trait EntrySlot<P: Ptr, T>: Sized {
     // the generation and the value of its entry, if it has one
     ghost entry: { Self → Option (ℕ × T) };
@@ -14,7 +15,7 @@ pub trait EntrySlot<P: Ptr, T>: Sized {
     fn vacant() -> Self
         ensures { entry result ≡ None };
 
-    /// A slot with an entry.
+    /// A slot with this entry.
     fn holding(generation: P::Gen, value: T) -> Self
         ensures { entry result ≡ Some (P.Gen.number generation, value) };
 

@@ -9,7 +9,7 @@ mod arena_trait;
 mod base_arena;
 mod compact_arena_trait;
 mod compress;
-mod copying;
+pub mod copying;
 mod disjointable_arena_trait;
 mod ends;
 mod entry_slot;

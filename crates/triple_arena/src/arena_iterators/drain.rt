@@ -98,7 +98,8 @@ impl<P: Ptr, T, A: CompactArenaTrait<P, T>> Model for CapacityDrain<P, T, A> {
 }
 
 impl<P: Ptr, T, A: CompactArenaTrait<P, T>> CapacityDrain<P, T, A> {
-    pub(crate) fn over(arena: A) -> Self
+    /// A drain of this arena, with all its entries ahead: for the `IntoIterator` of an arena.
+    pub fn over(arena: A) -> Self
         ensures { result ≡ entries (A.slots arena) }
     {
         let advancer = arena.advancer();

@@ -1,6 +1,7 @@
 -- The arena, and what callers see of it, after a compression.
 use Rattle.std.proofs.Common.{◌≡◌, ℕ, zero, suc, ◌+◌, ◌<◌, ◌≤◌, List, [], ◌∷◌, map, length, Option, Some, None, IsSome, is_some, count_by, cond, slice_get, refl, sym, ap, subst, ◌∙◌, arith}
 use Rattle.std.proofs.lemmas.List.{length-map}
+use Rattle.std.proofs.lemmas.Option.{slice_get-map}
 use Rattle.std.proofs.lemmas.List.Sums.{sum_by-cons}
 use Rattle.triple_arena_ptr.specs.Pointers.{Pointer}
 use Rattle.triple_arena.specs.Items.{item}
@@ -12,6 +13,7 @@ use Rattle.triple_arena.specs.WalkLaws.{found, slot_at, slot_of, length-entries}
 use Rattle.triple_arena.specs.Compression.{closed_up, compressed, rank, rank_in, placed}
 use Rattle.triple_arena.specs.CompressionLaws.{length-keys, placed-closed_up}
 use Rattle.std.specs.List.{FoldsTo}
+use Rattle.std.specs.Option.{option_map}
 use Rattle.triple_arena.specs.Moves.{Move, MoveTurn, Moves}
 use Rattle.triple_arena.specs.Slot.{entry_of}
 use Rattle.triple_arena.specs.Layout.{Shows}
@@ -103,17 +105,12 @@ module _ {T : Type 0} where
       let entry : entry_in slots p.0 ≡ Some (p.1, v) = slot_of slots p.0 slot.0 slot.1 ∙ ap joined slot.2 in
       rw (entry, eq_true p.1 p.1 refl) refl
 
-  get_map : {A B : Type 0} (f : A → B) (xs : List A) (k : ℕ) (x : A) → slice_get xs k ≡ Some x → slice_get (map f xs) k ≡ Some (f x)
-  get_map f [] k x e = absurd (cc)
-  get_map f (y ∷ xs) zero x e = let same : y ≡ x = cc in rw same refl
-  get_map f (y ∷ xs) (suc k) x e = get_map f xs k x e
-
   -- where the pointers are renamed and the values are the same, each value is found under the new pointer
   pub found_renamed : (old new : List (Option (ℕ × T))) (rename : Pointer → Pointer) → keys new ≡ map rename (keys old) → values new ≡ values old → (p : Pointer) → IsSome (look_up_in old p) → look_up_in new (rename p) ≡ look_up_in old p
   found_renamed old new rename ks vs p live =
       let nth = nth_found old p live in
       found_nth new nth.1 (rename p) nth.0
-      (ap (λ xs. slice_get xs nth.1) ks ∙ get_map rename (keys old) nth.1 p nth.3)
+      (ap (λ xs. slice_get xs nth.1) ks ∙ slice_get-map rename (keys old) nth.1 ∙ ap (option_map rename) nth.3)
       (ap (λ xs. slice_get xs nth.1) vs ∙ nth.4)
       ∙ sym nth.2
 

@@ -233,13 +233,9 @@ pub number_of_given : {G : Type 0} (number : G → ℕ) (o : Option G) (own : G)
 number_of_given number None own = refl
 number_of_given number (Some g) own = refl
 
--- what is taken out of a slot, by what the slot holds
-module _ {G T : Type 0} (number : G → ℕ) where
-  pub some_unpacked : (o : Option (G × T)) (e : Option (ℕ × T)) (x : G × T) → option_map (λ y. (number y.0, y.1)) o ≡ e → o ≡ Some x → e ≡ Some (number x.0, x.1)
-  some_unpacked o e x packed is = sym packed ∙ ap (option_map (λ y. (number y.0, y.1))) is
-
-  pub none_unpacked : (o : Option (G × T)) (e : Option (ℕ × T)) → option_map (λ y. (number y.0, y.1)) o ≡ e → o ≡ None → e ≡ None
-  none_unpacked o e packed is = sym packed ∙ ap (option_map (λ y. (number y.0, y.1))) is
+-- a slot that nothing is taken out of has no entry
+pub none_unpacked : {G T : Type 0} (number : G → ℕ) (o : Option (G × T)) (e : Option (ℕ × T)) → option_map (λ y. (number y.0, y.1)) o ≡ e → o ≡ None → e ≡ None
+none_unpacked number o e packed is = sym packed ∙ ap (option_map (λ y. (number y.0, y.1))) is
 
 module _ {X T : Type 0} (entry : X → Option (ℕ × T)) where
   pub slot_freed : (es es1 : List X) (i : ℕ) (x : X) → entry x ≡ None → es1 ≡ with_item es i x → map entry es1 ≡ with_item (map entry es) i None

@@ -17,4 +17,5 @@ pub mod Walking
 pub mod Visiting
 pub mod Compressing
 pub mod Compaction
+pub mod EntryWalks
 pub mod CopyLemmas

@@ -1,11 +1,14 @@
 -- What a compression leaves of the entries, by their pointers.
-use Rattle.std.proofs.Common.{◌≡◌, ℕ, zero, suc, ◌+◌, List, [], ◌∷◌, ◌++◌, length, map, take, Option, Some, None, cond, is_some, refl, sym, ap, ◌∙◌, arith, append_assoc}
+use Rattle.std.proofs.Common.{◌≡◌, ℕ, zero, suc, ◌+◌, List, [], ◌∷◌, ◌++◌, length, map, set, take, slice_get, Option, Some, None, cond, is_some, refl, sym, ap, ◌∙◌, arith, append_assoc}
 use Rattle.std.proofs.lemmas.List.{length_push, length-map}
 use Rattle.std.proofs.lemmas.List.Sums.{sum_by_push, sum_by-cons}
 use Rattle.std.specs.List.{range_with_len}
 use Rattle.triple_arena_ptr.specs.Pointers.{Pointer}
-use Rattle.triple_arena.specs.Entries.{entry_count}
-use Rattle.triple_arena.specs.ArenaState.{ArenaState}
+use Rattle.std.specs.Option.{option_map}
+use Rattle.triple_arena.specs.Items.{with_item}
+use Rattle.triple_arena.specs.ItemLaws.{joined}
+use Rattle.triple_arena.specs.Entries.{entry_in, entry_count, with_value_in}
+use Rattle.triple_arena.specs.ArenaState.{ArenaState, with_value}
 use Rattle.triple_arena.specs.Walks.{entries_from, keys_of, values_of, entries, keys, values}
 use Rattle.triple_arena.specs.WalkLaws.{length-entries}
 use Rattle.triple_arena.specs.Compression.{closed_up, compressed, rank, rank_among, rank_in, placed}
@@ -93,3 +96,30 @@ module _ {T : Type 0} where
   pub values-compressed : (s new : ArenaState T) (counter : ℕ) (vs : List T) → new ≡ compressed s counter vs → length vs ≡ entry_count s.slots → values new.slots ≡ vs
   values-compressed s new counter vs is many =
       ap (λ t. values t.slots) is ∙ ap values (sym (placed-closed_up counter s.slots vs many)) ∙ values-placed (Some counter) s.slots vs many
+
+  set_value : (counter : ℕ) (vs : List T) (k : ℕ) (v : T)
+      → set (closed_up counter vs) k (option_map (λ (e : ℕ × T). (e.0, v)) (joined (slice_get (closed_up counter vs) k))) ≡ closed_up counter (set vs k v)
+  set_value counter [] k v = refl
+  set_value counter (w ∷ vs) zero v = refl
+  set_value counter (w ∷ vs) (suc k) v = ap (λ l. Some (counter, w) ∷ l) (set_value counter vs k v)
+
+  write_in : (counter : ℕ) (vs : List T) (i : ℕ) (v : T) → with_value_in (closed_up counter vs) i v ≡ closed_up counter (with_item vs i v)
+  write_in counter vs zero v = refl
+  write_in counter vs (suc k) v = set_value counter vs k v
+
+  pub compressed-with_value : (s new : ArenaState T) (counter : ℕ) (vs : List T) (i : ℕ) (v : T) → new ≡ compressed s counter vs → with_value new i v ≡ compressed s counter (with_item vs i v)
+  compressed-with_value s new counter vs i v is =
+      ap (λ t. with_value t i v) is ∙ ap (λ slots. record s { slots = slots; counter = counter; free = [] }) (write_in counter vs i v)
+
+  set_same : (xs : List (Option (ℕ × T))) (k : ℕ) (e : ℕ × T) → joined (slice_get xs k) ≡ Some e → set xs k (Some e) ≡ xs
+  set_same [] k e h = refl
+  set_same (x ∷ xs) zero e h = ap (λ y. y ∷ xs) (sym h)
+  set_same (x ∷ xs) (suc k) e h = ap (λ l. x ∷ l) (set_same xs k e h)
+
+  -- the value that stands there, written again, changes nothing
+  pub value_same : (xs : List (Option (ℕ × T))) (i : ℕ) (e : ℕ × T) → entry_in xs i ≡ Some e → with_value_in xs i e.1 ≡ xs
+  value_same xs zero e h = refl
+  value_same xs (suc k) e h = ap (λ o. set xs k (option_map (λ (x : ℕ × T). (x.0, e.1)) o)) h ∙ set_same xs k e h
+
+  pub with_value-same : (s : ArenaState T) (i : ℕ) (e : ℕ × T) → entry_in s.slots i ≡ Some e → with_value s i e.1 ≡ s
+  with_value-same s i e h = ap (λ slots. record s { slots = slots }) (value_same s.slots i e h)

@@ -24,6 +24,7 @@ pub mod Copying
 pub mod Compression
 pub mod Moves
 pub mod CompressionLaws
+pub mod Recasting
 pub mod Cloning
 pub mod CloningLaws
 pub mod Disjoint

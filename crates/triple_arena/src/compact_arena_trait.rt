@@ -1,11 +1,12 @@
 //! Arenas that generic code walks.
 
-ghost use Rattle.std.specs.Prelude.{◌≡◌, ℕ, Bool, List, Option, IsSome, length, map};
+ghost use Rattle.std.specs.Prelude.{◌≡◌, ℕ, Bool, List, Option, Some, IsSome, length, map};
 ghost use Rattle.std.specs.List.{range_with_len};
 ghost use Rattle.std.specs.Option.{option_map};
 ghost use Rattle.triple_arena_ptr.specs.Numbers.{greatest_index};
 ghost use Rattle.triple_arena_ptr.specs.Pointers.{Pointer};
-ghost use Rattle.triple_arena.specs.Entries.{look_up_in, entry_count};
+ghost use Rattle.triple_arena.specs.Items.{with_item};
+ghost use Rattle.triple_arena.specs.Entries.{entry_in, look_up_in, entry_count};
 ghost use Rattle.triple_arena.specs.Ending.{told};
 ghost use Rattle.triple_arena.specs.Moves.{Moves};
 ghost use Rattle.triple_arena.specs.Visits.{Visits};
@@ -60,6 +61,10 @@ pub trait CompactArenaTrait<P: Ptr, T>: ArenaTrait<P, T> {
         → Steps (greatest_index P.Inx.greatest) (Self.slots arena) (Self.stand before)
         (option_map P.numbers answer) (Self.stand after) };
 
+    // the value that stands there, written again, changes nothing
+    ghost with_value_same: { (arena : Self) (i : ℕ) (e : ℕ × T)
+        → entry_in (Self.slots arena) i ≡ Some e → Self.with_value arena i e.1 ≡ arena };
+
     // after a compression the entries have the pointers that `rank` says, and the values that stand
     // then
     ghost keys_compressed: { (old : Self) (reset : Bool) (values : List T) (new : Self)
@@ -75,6 +80,11 @@ pub trait CompactArenaTrait<P: Ptr, T>: ArenaTrait<P, T> {
     ghost ranked: { (arena : Self) (reset : Bool)
         → map (λ p. p.0) (map (rank arena reset) (keys (Self.slots arena)))
         ≡ range_with_len 1 (entry_count (Self.slots arena)) };
+
+    // a value that is written after a compression might have been given back in it
+    ghost compresses_with_value: { (old : Self) (reset : Bool) (values : List T) (new : Self)
+        (i : ℕ) (value : T) → compresses old reset values new
+        → compresses old reset (with_item values i value) (Self.with_value new i value) };
 
     // limit and capacity stay
     ghost limit_compressed: { (old : Self) (reset : Bool) (values : List T) (new : Self)

@@ -19,7 +19,7 @@ impl<P: Ptr, T, S: NonZeroInxGenericStack<ArenaSlot<P, T>>> CompactArenaTrait<P,
     for Arena<P, T, S> {
     ghost use Rattle.std.proofs.Common.{ap};
     ghost use Rattle.triple_arena.specs.ArenaState.{capacity};
-    ghost use Rattle.triple_arena.specs.CompressionLaws.{ranks, keys-compressed, values-compressed};
+    ghost use Rattle.triple_arena.specs.CompressionLaws.{ranks, keys-compressed, values-compressed, compressed-with_value, with_value-same};
 
     ghost advanced = { λ _ _ _ _ steps. steps };
 
@@ -46,6 +46,8 @@ impl<P: Ptr, T, S: NonZeroInxGenericStack<ArenaSlot<P, T>>> CompactArenaTrait<P,
         answer
     }
 
+    ghost with_value_same = { with_value-same };
+
     ghost keys_compressed = { λ old reset values new. keys-compressed old new (counter_after
         (first_generation P.Gen.counting) (raise P.Gen.counting P.Gen.greatest) reset old) values };
 
@@ -55,6 +57,10 @@ impl<P: Ptr, T, S: NonZeroInxGenericStack<ArenaSlot<P, T>>> CompactArenaTrait<P,
     ghost ranked = { λ old reset. ranks (Some (counter_after
         (first_generation P.Gen.counting) (raise P.Gen.counting P.Gen.greatest) reset old))
         old.slots };
+
+    ghost compresses_with_value = { λ old reset values new. compressed-with_value old new
+        (counter_after (first_generation P.Gen.counting) (raise P.Gen.counting P.Gen.greatest)
+        reset old) values };
 
     ghost limit_compressed = { λ _ _ _ _. ap (λ s. s.limit) };
 

@@ -16,7 +16,7 @@ impl<P: Ptr, T, S: NonZeroInxGenericStack<DirectSlot<P, T>>> CompactArenaTrait<P
     ghost use Rattle.std.proofs.Common.{ap};
     ghost use Rattle.triple_arena.specs.CompressionLaws.{ranks};
     ghost use Rattle.triple_arena_direct.specs.DirectState.{direct_capacity};
-    ghost use Rattle.triple_arena_direct.specs.CompressionLaws.{keys-compressed, values-compressed};
+    ghost use Rattle.triple_arena_direct.specs.CompressionLaws.{keys-compressed, values-compressed, compressed-with_value, with_value-same};
 
     // the entries have these values, in their order, from index 1 on, each under its generation
     ghost compresses = { λ old _ values new. new ≡ compressed old values };
@@ -38,11 +38,15 @@ impl<P: Ptr, T, S: NonZeroInxGenericStack<DirectSlot<P, T>>> CompactArenaTrait<P
 
     ghost advanced = { λ _ _ _ _ steps. steps };
 
+    ghost with_value_same = { with_value-same };
+
     ghost keys_compressed = { λ old _ values new. keys-compressed old new values };
 
     ghost values_compressed = { λ old _ values new. values-compressed old new values };
 
     ghost ranked = { λ old _. ranks None old.slots };
+
+    ghost compresses_with_value = { λ old _ values new. compressed-with_value old new values };
 
     ghost limit_compressed = { λ _ _ _ _. ap (λ s. s.limit) };
 

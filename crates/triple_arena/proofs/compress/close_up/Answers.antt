@@ -5,7 +5,7 @@ use Rattle.triple_arena.specs.Items.{item, with_item}
 use Rattle.triple_arena.specs.Moves.{MoveTurn}
 use Rattle.triple_arena.proofs.ItemLists.{length-with_item}
 use Rattle.triple_arena.proofs.Links.{pointer_is}
-use Rattle.triple_arena.proofs.Compressing.{CompactAt-start, CompactAt-free_slot, CompactAt-moved_slot, CompactAt-done, place_free_slot, item_inside, number_of_given, some_unpacked, none_unpacked}
+use Rattle.triple_arena.proofs.Compressing.{CompactAt-start, CompactAt-free_slot, CompactAt-moved_slot, CompactAt-done, place_free_slot, item_inside, number_of_given, none_unpacked}
 use Rattle.triple_arena.proofs.compress.close_up.Goals.{in-Some, in_default}
 use Rattle.triple_arena.proofs.compress.close_up.Goals as goal
 
@@ -69,7 +69,7 @@ moves-preserved g c =
             _
             (record { from = w.pointer.result; old = _; to = w.pointer-in-Some.result; new = w.f-given.result })
             c.moves.invariant.4 inside found
-            (some_unpacked g.P.Gen.PtrGen.number _ _ _ c.unpack.ensures w.in-Some.ensures)
+            (sym w.in-Some.ensures)
             c.vacant.ensures freed put w.holding.ensures
             (w.pointer.ensures ∙ pointer_is _ _ _ _ here refl)
             refl

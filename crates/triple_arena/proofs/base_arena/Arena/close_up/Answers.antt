@@ -9,8 +9,8 @@ use Rattle.triple_arena.specs.Walks.{entries}
 use Rattle.triple_arena.proofs.Links.{carried}
 use Rattle.triple_arena.proofs.base_arena.Arena.close_up.Goals as goal
 
-pub close_up-requires-indexed : goal.close_up-requires-indexed
-close_up-requires-indexed g c =
+pub close_up-requires-clause-indexed : goal.close_up-requires-clause-indexed
+close_up-requires-clause-indexed g c =
     omega (arith, c.self.invariant.well.fits, length-map (g.S.NonZeroInxGenericStack.items c.self.inside.slots.stack) (entry_of g.P.Gen.PtrGen.number))
 
 pub invariant_of-self : goal.invariant_of-self

@@ -7,8 +7,8 @@ use Rattle.triple_arena_direct.proofs.Held.{made}
 use Rattle.triple_arena_direct.proofs.Compaction.{closed_state, Counts-compressed}
 use Rattle.triple_arena_direct.proofs.direct_arena.compaction.DirectArenaCompactArenaTrait.compress_with.Goals as goal
 
-pub close_up-requires-indexed : goal.close_up-requires-indexed
-close_up-requires-indexed g c =
+pub close_up-requires-clause-indexed : goal.close_up-requires-indexed
+close_up-requires-clause-indexed g c =
     omega (arith, c.self.invariant.fits, length-map (g.S.NonZeroInxGenericStack.items c.self.inside.slots.stack) (slot_entry g.P.Gen.PtrGen.number))
 
 pub invariant_of-self : goal.invariant_of-self

@@ -15,6 +15,9 @@ pub mod Listing
 pub mod Steps
 pub mod Walking
 pub mod Visiting
+pub mod Compressing
+pub mod Compaction
+pub mod EntryWalks
 pub mod CopyLemmas
 pub mod TransferLemmas
 pub mod PointerLists

@@ -1,5 +1,5 @@
 -- Compression of an arena, and where it moves the entries.
-use Rattle.std.specs.Prelude.{ℕ, ◌==◌, Bool, false, cond, List, [], map, take, Option, Some}
+use Rattle.std.specs.Prelude.{ℕ, ◌==◌, Bool, false, cond, List, [], ◌∷◌, map, take, Option, Some, None, unwrap_or}
 use Rattle.triple_arena_ptr.specs.Pointers.{Pointer}
 use Rattle.triple_arena.specs.Entries.{entry_count}
 use Rattle.triple_arena.specs.ArenaState.{ArenaState, arena_len}
@@ -32,3 +32,15 @@ module _ {T : Type 0} where
   -- where compression under a counter moves the entry of a pointer: the k-th entry to index k
   abbrev pub rank : ArenaState T → ℕ → Pointer → Pointer
   rank s counter p = (rank_among s.slots p.0, counter)
+
+module _ {T : Type 0} where
+  -- where a compression moves the entry of a pointer in these slots: under this generation, or under its own where none is
+  -- given
+  abbrev pub rank_in : Option ℕ → List (Option (ℕ × T)) → Pointer → Pointer
+  rank_in generation slots p = (rank_among slots p.0, unwrap_or generation p.1)
+
+  -- entries with these values, in their order, from index 1 on, under the generations of these pointers
+  abbrev pub placed : List Pointer → List T → List (Option (ℕ × T))
+  placed [] values = []
+  placed (p ∷ ps) [] = []
+  placed (p ∷ ps) (value ∷ values) = Some (p.1, value) ∷ placed ps values

@@ -24,6 +24,9 @@ pub mod Drains
 pub mod Transfers
 pub mod Copying
 pub mod Compression
+pub mod Moves
+pub mod CompressionLaws
+pub mod Recasting
 pub mod Cloning
 pub mod CloningLaws
 pub mod CopyLaws

@@ -397,11 +397,11 @@ module _ {T : Type 0} where
   some_answer numbers greatest slots b None a s more = absurd (omega (arith, more, ap length (keys_none greatest slots b a s)))
   some_answer numbers greatest slots b (Some p) a s more = refl
 
-  slot_at : (slots : List (Option (ℕ × T))) (i : ℕ) (e : ℕ × T) → entry_in slots i ≡ Some e → (k : ℕ) × (i ≡ 1 + k) × (slice_get slots k ≡ Some (Some e))
+  pub slot_at : (slots : List (Option (ℕ × T))) (i : ℕ) (e : ℕ × T) → entry_in slots i ≡ Some e → (k : ℕ) × (i ≡ 1 + k) × (slice_get slots k ≡ Some (Some e))
   slot_at slots zero e found = absurd (cc)
   slot_at slots (suc k) e found = (k, omega arith, joined_some (slice_get slots k) e found)
 
-  slot_of : (slots : List (Option (ℕ × T))) (j k : ℕ) → j ≡ 1 + k → entry_in slots j ≡ joined (slice_get slots k)
+  pub slot_of : (slots : List (Option (ℕ × T))) (j k : ℕ) → j ≡ 1 + k → entry_in slots j ≡ joined (slice_get slots k)
   slot_of slots zero k e = absurd (omega (arith, e))
   slot_of slots (suc m) k e = let same : m ≡ k = omega (arith, e) in rw same refl
 

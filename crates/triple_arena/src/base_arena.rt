@@ -26,6 +26,8 @@ ghost use Rattle.triple_arena.specs.Values.{with_values_of};
 ghost use Rattle.triple_arena.specs.Lent.{lends_values};
 ghost use Rattle.triple_arena.specs.Histories.{resizing, Fits, Continues, CountsUp};
 
+mod compaction;
+
 use crate::answers::{told, told_valid};
 use crate::arena_clone_trait::ArenaCloneFromWith;
 use crate::arena_insert_trait::ArenaInsertTrait;

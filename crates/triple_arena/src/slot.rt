@@ -207,4 +207,15 @@ impl<P: Ptr, T> EntrySlot<P, T> for ArenaSlot<P, T> {
     fn holding(generation: P::Gen, value: T) -> Self {
         ArenaSlot::Allocated(generation, value)
     }
+
+    fn unpack(self) -> Option<(P::Gen, T)> {
+        match self {
+            ArenaSlot::Allocated(generation, value) => Some((generation, value)),
+            ArenaSlot::Free(_) => None,
+        }
+    }
+
+    fn discard(self) {
+        let _link = self.into_link();
+    }
 }

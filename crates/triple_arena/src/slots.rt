@@ -15,6 +15,9 @@ ghost use Rattle.triple_arena.specs.Ending.{removed};
 ghost use Rattle.triple_arena.specs.Entries.{with_generation_in, entry_count};
 ghost use Rattle.triple_arena.specs.FreeList.{trimmed, last_index, gaps, up_to, without_free_end};
 ghost use Rattle.triple_arena.specs.Walks.{entries};
+ghost use Rattle.triple_arena_ptr.specs.Numbers.{greatest_index};
+ghost use Rattle.triple_arena.specs.Compression.{compressed, rank};
+ghost use Rattle.triple_arena.specs.Moves.{Moves};
 ghost use Rattle.triple_arena.specs.Copying.{Copies};
 ghost use Rattle.triple_arena.specs.Transfers.{Transfers};
 ghost use Rattle.triple_arena.specs.Slot.{entry_of, with_slot_value};
@@ -23,6 +26,7 @@ ghost use Rattle.triple_arena.specs.Disjoint.{value_of};
 
 use crate::arena_trait::ArenaTrait;
 use crate::compact_arena_trait::CompactArenaTrait;
+use crate::compress::close_up;
 use crate::copying::copy_entries;
 use crate::pair_call::PairCall;
 use crate::slot::{ArenaSlot, FreeLink};
@@ -304,6 +308,26 @@ impl<P: Ptr, T, S: NonZeroInxGenericStack<ArenaSlot<P, T>>> Slots<P, T, S> {
         pop_free_end(&mut self.stack);
     }
 
+    // Moves the entries to the first slots, in their order, under this generation, with the values
+    // that the closure gives back for them, and leaves no other slot.
+    pub(crate) fn close_up<F: FnMut(P, T, P) -> T>(&mut self, generation: P::Gen, f: F)
+        requires callable { F.IsAlwaysCallable f }
+        requires indexed { length (S.items self.old.stack) ≤ greatest_index P.Inx.greatest }
+        ensures moved { (s : ArenaState T) (len : ℕ)
+            → Shows P.Gen.number (S.items self.old.stack)
+            (option_map non_zero_usize_get self.old.root) len s
+            → (values : List T) × Moves P.numbers F.step (rank s (P.Gen.number generation)) f
+            (entries s.slots) values
+            × Shows P.Gen.number (S.items self.new.stack)
+            (option_map non_zero_usize_get self.new.root) len
+            (compressed s (P.Gen.number generation) values) }
+        ensures room { S.room self.new.stack ≡ S.room self.old.stack }
+        ensures limit { S.limit self.new.stack ≡ S.limit self.old.stack }
+    {
+        self.root = None;
+        close_up::<P, T, ArenaSlot<P, T>, S, F>(&mut self.stack, Some(generation), f);
+    }
+
     // Holds the entries of an arena alone, under the same pointers, each mapped by the closure, up to
     // its first refusal, and links the gaps in rising order. Gives the number of entries.
     pub(crate) fn copy<U, E, A: CompactArenaTrait<P, U>, M: FnMut(P, &U) -> Result<T, E>>(
@@ -497,7 +521,7 @@ fn work_in_two<P: Ptr, T, R, C: PairCall<T, R>>(
 }
 
 // Puts an item in the place of the one at an index, which it gives.
-fn replace<X, S: NonZeroInxGenericStack<X>>(stack: &mut S, inx: NonZeroUsize, x: X) -> X
+pub(crate) fn replace<X, S: NonZeroInxGenericStack<X>>(stack: &mut S, inx: NonZeroUsize, x: X) -> X
     requires { IsSome (item (S.items stack.old) (non_zero_usize_get inx)) }
     ensures value { item (S.items stack.old) (non_zero_usize_get inx) ≡ Some result }
     ensures stack { stack.new ≡ S.with_items stack.old

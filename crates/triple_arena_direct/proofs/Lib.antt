@@ -3,3 +3,4 @@ pub mod Shortening
 pub mod Held
 pub mod Keeping
 pub mod Mirroring
+pub mod Compaction

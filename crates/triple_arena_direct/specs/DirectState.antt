@@ -6,6 +6,8 @@ use Rattle.triple_arena_stack.specs.Capacity.{capacity_of}
 use Rattle.triple_arena.specs.Items.{with_item}
 use Rattle.triple_arena.specs.Entries.{entry_in, entry_count, with_value_in}
 use Rattle.triple_arena.specs.FreeList.{trimmed}
+use Rattle.triple_arena.specs.Walks.{keys}
+use Rattle.triple_arena.specs.Compression.{placed}
 
 -- by index, from 1 to the number of slots, the generation and the value of the entry that stands there, or nothing; for how
 -- many slots there is room, and how many are allowed, if there is a limit; and the greatest index
@@ -65,6 +67,10 @@ module _ {T : Type 0} where
   -- clearing: no slot is left
   abbrev pub cleared : DirectState T → DirectState T
   cleared s = record s { slots = [] }
+
+  -- compression: there are entries with these values, from index 1 on, each under its own generation, and no other slot
+  abbrev pub compressed : DirectState T → List T → DirectState T
+  compressed s values = record s { slots = placed (keys s.slots) values }
 
   -- free slots at the end go, but for those up to index m
   abbrev pub settled : DirectState T → ℕ → DirectState T

@@ -9,3 +9,4 @@ pub mod InsertionLaws
 pub mod CloningLaws
 pub mod Mirrors
 pub mod InsertEntry
+pub mod CompressionLaws

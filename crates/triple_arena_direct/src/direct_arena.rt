@@ -19,6 +19,8 @@ ghost use Rattle.triple_arena.specs.Lent.{lends_values};
 ghost use Rattle.triple_arena_direct.specs.Values.{with_values_of};
 ghost use Rattle.triple_arena_direct.specs.Slot.{slot_entry};
 
+mod compaction;
+
 use crate::direct_arena_iterators::PtrAdvancer;
 use crate::lent_slots::LentSlots;
 use crate::slot::DirectSlot;
@@ -732,9 +734,4 @@ impl<P: Ptr, T, S: SetMaxCapacity<DirectSlot<P, T>>> DirectArena<P, T, S> {
         self.slots.stack.set_max_capacity(limit)?;
         Ok(())
     }
-}
-
-impl<P: Ptr, T, S: NonZeroInxGenericStack<DirectSlot<P, T>>> CompactArenaTrait<P, T>
-    for DirectArena<P, T, S> {
-    ghost advanced = { λ _ _ _ _ steps. steps };
 }

@@ -137,4 +137,18 @@ impl<P: Ptr, T> EntrySlot<P, T> for DirectSlot<P, T> {
     fn holding(generation: P::Gen, value: T) -> Self {
         DirectSlot::Allocated(generation, value)
     }
+
+    fn unpack(self) -> Option<(P::Gen, T)> {
+        match self {
+            DirectSlot::Allocated(generation, value) => Some((generation, value)),
+            DirectSlot::Free => None,
+        }
+    }
+
+    fn discard(self) {
+        match self {
+            DirectSlot::Free => {}
+            DirectSlot::Allocated(_, _) => unreachable!(),
+        }
+    }
 }

@@ -1,0 +1,44 @@
+use Rattle.std.proofs.Common.{◌≡◌, ◌∙◌, refl, ap, subst, arith, length}
+use Rattle.std.proofs.lemmas.List.{length-map}
+use Rattle.triple_arena.specs.Compression.{compressed, rank}
+use Rattle.triple_arena.specs.ArenaState.{capacity}
+use Rattle.triple_arena.specs.Layout.{Shows}
+use Rattle.triple_arena.specs.Moves.{Moves}
+use Rattle.triple_arena.specs.Slot.{entry_of}
+use Rattle.triple_arena.specs.Walks.{entries}
+use Rattle.triple_arena.proofs.Links.{carried}
+use Rattle.triple_arena.proofs.base_arena.Arena.close_up.Goals as goal
+
+pub close_up-requires-clause-indexed : goal.close_up-requires-clause-indexed
+close_up-requires-clause-indexed g c =
+    omega (arith, c.self.invariant.well.fits, length-map (g.S.NonZeroInxGenericStack.items c.self.inside.slots.stack) (entry_of g.P.Gen.PtrGen.number))
+
+pub invariant_of-self : goal.invariant_of-self
+invariant_of-self g c =
+    let n = g.P.Gen.PtrGen.number c.self.inside.counter in
+    let shows = subst (Shows g.P.Gen.PtrGen.number (g.S.NonZeroInxGenericStack.items c.self.inside.slots.stack) _ c.self.inside.len) c.self.view_is c.self.invariant in
+    let closed = c.close_up.ensures.moved c.args.self.now c.self.inside.len shows in
+    (carried g.P.Gen.PtrGen.number _ _ _ _ _ _ _ n _ _ _ _ _ c.args.self.now (compressed c.args.self.now n closed.0) c.self.invariant c.self.view_is
+    (λ _. closed.2)
+    refl
+    (c.close_up.ensures.room ∙ ap (λ s. s.room) c.self.view_is)
+    (c.close_up.ensures.limit ∙ ap (λ s. s.limit) c.self.view_is)
+    (ap (λ s. s.greatest) c.self.view_is)).0
+
+pub returns : goal.returns
+returns g c =
+    let n = g.P.Gen.PtrGen.number c.self.inside.counter in
+    let shows = subst (Shows g.P.Gen.PtrGen.number (g.S.NonZeroInxGenericStack.items c.self.inside.slots.stack) _ c.self.inside.len) c.self.view_is c.self.invariant in
+    let closed = c.close_up.ensures.moved c.args.self.now c.self.inside.len shows in
+    let is = (carried g.P.Gen.PtrGen.number _ _ _ _ _ _ _ n _ _ _ _ _ c.args.self.now (compressed c.args.self.now n closed.0) c.self.invariant c.self.view_is
+    (λ _. closed.2)
+    refl
+    (c.close_up.ensures.room ∙ ap (λ s. s.room) c.self.view_is)
+    (c.close_up.ensures.limit ∙ ap (λ s. s.limit) c.self.view_is)
+    (ap (λ s. s.greatest) c.self.view_is)).1 in
+    let same : n ≡ c.args.self.now.counter = ap (λ s. s.counter) c.self.view_is in
+    (
+      closed.0,
+      subst (λ k. Moves g.P.Ptr.numbers (goal.F-step g) (rank c.args.self.now k) c.args.f (entries c.args.self.now.slots) closed.0) same closed.1,
+      is ∙ ap (λ k. compressed c.args.self.now k closed.0) same,
+    )

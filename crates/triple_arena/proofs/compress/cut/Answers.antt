@@ -1,0 +1,26 @@
+use Rattle.std.proofs.Common.{◌≡◌, ◌∙◌, ◌-◌, ◌<◌, ◌≤◌, Some, None, length, map, take, slice_get, sym, ap, refl, arith}
+use Rattle.std.proofs.lemmas.List.{length-map, take-map}
+use Rattle.triple_arena.proofs.Compressing.{popped_vacant, cut_on, gap_gone}
+use Rattle.triple_arena.proofs.compress.cut.Goals as goal
+
+pub discard-requires-after_bounds : goal.discard-requires-after_bounds
+discard-requires-after_bounds g c κs within =
+    let now = c.ends.invariant.2 c.requires.0 c.requires.1 c.requires.2 c.requires.3 in
+    popped_vacant g.X.EntrySlot.entry c.requires.0 (g.S.NonZeroInxGenericStack.items c.ends.stack) now.0 c.unwrap.result now.1
+    (omega (arith, c.requires.2, c.len.ensures, c.ends-test.true)) (sym c.pop.ensures.value ∙ c.unwrap.ensures)
+
+pub ends-preserved : goal.ends-preserved
+ends-preserved g c =
+    rw c.pop.ensures.items (
+      g.met.S.NonZeroInxGenericStack.room_with_items _ _ ∙ c.ends.invariant.0,
+      g.met.S.NonZeroInxGenericStack.limit_with_items _ _ ∙ c.ends.invariant.1,
+      rw g.met.S.NonZeroInxGenericStack.items_with_items (λ kept spare size is.
+        let now = c.ends.invariant.2 kept spare size is in
+        cut_on g.X.EntrySlot.entry kept (g.S.NonZeroInxGenericStack.items c.ends.stack) now.0 now.1 (omega (arith, size, c.len.ensures, c.ends-test.true))),
+    )
+
+pub returns-clause-slots : goal.returns-clause-slots
+returns-clause-slots g c = λ kept spare size is.
+    let now = c.ends.invariant.2 kept spare size is in
+    gap_gone kept (map g.X.EntrySlot.entry (g.S.NonZeroInxGenericStack.items c.ends.stack)) now.0 None now.1
+    (omega (arith, size, c.len.ensures, c.ends-test.false, length-map (g.S.NonZeroInxGenericStack.items c.ends.stack) g.X.EntrySlot.entry))

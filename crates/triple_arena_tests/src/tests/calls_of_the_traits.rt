@@ -8,7 +8,7 @@ use triple_arena_base::ReallocationError;
 use triple_arena_ptr::{P0, P1, P4, P5, Ptr, PtrNoGen};
 use triple_arena_test_kit::{
     B, Call, Heap, Narrow, Numbered, Places, Steps, TestedArena, Token, Told, Trial, Wide, Wrong,
-    follow, new_arena, on_fixed, on_heap, on_limited, on_little,
+    follow, inx, new_arena, on_fixed, on_heap, on_limited, on_little, step,
 };
 
 // Each call, on an arena with three places, this limit and no entry.
@@ -19,17 +19,22 @@ struct EachCall {
 
 impl Trial for EachCall {
     fn on<A: TestedArena>(&self, arena: &mut A) -> Result<(), Wrong> {
+        follow(arena, &[(Call::IsEmpty, Told::Is(true))])?;
+        step(arena, Call::Bounds, Told::Bounds(0, 3, self.limit))?;
         follow(
             arena,
             &[
-                (Call::IsEmpty, Told::Is(true)),
-                (Call::Bounds, Told::Bounds(0, 3, self.limit)),
                 (Call::SingularGeneration, Told::Generation(2)),
                 (Call::NextPtr, Told::At(1, 2)),
                 (Call::InsertReserved(1), Told::At(1, 2)),
                 (Call::InsertWithinCapacity(2), Told::At(2, 2)),
                 (Call::InsertReallocating(3), Told::At(3, 2)),
-                (Call::Bounds, Told::Bounds(3, 3, self.limit)),
+            ],
+        )?;
+        step(arena, Call::Bounds, Told::Bounds(3, 3, self.limit))?;
+        follow(
+            arena,
+            &[
                 (Call::IsEmpty, Told::Is(false)),
                 (Call::First, Told::At(1, 2)),
                 (Call::Last, Told::At(3, 2)),
@@ -48,16 +53,21 @@ impl Trial for EachCall {
                 (Call::Remove(1, 2), Told::Holds(1)),
                 (Call::Contains(1, 2), Told::Is(false)),
                 (Call::RemoveInx(3), Told::Held(2, 30)),
-                (Call::Bounds, Told::Bounds(1, 3, self.limit)),
+            ],
+        )?;
+        step(arena, Call::Bounds, Told::Bounds(1, 3, self.limit))?;
+        follow(
+            arena,
+            &[
                 (Call::NextPtr, Told::At(1, 5)),
                 (Call::Insert(4), Told::At(1, 5)),
                 (Call::Reallocate(3), Told::Done),
                 (Call::Get(2, 3), Told::Holds(20)),
                 (Call::Get(1, 5), Told::Holds(4)),
                 (Call::Clear, Told::Done),
-                (Call::Bounds, Told::Bounds(0, 3, self.limit)),
             ],
-        )
+        )?;
+        step(arena, Call::Bounds, Told::Bounds(0, 3, self.limit))
     }
 }
 
@@ -66,23 +76,41 @@ const BEYOND: Told = Told::Refused(ReallocationError::BeyondMaxCapacity);
 const FULL: (Call, Told) = (Call::Bounds, Told::Bounds(3, 3, Some(3)));
 
 // The refusals of an arena that has three places, a limit of three and no entry.
-const EACH_REFUSAL: Steps<'_> = Steps(&[
-    (Call::SetGeneration(2), Told::Done),
-    (Call::Insert(1), Told::At(1, 2)),
-    (Call::Insert(2), Told::At(2, 2)),
-    (Call::Insert(3), Told::At(3, 2)),
-    FULL,
-    (Call::NextPtr, Told::Full),
-    (Call::InsertReserved(4), Told::Full),
-    (Call::InsertWithinCapacity(4), Told::Full),
-    (Call::InsertReallocating(4), BEYOND),
-    (Call::Insert(4), BEYOND),
-    (Call::Reallocate(4), BEYOND),
-    FULL,
-]);
+#[derive(Drop)]
+struct EachRefusal;
+
+impl Trial for EachRefusal {
+    fn on<A: TestedArena>(&self, arena: &mut A) -> Result<(), Wrong> {
+        follow(
+            arena,
+            &[
+                (Call::SetGeneration(2), Told::Done),
+                (Call::Insert(1), Told::At(1, 2)),
+                (Call::Insert(2), Told::At(2, 2)),
+                (Call::Insert(3), Told::At(3, 2)),
+                FULL,
+                (Call::NextPtr, Told::Full),
+                (Call::InsertReserved(4), Told::Full),
+                (Call::InsertWithinCapacity(4), Told::Full),
+                (Call::InsertReallocating(4), BEYOND),
+                (Call::Insert(4), BEYOND),
+                (Call::Reallocate(4), BEYOND),
+                FULL,
+            ],
+        )
+    }
+}
 
 // Each call, and then the refusals, under a limit of three.
-const UNDER_A_LIMIT: (EachCall, Steps<'_>) = (EachCall { limit: Some(3) }, EACH_REFUSAL);
+#[derive(Drop)]
+struct UnderALimit;
+
+impl Trial for UnderALimit {
+    fn on<A: TestedArena>(&self, arena: &mut A) -> Result<(), Wrong> {
+        EachCall { limit: Some(3) }.on(arena)?;
+        EachRefusal.on(arena)
+    }
+}
 
 // Over each stack on the heap.
 fn on_heap_stacks<P: Ptr>(alloc: Global) -> Result<(), Wrong>
@@ -90,8 +118,8 @@ where
     P::Gen: Numbered,
 {
     on_heap::<P, _>(alloc, Some(3), &EachCall { limit: None })?;
-    on_limited::<P, _>(alloc, Some(3), &UNDER_A_LIMIT)?;
-    on_fixed::<P, _>(alloc, Some(3), &UNDER_A_LIMIT)
+    on_limited::<P, _>(alloc, Some(3), &UnderALimit)?;
+    on_fixed::<P, _>(alloc, Some(3), &UnderALimit)
 }
 
 #[test]
@@ -118,9 +146,9 @@ fn each_call_on_pointers_with_byte_generations(rt: HostRuntime) -> Result<(), Fa
 
 #[test]
 fn each_call_over_an_array(rt: HostRuntime) -> Result<(), Fail> {
-    UNDER_A_LIMIT.on(&mut new_arena::<P0, Places<P0, 3>>(rt.alloc()))?;
-    UNDER_A_LIMIT.on(&mut new_arena::<P5, Places<P5, 3>>(rt.alloc()))?;
-    UNDER_A_LIMIT.on(&mut new_arena::<Narrow, Places<Narrow, 3>>(rt.alloc()))?;
+    UnderALimit.on(&mut new_arena::<P0, Places<P0, 3>>(rt.alloc()))?;
+    UnderALimit.on(&mut new_arena::<P5, Places<P5, 3>>(rt.alloc()))?;
+    UnderALimit.on(&mut new_arena::<Narrow, Places<Narrow, 3>>(rt.alloc()))?;
     Ok(())
 }
 
@@ -186,27 +214,37 @@ fn an_index_past_64_bits_has_no_entry(rt: HostRuntime) -> Result<(), Fail> {
 }
 
 // Without generations an old pointer names what stands at its index.
-const SAME_POINTER_AGAIN: Steps<'_> = Steps(&[
-    (Call::Insert(1), Told::At(1, 1)),
-    (Call::Insert(2), Told::At(2, 1)),
-    (Call::Invalidate(1, 1), Told::At(1, 1)),
-    (Call::Remove(1, 1), Told::Holds(1)),
-    (Call::Contains(1, 1), Told::Is(false)),
-    (Call::Remove(1, 1), Told::Invalid),
-    (Call::Insert(3), Told::At(1, 1)),
-    (Call::Get(1, 1), Told::Holds(3)),
-    (Call::Get(2, 1), Told::Holds(2)),
-    (Call::Clear, Told::Done),
-    (Call::Contains(1, 1), Told::Is(false)),
-    (Call::Insert(4), Told::At(1, 1)),
-    (Call::Get(1, 1), Told::Holds(4)),
-]);
+#[derive(Drop)]
+struct SamePointerAgain;
+
+impl Trial for SamePointerAgain {
+    fn on<A: TestedArena>(&self, arena: &mut A) -> Result<(), Wrong> {
+        follow(
+            arena,
+            &[
+                (Call::Insert(1), Told::At(1, 1)),
+                (Call::Insert(2), Told::At(2, 1)),
+                (Call::Invalidate(1, 1), Told::At(1, 1)),
+                (Call::Remove(1, 1), Told::Holds(1)),
+                (Call::Contains(1, 1), Told::Is(false)),
+                (Call::Remove(1, 1), Told::Invalid),
+                (Call::Insert(3), Told::At(1, 1)),
+                (Call::Get(1, 1), Told::Holds(3)),
+                (Call::Get(2, 1), Told::Holds(2)),
+                (Call::Clear, Told::Done),
+                (Call::Contains(1, 1), Told::Is(false)),
+                (Call::Insert(4), Told::At(1, 1)),
+                (Call::Get(1, 1), Told::Holds(4)),
+            ],
+        )
+    }
+}
 
 #[test]
 fn without_generations_an_index_is_a_pointer(rt: HostRuntime) -> Result<(), Fail> {
-    on_heap::<P4, _>(rt.alloc(), None, &SAME_POINTER_AGAIN)?;
-    on_heap::<P5, _>(rt.alloc(), None, &SAME_POINTER_AGAIN)?;
-    on_heap::<PtrNoGen<P0>, _>(rt.alloc(), None, &SAME_POINTER_AGAIN)?;
+    on_heap::<P4, _>(rt.alloc(), None, &SamePointerAgain)?;
+    on_heap::<P5, _>(rt.alloc(), None, &SamePointerAgain)?;
+    on_heap::<PtrNoGen<P0>, _>(rt.alloc(), None, &SamePointerAgain)?;
     Ok(())
 }
 

@@ -5,26 +5,36 @@ use std::test::Fail;
 use triple_arena_base::ReallocationError;
 use triple_arena_ptr::{P0, P5};
 use triple_arena_test_kit::{
-    Call, Steps, TestedArena, Tidied, Told, Trial, Unchanged, Wrong, on_limited, step,
-    where_there_is_memory,
+    Call, Steps, TestedArena, Told, Trial, Wrong, follow, follow_tidied, follow_unchanged,
+    on_limited, step, where_there_is_memory,
 };
 
 const BEYOND: Told = Told::Refused(ReallocationError::BeyondMaxCapacity);
 
 // Five entries, and the first and then the third of them removed.
-const TWO_FREE: Steps<'_> = Steps(&[
-    (Call::Insert(1), Told::At(1, 2)),
-    (Call::Insert(2), Told::At(2, 2)),
-    (Call::Insert(3), Told::At(3, 2)),
-    (Call::Insert(4), Told::At(4, 2)),
-    (Call::Insert(5), Told::At(5, 2)),
-    (Call::Remove(1, 2), Told::Holds(1)),
-    (Call::Remove(3, 2), Told::Holds(3)),
-]);
+#[derive(Drop)]
+struct TwoFree;
 
-// What is tried with these entries under a limit and with a capacity of 8.
-fn with_two_free<T: Trial + Drop>(alloc: Global, trial: T) -> Result<(), Wrong> {
-    on_limited::<P0, _>(alloc, Some(8), &(TWO_FREE, trial))
+impl Trial for TwoFree {
+    fn on<A: TestedArena>(&self, arena: &mut A) -> Result<(), Wrong> {
+        follow(
+            arena,
+            &[
+                (Call::Insert(1), Told::At(1, 2)),
+                (Call::Insert(2), Told::At(2, 2)),
+                (Call::Insert(3), Told::At(3, 2)),
+                (Call::Insert(4), Told::At(4, 2)),
+                (Call::Insert(5), Told::At(5, 2)),
+                (Call::Remove(1, 2), Told::Holds(1)),
+                (Call::Remove(3, 2), Told::Holds(3)),
+            ],
+        )
+    }
+}
+
+// The calls with these entries under a limit and with a capacity of 8.
+fn with_two_free(alloc: Global, steps: &[(Call, Told)]) -> Result<(), Wrong> {
+    on_limited::<P0, _>(alloc, Some(8), &(TwoFree, Steps(steps)))
 }
 
 #[test]
@@ -49,41 +59,74 @@ fn a_limit_below_the_last_entry_is_refused(rt: HostRuntime) -> Result<(), Fail> 
     Ok(())
 }
 
+// A limit that is refused, which puts the free list in order.
+#[derive(Drop)]
+struct RefusedLimit;
+
+impl Trial for RefusedLimit {
+    fn on<A: TestedArena>(&self, arena: &mut A) -> Result<(), Wrong> {
+        follow(
+            arena,
+            &[
+                (Call::Bounds, Told::Bounds(3, 8, Some(8))),
+                (Call::Generation, Told::Generation(4)),
+                (Call::FirstFree, Told::Free([3, 1, 0])),
+            ],
+        )?;
+        follow_tidied(
+            arena,
+            &[
+                (Call::SetLimit(4), Told::LimitRefused),
+                (Call::FirstFree, Told::Free([1, 3, 0])),
+            ],
+        )
+    }
+}
+
 #[test]
 fn a_refused_limit_has_put_the_free_list_in_order(rt: HostRuntime) -> Result<(), Fail> {
-    let before = Steps(&[
-        (Call::Bounds, Told::Bounds(3, 8, Some(8))),
-        (Call::Generation, Told::Generation(4)),
-        (Call::FirstFree, Told::Free([3, 1, 0])),
-    ]);
-    let refused = Tidied(&[
-        (Call::SetLimit(4), Told::LimitRefused),
-        (Call::FirstFree, Told::Free([1, 3, 0])),
-    ]);
-    with_two_free(rt.alloc(), (before, refused))?;
+    on_limited::<P0, _>(rt.alloc(), Some(8), &(TwoFree, RefusedLimit))?;
     Ok(())
+}
+
+// Refusals under a limit that is below the capacity.
+#[derive(Drop)]
+struct RoomAboveALimit;
+
+impl Trial for RoomAboveALimit {
+    fn on<A: TestedArena>(&self, arena: &mut A) -> Result<(), Wrong> {
+        follow(
+            arena,
+            &[
+                (Call::Insert(1), Told::At(1, 2)),
+                (Call::Insert(2), Told::At(2, 2)),
+                (Call::SetLimit(2), Told::Done),
+            ],
+        )?;
+        follow_unchanged(
+            arena,
+            &[
+                (Call::Insert(3), BEYOND),
+                (Call::InsertReallocating(3), BEYOND),
+                (Call::InsertWithinCapacity(3), Told::Full),
+                (Call::EntryPtr, BEYOND),
+                (Call::Reallocate(3), BEYOND),
+                (Call::SetLimit(1), Told::LimitRefused),
+            ],
+        )?;
+        follow(
+            arena,
+            &[
+                (Call::SetLimit(usize::MAX), Told::Done),
+                (Call::Bounds, Told::Bounds(2, 8, Some(usize::MAX))),
+            ],
+        )
+    }
 }
 
 #[test]
 fn a_refusal_leaves_the_room_above_a_limit(rt: HostRuntime) -> Result<(), Fail> {
-    let two_of_two = Steps(&[
-        (Call::Insert(1), Told::At(1, 2)),
-        (Call::Insert(2), Told::At(2, 2)),
-        (Call::SetLimit(2), Told::Done),
-    ]);
-    let refused = Unchanged(&[
-        (Call::Insert(3), BEYOND),
-        (Call::InsertReallocating(3), BEYOND),
-        (Call::InsertWithinCapacity(3), Told::Full),
-        (Call::EntryPtr, BEYOND),
-        (Call::Reallocate(3), BEYOND),
-        (Call::SetLimit(1), Told::LimitRefused),
-    ]);
-    let room = Steps(&[
-        (Call::SetLimit(usize::MAX), Told::Done),
-        (Call::Bounds, Told::Bounds(2, 8, Some(usize::MAX))),
-    ]);
-    on_limited::<P0, _>(rt.alloc(), Some(8), &(two_of_two, (refused, room)))?;
+    on_limited::<P0, _>(rt.alloc(), Some(8), &RoomAboveALimit)?;
     Ok(())
 }
 
@@ -91,7 +134,7 @@ fn a_refusal_leaves_the_room_above_a_limit(rt: HostRuntime) -> Result<(), Fail> 
 fn a_limit_below_the_capacity_gives_up_the_free_end_slots(rt: HostRuntime) -> Result<(), Fail> {
     with_two_free(
         rt.alloc(),
-        Steps(&[
+        &[
             (Call::Insert(6), Told::At(3, 4)),
             (Call::Remove(4, 2), Told::Holds(4)),
             (Call::Remove(5, 2), Told::Holds(5)),
@@ -102,7 +145,7 @@ fn a_limit_below_the_capacity_gives_up_the_free_end_slots(rt: HostRuntime) -> Re
             (Call::Insert(7), Told::At(1, 6)),
             (Call::Insert(8), BEYOND),
             (Call::Bounds, Told::Bounds(3, 3, Some(3))),
-        ]),
+        ],
     )?;
     Ok(())
 }
@@ -111,7 +154,7 @@ fn a_limit_below_the_capacity_gives_up_the_free_end_slots(rt: HostRuntime) -> Re
 fn a_limit_from_the_capacity_on_leaves_the_free_list(rt: HostRuntime) -> Result<(), Fail> {
     with_two_free(
         rt.alloc(),
-        Steps(&[
+        &[
             (Call::SetLimit(8), Told::Done),
             (Call::Bounds, Told::Bounds(3, 8, Some(8))),
             (Call::Root, Told::Size(3)),
@@ -121,7 +164,7 @@ fn a_limit_from_the_capacity_on_leaves_the_free_list(rt: HostRuntime) -> Result<
             (Call::SetLimit(9), Told::Done),
             (Call::Bounds, Told::Bounds(3, 8, Some(9))),
             (Call::Root, Told::Size(3)),
-        ]),
+        ],
     )?;
     Ok(())
 }
@@ -130,7 +173,7 @@ fn a_limit_from_the_capacity_on_leaves_the_free_list(rt: HostRuntime) -> Result<
 fn a_limit_that_is_set_back_gives_the_old_capacity(rt: HostRuntime) -> Result<(), Fail> {
     with_two_free(
         rt.alloc(),
-        Steps(&[
+        &[
             (Call::SetLimit(5), Told::Done),
             (Call::Bounds, Told::Bounds(3, 5, Some(5))),
             (Call::SetLimit(8), Told::Done),
@@ -143,7 +186,7 @@ fn a_limit_that_is_set_back_gives_the_old_capacity(rt: HostRuntime) -> Result<()
             (Call::Bounds, Told::Bounds(3, 8, Some(100))),
             (Call::SetLimit(8), Told::Done),
             (Call::Bounds, Told::Bounds(3, 8, Some(8))),
-        ]),
+        ],
     )?;
     Ok(())
 }

@@ -6,8 +6,8 @@ use std::test::Fail;
 use triple_arena_base::{AllocError, ReallocationError};
 use triple_arena_ptr::{P0, P4, Ptr};
 use triple_arena_test_kit::{
-    Call, Little, Narrow, Numbered, Steps, TestedArena, Tidied, Told, Trial, Unchanged, Wrong,
-    capacity_made, on_little, step,
+    Call, Little, Narrow, Numbered, TestedArena, Told, Trial, Unchanged, Wrong, capacity_made,
+    follow, follow_tidied, on_little, step,
 };
 
 const NO_MEMORY: Told = Told::Refused(ReallocationError::AllocError);
@@ -82,22 +82,37 @@ fn a_constructor_past_the_memory(rt: HostRuntime) {
     assert_eq!(rt; enough, Ok(4));
 }
 
+// Removals from eight entries, and reallocations that are refused.
+#[derive(Drop)]
+struct RefusedReallocations;
+
+impl Trial for RefusedReallocations {
+    fn on<A: TestedArena>(&self, arena: &mut A) -> Result<(), Wrong> {
+        Grown { places: 8 }.on(arena)?;
+        follow(
+            arena,
+            &[
+                (Call::RemoveInx(2), Told::Held(3, 1)),
+                (Call::RemoveInx(5), Told::Held(4, 4)),
+                (Call::RemoveInx(4), Told::Held(3, 3)),
+                (Call::RemoveInx(8), Told::Held(5, 7)),
+                (Call::RemoveInx(7), Told::Held(4, 6)),
+            ],
+        )?;
+        follow_tidied(
+            arena,
+            &[
+                (Call::Reallocate(9), NO_MEMORY),
+                (Call::Reallocate(16), NO_MEMORY),
+                (Call::Reallocate(1 << 61), NO_MEMORY),
+                (Call::Reallocate(usize::MAX), NO_MEMORY),
+            ],
+        )
+    }
+}
+
 #[test]
 fn a_reallocation_past_the_memory_puts_the_free_list_in_order(rt: HostRuntime) -> Result<(), Fail> {
-    let removals = Steps(&[
-        (Call::RemoveInx(2), Told::Held(3, 1)),
-        (Call::RemoveInx(5), Told::Held(4, 4)),
-        (Call::RemoveInx(4), Told::Held(3, 3)),
-        (Call::RemoveInx(8), Told::Held(5, 7)),
-        (Call::RemoveInx(7), Told::Held(4, 6)),
-    ]);
-    let refused = Tidied(&[
-        (Call::Reallocate(9), NO_MEMORY),
-        (Call::Reallocate(16), NO_MEMORY),
-        (Call::Reallocate(1 << 61), NO_MEMORY),
-        (Call::Reallocate(usize::MAX), NO_MEMORY),
-    ]);
-    let trial = (Grown { places: 8 }, (removals, refused));
-    on_little::<P0, 8, _>(rt.alloc(), None, &trial)?;
+    on_little::<P0, 8, _>(rt.alloc(), None, &RefusedReallocations)?;
     Ok(())
 }

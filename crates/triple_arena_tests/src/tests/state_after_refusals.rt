@@ -7,9 +7,9 @@ use triple_arena_base::{AllocError, ReallocationError};
 use triple_arena_ptr::P0;
 use triple_arena_stack::NonZeroInxGenericStack;
 use triple_arena_test_kit::{
-    Call, Fixed, Heap, Limited, Places, State, Steps, TestedArena, Tidied, Told, Trial, Unchanged,
-    Wrong, capacity_made, has_state, is_told, new_arena, on_fixed, on_heap, on_limited, step,
-    where_there_is_memory,
+    Call, Fixed, Heap, Limited, Places, State, Steps, TestedArena, Told, Trial, Unchanged, Wrong,
+    capacity_made, follow, follow_tidied, has_state, is_told, new_arena, on_fixed, on_heap,
+    on_limited, step, where_there_is_memory,
 };
 
 // More slots than a vector may hold.
@@ -34,56 +34,58 @@ fn a_constructor_tells_of_no_memory(rt: HostRuntime) {
     assert_eq!(rt; array, Err(AllocError));
 }
 
-// Insertions and removals before, between and behind two reallocations of an arena that is allowed
-// any number of slots.
-const BEFORE: Steps<'_> = Steps(&[
-    (Call::Insert(1), Told::At(1, 2)),
-    (Call::Insert(2), Told::At(2, 2)),
-    (Call::Insert(3), Told::At(3, 2)),
-    (Call::Insert(4), Told::At(4, 2)),
-    (Call::Insert(5), Told::At(5, 2)),
-    (Call::Insert(6), Told::At(6, 2)),
-    (Call::RemoveInx(1), Told::Held(2, 1)),
-    (Call::RemoveInx(3), Told::Held(2, 3)),
-    (Call::RemoveInx(5), Told::Held(2, 5)),
-    (Call::RemoveInx(6), Told::Held(2, 6)),
-    (Call::Slots, Told::Size(5)),
-    (Call::Root, Told::Size(5)),
-]);
-
-const BETWEEN: Steps<'_> = Steps(&[
-    (Call::Insert(7), Told::At(1, 6)),
-    (Call::Insert(8), Told::At(3, 6)),
-    (Call::Insert(9), Told::At(5, 6)),
-    (Call::Insert(10), Told::At(6, 6)),
-    (Call::RemoveInx(1), Told::Held(6, 7)),
-    (Call::RemoveInx(3), Told::Held(6, 8)),
-    (Call::RemoveInx(5), Told::Held(6, 9)),
-    (Call::RemoveInx(6), Told::Held(6, 10)),
-    (Call::Slots, Told::Size(5)),
-    (Call::Root, Told::Size(5)),
-]);
-
-const BEHIND: Steps<'_> = Steps(&[
-    (Call::Insert(7), Told::At(1, 10)),
-    (Call::Insert(8), Told::At(3, 10)),
-    (Call::Insert(9), Told::At(5, 10)),
-    (Call::Insert(10), Told::At(6, 10)),
-    (Call::Get(2, 2), Told::Holds(2)),
-    (Call::Get(4, 2), Told::Holds(4)),
-]);
-
-// The two reallocations, each of which is refused, and puts the free list in order.
+// Two reallocations of an arena that is allowed any number of slots. Each is refused, and puts the
+// free list in order.
 #[derive(Drop)]
 struct RefusedTwice;
 
 impl Trial for RefusedTwice {
     fn on<A: TestedArena>(&self, arena: &mut A) -> Result<(), Wrong> {
-        BEFORE.on(arena)?;
-        Tidied(&[(Call::Reallocate(TOO_MANY), NO_MEMORY)]).on(arena)?;
-        BETWEEN.on(arena)?;
-        Tidied(&[(Call::Reallocate(usize::MAX), NO_MEMORY)]).on(arena)?;
-        BEHIND.on(arena)
+        follow(
+            arena,
+            &[
+                (Call::Insert(1), Told::At(1, 2)),
+                (Call::Insert(2), Told::At(2, 2)),
+                (Call::Insert(3), Told::At(3, 2)),
+                (Call::Insert(4), Told::At(4, 2)),
+                (Call::Insert(5), Told::At(5, 2)),
+                (Call::Insert(6), Told::At(6, 2)),
+                (Call::RemoveInx(1), Told::Held(2, 1)),
+                (Call::RemoveInx(3), Told::Held(2, 3)),
+                (Call::RemoveInx(5), Told::Held(2, 5)),
+                (Call::RemoveInx(6), Told::Held(2, 6)),
+                (Call::Slots, Told::Size(5)),
+                (Call::Root, Told::Size(5)),
+            ],
+        )?;
+        follow_tidied(arena, &[(Call::Reallocate(TOO_MANY), NO_MEMORY)])?;
+        follow(
+            arena,
+            &[
+                (Call::Insert(7), Told::At(1, 6)),
+                (Call::Insert(8), Told::At(3, 6)),
+                (Call::Insert(9), Told::At(5, 6)),
+                (Call::Insert(10), Told::At(6, 6)),
+                (Call::RemoveInx(1), Told::Held(6, 7)),
+                (Call::RemoveInx(3), Told::Held(6, 8)),
+                (Call::RemoveInx(5), Told::Held(6, 9)),
+                (Call::RemoveInx(6), Told::Held(6, 10)),
+                (Call::Slots, Told::Size(5)),
+                (Call::Root, Told::Size(5)),
+            ],
+        )?;
+        follow_tidied(arena, &[(Call::Reallocate(usize::MAX), NO_MEMORY)])?;
+        follow(
+            arena,
+            &[
+                (Call::Insert(7), Told::At(1, 10)),
+                (Call::Insert(8), Told::At(3, 10)),
+                (Call::Insert(9), Told::At(5, 10)),
+                (Call::Insert(10), Told::At(6, 10)),
+                (Call::Get(2, 2), Told::Holds(2)),
+                (Call::Get(4, 2), Told::Holds(4)),
+            ],
+        )
     }
 }
 
@@ -143,16 +145,26 @@ fn a_refused_growth_changes_nothing(rt: HostRuntime) {
 }
 
 // Removals and an insertion, which leave the second slot free, and a later generation at the fourth.
-const ENDED: Steps<'_> = Steps(&[
-    (Call::Insert(1), Told::At(1, 2)),
-    (Call::Insert(2), Told::At(2, 2)),
-    (Call::Insert(3), Told::At(3, 2)),
-    (Call::Insert(4), Told::At(4, 2)),
-    (Call::Insert(5), Told::At(5, 2)),
-    (Call::Remove(2, 2), Told::Holds(2)),
-    (Call::Remove(4, 2), Told::Holds(4)),
-    (Call::Insert(6), Told::At(4, 4)),
-]);
+#[derive(Drop)]
+struct Ended;
+
+impl Trial for Ended {
+    fn on<A: TestedArena>(&self, arena: &mut A) -> Result<(), Wrong> {
+        follow(
+            arena,
+            &[
+                (Call::Insert(1), Told::At(1, 2)),
+                (Call::Insert(2), Told::At(2, 2)),
+                (Call::Insert(3), Told::At(3, 2)),
+                (Call::Insert(4), Told::At(4, 2)),
+                (Call::Insert(5), Told::At(5, 2)),
+                (Call::Remove(2, 2), Told::Holds(2)),
+                (Call::Remove(4, 2), Told::Holds(4)),
+                (Call::Insert(6), Told::At(4, 4)),
+            ],
+        )
+    }
+}
 
 // The calls by pointers and by indexes that have no entry.
 #[derive(Drop)]
@@ -183,7 +195,7 @@ impl Trial for NothingIsNamed {
 
 #[test]
 fn a_call_on_an_invalid_pointer_changes_nothing(rt: HostRuntime) -> Result<(), Fail> {
-    on_heap::<P0, _>(rt.alloc(), None, &(ENDED, NothingIsNamed))?;
+    on_heap::<P0, _>(rt.alloc(), None, &(Ended, NothingIsNamed))?;
     Ok(())
 }
 

@@ -190,44 +190,50 @@ type InArray<'a> = Over<'a, NonZeroInxArray<Slot<'a>, 3>>;
 
 type InLittle<'a> = Over<'a, Scarce<Slot<'a>, 3>>;
 
+// Each drop on an arena of a kind.
+fn each_on<'a, A: ArenaInsertTrait<P0, Counted<'a>> + Drop>(
+    rt: &impl Abort,
+    alloc: Global,
+    drops: &'a Cell<u64>,
+) {
+    let arena: A = with_three_places(rt, alloc);
+    each_drop(rt, arena, drops);
+}
+
+// The same on an arena of a kind that has no way to grow, and each value that is refused.
+fn each_on_limited<'a, A: ArenaInsertTrait<P0, Counted<'a>> + Drop>(
+    rt: &impl Abort,
+    alloc: Global,
+    drops: &'a Cell<u64>,
+) {
+    each_on::<A>(rt, alloc, drops);
+    drops.set(0);
+    let arena: A = with_three_places(rt, alloc);
+    each_refused_drop(rt, arena, drops);
+}
+
 #[test]
 fn a_value_on_the_heap_is_dropped_once(rt: HostRuntime) {
     let drops = Cell::new(0);
-    each_drop(
-        &rt,
-        with_three_places::<OnHeap<'_>>(&rt, rt.alloc()),
-        &drops,
-    );
+    each_on::<OnHeap<'_>>(&rt, rt.alloc(), &drops);
 }
 
 #[test]
 fn a_value_under_a_limit_is_dropped_once(rt: HostRuntime) {
     let drops = Cell::new(0);
-    each_drop(
-        &rt,
-        with_three_places::<OnLimited<'_>>(&rt, rt.alloc()),
-        &drops,
-    );
+    each_on_limited::<OnLimited<'_>>(&rt, rt.alloc(), &drops);
 }
 
 #[test]
 fn a_value_in_fixed_room_is_dropped_once(rt: HostRuntime) {
     let drops = Cell::new(0);
-    each_drop(
-        &rt,
-        with_three_places::<OnFixed<'_>>(&rt, rt.alloc()),
-        &drops,
-    );
+    each_on_limited::<OnFixed<'_>>(&rt, rt.alloc(), &drops);
 }
 
 #[test]
 fn a_value_in_an_array_is_dropped_once(rt: HostRuntime) {
     let drops = Cell::new(0);
-    each_drop(
-        &rt,
-        with_three_places::<InArray<'_>>(&rt, rt.alloc()),
-        &drops,
-    );
+    each_on_limited::<InArray<'_>>(&rt, rt.alloc(), &drops);
 }
 
 // Whether an arena takes any limit.
@@ -241,36 +247,6 @@ fn a_value_that_memory_refuses_is_dropped_once(rt: HostRuntime) {
     let mut scarce: InLittle<'_> = with_three_places(&rt, rt.alloc());
     assert!(rt; is_unlimited(&mut scarce));
     each_refused_drop(&rt, scarce, &drops);
-}
-
-#[test]
-fn a_value_that_a_limit_refuses_is_dropped_once(rt: HostRuntime) {
-    let drops = Cell::new(0);
-    each_refused_drop(
-        &rt,
-        with_three_places::<OnLimited<'_>>(&rt, rt.alloc()),
-        &drops,
-    );
-}
-
-#[test]
-fn a_value_that_fixed_room_refuses_is_dropped_once(rt: HostRuntime) {
-    let drops = Cell::new(0);
-    each_refused_drop(
-        &rt,
-        with_three_places::<OnFixed<'_>>(&rt, rt.alloc()),
-        &drops,
-    );
-}
-
-#[test]
-fn a_value_that_an_array_refuses_is_dropped_once(rt: HostRuntime) {
-    let drops = Cell::new(0);
-    each_refused_drop(
-        &rt,
-        with_three_places::<InArray<'_>>(&rt, rt.alloc()),
-        &drops,
-    );
 }
 
 // The pointer of an entry that is let go.

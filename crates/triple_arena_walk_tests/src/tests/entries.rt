@@ -120,48 +120,68 @@ const BEYOND: Told = Told::Refused(ReallocationError::BeyondMaxCapacity);
 const FULL: (Call, Told) = (Call::Bounds, Told::Bounds(2, 2, Some(2)));
 
 // The calls on the entries of an arena that has two places, no entry and a limit of two.
-const EACH_ENTRY_CALL: Steps<'_> = Steps(&[
-    (Call::EntryPtrWithin, Told::At(1, 2)),
-    (Call::EntryPtrReallocating, Told::At(1, 2)),
-    (Call::EntryPtr, Told::At(1, 2)),
-    (Call::IsEmpty, Told::Is(true)),
-    (Call::EntryWrite(1, 10), Told::Done),
-    (Call::EntryInsert(2), Told::At(2, 2)),
-    (Call::Write(2, 2, 20), Told::Holds(2)),
-    (Call::Get(1, 2), Told::Holds(10)),
-    (Call::Get(2, 2), Told::Holds(20)),
-    FULL,
-    (Call::EntryPtrWithin, Told::Full),
-    (Call::EntryPtrReallocating, BEYOND),
-    (Call::EntryPtr, BEYOND),
-    FULL,
-    (Call::Get(1, 2), Told::Holds(10)),
-    (Call::Get(2, 2), Told::Holds(20)),
-]);
+#[derive(Drop)]
+struct EachEntryCall;
+
+impl Trial for EachEntryCall {
+    fn on<A: TestedArena>(&self, arena: &mut A) -> Result<(), Wrong> {
+        follow(
+            arena,
+            &[
+                (Call::EntryPtrWithin, Told::At(1, 2)),
+                (Call::EntryPtrReallocating, Told::At(1, 2)),
+                (Call::EntryPtr, Told::At(1, 2)),
+                (Call::IsEmpty, Told::Is(true)),
+                (Call::EntryWrite(1, 10), Told::Done),
+                (Call::EntryInsert(2), Told::At(2, 2)),
+                (Call::Write(2, 2, 20), Told::Holds(2)),
+                (Call::Get(1, 2), Told::Holds(10)),
+                (Call::Get(2, 2), Told::Holds(20)),
+                FULL,
+                (Call::EntryPtrWithin, Told::Full),
+                (Call::EntryPtrReallocating, BEYOND),
+                (Call::EntryPtr, BEYOND),
+                FULL,
+                (Call::Get(1, 2), Told::Holds(10)),
+                (Call::Get(2, 2), Told::Holds(20)),
+            ],
+        )
+    }
+}
 
 #[test]
 fn each_entry_call_on_each_stack_with_a_limit(rt: HostRuntime) -> Result<(), Fail> {
-    on_limited::<P0, _>(rt.alloc(), Some(2), &EACH_ENTRY_CALL)?;
-    on_fixed::<P4, _>(rt.alloc(), Some(2), &EACH_ENTRY_CALL)?;
-    EACH_ENTRY_CALL.on(&mut new_arena::<Narrow, Places<Narrow, 2>>(rt.alloc()))?;
+    on_limited::<P0, _>(rt.alloc(), Some(2), &EachEntryCall)?;
+    on_fixed::<P4, _>(rt.alloc(), Some(2), &EachEntryCall)?;
+    EachEntryCall.on(&mut new_arena::<Narrow, Places<Narrow, 2>>(rt.alloc()))?;
     Ok(())
 }
 
 // Insertions by each of the three calls, on an arena with place for three.
-const EACH_ENTRY_INSERTION: Steps<'_> = Steps(&[
-    (Call::EntryInsert(1), Told::At(1, 2)),
-    (Call::EntryInsertReallocating(2), Told::At(2, 2)),
-    (Call::EntryInsertWithin(3), Told::At(3, 2)),
-    (Call::Get(1, 2), Told::Holds(1)),
-    (Call::Get(2, 2), Told::Holds(2)),
-    (Call::Get(3, 2), Told::Holds(3)),
-]);
+#[derive(Drop)]
+struct EachEntryInsertion;
+
+impl Trial for EachEntryInsertion {
+    fn on<A: TestedArena>(&self, arena: &mut A) -> Result<(), Wrong> {
+        follow(
+            arena,
+            &[
+                (Call::EntryInsert(1), Told::At(1, 2)),
+                (Call::EntryInsertReallocating(2), Told::At(2, 2)),
+                (Call::EntryInsertWithin(3), Told::At(3, 2)),
+                (Call::Get(1, 2), Told::Holds(1)),
+                (Call::Get(2, 2), Told::Holds(2)),
+                (Call::Get(3, 2), Told::Holds(3)),
+            ],
+        )
+    }
+}
 
 #[test]
 fn an_entry_over_each_stack_by_its_name(rt: HostRuntime) -> Result<(), Fail> {
-    on_heap::<P0, _>(rt.alloc(), Some(3), &EACH_ENTRY_INSERTION)?;
-    on_limited::<P0, _>(rt.alloc(), Some(3), &EACH_ENTRY_INSERTION)?;
-    on_fixed::<P0, _>(rt.alloc(), Some(3), &EACH_ENTRY_INSERTION)?;
-    EACH_ENTRY_INSERTION.on(&mut new_arena::<P0, Places<P0, 3>>(rt.alloc()))?;
+    on_heap::<P0, _>(rt.alloc(), Some(3), &EachEntryInsertion)?;
+    on_limited::<P0, _>(rt.alloc(), Some(3), &EachEntryInsertion)?;
+    on_fixed::<P0, _>(rt.alloc(), Some(3), &EachEntryInsertion)?;
+    EachEntryInsertion.on(&mut new_arena::<P0, Places<P0, 3>>(rt.alloc()))?;
     Ok(())
 }

@@ -7,18 +7,28 @@ use std::test::Fail;
 use triple_arena::{Arena, ArenaInsertTrait, ArenaTrait};
 use triple_arena_ptr::{P0, P4, Q2};
 use triple_arena_test_kit::{
-    Call, Heap, Narrow, Places, Steps, TestedArena, Told, Trial, Wrong, has_text, new_arena,
+    Call, Heap, Narrow, Places, TestedArena, Told, Trial, Wrong, follow, has_text, new_arena,
     on_fixed, on_heap, on_limited,
 };
 
 // Three entries, of which the second goes, and the third gets a new pointer.
-const TWO_LEFT: Steps<'_> = Steps(&[
-    (Call::Insert(7), Told::At(1, 2)),
-    (Call::Insert(6), Told::At(2, 2)),
-    (Call::Insert(8), Told::At(3, 2)),
-    (Call::RemoveInx(2), Told::Held(2, 6)),
-    (Call::Invalidate(3, 2), Told::At(3, 4)),
-]);
+#[derive(Drop)]
+struct TwoLeft;
+
+impl Trial for TwoLeft {
+    fn on<A: TestedArena>(&self, arena: &mut A) -> Result<(), Wrong> {
+        follow(
+            arena,
+            &[
+                (Call::Insert(7), Told::At(1, 2)),
+                (Call::Insert(6), Told::At(2, 2)),
+                (Call::Insert(8), Told::At(3, 2)),
+                (Call::RemoveInx(2), Told::Held(2, 6)),
+                (Call::Invalidate(3, 2), Told::At(3, 4)),
+            ],
+        )
+    }
+}
 
 // The text of an arena with place for three and no entry, and its text with two entries.
 #[derive(Drop)]
@@ -30,7 +40,7 @@ struct HasTexts {
 impl Trial for HasTexts {
     fn on<A: TestedArena>(&self, arena: &mut A) -> Result<(), Wrong> {
         has_text(arena, self.alloc, "{}")?;
-        TWO_LEFT.on(arena)?;
+        TwoLeft.on(arena)?;
         has_text(arena, self.alloc, self.expected)
     }
 }
@@ -96,7 +106,7 @@ impl Write for Refusing {
 #[test]
 fn a_writer_that_fails_is_asked_no_more(rt: HostRuntime) -> Result<(), Fail> {
     let mut arena = new_arena::<P0, Heap<P0>>(rt.alloc());
-    TWO_LEFT.on(&mut arena)?;
+    TwoLeft.on(&mut arena)?;
     let mut whole = Refusing {
         pieces_left: 100,
         refusals: 0,

@@ -23,13 +23,32 @@ const FIVE: Option<(usize, u64)> = Some((5, 2));
 const NO_POINTERS: Told = Told::MetPointers([None, None, None]);
 
 // The calls on an arena of so many entries, each of its index, of which some were removed in turn.
-fn after_removals(
+#[derive(Drop)]
+struct AfterRemovals<'a> {
+    entries: usize,
+    removed: &'a [usize],
+    steps: &'a [(Call, Told)],
+}
+
+impl Trial for AfterRemovals<'_> {
+    fn on<A: TestedArena>(&self, arena: &mut A) -> Result<(), Wrong> {
+        let (entries, removed) = (self.entries, self.removed);
+        Removed { entries, removed }.on(arena)?;
+        follow(arena, self.steps)
+    }
+}
+
+fn after_removals<'a>(
     alloc: Global,
     entries: usize,
-    removed: &[usize],
-    steps: &[(Call, Told)],
+    removed: &'a [usize],
+    steps: &'a [(Call, Told)],
 ) -> Result<(), Wrong> {
-    let trial = (Removed { entries, removed }, Steps(steps));
+    let trial = AfterRemovals {
+        entries,
+        removed,
+        steps,
+    };
     on_heap::<P0, _>(alloc, None, &trial)
 }
 

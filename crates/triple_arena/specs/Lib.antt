@@ -21,6 +21,7 @@ pub mod Lent
 pub mod InsertEntry
 pub mod Drains
 pub mod Copying
+pub mod Compression
 pub mod Cloning
 pub mod CloningLaws
 pub mod Disjoint

@@ -1,5 +1,7 @@
 pub mod SessionState
 pub mod SessionLayout
+pub mod NameLayout
+pub mod Compaction
 pub mod SessionRun
 pub mod Runs
 pub mod Lines

@@ -10,7 +10,7 @@ use Rattle.triple_arena_stack.specs.Capacity.{next_capacity}
 use Rattle.triple_arena_ptr.specs.Pointers.{Pointer}
 use Rattle.triple_arena.specs.Items.{item, with_item}
 use Rattle.triple_arena.specs.Entries.{value_under, entry_count, entry_in}
-use Rattle.triple_arena.specs.ArenaState.{ArenaState, arena_len, capacity, look_up, slot_count, with_value, map_entry, map_values}
+use Rattle.triple_arena.specs.ArenaState.{ArenaState, arena_len, capacity, entry, look_up, slot_count, with_value, map_entry, map_values}
 use Rattle.triple_arena.specs.Insertion.{place_among, inserted_among, inserted, next_pointer}
 use Rattle.triple_arena.specs.FreeList.{before, trimmed, gaps, tidied}
 use Rattle.triple_arena.specs.Capacity.{with_room_for, grown, reallocated}

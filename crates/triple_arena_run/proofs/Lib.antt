@@ -1,7 +1,9 @@
 mod FormLaws
 mod Mapped
+mod NameLemmas
 mod Numbers
 mod RunLaws
+mod Shown
 mod Splits
 mod TextLaws
 mod Writes

@@ -1,44 +1,29 @@
 -- What a map of an arena's values, or of a table's pointers, leaves as it is.
-use Rattle.std.proofs.Common.{◌≡◌, ℕ, ◌+◌, ◌-◌, ◌==◌, ◌<◌, ◌≤◌, zero, suc, Bool, true, false, cond, List, [], ◌∷◌, ◌++◌, map, take, length, Option, Some, None, is_some, slice_get, refl, sym, ap, subst, ◌∙◌, inl, inr, true≢false, arith}
-use Rattle.std.proofs.lemmas.Bool.{cases_eq}
+use Rattle.std.proofs.Common.{◌≡◌, ℕ, ◌+◌, ◌-◌, ◌==◌, zero, suc, Bool, true, false, cond, List, [], ◌∷◌, ◌++◌, map, take, length, Option, Some, None, is_some, refl, sym, ap, ◌∙◌}
 use Rattle.std.specs.List.{position, position_or_len}
 use Rattle.std.specs.Option.{option_map, option_and_then}
 use Rattle.std.proofs.lemmas.List.{map-append, length-map, take-map, map-set}
 use Rattle.std.proofs.lemmas.List.Sums.{sum_by-cons}
 use Rattle.std.proofs.lemmas.Option.{slice_get-map}
 use Rattle.triple_arena_stack.specs.StackKind.{StackKind, reallocated_room}
-use Rattle.triple_arena.specs.Items.{item, with_item}
-use Rattle.triple_arena.specs.Entries.{value_under, entry_count}
-use Rattle.triple_arena.specs.ArenaState.{ArenaState, arena_len, capacity, entry, look_up, slot_count, map_entry, map_values}
-use Rattle.triple_arena.specs.Insertion.{place_among, inserted_among, inserted, next_pointer}
-use Rattle.triple_arena.specs.Capacity.{with_room_for, grown}
-use Rattle.triple_arena.specs.Ending.{removed, told_of}
-use Rattle.triple_arena_base.specs.declared.invalidation.InvalidationResult.TheVariants as told
-use Rattle.triple_arena_ptr.specs.Numbers.{raise, wraps}
+use Rattle.triple_arena_stack.specs.Capacity.{next_capacity}
 use Rattle.triple_arena_ptr.specs.Pointers.{Pointer}
-use Rattle.triple_arena_stack.specs.Capacity.{room_for_one_more, next_capacity, CanGrow}
-use Rattle.triple_arena_run.specs.declared.node.Node.{Node}
-use Rattle.triple_arena_run.specs.declared.reply.Reply.{Reply}
-use Rattle.triple_arena_run.specs.declared.reply.Reply.TheVariants.{Removed, Invalid}
-use Rattle.triple_arena_run.specs.SessionState.{SessionState, node_of, link_name}
-use Rattle.triple_arena_run.specs.SessionLayout.{session_of}
-use Rattle.triple_arena_run.specs.SessionRun.{with_name, with_room_for_name, refusal, remove_answer, ArenaWantsMemory}
+use Rattle.triple_arena.specs.Items.{item, with_item}
+use Rattle.triple_arena.specs.Entries.{value_under, entry_count, entry_in}
+use Rattle.triple_arena.specs.ArenaState.{ArenaState, arena_len, capacity, entry, look_up, slot_count, with_value, map_entry, map_values}
+use Rattle.triple_arena.specs.Insertion.{place_among, inserted_among, inserted, next_pointer}
+use Rattle.triple_arena.specs.FreeList.{before, trimmed, gaps, tidied}
+use Rattle.triple_arena.specs.Capacity.{with_room_for, grown, reallocated}
+use Rattle.triple_arena.specs.Ending.{removed, invalidated, cleared}
 
 module _ {A B : Type 0} (f : A → B) where
-  item-map : (xs : List A) (i : ℕ) → item (map f xs) i ≡ option_map f (item xs i)
+  pub item-map : (xs : List A) (i : ℕ) → item (map f xs) i ≡ option_map f (item xs i)
   item-map xs zero = refl
   item-map xs (suc k) = slice_get-map f xs k
 
   map-with_item : (xs : List A) (i : ℕ) (x : A) → map f (with_item xs i x) ≡ with_item (map f xs) i (f x)
   map-with_item xs zero x = refl
   map-with_item xs (suc k) x = map-set f xs k x
-
-  -- the pointer that is read at the place of a name is the one that the table has under the name
-  pub item_read : (xs ys : List A) (n : ℕ) (r : Option A) → r ≡ slice_get ys (n - 1) → ys ≡ xs → 0 < n → option_map f r ≡ item (map f xs) n
-  item_read xs ys zero r read same positive = absurd (omega arith)
-  item_read xs ys (suc k) r read same positive =
-      let e : suc k - 1 ≡ k = omega arith in
-      ap (option_map f) (rw e at read ∙ ap (λ zs. slice_get zs k) same) ∙ sym (slice_get-map f xs k)
 
   module _ (p : B → Bool) (q : A → Bool) (agree : (x : A) → q x ≡ p (f x)) where
     place-mapped : (xs : List A) → position_or_len q xs ≡ position_or_len p (map f xs)
@@ -111,75 +96,43 @@ module _ {T U : Type 0} (f : T → U) where
       by_test true = ap (λ xs. record (map_values f s) { slots = xs; counter = raise s.counter }) (sym (take-map (option_map (map_entry f)) (length s.slots - 1) s.slots))
       by_test false = ap (λ xs. record (map_values f s) { slots = xs; counter = raise s.counter; free = i ∷ s.free }) (map-with_item (option_map (map_entry f)) s.slots i None)
 
--- what an answer tells of the value and of the wrap
-module _ {A : Type 0} where
-  pub told_success : (b : Bool) (o : Option A) (x : A) → told.Success x ≡ told_of b o → (o ≡ Some x) × (b ≡ false)
-  told_success b None x e = absurd (cc)
-  told_success true (Some y) x e = absurd (cc)
-  told_success false (Some y) x e = let same : x ≡ y = cc in (ap Some (sym same), refl)
+  -- a change of the entry at an index
+  entry-changed : (g : ℕ × T → ℕ × T) (h : ℕ × U → ℕ × U) → ((e : ℕ × T) → map_entry f (g e) ≡ h (map_entry f e)) → (xs : List (Option (ℕ × T))) (i : ℕ) → map (option_map (map_entry f)) (with_item xs i (option_map g (entry_in xs i))) ≡ with_item (map (option_map (map_entry f)) xs) i (option_map h (entry_in (map (option_map (map_entry f)) xs) i))
+  entry-changed g h agree xs i =
+      map-with_item (option_map (map_entry f)) xs i (option_map g (entry_in xs i))
+      ∙ ap (with_item (map (option_map (map_entry f)) xs) i) (by_entry (entry_in xs i) ∙ ap (option_map h) (sym (entry-mapped (item xs i)) ∙ ap (option_and_then (λ slot. slot)) (sym (item-map (option_map (map_entry f)) xs i))))
+    where
+      by_entry : (o : Option (ℕ × T)) → option_map (map_entry f) (option_map g o) ≡ option_map h (option_map (map_entry f) o)
+      by_entry None = refl
+      by_entry (Some e) = ap Some (agree e)
 
-  pub told_overflow : (b : Bool) (o : Option A) (x : A) → told.GenerationOverflow x ≡ told_of b o → (o ≡ Some x) × (b ≡ true)
-  told_overflow b None x e = absurd (cc)
-  told_overflow false (Some y) x e = absurd (cc)
-  told_overflow true (Some y) x e = let same : x ≡ y = cc in (ap Some (sym same), refl)
+  pub with_value-mapped : (s : ArenaState T) (i : ℕ) (value : T) → map_values f (with_value s i value) ≡ with_value (map_values f s) i (f value)
+  with_value-mapped s i value = ap (λ xs. record (map_values f s) { slots = xs }) (entry-changed (λ e. (e.0, value)) (λ e. (e.0, f value)) (λ e. refl) s.slots i)
 
-  pub told_invalid : (b : Bool) (o : Option A) → told.InvalidPtr ≡ told_of b o → o ≡ None
-  told_invalid b None e = refl
-  told_invalid true (Some y) e = absurd (cc)
-  told_invalid false (Some y) e = absurd (cc)
+  pub invalidated-mapped : (raise : ℕ → ℕ) (s : ArenaState T) (i : ℕ) → map_values f (invalidated raise s i) ≡ invalidated raise (map_values f s) i
+  invalidated-mapped raise s i = ap (λ xs. record (map_values f s) { slots = xs; counter = raise s.counter }) (entry-changed (λ e. (raise s.counter, e.1)) (λ e. (raise s.counter, e.1)) (λ e. refl) s.slots i)
 
-full_from : (m n : ℕ) → m ≤ n → (m < n → false ≡ true) → m ≡ n
-full_from m n le below =
-    elim (cases_eq m n) [
-      | inl e ↦ e
-      | inr other ↦ absurd (true≢false (sym (below (omega arith))))
-    ]
+  pub cleared-mapped : (raise : ℕ → ℕ) (s : ArenaState T) → map_values f (cleared raise s) ≡ cleared raise (map_values f s)
+  cleared-mapped raise s = rw (len-mapped s) refl
 
--- a session whose fields hold s
-module _ {X P : Type 0} (pointer : P → Pointer) (arena : ArenaState (Node X P)) (table : List P) (room : ℕ) (s : SessionState X) (shows : session_of pointer arena table room ≡ s) (kind : StackKind) (counting : Bool) (greatest : ℕ) where
-  -- an insertion into the arena, and its pointer at the end of the table, give a name
-  pub name_added : (datum : X) (link : Option P) (p : P) (new_arena : ArenaState (Node X P)) (new_table : List P) (new_room : ℕ) → pointer p ≡ next_pointer arena → new_arena ≡ inserted (grown kind arena) (record { datum = datum; link = link }) → new_table ≡ table ++ p ∷ [] → new_room ≡ room_for_one_more room None (length table) → session_of pointer new_arena new_table new_room ≡ with_name kind counting greatest s datum (option_map pointer link)
-  name_added datum link p new_arena new_table new_room given arena_is table_is room_is =
-      let grows : map_values (node_of pointer) new_arena ≡ inserted (grown kind (map_values (node_of pointer) arena)) (datum, option_map pointer link) =
-      ap (map_values (node_of pointer)) arena_is
-      ∙ inserted-mapped (node_of pointer) (grown kind arena) (record { datum = datum; link = link })
-      ∙ ap (λ t. inserted t (datum, option_map pointer link)) (grown-mapped (node_of pointer) kind arena) in
-      rw (grows, table_is, room_is, map-append pointer table (p ∷ []), given, ← next_pointer-mapped (node_of pointer) arena, ← length-map table pointer)
-      (ap (λ t. with_name kind counting greatest t datum (option_map pointer link)) shows)
+  before-mapped : (x : Option (ℕ × T)) (rest : List (Option (ℕ × T))) → before (option_map (map_entry f) x) (map (option_map (map_entry f)) rest) ≡ map (option_map (map_entry f)) (before x rest)
+  before-mapped (Some e) rest = refl
+  before-mapped None [] = refl
+  before-mapped None (x ∷ rest) = refl
 
-  -- an arena is full where the session's is
-  pub refusal-shown : refusal arena ≡ refusal s.arena
-  refusal-shown = rw (← shows, len-mapped (node_of pointer) arena) refl
+  trimmed-mapped : (xs : List (Option (ℕ × T))) → map (option_map (map_entry f)) (trimmed xs) ≡ trimmed (map (option_map (map_entry f)) xs)
+  trimmed-mapped [] = refl
+  trimmed-mapped (x ∷ xs) = sym (before-mapped x (trimmed xs)) ∙ ap (before (option_map (map_entry f) x)) (trimmed-mapped xs)
 
-  pub len-shown : arena_len arena ≡ arena_len s.arena
-  len-shown = rw (← shows, len-mapped (node_of pointer) arena) refl
+  gaps-mapped : (at : ℕ) (xs : List (Option (ℕ × T))) → gaps at xs ≡ gaps at (map (option_map (map_entry f)) xs)
+  gaps-mapped at [] = refl
+  gaps-mapped at (None ∷ xs) = ap (λ l. at ∷ l) (gaps-mapped (at + 1) xs)
+  gaps-mapped at (Some e ∷ xs) = gaps-mapped (at + 1) xs
 
-  pub capacity-shown : capacity arena ≡ capacity s.arena
-  capacity-shown = rw (← shows) refl
+  pub tidied-mapped : (s : ArenaState T) → map_values f (tidied s) ≡ tidied (map_values f s)
+  tidied-mapped s = rw (← trimmed-mapped s.slots, ← gaps-mapped 1 (trimmed s.slots)) refl
 
-  -- an arena that refused for want of memory was full and could not grow, and the table had grown
-  pub arena_wants : (has_memory : ℕ → Type 0) (last : ℕ) → s.arena.greatest ≡ last → (CanGrow has_memory (capacity arena) arena.limit last → false ≡ true) → arena_len s.arena ≤ capacity s.arena → (arena_len arena < capacity arena → false ≡ true) → (new_arena : ArenaState (Node X P)) (new_table : List P) (new_room : ℕ) → new_arena ≡ arena → new_table ≡ table → new_room ≡ room_for_one_more room None (length table) → ArenaWantsMemory has_memory s (session_of pointer new_arena new_table new_room)
-  arena_wants has_memory last at_last given fits below new_arena new_table new_room arena_is table_is room_is = (
-    full_from (arena_len s.arena) (capacity s.arena) fits (λ lt. below (rw (len-shown, capacity-shown) lt)),
-    (λ can. true≢false (sym (given (subst (λ n. CanGrow has_memory (capacity arena) arena.limit n) (rw (← shows) at at_last) (subst (λ t. CanGrow has_memory (capacity t.arena) t.arena.limit t.arena.greatest) (sym shows) can))))),
-    rw (arena_is, table_is, room_is, ← length-map table pointer) (ap with_room_for_name shows),
-  )
-
-  module _ (name : ℕ) (p : P) (has : item s.table name ≡ Some (pointer p)) (new_arena : ArenaState (Node X P)) where
-    -- a removal from the arena answers as the session does
-    pub row_removed : (node : Node X P) (wrapped : Bool) → look_up arena (pointer p) ≡ Some node → wraps counting greatest arena.counter ≡ wrapped → new_arena ≡ removed (raise counting greatest) arena (pointer p).0 → ◌≡◌ {A = Reply X × SessionState X} (Removed node.datum (link_name (map pointer table) (option_map pointer node.link)) wrapped, session_of pointer new_arena table room) (remove_answer kind counting greatest s (item s.table name))
-    row_removed node wrapped live wrapped_is arena_is =
-        rw has (
-        subst (λ t. ◌≡◌ {A = Reply X × SessionState X} (Removed node.datum (link_name (map pointer table) (option_map pointer node.link)) wrapped, session_of pointer new_arena table room) (remove_answer kind counting greatest t (Some (pointer p)))) shows (
-        rw (look_up-mapped (node_of pointer) arena (pointer p), live, ← wrapped_is, arena_is, removed-mapped (node_of pointer) (raise counting greatest) arena (pointer p).0) refl
-        )
-        )
-
-    -- where there is nothing to remove, the session answers so
-    pub row_not_removed : look_up arena (pointer p) ≡ None → new_arena ≡ arena → ◌≡◌ {A = Reply X × SessionState X} (Invalid, session_of pointer new_arena table room) (remove_answer kind counting greatest s (item s.table name))
-    row_not_removed ended arena_is =
-        rw has (
-        subst (λ t. ◌≡◌ {A = Reply X × SessionState X} (Invalid, session_of pointer new_arena table room) (remove_answer kind counting greatest t (Some (pointer p)))) shows (
-        rw (look_up-mapped (node_of pointer) arena (pointer p), ended, arena_is) refl
-        )
-        )
+  pub reallocated-mapped : (kind : StackKind) (s : ArenaState T) (m : ℕ) → map_values f (reallocated kind s m) ≡ reallocated kind (map_values f s) m
+  reallocated-mapped kind s m =
+      ap (λ n. record (map_values f (tidied s)) { room = reallocated_room kind s.room n m }) (sym (length-map (trimmed s.slots) (option_map (map_entry f))))
+      ∙ ap (λ t. with_room_for kind t m) (tidied-mapped s)

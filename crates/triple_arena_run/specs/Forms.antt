@@ -3,7 +3,7 @@ use Rattle.std.specs.Prelude.{◌≡◌, ℕ, ◌^◌, ◌<◌, ◌↔◌, List,
 use Rattle.std.specs.List.{join_with_byte}
 use Rattle.std.specs.Str.Parse.{IsNumeral, digits_value}
 use Rattle.triple_arena_run.specs.declared.command.Command.{Command}
-use Rattle.triple_arena_run.specs.declared.command.Command.TheVariants.{Insert, Get, Remove}
+use Rattle.triple_arena_run.specs.declared.command.Command.TheVariants.{Insert, InsertWithin, Get, Set, Remove, Invalidate, Clear, Len, Capacity, Reserve, Show}
 use Rattle.triple_arena_run.specs.Lines.{lines_of}
 use Rattle.triple_arena_run.specs.CommandText.{command_of}
 
@@ -16,11 +16,27 @@ abbrev pub WritesLink : List ℕ → Option ℕ → Type 0
 WritesLink word None = word ≡ codes "-"
 WritesLink word (Some name) = WritesNumber word name
 
+-- a verb and a number.
+abbrev pub IsNumbered : List ℕ → List ℕ → ℕ → Type 0
+IsNumbered line verb number = (n : List ℕ) × (line ≡ verb ++ codes " " ++ n) × WritesNumber n number
+
+-- a verb, a datum and a link.
+abbrev pub IsLinked : List ℕ → List ℕ → ℕ → Option ℕ → Type 0
+IsLinked line verb datum link = (n l : List ℕ) × (line ≡ verb ++ codes " " ++ n ++ codes " " ++ l) × WritesNumber n datum × WritesLink l link
+
 -- a line has the form of a command.
 abbrev pub HasForm : List ℕ → Command ℕ → Type 0
-HasForm line (Insert datum link) = (n l : List ℕ) × (line ≡ codes "insert " ++ n ++ codes " " ++ l) × WritesNumber n datum × WritesLink l link
-HasForm line (Get name) = (n : List ℕ) × (line ≡ codes "get " ++ n) × WritesNumber n name
-HasForm line (Remove name) = (n : List ℕ) × (line ≡ codes "remove " ++ n) × WritesNumber n name
+HasForm line (Insert datum link) = IsLinked line (codes "insert") datum link
+HasForm line (InsertWithin datum link) = IsLinked line (codes "within") datum link
+HasForm line (Get name) = IsNumbered line (codes "get") name
+HasForm line (Set name datum link) = (k : List ℕ) × IsLinked line (codes "set " ++ k) datum link × WritesNumber k name
+HasForm line (Remove name) = IsNumbered line (codes "remove") name
+HasForm line (Invalidate name) = IsNumbered line (codes "invalidate") name
+HasForm line Clear = line ≡ codes "clear"
+HasForm line Len = line ≡ codes "len"
+HasForm line Capacity = line ≡ codes "capacity"
+HasForm line (Reserve number) = IsNumbered line (codes "reserve") number
+HasForm line Show = line ≡ codes "show"
 
 -- a line stands for just the command whose form it has.
 abbrev pub FormsAreExact : Type 0

@@ -1,5 +1,6 @@
 pub mod SessionState
 pub mod SessionLayout
+pub mod NameLayout
 pub mod SessionRun
 pub mod Runs
 pub mod Lines

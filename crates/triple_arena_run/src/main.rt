@@ -6,6 +6,7 @@ pub mod input;
 pub mod kind_run;
 pub mod laws;
 pub mod lines;
+mod name_table;
 pub mod node;
 pub mod output;
 pub mod program;

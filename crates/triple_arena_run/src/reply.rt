@@ -6,11 +6,14 @@ ghost use Rattle.triple_arena_run.specs.ReplyText.{tells_of_wrap, reply_text, li
 use std::fmt;
 
 /// The reply to one command. A `bool` tells whether the counter of generations wrapped.
-#[derive(Clone, Copy, Debug, PartialEq, Eq)]
+#[derive(Debug, PartialEq, Eq, Drop)]
 pub enum Reply<X> {
     /// A new name.
     Given(usize, bool),
-    /// The arena's limit is reached, and nothing has changed.
+    /// As many entries as the capacity are there, and nothing has changed.
+    Full,
+    /// The arena's limit is reached or would be passed, and nothing has changed, but that a
+    /// reservation has put the free list in order.
     BeyondMaxCapacity,
     /// There was no memory, or no index; entries, names, counter and capacity are as they were.
     NoMemory,
@@ -18,12 +21,20 @@ pub enum Reply<X> {
     Found(X, Option<usize>),
     /// The name to look up was never given, or has ended.
     Nothing,
+    /// What was asked for stands.
+    Done,
     /// The datum and the link that were taken away, and their name has ended.
     Removed(X, Option<usize>, bool),
     /// The name to act on was never given, or has ended, and nothing has changed.
     Invalid,
+    /// No entry is left, and every name has ended.
+    Cleared(bool),
     /// The link's name was never given, and nothing has changed.
     BadName,
+    /// So many.
+    Count(usize),
+    /// The arena as text.
+    Line(String),
 }
 
 impl<X> Reply<X> {
@@ -34,6 +45,7 @@ impl<X> Reply<X> {
         match self {
             Reply::Given(_, wrapped) => *wrapped,
             Reply::Removed(_, _, wrapped) => *wrapped,
+            Reply::Cleared(wrapped) => *wrapped,
             _ => false,
         }
     }
@@ -50,6 +62,7 @@ impl fmt::Display for Reply<u64> {
                 let wrapped = Wrapped(*wrapped);
                 write!(f, "given {name}{wrapped}")
             }
+            Reply::Full => f.write_str("full"),
             Reply::BeyondMaxCapacity => f.write_str("beyond max capacity"),
             Reply::NoMemory => f.write_str("no memory"),
             Reply::Found(datum, link) => {
@@ -57,13 +70,20 @@ impl fmt::Display for Reply<u64> {
                 write!(f, "found {datum} {link}")
             }
             Reply::Nothing => f.write_str("nothing"),
+            Reply::Done => f.write_str("done"),
             Reply::Removed(datum, link, wrapped) => {
                 let link = Link(*link);
                 let wrapped = Wrapped(*wrapped);
                 write!(f, "removed {datum} {link}{wrapped}")
             }
             Reply::Invalid => f.write_str("invalid"),
+            Reply::Cleared(wrapped) => {
+                let wrapped = Wrapped(*wrapped);
+                write!(f, "cleared{wrapped}")
+            }
             Reply::BadName => f.write_str("bad name"),
+            Reply::Count(number) => write!(f, "count {number}"),
+            Reply::Line(text) => f.write_str(text.as_str()),
         }
     }
 }

@@ -1,11 +1,8 @@
 //! Sessions: commands that speak of entries by name.
 
-ghost use Rattle.std.specs.Prelude.{◌≡◌, ◌+◌, ◌-◌, ◌<◌, ◌≤◌, ◌++◌, ◌∷◌, [], length, map, slice_get, IfSome, IfOk, OnOk, OnErr, IsOk, None, true};
-ghost use Rattle.std.specs.List.{position};
+ghost use Rattle.std.specs.Prelude.{◌≡◌, ◌≤◌, ◌==◌, IfOk, OnOk, OnErr, IsOk, true};
 ghost use Rattle.std.specs.Option.{option_map};
 ghost use Rattle.triple_arena_ptr.specs.Numbers.{greatest_index, first_generation};
-ghost use Rattle.triple_arena_ptr.specs.Pointers.{is_same};
-ghost use Rattle.triple_arena_stack.specs.Capacity.{room_for_one_more};
 ghost use Rattle.triple_arena_stack.specs.StackKind.{new_room, new_limit, made_room, made_limit, CanHold, TakesNoMemory};
 ghost use Rattle.triple_arena.specs.Items.{item};
 ghost use Rattle.triple_arena.specs.ArenaState.{ArenaState, new_arena, arena_len, capacity, map_values};
@@ -14,12 +11,14 @@ ghost use Rattle.triple_arena_run.specs.SessionState.{SessionState, node_of, new
 ghost use Rattle.triple_arena_run.specs.SessionRun.{IsStep, refusal};
 
 use crate::command::Command;
+use crate::name_table::NameTable;
 use crate::node::Node;
 use crate::reply::Reply;
 use std::alloc::Global;
+use std::fmt::Debug;
 use std::marker::Model;
 use triple_arena::{Arena, ArenaInsertTrait, ArenaSlot, ArenaTrait};
-use triple_arena_base::{AllocError, InvalidationResult, ReallocationError};
+use triple_arena_base::{AllocError, ReallocationError};
 use triple_arena_ptr::{Ptr, PtrGen, PtrInx};
 use triple_arena_stack::{NonZeroInxGenericStack, NonZeroInxVec};
 
@@ -32,8 +31,8 @@ pub struct Session<
     S: NonZeroInxGenericStack<ArenaSlot<P, Node<X, P>>> = NonZeroInxVec<ArenaSlot<P, Node<X, P>>>,
 > {
     arena: Arena<P, Node<X, P>, S>,
-    table: NonZeroInxVec<P>,
-    // For the replies of a run.
+    table: NameTable<P>,
+    // For the replies of a run, and for texts.
     alloc: Global,
 }
 
@@ -57,7 +56,7 @@ impl<P: Ptr, X: Copy, S: NonZeroInxGenericStack<ArenaSlot<P, Node<X, P>>>> Sessi
     {
         Session {
             arena: Arena::new(alloc),
-            table: NonZeroInxVec::new(alloc),
+            table: NameTable::new(alloc),
             alloc,
         }
     }
@@ -81,7 +80,7 @@ impl<P: Ptr, X: Copy, S: NonZeroInxGenericStack<ArenaSlot<P, Node<X, P>>>> Sessi
         match Arena::with_min_capacity(alloc, min_capacity) {
             Ok(arena) => Ok(Session {
                 arena,
-                table: NonZeroInxVec::new(alloc),
+                table: NameTable::new(alloc),
                 alloc,
             }),
             Err(refusal) => Err(refusal),
@@ -95,21 +94,41 @@ impl<P: Ptr, X: Copy, S: NonZeroInxGenericStack<ArenaSlot<P, Node<X, P>>>> Sessi
         &self.arena
     }
 
-    /// Runs a command, and gives its reply.
+    /// Runs a command, and gives its reply, the first that fits:
     ///
-    /// An insertion is answered by the first that fits: `BadName` where the link was never given;
-    /// where the arena is full, `BeyondMaxCapacity` at its limit, or else `NoMemory` where its
-    /// indexes are all taken; `NoMemory` where the table or the arena must grow and memory is
-    /// refused; `Given` with the new name. A look-up gives `Found`, and a removal `Removed`, where
-    /// the name was given and hasn't ended, and `Nothing` or `Invalid` where not. All else stays,
-    /// but that after a `NoMemory` the table of names may have grown.
+    /// - `Insert`: `BadName` (the link was never given); where the arena is full,
+    ///   `BeyondMaxCapacity` at its limit, or else `NoMemory` where its indexes are all taken;
+    ///   `NoMemory`; `Given`.
+    /// - `InsertWithin`: `BadName`; `Full` where the arena is full; `NoMemory`; `Given`.
+    /// - `Get`: `Nothing` (never given, or ended); `Found`.
+    /// - `Set`: `BadName` (the new link); `Invalid` (never given, or ended); `Done`.
+    /// - `Remove`: `Invalid`; `Removed`.
+    /// - `Invalidate`: `Invalid`; `NoMemory`; `Given`, and the old name has ended.
+    /// - `Clear`: `Cleared`.
+    /// - `Len`, `Capacity`: `Count`.
+    /// - `Reserve`: `NoMemory` past the greatest index; `BeyondMaxCapacity`; `NoMemory`; `Done`.
+    /// - `Show`: `NoMemory`; `Line`.
+    ///
+    /// All else stays, but that after a `NoMemory` the table of names may have grown, and that a
+    /// reservation, refused or not, puts the free list of the arena in order. `Clear`, `Reserve`
+    /// and `Show` touch each slot; a look-up of an entry with a link may have to search the names.
     pub fn step(&mut self, command: Command<X>) -> Reply<X>
+    where
+        X: Debug,
         ensures { IsStep S.kind S.has_memory P.Gen.counting P.Gen.greatest self.old command result self.new }
     {
         match command {
             Command::Insert(datum, link) => self.insert(datum, link),
+            Command::InsertWithin(datum, link) => self.insert_within(datum, link),
             Command::Get(name) => self.get(name),
+            Command::Set(name, datum, link) => self.set(name, datum, link),
             Command::Remove(name) => self.remove(name),
+            Command::Invalidate(name) => self.invalidate(name),
+            Command::Clear => self.clear(),
+            Command::Len => Reply::Count(self.arena.len()),
+            Command::Capacity => Reply::Count(self.arena.capacity()),
+            Command::Reserve(count) => self.reserve(count),
+            Command::Show => self.show(),
         }
     }
 
@@ -118,6 +137,8 @@ impl<P: Ptr, X: Copy, S: NonZeroInxGenericStack<ArenaSlot<P, Node<X, P>>>> Sessi
     ///
     /// There is room for all replies first: where memory for it is refused, nothing is done.
     pub fn run(&mut self, commands: &[Command<X>]) -> Result<Vec<Reply<X>>, AllocError>
+    where
+        X: Debug,
         ensures ran { IfOk result (λ replies.
             RunsToWrap (IsStep S.kind S.has_memory P.Gen.counting P.Gen.greatest)
             self.old commands.now replies.items self.new) }
@@ -141,7 +162,7 @@ impl<P: Ptr, X: Copy, S: NonZeroInxGenericStack<ArenaSlot<P, Node<X, P>>>> Sessi
         ensures { IsStep S.kind S.has_memory P.Gen.counting P.Gen.greatest
             self.old (Command.Insert datum link) result self.new }
     {
-        let Some(link) = self.link_pointer(link) else {
+        let Some(target) = self.link_pointer(link) else {
             return Reply::BadName;
         };
         match self.refusal() {
@@ -149,14 +170,39 @@ impl<P: Ptr, X: Copy, S: NonZeroInxGenericStack<ArenaSlot<P, Node<X, P>>>> Sessi
             Some(ReallocationError::AllocError) => return Reply::NoMemory,
             None => {}
         }
-        match make_room(&mut self.table) {
+        match self.table.make_room() {
             Ok(()) => {}
             Err(_) => return Reply::NoMemory,
         }
-        match self.arena.insert(Node { datum, link }) {
-            Ok(p) => Reply::Given(push_last(&mut self.table, p), false),
+        let node = Node {
+            datum,
+            link: target,
+        };
+        match self.arena.insert(node) {
+            Ok(p) => Reply::Given(self.table.push(p, link), false),
             Err(_) => Reply::NoMemory,
         }
+    }
+
+    fn insert_within(&mut self, datum: X, link: Option<usize>) -> Reply<X>
+        ensures { IsStep S.kind S.has_memory P.Gen.counting P.Gen.greatest
+            self.old (Command.InsertWithin datum link) result self.new }
+    {
+        let Some(target) = self.link_pointer(link) else {
+            return Reply::BadName;
+        };
+        if self.is_full() {
+            return Reply::Full;
+        }
+        match self.table.make_room() {
+            Ok(()) => {}
+            Err(_) => return Reply::NoMemory,
+        }
+        let p = self.arena.insert_reserved(Node {
+            datum,
+            link: target,
+        });
+        Reply::Given(self.table.push(p, link), false)
     }
 
     fn get(&self, name: usize) -> Reply<X>
@@ -167,9 +213,32 @@ impl<P: Ptr, X: Copy, S: NonZeroInxGenericStack<ArenaSlot<P, Node<X, P>>>> Sessi
             return Reply::Nothing;
         };
         match self.arena.get(p) {
-            Some(node) => Reply::Found(node.datum, self.link_name(node.link)),
+            Some(node) => Reply::Found(node.datum, self.link_name(name, node.link)),
             None => Reply::Nothing,
         }
+    }
+
+    fn set(&mut self, name: usize, datum: X, link: Option<usize>) -> Reply<X>
+        ensures { IsStep S.kind S.has_memory P.Gen.counting P.Gen.greatest
+            self.old (Command.Set name datum link) result self.new }
+    {
+        let Some(target) = self.link_pointer(link) else {
+            return Reply::BadName;
+        };
+        let Some(p) = self.pointer(name) else {
+            return Reply::Invalid;
+        };
+        match self.arena.get_mut(p) {
+            Some(node) => {
+                *node = Node {
+                    datum,
+                    link: target,
+                };
+            }
+            None => return Reply::Invalid,
+        }
+        self.table.note_link(name, link);
+        Reply::Done
     }
 
     fn remove(&mut self, name: usize) -> Reply<X>
@@ -179,19 +248,65 @@ impl<P: Ptr, X: Copy, S: NonZeroInxGenericStack<ArenaSlot<P, Node<X, P>>>> Sessi
         let Some(p) = self.pointer(name) else {
             return Reply::Invalid;
         };
-        match self.arena.remove(p) {
-            InvalidationResult::Success(node) => self.removed(node, false),
-            InvalidationResult::GenerationOverflow(node) => self.removed(node, true),
-            InvalidationResult::InvalidPtr => Reply::Invalid,
+        let (taken, wrapped) = self.arena.remove(p).overflowing();
+        match taken {
+            Some(node) => Reply::Removed(node.datum, self.link_name(name, node.link), wrapped),
+            None => Reply::Invalid,
         }
     }
 
-    // The reply that tells of a removed node.
-    fn removed(&self, node: Node<X, P>, wrapped: bool) -> Reply<X>
-        ensures { result ≡ Reply.Removed node.datum
-            (link_name self.now.table (option_map P.numbers node.link)) wrapped }
+    fn invalidate(&mut self, name: usize) -> Reply<X>
+        ensures { IsStep S.kind S.has_memory P.Gen.counting P.Gen.greatest
+            self.old (Command.Invalidate name) result self.new }
     {
-        Reply::Removed(node.datum, self.link_name(node.link), wrapped)
+        let Some(p) = self.pointer(name) else {
+            return Reply::Invalid;
+        };
+        if !self.arena.contains(p) {
+            return Reply::Invalid;
+        }
+        match self.table.make_room() {
+            Ok(()) => {}
+            Err(_) => return Reply::NoMemory,
+        }
+        let link = self.table.hint(name);
+        let (Some(renewed), wrapped) = self.arena.invalidate(p).overflowing() else {
+            return Reply::Invalid;
+        };
+        Reply::Given(self.table.push(renewed, link), wrapped)
+    }
+
+    fn clear(&mut self) -> Reply<X>
+        ensures { IsStep S.kind S.has_memory P.Gen.counting P.Gen.greatest
+            self.old Command.Clear result self.new }
+    {
+        let ((), wrapped) = self.arena.clear().overflowing();
+        Reply::Cleared(wrapped)
+    }
+
+    fn reserve(&mut self, count: usize) -> Reply<X>
+        ensures { IsStep S.kind S.has_memory P.Gen.counting P.Gen.greatest
+            self.old (Command.Reserve count) result self.new }
+    {
+        // It tells the greatest index of the arena.
+        let _capacity = self.arena.capacity();
+        match self.arena.reallocate_min_capacity(count) {
+            Ok(()) => Reply::Done,
+            Err(ReallocationError::BeyondMaxCapacity) => Reply::BeyondMaxCapacity,
+            Err(ReallocationError::AllocError) => Reply::NoMemory,
+        }
+    }
+
+    fn show(&self) -> Reply<X>
+    where
+        X: Debug,
+        ensures { IsStep S.kind S.has_memory P.Gen.counting P.Gen.greatest
+            self.now Command.Show result self.now }
+    {
+        match format!(in self.alloc; "{:?}", self.arena) {
+            Ok(text) => Reply::Line(text),
+            Err(_) => Reply::NoMemory,
+        }
     }
 
     // Why the arena cannot take one more entry, whatever memory there is.
@@ -211,14 +326,19 @@ impl<P: Ptr, X: Copy, S: NonZeroInxGenericStack<ArenaSlot<P, Node<X, P>>>> Sessi
         }
     }
 
+    // Whether the arena has as many entries as fit without growth.
+    fn is_full(&self) -> bool
+        ensures full { result ≡ (arena_len self.now.arena == capacity self.now.arena) }
+        ensures fits { arena_len self.now.arena ≤ capacity self.now.arena }
+    {
+        self.arena.len() == self.arena.capacity()
+    }
+
     // The pointer of a name, if it was given.
     fn pointer(&self, name: usize) -> Option<P>
         ensures { option_map P.numbers result ≡ item self.now.table name }
     {
-        if name == 0 {
-            return None;
-        }
-        read(self.table.as_slice(), name - 1)
+        self.table.pointer(name)
     }
 
     // The pointer of a link, or none if the link is to a name that was never given.
@@ -231,70 +351,13 @@ impl<P: Ptr, X: Copy, S: NonZeroInxGenericStack<ArenaSlot<P, Node<X, P>>>> Sessi
         }
     }
 
-    // The name of the pointer of a link.
-    fn link_name(&self, link: Option<P>) -> Option<usize>
+    // The name of the pointer of a link that the entry of a name has.
+    fn link_name(&self, name: usize, link: Option<P>) -> Option<usize>
         ensures { result ≡ link_name self.now.table (option_map P.numbers link) }
     {
         match link {
-            Some(p) => match position_of(self.table.as_slice(), p) {
-                Some(position) => Some(position + 1),
-                None => None,
-            },
+            Some(p) => self.table.link_name(name, p),
             None => None,
         }
     }
-}
-
-// Makes room for one more item where there is none.
-fn make_room<T>(table: &mut NonZeroInxVec<T>) -> Result<(), AllocError>
-    ensures items { table.new.items ≡ table.old.items }
-    ensures grown { OnOk result (table.new.room
-        ≡ room_for_one_more table.old.room None (length table.old.items)) }
-    ensures room { OnOk result (length table.new.items < table.new.room) }
-    ensures had_room { length table.old.items < table.old.room → IsOk result }
-    ensures refused { OnErr result
-        ((length table.old.items ≡ table.old.room) × (table.new ≡ table.old)) }
-{
-    if table.len() < table.capacity() {
-        return Ok(());
-    }
-    match table.entry_push() {
-        Ok(_entry) => Ok(()),
-        Err(_) => Err(AllocError),
-    }
-}
-
-// Pushes an item where there is room, and gives its number.
-fn push_last<T>(table: &mut NonZeroInxVec<T>, item: T) -> usize
-    requires { length table.old.items < table.old.room }
-    ensures number { result ≡ length table.old.items + 1 }
-    ensures items { table.new.items ≡ table.old.items ++ item ∷ [] }
-    ensures room { table.new.room ≡ table.old.room }
-{
-    let (inx, _item) = table.push_reserved(item);
-    inx.get()
-}
-
-// The item at a position, if there is one.
-fn read<T: Copy>(items: &[T], position: usize) -> Option<T>
-    ensures { result ≡ slice_get items.now position }
-{
-    items.get(position).copied()
-}
-
-// The first position at which a table has a pointer.
-fn position_of<P: Ptr>(table: &[P], p: P) -> Option<usize>
-    ensures position { result
-        ≡ position (λ q. is_same q (P.numbers p)) (map P.numbers table.now) }
-    ensures within { IfSome result (λ at. at < length table.now) }
-{
-    first_equal(table, p)
-}
-
-// The first position at which a table has an item that is equal to this one.
-fn first_equal<T: PartialEq + Copy>(table: &[T], item: T) -> Option<usize>
-    ensures position { result ≡ position (λ x. T.eq x item) table.now }
-    ensures within { IfSome result (λ at. at < length table.now) }
-{
-    table.iter().position(|x| *x == item)
 }

@@ -22,6 +22,7 @@ pub mod InsertEntry
 pub mod Drains
 pub mod Transfers
 pub mod Copying
+pub mod Compression
 pub mod Cloning
 pub mod CloningLaws
 pub mod CopyLaws

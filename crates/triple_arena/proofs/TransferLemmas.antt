@@ -1,9 +1,9 @@
 -- One step of a transfer.
-use Rattle.std.proofs.Common.{◌≡◌, ℕ, suc, ◌+◌, ◌≤◌, Bool, false, List, [], ◌∷◌, ◌++◌, length, map, cond, is_some, Option, Some, None, refl, sym, ap, ◌∙◌, arith, append_assoc}
+use Rattle.std.proofs.Common.{◌≡◌, ℕ, ◌+◌, ◌≤◌, Bool, List, [], ◌∷◌, ◌++◌, length, map, cond, is_some, Option, Some, None, refl, sym, ap, ◌∙◌, arith, append_assoc}
 use Rattle.std.specs.List.{FoldsTo}
 use Rattle.std.proofs.lemmas.Fn.{FoldsTo-push}
 use Rattle.std.proofs.lemmas.List.Sums.{sum_by-cons}
-use Rattle.std.proofs.lemmas.List.{map_push, append-nil, length_push, length-append, length-map}
+use Rattle.std.proofs.lemmas.List.{map_push, append-nil, length-append, length-map}
 use Rattle.triple_arena_base.specs.declared.invalidation.InvalidationOption.{InvalidationOption}
 use Rattle.triple_arena_ptr.specs.Pointers.{Pointer}
 use Rattle.triple_arena.specs.Entries.{look_up_in, entry_count, ChangesAt}
@@ -11,24 +11,25 @@ use Rattle.triple_arena.specs.Ending.{told}
 use Rattle.triple_arena.specs.FreeList.{gaps}
 use Rattle.triple_arena.specs.Walks.{Stand, IsAtFirst, IsBeforeAll, Steps, entries, entries_ahead}
 use Rattle.triple_arena.specs.WalkLaws.{ahead_first, ahead_none, ahead_taken_out, length-entries, none_left, others_ahead}
-use Rattle.triple_arena.specs.Transfers.{Transfer, TransferTurn, Transfers, packed, moved_from, moved_to}
+use Rattle.triple_arena.specs.Compression.{closed_up}
+use Rattle.triple_arena.specs.Transfers.{Transfer, TransferTurn, Transfers, moved_from, moved_to}
 use Rattle.triple_arena.proofs.CopyLemmas.{entries_append}
 
-no_gaps : {T : Type 0} (at generation : ℕ) (values : List T) → gaps at (packed generation values) ≡ []
+no_gaps : {T : Type 0} (at generation : ℕ) (values : List T) → gaps at (closed_up generation values) ≡ []
 no_gaps at generation [] = refl
 no_gaps at generation (v ∷ values) = no_gaps (at + 1) generation values
 
-packed_count : {T : Type 0} (generation : ℕ) (values : List T) → entry_count (packed generation values) ≡ length values
-packed_count generation [] = refl
-packed_count generation (v ∷ values) =
-    omega (arith, packed_count generation values, sum_by-cons (λ o. cond (is_some o) 1 0) (Some (generation, v)) (packed generation values))
+closed_up_count : {T : Type 0} (generation : ℕ) (values : List T) → entry_count (closed_up generation values) ≡ length values
+closed_up_count generation [] = refl
+closed_up_count generation (v ∷ values) =
+    omega (arith, closed_up_count generation values, sum_by-cons (λ o. cond (is_some o) 1 0) (Some (generation, v)) (closed_up generation values))
 
 -- slots that hold values from index 1 on have no free one, and each has an entry
-pub packed_slots : {T : Type 0} (generation : ℕ) (values : List T) (put : List (Option (ℕ × T))) → put ≡ packed generation values → (gaps 1 put ≡ []) × (entry_count put ≡ length put)
-packed_slots {T = T} generation values put is =
+pub closed_up_slots : {T : Type 0} (generation : ℕ) (values : List T) (put : List (Option (ℕ × T))) → put ≡ closed_up generation values → (gaps 1 put ≡ []) × (entry_count put ≡ length put)
+closed_up_slots {T = T} generation values put is =
     rw is (
       no_gaps 1 generation values,
-      packed_count generation values ∙ sym (length-map {B = Option (ℕ × T)} values (λ v. Some (generation, v))),
+      closed_up_count generation values ∙ sym (length-map {B = Option (ℕ × T)} values (λ v. Some (generation, v))),
     )
 
 module _ {Q U P T A M : Type 0} (source : Q → Pointer) (target : P → Pointer) (step : M → Q → InvalidationOption U → P → T → M → Type 0)
@@ -44,7 +45,7 @@ module _ {Q U P T A M : Type 0} (source : Q → Pointer) (target : P → Pointer
     pub ran : FoldsTo Turn (f, start) moved (g, now)
     pub came : moved_from source moved ++ entries_ahead s (slots now) ≡ entries (slots start)
     pub went : moved_to target moved ≡ entries put
-    pub stands : put ≡ packed generation (map (λ t. t.new) moved)
+    pub stands : put ≡ closed_up generation (map (λ t. t.new) moved)
 
   pub transfer_start : (f : M) (start : A) (s : Stand) (put : List (Option (ℕ × T))) → IsAtFirst (slots start) s → put ≡ [] → Transferred f start f start s put
   transfer_start f start s put first empty =
@@ -101,7 +102,7 @@ module _ {Q U P T A M : Type 0} (source : Q → Pointer) (target : P → Pointer
             ∙ sym (entries_append 1 put (Some (generation, t) ∷ []));
         stands =
             ap (λ l. l ++ Some (generation, t) ∷ []) w.stands
-            ∙ sym (ap (packed generation) (map_push (λ (t : Transfer Q U P T). t.new) w.moved m) ∙ map_push (λ v. Some (generation, v)) (map (λ (t : Transfer Q U P T). t.new) w.moved) t);
+            ∙ sym (ap (closed_up generation) (map_push (λ (t : Transfer Q U P T). t.new) w.moved m) ∙ map_push (λ v. Some (generation, v)) (map (λ (t : Transfer Q U P T). t.new) w.moved) t);
       })
 
   -- at the end every entry was taken, and none is left

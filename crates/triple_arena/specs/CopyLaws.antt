@@ -1,5 +1,5 @@
 -- What a copy holds, where each value is cloned.
-use Rattle.std.proofs.Common.{◌≡◌, ℕ, zero, suc, ◌+◌, ◌<◌, ◌==◌, true, false, cond, List, [], ◌∷◌, ◌++◌, map, Option, Some, None, slice_get, Result, Ok, Err, min, refl, sym, ap, ◌∙◌, arith, append-nil}
+use Rattle.std.proofs.Common.{◌≡◌, ℕ, zero, suc, ◌+◌, ◌<◌, ◌==◌, cond, List, [], ◌∷◌, ◌++◌, map, Option, Some, None, slice_get, Result, Ok, Err, min, refl, sym, ap, ◌∙◌, arith, append-nil}
 use Rattle.std.specs.Prelude.{MatchResult, OnOk, IsOk}
 use Rattle.std.specs.Borrow.{Bor}
 use Rattle.std.specs.List.{FoldsTo}
@@ -9,9 +9,9 @@ use Rattle.triple_arena_base.specs.declared.errors.CloneFromError.TheVariants.{R
 use Rattle.triple_arena_ptr.specs.Pointers.{Pointer}
 use Rattle.triple_arena_stack.specs.Capacity.{capacity_of, IsBeyond}
 use Rattle.triple_arena.specs.ItemLaws.{joined, eq_true, eq_false}
-use Rattle.triple_arena.specs.Entries.{entry_in, KeepsEntries}
+use Rattle.triple_arena.specs.Entries.{KeepsEntries}
 use Rattle.triple_arena.specs.Walks.{entries_from, entries}
-use Rattle.triple_arena.specs.Copying.{Mapping, mapped_from, mapped_to, CallAt, MapTurn, RefusesFirst, Copies}
+use Rattle.triple_arena.specs.Copying.{Mapping, mapped_from, mapped_to, MapTurn, RefusesFirst, Copies}
 use Rattle.triple_arena.specs.Cloning.{FirstMayFail, IsFront, IsRoomRefusal}
 
 module _ {T : Type 0} where

@@ -1,10 +1,11 @@
 -- What a transfer does: the entries of a source are taken out one by one, and put down in order.
-use Rattle.std.specs.Prelude.{◌≡◌, ℕ, Bool, List, map, Option, Some}
+use Rattle.std.specs.Prelude.{◌≡◌, ℕ, Bool, List, map, Option}
 use Rattle.std.specs.List.{FoldsTo}
 use Rattle.triple_arena_base.specs.declared.invalidation.InvalidationOption.{InvalidationOption}
 use Rattle.triple_arena_ptr.specs.Pointers.{Pointer}
 use Rattle.triple_arena.specs.Ending.{told}
 use Rattle.triple_arena.specs.Walks.{entries}
+use Rattle.triple_arena.specs.Compression.{closed_up}
 
 -- one call of the closure: the pointer and the value that were taken out, the pointer of the new place, and the value that
 -- it gave
@@ -13,10 +14,6 @@ pub record Transfer (Q U P T : Type 0) : Type 0 where
   pub old : U
   pub to : P
   pub new : T
-
--- these values from index 1 on, under one generation
-abbrev pub packed : {T : Type 0} → ℕ → List T → List (Option (ℕ × T))
-packed generation values = map (λ v. Some (generation, v)) values
 
 module _ {Q U P T : Type 0} where
   -- the entries that were taken out
@@ -42,4 +39,4 @@ module _ {Q U P T A M : Type 0} (source : Q → Pointer) (target : P → Pointer
     pub ran : FoldsTo TransferTurn (f, old) moved (last, new)
     pub came : moved_from source moved ≡ entries (slots old)
     pub went : moved_to target moved ≡ entries put
-    pub stands : put ≡ packed generation (map (λ t. t.new) moved)
+    pub stands : put ≡ closed_up generation (map (λ t. t.new) moved)

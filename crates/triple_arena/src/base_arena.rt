@@ -13,13 +13,8 @@ ghost use Rattle.triple_arena.specs.Items.{item};
 ghost use Rattle.triple_arena.specs.ArenaState.{ArenaState, new_arena, slot_count, capacity, arena_len, entry, look_up, with_value, is_free, IsWellFormed};
 ghost use Rattle.triple_arena.specs.Insertion.{next_pointer, inserted};
 ghost use Rattle.triple_arena.specs.Ending.{removed, invalidated, cleared, told};
-ghost use Rattle.triple_arena.specs.FreeList.{tidied, laid_out, last_index, without_free_end, IsInOrder};
-ghost use Rattle.triple_arena.specs.Capacity.{with_room_for, reallocated, ready_for, KeepsRoom, EndsBy, ready_for_limit, with_limit, grown};
-ghost use Rattle.triple_arena.specs.Walks.{entries};
-ghost use Rattle.triple_arena.specs.Copying.{Copies};
-ghost use Rattle.triple_arena.specs.Transfers.{Transfers};
-ghost use Rattle.triple_arena.specs.Entries.{entry_count};
-ghost use Rattle.triple_arena.specs.Cloning.{counter_of};
+ghost use Rattle.triple_arena.specs.FreeList.{tidied, without_free_end, IsInOrder};
+ghost use Rattle.triple_arena.specs.Capacity.{with_room_for, reallocated, KeepsRoom, EndsBy, ready_for_limit, with_limit, grown};
 ghost use Rattle.triple_arena.specs.Slot.{entry_of};
 ghost use Rattle.triple_arena.specs.Disjoint.{value_of};
 ghost use Rattle.triple_arena.specs.Values.{with_values_of};
@@ -28,15 +23,13 @@ ghost use Rattle.triple_arena.specs.Histories.{resizing, Fits, Continues, Counts
 
 mod compaction;
 
+mod copies;
+
 use crate::answers::{told, told_valid};
-use crate::arena_clone_trait::ArenaCloneFromWith;
 use crate::arena_insert_trait::ArenaInsertTrait;
 use crate::arena_iterators::PtrAdvancer;
 use crate::arena_trait::ArenaTrait;
-use crate::arena_transfer_trait::ArenaTransfer;
-use crate::compact_arena_trait::CompactArenaTrait;
 use crate::disjointable_arena_trait::DisjointableArenaTrait;
-use crate::ends::last_index;
 use crate::lending_arena::LendingArena;
 use crate::lent_slots::LentSlots;
 use crate::pair_call::{AtEntries, AtValues, PairCall};
@@ -46,7 +39,7 @@ use std::alloc::Global;
 use std::marker::{Model, PhantomData};
 use std::num::NonZeroUsize;
 use triple_arena_base::{
-    AllocError, CloneFromError, GetDisjointMutError, InvalidationOption, InvalidationResult,
+    AllocError, GetDisjointMutError, InvalidationOption, InvalidationResult,
     MaxCapacityReductionError, ReallocationError,
 };
 use triple_arena_ptr::{Ptr, PtrGen, PtrInx};
@@ -423,95 +416,6 @@ impl<P: Ptr, T, S: NonZeroInxGenericStack<ArenaSlot<P, T>>> ArenaInsertTrait<P, 
     ghost valid_grown = { well_formed-grown S.kind };
 }
 
-impl<P: Ptr, T, S: NonZeroInxGenericStack<ArenaSlot<P, T>>> ArenaCloneFromWith<P, T>
-    for Arena<P, T, S> {
-    ghost use Rattle.triple_arena.specs.CloningLaws.{kept-cloned, limit-cloned, fitting-cloned};
-
-    // the slots of the copy stand, in room for the last index; the free indexes are the gaps in
-    // rising order, and the counter is the source's, or the first generation
-    ghost clones = { λ old last next copy new. new ≡ laid_out (ready_for S.kind old last) copy
-        (counter_of (first_generation P.Gen.counting) next) };
-
-    fn clone_from_with<U, E, A: CompactArenaTrait<P, U>, M: FnMut(P, &U) -> Result<T, E>>(
-        &mut self,
-        source: &A,
-        map: M,
-    ) -> Result<(), CloneFromError<E>>
-    where
-        T: Drop,
-    {
-        if let Err(refusal) = self.make_room(last_index(source)) {
-            return Err(CloneFromError::Reallocation(refusal));
-        }
-        let counter = match source.singular_generation() {
-            Some(counter) => counter,
-            None => P::Gen::two(),
-        };
-        match self.hold_copies(counter, source, map) {
-            Ok(()) => Ok(()),
-            Err(refusal) => Err(CloneFromError::Map(refusal)),
-        }
-    }
-
-    ghost slots_cloned = { kept-cloned S.kind (first_generation P.Gen.counting) };
-
-    ghost limit_cloned = { limit-cloned S.kind (first_generation P.Gen.counting) };
-
-    ghost fitting_cloned = { fitting-cloned S.kind (first_generation P.Gen.counting) };
-}
-
-impl<P: Ptr, T, S: NonZeroInxGenericStack<ArenaSlot<P, T>>> ArenaTransfer<P, T> for Arena<P, T, S> {
-    ghost use Rattle.triple_arena.specs.CloningLaws.{slots-transferred, limit-transferred, fitting-transferred, next-transferred};
-
-    // what was given stands, in room for so many; no index is free, and the counter is the new
-    // generation
-    ghost transfers = { λ old generation put new.
-        new ≡ laid_out (ready_for S.kind old (length put)) put generation };
-
-    fn transfer_reallocating<
-        Q: Ptr,
-        U,
-        A: CompactArenaTrait<Q, U>,
-        M: FnMut(Q, InvalidationOption<U>, P) -> T,
-    >(&mut self, new_generation: P::Gen, source: &mut A, map: M) -> Result<(), ReallocationError>
-    where
-        T: Drop,
-        requires callable { M.IsAlwaysCallable map }
-        ensures done { OnOk result ((put : List (Option (ℕ × T)))
-            × Transfers Q.numbers P.numbers M.step A.slots A.removes A.ending_wraps
-            (P.Gen.number new_generation) map source.old source.new put
-            × (self.new ≡ laid_out (ready_for S.kind self.old (length put)) put
-            (P.Gen.number new_generation))) }
-        ensures counted { OnOk result (arena_len self.new ≡ entry_count (A.slots source.old)) }
-        ensures emptied { OnOk result (entry_count (A.slots source.new) ≡ 0) }
-        ensures refused { OnErr result (self.new ≡ tidied self.old) }
-        ensures whole { OnErr result (source.new ≡ source.old) }
-        ensures short { OnErr result (capacity self.old < entry_count (A.slots source.old)) }
-        ensures indexed { OnOk result (entry_count (A.slots source.old)
-            ≤ greatest_index P.Inx.greatest) }
-        ensures beyond { (result ≡ Err ReallocationError.BeyondMaxCapacity)
-            ↔ ((capacity self.old < entry_count (A.slots source.old))
-            × (entry_count (A.slots source.old) ≤ greatest_index P.Inx.greatest)
-            × IsBeyond self.old.limit (entry_count (A.slots source.old))) }
-        ensures given { entry_count (A.slots source.old) ≤ greatest_index P.Inx.greatest
-            → IsWithin self.old.limit (entry_count (A.slots source.old))
-            → S.has_memory (reallocated S.kind self.old (entry_count (A.slots source.old))).room
-            → IsOk result }
-    {
-        self.make_room(source.len())?;
-        self.take_over(new_generation, source, map);
-        Ok(())
-    }
-
-    ghost slots_transferred = { slots-transferred S.kind };
-
-    ghost limit_transferred = { limit-transferred S.kind };
-
-    ghost fitting_transferred = { fitting-transferred S.kind };
-
-    ghost next_transferred = { next-transferred S.kind };
-}
-
 impl<P: Ptr, T, S: NonZeroInxGenericStack<ArenaSlot<P, T>>> DisjointableArenaTrait<P, T>
     for Arena<P, T, S> {
     fn with_disjoint_mut<R, F: FnOnce(&mut T, &mut T) -> R>(
@@ -804,72 +708,6 @@ impl<P: Ptr, T, S: NonZeroInxGenericStack<ArenaSlot<P, T>>> Arena<P, T, S> {
     {
         self.slots.reallocate(min_capacity)?;
         Ok(())
-    }
-
-    // Reallocates where so many are past the capacity.
-    fn make_room(&mut self, min_capacity: usize) -> Result<(), ReallocationError>
-        ensures done { OnOk result (self.new ≡ ready_for S.kind self.old min_capacity) }
-        ensures refused { OnErr result (self.new ≡ tidied self.old) }
-        ensures short { OnErr result (capacity self.old < min_capacity) }
-        ensures beyond { (result ≡ Err ReallocationError.BeyondMaxCapacity)
-            ↔ ((capacity self.old < min_capacity) × (min_capacity ≤ greatest_index P.Inx.greatest)
-            × IsBeyond self.old.limit min_capacity) }
-        ensures given { min_capacity ≤ greatest_index P.Inx.greatest
-            → IsWithin self.old.limit min_capacity
-            → S.has_memory (reallocated S.kind self.old min_capacity).room → IsOk result }
-        ensures place { OnOk result (min_capacity ≤ capacity self.new) }
-        ensures indexed { OnOk result (min_capacity ≤ greatest_index P.Inx.greatest) }
-    {
-        if min_capacity <= self.capacity() {
-            return Ok(());
-        }
-        self.reallocate_min_capacity(min_capacity)
-    }
-
-    // Holds the entries of an arena alone, under the same pointers, each mapped by the closure, up to
-    // its first refusal.
-    fn hold_copies<U, E, A: CompactArenaTrait<P, U>, M: FnMut(P, &U) -> Result<T, E>>(
-        &mut self,
-        counter: P::Gen,
-        source: &A,
-        f: M,
-    ) -> Result<(), E>
-    where
-        T: Drop,
-        requires callable { M.IsAlwaysCallable f }
-        requires fits { last_index (A.slots source.now) ≤ capacity self.old }
-        ensures { (new : List (Option (ℕ × T)))
-            × Copies P.numbers M.step f (entries (A.slots source.now)) result new
-            × (self.new ≡ laid_out self.old new (P.Gen.number counter)) }
-    {
-        let (len, answer) = self.slots.copy(source, f);
-        self.len = len;
-        self.counter = counter;
-        answer
-    }
-
-    // Takes the entries of an arena out, one by one in order, and holds them alone, from index 1 on,
-    // each mapped by the closure, under this generation.
-    fn take_over<Q: Ptr, U, A: CompactArenaTrait<Q, U>, M: FnMut(Q, InvalidationOption<U>, P) -> T>(
-        &mut self,
-        generation: P::Gen,
-        source: &mut A,
-        f: M,
-    )
-    where
-        T: Drop,
-        requires callable { M.IsAlwaysCallable f }
-        requires fits { entry_count (A.slots source.old) ≤ capacity self.old }
-        ensures transferred { (put : List (Option (ℕ × T)))
-            × Transfers Q.numbers P.numbers M.step A.slots A.removes A.ending_wraps
-            (P.Gen.number generation) f source.old source.new put
-            × (self.new ≡ laid_out self.old put (P.Gen.number generation))
-            × (length put ≡ entry_count (A.slots source.old)) }
-        ensures emptied { entry_count (A.slots source.new) ≡ 0 }
-        ensures counted { arena_len self.new ≡ entry_count (A.slots source.old) }
-    {
-        self.len = self.slots.take_over(generation, source, f);
-        self.counter = generation;
     }
 
     // Grows where there are as many entries as the capacity.

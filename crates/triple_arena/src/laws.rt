@@ -1,6 +1,7 @@
 //! What holds of every arena: laws over several calls.
 
-ghost use Rattle.std.specs.Prelude.{◌≡◌, ◌⊎◌, ◌↔◌, ◌<◌, ◌≤◌, ℕ, List, [], ◌∷◌, ◌++◌, map, All, Contains, Option, Some, None, IsSome, IsTrue, false, min};
+ghost use Rattle.std.specs.Prelude.{◌≡◌, ◌⊎◌, ◌↔◌, ◌<◌, ◌≤◌, ℕ, Bool, List, [], ◌∷◌, ◌++◌, map, All, Contains, Option, Some, None, IsSome, IsTrue, false, min};
+ghost use Rattle.std.specs.List.{FoldsTo};
 ghost use Rattle.triple_arena_stack.specs.StackKind.{StackKind};
 ghost use Rattle.triple_arena_ptr.specs.Pointers.{Pointer};
 ghost use Rattle.triple_arena.specs.Entries.{entry_in, look_up_in, IsLast};
@@ -12,6 +13,10 @@ ghost use Rattle.triple_arena.specs.Walks.{Stand, Steps, Walk, IsAtFirst, keys};
 ghost use Rattle.triple_arena.specs.Capacity.{EndsBy, reallocated, with_limit, grown};
 ghost use Rattle.triple_arena.specs.Histories.{has, ModelCall, insertion, History, begun_with, and_then, given, ended, followed_by, is_live, Fits, Continues, IsModelCall, AreModelCalls};
 ghost use Rattle.triple_arena.specs.Compression.{closed_up, compressed};
+ghost use Rattle.triple_arena.specs.Cloning.{CloneTurn};
+
+use crate::arena_clone_trait::ArenaCloneFromWith;
+use triple_arena_ptr::Ptr;
 
 /// A limit that is set back: once a limit is set, the old one can be set again, and then the old
 /// capacity is there again. All else is as it was, or as it was with the free list in order.
@@ -106,4 +111,19 @@ pub fn pointers_are_fresh<T>()
     ensures never_live { (s : ArenaState T) (calls : List ModelCall) (t : ArenaState T)
         (p : Pointer) → arena_len s ≡ 0 → p.1 < s.counter → Continues Fits s calls t
         → is_live t p ≡ false }
+{}
+
+/// Clones settle their capacity. Cloning leaves the capacity where the source's last index is not
+/// above it; so of two arenas that are cloned into each other by turns, with no refusal and no
+/// other call between, at most the target of the first clone is reallocated.
+pub fn clones_settle<P: Ptr, T, U, A: ArenaCloneFromWith<P, T>, B: ArenaCloneFromWith<P, U>>()
+    ensures fits { (old : A) (last : ℕ) (next : Option ℕ) (copy : List (Option (ℕ × T))) (new : A)
+        → A.clones old last next copy new → last ≤ A.fitting old
+        → A.fitting new ≡ A.fitting old }
+    ensures settled { (start : A × B) (first : Bool) (middle : A × B) (turns : List Bool)
+        (end : A × B)
+        → CloneTurn A.slots A.fitting A.clones B.slots B.fitting B.clones start first middle
+        → FoldsTo (CloneTurn A.slots A.fitting A.clones B.slots B.fitting B.clones)
+        middle turns end
+        → (A.fitting end.0 ≡ A.fitting middle.0) × (B.fitting end.1 ≡ B.fitting middle.1) }
 {}

@@ -8,6 +8,7 @@ pub mod first_arena;
 pub mod graph;
 pub mod links;
 pub mod small_ptr;
+pub mod snapshots;
 pub mod undo;
 pub mod walks;
 

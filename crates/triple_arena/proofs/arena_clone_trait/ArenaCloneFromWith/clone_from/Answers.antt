@@ -1,4 +1,4 @@
-use Rattle.std.proofs.Common.{◌≡◌, rules, Ok, Err, arith}
+use Rattle.std.proofs.Common.{rules, Ok, Err, arith}
 use Rattle.triple_arena.specs.CopyLaws.{clones_exactly, copies_front, front_keeps, front_given, on_ok, not_refused}
 use Rattle.triple_arena.proofs.arena_clone_trait.ArenaCloneFromWith.clone_from.Goals as goal
 

@@ -3,10 +3,9 @@ use Rattle.std.proofs.lemmas.List.{length-map}
 use Rattle.triple_arena.specs.ArenaState.{capacity, arena_len}
 use Rattle.triple_arena.specs.FreeList.{laid_out}
 use Rattle.triple_arena.specs.Slot.{entry_of}
-use Rattle.triple_arena.specs.Layout.{IsLinked}
 use Rattle.triple_arena.proofs.Links.{carried}
 use Rattle.triple_arena.proofs.Tidying.{Shows-laid_out}
-use Rattle.triple_arena.proofs.TransferLemmas.{packed_slots}
+use Rattle.triple_arena.proofs.TransferLemmas.{closed_up_slots}
 use Rattle.triple_arena.proofs.base_arena.Arena.take_over.Goals as goal
 
 pub invariant_of-self : goal.invariant_of-self
@@ -15,7 +14,7 @@ invariant_of-self g c =
     let items = g.S.NonZeroInxGenericStack.items taken.new.self.stack in
     let xs = map (entry_of g.P.Gen.PtrGen.number) items in
     let n = g.P.Gen.PtrGen.number c.args.generation in
-    let full = packed_slots n _ xs taken.ensures.transferred.stands in
+    let full = closed_up_slots n _ xs taken.ensures.transferred.stands in
     let fits : length xs ≤ capacity c.args.self.now = omega (arith, taken.ensures.many, c.requires.fits, length-map items (entry_of g.P.Gen.PtrGen.number)) in
     (carried g.P.Gen.PtrGen.number _ items _ _ _ taken.result _ n _ _ _ _ _ c.args.self.now (laid_out c.args.self.now xs n) c.self.invariant c.self.view_is
     (λ _. Shows-laid_out g.P.Gen.PtrGen.number items _ taken.result c.args.self.now xs n refl (rw (full.0, taken.ensures.root) refl) (taken.ensures.count ∙ sym taken.ensures.many ∙ sym (length-map items (entry_of g.P.Gen.PtrGen.number)) ∙ sym full.1) fits)
@@ -30,7 +29,7 @@ returns g c =
     let items = g.S.NonZeroInxGenericStack.items taken.new.self.stack in
     let xs = map (entry_of g.P.Gen.PtrGen.number) items in
     let n = g.P.Gen.PtrGen.number c.args.generation in
-    let full = packed_slots n _ xs taken.ensures.transferred.stands in
+    let full = closed_up_slots n _ xs taken.ensures.transferred.stands in
     let size = length-map items (entry_of g.P.Gen.PtrGen.number) ∙ taken.ensures.many in
     let fits : length xs ≤ capacity c.args.self.now = omega (arith, size, c.requires.fits) in
     let both = carried g.P.Gen.PtrGen.number _ items _ _ _ taken.result _ n _ _ _ _ _ c.args.self.now (laid_out c.args.self.now xs n) c.self.invariant c.self.view_is

@@ -5,8 +5,8 @@ use Rattle.triple_arena.specs.FreeList.{laid_out}
 use Rattle.triple_arena.specs.Capacity.{ready_for}
 use Rattle.triple_arena.specs.Cloning.{counter_of}
 use Rattle.triple_arena.proofs.CopyLemmas.{on_copies}
-use Rattle.triple_arena.proofs.base_arena.ArenaArenaCloneFromWith.clone_from_with.Goals.{in-Some, in-None}
-use Rattle.triple_arena.proofs.base_arena.ArenaArenaCloneFromWith.clone_from_with.Goals as goal
+use Rattle.triple_arena.proofs.base_arena.copies.ArenaArenaCloneFromWith.clone_from_with.Goals.{in-Some, in-None}
+use Rattle.triple_arena.proofs.base_arena.copies.ArenaArenaCloneFromWith.clone_from_with.Goals as goal
 
 pub returns-in-Err-clause-given : goal.returns-in-Err-clause-given
 returns-in-Err-clause-given g c within memory refusal =

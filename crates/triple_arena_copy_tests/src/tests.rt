@@ -1,0 +1,5 @@
+//! Tests of cloning and transfer.
+
+mod cloning;
+mod states;
+mod transfer;

@@ -1,0 +1,39 @@
+//! Tables that are kept as they are, and tables that take others over.
+
+ghost use Rattle.std.specs.Prelude.{◌≡◌, ◌≤◌, OnOk, OnErr, IsOk};
+ghost use Rattle.triple_arena.specs.Entries.{KeepsEntries, entry_count};
+ghost use Rattle.triple_arena.specs.FreeList.{last_index};
+
+use triple_arena::{ArenaCloneFromWith, ArenaTransfer, CompactArenaTrait};
+use triple_arena_base::{AllocError, CloneFromError, ReallocationError};
+use triple_arena_ptr::{Ptr, PtrGen};
+
+/// Keeps a table as it is: each pointer then finds in `kept` what it finds in `table`, and calling
+/// it the other way round comes back to what was kept. Where the capacity of `kept` reaches the
+/// last index of `table`, as it does from the second time on as long as that doesn't rise, it takes
+/// no memory and isn't refused.
+pub fn keep<P: Ptr, A: CompactArenaTrait<P, u64>, B: ArenaCloneFromWith<P, u64>>(
+    table: &A,
+    kept: &mut B,
+) -> Result<(), CloneFromError<AllocError>>
+    ensures same { OnOk result (KeepsEntries (A.slots table.now) (B.slots kept.new)) }
+    ensures fits { last_index (A.slots table.now) ≤ B.fitting kept.old → IsOk result }
+{
+    kept.clone_from(table)
+}
+
+/// Moves the entries of one table to another, whose own are dropped, and whose pointers may be of
+/// another type: there they stand from index 1 on. Refused, both have the entries that they had.
+pub fn move_over<P: Ptr, Q: Ptr, A: CompactArenaTrait<Q, u64>, B: ArenaTransfer<P, u64>>(
+    from: &mut A,
+    to: &mut B,
+    generation: P::Gen,
+) -> Result<(), ReallocationError>
+    ensures moved { OnOk result
+        (entry_count (B.slots to.new) ≡ entry_count (A.slots from.old)) }
+    ensures emptied { OnOk result (entry_count (A.slots from.new) ≡ 0) }
+    ensures whole { OnErr result (from.new ≡ from.old) }
+    ensures fits { entry_count (A.slots from.old) ≤ B.fitting to.old → IsOk result }
+{
+    to.transfer_reallocating(generation, from, |_old, taken, _new| taken.allow())
+}

@@ -7,6 +7,7 @@ mod calls_of_the_traits;
 mod drops;
 mod end_slots;
 mod entries;
+mod fresh_pointers;
 mod generic_callers;
 mod index_calls;
 mod limits;

@@ -3,6 +3,7 @@
 
 mod calls_of_an_arena;
 mod calls_of_the_traits;
+mod fresh_pointers;
 mod limits;
 mod many_entries;
 mod order_of_refusals;

@@ -166,7 +166,7 @@ module _ {P T F : Type 0} (numbers : P → Pointer) (R : F → Move P T → F �
       let counted : entry_count (take (at + 1) old) ≡ to + 1 = ap entry_count (take_one_more old at (Some e) (drop (at + 1) old) head) ∙ sum_by_push one (take at old) (Some e) ∙ ap (λ n. n + 1) c.counted in
       let here : ◌≡◌ {A = Pointer × T} (numbers m.from, m.old) ((at + 1, e.0), e.1) = ap (λ (p : Pointer). (p, m.old)) from ∙ ap (λ (v : T). ((at + 1, e.0), v)) was in
       let there : numbers m.to ≡ rank_in generation old (numbers m.from) =
-          onto ∙ ap (λ k. (k, g)) (sym counted) ∙ ap (λ k. (entry_count (take (at + 1) old), k)) stamp ∙ ap (rank_in generation old) (sym from) in
+      onto ∙ ap (λ k. (k, g)) (sym counted) ∙ ap (λ k. (entry_count (take (at + 1) old), k)) stamp ∙ ap (rank_in generation old) (sym from) in
       let stands : ◌≡◌ {A = Option (ℕ × T)} (Some (g, m.new)) (Some ((numbers m.to).1, m.new)) = ap (λ (p : Pointer). Some (p.1, m.new)) (sym onto) in
       record {
         moves = c.moves ++ m ∷ [];
@@ -267,9 +267,9 @@ module _ {X T : Type 0} (entry : X → Option (ℕ × T)) where
         → entry x ≡ None → es1 ≡ with_item es (at + 1) x → item es1 (to + 1) ≡ Some there → entry there ≡ None
     place_free_slot es0 es es1 first f at to x old there c inside found free is read =
         same_Some _ _ (
-          sym (item-map_some entry es1 (to + 1) there read)
-          ∙ ap (λ l. item l (to + 1)) (slot_freed es es1 (at + 1) x free is)
-          ∙ place_free numbers R generation first (map entry es0) (map entry es) f at to (entry old) c (omega (arith, inside, length-map es0 entry)) (item-map_some entry es (at + 1) old found)
+        sym (item-map_some entry es1 (to + 1) there read)
+        ∙ ap (λ l. item l (to + 1)) (slot_freed es es1 (at + 1) x free is)
+        ∙ place_free numbers R generation first (map entry es0) (map entry es) f at to (entry old) c (omega (arith, inside, length-map es0 entry)) (item-map_some entry es (at + 1) old found)
         )
 
     pub CompactAt-moved_slot : (es0 es es1 es2 : List X) (first f next : F) (at to g : ℕ) (x y old : X) (e : ℕ × T) (m : Move P T)
@@ -279,8 +279,8 @@ module _ {X T : Type 0} (entry : X → Option (ℕ × T)) where
         → CompactAt numbers R generation first (map entry es0) (map entry es2) next (at + 1) (to + 1)
     CompactAt-moved_slot es0 es es1 es2 first f next at to g x y old e m c inside found live free is again puts from was onto stamp step =
         let made : map entry es2 ≡ with_item (with_item (map entry es) (at + 1) None) (to + 1) (Some (g, m.new)) =
-            ap (map entry) again ∙ map-with_item entry es1 (to + 1) y ∙ ap (with_item (map entry es1) (to + 1)) puts
-            ∙ ap (λ l. with_item l (to + 1) (Some (g, m.new))) (slot_freed es es1 (at + 1) x free is) in
+        ap (map entry) again ∙ map-with_item entry es1 (to + 1) y ∙ ap (with_item (map entry es1) (to + 1)) puts
+        ∙ ap (λ l. with_item l (to + 1) (Some (g, m.new))) (slot_freed es es1 (at + 1) x free is) in
         rw made
         (CompactAt-moved numbers R generation first (map entry es0) (map entry es) f next at to g e m c (omega (arith, inside, length-map es0 entry))
         (item-map_some entry es (at + 1) old found ∙ ap Some live) from was onto stamp step)

@@ -187,8 +187,7 @@ module _ {I T A : Type 0} (held : T → List I) (refill : T → List I → T) (l
       let e2 : recast_answer image (held n.value) ≡ Err i = ap (λ z. recast_answer image (held z)) (sym v) ∙ e in
       let new2 : y ≡ refill n.value (recast_items image (held n.value)) = new ∙ ap (λ z. refill z (recast_items image (held z))) v in
       let err = refill_err held refill law image n.value (values_of n.others) i e2 in
-      let split : entries (slots (with_value now k.0 y)) ≡ (w.done ++ (k, y) ∷ []) ++ n.others = ap entries (sets now k.0 y) ∙ entries_with_value (slots now) w.done k n.value y n.others n.whole ∙ sym (append_assoc w.done ((k, y) ∷ []) n.others) in
-      (
+      let split : entries (slots (with_value now k.0 y)) ≡ (w.done ++ (k, y) ∷ []) ++ n.others = ap entries (sets now k.0 y) ∙ entries_with_value (slots now) w.done k n.value y n.others n.whole ∙ sym (append_assoc w.done ((k, y) ∷ []) n.others) in (
         sym (written_same (with_value now k.0 y) (w.done ++ (k, y) ∷ []) n.others split)
             ∙ ap (λ z. written with_value (keys_of n.others) (values_of n.others) (with_value now k.0 z)) new2
             ∙ ap (λ vs. written with_value (k ∷ keys_of n.others) vs now) (sym err.0)

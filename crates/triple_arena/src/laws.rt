@@ -1,14 +1,16 @@
 //! What holds of every arena: laws over several calls.
 
-ghost use Rattle.std.specs.Prelude.{◌≡◌, ◌⊎◌, ◌↔◌, ◌<◌, ℕ, List, [], ◌∷◌, ◌++◌, map, All, Contains, Option, Some, None, IsSome, false, min};
+ghost use Rattle.std.specs.Prelude.{◌≡◌, ◌⊎◌, ◌↔◌, ◌<◌, ℕ, List, [], ◌∷◌, ◌++◌, map, All, Contains, Option, Some, None, IsSome, false, length, min};
+ghost use Rattle.std.specs.List.{range_with_len};
 ghost use Rattle.triple_arena_stack.specs.StackKind.{StackKind};
 ghost use Rattle.triple_arena_ptr.specs.Pointers.{Pointer};
 ghost use Rattle.triple_arena.specs.Entries.{entry_in, look_up_in, IsLast};
-ghost use Rattle.triple_arena.specs.ArenaState.{ArenaState, new_arena, arena_len, capacity, entry, with_value, IsWellFormed};
+ghost use Rattle.triple_arena.specs.ArenaState.{ArenaState, new_arena, arena_len, capacity, entry, look_up, with_value, IsWellFormed};
 ghost use Rattle.triple_arena.specs.Insertion.{inserted};
 ghost use Rattle.triple_arena.specs.Ending.{removed, invalidated, cleared};
 ghost use Rattle.triple_arena.specs.FreeList.{tidied, without_free_end, IsRising};
-ghost use Rattle.triple_arena.specs.Walks.{Stand, Steps, Walk, IsAtFirst, keys};
+ghost use Rattle.triple_arena.specs.Walks.{Stand, Steps, Walk, IsAtFirst, keys, values};
+ghost use Rattle.triple_arena.specs.Compression.{compressed, rank};
 ghost use Rattle.triple_arena.specs.Capacity.{EndsBy, reallocated, with_limit, grown};
 
 /// A limit that is set back: once a limit is set, the old one can be set again, and then the old
@@ -79,4 +81,22 @@ pub fn forward_walk<T>()
         → Walk greatest from turns to → Steps greatest last to None end
         → IsSome (entry_in first i) → All (λ turn. IsSome (entry_in turn.0 i)) turns
         → IsSome (entry_in last i) → Contains (map (λ turn. turn.1.0) turns) i }
+{}
+
+/// A compression moves the entries to the indexes from 1 to their number, by `rank`: it gives no two
+/// entries one index, keeps their order, and leaves out no index. Each has the value that was given
+/// for it.
+pub fn compression_moves<T>()
+    ensures onto { (s : ArenaState T) (counter : ℕ)
+        → map (λ p. p.0) (map (rank s counter) (keys s.slots)) ≡ range_with_len 1 (arena_len s) }
+    ensures in_order { (s : ArenaState T) (counter : ℕ) (p q : Pointer) → IsSome (look_up s q)
+        → p.0 < q.0 → (rank s counter p).0 < (rank s counter q).0 }
+    ensures one_to_one { (s : ArenaState T) (counter : ℕ) (p q : Pointer) → IsSome (look_up s p)
+        → IsSome (look_up s q) → rank s counter p ≡ rank s counter q → p ≡ q }
+    ensures pointers { (s : ArenaState T) (counter : ℕ) (new : List T) → length new ≡ arena_len s
+        → keys (compressed s counter new).slots ≡ map (rank s counter) (keys s.slots) }
+    ensures values { (s : ArenaState T) (counter : ℕ) (new : List T) → length new ≡ arena_len s
+        → values (compressed s counter new).slots ≡ new }
+    ensures well_formed { (s : ArenaState T) (counter : ℕ) (new : List T) → IsWellFormed s
+        → length new ≡ arena_len s → IsWellFormed (compressed s counter new) }
 {}

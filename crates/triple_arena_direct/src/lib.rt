@@ -4,6 +4,7 @@
 mod direct_arena;
 pub mod direct_arena_iterators;
 mod indexing;
+mod recaster;
 mod slot;
 mod slots;
 mod text;

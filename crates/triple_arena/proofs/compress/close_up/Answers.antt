@@ -65,26 +65,26 @@ moves-preserved g c =
             ap g.S.NonZeroInxGenericStack.limit w.replace-in-Some.ensures.stack ∙ g.met.S.NonZeroInxGenericStack.limit_with_items _ _ ∙ limit,
             ap length put ∙ length-with_item freed_items (c.moves.to + 1) _ ∙ size,
             CompactAt-moved_slot g.X.EntrySlot.entry _ _ _ first items freed_items put_items c.args.f c.moves.f w.f-given.new.self c.moves.at c.moves.to
-            (g.P.Gen.PtrGen.number w.unwrap_or-new_generation.result) c.vacant.result w.holding.result c.replace.result
-            _
-            (record { from = w.pointer.result; old = _; to = w.pointer-in-Some.result; new = w.f-given.result })
-            c.moves.invariant.4 inside found
-            (sym w.in-Some.ensures)
-            c.vacant.ensures freed put w.holding.ensures
-            (w.pointer.ensures ∙ pointer_is _ _ _ _ here refl)
-            refl
-            (w.pointer-in-Some.ensures ∙ pointer_is _ _ _ _ there refl)
-            (ap g.P.Gen.PtrGen.number w.unwrap_or-new_generation.ensures ∙ number_of_given g.P.Gen.PtrGen.number c.args.generation _)
-            w.f-given.ensures,
+                (g.P.Gen.PtrGen.number w.unwrap_or-new_generation.result) c.vacant.result w.holding.result c.replace.result
+                _
+                (record { from = w.pointer.result; old = _; to = w.pointer-in-Some.result; new = w.f-given.result })
+                c.moves.invariant.4 inside found
+                (sym w.in-Some.ensures)
+                c.vacant.ensures freed put w.holding.ensures
+                (w.pointer.ensures ∙ pointer_is _ _ _ _ here refl)
+                refl
+                (w.pointer-in-Some.ensures ∙ pointer_is _ _ _ _ there refl)
+                (ap g.P.Gen.PtrGen.number w.unwrap_or-new_generation.ensures ∙ number_of_given g.P.Gen.PtrGen.number c.args.generation _)
+                w.f-given.ensures,
           )
       | in_default w ↦ rw (w.stack-is, w.f-is, w.to-is) (
-          c.moves.invariant.0,
-          room,
-          limit,
-          size,
-          CompactAt-free_slot g.X.EntrySlot.entry _ _ _ first items freed_items c.args.f c.moves.f c.moves.at c.moves.to c.vacant.result c.replace.result c.moves.invariant.4 inside found
-          (none_unpacked g.P.Gen.PtrGen.number _ _ c.unpack.ensures w.in_default.is) c.vacant.ensures freed,
-        )
+        c.moves.invariant.0,
+        room,
+        limit,
+        size,
+        CompactAt-free_slot g.X.EntrySlot.entry _ _ _ first items freed_items c.args.f c.moves.f c.moves.at c.moves.to c.vacant.result c.replace.result c.moves.invariant.4 inside found
+            (none_unpacked g.P.Gen.PtrGen.number _ _ c.unpack.ensures w.in_default.is) c.vacant.ensures freed,
+      )
     ]
 
 pub cut-requires-after_bounds : goal.cut-requires-after_bounds
@@ -94,8 +94,7 @@ cut-requires-after_bounds g c κs within =
 
 pub returns-clause-moved : goal.returns-clause-moved
 returns-clause-moved g c =
-    let done = CompactAt-done _ _ _ c.args.f (map g.X.EntrySlot.entry (g.S.NonZeroInxGenericStack.items c.args.stack.now)) (map g.X.EntrySlot.entry (g.S.NonZeroInxGenericStack.items c.moves.stack)) c.moves.f c.moves.at c.moves.to c.moves.invariant.4 (omega (arith, c.len-at-end.ensures, c.moves-test.false, length-map (g.S.NonZeroInxGenericStack.items c.args.stack.now) g.X.EntrySlot.entry)) in
-    (
+    let done = CompactAt-done _ _ _ c.args.f (map g.X.EntrySlot.entry (g.S.NonZeroInxGenericStack.items c.args.stack.now)) (map g.X.EntrySlot.entry (g.S.NonZeroInxGenericStack.items c.moves.stack)) c.moves.f c.moves.at c.moves.to c.moves.invariant.4 (omega (arith, c.len-at-end.ensures, c.moves-test.false, length-map (g.S.NonZeroInxGenericStack.items c.args.stack.now) g.X.EntrySlot.entry)) in (
       map (λ m. m.new) done.moves,
       record { moves = done.moves; last = c.moves.f; ran = done.ran; came = done.came; went = done.went; gave = refl },
       c.cut.ensures.slots _ done.spare done.size done.shape ∙ done.stands,

@@ -15,8 +15,8 @@ ends-preserved g c =
       g.met.S.NonZeroInxGenericStack.room_with_items _ _ ∙ c.ends.invariant.0,
       g.met.S.NonZeroInxGenericStack.limit_with_items _ _ ∙ c.ends.invariant.1,
       rw g.met.S.NonZeroInxGenericStack.items_with_items (λ kept spare size is.
-        let now = c.ends.invariant.2 kept spare size is in
-        cut_on g.X.EntrySlot.entry kept (g.S.NonZeroInxGenericStack.items c.ends.stack) now.0 now.1 (omega (arith, size, c.len.ensures, c.ends-test.true))),
+          let now = c.ends.invariant.2 kept spare size is in
+          cut_on g.X.EntrySlot.entry kept (g.S.NonZeroInxGenericStack.items c.ends.stack) now.0 now.1 (omega (arith, size, c.len.ensures, c.ends-test.true))),
     )
 
 pub returns-clause-slots : goal.returns-clause-slots

@@ -28,11 +28,10 @@ walk-preserved g c =
     let steps = rw c.in-Some.is at (g.met.A.CompactArenaTrait.advanced _ _ _ _ c.advance.ensures.steps) in
     let w = rw (keys_taken _ _ _ _ _ c.walk.invariant.0 steps) at c.walk.invariant.1 in
     let k = g.P.Ptr.numbers c.in-Some.p in
-    let same = ahead_by_keys (g.A.ArenaTrait.stand c.advance.new.self) (g.A.ArenaTrait.slots (g.A.ArenaTrait.with_value c.walk.arena k.0 c.recast.new.self)) (g.A.ArenaTrait.slots c.walk.arena) (keys_kept _ _ _ _ _ _ _ _ c.args.arena.now c.walk.arena k _ c.recast.new.self w) in
-    (
-    forward_stays _ _ _ _ _ steps ∙ c.walk.invariant.0,
-    rw same (walk_ok _ _ _ _ _ _ _ _ c.args.arena.now c.walk.arena k _ c.unwrap-value.result.now c.recast.new.self w
-    (sym (ap option_copied_mut c.unwrap-value.ensures) ∙ c.get_mut.ensures.value) c.recast.ensures.after (sym c.recast.ensures.answer ∙ c.in_ok-recast.was)),
+    let same = ahead_by_keys (g.A.ArenaTrait.stand c.advance.new.self) (g.A.ArenaTrait.slots (g.A.ArenaTrait.with_value c.walk.arena k.0 c.recast.new.self)) (g.A.ArenaTrait.slots c.walk.arena) (keys_kept _ _ _ _ _ _ _ _ c.args.arena.now c.walk.arena k _ c.recast.new.self w) in (
+      forward_stays _ _ _ _ _ steps ∙ c.walk.invariant.0,
+      rw same (walk_ok _ _ _ _ _ _ _ _ c.args.arena.now c.walk.arena k _ c.unwrap-value.result.now c.recast.new.self w
+          (sym (ap option_copied_mut c.unwrap-value.ensures) ∙ c.get_mut.ensures.value) c.recast.ensures.after (sym c.recast.ensures.answer ∙ c.in_ok-recast.was)),
     )
 
 pub returns-in_err-recast-clause-after : goal.returns-in_err-recast-clause-after
@@ -57,3 +56,6 @@ returns-clause-after g c = (walk_end _ _ _ _ _ _ _ _ c.args.arena.now c.walk.are
 
 pub returns-clause-answer : goal.returns-clause-answer
 returns-clause-answer g c = (walk_end _ _ _ _ _ _ _ _ c.args.arena.now c.walk.arena (rw (keys_none _ _ _ _ (rw c.in_default.is at (g.met.A.CompactArenaTrait.advanced _ _ _ _ c.advance.ensures.steps))) at c.walk.invariant.1)).1
+
+pub walk-smaller : goal.walk-smaller
+walk-smaller g c = (taken _ _ _ _ _ (rw c.in-Some.is at (g.met.A.CompactArenaTrait.advanced _ _ _ _ c.advance.ensures.steps))).fewer

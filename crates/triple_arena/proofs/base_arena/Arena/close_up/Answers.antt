@@ -36,8 +36,7 @@ returns g c =
     (c.close_up.ensures.room ∙ ap (λ s. s.room) c.self.view_is)
     (c.close_up.ensures.limit ∙ ap (λ s. s.limit) c.self.view_is)
     (ap (λ s. s.greatest) c.self.view_is)).1 in
-    let same : n ≡ c.args.self.now.counter = ap (λ s. s.counter) c.self.view_is in
-    (
+    let same : n ≡ c.args.self.now.counter = ap (λ s. s.counter) c.self.view_is in (
       closed.0,
       subst (λ k. Moves g.P.Ptr.numbers (goal.F-step g) (rank c.args.self.now k) c.args.f (entries c.args.self.now.slots) closed.0) same closed.1,
       is ∙ ap (λ k. compressed c.args.self.now k closed.0) same,

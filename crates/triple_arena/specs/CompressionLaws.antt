@@ -1,5 +1,7 @@
 -- What a compression leaves of the entries, by their pointers.
-use Rattle.std.proofs.Common.{◌≡◌, ℕ, zero, suc, ◌+◌, List, [], ◌∷◌, ◌++◌, length, map, set, take, slice_get, Option, Some, None, cond, is_some, refl, sym, ap, ◌∙◌, arith, append_assoc}
+use Rattle.std.proofs.Common.{◌≡◌, ℕ, zero, suc, ◌+◌, ◌<◌, List, [], ◌∷◌, ◌++◌, length, map, set, take, slice_get, Option, Some, None, cond, is_some, IsSome, refl, sym, ap, ◌∙◌, inl, inr, arith, append_assoc, true≢false}
+use Rattle.std.proofs.lemmas.Bool.{cases_lt}
+use Rattle.std.proofs.lemmas.Option.{some_pair_parts}
 use Rattle.std.proofs.lemmas.List.{length_push, length-map}
 use Rattle.std.proofs.lemmas.List.Sums.{sum_by_push, sum_by-cons}
 use Rattle.std.specs.List.{range_with_len}
@@ -7,10 +9,10 @@ use Rattle.triple_arena_ptr.specs.Pointers.{Pointer}
 use Rattle.std.specs.Option.{option_map}
 use Rattle.triple_arena.specs.Items.{with_item}
 use Rattle.triple_arena.specs.ItemLaws.{joined}
-use Rattle.triple_arena.specs.Entries.{entry_in, entry_count, with_value_in}
+use Rattle.triple_arena.specs.Entries.{entry_in, look_up_in, entry_count, with_value_in}
 use Rattle.triple_arena.specs.ArenaState.{ArenaState, with_value}
 use Rattle.triple_arena.specs.Walks.{entries_from, keys_of, values_of, entries, keys, values}
-use Rattle.triple_arena.specs.WalkLaws.{length-entries}
+use Rattle.triple_arena.specs.WalkLaws.{length-entries, found}
 use Rattle.triple_arena.specs.Compression.{closed_up, compressed, rank, rank_among, rank_in, placed}
 
 pub length-keys : {T : Type 0} (slots : List (Option (ℕ × T))) → length (keys slots) ≡ entry_count slots
@@ -123,3 +125,34 @@ module _ {T : Type 0} where
 
   pub with_value-same : (s : ArenaState T) (i : ℕ) (e : ℕ × T) → entry_in s.slots i ≡ Some e → with_value s i e.1 ≡ s
   with_value-same s i e h = ap (λ slots. record s { slots = slots }) (value_same s.slots i e h)
+
+  -- an entry has a greater number than those below it
+  pub rank_below : (xs : List (Option (ℕ × T))) (i j : ℕ) → i < j → IsSome (entry_in xs j) → rank_among xs i < rank_among xs j
+  rank_below xs i zero below live = absurd (omega (arith, below))
+  rank_below [] i (suc j) below live = absurd (true≢false (sym live))
+  rank_below (None ∷ xs) zero (suc zero) below live = absurd (true≢false (sym live))
+  rank_below (Some e ∷ xs) zero (suc zero) below live = omega (arith, sum_by-cons one (Some e) [])
+  rank_below (x ∷ xs) zero (suc (suc k)) below live =
+      let later = rank_below xs zero (suc k) (omega arith) live in
+      omega (arith, later, sum_by-cons one x (take (suc k) xs))
+  rank_below (x ∷ xs) (suc i) (suc zero) below live = absurd (omega (arith, below))
+  rank_below (x ∷ xs) (suc i) (suc (suc k)) below live =
+      let later = rank_below xs i (suc k) (omega (arith, below)) live in
+      omega (arith, later, sum_by-cons one x (take i xs), sum_by-cons one x (take (suc k) xs))
+
+  -- no two entries have one number
+  pub rank_apart : (slots : List (Option (ℕ × T))) (p q : Pointer) → IsSome (look_up_in slots p) → IsSome (look_up_in slots q) → rank_among slots p.0 ≡ rank_among slots q.0 → p ≡ q
+  rank_apart slots p q live live' same =
+      let f = found slots p live in
+      let f' = found slots q live' in
+      elim (cases_lt p.0 q.0) [
+        | inl below ↦ absurd (omega (arith, same, rank_below slots p.0 q.0 below (rw f'.entry refl)))
+        | inr above ↦ elim (cases_lt q.0 p.0) [
+          | inl below ↦ absurd (omega (arith, same, rank_below slots q.0 p.0 below (rw f.entry refl)))
+          | inr least ↦
+              let index : p.0 ≡ q.0 = omega (arith, above, least) in
+              let entry : ◌≡◌ {A = Option (ℕ × T)} (Some (p.1, f.value)) (Some (q.1, f'.value)) = sym f.entry ∙ ap (entry_in slots) index ∙ f'.entry in
+              let generation : p.1 ≡ q.1 = (some_pair_parts p.1 q.1 f.value f'.value entry).0 in
+              ap (λ n. (n, p.1)) index ∙ ap (λ n. (q.0, n)) generation
+        ]
+      ]

@@ -22,7 +22,6 @@ ghost use Rattle.triple_arena.specs.Lent.{lends_values};
 ghost use Rattle.triple_arena.specs.Histories.{resizing, Fits, Continues, CountsUp};
 
 mod compaction;
-
 mod copies;
 
 use crate::answers::{told, told_valid};

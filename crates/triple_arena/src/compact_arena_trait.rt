@@ -54,7 +54,12 @@ pub trait CompactArenaTrait<P: Ptr, T>: ArenaTrait<P, T> {
         ensures moved { (values : List T)
             × Moves P.numbers F.step (rank self.old reset_generation) f
             (entries (Self.slots self.old)) values
-            × compresses self.old reset_generation values self.new };
+            × compresses self.old reset_generation values self.new }
+        ensures keys { keys (Self.slots self.new)
+            ≡ map (rank self.old reset_generation) (keys (Self.slots self.old)) }
+        ensures len { entry_count (Self.slots self.new) ≡ entry_count (Self.slots self.old) }
+        ensures limit { Self.limit self.new ≡ Self.limit self.old }
+        ensures capacity { Self.fitting self.new ≡ Self.fitting self.old };
 
     // a step of an advancer answers the live pointer that is met first, if one is ahead
     ghost advanced: { (before : Self.PtrAdvancer) (arena : Self) (answer : Option P)

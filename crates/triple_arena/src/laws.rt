@@ -1,18 +1,18 @@
 //! What holds of every arena: laws over several calls.
 
-ghost use Rattle.std.specs.Prelude.{◌≡◌, ◌⊎◌, ◌↔◌, ◌<◌, ◌≤◌, ℕ, Bool, List, [], ◌∷◌, ◌++◌, map, All, Contains, Option, Some, None, IsSome, IsTrue, false, min};
-ghost use Rattle.std.specs.List.{FoldsTo};
+ghost use Rattle.std.specs.Prelude.{◌≡◌, ◌⊎◌, ◌↔◌, ◌<◌, ◌≤◌, ℕ, Bool, List, [], ◌∷◌, ◌++◌, map, All, Contains, Option, Some, None, IsSome, IsTrue, false, length, min};
+ghost use Rattle.std.specs.List.{FoldsTo, range_with_len};
 ghost use Rattle.triple_arena_stack.specs.StackKind.{StackKind};
 ghost use Rattle.triple_arena_ptr.specs.Pointers.{Pointer};
 ghost use Rattle.triple_arena.specs.Entries.{entry_in, look_up_in, IsLast};
-ghost use Rattle.triple_arena.specs.ArenaState.{ArenaState, new_arena, arena_len, capacity, entry, with_value, IsWellFormed};
+ghost use Rattle.triple_arena.specs.ArenaState.{ArenaState, new_arena, arena_len, capacity, entry, look_up, with_value, IsWellFormed};
 ghost use Rattle.triple_arena.specs.Insertion.{inserted};
 ghost use Rattle.triple_arena.specs.Ending.{removed, invalidated, cleared};
 ghost use Rattle.triple_arena.specs.FreeList.{tidied, without_free_end, IsRising};
-ghost use Rattle.triple_arena.specs.Walks.{Stand, Steps, Walk, IsAtFirst, keys};
+ghost use Rattle.triple_arena.specs.Walks.{Stand, Steps, Walk, IsAtFirst, keys, values};
 ghost use Rattle.triple_arena.specs.Capacity.{EndsBy, reallocated, with_limit, grown};
 ghost use Rattle.triple_arena.specs.Histories.{has, ModelCall, insertion, History, begun_with, and_then, given, ended, followed_by, is_live, Fits, Continues, IsModelCall, AreModelCalls};
-ghost use Rattle.triple_arena.specs.Compression.{closed_up, compressed};
+ghost use Rattle.triple_arena.specs.Compression.{closed_up, compressed, rank};
 ghost use Rattle.triple_arena.specs.Cloning.{CloneTurn};
 
 use crate::arena_clone_trait::ArenaCloneFromWith;
@@ -126,4 +126,22 @@ pub fn clones_settle<P: Ptr, T, U, A: ArenaCloneFromWith<P, T>, B: ArenaCloneFro
         → FoldsTo (CloneTurn A.slots A.fitting A.clones B.slots B.fitting B.clones)
         middle turns end
         → (A.fitting end.0 ≡ A.fitting middle.0) × (B.fitting end.1 ≡ B.fitting middle.1) }
+{}
+
+/// A compression moves the entries to the indexes from 1 to their number, by `rank`: it gives no two
+/// entries one index, keeps their order, and leaves out no index. Each has the value that was given
+/// for it.
+pub fn compression_moves<T>()
+    ensures onto { (s : ArenaState T) (counter : ℕ)
+        → map (λ p. p.0) (map (rank s counter) (keys s.slots)) ≡ range_with_len 1 (arena_len s) }
+    ensures in_order { (s : ArenaState T) (counter : ℕ) (p q : Pointer) → IsSome (look_up s q)
+        → p.0 < q.0 → (rank s counter p).0 < (rank s counter q).0 }
+    ensures one_to_one { (s : ArenaState T) (counter : ℕ) (p q : Pointer) → IsSome (look_up s p)
+        → IsSome (look_up s q) → rank s counter p ≡ rank s counter q → p ≡ q }
+    ensures pointers { (s : ArenaState T) (counter : ℕ) (new : List T) → length new ≡ arena_len s
+        → keys (compressed s counter new).slots ≡ map (rank s counter) (keys s.slots) }
+    ensures values { (s : ArenaState T) (counter : ℕ) (new : List T) → length new ≡ arena_len s
+        → values (compressed s counter new).slots ≡ new }
+    ensures well_formed { (s : ArenaState T) (counter : ℕ) (new : List T) → IsWellFormed s
+        → length new ≡ arena_len s → IsWellFormed (compressed s counter new) }
 {}

@@ -8,6 +8,7 @@ mod insert_entry;
 pub mod laws;
 mod lending_arena;
 mod lent_slots;
+mod recaster;
 mod slot;
 mod slots;
 mod text;

@@ -59,3 +59,6 @@ returns-clause-after g c = (walk_end _ _ _ _ _ _ _ _ c.args.arena.now c.walk.are
 
 pub returns-clause-answer : goal.returns-clause-answer
 returns-clause-answer g c = (walk_end _ _ _ _ _ _ _ _ c.args.arena.now c.walk.arena (rw (keys_none _ _ _ _ (rw c.in_default.is at (g.met.A.CompactArenaTrait.advanced _ _ _ _ c.advance.ensures.steps))) at c.walk.invariant.1)).1
+
+pub walk-smaller : goal.walk-smaller
+walk-smaller g c = (taken _ _ _ _ _ (rw c.in-Some.is at (g.met.A.CompactArenaTrait.advanced _ _ _ _ c.advance.ensures.steps))).fewer

@@ -1,7 +1,7 @@
 use Rattle.std.proofs.Common.{◌≡◌, ◌∙◌, sym, ap, subst, map, rules}
 use Rattle.triple_arena.specs.Walks.{keys, values}
 use Rattle.triple_arena.specs.CompressionLaws.{length-values}
-use Rattle.triple_arena.proofs.Compaction.{values_kept, found_renamed, count_renamed}
+use Rattle.triple_arena.proofs.Compaction.{values_kept, found_renamed}
 use Rattle.triple_arena.proofs.compact_arena_trait.CompactArenaTrait.compress.Goals as goal
 
 pub returns-clause-done : goal.returns-clause-done
@@ -12,7 +12,7 @@ returns-clause-done g c =
 
 pub returns-clause-keys : goal.returns-clause-keys
 returns-clause-keys g c =
-    g.met.Self.CompactArenaTrait.keys_compressed _ _ _ _ (returns-clause-done g c) (length-values (g.Self.ArenaTrait.slots c.args.self.now))
+    c.compress_with.ensures.keys
 
 pub returns-clause-values : goal.returns-clause-values
 returns-clause-values g c =
@@ -21,13 +21,3 @@ returns-clause-values g c =
 pub returns-clause-found : goal.returns-clause-found
 returns-clause-found g c =
     found_renamed (g.Self.ArenaTrait.slots c.args.self.now) (g.Self.ArenaTrait.slots c.compress_with.new.self) (g.Self.CompactArenaTrait.rank c.args.self.now c.args.reset_generation) (returns-clause-keys g c) (returns-clause-values g c)
-
-pub returns-clause-len : goal.returns-clause-len
-returns-clause-len g c =
-    count_renamed (g.Self.ArenaTrait.slots c.args.self.now) (g.Self.ArenaTrait.slots c.compress_with.new.self) (g.Self.CompactArenaTrait.rank c.args.self.now c.args.reset_generation) (returns-clause-keys g c)
-
-pub returns-clause-limit : goal.returns-clause-limit
-returns-clause-limit g c = g.met.Self.CompactArenaTrait.limit_compressed _ _ _ _ (returns-clause-done g c)
-
-pub returns-clause-capacity : goal.returns-clause-capacity
-returns-clause-capacity g c = g.met.Self.CompactArenaTrait.fitting_compressed _ _ _ _ (returns-clause-done g c)

@@ -1,4 +1,25 @@
+use Rattle.std.proofs.Common.{ap}
+use Rattle.triple_arena_ptr.specs.Numbers.{raise, first_generation}
+use Rattle.triple_arena.specs.ArenaState.{capacity}
+use Rattle.triple_arena.specs.Compression.{counter_after}
+use Rattle.triple_arena.specs.CompressionLaws.{keys-compressed}
+use Rattle.triple_arena.proofs.Compaction.{count-moved, count_renamed}
 use Rattle.triple_arena.proofs.base_arena.compaction.ArenaCompactArenaTrait.compress_with.Goals as goal
 
 pub returns-clause-moved : goal.returns-clause-moved
 returns-clause-moved g c = rw c.renew_counter-answer.ensures.state at c.close_up.ensures
+
+pub returns-clause-keys : goal.returns-clause-keys
+returns-clause-keys g c =
+    let m = returns-clause-moved g c in
+    keys-compressed c.args.self.now c.close_up.new.self (counter_after (first_generation g.P.Gen.PtrGen.counting) (raise g.P.Gen.PtrGen.counting g.P.Gen.PtrGen.greatest) c.args.reset_generation c.args.self.now) m.0 m.2
+    (count-moved g.P.Ptr.numbers (goal.F-step g) _ c.args.f c.args.self.now.slots m.0 m.1)
+
+pub returns-clause-len : goal.returns-clause-len
+returns-clause-len g c = count_renamed c.args.self.now.slots c.close_up.new.self.slots _ (returns-clause-keys g c)
+
+pub returns-clause-limit : goal.returns-clause-limit
+returns-clause-limit g c = ap (λ s. s.limit) (returns-clause-moved g c).2
+
+pub returns-clause-capacity : goal.returns-clause-capacity
+returns-clause-capacity g c = ap capacity (returns-clause-moved g c).2

@@ -1,6 +1,8 @@
 use Rattle.std.proofs.Common.{◌≡◌, ◌∙◌, ap, sym, subst, length, map, arith}
 use Rattle.std.proofs.lemmas.List.{length-map}
-use Rattle.triple_arena_direct.specs.DirectState.{compressed}
+use Rattle.triple_arena.proofs.Compaction.{count-moved, count_renamed}
+use Rattle.triple_arena_direct.specs.DirectState.{compressed, direct_capacity}
+use Rattle.triple_arena_direct.specs.CompressionLaws.{keys-compressed}
 use Rattle.triple_arena_direct.specs.Slot.{slot_entry}
 use Rattle.triple_arena_direct.specs.Layout.{Counts}
 use Rattle.triple_arena_direct.proofs.Held.{made}
@@ -35,3 +37,17 @@ returns-clause-moved g c =
           (ap (λ s. s.greatest) c.self.view_is)
           (Counts-compressed _ c.args.self.now m.0 closed.2 (subst (Counts _) c.self.view_is c.self.invariant))).1,
     )
+
+pub returns-clause-keys : goal.returns-clause-keys
+returns-clause-keys g c =
+    let m = returns-clause-moved g c in
+    keys-compressed c.args.self.now _ m.0 m.2 (count-moved g.P.Ptr.numbers (goal.F-step g) _ c.args.f c.args.self.now.slots m.0 m.1)
+
+pub returns-clause-len : goal.returns-clause-len
+returns-clause-len g c = count_renamed c.args.self.now.slots _ _ (returns-clause-keys g c)
+
+pub returns-clause-limit : goal.returns-clause-limit
+returns-clause-limit g c = ap (λ s. s.limit) (returns-clause-moved g c).2
+
+pub returns-clause-capacity : goal.returns-clause-capacity
+returns-clause-capacity g c = ap direct_capacity (returns-clause-moved g c).2

@@ -1,0 +1,5 @@
+//! Tests of compaction by public calls.
+#![tactic(auto)]
+
+#[cfg(test)]
+mod tests;

@@ -1,0 +1,3 @@
+//! Compaction of arenas, told by their texts.
+
+mod compression;

@@ -1,0 +1,9 @@
+//! What no clause of the direct arena says: that its calls succeed, worked examples, and refusals of
+//! memory.
+
+mod calls;
+mod clones;
+mod direct_call;
+mod insertion;
+mod pops;
+mod refused_memory;

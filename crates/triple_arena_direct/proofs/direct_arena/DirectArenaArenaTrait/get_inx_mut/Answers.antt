@@ -19,5 +19,6 @@ returns-in-Some g c = (
   record {
     value = sym (entry_value_read _ c.args.self.now.slots (g.P.Inx.PtrInx.number c.args.inx) (non_zero_usize_get c.in-Some.inx) _ (ap (λ s. s.slots) c.self.view_is) c.in-Some.ensures.index c.value_mut.ensures.value);
     writes_back = tt;
+    fresh = λ value h none. none;
   },
 )

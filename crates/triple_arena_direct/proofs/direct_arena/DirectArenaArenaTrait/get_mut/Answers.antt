@@ -19,5 +19,7 @@ returns-in-Some g c = (
   record {
     value = sym (value_read _ c.args.self.now.slots (g.P.Ptr.numbers c.args.p) (non_zero_usize_get c.in-Some.inx) _ (ap (λ s. s.slots) c.self.view_is) c.in-Some.ensures.index (sym c.in-Some.ensures.live) c.value_mut.ensures.value);
     writes_back = tt;
+    found = λ h none. absurd none;
+    fresh = λ value h none. none;
   },
 )

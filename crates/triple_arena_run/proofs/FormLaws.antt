@@ -1,7 +1,7 @@
 -- The command of a line and the forms of lines agree.
 use Rattle.std.proofs.Common.{◌≡◌, ℕ, ◌^◌, ◌<◌, Bool, true, false, cond, List, [], ◌∷◌, ◌++◌, Option, None, Some, sym, ◌∙◌, ap, refl, subst, arith, inl, inr, length, append_assoc}
-use Rattle.std.specs.Prelude.{codes, ◌⊎◌, ◌==◌, All, Contains}
-use Rattle.std.specs.Option.{option_map}
+use Rattle.std.specs.Prelude.{codes, ◌⊎◌, ◌==◌, not, All, Contains}
+use Rattle.std.specs.Option.{option_map, option_and_then}
 use Rattle.std.specs.Char.{is_ascii_digit}
 use Rattle.std.specs.List.{list_all, slice_split, onto_first, join_with_byte}
 use Rattle.std.specs.Str.{bytes_eq}
@@ -12,10 +12,10 @@ use Rattle.std.proofs.lemmas.List.Splits.{join_with_byte-slice_split, slice_spli
 use Rattle.std.proofs.lemmas.Str.Parse.{tells_digits}
 use Rattle.std.proofs.lemmas.Bool.Decides.{nat_tests}
 use Rattle.triple_arena_run.specs.declared.command.Command.{Command}
-use Rattle.triple_arena_run.specs.declared.command.Command.TheVariants.{Insert, Get, Remove}
+use Rattle.triple_arena_run.specs.declared.command.Command.TheVariants.{Insert, InsertWithin, Get, Set, Remove, Invalidate, Clear, Len, Capacity, Reserve, Show}
 use Rattle.triple_arena_run.specs.Lines.{words_of}
-use Rattle.triple_arena_run.specs.CommandText.{command_of_words, command_of, number_of, link_of, insert_of}
-use Rattle.triple_arena_run.specs.Forms.{WritesNumber, WritesLink, HasForm, FormsAreExact, LinesAreExact}
+use Rattle.triple_arena_run.specs.CommandText.{command_of_words, command_of, number_of, link_of, bare_of, numbered, linked, numbered_of, insert_of}
+use Rattle.triple_arena_run.specs.Forms.{WritesNumber, WritesLink, IsNumbered, IsLinked, HasForm, FormsAreExact, LinesAreExact}
 
 true_or_false : (b : Bool) → (b ≡ true) ⊎ (b ≡ false)
 true_or_false true = inl refl
@@ -84,6 +84,15 @@ digits_no_space (d ∷ ds) all =
     let digit = (tells_digits.parts d ds all).0 in
     All-cons (λ b. (b == 32) ≡ false) d ds (grind (arith, nat_tests, digit)) (digits_no_space ds all.1)
 
+abbrev is_verb : List ℕ → Bool
+is_verb verb = list_all (λ b. not (b == 32)) verb
+
+verb_no_space : (verb : List ℕ) → is_verb verb ≡ true → no_space verb
+verb_no_space [] all = All-nil (λ b. (b == 32) ≡ false)
+verb_no_space (b ∷ bs) all =
+    let parts : ((b == 32) ≡ false) × (is_verb bs ≡ true) = grind (arith, nat_tests, all) in
+    All-cons (λ b. (b == 32) ≡ false) b bs parts.0 (verb_no_space bs parts.1)
+
 words_of-number : (word : List ℕ) (n : ℕ) → WritesNumber word n → words_of word ≡ word ∷ []
 words_of-number word n is = slice_split_none (λ b. b == 32) word (digits_no_space word is.0.1)
 
@@ -94,52 +103,128 @@ words_of-link word (Some name) is = words_of-number word name is
 words_of-more : (word : List ℕ) (n : ℕ) (rest : List ℕ) → WritesNumber word n → words_of (word ++ 32 ∷ rest) ≡ word ∷ words_of rest
 words_of-more word n rest is = slice_split_at (λ b. b == 32) word 32 rest (digits_no_space word is.0.1) refl
 
+words_of-bare : (verb : List ℕ) → is_verb verb ≡ true → words_of verb ≡ verb ∷ []
+words_of-bare verb ok = slice_split_none (λ b. b == 32) verb (verb_no_space verb ok)
+
+words_of-verb : (verb rest : List ℕ) → is_verb verb ≡ true → words_of (verb ++ 32 ∷ rest) ≡ verb ∷ words_of rest
+words_of-verb verb rest ok = slice_split_at (λ b. b == 32) verb 32 rest (verb_no_space verb ok) refl
+
+with_space : (verb word : List ℕ) → verb ++ codes " " ++ word ≡ verb ++ (32 ∷ word)
+with_space verb word = simp append_assoc
+
+with_spaces : (verb first second : List ℕ) → verb ++ codes " " ++ first ++ codes " " ++ second ≡ verb ++ (32 ∷ (first ++ 32 ∷ second))
+with_spaces verb first second = simp append_assoc
+
+set_spaced : (name rest : List ℕ) → (codes "set " ++ name) ++ rest ≡ codes "set" ++ (32 ∷ (name ++ rest))
+set_spaced name rest = simp append_assoc
+
+words_of-two : (datum link : List ℕ) (n : ℕ) (l : Option ℕ) → WritesNumber datum n → WritesLink link l → words_of (datum ++ 32 ∷ link) ≡ datum ∷ link ∷ []
+words_of-two datum link n l number is = words_of-more datum n link number ∙ ap (λ z. datum ∷ z) (words_of-link link l is)
+
+words_of-numbered : (verb line word : List ℕ) (n : ℕ) → is_verb verb ≡ true → line ≡ verb ++ codes " " ++ word → WritesNumber word n → words_of line ≡ verb ∷ word ∷ []
+words_of-numbered verb line word n ok e number =
+    ap words_of (e ∙ with_space verb word) ∙ words_of-verb verb word ok ∙ ap (λ z. verb ∷ z) (words_of-number word n number)
+
+words_of-linked : (verb line datum link : List ℕ) (n : ℕ) (l : Option ℕ) → is_verb verb ≡ true → line ≡ verb ++ codes " " ++ datum ++ codes " " ++ link → WritesNumber datum n → WritesLink link l → words_of line ≡ verb ∷ datum ∷ link ∷ []
+words_of-linked verb line datum link n l ok e number is =
+    ap words_of (e ∙ with_spaces verb datum link) ∙ words_of-verb verb (datum ++ 32 ∷ link) ok ∙ ap (λ z. verb ∷ z) (words_of-two datum link n l number is)
+
+words_of-set : (line name datum link : List ℕ) (k n : ℕ) (l : Option ℕ) → line ≡ (codes "set " ++ name) ++ codes " " ++ datum ++ codes " " ++ link → WritesNumber name k → WritesNumber datum n → WritesLink link l → words_of line ≡ codes "set" ∷ name ∷ datum ∷ link ∷ []
+words_of-set line name datum link k n l e named number is =
+    ap words_of (e ∙ with_spaces (codes "set " ++ name) datum link ∙ set_spaced name (32 ∷ (datum ++ 32 ∷ link)))
+    ∙ words_of-verb (codes "set") (name ++ 32 ∷ (datum ++ 32 ∷ link)) refl
+    ∙ ap (λ z. codes "set" ∷ z) (words_of-more name k (datum ++ 32 ∷ link) named)
+    ∙ ap (λ z. codes "set" ∷ name ∷ z) (words_of-two datum link n l number is)
+
 -- ---- the forms
 
-two-cases : (g r : Bool) (o : Option ℕ) (c : Command ℕ) → cond g (option_map Get o) (cond r (option_map Remove o) None) ≡ Some c
-    → ((n : ℕ) × (g ≡ true) × (o ≡ Some n) × (Get n ≡ c)) ⊎ ((n : ℕ) × (r ≡ true) × (o ≡ Some n) × (Remove n ≡ c))
-two-cases true r None c e = cc
-two-cases true r (Some n) c e = inl (n, refl, refl, cc)
-two-cases false true None c e = cc
-two-cases false true (Some n) c e = inr (n, refl, refl, cc)
-two-cases false false o c e = cc
+-- the first of two choices, or the other
+pick : {A : Type 0} {rest : Option A} (Holds : A → Type 0) (b : Bool) (x c : A) → cond b (Some x) rest ≡ Some c → (b ≡ true → Holds x) → (rest ≡ Some c → Holds c) → Holds c
+pick Holds true x c e here there = let same : x ≡ c = cc in subst Holds same (here refl)
+pick Holds false x c e here there = there e
 
-three-cases : (i : Bool) (o : Option ℕ) (l : Option (Option ℕ)) (c : Command ℕ) → cond i (insert_of o l) None ≡ Some c
-    → (d : ℕ) × (k : Option ℕ) × (i ≡ true) × (o ≡ Some d) × (l ≡ Some k) × (Insert d k ≡ c)
-three-cases false o l c e = cc
-three-cases true None l c e = cc
-three-cases true (Some d) None c e = cc
-three-cases true (Some d) (Some k) c e = (d, k, refl, refl, refl, cc)
+no_choice : {A : Type 0} (Holds : A → Type 0) (c : A) → None ≡ Some c → Holds c
+no_choice Holds c e = absurd (cc)
 
-with_space : (verb first second : List ℕ) → verb ++ first ++ codes " " ++ second ≡ verb ++ (first ++ 32 ∷ second)
-with_space verb first second = simp append_assoc
+-- what was made of a value that is there
+made_of : {A B : Type 0} (f : A → Option B) (o : Option A) (c : B) → option_and_then f o ≡ Some c → (x : A) × (o ≡ Some x) × (f x ≡ Some c)
+made_of f None c e = absurd (cc)
+made_of f (Some x) c e = (x, refl, e)
 
 abbrev joined : List (List ℕ) → List ℕ
 joined words = join_with_byte 32 words
 
+bare-is : (x : List ℕ) (command : Command ℕ) → bare_of x ≡ Some command → HasForm x command
+bare-is x command e =
+    pick (HasForm x) (bytes_eq x (codes "clear")) Clear command e (is_text x (codes "clear"))
+    (λ e. pick (HasForm x) (bytes_eq x (codes "len")) Len command e (is_text x (codes "len"))
+    (λ e. pick (HasForm x) (bytes_eq x (codes "capacity")) Capacity command e (is_text x (codes "capacity"))
+    (λ e. pick (HasForm x) (bytes_eq x (codes "show")) Show command e (is_text x (codes "show")) (no_choice (HasForm x) command))))
+
+has_verb : (x y verb : List ℕ) → bytes_eq x verb ≡ true → joined (x ∷ y ∷ []) ≡ verb ++ codes " " ++ y
+has_verb x y verb is = ap (λ z. joined (z ∷ y ∷ [])) (is_text x verb is) ∙ sym (with_space verb y)
+
+numbered-is : (x y : List ℕ) (n : ℕ) (command : Command ℕ) → WritesNumber y n → numbered x n ≡ Some command → HasForm (joined (x ∷ y ∷ [])) command
+numbered-is x y n command writes e =
+    pick (HasForm (joined (x ∷ y ∷ []))) (bytes_eq x (codes "get")) (Get n) command e (λ is. (y, has_verb x y (codes "get") is, writes))
+    (λ e. pick (HasForm (joined (x ∷ y ∷ []))) (bytes_eq x (codes "remove")) (Remove n) command e (λ is. (y, has_verb x y (codes "remove") is, writes))
+    (λ e. pick (HasForm (joined (x ∷ y ∷ []))) (bytes_eq x (codes "invalidate")) (Invalidate n) command e (λ is. (y, has_verb x y (codes "invalidate") is, writes))
+    (λ e. pick (HasForm (joined (x ∷ y ∷ []))) (bytes_eq x (codes "reserve")) (Reserve n) command e (λ is. (y, has_verb x y (codes "reserve") is, writes)) (no_choice (HasForm (joined (x ∷ y ∷ []))) command))))
+
+has_link : (x y z verb : List ℕ) → bytes_eq x verb ≡ true → joined (x ∷ y ∷ z ∷ []) ≡ verb ++ codes " " ++ y ++ codes " " ++ z
+has_link x y z verb is = ap (λ w. joined (w ∷ y ∷ z ∷ [])) (is_text x verb is) ∙ sym (with_spaces verb y z)
+
+linked-is : (x y z : List ℕ) (n : ℕ) (l : Option ℕ) (command : Command ℕ) → WritesNumber y n → WritesLink z l → linked x n l ≡ Some command → HasForm (joined (x ∷ y ∷ z ∷ [])) command
+linked-is x y z n l command number link e =
+    pick (HasForm (joined (x ∷ y ∷ z ∷ []))) (bytes_eq x (codes "insert")) (Insert n l) command e (λ is. (y, z, has_link x y z (codes "insert") is, number, link))
+    (λ e. pick (HasForm (joined (x ∷ y ∷ z ∷ []))) (bytes_eq x (codes "within")) (InsertWithin n l) command e (λ is. (y, z, has_link x y z (codes "within") is, number, link)) (no_choice (HasForm (joined (x ∷ y ∷ z ∷ []))) command))
+
+has_set : (x k y z : List ℕ) → bytes_eq x (codes "set") ≡ true → joined (x ∷ k ∷ y ∷ z ∷ []) ≡ (codes "set " ++ k) ++ codes " " ++ y ++ codes " " ++ z
+has_set x k y z is =
+    ap (λ w. joined (w ∷ k ∷ y ∷ z ∷ [])) (is_text x (codes "set") is) ∙ sym (with_spaces (codes "set " ++ k) y z ∙ set_spaced k (32 ∷ (y ++ 32 ∷ z)))
+
 command_of_words-is : (words : List (List ℕ)) (command : Command ℕ) → command_of_words words ≡ Some command → HasForm (joined words) command
 command_of_words-is [] command e = cc
-command_of_words-is (x ∷ []) command e = cc
+command_of_words-is (x ∷ []) command e = bare-is x command e
 command_of_words-is (x ∷ y ∷ []) command e =
-    elim (two-cases (bytes_eq x (codes "get")) (bytes_eq x (codes "remove")) (number_of y) command e) [
-      | inl is ↦ subst (HasForm (joined (x ∷ y ∷ []))) is.3 (y, ap (λ z. joined (z ∷ y ∷ [])) (is_text x (codes "get") is.1), number_of-is y is.0 is.2)
-      | inr is ↦ subst (HasForm (joined (x ∷ y ∷ []))) is.3 (y, ap (λ z. joined (z ∷ y ∷ [])) (is_text x (codes "remove") is.1), number_of-is y is.0 is.2)
-    ]
+    let n = made_of (numbered x) (number_of y) command e in
+    numbered-is x y n.0 command (number_of-is y n.0 n.1) n.2
 command_of_words-is (x ∷ y ∷ z ∷ []) command e =
-    let is = three-cases (bytes_eq x (codes "insert")) (number_of y) (link_of z) command e in
-    subst (HasForm (joined (x ∷ y ∷ z ∷ []))) is.5 (y, z, ap (λ w. joined (w ∷ y ∷ z ∷ [])) (is_text x (codes "insert") is.2) ∙ sym (with_space (codes "insert ") y z), number_of-is y is.0 is.3, link_of-is z is.1 is.4)
-command_of_words-is (x ∷ y ∷ z ∷ w ∷ words) command e = cc
+    let n = made_of (λ d. option_and_then (linked x d) (link_of z)) (number_of y) command e in
+    let l = made_of (linked x n.0) (link_of z) command n.2 in
+    linked-is x y z n.0 l.0 command (number_of-is y n.0 n.1) (link_of-is z l.0 l.1) l.2
+command_of_words-is (x ∷ k ∷ y ∷ z ∷ []) command e =
+    let m = made_of (λ a. option_and_then (λ d. option_and_then (λ l. cond (bytes_eq x (codes "set")) (Some (Set a d l)) None) (link_of z)) (number_of y)) (number_of k) command e in
+    let n = made_of (λ d. option_and_then (λ l. cond (bytes_eq x (codes "set")) (Some (Set m.0 d l)) None) (link_of z)) (number_of y) command m.2 in
+    let l = made_of (λ l. cond (bytes_eq x (codes "set")) (Some (Set m.0 n.0 l)) None) (link_of z) command n.2 in
+    pick (HasForm (joined (x ∷ k ∷ y ∷ z ∷ []))) (bytes_eq x (codes "set")) (Set m.0 n.0 l.0) command l.2
+    (λ is. (k, (y, z, has_set x k y z is, number_of-is y n.0 n.1, link_of-is z l.0 l.1), number_of-is k m.0 m.1)) (no_choice (HasForm (joined (x ∷ k ∷ y ∷ z ∷ []))) command)
+command_of_words-is (x ∷ k ∷ y ∷ z ∷ w ∷ words) command e = cc
+
+bare-from : (line verb : List ℕ) → is_verb verb ≡ true → line ≡ verb → command_of line ≡ bare_of verb
+bare-from line verb ok e = ap command_of e ∙ ap command_of_words (words_of-bare verb ok)
+
+numbered-from : (line verb : List ℕ) (n : ℕ) → is_verb verb ≡ true → IsNumbered line verb n → command_of line ≡ numbered verb n
+numbered-from line verb n ok (a, e, number) =
+    ap command_of_words (words_of-numbered verb line a n ok e number) ∙ ap (numbered_of verb) (number_of-from a n number)
+
+linked-from : (line verb : List ℕ) (n : ℕ) (l : Option ℕ) → is_verb verb ≡ true → IsLinked line verb n l → command_of line ≡ linked verb n l
+linked-from line verb n l ok (a, b, e, number, is) =
+    ap command_of_words (words_of-linked verb line a b n l ok e number is) ∙ ap (λ o. insert_of verb o (link_of b)) (number_of-from a n number) ∙ ap (λ o. insert_of verb (Some n) o) (link_of-from b l is)
 
 command_of-from : (line : List ℕ) (command : Command ℕ) → HasForm line command → command_of line ≡ Some command
-command_of-from line (Insert datum link) (a, b, e, number, is) =
-    let words : words_of line ≡ codes "insert" ∷ a ∷ b ∷ [] = ap words_of (e ∙ with_space (codes "insert ") a b) ∙ ap (λ z. onto_first 105 (onto_first 110 (onto_first 115 (onto_first 101 (onto_first 114 (onto_first 116 ([] ∷ z))))))) (words_of-more a datum b number ∙ ap (λ z. a ∷ z) (words_of-link b link is)) in
-    ap command_of_words words ∙ rw (number_of-from a datum number, link_of-from b link is) refl
-command_of-from line (Get name) (a, e, number) =
-    let words : words_of line ≡ codes "get" ∷ a ∷ [] = ap words_of e ∙ ap (λ z. onto_first 103 (onto_first 101 (onto_first 116 ([] ∷ z)))) (words_of-number a name number) in
-    ap command_of_words words ∙ rw (number_of-from a name number) refl
-command_of-from line (Remove name) (a, e, number) =
-    let words : words_of line ≡ codes "remove" ∷ a ∷ [] = ap words_of e ∙ ap (λ z. onto_first 114 (onto_first 101 (onto_first 109 (onto_first 111 (onto_first 118 (onto_first 101 ([] ∷ z))))))) (words_of-number a name number) in
-    ap command_of_words words ∙ rw (number_of-from a name number) refl
+command_of-from line (Insert datum link) form = linked-from line (codes "insert") datum link refl form
+command_of-from line (InsertWithin datum link) form = linked-from line (codes "within") datum link refl form
+command_of-from line (Get name) form = numbered-from line (codes "get") name refl form
+command_of-from line (Set name datum link) (k, (a, b, e, number, is), named) =
+    ap command_of_words (words_of-set line k a b name datum link e named number is) ∙ rw (number_of-from k name named, number_of-from a datum number, link_of-from b link is) refl
+command_of-from line (Remove name) form = numbered-from line (codes "remove") name refl form
+command_of-from line (Invalidate name) form = numbered-from line (codes "invalidate") name refl form
+command_of-from line Clear form = bare-from line (codes "clear") refl form
+command_of-from line Len form = bare-from line (codes "len") refl form
+command_of-from line Capacity form = bare-from line (codes "capacity") refl form
+command_of-from line (Reserve number) form = numbered-from line (codes "reserve") number refl form
+command_of-from line Show form = bare-from line (codes "show") refl form
 
 pub forms : FormsAreExact
 forms line command = (

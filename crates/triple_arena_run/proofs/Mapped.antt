@@ -1,5 +1,5 @@
 -- What a map of an arena's values, or of a table's pointers, leaves as it is.
-use Rattle.std.proofs.Common.{◌≡◌, ℕ, ◌+◌, ◌-◌, ◌==◌, zero, suc, Bool, true, false, cond, List, [], ◌∷◌, ◌++◌, map, take, length, Option, Some, None, is_some, refl, sym, ap, ◌∙◌}
+use Rattle.std.proofs.Common.{◌≡◌, ℕ, ◌+◌, ◌-◌, ◌==◌, zero, suc, Bool, true, false, cond, List, [], ◌∷◌, map, take, length, Option, Some, None, is_some, refl, sym, ap, ◌∙◌}
 use Rattle.std.specs.List.{position, position_or_len}
 use Rattle.std.specs.Option.{option_map, option_and_then}
 use Rattle.std.proofs.lemmas.List.{map-append, length-map, take-map, map-set}
@@ -10,7 +10,7 @@ use Rattle.triple_arena_stack.specs.Capacity.{next_capacity}
 use Rattle.triple_arena_ptr.specs.Pointers.{Pointer}
 use Rattle.triple_arena.specs.Items.{item, with_item}
 use Rattle.triple_arena.specs.Entries.{value_under, entry_count, entry_in}
-use Rattle.triple_arena.specs.ArenaState.{ArenaState, arena_len, capacity, look_up, slot_count, with_value, map_entry, map_values}
+use Rattle.triple_arena.specs.ArenaState.{ArenaState, arena_len, capacity, entry, look_up, slot_count, with_value, map_entry, map_values}
 use Rattle.triple_arena.specs.Insertion.{place_among, inserted_among, inserted, next_pointer}
 use Rattle.triple_arena.specs.FreeList.{before, trimmed, gaps, tidied}
 use Rattle.triple_arena.specs.Capacity.{with_room_for, grown, reallocated}

@@ -1,5 +1,5 @@
 -- Writes of a list's parts, one after another.
-use Rattle.std.proofs.Common.{◌≡◌, ℕ, ◌+◌, ◌-◌, ◌<◌, ◌≤◌, List, [], ◌++◌, Option, None, Some, length, take, drop, sym, ap, ◌∙◌, subst, arith, append-nil, take-add, take-take, take_all, take-append-drop, length-drop, length-take}
+use Rattle.std.proofs.Common.{ℕ, ◌+◌, ◌-◌, ◌<◌, ◌≤◌, List, [], ◌++◌, Option, None, Some, length, take, drop, sym, ap, ◌∙◌, subst, arith, append-nil, take-add, take-take, take_all, take-append-drop, length-drop, length-append, append_assoc}
 use Rattle.std.specs.Io.KnownBytes.{Appends, Keeps}
 use Rattle.std.proofs.KnownBytes.{Appends-trans, Appends-kept}
 use Rattle.triple_arena_run.specs.TextRun.{AppendsCut}
@@ -26,3 +26,15 @@ pub Keeps-taken : (a b : Option (List ℕ)) (xs : List ℕ) → Appends a b (tak
 Keeps-taken None b xs wrote = tt
 Keeps-taken (Some x) None xs wrote = absurd wrote
 Keeps-taken (Some x) (Some y) xs wrote = wrote ∙ append-nil x
+
+-- one list after another, of which all was taken, or a part of the first, or all of it and a part of the second
+pub appended_both : (a b c : Option (List ℕ)) (xs ys : List ℕ) → Appends a b xs → Appends b c ys → Appends a c (xs ++ ys)
+appended_both = Appends-trans
+
+pub cut_more : (a b : Option (List ℕ)) (xs ys : List ℕ) → AppendsCut a b [] xs → AppendsCut a b [] (xs ++ ys)
+cut_more a b xs ys (front, rest, whole, some, wrote) =
+    (front, rest ++ ys, ap (λ l. l ++ ys) whole ∙ append_assoc front rest ys, (let both = length-append rest ys in omega (arith, both, some)), wrote)
+
+pub cut_later : (a b c : Option (List ℕ)) (xs ys : List ℕ) → Appends a b xs → AppendsCut b c [] ys → AppendsCut a c [] (xs ++ ys)
+cut_later a b c xs ys first (front, rest, whole, some, wrote) =
+    (xs ++ front, rest, ap (λ l. xs ++ l) whole ∙ sym (append_assoc xs front rest), some, Appends-trans a b c xs front first wrote)

@@ -1,7 +1,6 @@
 pub mod SessionState
 pub mod SessionLayout
 pub mod NameLayout
-pub mod Compaction
 pub mod SessionRun
 pub mod Runs
 pub mod Lines

@@ -1,6 +1,6 @@
 //! The writing of a reply.
 
-ghost use Rattle.std.specs.Prelude.{◌≡◌, ◌<◌, ◌≤◌, [], length, take, OnOk, OnErr, IfSome, IfNone};
+ghost use Rattle.std.specs.Prelude.{◌≡◌, ◌<◌, ◌≤◌, ◌++◌, ◌∷◌, [], length, take, OnOk, OnErr, IfSome, IfNone};
 ghost use Rattle.std.specs.Io.KnownBytes.{Appends, Keeps};
 ghost use Rattle.triple_arena_run.specs.ReplyText.{reply_line};
 ghost use Rattle.triple_arena_run.specs.TextRun.{AppendsCut};
@@ -11,7 +11,7 @@ use arrayvec::ArrayString;
 use std::fmt::Write as FmtWrite;
 use std::io::{ErrorKind, Write};
 
-/// Room for the line of any reply: the longest has 58 bytes.
+/// Room for the line of any reply but `Line`: the longest has 58 bytes.
 const LINE_ROOM: usize = 64;
 
 /// Writes the line of a reply, by writes alone. The error is `Write`, and then a front of the line
@@ -22,13 +22,30 @@ pub fn write_reply<W: Write>(output: &mut W, reply: &Reply<u64>) -> Result<(), T
     ensures err { OnErr result
         (AppendsCut (W.contents output.old) (W.contents output.new) [] (reply_line reply.now)) }
 {
-    match line_of(reply) {
-        Some(line) => write_line(output, line.as_str().as_bytes()),
-        None => Err(TextError::Write),
+    match reply {
+        Reply::Line(text) => write_shown(output, text),
+        _ => match line_of(reply) {
+            Some(line) => write_all(output, line.as_str().as_bytes()),
+            None => Err(TextError::Write),
+        },
     }
 }
 
-/// The line of a reply. Each reply has one, as tests show.
+/// Writes a text of any length, and a line break.
+#[tactic(auto, using(crate::proofs::Writes::appended_both, crate::proofs::Writes::cut_more, crate::proofs::Writes::cut_later))]
+fn write_shown<W: Write>(output: &mut W, text: &str) -> Result<(), TextError>
+    ensures ok { OnOk result
+        (Appends (W.contents output.old) (W.contents output.new) (text.now ++ 10 ∷ [])) }
+    ensures err { OnErr result
+        (AppendsCut (W.contents output.old) (W.contents output.new) [] (text.now ++ 10 ∷ [])) }
+{
+    match write_all(output, text.as_bytes()) {
+        Ok(()) => write_all(output, b"\n"),
+        Err(e) => Err(e),
+    }
+}
+
+/// The line of a reply. Each reply has one, as tests show, but a `Line` that is too long for it.
 pub(crate) fn line_of(reply: &Reply<u64>) -> Option<ArrayString<LINE_ROOM>>
     ensures { IfSome result (λ line. line.bytes ≡ reply_line reply.now) }
 {
@@ -39,16 +56,16 @@ pub(crate) fn line_of(reply: &Reply<u64>) -> Option<ArrayString<LINE_ROOM>>
     }
 }
 
-/// Writes a line of bytes.
-fn write_line<W: Write>(output: &mut W, line: &[u8]) -> Result<(), TextError>
+/// Writes all of these bytes.
+fn write_all<W: Write>(output: &mut W, bytes: &[u8]) -> Result<(), TextError>
     ensures ok { OnOk result
-        (Appends (W.contents output.old) (W.contents output.new) line.now) }
+        (Appends (W.contents output.old) (W.contents output.new) bytes.now) }
     ensures err { OnErr result
-        (AppendsCut (W.contents output.old) (W.contents output.new) [] line.now) }
+        (AppendsCut (W.contents output.old) (W.contents output.new) [] bytes.now) }
 {
     let mut written = 0;
-    'writes: while written < line.len() {
-        match write_some(output, &line[written..]) {
+    'writes: while written < bytes.len() {
+        match write_some(output, &bytes[written..]) {
             Some(count) => written += count,
             None => return Err(TextError::Write),
         }

@@ -1,6 +1,6 @@
 //! Sessions: commands that speak of entries by name.
 
-ghost use Rattle.std.specs.Prelude.{◌≡◌, ◌≤◌, IfOk, OnOk, OnErr, IsOk, true};
+ghost use Rattle.std.specs.Prelude.{◌≡◌, ◌≤◌, ◌==◌, IfOk, OnOk, OnErr, IsOk, true};
 ghost use Rattle.std.specs.Option.{option_map};
 ghost use Rattle.triple_arena_ptr.specs.Numbers.{greatest_index, first_generation};
 ghost use Rattle.triple_arena_stack.specs.StackKind.{new_room, new_limit, made_room, made_limit, CanHold, TakesNoMemory};
@@ -96,23 +96,22 @@ impl<P: Ptr, X: Copy, S: NonZeroInxGenericStack<ArenaSlot<P, Node<X, P>>>> Sessi
 
     /// Runs a command, and gives its reply, the first that fits:
     ///
-    /// | Command | Replies |
-    /// |---|---|
-    /// | `Insert` | `BadName` (the link was never given); where the arena is full, `BeyondMaxCapacity` at its limit, or else `NoMemory` where its indexes are all taken; `NoMemory`; `Given` |
-    /// | `InsertWithin` | `BadName`; `Full` where the arena is full; `NoMemory`; `Given` |
-    /// | `Get` | `Nothing` (never given, or ended); `Found` |
-    /// | `Set` | `BadName` (the new link); `Invalid` (never given, or ended); `Done` |
-    /// | `Remove` | `Invalid`; `Removed` |
-    /// | `Invalidate` | `Invalid`; `NoMemory`; `Given`, and the old name has ended |
-    /// | `Clear` | `Cleared` |
-    /// | `Compact` | `NoMemory`; `Unresolved` (a link's name has ended); `Compacted` |
-    /// | `Len`, `Capacity` | `Count` |
-    /// | `Reserve` | `NoMemory` past the greatest index; `BeyondMaxCapacity`; `NoMemory`; `Done` |
-    /// | `Show` | `NoMemory`; `Line` |
+    /// - `Insert`: `BadName` (the link was never given); where the arena is full,
+    ///   `BeyondMaxCapacity` at its limit, or else `NoMemory` where its indexes are all taken;
+    ///   `NoMemory`; `Given`.
+    /// - `InsertWithin`: `BadName`; `Full` where the arena is full; `NoMemory`; `Given`.
+    /// - `Get`: `Nothing` (never given, or ended); `Found`.
+    /// - `Set`: `BadName` (the new link); `Invalid` (never given, or ended); `Done`.
+    /// - `Remove`: `Invalid`; `Removed`.
+    /// - `Invalidate`: `Invalid`; `NoMemory`; `Given`, and the old name has ended.
+    /// - `Clear`: `Cleared`.
+    /// - `Len`, `Capacity`: `Count`.
+    /// - `Reserve`: `NoMemory` past the greatest index; `BeyondMaxCapacity`; `NoMemory`; `Done`.
+    /// - `Show`: `NoMemory`; `Line`.
     ///
-    /// All else stays, but that after a `NoMemory` the table of names may have grown, and a
-    /// reservation, refused or not, puts the free list of the arena in order. `Clear`, `Compact`,
-    /// `Reserve` and `Show` take time up to the number of slots or names.
+    /// All else stays, but that after a `NoMemory` the table of names may have grown, and that a
+    /// reservation, refused or not, puts the free list of the arena in order. `Clear`, `Reserve`
+    /// and `Show` touch each slot; a look-up of an entry with a link may have to search the names.
     pub fn step(&mut self, command: Command<X>) -> Reply<X>
     where
         X: Debug,
@@ -126,7 +125,6 @@ impl<P: Ptr, X: Copy, S: NonZeroInxGenericStack<ArenaSlot<P, Node<X, P>>>> Sessi
             Command::Remove(name) => self.remove(name),
             Command::Invalidate(name) => self.invalidate(name),
             Command::Clear => self.clear(),
-            Command::Compact => Reply::NoMemory,
             Command::Len => Reply::Count(self.arena.len()),
             Command::Capacity => Reply::Count(self.arena.capacity()),
             Command::Reserve(count) => self.reserve(count),
@@ -250,10 +248,11 @@ impl<P: Ptr, X: Copy, S: NonZeroInxGenericStack<ArenaSlot<P, Node<X, P>>>> Sessi
         let Some(p) = self.pointer(name) else {
             return Reply::Invalid;
         };
-        let (Some(node), wrapped) = self.arena.remove(p).overflowing() else {
-            return Reply::Invalid;
-        };
-        Reply::Removed(node.datum, self.link_name(name, node.link), wrapped)
+        let (taken, wrapped) = self.arena.remove(p).overflowing();
+        match taken {
+            Some(node) => Reply::Removed(node.datum, self.link_name(name, node.link), wrapped),
+            None => Reply::Invalid,
+        }
     }
 
     fn invalidate(&mut self, name: usize) -> Reply<X>
@@ -289,6 +288,7 @@ impl<P: Ptr, X: Copy, S: NonZeroInxGenericStack<ArenaSlot<P, Node<X, P>>>> Sessi
         ensures { IsStep S.kind S.has_memory P.Gen.counting P.Gen.greatest
             self.old (Command.Reserve count) result self.new }
     {
+        // It tells the greatest index of the arena.
         let _capacity = self.arena.capacity();
         match self.arena.reallocate_min_capacity(count) {
             Ok(()) => Reply::Done,

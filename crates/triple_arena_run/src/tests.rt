@@ -1,9 +1,11 @@
 //! Runs of texts over memory, and the texts that no clause states.
 
 mod byte_pointer;
+mod commands;
 mod devices;
 mod forms;
 mod kind_run;
+mod name_table;
 mod program;
 mod replies;
 mod runs;

@@ -17,9 +17,10 @@ fn is_written(alloc: Global, reply: &Reply<u64>, text: &str) -> bool {
 /// The last is the longest.
 #[test]
 fn writes_each_reply(rt: HostRuntime) {
-    let rows: [(Reply<u64>, &str); 14] = [
+    let rows: [(Reply<u64>, &str); 19] = [
         (Reply::Given(1, false), "given 1"),
         (Reply::Given(20, true), "given 20 wrapped"),
+        (Reply::Full, "full"),
         (Reply::BeyondMaxCapacity, "beyond max capacity"),
         (Reply::NoMemory, "no memory"),
         (Reply::Found(10, None), "found 10 -"),
@@ -29,11 +30,15 @@ fn writes_each_reply(rt: HostRuntime) {
             "found 18446744073709551615 18446744073709551615",
         ),
         (Reply::Nothing, "nothing"),
+        (Reply::Done, "done"),
         (Reply::Removed(10, None, false), "removed 10 -"),
         (Reply::Removed(10, Some(2), true), "removed 10 2 wrapped"),
         (Reply::Removed(10, None, true), "removed 10 - wrapped"),
         (Reply::Invalid, "invalid"),
+        (Reply::Cleared(false), "cleared"),
+        (Reply::Cleared(true), "cleared wrapped"),
         (Reply::BadName, "bad name"),
+        (Reply::Count(255), "count 255"),
         (
             Reply::Removed(u64::MAX, Some(usize::MAX), true),
             "removed 18446744073709551615 18446744073709551615 wrapped",

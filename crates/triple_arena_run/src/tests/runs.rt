@@ -153,7 +153,7 @@ fn finds_up_to(
         } else {
             Reply::Nothing
         };
-        assert!(rt; replies(session, Command::Get(name), reply), "at {name}");
+        assert!(rt; replies(session, Command::Get(name), &reply), "at {name}");
     }
 }
 
@@ -271,17 +271,22 @@ fn flushes(
 /// The writer below the buffer takes one write, or fails at the first.
 #[test]
 fn flushes_what_was_answered(rt: HostRuntime) {
-    let found = Reply::Found(1, None);
+    let found = || Reply::Found(1, None);
     let malformed = |line| Err(TextError::Malformed(line));
     let rows: [(&[u8], usize, End, Reply<u64>); 4] = [
-        (b"insert 1 -\nget 1\n", 1, (Ok(()), 2, 18), found),
-        (b"insert 1 -\nwhat\nget 1\n", 1, (malformed(2), 1, 8), found),
+        (b"insert 1 -\nget 1\n", 1, (Ok(()), 2, 18), found()),
+        (
+            b"insert 1 -\nwhat\nget 1\n",
+            1,
+            (malformed(2), 1, 8),
+            found(),
+        ),
         (b"what\n", 1, (malformed(1), 0, 0), Reply::Nothing),
         (
             b"insert 1 -\nwhat\n",
             0,
             (Err(TextError::Write), 0, 0),
-            found,
+            found(),
         ),
     ];
     for (text, writes_before, end, reply) in rows {

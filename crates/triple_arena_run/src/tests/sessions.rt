@@ -46,9 +46,13 @@ fn answers_by_name(rt: HostRuntime) {
 // removal of one name alone to tell of a wrap.
 fn comes_and_goes(rt: &impl Abort, session: &mut Session<P3, u64>, last: usize, wraps: usize) {
     for name in 1..last {
-        let given = replies(session, Command::Insert(7, None), Reply::Given(name, false));
+        let given = replies(
+            session,
+            Command::Insert(7, None),
+            &Reply::Given(name, false),
+        );
         let reply = Reply::Removed(7, None, name == wraps);
-        let removed = replies(session, Command::Remove(name), reply);
+        let removed = replies(session, Command::Remove(name), &reply);
         assert!(rt; given && removed, "at {name}");
     }
 }
@@ -170,7 +174,7 @@ fn a_refused_insertion_changes_nothing(rt: HostRuntime) {
             && let Some((datum, link)) = expected.take()
         {
             let reply = Reply::Removed(datum, link, false);
-            assert!(rt; replies(&mut session, Command::Remove(expected.given), reply));
+            assert!(rt; replies(&mut session, Command::Remove(expected.given), &reply));
         }
         holds(&rt, &mut session, &expected.rows);
     }
@@ -311,7 +315,7 @@ fn fills<S: NonZeroInxGenericStack<ByteSlot>>(rt: &impl Abort, session: &mut Ses
         let (datum, link) = entry_of(name);
         let command = Command::Insert(datum, link);
         assert!(rt;
-            replies(session, command, Reply::Given(name, false)),
+            replies(session, command, &Reply::Given(name, false)),
             "at {name}"
         );
     }
@@ -331,7 +335,7 @@ fn takes_every_index<S: NonZeroInxGenericStack<ByteSlot> + Drop>(
     fills(rt, &mut session);
     let before = extent(&session);
     assert_eq!(rt; (before.0, before.1), (255, 255));
-    assert!(rt; replies(&mut session, Command::Insert(0, None), refusal));
+    assert!(rt; replies(&mut session, Command::Insert(0, None), &refusal));
     assert!(rt; has_extent(&session, before));
     let rows: [Row; 256] = array::from_fn(row_of);
     holds(rt, &mut session, &rows);

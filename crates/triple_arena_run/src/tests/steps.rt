@@ -17,12 +17,12 @@ pub fn new_session(alloc: Global) -> Session<P0, u64> {
 }
 
 /// Whether a command is answered so.
-pub fn replies<P: Ptr, X: Copy + PartialEq, S: NonZeroInxGenericStack<ArenaSlot<P, Node<X, P>>>>(
-    session: &mut Session<P, X, S>,
-    command: Command<X>,
-    reply: Reply<X>,
-) -> bool {
-    session.step(command) == reply
+pub fn replies<
+    P: Ptr,
+    X: Copy + PartialEq + Debug,
+    S: NonZeroInxGenericStack<ArenaSlot<P, Node<X, P>>>,
+>(session: &mut Session<P, X, S>, command: Command<X>, reply: &Reply<X>) -> bool {
+    session.step(command) == *reply
 }
 
 /// Makes each step, and expects its reply.
@@ -32,7 +32,7 @@ pub fn follow<
     S: NonZeroInxGenericStack<ArenaSlot<P, Node<X, P>>>,
 >(rt: &impl Abort, session: &mut Session<P, X, S>, steps: &[(Command<X>, Reply<X>)]) {
     for (command, reply) in steps {
-        assert!(rt; replies(session, *command, *reply), "at {command:?}");
+        assert!(rt; replies(session, *command, reply), "at {command:?}");
     }
 }
 
@@ -50,7 +50,7 @@ pub fn holds<P: Ptr, S: NonZeroInxGenericStack<ArenaSlot<P, Node<u64, P>>>>(
             Some((datum, link)) => Reply::Found(datum, link),
             None => Reply::Nothing,
         };
-        assert!(rt; replies(session, Command::Get(name), reply), "at {name}");
+        assert!(rt; replies(session, Command::Get(name), &reply), "at {name}");
     }
 }
 

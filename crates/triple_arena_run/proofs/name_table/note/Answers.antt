@@ -11,7 +11,7 @@ pub returns-then-newer-clause-noted : goal.returns-then-newer-clause-noted
 returns-then-newer-clause-noted g c =
     λ _. (
     let above : nat_lt (noted_number g.P.Gen.PtrGen.number c.in-Some-get_mut.row.now.newest) (g.P.Gen.PtrGen.number (g.P.Ptr.generation_of c.args.p)) ≡ true = ap (λ h. nat_lt (noted_number g.P.Gen.PtrGen.number c.in-Some-get_mut.row.now.newest) (g.P.Gen.PtrGen.number h)) (sym c.generation.ensures) ∙ sym c.if-newer.ensures in
-    row_noted g.P.Gen.PtrGen.number c.args.rows.now.items (g.P.Inx.PtrInx.number (g.P.Ptr.index_of c.args.p)) (non_zero_usize_get c.in-Some.inx) (g.P.Ptr.generation_of c.args.p) c.generation-then-newer.result c.in-Some-get_mut.row.now (c.in-Some.ensures.number ∙ ap g.P.Inx.PtrInx.number c.inx.ensures) c.in-Some.inx.ok c.generation-then-newer.ensures c.in-Some-get_mut.ensures.value above
+    row_noted g.P.Gen.PtrGen.number c.args.rows.now.items (g.P.Ptr.numbers c.args.p) (g.P.Inx.PtrInx.number (g.P.Ptr.index_of c.args.p)) (non_zero_usize_get c.in-Some.inx) (g.P.Ptr.generation_of c.args.p) c.generation-then-newer.result c.in-Some-get_mut.row.now (g.met.P.Ptr.numbers_of c.args.p) (c.in-Some.ensures.number ∙ ap g.P.Inx.PtrInx.number c.inx.ensures) c.in-Some.inx.ok c.generation-then-newer.ensures c.in-Some-get_mut.ensures.value above
     )
 
 pub returns-else-newer-clause-pointers : goal.returns-else-newer-clause-pointers

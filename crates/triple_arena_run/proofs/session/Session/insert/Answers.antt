@@ -1,23 +1,31 @@
-use Rattle.std.proofs.Common.{◌≡◌, ◌+◌, ◌∷◌, ◌++◌, [], List, Some, None, is_some, length, ap, sym, ◌∙◌, refl, inr}
-use Rattle.std.proofs.lemmas.List.{length-map}
+use Rattle.std.proofs.Common.{◌≡◌, false, ◌++◌, ◌∷◌, [], List, Some, None, is_some, length, ap, sym, ◌∙◌, inr, ◌+◌}
 use Rattle.std.specs.Option.{option_map}
-use Rattle.triple_arena_run.specs.SessionState.{link_pointer}
-use Rattle.triple_arena_run.specs.SessionRun.{refusal}
-use Rattle.triple_arena_run.proofs.Mapped.{name_added, arena_wants}
+use Rattle.triple_arena.specs.ArenaState.{map_values}
+use Rattle.triple_arena.specs.Insertion.{inserted, next_pointer}
+use Rattle.triple_arena.specs.Capacity.{grown}
+use Rattle.triple_arena_run.specs.declared.node.Node.{Node}
+use Rattle.triple_arena_run.specs.SessionState.{node_of, link_pointer}
+use Rattle.triple_arena_run.specs.SessionRun.{refusal, insert_answer, insert_unless}
+use Rattle.triple_arena_run.proofs.Shown.{given, next-shown, inserted_grown-shown, arena_wants}
 use Rattle.triple_arena_run.proofs.session.Session.insert.Goals as goal
 
 pub returns-in-Ok-insert : goal.returns-in-Ok-insert
 returns-in-Ok-insert g c =
-    let table : c.push_last.new.table.items ≡ c.self.inside.table.items ++ c.in-Ok-insert.p ∷ [] = c.push_last.ensures.items ∙ ap (λ (l : List g.row.P.Denot). l ++ c.in-Ok-insert.p ∷ []) c.in-Ok.ensures.items in
-    let room = c.push_last.ensures.room ∙ c.in-Ok.ensures.grown in
-    let link : link_pointer c.args.self.now.table c.args.link ≡ Some (option_map g.P.Ptr.numbers c.in-Some.link) = sym c.link_pointer.ensures ∙ ap (option_map (option_map g.P.Ptr.numbers)) c.in-Some.is in
-    let clear : refusal c.args.self.now.arena ≡ None = sym c.in-None.ensures.why in
-    let after = name_added g.P.Ptr.numbers c.self.inside.arena c.self.inside.table.items c.self.inside.table.room c.args.self.now c.self.view_is g.S.NonZeroInxGenericStack.kind g.P.Gen.PtrGen.counting g.P.Gen.PtrGen.greatest c.args.datum c.in-Some.link c.in-Ok-insert.p c.insert.new.self c.push_last.new.table.items c.push_last.new.table.room c.in-Ok-insert.ensures.pointer c.in-Ok-insert.ensures.inserted table room in
-    let name : c.push_last.result ≡ length c.args.self.now.table + 1 = c.push_last.ensures.number ∙ ap (λ (l : List g.row.P.Denot). length l + 1) c.in-Ok.ensures.items ∙ ap (λ n. n + 1) (sym (length-map c.self.inside.table.items g.P.Ptr.numbers) ∙ ap (λ s. length s.table) c.self.view_is) in
-    rw (link, clear, name, after) refl
+    let kind = g.S.NonZeroInxGenericStack.kind in
+    let s = c.args.self.now in
+    let link : link_pointer s.table c.args.link ≡ Some (option_map g.P.Ptr.numbers c.in-Some.target) = sym c.link_pointer.ensures ∙ ap (option_map (option_map g.P.Ptr.numbers)) c.in-Some.is in
+    let clear : refusal s.arena ≡ None = sym c.in-None.ensures.why in
+    let node : Node g.row.X.Denot g.row.P.Denot = record { datum = c.args.datum; link = c.in-Some.target } in
+    given g.P.Ptr.numbers c.self.inside.arena c.self.inside.table.items c.self.inside.table.room s c.self.view_is c.in-Ok-insert.p (next_pointer s.arena) false (inserted (grown kind s.arena) (c.args.datum, option_map g.P.Ptr.numbers c.in-Some.target)) c.push.result c.insert.new.self c.push.new.self.items c.push.new.self.room
+    (c.in-Ok-insert.ensures.pointer ∙ next-shown g.P.Ptr.numbers c.self.inside.arena c.self.inside.table.items c.self.inside.table.room s c.self.view_is)
+    (ap (map_values (node_of g.P.Ptr.numbers)) c.in-Ok-insert.ensures.inserted ∙ inserted_grown-shown g.P.Ptr.numbers c.self.inside.arena c.self.inside.table.items c.self.inside.table.room s c.self.view_is kind node)
+    (c.push.ensures.number ∙ ap (λ (l : List g.row.P.Denot). length l + 1) c.in-Ok.ensures.items)
+    (c.push.ensures.items ∙ ap (λ (l : List g.row.P.Denot). l ++ c.in-Ok-insert.p ∷ []) c.in-Ok.ensures.items)
+    (c.push.ensures.room ∙ c.in-Ok.ensures.grown)
+    ∙ sym (ap (insert_answer kind g.P.Gen.PtrGen.counting g.P.Gen.PtrGen.greatest s c.args.datum) link ∙ ap (λ w. insert_unless kind g.P.Gen.PtrGen.counting g.P.Gen.PtrGen.greatest w s c.args.datum (option_map g.P.Ptr.numbers c.in-Some.target)) clear)
 
 pub returns-in-Err-insert : goal.returns-in-Err-insert
 returns-in-Err-insert g c =
-    let link : link_pointer c.args.self.now.table c.args.link ≡ Some (option_map g.P.Ptr.numbers c.in-Some.link) = sym c.link_pointer.ensures ∙ ap (option_map (option_map g.P.Ptr.numbers)) c.in-Some.is in
-    let full = arena_wants g.P.Ptr.numbers c.self.inside.arena c.self.inside.table.items c.self.inside.table.room c.args.self.now c.self.view_is g.S.NonZeroInxGenericStack.kind g.P.Gen.PtrGen.counting g.P.Gen.PtrGen.greatest g.S.NonZeroInxGenericStack.has_memory _ c.refusal.ensures.greatest c.in-Err-insert.ensures.given c.refusal.ensures.fits (λ place. (c.in-Err-insert.ensures.had_place place).0) c.insert.new.self c.make_room.new.table.items c.make_room.new.table.room c.in-Err-insert.ensures.refused c.in-Ok.ensures.items c.in-Ok.ensures.grown in
-    inr ((ap is_some link, sym c.in-None.ensures.why), inr full)
+    let link : link_pointer c.args.self.now.table c.args.link ≡ Some (option_map g.P.Ptr.numbers c.in-Some.target) = sym c.link_pointer.ensures ∙ ap (option_map (option_map g.P.Ptr.numbers)) c.in-Some.is in
+    let full = arena_wants g.P.Ptr.numbers c.self.inside.arena c.self.inside.table.items c.self.inside.table.room c.args.self.now c.self.view_is g.S.NonZeroInxGenericStack.has_memory _ c.refusal.ensures.greatest c.in-Err-insert.ensures.given c.refusal.ensures.fits (λ place. (c.in-Err-insert.ensures.had_place place).0) c.insert.new.self c.make_room.new.self.items c.make_room.new.self.room c.in-Err-insert.ensures.refused c.in-Ok.ensures.items c.in-Ok.ensures.grown in
+    inr (ap is_some link, sym c.in-None.ensures.why, inr full)

@@ -1,0 +1,277 @@
+//! Each command of the program: texts, and the lines that answer them.
+
+use super::byte_pointer::B;
+use super::steps::{Row as Entry, extent, new_session};
+use super::texts::answers_text;
+use crate::command::Command;
+use crate::node::Node;
+use crate::output::line_of;
+use crate::reply::Reply;
+use crate::session::Session;
+use std::alloc::Global;
+use std::process::Abort;
+use triple_arena::ArenaSlot;
+use triple_arena_ptr::P0;
+use triple_arena_stack::{NonZeroInxArray, NonZeroInxBoxedSlice};
+
+type Slot = ArenaSlot<P0, Node<u64, P0>>;
+
+/// A text, and the lines of its replies.
+type Row<'a> = (&'a [u8], &'a [u8]);
+
+// Expects each text to be answered so in a new session over the heap.
+fn answers_each(rt: &impl Abort, alloc: Global, rows: &[Row<'_>]) {
+    for (text, lines) in rows {
+        let mut session: Session<P0, u64> = Session::new(alloc);
+        answers_text(rt, alloc, &mut session, *text, Ok(()), *lines);
+    }
+}
+
+#[test]
+fn an_empty_session_answers_each_command(rt: HostRuntime) {
+    let rows: [Row<'_>; 8] = [
+        (b"insert 5 1\n", b"bad name\n"),
+        (b"within 5 1\n", b"bad name\n"),
+        (b"get 0\n", b"nothing\n"),
+        (b"set 1 5 -\nset 1 5 1\n", b"invalid\nbad name\n"),
+        (b"remove 1\ninvalidate 1\n", b"invalid\ninvalid\n"),
+        (b"len\ncapacity\n", b"count 0\ncount 0\n"),
+        (b"clear\nshow\n", b"cleared\n{}\n"),
+        (b"within 5 -\nreserve 0\n", b"full\ndone\n"),
+    ];
+    answers_each(&rt, rt.alloc(), &rows);
+}
+
+#[test]
+fn an_invalidated_name_ends_and_its_entry_stays(rt: HostRuntime) {
+    let rows: [Row<'_>; 2] = [
+        (
+            b"insert 7 -\ninvalidate 1\nget 1\nget 2\n",
+            b"given 1\ngiven 2\nnothing\nfound 7 -\n",
+        ),
+        (
+            b"insert 1 -\ninsert 2 1\ninvalidate 1\nget 2\ninvalidate 1\ninvalidate 2\nget 4\nlen\n",
+            b"given 1\ngiven 2\ngiven 3\nfound 2 1\ninvalid\ngiven 4\nfound 2 1\ncount 2\n",
+        ),
+    ];
+    answers_each(&rt, rt.alloc(), &rows);
+}
+
+#[test]
+fn another_datum_and_link_stand_under_a_name(rt: HostRuntime) {
+    let rows: [Row<'_>; 2] = [
+        (
+            b"insert 1 -\nset 1 5 1\nget 1\nset 1 6 2\nget 1\nset 1 7 -\nget 1\n",
+            b"given 1\ndone\nfound 5 1\nbad name\nfound 5 1\ndone\nfound 7 -\n",
+        ),
+        (
+            b"insert 1 -\ninsert 2 -\nremove 1\nset 2 3 1\nset 1 3 -\nget 2\n",
+            b"given 1\ngiven 2\nremoved 1 -\ndone\ninvalid\nfound 3 1\n",
+        ),
+    ];
+    answers_each(&rt, rt.alloc(), &rows);
+}
+
+#[test]
+fn a_cleared_session_gives_later_names(rt: HostRuntime) {
+    let rows: [Row<'_>; 1] = [(
+        b"insert 1 -\ninsert 2 -\nclear\nlen\nget 2\ninsert 3 1\nget 3\nshow\n",
+        b"given 1\ngiven 2\ncleared\ncount 0\nnothing\ngiven 3\nfound 3 1\n{P0[1](3): (3, Some(P0[1](2)))}\n",
+    )];
+    answers_each(&rt, rt.alloc(), &rows);
+}
+
+#[test]
+fn a_reservation_gives_back_what_stands_free_at_the_end(rt: HostRuntime) {
+    let rows: [Row<'_>; 3] = [
+        (
+            b"insert 1 -\ninsert 1 -\ninsert 1 -\ninsert 1 -\ninsert 1 -\ninsert 1 -\ninsert 1 -\ninsert 1 -\ninsert 1 -\ninsert 1 -\nremove 1\nremove 2\nremove 3\nremove 4\nremove 5\nremove 6\nremove 7\nremove 8\nremove 9\nreserve 1\ncapacity\n",
+            b"given 1\ngiven 2\ngiven 3\ngiven 4\ngiven 5\ngiven 6\ngiven 7\ngiven 8\ngiven 9\ngiven 10\nremoved 1 -\nremoved 1 -\nremoved 1 -\nremoved 1 -\nremoved 1 -\nremoved 1 -\nremoved 1 -\nremoved 1 -\nremoved 1 -\ndone\ncount 10\n",
+        ),
+        (
+            b"insert 1 -\ninsert 1 -\ninsert 1 -\ninsert 1 -\ninsert 1 -\nremove 2\nremove 4\nremove 5\nreserve 0\ncapacity\ninsert 9 -\nshow\n",
+            b"given 1\ngiven 2\ngiven 3\ngiven 4\ngiven 5\nremoved 1 -\nremoved 1 -\nremoved 1 -\ndone\ncount 3\ngiven 6\n{P0[1](2): (1, None), P0[2](5): (9, None), P0[3](2): (1, None)}\n",
+        ),
+        (
+            b"insert 1 -\ninsert 1 -\ninsert 1 -\nremove 1\nremove 2\nreserve 1\ncapacity\nwithin 5 -\nwithin 5 -\nwithin 5 -\n",
+            b"given 1\ngiven 2\ngiven 3\nremoved 1 -\nremoved 1 -\ndone\ncount 3\ngiven 4\ngiven 5\nfull\n",
+        ),
+    ];
+    answers_each(&rt, rt.alloc(), &rows);
+}
+
+#[test]
+fn an_array_is_full_at_eight(rt: HostRuntime) {
+    let mut session: Session<P0, u64, NonZeroInxArray<Slot, 8>> = Session::new(rt.alloc());
+    answers_text(
+        &rt,
+        rt.alloc(),
+        &mut session,
+        b"capacity\nwithin 1 -\nwithin 1 -\nwithin 1 -\nwithin 1 -\nwithin 1 -\nwithin 1 -\nwithin 1 -\nwithin 1 -\nwithin 1 -\ninsert 1 -\nreserve 9\nreserve 8\n",
+        Ok(()),
+        b"count 8\ngiven 1\ngiven 2\ngiven 3\ngiven 4\ngiven 5\ngiven 6\ngiven 7\ngiven 8\nfull\nbeyond max capacity\nbeyond max capacity\ndone\n",
+    );
+}
+
+#[test]
+fn no_place_is_full_at_once(rt: HostRuntime) {
+    let mut session: Session<P0, u64, NonZeroInxBoxedSlice<Slot>> = Session::new(rt.alloc());
+    let lines = b"full\nbeyond max capacity\n".as_slice();
+    answers_text(
+        &rt,
+        rt.alloc(),
+        &mut session,
+        b"within 5 -\ninsert 5 -\n",
+        Ok(()),
+        lines,
+    );
+}
+
+/// There are 255 indexes of a byte, and room for no more.
+#[test]
+fn a_byte_index_has_its_greatest_capacity(rt: HostRuntime) {
+    let mut session: Session<B, u64> = Session::new(rt.alloc());
+    fills(&rt, rt.alloc(), &mut session, 255);
+    answers_text(
+        &rt,
+        rt.alloc(),
+        &mut session,
+        b"insert 1 -\nwithin 1 -\ncapacity\nreserve 256\nlen\n",
+        Ok(()),
+        b"no memory\nfull\ncount 255\nno memory\ncount 255\n",
+    );
+}
+
+// Inserts so many.
+fn fills(rt: &impl Abort, alloc: Global, session: &mut Session<B, u64>, count: usize) {
+    for name in 1..count + 1 {
+        answers_so(
+            rt,
+            alloc,
+            session,
+            b"insert 1 -\n",
+            format!(in alloc; "given {name}\n"),
+        );
+    }
+}
+
+// Inserts and removes so many times, which raises the counter as often.
+fn comes_and_goes(rt: &impl Abort, alloc: Global, session: &mut Session<B, u64>, count: usize) {
+    for name in 1..count + 1 {
+        let text = format!(in alloc; "insert 1 -\nremove {name}\n");
+        let lines = format!(in alloc; "given {name}\nremoved 1 -\n");
+        match text {
+            Ok(text) => answers_so(rt, alloc, session, text.as_str().as_bytes(), lines),
+            Err(_) => panic!(rt; "there is memory"),
+        }
+    }
+}
+
+fn answers_so(
+    rt: &impl Abort,
+    alloc: Global,
+    session: &mut Session<B, u64>,
+    text: &[u8],
+    lines: Result<String, std::alloc::AllocError>,
+) {
+    match lines {
+        Ok(lines) => answers_text(rt, alloc, session, text, Ok(()), lines.as_str().as_bytes()),
+        Err(_) => panic!(rt; "there is memory"),
+    }
+}
+
+/// The byte counter is at its end after 253 raises, and the next tells of a wrap, which ends the run.
+#[test]
+fn each_command_that_raises_the_counter_tells_of_a_wrap(rt: HostRuntime) {
+    let rows: [Row<'_>; 3] = [
+        (b"invalidate 254\nlen\n", b"given 255 wrapped\n"),
+        (b"clear\nlen\n", b"cleared wrapped\n"),
+        (b"remove 254\nlen\n", b"removed 7 - wrapped\n"),
+    ];
+    for (text, lines) in rows {
+        let mut session: Session<B, u64> = Session::new(rt.alloc());
+        comes_and_goes(&rt, rt.alloc(), &mut session, 253);
+        answers_text(
+            &rt,
+            rt.alloc(),
+            &mut session,
+            b"insert 7 -\n",
+            Ok(()),
+            b"given 254\n",
+        );
+        answers_text(&rt, rt.alloc(), &mut session, text, Ok(()), lines);
+    }
+}
+
+// What stands under each of the first names.
+fn entries_of(session: &mut Session<P0, u64>) -> [Entry; 12] {
+    let mut entries = [None; 12];
+    for (name, entry) in entries.iter_mut().enumerate() {
+        if let Reply::Found(datum, link) = session.step(Command::Get(name)) {
+            *entry = Some((datum, link));
+        }
+    }
+    entries
+}
+
+// Whether a reply is written so.
+fn says(reply: &Reply<u64>, text: &str) -> bool {
+    match line_of(reply) {
+        Some(line) => line.as_str().strip_suffix("\n") == Some(text),
+        None => false,
+    }
+}
+
+// Expects a command to be answered so. Memory may be refused first, and then names, entries, length,
+// capacity and counter are as they were.
+fn answers_or_changes_nothing(
+    rt: &impl Abort,
+    session: &mut Session<P0, u64>,
+    command: Command<u64>,
+    text: &str,
+) {
+    let before = (entries_of(session), extent(session));
+    let mut reply = session.step(command);
+    if reply == Reply::NoMemory {
+        assert!(rt;
+            (entries_of(session), extent(session)) == before,
+            "at {text}"
+        );
+        reply = session.step(command);
+    }
+    assert!(rt; says(&reply, text), "at {text}");
+}
+
+/// Holds with ample memory, and also where any one request for memory is refused (`rt try --test
+/// --fail-alloc 1..`).
+#[test]
+fn a_refused_command_changes_nothing(rt: HostRuntime) {
+    let mut session = new_session(rt.alloc());
+    let rows: [(Command<u64>, &str); 19] = [
+        (Command::Insert(1, None), "given 1"),
+        (Command::Reserve(6), "done"),
+        (Command::InsertWithin(2, Some(1)), "given 2"),
+        (
+            Command::Show,
+            "{P0[1](2): (1, None), P0[2](2): (2, Some(P0[1](2)))}",
+        ),
+        (Command::Insert(3, None), "given 3"),
+        (Command::Insert(4, None), "given 4"),
+        (Command::Invalidate(1), "given 5"),
+        (Command::Remove(3), "removed 3 -"),
+        (Command::Set(2, 7, Some(5)), "done"),
+        (Command::InsertWithin(8, None), "given 6"),
+        (Command::Invalidate(6), "given 7"),
+        (Command::Invalidate(7), "given 8"),
+        (Command::InsertWithin(9, None), "given 9"),
+        (Command::Get(2), "found 7 5"),
+        (Command::Reserve(0), "done"),
+        (Command::Capacity, "count 5"),
+        (Command::Insert(6, None), "given 10"),
+        (Command::Clear, "cleared"),
+        (Command::Show, "{}"),
+    ];
+    for (command, text) in rows {
+        answers_or_changes_nothing(&rt, &mut session, command, text);
+    }
+}

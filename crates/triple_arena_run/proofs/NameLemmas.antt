@@ -1,5 +1,5 @@
 -- A table of names in which no pointer stands twice, and the generations that it notes.
-use Rattle.std.proofs.Common.{◌≡◌, ℕ, ◌+◌, ◌-◌, ◌<◌, ◌≤◌, ◌&&◌, zero, suc, Bool, true, false, List, [], ◌∷◌, ◌++◌, map, length, Option, Some, None, nat_lt, slice_get, slice_set, get_or, unwrap_or, ◌⊎◌, refl, sym, ap, subst, ◌∙◌, inl, inr, arith}
+use Rattle.std.proofs.Common.{◌≡◌, ℕ, ◌-◌, ◌<◌, ◌≤◌, ◌&&◌, zero, suc, Bool, true, false, List, [], ◌∷◌, ◌++◌, map, length, Option, Some, None, nat_lt, slice_get, slice_set, get_or, unwrap_or, ◌⊎◌, refl, sym, ap, subst, ◌∙◌, inl, inr, arith}
 use Rattle.std.specs.List.{position, position_or_len}
 use Rattle.std.specs.Option.{option_map}
 use Rattle.std.proofs.lemmas.Bool.Decides.{nat_tests}
@@ -170,4 +170,3 @@ known_name number pointer knows rows table (suc k) p q shown known is at same =
 pub knows_same : {P G : Type 0} (number : G → ℕ) (pointer : P → Pointer) (knows : Bool) (rows : List (Row P G)) (k : ℕ) (row other : Row P G) → Some row ≡ slice_get rows k → other.pointer ≡ row.pointer → other.newest ≡ row.newest → Knows knows (map pointer (pointers_of rows)) (notes_of number rows) → Knows knows (map pointer (pointers_of (slice_set rows k other))) (notes_of number (slice_set rows k other))
 knows_same number pointer knows rows k row other at pointers notes known =
     rw (unseen_write (λ r. r.pointer) rows k row other at pointers, unseen_write (λ r. noted_number number r.newest) rows k row other at (ap (noted_number number) notes)) known
-

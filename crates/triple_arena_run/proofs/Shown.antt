@@ -1,5 +1,5 @@
 -- Sessions whose fields hold a state, and what the arena's and the table's answers make of it.
-use Rattle.std.proofs.Common.{◌≡◌, ℕ, ◌+◌, ◌==◌, ◌<◌, ◌≤◌, Bool, true, false, cond, List, [], ◌∷◌, ◌++◌, map, length, Option, Some, None, refl, sym, ap, subst, ◌∙◌, inl, inr, ◌⊎◌, true≢false, arith}
+use Rattle.std.proofs.Common.{◌≡◌, ℕ, ◌+◌, ◌==◌, ◌<◌, ◌≤◌, Bool, true, false, List, [], ◌∷◌, ◌++◌, map, length, Option, Some, None, refl, sym, ap, subst, ◌∙◌, inl, inr, ◌⊎◌, true≢false, arith}
 use Rattle.std.specs.Prelude.{nat_le, Result, Err, IsOk}
 use Rattle.triple_arena_base.specs.declared.errors.ReallocationError.{ReallocationError}
 use Rattle.triple_arena_base.specs.declared.errors.ReallocationError.TheVariants as refused
@@ -206,7 +206,6 @@ module _ {X P : Type 0} (pointer : P → Pointer) (arena : ArenaState (Node X P)
         let reply : Removed node.datum name wrapped ≡ Removed node.datum (link_name s.table (option_map pointer node.link)) (wraps counting greatest s.arena.counter) = rw (name_shown, wrapped_shown) refl in
         let state : session_of pointer new_arena table room ≡ record s { arena = removed (raise counting greatest) s.arena p.0 } = arena_changed (λ a. removed (raise counting greatest) a p.0) new_arena (ap (map_values (node_of pointer)) arena_is ∙ removed-mapped (node_of pointer) (raise counting greatest) arena p.0) in
         answers reply state
-
 
     -- an entry's new pointer gets a name
     pub entry_renewed : (p : Pointer) (q : P) (wrapped : Bool) (name : ℕ) (new_arena : ArenaState (Node X P)) (new_table : List P) (new_room : ℕ) (node : X × Option Pointer) → pointer q ≡ (p.0, raise counting greatest arena.counter) → wrapped ≡ wraps counting greatest arena.counter → new_arena ≡ invalidated (raise counting greatest) arena p.0 → name ≡ length table + 1 → new_table ≡ table ++ q ∷ [] → new_room ≡ room_for_one_more room None (length table) → ◌≡◌ {A = Reply X × SessionState X} (Given name wrapped, session_of pointer new_arena new_table new_room) (invalidate_under kind counting greatest s p node)

@@ -117,7 +117,14 @@ fn an_array_is_full_at_eight(rt: HostRuntime) {
 fn no_place_is_full_at_once(rt: HostRuntime) {
     let mut session: Session<P0, u64, NonZeroInxBoxedSlice<Slot>> = Session::new(rt.alloc());
     let lines = b"full\nbeyond max capacity\n".as_slice();
-    answers_text(&rt, rt.alloc(), &mut session, b"within 5 -\ninsert 5 -\n", Ok(()), lines);
+    answers_text(
+        &rt,
+        rt.alloc(),
+        &mut session,
+        b"within 5 -\ninsert 5 -\n",
+        Ok(()),
+        lines,
+    );
 }
 
 /// There are 255 indexes of a byte, and room for no more.
@@ -138,7 +145,13 @@ fn a_byte_index_has_its_greatest_capacity(rt: HostRuntime) {
 // Inserts so many.
 fn fills(rt: &impl Abort, alloc: Global, session: &mut Session<B, u64>, count: usize) {
     for name in 1..count + 1 {
-        answers_so(rt, alloc, session, b"insert 1 -\n", format!(in alloc; "given {name}\n"));
+        answers_so(
+            rt,
+            alloc,
+            session,
+            b"insert 1 -\n",
+            format!(in alloc; "given {name}\n"),
+        );
     }
 }
 
@@ -178,7 +191,14 @@ fn each_command_that_raises_the_counter_tells_of_a_wrap(rt: HostRuntime) {
     for (text, lines) in rows {
         let mut session: Session<B, u64> = Session::new(rt.alloc());
         comes_and_goes(&rt, rt.alloc(), &mut session, 253);
-        answers_text(&rt, rt.alloc(), &mut session, b"insert 7 -\n", Ok(()), b"given 254\n");
+        answers_text(
+            &rt,
+            rt.alloc(),
+            &mut session,
+            b"insert 7 -\n",
+            Ok(()),
+            b"given 254\n",
+        );
         answers_text(&rt, rt.alloc(), &mut session, text, Ok(()), lines);
     }
 }
@@ -213,7 +233,10 @@ fn answers_or_changes_nothing(
     let before = (entries_of(session), extent(session));
     let mut reply = session.step(command);
     if reply == Reply::NoMemory {
-        assert!(rt; (entries_of(session), extent(session)) == before, "at {text}");
+        assert!(rt;
+            (entries_of(session), extent(session)) == before,
+            "at {text}"
+        );
         reply = session.step(command);
     }
     assert!(rt; says(&reply, text), "at {text}");

@@ -24,7 +24,10 @@ fn reads_each_form(rt: HostRuntime) {
         (b"set 1 2 -", Command::Set(1, 2, None)),
         (b"set 01 02 03", Command::Set(1, 2, Some(3))),
         (b"invalidate 1", Command::Invalidate(1)),
-        (b"reserve 18446744073709551615", Command::Reserve(usize::MAX)),
+        (
+            b"reserve 18446744073709551615",
+            Command::Reserve(usize::MAX),
+        ),
         (b"clear", Command::Clear),
         (b"len", Command::Len),
         (b"capacity", Command::Capacity),

@@ -275,7 +275,12 @@ fn flushes_what_was_answered(rt: HostRuntime) {
     let malformed = |line| Err(TextError::Malformed(line));
     let rows: [(&[u8], usize, End, Reply<u64>); 4] = [
         (b"insert 1 -\nget 1\n", 1, (Ok(()), 2, 18), found()),
-        (b"insert 1 -\nwhat\nget 1\n", 1, (malformed(2), 1, 8), found()),
+        (
+            b"insert 1 -\nwhat\nget 1\n",
+            1,
+            (malformed(2), 1, 8),
+            found(),
+        ),
         (b"what\n", 1, (malformed(1), 0, 0), Reply::Nothing),
         (
             b"insert 1 -\nwhat\n",

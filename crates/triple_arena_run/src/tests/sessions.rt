@@ -46,7 +46,11 @@ fn answers_by_name(rt: HostRuntime) {
 // removal of one name alone to tell of a wrap.
 fn comes_and_goes(rt: &impl Abort, session: &mut Session<P3, u64>, last: usize, wraps: usize) {
     for name in 1..last {
-        let given = replies(session, Command::Insert(7, None), &Reply::Given(name, false));
+        let given = replies(
+            session,
+            Command::Insert(7, None),
+            &Reply::Given(name, false),
+        );
         let reply = Reply::Removed(7, None, name == wraps);
         let removed = replies(session, Command::Remove(name), &reply);
         assert!(rt; given && removed, "at {name}");

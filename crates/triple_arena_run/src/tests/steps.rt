@@ -21,11 +21,7 @@ pub fn replies<
     P: Ptr,
     X: Copy + PartialEq + Debug,
     S: NonZeroInxGenericStack<ArenaSlot<P, Node<X, P>>>,
->(
-    session: &mut Session<P, X, S>,
-    command: Command<X>,
-    reply: &Reply<X>,
-) -> bool {
+>(session: &mut Session<P, X, S>, command: Command<X>, reply: &Reply<X>) -> bool {
     session.step(command) == *reply
 }
 

@@ -1,6 +1,6 @@
-use Rattle.std.proofs.Common.{◌≡◌, false, ◌++◌, ◌∷◌, [], List, Some, length, ap, sym, ◌∙◌, ◌+◌, ◌==◌, cond}
+use Rattle.std.proofs.Common.{◌≡◌, false, ◌++◌, ◌∷◌, [], List, Some, length, ap, sym, ◌∙◌, ◌+◌}
 use Rattle.std.specs.Option.{option_map}
-use Rattle.triple_arena.specs.ArenaState.{arena_len, capacity, map_values}
+use Rattle.triple_arena.specs.ArenaState.{map_values}
 use Rattle.triple_arena.specs.Insertion.{inserted, next_pointer}
 use Rattle.triple_arena_run.specs.declared.node.Node.{Node}
 use Rattle.triple_arena_run.specs.SessionState.{node_of, link_pointer}

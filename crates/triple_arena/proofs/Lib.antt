@@ -16,3 +16,5 @@ pub mod Steps
 pub mod Walking
 pub mod Visiting
 pub mod CopyLemmas
+pub mod PointerLists
+pub mod HistoryLaws

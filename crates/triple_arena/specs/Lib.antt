@@ -25,3 +25,4 @@ pub mod Compression
 pub mod Cloning
 pub mod CloningLaws
 pub mod Disjoint
+pub mod Histories

@@ -1,6 +1,6 @@
 //! What holds of every arena: laws over several calls.
 
-ghost use Rattle.std.specs.Prelude.{◌≡◌, ◌⊎◌, ◌↔◌, ◌<◌, ℕ, List, [], ◌∷◌, ◌++◌, map, All, Contains, Option, Some, None, IsSome, false, min};
+ghost use Rattle.std.specs.Prelude.{◌≡◌, ◌⊎◌, ◌↔◌, ◌<◌, ◌≤◌, ℕ, List, [], ◌∷◌, ◌++◌, map, All, Contains, Option, Some, None, IsSome, IsTrue, false, min};
 ghost use Rattle.triple_arena_stack.specs.StackKind.{StackKind};
 ghost use Rattle.triple_arena_ptr.specs.Pointers.{Pointer};
 ghost use Rattle.triple_arena.specs.Entries.{entry_in, look_up_in, IsLast};
@@ -10,6 +10,7 @@ ghost use Rattle.triple_arena.specs.Ending.{removed, invalidated, cleared};
 ghost use Rattle.triple_arena.specs.FreeList.{tidied, without_free_end, IsRising};
 ghost use Rattle.triple_arena.specs.Walks.{Stand, Steps, Walk, IsAtFirst, keys};
 ghost use Rattle.triple_arena.specs.Capacity.{EndsBy, reallocated, with_limit, grown};
+ghost use Rattle.triple_arena.specs.Histories.{ModelCall, History, begun_with, followed_by, is_live, remains, Fits, Continues, IsModelCall, AreModelCalls};
 
 /// A limit that is set back: once a limit is set, the old one can be set again, and then the old
 /// capacity is there again. All else is as it was, or as it was with the free list in order.
@@ -79,4 +80,22 @@ pub fn forward_walk<T>()
         → Walk greatest from turns to → Steps greatest last to None end
         → IsSome (entry_in first i) → All (λ turn. IsSome (entry_in turn.0 i)) turns
         → IsSome (entry_in last i) → Contains (map (λ turn. turn.1.0) turns) i }
+{}
+
+/// Freshness: a history that fits an arena goes on to fit it, followed by the model calls that are
+/// made, as long as none of them wraps the counter. So no pointer is given twice, and the arena's
+/// pointers are exactly those that were given and have not ended (`Fits`).
+pub fn pointers_are_fresh<T>()
+    ensures empty { (s : ArenaState T) → arena_len s ≡ 0 → Fits (begun_with []) s }
+    ensures begun { (s : ArenaState T) → ((p : Pointer) → IsTrue (is_live s p) → p.1 ≤ s.counter)
+        → Fits (begun_with (keys s.slots)) s }
+    ensures call { (s : ArenaState T) (call : ModelCall) (t : ArenaState T) → IsModelCall s call t
+        → Continues s (call ∷ []) t }
+    ensures calls { (s : ArenaState T) (calls : List ModelCall) (t : ArenaState T)
+        → AreModelCalls s calls t → Continues s calls t }
+    ensures one_after_another { (s m t : ArenaState T) (first second : List ModelCall)
+        → Continues s first m → Continues m second t → Continues s (first ++ second) t }
+    ensures never_live { (s : ArenaState T) (calls : List ModelCall) (t : ArenaState T)
+        (p : Pointer) → arena_len s ≡ 0 → p.1 < s.counter → Continues s calls t
+        → is_live t p ≡ false }
 {}

@@ -19,3 +19,4 @@ mod Dangling
 mod StoreLaws
 mod StoreRunLaws
 mod StoreRows
+mod StoreTextLaws

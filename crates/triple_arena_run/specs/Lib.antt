@@ -18,3 +18,4 @@ pub mod NameStore
 pub mod Shown
 pub mod StoreRuns
 pub mod SessionCalls
+pub mod StoreText

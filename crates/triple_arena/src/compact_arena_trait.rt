@@ -1,6 +1,6 @@
 //! Arenas that generic code walks.
 
-ghost use Rattle.std.specs.Prelude.{◌≡◌, ℕ, Bool, List, [], Option, Some, IsSome, length, map};
+ghost use Rattle.std.specs.Prelude.{◌≡◌, ℕ, false, ◌∷◌, Bool, List, [], Option, Some, IsSome, length, map};
 ghost use Rattle.std.specs.List.{range_with_len};
 ghost use Rattle.std.specs.Option.{option_map};
 ghost use Rattle.triple_arena_ptr.specs.Numbers.{greatest_index};
@@ -11,13 +11,13 @@ ghost use Rattle.triple_arena.specs.Ending.{told};
 ghost use Rattle.triple_arena.specs.Moves.{Moves};
 ghost use Rattle.triple_arena.specs.Visits.{Visits};
 ghost use Rattle.triple_arena.specs.Walks.{Steps, entries, keys, values};
-ghost use Rattle.triple_arena.specs.Histories.{Continues};
+ghost use Rattle.triple_arena.specs.Histories.{History, compression, begun_with, CountsUp, Continues};
 ghost use Rattle.triple_arena.specs.Drains.{IsDraining, drain_arena, drain_lender};
 
 use crate::arena_iterators::{Drain, Iter, Ptrs, Vals};
 use crate::arena_trait::ArenaTrait;
 use triple_arena_base::{Advancer, InvalidationOption};
-use triple_arena_ptr::{Ptr, PtrInx};
+use triple_arena_ptr::{Ptr, PtrGen, PtrInx};
 
 /// An arena whose advancers go from live index to live index, in the order of the indexes.
 ///
@@ -43,6 +43,9 @@ pub trait CompactArenaTrait<P: Ptr, T>: ArenaTrait<P, T> {
     /// were given before may come to name later entries. Where it doesn't count them, each entry
     /// keeps its generation, and the answer is `Success`.
     ///
+    /// Without a reset and without a wrap it is one model call: it ends every pointer, and gives those
+    /// that stand after it (`fresh`). In each case a history can begin with these (`begun`).
+    ///
     /// It takes no memory, limit and capacity stay, and it goes through the slots once.
     fn compress_with<F: FnMut(P, T, P) -> T>(
         &mut self,
@@ -59,7 +62,13 @@ pub trait CompactArenaTrait<P: Ptr, T>: ArenaTrait<P, T> {
             ≡ map (rank self.old reset_generation) (keys (Self.slots self.old)) }
         ensures len { entry_count (Self.slots self.new) ≡ entry_count (Self.slots self.old) }
         ensures limit { Self.limit self.new ≡ Self.limit self.old }
-        ensures capacity { Self.fitting self.new ≡ Self.fitting self.old };
+        ensures capacity { Self.fitting self.new ≡ Self.fitting self.old }
+        ensures fresh { reset_generation ≡ false
+            → CountsUp P.Gen.counting (compression_wraps self.old reset_generation)
+            → Continues Self.fits self.old
+            (compression (keys (Self.slots self.old)) (keys (Self.slots self.new)) ∷ []) self.new }
+        ensures begun { (h : History) → Self.fits h self.old
+            → Self.fits (begun_with (keys (Self.slots self.new))) self.new };
 
     // a step of an advancer answers the live pointer that is met first, if one is ahead
     ghost advanced: { (before : Self.PtrAdvancer) (arena : Self) (answer : Option P)
@@ -112,6 +121,12 @@ pub trait CompactArenaTrait<P: Ptr, T>: ArenaTrait<P, T> {
         ensures len { entry_count (Self.slots self.new) ≡ entry_count (Self.slots self.old) }
         ensures limit { Self.limit self.new ≡ Self.limit self.old }
         ensures capacity { Self.fitting self.new ≡ Self.fitting self.old }
+        ensures fresh { reset_generation ≡ false
+            → CountsUp P.Gen.counting (compression_wraps self.old reset_generation)
+            → Continues Self.fits self.old
+            (compression (keys (Self.slots self.old)) (keys (Self.slots self.new)) ∷ []) self.new }
+        ensures begun { (h : History) → Self.fits h self.old
+            → Self.fits (begun_with (keys (Self.slots self.new))) self.new }
     {
         self.compress_with(reset_generation, |_from, value, _to| value)
     }

@@ -4,6 +4,7 @@ use Rattle.triple_arena.specs.ArenaState.{capacity}
 use Rattle.triple_arena.specs.Compression.{counter_after}
 use Rattle.triple_arena.specs.CompressionLaws.{keys-compressed}
 use Rattle.triple_arena.proofs.Compaction.{count-moved, count_renamed}
+use Rattle.triple_arena.proofs.HistoryLaws.{Continues-compressed, Fits-compressed}
 use Rattle.triple_arena.proofs.base_arena.compaction.ArenaCompactArenaTrait.compress_with.Goals as goal
 
 pub returns-clause-moved : goal.returns-clause-moved
@@ -23,3 +24,14 @@ returns-clause-limit g c = ap (λ s. s.limit) (returns-clause-moved g c).2
 
 pub returns-clause-capacity : goal.returns-clause-capacity
 returns-clause-capacity g c = ap capacity (returns-clause-moved g c).2
+
+pub returns-clause-fresh : goal.returns-clause-fresh
+returns-clause-fresh g c kept counts =
+    let m = returns-clause-moved g c in
+    Continues-compressed g.P.Gen.PtrGen.counting g.P.Gen.PtrGen.greatest c.args.self.now c.close_up.new.self (first_generation g.P.Gen.PtrGen.counting) c.args.reset_generation m.0 kept counts
+    (count-moved g.P.Ptr.numbers (goal.F-step g) _ c.args.f c.args.self.now.slots m.0 m.1) m.2
+
+pub returns-clause-begun : goal.returns-clause-begun
+returns-clause-begun g c h fits =
+    let m = returns-clause-moved g c in
+    Fits-compressed c.args.self.now c.close_up.new.self _ m.0 m.2

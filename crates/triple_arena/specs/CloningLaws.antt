@@ -1,4 +1,4 @@
--- Laws of cloning and of transfer into an arena.
+-- Laws of cloning into an arena.
 use Rattle.std.proofs.Common.{◌≡◌, ℕ, ◌≤◌, nat_lt, cond, Bool, true, false, List, [], ◌∷◌, length, Option, Some, refl, sym, ap, ◌∙◌, arith}
 use Rattle.std.specs.List.{FoldsTo}
 use Rattle.std.proofs.lemmas.Bool.Decides.{nat_tests}
@@ -8,9 +8,6 @@ use Rattle.triple_arena.specs.Entries.{entry_in, KeepsEntries}
 use Rattle.triple_arena.specs.FreeList.{laid_out, last_index}
 use Rattle.triple_arena.specs.Cloning.{counter_of, CloneTurn}
 use Rattle.triple_arena.specs.Capacity.{ready_for, reallocated}
-
-some_same : {a b : ℕ} → Some a ≡ Some b → a ≡ b
-some_same e = cc
 
 module _ {T : Type 0} (kind : StackKind) where
   -- where there is a place for so many, the arena is ready as it is
@@ -33,19 +30,6 @@ module _ {T : Type 0} (kind : StackKind) where
 
     pub fitting-cloned : (old : ArenaState T) (last : ℕ) (next : Option ℕ) (copy : List (Option (ℕ × T))) (new : ArenaState T) → new ≡ laid_out (ready_for kind old last) copy (counter_of first next) → last ≤ capacity old → capacity new ≡ capacity old
     fitting-cloned old last next copy new is fits = ap capacity is ∙ ap capacity (ready-fits old last fits)
-
-  module _ (old : ArenaState T) (generation : ℕ) (put : List (Option (ℕ × T))) (new : ArenaState T) where
-    pub slots-transferred : new ≡ laid_out (ready_for kind old (length put)) put generation → new.slots ≡ put
-    slots-transferred is = ap (λ s. s.slots) is
-
-    pub limit-transferred : new ≡ laid_out (ready_for kind old (length put)) put generation → new.limit ≡ old.limit
-    limit-transferred is = ap (λ s. s.limit) is ∙ limit-ready old (length put)
-
-    pub fitting-transferred : new ≡ laid_out (ready_for kind old (length put)) put generation → length put ≤ capacity old → capacity new ≡ capacity old
-    fitting-transferred is fits = ap capacity is ∙ ap capacity (ready-fits old (length put) fits)
-
-    pub next-transferred : (next : ℕ) → new ≡ laid_out (ready_for kind old (length put)) put generation → Some new.counter ≡ Some next → next ≡ generation
-    next-transferred next is told = some_same (sym told ∙ ap (λ s. Some s.counter) is)
 
 module _ {T U A B : Type 0} (slots : A → List (Option (ℕ × T))) (fitting : A → ℕ) (clones : A → ℕ → Option ℕ → List (Option (ℕ × T)) → A → Type 0)
     (slots_of : B → List (Option (ℕ × U))) (fitting_of : B → ℕ) (clones_of : B → ℕ → Option ℕ → List (Option (ℕ × U)) → B → Type 0)

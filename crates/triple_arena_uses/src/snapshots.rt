@@ -1,12 +1,14 @@
 //! Tables that are kept as they are, and tables that take others over.
 
 ghost use Rattle.std.specs.Prelude.{◌≡◌, ◌≤◌, OnOk, OnErr, IsOk};
+ghost use Rattle.triple_arena.specs.ArenaState.{arena_len, capacity};
 ghost use Rattle.triple_arena.specs.Entries.{KeepsEntries, entry_count};
 ghost use Rattle.triple_arena.specs.FreeList.{last_index};
 
-use triple_arena::{ArenaCloneFromWith, ArenaTransfer, CompactArenaTrait};
+use triple_arena::{Arena, ArenaCloneFromWith, ArenaSlot, CompactArenaTrait};
 use triple_arena_base::{AllocError, CloneFromError, ReallocationError};
 use triple_arena_ptr::{Ptr, PtrGen};
+use triple_arena_stack::NonZeroInxGenericStack;
 
 /// Keeps a table as it is: each pointer then finds in `kept` what it finds in `table`, and calling
 /// it the other way round comes back to what was kept. Where the capacity of `kept` reaches the
@@ -24,16 +26,16 @@ pub fn keep<P: Ptr, A: CompactArenaTrait<P, u64>, B: ArenaCloneFromWith<P, u64>>
 
 /// Moves the entries of one table to another, whose own are dropped, and whose pointers may be of
 /// another type: there they stand from index 1 on. Refused, both have the entries that they had.
-pub fn move_over<P: Ptr, Q: Ptr, A: CompactArenaTrait<Q, u64>, B: ArenaTransfer<P, u64>>(
-    from: &mut A,
-    to: &mut B,
-    generation: P::Gen,
-) -> Result<(), ReallocationError>
-    ensures moved { OnOk result
-        (entry_count (B.slots to.new) ≡ entry_count (A.slots from.old)) }
+pub fn move_over<
+    P: Ptr,
+    S: NonZeroInxGenericStack<ArenaSlot<P, u64>>,
+    Q: Ptr,
+    A: CompactArenaTrait<Q, u64>,
+>(from: &mut A, to: &mut Arena<P, u64, S>, generation: P::Gen) -> Result<(), ReallocationError>
+    ensures moved { OnOk result (arena_len to.new ≡ entry_count (A.slots from.old)) }
     ensures emptied { OnOk result (entry_count (A.slots from.new) ≡ 0) }
     ensures whole { OnErr result (from.new ≡ from.old) }
-    ensures fits { entry_count (A.slots from.old) ≤ B.fitting to.old → IsOk result }
+    ensures fits { entry_count (A.slots from.old) ≤ capacity to.old → IsOk result }
 {
     to.transfer_reallocating(generation, from, |_old, taken, _new| taken.allow())
 }

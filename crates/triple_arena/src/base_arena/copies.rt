@@ -14,7 +14,6 @@ ghost use Rattle.triple_arena.specs.Transfers.{Transfers};
 
 use crate::arena_clone_trait::ArenaCloneFromWith;
 use crate::arena_trait::ArenaTrait;
-use crate::arena_transfer_trait::ArenaTransfer;
 use crate::base_arena::Arena;
 use crate::compact_arena_trait::CompactArenaTrait;
 use crate::ends::last_index;
@@ -60,15 +59,20 @@ impl<P: Ptr, T, S: NonZeroInxGenericStack<ArenaSlot<P, T>>> ArenaCloneFromWith<P
     ghost fitting_cloned = { fitting-cloned S.kind (first_generation P.Gen.counting) };
 }
 
-impl<P: Ptr, T, S: NonZeroInxGenericStack<ArenaSlot<P, T>>> ArenaTransfer<P, T> for Arena<P, T, S> {
-    ghost use Rattle.triple_arena.specs.CloningLaws.{slots-transferred, limit-transferred, fitting-transferred, next-transferred};
-
-    // what was given stands, in room for so many; no index is free, and the counter is the new
-    // generation
-    ghost transfers = { λ old generation put new.
-        new ≡ laid_out (ready_for S.kind old (length put)) put generation };
-
-    fn transfer_reallocating<
+impl<P: Ptr, T, S: NonZeroInxGenericStack<ArenaSlot<P, T>>> Arena<P, T, S> {
+    /// Drops the entries, and takes those of `source` out, one by one in the order of their indexes.
+    /// What `map` makes of each stands from index 1 on, under `new_generation`, which becomes the
+    /// counter (`Transfers`). `map` is called with the old pointer, with what the removal told, and
+    /// with the new pointer. The pointer types may differ.
+    ///
+    /// `source` is left as its own removals leave it: it has no entry. The room changes only where
+    /// there are more entries than fit, and no memory is taken elsewhere.
+    ///
+    /// Refused only where `source` has more entries than fit, and as `reallocate_min_capacity`
+    /// refuses their number: `AllocError` where it is past the greatest index; else
+    /// `BeyondMaxCapacity` exactly where the limit is below it; else `AllocError` where memory is
+    /// refused. Then `source` and every entry are as they were.
+    pub fn transfer_reallocating<
         Q: Ptr,
         U,
         A: CompactArenaTrait<Q, U>,
@@ -103,16 +107,6 @@ impl<P: Ptr, T, S: NonZeroInxGenericStack<ArenaSlot<P, T>>> ArenaTransfer<P, T> 
         Ok(())
     }
 
-    ghost slots_transferred = { slots-transferred S.kind };
-
-    ghost limit_transferred = { limit-transferred S.kind };
-
-    ghost fitting_transferred = { fitting-transferred S.kind };
-
-    ghost next_transferred = { next-transferred S.kind };
-}
-
-impl<P: Ptr, T, S: NonZeroInxGenericStack<ArenaSlot<P, T>>> Arena<P, T, S> {
     // Reallocates where so many are past the capacity.
     fn make_room(&mut self, min_capacity: usize) -> Result<(), ReallocationError>
         ensures done { OnOk result (self.new ≡ ready_for S.kind self.old min_capacity) }

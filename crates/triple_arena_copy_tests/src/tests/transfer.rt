@@ -3,7 +3,7 @@
 use super::states::{insert_up_to, state_of};
 use std::num::NonZeroU64;
 use std::test::Fail;
-use triple_arena::{Arena, ArenaInsertTrait, ArenaSlot, ArenaTrait, ArenaTransfer};
+use triple_arena::{Arena, ArenaInsertTrait, ArenaSlot, ArenaTrait};
 use triple_arena_base::ReallocationError;
 use triple_arena_ptr::{P0, P5, Q2};
 use triple_arena_stack::NonZeroInxLimitedVec;

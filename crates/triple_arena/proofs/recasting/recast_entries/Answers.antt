@@ -34,9 +34,6 @@ walk-preserved g c =
           (sym (ap option_copied_mut c.unwrap-value.ensures) ∙ c.get_mut.ensures.value) c.recast.ensures.after (sym c.recast.ensures.answer ∙ c.in_ok-recast.was)),
     )
 
-pub walk-smaller : goal.walk-smaller
-walk-smaller g c = (taken _ _ _ _ _ (rw c.in-Some.is at (g.met.A.CompactArenaTrait.advanced _ _ _ _ c.advance.ensures.steps))).fewer
-
 pub returns-in_err-recast-clause-after : goal.returns-in_err-recast-clause-after
 returns-in_err-recast-clause-after g c =
     let steps = rw c.in-Some.is at (g.met.A.CompactArenaTrait.advanced _ _ _ _ c.advance.ensures.steps) in

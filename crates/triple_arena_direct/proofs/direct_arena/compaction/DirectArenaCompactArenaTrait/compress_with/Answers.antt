@@ -27,13 +27,16 @@ invariant_of-self g c =
 pub returns-clause-moved : goal.returns-clause-moved
 returns-clause-moved g c =
     let m = c.close_up.ensures.moved in
-    let closed = closed_state g.P.Ptr.numbers (goal.F-step g) c.args.f (map (slot_entry g.P.Gen.PtrGen.number) (g.S.NonZeroInxGenericStack.items c.self.inside.slots.stack)) _ c.args.self.now m.0 (ap (λ s. s.slots) c.self.view_is) m.1 m.2 in
-    (m.0, closed.0, (made g.P.Gen.PtrGen.number _ _ _ _ _ (compressed c.args.self.now m.0)
-    closed.1
-    (c.close_up.ensures.room ∙ ap (λ s. s.room) c.self.view_is)
-    (c.close_up.ensures.limit ∙ ap (λ s. s.limit) c.self.view_is)
-    (ap (λ s. s.greatest) c.self.view_is)
-    (Counts-compressed _ c.args.self.now m.0 closed.2 (subst (Counts _) c.self.view_is c.self.invariant))).1)
+    let closed = closed_state g.P.Ptr.numbers (goal.F-step g) c.args.f (map (slot_entry g.P.Gen.PtrGen.number) (g.S.NonZeroInxGenericStack.items c.self.inside.slots.stack)) _ c.args.self.now m.0 (ap (λ s. s.slots) c.self.view_is) m.1 m.2 in (
+      m.0,
+      closed.0,
+      (made g.P.Gen.PtrGen.number _ _ _ _ _ (compressed c.args.self.now m.0)
+          closed.1
+          (c.close_up.ensures.room ∙ ap (λ s. s.room) c.self.view_is)
+          (c.close_up.ensures.limit ∙ ap (λ s. s.limit) c.self.view_is)
+          (ap (λ s. s.greatest) c.self.view_is)
+          (Counts-compressed _ c.args.self.now m.0 closed.2 (subst (Counts _) c.self.view_is c.self.invariant))).1,
+    )
 
 pub returns-clause-keys : goal.returns-clause-keys
 returns-clause-keys g c =

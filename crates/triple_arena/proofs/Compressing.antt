@@ -1,5 +1,5 @@
 -- How the slots look while they are compressed.
-use Rattle.std.proofs.Common.{◌≡◌, ℕ, zero, suc, ◌+◌, ◌-◌, ◌<◌, ◌≤◌, List, [], ◌∷◌, ◌++◌, map, length, get_or, set, take, drop, replicate, slice_get, Option, Some, None, IsSome, is_some, cond, refl, sym, ap, subst, ◌∙◌, arith}
+use Rattle.std.proofs.Common.{◌≡◌, ℕ, zero, suc, ◌+◌, ◌-◌, ◌<◌, ◌≤◌, List, [], ◌∷◌, ◌++◌, map, length, get_or, set, take, drop, replicate, slice_get, Option, Some, None, IsSome, is_some, cond, refl, sym, ap, ◌∙◌, arith}
 use Rattle.std.proofs.lemmas.Option.{same_Some, slice_get-map}
 use Rattle.std.proofs.lemmas.Fn.{FoldsTo-push}
 use Rattle.std.proofs.lemmas.List.{append_assoc, append-nil, drop_more, drop_all, map_push, length-map, length_push, length-append, length-replicate, replicate_more, take-map}
@@ -12,7 +12,7 @@ use Rattle.triple_arena.specs.Items.{item, with_item}
 use Rattle.triple_arena.specs.Entries.{entry_count}
 use Rattle.triple_arena.specs.Walks.{entries_from, entries, keys_of, keys}
 use Rattle.triple_arena.specs.Compression.{rank_in, placed}
-use Rattle.triple_arena.specs.Moves.{Move, moved_from, moved_to, Moves}
+use Rattle.triple_arena.specs.Moves.{Move, moved_from, moved_to}
 use Rattle.triple_arena.proofs.ItemLists.{map-with_item}
 use Rattle.triple_arena.proofs.Links.{item-map_some}
 

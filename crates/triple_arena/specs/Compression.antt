@@ -1,5 +1,5 @@
 -- Compression of an arena, and where it moves the entries.
-use Rattle.std.specs.Prelude.{ℕ, ◌==◌, Bool, false, cond, List, [], ◌∷◌, map, take, Option, Some, None, unwrap_or}
+use Rattle.std.specs.Prelude.{ℕ, ◌==◌, Bool, false, cond, List, [], ◌∷◌, map, take, Option, Some, unwrap_or}
 use Rattle.triple_arena_ptr.specs.Pointers.{Pointer}
 use Rattle.triple_arena.specs.Entries.{entry_count}
 use Rattle.triple_arena.specs.ArenaState.{ArenaState, arena_len}

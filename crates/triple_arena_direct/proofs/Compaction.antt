@@ -1,5 +1,5 @@
 -- The direct arena after a compression.
-use Rattle.std.proofs.Common.{◌≡◌, ℕ, ◌≤◌, List, [], ◌∷◌, length, map, Option, Some, None, is_some, cond, refl, sym, ap, subst, ◌∙◌, arith}
+use Rattle.std.proofs.Common.{◌≡◌, ℕ, List, [], ◌∷◌, length, map, Option, Some, None, is_some, cond, refl, sym, ap, subst, ◌∙◌, arith}
 use Rattle.std.proofs.lemmas.List.Sums.{sum_by-cons, count_by-le-length}
 use Rattle.triple_arena_ptr.specs.Pointers.{Pointer}
 use Rattle.triple_arena.specs.Entries.{entry_count}
@@ -7,9 +7,9 @@ use Rattle.triple_arena.specs.Walks.{entries, keys}
 use Rattle.triple_arena.specs.Compression.{rank_in, placed}
 use Rattle.triple_arena.specs.CompressionLaws.{length-keys}
 use Rattle.triple_arena.specs.Moves.{Moves}
-use Rattle.triple_arena.proofs.Compaction.{count-moved}
-use Rattle.triple_arena_direct.specs.DirectState.{DirectState, compressed, direct_len}
-use Rattle.triple_arena_direct.specs.CompressionLaws.{placed_own}
+use Rattle.triple_arena.proofs.Compaction.{count-moved, count_renamed}
+use Rattle.triple_arena_direct.specs.DirectState.{DirectState, compressed}
+use Rattle.triple_arena_direct.specs.CompressionLaws.{placed_own, keys-compressed}
 use Rattle.triple_arena_direct.specs.Layout.{Counts}
 
 module _ {T : Type 0} where
@@ -38,3 +38,6 @@ module _ {T : Type 0} where
   closed_state numbers step f xs ys s vs same moved stands =
       let moves = subst (λ zs. Moves numbers step (rank_in None zs) f (entries zs) vs) same moved in
       (moves, stands ∙ placed_own xs (keys xs) vs ∙ ap (λ zs. placed (keys zs) vs) same, count-moved numbers step (rank_in None s.slots) f s.slots vs moves)
+
+  pub len-compressed : (old new : DirectState T) (vs : List T) → new ≡ compressed old vs → length vs ≡ entry_count old.slots → entry_count new.slots ≡ entry_count old.slots
+  len-compressed old new vs is many = count_renamed old.slots new.slots (rank_in None old.slots) (keys-compressed old new vs is many)

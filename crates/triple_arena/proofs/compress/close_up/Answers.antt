@@ -1,8 +1,7 @@
-use Rattle.std.proofs.Common.{◌≡◌, ◌∙◌, ◌+◌, ◌<◌, length, map, Some, None, sym, ap, refl, arith, of_calls, rules}
+use Rattle.std.proofs.Common.{◌≡◌, ◌∙◌, ◌+◌, ◌<◌, length, map, Some, sym, ap, refl, arith, of_calls}
 use Rattle.std.proofs.lemmas.List.{length-map}
 use Rattle.std.specs.Int.NonZero.{non_zero_usize_get}
 use Rattle.triple_arena.specs.Items.{item, with_item}
-use Rattle.triple_arena.specs.Moves.{MoveTurn}
 use Rattle.triple_arena.proofs.ItemLists.{length-with_item}
 use Rattle.triple_arena.proofs.Links.{pointer_is}
 use Rattle.triple_arena.proofs.Compressing.{CompactAt-start, CompactAt-free_slot, CompactAt-moved_slot, CompactAt-done, place_free_slot, item_inside, number_of_given, none_unpacked}

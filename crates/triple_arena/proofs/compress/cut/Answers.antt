@@ -1,5 +1,5 @@
-use Rattle.std.proofs.Common.{◌≡◌, ◌∙◌, ◌-◌, ◌<◌, ◌≤◌, Some, None, length, map, take, slice_get, sym, ap, refl, arith}
-use Rattle.std.proofs.lemmas.List.{length-map, take-map}
+use Rattle.std.proofs.Common.{◌∙◌, None, map, sym, arith}
+use Rattle.std.proofs.lemmas.List.{length-map}
 use Rattle.triple_arena.proofs.Compressing.{popped_vacant, cut_on, gap_gone}
 use Rattle.triple_arena.proofs.compress.cut.Goals as goal
 

@@ -1,6 +1,6 @@
 use Rattle.std.specs.Prelude.{IsErrAnd}
 use Rattle.std.specs.Option.{option_copied_mut}
-use Rattle.std.proofs.Common.{◌≡◌, Result, Ok, Err, length, ap, sym, ◌∙◌, arith}
+use Rattle.std.proofs.Common.{◌≡◌, Result, Ok, Err, ap, sym, ◌∙◌}
 use Rattle.triple_arena.specs.WalkLaws.{taken, forward_stays, keys_first, keys_taken, keys_none, ahead_by_keys}
 use Rattle.triple_arena.proofs.EntryWalks.{walk_start, walk_end, walk_finds, walk_ok, walk_err, keys_kept, lent_some}
 use Rattle.triple_arena.proofs.recasting.recast_entries.Goals as goal

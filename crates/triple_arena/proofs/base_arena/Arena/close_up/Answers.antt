@@ -1,7 +1,6 @@
-use Rattle.std.proofs.Common.{◌≡◌, ◌∙◌, refl, ap, subst, arith, length}
+use Rattle.std.proofs.Common.{◌≡◌, ◌∙◌, refl, ap, subst, arith}
 use Rattle.std.proofs.lemmas.List.{length-map}
 use Rattle.triple_arena.specs.Compression.{compressed, rank}
-use Rattle.triple_arena.specs.ArenaState.{capacity}
 use Rattle.triple_arena.specs.Layout.{Shows}
 use Rattle.triple_arena.specs.Moves.{Moves}
 use Rattle.triple_arena.specs.Slot.{entry_of}

@@ -1,5 +1,5 @@
-use Rattle.std.proofs.Common.{◌≡◌, ◌∙◌, sym, ap, subst, map, rules}
-use Rattle.triple_arena.specs.Walks.{keys, values}
+use Rattle.std.proofs.Common.{subst, rules}
+use Rattle.triple_arena.specs.Walks.{keys}
 use Rattle.triple_arena.specs.CompressionLaws.{length-values}
 use Rattle.triple_arena.proofs.Compaction.{values_kept, found_renamed}
 use Rattle.triple_arena.proofs.compact_arena_trait.CompactArenaTrait.compress.Goals as goal

@@ -1,15 +1,15 @@
-use Rattle.std.proofs.Common.{◌≡◌, ◌∙◌, ap, sym, subst, length, map, arith}
+use Rattle.std.proofs.Common.{◌∙◌, ap, subst, map, arith}
 use Rattle.std.proofs.lemmas.List.{length-map}
-use Rattle.triple_arena.proofs.Compaction.{count-moved, count_renamed}
+use Rattle.triple_arena.proofs.Compaction.{count-moved}
 use Rattle.triple_arena_direct.specs.DirectState.{compressed, direct_capacity}
 use Rattle.triple_arena_direct.specs.CompressionLaws.{keys-compressed}
 use Rattle.triple_arena_direct.specs.Slot.{slot_entry}
 use Rattle.triple_arena_direct.specs.Layout.{Counts}
 use Rattle.triple_arena_direct.proofs.Held.{made}
-use Rattle.triple_arena_direct.proofs.Compaction.{closed_state, Counts-compressed}
+use Rattle.triple_arena_direct.proofs.Compaction.{closed_state, Counts-compressed, len-compressed}
 use Rattle.triple_arena_direct.proofs.direct_arena.compaction.DirectArenaCompactArenaTrait.compress_with.Goals as goal
 
-pub close_up-requires-clause-indexed : goal.close_up-requires-indexed
+pub close_up-requires-clause-indexed : goal.close_up-requires-clause-indexed
 close_up-requires-clause-indexed g c =
     omega (arith, c.self.invariant.fits, length-map (g.S.NonZeroInxGenericStack.items c.self.inside.slots.stack) (slot_entry g.P.Gen.PtrGen.number))
 
@@ -44,7 +44,9 @@ returns-clause-keys g c =
     keys-compressed c.args.self.now _ m.0 m.2 (count-moved g.P.Ptr.numbers (goal.F-step g) _ c.args.f c.args.self.now.slots m.0 m.1)
 
 pub returns-clause-len : goal.returns-clause-len
-returns-clause-len g c = count_renamed c.args.self.now.slots _ _ (returns-clause-keys g c)
+returns-clause-len g c =
+    let m = returns-clause-moved g c in
+    len-compressed c.args.self.now _ m.0 m.2 (count-moved g.P.Ptr.numbers (goal.F-step g) _ c.args.f c.args.self.now.slots m.0 m.1)
 
 pub returns-clause-limit : goal.returns-clause-limit
 returns-clause-limit g c = ap (λ s. s.limit) (returns-clause-moved g c).2

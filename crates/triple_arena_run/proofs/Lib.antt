@@ -7,16 +7,3 @@ mod Shown
 mod Splits
 mod TextLaws
 mod Writes
-mod RankFacts
-mod TableNames
-mod Rows
-mod Soundness
-mod StoreSteps
-mod Reserving
-mod StoreInsertions
-mod Compacting
-mod Dangling
-mod StoreLaws
-mod StoreRunLaws
-mod StoreRows
-mod StoreTextLaws

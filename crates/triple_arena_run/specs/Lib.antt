@@ -13,8 +13,3 @@ pub mod ErrorText
 pub mod Program
 pub mod KindRun
 pub mod ProgramRun
-pub mod NameStore
-pub mod Shown
-pub mod StoreRuns
-pub mod SessionCalls
-pub mod StoreText

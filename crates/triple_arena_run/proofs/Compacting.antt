@@ -8,7 +8,7 @@ use Rattle.std.specs.Option.{option_map}
 use Rattle.triple_arena_ptr.specs.Pointers.{Pointer, is_same}
 use Rattle.triple_arena_stack.specs.StackKind.{StackKind}
 use Rattle.triple_arena.specs.Entries.{entry_count}
-use Rattle.triple_arena.specs.ArenaState.{ArenaState, look_up, arena_len, capacity, IsWellFormed}
+use Rattle.triple_arena.specs.ArenaState.{ArenaState, look_up, IsWellFormed}
 use Rattle.triple_arena.specs.Walks.{keys, values}
 use Rattle.triple_arena.specs.Compression.{compressed, rank}
 use Rattle.triple_arena.specs.Histories.{has, AreDistinct, is_live}

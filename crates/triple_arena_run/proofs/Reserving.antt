@@ -1,6 +1,5 @@
 -- Reserve: what a session shows stays, its capacity aside.
-use Rattle.std.proofs.Common.{◌≡◌, ◌⊎◌, ℕ, ◌≤◌, nat_le, Bool, true, false, cond, [], ◌∷◌, map, Option, Some, None, min, refl, sym, ap, subst, ◌∙◌, inl, inr, arith, String}
-use Rattle.std.specs.declared.alloc.Global.{Global}
+use Rattle.std.proofs.Common.{◌≡◌, ◌⊎◌, ℕ, ◌≤◌, Bool, true, false, cond, [], ◌∷◌, map, Option, Some, None, min, refl, sym, ap, subst, ◌∙◌, inl, inr, arith}
 use Rattle.std.proofs.lemmas.Bool.Decides.{leb_tells}
 use Rattle.std.proofs.lemmas.List.{append-nil}
 use Rattle.std.proofs.lemmas.Option.{same_Some}
@@ -19,7 +18,6 @@ use Rattle.triple_arena.proofs.WellFormed.{len_within}
 use Rattle.triple_arena.proofs.Tidying.{IsWellFormed-tidied}
 use Rattle.triple_arena.proofs.Steps.{reallocated_stays}
 use Rattle.triple_arena.proofs.HistoryLaws.{Continues-resized}
-use Rattle.triple_arena_run.specs.declared.command.Command.TheVariants.{Reserve}
 use Rattle.triple_arena_run.specs.declared.reply.Reply.{Reply}
 use Rattle.triple_arena_run.specs.declared.reply.Reply.TheVariants.{BeyondMaxCapacity, NoMemory, Done}
 use Rattle.triple_arena_run.specs.SessionState.{SessionState}

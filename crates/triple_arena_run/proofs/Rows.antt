@@ -1,15 +1,15 @@
 -- What stands under the pointers of a table, before and after a change of the arena.
-use Rattle.std.proofs.Common.{◌≡◌, ◌≢◌, ◌⊎◌, ℕ, ◌+◌, ◌<◌, ◌≤◌, ◌&&◌, ◌||◌, Bool, true, false, not, List, [], ◌∷◌, ◌++◌, map, Option, Some, None, is_some, IsTrue, cond, count_by, refl, sym, ap, ◌∙◌, inl, inr, arith, true≢false}
-use Rattle.std.proofs.lemmas.Bool.{cases_eq, cases_Bool}
+use Rattle.std.proofs.Common.{◌≡◌, ◌≢◌, ◌⊎◌, ℕ, ◌+◌, ◌||◌, Bool, true, false, List, [], ◌∷◌, map, Option, Some, None, is_some, cond, count_by, refl, sym, ap, ◌∙◌, inl, inr, arith, true≢false}
+use Rattle.std.proofs.lemmas.Bool.{cases_eq}
 use Rattle.std.proofs.lemmas.Option.{same_Some}
 use Rattle.std.proofs.lemmas.List.Sums.{sum_by-cons}
 use Rattle.std.specs.Option.{option_map, option_and_then}
-use Rattle.triple_arena_stack.specs.StackKind.{StackKind, IsOfKind}
+use Rattle.triple_arena_stack.specs.StackKind.{StackKind}
 use Rattle.triple_arena.specs.Items.{item, with_item}
 use Rattle.triple_arena.specs.ItemLaws.{eq_true, eq_false}
 use Rattle.triple_arena_ptr.specs.Pointers.{Pointer, is_same}
 use Rattle.triple_arena.specs.Entries.{value_under, entry_count, ChangesAt}
-use Rattle.triple_arena.specs.ArenaState.{ArenaState, entry, look_up, arena_len, IsWellFormed}
+use Rattle.triple_arena.specs.ArenaState.{ArenaState, entry, look_up, arena_len}
 use Rattle.triple_arena.specs.Walks.{keys}
 use Rattle.triple_arena.specs.WalkLaws.{found}
 use Rattle.triple_arena.specs.Histories.{has, AreDistinct, is_live}

@@ -1,5 +1,5 @@
 -- Insertions into a sound session are answered as by the store that it shows.
-use Rattle.std.proofs.Common.{◌≡◌, ◌≢◌, ℕ, ◌+◌, ◌*◌, ◌<◌, ◌≤◌, ◌==◌, Bool, true, false, List, [], ◌∷◌, ◌++◌, length, map, min, Option, Some, None, is_some, if◌then◌else◌, cond, refl, sym, ap, subst, ◌∙◌, inl, inr, arith, String}
+use Rattle.std.proofs.Common.{◌≡◌, ◌≢◌, ℕ, ◌+◌, ◌*◌, ◌<◌, ◌≤◌, ◌==◌, Bool, true, false, [], ◌∷◌, ◌++◌, length, map, min, Option, Some, None, is_some, if◌then◌else◌, cond, refl, sym, ap, ◌∙◌, inl, inr, arith, String}
 use Rattle.std.specs.declared.alloc.Global.{Global}
 use Rattle.std.specs.Option.{option_map, option_and_then}
 use Rattle.std.proofs.lemmas.Bool.{leb-false, eqb-true, eqb-false}
@@ -15,17 +15,16 @@ use Rattle.triple_arena.specs.Entries.{value_under, ChangesAt}
 use Rattle.triple_arena.specs.ArenaState.{ArenaState, entry, look_up, arena_len, capacity, slot_count, IsWellFormed}
 use Rattle.triple_arena.specs.Insertion.{place, next_pointer, inserted}
 use Rattle.triple_arena.specs.Capacity.{grown, with_room_for}
-use Rattle.triple_arena.specs.EntryLaws.{doubled, slots-inserted, fitting-inserted, limit-inserted, well_formed-grown}
+use Rattle.triple_arena.specs.EntryLaws.{doubled, slots-inserted, fitting-inserted, limit-inserted}
 use Rattle.triple_arena.specs.Histories.{has, insertion, Continues}
 use Rattle.triple_arena.proofs.WellFormed.{IsWellFormed-inserted, kept-inserted, place_free, len_within}
 use Rattle.triple_arena.proofs.HistoryLaws.{Continues-kept, Continues-inserted, Continues-append}
-use Rattle.triple_arena_run.specs.declared.command.Command.{Command}
 use Rattle.triple_arena_run.specs.declared.command.Command.TheVariants.{Insert, InsertWithin}
 use Rattle.triple_arena_run.specs.declared.reply.Reply.{Reply}
-use Rattle.triple_arena_run.specs.declared.reply.Reply.TheVariants.{Given, Full, BeyondMaxCapacity, NoMemory, BadName}
+use Rattle.triple_arena_run.specs.declared.reply.Reply.TheVariants.{Given, Full, BeyondMaxCapacity, NoMemory}
 use Rattle.triple_arena_run.specs.SessionState.{SessionState, name_of, link_pointer}
 use Rattle.triple_arena_run.specs.SessionRun.{is_at_limit, refusal, refused_reply, give, insert_unless, insert_answer, insert_within_answer, answer}
-use Rattle.triple_arena_run.specs.NameStore.{NameRow, Store, row_count, give_row, grown_store, store_refusal, insert_row_unless, store_answer}
+use Rattle.triple_arena_run.specs.NameStore.{row_count, give_row, grown_store, store_refusal, insert_row_unless, store_answer}
 use Rattle.triple_arena_run.specs.StoreRuns.{without_wrap}
 use Rattle.triple_arena_run.specs.SessionCalls.{calls_of}
 use Rattle.triple_arena_run.specs.Shown.{row_of, shown, IsSound}

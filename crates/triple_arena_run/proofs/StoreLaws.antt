@@ -1,5 +1,5 @@
 -- A session answers as the store that it shows.
-use Rattle.std.proofs.Common.{◌≡◌, ◌≢◌, ◌⊎◌, ℕ, zero, suc, ◌+◌, ◌<◌, ◌≤◌, ◌==◌, Bool, true, false, List, [], ◌∷◌, map, length, Option, Some, None, is_some, IsSome, IsTrue, if◌then◌else◌, cond, refl, sym, ap, subst, ◌∙◌, inl, inr, arith, true≢false, String}
+use Rattle.std.proofs.Common.{◌≡◌, ◌⊎◌, ℕ, zero, suc, ◌+◌, ◌<◌, ◌≤◌, ◌==◌, Bool, true, false, [], ◌∷◌, map, Option, Some, None, is_some, if◌then◌else◌, cond, refl, sym, ap, subst, ◌∙◌, inl, inr, arith, true≢false, String}
 use Rattle.std.specs.declared.alloc.Global.{Global}
 use Rattle.std.specs.List.{list_any}
 use Rattle.std.specs.Option.{option_map}
@@ -7,11 +7,10 @@ use Rattle.std.proofs.lemmas.List.{length-map}
 use Rattle.triple_arena_ptr.specs.Numbers.{raise, wraps, first_generation}
 use Rattle.triple_arena_ptr.specs.Pointers.{Pointer}
 use Rattle.triple_arena_stack.specs.StackKind.{StackKind, IsOfKind}
-use Rattle.triple_arena.specs.ItemLaws.{eq_false}
-use Rattle.triple_arena.specs.ArenaState.{ArenaState, arena_len, capacity, new_arena}
+use Rattle.triple_arena.specs.ArenaState.{arena_len, capacity, new_arena}
 use Rattle.triple_arena.specs.Walks.{keys, values}
 use Rattle.triple_arena.specs.Compression.{raised_if_any}
-use Rattle.triple_arena.specs.Histories.{compression, resizing, is_live, Continues}
+use Rattle.triple_arena.specs.Histories.{compression, is_live, Continues}
 use Rattle.triple_arena.proofs.WellFormed.{IsWellFormed-empty}
 use Rattle.triple_arena.proofs.HistoryLaws.{Continues-compressed}
 use Rattle.triple_arena_run.specs.declared.command.Command.{Command}
@@ -21,8 +20,8 @@ use Rattle.triple_arena_run.specs.declared.reply.Reply.TheVariants.{Given, Remov
 use Rattle.triple_arena_run.specs.ReplyText.{tells_of_wrap}
 use Rattle.triple_arena_run.specs.SessionState.{SessionState, new_session, named}
 use Rattle.triple_arena_run.specs.Compaction.{relinked, any_dangles, compacted}
-use Rattle.triple_arena_run.specs.SessionRun.{refused_reply, refusal, show_reply, shown_text, wraps_if_any, with_room_for_name, in_order, compact_answer, reserve_answer, answer, WantsMemory, IsStep}
-use Rattle.triple_arena_run.specs.NameStore.{NameRow, Store, row, row_count, row_dangles, store_answer, IsShown, ReservesRows, RowWantsMemory, IsStoreStep}
+use Rattle.triple_arena_run.specs.SessionRun.{refused_reply, show_reply, shown_text, wraps_if_any, with_room_for_name, reserve_answer, answer, WantsMemory, IsStep}
+use Rattle.triple_arena_run.specs.NameStore.{Store, row_dangles, store_answer, ReservesRows, RowWantsMemory, IsStoreStep}
 use Rattle.triple_arena_run.specs.StoreRuns.{without_wrap}
 use Rattle.triple_arena_run.specs.SessionCalls.{calls_of}
 use Rattle.triple_arena_run.specs.Shown.{as_row, shown, IsSound}

@@ -1,5 +1,5 @@
 -- Commands to a sound session that insert nothing are answered as by the store that it shows.
-use Rattle.std.proofs.Common.{◌≡◌, ◌≢◌, ℕ, ◌+◌, ◌<◌, ◌≤◌, ◌==◌, Bool, true, false, List, [], ◌∷◌, ◌++◌, length, map, Option, Some, None, is_some, if◌then◌else◌, cond, refl, sym, ap, subst, ◌∙◌, inl, inr, arith, true≢false, String, ◌||◌}
+use Rattle.std.proofs.Common.{◌≡◌, ℕ, ◌+◌, ◌==◌, Bool, true, false, List, [], ◌∷◌, ◌++◌, length, map, Option, Some, None, is_some, if◌then◌else◌, cond, refl, sym, ap, subst, ◌∙◌, inl, inr, arith, true≢false, String, ◌||◌}
 use Rattle.std.specs.declared.alloc.Global.{Global}
 use Rattle.std.specs.Option.{option_map, option_and_then}
 use Rattle.std.proofs.lemmas.Bool.{cases_eq}
@@ -7,7 +7,7 @@ use Rattle.std.proofs.lemmas.Option.{same_Some}
 use Rattle.std.proofs.lemmas.List.{map-append, append-nil, length-map}
 use Rattle.triple_arena_ptr.specs.Numbers.{raise, wraps}
 use Rattle.triple_arena_ptr.specs.Pointers.{Pointer}
-use Rattle.triple_arena_stack.specs.StackKind.{StackKind, IsOfKind}
+use Rattle.triple_arena_stack.specs.StackKind.{StackKind}
 use Rattle.triple_arena.specs.Items.{item, with_item}
 use Rattle.triple_arena.specs.ItemLaws.{joined}
 use Rattle.triple_arena.specs.Entries.{value_under, ChangesAt, with_generation_in}
@@ -15,7 +15,7 @@ use Rattle.triple_arena.specs.ArenaState.{ArenaState, entry, look_up, arena_len,
 use Rattle.triple_arena.specs.Ending.{removed, invalidated, cleared}
 use Rattle.triple_arena.specs.EntryLaws.{slots-removed, slots-invalidated, slots-cleared, changes_at, fitting-removed}
 use Rattle.triple_arena.specs.Walks.{keys}
-use Rattle.triple_arena.specs.Histories.{has, ModelCall, removal, invalidation, clearing, is_live, Continues}
+use Rattle.triple_arena.specs.Histories.{has, removal, invalidation, clearing, Continues}
 use Rattle.triple_arena.proofs.ItemLists.{length-with_item, item-map}
 use Rattle.triple_arena.proofs.WellFormed.{live_item, IsWellFormed-removed, IsWellFormed-with_entry, IsWellFormed-counter, IsWellFormed-empty, room-removed, limit-removed, greatest-removed, with_value_is, with_generation_is}
 use Rattle.triple_arena.proofs.PointerLists.{has-append, live_in}
@@ -25,14 +25,14 @@ use Rattle.triple_arena_run.specs.declared.command.Command.TheVariants.{Get, Set
 use Rattle.triple_arena_run.specs.declared.reply.Reply.{Reply}
 use Rattle.triple_arena_run.specs.declared.reply.Reply.TheVariants.{Given, Done, Removed, Invalid, Cleared, BadName, Count}
 use Rattle.triple_arena_run.specs.ReplyText.{tells_of_wrap}
-use Rattle.triple_arena_run.specs.SessionState.{SessionState, name_of, link_name, link_pointer, named}
+use Rattle.triple_arena_run.specs.SessionState.{SessionState, link_name, link_pointer, named}
 use Rattle.triple_arena_run.specs.SessionRun.{get_reply, act_under, act_on, set_answer, remove_under, invalidate_under, answer}
-use Rattle.triple_arena_run.specs.NameStore.{NameRow, Store, row_count, row, is_good_link, with_row, give_row, get_row_reply, act_on_row, store_answer}
+use Rattle.triple_arena_run.specs.NameStore.{NameRow, Store, row, is_good_link, with_row, give_row, get_row_reply, act_on_row, store_answer}
 use Rattle.triple_arena_run.specs.StoreRuns.{without_wrap}
 use Rattle.triple_arena_run.specs.SessionCalls.{call_at, calls_of}
 use Rattle.triple_arena_run.specs.Shown.{as_row, row_of, shown, IsSound}
-use Rattle.triple_arena_run.proofs.TableNames.{map_same, has_from_item, link_name-given, name_of-append}
-use Rattle.triple_arena_run.proofs.Rows.{value_hit, value_miss, entry_found, row_count-shown, row_kept, rows_changed, found_before}
+use Rattle.triple_arena_run.proofs.TableNames.{has_from_item, link_name-given, name_of-append}
+use Rattle.triple_arena_run.proofs.Rows.{value_hit, value_miss, entry_found, row_count-shown, rows_changed, found_before}
 use Rattle.triple_arena_run.proofs.Soundness.{TableSound, TableSound-kept, TableSound-given, IsSound-from}
 
 -- the pointer of a good link is in the table

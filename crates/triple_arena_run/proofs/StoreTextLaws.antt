@@ -1,5 +1,5 @@
 -- What the program writes is what the store of names answers that its session shows.
-use Rattle.std.proofs.Common.{◌≡◌, ℕ, ◌-◌, true, List, Option, Some, None, Result, Ok, Err, IfSome, take, refl, inl, inr}
+use Rattle.std.proofs.Common.{ℕ, ◌-◌, true, List, Option, Some, None, Result, Ok, Err, take, refl, inl, inr}
 use Rattle.triple_arena_ptr.specs.Numbers.{greatest_index, first_generation}
 use Rattle.triple_arena_stack.specs.StackKind.{StackKind}
 use Rattle.triple_arena_stack.specs.StackKind.StackKind.{heap, limited, fixed, array}
@@ -12,7 +12,7 @@ use Rattle.triple_arena_run.specs.Runs.{TellsOfNoWrap, EndsInWrap}
 use Rattle.triple_arena_run.specs.SessionState.{SessionState}
 use Rattle.triple_arena_run.specs.SessionRun.{IsStep}
 use Rattle.triple_arena_run.specs.TextRun.{AnswersLines, AnswersToWrap, IsFlushedRun}
-use Rattle.triple_arena_run.specs.KindRun.{greatest, first_session, RunsOver, RunsKind}
+use Rattle.triple_arena_run.specs.KindRun.{greatest, first_session, RunsKind}
 use Rattle.triple_arena_run.specs.Shown.{shown, IsSound}
 use Rattle.triple_arena_run.specs.StoreText.{WritesAsStore, IsStoreText, first_store}
 use Rattle.triple_arena_run.proofs.StoreLaws.{IsSound-new}

@@ -1,5 +1,5 @@
 -- The model calls on the arena of a session that a command is, and those of commands one after another.
-use Rattle.std.specs.Prelude.{ℕ, ◌+◌, List, [], ◌∷◌, ◌++◌, Option, Some, None}
+use Rattle.std.specs.Prelude.{◌+◌, List, [], ◌∷◌, ◌++◌, Option, Some, None}
 use Rattle.triple_arena_ptr.specs.Pointers.{Pointer}
 use Rattle.triple_arena.specs.Items.{item}
 use Rattle.triple_arena.specs.Insertion.{next_pointer}

@@ -143,8 +143,8 @@ fn a_byte_index_has_its_greatest_capacity(rt: HostRuntime) {
 }
 
 // Inserts so many.
-fn fills(rt: &impl Abort, alloc: Global, session: &mut Session<B, u64>, count: usize) {
-    for name in 1..count + 1 {
+fn fills(rt: &impl Abort, alloc: Global, session: &mut Session<B, u64>, count: u8) {
+    for name in 1..count as usize + 1 {
         answers_so(
             rt,
             alloc,
@@ -156,8 +156,8 @@ fn fills(rt: &impl Abort, alloc: Global, session: &mut Session<B, u64>, count: u
 }
 
 // Inserts and removes so many times, which raises the counter as often.
-fn comes_and_goes(rt: &impl Abort, alloc: Global, session: &mut Session<B, u64>, count: usize) {
-    for name in 1..count + 1 {
+fn comes_and_goes(rt: &impl Abort, alloc: Global, session: &mut Session<B, u64>, count: u8) {
+    for name in 1..count as usize + 1 {
         let text = format!(in alloc; "insert 1 -\nremove {name}\n");
         let lines = format!(in alloc; "given {name}\nremoved 1 -\n");
         match text {

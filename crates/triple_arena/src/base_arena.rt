@@ -14,7 +14,7 @@ ghost use Rattle.triple_arena.specs.ArenaState.{ArenaState, new_arena, slot_coun
 ghost use Rattle.triple_arena.specs.Insertion.{next_pointer, inserted};
 ghost use Rattle.triple_arena.specs.Ending.{removed, invalidated, cleared, told};
 ghost use Rattle.triple_arena.specs.FreeList.{tidied, without_free_end, IsInOrder};
-ghost use Rattle.triple_arena.specs.Capacity.{with_room_for, reallocated, KeepsRoom, EndsBy, ready_for_limit, with_limit, grown};
+ghost use Rattle.triple_arena.specs.Capacity.{with_room_for, reallocated, KeepsRoom, EndsBy, grown};
 ghost use Rattle.triple_arena.specs.Slot.{entry_of};
 ghost use Rattle.triple_arena.specs.Disjoint.{value_of};
 ghost use Rattle.triple_arena.specs.Values.{with_values_of};
@@ -23,6 +23,7 @@ ghost use Rattle.triple_arena.specs.Histories.{resizing, Fits, Continues, Counts
 
 mod compaction;
 mod copies;
+mod limit;
 
 use crate::answers::{told, told_valid};
 use crate::arena_insert_trait::ArenaInsertTrait;
@@ -38,11 +39,10 @@ use std::alloc::Global;
 use std::marker::{Model, PhantomData};
 use std::num::NonZeroUsize;
 use triple_arena_base::{
-    AllocError, GetDisjointMutError, InvalidationOption, InvalidationResult,
-    MaxCapacityReductionError, ReallocationError,
+    AllocError, GetDisjointMutError, InvalidationOption, InvalidationResult, ReallocationError,
 };
 use triple_arena_ptr::{Ptr, PtrGen, PtrInx};
-use triple_arena_stack::{NonZeroInxGenericStack, NonZeroInxVec, SetMaxCapacity};
+use triple_arena_stack::{NonZeroInxGenericStack, NonZeroInxVec};
 
 /// A generational arena over a stack of slots.
 ///
@@ -736,46 +736,6 @@ impl<P: Ptr, T, S: NonZeroInxGenericStack<ArenaSlot<P, T>>> Arena<P, T, S> {
             return Err(ReallocationError::AllocError);
         }
         self.reallocate(grown_capacity(capacity, limit, greatest))
-    }
-}
-
-impl<P: Ptr, T, S: SetMaxCapacity<ArenaSlot<P, T>>> Arena<P, T, S> {
-    /// Sets the limit to `max_capacity`, a number of slots. It takes no memory, and the room stays:
-    /// the capacity is then the smallest of room, limit and greatest index.
-    ///
-    /// Where the new limit is below the old one and the capacity, first the free list is put in
-    /// order, as by `canonicalize_freelist`; that stays done where the limit is refused.
-    ///
-    /// Refused exactly where an entry stands at an index past `max_capacity`; then all stays but the
-    /// free list, which is in order, without the free slots past the last entry.
-    pub fn set_max_capacity(&mut self, max_capacity: usize) -> Result<(), MaxCapacityReductionError>
-        ensures variant { IsOk result ↔ EndsBy self.old max_capacity }
-        ensures done { OnOk result (self.new ≡ with_limit self.old max_capacity) }
-        ensures refused { OnErr result (self.new ≡ tidied self.old) }
-        ensures fresh { Continues Fits self.old (resizing ∷ []) self.new }
-    {
-        self.make_ready_for_limit(max_capacity);
-        self.set_limit(max_capacity)
-    }
-
-    // Puts the free list in order where the limit to come is below the capacity.
-    fn make_ready_for_limit(&mut self, limit: usize)
-        ensures state { self.new ≡ ready_for_limit self.old limit }
-        ensures fits { slot_count self.old ≤ capacity self.old }
-    {
-        if limit < self.capacity() {
-            self.canonicalize_freelist();
-        }
-    }
-
-    // Sets the limit of the stack, and leaves the slots as they are.
-    fn set_limit(&mut self, limit: usize) -> Result<(), MaxCapacityReductionError>
-        ensures variant { IsOk result ↔ (slot_count self.old ≤ limit) }
-        ensures done { OnOk result (self.new ≡ record self.old { limit = Some limit }) }
-        ensures refused { OnErr result (self.new ≡ self.old) }
-    {
-        self.slots.set_max_capacity(limit)?;
-        Ok(())
     }
 }
 

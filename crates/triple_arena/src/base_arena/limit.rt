@@ -1,0 +1,54 @@
+//! The limit of the arena, where its stack has one that can be set.
+
+ghost use Rattle.std.specs.Prelude.{◌≡◌, ◌≤◌, ◌∷◌, ◌↔◌, [], IsOk, OnOk, OnErr, Some};
+ghost use Rattle.triple_arena.specs.ArenaState.{capacity, slot_count};
+ghost use Rattle.triple_arena.specs.FreeList.{tidied};
+ghost use Rattle.triple_arena.specs.Capacity.{EndsBy, ready_for_limit, with_limit};
+ghost use Rattle.triple_arena.specs.Histories.{resizing, Fits, Continues};
+
+use crate::arena_trait::ArenaTrait;
+use crate::base_arena::Arena;
+use crate::slot::ArenaSlot;
+use triple_arena_base::MaxCapacityReductionError;
+use triple_arena_ptr::Ptr;
+use triple_arena_stack::SetMaxCapacity;
+
+impl<P: Ptr, T, S: SetMaxCapacity<ArenaSlot<P, T>>> Arena<P, T, S> {
+    /// Sets the limit to `max_capacity`, a number of slots. It takes no memory, and the room stays:
+    /// the capacity is then the smallest of room, limit and greatest index.
+    ///
+    /// Where the new limit is below the old one and the capacity, first the free list is put in
+    /// order, as by `canonicalize_freelist`; that stays done where the limit is refused.
+    ///
+    /// Refused exactly where an entry stands at an index past `max_capacity`; then all stays but the
+    /// free list, which is in order, without the free slots past the last entry.
+    pub fn set_max_capacity(&mut self, max_capacity: usize) -> Result<(), MaxCapacityReductionError>
+        ensures variant { IsOk result ↔ EndsBy self.old max_capacity }
+        ensures done { OnOk result (self.new ≡ with_limit self.old max_capacity) }
+        ensures refused { OnErr result (self.new ≡ tidied self.old) }
+        ensures fresh { Continues Fits self.old (resizing ∷ []) self.new }
+    {
+        self.make_ready_for_limit(max_capacity);
+        self.set_limit(max_capacity)
+    }
+
+    // Puts the free list in order where the limit to come is below the capacity.
+    fn make_ready_for_limit(&mut self, limit: usize)
+        ensures state { self.new ≡ ready_for_limit self.old limit }
+        ensures fits { slot_count self.old ≤ capacity self.old }
+    {
+        if limit < self.capacity() {
+            self.canonicalize_freelist();
+        }
+    }
+
+    // Sets the limit of the stack, and leaves the slots as they are.
+    fn set_limit(&mut self, limit: usize) -> Result<(), MaxCapacityReductionError>
+        ensures variant { IsOk result ↔ (slot_count self.old ≤ limit) }
+        ensures done { OnOk result (self.new ≡ record self.old { limit = Some limit }) }
+        ensures refused { OnErr result (self.new ≡ self.old) }
+    {
+        self.slots.set_max_capacity(limit)?;
+        Ok(())
+    }
+}

@@ -123,3 +123,25 @@ impl<E> From<ReallocationError> for CloneFromError<E> {
         CloneFromError::Reallocation(refusal)
     }
 }
+
+/// Nothing was compacted, and nothing changed.
+#[derive(Clone, Copy, Debug, PartialEq, Eq, Error)]
+pub enum CompactError<I> {
+    /// A stored item resolves to no entry; it is the first such one.
+    #[error("a stored pointer does not resolve")]
+    Unresolved(I),
+    /// Memory for the recaster was refused.
+    #[error("the recaster could not be made")]
+    Reallocation(ReallocationError),
+}
+
+impl<I> From<ReallocationError> for CompactError<I> {
+    ghost use Rattle.std.specs.Prelude.{◌≡◌};
+    ghost use Rattle.triple_arena_base.specs.declared.errors.CompactError.TheVariants.{Reallocation};
+
+    ghost from_gives = { λ refusal e. e ≡ Reallocation refusal };
+
+    fn from(refusal: ReallocationError) -> CompactError<I> {
+        CompactError::Reallocation(refusal)
+    }
+}

@@ -12,8 +12,9 @@ mod tests;
 
 pub use advancer::Advancer;
 pub use errors::{
-    AllocError, ChainInsertionError, CloneFromError, DirectInsertionError, GetDisjointMutError,
-    MaxCapacityReductionError, NotWithinCapacityError, OrdInsertionError, ReallocationError,
+    AllocError, ChainInsertionError, CloneFromError, CompactError, DirectInsertionError,
+    GetDisjointMutError, MaxCapacityReductionError, NotWithinCapacityError, OrdInsertionError,
+    ReallocationError,
 };
 pub use invalidation::{InvalidationOption, InvalidationResult};
 pub use nonzero_range::{IntoNonZeroUsizeIterator, NonZeroUsizeIterator, nzusize_iter};

@@ -3,7 +3,7 @@ ghost use Rattle.triple_arena_base.specs.Held.{held_itself, refill_itself};
 ghost use Rattle.triple_arena_base.specs.HeldLaws.{itself_held_refill, itself_refill_held, itself_refill_refill};
 
 use crate::{
-    Advancer, AllocError, ChainInsertionError, CloneFromError, DirectInsertionError,
+    Advancer, AllocError, ChainInsertionError, CloneFromError, CompactError, DirectInsertionError,
     GetDisjointMutError, InvalidationOption, InvalidationResult, MaxCapacityReductionError,
     NotWithinCapacityError, OrdInsertionError, ReallocationError, Recast, Recaster, nzusize_iter,
 };
@@ -88,16 +88,28 @@ fn refusals_have_their_texts(rt: HostRuntime) -> Result<(), Fail> {
             CloneFromError::Map(3u8).to_string(alloc)?,
             "the map refused an entry",
         ),
+        (
+            CompactError::Unresolved(3u8).to_string(alloc)?,
+            "a stored pointer does not resolve",
+        ),
+        (
+            CompactError::<u8>::Reallocation(ReallocationError::AllocError).to_string(alloc)?,
+            "the recaster could not be made",
+        ),
     ];
     for (text, wanted) in texts.iter() {
         assert_eq!(rt; text.as_str(), *wanted);
     }
     let debug = format!(in alloc;
-        "{:?} {:?}",
+        "{:?} {:?} {:?}",
         AllocError,
-        ReallocationError::BeyondMaxCapacity
+        ReallocationError::BeyondMaxCapacity,
+        CompactError::Unresolved(3u8)
     )?;
-    assert_eq!(rt; debug.as_str(), "AllocError BeyondMaxCapacity");
+    assert_eq!(rt;
+        debug.as_str(),
+        "AllocError BeyondMaxCapacity Unresolved(3)"
+    );
     Ok(())
 }
 
@@ -117,6 +129,15 @@ fn a_refused_reallocation_refuses_cloning(rt: HostRuntime) -> Result<(), Fail> {
         refused,
         CloneFromError::Reallocation(ReallocationError::BeyondMaxCapacity)
     );
+    Ok(())
+}
+
+#[test]
+fn a_refused_reallocation_refuses_compaction(rt: HostRuntime) -> Result<(), Fail> {
+    let refused: CompactError<u8> = CompactError::from(ReallocationError::BeyondMaxCapacity);
+    let wanted = CompactError::Reallocation(ReallocationError::BeyondMaxCapacity);
+    assert_eq!(rt; refused, wanted);
+    assert_eq!(rt; refused.clone()?, wanted);
     Ok(())
 }
 

@@ -25,10 +25,10 @@ module _ {X : Type 0} where
   list_set-after [] x y back = refl
   list_set-after (z ∷ front) x y back = ap (λ l. z ∷ l) (list_set-after front x y back)
 
-  item-after : (front : List X) (x : X) (back : List X) (i : ℕ) → i ≡ length front + 1 → item (front ++ x ∷ back) i ≡ Some x
+  pub item-after : (front : List X) (x : X) (back : List X) (i : ℕ) → i ≡ length front + 1 → item (front ++ x ∷ back) i ≡ Some x
   item-after front x back i at = let e : i ≡ suc (length front) = omega arith in rw e (slice_get-after front x back)
 
-  set-after : (front : List X) (x y : X) (back : List X) (i : ℕ) → i ≡ length front + 1 → with_item (front ++ x ∷ back) i y ≡ front ++ y ∷ back
+  pub set-after : (front : List X) (x y : X) (back : List X) (i : ℕ) → i ≡ length front + 1 → with_item (front ++ x ∷ back) i y ≡ front ++ y ∷ back
   set-after front x y back i at = let e : i ≡ suc (length front) = omega arith in rw e (list_set-after front x y back)
 
   gap_length : (d : List X) (k : ℕ) (n : X) → length (d ++ replicate k n) ≡ length d + k

@@ -1,5 +1,5 @@
 -- One step of a copying walk.
-use Rattle.std.proofs.Common.{◌≡◌, ℕ, zero, suc, ◌+◌, ◌-◌, ◌<◌, ◌≤◌, false, List, [], ◌∷◌, ◌++◌, length, map, drop, get_or, replicate, Option, Some, None, is_some, IsSome, cond, slice_get, refl, sym, ap, subst, ◌∙◌, arith, append_assoc, drop-cons, Result, Ok, Err}
+use Rattle.std.proofs.Common.{◌≡◌, ℕ, zero, suc, ◌+◌, ◌-◌, ◌<◌, ◌≤◌, false, List, [], ◌∷◌, ◌++◌, length, map, drop, get_or, replicate, Option, Some, None, is_some, IsSome, cond, slice_get, refl, sym, ap, subst, ◌∙◌, arith, append_assoc, drop-cons, Result, Ok, Err, ◌↔◌}
 use Rattle.std.specs.List.{FoldsTo}
 use Rattle.std.specs.Borrow.{Bor}
 use Rattle.std.specs.Option.{option_copied}
@@ -18,7 +18,10 @@ use Rattle.triple_arena.specs.Walks.{Stand, Steps, IsAtFirst, entries_from, entr
 use Rattle.triple_arena.specs.WalkLaws.{taken, found, live_within, forward_stays, ahead_taken, ahead_first, ahead_none, keys_first, keys_taken, keys_rising}
 use Rattle.triple_arena.specs.Copying.{Mapping, put_after, mapped_from, mapped_to, MapTurn, Copies}
 use Rattle.triple_arena.specs.Cloning.{IsCloneAnswer}
-use Rattle.triple_arena_base.specs.declared.errors.CloneFromError.TheVariants.{Map}
+use Rattle.triple_arena_base.specs.declared.errors.CloneFromError.{CloneFromError}
+use Rattle.triple_arena_base.specs.declared.errors.CloneFromError.TheVariants.{Reallocation, Map}
+use Rattle.triple_arena_base.specs.declared.errors.ReallocationError.{ReallocationError}
+use Rattle.triple_arena_base.specs.declared.errors.ReallocationError.TheVariants.{BeyondMaxCapacity}
 
 module _ {T : Type 0} where
   gap_entries : (at n : ℕ) → entries_from {T = T} at (replicate n None) ≡ []
@@ -169,6 +172,23 @@ refused_map (Err e) refusal is = cc
 pub on_copies : {P U T E M : Type 0} (numbers : P → Pointer) (step : M → P → Bor U → Result T E → M → Type 0) (f : M) (source : List (Pointer × U)) (new : List (Option (ℕ × T))) (answer : Result (Unit {0}) E) (refusal : E) → IsCloneAnswer answer (Err (Map refusal)) → Copies numbers step f source (Err refusal) new → Copies numbers step f source answer new
 on_copies numbers step f source new answer refusal is copies =
     subst (λ r. Copies numbers step f source r new) (refused_map answer refusal is) copies
+
+-- a refusal of room is not the answer of a copy
+pub no_answer : {E : Type 0} (answer : Result (Unit {0}) E) (refusal : ReallocationError) → IsCloneAnswer answer (Err (Reallocation refusal)) → ⊥
+no_answer (Ok x) refusal is = cc
+no_answer (Err e) refusal is = cc
+
+-- what a refusal of room says of the limit, as cloning tells it
+pub beyond_told : {E X Y Z : Type 0} (r : Result (Unit {0}) ReallocationError) (s : Result (Unit {0}) (CloneFromError E)) (refusal : ReallocationError) → r ≡ Err refusal → s ≡ Err (Reallocation refusal) → (r ≡ Err BeyondMaxCapacity) ↔ (X × Y × Z) → Y → (s ≡ Err (Reallocation BeyondMaxCapacity)) ↔ (X × Z)
+beyond_told r s refusal room told beyond y = (
+  λ e.
+      let same : refusal ≡ BeyondMaxCapacity = cc (sym told ∙ e) in
+      let h = beyond.0 (room ∙ ap Err same) in
+      (h.0, h.2),
+  λ h.
+      let same : refusal ≡ BeyondMaxCapacity = cc (sym room ∙ beyond.1 (h.0, y, h.1)) in
+      told ∙ ap (λ x. Err (Reallocation x)) same,
+)
 
 pub shared_some : {U : Type 0} (o : Option (Bor U)) (v : U) → option_copied o ≡ Some v → IsSome o
 shared_some None v e = absurd (cc)

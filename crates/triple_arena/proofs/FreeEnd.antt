@@ -6,28 +6,19 @@ use Rattle.std.proofs.lemmas.Option.{slice_get-get_or}
 use Rattle.triple_arena.specs.Items.{item}
 use Rattle.triple_arena.specs.Entries.{entry_in}
 use Rattle.triple_arena.specs.ArenaState.{ArenaState, slot_count, is_free, IsWellFormed}
-use Rattle.triple_arena.specs.FreeList.{before, trimmed, up_to, without_free_end}
+use Rattle.triple_arena.specs.FreeList.{trimmed, up_to, without_free_end}
 use Rattle.triple_arena.specs.Slot.{entry_of}
 use Rattle.triple_arena.specs.EntryLaws.{entry-trimmed}
 use Rattle.triple_arena.specs.LengthLaws.{trimmed_live}
 use Rattle.triple_arena.specs.Layout.{next_of, after, IsLinked, IsFreeList, Shows}
 use Rattle.triple_arena.specs.declared.slot.ArenaSlot.{ArenaSlot}
 use Rattle.triple_arena.proofs.ItemLists.{joined, item_past, item-take}
+use Rattle.triple_arena.proofs.Shortening.{trimmed_front}
 use Rattle.triple_arena.proofs.Tidying.{trimmed_length, trimmed_last, trimmed_done}
 use Rattle.triple_arena.proofs.Limits.{ends_within}
 use Rattle.triple_arena.proofs.UpTo.{up_to-cons, up_to-past, turned_twice, count-up_to, count-past, length_more, up_to_all}
 
 module _ {T : Type 0} where
-  before_front : (x : Option (ℕ × T)) (ys xs : List (Option (ℕ × T))) → ys ≡ take (length ys) xs → before x ys ≡ take (length (before x ys)) (x ∷ xs)
-  before_front (Some e) ys xs front = ap (λ l. Some e ∷ l) front
-  before_front None [] xs front = refl
-  before_front None (y ∷ ys) xs front = ap (λ l. None ∷ l) front
-
-  -- the slots up to the last entry are the front of the slots
-  trimmed_front : (xs : List (Option (ℕ × T))) → trimmed xs ≡ take (length (trimmed xs)) xs
-  trimmed_front [] = refl
-  trimmed_front (x ∷ xs) = before_front x (trimmed xs) xs (trimmed_front xs)
-
   item-trimmed : (xs : List (Option (ℕ × T))) (i : ℕ) → i ≤ length (trimmed xs) → item (trimmed xs) i ≡ item xs i
   item-trimmed xs i h = ap (λ l. item l i) (trimmed_front xs) ∙ item-take (length (trimmed xs)) xs i h
 

@@ -3,7 +3,7 @@ use Rattle.std.proofs.Common.{◌≢◌, ℕ, ◌*◌, ◌<◌, ◌≤◌, ◌�
 use Rattle.std.proofs.lemmas.Option.{same_Some}
 use Rattle.triple_arena_stack.specs.StackKind.{StackKind, reallocated_room, IsOfKind}
 use Rattle.triple_arena_stack.specs.StackKind.StackKind.{heap, limited, fixed, array}
-use Rattle.triple_arena_stack.specs.Capacity.{capacity_of, IsAtLimit, IsWithin, next_capacity}
+use Rattle.triple_arena_stack.specs.Capacity.{capacity_of, IsAtLimit, IsWithin, IsBeyond, next_capacity}
 use Rattle.triple_arena.specs.ArenaState.{ArenaState, capacity, slot_count}
 use Rattle.triple_arena.specs.Capacity.{with_room_for}
 use Rattle.triple_arena.specs.EntryLaws.{doubled}
@@ -50,3 +50,8 @@ place_made (array places) room len m (Some most) kind within =
 pub place_after : {A E : Type 0} (r : Result A E) (k : StackKind) (room len m after : ℕ) (old new : Option ℕ) → IsOfKind k room old → new ≡ old → OnOk r (after ≡ reallocated_room k room len m) → OnOk r (IsWithin old m) → OnOk r (m ≤ capacity_of after new)
 place_after (Ok x) k room len m after old new kind same made within = rw (made, same) (place_made k room len m old kind within)
 place_after (Err e) k room len m after old new kind same made within = made
+
+-- the capacity that a full arena grows to is not beyond the limit
+pub never_beyond : (capacity greatest : ℕ) (limit : Option ℕ) → IsBeyond limit (next_capacity capacity limit greatest) → ⊥
+never_beyond capacity greatest None beyond = beyond
+never_beyond capacity greatest (Some most) beyond = omega arith

@@ -1,5 +1,6 @@
 pub mod ItemLists
 pub mod WellFormed
+pub mod SlotEntries
 pub mod Links
 pub mod Tidying
 pub mod Growth
@@ -8,6 +9,7 @@ pub mod LookUps
 pub mod Limits
 pub mod UpTo
 pub mod Turning
+pub mod Shortening
 pub mod FreeEnd
 pub mod Pairs
 pub mod Keeping
@@ -18,7 +20,10 @@ pub mod Visiting
 pub mod Compressing
 pub mod Compaction
 pub mod EntryWalks
+pub mod RecastSlots
 pub mod CopyLemmas
 pub mod TransferLemmas
 pub mod PointerLists
+pub mod Present
+pub mod Lending
 pub mod HistoryLaws

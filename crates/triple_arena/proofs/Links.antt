@@ -1,14 +1,14 @@
 -- How the slots, and the links in them, follow each change of an arena.
-use Rattle.std.proofs.Common.{◌≡◌, ◌≢◌, ℕ, zero, suc, ◌+◌, ◌-◌, ◌<◌, ◌≤◌, ◌==◌, Bool, true, false, List, [], ◌∷◌, ◌++◌, map, length, get_or, take, Option, Some, None, is_some, IsSome, count_by, cond, slice_get, refl, sym, ap, subst, ◌∙◌, inl, inr, arith, true≢false, IfSome, ◌↔◌, not}
+use Rattle.std.proofs.Common.{◌≡◌, ◌≢◌, ℕ, zero, suc, ◌+◌, ◌-◌, ◌<◌, ◌≤◌, ◌==◌, true, false, List, [], ◌∷◌, ◌++◌, map, length, take, Option, Some, None, is_some, IsSome, count_by, cond, slice_get, refl, sym, ap, subst, ◌∙◌, inl, inr, arith, true≢false, IfSome, ◌↔◌}
 use Rattle.std.proofs.lemmas.Bool.{cases_eq}
 use Rattle.std.proofs.lemmas.List.{length-take-le, length-map, length_push, map_push, take-map}
 use Rattle.std.proofs.lemmas.List.Sums.{sum_by_push}
-use Rattle.std.proofs.lemmas.Option.{some_pair_parts, slice_get-map, slice_get_read, slice_get_within}
+use Rattle.std.proofs.lemmas.Option.{some_pair_parts, slice_get-map}
 use Rattle.std.specs.Int.NonZero.{non_zero_usize_get}
-use Rattle.std.specs.Option.{option_and_then, option_map}
+use Rattle.std.specs.Option.{option_map}
 use Rattle.triple_arena.specs.Items.{item, with_item}
 use Rattle.triple_arena.specs.Entries.{with_generation_in}
-use Rattle.triple_arena.specs.ArenaState.{ArenaState, new_arena, capacity, slot_count, arena_len, is_free, with_value, IsWellFormed}
+use Rattle.triple_arena.specs.ArenaState.{ArenaState, new_arena, capacity, slot_count, arena_len, with_value, IsWellFormed}
 use Rattle.triple_arena.specs.Insertion.{place_among, place, inserted_among, inserted}
 use Rattle.triple_arena.specs.Ending.{removed}
 use Rattle.triple_arena.specs.Slot.{entry_of, with_slot_value, with_slot_generation}
@@ -16,8 +16,9 @@ use Rattle.triple_arena.specs.Layout.{entry_at, next_of, after, chain, state_of,
 use Rattle.triple_arena.specs.declared.slot.FreeLink.{FreeLink}
 use Rattle.triple_arena.specs.declared.slot.ArenaSlot.{ArenaSlot}
 use Rattle.triple_arena.specs.declared.slot.ArenaSlot.TheVariants.{Free, Allocated}
-use Rattle.triple_arena.proofs.ItemLists.{joined, item_last, map-with_item, item_at, eq_true, eq_false, item_within, item_past, item-with_same, item-with_other, item-push_other, split_last}
-use Rattle.triple_arena.proofs.WellFormed.{with_entry, is_free_not, with_value_is, with_generation_is, live_counted, count_head, count_tail, first_free, live_not_free, count-with_item, IsWellFormed-inserted, IsWellFormed-removed, IsWellFormed-with_entry, IsWellFormed-counter, IsWellFormed-empty}
+use Rattle.triple_arena.proofs.ItemLists.{joined, map-with_item, eq_true, eq_false, item_within, item-with_same, item-with_other, item-push_other, split_last}
+use Rattle.triple_arena.proofs.SlotEntries.{entry_item}
+use Rattle.triple_arena.proofs.WellFormed.{with_entry, with_value_is, with_generation_is, live_counted, count_head, count_tail, first_free, live_not_free, count-with_item, IsWellFormed-inserted, IsWellFormed-removed, IsWellFormed-with_entry, IsWellFormed-counter, IsWellFormed-empty}
 
 module _ {A B : Type 0} (f : A → B) where
   pub item-map_some : (xs : List A) (i : ℕ) (x : A) → item xs i ≡ Some x → item (map f xs) i ≡ Some (f x)
@@ -256,18 +257,6 @@ module _ {P T I G : Type 0} where
     with_slot_value_is (Free link) h v w found = absurd (cc)
     with_slot_value_is (Allocated old u) h v w found = (old, refl, (some_pair_parts (number old) h u v found).0)
 
-    -- the entry under an index is that of the slot there
-    pub entry_item : (es : List (ArenaSlot P T I G)) (i : ℕ) (e : ArenaSlot P T I G) → item es i ≡ Some e → entry_at number es i ≡ entry_of number e
-    entry_item es i e found = ap joined (item-map_some (entry_of number) es i e found)
-
-    -- an index with an entry has a slot
-    pub item_live : (es : List (ArenaSlot P T I G)) (i : ℕ) → IsSome (entry_at number es i) → IsSome (item es i)
-    item_live es i live = by_item (item es i) refl
-      where
-        by_item : (o : Option (ArenaSlot P T I G)) → item es i ≡ o → IsSome (item es i)
-        by_item None h = absurd (true≢false (sym (rw (item-map_none (entry_of number) es i h) at live)))
-        by_item (Some e) h = ap is_some h
-
     -- another slot with an entry under a live index
     pub Shows-rewritten : (es : List (ArenaSlot P T I G)) (root : Option ℕ) (i len : ℕ) (g : G) (v : T) (s : ArenaState T) → IsSome (entry_at number es i) → Shows number es root len s → Shows number (with_item es i (Allocated g v)) root len (with_entry s i (number g, v))
     Shows-rewritten es root i len g v s live shows =
@@ -286,23 +275,15 @@ module _ {P T I G : Type 0} where
       where
         by_item : (o : Option (ArenaSlot P T I G)) → item es i ≡ o → Shows number (with_value_at es i o w) root len (with_value s i w)
         by_item None h = absurd (true≢false (sym (rw (item-map_none (entry_of number) es i h) at live)))
-        by_item (Some (Free link)) h = absurd (true≢false (sym (rw (entry_item es i (Free link) h) at live)))
+        by_item (Some (Free link)) h = absurd (true≢false (sym (rw (entry_item (entry_of number) es i (Free link) h) at live)))
         by_item (Some (Allocated g v)) h =
-            let here : joined (item s.slots i) ≡ Some (number g, v) = ap (λ xs. joined (item xs i)) (sym shows.slots) ∙ entry_item es i (Allocated g v) h in
+            let here : joined (item s.slots i) ≡ Some (number g, v) = ap (λ xs. joined (item xs i)) (sym shows.slots) ∙ entry_item (entry_of number) es i (Allocated g v) h in
             rw (with_value_is s.slots i (number g) v w here) (Shows-rewritten es root i len g w s live shows)
 
     -- another generation on the slot at an index
     pub Shows-stamped : (es : List (ArenaSlot P T I G)) (root : Option ℕ) (i len : ℕ) (g : G) (e : ArenaSlot P T I G) (s : ArenaState T) → item es i ≡ Some e → IsSome (entry_at number es i) → Shows number es root len s → Shows number (with_item es i (with_slot_generation e g)) root len (record s { slots = with_generation_in s.slots i (number g) })
-    Shows-stamped es root i len g (Free link) s found live shows = absurd (true≢false (sym (rw (entry_item es i (Free link) found) at live)))
-    Shows-stamped es root i len g (Allocated h v) s found live shows = Shows-restamped es root i len (number h) g v s (entry_item es i (Allocated h v) found) shows
-
-    -- the entry at an index, by what is read there
-    pub entry_read : (es : List (ArenaSlot P T I G)) (i : ℕ) (o : Option (ArenaSlot P T I G)) → item es i ≡ o → entry_at number es i ≡ option_and_then (entry_of number) o
-    entry_read es i None read = ap joined (item-map_none (entry_of number) es i read)
-    entry_read es i (Some e) read = entry_item es i e read
-
-    pub entry_none_past : (es : List (ArenaSlot P T I G)) (i : ℕ) → length es < i → entry_at number es i ≡ None
-    entry_none_past es i past = entry_read es i None (item_past es i past)
+    Shows-stamped es root i len g (Free link) s found live shows = absurd (true≢false (sym (rw (entry_item (entry_of number) es i (Free link) found) at live)))
+    Shows-stamped es root i len g (Allocated h v) s found live shows = Shows-restamped es root i len (number h) g v s (entry_item (entry_of number) es i (Allocated h v) found) shows
 
     -- the root is the first free index
     pub root_head : (es : List (ArenaSlot P T I G)) (root : Option ℕ) (i len : ℕ) (s : ArenaState T) → root ≡ Some i → Shows number es root len s → slice_get s.free 0 ≡ Some i
@@ -325,79 +306,6 @@ module _ {P T I G : Type 0} where
     pub lent : (es es' : List (ArenaSlot P T I G)) (root : Option ℕ) (len counter room room' : ℕ) (limit limit' : Option ℕ) (greatest : ℕ) (s : ArenaState T) (i : ℕ) (w : T) → Shows number es root len (state_of number es root counter room limit greatest) → state_of number es root counter room limit greatest ≡ s → IsSome (entry_at number es i) → es' ≡ with_value_at es i (item es i) w → room' ≡ room → limit' ≡ limit → Shows number es' root len (state_of number es' root counter room' limit' greatest) × (state_of number es' root counter room' limit' greatest ≡ with_value s i w)
     lent es es' root len counter room room' limit limit' greatest s i w own is live written r l =
         carried es es' root root len len counter counter room room' limit limit' greatest s (with_value s i w) own is (λ shows. rw written (Shows-with_value es root i len w s live shows)) (ap (λ t. t.counter) is) (r ∙ ap (λ t. t.room) is) (l ∙ ap (λ t. t.limit) is) (ap (λ t. t.greatest) is)
-
-    -- the entry of a slot that is read at a place
-    pub entry_here : (es xs : List (ArenaSlot P T I G)) (at : ℕ) (e : ArenaSlot P T I G) → xs ≡ es → at < length xs → e ≡ get_or xs at e → entry_at number es (at + 1) ≡ entry_of number e
-    entry_here es xs at e same within read =
-        let place : at + 1 - 1 ≡ at = omega arith in
-        let found : item xs (at + 1) ≡ Some e = item_at xs (at + 1) (omega arith) ∙ ap (slice_get xs) place ∙ slice_get_read xs (length xs) at e refl within read in
-        entry_item es (at + 1) e (ap (λ ys. item ys (at + 1)) (sym same) ∙ found)
-
-    pub none_past : (es : List (ArenaSlot P T I G)) (i : ℕ) → length es < i → entry_at number es i ≡ None
-    none_past es i past = by_item (item es i) refl
-      where
-        by_item : (o : Option (ArenaSlot P T I G)) → item es i ≡ o → entry_at number es i ≡ None
-        by_item None h = entry_read es i None h
-        by_item (Some e) h = absurd (omega (arith, (item_within es i e h).1, past))
-
-    pub none_above : (es : List (ArenaSlot P T I G)) (i : ℕ) → (0 < i → entry_at number es i ≡ None) → entry_at number es i ≡ None
-    none_above es i above = by_item (item es i) refl
-      where
-        by_item : (o : Option (ArenaSlot P T I G)) → item es i ≡ o → entry_at number es i ≡ None
-        by_item None h = entry_read es i None h
-        by_item (Some e) h = above (item_within es i e h).0
-
-    pub none_everywhere : (es : List (ArenaSlot P T I G)) (n : ℕ) → length es ≤ n → ((i : ℕ) → i ≤ n → entry_at number es i ≡ None) → (i : ℕ) → entry_at number es i ≡ None
-    none_everywhere es n size below i = by_item (item es i) refl
-      where
-        by_item : (o : Option (ArenaSlot P T I G)) → item es i ≡ o → entry_at number es i ≡ None
-        by_item None h = entry_read es i None h
-        by_item (Some e) h = below i (omega (arith, (item_within es i e h).1, size))
-
-    pub none_above_zero : (es : List (ArenaSlot P T I G)) → ((i : ℕ) → 0 < i → entry_at number es i ≡ None) → (i : ℕ) → entry_at number es i ≡ None
-    none_above_zero es above i = by_item (item es i) refl
-      where
-        by_item : (o : Option (ArenaSlot P T I G)) → item es i ≡ o → entry_at number es i ≡ None
-        by_item None h = entry_read es i None h
-        by_item (Some e) h = above i (item_within es i e h).0
-
-    -- one index more without an entry
-    pub none_up_to : (es : List (ArenaSlot P T I G)) (at : ℕ) → ((i : ℕ) → i ≤ at → entry_at number es i ≡ None) → entry_at number es (at + 1) ≡ None → (i : ℕ) → i ≤ at + 1 → entry_at number es i ≡ None
-    none_up_to es at below here i within =
-        elim (cases_eq i (at + 1)) [
-          | inl same ↦ ap (entry_at number es) same ∙ here
-          | inr other ↦ below i (omega arith)
-        ]
-
-    pub none_from : (es : List (ArenaSlot P T I G)) (at : ℕ) → ((i : ℕ) → at < i → entry_at number es i ≡ None) → entry_at number es at ≡ None → (i : ℕ) → at - 1 < i → entry_at number es i ≡ None
-    none_from es at above here i within =
-        elim (cases_eq i at) [
-          | inl same ↦ ap (entry_at number es) same ∙ here
-          | inr other ↦ above i (omega arith)
-        ]
-
-    -- whether the last slot is free, by what is read there
-    pub free_end : (es xs : List (ArenaSlot P T I G)) (at : ℕ) (e : ArenaSlot P T I G) → xs ≡ es → at + 1 ≡ length xs → e ≡ get_or xs at e → is_free (item (map (entry_of number) es) (length (map (entry_of number) es))) ≡ not (is_some (entry_of number e))
-    free_end es xs at e same size read =
-        let place : at + 1 - 1 ≡ at = omega arith in
-        let found : item xs (at + 1) ≡ Some e = item_at xs (at + 1) (omega arith) ∙ ap (slice_get xs) place ∙ slice_get_read xs (length xs) at e refl (omega arith) read in
-        let end : length (map (entry_of number) es) ≡ at + 1 = length-map es (entry_of number) ∙ ap length (sym same) ∙ sym size in
-        ap (λ n. is_free (item (map (entry_of number) es) n)) end ∙ ap is_free (item-map_some (entry_of number) es (at + 1) e (ap (λ ys. item ys (at + 1)) (sym same) ∙ found)) ∙ is_free_not (entry_of number e)
-
-    -- a slot that is popped from a free end is free
-    pub free_popped : (es : List (ArenaSlot P T I G)) (e : ArenaSlot P T I G) → is_free (item (map (entry_of number) es) (length (map (entry_of number) es))) ≡ true → slice_get es (length es - 1) ≡ Some e → is_some (entry_of number e) ≡ false
-    free_popped es e free popped =
-        let within = slice_get_within es (length es - 1) e popped in
-        let found = item_last es (length es) e (omega arith) refl popped in
-        not_true (is_some (entry_of number e)) (sym (ap (λ n. is_free (item (map (entry_of number) es) n)) (length-map es (entry_of number)) ∙ ap is_free (item-map_some (entry_of number) es (length es) e found) ∙ is_free_not (entry_of number e)) ∙ free)
-      where
-        not_true : (b : Bool) → not b ≡ true → b ≡ false
-        not_true true h = absurd (true≢false (sym h))
-        not_true false h = refl
-
-pub none_of : {A : Type 0} (o : Option A) → is_some o ≡ false → o ≡ None
-none_of None h = refl
-none_of (Some x) h = absurd (true≢false h)
 
 -- an index that is within the greatest has its number
 pub index_of_number : {I : Type 0} (number : I → ℕ) (o : Option I) (i greatest : ℕ) → (IsSome o ↔ (i ≤ greatest)) → IfSome o (λ x. number x ≡ i) → i ≤ greatest → option_map number o ≡ Some i

@@ -13,10 +13,12 @@ use Rattle.triple_arena.specs.Entries.{entry_in, look_up_in}
 use Rattle.triple_arena.specs.Slot.{entry_of, with_slot_value}
 use Rattle.triple_arena.specs.Layout.{entry_at, Shows, with_value_at}
 use Rattle.triple_arena.specs.Disjoint.{PairOnce, value_of}
+use Rattle.triple_arena.specs.SlotPairs.{WritesTwo}
 use Rattle.triple_arena.specs.declared.slot.ArenaSlot.{ArenaSlot}
 use Rattle.triple_arena.proofs.ItemLists.{item_at, with_item_at, item-with_other}
 use Rattle.triple_arena.proofs.WellFormed.{entry_of_value}
-use Rattle.triple_arena.proofs.Links.{entry_item, Shows-with_value, pointer_is}
+use Rattle.triple_arena.proofs.SlotEntries.{entry_item, live_slot}
+use Rattle.triple_arena.proofs.Links.{Shows-with_value, pointer_is}
 
 refill-same_length : {X : Type 0} (xs ws : List X) → length ws ≡ length xs → refill (length xs) xs ws ≡ ws
 refill-same_length xs ws len =
@@ -33,22 +35,30 @@ module _ {X : Type 0} (xs all : List X) (is : all ≡ xs) where
       let size : length (set_both xs (i - 1) (j - 1) x y) ≡ length xs = length-set (set xs (i - 1) x) (j - 1) y ∙ length-set xs (i - 1) x in
       rw (is, first, second, with_item_at xs i x positive_i, with_item_at (set xs (i - 1) x) j y positive_j) (refill-same_length xs (set_both xs (i - 1) (j - 1) x y) size)
 
-module _ {P T I G : Type 0} (number : G → ℕ) where
-  -- a slot at an index with an entry has this entry
-  pub live_slot : (es : List (ArenaSlot P T I G)) (i : ℕ) (e : ArenaSlot P T I G) → item es i ≡ Some e → IsSome (entry_at number es i) → IsSome (entry_of number e)
-  live_slot es i e there live = subst (λ o. IsSome o) (entry_item number es i e there) live
+-- two slots with other values, put back
+pub writes_two : {X T : Type 0} (put : X → T → X) (es es' : List X) (i j : ℕ) (a b a' b' : X) (x y : T) → item es i ≡ Some a → item es j ≡ Some b → a' ≡ put a x → b' ≡ put b y → es' ≡ with_item (with_item es i a') j b' → WritesTwo put es es' i j x y
+writes_two put es es' i j a b a' b' x y at_i at_j left_i left_j is =
+    record {
+      first = a;
+      second = b;
+      at_first = at_i;
+      at_second = at_j;
+      written = is ∙ ap (λ s. with_item (with_item es i s) j b') left_i ∙ ap (with_item (with_item es i (put a x)) j) left_j;
+    }
 
+module _ {P T I G : Type 0} (number : G → ℕ) where
   value_there : (es : List (ArenaSlot P T I G)) (root : Option ℕ) (i len : ℕ) (e : ArenaSlot P T I G) (w : T) (s : ArenaState T) → item es i ≡ Some e → IsSome (entry_at number es i) → Shows number es root len s → Shows number (with_item es i (with_slot_value e w)) root len (with_value s i w)
   value_there es root i len e w s there live shows =
       subst (λ o. Shows number (with_value_at es i o w) root len (with_value s i w)) there (Shows-with_value number es root i len w s live shows)
 
   -- with other values in two slots the state has them too
-  pub both_written : (es es' : List (ArenaSlot P T I G)) (root : Option ℕ) (i j len : ℕ) (a b a' b' : ArenaSlot P T I G) (x y : T) (s : ArenaState T) → item es i ≡ Some a → item es j ≡ Some b → IsSome (entry_at number es i) → IsSome (entry_at number es j) → i ≢ j → a' ≡ with_slot_value a x → b' ≡ with_slot_value b y → es' ≡ with_item (with_item es i a') j b' → Shows number es root len s → Shows number es' root len (with_value (with_value s i x) j y)
-  both_written es es' root i j len a b a' b' x y s at_i at_j live_i live_j apart left_i left_j written shows =
-      let one = with_item es i (with_slot_value a x) in
-      let there : item one j ≡ Some b = item-with_other es i j (with_slot_value a x) (λ e. apart (sym e)) ∙ at_j in
-      let live : IsSome (entry_at number one j) = subst (λ o. IsSome o) (sym (entry_item number one j b there)) (live_slot es j b at_j live_j) in
-      rw (written, left_i, left_j) (value_there one root j len b y (with_value s i x) there live (value_there es root i len a x s at_i live_i shows))
+  pub Shows-two_written : (es es' : List (ArenaSlot P T I G)) (root : Option ℕ) (i j len : ℕ) (x y : T) (s : ArenaState T) → i ≢ j → IsSome (entry_in s.slots i) → IsSome (entry_in s.slots j) → WritesTwo with_slot_value es es' i j x y → Shows number es root len s → Shows number es' root len (with_value (with_value s i x) j y)
+  Shows-two_written es es' root i j len x y s apart live_i live_j w shows =
+      let here : IsSome (entry_at number es i) = subst (λ xs. IsSome (entry_in xs i)) (sym shows.slots) live_i in
+      let live : IsSome (entry_of number w.second) = live_slot (entry_of number) es j w.second w.at_second (subst (λ xs. IsSome (entry_in xs j)) (sym shows.slots) live_j) in
+      let one = with_item es i (with_slot_value w.first x) in
+      let there : item one j ≡ Some w.second = item-with_other es i j (with_slot_value w.first x) (λ e. apart (sym e)) ∙ w.at_second in
+      rw w.written (value_there one root j len w.second y (with_value s i x) there (subst (λ o. IsSome o) (sym (entry_item (entry_of number) one j w.second there)) live) (value_there es root i len w.first x s w.at_first here shows))
 
 module _ {T : Type 0} (slots : List (Option (ℕ × T))) where
   -- the value under a valid pointer is that of the entry at its index

@@ -1,6 +1,6 @@
 -- How the free slots are put in order.
 use Rattle.std.proofs.Common.{◌≡◌, ◌≢◌, ℕ, zero, suc, ◌+◌, ◌-◌, ◌<◌, ◌≤◌, ◌==◌, true, false, List, [], ◌∷◌, ◌++◌, map, length, drop, set, take, Option, Some, None, is_some, count_by, cond, slice_get, refl, sym, ap, ◌∙◌, arith, true≢false}
-use Rattle.std.proofs.lemmas.List.{length-map, drop_all, take-map}
+use Rattle.std.proofs.lemmas.List.{length-map, drop_all}
 use Rattle.std.proofs.lemmas.List.Sums.{sum_by-cons}
 use Rattle.std.specs.Int.NonZero.{non_zero_usize_get}
 use Rattle.triple_arena.specs.Items.{item, with_item}
@@ -200,7 +200,3 @@ module _ {P T I G : Type 0} (number : G → ℕ) where
         counted = shows.counted ∙ sym (trimmed_live s.slots);
         well = IsWellFormed-tidied s shows.well;
       }
-
-  pub trimmed_popped_slot : (es : List (ArenaSlot P T I G)) → is_free (item (map (entry_of number) es) (length (map (entry_of number) es))) ≡ true → trimmed (map (entry_of number) (take (length es - 1) es)) ≡ trimmed (map (entry_of number) es)
-  trimmed_popped_slot es free =
-      ap trimmed (sym (take-map (entry_of number) (length es - 1) es) ∙ ap (λ n. take (n - 1) (map (entry_of number) es)) (sym (length-map es (entry_of number)))) ∙ trimmed_popped (map (entry_of number) es) free

@@ -6,6 +6,7 @@ pub mod Insertion
 pub mod DirectInsertion
 pub mod Ending
 pub mod FreeList
+pub mod FreeEnd
 pub mod Capacity
 pub mod EntryLaws
 pub mod LengthLaws
@@ -27,8 +28,10 @@ pub mod Compression
 pub mod Moves
 pub mod CompressionLaws
 pub mod Recasting
+pub mod HeldSlots
 pub mod Cloning
 pub mod CloningLaws
 pub mod CopyLaws
 pub mod Disjoint
+pub mod SlotPairs
 pub mod Histories

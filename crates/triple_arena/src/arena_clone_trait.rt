@@ -22,15 +22,15 @@ pub trait ArenaCloneFromWith<P: Ptr, T>: ArenaTrait<P, T> {
     ghost clones: { Self → ℕ → Option ℕ → List (Option (ℕ × T)) → Self → Type 0 };
 
     /// Drops the entries, and holds those of `source` instead, under the same pointers, each mapped
-    /// by `map`, which is called at them in the order of their indexes. The next generation becomes
-    /// the source's, or 2 where it has none.
+    /// by `map`, which is called at them in the order of their indexes. Where the arena has a counter,
+    /// it becomes the source's next generation, or 2 where that has none.
     ///
     /// `Reallocation` only where the source's last index is above the capacity, and as
     /// `reallocate_min_capacity` refuses that index: `BeyondMaxCapacity` exactly where the limit is
     /// below it; then every entry is as it was. Where memory is there and the limit allows it, it
-    /// isn't refused so. `Map` exactly where `map` refuses an
-    /// entry; then exactly those that were mapped before stand. The room changes only where the last
-    /// index is above the capacity, and no memory is taken elsewhere.
+    /// isn't refused so. `Map` exactly where `map` refuses an entry; then exactly those that were
+    /// mapped before stand. The room changes only where the last index is above the capacity, and no
+    /// memory is taken elsewhere.
     fn clone_from_with<U, E, A: CompactArenaTrait<P, U>, M: FnMut(P, &U) -> Result<T, E>>(
         &mut self,
         source: &A,
@@ -68,8 +68,9 @@ pub trait ArenaCloneFromWith<P: Ptr, T>: ArenaTrait<P, T> {
         (copy : List (Option (ℕ × T))) (new : Self) → clones old last next copy new
         → last ≤ Self.fitting old → Self.fitting new ≡ Self.fitting old };
 
-    /// Drops the entries, and holds clones of those of `source` instead, under the same pointers. The
-    /// next generation becomes the source's, or 2 where it has none. A clone must equal its original.
+    /// Drops the entries, and holds clones of those of `source` instead, under the same pointers. Where
+    /// the arena has a counter, it becomes the source's next generation, or 2 where that has none. A
+    /// clone must equal its original.
     ///
     /// `Reallocation` as `clone_from_with` tells it, and then every entry is as it was. `Map` where
     /// the clone of a value is refused; then exactly those before it stand.

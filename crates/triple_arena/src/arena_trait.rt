@@ -270,7 +270,8 @@ pub trait ArenaTrait<P: Ptr, T>: Sized {
             → CountsUp P.Gen.counting (ending_wraps self.old)
             → Continues fits self.old (removal (P.Inx.number inx, generation) ∷ []) self.new };
 
-    /// Drops all entries, and raises the counter once if there was one. The capacity stays.
+    /// Drops all entries; where the arena has a counter, raises it once if there was an entry. The
+    /// capacity stays.
     fn clear(&mut self) -> InvalidationOption<()>
     where
         T: Drop,

@@ -14,7 +14,7 @@ ghost use Rattle.triple_arena.specs.ArenaState.{ArenaState, new_arena, slot_coun
 ghost use Rattle.triple_arena.specs.Insertion.{next_pointer, inserted};
 ghost use Rattle.triple_arena.specs.Ending.{removed, invalidated, cleared, told};
 ghost use Rattle.triple_arena.specs.FreeList.{tidied, without_free_end, IsInOrder};
-ghost use Rattle.triple_arena.specs.Capacity.{with_room_for, reallocated, KeepsRoom, EndsBy, grown};
+ghost use Rattle.triple_arena.specs.Capacity.{with_room_for, reallocated, KeepsRoom, grown};
 ghost use Rattle.triple_arena.specs.Slot.{entry_of};
 ghost use Rattle.triple_arena.specs.Disjoint.{value_of};
 ghost use Rattle.triple_arena.specs.Values.{with_values_of};
@@ -30,6 +30,8 @@ use crate::arena_insert_trait::ArenaInsertTrait;
 use crate::arena_iterators::PtrAdvancer;
 use crate::arena_trait::ArenaTrait;
 use crate::disjointable_arena_trait::DisjointableArenaTrait;
+use crate::entry_slot::EntrySlot;
+use crate::entry_slots::{first_live, last_live, live_from, live_to, slot_at, work_on_two};
 use crate::lending_arena::LendingArena;
 use crate::lent_slots::LentSlots;
 use crate::pair_call::{AtEntries, AtValues, PairCall};
@@ -241,21 +243,21 @@ impl<P: Ptr, T, S: NonZeroInxGenericStack<ArenaSlot<P, T>>> ArenaTrait<P, T> for
     }
 
     fn find_first_inx_ptr(&self) -> Option<P> {
-        match self.slots.first_live() {
+        match first_live::<P, T, ArenaSlot<P, T>, S>(&self.slots.stack) {
             Some(inx) => Some(self.ptr_at(inx)),
             None => None,
         }
     }
 
     fn find_last_inx_ptr(&self) -> Option<P> {
-        match self.slots.last_live() {
+        match last_live::<P, T, ArenaSlot<P, T>, S>(&self.slots.stack) {
             Some(inx) => Some(self.ptr_at(inx)),
             None => None,
         }
     }
 
     fn advancer(&self) -> PtrAdvancer<P> {
-        PtrAdvancer::from(self.slots.first_live())
+        PtrAdvancer::from(first_live::<P, T, ArenaSlot<P, T>, S>(&self.slots.stack))
     }
 
     fn advancer_inx(&self, inx: P::Inx, reverse: bool) -> PtrAdvancer<P> {
@@ -526,7 +528,7 @@ impl<P: Ptr, T, S: NonZeroInxGenericStack<ArenaSlot<P, T>>> Arena<P, T, S> {
             × ((i : ℕ) → non_zero_usize_get from ≤ i → i < non_zero_usize_get inx
             → entry self.now i ≡ None)) }
     {
-        self.slots.live_from(from)
+        live_from::<P, T, ArenaSlot<P, T>, S>(&self.slots.stack, from)
     }
 
     // The greatest index of an entry at or below this one, if there is one.
@@ -538,7 +540,7 @@ impl<P: Ptr, T, S: NonZeroInxGenericStack<ArenaSlot<P, T>>> Arena<P, T, S> {
             × ((i : ℕ) → i ≤ non_zero_usize_get to → non_zero_usize_get inx < i
             → entry self.now i ≡ None)) }
     {
-        self.slots.live_to(to)
+        live_to::<P, T, ArenaSlot<P, T>, S>(&self.slots.stack, to)
     }
 
     // The index past the last slot, or the greatest number.
@@ -568,9 +570,9 @@ impl<P: Ptr, T, S: NonZeroInxGenericStack<ArenaSlot<P, T>>> Arena<P, T, S> {
         ensures within { IsSome (entry self.now (P.Inx.number inx))
             → P.Inx.number inx ≤ greatest_index P.Inx.greatest }
     {
-        let slots = &self.slots;
+        let stack = &self.slots.stack;
         match P::Inx::try_into_usize(inx) {
-            Some(inx) => slots.get(inx),
+            Some(inx) => slot_at(stack, inx),
             None => None,
         }
     }
@@ -605,7 +607,7 @@ impl<P: Ptr, T, S: NonZeroInxGenericStack<ArenaSlot<P, T>>> Arena<P, T, S> {
         ensures { (h : ℕ) × (v : T) × (entry self.now (non_zero_usize_get inx) ≡ Some (h, v))
             × (P.numbers result ≡ (non_zero_usize_get inx, h)) }
     {
-        let (generation, _value) = self.slots.get(inx).unwrap().entry().unwrap();
+        let (generation, _value) = slot_at(&self.slots.stack, inx).unwrap().entry().unwrap();
         P::_from_raw(P::Inx::try_from_usize(inx).unwrap(), generation)
     }
 
@@ -649,7 +651,7 @@ impl<P: Ptr, T, S: NonZeroInxGenericStack<ArenaSlot<P, T>>> Arena<P, T, S> {
             result (λ x y. self.new ≡ with_value
             (with_value self.old (non_zero_usize_get first) x) (non_zero_usize_get second) y) }
     {
-        self.slots.work_on_two(first, second, call)
+        work_on_two::<P, T, ArenaSlot<P, T>, S, R, C>(&mut self.slots.stack, first, second, call)
     }
 
     // How many slots there are.

@@ -9,7 +9,7 @@ ghost use Rattle.triple_arena.specs.Compression.{rank_in, placed};
 ghost use Rattle.triple_arena.specs.Moves.{Moves};
 
 use crate::entry_slot::EntrySlot;
-use crate::slots::replace;
+use crate::entry_slots::replace;
 use std::num::NonZeroUsize;
 use triple_arena_ptr::{Ptr, PtrGen, PtrInx};
 use triple_arena_stack::NonZeroInxGenericStack;

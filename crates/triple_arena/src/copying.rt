@@ -1,6 +1,6 @@
 //! Copies of an arena's entries, mapped by a closure, in slots of any kind.
 
-ghost use Rattle.std.specs.Prelude.{◌≡◌, ◌<◌, ◌≤◌, ◌-◌, ◌++◌, None, [], map, length, replicate};
+ghost use Rattle.std.specs.Prelude.{◌≡◌, ◌<◌, ◌≤◌, [], map, length};
 ghost use Rattle.std.specs.Int.NonZero.{non_zero_usize_get};
 ghost use Rattle.triple_arena_ptr.specs.Numbers.{greatest_index};
 ghost use Rattle.triple_arena_stack.specs.Capacity.{capacity_of};
@@ -11,27 +11,11 @@ ghost use Rattle.triple_arena.specs.Copying.{Copies, put_after};
 use crate::arena_trait::ArenaTrait;
 use crate::compact_arena_trait::CompactArenaTrait;
 use crate::entry_slot::EntrySlot;
+use crate::entry_slots::extend;
 use std::num::NonZeroUsize;
 use triple_arena_base::Advancer;
 use triple_arena_ptr::{Ptr, PtrGen, PtrInx};
 use triple_arena_stack::NonZeroInxGenericStack;
-
-// Pushes slots without an entry, so that there are this many.
-fn push_vacant<P: Ptr, T, X: EntrySlot<P, T>, S: NonZeroInxGenericStack<X>>(
-    stack: &mut S,
-    len: usize,
-)
-    requires room { len ≤ capacity_of (S.room stack.old) (S.limit stack.old) }
-    requires longer { length (S.items stack.old) ≤ len }
-    ensures slots { map X.entry (S.items stack.new) ≡ map X.entry (S.items stack.old)
-        ++ replicate (len - length (S.items stack.old)) None }
-    ensures room { S.room stack.new ≡ S.room stack.old }
-    ensures limit { S.limit stack.new ≡ S.limit stack.old }
-{
-    'gap: while stack.len() < len {
-        stack.push_reserved(X::vacant());
-    }
-}
 
 // Puts an entry at an index past the last slot.
 fn push_at<P: Ptr, T, X: EntrySlot<P, T>, S: NonZeroInxGenericStack<X>>(
@@ -47,7 +31,7 @@ fn push_at<P: Ptr, T, X: EntrySlot<P, T>, S: NonZeroInxGenericStack<X>>(
     ensures room { S.room stack.new ≡ S.room stack.old }
     ensures limit { S.limit stack.new ≡ S.limit stack.old }
 {
-    push_vacant::<P, T, X, S>(stack, inx.get() - 1);
+    extend::<P, T, X, S>(stack, inx.get() - 1);
     stack.push_reserved(X::holding(generation, value));
 }
 

@@ -7,7 +7,7 @@ use crate::slot::ArenaSlot;
 use triple_arena_ptr::Ptr;
 use triple_arena_stack::NonZeroInxGenericStack;
 
-// An arena as what is borrowed from: its type, as clauses on loans name it.
+/// An arena as what is borrowed from: its type, as clauses on loans name it.
 pub trait LendingArena {
     ghost arena_row: { RattleType };
 }

@@ -14,6 +14,7 @@ pub mod copying;
 mod disjointable_arena_trait;
 pub mod ends;
 mod entry_slot;
+pub mod entry_slots;
 mod indexing;
 mod insert_entry;
 pub mod laws;

@@ -1,8 +1,9 @@
 //! Recasting the values of an arena, and arenas of pointers as recasters.
 
-ghost use Rattle.std.specs.Prelude.{◌≡◌};
+ghost use Rattle.std.specs.Prelude.{◌≡◌, []};
 ghost use Rattle.triple_arena_base.specs.Held.{recast_answer, held_all};
 ghost use Rattle.triple_arena.specs.Entries.{look_up_in};
+ghost use Rattle.triple_arena.specs.Histories.{Continues};
 ghost use Rattle.triple_arena.specs.Walks.{keys, values};
 ghost use Rattle.triple_arena.specs.Recasting.{written, recast_values};
 
@@ -26,6 +27,7 @@ pub fn recast_entries<I, P: Ptr, T: Recast<I>, A: CompactArenaTrait<P, T>, R: Re
         arena.old }
     ensures answer { result ≡ recast_answer (R.image recaster.now)
         (held_all T.held (values (A.slots arena.old))) }
+    ensures fresh { Continues A.fits arena.old [] arena.new }
 {
     let mut advancer = arena.advancer();
     'walk: while let Some(p) = advancer.advance(arena) {
@@ -50,4 +52,28 @@ impl<P: Ptr, S: NonZeroInxGenericStack<ArenaSlot<P, P>>> Recaster for Arena<P, P
             None => Err(*item),
         }
     }
+}
+
+/// Holds what its values hold, in the order of the indexes of the entries.
+impl<I, P: Ptr, T: Recast<I>, S: NonZeroInxGenericStack<ArenaSlot<P, T>>> Recast<I>
+    for Arena<P, T, S> {
+    ghost use Rattle.std.proofs.Common.{ap};
+    ghost use Rattle.triple_arena.specs.HeldSlots.{held_slots, refill_slots, slots_held_refill, slots_refill_held, slots_refill_refill};
+
+    ghost held = { λ s. held_slots T.held T.refill s.slots };
+
+    // nothing but the held items changes
+    ghost refill = { λ s l. record s { slots = refill_slots T.held T.refill s.slots l } };
+
+    fn recast<R: Recaster<Item = I>>(&mut self, recaster: &R) -> Result<(), I> {
+        recast_entries(self, recaster)
+    }
+
+    ghost held_refill = { λ s l h. slots_held_refill T.held T.refill T.held_refill s.slots l h };
+
+    ghost refill_held = { λ s. ap (λ slots. record s { slots = slots })
+        (slots_refill_held T.held T.refill T.refill_held s.slots) };
+
+    ghost refill_refill = { λ s l m h k. ap (λ slots. record s { slots = slots })
+        (slots_refill_refill T.held T.refill T.held_refill T.refill_refill s.slots l m h k) };
 }

@@ -1,10 +1,9 @@
 //! A slot of an arena.
 
-ghost use Rattle.std.specs.Prelude.{◌≡◌, ◌≢◌, ◌==◌, cond, None, Some, IsSome, IsNone, is_some, option_copied};
-ghost use Rattle.std.specs.Borrow.{Lends, LendsIf, sem};
+ghost use Rattle.std.specs.Prelude.{◌≡◌, ◌≢◌, ◌==◌, cond, None, Some, IsSome, IsNone};
+ghost use Rattle.std.specs.Borrow.{LendsIf, sem};
 ghost use Rattle.std.specs.Int.NonZero.{non_zero_usize_get};
-ghost use Rattle.std.specs.Option.{option_map, option_and_then, option_copied_mut};
-ghost use Rattle.triple_arena.specs.Entries.{value_under};
+ghost use Rattle.std.specs.Option.{option_map, option_copied_mut};
 ghost use Rattle.triple_arena.specs.Disjoint.{value_of};
 ghost use Rattle.triple_arena.specs.Slot.{entry_of, next_free, with_slot_value, with_slot_generation};
 
@@ -68,55 +67,6 @@ impl<P: Ptr, T> Default for ArenaSlot<P, T> {
 impl<P: Ptr, T> ArenaSlot<P, T> {
     ghost use Rattle.triple_arena.specs.contracts.slot.ArenaSlot.{the_row};
 
-    // Whether there is an entry.
-    pub(crate) fn is_live(&self) -> bool
-        ensures { result ≡ is_some (entry_of P.Gen.number self.now) }
-    {
-        matches!(self, ArenaSlot::Allocated(_, _))
-    }
-
-    // The generation and the value of the entry, if there is one.
-    pub(crate) fn entry(&self) -> Option<(P::Gen, &T)>
-        ensures { option_map (λ e. (P.Gen.number e.0, e.1.now)) result
-            ≡ entry_of P.Gen.number self.now }
-    {
-        match self {
-            ArenaSlot::Allocated(generation, value) => Some((*generation, value)),
-            ArenaSlot::Free(_) => None,
-        }
-    }
-
-    // The value, if its entry has this generation.
-    pub(crate) fn value_under(&self, generation: P::Gen) -> Option<&T>
-        ensures { option_copied result
-            ≡ option_and_then
-            (value_under (P.Gen.number generation)) (entry_of P.Gen.number self.now) }
-    {
-        match self {
-            ArenaSlot::Allocated(own, value) => {
-                if *own == generation {
-                    Some(value)
-                } else {
-                    None
-                }
-            }
-            ArenaSlot::Free(_) => None,
-        }
-    }
-
-    // The value of the entry, for writing.
-    pub(crate) fn value_mut(&mut self) -> &mut T
-        requires { IsSome (entry_of P.Gen.number self.old) }
-        ensures* lends { sem 𝓛 (Lends (the_row P.row T.row P.Inx.row P.Gen.row) T.row self.entry
-            result (with_slot_value self.old)) }
-        ensures value { option_map (λ e. e.1) (entry_of P.Gen.number self.old) ≡ Some result.now }
-    {
-        match self {
-            ArenaSlot::Allocated(_, value) => value,
-            ArenaSlot::Free(_) => unreachable!(),
-        }
-    }
-
     // The generation of the entry, if there is one.
     pub(crate) fn generation(&self) -> Option<P::Gen>
         ensures { option_map P.Gen.number result
@@ -137,17 +87,6 @@ impl<P: Ptr, T> ArenaSlot<P, T> {
         match self {
             ArenaSlot::Allocated(_, value) => Some(value),
             ArenaSlot::Free(_) => None,
-        }
-    }
-
-    // Takes the generation and the value out of a slot with an entry.
-    pub(crate) fn into_entry(self) -> (P::Gen, T)
-        requires { IsSome (entry_of P.Gen.number self) }
-        ensures { entry_of P.Gen.number self ≡ Some (P.Gen.number result.0, result.1) }
-    {
-        match self {
-            ArenaSlot::Allocated(generation, value) => (generation, value),
-            ArenaSlot::Free(_) => unreachable!(),
         }
     }
 
@@ -200,12 +139,28 @@ impl<P: Ptr, T> EntrySlot<P, T> for ArenaSlot<P, T> {
     // the entry, as the state of an arena has it
     ghost entry = { entry_of P.Gen.number };
 
+    ghost with_value = { with_slot_value };
+
     fn vacant() -> Self {
         ArenaSlot::default()
     }
 
     fn holding(generation: P::Gen, value: T) -> Self {
         ArenaSlot::Allocated(generation, value)
+    }
+
+    fn entry(&self) -> Option<(P::Gen, &T)> {
+        match self {
+            ArenaSlot::Allocated(generation, value) => Some((*generation, value)),
+            ArenaSlot::Free(_) => None,
+        }
+    }
+
+    fn value_mut(&mut self) -> &mut T {
+        match self {
+            ArenaSlot::Allocated(_, value) => value,
+            ArenaSlot::Free(_) => unreachable!(),
+        }
     }
 
     fn unpack(self) -> Option<(P::Gen, T)> {

@@ -1,15 +1,14 @@
 //! The slots of an arena, and the free list that runs through them.
 
-ghost use Rattle.std.specs.Prelude.{◌≡◌, ◌≢◌, ◌<◌, ◌≤◌, ◌+◌, ◌-◌, ◌^◌, ◌==◌, ◌↔◌, ℕ, List, [], map, length, take, reverse, Option, Some, None, IsSome, IsOk, OnOk, OnErr, Err, MatchOption, option_copied};
+ghost use Rattle.std.specs.Prelude.{◌≡◌, ◌<◌, ◌≤◌, ◌+◌, ◌-◌, ◌^◌, ◌==◌, ◌↔◌, ℕ, List, [], map, length, take, reverse, Option, Some, None, IsSome, IsOk, OnOk, OnErr, Err, MatchOption, option_copied};
 ghost use Rattle.std.specs.Borrow.{sem};
 ghost use Rattle.std.specs.Int.NonZero.{non_zero_usize_get};
 ghost use Rattle.std.specs.Option.{option_map};
 ghost use Rattle.triple_arena_ptr.specs.Numbers.{greatest_index};
 ghost use Rattle.triple_arena_stack.specs.StackKind.{reallocated_room, IsOfKind};
 ghost use Rattle.triple_arena_stack.specs.Capacity.{capacity_of, IsWithin, IsBeyond};
-ghost use Rattle.triple_arena_stack.specs.Disjoint.{MayWork, Worked};
 ghost use Rattle.triple_arena.specs.Items.{item, with_item};
-ghost use Rattle.triple_arena.specs.ArenaState.{ArenaState, arena_len, capacity, with_value, is_free};
+ghost use Rattle.triple_arena.specs.ArenaState.{ArenaState, arena_len, capacity, is_free};
 ghost use Rattle.triple_arena.specs.Insertion.{place, inserted};
 ghost use Rattle.triple_arena.specs.Ending.{removed};
 ghost use Rattle.triple_arena.specs.Entries.{with_generation_in, entry_count};
@@ -20,23 +19,22 @@ ghost use Rattle.triple_arena.specs.Compression.{compressed, rank};
 ghost use Rattle.triple_arena.specs.Moves.{Moves};
 ghost use Rattle.triple_arena.specs.Copying.{Copies};
 ghost use Rattle.triple_arena.specs.Transfers.{Transfers};
-ghost use Rattle.triple_arena.specs.Slot.{entry_of, with_slot_value};
+ghost use Rattle.triple_arena.specs.Slot.{entry_of};
 ghost use Rattle.triple_arena.specs.Layout.{number_or_zero, Shows, IsLinked, IsFreeList, entry_at};
-ghost use Rattle.triple_arena.specs.Disjoint.{value_of};
 
 use crate::arena_trait::ArenaTrait;
 use crate::compact_arena_trait::CompactArenaTrait;
 use crate::compress::close_up;
 use crate::copying::copy_entries;
-use crate::pair_call::PairCall;
+use crate::entry_slot::EntrySlot;
+use crate::entry_slots::{count_live, last_live, replace, shorten};
 use crate::slot::{ArenaSlot, FreeLink};
 use crate::transferring::transfer_entries;
 use std::marker::PhantomData;
-use std::mem;
 use std::num::NonZeroUsize;
 use triple_arena_base::{InvalidationOption, MaxCapacityReductionError, ReallocationError};
 use triple_arena_ptr::{Ptr, PtrGen, PtrInx};
-use triple_arena_stack::{NonZeroInxGenericStack, SetMaxCapacity, pair_of};
+use triple_arena_stack::{NonZeroInxGenericStack, SetMaxCapacity};
 
 /// The slots of an arena. Each free one links to the next, beginning at the root.
 ///
@@ -66,13 +64,6 @@ impl<P: Ptr, T, S: NonZeroInxGenericStack<ArenaSlot<P, T>>> Slots<P, T, S> {
         }
     }
 
-    // The slot of an index, if there is one.
-    pub(crate) fn get(&self, inx: NonZeroUsize) -> Option<&ArenaSlot<P, T>>
-        ensures { option_copied result ≡ item (S.items self.now.stack) (non_zero_usize_get inx) }
-    {
-        self.stack.get(inx)
-    }
-
     // The value of the entry at an index, for writing.
     pub(crate) fn value_mut(&mut self, inx: NonZeroUsize) -> &mut T
         requires { IsSome (entry_at P.Gen.number (S.items self.old.stack)
@@ -94,34 +85,6 @@ impl<P: Ptr, T, S: NonZeroInxGenericStack<ArenaSlot<P, T>>> Slots<P, T, S> {
         ensures value { result.now ≡ S.items self.old.stack }
     {
         self.stack.as_mut_slice()
-    }
-
-    // Makes the call at the values of the entries at two indexes.
-    pub(crate) fn work_on_two<R, C: PairCall<T, R>>(
-        &mut self,
-        first: NonZeroUsize,
-        second: NonZeroUsize,
-        call: C,
-    ) -> R
-        requires first { IsSome (entry_at P.Gen.number (S.items self.old.stack) (non_zero_usize_get first)) }
-        requires second { IsSome (entry_at P.Gen.number (S.items self.old.stack) (non_zero_usize_get second)) }
-        requires apart { non_zero_usize_get first ≢ non_zero_usize_get second }
-        requires callable { MayWork C.calls call
-            (value_of (entry_at P.Gen.number (S.items self.old.stack) (non_zero_usize_get first)))
-            (value_of (entry_at P.Gen.number (S.items self.old.stack) (non_zero_usize_get second))) }
-        ensures worked { Worked C.calls call
-            (value_of (entry_at P.Gen.number (S.items self.old.stack) (non_zero_usize_get first)))
-            (value_of (entry_at P.Gen.number (S.items self.old.stack) (non_zero_usize_get second)))
-            result (λ x y. (s : ArenaState T) (len : ℕ)
-            → Shows P.Gen.number (S.items self.old.stack) (option_map non_zero_usize_get self.old.root) len s
-            → Shows P.Gen.number (S.items self.new.stack) (option_map non_zero_usize_get self.new.root) len
-            (with_value (with_value s (non_zero_usize_get first) x) (non_zero_usize_get second) y)) }
-        ensures room { S.room self.new.stack ≡ S.room self.old.stack }
-        ensures limit { S.limit self.new.stack ≡ S.limit self.old.stack }
-    {
-        let slots = self.stack.as_mut_slice();
-        let (a, b) = pair_of(slots, first.get() - 1, second.get() - 1);
-        work_in_two(a, b, call)
     }
 
     // Puts another generation on the entry at an index.
@@ -298,10 +261,10 @@ impl<P: Ptr, T, S: NonZeroInxGenericStack<ArenaSlot<P, T>>> Slots<P, T, S> {
         ensures room { S.room self.new.stack ≡ S.room self.old.stack }
         ensures limit { S.limit self.new.stack ≡ S.limit self.old.stack }
     {
-        if !has_free_end(&self.stack) {
+        let end = self.live_end();
+        if end == self.stack.len() {
             return;
         }
-        let end = self.live_end();
         // Turned round twice, the list has its order again.
         let turned = turn_round(&mut self.stack, self.root, end);
         self.root = turn_round(&mut self.stack, turned, end);
@@ -358,7 +321,7 @@ impl<P: Ptr, T, S: NonZeroInxGenericStack<ArenaSlot<P, T>>> Slots<P, T, S> {
             f,
         );
         self.root = relink(&mut self.stack);
-        (count_live(&self.stack), answer)
+        (count_live::<P, T, ArenaSlot<P, T>, S>(&self.stack), answer)
     }
 
     // Takes the entries of an arena out, one by one in order, and holds them alone, from index 1 on,
@@ -396,89 +359,11 @@ impl<P: Ptr, T, S: NonZeroInxGenericStack<ArenaSlot<P, T>>> Slots<P, T, S> {
         self.stack.len()
     }
 
-    // The least index of an entry, if there is one.
-    pub(crate) fn first_live(&self) -> Option<NonZeroUsize>
-        ensures { MatchOption result
-            ((i : ℕ) → entry_at P.Gen.number (S.items self.now.stack) i ≡ None)
-            (λ inx. IsSome (entry_at P.Gen.number (S.items self.now.stack) (non_zero_usize_get inx))
-            × ((i : ℕ) → i < non_zero_usize_get inx
-            → entry_at P.Gen.number (S.items self.now.stack) i ≡ None)) }
-    {
-        let slots = self.stack.as_slice();
-        for at in 0..slots.len() {
-            if slots[at].is_live() {
-                return Some(NonZeroUsize::MIN.saturating_add(at));
-            }
-        }
-        None
-    }
-
-    // The greatest index of an entry, if there is one.
-    pub(crate) fn last_live(&self) -> Option<NonZeroUsize>
-        ensures { MatchOption result
-            ((i : ℕ) → entry_at P.Gen.number (S.items self.now.stack) i ≡ None)
-            (λ inx. IsSome (entry_at P.Gen.number (S.items self.now.stack) (non_zero_usize_get inx))
-            × ((i : ℕ) → non_zero_usize_get inx < i
-            → entry_at P.Gen.number (S.items self.now.stack) i ≡ None)) }
-    {
-        let slots = self.stack.as_slice();
-        let mut at = slots.len();
-        while at > 0 {
-            at -= 1;
-            if slots[at].is_live() {
-                return Some(NonZeroUsize::MIN.saturating_add(at));
-            }
-        }
-        None
-    }
-
-    // The least index of an entry at or above this one, if there is one.
-    pub(crate) fn live_from(&self, from: NonZeroUsize) -> Option<NonZeroUsize>
-        ensures { MatchOption result
-            ((i : ℕ) → non_zero_usize_get from ≤ i
-            → entry_at P.Gen.number (S.items self.now.stack) i ≡ None)
-            (λ inx. IsSome (entry_at P.Gen.number (S.items self.now.stack) (non_zero_usize_get inx))
-            × (non_zero_usize_get from ≤ non_zero_usize_get inx)
-            × ((i : ℕ) → non_zero_usize_get from ≤ i → i < non_zero_usize_get inx
-            → entry_at P.Gen.number (S.items self.now.stack) i ≡ None)) }
-    {
-        let slots = self.stack.as_slice();
-        let mut at = from.get() - 1;
-        'up: while at < slots.len() {
-            if slots[at].is_live() {
-                return Some(NonZeroUsize::MIN.saturating_add(at));
-            }
-            at += 1;
-        }
-        None
-    }
-
-    // The greatest index of an entry at or below this one, if there is one.
-    pub(crate) fn live_to(&self, to: NonZeroUsize) -> Option<NonZeroUsize>
-        ensures { MatchOption result
-            ((i : ℕ) → i ≤ non_zero_usize_get to
-            → entry_at P.Gen.number (S.items self.now.stack) i ≡ None)
-            (λ inx. IsSome (entry_at P.Gen.number (S.items self.now.stack) (non_zero_usize_get inx))
-            × (non_zero_usize_get inx ≤ non_zero_usize_get to)
-            × ((i : ℕ) → i ≤ non_zero_usize_get to → non_zero_usize_get inx < i
-            → entry_at P.Gen.number (S.items self.now.stack) i ≡ None)) }
-    {
-        let slots = self.stack.as_slice();
-        let mut at = slots.len().min(to.get());
-        'down: while at > 0 {
-            at -= 1;
-            if slots[at].is_live() {
-                return Some(NonZeroUsize::MIN.saturating_add(at));
-            }
-        }
-        None
-    }
-
     // How many slots there are up to the last entry.
     fn live_end(&self) -> usize
         ensures { result ≡ length (trimmed (map (entry_of P.Gen.number) (S.items self.now.stack))) }
     {
-        match self.last_live() {
+        match last_live::<P, T, ArenaSlot<P, T>, S>(&self.stack) {
             Some(inx) => inx.get(),
             None => 0,
         }
@@ -502,48 +387,6 @@ impl<P: Ptr, T, S: SetMaxCapacity<ArenaSlot<P, T>>> Slots<P, T, S> {
     }
 }
 
-// Makes the call at the values of two slots that have an entry.
-fn work_in_two<P: Ptr, T, R, C: PairCall<T, R>>(
-    first: &mut ArenaSlot<P, T>,
-    second: &mut ArenaSlot<P, T>,
-    call: C,
-) -> R
-    requires first { IsSome (entry_of P.Gen.number first.old) }
-    requires second { IsSome (entry_of P.Gen.number second.old) }
-    requires callable { MayWork C.calls call (value_of (entry_of P.Gen.number first.old))
-        (value_of (entry_of P.Gen.number second.old)) }
-    ensures { Worked C.calls call (value_of (entry_of P.Gen.number first.old))
-        (value_of (entry_of P.Gen.number second.old)) result
-        (λ x y. (first.new ≡ with_slot_value first.old x)
-        × (second.new ≡ with_slot_value second.old y)) }
-{
-    call.at(first.value_mut(), second.value_mut())
-}
-
-// Puts an item in the place of the one at an index, which it gives.
-pub(crate) fn replace<X, S: NonZeroInxGenericStack<X>>(stack: &mut S, inx: NonZeroUsize, x: X) -> X
-    requires { IsSome (item (S.items stack.old) (non_zero_usize_get inx)) }
-    ensures value { item (S.items stack.old) (non_zero_usize_get inx) ≡ Some result }
-    ensures stack { stack.new ≡ S.with_items stack.old
-        (with_item (S.items stack.old) (non_zero_usize_get inx) x) }
-{
-    let slot = stack.get_mut(inx).unwrap();
-    mem::replace(slot, x)
-}
-
-// Whether the last slot is free.
-fn has_free_end<P: Ptr, T, S: NonZeroInxGenericStack<ArenaSlot<P, T>>>(stack: &S) -> bool
-    ensures { result ≡ is_free (item (map (entry_of P.Gen.number) (S.items stack.now))
-        (length (map (entry_of P.Gen.number) (S.items stack.now)))) }
-{
-    let slots = stack.as_slice();
-    if slots.is_empty() {
-        return false;
-    }
-    let end = slots.len() - 1;
-    !slots[end].is_live()
-}
-
 // Pops the free slots at the end.
 fn pop_free_end<P: Ptr, T, S: NonZeroInxGenericStack<ArenaSlot<P, T>>>(stack: &mut S)
     ensures slots { map (entry_of P.Gen.number) (S.items stack.new)
@@ -554,22 +397,7 @@ fn pop_free_end<P: Ptr, T, S: NonZeroInxGenericStack<ArenaSlot<P, T>>>(stack: &m
     ensures room { S.room stack.new ≡ S.room stack.old }
     ensures limit { S.limit stack.new ≡ S.limit stack.old }
 {
-    'pops: while has_free_end(stack) {
-        stack.pop().unwrap().into_link();
-    }
-}
-
-// How many entries there are.
-fn count_live<P: Ptr, T, S: NonZeroInxGenericStack<ArenaSlot<P, T>>>(stack: &S) -> usize
-    ensures { result ≡ entry_count (map (entry_of P.Gen.number) (S.items stack.now)) }
-{
-    let mut count = 0;
-    'count: for slot in stack.as_slice() {
-        if slot.is_live() {
-            count += 1;
-        }
-    }
-    count
+    shorten::<P, T, ArenaSlot<P, T>, S>(stack, 0);
 }
 
 // Links the free slots in rising order, and gives the index of the first.

@@ -1,5 +1,5 @@
 //! Tests of cloning and transfer.
 
 mod cloning;
-mod states;
+mod on_two;
 mod transfer;

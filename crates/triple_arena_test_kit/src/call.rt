@@ -5,7 +5,7 @@ use triple_arena_ptr::Ptr;
 
 /// A call. A pointer is given by the numbers of its index and its generation, a new value by its
 /// number.
-#[derive(Clone, Copy, Debug, PartialEq)]
+#[derive(Clone, Copy)]
 pub enum Call {
     // of every arena, to read
     IsEmpty,
@@ -41,6 +41,9 @@ pub enum Call {
     NoSteps,
     AddToAll(u64),
     Drain(usize),
+    Compress(bool),
+    /// By a closure that makes 10000 v + 100 i + j of a value v that goes from index i to index j.
+    CompressTelling(bool),
     // of every arena, at two pointers or two indexes
     Swap((usize, u64), (usize, u64)),
     SwapInx(usize, usize),
@@ -70,12 +73,21 @@ pub enum Call {
     AddToEach(u64),
     AddToEachEntry(u64),
     AddToEachValue(u64),
-    // of an `Arena` over a stack whose limit can be set
+    // of an arena with direct insertion
+    DirectInsert(usize, u64, u64),
+    DirectInsertReserved(usize, u64, u64),
+    /// Of the first value, in whose place the second is written at once.
+    DirectInsertAndWrite(usize, u64, u64, u64),
+    /// A place that is asked for and let go.
+    DirectAsk(usize, u64),
+    CanDirectInsert(usize, u64),
+    PopFreeEnd(usize),
+    // of an arena over a stack whose limit can be set
     SetLimit(usize),
 }
 
 /// What a call needs of an arena.
-#[derive(Clone, Copy, Debug, PartialEq)]
+#[derive(Clone, Copy)]
 pub enum Kind {
     /// Any arena has it.
     OfAny,
@@ -89,6 +101,8 @@ pub enum Kind {
     Own,
     Entry,
     Writing,
+    /// Arenas with direct insertion have it.
+    Direct,
 }
 
 // Whether there is a pointer of these numbers.
@@ -118,7 +132,12 @@ impl Call {
             | Call::Invalidate(index, number)
             | Call::Remove(index, number)
             | Call::Index(index, number)
-            | Call::WriteIndex(index, number, _) => has_pointer::<P>(index, number),
+            | Call::WriteIndex(index, number, _)
+            | Call::DirectInsert(index, number, _)
+            | Call::DirectInsertReserved(index, number, _)
+            | Call::DirectInsertAndWrite(index, number, _, _)
+            | Call::DirectAsk(index, number)
+            | Call::CanDirectInsert(index, number) => has_pointer::<P>(index, number),
             Call::GetInx(index)
             | Call::GenerationAt(index)
             | Call::GetInxMut(index)
@@ -153,7 +172,9 @@ impl Call {
             | Call::StepsFrom(_, _)
             | Call::NoSteps
             | Call::AddToAll(_)
-            | Call::Drain(_) => Kind::Walk,
+            | Call::Drain(_)
+            | Call::Compress(_)
+            | Call::CompressTelling(_) => Kind::Walk,
             Call::Swap(_, _) | Call::SwapInx(_, _) | Call::Lend(_, _, _) | Call::LendInx(_, _, _) =>
                 { Kind::OfTwo }
             Call::Generation
@@ -177,6 +198,12 @@ impl Call {
             | Call::EntryInsertWithin(_)
             | Call::EntryWrite(_, _) => Kind::Entry,
             Call::AddToEach(_) | Call::AddToEachEntry(_) | Call::AddToEachValue(_) => Kind::Writing,
+            Call::DirectInsert(_, _, _)
+            | Call::DirectInsertReserved(_, _, _)
+            | Call::DirectInsertAndWrite(_, _, _, _)
+            | Call::DirectAsk(_, _)
+            | Call::CanDirectInsert(_, _)
+            | Call::PopFreeEnd(_) => Kind::Direct,
             _ => Kind::OfAny,
         }
     }

@@ -1,6 +1,6 @@
 //! The look-ups of an arena that have no refusal, each alone, and what it answers.
 
-ghost use Rattle.std.specs.Prelude.{◌≡◌, IsSome, Some};
+ghost use Rattle.std.specs.Prelude.{◌≡◌, ◌↔◌, IsSome, IsTrue, Some};
 ghost use Rattle.std.specs.Option.{option_map};
 ghost use Rattle.triple_arena.specs.ArenaState.{entry, look_up, with_value};
 
@@ -11,12 +11,32 @@ use triple_arena::{Arena, ArenaSlot, ArenaTrait};
 use triple_arena_ptr::{Ptr, PtrInx};
 use triple_arena_stack::NonZeroInxGenericStack;
 
+// Whether an entry stands at an index.
+fn has_entry<P: Ptr, T, S: NonZeroInxGenericStack<ArenaSlot<P, T>>>(
+    arena: &Arena<P, T, S>,
+    inx: P::Inx,
+) -> bool
+    ensures { IsTrue result ↔ IsSome (entry arena.now (P.Inx.number inx)) }
+{
+    arena.generation_at(inx).is_some()
+}
+
+// Whether a pointer is valid.
+fn is_valid<P: Ptr, T, S: NonZeroInxGenericStack<ArenaSlot<P, T>>>(
+    arena: &Arena<P, T, S>,
+    p: P,
+) -> bool
+    ensures { IsTrue result ↔ IsSome (look_up arena.now (P.numbers p)) }
+{
+    arena.contains(p)
+}
+
 /// The value at an index, if an entry stands there.
 pub fn get_inx_unwrap<P: Ptr, S: NonZeroInxGenericStack<ArenaSlot<P, Token>>>(
     arena: &Arena<P, Token, S>,
     inx: P::Inx,
 ) -> Told {
-    if arena.generation_at(inx).is_none() {
+    if !has_entry(arena, inx) {
         return Told::Nothing;
     }
     Told::Holds(arena.get_inx_unwrap(inx).number)
@@ -41,7 +61,7 @@ pub fn write_inx_unwrap<P: Ptr, S: NonZeroInxGenericStack<ArenaSlot<P, Token>>>(
     inx: P::Inx,
     number: u64,
 ) -> Told {
-    if arena.generation_at(inx).is_none() {
+    if !has_entry(arena, inx) {
         return Told::Nothing;
     }
     Told::Holds(exchange_at(arena, inx, Token { number }).number)
@@ -52,7 +72,7 @@ pub fn index<P: Ptr, S: NonZeroInxGenericStack<ArenaSlot<P, Token>>>(
     arena: &Arena<P, Token, S>,
     p: P,
 ) -> Told {
-    if !arena.contains(p) {
+    if !is_valid(arena, p) {
         return Told::Nothing;
     }
     Told::Holds(arena[p].number)
@@ -77,7 +97,7 @@ pub fn write_index<P: Ptr, S: NonZeroInxGenericStack<ArenaSlot<P, Token>>>(
     p: P,
     number: u64,
 ) -> Told {
-    if !arena.contains(p) {
+    if !is_valid(arena, p) {
         return Told::Nothing;
     }
     Told::Holds(exchange_under(arena, p, Token { number }).number)

@@ -28,7 +28,7 @@ pub use scarce_stack::Scarce;
 pub use state::{SLOTS, State, state_of};
 pub use tables::{
     Wrong, follow, follow_tidied, follow_to, follow_unchanged, has_state, has_text, is_told, step,
-    where_there_is_memory,
+    step_at, where_there_is_memory,
 };
 pub use tested_arena::{
     TestedArena, WithLimit, answer_of_any, answer_of_two, answer_to_insert, answer_to_read,
@@ -38,5 +38,6 @@ pub use token::Token;
 pub use told::{MET, Told};
 pub use trial::{
     Removed, Steps, Tidied, Trial, Unchanged, from_empty, on_fixed, on_heap, on_limited, on_little,
+    on_new,
 };
 pub use walk_calls::next_steps;

@@ -11,7 +11,7 @@ use triple_arena_stack::NonZeroInxGenericStack;
 pub const SLOTS: usize = 256;
 
 /// The whole state of an arena of no more than `SLOTS` slots.
-#[derive(Clone, Copy, Debug, PartialEq)]
+#[derive(Clone, Copy, PartialEq)]
 pub struct State {
     pub len: usize,
     pub capacity: usize,

@@ -8,14 +8,14 @@ use std::alloc;
 use std::alloc::Global;
 use triple_arena_base::AllocError;
 
-/// The first thing that a test found to be wrong.
-#[derive(Clone, Copy, Debug, PartialEq)]
+/// The first thing that a test found to be wrong, at this row of its table, counted from 0.
+#[derive(Clone, Copy, Debug)]
 pub enum Wrong {
-    /// A call told this, where another answer was expected.
-    Answer(Call, Told, Told),
-    /// After a call the arena was in this state, where another was expected.
-    State(Call, State, State),
-    /// The text of an arena was another one.
+    /// A call told the first, where the second was expected.
+    Answer(usize, Told, Told),
+    /// After a call the arena was in another state than was expected.
+    State(usize),
+    /// The text of an arena was another one than this.
     Text(&'static str),
     /// There was no memory for the arena.
     NoMemory,
@@ -41,22 +41,21 @@ pub fn where_there_is_memory(tried: Result<(), Wrong>) -> Result<(), Wrong> {
     }
 }
 
-/// That a call told what was expected.
-pub fn is_told(call: Call, told: Told, expected: Told) -> Result<(), Wrong> {
+/// That the call of this row told what was expected.
+pub fn is_told(row: usize, told: Told, expected: Told) -> Result<(), Wrong> {
     if told == expected {
         Ok(())
     } else {
-        Err(Wrong::Answer(call, told, expected))
+        Err(Wrong::Answer(row, told, expected))
     }
 }
 
-/// That an arena is in this state after a call.
-pub fn has_state<A: TestedArena>(arena: &A, call: Call, expected: &State) -> Result<(), Wrong> {
-    let state = arena.state();
-    if state == *expected {
+/// That an arena is in this state after the call of this row.
+pub fn has_state<A: TestedArena>(arena: &A, row: usize, expected: &State) -> Result<(), Wrong> {
+    if arena.state() == *expected {
         Ok(())
     } else {
-        Err(Wrong::State(call, state, *expected))
+        Err(Wrong::State(row))
     }
 }
 
@@ -73,16 +72,26 @@ pub fn has_text<A: TestedArena>(
     }
 }
 
+/// Makes the call of a row, and expects its answer.
+pub fn step_at<A: TestedArena>(
+    arena: &mut A,
+    row: usize,
+    call: Call,
+    expected: Told,
+) -> Result<(), Wrong> {
+    let told = arena.answer(call);
+    is_told(row, told, A::expected(expected))
+}
+
 /// Makes a call, and expects its answer.
 pub fn step<A: TestedArena>(arena: &mut A, call: Call, expected: Told) -> Result<(), Wrong> {
-    let told = arena.answer(call);
-    is_told(call, told, A::expected(expected))
+    step_at(arena, 0, call, expected)
 }
 
 /// Makes each call, and expects its answer.
 pub fn follow<A: TestedArena>(arena: &mut A, steps: &[(Call, Told)]) -> Result<(), Wrong> {
-    for (call, expected) in steps {
-        step(arena, *call, *expected)?;
+    for (row, (call, expected)) in steps.iter().enumerate() {
+        step_at(arena, row, *call, *expected)?;
     }
     Ok(())
 }
@@ -93,9 +102,9 @@ pub fn follow_to<A: TestedArena>(
     steps: &[(Call, Told)],
     state: &State,
 ) -> Result<(), Wrong> {
-    for (call, expected) in steps {
-        step(arena, *call, *expected)?;
-        has_state(arena, *call, state)?;
+    for (row, (call, expected)) in steps.iter().enumerate() {
+        step_at(arena, row, *call, *expected)?;
+        has_state(arena, row, state)?;
     }
     Ok(())
 }

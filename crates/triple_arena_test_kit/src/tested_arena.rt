@@ -97,6 +97,8 @@ where
         Call::NoSteps => walk_calls::no_steps(arena),
         Call::AddToAll(number) => walk_calls::add_to_all(arena, number),
         Call::Drain(steps) => walk_calls::drain(arena, steps),
+        Call::Compress(reset) => walk_calls::compress(arena, reset),
+        Call::CompressTelling(reset) => walk_calls::compress_telling(arena, reset),
         _ => Told::NoSuchCall,
     }
 }
@@ -185,49 +187,32 @@ where
     }
 }
 
-// What an `Arena` answers as any arena does: by itself, since a body that takes an arena as each of
-// four traits is slow to prove.
-fn any_answer<P: Ptr, S: NonZeroInxGenericStack<ArenaSlot<P, Token>>>(
-    arena: &mut Arena<P, Token, S>,
-    call: Call,
-) -> Told
+// What a call answers that stands in a trait of arenas.
+fn answer_by_traits<
+    P: Ptr,
+    A: ArenaInsertTrait<P, Token> + CompactArenaTrait<P, Token> + DisjointableArenaTrait<P, Token>,
+>(arena: &mut A, call: Call) -> Told
 where
     P::Gen: Numbered,
 {
-    answer_of_any(arena, call)
+    match call.kind() {
+        Kind::Insertion => answer_to_insert(arena, call),
+        Kind::Walk => answer_to_walk(arena, call),
+        Kind::OfTwo => answer_of_two(arena, call),
+        _ => answer_of_any(arena, call),
+    }
 }
 
-// The same of an insertion.
-fn insertion_answer<P: Ptr, S: NonZeroInxGenericStack<ArenaSlot<P, Token>>>(
+// The same of an `Arena`: the one body that takes it as those traits, since each such body is slow to
+// prove.
+fn trait_answer<P: Ptr, S: NonZeroInxGenericStack<ArenaSlot<P, Token>>>(
     arena: &mut Arena<P, Token, S>,
     call: Call,
 ) -> Told
 where
     P::Gen: Numbered,
 {
-    answer_to_insert(arena, call)
-}
-
-// The same of a walk.
-fn walk_answer<P: Ptr, S: NonZeroInxGenericStack<ArenaSlot<P, Token>>>(
-    arena: &mut Arena<P, Token, S>,
-    call: Call,
-) -> Told
-where
-    P::Gen: Numbered,
-{
-    answer_to_walk(arena, call)
-}
-
-// The same of two values.
-fn pair_answer<P: Ptr, S: NonZeroInxGenericStack<ArenaSlot<P, Token>>>(
-    arena: &mut Arena<P, Token, S>,
-    call: Call,
-) -> Told
-where
-    P::Gen: Numbered,
-{
-    answer_of_two(arena, call)
+    answer_by_traits(arena, call)
 }
 
 impl<P: Ptr, S: NonZeroInxGenericStack<ArenaSlot<P, Token>>> TestedArena for Arena<P, Token, S>
@@ -239,13 +224,11 @@ where
             return Told::NoSuchCall;
         }
         match call.kind() {
-            Kind::OfAny => any_answer(self, call),
-            Kind::Insertion => insertion_answer(self, call),
-            Kind::Walk => walk_answer(self, call),
-            Kind::OfTwo => pair_answer(self, call),
+            Kind::OfAny | Kind::Insertion | Kind::Walk | Kind::OfTwo => trait_answer(self, call),
             Kind::Own => own_answer(self, call),
             Kind::Entry => answer_of_entry(self, call),
             Kind::Writing => answer_to_write(self, call),
+            Kind::Direct => Told::NoSuchCall,
         }
     }
 

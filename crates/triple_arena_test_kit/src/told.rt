@@ -3,8 +3,8 @@
 use crate::numbered::{Numbered, index_number};
 use crate::token::Token;
 use triple_arena_base::{
-    GetDisjointMutError, InvalidationOption, InvalidationResult, NotWithinCapacityError,
-    ReallocationError,
+    DirectInsertionError, GetDisjointMutError, InvalidationOption, InvalidationResult,
+    NotWithinCapacityError, ReallocationError,
 };
 use triple_arena_ptr::Ptr;
 
@@ -48,6 +48,8 @@ pub enum Told {
     Refused(ReallocationError),
     /// The limit is below the last entry.
     LimitRefused,
+    /// Nothing was inserted under the pointer.
+    NotInserted(DirectInsertionError),
     /// Two values can't be lent.
     Apart(GetDisjointMutError),
     /// The first free indexes in the order in which insertion takes them, and then 0.

@@ -139,6 +139,18 @@ where
     trial.on(&mut WithLimit { arena })
 }
 
+/// Tries it on an arena as `new` makes it over the stack `S`, such as an array.
+pub fn on_new<P: Ptr, S: NonZeroInxGenericStack<ArenaSlot<P, Token>> + Drop, T: Trial>(
+    alloc: Global,
+    trial: &T,
+) -> Result<(), Wrong>
+where
+    P::Gen: Numbered,
+{
+    let mut arena: Arena<P, Token, S> = new_arena(alloc);
+    trial.on(&mut arena)
+}
+
 /// Follows a table on an arena as `new` makes it on the heap.
 pub fn from_empty<P: Ptr>(alloc: Global, steps: &[(Call, Told)]) -> Result<(), Wrong>
 where

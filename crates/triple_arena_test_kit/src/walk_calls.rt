@@ -2,7 +2,7 @@
 
 use crate::numbered::{Numbered, index_number};
 use crate::token::Token;
-use crate::told::{MET, Told};
+use crate::told::{MET, Told, told_raise};
 use triple_arena::CompactArenaTrait;
 use triple_arena_base::{Advancer, InvalidationOption};
 use triple_arena_ptr::Ptr;
@@ -151,4 +151,27 @@ where
         }
     }
     Told::Drained(met)
+}
+
+/// Compresses the arena, and tells whether the counter wrapped.
+pub fn compress<P: Ptr, A: CompactArenaTrait<P, Token>>(arena: &mut A, reset: bool) -> Told {
+    told_raise(arena.compress(reset))
+}
+
+// 10000 v + 100 i + j of a value v that goes from index i to index j.
+fn moved<P: Ptr>(from: P, token: Token, to: P) -> Token {
+    let old = (index_number(from.inx()) as u64).wrapping_mul(100);
+    let new = index_number(to.inx()) as u64;
+    let number = token.number.wrapping_mul(10_000);
+    Token {
+        number: number.wrapping_add(old).wrapping_add(new),
+    }
+}
+
+/// The same by a closure that is told each move, and makes of each value what `moved` makes.
+pub fn compress_telling<P: Ptr, A: CompactArenaTrait<P, Token>>(
+    arena: &mut A,
+    reset: bool,
+) -> Told {
+    told_raise(arena.compress_with(reset, |from, token, to| moved(from, token, to)))
 }

@@ -1,6 +1,7 @@
 //! What no clause of the arenas says of walks, entries, pairs, texts and drops: that their calls
 //! succeed, and worked examples.
 
+mod compression;
 mod drops;
 mod end_slots;
 mod entries;

@@ -1,80 +1,126 @@
 //! Transfer into an arena.
 
-use super::states::{insert_up_to, state_of};
-use std::num::NonZeroU64;
+use super::on_two::{OnTwo, transfers};
+use std::alloc::Global;
 use std::test::Fail;
-use triple_arena::{Arena, ArenaInsertTrait, ArenaSlot, ArenaTrait};
+use triple_arena::{Arena, ArenaSlot};
 use triple_arena_base::ReallocationError;
-use triple_arena_ptr::{P0, P5, Q2};
-use triple_arena_stack::NonZeroInxLimitedVec;
+use triple_arena_ptr::{P0, P5, Ptr, Q2};
+use triple_arena_stack::NonZeroInxGenericStack;
+use triple_arena_test_kit::{Call, Heap, Limited, Numbered, Token, Told, Wrong};
+
+const BEYOND: Told = Told::Refused(ReallocationError::BeyondMaxCapacity);
+
+const NO_MEMORY: Told = Told::Refused(ReallocationError::AllocError);
+
+// The calls on a source on the heap, and a target of this room over a stack.
+fn from_heap<Q: Ptr, S: NonZeroInxGenericStack<ArenaSlot<Q, Token>> + Drop>(
+    alloc: Global,
+    room: usize,
+    steps: &[(OnTwo, Told)],
+) -> Result<(), Wrong>
+where
+    Q::Gen: Numbered,
+{
+    transfers::<P0, Arena<P0, Token, Heap<P0>>, Q, S>(alloc, room, steps)
+}
 
 #[test]
 fn a_transfer_renumbers_and_empties_its_source(rt: HostRuntime) -> Result<(), Fail> {
-    let mut source: Arena<P0, &str> = Arena::new(rt.alloc());
-    let first = source.insert("a")?;
-    source.insert("b")?;
-    source.insert("c")?;
-    let _ = source.remove(first);
-    let mut target: Arena<Q2, &str> = Arena::new(rt.alloc());
-    let seven = NonZeroU64::MIN.saturating_add(6);
-    target.transfer_reallocating(seven, &mut source, |_old, taken, _new| taken.allow())?;
-    assert_eq!(rt;
-        state_of(rt.alloc(), &target)?.as_str(),
-        "{Q2[1](7): \"b\", Q2[2](7): \"c\"} 2 None 7 2"
-    );
-    assert!(rt; source.is_empty());
-    assert_eq!(rt; source.generation().get(), 5);
-    let p = source.insert("d")?;
-    assert_eq!(rt; format!(in rt.alloc(); "{p}")?.as_str(), "P0[2](5)");
+    from_heap::<Q2, Heap<Q2>>(
+        rt.alloc(),
+        0,
+        &[
+            (OnTwo::FillSource(3), Told::Done),
+            (OnTwo::Source(Call::Remove(1, 2)), Told::Holds(1)),
+            (OnTwo::Transfer(7), Told::Done),
+            (
+                OnTwo::Target(Call::Entries),
+                Told::Met([Some((1, 7, 2)), Some((2, 7, 3)), None]),
+            ),
+            (OnTwo::Target(Call::Slots), Told::Size(2)),
+            (OnTwo::Target(Call::Root), Told::Nothing),
+            (OnTwo::Target(Call::Generation), Told::Generation(7)),
+            (OnTwo::Target(Call::Bounds), Told::Bounds(2, 2, None)),
+            (OnTwo::Source(Call::IsEmpty), Told::Is(true)),
+            (OnTwo::Source(Call::Generation), Told::Generation(5)),
+            (OnTwo::Source(Call::Insert(4)), Told::At(2, 5)),
+        ],
+    )?;
     Ok(())
 }
 
 #[test]
 fn the_closure_is_told_each_removal(rt: HostRuntime) -> Result<(), Fail> {
-    let mut source: Arena<P0, u64> = Arena::new(rt.alloc());
-    insert_up_to(&mut source, 3)?;
-    source.set_generation(NonZeroU64::MAX);
-    let mut target: Arena<P0, u64> = Arena::new(rt.alloc());
-    insert_up_to(&mut target, 4)?;
-    let mut wraps = 0u64;
-    target.transfer_reallocating(NonZeroU64::MAX, &mut source, |_old, taken, _new| {
-        let (number, wrapped) = taken.overflowing();
-        if wrapped {
-            wraps = wraps.wrapping_add(number);
-        }
-        number
-    })?;
-    assert_eq!(rt; wraps, 1);
-    assert_eq!(rt; source.generation().get(), 4);
-    let state =
-        "{P0[1](ffffffffffffffff): 1, P0[2](ffffffffffffffff): 2, P0[3](ffffffffffffffff): 3} \
-        3 None 18446744073709551615 4";
-    assert_eq!(rt; state_of(rt.alloc(), &target)?.as_str(), state);
+    from_heap::<P0, Heap<P0>>(
+        rt.alloc(),
+        0,
+        &[
+            (OnTwo::FillSource(3), Told::Done),
+            (OnTwo::Source(Call::SetGeneration(u64::MAX)), Told::Done),
+            (OnTwo::FillTarget(4), Told::Done),
+            (OnTwo::Transfer(u64::MAX), Told::Done),
+            (OnTwo::Source(Call::Generation), Told::Generation(4)),
+            // the first removal alone wrapped
+            (
+                OnTwo::Target(Call::Entries),
+                Told::Met([
+                    Some((1, u64::MAX, 101)),
+                    Some((2, u64::MAX, 2)),
+                    Some((3, u64::MAX, 3)),
+                ]),
+            ),
+            (OnTwo::Target(Call::Slots), Told::Size(3)),
+            (OnTwo::Target(Call::Root), Told::Nothing),
+            (OnTwo::Target(Call::Generation), Told::Generation(u64::MAX)),
+            (OnTwo::Target(Call::Bounds), Told::Bounds(3, 4, None)),
+        ],
+    )?;
     Ok(())
 }
 
 #[test]
-fn a_refused_transfer_leaves_both(rt: HostRuntime) -> Result<(), Fail> {
-    let mut source: Arena<P0, u64> = Arena::new(rt.alloc());
-    insert_up_to(&mut source, 256)?;
-    let mut narrow: Arena<P5, u64> = Arena::new(rt.alloc());
-    insert_up_to(&mut narrow, 1)?;
-    let answer = narrow.transfer_reallocating((), &mut source, |_old, taken, _new| taken.allow());
-    assert!(rt; matches!(answer, Err(ReallocationError::AllocError)));
-    assert_eq!(rt;
-        state_of(rt.alloc(), &narrow)?.as_str(),
-        "{P5[1]: 1} 1 None () 4"
-    );
-    let mut limited: Arena<P0, u64, NonZeroInxLimitedVec<ArenaSlot<P0, u64>>> =
-        Arena::with_min_capacity(rt.alloc(), 3)?;
-    insert_up_to(&mut limited, 2)?;
-    let two = NonZeroU64::MIN.saturating_add(1);
-    let answer = limited.transfer_reallocating(two, &mut source, |_old, taken, _new| taken.allow());
-    assert!(rt; matches!(answer, Err(ReallocationError::BeyondMaxCapacity)));
-    assert_eq!(rt;
-        state_of(rt.alloc(), &limited)?.as_str(),
-        "{P0[1](2): 1, P0[2](2): 2} 2 None 2 3"
-    );
-    assert_eq!(rt; (source.len(), source.capacity()), (256, 256));
+fn a_transfer_past_the_indexes_leaves_both(rt: HostRuntime) -> Result<(), Fail> {
+    from_heap::<P5, Heap<P5>>(
+        rt.alloc(),
+        0,
+        &[
+            (OnTwo::FillSource(256), Told::Done),
+            (OnTwo::Target(Call::Insert(1)), Told::At(1, 1)),
+            (OnTwo::Transfer(1), NO_MEMORY),
+            (
+                OnTwo::Target(Call::Entries),
+                Told::Met([Some((1, 1, 1)), None, None]),
+            ),
+            (OnTwo::Target(Call::Slots), Told::Size(1)),
+            (OnTwo::Target(Call::Root), Told::Nothing),
+            (OnTwo::Target(Call::Generation), Told::Generation(1)),
+            (OnTwo::Target(Call::Bounds), Told::Bounds(1, 4, None)),
+            (OnTwo::Source(Call::Bounds), Told::Bounds(256, 256, None)),
+        ],
+    )?;
+    Ok(())
+}
+
+#[test]
+fn a_transfer_past_the_limit_leaves_both(rt: HostRuntime) -> Result<(), Fail> {
+    from_heap::<P0, Limited<P0>>(
+        rt.alloc(),
+        3,
+        &[
+            (OnTwo::FillSource(256), Told::Done),
+            (OnTwo::FillTarget(2), Told::Done),
+            (OnTwo::Transfer(2), BEYOND),
+            (
+                OnTwo::Target(Call::Entries),
+                Told::Met([Some((1, 2, 1)), Some((2, 2, 2)), None]),
+            ),
+            (OnTwo::Target(Call::Slots), Told::Size(2)),
+            (OnTwo::Target(Call::Root), Told::Nothing),
+            (OnTwo::Target(Call::Generation), Told::Generation(2)),
+            (OnTwo::Target(Call::Bounds), Told::Bounds(2, 3, Some(3))),
+            (OnTwo::Source(Call::Bounds), Told::Bounds(256, 256, None)),
+        ],
+    )?;
     Ok(())
 }

@@ -1,19 +1,19 @@
 //! The client's calls, on each of the four stacks.
 
-use super::calls::{Told, inx, told_lent, told_push, told_token};
+use super::calls::{Told, Wrong, inx, is_told, told_lent, told_push, told_token};
 use super::client::{
     Holding, Slot, empty, exchange, free, is_at_limit, made, overwrite, put, put_growing, put_over,
     reserve, take_last, take_value,
 };
 use super::token::Token;
 use std::alloc::Global;
-use std::process::Abort;
+use std::test::Fail;
 use triple_arena_stack::{
     ArrayStack, FixedStack, HeapStack, LimitedStack, NonZeroInxGenericStack, NonZeroInxStack,
 };
 
 // A call of the client; a token is given by its number, and an index by its number.
-#[derive(Clone, Copy, Debug)]
+#[derive(Clone, Copy)]
 enum Call {
     Put(u64),
     PutGrowing(u64),
@@ -69,28 +69,24 @@ fn told_reserve<S: NonZeroInxGenericStack<Slot<Token>>>(slots: &mut S, asked: us
 }
 
 // Makes a call.
-fn told<S: NonZeroInxGenericStack<Slot<Token>>>(
-    rt: &impl Abort,
-    holding: &mut Holding<S>,
-    call: Call,
-) -> Told {
+fn told<S: NonZeroInxGenericStack<Slot<Token>>>(holding: &mut Holding<S>, call: Call) -> Told {
     match call {
         Call::Put(number) => told_put(&mut holding.slots, number),
         Call::PutGrowing(number) => told_put_growing(&mut holding.slots, number),
         Call::PutOver(number, next) => told_put_over(&mut holding.slots, number, next),
         Call::Exchange(first, second) => {
-            told_lent(exchange(&mut holding.slots, inx(rt, first), inx(rt, second)))
+            told_lent(exchange(&mut holding.slots, inx(first), inx(second)))
         }
         Call::TakeValue(number, next) => {
-            told_token(take_value(&mut holding.slots, inx(rt, number), next))
+            told_token(take_value(&mut holding.slots, inx(number), next))
         }
         Call::Free(number, next) => {
-            free(&mut holding.slots, inx(rt, number), next);
+            free(&mut holding.slots, inx(number), next);
             Told::Nothing
         }
         Call::TakeLast => told_last(&mut holding.slots),
         Call::Overwrite(place, number) => {
-            Told::Is(overwrite(holding, inx(rt, place), Token { number }))
+            Told::Is(overwrite(holding, inx(place), Token { number }))
         }
         Call::Reserve(asked) => told_reserve(&mut holding.slots, asked),
         Call::Empty => {
@@ -102,29 +98,31 @@ fn told<S: NonZeroInxGenericStack<Slot<Token>>>(
     }
 }
 
-// Makes each call on slots with two places, and expects its answer.
+// Makes each call on slots with two places, and expects its answer, and at the end whether they are
+// at their limit.
 fn follow<K: NonZeroInxGenericStack<Slot<Token>> + Drop>(
-    rt: &impl Abort,
     alloc: Global,
+    at_limit: bool,
     steps: &[(Call, Told)],
-) {
+) -> Result<(), Wrong> {
     let mut holding: Holding<NonZeroInxStack<Slot<Token>, K>> = Holding {
         slots: made(alloc, 2),
     };
-    for (call, expected) in steps {
-        let answer = told(rt, &mut holding, *call);
-        assert_eq!(rt; answer, *expected, "at {call:?}");
+    for (place, (call, expected)) in steps.iter().enumerate() {
+        let answer = told(&mut holding, *call);
+        is_told(place, answer, *expected)?;
     }
+    let answer = told(&mut holding, Call::IsAtLimit);
+    is_told(steps.len(), answer, Told::Is(at_limit))
 }
 
 fn each_call<K: NonZeroInxGenericStack<Slot<Token>> + Drop>(
-    rt: &impl Abort,
     alloc: Global,
-    is_at_limit: bool,
-) {
+    at_limit: bool,
+) -> Result<(), Wrong> {
     follow::<K>(
-        rt,
         alloc,
+        at_limit,
         &[
             (Call::Put(1), Told::At(1)),
             (Call::PutGrowing(2), Told::At(2)),
@@ -140,12 +138,11 @@ fn each_call<K: NonZeroInxGenericStack<Slot<Token>> + Drop>(
             (Call::Reserve(2), Told::Size(2)),
             (Call::Empty, Told::Nothing),
             (Call::IsEmpty, Told::Is(true)),
-            (Call::IsAtLimit, Told::Is(is_at_limit)),
         ],
-    );
+    )?;
     follow::<K>(
-        rt,
         alloc,
+        at_limit,
         &[
             (Call::Overwrite(1, 5), Told::Is(false)),
             (Call::Put(6), Told::At(1)),
@@ -153,13 +150,14 @@ fn each_call<K: NonZeroInxGenericStack<Slot<Token>> + Drop>(
             (Call::TakeValue(1, 1), Told::Holds(7)),
             (Call::Overwrite(1, 8), Told::Is(false)),
         ],
-    );
+    )
 }
 
 #[test]
-fn the_client_on_each_stack(rt: HostRuntime) {
-    each_call::<HeapStack<Slot<Token>>>(&rt, rt.alloc(), false);
-    each_call::<LimitedStack<Slot<Token>>>(&rt, rt.alloc(), true);
-    each_call::<FixedStack<Slot<Token>>>(&rt, rt.alloc(), true);
-    each_call::<ArrayStack<Slot<Token>, 2>>(&rt, rt.alloc(), true);
+fn the_client_on_each_stack(rt: HostRuntime) -> Result<(), Fail> {
+    each_call::<HeapStack<Slot<Token>>>(rt.alloc(), false)?;
+    each_call::<LimitedStack<Slot<Token>>>(rt.alloc(), true)?;
+    each_call::<FixedStack<Slot<Token>>>(rt.alloc(), true)?;
+    each_call::<ArrayStack<Slot<Token>, 2>>(rt.alloc(), true)?;
+    Ok(())
 }

@@ -13,14 +13,26 @@ pub fn bounds_of<T, S: NonZeroInxGenericStack<T>>(stack: &S) -> (usize, usize, O
     (stack.len(), stack.capacity(), stack.max_capacity())
 }
 
-/// Whether the items of `stack` have just these numbers.
-pub fn has<S: NonZeroInxGenericStack<Token>>(stack: &S, numbers: &[u64]) -> bool {
+/// How many items of a stack are told.
+pub const ITEMS: usize = 6;
+
+// The number of an item, and 0 where there is none.
+fn number_of(token: Option<&Token>) -> u64 {
+    match token {
+        Some(token) => token.number,
+        None => 0,
+    }
+}
+
+/// The numbers of the first items, and 0 past the last. No test has an item of number 0, or more items
+/// than are told.
+pub fn items_of<S: NonZeroInxGenericStack<Token>>(stack: &S) -> [u64; ITEMS] {
     let tokens = stack.as_slice();
-    tokens.len() == numbers.len()
-        && tokens
-            .iter()
-            .zip(numbers)
-            .all(|(token, number)| token.number == *number)
+    let mut numbers = [0; ITEMS];
+    for place in 0..ITEMS {
+        numbers[place] = number_of(tokens.get(place));
+    }
+    numbers
 }
 
 /// Whether each item of `stack` has the number of its index.

@@ -6,8 +6,8 @@ use std::test::Fail;
 use triple_arena_base::ReallocationError;
 use triple_arena_ptr::{P0, P1, P2, P3, P4, P5, Ptr, PtrNoGen, Q2};
 use triple_arena_test_kit::{
-    B, Call, Narrow, Numbered, Places, TestedArena, Told, Trial, Wide, Wrong, follow, new_arena,
-    on_fixed, on_heap, on_limited, on_little,
+    B, Call, Narrow, Numbered, Places, TestedArena, Told, Trial, Wide, Wrong, follow, on_fixed,
+    on_heap, on_limited, on_little, on_new,
 };
 
 // Each call, on an arena with place for six and no entry.
@@ -97,9 +97,9 @@ fn each_own_call_over_each_stack_on_the_heap(rt: HostRuntime) -> Result<(), Fail
 
 #[test]
 fn each_own_call_over_an_array(rt: HostRuntime) -> Result<(), Fail> {
-    EachOwnCall.on(&mut new_arena::<P0, Places<P0, 6>>(rt.alloc()))?;
-    EachOwnCall.on(&mut new_arena::<P5, Places<P5, 6>>(rt.alloc()))?;
-    EachOwnCall.on(&mut new_arena::<Narrow, Places<Narrow, 6>>(rt.alloc()))?;
+    on_new::<P0, Places<P0, 6>, _>(rt.alloc(), &EachOwnCall)?;
+    on_new::<P5, Places<P5, 6>, _>(rt.alloc(), &EachOwnCall)?;
+    on_new::<Narrow, Places<Narrow, 6>, _>(rt.alloc(), &EachOwnCall)?;
     Ok(())
 }
 

@@ -8,7 +8,7 @@ use triple_arena_base::ReallocationError;
 use triple_arena_ptr::{P0, P1, P4, P5, Ptr, PtrNoGen};
 use triple_arena_test_kit::{
     B, Call, Heap, Narrow, Numbered, Places, Steps, TestedArena, Token, Told, Trial, Wide, Wrong,
-    follow, inx, new_arena, on_fixed, on_heap, on_limited, on_little, step,
+    follow, inx, is_told, on_fixed, on_heap, on_limited, on_little, on_new, step,
 };
 
 // Each call, on an arena with three places, this limit and no entry.
@@ -146,9 +146,9 @@ fn each_call_on_pointers_with_byte_generations(rt: HostRuntime) -> Result<(), Fa
 
 #[test]
 fn each_call_over_an_array(rt: HostRuntime) -> Result<(), Fail> {
-    UnderALimit.on(&mut new_arena::<P0, Places<P0, 3>>(rt.alloc()))?;
-    UnderALimit.on(&mut new_arena::<P5, Places<P5, 3>>(rt.alloc()))?;
-    UnderALimit.on(&mut new_arena::<Narrow, Places<Narrow, 3>>(rt.alloc()))?;
+    on_new::<P0, Places<P0, 3>, _>(rt.alloc(), &UnderALimit)?;
+    on_new::<P5, Places<P5, 3>, _>(rt.alloc(), &UnderALimit)?;
+    on_new::<Narrow, Places<Narrow, 3>, _>(rt.alloc(), &UnderALimit)?;
     Ok(())
 }
 
@@ -171,37 +171,45 @@ fn each_call_where_memory_is_refused(rt: HostRuntime) -> Result<(), Fail> {
     Ok(())
 }
 
-type WideArena = Arena<Wide, Token, Heap<Wide>>;
-
 // That an index, and a pointer of it, have no entry for any call that reads.
-fn reads_nothing(arena: &WideArena, inx: NonZeroU128, p: Wide) -> bool {
+fn reads_nothing<A: ArenaTrait<Wide, Token>>(arena: &A, inx: NonZeroU128, p: Wide) -> bool {
     arena.get_inx(inx).is_none() && arena.generation_at(inx).is_none() && arena.get(p).is_none()
 }
 
 // That they have none for any call that lends it for writing.
-fn lends_nothing(arena: &mut WideArena, inx: NonZeroU128, p: Wide) -> bool {
+fn lends_nothing<A: ArenaTrait<Wide, Token>>(arena: &mut A, inx: NonZeroU128, p: Wide) -> bool {
     arena.get_inx_mut(inx).is_none() && arena.get_mut(p).is_none()
 }
 
 // That they have none for any call that ends it.
-fn ends_nothing(arena: &mut WideArena, inx: NonZeroU128, p: Wide) -> bool {
+fn ends_nothing<A: ArenaTrait<Wide, Token>>(arena: &mut A, inx: NonZeroU128, p: Wide) -> bool {
     arena.remove_inx(inx).is_invalid()
         && arena.invalidate(p).is_invalid()
         && arena.remove(p).is_invalid()
 }
 
-#[test]
-fn an_index_past_64_bits_has_no_entry(rt: HostRuntime) -> Result<(), Fail> {
-    let mut arena: WideArena = new_arena(rt.alloc());
+// That this index has no entry for any call.
+fn has_nothing<A: ArenaTrait<Wide, Token>>(arena: &mut A, index: u128) -> bool {
+    let (Some(inx), Some(generation)) = (NonZeroU128::new(index), NonZeroU64::new(2)) else {
+        return false;
+    };
+    let p = Wide::_from_raw(inx, generation);
+    reads_nothing(arena, inx, p) && lends_nothing(arena, inx, p) && ends_nothing(arena, inx, p)
+}
+
+// That an arena with one entry has none past 64 bits.
+fn has_nothing_past_64_bits<A: ArenaTrait<Wide, Token> + TestedArena + Drop>(
+    alloc: Global,
+) -> Result<(), Wrong> {
+    let mut arena = A::new(alloc);
     follow(&mut arena, &[(Call::Insert(1), Told::At(1, 2))])?;
     // the first past 64 bits, and the one that is the entry's in the lower 64
-    for index in [1 << 64, (1 << 64) + 1, u128::MAX] {
-        if let (Some(inx), Some(generation)) = (NonZeroU128::new(index), NonZeroU64::new(2)) {
-            let p = Wide::_from_raw(inx, generation);
-            assert!(rt; reads_nothing(&arena, inx, p), "at {index}");
-            assert!(rt; lends_nothing(&mut arena, inx, p), "at {index}");
-            assert!(rt; ends_nothing(&mut arena, inx, p), "at {index}");
-        }
+    for (row, index) in [1 << 64, (1 << 64) + 1, u128::MAX].into_iter().enumerate() {
+        is_told(
+            row,
+            Told::Is(has_nothing(&mut arena, index)),
+            Told::Is(true),
+        )?;
     }
     follow(
         &mut arena,
@@ -209,7 +217,12 @@ fn an_index_past_64_bits_has_no_entry(rt: HostRuntime) -> Result<(), Fail> {
             (Call::Get(1, 2), Told::Holds(1)),
             (Call::Generation, Told::Generation(2)),
         ],
-    )?;
+    )
+}
+
+#[test]
+fn an_index_past_64_bits_has_no_entry(rt: HostRuntime) -> Result<(), Fail> {
+    has_nothing_past_64_bits::<Arena<Wide, Token, Heap<Wide>>>(rt.alloc())?;
     Ok(())
 }
 
@@ -255,6 +268,6 @@ fn a_new_arena_over_each_stack(rt: HostRuntime) -> Result<(), Fail> {
     let no_place = Steps(&[(Call::Bounds, Told::Bounds(0, 0, Some(0)))]);
     on_fixed::<P0, _>(rt.alloc(), None, &no_place)?;
     let eight_places = Steps(&[(Call::Bounds, Told::Bounds(0, 8, Some(8)))]);
-    eight_places.on(&mut new_arena::<P0, Places<P0, 8>>(rt.alloc()))?;
+    on_new::<P0, Places<P0, 8>, _>(rt.alloc(), &eight_places)?;
     Ok(())
 }

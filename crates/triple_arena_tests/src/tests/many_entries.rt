@@ -1,9 +1,10 @@
 //! Arenas of thousands of entries.
 
+use super::refused_memory::each_made;
 use std::test::Fail;
 use triple_arena_ptr::P0;
 use triple_arena_test_kit::{
-    Call, Heap, TestedArena, Told, Trial, Wrong, capacity_made, on_heap, on_limited, step,
+    Call, Heap, TestedArena, Told, Trial, Wrong, on_heap, on_limited, step,
 };
 
 // 5000 insertions in an arena without slots, the ends of every second, and as many insertions
@@ -40,7 +41,7 @@ fn thousands_of_entries(rt: HostRuntime) -> Result<(), Fail> {
 
 #[test]
 fn room_for_thousands(rt: HostRuntime) -> Result<(), Fail> {
-    assert_eq!(rt; capacity_made::<P0, Heap<P0>>(rt.alloc(), 5000), Ok(5000));
+    each_made::<P0, Heap<P0>>(rt.alloc(), &[(5000, Told::Size(5000))])?;
     let bounds = Told::Bounds(5000, 5000, Some(5000));
     on_limited::<P0, _>(rt.alloc(), Some(5000), &Thousands { bounds })?;
     Ok(())

@@ -3,11 +3,13 @@
 use super::refused_growth::RefusesGrowth;
 use std::alloc::Global;
 use std::test::Fail;
+use triple_arena::ArenaSlot;
 use triple_arena_base::{AllocError, ReallocationError};
 use triple_arena_ptr::{P0, P4, Ptr};
+use triple_arena_stack::NonZeroInxGenericStack;
 use triple_arena_test_kit::{
-    Call, Little, Narrow, Numbered, TestedArena, Told, Trial, Unchanged, Wrong, capacity_made,
-    follow, follow_tidied, on_little, step,
+    Call, Little, Narrow, Numbered, TestedArena, Token, Told, Trial, Unchanged, Wrong,
+    capacity_made, follow, follow_tidied, is_told, on_little, step,
 };
 
 const NO_MEMORY: Told = Told::Refused(ReallocationError::AllocError);
@@ -72,14 +74,33 @@ fn each_growth_that_memory_refuses(rt: HostRuntime) -> Result<(), Fail> {
     Ok(())
 }
 
+// The capacity of an arena that is made with this room, or what refuses it.
+fn told_made<P: Ptr, S: NonZeroInxGenericStack<ArenaSlot<P, Token>> + Drop>(
+    alloc: Global,
+    room: usize,
+) -> Told {
+    match capacity_made::<P, S>(alloc, room) {
+        Ok(capacity) => Told::Size(capacity),
+        Err(AllocError) => NO_MEMORY,
+    }
+}
+
+/// That arenas that are made with this room each have this capacity, or are refused so.
+pub fn each_made<P: Ptr, S: NonZeroInxGenericStack<ArenaSlot<P, Token>> + Drop>(
+    alloc: Global,
+    rows: &[(usize, Told)],
+) -> Result<(), Wrong> {
+    for (room, expected) in rows {
+        is_told(*room, told_made::<P, S>(alloc, *room), *expected)?;
+    }
+    Ok(())
+}
+
 #[test]
-fn a_constructor_past_the_memory(rt: HostRuntime) {
-    let none = capacity_made::<P0, Little<P0, 0>>(rt.alloc(), 1);
-    assert_eq!(rt; none, Err(AllocError));
-    let few = capacity_made::<P0, Little<P0, 4>>(rt.alloc(), 5);
-    assert_eq!(rt; few, Err(AllocError));
-    let enough = capacity_made::<P0, Little<P0, 4>>(rt.alloc(), 4);
-    assert_eq!(rt; enough, Ok(4));
+fn a_constructor_past_the_memory(rt: HostRuntime) -> Result<(), Fail> {
+    each_made::<P0, Little<P0, 0>>(rt.alloc(), &[(1, NO_MEMORY)])?;
+    each_made::<P0, Little<P0, 4>>(rt.alloc(), &[(5, NO_MEMORY), (4, Told::Size(4))])?;
+    Ok(())
 }
 
 // Removals from eight entries, and reallocations that are refused.

@@ -1,15 +1,17 @@
 //! What refused calls leave: the whole state before and after each.
 
+use super::refused_memory::each_made;
+use std::alloc::Global;
 use std::mem;
 use std::test::Fail;
 use triple_arena::{Arena, ArenaSlot, ArenaTrait};
-use triple_arena_base::{AllocError, ReallocationError};
+use triple_arena_base::ReallocationError;
 use triple_arena_ptr::P0;
 use triple_arena_stack::NonZeroInxGenericStack;
 use triple_arena_test_kit::{
-    Call, Fixed, Heap, Limited, Places, State, Steps, TestedArena, Told, Trial, Unchanged, Wrong,
-    capacity_made, follow, follow_tidied, has_state, is_told, new_arena, on_fixed, on_heap,
-    on_limited, step, where_there_is_memory,
+    Call, Fixed, Heap, Limited, Places, State, Steps, TestedArena, Token, Told, Trial, Unchanged,
+    Wrong, follow, follow_tidied, has_state, is_told, on_fixed, on_heap, on_limited, on_new, step,
+    where_there_is_memory,
 };
 
 // More slots than a vector may hold.
@@ -20,18 +22,20 @@ type Long = [u64; 1 << 59];
 
 const NO_MEMORY: Told = Told::Refused(ReallocationError::AllocError);
 
+// An arena with too much room isn't made.
+fn too_many<S: NonZeroInxGenericStack<ArenaSlot<P0, Token>> + Drop>(
+    alloc: Global,
+) -> Result<(), Wrong> {
+    each_made::<P0, S>(alloc, &[(TOO_MANY, NO_MEMORY), (usize::MAX, NO_MEMORY)])
+}
+
 #[test]
-fn a_constructor_tells_of_no_memory(rt: HostRuntime) {
-    for room in [TOO_MANY, usize::MAX] {
-        let heap = capacity_made::<P0, Heap<P0>>(rt.alloc(), room);
-        assert_eq!(rt; heap, Err(AllocError), "at {room}");
-        let limited = capacity_made::<P0, Limited<P0>>(rt.alloc(), room);
-        assert_eq!(rt; limited, Err(AllocError), "at {room}");
-        let fixed = capacity_made::<P0, Fixed<P0>>(rt.alloc(), room);
-        assert_eq!(rt; fixed, Err(AllocError), "at {room}");
-    }
-    let array = capacity_made::<P0, Places<P0, 3>>(rt.alloc(), 4);
-    assert_eq!(rt; array, Err(AllocError));
+fn a_constructor_tells_of_no_memory(rt: HostRuntime) -> Result<(), Fail> {
+    too_many::<Heap<P0>>(rt.alloc())?;
+    too_many::<Limited<P0>>(rt.alloc())?;
+    too_many::<Fixed<P0>>(rt.alloc())?;
+    each_made::<P0, Places<P0, 3>>(rt.alloc(), &[(4, NO_MEMORY)])?;
+    Ok(())
 }
 
 // Two reallocations of an arena that is allowed any number of slots. Each is refused, and puts the
@@ -220,45 +224,49 @@ fn insertion(number: u64) -> Call {
 // Inserts a token. Only a full arena may refuse it, and then stays as it is.
 fn insert_next<A: TestedArena>(arena: &mut A, number: u64) -> Result<(), Wrong> {
     let before = arena.state();
-    let call = insertion(number);
-    let told = arena.answer(call);
+    let told = arena.answer(insertion(number));
     if let Told::At(index, generation) = told {
         return step(arena, Call::Get(index, generation), Told::Holds(number));
     }
     let full = Told::Bounds(before.capacity, before.capacity, before.limit);
     step(arena, Call::Bounds, full)?;
     let refused = refusal_under(before.limit, before.capacity.saturating_add(1));
-    is_told(call, told, refused)?;
-    has_state(arena, call, &before)
+    is_told(0, told, refused)?;
+    has_state(arena, 0, &before)
 }
 
 // Reallocates, which puts the free list in order, refused or not.
 fn reallocate<A: TestedArena>(arena: &mut A, asked: usize) -> Result<(), Wrong> {
     let before = arena.state().in_order();
-    let call = Call::Reallocate(asked);
-    let told = arena.answer(call);
+    let told = arena.answer(Call::Reallocate(asked));
     if told == Told::Done {
         let capacity = arena.state().capacity;
         let expected = State { capacity, ..before };
-        has_state(arena, call, &expected)?;
-        is_told(call, Told::Is(capacity >= asked), Told::Is(true))
+        has_state(arena, asked, &expected)?;
+        is_told(asked, Told::Is(capacity >= asked), Told::Is(true))
     } else {
-        is_told(call, told, refusal_under(before.limit, asked))?;
-        has_state(arena, call, &before)
+        is_told(asked, told, refusal_under(before.limit, asked))?;
+        has_state(arena, asked, &before)
     }
 }
 
 // Removes the first entry and renews the last, where there are entries.
 fn end_first_and_renew_last<A: TestedArena>(arena: &mut A) -> Result<(), Wrong> {
     if let Told::At(index, generation) = arena.answer(Call::First) {
-        let call = Call::Remove(index, generation);
-        let removed = matches!(arena.answer(call), Told::Holds(_));
-        is_told(call, Told::Is(removed), Told::Is(true))?;
+        let told = arena.answer(Call::Remove(index, generation));
+        is_told(
+            index,
+            Told::Is(matches!(told, Told::Holds(_))),
+            Told::Is(true),
+        )?;
     }
     if let Told::At(index, generation) = arena.answer(Call::Last) {
-        let call = Call::Invalidate(index, generation);
-        let renewed = matches!(arena.answer(call), Told::At(_, _));
-        is_told(call, Told::Is(renewed), Told::Is(true))?;
+        let told = arena.answer(Call::Invalidate(index, generation));
+        is_told(
+            index,
+            Told::Is(matches!(told, Told::At(_, _))),
+            Told::Is(true),
+        )?;
     }
     Ok(())
 }
@@ -298,19 +306,32 @@ fn each_refusal_under_a_limit_leaves_the_arena_as_it_was(rt: HostRuntime) -> Res
 fn each_refusal_of_fixed_room_and_arrays_leaves_the_arena_as_it_was(
     rt: HostRuntime,
 ) -> Result<(), Fail> {
-    WhateverIsRefused.on(&mut new_arena::<P0, Places<P0, 8>>(rt.alloc()))?;
+    on_new::<P0, Places<P0, 8>, _>(rt.alloc(), &WhateverIsRefused)?;
     let tried = on_fixed::<P0, _>(rt.alloc(), Some(5), &WhateverIsRefused);
     where_there_is_memory(tried)?;
     Ok(())
 }
 
+// Without room an arena has none.
+fn no_room<S: NonZeroInxGenericStack<ArenaSlot<P0, Token>> + Drop>(
+    alloc: Global,
+) -> Result<(), Wrong> {
+    each_made::<P0, S>(alloc, &[(0, Told::Size(0))])
+}
+
 #[test]
-fn constructors_that_take_no_memory(rt: HostRuntime) {
-    assert_eq!(rt; capacity_made::<P0, Heap<P0>>(rt.alloc(), 0), Ok(0));
-    assert_eq!(rt; capacity_made::<P0, Limited<P0>>(rt.alloc(), 0), Ok(0));
-    assert_eq!(rt; capacity_made::<P0, Fixed<P0>>(rt.alloc(), 0), Ok(0));
-    for room in 0..4 {
-        let array = capacity_made::<P0, Places<P0, 3>>(rt.alloc(), room);
-        assert_eq!(rt; array, Ok(3), "at {room}");
-    }
+fn constructors_that_take_no_memory(rt: HostRuntime) -> Result<(), Fail> {
+    no_room::<Heap<P0>>(rt.alloc())?;
+    no_room::<Limited<P0>>(rt.alloc())?;
+    no_room::<Fixed<P0>>(rt.alloc())?;
+    each_made::<P0, Places<P0, 3>>(
+        rt.alloc(),
+        &[
+            (0, Told::Size(3)),
+            (1, Told::Size(3)),
+            (2, Told::Size(3)),
+            (3, Told::Size(3)),
+        ],
+    )?;
+    Ok(())
 }

@@ -1,14 +1,19 @@
 //! Worked sequences of calls.
 
+use super::refused_memory::each_made;
 use std::alloc::Global;
 use std::test::Fail;
 use triple_arena::ArenaSlot;
-use triple_arena_base::{AllocError, ReallocationError};
+use triple_arena_base::ReallocationError;
 use triple_arena_ptr::{P0, P4, P5};
 use triple_arena_test_kit::{
-    Call, Heap, Steps, TestedArena, Token, Told, Trial, Wrong, capacity_made, follow, from_empty,
-    on_heap, on_limited, step,
+    Call, Heap, Steps, TestedArena, Token, Told, Trial, Wrong, follow, from_empty, on_heap,
+    on_limited, step,
 };
+
+const BEYOND: Told = Told::Refused(ReallocationError::BeyondMaxCapacity);
+
+const NO_MEMORY: Told = Told::Refused(ReallocationError::AllocError);
 
 #[test]
 fn a_removed_pointer_finds_nothing_again(rt: HostRuntime) -> Result<(), Fail> {
@@ -50,12 +55,11 @@ fn a_removal_at_the_end_pops_the_slot(rt: HostRuntime) -> Result<(), Fail> {
 
 #[test]
 fn a_new_limited_arena_takes_no_entry(rt: HostRuntime) -> Result<(), Fail> {
-    let beyond = Told::Refused(ReallocationError::BeyondMaxCapacity);
     on_limited::<P0, _>(
         rt.alloc(),
         None,
         &Steps(&[
-            (Call::Insert(1), beyond),
+            (Call::Insert(1), BEYOND),
             (Call::Bounds, Told::Bounds(0, 0, Some(0))),
         ]),
     )?;
@@ -283,14 +287,13 @@ impl Trial for UpTo255 {
             let bounds = Told::Bounds(number, grown_capacity(number), None);
             step(arena, Call::Bounds, bounds)?;
         }
-        let refused = Told::Refused(ReallocationError::AllocError);
         let full = Told::Bounds(255, 255, None);
-        step(arena, Call::Insert(256), refused)?;
+        step(arena, Call::Insert(256), NO_MEMORY)?;
         step(arena, Call::Bounds, full)?;
         for number in 1..256 {
             step(arena, Call::Get(number, 1), Told::Holds(number as u64))?;
         }
-        step(arena, Call::Reallocate(256), refused)?;
+        step(arena, Call::Reallocate(256), NO_MEMORY)?;
         step(arena, Call::Bounds, full)
     }
 }
@@ -298,10 +301,7 @@ impl Trial for UpTo255 {
 #[test]
 fn a_byte_index_ends_at_255(rt: HostRuntime) -> Result<(), Fail> {
     on_heap::<P5, _>(rt.alloc(), None, &UpTo255)?;
-    let made = capacity_made::<P5, Heap<P5>>(rt.alloc(), 256);
-    assert_eq!(rt; made, Err(AllocError));
-    let made = capacity_made::<P5, Heap<P5>>(rt.alloc(), 255);
-    assert_eq!(rt; made, Ok(255));
+    each_made::<P5, Heap<P5>>(rt.alloc(), &[(256, NO_MEMORY), (255, Told::Size(255))])?;
     Ok(())
 }
 

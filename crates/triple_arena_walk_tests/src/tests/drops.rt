@@ -2,12 +2,12 @@
 
 use std::alloc::Global;
 use std::cell::Cell;
-use std::process::Abort;
+use std::test::Fail;
 use triple_arena::{Arena, ArenaInsertEntryTrait, ArenaInsertTrait, ArenaSlot, ArenaTrait};
-use triple_arena_base::AllocError;
 use triple_arena_ptr::{P0, Ptr};
 use triple_arena_stack::{
-    NonZeroInxArray, NonZeroInxBoxedSlice, NonZeroInxLimitedVec, NonZeroInxVec, SetMaxCapacity,
+    NonZeroInxArray, NonZeroInxBoxedSlice, NonZeroInxGenericStack, NonZeroInxLimitedVec,
+    NonZeroInxVec, SetMaxCapacity,
 };
 use triple_arena_test_kit::{Scarce, pointer};
 
@@ -27,36 +27,34 @@ fn new_value(drops: &Cell<u64>) -> Counted<'_> {
     Counted { drops }
 }
 
-type Slot<'a> = ArenaSlot<P0, Counted<'a>>;
-
-type Over<'a, S> = Arena<P0, Counted<'a>, S>;
-
-// An arena with three places.
-fn with_three_places<'a, A: ArenaTrait<P0, Counted<'a>>>(rt: &impl Abort, alloc: Global) -> A {
-    match A::with_min_capacity(alloc, 3) {
-        Ok(arena) => arena,
-        Err(AllocError) => panic!(rt; "no memory"),
-    }
+// What first differed: the step of this place, from 0, with its answer and the drops after it.
+#[derive(Debug, Drop)]
+enum Wrong {
+    Step(usize, bool, u64),
+    AtEnd(u64),
+    NoMemory,
 }
 
-// The pointer of a new value that takes a place.
-fn inserted<'a, A: ArenaInsertTrait<P0, Counted<'a>>>(
-    rt: &impl Abort,
-    arena: &mut A,
-    drops: &'a Cell<u64>,
-) -> P0 {
-    match arena.insert_within_capacity(new_value(drops)) {
-        Ok(p) => p,
-        Err(_) => panic!(rt; "there is a place"),
-    }
+// A call, which answers whether it was done. A pointer is given by the numbers of its index and its
+// generation.
+#[derive(Clone, Copy)]
+enum Call {
+    Insert,
+    InsertReallocating,
+    InsertWithin,
+    Write(usize, u64),
+    Renew(usize, u64),
+    Remove(usize, u64),
+    RemoveInx(usize),
+    Reallocate(usize),
+    Clear,
 }
 
-// Whether an insertion succeeds.
+// Whether a new value is inserted, by each call.
 fn inserts<'a, A: ArenaInsertTrait<P0, Counted<'a>>>(arena: &mut A, drops: &'a Cell<u64>) -> bool {
     arena.insert(new_value(drops)).is_ok()
 }
 
-// Whether an insertion that may grow the arena succeeds.
 fn inserts_reallocating<'a, A: ArenaInsertTrait<P0, Counted<'a>>>(
     arena: &mut A,
     drops: &'a Cell<u64>,
@@ -64,7 +62,6 @@ fn inserts_reallocating<'a, A: ArenaInsertTrait<P0, Counted<'a>>>(
     arena.insert_reallocating(new_value(drops)).is_ok()
 }
 
-// Whether an insertion within the capacity succeeds.
 fn inserts_within<'a, A: ArenaInsertTrait<P0, Counted<'a>>>(
     arena: &mut A,
     drops: &'a Cell<u64>,
@@ -72,113 +69,157 @@ fn inserts_within<'a, A: ArenaInsertTrait<P0, Counted<'a>>>(
     arena.insert_within_capacity(new_value(drops)).is_ok()
 }
 
-// Writes a new value over the one under a pointer.
-fn write<'a, A: ArenaTrait<P0, Counted<'a>>>(arena: &mut A, p: P0, drops: &'a Cell<u64>) {
-    if let Some(value) = arena.get_mut(p) {
-        *value = new_value(drops);
+// Writes a new value over the one under a pointer, if there is one.
+fn writes<'a, A: ArenaTrait<P0, Counted<'a>>>(arena: &mut A, p: P0, drops: &'a Cell<u64>) -> bool {
+    match arena.get_mut(p) {
+        Some(value) => {
+            *value = new_value(drops);
+            true
+        }
+        None => false,
     }
 }
 
-// How many drops there are while a removed value is held, and once it is let go.
-fn removed<'a, A: ArenaTrait<P0, Counted<'a>>>(
-    arena: &mut A,
-    p: P0,
-    drops: &Cell<u64>,
-) -> (u64, u64) {
+// Takes a value out and lets it go: whether there was one that wasn't dropped before.
+fn removes<'a, A: ArenaTrait<P0, Counted<'a>>>(arena: &mut A, p: P0, drops: &Cell<u64>) -> bool {
+    let before = drops.get();
     let taken = arena.remove(p);
-    let held = drops.get();
+    let is_held = !taken.is_invalid() && drops.get() == before;
     drop(taken);
-    (held, drops.get())
+    is_held
 }
 
 // The same of a removal by index.
-fn removed_inx<'a, A: ArenaTrait<P0, Counted<'a>>>(
+fn removes_inx<'a, A: ArenaTrait<P0, Counted<'a>>>(
     arena: &mut A,
     p: P0,
     drops: &Cell<u64>,
-) -> (u64, u64) {
+) -> bool {
+    let before = drops.get();
     let taken = arena.remove_inx(p.inx());
-    let held = drops.get();
+    let is_held = !taken.is_invalid() && drops.get() == before;
     drop(taken);
-    (held, drops.get())
+    is_held
 }
 
-// Whether a pointer was renewed.
-fn renewed<'a, A: ArenaTrait<P0, Counted<'a>>>(arena: &mut A, p: P0) -> bool {
+// Whether a pointer was renewed without a wrap.
+fn renews<'a, A: ArenaTrait<P0, Counted<'a>>>(arena: &mut A, p: P0) -> bool {
     arena.invalidate(p).is_success()
 }
 
-// Whether the arena keeps its room.
-fn reallocated<'a, A: ArenaTrait<P0, Counted<'a>>>(arena: &mut A, room: usize) -> bool {
+// Whether the arena has this room.
+fn reallocates<'a, A: ArenaTrait<P0, Counted<'a>>>(arena: &mut A, room: usize) -> bool {
     arena.reallocate_min_capacity(room).is_ok()
 }
 
 // Whether the arena was cleared without a wrap.
-fn cleared<'a, A: ArenaTrait<P0, Counted<'a>>>(arena: &mut A) -> bool {
+fn clears<'a, A: ArenaTrait<P0, Counted<'a>>>(arena: &mut A) -> bool {
     arena.clear().is_success()
 }
 
-// The calls that end entries or write over a value, and the drop of the arena, on an arena with
-// three places and no entry.
+// Makes a call.
+fn is_done<'a, A: ArenaInsertTrait<P0, Counted<'a>>>(
+    arena: &mut A,
+    drops: &'a Cell<u64>,
+    call: Call,
+) -> bool {
+    match call {
+        Call::Insert => inserts(arena, drops),
+        Call::InsertReallocating => inserts_reallocating(arena, drops),
+        Call::InsertWithin => inserts_within(arena, drops),
+        Call::Write(i, g) => writes(arena, pointer(i, g), drops),
+        Call::Renew(i, g) => renews(arena, pointer(i, g)),
+        Call::Remove(i, g) => removes(arena, pointer(i, g), drops),
+        Call::RemoveInx(i) => removes_inx(arena, pointer(i, 2), drops),
+        Call::Reallocate(room) => reallocates(arena, room),
+        Call::Clear => clears(arena),
+    }
+}
+
+// Makes each call, and expects its answer and so many drops after it.
+fn follow<'a, A: ArenaInsertTrait<P0, Counted<'a>>>(
+    arena: &mut A,
+    drops: &'a Cell<u64>,
+    steps: &[(Call, bool, u64)],
+) -> Result<(), Wrong> {
+    for (place, (call, expected, after)) in steps.iter().enumerate() {
+        let told = is_done(arena, drops, *call);
+        if told != *expected || drops.get() != *after {
+            return Err(Wrong::Step(place, told, drops.get()));
+        }
+    }
+    Ok(())
+}
+
+// That there were so many drops once an arena is dropped.
+fn at_end(drops: &Cell<u64>, expected: u64) -> Result<(), Wrong> {
+    if drops.get() == expected {
+        Ok(())
+    } else {
+        Err(Wrong::AtEnd(drops.get()))
+    }
+}
+
+// The calls that end entries or write over a value, and the drop of the arena, on an arena with three
+// places and no entry.
 fn each_drop<'a, A: ArenaInsertTrait<P0, Counted<'a>> + Drop>(
-    rt: &impl Abort,
     mut arena: A,
     drops: &'a Cell<u64>,
-) {
-    let first = inserted(rt, &mut arena, drops);
-    let second = inserted(rt, &mut arena, drops);
-    let third = inserted(rt, &mut arena, drops);
-    assert_eq!(rt; drops.get(), 0);
-    write(&mut arena, first, drops);
-    assert_eq!(rt; drops.get(), 1, "a value that is written over");
-    assert!(rt; renewed(&mut arena, third));
-    assert_eq!(rt;
-        removed(&mut arena, third, drops),
-        (1, 1),
-        "an invalid pointer"
-    );
-    assert_eq!(rt;
-        removed(&mut arena, second, drops),
-        (1, 2),
-        "a value that is removed"
-    );
-    assert_eq!(rt;
-        removed_inx(&mut arena, first, drops),
-        (2, 3),
-        "a value that is removed by index"
-    );
-    assert!(rt; inserts_reallocating(&mut arena, drops));
-    assert!(rt; reallocated(&mut arena, 3));
-    assert_eq!(rt; drops.get(), 3);
-    assert!(rt; cleared(&mut arena));
-    assert_eq!(rt; drops.get(), 5, "the values that are cleared");
-    assert!(rt; cleared(&mut arena));
-    assert!(rt; inserts(&mut arena, drops));
-    assert!(rt; inserts(&mut arena, drops));
-    assert_eq!(rt; drops.get(), 5);
+) -> Result<(), Wrong> {
+    follow(
+        &mut arena,
+        drops,
+        &[
+            (Call::InsertWithin, true, 0),
+            (Call::InsertWithin, true, 0),
+            (Call::InsertWithin, true, 0),
+            // a value that is written over
+            (Call::Write(1, 2), true, 1),
+            (Call::Renew(3, 2), true, 1),
+            // an invalid pointer
+            (Call::Remove(3, 2), false, 1),
+            // a value that is removed, and one by index
+            (Call::Remove(2, 2), true, 2),
+            (Call::RemoveInx(1), true, 3),
+            (Call::InsertReallocating, true, 3),
+            (Call::Reallocate(3), true, 3),
+            // the values that are cleared
+            (Call::Clear, true, 5),
+            (Call::Clear, true, 5),
+            (Call::Insert, true, 5),
+            (Call::Insert, true, 5),
+        ],
+    )?;
     drop(arena);
-    assert_eq!(rt; drops.get(), 7, "the values of an arena that is dropped");
+    // the values of an arena that is dropped
+    at_end(drops, 7)
 }
 
 // Values that are refused by an arena with three places, no entry and no way to grow.
 fn each_refused_drop<'a, A: ArenaInsertTrait<P0, Counted<'a>> + Drop>(
-    rt: &impl Abort,
     mut arena: A,
     drops: &'a Cell<u64>,
-) {
-    for _ in 0..3 {
-        assert!(rt; inserts(&mut arena, drops));
-    }
-    assert_eq!(rt; drops.get(), 0);
-    assert!(rt; !inserts_within(&mut arena, drops));
-    assert_eq!(rt; drops.get(), 1, "a value that the capacity refuses");
-    assert!(rt; !inserts_reallocating(&mut arena, drops));
-    assert_eq!(rt; drops.get(), 2, "a value that growth refuses");
-    assert!(rt; !inserts(&mut arena, drops));
-    assert_eq!(rt; drops.get(), 3, "a value that an insertion refuses");
+) -> Result<(), Wrong> {
+    follow(
+        &mut arena,
+        drops,
+        &[
+            (Call::Insert, true, 0),
+            (Call::Insert, true, 0),
+            (Call::Insert, true, 0),
+            // a value that the capacity refuses, that growth refuses, and that an insertion refuses
+            (Call::InsertWithin, false, 1),
+            (Call::InsertReallocating, false, 2),
+            (Call::Insert, false, 3),
+        ],
+    )?;
     drop(arena);
-    assert_eq!(rt; drops.get(), 6);
+    at_end(drops, 6)
 }
+
+type Slot<'a> = ArenaSlot<P0, Counted<'a>>;
+
+type Over<'a, S> = Arena<P0, Counted<'a>, S>;
 
 type OnHeap<'a> = Over<'a, NonZeroInxVec<Slot<'a>>>;
 
@@ -190,50 +231,45 @@ type InArray<'a> = Over<'a, NonZeroInxArray<Slot<'a>, 3>>;
 
 type InLittle<'a> = Over<'a, Scarce<Slot<'a>, 3>>;
 
-// Each drop on an arena of a kind.
+// Each drop on an arena of a kind, with three places.
 fn each_on<'a, A: ArenaInsertTrait<P0, Counted<'a>> + Drop>(
-    rt: &impl Abort,
     alloc: Global,
     drops: &'a Cell<u64>,
-) {
-    let arena: A = with_three_places(rt, alloc);
-    each_drop(rt, arena, drops);
+) -> Result<(), Wrong> {
+    drops.set(0);
+    match A::with_min_capacity(alloc, 3) {
+        Ok(arena) => each_drop(arena, drops),
+        Err(_) => Err(Wrong::NoMemory),
+    }
 }
 
 // The same on an arena of a kind that has no way to grow, and each value that is refused.
 fn each_on_limited<'a, A: ArenaInsertTrait<P0, Counted<'a>> + Drop>(
-    rt: &impl Abort,
     alloc: Global,
     drops: &'a Cell<u64>,
-) {
-    each_on::<A>(rt, alloc, drops);
+) -> Result<(), Wrong> {
+    each_on::<A>(alloc, drops)?;
     drops.set(0);
-    let arena: A = with_three_places(rt, alloc);
-    each_refused_drop(rt, arena, drops);
+    match A::with_min_capacity(alloc, 3) {
+        Ok(arena) => each_refused_drop(arena, drops),
+        Err(_) => Err(Wrong::NoMemory),
+    }
 }
 
 #[test]
-fn a_value_on_the_heap_is_dropped_once(rt: HostRuntime) {
+fn a_value_on_the_heap_is_dropped_once(rt: HostRuntime) -> Result<(), Fail> {
     let drops = Cell::new(0);
-    each_on::<OnHeap<'_>>(&rt, rt.alloc(), &drops);
+    each_on::<OnHeap<'_>>(rt.alloc(), &drops)?;
+    Ok(())
 }
 
 #[test]
-fn a_value_under_a_limit_is_dropped_once(rt: HostRuntime) {
+fn a_value_under_a_limit_is_dropped_once(rt: HostRuntime) -> Result<(), Fail> {
     let drops = Cell::new(0);
-    each_on_limited::<OnLimited<'_>>(&rt, rt.alloc(), &drops);
-}
-
-#[test]
-fn a_value_in_fixed_room_is_dropped_once(rt: HostRuntime) {
-    let drops = Cell::new(0);
-    each_on_limited::<OnFixed<'_>>(&rt, rt.alloc(), &drops);
-}
-
-#[test]
-fn a_value_in_an_array_is_dropped_once(rt: HostRuntime) {
-    let drops = Cell::new(0);
-    each_on_limited::<InArray<'_>>(&rt, rt.alloc(), &drops);
+    each_on_limited::<OnLimited<'_>>(rt.alloc(), &drops)?;
+    each_on_limited::<OnFixed<'_>>(rt.alloc(), &drops)?;
+    each_on_limited::<InArray<'_>>(rt.alloc(), &drops)?;
+    Ok(())
 }
 
 // Whether an arena takes any limit.
@@ -241,12 +277,25 @@ fn is_unlimited<'a, S: SetMaxCapacity<Slot<'a>>>(arena: &mut Over<'a, S>) -> boo
     arena.set_max_capacity(usize::MAX).is_ok()
 }
 
+// An arena where there is memory for three places, without a limit in the way.
+fn in_little_memory<'a>(alloc: Global, drops: &'a Cell<u64>) -> Result<(), Wrong> {
+    let made: Result<InLittle<'a>, _> = Arena::with_min_capacity(alloc, 3);
+    match made {
+        Ok(mut arena) => {
+            if !is_unlimited(&mut arena) {
+                return Err(Wrong::AtEnd(0));
+            }
+            each_refused_drop(arena, drops)
+        }
+        Err(_) => Err(Wrong::NoMemory),
+    }
+}
+
 #[test]
-fn a_value_that_memory_refuses_is_dropped_once(rt: HostRuntime) {
+fn a_value_that_memory_refuses_is_dropped_once(rt: HostRuntime) -> Result<(), Fail> {
     let drops = Cell::new(0);
-    let mut scarce: InLittle<'_> = with_three_places(&rt, rt.alloc());
-    assert!(rt; is_unlimited(&mut scarce));
-    each_refused_drop(&rt, scarce, &drops);
+    in_little_memory(rt.alloc(), &drops)?;
+    Ok(())
 }
 
 // The pointer of an entry that is let go.
@@ -269,18 +318,27 @@ fn writes_over_entry<'a>(arena: &mut OnHeap<'a>, drops: &'a Cell<u64>) -> bool {
     }
 }
 
-#[test]
-fn a_value_of_an_entry_is_dropped_once(rt: HostRuntime) {
-    let drops = Cell::new(0);
-    let mut arena: OnHeap<'_> = with_three_places(&rt, rt.alloc());
-    assert!(rt; entry_ptr(&mut arena) == Some(pointer(1, 2)));
-    assert_eq!(rt; drops.get(), 0);
-    assert!(rt; writes_over_entry(&mut arena, &drops));
-    assert_eq!(rt;
-        drops.get(),
-        1,
-        "a value that is written over through its entry"
-    );
+// A value that is written over through its entry, and the values of the arena.
+fn by_entries(alloc: Global, drops: &Cell<u64>) -> Result<(), Wrong> {
+    let made: Result<OnHeap<'_>, _> = Arena::with_min_capacity(alloc, 3);
+    let Ok(mut arena) = made else {
+        return Err(Wrong::NoMemory);
+    };
+    if entry_ptr(&mut arena) != Some(pointer(1, 2)) {
+        return Err(Wrong::Step(0, false, drops.get()));
+    }
+    at_end(drops, 0)?;
+    let is_written = writes_over_entry(&mut arena, drops);
+    if !is_written || drops.get() != 1 {
+        return Err(Wrong::Step(1, is_written, drops.get()));
+    }
     drop(arena);
-    assert_eq!(rt; drops.get(), 2);
+    at_end(drops, 2)
+}
+
+#[test]
+fn a_value_of_an_entry_is_dropped_once(rt: HostRuntime) -> Result<(), Fail> {
+    let drops = Cell::new(0);
+    by_entries(rt.alloc(), &drops)?;
+    Ok(())
 }

@@ -11,7 +11,7 @@ use triple_arena_ptr::{P0, P4, P5, Ptr, PtrGen, PtrInx};
 use triple_arena_stack::NonZeroInxGenericStack;
 use triple_arena_test_kit::{
     Call, Heap, Narrow, Places, Steps, TestedArena, Told, Trial, Wrong, follow, from_empty,
-    new_arena, on_fixed, on_heap, on_limited, pointer, step,
+    new_arena, on_fixed, on_heap, on_limited, on_new, pointer, step,
 };
 
 // Takes an entry of any arena and lets it go: nothing is inserted, and its room stays.
@@ -153,7 +153,7 @@ impl Trial for EachEntryCall {
 fn each_entry_call_on_each_stack_with_a_limit(rt: HostRuntime) -> Result<(), Fail> {
     on_limited::<P0, _>(rt.alloc(), Some(2), &EachEntryCall)?;
     on_fixed::<P4, _>(rt.alloc(), Some(2), &EachEntryCall)?;
-    EachEntryCall.on(&mut new_arena::<Narrow, Places<Narrow, 2>>(rt.alloc()))?;
+    on_new::<Narrow, Places<Narrow, 2>, _>(rt.alloc(), &EachEntryCall)?;
     Ok(())
 }
 
@@ -182,6 +182,6 @@ fn an_entry_over_each_stack_by_its_name(rt: HostRuntime) -> Result<(), Fail> {
     on_heap::<P0, _>(rt.alloc(), Some(3), &EachEntryInsertion)?;
     on_limited::<P0, _>(rt.alloc(), Some(3), &EachEntryInsertion)?;
     on_fixed::<P0, _>(rt.alloc(), Some(3), &EachEntryInsertion)?;
-    EachEntryInsertion.on(&mut new_arena::<P0, Places<P0, 3>>(rt.alloc()))?;
+    on_new::<P0, Places<P0, 3>, _>(rt.alloc(), &EachEntryInsertion)?;
     Ok(())
 }

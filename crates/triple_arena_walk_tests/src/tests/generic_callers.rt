@@ -3,14 +3,14 @@
 ghost use Rattle.std.specs.Prelude.{◌≡◌, ◌≢◌, ℕ, None, Some, OnOk, IfOk, OnErr};
 ghost use Rattle.triple_arena.specs.Entries.{look_up_in};
 
+use std::alloc::Global;
 use std::mem;
 use std::test::Fail;
-use triple_arena::{Arena, ArenaInsertTrait, ArenaSlot, ArenaTrait};
+use triple_arena::{Arena, ArenaInsertTrait, ArenaTrait};
 use triple_arena_base::{InvalidationResult, ReallocationError};
 use triple_arena_ptr::{P0, Ptr, PtrGen, PtrInx};
-use triple_arena_stack::NonZeroInxGenericStack;
 use triple_arena_test_kit::{
-    Call, Heap, Limited, Token, Told, new_arena, pointer, step, with_room,
+    Call, Heap, Limited, TestedArena, Token, Told, Wrong, is_told, pointer, step,
 };
 
 // Puts another value under a pointer, and gives the one that stood there.
@@ -73,16 +73,24 @@ fn take_number<A: ArenaTrait<P0, Token>>(arena: &mut A, p: P0) -> Option<u64> {
     }
 }
 
+// The callers on an arena without entries.
+fn callers<A: ArenaInsertTrait<P0, Token> + TestedArena + Drop>(
+    alloc: Global,
+) -> Result<(), Wrong> {
+    let mut arena = A::new(alloc);
+    let p = pointer(1, 2);
+    let all = put_number(&mut arena, 10) == Some(p)
+        && put_number(&mut arena, 20) == Some(pointer(2, 2))
+        && exchange_number(&mut arena, p, 11) == Ok(10)
+        && take_number(&mut arena, p) == Some(11)
+        && exchange_number(&mut arena, p, 12) == Err(12);
+    is_told(0, Told::Is(all), Told::Is(true))?;
+    step(&mut arena, Call::Get(2, 2), Told::Holds(20))
+}
+
 #[test]
 fn callers_over_any_arena(rt: HostRuntime) -> Result<(), Fail> {
-    let mut arena = new_arena::<P0, Heap<P0>>(rt.alloc());
-    let p = pointer(1, 2);
-    assert!(rt; put_number(&mut arena, 10) == Some(p));
-    assert!(rt; put_number(&mut arena, 20) == Some(pointer(2, 2)));
-    assert!(rt; exchange_number(&mut arena, p, 11) == Ok(10));
-    assert!(rt; take_number(&mut arena, p) == Some(11));
-    assert!(rt; exchange_number(&mut arena, p, 12) == Err(12));
-    step(&mut arena, Call::Get(2, 2), Told::Holds(20))?;
+    callers::<Arena<P0, Token, Heap<P0>>>(rt.alloc())?;
     Ok(())
 }
 
@@ -98,33 +106,53 @@ fn insert_in_new_place<P: Ptr, T: Drop, A: ArenaInsertTrait<P, T>>(
     Ok(arena.insert_reserved(t))
 }
 
-// The pointer of a new number, or what refused it.
-fn number_in_new_place<S: NonZeroInxGenericStack<ArenaSlot<P0, Token>>>(
-    arena: &mut Arena<P0, Token, S>,
+// Whether a new number in a new place has the pointer of this index, or is refused so.
+fn is_placed<A: ArenaInsertTrait<P0, Token>>(
+    arena: &mut A,
     number: u64,
-) -> Result<P0, ReallocationError> {
-    insert_in_new_place(arena, Token { number })
+    expected: Result<usize, ReallocationError>,
+) -> bool {
+    match (insert_in_new_place(arena, Token { number }), expected) {
+        (Ok(p), Ok(index)) => p == pointer(index, 2),
+        (Err(refused), Err(expected)) => refused == expected,
+        _ => false,
+    }
 }
 
-#[test]
-fn a_reallocation_and_then_a_reserved_insertion(rt: HostRuntime) -> Result<(), Fail> {
-    let mut heap = new_arena::<P0, Heap<P0>>(rt.alloc());
+// A place for each of many insertions.
+fn a_place_each<A: ArenaInsertTrait<P0, Token> + TestedArena + Drop>(
+    alloc: Global,
+) -> Result<(), Wrong> {
+    let mut arena = A::new(alloc);
     for index in 1..100 {
-        assert!(rt;
-            number_in_new_place(&mut heap, 7) == Ok(pointer(index, 2)),
-            "at {index}"
-        );
-        step(&mut heap, Call::Bounds, Told::Bounds(index, index, None))?;
+        let placed = is_placed(&mut arena, 7, Ok(index));
+        is_told(index, Told::Is(placed), Told::Is(true))?;
+        step(&mut arena, Call::Bounds, Told::Bounds(index, index, None))?;
     }
     Ok(())
 }
 
 #[test]
-fn a_reallocation_past_the_limit_inserts_nothing(rt: HostRuntime) -> Result<(), Fail> {
-    let mut limited = with_room::<P0, Limited<P0>>(rt.alloc(), 1)?;
-    assert!(rt; number_in_new_place(&mut limited, 7) == Ok(pointer(1, 2)));
+fn a_reallocation_and_then_a_reserved_insertion(rt: HostRuntime) -> Result<(), Fail> {
+    a_place_each::<Arena<P0, Token, Heap<P0>>>(rt.alloc())?;
+    Ok(())
+}
+
+// One place, and no more.
+fn one_place<A: ArenaInsertTrait<P0, Token> + TestedArena + Drop>(
+    alloc: Global,
+) -> Result<(), Wrong> {
+    let mut arena = A::with_min_capacity(alloc, 1)?;
+    let placed = is_placed(&mut arena, 7, Ok(1));
+    is_told(0, Told::Is(placed), Told::Is(true))?;
     let beyond = Err(ReallocationError::BeyondMaxCapacity);
-    assert!(rt; number_in_new_place(&mut limited, 8) == beyond);
-    step(&mut limited, Call::Get(1, 2), Told::Holds(7))?;
+    let refused = is_placed(&mut arena, 8, beyond);
+    is_told(1, Told::Is(refused), Told::Is(true))?;
+    step(&mut arena, Call::Get(1, 2), Told::Holds(7))
+}
+
+#[test]
+fn a_reallocation_past_the_limit_inserts_nothing(rt: HostRuntime) -> Result<(), Fail> {
+    one_place::<Arena<P0, Token, Limited<P0>>>(rt.alloc())?;
     Ok(())
 }

@@ -3,11 +3,11 @@
 use std::alloc::Global;
 use std::num::NonZeroU128;
 use std::test::Fail;
-use triple_arena::{Arena, ArenaTrait};
+use triple_arena::{Arena, ArenaTrait, CompactArenaTrait};
 use triple_arena_ptr::{P0, Ptr, Q2};
 use triple_arena_test_kit::{
     B, Call, Heap, Removed, Steps, TestedArena, Token, Told, Trial, Wide, Wrong, follow,
-    from_empty, inx, new_arena, next_steps, on_heap, step,
+    from_empty, inx, is_told, next_steps, on_heap, step,
 };
 
 const ONE: Option<(usize, u64)> = Some((1, 2));
@@ -111,21 +111,16 @@ fn an_arena_without_entries_has_nothing_to_walk(rt: HostRuntime) -> Result<(), F
 
 type Heaped = Arena<P0, Token, Heap<P0>>;
 
-// An arena of so many entries, of which some were removed in turn.
-fn with_removed(alloc: Global, entries: usize, removed: &[usize]) -> Result<Heaped, Wrong> {
-    let mut arena = new_arena(alloc);
+// An advancer, while the arena gets entries where it was and where it will be.
+fn goes_on<A: CompactArenaTrait<P0, Token> + TestedArena + Drop>(
+    alloc: Global,
+) -> Result<(), Wrong> {
+    let mut arena = A::new(alloc);
+    let (entries, removed) = (5, &[2, 4]);
     Removed { entries, removed }.on(&mut arena)?;
-    Ok(arena)
-}
-
-#[test]
-fn a_forward_advancer_goes_on_while_the_arena_changes(rt: HostRuntime) -> Result<(), Fail> {
-    let mut arena = with_removed(rt.alloc(), 5, &[2, 4])?;
     let mut advancer = arena.advancer_inx(inx(2), false);
-    assert_eq!(rt;
-        next_steps(&arena, &mut advancer),
-        Told::MetPointers([THREE, FIVE, None])
-    );
+    let steps = next_steps(&arena, &mut advancer);
+    is_told(0, steps, Told::MetPointers([THREE, FIVE, None]))?;
     follow(
         &mut arena,
         &[
@@ -135,30 +130,34 @@ fn a_forward_advancer_goes_on_while_the_arena_changes(rt: HostRuntime) -> Result
             (Call::Insert(9), Told::At(7, 4)),
         ],
     )?;
-    assert_eq!(rt;
-        next_steps(&arena, &mut advancer),
-        Told::MetPointers([Some((7, 4)), None, None])
-    );
+    let steps = next_steps(&arena, &mut advancer);
+    is_told(1, steps, Told::MetPointers([Some((7, 4)), None, None]))
+}
+
+#[test]
+fn a_forward_advancer_goes_on_while_the_arena_changes(rt: HostRuntime) -> Result<(), Fail> {
+    goes_on::<Heaped>(rt.alloc())?;
     Ok(())
 }
 
-// The answers in an arena of one entry whose indexes go past those of any slot.
-fn wide_steps(alloc: Global, index: u128, reverse: bool) -> Result<Told, Wrong> {
-    let mut arena = new_arena::<Wide, Heap<Wide>>(alloc);
+// The steps from past any slot in an arena of one entry whose indexes go so far.
+fn from_past_any_slot<A: CompactArenaTrait<Wide, Token> + TestedArena + Drop>(
+    alloc: Global,
+) -> Result<(), Wrong> {
+    let mut arena = A::new(alloc);
     follow(&mut arena, &[(Call::Insert(1), Told::At(1, 2))])?;
-    match NonZeroU128::new(index) {
-        Some(inx) => Ok(next_steps(&arena, &mut arena.advancer_inx(inx, reverse))),
-        None => Ok(Told::NoSuchCall),
-    }
+    let Some(inx) = NonZeroU128::new(1 << 64) else {
+        return Ok(());
+    };
+    let down = next_steps(&arena, &mut arena.advancer_inx(inx, true));
+    is_told(0, down, Told::MetPointers([ONE, None, None]))?;
+    let up = next_steps(&arena, &mut arena.advancer_inx(inx, false));
+    is_told(1, up, NO_POINTERS)
 }
 
 #[test]
 fn indexes_past_any_slot(rt: HostRuntime) -> Result<(), Fail> {
-    assert_eq!(rt;
-        wide_steps(rt.alloc(), 1 << 64, true)?,
-        Told::MetPointers([ONE, None, None])
-    );
-    assert_eq!(rt; wide_steps(rt.alloc(), 1 << 64, false)?, NO_POINTERS);
+    from_past_any_slot::<Arena<Wide, Token, Heap<Wide>>>(rt.alloc())?;
     Ok(())
 }
 
@@ -196,10 +195,19 @@ fn sums(arena: &Heaped) -> (usize, u64) {
     (indexes, numbers)
 }
 
+// The sums over the entries at 2, 4 and 5, each of its index.
+fn sums_of_three(alloc: Global) -> Result<(), Wrong> {
+    let mut arena: Heaped = Arena::new(alloc);
+    let (entries, removed) = (6, &[1, 3, 6]);
+    Removed { entries, removed }.on(&mut arena)?;
+    let (indexes, numbers) = sums(&arena);
+    is_told(0, Told::Size(indexes), Told::Size(11))?;
+    is_told(1, Told::Holds(numbers), Told::Holds(11))
+}
+
 #[test]
 fn a_loop_over_an_arena_meets_each_entry(rt: HostRuntime) -> Result<(), Fail> {
-    let arena = with_removed(rt.alloc(), 6, &[1, 3, 6])?;
-    assert_eq!(rt; sums(&arena), (11, 11));
+    sums_of_three(rt.alloc())?;
     Ok(())
 }
 

@@ -4,7 +4,7 @@ use std::test::Fail;
 use triple_arena_ptr::{P0, P4};
 use triple_arena_test_kit::{
     B, Call, Narrow, Places, SLOTS, State, TestedArena, Told, Trial, Wide, Wrong, follow,
-    follow_to, follow_unchanged, new_arena, on_fixed, on_heap, on_limited, on_little, step,
+    follow_to, follow_unchanged, on_fixed, on_heap, on_limited, on_little, on_new, step,
 };
 
 // A call that adds ten to each value, with what it met: it leaves the arena with these values as it
@@ -100,7 +100,7 @@ fn ten_is_added_to_three_of_five_on_wide_pointers(rt: HostRuntime) -> Result<(),
     on_heap::<P0, _>(rt.alloc(), None, &ThreeOfFive)?;
     on_limited::<P0, _>(rt.alloc(), Some(5), &ThreeOfFive)?;
     on_fixed::<P0, _>(rt.alloc(), Some(5), &ThreeOfFive)?;
-    ThreeOfFive.on(&mut new_arena::<P0, Places<P0, 5>>(rt.alloc()))?;
+    on_new::<P0, Places<P0, 5>, _>(rt.alloc(), &ThreeOfFive)?;
     on_heap::<Wide, _>(rt.alloc(), None, &ThreeOfFive)?;
     Ok(())
 }

@@ -1,7 +1,21 @@
-use Rattle.std.proofs.Common.{◌∙◌, None, map, sym, arith}
-use Rattle.std.proofs.lemmas.List.{length-map}
+use Rattle.std.proofs.Common.{◌∙◌, ◌-◌, IsSome, None, length, map, refl, sym, subst, arith}
+use Rattle.std.proofs.lemmas.List.{length-map, length-take-le}
 use Rattle.triple_arena.proofs.Compressing.{popped_vacant, cut_on, gap_gone}
+use Rattle.triple_arena.proofs.Present.{some_below}
 use Rattle.triple_arena.proofs.compress.cut.Goals as goal
+
+pub ends-init : goal.ends-init
+ends-init g c = (refl, refl, λ kept spare size is. (spare, is))
+
+pub unwrap-requires : goal.unwrap-requires
+unwrap-requires g c =
+    subst IsSome (sym c.pop.ensures.value) (some_below (g.S.NonZeroInxGenericStack.items c.ends.stack) _ (omega (arith, c.len.ensures, c.ends-test.true)))
+
+pub ends-smaller : goal.ends-smaller
+ends-smaller g c =
+    let items = g.S.NonZeroInxGenericStack.items c.ends.stack in
+    let size = length-take-le (length items - 1) items (omega arith) in
+    rw (c.pop.ensures.items, g.met.S.NonZeroInxGenericStack.items_with_items) (omega (arith, size, c.len.ensures, c.ends-test.true))
 
 pub discard-requires-after_bounds : goal.discard-requires-after_bounds
 discard-requires-after_bounds g c κs within =

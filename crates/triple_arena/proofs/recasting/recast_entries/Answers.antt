@@ -14,6 +14,7 @@ pub walk-init : goal.walk-init
 walk-init g c = (
   c.advancer-advancer.ensures.forward,
   walk_start _ _ _ _ _ _ _ _ c.args.arena.now _ (keys_first _ _ c.advancer-advancer.ensures),
+  λ h fits. fits,
 )
 
 pub unwrap-value-requires : goal.unwrap-value-requires
@@ -32,6 +33,7 @@ walk-preserved g c =
       forward_stays _ _ _ _ _ steps ∙ c.walk.invariant.0,
       rw same (walk_ok _ _ _ _ _ _ _ _ c.args.arena.now c.walk.arena k _ c.unwrap-value.result.now c.recast.new.self w
           (sym (ap option_copied_mut c.unwrap-value.ensures) ∙ c.get_mut.ensures.value) c.recast.ensures.after (sym c.recast.ensures.answer ∙ c.in_ok-recast.was)),
+      λ h fits. c.get_mut.ensures.fresh _ h (c.walk.invariant.2 h fits),
     )
 
 pub returns-in_err-recast-clause-after : goal.returns-in_err-recast-clause-after
@@ -50,6 +52,9 @@ returns-in_err-recast-clause-answer g c =
     err_is c.from_residual.result c.in_err-recast.field-0.0 c.from_residual.ensures.1
     ∙ (walk_err _ _ _ _ _ _ _ _ c.args.arena.now c.walk.arena k _ c.unwrap-value.result.now c.recast.new.self c.in_err-recast.field-0.0 w
     (sym (ap option_copied_mut c.unwrap-value.ensures) ∙ c.get_mut.ensures.value) c.recast.ensures.after (sym c.recast.ensures.answer ∙ c.in_err-recast.was)).1
+
+pub returns-in_err-recast-clause-fresh : goal.returns-in_err-recast-clause-fresh
+returns-in_err-recast-clause-fresh g c = λ h fits. c.get_mut.ensures.fresh _ h (c.walk.invariant.2 h fits)
 
 pub returns-clause-after : goal.returns-clause-after
 returns-clause-after g c = (walk_end _ _ _ _ _ _ _ _ c.args.arena.now c.walk.arena (rw (keys_none _ _ _ _ (rw c.in_default.is at (g.met.A.CompactArenaTrait.advanced _ _ _ _ c.advance.ensures.steps))) at c.walk.invariant.1)).0

@@ -1,6 +1,7 @@
-use Rattle.std.proofs.Common.{◌≡◌, false}
+use Rattle.std.proofs.Common.{◌≡◌, [], false}
 use Rattle.triple_arena_ptr.specs.Numbers.{greatest_index}
 use Rattle.triple_arena.specs.Walks.{keys_ahead, steps_left}
+use Rattle.triple_arena.specs.Histories.{Continues}
 use Rattle.triple_arena.proofs.EntryWalks.{Walked}
 use Rattle.triple_arena.proofs.recasting.recast_entries.Given as goal
 
@@ -10,6 +11,7 @@ invariant-walk g l =
     × Walked g.T.Recast.held g.T.Recast.refill g.met.T.Recast.refill_held (g.R.Recaster.image l.recaster) g.A.ArenaTrait.slots g.A.ArenaTrait.with_value
     g.met.A.CompactArenaTrait.with_value_same g.met.A.ArenaTrait.slots_with_value
     l.fn.arena l.arena (keys_ahead (g.A.ArenaTrait.stand l.advancer) (g.A.ArenaTrait.slots l.arena))
+    × Continues g.A.ArenaTrait.fits l.fn.arena [] l.arena
 
 abbrev pub decreases-walk : goal.decreases-walk
 decreases-walk g l = steps_left (greatest_index g.P.Inx.PtrInx.greatest) (g.A.ArenaTrait.stand l.advancer)

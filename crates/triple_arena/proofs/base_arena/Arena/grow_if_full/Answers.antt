@@ -1,9 +1,11 @@
-use Rattle.std.proofs.Common.{◌≢◌, ◌∙◌, ◌<◌, true≢false, sym, ap, subst, arith}
-use Rattle.triple_arena_stack.specs.Capacity.{IsAtLimit}
+use Rattle.std.proofs.Common.{◌≡◌, ◌≢◌, ◌∙◌, ◌<◌, cond, true≢false, sym, ap, subst, arith}
+use Rattle.triple_arena_stack.specs.Capacity.{IsAtLimit, IsBeyond, next_capacity}
 use Rattle.triple_arena_stack.specs.StackKind.{IsOfKind}
-use Rattle.triple_arena.specs.ArenaState.{capacity, IsWellFormed}
+use Rattle.triple_arena.specs.ArenaState.{arena_len, capacity, IsWellFormed}
+use Rattle.triple_arena.specs.ItemLaws.{eq_true}
+use Rattle.triple_arena.specs.Layout.{Shows}
 use Rattle.triple_arena.specs.Capacity.{with_room_for}
-use Rattle.triple_arena.proofs.Growth.{on_ok, grown_more}
+use Rattle.triple_arena.proofs.Growth.{on_ok, grown_more, never_beyond}
 use Rattle.triple_arena.proofs.base_arena.Arena.grow_if_full.Goals as goal
 
 pub returns-clause-has_place : goal.returns-clause-has_place
@@ -18,3 +20,34 @@ returns-clause-has_place g c =
     let well = subst IsWellFormed c.self.view_is c.self.invariant.well in
     let more = subst (λ m. capacity c.args.self.now < capacity (with_room_for g.S.NonZeroInxGenericStack.kind c.args.self.now m)) (sym next) (grown_more g.S.NonZeroInxGenericStack.kind c.args.self.now kind below inner) in
     on_ok c.reallocate.result (λ done. rw done (omega (arith, well.total, well.fits, more))) c.reallocate.ensures.done
+
+pub returns-then-self-capacity-clause-beyond : goal.returns-then-self-capacity-clause-beyond
+returns-then-self-capacity-clause-beyond g c =
+    let shows = subst (Shows g.P.Gen.PtrGen.number _ _ _) c.self.view_is c.self.invariant in
+    (λ e. absurd (cc), λ full. absurd (omega (arith, full.0, c.if-self-capacity.true, shows.counted, c.capacity-capacity.ensures.value)))
+
+pub returns-then-capacity-greatest-clause-given : goal.returns-then-capacity-greatest-clause-given
+returns-then-capacity-greatest-clause-given g c grows =
+    absurd (omega (arith, grows.1, c.if-capacity-greatest.true, c.capacity-capacity.ensures.value, c.get-greatest.ensures.value, c.max_index.ensures))
+
+pub returns-clause-done : goal.returns-clause-done
+returns-clause-done g c =
+    let kind = g.S.NonZeroInxGenericStack.kind in
+    let s = c.args.self.now in
+    let limit = c.max_capacity-limit.ensures.value ∙ ap (λ s. s.limit) c.self.view_is in
+    let greatest = c.get-greatest.ensures.value ∙ c.max_index.ensures ∙ sym c.capacity-capacity.ensures.greatest in
+    let next = rw (c.capacity-capacity.ensures.value, limit, greatest) at c.grown_capacity.ensures in
+    let shows = subst (Shows g.P.Gen.PtrGen.number _ _ _) c.self.view_is c.self.invariant in
+    let full : arena_len s ≡ capacity s = omega (arith, c.if-self-capacity.false, shows.counted, c.capacity-capacity.ensures.value, shows.well.total, shows.well.fits) in
+    let grows = ap (λ b. cond b (with_room_for kind s (next_capacity (capacity s) s.limit s.greatest)) s) (eq_true _ _ full) in
+    on_ok c.reallocate.result (λ done. done ∙ ap (with_room_for kind s) next ∙ sym grows) c.reallocate.ensures.done
+
+pub returns-clause-beyond : goal.returns-clause-beyond
+returns-clause-beyond g c =
+    let limit = c.max_capacity-limit.ensures.value ∙ ap (λ s. s.limit) c.self.view_is in
+    let greatest = c.get-greatest.ensures.value ∙ c.max_index.ensures ∙ sym c.capacity-capacity.ensures.greatest in
+    let next = rw (c.capacity-capacity.ensures.value, limit, greatest) at c.grown_capacity.ensures in
+    let at_limit = rw (limit, c.capacity-capacity.ensures.value) at c.is_at_limit.ensures in (
+      λ e. absurd (never_beyond _ _ c.args.self.now.limit (subst (IsBeyond c.args.self.now.limit) next (c.reallocate.ensures.beyond.0 e))),
+      λ full. absurd (true≢false (sym (at_limit.1 full.1) ∙ c.if-is_at_limit.false)),
+    )

@@ -1,10 +1,14 @@
-use Rattle.std.proofs.Common.{◌∙◌, sym}
+use Rattle.std.proofs.Common.{◌∙◌, map, arith}
+use Rattle.std.proofs.lemmas.List.{length-map}
+use Rattle.triple_arena.specs.Slot.{entry_of}
+use Rattle.triple_arena.proofs.Shortening.{ends_live}
 use Rattle.triple_arena.proofs.FreeEnd.{IsFreeList-shown, Shows-ended, Shows-without_free_end}
 use Rattle.triple_arena.proofs.slots.Slots.remove_free_end.Goals as goal
 
-pub returns-then-not-has_free_end-clause-shows : goal.returns-then-not-has_free_end-clause-shows
-returns-then-not-has_free_end-clause-shows g c s len shows =
-    Shows-ended g.P.Gen.PtrGen.number _ _ len s (sym c.has_free_end.ensures ∙ c.if-not-has_free_end.true) shows
+pub returns-then-end-len-clause-shows : goal.returns-then-end-len-clause-shows
+returns-then-end-len-clause-shows g c s len shows =
+    let items = g.S.NonZeroInxGenericStack.items c.args.self.now.stack in
+    Shows-ended g.P.Gen.PtrGen.number _ _ len s (ends_live (map (entry_of g.P.Gen.PtrGen.number) items) (omega (arith, c.live_end-end.ensures, c.if-end-len.true, c.len.ensures, length-map items (entry_of g.P.Gen.PtrGen.number)))) shows
 
 pub turn_round-turned-requires-after_bounds : goal.turn_round-turned-requires-after_bounds
 turn_round-turned-requires-after_bounds g c κs within =

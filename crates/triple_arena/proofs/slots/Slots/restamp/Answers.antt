@@ -1,13 +1,15 @@
 use Rattle.std.proofs.Common.{◌∙◌, sym}
 use Rattle.std.specs.Int.NonZero.{non_zero_usize_get}
 use Rattle.triple_arena.proofs.ItemLists.{item_at, with_item_at}
-use Rattle.triple_arena.proofs.Links.{entry_item, Shows-stamped}
+use Rattle.triple_arena.specs.Slot.{entry_of}
+use Rattle.triple_arena.proofs.SlotEntries.{entry_item}
+use Rattle.triple_arena.proofs.Links.{Shows-stamped}
 use Rattle.triple_arena.proofs.slots.Slots.restamp.Goals as goal
 
 pub set_generation-requires-after_bounds : goal.set_generation-requires-after_bounds
 set_generation-requires-after_bounds g c κs within =
     let found = item_at _ _ c.args.inx.ok ∙ sym (rw c.unwrap-slot.ensures at c.get_mut.ensures.value) in
-    rw (← entry_item g.P.Gen.PtrGen.number (g.S.NonZeroInxGenericStack.items c.args.self.now.stack) (non_zero_usize_get c.args.inx) c.unwrap-slot.result.now found) c.requires
+    rw (← entry_item (entry_of g.P.Gen.PtrGen.number) (g.S.NonZeroInxGenericStack.items c.args.self.now.stack) (non_zero_usize_get c.args.inx) c.unwrap-slot.result.now found) c.requires
 
 pub returns-clause-shows : goal.returns-clause-shows
 returns-clause-shows g c s len shows =

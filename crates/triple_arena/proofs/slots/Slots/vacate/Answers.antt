@@ -1,20 +1,22 @@
 use Rattle.std.proofs.Common.{◌≢◌, ◌∙◌, length, sym, arith}
 use Rattle.std.specs.Int.NonZero.{non_zero_usize_get}
 use Rattle.triple_arena.proofs.ItemLists.{item_last}
-use Rattle.triple_arena.proofs.Links.{entry_item, item_live, live_in, root_not_live, Shows-popped, Shows-freed}
+use Rattle.triple_arena.specs.Slot.{entry_of}
+use Rattle.triple_arena.proofs.SlotEntries.{entry_item, item_live}
+use Rattle.triple_arena.proofs.Links.{live_in, root_not_live, Shows-popped, Shows-freed}
 use Rattle.triple_arena.proofs.slots.Slots.vacate.Goals as goal
 
 pub into_entry-requires-after_bounds : goal.into_entry-requires-after_bounds
 into_entry-requires-after_bounds g c κs within =
     let items = g.S.NonZeroInxGenericStack.items c.args.self.now.stack in
     let found = item_last items (non_zero_usize_get c.args.inx) c.unwrap.result c.args.inx.ok (omega arith) (sym c.pop.ensures.value ∙ c.unwrap.ensures) in
-    rw (← entry_item g.P.Gen.PtrGen.number items (non_zero_usize_get c.args.inx) c.unwrap.result found) c.requires.live
+    rw (← entry_item (entry_of g.P.Gen.PtrGen.number) items (non_zero_usize_get c.args.inx) c.unwrap.result found) c.requires.live
 
 pub returns-then-get-len-clause-entry : goal.returns-then-get-len-clause-entry
 returns-then-get-len-clause-entry g c =
     let items = g.S.NonZeroInxGenericStack.items c.args.self.now.stack in
     let found = item_last items (non_zero_usize_get c.args.inx) c.unwrap.result c.args.inx.ok (omega arith) (sym c.pop.ensures.value ∙ c.unwrap.ensures) in
-    entry_item g.P.Gen.PtrGen.number items (non_zero_usize_get c.args.inx) c.unwrap.result found ∙ c.into_entry.ensures
+    entry_item (entry_of g.P.Gen.PtrGen.number) items (non_zero_usize_get c.args.inx) c.unwrap.result found ∙ c.into_entry.ensures
 
 pub returns-then-get-len-clause-shows : goal.returns-then-get-len-clause-shows
 returns-then-get-len-clause-shows g c raise s len shows =
@@ -29,15 +31,15 @@ to-requires g c =
 
 pub replace-requires : goal.replace-requires
 replace-requires g c =
-    item_live g.P.Gen.PtrGen.number (g.S.NonZeroInxGenericStack.items c.args.self.now.stack) (non_zero_usize_get c.args.inx) c.requires.live
+    item_live (entry_of g.P.Gen.PtrGen.number) (g.S.NonZeroInxGenericStack.items c.args.self.now.stack) (non_zero_usize_get c.args.inx) c.requires.live
 
 pub into_entry-requires-2-after_bounds : goal.into_entry-requires-2-after_bounds
 into_entry-requires-2-after_bounds g c κs within =
-    rw (← entry_item g.P.Gen.PtrGen.number (g.S.NonZeroInxGenericStack.items c.args.self.now.stack) (non_zero_usize_get c.args.inx) c.replace.result c.replace.ensures.value) c.requires.live
+    rw (← entry_item (entry_of g.P.Gen.PtrGen.number) (g.S.NonZeroInxGenericStack.items c.args.self.now.stack) (non_zero_usize_get c.args.inx) c.replace.result c.replace.ensures.value) c.requires.live
 
 pub returns-clause-entry : goal.returns-clause-entry
 returns-clause-entry g c =
-    entry_item g.P.Gen.PtrGen.number (g.S.NonZeroInxGenericStack.items c.args.self.now.stack) (non_zero_usize_get c.args.inx) c.replace.result c.replace.ensures.value ∙ c.into_entry-2.ensures
+    entry_item (entry_of g.P.Gen.PtrGen.number) (g.S.NonZeroInxGenericStack.items c.args.self.now.stack) (non_zero_usize_get c.args.inx) c.replace.result c.replace.ensures.value ∙ c.into_entry-2.ensures
 
 pub returns-clause-shows : goal.returns-clause-shows
 returns-clause-shows g c raise s len shows =

@@ -1,5 +1,0 @@
-//! Tests of compaction by public calls.
-#![tactic(auto)]
-
-#[cfg(test)]
-mod tests;

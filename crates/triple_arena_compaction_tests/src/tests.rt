@@ -1,3 +1,0 @@
-//! Compaction of arenas, told by their texts.
-
-mod compression;

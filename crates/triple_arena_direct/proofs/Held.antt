@@ -1,33 +1,30 @@
 -- How the count and the state of a direct arena follow its slots.
-use Rattle.std.proofs.Common.{◌≡◌, ◌≢◌, ℕ, ◌+◌, ◌-◌, ◌<◌, ◌≤◌, ◌^◌, List, [], ◌∷◌, zero, suc, inl, inr, map, length, take, Option, Some, None, MatchOption, is_some, IsSome, cond, min, max, refl, sym, ap, subst, ◌∙◌, arith, true, false}
-use Rattle.std.proofs.lemmas.Bool.{cases_lt, cases_eq}
+use Rattle.std.proofs.Common.{◌≡◌, ◌≢◌, ℕ, ◌+◌, ◌-◌, ◌<◌, ◌≤◌, List, [], ◌∷◌, zero, suc, inl, inr, map, length, take, Option, Some, None, is_some, IsSome, cond, max, refl, sym, ap, subst, ◌∙◌, arith, true}
+use Rattle.std.proofs.lemmas.Bool.{cases_eq}
 use Rattle.std.proofs.lemmas.List.Sums.{count_by-le-length}
-use Rattle.std.specs.Int.NonZero.{non_zero_usize_get}
-use Rattle.std.specs.declared.num.NonZeroUsize.{NonZeroUsize}
 use Rattle.std.specs.Option.{option_map, option_and_then}
-use Rattle.triple_arena_base.specs.declared.invalidation.InvalidationResult.{InvalidationResult}
-use Rattle.triple_arena_base.specs.declared.invalidation.InvalidationResult.TheVariants.{Success}
 use Rattle.triple_arena_ptr.specs.Pointers.{Pointer}
 use Rattle.triple_arena_stack.specs.StackKind.{StackKind}
 use Rattle.triple_arena.specs.Items.{item, with_item}
-use Rattle.triple_arena.specs.ItemLaws.{joined, eq_false, with_item-past, item_past}
+use Rattle.triple_arena.specs.ItemLaws.{eq_false, with_item-past}
 use Rattle.triple_arena.specs.Entries.{entry_in, entry_count, look_up_in, value_under, with_value_in, ChangesAt}
-use Rattle.triple_arena.specs.Ending.{told_of}
 use Rattle.triple_arena.specs.EntryLaws.{within_room}
 use Rattle.triple_arena.specs.DirectInsertion.{IsVacant}
 use Rattle.triple_arena.specs.FreeList.{trimmed}
+use Rattle.triple_arena.specs.SlotPairs.{WritesTwo}
 use Rattle.triple_arena.proofs.ItemLists.{length-with_item, map-with_item, with_item-twice, item-with_other}
 use Rattle.triple_arena.proofs.Links.{item-map_none, pointer_is}
 use Rattle.triple_arena.proofs.LookUps.{others_found, new_found}
 use Rattle.triple_arena.proofs.WellFormed.{entry_of_value, with_value_is}
-use Rattle.triple_arena_direct.specs.DirectState.{DirectState, generation_of, slot_count, direct_len, direct_capacity, Fits, with_value, extended, inserted_at, removed, shortened, settled, with_room_for, with_slots}
+use Rattle.triple_arena.specs.FreeEnd.{extended}
+use Rattle.triple_arena_direct.specs.DirectState.{DirectState, slot_count, direct_capacity, with_value, inserted_at, removed, settled, with_room_for, with_slots}
 use Rattle.triple_arena_direct.specs.StepLaws.{len-with_value, len_taken, count-shortened}
 use Rattle.triple_arena_direct.specs.InsertionLaws.{length-extended, slots-inserted_at, len-inserted_at}
 use Rattle.triple_arena_direct.specs.Slot.{slot_entry, with_slot_value}
 use Rattle.triple_arena_direct.specs.Layout.{direct_of, entry_at, with_value_at, Counts}
 use Rattle.triple_arena_direct.specs.declared.slot.DirectSlot.{DirectSlot}
 use Rattle.triple_arena_direct.specs.declared.slot.DirectSlot.TheVariants.{Free, Allocated}
-use Rattle.triple_arena_direct.proofs.SlotEntries.{entry_item}
+use Rattle.triple_arena.proofs.SlotEntries.{entry_item}
 
 module _ {A : Type 0} where
   length-front : (n : ℕ) (xs : List A) → length (take n xs) ≤ length xs
@@ -126,20 +123,6 @@ module _ {T : Type 0} where
       ∙ ap (λ (zs : List (Option (ℕ × T))). option_map (λ (e : ℕ × T). e.1) (entry_in zs j)) (sym same)
       ∙ read
 
-  -- the greatest index of an entry, from the one that is met first downward
-  pub greatest_of_all : (xs : List (Option (ℕ × T))) (o : Option NonZeroUsize) (to : ℕ) → length xs ≤ to → MatchOption o ((i : ℕ) → i ≤ to → entry_in xs i ≡ None) (λ inx. IsSome (entry_in xs (non_zero_usize_get inx)) × (non_zero_usize_get inx ≤ to) × ((i : ℕ) → i ≤ to → non_zero_usize_get inx < i → entry_in xs i ≡ None)) → MatchOption o ((i : ℕ) → entry_in xs i ≡ None) (λ inx. IsSome (entry_in xs (non_zero_usize_get inx)) × ((i : ℕ) → non_zero_usize_get inx < i → entry_in xs i ≡ None))
-  greatest_of_all xs None to all none = λ i. elim (cases_lt to i) [
-    | inl past ↦ ap joined (item_past xs i (omega (arith, past, all)))
-    | inr within ↦ none i within
-  ]
-  greatest_of_all xs (Some inx) to all found = (
-    found.0,
-    λ i above. elim (cases_lt to i) [
-      | inl past ↦ ap joined (item_past xs i (omega (arith, past, all)))
-      | inr within ↦ found.2 i within above
-    ],
-  )
-
 module _ {P T I G : Type 0} (number : G → ℕ) where
   -- slots that are those of a state, with its count, make an arena of that state
   pub made : (es : List (DirectSlot P T I G)) (len room : ℕ) (limit : Option ℕ) (greatest : ℕ) (s : DirectState T) → map (slot_entry number) es ≡ s.slots → room ≡ s.room → limit ≡ s.limit → greatest ≡ s.greatest → Counts len s → Counts len (direct_of number es room limit greatest) × (direct_of number es room limit greatest ≡ s)
@@ -159,17 +142,16 @@ module _ {P T I G : Type 0} (number : G → ℕ) where
           sym (with_item-past (map (slot_entry number) es) i (option_map (λ (e : ℕ × T). (e.0, w)) (entry_at number es i)) (item-map_none (slot_entry number) es i none))
       by_item (Some x) found =
           map-with_item (slot_entry number) es i (with_slot_value x w)
-          ∙ ap (with_item (map (slot_entry number) es) i) (value_written x w ∙ ap (option_map (λ (e : ℕ × T). (e.0, w))) (sym (entry_item number es i x found)))
+          ∙ ap (with_item (map (slot_entry number) es) i) (value_written x w ∙ ap (option_map (λ (e : ℕ × T). (e.0, w))) (sym (entry_item (slot_entry number) es i x found)))
 
   -- with other values in two slots the entries have them too
-  pub both_written : (es es' : List (DirectSlot P T I G)) (i j : ℕ) (a b a' b' : DirectSlot P T I G) (x y : T) → item es i ≡ Some a → item es j ≡ Some b → i ≢ j → a' ≡ with_slot_value a x → b' ≡ with_slot_value b y → es' ≡ with_item (with_item es i a') j b' → map (slot_entry number) es' ≡ with_value_in (with_value_in (map (slot_entry number) es) i x) j y
-  both_written es es' i j a b a' b' x y at_i at_j apart left_i left_j is =
-      let one : List (DirectSlot P T I G) = with_item es i (with_slot_value a x) in
-      let there : item one j ≡ Some b = item-with_other es i j (with_slot_value a x) (λ e. apart (sym e)) ∙ at_j in
-      let first : map (slot_entry number) one ≡ with_value_in (map (slot_entry number) es) i x = ap (λ o. map (slot_entry number) (with_value_at es i o x)) (sym at_i) ∙ written es i x in
-      let second : map (slot_entry number) (with_item one j (with_slot_value b y)) ≡ with_value_in (map (slot_entry number) one) j y = ap (λ o. map (slot_entry number) (with_value_at one j o y)) (sym there) ∙ written one j y in
-      ap (map (slot_entry number)) (is ∙ ap (λ s. with_item (with_item es i s) j b') left_i ∙ ap (with_item one j) left_j)
-      ∙ second ∙ ap (λ xs. with_value_in xs j y) first
+  pub both_written : (es es' : List (DirectSlot P T I G)) (i j : ℕ) (x y : T) → i ≢ j → WritesTwo with_slot_value es es' i j x y → map (slot_entry number) es' ≡ with_value_in (with_value_in (map (slot_entry number) es) i x) j y
+  both_written es es' i j x y apart w =
+      let one : List (DirectSlot P T I G) = with_item es i (with_slot_value w.first x) in
+      let there : item one j ≡ Some w.second = item-with_other es i j (with_slot_value w.first x) (λ e. apart (sym e)) ∙ w.at_second in
+      let first : map (slot_entry number) one ≡ with_value_in (map (slot_entry number) es) i x = ap (λ o. map (slot_entry number) (with_value_at es i o x)) (sym w.at_first) ∙ written es i x in
+      let second : map (slot_entry number) (with_item one j (with_slot_value w.second y)) ≡ with_value_in (map (slot_entry number) one) j y = ap (λ o. map (slot_entry number) (with_value_at one j o y)) (sym there) ∙ written one j y in
+      ap (map (slot_entry number)) w.written ∙ second ∙ ap (λ xs. with_value_in xs j y) first
 
   -- the arena after a write through a borrow of a value
   pub lent : (es es' : List (DirectSlot P T I G)) (len room room' : ℕ) (limit limit' : Option ℕ) (greatest : ℕ) (s : DirectState T) (i : ℕ) (w : T) → Counts len (direct_of number es room limit greatest) → direct_of number es room limit greatest ≡ s → es' ≡ with_value_at es i (item es i) w → room' ≡ room → limit' ≡ limit → Counts len (direct_of number es' room' limit' greatest) × (direct_of number es' room' limit' greatest ≡ with_value s i w)

@@ -1,6 +1,11 @@
-pub mod SlotEntries
-pub mod Shortening
 pub mod Held
 pub mod Keeping
 pub mod Mirroring
 pub mod Compaction
+pub mod Renames
+pub mod OwnMaps
+pub mod Pairing
+pub mod Resolving
+pub mod WrittenValues
+pub mod MappedAnswers
+pub mod Followed

@@ -1,11 +1,11 @@
 -- What a direct arena holds, and what each call makes of it.
-use Rattle.std.specs.Prelude.{◌≡◌, ◌≤◌, ◌-◌, ℕ, nat_lt, cond, List, [], ◌++◌, length, take, replicate, Option, Some, None, max, min}
+use Rattle.std.specs.Prelude.{◌≤◌, ℕ, nat_lt, cond, List, [], length, Option, Some, None, min}
 use Rattle.triple_arena_ptr.specs.Pointers.{Pointer}
 use Rattle.triple_arena_stack.specs.StackKind.{StackKind, reallocated_room}
 use Rattle.triple_arena_stack.specs.Capacity.{capacity_of}
 use Rattle.triple_arena.specs.Items.{with_item}
 use Rattle.triple_arena.specs.Entries.{entry_in, entry_count, with_value_in}
-use Rattle.triple_arena.specs.FreeList.{trimmed}
+use Rattle.triple_arena.specs.FreeEnd.{shortened, extended}
 use Rattle.triple_arena.specs.Walks.{keys}
 use Rattle.triple_arena.specs.Compression.{placed}
 
@@ -22,14 +22,6 @@ module _ {T : Type 0} where
   abbrev pub generation_of : Option (ℕ × T) → ℕ
   generation_of None = 0
   generation_of (Some e) = e.0
-
-  -- the slots without the free ones at the end, but for those up to index m
-  abbrev pub shortened : ℕ → List (Option (ℕ × T)) → List (Option (ℕ × T))
-  shortened m slots = take (max (length (trimmed slots)) m) slots
-
-  -- the slots with free ones after them, so that there are at least so many
-  abbrev pub extended : List (Option (ℕ × T)) → ℕ → List (Option (ℕ × T))
-  extended slots n = slots ++ replicate (n - length slots) None
 
   -- an arena without slots
   abbrev pub new_direct : ℕ → Option ℕ → ℕ → DirectState T

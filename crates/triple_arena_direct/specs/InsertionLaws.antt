@@ -9,7 +9,8 @@ use Rattle.triple_arena.specs.Entries.{entry_in, entry_count, ChangesAt}
 use Rattle.triple_arena.specs.EntryLaws.{changes_at}
 use Rattle.triple_arena.specs.LengthLaws.{count-with_item}
 use Rattle.triple_arena.specs.DirectInsertion.{IsVacant}
-use Rattle.triple_arena_direct.specs.DirectState.{DirectState, extended, direct_len, direct_capacity, inserted_at}
+use Rattle.triple_arena.specs.FreeEnd.{extended}
+use Rattle.triple_arena_direct.specs.DirectState.{DirectState, direct_len, direct_capacity, inserted_at}
 
 none_in_gap : (T : Type 0) (n : ℕ) → entry_count (replicate {A = Option (ℕ × T)} n None) ≡ 0
 none_in_gap T zero = refl

@@ -10,3 +10,5 @@ pub mod CloningLaws
 pub mod Mirrors
 pub mod InsertEntry
 pub mod CompressionLaws
+pub mod Renaming
+pub mod RenamingLaws

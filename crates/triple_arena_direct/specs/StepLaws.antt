@@ -9,7 +9,8 @@ use Rattle.triple_arena.specs.Entries.{entry_in, entry_count, ChangesAt, KeepsEn
 use Rattle.triple_arena.specs.FreeList.{before, trimmed}
 use Rattle.triple_arena.specs.EntryLaws.{changes_at}
 use Rattle.triple_arena.specs.LengthLaws.{count-with_item}
-use Rattle.triple_arena_direct.specs.DirectState.{DirectState, generation_of, shortened, direct_len, with_value, removed, cleared, settled, reallocated}
+use Rattle.triple_arena.specs.FreeEnd.{shortened}
+use Rattle.triple_arena_direct.specs.DirectState.{DirectState, generation_of, direct_len, with_value, removed, cleared, settled, reallocated}
 
 module _ {T : Type 0} where
   -- an entry with its own generation is the entry

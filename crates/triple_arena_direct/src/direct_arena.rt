@@ -20,6 +20,7 @@ ghost use Rattle.triple_arena_direct.specs.Values.{with_values_of};
 ghost use Rattle.triple_arena_direct.specs.Slot.{slot_entry};
 
 mod compaction;
+mod transfer;
 
 use crate::direct_arena_iterators::PtrAdvancer;
 use crate::lent_slots::LentSlots;
@@ -29,10 +30,13 @@ use std::alloc::Global;
 use std::marker::{Model, PhantomData};
 use std::num::NonZeroUsize;
 use triple_arena::ends::last_index;
+use triple_arena::entry_slots::{
+    first_live, last_live, live_from, live_to, shorten, slot_at, work_on_two,
+};
 use triple_arena::pair_call::{AtEntries, AtValues, PairCall};
 use triple_arena::{
     ArenaCloneFromWith, ArenaDirectInsertTrait, ArenaTrait, CompactArenaTrait,
-    DisjointableArenaTrait, LendingArena,
+    DisjointableArenaTrait, EntrySlot, LendingArena,
 };
 use triple_arena_base::{
     AllocError, CloneFromError, GetDisjointMutError, InvalidationOption, InvalidationResult,
@@ -458,7 +462,7 @@ impl<P: Ptr, T, S: NonZeroInxGenericStack<DirectSlot<P, T>>> DirectArena<P, T, S
     {
         let stack = &self.slots.stack;
         match P::Inx::try_into_usize(inx) {
-            Some(inx) => slots::slot_at(stack, inx),
+            Some(inx) => slot_at(stack, inx),
             None => None,
         }
     }
@@ -493,10 +497,7 @@ impl<P: Ptr, T, S: NonZeroInxGenericStack<DirectSlot<P, T>>> DirectArena<P, T, S
         ensures { (h : ℕ) × (v : T) × (entry_in self.now.slots (non_zero_usize_get inx) ≡ Some (h, v))
             × (P.numbers result ≡ (non_zero_usize_get inx, h)) }
     {
-        let (generation, _value) = slots::slot_at(&self.slots.stack, inx)
-            .unwrap()
-            .entry()
-            .unwrap();
+        let (generation, _value) = slot_at(&self.slots.stack, inx).unwrap().entry().unwrap();
         P::_from_raw(P::Inx::try_from_usize(inx).unwrap(), generation)
     }
 
@@ -509,7 +510,7 @@ impl<P: Ptr, T, S: NonZeroInxGenericStack<DirectSlot<P, T>>> DirectArena<P, T, S
             × ((i : ℕ) → non_zero_usize_get from ≤ i → i < non_zero_usize_get inx
             → entry_in self.now.slots i ≡ None)) }
     {
-        slots::live_from(&self.slots.stack, from)
+        live_from::<P, T, DirectSlot<P, T>, S>(&self.slots.stack, from)
     }
 
     // The greatest index of an entry at or below this one, if there is one.
@@ -521,7 +522,7 @@ impl<P: Ptr, T, S: NonZeroInxGenericStack<DirectSlot<P, T>>> DirectArena<P, T, S
             × ((i : ℕ) → i ≤ non_zero_usize_get to → non_zero_usize_get inx < i
             → entry_in self.now.slots i ≡ None)) }
     {
-        slots::live_to(&self.slots.stack, to)
+        live_to::<P, T, DirectSlot<P, T>, S>(&self.slots.stack, to)
     }
 
     // The least index of an entry, if there is one.
@@ -531,7 +532,7 @@ impl<P: Ptr, T, S: NonZeroInxGenericStack<DirectSlot<P, T>>> DirectArena<P, T, S
             (λ inx. IsSome (entry_in self.now.slots (non_zero_usize_get inx))
             × ((i : ℕ) → i < non_zero_usize_get inx → entry_in self.now.slots i ≡ None)) }
     {
-        self.live_from(NonZeroUsize::MIN)
+        first_live::<P, T, DirectSlot<P, T>, S>(&self.slots.stack)
     }
 
     // The greatest index of an entry, if there is one.
@@ -541,7 +542,7 @@ impl<P: Ptr, T, S: NonZeroInxGenericStack<DirectSlot<P, T>>> DirectArena<P, T, S
             (λ inx. IsSome (entry_in self.now.slots (non_zero_usize_get inx))
             × ((i : ℕ) → non_zero_usize_get inx < i → entry_in self.now.slots i ≡ None)) }
     {
-        self.live_to(self.next_slot())
+        last_live::<P, T, DirectSlot<P, T>, S>(&self.slots.stack)
     }
 
     // The index past the last slot, or the greatest number.
@@ -616,7 +617,7 @@ impl<P: Ptr, T, S: NonZeroInxGenericStack<DirectSlot<P, T>>> DirectArena<P, T, S
             result (λ x y. self.new ≡ with_value
             (with_value self.old (non_zero_usize_get first) x) (non_zero_usize_get second) y) }
     {
-        slots::work_on_two(&mut self.slots.stack, first, second, call)
+        work_on_two::<P, T, DirectSlot<P, T>, S, R, C>(&mut self.slots.stack, first, second, call)
     }
 
     // Reallocates where so many are past the capacity.
@@ -632,6 +633,7 @@ impl<P: Ptr, T, S: NonZeroInxGenericStack<DirectSlot<P, T>>> DirectArena<P, T, S
             → IsWithin self.old.limit min_capacity
             → S.has_memory (reallocated S.kind self.old min_capacity).room → IsOk result }
         ensures place { OnOk result (min_capacity ≤ direct_capacity self.new) }
+        ensures indexed { OnOk result (min_capacity ≤ greatest_index P.Inx.greatest) }
     {
         if min_capacity <= self.capacity() {
             return Ok(());
@@ -684,7 +686,7 @@ impl<P: Ptr, T, S: NonZeroInxGenericStack<DirectSlot<P, T>>> DirectArena<P, T, S
     fn shorten(&mut self, len: usize)
         ensures { self.new ≡ settled self.old len }
     {
-        slots::shorten(&mut self.slots.stack, len);
+        shorten::<P, T, DirectSlot<P, T>, S>(&mut self.slots.stack, len);
     }
 
     // Reallocates the stack, and leaves the slots as they are.

@@ -1,12 +1,12 @@
-//! Direct arenas of pointers as recasters.
+//! Direct arenas of pointers as recasters, and the items that a direct arena holds.
 
 ghost use Rattle.std.specs.Prelude.{◌≡◌};
 ghost use Rattle.triple_arena.specs.Entries.{look_up_in};
 
 use crate::direct_arena::DirectArena;
 use crate::slot::DirectSlot;
-use triple_arena::ArenaTrait;
-use triple_arena_base::Recaster;
+use triple_arena::{ArenaTrait, recast_entries};
+use triple_arena_base::{Recast, Recaster};
 use triple_arena_ptr::Ptr;
 use triple_arena_stack::NonZeroInxGenericStack;
 
@@ -25,4 +25,28 @@ impl<P: Ptr, S: NonZeroInxGenericStack<DirectSlot<P, P>>> Recaster for DirectAre
             None => Err(*item),
         }
     }
+}
+
+/// Holds what its values hold, in the order of the indexes of the entries.
+impl<I, P: Ptr, T: Recast<I>, S: NonZeroInxGenericStack<DirectSlot<P, T>>> Recast<I>
+    for DirectArena<P, T, S> {
+    ghost use Rattle.std.proofs.Common.{ap};
+    ghost use Rattle.triple_arena.specs.HeldSlots.{held_slots, refill_slots, slots_held_refill, slots_refill_held, slots_refill_refill};
+
+    ghost held = { λ s. held_slots T.held T.refill s.slots };
+
+    // nothing but the held items changes
+    ghost refill = { λ s l. record s { slots = refill_slots T.held T.refill s.slots l } };
+
+    fn recast<R: Recaster<Item = I>>(&mut self, recaster: &R) -> Result<(), I> {
+        recast_entries(self, recaster)
+    }
+
+    ghost held_refill = { λ s l h. slots_held_refill T.held T.refill T.held_refill s.slots l h };
+
+    ghost refill_held = { λ s. ap (λ slots. record s { slots = slots })
+        (slots_refill_held T.held T.refill T.refill_held s.slots) };
+
+    ghost refill_refill = { λ s l m h k. ap (λ slots. record s { slots = slots })
+        (slots_refill_refill T.held T.refill T.held_refill T.refill_refill s.slots l m h k) };
 }

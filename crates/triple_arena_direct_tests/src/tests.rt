@@ -3,7 +3,9 @@
 
 mod calls;
 mod clones;
-mod direct_call;
 mod insertion;
 mod pops;
 mod refused_memory;
+mod renaming;
+mod tested_direct;
+mod transfers;

@@ -1,20 +1,20 @@
-use Rattle.std.proofs.Common.{◌≡◌, ◌∙◌, map, Some, refl, sym, ap}
+use Rattle.std.proofs.Common.{◌≡◌, ◌∙◌, map, Some, sym, ap}
 use Rattle.std.specs.Int.NonZero.{non_zero_usize_get}
 use Rattle.triple_arena.specs.Items.{with_item}
 use Rattle.triple_arena.specs.Entries.{entry_in}
 use Rattle.triple_arena.proofs.ItemLists.{map-with_item}
-use Rattle.triple_arena_direct.specs.DirectState.{extended}
+use Rattle.triple_arena.specs.FreeEnd.{extended}
 use Rattle.triple_arena_direct.specs.InsertionLaws.{entry-extended}
 use Rattle.triple_arena_direct.specs.Slot.{slot_entry}
-use Rattle.triple_arena_direct.proofs.SlotEntries.{entry_item}
+use Rattle.triple_arena.proofs.SlotEntries.{entry_item}
 use Rattle.triple_arena_direct.proofs.slots.occupy.Goals as goal
 
-pub let_go-requires-after_bounds : goal.let_go-requires-after_bounds
-let_go-requires-after_bounds g c κs within =
+pub discard-requires-after_bounds : goal.discard-requires-after_bounds
+discard-requires-after_bounds g c κs within =
     let f = slot_entry g.P.Gen.PtrGen.number in
     let old = map f (g.S.NonZeroInxGenericStack.items c.args.stack.now) in
     let i = non_zero_usize_get c.args.inx in
-    rw (sym (entry_item g.P.Gen.PtrGen.number _ i c.replace.result c.replace.ensures.value) ∙ ap (λ xs. entry_in xs i) c.extend.ensures.slots ∙ entry-extended old _ i ∙ c.requires.free) refl
+    sym (entry_item f _ i c.replace.result c.replace.ensures.value) ∙ ap (λ xs. entry_in xs i) c.extend.ensures.slots ∙ entry-extended old _ i ∙ c.requires.free
 
 pub returns-clause-slots : goal.returns-clause-slots
 returns-clause-slots g c =

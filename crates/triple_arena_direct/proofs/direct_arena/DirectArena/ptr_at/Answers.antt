@@ -3,7 +3,8 @@ use Rattle.std.specs.Int.NonZero.{non_zero_usize_get}
 use Rattle.triple_arena.specs.Entries.{entry_in}
 use Rattle.triple_arena_direct.specs.DirectState.{DirectState}
 use Rattle.triple_arena.proofs.Links.{pointer_is}
-use Rattle.triple_arena_direct.proofs.SlotEntries.{entry_item}
+use Rattle.triple_arena_direct.specs.Slot.{slot_entry}
+use Rattle.triple_arena.proofs.SlotEntries.{entry_item}
 use Rattle.triple_arena_direct.proofs.direct_arena.DirectArena.ptr_at.Goals as goal
 
 pub returns : goal.returns
@@ -15,7 +16,7 @@ returns g c =
     let read = rw c.unwrap-generation.ensures at c.entry.ensures in (
       number c.unwrap-generation.result.0,
       c.unwrap-generation.result.1.now,
-      sym (ap (λ (s : DirectState g.row.T.Denot). entry_in s.slots inx) c.self.view_is) ∙ entry_item number slots inx c.unwrap.result.now (sym slot) ∙ sym read,
+      sym (ap (λ (s : DirectState g.row.T.Denot). entry_in s.slots inx) c.self.view_is) ∙ entry_item (slot_entry number) slots inx c.unwrap.result.now (sym slot) ∙ sym read,
       g.met.P.Ptr.numbers_of c._from_raw.result
           ∙ pointer_is _ _ _ _ (ap g.P.Inx.PtrInx.number c._from_raw.ensures.index ∙ rw c.unwrap-2.ensures at c.try_from_usize.ensures.number) (ap number c._from_raw.ensures.generation),
     )

@@ -3,7 +3,7 @@ use Rattle.std.specs.Int.NonZero.{non_zero_usize_get}
 use Rattle.triple_arena.specs.Entries.{with_value_in}
 use Rattle.triple_arena_direct.specs.DirectState.{with_value}
 use Rattle.triple_arena_direct.specs.Layout.{Counts}
-use Rattle.triple_arena_direct.proofs.Held.{made, Counts-with_value, entry_value_read}
+use Rattle.triple_arena_direct.proofs.Held.{made, both_written, Counts-with_value, entry_value_read}
 use Rattle.triple_arena_direct.proofs.direct_arena.DirectArena.work_on_two.Goals as goal
 
 pub invariant_of-self : goal.invariant_of-self
@@ -12,7 +12,7 @@ invariant_of-self g c =
     let j = non_zero_usize_get c.args.second in
     let w = c.work_on_two.ensures.worked in
     (made g.P.Gen.PtrGen.number _ _ _ _ _ (with_value (with_value c.args.self.now i w.2) j w.3)
-    (w.7 ∙ ap (λ s. with_value_in (with_value_in s.slots i w.2) j w.3) c.self.view_is)
+    (both_written g.P.Gen.PtrGen.number _ _ i j w.2 w.3 c.requires.apart w.7 ∙ ap (λ s. with_value_in (with_value_in s.slots i w.2) j w.3) c.self.view_is)
     (c.work_on_two.ensures.room ∙ ap (λ s. s.room) c.self.view_is)
     (c.work_on_two.ensures.limit ∙ ap (λ s. s.limit) c.self.view_is)
     (ap (λ s. s.greatest) c.self.view_is)
@@ -31,7 +31,7 @@ returns g c =
       entry_value_read _ c.args.self.now.slots j j _ (ap (λ s. s.slots) c.self.view_is) refl w.5,
       w.6,
       (made g.P.Gen.PtrGen.number _ _ _ _ _ (with_value (with_value c.args.self.now i w.2) j w.3)
-          (w.7 ∙ ap (λ s. with_value_in (with_value_in s.slots i w.2) j w.3) c.self.view_is)
+          (both_written g.P.Gen.PtrGen.number _ _ i j w.2 w.3 c.requires.apart w.7 ∙ ap (λ s. with_value_in (with_value_in s.slots i w.2) j w.3) c.self.view_is)
           (c.work_on_two.ensures.room ∙ ap (λ s. s.room) c.self.view_is)
           (c.work_on_two.ensures.limit ∙ ap (λ s. s.limit) c.self.view_is)
           (ap (λ s. s.greatest) c.self.view_is)

@@ -1,7 +1,25 @@
-use Rattle.std.proofs.Common.{◌≡◌, ◌∙◌, sym, ap, true≢false}
-use Rattle.triple_arena.proofs.CopyLemmas.{on_copies}
+use Rattle.std.proofs.Common.{◌≡◌, ◌∙◌, Err, refl, sym, ap, true≢false}
+use Rattle.triple_arena.proofs.CopyLemmas.{on_copies, no_answer, beyond_told}
 use Rattle.triple_arena_direct.specs.DirectState.{ready_for, with_slots}
 use Rattle.triple_arena_direct.proofs.direct_arena.DirectArenaArenaCloneFromWith.clone_from_with.Goals as goal
+
+pub returns-in-Err-clause-cloned : goal.returns-in-Err-clause-cloned
+returns-in-Err-clause-cloned g c answer is = absurd (no_answer answer c.in-Err.refusal is)
+
+pub returns-in-Err-clause-beyond : goal.returns-in-Err-clause-beyond
+returns-in-Err-clause-beyond g c =
+    let last = c.last_index.ensures.value in
+    beyond_told (Err c.in-Err.refusal) _ c.in-Err.refusal refl refl (rw last at c.in-Err.ensures.beyond) (rw last at c.last_index.ensures.indexed)
+
+pub returns-in-Ok-clause-beyond : goal.returns-in-Ok-clause-beyond
+returns-in-Ok-clause-beyond g c =
+    let last = c.last_index.ensures.value in
+    (λ e. absurd (cc), λ h. absurd (let none = (rw last at c.in_default.ensures.beyond).1 (h.0, rw last at c.last_index.ensures.indexed, h.1) in cc))
+
+pub returns-in-Err-hold_copies-clause-beyond : goal.returns-in-Err-hold_copies-clause-beyond
+returns-in-Err-hold_copies-clause-beyond g c =
+    let last = c.last_index.ensures.value in
+    (λ e. absurd (cc), λ h. absurd (let none = (rw last at c.in_default.ensures.beyond).1 (h.0, rw last at c.last_index.ensures.indexed, h.1) in cc))
 
 pub returns-in-Err-clause-given : goal.returns-in-Err-clause-given
 returns-in-Err-clause-given g c within memory refusal =

@@ -1,6 +1,8 @@
-use Rattle.std.proofs.Common.{◌≡◌}
+use Rattle.std.proofs.Common.{◌≡◌, refl, sym, inl, inr}
 use Rattle.std.specs.Int.NonZero.{non_zero_usize_get}
 use Rattle.triple_arena.proofs.Pairs.{entry_by_parts}
+use Rattle.triple_arena.proofs.Present.{some_mapped, none_mapped}
+use Rattle.triple_arena_direct.proofs.direct_arena.DirectArenaDisjointableArenaTrait.with_disjoint_inx_mut.Goals.{in_default-via-in-Some+in_default, in_default-via-in_default}
 use Rattle.triple_arena_direct.proofs.direct_arena.DirectArenaDisjointableArenaTrait.with_disjoint_inx_mut.Goals as goal
 
 pub returns-clause-worked : goal.returns-clause-worked
@@ -19,3 +21,28 @@ returns-clause-worked g c =
       record { first = w.6.first; second = w.6.second; shows = w.6.shows; left = w.6.left; met = w.6.met; leaves = w.6.leaves },
       rw (at_first, at_second) at w.7,
     )
+
+pub returns-in_default-clause-variant : goal.returns-in_default-clause-variant
+returns-in_default-clause-variant g c =
+    inr (
+      c.in_ok-i.ensures.variant,
+      elim c.in_default.branch [
+        | in_default-via-in-Some+in_default w ↦ inr (none_mapped _ _ (rw w.in_default.is-1 at c.generation_at-2.ensures))
+        | in_default-via-in_default w ↦ inl (none_mapped _ _ (rw w.in_default.is-0 at c.generation_at.ensures))
+      ],
+    )
+
+pub returns-clause-variant : goal.returns-clause-variant
+returns-clause-variant g c = (
+  some_mapped _ _ _ (sym (rw c.in-Some-Some.is-0 at c.generation_at.ensures)) refl,
+  some_mapped _ _ _ (sym (rw c.in-Some-Some.is-1 at c.generation_at-2.ensures)) refl,
+  c.in_ok-i.ensures.variant.2,
+)
+
+pub work_on_two-requires-clause-callable : goal.work_on_two-requires-clause-callable
+work_on_two-requires-clause-callable g c κs within =
+    let slots = c.args.self.now.slots in
+    λ x y at_x at_y.
+    c.requires c.in_ok-i.ensures.variant.2 c.in-Some-Some.a c.in-Some-Some.b x y
+    (entry_by_parts slots _ _ _ _ c.in_ok-i.ensures.numbers.0 (rw c.in-Some-Some.is-0 at c.generation_at.ensures) at_x)
+    (entry_by_parts slots _ _ _ _ c.in_ok-i.ensures.numbers.1 (rw c.in-Some-Some.is-1 at c.generation_at-2.ensures) at_y)

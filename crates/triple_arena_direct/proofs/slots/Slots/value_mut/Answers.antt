@@ -1,14 +1,14 @@
 use Rattle.std.proofs.Common.{◌∙◌, sym, refl}
 use Rattle.std.specs.Int.NonZero.{non_zero_usize_get}
-use Rattle.triple_arena_direct.specs.Slot.{with_slot_value}
+use Rattle.triple_arena_direct.specs.Slot.{slot_entry, with_slot_value}
 use Rattle.triple_arena.proofs.ItemLists.{item_at, with_item_at}
-use Rattle.triple_arena_direct.proofs.SlotEntries.{entry_item}
+use Rattle.triple_arena.proofs.SlotEntries.{entry_item}
 use Rattle.triple_arena_direct.proofs.slots.Slots.value_mut.Goals as goal
 
 pub value_mut-requires-after_bounds : goal.value_mut-requires-after_bounds
 value_mut-requires-after_bounds g c κs within =
     let found = item_at _ _ c.args.inx.ok ∙ sym (rw c.unwrap-slot.ensures at c.get_mut.ensures.value) in
-    rw (← entry_item g.P.Gen.PtrGen.number (g.S.NonZeroInxGenericStack.items c.args.self.now.stack) (non_zero_usize_get c.args.inx) c.unwrap-slot.result.now found) c.requires
+    rw (← entry_item (slot_entry g.P.Gen.PtrGen.number) (g.S.NonZeroInxGenericStack.items c.args.self.now.stack) (non_zero_usize_get c.args.inx) c.unwrap-slot.result.now found) c.requires
 
 pub returns : goal.returns
 returns g c =
@@ -19,6 +19,6 @@ returns g c =
       ),
       record {
         writes_back = tt;
-        value = rw (entry_item g.P.Gen.PtrGen.number (g.S.NonZeroInxGenericStack.items c.args.self.now.stack) (non_zero_usize_get c.args.inx) c.unwrap-slot.result.now found) c.value_mut.ensures.value;
+        value = rw (entry_item (slot_entry g.P.Gen.PtrGen.number) (g.S.NonZeroInxGenericStack.items c.args.self.now.stack) (non_zero_usize_get c.args.inx) c.unwrap-slot.result.now found) c.value_mut.ensures.value;
       },
     )

@@ -1,0 +1,5 @@
+use Rattle.std.proofs.Common.{◌≡◌}
+use Rattle.triple_arena_direct.proofs.direct_arena.DirectArena.first_live.Goals as goal
+
+pub returns : goal.returns
+returns g c = rw (← c.self.view_is) c.first_live.ensures

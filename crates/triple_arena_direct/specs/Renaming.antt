@@ -1,0 +1,39 @@
+-- Compaction that renames: the map from old pointers to new ones, and what becomes of the pointers that values hold.
+use Rattle.std.specs.Prelude.{◌≡◌, ◌<◌, not, ℕ, List, map, Option, Some, is_some}
+use Rattle.std.specs.Option.{option_map}
+use Rattle.std.specs.List.{find, AllZip}
+use Rattle.triple_arena_base.specs.declared.errors.ReallocationError.{ReallocationError}
+use Rattle.triple_arena_base.specs.declared.errors.ReallocationError.TheVariants.{AllocError}
+use Rattle.triple_arena_base.specs.declared.errors.CompactError.{CompactError}
+use Rattle.triple_arena_base.specs.declared.errors.CompactError.TheVariants.{Unresolved, Reallocation}
+use Rattle.triple_arena_ptr.specs.Pointers.{Pointer}
+use Rattle.triple_arena.specs.Entries.{look_up_in}
+
+module _ {P T : Type 0} (numbers : P → Pointer) where
+  -- the map has, for each pointer of these slots, its new pointer, and none for any other
+  abbrev pub MapsPointers : (Pointer → Pointer) → List (Option (ℕ × T)) → List (Option (ℕ × P)) → Type 0
+  MapsPointers rename slots images = (p : Pointer) → option_map numbers (look_up_in images p) ≡ option_map (λ _. rename p) (look_up_in slots p)
+
+  -- the first of these pointers that finds nothing in the slots, if there is one
+  abbrev pub first_unresolved : List (Option (ℕ × T)) → List P → Option P
+  first_unresolved slots ps = find (λ p. not (is_some (look_up_in slots (numbers p)))) ps
+
+module _ {P T : Type 0} (numbers : P → Pointer) (rename : Pointer → Pointer) (held : T → List P) (refill : T → List P → T) where
+  -- a value, and the same with each pointer that it holds renamed once
+  pub record IsRenamed (old new : T) : Type 0 where
+    pub pointers : List P
+    pub renamed : map numbers pointers ≡ map (λ p. rename (numbers p)) (held old)
+    pub filled : new ≡ refill old pointers
+
+  -- values, and the same, in their order, with each pointer that they hold renamed once
+  abbrev pub AreRenamed : List T → List T → Type 0
+  AreRenamed olds news = AllZip IsRenamed olds news
+
+-- memory was refused, which comes only where there is an entry
+abbrev pub WantsMemory : ℕ → ReallocationError → Type 0
+WantsMemory count refusal = (refusal ≡ AllocError) × (0 < count)
+
+-- why nothing was compacted, where there are so many entries, and this is the first stored pointer that finds nothing
+abbrev pub Refuses : {P : Type 0} → ℕ → Option P → CompactError P → Type 0
+Refuses count first (Unresolved p) = first ≡ Some p
+Refuses count first (Reallocation refusal) = WantsMemory count refusal

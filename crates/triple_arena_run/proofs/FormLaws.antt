@@ -12,7 +12,7 @@ use Rattle.std.proofs.lemmas.List.Splits.{join_with_byte-slice_split, slice_spli
 use Rattle.std.proofs.lemmas.Str.Parse.{tells_digits}
 use Rattle.std.proofs.lemmas.Bool.Decides.{nat_tests}
 use Rattle.triple_arena_run.specs.declared.command.Command.{Command}
-use Rattle.triple_arena_run.specs.declared.command.Command.TheVariants.{Insert, InsertWithin, Get, Set, Remove, Invalidate, Clear, Len, Capacity, Reserve, Show}
+use Rattle.triple_arena_run.specs.declared.command.Command.TheVariants.{Insert, InsertWithin, Get, Set, Remove, Invalidate, Clear, Compact, Len, Capacity, Reserve, Show}
 use Rattle.triple_arena_run.specs.Lines.{words_of}
 use Rattle.triple_arena_run.specs.CommandText.{command_of_words, command_of, number_of, link_of, bare_of, numbered, linked, numbered_of, insert_of}
 use Rattle.triple_arena_run.specs.Forms.{WritesNumber, WritesLink, IsNumbered, IsLinked, HasForm, FormsAreExact, LinesAreExact}
@@ -157,9 +157,10 @@ joined words = join_with_byte 32 words
 bare-is : (x : List ℕ) (command : Command ℕ) → bare_of x ≡ Some command → HasForm x command
 bare-is x command e =
     pick (HasForm x) (bytes_eq x (codes "clear")) Clear command e (is_text x (codes "clear"))
+    (λ e. pick (HasForm x) (bytes_eq x (codes "compact")) Compact command e (is_text x (codes "compact"))
     (λ e. pick (HasForm x) (bytes_eq x (codes "len")) Len command e (is_text x (codes "len"))
     (λ e. pick (HasForm x) (bytes_eq x (codes "capacity")) Capacity command e (is_text x (codes "capacity"))
-    (λ e. pick (HasForm x) (bytes_eq x (codes "show")) Show command e (is_text x (codes "show")) (no_choice (HasForm x) command))))
+    (λ e. pick (HasForm x) (bytes_eq x (codes "show")) Show command e (is_text x (codes "show")) (no_choice (HasForm x) command)))))
 
 has_verb : (x y verb : List ℕ) → bytes_eq x verb ≡ true → joined (x ∷ y ∷ []) ≡ verb ++ codes " " ++ y
 has_verb x y verb is = ap (λ z. joined (z ∷ y ∷ [])) (is_text x verb is) ∙ sym (with_space verb y)
@@ -221,6 +222,7 @@ command_of-from line (Set name datum link) (k, (a, b, e, number, is), named) =
 command_of-from line (Remove name) form = numbered-from line (codes "remove") name refl form
 command_of-from line (Invalidate name) form = numbered-from line (codes "invalidate") name refl form
 command_of-from line Clear form = bare-from line (codes "clear") refl form
+command_of-from line Compact form = bare-from line (codes "compact") refl form
 command_of-from line Len form = bare-from line (codes "len") refl form
 command_of-from line Capacity form = bare-from line (codes "capacity") refl form
 command_of-from line (Reserve number) form = numbered-from line (codes "reserve") number refl form

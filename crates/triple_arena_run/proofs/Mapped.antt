@@ -15,6 +15,8 @@ use Rattle.triple_arena.specs.Insertion.{place_among, inserted_among, inserted, 
 use Rattle.triple_arena.specs.FreeList.{before, trimmed, gaps, tidied}
 use Rattle.triple_arena.specs.Capacity.{with_room_for, grown, reallocated}
 use Rattle.triple_arena.specs.Ending.{removed, invalidated, cleared}
+use Rattle.triple_arena.specs.Walks.{entries_from, values_of}
+use Rattle.triple_arena.specs.Compression.{closed_up, compressed, rank}
 
 module _ {A B : Type 0} (f : A → B) where
   pub item-map : (xs : List A) (i : ℕ) → item (map f xs) i ≡ option_map f (item xs i)
@@ -114,6 +116,21 @@ module _ {T U : Type 0} (f : T → U) where
 
   pub cleared-mapped : (raise : ℕ → ℕ) (s : ArenaState T) → map_values f (cleared raise s) ≡ cleared raise (map_values f s)
   cleared-mapped raise s = rw (len-mapped s) refl
+
+  pub values-mapped : (at : ℕ) (xs : List (Option (ℕ × T))) → values_of (entries_from at (map (option_map (map_entry f)) xs)) ≡ map f (values_of (entries_from at xs))
+  values-mapped at [] = refl
+  values-mapped at (None ∷ xs) = values-mapped (at + 1) xs
+  values-mapped at (Some e ∷ xs) = ap (λ l. f e.1 ∷ l) (values-mapped (at + 1) xs)
+
+  pub rank-mapped : (s : ArenaState T) (counter : ℕ) (p : Pointer) → rank (map_values f s) counter p ≡ rank s counter p
+  rank-mapped s counter p = ap (λ n. (n, counter)) (ap entry_count (take-map (option_map (map_entry f)) p.0 s.slots) ∙ count-mapped (take p.0 s.slots))
+
+  closed_up-mapped : (counter : ℕ) (vs : List T) → map (option_map (map_entry f)) (closed_up counter vs) ≡ closed_up counter (map f vs)
+  closed_up-mapped counter [] = refl
+  closed_up-mapped counter (v ∷ vs) = ap (λ l. Some (counter, f v) ∷ l) (closed_up-mapped counter vs)
+
+  pub compressed-mapped : (s : ArenaState T) (counter : ℕ) (vs : List T) → map_values f (compressed s counter vs) ≡ compressed (map_values f s) counter (map f vs)
+  compressed-mapped s counter vs = ap (λ xs. record (map_values f s) { slots = xs; counter = counter; free = [] }) (closed_up-mapped counter vs)
 
   before-mapped : (x : Option (ℕ × T)) (rest : List (Option (ℕ × T))) → before (option_map (map_entry f) x) (map (option_map (map_entry f)) rest) ≡ map (option_map (map_entry f)) (before x rest)
   before-mapped (Some e) rest = refl

@@ -26,7 +26,8 @@ use Rattle.triple_arena_run.specs.declared.reply.Reply.{Reply}
 use Rattle.triple_arena_run.specs.declared.reply.Reply.TheVariants.{Given, BeyondMaxCapacity, NoMemory, Done, Removed, Invalid}
 use Rattle.triple_arena_run.specs.SessionState.{SessionState, node_of, link_name}
 use Rattle.triple_arena_run.specs.SessionLayout.{session_of}
-use Rattle.triple_arena_run.specs.SessionRun.{with_room_for_name, give, act_on, act_under, refusal, is_within, in_order, remove_under, invalidate_under, insert_within_answer, reserve_answer, ArenaWantsMemory, RoomWantsMemory, IsStep}
+use Rattle.triple_arena_run.specs.Limits.{is_within}
+use Rattle.triple_arena_run.specs.SessionRun.{with_room_for_name, give, act_on, act_under, refusal, in_order, remove_under, invalidate_under, insert_within_answer, reserve_answer, ArenaWantsMemory, RoomWantsMemory, IsStep}
 use Rattle.triple_arena_run.proofs.Mapped.{len-mapped, look_up-mapped, next_pointer-mapped, inserted-mapped, grown-mapped, with_value-mapped, removed-mapped, invalidated-mapped, tidied-mapped, reallocated-mapped}
 
 none_some : {A : Type 0} {x : A} → None ≡ Some x → ⊥
@@ -79,7 +80,7 @@ no_beyond is why beyond = cc
 pub no_success : {E : Type 0} {r : Result (Unit {0}) E} {why : E} → r ≡ Err why → IsOk r → ⊥
 no_success is ok = true≢false (sym (subst IsOk is ok))
 
-answers : {X : Type 0} {r q : Reply X} {t u : SessionState X} → r ≡ q → t ≡ u → ◌≡◌ {A = Reply X × SessionState X} (r, t) (q, u)
+pub answers : {X : Type 0} {r q : Reply X} {t u : SessionState X} → r ≡ q → t ≡ u → ◌≡◌ {A = Reply X × SessionState X} (r, t) (q, u)
 answers e f = rw (e, f) refl
 
 with_state : {X : Type 0} {t u : SessionState X} (r : Reply X) → t ≡ u → ◌≡◌ {A = Reply X × SessionState X} (r, t) (r, u)

@@ -7,7 +7,7 @@ use Rattle.std.specs.Str.{bytes_eq}
 use Rattle.std.specs.Str.Parse.{digits_value}
 use Rattle.triple_arena_run.specs.Lines.{words_of}
 use Rattle.triple_arena_run.specs.declared.command.Command.{Command}
-use Rattle.triple_arena_run.specs.declared.command.Command.TheVariants.{Insert, InsertWithin, Get, Set, Remove, Invalidate, Clear, Len, Capacity, Reserve, Show}
+use Rattle.triple_arena_run.specs.declared.command.Command.TheVariants.{Insert, InsertWithin, Get, Set, Remove, Invalidate, Clear, Compact, Len, Capacity, Reserve, Show}
 
 -- whether a word is one digit or more, and writes a number below 2 ^ 64.
 abbrev pub is_number : List ℕ → Bool
@@ -25,9 +25,10 @@ link_of word = if bytes_eq word (codes "-") then Some None else option_map Some 
 abbrev pub bare_of : List ℕ → Option (Command ℕ)
 bare_of verb =
     if bytes_eq verb (codes "clear") then Some Clear
+    else (if bytes_eq verb (codes "compact") then Some Compact
     else (if bytes_eq verb (codes "len") then Some Len
     else (if bytes_eq verb (codes "capacity") then Some Capacity
-    else (if bytes_eq verb (codes "show") then Some Show else None)))
+    else (if bytes_eq verb (codes "show") then Some Show else None))))
 
 -- what is made of a verb before a number.
 abbrev pub numbered : List ℕ → ℕ → Option (Command ℕ)

@@ -3,7 +3,7 @@ use Rattle.std.specs.Prelude.{◌≡◌, ℕ, ◌^◌, ◌<◌, ◌↔◌, List,
 use Rattle.std.specs.List.{join_with_byte}
 use Rattle.std.specs.Str.Parse.{IsNumeral, digits_value}
 use Rattle.triple_arena_run.specs.declared.command.Command.{Command}
-use Rattle.triple_arena_run.specs.declared.command.Command.TheVariants.{Insert, InsertWithin, Get, Set, Remove, Invalidate, Clear, Len, Capacity, Reserve, Show}
+use Rattle.triple_arena_run.specs.declared.command.Command.TheVariants.{Insert, InsertWithin, Get, Set, Remove, Invalidate, Clear, Compact, Len, Capacity, Reserve, Show}
 use Rattle.triple_arena_run.specs.Lines.{lines_of}
 use Rattle.triple_arena_run.specs.CommandText.{command_of}
 
@@ -33,6 +33,7 @@ HasForm line (Set name datum link) = (k : List ℕ) × IsLinked line (codes "set
 HasForm line (Remove name) = IsNumbered line (codes "remove") name
 HasForm line (Invalidate name) = IsNumbered line (codes "invalidate") name
 HasForm line Clear = line ≡ codes "clear"
+HasForm line Compact = line ≡ codes "compact"
 HasForm line Len = line ≡ codes "len"
 HasForm line Capacity = line ≡ codes "capacity"
 HasForm line (Reserve number) = IsNumbered line (codes "reserve") number

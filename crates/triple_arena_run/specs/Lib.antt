@@ -1,6 +1,8 @@
 pub mod SessionState
 pub mod SessionLayout
 pub mod NameLayout
+pub mod Compaction
+pub mod Limits
 pub mod SessionRun
 pub mod Runs
 pub mod Lines
@@ -13,3 +15,9 @@ pub mod ErrorText
 pub mod Program
 pub mod KindRun
 pub mod ProgramRun
+pub mod NameStore
+pub mod Shown
+pub mod StoreRuns
+pub mod SessionCalls
+pub mod StoreText
+pub mod ElevenCommands

@@ -1,6 +1,7 @@
 -- What the fields of a table of names hold. No public clause cites this module.
-use Rattle.std.specs.Prelude.{◌≡◌, ℕ, ◌≤◌, ◌<◌, Bool, true, false, List, Option, Some, None, map, slice_get, unwrap_or}
-use Rattle.triple_arena.specs.Items.{item}
+use Rattle.std.specs.Prelude.{◌≡◌, ℕ, ◌≤◌, ◌<◌, Bool, true, false, List, Option, Some, None, map, slice_get, unwrap_or, MatchOption}
+use Rattle.triple_arena_base.specs.Held.{recast_item}
+use Rattle.triple_arena.specs.Items.{item, with_item}
 use Rattle.triple_arena_ptr.specs.Pointers.{Pointer}
 use Rattle.triple_arena_run.specs.declared.name_table.Row.{Row}
 
@@ -38,3 +39,7 @@ Knows false table notes = Unit {0}
 -- the generation of p was above what was noted at its index, and is noted there now; no other note is lower
 abbrev pub Notes : Pointer → List ℕ → List ℕ → Type 0
 Notes p old new = (note_at old p.0 < p.1) × (p.1 ≤ note_at new p.0) × ((i : ℕ) → note_at old i ≤ note_at new i)
+
+-- the item of a number was replaced by its image, if it has one
+abbrev pub RecastsAt : {A : Type 0} → (A → Option A) → ℕ → List A → List A → Type 0
+RecastsAt image n old new = MatchOption (item old n) (new ≡ old) (λ x. new ≡ with_item old n (recast_item (image x) x))

@@ -3,13 +3,14 @@ use Rattle.std.specs.Prelude.{ℕ, Bool, false, List, [], ◌∷◌, ◌++◌, O
 use Rattle.std.specs.Fmt.{decimal}
 use Rattle.std.specs.List.{flat_map}
 use Rattle.triple_arena_run.specs.declared.reply.Reply.{Reply}
-use Rattle.triple_arena_run.specs.declared.reply.Reply.TheVariants.{Given, Full, BeyondMaxCapacity, NoMemory, Found, Nothing, Done, Removed, Invalid, Cleared, BadName, Count, Line}
+use Rattle.triple_arena_run.specs.declared.reply.Reply.TheVariants.{Given, Full, BeyondMaxCapacity, NoMemory, Found, Nothing, Done, Removed, Invalid, Cleared, Compacted, Unresolved, BadName, Count, Line}
 
 -- whether a reply tells that the counter wrapped.
 abbrev pub tells_of_wrap : {X : Type 0} → Reply X → Bool
 tells_of_wrap (Given name wrapped) = wrapped
 tells_of_wrap (Removed datum link wrapped) = wrapped
 tells_of_wrap (Cleared wrapped) = wrapped
+tells_of_wrap (Compacted wrapped) = wrapped
 tells_of_wrap reply = false
 
 -- a link is written as its name, and no link as a dash.
@@ -31,6 +32,8 @@ reply_text Done = codes "done"
 reply_text (Removed datum link wrapped) = codes "removed " ++ decimal datum ++ codes " " ++ link_text link ++ wrapped_text wrapped
 reply_text Invalid = codes "invalid"
 reply_text (Cleared wrapped) = codes "cleared" ++ wrapped_text wrapped
+reply_text (Compacted wrapped) = codes "compacted" ++ wrapped_text wrapped
+reply_text Unresolved = codes "unresolved"
 reply_text BadName = codes "bad name"
 reply_text (Count number) = codes "count " ++ decimal number
 reply_text (Line text) = string_bytes text

@@ -1,5 +1,5 @@
 -- What each command makes of a session, and what is replied.
-use Rattle.std.specs.Prelude.{◌≡◌, ℕ, ◌+◌, ◌<◌, ◌≤◌, ◌==◌, nat_le, ◌⊎◌, Bool, true, false, cond, [], ◌∷◌, ◌++◌, length, Option, Some, None, IsSome, String}
+use Rattle.std.specs.Prelude.{◌≡◌, ℕ, ◌+◌, ◌<◌, ◌≤◌, ◌==◌, nat_le, ◌⊎◌, Bool, false, cond, [], ◌∷◌, ◌++◌, length, Option, Some, None, IsSome, String}
 use Rattle.std.specs.declared.alloc.Global.{Global}
 use Rattle.triple_arena_base.specs.declared.errors.ReallocationError.{ReallocationError}
 use Rattle.triple_arena_base.specs.declared.errors.ReallocationError.TheVariants as refused
@@ -13,22 +13,14 @@ use Rattle.triple_arena.specs.Insertion.{inserted, next_pointer}
 use Rattle.triple_arena.specs.FreeList.{tidied}
 use Rattle.triple_arena.specs.Capacity.{grown, reallocated, KeepsRoom}
 use Rattle.triple_arena.specs.Ending.{removed, invalidated, cleared}
-use Rattle.triple_arena.specs.Compression.{wraps_after}
+use Rattle.triple_arena.specs.Compression.{raised_if_any, wraps_after}
 use Rattle.triple_arena_run.specs.declared.command.Command.{Command}
-use Rattle.triple_arena_run.specs.declared.command.Command.TheVariants.{Insert, InsertWithin, Get, Set, Remove, Invalidate, Clear, Len, Capacity, Reserve, Show}
+use Rattle.triple_arena_run.specs.declared.command.Command.TheVariants.{Insert, InsertWithin, Get, Set, Remove, Invalidate, Clear, Compact, Len, Capacity, Reserve, Show}
 use Rattle.triple_arena_run.specs.declared.reply.Reply.{Reply}
-use Rattle.triple_arena_run.specs.declared.reply.Reply.TheVariants.{Given, Full, BeyondMaxCapacity, NoMemory, Found, Nothing, Done, Removed, Invalid, Cleared, BadName, Count, Line}
+use Rattle.triple_arena_run.specs.declared.reply.Reply.TheVariants.{Given, Full, BeyondMaxCapacity, NoMemory, Found, Nothing, Done, Removed, Invalid, Cleared, Compacted, Unresolved, BadName, Count, Line}
 use Rattle.triple_arena_run.specs.SessionState.{SessionState, link_name, link_pointer, named}
-
--- whether there is a limit, and it is at or below this capacity
-abbrev pub is_at_limit : Option ℕ → ℕ → Bool
-is_at_limit None capacity = false
-is_at_limit (Some most) capacity = nat_le most capacity
-
--- whether the limit, if there is one, allows so many
-abbrev pub is_within : Option ℕ → ℕ → Bool
-is_within None m = true
-is_within (Some most) m = nat_le m most
+use Rattle.triple_arena_run.specs.Compaction.{any_dangles, compacted}
+use Rattle.triple_arena_run.specs.Limits.{is_at_limit, is_within}
 
 -- why an arena cannot take one more entry whatever memory there is: it is full, and its limit is reached, or else its
 -- indexes are all taken
@@ -136,6 +128,12 @@ module _ {X : Type 0} (kind : StackKind) (counting : Bool) (greatest : ℕ) wher
   abbrev pub wraps_if_any : SessionState X → Bool
   wraps_if_any s = wraps_after (wraps counting greatest) false s.arena
 
+  -- compaction, unless a link dangles
+  abbrev pub compact_answer : SessionState X → Reply X × SessionState X
+  compact_answer s =
+      cond (any_dangles s.arena) (Unresolved, s)
+      (Compacted (wraps_if_any s), compacted s (raised_if_any (raise counting greatest) s.arena))
+
   -- reallocation, which puts the free list in order first, also where it is refused
   abbrev pub reserve_answer : SessionState X → ℕ → Reply X × SessionState X
   reserve_answer s m =
@@ -153,6 +151,7 @@ module _ {X : Type 0} (kind : StackKind) (counting : Bool) (greatest : ℕ) wher
   answer text s (Remove name) = act_on s (remove_under s) (item s.table name)
   answer text s (Invalidate name) = act_on s (invalidate_under s) (item s.table name)
   answer text s Clear = (Cleared (wraps_if_any s), record s { arena = cleared (raise counting greatest) s.arena })
+  answer text s Compact = compact_answer s
   answer text s Len = (Count (arena_len s.arena), s)
   answer text s Capacity = (Count (capacity s.arena), s)
   answer text s (Reserve m) = reserve_answer s m
@@ -169,6 +168,7 @@ module _ {X : Type 0} (kind : StackKind) (has_memory : ℕ → Type 0) where
   WantsMemory s (Insert datum link) t = IsSome (link_pointer s.table link) × (refusal s.arena ≡ None) × (TableWantsMemory s t ⊎ ArenaWantsMemory has_memory s t)
   WantsMemory s (InsertWithin datum link) t = IsSome (link_pointer s.table link) × (arena_len s.arena < capacity s.arena) × TableWantsMemory s t
   WantsMemory s (Invalidate name) t = IsSome (named s name) × TableWantsMemory s t
+  WantsMemory s Compact t = (0 < arena_len s.arena) × (t ≡ s)
   WantsMemory s (Reserve m) t = RoomWantsMemory s.arena m × (t ≡ in_order s)
   WantsMemory s command t = ⊥
 

@@ -26,11 +26,13 @@ pub enum Command<X> {
     Invalidate(usize),
     /// Takes away all data, and ends all names.
     Clear,
+    /// Moves the data together, to the first indexes. Names and links stay.
+    Compact,
     /// Counts the data.
     Len,
     /// Tells how many data fit without growth.
     Capacity,
-    /// Makes room for so many data, and gives back the room past them.
+    /// Makes room for so many data, and gives back what room it can past them and the last entry.
     Reserve(usize),
     /// Writes the arena as text.
     Show,
@@ -41,7 +43,7 @@ pub enum Command<X> {
 /// - `insert N L`, `within N L`, a datum and a link;
 /// - `set N N L`, a name, a datum and a link;
 /// - `get N`, `remove N`, `invalidate N`, a name, and `reserve N`, a number of entries;
-/// - `clear`, `len`, `capacity` and `show`.
+/// - `clear`, `compact`, `len`, `capacity` and `show`.
 ///
 /// A number `N` is one or more decimal digits, of a value of at most `u64::MAX`, and a link `L`
 /// is a dash or a number. `None` exactly where the line has none of these forms.
@@ -99,6 +101,8 @@ fn parse_bare(verb: &[u8]) -> Option<Command<u64>>
 {
     if verb == b"clear".as_slice() {
         Some(Command::Clear)
+    } else if verb == b"compact".as_slice() {
+        Some(Command::Compact)
     } else if verb == b"len".as_slice() {
         Some(Command::Len)
     } else if verb == b"capacity".as_slice() {

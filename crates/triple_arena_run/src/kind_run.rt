@@ -5,6 +5,7 @@ ghost use Rattle.std.specs.Io.Buffered.{writer_contents};
 ghost use Rattle.triple_arena_run.specs.KindRun.{RunsKind};
 ghost use Rattle.triple_arena_run.specs.Program.{asked_kind};
 ghost use Rattle.triple_arena_run.specs.ProgramRun.{RunsProgram};
+ghost use Rattle.triple_arena_run.specs.StoreText.{IsStoreText, first_store, AnswersProgram};
 
 use crate::node::Node;
 use crate::program::{Kind, Outcome, asked_kind};
@@ -38,8 +39,25 @@ const OUTPUT_BUFFER: usize = 65536;
 ///
 /// Where the arguments ask for no kind, as `asked_kind` says, nothing is read or written. Where
 /// there is no memory for the buffer, the outcome is `NoMemory`, nothing is read, and the output
-/// is let go.
+/// is let go. What is written is what a new store of names answers, as `run_kind` says.
 pub fn run_program<R: Read, W: Write + Drop>(
+    args: io::Result<Vec<String>>,
+    alloc: Global,
+    input: &mut R,
+    output: W,
+) -> (Outcome, Option<W>)
+    ensures run { RunsProgram W.contents (asked_kind args) (R.remaining input.old)
+        result.0 output result.1 }
+    ensures unread { IsErr (asked_kind args) → input.new ≡ input.old }
+    ensures unbegun { IsNone result.1 → input.new ≡ input.old }
+    ensures store { AnswersProgram W.contents (asked_kind args) (R.remaining input.old)
+        result.0 output result.1 }
+{
+    run_asked(args, alloc, input, output)
+}
+
+/// Runs the program in the session that its arguments ask for, if they ask for one.
+fn run_asked<R: Read, W: Write + Drop>(
     args: io::Result<Vec<String>>,
     alloc: Global,
     input: &mut R,
@@ -53,7 +71,7 @@ pub fn run_program<R: Read, W: Write + Drop>(
     match asked_kind(&args) {
         Ok(kind) => match BufWriter::with_capacity(alloc, OUTPUT_BUFFER, output) {
             Ok(output) => {
-                let (answer, output) = run_kind(kind, alloc, input, output);
+                let (answer, output) = run_over(kind, alloc, input, output);
                 (Outcome::Ran(answer), Some(output))
             }
             Err(_) => (Outcome::Ran(Err(TextError::NoMemory)), None),
@@ -67,7 +85,25 @@ pub fn run_program<R: Read, W: Write + Drop>(
 /// places; or over an array of 8.
 ///
 /// Where there is no memory for the session, the outcome is `NoMemory`, and nothing is read.
+///
+/// Up to the first reply that tells of a wrap, what is written is what a new store of names
+/// answers, and compactions change no other line, as `Session::run` says.
 pub fn run_kind<R: Read, W: Write + Drop>(
+    kind: Kind,
+    alloc: Global,
+    input: &mut R,
+    output: BufWriter<W>,
+) -> (Result<(), TextError>, W)
+    ensures run { RunsKind kind (R.remaining input.old) result.0
+        (writer_contents W.contents output) (W.contents result.1) }
+    ensures store { IsStoreText (first_store kind) (R.remaining input.old) result.0
+        (writer_contents W.contents output) (W.contents result.1) }
+{
+    run_over(kind, alloc, input, output)
+}
+
+/// Runs a text in a new session of a kind.
+fn run_over<R: Read, W: Write + Drop>(
     kind: Kind,
     alloc: Global,
     input: &mut R,

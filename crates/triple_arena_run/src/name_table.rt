@@ -2,16 +2,17 @@
 
 ghost use Rattle.std.specs.Prelude.{◌≡◌, ◌+◌, ◌<◌, ◌++◌, ◌∷◌, [], length, map, nat_lt, true, None, Some, IsOk, IfSome, OnOk, OnErr};
 ghost use Rattle.std.specs.List.{position};
+ghost use Rattle.triple_arena_base.specs.Held.{recast_item};
 ghost use Rattle.triple_arena_stack.specs.Capacity.{room_for_one_more};
-ghost use Rattle.triple_arena.specs.Items.{item};
+ghost use Rattle.triple_arena.specs.Items.{item, with_item};
 ghost use Rattle.triple_arena_ptr.specs.Pointers.{is_same};
 ghost use Rattle.triple_arena_run.specs.SessionState.{name_of};
-ghost use Rattle.triple_arena_run.specs.NameLayout.{pointers_of, noted_number, notes_of, Notes};
+ghost use Rattle.triple_arena_run.specs.NameLayout.{pointers_of, noted_number, notes_of, Notes, RecastsAt};
 
 use std::alloc::Global;
 use std::marker::Model;
 use std::num::NonZeroUsize;
-use triple_arena_base::AllocError;
+use triple_arena_base::{AllocError, Recaster};
 use triple_arena_ptr::{Ptr, PtrGen, PtrInx};
 use triple_arena_stack::{NonZeroInxGenericStack, NonZeroInxVec};
 
@@ -101,6 +102,55 @@ impl<P: Ptr> NameTable<P> {
         let newer = note(&mut self.rows, p);
         self.distinct &= newer;
         inx.get()
+    }
+
+    /// Puts a pointer in the place of that of a name, if it was given.
+    pub(crate) fn replace(&mut self, name: usize, p: P)
+        ensures items { self.new.items ≡ with_item self.old.items name p }
+        ensures room { self.new.room ≡ self.old.room }
+    {
+        let Some(inx) = NonZeroUsize::new(name) else {
+            return;
+        };
+        match self.rows.get_mut(inx) {
+            Some(row) => row.pointer = p,
+            None => return,
+        }
+        let newer = note(&mut self.rows, p);
+        self.distinct &= newer;
+    }
+
+    /// Replaces each pointer that has an image by this; the others stay.
+    pub(crate) fn rename<R: Recaster<Item = P>>(&mut self, recaster: &R)
+        ensures items { self.new.items
+            ≡ map (λ p. recast_item (R.image recaster.now p) p) self.old.items }
+        ensures room { self.new.room ≡ self.old.room }
+    {
+        'names: for before in 0..self.len() {
+            self.rename_at(recaster, before + 1);
+        }
+    }
+
+    // Replaces the pointer of a name by its image, if it has one.
+    fn rename_at<R: Recaster<Item = P>>(&mut self, recaster: &R, name: usize)
+        ensures items { RecastsAt (R.image recaster.now) name self.old.items self.new.items }
+        ensures room { self.new.room ≡ self.old.room }
+    {
+        let Some(p) = self.pointer(name) else {
+            return;
+        };
+        let mut image = p;
+        match recaster.recast_item(&mut image) {
+            Ok(()) => self.replace(name, image),
+            Err(_) => {}
+        }
+    }
+
+    // How many pointers there are.
+    fn len(&self) -> usize
+        ensures { result ≡ length self.now.items }
+    {
+        self.rows.len()
     }
 
     /// Notes the link of the entry of a name, as [`Self::push`] does.

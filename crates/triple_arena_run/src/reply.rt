@@ -29,6 +29,10 @@ pub enum Reply<X> {
     Invalid,
     /// No entry is left, and every name has ended.
     Cleared(bool),
+    /// The entries stand at the first indexes, under the same names.
+    Compacted(bool),
+    /// A link's name has ended, so that nothing was moved.
+    Unresolved,
     /// The link's name was never given, and nothing has changed.
     BadName,
     /// So many.
@@ -46,6 +50,7 @@ impl<X> Reply<X> {
             Reply::Given(_, wrapped) => *wrapped,
             Reply::Removed(_, _, wrapped) => *wrapped,
             Reply::Cleared(wrapped) => *wrapped,
+            Reply::Compacted(wrapped) => *wrapped,
             _ => false,
         }
     }
@@ -81,6 +86,11 @@ impl fmt::Display for Reply<u64> {
                 let wrapped = Wrapped(*wrapped);
                 write!(f, "cleared{wrapped}")
             }
+            Reply::Compacted(wrapped) => {
+                let wrapped = Wrapped(*wrapped);
+                write!(f, "compacted{wrapped}")
+            }
+            Reply::Unresolved => f.write_str("unresolved"),
             Reply::BadName => f.write_str("bad name"),
             Reply::Count(number) => write!(f, "count {number}"),
             Reply::Line(text) => f.write_str(text.as_str()),

@@ -1,14 +1,21 @@
 //! Sessions: commands that speak of entries by name.
 
-ghost use Rattle.std.specs.Prelude.{◌≡◌, ◌≤◌, ◌==◌, IfOk, OnOk, OnErr, IsOk, true};
+ghost use Rattle.std.specs.Prelude.{◌≡◌, ℕ, ◌≤◌, ◌==◌, IfOk, OnOk, OnErr, IsOk, true, false, length, take};
+ghost use Rattle.std.specs.List.{list_all, list_any};
 ghost use Rattle.std.specs.Option.{option_map};
 ghost use Rattle.triple_arena_ptr.specs.Numbers.{greatest_index, first_generation};
 ghost use Rattle.triple_arena_stack.specs.StackKind.{new_room, new_limit, made_room, made_limit, CanHold, TakesNoMemory};
 ghost use Rattle.triple_arena.specs.Items.{item};
 ghost use Rattle.triple_arena.specs.ArenaState.{ArenaState, new_arena, arena_len, capacity, map_values};
-ghost use Rattle.triple_arena_run.specs.Runs.{RunsToWrap};
+ghost use Rattle.triple_arena.specs.Histories.{Fits, Continues};
+ghost use Rattle.triple_arena_run.specs.ReplyText.{tells_of_wrap};
+ghost use Rattle.triple_arena_run.specs.Runs.{IsRun, TellsOfNoWrap, RunsToWrap};
 ghost use Rattle.triple_arena_run.specs.SessionState.{SessionState, node_of, new_session, link_name, link_pointer};
 ghost use Rattle.triple_arena_run.specs.SessionRun.{IsStep, refusal};
+ghost use Rattle.triple_arena_run.specs.SessionCalls.{calls_of, KeepsHistories};
+ghost use Rattle.triple_arena_run.specs.NameStore.{Store, new_store, IsStoreStep};
+ghost use Rattle.triple_arena_run.specs.Shown.{shown, IsSound};
+ghost use Rattle.triple_arena_run.specs.StoreRuns.{is_named, is_no_memory, without_wrap, AnswersAsStore, ample, erase, seen};
 
 use crate::command::Command;
 use crate::name_table::NameTable;
@@ -18,7 +25,8 @@ use std::alloc::Global;
 use std::fmt::Debug;
 use std::marker::Model;
 use triple_arena::{Arena, ArenaInsertTrait, ArenaSlot, ArenaTrait};
-use triple_arena_base::{AllocError, ReallocationError};
+use triple_arena_base::{AllocError, CompactError, ReallocationError};
+use triple_arena_direct::compress_recast;
 use triple_arena_ptr::{Ptr, PtrGen, PtrInx};
 use triple_arena_stack::{NonZeroInxGenericStack, NonZeroInxVec};
 
@@ -49,10 +57,14 @@ impl<P: Ptr, X, S: NonZeroInxGenericStack<ArenaSlot<P, Node<X, P>>>> Model for S
 impl<P: Ptr, X: Copy, S: NonZeroInxGenericStack<ArenaSlot<P, Node<X, P>>>> Session<P, X, S> {
     /// A session over a new arena, that has given no name, on the condition that the generation of
     /// its pointers counts, which `PtrGen::counts` tells. It takes no memory.
+    ///
+    /// It is sound, and shows an empty store of names.
     pub fn new(alloc: Global) -> Self
         requires { P.Gen.counting ≡ true }
-        ensures { result ≡ new_session (new_arena (new_room S.kind) (new_limit S.kind)
+        ensures made { result ≡ new_session (new_arena (new_room S.kind) (new_limit S.kind)
             (greatest_index P.Inx.greatest) (first_generation P.Gen.counting)) }
+        ensures sound { IsSound S.kind result }
+        ensures store { shown result ≡ new_store (new_room S.kind) (new_limit S.kind) (greatest_index P.Inx.greatest) }
     {
         Session {
             arena: Arena::new(alloc),
@@ -64,12 +76,15 @@ impl<P: Ptr, X: Copy, S: NonZeroInxGenericStack<ArenaSlot<P, Node<X, P>>>> Sessi
     /// A session over an arena with room for `min_capacity` entries, on the same condition.
     ///
     /// Refused where the arena is: where `min_capacity` is past the greatest index or the places of
-    /// an array, and where memory is refused.
+    /// an array, and where memory is refused. The session is sound, and shows an empty store of names.
     pub fn with_min_capacity(alloc: Global, min_capacity: usize) -> Result<Self, AllocError>
         requires { P.Gen.counting ≡ true }
         ensures made { IfOk result (λ session. session ≡ new_session (new_arena
             (made_room S.kind min_capacity) (made_limit S.kind min_capacity)
             (greatest_index P.Inx.greatest) (first_generation P.Gen.counting))) }
+        ensures sound { IfOk result (λ session. IsSound S.kind session) }
+        ensures store { IfOk result (λ session. shown session ≡ new_store
+            (made_room S.kind min_capacity) (made_limit S.kind min_capacity) (greatest_index P.Inx.greatest)) }
         ensures holds { OnOk result
             ((min_capacity ≤ greatest_index P.Inx.greatest) × CanHold S.kind min_capacity) }
         ensures succeeds { min_capacity ≤ greatest_index P.Inx.greatest
@@ -105,14 +120,38 @@ impl<P: Ptr, X: Copy, S: NonZeroInxGenericStack<ArenaSlot<P, Node<X, P>>>> Sessi
     /// - `Remove`: `Invalid`; `Removed`.
     /// - `Invalidate`: `Invalid`; `NoMemory`; `Given`, and the old name has ended.
     /// - `Clear`: `Cleared`.
+    /// - `Compact`: `NoMemory`; `Unresolved` (a link's name has ended); `Compacted`.
     /// - `Len`, `Capacity`: `Count`.
     /// - `Reserve`: `NoMemory` past the greatest index; `BeyondMaxCapacity`; `NoMemory`; `Done`.
     /// - `Show`: `NoMemory`; `Line`.
     ///
     /// All else stays, but that after a `NoMemory` the table of names may have grown, and that a
-    /// reservation, refused or not, puts the free list of the arena in order. `Clear`, `Reserve`
-    /// and `Show` touch each slot; a look-up of an entry with a link may have to search the names.
+    /// reservation, refused or not, puts the free list of the arena in order. `Clear`, `Compact`,
+    /// `Reserve` and `Show` touch each slot, and `Compact` each name; a look-up of an entry with a
+    /// link may have to search the names.
+    ///
+    /// A sound session answers as the store of names that it shows, its bool aside where the reply
+    /// tells of a wrap; where it tells of none, the session shows what the store becomes, and is
+    /// sound. The calls on its arena then take each history that fits it to one that fits, so that no
+    /// pointer is given twice.
     pub fn step(&mut self, command: Command<X>) -> Reply<X>
+    where
+        X: Debug,
+        ensures step { IsStep S.kind S.has_memory P.Gen.counting P.Gen.greatest self.old command result self.new }
+        ensures store { P.Gen.counting ≡ true → IsSound S.kind self.old → tells_of_wrap result ≡ false
+            → IsStoreStep (shown self.old) command result (shown self.new) }
+        ensures sound { P.Gen.counting ≡ true → IsSound S.kind self.old → tells_of_wrap result ≡ false
+            → IsSound S.kind self.new }
+        ensures calls { P.Gen.counting ≡ true → IsSound S.kind self.old → tells_of_wrap result ≡ false
+            → Continues Fits self.old.arena (calls_of self.old command result) self.new.arena }
+        ensures at_wrap { P.Gen.counting ≡ true → IsSound S.kind self.old
+            → (after : Store X) × IsStoreStep (shown self.old) command (without_wrap result) after }
+    {
+        self.answer(command)
+    }
+
+    // The reply to a command, and what it leaves.
+    fn answer(&mut self, command: Command<X>) -> Reply<X>
     where
         X: Debug,
         ensures { IsStep S.kind S.has_memory P.Gen.counting P.Gen.greatest self.old command result self.new }
@@ -125,6 +164,7 @@ impl<P: Ptr, X: Copy, S: NonZeroInxGenericStack<ArenaSlot<P, Node<X, P>>>> Sessi
             Command::Remove(name) => self.remove(name),
             Command::Invalidate(name) => self.invalidate(name),
             Command::Clear => self.clear(),
+            Command::Compact => self.compact(),
             Command::Len => Reply::Count(self.arena.len()),
             Command::Capacity => Reply::Count(self.arena.capacity()),
             Command::Reserve(count) => self.reserve(count),
@@ -136,7 +176,42 @@ impl<P: Ptr, X: Copy, S: NonZeroInxGenericStack<ArenaSlot<P, Node<X, P>>>> Sessi
     /// wrap, that one included.
     ///
     /// There is room for all replies first: where memory for it is refused, nothing is done.
+    ///
+    /// A sound session answers as the store of names that it shows. Where no reply tells of a wrap,
+    /// it shows what the store becomes, and is sound. Up to a wrap no pointer is given twice. Of
+    /// named commands, which are all but `Capacity`, `Reserve` and `Show`, and with no `NoMemory`
+    /// among the replies, compactions change no other reply.
     pub fn run(&mut self, commands: &[Command<X>]) -> Result<Vec<Reply<X>>, AllocError>
+    where
+        X: Debug,
+        ensures ran { IfOk result (λ replies.
+            RunsToWrap (IsStep S.kind S.has_memory P.Gen.counting P.Gen.greatest)
+            self.old commands.now replies.items self.new) }
+        ensures refused { OnErr result (self.new ≡ self.old) }
+        ensures store { P.Gen.counting ≡ true → IsSound S.kind self.old → IfOk result (λ replies.
+            AnswersAsStore (shown self.old) (take (length replies.items) commands.now) replies.items) }
+        ensures shows { P.Gen.counting ≡ true → IsSound S.kind self.old → IfOk result (λ replies.
+            TellsOfNoWrap replies.items
+            → IsRun IsStoreStep (shown self.old) commands.now replies.items (shown self.new)) }
+        ensures sound { P.Gen.counting ≡ true → IsSound S.kind self.old → IfOk result (λ replies.
+            TellsOfNoWrap replies.items → IsSound S.kind self.new) }
+        ensures calls { P.Gen.counting ≡ true → IsSound S.kind self.old → IfOk result (λ replies.
+            KeepsHistories (IsStep S.kind S.has_memory P.Gen.counting P.Gen.greatest)
+            self.old (take (length replies.items) commands.now) replies.items self.new) }
+        ensures before { P.Gen.counting ≡ true → IsSound S.kind self.old → IfOk result (λ replies.
+            (count : ℕ) (after : SessionState X)
+            → KeepsHistories (IsStep S.kind S.has_memory P.Gen.counting P.Gen.greatest)
+            self.old (take count commands.now) (take count replies.items) after) }
+        ensures unseen { P.Gen.counting ≡ true → IsSound S.kind self.old → IfOk result (λ replies.
+            let ran = take (length replies.items) commands.now in
+            list_all is_named ran ≡ true → list_any is_no_memory replies.items ≡ false
+            → seen ran replies.items ≡ ample (shown self.old) (erase ran)) }
+    {
+        self.run_commands(commands)
+    }
+
+    // The replies to commands, up to the first wrap.
+    fn run_commands(&mut self, commands: &[Command<X>]) -> Result<Vec<Reply<X>>, AllocError>
     where
         X: Debug,
         ensures ran { IfOk result (λ replies.
@@ -148,7 +223,7 @@ impl<P: Ptr, X: Copy, S: NonZeroInxGenericStack<ArenaSlot<P, Node<X, P>>>> Sessi
             return Err(AllocError);
         };
         'commands: for command in commands {
-            let reply = self.step(*command);
+            let reply = self.answer(*command);
             let wrapped = reply.tells_of_wrap();
             replies.push_reserved(reply);
             if wrapped {
@@ -282,6 +357,21 @@ impl<P: Ptr, X: Copy, S: NonZeroInxGenericStack<ArenaSlot<P, Node<X, P>>>> Sessi
     {
         let ((), wrapped) = self.arena.clear().overflowing();
         Reply::Cleared(wrapped)
+    }
+
+    fn compact(&mut self) -> Reply<X>
+        ensures { IsStep S.kind S.has_memory P.Gen.counting P.Gen.greatest
+            self.old Command.Compact result self.new }
+    {
+        match compress_recast(&mut self.arena, self.alloc, false) {
+            Ok(answer) => {
+                let (renaming, wrapped) = answer.overflowing();
+                self.table.rename(&renaming);
+                Reply::Compacted(wrapped)
+            }
+            Err(CompactError::Unresolved(_)) => Reply::Unresolved,
+            Err(CompactError::Reallocation(_)) => Reply::NoMemory,
+        }
     }
 
     fn reserve(&mut self, count: usize) -> Reply<X>

@@ -1,10 +1,12 @@
 //! The run of a text: from the bytes of a reader to the bytes of a writer.
 
-ghost use Rattle.std.specs.Prelude.{Some};
+ghost use Rattle.std.specs.Prelude.{◌≡◌, true, Some};
 ghost use Rattle.std.specs.Io.Buffered.{writer_contents};
 ghost use Rattle.triple_arena_run.specs.ErrorText.{error_text};
 ghost use Rattle.triple_arena_run.specs.SessionRun.{IsStep};
 ghost use Rattle.triple_arena_run.specs.TextRun.{IsTextRun, IsFlushedRun, IsFlushed};
+ghost use Rattle.triple_arena_run.specs.Shown.{shown, IsSound};
+ghost use Rattle.triple_arena_run.specs.StoreText.{IsStoreText};
 ghost use Rattle.triple_arena_run.specs.LineRun.{CommandEnds, LineEnds};
 
 use crate::command::parse_command;
@@ -57,7 +59,27 @@ impl Error for TextError {}
 /// A line of no bytes is skipped. The run ends with the text, with the first reply that tells of
 /// a wrap, or with the error that comes first; `TextError` says what stands after each. A reply
 /// goes out by writes alone, without asking for memory, and nothing is flushed.
+///
+/// In a sound session the lines are answered as by the store of names that it shows, and
+/// compactions change no other line, as `Session::run` says.
 pub fn run_text<P: Ptr, S: NonZeroInxGenericStack<ArenaSlot<P, Node<u64, P>>>, R: Read, W: Write>(
+    session: &mut Session<P, u64, S>,
+    alloc: Global,
+    input: &mut R,
+    output: &mut W,
+) -> Result<(), TextError>
+    ensures run { IsTextRun (IsStep S.kind S.has_memory P.Gen.counting P.Gen.greatest)
+        (R.remaining input.old) result
+        session.old session.new (W.contents output.old) (W.contents output.new) }
+    ensures store { P.Gen.counting ≡ true → IsSound S.kind session.old
+        → IsStoreText (shown session.old) (R.remaining input.old) result
+        (W.contents output.old) (W.contents output.new) }
+{
+    read_and_run(session, alloc, input, output)
+}
+
+/// Reads a text to its end and runs its lines.
+fn read_and_run<P: Ptr, S: NonZeroInxGenericStack<ArenaSlot<P, Node<u64, P>>>, R: Read, W: Write>(
     session: &mut Session<P, u64, S>,
     alloc: Global,
     input: &mut R,
@@ -77,8 +99,30 @@ pub fn run_text<P: Ptr, S: NonZeroInxGenericStack<ArenaSlot<P, Node<u64, P>>>, R
 ///
 /// Of a run that failed by reading or for want of memory nothing was written, and at the other
 /// outcomes but `Write` the writer below holds each reply line. At `Write` it holds a front of the
-/// reply lines of the commands that ran. A failed flush is `Write`, as `flush_after` says.
+/// reply lines of the commands that ran. A failed flush is `Write`, as `flush_after` says. In a
+/// sound session the lines are those of a store of names.
 pub fn run_text_and_flush<
+    P: Ptr,
+    S: NonZeroInxGenericStack<ArenaSlot<P, Node<u64, P>>>,
+    R: Read,
+    W: Write + Drop,
+>(
+    session: &mut Session<P, u64, S>,
+    alloc: Global,
+    input: &mut R,
+    output: BufWriter<W>,
+) -> (Result<(), TextError>, W)
+    ensures run { IsFlushedRun (IsStep S.kind S.has_memory P.Gen.counting P.Gen.greatest) (R.remaining input.old)
+        result.0 session.old session.new (writer_contents W.contents output) (W.contents result.1) }
+    ensures store { P.Gen.counting ≡ true → IsSound S.kind session.old
+        → IsStoreText (shown session.old) (R.remaining input.old) result.0
+        (writer_contents W.contents output) (W.contents result.1) }
+{
+    run_and_flush(session, alloc, input, output)
+}
+
+/// Runs a text, and flushes the writer after it.
+fn run_and_flush<
     P: Ptr,
     S: NonZeroInxGenericStack<ArenaSlot<P, Node<u64, P>>>,
     R: Read,
@@ -92,7 +136,7 @@ pub fn run_text_and_flush<
     ensures { IsFlushedRun (IsStep S.kind S.has_memory P.Gen.counting P.Gen.greatest) (R.remaining input.old) result.0
         session.old session.new (writer_contents W.contents output) (W.contents result.1) }
 {
-    let outcome = run_text(session, alloc, input, &mut output);
+    let outcome = read_and_run(session, alloc, input, &mut output);
     flush_after(outcome, output)
 }
 

@@ -1,11 +1,10 @@
 //! Each command of the program: texts, and the lines that answer them.
 
 use super::byte_pointer::B;
-use super::steps::{Row as Entry, extent, new_session};
+use super::steps::{Row as Entry, extent, new_session, says};
 use super::texts::answers_text;
-use crate::command::Command;
+use crate::command::{Command, parse_command};
 use crate::node::Node;
-use crate::output::line_of;
 use crate::reply::Reply;
 use crate::session::Session;
 use std::alloc::Global;
@@ -29,7 +28,7 @@ fn answers_each(rt: &impl Abort, alloc: Global, rows: &[Row<'_>]) {
 
 #[test]
 fn an_empty_session_answers_each_command(rt: HostRuntime) {
-    let rows: [Row<'_>; 8] = [
+    let rows: [Row<'_>; 9] = [
         (b"insert 5 1\n", b"bad name\n"),
         (b"within 5 1\n", b"bad name\n"),
         (b"get 0\n", b"nothing\n"),
@@ -37,6 +36,7 @@ fn an_empty_session_answers_each_command(rt: HostRuntime) {
         (b"remove 1\ninvalidate 1\n", b"invalid\ninvalid\n"),
         (b"len\ncapacity\n", b"count 0\ncount 0\n"),
         (b"clear\nshow\n", b"cleared\n{}\n"),
+        (b"compact\nlen\n", b"compacted\ncount 0\n"),
         (b"within 5 -\nreserve 0\n", b"full\ndone\n"),
     ];
     answers_each(&rt, rt.alloc(), &rows);
@@ -83,11 +83,7 @@ fn a_cleared_session_gives_later_names(rt: HostRuntime) {
 
 #[test]
 fn a_reservation_gives_back_what_stands_free_at_the_end(rt: HostRuntime) {
-    let rows: [Row<'_>; 3] = [
-        (
-            b"insert 1 -\ninsert 1 -\ninsert 1 -\ninsert 1 -\ninsert 1 -\ninsert 1 -\ninsert 1 -\ninsert 1 -\ninsert 1 -\ninsert 1 -\nremove 1\nremove 2\nremove 3\nremove 4\nremove 5\nremove 6\nremove 7\nremove 8\nremove 9\nreserve 1\ncapacity\n",
-            b"given 1\ngiven 2\ngiven 3\ngiven 4\ngiven 5\ngiven 6\ngiven 7\ngiven 8\ngiven 9\ngiven 10\nremoved 1 -\nremoved 1 -\nremoved 1 -\nremoved 1 -\nremoved 1 -\nremoved 1 -\nremoved 1 -\nremoved 1 -\nremoved 1 -\ndone\ncount 10\n",
-        ),
+    let rows: [Row<'_>; 2] = [
         (
             b"insert 1 -\ninsert 1 -\ninsert 1 -\ninsert 1 -\ninsert 1 -\nremove 2\nremove 4\nremove 5\nreserve 0\ncapacity\ninsert 9 -\nshow\n",
             b"given 1\ngiven 2\ngiven 3\ngiven 4\ngiven 5\nremoved 1 -\nremoved 1 -\nremoved 1 -\ndone\ncount 3\ngiven 6\n{P0[1](2): (1, None), P0[2](5): (9, None), P0[3](2): (1, None)}\n",
@@ -95,6 +91,31 @@ fn a_reservation_gives_back_what_stands_free_at_the_end(rt: HostRuntime) {
         (
             b"insert 1 -\ninsert 1 -\ninsert 1 -\nremove 1\nremove 2\nreserve 1\ncapacity\nwithin 5 -\nwithin 5 -\nwithin 5 -\n",
             b"given 1\ngiven 2\ngiven 3\nremoved 1 -\nremoved 1 -\ndone\ncount 3\ngiven 4\ngiven 5\nfull\n",
+        ),
+    ];
+    answers_each(&rt, rt.alloc(), &rows);
+}
+
+/// Names and links go on to name what they named, and an ended name finds nothing, also where its old
+/// pointer's index is that of an entry again. A link to an ended name refuses.
+#[test]
+fn a_compaction_moves_entries_and_keeps_names(rt: HostRuntime) {
+    let rows: [Row<'_>; 4] = [
+        (
+            b"insert 1 -\ninsert 2 1\ninvalidate 1\nget 2\ncompact\nset 2 2 3\ncompact\nget 2\nget 3\nshow\n",
+            b"given 1\ngiven 2\ngiven 3\nfound 2 1\nunresolved\ndone\ncompacted\nfound 2 3\nfound 1 -\n{P0[1](4): (1, None), P0[2](4): (2, Some(P0[1](4)))}\n",
+        ),
+        (
+            b"insert 10 -\ninsert 20 1\nremove 1\ncompact\nset 2 20 2\ncompact\nget 2\nget 1\nshow\n",
+            b"given 1\ngiven 2\nremoved 10 -\nunresolved\ndone\ncompacted\nfound 20 2\nnothing\n{P0[1](4): (20, Some(P0[1](4)))}\n",
+        ),
+        (
+            b"insert 1 -\ninsert 2 -\ninsert 3 2\nremove 1\ncompact\ncompact\nget 1\nget 3\ninsert 4 3\nremove 2\nget 3\ncompact\nget 4\nlen\n",
+            b"given 1\ngiven 2\ngiven 3\nremoved 1 -\ncompacted\ncompacted\nnothing\nfound 3 2\ngiven 4\nremoved 2 -\nfound 3 2\nunresolved\nfound 4 3\ncount 2\n",
+        ),
+        (
+            b"insert 1 -\ninsert 1 -\ninsert 1 -\ninsert 1 -\ninsert 1 -\ninsert 1 -\ninsert 1 -\ninsert 1 -\ninsert 1 -\ninsert 1 -\nremove 1\nremove 2\nremove 3\nremove 4\nremove 5\nremove 6\nremove 7\nremove 8\nremove 9\nreserve 1\ncapacity\ncompact\nreserve 1\ncapacity\nwithin 5 -\n",
+            b"given 1\ngiven 2\ngiven 3\ngiven 4\ngiven 5\ngiven 6\ngiven 7\ngiven 8\ngiven 9\ngiven 10\nremoved 1 -\nremoved 1 -\nremoved 1 -\nremoved 1 -\nremoved 1 -\nremoved 1 -\nremoved 1 -\nremoved 1 -\nremoved 1 -\ndone\ncount 10\ncompacted\ndone\ncount 1\nfull\n",
         ),
     ];
     answers_each(&rt, rt.alloc(), &rows);
@@ -180,26 +201,33 @@ fn answers_so(
     }
 }
 
+// Expects a text to be answered so by a session whose counter is at its end.
+fn ends_at_a_wrap(rt: &impl Abort, alloc: Global, text: &[u8], lines: &[u8]) {
+    let mut session: Session<B, u64> = Session::new(alloc);
+    comes_and_goes(rt, alloc, &mut session, 253);
+    answers_text(rt, alloc, &mut session, text, Ok(()), lines);
+}
+
 /// The byte counter is at its end after 253 raises, and the next tells of a wrap, which ends the run.
 #[test]
 fn each_command_that_raises_the_counter_tells_of_a_wrap(rt: HostRuntime) {
-    let rows: [Row<'_>; 3] = [
-        (b"invalidate 254\nlen\n", b"given 255 wrapped\n"),
-        (b"clear\nlen\n", b"cleared wrapped\n"),
-        (b"remove 254\nlen\n", b"removed 7 - wrapped\n"),
+    let rows: [Row<'_>; 4] = [
+        (
+            b"insert 7 -\ninvalidate 254\nlen\n",
+            b"given 254\ngiven 255 wrapped\n",
+        ),
+        (b"insert 7 -\nclear\nlen\n", b"given 254\ncleared wrapped\n"),
+        (
+            b"insert 7 -\ncompact\nlen\n",
+            b"given 254\ncompacted wrapped\n",
+        ),
+        (
+            b"insert 7 -\nremove 254\nlen\n",
+            b"given 254\nremoved 7 - wrapped\n",
+        ),
     ];
-    for (text, lines) in rows {
-        let mut session: Session<B, u64> = Session::new(rt.alloc());
-        comes_and_goes(&rt, rt.alloc(), &mut session, 253);
-        answers_text(
-            &rt,
-            rt.alloc(),
-            &mut session,
-            b"insert 7 -\n",
-            Ok(()),
-            b"given 254\n",
-        );
-        answers_text(&rt, rt.alloc(), &mut session, text, Ok(()), lines);
+    for (text, lines) in &rows {
+        ends_at_a_wrap(&rt, rt.alloc(), *text, *lines);
     }
 }
 
@@ -214,64 +242,69 @@ fn entries_of(session: &mut Session<P0, u64>) -> [Entry; 12] {
     entries
 }
 
-// Whether a reply is written so.
-fn says(reply: &Reply<u64>, text: &str) -> bool {
-    match line_of(reply) {
-        Some(line) => line.as_str().strip_suffix("\n") == Some(text),
-        None => false,
-    }
-}
-
-// Expects a command to be answered so. Memory may be refused first, and then names, entries, length,
-// capacity and counter are as they were.
+// Expects the command of a line to be answered so. Memory may be refused first, and then names,
+// entries, length, capacity and counter are as they were.
 fn answers_or_changes_nothing(
     rt: &impl Abort,
     session: &mut Session<P0, u64>,
-    command: Command<u64>,
+    line: &str,
     text: &str,
 ) {
+    let Some(command) = parse_command(line.as_bytes()) else {
+        panic!(rt; "{line} is a command");
+    };
     let before = (entries_of(session), extent(session));
     let mut reply = session.step(command);
     if reply == Reply::NoMemory {
         assert!(rt;
             (entries_of(session), extent(session)) == before,
-            "at {text}"
+            "at {line}"
         );
         reply = session.step(command);
     }
-    assert!(rt; says(&reply, text), "at {text}");
+    assert!(rt; says(&reply, text), "at {line}");
+}
+
+// The same of each row, a line and the text of its reply, in a new session.
+fn each_answers_or_changes_nothing(rt: &impl Abort, alloc: Global, rows: &[(&str, &str)]) {
+    let mut session = new_session(alloc);
+    for (line, text) in rows {
+        answers_or_changes_nothing(rt, &mut session, *line, *text);
+    }
 }
 
 /// Holds with ample memory, and also where any one request for memory is refused (`rt try --test
-/// --fail-alloc 1..`).
+/// --fail-alloc N`).
 #[test]
 fn a_refused_command_changes_nothing(rt: HostRuntime) {
-    let mut session = new_session(rt.alloc());
-    let rows: [(Command<u64>, &str); 19] = [
-        (Command::Insert(1, None), "given 1"),
-        (Command::Reserve(6), "done"),
-        (Command::InsertWithin(2, Some(1)), "given 2"),
-        (
-            Command::Show,
-            "{P0[1](2): (1, None), P0[2](2): (2, Some(P0[1](2)))}",
-        ),
-        (Command::Insert(3, None), "given 3"),
-        (Command::Insert(4, None), "given 4"),
-        (Command::Invalidate(1), "given 5"),
-        (Command::Remove(3), "removed 3 -"),
-        (Command::Set(2, 7, Some(5)), "done"),
-        (Command::InsertWithin(8, None), "given 6"),
-        (Command::Invalidate(6), "given 7"),
-        (Command::Invalidate(7), "given 8"),
-        (Command::InsertWithin(9, None), "given 9"),
-        (Command::Get(2), "found 7 5"),
-        (Command::Reserve(0), "done"),
-        (Command::Capacity, "count 5"),
-        (Command::Insert(6, None), "given 10"),
-        (Command::Clear, "cleared"),
-        (Command::Show, "{}"),
-    ];
-    for (command, text) in rows {
-        answers_or_changes_nothing(&rt, &mut session, command, text);
-    }
+    each_answers_or_changes_nothing(
+        &rt,
+        rt.alloc(),
+        &[
+            ("insert 1 -", "given 1"),
+            ("reserve 6", "done"),
+            ("within 2 1", "given 2"),
+            (
+                "show",
+                "{P0[1](2): (1, None), P0[2](2): (2, Some(P0[1](2)))}",
+            ),
+            ("insert 3 -", "given 3"),
+            ("insert 4 -", "given 4"),
+            ("invalidate 1", "given 5"),
+            ("compact", "unresolved"),
+            ("remove 3", "removed 3 -"),
+            ("set 2 7 5", "done"),
+            ("compact", "compacted"),
+            ("within 8 -", "given 6"),
+            ("invalidate 6", "given 7"),
+            ("invalidate 7", "given 8"),
+            ("within 9 -", "given 9"),
+            ("get 2", "found 7 5"),
+            ("reserve 0", "done"),
+            ("capacity", "count 5"),
+            ("insert 6 -", "given 10"),
+            ("clear", "cleared"),
+            ("show", "{}"),
+        ],
+    );
 }

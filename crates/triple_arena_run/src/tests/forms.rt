@@ -4,7 +4,7 @@ use crate::command::{Command, parse_command};
 
 #[test]
 fn reads_each_form(rt: HostRuntime) {
-    let rows: [(&[u8], Command<u64>); 18] = [
+    let rows: [(&[u8], Command<u64>); 19] = [
         (b"insert 10 -", Command::Insert(10, None)),
         (b"insert 0 3", Command::Insert(0, Some(3))),
         (b"insert 007 0012", Command::Insert(7, Some(12))),
@@ -29,6 +29,7 @@ fn reads_each_form(rt: HostRuntime) {
             Command::Reserve(usize::MAX),
         ),
         (b"clear", Command::Clear),
+        (b"compact", Command::Compact),
         (b"len", Command::Len),
         (b"capacity", Command::Capacity),
         (b"show", Command::Show),
@@ -40,7 +41,7 @@ fn reads_each_form(rt: HostRuntime) {
 
 #[test]
 fn refuses_every_other_line(rt: HostRuntime) {
-    let lines: [&[u8]; 46] = [
+    let lines: [&[u8]; 49] = [
         b"",
         b" ",
         b"get",
@@ -64,6 +65,7 @@ fn refuses_every_other_line(rt: HostRuntime) {
         b"insert",
         b"insert 1",
         b"insert - 1",
+        b"insert 1 - 2",
         b"insert 1 --",
         b"insert 1 - -",
         b"insert 18446744073709551616 -",
@@ -84,6 +86,8 @@ fn refuses_every_other_line(rt: HostRuntime) {
         b"invalidate",
         b"invalidate 1 2",
         b"clear ",
+        b" compact",
+        b"compact 1",
         b"len 1",
         b"show\r",
         b"reserve -",

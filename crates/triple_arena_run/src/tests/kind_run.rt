@@ -66,6 +66,25 @@ fn an_array_refuses_the_ninth(rt: HostRuntime) {
     runs(&rt, rt.alloc(), &["array"], text, WELL, lines);
 }
 
+/// The first of two compactions finds a link to a name that has ended. Without the two the other
+/// lines are the same, over every stack.
+#[test]
+fn compactions_change_no_other_line(rt: HostRuntime) {
+    let compacting =
+        b"insert 1 -\ninsert 2 1\nremove 1\ninsert 3 2\ncompact\nset 2 2 -\ncompact\nget 3\nget 1\nwithin 4 3\nlen\n".as_slice();
+    let compacted =
+        b"given 1\ngiven 2\nremoved 1 -\ngiven 3\nunresolved\ndone\ncompacted\nfound 3 2\nnothing\ngiven 4\ncount 3\n".as_slice();
+    let others =
+        b"insert 1 -\ninsert 2 1\nremove 1\ninsert 3 2\nset 2 2 -\nget 3\nget 1\nwithin 4 3\nlen\n".as_slice();
+    let lines =
+        b"given 1\ngiven 2\nremoved 1 -\ngiven 3\ndone\nfound 3 2\nnothing\ngiven 4\ncount 3\n".as_slice();
+    let rows: [&[&str]; 4] = [&[], &["limited", "3"], &["fixed", "3"], &["array"]];
+    for words in rows {
+        runs(&rt, rt.alloc(), words, compacting, WELL, compacted);
+        runs(&rt, rt.alloc(), words, others, WELL, lines);
+    }
+}
+
 #[test]
 fn no_place_refuses_the_first(rt: HostRuntime) {
     let text = b"insert 5 -\nget 1\n".as_slice();
@@ -135,7 +154,7 @@ fn says_that_there_is_no_memory_to_begin(rt: HostRuntime) -> Result<(), Fail> {
 }
 
 /// Holds with ample memory, and also where any one request for memory is refused
-/// (`rt try --test --fail-alloc 1..`): then nothing is written, or one insertion answers so.
+/// (`rt try --test --fail-alloc N`): then nothing is written, or one insertion answers so.
 #[test]
 fn runs_or_says_that_memory_was_refused(rt: HostRuntime) {
     let rows: [&[&str]; 4] = [&["heap"], &["limited", "2"], &["fixed", "2"], &["array"]];

@@ -1,23 +1,37 @@
 //! The texts of replies.
 
-use crate::output::line_of;
+use super::steps::says;
 use crate::reply::Reply;
 use std::alloc::Global;
+use std::process::Abort;
 
-// Whether this is a reply's text, and its line the same and a line break.
+// Expects each to be a reply's text, its line to be the same and a line break, and ` wrapped` to
+// stand at its end just where the reply tells of a wrap.
+fn each_is_written(rt: &impl Abort, alloc: Global, rows: &[(Reply<u64>, &str)]) {
+    for (reply, text) in rows {
+        assert!(rt;
+            is_written(alloc, reply, *text) && says(reply, *text),
+            "{text}"
+        );
+        assert!(rt;
+            reply.tells_of_wrap() == text.ends_with("wrapped"),
+            "{text}"
+        );
+    }
+}
+
+// Whether this is a reply's text.
 fn is_written(alloc: Global, reply: &Reply<u64>, text: &str) -> bool {
-    match (reply.to_string(alloc), line_of(reply)) {
-        (Ok(written), Some(line)) => {
-            written.as_str() == text && line.as_str().strip_suffix("\n") == Some(text)
-        }
-        _ => false,
+    match reply.to_string(alloc) {
+        Ok(written) => written.as_str() == text,
+        Err(_) => false,
     }
 }
 
 /// The last is the longest.
 #[test]
 fn writes_each_reply(rt: HostRuntime) {
-    let rows: [(Reply<u64>, &str); 19] = [
+    let rows: [(Reply<u64>, &str); 22] = [
         (Reply::Given(1, false), "given 1"),
         (Reply::Given(20, true), "given 20 wrapped"),
         (Reply::Full, "full"),
@@ -37,6 +51,9 @@ fn writes_each_reply(rt: HostRuntime) {
         (Reply::Invalid, "invalid"),
         (Reply::Cleared(false), "cleared"),
         (Reply::Cleared(true), "cleared wrapped"),
+        (Reply::Compacted(false), "compacted"),
+        (Reply::Compacted(true), "compacted wrapped"),
+        (Reply::Unresolved, "unresolved"),
         (Reply::BadName, "bad name"),
         (Reply::Count(255), "count 255"),
         (
@@ -44,8 +61,5 @@ fn writes_each_reply(rt: HostRuntime) {
             "removed 18446744073709551615 18446744073709551615 wrapped",
         ),
     ];
-    for (reply, text) in rows {
-        assert!(rt; is_written(rt.alloc(), &reply, text), "{text}");
-        assert_eq!(rt; reply.tells_of_wrap(), text.ends_with("wrapped"));
-    }
+    each_is_written(&rt, rt.alloc(), &rows);
 }

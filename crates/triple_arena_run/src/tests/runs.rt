@@ -309,7 +309,7 @@ fn given_by(rt: &impl Abort, outcome: Result<(), TextError>, output: &ShortWrite
 }
 
 /// Holds with ample memory, and also where any one request for memory is refused
-/// (`rt try --test --fail-alloc 1..`): then the run answers `NoMemory` before it writes, or the
+/// (`rt try --test --fail-alloc N`): then the run answers `NoMemory` before it writes, or the
 /// insertion that asked answers so, and its name is given to the next.
 #[test]
 fn answers_no_memory_where_it_is_refused(rt: HostRuntime) {

@@ -1,7 +1,7 @@
 //! Sessions by their commands, at pointers of small generations too.
 
 use super::byte_pointer::B;
-use super::steps::{Row, extent, follow, has_extent, holds, new_session, replies};
+use super::steps::{Row, extent, follow, has_extent, holds, new_session, replies, says};
 use super::texts::answers_text;
 use crate::command::Command;
 use crate::node::Node;
@@ -157,7 +157,7 @@ impl Expected {
 }
 
 /// Insertions with links and removals, each name looked up after each of them. Holds with ample
-/// memory, and also where any one request for memory is refused (`rt try --test --fail-alloc 1..`):
+/// memory, and also where any one request for memory is refused (`rt try --test --fail-alloc N`):
 /// then one insertion answers so, and names, entries, capacity and counter are as they were.
 #[test]
 fn a_refused_insertion_changes_nothing(rt: HostRuntime) {
@@ -236,22 +236,34 @@ fn a_session_without_places_refuses_each_insertion(rt: HostRuntime) {
     assert!(rt; !has_places::<NonZeroInxArray<Slot, 8>>(rt.alloc(), 9));
 }
 
-// Whether the commands run, and have just these replies.
-fn runs<P: Ptr>(
+// The replies of a run, if there was memory for them.
+fn run_of<P: Ptr>(
     session: &mut Session<P, u64>,
     commands: &[Command<u64>],
-    replies: &[Reply<u64>],
-) -> bool {
-    match session.run(commands) {
-        Ok(told) => told.as_slice() == replies,
-        Err(_) => false,
+) -> Option<Vec<Reply<u64>>> {
+    session.run(commands).ok()
+}
+
+// Expects a run to have had just these reply lines.
+fn each_says(rt: &impl Abort, told: Option<Vec<Reply<u64>>>, lines: &[&str]) {
+    let Some(told) = told else {
+        panic!(rt; "there is memory");
+    };
+    assert!(rt; told.len() == lines.len());
+    for (reply, line) in told.iter().zip(lines) {
+        assert!(rt; says(reply, *line), "at {line}");
     }
+}
+
+// Expects the commands to run in a new session to these reply lines, and to leave so many entries.
+fn runs_to(rt: &impl Abort, alloc: Global, commands: &[Command<u64>], lines: &[&str], len: usize) {
+    let mut session = new_session(alloc);
+    each_says(rt, run_of(&mut session, commands), lines);
+    assert!(rt; extent(&session).0 == len);
 }
 
 #[test]
 fn a_run_gives_one_reply_for_each_command(rt: HostRuntime) {
-    let mut session = new_session(rt.alloc());
-    assert_eq!(rt; extent(&session).0, 0);
     let commands = [
         Command::Insert(10, None),
         Command::Insert(20, Some(1)),
@@ -259,41 +271,54 @@ fn a_run_gives_one_reply_for_each_command(rt: HostRuntime) {
         Command::Get(2),
         Command::Get(1),
     ];
-    let replies = [
-        Reply::Given(1, false),
-        Reply::Given(2, false),
-        Reply::Removed(10, None, false),
-        Reply::Found(20, Some(1)),
-        Reply::Nothing,
+    let lines = [
+        "given 1",
+        "given 2",
+        "removed 10 -",
+        "found 20 1",
+        "nothing",
     ];
-    assert!(rt; runs(&mut session, &commands, &replies));
-    assert_eq!(rt; extent(&session).0, 1);
-    assert!(rt; runs(&mut session, &[], &[]));
+    runs_to(&rt, rt.alloc(), &commands, &lines, 1);
+    runs_to(&rt, rt.alloc(), &[], &[], 0);
 }
 
-// The command at a position of insertions that are each before the removal of their name, and its
-// reply, of which that at 507 tells of a wrap.
-fn step_at(position: usize) -> (Command<u64>, Reply<u64>) {
-    let name = position / 2 + 1;
+// The command at a position of insertions that are each before the removal of their name.
+fn command_at(position: usize) -> Command<u64> {
     if position % 2 == 0 {
-        (Command::Insert(5, None), Reply::Given(name, false))
+        Command::Insert(5, None)
     } else {
-        (
-            Command::Remove(name),
-            Reply::Removed(5, None, position == 507),
-        )
+        Command::Remove(position / 2 + 1)
+    }
+}
+
+// Its reply, of which that at 507 tells of a wrap.
+fn reply_at(position: usize) -> Reply<u64> {
+    if position % 2 == 0 {
+        Reply::Given(position / 2 + 1, false)
+    } else {
+        Reply::Removed(5, None, position == 507)
+    }
+}
+
+// Expects a run to have ended with the reply at 507.
+fn ends_at_the_wrap(rt: &impl Abort, told: Option<Vec<Reply<u64>>>) {
+    let Some(told) = told else {
+        panic!(rt; "there is memory");
+    };
+    assert!(rt; told.len() == 508);
+    for (position, reply) in told.iter().enumerate() {
+        assert!(rt; *reply == reply_at(position), "at {position}");
     }
 }
 
 /// The byte counter begins at 2, so the 254th removal wraps it, and what follows isn't run.
 #[test]
 fn a_run_ends_at_a_wrap(rt: HostRuntime) {
-    let commands: [Command<u64>; 510] = array::from_fn(|position| step_at(position).0);
-    let replies: [Reply<u64>; 508] = array::from_fn(|position| step_at(position).1);
+    let commands: [Command<u64>; 510] = array::from_fn(command_at);
     let mut session: Session<B, u64> = Session::new(rt.alloc());
-    assert!(rt; runs(&mut session, &commands, &replies));
+    ends_at_the_wrap(&rt, run_of(&mut session, &commands));
     follow(&rt, &mut session, &[(Command::Get(255), Reply::Nothing)]);
-    assert_eq!(rt; extent(&session).0, 0);
+    assert!(rt; extent(&session).0 == 0);
 }
 
 type ByteSlot = ArenaSlot<B, Node<u64, B>>;
@@ -302,11 +327,6 @@ type ByteSlot = ArenaSlot<B, Node<u64, B>>;
 fn entry_of(name: usize) -> (u64, Option<usize>) {
     let link = if name > 1 { Some(name - 1) } else { None };
     (name as u64, link)
-}
-
-// What then stands under each name; there is none of 0.
-fn row_of(name: usize) -> Row {
-    if name > 0 { Some(entry_of(name)) } else { None }
 }
 
 // Inserts as many entries as there are byte indexes.
@@ -321,28 +341,49 @@ fn fills<S: NonZeroInxGenericStack<ByteSlot>>(rt: &impl Abort, session: &mut Ses
     }
 }
 
+// Expects each of these names to find its entry.
+fn finds_each<S: NonZeroInxGenericStack<ByteSlot>>(
+    rt: &impl Abort,
+    session: &mut Session<B, u64, S>,
+) {
+    for name in 1..256 {
+        let (datum, link) = entry_of(name);
+        let reply = Reply::Found(datum, link);
+        assert!(rt; replies(session, Command::Get(name), &reply), "at {name}");
+    }
+}
+
+// Expects a full session to refuse an insertion so, and names, entries, capacity and counter to stay.
+fn refuses_and_stays<S: NonZeroInxGenericStack<ByteSlot>>(
+    rt: &impl Abort,
+    session: &mut Session<B, u64, S>,
+    refusal: &Reply<u64>,
+) {
+    let before = extent(session);
+    assert!(rt; (before.0, before.1) == (255, 255));
+    assert!(rt; replies(session, Command::Insert(0, None), refusal));
+    assert!(rt; has_extent(session, before));
+    finds_each(rt, session);
+}
+
 // Fills a session, made with this room, up to the greatest byte index. The next insertion is refused
-// so, and names, entries, capacity and counter stay, until a removal makes place.
+// so, until a removal makes place.
 fn takes_every_index<S: NonZeroInxGenericStack<ByteSlot> + Drop>(
     rt: &impl Abort,
     alloc: Global,
     room: usize,
-    refusal: Reply<u64>,
+    refusal: &Reply<u64>,
 ) {
     let Ok(mut session) = Session::<B, u64, S>::with_min_capacity(alloc, room) else {
         panic!(rt; "there is memory");
     };
     fills(rt, &mut session);
-    let before = extent(&session);
-    assert_eq!(rt; (before.0, before.1), (255, 255));
-    assert!(rt; replies(&mut session, Command::Insert(0, None), &refusal));
-    assert!(rt; has_extent(&session, before));
-    let rows: [Row; 256] = array::from_fn(row_of);
-    holds(rt, &mut session, &rows);
+    refuses_and_stays(rt, &mut session, refusal);
     follow(
         rt,
         &mut session,
         &[
+            (Command::Get(0), Reply::Nothing),
             (Command::Get(256), Reply::Nothing),
             (Command::Remove(100), Reply::Removed(100, Some(99), false)),
             (Command::Insert(7, Some(255)), Reply::Given(256, false)),
@@ -354,9 +395,9 @@ fn takes_every_index<S: NonZeroInxGenericStack<ByteSlot> + Drop>(
 /// index is told first.
 #[test]
 fn an_arena_without_a_free_index_refuses(rt: HostRuntime) {
-    takes_every_index::<NonZeroInxVec<ByteSlot>>(&rt, rt.alloc(), 0, Reply::NoMemory);
+    takes_every_index::<NonZeroInxVec<ByteSlot>>(&rt, rt.alloc(), 0, &Reply::NoMemory);
     let refusal = Reply::BeyondMaxCapacity;
-    takes_every_index::<NonZeroInxLimitedVec<ByteSlot>>(&rt, rt.alloc(), 255, refusal);
+    takes_every_index::<NonZeroInxLimitedVec<ByteSlot>>(&rt, rt.alloc(), 255, &refusal);
 }
 
 #[test]

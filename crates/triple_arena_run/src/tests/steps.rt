@@ -2,6 +2,7 @@
 
 use crate::command::Command;
 use crate::node::Node;
+use crate::output::line_of;
 use crate::reply::Reply;
 use crate::session::Session;
 use std::alloc::Global;
@@ -23,6 +24,14 @@ pub fn replies<
     S: NonZeroInxGenericStack<ArenaSlot<P, Node<X, P>>>,
 >(session: &mut Session<P, X, S>, command: Command<X>, reply: &Reply<X>) -> bool {
     session.step(command) == *reply
+}
+
+/// Whether the line of a reply is this text, and a line break.
+pub fn says(reply: &Reply<u64>, text: &str) -> bool {
+    match line_of(reply) {
+        Some(line) => line.as_str().strip_suffix("\n") == Some(text),
+        None => false,
+    }
 }
 
 /// Makes each step, and expects its reply.

@@ -1,10 +1,5 @@
-use Rattle.triple_arena_run.proofs.TextLaws.{IsFlushedRun-not_begun}
+use Rattle.triple_arena_run.proofs.StoreTextLaws.{RunsKindAsStore}
 use Rattle.triple_arena_run.proofs.kind_run.run_kind.Goals as goal
 
-pub returns-in-Err : goal.returns-in-Err
-returns-in-Err g c =
-    rw c.in-Limited.is (_, IsFlushedRun-not_begun _ (g.R.Read.remaining c.args.input.now) c.flush_after.result.0 _ _ _ c.flush_after.ensures)
-
-pub returns-in-Err-with_min_capacity : goal.returns-in-Err-with_min_capacity
-returns-in-Err-with_min_capacity g c =
-    rw c.in-Fixed.is (_, IsFlushedRun-not_begun _ (g.R.Read.remaining c.args.input.now) c.flush_after-in-Err-with_min_capacity.result.0 _ _ _ c.flush_after-in-Err-with_min_capacity.ensures)
+pub returns-clause-store : goal.returns-clause-store
+returns-clause-store g c = RunsKindAsStore c.args.kind (g.R.Read.remaining c.args.input.now) c.run_over.result.0 _ _ c.run_over.ensures

@@ -1,9 +1,5 @@
-use Rattle.triple_arena_run.proofs.TextLaws.{IsTextRun-read, IsTextRun-unread}
+use Rattle.triple_arena_run.proofs.StoreTextLaws.{TextIsStores}
 use Rattle.triple_arena_run.proofs.text.run_text.Goals as goal
 
-pub returns-in-Ok : goal.returns-in-Ok
-returns-in-Ok g c =
-    IsTextRun-read _ (g.R.Read.remaining c.args.input.now) _ _ c.run_lines.result _ _ _ _ c.as_slice.ensures.value c.in-Ok.ensures.ok c.run_lines.ensures
-
-pub returns-in-Err : goal.returns-in-Err
-returns-in-Err g c = IsTextRun-unread _ (g.R.Read.remaining c.args.input.now) c.in-Err.e _ _ c.in-Err.ensures.err
+pub returns-clause-store : goal.returns-clause-store
+returns-clause-store g c counts sound = TextIsStores g.S.NonZeroInxGenericStack.kind g.S.NonZeroInxGenericStack.has_memory g.P.Gen.PtrGen.counting g.P.Gen.PtrGen.greatest counts c.args.session.now c.read_and_run.new.session sound (g.W.Write.contents c.args.output.now) _ (g.R.Read.remaining c.args.input.now) c.read_and_run.result c.read_and_run.ensures

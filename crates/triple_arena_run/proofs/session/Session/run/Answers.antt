@@ -1,20 +1,28 @@
-use Rattle.std.proofs.Common.{◌+◌, subst, sym, ap, ◌∙◌}
-use Rattle.std.proofs.lemmas.List.{length_push}
-use Rattle.triple_arena_run.specs.SessionRun.{IsStep}
-use Rattle.triple_arena_run.proofs.RunLaws.{IsRun-more, RunsToWrap-wrapped, TellsOfNoWrap-push}
+use Rattle.std.proofs.Common.{length, take}
+use Rattle.std.proofs.lemmas.Result.{IfOk-weaker}
+use Rattle.triple_arena_run.proofs.StoreRunLaws.{RunAnswersAsStore, RunIsStores, RunKeepsHistories, RunIsUnseen}
 use Rattle.triple_arena_run.proofs.session.Session.run.Goals as goal
 
-pub returns-then-wrapped-clause-ran : goal.returns-then-wrapped-clause-ran
-returns-then-wrapped-clause-ran g c =
-    let step = subst (λ command. IsStep g.S.NonZeroInxGenericStack.kind g.S.NonZeroInxGenericStack.has_memory g.P.Gen.PtrGen.counting g.P.Gen.PtrGen.greatest c.commands.self command c.step-reply.result c.step-reply.new.self) c.command-item.is c.step-reply.ensures in
-    rw c.push_reserved.ensures.items (RunsToWrap-wrapped (IsStep g.S.NonZeroInxGenericStack.kind g.S.NonZeroInxGenericStack.has_memory g.P.Gen.PtrGen.counting g.P.Gen.PtrGen.greatest) c.args.self.now c.commands.self c.step-reply.new.self c.args.commands.now c.commands.command-index c.command-item.result c.commands.replies.items c.step-reply.result c.commands-test.true c.commands.invariant.count c.commands.invariant.ran step c.commands.invariant.told (sym c.tells_of_wrap-wrapped.ensures ∙ c.if-wrapped.true))
+pub returns-clause-store : goal.returns-clause-store
+returns-clause-store g c counts sound =
+    IfOk-weaker c.run_commands.result _ _ (λ replies ran. RunAnswersAsStore g.S.NonZeroInxGenericStack.kind g.S.NonZeroInxGenericStack.has_memory g.P.Gen.PtrGen.counting g.P.Gen.PtrGen.greatest counts c.args.self.now c.args.commands.now replies.items c.run_commands.new.self sound ran) c.run_commands.ensures.ran
 
-pub commands-preserved : goal.commands-preserved
-commands-preserved g c =
-    let step = subst (λ command. IsStep g.S.NonZeroInxGenericStack.kind g.S.NonZeroInxGenericStack.has_memory g.P.Gen.PtrGen.counting g.P.Gen.PtrGen.greatest c.commands.self command c.step-reply.result c.step-reply.new.self) c.command-item.is c.step-reply.ensures in
-    record {
-      ran = rw c.push_reserved.ensures.items (IsRun-more (IsStep g.S.NonZeroInxGenericStack.kind g.S.NonZeroInxGenericStack.has_memory g.P.Gen.PtrGen.counting g.P.Gen.PtrGen.greatest) c.args.self.now c.commands.self c.step-reply.new.self c.args.commands.now c.commands.command-index c.command-item.result c.commands.replies.items c.step-reply.result c.commands-test.true c.commands.invariant.ran step);
-      told = rw c.push_reserved.ensures.items (TellsOfNoWrap-push c.commands.replies.items c.step-reply.result c.commands.invariant.told (sym c.tells_of_wrap-wrapped.ensures ∙ c.if-wrapped.false));
-      count = rw c.push_reserved.ensures.items (length_push c.commands.replies.items c.step-reply.result ∙ ap (λ n. n + 1) c.commands.invariant.count);
-      room = rw c.push_reserved.ensures.capacity c.commands.invariant.room;
-    }
+pub returns-clause-shows : goal.returns-clause-shows
+returns-clause-shows g c counts sound =
+    IfOk-weaker c.run_commands.result _ _ (λ replies ran. λ quiet. (RunIsStores g.S.NonZeroInxGenericStack.kind g.S.NonZeroInxGenericStack.has_memory g.P.Gen.PtrGen.counting g.P.Gen.PtrGen.greatest counts c.args.self.now c.args.commands.now replies.items c.run_commands.new.self sound ran quiet).0) c.run_commands.ensures.ran
+
+pub returns-clause-sound : goal.returns-clause-sound
+returns-clause-sound g c counts sound =
+    IfOk-weaker c.run_commands.result _ _ (λ replies ran. λ quiet. (RunIsStores g.S.NonZeroInxGenericStack.kind g.S.NonZeroInxGenericStack.has_memory g.P.Gen.PtrGen.counting g.P.Gen.PtrGen.greatest counts c.args.self.now c.args.commands.now replies.items c.run_commands.new.self sound ran quiet).1) c.run_commands.ensures.ran
+
+pub returns-clause-calls : goal.returns-clause-calls
+returns-clause-calls g c counts sound =
+    IfOk-weaker c.run_commands.result _ _ (λ replies ran. RunKeepsHistories g.S.NonZeroInxGenericStack.kind g.S.NonZeroInxGenericStack.has_memory g.P.Gen.PtrGen.counting g.P.Gen.PtrGen.greatest counts c.args.self.now (take (length replies.items) c.args.commands.now) replies.items c.run_commands.new.self sound) c.run_commands.ensures.ran
+
+pub returns-clause-before : goal.returns-clause-before
+returns-clause-before g c counts sound =
+    IfOk-weaker c.run_commands.result _ _ (λ replies ran. λ count after. RunKeepsHistories g.S.NonZeroInxGenericStack.kind g.S.NonZeroInxGenericStack.has_memory g.P.Gen.PtrGen.counting g.P.Gen.PtrGen.greatest counts c.args.self.now (take count c.args.commands.now) (take count replies.items) after sound) c.run_commands.ensures.ran
+
+pub returns-clause-unseen : goal.returns-clause-unseen
+returns-clause-unseen g c counts sound =
+    IfOk-weaker c.run_commands.result _ _ (λ replies ran. RunIsUnseen g.S.NonZeroInxGenericStack.kind g.S.NonZeroInxGenericStack.has_memory g.P.Gen.PtrGen.counting g.P.Gen.PtrGen.greatest counts c.args.self.now c.args.commands.now replies.items c.run_commands.new.self sound ran) c.run_commands.ensures.ran

@@ -1,7 +1,7 @@
 use Rattle.std.proofs.Common.{◌≡◌, ◌≤◌, length, take, vec_capacity}
 use Rattle.triple_arena_run.specs.SessionRun.{IsStep}
 use Rattle.triple_arena_run.specs.Runs.{IsRun, TellsOfNoWrap}
-use Rattle.triple_arena_run.proofs.session.Session.run.Given as goal
+use Rattle.triple_arena_run.proofs.session.Session.run_commands.Given as goal
 
 abbrev pub invariant-commands : goal.invariant-commands
 invariant-commands g l = record {

@@ -1,0 +1,40 @@
+-- What a session shows: a store of names.
+use Rattle.std.specs.Prelude.{◌≡◌, ◌≤◌, ◌<◌, List, map, Option, Some, IsTrue, false}
+use Rattle.std.specs.Option.{option_map}
+use Rattle.triple_arena_ptr.specs.Pointers.{Pointer}
+use Rattle.triple_arena_stack.specs.StackKind.{StackKind, IsOfKind}
+use Rattle.triple_arena.specs.ArenaState.{ArenaState, look_up, capacity, IsWellFormed}
+use Rattle.triple_arena.specs.Histories.{has, AreDistinct, is_live}
+use Rattle.triple_arena_run.specs.SessionState.{SessionState, link_name}
+use Rattle.triple_arena_run.specs.NameStore.{NameRow, Store}
+
+module _ {X : Type 0} where
+  -- a datum and the pointer of its link as a row: the datum, and the name of the link
+  abbrev pub as_row : List Pointer → X × Option Pointer → NameRow X
+  as_row table node = (node.0, link_name table node.1)
+
+  -- the row of a pointer, if the arena has it
+  abbrev pub row_of : ArenaState (X × Option Pointer) → List Pointer → Pointer → Option (NameRow X)
+  row_of arena table p = option_map (as_row table) (look_up arena p)
+
+  -- the store that a session shows: the row of each name is that of its pointer
+  abbrev pub shown : SessionState X → Store X
+  shown s =
+      record {
+        rows = map (row_of s.arena s.table) s.table;
+        capacity = capacity s.arena;
+        limit = s.arena.limit;
+        greatest = s.arena.greatest;
+      }
+
+  -- the table has no pointer twice, and has every pointer of the arena and that of every link; none of its generations is
+  -- above the counter, and those of pointers that the arena does not have are below it
+  pub record IsSound (kind : StackKind) (s : SessionState X) : Type 0 where
+    pub distinct : AreDistinct s.table
+    pub has_live : (p : Pointer) → IsTrue (is_live s.arena p) → IsTrue (has s.table p)
+    pub has_links : (p q : Pointer) (datum : X) → look_up s.arena p ≡ Some (datum, Some q) → IsTrue (has s.table q)
+    pub by_now : (p : Pointer) → IsTrue (has s.table p) → p.1 ≤ s.arena.counter
+    pub before : (p : Pointer) → IsTrue (has s.table p) → is_live s.arena p ≡ false → p.1 < s.arena.counter
+    -- what holds of every arena
+    pub well_formed : IsWellFormed s.arena
+    pub of_kind : IsOfKind kind s.arena.room s.arena.limit

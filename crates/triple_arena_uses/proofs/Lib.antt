@@ -1,2 +1,4 @@
 pub mod Mapping
+pub mod Notes
 pub mod Renewing
+pub mod Rewiring

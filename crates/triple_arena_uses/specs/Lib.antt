@@ -1,3 +1,5 @@
 pub mod Entities
 pub mod Guests
 pub mod FirstHistory
+pub mod Notes
+pub mod Netlist

@@ -1,0 +1,33 @@
+-- How a side table stays beside its table.
+use Rattle.std.proofs.Common.{◌≡◌, ◌≢◌, ◌⊎◌, ℕ, List, [], Option, None, is_some, refl, sym, ap, ◌∙◌, inl, inr}
+use Rattle.std.proofs.lemmas.Bool.{cases_eq}
+use Rattle.std.specs.Option.{option_and_then}
+use Rattle.triple_arena_ptr.specs.Pointers.{Pointer}
+use Rattle.triple_arena.specs.Entries.{look_up_in, value_under}
+use Rattle.triple_arena.specs.ItemLaws.{joined}
+use Rattle.triple_arena.proofs.ItemLists.{item_nil}
+use Rattle.triple_arena.proofs.Links.{pointer_is}
+use Rattle.triple_arena_direct.specs.Mirrors.{SamePointers}
+
+same_or_other : (q p : Pointer) → (q ≡ p) ⊎ (q ≢ p)
+same_or_other q p =
+    elim (cases_eq q.0 p.0) [
+      | inl i ↦ elim (cases_eq q.1 p.1) [
+        | inl g ↦ inl (pointer_is q.0 q.1 p.0 p.1 i g)
+        | inr other ↦ inr (λ e. other (ap (λ (r : Pointer). r.1) e))
+      ]
+      | inr other ↦ inr (λ e. other (ap (λ (r : Pointer). r.0) e))
+    ]
+
+module _ {A B : Type 0} where
+  -- what both lose under one pointer alone
+  pub same_removed : (es es' : List (Option (ℕ × A))) (ns ns' : List (Option (ℕ × B))) (p : Pointer) → SamePointers es ns → look_up_in es' p ≡ None → look_up_in ns' p ≡ None → ((q : Pointer) → q ≢ p → look_up_in es' q ≡ look_up_in es q) → ((q : Pointer) → q ≢ p → look_up_in ns' q ≡ look_up_in ns q) → SamePointers es' ns'
+  same_removed es es' ns ns' p same gone gone' others others' q =
+      elim (same_or_other q p) [
+        | inl here ↦ ap is_some (ap (look_up_in ns') here ∙ gone') ∙ sym (ap is_some (ap (look_up_in es') here ∙ gone))
+        | inr other ↦ ap is_some (others' q other) ∙ same q ∙ sym (ap is_some (others q other))
+      ]
+
+-- where there is no slot, no pointer is valid
+pub none_in_empty : {A : Type 0} (q : Pointer) → look_up_in {T = A} [] q ≡ None
+none_in_empty {A = A} q = ap (λ o. option_and_then (value_under q.1) (joined o)) (item_nil {A = Option (ℕ × A)} q.0)

@@ -1,0 +1,86 @@
+//! A netlist: gates in an arena, each of which holds the pointers of the gates that its pins are
+//! wired to.
+//!
+//! Its compaction is proved to keep the wires: they are the old ones, both ends of each renamed.
+
+ghost use Rattle.std.specs.Prelude.{◌≡◌, map, None, Some, IfOk, OnErr, option_copied};
+ghost use Rattle.triple_arena_base.specs.Invalidation.{allowed_option};
+ghost use Rattle.triple_arena_ptr.specs.Pointers.{Pointer};
+ghost use Rattle.triple_arena.specs.ArenaState.{look_up};
+ghost use Rattle.triple_arena_direct.specs.Renaming.{MapsPointers};
+ghost use Rattle.triple_arena_uses.specs.Netlist.{wires, rewired};
+
+use std::alloc::Global;
+use std::marker::Model;
+use triple_arena::{Arena, ArenaInsertTrait, ArenaTrait};
+use triple_arena_base::{CompactError, InvalidationOption, ReallocationError, Recast};
+use triple_arena_direct::{DirectArena, compress_recast};
+use triple_arena_ptr::Ptr;
+
+/// A netlist of gates of any type that holds pointers, each gate named by the pointer that its
+/// insertion gave. A wire to a gate that was removed leads nowhere.
+#[derive(Drop)]
+pub struct Netlist<P: Ptr, G: Recast<P>> {
+    gates: Arena<P, G>,
+}
+
+impl<P: Ptr, G: Recast<P>> Model for Netlist<P, G> {
+    ghost use Rattle.triple_arena.specs.ArenaState.{ArenaState};
+
+    ghost Value = { ArenaState G };
+
+    ghost view = { λ netlist. netlist.gates };
+}
+
+impl<P: Ptr, G: Recast<P>> Netlist<P, G> {
+    /// A netlist without gates.
+    pub fn new(alloc: Global) -> Self
+        ensures { (q : Pointer) → look_up result q ≡ None }
+    {
+        Netlist {
+            gates: Arena::new(alloc),
+        }
+    }
+
+    /// A new gate.
+    pub fn add(&mut self, gate: G) -> Result<P, ReallocationError>
+    where
+        G: Drop,
+        ensures found { IfOk result (λ p. look_up self.new (P.numbers p) ≡ Some gate) }
+        ensures refused { OnErr result (self.new ≡ self.old) }
+    {
+        self.gates.insert(gate)
+    }
+
+    /// Takes a gate away, with the wires from it.
+    pub fn remove(&mut self, p: P) -> Option<G>
+        ensures answer { result ≡ look_up self.old (P.numbers p) }
+        ensures gone { look_up self.new (P.numbers p) ≡ None }
+    {
+        self.gates.remove(p).allow()
+    }
+
+    /// The gate under a pointer.
+    pub fn get(&self, p: P) -> Option<&G>
+        ensures { option_copied result ≡ look_up self.now (P.numbers p) }
+    {
+        self.gates.get(p)
+    }
+
+    /// Moves the gates to the indexes from 1 on, and renames every wire with them. The map tells the
+    /// new pointer of each gate.
+    ///
+    /// Refused where a wire leads nowhere, and where memory is; then nothing changes.
+    pub fn compact(
+        &mut self,
+        alloc: Global,
+    ) -> Result<InvalidationOption<DirectArena<P, P>>, CompactError<P>>
+        ensures renamed { IfOk result (λ answer. (rename : Pointer → Pointer)
+            × MapsPointers P.numbers rename self.old.slots (allowed_option answer).slots
+            × (wires P.numbers G.held self.new.slots
+            ≡ map (rewired rename) (wires P.numbers G.held self.old.slots))) }
+        ensures refused { OnErr result (self.new ≡ self.old) }
+    {
+        compress_recast(&mut self.gates, alloc, false)
+    }
+}

@@ -1,0 +1,94 @@
+//! A side table: a note beside each entity, under the entity's own pointer.
+//!
+//! The notes lie in a direct arena that mirrors the arena of the entities: it is given each
+//! insertion and each removal. So a note stands under a pointer exactly where an entity does.
+
+ghost use Rattle.std.specs.Prelude.{◌≡◌, ◌≢◌, None, Some, IfOk, OnErr, is_some};
+ghost use Rattle.triple_arena_ptr.specs.Pointers.{Pointer};
+ghost use Rattle.triple_arena.specs.Entries.{look_up_in};
+ghost use Rattle.triple_arena_uses.specs.Entities.{numbers};
+ghost use Rattle.triple_arena_uses.specs.Notes.{Noted};
+
+use crate::entity_table::Entity;
+use std::alloc::Global;
+use std::marker::Model;
+use triple_arena::{Arena, ArenaDirectInsertTrait, ArenaInsertTrait, ArenaTrait};
+use triple_arena_base::{AllocError, NotWithinCapacityError};
+use triple_arena_direct::{DirectArena, laws};
+use triple_arena_ptr::P0;
+
+/// Entities, each with a note beside it.
+#[derive(Drop)]
+pub struct NotedEntities {
+    entities: Arena<P0, Entity>,
+    notes: DirectArena<P0, u64>,
+}
+
+impl Model for NotedEntities {
+    ghost use Rattle.triple_arena_direct.specs.Mirrors.{SamePointers};
+    ghost use Rattle.triple_arena_uses.specs.Notes.{Noted};
+
+    ghost Value = { Noted };
+
+    ghost view = { λ table. record { entities = table.entities; notes = table.notes } };
+
+    // an entity stands under a pointer exactly where a note does
+    ghost invariant = { λ table. SamePointers table.entities.slots table.notes.slots };
+}
+
+impl NotedEntities {
+    /// Room for so many entities, and as many notes.
+    pub fn with_room(alloc: Global, room: usize) -> Result<Self, AllocError>
+        ensures { IfOk result (λ table. (q : Pointer) → look_up_in table.notes.slots q ≡ None) }
+    {
+        let entities = Arena::with_min_capacity(alloc, room)?;
+        let notes = DirectArena::with_min_capacity(alloc, room)?;
+        Ok(NotedEntities { entities, notes })
+    }
+
+    /// A new entity of this health, with a note.
+    ///
+    /// Refused where there is no room for one of the two; then nothing changes.
+    pub fn spawn(&mut self, health: u32, note: u64) -> Result<P0, NotWithinCapacityError>
+        ensures noted { IfOk result
+            (λ p. look_up_in self.new.notes.slots (numbers p) ≡ Some note) }
+        ensures others { IfOk result (λ p. (q : Pointer) → q ≢ numbers p
+            → look_up_in self.new.notes.slots q ≡ look_up_in self.old.notes.slots q) }
+        ensures refused { OnErr result (self.new ≡ self.old) }
+    {
+        laws::mirror_keeps_pointers::<Entity, u64>();
+        if self.entities.len() >= self.entities.capacity() {
+            return Err(NotWithinCapacityError);
+        }
+        let p = self.entities.next_ptr();
+        if !self.notes.can_direct_insert(p) {
+            return Err(NotWithinCapacityError);
+        }
+        self.entities.insert_reserved(Entity {
+            health,
+            parent: None,
+        });
+        self.notes.direct_insert_reserved(p, note);
+        Ok(p)
+    }
+
+    /// Takes an entity away, and its note, which it gives; none where there is no such entity.
+    pub fn despawn(&mut self, p: P0) -> Option<u64>
+        ensures answer { result ≡ look_up_in self.old.notes.slots (numbers p) }
+        ensures gone { look_up_in self.new.notes.slots (numbers p) ≡ None }
+        ensures others { (q : Pointer) → q ≢ numbers p
+            → look_up_in self.new.notes.slots q ≡ look_up_in self.old.notes.slots q }
+    {
+        drop(self.entities.remove(p));
+        self.notes.remove(p).allow()
+    }
+
+    /// The note on an entity; none exactly where there is no such entity.
+    pub fn note(&self, p: P0) -> Option<u64>
+        ensures value { result ≡ look_up_in self.now.notes.slots (numbers p) }
+        ensures exactly { is_some result
+            ≡ is_some (look_up_in self.now.entities.slots (numbers p)) }
+    {
+        self.notes.get(p).copied()
+    }
+}

@@ -11,20 +11,3 @@ pub fn item_beside<P: Ptr, T>(items: &[T], p: P) -> Option<&T>
     let inx = P::Inx::try_into_usize(p.inx())?;
     items.get(inx.get() - 1)
 }
-
-#[cfg(test)]
-mod tests {
-    use super::item_beside;
-    use std::num::NonZeroUsize;
-    use std::process::Abort;
-    use triple_arena_ptr::{P0, P5, Ptr, PtrGen};
-
-    #[test]
-    fn items_go_by_index(rt: HostRuntime) {
-        let items = [7, 8];
-        let first = P0::_from_raw(NonZeroUsize::MIN, PtrGen::two());
-        assert_eq!(rt; item_beside(&items[..], first).copied(), Some(7));
-        assert_eq!(rt; item_beside(&items[..], P0::invalid()).copied(), None);
-        assert_eq!(rt; item_beside(&items[..], P5::invalid()).copied(), None);
-    }
-}

@@ -109,29 +109,3 @@ impl<T, S: NonZeroInxGenericStack<T>> NonZeroInxGenericStack<T> for CountingStac
 
     ghost with_items_twice = { S.with_items_twice };
 }
-
-#[cfg(test)]
-mod tests {
-    use super::CountingStack;
-    use std::process::Abort;
-    use std::test::Fail;
-    use triple_arena::{Arena, ArenaInsertTrait, ArenaSlot, ArenaTrait};
-    use triple_arena_ptr::P0;
-    use triple_arena_stack::NonZeroInxVec;
-
-    type Slot = ArenaSlot<P0, u64>;
-
-    type Counted = Arena<P0, u64, CountingStack<Slot, NonZeroInxVec<Slot>>>;
-
-    #[test]
-    fn an_arena_pushes_where_no_index_is_free(rt: HostRuntime) -> Result<(), Fail> {
-        let mut arena: Counted = Arena::new(rt.alloc());
-        let p = arena.insert(7)?;
-        arena.insert(8)?;
-        assert!(rt; arena.remove(p).is_success());
-        arena.insert(9)?;
-        assert_eq!(rt; arena.len(), 2);
-        assert_eq!(rt; arena.backing().pushes(), 2);
-        Ok(())
-    }
-}

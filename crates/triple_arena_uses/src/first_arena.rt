@@ -17,14 +17,3 @@ pub fn first_arena(alloc: Global) -> Result<(), ReallocationError> {
     prove!(kept == Some(20));
     Ok(())
 }
-
-#[cfg(test)]
-mod tests {
-    use super::first_arena;
-    use std::process::Abort;
-
-    #[test]
-    fn memory_is_there(rt: HostRuntime) {
-        assert!(rt; first_arena(rt.alloc()).is_ok());
-    }
-}

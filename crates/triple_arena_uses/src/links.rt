@@ -33,6 +33,3 @@ impl Recast<P0> for Link {
     ghost refill_refill = { λ link l m h k. ap (λ target. record link { target = target })
         (option_refill_refill held_itself refill_itself itself_refill_refill link.target l m h k) };
 }
-
-#[cfg(test)]
-mod tests;

@@ -136,22 +136,3 @@ impl Recast<SmallPtr> for SmallPtr {
 
     ghost refill_refill = { itself_refill_refill };
 }
-
-#[cfg(test)]
-mod tests {
-    use super::SmallPtr;
-    use std::process::Abort;
-    use std::test::Fail;
-    use triple_arena::{Arena, ArenaInsertTrait, ArenaTrait};
-
-    #[test]
-    fn names_an_entry(rt: HostRuntime) -> Result<(), Fail> {
-        let mut arena: Arena<SmallPtr, u64> = Arena::new(rt.alloc());
-        let p = arena.insert(7)?;
-        let texts = format!(in rt.alloc(); "{p} {:?}", SmallPtr::default())?;
-        assert_eq!(rt; texts.as_str(), "SmallPtr[1](2) SmallPtr[ffffffff](1)");
-        assert_eq!(rt; arena.get(p).copied(), Some(7));
-        assert_eq!(rt; arena.get(SmallPtr::default()), None);
-        Ok(())
-    }
-}

@@ -102,6 +102,3 @@ pub fn drain_three<P: Ptr, T: Drop, A: CompactArenaTrait<P, T>>(arena: &mut A)
     drop(drain.next());
     drop(drain.next());
 }
-
-#[cfg(test)]
-mod tests;

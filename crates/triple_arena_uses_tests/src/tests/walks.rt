@@ -1,10 +1,10 @@
-use super::{add, add_one, count, drain_three, pointers, remove_all, renew_all};
 use std::alloc::{AllocError, Global};
 use std::process::Abort;
 use std::test::Fail;
 use triple_arena::{Arena, ArenaInsertTrait, ArenaTrait, CompactArenaTrait};
 use triple_arena_base::ReallocationError;
 use triple_arena_ptr::{P0, Ptr};
+use triple_arena_uses::walks::{add, add_one, count, drain_three, pointers, remove_all, renew_all};
 
 type Numbers = Arena<P0, u64>;
 
@@ -82,7 +82,7 @@ fn each_entry_gets_a_new_pointer(rt: HostRuntime) -> Result<(), Fail> {
 }
 
 #[test]
-fn each_entry_is_taken_out_x(rt: HostRuntime) -> Result<(), Fail> {
+fn each_entry_is_taken_out(rt: HostRuntime) -> Result<(), Fail> {
     let mut numbers = two_of_four(rt.alloc())?;
     remove_all(&mut numbers);
     assert_eq!(rt; (numbers.len(), count(&numbers)), (0, 0));

@@ -1,11 +1,11 @@
 ghost use Rattle.std.specs.Prelude.{Some};
 
-use super::Link;
 use std::num::NonZeroUsize;
 use std::process::Abort;
 use std::test::Fail;
 use triple_arena_base::{Recast, Recaster};
 use triple_arena_ptr::{P0, Ptr, PtrGen};
+use triple_arena_uses::links::Link;
 
 /// Sends each pointer to this one.
 #[derive(Drop)]

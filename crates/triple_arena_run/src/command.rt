@@ -57,7 +57,7 @@ pub fn parse_command(line: &[u8]) -> Option<Command<u64>>
     }
 }
 
-/// The command of a verb and the words after it.
+// The command of a verb and the words after it.
 fn parse_arguments(verb: &[u8], rest: &[u8]) -> Option<Command<u64>>
     ensures { result ≡ command_of_words (verb.now ∷ words_of rest.now) }
 {
@@ -68,7 +68,7 @@ fn parse_arguments(verb: &[u8], rest: &[u8]) -> Option<Command<u64>>
     }
 }
 
-/// The command of a verb, one word and the words after it.
+// The command of a verb, one word and the words after it.
 fn parse_linked(verb: &[u8], first: &[u8], rest: &[u8]) -> Option<Command<u64>>
     ensures { result ≡ command_of_words (verb.now ∷ first.now ∷ words_of rest.now) }
 {
@@ -79,7 +79,7 @@ fn parse_linked(verb: &[u8], first: &[u8], rest: &[u8]) -> Option<Command<u64>>
     }
 }
 
-/// The command of a verb, two words and the words after them.
+// The command of a verb, two words and the words after them.
 fn parse_last(verb: &[u8], first: &[u8], second: &[u8], rest: &[u8]) -> Option<Command<u64>>
     ensures { result ≡ command_of_words
         (verb.now ∷ first.now ∷ second.now ∷ words_of rest.now) }
@@ -95,7 +95,7 @@ fn parse_last(verb: &[u8], first: &[u8], second: &[u8], rest: &[u8]) -> Option<C
     }
 }
 
-/// The command of a verb that stands alone.
+// The command of a verb that stands alone.
 fn parse_bare(verb: &[u8]) -> Option<Command<u64>>
     ensures { result ≡ bare_of verb.now }
 {
@@ -114,7 +114,7 @@ fn parse_bare(verb: &[u8]) -> Option<Command<u64>>
     }
 }
 
-/// The command of a verb before a number.
+// The command of a verb before a number.
 fn parse_numbered(verb: &[u8], number: Option<u64>) -> Option<Command<u64>>
     ensures { result ≡ numbered_of verb.now number }
 {
@@ -132,7 +132,7 @@ fn parse_numbered(verb: &[u8], number: Option<u64>) -> Option<Command<u64>>
     }
 }
 
-/// The command of a verb before a datum and a link.
+// The command of a verb before a datum and a link.
 fn parse_insert(
     verb: &[u8],
     datum: Option<u64>,
@@ -150,7 +150,7 @@ fn parse_insert(
     }
 }
 
-/// The command of a verb before a name, a datum and a link.
+// The command of a verb before a name, a datum and a link.
 fn parse_set(
     verb: &[u8],
     name: Option<u64>,
@@ -167,7 +167,7 @@ fn parse_set(
     }
 }
 
-/// The link that a word writes: a dash for none, or a name.
+// The link that a word writes: a dash for none, or a name.
 fn parse_link(word: &[u8]) -> Option<Option<usize>>
     ensures { result ≡ link_of word.now }
 {

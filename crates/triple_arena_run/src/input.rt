@@ -27,7 +27,7 @@ pub fn read_text<R: Read>(alloc: Global, input: &mut R) -> Result<Vec<u8>, TextE
     }
 }
 
-/// The same, with what each read gives put into the chunk first.
+// The same, with what each read gives put into the chunk first.
 fn read_by_chunks<R: Read>(
     alloc: Global,
     input: &mut R,
@@ -57,7 +57,7 @@ fn read_by_chunks<R: Read>(
     Err(TextError::Read)
 }
 
-/// One read, which uses up one of the reads that a text may take. No other function reads.
+// One read, which uses up one of the reads that a text may take. No other function reads.
 fn read_counted<R: Read>(input: &mut R, chunk: &mut [u8], reads: &mut u64) -> io::Result<usize>
     requires { reads.old < MOST_READS }
     ensures bound { ReadsAtMost result chunk.new }

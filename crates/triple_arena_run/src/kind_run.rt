@@ -56,7 +56,7 @@ pub fn run_program<R: Read, W: Write + Drop>(
     run_asked(args, alloc, input, output)
 }
 
-/// Runs the program in the session that its arguments ask for, if they ask for one.
+// Runs the program in the session that its arguments ask for, if they ask for one.
 fn run_asked<R: Read, W: Write + Drop>(
     args: io::Result<Vec<String>>,
     alloc: Global,
@@ -102,7 +102,7 @@ pub fn run_kind<R: Read, W: Write + Drop>(
     run_over(kind, alloc, input, output)
 }
 
-/// Runs a text in a new session of a kind.
+// Runs a text in a new session of a kind.
 fn run_over<R: Read, W: Write + Drop>(
     kind: Kind,
     alloc: Global,

@@ -26,7 +26,7 @@ fn main(rt: HostRuntime) -> ExitCode {
     ExitCode::from(status(outcome))
 }
 
-/// The arguments after the program's name.
+// The arguments after the program's name.
 fn read_args(rt: &HostRuntime) -> io::Result<Vec<String>> {
     Ok(Vec::from_iter(rt.alloc(), env::args(rt)?.skip(1))?)
 }

@@ -10,7 +10,9 @@ use triple_arena_base::{Recast, Recaster};
 /// A datum, and the pointer of the entry that it links to, if it links to one. It holds its link.
 #[derive(Clone, Copy, PartialEq, Eq)]
 pub struct Node<X, P> {
+    /// What the user of the session gave.
     pub datum: X,
+    /// The pointer of the entry that it links to, which may have ended since.
     pub link: Option<P>,
 }
 

@@ -56,7 +56,7 @@ pub(crate) fn line_of(reply: &Reply<u64>) -> Option<ArrayString<LINE_ROOM>>
     }
 }
 
-/// Writes all of these bytes.
+// Writes all of these bytes.
 fn write_all<W: Write>(output: &mut W, bytes: &[u8]) -> Result<(), TextError>
     ensures ok { OnOk result
         (Appends (W.contents output.old) (W.contents output.new) bytes.now) }
@@ -73,8 +73,8 @@ fn write_all<W: Write>(output: &mut W, bytes: &[u8]) -> Result<(), TextError>
     Ok(())
 }
 
-/// How many of these bytes a write took. `None` where it failed or took none. A write that was
-/// interrupted is tried again.
+// How many of these bytes a write took. `None` where it failed or took none. A write that was
+// interrupted is tried again.
 fn write_some<W: Write>(output: &mut W, bytes: &[u8]) -> Option<usize>
     ensures some { IfSome result (λ count. 0 < count) }
     ensures within { IfSome result (λ count. count ≤ length bytes.now) }

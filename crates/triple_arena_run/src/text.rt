@@ -78,7 +78,7 @@ pub fn run_text<P: Ptr, S: NonZeroInxGenericStack<ArenaSlot<P, Node<u64, P>>>, R
     read_and_run(session, alloc, input, output)
 }
 
-/// Reads a text to its end and runs its lines.
+// Reads a text to its end and runs its lines.
 fn read_and_run<P: Ptr, S: NonZeroInxGenericStack<ArenaSlot<P, Node<u64, P>>>, R: Read, W: Write>(
     session: &mut Session<P, u64, S>,
     alloc: Global,
@@ -121,7 +121,7 @@ pub fn run_text_and_flush<
     run_and_flush(session, alloc, input, output)
 }
 
-/// Runs a text, and flushes the writer after it.
+// Runs a text, and flushes the writer after it.
 fn run_and_flush<
     P: Ptr,
     S: NonZeroInxGenericStack<ArenaSlot<P, Node<u64, P>>>,
@@ -160,7 +160,7 @@ pub fn flush_after<W: Write + Drop>(
     }
 }
 
-/// Runs the lines of a text.
+// Runs the lines of a text.
 fn run_lines<P: Ptr, S: NonZeroInxGenericStack<ArenaSlot<P, Node<u64, P>>>, W: Write>(
     session: &mut Session<P, u64, S>,
     text: &[u8],
@@ -198,7 +198,7 @@ enum LineEnd {
     Unwritten,
 }
 
-/// Runs a line, which may have no bytes.
+// Runs a line, which may have no bytes.
 fn run_line<P: Ptr, S: NonZeroInxGenericStack<ArenaSlot<P, Node<u64, P>>>, W: Write>(
     session: &mut Session<P, u64, S>,
     line: &[u8],
@@ -214,7 +214,7 @@ fn run_line<P: Ptr, S: NonZeroInxGenericStack<ArenaSlot<P, Node<u64, P>>>, W: Wr
     }
 }
 
-/// Runs the command of a line, and writes the line of its reply.
+// Runs the command of a line, and writes the line of its reply.
 fn run_command<P: Ptr, S: NonZeroInxGenericStack<ArenaSlot<P, Node<u64, P>>>, W: Write>(
     session: &mut Session<P, u64, S>,
     line: &[u8],

@@ -27,3 +27,4 @@ pub mod PointerLists
 pub mod Present
 pub mod Lending
 pub mod HistoryLaws
+pub mod Refused

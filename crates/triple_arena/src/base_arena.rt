@@ -707,8 +707,7 @@ impl<P: Ptr, T, S: NonZeroInxGenericStack<ArenaSlot<P, T>>> Arena<P, T, S> {
         ensures place { OnOk result (min_capacity ≤ greatest_index P.Inx.greatest
             → min_capacity ≤ capacity self.new) }
     {
-        self.slots.reallocate(min_capacity)?;
-        Ok(())
+        self.slots.reallocate(min_capacity)
     }
 
     // Grows where there are as many entries as the capacity.

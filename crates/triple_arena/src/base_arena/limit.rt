@@ -48,7 +48,6 @@ impl<P: Ptr, T, S: SetMaxCapacity<ArenaSlot<P, T>>> Arena<P, T, S> {
         ensures done { OnOk result (self.new ≡ record self.old { limit = Some limit }) }
         ensures refused { OnErr result (self.new ≡ self.old) }
     {
-        self.slots.set_max_capacity(limit)?;
-        Ok(())
+        self.slots.set_max_capacity(limit)
     }
 }

@@ -1,11 +1,15 @@
-use Rattle.std.proofs.Common.{◌∙◌, IsSome, ap, sym, refl}
+use Rattle.triple_arena.proofs.Refused.{told_mapped, none_told}
+use Rattle.triple_arena.proofs.SlotEntries.{none_of}
+use Rattle.triple_arena_ptr.specs.Pointers.{Pointer}
+use Rattle.std.specs.Option.{option_map}
+use Rattle.std.proofs.Common.{◌∙◌, IsSome, ap, sym, refl, ◌≡◌, Some, is_some, subst, true≢false}
 use Rattle.std.specs.Int.NonZero.{non_zero_usize_get}
-use Rattle.triple_arena_ptr.specs.Numbers.{raise}
+use Rattle.triple_arena_ptr.specs.Numbers.{raise, wraps}
 use Rattle.triple_arena.specs.Entries.{with_generation_in}
-use Rattle.triple_arena.specs.ArenaState.{look_up}
+use Rattle.triple_arena.specs.ArenaState.{look_up, ArenaState, entry}
 use Rattle.triple_arena.specs.EntryLaws.{slots-invalidated}
-use Rattle.triple_arena.proofs.WellFormed.{invalidated_is}
-use Rattle.triple_arena.proofs.Links.{Shows-counter, carried}
+use Rattle.triple_arena.proofs.WellFormed.{invalidated_is, live_entry, entry_of_value}
+use Rattle.triple_arena.proofs.Links.{Shows-counter, carried, pointer_is}
 use Rattle.triple_arena.proofs.LookUps.{renewed_found, others_found}
 use Rattle.triple_arena.proofs.HistoryLaws.{Continues-invalidated}
 use Rattle.triple_arena.proofs.base_arena.ArenaArenaTrait.invalidate.Goals as goal
@@ -43,3 +47,35 @@ returns-clause-others g c q away =
 pub returns-clause-fresh : goal.returns-clause-fresh
 returns-clause-fresh g c live counts =
     Continues-invalidated g.P.Gen.PtrGen.counting g.P.Gen.PtrGen.greatest c.args.self.now _ (g.P.Ptr.numbers c.args.p) counts live (returns-clause-done g c live)
+
+pub returns-in_default-clause-answer : goal.returns-in_default-clause-answer
+returns-in_default-clause-answer g c =
+    none_told (wraps g.P.Gen.PtrGen.counting g.P.Gen.PtrGen.greatest c.args.self.now.counter) (λ (v : g.row.T.Denot). ((g.P.Ptr.numbers c.args.p).0, raise g.P.Gen.PtrGen.counting g.P.Gen.PtrGen.greatest c.args.self.now.counter)) (look_up c.args.self.now (g.P.Ptr.numbers c.args.p)) (none_of _ (sym c.in_default.ensures.live))
+
+pub returns-in_default-clause-done : goal.returns-in_default-clause-done
+returns-in_default-clause-done g c live = absurd (true≢false (sym (c.in_default.ensures.live ∙ live)))
+
+pub returns-in_default-clause-found : goal.returns-in_default-clause-found
+returns-in_default-clause-found g c live = absurd (true≢false (sym (c.in_default.ensures.live ∙ live)))
+
+pub returns-in_default-clause-fresh : goal.returns-in_default-clause-fresh
+returns-in_default-clause-fresh g c live counts = absurd (true≢false (sym (c.in_default.ensures.live ∙ live)))
+
+pub restamp-requires-after_bounds : goal.restamp-requires-after_bounds
+restamp-requires-after_bounds g c κs within =
+    let live = subst (λ n. IsSome (entry c.args.self.now n)) (sym c.in-Some.ensures.index) (live_entry c.args.self.now.slots (g.P.Ptr.numbers c.args.p) (sym c.in-Some.ensures.live)) in
+    subst (λ (s : ArenaState g.row.T.Denot). IsSome (entry s (non_zero_usize_get c.in-Some.inx))) (sym c.self.view_is) live
+
+pub returns-clause-answer : goal.returns-clause-answer
+returns-clause-answer g c =
+    let p : Pointer = g.P.Ptr.numbers c.args.p in
+    let n = raise g.P.Gen.PtrGen.counting g.P.Gen.PtrGen.greatest c.args.self.now.counter in
+    let found = entry_of_value c.args.self.now.slots p.0 p.1 (sym c.in-Some.ensures.live) in
+    let at = g.met.P.Ptr.numbers_of c._from_raw.result
+    ∙ pointer_is _ _ p.0 n (ap g.P.Inx.PtrInx.number (c._from_raw.ensures.index ∙ c.inx.ensures) ∙ sym (ap (λ (q : Pointer). q.0) (g.met.P.Ptr.numbers_of c.args.p))) (ap g.P.Gen.PtrGen.number c._from_raw.ensures.generation ∙ c.generational_inc-counter.ensures.raised ∙ ap (λ s. raise g.P.Gen.PtrGen.counting g.P.Gen.PtrGen.greatest s.counter) c.self.view_is) in
+    told_mapped g.P.Ptr.numbers c.told_valid.result _ (wraps g.P.Gen.PtrGen.counting g.P.Gen.PtrGen.greatest c.args.self.now.counter) (option_map (λ (v : g.row.T.Denot). (p.0, n)) (look_up c.args.self.now p)) c._from_raw.result c.told_valid.ensures
+    (c.generational_inc-counter.ensures.wrapped ∙ ap (λ s. wraps g.P.Gen.PtrGen.counting g.P.Gen.PtrGen.greatest s.counter) c.self.view_is)
+    (ap (option_map (λ (v : g.row.T.Denot). (p.0, n))) found.2 ∙ ap Some (sym at))
+
+pub returns-clause-unchanged : goal.returns-clause-unchanged
+returns-clause-unchanged g c none = absurd (true≢false (c.in-Some.ensures.live ∙ ap is_some none))

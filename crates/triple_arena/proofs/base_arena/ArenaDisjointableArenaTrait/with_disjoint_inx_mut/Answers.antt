@@ -1,4 +1,6 @@
-use Rattle.std.proofs.Common.{◌≡◌, refl, sym, inl, inr}
+use Rattle.triple_arena.proofs.Refused.{err_is, if_err, on_err, refused_inx, Continues-two_written}
+use Rattle.triple_arena.specs.ArenaState.{entry}
+use Rattle.std.proofs.Common.{◌≡◌, refl, sym, inl, inr, ◌∙◌, IsSome, subst}
 use Rattle.std.specs.Int.NonZero.{non_zero_usize_get}
 use Rattle.triple_arena.proofs.Pairs.{entry_by_parts}
 use Rattle.triple_arena.proofs.Present.{some_mapped, none_mapped}
@@ -46,3 +48,37 @@ work_on_two-requires-clause-callable g c κs within =
     c.requires c.in_ok-i.ensures.variant.2 c.in-Some-Some.a c.in-Some-Some.b x y
     (entry_by_parts slots _ _ _ _ c.in_ok-i.ensures.numbers.0 (rw c.in-Some-Some.is-0 at c.generation_at.ensures) at_x)
     (entry_by_parts slots _ _ _ _ c.in_ok-i.ensures.numbers.1 (rw c.in-Some-Some.is-1 at c.generation_at-2.ensures) at_y)
+
+pub returns-in_err-i-clause-variant : goal.returns-in_err-i-clause-variant
+returns-in_err-i-clause-variant g c =
+    refused_inx c.args.self.now.slots _ _ c.from_residual.result c.in_err-i.field-0.0 (err_is c.from_residual.result c.in_err-i.field-0.0 c.from_residual.ensures.1) c.in_err-i.ensures.variant
+
+pub returns-in_err-i-clause-refused : goal.returns-in_err-i-clause-refused
+returns-in_err-i-clause-refused g c =
+    on_err c.from_residual.result c.in_err-i.field-0.0 (err_is c.from_residual.result c.in_err-i.field-0.0 c.from_residual.ensures.1) _ refl
+
+pub returns-in_err-i-clause-worked : goal.returns-in_err-i-clause-worked
+returns-in_err-i-clause-worked g c =
+    if_err c.from_residual.result c.in_err-i.field-0.0 (err_is c.from_residual.result c.in_err-i.field-0.0 c.from_residual.ensures.1) _
+
+pub returns-in_err-i-clause-fresh : goal.returns-in_err-i-clause-fresh
+returns-in_err-i-clause-fresh g c h fits = fits
+
+pub returns-in_default-clause-fresh : goal.returns-in_default-clause-fresh
+returns-in_default-clause-fresh g c h fits = fits
+
+pub work_on_two-requires-clause-first : goal.work_on_two-requires-clause-first
+work_on_two-requires-clause-first g c κs within =
+    subst (λ n. IsSome (entry c.args.self.now n)) (sym c.in_ok-i.ensures.numbers.0) (some_mapped _ _ _ (sym (rw c.in-Some-Some.is-0 at c.generation_at.ensures)) refl)
+
+pub work_on_two-requires-clause-second : goal.work_on_two-requires-clause-second
+work_on_two-requires-clause-second g c κs within =
+    subst (λ n. IsSome (entry c.args.self.now n)) (sym c.in_ok-i.ensures.numbers.1) (some_mapped _ _ _ (sym (rw c.in-Some-Some.is-1 at c.generation_at-2.ensures)) refl)
+
+pub work_on_two-requires-clause-apart : goal.work_on_two-requires-clause-apart
+work_on_two-requires-clause-apart g c κs within same = c.in_ok-i.ensures.variant.2 (sym c.in_ok-i.ensures.numbers.0 ∙ same ∙ c.in_ok-i.ensures.numbers.1)
+
+pub returns-clause-fresh : goal.returns-clause-fresh
+returns-clause-fresh g c =
+    let w = c.work_on_two.ensures in
+    Continues-two_written c.args.self.now _ (non_zero_usize_get c.in_ok-i.i) (non_zero_usize_get c.in_ok-i.j) w.2 w.3 w.7

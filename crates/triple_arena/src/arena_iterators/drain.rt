@@ -77,6 +77,10 @@ impl<'a, P: Ptr, T: Drop, A: CompactArenaTrait<P, T>> Iterator for Drain<'a, P, 
         let (value, wrapped) = taken.overflowing();
         Some(told(wrapped, (p, value)))
     }
+
+    fn size_hint(&self) -> (usize, Option<usize>) {
+        (0, None)
+    }
 }
 
 /// Takes the entries out of an arena of its own, in the order of their indexes. It tells of no
@@ -127,6 +131,10 @@ impl<P: Ptr, T: Drop, A: CompactArenaTrait<P, T> + Drop> Iterator for CapacityDr
             return None;
         };
         Some((p, taken.allow()))
+    }
+
+    fn size_hint(&self) -> (usize, Option<usize>) {
+        (0, None)
     }
 }
 

@@ -60,6 +60,10 @@ impl<'a, P: Ptr, T: 'a, A: CompactArenaTrait<P, T>> Iterator for Iter<'a, P, T, 
         };
         Some((p, arena.get(p).unwrap()))
     }
+
+    fn size_hint(&self) -> (usize, Option<usize>) {
+        (0, None)
+    }
 }
 
 impl<'a, P: Ptr, T, S: NonZeroInxGenericStack<ArenaSlot<P, T>>> IntoIterator

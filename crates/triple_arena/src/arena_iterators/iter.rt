@@ -75,7 +75,11 @@ impl<'a, P: Ptr, T, S: NonZeroInxGenericStack<ArenaSlot<P, T>>> IntoIterator
     ghost into_iter_gives = { λ arena iter. iter ≡ entries arena.now.slots };
 
     fn into_iter(self) -> Iter<'a, P, T, Arena<P, T, S>> {
-        Iter::over(self)
+        Iter {
+            arena: self,
+            advancer: self.advancer(),
+            of: PhantomData,
+        }
     }
 }
 

@@ -16,6 +16,7 @@ pub mod Keeping
 pub mod Listing
 pub mod Steps
 pub mod Walking
+pub mod Advancing
 pub mod Visiting
 pub mod Compressing
 pub mod Compaction

@@ -50,10 +50,9 @@ impl<'a, P: Ptr, T: Drop, A: CompactArenaTrait<P, T>> Drain<'a, P, T, A> {
         ensures draining { IsDraining A.slots A.stand result }
         ensures same_reference { drain_lender result ≡ arena.entry.ghost_name }
     {
-        let advancer = arena.advancer();
         Drain {
+            advancer: arena.advancer(),
             arena,
-            advancer,
             of: PhantomData,
         }
     }
@@ -76,6 +75,10 @@ impl<'a, P: Ptr, T: Drop, A: CompactArenaTrait<P, T>> Iterator for Drain<'a, P, 
         };
         let (value, wrapped) = taken.overflowing();
         Some(told(wrapped, (p, value)))
+    }
+
+    fn size_hint(&self) -> (usize, Option<usize>) {
+        (0, None)
     }
 }
 
@@ -128,6 +131,10 @@ impl<P: Ptr, T: Drop, A: CompactArenaTrait<P, T> + Drop> Iterator for CapacityDr
         };
         Some((p, taken.allow()))
     }
+
+    fn size_hint(&self) -> (usize, Option<usize>) {
+        (0, None)
+    }
 }
 
 impl<P: Ptr, T: Drop, S: NonZeroInxGenericStack<ArenaSlot<P, T>> + Drop> IntoIterator
@@ -139,7 +146,11 @@ impl<P: Ptr, T: Drop, S: NonZeroInxGenericStack<ArenaSlot<P, T>> + Drop> IntoIte
     ghost into_iter_gives = { λ arena drain. drain ≡ entries arena.slots };
 
     fn into_iter(self) -> CapacityDrain<P, T, Arena<P, T, S>> {
-        CapacityDrain::over(self)
+        CapacityDrain {
+            advancer: self.advancer(),
+            arena: self,
+            of: PhantomData,
+        }
     }
 }
 

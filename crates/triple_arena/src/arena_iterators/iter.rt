@@ -60,6 +60,10 @@ impl<'a, P: Ptr, T: 'a, A: CompactArenaTrait<P, T>> Iterator for Iter<'a, P, T, 
         };
         Some((p, arena.get(p).unwrap()))
     }
+
+    fn size_hint(&self) -> (usize, Option<usize>) {
+        (0, None)
+    }
 }
 
 impl<'a, P: Ptr, T, S: NonZeroInxGenericStack<ArenaSlot<P, T>>> IntoIterator
@@ -71,7 +75,11 @@ impl<'a, P: Ptr, T, S: NonZeroInxGenericStack<ArenaSlot<P, T>>> IntoIterator
     ghost into_iter_gives = { λ arena iter. iter ≡ entries arena.now.slots };
 
     fn into_iter(self) -> Iter<'a, P, T, Arena<P, T, S>> {
-        Iter::over(self)
+        Iter {
+            arena: self,
+            advancer: self.advancer(),
+            of: PhantomData,
+        }
     }
 }
 

@@ -1,9 +1,20 @@
-use Rattle.std.proofs.Common.{◌∙◌, ◌-◌, length, map, take, sym, ap, subst, refl, inl, inr, arith}
-use Rattle.std.proofs.lemmas.List.{length-map, take-map}
+use Rattle.std.proofs.Common.{◌∙◌, ◌-◌, IsSome, length, map, take, sym, ap, subst, refl, inl, inr, arith}
+use Rattle.std.proofs.lemmas.List.{length-map, length-take-le, take-map}
 use Rattle.triple_arena.proofs.ItemLists.{front_popped}
 use Rattle.triple_arena.proofs.SlotEntries.{free_popped, none_of}
+use Rattle.triple_arena.proofs.Present.{some_below}
 use Rattle.triple_arena.proofs.Shortening.{Pops, pops_start, pops_more, pops_end, take_all}
 use Rattle.triple_arena.proofs.entry_slots.shorten.Goals as goal
+
+pub unwrap-requires : goal.unwrap-requires
+unwrap-requires g c =
+    subst IsSome (sym c.pop.ensures.value) (some_below (g.S.NonZeroInxGenericStack.items c.pops.stack) _ (omega (arith, c.ends_free_past.ensures.more c.pops-test.true)))
+
+pub pops-smaller : goal.pops-smaller
+pops-smaller g c =
+    let items = g.S.NonZeroInxGenericStack.items c.pops.stack in
+    let size = length-take-le (length items - 1) items (omega arith) in
+    rw (c.pop.ensures.items, g.met.S.NonZeroInxGenericStack.items_with_items) (omega (arith, size, c.ends_free_past.ensures.more c.pops-test.true))
 
 pub discard-requires-after_bounds : goal.discard-requires-after_bounds
 discard-requires-after_bounds g c κs within =

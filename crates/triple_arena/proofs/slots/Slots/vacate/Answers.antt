@@ -1,10 +1,15 @@
-use Rattle.std.proofs.Common.{◌≢◌, ◌∙◌, length, sym, arith}
+use Rattle.std.proofs.Common.{◌≢◌, ◌∙◌, IsSome, length, sym, ap, subst, arith}
 use Rattle.std.specs.Int.NonZero.{non_zero_usize_get}
 use Rattle.triple_arena.proofs.ItemLists.{item_last}
 use Rattle.triple_arena.specs.Slot.{entry_of}
 use Rattle.triple_arena.proofs.SlotEntries.{entry_item, item_live}
+use Rattle.triple_arena.proofs.Present.{some_below}
 use Rattle.triple_arena.proofs.Links.{live_in, root_not_live, Shows-popped, Shows-freed}
 use Rattle.triple_arena.proofs.slots.Slots.vacate.Goals as goal
+
+pub unwrap-requires : goal.unwrap-requires
+unwrap-requires g c =
+    subst IsSome (sym c.pop.ensures.value) (some_below (g.S.NonZeroInxGenericStack.items c.args.self.now.stack) _ (omega (arith, c.get.ensures.nonzero, c.if-get-len.true, c.len.ensures)))
 
 pub into_entry-requires-after_bounds : goal.into_entry-requires-after_bounds
 into_entry-requires-after_bounds g c κs within =
@@ -24,6 +29,14 @@ returns-then-get-len-clause-shows g c raise s len shows =
     let live = live_in g.P.Gen.PtrGen.number items _ (non_zero_usize_get c.args.inx) len s c.requires.live shows in
     rw (c.pop.ensures.items, g.met.S.NonZeroInxGenericStack.items_with_items)
     (Shows-popped g.P.Gen.PtrGen.number raise items _ (non_zero_usize_get c.args.inx) len live.0 s (omega arith) live.1 shows)
+
+pub returns-then-get-len-clause-room : goal.returns-then-get-len-clause-room
+returns-then-get-len-clause-room g c =
+    ap g.S.NonZeroInxGenericStack.room c.pop.ensures.items ∙ g.met.S.NonZeroInxGenericStack.room_with_items _ _
+
+pub returns-then-get-len-clause-limit : goal.returns-then-get-len-clause-limit
+returns-then-get-len-clause-limit g c =
+    ap g.S.NonZeroInxGenericStack.limit c.pop.ensures.items ∙ g.met.S.NonZeroInxGenericStack.limit_with_items _ _
 
 pub to-requires : goal.to-requires
 to-requires g c =
@@ -48,3 +61,11 @@ returns-clause-shows g c raise s len shows =
     let inner : non_zero_usize_get c.args.inx ≢ length items = λ h. c.if-get-len.false (omega arith) in
     rw (c.replace.ensures.stack, g.met.S.NonZeroInxGenericStack.items_with_items)
     (Shows-freed g.P.Gen.PtrGen.number raise items _ (non_zero_usize_get c.args.inx) len c.to.result live.0 s inner c.to.ensures live.1 shows)
+
+pub returns-clause-room : goal.returns-clause-room
+returns-clause-room g c =
+    ap g.S.NonZeroInxGenericStack.room c.replace.ensures.stack ∙ g.met.S.NonZeroInxGenericStack.room_with_items _ _
+
+pub returns-clause-limit : goal.returns-clause-limit
+returns-clause-limit g c =
+    ap g.S.NonZeroInxGenericStack.limit c.replace.ensures.stack ∙ g.met.S.NonZeroInxGenericStack.limit_with_items _ _

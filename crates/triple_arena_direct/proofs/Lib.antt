@@ -9,3 +9,5 @@ pub mod Resolving
 pub mod WrittenValues
 pub mod MappedAnswers
 pub mod Followed
+pub mod Reading
+pub mod Refused

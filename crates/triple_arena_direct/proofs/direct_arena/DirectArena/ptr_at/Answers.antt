@@ -1,11 +1,35 @@
-use Rattle.std.proofs.Common.{◌∙◌, sym, ap}
+use Rattle.std.proofs.Common.{◌∙◌, IsSome, sym, ap, subst, arith}
 use Rattle.std.specs.Int.NonZero.{non_zero_usize_get}
 use Rattle.triple_arena.specs.Entries.{entry_in}
+use Rattle.triple_arena.specs.WalkLaws.{live_within}
 use Rattle.triple_arena_direct.specs.DirectState.{DirectState}
 use Rattle.triple_arena.proofs.Links.{pointer_is}
+use Rattle.triple_arena.proofs.Present.{some_mapped}
 use Rattle.triple_arena_direct.specs.Slot.{slot_entry}
-use Rattle.triple_arena.proofs.SlotEntries.{entry_item}
+use Rattle.triple_arena.proofs.SlotEntries.{entry_item, item_live}
 use Rattle.triple_arena_direct.proofs.direct_arena.DirectArena.ptr_at.Goals as goal
+
+pub unwrap-requires : goal.unwrap-requires
+unwrap-requires g c =
+    let slots = g.S.NonZeroInxGenericStack.items c.self.inside.slots.stack in
+    let inx = non_zero_usize_get c.args.inx in
+    let live = subst (λ (s : DirectState g.row.T.Denot). IsSome (entry_in s.slots inx)) (sym c.self.view_is) c.requires in
+    some_mapped _ c.slot_at.result _ c.slot_at.ensures (item_live (slot_entry g.P.Gen.PtrGen.number) slots inx live)
+
+pub unwrap-generation-requires : goal.unwrap-generation-requires
+unwrap-generation-requires g c =
+    let number = g.P.Gen.PtrGen.number in
+    let slots = g.S.NonZeroInxGenericStack.items c.self.inside.slots.stack in
+    let inx = non_zero_usize_get c.args.inx in
+    let live = subst (λ (s : DirectState g.row.T.Denot). IsSome (entry_in s.slots inx)) (sym c.self.view_is) c.requires in
+    let slot = rw c.unwrap.ensures at c.slot_at.ensures in
+    some_mapped _ c.entry.result _ c.entry.ensures (subst IsSome (entry_item (slot_entry number) slots inx c.unwrap.result.now (sym slot)) live)
+
+pub unwrap-requires-2 : goal.unwrap-requires-2
+unwrap-requires-2 g c =
+    let inx = non_zero_usize_get c.args.inx in
+    let live = subst (λ (s : DirectState g.row.T.Denot). IsSome (entry_in s.slots inx)) (sym c.self.view_is) c.requires in
+    c.try_from_usize.ensures.variant.1 (omega (arith, (live_within _ inx live).1, c.self.invariant.fits))
 
 pub returns : goal.returns
 returns g c =

@@ -2,7 +2,7 @@ use Rattle.std.proofs.Common.{◌≡◌, ◌≢◌, ◌∙◌, true, is_some, Is
 use Rattle.std.proofs.lemmas.Bool.{cases_eq}
 use Rattle.std.specs.Int.NonZero.{non_zero_usize_get}
 use Rattle.triple_arena_ptr.specs.Pointers.{Pointer}
-use Rattle.triple_arena.specs.Entries.{look_up_in}
+use Rattle.triple_arena.specs.Entries.{look_up_in, entry_in}
 use Rattle.triple_arena.specs.ItemLaws.{eq_true, eq_false}
 use Rattle.triple_arena.proofs.WellFormed.{live_entry}
 use Rattle.triple_arena.proofs.SlotEntries.{none_of}
@@ -59,3 +59,33 @@ work_on_two-requires-clause-callable g c κs within =
     let second_valid : is_some (look_up_in c.args.self.now.slots second) ≡ true = sym (rw c.in-Some-Some.is-1 at c.find-2.ensures.live) in
     let apart : first.0 ≢ second.0 = λ same. true≢false (sym (eq_true _ _ (at_first ∙ same ∙ sym at_second)) ∙ sym c.eq.ensures ∙ c.if-eq.false) in
     λ x y at_x at_y. c.requires apart x y (sym (value_under_pointer c.args.self.now.slots first _ at_first first_valid) ∙ at_x) (sym (value_under_pointer c.args.self.now.slots second _ at_second second_valid) ∙ at_y)
+
+pub returns-in_default-clause-fresh : goal.returns-in_default-clause-fresh
+returns-in_default-clause-fresh g c h fits = absurd fits
+
+pub returns-then-eq-clause-fresh : goal.returns-then-eq-clause-fresh
+returns-then-eq-clause-fresh g c h fits = absurd fits
+
+pub work_on_two-requires-clause-first : goal.work_on_two-requires-clause-first
+work_on_two-requires-clause-first g c κs within =
+    let first : Pointer = g.P.Ptr.numbers c.args.first in
+    subst (λ n. IsSome (entry_in c.args.self.now.slots n)) (sym (rw c.in-Some-Some.is-0 at c.find.ensures.index)) (live_entry c.args.self.now.slots first (sym (rw c.in-Some-Some.is-0 at c.find.ensures.live)))
+
+pub work_on_two-requires-clause-second : goal.work_on_two-requires-clause-second
+work_on_two-requires-clause-second g c κs within =
+    let second : Pointer = g.P.Ptr.numbers c.args.second in
+    subst (λ n. IsSome (entry_in c.args.self.now.slots n)) (sym (rw c.in-Some-Some.is-1 at c.find-2.ensures.index)) (live_entry c.args.self.now.slots second (sym (rw c.in-Some-Some.is-1 at c.find-2.ensures.live)))
+
+pub work_on_two-requires-clause-apart : goal.work_on_two-requires-clause-apart
+work_on_two-requires-clause-apart g c κs within same = true≢false (sym (eq_true _ _ same) ∙ sym c.eq.ensures ∙ c.if-eq.false)
+
+pub returns-clause-variant : goal.returns-clause-variant
+returns-clause-variant g c =
+    let first : Pointer = g.P.Ptr.numbers c.args.first in
+    let second : Pointer = g.P.Ptr.numbers c.args.second in
+    let at_first : non_zero_usize_get c.in-Some-Some.first ≡ first.0 = rw c.in-Some-Some.is-0 at c.find.ensures.index in
+    let at_second : non_zero_usize_get c.in-Some-Some.second ≡ second.0 = rw c.in-Some-Some.is-1 at c.find-2.ensures.index in (
+      sym (rw c.in-Some-Some.is-0 at c.find.ensures.live),
+      sym (rw c.in-Some-Some.is-1 at c.find-2.ensures.live),
+      λ same. true≢false (sym (eq_true _ _ (at_first ∙ same ∙ sym at_second)) ∙ sym c.eq.ensures ∙ c.if-eq.false),
+    )

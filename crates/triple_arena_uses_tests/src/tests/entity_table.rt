@@ -1,60 +1,114 @@
+use std::alloc::Global;
+use std::num::NonZeroUsize;
 use std::process::Abort;
-use std::test::Fail;
+use triple_arena::ArenaSlot;
 use triple_arena_base::ReallocationError;
-use triple_arena_stack::NonZeroInxArray;
+use triple_arena_ptr::{P0, Ptr, PtrGen};
+use triple_arena_stack::{NonZeroInxArray, NonZeroInxGenericStack};
 use triple_arena_uses::entity_table::{Entity, EntityTable};
 
-#[test]
-fn a_child_outlives_its_parent(rt: HostRuntime) -> Result<(), Fail> {
-    let mut table: EntityTable = EntityTable::new(rt.alloc());
-    let mother = table.spawn(None)?;
-    let child = table.spawn(Some(mother))?;
-    assert_eq!(rt; table.parent_of(child), Some(mother));
-    assert_eq!(rt; table.damage(child, 30), Some(70));
-    assert!(rt; table.despawn(mother));
-    assert!(rt; !table.despawn(mother));
-    let sister = table.spawn(Some(mother))?;
-    assert_eq!(rt; table.get(mother), None, "no other entity is taken for her");
-    assert_eq!(rt; table.damage(mother, 1), None);
-    let left = Entity {
-        health: 70,
-        parent: Some(mother),
-    };
-    assert_eq!(rt; table.get(child).copied(), Some(left));
-    assert_eq!(rt; table.damage(child, 100), Some(0));
-    if table.get(child).is_some() {
-        table.heal(child);
+fn spawned<S: NonZeroInxGenericStack<ArenaSlot<P0, Entity>>>(
+    table: &mut EntityTable<S>,
+    parent: Option<P0>,
+) -> Option<P0> {
+    table.spawn(parent).ok()
+}
+
+fn despawned<S: NonZeroInxGenericStack<ArenaSlot<P0, Entity>>>(
+    table: &mut EntityTable<S>,
+    p: P0,
+) -> bool {
+    table.despawn(p)
+}
+
+fn damaged(table: &mut EntityTable, p: P0, by: u32) -> Option<u32> {
+    table.damage(p, by)
+}
+
+fn healed(table: &mut EntityTable, p: P0) {
+    if table.get(p).is_some() {
+        table.heal(p);
     }
-    assert_eq!(rt; table.damage(child, 0), Some(100));
-    assert_eq!(rt; table.damage(sister, 0), Some(100));
-    Ok(())
+}
+
+fn entity(table: &EntityTable, p: P0) -> Option<Entity> {
+    table.get(p).copied()
+}
+
+// What is told of a mother and her child, of the child after she is gone, and of a sister that comes
+// then.
+fn family(alloc: Global) -> Option<([bool; 2], [Option<u32>; 5], [Option<Entity>; 2])> {
+    let mut table: EntityTable = EntityTable::new(alloc);
+    let mother = spawned(&mut table, None)?;
+    let child = spawned(&mut table, Some(mother))?;
+    let hurt = damaged(&mut table, child, 30);
+    let gone = [despawned(&mut table, mother), despawned(&mut table, mother)];
+    let sister = spawned(&mut table, Some(mother))?;
+    let of_mother = damaged(&mut table, mother, 1);
+    let found = [entity(&table, mother), entity(&table, child)];
+    let dead = damaged(&mut table, child, 100);
+    healed(&mut table, child);
+    let whole = damaged(&mut table, child, 0);
+    Some((
+        gone,
+        [hurt, of_mother, dead, whole, damaged(&mut table, sister, 0)],
+        found,
+    ))
 }
 
 #[test]
-fn each_entity_is_damaged(rt: HostRuntime) -> Result<(), Fail> {
-    let mut table: EntityTable = EntityTable::new(rt.alloc());
-    let first = table.spawn(None)?;
-    let second = table.spawn(None)?;
-    let third = table.spawn(None)?;
-    assert_eq!(rt; table.damage(third, 80), Some(20));
-    assert!(rt; table.despawn(second));
-    table.damage_all(30);
-    assert_eq!(rt; table.damage(first, 0), Some(70));
-    assert_eq!(rt; table.damage(second, 0), None);
-    assert_eq!(rt; table.damage(third, 0), Some(0));
-    Ok(())
-}
-
-#[test]
-fn a_table_in_an_array_is_full_at_last(rt: HostRuntime) -> Result<(), Fail> {
-    let mut table: EntityTable<NonZeroInxArray<_, 2>> = EntityTable::new(rt.alloc());
-    let first = table.spawn(None)?;
-    table.spawn(None)?;
+fn a_child_outlives_its_parent(rt: HostRuntime) {
+    let first = P0::_from_raw(NonZeroUsize::MIN, PtrGen::two());
+    let child = Entity {
+        health: 70,
+        parent: Some(first),
+    };
+    let health = [Some(70), None, Some(0), Some(100), Some(100)];
+    let wanted = Some(([true, false], health, [None, Some(child)]));
     assert_eq!(rt;
-        table.spawn(None),
-        Err(ReallocationError::BeyondMaxCapacity)
+        family(rt.alloc()),
+        wanted,
+        "no other entity is taken for the mother"
     );
-    assert!(rt; table.despawn(first));
-    assert!(rt; table.spawn(None).is_ok());
-    Ok(())
+}
+
+// The health of three entities, the second of which is gone, after all are damaged.
+fn after_damage(alloc: Global) -> Option<[Option<u32>; 4]> {
+    let mut table: EntityTable = EntityTable::new(alloc);
+    let first = spawned(&mut table, None)?;
+    let second = spawned(&mut table, None)?;
+    let third = spawned(&mut table, None)?;
+    let hurt = damaged(&mut table, third, 80);
+    despawned(&mut table, second);
+    table.damage_all(30);
+    Some([
+        hurt,
+        damaged(&mut table, first, 0),
+        damaged(&mut table, second, 0),
+        damaged(&mut table, third, 0),
+    ])
+}
+
+#[test]
+fn each_entity_is_damaged(rt: HostRuntime) {
+    let wanted = Some([Some(20), Some(70), None, Some(0)]);
+    assert_eq!(rt; after_damage(rt.alloc()), wanted);
+}
+
+// Whether two places of three are given, and one again after a despawn.
+fn places<S: NonZeroInxGenericStack<ArenaSlot<P0, Entity>> + Drop>(
+    alloc: Global,
+) -> Option<[bool; 3]> {
+    let mut table: EntityTable<S> = EntityTable::new(alloc);
+    let first = spawned(&mut table, None)?;
+    let second = spawned(&mut table, None).is_some();
+    let is_full = table.spawn(None) == Err(ReallocationError::BeyondMaxCapacity);
+    despawned(&mut table, first);
+    Some([second, is_full, spawned(&mut table, None).is_some()])
+}
+
+#[test]
+fn a_table_in_an_array_is_full_at_last(rt: HostRuntime) {
+    let told = places::<NonZeroInxArray<ArenaSlot<P0, Entity>, 2>>(rt.alloc());
+    assert_eq!(rt; told, Some([true; 3]));
 }

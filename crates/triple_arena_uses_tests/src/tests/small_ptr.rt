@@ -1,15 +1,31 @@
+use std::alloc::Global;
+use std::num::NonZeroU32;
 use std::process::Abort;
 use std::test::Fail;
-use triple_arena::{Arena, ArenaInsertTrait, ArenaTrait};
+use triple_arena::{Arena, ArenaInsertTrait};
+use triple_arena_ptr::{Ptr, PtrGen};
 use triple_arena_uses::small_ptr::SmallPtr;
 
+// An insertion's pointer, with what is found under it and under the invalid pointer.
+fn found<P: Ptr, A: ArenaInsertTrait<P, u64> + Drop>(
+    alloc: Global,
+) -> Option<(P, [Option<u64>; 2])> {
+    let mut arena = A::new(alloc);
+    let p = arena.insert(7).ok()?;
+    Some((p, [arena.get(p).copied(), arena.get(P::invalid()).copied()]))
+}
+
 #[test]
-fn names_an_entry(rt: HostRuntime) -> Result<(), Fail> {
-    let mut arena: Arena<SmallPtr, u64> = Arena::new(rt.alloc());
-    let p = arena.insert(7)?;
-    let texts = format!(in rt.alloc(); "{p} {:?}", SmallPtr::default())?;
+fn names_an_entry(rt: HostRuntime) {
+    let first = SmallPtr::_from_raw(NonZeroU32::MIN, PtrGen::two());
+    let wanted = Some((first, [Some(7), None]));
+    assert_eq!(rt; found::<SmallPtr, Arena<SmallPtr, u64>>(rt.alloc()), wanted);
+}
+
+#[test]
+fn is_written_with_its_name(rt: HostRuntime) -> Result<(), Fail> {
+    let first = SmallPtr::_from_raw(NonZeroU32::MIN, PtrGen::two());
+    let texts = format!(in rt.alloc(); "{first} {:?}", SmallPtr::default())?;
     assert_eq!(rt; texts.as_str(), "SmallPtr[1](2) SmallPtr[ffffffff](1)");
-    assert_eq!(rt; arena.get(p).copied(), Some(7));
-    assert_eq!(rt; arena.get(SmallPtr::default()), None);
     Ok(())
 }

@@ -1,20 +1,27 @@
+use std::alloc::Global;
 use std::process::Abort;
-use std::test::Fail;
 use triple_arena_stack::{NonZeroInxArray, NonZeroInxGenericStack, NonZeroInxVec};
 use triple_arena_uses::undo::move_last;
 
-#[test]
-fn a_step_is_undone_and_done_again(rt: HostRuntime) -> Result<(), Fail> {
-    let mut done = NonZeroInxVec::new(rt.alloc());
-    let mut undone: NonZeroInxArray<u32, 1> = NonZeroInxArray::new(rt.alloc());
-    done.push(1)?;
-    done.push(2)?;
-    for (left, kept) in [(1, 1), (1, 1)] {
-        move_last(&mut done, &mut undone);
-        assert_eq!(rt; (done.len(), undone.len()), (left, kept));
-    }
+// How many steps are done and undone, after two undos where one fits, and after it is done again.
+fn undone<A: NonZeroInxGenericStack<u32> + Drop, B: NonZeroInxGenericStack<u32> + Drop>(
+    alloc: Global,
+) -> Option<([(usize, usize); 3], bool)> {
+    let mut done = A::new(alloc);
+    let mut undone = B::new(alloc);
+    done.push(1).ok()?;
+    done.push(2).ok()?;
+    move_last(&mut done, &mut undone);
+    let first = (done.len(), undone.len());
+    move_last(&mut done, &mut undone);
+    let second = (done.len(), undone.len());
     move_last(&mut undone, &mut done);
-    assert_eq!(rt; done.as_slice(), [1, 2].as_slice());
-    assert!(rt; undone.is_empty());
-    Ok(())
+    let third = (done.len(), undone.len());
+    Some(([first, second, third], done.as_slice() == [1, 2].as_slice()))
+}
+
+#[test]
+fn a_step_is_undone_and_done_again(rt: HostRuntime) {
+    let told = undone::<NonZeroInxVec<u32>, NonZeroInxArray<u32, 1>>(rt.alloc());
+    assert_eq!(rt; told, Some(([(1, 1), (1, 1), (2, 0)], true)));
 }

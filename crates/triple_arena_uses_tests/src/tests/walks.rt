@@ -1,95 +1,88 @@
-use std::alloc::{AllocError, Global};
+use std::alloc::Global;
 use std::process::Abort;
-use std::test::Fail;
-use triple_arena::{Arena, ArenaInsertTrait, ArenaTrait, CompactArenaTrait};
-use triple_arena_base::ReallocationError;
+use triple_arena::{Arena, ArenaInsertTrait, CompactArenaTrait};
 use triple_arena_ptr::{P0, Ptr};
 use triple_arena_uses::walks::{add, add_one, count, drain_three, pointers, remove_all, renew_all};
 
-type Numbers = Arena<P0, u64>;
+fn put<A: ArenaInsertTrait<P0, u64>>(arena: &mut A, number: u64) -> Option<P0> {
+    arena.insert(number).ok()
+}
 
 // The numbers 20 and 40 at the indexes 2 and 4, with free slots before each, and the counter 4.
-fn two_of_four(alloc: Global) -> Result<Numbers, ReallocationError> {
-    let mut numbers = Arena::new(alloc);
-    let first = numbers.insert(10)?;
-    let _second = numbers.insert(20)?;
-    let third = numbers.insert(30)?;
-    let _fourth = numbers.insert(40)?;
-    let _ = numbers.remove(first);
-    let _ = numbers.remove(third);
-    Ok(numbers)
+fn two_of_four<A: ArenaInsertTrait<P0, u64> + Drop>(alloc: Global) -> Option<A> {
+    let mut arena = A::new(alloc);
+    let first = put(&mut arena, 10)?;
+    let _second = put(&mut arena, 20)?;
+    let third = put(&mut arena, 30)?;
+    let _fourth = put(&mut arena, 40)?;
+    let _ = arena.remove(first);
+    let _ = arena.remove(third);
+    Some(arena)
 }
 
-// Index and generation of each pointer.
-fn told(all: &[P0], alloc: Global) -> Result<Vec<(usize, u64)>, AllocError> {
-    let mut numbers = Vec::new(alloc);
-    for p in all {
-        numbers.push((p.inx().get(), p.generation().get()))?;
-    }
-    Ok(numbers)
+// Whether these are the pointers of two such indexes and generations.
+fn are_at(all: &[P0], wanted: [(usize, u64); 2]) -> bool {
+    all.len() == 2
+        && all
+            .iter()
+            .zip(wanted)
+            .all(|(p, at)| (p.inx().get(), p.generation().get()) == at)
 }
 
-// All values, in the order of their pointers.
-fn values(numbers: &Numbers, alloc: Global) -> Result<Vec<u64>, AllocError> {
-    let mut values = Vec::new(alloc);
-    for value in numbers.vals() {
-        values.push(*value)?;
-    }
-    Ok(values)
+// Whether these are all values, in the order of their pointers.
+fn has_values<A: CompactArenaTrait<P0, u64>>(arena: &A, wanted: [u64; 2]) -> bool {
+    let mut left = arena.vals();
+    left.next() == Some(&wanted[0]) && left.next() == Some(&wanted[1]) && left.next().is_none()
+}
+
+fn is_empty<A: CompactArenaTrait<P0, u64>>(arena: &A) -> bool {
+    arena.len() == 0 && count(arena) == 0
+}
+
+fn meets_each<A: CompactArenaTrait<P0, u64> + Drop>(arena: A, alloc: Global) -> Option<bool> {
+    let all = pointers(&arena, alloc).ok()?;
+    Some(count(&arena) == 2 && are_at(&all, [(2, 2), (4, 2)]))
+}
+
+fn writes_each<A: CompactArenaTrait<P0, u64> + Drop>(mut arena: A) -> bool {
+    add_one(&mut arena);
+    let is_written = has_values(&arena, [21, 41]);
+    add(&mut arena, u64::MAX - 40);
+    is_written && has_values(&arena, [u64::MAX - 19, 0])
+}
+
+fn renews_each<A: CompactArenaTrait<P0, u64> + Drop>(mut arena: A, alloc: Global) -> Option<bool> {
+    let renewed = renew_all(&mut arena, alloc).ok()?;
+    Some(are_at(&renewed, [(2, 5), (4, 6)]) && has_values(&arena, [20, 40]))
+}
+
+fn removes_each<A: CompactArenaTrait<P0, u64> + Drop>(mut arena: A) -> bool {
+    remove_all(&mut arena);
+    is_empty(&arena)
+}
+
+fn drains_each<A: CompactArenaTrait<P0, u64> + ArenaInsertTrait<P0, u64> + Drop>(
+    mut arena: A,
+) -> Option<bool> {
+    let _fifth = put(&mut arena, 50)?;
+    let _sixth = put(&mut arena, 60)?;
+    drain_three(&mut arena);
+    Some(is_empty(&arena))
+}
+
+fn walks<A: CompactArenaTrait<P0, u64> + ArenaInsertTrait<P0, u64> + Drop>(
+    alloc: Global,
+) -> Option<[bool; 5]> {
+    Some([
+        meets_each::<A>(two_of_four(alloc)?, alloc)?,
+        writes_each::<A>(two_of_four(alloc)?),
+        renews_each::<A>(two_of_four(alloc)?, alloc)?,
+        removes_each::<A>(two_of_four(alloc)?),
+        drains_each::<A>(two_of_four(alloc)?)?,
+    ])
 }
 
 #[test]
-fn a_walk_meets_each_entry(rt: HostRuntime) -> Result<(), Fail> {
-    let numbers = two_of_four(rt.alloc())?;
-    assert_eq!(rt; count(&numbers), 2);
-    let all = pointers(&numbers, rt.alloc())?;
-    assert_eq!(rt;
-        told(&all, rt.alloc())?.as_slice(),
-        [(2, 2), (4, 2)].as_slice()
-    );
-    Ok(())
-}
-
-#[test]
-fn each_value_is_written(rt: HostRuntime) -> Result<(), Fail> {
-    let mut numbers = two_of_four(rt.alloc())?;
-    add_one(&mut numbers);
-    assert_eq!(rt;
-        values(&numbers, rt.alloc())?.as_slice(),
-        [21, 41].as_slice()
-    );
-    add(&mut numbers, u64::MAX - 40);
-    assert_eq!(rt;
-        values(&numbers, rt.alloc())?.as_slice(),
-        [u64::MAX - 19, 0].as_slice()
-    );
-    Ok(())
-}
-
-#[test]
-fn each_entry_gets_a_new_pointer(rt: HostRuntime) -> Result<(), Fail> {
-    let mut numbers = two_of_four(rt.alloc())?;
-    let renewed = renew_all(&mut numbers, rt.alloc())?;
-    assert_eq!(rt;
-        told(&renewed, rt.alloc())?.as_slice(),
-        [(2, 5), (4, 6)].as_slice()
-    );
-    assert_eq!(rt;
-        values(&numbers, rt.alloc())?.as_slice(),
-        [20, 40].as_slice()
-    );
-    Ok(())
-}
-
-#[test]
-fn each_entry_is_taken_out(rt: HostRuntime) -> Result<(), Fail> {
-    let mut numbers = two_of_four(rt.alloc())?;
-    remove_all(&mut numbers);
-    assert_eq!(rt; (numbers.len(), count(&numbers)), (0, 0));
-    let mut numbers = two_of_four(rt.alloc())?;
-    let _fifth = numbers.insert(50)?;
-    let _sixth = numbers.insert(60)?;
-    drain_three(&mut numbers);
-    assert_eq!(rt; (numbers.len(), count(&numbers)), (0, 0));
-    Ok(())
+fn each_entry_is_met_written_renewed_and_taken_out(rt: HostRuntime) {
+    assert_eq!(rt; walks::<Arena<P0, u64>>(rt.alloc()), Some([true; 5]));
 }

@@ -28,3 +28,4 @@ pub mod Present
 pub mod Lending
 pub mod HistoryLaws
 pub mod Refused
+pub mod Resizing

@@ -29,3 +29,4 @@ pub mod Present
 pub mod Lending
 pub mod HistoryLaws
 pub mod Refused
+pub mod Resizing

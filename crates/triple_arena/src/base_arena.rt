@@ -425,7 +425,10 @@ impl<P: Ptr, T, S: NonZeroInxGenericStack<ArenaSlot<P, T>>> DisjointableArenaTra
         second: P,
         f: F,
     ) -> Result<R, GetDisjointMutError> {
-        let (Some(first), Some(second)) = (self.find(first), self.find(second)) else {
+        let Some(first) = self.find(first) else {
+            return Err(GetDisjointMutError::IndexOutOfBounds);
+        };
+        let Some(second) = self.find(second) else {
             return Err(GetDisjointMutError::IndexOutOfBounds);
         };
         if first == second {
@@ -441,7 +444,10 @@ impl<P: Ptr, T, S: NonZeroInxGenericStack<ArenaSlot<P, T>>> DisjointableArenaTra
         f: F,
     ) -> Result<R, GetDisjointMutError> {
         let (i, j) = self.two_slots(first, second)?;
-        let (Some(a), Some(b)) = (self.generation_at(first), self.generation_at(second)) else {
+        let Some(a) = self.generation_at(first) else {
+            return Err(GetDisjointMutError::IndexOutOfBounds);
+        };
+        let Some(b) = self.generation_at(second) else {
             return Err(GetDisjointMutError::IndexOutOfBounds);
         };
         Ok(self.work_on_two(i, j, AtEntries { f, a, b }))
@@ -622,16 +628,15 @@ impl<P: Ptr, T, S: NonZeroInxGenericStack<ArenaSlot<P, T>>> Arena<P, T, S> {
         ensures numbers { IfOk result (λ both. (non_zero_usize_get both.0 ≡ P.Inx.number first)
             × (non_zero_usize_get both.1 ≡ P.Inx.number second)) }
     {
-        match (
-            P::Inx::try_into_usize(first),
-            P::Inx::try_into_usize(second),
-        ) {
-            (Some(first), Some(second)) => {
-                self.slots.stack.check_disjoint(first, second)?;
-                Ok((first, second))
-            }
-            _ => Err(GetDisjointMutError::IndexOutOfBounds),
-        }
+        let stack = &self.slots.stack;
+        let Some(first) = P::Inx::try_into_usize(first) else {
+            return Err(GetDisjointMutError::IndexOutOfBounds);
+        };
+        let Some(second) = P::Inx::try_into_usize(second) else {
+            return Err(GetDisjointMutError::IndexOutOfBounds);
+        };
+        stack.check_disjoint(first, second)?;
+        Ok((first, second))
     }
 
     // Makes the call at the values of the entries at two indexes.

@@ -81,7 +81,7 @@ impl<P: Ptr, T, S: NonZeroInxGenericStack<ArenaSlot<P, T>>> Arena<P, T, S> {
             self.set_generation(P::Gen::two());
             return InvalidationOption::Success(());
         }
-        if self.is_empty() {
+        if self.len == 0 {
             return InvalidationOption::Success(());
         }
         self.inc_generation()

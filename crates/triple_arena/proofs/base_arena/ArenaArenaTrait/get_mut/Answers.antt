@@ -1,4 +1,5 @@
-use Rattle.std.proofs.Common.{◌≡◌, ◌∙◌, IsSome, None, map, inl, sym, ap, subst, rules}
+use Rattle.triple_arena.proofs.SlotEntries.{none_of}
+use Rattle.std.proofs.Common.{◌≡◌, ◌∙◌, IsSome, None, map, inl, sym, ap, subst, inr}
 use Rattle.std.proofs.Math.Path.{fun_ext}
 use Rattle.std.specs.Int.NonZero.{non_zero_usize_get}
 use Rattle.triple_arena.specs.ArenaState.{ArenaState, look_up, with_value}
@@ -33,8 +34,8 @@ returns-in-Some g c =
 
 pub returns-in-None : goal.returns-in-None
 returns-in-None g c =
-    let none : None ≡ look_up c.args.self.now (g.P.Ptr.numbers c.args.p) = search rules in (
-      search rules,
+    let none = sym (subst (λ (s : ArenaState g.row.T.Denot). look_up s (g.P.Ptr.numbers c.args.p) ≡ None) c.self.view_is (none_of _ (sym c.in-None.ensures.live))) in (
+      ap inr c.self.view_is,
       record {
         value = none;
         writes_back = tt;
@@ -42,3 +43,8 @@ returns-in-None g c =
         fresh = Continues-written c.args.self.now (g.P.Ptr.numbers c.args.p).0;
       },
     )
+
+pub value_mut-requires-after_bounds : goal.value_mut-requires-after_bounds
+value_mut-requires-after_bounds g c κs within =
+    let slots = map (entry_of g.P.Gen.PtrGen.number) (g.S.NonZeroInxGenericStack.items c.self.inside.slots.stack) in
+    subst (λ n. IsSome (entry_at g.P.Gen.PtrGen.number (g.S.NonZeroInxGenericStack.items c.self.inside.slots.stack) n)) (sym c.in-Some.ensures.index) (live_entry slots (g.P.Ptr.numbers c.args.p) (sym c.in-Some.ensures.live))

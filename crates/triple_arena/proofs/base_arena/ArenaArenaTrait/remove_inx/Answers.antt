@@ -2,16 +2,16 @@ use Rattle.triple_arena.proofs.Refused.{told_mapped}
 use Rattle.triple_arena.proofs.LookUps.{others_found}
 use Rattle.triple_arena.proofs.SlotEntries.{none_of}
 use Rattle.triple_arena.specs.EntryLaws.{slots-removed}
-use Rattle.triple_arena.specs.Ending.{told_of}
+use Rattle.triple_arena.specs.Ending.{removed, told_of}
 use Rattle.triple_arena.specs.ArenaState.{entry}
 use Rattle.triple_arena_ptr.specs.Numbers.{raise, wraps}
 use Rattle.std.specs.Int.NonZero.{non_zero_usize_get}
-use Rattle.std.proofs.Common.{rules, ◌≡◌, ◌∙◌, ℕ, IsSome, None, is_some, sym, ap, subst, true≢false}
+use Rattle.std.proofs.Common.{◌≡◌, ◌∙◌, ℕ, IsSome, None, is_some, sym, ap, subst, true≢false}
 use Rattle.triple_arena.proofs.HistoryLaws.{Continues-removed_inx}
 use Rattle.triple_arena.proofs.base_arena.ArenaArenaTrait.remove_inx.Goals as goal
 
 pub returns-clause-done : goal.returns-clause-done
-returns-clause-done g c = search rules
+returns-clause-done g c live = c.take-taken.ensures.state ∙ ap (removed (raise g.P.Gen.PtrGen.counting g.P.Gen.PtrGen.greatest) c.args.self.now) c.in-Some.ensures.index
 
 pub returns-clause-fresh : goal.returns-clause-fresh
 returns-clause-fresh g c generation value here counts =

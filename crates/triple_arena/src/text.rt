@@ -1,8 +1,10 @@
 //! The text of an arena.
 
+use crate::arena_trait::ArenaTrait;
 use crate::base_arena::Arena;
 use crate::slot::ArenaSlot;
 use std::fmt;
+use triple_arena_base::Advancer;
 use triple_arena_ptr::Ptr;
 use triple_arena_stack::NonZeroInxGenericStack;
 
@@ -10,6 +12,13 @@ impl<P: Ptr, T: fmt::Debug, S: NonZeroInxGenericStack<ArenaSlot<P, T>>> fmt::Deb
     for Arena<P, T, S> {
     /// Writes `{pointer: value, ..}`, by index.
     fn fmt<W: fmt::Write>(&self, f: &mut fmt::Formatter<W>) -> fmt::Result {
-        f.debug_map().entries(self).finish()
+        let mut entries = f.debug_map();
+        let mut advancer = self.advancer();
+        'walk: while let Some(p) = advancer.advance(self) {
+            if let Some(value) = self.get(p) {
+                entries.entry(&p, value);
+            }
+        }
+        entries.finish()
     }
 }

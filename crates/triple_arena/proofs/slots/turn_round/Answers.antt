@@ -53,3 +53,12 @@ turns-preserved g c =
 pub returns-clause-turned : goal.returns-clause-turned
 returns-clause-turned g c free list =
     IsTurning-done g.P.Gen.PtrGen.number _ free _ _ (rw c.in_default.is at (c.turns.invariant.3 free list))
+
+pub returns-clause-slots : goal.returns-clause-slots
+returns-clause-slots g c = c.turns.invariant.2
+
+pub returns-clause-room : goal.returns-clause-room
+returns-clause-room g c = c.turns.invariant.0
+
+pub returns-clause-limit : goal.returns-clause-limit
+returns-clause-limit g c = c.turns.invariant.1

@@ -1,4 +1,5 @@
-use Rattle.std.proofs.Common.{◌∙◌, sym, refl, of_calls}
+use Rattle.std.proofs.Common.{◌∙◌, is_some, sym, ap, refl, true≢false, of_calls}
+use Rattle.std.specs.Option.{option_copied_mut}
 use Rattle.triple_arena.specs.WalkLaws.{taken, forward_stays}
 use Rattle.triple_arena.proofs.Visiting.{begins, goes_on, ends, called_at}
 use Rattle.triple_arena.proofs.compact_arena_trait.CompactArenaTrait.for_each_mut.Goals as goal
@@ -17,6 +18,9 @@ walk-init g c =
 pub walk-smaller-in-Some-get_mut : goal.walk-smaller-in-Some-get_mut
 walk-smaller-in-Some-get_mut g c = (taken _ _ _ _ _ (g.met.Self.CompactArenaTrait.advanced _ _ _ _ c.in-Some.ensures.steps)).fewer
 
+pub walk-smaller : goal.walk-smaller
+walk-smaller g c = (taken _ _ _ _ _ (g.met.Self.CompactArenaTrait.advanced _ _ _ _ c.in-Some.ensures.steps)).fewer
+
 pub walk-preserved-in-Some-get_mut : goal.walk-preserved-in-Some-get_mut
 walk-preserved-in-Some-get_mut g c =
     let steps = g.met.Self.CompactArenaTrait.advanced _ _ _ _ c.in-Some.ensures.steps in
@@ -34,3 +38,17 @@ walk-preserved-in-Some-get_mut g c =
 pub returns-clause-visited : goal.returns-clause-visited
 returns-clause-visited g c =
     (c.walk.f, ends g.P.Ptr.numbers (goal.F-step g) _ _ _ _ _ _ _ (g.met.Self.CompactArenaTrait.advanced _ _ _ _ c.in_default.ensures.steps) c.walk.invariant.goes_on)
+
+pub returns-clause-limit : goal.returns-clause-limit
+returns-clause-limit g c = c.walk.invariant.limit
+
+pub returns-clause-capacity : goal.returns-clause-capacity
+returns-clause-capacity g c = c.walk.invariant.fitting
+
+pub returns-clause-fresh : goal.returns-clause-fresh
+returns-clause-fresh g c = c.walk.invariant.fresh
+
+pub walk-preserved : goal.walk-preserved
+walk-preserved g c =
+    let live = (g.met.Self.CompactArenaTrait.advanced _ _ _ _ c.in-Some.ensures.steps).answers.0 in
+    absurd (true≢false (sym live ∙ ap is_some (sym c.get_mut.ensures.value ∙ ap option_copied_mut c.in_default-get_mut.is)))

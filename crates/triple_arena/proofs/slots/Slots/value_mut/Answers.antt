@@ -1,9 +1,16 @@
-use Rattle.std.proofs.Common.{◌∙◌, sym, refl}
+use Rattle.std.proofs.Common.{◌∙◌, IsSome, sym, subst, refl}
 use Rattle.std.specs.Int.NonZero.{non_zero_usize_get}
 use Rattle.triple_arena.specs.Slot.{entry_of, with_slot_value}
 use Rattle.triple_arena.proofs.ItemLists.{item_at, with_item_at}
-use Rattle.triple_arena.proofs.SlotEntries.{entry_item}
+use Rattle.triple_arena.proofs.Present.{some_mapped}
+use Rattle.triple_arena.proofs.SlotEntries.{entry_item, item_live}
 use Rattle.triple_arena.proofs.slots.Slots.value_mut.Goals as goal
+
+pub unwrap-slot-requires : goal.unwrap-slot-requires
+unwrap-slot-requires g c =
+    let items = g.S.NonZeroInxGenericStack.items c.args.self.now.stack in
+    let inx = non_zero_usize_get c.args.inx in
+    some_mapped _ c.get_mut.result _ c.get_mut.ensures.value (subst IsSome (item_at items inx c.args.inx.ok) (item_live (entry_of g.P.Gen.PtrGen.number) items inx c.requires))
 
 pub value_mut-requires-after_bounds : goal.value_mut-requires-after_bounds
 value_mut-requires-after_bounds g c κs within =

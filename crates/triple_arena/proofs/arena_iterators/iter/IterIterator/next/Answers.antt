@@ -1,6 +1,11 @@
 use Rattle.std.proofs.Common.{◌≡◌, ◌∷◌, ◌∙◌, sym, ap, refl, length, arith}
 use Rattle.triple_arena.specs.WalkLaws.{ahead_taken, ahead_none, ahead_after_none}
+use Rattle.triple_arena.proofs.Present.{some_mapped}
 use Rattle.triple_arena.proofs.arena_iterators.iter.IterIterator.next.Goals as goal
+
+pub unwrap-requires : goal.unwrap-requires
+unwrap-requires g c =
+    some_mapped _ c.get.result _ c.get.ensures.value (g.met.A.CompactArenaTrait.advanced _ _ _ _ c.in-Some.ensures.steps).answers.0
 
 pub returns-clause-steps : goal.returns-clause-steps
 returns-clause-steps g c =

@@ -1,10 +1,16 @@
-use Rattle.std.proofs.Common.{◌≡◌, ◌∙◌, ◌+◌, ◌-◌, ◌^◌, length, min, sym, ap, arith}
+use Rattle.std.proofs.Common.{◌≡◌, ◌∙◌, ◌+◌, ◌-◌, ◌^◌, length, min, sym, ap, refl, arith}
 use Rattle.std.specs.Int.NonZero.{non_zero_usize_get}
 use Rattle.triple_arena.specs.Lent.{lent_rest}
 use Rattle.triple_arena.specs.Slot.{entry_of}
 use Rattle.triple_arena.proofs.Links.{pointer_is}
 use Rattle.triple_arena.proofs.Lending.{behind_first, generation_there, first_lent, first_passed, none_left}
 use Rattle.triple_arena.proofs.arena_iterators.iter_mut.IterMutIterator.next.Goals as goal
+
+pub slots-init : goal.slots-init
+slots-init g c = record { rest = refl; counted = c.self.invariant.0; indexed = c.self.invariant.1 }
+
+pub generation-generation-requires-after_bounds : goal.generation-generation-requires-after_bounds
+generation-generation-requires-after_bounds g c κs within = omega (arith, c.slots.invariant.counted, c.slots-test.true)
 
 pub unwrap-inx-requires : goal.unwrap-inx-requires
 unwrap-inx-requires g c =

@@ -10,10 +10,6 @@ impl<P: Ptr, T: fmt::Debug, S: NonZeroInxGenericStack<DirectSlot<P, T>>> fmt::De
     for DirectArena<P, T, S> {
     /// Writes `{pointer: value, ..}`, by index.
     fn fmt<W: fmt::Write>(&self, f: &mut fmt::Formatter<W>) -> fmt::Result {
-        let mut entries = f.debug_map();
-        for (p, value) in self {
-            entries.entry(&p, value);
-        }
-        entries.finish()
+        f.debug_map().entries(self).finish()
     }
 }

@@ -1,5 +1,6 @@
 -- What a slot of a direct arena tells of the entry at its index.
-use Rattle.std.proofs.Common.{◌≡◌, ℕ, ◌<◌, ◌≤◌, List, map, Option, Some, None, is_some, IsSome, refl, sym, ap, subst, ◌∙◌, arith}
+use Rattle.std.proofs.Common.{◌≡◌, ℕ, ◌<◌, ◌≤◌, List, map, Option, Some, None, is_some, IsSome, option_copied, refl, sym, ap, subst, ◌∙◌, true≢false, arith}
+use Rattle.std.specs.Borrow.{Bor}
 use Rattle.std.specs.Option.{option_map, option_and_then}
 use Rattle.triple_arena.specs.Items.{item}
 use Rattle.triple_arena.specs.ItemLaws.{joined, item_past}
@@ -29,3 +30,8 @@ module _ {T : Type 0} where
   pub none_beyond : (len : ℕ) (s t : DirectState T) (n : ℕ) → Counts len s → s ≡ t → s.greatest < n → None ≡ entry_in t.slots n
   none_beyond len s t n counts is past =
       sym (ap joined (item_past s.slots n (omega (arith, counts.fits, past)))) ∙ ap (λ (u : DirectState T). entry_in u.slots n) is
+
+-- what is read is there where the value is there
+pub some_read : {A : Type 0} (o : Option (Bor A)) (p : Option A) → option_copied o ≡ p → IsSome p → IsSome o
+some_read None p is there = absurd (true≢false (sym (ap is_some is ∙ there)))
+some_read (Some x) p is there = refl

@@ -11,3 +11,5 @@ pub mod MappedAnswers
 pub mod Followed
 pub mod Reading
 pub mod Refused
+pub mod Resizing
+pub mod Advancing

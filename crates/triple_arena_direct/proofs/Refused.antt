@@ -1,8 +1,11 @@
 -- What calls answer that find nothing or are refused, and what is found after a removal.
 use Rattle.std.specs.Prelude.{IsErrAnd}
-use Rattle.std.proofs.Common.{◌≡◌, ◌≢◌, ℕ, ◌<◌, ◌↔◌, List, length, Option, Some, None, is_some, IsSome, option_copied, Result, Ok, Err, IfOk, OnOk, OnErr, cond, refl, sym, ap, subst, ◌∙◌, inl, inr, arith}
+use Rattle.std.proofs.Common.{◌≡◌, ◌≢◌, ℕ, ◌<◌, ◌≤◌, ◌↔◌, List, length, Option, Some, None, is_some, IsSome, option_copied, Result, Ok, Err, IfOk, OnOk, OnErr, cond, refl, sym, ap, subst, ◌∙◌, inl, inr, arith}
 use Rattle.std.proofs.lemmas.Bool.{cases_eq}
 use Rattle.std.specs.Option.{option_and_then}
+use Rattle.triple_arena_base.specs.declared.errors.CloneFromError.{CloneFromError}
+use Rattle.triple_arena_base.specs.declared.errors.CloneFromError.TheVariants.{Reallocation, Map}
+use Rattle.triple_arena_base.specs.declared.errors.ReallocationError.{ReallocationError}
 use Rattle.triple_arena_base.specs.declared.errors.GetDisjointMutError.{GetDisjointMutError}
 use Rattle.triple_arena_base.specs.declared.errors.GetDisjointMutError.TheVariants.{IndexOutOfBounds, OverlappingIndices}
 use Rattle.triple_arena_ptr.specs.Pointers.{Pointer}
@@ -63,3 +66,13 @@ module _ {T : Type 0} where
               ∙ sym (ap (option_and_then (value_under q.1)) (ap (entry_in old) here ∙ found.1) ∙ ap (λ b. cond b (Some found.0) None) (eq_false p.1 q.1 (λ same. other (pointer_is _ _ _ _ here (sym same)))))
           | inr away ↦ ap (option_and_then (value_under q.1)) (change.others q.0 away)
         ]
+
+pub ok_not_err : {A E : Type 0} (x : A) (e : E) → Ok x ≡ Err e → ⊥
+ok_not_err x e h = cc
+
+pub below_above : (a b : ℕ) → b < a → a ≤ b → ⊥
+below_above a b below above = omega (arith, below, above)
+
+-- a refusal by the closure is none of room
+pub map_not_room : {X E : Type 0} (refusal : E) (room : ReallocationError) → ◌≡◌ {A = Result X (CloneFromError E)} (Err (Map refusal)) (Err (Reallocation room)) → ⊥
+map_not_room refusal room e = cc

@@ -47,7 +47,7 @@ module _ {T : Type 0} where
   slot_inside (x ∷ xs) (suc k) h = slot_inside xs k (omega arith)
 
   -- there is a slot at each index up to so many, with the entry that stands there
-  slot-extended : (xs : List (Option (ℕ × T))) (i : ℕ) → 0 < i → item (extended xs i) i ≡ Some (entry_in xs i)
+  pub slot-extended : (xs : List (Option (ℕ × T))) (i : ℕ) → 0 < i → item (extended xs i) i ≡ Some (entry_in xs i)
   slot-extended xs zero positive = absurd (omega arith)
   slot-extended xs (suc k) positive =
       slot_inside (extended xs (suc k)) k (omega (arith, length-extended xs (suc k)))

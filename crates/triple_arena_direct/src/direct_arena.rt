@@ -705,8 +705,7 @@ impl<P: Ptr, T, S: NonZeroInxGenericStack<DirectSlot<P, T>>> DirectArena<P, T, S
     {
         // By its clause, room and limit are those of the stack's kind.
         let _limit = self.slots.stack.max_capacity();
-        self.slots.stack.reallocate_min_capacity(min_capacity)?;
-        Ok(())
+        self.slots.stack.reallocate_min_capacity(min_capacity)
     }
 }
 
@@ -733,7 +732,6 @@ impl<P: Ptr, T, S: SetMaxCapacity<DirectSlot<P, T>>> DirectArena<P, T, S> {
         ensures done { OnOk result (self.new ≡ with_limit self.old limit) }
         ensures refused { OnErr result (self.new ≡ self.old) }
     {
-        self.slots.stack.set_max_capacity(limit)?;
-        Ok(())
+        self.slots.stack.set_max_capacity(limit)
     }
 }

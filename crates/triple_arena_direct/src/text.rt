@@ -3,6 +3,8 @@
 use crate::direct_arena::DirectArena;
 use crate::slot::DirectSlot;
 use std::fmt;
+use triple_arena::ArenaTrait;
+use triple_arena_base::Advancer;
 use triple_arena_ptr::Ptr;
 use triple_arena_stack::NonZeroInxGenericStack;
 
@@ -11,8 +13,9 @@ impl<P: Ptr, T: fmt::Debug, S: NonZeroInxGenericStack<DirectSlot<P, T>>> fmt::De
     /// Writes `{pointer: value, ..}`, by index.
     fn fmt<W: fmt::Write>(&self, f: &mut fmt::Formatter<W>) -> fmt::Result {
         let mut entries = f.debug_map();
-        for (p, value) in self {
-            entries.entry(&p, value);
+        let mut advancer = self.advancer();
+        'walk: while let Some(p) = advancer.advance(self) {
+            entries.entry(&p, self.get(p).unwrap());
         }
         entries.finish()
     }

@@ -1,13 +1,23 @@
-use Rattle.std.proofs.Common.{◌≡◌, ◌∙◌, map, Some, sym, ap}
+use Rattle.std.proofs.Common.{◌≡◌, ◌∙◌, map, Some, is_some, sym, ap}
 use Rattle.std.specs.Int.NonZero.{non_zero_usize_get}
-use Rattle.triple_arena.specs.Items.{with_item}
+use Rattle.triple_arena.specs.Items.{item, with_item}
 use Rattle.triple_arena.specs.Entries.{entry_in}
-use Rattle.triple_arena.proofs.ItemLists.{map-with_item}
+use Rattle.triple_arena.proofs.ItemLists.{item-map, map-with_item}
+use Rattle.triple_arena.proofs.Present.{some_mapped}
 use Rattle.triple_arena.specs.FreeEnd.{extended}
-use Rattle.triple_arena_direct.specs.InsertionLaws.{entry-extended}
+use Rattle.triple_arena_direct.specs.InsertionLaws.{entry-extended, slot-extended}
 use Rattle.triple_arena_direct.specs.Slot.{slot_entry}
 use Rattle.triple_arena.proofs.SlotEntries.{entry_item}
 use Rattle.triple_arena_direct.proofs.slots.occupy.Goals as goal
+
+pub replace-requires : goal.replace-requires
+replace-requires g c =
+    let f = slot_entry g.P.Gen.PtrGen.number in
+    let old = map f (g.S.NonZeroInxGenericStack.items c.args.stack.now) in
+    let es = g.S.NonZeroInxGenericStack.items c.extend.new.stack in
+    let i = non_zero_usize_get c.args.inx in
+    some_mapped f (item es i) (item (map f es) i) (sym (item-map f es i))
+    (ap is_some (ap (λ xs. item xs i) (c.extend.ensures.slots ∙ ap (extended old) c.get.ensures.value) ∙ slot-extended old i c.args.inx.ok))
 
 pub discard-requires-after_bounds : goal.discard-requires-after_bounds
 discard-requires-after_bounds g c κs within =

@@ -1,7 +1,12 @@
-use Rattle.std.proofs.Common.{◌∙◌, inl, sym, ap}
+use Rattle.std.proofs.Common.{◌≡◌, ◌∙◌, ℕ, None, IsSome, map, inl, inr, sym, ap, subst}
 use Rattle.std.proofs.Math.Path.{fun_ext}
 use Rattle.std.specs.Int.NonZero.{non_zero_usize_get}
 use Rattle.triple_arena_direct.specs.DirectState.{DirectState, with_value}
+use Rattle.std.specs.Option.{option_map}
+use Rattle.triple_arena.specs.Entries.{entry_in, look_up_in}
+use Rattle.triple_arena.proofs.SlotEntries.{none_of}
+use Rattle.triple_arena.proofs.WellFormed.{live_entry}
+use Rattle.triple_arena_direct.specs.Slot.{slot_entry}
 use Rattle.triple_arena_direct.proofs.Held.{lent, entry_value_read}
 use Rattle.triple_arena_direct.proofs.direct_arena.DirectArenaArenaTrait.get_inx_mut.Goals as goal
 
@@ -22,3 +27,19 @@ returns-in-Some g c = (
     fresh = λ value h none. none;
   },
 )
+
+pub value_mut-requires-after_bounds : goal.value_mut-requires-after_bounds
+value_mut-requires-after_bounds g c κs within =
+    let slots = map (slot_entry g.P.Gen.PtrGen.number) (g.S.NonZeroInxGenericStack.items c.self.inside.slots.stack) in
+    subst (λ n. IsSome (entry_in slots n)) (sym c.in-Some.ensures.index) (sym c.in-Some.ensures.live)
+
+pub returns-in-None : goal.returns-in-None
+returns-in-None g c =
+    let none = sym (subst (λ (s : DirectState g.row.T.Denot). entry_in s.slots (g.P.Inx.PtrInx.number c.args.inx) ≡ None) c.self.view_is (none_of _ (sym c.in-None.ensures.live))) in (
+      ap inr c.self.view_is,
+      record {
+        value = ap (option_map (λ (e : ℕ × g.row.T.Denot). e.1)) none;
+        writes_back = tt;
+        fresh = λ value h fits. fits;
+      },
+    )

@@ -1,11 +1,11 @@
 -- Sessions whose fields hold a state, and what the arena's and the table's answers make of it.
-use Rattle.std.proofs.Common.{◌≡◌, ℕ, ◌+◌, ◌==◌, ◌<◌, ◌≤◌, Bool, true, false, List, [], ◌∷◌, ◌++◌, map, length, Option, Some, None, refl, sym, ap, subst, ◌∙◌, inl, inr, ◌⊎◌, true≢false, arith}
+use Rattle.std.proofs.Common.{◌≡◌, ℕ, ◌+◌, ◌==◌, ◌<◌, ◌≤◌, Bool, true, false, List, [], ◌∷◌, ◌++◌, map, length, Option, Some, None, is_some, refl, sym, ap, subst, ◌∙◌, inl, inr, ◌⊎◌, true≢false, arith}
 use Rattle.std.specs.Prelude.{nat_le, Result, Err, IsOk}
 use Rattle.triple_arena_base.specs.declared.errors.ReallocationError.{ReallocationError}
 use Rattle.triple_arena_base.specs.declared.errors.ReallocationError.TheVariants as refused
 use Rattle.std.proofs.lemmas.Bool.{cases_eq}
 use Rattle.std.proofs.lemmas.Bool.Decides.{nat_tests}
-use Rattle.std.specs.Option.{option_map}
+use Rattle.std.specs.Option.{option_map, option_and_then}
 use Rattle.std.proofs.lemmas.List.{map-append, length-map}
 use Rattle.triple_arena_base.specs.declared.invalidation.InvalidationResult.{InvalidationResult}
 use Rattle.triple_arena_base.specs.declared.invalidation.InvalidationResult.TheVariants.{Success, GenerationOverflow, InvalidPtr}
@@ -23,11 +23,11 @@ use Rattle.triple_arena.specs.Ending.{told_of, map_told, removed, invalidated}
 use Rattle.triple_arena_run.specs.declared.command.Command.TheVariants.{Reserve}
 use Rattle.triple_arena_run.specs.declared.node.Node.{Node}
 use Rattle.triple_arena_run.specs.declared.reply.Reply.{Reply}
-use Rattle.triple_arena_run.specs.declared.reply.Reply.TheVariants.{Given, BeyondMaxCapacity, NoMemory, Done, Removed, Invalid}
-use Rattle.triple_arena_run.specs.SessionState.{SessionState, node_of, link_name}
+use Rattle.triple_arena_run.specs.declared.reply.Reply.TheVariants.{Given, Full, BeyondMaxCapacity, NoMemory, Done, Removed, Invalid}
+use Rattle.triple_arena_run.specs.SessionState.{SessionState, node_of, link_name, named}
 use Rattle.triple_arena_run.specs.SessionLayout.{session_of}
-use Rattle.triple_arena_run.specs.Limits.{is_within}
-use Rattle.triple_arena_run.specs.SessionRun.{with_room_for_name, give, act_on, act_under, refusal, in_order, remove_under, invalidate_under, insert_within_answer, reserve_answer, ArenaWantsMemory, RoomWantsMemory, IsStep}
+use Rattle.triple_arena_run.specs.Limits.{is_at_limit, is_within}
+use Rattle.triple_arena_run.specs.SessionRun.{with_room_for_name, give, act_on, act_under, refusal, in_order, remove_under, invalidate_under, insert_within_answer, reserve_answer, TableWantsMemory, ArenaWantsMemory, RoomWantsMemory, IsStep}
 use Rattle.triple_arena_run.proofs.Mapped.{len-mapped, look_up-mapped, next_pointer-mapped, inserted-mapped, grown-mapped, with_value-mapped, removed-mapped, invalidated-mapped, tidied-mapped, reallocated-mapped}
 
 none_some : {A : Type 0} {x : A} → None ≡ Some x → ⊥
@@ -70,6 +70,28 @@ told_renewed {A} {B} {C} f q b o r got x is over some =
     by_value None e wrapped = absurd (none_some e)
     by_value (Some y) e wrapped = (y, refl, some_same (sym e), wrapped)
 
+-- an answer with a value has one wherever there is one
+pub renewed_some : {A B C : Type 0} (f : B → C) (q : C) (b : Bool) (o : Option A) (r : InvalidationResult B) (got : Option B × Bool) → is_some o ≡ true → map_told f r ≡ told_of b (option_map (λ y. q) o) → got ≡ overflowing r → got.0 ≡ None → ⊥
+renewed_some {A} {B} {C} f q b o r got some is over none = by_value b o some (sym (by_answer r (sym (ap (λ (z : Option B × Bool). z.0) over) ∙ none)) ∙ ap (λ (z : InvalidationResult C). (overflowing z).0) is)
+  where
+    by_answer : (r : InvalidationResult B) → (overflowing r).0 ≡ None → (overflowing (map_told f r)).0 ≡ None
+    by_answer (Success y) e = absurd (none_some (sym e))
+    by_answer (GenerationOverflow y) e = absurd (none_some (sym e))
+    by_answer InvalidPtr e = refl
+
+    by_value : (b : Bool) (o : Option A) → is_some o ≡ true → None ≡ (overflowing (told_of b (option_map (λ y. q) o))).0 → ⊥
+    by_value b None some e = true≢false (sym some)
+    by_value true (Some y) some e = none_some e
+    by_value false (Some y) some e = none_some e
+
+pub none_of : {A : Type 0} (o : Option A) → is_some o ≡ false → o ≡ None
+none_of None e = refl
+none_of (Some x) e = absurd (true≢false e)
+
+pub mapped_some : {A B : Type 0} (f : A → B) (o : Option A) → is_some o ≡ true → is_some (option_map f o) ≡ true
+mapped_some f None e = e
+mapped_some f (Some x) e = refl
+
 -- what a reallocation tells by its answer
 pub is_beyond : {r : Result (Unit {0}) ReallocationError} {why : ReallocationError} → r ≡ Err why → why ≡ refused.BeyondMaxCapacity → r ≡ Err refused.BeyondMaxCapacity
 is_beyond is why = is ∙ ap Err why
@@ -85,6 +107,16 @@ answers e f = rw (e, f) refl
 
 with_state : {X : Type 0} {t u : SessionState X} (r : Reply X) → t ≡ u → ◌≡◌ {A = Reply X × SessionState X} (r, t) (r, u)
 with_state r e = rw e refl
+
+same_test : (m n : ℕ) → m ≡ n → (m == n) ≡ true
+same_test m n e = grind (arith, nat_tests, e)
+
+other_test : (m n : ℕ) → (m ≡ n → ⊥) → (m == n) ≡ false
+other_test m n other = by_test (m == n) refl
+  where
+    by_test : (b : Bool) → (m == n) ≡ b → b ≡ false
+    by_test true same = absurd (other (grind (arith, nat_tests, same)))
+    by_test false same = refl
 
 le_true : (m n : ℕ) → m ≤ n → nat_le m n ≡ true
 le_true m n le = grind (arith, nat_tests, le)
@@ -112,6 +144,13 @@ within_or_beyond (Some most) m = by_test (nat_le m most) refl
 pub placed : {X : Type 0} (s : SessionState X) (datum : X) (link : Option Pointer) → (arena_len s.arena == capacity s.arena) ≡ false → insert_within_answer s datum (Some link) ≡ give s (next_pointer s.arena) false (inserted s.arena (datum, link))
 placed s datum link place = rw place refl
 
+-- and where it has none
+pub not_placed : {X : Type 0} (s : SessionState X) (datum : X) (link : Option Pointer) → (arena_len s.arena == capacity s.arena) ≡ true → insert_within_answer s datum (Some link) ≡ (Full, s)
+not_placed s datum link full = rw full refl
+
+pub below : (m n : ℕ) → m ≤ n → (m == n) ≡ false → m < n
+below m n le other = grind (arith, nat_tests, le, other)
+
 -- what the session answers to a reservation
 module _ {X : Type 0} (kind : StackKind) (counting : Bool) (greatest : ℕ) (s : SessionState X) (m : ℕ) where
   chosen_done : nat_le m s.arena.greatest ≡ true → is_within s.arena.limit m ≡ true → reserve_answer kind counting greatest s m ≡ (Done, record s { arena = reallocated kind s.arena m })
@@ -122,6 +161,32 @@ module _ {X : Type 0} (kind : StackKind) (counting : Bool) (greatest : ℕ) (s :
 
   chosen_past : nat_le m s.arena.greatest ≡ false → reserve_answer kind counting greatest s m ≡ (NoMemory, in_order s)
   chosen_past past = rw past refl
+
+-- why an arena of so many entries, and of this capacity, can take no more
+pub has_place : {T : Type 0} (a : ArenaState T) → arena_len a < capacity a → None ≡ refusal a
+has_place a place = rw test refl
+  where
+    test : (arena_len a == capacity a) ≡ false
+    test = grind (arith, nat_tests, place)
+
+module _ {T : Type 0} (a : ArenaState T) (fits : arena_len a ≤ capacity a) (full : capacity a ≤ arena_len a) where
+  full_test : (arena_len a == capacity a) ≡ true
+  full_test = same_test (arena_len a) (capacity a) (omega arith)
+
+  pub at_limit : is_at_limit a.limit (capacity a) ≡ true → Some refused.BeyondMaxCapacity ≡ refusal a
+  at_limit reached = rw (full_test, reached) refl
+
+  pub at_greatest : is_at_limit a.limit (capacity a) ≡ false → capacity a ≡ a.greatest → Some refused.AllocError ≡ refusal a
+  at_greatest below last = rw (full_test, below, same_test (capacity a) a.greatest last) refl
+
+  pub may_grow : is_at_limit a.limit (capacity a) ≡ false → (capacity a ≡ a.greatest → ⊥) → None ≡ refusal a
+  may_grow below more = rw (full_test, below, other_test (capacity a) a.greatest more) refl
+
+pub reaches_limit : (limit : Option ℕ) (most m : ℕ) → limit ≡ Some most → most ≤ m → is_at_limit limit m ≡ true
+reaches_limit limit most m is le = rw is (le_true most m le)
+
+pub past_limit : (limit : Option ℕ) (most m : ℕ) → limit ≡ Some most → m < most → is_at_limit limit m ≡ false
+past_limit limit most m is past = rw is (grind (arith, nat_tests, past))
 
 abbrev with_arena : {X : Type 0} → SessionState X → ArenaState (X × Option Pointer) → SessionState X
 with_arena t a = record t { arena = a }
@@ -189,6 +254,14 @@ module _ {X P : Type 0} (pointer : P → Pointer) (arena : ArenaState (Node X P)
   -- a removal that took nothing
   pub not_removed : (act : Pointer → X × Option Pointer → Reply X × SessionState X) (name : ℕ) (p : Pointer) (new_arena : ArenaState (Node X P)) → item s.table name ≡ Some p → look_up arena p ≡ None → new_arena ≡ arena → ◌≡◌ {A = Reply X × SessionState X} (Invalid, session_of pointer new_arena table room) (act_on s act (item s.table name))
   not_removed act name p new_arena has ended same = with_state Invalid (arena_changed (λ a. a) new_arena (ap (map_values (node_of pointer)) same)) ∙ sym (acts_not act name p has ended)
+
+  -- what stands under a name that was given
+  pub named-shown : (name : ℕ) (p : Pointer) (o : Option (Node X P)) → item s.table name ≡ Some p → look_up arena p ≡ o → named s name ≡ option_map (node_of pointer) o
+  named-shown name p o has there = ap (option_and_then (look_up s.arena)) has ∙ look_up-shown p ∙ ap (option_map (node_of pointer)) there
+
+  -- a table that refused for want of memory was full
+  pub table_wants : (new_table : List P) (new_room : ℕ) → length table ≡ room → new_table ≡ table → new_room ≡ room → TableWantsMemory s (session_of pointer arena new_table new_room)
+  table_wants new_table new_room full table_is room_is = (sym length-shown ∙ full ∙ ap (λ t. t.table_room) shows, rw (table_is, room_is) shows)
 
   -- another value under a pointer
   pub value_set : (i : ℕ) (node : Node X P) (new_table : List P) (new_room : ℕ) → new_table ≡ table → new_room ≡ room → ◌≡◌ {A = Reply X × SessionState X} (Done, session_of pointer (with_value arena i node) new_table new_room) (Done, record s { arena = with_value s.arena i (node_of pointer node) })

@@ -345,10 +345,11 @@ impl<P: Ptr, X: Copy, S: NonZeroInxGenericStack<ArenaSlot<P, Node<X, P>>>> Sessi
             Err(_) => return Reply::NoMemory,
         }
         let link = self.table.hint(name);
-        let (Some(renewed), wrapped) = self.arena.invalidate(p).overflowing() else {
-            return Reply::Invalid;
-        };
-        Reply::Given(self.table.push(renewed, link), wrapped)
+        let (answer, wrapped) = self.arena.invalidate(p).overflowing();
+        match answer {
+            Some(renewed) => Reply::Given(self.table.push(renewed, link), wrapped),
+            None => Reply::Invalid,
+        }
     }
 
     fn clear(&mut self) -> Reply<X>

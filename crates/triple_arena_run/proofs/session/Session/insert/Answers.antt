@@ -1,12 +1,13 @@
-use Rattle.std.proofs.Common.{◌≡◌, false, ◌++◌, ◌∷◌, [], List, Some, None, is_some, length, ap, sym, ◌∙◌, inr, ◌+◌}
+use Rattle.std.proofs.Common.{◌≡◌, false, ◌++◌, ◌∷◌, [], List, Some, None, is_some, length, ap, sym, ◌∙◌, inl, inr, ◌+◌}
 use Rattle.std.specs.Option.{option_map}
+use Rattle.triple_arena_base.specs.declared.errors.ReallocationError.TheVariants as refused
 use Rattle.triple_arena.specs.ArenaState.{map_values}
 use Rattle.triple_arena.specs.Insertion.{inserted, next_pointer}
 use Rattle.triple_arena.specs.Capacity.{grown}
 use Rattle.triple_arena_run.specs.declared.node.Node.{Node}
 use Rattle.triple_arena_run.specs.SessionState.{node_of, link_pointer}
 use Rattle.triple_arena_run.specs.SessionRun.{refusal, insert_answer, insert_unless}
-use Rattle.triple_arena_run.proofs.Shown.{given, next-shown, inserted_grown-shown, arena_wants}
+use Rattle.triple_arena_run.proofs.Shown.{given, next-shown, inserted_grown-shown, arena_wants, table_wants}
 use Rattle.triple_arena_run.proofs.session.Session.insert.Goals as goal
 
 pub returns-in-Ok-insert : goal.returns-in-Ok-insert
@@ -29,3 +30,25 @@ returns-in-Err-insert g c =
     let link : link_pointer c.args.self.now.table c.args.link ≡ Some (option_map g.P.Ptr.numbers c.in-Some.target) = sym c.link_pointer.ensures ∙ ap (option_map (option_map g.P.Ptr.numbers)) c.in-Some.is in
     let full = arena_wants g.P.Ptr.numbers c.self.inside.arena c.self.inside.table.items c.self.inside.table.room c.args.self.now c.self.view_is g.S.NonZeroInxGenericStack.has_memory _ c.refusal.ensures.greatest c.in-Err-insert.ensures.given c.refusal.ensures.fits (λ place. (c.in-Err-insert.ensures.had_place place).0) c.insert.new.self c.make_room.new.self.items c.make_room.new.self.room c.in-Err-insert.ensures.refused c.in-Ok.ensures.items c.in-Ok.ensures.grown in
     inr (ap is_some link, sym c.in-None.ensures.why, inr full)
+
+pub returns-in_default : goal.returns-in_default
+returns-in_default g c =
+    let link : link_pointer c.args.self.now.table c.args.link ≡ None = sym c.link_pointer.ensures ∙ ap (option_map (option_map g.P.Ptr.numbers)) c.in_default.is in
+    sym (ap (insert_answer g.S.NonZeroInxGenericStack.kind g.P.Gen.PtrGen.counting g.P.Gen.PtrGen.greatest c.args.self.now c.args.datum) link)
+
+pub returns-in-Some-BeyondMaxCapacity : goal.returns-in-Some-BeyondMaxCapacity
+returns-in-Some-BeyondMaxCapacity g c =
+    let link : link_pointer c.args.self.now.table c.args.link ≡ Some (option_map g.P.Ptr.numbers c.in-Some.target) = sym c.link_pointer.ensures ∙ ap (option_map (option_map g.P.Ptr.numbers)) c.in-Some.is in
+    let why : refusal c.args.self.now.arena ≡ Some refused.BeyondMaxCapacity = sym c.in-Some-BeyondMaxCapacity.ensures.why ∙ ap Some c.in-Some-BeyondMaxCapacity.field-0-is in
+    sym (ap (insert_answer g.S.NonZeroInxGenericStack.kind g.P.Gen.PtrGen.counting g.P.Gen.PtrGen.greatest c.args.self.now c.args.datum) link ∙ ap (λ w. insert_unless g.S.NonZeroInxGenericStack.kind g.P.Gen.PtrGen.counting g.P.Gen.PtrGen.greatest w c.args.self.now c.args.datum (option_map g.P.Ptr.numbers c.in-Some.target)) why)
+
+pub returns-in-Some-AllocError : goal.returns-in-Some-AllocError
+returns-in-Some-AllocError g c =
+    let link : link_pointer c.args.self.now.table c.args.link ≡ Some (option_map g.P.Ptr.numbers c.in-Some.target) = sym c.link_pointer.ensures ∙ ap (option_map (option_map g.P.Ptr.numbers)) c.in-Some.is in
+    let why : refusal c.args.self.now.arena ≡ Some refused.AllocError = sym c.in-Some-AllocError.ensures.why ∙ ap Some c.in-Some-AllocError.field-0-is in
+    inl (sym (ap (insert_answer g.S.NonZeroInxGenericStack.kind g.P.Gen.PtrGen.counting g.P.Gen.PtrGen.greatest c.args.self.now c.args.datum) link ∙ ap (λ w. insert_unless g.S.NonZeroInxGenericStack.kind g.P.Gen.PtrGen.counting g.P.Gen.PtrGen.greatest w c.args.self.now c.args.datum (option_map g.P.Ptr.numbers c.in-Some.target)) why))
+
+pub returns-in-Err : goal.returns-in-Err
+returns-in-Err g c =
+    let link : link_pointer c.args.self.now.table c.args.link ≡ Some (option_map g.P.Ptr.numbers c.in-Some.target) = sym c.link_pointer.ensures ∙ ap (option_map (option_map g.P.Ptr.numbers)) c.in-Some.is in
+    inr (ap is_some link, sym c.in-None.ensures.why, inl (table_wants g.P.Ptr.numbers c.self.inside.arena c.self.inside.table.items c.self.inside.table.room c.args.self.now c.self.view_is c.make_room.new.self.items c.make_room.new.self.room c.in-Err.ensures.refused.0 (ap (λ t. t.items) c.in-Err.ensures.refused.1) (ap (λ t. t.room) c.in-Err.ensures.refused.1)))

@@ -118,7 +118,7 @@ fn run_over<R: Read, W: Write + Drop>(
     }
 }
 
-/// Runs a text in a new session over a stack.
+// Runs a text in a new session over a stack.
 fn run_new<S: NonZeroInxGenericStack<Slot> + Drop, R: Read, W: Write + Drop>(
     alloc: Global,
     input: &mut R,
@@ -130,14 +130,15 @@ fn run_new<S: NonZeroInxGenericStack<Slot> + Drop, R: Read, W: Write + Drop>(
     run_text_and_flush(&mut Session::<P0, u64, S>::new(alloc), alloc, input, output)
 }
 
-/// Runs a text in a new session over a stack with room for so many.
+// Runs a text in a new session over a stack with room for so many.
 fn run_made<S: NonZeroInxGenericStack<Slot> + Drop, R: Read, W: Write + Drop>(
     alloc: Global,
     count: usize,
     input: &mut R,
     output: BufWriter<W>,
 ) -> (Result<(), TextError>, W)
-    ensures { RunsOver S.kind S.has_memory (first_session (made_room S.kind count) (made_limit S.kind count))
+    ensures { RunsOver S.kind S.has_memory
+        (first_session (made_room S.kind count) (made_limit S.kind count))
         (R.remaining input.old) result.0 (writer_contents W.contents output) (W.contents result.1) }
 {
     match Session::<P0, u64, S>::with_min_capacity(alloc, count) {

@@ -1,5 +1,5 @@
 -- What a change of the stack's room or limit carries over to the arena, where it is done and where it is refused.
-use Rattle.std.proofs.Common.{◌≡◌, ℕ, ◌<◌, ◌≤◌, ◌↔◌, ◌∷◌, [], List, length, map, Bool, true, Option, Some, None, is_some, IfSome, MatchOption, Result, Ok, Err, IsOk, OnOk, OnErr, min, refl, sym, ap, subst, ◌∙◌, arith}
+use Rattle.std.proofs.Common.{◌≡◌, ℕ, ◌<◌, ◌≤◌, ◌∷◌, [], List, length, map, true, Option, Some, None, is_some, IfSome, MatchOption, Result, Ok, Err, IsOk, OnOk, OnErr, min, refl, sym, ap, subst, ◌∙◌, arith}
 use Rattle.std.proofs.lemmas.List.{length-map}
 use Rattle.std.specs.declared.num.NonZeroUsize.{NonZeroUsize}
 use Rattle.std.specs.Int.NonZero.{non_zero_usize_get}

@@ -1,10 +1,10 @@
 -- What a change of the stack's room or limit carries over to the arena, where it is done and where it is refused.
-use Rattle.std.proofs.Common.{◌≡◌, ℕ, ◌<◌, ◌≤◌, ◌↔◌, ◌∷◌, [], List, length, map, Bool, true, Option, Some, None, is_some, IfSome, MatchOption, Result, Ok, Err, IsOk, OnOk, OnErr, min, refl, sym, ap, subst, ◌∙◌, arith}
+use Rattle.std.proofs.Common.{◌≡◌, ℕ, ◌+◌, ◌<◌, ◌≤◌, ◌∷◌, [], List, length, map, true, Option, Some, None, is_some, IfSome, MatchOption, Result, Ok, Err, IsOk, OnOk, OnErr, min, refl, sym, ap, subst, ◌∙◌, arith}
 use Rattle.std.proofs.lemmas.List.{length-map}
 use Rattle.std.specs.declared.num.NonZeroUsize.{NonZeroUsize}
 use Rattle.std.specs.Int.NonZero.{non_zero_usize_get}
 use Rattle.triple_arena_stack.specs.StackKind.{StackKind, reallocated_room}
-use Rattle.triple_arena_stack.specs.Capacity.{capacity_of}
+use Rattle.triple_arena_stack.specs.Capacity.{capacity_of, IsAtLimit, IsWithin}
 use Rattle.triple_arena.specs.declared.slot.ArenaSlot.{ArenaSlot}
 use Rattle.triple_arena.specs.Slot.{entry_of}
 use Rattle.triple_arena.specs.Layout.{state_of, Shows}
@@ -21,6 +21,11 @@ limit_fits n room x greatest (Some most) fits below = omega arith
 
 pub below_above : (a b : ℕ) → a < b → b ≤ a → ⊥
 below_above a b less more = omega arith
+
+-- a limit that is reached doesn't allow one more
+pub not_within : (limit : Option ℕ) (n : ℕ) → IsAtLimit limit n → IsWithin limit (n + 1) → ⊥
+not_within None n reached within = reached
+not_within (Some most) n reached within = omega arith
 
 -- a place within what a stack holds, and within the indexes, is one of the arena's
 pub placed : {A E : Type 0} (r : Result A E) (m n greatest : ℕ) → OnOk r (m ≤ n) → OnOk r (m ≤ greatest → m ≤ min n greatest)

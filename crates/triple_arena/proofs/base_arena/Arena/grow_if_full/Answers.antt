@@ -1,4 +1,6 @@
-use Rattle.std.proofs.Common.{◌≡◌, ◌≢◌, ◌∙◌, ◌<◌, cond, true≢false, sym, ap, subst, arith}
+use Rattle.triple_arena.proofs.Resizing.{below_above, not_within}
+use Rattle.triple_arena.specs.EntryLaws.{same-grown}
+use Rattle.std.proofs.Common.{◌≡◌, ◌≢◌, ◌∙◌, ◌<◌, cond, true≢false, sym, ap, subst, arith, ◌≤◌, refl}
 use Rattle.triple_arena_stack.specs.Capacity.{IsAtLimit, IsBeyond, next_capacity}
 use Rattle.triple_arena_stack.specs.StackKind.{IsOfKind}
 use Rattle.triple_arena.specs.ArenaState.{arena_len, capacity, IsWellFormed}
@@ -51,3 +53,59 @@ returns-clause-beyond g c =
       λ e. absurd (never_beyond _ _ c.args.self.now.limit (subst (IsBeyond c.args.self.now.limit) next (c.reallocate.ensures.beyond.0 e))),
       λ full. absurd (true≢false (sym (at_limit.1 full.1) ∙ c.if-is_at_limit.false)),
     )
+
+pub returns-then-self-capacity-clause-done : goal.returns-then-self-capacity-clause-done
+returns-then-self-capacity-clause-done g c =
+    let shows = subst (Shows g.P.Gen.PtrGen.number _ _ _) c.self.view_is c.self.invariant in
+    let has : arena_len c.args.self.now < capacity c.args.self.now = omega (arith, c.if-self-capacity.true, shows.counted, c.capacity-capacity.ensures.value) in
+    sym (same-grown g.S.NonZeroInxGenericStack.kind c.args.self.now has)
+
+pub returns-then-self-capacity-clause-has_place : goal.returns-then-self-capacity-clause-has_place
+returns-then-self-capacity-clause-has_place g c =
+    let shows = subst (Shows g.P.Gen.PtrGen.number _ _ _) c.self.view_is c.self.invariant in
+    let has : arena_len c.args.self.now < capacity c.args.self.now = omega (arith, c.if-self-capacity.true, shows.counted, c.capacity-capacity.ensures.value) in
+    has
+
+pub returns-then-self-capacity-clause-indexed : goal.returns-then-self-capacity-clause-indexed
+returns-then-self-capacity-clause-indexed g c same =
+    let shows = subst (Shows g.P.Gen.PtrGen.number _ _ _) c.self.view_is c.self.invariant in
+    let has : arena_len c.args.self.now < capacity c.args.self.now = omega (arith, c.if-self-capacity.true, shows.counted, c.capacity-capacity.ensures.value) in
+    absurd (omega (arith, has, same))
+
+pub returns-then-is_at_limit-clause-beyond : goal.returns-then-is_at_limit-clause-beyond
+returns-then-is_at_limit-clause-beyond g c =
+    let shows = subst (Shows g.P.Gen.PtrGen.number _ _ _) c.self.view_is c.self.invariant in
+    let full : capacity c.args.self.now ≤ arena_len c.args.self.now = omega (arith, c.if-self-capacity.false, shows.counted, c.capacity-capacity.ensures.value) in
+    let limit = c.max_capacity-limit.ensures.value ∙ ap (λ s. s.limit) c.self.view_is in
+    let at_limit = rw (limit, c.capacity-capacity.ensures.value) at c.is_at_limit.ensures in
+    (λ e. (full, at_limit.0 c.if-is_at_limit.true), λ h. refl)
+
+pub returns-then-is_at_limit-clause-given : goal.returns-then-is_at_limit-clause-given
+returns-then-is_at_limit-clause-given g c grows =
+    let limit = c.max_capacity-limit.ensures.value ∙ ap (λ s. s.limit) c.self.view_is in
+    let at_limit = rw (limit, c.capacity-capacity.ensures.value) at c.is_at_limit.ensures in
+    absurd (not_within c.args.self.now.limit (capacity c.args.self.now) (at_limit.0 c.if-is_at_limit.true) grows.0)
+
+pub returns-then-is_at_limit-clause-had_place : goal.returns-then-is_at_limit-clause-had_place
+returns-then-is_at_limit-clause-had_place g c has =
+    let shows = subst (Shows g.P.Gen.PtrGen.number _ _ _) c.self.view_is c.self.invariant in
+    let full : capacity c.args.self.now ≤ arena_len c.args.self.now = omega (arith, c.if-self-capacity.false, shows.counted, c.capacity-capacity.ensures.value) in
+    absurd (below_above _ _ has full)
+
+pub returns-then-capacity-greatest-clause-beyond : goal.returns-then-capacity-greatest-clause-beyond
+returns-then-capacity-greatest-clause-beyond g c =
+    let limit = c.max_capacity-limit.ensures.value ∙ ap (λ s. s.limit) c.self.view_is in
+    let at_limit = rw (limit, c.capacity-capacity.ensures.value) at c.is_at_limit.ensures in
+    (λ e. absurd (cc), λ full. absurd (true≢false (sym (at_limit.1 full.1) ∙ c.if-is_at_limit.false)))
+
+pub returns-then-capacity-greatest-clause-had_place : goal.returns-then-capacity-greatest-clause-had_place
+returns-then-capacity-greatest-clause-had_place g c has =
+    let shows = subst (Shows g.P.Gen.PtrGen.number _ _ _) c.self.view_is c.self.invariant in
+    let full : capacity c.args.self.now ≤ arena_len c.args.self.now = omega (arith, c.if-self-capacity.false, shows.counted, c.capacity-capacity.ensures.value) in
+    absurd (below_above _ _ has full)
+
+pub returns-clause-had_place : goal.returns-clause-had_place
+returns-clause-had_place g c has =
+    let shows = subst (Shows g.P.Gen.PtrGen.number _ _ _) c.self.view_is c.self.invariant in
+    let full : capacity c.args.self.now ≤ arena_len c.args.self.now = omega (arith, c.if-self-capacity.false, shows.counted, c.capacity-capacity.ensures.value) in
+    absurd (below_above _ _ has full)

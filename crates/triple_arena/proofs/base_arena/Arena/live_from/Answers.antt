@@ -1,4 +1,3 @@
-use Rattle.std.proofs.Common.{◌≡◌}
 use Rattle.triple_arena.proofs.base_arena.Arena.live_from.Goals as goal
 
 pub returns : goal.returns

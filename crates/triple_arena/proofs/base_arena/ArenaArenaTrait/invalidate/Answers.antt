@@ -2,7 +2,7 @@ use Rattle.triple_arena.proofs.Refused.{told_mapped, none_told}
 use Rattle.triple_arena.proofs.SlotEntries.{none_of}
 use Rattle.triple_arena_ptr.specs.Pointers.{Pointer}
 use Rattle.std.specs.Option.{option_map}
-use Rattle.std.proofs.Common.{◌∙◌, IsSome, ap, sym, refl, ◌≡◌, Some, is_some, subst, true≢false}
+use Rattle.std.proofs.Common.{◌∙◌, IsSome, ap, sym, refl, Some, is_some, subst, true≢false}
 use Rattle.std.specs.Int.NonZero.{non_zero_usize_get}
 use Rattle.triple_arena_ptr.specs.Numbers.{raise, wraps}
 use Rattle.triple_arena.specs.Entries.{with_generation_in}

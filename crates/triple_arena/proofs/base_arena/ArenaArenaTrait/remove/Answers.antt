@@ -5,8 +5,7 @@ use Rattle.triple_arena.specs.EntryLaws.{slots-removed}
 use Rattle.triple_arena.specs.Ending.{removed, told_of}
 use Rattle.triple_arena.specs.ArenaState.{entry, look_up}
 use Rattle.triple_arena_ptr.specs.Numbers.{raise, wraps}
-use Rattle.std.specs.Int.NonZero.{non_zero_usize_get}
-use Rattle.std.proofs.Common.{◌≡◌, ◌∙◌, IsSome, None, is_some, sym, ap, subst, true≢false}
+use Rattle.std.proofs.Common.{◌∙◌, IsSome, is_some, sym, ap, subst, true≢false}
 use Rattle.triple_arena.proofs.HistoryLaws.{Continues-removed}
 use Rattle.triple_arena.proofs.base_arena.ArenaArenaTrait.remove.Goals as goal
 

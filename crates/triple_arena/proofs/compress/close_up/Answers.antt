@@ -2,6 +2,8 @@ use Rattle.std.proofs.Common.{◌≡◌, ◌∙◌, ◌+◌, ◌<◌, length, ma
 use Rattle.std.proofs.lemmas.List.{length-map}
 use Rattle.std.specs.Int.NonZero.{non_zero_usize_get}
 use Rattle.triple_arena.specs.Items.{item, with_item}
+use Rattle.std.specs.Option.{option_map}
+use Rattle.triple_arena.specs.Moves.{MoveTurn}
 use Rattle.triple_arena.proofs.ItemLists.{length-with_item}
 use Rattle.triple_arena.proofs.Links.{pointer_is}
 use Rattle.triple_arena.proofs.Compressing.{CompactAt-start, CompactAt-free_slot, CompactAt-moved_slot, CompactAt-done, place_free_slot, item_inside, number_of_given, none_unpacked}
@@ -10,7 +12,7 @@ use Rattle.triple_arena.proofs.compress.close_up.Goals as goal
 
 pub moves-init : goal.moves-init
 moves-init g c =
-    (c.requires.callable, refl, refl, refl, CompactAt-start _ _ _ c.args.f (map g.X.EntrySlot.entry (g.S.NonZeroInxGenericStack.items c.args.stack.now)))
+    (c.requires.callable, refl, refl, refl, CompactAt-start g.P.Ptr.numbers (MoveTurn g.P.Ptr.numbers (goal.F-step g)) (option_map g.P.Gen.PtrGen.number c.args.generation) c.args.f (map g.X.EntrySlot.entry (g.S.NonZeroInxGenericStack.items c.args.stack.now)))
 
 pub replace-requires : goal.replace-requires
 replace-requires g c =
@@ -38,7 +40,7 @@ discard-requires-after_bounds g c κs within =
     let found : item items (c.moves.at + 1) ≡ Some c.replace.result = ap (item items) (sym here) ∙ c.replace.ensures.value in
     let freed : freed_items ≡ with_item items (c.moves.at + 1) c.vacant.result = ap g.S.NonZeroInxGenericStack.items c.replace.ensures.stack ∙ g.met.S.NonZeroInxGenericStack.items_with_items _ _ ∙ ap (λ i. with_item items i c.vacant.result) here in
     let there : non_zero_usize_get c.saturating_add-onto.result ≡ c.moves.to + 1 = omega (arith, c.saturating_add-onto.ensures, c.moves.invariant.4.below, c.moves-test.true, c.moves.auto.at-end) in
-    place_free_slot g.X.EntrySlot.entry _ _ _ first items freed_items c.args.f c.moves.f c.moves.at c.moves.to c.vacant.result c.replace.result c.replace-in-Some.result c.moves.invariant.4 inside found c.vacant.ensures freed
+    place_free_slot g.X.EntrySlot.entry g.P.Ptr.numbers (MoveTurn g.P.Ptr.numbers (goal.F-step g)) (option_map g.P.Gen.PtrGen.number c.args.generation) first items freed_items c.args.f c.moves.f c.moves.at c.moves.to c.vacant.result c.replace.result c.replace-in-Some.result c.moves.invariant.4 inside found c.vacant.ensures freed
     (ap (item freed_items) (sym there) ∙ c.replace-in-Some.ensures.value)
 
 pub moves-preserved : goal.moves-preserved
@@ -63,7 +65,7 @@ moves-preserved g c =
             ap g.S.NonZeroInxGenericStack.room w.replace-in-Some.ensures.stack ∙ g.met.S.NonZeroInxGenericStack.room_with_items _ _ ∙ room,
             ap g.S.NonZeroInxGenericStack.limit w.replace-in-Some.ensures.stack ∙ g.met.S.NonZeroInxGenericStack.limit_with_items _ _ ∙ limit,
             ap length put ∙ length-with_item freed_items (c.moves.to + 1) _ ∙ size,
-            CompactAt-moved_slot g.X.EntrySlot.entry _ _ _ first items freed_items put_items c.args.f c.moves.f w.f-given.new.self c.moves.at c.moves.to
+            CompactAt-moved_slot g.X.EntrySlot.entry g.P.Ptr.numbers (MoveTurn g.P.Ptr.numbers (goal.F-step g)) (option_map g.P.Gen.PtrGen.number c.args.generation) first items freed_items put_items c.args.f c.moves.f w.f-given.new.self c.moves.at c.moves.to
                 (g.P.Gen.PtrGen.number w.unwrap_or-new_generation.result) c.vacant.result w.holding.result c.replace.result
                 _
                 (record { from = w.pointer.result; old = _; to = w.pointer-in-Some.result; new = w.f-given.result })
@@ -81,19 +83,19 @@ moves-preserved g c =
         room,
         limit,
         size,
-        CompactAt-free_slot g.X.EntrySlot.entry _ _ _ first items freed_items c.args.f c.moves.f c.moves.at c.moves.to c.vacant.result c.replace.result c.moves.invariant.4 inside found
+        CompactAt-free_slot g.X.EntrySlot.entry g.P.Ptr.numbers (MoveTurn g.P.Ptr.numbers (goal.F-step g)) (option_map g.P.Gen.PtrGen.number c.args.generation) first items freed_items c.args.f c.moves.f c.moves.at c.moves.to c.vacant.result c.replace.result c.moves.invariant.4 inside found
             (none_unpacked g.P.Gen.PtrGen.number _ _ c.unpack.ensures w.in_default.is) c.vacant.ensures freed,
       )
     ]
 
 pub cut-requires-after_bounds : goal.cut-requires-after_bounds
 cut-requires-after_bounds g c κs within =
-    let done = CompactAt-done _ _ _ c.args.f (map g.X.EntrySlot.entry (g.S.NonZeroInxGenericStack.items c.args.stack.now)) (map g.X.EntrySlot.entry (g.S.NonZeroInxGenericStack.items c.moves.stack)) c.moves.f c.moves.at c.moves.to c.moves.invariant.4 (omega (arith, c.len-at-end.ensures, c.moves-test.false, length-map (g.S.NonZeroInxGenericStack.items c.args.stack.now) g.X.EntrySlot.entry)) in
+    let done = CompactAt-done g.P.Ptr.numbers (MoveTurn g.P.Ptr.numbers (goal.F-step g)) (option_map g.P.Gen.PtrGen.number c.args.generation) c.args.f (map g.X.EntrySlot.entry (g.S.NonZeroInxGenericStack.items c.args.stack.now)) (map g.X.EntrySlot.entry (g.S.NonZeroInxGenericStack.items c.moves.stack)) c.moves.f c.moves.at c.moves.to c.moves.invariant.4 (omega (arith, c.len-at-end.ensures, c.moves-test.false, length-map (g.S.NonZeroInxGenericStack.items c.args.stack.now) g.X.EntrySlot.entry)) in
     (_, done.spare, done.size, done.shape)
 
 pub returns-clause-moved : goal.returns-clause-moved
 returns-clause-moved g c =
-    let done = CompactAt-done _ _ _ c.args.f (map g.X.EntrySlot.entry (g.S.NonZeroInxGenericStack.items c.args.stack.now)) (map g.X.EntrySlot.entry (g.S.NonZeroInxGenericStack.items c.moves.stack)) c.moves.f c.moves.at c.moves.to c.moves.invariant.4 (omega (arith, c.len-at-end.ensures, c.moves-test.false, length-map (g.S.NonZeroInxGenericStack.items c.args.stack.now) g.X.EntrySlot.entry)) in (
+    let done = CompactAt-done g.P.Ptr.numbers (MoveTurn g.P.Ptr.numbers (goal.F-step g)) (option_map g.P.Gen.PtrGen.number c.args.generation) c.args.f (map g.X.EntrySlot.entry (g.S.NonZeroInxGenericStack.items c.args.stack.now)) (map g.X.EntrySlot.entry (g.S.NonZeroInxGenericStack.items c.moves.stack)) c.moves.f c.moves.at c.moves.to c.moves.invariant.4 (omega (arith, c.len-at-end.ensures, c.moves-test.false, length-map (g.S.NonZeroInxGenericStack.items c.args.stack.now) g.X.EntrySlot.entry)) in (
       map (λ m. m.new) done.moves,
       record { moves = done.moves; last = c.moves.f; ran = done.ran; came = done.came; went = done.went; gave = refl },
       c.cut.ensures.slots _ done.spare done.size done.shape ∙ done.stands,

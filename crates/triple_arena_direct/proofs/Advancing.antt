@@ -1,14 +1,14 @@
 -- Steps of an advancer, by what the slots have from its place on.
-use Rattle.std.proofs.Common.{Equal, Greater, ◌≡◌, ℕ, zero, suc, ◌+◌, ◌-◌, ◌^◌, ◌<◌, ◌≤◌, nat_le, nat_lt, ◌&&◌, ◌==◌, Bool, true, false, IsTrue, IsSome, List, Option, Some, None, MatchOption, length, cond, max, min, refl, sym, ap, subst, ◌∙◌, inl, inr, arith, true≢false}
+use Rattle.std.proofs.Common.{Equal, Greater, ◌≡◌, ℕ, suc, ◌+◌, ◌-◌, ◌<◌, ◌≤◌, nat_le, ◌&&◌, ◌==◌, Bool, true, false, IsTrue, IsSome, List, Option, Some, None, MatchOption, length, cond, max, min, refl, sym, ap, subst, ◌∙◌, inl, inr, arith, true≢false}
 use Rattle.std.proofs.lemmas.Bool.{le-leb}
 use Rattle.std.proofs.lemmas.Bool.Decides.{leb_tells}
 use Rattle.std.specs.Int.NonZero.{non_zero_usize_get}
 use Rattle.std.specs.Ordering.{is_lt, nat_cmp, ord_max}
 use Rattle.std.specs.declared.num.NonZeroUsize.{NonZeroUsize}
 use Rattle.triple_arena_ptr.specs.Pointers.{Pointer}
-use Rattle.triple_arena.specs.Entries.{entry_in, look_up_in}
+use Rattle.triple_arena.specs.Entries.{entry_in}
 use Rattle.triple_arena.specs.ItemLaws.{eq_true}
-use Rattle.triple_arena.specs.Walks.{Stand, place_of, is_ahead, is_before, moved, Steps}
+use Rattle.triple_arena.specs.Walks.{Stand, place_of, is_ahead, is_before, Steps}
 
 tells : (a b : ℕ) → nat_le a b ≡ true → a ≤ b
 tells a b h =

@@ -1,6 +1,6 @@
 -- What calls answer that find nothing or are refused, and what is found after a removal.
 use Rattle.std.specs.Prelude.{IsErrAnd}
-use Rattle.std.proofs.Common.{◌≡◌, ◌≢◌, ℕ, ◌<◌, ◌≤◌, ◌↔◌, List, length, Option, Some, None, is_some, IsSome, option_copied, Result, Ok, Err, IfOk, OnOk, OnErr, cond, refl, sym, ap, subst, ◌∙◌, inl, inr, arith}
+use Rattle.std.proofs.Common.{◌≡◌, ◌≢◌, ℕ, ◌<◌, ◌≤◌, ◌↔◌, List, length, Option, Some, None, IsSome, Result, Ok, Err, IfOk, OnOk, OnErr, cond, sym, ap, subst, ◌∙◌, inl, inr, arith}
 use Rattle.std.proofs.lemmas.Bool.{cases_eq}
 use Rattle.std.specs.Option.{option_and_then}
 use Rattle.triple_arena_base.specs.declared.errors.CloneFromError.{CloneFromError}

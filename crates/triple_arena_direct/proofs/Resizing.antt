@@ -1,5 +1,5 @@
 -- A direct arena whose stack was asked for other room, or for another limit.
-use Rattle.std.proofs.Common.{◌≡◌, ℕ, ◌≤◌, List, map, length, Option, Some, min, Result, Ok, Err, IsOk, OnOk, OnErr, None, refl, sym, ap, subst, ◌∙◌, arith}
+use Rattle.std.proofs.Common.{◌≡◌, ℕ, ◌≤◌, List, map, length, Option, Some, Result, Ok, Err, IsOk, OnOk, OnErr, None, refl, sym, ap, subst, ◌∙◌, arith}
 use Rattle.std.proofs.lemmas.List.{length-map}
 use Rattle.triple_arena_stack.specs.StackKind.{StackKind, reallocated_room, IsOfKind}
 use Rattle.triple_arena_stack.specs.Capacity.{capacity_of, IsWithin}

@@ -1,4 +1,4 @@
-use Rattle.std.proofs.Common.{◌≡◌, ◌∙◌, map, Some, is_some, sym, ap}
+use Rattle.std.proofs.Common.{◌∙◌, map, Some, is_some, sym, ap}
 use Rattle.std.specs.Int.NonZero.{non_zero_usize_get}
 use Rattle.triple_arena.specs.Items.{item, with_item}
 use Rattle.triple_arena.specs.Entries.{entry_in}

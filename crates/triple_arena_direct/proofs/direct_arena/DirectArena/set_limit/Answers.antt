@@ -1,4 +1,4 @@
-use Rattle.std.proofs.Common.{◌∙◌, ◌≤◌, sym, ap, subst}
+use Rattle.std.proofs.Common.{◌≤◌, sym, ap, subst}
 use Rattle.triple_arena_direct.proofs.Resizing.{on_err, relimited, size_is}
 use Rattle.triple_arena_direct.proofs.direct_arena.DirectArena.set_limit.Goals as goal
 

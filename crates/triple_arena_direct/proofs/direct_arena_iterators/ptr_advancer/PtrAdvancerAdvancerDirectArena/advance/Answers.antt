@@ -1,4 +1,4 @@
-use Rattle.std.proofs.Common.{◌≡◌, ◌∙◌, ◌+◌, ◌-◌, ◌^◌, length, ◌≤◌, cond, max, min, Some, None, sym, ap, subst, refl, arith}
+use Rattle.std.proofs.Common.{◌≡◌, ◌∙◌, ◌+◌, ◌-◌, ◌^◌, length, ◌≤◌, max, min, Some, None, sym, ap, subst, refl, arith}
 use Rattle.std.specs.Int.NonZero.{non_zero_usize_get}
 use Rattle.triple_arena_ptr.specs.Numbers.{greatest_index}
 use Rattle.triple_arena.specs.Layout.{number_or_zero}

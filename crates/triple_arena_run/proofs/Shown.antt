@@ -84,10 +84,6 @@ renewed_some {A} {B} {C} f q b o r got some is over none = by_value b o some (sy
     by_value true (Some y) some e = none_some e
     by_value false (Some y) some e = none_some e
 
-pub none_of : {A : Type 0} (o : Option A) → is_some o ≡ false → o ≡ None
-none_of None e = refl
-none_of (Some x) e = absurd (true≢false e)
-
 pub mapped_some : {A B : Type 0} (f : A → B) (o : Option A) → is_some o ≡ true → is_some (option_map f o) ≡ true
 mapped_some f None e = e
 mapped_some f (Some x) e = refl

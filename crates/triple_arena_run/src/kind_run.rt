@@ -2,8 +2,7 @@
 
 ghost use Rattle.std.specs.Prelude.{◌≡◌, IsErr, IsNone};
 ghost use Rattle.std.specs.Io.Buffered.{writer_contents};
-ghost use Rattle.triple_arena_stack.specs.StackKind.{new_room, new_limit, made_room, made_limit};
-ghost use Rattle.triple_arena_run.specs.KindRun.{RunsKind, RunsOver, first_session};
+ghost use Rattle.triple_arena_run.specs.KindRun.{RunsKind};
 ghost use Rattle.triple_arena_run.specs.Program.{asked_kind};
 ghost use Rattle.triple_arena_run.specs.ProgramRun.{RunsProgram};
 ghost use Rattle.triple_arena_run.specs.StoreText.{IsStoreText, first_store, AnswersProgram};
@@ -18,12 +17,19 @@ use std::io::{BufWriter, Read, Write};
 use triple_arena::ArenaSlot;
 use triple_arena_ptr::P0;
 use triple_arena_stack::{
-    NonZeroInxArray, NonZeroInxBoxedSlice, NonZeroInxGenericStack, NonZeroInxLimitedVec,
-    NonZeroInxVec,
+    NonZeroInxArray, NonZeroInxBoxedSlice, NonZeroInxLimitedVec, NonZeroInxVec,
 };
 
 /// A slot of the program's arenas.
 type Slot = ArenaSlot<P0, Node<u64, P0>>;
+
+type HeapSession = Session<P0, u64, NonZeroInxVec<Slot>>;
+
+type LimitedSession = Session<P0, u64, NonZeroInxLimitedVec<Slot>>;
+
+type FixedSession = Session<P0, u64, NonZeroInxBoxedSlice<Slot>>;
+
+type ArraySession = Session<P0, u64, NonZeroInxArray<Slot, 8>>;
 
 /// How many bytes of replies are gathered before they go out.
 const OUTPUT_BUFFER: usize = 65536;
@@ -107,42 +113,15 @@ fn run_over<R: Read, W: Write + Drop>(
         (writer_contents W.contents output) (W.contents result.1) }
 {
     match kind {
-        Kind::Heap => run_new::<NonZeroInxVec<Slot>, R, W>(alloc, input, output),
-        Kind::Limited(most) => run_made::<NonZeroInxLimitedVec<Slot>, R, W>(
-            alloc, most, input, output,
-        ),
-        Kind::Fixed(slots) => run_made::<NonZeroInxBoxedSlice<Slot>, R, W>(
-            alloc, slots, input, output,
-        ),
-        Kind::Array => run_new::<NonZeroInxArray<Slot, 8>, R, W>(alloc, input, output),
-    }
-}
-
-// Runs a text in a new session over a stack.
-fn run_new<S: NonZeroInxGenericStack<Slot> + Drop, R: Read, W: Write + Drop>(
-    alloc: Global,
-    input: &mut R,
-    output: BufWriter<W>,
-) -> (Result<(), TextError>, W)
-    ensures { RunsOver S.kind S.has_memory (first_session (new_room S.kind) (new_limit S.kind))
-        (R.remaining input.old) result.0 (writer_contents W.contents output) (W.contents result.1) }
-{
-    run_text_and_flush(&mut Session::<P0, u64, S>::new(alloc), alloc, input, output)
-}
-
-// Runs a text in a new session over a stack with room for so many.
-fn run_made<S: NonZeroInxGenericStack<Slot> + Drop, R: Read, W: Write + Drop>(
-    alloc: Global,
-    count: usize,
-    input: &mut R,
-    output: BufWriter<W>,
-) -> (Result<(), TextError>, W)
-    ensures { RunsOver S.kind S.has_memory
-        (first_session (made_room S.kind count) (made_limit S.kind count))
-        (R.remaining input.old) result.0 (writer_contents W.contents output) (W.contents result.1) }
-{
-    match Session::<P0, u64, S>::with_min_capacity(alloc, count) {
-        Ok(mut session) => run_text_and_flush(&mut session, alloc, input, output),
-        Err(_) => flush_after(Err(TextError::NoMemory), output),
+        Kind::Heap => run_text_and_flush(&mut HeapSession::new(alloc), alloc, input, output),
+        Kind::Limited(most) => match LimitedSession::with_min_capacity(alloc, most) {
+            Ok(mut session) => run_text_and_flush(&mut session, alloc, input, output),
+            Err(_) => flush_after(Err(TextError::NoMemory), output),
+        },
+        Kind::Fixed(slots) => match FixedSession::with_min_capacity(alloc, slots) {
+            Ok(mut session) => run_text_and_flush(&mut session, alloc, input, output),
+            Err(_) => flush_after(Err(TextError::NoMemory), output),
+        },
+        Kind::Array => run_text_and_flush(&mut ArraySession::new(alloc), alloc, input, output),
     }
 }

@@ -337,9 +337,9 @@ impl<P: Ptr, X: Copy, S: NonZeroInxGenericStack<ArenaSlot<P, Node<X, P>>>> Sessi
         let Some(p) = self.pointer(name) else {
             return Reply::Invalid;
         };
-        if !self.arena.contains(p) {
+        let Some(_) = self.arena.get(p) else {
             return Reply::Invalid;
-        }
+        };
         match self.table.make_room() {
             Ok(()) => {}
             Err(_) => return Reply::NoMemory,

@@ -1,6 +1,6 @@
 //! Calls of an arena as values, so that a test is a table of calls and their answers.
 
-use crate::numbered::{Numbered, named_index};
+use crate::numbered::{Numbered, named_index, pointer};
 use triple_arena_ptr::Ptr;
 
 /// A call. A pointer is given by the numbers of its index and its generation, a new value by its
@@ -89,7 +89,11 @@ pub enum Call {
 /// What a call needs of an arena.
 #[derive(Clone, Copy)]
 pub enum Kind {
-    /// Any arena has it.
+    /// It asks for a part of the whole state, which is shown by any arena.
+    OfState,
+    /// It reads any arena.
+    Reading,
+    /// It changes any arena.
     OfAny,
     /// Arenas that insert by themselves have it.
     Insertion,
@@ -97,7 +101,7 @@ pub enum Kind {
     Walk,
     /// Arenas that lend two values have it.
     OfTwo,
-    // of an `Arena`: on its slots and its counter, on its entries, to write to each value
+    // of an `Arena`: on its slots and its counter, by its entries, to write to each value
     Own,
     Entry,
     Writing,
@@ -106,24 +110,19 @@ pub enum Kind {
 }
 
 // Whether there is a pointer of these numbers.
-fn has_pointer<P: Ptr>(index: usize, number: u64) -> bool
+fn has_pointer<P: Ptr>(place: (usize, u64)) -> bool
 where
     P::Gen: Numbered,
 {
-    has_index::<P>(index) && P::Gen::of_number(number).is_some()
+    named_index::<P::Inx>(place.0).is_some() && P::Gen::of_number(place.1).is_some()
 }
 
-// Whether there is an index of this number.
-fn has_index<P: Ptr>(index: usize) -> bool {
-    named_index::<P::Inx>(index).is_some()
-}
+// The first pointer, which each type has: it stands in place of one that a call does not name.
+const ANY: (usize, u64) = (1, 1);
 
 impl Call {
-    /// Whether the pointers and indexes of the call are there in this type of pointers.
-    pub fn has_names<P: Ptr>(self) -> bool
-    where
-        P::Gen: Numbered,
-    {
+    // The numbers of the first pointer or index of the call.
+    fn first_place(self) -> (usize, u64) {
         match self {
             Call::Get(index, number)
             | Call::Contains(index, number)
@@ -137,7 +136,8 @@ impl Call {
             | Call::DirectInsertReserved(index, number, _)
             | Call::DirectInsertAndWrite(index, number, _, _)
             | Call::DirectAsk(index, number)
-            | Call::CanDirectInsert(index, number) => has_pointer::<P>(index, number),
+            | Call::CanDirectInsert(index, number) => (index, number),
+            Call::Swap(place, _) | Call::Lend(place, _, _) => place,
             Call::GetInx(index)
             | Call::GenerationAt(index)
             | Call::GetInxMut(index)
@@ -146,20 +146,78 @@ impl Call {
             | Call::StepsFrom(index, _)
             | Call::SlotAt(index)
             | Call::GetInxUnwrap(index)
-            | Call::WriteInxUnwrap(index, _) => has_index::<P>(index),
-            Call::Swap((i, g), (j, h)) | Call::Lend((i, g), (j, h), _) => {
-                has_pointer::<P>(i, g) && has_pointer::<P>(j, h)
-            }
-            Call::SwapInx(i, j) | Call::LendInx(i, j, _) => {
-                has_index::<P>(i) && has_index::<P>(j)
-            }
-            Call::SetGeneration(number) => P::Gen::of_number(number).is_some(),
-            _ => true,
+            | Call::WriteInxUnwrap(index, _)
+            | Call::SwapInx(index, _)
+            | Call::LendInx(index, _, _) => (index, 1),
+            Call::SetGeneration(number) => (1, number),
+            _ => ANY,
         }
     }
+
+    // The numbers of the second.
+    fn second_place(self) -> (usize, u64) {
+        match self {
+            Call::Swap(_, place) | Call::Lend(_, place, _) => place,
+            Call::SwapInx(_, index) | Call::LendInx(_, index, _) => (index, 1),
+            _ => ANY,
+        }
+    }
+
+    /// Whether the pointers and indexes of the call are there in this type of pointers.
+    pub fn has_names<P: Ptr>(self) -> bool
+    where
+        P::Gen: Numbered,
+    {
+        has_pointer::<P>(self.first_place()) && has_pointer::<P>(self.second_place())
+    }
+
+    /// The first pointer of the call, or one of its first index.
+    pub fn first<P: Ptr>(self) -> P
+    where
+        P::Gen: Numbered,
+    {
+        let (index, number) = self.first_place();
+        pointer(index, number)
+    }
+
+    /// The second.
+    pub fn second<P: Ptr>(self) -> P
+    where
+        P::Gen: Numbered,
+    {
+        let (index, number) = self.second_place();
+        pointer(index, number)
+    }
+
+    /// The number that the call inserts or writes, if it has one.
+    pub fn number(self) -> Option<u64> {
+        match self {
+            Call::Write(_, _, number)
+            | Call::WriteInx(_, number)
+            | Call::EntryInsert(number)
+            | Call::EntryInsertReallocating(number)
+            | Call::EntryInsertWithin(number) => Some(number),
+            _ => None,
+        }
+    }
+
     /// What the call needs of an arena.
     pub fn kind(self) -> Kind {
         match self {
+            Call::Bounds
+            | Call::Generation
+            | Call::Slots
+            | Call::Root
+            | Call::FirstFree
+            | Call::SlotAt(_) => Kind::OfState,
+            Call::IsEmpty
+            | Call::SingularGeneration
+            | Call::Get(_, _)
+            | Call::GetInx(_)
+            | Call::Contains(_, _)
+            | Call::GenerationAt(_)
+            | Call::First
+            | Call::Last => Kind::Reading,
             Call::NextPtr
             | Call::Insert(_)
             | Call::InsertReallocating(_)
@@ -177,15 +235,10 @@ impl Call {
             | Call::CompressTelling(_) => Kind::Walk,
             Call::Swap(_, _) | Call::SwapInx(_, _) | Call::Lend(_, _, _) | Call::LendInx(_, _, _) =>
                 { Kind::OfTwo }
-            Call::Generation
-            | Call::SetGeneration(_)
+            Call::SetGeneration(_)
             | Call::IncGeneration
             | Call::Canonicalize
             | Call::RemoveFreeEnd
-            | Call::Root
-            | Call::Slots
-            | Call::FirstFree
-            | Call::SlotAt(_)
             | Call::GetInxUnwrap(_)
             | Call::WriteInxUnwrap(_, _)
             | Call::Index(_, _)

@@ -5,46 +5,21 @@ ghost use Rattle.triple_arena.specs.ArenaState.{arena_len, capacity};
 ghost use Rattle.triple_arena.specs.InsertEntry.{entry_arena};
 ghost use Rattle.triple_arena.specs.Insertion.{inserted};
 
-use crate::numbered::{Numbered, index_number};
+use crate::numbered::Numbered;
 use crate::token::Token;
 use crate::told::{Told, told_pointer};
-use std::num::NonZeroUsize;
 use triple_arena::{Arena, ArenaInsertEntry, ArenaInsertEntryTrait, ArenaSlot};
 use triple_arena_base::{MaxCapacityReductionError, NotWithinCapacityError};
 use triple_arena_ptr::Ptr;
 use triple_arena_stack::{NonZeroInxGenericStack, SetMaxCapacity};
 
-pub fn root<P: Ptr, T, S: NonZeroInxGenericStack<ArenaSlot<P, T>>>(arena: &Arena<P, T, S>) -> Told {
-    match arena.freelist_root() {
-        Some(inx) => Told::Size(index_number(inx)),
-        None => Told::Nothing,
-    }
-}
-
-/// The generation of the counter.
-pub fn counter<P: Ptr, T, S: NonZeroInxGenericStack<ArenaSlot<P, T>>>(
-    arena: &Arena<P, T, S>,
-) -> Told
-where
-    P::Gen: Numbered,
-{
-    Told::Generation(arena.generation().told_number())
-}
-
+/// Sets the counter to the generation of a pointer.
 pub fn set_generation<P: Ptr, T, S: NonZeroInxGenericStack<ArenaSlot<P, T>>>(
     arena: &mut Arena<P, T, S>,
-    number: u64,
-) -> Told
-where
-    P::Gen: Numbered,
-{
-    match P::Gen::of_number(number) {
-        Some(generation) => {
-            arena.set_generation(generation);
-            Told::Done
-        }
-        None => Told::NoSuchCall,
-    }
+    p: P,
+) -> Told {
+    arena.set_generation(p.generation());
+    Told::Done
 }
 
 pub fn canonicalize<P: Ptr, T, S: NonZeroInxGenericStack<ArenaSlot<P, T>>>(
@@ -61,65 +36,6 @@ pub fn remove_free_end<P: Ptr, T, S: NonZeroInxGenericStack<ArenaSlot<P, T>>>(
     Told::Done
 }
 
-/// What stands in the slot of this index.
-pub fn slot_at<P: Ptr, S: NonZeroInxGenericStack<ArenaSlot<P, Token>>>(
-    arena: &Arena<P, Token, S>,
-    index: usize,
-) -> Told
-where
-    P::Gen: Numbered,
-{
-    let Some(inx) = NonZeroUsize::new(index) else {
-        return Told::NoSuchCall;
-    };
-    match arena.backing().get(inx) {
-        Some(ArenaSlot::Allocated(generation, token)) => {
-            Told::Held(generation.told_number(), token.number)
-        }
-        Some(ArenaSlot::Free(_)) => Told::Nothing,
-        None => Told::Invalid,
-    }
-}
-
-/// The pointer of an entry that is let go.
-pub fn entry_ptr<P: Ptr, T, S: NonZeroInxGenericStack<ArenaSlot<P, T>>>(
-    arena: &mut Arena<P, T, S>,
-) -> Told
-where
-    P::Gen: Numbered,
-{
-    match arena.entry_insert() {
-        Ok(entry) => told_pointer(entry.ptr()),
-        Err(refused) => Told::Refused(refused),
-    }
-}
-
-/// The same by `entry_insert_reallocating`.
-pub fn entry_ptr_reallocating<P: Ptr, T, S: NonZeroInxGenericStack<ArenaSlot<P, T>>>(
-    arena: &mut Arena<P, T, S>,
-) -> Told
-where
-    P::Gen: Numbered,
-{
-    match arena.entry_insert_reallocating() {
-        Ok(entry) => told_pointer(entry.ptr()),
-        Err(refused) => Told::Refused(refused),
-    }
-}
-
-/// The same by `entry_insert_within_capacity`.
-pub fn entry_ptr_within<P: Ptr, T, S: NonZeroInxGenericStack<ArenaSlot<P, T>>>(
-    arena: &mut Arena<P, T, S>,
-) -> Told
-where
-    P::Gen: Numbered,
-{
-    match arena.entry_insert_within_capacity() {
-        Ok(entry) => told_pointer(entry.ptr()),
-        Err(NotWithinCapacityError) => Told::Full,
-    }
-}
-
 // Inserts by an entry that must have its place, through the trait of entries alone: the pointer
 // that it told, and the number that then stands there.
 fn inserted_number<'a, P: Ptr, E: ArenaInsertEntryTrait<'a, P, Token>>(
@@ -132,16 +48,19 @@ fn inserted_number<'a, P: Ptr, E: ArenaInsertEntryTrait<'a, P, Token>>(
     (p, entry.insert(Token { number }).number)
 }
 
-// Inserts by an entry of an arena: the pointer that it told, where the number that then stands
-// there is the one that was inserted.
+// The pointer that an entry of an arena tells, by which a number is inserted, if there is one, where
+// the number that then stands there is that one.
 fn told_by<P: Ptr, S: NonZeroInxGenericStack<ArenaSlot<P, Token>>>(
     entry: ArenaInsertEntry<'_, P, Token, S>,
-    number: u64,
+    number: Option<u64>,
 ) -> Told
 where
     P::Gen: Numbered,
     requires { arena_len (entry_arena entry) < capacity (entry_arena entry) }
 {
+    let Some(number) = number else {
+        return told_pointer(entry.ptr());
+    };
     let (p, there) = inserted_number(entry, number);
     if there == number {
         told_pointer(p)
@@ -150,10 +69,10 @@ where
     }
 }
 
-/// The pointer of a value that is inserted by an entry.
-pub fn entry_insert<P: Ptr, S: NonZeroInxGenericStack<ArenaSlot<P, Token>>>(
+/// The pointer of an entry, by which a value is inserted, if there is one, and which else is let go.
+pub fn entry<P: Ptr, S: NonZeroInxGenericStack<ArenaSlot<P, Token>>>(
     arena: &mut Arena<P, Token, S>,
-    number: u64,
+    number: Option<u64>,
 ) -> Told
 where
     P::Gen: Numbered,
@@ -165,9 +84,9 @@ where
 }
 
 /// The same by `entry_insert_reallocating`.
-pub fn entry_insert_reallocating<P: Ptr, S: NonZeroInxGenericStack<ArenaSlot<P, Token>>>(
+pub fn entry_reallocating<P: Ptr, S: NonZeroInxGenericStack<ArenaSlot<P, Token>>>(
     arena: &mut Arena<P, Token, S>,
-    number: u64,
+    number: Option<u64>,
 ) -> Told
 where
     P::Gen: Numbered,
@@ -179,9 +98,9 @@ where
 }
 
 /// The same by `entry_insert_within_capacity`.
-pub fn entry_insert_within<P: Ptr, S: NonZeroInxGenericStack<ArenaSlot<P, Token>>>(
+pub fn entry_within<P: Ptr, S: NonZeroInxGenericStack<ArenaSlot<P, Token>>>(
     arena: &mut Arena<P, Token, S>,
-    number: u64,
+    number: Option<u64>,
 ) -> Told
 where
     P::Gen: Numbered,

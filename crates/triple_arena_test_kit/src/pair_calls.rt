@@ -61,13 +61,13 @@ pub fn swap<P: Ptr, A: DisjointableArenaTrait<P, Token>>(
     }
 }
 
-/// Exchanges the values at two indexes.
+/// Exchanges the values at the indexes of two pointers.
 pub fn swap_inx<P: Ptr, A: DisjointableArenaTrait<P, Token>>(
     arena: &mut A,
-    first: P::Inx,
-    second: P::Inx,
+    first: P,
+    second: P,
 ) -> Told {
-    match exchange_two_inx(arena, first, second) {
+    match exchange_two_inx(arena, first.inx(), second.inx()) {
         Ok(()) => Told::Done,
         Err(refused) => Told::Apart(refused),
     }
@@ -91,17 +91,18 @@ pub fn lend<P: Ptr, A: DisjointableArenaTrait<P, Token>>(
     }
 }
 
-/// Writes a value at the second of two indexes, and answers the entries that stood at both.
+/// Writes a value at the index of the second of two pointers, and answers the entries that stood at
+/// both.
 pub fn lend_inx<P: Ptr, A: DisjointableArenaTrait<P, Token>>(
     arena: &mut A,
-    first: P::Inx,
-    second: P::Inx,
+    first: P,
+    second: P,
     number: u64,
 ) -> Told
 where
     P::Gen: Numbered,
 {
-    let found = arena.with_disjoint_inx_mut(first, second, |g, a, h, b| {
+    let found = arena.with_disjoint_inx_mut(first.inx(), second.inx(), |g, a, h, b| {
         let found = (g, a.number, h, b.number);
         *b = Token { number };
         found

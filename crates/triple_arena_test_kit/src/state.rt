@@ -1,7 +1,9 @@
 //! All that an arena shows of itself, to compare before and after a call.
 
-use crate::numbered::{Numbered, index_number};
+use crate::call::Call;
+use crate::numbered::Numbered;
 use crate::token::Token;
+use crate::told::Told;
 use std::num::NonZeroUsize;
 use triple_arena::{Arena, ArenaSlot, ArenaTrait};
 use triple_arena_ptr::{Ptr, PtrInx};
@@ -96,10 +98,31 @@ fn free_in<P: Ptr>(slots: &[ArenaSlot<P, Token>], first: Option<NonZeroUsize>) -
     free
 }
 
+// What stands in the slot of this index.
+fn told_slot(state: &State, index: usize) -> Told {
+    if index > state.slots {
+        return Told::Invalid;
+    }
+    match state.entries.get(index.wrapping_sub(1)) {
+        Some(Some((generation, number))) => Told::Held(*generation, *number),
+        Some(None) => Told::Nothing,
+        None => Told::Invalid,
+    }
+}
+
 impl State {
-    /// The first three places of the free list.
-    pub fn first_free(&self) -> [usize; 3] {
-        [self.free[0], self.free[1], self.free[2]]
+    /// What a call answers that asks for a part of the state.
+    pub fn told(&self, call: Call) -> Told {
+        match call {
+            Call::Bounds => Told::Bounds(self.len, self.capacity, self.limit),
+            Call::Generation => Told::Generation(self.counter),
+            Call::Slots => Told::Size(self.slots),
+            Call::Root if self.free[0] == 0 => Told::Nothing,
+            Call::Root => Told::Size(self.free[0]),
+            Call::FirstFree => Told::Free([self.free[0], self.free[1], self.free[2]]),
+            Call::SlotAt(index) => told_slot(self, index),
+            _ => Told::NoSuchCall,
+        }
     }
 
     /// The same without free slots past the last entry, and with the other free indexes in rising

@@ -5,14 +5,13 @@ use crate::state::State;
 use crate::tested_arena::TestedArena;
 use crate::told::Told;
 use std::alloc;
-use std::alloc::Global;
 use triple_arena_base::AllocError;
 
 /// The first thing that a test found to be wrong, at this row of its table, counted from 0.
 #[derive(Clone, Copy, Debug)]
 pub enum Wrong {
-    /// A call told the first, where the second was expected.
-    Answer(usize, Told, Told),
+    /// A call told another answer than was expected.
+    Answer(usize),
     /// After a call the arena was in another state than was expected.
     State(usize),
     /// The text of an arena was another one than this.
@@ -46,7 +45,7 @@ pub fn is_told(row: usize, told: Told, expected: Told) -> Result<(), Wrong> {
     if told == expected {
         Ok(())
     } else {
-        Err(Wrong::Answer(row, told, expected))
+        Err(Wrong::Answer(row))
     }
 }
 
@@ -59,13 +58,9 @@ pub fn has_state<A: TestedArena>(arena: &A, row: usize, expected: &State) -> Res
     }
 }
 
-/// That an arena has this text.
-pub fn has_text<A: TestedArena>(
-    arena: &A,
-    alloc: Global,
-    expected: &'static str,
-) -> Result<(), Wrong> {
-    if arena.text(alloc)?.as_str() == expected {
+/// That the text of an arena is this one.
+pub fn is_text(text: &str, expected: &'static str) -> Result<(), Wrong> {
+    if text == expected {
         Ok(())
     } else {
         Err(Wrong::Text(expected))

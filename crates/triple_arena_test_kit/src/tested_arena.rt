@@ -1,12 +1,12 @@
 //! Arenas that tables of calls are tried on.
 
 use crate::call::{Call, Kind};
-use crate::numbered::{Numbered, inx, pointer};
+use crate::numbered::Numbered;
+use crate::seen::answer_to_read;
 use crate::state::{State, state_of};
 use crate::token::Token;
-use crate::told::{Told, told_found, told_generation, told_raise};
+use crate::told::{Told, told_inserted, told_pointer, told_raise, told_within};
 use crate::{index_calls, own_calls, pair_calls, trait_calls, walk_calls, writing_calls};
-use std::alloc::{AllocError, Global};
 use triple_arena::{
     Arena, ArenaInsertTrait, ArenaSlot, ArenaTrait, CompactArenaTrait, DisjointableArenaTrait,
 };
@@ -23,48 +23,25 @@ pub trait TestedArena {
 
     /// The whole state.
     fn state(&self) -> State;
-
-    /// The text that Debug writes.
-    fn text(&self, alloc: Global) -> Result<String, AllocError>;
 }
 
-/// What a call answers that reads any arena.
-pub fn answer_to_read<P: Ptr, A: ArenaTrait<P, Token>>(arena: &A, call: Call) -> Told
-where
-    P::Gen: Numbered,
-{
-    match call {
-        Call::IsEmpty => Told::Is(arena.is_empty()),
-        Call::Bounds => trait_calls::bounds(arena),
-        Call::SingularGeneration => told_generation(arena.singular_generation()),
-        Call::Get(index, number) => trait_calls::get(arena, pointer(index, number)),
-        Call::GetInx(index) => trait_calls::get_inx(arena, inx(index)),
-        Call::Contains(index, number) => Told::Is(arena.contains(pointer(index, number))),
-        Call::GenerationAt(index) => trait_calls::generation_at(arena, inx(index)),
-        Call::First => told_found(arena.find_first_inx_ptr()),
-        Call::Last => told_found(arena.find_last_inx_ptr()),
-        _ => Told::NoSuchCall,
-    }
-}
-
-/// What a call answers of any arena.
+/// What a call answers that changes any arena.
 pub fn answer_of_any<P: Ptr, A: ArenaTrait<P, Token>>(arena: &mut A, call: Call) -> Told
 where
     P::Gen: Numbered,
 {
+    let p: P = call.first();
     match call {
-        Call::GetMut(index, number) => trait_calls::get_mut(arena, pointer(index, number)),
-        Call::GetInxMut(index) => trait_calls::get_inx_mut(arena, inx(index)),
-        Call::Write(index, number, value) => {
-            trait_calls::write(arena, pointer(index, number), value)
+        Call::GetMut(_, _) | Call::Write(_, _, _) => trait_calls::write(arena, p, call.number()),
+        Call::GetInxMut(_) | Call::WriteInx(_, _) => {
+            trait_calls::write_inx(arena, p, call.number())
         }
-        Call::WriteInx(index, value) => trait_calls::write_inx(arena, inx(index), value),
-        Call::Invalidate(index, number) => trait_calls::invalidate(arena, pointer(index, number)),
-        Call::Remove(index, number) => trait_calls::remove(arena, pointer(index, number)),
-        Call::RemoveInx(index) => trait_calls::remove_inx(arena, inx(index)),
+        Call::Invalidate(_, _) => trait_calls::invalidate(arena, p),
+        Call::Remove(_, _) => trait_calls::remove(arena, p),
+        Call::RemoveInx(_) => trait_calls::remove_inx(arena, p),
         Call::Clear => trait_calls::clear(arena),
         Call::Reallocate(asked) => trait_calls::reallocate(arena, asked),
-        _ => answer_to_read(arena, call),
+        _ => Told::NoSuchCall,
     }
 }
 
@@ -73,12 +50,18 @@ pub fn answer_to_insert<P: Ptr, A: ArenaInsertTrait<P, Token>>(arena: &mut A, ca
 where
     P::Gen: Numbered,
 {
+    let is_full = arena.len() >= arena.capacity();
     match call {
-        Call::NextPtr => trait_calls::next_ptr(arena),
-        Call::Insert(number) => trait_calls::insert(arena, number),
-        Call::InsertReallocating(number) => trait_calls::insert_reallocating(arena, number),
-        Call::InsertWithinCapacity(number) => trait_calls::insert_within_capacity(arena, number),
-        Call::InsertReserved(number) => trait_calls::insert_reserved(arena, number),
+        Call::NextPtr | Call::InsertReserved(_) if is_full => Told::Full,
+        Call::NextPtr => told_pointer(arena.next_ptr()),
+        Call::InsertReserved(number) => told_pointer(arena.insert_reserved(Token { number })),
+        Call::Insert(number) => told_inserted(arena.insert(Token { number })),
+        Call::InsertReallocating(number) => {
+            told_inserted(arena.insert_reallocating(Token { number }))
+        }
+        Call::InsertWithinCapacity(number) => {
+            told_within(arena.insert_within_capacity(Token { number }))
+        }
         _ => Told::NoSuchCall,
     }
 }
@@ -92,9 +75,9 @@ where
         Call::Pointers => walk_calls::pointers(arena),
         Call::Values => walk_calls::values(arena),
         Call::Entries => walk_calls::entries(arena),
-        Call::StepsFromFirst => walk_calls::steps_from_first(arena),
-        Call::StepsFrom(index, reverse) => walk_calls::steps_from(arena, inx(index), reverse),
-        Call::NoSteps => walk_calls::no_steps(arena),
+        Call::StepsFromFirst | Call::StepsFrom(_, _) | Call::NoSteps => {
+            walk_calls::steps(arena, call)
+        }
         Call::AddToAll(number) => walk_calls::add_to_all(arena, number),
         Call::Drain(steps) => walk_calls::drain(arena, steps),
         Call::Compress(reset) => walk_calls::compress(arena, reset),
@@ -108,13 +91,13 @@ pub fn answer_of_two<P: Ptr, A: DisjointableArenaTrait<P, Token>>(arena: &mut A,
 where
     P::Gen: Numbered,
 {
+    let p: P = call.first();
+    let q: P = call.second();
     match call {
-        Call::Swap((i, g), (j, h)) => pair_calls::swap(arena, pointer(i, g), pointer(j, h)),
-        Call::SwapInx(i, j) => pair_calls::swap_inx(arena, inx(i), inx(j)),
-        Call::Lend((i, g), (j, h), number) => {
-            pair_calls::lend(arena, pointer(i, g), pointer(j, h), number)
-        }
-        Call::LendInx(i, j, number) => pair_calls::lend_inx(arena, inx(i), inx(j), number),
+        Call::Swap(_, _) => pair_calls::swap(arena, p, q),
+        Call::SwapInx(_, _) => pair_calls::swap_inx(arena, p, q),
+        Call::Lend(_, _, number) => pair_calls::lend(arena, p, q, number),
+        Call::LendInx(_, _, number) => pair_calls::lend_inx(arena, p, q, number),
         _ => Told::NoSuchCall,
     }
 }
@@ -127,24 +110,16 @@ fn own_answer<P: Ptr, S: NonZeroInxGenericStack<ArenaSlot<P, Token>>>(
 where
     P::Gen: Numbered,
 {
+    let p: P = call.first();
     match call {
-        Call::Generation => own_calls::counter(arena),
-        Call::SetGeneration(number) => own_calls::set_generation(arena, number),
+        Call::SetGeneration(_) => own_calls::set_generation(arena, p),
         Call::IncGeneration => told_raise(arena.inc_generation()),
         Call::Canonicalize => own_calls::canonicalize(arena),
         Call::RemoveFreeEnd => own_calls::remove_free_end(arena),
-        Call::Root => own_calls::root(arena),
-        Call::Slots => Told::Size(arena.backing().len()),
-        Call::FirstFree => Told::Free(arena.state().first_free()),
-        Call::SlotAt(index) => own_calls::slot_at(arena, index),
-        Call::GetInxUnwrap(index) => index_calls::get_inx_unwrap(arena, inx(index)),
-        Call::WriteInxUnwrap(index, value) => {
-            index_calls::write_inx_unwrap(arena, inx(index), value)
-        }
-        Call::Index(index, number) => index_calls::index(arena, pointer(index, number)),
-        Call::WriteIndex(index, number, value) => {
-            index_calls::write_index(arena, pointer(index, number), value)
-        }
+        Call::GetInxUnwrap(_) => index_calls::get_inx_unwrap(arena, p.inx()),
+        Call::WriteInxUnwrap(_, value) => index_calls::write_inx_unwrap(arena, p.inx(), value),
+        Call::Index(_, _) => index_calls::index(arena, p),
+        Call::WriteIndex(_, _, value) => index_calls::write_index(arena, p, value),
         _ => Told::NoSuchCall,
     }
 }
@@ -158,14 +133,13 @@ where
     P::Gen: Numbered,
 {
     match call {
-        Call::EntryPtr => own_calls::entry_ptr(arena),
-        Call::EntryPtrReallocating => own_calls::entry_ptr_reallocating(arena),
-        Call::EntryPtrWithin => own_calls::entry_ptr_within(arena),
-        Call::EntryInsert(number) => own_calls::entry_insert(arena, number),
-        Call::EntryInsertReallocating(number) => {
-            own_calls::entry_insert_reallocating(arena, number)
+        Call::EntryPtr | Call::EntryInsert(_) => own_calls::entry(arena, call.number()),
+        Call::EntryPtrReallocating | Call::EntryInsertReallocating(_) => {
+            own_calls::entry_reallocating(arena, call.number())
         }
-        Call::EntryInsertWithin(number) => own_calls::entry_insert_within(arena, number),
+        Call::EntryPtrWithin | Call::EntryInsertWithin(_) => {
+            own_calls::entry_within(arena, call.number())
+        }
         Call::EntryWrite(first, second) => own_calls::entry_write(arena, first, second),
         _ => Told::NoSuchCall,
     }
@@ -199,6 +173,7 @@ where
         Kind::Insertion => answer_to_insert(arena, call),
         Kind::Walk => answer_to_walk(arena, call),
         Kind::OfTwo => answer_of_two(arena, call),
+        Kind::Reading => answer_to_read(arena, call),
         _ => answer_of_any(arena, call),
     }
 }
@@ -215,21 +190,33 @@ where
     answer_by_traits(arena, call)
 }
 
+// What a call answers of an `Arena`.
+fn arena_answer<P: Ptr, S: NonZeroInxGenericStack<ArenaSlot<P, Token>>>(
+    arena: &mut Arena<P, Token, S>,
+    call: Call,
+) -> Told
+where
+    P::Gen: Numbered,
+{
+    if !call.has_names::<P>() {
+        return Told::NoSuchCall;
+    }
+    match call.kind() {
+        Kind::OfState => state_of(arena).told(call),
+        Kind::Own => own_answer(arena, call),
+        Kind::Entry => answer_of_entry(arena, call),
+        Kind::Writing => answer_to_write(arena, call),
+        Kind::Direct => Told::NoSuchCall,
+        _ => trait_answer(arena, call),
+    }
+}
+
 impl<P: Ptr, S: NonZeroInxGenericStack<ArenaSlot<P, Token>>> TestedArena for Arena<P, Token, S>
 where
     P::Gen: Numbered,
 {
     fn answer(&mut self, call: Call) -> Told {
-        if !call.has_names::<P>() {
-            return Told::NoSuchCall;
-        }
-        match call.kind() {
-            Kind::OfAny | Kind::Insertion | Kind::Walk | Kind::OfTwo => trait_answer(self, call),
-            Kind::Own => own_answer(self, call),
-            Kind::Entry => answer_of_entry(self, call),
-            Kind::Writing => answer_to_write(self, call),
-            Kind::Direct => Told::NoSuchCall,
-        }
+        arena_answer(self, call)
     }
 
     fn expected(told: Told) -> Told {
@@ -238,10 +225,6 @@ where
 
     fn state(&self) -> State {
         state_of(self)
-    }
-
-    fn text(&self, alloc: Global) -> Result<String, AllocError> {
-        format!(in alloc; "{self:?}")
     }
 }
 
@@ -258,7 +241,7 @@ where
     fn answer(&mut self, call: Call) -> Told {
         match call {
             Call::SetLimit(limit) => own_calls::set_limit(&mut self.arena, limit),
-            _ => self.arena.answer(call),
+            _ => arena_answer(&mut self.arena, call),
         }
     }
 
@@ -267,10 +250,6 @@ where
     }
 
     fn state(&self) -> State {
-        self.arena.state()
-    }
-
-    fn text(&self, alloc: Global) -> Result<String, AllocError> {
-        self.arena.text(alloc)
+        state_of(&self.arena)
     }
 }

@@ -8,12 +8,22 @@ use triple_arena_base::{
 };
 use triple_arena_ptr::Ptr;
 
-/// How many of the entries that a walk met are told, and of the free indexes.
-pub const MET: usize = 3;
+/// What stands for a pointer where a walk met none.
+pub const NO_POINTER: (usize, u64) = (0, 0);
+
+/// What stands for an entry where a walk met none.
+pub const NO_ENTRY: (usize, u64, u64) = (0, 0, 0);
+
+/// What stands for a value where a walk met none. No test inserts it.
+pub const NO_VALUE: u64 = u64::MAX;
+
+/// What stands for an entry where a drain took out none.
+pub const NOT_DRAINED: (usize, u64, u64, bool) = (0, 0, 0, false);
 
 /// What a call answers: a pointer by the numbers of its index and its generation, a value by its
 /// number.
-#[derive(Clone, Copy, Debug, PartialEq)]
+// No variant holds an array but of plain numbers: else each row of each table would be slow to prove.
+#[derive(Clone, Copy, PartialEq)]
 pub enum Told {
     /// It was done, and gives nothing.
     Done,
@@ -53,75 +63,41 @@ pub enum Told {
     /// Two values can't be lent.
     Apart(GetDisjointMutError),
     /// The first free indexes in the order in which insertion takes them, and then 0.
-    Free([usize; MET]),
+    Free([usize; 3]),
     /// The first entries that a walk met, each by its index, its generation and its value.
-    Met([Option<(usize, u64, u64)>; MET]),
+    Met((usize, u64, u64), (usize, u64, u64), (usize, u64, u64)),
     /// The first values that a walk met.
-    MetValues([Option<u64>; MET]),
+    MetValues(u64, u64, u64),
     /// The first pointers that a walk met.
-    MetPointers([Option<(usize, u64)>; MET]),
+    MetPointers((usize, u64), (usize, u64), (usize, u64)),
     /// The first entries that a drain took out, and of each whether the counter wrapped.
-    Drained([Option<(usize, u64, u64, bool)>; MET]),
+    Drained((usize, u64, u64, bool), (usize, u64, u64, bool), (usize, u64, u64, bool)),
     /// The arena has no such call, or its pointers have no such numbers.
     NoSuchCall,
 }
 
-// The number under which a type of generations tells the generation of this number.
+// The number under which a type of generations tells the generation of this number, and 0 where
+// there is none.
 fn told_as<G: Numbered>(number: u64) -> u64 {
     match G::of_number(number) {
-        Some(generation) => generation.told_number(),
-        None => number,
+        Some(generation) if number > 0 => generation.told_number(),
+        _ => number,
     }
 }
 
-// The same entry on pointers whose generations are of the type `G`.
-fn met_as<G: Numbered>(met: Option<(usize, u64, u64)>) -> Option<(usize, u64, u64)> {
-    let (index, g, number) = met?;
-    Some((index, told_as::<G>(g), number))
-}
-
-// The same entries on pointers whose generations are of the type `G`.
-fn all_met_as<G: Numbered>(
-    met: [Option<(usize, u64, u64)>; MET],
-) -> [Option<(usize, u64, u64)>; MET] {
-    let [first, second, third] = met;
-    [met_as::<G>(first), met_as::<G>(second), met_as::<G>(third)]
-}
-
 // The same pointer of the type whose generations are `G`.
-fn pointer_as<G: Numbered>(met: Option<(usize, u64)>) -> Option<(usize, u64)> {
-    let (index, g) = met?;
-    Some((index, told_as::<G>(g)))
+fn pointer_as<G: Numbered>(met: (usize, u64)) -> (usize, u64) {
+    (met.0, told_as::<G>(met.1))
 }
 
-// The same pointers of the type whose generations are `G`.
-fn all_pointers_as<G: Numbered>(met: [Option<(usize, u64)>; MET]) -> [Option<(usize, u64)>; MET] {
-    let [first, second, third] = met;
-    [
-        pointer_as::<G>(first),
-        pointer_as::<G>(second),
-        pointer_as::<G>(third),
-    ]
+// The same entry on pointers whose generations are of the type `G`.
+fn entry_as<G: Numbered>(met: (usize, u64, u64)) -> (usize, u64, u64) {
+    (met.0, told_as::<G>(met.1), met.2)
 }
 
 // The same entry of a drain.
-fn drained_as<G: Numbered>(
-    met: Option<(usize, u64, u64, bool)>,
-) -> Option<(usize, u64, u64, bool)> {
-    let (index, g, number, wrapped) = met?;
-    Some((index, told_as::<G>(g), number, wrapped))
-}
-
-// The same entries of a drain.
-fn all_drained_as<G: Numbered>(
-    met: [Option<(usize, u64, u64, bool)>; MET],
-) -> [Option<(usize, u64, u64, bool)>; MET] {
-    let [first, second, third] = met;
-    [
-        drained_as::<G>(first),
-        drained_as::<G>(second),
-        drained_as::<G>(third),
-    ]
+fn drained_as<G: Numbered>(met: (usize, u64, u64, bool)) -> (usize, u64, u64, bool) {
+    (met.0, told_as::<G>(met.1), met.2, met.3)
 }
 
 impl Told {
@@ -134,9 +110,13 @@ impl Told {
             Told::BothHeld(g, a, h, b) => Told::BothHeld(told_as::<G>(g), a, told_as::<G>(h), b),
             Told::WrappedAt(index, g) => Told::WrappedAt(index, told_as::<G>(g)),
             Told::WrappedHeld(g, number) => Told::WrappedHeld(told_as::<G>(g), number),
-            Told::Met(met) => Told::Met(all_met_as::<G>(met)),
-            Told::MetPointers(met) => Told::MetPointers(all_pointers_as::<G>(met)),
-            Told::Drained(met) => Told::Drained(all_drained_as::<G>(met)),
+            Told::Met(a, b, c) => Told::Met(entry_as::<G>(a), entry_as::<G>(b), entry_as::<G>(c)),
+            Told::MetPointers(p, q, r) => {
+                Told::MetPointers(pointer_as::<G>(p), pointer_as::<G>(q), pointer_as::<G>(r))
+            }
+            Told::Drained(a, b, c) => {
+                Told::Drained(drained_as::<G>(a), drained_as::<G>(b), drained_as::<G>(c))
+            }
             told => told,
         }
     }
@@ -233,4 +213,32 @@ pub fn told_generation<G: Numbered>(generation: Option<G>) -> Told {
         Some(generation) => Told::Generation(generation.told_number()),
         None => Told::Nothing,
     }
+}
+
+/// A value, if there is one.
+pub fn told_value(token: Option<&Token>) -> Told {
+    match token {
+        Some(token) => Told::Holds(token.number),
+        None => Told::Nothing,
+    }
+}
+
+/// A generation and a value, if there is an entry.
+pub fn told_held<G: Numbered>(entry: Option<(G, &Token)>) -> Told {
+    match entry {
+        Some((generation, token)) => Told::Held(generation.told_number(), token.number),
+        None => Told::Nothing,
+    }
+}
+
+/// A value that is lent, if there is one, over which this number is written, if there is one.
+pub fn told_written(value: Option<&mut Token>, number: Option<u64>) -> Told {
+    let Some(token) = value else {
+        return Told::Nothing;
+    };
+    let found = Told::Holds(token.number);
+    if let Some(number) = number {
+        token.number = number;
+    }
+    found
 }

@@ -11,7 +11,7 @@ use std::alloc::Global;
 use triple_arena::{Arena, ArenaSlot};
 use triple_arena_base::AllocError;
 use triple_arena_ptr::Ptr;
-use triple_arena_stack::NonZeroInxGenericStack;
+use triple_arena_stack::{NonZeroInxGenericStack, SetMaxCapacity};
 
 /// What is tried on an arena.
 pub trait Trial {
@@ -89,13 +89,38 @@ fn made<P: Ptr, S: NonZeroInxGenericStack<ArenaSlot<P, Token>>>(
     }
 }
 
+/// Tries it on an arena over the stack `S`, with this room or as `new` makes it.
+pub fn on_stack<P: Ptr, S: NonZeroInxGenericStack<ArenaSlot<P, Token>> + Drop, T: Trial>(
+    alloc: Global,
+    room: Option<usize>,
+    trial: &T,
+) -> Result<(), Wrong>
+where
+    P::Gen: Numbered,
+{
+    let mut arena: Arena<P, Token, S> = made(alloc, room)?;
+    trial.on(&mut arena)
+}
+
+/// The same over a stack whose limit can be set.
+pub fn on_stack_with_limit<P: Ptr, S: SetMaxCapacity<ArenaSlot<P, Token>> + Drop, T: Trial>(
+    alloc: Global,
+    room: Option<usize>,
+    trial: &T,
+) -> Result<(), Wrong>
+where
+    P::Gen: Numbered,
+{
+    let arena: Arena<P, Token, S> = made(alloc, room)?;
+    trial.on(&mut WithLimit { arena })
+}
+
 /// Tries it on an arena on the heap, with this room or as `new` makes it.
 pub fn on_heap<P: Ptr, T: Trial>(alloc: Global, room: Option<usize>, trial: &T) -> Result<(), Wrong>
 where
     P::Gen: Numbered,
 {
-    let mut arena: Arena<P, Token, Heap<P>> = made(alloc, room)?;
-    trial.on(&mut arena)
+    on_stack::<P, Heap<P>, T>(alloc, room, trial)
 }
 
 /// Tries it on an arena on the heap whose limit can be set, with this room as its limit, or as
@@ -108,8 +133,7 @@ pub fn on_limited<P: Ptr, T: Trial>(
 where
     P::Gen: Numbered,
 {
-    let arena: Arena<P, Token, Limited<P>> = made(alloc, room)?;
-    trial.on(&mut WithLimit { arena })
+    on_stack_with_limit::<P, Limited<P>, T>(alloc, room, trial)
 }
 
 /// Tries it on an arena of fixed room, or as `new` makes it.
@@ -121,8 +145,7 @@ pub fn on_fixed<P: Ptr, T: Trial>(
 where
     P::Gen: Numbered,
 {
-    let mut arena: Arena<P, Token, Fixed<P>> = made(alloc, room)?;
-    trial.on(&mut arena)
+    on_stack::<P, Fixed<P>, T>(alloc, room, trial)
 }
 
 /// Tries it on an arena whose limit can be set, where there is memory for `N` places, with this room
@@ -135,8 +158,7 @@ pub fn on_little<P: Ptr, const N: usize, T: Trial>(
 where
     P::Gen: Numbered,
 {
-    let arena: Arena<P, Token, Little<P, N>> = made(alloc, room)?;
-    trial.on(&mut WithLimit { arena })
+    on_stack_with_limit::<P, Little<P, N>, T>(alloc, room, trial)
 }
 
 /// Tries it on an arena as `new` makes it over the stack `S`, such as an array.
@@ -147,8 +169,7 @@ pub fn on_new<P: Ptr, S: NonZeroInxGenericStack<ArenaSlot<P, Token>> + Drop, T: 
 where
     P::Gen: Numbered,
 {
-    let mut arena: Arena<P, Token, S> = new_arena(alloc);
-    trial.on(&mut arena)
+    on_stack::<P, S, T>(alloc, None, trial)
 }
 
 /// Follows a table on an arena as `new` makes it on the heap.
@@ -156,5 +177,5 @@ pub fn from_empty<P: Ptr>(alloc: Global, steps: &[(Call, Told)]) -> Result<(), W
 where
     P::Gen: Numbered,
 {
-    on_heap::<P, Steps<'_>>(alloc, None, &Steps(steps))
+    on_stack::<P, Heap<P>, Steps<'_>>(alloc, None, &Steps(steps))
 }

@@ -1,56 +1,63 @@
 //! Walks over any arena that has them, each as one call, and what they met.
 
+use crate::call::Call;
 use crate::numbered::{Numbered, index_number};
 use crate::token::Token;
-use crate::told::{MET, Told, told_raise};
+use crate::told::{NO_ENTRY, NO_POINTER, NO_VALUE, NOT_DRAINED, Told, told_raise};
 use triple_arena::CompactArenaTrait;
 use triple_arena_base::{Advancer, InvalidationOption};
 use triple_arena_ptr::Ptr;
 
 // The index and the generation of a pointer, if there is one.
-fn told_pointer<P: Ptr>(p: Option<P>) -> Option<(usize, u64)>
+fn met_pointer<P: Ptr>(p: Option<P>) -> (usize, u64)
 where
     P::Gen: Numbered,
 {
-    let p = p?;
-    Some((index_number(p.inx()), p.generation().told_number()))
+    match p {
+        Some(p) => (index_number(p.inx()), p.generation().told_number()),
+        None => NO_POINTER,
+    }
 }
 
 // The number of a value, if there is one.
-fn told_value(token: Option<&Token>) -> Option<u64> {
-    Some(token?.number)
+fn met_value(token: Option<&Token>) -> u64 {
+    match token {
+        Some(token) => token.number,
+        None => NO_VALUE,
+    }
 }
 
 // Index, generation and number of an entry, if there is one.
-fn told_entry<P: Ptr>(entry: Option<(P, &Token)>) -> Option<(usize, u64, u64)>
+fn met_entry<P: Ptr>(entry: Option<(P, &Token)>) -> (usize, u64, u64)
 where
     P::Gen: Numbered,
 {
-    let (p, token) = entry?;
-    Some((
-        index_number(p.inx()),
-        p.generation().told_number(),
-        token.number,
-    ))
+    match entry {
+        Some((p, token)) => (
+            index_number(p.inx()),
+            p.generation().told_number(),
+            token.number,
+        ),
+        None => NO_ENTRY,
+    }
 }
 
 // The same of an entry that a drain took out, and whether the counter wrapped.
-fn told_drained<P: Ptr>(
-    item: Option<InvalidationOption<(P, Token)>>,
-) -> Option<(usize, u64, u64, bool)>
+fn drained_entry<P: Ptr>(item: Option<InvalidationOption<(P, Token)>>) -> (usize, u64, u64, bool)
 where
     P::Gen: Numbered,
 {
-    let (p, token, wrapped) = match item? {
-        InvalidationOption::Success((p, token)) => (p, token, false),
-        InvalidationOption::GenerationOverflow((p, token)) => (p, token, true),
+    let (p, token, wrapped) = match item {
+        Some(InvalidationOption::Success((p, token))) => (p, token, false),
+        Some(InvalidationOption::GenerationOverflow((p, token))) => (p, token, true),
+        None => return NOT_DRAINED,
     };
-    Some((
+    (
         index_number(p.inx()),
         p.generation().told_number(),
         token.number,
         wrapped,
-    ))
+    )
 }
 
 /// The first pointers.
@@ -59,21 +66,21 @@ where
     P::Gen: Numbered,
 {
     let mut ptrs = arena.ptrs();
-    let mut met = [None; MET];
-    for place in 0..MET {
-        met[place] = told_pointer(ptrs.next());
-    }
-    Told::MetPointers(met)
+    Told::MetPointers(
+        met_pointer(ptrs.next()),
+        met_pointer(ptrs.next()),
+        met_pointer(ptrs.next()),
+    )
 }
 
 /// The first values.
 pub fn values<P: Ptr, A: CompactArenaTrait<P, Token>>(arena: &A) -> Told {
     let mut vals = arena.vals();
-    let mut met = [None; MET];
-    for place in 0..MET {
-        met[place] = told_value(vals.next());
-    }
-    Told::MetValues(met)
+    Told::MetValues(
+        met_value(vals.next()),
+        met_value(vals.next()),
+        met_value(vals.next()),
+    )
 }
 
 /// The first entries.
@@ -82,11 +89,11 @@ where
     P::Gen: Numbered,
 {
     let mut iter = arena.iter();
-    let mut met = [None; MET];
-    for place in 0..MET {
-        met[place] = told_entry(iter.next());
-    }
-    Told::Met(met)
+    Told::Met(
+        met_entry(iter.next()),
+        met_entry(iter.next()),
+        met_entry(iter.next()),
+    )
 }
 
 /// What an advancer answers in its next steps.
@@ -97,39 +104,26 @@ pub fn next_steps<P: Ptr, A: CompactArenaTrait<P, Token>>(
 where
     P::Gen: Numbered,
 {
-    let mut met = [None; MET];
-    for place in 0..MET {
-        met[place] = told_pointer(advancer.advance(arena));
-    }
-    Told::MetPointers(met)
+    Told::MetPointers(
+        met_pointer(advancer.advance(arena)),
+        met_pointer(advancer.advance(arena)),
+        met_pointer(advancer.advance(arena)),
+    )
 }
 
-/// The same from the first entry on.
-pub fn steps_from_first<P: Ptr, A: CompactArenaTrait<P, Token>>(arena: &A) -> Told
+/// The same of the advancer of a call: one from the first entry on, one from an index on, or the
+/// empty one.
+pub fn steps<P: Ptr, A: CompactArenaTrait<P, Token>>(arena: &A, call: Call) -> Told
 where
     P::Gen: Numbered,
 {
-    next_steps(arena, &mut arena.advancer())
-}
-
-/// The same from an index on.
-pub fn steps_from<P: Ptr, A: CompactArenaTrait<P, Token>>(
-    arena: &A,
-    inx: P::Inx,
-    reverse: bool,
-) -> Told
-where
-    P::Gen: Numbered,
-{
-    next_steps(arena, &mut arena.advancer_inx(inx, reverse))
-}
-
-/// The same of the empty advancer.
-pub fn no_steps<P: Ptr, A: CompactArenaTrait<P, Token>>(arena: &A) -> Told
-where
-    P::Gen: Numbered,
-{
-    next_steps(arena, &mut Advancer::<A>::empty())
+    let p: P = call.first();
+    let mut advancer = match call {
+        Call::StepsFromFirst => arena.advancer(),
+        Call::StepsFrom(_, reverse) => arena.advancer_inx(p.inx(), reverse),
+        _ => Advancer::<A>::empty(),
+    };
+    next_steps(arena, &mut advancer)
 }
 
 /// Adds a number to each value by `for_each_mut`.
@@ -144,13 +138,13 @@ where
     P::Gen: Numbered,
 {
     let mut drain = arena.drain();
-    let mut met = [None; MET];
-    for place in 0..MET {
+    let mut met = [NOT_DRAINED; 3];
+    for place in 0..3 {
         if place < steps {
-            met[place] = told_drained(drain.next());
+            met[place] = drained_entry(drain.next());
         }
     }
-    Told::Drained(met)
+    Told::Drained(met[0], met[1], met[2])
 }
 
 /// Compresses the arena, and tells whether the counter wrapped.

@@ -4,7 +4,7 @@ ghost use Rattle.triple_arena.specs.Values.{SamePointers};
 
 use crate::numbered::{Numbered, index_number};
 use crate::token::Token;
-use crate::told::{MET, Told};
+use crate::told::{NO_ENTRY, NO_VALUE, Told};
 use triple_arena::{Arena, ArenaSlot};
 use triple_arena_ptr::Ptr;
 use triple_arena_stack::NonZeroInxGenericStack;
@@ -30,16 +30,16 @@ where
     P::Gen: Numbered,
     ensures { SamePointers arena.old arena.new }
 {
-    let mut met = [None; MET];
+    let mut met = [NO_ENTRY; 3];
     let mut place = 0;
     for (p, token) in arena {
-        if place < MET {
-            met[place] = Some(entry_of(p, token));
+        if place < 3 {
+            met[place] = entry_of(p, token);
             place += 1;
         }
         token.number = token.number.wrapping_add(number);
     }
-    Told::Met(met)
+    Told::Met(met[0], met[1], met[2])
 }
 
 /// The same by `iter_mut`.
@@ -51,17 +51,17 @@ where
     P::Gen: Numbered,
     ensures { SamePointers arena.old arena.new }
 {
-    let mut met = [None; MET];
+    let mut met = [NO_ENTRY; 3];
     let mut place = 0;
     let mut entries = arena.iter_mut();
     while let Some((p, token)) = entries.next() {
-        if place < MET {
-            met[place] = Some(entry_of(p, token));
+        if place < 3 {
+            met[place] = entry_of(p, token);
             place += 1;
         }
         token.number = token.number.wrapping_add(number);
     }
-    Told::Met(met)
+    Told::Met(met[0], met[1], met[2])
 }
 
 /// The same by `vals_mut`.
@@ -71,15 +71,15 @@ pub fn add_to_each_value<P: Ptr, S: NonZeroInxGenericStack<ArenaSlot<P, Token>>>
 ) -> Told
     ensures { SamePointers arena.old arena.new }
 {
-    let mut met = [None; MET];
+    let mut met = [NO_VALUE; 3];
     let mut place = 0;
     let mut values = arena.vals_mut();
     while let Some(token) = values.next() {
-        if place < MET {
-            met[place] = Some(token.number);
+        if place < 3 {
+            met[place] = token.number;
             place += 1;
         }
         token.number = token.number.wrapping_add(number);
     }
-    Told::MetValues(met)
+    Told::MetValues(met[0], met[1], met[2])
 }

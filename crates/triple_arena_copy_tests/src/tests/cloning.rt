@@ -7,7 +7,7 @@ use triple_arena::{Arena, ArenaSlot};
 use triple_arena_base::ReallocationError;
 use triple_arena_ptr::P0;
 use triple_arena_stack::NonZeroInxGenericStack;
-use triple_arena_test_kit::{Call, Fixed, Heap, Limited, Token, Told, Wrong};
+use triple_arena_test_kit::{Call, Fixed, Heap, Limited, NO_ENTRY, Token, Told, Wrong};
 
 const BEYOND: Told = Told::Refused(ReallocationError::BeyondMaxCapacity);
 
@@ -60,7 +60,7 @@ fn a_clone_has_the_gaps_the_counter_and_no_more_room(rt: HostRuntime) -> Result<
             (OnTwo::CloneSource, Told::Done),
             (
                 OnTwo::Source(Call::Entries),
-                Told::Met([Some((2, 2, 2)), Some((4, 2, 4)), None]),
+                Told::Met((2, 2, 2), (4, 2, 4), NO_ENTRY),
             ),
             (OnTwo::Source(Call::Slots), Told::Size(4)),
             (OnTwo::Source(Call::Root), Told::Size(1)),
@@ -79,7 +79,10 @@ fn an_empty_source_empties_the_target(rt: HostRuntime) -> Result<(), Fail> {
             (OnTwo::FillTarget(2), Told::Done),
             (OnTwo::Target(Call::IncGeneration), Told::Done),
             (OnTwo::CloneFrom, Told::Done),
-            (OnTwo::Target(Call::Entries), Told::Met([None, None, None])),
+            (
+                OnTwo::Target(Call::Entries),
+                Told::Met(NO_ENTRY, NO_ENTRY, NO_ENTRY),
+            ),
             (OnTwo::Target(Call::Slots), Told::Size(0)),
             (OnTwo::Target(Call::Root), Told::Nothing),
             (OnTwo::Target(Call::Generation), Told::Generation(2)),
@@ -102,7 +105,7 @@ fn a_stack_without_room_refuses_a_clone(rt: HostRuntime) -> Result<(), Fail> {
             (OnTwo::CloneFrom, Told::Done),
             (
                 OnTwo::Target(Call::Entries),
-                Told::Met([Some((1, 2, 1)), None, None]),
+                Told::Met((1, 2, 1), NO_ENTRY, NO_ENTRY),
             ),
             (OnTwo::Target(Call::Slots), Told::Size(1)),
             (OnTwo::Target(Call::Root), Told::Nothing),
@@ -113,7 +116,7 @@ fn a_stack_without_room_refuses_a_clone(rt: HostRuntime) -> Result<(), Fail> {
             (OnTwo::CloneFrom, BEYOND),
             (
                 OnTwo::Target(Call::Entries),
-                Told::Met([Some((1, 2, 1)), None, None]),
+                Told::Met((1, 2, 1), NO_ENTRY, NO_ENTRY),
             ),
             (OnTwo::Target(Call::Slots), Told::Size(1)),
             (OnTwo::Target(Call::Root), Told::Nothing),
@@ -134,7 +137,10 @@ fn a_map_that_refuses_the_first_leaves_none(rt: HostRuntime) -> Result<(), Fail>
             (OnTwo::Source(Call::Remove(4, 2)), Told::Holds(4)),
             (OnTwo::FillTarget(7), Told::Done),
             (OnTwo::CloneTenfoldBut(1), Told::GivenBack(1)),
-            (OnTwo::Target(Call::Entries), Told::Met([None, None, None])),
+            (
+                OnTwo::Target(Call::Entries),
+                Told::Met(NO_ENTRY, NO_ENTRY, NO_ENTRY),
+            ),
             (OnTwo::Target(Call::Slots), Told::Size(0)),
             (OnTwo::Target(Call::Root), Told::Nothing),
             (OnTwo::Target(Call::Generation), Told::Generation(4)),
@@ -157,7 +163,7 @@ fn a_map_that_refuses_leaves_those_before(rt: HostRuntime) -> Result<(), Fail> {
             (OnTwo::CloneTenfoldBut(3), Told::GivenBack(3)),
             (
                 OnTwo::Target(Call::Entries),
-                Told::Met([Some((1, 2, 10)), None, None]),
+                Told::Met((1, 2, 10), NO_ENTRY, NO_ENTRY),
             ),
             (OnTwo::Target(Call::Slots), Told::Size(1)),
             (OnTwo::Target(Call::Root), Told::Nothing),
@@ -176,7 +182,7 @@ fn a_map_that_refuses_leaves_those_before(rt: HostRuntime) -> Result<(), Fail> {
             (OnTwo::CloneTenfoldBut(5), Told::GivenBack(5)),
             (
                 OnTwo::Target(Call::Entries),
-                Told::Met([Some((1, 2, 10)), Some((3, 2, 30)), None]),
+                Told::Met((1, 2, 10), (3, 2, 30), NO_ENTRY),
             ),
             (OnTwo::Target(Call::Slots), Told::Size(3)),
             (OnTwo::Target(Call::Root), Told::Size(2)),

@@ -7,7 +7,7 @@ use triple_arena::{Arena, ArenaSlot};
 use triple_arena_base::ReallocationError;
 use triple_arena_ptr::{P0, P5, Ptr, Q2};
 use triple_arena_stack::NonZeroInxGenericStack;
-use triple_arena_test_kit::{Call, Heap, Limited, Numbered, Token, Told, Wrong};
+use triple_arena_test_kit::{Call, Heap, Limited, NO_ENTRY, Numbered, Token, Told, Wrong};
 
 const BEYOND: Told = Told::Refused(ReallocationError::BeyondMaxCapacity);
 
@@ -36,7 +36,7 @@ fn a_transfer_renumbers_and_empties_its_source(rt: HostRuntime) -> Result<(), Fa
             (OnTwo::Transfer(7), Told::Done),
             (
                 OnTwo::Target(Call::Entries),
-                Told::Met([Some((1, 7, 2)), Some((2, 7, 3)), None]),
+                Told::Met((1, 7, 2), (2, 7, 3), NO_ENTRY),
             ),
             (OnTwo::Target(Call::Slots), Told::Size(2)),
             (OnTwo::Target(Call::Root), Told::Nothing),
@@ -64,11 +64,7 @@ fn the_closure_is_told_each_removal(rt: HostRuntime) -> Result<(), Fail> {
             // the first removal alone wrapped
             (
                 OnTwo::Target(Call::Entries),
-                Told::Met([
-                    Some((1, u64::MAX, 101)),
-                    Some((2, u64::MAX, 2)),
-                    Some((3, u64::MAX, 3)),
-                ]),
+                Told::Met((1, u64::MAX, 101), (2, u64::MAX, 2), (3, u64::MAX, 3)),
             ),
             (OnTwo::Target(Call::Slots), Told::Size(3)),
             (OnTwo::Target(Call::Root), Told::Nothing),
@@ -90,7 +86,7 @@ fn a_transfer_past_the_indexes_leaves_both(rt: HostRuntime) -> Result<(), Fail> 
             (OnTwo::Transfer(1), NO_MEMORY),
             (
                 OnTwo::Target(Call::Entries),
-                Told::Met([Some((1, 1, 1)), None, None]),
+                Told::Met((1, 1, 1), NO_ENTRY, NO_ENTRY),
             ),
             (OnTwo::Target(Call::Slots), Told::Size(1)),
             (OnTwo::Target(Call::Root), Told::Nothing),
@@ -113,7 +109,7 @@ fn a_transfer_past_the_limit_leaves_both(rt: HostRuntime) -> Result<(), Fail> {
             (OnTwo::Transfer(2), BEYOND),
             (
                 OnTwo::Target(Call::Entries),
-                Told::Met([Some((1, 2, 1)), Some((2, 2, 2)), None]),
+                Told::Met((1, 2, 1), (2, 2, 2), NO_ENTRY),
             ),
             (OnTwo::Target(Call::Slots), Told::Size(2)),
             (OnTwo::Target(Call::Root), Told::Nothing),

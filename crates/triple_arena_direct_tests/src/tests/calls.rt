@@ -1,34 +1,26 @@
 //! Each call of the traits at a direct arena.
 
-use super::tested_direct::{Heap, on_direct};
+use super::tested_direct::{Direct, Heap, on_direct, with_room};
 use std::alloc::Global;
 use std::test::Fail;
 use triple_arena_base::{GetDisjointMutError, ReallocationError};
+use triple_arena_direct::DirectSlot;
 use triple_arena_ptr::P0;
+use triple_arena_stack::NonZeroInxGenericStack;
 use triple_arena_test_kit::{
-    Call, Steps, TestedArena, Told, Trial, Unchanged, Wrong, follow, follow_unchanged, has_text,
+    Call, NO_POINTER, NOT_DRAINED, Steps, Token, Told, Trial, Unchanged, Wrong, is_text,
 };
 
 // Entries at 1, 2 and 4.
-#[derive(Drop)]
-struct ThreeEntries;
-
-impl Trial for ThreeEntries {
-    fn on<A: TestedArena>(&self, arena: &mut A) -> Result<(), Wrong> {
-        follow(
-            arena,
-            &[
-                (Call::DirectInsert(4, 3, 40), Told::Holds(40)),
-                (Call::DirectInsert(1, 2, 10), Told::Holds(10)),
-                (Call::DirectInsert(2, 5, 20), Told::Holds(20)),
-            ],
-        )
-    }
-}
+const THREE_ENTRIES: Steps<'static> = Steps(&[
+    (Call::DirectInsert(4, 3, 40), Told::Holds(40)),
+    (Call::DirectInsert(1, 2, 10), Told::Holds(10)),
+    (Call::DirectInsert(2, 5, 20), Told::Holds(20)),
+]);
 
 // What is tried on an arena with these entries, of capacity 4.
 fn with_entries<T: Trial + Drop>(alloc: Global, trial: T) -> Result<(), Wrong> {
-    on_direct::<P0, Heap<P0>, _>(alloc, 4, &(ThreeEntries, trial))
+    on_direct::<P0, Heap<P0>, _>(alloc, 4, &(THREE_ENTRIES, trial))
 }
 
 #[test]
@@ -49,23 +41,20 @@ fn each_look_up_and_walk_leaves_the_arena_as_it_was(rt: HostRuntime) -> Result<(
         (Call::Last, Told::At(4, 3)),
         (Call::Index(2, 5), Told::Holds(20)),
         (Call::GetInxUnwrap(4), Told::Holds(40)),
-        (
-            Call::Pointers,
-            Told::MetPointers([Some((1, 2)), Some((2, 5)), Some((4, 3))]),
-        ),
-        (
-            Call::Values,
-            Told::MetValues([Some(10), Some(20), Some(40)]),
-        ),
+        (Call::Pointers, Told::MetPointers((1, 2), (2, 5), (4, 3))),
+        (Call::Values, Told::MetValues(10, 20, 40)),
         (
             Call::StepsFromFirst,
-            Told::MetPointers([Some((1, 2)), Some((2, 5)), Some((4, 3))]),
+            Told::MetPointers((1, 2), (2, 5), (4, 3)),
         ),
         (
             Call::StepsFrom(3, true),
-            Told::MetPointers([Some((2, 5)), Some((1, 2)), None]),
+            Told::MetPointers((2, 5), (1, 2), NO_POINTER),
         ),
-        (Call::NoSteps, Told::MetPointers([None, None, None])),
+        (
+            Call::NoSteps,
+            Told::MetPointers(NO_POINTER, NO_POINTER, NO_POINTER),
+        ),
     ]);
     with_entries(rt.alloc(), reads)?;
     Ok(())
@@ -85,10 +74,7 @@ fn what_is_written_stands_there(rt: HostRuntime) -> Result<(), Fail> {
         (Call::AddToEach(100), Told::Done),
         (Call::AddToEachEntry(100), Told::Done),
         (Call::AddToEachValue(100), Told::Done),
-        (
-            Call::Values,
-            Told::MetValues([Some(312), Some(321), Some(341)]),
-        ),
+        (Call::Values, Told::MetValues(312, 321, 341)),
     ]);
     with_entries(rt.alloc(), writes)?;
     Ok(())
@@ -99,40 +85,26 @@ const OUTSIDE: Told = Told::Apart(GetDisjointMutError::IndexOutOfBounds);
 const SAME: Told = Told::Apart(GetDisjointMutError::OverlappingIndices);
 
 // Two values that can't be lent, and then two that can.
-#[derive(Drop)]
-struct LendsTwo;
-
-impl Trial for LendsTwo {
-    fn on<A: TestedArena>(&self, arena: &mut A) -> Result<(), Wrong> {
-        follow_unchanged(
-            arena,
-            &[
-                (Call::Swap((1, 2), (3, 2)), OUTSIDE),
-                (Call::Swap((1, 2), (1, 2)), SAME),
-                (Call::Swap((3, 2), (3, 2)), OUTSIDE),
-                (Call::SwapInx(5, 5), OUTSIDE),
-                (Call::SwapInx(3, 3), SAME),
-                (Call::SwapInx(3, 1), OUTSIDE),
-            ],
-        )?;
-        follow(
-            arena,
-            &[
-                (Call::Swap((1, 2), (4, 3)), Told::Done),
-                (Call::Get(1, 2), Told::Holds(40)),
-                (Call::SwapInx(1, 2), Told::Done),
-                (
-                    Call::Values,
-                    Told::MetValues([Some(20), Some(40), Some(10)]),
-                ),
-            ],
-        )
-    }
-}
+const LENDS_TWO: (Unchanged<'static>, Steps<'static>) = (
+    Unchanged(&[
+        (Call::Swap((1, 2), (3, 2)), OUTSIDE),
+        (Call::Swap((1, 2), (1, 2)), SAME),
+        (Call::Swap((3, 2), (3, 2)), OUTSIDE),
+        (Call::SwapInx(5, 5), OUTSIDE),
+        (Call::SwapInx(3, 3), SAME),
+        (Call::SwapInx(3, 1), OUTSIDE),
+    ]),
+    Steps(&[
+        (Call::Swap((1, 2), (4, 3)), Told::Done),
+        (Call::Get(1, 2), Told::Holds(40)),
+        (Call::SwapInx(1, 2), Told::Done),
+        (Call::Values, Told::MetValues(20, 40, 10)),
+    ]),
+);
 
 #[test]
 fn two_values_are_lent_at_once(rt: HostRuntime) -> Result<(), Fail> {
-    with_entries(rt.alloc(), LendsTwo)?;
+    with_entries(rt.alloc(), LENDS_TWO)?;
     Ok(())
 }
 
@@ -151,7 +123,7 @@ fn an_ending_leaves_a_free_slot_and_tells_of_no_wrap(rt: HostRuntime) -> Result<
         (Call::DirectInsert(1, 1, 11), Told::Holds(11)),
         (
             Call::Drain(1),
-            Told::Drained([Some((1, 1, 11, false)), None, None]),
+            Told::Drained((1, 1, 11, false), NOT_DRAINED, NOT_DRAINED),
         ),
         (Call::IsEmpty, Told::Is(true)),
         (Call::Slots, Told::Size(0)),
@@ -181,23 +153,23 @@ fn a_new_arena_takes_entries_once_there_is_room(rt: HostRuntime) -> Result<(), F
     Ok(())
 }
 
-// The text of an arena with these entries.
-#[derive(Drop)]
-struct HasText {
+// That the text of an arena of capacity 4 with these entries is this one.
+fn has_text<S: NonZeroInxGenericStack<DirectSlot<P0, Token>> + Drop>(
     alloc: Global,
-}
-
-impl Trial for HasText {
-    fn on<A: TestedArena>(&self, arena: &mut A) -> Result<(), Wrong> {
-        let text = "{P0[1](2): Token { number: 10 }, P0[2](5): Token { number: 20 }, \
-            P0[4](3): Token { number: 40 }}";
-        has_text(arena, self.alloc, text)
-    }
+    expected: &'static str,
+) -> Result<(), Wrong> {
+    let mut direct: Direct<P0, S> = with_room(alloc, 4)?;
+    THREE_ENTRIES.on(&mut direct)?;
+    let arena = &direct.arena;
+    is_text(format!(in alloc; "{arena:?}")?.as_str(), expected)
 }
 
 #[test]
 fn the_text_of_a_direct_arena(rt: HostRuntime) -> Result<(), Fail> {
-    let alloc = rt.alloc();
-    with_entries(alloc, HasText { alloc })?;
+    has_text::<Heap<P0>>(
+        rt.alloc(),
+        "{P0[1](2): Token { number: 10 }, P0[2](5): Token { number: 20 }, \
+            P0[4](3): Token { number: 40 }}",
+    )?;
     Ok(())
 }

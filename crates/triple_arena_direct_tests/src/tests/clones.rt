@@ -1,26 +1,23 @@
 //! Cloning into direct arenas and out of them.
 
-use super::tested_direct::{Direct, DirectWithLimit, Heap, Limited, Little, with_room};
+use super::tested_direct::{
+    Direct, DirectWithLimit, Heap, Limited, Little, put, put_under, with_room,
+};
 use std::alloc::{AllocError, Global};
 use std::process::Abort;
 use std::test::Fail;
-use triple_arena::{
-    Arena, ArenaCloneFromWith, ArenaDirectInsertEntryTrait, ArenaInsertTrait, ArenaTrait,
-    CompactArenaTrait,
-};
+use triple_arena::{Arena, ArenaCloneFromWith, ArenaSlot, ArenaTrait, CompactArenaTrait};
 use triple_arena_base::{CloneFromError, ReallocationError};
 use triple_arena_direct::{DirectArena, DirectSlot};
 use triple_arena_ptr::{P0, Ptr};
 use triple_arena_stack::{NonZeroInxGenericStack, SetMaxCapacity};
 use triple_arena_test_kit::{
-    Call, Heap as ArenaHeap, TestedArena, Token, Told, Wrong, follow, has_state, is_told,
+    Call, Heap as ArenaHeap, NO_ENTRY, TestedArena, Token, Told, Wrong, follow, has_state, is_told,
 };
 
 const BEYOND: Told = Told::Refused(ReallocationError::BeyondMaxCapacity);
 
 const NO_MEMORY: Told = Told::Refused(ReallocationError::AllocError);
-
-type OnHeap = Arena<P0, Token, ArenaHeap<P0>>;
 
 // Clones, each value with a hundred added, and refuses the value of one number.
 fn clone_but<P: Ptr, A: ArenaCloneFromWith<P, Token>, B: CompactArenaTrait<P, Token>>(
@@ -83,13 +80,13 @@ fn three_of_five<A: TestedArena>(arena: &mut A) -> Result<(), Wrong> {
     )
 }
 
-// The calls on a direct arena of this room that is cloned from an arena of these entries.
-fn cloned_from_arena<S: NonZeroInxGenericStack<DirectSlot<P0, Token>> + Drop>(
-    alloc: Global,
-    room: usize,
-    steps: &[(OnTarget, Told)],
-) -> Result<(), Wrong> {
-    let mut source: OnHeap = Arena::new(alloc);
+// The calls on a direct arena of this room over the first stack that is cloned from an arena of these
+// entries over the second.
+fn cloned_from_arena<
+    S: NonZeroInxGenericStack<DirectSlot<P0, Token>> + Drop,
+    R: NonZeroInxGenericStack<ArenaSlot<P0, Token>> + Drop,
+>(alloc: Global, room: usize, steps: &[(OnTarget, Told)]) -> Result<(), Wrong> {
+    let mut source: Arena<P0, Token, R> = Arena::new(alloc);
     three_of_five(&mut source)?;
     let mut target: Direct<P0, S> = with_room(alloc, room)?;
     follow_clones(&mut target, &source, steps)
@@ -97,7 +94,7 @@ fn cloned_from_arena<S: NonZeroInxGenericStack<DirectSlot<P0, Token>> + Drop>(
 
 #[test]
 fn a_refused_entry_ends_a_clone(rt: HostRuntime) -> Result<(), Fail> {
-    cloned_from_arena::<Heap<P0>>(
+    cloned_from_arena::<Heap<P0>, ArenaHeap<P0>>(
         rt.alloc(),
         0,
         &[
@@ -106,13 +103,13 @@ fn a_refused_entry_ends_a_clone(rt: HostRuntime) -> Result<(), Fail> {
             (OnTarget::Of(Call::Slots), Told::Size(5)),
             (
                 OnTarget::Of(Call::Entries),
-                Told::Met([Some((1, 2, 101)), Some((3, 2, 103)), Some((5, 2, 105))]),
+                Told::Met((1, 2, 101), (3, 2, 103), (5, 2, 105)),
             ),
             (OnTarget::Of(Call::DirectInsert(2, 1, 2)), Told::Holds(2)),
             (OnTarget::CloneBut(5), Told::Invalid),
             (
                 OnTarget::Of(Call::Entries),
-                Told::Met([Some((1, 2, 101)), Some((3, 2, 103)), None]),
+                Told::Met((1, 2, 101), (3, 2, 103), NO_ENTRY),
             ),
             (OnTarget::Of(Call::PopFreeEnd(9)), Told::Size(0)),
             (OnTarget::Of(Call::Slots), Told::Size(3)),
@@ -126,16 +123,26 @@ fn a_refused_entry_ends_a_clone(rt: HostRuntime) -> Result<(), Fail> {
 
 #[test]
 fn a_clone_past_the_limit_is_refused(rt: HostRuntime) -> Result<(), Fail> {
-    cloned_from_arena::<Limited<P0>>(rt.alloc(), 0, &[(OnTarget::CloneBut(0), BEYOND)])?;
-    cloned_from_arena::<Limited<P0>>(rt.alloc(), 5, &[(OnTarget::CloneBut(0), Told::Done)])?;
+    cloned_from_arena::<Limited<P0>, ArenaHeap<P0>>(
+        rt.alloc(),
+        0,
+        &[(OnTarget::CloneBut(0), BEYOND)],
+    )?;
+    cloned_from_arena::<Limited<P0>, ArenaHeap<P0>>(
+        rt.alloc(),
+        5,
+        &[(OnTarget::CloneBut(0), Told::Done)],
+    )?;
     Ok(())
 }
 
-// A direct arena that has memory for four slots is cloned from one of five.
-fn refuses_a_clone<S: SetMaxCapacity<DirectSlot<P0, Token>> + Drop>(
-    alloc: Global,
-) -> Result<(), Wrong> {
-    let mut source: Direct<P0, Heap<P0>> = with_room(alloc, 5)?;
+// A direct arena that has memory for four slots, over the first stack, is cloned from one of five over
+// the second.
+fn refuses_a_clone<
+    S: SetMaxCapacity<DirectSlot<P0, Token>> + Drop,
+    R: NonZeroInxGenericStack<DirectSlot<P0, Token>> + Drop,
+>(alloc: Global) -> Result<(), Wrong> {
+    let mut source: Direct<P0, R> = with_room(alloc, 5)?;
     follow(
         &mut source,
         &[(Call::DirectInsert(5, 2, 5), Told::Holds(5))],
@@ -157,17 +164,21 @@ fn refuses_a_clone<S: SetMaxCapacity<DirectSlot<P0, Token>> + Drop>(
 
 #[test]
 fn a_clone_without_memory_leaves_the_arena_as_it_was(rt: HostRuntime) -> Result<(), Fail> {
-    refuses_a_clone::<Little<P0, 4>>(rt.alloc())?;
+    refuses_a_clone::<Little<P0, 4>, Heap<P0>>(rt.alloc())?;
     Ok(())
 }
 
-fn into_an_arena(alloc: Global) -> Result<(), Wrong> {
-    let mut source: Direct<P0, Heap<P0>> = with_room(alloc, 4)?;
+// An arena over the first stack is cloned from a direct one over the second.
+fn into_an_arena<
+    S: NonZeroInxGenericStack<ArenaSlot<P0, Token>> + Drop,
+    R: NonZeroInxGenericStack<DirectSlot<P0, Token>> + Drop,
+>(alloc: Global) -> Result<(), Wrong> {
+    let mut source: Direct<P0, R> = with_room(alloc, 4)?;
     follow(
         &mut source,
         &[(Call::DirectInsert(1, 9, 9), Told::Holds(9))],
     )?;
-    let mut target: OnHeap = Arena::new(alloc);
+    let mut target: Arena<P0, Token, S> = Arena::new(alloc);
     is_told(0, clone_but(&mut target, &source.arena, 0), Told::Done)?;
     follow(
         &mut target,
@@ -182,13 +193,13 @@ fn into_an_arena(alloc: Global) -> Result<(), Wrong> {
 
 #[test]
 fn an_arena_that_is_cloned_from_a_direct_one_begins_at_two(rt: HostRuntime) -> Result<(), Fail> {
-    into_an_arena(rt.alloc())?;
+    into_an_arena::<ArenaHeap<P0>, Heap<P0>>(rt.alloc())?;
     Ok(())
 }
 
 // The pointer of a new number, where there is memory for it.
 fn number_in(arena: &mut Arena<P0, u64>, number: u64) -> Option<P0> {
-    arena.insert(number).ok()
+    put(arena, number).ok()
 }
 
 // Each number's text under its pointer: whether there was memory.
@@ -202,17 +213,6 @@ fn mirror_texts(
         |_p, number: &u64| format!(in alloc; "{number}"),
     );
     cloned.is_ok()
-}
-
-// Puts a text under the pointer of a number: whether there was a place.
-fn put_text(texts: &mut DirectArena<P0, String>, p: P0, text: String) -> bool {
-    match texts.direct_insert_within_capacity(p) {
-        Ok(entry) => {
-            entry.insert(text);
-            true
-        }
-        Err(_refused) => false,
-    }
 }
 
 // Whether this is the text of a mirror; none where there is no memory.
@@ -232,7 +232,7 @@ fn mirrors(alloc: Global) -> Option<bool> {
     let capacity = texts.capacity() == 2;
     let p = number_in(&mut numbers, 7)?;
     let seven = format!(in alloc; "{}", 7).ok()?;
-    let is_put = put_text(&mut texts, p, seven);
+    let is_put = put_under(&mut texts, p, seven);
     let both = is_written(&texts, alloc, r#"{P0[1](3): "7", P0[2](2): "1337"}"#)?;
     Some(is_cloned && begun && capacity && is_put && both)
 }

@@ -4,7 +4,7 @@ use super::tested_direct::{Heap, Limited, on_direct, on_limited};
 use std::test::Fail;
 use triple_arena_base::ReallocationError;
 use triple_arena_ptr::P0;
-use triple_arena_test_kit::{Call, Narrow, Steps, Told};
+use triple_arena_test_kit::{Call, NO_ENTRY, Narrow, Steps, Told};
 
 const NO_MEMORY: Told = Told::Refused(ReallocationError::AllocError);
 
@@ -58,15 +58,15 @@ fn a_limit_pops_the_slots_past_it_also_where_it_is_refused(rt: HostRuntime) -> R
         (Call::SetLimit(4), Told::Done),
         (Call::Bounds, Told::Bounds(1, 4, Some(4))),
         (Call::Slots, Told::Size(4)),
-        (Call::Entries, Told::Met([Some((3, 2, 3)), None, None])),
+        (Call::Entries, Told::Met((3, 2, 3), NO_ENTRY, NO_ENTRY)),
         (Call::SetLimit(2), Told::LimitRefused),
         (Call::Bounds, Told::Bounds(1, 4, Some(4))),
         (Call::Slots, Told::Size(3)),
-        (Call::Entries, Told::Met([Some((3, 2, 3)), None, None])),
+        (Call::Entries, Told::Met((3, 2, 3), NO_ENTRY, NO_ENTRY)),
         (Call::SetLimit(100), Told::Done),
         (Call::Bounds, Told::Bounds(1, 6, Some(100))),
         (Call::Slots, Told::Size(3)),
-        (Call::Entries, Told::Met([Some((3, 2, 3)), None, None])),
+        (Call::Entries, Told::Met((3, 2, 3), NO_ENTRY, NO_ENTRY)),
     ]);
     on_limited::<P0, Limited<P0>, _>(rt.alloc(), 6, &steps)?;
     Ok(())

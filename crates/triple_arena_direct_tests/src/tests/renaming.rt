@@ -1,12 +1,11 @@
 //! Compaction that tells the new pointers, and that renames those which the values hold.
 
+use super::tested_direct::{put, put_under};
 use std::alloc::{AllocError, Global};
 use std::fmt::Debug;
 use std::process::Abort;
 use std::test::Fail;
-use triple_arena::{
-    Arena, ArenaDirectInsertTrait, ArenaInsertTrait, ArenaSlot, ArenaTrait, CompactArenaTrait,
-};
+use triple_arena::{Arena, ArenaSlot, ArenaTrait, CompactArenaTrait};
 use triple_arena_base::{CompactError, ReallocationError, Recast};
 use triple_arena_direct::{DirectArena, compress_recast, compress_recaster};
 use triple_arena_ptr::{P0, Ptr};
@@ -31,7 +30,7 @@ fn graph(
     let mut arena = Arena::new(alloc);
     for (number, link) in nodes {
         let link = link.map(|(i, g)| pointer(i, g));
-        arena.insert((*number, link))?;
+        put(&mut arena, (*number, link))?;
     }
     for at in gone {
         drop(arena.remove(pointer(*at, 2)));
@@ -111,9 +110,7 @@ fn direct(
     for ((i, g), (number, link)) in nodes {
         let link = link.map(|(i, g)| pointer(i, g));
         let p = pointer(*i, *g);
-        if arena.can_direct_insert(p) {
-            arena.direct_insert_reserved(p, (*number, link));
-        }
+        put_under(&mut arena, p, (*number, link));
     }
     Ok(arena)
 }
@@ -135,10 +132,10 @@ fn direct_compressed(alloc: Global) -> Result<String, Refusal> {
 fn at_the_end_of_the_counter(alloc: Global) -> Result<Arena<B, Option<B>>, Refusal> {
     let mut arena = Arena::new(alloc);
     for _time in 0..253 {
-        let p = arena.insert(None)?;
+        let p = put(&mut arena, None)?;
         drop(arena.remove(p));
     }
-    let last = arena.insert(None)?;
+    let last = put(&mut arena, None)?;
     if let Some(link) = arena.get_mut(last) {
         *link = Some(last);
     }
@@ -175,9 +172,9 @@ type Placed = Arena<P0, Node, NonZeroInxArray<ArenaSlot<P0, Node>, 4>>;
 fn placed(alloc: Global, link: At) -> Result<Placed, Refusal> {
     let mut arena = Arena::new(alloc);
     let (i, g) = link;
-    arena.insert((1, None))?;
-    arena.insert((2, None))?;
-    arena.insert((3, Some(pointer(i, g))))?;
+    put(&mut arena, (1, None))?;
+    put(&mut arena, (2, None))?;
+    put(&mut arena, (3, Some(pointer(i, g))))?;
     drop(arena.remove(pointer(2, 2)));
     Ok(arena)
 }

@@ -1,10 +1,11 @@
 //! Direct arenas that tables of calls are tried on.
 
-use std::alloc::{AllocError, Global};
+use std::alloc::Global;
 use triple_arena::{
-    ArenaDirectInsertEntryTrait, ArenaDirectInsertTrait, ArenaTrait, CompactArenaTrait,
-    DisjointableArenaTrait,
+    Arena, ArenaDirectInsertEntryTrait, ArenaDirectInsertTrait, ArenaInsertTrait, ArenaSlot,
+    ArenaTrait, CompactArenaTrait, DisjointableArenaTrait,
 };
+use triple_arena_base::ReallocationError;
 use triple_arena_direct::{DirectArena, DirectSlot};
 use triple_arena_ptr::Ptr;
 use triple_arena_stack::{
@@ -12,7 +13,7 @@ use triple_arena_stack::{
 };
 use triple_arena_test_kit::{
     Call, Kind, Numbered, SLOTS, Scarce, State, TestedArena, Token, Told, Trial, Wrong,
-    answer_of_any, answer_of_two, answer_to_walk, inx, pointer,
+    answer_of_any, answer_of_two, answer_to_read, answer_to_walk,
 };
 
 pub type Heap<P> = NonZeroInxVec<DirectSlot<P, Token>>;
@@ -35,14 +36,16 @@ pub struct DirectWithLimit<P: Ptr, S: NonZeroInxGenericStack<DirectSlot<P, Token
     pub direct: Direct<P, S>,
 }
 
+// Inserts by an entry, if there is a number to insert; else whether the entry has its place.
 fn insert<P: Ptr, S: NonZeroInxGenericStack<DirectSlot<P, Token>>>(
     arena: &mut DirectArena<P, Token, S>,
     p: P,
-    number: u64,
+    number: Option<u64>,
 ) -> Told {
-    match arena.direct_insert_within_capacity(p) {
-        Ok(entry) => Told::Holds(entry.insert(Token { number }).number),
-        Err(refused) => Told::NotInserted(refused),
+    match (arena.direct_insert_within_capacity(p), number) {
+        (Ok(entry), Some(number)) => Told::Holds(entry.insert(Token { number }).number),
+        (Ok(entry), None) => Told::Is(entry.has_place()),
+        (Err(refused), _) => Told::NotInserted(refused),
     }
 }
 
@@ -58,16 +61,6 @@ fn insert_and_write<P: Ptr, S: NonZeroInxGenericStack<DirectSlot<P, Token>>>(
             value.number = second;
             Told::Done
         }
-        Err(refused) => Told::NotInserted(refused),
-    }
-}
-
-fn ask<P: Ptr, S: NonZeroInxGenericStack<DirectSlot<P, Token>>>(
-    arena: &mut DirectArena<P, Token, S>,
-    p: P,
-) -> Told {
-    match arena.direct_insert_within_capacity(p) {
-        Ok(entry) => Told::Is(entry.has_place()),
         Err(refused) => Told::NotInserted(refused),
     }
 }
@@ -95,11 +88,12 @@ where
     P::Gen: Numbered,
 {
     match call {
-        Call::DirectInsertReserved(i, g, number) => insert_reserved(arena, pointer(i, g), number),
-        Call::CanDirectInsert(i, g) => Told::Is(arena.can_direct_insert(pointer(i, g))),
+        Call::DirectInsertReserved(_, _, number) => insert_reserved(arena, call.first(), number),
+        Call::CanDirectInsert(_, _) => Told::Is(arena.can_direct_insert(call.first())),
         _ => match call.kind() {
             Kind::Walk => answer_to_walk(arena, call),
             Kind::OfTwo => answer_of_two(arena, call),
+            Kind::Reading => answer_to_read(arena, call),
             _ => answer_of_any(arena, call),
         },
     }
@@ -120,7 +114,7 @@ fn index<P: Ptr, S: NonZeroInxGenericStack<DirectSlot<P, Token>>>(
     arena: &DirectArena<P, Token, S>,
     p: P,
 ) -> Told {
-    if !arena.contains(p) {
+    if arena.get(p).is_none() {
         return Told::Nothing;
     }
     Told::Holds(arena[p].number)
@@ -131,7 +125,7 @@ fn write_index<P: Ptr, S: NonZeroInxGenericStack<DirectSlot<P, Token>>>(
     p: P,
     number: u64,
 ) -> Told {
-    if !arena.contains(p) {
+    if arena.get(p).is_none() {
         return Told::Nothing;
     }
     arena[p].number = number;
@@ -200,18 +194,18 @@ fn own_answer<P: Ptr, S: NonZeroInxGenericStack<DirectSlot<P, Token>>>(
 where
     P::Gen: Numbered,
 {
+    let p: P = call.first();
     match call {
-        Call::DirectInsert(i, g, number) => insert(arena, pointer(i, g), number),
-        Call::DirectInsertAndWrite(i, g, first, second) => {
-            insert_and_write(arena, pointer(i, g), first, second)
-        }
-        Call::DirectAsk(i, g) => ask(arena, pointer(i, g)),
+        Call::DirectInsert(_, _, number) => insert(arena, p, Some(number)),
+        Call::DirectAsk(_, _) => insert(arena, p, None),
+        Call::DirectInsertAndWrite(_, _, first, second) => insert_and_write(
+            arena, p, first, second,
+        ),
         Call::PopFreeEnd(num) => Told::Size(arena.pop_free_end_slots(num)),
-        Call::Slots => Told::Size(arena.backing().len()),
-        Call::Index(i, g) => index(arena, pointer(i, g)),
-        Call::WriteIndex(i, g, number) => write_index(arena, pointer(i, g), number),
-        Call::GetInxUnwrap(i) => get_inx_unwrap(arena, inx(i)),
-        Call::WriteInxUnwrap(i, number) => write_inx_unwrap(arena, inx(i), number),
+        Call::Index(_, _) => index(arena, p),
+        Call::WriteIndex(_, _, number) => write_index(arena, p, number),
+        Call::GetInxUnwrap(_) => get_inx_unwrap(arena, p.inx()),
+        Call::WriteInxUnwrap(_, number) => write_inx_unwrap(arena, p.inx(), number),
         Call::AddToEach(number) => add_to_each(arena, number),
         Call::AddToEachEntry(number) => add_to_each_entry(arena, number),
         Call::AddToEachValue(number) => add_to_each_value(arena, number),
@@ -255,16 +249,29 @@ where
     }
 }
 
+// What a call answers of a direct arena.
+fn direct_answer<P: Ptr, S: NonZeroInxGenericStack<DirectSlot<P, Token>>>(
+    arena: &mut DirectArena<P, Token, S>,
+    call: Call,
+) -> Told
+where
+    P::Gen: Numbered,
+{
+    if !call.has_names::<P>() {
+        return Told::NoSuchCall;
+    }
+    match call {
+        Call::Bounds | Call::Slots => state_of(arena).told(call),
+        _ => own_answer(arena, call),
+    }
+}
+
 impl<P: Ptr, S: NonZeroInxGenericStack<DirectSlot<P, Token>>> TestedArena for Direct<P, S>
 where
     P::Gen: Numbered,
 {
     fn answer(&mut self, call: Call) -> Told {
-        if call.has_names::<P>() {
-            own_answer(&mut self.arena, call)
-        } else {
-            Told::NoSuchCall
-        }
+        direct_answer(&mut self.arena, call)
     }
 
     fn expected(told: Told) -> Told {
@@ -273,11 +280,6 @@ where
 
     fn state(&self) -> State {
         state_of(&self.arena)
-    }
-
-    fn text(&self, alloc: Global) -> Result<String, AllocError> {
-        let arena = &self.arena;
-        format!(in alloc; "{arena:?}")
     }
 }
 
@@ -298,7 +300,7 @@ where
     fn answer(&mut self, call: Call) -> Told {
         match call {
             Call::SetLimit(limit) => set_limit(&mut self.direct.arena, limit),
-            _ => self.direct.answer(call),
+            _ => direct_answer(&mut self.direct.arena, call),
         }
     }
 
@@ -307,11 +309,31 @@ where
     }
 
     fn state(&self) -> State {
-        self.direct.state()
+        state_of(&self.direct.arena)
     }
+}
 
-    fn text(&self, alloc: Global) -> Result<String, AllocError> {
-        self.direct.text(alloc)
+/// The pointer of a value that an arena inserts: the one body that takes an `Arena` as that trait,
+/// since each such body is slow to prove.
+pub fn put<P: Ptr, T: Drop, S: NonZeroInxGenericStack<ArenaSlot<P, T>>>(
+    arena: &mut Arena<P, T, S>,
+    value: T,
+) -> Result<P, ReallocationError> {
+    arena.insert(value)
+}
+
+/// Inserts a value under a pointer: whether there was a place.
+pub fn put_under<P: Ptr, T: Drop, S: NonZeroInxGenericStack<DirectSlot<P, T>>>(
+    arena: &mut DirectArena<P, T, S>,
+    p: P,
+    value: T,
+) -> bool {
+    match arena.direct_insert_within_capacity(p) {
+        Ok(entry) => {
+            entry.insert(value);
+            true
+        }
+        Err(_refused) => false,
     }
 }
 

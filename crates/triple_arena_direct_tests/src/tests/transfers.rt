@@ -1,9 +1,10 @@
 //! Transfer into direct arenas.
 
+use super::tested_direct::put;
 use std::alloc::Global;
 use std::num::NonZeroU64;
 use std::test::Fail;
-use triple_arena::{Arena, ArenaInsertTrait, ArenaTrait};
+use triple_arena::{Arena, ArenaTrait};
 use triple_arena_base::ReallocationError;
 use triple_arena_direct::{DirectArena, DirectSlot};
 use triple_arena_ptr::{P0, Q2};
@@ -14,9 +15,9 @@ type Limited = NonZeroInxLimitedVec<DirectSlot<Q2, &'static str>>;
 // Three entries, of which the first is removed.
 fn source(alloc: Global) -> Result<Arena<P0, &'static str>, ReallocationError> {
     let mut arena = Arena::new(alloc);
-    let a = arena.insert("a")?;
-    arena.insert("b")?;
-    arena.insert("c")?;
+    let a = put(&mut arena, "a")?;
+    put(&mut arena, "b")?;
+    put(&mut arena, "c")?;
     arena.remove(a).allow();
     Ok(arena)
 }
@@ -28,7 +29,7 @@ fn renumbers(alloc: Global) -> Result<bool, ReallocationError> {
     let seven = NonZeroU64::MIN.saturating_add(6);
     target.transfer_reallocating(seven, &mut source, |_old, taken, _new| taken.allow())?;
     let stands = format!(in alloc; "{target:?}")?.as_str() == r#"{Q2[1](7): "b", Q2[2](7): "c"}"#;
-    let next = source.insert("d")?;
+    let next = put(&mut source, "d")?;
     let goes_on = format!(in alloc; "{next}")?.as_str() == "P0[2](5)";
     Ok(stands && target.capacity() == 2 && goes_on && source.len() == 1)
 }
@@ -47,7 +48,7 @@ fn refused(alloc: Global) -> Result<bool, ReallocationError> {
         taken.allow()
     });
     let beyond = matches!(answer, Err(ReallocationError::BeyondMaxCapacity));
-    Ok(beyond && target.is_empty() && source.len() == 2 && source.generation().get() == 3)
+    Ok(beyond && target.len() == 0 && source.len() == 2 && source.generation().get() == 3)
 }
 
 #[test]

@@ -76,41 +76,23 @@ const BEYOND: Told = Told::Refused(ReallocationError::BeyondMaxCapacity);
 const FULL: (Call, Told) = (Call::Bounds, Told::Bounds(3, 3, Some(3)));
 
 // The refusals of an arena that has three places, a limit of three and no entry.
-#[derive(Drop)]
-struct EachRefusal;
-
-impl Trial for EachRefusal {
-    fn on<A: TestedArena>(&self, arena: &mut A) -> Result<(), Wrong> {
-        follow(
-            arena,
-            &[
-                (Call::SetGeneration(2), Told::Done),
-                (Call::Insert(1), Told::At(1, 2)),
-                (Call::Insert(2), Told::At(2, 2)),
-                (Call::Insert(3), Told::At(3, 2)),
-                FULL,
-                (Call::NextPtr, Told::Full),
-                (Call::InsertReserved(4), Told::Full),
-                (Call::InsertWithinCapacity(4), Told::Full),
-                (Call::InsertReallocating(4), BEYOND),
-                (Call::Insert(4), BEYOND),
-                (Call::Reallocate(4), BEYOND),
-                FULL,
-            ],
-        )
-    }
-}
+const EACH_REFUSAL: Steps<'static> = Steps(&[
+    (Call::SetGeneration(2), Told::Done),
+    (Call::Insert(1), Told::At(1, 2)),
+    (Call::Insert(2), Told::At(2, 2)),
+    (Call::Insert(3), Told::At(3, 2)),
+    FULL,
+    (Call::NextPtr, Told::Full),
+    (Call::InsertReserved(4), Told::Full),
+    (Call::InsertWithinCapacity(4), Told::Full),
+    (Call::InsertReallocating(4), BEYOND),
+    (Call::Insert(4), BEYOND),
+    (Call::Reallocate(4), BEYOND),
+    FULL,
+]);
 
 // Each call, and then the refusals, under a limit of three.
-#[derive(Drop)]
-struct UnderALimit;
-
-impl Trial for UnderALimit {
-    fn on<A: TestedArena>(&self, arena: &mut A) -> Result<(), Wrong> {
-        EachCall { limit: Some(3) }.on(arena)?;
-        EachRefusal.on(arena)
-    }
-}
+const UNDER_A_LIMIT: (EachCall, Steps<'static>) = (EachCall { limit: Some(3) }, EACH_REFUSAL);
 
 // Over each stack on the heap.
 fn on_heap_stacks<P: Ptr>(alloc: Global) -> Result<(), Wrong>
@@ -118,8 +100,8 @@ where
     P::Gen: Numbered,
 {
     on_heap::<P, _>(alloc, Some(3), &EachCall { limit: None })?;
-    on_limited::<P, _>(alloc, Some(3), &UnderALimit)?;
-    on_fixed::<P, _>(alloc, Some(3), &UnderALimit)
+    on_limited::<P, _>(alloc, Some(3), &UNDER_A_LIMIT)?;
+    on_fixed::<P, _>(alloc, Some(3), &UNDER_A_LIMIT)
 }
 
 #[test]
@@ -146,9 +128,9 @@ fn each_call_on_pointers_with_byte_generations(rt: HostRuntime) -> Result<(), Fa
 
 #[test]
 fn each_call_over_an_array(rt: HostRuntime) -> Result<(), Fail> {
-    on_new::<P0, Places<P0, 3>, _>(rt.alloc(), &UnderALimit)?;
-    on_new::<P5, Places<P5, 3>, _>(rt.alloc(), &UnderALimit)?;
-    on_new::<Narrow, Places<Narrow, 3>, _>(rt.alloc(), &UnderALimit)?;
+    on_new::<P0, Places<P0, 3>, _>(rt.alloc(), &UNDER_A_LIMIT)?;
+    on_new::<P5, Places<P5, 3>, _>(rt.alloc(), &UNDER_A_LIMIT)?;
+    on_new::<Narrow, Places<Narrow, 3>, _>(rt.alloc(), &UNDER_A_LIMIT)?;
     Ok(())
 }
 
@@ -227,37 +209,27 @@ fn an_index_past_64_bits_has_no_entry(rt: HostRuntime) -> Result<(), Fail> {
 }
 
 // Without generations an old pointer names what stands at its index.
-#[derive(Drop)]
-struct SamePointerAgain;
-
-impl Trial for SamePointerAgain {
-    fn on<A: TestedArena>(&self, arena: &mut A) -> Result<(), Wrong> {
-        follow(
-            arena,
-            &[
-                (Call::Insert(1), Told::At(1, 1)),
-                (Call::Insert(2), Told::At(2, 1)),
-                (Call::Invalidate(1, 1), Told::At(1, 1)),
-                (Call::Remove(1, 1), Told::Holds(1)),
-                (Call::Contains(1, 1), Told::Is(false)),
-                (Call::Remove(1, 1), Told::Invalid),
-                (Call::Insert(3), Told::At(1, 1)),
-                (Call::Get(1, 1), Told::Holds(3)),
-                (Call::Get(2, 1), Told::Holds(2)),
-                (Call::Clear, Told::Done),
-                (Call::Contains(1, 1), Told::Is(false)),
-                (Call::Insert(4), Told::At(1, 1)),
-                (Call::Get(1, 1), Told::Holds(4)),
-            ],
-        )
-    }
-}
+const SAME_POINTER_AGAIN: Steps<'static> = Steps(&[
+    (Call::Insert(1), Told::At(1, 1)),
+    (Call::Insert(2), Told::At(2, 1)),
+    (Call::Invalidate(1, 1), Told::At(1, 1)),
+    (Call::Remove(1, 1), Told::Holds(1)),
+    (Call::Contains(1, 1), Told::Is(false)),
+    (Call::Remove(1, 1), Told::Invalid),
+    (Call::Insert(3), Told::At(1, 1)),
+    (Call::Get(1, 1), Told::Holds(3)),
+    (Call::Get(2, 1), Told::Holds(2)),
+    (Call::Clear, Told::Done),
+    (Call::Contains(1, 1), Told::Is(false)),
+    (Call::Insert(4), Told::At(1, 1)),
+    (Call::Get(1, 1), Told::Holds(4)),
+]);
 
 #[test]
 fn without_generations_an_index_is_a_pointer(rt: HostRuntime) -> Result<(), Fail> {
-    on_heap::<P4, _>(rt.alloc(), None, &SamePointerAgain)?;
-    on_heap::<P5, _>(rt.alloc(), None, &SamePointerAgain)?;
-    on_heap::<PtrNoGen<P0>, _>(rt.alloc(), None, &SamePointerAgain)?;
+    on_heap::<P4, _>(rt.alloc(), None, &SAME_POINTER_AGAIN)?;
+    on_heap::<P5, _>(rt.alloc(), None, &SAME_POINTER_AGAIN)?;
+    on_heap::<PtrNoGen<P0>, _>(rt.alloc(), None, &SAME_POINTER_AGAIN)?;
     Ok(())
 }
 

@@ -5,7 +5,7 @@ use std::test::Fail;
 use triple_arena_base::ReallocationError;
 use triple_arena_ptr::{P0, P1, P5};
 use triple_arena_test_kit::{
-    Call, Narrow, Places, TestedArena, Tidied, Told, Trial, Wrong, follow, on_fixed, on_limited,
+    Call, Narrow, Places, Steps, TestedArena, Tidied, Told, Trial, Wrong, on_fixed, on_limited,
     on_little, on_new, step,
 };
 
@@ -14,29 +14,19 @@ const BEYOND: Told = Told::Refused(ReallocationError::BeyondMaxCapacity);
 const NO_MEMORY: Told = Told::Refused(ReallocationError::AllocError);
 
 // Four entries, of which the last goes and two before it, so that the third slot is free at the end.
-#[derive(Drop)]
-struct ThreeFree;
-
-impl Trial for ThreeFree {
-    fn on<A: TestedArena>(&self, arena: &mut A) -> Result<(), Wrong> {
-        follow(
-            arena,
-            &[
-                (Call::Clear, Told::Done),
-                (Call::SetGeneration(2), Told::Done),
-                (Call::Insert(1), Told::At(1, 2)),
-                (Call::Insert(2), Told::At(2, 2)),
-                (Call::Insert(3), Told::At(3, 2)),
-                (Call::Insert(4), Told::At(4, 2)),
-                (Call::RemoveInx(1), Told::Held(2, 1)),
-                (Call::RemoveInx(3), Told::Held(2, 3)),
-                (Call::RemoveInx(4), Told::Held(2, 4)),
-                (Call::Slots, Told::Size(3)),
-                (Call::FirstFree, Told::Free([3, 1, 0])),
-            ],
-        )
-    }
-}
+const THREE_FREE: Steps<'static> = Steps(&[
+    (Call::Clear, Told::Done),
+    (Call::SetGeneration(2), Told::Done),
+    (Call::Insert(1), Told::At(1, 2)),
+    (Call::Insert(2), Told::At(2, 2)),
+    (Call::Insert(3), Told::At(3, 2)),
+    (Call::Insert(4), Told::At(4, 2)),
+    (Call::RemoveInx(1), Told::Held(2, 1)),
+    (Call::RemoveInx(3), Told::Held(2, 3)),
+    (Call::RemoveInx(4), Told::Held(2, 4)),
+    (Call::Slots, Told::Size(3)),
+    (Call::FirstFree, Told::Free([3, 1, 0])),
+]);
 
 // Each reallocation that is asked for is refused so, and puts the free list in order all the same.
 #[derive(Drop)]
@@ -47,7 +37,7 @@ struct RefusesReallocation<'a> {
 impl Trial for RefusesReallocation<'_> {
     fn on<A: TestedArena>(&self, arena: &mut A) -> Result<(), Wrong> {
         for (asked, refused) in self.asked {
-            ThreeFree.on(arena)?;
+            THREE_FREE.on(arena)?;
             Tidied(&[
                 (Call::Reallocate(*asked), *refused),
                 (Call::Slots, Told::Size(2)),
@@ -80,32 +70,22 @@ fn past_the_greatest_index_and_the_limit(rt: HostRuntime) -> Result<(), Fail> {
 }
 
 // Past a limit of four.
-#[derive(Drop)]
-struct PastFour;
-
-impl Trial for PastFour {
-    fn on<A: TestedArena>(&self, arena: &mut A) -> Result<(), Wrong> {
-        let asked = &[(5, BEYOND), (1 << 61, BEYOND), (usize::MAX, BEYOND)];
-        RefusesReallocation { asked }.on(arena)
-    }
-}
+const PAST_FOUR: RefusesReallocation<'static> = RefusesReallocation {
+    asked: &[(5, BEYOND), (1 << 61, BEYOND), (usize::MAX, BEYOND)],
+};
 
 // Past the memory for four, and past a limit of six.
-#[derive(Drop)]
-struct PastSix;
-
-impl Trial for PastSix {
-    fn on<A: TestedArena>(&self, arena: &mut A) -> Result<(), Wrong> {
-        step(arena, Call::SetLimit(6), Told::Done)?;
-        let asked = &[(5, NO_MEMORY), (6, NO_MEMORY), (7, BEYOND)];
-        RefusesReallocation { asked }.on(arena)
-    }
-}
+const PAST_SIX: (Steps<'static>, RefusesReallocation<'static>) = (
+    Steps(&[(Call::SetLimit(6), Told::Done)]),
+    RefusesReallocation {
+        asked: &[(5, NO_MEMORY), (6, NO_MEMORY), (7, BEYOND)],
+    },
+);
 
 #[test]
 fn past_the_limit_and_the_memory(rt: HostRuntime) -> Result<(), Fail> {
-    on_limited::<P0, _>(rt.alloc(), Some(4), &PastFour)?;
-    on_little::<P0, 4, _>(rt.alloc(), Some(4), &(PastFour, PastSix))?;
+    on_limited::<P0, _>(rt.alloc(), Some(4), &PAST_FOUR)?;
+    on_little::<P0, 4, _>(rt.alloc(), Some(4), &(PAST_FOUR, PAST_SIX))?;
     Ok(())
 }
 

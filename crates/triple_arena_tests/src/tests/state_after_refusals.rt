@@ -103,7 +103,7 @@ fn a_refused_reallocation_has_put_the_free_list_in_order(rt: HostRuntime) -> Res
 
 // That an arena of no entries is as it was made.
 fn is_as_made<T, S: NonZeroInxGenericStack<ArenaSlot<P0, T>>>(arena: &Arena<P0, T, S>) -> bool {
-    arena.is_empty()
+    arena.len() == 0
         && arena.capacity() == 0
         && arena.max_capacity().is_none()
         && arena.generation().get() == 2
@@ -132,43 +132,40 @@ fn has_no_place<T, S: NonZeroInxGenericStack<ArenaSlot<P0, T>>>(
     arena.entry_insert_within_capacity().is_err()
 }
 
-// Entries of an arena without slots, each of which asks for more slots than a vector may hold.
+// Entries of an arena without slots, each of which asks for more slots than a vector may hold: each is
+// refused, and leaves it as it was made.
+fn refuses_each_entry<T, S: NonZeroInxGenericStack<ArenaSlot<P0, T>>>(
+    arena: &mut Arena<P0, T, S>,
+) -> bool {
+    let refused = Some(ReallocationError::AllocError);
+    is_as_made(arena)
+        && refusal(arena) == refused
+        && is_as_made(arena)
+        && refusal_reallocating(arena) == refused
+        && is_as_made(arena)
+        && has_no_place(arena)
+        && is_as_made(arena)
+}
+
 #[test]
 fn a_refused_growth_changes_nothing(rt: HostRuntime) {
     let mut arena: Arena<P0, Long> = Arena::new(rt.alloc());
-    let refused = Some(ReallocationError::AllocError);
-    assert!(rt; is_as_made(&arena));
-    assert!(rt; refusal(&mut arena) == refused);
-    assert!(rt; is_as_made(&arena));
-    assert!(rt; refusal_reallocating(&mut arena) == refused);
-    assert!(rt; is_as_made(&arena));
-    assert!(rt; has_no_place(&mut arena));
-    assert!(rt; is_as_made(&arena));
+    assert!(rt; refuses_each_entry(&mut arena));
     // So long a value could not be dropped.
     mem::forget(arena);
 }
 
 // Removals and an insertion, which leave the second slot free, and a later generation at the fourth.
-#[derive(Drop)]
-struct Ended;
-
-impl Trial for Ended {
-    fn on<A: TestedArena>(&self, arena: &mut A) -> Result<(), Wrong> {
-        follow(
-            arena,
-            &[
-                (Call::Insert(1), Told::At(1, 2)),
-                (Call::Insert(2), Told::At(2, 2)),
-                (Call::Insert(3), Told::At(3, 2)),
-                (Call::Insert(4), Told::At(4, 2)),
-                (Call::Insert(5), Told::At(5, 2)),
-                (Call::Remove(2, 2), Told::Holds(2)),
-                (Call::Remove(4, 2), Told::Holds(4)),
-                (Call::Insert(6), Told::At(4, 4)),
-            ],
-        )
-    }
-}
+const ENDED: Steps<'static> = Steps(&[
+    (Call::Insert(1), Told::At(1, 2)),
+    (Call::Insert(2), Told::At(2, 2)),
+    (Call::Insert(3), Told::At(3, 2)),
+    (Call::Insert(4), Told::At(4, 2)),
+    (Call::Insert(5), Told::At(5, 2)),
+    (Call::Remove(2, 2), Told::Holds(2)),
+    (Call::Remove(4, 2), Told::Holds(4)),
+    (Call::Insert(6), Told::At(4, 4)),
+]);
 
 // The calls by pointers and by indexes that have no entry.
 #[derive(Drop)]
@@ -199,7 +196,7 @@ impl Trial for NothingIsNamed {
 
 #[test]
 fn a_call_on_an_invalid_pointer_changes_nothing(rt: HostRuntime) -> Result<(), Fail> {
-    on_heap::<P0, _>(rt.alloc(), None, &(Ended, NothingIsNamed))?;
+    on_heap::<P0, _>(rt.alloc(), None, &(ENDED, NothingIsNamed))?;
     Ok(())
 }
 

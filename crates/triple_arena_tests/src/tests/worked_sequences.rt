@@ -7,8 +7,8 @@ use triple_arena::ArenaSlot;
 use triple_arena_base::ReallocationError;
 use triple_arena_ptr::{P0, P4, P5};
 use triple_arena_test_kit::{
-    Call, Heap, Steps, TestedArena, Token, Told, Trial, Wrong, follow, from_empty, on_heap,
-    on_limited, step,
+    Call, Heap, Steps, TestedArena, Token, Told, Trial, Wrong, from_empty, on_heap, on_limited,
+    step,
 };
 
 const BEYOND: Told = Told::Refused(ReallocationError::BeyondMaxCapacity);
@@ -121,29 +121,19 @@ fn an_invalidated_pointer_finds_nothing(rt: HostRuntime) -> Result<(), Fail> {
 }
 
 // Five entries, of which the first and then the third are removed.
-#[derive(Drop)]
-struct TwoFree;
-
-impl Trial for TwoFree {
-    fn on<A: TestedArena>(&self, arena: &mut A) -> Result<(), Wrong> {
-        follow(
-            arena,
-            &[
-                (Call::Insert(1), Told::At(1, 2)),
-                (Call::Insert(2), Told::At(2, 2)),
-                (Call::Insert(3), Told::At(3, 2)),
-                (Call::Insert(4), Told::At(4, 2)),
-                (Call::Insert(5), Told::At(5, 2)),
-                (Call::Remove(1, 2), Told::Holds(1)),
-                (Call::Remove(3, 2), Told::Holds(3)),
-            ],
-        )
-    }
-}
+const TWO_FREE: Steps<'static> = Steps(&[
+    (Call::Insert(1), Told::At(1, 2)),
+    (Call::Insert(2), Told::At(2, 2)),
+    (Call::Insert(3), Told::At(3, 2)),
+    (Call::Insert(4), Told::At(4, 2)),
+    (Call::Insert(5), Told::At(5, 2)),
+    (Call::Remove(1, 2), Told::Holds(1)),
+    (Call::Remove(3, 2), Told::Holds(3)),
+]);
 
 // The calls on an arena with these entries.
 fn with_two_free(alloc: Global, steps: &[(Call, Told)]) -> Result<(), Wrong> {
-    on_heap::<P0, _>(alloc, None, &(TwoFree, Steps(steps)))
+    on_heap::<P0, _>(alloc, None, &(TWO_FREE, Steps(steps)))
 }
 
 #[test]

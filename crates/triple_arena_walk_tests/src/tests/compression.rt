@@ -3,34 +3,22 @@
 use std::alloc::Global;
 use std::test::Fail;
 use triple_arena_ptr::{P0, P2};
-use triple_arena_test_kit::{
-    Call, Steps, TestedArena, Told, Trial, Wrong, follow, from_empty, on_heap,
-};
+use triple_arena_test_kit::{Call, NO_ENTRY, Steps, Told, Wrong, from_empty, on_heap};
 
 // Five entries, of which those at the indexes 1 and 4 go.
-#[derive(Drop)]
-struct WithGaps;
-
-impl Trial for WithGaps {
-    fn on<A: TestedArena>(&self, arena: &mut A) -> Result<(), Wrong> {
-        follow(
-            arena,
-            &[
-                (Call::Insert(10), Told::At(1, 2)),
-                (Call::Insert(20), Told::At(2, 2)),
-                (Call::Insert(30), Told::At(3, 2)),
-                (Call::Insert(40), Told::At(4, 2)),
-                (Call::Insert(50), Told::At(5, 2)),
-                (Call::Remove(1, 2), Told::Holds(10)),
-                (Call::Remove(4, 2), Told::Holds(40)),
-            ],
-        )
-    }
-}
+const WITH_GAPS: Steps<'static> = Steps(&[
+    (Call::Insert(10), Told::At(1, 2)),
+    (Call::Insert(20), Told::At(2, 2)),
+    (Call::Insert(30), Told::At(3, 2)),
+    (Call::Insert(40), Told::At(4, 2)),
+    (Call::Insert(50), Told::At(5, 2)),
+    (Call::Remove(1, 2), Told::Holds(10)),
+    (Call::Remove(4, 2), Told::Holds(40)),
+]);
 
 // The calls on an arena with gaps.
 fn with_gaps(alloc: Global, steps: &[(Call, Told)]) -> Result<(), Wrong> {
-    on_heap::<P0, _>(alloc, None, &(WithGaps, Steps(steps)))
+    on_heap::<P0, _>(alloc, None, &(WITH_GAPS, Steps(steps)))
 }
 
 #[test]
@@ -39,19 +27,13 @@ fn a_compression_closes_the_gaps(rt: HostRuntime) -> Result<(), Fail> {
         rt.alloc(),
         &[
             (Call::Compress(false), Told::Done),
-            (
-                Call::Entries,
-                Told::Met([Some((1, 5, 20)), Some((2, 5, 30)), Some((3, 5, 50))]),
-            ),
+            (Call::Entries, Told::Met((1, 5, 20), (2, 5, 30), (3, 5, 50))),
             (Call::Slots, Told::Size(3)),
             (Call::Bounds, Told::Bounds(3, 8, None)),
             // the next insertion comes behind the entries
             (Call::Insert(60), Told::At(4, 5)),
             (Call::Get(4, 5), Told::Holds(60)),
-            (
-                Call::Entries,
-                Told::Met([Some((1, 5, 20)), Some((2, 5, 30)), Some((3, 5, 50))]),
-            ),
+            (Call::Entries, Told::Met((1, 5, 20), (2, 5, 30), (3, 5, 50))),
             (Call::Slots, Told::Size(4)),
             (Call::Bounds, Told::Bounds(4, 8, None)),
         ],
@@ -60,10 +42,7 @@ fn a_compression_closes_the_gaps(rt: HostRuntime) -> Result<(), Fail> {
         rt.alloc(),
         &[
             (Call::Compress(true), Told::Done),
-            (
-                Call::Entries,
-                Told::Met([Some((1, 2, 20)), Some((2, 2, 30)), Some((3, 2, 50))]),
-            ),
+            (Call::Entries, Told::Met((1, 2, 20), (2, 2, 30), (3, 2, 50))),
             (Call::Slots, Told::Size(3)),
             (Call::Bounds, Told::Bounds(3, 8, None)),
         ],
@@ -80,11 +59,7 @@ fn a_closure_meets_each_move_in_order(rt: HostRuntime) -> Result<(), Fail> {
             // each value, its old index and its new one
             (
                 Call::Entries,
-                Told::Met([
-                    Some((1, 5, 20_02_01)),
-                    Some((2, 5, 30_03_02)),
-                    Some((3, 5, 50_05_03)),
-                ]),
+                Told::Met((1, 5, 20_02_01), (2, 5, 30_03_02), (3, 5, 50_05_03)),
             ),
             (Call::Slots, Told::Size(3)),
             (Call::Bounds, Told::Bounds(3, 8, None)),
@@ -102,7 +77,7 @@ fn a_compression_tells_of_a_wrap(rt: HostRuntime) -> Result<(), Fail> {
             (Call::SetGeneration(0xffff), Told::Done),
             (Call::Insert(7), Told::At(1, 0xffff)),
             (Call::Compress(false), Told::Wrapped),
-            (Call::Entries, Told::Met([Some((1, 2, 7)), None, None])),
+            (Call::Entries, Told::Met((1, 2, 7), NO_ENTRY, NO_ENTRY)),
             (Call::Slots, Told::Size(1)),
             (Call::Bounds, Told::Bounds(1, 4, None)),
         ],
@@ -113,7 +88,7 @@ fn a_compression_tells_of_a_wrap(rt: HostRuntime) -> Result<(), Fail> {
             (Call::SetGeneration(0xffff), Told::Done),
             (Call::Insert(7), Told::At(1, 0xffff)),
             (Call::Compress(true), Told::Done),
-            (Call::Entries, Told::Met([Some((1, 2, 7)), None, None])),
+            (Call::Entries, Told::Met((1, 2, 7), NO_ENTRY, NO_ENTRY)),
             (Call::Slots, Told::Size(1)),
             (Call::Bounds, Told::Bounds(1, 4, None)),
         ],
@@ -128,7 +103,7 @@ fn a_compression_tells_of_a_wrap(rt: HostRuntime) -> Result<(), Fail> {
             (Call::Remove(2, 2), Told::Holds(2)),
             (Call::SetGeneration(0xffff), Told::Done),
             (Call::Compress(false), Told::Done),
-            (Call::Entries, Told::Met([None, None, None])),
+            (Call::Entries, Told::Met(NO_ENTRY, NO_ENTRY, NO_ENTRY)),
             (Call::Slots, Told::Size(0)),
             (Call::Bounds, Told::Bounds(0, 4, None)),
             (Call::Insert(3), Told::At(1, 0xffff)),

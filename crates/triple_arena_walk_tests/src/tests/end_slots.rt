@@ -3,37 +3,31 @@
 use std::test::Fail;
 use triple_arena_ptr::P0;
 use triple_arena_test_kit::{
-    Call, Removed, SLOTS, State, TestedArena, Told, Trial, Wrong, follow, follow_to,
-    follow_unchanged, on_heap,
+    Call, Removed, SLOTS, State, Steps, TestedArena, Told, Trial, Unchanged, Wrong, follow,
+    follow_to, on_heap,
 };
 
 // Of five entries the fourth and the fifth go, and the second.
-#[derive(Drop)]
-struct PoppedSlots;
-
-impl Trial for PoppedSlots {
-    fn on<A: TestedArena>(&self, arena: &mut A) -> Result<(), Wrong> {
-        let (entries, removed) = (5, &[2, 4, 5]);
-        Removed { entries, removed }.on(arena)?;
-        follow(
-            arena,
-            &[
-                (Call::Slots, Told::Size(4)),
-                (Call::Root, Told::Size(4)),
-                (Call::RemoveFreeEnd, Told::Done),
-                (Call::Slots, Told::Size(3)),
-                (Call::Root, Told::Size(2)),
-                (Call::Bounds, Told::Bounds(2, 8, None)),
-                (Call::Insert(5), Told::At(2, 5)),
-                (Call::Insert(6), Told::At(4, 5)),
-            ],
-        )
-    }
-}
+const POPPED_SLOTS: (Removed<'static>, Steps<'static>) = (
+    Removed {
+        entries: 5,
+        removed: &[2, 4, 5],
+    },
+    Steps(&[
+        (Call::Slots, Told::Size(4)),
+        (Call::Root, Told::Size(4)),
+        (Call::RemoveFreeEnd, Told::Done),
+        (Call::Slots, Told::Size(3)),
+        (Call::Root, Told::Size(2)),
+        (Call::Bounds, Told::Bounds(2, 8, None)),
+        (Call::Insert(5), Told::At(2, 5)),
+        (Call::Insert(6), Told::At(4, 5)),
+    ]),
+);
 
 #[test]
 fn popped_slots_leave_the_free_list(rt: HostRuntime) -> Result<(), Fail> {
-    on_heap::<P0, _>(rt.alloc(), None, &PoppedSlots)?;
+    on_heap::<P0, _>(rt.alloc(), None, &POPPED_SLOTS)?;
     Ok(())
 }
 
@@ -79,53 +73,33 @@ fn the_rest_of_the_free_list_keeps_its_order(rt: HostRuntime) -> Result<(), Fail
     Ok(())
 }
 
-// So many entries, of which some were removed in turn, and the last stays.
-#[derive(Drop)]
-struct LastStays<'a> {
-    entries: usize,
-    removed: &'a [usize],
-}
-
-impl Trial for LastStays<'_> {
-    fn on<A: TestedArena>(&self, arena: &mut A) -> Result<(), Wrong> {
-        let (entries, removed) = (self.entries, self.removed);
-        Removed { entries, removed }.on(arena)?;
-        follow_unchanged(arena, &[(Call::RemoveFreeEnd, Told::Done)])
-    }
-}
-
 #[test]
 fn where_the_last_slot_has_an_entry_all_stays(rt: HostRuntime) -> Result<(), Fail> {
     for (entries, removed) in [(0, &[][..]), (5, &[][..]), (5, &[2, 4, 1][..])] {
-        on_heap::<P0, _>(rt.alloc(), None, &LastStays { entries, removed })?;
+        let stays = Unchanged(&[(Call::RemoveFreeEnd, Told::Done)]);
+        on_heap::<P0, _>(rt.alloc(), None, &(Removed { entries, removed }, stays))?;
     }
     Ok(())
 }
 
 // Each of three entries goes.
-#[derive(Drop)]
-struct AllFree;
-
-impl Trial for AllFree {
-    fn on<A: TestedArena>(&self, arena: &mut A) -> Result<(), Wrong> {
-        let (entries, removed) = (3, &[1, 2, 3]);
-        Removed { entries, removed }.on(arena)?;
-        follow(
-            arena,
-            &[
-                (Call::Slots, Told::Size(2)),
-                (Call::RemoveFreeEnd, Told::Done),
-                (Call::Slots, Told::Size(0)),
-                (Call::Root, Told::Nothing),
-                (Call::Bounds, Told::Bounds(0, 4, None)),
-                (Call::Insert(3), Told::At(1, 5)),
-            ],
-        )
-    }
-}
+const ALL_FREE: (Removed<'static>, Steps<'static>) = (
+    Removed {
+        entries: 3,
+        removed: &[1, 2, 3],
+    },
+    Steps(&[
+        (Call::Slots, Told::Size(2)),
+        (Call::RemoveFreeEnd, Told::Done),
+        (Call::Slots, Told::Size(0)),
+        (Call::Root, Told::Nothing),
+        (Call::Bounds, Told::Bounds(0, 4, None)),
+        (Call::Insert(3), Told::At(1, 5)),
+    ]),
+);
 
 #[test]
 fn where_all_slots_are_free_none_is_left(rt: HostRuntime) -> Result<(), Fail> {
-    on_heap::<P0, _>(rt.alloc(), None, &AllFree)?;
+    on_heap::<P0, _>(rt.alloc(), None, &ALL_FREE)?;
     Ok(())
 }

@@ -4,14 +4,15 @@ ghost use Rattle.std.specs.Prelude.{◌≡◌, IfOk, OnOk, OnErr};
 ghost use Rattle.triple_arena.specs.Insertion.{next_pointer};
 ghost use Rattle.triple_arena.specs.Capacity.{grown};
 
+use std::alloc::Global;
 use std::test::Fail;
 use triple_arena::{Arena, ArenaInsertEntryTrait, ArenaSlot};
 use triple_arena_base::ReallocationError;
 use triple_arena_ptr::{P0, P4, P5, Ptr, PtrGen, PtrInx};
 use triple_arena_stack::NonZeroInxGenericStack;
 use triple_arena_test_kit::{
-    Call, Heap, Narrow, Places, Steps, TestedArena, Told, Trial, Wrong, follow, from_empty,
-    new_arena, on_fixed, on_heap, on_limited, on_new, pointer, step,
+    Call, Heap, Narrow, Places, Steps, TestedArena, Token, Told, Trial, Wrong, follow, from_empty,
+    is_told, new_arena, on_fixed, on_heap, on_limited, on_new, pointer, step,
 };
 
 // Takes an entry of any arena and lets it go: nothing is inserted, and its room stays.
@@ -26,10 +27,12 @@ fn pointer_of_entry<P: Ptr, T, S: NonZeroInxGenericStack<ArenaSlot<P, T>>>(
     Ok(entry.ptr())
 }
 
-#[test]
-fn a_dropped_entry_leaves_its_room(rt: HostRuntime) -> Result<(), Fail> {
-    let mut arena = new_arena::<P0, Heap<P0>>(rt.alloc());
-    assert!(rt; pointer_of_entry(&mut arena) == Ok(pointer(1, 2)));
+fn room_of_a_dropped_entry<S: NonZeroInxGenericStack<ArenaSlot<P0, Token>> + Drop>(
+    alloc: Global,
+) -> Result<(), Wrong> {
+    let mut arena: Arena<P0, Token, S> = new_arena(alloc);
+    let is_first = pointer_of_entry(&mut arena) == Ok(pointer(1, 2));
+    is_told(0, Told::Is(is_first), Told::Is(true))?;
     follow(
         &mut arena,
         &[
@@ -39,7 +42,12 @@ fn a_dropped_entry_leaves_its_room(rt: HostRuntime) -> Result<(), Fail> {
             (Call::Get(1, 2), Told::Holds(1)),
             (Call::Bounds, Told::Bounds(1, 4, None)),
         ],
-    )?;
+    )
+}
+
+#[test]
+fn a_dropped_entry_leaves_its_room(rt: HostRuntime) -> Result<(), Fail> {
+    room_of_a_dropped_entry::<Heap<P0>>(rt.alloc())?;
     Ok(())
 }
 
@@ -120,68 +128,48 @@ const BEYOND: Told = Told::Refused(ReallocationError::BeyondMaxCapacity);
 const FULL: (Call, Told) = (Call::Bounds, Told::Bounds(2, 2, Some(2)));
 
 // The calls on the entries of an arena that has two places, no entry and a limit of two.
-#[derive(Drop)]
-struct EachEntryCall;
-
-impl Trial for EachEntryCall {
-    fn on<A: TestedArena>(&self, arena: &mut A) -> Result<(), Wrong> {
-        follow(
-            arena,
-            &[
-                (Call::EntryPtrWithin, Told::At(1, 2)),
-                (Call::EntryPtrReallocating, Told::At(1, 2)),
-                (Call::EntryPtr, Told::At(1, 2)),
-                (Call::IsEmpty, Told::Is(true)),
-                (Call::EntryWrite(1, 10), Told::Done),
-                (Call::EntryInsert(2), Told::At(2, 2)),
-                (Call::Write(2, 2, 20), Told::Holds(2)),
-                (Call::Get(1, 2), Told::Holds(10)),
-                (Call::Get(2, 2), Told::Holds(20)),
-                FULL,
-                (Call::EntryPtrWithin, Told::Full),
-                (Call::EntryPtrReallocating, BEYOND),
-                (Call::EntryPtr, BEYOND),
-                FULL,
-                (Call::Get(1, 2), Told::Holds(10)),
-                (Call::Get(2, 2), Told::Holds(20)),
-            ],
-        )
-    }
-}
+const EACH_ENTRY_CALL: Steps<'static> = Steps(&[
+    (Call::EntryPtrWithin, Told::At(1, 2)),
+    (Call::EntryPtrReallocating, Told::At(1, 2)),
+    (Call::EntryPtr, Told::At(1, 2)),
+    (Call::IsEmpty, Told::Is(true)),
+    (Call::EntryWrite(1, 10), Told::Done),
+    (Call::EntryInsert(2), Told::At(2, 2)),
+    (Call::Write(2, 2, 20), Told::Holds(2)),
+    (Call::Get(1, 2), Told::Holds(10)),
+    (Call::Get(2, 2), Told::Holds(20)),
+    FULL,
+    (Call::EntryPtrWithin, Told::Full),
+    (Call::EntryPtrReallocating, BEYOND),
+    (Call::EntryPtr, BEYOND),
+    FULL,
+    (Call::Get(1, 2), Told::Holds(10)),
+    (Call::Get(2, 2), Told::Holds(20)),
+]);
 
 #[test]
 fn each_entry_call_on_each_stack_with_a_limit(rt: HostRuntime) -> Result<(), Fail> {
-    on_limited::<P0, _>(rt.alloc(), Some(2), &EachEntryCall)?;
-    on_fixed::<P4, _>(rt.alloc(), Some(2), &EachEntryCall)?;
-    on_new::<Narrow, Places<Narrow, 2>, _>(rt.alloc(), &EachEntryCall)?;
+    on_limited::<P0, _>(rt.alloc(), Some(2), &EACH_ENTRY_CALL)?;
+    on_fixed::<P4, _>(rt.alloc(), Some(2), &EACH_ENTRY_CALL)?;
+    on_new::<Narrow, Places<Narrow, 2>, _>(rt.alloc(), &EACH_ENTRY_CALL)?;
     Ok(())
 }
 
 // Insertions by each of the three calls, on an arena with place for three.
-#[derive(Drop)]
-struct EachEntryInsertion;
-
-impl Trial for EachEntryInsertion {
-    fn on<A: TestedArena>(&self, arena: &mut A) -> Result<(), Wrong> {
-        follow(
-            arena,
-            &[
-                (Call::EntryInsert(1), Told::At(1, 2)),
-                (Call::EntryInsertReallocating(2), Told::At(2, 2)),
-                (Call::EntryInsertWithin(3), Told::At(3, 2)),
-                (Call::Get(1, 2), Told::Holds(1)),
-                (Call::Get(2, 2), Told::Holds(2)),
-                (Call::Get(3, 2), Told::Holds(3)),
-            ],
-        )
-    }
-}
+const EACH_ENTRY_INSERTION: Steps<'static> = Steps(&[
+    (Call::EntryInsert(1), Told::At(1, 2)),
+    (Call::EntryInsertReallocating(2), Told::At(2, 2)),
+    (Call::EntryInsertWithin(3), Told::At(3, 2)),
+    (Call::Get(1, 2), Told::Holds(1)),
+    (Call::Get(2, 2), Told::Holds(2)),
+    (Call::Get(3, 2), Told::Holds(3)),
+]);
 
 #[test]
 fn an_entry_over_each_stack_by_its_name(rt: HostRuntime) -> Result<(), Fail> {
-    on_heap::<P0, _>(rt.alloc(), Some(3), &EachEntryInsertion)?;
-    on_limited::<P0, _>(rt.alloc(), Some(3), &EachEntryInsertion)?;
-    on_fixed::<P0, _>(rt.alloc(), Some(3), &EachEntryInsertion)?;
-    on_new::<P0, Places<P0, 3>, _>(rt.alloc(), &EachEntryInsertion)?;
+    on_heap::<P0, _>(rt.alloc(), Some(3), &EACH_ENTRY_INSERTION)?;
+    on_limited::<P0, _>(rt.alloc(), Some(3), &EACH_ENTRY_INSERTION)?;
+    on_fixed::<P0, _>(rt.alloc(), Some(3), &EACH_ENTRY_INSERTION)?;
+    on_new::<P0, Places<P0, 3>, _>(rt.alloc(), &EACH_ENTRY_INSERTION)?;
     Ok(())
 }

@@ -6,11 +6,12 @@ ghost use Rattle.triple_arena.specs.Entries.{look_up_in};
 use std::alloc::Global;
 use std::mem;
 use std::test::Fail;
-use triple_arena::{Arena, ArenaInsertTrait, ArenaTrait};
+use triple_arena::{Arena, ArenaInsertTrait, ArenaSlot, ArenaTrait};
 use triple_arena_base::{InvalidationResult, ReallocationError};
 use triple_arena_ptr::{P0, Ptr, PtrGen, PtrInx};
+use triple_arena_stack::NonZeroInxGenericStack;
 use triple_arena_test_kit::{
-    Call, Heap, Limited, TestedArena, Token, Told, Wrong, is_told, pointer, step,
+    Call, Heap, Limited, TestedArena, Token, Told, Wrong, is_told, pointer, step, with_room,
 };
 
 // Puts another value under a pointer, and gives the one that stood there.
@@ -74,24 +75,15 @@ fn take_number<A: ArenaTrait<P0, Token>>(arena: &mut A, p: P0) -> Option<u64> {
 }
 
 // The callers on an arena without entries.
-fn callers<A: ArenaInsertTrait<P0, Token> + TestedArena + Drop>(
-    alloc: Global,
-) -> Result<(), Wrong> {
-    let mut arena = A::new(alloc);
+fn callers<A: ArenaInsertTrait<P0, Token> + TestedArena>(arena: &mut A) -> Result<(), Wrong> {
     let p = pointer(1, 2);
-    let all = put_number(&mut arena, 10) == Some(p)
-        && put_number(&mut arena, 20) == Some(pointer(2, 2))
-        && exchange_number(&mut arena, p, 11) == Ok(10)
-        && take_number(&mut arena, p) == Some(11)
-        && exchange_number(&mut arena, p, 12) == Err(12);
+    let all = put_number(arena, 10) == Some(p)
+        && put_number(arena, 20) == Some(pointer(2, 2))
+        && exchange_number(arena, p, 11) == Ok(10)
+        && take_number(arena, p) == Some(11)
+        && exchange_number(arena, p, 12) == Err(12);
     is_told(0, Told::Is(all), Told::Is(true))?;
-    step(&mut arena, Call::Get(2, 2), Told::Holds(20))
-}
-
-#[test]
-fn callers_over_any_arena(rt: HostRuntime) -> Result<(), Fail> {
-    callers::<Arena<P0, Token, Heap<P0>>>(rt.alloc())?;
-    Ok(())
+    step(arena, Call::Get(2, 2), Told::Holds(20))
 }
 
 // Makes place for one more entry, and inserts there.
@@ -120,39 +112,68 @@ fn is_placed<A: ArenaInsertTrait<P0, Token>>(
 }
 
 // A place for each of many insertions.
-fn a_place_each<A: ArenaInsertTrait<P0, Token> + TestedArena + Drop>(
-    alloc: Global,
-) -> Result<(), Wrong> {
-    let mut arena = A::new(alloc);
+fn a_place_each<A: ArenaInsertTrait<P0, Token> + TestedArena>(arena: &mut A) -> Result<(), Wrong> {
     for index in 1..100 {
-        let placed = is_placed(&mut arena, 7, Ok(index));
+        let placed = is_placed(arena, 7, Ok(index));
         is_told(index, Told::Is(placed), Told::Is(true))?;
-        step(&mut arena, Call::Bounds, Told::Bounds(index, index, None))?;
+        step(arena, Call::Bounds, Told::Bounds(index, index, None))?;
     }
+    Ok(())
+}
+
+// One place, and no more, on an arena that has one.
+fn one_place<A: ArenaInsertTrait<P0, Token> + TestedArena>(arena: &mut A) -> Result<(), Wrong> {
+    let placed = is_placed(arena, 7, Ok(1));
+    is_told(0, Told::Is(placed), Told::Is(true))?;
+    let beyond = Err(ReallocationError::BeyondMaxCapacity);
+    let refused = is_placed(arena, 8, beyond);
+    is_told(1, Told::Is(refused), Told::Is(true))?;
+    step(arena, Call::Get(1, 2), Told::Holds(7))
+}
+
+#[derive(Clone, Copy)]
+enum Tried {
+    Callers,
+    APlaceEach,
+    OnePlace,
+}
+
+fn tries<A: ArenaInsertTrait<P0, Token> + TestedArena>(
+    arena: &mut A,
+    tried: Tried,
+) -> Result<(), Wrong> {
+    match tried {
+        Tried::Callers => callers(arena),
+        Tried::APlaceEach => a_place_each(arena),
+        Tried::OnePlace => one_place(arena),
+    }
+}
+
+// It is tried on an arena with this room: the one body that takes an `Arena` as those traits, since
+// each such body is slow to prove.
+fn tries_on<S: NonZeroInxGenericStack<ArenaSlot<P0, Token>> + Drop>(
+    alloc: Global,
+    room: usize,
+    tried: Tried,
+) -> Result<(), Wrong> {
+    let mut arena: Arena<P0, Token, S> = with_room(alloc, room)?;
+    tries(&mut arena, tried)
+}
+
+#[test]
+fn callers_over_any_arena(rt: HostRuntime) -> Result<(), Fail> {
+    tries_on::<Heap<P0>>(rt.alloc(), 0, Tried::Callers)?;
     Ok(())
 }
 
 #[test]
 fn a_reallocation_and_then_a_reserved_insertion(rt: HostRuntime) -> Result<(), Fail> {
-    a_place_each::<Arena<P0, Token, Heap<P0>>>(rt.alloc())?;
+    tries_on::<Heap<P0>>(rt.alloc(), 0, Tried::APlaceEach)?;
     Ok(())
-}
-
-// One place, and no more.
-fn one_place<A: ArenaInsertTrait<P0, Token> + TestedArena + Drop>(
-    alloc: Global,
-) -> Result<(), Wrong> {
-    let mut arena = A::with_min_capacity(alloc, 1)?;
-    let placed = is_placed(&mut arena, 7, Ok(1));
-    is_told(0, Told::Is(placed), Told::Is(true))?;
-    let beyond = Err(ReallocationError::BeyondMaxCapacity);
-    let refused = is_placed(&mut arena, 8, beyond);
-    is_told(1, Told::Is(refused), Told::Is(true))?;
-    step(&mut arena, Call::Get(1, 2), Told::Holds(7))
 }
 
 #[test]
 fn a_reallocation_past_the_limit_inserts_nothing(rt: HostRuntime) -> Result<(), Fail> {
-    one_place::<Arena<P0, Token, Limited<P0>>>(rt.alloc())?;
+    tries_on::<Limited<P0>>(rt.alloc(), 1, Tried::OnePlace)?;
     Ok(())
 }

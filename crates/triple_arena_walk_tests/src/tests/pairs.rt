@@ -4,8 +4,8 @@ use std::test::Fail;
 use triple_arena_base::GetDisjointMutError;
 use triple_arena_ptr::{P0, P4};
 use triple_arena_test_kit::{
-    B, Call, Narrow, Places, TestedArena, Told, Trial, Wrong, follow, follow_to, follow_unchanged,
-    on_heap, on_new, step,
+    B, Call, Narrow, Places, Steps, TestedArena, Told, Trial, Unchanged, Wrong, follow_to, on_heap,
+    on_new, step,
 };
 
 const OUT_OF_BOUNDS: Told = Told::Apart(GetDisjointMutError::IndexOutOfBounds);
@@ -13,46 +13,26 @@ const OUT_OF_BOUNDS: Told = Told::Apart(GetDisjointMutError::IndexOutOfBounds);
 const OVERLAPPING: Told = Told::Apart(GetDisjointMutError::OverlappingIndices);
 
 // Three values come, and the second goes.
-#[derive(Drop)]
-struct FirstAndThird;
+const FIRST_AND_THIRD: Steps<'static> = Steps(&[
+    (Call::Insert(1), Told::At(1, 2)),
+    (Call::Insert(2), Told::At(2, 2)),
+    (Call::Insert(3), Told::At(3, 2)),
+    (Call::Remove(2, 2), Told::Holds(2)),
+]);
 
-impl Trial for FirstAndThird {
-    fn on<A: TestedArena>(&self, arena: &mut A) -> Result<(), Wrong> {
-        follow(
-            arena,
-            &[
-                (Call::Insert(1), Told::At(1, 2)),
-                (Call::Insert(2), Told::At(2, 2)),
-                (Call::Insert(3), Told::At(3, 2)),
-                (Call::Remove(2, 2), Told::Holds(2)),
-            ],
-        )
-    }
-}
-
-#[derive(Drop)]
-struct Refused;
-
-impl Trial for Refused {
-    fn on<A: TestedArena>(&self, arena: &mut A) -> Result<(), Wrong> {
-        follow_unchanged(
-            arena,
-            &[
-                (Call::Swap((2, 2), (2, 2)), OUT_OF_BOUNDS),
-                (Call::Swap((2, 2), (1, 2)), OUT_OF_BOUNDS),
-                (Call::Swap((1, 2), (2, 2)), OUT_OF_BOUNDS),
-                (Call::Swap((1, 2), (1, 2)), OVERLAPPING),
-                (Call::SwapInx(2, 2), OVERLAPPING),
-                (Call::SwapInx(3, 3), OVERLAPPING),
-                (Call::SwapInx(9, 9), OUT_OF_BOUNDS),
-                (Call::SwapInx(1, 9), OUT_OF_BOUNDS),
-                (Call::SwapInx(9, 2), OUT_OF_BOUNDS),
-                (Call::SwapInx(1, 2), OUT_OF_BOUNDS),
-                (Call::SwapInx(2, 1), OUT_OF_BOUNDS),
-            ],
-        )
-    }
-}
+const REFUSED: Unchanged<'static> = Unchanged(&[
+    (Call::Swap((2, 2), (2, 2)), OUT_OF_BOUNDS),
+    (Call::Swap((2, 2), (1, 2)), OUT_OF_BOUNDS),
+    (Call::Swap((1, 2), (2, 2)), OUT_OF_BOUNDS),
+    (Call::Swap((1, 2), (1, 2)), OVERLAPPING),
+    (Call::SwapInx(2, 2), OVERLAPPING),
+    (Call::SwapInx(3, 3), OVERLAPPING),
+    (Call::SwapInx(9, 9), OUT_OF_BOUNDS),
+    (Call::SwapInx(1, 9), OUT_OF_BOUNDS),
+    (Call::SwapInx(9, 2), OUT_OF_BOUNDS),
+    (Call::SwapInx(1, 2), OUT_OF_BOUNDS),
+    (Call::SwapInx(2, 1), OUT_OF_BOUNDS),
+]);
 
 // A call that leaves the arena with these numbers at the first index and the third, and else as it
 // was.
@@ -84,8 +64,8 @@ struct EachPair;
 
 impl Trial for EachPair {
     fn on<A: TestedArena>(&self, arena: &mut A) -> Result<(), Wrong> {
-        FirstAndThird.on(arena)?;
-        Refused.on(arena)?;
+        FIRST_AND_THIRD.on(arena)?;
+        REFUSED.on(arena)?;
         let swapped = Leaves {
             step: (Call::Swap((3, 2), (1, 2)), Told::Done),
             first: 3,
@@ -129,50 +109,30 @@ fn each_pair_on_byte_pointers_and_without_generations(rt: HostRuntime) -> Result
 }
 
 // An old pointer of the first index, and two entries.
-#[derive(Drop)]
-struct TwoGenerations;
-
-impl Trial for TwoGenerations {
-    fn on<A: TestedArena>(&self, arena: &mut A) -> Result<(), Wrong> {
-        follow(
-            arena,
-            &[
-                (Call::Insert(1), Told::At(1, 2)),
-                (Call::Remove(1, 2), Told::Holds(1)),
-                (Call::Insert(2), Told::At(1, 3)),
-                (Call::Insert(3), Told::At(2, 3)),
-            ],
-        )
-    }
-}
+const TWO_GENERATIONS: Steps<'static> = Steps(&[
+    (Call::Insert(1), Told::At(1, 2)),
+    (Call::Remove(1, 2), Told::Holds(1)),
+    (Call::Insert(2), Told::At(1, 3)),
+    (Call::Insert(3), Told::At(2, 3)),
+]);
 
 // A removed pointer at the index of a live one is out of bounds, beside that one and beside
 // another; it doesn't overlap.
-#[derive(Drop)]
-struct NotTwoEntries;
-
-impl Trial for NotTwoEntries {
-    fn on<A: TestedArena>(&self, arena: &mut A) -> Result<(), Wrong> {
-        follow_unchanged(
-            arena,
-            &[
-                (Call::Swap((1, 2), (1, 3)), OUT_OF_BOUNDS),
-                (Call::Swap((1, 3), (1, 2)), OUT_OF_BOUNDS),
-                (Call::Swap((1, 2), (2, 3)), OUT_OF_BOUNDS),
-                (Call::Swap((2, 3), (1, 2)), OUT_OF_BOUNDS),
-                (Call::Swap((1, 2), (1, 2)), OUT_OF_BOUNDS),
-                (Call::Lend((1, 2), (1, 3), 9), OUT_OF_BOUNDS),
-                (Call::Lend((1, 3), (1, 2), 9), OUT_OF_BOUNDS),
-                (Call::Swap((1, 3), (1, 3)), OVERLAPPING),
-                (Call::GetInx(1), Told::Held(3, 2)),
-            ],
-        )
-    }
-}
+const NOT_TWO_ENTRIES: Unchanged<'static> = Unchanged(&[
+    (Call::Swap((1, 2), (1, 3)), OUT_OF_BOUNDS),
+    (Call::Swap((1, 3), (1, 2)), OUT_OF_BOUNDS),
+    (Call::Swap((1, 2), (2, 3)), OUT_OF_BOUNDS),
+    (Call::Swap((2, 3), (1, 2)), OUT_OF_BOUNDS),
+    (Call::Swap((1, 2), (1, 2)), OUT_OF_BOUNDS),
+    (Call::Lend((1, 2), (1, 3), 9), OUT_OF_BOUNDS),
+    (Call::Lend((1, 3), (1, 2), 9), OUT_OF_BOUNDS),
+    (Call::Swap((1, 3), (1, 3)), OVERLAPPING),
+    (Call::GetInx(1), Told::Held(3, 2)),
+]);
 
 #[test]
 fn two_generations_at_one_index_are_not_two_entries(rt: HostRuntime) -> Result<(), Fail> {
-    let trial = (TwoGenerations, NotTwoEntries);
+    let trial = (TWO_GENERATIONS, NOT_TWO_ENTRIES);
     on_heap::<P0, _>(rt.alloc(), None, &trial)?;
     on_heap::<Narrow, _>(rt.alloc(), None, &trial)?;
     on_heap::<B, _>(rt.alloc(), None, &trial)?;

@@ -1,87 +1,111 @@
 //! The text of an arena.
 
-use std::alloc::{AllocError, Global};
+use std::alloc::Global;
 use std::fmt;
 use std::fmt::{Debug, Write};
 use std::test::Fail;
-use triple_arena::{Arena, ArenaInsertTrait, ArenaTrait};
-use triple_arena_ptr::{P0, P4, Q2};
+use triple_arena::{Arena, ArenaInsertTrait, ArenaSlot, ArenaTrait};
+use triple_arena_ptr::{P0, P4, Ptr, Q2};
+use triple_arena_stack::{NonZeroInxGenericStack, NonZeroInxVec};
 use triple_arena_test_kit::{
-    Call, Heap, Narrow, Places, TestedArena, Told, Trial, Wrong, follow, has_text, new_arena,
-    on_fixed, on_heap, on_limited,
+    Call, Fixed, Heap, Limited, Narrow, Numbered, Places, Steps, Token, Told, Trial, Wrong,
+    is_text, new_arena, with_room,
 };
 
 // Three entries, of which the second goes, and the third gets a new pointer.
-#[derive(Drop)]
-struct TwoLeft;
+const TWO_LEFT: Steps<'static> = Steps(&[
+    (Call::Insert(7), Told::At(1, 2)),
+    (Call::Insert(6), Told::At(2, 2)),
+    (Call::Insert(8), Told::At(3, 2)),
+    (Call::RemoveInx(2), Told::Held(2, 6)),
+    (Call::Invalidate(3, 2), Told::At(3, 4)),
+]);
 
-impl Trial for TwoLeft {
-    fn on<A: TestedArena>(&self, arena: &mut A) -> Result<(), Wrong> {
-        follow(
-            arena,
-            &[
-                (Call::Insert(7), Told::At(1, 2)),
-                (Call::Insert(6), Told::At(2, 2)),
-                (Call::Insert(8), Told::At(3, 2)),
-                (Call::RemoveInx(2), Told::Held(2, 6)),
-                (Call::Invalidate(3, 2), Told::At(3, 4)),
-            ],
-        )
-    }
+// That an arena has this text.
+fn has_text<P: Ptr, T: Debug, S: NonZeroInxGenericStack<ArenaSlot<P, T>>>(
+    arena: &Arena<P, T, S>,
+    alloc: Global,
+    expected: &'static str,
+) -> Result<(), Wrong> {
+    is_text(format!(in alloc; "{arena:?}")?.as_str(), expected)
 }
 
 // The text of an arena with place for three and no entry, and its text with two entries.
-#[derive(Drop)]
-struct HasTexts {
+fn has_texts<P: Ptr, S: NonZeroInxGenericStack<ArenaSlot<P, Token>> + Drop>(
     alloc: Global,
     expected: &'static str,
-}
-
-impl Trial for HasTexts {
-    fn on<A: TestedArena>(&self, arena: &mut A) -> Result<(), Wrong> {
-        has_text(arena, self.alloc, "{}")?;
-        TwoLeft.on(arena)?;
-        has_text(arena, self.alloc, self.expected)
-    }
+) -> Result<(), Wrong>
+where
+    P::Gen: Numbered,
+{
+    let mut arena: Arena<P, Token, S> = with_room(alloc, 3)?;
+    has_text(&arena, alloc, "{}")?;
+    TWO_LEFT.on(&mut arena)?;
+    has_text(&arena, alloc, expected)
 }
 
 #[test]
 fn entries_stand_by_index_over_each_stack(rt: HostRuntime) -> Result<(), Fail> {
-    let alloc = rt.alloc();
-    let expected = "{P0[1](2): Token { number: 7 }, P0[3](4): Token { number: 8 }}";
-    on_heap::<P0, _>(alloc, None, &HasTexts { alloc, expected })?;
-    let expected = "{Q2[1](2): Token { number: 7 }, Q2[3](4): Token { number: 8 }}";
-    on_limited::<Q2, _>(alloc, Some(3), &HasTexts { alloc, expected })?;
-    let expected = "{P4[1]: Token { number: 7 }, P4[3]: Token { number: 8 }}";
-    on_fixed::<P4, _>(alloc, Some(3), &HasTexts { alloc, expected })?;
-    let expected = "{PtrOf[1](2): Token { number: 7 }, PtrOf[3](4): Token { number: 8 }}";
-    HasTexts { alloc, expected }.on(&mut new_arena::<Narrow, Places<Narrow, 3>>(alloc))?;
+    has_texts::<P0, Heap<P0>>(
+        rt.alloc(),
+        "{P0[1](2): Token { number: 7 }, P0[3](4): Token { number: 8 }}",
+    )?;
+    has_texts::<Q2, Limited<Q2>>(
+        rt.alloc(),
+        "{Q2[1](2): Token { number: 7 }, Q2[3](4): Token { number: 8 }}",
+    )?;
+    has_texts::<P4, Fixed<P4>>(
+        rt.alloc(),
+        "{P4[1]: Token { number: 7 }, P4[3]: Token { number: 8 }}",
+    )?;
+    has_texts::<Narrow, Places<Narrow, 3>>(
+        rt.alloc(),
+        "{PtrOf[1](2): Token { number: 7 }, PtrOf[3](4): Token { number: 8 }}",
+    )?;
     Ok(())
 }
 
-// The text of an arena on the heap.
-fn text_of<T: Debug>(alloc: Global, arena: &Arena<P0, T>) -> Result<String, AllocError> {
-    format!(in alloc; "{arena:?}")
+// The pointer of a new value, where there is memory.
+fn put<T: Drop, S: NonZeroInxGenericStack<ArenaSlot<P0, T>>>(
+    arena: &mut Arena<P0, T, S>,
+    value: T,
+) -> Result<P0, Wrong> {
+    match arena.insert(value) {
+        Ok(p) => Ok(p),
+        Err(_refused) => Err(Wrong::NoMemory),
+    }
+}
+
+fn has_words<S: NonZeroInxGenericStack<ArenaSlot<P0, &'static str>> + Drop>(
+    alloc: Global,
+) -> Result<(), Wrong> {
+    let mut words: Arena<P0, &'static str, S> = Arena::new(alloc);
+    put(&mut words, "test")?;
+    has_text(&words, alloc, r#"{P0[1](2): "test"}"#)?;
+    put(&mut words, "hello")?;
+    has_text(&words, alloc, r#"{P0[1](2): "test", P0[2](2): "hello"}"#)
+}
+
+// A number, and a link.
+type Node = (u64, Option<P0>);
+
+fn has_links<S: NonZeroInxGenericStack<ArenaSlot<P0, Node>> + Drop>(
+    alloc: Global,
+) -> Result<(), Wrong> {
+    let mut links: Arena<P0, Node, S> = Arena::new(alloc);
+    let first = put(&mut links, (42, None))?;
+    put(&mut links, (1337, Some(first)))?;
+    has_text(
+        &links,
+        alloc,
+        "{P0[1](2): (42, None), P0[2](2): (1337, Some(P0[1](2)))}",
+    )
 }
 
 #[test]
 fn a_value_has_its_own_text(rt: HostRuntime) -> Result<(), Fail> {
-    let alloc = rt.alloc();
-    let mut words: Arena<P0, &str> = Arena::new(alloc);
-    words.insert("test")?;
-    assert_eq!(rt; text_of(alloc, &words)?.as_str(), r#"{P0[1](2): "test"}"#);
-    words.insert("hello")?;
-    assert_eq!(rt;
-        text_of(alloc, &words)?.as_str(),
-        r#"{P0[1](2): "test", P0[2](2): "hello"}"#
-    );
-    let mut links: Arena<P0, (u64, Option<P0>)> = Arena::new(alloc);
-    let first = links.insert((42, None))?;
-    links.insert((1337, Some(first)))?;
-    assert_eq!(rt;
-        text_of(alloc, &links)?.as_str(),
-        "{P0[1](2): (42, None), P0[2](2): (1337, Some(P0[1](2)))}"
-    );
+    has_words::<NonZeroInxVec<ArenaSlot<P0, &'static str>>>(rt.alloc())?;
+    has_links::<NonZeroInxVec<ArenaSlot<P0, Node>>>(rt.alloc())?;
     Ok(())
 }
 
@@ -106,7 +130,7 @@ impl Write for Refusing {
 #[test]
 fn a_writer_that_fails_is_asked_no_more(rt: HostRuntime) -> Result<(), Fail> {
     let mut arena = new_arena::<P0, Heap<P0>>(rt.alloc());
-    TwoLeft.on(&mut arena)?;
+    TWO_LEFT.on(&mut arena)?;
     let mut whole = Refusing {
         pieces_left: 100,
         refusals: 0,

@@ -3,53 +3,35 @@
 use std::alloc::Global;
 use std::num::NonZeroU128;
 use std::test::Fail;
-use triple_arena::{Arena, ArenaTrait, CompactArenaTrait};
+use triple_arena::{Arena, ArenaSlot, CompactArenaTrait};
 use triple_arena_ptr::{P0, Ptr, Q2};
+use triple_arena_stack::NonZeroInxGenericStack;
 use triple_arena_test_kit::{
-    B, Call, Heap, Removed, Steps, TestedArena, Token, Told, Trial, Wide, Wrong, follow,
-    from_empty, inx, is_told, next_steps, on_heap, step,
+    B, Call, Heap, NO_ENTRY, NO_POINTER, NO_VALUE, NOT_DRAINED, Numbered, Removed, Steps,
+    TestedArena, Token, Told, Trial, Wide, Wrong, follow, from_empty, inx, is_told, new_arena,
+    next_steps, on_heap, step,
 };
 
-const ONE: Option<(usize, u64)> = Some((1, 2));
+const ONE: (usize, u64) = (1, 2);
 
-const TWO: Option<(usize, u64)> = Some((2, 2));
+const TWO: (usize, u64) = (2, 2);
 
-const THREE: Option<(usize, u64)> = Some((3, 2));
+const THREE: (usize, u64) = (3, 2);
 
-const FOUR: Option<(usize, u64)> = Some((4, 2));
+const FOUR: (usize, u64) = (4, 2);
 
-const FIVE: Option<(usize, u64)> = Some((5, 2));
+const FIVE: (usize, u64) = (5, 2);
 
-const NO_POINTERS: Told = Told::MetPointers([None, None, None]);
+const NO_POINTERS: Told = Told::MetPointers(NO_POINTER, NO_POINTER, NO_POINTER);
 
 // The calls on an arena of so many entries, each of its index, of which some were removed in turn.
-#[derive(Drop)]
-struct AfterRemovals<'a> {
-    entries: usize,
-    removed: &'a [usize],
-    steps: &'a [(Call, Told)],
-}
-
-impl Trial for AfterRemovals<'_> {
-    fn on<A: TestedArena>(&self, arena: &mut A) -> Result<(), Wrong> {
-        let (entries, removed) = (self.entries, self.removed);
-        Removed { entries, removed }.on(arena)?;
-        follow(arena, self.steps)
-    }
-}
-
-fn after_removals<'a>(
+fn after_removals(
     alloc: Global,
     entries: usize,
-    removed: &'a [usize],
-    steps: &'a [(Call, Told)],
+    removed: &[usize],
+    steps: &[(Call, Told)],
 ) -> Result<(), Wrong> {
-    let trial = AfterRemovals {
-        entries,
-        removed,
-        steps,
-    };
-    on_heap::<P0, _>(alloc, None, &trial)
+    on_heap::<P0, _>(alloc, None, &(Removed { entries, removed }, Steps(steps)))
 }
 
 #[test]
@@ -59,18 +41,18 @@ fn advancers_go_from_entry_to_entry(rt: HostRuntime) -> Result<(), Fail> {
         5,
         &[2, 4],
         &[
-            (Call::StepsFromFirst, Told::MetPointers([ONE, THREE, FIVE])),
+            (Call::StepsFromFirst, Told::MetPointers(ONE, THREE, FIVE)),
             (
                 Call::StepsFrom(2, false),
-                Told::MetPointers([THREE, FIVE, None]),
+                Told::MetPointers(THREE, FIVE, NO_POINTER),
             ),
             (
                 Call::StepsFrom(4, true),
-                Told::MetPointers([THREE, ONE, None]),
+                Told::MetPointers(THREE, ONE, NO_POINTER),
             ),
             (
                 Call::StepsFrom(9, true),
-                Told::MetPointers([FIVE, THREE, ONE]),
+                Told::MetPointers(FIVE, THREE, ONE),
             ),
             (Call::StepsFrom(6, false), NO_POINTERS),
             (Call::NoSteps, NO_POINTERS),
@@ -87,7 +69,7 @@ fn from_past_the_slots_one_in_reverse_goes_down(rt: HostRuntime) -> Result<(), F
         &[],
         &[(
             Call::StepsFrom(9, true),
-            Told::MetPointers([TWO, ONE, None]),
+            Told::MetPointers(TWO, ONE, NO_POINTER),
         )],
     )?;
     Ok(())
@@ -103,26 +85,24 @@ fn an_arena_without_entries_has_nothing_to_walk(rt: HostRuntime) -> Result<(), F
             (Call::StepsFromFirst, NO_POINTERS),
             (Call::StepsFrom(3, true), NO_POINTERS),
             (Call::Pointers, NO_POINTERS),
-            (Call::Values, Told::MetValues([None, None, None])),
+            (Call::Values, Told::MetValues(NO_VALUE, NO_VALUE, NO_VALUE)),
         ],
     )?;
     Ok(())
 }
 
-type Heaped = Arena<P0, Token, Heap<P0>>;
-
 // An advancer, while the arena gets entries where it was and where it will be.
-fn goes_on<A: CompactArenaTrait<P0, Token> + TestedArena + Drop>(
-    alloc: Global,
-) -> Result<(), Wrong> {
-    let mut arena = A::new(alloc);
+fn goes_on<P: Ptr, A: CompactArenaTrait<P, Token> + TestedArena>(arena: &mut A) -> Result<(), Wrong>
+where
+    P::Gen: Numbered,
+{
     let (entries, removed) = (5, &[2, 4]);
-    Removed { entries, removed }.on(&mut arena)?;
+    Removed { entries, removed }.on(arena)?;
     let mut advancer = arena.advancer_inx(inx(2), false);
-    let steps = next_steps(&arena, &mut advancer);
-    is_told(0, steps, Told::MetPointers([THREE, FIVE, None]))?;
+    let steps = next_steps(arena, &mut advancer);
+    is_told(0, steps, Told::MetPointers(THREE, FIVE, NO_POINTER))?;
     follow(
-        &mut arena,
+        arena,
         &[
             (Call::Insert(6), Told::At(4, 4)),
             (Call::Insert(7), Told::At(2, 4)),
@@ -130,34 +110,64 @@ fn goes_on<A: CompactArenaTrait<P0, Token> + TestedArena + Drop>(
             (Call::Insert(9), Told::At(7, 4)),
         ],
     )?;
-    let steps = next_steps(&arena, &mut advancer);
-    is_told(1, steps, Told::MetPointers([Some((7, 4)), None, None]))
+    let steps = next_steps(arena, &mut advancer);
+    is_told(1, steps, Told::MetPointers((7, 4), NO_POINTER, NO_POINTER))
+}
+
+// The steps from an index past any slot, in an arena of one entry.
+fn from_past_any_slot<P: Ptr, A: CompactArenaTrait<P, Token> + TestedArena>(
+    arena: &mut A,
+    past: P::Inx,
+) -> Result<(), Wrong>
+where
+    P::Gen: Numbered,
+{
+    follow(arena, &[(Call::Insert(1), Told::At(1, 2))])?;
+    let down = next_steps(arena, &mut arena.advancer_inx(past, true));
+    is_told(0, down, Told::MetPointers(ONE, NO_POINTER, NO_POINTER))?;
+    let up = next_steps(arena, &mut arena.advancer_inx(past, false));
+    is_told(1, up, NO_POINTERS)
+}
+
+// The steps from past any slot, where an index is given that is there, or else an advancer that goes
+// on.
+fn walks<P: Ptr, A: CompactArenaTrait<P, Token> + TestedArena>(
+    arena: &mut A,
+    past: Option<P::Inx>,
+) -> Result<(), Wrong>
+where
+    P::Gen: Numbered,
+{
+    match past {
+        Some(past) => from_past_any_slot(arena, past),
+        None => goes_on(arena),
+    }
+}
+
+// The same on a new arena: the one body that takes an `Arena` as those traits, since each such body is
+// slow to prove.
+fn walks_on<P: Ptr, S: NonZeroInxGenericStack<ArenaSlot<P, Token>> + Drop>(
+    alloc: Global,
+    past: Option<P::Inx>,
+) -> Result<(), Wrong>
+where
+    P::Gen: Numbered,
+{
+    let mut arena: Arena<P, Token, S> = new_arena(alloc);
+    walks(&mut arena, past)
 }
 
 #[test]
 fn a_forward_advancer_goes_on_while_the_arena_changes(rt: HostRuntime) -> Result<(), Fail> {
-    goes_on::<Heaped>(rt.alloc())?;
+    walks_on::<P0, Heap<P0>>(rt.alloc(), None)?;
     Ok(())
-}
-
-// The steps from past any slot in an arena of one entry whose indexes go so far.
-fn from_past_any_slot<A: CompactArenaTrait<Wide, Token> + TestedArena + Drop>(
-    alloc: Global,
-) -> Result<(), Wrong> {
-    let mut arena = A::new(alloc);
-    follow(&mut arena, &[(Call::Insert(1), Told::At(1, 2))])?;
-    let Some(inx) = NonZeroU128::new(1 << 64) else {
-        return Ok(());
-    };
-    let down = next_steps(&arena, &mut arena.advancer_inx(inx, true));
-    is_told(0, down, Told::MetPointers([ONE, None, None]))?;
-    let up = next_steps(&arena, &mut arena.advancer_inx(inx, false));
-    is_told(1, up, NO_POINTERS)
 }
 
 #[test]
 fn indexes_past_any_slot(rt: HostRuntime) -> Result<(), Fail> {
-    from_past_any_slot::<Arena<Wide, Token, Heap<Wide>>>(rt.alloc())?;
+    let past = NonZeroU128::new(1 << 64);
+    assert!(rt; past.is_some());
+    walks_on::<Wide, Heap<Wide>>(rt.alloc(), past)?;
     Ok(())
 }
 
@@ -168,24 +178,20 @@ fn iterators_give_the_entries_by_index(rt: HostRuntime) -> Result<(), Fail> {
         6,
         &[1, 3, 6],
         &[
-            (Call::Pointers, Told::MetPointers([TWO, FOUR, FIVE])),
-            (Call::Values, Told::MetValues([Some(2), Some(4), Some(5)])),
-            (
-                Call::Entries,
-                Told::Met([Some((2, 2, 2)), Some((4, 2, 4)), Some((5, 2, 5))]),
-            ),
+            (Call::Pointers, Told::MetPointers(TWO, FOUR, FIVE)),
+            (Call::Values, Told::MetValues(2, 4, 5)),
+            (Call::Entries, Told::Met((2, 2, 2), (4, 2, 4), (5, 2, 5))),
             (Call::AddToAll(10), Told::Done),
-            (
-                Call::Values,
-                Told::MetValues([Some(12), Some(14), Some(15)]),
-            ),
+            (Call::Values, Told::MetValues(12, 14, 15)),
         ],
     )?;
     Ok(())
 }
 
 // The sum of the numbers of all pointers' indexes and of all values.
-fn sums(arena: &Heaped) -> (usize, u64) {
+fn sums<S: NonZeroInxGenericStack<ArenaSlot<P0, Token>>>(
+    arena: &Arena<P0, Token, S>,
+) -> (usize, u64) {
     let mut indexes = 0usize;
     let mut numbers = 0u64;
     for (p, token) in arena {
@@ -196,8 +202,10 @@ fn sums(arena: &Heaped) -> (usize, u64) {
 }
 
 // The sums over the entries at 2, 4 and 5, each of its index.
-fn sums_of_three(alloc: Global) -> Result<(), Wrong> {
-    let mut arena: Heaped = Arena::new(alloc);
+fn sums_of_three<S: NonZeroInxGenericStack<ArenaSlot<P0, Token>> + Drop>(
+    alloc: Global,
+) -> Result<(), Wrong> {
+    let mut arena: Arena<P0, Token, S> = new_arena(alloc);
     let (entries, removed) = (6, &[1, 3, 6]);
     Removed { entries, removed }.on(&mut arena)?;
     let (indexes, numbers) = sums(&arena);
@@ -207,7 +215,7 @@ fn sums_of_three(alloc: Global) -> Result<(), Wrong> {
 
 #[test]
 fn a_loop_over_an_arena_meets_each_entry(rt: HostRuntime) -> Result<(), Fail> {
-    sums_of_three(rt.alloc())?;
+    sums_of_three::<Heap<P0>>(rt.alloc())?;
     Ok(())
 }
 
@@ -217,7 +225,7 @@ fn a_walk_gives_pointers_of_the_arena_s_own_type(rt: HostRuntime) -> Result<(), 
         rt.alloc(),
         &[
             (Call::Insert(7), Told::At(1, 2)),
-            (Call::Entries, Told::Met([Some((1, 2, 7)), None, None])),
+            (Call::Entries, Told::Met((1, 2, 7), NO_ENTRY, NO_ENTRY)),
         ],
     )?;
     Ok(())
@@ -225,14 +233,15 @@ fn a_walk_gives_pointers_of_the_arena_s_own_type(rt: HostRuntime) -> Result<(), 
 
 #[test]
 fn a_drain_takes_out_each_entry(rt: HostRuntime) -> Result<(), Fail> {
-    let first = Some((1, 2, 1, false));
-    let second = Some((2, 2, 2, false));
     after_removals(
         rt.alloc(),
         2,
         &[],
         &[
-            (Call::Drain(3), Told::Drained([first, second, None])),
+            (
+                Call::Drain(3),
+                Told::Drained((1, 2, 1, false), (2, 2, 2, false), NOT_DRAINED),
+            ),
             (Call::Generation, Told::Generation(4)),
             (Call::Slots, Told::Size(0)),
             (Call::Insert(3), Told::At(1, 4)),
@@ -243,13 +252,15 @@ fn a_drain_takes_out_each_entry(rt: HostRuntime) -> Result<(), Fail> {
 
 #[test]
 fn a_drain_that_is_let_go_clears(rt: HostRuntime) -> Result<(), Fail> {
-    let first = Some((1, 2, 1, false));
     after_removals(
         rt.alloc(),
         3,
         &[],
         &[
-            (Call::Drain(1), Told::Drained([first, None, None])),
+            (
+                Call::Drain(1),
+                Told::Drained((1, 2, 1, false), NOT_DRAINED, NOT_DRAINED),
+            ),
             (Call::Slots, Told::Size(0)),
             (Call::Insert(4), Told::At(1, 4)),
         ],
@@ -277,13 +288,16 @@ fn a_drain_that_wraps_the_counter(rt: HostRuntime) -> Result<(), Fail> {
         (Call::Insert(1), Told::At(1, 255)),
         (Call::Insert(2), Told::At(2, 255)),
         // a drain that is let go before its first step
-        (Call::Drain(0), Told::Drained([None, None, None])),
+        (
+            Call::Drain(0),
+            Told::Drained(NOT_DRAINED, NOT_DRAINED, NOT_DRAINED),
+        ),
         (Call::Generation, Told::Generation(2)),
         (Call::Insert(3), Told::At(1, 2)),
         (Call::SetGeneration(255), Told::Done),
         (
             Call::Drain(1),
-            Told::Drained([Some((1, 2, 3, true)), None, None]),
+            Told::Drained((1, 2, 3, true), NOT_DRAINED, NOT_DRAINED),
         ),
         (Call::Generation, Told::Generation(2)),
     ]);

@@ -3,8 +3,8 @@
 use std::test::Fail;
 use triple_arena_ptr::{P0, P4};
 use triple_arena_test_kit::{
-    B, Call, Narrow, Places, SLOTS, State, TestedArena, Told, Trial, Wide, Wrong, follow,
-    follow_to, follow_unchanged, on_fixed, on_heap, on_limited, on_little, on_new, step,
+    B, Call, NO_ENTRY, NO_VALUE, Narrow, Places, SLOTS, State, Steps, TestedArena, Told, Trial,
+    Unchanged, Wide, Wrong, follow_to, on_fixed, on_heap, on_limited, on_little, on_new, step,
 };
 
 // A call that adds ten to each value, with what it met: it leaves the arena with these values as it
@@ -37,43 +37,23 @@ fn raised(entry: Option<(u64, u64)>) -> Option<(u64, u64)> {
 }
 
 // Five values come, and two of them go.
-#[derive(Drop)]
-struct ThreeLeft;
-
-impl Trial for ThreeLeft {
-    fn on<A: TestedArena>(&self, arena: &mut A) -> Result<(), Wrong> {
-        follow(
-            arena,
-            &[
-                (Call::Insert(1), Told::At(1, 2)),
-                (Call::Insert(2), Told::At(2, 2)),
-                (Call::Insert(3), Told::At(3, 2)),
-                (Call::Insert(4), Told::At(4, 2)),
-                (Call::Insert(5), Told::At(5, 2)),
-                (Call::Remove(2, 2), Told::Holds(2)),
-                (Call::Remove(4, 2), Told::Holds(4)),
-            ],
-        )
-    }
-}
+const THREE_LEFT: Steps<'static> = Steps(&[
+    (Call::Insert(1), Told::At(1, 2)),
+    (Call::Insert(2), Told::At(2, 2)),
+    (Call::Insert(3), Told::At(3, 2)),
+    (Call::Insert(4), Told::At(4, 2)),
+    (Call::Insert(5), Told::At(5, 2)),
+    (Call::Remove(2, 2), Told::Holds(2)),
+    (Call::Remove(4, 2), Told::Holds(4)),
+]);
 
 // What is found once ten was added three times.
-#[derive(Drop)]
-struct ThirtyMore;
-
-impl Trial for ThirtyMore {
-    fn on<A: TestedArena>(&self, arena: &mut A) -> Result<(), Wrong> {
-        follow(
-            arena,
-            &[
-                (Call::Get(1, 2), Told::Holds(31)),
-                (Call::Get(2, 2), Told::Nothing),
-                (Call::Get(3, 2), Told::Holds(33)),
-                (Call::Get(5, 2), Told::Holds(35)),
-            ],
-        )
-    }
-}
+const THIRTY_MORE: Steps<'static> = Steps(&[
+    (Call::Get(1, 2), Told::Holds(31)),
+    (Call::Get(2, 2), Told::Nothing),
+    (Call::Get(3, 2), Told::Holds(33)),
+    (Call::Get(5, 2), Told::Holds(35)),
+]);
 
 // Ten is added to each of three, by each way to write to all values.
 #[derive(Drop)]
@@ -81,17 +61,17 @@ struct ThreeOfFive;
 
 impl Trial for ThreeOfFive {
     fn on<A: TestedArena>(&self, arena: &mut A) -> Result<(), Wrong> {
-        ThreeLeft.on(arena)?;
-        let met = Told::Met([Some((1, 2, 1)), Some((3, 2, 3)), Some((5, 2, 5))]);
+        THREE_LEFT.on(arena)?;
+        let met = Told::Met((1, 2, 1), (3, 2, 3), (5, 2, 5));
         let step = (Call::AddToEach(10), met);
         AddsTen { step }.on(arena)?;
-        let met = Told::Met([Some((1, 2, 11)), Some((3, 2, 13)), Some((5, 2, 15))]);
+        let met = Told::Met((1, 2, 11), (3, 2, 13), (5, 2, 15));
         let step = (Call::AddToEachEntry(10), met);
         AddsTen { step }.on(arena)?;
-        let met = Told::MetValues([Some(21), Some(23), Some(25)]);
+        let met = Told::MetValues(21, 23, 25);
         let step = (Call::AddToEachValue(10), met);
         AddsTen { step }.on(arena)?;
-        ThirtyMore.on(arena)
+        THIRTY_MORE.on(arena)
     }
 }
 
@@ -114,49 +94,32 @@ fn ten_is_added_to_three_of_five_on_byte_pointers(rt: HostRuntime) -> Result<(),
 }
 
 // No entry, and so none to meet.
-#[derive(Drop)]
-struct Nothing;
-
-impl Trial for Nothing {
-    fn on<A: TestedArena>(&self, arena: &mut A) -> Result<(), Wrong> {
-        follow_unchanged(
-            arena,
-            &[
-                (Call::AddToEach(10), Told::Met([None, None, None])),
-                (Call::AddToEachEntry(10), Told::Met([None, None, None])),
-                (
-                    Call::AddToEachValue(10),
-                    Told::MetValues([None, None, None]),
-                ),
-            ],
-        )
-    }
-}
+const NOTHING: Unchanged<'static> = Unchanged(&[
+    (Call::AddToEach(10), Told::Met(NO_ENTRY, NO_ENTRY, NO_ENTRY)),
+    (
+        Call::AddToEachEntry(10),
+        Told::Met(NO_ENTRY, NO_ENTRY, NO_ENTRY),
+    ),
+    (
+        Call::AddToEachValue(10),
+        Told::MetValues(NO_VALUE, NO_VALUE, NO_VALUE),
+    ),
+]);
 
 // The last of three slots alone has an entry, which goes at the end.
-#[derive(Drop)]
-struct TheLastAlone;
-
-impl Trial for TheLastAlone {
-    fn on<A: TestedArena>(&self, arena: &mut A) -> Result<(), Wrong> {
-        follow(
-            arena,
-            &[
-                (Call::Insert(1), Told::At(1, 2)),
-                (Call::Insert(2), Told::At(2, 2)),
-                (Call::Insert(3), Told::At(3, 2)),
-                (Call::Remove(1, 2), Told::Holds(1)),
-                (Call::Remove(2, 2), Told::Holds(2)),
-                (Call::AddToEach(1), Told::Met([Some((3, 2, 3)), None, None])),
-                (Call::Remove(3, 2), Told::Holds(4)),
-            ],
-        )
-    }
-}
+const THE_LAST_ALONE: Steps<'static> = Steps(&[
+    (Call::Insert(1), Told::At(1, 2)),
+    (Call::Insert(2), Told::At(2, 2)),
+    (Call::Insert(3), Told::At(3, 2)),
+    (Call::Remove(1, 2), Told::Holds(1)),
+    (Call::Remove(2, 2), Told::Holds(2)),
+    (Call::AddToEach(1), Told::Met((3, 2, 3), NO_ENTRY, NO_ENTRY)),
+    (Call::Remove(3, 2), Told::Holds(4)),
+]);
 
 #[test]
 fn nothing_is_met_in_an_arena_without_entries(rt: HostRuntime) -> Result<(), Fail> {
-    let trial = (Nothing, (TheLastAlone, Nothing));
+    let trial = (NOTHING, (THE_LAST_ALONE, NOTHING));
     on_heap::<P0, _>(rt.alloc(), None, &trial)?;
     Ok(())
 }
@@ -170,10 +133,10 @@ impl Trial for Each255 {
         for index in 1..256 {
             step(arena, Call::Insert(7), Told::At(index, 2))?;
         }
-        let first = Told::Met([Some((1, 2, 7)), Some((2, 2, 7)), Some((3, 2, 7))]);
+        let first = Told::Met((1, 2, 7), (2, 2, 7), (3, 2, 7));
         let step = (Call::AddToEach(10), first);
         AddsTen { step }.on(arena)?;
-        let first = Told::MetValues([Some(17), Some(17), Some(17)]);
+        let first = Told::MetValues(17, 17, 17);
         let step = (Call::AddToEachValue(10), first);
         AddsTen { step }.on(arena)
     }

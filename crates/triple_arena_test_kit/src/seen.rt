@@ -1,0 +1,63 @@
+//! What the calls answer that read an arena.
+
+use crate::call::Call;
+use crate::numbered::Numbered;
+use crate::token::Token;
+use crate::told::{Told, told_found, told_generation, told_held, told_value};
+use triple_arena::ArenaTrait;
+use triple_arena_ptr::Ptr;
+
+// What each call answers that reads an arena, at one pointer. They are made at once: one body without
+// branches is faster to prove than a branch for each.
+#[derive(Clone, Copy)]
+struct Seen {
+    is_empty: bool,
+    contains: bool,
+    value: Told,
+    entry: Told,
+    generation: Told,
+    first: Told,
+    last: Told,
+    singular: Told,
+}
+
+fn seen_at<P: Ptr, A: ArenaTrait<P, Token>>(arena: &A, p: P) -> Seen
+where
+    P::Gen: Numbered,
+{
+    Seen {
+        is_empty: arena.is_empty(),
+        contains: arena.contains(p),
+        value: told_value(arena.get(p)),
+        entry: told_held(arena.get_inx(p.inx())),
+        generation: told_generation(arena.generation_at(p.inx())),
+        first: told_found(arena.find_first_inx_ptr()),
+        last: told_found(arena.find_last_inx_ptr()),
+        singular: told_generation(arena.singular_generation()),
+    }
+}
+
+impl Seen {
+    // What a call answers.
+    fn told(self, call: Call) -> Told {
+        match call {
+            Call::IsEmpty => Told::Is(self.is_empty),
+            Call::SingularGeneration => self.singular,
+            Call::Get(_, _) => self.value,
+            Call::GetInx(_) => self.entry,
+            Call::Contains(_, _) => Told::Is(self.contains),
+            Call::GenerationAt(_) => self.generation,
+            Call::First => self.first,
+            Call::Last => self.last,
+            _ => Told::NoSuchCall,
+        }
+    }
+}
+
+/// What a call answers that reads any arena.
+pub fn answer_to_read<P: Ptr, A: ArenaTrait<P, Token>>(arena: &A, call: Call) -> Told
+where
+    P::Gen: Numbered,
+{
+    seen_at(arena, call.first()).told(call)
+}

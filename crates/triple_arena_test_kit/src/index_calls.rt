@@ -28,7 +28,7 @@ fn is_valid<P: Ptr, T, S: NonZeroInxGenericStack<ArenaSlot<P, T>>>(
 ) -> bool
     ensures { IsTrue result ↔ IsSome (look_up arena.now (P.numbers p)) }
 {
-    arena.contains(p)
+    arena.get(p).is_some()
 }
 
 /// The value at an index, if an entry stands there.

@@ -1,6 +1,6 @@
 //! What is tried on arenas, and the arenas over each stack that it is tried on.
 
-use crate::arenas::{Fixed, Heap, Limited, Little, new_arena, with_room};
+use crate::arenas::{Fixed, Heap, Limited, Little, Places, new_arena, with_room};
 use crate::call::Call;
 use crate::numbered::Numbered;
 use crate::tables::{Wrong, follow, follow_tidied, follow_unchanged, step};
@@ -21,9 +21,9 @@ pub trait Trial {
 
 /// A table of calls and answers, tried by making each call.
 #[derive(Clone, Copy)]
-pub struct Steps<'a>(pub &'a [(Call, Told)]);
+pub struct Steps(pub &'static [(Call, Told)]);
 
-impl Trial for Steps<'_> {
+impl Trial for Steps {
     fn on<A: TestedArena>(&self, arena: &mut A) -> Result<(), Wrong> {
         follow(arena, self.0)
     }
@@ -31,9 +31,9 @@ impl Trial for Steps<'_> {
 
 /// A table of calls, each of which leaves the whole state as it was.
 #[derive(Clone, Copy)]
-pub struct Unchanged<'a>(pub &'a [(Call, Told)]);
+pub struct Unchanged(pub &'static [(Call, Told)]);
 
-impl Trial for Unchanged<'_> {
+impl Trial for Unchanged {
     fn on<A: TestedArena>(&self, arena: &mut A) -> Result<(), Wrong> {
         follow_unchanged(arena, self.0)
     }
@@ -42,9 +42,9 @@ impl Trial for Unchanged<'_> {
 /// A table of calls, each of which leaves the whole state as it was, but for the free list, which is
 /// in order.
 #[derive(Clone, Copy)]
-pub struct Tidied<'a>(pub &'a [(Call, Told)]);
+pub struct Tidied(pub &'static [(Call, Told)]);
 
-impl Trial for Tidied<'_> {
+impl Trial for Tidied {
     fn on<A: TestedArena>(&self, arena: &mut A) -> Result<(), Wrong> {
         follow_tidied(arena, self.0)
     }
@@ -53,12 +53,12 @@ impl Trial for Tidied<'_> {
 /// So many insertions in an arena without slots whose counter is 2, each of its index, and then some
 /// removals.
 #[derive(Clone, Copy)]
-pub struct Removed<'a> {
+pub struct Removed {
     pub entries: usize,
-    pub removed: &'a [usize],
+    pub removed: &'static [usize],
 }
 
-impl Trial for Removed<'_> {
+impl Trial for Removed {
     fn on<A: TestedArena>(&self, arena: &mut A) -> Result<(), Wrong> {
         for index in 1..=self.entries {
             step(arena, Call::Insert(index as u64), Told::At(index, 2))?;
@@ -161,21 +161,18 @@ where
     on_stack_with_limit::<P, Little<P, N>, T>(alloc, room, trial)
 }
 
-/// Tries it on an arena as `new` makes it over the stack `S`, such as an array.
-pub fn on_new<P: Ptr, S: NonZeroInxGenericStack<ArenaSlot<P, Token>> + Drop, T: Trial>(
-    alloc: Global,
-    trial: &T,
-) -> Result<(), Wrong>
+/// Tries it on an arena over an array of `N` places, as `new` makes it.
+pub fn on_array<P: Ptr, const N: usize, T: Trial>(alloc: Global, trial: &T) -> Result<(), Wrong>
 where
     P::Gen: Numbered,
 {
-    on_stack::<P, S, T>(alloc, None, trial)
+    on_stack::<P, Places<P, N>, T>(alloc, None, trial)
 }
 
 /// Follows a table on an arena as `new` makes it on the heap.
-pub fn from_empty<P: Ptr>(alloc: Global, steps: &[(Call, Told)]) -> Result<(), Wrong>
+pub fn from_empty<P: Ptr>(alloc: Global, steps: &'static [(Call, Told)]) -> Result<(), Wrong>
 where
     P::Gen: Numbered,
 {
-    on_stack::<P, Heap<P>, Steps<'_>>(alloc, None, &Steps(steps))
+    on_stack::<P, Heap<P>, Steps>(alloc, None, &Steps(steps))
 }

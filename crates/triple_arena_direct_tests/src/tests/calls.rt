@@ -8,19 +8,30 @@ use triple_arena_direct::DirectSlot;
 use triple_arena_ptr::P0;
 use triple_arena_stack::NonZeroInxGenericStack;
 use triple_arena_test_kit::{
-    Call, NO_POINTER, NOT_DRAINED, Steps, Token, Told, Trial, Unchanged, Wrong, is_text,
+    Call, NO_POINTER, NOT_DRAINED, Steps, TestedArena, Token, Told, Trial, Unchanged, Wrong,
+    follow, follow_unchanged, is_text,
 };
 
 // Entries at 1, 2 and 4.
-const THREE_ENTRIES: Steps<'static> = Steps(&[
-    (Call::DirectInsert(4, 3, 40), Told::Holds(40)),
-    (Call::DirectInsert(1, 2, 10), Told::Holds(10)),
-    (Call::DirectInsert(2, 5, 20), Told::Holds(20)),
-]);
+#[derive(Drop)]
+struct ThreeEntries;
+
+impl Trial for ThreeEntries {
+    fn on<A: TestedArena>(&self, arena: &mut A) -> Result<(), Wrong> {
+        follow(
+            arena,
+            &[
+                (Call::DirectInsert(4, 3, 40), Told::Holds(40)),
+                (Call::DirectInsert(1, 2, 10), Told::Holds(10)),
+                (Call::DirectInsert(2, 5, 20), Told::Holds(20)),
+            ],
+        )
+    }
+}
 
 // What is tried on an arena with these entries, of capacity 4.
 fn with_entries<T: Trial + Drop>(alloc: Global, trial: T) -> Result<(), Wrong> {
-    on_direct::<P0, Heap<P0>, _>(alloc, 4, &(THREE_ENTRIES, trial))
+    on_direct::<P0, Heap<P0>, _>(alloc, 4, &(ThreeEntries, trial))
 }
 
 #[test]
@@ -85,26 +96,37 @@ const OUTSIDE: Told = Told::Apart(GetDisjointMutError::IndexOutOfBounds);
 const SAME: Told = Told::Apart(GetDisjointMutError::OverlappingIndices);
 
 // Two values that can't be lent, and then two that can.
-const LENDS_TWO: (Unchanged<'static>, Steps<'static>) = (
-    Unchanged(&[
-        (Call::Swap((1, 2), (3, 2)), OUTSIDE),
-        (Call::Swap((1, 2), (1, 2)), SAME),
-        (Call::Swap((3, 2), (3, 2)), OUTSIDE),
-        (Call::SwapInx(5, 5), OUTSIDE),
-        (Call::SwapInx(3, 3), SAME),
-        (Call::SwapInx(3, 1), OUTSIDE),
-    ]),
-    Steps(&[
-        (Call::Swap((1, 2), (4, 3)), Told::Done),
-        (Call::Get(1, 2), Told::Holds(40)),
-        (Call::SwapInx(1, 2), Told::Done),
-        (Call::Values, Told::MetValues(20, 40, 10)),
-    ]),
-);
+#[derive(Drop)]
+struct LendsTwo;
+
+impl Trial for LendsTwo {
+    fn on<A: TestedArena>(&self, arena: &mut A) -> Result<(), Wrong> {
+        follow_unchanged(
+            arena,
+            &[
+                (Call::Swap((1, 2), (3, 2)), OUTSIDE),
+                (Call::Swap((1, 2), (1, 2)), SAME),
+                (Call::Swap((3, 2), (3, 2)), OUTSIDE),
+                (Call::SwapInx(5, 5), OUTSIDE),
+                (Call::SwapInx(3, 3), SAME),
+                (Call::SwapInx(3, 1), OUTSIDE),
+            ],
+        )?;
+        follow(
+            arena,
+            &[
+                (Call::Swap((1, 2), (4, 3)), Told::Done),
+                (Call::Get(1, 2), Told::Holds(40)),
+                (Call::SwapInx(1, 2), Told::Done),
+                (Call::Values, Told::MetValues(20, 40, 10)),
+            ],
+        )
+    }
+}
 
 #[test]
 fn two_values_are_lent_at_once(rt: HostRuntime) -> Result<(), Fail> {
-    with_entries(rt.alloc(), LENDS_TWO)?;
+    with_entries(rt.alloc(), LendsTwo)?;
     Ok(())
 }
 
@@ -159,7 +181,7 @@ fn has_text<S: NonZeroInxGenericStack<DirectSlot<P0, Token>> + Drop>(
     expected: &'static str,
 ) -> Result<(), Wrong> {
     let mut direct: Direct<P0, S> = with_room(alloc, 4)?;
-    THREE_ENTRIES.on(&mut direct)?;
+    ThreeEntries.on(&mut direct)?;
     let arena = &direct.arena;
     is_text(format!(in alloc; "{arena:?}")?.as_str(), expected)
 }

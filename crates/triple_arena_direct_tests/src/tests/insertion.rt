@@ -4,7 +4,10 @@ use super::tested_direct::{Heap, InArray, on_direct};
 use std::test::Fail;
 use triple_arena_base::DirectInsertionError;
 use triple_arena_ptr::{P0, P4};
-use triple_arena_test_kit::{Call, NO_ENTRY, Narrow, Steps, Told, Unchanged};
+use triple_arena_test_kit::{
+    Call, NO_ENTRY, Narrow, Steps, TestedArena, Told, Trial, Unchanged, Wrong, follow,
+    follow_unchanged,
+};
 
 const ABOVE: Told = Told::NotInserted(DirectInsertionError::NotWithinCapacity);
 
@@ -24,29 +27,40 @@ fn an_entry_that_is_let_go_changes_nothing(rt: HostRuntime) -> Result<(), Fail> 
 }
 
 // An index above the capacity, and then one that is taken.
-const ABOVE_AND_TAKEN: (Steps<'static>, Unchanged<'static>) = (
-    Steps(&[
-        (Call::DirectInsert(6, 2, 1), ABOVE),
-        (Call::DirectInsert(3, 9, 1), Told::Holds(1)),
-        (Call::Slots, Told::Size(3)),
-    ]),
-    Unchanged(&[
-        (Call::DirectInsert(3, 1, 2), STANDS),
-        (Call::DirectAsk(3, 9), STANDS),
-        (Call::DirectAsk(5, 9), ABOVE),
-        (Call::CanDirectInsert(3, 1), Told::Is(false)),
-        (Call::CanDirectInsert(5, 1), Told::Is(false)),
-        (Call::CanDirectInsert(4, 1), Told::Is(true)),
-        (Call::DirectInsertReserved(3, 1, 2), Told::Invalid),
-        (Call::PopFreeEnd(5), Told::Size(0)),
-    ]),
-);
+#[derive(Drop)]
+struct AboveAndTaken;
+
+impl Trial for AboveAndTaken {
+    fn on<A: TestedArena>(&self, arena: &mut A) -> Result<(), Wrong> {
+        follow(
+            arena,
+            &[
+                (Call::DirectInsert(6, 2, 1), ABOVE),
+                (Call::DirectInsert(3, 9, 1), Told::Holds(1)),
+                (Call::Slots, Told::Size(3)),
+            ],
+        )?;
+        follow_unchanged(
+            arena,
+            &[
+                (Call::DirectInsert(3, 1, 2), STANDS),
+                (Call::DirectAsk(3, 9), STANDS),
+                (Call::DirectAsk(5, 9), ABOVE),
+                (Call::CanDirectInsert(3, 1), Told::Is(false)),
+                (Call::CanDirectInsert(5, 1), Told::Is(false)),
+                (Call::CanDirectInsert(4, 1), Told::Is(true)),
+                (Call::DirectInsertReserved(3, 1, 2), Told::Invalid),
+                (Call::PopFreeEnd(5), Told::Size(0)),
+            ],
+        )
+    }
+}
 
 #[test]
 fn an_index_above_the_capacity_is_refused_before_one_that_is_taken(
     rt: HostRuntime,
 ) -> Result<(), Fail> {
-    on_direct::<P0, Heap<P0>, _>(rt.alloc(), 4, &ABOVE_AND_TAKEN)?;
+    on_direct::<P0, Heap<P0>, _>(rt.alloc(), 4, &AboveAndTaken)?;
     Ok(())
 }
 

@@ -6,12 +6,12 @@ use std::test::Fail;
 use triple_arena_base::ReallocationError;
 use triple_arena_ptr::{P0, P1, P2, P3, P4, P5, Ptr, PtrNoGen, Q2};
 use triple_arena_test_kit::{
-    B, Call, Narrow, Numbered, Places, Steps, Told, Wide, Wrong, on_fixed, on_heap, on_limited,
-    on_little, on_new,
+    B, Call, Narrow, Numbered, Steps, Told, Wide, Wrong, on_array, on_fixed, on_heap, on_limited,
+    on_little,
 };
 
 // Each call, on an arena with place for six and no entry.
-const EACH_OWN_CALL: Steps<'static> = Steps(&[
+const EACH_OWN_CALL: Steps = Steps(&[
     (Call::Generation, Told::Generation(2)),
     (Call::Slots, Told::Size(0)),
     (Call::Root, Told::Nothing),
@@ -87,9 +87,9 @@ fn each_own_call_over_each_stack_on_the_heap(rt: HostRuntime) -> Result<(), Fail
 
 #[test]
 fn each_own_call_over_an_array(rt: HostRuntime) -> Result<(), Fail> {
-    on_new::<P0, Places<P0, 6>, _>(rt.alloc(), &EACH_OWN_CALL)?;
-    on_new::<P5, Places<P5, 6>, _>(rt.alloc(), &EACH_OWN_CALL)?;
-    on_new::<Narrow, Places<Narrow, 6>, _>(rt.alloc(), &EACH_OWN_CALL)?;
+    on_array::<P0, 6, _>(rt.alloc(), &EACH_OWN_CALL)?;
+    on_array::<P5, 6, _>(rt.alloc(), &EACH_OWN_CALL)?;
+    on_array::<Narrow, 6, _>(rt.alloc(), &EACH_OWN_CALL)?;
     Ok(())
 }
 
@@ -108,7 +108,7 @@ fn each_own_call_on_each_pointer_type(rt: HostRuntime) -> Result<(), Fail> {
 const BEYOND: Told = Told::Refused(ReallocationError::BeyondMaxCapacity);
 
 // The calls on the limit of a new arena that has a limit and no room.
-const EACH_LIMIT_CALL: Steps<'static> = Steps(&[
+const EACH_LIMIT_CALL: Steps = Steps(&[
     (Call::Bounds, Told::Bounds(0, 0, Some(0))),
     (Call::SetLimit(2), Told::Done),
     (Call::Bounds, Told::Bounds(0, 0, Some(2))),

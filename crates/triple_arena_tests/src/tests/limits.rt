@@ -5,14 +5,14 @@ use std::test::Fail;
 use triple_arena_base::ReallocationError;
 use triple_arena_ptr::{P0, P5};
 use triple_arena_test_kit::{
-    Call, Steps, TestedArena, Tidied, Told, Trial, Unchanged, Wrong, on_limited, step,
-    where_there_is_memory,
+    Call, Steps, TestedArena, Told, Trial, Wrong, follow, follow_tidied, follow_unchanged,
+    on_limited, step, where_there_is_memory,
 };
 
 const BEYOND: Told = Told::Refused(ReallocationError::BeyondMaxCapacity);
 
 // Five entries, and the first and then the third of them removed.
-const TWO_FREE: Steps<'static> = Steps(&[
+const TWO_FREE: Steps = Steps(&[
     (Call::Insert(1), Told::At(1, 2)),
     (Call::Insert(2), Told::At(2, 2)),
     (Call::Insert(3), Told::At(3, 2)),
@@ -22,9 +22,23 @@ const TWO_FREE: Steps<'static> = Steps(&[
     (Call::Remove(3, 2), Told::Holds(3)),
 ]);
 
-// The calls with these entries under a limit and with a capacity of 8.
-fn with_two_free(alloc: Global, steps: &[(Call, Told)]) -> Result<(), Wrong> {
-    on_limited::<P0, _>(alloc, Some(8), &(TWO_FREE, Steps(steps)))
+// The calls with these entries.
+#[derive(Drop)]
+struct WithTwoFree {
+    steps: Steps,
+}
+
+impl Trial for WithTwoFree {
+    fn on<A: TestedArena>(&self, arena: &mut A) -> Result<(), Wrong> {
+        TWO_FREE.on(arena)?;
+        self.steps.on(arena)
+    }
+}
+
+// The same under a limit and with a capacity of 8.
+fn with_two_free(alloc: Global, steps: &'static [(Call, Told)]) -> Result<(), Wrong> {
+    let steps = Steps(steps);
+    on_limited::<P0, _>(alloc, Some(8), &WithTwoFree { steps })
 }
 
 #[test]
@@ -50,50 +64,74 @@ fn a_limit_below_the_last_entry_is_refused(rt: HostRuntime) -> Result<(), Fail> 
 }
 
 // A limit that is refused, which puts the free list in order.
-const REFUSED_LIMIT: (Steps<'static>, Tidied<'static>) = (
-    Steps(&[
-        (Call::Bounds, Told::Bounds(3, 8, Some(8))),
-        (Call::Generation, Told::Generation(4)),
-        (Call::FirstFree, Told::Free([3, 1, 0])),
-    ]),
-    Tidied(&[
-        (Call::SetLimit(4), Told::LimitRefused),
-        (Call::FirstFree, Told::Free([1, 3, 0])),
-    ]),
-);
+#[derive(Drop)]
+struct RefusedLimit;
+
+impl Trial for RefusedLimit {
+    fn on<A: TestedArena>(&self, arena: &mut A) -> Result<(), Wrong> {
+        TWO_FREE.on(arena)?;
+        follow(
+            arena,
+            &[
+                (Call::Bounds, Told::Bounds(3, 8, Some(8))),
+                (Call::Generation, Told::Generation(4)),
+                (Call::FirstFree, Told::Free([3, 1, 0])),
+            ],
+        )?;
+        follow_tidied(
+            arena,
+            &[
+                (Call::SetLimit(4), Told::LimitRefused),
+                (Call::FirstFree, Told::Free([1, 3, 0])),
+            ],
+        )
+    }
+}
 
 #[test]
 fn a_refused_limit_has_put_the_free_list_in_order(rt: HostRuntime) -> Result<(), Fail> {
-    on_limited::<P0, _>(rt.alloc(), Some(8), &(TWO_FREE, REFUSED_LIMIT))?;
+    on_limited::<P0, _>(rt.alloc(), Some(8), &RefusedLimit)?;
     Ok(())
 }
 
 // Refusals under a limit that is below the capacity.
-const ROOM_ABOVE_A_LIMIT: (Steps<'static>, (Unchanged<'static>, Steps<'static>)) = (
-    Steps(&[
-        (Call::Insert(1), Told::At(1, 2)),
-        (Call::Insert(2), Told::At(2, 2)),
-        (Call::SetLimit(2), Told::Done),
-    ]),
-    (
-        Unchanged(&[
-            (Call::Insert(3), BEYOND),
-            (Call::InsertReallocating(3), BEYOND),
-            (Call::InsertWithinCapacity(3), Told::Full),
-            (Call::EntryPtr, BEYOND),
-            (Call::Reallocate(3), BEYOND),
-            (Call::SetLimit(1), Told::LimitRefused),
-        ]),
-        Steps(&[
-            (Call::SetLimit(usize::MAX), Told::Done),
-            (Call::Bounds, Told::Bounds(2, 8, Some(usize::MAX))),
-        ]),
-    ),
-);
+#[derive(Drop)]
+struct RoomAboveALimit;
+
+impl Trial for RoomAboveALimit {
+    fn on<A: TestedArena>(&self, arena: &mut A) -> Result<(), Wrong> {
+        follow(
+            arena,
+            &[
+                (Call::Insert(1), Told::At(1, 2)),
+                (Call::Insert(2), Told::At(2, 2)),
+                (Call::SetLimit(2), Told::Done),
+            ],
+        )?;
+        follow_unchanged(
+            arena,
+            &[
+                (Call::Insert(3), BEYOND),
+                (Call::InsertReallocating(3), BEYOND),
+                (Call::InsertWithinCapacity(3), Told::Full),
+                (Call::EntryPtr, BEYOND),
+                (Call::Reallocate(3), BEYOND),
+                (Call::SetLimit(1), Told::LimitRefused),
+            ],
+        )?;
+        follow(
+            arena,
+            &[
+                (Call::SetLimit(usize::MAX), Told::Done),
+                (Call::Bounds, Told::Bounds(2, 8, Some(usize::MAX))),
+            ],
+        )
+    }
+}
 
 #[test]
 fn a_refusal_leaves_the_room_above_a_limit(rt: HostRuntime) -> Result<(), Fail> {
-    on_limited::<P0, _>(rt.alloc(), Some(8), &ROOM_ABOVE_A_LIMIT)?;
+    on_limited::<P0, _>(rt.alloc(), Some(8), &RoomAboveALimit)?;
     Ok(())
 }
 

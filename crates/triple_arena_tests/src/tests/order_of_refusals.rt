@@ -5,8 +5,8 @@ use std::test::Fail;
 use triple_arena_base::ReallocationError;
 use triple_arena_ptr::{P0, P1, P5};
 use triple_arena_test_kit::{
-    Call, Narrow, Places, Steps, TestedArena, Tidied, Told, Trial, Wrong, on_fixed, on_limited,
-    on_little, on_new, step,
+    Call, Narrow, Steps, TestedArena, Told, Trial, Wrong, follow_tidied, on_array, on_fixed,
+    on_limited, on_little, step,
 };
 
 const BEYOND: Told = Told::Refused(ReallocationError::BeyondMaxCapacity);
@@ -14,7 +14,7 @@ const BEYOND: Told = Told::Refused(ReallocationError::BeyondMaxCapacity);
 const NO_MEMORY: Told = Told::Refused(ReallocationError::AllocError);
 
 // Four entries, of which the last goes and two before it, so that the third slot is free at the end.
-const THREE_FREE: Steps<'static> = Steps(&[
+const THREE_FREE: Steps = Steps(&[
     (Call::Clear, Told::Done),
     (Call::SetGeneration(2), Told::Done),
     (Call::Insert(1), Told::At(1, 2)),
@@ -30,20 +30,22 @@ const THREE_FREE: Steps<'static> = Steps(&[
 
 // Each reallocation that is asked for is refused so, and puts the free list in order all the same.
 #[derive(Drop)]
-struct RefusesReallocation<'a> {
-    asked: &'a [(usize, Told)],
+struct RefusesReallocation {
+    asked: &'static [(usize, Told)],
 }
 
-impl Trial for RefusesReallocation<'_> {
+impl Trial for RefusesReallocation {
     fn on<A: TestedArena>(&self, arena: &mut A) -> Result<(), Wrong> {
         for (asked, refused) in self.asked {
             THREE_FREE.on(arena)?;
-            Tidied(&[
-                (Call::Reallocate(*asked), *refused),
-                (Call::Slots, Told::Size(2)),
-                (Call::FirstFree, Told::Free([1, 0, 0])),
-            ])
-            .on(arena)?;
+            follow_tidied(
+                arena,
+                &[
+                    (Call::Reallocate(*asked), *refused),
+                    (Call::Slots, Told::Size(2)),
+                    (Call::FirstFree, Told::Free([1, 0, 0])),
+                ],
+            )?;
         }
         Ok(())
     }
@@ -61,7 +63,7 @@ fn past_the_greatest_index_and_the_limit(rt: HostRuntime) -> Result<(), Fail> {
     };
     on_limited::<P5, _>(rt.alloc(), Some(4), &bytes)?;
     on_fixed::<P5, _>(rt.alloc(), Some(4), &bytes)?;
-    on_new::<P5, Places<P5, 4>, _>(rt.alloc(), &bytes)?;
+    on_array::<P5, 4, _>(rt.alloc(), &bytes)?;
     let words = RefusesReallocation {
         asked: &[(5, BEYOND), (65535, BEYOND), (65536, NO_MEMORY)],
     };
@@ -70,22 +72,27 @@ fn past_the_greatest_index_and_the_limit(rt: HostRuntime) -> Result<(), Fail> {
 }
 
 // Past a limit of four.
-const PAST_FOUR: RefusesReallocation<'static> = RefusesReallocation {
+const PAST_FOUR: RefusesReallocation = RefusesReallocation {
     asked: &[(5, BEYOND), (1 << 61, BEYOND), (usize::MAX, BEYOND)],
 };
 
-// Past the memory for four, and past a limit of six.
-const PAST_SIX: (Steps<'static>, RefusesReallocation<'static>) = (
-    Steps(&[(Call::SetLimit(6), Told::Done)]),
-    RefusesReallocation {
-        asked: &[(5, NO_MEMORY), (6, NO_MEMORY), (7, BEYOND)],
-    },
-);
+// Past a limit of four; then, under a limit of six, past the memory for four, and past that limit.
+#[derive(Drop)]
+struct PastFourAndSix;
+
+impl Trial for PastFourAndSix {
+    fn on<A: TestedArena>(&self, arena: &mut A) -> Result<(), Wrong> {
+        PAST_FOUR.on(arena)?;
+        step(arena, Call::SetLimit(6), Told::Done)?;
+        let asked = &[(5, NO_MEMORY), (6, NO_MEMORY), (7, BEYOND)];
+        RefusesReallocation { asked }.on(arena)
+    }
+}
 
 #[test]
 fn past_the_limit_and_the_memory(rt: HostRuntime) -> Result<(), Fail> {
     on_limited::<P0, _>(rt.alloc(), Some(4), &PAST_FOUR)?;
-    on_little::<P0, 4, _>(rt.alloc(), Some(4), &(PAST_FOUR, PAST_SIX))?;
+    on_little::<P0, 4, _>(rt.alloc(), Some(4), &PastFourAndSix)?;
     Ok(())
 }
 

@@ -8,8 +8,8 @@ use triple_arena_base::{AllocError, ReallocationError};
 use triple_arena_ptr::{P0, P4, Ptr};
 use triple_arena_stack::NonZeroInxGenericStack;
 use triple_arena_test_kit::{
-    Call, Little, Narrow, Numbered, TestedArena, Token, Told, Trial, Unchanged, Wrong,
-    capacity_made, follow, follow_tidied, is_told, on_little, step,
+    Call, Little, Narrow, Numbered, TestedArena, Token, Told, Trial, Wrong, capacity_made, follow,
+    follow_tidied, follow_unchanged, is_told, on_little, step,
 };
 
 const NO_MEMORY: Told = Told::Refused(ReallocationError::AllocError);
@@ -46,15 +46,31 @@ impl Trial for Grown {
     }
 }
 
+// An arena with so many places is refused more, and has what it has.
+#[derive(Drop)]
+struct RefusesMore {
+    places: usize,
+}
+
+impl Trial for RefusesMore {
+    fn on<A: TestedArena>(&self, arena: &mut A) -> Result<(), Wrong> {
+        let more = Call::Reallocate(self.places.saturating_add(1));
+        follow_unchanged(
+            arena,
+            &[
+                (more, NO_MEMORY),
+                (Call::Reallocate(self.places), Told::Done),
+            ],
+        )
+    }
+}
+
 // The request for more than `PLACES` places is refused.
 fn refused_past<P: Ptr, const PLACES: usize>(alloc: Global) -> Result<(), Wrong>
 where
     P::Gen: Numbered,
 {
-    let reallocations = Unchanged(&[
-        (Call::Reallocate(PLACES.saturating_add(1)), NO_MEMORY),
-        (Call::Reallocate(PLACES), Told::Done),
-    ]);
+    let reallocations = RefusesMore { places: PLACES };
     let growth = RefusesGrowth { refused: NO_MEMORY };
     let grown = Grown { places: PLACES };
     on_little::<P, PLACES, _>(alloc, None, &(grown, (growth, reallocations)))

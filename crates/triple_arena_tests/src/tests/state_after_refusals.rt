@@ -9,9 +9,9 @@ use triple_arena_base::ReallocationError;
 use triple_arena_ptr::P0;
 use triple_arena_stack::NonZeroInxGenericStack;
 use triple_arena_test_kit::{
-    Call, Fixed, Heap, Limited, Places, State, Steps, TestedArena, Token, Told, Trial, Unchanged,
-    Wrong, follow, follow_tidied, has_state, is_told, on_fixed, on_heap, on_limited, on_new, step,
-    where_there_is_memory,
+    Call, Fixed, Heap, Limited, Places, State, Steps, TestedArena, Token, Told, Trial, Wrong,
+    follow, follow_tidied, follow_unchanged, has_state, is_told, on_array, on_fixed, on_heap,
+    on_limited, step, where_there_is_memory,
 };
 
 // More slots than a vector may hold.
@@ -156,7 +156,7 @@ fn a_refused_growth_changes_nothing(rt: HostRuntime) {
 }
 
 // Removals and an insertion, which leave the second slot free, and a later generation at the fourth.
-const ENDED: Steps<'static> = Steps(&[
+const ENDED: Steps = Steps(&[
     (Call::Insert(1), Told::At(1, 2)),
     (Call::Insert(2), Told::At(2, 2)),
     (Call::Insert(3), Told::At(3, 2)),
@@ -175,20 +175,24 @@ impl Trial for NothingIsNamed {
     fn on<A: TestedArena>(&self, arena: &mut A) -> Result<(), Wrong> {
         // of free slots, of earlier and later generations, and past the slots
         for (index, generation) in [(2, 2), (2, 4), (4, 2), (1, 4), (1, 1), (6, 4)] {
-            Unchanged(&[
-                (Call::Get(index, generation), Told::Nothing),
-                (Call::GetMut(index, generation), Told::Nothing),
-                (Call::Invalidate(index, generation), Told::Invalid),
-                (Call::Remove(index, generation), Told::Invalid),
-            ])
-            .on(arena)?;
+            follow_unchanged(
+                arena,
+                &[
+                    (Call::Get(index, generation), Told::Nothing),
+                    (Call::GetMut(index, generation), Told::Nothing),
+                    (Call::Invalidate(index, generation), Told::Invalid),
+                    (Call::Remove(index, generation), Told::Invalid),
+                ],
+            )?;
         }
         for index in [2, 6, usize::MAX] {
-            Unchanged(&[
-                (Call::GetInxMut(index), Told::Nothing),
-                (Call::RemoveInx(index), Told::Invalid),
-            ])
-            .on(arena)?;
+            follow_unchanged(
+                arena,
+                &[
+                    (Call::GetInxMut(index), Told::Nothing),
+                    (Call::RemoveInx(index), Told::Invalid),
+                ],
+            )?;
         }
         Ok(())
     }
@@ -303,7 +307,7 @@ fn each_refusal_under_a_limit_leaves_the_arena_as_it_was(rt: HostRuntime) -> Res
 fn each_refusal_of_fixed_room_and_arrays_leaves_the_arena_as_it_was(
     rt: HostRuntime,
 ) -> Result<(), Fail> {
-    on_new::<P0, Places<P0, 8>, _>(rt.alloc(), &WhateverIsRefused)?;
+    on_array::<P0, 8, _>(rt.alloc(), &WhateverIsRefused)?;
     let tried = on_fixed::<P0, _>(rt.alloc(), Some(5), &WhateverIsRefused);
     where_there_is_memory(tried)?;
     Ok(())

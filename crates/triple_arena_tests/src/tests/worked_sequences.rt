@@ -121,7 +121,7 @@ fn an_invalidated_pointer_finds_nothing(rt: HostRuntime) -> Result<(), Fail> {
 }
 
 // Five entries, of which the first and then the third are removed.
-const TWO_FREE: Steps<'static> = Steps(&[
+const TWO_FREE: Steps = Steps(&[
     (Call::Insert(1), Told::At(1, 2)),
     (Call::Insert(2), Told::At(2, 2)),
     (Call::Insert(3), Told::At(3, 2)),
@@ -131,9 +131,23 @@ const TWO_FREE: Steps<'static> = Steps(&[
     (Call::Remove(3, 2), Told::Holds(3)),
 ]);
 
-// The calls on an arena with these entries.
-fn with_two_free(alloc: Global, steps: &[(Call, Told)]) -> Result<(), Wrong> {
-    on_heap::<P0, _>(alloc, None, &(TWO_FREE, Steps(steps)))
+// The calls with these entries.
+#[derive(Drop)]
+struct WithTwoFree {
+    steps: Steps,
+}
+
+impl Trial for WithTwoFree {
+    fn on<A: TestedArena>(&self, arena: &mut A) -> Result<(), Wrong> {
+        TWO_FREE.on(arena)?;
+        self.steps.on(arena)
+    }
+}
+
+// The same on the heap.
+fn with_two_free(alloc: Global, steps: &'static [(Call, Told)]) -> Result<(), Wrong> {
+    let steps = Steps(steps);
+    on_heap::<P0, _>(alloc, None, &WithTwoFree { steps })
 }
 
 #[test]

@@ -3,10 +3,12 @@
 use std::alloc::Global;
 use std::test::Fail;
 use triple_arena_ptr::{P0, P2};
-use triple_arena_test_kit::{Call, NO_ENTRY, Steps, Told, Wrong, from_empty, on_heap};
+use triple_arena_test_kit::{
+    Call, NO_ENTRY, Steps, TestedArena, Told, Trial, Wrong, from_empty, on_heap,
+};
 
 // Five entries, of which those at the indexes 1 and 4 go.
-const WITH_GAPS: Steps<'static> = Steps(&[
+const WITH_GAPS: Steps = Steps(&[
     (Call::Insert(10), Told::At(1, 2)),
     (Call::Insert(20), Told::At(2, 2)),
     (Call::Insert(30), Told::At(3, 2)),
@@ -16,9 +18,23 @@ const WITH_GAPS: Steps<'static> = Steps(&[
     (Call::Remove(4, 2), Told::Holds(40)),
 ]);
 
-// The calls on an arena with gaps.
-fn with_gaps(alloc: Global, steps: &[(Call, Told)]) -> Result<(), Wrong> {
-    on_heap::<P0, _>(alloc, None, &(WITH_GAPS, Steps(steps)))
+// The calls on these.
+#[derive(Drop)]
+struct AfterGaps {
+    steps: Steps,
+}
+
+impl Trial for AfterGaps {
+    fn on<A: TestedArena>(&self, arena: &mut A) -> Result<(), Wrong> {
+        WITH_GAPS.on(arena)?;
+        self.steps.on(arena)
+    }
+}
+
+// The same on the heap.
+fn with_gaps(alloc: Global, steps: &'static [(Call, Told)]) -> Result<(), Wrong> {
+    let steps = Steps(steps);
+    on_heap::<P0, _>(alloc, None, &AfterGaps { steps })
 }
 
 #[test]

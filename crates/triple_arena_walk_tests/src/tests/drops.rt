@@ -221,66 +221,45 @@ type Slot<'a> = ArenaSlot<P0, Counted<'a>>;
 
 type Over<'a, S> = Arena<P0, Counted<'a>, S>;
 
-type OnHeap<'a> = NonZeroInxVec<Slot<'a>>;
+type OnHeap<'a> = Over<'a, NonZeroInxVec<Slot<'a>>>;
 
-type OnLimited<'a> = NonZeroInxLimitedVec<Slot<'a>>;
+type OnLimited<'a> = Over<'a, NonZeroInxLimitedVec<Slot<'a>>>;
 
-type OnFixed<'a> = NonZeroInxBoxedSlice<Slot<'a>>;
+type OnFixed<'a> = Over<'a, NonZeroInxBoxedSlice<Slot<'a>>>;
 
-type InArray<'a> = NonZeroInxArray<Slot<'a>, 3>;
+type InArray<'a> = Over<'a, NonZeroInxArray<Slot<'a>, 3>>;
 
-type InLittle<'a> = Scarce<Slot<'a>, 3>;
+type InLittle<'a> = Over<'a, Scarce<Slot<'a>, 3>>;
 
-// Each value that is refused, or else each drop.
-fn each<'a, A: ArenaInsertTrait<P0, Counted<'a>> + Drop>(
-    arena: A,
-    drops: &'a Cell<u64>,
-    refused: bool,
-) -> Result<(), Wrong> {
-    drops.set(0);
-    if refused {
-        each_refused_drop(arena, drops)
-    } else {
-        each_drop(arena, drops)
-    }
-}
-
-// The same on an arena over any stack: the one body that takes it as that trait, since each such body
-// is slow to prove.
-fn each_over<'a, S: NonZeroInxGenericStack<Slot<'a>> + Drop>(
-    arena: Over<'a, S>,
-    drops: &'a Cell<u64>,
-    refused: bool,
-) -> Result<(), Wrong> {
-    each(arena, drops, refused)
-}
-
-// The same on an arena over a stack with three places.
-fn each_on<'a, S: NonZeroInxGenericStack<Slot<'a>> + Drop>(
+// Each drop on an arena of a kind, with three places.
+fn each_on<'a, A: ArenaInsertTrait<P0, Counted<'a>> + Drop>(
     alloc: Global,
     drops: &'a Cell<u64>,
-    refused: bool,
 ) -> Result<(), Wrong> {
-    let made: Result<Over<'a, S>, _> = Arena::with_min_capacity(alloc, 3);
-    match made {
-        Ok(arena) => each_over(arena, drops, refused),
+    drops.set(0);
+    match A::with_min_capacity(alloc, 3) {
+        Ok(arena) => each_drop(arena, drops),
         Err(_) => Err(Wrong::NoMemory),
     }
 }
 
-// Each drop over a stack that has no way to grow, and each value that is refused.
-fn each_on_limited<'a, S: NonZeroInxGenericStack<Slot<'a>> + Drop>(
+// The same on an arena of a kind that has no way to grow, and each value that is refused.
+fn each_on_limited<'a, A: ArenaInsertTrait<P0, Counted<'a>> + Drop>(
     alloc: Global,
     drops: &'a Cell<u64>,
 ) -> Result<(), Wrong> {
-    each_on::<S>(alloc, drops, false)?;
-    each_on::<S>(alloc, drops, true)
+    each_on::<A>(alloc, drops)?;
+    drops.set(0);
+    match A::with_min_capacity(alloc, 3) {
+        Ok(arena) => each_refused_drop(arena, drops),
+        Err(_) => Err(Wrong::NoMemory),
+    }
 }
 
 #[test]
 fn a_value_on_the_heap_is_dropped_once(rt: HostRuntime) -> Result<(), Fail> {
     let drops = Cell::new(0);
-    each_on::<OnHeap<'_>>(rt.alloc(), &drops, false)?;
+    each_on::<OnHeap<'_>>(rt.alloc(), &drops)?;
     Ok(())
 }
 
@@ -298,18 +277,15 @@ fn is_unlimited<'a, S: SetMaxCapacity<Slot<'a>>>(arena: &mut Over<'a, S>) -> boo
     arena.set_max_capacity(usize::MAX).is_ok()
 }
 
-// Each value that is refused where there is memory for three places, without a limit in the way.
-fn without_limit<'a, S: SetMaxCapacity<Slot<'a>> + Drop>(
-    alloc: Global,
-    drops: &'a Cell<u64>,
-) -> Result<(), Wrong> {
-    let made: Result<Over<'a, S>, _> = Arena::with_min_capacity(alloc, 3);
+// An arena where there is memory for three places, without a limit in the way.
+fn in_little_memory<'a>(alloc: Global, drops: &'a Cell<u64>) -> Result<(), Wrong> {
+    let made: Result<InLittle<'a>, _> = Arena::with_min_capacity(alloc, 3);
     match made {
         Ok(mut arena) => {
             if !is_unlimited(&mut arena) {
                 return Err(Wrong::AtEnd(0));
             }
-            each_over(arena, drops, true)
+            each_refused_drop(arena, drops)
         }
         Err(_) => Err(Wrong::NoMemory),
     }
@@ -318,12 +294,12 @@ fn without_limit<'a, S: SetMaxCapacity<Slot<'a>> + Drop>(
 #[test]
 fn a_value_that_memory_refuses_is_dropped_once(rt: HostRuntime) -> Result<(), Fail> {
     let drops = Cell::new(0);
-    without_limit::<InLittle<'_>>(rt.alloc(), &drops)?;
+    in_little_memory(rt.alloc(), &drops)?;
     Ok(())
 }
 
 // The pointer of an entry that is let go.
-fn entry_ptr<'a, S: NonZeroInxGenericStack<Slot<'a>>>(arena: &mut Over<'a, S>) -> Option<P0> {
+fn entry_ptr<'a>(arena: &mut OnHeap<'a>) -> Option<P0> {
     match arena.entry_insert() {
         Ok(entry) => Some(entry.ptr()),
         Err(_) => None,
@@ -331,10 +307,7 @@ fn entry_ptr<'a, S: NonZeroInxGenericStack<Slot<'a>>>(arena: &mut Over<'a, S>) -
 }
 
 // Inserts by an entry, and writes another value over it: whether there was an entry.
-fn writes_over_entry<'a, S: NonZeroInxGenericStack<Slot<'a>>>(
-    arena: &mut Over<'a, S>,
-    drops: &'a Cell<u64>,
-) -> bool {
+fn writes_over_entry<'a>(arena: &mut OnHeap<'a>, drops: &'a Cell<u64>) -> bool {
     match arena.entry_insert() {
         Ok(entry) => {
             let value = entry.insert(new_value(drops));
@@ -346,11 +319,8 @@ fn writes_over_entry<'a, S: NonZeroInxGenericStack<Slot<'a>>>(
 }
 
 // A value that is written over through its entry, and the values of the arena.
-fn by_entries<'a, S: NonZeroInxGenericStack<Slot<'a>> + Drop>(
-    alloc: Global,
-    drops: &'a Cell<u64>,
-) -> Result<(), Wrong> {
-    let made: Result<Over<'a, S>, _> = Arena::with_min_capacity(alloc, 3);
+fn by_entries(alloc: Global, drops: &Cell<u64>) -> Result<(), Wrong> {
+    let made: Result<OnHeap<'_>, _> = Arena::with_min_capacity(alloc, 3);
     let Ok(mut arena) = made else {
         return Err(Wrong::NoMemory);
     };
@@ -369,6 +339,6 @@ fn by_entries<'a, S: NonZeroInxGenericStack<Slot<'a>> + Drop>(
 #[test]
 fn a_value_of_an_entry_is_dropped_once(rt: HostRuntime) -> Result<(), Fail> {
     let drops = Cell::new(0);
-    by_entries::<OnHeap<'_>>(rt.alloc(), &drops)?;
+    by_entries(rt.alloc(), &drops)?;
     Ok(())
 }

@@ -1,33 +1,40 @@
 //! Free slots at the end, taken away by themselves.
 
+use std::alloc::Global;
 use std::test::Fail;
 use triple_arena_ptr::P0;
 use triple_arena_test_kit::{
-    Call, Removed, SLOTS, State, Steps, TestedArena, Told, Trial, Unchanged, Wrong, follow,
-    follow_to, on_heap,
+    Call, Removed, SLOTS, State, TestedArena, Told, Trial, Wrong, follow, follow_to,
+    follow_unchanged, on_heap,
 };
 
 // Of five entries the fourth and the fifth go, and the second.
-const POPPED_SLOTS: (Removed<'static>, Steps<'static>) = (
-    Removed {
-        entries: 5,
-        removed: &[2, 4, 5],
-    },
-    Steps(&[
-        (Call::Slots, Told::Size(4)),
-        (Call::Root, Told::Size(4)),
-        (Call::RemoveFreeEnd, Told::Done),
-        (Call::Slots, Told::Size(3)),
-        (Call::Root, Told::Size(2)),
-        (Call::Bounds, Told::Bounds(2, 8, None)),
-        (Call::Insert(5), Told::At(2, 5)),
-        (Call::Insert(6), Told::At(4, 5)),
-    ]),
-);
+#[derive(Drop)]
+struct PoppedSlots;
+
+impl Trial for PoppedSlots {
+    fn on<A: TestedArena>(&self, arena: &mut A) -> Result<(), Wrong> {
+        let (entries, removed) = (5, &[2, 4, 5]);
+        Removed { entries, removed }.on(arena)?;
+        follow(
+            arena,
+            &[
+                (Call::Slots, Told::Size(4)),
+                (Call::Root, Told::Size(4)),
+                (Call::RemoveFreeEnd, Told::Done),
+                (Call::Slots, Told::Size(3)),
+                (Call::Root, Told::Size(2)),
+                (Call::Bounds, Told::Bounds(2, 8, None)),
+                (Call::Insert(5), Told::At(2, 5)),
+                (Call::Insert(6), Told::At(4, 5)),
+            ],
+        )
+    }
+}
 
 #[test]
 fn popped_slots_leave_the_free_list(rt: HostRuntime) -> Result<(), Fail> {
-    on_heap::<P0, _>(rt.alloc(), None, &POPPED_SLOTS)?;
+    on_heap::<P0, _>(rt.alloc(), None, &PoppedSlots)?;
     Ok(())
 }
 
@@ -73,33 +80,57 @@ fn the_rest_of_the_free_list_keeps_its_order(rt: HostRuntime) -> Result<(), Fail
     Ok(())
 }
 
+// Of so many entries some go, and the last stays.
+#[derive(Drop)]
+struct LastStays {
+    entries: usize,
+    removed: &'static [usize],
+}
+
+impl Trial for LastStays {
+    fn on<A: TestedArena>(&self, arena: &mut A) -> Result<(), Wrong> {
+        let (entries, removed) = (self.entries, self.removed);
+        Removed { entries, removed }.on(arena)?;
+        follow_unchanged(arena, &[(Call::RemoveFreeEnd, Told::Done)])
+    }
+}
+
+fn last_stays(alloc: Global, entries: usize, removed: &'static [usize]) -> Result<(), Wrong> {
+    on_heap::<P0, _>(alloc, None, &LastStays { entries, removed })
+}
+
 #[test]
 fn where_the_last_slot_has_an_entry_all_stays(rt: HostRuntime) -> Result<(), Fail> {
-    for (entries, removed) in [(0, &[][..]), (5, &[][..]), (5, &[2, 4, 1][..])] {
-        let stays = Unchanged(&[(Call::RemoveFreeEnd, Told::Done)]);
-        on_heap::<P0, _>(rt.alloc(), None, &(Removed { entries, removed }, stays))?;
-    }
+    last_stays(rt.alloc(), 0, &[])?;
+    last_stays(rt.alloc(), 5, &[])?;
+    last_stays(rt.alloc(), 5, &[2, 4, 1])?;
     Ok(())
 }
 
 // Each of three entries goes.
-const ALL_FREE: (Removed<'static>, Steps<'static>) = (
-    Removed {
-        entries: 3,
-        removed: &[1, 2, 3],
-    },
-    Steps(&[
-        (Call::Slots, Told::Size(2)),
-        (Call::RemoveFreeEnd, Told::Done),
-        (Call::Slots, Told::Size(0)),
-        (Call::Root, Told::Nothing),
-        (Call::Bounds, Told::Bounds(0, 4, None)),
-        (Call::Insert(3), Told::At(1, 5)),
-    ]),
-);
+#[derive(Drop)]
+struct AllFree;
+
+impl Trial for AllFree {
+    fn on<A: TestedArena>(&self, arena: &mut A) -> Result<(), Wrong> {
+        let (entries, removed) = (3, &[1, 2, 3]);
+        Removed { entries, removed }.on(arena)?;
+        follow(
+            arena,
+            &[
+                (Call::Slots, Told::Size(2)),
+                (Call::RemoveFreeEnd, Told::Done),
+                (Call::Slots, Told::Size(0)),
+                (Call::Root, Told::Nothing),
+                (Call::Bounds, Told::Bounds(0, 4, None)),
+                (Call::Insert(3), Told::At(1, 5)),
+            ],
+        )
+    }
+}
 
 #[test]
 fn where_all_slots_are_free_none_is_left(rt: HostRuntime) -> Result<(), Fail> {
-    on_heap::<P0, _>(rt.alloc(), None, &ALL_FREE)?;
+    on_heap::<P0, _>(rt.alloc(), None, &AllFree)?;
     Ok(())
 }

@@ -11,8 +11,8 @@ use triple_arena_base::ReallocationError;
 use triple_arena_ptr::{P0, P4, P5, Ptr, PtrGen, PtrInx};
 use triple_arena_stack::NonZeroInxGenericStack;
 use triple_arena_test_kit::{
-    Call, Heap, Narrow, Places, Steps, TestedArena, Token, Told, Trial, Wrong, follow, from_empty,
-    is_told, new_arena, on_fixed, on_heap, on_limited, on_new, pointer, step,
+    Call, Heap, Narrow, Steps, TestedArena, Token, Told, Trial, Wrong, follow, from_empty, is_told,
+    new_arena, on_array, on_fixed, on_heap, on_limited, pointer, step,
 };
 
 // Takes an entry of any arena and lets it go: nothing is inserted, and its room stays.
@@ -128,7 +128,7 @@ const BEYOND: Told = Told::Refused(ReallocationError::BeyondMaxCapacity);
 const FULL: (Call, Told) = (Call::Bounds, Told::Bounds(2, 2, Some(2)));
 
 // The calls on the entries of an arena that has two places, no entry and a limit of two.
-const EACH_ENTRY_CALL: Steps<'static> = Steps(&[
+const EACH_ENTRY_CALL: Steps = Steps(&[
     (Call::EntryPtrWithin, Told::At(1, 2)),
     (Call::EntryPtrReallocating, Told::At(1, 2)),
     (Call::EntryPtr, Told::At(1, 2)),
@@ -151,12 +151,12 @@ const EACH_ENTRY_CALL: Steps<'static> = Steps(&[
 fn each_entry_call_on_each_stack_with_a_limit(rt: HostRuntime) -> Result<(), Fail> {
     on_limited::<P0, _>(rt.alloc(), Some(2), &EACH_ENTRY_CALL)?;
     on_fixed::<P4, _>(rt.alloc(), Some(2), &EACH_ENTRY_CALL)?;
-    on_new::<Narrow, Places<Narrow, 2>, _>(rt.alloc(), &EACH_ENTRY_CALL)?;
+    on_array::<Narrow, 2, _>(rt.alloc(), &EACH_ENTRY_CALL)?;
     Ok(())
 }
 
 // Insertions by each of the three calls, on an arena with place for three.
-const EACH_ENTRY_INSERTION: Steps<'static> = Steps(&[
+const EACH_ENTRY_INSERTION: Steps = Steps(&[
     (Call::EntryInsert(1), Told::At(1, 2)),
     (Call::EntryInsertReallocating(2), Told::At(2, 2)),
     (Call::EntryInsertWithin(3), Told::At(3, 2)),
@@ -170,6 +170,6 @@ fn an_entry_over_each_stack_by_its_name(rt: HostRuntime) -> Result<(), Fail> {
     on_heap::<P0, _>(rt.alloc(), Some(3), &EACH_ENTRY_INSERTION)?;
     on_limited::<P0, _>(rt.alloc(), Some(3), &EACH_ENTRY_INSERTION)?;
     on_fixed::<P0, _>(rt.alloc(), Some(3), &EACH_ENTRY_INSERTION)?;
-    on_new::<P0, Places<P0, 3>, _>(rt.alloc(), &EACH_ENTRY_INSERTION)?;
+    on_array::<P0, 3, _>(rt.alloc(), &EACH_ENTRY_INSERTION)?;
     Ok(())
 }

@@ -4,8 +4,8 @@ use std::test::Fail;
 use triple_arena_base::GetDisjointMutError;
 use triple_arena_ptr::{P0, P4};
 use triple_arena_test_kit::{
-    B, Call, Narrow, Places, Steps, TestedArena, Told, Trial, Unchanged, Wrong, follow_to, on_heap,
-    on_new, step,
+    B, Call, Narrow, Steps, TestedArena, Told, Trial, Unchanged, Wrong, follow_to, on_array,
+    on_heap, step,
 };
 
 const OUT_OF_BOUNDS: Told = Told::Apart(GetDisjointMutError::IndexOutOfBounds);
@@ -13,14 +13,14 @@ const OUT_OF_BOUNDS: Told = Told::Apart(GetDisjointMutError::IndexOutOfBounds);
 const OVERLAPPING: Told = Told::Apart(GetDisjointMutError::OverlappingIndices);
 
 // Three values come, and the second goes.
-const FIRST_AND_THIRD: Steps<'static> = Steps(&[
+const FIRST_AND_THIRD: Steps = Steps(&[
     (Call::Insert(1), Told::At(1, 2)),
     (Call::Insert(2), Told::At(2, 2)),
     (Call::Insert(3), Told::At(3, 2)),
     (Call::Remove(2, 2), Told::Holds(2)),
 ]);
 
-const REFUSED: Unchanged<'static> = Unchanged(&[
+const REFUSED: Unchanged = Unchanged(&[
     (Call::Swap((2, 2), (2, 2)), OUT_OF_BOUNDS),
     (Call::Swap((2, 2), (1, 2)), OUT_OF_BOUNDS),
     (Call::Swap((1, 2), (2, 2)), OUT_OF_BOUNDS),
@@ -96,20 +96,20 @@ impl Trial for EachPair {
 #[test]
 fn each_pair_on_wide_pointers(rt: HostRuntime) -> Result<(), Fail> {
     on_heap::<P0, _>(rt.alloc(), Some(3), &EachPair)?;
-    on_new::<P0, Places<P0, 3>, _>(rt.alloc(), &EachPair)?;
+    on_array::<P0, 3, _>(rt.alloc(), &EachPair)?;
     Ok(())
 }
 
 #[test]
 fn each_pair_on_byte_pointers_and_without_generations(rt: HostRuntime) -> Result<(), Fail> {
     on_heap::<Narrow, _>(rt.alloc(), Some(3), &EachPair)?;
-    on_new::<Narrow, Places<Narrow, 3>, _>(rt.alloc(), &EachPair)?;
+    on_array::<Narrow, 3, _>(rt.alloc(), &EachPair)?;
     on_heap::<P4, _>(rt.alloc(), Some(3), &EachPair)?;
     Ok(())
 }
 
 // An old pointer of the first index, and two entries.
-const TWO_GENERATIONS: Steps<'static> = Steps(&[
+const TWO_GENERATIONS: Steps = Steps(&[
     (Call::Insert(1), Told::At(1, 2)),
     (Call::Remove(1, 2), Told::Holds(1)),
     (Call::Insert(2), Told::At(1, 3)),
@@ -118,7 +118,7 @@ const TWO_GENERATIONS: Steps<'static> = Steps(&[
 
 // A removed pointer at the index of a live one is out of bounds, beside that one and beside
 // another; it doesn't overlap.
-const NOT_TWO_ENTRIES: Unchanged<'static> = Unchanged(&[
+const APART: Unchanged = Unchanged(&[
     (Call::Swap((1, 2), (1, 3)), OUT_OF_BOUNDS),
     (Call::Swap((1, 3), (1, 2)), OUT_OF_BOUNDS),
     (Call::Swap((1, 2), (2, 3)), OUT_OF_BOUNDS),
@@ -130,11 +130,20 @@ const NOT_TWO_ENTRIES: Unchanged<'static> = Unchanged(&[
     (Call::GetInx(1), Told::Held(3, 2)),
 ]);
 
+#[derive(Drop)]
+struct NotTwoEntries;
+
+impl Trial for NotTwoEntries {
+    fn on<A: TestedArena>(&self, arena: &mut A) -> Result<(), Wrong> {
+        TWO_GENERATIONS.on(arena)?;
+        APART.on(arena)
+    }
+}
+
 #[test]
 fn two_generations_at_one_index_are_not_two_entries(rt: HostRuntime) -> Result<(), Fail> {
-    let trial = (TWO_GENERATIONS, NOT_TWO_ENTRIES);
-    on_heap::<P0, _>(rt.alloc(), None, &trial)?;
-    on_heap::<Narrow, _>(rt.alloc(), None, &trial)?;
-    on_heap::<B, _>(rt.alloc(), None, &trial)?;
+    on_heap::<P0, _>(rt.alloc(), None, &NotTwoEntries)?;
+    on_heap::<Narrow, _>(rt.alloc(), None, &NotTwoEntries)?;
+    on_heap::<B, _>(rt.alloc(), None, &NotTwoEntries)?;
     Ok(())
 }

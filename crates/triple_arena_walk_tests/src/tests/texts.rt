@@ -1,19 +1,19 @@
 //! The text of an arena.
 
-use std::alloc::Global;
+use std::alloc::{AllocError, Global};
 use std::fmt;
 use std::fmt::{Debug, Write};
 use std::test::Fail;
 use triple_arena::{Arena, ArenaInsertTrait, ArenaSlot, ArenaTrait};
 use triple_arena_ptr::{P0, P4, Ptr, Q2};
-use triple_arena_stack::{NonZeroInxGenericStack, NonZeroInxVec};
+use triple_arena_stack::NonZeroInxGenericStack;
 use triple_arena_test_kit::{
     Call, Fixed, Heap, Limited, Narrow, Numbered, Places, Steps, Token, Told, Trial, Wrong,
     is_text, new_arena, with_room,
 };
 
 // Three entries, of which the second goes, and the third gets a new pointer.
-const TWO_LEFT: Steps<'static> = Steps(&[
+const TWO_LEFT: Steps = Steps(&[
     (Call::Insert(7), Told::At(1, 2)),
     (Call::Insert(6), Told::At(2, 2)),
     (Call::Insert(8), Told::At(3, 2)),
@@ -22,8 +22,8 @@ const TWO_LEFT: Steps<'static> = Steps(&[
 ]);
 
 // That an arena has this text.
-fn has_text<P: Ptr, T: Debug, S: NonZeroInxGenericStack<ArenaSlot<P, T>>>(
-    arena: &Arena<P, T, S>,
+fn has_text<P: Ptr, S: NonZeroInxGenericStack<ArenaSlot<P, Token>>>(
+    arena: &Arena<P, Token, S>,
     alloc: Global,
     expected: &'static str,
 ) -> Result<(), Wrong> {
@@ -65,47 +65,29 @@ fn entries_stand_by_index_over_each_stack(rt: HostRuntime) -> Result<(), Fail> {
     Ok(())
 }
 
-// The pointer of a new value, where there is memory.
-fn put<T: Drop, S: NonZeroInxGenericStack<ArenaSlot<P0, T>>>(
-    arena: &mut Arena<P0, T, S>,
-    value: T,
-) -> Result<P0, Wrong> {
-    match arena.insert(value) {
-        Ok(p) => Ok(p),
-        Err(_refused) => Err(Wrong::NoMemory),
-    }
-}
-
-fn has_words<S: NonZeroInxGenericStack<ArenaSlot<P0, &'static str>> + Drop>(
-    alloc: Global,
-) -> Result<(), Wrong> {
-    let mut words: Arena<P0, &'static str, S> = Arena::new(alloc);
-    put(&mut words, "test")?;
-    has_text(&words, alloc, r#"{P0[1](2): "test"}"#)?;
-    put(&mut words, "hello")?;
-    has_text(&words, alloc, r#"{P0[1](2): "test", P0[2](2): "hello"}"#)
-}
-
-// A number, and a link.
-type Node = (u64, Option<P0>);
-
-fn has_links<S: NonZeroInxGenericStack<ArenaSlot<P0, Node>> + Drop>(
-    alloc: Global,
-) -> Result<(), Wrong> {
-    let mut links: Arena<P0, Node, S> = Arena::new(alloc);
-    let first = put(&mut links, (42, None))?;
-    put(&mut links, (1337, Some(first)))?;
-    has_text(
-        &links,
-        alloc,
-        "{P0[1](2): (42, None), P0[2](2): (1337, Some(P0[1](2)))}",
-    )
+// The text of an arena on the heap.
+fn text_of<T: Debug>(alloc: Global, arena: &Arena<P0, T>) -> Result<String, AllocError> {
+    format!(in alloc; "{arena:?}")
 }
 
 #[test]
 fn a_value_has_its_own_text(rt: HostRuntime) -> Result<(), Fail> {
-    has_words::<NonZeroInxVec<ArenaSlot<P0, &'static str>>>(rt.alloc())?;
-    has_links::<NonZeroInxVec<ArenaSlot<P0, Node>>>(rt.alloc())?;
+    let alloc = rt.alloc();
+    let mut words: Arena<P0, &str> = Arena::new(alloc);
+    words.insert("test")?;
+    assert_eq!(rt; text_of(alloc, &words)?.as_str(), r#"{P0[1](2): "test"}"#);
+    words.insert("hello")?;
+    assert_eq!(rt;
+        text_of(alloc, &words)?.as_str(),
+        r#"{P0[1](2): "test", P0[2](2): "hello"}"#
+    );
+    let mut links: Arena<P0, (u64, Option<P0>)> = Arena::new(alloc);
+    let first = links.insert((42, None))?;
+    links.insert((1337, Some(first)))?;
+    assert_eq!(rt;
+        text_of(alloc, &links)?.as_str(),
+        "{P0[1](2): (42, None), P0[2](2): (1337, Some(P0[1](2)))}"
+    );
     Ok(())
 }
 

@@ -25,13 +25,33 @@ const FIVE: (usize, u64) = (5, 2);
 const NO_POINTERS: Told = Told::MetPointers(NO_POINTER, NO_POINTER, NO_POINTER);
 
 // The calls on an arena of so many entries, each of its index, of which some were removed in turn.
+#[derive(Drop)]
+struct AfterRemovals {
+    entries: usize,
+    removed: &'static [usize],
+    steps: &'static [(Call, Told)],
+}
+
+impl Trial for AfterRemovals {
+    fn on<A: TestedArena>(&self, arena: &mut A) -> Result<(), Wrong> {
+        let (entries, removed) = (self.entries, self.removed);
+        Removed { entries, removed }.on(arena)?;
+        follow(arena, self.steps)
+    }
+}
+
 fn after_removals(
     alloc: Global,
     entries: usize,
-    removed: &[usize],
-    steps: &[(Call, Told)],
+    removed: &'static [usize],
+    steps: &'static [(Call, Told)],
 ) -> Result<(), Wrong> {
-    on_heap::<P0, _>(alloc, None, &(Removed { entries, removed }, Steps(steps)))
+    let trial = AfterRemovals {
+        entries,
+        removed,
+        steps,
+    };
+    on_heap::<P0, _>(alloc, None, &trial)
 }
 
 #[test]

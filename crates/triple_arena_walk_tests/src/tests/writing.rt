@@ -3,8 +3,8 @@
 use std::test::Fail;
 use triple_arena_ptr::{P0, P4};
 use triple_arena_test_kit::{
-    B, Call, NO_ENTRY, NO_VALUE, Narrow, Places, SLOTS, State, Steps, TestedArena, Told, Trial,
-    Unchanged, Wide, Wrong, follow_to, on_fixed, on_heap, on_limited, on_little, on_new, step,
+    B, Call, NO_ENTRY, NO_VALUE, Narrow, SLOTS, State, Steps, TestedArena, Told, Trial, Unchanged,
+    Wide, Wrong, follow_to, on_array, on_fixed, on_heap, on_limited, on_little, step,
 };
 
 // A call that adds ten to each value, with what it met: it leaves the arena with these values as it
@@ -37,7 +37,7 @@ fn raised(entry: Option<(u64, u64)>) -> Option<(u64, u64)> {
 }
 
 // Five values come, and two of them go.
-const THREE_LEFT: Steps<'static> = Steps(&[
+const THREE_LEFT: Steps = Steps(&[
     (Call::Insert(1), Told::At(1, 2)),
     (Call::Insert(2), Told::At(2, 2)),
     (Call::Insert(3), Told::At(3, 2)),
@@ -48,7 +48,7 @@ const THREE_LEFT: Steps<'static> = Steps(&[
 ]);
 
 // What is found once ten was added three times.
-const THIRTY_MORE: Steps<'static> = Steps(&[
+const THIRTY_MORE: Steps = Steps(&[
     (Call::Get(1, 2), Told::Holds(31)),
     (Call::Get(2, 2), Told::Nothing),
     (Call::Get(3, 2), Told::Holds(33)),
@@ -80,7 +80,7 @@ fn ten_is_added_to_three_of_five_on_wide_pointers(rt: HostRuntime) -> Result<(),
     on_heap::<P0, _>(rt.alloc(), None, &ThreeOfFive)?;
     on_limited::<P0, _>(rt.alloc(), Some(5), &ThreeOfFive)?;
     on_fixed::<P0, _>(rt.alloc(), Some(5), &ThreeOfFive)?;
-    on_new::<P0, Places<P0, 5>, _>(rt.alloc(), &ThreeOfFive)?;
+    on_array::<P0, 5, _>(rt.alloc(), &ThreeOfFive)?;
     on_heap::<Wide, _>(rt.alloc(), None, &ThreeOfFive)?;
     Ok(())
 }
@@ -94,7 +94,7 @@ fn ten_is_added_to_three_of_five_on_byte_pointers(rt: HostRuntime) -> Result<(),
 }
 
 // No entry, and so none to meet.
-const NOTHING: Unchanged<'static> = Unchanged(&[
+const NOTHING: Unchanged = Unchanged(&[
     (Call::AddToEach(10), Told::Met(NO_ENTRY, NO_ENTRY, NO_ENTRY)),
     (
         Call::AddToEachEntry(10),
@@ -107,7 +107,7 @@ const NOTHING: Unchanged<'static> = Unchanged(&[
 ]);
 
 // The last of three slots alone has an entry, which goes at the end.
-const THE_LAST_ALONE: Steps<'static> = Steps(&[
+const THE_LAST_ALONE: Steps = Steps(&[
     (Call::Insert(1), Told::At(1, 2)),
     (Call::Insert(2), Told::At(2, 2)),
     (Call::Insert(3), Told::At(3, 2)),
@@ -117,10 +117,21 @@ const THE_LAST_ALONE: Steps<'static> = Steps(&[
     (Call::Remove(3, 2), Told::Holds(4)),
 ]);
 
+// No entry, the last alone, and no entry again.
+#[derive(Drop)]
+struct NothingIsMet;
+
+impl Trial for NothingIsMet {
+    fn on<A: TestedArena>(&self, arena: &mut A) -> Result<(), Wrong> {
+        NOTHING.on(arena)?;
+        THE_LAST_ALONE.on(arena)?;
+        NOTHING.on(arena)
+    }
+}
+
 #[test]
 fn nothing_is_met_in_an_arena_without_entries(rt: HostRuntime) -> Result<(), Fail> {
-    let trial = (NOTHING, (THE_LAST_ALONE, NOTHING));
-    on_heap::<P0, _>(rt.alloc(), None, &trial)?;
+    on_heap::<P0, _>(rt.alloc(), None, &NothingIsMet)?;
     Ok(())
 }
 

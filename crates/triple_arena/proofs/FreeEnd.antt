@@ -1,21 +1,20 @@
 -- How the free slots at the end go, and leave the free list.
-use Rattle.std.proofs.Common.{◌≡◌, ℕ, zero, suc, ◌+◌, ◌-◌, ◌<◌, ◌≤◌, ◌==◌, true, false, List, [], ◌∷◌, map, length, take, reverse, get_or, Option, Some, None, is_some, IsSome, count_by, cond, refl, sym, ap, subst, ◌∙◌, inl, inr, arith, true≢false}
+use Rattle.std.proofs.Common.{◌≡◌, ℕ, zero, suc, ◌+◌, ◌-◌, ◌<◌, ◌≤◌, ◌==◌, true, false, List, [], ◌∷◌, map, length, take, reverse, get_or, Option, Some, None, count_by, cond, refl, sym, ap, subst, ◌∙◌, inl, inr, arith}
 use Rattle.std.proofs.lemmas.Bool.{cases_lt}
 use Rattle.std.proofs.lemmas.List.{length-map}
 use Rattle.std.proofs.lemmas.Option.{slice_get-get_or}
-use Rattle.triple_arena.specs.Items.{item}
-use Rattle.triple_arena.specs.Entries.{entry_in}
-use Rattle.triple_arena.specs.ArenaState.{ArenaState, slot_count, is_free, IsWellFormed}
-use Rattle.triple_arena.specs.FreeList.{trimmed, up_to, without_free_end}
+use Rattle.triple_arena_traits.specs.Items.{item}
+use Rattle.triple_arena_traits.specs.Entries.{entry_in}
+use Rattle.triple_arena_traits.specs.ArenaState.{ArenaState, slot_count, is_free, IsWellFormed}
+use Rattle.triple_arena_traits.specs.FreeList.{trimmed, up_to, without_free_end}
 use Rattle.triple_arena.specs.Slot.{entry_of}
-use Rattle.triple_arena.specs.EntryLaws.{entry-trimmed}
-use Rattle.triple_arena.specs.LengthLaws.{trimmed_live}
+use Rattle.triple_arena_traits.specs.EntryLaws.{entry-trimmed}
+use Rattle.triple_arena_traits.specs.LengthLaws.{trimmed_live}
 use Rattle.triple_arena.specs.Layout.{next_of, after, IsLinked, IsFreeList, Shows}
 use Rattle.triple_arena.specs.declared.slot.ArenaSlot.{ArenaSlot}
-use Rattle.triple_arena.proofs.ItemLists.{joined, item_past, item-take}
-use Rattle.triple_arena.proofs.Shortening.{trimmed_front}
-use Rattle.triple_arena.proofs.Tidying.{trimmed_length, trimmed_last, trimmed_done}
-use Rattle.triple_arena.proofs.Limits.{ends_within}
+use Rattle.triple_arena_traits.proofs.ItemLists.{joined, item_past, item-take}
+use Rattle.triple_arena_traits.proofs.Shortening.{trimmed_front}
+use Rattle.triple_arena_traits.proofs.Tidying.{trimmed_length, trimmed_done}
 use Rattle.triple_arena.proofs.UpTo.{up_to-cons, up_to-past, turned_twice, count-up_to, count-past, length_more, up_to_all}
 
 module _ {T : Type 0} where
@@ -31,16 +30,6 @@ module _ {T : Type 0} where
       by_slot : (o : Option (ℕ × T)) → item xs (suc k) ≡ Some o → entry_in xs (suc k) ≡ None → is_free (item xs (suc k)) ≡ true
       by_slot None there none = ap is_free there
       by_slot (Some e) there none = absurd (let live = ap joined there in cc)
-
-  -- so many slots there are up to the last entry
-  pub end_is : (xs : List (Option (ℕ × T))) (n : ℕ) → IsSome (entry_in xs n) → ((i : ℕ) → n < i → entry_in xs i ≡ None) → n ≡ length (trimmed xs)
-  end_is xs n live none =
-      let below = ends_within (trimmed xs) n (trimmed_last xs) (λ i h. entry-trimmed xs i ∙ none i h) in
-      let above : length (trimmed xs) < n → ⊥ = λ h. true≢false (sym live ∙ ap is_some (sym (entry-trimmed xs n) ∙ ap joined (item_past (trimmed xs) n h))) in
-      omega (arith, below, above)
-
-  pub end_none : (xs : List (Option (ℕ × T))) → ((i : ℕ) → entry_in xs i ≡ None) → 0 ≡ length (trimmed xs)
-  end_none xs none = omega (arith, ends_within (trimmed xs) 0 (trimmed_last xs) (λ i h. entry-trimmed xs i ∙ none i))
 
   -- the free indexes are those of slots
   all_within : (s : ArenaState T) → IsWellFormed s → up_to (slot_count s) s.free ≡ s.free

@@ -5,21 +5,21 @@ use Rattle.std.specs.Option.{option_map}
 use Rattle.triple_arena_ptr.specs.Numbers.{raise, wraps}
 use Rattle.triple_arena_ptr.specs.Pointers.{Pointer, is_same}
 use Rattle.triple_arena_stack.specs.StackKind.{StackKind}
-use Rattle.triple_arena.specs.ItemLaws.{joined, eq_true, eq_false}
-use Rattle.triple_arena.specs.Entries.{KeepsEntries}
-use Rattle.triple_arena.specs.ArenaState.{ArenaState, entry, look_up, arena_len, capacity, with_value, IsWellFormed}
-use Rattle.triple_arena.specs.Insertion.{place, next_pointer, inserted}
-use Rattle.triple_arena.specs.Ending.{removed, invalidated, cleared}
-use Rattle.triple_arena.specs.FreeList.{tidied}
-use Rattle.triple_arena.specs.Capacity.{with_limit, grown}
-use Rattle.triple_arena.specs.EntryLaws.{by_case, changes_at, slots-removed, slots-invalidated, slots-cleared, slots-inserted, slots-settled, slots-grown}
+use Rattle.triple_arena_traits.specs.ItemLaws.{joined, eq_true, eq_false}
+use Rattle.triple_arena_traits.specs.Entries.{KeepsEntries}
+use Rattle.triple_arena_traits.specs.ArenaState.{ArenaState, entry, look_up, arena_len, capacity, with_value, IsWellFormed}
+use Rattle.triple_arena_traits.specs.Insertion.{place, next_pointer, inserted}
+use Rattle.triple_arena_traits.specs.Ending.{removed, invalidated, cleared}
+use Rattle.triple_arena_traits.specs.FreeList.{tidied}
+use Rattle.triple_arena_traits.specs.Capacity.{with_limit, grown}
+use Rattle.triple_arena_traits.specs.EntryLaws.{by_case, changes_at, slots-removed, slots-invalidated, slots-cleared, slots-inserted, slots-settled, slots-grown}
 use Rattle.triple_arena.proofs.Keeping.{keeps_pointers}
-use Rattle.triple_arena.proofs.WellFormed.{kept-inserted, place_free, counter-removed, live_item, live_counted}
-use Rattle.triple_arena.specs.Compression.{closed_up, compressed, raised_if_any, counter_after, wraps_after}
-use Rattle.triple_arena.specs.Values.{with_values_of}
-use Rattle.triple_arena.specs.Walks.{keys}
-use Rattle.triple_arena.specs.WalkLaws.{found}
-use Rattle.triple_arena.specs.Histories.{has, AreDistinct, ModelCall, insertion, removal, invalidation, clearing, compression, resizing, given_by, ended_by, History, begun_with, and_then, given, ended, remains, followed_by, CountsUp, is_live, Fits, Continues, IsModelCall, AreModelCalls}
+use Rattle.triple_arena_traits.proofs.WellFormed.{kept-inserted, place_free, counter-removed, live_item, live_counted}
+use Rattle.triple_arena_traits.specs.Compression.{closed_up, compressed, raised_if_any, counter_after, wraps_after}
+use Rattle.triple_arena_traits.specs.Values.{with_values_of}
+use Rattle.triple_arena_traits.specs.Walks.{keys}
+use Rattle.triple_arena_traits.specs.WalkLaws.{found}
+use Rattle.triple_arena_traits.specs.Histories.{has, AreDistinct, ModelCall, insertion, removal, invalidation, clearing, compression, resizing, given_by, ended_by, History, begun_with, and_then, given, ended, remains, followed_by, CountsUp, is_live, Fits, Continues, IsModelCall, AreModelCalls}
 use Rattle.triple_arena.proofs.PointerLists.{has-append, has_head, has_one, one_is, one_not, or_none, same_is, keys_from, false_unless, distinct-append, distinct_last, live_in, live_in_one, live_same, has-keys, distinct-keys}
 
 -- what was given and has not ended, after a call that gave what was not given, and ended what was live

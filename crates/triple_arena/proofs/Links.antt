@@ -1,33 +1,25 @@
 -- How the slots, and the links in them, follow each change of an arena.
-use Rattle.std.proofs.Common.{◌≡◌, ◌≢◌, ℕ, zero, suc, ◌+◌, ◌-◌, ◌<◌, ◌≤◌, ◌==◌, true, false, List, [], ◌∷◌, ◌++◌, map, length, take, Option, Some, None, is_some, IsSome, count_by, cond, slice_get, refl, sym, ap, subst, ◌∙◌, inl, inr, arith, true≢false, IfSome, ◌↔◌}
+use Rattle.std.proofs.Common.{◌≡◌, ◌≢◌, ℕ, zero, suc, ◌+◌, ◌-◌, ◌<◌, ◌≤◌, ◌==◌, List, [], ◌∷◌, ◌++◌, map, length, take, Option, Some, None, is_some, IsSome, count_by, cond, slice_get, refl, sym, ap, subst, ◌∙◌, inl, inr, arith, true≢false, IfSome, ◌↔◌}
 use Rattle.std.proofs.lemmas.Bool.{cases_eq}
 use Rattle.std.proofs.lemmas.List.{length-take-le, length-map, length_push, map_push, take-map}
 use Rattle.std.proofs.lemmas.List.Sums.{sum_by_push}
-use Rattle.std.proofs.lemmas.Option.{some_pair_parts, slice_get-map}
+use Rattle.std.proofs.lemmas.Option.{some_pair_parts}
 use Rattle.std.specs.Int.NonZero.{non_zero_usize_get}
 use Rattle.std.specs.Option.{option_map}
-use Rattle.triple_arena.specs.Items.{item, with_item}
-use Rattle.triple_arena.specs.Entries.{with_generation_in}
-use Rattle.triple_arena.specs.ArenaState.{ArenaState, new_arena, capacity, slot_count, arena_len, with_value, IsWellFormed}
-use Rattle.triple_arena.specs.Insertion.{place_among, place, inserted_among, inserted}
-use Rattle.triple_arena.specs.Ending.{removed}
+use Rattle.triple_arena_traits.specs.Items.{item, with_item}
+use Rattle.triple_arena_traits.specs.Entries.{with_generation_in}
+use Rattle.triple_arena_traits.specs.ArenaState.{ArenaState, new_arena, capacity, slot_count, arena_len, with_value, IsWellFormed}
+use Rattle.triple_arena_traits.specs.Insertion.{place_among, place, inserted_among, inserted}
+use Rattle.triple_arena_traits.specs.Ending.{removed}
 use Rattle.triple_arena.specs.Slot.{entry_of, with_slot_value, with_slot_generation}
 use Rattle.triple_arena.specs.Layout.{entry_at, next_of, after, chain, state_of, IsLinked, Shows, with_value_at}
 use Rattle.triple_arena.specs.declared.slot.FreeLink.{FreeLink}
 use Rattle.triple_arena.specs.declared.slot.ArenaSlot.{ArenaSlot}
 use Rattle.triple_arena.specs.declared.slot.ArenaSlot.TheVariants.{Free, Allocated}
-use Rattle.triple_arena.proofs.ItemLists.{joined, map-with_item, eq_true, eq_false, item_within, item-with_same, item-with_other, item-push_other, split_last}
-use Rattle.triple_arena.proofs.SlotEntries.{entry_item}
-use Rattle.triple_arena.proofs.WellFormed.{with_entry, with_value_is, with_generation_is, live_counted, count_head, count_tail, first_free, live_not_free, count-with_item, IsWellFormed-inserted, IsWellFormed-removed, IsWellFormed-with_entry, IsWellFormed-counter, IsWellFormed-empty}
-
-module _ {A B : Type 0} (f : A → B) where
-  pub item-map_some : (xs : List A) (i : ℕ) (x : A) → item xs i ≡ Some x → item (map f xs) i ≡ Some (f x)
-  item-map_some xs zero x e = absurd (cc)
-  item-map_some xs (suc k) x e = rw (slice_get-map f xs k, e) refl
-
-  pub item-map_none : (xs : List A) (i : ℕ) → item xs i ≡ None → item (map f xs) i ≡ None
-  item-map_none xs zero e = refl
-  item-map_none xs (suc k) e = rw (slice_get-map f xs k, e) refl
+use Rattle.triple_arena_traits.proofs.ItemLists.{joined, map-with_item, eq_true, eq_false, item_within, item-with_same, item-with_other, item-push_other, split_last}
+use Rattle.triple_arena_traits.proofs.SlotEntries.{entry_item}
+use Rattle.triple_arena_traits.proofs.WellFormed.{with_entry, with_value_is, with_generation_is, live_counted, count_head, count_tail, first_free, live_not_free, count-with_item, IsWellFormed-inserted, IsWellFormed-removed, IsWellFormed-with_entry, IsWellFormed-counter, IsWellFormed-empty}
+use Rattle.triple_arena_traits.proofs.Links.{item-map_some, item-map_none}
 
 module _ {P T I G : Type 0} where
   -- the chain from a link is the list that it links
@@ -311,6 +303,3 @@ module _ {P T I G : Type 0} where
 pub index_of_number : {I : Type 0} (number : I → ℕ) (o : Option I) (i greatest : ℕ) → (IsSome o ↔ (i ≤ greatest)) → IfSome o (λ x. number x ≡ i) → i ≤ greatest → option_map number o ≡ Some i
 index_of_number number None i greatest some is within = absurd (true≢false (sym (some.1 within)))
 index_of_number number (Some x) i greatest some is within = ap Some is
-
-pub pointer_is : (a b x y : ℕ) → a ≡ x → b ≡ y → ◌≡◌ {A = ℕ × ℕ} (a, b) (x, y)
-pointer_is a b x y p q = rw (p, q) refl

@@ -4,13 +4,13 @@ use Rattle.std.proofs.lemmas.Bool.{cases_Bool, cases_eq, eqb-true, eq-eqb, and_p
 use Rattle.std.proofs.lemmas.List.Folds.{list_any-append}
 use Rattle.std.specs.Option.{option_and_then}
 use Rattle.triple_arena_ptr.specs.Pointers.{Pointer, is_same}
-use Rattle.triple_arena.specs.Items.{item}
-use Rattle.triple_arena.specs.ItemLaws.{joined, eq_true, eq_false}
-use Rattle.triple_arena.specs.Entries.{value_under}
-use Rattle.triple_arena.specs.ArenaState.{ArenaState, entry, arena_len}
-use Rattle.triple_arena.specs.Walks.{keys_of, entries_from, keys}
-use Rattle.triple_arena.specs.WalkLaws.{found}
-use Rattle.triple_arena.specs.Histories.{has, AreDistinct, is_live}
+use Rattle.triple_arena_traits.specs.Items.{item}
+use Rattle.triple_arena_traits.specs.ItemLaws.{joined, eq_true, eq_false}
+use Rattle.triple_arena_traits.specs.Entries.{value_under}
+use Rattle.triple_arena_traits.specs.ArenaState.{ArenaState, entry, arena_len}
+use Rattle.triple_arena_traits.specs.Walks.{keys_of, entries_from, keys}
+use Rattle.triple_arena_traits.specs.WalkLaws.{found}
+use Rattle.triple_arena_traits.specs.Histories.{has, AreDistinct, is_live}
 
 pub same_itself : (p : Pointer) → is_same p p ≡ true
 same_itself p = rw (eq-eqb p.0 p.0 refl) (eq-eqb p.1 p.1 refl)

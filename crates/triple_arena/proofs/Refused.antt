@@ -10,16 +10,16 @@ use Rattle.triple_arena_base.specs.declared.invalidation.InvalidationResult.{Inv
 use Rattle.triple_arena_base.specs.declared.invalidation.InvalidationResult.TheVariants.{InvalidPtr}
 use Rattle.triple_arena_ptr.specs.Pointers.{Pointer}
 use Rattle.triple_arena_stack.specs.Disjoint.{IsRefused}
-use Rattle.triple_arena.specs.Items.{item}
-use Rattle.triple_arena.specs.ItemLaws.{joined, eq_false}
-use Rattle.triple_arena.specs.Entries.{entry_in, value_under, look_up_in, ChangesAt}
-use Rattle.triple_arena.specs.ArenaState.{ArenaState, slot_count, with_value, IsWellFormed}
-use Rattle.triple_arena.specs.Ending.{told_of, map_told}
-use Rattle.triple_arena.specs.Disjoint.{DisjointInxAnswer}
-use Rattle.triple_arena.specs.Histories.{Fits, Continues}
-use Rattle.triple_arena.proofs.WellFormed.{entry_of_value}
-use Rattle.triple_arena.proofs.SlotEntries.{entry_read}
-use Rattle.triple_arena.proofs.Links.{pointer_is}
+use Rattle.triple_arena_traits.specs.Items.{item}
+use Rattle.triple_arena_traits.specs.ItemLaws.{joined, eq_false}
+use Rattle.triple_arena_traits.specs.Entries.{entry_in, value_under, look_up_in, ChangesAt}
+use Rattle.triple_arena_traits.specs.ArenaState.{ArenaState, slot_count, with_value, IsWellFormed}
+use Rattle.triple_arena_traits.specs.Ending.{told_of, map_told}
+use Rattle.triple_arena_traits.specs.Disjoint.{DisjointInxAnswer}
+use Rattle.triple_arena_traits.specs.Histories.{Fits, Continues}
+use Rattle.triple_arena_traits.proofs.WellFormed.{entry_of_value}
+use Rattle.triple_arena_traits.proofs.SlotEntries.{entry_read}
+use Rattle.triple_arena_traits.proofs.Links.{pointer_is}
 use Rattle.triple_arena.proofs.HistoryLaws.{Continues-written}
 
 -- what `?` makes of an error of its own type

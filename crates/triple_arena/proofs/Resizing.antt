@@ -8,11 +8,11 @@ use Rattle.triple_arena_stack.specs.Capacity.{capacity_of, IsAtLimit, IsWithin}
 use Rattle.triple_arena.specs.declared.slot.ArenaSlot.{ArenaSlot}
 use Rattle.triple_arena.specs.Slot.{entry_of}
 use Rattle.triple_arena.specs.Layout.{state_of, Shows}
-use Rattle.triple_arena.specs.ArenaState.{ArenaState, capacity, slot_count, arena_len}
-use Rattle.triple_arena.specs.FreeList.{tidied}
-use Rattle.triple_arena.specs.Capacity.{with_room_for, reallocated}
-use Rattle.triple_arena.specs.EntryLaws.{within_room, slots-reallocated}
-use Rattle.triple_arena.specs.Histories.{resizing, Fits, Continues}
+use Rattle.triple_arena_traits.specs.ArenaState.{ArenaState, capacity, slot_count, arena_len}
+use Rattle.triple_arena_traits.specs.FreeList.{tidied}
+use Rattle.triple_arena_traits.specs.Capacity.{with_room_for, reallocated}
+use Rattle.triple_arena_traits.specs.EntryLaws.{within_room, slots-reallocated}
+use Rattle.triple_arena_traits.specs.Histories.{resizing, Fits, Continues}
 use Rattle.triple_arena.proofs.HistoryLaws.{Continues-resized, Continues-tidied}
 
 limit_fits : (n room x greatest : ℕ) (limit : Option ℕ) → n ≤ min (capacity_of room limit) greatest → n ≤ x → n ≤ min (capacity_of room (Some x)) greatest

@@ -3,18 +3,18 @@ use Rattle.std.proofs.Common.{◌≡◌, ℕ, ◌≤◌, Bool, true, false, Opti
 use Rattle.std.specs.Option.{option_map}
 use Rattle.triple_arena_stack.specs.StackKind.{StackKind}
 use Rattle.triple_arena_stack.specs.Capacity.{capacity_of}
-use Rattle.triple_arena.specs.Items.{item, with_item}
-use Rattle.triple_arena.specs.ItemLaws.{joined, with_item-past}
-use Rattle.triple_arena.specs.Entries.{with_generation_in}
-use Rattle.triple_arena.specs.ArenaState.{ArenaState, slot_count, capacity, entry, with_value, IsWellFormed}
-use Rattle.triple_arena.specs.Ending.{removed, invalidated, cleared}
-use Rattle.triple_arena.specs.FreeList.{tidied}
-use Rattle.triple_arena.specs.Capacity.{EndsBy, reallocated, with_limit}
-use Rattle.triple_arena.specs.EntryLaws.{within_room}
-use Rattle.triple_arena.specs.LengthLaws.{live_slot}
-use Rattle.triple_arena.proofs.WellFormed.{IsWellFormed-with_entry, IsWellFormed-counter, IsWellFormed-removed, IsWellFormed-empty}
+use Rattle.triple_arena_traits.specs.Items.{item, with_item}
+use Rattle.triple_arena_traits.specs.ItemLaws.{joined, with_item-past}
+use Rattle.triple_arena_traits.specs.Entries.{with_generation_in}
+use Rattle.triple_arena_traits.specs.ArenaState.{ArenaState, slot_count, capacity, entry, with_value, IsWellFormed}
+use Rattle.triple_arena_traits.specs.Ending.{removed, invalidated, cleared}
+use Rattle.triple_arena_traits.specs.FreeList.{tidied}
+use Rattle.triple_arena_traits.specs.Capacity.{EndsBy, reallocated, with_limit}
+use Rattle.triple_arena_traits.specs.EntryLaws.{within_room}
+use Rattle.triple_arena_traits.specs.LengthLaws.{live_slot}
+use Rattle.triple_arena_traits.proofs.WellFormed.{IsWellFormed-with_entry, IsWellFormed-counter, IsWellFormed-removed, IsWellFormed-empty}
 use Rattle.triple_arena.proofs.Tidying.{IsWellFormed-tidied, with_item_same}
-use Rattle.triple_arena.proofs.Limits.{ready_ends}
+use Rattle.triple_arena_traits.proofs.Limits.{ready_ends}
 
 module _ {T : Type 0} where
   -- an entry that is changed, if there is one

@@ -1,57 +1,24 @@
 -- How the free slots are put in order.
-use Rattle.std.proofs.Common.{◌≡◌, ◌≢◌, ℕ, zero, suc, ◌+◌, ◌-◌, ◌<◌, ◌≤◌, ◌==◌, true, false, List, [], ◌∷◌, ◌++◌, map, length, drop, set, take, Option, Some, None, is_some, count_by, cond, slice_get, refl, sym, ap, ◌∙◌, arith, true≢false}
+use Rattle.std.proofs.Common.{◌≡◌, ◌≢◌, ℕ, zero, suc, ◌+◌, ◌-◌, ◌<◌, ◌≤◌, ◌==◌, true, false, List, [], ◌∷◌, map, length, drop, set, Option, Some, None, is_some, count_by, cond, slice_get, refl, sym, ap, ◌∙◌, arith, true≢false}
 use Rattle.std.proofs.lemmas.List.{length-map, drop_all}
 use Rattle.std.proofs.lemmas.List.Sums.{sum_by-cons}
 use Rattle.std.specs.Int.NonZero.{non_zero_usize_get}
-use Rattle.triple_arena.specs.Items.{item, with_item}
-use Rattle.triple_arena.specs.ArenaState.{ArenaState, is_free, IsWellFormed, arena_len, capacity}
-use Rattle.triple_arena.specs.FreeList.{before, trimmed, gaps, tidied, laid_out, IsRising, IsInOrder}
+use Rattle.triple_arena_traits.specs.Items.{item, with_item}
+use Rattle.triple_arena_traits.specs.ArenaState.{ArenaState, is_free, IsWellFormed, arena_len, capacity}
+use Rattle.triple_arena_traits.specs.FreeList.{trimmed, gaps, tidied, laid_out}
 use Rattle.triple_arena.specs.Slot.{entry_of}
-use Rattle.triple_arena.specs.EntryLaws.{entry-trimmed}
-use Rattle.triple_arena.specs.LengthLaws.{trimmed_live}
+use Rattle.triple_arena_traits.specs.LengthLaws.{trimmed_live}
 use Rattle.triple_arena.specs.Layout.{after, IsLinked, Shows}
-use Rattle.triple_arena.proofs.ItemLists.{map-with_item, item_within, item-with_same, item-with_other, split_last}
+use Rattle.triple_arena_traits.proofs.ItemLists.{map-with_item, item_within, item-with_same, item-with_other}
 use Rattle.triple_arena.specs.declared.slot.FreeLink.{FreeLink}
 use Rattle.triple_arena.specs.declared.slot.ArenaSlot.{ArenaSlot}
 use Rattle.triple_arena.specs.declared.slot.ArenaSlot.TheVariants.{Free, Allocated}
-use Rattle.triple_arena.proofs.WellFormed.{count_head, count_tail}
-use Rattle.triple_arena.proofs.Links.{item-map_some, IsLinked-off}
+use Rattle.triple_arena_traits.proofs.WellFormed.{count_head, count_tail}
+use Rattle.triple_arena_traits.proofs.Links.{item-map_some}
+use Rattle.triple_arena.proofs.Links.{IsLinked-off}
+use Rattle.triple_arena_traits.proofs.Tidying.{trimmed_length}
 
 module _ {T : Type 0} where
-  -- a free slot at the end makes no difference
-  trimmed_push : (xs : List (Option (ℕ × T))) → trimmed (xs ++ None ∷ []) ≡ trimmed xs
-  trimmed_push [] = refl
-  trimmed_push (x ∷ xs) = ap (before x) (trimmed_push xs)
-
-  vacant_is : (o : Option (Option (ℕ × T))) → is_free o ≡ true → o ≡ Some None
-  vacant_is None e = absurd (true≢false (sym e))
-  vacant_is (Some None) e = refl
-  vacant_is (Some (Some x)) e = absurd (true≢false (sym e))
-
-  pub trimmed_popped : (xs : List (Option (ℕ × T))) → is_free (item xs (length xs)) ≡ true → trimmed (take (length xs - 1) xs) ≡ trimmed xs
-  trimmed_popped xs free =
-      let found = vacant_is (item xs (length xs)) free in
-      let within = item_within xs (length xs) None found in
-      let split = split_last xs None found in
-      sym (ap trimmed split ∙ trimmed_push (take (length xs - 1) xs))
-
-  -- with none there the slots are trimmed
-  pub trimmed_done : (xs : List (Option (ℕ × T))) → is_free (item xs (length xs)) ≡ false → trimmed xs ≡ xs
-  trimmed_done [] live = refl
-  trimmed_done (None ∷ []) live = absurd (true≢false live)
-  trimmed_done (Some e ∷ []) live = refl
-  trimmed_done (None ∷ y ∷ ys) live = ap (before None) (trimmed_done (y ∷ ys) live)
-  trimmed_done (Some e ∷ y ∷ ys) live = ap (before (Some e)) (trimmed_done (y ∷ ys) live)
-
-  before_length : (x : Option (ℕ × T)) (ys : List (Option (ℕ × T))) → length (before x ys) ≤ 1 + length ys
-  before_length (Some e) ys = omega arith
-  before_length None [] = omega arith
-  before_length None (y ∷ ys) = omega arith
-
-  pub trimmed_length : (xs : List (Option (ℕ × T))) → length (trimmed xs) ≤ length xs
-  trimmed_length [] = omega arith
-  trimmed_length (x ∷ xs) = omega (arith, before_length x (trimmed xs), trimmed_length xs)
-
   -- the gaps are above the indexes before the first slot
   pub gaps_above : (at : ℕ) (xs : List (Option (ℕ × T))) (k : ℕ) → k < at → count_by (λ j. j == k) (gaps at xs) ≡ 0
   gaps_above at [] k h = refl
@@ -103,29 +70,6 @@ module _ {A : Type 0} where
   pub with_item_same : (xs : List A) (i : ℕ) (x : A) → item xs i ≡ Some x → with_item xs i x ≡ xs
   with_item_same xs zero x found = refl
   with_item_same xs (suc k) x found = set_same xs k x found
-
-IsRising-lower : (low high : ℕ) (xs : List ℕ) → low ≤ high → IsRising high xs → IsRising low xs
-IsRising-lower low high [] h r = tt
-IsRising-lower low high (i ∷ rest) h r = (omega (arith, r.0), r.1)
-
-module _ {T : Type 0} where
-  gaps_rising : (at : ℕ) (xs : List (Option (ℕ × T))) → IsRising at (gaps at xs)
-  gaps_rising at [] = tt
-  gaps_rising at (None ∷ xs) = (omega arith, gaps_rising (at + 1) xs)
-  gaps_rising at (Some e ∷ xs) = IsRising-lower at (at + 1) (gaps (at + 1) xs) (omega arith) (gaps_rising (at + 1) xs)
-
-  before_last : (x : Option (ℕ × T)) (ys : List (Option (ℕ × T))) → is_free (item ys (length ys)) ≡ false → is_free (item (before x ys) (length (before x ys))) ≡ false
-  before_last (Some e) [] last = refl
-  before_last (Some e) (y ∷ ys) last = last
-  before_last None [] last = refl
-  before_last None (y ∷ ys) last = last
-
-  pub trimmed_last : (xs : List (Option (ℕ × T))) → is_free (item (trimmed xs) (length (trimmed xs))) ≡ false
-  trimmed_last [] = refl
-  trimmed_last (x ∷ xs) = before_last x (trimmed xs) (trimmed_last xs)
-
-  pub IsInOrder-tidied : (s : ArenaState T) → IsInOrder s (tidied s)
-  IsInOrder-tidied s = record { entries = entry-trimmed s.slots; ends_live = trimmed_last s.slots; rising = gaps_rising 1 (trimmed s.slots) }
 
 module _ {P T I G : Type 0} (number : G → ℕ) where
   -- the slots from `at` on link in rising order

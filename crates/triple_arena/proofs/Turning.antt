@@ -2,17 +2,18 @@
 use Rattle.std.proofs.Common.{◌≡◌, ◌≢◌, ℕ, ◌+◌, ◌<◌, ◌≤◌, ◌==◌, Bool, true, false, List, [], ◌∷◌, ◌++◌, map, length, reverse, Option, Some, None, count_by, cond, refl, sym, ap, subst, ◌∙◌, arith, true≢false}
 use Rattle.std.proofs.lemmas.List.{append-nil}
 use Rattle.std.proofs.lemmas.List.Sums.{sum_by-cons}
-use Rattle.triple_arena.specs.Items.{item, with_item}
-use Rattle.triple_arena.specs.ArenaState.{is_free}
-use Rattle.triple_arena.specs.FreeList.{up_to}
+use Rattle.triple_arena_traits.specs.Items.{item, with_item}
+use Rattle.triple_arena_traits.specs.ArenaState.{is_free}
+use Rattle.triple_arena_traits.specs.FreeList.{up_to}
 use Rattle.triple_arena.specs.Slot.{entry_of, next_free}
 use Rattle.triple_arena.specs.Layout.{next_of, after, chain, IsLinked, IsFreeList}
 use Rattle.triple_arena.specs.declared.slot.FreeLink.{FreeLink}
 use Rattle.triple_arena.specs.declared.slot.ArenaSlot.{ArenaSlot}
 use Rattle.triple_arena.specs.declared.slot.ArenaSlot.TheVariants.{Free, Allocated}
-use Rattle.triple_arena.proofs.ItemLists.{item_within, item-with_same, item-with_other, length-with_item, map-with_item}
-use Rattle.triple_arena.proofs.WellFormed.{count_head}
-use Rattle.triple_arena.proofs.Links.{item-map_some, item-map_none, chain_is, IsLinked-off}
+use Rattle.triple_arena_traits.proofs.ItemLists.{item_within, item-with_same, item-with_other, length-with_item, map-with_item}
+use Rattle.triple_arena_traits.proofs.WellFormed.{count_head}
+use Rattle.triple_arena_traits.proofs.Links.{item-map_some, item-map_none}
+use Rattle.triple_arena.proofs.Links.{chain_is, IsLinked-off}
 use Rattle.triple_arena.proofs.Tidying.{with_item_same}
 use Rattle.triple_arena.proofs.UpTo.{turned_more, up_to-cons, up_to-past}
 

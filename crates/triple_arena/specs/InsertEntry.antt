@@ -1,7 +1,7 @@
 -- What contracts see of an insertion entry.
 use Rattle.std.specs.Prelude.{◌≡◌, Result}
 use Rattle.std.specs.Borrow.{RestsIfErr, Fml, RattleType, MutBor, GName}
-use Rattle.triple_arena.specs.ArenaState.{ArenaState}
+use Rattle.triple_arena_traits.specs.ArenaState.{ArenaState}
 use Rattle.triple_arena.specs.declared.insert_entry.ArenaInsertEntry.{ArenaInsertEntry}
 
 module _ {P T S I G : Type 0} where

@@ -1,18 +1,12 @@
 -- How an arena lies in its slots. No public clause cites this module.
 use Rattle.std.specs.Prelude.{◌≡◌, ◌≤◌, ℕ, zero, suc, ◌==◌, cond, List, [], ◌∷◌, map, length, count_by, Option, Some, None}
 use Rattle.std.specs.Int.NonZero.{non_zero_usize_get}
-use Rattle.std.specs.declared.num.NonZeroUsize.{NonZeroUsize}
-use Rattle.triple_arena.specs.Items.{item, with_item}
-use Rattle.triple_arena.specs.Entries.{entry_in}
-use Rattle.triple_arena.specs.ArenaState.{ArenaState, IsWellFormed, arena_len, is_free}
+use Rattle.triple_arena_traits.specs.Items.{item, with_item}
+use Rattle.triple_arena_traits.specs.Entries.{entry_in}
+use Rattle.triple_arena_traits.specs.ArenaState.{ArenaState, IsWellFormed, arena_len, is_free}
 use Rattle.triple_arena.specs.Slot.{entry_of, with_slot_value}
 use Rattle.triple_arena.specs.declared.slot.ArenaSlot.{ArenaSlot}
 use Rattle.triple_arena.specs.declared.slot.ArenaSlot.TheVariants.{Free, Allocated}
-
--- the number of an index, and 0 for none
-abbrev pub number_or_zero : Option NonZeroUsize → ℕ
-number_or_zero None = 0
-number_or_zero (Some inx) = non_zero_usize_get inx
 
 module _ {P T I G : Type 0} where
   -- the index that the slot links to, or i where there is none

@@ -2,7 +2,7 @@
 use Rattle.std.specs.Prelude.{ℕ, List, length}
 use Rattle.std.specs.Borrow.{Lends, Array, Fml, RattleType, MutBor}
 use Rattle.std.specs.List.{refill}
-use Rattle.triple_arena.specs.Items.{item}
+use Rattle.triple_arena_traits.specs.Items.{item}
 use Rattle.triple_arena.specs.Layout.{with_value_at}
 use Rattle.triple_arena.specs.declared.slot.ArenaSlot.{ArenaSlot}
 use Rattle.triple_arena.specs.declared.slots.Slots.{Slots}

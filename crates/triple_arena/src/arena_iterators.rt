@@ -1,12 +1,9 @@
 //! Walks over arenas: advancers, iterators and drains.
 
-mod drain;
 mod iter;
 mod iter_mut;
 mod ptr_advancer;
 
-pub(crate) use drain::take_next;
-pub use drain::{CapacityDrain, Drain};
-pub use iter::{Iter, Ptrs, Vals};
 pub use iter_mut::{IterMut, ValsMut};
 pub use ptr_advancer::PtrAdvancer;
+pub use triple_arena_traits::arena_iterators::{CapacityDrain, Drain, Iter, Ptrs, Vals};

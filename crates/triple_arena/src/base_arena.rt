@@ -9,32 +9,24 @@ ghost use Rattle.triple_arena_ptr.specs.Pointers.{Pointer};
 ghost use Rattle.triple_arena_stack.specs.Capacity.{IsWithin, IsBeyond, IsAtLimit, next_capacity, IsFullAtLimit, CanGrow};
 ghost use Rattle.triple_arena_stack.specs.StackKind.{IsOfKind};
 ghost use Rattle.triple_arena_stack.specs.Disjoint.{DisjointAnswer, MayWork, Worked};
-ghost use Rattle.triple_arena.specs.Items.{item};
-ghost use Rattle.triple_arena.specs.ArenaState.{ArenaState, new_arena, slot_count, capacity, arena_len, entry, look_up, with_value, is_free, IsWellFormed};
-ghost use Rattle.triple_arena.specs.Insertion.{next_pointer, inserted};
-ghost use Rattle.triple_arena.specs.Ending.{removed, invalidated, cleared, told};
-ghost use Rattle.triple_arena.specs.FreeList.{tidied, without_free_end, IsInOrder};
-ghost use Rattle.triple_arena.specs.Capacity.{with_room_for, reallocated, KeepsRoom, grown};
+ghost use Rattle.triple_arena_traits.specs.Items.{item};
+ghost use Rattle.triple_arena_traits.specs.ArenaState.{ArenaState, new_arena, slot_count, capacity, arena_len, entry, look_up, with_value, is_free, IsWellFormed};
+ghost use Rattle.triple_arena_traits.specs.Insertion.{next_pointer, inserted};
+ghost use Rattle.triple_arena_traits.specs.Ending.{removed, invalidated, cleared, told};
+ghost use Rattle.triple_arena_traits.specs.FreeList.{tidied, without_free_end, IsInOrder};
+ghost use Rattle.triple_arena_traits.specs.Capacity.{with_room_for, reallocated, KeepsRoom, grown};
 ghost use Rattle.triple_arena.specs.Slot.{entry_of};
-ghost use Rattle.triple_arena.specs.Disjoint.{value_of};
-ghost use Rattle.triple_arena.specs.Values.{with_values_of};
-ghost use Rattle.triple_arena.specs.Lent.{lends_values};
-ghost use Rattle.triple_arena.specs.Histories.{resizing, Fits, Continues, CountsUp};
+ghost use Rattle.triple_arena_traits.specs.Disjoint.{value_of};
+ghost use Rattle.triple_arena_traits.specs.Values.{with_values_of};
+ghost use Rattle.triple_arena_traits.specs.Lent.{lends_values};
+ghost use Rattle.triple_arena_traits.specs.Histories.{resizing, Fits, Continues, CountsUp};
 
 mod compaction;
 mod copies;
 mod limit;
 
-use crate::answers::{told, told_valid};
-use crate::arena_insert_trait::ArenaInsertTrait;
 use crate::arena_iterators::PtrAdvancer;
-use crate::arena_trait::ArenaTrait;
-use crate::disjointable_arena_trait::DisjointableArenaTrait;
-use crate::entry_slot::EntrySlot;
-use crate::entry_slots::{first_live, last_live, live_from, live_to, slot_at, work_on_two};
-use crate::lending_arena::LendingArena;
 use crate::lent_slots::LentSlots;
-use crate::pair_call::{AtEntries, AtValues, PairCall};
 use crate::slot::ArenaSlot;
 use crate::slots::Slots;
 use std::alloc::Global;
@@ -45,6 +37,14 @@ use triple_arena_base::{
 };
 use triple_arena_ptr::{Ptr, PtrGen, PtrInx};
 use triple_arena_stack::{NonZeroInxGenericStack, NonZeroInxVec};
+use triple_arena_traits::answers::{told, told_valid};
+use triple_arena_traits::entry_slots::{
+    first_live, last_live, live_from, live_to, slot_at, work_on_two,
+};
+use triple_arena_traits::pair_call::{AtEntries, AtValues, PairCall};
+use triple_arena_traits::{
+    ArenaInsertTrait, ArenaTrait, DisjointableArenaTrait, EntrySlot, LendingArena,
+};
 
 /// A generational arena over a stack of slots.
 ///
@@ -69,7 +69,7 @@ pub struct Arena<
 }
 
 impl<P: Ptr, T, S: NonZeroInxGenericStack<ArenaSlot<P, T>>> Model for Arena<P, T, S> {
-    ghost use Rattle.triple_arena.specs.ArenaState.{ArenaState};
+    ghost use Rattle.triple_arena_traits.specs.ArenaState.{ArenaState};
 
     ghost Value = { ArenaState T };
 
@@ -92,8 +92,8 @@ impl<P: Ptr, T, S: NonZeroInxGenericStack<ArenaSlot<P, T>>> Model for Arena<P, T
 impl<P: Ptr, T, S: NonZeroInxGenericStack<ArenaSlot<P, T>>> ArenaTrait<P, T> for Arena<P, T, S> {
     ghost use Rattle.std.specs.Prelude.{refl};
     ghost use Rattle.std.proofs.Common.{ap};
-    ghost use Rattle.triple_arena.specs.EntryLaws.{slots-removed, limit_of-removed, fitting-removed, slots-invalidated, slots-cleared, slots-reallocated, slots-settled};
-    ghost use Rattle.triple_arena.specs.LengthLaws.{len-with_value, len-removed, len-invalidated, len-reallocated, len-settled};
+    ghost use Rattle.triple_arena_traits.specs.EntryLaws.{slots-removed, limit_of-removed, fitting-removed, slots-invalidated, slots-cleared, slots-reallocated, slots-settled};
+    ghost use Rattle.triple_arena_traits.specs.LengthLaws.{len-with_value, len-removed, len-invalidated, len-reallocated, len-settled};
 
     type PtrAdvancer = PtrAdvancer<P>;
 
@@ -358,8 +358,8 @@ impl<P: Ptr, T, S: NonZeroInxGenericStack<ArenaSlot<P, T>>> ArenaTrait<P, T> for
 
 impl<P: Ptr, T, S: NonZeroInxGenericStack<ArenaSlot<P, T>>> ArenaInsertTrait<P, T>
     for Arena<P, T, S> {
-    ghost use Rattle.triple_arena.specs.EntryLaws.{slots-inserted, limit-inserted, fitting-inserted, slots-grown, limit-grown, next-grown, well_formed-grown, fitting-grown, same-grown, generation-next};
-    ghost use Rattle.triple_arena.specs.LengthLaws.{len-inserted, len-grown};
+    ghost use Rattle.triple_arena_traits.specs.EntryLaws.{slots-inserted, limit-inserted, fitting-inserted, slots-grown, limit-grown, next-grown, well_formed-grown, fitting-grown, same-grown, generation-next};
+    ghost use Rattle.triple_arena_traits.specs.LengthLaws.{len-inserted, len-grown};
 
     // the first free index, or one past the last slot, under the counter
     ghost next = { next_pointer };

@@ -3,16 +3,15 @@
 ghost use Rattle.std.specs.Prelude.{◌≡◌, [], Some, IsSome};
 ghost use Rattle.std.specs.Borrow.{sem, Lends};
 ghost use Rattle.std.specs.Option.{option_map};
-ghost use Rattle.triple_arena.specs.ArenaState.{entry, look_up, with_value};
-ghost use Rattle.triple_arena.specs.Histories.{Fits, Continues};
+ghost use Rattle.triple_arena_traits.specs.ArenaState.{entry, look_up, with_value};
+ghost use Rattle.triple_arena_traits.specs.Histories.{Fits, Continues};
 
-use crate::arena_trait::ArenaTrait;
 use crate::base_arena::Arena;
-use crate::lending_arena::LendingArena;
 use crate::slot::ArenaSlot;
 use std::ops::{Index, IndexMut};
 use triple_arena_ptr::{Ptr, PtrInx};
 use triple_arena_stack::NonZeroInxGenericStack;
+use triple_arena_traits::{ArenaTrait, LendingArena};
 
 impl<P: Ptr, T, S: NonZeroInxGenericStack<ArenaSlot<P, T>>> Arena<P, T, S> {
     /// The value of the entry at `inx`.

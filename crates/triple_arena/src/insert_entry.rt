@@ -5,20 +5,18 @@ ghost use Rattle.std.specs.Borrow.{sem, Lends};
 ghost use Rattle.triple_arena_ptr.specs.Numbers.{greatest_index};
 ghost use Rattle.triple_arena_ptr.specs.Pointers.{Pointer};
 ghost use Rattle.triple_arena_stack.specs.Capacity.{IsFullAtLimit, CanGrow};
-ghost use Rattle.triple_arena.specs.ArenaState.{arena_len, capacity};
-ghost use Rattle.triple_arena.specs.Insertion.{next_pointer, inserted};
-ghost use Rattle.triple_arena.specs.Capacity.{grown};
-ghost use Rattle.triple_arena.specs.Histories.{insertion, Fits, Continues};
+ghost use Rattle.triple_arena_traits.specs.ArenaState.{arena_len, capacity};
+ghost use Rattle.triple_arena_traits.specs.Insertion.{next_pointer, inserted};
+ghost use Rattle.triple_arena_traits.specs.Capacity.{grown};
+ghost use Rattle.triple_arena_traits.specs.Histories.{insertion, Fits, Continues};
 ghost use Rattle.triple_arena.specs.InsertEntry.{entry_arena, entry_reference, entry_lender, entry_rests};
 
-use crate::arena_insert_trait::ArenaInsertTrait;
-use crate::arena_trait::ArenaTrait;
 use crate::base_arena::Arena;
-use crate::lending_arena::LendingArena;
 use crate::slot::ArenaSlot;
 use triple_arena_base::{NotWithinCapacityError, ReallocationError};
 use triple_arena_ptr::{Ptr, PtrInx};
 use triple_arena_stack::{NonZeroInxGenericStack, NonZeroInxVec};
+use triple_arena_traits::{ArenaInsertTrait, ArenaTrait, LendingArena};
 
 /// A place in an arena for one more value.
 ///

@@ -1,22 +1,19 @@
-//! What holds of every arena: laws over several calls.
+//! What holds of every `Arena`: laws over several calls.
 
-ghost use Rattle.std.specs.Prelude.{◌≡◌, ◌⊎◌, ◌↔◌, ◌<◌, ◌≤◌, ℕ, Bool, List, [], ◌∷◌, ◌++◌, map, All, Contains, Option, Some, None, IsSome, IsTrue, false, length, min};
-ghost use Rattle.std.specs.List.{FoldsTo, range_with_len};
+ghost use Rattle.std.specs.Prelude.{◌≡◌, ◌⊎◌, ◌<◌, ◌≤◌, ℕ, List, [], ◌∷◌, ◌++◌, map, Option, Some, IsSome, IsTrue, false, length, min};
+ghost use Rattle.std.specs.List.{range_with_len};
 ghost use Rattle.triple_arena_stack.specs.StackKind.{StackKind};
 ghost use Rattle.triple_arena_ptr.specs.Pointers.{Pointer};
-ghost use Rattle.triple_arena.specs.Entries.{entry_in, look_up_in, IsLast};
-ghost use Rattle.triple_arena.specs.ArenaState.{ArenaState, new_arena, arena_len, capacity, entry, look_up, with_value, IsWellFormed};
-ghost use Rattle.triple_arena.specs.Insertion.{inserted};
-ghost use Rattle.triple_arena.specs.Ending.{removed, invalidated, cleared};
-ghost use Rattle.triple_arena.specs.FreeList.{tidied, without_free_end, IsRising};
-ghost use Rattle.triple_arena.specs.Walks.{Stand, Steps, Walk, IsAtFirst, keys, values};
-ghost use Rattle.triple_arena.specs.Capacity.{EndsBy, reallocated, with_limit, grown};
-ghost use Rattle.triple_arena.specs.Histories.{has, ModelCall, insertion, History, begun_with, and_then, given, ended, followed_by, is_live, Fits, Continues, IsModelCall, AreModelCalls};
-ghost use Rattle.triple_arena.specs.Compression.{closed_up, compressed, rank};
-ghost use Rattle.triple_arena.specs.Cloning.{CloneTurn};
+ghost use Rattle.triple_arena_traits.specs.ArenaState.{ArenaState, new_arena, arena_len, capacity, entry, look_up, with_value, IsWellFormed};
+ghost use Rattle.triple_arena_traits.specs.Insertion.{inserted};
+ghost use Rattle.triple_arena_traits.specs.Ending.{removed, invalidated, cleared};
+ghost use Rattle.triple_arena_traits.specs.FreeList.{tidied, without_free_end};
+ghost use Rattle.triple_arena_traits.specs.Walks.{keys, values};
+ghost use Rattle.triple_arena_traits.specs.Capacity.{EndsBy, reallocated, with_limit, grown};
+ghost use Rattle.triple_arena_traits.specs.Histories.{has, ModelCall, insertion, History, begun_with, and_then, given, ended, followed_by, is_live, Fits, Continues, IsModelCall, AreModelCalls};
+ghost use Rattle.triple_arena_traits.specs.Compression.{closed_up, compressed, rank};
 
-use crate::arena_clone_trait::ArenaCloneFromWith;
-use triple_arena_ptr::Ptr;
+pub use triple_arena_traits::laws::{clones_settle, forward_walk, walk_in_order};
 
 /// A limit that is set back: once a limit is set, the old one can be set again, and then the old
 /// capacity is there again. All else is as it was, or as it was with the free list in order.
@@ -63,31 +60,6 @@ pub fn well_formed_stays<T>()
         → IsWellFormed (record s { counter = counter }) }
 {}
 
-/// The pointers of a walk (`keys`): those of all entries, and no others, with rising indexes. The
-/// pointer that `find_last_inx_ptr` answers is the last.
-pub fn walk_in_order<T>()
-    ensures rising { (slots : List (Option (ℕ × T))) → IsRising 1 (map (λ p. p.0) (keys slots)) }
-    ensures all { (slots : List (Option (ℕ × T))) (p : Pointer)
-        → IsSome (look_up_in slots p) ↔ Contains (keys slots) p }
-    ensures last { (slots : List (Option (ℕ × T))) (p : Pointer) → IsLast slots p
-        → (before : List Pointer) × (keys slots ≡ before ++ p ∷ []) }
-{}
-
-/// A forward advancer rises, and sees all that stays: the indexes that it answers rise up to its
-/// first `None`, also where the arena changes between two steps; and one that `advancer` gave
-/// answers each index that is live at its making and at every step up to there.
-pub fn forward_walk<T>()
-    ensures rises { (greatest : ℕ) (from : Stand)
-        (turns : List (List (Option (ℕ × T)) × Pointer)) (to : Stand) → from.reverse ≡ false
-        → Walk greatest from turns to → IsRising from.place (map (λ turn. turn.1.0) turns) }
-    ensures sees { (greatest : ℕ) (first : List (Option (ℕ × T))) (from : Stand)
-        (turns : List (List (Option (ℕ × T)) × Pointer)) (to : Stand)
-        (last : List (Option (ℕ × T))) (end : Stand) (i : ℕ) → IsAtFirst first from
-        → Walk greatest from turns to → Steps greatest last to None end
-        → IsSome (entry_in first i) → All (λ turn. IsSome (entry_in turn.0 i)) turns
-        → IsSome (entry_in last i) → Contains (map (λ turn. turn.1.0) turns) i }
-{}
-
 /// Freshness: a history that fits an arena goes on to fit it, followed by the model calls that are
 /// made, as long as none of them wraps the counter. So no pointer is given twice, and the arena's
 /// pointers are exactly those that were given and have not ended (`Fits`).
@@ -111,21 +83,6 @@ pub fn pointers_are_fresh<T>()
     ensures never_live { (s : ArenaState T) (calls : List ModelCall) (t : ArenaState T)
         (p : Pointer) → arena_len s ≡ 0 → p.1 < s.counter → Continues Fits s calls t
         → is_live t p ≡ false }
-{}
-
-/// Clones settle their capacity. Cloning leaves the capacity where the source's last index is not
-/// above it; so of two arenas that are cloned into each other by turns, with no refusal and no
-/// other call between, at most the target of the first clone is reallocated.
-pub fn clones_settle<P: Ptr, T, U, A: ArenaCloneFromWith<P, T>, B: ArenaCloneFromWith<P, U>>()
-    ensures fits { (old : A) (last : ℕ) (next : Option ℕ) (copy : List (Option (ℕ × T))) (new : A)
-        → A.clones old last next copy new → last ≤ A.fitting old
-        → A.fitting new ≡ A.fitting old }
-    ensures settled { (start : A × B) (first : Bool) (middle : A × B) (turns : List Bool)
-        (end : A × B)
-        → CloneTurn A.slots A.fitting A.clones B.slots B.fitting B.clones start first middle
-        → FoldsTo (CloneTurn A.slots A.fitting A.clones B.slots B.fitting B.clones)
-        middle turns end
-        → (A.fitting end.0 ≡ A.fitting middle.0) × (B.fitting end.1 ≡ B.fitting middle.1) }
 {}
 
 /// A compression moves the entries to the indexes from 1 to their number, by `rank`: it gives no two

@@ -1,16 +1,10 @@
-//! Arenas as clauses on loans name them.
-
-ghost use Rattle.std.specs.Borrow.{RattleType};
+//! The arena as clauses on loans name it.
 
 use crate::base_arena::Arena;
 use crate::slot::ArenaSlot;
 use triple_arena_ptr::Ptr;
 use triple_arena_stack::NonZeroInxGenericStack;
-
-/// An arena as what is borrowed from: its type, as clauses on loans name it.
-pub trait LendingArena {
-    ghost arena_row: { RattleType };
-}
+use triple_arena_traits::LendingArena;
 
 impl<P: Ptr, T, S: NonZeroInxGenericStack<ArenaSlot<P, T>>> LendingArena for Arena<P, T, S> {
     ghost use Rattle.triple_arena.specs.contracts.base_arena.Arena.{the_row};

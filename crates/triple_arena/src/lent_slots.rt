@@ -4,7 +4,7 @@ ghost use Rattle.std.specs.Prelude.{◌≡◌, ◌<◌, List, ◌∷◌, length}
 ghost use Rattle.std.specs.Borrow.{GName};
 ghost use Rattle.std.specs.Option.{option_map, option_copied_mut};
 ghost use Rattle.triple_arena.specs.Slot.{entry_of};
-ghost use Rattle.triple_arena.specs.Disjoint.{value_of};
+ghost use Rattle.triple_arena_traits.specs.Disjoint.{value_of};
 ghost use Rattle.triple_arena.specs.Kept.{kept_at};
 ghost use Rattle.triple_arena.specs.declared.slot.ArenaSlot.{ArenaSlot};
 

@@ -1,42 +1,23 @@
 //! Generational arenas: values in slots, each named by the pointer that its insertion gave.
 #![tactic(auto)]
 
-mod answers;
-mod arena_clone_trait;
-mod arena_direct_insert_trait;
-mod arena_insert_trait;
 pub mod arena_iterators;
-mod arena_trait;
 mod base_arena;
-mod compact_arena_trait;
-mod compress;
-pub mod copying;
-mod disjointable_arena_trait;
-pub mod ends;
-mod entry_slot;
-pub mod entry_slots;
 mod indexing;
 mod insert_entry;
 pub mod laws;
 mod lending_arena;
 mod lent_slots;
-pub mod pair_call;
 mod recasting;
 mod slot;
 mod slots;
 mod text;
-pub mod transferring;
 
-pub use arena_clone_trait::ArenaCloneFromWith;
-pub use arena_direct_insert_trait::{ArenaDirectInsertEntryTrait, ArenaDirectInsertTrait};
-pub use arena_insert_trait::ArenaInsertTrait;
-pub use arena_trait::ArenaTrait;
 pub use base_arena::Arena;
-pub use compact_arena_trait::CompactArenaTrait;
-pub use compress::close_up;
-pub use disjointable_arena_trait::DisjointableArenaTrait;
-pub use entry_slot::EntrySlot;
 pub use insert_entry::{ArenaInsertEntry, ArenaInsertEntryTrait};
-pub use lending_arena::LendingArena;
-pub use recasting::recast_entries;
 pub use slot::{ArenaSlot, FreeLink};
+pub use triple_arena_traits::{
+    ArenaCloneFromWith, ArenaDirectInsertEntryTrait, ArenaDirectInsertTrait, ArenaInsertTrait,
+    ArenaTrait, CompactArenaTrait, DisjointableArenaTrait, EntrySlot, LendingArena, answers,
+    close_up, copying, ends, entry_slots, pair_call, recast_entries, transferring,
+};

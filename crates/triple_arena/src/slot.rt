@@ -4,12 +4,12 @@ ghost use Rattle.std.specs.Prelude.{◌≡◌, ◌≢◌, ◌==◌, cond, None, 
 ghost use Rattle.std.specs.Borrow.{LendsIf, sem};
 ghost use Rattle.std.specs.Int.NonZero.{non_zero_usize_get};
 ghost use Rattle.std.specs.Option.{option_map, option_copied_mut};
-ghost use Rattle.triple_arena.specs.Disjoint.{value_of};
+ghost use Rattle.triple_arena_traits.specs.Disjoint.{value_of};
 ghost use Rattle.triple_arena.specs.Slot.{entry_of, next_free, with_slot_value, with_slot_generation};
 
-use crate::entry_slot::EntrySlot;
 use std::num::NonZeroUsize;
 use triple_arena_ptr::{Ptr, PtrGen};
+use triple_arena_traits::EntrySlot;
 
 /// Names the next free slot, or its own where it is the last.
 #[derive(Clone, Copy)]

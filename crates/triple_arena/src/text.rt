@@ -1,12 +1,12 @@
 //! The text of an arena.
 
-use crate::arena_trait::ArenaTrait;
 use crate::base_arena::Arena;
 use crate::slot::ArenaSlot;
 use std::fmt;
 use triple_arena_base::Advancer;
 use triple_arena_ptr::Ptr;
 use triple_arena_stack::NonZeroInxGenericStack;
+use triple_arena_traits::ArenaTrait;
 
 impl<P: Ptr, T: fmt::Debug, S: NonZeroInxGenericStack<ArenaSlot<P, T>>> fmt::Debug
     for Arena<P, T, S> {

@@ -6,9 +6,9 @@ use Rattle.std.specs.Int.NonZero.{non_zero_usize_get}
 use Rattle.std.specs.Ordering.{is_lt, nat_cmp, ord_max}
 use Rattle.std.specs.declared.num.NonZeroUsize.{NonZeroUsize}
 use Rattle.triple_arena_ptr.specs.Pointers.{Pointer}
-use Rattle.triple_arena.specs.Entries.{entry_in}
-use Rattle.triple_arena.specs.ItemLaws.{eq_true}
-use Rattle.triple_arena.specs.Walks.{Stand, place_of, is_ahead, is_before, Steps}
+use Rattle.triple_arena_traits.specs.Entries.{entry_in}
+use Rattle.triple_arena_traits.specs.ItemLaws.{eq_true}
+use Rattle.triple_arena_traits.specs.Walks.{Stand, place_of, is_ahead, is_before, Steps}
 
 tells : (a b : ℕ) → nat_le a b ≡ true → a ≤ b
 tells a b h =

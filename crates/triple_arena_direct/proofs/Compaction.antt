@@ -2,12 +2,12 @@
 use Rattle.std.proofs.Common.{◌≡◌, ℕ, List, [], ◌∷◌, length, map, Option, Some, None, is_some, cond, refl, sym, ap, subst, ◌∙◌, arith}
 use Rattle.std.proofs.lemmas.List.Sums.{sum_by-cons, count_by-le-length}
 use Rattle.triple_arena_ptr.specs.Pointers.{Pointer}
-use Rattle.triple_arena.specs.Entries.{entry_count}
-use Rattle.triple_arena.specs.Walks.{entries, keys}
-use Rattle.triple_arena.specs.Compression.{rank_in, placed}
-use Rattle.triple_arena.specs.CompressionLaws.{length-keys}
-use Rattle.triple_arena.specs.Moves.{Moves}
-use Rattle.triple_arena.proofs.Compaction.{count-moved, count_renamed}
+use Rattle.triple_arena_traits.specs.Entries.{entry_count}
+use Rattle.triple_arena_traits.specs.Walks.{entries, keys}
+use Rattle.triple_arena_traits.specs.Compression.{rank_in, placed}
+use Rattle.triple_arena_traits.specs.CompressionLaws.{length-keys}
+use Rattle.triple_arena_traits.specs.Moves.{Moves}
+use Rattle.triple_arena_traits.proofs.Compaction.{count-moved, count_renamed}
 use Rattle.triple_arena_direct.specs.DirectState.{DirectState, compressed}
 use Rattle.triple_arena_direct.specs.CompressionLaws.{placed_own, keys-compressed}
 use Rattle.triple_arena_direct.specs.Layout.{Counts}

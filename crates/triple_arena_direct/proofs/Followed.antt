@@ -6,12 +6,12 @@ use Rattle.std.specs.Option.{option_map}
 use Rattle.triple_arena_base.specs.Held.{KeepsHeld, held_all, refill_all}
 use Rattle.triple_arena_base.specs.HeldLists.{length_refill_all, refill_all_held}
 use Rattle.triple_arena_ptr.specs.Pointers.{Pointer}
-use Rattle.triple_arena.specs.Items.{with_item}
-use Rattle.triple_arena.specs.Entries.{entry_in, look_up_in, entry_count, with_value_in}
-use Rattle.triple_arena.specs.Walks.{entries, keys, values}
-use Rattle.triple_arena.specs.Recasting.{written, recast_values}
-use Rattle.triple_arena.specs.CompressionLaws.{length-keys, length-values}
-use Rattle.triple_arena.proofs.EntryWalks.{written_same}
+use Rattle.triple_arena_traits.specs.Items.{with_item}
+use Rattle.triple_arena_traits.specs.Entries.{entry_in, look_up_in, entry_count, with_value_in}
+use Rattle.triple_arena_traits.specs.Walks.{entries, keys, values}
+use Rattle.triple_arena_traits.specs.Recasting.{written, recast_values}
+use Rattle.triple_arena_traits.specs.CompressionLaws.{length-keys, length-values}
+use Rattle.triple_arena_traits.proofs.EntryWalks.{written_same}
 use Rattle.triple_arena_direct.proofs.Resolving.{items_stay}
 use Rattle.triple_arena_direct.proofs.WrittenValues.{compressed_written}
 

@@ -5,13 +5,13 @@ use Rattle.std.proofs.lemmas.List.{length-map}
 use Rattle.std.specs.List.{refill}
 use Rattle.std.specs.Option.{option_and_then}
 use denote.RattleType.{RattleType}
-use Rattle.triple_arena.specs.ItemLaws.{joined}
-use Rattle.triple_arena.specs.Entries.{value_under}
-use Rattle.triple_arena.specs.Values.{with_value_of, with_values_in}
-use Rattle.triple_arena.specs.Walks.{entries_from}
-use Rattle.triple_arena.specs.WalkLaws.{length-entries_from}
-use Rattle.triple_arena.proofs.Keeping.{length-kept, count-kept, at-kept, generations-kept, under-kept}
-use Rattle.triple_arena.proofs.Listing.{count_within}
+use Rattle.triple_arena_traits.specs.ItemLaws.{joined}
+use Rattle.triple_arena_traits.specs.Entries.{value_under}
+use Rattle.triple_arena_traits.specs.Values.{with_value_of, with_values_in}
+use Rattle.triple_arena_traits.specs.Walks.{entries_from}
+use Rattle.triple_arena_traits.specs.WalkLaws.{length-entries_from}
+use Rattle.triple_arena_traits.proofs.Keeping.{length-kept, count-kept, at-kept, generations-kept, under-kept}
+use Rattle.triple_arena_traits.proofs.Listing.{count_within}
 use Rattle.triple_arena_direct.specs.DirectState.{DirectState}
 use Rattle.triple_arena_direct.specs.Slot.{slot_entry, with_slot_value}
 use Rattle.triple_arena_direct.specs.Layout.{direct_of, Counts}

@@ -3,7 +3,7 @@ use Rattle.std.proofs.Common.{◌≡◌, Bool, true, false, sym, ap, ◌∙◌}
 use Rattle.triple_arena_base.specs.Invalidation.{allowed_option, MapsOption}
 use Rattle.triple_arena_base.specs.declared.invalidation.InvalidationOption.{InvalidationOption}
 use Rattle.triple_arena_base.specs.declared.invalidation.InvalidationOption.TheVariants.{Success, GenerationOverflow}
-use Rattle.triple_arena.specs.Ending.{told}
+use Rattle.triple_arena_traits.specs.Ending.{told}
 
 module _ {T X : Type 0} (takes : T → X → Type 0) where
   -- the same is told, with the new value

@@ -6,13 +6,13 @@ use Rattle.std.specs.List.{FoldsTo}
 use Rattle.std.specs.Borrow.{Bor}
 use Rattle.std.specs.Option.{option_and_then}
 use Rattle.triple_arena_ptr.specs.Pointers.{Pointer}
-use Rattle.triple_arena.specs.ItemLaws.{eq_true}
-use Rattle.triple_arena.specs.Entries.{entry_in, value_under, look_up_in, ChangesAt, KeepsEntries}
-use Rattle.triple_arena.specs.Walks.{entries, keys}
-use Rattle.triple_arena.specs.WalkLaws.{live_key, key_live}
-use Rattle.triple_arena.specs.Copying.{Mapping, Copies, mapped_from, mapped_to}
-use Rattle.triple_arena.specs.DirectInsertion.{IsVacant}
-use Rattle.triple_arena.proofs.LookUps.{others_found}
+use Rattle.triple_arena_traits.specs.ItemLaws.{eq_true}
+use Rattle.triple_arena_traits.specs.Entries.{entry_in, value_under, look_up_in, ChangesAt, KeepsEntries}
+use Rattle.triple_arena_traits.specs.Walks.{entries, keys}
+use Rattle.triple_arena_traits.specs.WalkLaws.{live_key, key_live}
+use Rattle.triple_arena_traits.specs.Copying.{Mapping, Copies, mapped_from, mapped_to}
+use Rattle.triple_arena_traits.specs.DirectInsertion.{IsVacant}
+use Rattle.triple_arena_traits.proofs.LookUps.{others_found}
 use Rattle.triple_arena_direct.specs.DirectState.{DirectState, direct_capacity, inserted_at, removed}
 use Rattle.triple_arena_direct.specs.StepLaws.{slots-removed}
 use Rattle.triple_arena_direct.specs.InsertionLaws.{slots-inserted_at}

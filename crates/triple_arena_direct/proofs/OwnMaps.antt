@@ -8,10 +8,10 @@ use Rattle.std.specs.Option.{option_map}
 use Rattle.triple_arena_base.specs.declared.errors.ReallocationError.{ReallocationError}
 use Rattle.triple_arena_base.specs.declared.errors.ReallocationError.TheVariants.{BeyondMaxCapacity, AllocError}
 use Rattle.triple_arena_ptr.specs.Pointers.{Pointer}
-use Rattle.triple_arena.specs.Entries.{look_up_in, entry_count}
-use Rattle.triple_arena.specs.FreeList.{before, trimmed, last_index}
-use Rattle.triple_arena.specs.Walks.{entries, keys_of, values_of, keys, values}
-use Rattle.triple_arena.specs.Copying.{Mapping, MapTurn, Copies, mapped_from, mapped_to}
+use Rattle.triple_arena_traits.specs.Entries.{look_up_in, entry_count}
+use Rattle.triple_arena_traits.specs.FreeList.{before, trimmed, last_index}
+use Rattle.triple_arena_traits.specs.Walks.{entries, keys_of, values_of, keys, values}
+use Rattle.triple_arena_traits.specs.Copying.{Mapping, MapTurn, Copies, mapped_from, mapped_to}
 use Rattle.triple_arena_direct.proofs.Renames.{renames}
 
 module _ {P T E M : Type 0} (numbers : P → Pointer) (step : M → P → Bor T → Result P E → M → Type 0) where

@@ -4,11 +4,11 @@ use Rattle.std.specs.Borrow.{Bor, MutBor}
 use Rattle.std.specs.Int.NonZero.{non_zero_usize_get}
 use Rattle.std.specs.declared.num.NonZeroUsize.{NonZeroUsize}
 use Rattle.std.specs.Option.{option_map, option_and_then, option_copied_mut}
-use Rattle.triple_arena.specs.Items.{item}
-use Rattle.triple_arena.specs.ItemLaws.{joined, item_past}
-use Rattle.triple_arena.specs.Entries.{entry_in}
-use Rattle.triple_arena.specs.WalkLaws.{live_within}
-use Rattle.triple_arena.proofs.SlotEntries.{entry_read}
+use Rattle.triple_arena_traits.specs.Items.{item}
+use Rattle.triple_arena_traits.specs.ItemLaws.{joined, item_past}
+use Rattle.triple_arena_traits.specs.Entries.{entry_in}
+use Rattle.triple_arena_traits.specs.WalkLaws.{live_within}
+use Rattle.triple_arena_traits.proofs.SlotEntries.{entry_read}
 use Rattle.triple_arena_direct.specs.DirectState.{DirectState}
 use Rattle.triple_arena_direct.specs.Layout.{Counts}
 

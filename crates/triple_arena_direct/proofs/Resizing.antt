@@ -3,7 +3,7 @@ use Rattle.std.proofs.Common.{◌≡◌, ℕ, ◌≤◌, List, map, length, Opti
 use Rattle.std.proofs.lemmas.List.{length-map}
 use Rattle.triple_arena_stack.specs.StackKind.{StackKind, reallocated_room, IsOfKind}
 use Rattle.triple_arena_stack.specs.Capacity.{capacity_of, IsWithin}
-use Rattle.triple_arena.proofs.Growth.{place_made}
+use Rattle.triple_arena_traits.proofs.Growth.{place_made}
 use Rattle.triple_arena_direct.specs.DirectState.{DirectState, slot_count, direct_capacity, with_room_for, with_limit}
 use Rattle.triple_arena_direct.specs.Slot.{slot_entry}
 use Rattle.triple_arena_direct.specs.Layout.{direct_of, Counts}

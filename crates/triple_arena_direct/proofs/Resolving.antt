@@ -5,7 +5,7 @@ use Rattle.std.specs.Option.{option_map}
 use Rattle.triple_arena_base.specs.Held.{KeepsHeld, recast_from, recast_items, answer_from, recast_answer, held_all, refill_all}
 use Rattle.triple_arena_base.specs.HeldLists.{refill_ok}
 use Rattle.triple_arena_ptr.specs.Pointers.{Pointer}
-use Rattle.triple_arena.specs.Entries.{look_up_in}
+use Rattle.triple_arena_traits.specs.Entries.{look_up_in}
 use Rattle.triple_arena_direct.specs.Renaming.{first_unresolved, IsRenamed, AreRenamed}
 
 module _ {P T : Type 0} (numbers : P → Pointer) (slots : List (Option (ℕ × T))) where

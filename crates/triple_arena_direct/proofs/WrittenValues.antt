@@ -3,9 +3,9 @@ use Rattle.std.proofs.Common.{◌≡◌, ℕ, ◌+◌, List, [], ◌∷◌, ◌+
 use Rattle.std.proofs.lemmas.List.{length_push}
 use Rattle.std.specs.List.{range_with_len}
 use Rattle.triple_arena_ptr.specs.Pointers.{Pointer}
-use Rattle.triple_arena.specs.Items.{with_item}
-use Rattle.triple_arena.specs.Recasting.{written}
-use Rattle.triple_arena.proofs.Compressing.{set-after}
+use Rattle.triple_arena_traits.specs.Items.{with_item}
+use Rattle.triple_arena_traits.specs.Recasting.{written}
+use Rattle.triple_arena_traits.proofs.Compressing.{set-after}
 
 module _ {T : Type 0} where
   module _ {A : Type 0} (with_value : A → ℕ → T → A) (Compressed : List T → A → Type 0)

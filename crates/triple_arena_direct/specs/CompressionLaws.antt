@@ -2,12 +2,12 @@
 use Rattle.std.proofs.Common.{◌≡◌, ℕ, zero, suc, List, [], ◌∷◌, length, map, set, slice_get, Option, Some, None, refl, sym, ap, ◌∙◌}
 use Rattle.triple_arena_ptr.specs.Pointers.{Pointer}
 use Rattle.std.specs.Option.{option_map}
-use Rattle.triple_arena.specs.Items.{with_item}
-use Rattle.triple_arena.specs.ItemLaws.{joined}
-use Rattle.triple_arena.specs.Entries.{entry_in, entry_count, with_value_in}
-use Rattle.triple_arena.specs.Walks.{keys, values}
-use Rattle.triple_arena.specs.Compression.{rank_in, placed}
-use Rattle.triple_arena.specs.CompressionLaws.{keys-placed, values-placed, value_same}
+use Rattle.triple_arena_traits.specs.Items.{with_item}
+use Rattle.triple_arena_traits.specs.ItemLaws.{joined}
+use Rattle.triple_arena_traits.specs.Entries.{entry_in, entry_count, with_value_in}
+use Rattle.triple_arena_traits.specs.Walks.{keys, values}
+use Rattle.triple_arena_traits.specs.Compression.{rank_in, placed}
+use Rattle.triple_arena_traits.specs.CompressionLaws.{keys-placed, values-placed, value_same}
 use Rattle.triple_arena_direct.specs.DirectState.{DirectState, compressed, with_value}
 
 module _ {T : Type 0} where

@@ -3,11 +3,11 @@ use Rattle.std.specs.Prelude.{◌≤◌, ℕ, nat_lt, cond, List, [], length, Op
 use Rattle.triple_arena_ptr.specs.Pointers.{Pointer}
 use Rattle.triple_arena_stack.specs.StackKind.{StackKind, reallocated_room}
 use Rattle.triple_arena_stack.specs.Capacity.{capacity_of}
-use Rattle.triple_arena.specs.Items.{with_item}
-use Rattle.triple_arena.specs.Entries.{entry_in, entry_count, with_value_in}
-use Rattle.triple_arena.specs.FreeEnd.{shortened, extended}
-use Rattle.triple_arena.specs.Walks.{keys}
-use Rattle.triple_arena.specs.Compression.{placed}
+use Rattle.triple_arena_traits.specs.Items.{with_item}
+use Rattle.triple_arena_traits.specs.Entries.{entry_in, entry_count, with_value_in}
+use Rattle.triple_arena_traits.specs.FreeEnd.{shortened, extended}
+use Rattle.triple_arena_traits.specs.Walks.{keys}
+use Rattle.triple_arena_traits.specs.Compression.{placed}
 
 -- by index, from 1 to the number of slots, the generation and the value of the entry that stands there, or nothing; for how
 -- many slots there is room, and how many are allowed, if there is a limit; and the greatest index

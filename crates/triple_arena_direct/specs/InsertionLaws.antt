@@ -3,13 +3,13 @@ use Rattle.std.proofs.Common.{◌≡◌, ◌≢◌, ℕ, zero, suc, ◌+◌, ◌
 use Rattle.std.proofs.lemmas.List.{length-append, length-replicate}
 use Rattle.std.proofs.lemmas.List.Sums.{sum_by-append, sum_by-cons}
 use Rattle.triple_arena_ptr.specs.Pointers.{Pointer}
-use Rattle.triple_arena.specs.Items.{item, with_item}
-use Rattle.triple_arena.specs.ItemLaws.{joined}
-use Rattle.triple_arena.specs.Entries.{entry_in, entry_count, ChangesAt}
-use Rattle.triple_arena.specs.EntryLaws.{changes_at}
-use Rattle.triple_arena.specs.LengthLaws.{count-with_item}
-use Rattle.triple_arena.specs.DirectInsertion.{IsVacant}
-use Rattle.triple_arena.specs.FreeEnd.{extended}
+use Rattle.triple_arena_traits.specs.Items.{item, with_item}
+use Rattle.triple_arena_traits.specs.ItemLaws.{joined}
+use Rattle.triple_arena_traits.specs.Entries.{entry_in, entry_count, ChangesAt}
+use Rattle.triple_arena_traits.specs.EntryLaws.{changes_at}
+use Rattle.triple_arena_traits.specs.LengthLaws.{count-with_item}
+use Rattle.triple_arena_traits.specs.DirectInsertion.{IsVacant}
+use Rattle.triple_arena_traits.specs.FreeEnd.{extended}
 use Rattle.triple_arena_direct.specs.DirectState.{DirectState, direct_len, direct_capacity, inserted_at}
 
 none_in_gap : (T : Type 0) (n : ℕ) → entry_count (replicate {A = Option (ℕ × T)} n None) ≡ 0

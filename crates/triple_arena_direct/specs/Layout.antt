@@ -1,7 +1,7 @@
 -- How a direct arena lies in its slots. No public clause cites this module.
 use Rattle.std.specs.Prelude.{◌≡◌, ℕ, List, map, Option, Some, None}
-use Rattle.triple_arena.specs.Items.{with_item}
-use Rattle.triple_arena.specs.Entries.{entry_in}
+use Rattle.triple_arena_traits.specs.Items.{with_item}
+use Rattle.triple_arena_traits.specs.Entries.{entry_in}
 use Rattle.triple_arena_direct.specs.DirectState.{DirectState, direct_len, Fits}
 use Rattle.triple_arena_direct.specs.Slot.{slot_entry, with_slot_value}
 use Rattle.triple_arena_direct.specs.declared.slot.DirectSlot.{DirectSlot}

@@ -3,7 +3,7 @@
 use Rattle.std.specs.Prelude.{ℕ, List, length}
 use Rattle.std.specs.Borrow.{Lends, Array, Fml, RattleType, MutBor}
 use Rattle.std.specs.List.{refill}
-use Rattle.triple_arena.specs.Items.{item}
+use Rattle.triple_arena_traits.specs.Items.{item}
 use Rattle.triple_arena_direct.specs.Layout.{with_value_at}
 use Rattle.triple_arena_direct.specs.declared.slot.DirectSlot.{DirectSlot}
 use Rattle.triple_arena_direct.specs.declared.slots.Slots.{Slots}

@@ -1,7 +1,7 @@
 -- Mirrors: direct arenas that are given the changes of another arena, and so have its pointers.
 use Rattle.std.specs.Prelude.{◌≡◌, ℕ, List, Option, Some, None, is_some}
 use Rattle.triple_arena_ptr.specs.Pointers.{Pointer}
-use Rattle.triple_arena.specs.Entries.{look_up_in, ChangesAt}
+use Rattle.triple_arena_traits.specs.Entries.{look_up_in, ChangesAt}
 use Rattle.triple_arena_direct.specs.DirectState.{DirectState, inserted_at, removed}
 
 -- a change of the pointers of an arena: an entry comes under this one, or the entry at an index goes

@@ -7,7 +7,7 @@ use Rattle.triple_arena_base.specs.declared.errors.ReallocationError.TheVariants
 use Rattle.triple_arena_base.specs.declared.errors.CompactError.{CompactError}
 use Rattle.triple_arena_base.specs.declared.errors.CompactError.TheVariants.{Unresolved, Reallocation}
 use Rattle.triple_arena_ptr.specs.Pointers.{Pointer}
-use Rattle.triple_arena.specs.Entries.{look_up_in}
+use Rattle.triple_arena_traits.specs.Entries.{look_up_in}
 
 module _ {P T : Type 0} (numbers : P → Pointer) where
   -- the map has, for each pointer of these slots, its new pointer, and none for any other

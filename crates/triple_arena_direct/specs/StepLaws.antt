@@ -3,13 +3,13 @@ use Rattle.std.proofs.Common.{◌≡◌, ◌≢◌, ℕ, zero, suc, ◌+◌, ◌
 use Rattle.std.proofs.lemmas.List.Sums.{sum_by-cons}
 use Rattle.std.specs.Option.{option_map}
 use Rattle.triple_arena_stack.specs.StackKind.{StackKind}
-use Rattle.triple_arena.specs.Items.{item, with_item}
-use Rattle.triple_arena.specs.ItemLaws.{joined, with_item-past}
-use Rattle.triple_arena.specs.Entries.{entry_in, entry_count, ChangesAt, KeepsEntries}
-use Rattle.triple_arena.specs.FreeList.{before, trimmed}
-use Rattle.triple_arena.specs.EntryLaws.{changes_at}
-use Rattle.triple_arena.specs.LengthLaws.{count-with_item}
-use Rattle.triple_arena.specs.FreeEnd.{shortened}
+use Rattle.triple_arena_traits.specs.Items.{item, with_item}
+use Rattle.triple_arena_traits.specs.ItemLaws.{joined, with_item-past}
+use Rattle.triple_arena_traits.specs.Entries.{entry_in, entry_count, ChangesAt, KeepsEntries}
+use Rattle.triple_arena_traits.specs.FreeList.{before, trimmed}
+use Rattle.triple_arena_traits.specs.EntryLaws.{changes_at}
+use Rattle.triple_arena_traits.specs.LengthLaws.{count-with_item}
+use Rattle.triple_arena_traits.specs.FreeEnd.{shortened}
 use Rattle.triple_arena_direct.specs.DirectState.{DirectState, generation_of, direct_len, with_value, removed, cleared, settled, reallocated}
 
 module _ {T : Type 0} where

@@ -1,8 +1,8 @@
 -- A direct arena whose values were written, and nothing else of it.
 use Rattle.std.specs.Prelude.{◌≡◌, ℕ, Option, is_some}
 use Rattle.triple_arena_ptr.specs.Pointers.{Pointer}
-use Rattle.triple_arena.specs.Entries.{look_up_in}
-use Rattle.triple_arena.specs.Values.{with_values_in, generations_in}
+use Rattle.triple_arena_traits.specs.Entries.{look_up_in}
+use Rattle.triple_arena_traits.specs.Values.{with_values_in, generations_in}
 use Rattle.triple_arena_direct.specs.DirectState.{DirectState, direct_len}
 
 module _ {T : Type 0} where

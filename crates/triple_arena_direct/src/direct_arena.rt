@@ -7,15 +7,15 @@ ghost use Rattle.std.specs.Option.{option_and_then};
 ghost use Rattle.triple_arena_ptr.specs.Numbers.{greatest_index};
 ghost use Rattle.triple_arena_stack.specs.Capacity.{IsWithin, IsBeyond};
 ghost use Rattle.triple_arena_stack.specs.StackKind.{IsOfKind};
-ghost use Rattle.triple_arena.specs.Entries.{entry_in, look_up_in};
-ghost use Rattle.triple_arena.specs.DirectInsertion.{IsVacant};
-ghost use Rattle.triple_arena.specs.Disjoint.{value_of};
-ghost use Rattle.triple_arena.specs.FreeList.{last_index};
-ghost use Rattle.triple_arena.specs.Walks.{entries};
-ghost use Rattle.triple_arena.specs.Copying.{Copies};
+ghost use Rattle.triple_arena_traits.specs.Entries.{entry_in, look_up_in};
+ghost use Rattle.triple_arena_traits.specs.DirectInsertion.{IsVacant};
+ghost use Rattle.triple_arena_traits.specs.Disjoint.{value_of};
+ghost use Rattle.triple_arena_traits.specs.FreeList.{last_index};
+ghost use Rattle.triple_arena_traits.specs.Walks.{entries};
+ghost use Rattle.triple_arena_traits.specs.Copying.{Copies};
 ghost use Rattle.triple_arena_stack.specs.Disjoint.{DisjointAnswer, MayWork, Worked};
 ghost use Rattle.triple_arena_direct.specs.DirectState.{DirectState, new_direct, generation_of, slot_count, direct_len, direct_capacity, Fits, with_value, inserted_at, removed, cleared, settled, with_room_for, reallocated, ready_for, with_slots, with_limit};
-ghost use Rattle.triple_arena.specs.Lent.{lends_values};
+ghost use Rattle.triple_arena_traits.specs.Lent.{lends_values};
 ghost use Rattle.triple_arena_direct.specs.Values.{with_values_of};
 ghost use Rattle.triple_arena_direct.specs.Slot.{slot_entry};
 
@@ -29,21 +29,21 @@ use crate::slots::{self, Slots};
 use std::alloc::Global;
 use std::marker::{Model, PhantomData};
 use std::num::NonZeroUsize;
-use triple_arena::ends::last_index;
-use triple_arena::entry_slots::{
-    first_live, last_live, live_from, live_to, shorten, slot_at, work_on_two,
-};
-use triple_arena::pair_call::{AtEntries, AtValues, PairCall};
-use triple_arena::{
-    ArenaCloneFromWith, ArenaDirectInsertTrait, ArenaTrait, CompactArenaTrait,
-    DisjointableArenaTrait, EntrySlot, LendingArena,
-};
 use triple_arena_base::{
     AllocError, CloneFromError, GetDisjointMutError, InvalidationOption, InvalidationResult,
     MaxCapacityReductionError, ReallocationError,
 };
 use triple_arena_ptr::{Ptr, PtrGen, PtrInx};
 use triple_arena_stack::{NonZeroInxGenericStack, NonZeroInxVec, SetMaxCapacity};
+use triple_arena_traits::ends::last_index;
+use triple_arena_traits::entry_slots::{
+    first_live, last_live, live_from, live_to, shorten, slot_at, work_on_two,
+};
+use triple_arena_traits::pair_call::{AtEntries, AtValues, PairCall};
+use triple_arena_traits::{
+    ArenaCloneFromWith, ArenaDirectInsertTrait, ArenaTrait, CompactArenaTrait,
+    DisjointableArenaTrait, EntrySlot, LendingArena,
+};
 
 /// An arena over a stack of slots, whose entries are put under pointers of the caller's choice: it
 /// has no counter and no free list.

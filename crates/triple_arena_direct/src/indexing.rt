@@ -2,16 +2,16 @@
 
 ghost use Rattle.std.specs.Prelude.{◌≡◌, Some, IsSome};
 ghost use Rattle.std.specs.Borrow.{sem, Lends};
-ghost use Rattle.triple_arena.specs.Entries.{entry_in, look_up_in};
-ghost use Rattle.triple_arena.specs.Disjoint.{value_of};
+ghost use Rattle.triple_arena_traits.specs.Entries.{entry_in, look_up_in};
+ghost use Rattle.triple_arena_traits.specs.Disjoint.{value_of};
 ghost use Rattle.triple_arena_direct.specs.DirectState.{with_value};
 
 use crate::direct_arena::DirectArena;
 use crate::slot::DirectSlot;
 use std::ops::{Index, IndexMut};
-use triple_arena::{ArenaTrait, LendingArena};
 use triple_arena_ptr::{Ptr, PtrInx};
 use triple_arena_stack::NonZeroInxGenericStack;
+use triple_arena_traits::{ArenaTrait, LendingArena};
 
 impl<P: Ptr, T, S: NonZeroInxGenericStack<DirectSlot<P, T>>> DirectArena<P, T, S> {
     /// The value of the entry at `inx`.

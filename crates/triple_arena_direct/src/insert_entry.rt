@@ -2,16 +2,18 @@
 
 ghost use Rattle.std.specs.Prelude.{◌≡◌, IfOk};
 ghost use Rattle.std.specs.Borrow.{sem, Lends};
-ghost use Rattle.triple_arena.specs.DirectInsertion.{IsVacant, DirectInsertAnswer};
+ghost use Rattle.triple_arena_traits.specs.DirectInsertion.{IsVacant, DirectInsertAnswer};
 ghost use Rattle.triple_arena_direct.specs.DirectState.{direct_capacity, inserted_at};
 ghost use Rattle.triple_arena_direct.specs.InsertEntry.{entry_pointer, entry_reference, entry_arena, entry_lender, entry_rests};
 
 use crate::direct_arena::DirectArena;
 use crate::slot::DirectSlot;
-use triple_arena::{ArenaDirectInsertEntryTrait, ArenaDirectInsertTrait, ArenaTrait, LendingArena};
 use triple_arena_base::DirectInsertionError;
 use triple_arena_ptr::Ptr;
 use triple_arena_stack::{NonZeroInxGenericStack, NonZeroInxVec};
+use triple_arena_traits::{
+    ArenaDirectInsertEntryTrait, ArenaDirectInsertTrait, ArenaTrait, LendingArena,
+};
 
 /// A place in a direct arena, under a pointer of the caller's choice.
 ///

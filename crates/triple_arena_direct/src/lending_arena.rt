@@ -2,9 +2,9 @@
 
 use crate::direct_arena::DirectArena;
 use crate::slot::DirectSlot;
-use triple_arena::LendingArena;
 use triple_arena_ptr::Ptr;
 use triple_arena_stack::NonZeroInxGenericStack;
+use triple_arena_traits::LendingArena;
 
 impl<P: Ptr, T, S: NonZeroInxGenericStack<DirectSlot<P, T>>> LendingArena for DirectArena<P, T, S> {
     ghost use Rattle.triple_arena_direct.specs.contracts.direct_arena.DirectArena.{the_row};

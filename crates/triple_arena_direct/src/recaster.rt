@@ -1,14 +1,14 @@
 //! Direct arenas of pointers as recasters, and the items that a direct arena holds.
 
 ghost use Rattle.std.specs.Prelude.{◌≡◌};
-ghost use Rattle.triple_arena.specs.Entries.{look_up_in};
+ghost use Rattle.triple_arena_traits.specs.Entries.{look_up_in};
 
 use crate::direct_arena::DirectArena;
 use crate::slot::DirectSlot;
-use triple_arena::{ArenaTrait, recast_entries};
 use triple_arena_base::{Recast, Recaster};
 use triple_arena_ptr::Ptr;
 use triple_arena_stack::NonZeroInxGenericStack;
+use triple_arena_traits::{ArenaTrait, recast_entries};
 
 /// The image of a pointer is the one that is stored under it.
 impl<P: Ptr, S: NonZeroInxGenericStack<DirectSlot<P, P>>> Recaster for DirectArena<P, P, S> {
@@ -31,7 +31,7 @@ impl<P: Ptr, S: NonZeroInxGenericStack<DirectSlot<P, P>>> Recaster for DirectAre
 impl<I, P: Ptr, T: Recast<I>, S: NonZeroInxGenericStack<DirectSlot<P, T>>> Recast<I>
     for DirectArena<P, T, S> {
     ghost use Rattle.std.proofs.Common.{ap};
-    ghost use Rattle.triple_arena.specs.HeldSlots.{held_slots, refill_slots, slots_held_refill, slots_refill_held, slots_refill_refill};
+    ghost use Rattle.triple_arena_traits.specs.HeldSlots.{held_slots, refill_slots, slots_held_refill, slots_refill_held, slots_refill_refill};
 
     ghost held = { λ s. held_slots T.held T.refill s.slots };
 

@@ -5,20 +5,20 @@ ghost use Rattle.std.specs.Result.{IfErr};
 ghost use Rattle.triple_arena_base.specs.Held.{held_all};
 ghost use Rattle.triple_arena_base.specs.Invalidation.{allowed_option};
 ghost use Rattle.triple_arena_ptr.specs.Pointers.{Pointer};
-ghost use Rattle.triple_arena.specs.Entries.{look_up_in, entry_count};
-ghost use Rattle.triple_arena.specs.Ending.{told};
-ghost use Rattle.triple_arena.specs.Histories.{History, compression, begun_with, CountsUp, Continues};
-ghost use Rattle.triple_arena.specs.Walks.{keys, values};
+ghost use Rattle.triple_arena_traits.specs.Entries.{look_up_in, entry_count};
+ghost use Rattle.triple_arena_traits.specs.Ending.{told};
+ghost use Rattle.triple_arena_traits.specs.Histories.{History, compression, begun_with, CountsUp, Continues};
+ghost use Rattle.triple_arena_traits.specs.Walks.{keys, values};
 ghost use Rattle.triple_arena_direct.specs.Renaming.{MapsPointers, first_unresolved, AreRenamed, WantsMemory, Refuses};
 
 use crate::direct_arena::DirectArena;
 use std::alloc::Global;
 use std::convert::Infallible;
-use triple_arena::{ArenaCloneFromWith, ArenaTrait, CompactArenaTrait, recast_entries};
 use triple_arena_base::{
     Advancer, CloneFromError, CompactError, InvalidationOption, ReallocationError, Recast,
 };
 use triple_arena_ptr::{Ptr, PtrGen};
+use triple_arena_traits::{ArenaCloneFromWith, ArenaTrait, CompactArenaTrait, recast_entries};
 
 /// Compresses the arena, and gives the map from each old pointer of an entry to its new one: a
 /// recaster, by which the pointers to these entries that are kept elsewhere can follow. It has no

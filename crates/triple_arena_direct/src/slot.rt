@@ -3,11 +3,11 @@
 ghost use Rattle.std.specs.Prelude.{◌≡◌, None};
 ghost use Rattle.std.specs.Borrow.{LendsIf, sem};
 ghost use Rattle.std.specs.Option.{option_map, option_copied_mut};
-ghost use Rattle.triple_arena.specs.Disjoint.{value_of};
+ghost use Rattle.triple_arena_traits.specs.Disjoint.{value_of};
 ghost use Rattle.triple_arena_direct.specs.Slot.{slot_entry, with_slot_value};
 
-use triple_arena::EntrySlot;
 use triple_arena_ptr::{Ptr, PtrGen};
+use triple_arena_traits::EntrySlot;
 
 /// A slot of a direct arena: free, or with an entry, which has a generation and a value.
 #[derive(Drop)]

@@ -4,24 +4,24 @@ ghost use Rattle.std.specs.Prelude.{◌≡◌, ◌≤◌, length, map, Some, Non
 ghost use Rattle.std.specs.Borrow.{sem};
 ghost use Rattle.std.specs.Int.NonZero.{non_zero_usize_get};
 ghost use Rattle.std.specs.Option.{option_map};
-ghost use Rattle.triple_arena.specs.Items.{with_item};
+ghost use Rattle.triple_arena_traits.specs.Items.{with_item};
 ghost use Rattle.triple_arena_stack.specs.Capacity.{capacity_of};
-ghost use Rattle.triple_arena.specs.Entries.{entry_count};
-ghost use Rattle.triple_arena.specs.FreeList.{last_index};
-ghost use Rattle.triple_arena.specs.Walks.{entries};
-ghost use Rattle.triple_arena.specs.Copying.{Copies};
-ghost use Rattle.triple_arena.specs.FreeEnd.{extended};
+ghost use Rattle.triple_arena_traits.specs.Entries.{entry_count};
+ghost use Rattle.triple_arena_traits.specs.FreeList.{last_index};
+ghost use Rattle.triple_arena_traits.specs.Walks.{entries};
+ghost use Rattle.triple_arena_traits.specs.Copying.{Copies};
+ghost use Rattle.triple_arena_traits.specs.FreeEnd.{extended};
 ghost use Rattle.triple_arena_direct.specs.Slot.{slot_entry};
 ghost use Rattle.triple_arena_direct.specs.Layout.{entry_at};
 
 use crate::slot::DirectSlot;
 use std::marker::PhantomData;
 use std::num::NonZeroUsize;
-use triple_arena::copying::copy_entries;
-use triple_arena::entry_slots::{count_live, extend, replace};
-use triple_arena::{ArenaTrait, CompactArenaTrait, EntrySlot};
 use triple_arena_ptr::{Ptr, PtrGen};
 use triple_arena_stack::NonZeroInxGenericStack;
+use triple_arena_traits::copying::copy_entries;
+use triple_arena_traits::entry_slots::{count_live, extend, replace};
+use triple_arena_traits::{ArenaTrait, CompactArenaTrait, EntrySlot};
 
 // The slots of a direct arena.
 #[derive(Drop)]

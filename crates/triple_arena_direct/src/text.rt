@@ -3,10 +3,10 @@
 use crate::direct_arena::DirectArena;
 use crate::slot::DirectSlot;
 use std::fmt;
-use triple_arena::ArenaTrait;
 use triple_arena_base::Advancer;
 use triple_arena_ptr::Ptr;
 use triple_arena_stack::NonZeroInxGenericStack;
+use triple_arena_traits::ArenaTrait;
 
 impl<P: Ptr, T: fmt::Debug, S: NonZeroInxGenericStack<DirectSlot<P, T>>> fmt::Debug
     for DirectArena<P, T, S> {

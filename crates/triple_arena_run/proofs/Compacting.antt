@@ -6,18 +6,19 @@ use Rattle.std.proofs.lemmas.Option.{same_Some, slice_get-map}
 use Rattle.std.specs.Option.{option_map}
 use Rattle.triple_arena_ptr.specs.Pointers.{Pointer, is_same}
 use Rattle.triple_arena_stack.specs.StackKind.{StackKind}
-use Rattle.triple_arena.specs.Entries.{entry_count}
-use Rattle.triple_arena.specs.ArenaState.{ArenaState, look_up, IsWellFormed}
-use Rattle.triple_arena.specs.Walks.{keys, values}
-use Rattle.triple_arena.specs.Compression.{compressed, rank}
-use Rattle.triple_arena.specs.Histories.{has, AreDistinct, is_live}
-use Rattle.triple_arena.proofs.WellFormed.{len_within}
+use Rattle.triple_arena_traits.specs.Entries.{entry_count}
+use Rattle.triple_arena_traits.specs.ArenaState.{ArenaState, look_up, IsWellFormed}
+use Rattle.triple_arena_traits.specs.Walks.{keys, values}
+use Rattle.triple_arena_traits.specs.Compression.{compressed, rank}
+use Rattle.triple_arena_traits.specs.Histories.{has, AreDistinct, is_live}
+use Rattle.triple_arena_traits.proofs.WellFormed.{len_within}
 use Rattle.triple_arena.proofs.PointerLists.{same_itself, same_is, has_head, has_tail, has-keys, false_unless}
 use Rattle.triple_arena_run.specs.SessionState.{SessionState, name_of, link_name}
 use Rattle.triple_arena_run.specs.Compaction.{renamed, relinked, compacted}
 use Rattle.triple_arena_run.specs.Shown.{as_row, row_of, shown, IsSound}
-use Rattle.triple_arena.specs.CompressionLaws.{length-values, rank_apart, keys-compressed, values-compressed}
-use Rattle.triple_arena.proofs.Compaction.{nth_found, found_nth, IsWellFormed-compressed}
+use Rattle.triple_arena_traits.specs.CompressionLaws.{length-values, rank_apart, keys-compressed, values-compressed}
+use Rattle.triple_arena_traits.proofs.Compaction.{nth_found, found_nth}
+use Rattle.triple_arena.proofs.Compaction.{IsWellFormed-compressed}
 use Rattle.triple_arena_run.proofs.TableNames.{not_same, has_from_get, name_of-map, map_same}
 use Rattle.triple_arena_run.proofs.Rows.{some_is, some_has}
 use Rattle.triple_arena_run.proofs.Soundness.{IsSound-from}

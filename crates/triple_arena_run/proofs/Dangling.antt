@@ -6,15 +6,15 @@ use Rattle.std.specs.List.{list_any}
 use Rattle.std.specs.Option.{option_map, option_and_then}
 use Rattle.triple_arena_ptr.specs.Pointers.{Pointer}
 use Rattle.triple_arena_stack.specs.StackKind.{StackKind}
-use Rattle.triple_arena.specs.ArenaState.{look_up}
-use Rattle.triple_arena.specs.Walks.{entries, values}
-use Rattle.triple_arena.specs.Histories.{has, is_live}
+use Rattle.triple_arena_traits.specs.ArenaState.{look_up}
+use Rattle.triple_arena_traits.specs.Walks.{entries, values}
+use Rattle.triple_arena_traits.specs.Histories.{has, is_live}
 use Rattle.triple_arena_run.specs.SessionState.{SessionState, name_of}
 use Rattle.triple_arena_run.specs.Compaction.{dangles, any_dangles}
 use Rattle.triple_arena_run.specs.NameStore.{NameRow, row, row_dangles}
 use Rattle.triple_arena_run.specs.Shown.{as_row, row_of, shown, IsSound}
-use Rattle.triple_arena.proofs.ItemLists.{item-map}
-use Rattle.triple_arena.proofs.Compaction.{nth_found, found_nth}
+use Rattle.triple_arena_traits.proofs.ItemLists.{item-map}
+use Rattle.triple_arena_traits.proofs.Compaction.{nth_found, found_nth}
 use Rattle.triple_arena_run.proofs.TableNames.{item_of_name, get_from_has}
 
 module _ {A : Type 0} (test : A → Bool) where

@@ -8,15 +8,15 @@ use Rattle.std.proofs.lemmas.Option.{slice_get-map}
 use Rattle.triple_arena_stack.specs.StackKind.{StackKind, reallocated_room}
 use Rattle.triple_arena_stack.specs.Capacity.{next_capacity}
 use Rattle.triple_arena_ptr.specs.Pointers.{Pointer}
-use Rattle.triple_arena.specs.Items.{item, with_item}
-use Rattle.triple_arena.specs.Entries.{value_under, entry_count, entry_in}
-use Rattle.triple_arena.specs.ArenaState.{ArenaState, arena_len, capacity, entry, look_up, slot_count, with_value, map_entry, map_values}
-use Rattle.triple_arena.specs.Insertion.{place_among, inserted_among, inserted, next_pointer}
-use Rattle.triple_arena.specs.FreeList.{before, trimmed, gaps, tidied}
-use Rattle.triple_arena.specs.Capacity.{with_room_for, grown, reallocated}
-use Rattle.triple_arena.specs.Ending.{removed, invalidated, cleared}
-use Rattle.triple_arena.specs.Walks.{entries_from, values_of}
-use Rattle.triple_arena.specs.Compression.{closed_up, compressed, rank}
+use Rattle.triple_arena_traits.specs.Items.{item, with_item}
+use Rattle.triple_arena_traits.specs.Entries.{value_under, entry_count, entry_in}
+use Rattle.triple_arena_traits.specs.ArenaState.{ArenaState, arena_len, capacity, entry, look_up, slot_count, with_value, map_entry, map_values}
+use Rattle.triple_arena_traits.specs.Insertion.{place_among, inserted_among, inserted, next_pointer}
+use Rattle.triple_arena_traits.specs.FreeList.{before, trimmed, gaps, tidied}
+use Rattle.triple_arena_traits.specs.Capacity.{with_room_for, grown, reallocated}
+use Rattle.triple_arena_traits.specs.Ending.{removed, invalidated, cleared}
+use Rattle.triple_arena_traits.specs.Walks.{entries_from, values_of}
+use Rattle.triple_arena_traits.specs.Compression.{closed_up, compressed, rank}
 
 module _ {A B : Type 0} (f : A → B) where
   pub item-map : (xs : List A) (i : ℕ) → item (map f xs) i ≡ option_map f (item xs i)

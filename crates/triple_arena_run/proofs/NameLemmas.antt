@@ -8,7 +8,7 @@ use Rattle.std.proofs.lemmas.List.{map-append, map-set}
 use Rattle.std.proofs.lemmas.Option.{slice_get_within, get_or_from_slice_get, slice_get-get_or, slice_get-map, slice_get_cases}
 use Rattle.triple_arena_base.specs.Held.{recast_item, item_answer}
 use Rattle.triple_arena_ptr.specs.NonZeroValues.{same_pair}
-use Rattle.triple_arena.specs.Items.{item, with_item}
+use Rattle.triple_arena_traits.specs.Items.{item, with_item}
 use Rattle.triple_arena_ptr.specs.Pointers.{Pointer, is_same}
 use Rattle.triple_arena_run.specs.declared.name_table.Row.{Row}
 use Rattle.triple_arena_run.specs.SessionState.{name_of}

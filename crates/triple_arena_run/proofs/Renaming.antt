@@ -10,11 +10,11 @@ use Rattle.triple_arena_base.specs.Invalidation.{allowed_option, overflowing_opt
 use Rattle.triple_arena_ptr.specs.Numbers.{raise, wraps}
 use Rattle.triple_arena_ptr.specs.Pointers.{Pointer}
 use Rattle.triple_arena_stack.specs.StackKind.{StackKind}
-use Rattle.triple_arena.specs.Entries.{look_up_in}
-use Rattle.triple_arena.specs.ArenaState.{ArenaState, look_up, map_values}
-use Rattle.triple_arena.specs.Walks.{values}
-use Rattle.triple_arena.specs.Compression.{compressed, rank, raised_if_any, wraps_after}
-use Rattle.triple_arena.specs.Ending.{told}
+use Rattle.triple_arena_traits.specs.Entries.{look_up_in}
+use Rattle.triple_arena_traits.specs.ArenaState.{ArenaState, look_up, map_values}
+use Rattle.triple_arena_traits.specs.Walks.{values}
+use Rattle.triple_arena_traits.specs.Compression.{compressed, rank, raised_if_any, wraps_after}
+use Rattle.triple_arena_traits.specs.Ending.{told}
 use Rattle.triple_arena_direct.specs.Renaming.{MapsPointers, IsRenamed, AreRenamed, first_unresolved}
 use Rattle.triple_arena_run.specs.declared.node.Node.{Node}
 use Rattle.triple_arena_run.specs.declared.reply.Reply.{Reply}

@@ -8,13 +8,13 @@ use Rattle.triple_arena_ptr.specs.Pointers.{Pointer}
 use Rattle.triple_arena_stack.specs.StackKind.{StackKind, IsOfKind, reallocated_room}
 use Rattle.triple_arena_stack.specs.StackKind.StackKind.{heap, limited, fixed, array}
 use Rattle.triple_arena_stack.specs.Capacity.{capacity_of, IsWithin, IsBeyond}
-use Rattle.triple_arena.specs.Entries.{value_under, KeepsEntries}
-use Rattle.triple_arena.specs.ArenaState.{ArenaState, arena_len, capacity, slot_count, IsWellFormed}
-use Rattle.triple_arena.specs.FreeList.{tidied}
-use Rattle.triple_arena.specs.Capacity.{reallocated}
-use Rattle.triple_arena.specs.EntryLaws.{slots-settled}
-use Rattle.triple_arena.specs.Histories.{resizing, Continues, Fits}
-use Rattle.triple_arena.proofs.WellFormed.{len_within}
+use Rattle.triple_arena_traits.specs.Entries.{value_under, KeepsEntries}
+use Rattle.triple_arena_traits.specs.ArenaState.{ArenaState, arena_len, capacity, slot_count, IsWellFormed}
+use Rattle.triple_arena_traits.specs.FreeList.{tidied}
+use Rattle.triple_arena_traits.specs.Capacity.{reallocated}
+use Rattle.triple_arena_traits.specs.EntryLaws.{slots-settled}
+use Rattle.triple_arena_traits.specs.Histories.{resizing, Continues, Fits}
+use Rattle.triple_arena_traits.proofs.WellFormed.{len_within}
 use Rattle.triple_arena.proofs.Tidying.{IsWellFormed-tidied}
 use Rattle.triple_arena.proofs.Steps.{reallocated_stays}
 use Rattle.triple_arena.proofs.HistoryLaws.{Continues-resized}

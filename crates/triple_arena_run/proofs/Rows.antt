@@ -5,14 +5,14 @@ use Rattle.std.proofs.lemmas.Option.{same_Some}
 use Rattle.std.proofs.lemmas.List.Sums.{sum_by-cons}
 use Rattle.std.specs.Option.{option_map, option_and_then}
 use Rattle.triple_arena_stack.specs.StackKind.{StackKind}
-use Rattle.triple_arena.specs.Items.{item, with_item}
-use Rattle.triple_arena.specs.ItemLaws.{eq_true, eq_false}
+use Rattle.triple_arena_traits.specs.Items.{item, with_item}
+use Rattle.triple_arena_traits.specs.ItemLaws.{eq_true, eq_false}
 use Rattle.triple_arena_ptr.specs.Pointers.{Pointer, is_same}
-use Rattle.triple_arena.specs.Entries.{value_under, entry_count, ChangesAt}
-use Rattle.triple_arena.specs.ArenaState.{ArenaState, entry, look_up, arena_len}
-use Rattle.triple_arena.specs.Walks.{keys}
-use Rattle.triple_arena.specs.WalkLaws.{found}
-use Rattle.triple_arena.specs.Histories.{has, AreDistinct, is_live}
+use Rattle.triple_arena_traits.specs.Entries.{value_under, entry_count, ChangesAt}
+use Rattle.triple_arena_traits.specs.ArenaState.{ArenaState, entry, look_up, arena_len}
+use Rattle.triple_arena_traits.specs.Walks.{keys}
+use Rattle.triple_arena_traits.specs.WalkLaws.{found}
+use Rattle.triple_arena_traits.specs.Histories.{has, AreDistinct, is_live}
 use Rattle.triple_arena_run.specs.SessionState.{SessionState, name_of}
 use Rattle.triple_arena_run.specs.NameStore.{row_count}
 use Rattle.triple_arena_run.specs.Shown.{as_row, row_of, shown, IsSound}

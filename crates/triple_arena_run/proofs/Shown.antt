@@ -14,12 +14,12 @@ use Rattle.triple_arena_ptr.specs.Numbers.{raise, wraps}
 use Rattle.triple_arena_ptr.specs.Pointers.{Pointer}
 use Rattle.triple_arena_stack.specs.StackKind.{StackKind}
 use Rattle.triple_arena_stack.specs.Capacity.{IsWithin, IsBeyond, room_for_one_more, CanGrow}
-use Rattle.triple_arena.specs.Items.{item}
-use Rattle.triple_arena.specs.ArenaState.{ArenaState, arena_len, capacity, look_up, with_value, map_values}
-use Rattle.triple_arena.specs.Insertion.{inserted, next_pointer}
-use Rattle.triple_arena.specs.FreeList.{tidied}
-use Rattle.triple_arena.specs.Capacity.{grown, reallocated, KeepsRoom}
-use Rattle.triple_arena.specs.Ending.{told_of, map_told, removed, invalidated}
+use Rattle.triple_arena_traits.specs.Items.{item}
+use Rattle.triple_arena_traits.specs.ArenaState.{ArenaState, arena_len, capacity, look_up, with_value, map_values}
+use Rattle.triple_arena_traits.specs.Insertion.{inserted, next_pointer}
+use Rattle.triple_arena_traits.specs.FreeList.{tidied}
+use Rattle.triple_arena_traits.specs.Capacity.{grown, reallocated, KeepsRoom}
+use Rattle.triple_arena_traits.specs.Ending.{told_of, map_told, removed, invalidated}
 use Rattle.triple_arena_run.specs.declared.command.Command.TheVariants.{Reserve}
 use Rattle.triple_arena_run.specs.declared.node.Node.{Node}
 use Rattle.triple_arena_run.specs.declared.reply.Reply.{Reply}

@@ -4,8 +4,8 @@ use Rattle.std.proofs.lemmas.Bool.{and_parts}
 use Rattle.std.proofs.lemmas.List.{append-nil}
 use Rattle.triple_arena_ptr.specs.Pointers.{Pointer, is_same}
 use Rattle.triple_arena_stack.specs.StackKind.{StackKind, IsOfKind}
-use Rattle.triple_arena.specs.ArenaState.{ArenaState, look_up, IsWellFormed}
-use Rattle.triple_arena.specs.Histories.{has, AreDistinct, ModelCall, clearing, given_by, History, begun_with, and_then, given, ended, is_live, Fits, Continues}
+use Rattle.triple_arena_traits.specs.ArenaState.{ArenaState, look_up, IsWellFormed}
+use Rattle.triple_arena_traits.specs.Histories.{has, AreDistinct, ModelCall, clearing, given_by, History, begun_with, and_then, given, ended, is_live, Fits, Continues}
 use Rattle.triple_arena.proofs.PointerLists.{same_is}
 use Rattle.triple_arena_run.specs.SessionState.{SessionState}
 use Rattle.triple_arena_run.specs.Shown.{IsSound}

@@ -11,13 +11,13 @@ use Rattle.triple_arena_ptr.specs.Pointers.{Pointer}
 use Rattle.triple_arena_stack.specs.StackKind.{StackKind, IsOfKind, reallocated_room}
 use Rattle.triple_arena_stack.specs.StackKind.StackKind.{heap, limited, fixed, array}
 use Rattle.triple_arena_stack.specs.Capacity.{capacity_of, next_capacity}
-use Rattle.triple_arena.specs.Entries.{value_under, ChangesAt}
-use Rattle.triple_arena.specs.ArenaState.{ArenaState, entry, look_up, arena_len, capacity, slot_count, IsWellFormed}
-use Rattle.triple_arena.specs.Insertion.{place, next_pointer, inserted}
-use Rattle.triple_arena.specs.Capacity.{grown, with_room_for}
-use Rattle.triple_arena.specs.EntryLaws.{doubled, slots-inserted, fitting-inserted, limit-inserted}
-use Rattle.triple_arena.specs.Histories.{has, insertion, Continues, Fits}
-use Rattle.triple_arena.proofs.WellFormed.{IsWellFormed-inserted, kept-inserted, place_free, len_within}
+use Rattle.triple_arena_traits.specs.Entries.{value_under, ChangesAt}
+use Rattle.triple_arena_traits.specs.ArenaState.{ArenaState, entry, look_up, arena_len, capacity, slot_count, IsWellFormed}
+use Rattle.triple_arena_traits.specs.Insertion.{place, next_pointer, inserted}
+use Rattle.triple_arena_traits.specs.Capacity.{grown, with_room_for}
+use Rattle.triple_arena_traits.specs.EntryLaws.{doubled, slots-inserted, fitting-inserted, limit-inserted}
+use Rattle.triple_arena_traits.specs.Histories.{has, insertion, Continues, Fits}
+use Rattle.triple_arena_traits.proofs.WellFormed.{IsWellFormed-inserted, kept-inserted, place_free, len_within}
 use Rattle.triple_arena.proofs.HistoryLaws.{Continues-kept, Continues-inserted, Continues-append}
 use Rattle.triple_arena_run.specs.declared.command.Command.TheVariants.{Insert, InsertWithin}
 use Rattle.triple_arena_run.specs.declared.reply.Reply.{Reply}

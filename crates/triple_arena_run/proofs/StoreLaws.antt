@@ -7,11 +7,11 @@ use Rattle.std.proofs.lemmas.List.{length-map}
 use Rattle.triple_arena_ptr.specs.Numbers.{raise, wraps, first_generation}
 use Rattle.triple_arena_ptr.specs.Pointers.{Pointer}
 use Rattle.triple_arena_stack.specs.StackKind.{StackKind, IsOfKind}
-use Rattle.triple_arena.specs.ArenaState.{arena_len, capacity, new_arena}
-use Rattle.triple_arena.specs.Walks.{keys, values}
-use Rattle.triple_arena.specs.Compression.{raised_if_any}
-use Rattle.triple_arena.specs.Histories.{compression, is_live, Continues, Fits}
-use Rattle.triple_arena.proofs.WellFormed.{IsWellFormed-empty}
+use Rattle.triple_arena_traits.specs.ArenaState.{arena_len, capacity, new_arena}
+use Rattle.triple_arena_traits.specs.Walks.{keys, values}
+use Rattle.triple_arena_traits.specs.Compression.{raised_if_any}
+use Rattle.triple_arena_traits.specs.Histories.{compression, is_live, Continues, Fits}
+use Rattle.triple_arena_traits.proofs.WellFormed.{IsWellFormed-empty}
 use Rattle.triple_arena.proofs.HistoryLaws.{Continues-compressed}
 use Rattle.triple_arena_run.specs.declared.command.Command.{Command}
 use Rattle.triple_arena_run.specs.declared.command.Command.TheVariants.{Insert, InsertWithin, Get, Set, Remove, Invalidate, Clear, Compact, Len, Capacity, Reserve, Show}
@@ -25,7 +25,7 @@ use Rattle.triple_arena_run.specs.NameStore.{Store, row_dangles, store_answer, R
 use Rattle.triple_arena_run.specs.StoreRuns.{without_wrap}
 use Rattle.triple_arena_run.specs.SessionCalls.{calls_of}
 use Rattle.triple_arena_run.specs.Shown.{as_row, shown, IsSound}
-use Rattle.triple_arena.specs.CompressionLaws.{length-values}
+use Rattle.triple_arena_traits.specs.CompressionLaws.{length-values}
 use Rattle.triple_arena_run.proofs.Rows.{row_count-shown}
 use Rattle.triple_arena_run.proofs.StoreSteps.{row_named, good_link, raised_by_one, unmoved, Agrees, agrees, agrees_same, agrees_get, agrees_len, agrees_capacity, agrees_set, agrees_remove, agrees_invalidate, agrees_clear}
 use Rattle.triple_arena_run.proofs.StoreInsertions.{refusal-shown, agrees_insert, agrees_within}

@@ -7,15 +7,15 @@ use Rattle.std.proofs.lemmas.List.{map-append, append-nil, length-map}
 use Rattle.triple_arena_ptr.specs.Numbers.{raise, wraps}
 use Rattle.triple_arena_ptr.specs.Pointers.{Pointer}
 use Rattle.triple_arena_stack.specs.StackKind.{StackKind}
-use Rattle.triple_arena.specs.Items.{item, with_item}
-use Rattle.triple_arena.specs.Entries.{value_under, ChangesAt, with_generation_in}
-use Rattle.triple_arena.specs.ArenaState.{ArenaState, entry, look_up, arena_len, capacity, with_value, IsWellFormed}
-use Rattle.triple_arena.specs.Ending.{removed, invalidated, cleared}
-use Rattle.triple_arena.specs.EntryLaws.{slots-removed, slots-invalidated, slots-cleared, changes_at, fitting-removed}
-use Rattle.triple_arena.specs.Walks.{keys}
-use Rattle.triple_arena.specs.Histories.{has, removal, invalidation, clearing, Continues, Fits}
-use Rattle.triple_arena.proofs.ItemLists.{length-with_item, item-map}
-use Rattle.triple_arena.proofs.WellFormed.{live_item, IsWellFormed-removed, IsWellFormed-with_entry, IsWellFormed-counter, IsWellFormed-empty, room-removed, limit-removed, greatest-removed, with_value_is, with_generation_is}
+use Rattle.triple_arena_traits.specs.Items.{item, with_item}
+use Rattle.triple_arena_traits.specs.Entries.{value_under, ChangesAt, with_generation_in}
+use Rattle.triple_arena_traits.specs.ArenaState.{ArenaState, entry, look_up, arena_len, capacity, with_value, IsWellFormed}
+use Rattle.triple_arena_traits.specs.Ending.{removed, invalidated, cleared}
+use Rattle.triple_arena_traits.specs.EntryLaws.{slots-removed, slots-invalidated, slots-cleared, changes_at, fitting-removed}
+use Rattle.triple_arena_traits.specs.Walks.{keys}
+use Rattle.triple_arena_traits.specs.Histories.{has, removal, invalidation, clearing, Continues, Fits}
+use Rattle.triple_arena_traits.proofs.ItemLists.{length-with_item, item-map}
+use Rattle.triple_arena_traits.proofs.WellFormed.{live_item, IsWellFormed-removed, IsWellFormed-with_entry, IsWellFormed-counter, IsWellFormed-empty, room-removed, limit-removed, greatest-removed, with_value_is, with_generation_is}
 use Rattle.triple_arena.proofs.PointerLists.{has-append}
 use Rattle.triple_arena.proofs.HistoryLaws.{Continues-written, Continues-none, Continues-removed, Continues-invalidated, Continues-cleared}
 use Rattle.triple_arena_run.specs.declared.command.Command.{Command}

@@ -5,10 +5,10 @@ use Rattle.std.proofs.lemmas.Bool.Decides.{nat_tests}
 use Rattle.std.proofs.lemmas.List.Sums.{sum_by-cons}
 use Rattle.std.specs.List.{position, position_or_len}
 use Rattle.std.specs.Option.{option_map}
-use Rattle.triple_arena.specs.Items.{item, with_item}
+use Rattle.triple_arena_traits.specs.Items.{item, with_item}
 use Rattle.triple_arena_ptr.specs.Pointers.{Pointer, is_same}
 use Rattle.triple_arena_run.specs.SessionState.{name_of, link_name, link_pointer}
-use Rattle.triple_arena.specs.Histories.{has, AreDistinct}
+use Rattle.triple_arena_traits.specs.Histories.{has, AreDistinct}
 use Rattle.triple_arena.proofs.PointerLists.{same_itself, same_is, has_head, has_tail, or_none}
 
 pub not_same : (p q : Pointer) → p ≢ q → is_same p q ≡ false

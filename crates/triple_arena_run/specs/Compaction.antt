@@ -3,9 +3,9 @@ use Rattle.std.specs.Prelude.{ℕ, Bool, false, not, cond, map, Option, Some, No
 use Rattle.std.specs.Option.{option_map}
 use Rattle.std.specs.List.{list_any}
 use Rattle.triple_arena_ptr.specs.Pointers.{Pointer}
-use Rattle.triple_arena.specs.ArenaState.{ArenaState, look_up}
-use Rattle.triple_arena.specs.Walks.{values}
-use Rattle.triple_arena.specs.Compression.{compressed, rank}
+use Rattle.triple_arena_traits.specs.ArenaState.{ArenaState, look_up}
+use Rattle.triple_arena_traits.specs.Walks.{values}
+use Rattle.triple_arena_traits.specs.Compression.{compressed, rank}
 use Rattle.triple_arena_run.specs.SessionState.{SessionState}
 
 module _ {X : Type 0} where

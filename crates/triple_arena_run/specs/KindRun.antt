@@ -2,7 +2,7 @@
 use Rattle.std.specs.Prelude.{ℕ, ◌^◌, ◌-◌, true, List, Option, None, Some, Result}
 use Rattle.triple_arena_ptr.specs.Numbers.{greatest_index, first_generation}
 use Rattle.triple_arena_stack.specs.StackKind.{StackKind, heap, limited, fixed, array}
-use Rattle.triple_arena.specs.ArenaState.{new_arena}
+use Rattle.triple_arena_traits.specs.ArenaState.{new_arena}
 use Rattle.triple_arena_run.specs.SessionState.{SessionState, new_session}
 use Rattle.triple_arena_run.specs.SessionRun.{IsStep}
 use Rattle.triple_arena_run.specs.TextRun.{IsFlushedRun}

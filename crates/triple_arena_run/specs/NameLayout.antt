@@ -1,7 +1,7 @@
 -- What the fields of a table of names hold. No public clause cites this module.
 use Rattle.std.specs.Prelude.{◌≡◌, ℕ, ◌≤◌, ◌<◌, Bool, true, false, List, Option, Some, None, map, slice_get, unwrap_or, MatchOption}
 use Rattle.triple_arena_base.specs.Held.{recast_item}
-use Rattle.triple_arena.specs.Items.{item, with_item}
+use Rattle.triple_arena_traits.specs.Items.{item, with_item}
 use Rattle.triple_arena_ptr.specs.Pointers.{Pointer}
 use Rattle.triple_arena_run.specs.declared.name_table.Row.{Row}
 

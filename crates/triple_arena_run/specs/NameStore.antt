@@ -3,7 +3,7 @@ use Rattle.std.specs.Prelude.{◌≡◌, ℕ, ◌<◌, ◌≤◌, ◌+◌, ◌==
 use Rattle.std.specs.Option.{option_and_then}
 use Rattle.std.specs.List.{list_any}
 use Rattle.triple_arena_stack.specs.Capacity.{capacity_of, IsWithin, IsBeyond, next_capacity}
-use Rattle.triple_arena.specs.Items.{item, with_item}
+use Rattle.triple_arena_traits.specs.Items.{item, with_item}
 use Rattle.triple_arena_run.specs.declared.command.Command.{Command}
 use Rattle.triple_arena_run.specs.declared.command.Command.TheVariants.{Insert, InsertWithin, Get, Set, Remove, Invalidate, Clear, Compact, Len, Capacity, Reserve, Show}
 use Rattle.triple_arena_run.specs.declared.reply.Reply.{Reply}

@@ -1,11 +1,11 @@
 -- The model calls on the arena of a session that a command is, and those of commands one after another.
 use Rattle.std.specs.Prelude.{◌+◌, List, [], ◌∷◌, ◌++◌, Option, Some, None}
 use Rattle.triple_arena_ptr.specs.Pointers.{Pointer}
-use Rattle.triple_arena.specs.Items.{item}
-use Rattle.triple_arena.specs.Insertion.{next_pointer}
-use Rattle.triple_arena.specs.Walks.{keys}
-use Rattle.triple_arena.specs.Compression.{raised_if_any}
-use Rattle.triple_arena.specs.Histories.{ModelCall, insertion, removal, invalidation, clearing, compression, resizing, Fits, Continues}
+use Rattle.triple_arena_traits.specs.Items.{item}
+use Rattle.triple_arena_traits.specs.Insertion.{next_pointer}
+use Rattle.triple_arena_traits.specs.Walks.{keys}
+use Rattle.triple_arena_traits.specs.Compression.{raised_if_any}
+use Rattle.triple_arena_traits.specs.Histories.{ModelCall, insertion, removal, invalidation, clearing, compression, resizing, Fits, Continues}
 use Rattle.triple_arena_run.specs.declared.command.Command.{Command}
 use Rattle.triple_arena_run.specs.declared.command.Command.TheVariants.{Insert, InsertWithin, Remove, Invalidate, Clear, Compact, Reserve}
 use Rattle.triple_arena_run.specs.declared.reply.Reply.{Reply}

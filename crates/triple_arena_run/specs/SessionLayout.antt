@@ -1,7 +1,7 @@
 -- What the fields of a session hold. No public clause cites this module.
 use Rattle.std.specs.Prelude.{ℕ, List, map}
 use Rattle.triple_arena_ptr.specs.Pointers.{Pointer}
-use Rattle.triple_arena.specs.ArenaState.{ArenaState, map_values}
+use Rattle.triple_arena_traits.specs.ArenaState.{ArenaState, map_values}
 use Rattle.triple_arena_run.specs.declared.node.Node.{Node}
 use Rattle.triple_arena_run.specs.SessionState.{SessionState, node_of}
 

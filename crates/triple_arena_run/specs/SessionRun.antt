@@ -7,13 +7,13 @@ use Rattle.triple_arena_ptr.specs.Numbers.{raise, wraps}
 use Rattle.triple_arena_ptr.specs.Pointers.{Pointer}
 use Rattle.triple_arena_stack.specs.StackKind.{StackKind}
 use Rattle.triple_arena_stack.specs.Capacity.{IsWithin, room_for_one_more, CanGrow}
-use Rattle.triple_arena.specs.Items.{item}
-use Rattle.triple_arena.specs.ArenaState.{ArenaState, arena_len, capacity, look_up, with_value}
-use Rattle.triple_arena.specs.Insertion.{inserted, next_pointer}
-use Rattle.triple_arena.specs.FreeList.{tidied}
-use Rattle.triple_arena.specs.Capacity.{grown, reallocated, KeepsRoom}
-use Rattle.triple_arena.specs.Ending.{removed, invalidated, cleared}
-use Rattle.triple_arena.specs.Compression.{raised_if_any, wraps_after}
+use Rattle.triple_arena_traits.specs.Items.{item}
+use Rattle.triple_arena_traits.specs.ArenaState.{ArenaState, arena_len, capacity, look_up, with_value}
+use Rattle.triple_arena_traits.specs.Insertion.{inserted, next_pointer}
+use Rattle.triple_arena_traits.specs.FreeList.{tidied}
+use Rattle.triple_arena_traits.specs.Capacity.{grown, reallocated, KeepsRoom}
+use Rattle.triple_arena_traits.specs.Ending.{removed, invalidated, cleared}
+use Rattle.triple_arena_traits.specs.Compression.{raised_if_any, wraps_after}
 use Rattle.triple_arena_run.specs.declared.command.Command.{Command}
 use Rattle.triple_arena_run.specs.declared.command.Command.TheVariants.{Insert, InsertWithin, Get, Set, Remove, Invalidate, Clear, Compact, Len, Capacity, Reserve, Show}
 use Rattle.triple_arena_run.specs.declared.reply.Reply.{Reply}

@@ -3,8 +3,8 @@ use Rattle.std.specs.Prelude.{◌≡◌, ◌≤◌, ◌<◌, List, map, Option, 
 use Rattle.std.specs.Option.{option_map}
 use Rattle.triple_arena_ptr.specs.Pointers.{Pointer}
 use Rattle.triple_arena_stack.specs.StackKind.{StackKind, IsOfKind}
-use Rattle.triple_arena.specs.ArenaState.{ArenaState, look_up, capacity, IsWellFormed}
-use Rattle.triple_arena.specs.Histories.{has, AreDistinct, is_live}
+use Rattle.triple_arena_traits.specs.ArenaState.{ArenaState, look_up, capacity, IsWellFormed}
+use Rattle.triple_arena_traits.specs.Histories.{has, AreDistinct, is_live}
 use Rattle.triple_arena_run.specs.SessionState.{SessionState, link_name}
 use Rattle.triple_arena_run.specs.NameStore.{NameRow, Store}
 

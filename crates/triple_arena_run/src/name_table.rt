@@ -4,7 +4,7 @@ ghost use Rattle.std.specs.Prelude.{◌≡◌, ◌+◌, ◌<◌, ◌++◌, ◌�
 ghost use Rattle.std.specs.List.{position};
 ghost use Rattle.triple_arena_base.specs.Held.{recast_item};
 ghost use Rattle.triple_arena_stack.specs.Capacity.{room_for_one_more};
-ghost use Rattle.triple_arena.specs.Items.{item, with_item};
+ghost use Rattle.triple_arena_traits.specs.Items.{item, with_item};
 ghost use Rattle.triple_arena_ptr.specs.Pointers.{is_same};
 ghost use Rattle.triple_arena_run.specs.SessionState.{name_of};
 ghost use Rattle.triple_arena_run.specs.NameLayout.{pointers_of, noted_number, notes_of, Notes, RecastsAt};

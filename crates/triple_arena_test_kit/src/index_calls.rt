@@ -2,7 +2,7 @@
 
 ghost use Rattle.std.specs.Prelude.{◌≡◌, ◌↔◌, IsSome, IsTrue, Some};
 ghost use Rattle.std.specs.Option.{option_map};
-ghost use Rattle.triple_arena.specs.ArenaState.{entry, look_up, with_value};
+ghost use Rattle.triple_arena_traits.specs.ArenaState.{entry, look_up, with_value};
 
 use crate::token::Token;
 use crate::told::Told;

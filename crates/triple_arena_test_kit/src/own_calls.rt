@@ -1,9 +1,9 @@
 //! The calls of an `Arena` beside those of the traits, each alone, and what it answers.
 
 ghost use Rattle.std.specs.Prelude.{◌≡◌, ◌<◌, OnOk, OnErr};
-ghost use Rattle.triple_arena.specs.ArenaState.{arena_len, capacity};
+ghost use Rattle.triple_arena_traits.specs.ArenaState.{arena_len, capacity};
 ghost use Rattle.triple_arena.specs.InsertEntry.{entry_arena};
-ghost use Rattle.triple_arena.specs.Insertion.{inserted};
+ghost use Rattle.triple_arena_traits.specs.Insertion.{inserted};
 
 use crate::numbered::Numbered;
 use crate::token::Token;

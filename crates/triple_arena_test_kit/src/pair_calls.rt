@@ -2,8 +2,8 @@
 //! lends two, and what they answer.
 
 ghost use Rattle.std.specs.Prelude.{◌≡◌, ℕ, Some, OnOk, OnErr};
-ghost use Rattle.triple_arena.specs.Entries.{entry_in, look_up_in};
-ghost use Rattle.triple_arena.specs.Disjoint.{DisjointPtrAnswer, DisjointInxAnswer};
+ghost use Rattle.triple_arena_traits.specs.Entries.{entry_in, look_up_in};
+ghost use Rattle.triple_arena_traits.specs.Disjoint.{DisjointPtrAnswer, DisjointInxAnswer};
 
 use crate::numbered::Numbered;
 use crate::token::Token;

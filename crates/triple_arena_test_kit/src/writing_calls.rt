@@ -1,6 +1,6 @@
 //! Writing to each value of an arena: callers that are proved over any arena, and what they met.
 
-ghost use Rattle.triple_arena.specs.Values.{SamePointers};
+ghost use Rattle.triple_arena_traits.specs.Values.{SamePointers};
 
 use crate::numbered::{Numbered, index_number};
 use crate::token::Token;

@@ -3,10 +3,10 @@ use Rattle.std.proofs.Common.{◌≡◌, ◌≢◌, ◌⊎◌, ℕ, List, [], Op
 use Rattle.std.proofs.lemmas.Bool.{cases_eq}
 use Rattle.std.specs.Option.{option_and_then}
 use Rattle.triple_arena_ptr.specs.Pointers.{Pointer}
-use Rattle.triple_arena.specs.Entries.{look_up_in, value_under}
-use Rattle.triple_arena.specs.ItemLaws.{joined}
-use Rattle.triple_arena.proofs.ItemLists.{item_nil}
-use Rattle.triple_arena.proofs.Links.{pointer_is}
+use Rattle.triple_arena_traits.specs.Entries.{look_up_in, value_under}
+use Rattle.triple_arena_traits.specs.ItemLaws.{joined}
+use Rattle.triple_arena_traits.proofs.ItemLists.{item_nil}
+use Rattle.triple_arena_traits.proofs.Links.{pointer_is}
 use Rattle.triple_arena_direct.specs.Mirrors.{SamePointers}
 
 same_or_other : (q p : Pointer) → (q ≡ p) ⊎ (q ≢ p)

@@ -6,7 +6,7 @@
 ghost use Rattle.std.specs.Prelude.{◌≡◌, map, None, Some, IfOk, OnErr, option_copied};
 ghost use Rattle.triple_arena_base.specs.Invalidation.{allowed_option};
 ghost use Rattle.triple_arena_ptr.specs.Pointers.{Pointer};
-ghost use Rattle.triple_arena.specs.ArenaState.{look_up};
+ghost use Rattle.triple_arena_traits.specs.ArenaState.{look_up};
 ghost use Rattle.triple_arena_direct.specs.Renaming.{MapsPointers};
 ghost use Rattle.triple_arena_uses.specs.Netlist.{wires, rewired};
 
@@ -25,7 +25,7 @@ pub struct Netlist<P: Ptr, G: Recast<P>> {
 }
 
 impl<P: Ptr, G: Recast<P>> Model for Netlist<P, G> {
-    ghost use Rattle.triple_arena.specs.ArenaState.{ArenaState};
+    ghost use Rattle.triple_arena_traits.specs.ArenaState.{ArenaState};
 
     ghost Value = { ArenaState G };
 

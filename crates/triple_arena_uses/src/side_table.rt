@@ -5,7 +5,7 @@
 
 ghost use Rattle.std.specs.Prelude.{◌≡◌, ◌≢◌, None, Some, IfOk, OnErr, is_some};
 ghost use Rattle.triple_arena_ptr.specs.Pointers.{Pointer};
-ghost use Rattle.triple_arena.specs.Entries.{look_up_in};
+ghost use Rattle.triple_arena_traits.specs.Entries.{look_up_in};
 ghost use Rattle.triple_arena_uses.specs.Entities.{numbers};
 ghost use Rattle.triple_arena_uses.specs.Notes.{Noted};
 

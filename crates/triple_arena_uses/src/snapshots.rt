@@ -1,9 +1,9 @@
 //! Tables that are kept as they are, and tables that take others over.
 
 ghost use Rattle.std.specs.Prelude.{◌≡◌, ◌≤◌, OnOk, OnErr, IsOk};
-ghost use Rattle.triple_arena.specs.ArenaState.{arena_len, capacity};
-ghost use Rattle.triple_arena.specs.Entries.{KeepsEntries, entry_count};
-ghost use Rattle.triple_arena.specs.FreeList.{last_index};
+ghost use Rattle.triple_arena_traits.specs.ArenaState.{arena_len, capacity};
+ghost use Rattle.triple_arena_traits.specs.Entries.{KeepsEntries, entry_count};
+ghost use Rattle.triple_arena_traits.specs.FreeList.{last_index};
 
 use triple_arena::{Arena, ArenaCloneFromWith, ArenaSlot, CompactArenaTrait};
 use triple_arena_base::{AllocError, CloneFromError, ReallocationError};

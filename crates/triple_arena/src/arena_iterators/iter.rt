@@ -1,70 +1,14 @@
-//! Iterators over the entries of any compact arena.
+//! The iterators of an arena.
 
-ghost use Rattle.std.specs.Prelude.{◌≡◌, length};
-ghost use Rattle.std.specs.Iterator.{YieldsFirstBy, at_most};
-ghost use Rattle.triple_arena.specs.Walks.{entries, keys, keys_of, values, values_of};
+ghost use Rattle.std.specs.Prelude.{◌≡◌};
+ghost use Rattle.triple_arena_traits.specs.Walks.{entries};
 
-use crate::arena_trait::ArenaTrait;
 use crate::base_arena::Arena;
-use crate::compact_arena_trait::CompactArenaTrait;
 use crate::slot::ArenaSlot;
-use std::marker::{Model, PhantomData};
-use triple_arena_base::Advancer;
 use triple_arena_ptr::Ptr;
 use triple_arena_stack::NonZeroInxGenericStack;
-
-/// The pointers and the values of the entries of an arena, in the order of their indexes.
-#[derive(Drop)]
-pub struct Iter<'a, P: Ptr, T, A: CompactArenaTrait<P, T>> {
-    arena: &'a A,
-    advancer: A::PtrAdvancer,
-    of: PhantomData<(P, T)>,
-}
-
-impl<'a, P: Ptr, T, A: CompactArenaTrait<P, T>> Model for Iter<'a, P, T, A> {
-    ghost use Rattle.std.specs.Prelude.{List, ◌≡◌, false};
-    ghost use Rattle.triple_arena_ptr.specs.Pointers.{Pointer};
-    ghost use Rattle.triple_arena.specs.Walks.{entries_ahead};
-
-    // What is left.
-    ghost Value = { List (Pointer × T) };
-
-    ghost view = { λ i. entries_ahead (A.stand i.advancer) (A.slots i.arena.now) };
-
-    ghost invariant = { λ i. (A.stand i.advancer).reverse ≡ false };
-}
-
-impl<'a, P: Ptr, T, A: CompactArenaTrait<P, T>> Iter<'a, P, T, A> {
-    pub(crate) fn over(arena: &'a A) -> Self
-        ensures { result ≡ entries (A.slots arena.now) }
-    {
-        Iter {
-            arena,
-            advancer: arena.advancer(),
-            of: PhantomData,
-        }
-    }
-}
-
-impl<'a, P: Ptr, T: 'a, A: CompactArenaTrait<P, T>> Iterator for Iter<'a, P, T, A> {
-    type Item = (P, &'a T);
-
-    ghost next_gives = { YieldsFirstBy (λ item. (P.numbers item.0, item.1.now)) (λ rest. rest) };
-
-    ghost remaining = { λ rest. at_most (length rest) };
-
-    fn next(&mut self) -> Option<(P, &'a T)> {
-        let arena = self.arena;
-        let Some(p) = self.advancer.advance(arena) else {
-            return None;
-        };
-        Some((p, arena.get(p).unwrap()))
-    }
-
-    fn size_hint(&self) -> (usize, Option<usize>) {
-        (0, None)
-    }
-}
+use triple_arena_traits::CompactArenaTrait;
+use triple_arena_traits::arena_iterators::{CapacityDrain, Iter};
 
 impl<'a, P: Ptr, T, S: NonZeroInxGenericStack<ArenaSlot<P, T>>> IntoIterator
     for &'a Arena<P, T, S> {
@@ -75,104 +19,19 @@ impl<'a, P: Ptr, T, S: NonZeroInxGenericStack<ArenaSlot<P, T>>> IntoIterator
     ghost into_iter_gives = { λ arena iter. iter ≡ entries arena.now.slots };
 
     fn into_iter(self) -> Iter<'a, P, T, Arena<P, T, S>> {
-        Iter {
-            arena: self,
-            advancer: self.advancer(),
-            of: PhantomData,
-        }
+        self.iter()
     }
 }
 
-/// The pointers of the entries of an arena, in the order of their indexes.
-#[derive(Drop)]
-pub struct Ptrs<'a, P: Ptr, T, A: CompactArenaTrait<P, T>> {
-    arena: &'a A,
-    advancer: A::PtrAdvancer,
-    of: PhantomData<(P, T)>,
-}
+impl<P: Ptr, T: Drop, S: NonZeroInxGenericStack<ArenaSlot<P, T>> + Drop> IntoIterator
+    for Arena<P, T, S> {
+    type Item = (P, T);
 
-impl<'a, P: Ptr, T, A: CompactArenaTrait<P, T>> Model for Ptrs<'a, P, T, A> {
-    ghost use Rattle.std.specs.Prelude.{List, ◌≡◌, false};
-    ghost use Rattle.triple_arena_ptr.specs.Pointers.{Pointer};
-    ghost use Rattle.triple_arena.specs.Walks.{keys_ahead};
+    type IntoIter = CapacityDrain<P, T, Arena<P, T, S>>;
 
-    // What is left.
-    ghost Value = { List Pointer };
+    ghost into_iter_gives = { λ arena drain. drain ≡ entries arena.slots };
 
-    ghost view = { λ i. keys_ahead (A.stand i.advancer) (A.slots i.arena.now) };
-
-    ghost invariant = { λ i. (A.stand i.advancer).reverse ≡ false };
-}
-
-impl<'a, P: Ptr, T, A: CompactArenaTrait<P, T>> Ptrs<'a, P, T, A> {
-    pub(crate) fn over(arena: &'a A) -> Self
-        ensures { result ≡ keys (A.slots arena.now) }
-    {
-        Ptrs {
-            arena,
-            advancer: arena.advancer(),
-            of: PhantomData,
-        }
-    }
-}
-
-impl<'a, P: Ptr, T, A: CompactArenaTrait<P, T>> Iterator for Ptrs<'a, P, T, A> {
-    type Item = P;
-
-    ghost next_gives = { YieldsFirstBy P.numbers (λ rest. rest) };
-
-    ghost remaining = { λ rest. at_most (length rest) };
-
-    fn next(&mut self) -> Option<P> {
-        self.advancer.advance(self.arena)
-    }
-
-    fn size_hint(&self) -> (usize, Option<usize>) {
-        (0, None)
-    }
-}
-
-/// The values of the entries of an arena, in the order of their indexes.
-#[derive(Drop)]
-pub struct Vals<'a, P: Ptr, T, A: CompactArenaTrait<P, T>> {
-    entries: Iter<'a, P, T, A>,
-}
-
-impl<'a, P: Ptr, T, A: CompactArenaTrait<P, T>> Model for Vals<'a, P, T, A> {
-    ghost use Rattle.std.specs.Prelude.{List};
-    ghost use Rattle.triple_arena.specs.Walks.{values_of};
-
-    // What is left.
-    ghost Value = { List T };
-
-    ghost view = { λ i. values_of i.entries };
-}
-
-impl<'a, P: Ptr, T, A: CompactArenaTrait<P, T>> Vals<'a, P, T, A> {
-    pub(crate) fn over(arena: &'a A) -> Self
-        ensures { result ≡ values (A.slots arena.now) }
-    {
-        Vals {
-            entries: Iter::over(arena),
-        }
-    }
-}
-
-impl<'a, P: Ptr, T: 'a, A: CompactArenaTrait<P, T>> Iterator for Vals<'a, P, T, A> {
-    type Item = &'a T;
-
-    ghost next_gives = { YieldsFirstBy (λ value. value.now) (λ rest. rest) };
-
-    ghost remaining = { λ rest. at_most (length rest) };
-
-    fn next(&mut self) -> Option<&'a T> {
-        let Some((_p, value)) = self.entries.next() else {
-            return None;
-        };
-        Some(value)
-    }
-
-    fn size_hint(&self) -> (usize, Option<usize>) {
-        (0, None)
+    fn into_iter(self) -> CapacityDrain<P, T, Arena<P, T, S>> {
+        CapacityDrain::over(self)
     }
 }

@@ -3,20 +3,20 @@
 ghost use Rattle.std.specs.Prelude.{◌≡◌, ◌<◌, ◌^◌, [], length};
 ghost use Rattle.std.specs.Borrow.{sem};
 ghost use Rattle.std.specs.Iterator.{YieldsFirstBy, item_count};
-ghost use Rattle.triple_arena.specs.ArenaState.{ArenaState, arena_len};
-ghost use Rattle.triple_arena.specs.Histories.{Fits, Continues};
-ghost use Rattle.triple_arena.specs.Walks.{entries, values};
-ghost use Rattle.triple_arena.specs.Lent.{lent_rest, lent_name, lends_values};
-ghost use Rattle.triple_arena.specs.Values.{with_values_of, KeepsPointers};
+ghost use Rattle.triple_arena_traits.specs.ArenaState.{ArenaState, arena_len};
+ghost use Rattle.triple_arena_traits.specs.Histories.{Fits, Continues};
+ghost use Rattle.triple_arena_traits.specs.Walks.{entries, values};
+ghost use Rattle.triple_arena_traits.specs.Lent.{lent_rest, lent_name, lends_values};
+ghost use Rattle.triple_arena_traits.specs.Values.{with_values_of, KeepsPointers};
 
 use crate::base_arena::Arena;
-use crate::lending_arena::LendingArena;
 use crate::lent_slots::LentSlots;
 use crate::slot::ArenaSlot;
 use std::marker::Model;
 use std::num::NonZeroUsize;
 use triple_arena_ptr::{Ptr, PtrGen, PtrInx};
 use triple_arena_stack::NonZeroInxGenericStack;
+use triple_arena_traits::LendingArena;
 
 /// The entries of an arena in the order of their indexes, each as its pointer and its value, which
 /// is lent for writing.
@@ -37,7 +37,7 @@ impl<'a, P: Ptr, T> Model for IterMut<'a, P, T> {
     ghost use Rattle.std.specs.Int.NonZero.{non_zero_usize_get};
     ghost use Rattle.triple_arena_ptr.specs.Numbers.{greatest_index};
     ghost use Rattle.triple_arena_ptr.specs.Pointers.{Pointer};
-    ghost use Rattle.triple_arena.specs.Walks.{entries_from};
+    ghost use Rattle.triple_arena_traits.specs.Walks.{entries_from};
     ghost use Rattle.triple_arena.specs.Slot.{entry_of};
 
     ghost Value = { List (Pointer × T) × GName };

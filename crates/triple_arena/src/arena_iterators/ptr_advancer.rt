@@ -4,10 +4,9 @@ ghost use Rattle.std.specs.Prelude.{◌≡◌, ◌+◌, ◌-◌, cond, false};
 ghost use Rattle.std.specs.Int.NonZero.{non_zero_usize_get};
 ghost use Rattle.std.specs.Option.{option_map};
 ghost use Rattle.triple_arena_ptr.specs.Numbers.{greatest_index};
-ghost use Rattle.triple_arena.specs.Layout.{number_or_zero};
-ghost use Rattle.triple_arena.specs.Walks.{place_of, standing_at, steps_left, Steps};
+ghost use Rattle.triple_arena_traits.specs.Places.{number_or_zero};
+ghost use Rattle.triple_arena_traits.specs.Walks.{place_of, standing_at, steps_left, Steps};
 
-use crate::arena_trait::ArenaTrait;
 use crate::base_arena::Arena;
 use crate::slot::ArenaSlot;
 use std::marker::{Model, PhantomData};
@@ -15,6 +14,7 @@ use std::num::NonZeroUsize;
 use triple_arena_base::Advancer;
 use triple_arena_ptr::{Ptr, PtrInx};
 use triple_arena_stack::NonZeroInxGenericStack;
+use triple_arena_traits::ArenaTrait;
 
 /// A place in an arena, or none, and a direction: it goes from live index to live index.
 ///
@@ -32,8 +32,8 @@ pub struct PtrAdvancer<P: Ptr> {
 }
 
 impl<P: Ptr> Model for PtrAdvancer<P> {
-    ghost use Rattle.triple_arena.specs.Walks.{Stand};
-    ghost use Rattle.triple_arena.specs.Layout.{number_or_zero};
+    ghost use Rattle.triple_arena_traits.specs.Walks.{Stand};
+    ghost use Rattle.triple_arena_traits.specs.Places.{number_or_zero};
 
     ghost Value = { Stand };
 

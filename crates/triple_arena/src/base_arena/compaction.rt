@@ -2,24 +2,23 @@
 
 ghost use Rattle.std.specs.Prelude.{◌≡◌, List, Some, map};
 ghost use Rattle.triple_arena_ptr.specs.Numbers.{raise, wraps, first_generation};
-ghost use Rattle.triple_arena.specs.Ending.{told};
-ghost use Rattle.triple_arena.specs.Walks.{entries};
-ghost use Rattle.triple_arena.specs.Compression.{compressed, counter_after, wraps_after, rank};
-ghost use Rattle.triple_arena.specs.Moves.{Moves};
+ghost use Rattle.triple_arena_traits.specs.Ending.{told};
+ghost use Rattle.triple_arena_traits.specs.Walks.{entries};
+ghost use Rattle.triple_arena_traits.specs.Compression.{compressed, counter_after, wraps_after, rank};
+ghost use Rattle.triple_arena_traits.specs.Moves.{Moves};
 
 use super::Arena;
-use crate::arena_trait::ArenaTrait;
-use crate::compact_arena_trait::CompactArenaTrait;
 use crate::slot::ArenaSlot;
 use triple_arena_base::InvalidationOption;
 use triple_arena_ptr::{Ptr, PtrGen, PtrInx};
 use triple_arena_stack::NonZeroInxGenericStack;
+use triple_arena_traits::{ArenaTrait, CompactArenaTrait};
 
 impl<P: Ptr, T, S: NonZeroInxGenericStack<ArenaSlot<P, T>>> CompactArenaTrait<P, T>
     for Arena<P, T, S> {
     ghost use Rattle.std.proofs.Common.{ap};
-    ghost use Rattle.triple_arena.specs.ArenaState.{capacity};
-    ghost use Rattle.triple_arena.specs.CompressionLaws.{ranks, keys-compressed, values-compressed, compressed-with_value, with_value-same};
+    ghost use Rattle.triple_arena_traits.specs.ArenaState.{capacity};
+    ghost use Rattle.triple_arena_traits.specs.CompressionLaws.{ranks, keys-compressed, values-compressed, compressed-with_value, with_value-same};
 
     ghost advanced = { λ _ _ _ _ steps. steps };
 

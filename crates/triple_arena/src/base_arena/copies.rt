@@ -3,28 +3,26 @@
 ghost use Rattle.std.specs.Prelude.{◌≡◌, ℕ, List, Option, ◌≤◌, ◌<◌, ◌↔◌, length, IsOk, OnOk, OnErr, Err};
 ghost use Rattle.triple_arena_ptr.specs.Numbers.{greatest_index, first_generation};
 ghost use Rattle.triple_arena_stack.specs.Capacity.{IsWithin, IsBeyond};
-ghost use Rattle.triple_arena.specs.ArenaState.{capacity, arena_len};
-ghost use Rattle.triple_arena.specs.Entries.{entry_count};
-ghost use Rattle.triple_arena.specs.FreeList.{tidied, laid_out, last_index};
-ghost use Rattle.triple_arena.specs.Capacity.{reallocated, ready_for};
-ghost use Rattle.triple_arena.specs.Walks.{entries};
-ghost use Rattle.triple_arena.specs.Copying.{Copies};
-ghost use Rattle.triple_arena.specs.Cloning.{counter_of};
-ghost use Rattle.triple_arena.specs.Transfers.{Transfers};
+ghost use Rattle.triple_arena_traits.specs.ArenaState.{capacity, arena_len};
+ghost use Rattle.triple_arena_traits.specs.Entries.{entry_count};
+ghost use Rattle.triple_arena_traits.specs.FreeList.{tidied, laid_out, last_index};
+ghost use Rattle.triple_arena_traits.specs.Capacity.{reallocated, ready_for};
+ghost use Rattle.triple_arena_traits.specs.Walks.{entries};
+ghost use Rattle.triple_arena_traits.specs.Copying.{Copies};
+ghost use Rattle.triple_arena_traits.specs.Cloning.{counter_of};
+ghost use Rattle.triple_arena_traits.specs.Transfers.{Transfers};
 
-use crate::arena_clone_trait::ArenaCloneFromWith;
-use crate::arena_trait::ArenaTrait;
 use crate::base_arena::Arena;
-use crate::compact_arena_trait::CompactArenaTrait;
-use crate::ends::last_index;
 use crate::slot::ArenaSlot;
 use triple_arena_base::{CloneFromError, InvalidationOption, ReallocationError};
 use triple_arena_ptr::{Ptr, PtrGen, PtrInx};
 use triple_arena_stack::NonZeroInxGenericStack;
+use triple_arena_traits::ends::last_index;
+use triple_arena_traits::{ArenaCloneFromWith, ArenaTrait, CompactArenaTrait};
 
 impl<P: Ptr, T, S: NonZeroInxGenericStack<ArenaSlot<P, T>>> ArenaCloneFromWith<P, T>
     for Arena<P, T, S> {
-    ghost use Rattle.triple_arena.specs.CloningLaws.{kept-cloned, limit-cloned, fitting-cloned};
+    ghost use Rattle.triple_arena_traits.specs.CloningLaws.{kept-cloned, limit-cloned, fitting-cloned};
 
     // the slots of the copy stand, in room for the last index; the free indexes are the gaps in
     // rising order, and the counter is the source's, or the first generation

@@ -1,17 +1,17 @@
 //! The limit of the arena, where its stack has one that can be set.
 
 ghost use Rattle.std.specs.Prelude.{◌≡◌, ◌≤◌, ◌∷◌, ◌↔◌, [], IsOk, OnOk, OnErr, Some};
-ghost use Rattle.triple_arena.specs.ArenaState.{capacity, slot_count};
-ghost use Rattle.triple_arena.specs.FreeList.{tidied};
-ghost use Rattle.triple_arena.specs.Capacity.{EndsBy, ready_for_limit, with_limit};
-ghost use Rattle.triple_arena.specs.Histories.{resizing, Fits, Continues};
+ghost use Rattle.triple_arena_traits.specs.ArenaState.{capacity, slot_count};
+ghost use Rattle.triple_arena_traits.specs.FreeList.{tidied};
+ghost use Rattle.triple_arena_traits.specs.Capacity.{EndsBy, ready_for_limit, with_limit};
+ghost use Rattle.triple_arena_traits.specs.Histories.{resizing, Fits, Continues};
 
-use crate::arena_trait::ArenaTrait;
 use crate::base_arena::Arena;
 use crate::slot::ArenaSlot;
 use triple_arena_base::MaxCapacityReductionError;
 use triple_arena_ptr::Ptr;
 use triple_arena_stack::SetMaxCapacity;
+use triple_arena_traits::ArenaTrait;
 
 impl<P: Ptr, T, S: SetMaxCapacity<ArenaSlot<P, T>>> Arena<P, T, S> {
     /// Sets the limit to `max_capacity`, a number of slots. It takes no memory, and the room stays:

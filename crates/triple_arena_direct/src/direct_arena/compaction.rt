@@ -1,20 +1,20 @@
 //! Compaction of the direct arena.
 
 ghost use Rattle.std.specs.Prelude.{◌≡◌, None, false};
-ghost use Rattle.triple_arena.specs.Compression.{rank_in};
+ghost use Rattle.triple_arena_traits.specs.Compression.{rank_in};
 ghost use Rattle.triple_arena_direct.specs.DirectState.{compressed};
 
 use super::DirectArena;
 use crate::slot::DirectSlot;
-use triple_arena::{CompactArenaTrait, close_up};
 use triple_arena_base::InvalidationOption;
 use triple_arena_ptr::{Ptr, PtrGen, PtrInx};
 use triple_arena_stack::NonZeroInxGenericStack;
+use triple_arena_traits::{CompactArenaTrait, close_up};
 
 impl<P: Ptr, T, S: NonZeroInxGenericStack<DirectSlot<P, T>>> CompactArenaTrait<P, T>
     for DirectArena<P, T, S> {
     ghost use Rattle.std.proofs.Common.{ap};
-    ghost use Rattle.triple_arena.specs.CompressionLaws.{ranks};
+    ghost use Rattle.triple_arena_traits.specs.CompressionLaws.{ranks};
     ghost use Rattle.triple_arena_direct.specs.DirectState.{direct_capacity};
     ghost use Rattle.triple_arena_direct.specs.CompressionLaws.{keys-compressed, values-compressed, compressed-with_value, with_value-same};
 

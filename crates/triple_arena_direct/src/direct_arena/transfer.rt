@@ -3,18 +3,18 @@
 ghost use Rattle.std.specs.Prelude.{◌≡◌, ℕ, List, Option, ◌≤◌, ◌<◌, ◌↔◌, map, length, IsOk, OnOk, OnErr, Err};
 ghost use Rattle.triple_arena_ptr.specs.Numbers.{greatest_index};
 ghost use Rattle.triple_arena_stack.specs.Capacity.{capacity_of, IsWithin, IsBeyond};
-ghost use Rattle.triple_arena.specs.Entries.{entry_count};
-ghost use Rattle.triple_arena.specs.Transfers.{Transfers};
+ghost use Rattle.triple_arena_traits.specs.Entries.{entry_count};
+ghost use Rattle.triple_arena_traits.specs.Transfers.{Transfers};
 ghost use Rattle.triple_arena_direct.specs.DirectState.{direct_len, direct_capacity, settled, reallocated, ready_for, with_slots};
 ghost use Rattle.triple_arena_direct.specs.Slot.{slot_entry};
 
 use super::DirectArena;
 use crate::slot::DirectSlot;
-use triple_arena::transferring::transfer_entries;
-use triple_arena::{ArenaTrait, CompactArenaTrait};
 use triple_arena_base::{InvalidationOption, ReallocationError};
 use triple_arena_ptr::{Ptr, PtrGen, PtrInx};
 use triple_arena_stack::NonZeroInxGenericStack;
+use triple_arena_traits::transferring::transfer_entries;
+use triple_arena_traits::{ArenaTrait, CompactArenaTrait};
 
 impl<P: Ptr, T, S: NonZeroInxGenericStack<DirectSlot<P, T>>> DirectArena<P, T, S> {
     /// Drops the entries, and takes those of `source` out, one by one in the order of their indexes.

@@ -1,14 +1,14 @@
 //! The iterators of a direct arena.
 
 ghost use Rattle.std.specs.Prelude.{◌≡◌};
-ghost use Rattle.triple_arena.specs.Walks.{entries};
+ghost use Rattle.triple_arena_traits.specs.Walks.{entries};
 
 use crate::direct_arena::DirectArena;
 use crate::slot::DirectSlot;
-use triple_arena::CompactArenaTrait;
-use triple_arena::arena_iterators::{CapacityDrain, Iter};
 use triple_arena_ptr::Ptr;
 use triple_arena_stack::NonZeroInxGenericStack;
+use triple_arena_traits::CompactArenaTrait;
+use triple_arena_traits::arena_iterators::{CapacityDrain, Iter};
 
 impl<'a, P: Ptr, T, S: NonZeroInxGenericStack<DirectSlot<P, T>>> IntoIterator
     for &'a DirectArena<P, T, S> {

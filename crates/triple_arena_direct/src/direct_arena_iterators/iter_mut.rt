@@ -4,8 +4,8 @@ ghost use Rattle.std.specs.Prelude.{◌≡◌, ◌<◌, ◌^◌, length};
 ghost use Rattle.std.specs.Borrow.{sem};
 ghost use Rattle.std.specs.Iterator.{YieldsFirstBy, item_count};
 ghost use Rattle.triple_arena_direct.specs.DirectState.{direct_len};
-ghost use Rattle.triple_arena.specs.Walks.{entries, values};
-ghost use Rattle.triple_arena.specs.Lent.{lent_rest, lent_name, lends_values};
+ghost use Rattle.triple_arena_traits.specs.Walks.{entries, values};
+ghost use Rattle.triple_arena_traits.specs.Lent.{lent_rest, lent_name, lends_values};
 ghost use Rattle.triple_arena_direct.specs.Values.{with_values_of, KeepsPointers};
 
 use crate::direct_arena::DirectArena;
@@ -13,9 +13,9 @@ use crate::lent_slots::LentSlots;
 use crate::slot::DirectSlot;
 use std::marker::Model;
 use std::num::NonZeroUsize;
-use triple_arena::LendingArena;
 use triple_arena_ptr::{Ptr, PtrGen, PtrInx};
 use triple_arena_stack::NonZeroInxGenericStack;
+use triple_arena_traits::LendingArena;
 
 /// The entries of a direct arena in the order of their indexes, each as its pointer and its value, which
 /// is lent for writing.
@@ -36,7 +36,7 @@ impl<'a, P: Ptr, T> Model for IterMut<'a, P, T> {
     ghost use Rattle.std.specs.Int.NonZero.{non_zero_usize_get};
     ghost use Rattle.triple_arena_ptr.specs.Numbers.{greatest_index};
     ghost use Rattle.triple_arena_ptr.specs.Pointers.{Pointer};
-    ghost use Rattle.triple_arena.specs.Walks.{entries_from};
+    ghost use Rattle.triple_arena_traits.specs.Walks.{entries_from};
     ghost use Rattle.triple_arena_direct.specs.Slot.{slot_entry};
 
     ghost Value = { List (Pointer × T) × GName };

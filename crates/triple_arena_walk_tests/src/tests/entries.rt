@@ -1,8 +1,8 @@
 //! Insertion entries, on arenas over each of the four stacks.
 
 ghost use Rattle.std.specs.Prelude.{◌≡◌, IfOk, OnOk, OnErr};
-ghost use Rattle.triple_arena.specs.Insertion.{next_pointer};
-ghost use Rattle.triple_arena.specs.Capacity.{grown};
+ghost use Rattle.triple_arena_traits.specs.Insertion.{next_pointer};
+ghost use Rattle.triple_arena_traits.specs.Capacity.{grown};
 
 use std::alloc::Global;
 use std::test::Fail;

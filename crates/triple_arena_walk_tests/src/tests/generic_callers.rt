@@ -1,7 +1,7 @@
 //! Callers that are generic over arenas: proved over the traits and their laws alone.
 
 ghost use Rattle.std.specs.Prelude.{◌≡◌, ◌≢◌, ℕ, None, Some, OnOk, IfOk, OnErr};
-ghost use Rattle.triple_arena.specs.Entries.{look_up_in};
+ghost use Rattle.triple_arena_traits.specs.Entries.{look_up_in};
 
 use std::alloc::Global;
 use std::mem;

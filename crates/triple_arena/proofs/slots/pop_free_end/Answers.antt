@@ -1,6 +1,6 @@
 use Rattle.std.proofs.Common.{◌∙◌, map, length, take, ap}
 use Rattle.triple_arena.specs.Slot.{entry_of}
-use Rattle.triple_arena.proofs.Shortening.{shortened_to_none}
+use Rattle.triple_arena_traits.proofs.Shortening.{shortened_to_none}
 use Rattle.triple_arena.proofs.slots.pop_free_end.Goals as goal
 
 pub returns-clause-slots : goal.returns-clause-slots

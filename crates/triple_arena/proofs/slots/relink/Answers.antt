@@ -1,10 +1,10 @@
 use Rattle.std.proofs.Common.{◌≡◌, ◌∙◌, ◌+◌, ◌-◌, None, length, refl, sym, ap, subst, arith}
 use Rattle.std.specs.Int.NonZero.{non_zero_usize_get}
-use Rattle.triple_arena.specs.Layout.{number_or_zero}
-use Rattle.triple_arena.specs.Items.{with_item}
-use Rattle.triple_arena.proofs.ItemLists.{item_at, with_item_at, length-with_item}
-use Rattle.triple_arena.proofs.Inserted.{some_lent}
-use Rattle.triple_arena.proofs.Present.{some_mapped, some_below}
+use Rattle.triple_arena_traits.specs.Places.{number_or_zero}
+use Rattle.triple_arena_traits.specs.Items.{with_item}
+use Rattle.triple_arena_traits.proofs.ItemLists.{item_at, with_item_at, length-with_item}
+use Rattle.triple_arena_traits.proofs.Inserted.{some_lent}
+use Rattle.triple_arena_traits.proofs.Present.{some_mapped, some_below}
 use Rattle.triple_arena.proofs.Tidying.{LinkedFrom, LinkedFrom-start, LinkedFrom-live, LinkedFrom-free, LinkedFrom-root, LinkedFrom-done}
 use Rattle.triple_arena.proofs.slots.relink.Goals.{then-not-is_live, else-not-is_live}
 use Rattle.triple_arena.proofs.slots.relink.Goals as goal

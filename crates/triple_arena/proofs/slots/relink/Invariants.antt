@@ -1,7 +1,7 @@
 use Rattle.std.proofs.Common.{◌≡◌, ◌≤◌, length}
 use Rattle.std.specs.Int.NonZero.{non_zero_usize_get}
 use Rattle.std.specs.Option.{option_map}
-use Rattle.triple_arena.specs.Layout.{number_or_zero}
+use Rattle.triple_arena_traits.specs.Places.{number_or_zero}
 use Rattle.triple_arena.proofs.Tidying.{LinkedFrom}
 use Rattle.triple_arena.proofs.slots.relink.Given as goal
 

@@ -1,5 +1,5 @@
 use Rattle.std.proofs.Common.{refl}
-use Rattle.triple_arena.specs.EntryLaws.{slots-inserted, slots-removed}
+use Rattle.triple_arena_traits.specs.EntryLaws.{slots-inserted, slots-removed}
 use Rattle.triple_arena_direct.proofs.Mirroring.{same_after, vacant_alike, same_capacity}
 use Rattle.triple_arena_direct.proofs.laws.mirror_keeps_pointers.Goals as goal
 

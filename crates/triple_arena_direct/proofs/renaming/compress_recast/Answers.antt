@@ -1,10 +1,10 @@
 use Rattle.std.proofs.Common.{rules, sym, ap, subst, length, Option, ◌∙◌}
 use Rattle.std.proofs.lemmas.List.{length-map}
 use Rattle.std.proofs.lemmas.Slice.Zip.{AllZip-long}
-use Rattle.triple_arena.specs.Entries.{look_up_in}
-use Rattle.triple_arena.specs.Walks.{keys, values}
-use Rattle.triple_arena.specs.CompressionLaws.{length-keys, length-values}
-use Rattle.triple_arena.specs.Recasting.{recast_values}
+use Rattle.triple_arena_traits.specs.Entries.{look_up_in}
+use Rattle.triple_arena_traits.specs.Walks.{keys, values}
+use Rattle.triple_arena_traits.specs.CompressionLaws.{length-keys, length-values}
+use Rattle.triple_arena_traits.specs.Recasting.{recast_values}
 use Rattle.triple_arena_direct.specs.Renaming.{AreRenamed}
 use Rattle.triple_arena_direct.proofs.Renames.{renames}
 use Rattle.triple_arena_direct.proofs.Resolving.{values_renamed}

@@ -1,6 +1,6 @@
 use Rattle.std.proofs.Common.{rules, ◌∙◌, Ok, Err, refl, map, ap, arith}
 use Rattle.triple_arena_base.specs.declared.errors.CloneFromError.TheVariants.{Reallocation}
-use Rattle.triple_arena.specs.Walks.{keys, values}
+use Rattle.triple_arena_traits.specs.Walks.{keys, values}
 use Rattle.triple_arena_direct.proofs.OwnMaps.{own_copied, last_counts, wants_memory}
 use Rattle.triple_arena_direct.proofs.renaming.own_map.Goals as goal
 

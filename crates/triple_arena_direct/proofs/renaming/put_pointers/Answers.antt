@@ -1,5 +1,5 @@
 use Rattle.std.proofs.Common.{refl}
-use Rattle.triple_arena.specs.WalkLaws.{taken, some_answer}
+use Rattle.triple_arena_traits.specs.WalkLaws.{taken, some_answer}
 use Rattle.triple_arena_direct.proofs.Pairing.{paired_start, paired_more, paired_on, paired_end}
 use Rattle.triple_arena_direct.proofs.renaming.put_pointers.Goals as goal
 

@@ -1,5 +1,5 @@
 use Rattle.triple_arena_ptr.specs.Numbers.{greatest_index}
-use Rattle.triple_arena.specs.Walks.{steps_left}
+use Rattle.triple_arena_traits.specs.Walks.{steps_left}
 use Rattle.triple_arena_direct.proofs.Pairing.{Paired}
 use Rattle.triple_arena_direct.proofs.renaming.put_pointers.Given as goal
 

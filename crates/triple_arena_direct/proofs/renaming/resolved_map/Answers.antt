@@ -1,7 +1,7 @@
 use Rattle.std.proofs.Common.{sym}
 use Rattle.triple_arena_base.specs.Held.{held_all}
-use Rattle.triple_arena.specs.Entries.{look_up_in}
-use Rattle.triple_arena.specs.Walks.{values}
+use Rattle.triple_arena_traits.specs.Entries.{look_up_in}
+use Rattle.triple_arena_traits.specs.Walks.{values}
 use Rattle.triple_arena_direct.proofs.OwnMaps.{own_image, same_pointer}
 use Rattle.triple_arena_direct.proofs.Resolving.{all_resolved, one_unresolved}
 use Rattle.triple_arena_direct.proofs.Followed.{unchanged}

@@ -1,13 +1,13 @@
 use Rattle.std.proofs.Common.{◌∙◌, map, Some, is_some, sym, ap}
 use Rattle.std.specs.Int.NonZero.{non_zero_usize_get}
-use Rattle.triple_arena.specs.Items.{item, with_item}
-use Rattle.triple_arena.specs.Entries.{entry_in}
-use Rattle.triple_arena.proofs.ItemLists.{item-map, map-with_item}
-use Rattle.triple_arena.proofs.Present.{some_mapped}
-use Rattle.triple_arena.specs.FreeEnd.{extended}
+use Rattle.triple_arena_traits.specs.Items.{item, with_item}
+use Rattle.triple_arena_traits.specs.Entries.{entry_in}
+use Rattle.triple_arena_traits.proofs.ItemLists.{item-map, map-with_item}
+use Rattle.triple_arena_traits.proofs.Present.{some_mapped}
+use Rattle.triple_arena_traits.specs.FreeEnd.{extended}
 use Rattle.triple_arena_direct.specs.InsertionLaws.{entry-extended, slot-extended}
 use Rattle.triple_arena_direct.specs.Slot.{slot_entry}
-use Rattle.triple_arena.proofs.SlotEntries.{entry_item}
+use Rattle.triple_arena_traits.proofs.SlotEntries.{entry_item}
 use Rattle.triple_arena_direct.proofs.slots.occupy.Goals as goal
 
 pub replace-requires : goal.replace-requires

@@ -1,9 +1,9 @@
 use Rattle.std.proofs.Common.{◌∙◌, map, ap}
 use Rattle.std.specs.Int.NonZero.{non_zero_usize_get}
-use Rattle.triple_arena.proofs.ItemLists.{map-with_item}
+use Rattle.triple_arena_traits.proofs.ItemLists.{map-with_item}
 use Rattle.triple_arena_direct.specs.Slot.{slot_entry}
 use Rattle.triple_arena_direct.specs.declared.slot.DirectSlot.TheVariants.{Free}
-use Rattle.triple_arena.proofs.SlotEntries.{entry_item, item_live}
+use Rattle.triple_arena_traits.proofs.SlotEntries.{entry_item, item_live}
 use Rattle.triple_arena_direct.proofs.slots.vacate.Goals as goal
 
 pub replace-requires : goal.replace-requires

@@ -1,7 +1,7 @@
 use Rattle.std.proofs.Common.{◌≡◌, ◌&&◌, ◌||◌, ◌∷◌, ◌++◌, [], Bool, true, false, not, List, refl, sym, ap, ◌∙◌, arith, true≢false}
 use Rattle.std.proofs.lemmas.Bool.{and_parts}
 use Rattle.triple_arena_ptr.specs.Pointers.{Pointer}
-use Rattle.triple_arena.specs.Histories.{has, given, ended}
+use Rattle.triple_arena_traits.specs.Histories.{has, given, ended}
 use Rattle.triple_arena.proofs.PointerLists.{has-append, has_head, distinct_last}
 use Rattle.triple_arena_uses.proofs.wrong_steps.wrong_steps_are_stale.Goals as goal
 

@@ -1,7 +1,8 @@
 use Rattle.std.proofs.Common.{◌∙◌, ap}
-use Rattle.triple_arena.specs.FreeList.{tidied}
+use Rattle.triple_arena_traits.specs.FreeList.{tidied}
 use Rattle.triple_arena.proofs.Links.{carried}
-use Rattle.triple_arena.proofs.Tidying.{Shows-tidied, IsInOrder-tidied}
+use Rattle.triple_arena.proofs.Tidying.{Shows-tidied}
+use Rattle.triple_arena_traits.proofs.Tidying.{IsInOrder-tidied}
 use Rattle.triple_arena.proofs.HistoryLaws.{Continues-tidied}
 use Rattle.triple_arena.proofs.base_arena.Arena.canonicalize_freelist.Goals as goal
 

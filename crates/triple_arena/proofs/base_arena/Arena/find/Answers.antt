@@ -1,9 +1,9 @@
 use Rattle.triple_arena.proofs.Resizing.{index_found, index_there}
 use Rattle.triple_arena.proofs.Refused.{copied_some}
-use Rattle.triple_arena.proofs.Links.{pointer_is}
-use Rattle.triple_arena.proofs.WellFormed.{live_entry}
-use Rattle.triple_arena.specs.ArenaState.{entry, look_up}
-use Rattle.triple_arena.specs.Entries.{value_under}
+use Rattle.triple_arena_traits.proofs.Links.{pointer_is}
+use Rattle.triple_arena_traits.proofs.WellFormed.{live_entry}
+use Rattle.triple_arena_traits.specs.ArenaState.{entry, look_up}
+use Rattle.triple_arena_traits.specs.Entries.{value_under}
 use Rattle.triple_arena_ptr.specs.Pointers.{Pointer}
 use Rattle.std.specs.Option.{option_and_then}
 use Rattle.std.proofs.Common.{◌∙◌, is_some, IsSome, sym, ap, subst, refl}

@@ -65,9 +65,9 @@ use Rattle.std.specs.List.{refill}
 use Rattle.std.specs.Option.{option_map}
 use Rattle.std.specs.Int.NonZero.{non_zero_usize_get}
 use Rattle.triple_arena_ptr.specs.Numbers.{greatest_index}
-use Rattle.triple_arena.specs.ArenaState.{ArenaState}
+use Rattle.triple_arena_traits.specs.ArenaState.{ArenaState}
 use Rattle.triple_arena.specs.Slot.{entry_of}
-use Rattle.triple_arena.specs.Values.{with_values_of}
+use Rattle.triple_arena_traits.specs.Values.{with_values_of}
 use Rattle.triple_arena.specs.Kept.{filled_all, kept_all, Kept}
 use Rattle.triple_arena.specs.Lends.{with_slots}
 use Rattle.triple_arena.proofs.Keeping.{filled-own, filled-kept, length-filled, refilled, kept_within}

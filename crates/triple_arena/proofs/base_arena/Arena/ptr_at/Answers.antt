@@ -1,11 +1,11 @@
 use Rattle.std.proofs.Common.{◌∙◌, IsSome, sym, ap, subst, arith}
 use Rattle.std.specs.Int.NonZero.{non_zero_usize_get}
-use Rattle.triple_arena.specs.ArenaState.{ArenaState, entry}
+use Rattle.triple_arena_traits.specs.ArenaState.{ArenaState, entry}
 use Rattle.triple_arena.specs.Slot.{entry_of}
-use Rattle.triple_arena.specs.WalkLaws.{live_within}
-use Rattle.triple_arena.proofs.SlotEntries.{entry_item, item_live}
-use Rattle.triple_arena.proofs.Links.{pointer_is}
-use Rattle.triple_arena.proofs.Present.{some_mapped}
+use Rattle.triple_arena_traits.specs.WalkLaws.{live_within}
+use Rattle.triple_arena_traits.proofs.SlotEntries.{entry_item, item_live}
+use Rattle.triple_arena_traits.proofs.Links.{pointer_is}
+use Rattle.triple_arena_traits.proofs.Present.{some_mapped}
 use Rattle.triple_arena.proofs.base_arena.Arena.ptr_at.Goals as goal
 
 pub unwrap-requires : goal.unwrap-requires

@@ -1,13 +1,13 @@
 use Rattle.std.proofs.Common.{◌∙◌, ap}
 use Rattle.std.specs.Option.{option_and_then}
-use Rattle.triple_arena.specs.Entries.{value_under}
-use Rattle.triple_arena.specs.Items.{item}
-use Rattle.triple_arena.specs.ArenaState.{slot_count, is_free}
-use Rattle.triple_arena.specs.FreeList.{without_free_end}
-use Rattle.triple_arena.specs.EntryLaws.{slots-without_free_end}
-use Rattle.triple_arena.specs.LengthLaws.{len-without_free_end}
+use Rattle.triple_arena_traits.specs.Entries.{value_under}
+use Rattle.triple_arena_traits.specs.Items.{item}
+use Rattle.triple_arena_traits.specs.ArenaState.{slot_count, is_free}
+use Rattle.triple_arena_traits.specs.FreeList.{without_free_end}
+use Rattle.triple_arena_traits.specs.EntryLaws.{slots-without_free_end}
+use Rattle.triple_arena_traits.specs.LengthLaws.{len-without_free_end}
 use Rattle.triple_arena.proofs.Links.{carried}
-use Rattle.triple_arena.proofs.Tidying.{trimmed_last}
+use Rattle.triple_arena_traits.proofs.Tidying.{trimmed_last}
 use Rattle.triple_arena.proofs.HistoryLaws.{Continues-resized}
 use Rattle.triple_arena.proofs.base_arena.Arena.remove_free_end_slots.Goals as goal
 

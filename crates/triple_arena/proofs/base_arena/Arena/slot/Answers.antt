@@ -1,6 +1,6 @@
 use Rattle.triple_arena.proofs.Refused.{slot_entry}
-use Rattle.triple_arena.proofs.WellFormed.{entry_past, entry_within}
-use Rattle.triple_arena.specs.ArenaState.{ArenaState, entry}
+use Rattle.triple_arena_traits.proofs.WellFormed.{entry_past, entry_within}
+use Rattle.triple_arena_traits.specs.ArenaState.{ArenaState, entry}
 use Rattle.triple_arena.specs.Slot.{entry_of}
 use Rattle.std.specs.Int.NonZero.{non_zero_usize_get}
 use Rattle.std.specs.Option.{option_and_then}

@@ -1,9 +1,9 @@
 use Rattle.triple_arena.proofs.Refused.{err_is, ok_not_err, on_ok_err, on_err, same_error}
-use Rattle.triple_arena.specs.ArenaState.{capacity}
+use Rattle.triple_arena_traits.specs.ArenaState.{capacity}
 use Rattle.std.proofs.lemmas.Bool.{false≢true}
 use Rattle.std.proofs.Common.{◌∙◌, sym, ap, ◌<◌, refl, subst}
-use Rattle.triple_arena.specs.FreeList.{laid_out}
-use Rattle.triple_arena.specs.Capacity.{ready_for}
+use Rattle.triple_arena_traits.specs.FreeList.{laid_out}
+use Rattle.triple_arena_traits.specs.Capacity.{ready_for}
 use Rattle.triple_arena.proofs.base_arena.Arena.transfer_reallocating.Goals as goal
 
 pub returns-clause-done : goal.returns-clause-done

@@ -1,5 +1,5 @@
 use Rattle.triple_arena.proofs.Refused.{err_is, if_err, of_same, past_slots}
-use Rattle.triple_arena.specs.ArenaState.{slot_count}
+use Rattle.triple_arena_traits.specs.ArenaState.{slot_count}
 use Rattle.triple_arena.specs.Slot.{entry_of}
 use Rattle.triple_arena_stack.specs.Disjoint.{AreTwo, IsRefused}
 use Rattle.std.proofs.lemmas.List.{length-map}

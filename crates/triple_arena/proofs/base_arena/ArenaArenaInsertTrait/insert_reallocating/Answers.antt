@@ -1,11 +1,11 @@
 use Rattle.triple_arena.proofs.Refused.{err_is, ok_not_err, if_err, on_ok_err, on_err, same_error}
-use Rattle.triple_arena.proofs.WellFormed.{place_free}
+use Rattle.triple_arena_traits.proofs.WellFormed.{place_free}
 use Rattle.triple_arena_ptr.specs.Pointers.{Pointer}
 use Rattle.std.proofs.lemmas.Bool.{false≢true}
 use Rattle.std.proofs.Common.{◌∙◌, ◌<◌, refl, ap, subst}
-use Rattle.triple_arena.specs.ArenaState.{arena_len, capacity, entry}
-use Rattle.triple_arena.specs.EntryLaws.{same-grown, next-grown}
-use Rattle.triple_arena.specs.Insertion.{inserted, next_pointer}
+use Rattle.triple_arena_traits.specs.ArenaState.{arena_len, capacity, entry}
+use Rattle.triple_arena_traits.specs.EntryLaws.{same-grown, next-grown}
+use Rattle.triple_arena_traits.specs.Insertion.{inserted, next_pointer}
 use Rattle.triple_arena.proofs.HistoryLaws.{Continues-grown}
 use Rattle.triple_arena.proofs.base_arena.ArenaArenaInsertTrait.insert_reallocating.Goals as goal
 

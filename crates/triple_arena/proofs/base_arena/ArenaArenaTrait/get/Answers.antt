@@ -1,8 +1,8 @@
 use Rattle.triple_arena.proofs.Refused.{copied_some}
 use Rattle.triple_arena.proofs.HistoryLaws.{found_as_given}
-use Rattle.triple_arena.proofs.Links.{pointer_is}
-use Rattle.triple_arena.specs.ArenaState.{look_up}
-use Rattle.triple_arena.specs.Entries.{value_under}
+use Rattle.triple_arena_traits.proofs.Links.{pointer_is}
+use Rattle.triple_arena_traits.specs.ArenaState.{look_up}
+use Rattle.triple_arena_traits.specs.Entries.{value_under}
 use Rattle.std.specs.Option.{option_and_then}
 use Rattle.std.proofs.Common.{◌∙◌, None, option_copied, sym, ap, refl}
 use Rattle.triple_arena.proofs.base_arena.ArenaArenaTrait.get.Goals as goal

@@ -1,11 +1,11 @@
-use Rattle.triple_arena.proofs.SlotEntries.{none_of}
+use Rattle.triple_arena_traits.proofs.SlotEntries.{none_of}
 use Rattle.std.specs.Option.{option_map}
 use Rattle.std.proofs.Common.{◌∙◌, IsSome, inl, sym, ap, subst, ◌≡◌, None, inr, ℕ}
 use Rattle.std.proofs.Math.Path.{fun_ext}
 use Rattle.std.specs.Int.NonZero.{non_zero_usize_get}
-use Rattle.triple_arena.specs.ArenaState.{ArenaState, with_value, entry}
+use Rattle.triple_arena_traits.specs.ArenaState.{ArenaState, with_value, entry}
 use Rattle.triple_arena.specs.Layout.{entry_at}
-use Rattle.triple_arena.proofs.WellFormed.{entry_value_read}
+use Rattle.triple_arena_traits.proofs.WellFormed.{entry_value_read}
 use Rattle.triple_arena.proofs.Links.{lent}
 use Rattle.triple_arena.proofs.HistoryLaws.{Continues-written}
 use Rattle.triple_arena.proofs.base_arena.ArenaArenaTrait.get_inx_mut.Goals as goal

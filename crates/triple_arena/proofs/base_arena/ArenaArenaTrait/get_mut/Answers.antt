@@ -1,11 +1,11 @@
-use Rattle.triple_arena.proofs.SlotEntries.{none_of}
+use Rattle.triple_arena_traits.proofs.SlotEntries.{none_of}
 use Rattle.std.proofs.Common.{◌≡◌, ◌∙◌, IsSome, None, map, inl, sym, ap, subst, inr}
 use Rattle.std.proofs.Math.Path.{fun_ext}
 use Rattle.std.specs.Int.NonZero.{non_zero_usize_get}
-use Rattle.triple_arena.specs.ArenaState.{ArenaState, look_up, with_value}
+use Rattle.triple_arena_traits.specs.ArenaState.{ArenaState, look_up, with_value}
 use Rattle.triple_arena.specs.Slot.{entry_of}
 use Rattle.triple_arena.specs.Layout.{entry_at}
-use Rattle.triple_arena.proofs.WellFormed.{live_entry, value_read}
+use Rattle.triple_arena_traits.proofs.WellFormed.{live_entry, value_read}
 use Rattle.triple_arena.proofs.Links.{lent}
 use Rattle.triple_arena.proofs.HistoryLaws.{Continues-written, found_as_given}
 use Rattle.triple_arena.proofs.base_arena.ArenaArenaTrait.get_mut.Goals as goal

@@ -1,16 +1,17 @@
 use Rattle.triple_arena.proofs.Refused.{told_mapped, none_told}
-use Rattle.triple_arena.proofs.SlotEntries.{none_of}
+use Rattle.triple_arena_traits.proofs.SlotEntries.{none_of}
 use Rattle.triple_arena_ptr.specs.Pointers.{Pointer}
 use Rattle.std.specs.Option.{option_map}
 use Rattle.std.proofs.Common.{◌∙◌, IsSome, ap, sym, refl, Some, is_some, subst, true≢false}
 use Rattle.std.specs.Int.NonZero.{non_zero_usize_get}
 use Rattle.triple_arena_ptr.specs.Numbers.{raise, wraps}
-use Rattle.triple_arena.specs.Entries.{with_generation_in}
-use Rattle.triple_arena.specs.ArenaState.{look_up, ArenaState, entry}
-use Rattle.triple_arena.specs.EntryLaws.{slots-invalidated}
-use Rattle.triple_arena.proofs.WellFormed.{invalidated_is, live_entry, entry_of_value}
-use Rattle.triple_arena.proofs.Links.{Shows-counter, carried, pointer_is}
-use Rattle.triple_arena.proofs.LookUps.{renewed_found, others_found}
+use Rattle.triple_arena_traits.specs.Entries.{with_generation_in}
+use Rattle.triple_arena_traits.specs.ArenaState.{look_up, ArenaState, entry}
+use Rattle.triple_arena_traits.specs.EntryLaws.{slots-invalidated}
+use Rattle.triple_arena_traits.proofs.WellFormed.{invalidated_is, live_entry, entry_of_value}
+use Rattle.triple_arena.proofs.Links.{Shows-counter, carried}
+use Rattle.triple_arena_traits.proofs.Links.{pointer_is}
+use Rattle.triple_arena_traits.proofs.LookUps.{renewed_found, others_found}
 use Rattle.triple_arena.proofs.HistoryLaws.{Continues-invalidated}
 use Rattle.triple_arena.proofs.base_arena.ArenaArenaTrait.invalidate.Goals as goal
 

@@ -1,7 +1,7 @@
 use Rattle.triple_arena.proofs.Resizing.{below_above, Continues-reallocated}
-use Rattle.triple_arena.proofs.Growth.{on_ok}
-use Rattle.triple_arena.specs.Capacity.{with_room_for}
-use Rattle.triple_arena.specs.ArenaState.{ArenaState}
+use Rattle.triple_arena_traits.proofs.Growth.{on_ok}
+use Rattle.triple_arena_traits.specs.Capacity.{with_room_for}
+use Rattle.triple_arena_traits.specs.ArenaState.{ArenaState}
 use Rattle.triple_arena_stack.specs.Capacity.{IsWithin, IsBeyond}
 use Rattle.triple_arena_base.specs.declared.errors.ReallocationError.TheVariants.{BeyondMaxCapacity}
 use Rattle.std.proofs.Common.{◌≡◌, ◌↔◌, ◌∙◌, ◌<◌, ◌≤◌, Err, IsOk, OnOk, OnErr, subst}

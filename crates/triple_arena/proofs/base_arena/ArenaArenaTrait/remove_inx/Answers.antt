@@ -1,9 +1,9 @@
 use Rattle.triple_arena.proofs.Refused.{told_mapped}
-use Rattle.triple_arena.proofs.LookUps.{others_found}
-use Rattle.triple_arena.proofs.SlotEntries.{none_of}
-use Rattle.triple_arena.specs.EntryLaws.{slots-removed}
-use Rattle.triple_arena.specs.Ending.{removed, told_of}
-use Rattle.triple_arena.specs.ArenaState.{entry}
+use Rattle.triple_arena_traits.proofs.LookUps.{others_found}
+use Rattle.triple_arena_traits.proofs.SlotEntries.{none_of}
+use Rattle.triple_arena_traits.specs.EntryLaws.{slots-removed}
+use Rattle.triple_arena_traits.specs.Ending.{removed, told_of}
+use Rattle.triple_arena_traits.specs.ArenaState.{entry}
 use Rattle.triple_arena_ptr.specs.Numbers.{raise, wraps}
 use Rattle.std.proofs.Common.{◌∙◌, IsSome, None, is_some, sym, ap, subst, true≢false}
 use Rattle.triple_arena.proofs.HistoryLaws.{Continues-removed_inx}

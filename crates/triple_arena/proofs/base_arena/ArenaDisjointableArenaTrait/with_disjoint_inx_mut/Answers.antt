@@ -1,9 +1,9 @@
 use Rattle.triple_arena.proofs.Refused.{err_is, if_err, on_err, refused_inx, Continues-two_written}
-use Rattle.triple_arena.specs.ArenaState.{entry}
+use Rattle.triple_arena_traits.specs.ArenaState.{entry}
 use Rattle.std.proofs.Common.{◌≡◌, refl, sym, inl, inr, ◌∙◌, IsSome, subst}
 use Rattle.std.specs.Int.NonZero.{non_zero_usize_get}
-use Rattle.triple_arena.proofs.Pairs.{entry_by_parts}
-use Rattle.triple_arena.proofs.Present.{some_mapped, none_mapped}
+use Rattle.triple_arena_traits.proofs.Pairs.{entry_by_parts}
+use Rattle.triple_arena_traits.proofs.Present.{some_mapped, none_mapped}
 use Rattle.triple_arena.proofs.base_arena.ArenaDisjointableArenaTrait.with_disjoint_inx_mut.Goals as goal
 
 pub returns-clause-worked : goal.returns-clause-worked

@@ -3,11 +3,11 @@ use Rattle.std.proofs.Common.{◌≡◌, ◌≢◌, ◌∙◌, true, is_some, Is
 use Rattle.std.proofs.lemmas.Bool.{cases_eq}
 use Rattle.std.specs.Int.NonZero.{non_zero_usize_get}
 use Rattle.triple_arena_ptr.specs.Pointers.{Pointer}
-use Rattle.triple_arena.specs.ArenaState.{look_up, entry}
-use Rattle.triple_arena.specs.ItemLaws.{eq_true, eq_false}
-use Rattle.triple_arena.proofs.WellFormed.{live_entry}
-use Rattle.triple_arena.proofs.SlotEntries.{none_of}
-use Rattle.triple_arena.proofs.Pairs.{value_under_pointer, same_pointer}
+use Rattle.triple_arena_traits.specs.ArenaState.{look_up, entry}
+use Rattle.triple_arena_traits.specs.ItemLaws.{eq_true, eq_false}
+use Rattle.triple_arena_traits.proofs.WellFormed.{live_entry}
+use Rattle.triple_arena_traits.proofs.SlotEntries.{none_of}
+use Rattle.triple_arena_traits.proofs.Pairs.{value_under_pointer, same_pointer}
 use Rattle.triple_arena.proofs.base_arena.ArenaDisjointableArenaTrait.with_disjoint_mut.Goals as goal
 
 pub returns-clause-worked : goal.returns-clause-worked

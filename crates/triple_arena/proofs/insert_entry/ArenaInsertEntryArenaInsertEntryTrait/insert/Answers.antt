@@ -1,7 +1,7 @@
 use Rattle.std.proofs.Common.{◌∙◌, ap, refl}
 use Rattle.std.proofs.lemmas.Option.{same_Some}
-use Rattle.triple_arena.proofs.Inserted.{found_inserted, rewritten, some_lent}
-use Rattle.triple_arena.specs.Insertion.{inserted}
+use Rattle.triple_arena_traits.proofs.Inserted.{found_inserted, rewritten, some_lent}
+use Rattle.triple_arena_traits.specs.Insertion.{inserted}
 use Rattle.triple_arena.proofs.HistoryLaws.{Continues-inserted}
 use Rattle.triple_arena.proofs.insert_entry.ArenaInsertEntryArenaInsertEntryTrait.insert.Goals as goal
 

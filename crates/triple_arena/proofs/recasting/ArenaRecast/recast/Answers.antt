@@ -1,9 +1,9 @@
 use Rattle.std.proofs.Common.{◌∙◌, refl, sym, ap}
 use Rattle.triple_arena_base.specs.Held.{recast_answer}
-use Rattle.triple_arena.specs.ArenaState.{with_value}
-use Rattle.triple_arena.specs.Walks.{keys, values}
-use Rattle.triple_arena.specs.Recasting.{recast_values}
-use Rattle.triple_arena.proofs.RecastSlots.{held_from, recast_refills, written_state}
+use Rattle.triple_arena_traits.specs.ArenaState.{with_value}
+use Rattle.triple_arena_traits.specs.Walks.{keys, values}
+use Rattle.triple_arena_traits.specs.Recasting.{recast_values}
+use Rattle.triple_arena_traits.proofs.RecastSlots.{held_from, recast_refills, written_state}
 use Rattle.triple_arena.proofs.recasting.ArenaRecast.recast.Goals as goal
 
 pub returns-clause-after : goal.returns-clause-after

@@ -1,6 +1,6 @@
 use Rattle.std.proofs.Common.{◌∙◌, map}
 use Rattle.triple_arena.specs.Slot.{entry_of}
-use Rattle.triple_arena.proofs.FreeEnd.{end_is, end_none}
+use Rattle.triple_arena_traits.proofs.FreeEnd.{end_is, end_none}
 use Rattle.triple_arena.proofs.slots.Slots.live_end.Goals as goal
 
 pub returns-in-Some : goal.returns-in-Some

@@ -1,4 +1,4 @@
-use Rattle.triple_arena.proofs.Growth.{place_after}
+use Rattle.triple_arena_traits.proofs.Growth.{place_after}
 use Rattle.triple_arena.proofs.slots.Slots.reallocate.Goals as goal
 
 pub returns-clause-place : goal.returns-clause-place

@@ -1,7 +1,7 @@
 use Rattle.std.proofs.Common.{◌∙◌, map, arith}
 use Rattle.std.proofs.lemmas.List.{length-map}
 use Rattle.triple_arena.specs.Slot.{entry_of}
-use Rattle.triple_arena.proofs.Shortening.{ends_live}
+use Rattle.triple_arena_traits.proofs.Shortening.{ends_live}
 use Rattle.triple_arena.proofs.FreeEnd.{IsFreeList-shown, Shows-ended, Shows-without_free_end}
 use Rattle.triple_arena.proofs.slots.Slots.remove_free_end.Goals as goal
 

@@ -1,9 +1,9 @@
 use Rattle.std.proofs.Common.{◌≢◌, ◌∙◌, IsSome, length, sym, ap, subst, arith}
 use Rattle.std.specs.Int.NonZero.{non_zero_usize_get}
-use Rattle.triple_arena.proofs.ItemLists.{item_last}
+use Rattle.triple_arena_traits.proofs.ItemLists.{item_last}
 use Rattle.triple_arena.specs.Slot.{entry_of}
-use Rattle.triple_arena.proofs.SlotEntries.{entry_item, item_live}
-use Rattle.triple_arena.proofs.Present.{some_below}
+use Rattle.triple_arena_traits.proofs.SlotEntries.{entry_item, item_live}
+use Rattle.triple_arena_traits.proofs.Present.{some_below}
 use Rattle.triple_arena.proofs.Links.{live_in, root_not_live, Shows-popped, Shows-freed}
 use Rattle.triple_arena.proofs.slots.Slots.vacate.Goals as goal
 

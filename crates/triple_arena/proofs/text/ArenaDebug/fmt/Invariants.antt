@@ -1,5 +1,5 @@
 use Rattle.triple_arena_ptr.specs.Numbers.{greatest_index}
-use Rattle.triple_arena.specs.Walks.{steps_left}
+use Rattle.triple_arena_traits.specs.Walks.{steps_left}
 use Rattle.triple_arena.proofs.text.ArenaDebug.fmt.Given as goal
 
 abbrev pub decreases-walk : goal.decreases-walk

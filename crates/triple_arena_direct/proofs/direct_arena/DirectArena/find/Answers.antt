@@ -1,7 +1,7 @@
 use Rattle.triple_arena_direct.proofs.Reading.{copied_some, index_found, index_there}
-use Rattle.triple_arena.proofs.Links.{pointer_is}
-use Rattle.triple_arena.proofs.WellFormed.{live_entry}
-use Rattle.triple_arena.specs.Entries.{entry_in, look_up_in, value_under}
+use Rattle.triple_arena_traits.proofs.Links.{pointer_is}
+use Rattle.triple_arena_traits.proofs.WellFormed.{live_entry}
+use Rattle.triple_arena_traits.specs.Entries.{entry_in, look_up_in, value_under}
 use Rattle.triple_arena_ptr.specs.Pointers.{Pointer}
 use Rattle.std.specs.Option.{option_and_then}
 use Rattle.std.proofs.Common.{◌∙◌, is_some, IsSome, sym, ap, subst, refl}

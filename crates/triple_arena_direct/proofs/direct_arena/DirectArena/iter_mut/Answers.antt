@@ -1,8 +1,8 @@
 use Rattle.std.proofs.Common.{refl, ap, length, ◌∙◌, arith}
-use Rattle.triple_arena.specs.Walks.{entries}
+use Rattle.triple_arena_traits.specs.Walks.{entries}
 use Rattle.triple_arena_direct.proofs.Keeping.{keeps_pointers}
-use Rattle.triple_arena.specs.WalkLaws.{length-entries}
-use Rattle.triple_arena.proofs.Listing.{count_within}
+use Rattle.triple_arena_traits.specs.WalkLaws.{length-entries}
+use Rattle.triple_arena_traits.proofs.Listing.{count_within}
 use Rattle.triple_arena_direct.proofs.direct_arena.DirectArena.iter_mut.Goals as goal
 
 pub returns : goal.returns

@@ -1,7 +1,7 @@
 use Rattle.std.proofs.Common.{◌∙◌, ◌+◌, Some, sym, ap, subst, arith}
 use Rattle.std.specs.Int.NonZero.{non_zero_usize_get}
-use Rattle.triple_arena.specs.Items.{with_item}
-use Rattle.triple_arena.specs.FreeEnd.{extended}
+use Rattle.triple_arena_traits.specs.Items.{with_item}
+use Rattle.triple_arena_traits.specs.FreeEnd.{extended}
 use Rattle.triple_arena_direct.specs.DirectState.{inserted_at}
 use Rattle.triple_arena_direct.specs.Layout.{Counts}
 use Rattle.triple_arena_direct.proofs.Held.{made, Counts-inserted_at, counted_within}

@@ -1,5 +1,5 @@
 use Rattle.std.proofs.Common.{◌∙◌, ap, subst}
-use Rattle.triple_arena.specs.FreeEnd.{shortened}
+use Rattle.triple_arena_traits.specs.FreeEnd.{shortened}
 use Rattle.triple_arena_direct.specs.DirectState.{settled}
 use Rattle.triple_arena_direct.specs.Layout.{Counts}
 use Rattle.triple_arena_direct.proofs.Held.{made, Counts-settled}

@@ -1,6 +1,6 @@
 use Rattle.std.proofs.Common.{◌∙◌, None, IsSome, sym, ap, subst, arith}
 use Rattle.std.specs.Int.NonZero.{non_zero_usize_get}
-use Rattle.triple_arena.specs.Items.{with_item}
+use Rattle.triple_arena_traits.specs.Items.{with_item}
 use Rattle.triple_arena_direct.specs.DirectState.{removed, direct_len}
 use Rattle.triple_arena_direct.specs.StepLaws.{len_taken}
 use Rattle.triple_arena_direct.specs.Layout.{Counts}

@@ -1,6 +1,6 @@
 use Rattle.std.proofs.Common.{◌∙◌, ◌≤◌, length, map, refl, sym, ap, arith}
 use Rattle.std.proofs.lemmas.List.{length-map}
-use Rattle.triple_arena.proofs.TransferLemmas.{closed_up_slots}
+use Rattle.triple_arena_traits.proofs.TransferLemmas.{closed_up_slots}
 use Rattle.triple_arena_direct.specs.DirectState.{direct_len, direct_capacity, with_slots}
 use Rattle.triple_arena_direct.specs.Slot.{slot_entry}
 use Rattle.triple_arena_direct.proofs.Held.{made, Counts-slots}

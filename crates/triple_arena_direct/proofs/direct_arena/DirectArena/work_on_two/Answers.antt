@@ -1,6 +1,6 @@
 use Rattle.std.proofs.Common.{◌∙◌, refl, ap, subst}
 use Rattle.std.specs.Int.NonZero.{non_zero_usize_get}
-use Rattle.triple_arena.specs.Entries.{with_value_in}
+use Rattle.triple_arena_traits.specs.Entries.{with_value_in}
 use Rattle.triple_arena_direct.specs.DirectState.{with_value}
 use Rattle.triple_arena_direct.specs.Layout.{Counts}
 use Rattle.triple_arena_direct.proofs.Held.{made, both_written, Counts-with_value, entry_value_read}

@@ -1,7 +1,7 @@
 use Rattle.std.proofs.Common.{◌∙◌, sym, ap, refl}
 use Rattle.std.specs.Option.{option_and_then}
-use Rattle.triple_arena.specs.Entries.{value_under, look_up_in}
-use Rattle.triple_arena.proofs.Links.{pointer_is}
+use Rattle.triple_arena_traits.specs.Entries.{value_under, look_up_in}
+use Rattle.triple_arena_traits.proofs.Links.{pointer_is}
 use Rattle.triple_arena_direct.proofs.direct_arena.DirectArenaArenaTrait.get.Goals as goal
 
 pub returns-in-Some-clause-value : goal.returns-in-Some-clause-value

@@ -3,8 +3,8 @@ use Rattle.std.proofs.Math.Path.{fun_ext}
 use Rattle.std.specs.Int.NonZero.{non_zero_usize_get}
 use Rattle.triple_arena_direct.specs.DirectState.{DirectState, with_value}
 use Rattle.std.specs.Option.{option_map}
-use Rattle.triple_arena.specs.Entries.{entry_in}
-use Rattle.triple_arena.proofs.SlotEntries.{none_of}
+use Rattle.triple_arena_traits.specs.Entries.{entry_in}
+use Rattle.triple_arena_traits.proofs.SlotEntries.{none_of}
 use Rattle.triple_arena_direct.specs.Slot.{slot_entry}
 use Rattle.triple_arena_direct.proofs.Held.{lent, entry_value_read}
 use Rattle.triple_arena_direct.proofs.direct_arena.DirectArenaArenaTrait.get_inx_mut.Goals as goal

@@ -1,10 +1,10 @@
 use Rattle.std.proofs.Common.{◌∙◌, false, IsSome, is_some, refl, sym, ap, subst, true≢false}
 use Rattle.std.specs.Int.NonZero.{non_zero_usize_get}
 use Rattle.std.specs.Option.{option_map}
-use Rattle.triple_arena.specs.Ending.{told_of}
-use Rattle.triple_arena.specs.Entries.{entry_in}
-use Rattle.triple_arena.proofs.SlotEntries.{none_of}
-use Rattle.triple_arena.proofs.WellFormed.{live_entry}
+use Rattle.triple_arena_traits.specs.Ending.{told_of}
+use Rattle.triple_arena_traits.specs.Entries.{entry_in}
+use Rattle.triple_arena_traits.proofs.SlotEntries.{none_of}
+use Rattle.triple_arena_traits.proofs.WellFormed.{live_entry}
 use Rattle.triple_arena_direct.specs.DirectState.{removed}
 use Rattle.triple_arena_direct.specs.StepLaws.{slots-removed}
 use Rattle.triple_arena_direct.proofs.Held.{value_read}

@@ -1,8 +1,8 @@
 use Rattle.std.proofs.Common.{◌∙◌, None, false, IsSome, is_some, sym, ap, subst, true≢false}
-use Rattle.triple_arena.specs.Ending.{told_of}
-use Rattle.triple_arena.specs.Entries.{entry_in}
-use Rattle.triple_arena.proofs.LookUps.{others_found}
-use Rattle.triple_arena.proofs.SlotEntries.{none_of}
+use Rattle.triple_arena_traits.specs.Ending.{told_of}
+use Rattle.triple_arena_traits.specs.Entries.{entry_in}
+use Rattle.triple_arena_traits.proofs.LookUps.{others_found}
+use Rattle.triple_arena_traits.proofs.SlotEntries.{none_of}
 use Rattle.triple_arena_direct.specs.DirectState.{removed}
 use Rattle.triple_arena_direct.specs.StepLaws.{slots-removed}
 use Rattle.triple_arena_direct.proofs.direct_arena.DirectArenaArenaTrait.remove_inx.Goals as goal

@@ -1,6 +1,6 @@
 use Rattle.std.proofs.Common.{◌∙◌, ◌<◌, ℕ, ap, refl, arith}
 use Rattle.std.proofs.lemmas.Option.{same_Some}
-use Rattle.triple_arena.proofs.Inserted.{some_lent}
+use Rattle.triple_arena_traits.proofs.Inserted.{some_lent}
 use Rattle.triple_arena_direct.proofs.Held.{rewritten_at}
 use Rattle.triple_arena_direct.proofs.insert_entry.ArenaDirectInsertEntryArenaDirectInsertEntryTrait.insert.Goals as goal
 

@@ -67,7 +67,7 @@ use Rattle.std.proofs.VecSteps.Shapes.{after as after_body}
 use Rattle.std.proofs.Common.{Option}
 use Rattle.std.specs.contracts.option.Option as O-type
 use Rattle.triple_arena_direct.specs.Kept.{Kept, kept_at}
-use Rattle.triple_arena.proofs.Listing.{first_of}
+use Rattle.triple_arena_traits.proofs.Listing.{first_of}
 use Rattle.triple_arena_direct.proofs.Keeping.{kept_all-self}
 use Rattle.triple_arena_direct.specs.declared.slot.DirectSlot.{DirectSlot}
 use Rattle.triple_arena_direct.specs.declared.lent_slots.LentSlots.{LentSlots}

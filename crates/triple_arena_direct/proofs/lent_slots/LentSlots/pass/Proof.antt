@@ -69,9 +69,9 @@ use Rattle.std.proofs.Common.{Option, Some, None}
 use Rattle.std.specs.Option.{option_copied_mut}
 use Rattle.std.specs.contracts.option.Option as O-type
 use Rattle.triple_arena_direct.specs.Slot.{slot_entry, with_slot_value}
-use Rattle.triple_arena.specs.Disjoint.{value_of}
+use Rattle.triple_arena_traits.specs.Disjoint.{value_of}
 use Rattle.triple_arena_direct.specs.Kept.{kept, kept_all, Kept, kept_at}
-use Rattle.triple_arena.proofs.Listing.{first_of}
+use Rattle.triple_arena_traits.proofs.Listing.{first_of}
 use Rattle.triple_arena_direct.proofs.Keeping.{kept-self, kept_all-self, kept-written}
 use Rattle.triple_arena_direct.specs.declared.slot.DirectSlot.{DirectSlot}
 use Rattle.triple_arena_direct.specs.declared.lent_slots.LentSlots.{LentSlots}

@@ -1,5 +1,5 @@
 use Rattle.std.proofs.Common.{refl}
-use Rattle.triple_arena.specs.WalkLaws.{taken}
+use Rattle.triple_arena_traits.specs.WalkLaws.{taken}
 use Rattle.triple_arena_direct.proofs.Reading.{some_read}
 use Rattle.triple_arena_direct.proofs.text.DirectArenaDebug.fmt.Goals as goal
 

@@ -2,9 +2,9 @@ use Rattle.std.proofs.Common.{◌<◌, false, map, ap, subst, ◌∙◌, inr}
 use Rattle.triple_arena_base.specs.Held.{recast_item}
 use Rattle.triple_arena_base.specs.Invalidation.{allowed_option}
 use Rattle.triple_arena_ptr.specs.Numbers.{wraps}
-use Rattle.triple_arena.specs.Entries.{look_up_in}
-use Rattle.triple_arena.specs.ArenaState.{map_values}
-use Rattle.triple_arena.specs.Compression.{wraps_after}
+use Rattle.triple_arena_traits.specs.Entries.{look_up_in}
+use Rattle.triple_arena_traits.specs.ArenaState.{map_values}
+use Rattle.triple_arena_traits.specs.Compression.{wraps_after}
 use Rattle.triple_arena_direct.specs.Renaming.{Refuses}
 use Rattle.triple_arena_run.specs.SessionState.{node_of}
 use Rattle.triple_arena_run.proofs.Shown.{len-shown, arena_changed}

@@ -1,7 +1,7 @@
 use Rattle.std.proofs.Common.{◌≡◌, None, ap, sym, ◌∙◌}
 use Rattle.std.specs.Option.{option_map, option_and_then}
-use Rattle.triple_arena.specs.Items.{item}
-use Rattle.triple_arena.specs.ArenaState.{look_up}
+use Rattle.triple_arena_traits.specs.Items.{item}
+use Rattle.triple_arena_traits.specs.ArenaState.{look_up}
 use Rattle.triple_arena_run.specs.SessionRun.{get_reply}
 use Rattle.triple_arena_run.proofs.session.Session.get.Goals as goal
 

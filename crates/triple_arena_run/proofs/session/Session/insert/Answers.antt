@@ -1,9 +1,9 @@
 use Rattle.std.proofs.Common.{◌≡◌, false, ◌++◌, ◌∷◌, [], List, Some, None, is_some, length, ap, sym, ◌∙◌, inl, inr, ◌+◌}
 use Rattle.std.specs.Option.{option_map}
 use Rattle.triple_arena_base.specs.declared.errors.ReallocationError.TheVariants as refused
-use Rattle.triple_arena.specs.ArenaState.{map_values}
-use Rattle.triple_arena.specs.Insertion.{inserted, next_pointer}
-use Rattle.triple_arena.specs.Capacity.{grown}
+use Rattle.triple_arena_traits.specs.ArenaState.{map_values}
+use Rattle.triple_arena_traits.specs.Insertion.{inserted, next_pointer}
+use Rattle.triple_arena_traits.specs.Capacity.{grown}
 use Rattle.triple_arena_run.specs.declared.node.Node.{Node}
 use Rattle.triple_arena_run.specs.SessionState.{node_of, link_pointer}
 use Rattle.triple_arena_run.specs.SessionRun.{refusal, insert_answer, insert_unless}

@@ -1,7 +1,7 @@
 use Rattle.std.proofs.Common.{◌≡◌, false, ◌++◌, ◌∷◌, [], List, Some, None, is_some, length, ap, sym, ◌∙◌, inr, ◌+◌}
 use Rattle.std.specs.Option.{option_map}
-use Rattle.triple_arena.specs.ArenaState.{map_values}
-use Rattle.triple_arena.specs.Insertion.{inserted, next_pointer}
+use Rattle.triple_arena_traits.specs.ArenaState.{map_values}
+use Rattle.triple_arena_traits.specs.Insertion.{inserted, next_pointer}
 use Rattle.triple_arena_run.specs.declared.node.Node.{Node}
 use Rattle.triple_arena_run.specs.SessionState.{node_of, link_pointer}
 use Rattle.triple_arena_run.specs.SessionRun.{insert_within_answer}

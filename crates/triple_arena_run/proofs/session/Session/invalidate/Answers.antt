@@ -1,7 +1,7 @@
 use Rattle.std.proofs.Common.{◌≡◌, ◌++◌, ◌∷◌, [], List, Some, None, is_some, refl, length, ap, sym, ◌∙◌, inr, ◌+◌}
 use Rattle.std.specs.Option.{option_map, option_copied}
-use Rattle.triple_arena.specs.Items.{item}
-use Rattle.triple_arena.specs.ArenaState.{look_up}
+use Rattle.triple_arena_traits.specs.Items.{item}
+use Rattle.triple_arena_traits.specs.ArenaState.{look_up}
 use Rattle.triple_arena_ptr.specs.Numbers.{raise, wraps}
 use Rattle.triple_arena_run.specs.SessionState.{node_of}
 use Rattle.triple_arena_run.specs.SessionRun.{act_on, invalidate_under}

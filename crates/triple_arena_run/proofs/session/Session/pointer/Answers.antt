@@ -1,6 +1,6 @@
 use Rattle.std.proofs.Common.{ap, sym, ◌∙◌}
 use Rattle.std.specs.Option.{option_map}
-use Rattle.triple_arena.specs.Items.{item}
+use Rattle.triple_arena_traits.specs.Items.{item}
 use Rattle.triple_arena_run.proofs.Mapped.{item-map}
 use Rattle.triple_arena_run.proofs.session.Session.pointer.Goals as goal
 

@@ -1,5 +1,5 @@
 use Rattle.std.proofs.Common.{◌≡◌, ◌≤◌, ◌<◌, false, refl, sym, ◌∙◌}
-use Rattle.triple_arena.specs.ArenaState.{arena_len, capacity}
+use Rattle.triple_arena_traits.specs.ArenaState.{arena_len, capacity}
 use Rattle.triple_arena_run.specs.Limits.{is_at_limit}
 use Rattle.triple_arena_run.proofs.Shown.{refusal-shown, has_place, at_limit, at_greatest, may_grow, reaches_limit, past_limit}
 use Rattle.triple_arena_run.proofs.session.Session.refusal.Goals as goal

@@ -1,7 +1,7 @@
 use Rattle.std.proofs.Common.{◌≡◌, Some, None, is_some, ap, sym, ◌∙◌}
 use Rattle.std.specs.Option.{option_map}
-use Rattle.triple_arena.specs.Items.{item}
-use Rattle.triple_arena.specs.ArenaState.{look_up}
+use Rattle.triple_arena_traits.specs.Items.{item}
+use Rattle.triple_arena_traits.specs.ArenaState.{look_up}
 use Rattle.triple_arena_ptr.specs.Numbers.{wraps}
 use Rattle.triple_arena_run.specs.SessionRun.{act_on, remove_under}
 use Rattle.triple_arena_run.proofs.Shown.{told_some, told_none, entry_removed, not_removed, acts}

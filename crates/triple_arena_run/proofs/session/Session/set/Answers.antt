@@ -1,7 +1,7 @@
 use Rattle.std.proofs.Common.{◌≡◌, Some, None, refl, ap, sym, ◌∙◌}
 use Rattle.std.specs.Option.{option_map}
-use Rattle.triple_arena.specs.Items.{item}
-use Rattle.triple_arena.specs.ArenaState.{with_value}
+use Rattle.triple_arena_traits.specs.Items.{item}
+use Rattle.triple_arena_traits.specs.ArenaState.{with_value}
 use Rattle.triple_arena_run.specs.declared.reply.Reply.TheVariants.{Done}
 use Rattle.triple_arena_run.specs.SessionState.{link_pointer}
 use Rattle.triple_arena_run.specs.SessionRun.{set_answer, act_on}

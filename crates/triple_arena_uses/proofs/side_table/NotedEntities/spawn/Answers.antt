@@ -1,6 +1,6 @@
 use Rattle.std.proofs.Common.{◌≡◌, ◌∙◌, [], ◌∷◌, None, refl, sym, ap, subst}
-use Rattle.triple_arena.specs.ArenaState.{ArenaState}
-use Rattle.triple_arena.specs.Insertion.{next_pointer}
+use Rattle.triple_arena_traits.specs.ArenaState.{ArenaState}
+use Rattle.triple_arena_traits.specs.Insertion.{next_pointer}
 use Rattle.triple_arena_direct.specs.DirectState.{inserted_at}
 use Rattle.triple_arena_direct.specs.Mirrors.{Makes}
 use Rattle.triple_arena_direct.specs.Mirrors.Change.{comes}

@@ -1,9 +1,9 @@
 use Rattle.std.proofs.Common.{ap}
 use Rattle.triple_arena_ptr.specs.Numbers.{raise, first_generation}
-use Rattle.triple_arena.specs.ArenaState.{capacity}
-use Rattle.triple_arena.specs.Compression.{counter_after}
-use Rattle.triple_arena.specs.CompressionLaws.{keys-compressed}
-use Rattle.triple_arena.proofs.Compaction.{count-moved, count_renamed}
+use Rattle.triple_arena_traits.specs.ArenaState.{capacity}
+use Rattle.triple_arena_traits.specs.Compression.{counter_after}
+use Rattle.triple_arena_traits.specs.CompressionLaws.{keys-compressed}
+use Rattle.triple_arena_traits.proofs.Compaction.{count-moved, count_renamed}
 use Rattle.triple_arena.proofs.HistoryLaws.{Continues-compressed, Fits-compressed}
 use Rattle.triple_arena.proofs.base_arena.compaction.ArenaCompactArenaTrait.compress_with.Goals as goal
 

@@ -1,10 +1,10 @@
 use Rattle.std.proofs.Common.{◌≡◌, ◌∙◌, Err, refl, sym, ap, true≢false}
 use Rattle.std.specs.Option.{option_map}
 use Rattle.triple_arena_ptr.specs.Numbers.{first_generation}
-use Rattle.triple_arena.specs.FreeList.{laid_out}
-use Rattle.triple_arena.specs.Capacity.{ready_for}
-use Rattle.triple_arena.specs.Cloning.{counter_of}
-use Rattle.triple_arena.proofs.CopyLemmas.{on_copies, no_answer, beyond_told}
+use Rattle.triple_arena_traits.specs.FreeList.{laid_out}
+use Rattle.triple_arena_traits.specs.Capacity.{ready_for}
+use Rattle.triple_arena_traits.specs.Cloning.{counter_of}
+use Rattle.triple_arena_traits.proofs.CopyLemmas.{on_copies, no_answer, beyond_told}
 use Rattle.triple_arena.proofs.base_arena.copies.ArenaArenaCloneFromWith.clone_from_with.Goals.{in-Some, in-None}
 use Rattle.triple_arena.proofs.base_arena.copies.ArenaArenaCloneFromWith.clone_from_with.Goals as goal
 

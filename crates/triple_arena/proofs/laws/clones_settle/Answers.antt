@@ -1,9 +1,0 @@
-use Rattle.triple_arena.specs.CloningLaws.{clones_settle}
-use Rattle.triple_arena.proofs.laws.clones_settle.Goals as goal
-
-pub returns : goal.returns
-returns g c =
-    record {
-      fits = g.met.A.ArenaCloneFromWith.fitting_cloned;
-      settled = clones_settle _ _ _ _ _ _ g.met.A.ArenaCloneFromWith.fitting_cloned g.met.B.ArenaCloneFromWith.fitting_cloned;
-    }

@@ -1,0 +1,50 @@
+-- What the entries are, where values alone change.
+use Rattle.std.proofs.Common.{◌≡◌, ℕ, zero, suc, ◌+◌, ◌==◌, Bool, true, false, List, [], ◌∷◌, length, Option, Some, None, is_some, cond, refl, ap}
+use Rattle.std.specs.List.{fold}
+use Rattle.std.specs.Option.{option_map, option_and_then}
+use Rattle.triple_arena_traits.specs.Items.{item}
+use Rattle.triple_arena_traits.specs.Entries.{entry_count, value_under}
+use Rattle.triple_arena_traits.specs.Values.{with_value_of, with_values_in, generations_in}
+
+module _ {T : Type 0} where
+  pub length-kept : (es ws : List (Option (ℕ × T))) → length (with_values_in es ws) ≡ length es
+  length-kept [] ws = refl
+  length-kept (e ∷ es) [] = refl
+  length-kept (e ∷ es) (w ∷ ws) = ap suc (length-kept es ws)
+
+  counts : (a : ℕ) (es ws : List (Option (ℕ × T))) → fold (λ (n : ℕ) (o : Option (ℕ × T)). n + cond (is_some o) 1 0) a (with_values_in es ws) ≡ fold (λ (n : ℕ) (o : Option (ℕ × T)). n + cond (is_some o) 1 0) a es
+  counts a [] ws = refl
+  counts a (e ∷ es) [] = refl
+  counts a (None ∷ es) (w ∷ ws) = counts (a + 0) es ws
+  counts a (Some e ∷ es) (None ∷ ws) = counts (a + 1) es ws
+  counts a (Some e ∷ es) (Some w ∷ ws) = counts (a + 1) es ws
+
+  pub count-kept : (es ws : List (Option (ℕ × T))) → entry_count (with_values_in es ws) ≡ entry_count es
+  count-kept es ws = counts 0 es ws
+
+  -- what a test tells of each slot that no value changes, it tells of the slots
+  pub at-kept : {A : Type 0} (f : Option (Option (ℕ × T)) → A) → ((e w : Option (ℕ × T)) → f (Some (with_value_of e w)) ≡ f (Some e)) → (es ws : List (Option (ℕ × T))) (i : ℕ) → f (item (with_values_in es ws) i) ≡ f (item es i)
+  at-kept f same es ws zero = refl
+  at-kept f same [] ws (suc k) = refl
+  at-kept f same (e ∷ es) [] (suc k) = refl
+  at-kept f same (e ∷ es) (w ∷ ws) (suc zero) = same e w
+  at-kept f same (e ∷ es) (w ∷ ws) (suc (suc k)) = at-kept f same es ws (suc k)
+
+  generation-kept : (e w : Option (ℕ × T)) → option_map (λ (x : ℕ × T). x.0) (with_value_of e w) ≡ option_map (λ (x : ℕ × T). x.0) e
+  generation-kept None w = refl
+  generation-kept (Some e) None = refl
+  generation-kept (Some e) (Some w) = refl
+
+  pub generations-kept : (es ws : List (Option (ℕ × T))) → generations_in (with_values_in es ws) ≡ generations_in es
+  generations-kept [] ws = refl
+  generations-kept (e ∷ es) [] = refl
+  generations-kept (e ∷ es) (w ∷ ws) = rw (generation-kept e w, generations-kept es ws) refl
+
+  pub under-kept : (generation : ℕ) (e w : Option (ℕ × T)) → is_some (option_and_then (value_under generation) (with_value_of e w)) ≡ is_some (option_and_then (value_under generation) e)
+  under-kept generation None w = refl
+  under-kept generation (Some e) None = refl
+  under-kept generation (Some e) (Some w) = by_test (e.0 == generation)
+    where
+      by_test : (b : Bool) → is_some (cond b (Some w.1) None) ≡ is_some (cond b (Some e.1) None)
+      by_test true = refl
+      by_test false = refl

@@ -1,0 +1,29 @@
+use Rattle.std.proofs.Common.{◌≡◌, ◌∙◌, ap, refl}
+use Rattle.triple_arena_base.specs.Invalidation.{overflowing_option}
+use Rattle.triple_arena_traits.specs.WalkLaws.{none_left, answer_first, others_ahead, taken}
+use Rattle.triple_arena_traits.proofs.Walking.{overflowing_told}
+use Rattle.triple_arena_traits.proofs.arena_iterators.drain.DrainIterator.next.Goals as goal
+
+pub returns-in_default-clause-steps : goal.returns-in_default-clause-steps
+returns-in_default-clause-steps g c =
+    let step = c.in_default.ensures.step in
+    (refl, λ draining. let none = none_left _ _ _ _ draining step.0 in ((none.0, step.1), rw step.1 none.1))
+
+pub returns-clause-steps : goal.returns-clause-steps
+returns-clause-steps g c =
+    let step = c.in-Some.ensures.step in
+    let taken = c.overflowing-value.ensures ∙ ap overflowing_option step.1 ∙ overflowing_told _ _ in (
+      refl,
+      λ draining. (
+        (_, step.0, rw taken at c.told.ensures, answer_first _ _ _ _ _ draining step.2, step.3, step.4),
+        others_ahead _ _ _ _ _ _ draining step.2 (g.met.A.ArenaTrait.slots_removed _ _ _ step.4.0),
+      ),
+    )
+
+pub returns-clause-goes : goal.returns-clause-goes
+returns-clause-goes g c =
+    record {
+      on = λ f. (tt, tt, (taken _ _ _ _ _ c.in-Some.ensures.step.2).fewer);
+      keeps = tt;
+      rests = λ f. tt;
+    }

@@ -1,0 +1,26 @@
+use Rattle.std.proofs.Common.{◌≡◌, ◌∷◌, ◌∙◌, sym, ap, refl, length, arith}
+use Rattle.triple_arena_traits.specs.WalkLaws.{ahead_taken, ahead_none, ahead_after_none}
+use Rattle.triple_arena_traits.proofs.Present.{some_mapped}
+use Rattle.triple_arena_traits.proofs.arena_iterators.iter.IterIterator.next.Goals as goal
+
+pub unwrap-requires : goal.unwrap-requires
+unwrap-requires g c =
+    some_mapped _ c.get.result _ c.get.ensures.value (g.met.A.CompactArenaTrait.advanced _ _ _ _ c.in-Some.ensures.steps).answers.0
+
+pub returns-clause-steps : goal.returns-clause-steps
+returns-clause-steps g c =
+    sym c.self.view_is ∙ ahead_taken _ _ _ _ _ c.self.invariant (g.met.A.CompactArenaTrait.advanced _ _ _ _ c.in-Some.ensures.steps) c.unwrap.result.now (sym (rw c.unwrap.ensures at c.get.ensures.value))
+
+pub returns-clause-goes : goal.returns-clause-goes
+returns-clause-goes g c =
+    record {
+      on = λ f. (tt, tt, omega (arith, ap length (returns-clause-steps g c)));
+      keeps = tt;
+      rests = λ f. tt;
+    }
+
+pub returns-in_default-clause-steps : goal.returns-in_default-clause-steps
+returns-in_default-clause-steps g c = (
+  sym c.self.view_is ∙ ahead_none _ _ _ _ (g.met.A.CompactArenaTrait.advanced _ _ _ _ c.in_default.ensures.steps),
+  ahead_after_none _ _ _ _ c.self.invariant (g.met.A.CompactArenaTrait.advanced _ _ _ _ c.in_default.ensures.steps),
+)

@@ -1,0 +1,19 @@
+use Rattle.std.proofs.Common.{◌≡◌, [], false}
+use Rattle.triple_arena_ptr.specs.Numbers.{greatest_index}
+use Rattle.triple_arena_traits.specs.Walks.{entries, steps_left}
+use Rattle.triple_arena_traits.specs.Histories.{Continues}
+use Rattle.triple_arena_traits.proofs.Visiting.{GoesOn}
+use Rattle.triple_arena_traits.proofs.compact_arena_trait.CompactArenaTrait.for_each_mut.Given as goal
+
+abbrev pub invariant-walk : goal.invariant-walk
+invariant-walk g l = record {
+  callable : goal.F-IsAlwaysCallable g l.f;
+  forward : (g.Self.ArenaTrait.stand l.advancer).reverse ≡ false;
+  goes_on : GoesOn g.P.Ptr.numbers (goal.F-step g) l.fn.f (entries (g.Self.ArenaTrait.slots l.fn.self)) (g.Self.ArenaTrait.stand l.advancer) (g.Self.ArenaTrait.slots l.self) l.f;
+  limit : g.Self.ArenaTrait.limit l.self ≡ g.Self.ArenaTrait.limit l.fn.self;
+  fitting : g.Self.ArenaTrait.fitting l.self ≡ g.Self.ArenaTrait.fitting l.fn.self;
+  fresh : Continues g.Self.ArenaTrait.fits l.fn.self [] l.self;
+}
+
+abbrev pub decreases-walk : goal.decreases-walk
+decreases-walk g l = steps_left (greatest_index g.P.Inx.PtrInx.greatest) (g.Self.ArenaTrait.stand l.advancer)

@@ -1,0 +1,9 @@
+use Rattle.triple_arena_traits.specs.CloningLaws.{clones_settle}
+use Rattle.triple_arena_traits.proofs.laws.clones_settle.Goals as goal
+
+pub returns : goal.returns
+returns g c =
+    record {
+      fits = g.met.A.ArenaCloneFromWith.fitting_cloned;
+      settled = clones_settle _ _ _ _ _ _ g.met.A.ArenaCloneFromWith.fitting_cloned g.met.B.ArenaCloneFromWith.fitting_cloned;
+    }

@@ -1,0 +1,60 @@
+-- What cloning answers, and what it leaves of an arena.
+use Rattle.std.specs.Prelude.{◌≡◌, ◌≤◌, ℕ, Bool, true, false, List, [], ◌∷◌, ◌++◌, length, Option, Some, None, Result, Ok, Err, MatchResult}
+use Rattle.triple_arena_base.specs.declared.errors.AllocError.{AllocError}
+use Rattle.triple_arena_base.specs.declared.errors.CloneFromError.{CloneFromError}
+use Rattle.triple_arena_base.specs.declared.errors.CloneFromError.TheVariants.{Reallocation, Map}
+use Rattle.triple_arena_ptr.specs.Pointers.{Pointer}
+use Rattle.triple_arena_traits.specs.Items.{item}
+use Rattle.triple_arena_traits.specs.ArenaState.{is_free}
+use Rattle.triple_arena_traits.specs.Walks.{entries}
+use Rattle.triple_arena_traits.specs.FreeList.{last_index}
+
+module _ {E : Type 0} where
+  -- the answer of the copy, as cloning gives it
+  abbrev pub IsCloneAnswer : Result (Unit {0}) E → Result (Unit {0}) (CloneFromError E) → Type 0
+  IsCloneAnswer (Ok x) result = result ≡ Ok x
+  IsCloneAnswer (Err refusal) result = result ≡ Err (Map refusal)
+
+module _ {X E : Type 0} where
+  -- there was no room
+  abbrev pub IsRoomRefusal : Result X (CloneFromError E) → Type 0
+  IsRoomRefusal (Ok x) = ⊥
+  IsRoomRefusal (Err (Reallocation refusal)) = Unit {0}
+  IsRoomRefusal (Err (Map refusal)) = ⊥
+
+-- the next generation of a source, or the first one where it has none
+abbrev pub counter_of : ℕ → Option ℕ → ℕ
+counter_of first None = first
+counter_of first (Some counter) = counter
+
+module _ {T : Type 0} (infallible : T → Type 0) where
+  -- there is a first entry, and the clone of its value may be refused
+  abbrev pub FirstMayFail : List (Pointer × T) → Type 0
+  FirstMayFail [] = ⊥
+  FirstMayFail (e ∷ others) = ¬ (infallible e.1)
+
+  -- these slots hold the entries of a source, up to the first whose clone is refused, and end with the last of them
+  pub record IsFront (source : List (Pointer × T)) (answer : Result (Unit {0}) AllocError) (slots : List (Option (ℕ × T))) : Type 0 where
+    pub rest : List (Pointer × T)
+    pub split : source ≡ entries slots ++ rest
+    pub ends_live : is_free (item slots (length slots)) ≡ false
+    pub ends : MatchResult answer (λ _. rest ≡ []) (λ _. FirstMayFail rest)
+
+module _ {T U A B : Type 0} (slots : A → List (Option (ℕ × T))) (fitting : A → ℕ) (slots_of : B → List (Option (ℕ × U))) (fitting_of : B → ℕ)
+    (clones : B → ℕ → Option ℕ → List (Option (ℕ × U)) → B → Type 0) where
+  -- the second arena is cloned from the first with no refusal, so that both end with the same index; the capacity of each
+  -- reaches it, as that of every arena does
+  pub record ClonesInto (source : A) (old new : B) : Type 0 where
+    pub next : Option ℕ
+    pub copy : List (Option (ℕ × U))
+    pub cloned : clones old (last_index (slots source)) next copy new
+    pub same_end : last_index (slots_of new) ≡ last_index (slots source)
+    pub source_fits : last_index (slots source) ≤ fitting source
+    pub fits : last_index (slots_of new) ≤ fitting_of new
+
+module _ {T U A B : Type 0} (slots : A → List (Option (ℕ × T))) (fitting : A → ℕ) (clones : A → ℕ → Option ℕ → List (Option (ℕ × T)) → A → Type 0)
+    (slots_of : B → List (Option (ℕ × U))) (fitting_of : B → ℕ) (clones_of : B → ℕ → Option ℕ → List (Option (ℕ × U)) → B → Type 0) where
+  -- of two arenas one is cloned into the other: the first into the second, or the second into the first
+  abbrev pub CloneTurn : A × B → Bool → A × B → Type 0
+  CloneTurn old true new = (new.0 ≡ old.0) × ClonesInto slots fitting slots_of fitting_of clones_of old.0 old.1 new.1
+  CloneTurn old false new = (new.1 ≡ old.1) × ClonesInto slots_of fitting_of slots fitting clones old.1 old.0 new.0

@@ -1,0 +1,76 @@
+-- Laws of cloning into an arena.
+use Rattle.std.proofs.Common.{◌≡◌, ℕ, ◌≤◌, nat_lt, cond, Bool, true, false, List, [], ◌∷◌, length, Option, Some, refl, sym, ap, ◌∙◌, arith}
+use Rattle.std.specs.List.{FoldsTo}
+use Rattle.std.proofs.lemmas.Bool.Decides.{nat_tests}
+use Rattle.triple_arena_stack.specs.StackKind.{StackKind}
+use Rattle.triple_arena_traits.specs.ArenaState.{ArenaState, capacity}
+use Rattle.triple_arena_traits.specs.Entries.{entry_in, KeepsEntries}
+use Rattle.triple_arena_traits.specs.FreeList.{laid_out, last_index}
+use Rattle.triple_arena_traits.specs.Cloning.{counter_of, CloneTurn}
+use Rattle.triple_arena_traits.specs.Capacity.{ready_for, reallocated}
+
+module _ {T : Type 0} (kind : StackKind) where
+  -- where there is a place for so many, the arena is ready as it is
+  pub ready-fits : (s : ArenaState T) (m : ℕ) → m ≤ capacity s → ready_for kind s m ≡ s
+  ready-fits s m fits = let no : nat_lt (capacity s) m ≡ false = grind (arith, nat_tests) in ap (λ b. cond b (reallocated kind s m) s) no
+
+  by_case : (b : Bool) (s t : ArenaState T) (x : Option ℕ) → s.limit ≡ x → t.limit ≡ x → (cond b s t).limit ≡ x
+  by_case true s t x p q = p
+  by_case false s t x p q = q
+
+  pub limit-ready : (s : ArenaState T) (m : ℕ) → (ready_for kind s m).limit ≡ s.limit
+  limit-ready s m = by_case (nat_lt (capacity s) m) (reallocated kind s m) s s.limit refl refl
+
+  module _ (first : ℕ) where
+    pub kept-cloned : (old : ArenaState T) (last : ℕ) (next : Option ℕ) (copy : List (Option (ℕ × T))) (new : ArenaState T) → new ≡ laid_out (ready_for kind old last) copy (counter_of first next) → KeepsEntries copy new.slots
+    kept-cloned old last next copy new is i = ap (λ s. entry_in s.slots i) is
+
+    pub limit-cloned : (old : ArenaState T) (last : ℕ) (next : Option ℕ) (copy : List (Option (ℕ × T))) (new : ArenaState T) → new ≡ laid_out (ready_for kind old last) copy (counter_of first next) → new.limit ≡ old.limit
+    limit-cloned old last next copy new is = ap (λ s. s.limit) is ∙ limit-ready old last
+
+    pub fitting-cloned : (old : ArenaState T) (last : ℕ) (next : Option ℕ) (copy : List (Option (ℕ × T))) (new : ArenaState T) → new ≡ laid_out (ready_for kind old last) copy (counter_of first next) → last ≤ capacity old → capacity new ≡ capacity old
+    fitting-cloned old last next copy new is fits = ap capacity is ∙ ap capacity (ready-fits old last fits)
+
+module _ {T U A B : Type 0} (slots : A → List (Option (ℕ × T))) (fitting : A → ℕ) (clones : A → ℕ → Option ℕ → List (Option (ℕ × T)) → A → Type 0)
+    (slots_of : B → List (Option (ℕ × U))) (fitting_of : B → ℕ) (clones_of : B → ℕ → Option ℕ → List (Option (ℕ × U)) → B → Type 0)
+    (stays : (old : A) (last : ℕ) (next : Option ℕ) (copy : List (Option (ℕ × T))) (new : A) → clones old last next copy new → last ≤ fitting old → fitting new ≡ fitting old)
+    (stays_of : (old : B) (last : ℕ) (next : Option ℕ) (copy : List (Option (ℕ × U))) (new : B) → clones_of old last next copy new → last ≤ fitting_of old → fitting_of new ≡ fitting_of old) where
+  abbrev Turn : A × B → Bool → A × B → Type 0
+  Turn = CloneTurn slots fitting clones slots_of fitting_of clones_of
+
+  -- both end with the same index, and the capacity of each reaches it
+  record Settled (pair : A × B) : Type 0 where
+    pub same_end : last_index (slots_of pair.1) ≡ last_index (slots pair.0)
+    pub first_fits : last_index (slots pair.0) ≤ fitting pair.0
+    pub second_fits : last_index (slots_of pair.1) ≤ fitting_of pair.1
+
+  settles : (old : A × B) (turn : Bool) (new : A × B) → Turn old turn new → Settled new
+  settles old true new t =
+      record {
+        same_end = t.1.same_end ∙ sym (ap (λ a. last_index (slots a)) t.0);
+        first_fits = rw t.0 t.1.source_fits;
+        second_fits = t.1.fits;
+      }
+  settles old false new t =
+      record {
+        same_end = ap (λ b. last_index (slots_of b)) t.0 ∙ sym t.1.same_end;
+        first_fits = t.1.fits;
+        second_fits = rw t.0 t.1.source_fits;
+      }
+
+  keeps : (old : A × B) (turn : Bool) (new : A × B) → Settled old → Turn old turn new → (fitting new.0 ≡ fitting old.0) × (fitting_of new.1 ≡ fitting_of old.1)
+  keeps old true new s t =
+      (ap fitting t.0, stays_of old.1 (last_index (slots old.0)) t.1.next t.1.copy new.1 t.1.cloned (omega (arith, s.same_end, s.second_fits)))
+  keeps old false new s t =
+      (stays old.0 (last_index (slots_of old.1)) t.1.next t.1.copy new.0 t.1.cloned (omega (arith, s.same_end, s.first_fits)), ap fitting_of t.0)
+
+  keeps_all : (old : A × B) (turns : List Bool) (new : A × B) → Settled old → FoldsTo Turn old turns new → (fitting new.0 ≡ fitting old.0) × (fitting_of new.1 ≡ fitting_of old.1)
+  keeps_all old [] new s same = (ap (λ p. fitting p.0) (sym same), ap (λ p. fitting_of p.1) (sym same))
+  keeps_all old (turn ∷ turns) new s (next, here, there) =
+      let one = keeps old turn next s here in
+      let rest = keeps_all next turns new (settles old turn next here) there in
+      (rest.0 ∙ one.0, rest.1 ∙ one.1)
+
+  -- once one of two arenas was cloned into the other, further clones leave both capacities
+  pub clones_settle : (start : A × B) (first : Bool) (middle : A × B) (turns : List Bool) (end : A × B) → Turn start first middle → FoldsTo Turn middle turns end → (fitting end.0 ≡ fitting middle.0) × (fitting_of end.1 ≡ fitting_of middle.1)
+  clones_settle start first middle turns end here there = keeps_all middle turns end (settles start first middle here) there

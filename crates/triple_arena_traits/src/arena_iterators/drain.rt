@@ -1,0 +1,150 @@
+//! Draining any compact arena.
+
+ghost use Rattle.std.specs.Prelude.{◌≡◌, ◌∷◌, [], length};
+ghost use Rattle.std.specs.Iterator.{YieldsFirstBy, at_most};
+ghost use Rattle.triple_arena_ptr.specs.Numbers.{greatest_index};
+ghost use Rattle.triple_arena_traits.specs.Walks.{steps_left, entries, keys};
+ghost use Rattle.triple_arena_traits.specs.Histories.{clearing, CountsUp, Continues};
+ghost use Rattle.triple_arena_traits.specs.Drains.{DrainStep, TakeStep, IsDraining, drain_arena, drain_lender, drain_stand};
+
+use crate::answers::told;
+use crate::arena_trait::ArenaTrait;
+use crate::compact_arena_trait::CompactArenaTrait;
+use std::marker::{Model, PhantomData};
+use triple_arena_base::{Advancer, InvalidationOption};
+use triple_arena_ptr::{Ptr, PtrGen, PtrInx};
+
+/// Takes the entries out of an arena, in the order of their indexes.
+///
+/// Each step is a removal, and tells of a wrap as that does. Let go, it clears the arena, and what
+/// that would tell is lost.
+pub struct Drain<'a, P: Ptr, T: Drop, A: CompactArenaTrait<P, T>> {
+    arena: &'a mut A,
+    advancer: A::PtrAdvancer,
+    of: PhantomData<(P, T)>,
+}
+
+impl<'a, P: Ptr, T: Drop, A: CompactArenaTrait<P, T>> Drop for Drain<'a, P, T, A> {
+    fn drop(self)
+        ensures cleared { A.clears (drain_arena self.entry) self.exit.0.now }
+        ensures fresh { CountsUp P.Gen.counting (A.clearing_wraps (drain_arena self.entry))
+            → Continues A.fits (drain_arena self.entry)
+            (clearing (keys (A.slots (drain_arena self.entry))) ∷ []) self.exit.0.now }
+    {
+        let Drain {
+            arena,
+            advancer,
+            of: _,
+        } = self;
+        drop(advancer);
+        let _ = arena.clear();
+    }
+}
+
+impl<'a, P: Ptr, T: Drop, A: CompactArenaTrait<P, T>> Drain<'a, P, T, A> {
+    pub(crate) fn over(arena: &'a mut A) -> Self
+        ensures arena { drain_arena result ≡ arena.old }
+        ensures draining { IsDraining A.slots A.stand result }
+        ensures same_reference { drain_lender result ≡ arena.entry.ghost_name }
+    {
+        Drain {
+            advancer: arena.advancer(),
+            arena,
+            of: PhantomData,
+        }
+    }
+}
+
+impl<'a, P: Ptr, T: Drop, A: CompactArenaTrait<P, T>> Iterator for Drain<'a, P, T, A> {
+    type Item = InvalidationOption<(P, T)>;
+
+    ghost next_gives = { λ before item after. (drain_lender after ≡ drain_lender before)
+        × (IsDraining A.slots A.stand before
+        → DrainStep A.slots A.fits A.removes A.ending_wraps P.Gen.counting P.numbers
+        (drain_arena before) item (drain_arena after) × IsDraining A.slots A.stand after) };
+
+    ghost remaining = { λ drain.
+        at_most (steps_left (greatest_index P.Inx.greatest) (drain_stand A.stand drain)) };
+
+    fn next(&mut self) -> Option<InvalidationOption<(P, T)>> {
+        let Some((p, taken)) = take_next(&mut *self.arena, &mut self.advancer) else {
+            return None;
+        };
+        let (value, wrapped) = taken.overflowing();
+        Some(told(wrapped, (p, value)))
+    }
+
+    fn size_hint(&self) -> (usize, Option<usize>) {
+        (0, None)
+    }
+}
+
+/// Takes the entries out of an arena of its own, in the order of their indexes. It tells of no
+/// wrap, since nothing is left to name what the arena held.
+#[derive(Drop)]
+pub struct CapacityDrain<P: Ptr, T, A: CompactArenaTrait<P, T>> {
+    arena: A,
+    advancer: A::PtrAdvancer,
+    of: PhantomData<(P, T)>,
+}
+
+impl<P: Ptr, T, A: CompactArenaTrait<P, T>> Model for CapacityDrain<P, T, A> {
+    ghost use Rattle.std.specs.Prelude.{List, ◌≡◌, false};
+    ghost use Rattle.triple_arena_ptr.specs.Pointers.{Pointer};
+    ghost use Rattle.triple_arena_traits.specs.Walks.{entries_ahead};
+
+    // What is left.
+    ghost Value = { List (Pointer × T) };
+
+    ghost view = { λ d. entries_ahead (A.stand d.advancer) (A.slots d.arena) };
+
+    ghost invariant = { λ d. (A.stand d.advancer).reverse ≡ false };
+}
+
+impl<P: Ptr, T, A: CompactArenaTrait<P, T>> CapacityDrain<P, T, A> {
+    /// A drain of this arena, with all its entries ahead: for the `IntoIterator` of an arena.
+    pub fn over(arena: A) -> Self
+        ensures { result ≡ entries (A.slots arena) }
+    {
+        let advancer = arena.advancer();
+        CapacityDrain {
+            arena,
+            advancer,
+            of: PhantomData,
+        }
+    }
+}
+
+impl<P: Ptr, T: Drop, A: CompactArenaTrait<P, T> + Drop> Iterator for CapacityDrain<P, T, A> {
+    type Item = (P, T);
+
+    ghost next_gives = { YieldsFirstBy (λ item. (P.numbers item.0, item.1)) (λ rest. rest) };
+
+    ghost remaining = { λ rest. at_most (length rest) };
+
+    fn next(&mut self) -> Option<(P, T)> {
+        let Some((p, taken)) = take_next(&mut self.arena, &mut self.advancer) else {
+            return None;
+        };
+        Some((p, taken.allow()))
+    }
+
+    fn size_hint(&self) -> (usize, Option<usize>) {
+        (0, None)
+    }
+}
+
+// Goes on to the next entry, and takes it out.
+pub(crate) fn take_next<P: Ptr, T, A: CompactArenaTrait<P, T>>(
+    arena: &mut A,
+    advancer: &mut A::PtrAdvancer,
+) -> Option<(P, InvalidationOption<T>)>
+    ensures step { TakeStep A.slots A.fits A.removes A.ending_wraps P.Gen.counting P.numbers
+        (greatest_index P.Inx.greatest) arena.old (A.stand advancer.old) result
+        arena.new (A.stand advancer.new) }
+{
+    let Some(p) = advancer.advance(&*arena) else {
+        return None;
+    };
+    Some((p, arena.remove(p).unwrap()))
+}

@@ -1,0 +1,32 @@
+//! What an arena is: the traits of arenas, and all that is written over them.
+#![tactic(auto)]
+
+pub mod answers;
+mod arena_clone_trait;
+mod arena_direct_insert_trait;
+mod arena_insert_trait;
+pub mod arena_iterators;
+mod arena_trait;
+mod compact_arena_trait;
+mod compress;
+pub mod copying;
+mod disjointable_arena_trait;
+pub mod ends;
+mod entry_slot;
+pub mod entry_slots;
+pub mod laws;
+mod lending_arena;
+pub mod pair_call;
+mod recasting;
+pub mod transferring;
+
+pub use arena_clone_trait::ArenaCloneFromWith;
+pub use arena_direct_insert_trait::{ArenaDirectInsertEntryTrait, ArenaDirectInsertTrait};
+pub use arena_insert_trait::ArenaInsertTrait;
+pub use arena_trait::ArenaTrait;
+pub use compact_arena_trait::CompactArenaTrait;
+pub use compress::close_up;
+pub use disjointable_arena_trait::DisjointableArenaTrait;
+pub use entry_slot::EntrySlot;
+pub use lending_arena::LendingArena;
+pub use recasting::recast_entries;

@@ -38,7 +38,7 @@ pub use tested_arena::{
 pub use token::Token;
 pub use told::{NO_ENTRY, NO_POINTER, NO_VALUE, NOT_DRAINED, Told};
 pub use trial::{
-    Removed, Steps, Tidied, Trial, Unchanged, from_empty, on_array, on_fixed, on_heap, on_limited,
-    on_little,
+    Removed, Steps, Tidied, Trial, Unchanged, from_empty, on_fixed, on_heap, on_limited, on_little,
+    on_new,
 };
 pub use walk_calls::next_steps;

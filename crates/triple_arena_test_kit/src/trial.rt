@@ -1,6 +1,6 @@
 //! What is tried on arenas, and the arenas over each stack that it is tried on.
 
-use crate::arenas::{Fixed, Heap, Limited, Little, Places, new_arena, with_room};
+use crate::arenas::{Fixed, Heap, Limited, Little, new_arena, with_room};
 use crate::call::Call;
 use crate::numbered::Numbered;
 use crate::tables::{Wrong, follow, follow_tidied, follow_unchanged, step};
@@ -161,12 +161,15 @@ where
     on_stack_with_limit::<P, Little<P, N>, T>(alloc, room, trial)
 }
 
-/// Tries it on an arena over an array of `N` places, as `new` makes it.
-pub fn on_array<P: Ptr, const N: usize, T: Trial>(alloc: Global, trial: &T) -> Result<(), Wrong>
+/// Tries it on an arena as `new` makes it over the stack `S`, such as an array.
+pub fn on_new<P: Ptr, S: NonZeroInxGenericStack<ArenaSlot<P, Token>> + Drop, T: Trial>(
+    alloc: Global,
+    trial: &T,
+) -> Result<(), Wrong>
 where
     P::Gen: Numbered,
 {
-    on_stack::<P, Places<P, N>, T>(alloc, None, trial)
+    on_stack::<P, S, T>(alloc, None, trial)
 }
 
 /// Follows a table on an arena as `new` makes it on the heap.

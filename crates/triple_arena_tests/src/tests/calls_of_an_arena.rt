@@ -6,8 +6,8 @@ use std::test::Fail;
 use triple_arena_base::ReallocationError;
 use triple_arena_ptr::{P0, P1, P2, P3, P4, P5, Ptr, PtrNoGen, Q2};
 use triple_arena_test_kit::{
-    B, Call, Narrow, Numbered, Steps, Told, Wide, Wrong, on_array, on_fixed, on_heap, on_limited,
-    on_little,
+    B, Call, Narrow, Numbered, Places, Steps, Told, Wide, Wrong, on_fixed, on_heap, on_limited,
+    on_little, on_new,
 };
 
 // Each call, on an arena with place for six and no entry.
@@ -87,9 +87,9 @@ fn each_own_call_over_each_stack_on_the_heap(rt: HostRuntime) -> Result<(), Fail
 
 #[test]
 fn each_own_call_over_an_array(rt: HostRuntime) -> Result<(), Fail> {
-    on_array::<P0, 6, _>(rt.alloc(), &EACH_OWN_CALL)?;
-    on_array::<P5, 6, _>(rt.alloc(), &EACH_OWN_CALL)?;
-    on_array::<Narrow, 6, _>(rt.alloc(), &EACH_OWN_CALL)?;
+    on_new::<P0, Places<P0, 6>, _>(rt.alloc(), &EACH_OWN_CALL)?;
+    on_new::<P5, Places<P5, 6>, _>(rt.alloc(), &EACH_OWN_CALL)?;
+    on_new::<Narrow, Places<Narrow, 6>, _>(rt.alloc(), &EACH_OWN_CALL)?;
     Ok(())
 }
 

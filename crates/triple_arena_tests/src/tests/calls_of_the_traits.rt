@@ -7,8 +7,8 @@ use triple_arena::{Arena, ArenaTrait};
 use triple_arena_base::ReallocationError;
 use triple_arena_ptr::{P0, P1, P4, P5, Ptr, PtrNoGen};
 use triple_arena_test_kit::{
-    B, Call, Heap, Narrow, Numbered, Steps, TestedArena, Token, Told, Trial, Wide, Wrong, follow,
-    inx, is_told, on_array, on_fixed, on_heap, on_limited, on_little, step,
+    B, Call, Heap, Narrow, Numbered, Places, Steps, TestedArena, Token, Told, Trial, Wide, Wrong,
+    follow, inx, is_told, on_fixed, on_heap, on_limited, on_little, on_new, step,
 };
 
 // Each call, on an arena with three places, this limit and no entry.
@@ -128,9 +128,9 @@ fn each_call_on_pointers_with_byte_generations(rt: HostRuntime) -> Result<(), Fa
 
 #[test]
 fn each_call_over_an_array(rt: HostRuntime) -> Result<(), Fail> {
-    on_array::<P0, 3, _>(rt.alloc(), &UNDER_A_LIMIT)?;
-    on_array::<P5, 3, _>(rt.alloc(), &UNDER_A_LIMIT)?;
-    on_array::<Narrow, 3, _>(rt.alloc(), &UNDER_A_LIMIT)?;
+    on_new::<P0, Places<P0, 3>, _>(rt.alloc(), &UNDER_A_LIMIT)?;
+    on_new::<P5, Places<P5, 3>, _>(rt.alloc(), &UNDER_A_LIMIT)?;
+    on_new::<Narrow, Places<Narrow, 3>, _>(rt.alloc(), &UNDER_A_LIMIT)?;
     Ok(())
 }
 
@@ -240,6 +240,6 @@ fn a_new_arena_over_each_stack(rt: HostRuntime) -> Result<(), Fail> {
     let no_place = Steps(&[(Call::Bounds, Told::Bounds(0, 0, Some(0)))]);
     on_fixed::<P0, _>(rt.alloc(), None, &no_place)?;
     let eight_places = Steps(&[(Call::Bounds, Told::Bounds(0, 8, Some(8)))]);
-    on_array::<P0, 8, _>(rt.alloc(), &eight_places)?;
+    on_new::<P0, Places<P0, 8>, _>(rt.alloc(), &eight_places)?;
     Ok(())
 }

@@ -5,8 +5,8 @@ use std::test::Fail;
 use triple_arena_base::ReallocationError;
 use triple_arena_ptr::{P0, P1, P5};
 use triple_arena_test_kit::{
-    Call, Narrow, Steps, TestedArena, Told, Trial, Wrong, follow_tidied, on_array, on_fixed,
-    on_limited, on_little, step,
+    Call, Narrow, Places, Steps, TestedArena, Told, Trial, Wrong, follow_tidied, on_fixed,
+    on_limited, on_little, on_new, step,
 };
 
 const BEYOND: Told = Told::Refused(ReallocationError::BeyondMaxCapacity);
@@ -63,7 +63,7 @@ fn past_the_greatest_index_and_the_limit(rt: HostRuntime) -> Result<(), Fail> {
     };
     on_limited::<P5, _>(rt.alloc(), Some(4), &bytes)?;
     on_fixed::<P5, _>(rt.alloc(), Some(4), &bytes)?;
-    on_array::<P5, 4, _>(rt.alloc(), &bytes)?;
+    on_new::<P5, Places<P5, 4>, _>(rt.alloc(), &bytes)?;
     let words = RefusesReallocation {
         asked: &[(5, BEYOND), (65535, BEYOND), (65536, NO_MEMORY)],
     };

@@ -10,8 +10,8 @@ use triple_arena_ptr::P0;
 use triple_arena_stack::NonZeroInxGenericStack;
 use triple_arena_test_kit::{
     Call, Fixed, Heap, Limited, Places, State, Steps, TestedArena, Token, Told, Trial, Wrong,
-    follow, follow_tidied, follow_unchanged, has_state, is_told, on_array, on_fixed, on_heap,
-    on_limited, step, where_there_is_memory,
+    follow, follow_tidied, follow_unchanged, has_state, is_told, on_fixed, on_heap, on_limited,
+    on_new, step, where_there_is_memory,
 };
 
 // More slots than a vector may hold.
@@ -307,7 +307,7 @@ fn each_refusal_under_a_limit_leaves_the_arena_as_it_was(rt: HostRuntime) -> Res
 fn each_refusal_of_fixed_room_and_arrays_leaves_the_arena_as_it_was(
     rt: HostRuntime,
 ) -> Result<(), Fail> {
-    on_array::<P0, 8, _>(rt.alloc(), &WhateverIsRefused)?;
+    on_new::<P0, Places<P0, 8>, _>(rt.alloc(), &WhateverIsRefused)?;
     let tried = on_fixed::<P0, _>(rt.alloc(), Some(5), &WhateverIsRefused);
     where_there_is_memory(tried)?;
     Ok(())

@@ -4,8 +4,8 @@ use std::alloc::Global;
 use std::test::Fail;
 use triple_arena_ptr::P5;
 use triple_arena_test_kit::{
-    B, Call, Narrow, TestedArena, Told, Trial, Wrong, follow, from_empty, on_array, on_fixed,
-    on_heap, on_limited, step,
+    B, Call, Narrow, Places, TestedArena, Told, Trial, Wrong, follow, from_empty, on_fixed,
+    on_heap, on_limited, on_new, step,
 };
 
 // 253 times an insertion and its removal, which raise a byte counter from 2 to its end.
@@ -64,7 +64,7 @@ fn from_one_entry(alloc: Global, counter: u64, steps: &[(Call, Told)]) -> Result
     on_heap::<Narrow, _>(alloc, Some(2), &trial)?;
     on_limited::<Narrow, _>(alloc, Some(2), &trial)?;
     on_fixed::<Narrow, _>(alloc, Some(2), &trial)?;
-    on_array::<Narrow, 2, _>(alloc, &trial)
+    on_new::<Narrow, Places<Narrow, 2>, _>(alloc, &trial)
 }
 
 // Each raise from `before` gives `after`, and tells whether it wrapped.

@@ -11,8 +11,8 @@ use triple_arena_base::ReallocationError;
 use triple_arena_ptr::{P0, P4, P5, Ptr, PtrGen, PtrInx};
 use triple_arena_stack::NonZeroInxGenericStack;
 use triple_arena_test_kit::{
-    Call, Heap, Narrow, Steps, TestedArena, Token, Told, Trial, Wrong, follow, from_empty, is_told,
-    new_arena, on_array, on_fixed, on_heap, on_limited, pointer, step,
+    Call, Heap, Narrow, Places, Steps, TestedArena, Token, Told, Trial, Wrong, follow, from_empty,
+    is_told, new_arena, on_fixed, on_heap, on_limited, on_new, pointer, step,
 };
 
 // Takes an entry of any arena and lets it go: nothing is inserted, and its room stays.
@@ -151,7 +151,7 @@ const EACH_ENTRY_CALL: Steps = Steps(&[
 fn each_entry_call_on_each_stack_with_a_limit(rt: HostRuntime) -> Result<(), Fail> {
     on_limited::<P0, _>(rt.alloc(), Some(2), &EACH_ENTRY_CALL)?;
     on_fixed::<P4, _>(rt.alloc(), Some(2), &EACH_ENTRY_CALL)?;
-    on_array::<Narrow, 2, _>(rt.alloc(), &EACH_ENTRY_CALL)?;
+    on_new::<Narrow, Places<Narrow, 2>, _>(rt.alloc(), &EACH_ENTRY_CALL)?;
     Ok(())
 }
 
@@ -170,6 +170,6 @@ fn an_entry_over_each_stack_by_its_name(rt: HostRuntime) -> Result<(), Fail> {
     on_heap::<P0, _>(rt.alloc(), Some(3), &EACH_ENTRY_INSERTION)?;
     on_limited::<P0, _>(rt.alloc(), Some(3), &EACH_ENTRY_INSERTION)?;
     on_fixed::<P0, _>(rt.alloc(), Some(3), &EACH_ENTRY_INSERTION)?;
-    on_array::<P0, 3, _>(rt.alloc(), &EACH_ENTRY_INSERTION)?;
+    on_new::<P0, Places<P0, 3>, _>(rt.alloc(), &EACH_ENTRY_INSERTION)?;
     Ok(())
 }

@@ -4,8 +4,8 @@ use std::test::Fail;
 use triple_arena_base::GetDisjointMutError;
 use triple_arena_ptr::{P0, P4};
 use triple_arena_test_kit::{
-    B, Call, Narrow, Steps, TestedArena, Told, Trial, Unchanged, Wrong, follow_to, on_array,
-    on_heap, step,
+    B, Call, Narrow, Places, Steps, TestedArena, Told, Trial, Unchanged, Wrong, follow_to, on_heap,
+    on_new, step,
 };
 
 const OUT_OF_BOUNDS: Told = Told::Apart(GetDisjointMutError::IndexOutOfBounds);
@@ -96,14 +96,14 @@ impl Trial for EachPair {
 #[test]
 fn each_pair_on_wide_pointers(rt: HostRuntime) -> Result<(), Fail> {
     on_heap::<P0, _>(rt.alloc(), Some(3), &EachPair)?;
-    on_array::<P0, 3, _>(rt.alloc(), &EachPair)?;
+    on_new::<P0, Places<P0, 3>, _>(rt.alloc(), &EachPair)?;
     Ok(())
 }
 
 #[test]
 fn each_pair_on_byte_pointers_and_without_generations(rt: HostRuntime) -> Result<(), Fail> {
     on_heap::<Narrow, _>(rt.alloc(), Some(3), &EachPair)?;
-    on_array::<Narrow, 3, _>(rt.alloc(), &EachPair)?;
+    on_new::<Narrow, Places<Narrow, 3>, _>(rt.alloc(), &EachPair)?;
     on_heap::<P4, _>(rt.alloc(), Some(3), &EachPair)?;
     Ok(())
 }

@@ -5,6 +5,7 @@ use std::fmt;
 use std::fmt::{Debug, Write};
 use std::test::Fail;
 use triple_arena::{Arena, ArenaInsertTrait, ArenaSlot, ArenaTrait};
+use triple_arena_base::ReallocationError;
 use triple_arena_ptr::{P0, P4, Ptr, Q2};
 use triple_arena_stack::NonZeroInxGenericStack;
 use triple_arena_test_kit::{
@@ -65,6 +66,11 @@ fn entries_stand_by_index_over_each_stack(rt: HostRuntime) -> Result<(), Fail> {
     Ok(())
 }
 
+// The pointer of a new value.
+fn put<T: Drop>(arena: &mut Arena<P0, T>, value: T) -> Result<P0, ReallocationError> {
+    arena.insert(value)
+}
+
 // The text of an arena on the heap.
 fn text_of<T: Debug>(alloc: Global, arena: &Arena<P0, T>) -> Result<String, AllocError> {
     format!(in alloc; "{arena:?}")
@@ -74,16 +80,16 @@ fn text_of<T: Debug>(alloc: Global, arena: &Arena<P0, T>) -> Result<String, Allo
 fn a_value_has_its_own_text(rt: HostRuntime) -> Result<(), Fail> {
     let alloc = rt.alloc();
     let mut words: Arena<P0, &str> = Arena::new(alloc);
-    words.insert("test")?;
+    put(&mut words, "test")?;
     assert_eq!(rt; text_of(alloc, &words)?.as_str(), r#"{P0[1](2): "test"}"#);
-    words.insert("hello")?;
+    put(&mut words, "hello")?;
     assert_eq!(rt;
         text_of(alloc, &words)?.as_str(),
         r#"{P0[1](2): "test", P0[2](2): "hello"}"#
     );
     let mut links: Arena<P0, (u64, Option<P0>)> = Arena::new(alloc);
-    let first = links.insert((42, None))?;
-    links.insert((1337, Some(first)))?;
+    let first = put(&mut links, (42, None))?;
+    put(&mut links, (1337, Some(first)))?;
     assert_eq!(rt;
         text_of(alloc, &links)?.as_str(),
         "{P0[1](2): (42, None), P0[2](2): (1337, Some(P0[1](2)))}"

@@ -3,8 +3,8 @@
 use std::test::Fail;
 use triple_arena_ptr::{P0, P4};
 use triple_arena_test_kit::{
-    B, Call, NO_ENTRY, NO_VALUE, Narrow, SLOTS, State, Steps, TestedArena, Told, Trial, Unchanged,
-    Wide, Wrong, follow_to, on_array, on_fixed, on_heap, on_limited, on_little, step,
+    B, Call, NO_ENTRY, NO_VALUE, Narrow, Places, SLOTS, State, Steps, TestedArena, Told, Trial,
+    Unchanged, Wide, Wrong, follow_to, on_fixed, on_heap, on_limited, on_little, on_new, step,
 };
 
 // A call that adds ten to each value, with what it met: it leaves the arena with these values as it
@@ -80,7 +80,7 @@ fn ten_is_added_to_three_of_five_on_wide_pointers(rt: HostRuntime) -> Result<(),
     on_heap::<P0, _>(rt.alloc(), None, &ThreeOfFive)?;
     on_limited::<P0, _>(rt.alloc(), Some(5), &ThreeOfFive)?;
     on_fixed::<P0, _>(rt.alloc(), Some(5), &ThreeOfFive)?;
-    on_array::<P0, 5, _>(rt.alloc(), &ThreeOfFive)?;
+    on_new::<P0, Places<P0, 5>, _>(rt.alloc(), &ThreeOfFive)?;
     on_heap::<Wide, _>(rt.alloc(), None, &ThreeOfFive)?;
     Ok(())
 }

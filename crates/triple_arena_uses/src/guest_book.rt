@@ -1,10 +1,10 @@
 //! A book of guests, which names each by a pointer that it never gave before.
 
-ghost use Rattle.std.specs.Prelude.{◌≡◌, ◌++◌, ◌∷◌, [], false, map, IfOk, OnErr, option_copied};
+ghost use Rattle.std.specs.Prelude.{◌≡◌, ◌++◌, ◌∷◌, ◌&&◌, ◌||◌, [], false, map, None, Some, is_some, IfOk, OnErr, option_copied};
 ghost use Rattle.triple_arena_traits.specs.ArenaState.{look_up};
 ghost use Rattle.triple_arena_traits.specs.Histories.{has, AreDistinct};
 ghost use Rattle.triple_arena_uses.specs.Entities.{numbers};
-ghost use Rattle.triple_arena_uses.specs.Guests.{BookState};
+ghost use Rattle.triple_arena_uses.specs.Guests.{BookState, is_before_wrap};
 
 use std::alloc::Global;
 use std::marker::Model;
@@ -63,6 +63,7 @@ impl GuestBook {
     pub fn arrive(&mut self, guest: u32) -> Result<P0, ReallocationError>
         ensures new { self.old.wrapped ≡ false
             → IfOk result (λ p. has self.old.came (numbers p) ≡ false) }
+        ensures found { IfOk result (λ p. look_up self.new.guests (numbers p) ≡ Some guest) }
         ensures came { IfOk result (λ p. self.new.came ≡ self.old.came ++ numbers p ∷ []) }
         ensures refused { OnErr result (self.new ≡ self.old) }
         ensures wrapped { self.new.wrapped ≡ self.old.wrapped }
@@ -75,10 +76,14 @@ impl GuestBook {
         Ok(p)
     }
 
-    /// A guest leaves, if there is one of this pointer. The pointer stays in the book.
+    /// A guest leaves, if there is one of this pointer. The pointer stays in the book. The counter
+    /// wraps where it stood at the greatest generation, and only there.
     pub fn leave(&mut self, p: P0) -> Option<u32>
         ensures guest { result ≡ look_up self.old.guests (numbers p) }
+        ensures gone { look_up self.new.guests (numbers p) ≡ None }
         ensures came { self.new.came ≡ self.old.came }
+        ensures wrapped { self.new.wrapped
+            ≡ self.old.wrapped || (is_some result && is_before_wrap self.old) }
     {
         match self.guests.remove(p) {
             InvalidationResult::Success(guest) => Some(guest),

@@ -3,11 +3,14 @@
 //!
 //! Its compaction is proved to keep the wires: they are the old ones, both ends of each renamed.
 
-ghost use Rattle.std.specs.Prelude.{◌≡◌, map, None, Some, IfOk, OnErr, option_copied};
+ghost use Rattle.std.specs.Prelude.{◌≡◌, ◌≢◌, map, None, Some, IfOk, OnErr, option_copied};
+ghost use Rattle.std.specs.Result.{IfErr};
+ghost use Rattle.triple_arena_base.specs.Held.{held_all};
 ghost use Rattle.triple_arena_base.specs.Invalidation.{allowed_option};
 ghost use Rattle.triple_arena_ptr.specs.Pointers.{Pointer};
-ghost use Rattle.triple_arena_traits.specs.ArenaState.{look_up};
-ghost use Rattle.triple_arena_direct.specs.Renaming.{MapsPointers};
+ghost use Rattle.triple_arena_traits.specs.ArenaState.{look_up, arena_len};
+ghost use Rattle.triple_arena_traits.specs.Walks.{values};
+ghost use Rattle.triple_arena_direct.specs.Renaming.{MapsPointers, first_unresolved, Refuses};
 ghost use Rattle.triple_arena_uses.specs.Netlist.{wires, rewired};
 
 use std::alloc::Global;
@@ -47,6 +50,8 @@ impl<P: Ptr, G: Recast<P>> Netlist<P, G> {
     where
         G: Drop,
         ensures found { IfOk result (λ p. look_up self.new (P.numbers p) ≡ Some gate) }
+        ensures others { IfOk result (λ p. (q : Pointer) → q.0 ≢ (P.numbers p).0
+            → look_up self.new q ≡ look_up self.old q) }
         ensures refused { OnErr result (self.new ≡ self.old) }
     {
         self.gates.insert(gate)
@@ -56,6 +61,8 @@ impl<P: Ptr, G: Recast<P>> Netlist<P, G> {
     pub fn remove(&mut self, p: P) -> Option<G>
         ensures answer { result ≡ look_up self.old (P.numbers p) }
         ensures gone { look_up self.new (P.numbers p) ≡ None }
+        ensures others { (q : Pointer) → q ≢ P.numbers p
+            → look_up self.new q ≡ look_up self.old q }
     {
         self.gates.remove(p).allow()
     }
@@ -70,7 +77,8 @@ impl<P: Ptr, G: Recast<P>> Netlist<P, G> {
     /// Moves the gates to the indexes from 1 on, and renames every wire with them. The map tells the
     /// new pointer of each gate.
     ///
-    /// Refused where a wire leads nowhere, and where memory is; then nothing changes.
+    /// Refused with the first wire that leads nowhere, or where there is a gate and memory is refused
+    /// (`Refuses`); then nothing changes.
     pub fn compact(
         &mut self,
         alloc: Global,
@@ -80,6 +88,8 @@ impl<P: Ptr, G: Recast<P>> Netlist<P, G> {
             × (wires P.numbers G.held self.new.slots
             ≡ map (rewired rename) (wires P.numbers G.held self.old.slots))) }
         ensures refused { OnErr result (self.new ≡ self.old) }
+        ensures refusal { IfErr result (Refuses (arena_len self.old)
+            (first_unresolved P.numbers self.old.slots (held_all G.held (values self.old.slots)))) }
     {
         compress_recast(&mut self.gates, alloc, false)
     }

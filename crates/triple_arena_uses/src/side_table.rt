@@ -3,9 +3,12 @@
 //! The notes lie in a direct arena that mirrors the arena of the entities: it is given each
 //! insertion and each removal. So a note stands under a pointer exactly where an entity does.
 
-ghost use Rattle.std.specs.Prelude.{◌≡◌, ◌≢◌, None, Some, IfOk, OnErr, is_some};
+ghost use Rattle.std.specs.Prelude.{◌≡◌, ◌≢◌, ◌<◌, ◌≤◌, None, Some, IsOk, IfOk, OnErr, is_some};
 ghost use Rattle.triple_arena_ptr.specs.Pointers.{Pointer};
+ghost use Rattle.triple_arena_traits.specs.ArenaState.{arena_len, capacity};
 ghost use Rattle.triple_arena_traits.specs.Entries.{look_up_in};
+ghost use Rattle.triple_arena_traits.specs.Insertion.{next_pointer};
+ghost use Rattle.triple_arena_direct.specs.DirectState.{direct_capacity};
 ghost use Rattle.triple_arena_uses.specs.Entities.{numbers};
 ghost use Rattle.triple_arena_uses.specs.Notes.{Noted};
 
@@ -48,13 +51,15 @@ impl NotedEntities {
 
     /// A new entity of this health, with a note.
     ///
-    /// Refused where there is no room for one of the two; then nothing changes.
+    /// Refused only where there is no room for one of the two; then nothing changes.
     pub fn spawn(&mut self, health: u32, note: u64) -> Result<P0, NotWithinCapacityError>
         ensures noted { IfOk result
             (λ p. look_up_in self.new.notes.slots (numbers p) ≡ Some note) }
         ensures others { IfOk result (λ p. (q : Pointer) → q ≢ numbers p
             → look_up_in self.new.notes.slots q ≡ look_up_in self.old.notes.slots q) }
         ensures refused { OnErr result (self.new ≡ self.old) }
+        ensures succeeds { arena_len self.old.entities < capacity self.old.entities
+            → (next_pointer self.old.entities).0 ≤ direct_capacity self.old.notes → IsOk result }
     {
         laws::mirror_keeps_pointers::<Entity, u64>();
         if self.entities.len() >= self.entities.capacity() {

@@ -1,7 +1,8 @@
-use Rattle.std.proofs.Common.{◌≡◌, ◌∙◌, [], ◌∷◌, None, refl, sym, ap, subst}
+use Rattle.std.proofs.Common.{◌≡◌, ◌≤◌, ◌∙◌, [], ◌∷◌, None, refl, sym, ap, subst}
+use Rattle.triple_arena_ptr.specs.Pointers.{Pointer}
 use Rattle.triple_arena_traits.specs.ArenaState.{ArenaState}
 use Rattle.triple_arena_traits.specs.Insertion.{next_pointer}
-use Rattle.triple_arena_direct.specs.DirectState.{inserted_at}
+use Rattle.triple_arena_direct.specs.DirectState.{direct_capacity, inserted_at}
 use Rattle.triple_arena_direct.specs.Mirrors.{Makes}
 use Rattle.triple_arena_direct.specs.Mirrors.Change.{comes}
 use Rattle.triple_arena_uses.specs.declared.entity_table.Entity.{Entity}
@@ -16,3 +17,12 @@ invariant_of-self c =
     law.kept entities.slots notes (comes (next_pointer entities) ∷ []) _ _ c.self.invariant
     (_, subst (λ (s : ArenaState Entity). Makes entities.slots (comes (next_pointer entities)) s.slots) (sym c.insert_reserved.ensures.inserted) (law.insertion entities entity c.insert_reserved.ensures.valid), refl)
     (_, (c.args.note, c.direct_insert_reserved.ensures.inserted ∙ ap (λ q. inserted_at notes q c.args.note) c.next_ptr-p.ensures.pointer), refl)
+
+pub returns-then-not-can_direct_insert-clause-succeeds : goal.returns-then-not-can_direct_insert-clause-succeeds
+returns-then-not-can_direct_insert-clause-succeeds c =
+    let entities : ArenaState Entity = c.self.inside.entities in
+    let notes = c.self.inside.notes in
+    let within = λ (p : Pointer). p.0 ≤ direct_capacity notes in
+    rw (← c.self.view_is)
+    (λ _ reaches. sym c.if-not-can_direct_insert.true
+    ∙ c.can_direct_insert.ensures.1 (c.mirror_keeps_pointers.ensures.has_place entities.slots notes _ c.self.invariant c.next_ptr-p.ensures.free (subst within (sym c.next_ptr-p.ensures.pointer) reaches)))

@@ -1,12 +1,12 @@
 -- Laws of histories: each model call takes every history that fits to one that fits.
-use Rattle.std.proofs.Common.{◌≡◌, ◌≢◌, ◌⊎◌, ℕ, ◌+◌, ◌<◌, ◌≤◌, ◌==◌, ◌&&◌, ◌||◌, Bool, true, false, not, List, [], ◌∷◌, ◌++◌, length, Option, Some, None, is_some, IsSome, IsTrue, Result, Ok, Err, OnOk, OnErr, nat_lt, cond, refl, sym, ap, subst, ◌∙◌, inl, inr, arith, true≢false}
+use Rattle.std.proofs.Common.{◌≡◌, ◌≢◌, ◌⊎◌, ℕ, zero, suc, ◌+◌, ◌<◌, ◌≤◌, ◌==◌, ◌&&◌, ◌||◌, Bool, true, false, not, List, [], ◌∷◌, ◌++◌, length, Option, Some, None, is_some, IsSome, IsTrue, Result, Ok, Err, OnOk, OnErr, nat_lt, slice_get, take, drop, cond, refl, sym, ap, subst, ◌∙◌, inl, inr, arith, true≢false}
 use Rattle.std.proofs.lemmas.Bool.{cases_eq, cases_Bool, and_parts, or_cases}
 use Rattle.std.specs.Option.{option_map}
 use Rattle.triple_arena_ptr.specs.Numbers.{raise, wraps}
 use Rattle.triple_arena_ptr.specs.Pointers.{Pointer, is_same}
 use Rattle.triple_arena_stack.specs.StackKind.{StackKind}
 use Rattle.triple_arena_traits.specs.ItemLaws.{joined, eq_true, eq_false}
-use Rattle.triple_arena_traits.specs.Entries.{KeepsEntries}
+use Rattle.triple_arena_traits.specs.Entries.{entry_in, KeepsEntries}
 use Rattle.triple_arena_traits.specs.ArenaState.{ArenaState, entry, look_up, arena_len, capacity, with_value, IsWellFormed}
 use Rattle.triple_arena_traits.specs.Insertion.{place, next_pointer, inserted}
 use Rattle.triple_arena_traits.specs.Ending.{removed, invalidated, cleared}
@@ -16,6 +16,7 @@ use Rattle.triple_arena_traits.specs.EntryLaws.{by_case, changes_at, slots-remov
 use Rattle.triple_arena.proofs.Keeping.{keeps_pointers}
 use Rattle.triple_arena_traits.proofs.WellFormed.{kept-inserted, place_free, counter-removed, live_item, live_counted}
 use Rattle.triple_arena_traits.specs.Compression.{closed_up, compressed, raised_if_any, counter_after, wraps_after}
+use Rattle.triple_arena_traits.specs.HeldSlots.{held_entry, refill_entry, refill_slots}
 use Rattle.triple_arena_traits.specs.Values.{with_values_of}
 use Rattle.triple_arena_traits.specs.Walks.{keys}
 use Rattle.triple_arena_traits.specs.WalkLaws.{found}
@@ -157,6 +158,20 @@ module _ {T : Type 0} where
 
   pub Continues-values_of : (s w : ArenaState T) → Continues Fits s [] (with_values_of s w)
   Continues-values_of s w = Continues-none s (with_values_of s w) (keeps_pointers s w).pointers (omega arith)
+
+  module _ {I : Type 0} (held : T → List I) (refill : T → List I → T) where
+    refilled_at : (h : ℕ) (xs : List (Option (ℕ × T))) (items : List I) (k : ℕ) → live_in h (joined (slice_get (refill_slots held refill xs items) k)) ≡ live_in h (joined (slice_get xs k))
+    refilled_at h [] items k = refl
+    refilled_at h (None ∷ xs) items zero = refl
+    refilled_at h (Some e ∷ xs) items zero = live_mapped h (Some e) (refill e.1 (take (length (held e.1)) items))
+    refilled_at h (o ∷ xs) items (suc k) = refilled_at h xs (drop (length (held_entry held refill o)) items) k
+
+    refilled_live : (h : ℕ) (xs : List (Option (ℕ × T))) (items : List I) (i : ℕ) → live_in h (entry_in (refill_slots held refill xs items) i) ≡ live_in h (entry_in xs i)
+    refilled_live h xs items zero = refl
+    refilled_live h xs items (suc k) = refilled_at h xs items k
+
+    pub Continues-refilled : (s : ArenaState T) (items : List I) → Continues Fits s [] (record s { slots = refill_slots held refill s.slots items })
+    Continues-refilled s items = Continues-none s (record s { slots = refill_slots held refill s.slots items }) (λ p. refilled_live p.1 s.slots items p.0) (omega arith)
 
   -- a pointer finds something exactly if it was given and has not ended
   pub found_as_given : (s : ArenaState T) (p : Pointer) (value : Option T) → value ≡ look_up s p → (h : History) → Fits h s → is_some value ≡ remains h p

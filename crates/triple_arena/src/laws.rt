@@ -11,8 +11,10 @@ ghost use Rattle.triple_arena_traits.specs.FreeList.{tidied, without_free_end};
 ghost use Rattle.triple_arena_traits.specs.Walks.{keys, values};
 ghost use Rattle.triple_arena_traits.specs.Capacity.{EndsBy, reallocated, with_limit, grown};
 ghost use Rattle.triple_arena_traits.specs.Histories.{has, ModelCall, insertion, History, begun_with, and_then, given, ended, followed_by, is_live, Fits, Continues, IsModelCall, AreModelCalls};
+ghost use Rattle.triple_arena_traits.specs.HeldSlots.{refill_slots};
 ghost use Rattle.triple_arena_traits.specs.Compression.{closed_up, compressed, rank};
 
+use triple_arena_base::Recast;
 pub use triple_arena_traits::laws::{clones_settle, forward_walk, walk_in_order};
 
 /// A limit that is set back: once a limit is set, the old one can be set again, and then the old
@@ -61,8 +63,9 @@ pub fn well_formed_stays<T>()
 {}
 
 /// Freshness: a history that fits an arena goes on to fit it, followed by the model calls that are
-/// made, as long as none of them wraps the counter. So no pointer is given twice, and the arena's
-/// pointers are exactly those that were given and have not ended (`Fits`).
+/// made, as long as none of them wraps the counter. What leaves the pointers as they are, and the
+/// counter no lower, as a write does, is none of them (`none`). So no pointer is given twice, and the
+/// arena's pointers are exactly those that were given and have not ended (`Fits`).
 pub fn pointers_are_fresh<T>()
     ensures empty { (s : ArenaState T) → arena_len s ≡ 0 → Fits (begun_with []) s }
     ensures begun { (s : ArenaState T) → ((p : Pointer) → IsTrue (is_live s p) → p.1 ≤ s.counter)
@@ -73,6 +76,8 @@ pub fn pointers_are_fresh<T>()
         → Continues Fits s (call ∷ []) t }
     ensures calls { (s : ArenaState T) (calls : List ModelCall) (t : ArenaState T)
         → AreModelCalls s calls t → Continues Fits s calls t }
+    ensures none { (s t : ArenaState T) → ((p : Pointer) → is_live t p ≡ is_live s p)
+        → s.counter ≤ t.counter → Continues Fits s [] t }
     ensures one_after_another { (s m t : ArenaState T) (first second : List ModelCall)
         → Continues Fits s first m → Continues Fits m second t
         → Continues Fits s (first ++ second) t }
@@ -83,6 +88,12 @@ pub fn pointers_are_fresh<T>()
     ensures never_live { (s : ArenaState T) (calls : List ModelCall) (t : ArenaState T)
         (p : Pointer) → arena_len s ≡ 0 → p.1 < s.counter → Continues Fits s calls t
         → is_live t p ≡ false }
+{}
+
+/// A recast gives and ends no pointer, whatever images the held items have.
+pub fn recasts_are_fresh<I, T: Recast<I>>()
+    ensures { (s : ArenaState T) (items : List I) → Continues Fits s []
+        (record s { slots = refill_slots T.held T.refill s.slots items }) }
 {}
 
 /// A compression moves the entries to the indexes from 1 to their number, by `rank`: it gives no two

@@ -1,15 +1,15 @@
 -- What a slot of a direct arena tells of the entry at its index.
-use Rattle.std.proofs.Common.{◌≡◌, ℕ, ◌<◌, ◌≤◌, List, map, Option, Some, None, is_some, IsSome, IfSome, MatchOption, true, option_copied, refl, sym, ap, subst, ◌∙◌, true≢false, arith}
+use Rattle.std.proofs.Common.{◌≡◌, ◌≢◌, ℕ, ◌<◌, ◌≤◌, List, map, Option, Some, None, is_some, IsSome, IfSome, MatchOption, true, cond, option_copied, refl, sym, ap, subst, ◌∙◌, true≢false, arith}
 use Rattle.std.specs.Borrow.{Bor, MutBor}
 use Rattle.std.specs.Int.NonZero.{non_zero_usize_get}
 use Rattle.std.specs.declared.num.NonZeroUsize.{NonZeroUsize}
 use Rattle.std.specs.Option.{option_map, option_and_then, option_copied_mut}
 use Rattle.triple_arena_traits.specs.Items.{item}
-use Rattle.triple_arena_traits.specs.ItemLaws.{joined, item_past}
-use Rattle.triple_arena_traits.specs.Entries.{entry_in}
+use Rattle.triple_arena_traits.specs.ItemLaws.{eq_false, joined, item_past}
+use Rattle.triple_arena_traits.specs.Entries.{entry_in, value_under}
 use Rattle.triple_arena_traits.specs.WalkLaws.{live_within}
 use Rattle.triple_arena_traits.proofs.SlotEntries.{entry_read}
-use Rattle.triple_arena_direct.specs.DirectState.{DirectState}
+use Rattle.triple_arena_direct.specs.DirectState.{DirectState, generation_of}
 use Rattle.triple_arena_direct.specs.Layout.{Counts}
 
 module _ {X T : Type 0} (entry : X → Option (ℕ × T)) where
@@ -23,6 +23,11 @@ module _ {X T : Type 0} (entry : X → Option (ℕ × T)) where
       and_then_joined o ∙ sym (entry_read entry es i o (sym read)) ∙ ap (entry_in (map entry es)) at ∙ ap (λ ys. entry_in ys n) is
 
 module _ {T : Type 0} where
+  -- an entry is found under its own generation alone
+  pub other_generation : (generation : ℕ) (o : Option (ℕ × T)) → generation_of o ≢ generation → option_and_then (value_under generation) o ≡ None
+  other_generation generation None other = refl
+  other_generation generation (Some e) other = ap (λ b. cond b (Some e.1) None) (eq_false e.0 generation other)
+
   -- an entry stands at an index of the arena
   pub live_indexed : (len : ℕ) (s t : DirectState T) (n : ℕ) → Counts len s → s ≡ t → IsSome (entry_in t.slots n) → n ≤ s.greatest
   live_indexed len s t n counts is live =

@@ -3,7 +3,7 @@ use Rattle.std.proofs.Common.{◌≡◌, ◌≢◌, ℕ, List, Option, Some, Non
 use Rattle.std.specs.Option.{option_and_then, option_map}
 use Rattle.triple_arena_ptr.specs.Pointers.{Pointer}
 use Rattle.triple_arena_traits.specs.Entries.{entry_in, value_under, look_up_in, ChangesAt, KeepsEntries}
-use Rattle.triple_arena_traits.specs.ItemLaws.{eq_true}
+use Rattle.triple_arena_traits.specs.ItemLaws.{eq_true, eq_false}
 use Rattle.triple_arena_traits.proofs.WellFormed.{entry_of_value}
 
 module _ {T : Type 0} (old new : List (Option (ℕ × T))) where
@@ -32,6 +32,13 @@ module _ {T : Type 0} (old new : List (Option (ℕ × T))) where
       ap (option_and_then (value_under generation)) (change.there ∙ ap (option_map (λ (e : ℕ × T). (generation, e.1))) found.1)
       ∙ ap (λ b. cond b (Some found.0) None) (eq_true generation generation refl)
       ∙ sym found.2
+
+  -- and under no other
+  pub renewed_gone : (p : Pointer) (generation : ℕ) → IsSome (look_up_in old p) → ChangesAt old p.0 (option_map (λ e. (generation, e.1)) (entry_in old p.0)) new → generation ≢ p.1 → look_up_in new p ≡ None
+  renewed_gone p generation live change other =
+      let found = entry_of_value old p.0 p.1 live in
+      ap (option_and_then (value_under p.1)) (change.there ∙ ap (option_map (λ (e : ℕ × T). (generation, e.1))) found.1)
+      ∙ ap (λ b. cond b (Some found.0) None) (eq_false generation p.1 other)
 
 -- the same of a call that inserts a value where it succeeds, and gives the pointer
 module _ {A X E T : Type 0} (slots : A → List (Option (ℕ × T))) (numbers : X → Pointer) (next : Pointer) (v : T) (old now new : A) (change : ChangesAt (slots old) next.0 (Some (next.1, v)) (slots new)) where

@@ -1,9 +1,10 @@
 -- Closures that are called at each entry.
-use Rattle.std.proofs.Common.{◌≡◌, ℕ, List, [], ◌∷◌, ◌++◌, Option, Some, None, false, refl, sym, ap, subst, ◌∙◌, append_assoc, append-nil}
+use Rattle.std.proofs.Common.{◌≡◌, ℕ, suc, List, [], ◌∷◌, ◌++◌, length, Option, Some, None, false, refl, sym, ap, subst, ◌∙◌, append_assoc, append-nil}
 use Rattle.std.specs.Borrow.{MutBor}
 use Rattle.triple_arena_ptr.specs.Pointers.{Pointer}
 use Rattle.triple_arena_traits.specs.Entries.{look_up_in, with_value_in}
 use Rattle.triple_arena_traits.specs.Walks.{Stand, Steps, IsAtFirst, entries, entries_ahead, entries_behind}
+use Rattle.triple_arena_traits.specs.Recasting.{written}
 use Rattle.triple_arena_traits.specs.Visits.{CalledAt, Visits}
 use Rattle.triple_arena_traits.specs.WalkLaws.{ahead_taken, ahead_written, ahead_none, ahead_first, behind_written, none_behind, all_behind}
 
@@ -33,3 +34,41 @@ module _ {P T F : Type 0} (numbers : P → Pointer) (step : F → P → MutBor T
   ends start old greatest slots b a f s so_far =
       let none = subst (λ es. Visits numbers step f es [] f) (sym (ahead_none greatest slots b a s)) (refl, refl) in
       subst (λ es. Visits numbers step start old es f) (append-nil (entries_behind b slots) ∙ all_behind greatest slots b a s) (so_far [] f none)
+
+module _ {T A : Type 0} (with_value : A → ℕ → T → A) where
+  -- the first of these pointers have been written, and those ahead have not
+  pub record Wrote (all ahead : List Pointer) (start now : A) : Type 0 where
+    pub done : List Pointer
+    pub values : List T
+    pub split : all ≡ done ++ ahead
+    pub as_many : length values ≡ length done
+    pub state : now ≡ written with_value done values start
+
+  written_behind : (ps : List Pointer) (vs : List T) (p : Pointer) (v : T) (a : A) → length vs ≡ length ps → written with_value (ps ++ p ∷ []) (vs ++ v ∷ []) a ≡ with_value (written with_value ps vs a) p.0 v
+  written_behind [] [] p v a e = refl
+  written_behind [] (w ∷ vs) p v a e = absurd (cc)
+  written_behind (q ∷ ps) [] p v a e = absurd (cc)
+  written_behind (q ∷ ps) (w ∷ vs) p v a e = written_behind ps vs p v (with_value a q.0 w) (cc)
+
+  one_longer : (ps : List Pointer) (vs : List T) (p : Pointer) (v : T) → length vs ≡ length ps → length (vs ++ v ∷ []) ≡ length (ps ++ p ∷ [])
+  one_longer [] [] p v e = refl
+  one_longer [] (w ∷ vs) p v e = absurd (cc)
+  one_longer (q ∷ ps) [] p v e = absurd (cc)
+  one_longer (q ∷ ps) (w ∷ vs) p v e = ap suc (one_longer ps vs p v (cc))
+
+  pub wrote_none : (all ahead : List Pointer) (start : A) → ahead ≡ all → Wrote all ahead start start
+  wrote_none all ahead start e = record { done = []; values = []; split = sym e; as_many = refl; state = refl }
+
+  pub wrote_one : (all ahead after : List Pointer) (start now : A) (p : Pointer) (v : T) → ahead ≡ p ∷ after → Wrote all ahead start now → Wrote all after start (with_value now p.0 v)
+  wrote_one all ahead after start now p v e w =
+      record {
+        done = w.done ++ p ∷ [];
+        values = w.values ++ v ∷ [];
+        split = w.split ∙ ap (λ ps. w.done ++ ps) e ∙ sym (append_assoc w.done (p ∷ []) after);
+        as_many = one_longer w.done w.values p v w.as_many;
+        state = ap (λ a. with_value a p.0 v) w.state ∙ sym (written_behind w.done w.values p v start w.as_many);
+      }
+
+  pub wrote_all : (all ahead : List Pointer) (start now : A) → ahead ≡ [] → Wrote all ahead start now → (values : List T) × (now ≡ written with_value all values start)
+  wrote_all all ahead start now e w =
+      (w.values, w.state ∙ ap (λ ps. written with_value ps w.values start) (sym (w.split ∙ ap (λ ps. w.done ++ ps) e ∙ append-nil w.done)))

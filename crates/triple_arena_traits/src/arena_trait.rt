@@ -226,6 +226,8 @@ pub trait ArenaTrait<P: Ptr, T>: Sized {
         ensures found { IsSome (look_up_in (slots self.old) (P.numbers p))
             → look_up_in (slots self.new) ((P.numbers p).0, renewed self.old (P.numbers p).0)
             ≡ look_up_in (slots self.old) (P.numbers p) }
+        ensures gone { renewed self.old (P.numbers p).0 ≢ (P.numbers p).1
+            → look_up_in (slots self.new) (P.numbers p) ≡ None }
         ensures others { (q : Pointer) → q.0 ≢ (P.numbers p).0
             → look_up_in (slots self.new) q ≡ look_up_in (slots self.old) q }
         ensures unchanged { look_up_in (slots self.old) (P.numbers p) ≡ None

@@ -9,6 +9,7 @@ ghost use Rattle.triple_arena_traits.specs.Items.{with_item};
 ghost use Rattle.triple_arena_traits.specs.Entries.{entry_in, look_up_in, entry_count};
 ghost use Rattle.triple_arena_traits.specs.Ending.{told};
 ghost use Rattle.triple_arena_traits.specs.Moves.{Moves};
+ghost use Rattle.triple_arena_traits.specs.Recasting.{written};
 ghost use Rattle.triple_arena_traits.specs.Visits.{Visits};
 ghost use Rattle.triple_arena_traits.specs.Walks.{Steps, entries, keys, values};
 ghost use Rattle.triple_arena_traits.specs.Histories.{History, compression, begun_with, CountsUp, Continues};
@@ -44,7 +45,8 @@ pub trait CompactArenaTrait<P: Ptr, T>: ArenaTrait<P, T> {
     /// keeps its generation, and the answer is `Success`.
     ///
     /// Without a reset and without a wrap it is one model call: it ends every pointer, and gives those
-    /// that stand after it (`fresh`). In each case a history can begin with these (`begun`).
+    /// that stand after it (`fresh`). In each case a history can begin with these, if
+    /// one fitted before (`begun`).
     ///
     /// It takes no memory, limit and capacity stay, and it goes through the slots once.
     fn compress_with<F: FnMut(P, T, P) -> T>(
@@ -153,11 +155,13 @@ pub trait CompactArenaTrait<P: Ptr, T>: ArenaTrait<P, T> {
     }
 
     /// Calls `f` at each entry, in the order of the indexes: at its pointer, and at its value, for
-    /// writing. Limit and capacity stay, and it takes no memory.
+    /// writing. Nothing but values changes (`written`), and it takes no memory.
     final fn for_each_mut<F: FnMut(P, &mut T)>(&mut self, mut f: F)
         requires callable { F.IsAlwaysCallable f }
         ensures visited { (last : F) × Visits P.numbers F.step f
             (entries (Self.slots self.old)) (entries (Self.slots self.new)) last }
+        ensures written { (values : List T)
+            × (self.new ≡ written Self.with_value (keys (Self.slots self.old)) values self.old) }
         ensures limit { Self.limit self.new ≡ Self.limit self.old }
         ensures capacity { Self.fitting self.new ≡ Self.fitting self.old }
         ensures fresh { Continues Self.fits self.old [] self.new }

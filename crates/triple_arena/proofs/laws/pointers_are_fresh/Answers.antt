@@ -1,5 +1,5 @@
 use Rattle.std.proofs.Common.{refl}
-use Rattle.triple_arena.proofs.HistoryLaws.{Fits-empty, Fits-keys, Continues-call, Continues-calls, Continues-append, Fits-compressed, new_pointer, gone_for_good, never_live}
+use Rattle.triple_arena.proofs.HistoryLaws.{Fits-empty, Fits-keys, Continues-none, Continues-call, Continues-calls, Continues-append, Fits-compressed, new_pointer, gone_for_good, never_live}
 use Rattle.triple_arena.proofs.laws.pointers_are_fresh.Goals as goal
 
 pub returns-clause-empty : goal.returns-clause-empty
@@ -13,6 +13,9 @@ returns-clause-call g c = Continues-call
 
 pub returns-clause-calls : goal.returns-clause-calls
 returns-clause-calls g c = Continues-calls
+
+pub returns-clause-none : goal.returns-clause-none
+returns-clause-none g c = Continues-none
 
 pub returns-clause-one_after_another : goal.returns-clause-one_after_another
 returns-clause-one_after_another g c = Continues-append

@@ -11,7 +11,7 @@ use Rattle.triple_arena_traits.specs.EntryLaws.{slots-invalidated}
 use Rattle.triple_arena_traits.proofs.WellFormed.{invalidated_is, live_entry, entry_of_value}
 use Rattle.triple_arena.proofs.Links.{Shows-counter, carried}
 use Rattle.triple_arena_traits.proofs.Links.{pointer_is}
-use Rattle.triple_arena_traits.proofs.LookUps.{renewed_found, others_found}
+use Rattle.triple_arena_traits.proofs.LookUps.{renewed_found, renewed_gone, others_found}
 use Rattle.triple_arena.proofs.HistoryLaws.{Continues-invalidated}
 use Rattle.triple_arena.proofs.base_arena.ArenaArenaTrait.invalidate.Goals as goal
 
@@ -38,6 +38,15 @@ pub returns-clause-found : goal.returns-clause-found
 returns-clause-found g c live =
     let p = g.P.Ptr.numbers c.args.p in
     renewed_found c.args.self.now.slots _ p (raise g.P.Gen.PtrGen.counting g.P.Gen.PtrGen.greatest c.args.self.now.counter) live (slots-invalidated (raise g.P.Gen.PtrGen.counting g.P.Gen.PtrGen.greatest) c.args.self.now p.0 _ (returns-clause-done g c live))
+
+pub returns-clause-gone : goal.returns-clause-gone
+returns-clause-gone g c other =
+    let p = g.P.Ptr.numbers c.args.p in
+    let live : IsSome (look_up c.args.self.now p) = sym (rw c.in-Some.is at c.find.ensures.live) in
+    renewed_gone c.args.self.now.slots _ p (raise g.P.Gen.PtrGen.counting g.P.Gen.PtrGen.greatest c.args.self.now.counter) live (slots-invalidated (raise g.P.Gen.PtrGen.counting g.P.Gen.PtrGen.greatest) c.args.self.now p.0 _ (returns-clause-done g c live)) other
+
+pub returns-in_default-clause-gone : goal.returns-in_default-clause-gone
+returns-in_default-clause-gone g c other = none_of _ (sym c.in_default.ensures.live)
 
 pub returns-clause-others : goal.returns-clause-others
 returns-clause-others g c q away =

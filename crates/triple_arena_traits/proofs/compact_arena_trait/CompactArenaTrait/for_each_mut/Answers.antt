@@ -1,7 +1,8 @@
-use Rattle.std.proofs.Common.{◌∙◌, is_some, sym, ap, refl, true≢false, of_calls}
+use Rattle.std.proofs.Common.{◌∙◌, ◌∷◌, is_some, sym, ap, refl, true≢false, of_calls}
 use Rattle.std.specs.Option.{option_copied_mut}
-use Rattle.triple_arena_traits.specs.WalkLaws.{taken, forward_stays}
-use Rattle.triple_arena_traits.proofs.Visiting.{begins, goes_on, ends, called_at}
+use Rattle.triple_arena_traits.specs.Walks.{keys_of}
+use Rattle.triple_arena_traits.specs.WalkLaws.{taken, forward_stays, ahead_written, keys_first, keys_taken, keys_none}
+use Rattle.triple_arena_traits.proofs.Visiting.{begins, goes_on, ends, called_at, wrote_none, wrote_one, wrote_all}
 use Rattle.triple_arena_traits.proofs.compact_arena_trait.CompactArenaTrait.for_each_mut.Goals as goal
 
 pub walk-init : goal.walk-init
@@ -10,6 +11,7 @@ walk-init g c =
       callable = search of_calls;
       forward = c.advancer-advancer.ensures.forward;
       goes_on = begins g.P.Ptr.numbers (goal.F-step g) _ _ _ c.advancer-advancer.ensures;
+      wrote = wrote_none _ _ _ _ (keys_first _ _ c.advancer-advancer.ensures);
       limit = refl;
       fitting = refl;
       fresh = λ h fits. fits;
@@ -30,6 +32,7 @@ walk-preserved-in-Some-get_mut g c =
       goes_on = rw (g.met.Self.ArenaTrait.slots_with_value _ _ _) (goes_on g.P.Ptr.numbers (goal.F-step g) _ _ _ _ _ _ _ _ _ _ _ c.walk.invariant.forward steps (sym c.in-Some-get_mut.ensures.value)
           (called_at g.P.Ptr.numbers (goal.F-step g) c.walk.f c.in-Some.p c.in-Some-get_mut.value c.f.result _ c.f.new.self c.f.ensures)
           c.walk.invariant.goes_on);
+      wrote = rw (g.met.Self.ArenaTrait.slots_with_value _ _ _) (wrote_one _ _ _ _ _ _ (g.P.Ptr.numbers c.in-Some.p) _ (keys_taken _ _ _ _ _ c.walk.invariant.forward steps ∙ ap (λ ks. g.P.Ptr.numbers c.in-Some.p ∷ ks) (sym (ap keys_of (ahead_written _ _ _ _ _ _ steps)))) c.walk.invariant.wrote);
       limit = g.met.Self.ArenaTrait.limit_with_value _ _ _ ∙ c.walk.invariant.limit;
       fitting = g.met.Self.ArenaTrait.fitting_with_value _ _ _ ∙ c.walk.invariant.fitting;
       fresh = λ h fits. c.get_mut.ensures.fresh _ h (c.walk.invariant.fresh h fits);
@@ -38,6 +41,9 @@ walk-preserved-in-Some-get_mut g c =
 pub returns-clause-visited : goal.returns-clause-visited
 returns-clause-visited g c =
     (c.walk.f, ends g.P.Ptr.numbers (goal.F-step g) _ _ _ _ _ _ _ (g.met.Self.CompactArenaTrait.advanced _ _ _ _ c.in_default.ensures.steps) c.walk.invariant.goes_on)
+
+pub returns-clause-written : goal.returns-clause-written
+returns-clause-written g c = wrote_all _ _ _ _ _ (keys_none _ _ _ _ (g.met.Self.CompactArenaTrait.advanced _ _ _ _ c.in_default.ensures.steps)) c.walk.invariant.wrote
 
 pub returns-clause-limit : goal.returns-clause-limit
 returns-clause-limit g c = c.walk.invariant.limit

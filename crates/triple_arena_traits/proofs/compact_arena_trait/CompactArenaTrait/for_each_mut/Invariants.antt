@@ -1,8 +1,8 @@
 use Rattle.std.proofs.Common.{◌≡◌, [], false}
 use Rattle.triple_arena_ptr.specs.Numbers.{greatest_index}
-use Rattle.triple_arena_traits.specs.Walks.{entries, steps_left}
+use Rattle.triple_arena_traits.specs.Walks.{entries, keys, keys_ahead, steps_left}
 use Rattle.triple_arena_traits.specs.Histories.{Continues}
-use Rattle.triple_arena_traits.proofs.Visiting.{GoesOn}
+use Rattle.triple_arena_traits.proofs.Visiting.{GoesOn, Wrote}
 use Rattle.triple_arena_traits.proofs.compact_arena_trait.CompactArenaTrait.for_each_mut.Given as goal
 
 abbrev pub invariant-walk : goal.invariant-walk
@@ -10,6 +10,7 @@ invariant-walk g l = record {
   callable : goal.F-IsAlwaysCallable g l.f;
   forward : (g.Self.ArenaTrait.stand l.advancer).reverse ≡ false;
   goes_on : GoesOn g.P.Ptr.numbers (goal.F-step g) l.fn.f (entries (g.Self.ArenaTrait.slots l.fn.self)) (g.Self.ArenaTrait.stand l.advancer) (g.Self.ArenaTrait.slots l.self) l.f;
+  wrote : Wrote g.Self.ArenaTrait.with_value (keys (g.Self.ArenaTrait.slots l.fn.self)) (keys_ahead (g.Self.ArenaTrait.stand l.advancer) (g.Self.ArenaTrait.slots l.self)) l.fn.self l.self;
   limit : g.Self.ArenaTrait.limit l.self ≡ g.Self.ArenaTrait.limit l.fn.self;
   fitting : g.Self.ArenaTrait.fitting l.self ≡ g.Self.ArenaTrait.fitting l.fn.self;
   fresh : Continues g.Self.ArenaTrait.fits l.fn.self [] l.self;

@@ -8,7 +8,7 @@ ghost use Rattle.triple_arena_run.specs.declared.command.Command.TheVariants.{In
 ghost use Rattle.triple_arena_run.specs.declared.reply.Reply.{Reply};
 ghost use Rattle.triple_arena_run.specs.declared.reply.Reply.TheVariants.{Given, Full, Found, Nothing, Unresolved};
 ghost use Rattle.triple_arena_run.specs.KindRun.{greatest, first_session};
-ghost use Rattle.triple_arena_run.specs.NameStore.{Store, new_store, next_name, row_count, row, is_good_link, HasEnded, row_dangles, IsStoreStep};
+ghost use Rattle.triple_arena_run.specs.NameStore.{Store, new_store, next_name, row_count, row, is_good_link, HasEnded, row_dangles, IsStoreStep, MayReply};
 ghost use Rattle.triple_arena_run.specs.StoreRuns.{is_named, is_no_memory, AnswersAsStore, ample, erase, seen};
 ghost use Rattle.triple_arena_run.specs.ElevenCommands.{eleven_commands, eleven_replies, nine_replies, model_replies};
 ghost use Rattle.triple_arena_run.specs.Forms.{FormsAreExact, LinesAreExact};
@@ -35,6 +35,7 @@ pub fn names_are_new<X>()
 
 /// An insertion within capacity is refused exactly when the store is full; a look-up finds exactly
 /// what the name's row has; and a compaction is unresolved exactly where a row's link names no row.
+/// The replies to each command are exactly those that may come, and no other.
 pub fn store_is_exact<X>()
     ensures full { (s t : Store X) (datum : X) (link : Option ℕ) → IsTrue (is_good_link s link)
         → IsStoreStep s (InsertWithin datum link) Full t ↔ ((row_count s ≡ s.capacity) × (t ≡ s)) }
@@ -46,6 +47,8 @@ pub fn store_is_exact<X>()
     ensures unresolved { (s t : Store X)
         → IsStoreStep s Compact Unresolved t
         ↔ (IsTrue (list_any (row_dangles s) s.rows) × (t ≡ s)) }
+    ensures replies { (s : Store X) (command : Command X) (reply : Reply X)
+        → ((t : Store X) × IsStoreStep s command reply t) ↔ MayReply s command reply }
 {}
 
 /// Compaction is unseen by whoever asks a store of names: where named commands were answered as by

@@ -15,13 +15,13 @@ use Rattle.triple_arena_traits.proofs.WellFormed.{len_within}
 use Rattle.triple_arena.proofs.PointerLists.{same_itself, same_is, has_head, has_tail, has-keys, false_unless}
 use Rattle.triple_arena_run.specs.SessionState.{SessionState, name_of, link_name}
 use Rattle.triple_arena_run.specs.Compaction.{renamed, relinked, compacted}
-use Rattle.triple_arena_run.specs.Shown.{as_row, row_of, shown, IsSound}
+use Rattle.triple_arena_run.specs.Shown.{as_row, row_of, shown}
 use Rattle.triple_arena_traits.specs.CompressionLaws.{length-values, rank_apart, keys-compressed, values-compressed}
 use Rattle.triple_arena_traits.proofs.Compaction.{nth_found, found_nth}
 use Rattle.triple_arena.proofs.Compaction.{IsWellFormed-compressed}
 use Rattle.triple_arena_run.proofs.TableNames.{not_same, has_from_get, name_of-map, map_same}
 use Rattle.triple_arena_run.proofs.Rows.{some_is, some_has}
-use Rattle.triple_arena_run.proofs.Soundness.{IsSound-from}
+use Rattle.triple_arena_run.proofs.Soundness.{SoundOver, SoundOver-from}
 
 module _ {T : Type 0} (s : ArenaState T) (n : ℕ) where
   -- ranks of different live pointers differ
@@ -92,7 +92,7 @@ module _ (f : Pointer → Pointer) where
     distinct-map table (λ p r h k e. one p r (has_tail p q table h) (has_tail r q table k) e) d.1,
   )
 
-module _ {X : Type 0} (kind : StackKind) (s : SessionState X) (n : ℕ) (sound : IsSound kind s) (rises : s.arena.counter ≤ n) where
+module _ {X : Type 0} (kind : StackKind) (s : SessionState X) (n : ℕ) (sound : SoundOver kind s) (rises : s.arena.counter ≤ n) where
   abbrev there : Pointer → Pointer
   there p = renamed s.arena n p
 
@@ -117,7 +117,7 @@ module _ {X : Type 0} (kind : StackKind) (s : SessionState X) (n : ℕ) (sound :
       ap (is_live after) (dead_to p dead)
       ∙ false_unless (is_live after p) (λ live.
       let from = was_live s.arena n image p live in
-      omega (arith, ap (λ (r : Pointer). r.1) from.2, sound.before p h dead, rises))
+      omega (arith, ap (λ (r : Pointer). r.1) from.2, sound.table.before p h dead, rises))
 
   -- the renaming is one to one on the table
   one_to_one : (p q : Pointer) → has s.table p ≡ true → has s.table q ≡ true → there p ≡ there q → p ≡ q
@@ -128,11 +128,11 @@ module _ {X : Type 0} (kind : StackKind) (s : SessionState X) (n : ℕ) (sound :
       by true false a b =
           let e : rank s.arena n p ≡ q = sym (live_to p a) ∙ same ∙ dead_to q b in
           let generation : n ≡ q.1 = ap (λ (r : Pointer). r.1) e in
-          absurd (omega (arith, sound.before q second b, rises, generation))
+          absurd (omega (arith, sound.table.before q second b, rises, generation))
       by false true a b =
           let e : p ≡ rank s.arena n q = sym (dead_to p a) ∙ same ∙ live_to q b in
           let generation : p.1 ≡ n = ap (λ (r : Pointer). r.1) e in
-          absurd (omega (arith, sound.before p first a, rises, generation))
+          absurd (omega (arith, sound.table.before p first a, rises, generation))
       by false false a b = sym (dead_to p a) ∙ same ∙ dead_to q b
 
   same_there : (p q : Pointer) → has s.table p ≡ true → has s.table q ≡ true → is_same (there q) (there p) ≡ is_same q p
@@ -150,7 +150,7 @@ module _ {X : Type 0} (kind : StackKind) (s : SessionState X) (n : ℕ) (sound :
     where
       link_after : (datum : X) (l : Option Pointer) → look_up s.arena p ≡ Some (datum, l) → link_name (map there s.table) (option_map there l) ≡ link_name s.table l
       link_after datum None found = refl
-      link_after datum (Some l) found = name_after l (sound.has_links p l datum found)
+      link_after datum (Some l) found = name_after l (sound.table.has_links p l datum found)
 
       by : (o : Option (X × Option Pointer)) → look_up s.arena p ≡ o → row_of after (map there s.table) (there p) ≡ option_map (as_row s.table) o
       by None none = ap (option_map (as_row (map there s.table))) (some_is (look_up after (there p)) (dead_after p h (ap is_some none)))
@@ -171,12 +171,12 @@ module _ {X : Type 0} (kind : StackKind) (s : SessionState X) (n : ℕ) (sound :
       let from = was_live s.arena n image r live in
       (from.0, from.1, live_to from.0 from.1 ∙ from.2)
 
-  pub IsSound-compacted : IsSound kind (compacted s n)
-  IsSound-compacted =
-      IsSound-from kind (compacted s n)
+  pub SoundOver-compacted : SoundOver kind (compacted s n)
+  SoundOver-compacted =
+      SoundOver-from kind (compacted s n)
       (record {
-        distinct = distinct-map there s.table one_to_one sound.distinct;
-        has_live = λ r live. let from = image_of r live in ap (has (map there s.table)) (sym from.2) ∙ has-map there s.table from.0 (sound.has_live from.0 from.1);
+        distinct = distinct-map there s.table one_to_one sound.table.distinct;
+        has_live = λ r live. let from = image_of r live in ap (has (map there s.table)) (sym from.2) ∙ has-map there s.table from.0 (sound.table.has_live from.0 from.1);
         by_now = λ r h. let from = from-map there s.table r h in now from.0 r from.1 from.2 (cases_Bool (is_live s.arena from.0));
         before = λ r h dead. let from = from-map there s.table r h in below from.0 r from.1 from.2 dead (cases_Bool (is_live s.arena from.0));
       })
@@ -186,19 +186,19 @@ module _ {X : Type 0} (kind : StackKind) (s : SessionState X) (n : ℕ) (sound :
     where
       now : (p r : Pointer) → has s.table p ≡ true → there p ≡ r → (is_live s.arena p ≡ true) ⊎ (is_live s.arena p ≡ false) → r.1 ≤ n
       now p r h e (inl live) = let g : n ≡ r.1 = ap (λ (x : Pointer). x.1) (sym (live_to p live) ∙ e) in omega (arith, g)
-      now p r h e (inr dead) = let g : p.1 ≡ r.1 = ap (λ (x : Pointer). x.1) (sym (dead_to p dead) ∙ e) in omega (arith, g, sound.before p h dead, rises)
+      now p r h e (inr dead) = let g : p.1 ≡ r.1 = ap (λ (x : Pointer). x.1) (sym (dead_to p dead) ∙ e) in omega (arith, g, sound.table.before p h dead, rises)
 
       below : (p r : Pointer) → has s.table p ≡ true → there p ≡ r → is_live after r ≡ false → (is_live s.arena p ≡ true) ⊎ (is_live s.arena p ≡ false) → r.1 < n
       below p r h e gone (inl live) =
           let node = some_has (look_up s.arena p) live in
           absurd (true≢false (sym (ap is_some (found_after p node.0 node.1)) ∙ ap (is_live after) e ∙ gone))
-      below p r h e gone (inr dead) = let g : p.1 ≡ r.1 = ap (λ (x : Pointer). x.1) (sym (dead_to p dead) ∙ e) in omega (arith, g, sound.before p h dead, rises)
+      below p r h e gone (inr dead) = let g : p.1 ≡ r.1 = ap (λ (x : Pointer). x.1) (sym (dead_to p dead) ∙ e) in omega (arith, g, sound.table.before p h dead, rises)
 
       link_of : (p q : Pointer) (node : X × Option Pointer) (l : Option Pointer) → look_up s.arena p ≡ Some node → node.1 ≡ l → option_map there l ≡ Some q → has (map there s.table) q ≡ true
       link_of p q node None found is e = absurd (cc)
       link_of p q node (Some l) found is e =
           let same : there l ≡ q = same_Some (there l) q e in
-          ap (has (map there s.table)) (sym same) ∙ has-map there s.table l (sound.has_links p l node.0 (found ∙ ap (λ x. Some (node.0, x)) is))
+          ap (has (map there s.table)) (sym same) ∙ has-map there s.table l (sound.table.has_links p l node.0 (found ∙ ap (λ x. Some (node.0, x)) is))
 
       linked : (r q : Pointer) (datum : X) → look_up after r ≡ Some (datum, Some q) → has (map there s.table) q ≡ true
       linked r q datum found =

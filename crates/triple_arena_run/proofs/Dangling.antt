@@ -12,10 +12,11 @@ use Rattle.triple_arena_traits.specs.Histories.{has, is_live}
 use Rattle.triple_arena_run.specs.SessionState.{SessionState, name_of}
 use Rattle.triple_arena_run.specs.Compaction.{dangles, any_dangles}
 use Rattle.triple_arena_run.specs.NameStore.{NameRow, row, row_dangles}
-use Rattle.triple_arena_run.specs.Shown.{as_row, row_of, shown, IsSound}
+use Rattle.triple_arena_run.specs.Shown.{as_row, row_of, shown}
 use Rattle.triple_arena_traits.proofs.ItemLists.{item-map}
 use Rattle.triple_arena_traits.proofs.Compaction.{nth_found, found_nth}
 use Rattle.triple_arena_run.proofs.TableNames.{item_of_name, get_from_has}
+use Rattle.triple_arena_run.proofs.Soundness.{SoundOver}
 
 module _ {A : Type 0} (test : A → Bool) where
   any_from : (xs : List A) → list_any test xs ≡ true → (k : ℕ) × (x : A) × (slice_get xs k ≡ Some x) × (test x ≡ true)
@@ -40,11 +41,11 @@ both_or_none true b f g = sym (f refl)
 both_or_none false true f g = g refl
 both_or_none false false f g = refl
 
-module _ {X : Type 0} (kind : StackKind) (s : SessionState X) (sound : IsSound kind s) where
+module _ {X : Type 0} (kind : StackKind) (s : SessionState X) (sound : SoundOver kind s) where
   -- the row that a stored pointer names is there exactly where the pointer is live
   named_row : (q : Pointer) → has s.table q ≡ true → (name : ℕ) × (name_of s.table q ≡ Some name) × (is_some (row (shown s) name) ≡ is_live s.arena q)
   named_row q h =
-      let at = item_of_name s.table q sound.distinct h in
+      let at = item_of_name s.table q sound.table.distinct h in
       (at.0, at.2, ap (λ o. is_some (option_and_then (λ r. r) o)) (item-map (row_of s.arena s.table) s.table at.0 ∙ ap (option_map (row_of s.arena s.table)) at.1) ∙ by (look_up s.arena q))
     where
       by : (o : Option (X × Option Pointer)) → is_some (option_map (as_row s.table) o) ≡ is_some o
@@ -55,7 +56,7 @@ module _ {X : Type 0} (kind : StackKind) (s : SessionState X) (sound : IsSound k
   link_dangles : (p : Pointer) (node : X × Option Pointer) → look_up s.arena p ≡ Some node → row_dangles (shown s) (Some (as_row s.table node)) ≡ dangles s.arena node
   link_dangles p (datum, None) found = refl
   link_dangles p (datum, Some q) found =
-      let at = named_row q (sound.has_links p q datum found) in
+      let at = named_row q (sound.table.has_links p q datum found) in
       ap (λ name. row_dangles (shown s) (Some (datum, name))) at.1 ∙ ap not at.2
 
   -- the pointer of a value
@@ -95,6 +96,6 @@ module _ {X : Type 0} (kind : StackKind) (s : SessionState X) (sound : IsSound k
       from h =
           let at = any_from (dangles s.arena) (values s.arena.slots) h in
           let p = pointer_of at.0 at.1 at.2 in
-          let place = get_from_has s.table p.0 (sound.has_live p.0 (ap is_some p.1)) in
+          let place = get_from_has s.table p.0 (sound.table.has_live p.0 (ap is_some p.1)) in
           any_at (row_dangles (shown s)) (shown s).rows place.0 (row_of s.arena s.table p.0) (rows_get place.0 p.0 place.1)
           (ap (λ o. row_dangles (shown s) (option_map (as_row s.table) o)) p.1 ∙ link_dangles p.0 at.1 p.1 ∙ at.3)

@@ -1,5 +1,5 @@
 -- What a map of an arena's values, or of a table's pointers, leaves as it is.
-use Rattle.std.proofs.Common.{◌≡◌, ℕ, ◌+◌, ◌-◌, ◌==◌, zero, suc, Bool, true, false, cond, List, [], ◌∷◌, map, take, length, Option, Some, None, is_some, refl, sym, ap, ◌∙◌}
+use Rattle.std.proofs.Common.{◌≡◌, ℕ, ◌+◌, ◌-◌, ◌==◌, zero, suc, Bool, true, false, cond, List, [], ◌∷◌, map, take, length, Option, Some, None, is_some, refl, sym, ap, subst, ◌∙◌, ◌≤◌}
 use Rattle.std.specs.List.{position, position_or_len}
 use Rattle.std.specs.Option.{option_map, option_and_then}
 use Rattle.std.proofs.lemmas.List.{map-append, length-map, take-map, map-set}
@@ -10,7 +10,7 @@ use Rattle.triple_arena_stack.specs.Capacity.{next_capacity}
 use Rattle.triple_arena_ptr.specs.Pointers.{Pointer}
 use Rattle.triple_arena_traits.specs.Items.{item, with_item}
 use Rattle.triple_arena_traits.specs.Entries.{value_under, entry_count, entry_in}
-use Rattle.triple_arena_traits.specs.ArenaState.{ArenaState, arena_len, capacity, entry, look_up, slot_count, with_value, map_entry, map_values}
+use Rattle.triple_arena_traits.specs.ArenaState.{ArenaState, arena_len, capacity, entry, look_up, slot_count, with_value, is_free, IsWellFormed, map_entry, map_values}
 use Rattle.triple_arena_traits.specs.Insertion.{place_among, inserted_among, inserted, next_pointer}
 use Rattle.triple_arena_traits.specs.FreeList.{before, trimmed, gaps, tidied}
 use Rattle.triple_arena_traits.specs.Capacity.{with_room_for, grown, reallocated}
@@ -72,6 +72,20 @@ module _ {T U : Type 0} (f : T → U) where
 
   pub len-mapped : (s : ArenaState T) → arena_len (map_values f s) ≡ arena_len s
   len-mapped s = count-mapped s.slots
+
+  free-mapped : (o : Option (Option (ℕ × T))) → is_free (option_map (option_map (map_entry f)) o) ≡ is_free o
+  free-mapped None = refl
+  free-mapped (Some None) = refl
+  free-mapped (Some (Some e)) = refl
+
+  pub IsWellFormed-mapped : (s : ArenaState T) → IsWellFormed s → IsWellFormed (map_values f s)
+  IsWellFormed-mapped s well =
+      let size = length-map s.slots (option_map (map_entry f)) in
+      record {
+        free_once = λ i. well.free_once i ∙ ap (λ b. cond b 1 0) (sym (ap is_free (item-map (option_map (map_entry f)) s.slots i) ∙ free-mapped (item s.slots i)));
+        total = ap (λ n. n + length s.free) (len-mapped s) ∙ well.total ∙ sym size;
+        fits = subst (λ n. n ≤ capacity s) (sym size) well.fits;
+      }
 
   pub next_pointer-mapped : (s : ArenaState T) → next_pointer (map_values f s) ≡ next_pointer s
   next_pointer-mapped s = ap (λ n. (place_among s.free n, s.counter)) (length-map s.slots (option_map (map_entry f)))

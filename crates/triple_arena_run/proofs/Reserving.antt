@@ -24,10 +24,10 @@ use Rattle.triple_arena_run.specs.SessionState.{SessionState}
 use Rattle.triple_arena_run.specs.Limits.{is_within}
 use Rattle.triple_arena_run.specs.SessionRun.{in_order, reserve_answer, RoomWantsMemory}
 use Rattle.triple_arena_run.specs.NameStore.{row_count, ReservesRows}
-use Rattle.triple_arena_run.specs.Shown.{row_of, shown, IsSound}
+use Rattle.triple_arena_run.specs.Shown.{row_of, shown}
 use Rattle.triple_arena_run.proofs.TableNames.{map_same}
 use Rattle.triple_arena_run.proofs.Rows.{row_kept, row_count-shown}
-use Rattle.triple_arena_run.proofs.Soundness.{TableSound, TableSound-given, IsSound-from}
+use Rattle.triple_arena_run.proofs.Soundness.{SoundOver, TableSound, TableSound-given, SoundOver-from}
 
 -- a reallocation within the limit makes room for what was asked
 enough : (kind : StackKind) (room n m : ℕ) (limit : Option ℕ) (greatest : ℕ) → IsOfKind kind room limit → m ≤ greatest → IsWithin limit m → m ≤ min (capacity_of (reallocated_room kind room n m) limit) greatest
@@ -54,23 +54,23 @@ within_tells : (limit : Option ℕ) (m : ℕ) → ((is_within limit m ≡ true) 
 within_tells None m = inl (refl, tt)
 within_tells (Some most) m = leb_tells m most
 
-module _ {X : Type 0} (kind : StackKind) (s : SessionState X) (sound : IsSound kind s) where
+module _ {X : Type 0} (kind : StackKind) (s : SessionState X) (sound : SoundOver kind s) where
   -- another arena with the same entries
   same_rows : (a : ArenaState (X × Option Pointer)) → KeepsEntries s.arena.slots a.slots → map (row_of a s.table) s.table ≡ map (row_of s.arena s.table) s.table
   same_rows a same = map_same (row_of s.arena s.table) (row_of a s.table) s.table (λ q h. row_kept kind s a s.table q sound (λ l h. refl) (ap (option_and_then (value_under q.1)) (same q.0)))
 
-  same_sound : (a : ArenaState (X × Option Pointer)) → KeepsEntries s.arena.slots a.slots → a.counter ≡ s.arena.counter → IsWellFormed a → IsOfKind kind a.room a.limit → IsSound kind (record s { arena = a })
+  same_sound : (a : ArenaState (X × Option Pointer)) → KeepsEntries s.arena.slots a.slots → a.counter ≡ s.arena.counter → IsWellFormed a → IsOfKind kind a.room a.limit → SoundOver kind (record s { arena = a })
   same_sound a same counter well of_kind =
-      IsSound-from kind (record s { arena = a })
+      SoundOver-from kind (record s { arena = a })
       (subst (TableSound a) (append-nil s.table) (TableSound-given kind s sound resizing a (Continues-resized s.arena a same counter)))
-      (λ p q datum found. sound.has_links p q datum (sym (ap (option_and_then (value_under p.1)) (same p.0)) ∙ found))
+      (λ p q datum found. sound.table.has_links p q datum (sym (ap (option_and_then (value_under p.1)) (same p.0)) ∙ found))
       well of_kind
 
   -- a reply to a reservation, and the session after it, are those of the store that the session shows
   abbrev pub Reserved : ℕ → Reply X × SessionState X → Type 0
-  Reserved m a = ReservesRows (shown s) m a.0 (shown a.1) × IsSound kind a.1 × Continues Fits s.arena (resizing ∷ []) a.1.arena
+  Reserved m a = ReservesRows (shown s) m a.0 (shown a.1) × SoundOver kind a.1 × Continues Fits s.arena (resizing ∷ []) a.1.arena
 
-  in_order_shows : (shown (in_order s) ≡ shown s) × IsSound kind (in_order s) × Continues Fits s.arena (resizing ∷ []) (in_order s).arena
+  in_order_shows : (shown (in_order s) ≡ shown s) × SoundOver kind (in_order s) × Continues Fits s.arena (resizing ∷ []) (in_order s).arena
   in_order_shows =
       let entries = slots-settled s.arena (tidied s.arena) refl in (
         ap (λ rows. record (shown s) { rows = rows }) (same_rows (tidied s.arena) entries),

@@ -15,9 +15,10 @@ use Rattle.triple_arena_traits.specs.WalkLaws.{found}
 use Rattle.triple_arena_traits.specs.Histories.{has, AreDistinct, is_live}
 use Rattle.triple_arena_run.specs.SessionState.{SessionState, name_of}
 use Rattle.triple_arena_run.specs.NameStore.{row_count}
-use Rattle.triple_arena_run.specs.Shown.{as_row, row_of, shown, IsSound}
+use Rattle.triple_arena_run.specs.Shown.{as_row, row_of, shown}
 use Rattle.triple_arena.proofs.PointerLists.{same_itself, same_is, keys_from, has-keys, has-below}
 use Rattle.triple_arena_run.proofs.TableNames.{map_changed_at, count_same, count_map, count_none, count_or, count_present}
+use Rattle.triple_arena_run.proofs.Soundness.{SoundOver}
 
 pub some_is : {A : Type 0} (o : Option A) → is_some o ≡ false → o ≡ None
 some_is None e = refl
@@ -82,29 +83,29 @@ module _ {T : Type 0} where
 
 module _ {X : Type 0} where
   -- the rows that a sound session shows are as many as its entries
-  pub row_count-shown : (kind : StackKind) (s : SessionState X) → IsSound kind s → row_count (shown s) ≡ arena_len s.arena
+  pub row_count-shown : (kind : StackKind) (s : SessionState X) → SoundOver kind s → row_count (shown s) ≡ arena_len s.arena
   row_count-shown kind s sound =
       count_map is_some (row_of s.arena s.table) s.table
       ∙ count_same _ (is_live s.arena) (λ p. is_some-map _ (look_up s.arena p)) s.table
-      ∙ count_live s.arena s.table sound.distinct sound.has_live
+      ∙ count_live s.arena s.table sound.table.distinct sound.table.has_live
 
   -- a row stays where its pointer finds the same, and stored pointers keep their names
-  pub row_kept : (kind : StackKind) (s : SessionState X) (t : ArenaState (X × Option Pointer)) (table : List Pointer) (q : Pointer) → IsSound kind s → ((l : Pointer) → has s.table l ≡ true → name_of table l ≡ name_of s.table l) → look_up t q ≡ look_up s.arena q → row_of t table q ≡ row_of s.arena s.table q
+  pub row_kept : (kind : StackKind) (s : SessionState X) (t : ArenaState (X × Option Pointer)) (table : List Pointer) (q : Pointer) → SoundOver kind s → ((l : Pointer) → has s.table l ≡ true → name_of table l ≡ name_of s.table l) → look_up t q ≡ look_up s.arena q → row_of t table q ≡ row_of s.arena s.table q
   row_kept kind s t table q sound names same = ap (option_map {U = X × Option ℕ} (as_row table)) same ∙ by (look_up s.arena q) refl
     where
       by : (o : Option (X × Option Pointer)) → look_up s.arena q ≡ o → option_map {U = X × Option ℕ} (as_row table) o ≡ option_map (as_row s.table) o
       by None is = refl
       by (Some (datum, None)) is = refl
-      by (Some (datum, Some l)) is = ap (λ name. Some (datum, name)) (names l (sound.has_links q l datum is))
+      by (Some (datum, Some l)) is = ap (λ name. Some (datum, name)) (names l (sound.table.has_links q l datum is))
 
   -- the rows after a change at a live pointer
   pub rows_changed : (kind : StackKind) (s : SessionState X) (t : ArenaState (X × Option Pointer)) (table : List Pointer) (name : ℕ) (p : Pointer) (node : X × Option Pointer) (e : Option (ℕ × (X × Option Pointer))) (r : Option (X × Option ℕ))
-      → IsSound kind s → ((l : Pointer) → has s.table l ≡ true → name_of table l ≡ name_of s.table l)
+      → SoundOver kind s → ((l : Pointer) → has s.table l ≡ true → name_of table l ≡ name_of s.table l)
       → item s.table name ≡ Some p → look_up s.arena p ≡ Some node → ChangesAt s.arena.slots p.0 e t.slots
       → ((q : Pointer) → has s.table q ≡ true → q.1 ≢ p.1 → option_and_then (value_under q.1) e ≡ None)
       → row_of t table p ≡ r → map (row_of t table) s.table ≡ with_item (map (row_of s.arena s.table) s.table) name r
   rows_changed kind s t table name p node e r sound names at found changes others there =
-      map_changed_at (row_of s.arena s.table) (row_of t table) s.table name p r sound.distinct at there
+      map_changed_at (row_of s.arena s.table) (row_of t table) s.table name p r sound.table.distinct at there
       (λ q h differs. row_kept kind s t table q sound names
       (kept_value s.arena t p.0 e q changes (λ here.
       let stands = entry_found s.arena p node found in

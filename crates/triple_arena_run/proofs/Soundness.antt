@@ -8,7 +8,16 @@ use Rattle.triple_arena_traits.specs.ArenaState.{ArenaState, look_up, IsWellForm
 use Rattle.triple_arena_traits.specs.Histories.{has, AreDistinct, ModelCall, clearing, given_by, History, begun_with, and_then, given, ended, is_live, Fits, Continues}
 use Rattle.triple_arena.proofs.PointerLists.{same_is}
 use Rattle.triple_arena_run.specs.SessionState.{SessionState}
-use Rattle.triple_arena_run.specs.Shown.{IsSound}
+use Rattle.triple_arena_run.specs.Shown.{IsSound, IsArenaOver}
+
+-- a session is sound, over an arena of a stack of this kind
+pub record SoundOver {X : Type 0} (kind : StackKind) (s : SessionState X) : Type 0 where
+  pub table : IsSound s
+  pub well_formed : IsWellFormed s.arena
+  pub of_kind : IsOfKind kind s.arena.room s.arena.limit
+
+pub sound_over : {X : Type 0} (kind : StackKind) (s : SessionState X) → IsSound s → IsArenaOver kind s.arena → SoundOver kind s
+sound_over kind s sound over = record { table = sound; well_formed = over.0; of_kind = over.1 }
 
 -- the pointers of a list that pass a test
 has-filter : (f : Pointer → Bool) (ps : List Pointer) (p : Pointer) → has (filter f ps) p ≡ (has ps p && f p)
@@ -71,19 +80,19 @@ module _ {T : Type 0} where
         before = λ p e dead. fits.ended_before p (was_ended (has (given h) p) (has (ended h) p) (sym (fits.live p) ∙ dead) e);
       }
 
-module _ {X : Type 0} (kind : StackKind) (s : SessionState X) (sound : IsSound kind s) where
+module _ {X : Type 0} (kind : StackKind) (s : SessionState X) (sound : SoundOver kind s) where
   Fits-table : Fits (history_of s.arena s.table) s.arena
   Fits-table =
       record {
-        given_once = subst AreDistinct (sym (append-nil s.table)) sound.distinct;
+        given_once = subst AreDistinct (sym (append-nil s.table)) sound.table.distinct;
         live = λ p.
-            live_if (is_live s.arena p) (has s.table p) (sound.has_live p)
+            live_if (is_live s.arena p) (has s.table p) (sound.table.has_live p)
             ∙ sym (ap (λ l. has l p && not (has (ended_in s.arena s.table) p)) (append-nil s.table)
             ∙ ap (λ b. has s.table p && not b) (has-filter (λ q. not (is_live s.arena q)) s.table p));
-        given_by_now = λ p e. sound.by_now p (sym (ap (λ l. has l p) (append-nil s.table)) ∙ e);
+        given_by_now = λ p e. sound.table.by_now p (sym (ap (λ l. has l p) (append-nil s.table)) ∙ e);
         ended_before = λ p e.
             let parts = and_parts (has s.table p) (not (is_live s.arena p)) (sym (has-filter (λ q. not (is_live s.arena q)) s.table p) ∙ e) in
-            sound.before p parts.0 (not_true (is_live s.arena p) parts.1);
+            sound.table.before p parts.0 (not_true (is_live s.arena p) parts.1);
       }
 
   -- the table stays sound where no pointer is given
@@ -98,14 +107,10 @@ module _ {X : Type 0} (kind : StackKind) (s : SessionState X) (sound : IsSound k
       (TableSound-fits (and_then (history_of s.arena s.table) call) t (continues (history_of s.arena s.table) Fits-table))
 
 -- with the links, and what holds of the arena, that is soundness
-pub IsSound-from : {X : Type 0} (kind : StackKind) (t : SessionState X) → TableSound t.arena t.table → ((p q : Pointer) (datum : X) → look_up t.arena p ≡ Some (datum, Some q) → has t.table q ≡ true) → IsWellFormed t.arena → IsOfKind kind t.arena.room t.arena.limit → IsSound kind t
-IsSound-from kind t table links well of_kind =
+pub SoundOver-from : {X : Type 0} (kind : StackKind) (t : SessionState X) → TableSound t.arena t.table → ((p q : Pointer) (datum : X) → look_up t.arena p ≡ Some (datum, Some q) → has t.table q ≡ true) → IsWellFormed t.arena → IsOfKind kind t.arena.room t.arena.limit → SoundOver kind t
+SoundOver-from kind t table links well of_kind =
     record {
-      distinct = table.distinct;
-      has_live = table.has_live;
-      has_links = links;
-      by_now = table.by_now;
-      before = table.before;
+      table = record { distinct = table.distinct; has_live = table.has_live; has_links = links; by_now = table.by_now; before = table.before };
       well_formed = well;
       of_kind = of_kind;
     }

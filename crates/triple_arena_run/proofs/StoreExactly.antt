@@ -14,7 +14,7 @@ use Rattle.triple_arena_run.specs.declared.command.Command.{Command}
 use Rattle.triple_arena_run.specs.declared.command.Command.TheVariants.{Insert, InsertWithin, Get, Set, Remove, Invalidate, Clear, Compact, Len, Capacity, Reserve, Show}
 use Rattle.triple_arena_run.specs.declared.reply.Reply.{Reply}
 use Rattle.triple_arena_run.specs.declared.reply.Reply.TheVariants.{Given, Full, BeyondMaxCapacity, NoMemory, Found, Nothing, Done, Removed, Invalid, Cleared, Compacted, Unresolved, BadName, Count}
-use Rattle.triple_arena_run.specs.NameStore.{NameRow, Store, next_name, row_count, row, is_good_link, HasEnded, with_row, give_row, grown_store, store_refusal, insert_row_unless, get_row_reply, act_on_row, row_dangles, store_answer, IsStoreStep}
+use Rattle.triple_arena_run.specs.NameStore.{NameRow, Store, next_name, row_count, row, is_good_link, HasEnded, with_row, give_row, grown_store, store_refusal, insert_row_unless, get_row_reply, act_on_row, row_dangles, store_answer, RowWantsMemory, IsStoreStep, MayReply}
 
 -- a reply gives no name
 abbrev Unnamed : {X : Type 0} → Reply X → Type 0
@@ -178,3 +178,22 @@ module _ {X : Type 0} where
       by : (b : Bool) → (◌≡◌ {A = Reply X × Store X} (Unresolved, t) (if b then Unresolved else Compacted false, s)) ↔ (IsTrue b × (t ≡ s))
       by true = ((λ h. (refl, ap (λ (o : Reply X × Store X). o.1) h)), λ h. ap (λ u. (Unresolved, u)) h.1)
       by false = ((λ h. let no : ◌≡◌ {A = Reply X} Unresolved (Compacted false) = ap (λ (o : Reply X × Store X). o.0) h in absurd (cc)), λ h. absurd (let no = h.0 in cc))
+
+  -- a step's reply is one that may come, and each that may come is a step's
+  may_come : (s t : Store X) (command : Command X) (reply : Reply X) → IsStoreStep s command reply t → MayReply s command reply
+  may_come s t (Reserve m) reply step = (t, step)
+  may_come s t Show reply step = step.0
+  may_come s t command NoMemory (inl is) = inl (ap (λ (o : Reply X × Store X). o.0) is)
+  may_come s t command NoMemory (inr wants) = inr (refl, wants.0)
+  may_come s t command reply is = inl (ap (λ (o : Reply X × Store X). o.0) is)
+
+  comes : (s : Store X) (command : Command X) (reply : Reply X) → MayReply s command reply → (t : Store X) × IsStoreStep s command reply t
+  comes s (Reserve m) reply may = may
+  comes s Show reply may = (s, (may, refl))
+  comes s command NoMemory (inl is) = ((store_answer s command).1, inl (ap (λ r. (r, (store_answer s command).1)) is))
+  comes s command NoMemory (inr wants) = (s, inr (wants.1, refl))
+  comes s command reply (inl is) = ((store_answer s command).1, ap (λ r. (r, (store_answer s command).1)) is)
+  comes s command reply (inr wants) = absurd (let no = wants.0 in cc)
+
+  pub RepliesExactly : (s : Store X) (command : Command X) (reply : Reply X) → ((t : Store X) × IsStoreStep s command reply t) ↔ MayReply s command reply
+  RepliesExactly s command reply = (λ step. may_come s step.0 command reply step.1, comes s command reply)

@@ -28,10 +28,10 @@ use Rattle.triple_arena_run.specs.SessionRun.{refusal, refused_reply, give, inse
 use Rattle.triple_arena_run.specs.NameStore.{row_count, give_row, grown_store, store_refusal, insert_row_unless, store_answer}
 use Rattle.triple_arena_run.specs.StoreRuns.{without_wrap}
 use Rattle.triple_arena_run.specs.SessionCalls.{calls_of}
-use Rattle.triple_arena_run.specs.Shown.{row_of, shown, IsSound}
+use Rattle.triple_arena_run.specs.Shown.{row_of, shown}
 use Rattle.triple_arena_run.proofs.TableNames.{map_same, link_name-given, name_of-append}
 use Rattle.triple_arena_run.proofs.Rows.{value_hit, value_miss, kept_value, row_count-shown, row_kept, found_before}
-use Rattle.triple_arena_run.proofs.Soundness.{TableSound-given, IsSound-from}
+use Rattle.triple_arena_run.proofs.Soundness.{SoundOver, TableSound-given, SoundOver-from}
 use Rattle.triple_arena_run.proofs.Reserving.{kind_kept}
 use Rattle.triple_arena_run.proofs.StoreSteps.{link_there, has_longer, new_link, Store-is, row_last, Agrees, agrees, agrees_same, agrees_linked}
 
@@ -65,12 +65,12 @@ same_refusal true false false = refl
 same_refusal false at_limit out = refl
 
 module _ {X : Type 0} where
-  pub refusal-shown : (kind : StackKind) (s : SessionState X) → IsSound kind s → store_refusal (shown s) ≡ option_map refused_reply (refusal s.arena)
+  pub refusal-shown : (kind : StackKind) (s : SessionState X) → SoundOver kind s → store_refusal (shown s) ≡ option_map refused_reply (refusal s.arena)
   refusal-shown kind s sound =
       ap (λ n. if n == capacity s.arena then (if is_at_limit s.arena.limit (capacity s.arena) then Some BeyondMaxCapacity else if capacity s.arena == s.arena.greatest then Some NoMemory else None) else None) (row_count-shown kind s sound)
       ∙ same_refusal (arena_len s.arena == capacity s.arena) (is_at_limit s.arena.limit (capacity s.arena)) (capacity s.arena == s.arena.greatest)
 
-module _ {X : Type 0} (kind : StackKind) (s : SessionState X) (sound : IsSound kind s) (datum : X) (link : Option ℕ) (l : Option Pointer) (good : link_pointer s.table link ≡ Some l) where
+module _ {X : Type 0} (kind : StackKind) (s : SessionState X) (sound : SoundOver kind s) (datum : X) (link : Option ℕ) (l : Option Pointer) (good : link_pointer s.table link ≡ Some l) where
   abbrev node : X × Option Pointer
   node = (datum, l)
 
@@ -86,7 +86,7 @@ module _ {X : Type 0} (kind : StackKind) (s : SessionState X) (sound : IsSound k
   -- the session with a new name, in its arena with this room
   named_more : (room : ℕ) → IsWellFormed (with_room room) → IsOfKind kind room s.arena.limit → arena_len s.arena < capacity (with_room room)
       → (shown (after room) ≡ (give_row (record (shown s) { capacity = capacity (with_room room) }) (datum, link)).1)
-      × IsSound kind (after room) × Continues Fits s.arena (insertion new ∷ []) (after room).arena
+      × SoundOver kind (after room) × Continues Fits s.arena (insertion new ∷ []) (after room).arena
   named_more room well of_kind place_left =
       let a : ArenaState (X × Option Pointer) = with_room room in
       let t : ArenaState (X × Option Pointer) = inserted a node in
@@ -100,18 +100,18 @@ module _ {X : Type 0} (kind : StackKind) (s : SessionState X) (sound : IsSound k
       λ q h. row_kept kind s t (s.table ++ new ∷ []) q sound names
       (kept_value a t (place a) (Some (a.counter, node)) q changes (λ here.
       let none : look_up s.arena q ≡ None = ap (option_and_then (value_under q.1)) (ap (entry a) here ∙ vacant) in
-      (none, value_miss (Some (a.counter, node)) q.1 a.counter node refl (λ same. omega (arith, sound.before q h (ap is_some none), same))))) in (
+      (none, value_miss (Some (a.counter, node)) q.1 a.counter node refl (λ same. omega (arith, sound.table.before q h (ap is_some none), same))))) in (
         Store-is _ _ _ _ _ _ _ _
             (map-append (row_of t (s.table ++ new ∷ [])) s.table (new ∷ [])
             ∙ ap (λ rows. rows ++ row_of t (s.table ++ new ∷ []) new ∷ []) (map_same (row_of s.arena s.table) (row_of t (s.table ++ new ∷ [])) s.table old)
             ∙ ap (λ r. map (row_of s.arena s.table) s.table ++ r ∷ [])
-            (row_last s t new node stored (value_hit (entry t (place a)) a.counter node changes.there) ∙ ap (λ name. Some (datum, name)) (link_name-given s.table link l sound.distinct good)))
+            (row_last s t new node stored (value_hit (entry t (place a)) a.counter node changes.there) ∙ ap (λ name. Some (datum, name)) (link_name-given s.table link l sound.table.distinct good)))
             (fitting-inserted a node) (limit-inserted a node) all_kept.3,
-        IsSound-from kind (after room)
+        SoundOver-from kind (after room)
             (TableSound-given kind s sound (insertion new) t continues)
             (λ q x d holds. has_longer s.table (new ∷ []) x (elim (found_before a t (place a) (Some (a.counter, node)) q (d, Some x) changes holds) [
               | inl here ↦ stored x (new_link a.counter q.1 node d x here)
-              | inr before ↦ sound.has_links q x d before
+              | inr before ↦ sound.table.has_links q x d before
             ]))
             (IsWellFormed-inserted a node well place_left)
             (rw (all_kept.1, all_kept.2) of_kind),
@@ -119,7 +119,7 @@ module _ {X : Type 0} (kind : StackKind) (s : SessionState X) (sound : IsSound k
       )
 
   -- where the arena has a place
-  pub within_more : (arena_len s.arena == capacity s.arena) ≡ false → (shown (after s.arena.room) ≡ (give_row (shown s) (datum, link)).1) × IsSound kind (after s.arena.room) × Continues Fits s.arena (insertion new ∷ []) (after s.arena.room).arena
+  pub within_more : (arena_len s.arena == capacity s.arena) ≡ false → (shown (after s.arena.room) ≡ (give_row (shown s) (datum, link)).1) × SoundOver kind (after s.arena.room) × Continues Fits s.arena (insertion new ∷ []) (after s.arena.room).arena
   within_more is =
       named_more s.arena.room sound.well_formed sound.of_kind (omega (arith, len_within s.arena sound.well_formed, eqb-false (arena_len s.arena) (capacity s.arena) is))
 
@@ -134,7 +134,7 @@ module _ {X : Type 0} (kind : StackKind) (s : SessionState X) (sound : IsSound k
 
   pub grown_more : refusal s.arena ≡ None
       → (store_answer (shown s) (Insert datum link) ≡ give_row (grown_store (shown s)) (datum, link) → store_answer (shown s) (Insert datum link) ≡ (Given (length s.table + 1) false, shown grown_after))
-      × IsSound kind grown_after × Continues Fits s.arena (insertion new ∷ []) grown_after.arena
+      × SoundOver kind grown_after × Continues Fits s.arena (insertion new ∷ []) grown_after.arena
   grown_more free = by (arena_len s.arena == capacity s.arena) refl free
     where
       size : length (map (row_of s.arena s.table) s.table) ≡ length s.table
@@ -147,7 +147,7 @@ module _ {X : Type 0} (kind : StackKind) (s : SessionState X) (sound : IsSound k
 
       by : (b : Bool) → (arena_len s.arena == capacity s.arena) ≡ b → cond b (cond (is_at_limit s.arena.limit (capacity s.arena)) (Some refused.BeyondMaxCapacity) (cond (capacity s.arena == s.arena.greatest) (Some refused.AllocError) None)) None ≡ None
           → (store_answer (shown s) (Insert datum link) ≡ give_row (grown_store (shown s)) (datum, link) → store_answer (shown s) (Insert datum link) ≡ (Given (length s.table + 1) false, shown (give s new false (inserted (cond b (with_room_for kind s.arena (next_capacity (capacity s.arena) s.arena.limit s.arena.greatest)) s.arena) node)).1))
-          × IsSound kind (give s new false (inserted (cond b (with_room_for kind s.arena (next_capacity (capacity s.arena) s.arena.limit s.arena.greatest)) s.arena) node)).1
+          × SoundOver kind (give s new false (inserted (cond b (with_room_for kind s.arena (next_capacity (capacity s.arena) s.arena.limit s.arena.greatest)) s.arena) node)).1
           × Continues Fits s.arena (insertion new ∷ []) (inserted (cond b (with_room_for kind s.arena (next_capacity (capacity s.arena) s.arena.limit s.arena.greatest)) s.arena) node)
       by false is free =
           let more = within_more is in (
@@ -172,7 +172,7 @@ module _ {X : Type 0} (kind : StackKind) (s : SessionState X) (sound : IsSound k
           )
 
 module _ {X : Type 0} (kind : StackKind) (counting : Bool) (greatest : ℕ) (text : Option (String Global)) where
-  pub agrees_insert : (s : SessionState X) (datum : X) (link : Option ℕ) → IsSound kind s → Agrees kind s (Insert datum link) (answer kind counting greatest text s (Insert datum link))
+  pub agrees_insert : (s : SessionState X) (datum : X) (link : Option ℕ) → SoundOver kind s → Agrees kind s (Insert datum link) (answer kind counting greatest text s (Insert datum link))
   agrees_insert s datum link sound =
       agrees_linked kind s (Insert datum link) link (insert_answer kind counting greatest s datum) (insert_row_unless (store_refusal (shown s)) (shown s) (datum, link)) sound refl refl refl
       (λ l good is. by l good (refusal s.arena) refl (is ∙ ap (λ o. insert_row_unless o (shown s) (datum, link)) (refusal-shown kind s sound)))
@@ -194,7 +194,7 @@ module _ {X : Type 0} (kind : StackKind) (counting : Bool) (greatest : ℕ) (tex
           agrees kind s (Insert datum link) (Given (length s.table + 1) false) t (Given (length s.table + 1) false) (shown t)
           (more.0 (is ∙ ap (λ o. insert_row_unless (option_map refused_reply o) (shown s) (datum, link)) free)) refl (λ quiet. (refl, more.1, more.2))
 
-  pub agrees_within : (s : SessionState X) (datum : X) (link : Option ℕ) → IsSound kind s → Agrees kind s (InsertWithin datum link) (answer kind counting greatest text s (InsertWithin datum link))
+  pub agrees_within : (s : SessionState X) (datum : X) (link : Option ℕ) → SoundOver kind s → Agrees kind s (InsertWithin datum link) (answer kind counting greatest text s (InsertWithin datum link))
   agrees_within s datum link sound =
       agrees_linked kind s (InsertWithin datum link) link (insert_within_answer s datum) (if row_count (shown s) == capacity s.arena then (Full, shown s) else give_row (shown s) (datum, link)) sound refl refl refl
       (λ l good is. by l good (arena_len s.arena == capacity s.arena) refl (is ∙ ap (λ n. if n == capacity s.arena then (Full, shown s) else give_row (shown s) (datum, link)) (row_count-shown kind s sound)))

@@ -24,14 +24,15 @@ use Rattle.triple_arena_run.specs.SessionRun.{refused_reply, show_reply, shown_t
 use Rattle.triple_arena_run.specs.NameStore.{Store, row_dangles, store_answer, ReservesRows, RowWantsMemory, IsStoreStep}
 use Rattle.triple_arena_run.specs.StoreRuns.{without_wrap}
 use Rattle.triple_arena_run.specs.SessionCalls.{calls_of}
-use Rattle.triple_arena_run.specs.Shown.{as_row, shown, IsSound}
+use Rattle.triple_arena_run.specs.Shown.{as_row, shown}
 use Rattle.triple_arena_traits.specs.CompressionLaws.{length-values}
 use Rattle.triple_arena_run.proofs.Rows.{row_count-shown}
 use Rattle.triple_arena_run.proofs.StoreSteps.{row_named, good_link, raised_by_one, unmoved, Agrees, agrees, agrees_same, agrees_get, agrees_len, agrees_capacity, agrees_set, agrees_remove, agrees_invalidate, agrees_clear}
 use Rattle.triple_arena_run.proofs.StoreInsertions.{refusal-shown, agrees_insert, agrees_within}
 use Rattle.triple_arena_run.proofs.Reserving.{Reserved, reserved_answer, reserved_wanting}
-use Rattle.triple_arena_run.proofs.Compacting.{shown-compacted, IsSound-compacted}
+use Rattle.triple_arena_run.proofs.Compacting.{shown-compacted, SoundOver-compacted}
 use Rattle.triple_arena_run.proofs.Dangling.{dangling}
+use Rattle.triple_arena_run.proofs.Soundness.{SoundOver}
 
 -- a reply that tells of no wrap has no bool, or one that is false
 pub without_wrap-quiet : {X : Type 0} (reply : Reply X) → tells_of_wrap reply ≡ false → without_wrap reply ≡ reply
@@ -66,7 +67,7 @@ module _ {X : Type 0} (kind : StackKind) where
   pub record StepsAsStore (s : SessionState X) (command : Command X) (reply : Reply X) (t : SessionState X) : Type 0 where
     pub answers : (u : Store X) × IsStoreStep (shown s) command (without_wrap reply) u
     pub step : tells_of_wrap reply ≡ false → IsStoreStep (shown s) command reply (shown t)
-    pub sound : tells_of_wrap reply ≡ false → IsSound kind t
+    pub sound : tells_of_wrap reply ≡ false → SoundOver kind t
     pub calls : tells_of_wrap reply ≡ false → Continues Fits s.arena (calls_of s command reply) t.arena
 
   from_agreement : (s : SessionState X) (command : Command X) (a : Reply X × SessionState X) → has_answer command ≡ true → Agrees kind s command a → StepsAsStore s command a.0 a.1
@@ -79,7 +80,7 @@ module _ {X : Type 0} (kind : StackKind) where
       }
 
   -- a step without a wrap
-  quiet_step : (s : SessionState X) (command : Command X) (reply : Reply X) (t : SessionState X) → without_wrap reply ≡ reply → IsStoreStep (shown s) command reply (shown t) → IsSound kind t → Continues Fits s.arena (calls_of s command reply) t.arena → StepsAsStore s command reply t
+  quiet_step : (s : SessionState X) (command : Command X) (reply : Reply X) (t : SessionState X) → without_wrap reply ≡ reply → IsStoreStep (shown s) command reply (shown t) → SoundOver kind t → Continues Fits s.arena (calls_of s command reply) t.arena → StepsAsStore s command reply t
   quiet_step s command reply t plain step sound calls =
       record {
         answers = (shown t, subst (λ r. IsStoreStep (shown s) command r (shown t)) (sym plain) step);
@@ -95,24 +96,27 @@ module _ {X : Type 0} (kind : StackKind) where
   reserved_plain s m (Compacted wrapped) u is = absurd is
   reserved_plain s m reply u is = refl
 
-  from_reserved : (s : SessionState X) (sound : IsSound kind s) (m : ℕ) (a : Reply X × SessionState X) → Reserved kind s sound m a → StepsAsStore s (Reserve m) a.0 a.1
+  from_reserved : (s : SessionState X) (sound : SoundOver kind s) (m : ℕ) (a : Reply X × SessionState X) → Reserved kind s sound m a → StepsAsStore s (Reserve m) a.0 a.1
   from_reserved s sound m a is = quiet_step s (Reserve m) a.0 a.1 (reserved_plain s m a.0 (shown a.1) is.0) is.0 is.1 is.2
 
   -- a session with more room in its table shows the same
-  more_room : (s : SessionState X) → IsSound kind s → IsSound kind (with_room_for_name s)
+  more_room : (s : SessionState X) → SoundOver kind s → SoundOver kind (with_room_for_name s)
   more_room s sound =
       record {
-        distinct = sound.distinct;
-        has_live = sound.has_live;
-        has_links = sound.has_links;
-        by_now = sound.by_now;
-        before = sound.before;
+        table =
+            record {
+              distinct = sound.table.distinct;
+              has_live = sound.table.has_live;
+              has_links = sound.table.has_links;
+              by_now = sound.table.by_now;
+              before = sound.table.before;
+            };
         well_formed = sound.well_formed;
         of_kind = sound.of_kind;
       }
 
   -- where memory is refused, and nothing changes but the table's room
-  refused_step : (s : SessionState X) (command : Command X) (t : SessionState X) → IsSound kind s → (t ≡ s) ⊎ (t ≡ with_room_for_name s) → calls_of s command NoMemory ≡ [] → RowWantsMemory (shown s) command → StepsAsStore s command NoMemory t
+  refused_step : (s : SessionState X) (command : Command X) (t : SessionState X) → SoundOver kind s → (t ≡ s) ⊎ (t ≡ with_room_for_name s) → calls_of s command NoMemory ≡ [] → RowWantsMemory (shown s) command → StepsAsStore s command NoMemory t
   refused_step s command t sound (inl is) none wants =
       subst (λ u. StepsAsStore s command NoMemory u) (sym is)
       (quiet_step s command NoMemory s refl (as_wanting (shown s) command wants) sound (subst (λ calls. Continues Fits s.arena calls s.arena) (sym none) (unmoved kind s.arena)))
@@ -121,7 +125,7 @@ module _ {X : Type 0} (kind : StackKind) where
       (quiet_step s command NoMemory (with_room_for_name s) refl (as_wanting (shown s) command wants) (more_room s sound) (subst (λ calls. Continues Fits s.arena calls s.arena) (sym none) (unmoved kind s.arena)))
 
   module _ (has_memory : ℕ → Type 0) where
-    wanting_steps : (s : SessionState X) (command : Command X) (t : SessionState X) → IsSound kind s → WantsMemory kind has_memory s command t → StepsAsStore s command NoMemory t
+    wanting_steps : (s : SessionState X) (command : Command X) (t : SessionState X) → SoundOver kind s → WantsMemory kind has_memory s command t → StepsAsStore s command NoMemory t
     wanting_steps s (Insert datum link) t sound wants =
         refused_step s (Insert datum link) t sound (either wants.2) refl (good_link s link ∙ wants.0, refusal-shown kind s sound ∙ ap (option_map refused_reply) wants.1)
       where
@@ -142,7 +146,7 @@ module _ {X : Type 0} (kind : StackKind) where
     wanting_steps s command t sound wants = absurd wants
 
 module _ {X : Type 0} (kind : StackKind) (counting : Bool) (greatest : ℕ) (counts : counting ≡ true) (text : Option (String Global)) where
-  agrees_compact : (s : SessionState X) → IsSound kind s → Agrees kind s Compact (answer kind counting greatest text s Compact)
+  agrees_compact : (s : SessionState X) → SoundOver kind s → Agrees kind s Compact (answer kind counting greatest text s Compact)
   agrees_compact s sound = by (any_dangles s.arena) (dangling kind s sound)
     where
       wrapped : Bool
@@ -167,13 +171,13 @@ module _ {X : Type 0} (kind : StackKind) (counting : Bool) (greatest : ℕ) (cou
       by false is =
           agrees kind s Compact (Compacted wrapped) (compacted s n) (Compacted false) (shown s) (ap (λ b. (if b then Unresolved else Compacted false, shown s)) is) refl (λ quiet. (
             shown-compacted kind s n sound (rises quiet),
-            IsSound-compacted kind s n sound (rises quiet),
+            SoundOver-compacted kind s n sound (rises quiet),
             subst (λ m. Continues Fits s.arena (compression (keys s.arena.slots) (keys (compacted s m).arena.slots) ∷ []) (compacted s n).arena) (at_one (arena_len s.arena == 0) quiet)
                 (Continues-compressed counting greatest s.arena (compacted s n).arena (first_generation counting) false (map (relinked s.arena n) (values s.arena.slots)) refl (counts, quiet)
                 (length-map (values s.arena.slots) (relinked s.arena n) ∙ length-values s.arena.slots) refl),
           ))
 
-  agree : (s : SessionState X) (command : Command X) → IsSound kind s → has_answer command ≡ true → Agrees kind s command (answer kind counting greatest text s command)
+  agree : (s : SessionState X) (command : Command X) → SoundOver kind s → has_answer command ≡ true → Agrees kind s command (answer kind counting greatest text s command)
   agree s (Insert datum link) sound has = agrees_insert kind counting greatest text s datum link sound
   agree s (InsertWithin datum link) sound has = agrees_within kind counting greatest text s datum link sound
   agree s (Get name) sound has = agrees_get kind counting greatest counts text s name sound
@@ -188,7 +192,7 @@ module _ {X : Type 0} (kind : StackKind) (counting : Bool) (greatest : ℕ) (cou
   agree s Show sound has = absurd (true≢false (sym has))
 
   -- where no memory is refused
-  answer_steps : (s : SessionState X) (command : Command X) → IsSound kind s → StepsAsStore kind s command (answer kind counting greatest text s command).0 (answer kind counting greatest text s command).1
+  answer_steps : (s : SessionState X) (command : Command X) → SoundOver kind s → StepsAsStore kind s command (answer kind counting greatest text s command).0 (answer kind counting greatest text s command).1
   answer_steps s (Reserve m) sound = from_reserved kind s sound m (reserve_answer kind counting greatest s m) (reserved_answer kind s sound counting greatest m)
   answer_steps s Show sound = by text
     where
@@ -206,7 +210,7 @@ module _ {X : Type 0} (kind : StackKind) (has_memory : ℕ → Type 0) (counting
   step_cases s command reply t is = inl is
 
   -- each step of a sound session is one of the store that it shows
-  pub StepIsStores : (s : SessionState X) (command : Command X) (reply : Reply X) (t : SessionState X) → IsSound kind s → IsStep kind has_memory counting greatest s command reply t → StepsAsStore kind s command reply t
+  pub StepIsStores : (s : SessionState X) (command : Command X) (reply : Reply X) (t : SessionState X) → SoundOver kind s → IsStep kind has_memory counting greatest s command reply t → StepsAsStore kind s command reply t
   StepIsStores s command reply t sound step =
       elim (step_cases s command reply t step) [
         | inl is ↦
@@ -217,14 +221,17 @@ module _ {X : Type 0} (kind : StackKind) (has_memory : ℕ → Type 0) (counting
       ]
 
 -- a session that has given no name is sound, over an empty arena of its kind
-pub IsSound-new : {X : Type 0} (kind : StackKind) (room : ℕ) (limit : Option ℕ) (most counter : ℕ) → IsOfKind kind room limit → IsSound {X = X} kind (new_session (new_arena room limit most counter))
-IsSound-new {X = X} kind room limit most counter of_kind =
+pub SoundOver-new : {X : Type 0} (kind : StackKind) (room : ℕ) (limit : Option ℕ) (most counter : ℕ) → IsOfKind kind room limit → SoundOver {X = X} kind (new_session (new_arena room limit most counter))
+SoundOver-new {X = X} kind room limit most counter of_kind =
     record {
-      distinct = tt;
-      has_live = λ p live. absurd (true≢false (sym live ∙ dead p p.0));
-      has_links = λ p q datum found. absurd (true≢false (sym (ap is_some found) ∙ dead p p.0));
-      by_now = λ p h. absurd (true≢false (sym h));
-      before = λ p h dead. absurd (true≢false (sym h));
+      table =
+          record {
+            distinct = tt;
+            has_live = λ p live. absurd (true≢false (sym live ∙ dead p p.0));
+            has_links = λ p q datum found. absurd (true≢false (sym (ap is_some found) ∙ dead p p.0));
+            by_now = λ p h. absurd (true≢false (sym h));
+            before = λ p h dead. absurd (true≢false (sym h));
+          };
       well_formed = IsWellFormed-empty room limit most counter;
       of_kind = of_kind;
     }

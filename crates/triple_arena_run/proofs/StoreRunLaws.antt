@@ -15,12 +15,13 @@ use Rattle.triple_arena_run.specs.ReplyText.{tells_of_wrap}
 use Rattle.triple_arena_run.specs.SessionState.{SessionState}
 use Rattle.triple_arena_run.specs.SessionRun.{IsStep}
 use Rattle.triple_arena_run.specs.NameStore.{Store, store_answer, IsStoreStep}
-use Rattle.triple_arena_run.specs.Shown.{shown, IsSound}
+use Rattle.triple_arena_run.specs.Shown.{shown}
 use Rattle.triple_arena_run.specs.SessionCalls.{calls_of, calls_in, KeepsHistories}
 use Rattle.triple_arena_run.specs.Runs.{IsRun, TellsOfNoWrap, EndsInWrap, RunsToWrap}
 use Rattle.triple_arena_run.specs.StoreRuns.{is_named, is_compact, is_no_memory, without_wrap, AnswersAsStore, ample, erase, seen}
 use Rattle.triple_arena_run.proofs.StoreSteps.{unmoved}
 use Rattle.triple_arena_run.proofs.StoreLaws.{without_wrap-quiet, StepIsStores}
+use Rattle.triple_arena_run.proofs.Soundness.{SoundOver}
 
 module _ {X : Type 0} where
   plain_memory : (reply : Reply X) → is_no_memory (without_wrap reply) ≡ is_no_memory reply
@@ -70,9 +71,9 @@ module _ {X : Type 0} (kind : StackKind) (has_memory : ℕ → Type 0) (counting
   Step s command reply t = IsStep kind has_memory counting greatest s command reply t
 
   -- a run that tells of no wrap is a run of the store; the session stays sound, and its arena has gone on by the model calls
-  pub QuietRunIsStores : (s : SessionState X) (commands : List (Command X)) (replies : List (Reply X)) (t : SessionState X) → IsSound kind s → (run : IsRun Step s commands replies t) → TellsOfNoWrap replies
-      → IsRun IsStoreStep (shown s) commands replies (shown t) × IsSound kind t × Continues Fits s.arena (calls_in Step s commands replies t run) t.arena
-  QuietRunIsStores s [] [] t sound run quiet = (ap shown run, subst (IsSound kind) (sym run) sound, subst (λ (u : SessionState X). Continues Fits s.arena [] u.arena) (sym run) (unmoved kind s.arena))
+  pub QuietRunIsStores : (s : SessionState X) (commands : List (Command X)) (replies : List (Reply X)) (t : SessionState X) → SoundOver kind s → (run : IsRun Step s commands replies t) → TellsOfNoWrap replies
+      → IsRun IsStoreStep (shown s) commands replies (shown t) × SoundOver kind t × Continues Fits s.arena (calls_in Step s commands replies t run) t.arena
+  QuietRunIsStores s [] [] t sound run quiet = (ap shown run, subst (SoundOver kind) (sym run) sound, subst (λ (u : SessionState X). Continues Fits s.arena [] u.arena) (sym run) (unmoved kind s.arena))
   QuietRunIsStores s [] (reply ∷ replies) t sound run quiet = absurd run
   QuietRunIsStores s (command ∷ commands) [] t sound run quiet = absurd run
   QuietRunIsStores s (command ∷ commands) (reply ∷ replies) t sound run quiet =
@@ -92,7 +93,7 @@ module _ {X : Type 0} (kind : StackKind) (has_memory : ℕ → Type 0) (counting
           inr (ap tells_of_wrap same ∙ All-head (λ r. tells_of_wrap r ≡ false) b before quiet, (before, ends.1, rest, All-tail (λ r. tells_of_wrap r ≡ false) b before quiet, ends.4))
 
   -- one that ends with the first reply that tells of a wrap answers as the store all the same
-  pub answers : (s : SessionState X) (commands : List (Command X)) (replies : List (Reply X)) (t : SessionState X) → IsSound kind s → IsRun Step s commands replies t → TellsOfNoWrap replies ⊎ EndsInWrap replies
+  pub answers : (s : SessionState X) (commands : List (Command X)) (replies : List (Reply X)) (t : SessionState X) → SoundOver kind s → IsRun Step s commands replies t → TellsOfNoWrap replies ⊎ EndsInWrap replies
       → AnswersAsStore (shown s) commands replies
   answers s [] [] t sound run ends = tt
   answers s [] (reply ∷ replies) t sound run ends = absurd run
@@ -115,7 +116,7 @@ module _ {X : Type 0} (kind : StackKind) (has_memory : ℕ → Type 0) (counting
       last (command ∷ commands) (reply ∷ replies) m u none run = absurd (cc)
 
   -- up to the first reply that tells of a wrap, a sound session answers as the store that it shows
-  pub RunAnswersAsStore : (s : SessionState X) (commands : List (Command X)) (replies : List (Reply X)) (t : SessionState X) → IsSound kind s → RunsToWrap Step s commands replies t
+  pub RunAnswersAsStore : (s : SessionState X) (commands : List (Command X)) (replies : List (Reply X)) (t : SessionState X) → SoundOver kind s → RunsToWrap Step s commands replies t
       → AnswersAsStore (shown s) (take (length replies) commands) replies
   RunAnswersAsStore s commands replies t sound ran =
       answers s (take (length replies) commands) replies t sound ran.0 (ends ran.1)
@@ -125,18 +126,18 @@ module _ {X : Type 0} (kind : StackKind) (has_memory : ℕ → Type 0) (counting
       ends (inr wraps) = inr wraps
 
   -- and compaction changes no other reply
-  pub RunIsUnseen : (s : SessionState X) (commands : List (Command X)) (replies : List (Reply X)) (t : SessionState X) → IsSound kind s → RunsToWrap Step s commands replies t
+  pub RunIsUnseen : (s : SessionState X) (commands : List (Command X)) (replies : List (Reply X)) (t : SessionState X) → SoundOver kind s → RunsToWrap Step s commands replies t
       → list_all is_named (take (length replies) commands) ≡ true → list_any is_no_memory replies ≡ false → seen (take (length replies) commands) replies ≡ ample (shown s) (erase (take (length replies) commands))
   RunIsUnseen s commands replies t sound ran named enough =
       CompactionIsUnseen (shown s) (take (length replies) commands) replies (RunAnswersAsStore s commands replies t sound ran) named enough
 
   -- its arena has gone on by the model calls of the commands
-  pub RunKeepsHistories : (s : SessionState X) (commands : List (Command X)) (replies : List (Reply X)) (t : SessionState X) → IsSound kind s → KeepsHistories Step s commands replies t
+  pub RunKeepsHistories : (s : SessionState X) (commands : List (Command X)) (replies : List (Reply X)) (t : SessionState X) → SoundOver kind s → KeepsHistories Step s commands replies t
   RunKeepsHistories s commands replies t sound ran quiet = (QuietRunIsStores s commands replies t sound ran quiet).2
 
   -- where no reply tells of a wrap, all commands ran, on the store too, and the session is sound
-  pub RunIsStores : (s : SessionState X) (commands : List (Command X)) (replies : List (Reply X)) (t : SessionState X) → IsSound kind s → RunsToWrap Step s commands replies t → TellsOfNoWrap replies
-      → IsRun IsStoreStep (shown s) commands replies (shown t) × IsSound kind t
+  pub RunIsStores : (s : SessionState X) (commands : List (Command X)) (replies : List (Reply X)) (t : SessionState X) → SoundOver kind s → RunsToWrap Step s commands replies t → TellsOfNoWrap replies
+      → IsRun IsStoreStep (shown s) commands replies (shown t) × SoundOver kind t
   RunIsStores s commands replies t sound ran quiet =
       let stores = QuietRunIsStores s (take (length replies) commands) replies t sound ran.0 quiet in
       (subst (λ cs. IsRun IsStoreStep (shown s) cs replies (shown t)) (whole ran.1) stores.0, stores.1)

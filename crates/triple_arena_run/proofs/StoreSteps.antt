@@ -28,10 +28,10 @@ use Rattle.triple_arena_run.specs.SessionRun.{get_reply, act_under, act_on, set_
 use Rattle.triple_arena_run.specs.NameStore.{NameRow, Store, row, is_good_link, with_row, give_row, get_row_reply, act_on_row, store_answer}
 use Rattle.triple_arena_run.specs.StoreRuns.{without_wrap}
 use Rattle.triple_arena_run.specs.SessionCalls.{call_at, calls_of}
-use Rattle.triple_arena_run.specs.Shown.{as_row, row_of, shown, IsSound}
+use Rattle.triple_arena_run.specs.Shown.{as_row, row_of, shown}
 use Rattle.triple_arena_run.proofs.TableNames.{has_from_item, link_name-given, name_of-append}
 use Rattle.triple_arena_run.proofs.Rows.{value_hit, value_miss, entry_found, row_count-shown, rows_changed, found_before}
-use Rattle.triple_arena_run.proofs.Soundness.{TableSound, TableSound-kept, TableSound-given, IsSound-from}
+use Rattle.triple_arena_run.proofs.Soundness.{SoundOver, TableSound, TableSound-kept, TableSound-given, SoundOver-from}
 
 -- the pointer of a good link is in the table
 pub link_there : (table : List Pointer) (link : Option ℕ) (q : Pointer) → link_pointer table link ≡ Some (Some q) → has table q ≡ true
@@ -98,11 +98,11 @@ module _ {X : Type 0} (kind : StackKind) where
   pub record Agrees (s : SessionState X) (command : Command X) (a : Reply X × SessionState X) : Type 0 where
     pub reply : without_wrap a.0 ≡ (store_answer (shown s) command).0
     pub store : tells_of_wrap a.0 ≡ false → shown a.1 ≡ (store_answer (shown s) command).1
-    pub sound : tells_of_wrap a.0 ≡ false → IsSound kind a.1
+    pub sound : tells_of_wrap a.0 ≡ false → SoundOver kind a.1
     pub calls : tells_of_wrap a.0 ≡ false → Continues Fits s.arena (calls_of s command a.0) a.1.arena
 
   -- what is left of the agreement where the answer of the store is known
-  pub agrees : (s : SessionState X) (command : Command X) (r : Reply X) (t : SessionState X) (q : Reply X) (u : Store X) → store_answer (shown s) command ≡ (q, u) → without_wrap r ≡ q → (tells_of_wrap r ≡ false → (shown t ≡ u) × IsSound kind t × Continues Fits s.arena (calls_of s command r) t.arena) → Agrees s command (r, t)
+  pub agrees : (s : SessionState X) (command : Command X) (r : Reply X) (t : SessionState X) (q : Reply X) (u : Store X) → store_answer (shown s) command ≡ (q, u) → without_wrap r ≡ q → (tells_of_wrap r ≡ false → (shown t ≡ u) × SoundOver kind t × Continues Fits s.arena (calls_of s command r) t.arena) → Agrees s command (r, t)
   agrees s command r t q u is same rest =
       record {
         reply = same ∙ sym (ap (λ (o : Reply X × Store X). o.0) is);
@@ -115,13 +115,13 @@ module _ {X : Type 0} (kind : StackKind) where
   unmoved s = Continues-none s s (λ p. refl) (omega arith)
 
   -- nothing has changed
-  pub agrees_same : (s : SessionState X) (command : Command X) (r : Reply X) → IsSound kind s → store_answer (shown s) command ≡ (r, shown s) → without_wrap r ≡ r → calls_of s command r ≡ [] → Agrees s command (r, s)
+  pub agrees_same : (s : SessionState X) (command : Command X) (r : Reply X) → SoundOver kind s → store_answer (shown s) command ≡ (r, shown s) → without_wrap r ≡ r → calls_of s command r ≡ [] → Agrees s command (r, s)
   agrees_same s command r sound is quiet none =
       agrees s command r s r (shown s) is quiet (λ h. (refl, sound, subst (λ calls. Continues Fits s.arena calls s.arena) (sym none) (unmoved s.arena)))
 
   -- a command to a name that was never given, or has ended, and to any other
   pub agrees_at : (s : SessionState X) (command : Command X) (name : ℕ) (act : Pointer → X × Option Pointer → Reply X × SessionState X) (on_row : NameRow X → Reply X × Store X)
-      → IsSound kind s → store_answer (shown s) command ≡ act_on_row (shown s) (row (shown s) name) on_row → calls_of s command Invalid ≡ []
+      → SoundOver kind s → store_answer (shown s) command ≡ act_on_row (shown s) (row (shown s) name) on_row → calls_of s command Invalid ≡ []
       → ((p : Pointer) (node : X × Option Pointer) → item s.table name ≡ Some p → look_up s.arena p ≡ Some node → store_answer (shown s) command ≡ on_row (as_row s.table node) → Agrees s command (act p node))
       → Agrees s command (act_on s act (item s.table name))
   agrees_at s command name act on_row sound is none acts = by (item s.table name) refl
@@ -139,7 +139,7 @@ module _ {X : Type 0} (kind : StackKind) where
 
   -- a command with a link that was never given, and with any other
   pub agrees_linked : (s : SessionState X) (command : Command X) (link : Option ℕ) (a : Option (Option Pointer) → Reply X × SessionState X) (b : Reply X × Store X)
-      → IsSound kind s → store_answer (shown s) command ≡ (if is_good_link (shown s) link then b else (BadName, shown s)) → a None ≡ (BadName, s) → calls_of s command BadName ≡ []
+      → SoundOver kind s → store_answer (shown s) command ≡ (if is_good_link (shown s) link then b else (BadName, shown s)) → a None ≡ (BadName, s) → calls_of s command BadName ≡ []
       → ((l : Option Pointer) → link_pointer s.table link ≡ Some l → store_answer (shown s) command ≡ b → Agrees s command (a (Some l)))
       → Agrees s command (a (link_pointer s.table link))
   agrees_linked s command link a b sound is bad none good = by (link_pointer s.table link) refl
@@ -151,7 +151,7 @@ module _ {X : Type 0} (kind : StackKind) where
       by (Some l) e = good l e (is ∙ ap (λ t. if t then b else (BadName, shown s)) (good_link s link ∙ ap is_some e))
 
 module _ {X : Type 0} (kind : StackKind) (counting : Bool) (greatest : ℕ) (counts : counting ≡ true) (text : Option (String Global)) where
-  pub agrees_get : (s : SessionState X) (name : ℕ) → IsSound kind s → Agrees kind s (Get name) (answer kind counting greatest text s (Get name))
+  pub agrees_get : (s : SessionState X) (name : ℕ) → SoundOver kind s → Agrees kind s (Get name) (answer kind counting greatest text s (Get name))
   agrees_get s name sound = agrees_same kind s (Get name) (get_reply s (named s name)) sound (ap (λ r. (r, shown s)) (ap get_row_reply (row_named s name) ∙ by (named s name))) (plain (named s name)) (none (named s name))
     where
       by : (o : Option (X × Option Pointer)) → get_row_reply (option_map (as_row s.table) o) ≡ get_reply s o
@@ -166,13 +166,13 @@ module _ {X : Type 0} (kind : StackKind) (counting : Bool) (greatest : ℕ) (cou
       none None = refl
       none (Some node) = refl
 
-  pub agrees_len : (s : SessionState X) → IsSound kind s → Agrees kind s Len (answer kind counting greatest text s Len)
+  pub agrees_len : (s : SessionState X) → SoundOver kind s → Agrees kind s Len (answer kind counting greatest text s Len)
   agrees_len s sound = agrees_same kind s Len (Count (arena_len s.arena)) sound (ap (λ n. (Count n, shown s)) (row_count-shown kind s sound)) refl refl
 
-  pub agrees_capacity : (s : SessionState X) → IsSound kind s → Agrees kind s Capacity (answer kind counting greatest text s Capacity)
+  pub agrees_capacity : (s : SessionState X) → SoundOver kind s → Agrees kind s Capacity (answer kind counting greatest text s Capacity)
   agrees_capacity s sound = agrees_same kind s Capacity (Count (capacity s.arena)) sound refl refl refl
 
-  pub agrees_set : (s : SessionState X) (name : ℕ) (datum : X) (link : Option ℕ) → IsSound kind s → Agrees kind s (Set name datum link) (answer kind counting greatest text s (Set name datum link))
+  pub agrees_set : (s : SessionState X) (name : ℕ) (datum : X) (link : Option ℕ) → SoundOver kind s → Agrees kind s (Set name datum link) (answer kind counting greatest text s (Set name datum link))
   agrees_set s name datum link sound =
       agrees_linked kind s (Set name datum link) link (set_answer s name datum) (act_on_row (shown s) (row (shown s) name) (λ r. (Done, with_row (shown s) name (Some (datum, link))))) sound refl refl refl
       (λ l good is. agrees_at kind s (Set name datum link) name (λ p node. (Done, record s { arena = with_value s.arena p.0 (datum, l) })) (λ r. (Done, with_row (shown s) name (Some (datum, link)))) sound is refl (under l good))
@@ -192,20 +192,20 @@ module _ {X : Type 0} (kind : StackKind) (counting : Bool) (greatest : ℕ) (cou
             Store-is _ _ _ _ _ _ _ _
                 (rows_changed kind s t s.table name p node e (Some (datum, link)) sound (λ l h. refl) at found changes
                 (λ q h other. value_miss e q.1 p.1 (datum, l) refl (λ same. other (sym same)))
-                (ap (option_map (as_row s.table)) (value_hit (entry t p.0) p.1 (datum, l) changes.there) ∙ ap (λ n. Some (datum, n)) (link_name-given s.table link l sound.distinct good)))
+                (ap (option_map (as_row s.table)) (value_hit (entry t p.0) p.1 (datum, l) changes.there) ∙ ap (λ n. Some (datum, n)) (link_name-given s.table link l sound.table.distinct good)))
                 refl refl refl,
-            IsSound-from kind (record s { arena = t })
+            SoundOver-from kind (record s { arena = t })
                 (TableSound-kept kind s sound t continues)
                 (λ q x d holds. elim (found_before s.arena t p.0 e q (d, Some x) changes holds) [
                   | inl here ↦ link_there s.table link x (good ∙ ap Some (new_link p.1 q.1 (datum, l) d x here))
-                  | inr before ↦ sound.has_links q x d before
+                  | inr before ↦ sound.table.has_links q x d before
                 ])
                 (subst (λ xs. IsWellFormed (record s.arena { slots = xs })) (sym written) (IsWellFormed-with_entry s.arena p.0 (p.1, node) (p.1, (datum, l)) sound.well_formed slot))
                 sound.of_kind,
             continues,
           ))
 
-  pub agrees_remove : (s : SessionState X) (name : ℕ) → IsSound kind s → Agrees kind s (Remove name) (answer kind counting greatest text s (Remove name))
+  pub agrees_remove : (s : SessionState X) (name : ℕ) → SoundOver kind s → Agrees kind s (Remove name) (answer kind counting greatest text s (Remove name))
   agrees_remove s name sound =
       agrees_at kind s (Remove name) name (remove_under kind counting greatest s) (λ r. (Removed r.0 r.1 false, with_row (shown s) name None)) sound refl refl under
     where
@@ -222,15 +222,15 @@ module _ {X : Type 0} (kind : StackKind) (counting : Bool) (greatest : ℕ) (cou
             Store-is _ _ _ _ _ _ _ _
                 (rows_changed kind s t s.table name p node None None sound (λ l h. refl) at found changes (λ q h other. refl) (ap (option_map (as_row s.table)) (ap (option_and_then (value_under p.1)) changes.there)))
                 (fitting-removed raised s.arena p.0 t refl) (limit-removed raised s.arena p.0) (greatest-removed raised s.arena p.0),
-            IsSound-from kind (record s { arena = t })
+            SoundOver-from kind (record s { arena = t })
                 (subst (TableSound t) (append-nil s.table) (TableSound-given kind s sound (removal p) t continues))
-                (λ q l datum holds. elim (found_before s.arena t p.0 None q (datum, Some l) changes holds) [ inl no_more ↦ absurd (cc) | inr before ↦ sound.has_links q l datum before ])
+                (λ q l datum holds. elim (found_before s.arena t p.0 None q (datum, Some l) changes holds) [ inl no_more ↦ absurd (cc) | inr before ↦ sound.table.has_links q l datum before ])
                 (IsWellFormed-removed raised s.arena p.0 (p.1, node) sound.well_formed (live_item s.arena p.0 (p.1, node) stands))
                 (rw (room-removed raised s.arena p.0, limit-removed raised s.arena p.0) sound.of_kind),
             subst (λ o. Continues Fits s.arena (call_at removal o) t) (sym at) continues,
           ))
 
-  pub agrees_invalidate : (s : SessionState X) (name : ℕ) → IsSound kind s → Agrees kind s (Invalidate name) (answer kind counting greatest text s (Invalidate name))
+  pub agrees_invalidate : (s : SessionState X) (name : ℕ) → SoundOver kind s → Agrees kind s (Invalidate name) (answer kind counting greatest text s (Invalidate name))
   agrees_invalidate s name sound =
       agrees_at kind s (Invalidate name) name (invalidate_under kind counting greatest s) (λ r. give_row (with_row (shown s) name None) r) sound refl refl under
     where
@@ -259,13 +259,13 @@ module _ {X : Type 0} (kind : StackKind) (counting : Bool) (greatest : ℕ) (cou
 
           after : wraps counting greatest s.arena.counter ≡ false
               → (shown (invalidate_under kind counting greatest s p node).1 ≡ record (shown s) { rows = with_item (map (row_of s.arena s.table) s.table) name None ++ Some (as_row s.table node) ∷ [] })
-              × IsSound kind (invalidate_under kind counting greatest s p node).1
+              × SoundOver kind (invalidate_under kind counting greatest s p node).1
               × Continues Fits s.arena (calls_of s (Invalidate name) (Given (length s.table + 1) (wraps counting greatest s.arena.counter))) (invalidated (raise counting greatest) s.arena p.0)
           after quiet =
               let one : c ≡ s.arena.counter + 1 = raised_by_one counting greatest s.arena.counter counts quiet in
               let stands = entry_found s.arena p node found in
               let changes : ChangesAt s.arena.slots p.0 (Some (c, node)) t.slots = subst (λ o. ChangesAt s.arena.slots p.0 o t.slots) (ap (option_map (λ (e : ℕ × (X × Option Pointer)). (c, e.1))) stands) (slots-invalidated raised s.arena p.0 t refl) in
-              let past : (q : Pointer) → has s.table q ≡ true → option_and_then (value_under q.1) (Some (c, node)) ≡ None = λ q h. value_miss (Some (c, node)) q.1 c node refl (λ same. omega (arith, sound.by_now q h, one, same)) in
+              let past : (q : Pointer) → has s.table q ≡ true → option_and_then (value_under q.1) (Some (c, node)) ≡ None = λ q h. value_miss (Some (c, node)) q.1 c node refl (λ same. omega (arith, sound.table.by_now q h, one, same)) in
               let there : has s.table p ≡ true = has_from_item s.table name p at in
               let written : with_generation_in s.arena.slots p.0 c ≡ with_item s.arena.slots p.0 (Some (c, node)) = with_generation_is s.arena.slots p.0 p.1 c node stands in
               let slot = live_item s.arena p.0 (p.1, node) stands in
@@ -275,27 +275,27 @@ module _ {X : Type 0} (kind : StackKind) (counting : Bool) (greatest : ℕ) (cou
                     ∙ ap (λ l. l ++ row_of t (s.table ++ new ∷ []) new ∷ [])
                     (rows_changed kind s t (s.table ++ new ∷ []) name p node (Some (c, node)) None sound (λ l h. name_of-append s.table (new ∷ []) l h) at found changes (λ q h other. past q h)
                     (ap (option_map (as_row (s.table ++ new ∷ []))) (ap (option_and_then (value_under p.1)) changes.there ∙ past p there)))
-                    ∙ ap (λ r. with_item (map (row_of s.arena s.table) s.table) name None ++ r ∷ []) (row_last s t new node (λ l h. sound.has_links p l node.0 (found ∙ ap (λ x. Some (node.0, x)) h)) (value_hit (entry t p.0) c node changes.there)))
+                    ∙ ap (λ r. with_item (map (row_of s.arena s.table) s.table) name None ++ r ∷ []) (row_last s t new node (λ l h. sound.table.has_links p l node.0 (found ∙ ap (λ x. Some (node.0, x)) h)) (value_hit (entry t p.0) c node changes.there)))
                     refl refl refl,
-                IsSound-from kind (invalidate_under kind counting greatest s p node).1
+                SoundOver-from kind (invalidate_under kind counting greatest s p node).1
                     (TableSound-given kind s sound (invalidation p new) t continues)
                     (λ q l datum holds. has_longer s.table (new ∷ []) l (elim (found_before s.arena t p.0 (Some (c, node)) q (datum, Some l) changes holds) [
-                      | inl here ↦ sound.has_links p l node.0 (found ∙ ap (λ x. Some (node.0, x)) (new_link c q.1 node datum l here))
-                      | inr before ↦ sound.has_links q l datum before
+                      | inl here ↦ sound.table.has_links p l node.0 (found ∙ ap (λ x. Some (node.0, x)) (new_link c q.1 node datum l here))
+                      | inr before ↦ sound.table.has_links q l datum before
                     ]))
                     (subst (λ xs. IsWellFormed (record s.arena { slots = xs; counter = c })) (sym written) (IsWellFormed-counter _ c (IsWellFormed-with_entry s.arena p.0 (p.1, node) (c, node) sound.well_formed slot)))
                     sound.of_kind,
                 subst (λ o. Continues Fits s.arena (call_at (λ q. invalidation q (q.0, s.arena.counter + 1)) o) t) (sym at) (subst (λ n. Continues Fits s.arena (invalidation p (p.0, n) ∷ []) t) one continues),
               )
 
-  pub agrees_clear : (s : SessionState X) → IsSound kind s → Agrees kind s Clear (answer kind counting greatest text s Clear)
+  pub agrees_clear : (s : SessionState X) → SoundOver kind s → Agrees kind s Clear (answer kind counting greatest text s Clear)
   agrees_clear s sound =
       let t : ArenaState (X × Option Pointer) = cleared (raise counting greatest) s.arena in
       let wrapped : Bool = cond (arena_len s.arena == 0) false (wraps counting greatest s.arena.counter) in
       agrees kind s Clear (Cleared wrapped) (record s { arena = t }) (Cleared false) (record (shown s) { rows = map (λ r. None) (map (row_of s.arena s.table) s.table) }) refl refl (λ quiet.
       let continues = Continues-cleared counting greatest s.arena t (counts, quiet) refl in (
         Store-is _ _ _ _ _ _ _ _ (map_none (row_of s.arena s.table) (row_of t s.table) s.table (λ q. ap (option_map (as_row s.table)) (gone q))) refl refl refl,
-        IsSound-from kind (record s { arena = t })
+        SoundOver-from kind (record s { arena = t })
             (subst (TableSound t) (append-nil s.table) (TableSound-given kind s sound (clearing (keys s.arena.slots)) t continues))
             (λ q l datum holds. absurd (let none = gone q in cc))
             (IsWellFormed-empty s.arena.room s.arena.limit s.arena.greatest t.counter)

@@ -21,12 +21,13 @@ use Rattle.triple_arena_run.specs.ReplyText.{reply_lines}
 use Rattle.triple_arena_run.specs.KindRun.{greatest, first_session, RunsOver, RunsKind}
 use Rattle.triple_arena_run.specs.ProgramRun.{RunsProgram}
 use Rattle.triple_arena_run.specs.NameStore.{new_store}
-use Rattle.triple_arena_run.specs.Shown.{shown, IsSound}
+use Rattle.triple_arena_run.specs.Shown.{shown}
 use Rattle.triple_arena_run.specs.StoreText.{WritesAsStore, IsStoreText, first_store, AnswersProgram}
-use Rattle.triple_arena_run.proofs.StoreLaws.{IsSound-new}
+use Rattle.triple_arena_run.proofs.StoreLaws.{SoundOver-new}
 use Rattle.triple_arena_run.proofs.StoreRunLaws.{CompactionIsUnseen, answers}
+use Rattle.triple_arena_run.proofs.Soundness.{SoundOver}
 
-module _ (kind : StackKind) (has_memory : ℕ → Type 0) (counting : Bool) (greatest : ℕ) (counts : counting ≡ true) (s t : SessionState ℕ) (sound : IsSound kind s) (old new : Option (List ℕ)) where
+module _ (kind : StackKind) (has_memory : ℕ → Type 0) (counting : Bool) (greatest : ℕ) (counts : counting ≡ true) (s t : SessionState ℕ) (sound : SoundOver kind s) (old new : Option (List ℕ)) where
   abbrev TextStep : SessionState ℕ → Command ℕ → Reply ℕ → SessionState ℕ → Type 0
   TextStep = IsStep kind has_memory counting greatest
 
@@ -64,7 +65,7 @@ module _ (kind : StackKind) (has_memory : ℕ → Type 0) (counting : Bool) (gre
 over_kind : (kind : StackKind) (has_memory : ℕ → Type 0) (room : ℕ) (limit : Option ℕ) (text : Option (List ℕ)) (outcome : Result (Unit {0}) TextError) (old new : Option (List ℕ)) → IsOfKind kind room limit
     → RunsOver kind has_memory (first_session room limit) text outcome old new → IsStoreText (new_store room limit greatest) text outcome old new
 over_kind kind has_memory room limit text outcome old new of_kind ran =
-    FlushedIsStores kind has_memory true greatest refl (first_session room limit) ran.0 (IsSound-new kind room limit (greatest_index greatest) (first_generation true) of_kind) old new text outcome ran.1
+    FlushedIsStores kind has_memory true greatest refl (first_session room limit) ran.0 (SoundOver-new kind room limit (greatest_index greatest) (first_generation true) of_kind) old new text outcome ran.1
 
 -- the program's run, over each kind of stack
 pub RunsKindAsStore : (kind : Kind) (text : Option (List ℕ)) (outcome : Result (Unit {0}) TextError) (old new : Option (List ℕ)) → RunsKind kind text outcome old new → IsStoreText (first_store kind) text outcome old new

@@ -139,3 +139,9 @@ module _ {X : Type 0} where
   IsStoreStep s Show reply t = IsShown reply × (t ≡ s)
   IsStoreStep s command NoMemory t = ((NoMemory, t) ≡ store_answer s command) ⊎ (RowWantsMemory s command × (t ≡ s))
   IsStoreStep s command reply t = (reply, t) ≡ store_answer s command
+
+  -- the replies that may come to a command: the answer's, or NoMemory where the command asks for memory
+  abbrev pub MayReply : Store X → Command X → Reply X → Type 0
+  MayReply s (Reserve m) reply = (t : Store X) × ReservesRows s m reply t
+  MayReply s Show reply = IsShown reply
+  MayReply s command reply = (reply ≡ (store_answer s command).0) ⊎ ((reply ≡ NoMemory) × RowWantsMemory s command)

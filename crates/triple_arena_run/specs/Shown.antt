@@ -29,12 +29,13 @@ module _ {X : Type 0} where
 
   -- the table has no pointer twice, and has every pointer of the arena and that of every link; none of its generations is
   -- above the counter, and those of pointers that the arena does not have are below it
-  pub record IsSound (kind : StackKind) (s : SessionState X) : Type 0 where
+  pub record IsSound (s : SessionState X) : Type 0 where
     pub distinct : AreDistinct s.table
     pub has_live : (p : Pointer) → IsTrue (is_live s.arena p) → IsTrue (has s.table p)
     pub has_links : (p q : Pointer) (datum : X) → look_up s.arena p ≡ Some (datum, Some q) → IsTrue (has s.table q)
     pub by_now : (p : Pointer) → IsTrue (has s.table p) → p.1 ≤ s.arena.counter
     pub before : (p : Pointer) → IsTrue (has s.table p) → is_live s.arena p ≡ false → p.1 < s.arena.counter
-    -- what holds of every arena
-    pub well_formed : IsWellFormed s.arena
-    pub of_kind : IsOfKind kind s.arena.room s.arena.limit
+
+-- as every arena over a stack of this kind is: well formed, and its room and limit are such as the kind has
+abbrev pub IsArenaOver : {T : Type 0} → StackKind → ArenaState T → Type 0
+IsArenaOver kind arena = IsWellFormed arena × IsOfKind kind arena.room arena.limit

@@ -1,17 +1,28 @@
-//! What holds of lines, commands and stores of names. Each law is the contract of a function with an
+//! What holds of lines, commands, stores of names and sessions. Each law is the contract of a function with an
 //! empty body.
 
 ghost use Rattle.std.specs.Prelude.{◌≡◌, ◌↔◌, ℕ, ◌+◌, Bool, List, Option, Some, None, IsTrue, true, false};
 ghost use Rattle.std.specs.List.{list_all, list_any};
+ghost use Rattle.triple_arena_traits.specs.Histories.{Continues, Fits};
 ghost use Rattle.triple_arena_run.specs.declared.command.Command.{Command};
 ghost use Rattle.triple_arena_run.specs.declared.command.Command.TheVariants.{InsertWithin, Get, Compact};
 ghost use Rattle.triple_arena_run.specs.declared.reply.Reply.{Reply};
 ghost use Rattle.triple_arena_run.specs.declared.reply.Reply.TheVariants.{Given, Full, Found, Nothing, Unresolved};
+ghost use Rattle.triple_arena_run.specs.ReplyText.{tells_of_wrap};
+ghost use Rattle.triple_arena_run.specs.SessionState.{SessionState};
+ghost use Rattle.triple_arena_run.specs.SessionRun.{IsStep};
+ghost use Rattle.triple_arena_run.specs.SessionCalls.{calls_of};
+ghost use Rattle.triple_arena_run.specs.Shown.{shown, IsSound, IsArenaOver};
 ghost use Rattle.triple_arena_run.specs.KindRun.{greatest, first_session};
-ghost use Rattle.triple_arena_run.specs.NameStore.{Store, new_store, next_name, row_count, row, is_good_link, HasEnded, row_dangles, IsStoreStep};
-ghost use Rattle.triple_arena_run.specs.StoreRuns.{is_named, is_no_memory, AnswersAsStore, ample, erase, seen};
+ghost use Rattle.triple_arena_run.specs.NameStore.{Store, new_store, next_name, row_count, row, is_good_link, HasEnded, row_dangles, IsStoreStep, MayReply};
+ghost use Rattle.triple_arena_run.specs.StoreRuns.{is_named, is_no_memory, without_wrap, AnswersAsStore, ample, erase, seen};
 ghost use Rattle.triple_arena_run.specs.ElevenCommands.{eleven_commands, eleven_replies, nine_replies, model_replies};
 ghost use Rattle.triple_arena_run.specs.Forms.{FormsAreExact, LinesAreExact};
+
+use crate::node::Node;
+use triple_arena::ArenaSlot;
+use triple_arena_ptr::Ptr;
+use triple_arena_stack::NonZeroInxGenericStack;
 
 /// A line stands for just the command whose form it has, so for one at most.
 pub fn forms_are_exact()
@@ -35,6 +46,7 @@ pub fn names_are_new<X>()
 
 /// An insertion within capacity is refused exactly when the store is full; a look-up finds exactly
 /// what the name's row has; and a compaction is unresolved exactly where a row's link names no row.
+/// The replies to each command are exactly those that may come, and no other.
 pub fn store_is_exact<X>()
     ensures full { (s t : Store X) (datum : X) (link : Option ℕ) → IsTrue (is_good_link s link)
         → IsStoreStep s (InsertWithin datum link) Full t ↔ ((row_count s ≡ s.capacity) × (t ≡ s)) }
@@ -46,6 +58,32 @@ pub fn store_is_exact<X>()
     ensures unresolved { (s t : Store X)
         → IsStoreStep s Compact Unresolved t
         ↔ (IsTrue (list_any (row_dangles s) s.rows) × (t ≡ s)) }
+    ensures replies { (s : Store X) (command : Command X) (reply : Reply X)
+        → ((t : Store X) × IsStoreStep s command reply t) ↔ MayReply s command reply }
+{}
+
+/// A step of a session is one of the store that it shows, where the generation counts, the session is
+/// sound, its arena is as every arena over the stack is, and the reply tells of no wrap. All this holds
+/// after it too, and the calls on the arena take each history that fits it to one that fits. Where the
+/// reply tells of a wrap, it is the store's, its bool aside.
+pub fn session_steps_as_store<P: Ptr, X, S: NonZeroInxGenericStack<ArenaSlot<P, Node<X, P>>>>()
+    ensures store { P.Gen.counting ≡ true → (s t : SessionState X) (command : Command X) (reply : Reply X)
+        → IsArenaOver S.kind s.arena → IsSound s
+        → IsStep S.kind S.has_memory P.Gen.counting P.Gen.greatest s command reply t
+        → tells_of_wrap reply ≡ false → IsStoreStep (shown s) command reply (shown t) }
+    ensures sound { P.Gen.counting ≡ true → (s t : SessionState X) (command : Command X) (reply : Reply X)
+        → IsArenaOver S.kind s.arena → IsSound s
+        → IsStep S.kind S.has_memory P.Gen.counting P.Gen.greatest s command reply t
+        → tells_of_wrap reply ≡ false → IsArenaOver S.kind t.arena × IsSound t }
+    ensures calls { P.Gen.counting ≡ true → (s t : SessionState X) (command : Command X) (reply : Reply X)
+        → IsArenaOver S.kind s.arena → IsSound s
+        → IsStep S.kind S.has_memory P.Gen.counting P.Gen.greatest s command reply t
+        → tells_of_wrap reply ≡ false
+        → Continues Fits s.arena (calls_of s command reply) t.arena }
+    ensures at_wrap { P.Gen.counting ≡ true → (s t : SessionState X) (command : Command X) (reply : Reply X)
+        → IsArenaOver S.kind s.arena → IsSound s
+        → IsStep S.kind S.has_memory P.Gen.counting P.Gen.greatest s command reply t
+        → (after : Store X) × IsStoreStep (shown s) command (without_wrap reply) after }
 {}
 
 /// Compaction is unseen by whoever asks a store of names: where named commands were answered as by

@@ -14,7 +14,7 @@ ghost use Rattle.triple_arena_run.specs.SessionState.{SessionState, node_of, new
 ghost use Rattle.triple_arena_run.specs.SessionRun.{IsStep, refusal};
 ghost use Rattle.triple_arena_run.specs.SessionCalls.{calls_of, KeepsHistories};
 ghost use Rattle.triple_arena_run.specs.NameStore.{Store, new_store, IsStoreStep};
-ghost use Rattle.triple_arena_run.specs.Shown.{shown, IsSound};
+ghost use Rattle.triple_arena_run.specs.Shown.{shown, IsSound, IsArenaOver};
 ghost use Rattle.triple_arena_run.specs.StoreRuns.{is_named, is_no_memory, without_wrap, AnswersAsStore, ample, erase, seen};
 
 use crate::command::Command;
@@ -63,7 +63,7 @@ impl<P: Ptr, X: Copy, S: NonZeroInxGenericStack<ArenaSlot<P, Node<X, P>>>> Sessi
         requires { P.Gen.counting ≡ true }
         ensures made { result ≡ new_session (new_arena (new_room S.kind) (new_limit S.kind)
             (greatest_index P.Inx.greatest) (first_generation P.Gen.counting)) }
-        ensures sound { IsSound S.kind result }
+        ensures sound { IsSound result }
         ensures store { shown result ≡ new_store (new_room S.kind) (new_limit S.kind) (greatest_index P.Inx.greatest) }
     {
         Session {
@@ -82,7 +82,7 @@ impl<P: Ptr, X: Copy, S: NonZeroInxGenericStack<ArenaSlot<P, Node<X, P>>>> Sessi
         ensures made { IfOk result (λ session. session ≡ new_session (new_arena
             (made_room S.kind min_capacity) (made_limit S.kind min_capacity)
             (greatest_index P.Inx.greatest) (first_generation P.Gen.counting))) }
-        ensures sound { IfOk result (λ session. IsSound S.kind session) }
+        ensures sound { IfOk result (λ session. IsSound session) }
         ensures store { IfOk result (λ session. shown session ≡ new_store
             (made_room S.kind min_capacity) (made_limit S.kind min_capacity) (greatest_index P.Inx.greatest)) }
         ensures holds { OnOk result
@@ -138,15 +138,16 @@ impl<P: Ptr, X: Copy, S: NonZeroInxGenericStack<ArenaSlot<P, Node<X, P>>>> Sessi
     where
         X: Debug,
         ensures step { IsStep S.kind S.has_memory P.Gen.counting P.Gen.greatest self.old command result self.new }
-        ensures store { P.Gen.counting ≡ true → IsSound S.kind self.old → tells_of_wrap result ≡ false
+        ensures store { P.Gen.counting ≡ true → IsSound self.old → tells_of_wrap result ≡ false
             → IsStoreStep (shown self.old) command result (shown self.new) }
-        ensures sound { P.Gen.counting ≡ true → IsSound S.kind self.old → tells_of_wrap result ≡ false
-            → IsSound S.kind self.new }
-        ensures calls { P.Gen.counting ≡ true → IsSound S.kind self.old → tells_of_wrap result ≡ false
+        ensures sound { P.Gen.counting ≡ true → IsSound self.old → tells_of_wrap result ≡ false
+            → IsSound self.new }
+        ensures calls { P.Gen.counting ≡ true → IsSound self.old → tells_of_wrap result ≡ false
             → Continues Fits self.old.arena (calls_of self.old command result) self.new.arena }
-        ensures at_wrap { P.Gen.counting ≡ true → IsSound S.kind self.old
+        ensures at_wrap { P.Gen.counting ≡ true → IsSound self.old
             → (after : Store X) × IsStoreStep (shown self.old) command (without_wrap result) after }
     {
+        self.tell_arena();
         self.answer(command)
     }
 
@@ -188,26 +189,35 @@ impl<P: Ptr, X: Copy, S: NonZeroInxGenericStack<ArenaSlot<P, Node<X, P>>>> Sessi
             RunsToWrap (IsStep S.kind S.has_memory P.Gen.counting P.Gen.greatest)
             self.old commands.now replies.items self.new) }
         ensures refused { OnErr result (self.new ≡ self.old) }
-        ensures store { P.Gen.counting ≡ true → IsSound S.kind self.old → IfOk result (λ replies.
+        ensures store { P.Gen.counting ≡ true → IsSound self.old → IfOk result (λ replies.
             AnswersAsStore (shown self.old) (take (length replies.items) commands.now) replies.items) }
-        ensures shows { P.Gen.counting ≡ true → IsSound S.kind self.old → IfOk result (λ replies.
+        ensures shows { P.Gen.counting ≡ true → IsSound self.old → IfOk result (λ replies.
             TellsOfNoWrap replies.items
             → IsRun IsStoreStep (shown self.old) commands.now replies.items (shown self.new)) }
-        ensures sound { P.Gen.counting ≡ true → IsSound S.kind self.old → IfOk result (λ replies.
-            TellsOfNoWrap replies.items → IsSound S.kind self.new) }
-        ensures calls { P.Gen.counting ≡ true → IsSound S.kind self.old → IfOk result (λ replies.
+        ensures sound { P.Gen.counting ≡ true → IsSound self.old → IfOk result (λ replies.
+            TellsOfNoWrap replies.items → IsSound self.new) }
+        ensures calls { P.Gen.counting ≡ true → IsSound self.old → IfOk result (λ replies.
             KeepsHistories (IsStep S.kind S.has_memory P.Gen.counting P.Gen.greatest)
             self.old (take (length replies.items) commands.now) replies.items self.new) }
-        ensures before { P.Gen.counting ≡ true → IsSound S.kind self.old → IfOk result (λ replies.
+        ensures before { P.Gen.counting ≡ true → IsSound self.old → IfOk result (λ replies.
             (count : ℕ) (after : SessionState X)
             → KeepsHistories (IsStep S.kind S.has_memory P.Gen.counting P.Gen.greatest)
             self.old (take count commands.now) (take count replies.items) after) }
-        ensures unseen { P.Gen.counting ≡ true → IsSound S.kind self.old → IfOk result (λ replies.
+        ensures unseen { P.Gen.counting ≡ true → IsSound self.old → IfOk result (λ replies.
             let ran = take (length replies.items) commands.now in
             list_all is_named ran ≡ true → list_any is_no_memory replies.items ≡ false
             → seen ran replies.items ≡ ample (shown self.old) (erase ran)) }
     {
+        self.tell_arena();
         self.run_commands(commands)
+    }
+
+    // Tells what is true of the arena of any session, and does nothing.
+    pub(crate) fn tell_arena(&self)
+        ensures { IsArenaOver S.kind self.now.arena }
+    {
+        let _len = self.arena.len();
+        let _limit = self.arena.max_capacity();
     }
 
     // The replies to commands, up to the first wrap.

@@ -71,10 +71,11 @@ pub fn run_text<P: Ptr, S: NonZeroInxGenericStack<ArenaSlot<P, Node<u64, P>>>, R
     ensures run { IsTextRun (IsStep S.kind S.has_memory P.Gen.counting P.Gen.greatest)
         (R.remaining input.old) result
         session.old session.new (W.contents output.old) (W.contents output.new) }
-    ensures store { P.Gen.counting ≡ true → IsSound S.kind session.old
+    ensures store { P.Gen.counting ≡ true → IsSound session.old
         → IsStoreText (shown session.old) (R.remaining input.old) result
         (W.contents output.old) (W.contents output.new) }
 {
+    session.tell_arena();
     read_and_run(session, alloc, input, output)
 }
 
@@ -114,10 +115,11 @@ pub fn run_text_and_flush<
 ) -> (Result<(), TextError>, W)
     ensures run { IsFlushedRun (IsStep S.kind S.has_memory P.Gen.counting P.Gen.greatest) (R.remaining input.old)
         result.0 session.old session.new (writer_contents W.contents output) (W.contents result.1) }
-    ensures store { P.Gen.counting ≡ true → IsSound S.kind session.old
+    ensures store { P.Gen.counting ≡ true → IsSound session.old
         → IsStoreText (shown session.old) (R.remaining input.old) result.0
         (writer_contents W.contents output) (W.contents result.1) }
 {
+    session.tell_arena();
     run_and_flush(session, alloc, input, output)
 }
 

@@ -1,4 +1,4 @@
-use Rattle.triple_arena_run.proofs.StoreExactly.{FullExactly, FoundExactly, NothingExactly, UnresolvedExactly}
+use Rattle.triple_arena_run.proofs.StoreExactly.{FullExactly, FoundExactly, NothingExactly, UnresolvedExactly, RepliesExactly}
 use Rattle.triple_arena_run.proofs.laws.store_is_exact.Goals as goal
 
 pub returns-clause-full : goal.returns-clause-full
@@ -12,3 +12,6 @@ returns-clause-nothing g c = NothingExactly
 
 pub returns-clause-unresolved : goal.returns-clause-unresolved
 returns-clause-unresolved g c = UnresolvedExactly
+
+pub returns-clause-replies : goal.returns-clause-replies
+returns-clause-replies g c = RepliesExactly

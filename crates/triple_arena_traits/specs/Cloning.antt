@@ -1,5 +1,5 @@
 -- What cloning answers, and what it leaves of an arena.
-use Rattle.std.specs.Prelude.{◌≡◌, ◌≤◌, ℕ, Bool, true, false, List, [], ◌∷◌, ◌++◌, length, Option, Some, None, Result, Ok, Err, MatchResult}
+use Rattle.std.specs.Prelude.{◌≡◌, ◌≤◌, ℕ, Bool, true, false, List, [], ◌∷◌, ◌++◌, length, Option, Some, None, Result, Ok, Err, MatchResult, Contains}
 use Rattle.triple_arena_base.specs.declared.errors.AllocError.{AllocError}
 use Rattle.triple_arena_base.specs.declared.errors.CloneFromError.{CloneFromError}
 use Rattle.triple_arena_base.specs.declared.errors.CloneFromError.TheVariants.{Reallocation, Map}
@@ -22,6 +22,12 @@ module _ {X E : Type 0} where
   IsRoomRefusal (Err (Reallocation refusal)) = Unit {0}
   IsRoomRefusal (Err (Map refusal)) = ⊥
 
+  -- a value was refused
+  abbrev pub IsMapRefusal : Result X (CloneFromError E) → Type 0
+  IsMapRefusal (Ok x) = ⊥
+  IsMapRefusal (Err (Reallocation refusal)) = ⊥
+  IsMapRefusal (Err (Map refusal)) = Unit {0}
+
 -- the next generation of a source, or the first one where it has none
 abbrev pub counter_of : ℕ → Option ℕ → ℕ
 counter_of first None = first
@@ -32,6 +38,10 @@ module _ {T : Type 0} (infallible : T → Type 0) where
   abbrev pub FirstMayFail : List (Pointer × T) → Type 0
   FirstMayFail [] = ⊥
   FirstMayFail (e ∷ others) = ¬ (infallible e.1)
+
+  -- there is an entry, and the clone of its value may be refused
+  abbrev pub SomeMayFail : List (Pointer × T) → Type 0
+  SomeMayFail source = (e : Pointer × T) × Contains source e × ¬ (infallible e.1)
 
   -- these slots hold the entries of a source, up to the first whose clone is refused, and end with the last of them
   pub record IsFront (source : List (Pointer × T)) (answer : Result (Unit {0}) AllocError) (slots : List (Option (ℕ × T))) : Type 0 where

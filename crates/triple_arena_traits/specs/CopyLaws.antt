@@ -1,8 +1,9 @@
 -- What a copy holds, where each value is cloned.
-use Rattle.std.proofs.Common.{◌≡◌, ℕ, zero, suc, ◌+◌, ◌<◌, ◌==◌, cond, List, [], ◌∷◌, ◌++◌, map, Option, Some, None, slice_get, Result, Ok, Err, min, refl, sym, ap, ◌∙◌, arith, append-nil}
-use Rattle.std.specs.Prelude.{MatchResult, OnOk, IsOk}
+use Rattle.std.proofs.Common.{◌≡◌, ℕ, zero, suc, ◌+◌, ◌<◌, ◌==◌, cond, List, [], ◌∷◌, ◌++◌, map, Option, Some, None, slice_get, Result, Ok, Err, min, refl, sym, ap, subst, ◌∙◌, arith, append-nil}
+use Rattle.std.specs.Prelude.{MatchResult, OnOk, IsOk, Contains}
 use Rattle.std.specs.Borrow.{Bor}
 use Rattle.std.specs.List.{FoldsTo}
+use Rattle.std.proofs.lemmas.List.Elements.{Contains-append_right}
 use Rattle.triple_arena_base.specs.declared.errors.AllocError.{AllocError}
 use Rattle.triple_arena_base.specs.declared.errors.CloneFromError.{CloneFromError}
 use Rattle.triple_arena_base.specs.declared.errors.CloneFromError.TheVariants.{Reallocation, Map}
@@ -12,7 +13,7 @@ use Rattle.triple_arena_traits.specs.ItemLaws.{joined, eq_true, eq_false}
 use Rattle.triple_arena_traits.specs.Entries.{KeepsEntries}
 use Rattle.triple_arena_traits.specs.Walks.{entries_from, entries}
 use Rattle.triple_arena_traits.specs.Copying.{Mapping, mapped_from, mapped_to, MapTurn, RefusesFirst, Copies}
-use Rattle.triple_arena_traits.specs.Cloning.{FirstMayFail, IsFront, IsRoomRefusal}
+use Rattle.triple_arena_traits.specs.Cloning.{FirstMayFail, SomeMayFail, IsFront, IsRoomRefusal, IsMapRefusal}
 
 module _ {T : Type 0} where
   -- the entry of an index, among entries
@@ -82,6 +83,21 @@ front_given infallible source refusal copy sure front = sure_first front.rest fr
     sure_first : (rest : List _) → FirstMayFail infallible rest → ⊥
     sure_first [] never = never
     sure_first (e ∷ others) fails = fails (sure e.1)
+
+-- a clone that is refused is of an entry that may fail
+pub front_refused : {T : Type 0} (infallible : T → Type 0) (source : List (Pointer × T)) (refusal : AllocError) (copy : List (Option (ℕ × T))) → IsFront infallible source (Err refusal) copy → SomeMayFail infallible source
+front_refused {T = T} infallible source refusal copy front = by_first front.rest front.split front.ends
+  where
+    by_first : (rest : List (Pointer × T)) → source ≡ entries copy ++ rest → FirstMayFail infallible rest → SomeMayFail infallible source
+    by_first [] split never = absurd never
+    by_first (e ∷ others) split fails =
+        (e, subst (λ es. Contains es e) (sym split) (Contains-append_right (entries copy) (e ∷ others) e (zero, omega arith, refl)), fails)
+
+-- the refusal of a value, as cloning answers it
+pub map_refusal : {X E : Type 0} (result : Result X (CloneFromError E)) → IsMapRefusal result → (refusal : E) × (result ≡ Err (Map refusal))
+map_refusal (Ok x) refused = absurd refused
+map_refusal (Err (Reallocation refusal)) refused = absurd refused
+map_refusal (Err (Map refusal)) refused = (refusal, refl)
 
 -- a fact of every answer but a refusal
 pub on_ok : {X E : Type 0} (result : Result X E) (Q : Type 0) → ((x : X) → result ≡ Ok x → Q) → OnOk result Q

@@ -7,7 +7,7 @@ ghost use Rattle.triple_arena_traits.specs.Entries.{KeepsEntries};
 ghost use Rattle.triple_arena_traits.specs.FreeList.{last_index};
 ghost use Rattle.triple_arena_traits.specs.Walks.{entries};
 ghost use Rattle.triple_arena_traits.specs.Copying.{Copies};
-ghost use Rattle.triple_arena_traits.specs.Cloning.{IsCloneAnswer, IsRoomRefusal, IsFront};
+ghost use Rattle.triple_arena_traits.specs.Cloning.{IsCloneAnswer, IsRoomRefusal, IsMapRefusal, IsFront, SomeMayFail};
 
 use crate::arena_trait::ArenaTrait;
 use crate::compact_arena_trait::CompactArenaTrait;
@@ -98,6 +98,8 @@ pub trait ArenaCloneFromWith<P: Ptr, T>: ArenaTrait<P, T> {
         ensures given { IsWithin (Self.limit self.old) (last_index (A.slots source.now))
             → Self.gets_room self.old (last_index (A.slots source.now)) → IsRoomRefusal result
             → ⊥ }
+        ensures mapped { IsMapRefusal result
+            → SomeMayFail T.is_infallible (entries (A.slots source.now)) }
         ensures succeeds { ((x : T) → T.is_infallible x)
             → last_index (A.slots source.now) ≤ Self.fitting self.old → IsOk result }
     {
@@ -126,12 +128,20 @@ pub trait ArenaCloneFromWith<P: Ptr, T>: ArenaTrait<P, T> {
             (last_index (Self.slots self.now)) (Self.next_generation self.now) new copy) }
         ensures entries { IfOk result (λ copy. KeepsEntries (Self.slots self.now)
             (Self.slots copy)) }
+        ensures short { IsRoomRefusal result
+            → Self.fitting (Self.fresh (new_room Self.kind) (new_limit Self.kind))
+            < last_index (Self.slots self.now) }
         ensures beyond { (result
             ≡ Err (CloneFromError.Reallocation ReallocationError.BeyondMaxCapacity))
             ↔ IsBeyond (new_limit Self.kind) (last_index (Self.slots self.now)) }
         ensures given { IsWithin (new_limit Self.kind) (last_index (Self.slots self.now))
             → Self.gets_room (Self.fresh (new_room Self.kind) (new_limit Self.kind))
             (last_index (Self.slots self.now)) → IsRoomRefusal result → ⊥ }
+        ensures mapped { IsMapRefusal result
+            → SomeMayFail T.is_infallible (entries (Self.slots self.now)) }
+        ensures succeeds { ((x : T) → T.is_infallible x) → last_index (Self.slots self.now)
+            ≤ Self.fitting (Self.fresh (new_room Self.kind) (new_limit Self.kind))
+            → IsOk result }
     {
         let mut copy = Self::new(alloc);
         copy.clone_from(self)?;

@@ -7,7 +7,6 @@ pub mod Pairs
 pub mod Keeping
 pub mod Listing
 pub mod Steps
-pub mod Advancing
 pub mod Compaction
 pub mod PointerLists
 pub mod HistoryLaws

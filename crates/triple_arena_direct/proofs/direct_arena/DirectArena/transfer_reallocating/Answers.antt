@@ -1,4 +1,4 @@
-use Rattle.triple_arena_direct.proofs.Refused.{err_is, ok_not_err, on_ok_err, on_err, same_error}
+use Rattle.triple_arena_traits.proofs.Refused.{err_is, ok_not_err, on_ok_err, on_err, same_error}
 use Rattle.triple_arena_direct.specs.DirectState.{direct_capacity, settled, ready_for, with_slots}
 use Rattle.std.proofs.lemmas.Bool.{false≢true}
 use Rattle.std.proofs.Common.{◌≡◌, ◌∙◌, sym, ap, ◌<◌, refl, subst}

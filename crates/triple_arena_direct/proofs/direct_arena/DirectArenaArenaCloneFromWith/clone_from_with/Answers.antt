@@ -1,7 +1,8 @@
 use Rattle.std.proofs.Common.{◌≡◌, ◌∙◌, ◌<◌, ◌≤◌, Err, refl, sym, ap, subst, true≢false}
 use Rattle.triple_arena_traits.proofs.CopyLemmas.{on_copies, no_answer, beyond_told}
 use Rattle.triple_arena_direct.specs.DirectState.{direct_capacity, settled, ready_for, with_slots}
-use Rattle.triple_arena_direct.proofs.Refused.{ok_not_err, map_not_room}
+use Rattle.triple_arena_traits.proofs.Refused.{ok_not_err}
+use Rattle.triple_arena_direct.proofs.Refused.{map_not_room}
 use Rattle.triple_arena_direct.proofs.direct_arena.DirectArenaArenaCloneFromWith.clone_from_with.Goals as goal
 
 pub returns-in-Err-clause-cloned : goal.returns-in-Err-clause-cloned

@@ -3,7 +3,7 @@
 ghost use Rattle.std.specs.Prelude.{◌≡◌, ℕ, List, Option, ◌≤◌, ◌<◌, ◌↔◌, length, IsOk, OnOk, OnErr, Err};
 ghost use Rattle.triple_arena_ptr.specs.Numbers.{greatest_index, first_generation};
 ghost use Rattle.triple_arena_stack.specs.Capacity.{IsWithin, IsBeyond};
-ghost use Rattle.triple_arena_traits.specs.ArenaState.{capacity, arena_len};
+ghost use Rattle.triple_arena_traits.specs.ArenaState.{slot_count, capacity, arena_len};
 ghost use Rattle.triple_arena_traits.specs.Entries.{entry_count};
 ghost use Rattle.triple_arena_traits.specs.FreeList.{tidied, laid_out, last_index};
 ghost use Rattle.triple_arena_traits.specs.Capacity.{reallocated, ready_for};
@@ -116,6 +116,7 @@ impl<P: Ptr, T, S: NonZeroInxGenericStack<ArenaSlot<P, T>>> Arena<P, T, S> {
         ensures given { min_capacity ≤ greatest_index P.Inx.greatest
             → IsWithin self.old.limit min_capacity
             → S.has_memory (reallocated S.kind self.old min_capacity).room → IsOk result }
+        ensures fits { slot_count self.old ≤ capacity self.old }
         ensures place { OnOk result (min_capacity ≤ capacity self.new) }
         ensures indexed { OnOk result (min_capacity ≤ greatest_index P.Inx.greatest) }
     {

@@ -10,5 +10,6 @@ pub mod Steps
 pub mod Compaction
 pub mod PointerLists
 pub mod HistoryLaws
+pub mod Removals
 pub mod Refused
 pub mod Resizing

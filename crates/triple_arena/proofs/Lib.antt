@@ -7,9 +7,9 @@ pub mod Pairs
 pub mod Keeping
 pub mod Listing
 pub mod Steps
-pub mod Advancing
 pub mod Compaction
 pub mod PointerLists
 pub mod HistoryLaws
+pub mod Removals
 pub mod Refused
 pub mod Resizing

@@ -1,8 +1,6 @@
 -- What a change of the stack's room or limit carries over to the arena, where it is done and where it is refused.
-use Rattle.std.proofs.Common.{◌≡◌, ℕ, ◌+◌, ◌<◌, ◌≤◌, ◌∷◌, [], List, length, map, true, Option, Some, None, is_some, IfSome, MatchOption, Result, Ok, Err, IsOk, OnOk, OnErr, min, refl, sym, ap, subst, ◌∙◌, arith}
+use Rattle.std.proofs.Common.{◌≡◌, ℕ, ◌+◌, ◌<◌, ◌≤◌, ◌∷◌, [], List, length, map, Option, Some, None, Result, Ok, Err, IsOk, OnOk, OnErr, min, refl, sym, ap, subst, ◌∙◌, arith}
 use Rattle.std.proofs.lemmas.List.{length-map}
-use Rattle.std.specs.declared.num.NonZeroUsize.{NonZeroUsize}
-use Rattle.std.specs.Int.NonZero.{non_zero_usize_get}
 use Rattle.triple_arena_stack.specs.StackKind.{StackKind, reallocated_room}
 use Rattle.triple_arena_stack.specs.Capacity.{capacity_of, IsAtLimit, IsWithin}
 use Rattle.triple_arena.specs.declared.slot.ArenaSlot.{ArenaSlot}
@@ -31,15 +29,6 @@ not_within (Some most) n reached within = omega arith
 pub placed : {A E : Type 0} (r : Result A E) (m n greatest : ℕ) → OnOk r (m ≤ n) → OnOk r (m ≤ greatest → m ≤ min n greatest)
 placed (Ok x) m n greatest place = λ indexed. omega arith
 placed (Err e) m n greatest place = place
-
--- an index that was asked for is that of a number, if that is not past the greatest
-pub index_found : (r : Option NonZeroUsize) (n k greatest : ℕ) → MatchOption r (greatest < n) (λ i. non_zero_usize_get i ≡ n) → n ≡ k → IfSome r (λ i. non_zero_usize_get i ≡ k)
-index_found None n k greatest past same = tt
-index_found (Some i) n k greatest is same = is ∙ same
-
-pub index_there : (r : Option NonZeroUsize) (n k greatest : ℕ) → MatchOption r (greatest < k) (λ i. non_zero_usize_get i ≡ k) → n ≡ k → n ≤ greatest → is_some r ≡ true
-index_there None n k greatest past same within = absurd (omega arith)
-index_there (Some i) n k greatest is same within = refl
 
 module _ {T : Type 0} where
   pub below_room : (s : ArenaState T) → arena_len s < capacity s → arena_len s < capacity_of s.room s.limit

@@ -1,4 +1,5 @@
 pub mod Slot
+pub mod SlotLaws
 pub mod Layout
 pub mod Lends
 pub mod Kept

@@ -1,8 +1,9 @@
 //! What holds of every `Arena`: laws over several calls.
 
-ghost use Rattle.std.specs.Prelude.{◌≡◌, ◌⊎◌, ◌<◌, ◌≤◌, ℕ, List, [], ◌∷◌, ◌++◌, map, Option, Some, IsSome, IsTrue, false, length, min};
+ghost use Rattle.std.specs.Prelude.{◌≡◌, ◌⊎◌, ◌+◌, ◌<◌, ◌≤◌, ℕ, List, [], ◌∷◌, ◌++◌, map, Option, Some, IsSome, IsTrue, true, false, length, min};
 ghost use Rattle.std.specs.List.{range_with_len};
 ghost use Rattle.triple_arena_stack.specs.StackKind.{StackKind};
+ghost use Rattle.triple_arena_ptr.specs.Numbers.{raise, wraps};
 ghost use Rattle.triple_arena_ptr.specs.Pointers.{Pointer};
 ghost use Rattle.triple_arena_traits.specs.ArenaState.{ArenaState, new_arena, arena_len, capacity, entry, look_up, with_value, IsWellFormed};
 ghost use Rattle.triple_arena_traits.specs.Insertion.{inserted};
@@ -11,6 +12,7 @@ ghost use Rattle.triple_arena_traits.specs.FreeList.{tidied, without_free_end};
 ghost use Rattle.triple_arena_traits.specs.Walks.{keys, values};
 ghost use Rattle.triple_arena_traits.specs.Capacity.{EndsBy, reallocated, with_limit, grown};
 ghost use Rattle.triple_arena_traits.specs.Histories.{has, ModelCall, insertion, History, begun_with, and_then, given, ended, followed_by, is_live, Fits, Continues, IsModelCall, AreModelCalls};
+ghost use Rattle.triple_arena_traits.specs.Drains.{NoneWraps};
 ghost use Rattle.triple_arena_traits.specs.HeldSlots.{refill_slots};
 ghost use Rattle.triple_arena_traits.specs.Compression.{closed_up, compressed, rank};
 
@@ -65,7 +67,8 @@ pub fn well_formed_stays<T>()
 /// Freshness: a history that fits an arena goes on to fit it, followed by the model calls that are
 /// made, as long as none of them wraps the counter. What leaves the pointers as they are, and the
 /// counter no lower, as a write does, is none of them (`none`). So no pointer is given twice, and the
-/// arena's pointers are exactly those that were given and have not ended (`Fits`).
+/// arena's pointers are exactly those that were given and have not ended (`Fits`). Of as many removals
+/// as the counter is below the greatest generation, none wraps it (`none_wraps`).
 pub fn pointers_are_fresh<T>()
     ensures empty { (s : ArenaState T) → arena_len s ≡ 0 → Fits (begun_with []) s }
     ensures begun { (s : ArenaState T) → ((p : Pointer) → IsTrue (is_live s p) → p.1 ≤ s.counter)
@@ -88,6 +91,10 @@ pub fn pointers_are_fresh<T>()
     ensures never_live { (s : ArenaState T) (calls : List ModelCall) (t : ArenaState T)
         (p : Pointer) → arena_len s ≡ 0 → p.1 < s.counter → Continues Fits s calls t
         → is_live t p ≡ false }
+    ensures none_wraps { (greatest : ℕ) (s : ArenaState T) (ps : List Pointer)
+        → s.counter + length ps ≤ greatest
+        → NoneWraps (λ old i new. new ≡ removed (raise true greatest) old i)
+        (λ a. wraps true greatest a.counter) true s ps }
 {}
 
 /// A recast gives and ends no pointer, whatever images the held items have.

@@ -136,6 +136,8 @@ impl<P: Ptr, T> ArenaSlot<P, T> {
 }
 
 impl<P: Ptr, T> EntrySlot<P, T> for ArenaSlot<P, T> {
+    ghost use Rattle.triple_arena.specs.SlotLaws.{entry_of-written};
+
     // the entry, as the state of an arena has it
     ghost entry = { entry_of P.Gen.number };
 
@@ -173,4 +175,6 @@ impl<P: Ptr, T> EntrySlot<P, T> for ArenaSlot<P, T> {
     fn discard(self) {
         let _link = self.into_link();
     }
+
+    ghost entry_with_value = { entry_of-written P.Gen.number };
 }

@@ -21,9 +21,9 @@ use Rattle.triple_arena_direct.specs.DirectState.{DirectState, slot_count, direc
 use Rattle.triple_arena_direct.specs.StepLaws.{len-with_value, len_taken, count-shortened}
 use Rattle.triple_arena_direct.specs.InsertionLaws.{length-extended, slots-inserted_at, len-inserted_at}
 use Rattle.triple_arena_direct.specs.Slot.{slot_entry, with_slot_value}
+use Rattle.triple_arena_direct.specs.SlotLaws.{slot_entry-written}
 use Rattle.triple_arena_direct.specs.Layout.{direct_of, entry_at, with_value_at, Counts}
 use Rattle.triple_arena_direct.specs.declared.slot.DirectSlot.{DirectSlot}
-use Rattle.triple_arena_direct.specs.declared.slot.DirectSlot.TheVariants.{Free, Allocated}
 use Rattle.triple_arena_traits.proofs.SlotEntries.{entry_item}
 
 module _ {A : Type 0} where
@@ -130,10 +130,6 @@ module _ {P T I G : Type 0} (number : G → ℕ) where
       let is : direct_of number es room limit greatest ≡ s = rw (slots, r, l, g) refl in
       (rw is counts, is)
 
-  value_written : (x : DirectSlot P T I G) (w : T) → slot_entry number (with_slot_value x w) ≡ option_map (λ (e : ℕ × T). (e.0, w)) (slot_entry number x)
-  value_written Free w = refl
-  value_written (Allocated g v) w = refl
-
   written : (es : List (DirectSlot P T I G)) (i : ℕ) (w : T) → map (slot_entry number) (with_value_at es i (item es i) w) ≡ with_value_in (map (slot_entry number) es) i w
   written es i w = by_item (item es i) refl
     where
@@ -142,7 +138,7 @@ module _ {P T I G : Type 0} (number : G → ℕ) where
           sym (with_item-past (map (slot_entry number) es) i (option_map (λ (e : ℕ × T). (e.0, w)) (entry_at number es i)) (item-map_none (slot_entry number) es i none))
       by_item (Some x) found =
           map-with_item (slot_entry number) es i (with_slot_value x w)
-          ∙ ap (with_item (map (slot_entry number) es) i) (value_written x w ∙ ap (option_map (λ (e : ℕ × T). (e.0, w))) (sym (entry_item (slot_entry number) es i x found)))
+          ∙ ap (with_item (map (slot_entry number) es) i) (slot_entry-written number x w ∙ ap (option_map (λ (e : ℕ × T). (e.0, w))) (sym (entry_item (slot_entry number) es i x found)))
 
   -- with other values in two slots the entries have them too
   pub both_written : (es es' : List (DirectSlot P T I G)) (i j : ℕ) (x y : T) → i ≢ j → WritesTwo with_slot_value es es' i j x y → map (slot_entry number) es' ≡ with_value_in (with_value_in (map (slot_entry number) es) i x) j y

@@ -12,4 +12,3 @@ pub mod Followed
 pub mod Reading
 pub mod Refused
 pub mod Resizing
-pub mod Advancing

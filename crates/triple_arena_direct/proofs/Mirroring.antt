@@ -1,7 +1,6 @@
 -- How a mirror follows an arena.
-use Rattle.std.proofs.Common.{◌≡◌, ◌≢◌, ℕ, zero, suc, ◌+◌, ◌<◌, ◌≤◌, ◌==◌, Bool, true, false, List, [], ◌∷◌, ◌++◌, map, Option, Some, None, is_some, IsSome, Contains, cond, Result, Ok, Err, refl, sym, ap, subst, ◌∙◌, inl, inr, arith, true≢false}
+use Rattle.std.proofs.Common.{◌≡◌, ℕ, zero, suc, ◌≤◌, ◌==◌, Bool, true, false, List, [], ◌∷◌, Option, Some, None, is_some, Contains, cond, Result, Ok, refl, sym, ap, subst, ◌∙◌, inl, inr, arith, true≢false}
 use Rattle.std.proofs.lemmas.Bool.{cases_eq}
-use Rattle.std.proofs.lemmas.List.{append-nil}
 use Rattle.std.specs.List.{FoldsTo}
 use Rattle.std.specs.Borrow.{Bor}
 use Rattle.std.specs.Option.{option_and_then}
@@ -10,10 +9,11 @@ use Rattle.triple_arena_traits.specs.ItemLaws.{eq_true}
 use Rattle.triple_arena_traits.specs.Entries.{entry_in, value_under, look_up_in, ChangesAt, KeepsEntries}
 use Rattle.triple_arena_traits.specs.Walks.{entries, keys}
 use Rattle.triple_arena_traits.specs.WalkLaws.{live_key, key_live}
-use Rattle.triple_arena_traits.specs.Copying.{Mapping, Copies, mapped_from, mapped_to}
+use Rattle.triple_arena_traits.specs.Copying.{Copies}
 use Rattle.triple_arena_traits.specs.DirectInsertion.{IsVacant}
 use Rattle.triple_arena_traits.proofs.LookUps.{others_found}
-use Rattle.triple_arena_direct.specs.DirectState.{DirectState, direct_capacity, inserted_at, removed}
+use Rattle.triple_arena_traits.proofs.CopyLemmas.{copied_keys}
+use Rattle.triple_arena_direct.specs.DirectState.{DirectState, direct_capacity}
 use Rattle.triple_arena_direct.specs.StepLaws.{slots-removed}
 use Rattle.triple_arena_direct.specs.InsertionLaws.{slots-inserted_at}
 use Rattle.triple_arena_direct.specs.Mirrors.{Change, SamePointers, Makes, Follows}
@@ -91,10 +91,4 @@ module _ {P T U E M : Type 0} (numbers : P → Pointer) (step : M → P → Bor 
   -- a clone has the pointers of its source
   pub same_cloned : (f : M) (source : List (Option (ℕ × T))) (copy mirror : List (Option (ℕ × U))) → Copies numbers step f (entries source) (Ok tt) copy → KeepsEntries copy mirror → SamePointers source mirror
   same_cloned f source copy mirror copies kept p =
-      let whole : entries source ≡ mapped_from numbers copies.mapped = copies.split ∙ ap (λ rest. mapped_from numbers copies.mapped ++ rest) copies.ends ∙ append-nil (mapped_from numbers copies.mapped) in
-      let same : keys copy ≡ keys source = ap (map (λ e. e.0)) copies.stands ∙ same_pointers copies.mapped ∙ sym (ap (map (λ e. e.0)) whole) in
-      ap (λ o. is_some (option_and_then (value_under p.1) o)) (kept p.0) ∙ same_keys source copy same p
-    where
-      same_pointers : (ms : List (Mapping P T U)) → map (λ e. e.0) (mapped_to numbers ms) ≡ map (λ e. e.0) (mapped_from numbers ms)
-      same_pointers [] = refl
-      same_pointers (m ∷ ms) = ap (λ ps. numbers m.pointer ∷ ps) (same_pointers ms)
+      ap (λ o. is_some (option_and_then (value_under p.1) o)) (kept p.0) ∙ same_keys source copy (copied_keys numbers step f source copy copies) p

@@ -1,8 +1,6 @@
 -- What a slot of a direct arena tells of the entry at its index.
-use Rattle.std.proofs.Common.{◌≡◌, ◌≢◌, ℕ, ◌<◌, ◌≤◌, List, map, Option, Some, None, is_some, IsSome, IfSome, MatchOption, true, cond, option_copied, refl, sym, ap, subst, ◌∙◌, true≢false, arith}
+use Rattle.std.proofs.Common.{◌≡◌, ◌≢◌, ℕ, ◌<◌, ◌≤◌, List, map, Option, Some, None, is_some, IsSome, cond, option_copied, refl, sym, ap, subst, ◌∙◌, true≢false, arith}
 use Rattle.std.specs.Borrow.{Bor, MutBor}
-use Rattle.std.specs.Int.NonZero.{non_zero_usize_get}
-use Rattle.std.specs.declared.num.NonZeroUsize.{NonZeroUsize}
 use Rattle.std.specs.Option.{option_map, option_and_then, option_copied_mut}
 use Rattle.triple_arena_traits.specs.Items.{item}
 use Rattle.triple_arena_traits.specs.ItemLaws.{eq_false, joined, item_past}
@@ -42,19 +40,6 @@ module _ {T : Type 0} where
 pub some_read : {A : Type 0} (o : Option (Bor A)) (p : Option A) → option_copied o ≡ p → IsSome p → IsSome o
 some_read None p is there = absurd (true≢false (sym (ap is_some is ∙ there)))
 some_read (Some x) p is there = refl
-
-pub copied_some : {A : Type 0} (o : Option (Bor A)) → is_some (option_copied o) ≡ is_some o
-copied_some None = refl
-copied_some (Some x) = refl
-
--- an index that was asked for is that of a number, if that is not past the greatest
-pub index_found : (r : Option NonZeroUsize) (n k greatest : ℕ) → MatchOption r (greatest < n) (λ i. non_zero_usize_get i ≡ n) → n ≡ k → IfSome r (λ i. non_zero_usize_get i ≡ k)
-index_found None n k greatest past same = tt
-index_found (Some i) n k greatest is same = is ∙ same
-
-pub index_there : (r : Option NonZeroUsize) (n k greatest : ℕ) → MatchOption r (greatest < k) (λ i. non_zero_usize_get i ≡ k) → n ≡ k → n ≤ greatest → is_some r ≡ true
-index_there None n k greatest past same within = absurd (omega arith)
-index_there (Some i) n k greatest is same within = refl
 
 pub some_lent : {A : Type 0} (o : Option (MutBor A)) (p : Option A) → option_copied_mut o ≡ p → IsSome p → IsSome o
 some_lent None p is there = absurd (true≢false (sym (ap is_some is ∙ there)))

@@ -1,5 +1,6 @@
 pub mod DirectState
 pub mod Slot
+pub mod SlotLaws
 pub mod Layout
 pub mod Lends
 pub mod Kept

@@ -625,6 +625,7 @@ impl<P: Ptr, T, S: NonZeroInxGenericStack<DirectSlot<P, T>>> DirectArena<P, T, S
         ensures done { OnOk result (self.new ≡ ready_for S.kind self.old min_capacity) }
         ensures refused { OnErr result (self.new ≡ settled self.old min_capacity) }
         ensures short { OnErr result (direct_capacity self.old < min_capacity) }
+        ensures fits { Fits self.old }
         ensures beyond { (result ≡ Err ReallocationError.BeyondMaxCapacity)
             ↔ ((direct_capacity self.old < min_capacity)
             × (min_capacity ≤ greatest_index P.Inx.greatest)

@@ -37,9 +37,18 @@ pub fn mirror_keeps_pointers<T, U>()
         → Makes s.slots (goes i) (removed raise s i).slots }
 {}
 
-/// A clone that wasn't refused has exactly the pointers of its source.
+/// A clone that wasn't refused has exactly the pointers of its source (`pointers`). So it is a mirror:
+/// given each insertion and each removal of the source from then on, it goes on to have exactly the
+/// source's pointers (`mirrors`).
 pub fn clone_has_the_pointers<P: Ptr, T, U, E, M: FnMut(P, &T) -> Result<U, E>>()
-    ensures { (f : M) (source : List (Option (ℕ × T))) (copy clone : List (Option (ℕ × U)))
+    ensures pointers { (f : M) (source : List (Option (ℕ × T))) (copy clone : List (Option (ℕ × U)))
         → Copies P.numbers M.step f (entries source) (Ok tt) copy → KeepsEntries copy clone
         → SamePointers source clone }
+    ensures mirrors { (f : M) (source : List (Option (ℕ × T))) (copy : List (Option (ℕ × U)))
+        (mirror : DirectState U) (changes : List Change) (after : List (Option (ℕ × T)))
+        (followed : DirectState U)
+        → Copies P.numbers M.step f (entries source) (Ok tt) copy
+        → KeepsEntries copy mirror.slots
+        → FoldsTo Makes source changes after → FoldsTo Follows mirror changes followed
+        → SamePointers after followed.slots }
 {}

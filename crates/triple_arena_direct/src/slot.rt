@@ -55,6 +55,8 @@ impl<P: Ptr, T> DirectSlot<P, T> {
 }
 
 impl<P: Ptr, T> EntrySlot<P, T> for DirectSlot<P, T> {
+    ghost use Rattle.triple_arena_direct.specs.SlotLaws.{slot_entry-written};
+
     // the entry, as the state of an arena has it
     ghost entry = { slot_entry P.Gen.number };
 
@@ -95,4 +97,6 @@ impl<P: Ptr, T> EntrySlot<P, T> for DirectSlot<P, T> {
             DirectSlot::Allocated(_, _) => unreachable!(),
         }
     }
+
+    ghost entry_with_value = { slot_entry-written P.Gen.number };
 }

@@ -1,23 +1,26 @@
 -- One step of a copying walk.
-use Rattle.std.proofs.Common.{◌≡◌, ℕ, zero, suc, ◌+◌, ◌-◌, ◌<◌, ◌≤◌, false, List, [], ◌∷◌, ◌++◌, length, map, drop, get_or, replicate, Option, Some, None, is_some, IsSome, cond, slice_get, refl, sym, ap, subst, ◌∙◌, arith, append_assoc, drop-cons, Result, Ok, Err, ◌↔◌}
+use Rattle.std.proofs.Common.{◌≡◌, ℕ, zero, suc, ◌+◌, ◌-◌, ◌<◌, ◌≤◌, false, List, [], ◌∷◌, ◌++◌, length, map, drop, get_or, replicate, Option, Some, None, is_some, IsSome, Contains, cond, slice_get, refl, sym, ap, subst, ◌∙◌, arith, append_assoc, drop-cons, Result, Ok, Err, ◌↔◌, true≢false}
 use Rattle.std.specs.List.{FoldsTo}
 use Rattle.std.specs.Borrow.{Bor}
 use Rattle.std.specs.Option.{option_copied}
 use Rattle.std.specs.Prelude.{MatchOption}
 use Rattle.std.proofs.lemmas.Fn.{FoldsTo-push}
-use Rattle.std.proofs.lemmas.List.{map_push, length-map, length-append, length-replicate}
+use Rattle.std.proofs.lemmas.List.{append-nil, map_push, map-append, length-map, length-append, length-replicate}
+use Rattle.std.proofs.lemmas.List.Elements.{Contains-append_left}
 use Rattle.std.proofs.lemmas.List.Sums.{sum_by-cons}
 use Rattle.triple_arena_ptr.specs.Pointers.{Pointer}
 use Rattle.triple_arena_traits.specs.Items.{item}
-use Rattle.triple_arena_traits.specs.ItemLaws.{joined, item-push_same}
+use Rattle.triple_arena_traits.specs.ItemLaws.{joined, item-push_same, eq_true}
 use Rattle.triple_arena_traits.specs.ArenaState.{is_free}
-use Rattle.triple_arena_traits.specs.Entries.{entry_in, look_up_in, entry_count}
+use Rattle.triple_arena_traits.specs.Entries.{entry_in, look_up_in, entry_count, KeepsEntries}
 use Rattle.triple_arena_traits.specs.EntryLaws.{entry-trimmed}
 use Rattle.triple_arena_traits.specs.FreeList.{trimmed, last_index, IsRising}
-use Rattle.triple_arena_traits.specs.Walks.{Stand, Steps, IsAtFirst, entries_from, entries, entries_ahead, keys_ahead}
-use Rattle.triple_arena_traits.specs.WalkLaws.{taken, found, live_within, forward_stays, ahead_taken, ahead_first, ahead_none, keys_first, keys_taken, keys_rising}
+use Rattle.triple_arena_traits.specs.Walks.{Stand, Steps, IsAtFirst, entries_from, entries, entries_ahead, keys, keys_ahead}
+use Rattle.triple_arena_traits.specs.WalkLaws.{taken, found, live_within, forward_stays, ahead_taken, ahead_first, ahead_none, keys_first, keys_taken, keys_rising, live_key, key_live}
 use Rattle.triple_arena_traits.specs.Copying.{Mapping, put_after, mapped_from, mapped_to, MapTurn, Copies}
 use Rattle.triple_arena_traits.specs.Cloning.{IsCloneAnswer}
+use Rattle.triple_arena_traits.proofs.Tidying.{trimmed_last}
+use Rattle.triple_arena_traits.proofs.Limits.{ends_within}
 use Rattle.triple_arena_base.specs.declared.errors.CloneFromError.{CloneFromError}
 use Rattle.triple_arena_base.specs.declared.errors.CloneFromError.TheVariants.{Reallocation, Map}
 use Rattle.triple_arena_base.specs.declared.errors.ReallocationError.{ReallocationError}
@@ -163,6 +166,63 @@ module _ {P U T E M : Type 0} (numbers : P → Pointer) (step : M → P → Bor 
   pub copy_end : (greatest : ℕ) (f : M) (source : List (Option (ℕ × U))) (b a : Stand) (g : M) (now : List (Option (ℕ × T))) → Copied f source b g now → Steps greatest source b None a → Copies numbers step f (entries source) (Ok tt) now
   copy_end greatest f source b a g now w steps =
       record { mapped = w.mapped; rest = entries_ahead b source; last = g; ran = w.ran; split = w.split; stands = w.stands; ends_live = w.ends_live; ends = ahead_none greatest source b a steps }
+
+module _ {T U : Type 0} where
+  -- slots with an entry only where others have one end no later
+  last_within : (xs : List (Option (ℕ × U))) (ys : List (Option (ℕ × T))) → ((i : ℕ) → IsSome (entry_in ys i) → IsSome (entry_in xs i)) → last_index ys ≤ last_index xs
+  last_within xs ys live = ends_within (trimmed ys) (last_index xs) (trimmed_last ys) (λ i above. entry-trimmed ys i ∙ none i above (entry_in ys i) refl)
+    where
+      none : (i : ℕ) → last_index xs < i → (o : Option (ℕ × T)) → entry_in ys i ≡ o → entry_in ys i ≡ None
+      none i above None is = is
+      none i above (Some e) is =
+          let here : IsSome (entry_in ys i) = ap is_some is in
+          absurd (omega (arith, above, by_last xs i (live i here)))
+
+  -- and so do slots whose pointers others have
+  pub keys_within : (xs : List (Option (ℕ × U))) (ys : List (Option (ℕ × T))) → ((p : Pointer) → Contains (keys ys) p → Contains (keys xs) p) → last_index ys ≤ last_index xs
+  keys_within xs ys among = last_within xs ys (λ i live. by_entry i (entry_in ys i) refl live)
+    where
+      by_entry : (i : ℕ) (o : Option (ℕ × T)) → entry_in ys i ≡ o → IsSome (entry_in ys i) → IsSome (entry_in xs i)
+      by_entry i None is live = absurd (true≢false (sym live ∙ ap is_some is))
+      by_entry i (Some e) is live =
+          let there : IsSome (look_up_in ys (i, e.0)) = rw (is, eq_true e.0 e.0 refl) refl in
+          let f = found xs (i, e.0) (key_live xs (i, e.0) (among (i, e.0) (live_key ys (i, e.0) there))) in
+          ap is_some f.entry
+
+-- slots that keep the entries of others end no later
+pub kept_end : {T : Type 0} (xs ys : List (Option (ℕ × T))) → KeepsEntries xs ys → last_index ys ≤ last_index xs
+kept_end xs ys keeps = last_within xs ys (λ i live. sym (ap is_some (keeps i)) ∙ live)
+
+module _ {P U T E M : Type 0} (numbers : P → Pointer) (step : M → P → Bor U → Result T E → M → Type 0) (f : M) (source : List (Option (ℕ × U))) where
+  same_pointers : (ms : List (Mapping P U T)) → map (λ e. e.0) (mapped_to numbers ms) ≡ map (λ e. e.0) (mapped_from numbers ms)
+  same_pointers [] = refl
+  same_pointers (m ∷ ms) = ap (λ ps. numbers m.pointer ∷ ps) (same_pointers ms)
+
+  -- the pointers of a copy are the first ones of its source
+  copied_first : (answer : Result (Unit {0}) E) (copy : List (Option (ℕ × T))) → (c : Copies numbers step f (entries source) answer copy) → keys source ≡ keys copy ++ map (λ e. e.0) c.rest
+  copied_first answer copy c =
+      ap (map (λ e. e.0)) c.split
+      ∙ map-append (λ e. e.0) (mapped_from numbers c.mapped) c.rest
+      ∙ ap (λ ps. ps ++ map (λ e. e.0) c.rest) (sym (ap (map (λ e. e.0)) c.stands ∙ same_pointers c.mapped))
+
+  -- a copy that was not refused has all of them
+  pub copied_keys : (copy : List (Option (ℕ × T))) → Copies numbers step f (entries source) (Ok tt) copy → keys copy ≡ keys source
+  copied_keys copy c =
+      sym (copied_first (Ok tt) copy c ∙ ap (λ rest. keys copy ++ map (λ e. e.0) rest) c.ends ∙ append-nil (keys copy))
+
+  -- slots that keep a copy end no later than the source, and with it where no entry was refused
+  pub copy_ends : (answer : Result (Unit {0}) E) (copy new : List (Option (ℕ × T))) → Copies numbers step f (entries source) answer copy → KeepsEntries copy new → last_index new ≤ last_index source
+  copy_ends answer copy new c keeps =
+      let first = copied_first answer copy c in
+      let kept : last_index new ≤ last_index copy = kept_end copy new keeps in
+      let among : last_index copy ≤ last_index source = keys_within source copy (λ p has. subst (λ ps. Contains ps p) (sym first) (Contains-append_left (keys copy) (map (λ e. e.0) c.rest) p has)) in
+      omega (arith, kept, among)
+
+  pub copy_same_end : (copy new : List (Option (ℕ × T))) → Copies numbers step f (entries source) (Ok tt) copy → KeepsEntries copy new → last_index new ≡ last_index source
+  copy_same_end copy new c keeps =
+      let kept : last_index copy ≤ last_index new = last_within new copy (λ i live. ap is_some (keeps i) ∙ live) in
+      let all : last_index source ≤ last_index copy = keys_within copy source (λ p has. subst (λ ps. Contains ps p) (sym (copied_keys copy c)) has) in
+      omega (arith, kept, all, copy_ends (Ok tt) copy new c keeps)
 
 refused_map : {E : Type 0} (answer : Result (Unit {0}) E) (refusal : E) → IsCloneAnswer answer (Err (Map refusal)) → ◌≡◌ {A = Result (Unit {0}) E} (Err refusal) answer
 refused_map (Ok x) refusal is = absurd (cc)

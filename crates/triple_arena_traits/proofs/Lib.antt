@@ -22,3 +22,5 @@ pub mod CopyLemmas
 pub mod TransferLemmas
 pub mod Present
 pub mod Lending
+pub mod Advancing
+pub mod Refused

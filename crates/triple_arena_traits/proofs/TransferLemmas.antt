@@ -1,5 +1,5 @@
 -- One step of a transfer.
-use Rattle.std.proofs.Common.{◌≡◌, ℕ, ◌+◌, ◌≤◌, Bool, List, [], ◌∷◌, ◌++◌, length, map, cond, is_some, Option, Some, None, refl, sym, ap, ◌∙◌, arith, append_assoc}
+use Rattle.std.proofs.Common.{◌≡◌, ℕ, ◌+◌, ◌≤◌, Bool, List, [], ◌∷◌, ◌++◌, length, map, cond, is_some, Option, Some, None, refl, sym, ap, subst, ◌∙◌, arith, append_assoc}
 use Rattle.std.specs.List.{FoldsTo}
 use Rattle.std.proofs.lemmas.Fn.{FoldsTo-push}
 use Rattle.std.proofs.lemmas.List.Sums.{sum_by-cons}
@@ -9,9 +9,11 @@ use Rattle.triple_arena_ptr.specs.Pointers.{Pointer}
 use Rattle.triple_arena_traits.specs.Entries.{look_up_in, entry_count, ChangesAt}
 use Rattle.triple_arena_traits.specs.Ending.{told}
 use Rattle.triple_arena_traits.specs.FreeList.{gaps}
-use Rattle.triple_arena_traits.specs.Walks.{Stand, IsAtFirst, IsBeforeAll, Steps, entries, entries_ahead}
+use Rattle.triple_arena_traits.specs.Walks.{Stand, IsAtFirst, IsBeforeAll, Steps, entries, entries_ahead, keys_of, keys}
 use Rattle.triple_arena_traits.specs.WalkLaws.{ahead_first, ahead_none, ahead_taken_out, length-entries, none_left, others_ahead}
 use Rattle.triple_arena_traits.specs.Compression.{closed_up}
+use Rattle.triple_arena_traits.specs.Histories.{History, removal, and_then, Continues}
+use Rattle.triple_arena_traits.specs.Drains.{TakesOut, removals, NoneWraps}
 use Rattle.triple_arena_traits.specs.Transfers.{Transfer, TransferTurn, Transfers, moved_from, moved_to}
 use Rattle.triple_arena_traits.proofs.CopyLemmas.{entries_append}
 
@@ -33,10 +35,14 @@ closed_up_slots {T = T} generation values put is =
     )
 
 module _ {Q U P T A M : Type 0} (source : Q → Pointer) (target : P → Pointer) (step : M → Q → InvalidationOption U → P → T → M → Type 0)
-    (slots : A → List (Option (ℕ × U))) (removes : A → ℕ → A → Type 0) (wraps : A → Bool) (changes : (old : A) (i : ℕ) (new : A) → removes old i new → ChangesAt (slots old) i None (slots new))
+    (slots : A → List (Option (ℕ × U))) (fits : History → A → Type 0) (removes : A → ℕ → A → Type 0) (wraps : A → Bool) (counting : Bool) (changes : (old : A) (i : ℕ) (new : A) → removes old i new → ChangesAt (slots old) i None (slots new))
     (greatest generation : ℕ) where
   abbrev pub Turn : M × A → Transfer Q U P T → M × A → Type 0
-  Turn = TransferTurn source target step slots removes wraps
+  Turn = TransferTurn source target step slots fits removes wraps counting
+
+  -- one removal is made, and each fitting history goes on with it
+  abbrev Taken : A → Q → A → Type 0
+  Taken now q new = TakesOut fits removes wraps counting now (source q) new
 
   -- the transfer so far: the calls that were made, and the entries that are left
   pub record Transferred (f : M) (start : A) (g : M) (now : A) (s : Stand) (put : List (Option (ℕ × T))) : Type 0 where
@@ -74,16 +80,16 @@ module _ {Q U P T A M : Type 0} (source : Q → Pointer) (target : P → Pointer
       )
 
   -- there is a place for one more
-  pub transfer_room : (f : M) (start : A) (g : M) (now new : A) (b a : Stand) (put : List (Option (ℕ × T))) (q : Q) (v : U) → Transferred f start g now b put → Steps greatest (slots now) b (Some (source q)) a → look_up_in (slots now) (source q) ≡ Some v → removes now (source q).0 new → length put + 1 ≤ entry_count (slots start)
+  pub transfer_room : (f : M) (start : A) (g : M) (now new : A) (b a : Stand) (put : List (Option (ℕ × T))) (q : Q) (v : U) → Transferred f start g now b put → Steps greatest (slots now) b (Some (source q)) a → look_up_in (slots now) (source q) ≡ Some v → Taken now q new → length put + 1 ≤ entry_count (slots start)
   transfer_room f start g now new b a put q v w steps found gone =
-      let first = ahead_taken_out greatest (slots now) (slots new) b (source q) a v w.left.forward steps found (changes now (source q).0 new gone) in
+      let first = ahead_taken_out greatest (slots now) (slots new) b (source q) a v w.left.forward steps found (changes now (source q).0 new gone.0) in
       omega (arith, put_count f start g now b put w, ap length first)
 
-  pub transfer_on : (f : M) (start : A) (g h : M) (now new : A) (b a : Stand) (put put2 : List (Option (ℕ × T))) (q : Q) (v : U) (p : P) (t : T) → Transferred f start g now b put → Steps greatest (slots now) b (Some (source q)) a → look_up_in (slots now) (source q) ≡ Some v → removes now (source q).0 new
+  pub transfer_on : (f : M) (start : A) (g h : M) (now new : A) (b a : Stand) (put put2 : List (Option (ℕ × T))) (q : Q) (v : U) (p : P) (t : T) → Transferred f start g now b put → Steps greatest (slots now) b (Some (source q)) a → look_up_in (slots now) (source q) ≡ Some v → Taken now q new
       → step g q (told (wraps now) v) p t h → target p ≡ (length put + 1, generation) → put2 ≡ put ++ Some (generation, t) ∷ [] → Transferred f start h new a put2
   transfer_on f start g h now new b a put put2 q v p t w steps found gone called onto is =
       let m : Transfer Q U P T = record { from = q; old = v; to = p; new = t } in
-      let change = changes now (source q).0 new gone in
+      let change = changes now (source q).0 new gone.0 in
       let first = ahead_taken_out greatest (slots now) (slots new) b (source q) a v w.left.forward steps found change in
       let one : 1 + length put ≡ length put + 1 = omega arith in
       rw is (record {
@@ -106,7 +112,7 @@ module _ {Q U P T A M : Type 0} (source : Q → Pointer) (target : P → Pointer
       })
 
   -- at the end every entry was taken, and none is left
-  pub transfer_end : (f : M) (start : A) (g : M) (now : A) (b a : Stand) (put : List (Option (ℕ × T))) → Transferred f start g now b put → Steps greatest (slots now) b None a → Transfers source target step slots removes wraps generation f start now put × (entry_count (slots now) ≡ 0) × (length put ≡ entry_count (slots start))
+  pub transfer_end : (f : M) (start : A) (g : M) (now : A) (b a : Stand) (put : List (Option (ℕ × T))) → Transferred f start g now b put → Steps greatest (slots now) b None a → Transfers source target step slots fits removes wraps counting generation f start now put × (entry_count (slots now) ≡ 0) × (length put ≡ entry_count (slots start))
   transfer_end f start g now b a put w steps =
       let none = ahead_none greatest (slots now) b a steps in (
         record {
@@ -120,3 +126,16 @@ module _ {Q U P T A M : Type 0} (source : Q → Pointer) (target : P → Pointer
         (none_left greatest (slots now) b a w.left steps).0,
         omega (arith, put_count f start g now b put w, ap length none),
       )
+
+module _ {Q U P T A M : Type 0} (source : Q → Pointer) (target : P → Pointer) (step : M → Q → InvalidationOption U → P → T → M → Type 0)
+    (slots : A → List (Option (ℕ × U))) (fits : History → A → Type 0) (removes : A → ℕ → A → Type 0) (wraps : A → Bool) (counting : Bool) where
+  run_goes_on : (ts : List (Transfer Q U P T)) (f g : M) (old new : A) → FoldsTo (TransferTurn source target step slots fits removes wraps counting) (f, old) ts (g, new) → NoneWraps removes wraps counting old (keys_of (moved_from source ts)) → Continues fits old (removals (keys_of (moved_from source ts))) new
+  run_goes_on [] f g old new same none h fit = subst (fits h) (ap (λ (x : M × A). x.1) same) fit
+  run_goes_on (t ∷ ts) f g old new (next, here, there) none h fit =
+      run_goes_on ts next.0 g next.1 new there (none.1 next.1 here.0.0) (and_then h (removal (source t.from))) (here.0.1 none.0 h fit)
+
+  -- where no removal wraps the counter, a source goes on by the removals of its entries
+  pub source_goes_on : (generation : ℕ) (f : M) (old new : A) (put : List (Option (ℕ × T))) → Transfers source target step slots fits removes wraps counting generation f old new put → NoneWraps removes wraps counting old (keys (slots old)) → Continues fits old (removals (keys (slots old))) new
+  source_goes_on generation f old new put t none =
+      subst (λ es. Continues fits old (removals (keys_of es)) new) t.came
+      (run_goes_on t.moved f t.last old new t.ran (subst (λ es. NoneWraps removes wraps counting old (keys_of es)) (sym t.came) none))

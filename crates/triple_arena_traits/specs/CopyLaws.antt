@@ -99,6 +99,15 @@ map_refusal (Ok x) refused = absurd refused
 map_refusal (Err (Reallocation refusal)) refused = absurd refused
 map_refusal (Err (Map refusal)) refused = (refusal, refl)
 
+-- a refusal that is passed on is as it was
+pub room_passed : {X E : Type 0} (Y : Type 0) (r : Result X (CloneFromError E)) (e : CloneFromError E) → r ≡ Err e → IsRoomRefusal r → IsRoomRefusal {X = Y} (Err e)
+room_passed Y r (Reallocation refusal) is refused = tt
+room_passed Y r (Map refusal) is refused = rw is at refused
+
+pub map_passed : {X E : Type 0} (Y : Type 0) (r : Result X (CloneFromError E)) (e : CloneFromError E) → r ≡ Err e → IsMapRefusal r → IsMapRefusal {X = Y} (Err e)
+map_passed Y r (Reallocation refusal) is refused = rw is at refused
+map_passed Y r (Map refusal) is refused = tt
+
 -- a fact of every answer but a refusal
 pub on_ok : {X E : Type 0} (result : Result X E) (Q : Type 0) → ((x : X) → result ≡ Ok x → Q) → OnOk result Q
 on_ok (Ok x) Q given = given x refl

@@ -5,6 +5,8 @@ use Rattle.triple_arena_base.specs.declared.invalidation.InvalidationOption.{Inv
 use Rattle.triple_arena_ptr.specs.Pointers.{Pointer}
 use Rattle.triple_arena_traits.specs.Ending.{told}
 use Rattle.triple_arena_traits.specs.Walks.{entries}
+use Rattle.triple_arena_traits.specs.Histories.{History}
+use Rattle.triple_arena_traits.specs.Drains.{TakesOut}
 use Rattle.triple_arena_traits.specs.Compression.{closed_up}
 
 -- one call of the closure: the pointer and the value that were taken out, the pointer of the new place, and the value that
@@ -25,11 +27,12 @@ module _ {Q U P T : Type 0} where
   moved_to numbers moved = map (λ t. (numbers t.to, t.new)) moved
 
 module _ {Q U P T A M : Type 0} (source : Q → Pointer) (target : P → Pointer) (step : M → Q → InvalidationOption U → P → T → M → Type 0)
-    (slots : A → List (Option (ℕ × U))) (removes : A → ℕ → A → Type 0) (wraps : A → Bool) where
-  -- the entry was removed, and the closure was called with what its removal told
+    (slots : A → List (Option (ℕ × U))) (fits : History → A → Type 0) (removes : A → ℕ → A → Type 0) (wraps : A → Bool) (counting : Bool) where
+  -- the entry was taken out, and the closure was called with what its removal told
   abbrev pub TransferTurn : M × A → Transfer Q U P T → M × A → Type 0
   TransferTurn before t after =
-      removes before.1 (source t.from).0 after.1 × step before.0 t.from (told (wraps before.1) t.old) t.to t.new after.0
+      TakesOut fits removes wraps counting before.1 (source t.from) after.1
+      × step before.0 t.from (told (wraps before.1) t.old) t.to t.new after.0
 
   -- the entries of a source were removed one by one, in the order of their indexes, and the closure was called with each;
   -- what it gave stands from index 1 on, under one generation, at the pointers that it was called with

@@ -31,6 +31,10 @@ pub trait ArenaCloneFromWith<P: Ptr, T>: ArenaTrait<P, T> {
     /// isn't refused so. `Map` exactly where `map` refuses an entry; then exactly those that were
     /// mapped before stand. The room changes only where the last index is above the capacity, and no
     /// memory is taken elsewhere.
+    ///
+    /// Without a refusal both arenas end with the same index (`same_end`); the capacity of each reaches
+    /// its last index (`source_fits`, `fits`). So what `laws::clones_settle` asks of a clone, this call
+    /// tells.
     fn clone_from_with<U, E, A: CompactArenaTrait<P, U>, M: FnMut(P, &U) -> Result<T, E>>(
         &mut self,
         source: &A,
@@ -54,7 +58,11 @@ pub trait ArenaCloneFromWith<P: Ptr, T>: ArenaTrait<P, T> {
             × IsBeyond (Self.limit self.old) (last_index (A.slots source.now))) }
         ensures given { IsWithin (Self.limit self.old) (last_index (A.slots source.now))
             → Self.gets_room self.old (last_index (A.slots source.now)) → IsRoomRefusal result
-            → ⊥ };
+            → ⊥ }
+        ensures same_end { OnOk result
+            (last_index (Self.slots self.new) ≡ last_index (A.slots source.now)) }
+        ensures source_fits { last_index (A.slots source.now) ≤ A.fitting source.now }
+        ensures fits { last_index (Self.slots self.new) ≤ Self.fitting self.new };
 
     // the entries are those of the copy, the limit stays, and the capacity where the last index is
     // not above it
@@ -98,6 +106,10 @@ pub trait ArenaCloneFromWith<P: Ptr, T>: ArenaTrait<P, T> {
         ensures given { IsWithin (Self.limit self.old) (last_index (A.slots source.now))
             → Self.gets_room self.old (last_index (A.slots source.now)) → IsRoomRefusal result
             → ⊥ }
+        ensures same_end { OnOk result
+            (last_index (Self.slots self.new) ≡ last_index (A.slots source.now)) }
+        ensures source_fits { last_index (A.slots source.now) ≤ A.fitting source.now }
+        ensures fits { last_index (Self.slots self.new) ≤ Self.fitting self.new }
         ensures mapped { IsMapRefusal result
             → SomeMayFail T.is_infallible (entries (A.slots source.now)) }
         ensures succeeds { ((x : T) → T.is_infallible x)

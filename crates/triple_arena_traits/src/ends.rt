@@ -11,6 +11,7 @@ use triple_arena_ptr::{Ptr, PtrInx};
 pub fn last_index<P: Ptr, T, A: ArenaTrait<P, T>>(arena: &A) -> usize
     ensures value { result ≡ last_index (A.slots arena.now) }
     ensures indexed { result ≤ greatest_index P.Inx.greatest }
+    ensures fits { result ≤ A.fitting arena.now }
 {
     let _capacity = arena.capacity();
     match arena.find_last_inx_ptr() {

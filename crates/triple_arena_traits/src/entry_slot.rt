@@ -43,6 +43,10 @@ pub trait EntrySlot<P: Ptr, T>: Sized {
     fn discard(self)
         requires { entry self ≡ None };
 
+    // the entry has the other value under its generation, and where there is none, there is none then
+    ghost entry_with_value: { (slot : Self) (value : T) → entry (with_value slot value)
+        ≡ option_map (λ e. (e.0, value)) (entry slot) };
+
     /// Whether it has an entry.
     final fn is_live(&self) -> bool
         ensures { result ≡ is_some (entry self.now) }

@@ -34,8 +34,9 @@ pub fn transfer_entries<
     requires fits { entry_count (A.slots source.old)
         ≤ capacity_of (S.room stack.old) (S.limit stack.old) }
     requires indexed { entry_count (A.slots source.old) ≤ greatest_index P.Inx.greatest }
-    ensures transferred { Transfers Q.numbers P.numbers M.step A.slots A.removes A.ending_wraps
-        (P.Gen.number generation) f source.old source.new (map X.entry (S.items stack.new)) }
+    ensures transferred { Transfers Q.numbers P.numbers M.step A.slots A.fits A.removes
+        A.ending_wraps Q.Gen.counting (P.Gen.number generation) f source.old source.new
+        (map X.entry (S.items stack.new)) }
     ensures emptied { entry_count (A.slots source.new) ≡ 0 }
     ensures count { length (S.items stack.new) ≡ entry_count (A.slots source.old) }
     ensures room { S.room stack.new ≡ S.room stack.old }

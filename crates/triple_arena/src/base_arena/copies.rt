@@ -3,14 +3,16 @@
 ghost use Rattle.std.specs.Prelude.{◌≡◌, ℕ, List, Option, ◌≤◌, ◌<◌, ◌↔◌, length, IsOk, OnOk, OnErr, Err};
 ghost use Rattle.triple_arena_ptr.specs.Numbers.{greatest_index, first_generation};
 ghost use Rattle.triple_arena_stack.specs.Capacity.{IsWithin, IsBeyond};
-ghost use Rattle.triple_arena_traits.specs.ArenaState.{capacity, arena_len};
+ghost use Rattle.triple_arena_traits.specs.ArenaState.{slot_count, capacity, arena_len};
 ghost use Rattle.triple_arena_traits.specs.Entries.{entry_count};
 ghost use Rattle.triple_arena_traits.specs.FreeList.{tidied, laid_out, last_index};
 ghost use Rattle.triple_arena_traits.specs.Capacity.{reallocated, ready_for};
-ghost use Rattle.triple_arena_traits.specs.Walks.{entries};
+ghost use Rattle.triple_arena_traits.specs.Walks.{entries, keys};
 ghost use Rattle.triple_arena_traits.specs.Copying.{Copies};
 ghost use Rattle.triple_arena_traits.specs.Cloning.{counter_of};
 ghost use Rattle.triple_arena_traits.specs.Transfers.{Transfers};
+ghost use Rattle.triple_arena_traits.specs.Drains.{removals, NoneWraps};
+ghost use Rattle.triple_arena_traits.specs.Histories.{Continues};
 
 use crate::base_arena::Arena;
 use crate::slot::ArenaSlot;
@@ -63,8 +65,9 @@ impl<P: Ptr, T, S: NonZeroInxGenericStack<ArenaSlot<P, T>>> Arena<P, T, S> {
     /// counter (`Transfers`). `map` is called with the old pointer, with what the removal told, and
     /// with the new pointer. The pointer types may differ.
     ///
-    /// `source` is left as its own removals leave it: it has no entry. The room changes only where
-    /// there are more entries than fit, and no memory is taken elsewhere.
+    /// `source` is left as its own removals leave it: it has no entry. Where none of them wraps its
+    /// counter, each history that fitted it goes on by the removals of its pointers (`fresh`). The
+    /// room changes only where there are more entries than fit, and no memory is taken elsewhere.
     ///
     /// Refused only where `source` has more entries than fit, and as `reallocate_min_capacity`
     /// refuses their number: `AllocError` where it is past the greatest index; else
@@ -80,12 +83,15 @@ impl<P: Ptr, T, S: NonZeroInxGenericStack<ArenaSlot<P, T>>> Arena<P, T, S> {
         T: Drop,
         requires callable { M.IsAlwaysCallable map }
         ensures done { OnOk result ((put : List (Option (ℕ × T)))
-            × Transfers Q.numbers P.numbers M.step A.slots A.removes A.ending_wraps
-            (P.Gen.number new_generation) map source.old source.new put
+            × Transfers Q.numbers P.numbers M.step A.slots A.fits A.removes A.ending_wraps
+            Q.Gen.counting (P.Gen.number new_generation) map source.old source.new put
             × (self.new ≡ laid_out (ready_for S.kind self.old (length put)) put
             (P.Gen.number new_generation))) }
         ensures counted { OnOk result (arena_len self.new ≡ entry_count (A.slots source.old)) }
         ensures emptied { OnOk result (entry_count (A.slots source.new) ≡ 0) }
+        ensures fresh { OnOk result (NoneWraps A.removes A.ending_wraps Q.Gen.counting source.old
+            (keys (A.slots source.old)) → Continues A.fits source.old
+            (removals (keys (A.slots source.old))) source.new) }
         ensures refused { OnErr result (self.new ≡ tidied self.old) }
         ensures whole { OnErr result (source.new ≡ source.old) }
         ensures short { OnErr result (capacity self.old < entry_count (A.slots source.old)) }
@@ -110,6 +116,7 @@ impl<P: Ptr, T, S: NonZeroInxGenericStack<ArenaSlot<P, T>>> Arena<P, T, S> {
         ensures done { OnOk result (self.new ≡ ready_for S.kind self.old min_capacity) }
         ensures refused { OnErr result (self.new ≡ tidied self.old) }
         ensures short { OnErr result (capacity self.old < min_capacity) }
+        ensures fits { slot_count self.old ≤ capacity self.old }
         ensures beyond { (result ≡ Err ReallocationError.BeyondMaxCapacity)
             ↔ ((capacity self.old < min_capacity) × (min_capacity ≤ greatest_index P.Inx.greatest)
             × IsBeyond self.old.limit min_capacity) }
@@ -160,8 +167,8 @@ impl<P: Ptr, T, S: NonZeroInxGenericStack<ArenaSlot<P, T>>> Arena<P, T, S> {
         requires callable { M.IsAlwaysCallable f }
         requires fits { entry_count (A.slots source.old) ≤ capacity self.old }
         ensures transferred { (put : List (Option (ℕ × T)))
-            × Transfers Q.numbers P.numbers M.step A.slots A.removes A.ending_wraps
-            (P.Gen.number generation) f source.old source.new put
+            × Transfers Q.numbers P.numbers M.step A.slots A.fits A.removes A.ending_wraps
+            Q.Gen.counting (P.Gen.number generation) f source.old source.new put
             × (self.new ≡ laid_out self.old put (P.Gen.number generation))
             × (length put ≡ entry_count (A.slots source.old)) }
         ensures emptied { entry_count (A.slots source.new) ≡ 0 }

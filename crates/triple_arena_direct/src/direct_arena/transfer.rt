@@ -4,7 +4,10 @@ ghost use Rattle.std.specs.Prelude.{◌≡◌, ℕ, List, Option, ◌≤◌, ◌
 ghost use Rattle.triple_arena_ptr.specs.Numbers.{greatest_index};
 ghost use Rattle.triple_arena_stack.specs.Capacity.{capacity_of, IsWithin, IsBeyond};
 ghost use Rattle.triple_arena_traits.specs.Entries.{entry_count};
+ghost use Rattle.triple_arena_traits.specs.Walks.{keys};
 ghost use Rattle.triple_arena_traits.specs.Transfers.{Transfers};
+ghost use Rattle.triple_arena_traits.specs.Drains.{removals, NoneWraps};
+ghost use Rattle.triple_arena_traits.specs.Histories.{Continues};
 ghost use Rattle.triple_arena_direct.specs.DirectState.{direct_len, direct_capacity, settled, reallocated, ready_for, with_slots};
 ghost use Rattle.triple_arena_direct.specs.Slot.{slot_entry};
 
@@ -22,8 +25,9 @@ impl<P: Ptr, T, S: NonZeroInxGenericStack<DirectSlot<P, T>>> DirectArena<P, T, S
     /// is called with the old pointer, with what the removal told, and with the new pointer. The
     /// pointer types may differ.
     ///
-    /// `source` is left as its own removals leave it: it has no entry. The room changes only where
-    /// there are more entries than fit, and no memory is taken elsewhere.
+    /// `source` is left as its own removals leave it: it has no entry. Where none of them wraps its
+    /// counter, each history that fitted it goes on by the removals of its pointers (`fresh`). The
+    /// room changes only where there are more entries than fit, and no memory is taken elsewhere.
     ///
     /// Refused only where `source` has more entries than fit, and as `reallocate_min_capacity`
     /// refuses their number: `AllocError` where it is past the greatest index; else
@@ -39,11 +43,14 @@ impl<P: Ptr, T, S: NonZeroInxGenericStack<DirectSlot<P, T>>> DirectArena<P, T, S
         T: Drop,
         requires callable { M.IsAlwaysCallable map }
         ensures done { OnOk result ((put : List (Option (ℕ × T)))
-            × Transfers Q.numbers P.numbers M.step A.slots A.removes A.ending_wraps
-            (P.Gen.number new_generation) map source.old source.new put
+            × Transfers Q.numbers P.numbers M.step A.slots A.fits A.removes A.ending_wraps
+            Q.Gen.counting (P.Gen.number new_generation) map source.old source.new put
             × (self.new ≡ with_slots (ready_for S.kind self.old (length put)) put)) }
         ensures counted { OnOk result (direct_len self.new ≡ entry_count (A.slots source.old)) }
         ensures emptied { OnOk result (entry_count (A.slots source.new) ≡ 0) }
+        ensures fresh { OnOk result (NoneWraps A.removes A.ending_wraps Q.Gen.counting source.old
+            (keys (A.slots source.old)) → Continues A.fits source.old
+            (removals (keys (A.slots source.old))) source.new) }
         ensures refused { OnErr result
             (self.new ≡ settled self.old (entry_count (A.slots source.old))) }
         ensures whole { OnErr result (source.new ≡ source.old) }
@@ -77,8 +84,8 @@ impl<P: Ptr, T, S: NonZeroInxGenericStack<DirectSlot<P, T>>> DirectArena<P, T, S
         requires callable { M.IsAlwaysCallable f }
         requires fits { entry_count (A.slots source.old) ≤ direct_capacity self.old }
         ensures transferred { (put : List (Option (ℕ × T)))
-            × Transfers Q.numbers P.numbers M.step A.slots A.removes A.ending_wraps
-            (P.Gen.number generation) f source.old source.new put
+            × Transfers Q.numbers P.numbers M.step A.slots A.fits A.removes A.ending_wraps
+            Q.Gen.counting (P.Gen.number generation) f source.old source.new put
             × (self.new ≡ with_slots self.old put)
             × (length put ≡ entry_count (A.slots source.old)) }
         ensures emptied { entry_count (A.slots source.new) ≡ 0 }
@@ -105,8 +112,8 @@ where
     requires fits { entry_count (A.slots source.old)
         ≤ capacity_of (S.room stack.old) (S.limit stack.old) }
     requires indexed { entry_count (A.slots source.old) ≤ greatest_index P.Inx.greatest }
-    ensures transferred { Transfers Q.numbers P.numbers M.step A.slots A.removes A.ending_wraps
-        (P.Gen.number generation) f source.old source.new
+    ensures transferred { Transfers Q.numbers P.numbers M.step A.slots A.fits A.removes
+        A.ending_wraps Q.Gen.counting (P.Gen.number generation) f source.old source.new
         (map (slot_entry P.Gen.number) (S.items stack.new)) }
     ensures emptied { entry_count (A.slots source.new) ≡ 0 }
     ensures count { result ≡ entry_count (A.slots source.old) }

@@ -1,5 +1,6 @@
 use Rattle.std.proofs.Common.{refl}
 use Rattle.triple_arena.proofs.HistoryLaws.{Fits-empty, Fits-keys, Continues-none, Continues-call, Continues-calls, Continues-append, Fits-compressed, new_pointer, gone_for_good, never_live}
+use Rattle.triple_arena.proofs.Removals.{none_wraps}
 use Rattle.triple_arena.proofs.laws.pointers_are_fresh.Goals as goal
 
 pub returns-clause-empty : goal.returns-clause-empty
@@ -31,3 +32,6 @@ returns-clause-new g c = new_pointer
 
 pub returns-clause-gone : goal.returns-clause-gone
 returns-clause-gone g c = gone_for_good
+
+pub returns-clause-none_wraps : goal.returns-clause-none_wraps
+returns-clause-none_wraps g c = none_wraps

@@ -25,9 +25,13 @@ returns-in-Some g c =
     let live : IsSome (entry_in slots p.0) = rw (found slots p last.live).entry refl in
     let here : non_zero_usize_get c.unwrap.result ≡ p.0 = rw c.unwrap.ensures at c.try_into_usize.ensures.number ∙ ap g.P.Inx.PtrInx.number c.inx.ensures ∙ sym (ap (λ (q : ℕ × ℕ). q.0) (g.met.P.Ptr.numbers_of c.in-Some.p)) in
     let value : c.get.result ≡ length (trimmed slots) = c.get.ensures.value ∙ here ∙ end_is slots p.0 live last.none_above in
-    record { value = value; indexed = omega (arith, value, trimmed_length slots, c.capacity-capacity.ensures.fits, c.capacity-capacity.ensures.indexed) }
+    record {
+      value = value;
+      indexed = omega (arith, value, trimmed_length slots, c.capacity-capacity.ensures.fits, c.capacity-capacity.ensures.indexed);
+      fits = omega (arith, value, trimmed_length slots, c.capacity-capacity.ensures.fits, c.capacity-capacity.ensures.value);
+    }
 
 pub returns-in-None : goal.returns-in-None
 returns-in-None g c =
     let slots = g.A.ArenaTrait.slots c.args.arena.now in
-    record { value = end_none slots (λ i. none_of_none slots i (rw c.in-None.is at c.find_last_inx_ptr.ensures)); indexed = omega arith }
+    record { value = end_none slots (λ i. none_of_none slots i (rw c.in-None.is at c.find_last_inx_ptr.ensures)); indexed = omega arith; fits = omega arith }

@@ -1,5 +1,5 @@
-use Rattle.triple_arena.proofs.Resizing.{index_found, index_there}
-use Rattle.triple_arena.proofs.Refused.{copied_some}
+use Rattle.triple_arena_traits.proofs.Refused.{index_found, index_there}
+use Rattle.triple_arena_traits.proofs.Refused.{copied_some}
 use Rattle.triple_arena_traits.proofs.Links.{pointer_is}
 use Rattle.triple_arena_traits.proofs.WellFormed.{live_entry}
 use Rattle.triple_arena_traits.specs.ArenaState.{entry, look_up}

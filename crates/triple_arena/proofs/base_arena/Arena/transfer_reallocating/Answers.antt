@@ -1,9 +1,10 @@
-use Rattle.triple_arena.proofs.Refused.{err_is, ok_not_err, on_ok_err, on_err, same_error}
+use Rattle.triple_arena_traits.proofs.Refused.{err_is, ok_not_err, on_ok_err, on_err, same_error}
 use Rattle.triple_arena_traits.specs.ArenaState.{capacity}
 use Rattle.std.proofs.lemmas.Bool.{false≢true}
 use Rattle.std.proofs.Common.{◌∙◌, sym, ap, ◌<◌, refl, subst}
 use Rattle.triple_arena_traits.specs.FreeList.{laid_out}
 use Rattle.triple_arena_traits.specs.Capacity.{ready_for}
+use Rattle.triple_arena_traits.proofs.TransferLemmas.{source_goes_on}
 use Rattle.triple_arena.proofs.base_arena.Arena.transfer_reallocating.Goals as goal
 
 pub returns-clause-done : goal.returns-clause-done
@@ -11,6 +12,14 @@ returns-clause-done g c =
     let d = c.take_over.ensures.transferred in
     let ready = c.in_ok-make_room.ensures.done ∙ ap (ready_for g.S.NonZeroInxGenericStack.kind c.args.self.now) (c.len.ensures.value ∙ sym d.3) in
     (d.0, d.1, d.2 ∙ ap (λ s. laid_out s d.0 (g.P.Gen.PtrGen.number c.args.new_generation)) ready)
+
+pub returns-clause-fresh : goal.returns-clause-fresh
+returns-clause-fresh g c none =
+    let d = c.take_over.ensures.transferred in
+    source_goes_on _ _ _ _ _ _ _ _ _ _ _ _ d.0 d.1 none
+
+pub returns-in_err-make_room-clause-fresh : goal.returns-in_err-make_room-clause-fresh
+returns-in_err-make_room-clause-fresh g c = on_ok_err c.from_residual.result c.in_err-make_room.field-0.0 (err_is c.from_residual.result c.in_err-make_room.field-0.0 c.from_residual.ensures.1) _
 
 pub returns-clause-beyond : goal.returns-clause-beyond
 returns-clause-beyond g c =

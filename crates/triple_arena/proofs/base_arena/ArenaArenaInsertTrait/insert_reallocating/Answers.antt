@@ -1,4 +1,4 @@
-use Rattle.triple_arena.proofs.Refused.{err_is, ok_not_err, if_err, on_ok_err, on_err, same_error}
+use Rattle.triple_arena_traits.proofs.Refused.{err_is, ok_not_err, if_err, on_ok_err, on_err, same_error}
 use Rattle.triple_arena_traits.proofs.WellFormed.{place_free}
 use Rattle.triple_arena_ptr.specs.Pointers.{Pointer}
 use Rattle.std.proofs.lemmas.Bool.{false≢true}

@@ -1,4 +1,4 @@
-use Rattle.triple_arena.proofs.Refused.{copied_some}
+use Rattle.triple_arena_traits.proofs.Refused.{copied_some}
 use Rattle.triple_arena.proofs.HistoryLaws.{found_as_given}
 use Rattle.triple_arena_traits.proofs.Links.{pointer_is}
 use Rattle.triple_arena_traits.specs.ArenaState.{look_up}

@@ -1,4 +1,4 @@
-use Rattle.triple_arena_direct.proofs.Reading.{copied_some, index_found, index_there}
+use Rattle.triple_arena_traits.proofs.Refused.{copied_some, index_found, index_there}
 use Rattle.triple_arena_traits.proofs.Links.{pointer_is}
 use Rattle.triple_arena_traits.proofs.WellFormed.{live_entry}
 use Rattle.triple_arena_traits.specs.Entries.{entry_in, look_up_in, value_under}

@@ -1,5 +1,6 @@
-use Rattle.triple_arena_direct.proofs.Refused.{err_is, ok_not_err, on_ok_err, on_err, same_error}
+use Rattle.triple_arena_traits.proofs.Refused.{err_is, ok_not_err, on_ok_err, on_err, same_error}
 use Rattle.triple_arena_direct.specs.DirectState.{direct_capacity, settled, ready_for, with_slots}
+use Rattle.triple_arena_traits.proofs.TransferLemmas.{source_goes_on}
 use Rattle.std.proofs.lemmas.Bool.{false≢true}
 use Rattle.std.proofs.Common.{◌≡◌, ◌∙◌, sym, ap, ◌<◌, refl, subst}
 use Rattle.triple_arena_direct.proofs.direct_arena.DirectArena.transfer_reallocating.Goals as goal
@@ -9,6 +10,14 @@ returns-clause-done g c =
     let d = c.take_over.ensures.transferred in
     let ready = c.in_ok-make_room.ensures.done ∙ ap (ready_for g.S.NonZeroInxGenericStack.kind c.args.self.now) (c.len.ensures.value ∙ sym d.3) in
     (d.0, d.1, d.2 ∙ ap (λ s. with_slots s d.0) ready)
+
+pub returns-clause-fresh : goal.returns-clause-fresh
+returns-clause-fresh g c none =
+    let d = c.take_over.ensures.transferred in
+    source_goes_on _ _ _ _ _ _ _ _ _ _ _ _ d.0 d.1 none
+
+pub returns-in_err-make_room-clause-fresh : goal.returns-in_err-make_room-clause-fresh
+returns-in_err-make_room-clause-fresh g c = on_ok_err c.from_residual.result c.in_err-make_room.field-0.0 (err_is c.from_residual.result c.in_err-make_room.field-0.0 c.from_residual.ensures.1) _
 
 pub returns-clause-beyond : goal.returns-clause-beyond
 returns-clause-beyond g c =

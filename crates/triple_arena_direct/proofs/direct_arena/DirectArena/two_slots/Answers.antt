@@ -1,4 +1,5 @@
-use Rattle.triple_arena_direct.proofs.Refused.{err_is, if_err, of_same, past_slots}
+use Rattle.triple_arena_traits.proofs.Refused.{err_is, if_err, of_same}
+use Rattle.triple_arena_direct.proofs.Refused.{past_slots}
 use Rattle.triple_arena_direct.specs.DirectState.{slot_count}
 use Rattle.triple_arena_direct.specs.Slot.{slot_entry}
 use Rattle.triple_arena_stack.specs.Disjoint.{AreTwo, IsRefused}

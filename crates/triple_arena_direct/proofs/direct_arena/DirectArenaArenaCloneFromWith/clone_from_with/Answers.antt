@@ -1,7 +1,11 @@
-use Rattle.std.proofs.Common.{◌≡◌, ◌∙◌, ◌<◌, ◌≤◌, Err, refl, sym, ap, subst, true≢false}
-use Rattle.triple_arena_traits.proofs.CopyLemmas.{on_copies, no_answer, beyond_told}
-use Rattle.triple_arena_direct.specs.DirectState.{direct_capacity, settled, ready_for, with_slots}
-use Rattle.triple_arena_direct.proofs.Refused.{ok_not_err, map_not_room}
+use Rattle.std.proofs.Common.{◌≡◌, ◌∙◌, ◌<◌, ◌≤◌, Err, refl, sym, ap, subst, arith, true≢false}
+use Rattle.triple_arena_traits.specs.Entries.{entry_in}
+use Rattle.triple_arena_traits.proofs.CopyLemmas.{kept_end, copy_ends, copy_same_end, on_copies, no_answer, beyond_told}
+use Rattle.triple_arena_traits.proofs.Tidying.{trimmed_length}
+use Rattle.triple_arena_direct.specs.DirectState.{DirectState, direct_capacity, settled, ready_for, with_slots}
+use Rattle.triple_arena_direct.specs.StepLaws.{slots-settled}
+use Rattle.triple_arena_traits.proofs.Refused.{ok_not_err}
+use Rattle.triple_arena_direct.proofs.Refused.{map_not_room}
 use Rattle.triple_arena_direct.proofs.direct_arena.DirectArenaArenaCloneFromWith.clone_from_with.Goals as goal
 
 pub returns-in-Err-clause-cloned : goal.returns-in-Err-clause-cloned
@@ -41,3 +45,38 @@ returns-in-Err-clause-short g c room = subst (λ n. direct_capacity c.args.self.
 
 pub hold_copies-requires-clause-fits : goal.hold_copies-requires-clause-fits
 hold_copies-requires-clause-fits g c κs within = subst (λ n. n ≤ direct_capacity c.make_room.new.self) c.last_index.ensures.value c.in_default.ensures.place
+
+pub returns-in-Err-clause-source_fits : goal.returns-in-Err-clause-source_fits
+returns-in-Err-clause-source_fits g c = rw c.last_index.ensures.value at c.last_index.ensures.fits
+
+pub returns-in-Ok-clause-source_fits : goal.returns-in-Ok-clause-source_fits
+returns-in-Ok-clause-source_fits g c = rw c.last_index.ensures.value at c.last_index.ensures.fits
+
+pub returns-in-Err-hold_copies-clause-source_fits : goal.returns-in-Err-hold_copies-clause-source_fits
+returns-in-Err-hold_copies-clause-source_fits g c = rw c.last_index.ensures.value at c.last_index.ensures.fits
+
+pub returns-in-Err-clause-fits : goal.returns-in-Err-clause-fits
+returns-in-Err-clause-fits g c =
+    let is = c.in-Err.ensures.refused in
+    let kept = kept_end _ _ (slots-settled c.args.self.now _ c.make_room.new.self is) in
+    let size : direct_capacity c.make_room.new.self ≡ direct_capacity c.args.self.now = ap direct_capacity is in
+    omega (arith, kept, size, trimmed_length c.args.self.now.slots, c.in-Err.ensures.fits)
+
+pub returns-in-Ok-clause-same_end : goal.returns-in-Ok-clause-same_end
+returns-in-Ok-clause-same_end g c =
+    let h = c.in-Ok.ensures in
+    copy_same_end _ _ c.args.map (g.A.ArenaTrait.slots c.args.source.now) h.0 c.hold_copies.new.self.slots h.1 (λ i. ap (λ (s : DirectState g.row.T.Denot). entry_in s.slots i) h.2)
+
+pub returns-in-Ok-clause-fits : goal.returns-in-Ok-clause-fits
+returns-in-Ok-clause-fits g c =
+    let h = c.in-Ok.ensures in
+    let ends = copy_ends _ _ c.args.map (g.A.ArenaTrait.slots c.args.source.now) _ h.0 c.hold_copies.new.self.slots h.1 (λ i. ap (λ (s : DirectState g.row.T.Denot). entry_in s.slots i) h.2) in
+    let size : direct_capacity c.hold_copies.new.self ≡ direct_capacity c.make_room.new.self = ap direct_capacity h.2 in
+    omega (arith, ends, size, c.in_default.ensures.place, c.last_index.ensures.value)
+
+pub returns-in-Err-hold_copies-clause-fits : goal.returns-in-Err-hold_copies-clause-fits
+returns-in-Err-hold_copies-clause-fits g c =
+    let h = c.in-Err-hold_copies.ensures in
+    let ends = copy_ends _ _ c.args.map (g.A.ArenaTrait.slots c.args.source.now) _ h.0 c.hold_copies.new.self.slots h.1 (λ i. ap (λ (s : DirectState g.row.T.Denot). entry_in s.slots i) h.2) in
+    let size : direct_capacity c.hold_copies.new.self ≡ direct_capacity c.make_room.new.self = ap direct_capacity h.2 in
+    omega (arith, ends, size, c.in_default.ensures.place, c.last_index.ensures.value)

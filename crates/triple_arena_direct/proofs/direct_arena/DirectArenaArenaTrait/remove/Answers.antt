@@ -8,7 +8,7 @@ use Rattle.triple_arena_traits.proofs.WellFormed.{live_entry}
 use Rattle.triple_arena_direct.specs.DirectState.{removed}
 use Rattle.triple_arena_direct.specs.StepLaws.{slots-removed}
 use Rattle.triple_arena_direct.proofs.Held.{value_read}
-use Rattle.triple_arena_direct.proofs.Refused.{gone_found, rest_found}
+use Rattle.triple_arena_traits.proofs.Refused.{gone_found, rest_found}
 use Rattle.triple_arena_direct.proofs.direct_arena.DirectArenaArenaTrait.remove.Goals as goal
 
 pub returns-in_default-clause-answer : goal.returns-in_default-clause-answer

@@ -3,7 +3,7 @@ use Rattle.std.specs.Int.NonZero.{non_zero_usize_get}
 use Rattle.triple_arena_traits.specs.Entries.{entry_in}
 use Rattle.triple_arena_traits.proofs.Pairs.{entry_by_parts}
 use Rattle.triple_arena_traits.proofs.Present.{some_mapped, none_mapped}
-use Rattle.triple_arena_direct.proofs.Refused.{err_is, if_err, on_err, refused_inx}
+use Rattle.triple_arena_traits.proofs.Refused.{err_is, if_err, on_err, refused_inx}
 use Rattle.triple_arena_direct.proofs.direct_arena.DirectArenaDisjointableArenaTrait.with_disjoint_inx_mut.Goals.{in_default-via-in-Some+in_default, in_default-via-in_default}
 use Rattle.triple_arena_direct.proofs.direct_arena.DirectArenaDisjointableArenaTrait.with_disjoint_inx_mut.Goals as goal
 

@@ -4,7 +4,7 @@ use Rattle.triple_arena_ptr.specs.Numbers.{greatest_index}
 use Rattle.triple_arena_traits.specs.Places.{number_or_zero}
 use Rattle.triple_arena_traits.specs.Walks.{place_of}
 use Rattle.triple_arena_traits.specs.WalkLaws.{taken}
-use Rattle.triple_arena.proofs.Advancing.{Meets, standing, meets_up, meets_down, step_nowhere, step_to, step_past, greater}
+use Rattle.triple_arena_traits.proofs.Advancing.{Meets, standing, meets_up, meets_down, step_nowhere, step_to, step_past, greater}
 use Rattle.triple_arena.proofs.arena_iterators.ptr_advancer.PtrAdvancerAdvancerArena.advance.Goals.{then-self, else-self, then-self-2, else-self-2}
 use Rattle.triple_arena.proofs.arena_iterators.ptr_advancer.PtrAdvancerAdvancerArena.advance.Goals as goal
 

@@ -1,10 +1,14 @@
-use Rattle.std.proofs.Common.{◌≡◌, ◌∙◌, Err, refl, sym, ap, true≢false}
+use Rattle.std.proofs.Common.{◌≡◌, ◌∙◌, Err, refl, sym, ap, arith, true≢false}
 use Rattle.std.specs.Option.{option_map}
 use Rattle.triple_arena_ptr.specs.Numbers.{first_generation}
+use Rattle.triple_arena_traits.specs.ArenaState.{ArenaState, capacity}
+use Rattle.triple_arena_traits.specs.Entries.{entry_in}
+use Rattle.triple_arena_traits.specs.EntryLaws.{slots-settled}
 use Rattle.triple_arena_traits.specs.FreeList.{laid_out}
 use Rattle.triple_arena_traits.specs.Capacity.{ready_for}
 use Rattle.triple_arena_traits.specs.Cloning.{counter_of}
-use Rattle.triple_arena_traits.proofs.CopyLemmas.{on_copies, no_answer, beyond_told}
+use Rattle.triple_arena_traits.proofs.CopyLemmas.{kept_end, copy_ends, copy_same_end, on_copies, no_answer, beyond_told}
+use Rattle.triple_arena_traits.proofs.Tidying.{trimmed_length}
 use Rattle.triple_arena.proofs.base_arena.copies.ArenaArenaCloneFromWith.clone_from_with.Goals.{in-Some, in-None}
 use Rattle.triple_arena.proofs.base_arena.copies.ArenaArenaCloneFromWith.clone_from_with.Goals as goal
 
@@ -47,3 +51,38 @@ returns-in-Err-hold_copies-clause-cloned g c answer is =
       on_copies _ _ _ _ _ answer _ is h.1,
       h.2 ∙ ap (λ s. laid_out s h.0 (number c.match-singular_generation.counter)) ready ∙ ap (laid_out (ready_for kind c.args.self.now _) h.0) counter,
     )
+
+pub returns-in-Err-clause-source_fits : goal.returns-in-Err-clause-source_fits
+returns-in-Err-clause-source_fits g c = rw c.last_index.ensures.value at c.last_index.ensures.fits
+
+pub returns-in-Ok-clause-source_fits : goal.returns-in-Ok-clause-source_fits
+returns-in-Ok-clause-source_fits g c = rw c.last_index.ensures.value at c.last_index.ensures.fits
+
+pub returns-in-Err-hold_copies-clause-source_fits : goal.returns-in-Err-hold_copies-clause-source_fits
+returns-in-Err-hold_copies-clause-source_fits g c = rw c.last_index.ensures.value at c.last_index.ensures.fits
+
+pub returns-in-Err-clause-fits : goal.returns-in-Err-clause-fits
+returns-in-Err-clause-fits g c =
+    let is = c.in-Err.ensures.refused in
+    let kept = kept_end _ _ (slots-settled c.args.self.now c.make_room.new.self is) in
+    let size : capacity c.make_room.new.self ≡ capacity c.args.self.now = ap capacity is in
+    omega (arith, kept, size, trimmed_length c.args.self.now.slots, c.in-Err.ensures.fits)
+
+pub returns-in-Ok-clause-same_end : goal.returns-in-Ok-clause-same_end
+returns-in-Ok-clause-same_end g c =
+    let h = c.in-Ok.ensures in
+    copy_same_end _ _ c.args.map (g.A.ArenaTrait.slots c.args.source.now) h.0 c.hold_copies.new.self.slots h.1 (λ i. ap (λ (s : ArenaState g.row.T.Denot). entry_in s.slots i) h.2)
+
+pub returns-in-Ok-clause-fits : goal.returns-in-Ok-clause-fits
+returns-in-Ok-clause-fits g c =
+    let h = c.in-Ok.ensures in
+    let ends = copy_ends _ _ c.args.map (g.A.ArenaTrait.slots c.args.source.now) _ h.0 c.hold_copies.new.self.slots h.1 (λ i. ap (λ (s : ArenaState g.row.T.Denot). entry_in s.slots i) h.2) in
+    let size : capacity c.hold_copies.new.self ≡ capacity c.make_room.new.self = ap capacity h.2 in
+    omega (arith, ends, size, c.in_default.ensures.place, c.last_index.ensures.value)
+
+pub returns-in-Err-hold_copies-clause-fits : goal.returns-in-Err-hold_copies-clause-fits
+returns-in-Err-hold_copies-clause-fits g c =
+    let h = c.in-Err-hold_copies.ensures in
+    let ends = copy_ends _ _ c.args.map (g.A.ArenaTrait.slots c.args.source.now) _ h.0 c.hold_copies.new.self.slots h.1 (λ i. ap (λ (s : ArenaState g.row.T.Denot). entry_in s.slots i) h.2) in
+    let size : capacity c.hold_copies.new.self ≡ capacity c.make_room.new.self = ap capacity h.2 in
+    omega (arith, ends, size, c.in_default.ensures.place, c.last_index.ensures.value)

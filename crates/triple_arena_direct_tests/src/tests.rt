@@ -8,4 +8,5 @@ mod pops;
 mod refused_memory;
 mod renaming;
 mod tested_direct;
+mod tested_nodes;
 mod transfers;

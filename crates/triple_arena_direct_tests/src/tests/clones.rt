@@ -1,8 +1,6 @@
 //! Cloning into direct arenas and out of them.
 
-use super::tested_direct::{
-    Direct, DirectWithLimit, Heap, Limited, Little, put, put_under, with_room,
-};
+use super::tested_direct::{Direct, Heap, Limited, put, put_under, with_room};
 use std::alloc::{AllocError, Global};
 use std::process::Abort;
 use std::test::Fail;
@@ -10,17 +8,16 @@ use triple_arena::{Arena, ArenaCloneFromWith, ArenaSlot, ArenaTrait, CompactAren
 use triple_arena_base::{CloneFromError, ReallocationError};
 use triple_arena_direct::{DirectArena, DirectSlot};
 use triple_arena_ptr::{P0, Ptr};
-use triple_arena_stack::{NonZeroInxGenericStack, SetMaxCapacity};
+use triple_arena_stack::NonZeroInxGenericStack;
 use triple_arena_test_kit::{
-    Call, Heap as ArenaHeap, NO_ENTRY, TestedArena, Token, Told, Wrong, follow, has_state, is_told,
+    Call, Heap as ArenaHeap, NO_ENTRY, Removed, Steps, TestedArena, Token, Told, Trial, Wrong, inx,
+    is_told, new_arena, pointer, step,
 };
 
 const BEYOND: Told = Told::Refused(ReallocationError::BeyondMaxCapacity);
 
-const NO_MEMORY: Told = Told::Refused(ReallocationError::AllocError);
-
-// Clones, each value with a hundred added, and refuses the value of one number.
-fn clone_but<P: Ptr, A: ArenaCloneFromWith<P, Token>, B: CompactArenaTrait<P, Token>>(
+/// Clones, each value with a hundred added, and refuses the value of one number.
+pub fn clone_but<P: Ptr, A: ArenaCloneFromWith<P, Token>, B: CompactArenaTrait<P, Token>>(
     target: &mut A,
     source: &B,
     refused: u64,
@@ -48,36 +45,44 @@ enum OnTarget {
     CloneBut(u64),
 }
 
-// Makes each call on a direct arena that is cloned from `source`, and expects its answer.
-fn follow_clones<S: NonZeroInxGenericStack<DirectSlot<P0, Token>>, B: CompactArenaTrait<P0, Token>>(
+// What it answers of a direct arena.
+fn told_by<S: NonZeroInxGenericStack<DirectSlot<P0, Token>>, B: CompactArenaTrait<P0, Token>>(
     target: &mut Direct<P0, S>,
     source: &B,
-    steps: &[(OnTarget, Told)],
-) -> Result<(), Wrong> {
+    call: OnTarget,
+) -> Told {
+    match call {
+        OnTarget::Of(call) => target.answer(call),
+        OnTarget::CloneBut(refused) => clone_but(&mut target.arena, source, refused),
+    }
+}
+
+// Makes each call on a direct arena of this room that is cloned from `source`, and expects its answer.
+fn follow_clones<
+    S: NonZeroInxGenericStack<DirectSlot<P0, Token>> + Drop,
+    B: CompactArenaTrait<P0, Token>,
+>(alloc: Global, room: usize, source: &B, steps: &[(OnTarget, Told)]) -> Result<(), Wrong> {
+    let mut target: Direct<P0, S> = with_room(alloc, room)?;
     for (row, (call, expected)) in steps.iter().enumerate() {
-        let told = match *call {
-            OnTarget::Of(call) => target.answer(call),
-            OnTarget::CloneBut(refused) => clone_but(&mut target.arena, source, refused),
-        };
+        let told = told_by(&mut target, source, *call);
         is_told(row, told, *expected)?;
     }
     Ok(())
 }
 
 // Five entries, of which the second and the fourth are removed.
-fn three_of_five<A: TestedArena>(arena: &mut A) -> Result<(), Wrong> {
-    follow(
-        arena,
-        &[
-            (Call::Insert(1), Told::At(1, 2)),
-            (Call::Insert(2), Told::At(2, 2)),
-            (Call::Insert(3), Told::At(3, 2)),
-            (Call::Insert(4), Told::At(4, 2)),
-            (Call::Insert(5), Told::At(5, 2)),
-            (Call::RemoveInx(2), Told::Held(2, 2)),
-            (Call::RemoveInx(4), Told::Held(2, 4)),
-        ],
-    )
+const THREE_OF_FIVE: Removed = Removed {
+    entries: 5,
+    removed: &[2, 4],
+};
+
+// An arena of these entries.
+fn three_of_five<S: NonZeroInxGenericStack<ArenaSlot<P0, Token>> + Drop>(
+    alloc: Global,
+) -> Result<Arena<P0, Token, S>, Wrong> {
+    let mut arena = new_arena(alloc);
+    THREE_OF_FIVE.on(&mut arena)?;
+    Ok(arena)
 }
 
 // The calls on a direct arena of this room over the first stack that is cloned from an arena of these
@@ -86,10 +91,8 @@ fn cloned_from_arena<
     S: NonZeroInxGenericStack<DirectSlot<P0, Token>> + Drop,
     R: NonZeroInxGenericStack<ArenaSlot<P0, Token>> + Drop,
 >(alloc: Global, room: usize, steps: &[(OnTarget, Told)]) -> Result<(), Wrong> {
-    let mut source: Arena<P0, Token, R> = Arena::new(alloc);
-    three_of_five(&mut source)?;
-    let mut target: Direct<P0, S> = with_room(alloc, room)?;
-    follow_clones(&mut target, &source, steps)
+    let source: Arena<P0, Token, R> = three_of_five(alloc)?;
+    follow_clones::<S, Arena<P0, Token, R>>(alloc, room, &source, steps)
 }
 
 #[test]
@@ -136,59 +139,41 @@ fn a_clone_past_the_limit_is_refused(rt: HostRuntime) -> Result<(), Fail> {
     Ok(())
 }
 
-// A direct arena that has memory for four slots, over the first stack, is cloned from one of five over
-// the second.
-fn refuses_a_clone<
-    S: SetMaxCapacity<DirectSlot<P0, Token>> + Drop,
-    R: NonZeroInxGenericStack<DirectSlot<P0, Token>> + Drop,
->(alloc: Global) -> Result<(), Wrong> {
-    let mut source: Direct<P0, R> = with_room(alloc, 5)?;
-    follow(
-        &mut source,
-        &[(Call::DirectInsert(5, 2, 5), Told::Holds(5))],
-    )?;
-    let direct: Direct<P0, S> = with_room(alloc, 4)?;
-    let mut target = DirectWithLimit { direct };
-    follow(
-        &mut target,
-        &[
-            (Call::SetLimit(usize::MAX), Told::Done),
-            (Call::DirectInsert(3, 2, 3), Told::Holds(3)),
-        ],
-    )?;
-    let before = target.state();
-    let told = clone_but(&mut target.direct.arena, &source.arena, 0);
-    is_told(0, told, NO_MEMORY)?;
-    has_state(&target, 0, &before)
+// A direct arena with one entry, at this index under generation 9.
+fn one_entry<S: NonZeroInxGenericStack<DirectSlot<P0, Token>> + Drop>(
+    alloc: Global,
+    index: usize,
+) -> Result<Direct<P0, S>, Wrong> {
+    let mut direct: Direct<P0, S> = with_room(alloc, 5)?;
+    step(&mut direct, Call::DirectInsert(index, 9, 9), Told::Holds(9))?;
+    Ok(direct)
 }
 
-#[test]
-fn a_clone_without_memory_leaves_the_arena_as_it_was(rt: HostRuntime) -> Result<(), Fail> {
-    refuses_a_clone::<Little<P0, 4>, Heap<P0>>(rt.alloc())?;
-    Ok(())
+// The first entry of an arena that is cloned from a direct one begins its counter at 2.
+fn begins_at_two<
+    S: NonZeroInxGenericStack<ArenaSlot<P0, Token>> + Drop,
+    B: CompactArenaTrait<P0, Token>,
+>(alloc: Global, source: &B) -> Result<(), Wrong> {
+    let mut target: Arena<P0, Token, S> = new_arena(alloc);
+    is_told(0, clone_but(&mut target, source, 0), Told::Done)?;
+    AFTER_A_CLONE.on(&mut target)
 }
+
+// An arena with the entry at index 1 alone, a hundred more than in its source.
+const AFTER_A_CLONE: Steps = Steps(&[
+    (Call::Bounds, Told::Bounds(1, 1, None)),
+    (Call::Generation, Told::Generation(2)),
+    (Call::Get(1, 9), Told::Holds(109)),
+    (Call::Insert(7), Told::At(2, 2)),
+]);
 
 // An arena over the first stack is cloned from a direct one over the second.
 fn into_an_arena<
     S: NonZeroInxGenericStack<ArenaSlot<P0, Token>> + Drop,
     R: NonZeroInxGenericStack<DirectSlot<P0, Token>> + Drop,
 >(alloc: Global) -> Result<(), Wrong> {
-    let mut source: Direct<P0, R> = with_room(alloc, 4)?;
-    follow(
-        &mut source,
-        &[(Call::DirectInsert(1, 9, 9), Told::Holds(9))],
-    )?;
-    let mut target: Arena<P0, Token, S> = Arena::new(alloc);
-    is_told(0, clone_but(&mut target, &source.arena, 0), Told::Done)?;
-    follow(
-        &mut target,
-        &[
-            (Call::Bounds, Told::Bounds(1, 1, None)),
-            (Call::Generation, Told::Generation(2)),
-            (Call::Get(1, 9), Told::Holds(109)),
-            (Call::Insert(7), Told::At(2, 2)),
-        ],
-    )
+    let source: Direct<P0, R> = one_entry(alloc, 1)?;
+    begins_at_two::<S, DirectArena<P0, Token, R>>(alloc, &source.arena)
 }
 
 #[test]
@@ -220,6 +205,13 @@ fn is_written(texts: &DirectArena<P0, String>, alloc: Global, expected: &str) ->
     Some(format!(in alloc; "{texts:?}").ok()?.as_str() == expected)
 }
 
+// Puts a text in the place of the one at index 1, under generation 1: whether there was one and is a
+// place.
+fn put_at_one(texts: &mut DirectArena<P0, String>, text: String) -> bool {
+    let is_removed = texts.remove_inx(inx(1)).is_success();
+    is_removed && put_under(texts, pointer(1, 1), text)
+}
+
 // A mirror holds each number's text; none where there is no memory.
 fn mirrors(alloc: Global) -> Option<bool> {
     let mut numbers: Arena<P0, u64> = Arena::new(alloc);
@@ -234,7 +226,9 @@ fn mirrors(alloc: Global) -> Option<bool> {
     let seven = format!(in alloc; "{}", 7).ok()?;
     let is_put = put_under(&mut texts, p, seven);
     let both = is_written(&texts, alloc, r#"{P0[1](3): "7", P0[2](2): "1337"}"#)?;
-    Some(is_cloned && begun && capacity && is_put && both)
+    let is_put_anew = put_at_one(&mut texts, format!(in alloc; "{}", 8).ok()?);
+    let anew = is_written(&texts, alloc, r#"{P0[1](1): "8", P0[2](2): "1337"}"#)?;
+    Some(is_cloned && begun && capacity && is_put && both && is_put_anew && anew)
 }
 
 #[test]

@@ -1,320 +1,384 @@
 //! Compaction that tells the new pointers, and that renames those which the values hold.
 
-use super::tested_direct::{put, put_under};
-use std::alloc::{AllocError, Global};
-use std::fmt::Debug;
-use std::process::Abort;
+use super::tested_nodes::{
+    Compacted, Compaction, NO_PLACE, Named, Node, NodeState, NodeTrial, on_direct_nodes,
+    on_last_node, on_nodes,
+};
+use std::alloc::Global;
 use std::test::Fail;
-use triple_arena::{Arena, ArenaSlot, ArenaTrait, CompactArenaTrait};
-use triple_arena_base::{CompactError, ReallocationError, Recast};
-use triple_arena_direct::{DirectArena, compress_recast, compress_recaster};
-use triple_arena_ptr::{P0, Ptr};
-use triple_arena_stack::NonZeroInxArray;
-use triple_arena_test_kit::{B, pointer};
+use triple_arena::ArenaSlot;
+use triple_arena_base::ReallocationError;
+use triple_arena_direct::DirectSlot;
+use triple_arena_ptr::P0;
+use triple_arena_stack::{NonZeroInxArray, NonZeroInxVec};
+use triple_arena_test_kit::{B, NO_POINTER, Told, Wrong, is_text, is_told};
 
-// Why a run has no text.
-type Refusal = ReallocationError;
+type Heap<P> = NonZeroInxVec<ArenaSlot<P, Node<P>>>;
 
-// A number, and a link.
-type Node = (u64, Option<P0>);
+type DirectHeap<P> = NonZeroInxVec<DirectSlot<P, Node<P>>>;
 
-// A pointer, by the numbers of its index and its generation.
-type At = (usize, u64);
+// Places that take no memory.
+type Places = NonZeroInxArray<ArenaSlot<P0, Node<P0>>, 4>;
 
-// An arena of these nodes, of which those at these indexes are removed then.
-fn graph(
-    alloc: Global,
-    nodes: &[(u64, Option<At>)],
-    gone: &[usize],
-) -> Result<Arena<P0, Node>, Refusal> {
-    let mut arena = Arena::new(alloc);
-    for (number, link) in nodes {
-        let link = link.map(|(i, g)| pointer(i, g));
-        put(&mut arena, (*number, link))?;
-    }
-    for at in gone {
-        drop(arena.remove(pointer(*at, 2)));
-    }
-    Ok(arena)
+type DirectPlaces = NonZeroInxArray<DirectSlot<P0, Node<P0>>, 4>;
+
+const NO_MEMORY: Told = Told::Refused(ReallocationError::AllocError);
+
+// A compaction, what it tells, and the texts of its answer and of the arena after it.
+#[derive(Clone, Copy)]
+struct Texts {
+    call: Compaction,
+    told: Told,
+    answer: &'static str,
+    arena: &'static str,
 }
 
-// Four nodes, of which the first and the third are removed.
-fn with_gaps(alloc: Global) -> Result<Arena<P0, Node>, Refusal> {
-    let nodes = [(0, None), (42, None), (1, None), (1337, Some((2, 2)))];
-    graph(alloc, &nodes, &[1, 3])
+impl NodeTrial for Texts {
+    fn on<A: Compacted>(&self, alloc: Global, arena: &mut A) -> Result<(), Wrong> {
+        let (told, answer) = arena.compacted(alloc, self.call);
+        is_told(0, told, self.told)?;
+        is_text(answer?.as_str(), self.answer)?;
+        is_text(arena.text(alloc)?.as_str(), self.arena)
+    }
+}
+
+// The first, and then the second on the same arena.
+#[derive(Clone, Copy)]
+struct BothTexts {
+    first: Texts,
+    second: Texts,
+}
+
+impl NodeTrial for BothTexts {
+    fn on<A: Compacted>(&self, alloc: Global, arena: &mut A) -> Result<(), Wrong> {
+        self.first.on(alloc, arena)?;
+        self.second.on(alloc, arena)
+    }
+}
+
+fn on_heap<T: NodeTrial>(
+    alloc: Global,
+    nodes: &[Named],
+    gone: &[usize],
+    trial: &T,
+) -> Result<(), Wrong> {
+    on_nodes::<P0, Heap<P0>, T>(alloc, nodes, gone, trial)
 }
 
 // The last of three nodes has a link that never was a node's pointer.
-fn with_a_dangling_link(alloc: Global) -> Result<Arena<P0, Node>, Refusal> {
-    let nodes = [(1, None), (2, Some((1, 2))), (3, Some((usize::MAX, 1)))];
-    graph(alloc, &nodes, &[])
+const DANGLING: [Named; 3] = [(1, NO_POINTER), (2, (1, 2)), (3, (usize::MAX, 1))];
+
+#[test]
+fn a_map_tells_the_new_pointers(rt: HostRuntime) -> Result<(), Fail> {
+    let first = Texts {
+        call: Compaction::Mapped(false),
+        told: Told::Done,
+        answer: "Ok(Success({P0[2](2): P0[1](5), P0[4](2): P0[2](5)}))",
+        arena: "{P0[1](5): (42, None), P0[2](5): (1337, Some(P0[1](5)))}",
+    };
+    let second = Texts {
+        call: Compaction::Mapped(true),
+        told: Told::Done,
+        answer: "Ok(Success({P0[1](5): P0[1](2), P0[2](5): P0[2](2)}))",
+        arena: "{P0[1](2): (42, None), P0[2](2): (1337, Some(P0[1](2)))}",
+    };
+    let nodes = [
+        (0, NO_POINTER),
+        (42, NO_POINTER),
+        (1, NO_POINTER),
+        (1337, (2, 2)),
+    ];
+    on_heap(rt.alloc(), &nodes, &[1, 3], &BothTexts { first, second })?;
+    Ok(())
 }
 
-// The answer of a compaction, and the arena after it, as a text.
-fn told<D: Debug, A: Debug>(alloc: Global, answer: &D, arena: &A) -> Result<String, Refusal> {
-    let text = format!(in alloc; "{answer:?}, {arena:?}")?;
-    Ok(text)
-}
-
-// The map of a compaction; then what recasting by it answers, and the arena.
-fn recast_after(
-    alloc: Global,
-    arena: &mut Arena<P0, Node>,
-    reset_generation: bool,
-) -> Result<String, Refusal> {
-    let answer = compress_recaster(arena, alloc, reset_generation)?;
-    let map = format!(in alloc; "{answer:?}")?;
-    let recast = arena.recast(&answer.allow());
-    let text = format!(in alloc; "{map}, {recast:?}, {arena:?}")?;
-    Ok(text)
-}
-
-fn recast_twice(alloc: Global) -> Result<(String, String), Refusal> {
-    let mut arena = with_gaps(alloc)?;
-    let first = recast_after(alloc, &mut arena, false)?;
-    let second = recast_after(alloc, &mut arena, true)?;
-    Ok((first, second))
-}
-
-fn recast_up_to_the_dangling_link(alloc: Global) -> Result<String, Refusal> {
-    let mut arena = with_a_dangling_link(alloc)?;
-    recast_after(alloc, &mut arena, false)
+#[test]
+fn recasting_by_a_map_ends_at_a_dangling_link(rt: HostRuntime) -> Result<(), Fail> {
+    let recast = Texts {
+        call: Compaction::Mapped(false),
+        told: Told::At(usize::MAX, 1),
+        answer: "Ok(Success({P0[1](2): P0[1](3), P0[2](2): P0[2](3), P0[3](2): P0[3](3)}))",
+        arena: "{P0[1](3): (1, None), P0[2](3): (2, Some(P0[1](3))), \
+            P0[3](3): (3, Some(P0[ffffffffffffffff](1)))}",
+    };
+    on_heap(rt.alloc(), &DANGLING, &[], &recast)?;
+    Ok(())
 }
 
 // Two nodes, the first of which has a link to the second, behind a gap: the new pointer of the
 // second is the old one of the first.
-fn renamed_once(alloc: Global) -> Result<String, Refusal> {
-    let nodes = [(10, None), (20, Some((3, 2))), (30, None)];
-    let mut arena = graph(alloc, &nodes, &[1])?;
-    let answer = compress_recast(&mut arena, alloc, true);
-    told(alloc, &answer, &arena)
-}
-
-fn unresolved(alloc: Global) -> Result<String, Refusal> {
-    let mut arena = with_a_dangling_link(alloc)?;
-    let answer = compress_recast(&mut arena, alloc, false);
-    let generation = arena.generation();
-    let text = format!(in alloc; "{answer:?}, {arena:?}, {generation}")?;
-    Ok(text)
-}
-
-// A direct arena of capacity 4 with these nodes.
-fn direct(
-    alloc: Global,
-    nodes: &[(At, (u64, Option<At>))],
-) -> Result<DirectArena<P0, Node>, Refusal> {
-    let mut arena: DirectArena<P0, Node> = match DirectArena::with_min_capacity(alloc, 4) {
-        Ok(arena) => arena,
-        Err(_refused) => return Err(ReallocationError::AllocError),
+#[test]
+fn each_link_is_renamed_once(rt: HostRuntime) -> Result<(), Fail> {
+    let renamed = Texts {
+        call: Compaction::Renamed(true),
+        told: Told::Done,
+        answer: "Ok(Success({P0[2](2): P0[1](2), P0[3](2): P0[2](2)}))",
+        arena: "{P0[1](2): (20, Some(P0[2](2))), P0[2](2): (30, None)}",
     };
-    for ((i, g), (number, link)) in nodes {
-        let link = link.map(|(i, g)| pointer(i, g));
-        let p = pointer(*i, *g);
-        put_under(&mut arena, p, (*number, link));
+    let nodes = [(10, NO_POINTER), (20, (3, 2)), (30, NO_POINTER)];
+    on_heap(rt.alloc(), &nodes, &[1], &renamed)?;
+    Ok(())
+}
+
+#[test]
+fn a_direct_arena_keeps_its_generations(rt: HostRuntime) -> Result<(), Fail> {
+    let renamed = Texts {
+        call: Compaction::Renamed(false),
+        told: Told::Done,
+        answer: "Ok(Success({P0[2](9): P0[1](9), P0[4](7): P0[2](7)}))",
+        arena: "{P0[1](9): (2, None), P0[2](7): (1, Some(P0[1](9)))}",
+    };
+    let nodes = [((4, 7), (1, (2, 9))), ((2, 9), (2, NO_POINTER))];
+    on_direct_nodes::<P0, DirectHeap<P0>, _>(rt.alloc(), &nodes, &renamed)?;
+    let compressed = Texts {
+        call: Compaction::Alone(true),
+        told: Told::Done,
+        answer: "Success(())",
+        arena: "{P0[1](9): (5, None)}",
+    };
+    let nodes = [((3, 9), (5, NO_POINTER))];
+    on_direct_nodes::<P0, DirectHeap<P0>, _>(rt.alloc(), &nodes, &compressed)?;
+    Ok(())
+}
+
+// A link that dangles refuses, and the counter is 2 as before.
+#[derive(Drop)]
+struct Dangles;
+
+impl NodeTrial for Dangles {
+    fn on<A: Compacted>(&self, alloc: Global, arena: &mut A) -> Result<(), Wrong> {
+        let before = arena.state();
+        let refused = Texts {
+            call: Compaction::Renamed(false),
+            told: Told::At(usize::MAX, 1),
+            answer: "Err(Unresolved(P0[ffffffffffffffff](1)))",
+            arena: "{P0[1](2): (1, None), P0[2](2): (2, Some(P0[1](2))), \
+                P0[3](2): (3, Some(P0[ffffffffffffffff](1)))}",
+        };
+        refused.on(alloc, arena)?;
+        is_told(0, Told::Generation(before.counter), Told::Generation(2))?;
+        stands_as(arena, &before)
     }
-    Ok(arena)
 }
 
-fn direct_renamed(alloc: Global) -> Result<String, Refusal> {
-    let nodes = [((4, 7), (1, Some((2, 9)))), ((2, 9), (2, None))];
-    let mut arena = direct(alloc, &nodes)?;
-    let answer = compress_recast(&mut arena, alloc, false);
-    told(alloc, &answer, &arena)
-}
-
-fn direct_compressed(alloc: Global) -> Result<String, Refusal> {
-    let mut arena = direct(alloc, &[((3, 9), (5, None))])?;
-    let answer = arena.compress(true);
-    told(alloc, &answer, &arena)
+#[test]
+fn a_dangling_link_refuses_and_nothing_changes(rt: HostRuntime) -> Result<(), Fail> {
+    on_heap(rt.alloc(), &DANGLING, &[], &Dangles)?;
+    Ok(())
 }
 
 // The entry of the greatest generation, after so many that came and went.
-fn at_the_end_of_the_counter(alloc: Global) -> Result<Arena<B, Option<B>>, Refusal> {
-    let mut arena = Arena::new(alloc);
-    for _time in 0..253 {
-        let p = put(&mut arena, None)?;
-        drop(arena.remove(p));
-    }
-    let last = put(&mut arena, None)?;
-    if let Some(link) = arena.get_mut(last) {
-        *link = Some(last);
-    }
-    Ok(arena)
+fn at_the_end_of_the_counter(alloc: Global, trial: &Texts) -> Result<(), Wrong> {
+    on_last_node::<B, Heap<B>, Texts>(alloc, 253, 255, trial)
 }
 
-fn wrapped(alloc: Global) -> Result<(bool, bool, Option<B>), Refusal> {
-    let mut arena = at_the_end_of_the_counter(alloc)?;
-    match compress_recast(&mut arena, alloc, false) {
-        Ok(answer) => {
-            let tells = answer.is_overflow();
-            let image = answer.allow().get(pointer(1, 255)).copied();
-            let link = arena.get(pointer(1, 2)).copied();
-            Ok((tells, image == Some(pointer(1, 2)), link.flatten()))
-        }
-        Err(_refused) => Err(ReallocationError::AllocError),
-    }
+#[test]
+fn a_compaction_tells_of_a_wrap(rt: HostRuntime) -> Result<(), Fail> {
+    let renamed = Texts {
+        call: Compaction::Renamed(false),
+        told: Told::Wrapped,
+        answer: "Ok(GenerationOverflow({PtrOf[1](ff): PtrOf[1](2)}))",
+        arena: "{PtrOf[1](2): (253, Some(PtrOf[1](2)))}",
+    };
+    at_the_end_of_the_counter(rt.alloc(), &renamed)?;
+    let mapped = Texts {
+        call: Compaction::Mapped(false),
+        told: Told::Done,
+        ..renamed
+    };
+    at_the_end_of_the_counter(rt.alloc(), &mapped)?;
+    // without a renaming the link stays
+    let compressed = Texts {
+        call: Compaction::Alone(false),
+        told: Told::Wrapped,
+        answer: "GenerationOverflow(())",
+        arena: "{PtrOf[1](2): (253, Some(PtrOf[1](ff)))}",
+    };
+    at_the_end_of_the_counter(rt.alloc(), &compressed)?;
+    Ok(())
 }
 
-// What both answer where there is no entry.
-fn without_entries(alloc: Global) -> Result<(String, String), Refusal> {
-    let mut arena: Arena<P0, Node> = Arena::new(alloc);
-    let first = compress_recaster(&mut arena, alloc, false);
-    let second = compress_recast(&mut arena, alloc, false);
-    let first = format!(in alloc; "{first:?}")?;
-    let second = format!(in alloc; "{second:?}")?;
-    Ok((first, second))
-}
-
-// Nodes in places that take no memory.
-type Placed = Arena<P0, Node, NonZeroInxArray<ArenaSlot<P0, Node>, 4>>;
-
-// Two nodes, the second behind a gap and with this link.
-fn placed(alloc: Global, link: At) -> Result<Placed, Refusal> {
-    let mut arena = Arena::new(alloc);
-    let (i, g) = link;
-    put(&mut arena, (1, None))?;
-    put(&mut arena, (2, None))?;
-    put(&mut arena, (3, Some(pointer(i, g))))?;
-    drop(arena.remove(pointer(2, 2)));
-    Ok(arena)
-}
-
-// What stands in each place, under which generation, and the counter.
-fn seen(arena: &Placed) -> ([Option<(u64, Node)>; 4], u64) {
-    let mut entries = [None; 4];
-    for (p, node) in arena.iter() {
-        if let Some(entry) = entries.get_mut(p.inx().get().saturating_sub(1)) {
-            *entry = Some((p.generation().get(), *node));
-        }
-    }
-    (entries, arena.generation().get())
-}
-
-// Compacts twice, and expects that the link refuses, or once memory, and that nothing changes.
-fn stays(rt: &impl Abort, alloc: Global, arena: &mut Placed, link: P0) {
-    let before = seen(arena);
-    let mut without_memory = false;
-    for _time in 0..2 {
-        match compress_recast(arena, alloc, false) {
-            Err(CompactError::Unresolved(p)) => assert_eq!(rt; p, link),
-            Err(CompactError::Reallocation(refusal)) => {
-                assert_eq!(rt; refusal, ReallocationError::AllocError);
-                assert!(rt; !without_memory);
-                without_memory = true;
-            }
-            Ok(_answer) => panic!(rt; "the link dangles"),
-        }
-        assert_eq!(rt; seen(arena), before);
-    }
-}
-
-// Compacts until it isn't refused: want of memory changes nothing.
-fn moves(rt: &impl Abort, alloc: Global, arena: &mut Placed) {
-    let before = seen(arena);
-    let mut refused = true;
-    for _time in 0..2 {
-        if refused {
-            assert_eq!(rt; seen(arena), before);
-            refused = compress_recast(arena, alloc, false).is_err();
-        }
-    }
-    assert!(rt; !refused);
-    let moved = seen(arena);
-    let expected = [
-        Some((4, (1, None))),
-        Some((4, (3, Some(pointer(1, 4))))),
-        None,
-        None,
-    ];
-    assert_eq!(rt; moved, (expected, 4));
-}
-
-// The run was done, and has this text.
-fn has_text(rt: &impl Abort, run: Result<String, Refusal>, expected: &str) {
-    match run {
-        Ok(text) => assert_eq!(rt; text.as_str(), expected),
-        Err(refusal) => panic!(rt; "refused: {refusal}"),
-    }
-}
-
-// The run was done, and has these two texts.
-fn has_texts(rt: &impl Abort, run: Result<(String, String), Refusal>, first: &str, second: &str) {
-    match run {
-        Ok(texts) => {
-            assert_eq!(rt; texts.0.as_str(), first);
-            assert_eq!(rt; texts.1.as_str(), second);
-        }
-        Err(refusal) => panic!(rt; "refused: {refusal}"),
+// That the arena is in this state.
+fn stands_as<A: Compacted>(arena: &A, state: &NodeState) -> Result<(), Wrong> {
+    if arena.state() == *state {
+        Ok(())
+    } else {
+        Err(Wrong::State(0))
     }
 }
 
 #[test]
-fn a_map_tells_the_new_pointers(rt: HostRuntime) {
-    let alloc = rt.alloc();
-    has_texts(
-        &rt,
-        recast_twice(alloc),
-        "Success({P0[2](2): P0[1](5), P0[4](2): P0[2](5)}), Ok(()), {P0[1](5): (42, None), P0[2](5): (1337, Some(P0[1](5)))}",
-        "Success({P0[1](5): P0[1](2), P0[2](5): P0[2](2)}), Ok(()), {P0[1](2): (42, None), P0[2](2): (1337, Some(P0[1](2)))}",
-    );
-    has_text(
-        &rt,
-        recast_up_to_the_dangling_link(alloc),
-        "Success({P0[1](2): P0[1](3), P0[2](2): P0[2](3), P0[3](2): P0[3](3)}), Err(P0[ffffffffffffffff](1)), {P0[1](3): (1, None), P0[2](3): (2, Some(P0[1](3))), P0[3](3): (3, Some(P0[ffffffffffffffff](1)))}",
-    );
+fn without_entries_the_map_is_empty(rt: HostRuntime) -> Result<(), Fail> {
+    let first = Texts {
+        call: Compaction::Mapped(false),
+        told: Told::Done,
+        answer: "Ok(Success({}))",
+        arena: "{}",
+    };
+    let second = Texts {
+        call: Compaction::Renamed(false),
+        ..first
+    };
+    let both = BothTexts { first, second };
+    on_heap(rt.alloc(), &[], &[], &both)?;
+    on_direct_nodes::<P0, DirectHeap<P0>, _>(rt.alloc(), &[], &both)?;
+    Ok(())
 }
 
-#[test]
-fn each_link_is_renamed_once(rt: HostRuntime) {
-    let alloc = rt.alloc();
-    has_text(
-        &rt,
-        renamed_once(alloc),
-        "Ok(Success({P0[2](2): P0[1](2), P0[3](2): P0[2](2)})), {P0[1](2): (20, Some(P0[2](2))), P0[2](2): (30, None)}",
-    );
-    has_text(
-        &rt,
-        direct_renamed(alloc),
-        "Ok(Success({P0[2](9): P0[1](9), P0[4](7): P0[2](7)})), {P0[1](9): (2, None), P0[2](7): (1, Some(P0[1](9)))}",
-    );
-    has_text(
-        &rt,
-        direct_compressed(alloc),
-        "Success(()), {P0[1](9): (5, None)}",
-    );
-}
+// Both compactions are done, whatever request for memory is refused.
+#[derive(Drop)]
+struct TakesNoMemory;
 
-#[test]
-fn a_dangling_link_refuses_and_nothing_changes(rt: HostRuntime) {
-    has_text(
-        &rt,
-        unresolved(rt.alloc()),
-        "Err(Unresolved(P0[ffffffffffffffff](1))), {P0[1](2): (1, None), P0[2](2): (2, Some(P0[1](2))), P0[3](2): (3, Some(P0[ffffffffffffffff](1)))}, 2",
-    );
-}
-
-#[test]
-fn a_compaction_tells_of_a_wrap(rt: HostRuntime) {
-    assert_eq!(rt; wrapped(rt.alloc()), Ok((true, true, Some(pointer(1, 2)))));
-}
-
-#[test]
-fn without_entries_nothing_is_asked_for(rt: HostRuntime) {
-    has_texts(
-        &rt,
-        without_entries(rt.alloc()),
-        "Ok(Success({}))",
-        "Ok(Success({}))",
-    );
+impl NodeTrial for TakesNoMemory {
+    fn on<A: Compacted>(&self, alloc: Global, arena: &mut A) -> Result<(), Wrong> {
+        let before = arena.state();
+        let (mapped, _text) = arena.compacted(alloc, Compaction::Mapped(false));
+        is_told(0, mapped, Told::Done)?;
+        let (renamed, _text) = arena.compacted(alloc, Compaction::Renamed(false));
+        is_told(1, renamed, Told::Done)?;
+        stands_as(arena, &before)
+    }
 }
 
 /// Holds with ample memory, and also where any one request for memory is refused
-/// (`rt try --test --fail-alloc N`): then a compaction answers so once, also where a link dangles,
-/// and nothing has changed.
+/// (`rt try --test --fail-alloc N`), as do all tests below.
 #[test]
-fn without_memory_nothing_changes(rt: HostRuntime) -> Result<(), Fail> {
-    let alloc = rt.alloc();
-    stays(&rt, alloc, &mut placed(alloc, (9, 9))?, pointer(9, 9));
-    moves(&rt, alloc, &mut placed(alloc, (1, 2))?);
+fn without_entries_no_memory_is_asked_for(rt: HostRuntime) -> Result<(), Fail> {
+    on_nodes::<P0, Places, _>(rt.alloc(), &[], &[], &TakesNoMemory)?;
+    on_direct_nodes::<P0, DirectPlaces, _>(rt.alloc(), &[], &TakesNoMemory)?;
+    Ok(())
+}
+
+// Compacts twice, and expects what is told, or once that memory is refused, and that nothing changes.
+#[derive(Clone, Copy)]
+struct RefusesTwice {
+    told: Told,
+}
+
+impl NodeTrial for RefusesTwice {
+    fn on<A: Compacted>(&self, alloc: Global, arena: &mut A) -> Result<(), Wrong> {
+        let before = arena.state();
+        let (first, _text) = arena.compacted(alloc, Compaction::Renamed(false));
+        stands_as(arena, &before)?;
+        let (second, _text) = arena.compacted(alloc, Compaction::Renamed(false));
+        stands_as(arena, &before)?;
+        if first == NO_MEMORY {
+            return is_told(1, second, self.told);
+        }
+        is_told(0, first, self.told)?;
+        if second == NO_MEMORY {
+            return Ok(());
+        }
+        is_told(1, second, self.told)
+    }
+}
+
+// Compacts until memory isn't refused, at most twice: a refusal changes nothing, and what stands at
+// last is this.
+#[derive(Clone, Copy)]
+struct MovesOnce {
+    call: Compaction,
+    after: NodeState,
+}
+
+impl NodeTrial for MovesOnce {
+    fn on<A: Compacted>(&self, alloc: Global, arena: &mut A) -> Result<(), Wrong> {
+        let before = arena.state();
+        let (first, _text) = arena.compacted(alloc, self.call);
+        if first == NO_MEMORY {
+            stands_as(arena, &before)?;
+            let (second, _text) = arena.compacted(alloc, self.call);
+            is_told(1, second, Told::Done)?;
+        } else {
+            is_told(0, first, Told::Done)?;
+        }
+        stands_as(arena, &self.after)
+    }
+}
+
+// Two nodes, the second behind a gap and with this link, in places that take no memory.
+fn on_places<T: NodeTrial>(alloc: Global, link: (usize, u64), trial: &T) -> Result<(), Wrong> {
+    let nodes = [(1, NO_POINTER), (2, NO_POINTER), (3, link)];
+    on_nodes::<P0, Places, T>(alloc, &nodes, &[2], trial)
+}
+
+// The same in a direct arena.
+fn on_direct_places<T: NodeTrial>(
+    alloc: Global,
+    link: (usize, u64),
+    trial: &T,
+) -> Result<(), Wrong> {
+    let nodes = [((1, 2), (1, NO_POINTER)), ((3, 7), (3, link))];
+    on_direct_nodes::<P0, DirectPlaces, T>(alloc, &nodes, trial)
+}
+
+#[test]
+fn without_memory_a_dangling_link_changes_nothing(rt: HostRuntime) -> Result<(), Fail> {
+    let trial = RefusesTwice {
+        told: Told::At(9, 9),
+    };
+    on_places(rt.alloc(), (9, 9), &trial)?;
+    on_direct_places(rt.alloc(), (9, 9), &trial)?;
+    Ok(())
+}
+
+// What stands in both arenas of two nodes after a compaction.
+const MOVED: NodeState = NodeState {
+    len: 2,
+    capacity: 4,
+    limit: Some(4),
+    counter: 4,
+    root: 0,
+    slots: 2,
+    places: [(4, (1, NO_POINTER)), (4, (3, (1, 4))), NO_PLACE, NO_PLACE],
+};
+
+const DIRECT_MOVED: NodeState = NodeState {
+    counter: 0,
+    places: [(2, (1, NO_POINTER)), (7, (3, (1, 2))), NO_PLACE, NO_PLACE],
+    ..MOVED
+};
+
+// That this compaction moves the nodes of both arenas so, or is refused memory and moves none.
+fn moves(alloc: Global, call: Compaction) -> Result<(), Wrong> {
+    on_places(alloc, (1, 2), &MovesOnce { call, after: MOVED })?;
+    let after = DIRECT_MOVED;
+    on_direct_places(alloc, (1, 2), &MovesOnce { call, after })
+}
+
+#[test]
+fn without_memory_nothing_moves(rt: HostRuntime) -> Result<(), Fail> {
+    moves(rt.alloc(), Compaction::Renamed(false))?;
+    Ok(())
+}
+
+#[test]
+fn without_memory_there_is_no_map(rt: HostRuntime) -> Result<(), Fail> {
+    moves(rt.alloc(), Compaction::Mapped(false))?;
+    Ok(())
+}
+
+// The first request for memory is that for the map, before any link is looked at.
+#[derive(Drop)]
+struct AsksFirst;
+
+impl NodeTrial for AsksFirst {
+    fn on<A: Compacted>(&self, alloc: Global, arena: &mut A) -> Result<(), Wrong> {
+        let before = arena.state();
+        let (told, answer) = arena.compacted(alloc, Compaction::Renamed(false));
+        stands_as(arena, &before)?;
+        if told == NO_MEMORY {
+            return is_text(answer?.as_str(), "Err(Reallocation(AllocError))");
+        }
+        is_told(0, told, Told::At(usize::MAX, 1))?;
+        is_text(answer?.as_str(), "Err(Unresolved(P0[ffffffffffffffff](1)))")
+    }
+}
+
+/// Holds also where the first request for memory is refused (`rt try --test --fail-alloc 1`): it is the
+/// compaction's, and not that for the text of its answer, as it would be if a dangling link came first.
+#[test]
+fn memory_comes_before_a_dangling_link(rt: HostRuntime) -> Result<(), Fail> {
+    on_nodes::<P0, Places, _>(rt.alloc(), &DANGLING, &[], &AsksFirst)?;
     Ok(())
 }

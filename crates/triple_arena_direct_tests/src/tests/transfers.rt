@@ -1,58 +1,159 @@
-//! Transfer into direct arenas.
+//! Transfer into direct arenas and out of them.
 
-use super::tested_direct::put;
+use super::tested_direct::{Direct, Heap, Limited, with_room};
 use std::alloc::Global;
-use std::num::NonZeroU64;
 use std::test::Fail;
-use triple_arena::{Arena, ArenaTrait};
-use triple_arena_base::ReallocationError;
+use triple_arena::{Arena, ArenaSlot, CompactArenaTrait};
+use triple_arena_base::{InvalidationOption, ReallocationError};
 use triple_arena_direct::{DirectArena, DirectSlot};
-use triple_arena_ptr::{P0, Q2};
-use triple_arena_stack::NonZeroInxLimitedVec;
+use triple_arena_ptr::{P0, Ptr, Q2};
+use triple_arena_stack::NonZeroInxGenericStack;
+use triple_arena_test_kit::{
+    Call, Heap as ArenaHeap, NO_ENTRY, Numbered, Removed, Steps, TestedArena, Token, Told, Trial,
+    Wrong, is_text, is_told, new_arena,
+};
 
-type Limited = NonZeroInxLimitedVec<DirectSlot<Q2, &'static str>>;
+// A value that was transferred, and a hundred more where its removal wrapped the counter.
+fn received(taken: InvalidationOption<Token>) -> Token {
+    match taken {
+        InvalidationOption::Success(token) => token,
+        InvalidationOption::GenerationOverflow(token) => Token {
+            number: token.number.wrapping_add(100),
+        },
+    }
+}
+
+/// What a transfer into a direct arena tells, under the generation of this number.
+pub fn transfer<
+    P: Ptr,
+    A: CompactArenaTrait<P, Token>,
+    Q: Ptr,
+    S: NonZeroInxGenericStack<DirectSlot<Q, Token>>,
+>(target: &mut DirectArena<Q, Token, S>, source: &mut A, number: u64) -> Told
+where
+    Q::Gen: Numbered,
+{
+    let Some(generation) = Q::Gen::of_number(number) else {
+        return Told::NoSuchCall;
+    };
+    let done = target.transfer_reallocating(
+        generation,
+        source,
+        |_old, taken, _new| received(taken),
+    );
+    match done {
+        Ok(()) => Told::Done,
+        Err(refused) => Told::Refused(refused),
+    }
+}
+
+// A transfer under generation 7: what it tells, and then what the target and the source answer.
+#[derive(Clone, Copy)]
+struct Transferred {
+    told: Told,
+    target: Steps,
+    source: Steps,
+}
+
+// A new direct arena is the target, over a stack.
+fn into_direct<
+    S: NonZeroInxGenericStack<DirectSlot<Q2, Token>> + Drop,
+    A: CompactArenaTrait<P0, Token>,
+>(alloc: Global, source: &mut A, expected: &Transferred) -> Result<(), Wrong> {
+    let mut target: Direct<Q2, S> = with_room(alloc, 0)?;
+    is_told(0, transfer(&mut target.arena, source, 7), expected.told)?;
+    expected.target.on(&mut target)
+}
 
 // Three entries, of which the first is removed.
-fn source(alloc: Global) -> Result<Arena<P0, &'static str>, ReallocationError> {
-    let mut arena = Arena::new(alloc);
-    let a = put(&mut arena, "a")?;
-    put(&mut arena, "b")?;
-    put(&mut arena, "c")?;
-    arena.remove(a).allow();
+const TWO_OF_THREE: Removed = Removed {
+    entries: 3,
+    removed: &[1],
+};
+
+fn two_of_three<S: NonZeroInxGenericStack<ArenaSlot<P0, Token>> + Drop>(
+    alloc: Global,
+) -> Result<Arena<P0, Token, S>, Wrong> {
+    let mut arena = new_arena(alloc);
+    TWO_OF_THREE.on(&mut arena)?;
     Ok(arena)
 }
 
-// Whether the entries stand from index 1 on under the new generation, and the source has none.
-fn renumbers(alloc: Global) -> Result<bool, ReallocationError> {
-    let mut source = source(alloc)?;
-    let mut target: DirectArena<Q2, &'static str> = DirectArena::new(alloc);
-    let seven = NonZeroU64::MIN.saturating_add(6);
-    target.transfer_reallocating(seven, &mut source, |_old, taken, _new| taken.allow())?;
-    let stands = format!(in alloc; "{target:?}")?.as_str() == r#"{Q2[1](7): "b", Q2[2](7): "c"}"#;
-    let next = put(&mut source, "d")?;
-    let goes_on = format!(in alloc; "{next}")?.as_str() == "P0[2](5)";
-    Ok(stands && target.capacity() == 2 && goes_on && source.len() == 1)
+// From an arena of these entries over the second stack.
+fn from_an_arena<
+    S: NonZeroInxGenericStack<DirectSlot<Q2, Token>> + Drop,
+    R: NonZeroInxGenericStack<ArenaSlot<P0, Token>> + Drop,
+>(alloc: Global, expected: &Transferred) -> Result<(), Wrong> {
+    let mut source: Arena<P0, Token, R> = two_of_three(alloc)?;
+    into_direct::<S, Arena<P0, Token, R>>(alloc, &mut source, expected)?;
+    expected.source.on(&mut source)
 }
 
 #[test]
 fn a_transfer_renumbers_and_empties_its_source(rt: HostRuntime) -> Result<(), Fail> {
-    assert!(rt; renumbers(rt.alloc())?);
+    let expected = Transferred {
+        told: Told::Done,
+        target: Steps(&[
+            (Call::Entries, Told::Met((1, 7, 2), (2, 7, 3), NO_ENTRY)),
+            (Call::Bounds, Told::Bounds(2, 2, None)),
+        ]),
+        source: Steps(&[
+            (Call::IsEmpty, Told::Is(true)),
+            (Call::Generation, Told::Generation(5)),
+            (Call::Insert(4), Told::At(2, 5)),
+            (Call::Entries, Told::Met((2, 5, 4), NO_ENTRY, NO_ENTRY)),
+        ]),
+    };
+    from_an_arena::<Heap<Q2>, ArenaHeap<P0>>(rt.alloc(), &expected)?;
     Ok(())
-}
-
-// Whether both arenas stay as they are where the limit is below the number of entries.
-fn refused(alloc: Global) -> Result<bool, ReallocationError> {
-    let mut source = source(alloc)?;
-    let mut target: DirectArena<Q2, &'static str, Limited> = DirectArena::new(alloc);
-    let answer = target.transfer_reallocating(NonZeroU64::MIN, &mut source, |_old, taken, _new| {
-        taken.allow()
-    });
-    let beyond = matches!(answer, Err(ReallocationError::BeyondMaxCapacity));
-    Ok(beyond && target.len() == 0 && source.len() == 2 && source.generation().get() == 3)
 }
 
 #[test]
 fn a_transfer_past_the_limit_is_refused(rt: HostRuntime) -> Result<(), Fail> {
-    assert!(rt; refused(rt.alloc())?);
+    let expected = Transferred {
+        told: Told::Refused(ReallocationError::BeyondMaxCapacity),
+        target: Steps(&[(Call::Bounds, Told::Bounds(0, 0, Some(0)))]),
+        source: Steps(&[
+            (Call::Entries, Told::Met((2, 2, 2), (3, 2, 3), NO_ENTRY)),
+            (Call::Generation, Told::Generation(3)),
+        ]),
+    };
+    from_an_arena::<Limited<Q2>, ArenaHeap<P0>>(rt.alloc(), &expected)?;
+    Ok(())
+}
+
+// Two entries with gaps, one of them under the greatest generation.
+const WITH_GAPS: Steps = Steps(&[
+    (Call::DirectInsert(4, u64::MAX, 40), Told::Holds(40)),
+    (Call::DirectInsert(2, 2, 20), Told::Holds(20)),
+]);
+
+// From a direct arena of these entries over the second stack.
+fn from_a_direct_one<
+    S: NonZeroInxGenericStack<DirectSlot<Q2, Token>> + Drop,
+    R: NonZeroInxGenericStack<DirectSlot<P0, Token>> + Drop,
+>(alloc: Global, expected: &Transferred) -> Result<(), Wrong> {
+    let mut source: Direct<P0, R> = with_room(alloc, 4)?;
+    WITH_GAPS.on(&mut source)?;
+    into_direct::<S, DirectArena<P0, Token, R>>(alloc, &mut source.arena, expected)?;
+    expected.source.on(&mut source)
+}
+
+// No removal from a direct arena wraps, and each leaves a free slot.
+#[test]
+fn a_transfer_leaves_the_slots_of_a_direct_arena(rt: HostRuntime) -> Result<(), Fail> {
+    let expected = Transferred {
+        told: Told::Done,
+        target: Steps(&[
+            (Call::Entries, Told::Met((1, 7, 20), (2, 7, 40), NO_ENTRY)),
+            (Call::Bounds, Told::Bounds(2, 2, None)),
+        ]),
+        source: Steps(&[
+            (Call::Bounds, Told::Bounds(0, 4, None)),
+            (Call::Slots, Told::Size(4)),
+            (Call::PopFreeEnd(9), Told::Size(4)),
+        ]),
+    };
+    from_a_direct_one::<Heap<Q2>, Heap<P0>>(rt.alloc(), &expected)?;
     Ok(())
 }

@@ -1,0 +1,372 @@
+//! Arenas of nodes that hold links, and what each compaction of them answers.
+
+use super::tested_direct::{put, put_under};
+use std::alloc::{AllocError, Global};
+use std::fmt::Debug;
+use std::num::NonZeroUsize;
+use triple_arena::{Arena, ArenaSlot, ArenaTrait, CompactArenaTrait};
+use triple_arena_base::{CompactError, InvalidationOption, ReallocationError, Recast, Recaster};
+use triple_arena_direct::{DirectArena, DirectSlot, compress_recast, compress_recaster};
+use triple_arena_ptr::Ptr;
+use triple_arena_stack::NonZeroInxGenericStack;
+use triple_arena_test_kit::{NO_POINTER, Numbered, Told, Wrong, index_number, inx, pointer};
+
+/// A number, and a link.
+pub type Node<P> = (u64, Option<P>);
+
+/// A node by its number and those of its link, `NO_POINTER` where it has none.
+pub type Named = (u64, (usize, u64));
+
+fn node<P: Ptr>(named: Named) -> Node<P>
+where
+    P::Gen: Numbered,
+{
+    let (number, (index, generation)) = named;
+    if (index, generation) == NO_POINTER {
+        return (number, None);
+    }
+    (number, Some(pointer(index, generation)))
+}
+
+fn numbers_of<P: Ptr>(p: P) -> (usize, u64)
+where
+    P::Gen: Numbered,
+{
+    (index_number(p.inx()), p.generation().told_number())
+}
+
+/// A call that compacts; with true it resets the counter.
+#[derive(Clone, Copy)]
+pub enum Compaction {
+    /// By `compress`.
+    Alone(bool),
+    /// By `compress_recaster`, after which the arena is recast by the map.
+    Mapped(bool),
+    /// By `compress_recast`.
+    Renamed(bool),
+}
+
+/// What a compaction tells, of a link without an entry its numbers; and the text of the answer, where
+/// there is memory for that.
+pub type Answer = (Told, Result<String, AllocError>);
+
+fn text_of<D: Debug>(alloc: Global, shown: &D) -> Result<String, AllocError> {
+    format!(in alloc; "{shown:?}")
+}
+
+fn told_wrap<M>(answer: &InvalidationOption<M>) -> Told {
+    match answer {
+        InvalidationOption::Success(_) => Told::Done,
+        InvalidationOption::GenerationOverflow(_) => Told::Wrapped,
+    }
+}
+
+fn told_link<P: Ptr>(p: P) -> Told
+where
+    P::Gen: Numbered,
+{
+    let (index, generation) = numbers_of(p);
+    Told::At(index, generation)
+}
+
+fn alone<P: Ptr, T, A: CompactArenaTrait<P, T>>(
+    arena: &mut A,
+    alloc: Global,
+    reset_generation: bool,
+) -> Answer {
+    let answer = arena.compress(reset_generation);
+    (told_wrap(&answer), text_of(alloc, &answer))
+}
+
+// What the recasting of an arena by the map of a compaction tells, and the text of the compaction.
+fn recast_by<P: Ptr, A: Recast<P>, M: Recaster<Item = P> + Debug + Drop>(
+    arena: &mut A,
+    alloc: Global,
+    answer: Result<InvalidationOption<M>, ReallocationError>,
+) -> Answer
+where
+    P::Gen: Numbered,
+{
+    let text = text_of(alloc, &answer);
+    let told = match answer {
+        Ok(answer) => match arena.recast(&answer.allow()) {
+            Ok(()) => Told::Done,
+            Err(p) => told_link(p),
+        },
+        Err(refused) => Told::Refused(refused),
+    };
+    (told, text)
+}
+
+fn mapped<P: Ptr, T, A: CompactArenaTrait<P, T> + Recast<P>>(
+    arena: &mut A,
+    alloc: Global,
+    reset_generation: bool,
+) -> Answer
+where
+    P::Gen: Numbered,
+{
+    let answer = compress_recaster(arena, alloc, reset_generation);
+    recast_by(arena, alloc, answer)
+}
+
+fn told_renaming<P: Ptr, M: Debug + Drop>(
+    alloc: Global,
+    answer: Result<InvalidationOption<M>, CompactError<P>>,
+) -> Answer
+where
+    P::Gen: Numbered,
+{
+    let text = text_of(alloc, &answer);
+    let told = match answer {
+        Ok(answer) => told_wrap(&answer),
+        Err(CompactError::Unresolved(p)) => told_link(p),
+        Err(CompactError::Reallocation(refused)) => Told::Refused(refused),
+    };
+    (told, text)
+}
+
+fn renamed<P: Ptr, T: Recast<P>, A: CompactArenaTrait<P, T>>(
+    arena: &mut A,
+    alloc: Global,
+    reset_generation: bool,
+) -> Answer
+where
+    P::Gen: Numbered,
+{
+    told_renaming(alloc, compress_recast(arena, alloc, reset_generation))
+}
+
+// What a compaction answers of any compact arena that can be recast.
+fn answer<P: Ptr, T: Recast<P>, A: CompactArenaTrait<P, T> + Recast<P>>(
+    arena: &mut A,
+    alloc: Global,
+    call: Compaction,
+) -> Answer
+where
+    P::Gen: Numbered,
+{
+    match call {
+        Compaction::Alone(reset_generation) => alone(arena, alloc, reset_generation),
+        Compaction::Mapped(reset_generation) => mapped(arena, alloc, reset_generation),
+        Compaction::Renamed(reset_generation) => renamed(arena, alloc, reset_generation),
+    }
+}
+
+// How many slots of an arena of nodes are shown.
+const PLACES: usize = 4;
+
+/// What stands in a slot: generation and node; of a free slot that has a next one the index of that.
+pub type Place = (u64, Named);
+
+/// What stands where there is no slot, and in the last free one.
+pub const NO_PLACE: Place = (0, (0, NO_POINTER));
+
+/// The whole state of an arena of no more than four slots; 0 stands for a counter or a free index that
+/// isn't there.
+#[derive(Clone, Copy, PartialEq)]
+pub struct NodeState {
+    pub len: usize,
+    pub capacity: usize,
+    pub limit: Option<usize>,
+    pub counter: u64,
+    pub root: usize,
+    pub slots: usize,
+    pub places: [Place; PLACES],
+}
+
+// What an entry shows.
+fn shown<P: Ptr>(generation: P::Gen, node: Node<P>) -> Place
+where
+    P::Gen: Numbered,
+{
+    let (number, link) = node;
+    let link = match link {
+        Some(p) => numbers_of(p),
+        None => NO_POINTER,
+    };
+    (generation.told_number(), (number, link))
+}
+
+fn arena_place<P: Ptr>(slots: &[ArenaSlot<P, Node<P>>], at: usize) -> Place
+where
+    P::Gen: Numbered,
+{
+    match slots.get(at) {
+        Some(ArenaSlot::Allocated(generation, node)) => shown(*generation, *node),
+        Some(ArenaSlot::Free(link)) => {
+            match link.after(NonZeroUsize::MIN.saturating_add(at)) {
+                Some(next) => (0, (0, (next.get(), 0))),
+                None => NO_PLACE,
+            }
+        }
+        None => NO_PLACE,
+    }
+}
+
+fn direct_place<P: Ptr>(slots: &[DirectSlot<P, Node<P>>], at: usize) -> Place
+where
+    P::Gen: Numbered,
+{
+    match slots.get(at) {
+        Some(DirectSlot::Allocated(generation, node)) => shown(*generation, *node),
+        _ => NO_PLACE,
+    }
+}
+
+/// An arena of nodes that compactions are tried on.
+pub trait Compacted {
+    /// What a compaction answers.
+    fn compacted(&mut self, alloc: Global, call: Compaction) -> Answer;
+
+    /// The whole state.
+    fn state(&self) -> NodeState;
+
+    /// The text of the arena.
+    fn text(&self, alloc: Global) -> Result<String, AllocError>;
+}
+
+impl<P: Ptr, S: NonZeroInxGenericStack<ArenaSlot<P, Node<P>>>> Compacted for Arena<P, Node<P>, S>
+where
+    P::Gen: Numbered,
+{
+    fn compacted(&mut self, alloc: Global, call: Compaction) -> Answer {
+        answer::<P, Node<P>, Arena<P, Node<P>, S>>(self, alloc, call)
+    }
+
+    fn state(&self) -> NodeState {
+        let slots = self.backing().as_slice();
+        let mut places = [NO_PLACE; PLACES];
+        for at in 0..PLACES {
+            places[at] = arena_place(slots, at);
+        }
+        NodeState {
+            len: self.len(),
+            capacity: self.capacity(),
+            limit: self.max_capacity(),
+            counter: self.generation().told_number(),
+            root: match self.freelist_root() {
+                Some(inx) => index_number(inx),
+                None => 0,
+            },
+            slots: slots.len(),
+            places,
+        }
+    }
+
+    fn text(&self, alloc: Global) -> Result<String, AllocError> {
+        text_of(alloc, self)
+    }
+}
+
+impl<P: Ptr, S: NonZeroInxGenericStack<DirectSlot<P, Node<P>>>> Compacted
+    for DirectArena<P, Node<P>, S>
+where
+    P::Gen: Numbered,
+{
+    fn compacted(&mut self, alloc: Global, call: Compaction) -> Answer {
+        answer::<P, Node<P>, DirectArena<P, Node<P>, S>>(self, alloc, call)
+    }
+
+    fn state(&self) -> NodeState {
+        let slots = self.backing().as_slice();
+        let mut places = [NO_PLACE; PLACES];
+        for at in 0..PLACES {
+            places[at] = direct_place(slots, at);
+        }
+        NodeState {
+            len: self.len(),
+            capacity: self.capacity(),
+            limit: self.max_capacity(),
+            counter: 0,
+            root: 0,
+            slots: slots.len(),
+            places,
+        }
+    }
+
+    fn text(&self, alloc: Global) -> Result<String, AllocError> {
+        text_of(alloc, self)
+    }
+}
+
+/// What is tried on an arena of nodes.
+pub trait NodeTrial {
+    /// Tries it, and tells the first thing that is wrong.
+    fn on<A: Compacted>(&self, alloc: Global, arena: &mut A) -> Result<(), Wrong>;
+}
+
+// Puts a node into an arena.
+fn put_node<P: Ptr, S: NonZeroInxGenericStack<ArenaSlot<P, Node<P>>>>(
+    arena: &mut Arena<P, Node<P>, S>,
+    named: Named,
+) -> Result<(), Wrong>
+where
+    P::Gen: Numbered,
+{
+    match put(arena, node(named)) {
+        Ok(_p) => Ok(()),
+        Err(_refused) => Err(Wrong::NoMemory),
+    }
+}
+
+/// Tries it on a new arena of these nodes, of which those at these indexes are removed then.
+pub fn on_nodes<P: Ptr, S: NonZeroInxGenericStack<ArenaSlot<P, Node<P>>> + Drop, T: NodeTrial>(
+    alloc: Global,
+    nodes: &[Named],
+    gone: &[usize],
+    trial: &T,
+) -> Result<(), Wrong>
+where
+    P::Gen: Numbered,
+{
+    let mut arena: Arena<P, Node<P>, S> = Arena::new(alloc);
+    for named in nodes {
+        put_node(&mut arena, *named)?;
+    }
+    for index in gone {
+        drop(arena.remove(pointer(*index, 2)));
+    }
+    trial.on(alloc, &mut arena)
+}
+
+/// The same on one whose only node, after so many that came and went, has a link to itself under this
+/// generation.
+pub fn on_last_node<P: Ptr, S: NonZeroInxGenericStack<ArenaSlot<P, Node<P>>> + Drop, T: NodeTrial>(
+    alloc: Global,
+    times: u64,
+    generation: u64,
+    trial: &T,
+) -> Result<(), Wrong>
+where
+    P::Gen: Numbered,
+{
+    let mut arena: Arena<P, Node<P>, S> = Arena::new(alloc);
+    for time in 0..times {
+        put_node(&mut arena, (time, NO_POINTER))?;
+        drop(arena.remove_inx(inx(1)));
+    }
+    put_node(&mut arena, (times, (1, generation)))?;
+    trial.on(alloc, &mut arena)
+}
+
+/// The same on a direct arena of capacity 4, of nodes under these pointers.
+pub fn on_direct_nodes<
+    P: Ptr,
+    S: NonZeroInxGenericStack<DirectSlot<P, Node<P>>> + Drop,
+    T: NodeTrial,
+>(alloc: Global, nodes: &[((usize, u64), Named)], trial: &T) -> Result<(), Wrong>
+where
+    P::Gen: Numbered,
+{
+    let mut arena: DirectArena<P, Node<P>, S> = match DirectArena::with_min_capacity(
+        alloc, PLACES,
+    ) {
+        Ok(arena) => arena,
+        Err(_refused) => return Err(Wrong::NoMemory),
+    };
+    for ((index, generation), named) in nodes {
+        put_under(&mut arena, pointer(*index, *generation), node(*named));
+    }
+    trial.on(alloc, &mut arena)
+}

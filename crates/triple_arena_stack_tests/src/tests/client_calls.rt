@@ -1,38 +1,25 @@
 //! The client's calls, on each of the four stacks.
 
-use super::calls::{Told, Wrong, inx, is_told, told_lent, told_push, told_token};
+use super::any_stack::answer_without_items;
+use super::calls::{
+    Call, Tested, Told, Wrong, both, follow, inx, is_told, told_lent, told_push, told_refusal,
+};
 use super::client::{
     Holding, Slot, empty, exchange, free, is_at_limit, made, overwrite, put, put_growing, put_over,
     reserve, take_last, take_value,
 };
-use super::token::Token;
+use super::items::Token;
 use std::alloc::Global;
-use std::test::Fail;
+use triple_arena_base::NotWithinCapacityError;
 use triple_arena_stack::{
-    ArrayStack, FixedStack, HeapStack, LimitedStack, NonZeroInxGenericStack, NonZeroInxStack,
+    NonZeroInxArray, NonZeroInxBoxedSlice, NonZeroInxGenericStack, NonZeroInxLimitedVec,
+    NonZeroInxVec,
 };
-
-// A call of the client; a token is given by its number, and an index by its number.
-#[derive(Clone, Copy)]
-enum Call {
-    Put(u64),
-    PutGrowing(u64),
-    PutOver(u64, usize),
-    Exchange(usize, usize),
-    TakeValue(usize, usize),
-    Free(usize, usize),
-    TakeLast,
-    Overwrite(usize, u64),
-    Reserve(usize),
-    Empty,
-    IsEmpty,
-    IsAtLimit,
-}
 
 fn told_put<S: NonZeroInxGenericStack<Slot<Token>>>(slots: &mut S, number: u64) -> Told {
     match put(slots, Token { number }) {
         Ok(inx) => Told::At(inx.get()),
-        Err(_) => Told::NotWithinCapacity,
+        Err(NotWithinCapacityError) => Told::NotWithinCapacity,
     }
 }
 
@@ -45,8 +32,7 @@ fn told_put_over<S: NonZeroInxGenericStack<Slot<Token>>>(
     number: u64,
     next: usize,
 ) -> Told {
-    let (len, capacity) = (slots.len(), slots.capacity());
-    if len < capacity {
+    if slots.len() < slots.capacity() {
         Told::At(put_over(slots, Token { number }, next).get())
     } else {
         Told::NotWithinCapacity
@@ -64,100 +50,122 @@ fn told_last<S: NonZeroInxGenericStack<Slot<Token>>>(slots: &mut S) -> Told {
 fn told_reserve<S: NonZeroInxGenericStack<Slot<Token>>>(slots: &mut S, asked: usize) -> Told {
     match reserve(slots, asked) {
         Ok(capacity) => Told::Size(capacity),
-        Err(refused) => Told::Refused(refused),
+        Err(refused) => told_refusal(refused),
     }
 }
 
-// Makes a call.
-fn told<S: NonZeroInxGenericStack<Slot<Token>>>(holding: &mut Holding<S>, call: Call) -> Told {
+// Takes the value of a slot, which becomes free.
+fn told_value<S: NonZeroInxGenericStack<Slot<Token>>>(
+    slots: &mut S,
+    number: usize,
+    next: usize,
+) -> Told {
+    match take_value(slots, inx(number), next) {
+        Some(token) => Told::Holds(token.number),
+        None => Told::Nothing,
+    }
+}
+
+fn told_free<S: NonZeroInxGenericStack<Slot<Token>>>(
+    slots: &mut S,
+    number: usize,
+    next: usize,
+) -> Told {
+    free(slots, inx(number), next);
+    Told::Nothing
+}
+
+fn told_empty<S: NonZeroInxGenericStack<Slot<Token>>>(slots: &mut S) -> Told {
+    empty(slots);
+    Told::Nothing
+}
+
+// What a call answers of the slots.
+fn slots_answer<S: NonZeroInxGenericStack<Slot<Token>>>(slots: &mut S, call: Call) -> Told {
     match call {
-        Call::Put(number) => told_put(&mut holding.slots, number),
-        Call::PutGrowing(number) => told_put_growing(&mut holding.slots, number),
-        Call::PutOver(number, next) => told_put_over(&mut holding.slots, number, next),
-        Call::Exchange(first, second) => {
-            told_lent(exchange(&mut holding.slots, inx(first), inx(second)))
-        }
-        Call::TakeValue(number, next) => {
-            told_token(take_value(&mut holding.slots, inx(number), next))
-        }
-        Call::Free(number, next) => {
-            free(&mut holding.slots, inx(number), next);
-            Told::Nothing
-        }
-        Call::TakeLast => told_last(&mut holding.slots),
-        Call::Overwrite(place, number) => {
-            Told::Is(overwrite(holding, inx(place), Token { number }))
-        }
-        Call::Reserve(asked) => told_reserve(&mut holding.slots, asked),
-        Call::Empty => {
-            empty(&mut holding.slots);
-            Told::Nothing
-        }
-        Call::IsEmpty => Told::Is(holding.slots.is_empty()),
-        Call::IsAtLimit => Told::Is(is_at_limit(&holding.slots)),
+        Call::Put(number) => told_put(slots, number),
+        Call::PutGrowing(number) => told_put_growing(slots, number),
+        Call::PutOver(number, next) => told_put_over(slots, number, next),
+        Call::Exchange(first, second) => told_lent(exchange(slots, inx(first), inx(second))),
+        Call::TakeValue(number, next) => told_value(slots, number, next),
+        Call::Free(number, next) => told_free(slots, number, next),
+        Call::TakeLast => told_last(slots),
+        Call::Reserve(asked) => told_reserve(slots, asked),
+        Call::Empty => told_empty(slots),
+        Call::IsAtLimit => Told::Is(is_at_limit(slots)),
+        _ => answer_without_items(slots, call),
     }
 }
 
-// Makes each call on slots with two places, and expects its answer, and at the end whether they are
-// at their limit.
-fn follow<K: NonZeroInxGenericStack<Slot<Token>> + Drop>(
+impl<S: NonZeroInxGenericStack<Slot<Token>>> Tested for Holding<S> {
+    fn answer(&mut self, call: Call) -> Told {
+        match call {
+            Call::Overwrite(place, number) => {
+                Told::Is(overwrite(self, inx(place), Token { number }))
+            }
+            _ => slots_answer(&mut self.slots, call),
+        }
+    }
+}
+
+// Each call of the client but `overwrite`.
+const EACH_CALL: &[(Call, Told)] = &[
+    (Call::Put(1), Told::At(1)),
+    (Call::PutGrowing(2), Told::At(2)),
+    (Call::Put(3), Told::NotWithinCapacity),
+    (Call::Exchange(1, 2), Told::Nothing),
+    (Call::TakeValue(1, 1), Told::Holds(2)),
+    (Call::TakeValue(1, 1), Told::Nothing),
+    (Call::Free(2, 1), Told::Nothing),
+    (Call::TakeValue(2, 1), Told::Nothing),
+    (Call::TakeLast, Told::Size(1)),
+    (Call::PutOver(4, 7), Told::At(2)),
+    (Call::TakeValue(2, 1), Told::Nothing),
+    (Call::Reserve(2), Told::Size(2)),
+    (Call::Empty, Told::Nothing),
+    (Call::IsEmpty, Told::Is(true)),
+];
+
+const OVERWRITE: &[(Call, Told)] = &[
+    (Call::Overwrite(1, 5), Told::Is(false)),
+    (Call::Put(6), Told::At(1)),
+    (Call::Overwrite(1, 7), Told::Is(true)),
+    (Call::TakeValue(1, 1), Told::Holds(7)),
+    (Call::Overwrite(1, 8), Told::Is(false)),
+];
+
+// Makes each call on slots with two places and this limit, and expects its answer, and at the end
+// whether they are at their limit.
+fn follow_at<S: NonZeroInxGenericStack<Slot<Token>> + Drop>(
     alloc: Global,
-    at_limit: bool,
+    limit: Told,
     steps: &[(Call, Told)],
 ) -> Result<(), Wrong> {
-    let mut holding: Holding<NonZeroInxStack<Slot<Token>, K>> = Holding {
-        slots: made(alloc, 2),
-    };
-    for (place, (call, expected)) in steps.iter().enumerate() {
-        let answer = told(&mut holding, *call);
-        is_told(place, answer, *expected)?;
-    }
-    let answer = told(&mut holding, Call::IsAtLimit);
-    is_told(steps.len(), answer, Told::Is(at_limit))
+    let slots: S = made(alloc, 2);
+    let mut holding = Holding { slots };
+    follow(&mut holding, limit, steps)?;
+    let at_limit = holding.answer(Call::IsAtLimit);
+    is_told(steps.len(), at_limit, Told::Is(limit != Told::Nothing))
 }
 
-fn each_call<K: NonZeroInxGenericStack<Slot<Token>> + Drop>(
+fn each_call<S: NonZeroInxGenericStack<Slot<Token>> + Drop>(
     alloc: Global,
-    at_limit: bool,
+    limit: Told,
 ) -> Result<(), Wrong> {
-    follow::<K>(
-        alloc,
-        at_limit,
-        &[
-            (Call::Put(1), Told::At(1)),
-            (Call::PutGrowing(2), Told::At(2)),
-            (Call::Put(3), Told::NotWithinCapacity),
-            (Call::Exchange(1, 2), Told::Nothing),
-            (Call::TakeValue(1, 1), Told::Holds(2)),
-            (Call::TakeValue(1, 1), Told::Nothing),
-            (Call::Free(2, 1), Told::Nothing),
-            (Call::TakeValue(2, 1), Told::Nothing),
-            (Call::TakeLast, Told::Size(1)),
-            (Call::PutOver(4, 7), Told::At(2)),
-            (Call::TakeValue(2, 1), Told::Nothing),
-            (Call::Reserve(2), Told::Size(2)),
-            (Call::Empty, Told::Nothing),
-            (Call::IsEmpty, Told::Is(true)),
-        ],
-    )?;
-    follow::<K>(
-        alloc,
-        at_limit,
-        &[
-            (Call::Overwrite(1, 5), Told::Is(false)),
-            (Call::Put(6), Told::At(1)),
-            (Call::Overwrite(1, 7), Told::Is(true)),
-            (Call::TakeValue(1, 1), Told::Holds(7)),
-            (Call::Overwrite(1, 8), Told::Is(false)),
-        ],
-    )
+    follow_at::<S>(alloc, limit, EACH_CALL)?;
+    follow_at::<S>(alloc, limit, OVERWRITE)
 }
 
 #[test]
-fn the_client_on_each_stack(rt: HostRuntime) -> Result<(), Fail> {
-    each_call::<HeapStack<Slot<Token>>>(rt.alloc(), false)?;
-    each_call::<LimitedStack<Slot<Token>>>(rt.alloc(), true)?;
-    each_call::<FixedStack<Slot<Token>>>(rt.alloc(), true)?;
-    each_call::<ArrayStack<Slot<Token>, 2>>(rt.alloc(), true)?;
-    Ok(())
+fn the_client_on_each_stack(rt: HostRuntime) -> Result<(), Wrong> {
+    both(
+        both(
+            each_call::<NonZeroInxVec<Slot<Token>>>(rt.alloc(), Told::Nothing),
+            each_call::<NonZeroInxLimitedVec<Slot<Token>>>(rt.alloc(), Told::Size(2)),
+        ),
+        both(
+            each_call::<NonZeroInxBoxedSlice<Slot<Token>>>(rt.alloc(), Told::Size(2)),
+            each_call::<NonZeroInxArray<Slot<Token>, 2>>(rt.alloc(), Told::Size(2)),
+        ),
+    )
 }

@@ -1,0 +1,197 @@
+//! The four stacks, as tables of calls are tried on them.
+
+use super::any_stack::{answer_of_any, set_max_capacity};
+use super::calls::{Call, Tested, Told, Wrong, follow};
+use super::entry_calls::{LetGo, PushThenWrite, answer_of_entry, told_index, told_written};
+use super::items::{Items, Token, Tokens};
+use std::alloc::Global;
+use triple_arena_base::AllocError;
+use triple_arena_stack::{
+    ArrayStack, FixedStack, HeapStack, LimitedStack, NonZeroInxGenericStack, NonZeroInxStack,
+    SetMaxCapacity,
+};
+
+// What a call answers of a `NonZeroInxStack`.
+fn stack_answer<T: Drop, K: NonZeroInxGenericStack<T>, M: Items<T>>(
+    stack: &mut NonZeroInxStack<T, K>,
+    items: &M,
+    call: Call,
+) -> Told {
+    match call {
+        Call::Enter | Call::EnterReallocating | Call::EnterWithinCapacity => {
+            answer_of_entry(stack, &LetGo, call)
+        }
+        Call::EntryPush(pushed, written)
+        | Call::EntryPushReallocating(pushed, written)
+        | Call::EntryPushWithinCapacity(pushed, written) => {
+            let entry_use = PushThenWrite {
+                items,
+                pushed,
+                written,
+            };
+            answer_of_entry(stack, &entry_use, call)
+        }
+        Call::IndexOfEntry => told_index(stack),
+        Call::PushAndWrite(first, second) => {
+            told_written(stack, items.item(first), items.item(second))
+        }
+        _ => answer_of_any(stack, items, call),
+    }
+}
+
+// A stack and the items that are put on it.
+#[derive(Drop)]
+struct Holding<T, K, M> {
+    stack: NonZeroInxStack<T, K>,
+    items: M,
+}
+
+impl<T: Drop, K: NonZeroInxGenericStack<T>, M: Items<T>> Tested for Holding<T, K, M> {
+    fn answer(&mut self, call: Call) -> Told {
+        stack_answer(&mut self.stack, &self.items, call)
+    }
+}
+
+// The same where the limit can be set.
+#[derive(Drop)]
+struct WithLimit<T, K, M> {
+    stack: NonZeroInxStack<T, K>,
+    items: M,
+}
+
+impl<T: Drop, K: SetMaxCapacity<T>, M: Items<T>> Tested for WithLimit<T, K, M> {
+    fn answer(&mut self, call: Call) -> Told {
+        match call {
+            Call::SetMaxCapacity(limit) => set_max_capacity(&mut self.stack, limit),
+            _ => stack_answer(&mut self.stack, &self.items, call),
+        }
+    }
+}
+
+// A stack with this room, or as `new` makes it.
+fn made<T, S: NonZeroInxGenericStack<T>>(
+    alloc: Global,
+    room: Option<usize>,
+) -> Result<S, AllocError> {
+    match room {
+        Some(room) => S::with_min_capacity(alloc, room),
+        None => Ok(S::new(alloc)),
+    }
+}
+
+/// Tries a table on a stack that is kept in a `K`, which has this limit then.
+pub fn on_stack<T: Drop, K: NonZeroInxGenericStack<T> + Drop, M: Items<T> + Drop>(
+    alloc: Global,
+    items: M,
+    room: Option<usize>,
+    limit: Told,
+    steps: &[(Call, Told)],
+) -> Result<(), Wrong> {
+    let stack: NonZeroInxStack<T, K> = made(alloc, room)?;
+    follow(&mut Holding { stack, items }, limit, steps)
+}
+
+// The same where the limit can be set.
+fn on_stack_with_limit<T: Drop, K: SetMaxCapacity<T> + Drop, M: Items<T> + Drop>(
+    alloc: Global,
+    items: M,
+    room: Option<usize>,
+    limit: Told,
+    steps: &[(Call, Told)],
+) -> Result<(), Wrong> {
+    let stack: NonZeroInxStack<T, K> = made(alloc, room)?;
+    follow(&mut WithLimit { stack, items }, limit, steps)
+}
+
+/// Tries a table on a stack on the heap, with this room or as `new` makes it.
+pub fn on_heap_of<T: Drop, M: Items<T> + Drop>(
+    alloc: Global,
+    items: M,
+    room: Option<usize>,
+    steps: &[(Call, Told)],
+) -> Result<(), Wrong> {
+    on_stack::<T, HeapStack<T>, M>(alloc, items, room, Told::Nothing, steps)
+}
+
+/// The same on a stack on the heap whose limit can be set, and is this room or 0.
+pub fn on_limited_of<T: Drop, M: Items<T> + Drop>(
+    alloc: Global,
+    items: M,
+    room: Option<usize>,
+    steps: &[(Call, Told)],
+) -> Result<(), Wrong> {
+    let limit = Told::Size(room.unwrap_or(0));
+    on_stack_with_limit::<T, LimitedStack<T>, M>(alloc, items, room, limit, steps)
+}
+
+/// The same on a stack of fixed room.
+pub fn on_fixed_of<T: Drop, M: Items<T> + Drop>(
+    alloc: Global,
+    items: M,
+    room: Option<usize>,
+    steps: &[(Call, Told)],
+) -> Result<(), Wrong> {
+    let limit = Told::Size(room.unwrap_or(0));
+    on_stack::<T, FixedStack<T>, M>(alloc, items, room, limit, steps)
+}
+
+/// Tries a table on a stack of tokens on the heap, with this room or as `new` makes it.
+// A test that names the type of the items is slower to prove than one that names none.
+pub fn on_heap(alloc: Global, room: Option<usize>, steps: &[(Call, Told)]) -> Result<(), Wrong> {
+    on_heap_of(alloc, Tokens, room, steps)
+}
+
+/// The same on a stack on the heap whose limit can be set, and is this room or 0.
+pub fn on_limited(alloc: Global, room: Option<usize>, steps: &[(Call, Told)]) -> Result<(), Wrong> {
+    on_limited_of(alloc, Tokens, room, steps)
+}
+
+/// The same on a stack of fixed room.
+pub fn on_fixed(alloc: Global, room: Option<usize>, steps: &[(Call, Told)]) -> Result<(), Wrong> {
+    on_fixed_of(alloc, Tokens, room, steps)
+}
+
+/// The same in an array of no places.
+pub fn in_no_places(
+    alloc: Global,
+    room: Option<usize>,
+    steps: &[(Call, Told)],
+) -> Result<(), Wrong> {
+    on_stack::<Token, ArrayStack<Token, 0>, Tokens>(alloc, Tokens, room, Told::Size(0), steps)
+}
+
+/// The same in an array of one place.
+pub fn in_one_place(
+    alloc: Global,
+    room: Option<usize>,
+    steps: &[(Call, Told)],
+) -> Result<(), Wrong> {
+    on_stack::<Token, ArrayStack<Token, 1>, Tokens>(alloc, Tokens, room, Told::Size(1), steps)
+}
+
+/// The same in an array of two places.
+pub fn in_two_places(
+    alloc: Global,
+    room: Option<usize>,
+    steps: &[(Call, Told)],
+) -> Result<(), Wrong> {
+    on_stack::<Token, ArrayStack<Token, 2>, Tokens>(alloc, Tokens, room, Told::Size(2), steps)
+}
+
+/// The same in an array of three places.
+pub fn in_three_places(
+    alloc: Global,
+    room: Option<usize>,
+    steps: &[(Call, Told)],
+) -> Result<(), Wrong> {
+    on_stack::<Token, ArrayStack<Token, 3>, Tokens>(alloc, Tokens, room, Told::Size(3), steps)
+}
+
+/// The same in an array of four places.
+pub fn in_four_places(
+    alloc: Global,
+    room: Option<usize>,
+    steps: &[(Call, Told)],
+) -> Result<(), Wrong> {
+    on_stack::<Token, ArrayStack<Token, 4>, Tokens>(alloc, Tokens, room, Told::Size(4), steps)
+}

@@ -40,8 +40,8 @@ module _ {T : Type 0} where
   direct_capacity s = min (capacity_of s.room s.limit) s.greatest
 
   -- the slots are no more than fit
-  abbrev pub Fits : DirectState T → Type 0
-  Fits s = slot_count s ≤ direct_capacity s
+  abbrev pub SlotsFit : DirectState T → Type 0
+  SlotsFit s = slot_count s ≤ direct_capacity s
 
   -- another value in the entry at an index
   abbrev pub with_value : DirectState T → ℕ → T → DirectState T

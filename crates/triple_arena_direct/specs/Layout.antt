@@ -2,7 +2,7 @@
 use Rattle.std.specs.Prelude.{◌≡◌, ℕ, List, map, Option, Some, None}
 use Rattle.triple_arena_traits.specs.Items.{with_item}
 use Rattle.triple_arena_traits.specs.Entries.{entry_in}
-use Rattle.triple_arena_direct.specs.DirectState.{DirectState, direct_len, Fits}
+use Rattle.triple_arena_direct.specs.DirectState.{DirectState, direct_len, SlotsFit}
 use Rattle.triple_arena_direct.specs.Slot.{slot_entry, with_slot_value}
 use Rattle.triple_arena_direct.specs.declared.slot.DirectSlot.{DirectSlot}
 
@@ -24,4 +24,4 @@ module _ {P T I G : Type 0} where
 -- the count of entries is that of the state, and its slots fit
 pub record Counts {T : Type 0} (len : ℕ) (s : DirectState T) : Type 0 where
   pub counted : len ≡ direct_len s
-  pub fits : Fits s
+  pub fits : SlotsFit s

@@ -10,8 +10,8 @@ pub data Change : Type 0 where
   goes : ℕ → Change
 
 -- the same pointers are valid
-abbrev pub SamePointers : {T U : Type 0} → List (Option (ℕ × T)) → List (Option (ℕ × U)) → Type 0
-SamePointers slots mirror = (p : Pointer) → is_some (look_up_in mirror p) ≡ is_some (look_up_in slots p)
+abbrev pub IsMirror : {T U : Type 0} → List (Option (ℕ × T)) → List (Option (ℕ × U)) → Type 0
+IsMirror slots mirror = (p : Pointer) → is_some (look_up_in mirror p) ≡ is_some (look_up_in slots p)
 
 module _ {T : Type 0} where
   -- the change, as the arena makes it

@@ -14,7 +14,7 @@ ghost use Rattle.triple_arena_traits.specs.FreeList.{last_index};
 ghost use Rattle.triple_arena_traits.specs.Walks.{entries};
 ghost use Rattle.triple_arena_traits.specs.Copying.{Copies};
 ghost use Rattle.triple_arena_stack.specs.Disjoint.{DisjointAnswer, MayWork, Worked};
-ghost use Rattle.triple_arena_direct.specs.DirectState.{DirectState, new_direct, generation_of, slot_count, direct_len, direct_capacity, Fits, with_value, inserted_at, removed, cleared, settled, with_room_for, reallocated, ready_for, with_slots, with_limit};
+ghost use Rattle.triple_arena_direct.specs.DirectState.{DirectState, new_direct, generation_of, slot_count, direct_len, direct_capacity, SlotsFit, with_value, inserted_at, removed, cleared, settled, with_room_for, reallocated, ready_for, with_slots, with_limit};
 ghost use Rattle.triple_arena_traits.specs.Lent.{lends_values};
 ghost use Rattle.triple_arena_direct.specs.Values.{with_values_of};
 ghost use Rattle.triple_arena_direct.specs.Slot.{slot_entry};
@@ -91,7 +91,7 @@ impl<P: Ptr, T, S: NonZeroInxGenericStack<DirectSlot<P, T>>> ArenaTrait<P, T>
     ghost slots = { λ s. s.slots };
 
     // the slots are no more than fit
-    ghost valid = { Fits };
+    ghost valid = { SlotsFit };
 
     // the smallest of room, limit and greatest index
     ghost fitting = { direct_capacity };
@@ -185,7 +185,7 @@ impl<P: Ptr, T, S: NonZeroInxGenericStack<DirectSlot<P, T>>> ArenaTrait<P, T>
     fn len(&self) -> usize
         ensures value { result ≡ direct_len self.now }
         ensures fits { direct_len self.now ≤ direct_capacity self.now }
-        ensures valid { Fits self.now }
+        ensures valid { SlotsFit self.now }
     {
         self.len
     }
@@ -625,7 +625,7 @@ impl<P: Ptr, T, S: NonZeroInxGenericStack<DirectSlot<P, T>>> DirectArena<P, T, S
         ensures done { OnOk result (self.new ≡ ready_for S.kind self.old min_capacity) }
         ensures refused { OnErr result (self.new ≡ settled self.old min_capacity) }
         ensures short { OnErr result (direct_capacity self.old < min_capacity) }
-        ensures fits { Fits self.old }
+        ensures fits { SlotsFit self.old }
         ensures beyond { (result ≡ Err ReallocationError.BeyondMaxCapacity)
             ↔ ((direct_capacity self.old < min_capacity)
             × (min_capacity ≤ greatest_index P.Inx.greatest)

@@ -11,7 +11,7 @@ ghost use Rattle.triple_arena_traits.specs.Walks.{entries};
 ghost use Rattle.triple_arena_traits.specs.Copying.{Copies};
 ghost use Rattle.triple_arena_traits.specs.DirectInsertion.{IsVacant};
 ghost use Rattle.triple_arena_direct.specs.DirectState.{DirectState, direct_capacity};
-ghost use Rattle.triple_arena_direct.specs.Mirrors.{Change, SamePointers, Makes, Follows};
+ghost use Rattle.triple_arena_direct.specs.Mirrors.{Change, IsMirror, Makes, Follows};
 ghost use Rattle.triple_arena_direct.specs.Mirrors.Change.{comes, goes};
 
 use triple_arena_ptr::Ptr;
@@ -22,11 +22,11 @@ use triple_arena_ptr::Ptr;
 pub fn mirror_keeps_pointers<T, U>()
     ensures kept { (slots : List (Option (ℕ × T))) (mirror : DirectState U)
         (changes : List Change) (after : List (Option (ℕ × T))) (followed : DirectState U)
-        → SamePointers slots mirror.slots
+        → IsMirror slots mirror.slots
         → FoldsTo Makes slots changes after → FoldsTo Follows mirror changes followed
-        → SamePointers after followed.slots }
+        → IsMirror after followed.slots }
     ensures has_place { (slots : List (Option (ℕ × T))) (mirror : DirectState U) (i : ℕ)
-        → SamePointers slots mirror.slots → entry_in slots i ≡ None → i ≤ direct_capacity mirror
+        → IsMirror slots mirror.slots → entry_in slots i ≡ None → i ≤ direct_capacity mirror
         → IsVacant mirror.slots (direct_capacity mirror) i }
     ensures same_capacity { (mirror : DirectState U) (changes : List Change)
         (followed : DirectState U) → FoldsTo Follows mirror changes followed
@@ -43,12 +43,12 @@ pub fn mirror_keeps_pointers<T, U>()
 pub fn clone_has_the_pointers<P: Ptr, T, U, E, M: FnMut(P, &T) -> Result<U, E>>()
     ensures pointers { (f : M) (source : List (Option (ℕ × T))) (copy clone : List (Option (ℕ × U)))
         → Copies P.numbers M.step f (entries source) (Ok tt) copy → KeepsEntries copy clone
-        → SamePointers source clone }
+        → IsMirror source clone }
     ensures mirrors { (f : M) (source : List (Option (ℕ × T))) (copy : List (Option (ℕ × U)))
         (mirror : DirectState U) (changes : List Change) (after : List (Option (ℕ × T)))
         (followed : DirectState U)
         → Copies P.numbers M.step f (entries source) (Ok tt) copy
         → KeepsEntries copy mirror.slots
         → FoldsTo Makes source changes after → FoldsTo Follows mirror changes followed
-        → SamePointers after followed.slots }
+        → IsMirror after followed.slots }
 {}

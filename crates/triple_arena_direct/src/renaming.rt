@@ -9,7 +9,7 @@ ghost use Rattle.triple_arena_traits.specs.Entries.{look_up_in, entry_count};
 ghost use Rattle.triple_arena_traits.specs.Ending.{told};
 ghost use Rattle.triple_arena_traits.specs.Histories.{History, compression, begun_with, CountsUp, Continues};
 ghost use Rattle.triple_arena_traits.specs.Walks.{keys, values};
-ghost use Rattle.triple_arena_direct.specs.Renaming.{MapsPointers, first_unresolved, AreRenamed, WantsMemory, Refuses};
+ghost use Rattle.triple_arena_direct.specs.Renaming.{MapsPointers, first_unresolved, AreRenamed, RefusesMemory, Refuses};
 
 use crate::direct_arena::DirectArena;
 use std::alloc::Global;
@@ -51,7 +51,7 @@ pub fn compress_recaster<P: Ptr, T, A: CompactArenaTrait<P, T>>(
         (compression (keys (A.slots this.old)) (keys (A.slots this.new)) ∷ []) this.new) }
     ensures begun { OnOk result ((h : History) → A.fits h this.old
         → A.fits (begun_with (keys (A.slots this.new))) this.new) }
-    ensures refused { IfErr result (WantsMemory (entry_count (A.slots this.old))) }
+    ensures refused { IfErr result (RefusesMemory (entry_count (A.slots this.old))) }
     ensures unchanged { OnErr result (this.new ≡ this.old) }
 {
     let mut all = own_map(this, alloc)?;
@@ -135,7 +135,7 @@ fn own_map<P: Ptr, T, A: CompactArenaTrait<P, T>>(
     ensures keys { IfOk result (λ all. keys all.slots ≡ keys (A.slots this.now)) }
     ensures values { IfOk result (λ all. map P.numbers (values all.slots)
         ≡ keys (A.slots this.now)) }
-    ensures refused { IfErr result (WantsMemory (entry_count (A.slots this.now))) }
+    ensures refused { IfErr result (RefusesMemory (entry_count (A.slots this.now))) }
 {
     let mut all = DirectArena::new(alloc);
     match all.clone_from_with(this, |p, _value| Ok::<P, Infallible>(p)) {

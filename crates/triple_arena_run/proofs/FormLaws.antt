@@ -15,7 +15,7 @@ use Rattle.triple_arena_run.specs.declared.command.Command.{Command}
 use Rattle.triple_arena_run.specs.declared.command.Command.TheVariants.{Insert, InsertWithin, Get, Set, Remove, Invalidate, Clear, Compact, Len, Capacity, Reserve, Show}
 use Rattle.triple_arena_run.specs.Lines.{words_of}
 use Rattle.triple_arena_run.specs.CommandText.{command_of_words, command_of, number_of, link_of, bare_of, numbered, linked, numbered_of, insert_of}
-use Rattle.triple_arena_run.specs.Forms.{WritesNumber, WritesLink, IsNumbered, IsLinked, HasForm, FormsAreExact, LinesAreExact}
+use Rattle.triple_arena_run.specs.Forms.{WritesNumber, WritesLink, IsNumbered, HasLink, HasForm, FormsAreExact, LinesAreExact}
 
 true_or_false : (b : Bool) → (b ≡ true) ⊎ (b ≡ false)
 true_or_false true = inl refl
@@ -209,7 +209,7 @@ numbered-from : (line verb : List ℕ) (n : ℕ) → is_verb verb ≡ true → I
 numbered-from line verb n ok (a, e, number) =
     ap command_of_words (words_of-numbered verb line a n ok e number) ∙ ap (numbered_of verb) (number_of-from a n number)
 
-linked-from : (line verb : List ℕ) (n : ℕ) (l : Option ℕ) → is_verb verb ≡ true → IsLinked line verb n l → command_of line ≡ linked verb n l
+linked-from : (line verb : List ℕ) (n : ℕ) (l : Option ℕ) → is_verb verb ≡ true → HasLink line verb n l → command_of line ≡ linked verb n l
 linked-from line verb n l ok (a, b, e, number, is) =
     ap command_of_words (words_of-linked verb line a b n l ok e number is) ∙ ap (λ o. insert_of verb o (link_of b)) (number_of-from a n number) ∙ ap (λ o. insert_of verb (Some n) o) (link_of-from b l is)
 

@@ -21,15 +21,15 @@ abbrev pub IsNumbered : List ℕ → List ℕ → ℕ → Type 0
 IsNumbered line verb number = (n : List ℕ) × (line ≡ verb ++ codes " " ++ n) × WritesNumber n number
 
 -- a verb, a datum and a link.
-abbrev pub IsLinked : List ℕ → List ℕ → ℕ → Option ℕ → Type 0
-IsLinked line verb datum link = (n l : List ℕ) × (line ≡ verb ++ codes " " ++ n ++ codes " " ++ l) × WritesNumber n datum × WritesLink l link
+abbrev pub HasLink : List ℕ → List ℕ → ℕ → Option ℕ → Type 0
+HasLink line verb datum link = (n l : List ℕ) × (line ≡ verb ++ codes " " ++ n ++ codes " " ++ l) × WritesNumber n datum × WritesLink l link
 
 -- a line has the form of a command.
 abbrev pub HasForm : List ℕ → Command ℕ → Type 0
-HasForm line (Insert datum link) = IsLinked line (codes "insert") datum link
-HasForm line (InsertWithin datum link) = IsLinked line (codes "within") datum link
+HasForm line (Insert datum link) = HasLink line (codes "insert") datum link
+HasForm line (InsertWithin datum link) = HasLink line (codes "within") datum link
 HasForm line (Get name) = IsNumbered line (codes "get") name
-HasForm line (Set name datum link) = (k : List ℕ) × IsLinked line (codes "set " ++ k) datum link × WritesNumber k name
+HasForm line (Set name datum link) = (k : List ℕ) × HasLink line (codes "set " ++ k) datum link × WritesNumber k name
 HasForm line (Remove name) = IsNumbered line (codes "remove") name
 HasForm line (Invalidate name) = IsNumbered line (codes "invalidate") name
 HasForm line Clear = line ≡ codes "clear"

@@ -14,7 +14,7 @@ use Rattle.triple_arena_traits.specs.WalkLaws.{ahead_first, ahead_none, ahead_ta
 use Rattle.triple_arena_traits.specs.Compression.{closed_up}
 use Rattle.triple_arena_traits.specs.Histories.{History, removal, and_then, Continues}
 use Rattle.triple_arena_traits.specs.Drains.{TakesOut, removals, NoneWraps}
-use Rattle.triple_arena_traits.specs.Transfers.{Transfer, TransferTurn, Transfers, moved_from, moved_to}
+use Rattle.triple_arena_traits.specs.Transfers.{Transfer, TransferTurn, Transfers, taken_out, put_down}
 use Rattle.triple_arena_traits.proofs.CopyLemmas.{entries_append}
 
 no_gaps : {T : Type 0} (at generation : ℕ) (values : List T) → gaps at (closed_up generation values) ≡ []
@@ -49,8 +49,8 @@ module _ {Q U P T A M : Type 0} (source : Q → Pointer) (target : P → Pointer
     pub left : IsBeforeAll (slots now) s
     pub moved : List (Transfer Q U P T)
     pub ran : FoldsTo Turn (f, start) moved (g, now)
-    pub came : moved_from source moved ++ entries_ahead s (slots now) ≡ entries (slots start)
-    pub went : moved_to target moved ≡ entries put
+    pub came : taken_out source moved ++ entries_ahead s (slots now) ≡ entries (slots start)
+    pub went : put_down target moved ≡ entries put
     pub stands : put ≡ closed_up generation (map (λ t. t.new) moved)
 
   pub transfer_start : (f : M) (start : A) (s : Stand) (put : List (Option (ℕ × T))) → IsAtFirst (slots start) s → put ≡ [] → Transferred f start f start s put
@@ -71,7 +71,7 @@ module _ {Q U P T A M : Type 0} (source : Q → Pointer) (target : P → Pointer
       omega (
         arith,
         ap length w.came,
-        length-append (moved_from source w.moved) (entries_ahead s (slots now)),
+        length-append (taken_out source w.moved) (entries_ahead s (slots now)),
         length-map {B = Pointer × U} w.moved (λ t. (source t.from, t.old)),
         ap length w.stands,
         length-map {B = Option (ℕ × T)} values (λ v. Some (generation, v)),
@@ -98,8 +98,8 @@ module _ {Q U P T A M : Type 0} (source : Q → Pointer) (target : P → Pointer
         ran = FoldsTo-push Turn (f, start) w.moved (g, now) m (h, new) w.ran (gone, called);
         came =
             ap (λ l. l ++ entries_ahead a (slots new)) (map_push (λ (t : Transfer Q U P T). (source t.from, t.old)) w.moved m)
-            ∙ append_assoc (moved_from source w.moved) ((source q, v) ∷ []) (entries_ahead a (slots new))
-            ∙ ap (λ l. moved_from source w.moved ++ l) (sym first)
+            ∙ append_assoc (taken_out source w.moved) ((source q, v) ∷ []) (entries_ahead a (slots new))
+            ∙ ap (λ l. taken_out source w.moved ++ l) (sym first)
             ∙ w.came;
         went =
             map_push (λ (t : Transfer Q U P T). (target t.to, t.new)) w.moved m
@@ -119,7 +119,7 @@ module _ {Q U P T A M : Type 0} (source : Q → Pointer) (target : P → Pointer
           moved = w.moved;
           last = g;
           ran = w.ran;
-          came = sym (append-nil (moved_from source w.moved)) ∙ ap (λ l. moved_from source w.moved ++ l) (sym none) ∙ w.came;
+          came = sym (append-nil (taken_out source w.moved)) ∙ ap (λ l. taken_out source w.moved ++ l) (sym none) ∙ w.came;
           went = w.went;
           stands = w.stands;
         },
@@ -129,7 +129,7 @@ module _ {Q U P T A M : Type 0} (source : Q → Pointer) (target : P → Pointer
 
 module _ {Q U P T A M : Type 0} (source : Q → Pointer) (target : P → Pointer) (step : M → Q → InvalidationOption U → P → T → M → Type 0)
     (slots : A → List (Option (ℕ × U))) (fits : History → A → Type 0) (removes : A → ℕ → A → Type 0) (wraps : A → Bool) (counting : Bool) where
-  run_goes_on : (ts : List (Transfer Q U P T)) (f g : M) (old new : A) → FoldsTo (TransferTurn source target step slots fits removes wraps counting) (f, old) ts (g, new) → NoneWraps removes wraps counting old (keys_of (moved_from source ts)) → Continues fits old (removals (keys_of (moved_from source ts))) new
+  run_goes_on : (ts : List (Transfer Q U P T)) (f g : M) (old new : A) → FoldsTo (TransferTurn source target step slots fits removes wraps counting) (f, old) ts (g, new) → NoneWraps removes wraps counting old (keys_of (taken_out source ts)) → Continues fits old (removals (keys_of (taken_out source ts))) new
   run_goes_on [] f g old new same none h fit = subst (fits h) (ap (λ (x : M × A). x.1) same) fit
   run_goes_on (t ∷ ts) f g old new (next, here, there) none h fit =
       run_goes_on ts next.0 g next.1 new there (none.1 next.1 here.0.0) (and_then h (removal (source t.from))) (here.0.1 none.0 h fit)

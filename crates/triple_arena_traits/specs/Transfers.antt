@@ -19,12 +19,12 @@ pub record Transfer (Q U P T : Type 0) : Type 0 where
 
 module _ {Q U P T : Type 0} where
   -- the entries that were taken out
-  abbrev pub moved_from : (Q → Pointer) → List (Transfer Q U P T) → List (Pointer × U)
-  moved_from numbers moved = map (λ t. (numbers t.from, t.old)) moved
+  abbrev pub taken_out : (Q → Pointer) → List (Transfer Q U P T) → List (Pointer × U)
+  taken_out numbers moved = map (λ t. (numbers t.from, t.old)) moved
 
   -- the entries that were put down
-  abbrev pub moved_to : (P → Pointer) → List (Transfer Q U P T) → List (Pointer × T)
-  moved_to numbers moved = map (λ t. (numbers t.to, t.new)) moved
+  abbrev pub put_down : (P → Pointer) → List (Transfer Q U P T) → List (Pointer × T)
+  put_down numbers moved = map (λ t. (numbers t.to, t.new)) moved
 
 module _ {Q U P T A M : Type 0} (source : Q → Pointer) (target : P → Pointer) (step : M → Q → InvalidationOption U → P → T → M → Type 0)
     (slots : A → List (Option (ℕ × U))) (fits : History → A → Type 0) (removes : A → ℕ → A → Type 0) (wraps : A → Bool) (counting : Bool) where
@@ -40,6 +40,6 @@ module _ {Q U P T A M : Type 0} (source : Q → Pointer) (target : P → Pointer
     pub moved : List (Transfer Q U P T)
     pub last : M
     pub ran : FoldsTo TransferTurn (f, old) moved (last, new)
-    pub came : moved_from source moved ≡ entries (slots old)
-    pub went : moved_to target moved ≡ entries put
+    pub came : taken_out source moved ≡ entries (slots old)
+    pub went : put_down target moved ≡ entries put
     pub stands : put ≡ closed_up generation (map (λ t. t.new) moved)

@@ -7,7 +7,7 @@ use Rattle.triple_arena_traits.specs.Entries.{look_up_in, value_under}
 use Rattle.triple_arena_traits.specs.ItemLaws.{joined}
 use Rattle.triple_arena_traits.proofs.ItemLists.{item_nil}
 use Rattle.triple_arena_traits.proofs.Links.{pointer_is}
-use Rattle.triple_arena_direct.specs.Mirrors.{SamePointers}
+use Rattle.triple_arena_direct.specs.Mirrors.{IsMirror}
 
 same_or_other : (q p : Pointer) → (q ≡ p) ⊎ (q ≢ p)
 same_or_other q p =
@@ -21,7 +21,7 @@ same_or_other q p =
 
 module _ {A B : Type 0} where
   -- what both lose under one pointer alone
-  pub same_removed : (es es' : List (Option (ℕ × A))) (ns ns' : List (Option (ℕ × B))) (p : Pointer) → SamePointers es ns → look_up_in es' p ≡ None → look_up_in ns' p ≡ None → ((q : Pointer) → q ≢ p → look_up_in es' q ≡ look_up_in es q) → ((q : Pointer) → q ≢ p → look_up_in ns' q ≡ look_up_in ns q) → SamePointers es' ns'
+  pub same_removed : (es es' : List (Option (ℕ × A))) (ns ns' : List (Option (ℕ × B))) (p : Pointer) → IsMirror es ns → look_up_in es' p ≡ None → look_up_in ns' p ≡ None → ((q : Pointer) → q ≢ p → look_up_in es' q ≡ look_up_in es q) → ((q : Pointer) → q ≢ p → look_up_in ns' q ≡ look_up_in ns q) → IsMirror es' ns'
   same_removed es es' ns ns' p same gone gone' others others' q =
       elim (same_or_other q p) [
         | inl here ↦ ap is_some (ap (look_up_in ns') here ∙ gone') ∙ sym (ap is_some (ap (look_up_in es') here ∙ gone))

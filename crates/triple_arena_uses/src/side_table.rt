@@ -28,7 +28,7 @@ pub struct NotedEntities {
 }
 
 impl Model for NotedEntities {
-    ghost use Rattle.triple_arena_direct.specs.Mirrors.{SamePointers};
+    ghost use Rattle.triple_arena_direct.specs.Mirrors.{IsMirror};
     ghost use Rattle.triple_arena_uses.specs.Notes.{Noted};
 
     ghost Value = { Noted };
@@ -36,7 +36,7 @@ impl Model for NotedEntities {
     ghost view = { λ table. record { entities = table.entities; notes = table.notes } };
 
     // an entity stands under a pointer exactly where a note does
-    ghost invariant = { λ table. SamePointers table.entities.slots table.notes.slots };
+    ghost invariant = { λ table. IsMirror table.entities.slots table.notes.slots };
 }
 
 impl NotedEntities {

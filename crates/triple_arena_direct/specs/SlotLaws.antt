@@ -1,5 +1,5 @@
 -- What a slot of a direct arena holds once another value is written into it.
-use Rattle.std.proofs.Common.{◌≡◌, ℕ, Option, refl}
+use Rattle.std.proofs.Common.{◌≡◌, ℕ, refl}
 use Rattle.std.specs.Option.{option_map}
 use Rattle.triple_arena_direct.specs.declared.slot.DirectSlot.{DirectSlot}
 use Rattle.triple_arena_direct.specs.declared.slot.DirectSlot.TheVariants.{Free, Allocated}

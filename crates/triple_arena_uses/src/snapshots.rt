@@ -5,7 +5,7 @@ ghost use Rattle.triple_arena_traits.specs.ArenaState.{arena_len, capacity};
 ghost use Rattle.triple_arena_traits.specs.Entries.{KeepsEntries, entry_count};
 ghost use Rattle.triple_arena_traits.specs.FreeList.{last_index};
 
-use triple_arena::{Arena, ArenaCloneFromWith, ArenaSlot, CompactArenaTrait};
+use triple_arena::{Arena, ArenaCloneFromWith, ArenaSlot, CompactArenaTrait, laws};
 use triple_arena_base::{AllocError, CloneFromError, ReallocationError};
 use triple_arena_ptr::{Ptr, PtrGen};
 use triple_arena_stack::NonZeroInxGenericStack;
@@ -38,4 +38,18 @@ pub fn move_over<
     ensures fits { entry_count (A.slots from.old) ≤ capacity to.old → IsOk result }
 {
     to.transfer_reallocating(generation, from, |_old, taken, _new| taken.allow())
+}
+
+/// Keeps a table as it is, and comes back to it: the capacity of the table stays. `clones_settle` says
+/// so of any turns of clones; what it asks of each, the clauses of the calls tell.
+pub fn keep_and_come_back<
+    P: Ptr,
+    A: CompactArenaTrait<P, u64> + ArenaCloneFromWith<P, u64>,
+    B: CompactArenaTrait<P, u64> + ArenaCloneFromWith<P, u64>,
+>(table: &mut A, kept: &mut B) -> Result<(), CloneFromError<AllocError>>
+    ensures same_capacity { OnOk result (A.fitting table.new ≡ A.fitting table.old) }
+{
+    laws::clones_settle::<P, u64, u64, A, B>();
+    kept.clone_from(&*table)?;
+    table.clone_from(&*kept)
 }

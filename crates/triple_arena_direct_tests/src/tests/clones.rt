@@ -1,17 +1,19 @@
 //! Cloning into direct arenas and out of them.
 
-use super::tested_direct::{Direct, Heap, Limited, put, put_under, with_room};
+use super::tested_direct::{
+    Direct, Heap, Limited, arena_after, direct_after, put_under, with_room,
+};
 use std::alloc::{AllocError, Global};
-use std::process::Abort;
+use std::fmt::Debug;
 use std::test::Fail;
 use triple_arena::{Arena, ArenaCloneFromWith, ArenaSlot, ArenaTrait, CompactArenaTrait};
 use triple_arena_base::{CloneFromError, ReallocationError};
 use triple_arena_direct::{DirectArena, DirectSlot};
 use triple_arena_ptr::{P0, Ptr};
-use triple_arena_stack::NonZeroInxGenericStack;
+use triple_arena_stack::{NonZeroInxGenericStack, NonZeroInxVec};
 use triple_arena_test_kit::{
     Call, Heap as ArenaHeap, NO_ENTRY, Removed, Steps, TestedArena, Token, Told, Trial, Wrong, inx,
-    is_told, new_arena, pointer, step,
+    is_text, is_told, new_arena, pointer,
 };
 
 const BEYOND: Told = Told::Refused(ReallocationError::BeyondMaxCapacity);
@@ -76,22 +78,13 @@ const THREE_OF_FIVE: Removed = Removed {
     removed: &[2, 4],
 };
 
-// An arena of these entries.
-fn three_of_five<S: NonZeroInxGenericStack<ArenaSlot<P0, Token>> + Drop>(
-    alloc: Global,
-) -> Result<Arena<P0, Token, S>, Wrong> {
-    let mut arena = new_arena(alloc);
-    THREE_OF_FIVE.on(&mut arena)?;
-    Ok(arena)
-}
-
 // The calls on a direct arena of this room over the first stack that is cloned from an arena of these
 // entries over the second.
 fn cloned_from_arena<
     S: NonZeroInxGenericStack<DirectSlot<P0, Token>> + Drop,
     R: NonZeroInxGenericStack<ArenaSlot<P0, Token>> + Drop,
 >(alloc: Global, room: usize, steps: &[(OnTarget, Told)]) -> Result<(), Wrong> {
-    let source: Arena<P0, Token, R> = three_of_five(alloc)?;
+    let source: Arena<P0, Token, R> = arena_after(alloc, &THREE_OF_FIVE)?;
     follow_clones::<S, Arena<P0, Token, R>>(alloc, room, &source, steps)
 }
 
@@ -139,15 +132,8 @@ fn a_clone_past_the_limit_is_refused(rt: HostRuntime) -> Result<(), Fail> {
     Ok(())
 }
 
-// A direct arena with one entry, at this index under generation 9.
-fn one_entry<S: NonZeroInxGenericStack<DirectSlot<P0, Token>> + Drop>(
-    alloc: Global,
-    index: usize,
-) -> Result<Direct<P0, S>, Wrong> {
-    let mut direct: Direct<P0, S> = with_room(alloc, 5)?;
-    step(&mut direct, Call::DirectInsert(index, 9, 9), Told::Holds(9))?;
-    Ok(direct)
-}
+// One entry, under generation 9.
+const ONE_ENTRY: Steps = Steps(&[(Call::DirectInsert(1, 9, 9), Told::Holds(9))]);
 
 // The first entry of an arena that is cloned from a direct one begins its counter at 2.
 fn begins_at_two<
@@ -172,7 +158,7 @@ fn into_an_arena<
     S: NonZeroInxGenericStack<ArenaSlot<P0, Token>> + Drop,
     R: NonZeroInxGenericStack<DirectSlot<P0, Token>> + Drop,
 >(alloc: Global) -> Result<(), Wrong> {
-    let source: Direct<P0, R> = one_entry(alloc, 1)?;
+    let source: Direct<P0, R> = direct_after(alloc, 4, &ONE_ENTRY)?;
     begins_at_two::<S, DirectArena<P0, Token, R>>(alloc, &source.arena)
 }
 
@@ -182,56 +168,120 @@ fn an_arena_that_is_cloned_from_a_direct_one_begins_at_two(rt: HostRuntime) -> R
     Ok(())
 }
 
-// The pointer of a new number, where there is memory for it.
-fn number_in(arena: &mut Arena<P0, u64>, number: u64) -> Option<P0> {
-    put(arena, number).ok()
+// A call on an arena of numbers, or on a direct arena that mirrors it: it has each number's text under
+// the pointer of the number.
+#[derive(Clone, Copy)]
+enum OnMirror {
+    Numbers(Call),
+    /// The mirror is cloned from the numbers; it tells its capacity.
+    Clone,
+    /// The text of a number is put into the mirror under a pointer.
+    Put((usize, u64), u64),
+    /// The text at an index is taken out of the mirror.
+    Remove(usize),
 }
 
-// Each number's text under its pointer: whether there was memory.
-fn mirror_texts(
-    texts: &mut DirectArena<P0, String>,
-    numbers: &Arena<P0, u64>,
+fn mirror_all<S: NonZeroInxGenericStack<DirectSlot<P0, String>>, B: CompactArenaTrait<P0, Token>>(
+    texts: &mut DirectArena<P0, String, S>,
+    numbers: &B,
     alloc: Global,
-) -> bool {
+) -> Told {
     let cloned: Result<(), CloneFromError<AllocError>> = texts.clone_from_with(
         numbers,
-        |_p, number: &u64| format!(in alloc; "{number}"),
+        |_p, token: &Token| format!(in alloc; "{}", token.number),
     );
-    cloned.is_ok()
+    match cloned {
+        Ok(()) => Told::Size(texts.capacity()),
+        Err(_refused) => Told::Nothing,
+    }
 }
 
-// Whether this is the text of a mirror; none where there is no memory.
-fn is_written(texts: &DirectArena<P0, String>, alloc: Global, expected: &str) -> Option<bool> {
-    Some(format!(in alloc; "{texts:?}").ok()?.as_str() == expected)
+fn put_text<S: NonZeroInxGenericStack<DirectSlot<P0, String>>>(
+    texts: &mut DirectArena<P0, String, S>,
+    p: P0,
+    number: u64,
+    alloc: Global,
+) -> Told {
+    match format!(in alloc; "{number}") {
+        Ok(text) => Told::Is(put_under(texts, p, text)),
+        Err(_refused) => Told::Nothing,
+    }
 }
 
-// Puts a text in the place of the one at index 1, under generation 1: whether there was one and is a
-// place.
-fn put_at_one(texts: &mut DirectArena<P0, String>, text: String) -> bool {
-    let is_removed = texts.remove_inx(inx(1)).is_success();
-    is_removed && put_under(texts, pointer(1, 1), text)
+fn remove_text<S: NonZeroInxGenericStack<DirectSlot<P0, String>>>(
+    texts: &mut DirectArena<P0, String, S>,
+    index: usize,
+) -> Told {
+    Told::Is(texts.remove_inx(inx(index)).is_success())
 }
 
-// A mirror holds each number's text; none where there is no memory.
-fn mirrors(alloc: Global) -> Option<bool> {
-    let mut numbers: Arena<P0, u64> = Arena::new(alloc);
-    let mut texts: DirectArena<P0, String> = DirectArena::new(alloc);
-    let first = number_in(&mut numbers, 42)?;
-    let _second = number_in(&mut numbers, 1337)?;
-    numbers.remove(first).allow();
-    let is_cloned = mirror_texts(&mut texts, &numbers, alloc);
-    let begun = is_written(&texts, alloc, r#"{P0[2](2): "1337"}"#)?;
-    let capacity = texts.capacity() == 2;
-    let p = number_in(&mut numbers, 7)?;
-    let seven = format!(in alloc; "{}", 7).ok()?;
-    let is_put = put_under(&mut texts, p, seven);
-    let both = is_written(&texts, alloc, r#"{P0[1](3): "7", P0[2](2): "1337"}"#)?;
-    let is_put_anew = put_at_one(&mut texts, format!(in alloc; "{}", 8).ok()?);
-    let anew = is_written(&texts, alloc, r#"{P0[1](1): "8", P0[2](2): "1337"}"#)?;
-    Some(is_cloned && begun && capacity && is_put && both && is_put_anew && anew)
+// What a call tells of a mirror and its numbers.
+fn told_by_mirror<
+    S: NonZeroInxGenericStack<DirectSlot<P0, String>>,
+    B: CompactArenaTrait<P0, Token> + TestedArena,
+>(texts: &mut DirectArena<P0, String, S>, numbers: &mut B, alloc: Global, call: OnMirror) -> Told {
+    match call {
+        OnMirror::Numbers(call) => numbers.answer(call),
+        OnMirror::Clone => mirror_all(texts, numbers, alloc),
+        OnMirror::Put((index, generation), number) => {
+            put_text(texts, pointer(index, generation), number, alloc)
+        }
+        OnMirror::Remove(index) => remove_text(texts, index),
+    }
+}
+
+// That a mirror has this text.
+fn has_text<D: Debug>(texts: &D, alloc: Global, expected: &'static str) -> Result<(), Wrong> {
+    is_text(format!(in alloc; "{texts:?}")?.as_str(), expected)
+}
+
+// Makes each call on numbers and a new mirror, and expects its answer, and this text after it.
+fn follow_mirror<
+    S: NonZeroInxGenericStack<DirectSlot<P0, String>> + Drop,
+    B: CompactArenaTrait<P0, Token> + TestedArena,
+>(alloc: Global, numbers: &mut B, steps: &[(OnMirror, Told, &'static str)]) -> Result<(), Wrong> {
+    let mut texts: DirectArena<P0, String, S> = DirectArena::new(alloc);
+    for (row, (call, expected, text)) in steps.iter().enumerate() {
+        let told = told_by_mirror(&mut texts, numbers, alloc, *call);
+        is_told(row, told, *expected)?;
+        has_text(&texts, alloc, *text)?;
+    }
+    Ok(())
+}
+
+// A mirror over the first stack of an arena over the second.
+fn mirrors<
+    S: NonZeroInxGenericStack<DirectSlot<P0, String>> + Drop,
+    R: NonZeroInxGenericStack<ArenaSlot<P0, Token>> + Drop,
+>(alloc: Global, steps: &[(OnMirror, Told, &'static str)]) -> Result<(), Wrong> {
+    let mut numbers: Arena<P0, Token, R> = new_arena(alloc);
+    follow_mirror::<S, Arena<P0, Token, R>>(alloc, &mut numbers, steps)
 }
 
 #[test]
-fn a_mirror_of_texts_keeps_the_pointers(rt: HostRuntime) {
-    assert!(rt; mirrors(rt.alloc()) == Some(true));
+fn a_mirror_of_texts_keeps_the_pointers(rt: HostRuntime) -> Result<(), Fail> {
+    let second = r#"{P0[2](2): "1337"}"#;
+    mirrors::<NonZeroInxVec<DirectSlot<P0, String>>, ArenaHeap<P0>>(
+        rt.alloc(),
+        &[
+            (OnMirror::Numbers(Call::Insert(42)), Told::At(1, 2), "{}"),
+            (OnMirror::Numbers(Call::Insert(1337)), Told::At(2, 2), "{}"),
+            (OnMirror::Numbers(Call::Remove(1, 2)), Told::Holds(42), "{}"),
+            (OnMirror::Clone, Told::Size(2), second),
+            (OnMirror::Numbers(Call::Insert(7)), Told::At(1, 3), second),
+            (
+                OnMirror::Put((1, 3), 7),
+                Told::Is(true),
+                r#"{P0[1](3): "7", P0[2](2): "1337"}"#,
+            ),
+            // another pointer of a free index is as good
+            (OnMirror::Remove(1), Told::Is(true), second),
+            (
+                OnMirror::Put((1, 1), 8),
+                Told::Is(true),
+                r#"{P0[1](1): "8", P0[2](2): "1337"}"#,
+            ),
+        ],
+    )?;
+    Ok(())
 }

@@ -1,7 +1,9 @@
 //! Memory that is refused, and the whole state after it.
 
 use super::clones::clone_but;
-use super::tested_direct::{Direct, DirectWithLimit, Heap, Little, on_limited, with_room};
+use super::tested_direct::{
+    Direct, DirectWithLimit, Heap, Little, direct_after, on_limited, with_room,
+};
 use super::transfers::transfer;
 use std::alloc::Global;
 use std::test::Fail;
@@ -109,15 +111,6 @@ const WITH_FREE_SLOTS: Steps = Steps(&[
     (Call::RemoveInx(4), Told::Held(9, 4)),
 ]);
 
-// A source of five entries.
-fn source<S: NonZeroInxGenericStack<DirectSlot<P0, Token>> + Drop>(
-    alloc: Global,
-) -> Result<Direct<P0, S>, Wrong> {
-    let mut source: Direct<P0, S> = with_room(alloc, 5)?;
-    FIVE.on(&mut source)?;
-    Ok(source)
-}
-
 // A target with free slots.
 fn target<S: SetMaxCapacity<DirectSlot<P0, Token>> + Drop>(
     alloc: Global,
@@ -150,7 +143,7 @@ fn refuses_copies<
     S: SetMaxCapacity<DirectSlot<P0, Token>> + Drop,
     R: NonZeroInxGenericStack<DirectSlot<P0, Token>> + Drop,
 >(alloc: Global) -> Result<(), Wrong> {
-    let mut source: Direct<P0, R> = source(alloc)?;
+    let mut source: Direct<P0, R> = direct_after(alloc, 5, &FIVE)?;
     let mut target: DirectWithLimit<P0, S> = target(alloc)?;
     for call in [
         Copying::CloneFrom,
@@ -182,7 +175,7 @@ fn clone<P: Ptr, A: ArenaCloneFromWith<P, Token> + CompactArenaTrait<P, Token> +
 fn clones_or_not<S: NonZeroInxGenericStack<DirectSlot<P0, Token>> + Drop>(
     alloc: Global,
 ) -> Result<(), Wrong> {
-    let source: Direct<P0, S> = source(alloc)?;
+    let source: Direct<P0, S> = direct_after(alloc, 5, &FIVE)?;
     let before = source.state();
     let told = clone(&source.arena, alloc);
     if told != NO_MEMORY {

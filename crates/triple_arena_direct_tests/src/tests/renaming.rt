@@ -5,11 +5,13 @@ use super::tested_nodes::{
     on_last_node, on_nodes,
 };
 use std::alloc::Global;
+use std::error::Error;
+use std::process::Abort;
 use std::test::Fail;
 use triple_arena::ArenaSlot;
-use triple_arena_base::ReallocationError;
+use triple_arena_base::{CompactError, ReallocationError};
 use triple_arena_direct::DirectSlot;
-use triple_arena_ptr::P0;
+use triple_arena_ptr::{P0, Ptr};
 use triple_arena_stack::{NonZeroInxArray, NonZeroInxVec};
 use triple_arena_test_kit::{B, NO_POINTER, Told, Wrong, is_text, is_told};
 
@@ -241,7 +243,7 @@ impl NodeTrial for TakesNoMemory {
 }
 
 /// Holds with ample memory, and also where any one request for memory is refused
-/// (`rt try --test --fail-alloc N`), as do all tests below.
+/// (`rt try --test --fail-alloc N`), as do the tests below; the first request is the compaction's.
 #[test]
 fn without_entries_no_memory_is_asked_for(rt: HostRuntime) -> Result<(), Fail> {
     on_nodes::<P0, Places, _>(rt.alloc(), &[], &[], &TakesNoMemory)?;
@@ -312,17 +314,23 @@ fn on_direct_places<T: NodeTrial>(
     on_direct_nodes::<P0, DirectPlaces, T>(alloc, &nodes, trial)
 }
 
+const DANGLES: RefusesTwice = RefusesTwice {
+    told: Told::At(9, 9),
+};
+
 #[test]
 fn without_memory_a_dangling_link_changes_nothing(rt: HostRuntime) -> Result<(), Fail> {
-    let trial = RefusesTwice {
-        told: Told::At(9, 9),
-    };
-    on_places(rt.alloc(), (9, 9), &trial)?;
-    on_direct_places(rt.alloc(), (9, 9), &trial)?;
+    on_places(rt.alloc(), (9, 9), &DANGLES)?;
     Ok(())
 }
 
-// What stands in both arenas of two nodes after a compaction.
+#[test]
+fn without_memory_a_dangling_link_changes_no_direct_arena(rt: HostRuntime) -> Result<(), Fail> {
+    on_direct_places(rt.alloc(), (9, 9), &DANGLES)?;
+    Ok(())
+}
+
+// What stands in each arena of two nodes after a compaction.
 const MOVED: NodeState = NodeState {
     len: 2,
     capacity: 4,
@@ -339,9 +347,13 @@ const DIRECT_MOVED: NodeState = NodeState {
     ..MOVED
 };
 
-// That this compaction moves the nodes of both arenas so, or is refused memory and moves none.
+// That this compaction moves the nodes, or is refused memory and moves none.
 fn moves(alloc: Global, call: Compaction) -> Result<(), Wrong> {
-    on_places(alloc, (1, 2), &MovesOnce { call, after: MOVED })?;
+    on_places(alloc, (1, 2), &MovesOnce { call, after: MOVED })
+}
+
+// The same in a direct arena.
+fn moves_direct(alloc: Global, call: Compaction) -> Result<(), Wrong> {
     let after = DIRECT_MOVED;
     on_direct_places(alloc, (1, 2), &MovesOnce { call, after })
 }
@@ -353,8 +365,20 @@ fn without_memory_nothing_moves(rt: HostRuntime) -> Result<(), Fail> {
 }
 
 #[test]
+fn without_memory_no_direct_arena_moves(rt: HostRuntime) -> Result<(), Fail> {
+    moves_direct(rt.alloc(), Compaction::Renamed(false))?;
+    Ok(())
+}
+
+#[test]
 fn without_memory_there_is_no_map(rt: HostRuntime) -> Result<(), Fail> {
     moves(rt.alloc(), Compaction::Mapped(false))?;
+    Ok(())
+}
+
+#[test]
+fn without_memory_there_is_no_map_of_a_direct_arena(rt: HostRuntime) -> Result<(), Fail> {
+    moves_direct(rt.alloc(), Compaction::Mapped(false))?;
     Ok(())
 }
 
@@ -381,4 +405,19 @@ impl NodeTrial for AsksFirst {
 fn memory_comes_before_a_dangling_link(rt: HostRuntime) -> Result<(), Fail> {
     on_nodes::<P0, Places, _>(rt.alloc(), &DANGLING, &[], &AsksFirst)?;
     Ok(())
+}
+
+// Whether an error equals its copy.
+fn equals_its_copy<E: Error + Copy + Eq>(error: E) -> bool {
+    let copy = error;
+    copy == error
+}
+
+#[test]
+fn a_refused_compaction_is_an_error(rt: HostRuntime) {
+    let unresolved: CompactError<P0> = CompactError::Unresolved(P0::invalid());
+    let reallocation: CompactError<P0> = CompactError::Reallocation(ReallocationError::AllocError);
+    assert!(rt; equals_its_copy(unresolved));
+    assert!(rt; equals_its_copy(reallocation));
+    assert!(rt; unresolved != reallocation);
 }

@@ -12,8 +12,8 @@ use triple_arena_stack::{
     NonZeroInxArray, NonZeroInxGenericStack, NonZeroInxLimitedVec, NonZeroInxVec, SetMaxCapacity,
 };
 use triple_arena_test_kit::{
-    Call, Kind, Numbered, SLOTS, Scarce, State, TestedArena, Token, Told, Trial, Wrong,
-    answer_of_any, answer_of_two, answer_to_read, answer_to_walk,
+    Call, Kind, Numbered, Removed, SLOTS, Scarce, State, Steps, TestedArena, Token, Told, Trial,
+    Wrong, answer_of_any, answer_of_two, answer_to_read, answer_to_walk, new_arena,
 };
 
 pub type Heap<P> = NonZeroInxVec<DirectSlot<P, Token>>;
@@ -346,6 +346,33 @@ pub fn with_room<P: Ptr, S: NonZeroInxGenericStack<DirectSlot<P, Token>>>(
         Ok(arena) => Ok(Direct { arena }),
         Err(_refused) => Err(Wrong::NoMemory),
     }
+}
+
+/// A direct arena of this room, after these calls.
+pub fn direct_after<P: Ptr, S: NonZeroInxGenericStack<DirectSlot<P, Token>> + Drop>(
+    alloc: Global,
+    room: usize,
+    steps: &Steps,
+) -> Result<Direct<P, S>, Wrong>
+where
+    P::Gen: Numbered,
+{
+    let mut direct: Direct<P, S> = with_room(alloc, room)?;
+    steps.on(&mut direct)?;
+    Ok(direct)
+}
+
+/// An arena after these insertions and removals.
+pub fn arena_after<P: Ptr, S: NonZeroInxGenericStack<ArenaSlot<P, Token>> + Drop>(
+    alloc: Global,
+    entries: &Removed,
+) -> Result<Arena<P, Token, S>, Wrong>
+where
+    P::Gen: Numbered,
+{
+    let mut arena: Arena<P, Token, S> = new_arena(alloc);
+    entries.on(&mut arena)?;
+    Ok(arena)
 }
 
 /// Tries it on a direct arena over a stack, with this room.

@@ -1,6 +1,6 @@
 //! Transfer into direct arenas and out of them.
 
-use super::tested_direct::{Direct, Heap, Limited, with_room};
+use super::tested_direct::{Direct, Heap, Limited, arena_after, direct_after, with_room};
 use std::alloc::Global;
 use std::test::Fail;
 use triple_arena::{Arena, ArenaSlot, CompactArenaTrait};
@@ -10,7 +10,7 @@ use triple_arena_ptr::{P0, Ptr, Q2};
 use triple_arena_stack::NonZeroInxGenericStack;
 use triple_arena_test_kit::{
     Call, Heap as ArenaHeap, NO_ENTRY, Numbered, Removed, Steps, TestedArena, Token, Told, Trial,
-    Wrong, is_text, is_told, new_arena,
+    Wrong, is_told,
 };
 
 // A value that was transferred, and a hundred more where its removal wrapped the counter.
@@ -71,20 +71,12 @@ const TWO_OF_THREE: Removed = Removed {
     removed: &[1],
 };
 
-fn two_of_three<S: NonZeroInxGenericStack<ArenaSlot<P0, Token>> + Drop>(
-    alloc: Global,
-) -> Result<Arena<P0, Token, S>, Wrong> {
-    let mut arena = new_arena(alloc);
-    TWO_OF_THREE.on(&mut arena)?;
-    Ok(arena)
-}
-
 // From an arena of these entries over the second stack.
 fn from_an_arena<
     S: NonZeroInxGenericStack<DirectSlot<Q2, Token>> + Drop,
     R: NonZeroInxGenericStack<ArenaSlot<P0, Token>> + Drop,
 >(alloc: Global, expected: &Transferred) -> Result<(), Wrong> {
-    let mut source: Arena<P0, Token, R> = two_of_three(alloc)?;
+    let mut source: Arena<P0, Token, R> = arena_after(alloc, &TWO_OF_THREE)?;
     into_direct::<S, Arena<P0, Token, R>>(alloc, &mut source, expected)?;
     expected.source.on(&mut source)
 }
@@ -133,8 +125,7 @@ fn from_a_direct_one<
     S: NonZeroInxGenericStack<DirectSlot<Q2, Token>> + Drop,
     R: NonZeroInxGenericStack<DirectSlot<P0, Token>> + Drop,
 >(alloc: Global, expected: &Transferred) -> Result<(), Wrong> {
-    let mut source: Direct<P0, R> = with_room(alloc, 4)?;
-    WITH_GAPS.on(&mut source)?;
+    let mut source: Direct<P0, R> = direct_after(alloc, 4, &WITH_GAPS)?;
     into_direct::<S, DirectArena<P0, Token, R>>(alloc, &mut source.arena, expected)?;
     expected.source.on(&mut source)
 }

@@ -1,7 +1,7 @@
 //! The calls of a stack and their answers as values, so that a test is a table of them.
 
 use std::num::NonZeroUsize;
-use triple_arena_base::{AllocError, GetDisjointMutError, ReallocationError};
+use triple_arena_base::{GetDisjointMutError, ReallocationError};
 
 /// A call; an item is given by its number, and an index by its number.
 ///
@@ -164,12 +164,6 @@ pub enum Wrong {
     NotRefused,
 }
 
-impl From<AllocError> for Wrong {
-    fn from(_refused: AllocError) -> Wrong {
-        Wrong::NoMemory
-    }
-}
-
 /// That the call of this row told what was expected.
 pub fn is_told(row: usize, told: Told, expected: Told) -> Result<(), Wrong> {
     if told == expected {
@@ -227,100 +221,74 @@ fn push_full<A: Tested>(stack: &mut A, push: Call) -> Told {
     }
 }
 
-// Length, capacity and limit.
-#[derive(Clone, Copy)]
-struct Bounds {
-    len: usize,
-    capacity: usize,
-    limit: Option<usize>,
-}
-
-fn bounds_of<A: Tested>(stack: &mut A) -> Bounds {
-    match stack.answer(Call::Bounds) {
-        Told::Bounds(len, capacity, limit) => Bounds {
-            len,
-            capacity,
-            limit,
-        },
-        _ => Bounds {
-            len: 0,
-            capacity: 0,
-            limit: None,
-        },
+// The length of a stack of these bounds.
+fn len_in(bounds: Told) -> usize {
+    match bounds {
+        Told::Bounds(len, _, _) => len,
+        _ => 0,
     }
 }
 
-impl Bounds {
-    // What refuses one more item of a full stack.
-    fn refusal(self) -> Told {
-        match self.limit {
-            Some(most) if most <= self.len => Told::BeyondMaxCapacity,
+// What refuses one more item of a stack of these bounds: nothing where it isn't full.
+fn refusal_at(bounds: Told) -> Told {
+    match bounds {
+        Told::Bounds(len, capacity, limit) if len == capacity => match limit {
+            Some(most) if most <= len => Told::BeyondMaxCapacity,
             _ => Told::NoMemory,
-        }
-    }
-
-    fn is_full(self) -> bool {
-        self.len == self.capacity
-    }
-
-    fn is_as(self, before: Bounds) -> bool {
-        self.len == before.len
-            && self.capacity == before.capacity
-            && told_limit(self.limit) == told_limit(before.limit)
+        },
+        _ => Told::Nothing,
     }
 }
 
 // Makes a call that tells the index of the next item, and that leaves so many items more where it is
 // done. Only a full stack may refuse it, which is then as it was before.
 fn is_next<A: Tested>(stack: &mut A, call: Call, more: usize) -> bool {
-    let before = bounds_of(stack);
+    let before = stack.answer(Call::Bounds);
     let told = stack.answer(call);
-    let after = bounds_of(stack);
-    let is_right = if told == Told::At(before.len.wrapping_add(1)) {
-        after.len == before.len.wrapping_add(more)
+    let after = stack.answer(Call::Bounds);
+    let len = len_in(before);
+    let is_right = if told == Told::At(len.wrapping_add(1)) {
+        len_in(after) == len.wrapping_add(more)
     } else {
-        before.is_full() && told == before.refusal() && after.is_as(before)
+        told == refusal_at(before) && after == before
     };
     is_right && stack.answer(Call::IsNumbered) == Told::Is(true)
-}
-
-// Pushes an item that is numbered as its index, by either call.
-fn is_pushed_next<A: Tested>(stack: &mut A) -> bool {
-    let number = bounds_of(stack).len.wrapping_add(1) as u64;
-    if number % 2 == 0 {
-        is_next(stack, Call::Push(number), 1)
-    } else {
-        is_next(stack, Call::PushReallocating(number), 1)
-    }
-}
-
-// Takes an entry by each call, and lets it go.
-fn are_entered_next<A: Tested>(stack: &mut A) -> bool {
-    let is_entered = is_next(stack, Call::EnterReallocating, 0);
-    is_next(stack, Call::Enter, 0) && is_entered
 }
 
 // Reallocates a stack, which keeps its items. Refused, it stays as it was.
 fn is_reallocated_next<A: Tested>(stack: &mut A, asked: usize) -> bool {
-    let before = bounds_of(stack);
+    let before = stack.answer(Call::Bounds);
     let told = stack.answer(Call::Reallocate(asked));
-    let after = bounds_of(stack);
+    let after = stack.answer(Call::Bounds);
     let is_right = if told == Told::Nothing {
-        after.len == before.len
+        len_in(after) == len_in(before)
     } else {
-        after.is_as(before)
+        after == before
     };
     is_right && stack.answer(Call::IsNumbered) == Told::Is(true)
+}
+
+// The next push, of an item that is numbered as its index, by one call or the other.
+fn next_push(bounds: Told) -> Call {
+    let number = len_in(bounds).wrapping_add(1) as u64;
+    if number % 2 == 0 {
+        Call::Push(number)
+    } else {
+        Call::PushReallocating(number)
+    }
 }
 
 // Nine pushes between entries, after a reallocation, and then four items go.
 fn whatever<A: Tested>(stack: &mut A, asked: usize) -> Told {
     let mut all = is_reallocated_next(stack, asked);
-    all &= are_entered_next(stack);
+    all &= is_next(stack, Call::EnterReallocating, 0);
+    all &= is_next(stack, Call::Enter, 0);
     for _ in 0..9 {
-        all &= is_pushed_next(stack);
+        let push = next_push(stack.answer(Call::Bounds));
+        all &= is_next(stack, push, 1);
     }
-    all &= are_entered_next(stack);
+    all &= is_next(stack, Call::EnterReallocating, 0);
+    all &= is_next(stack, Call::Enter, 0);
     for _ in 0..4 {
         stack.answer(Call::Pop);
     }

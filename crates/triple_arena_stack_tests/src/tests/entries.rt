@@ -89,27 +89,19 @@ fn each_entry_call_on_each_stack_with_a_limit(rt: HostRuntime) -> Result<(), Wro
     )
 }
 
-// The entry of each stack has a name of its own: these functions are there to be typed.
-fn of_heap(entry: NonZeroInxVecPushEntry<'_, Token>) -> PushEntry<'_, Token, HeapStack<Token>> {
-    entry
-}
-
-fn of_limited(
-    entry: NonZeroInxLimitedVecPushEntry<'_, Token>,
-) -> PushEntry<'_, Token, LimitedStack<Token>> {
-    entry
-}
-
-fn of_fixed(
-    entry: NonZeroInxBoxedSlicePushEntry<'_, Token>,
-) -> PushEntry<'_, Token, FixedStack<Token>> {
-    entry
-}
-
-fn of_array(
-    entry: NonZeroInxArrayPushEntry<'_, Token, 1>,
-) -> PushEntry<'_, Token, ArrayStack<Token, 1>> {
-    entry
+// The entry of each stack has a name of its own: this function is there to be typed.
+fn of_each_stack<'a>(
+    heap: NonZeroInxVecPushEntry<'a, Token>,
+    limited: NonZeroInxLimitedVecPushEntry<'a, Token>,
+    fixed: NonZeroInxBoxedSlicePushEntry<'a, Token>,
+    array: NonZeroInxArrayPushEntry<'a, Token, 1>,
+) -> (
+    PushEntry<'a, Token, HeapStack<Token>>,
+    PushEntry<'a, Token, LimitedStack<Token>>,
+    PushEntry<'a, Token, FixedStack<Token>>,
+    PushEntry<'a, Token, ArrayStack<Token, 1>>,
+) {
+    (heap, limited, fixed, array)
 }
 
 // A push by the entry of a stack that is made for one item.

@@ -134,29 +134,27 @@ fn a_new_fixed_stack_has_no_place(rt: HostRuntime) -> Result<(), Wrong> {
     )
 }
 
+// The bounds of three places.
+const THREE_PLACES: &[(Call, Told)] = &[
+    (Call::Bounds, Told::Bounds(0, 3, Some(3))),
+    (Call::Reallocate(1), Told::Nothing),
+    (Call::Reallocate(4), Told::BeyondMaxCapacity),
+    (Call::Bounds, Told::Bounds(0, 3, Some(3))),
+];
+
+// No push finds a place.
+const NO_PLACES: &[(Call, Told)] = &[
+    (Call::PushWithinCapacity(1), Told::NotWithinCapacity),
+    (Call::Push(1), Told::BeyondMaxCapacity),
+];
+
 #[test]
 fn an_array_has_its_places_and_no_more(rt: HostRuntime) -> Result<(), Wrong> {
     both(
         without_memory(in_three_places(rt.alloc(), Some(4), &[])),
         both(
-            in_three_places(
-                rt.alloc(),
-                Some(3),
-                &[
-                    (Call::Bounds, Told::Bounds(0, 3, Some(3))),
-                    (Call::Reallocate(1), Told::Nothing),
-                    (Call::Reallocate(4), Told::BeyondMaxCapacity),
-                    (Call::Bounds, Told::Bounds(0, 3, Some(3))),
-                ],
-            ),
-            in_no_places(
-                rt.alloc(),
-                None,
-                &[
-                    (Call::PushWithinCapacity(1), Told::NotWithinCapacity),
-                    (Call::Push(1), Told::BeyondMaxCapacity),
-                ],
-            ),
+            in_three_places(rt.alloc(), Some(3), THREE_PLACES),
+            in_no_places(rt.alloc(), None, NO_PLACES),
         ),
     )
 }
@@ -232,58 +230,56 @@ const KEEPS_ITS_ROOM: &[(Call, Told)] = &[
     HAS_TWO,
 ];
 
+// Reallocations of a stack with two items and room for four, which is then as it was asked for.
+const HEAP_ROOM: &[(Call, Told)] = &[
+    (Call::Push(1), Told::At(1)),
+    (Call::Push(2), Told::At(2)),
+    (Call::Bounds, Told::Bounds(2, 4, None)),
+    (Call::Reallocate(4), Told::Nothing),
+    (Call::Bounds, Told::Bounds(2, 4, None)),
+    HAS_TWO,
+    (Call::Reallocate(3), Told::Nothing),
+    (Call::Bounds, Told::Bounds(2, 3, None)),
+    HAS_TWO,
+    (Call::Reallocate(9), Told::Nothing),
+    (Call::Bounds, Told::Bounds(2, 9, None)),
+    HAS_TWO,
+    (Call::Reallocate(1), Told::Nothing),
+    (Call::Bounds, Told::Bounds(2, 2, None)),
+    HAS_TWO,
+];
+
+// The same under a limit of four.
+const LIMITED_ROOM: &[(Call, Told)] = &[
+    (Call::Push(1), Told::At(1)),
+    (Call::Push(2), Told::At(2)),
+    (Call::Bounds, Told::Bounds(2, 4, Some(4))),
+    (Call::Reallocate(4), Told::Nothing),
+    (Call::Bounds, Told::Bounds(2, 4, Some(4))),
+    HAS_TWO,
+    (Call::Reallocate(3), Told::Nothing),
+    (Call::Bounds, Told::Bounds(2, 3, Some(4))),
+    HAS_TWO,
+    (Call::Reallocate(0), Told::Nothing),
+    (Call::Bounds, Told::Bounds(2, 2, Some(4))),
+    HAS_TWO,
+    (Call::Reallocate(4), Told::Nothing),
+    (Call::Bounds, Told::Bounds(2, 4, Some(4))),
+    HAS_TWO,
+    (Call::Reallocate(5), Told::BeyondMaxCapacity),
+    (Call::Bounds, Told::Bounds(2, 4, Some(4))),
+    HAS_TWO,
+    (Call::Reallocate(usize::MAX), Told::BeyondMaxCapacity),
+    (Call::Bounds, Told::Bounds(2, 4, Some(4))),
+    HAS_TWO,
+];
+
 #[test]
 fn reallocation_of_each_stack(rt: HostRuntime) -> Result<(), Wrong> {
     both(
         both(
-            on_heap(
-                rt.alloc(),
-                Some(4),
-                &[
-                    (Call::Push(1), Told::At(1)),
-                    (Call::Push(2), Told::At(2)),
-                    (Call::Bounds, Told::Bounds(2, 4, None)),
-                    (Call::Reallocate(4), Told::Nothing),
-                    (Call::Bounds, Told::Bounds(2, 4, None)),
-                    HAS_TWO,
-                    (Call::Reallocate(3), Told::Nothing),
-                    (Call::Bounds, Told::Bounds(2, 3, None)),
-                    HAS_TWO,
-                    (Call::Reallocate(9), Told::Nothing),
-                    (Call::Bounds, Told::Bounds(2, 9, None)),
-                    HAS_TWO,
-                    (Call::Reallocate(1), Told::Nothing),
-                    (Call::Bounds, Told::Bounds(2, 2, None)),
-                    HAS_TWO,
-                ],
-            ),
-            on_limited(
-                rt.alloc(),
-                Some(4),
-                &[
-                    (Call::Push(1), Told::At(1)),
-                    (Call::Push(2), Told::At(2)),
-                    (Call::Bounds, Told::Bounds(2, 4, Some(4))),
-                    (Call::Reallocate(4), Told::Nothing),
-                    (Call::Bounds, Told::Bounds(2, 4, Some(4))),
-                    HAS_TWO,
-                    (Call::Reallocate(3), Told::Nothing),
-                    (Call::Bounds, Told::Bounds(2, 3, Some(4))),
-                    HAS_TWO,
-                    (Call::Reallocate(0), Told::Nothing),
-                    (Call::Bounds, Told::Bounds(2, 2, Some(4))),
-                    HAS_TWO,
-                    (Call::Reallocate(4), Told::Nothing),
-                    (Call::Bounds, Told::Bounds(2, 4, Some(4))),
-                    HAS_TWO,
-                    (Call::Reallocate(5), Told::BeyondMaxCapacity),
-                    (Call::Bounds, Told::Bounds(2, 4, Some(4))),
-                    HAS_TWO,
-                    (Call::Reallocate(usize::MAX), Told::BeyondMaxCapacity),
-                    (Call::Bounds, Told::Bounds(2, 4, Some(4))),
-                    HAS_TWO,
-                ],
-            ),
+            on_heap(rt.alloc(), Some(4), HEAP_ROOM),
+            on_limited(rt.alloc(), Some(4), LIMITED_ROOM),
         ),
         both(
             on_fixed(rt.alloc(), Some(4), KEEPS_ITS_ROOM),
@@ -301,20 +297,19 @@ const TAKES_THOUSANDS: &[(Call, Told)] = &[
     (Call::Bounds, Told::Bounds(5000, 5000, Some(5000))),
 ];
 
+// A stack without a limit that is made for five thousand items takes them all, and one more.
+const GROWS_PAST_THOUSANDS: &[(Call, Told)] = &[
+    (Call::Bounds, Told::Bounds(0, 5000, None)),
+    (Call::PushUpTo(5000), Told::Is(true)),
+    (Call::Bounds, Told::Bounds(5000, 5000, None)),
+    (Call::Push(5001), Told::At(5001)),
+    (Call::Bounds, Told::Bounds(5001, 10_000, None)),
+];
+
 #[test]
 fn thousands_of_items_in_a_stack_made_for_them(rt: HostRuntime) -> Result<(), Wrong> {
     both(
-        on_heap(
-            rt.alloc(),
-            Some(5000),
-            &[
-                (Call::Bounds, Told::Bounds(0, 5000, None)),
-                (Call::PushUpTo(5000), Told::Is(true)),
-                (Call::Bounds, Told::Bounds(5000, 5000, None)),
-                (Call::Push(5001), Told::At(5001)),
-                (Call::Bounds, Told::Bounds(5001, 10_000, None)),
-            ],
-        ),
+        on_heap(rt.alloc(), Some(5000), GROWS_PAST_THOUSANDS),
         both(
             on_limited(rt.alloc(), Some(5000), TAKES_THOUSANDS),
             on_fixed(rt.alloc(), Some(5000), TAKES_THOUSANDS),
@@ -322,26 +317,24 @@ fn thousands_of_items_in_a_stack_made_for_them(rt: HostRuntime) -> Result<(), Wr
     )
 }
 
+// A new stack takes five thousand items.
+const GROWS_TO_THOUSANDS: &[(Call, Told)] = &[
+    (Call::PushUpTo(5000), Told::Is(true)),
+    (Call::Bounds, Told::Bounds(5000, 8192, None)),
+];
+
+// The same under a limit of as many, and no more.
+const GROWS_TO_ITS_LIMIT: &[(Call, Told)] = &[
+    (Call::SetMaxCapacity(5000), Told::Nothing),
+    (Call::PushUpTo(5000), Told::Is(true)),
+    (Call::Bounds, Told::Bounds(5000, 5000, Some(5000))),
+    (Call::Push(5001), Told::BeyondMaxCapacity),
+];
+
 #[test]
 fn stacks_grow_to_thousands_of_items(rt: HostRuntime) -> Result<(), Wrong> {
     both(
-        on_heap(
-            rt.alloc(),
-            None,
-            &[
-                (Call::PushUpTo(5000), Told::Is(true)),
-                (Call::Bounds, Told::Bounds(5000, 8192, None)),
-            ],
-        ),
-        on_limited(
-            rt.alloc(),
-            None,
-            &[
-                (Call::SetMaxCapacity(5000), Told::Nothing),
-                (Call::PushUpTo(5000), Told::Is(true)),
-                (Call::Bounds, Told::Bounds(5000, 5000, Some(5000))),
-                (Call::Push(5001), Told::BeyondMaxCapacity),
-            ],
-        ),
+        on_heap(rt.alloc(), None, GROWS_TO_THOUSANDS),
+        on_limited(rt.alloc(), None, GROWS_TO_ITS_LIMIT),
     )
 }

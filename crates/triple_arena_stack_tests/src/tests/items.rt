@@ -11,7 +11,9 @@ pub trait Items<T> {
     fn number(&self, item: &T) -> u64;
 
     /// How many items were dropped, where that is counted.
-    fn drops(&self) -> u64;
+    fn drops(&self) -> u64 {
+        0
+    }
 }
 
 /// An item with a number, which is dropped and not copied.
@@ -32,10 +34,6 @@ impl Items<Token> for Tokens {
     fn number(&self, item: &Token) -> u64 {
         item.number
     }
-
-    fn drops(&self) -> u64 {
-        0
-    }
 }
 
 /// Copies of one item, of any type: the number of each is 1, and that of another item 0.
@@ -49,10 +47,6 @@ impl<T: Copy + PartialEq> Items<T> for CopiesOf<T> {
 
     fn number(&self, item: &T) -> u64 {
         if *item == self.0 { 1 } else { 0 }
-    }
-
-    fn drops(&self) -> u64 {
-        0
     }
 }
 

@@ -239,46 +239,36 @@ fn a_refusal_leaves_the_room_above_a_limit(rt: HostRuntime) -> Result<(), Wrong>
     )
 }
 
-// The bounds of a stack that is made for no item, under a limit.
+// Calls on a stack that is made for three items.
+const WITHIN_CAPACITY: &[(Call, Told)] = &[
+    (Call::Push(1), Told::At(1)),
+    (Call::Push(2), Told::At(2)),
+    (Call::Push(3), Told::At(3)),
+    (Call::Reallocate(3), Told::Nothing),
+    (Call::Reallocate(0), Told::Nothing),
+    (Call::Pop, Told::Holds(3)),
+    (Call::PushWithinCapacity(3), Told::At(3)),
+    (Call::Get(3), Told::Holds(3)),
+    (Call::Clear, Told::Nothing),
+    (Call::Enter, Told::At(1)),
+];
+
+// The bounds of an array of three places.
+const THREE_PLACES: &[(Call, Told)] = &[(Call::Bounds, Told::Bounds(0, 3, Some(3)))];
+
+// The bounds of a stack that is made for no item, without a limit and under one.
+const NO_ROOM_YET: &[(Call, Told)] = &[(Call::Bounds, Told::Bounds(0, 0, None))];
+
 const NO_PLACE: &[(Call, Told)] = &[(Call::Bounds, Told::Bounds(0, 0, Some(0)))];
 
 #[test]
 fn calls_that_take_no_memory(rt: HostRuntime) -> Result<(), Wrong> {
-    let tried = on_heap(
-        rt.alloc(),
-        Some(3),
-        &[
-            (Call::Push(1), Told::At(1)),
-            (Call::Push(2), Told::At(2)),
-            (Call::Push(3), Told::At(3)),
-            (Call::Reallocate(3), Told::Nothing),
-            (Call::Reallocate(0), Told::Nothing),
-            (Call::Pop, Told::Holds(3)),
-            (Call::PushWithinCapacity(3), Told::At(3)),
-            (Call::Get(3), Told::Holds(3)),
-            (Call::Clear, Told::Nothing),
-            (Call::Enter, Told::At(1)),
-        ],
+    let tried = where_there_is_memory(on_heap(rt.alloc(), Some(3), WITHIN_CAPACITY));
+    let in_array = in_three_places(rt.alloc(), Some(3), THREE_PLACES);
+    let without_limit = on_heap(rt.alloc(), Some(0), NO_ROOM_YET);
+    let under_limit = both(
+        on_limited(rt.alloc(), Some(0), NO_PLACE),
+        on_fixed(rt.alloc(), Some(0), NO_PLACE),
     );
-    both(
-        where_there_is_memory(tried),
-        both(
-            in_three_places(
-                rt.alloc(),
-                Some(3),
-                &[(Call::Bounds, Told::Bounds(0, 3, Some(3)))],
-            ),
-            both(
-                on_heap(
-                    rt.alloc(),
-                    Some(0),
-                    &[(Call::Bounds, Told::Bounds(0, 0, None))],
-                ),
-                both(
-                    on_limited(rt.alloc(), Some(0), NO_PLACE),
-                    on_fixed(rt.alloc(), Some(0), NO_PLACE),
-                ),
-            ),
-        ),
-    )
+    both(both(tried, in_array), both(without_limit, under_limit))
 }

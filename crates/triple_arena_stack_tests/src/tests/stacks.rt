@@ -69,12 +69,12 @@ impl<T: Drop, K: SetMaxCapacity<T>, M: Items<T>> Tested for WithLimit<T, K, M> {
 }
 
 // A stack with this room, or as `new` makes it.
-fn made<T, S: NonZeroInxGenericStack<T>>(
-    alloc: Global,
-    room: Option<usize>,
-) -> Result<S, AllocError> {
+fn made<T, S: NonZeroInxGenericStack<T>>(alloc: Global, room: Option<usize>) -> Result<S, Wrong> {
     match room {
-        Some(room) => S::with_min_capacity(alloc, room),
+        Some(room) => match S::with_min_capacity(alloc, room) {
+            Ok(stack) => Ok(stack),
+            Err(AllocError) => Err(Wrong::NoMemory),
+        },
         None => Ok(S::new(alloc)),
     }
 }

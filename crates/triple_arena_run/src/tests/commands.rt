@@ -9,9 +9,9 @@ use crate::reply::Reply;
 use crate::session::Session;
 use std::alloc::Global;
 use std::process::Abort;
-use triple_arena::ArenaSlot;
-use triple_arena_ptr::P0;
-use triple_arena_stack::{NonZeroInxArray, NonZeroInxBoxedSlice};
+use triple_arena::{ArenaSlot, ArenaTrait};
+use triple_arena_ptr::{P0, Ptr};
+use triple_arena_stack::{NonZeroInxArray, NonZeroInxBoxedSlice, NonZeroInxGenericStack};
 
 type Slot = ArenaSlot<P0, Node<u64, P0>>;
 
@@ -242,8 +242,45 @@ fn entries_of(session: &mut Session<P0, u64>) -> [Entry; 12] {
     entries
 }
 
+// The free indexes of an arena of at most 12 slots, in the order in which insertion takes them, and
+// then 0.
+fn free_of(session: &Session<P0, u64>) -> [usize; 12] {
+    let arena = session.arena();
+    let mut free = [0; 12];
+    let mut next = arena.freelist_root();
+    for place in &mut free {
+        if let Some(inx) = next {
+            *place = inx.get();
+            next = match arena.backing().get(inx) {
+                Some(ArenaSlot::Free(link)) => link.after(inx),
+                _ => None,
+            };
+        }
+    }
+    free
+}
+
+// The same once the free list is in order: rising, and without those past the last entry.
+fn in_order(session: &Session<P0, u64>) -> [usize; 12] {
+    let last = match session.arena().find_last_inx_ptr() {
+        Some(p) => p.inx().get(),
+        None => 0,
+    };
+    let free = free_of(session);
+    let mut ordered = [0; 12];
+    let mut place = 0;
+    for inx in 1..=last {
+        if free.contains(&inx) && place < 12 {
+            ordered[place] = inx;
+            place += 1;
+        }
+    }
+    ordered
+}
+
 // Expects the command of a line to be answered so. Memory may be refused first, and then names,
-// entries, length, capacity and counter are as they were.
+// entries, length, capacity and counter are as they were, and the free list too; a reservation has
+// put it in order.
 fn answers_or_changes_nothing(
     rt: &impl Abort,
     session: &mut Session<P0, u64>,
@@ -253,11 +290,15 @@ fn answers_or_changes_nothing(
     let Some(command) = parse_command(line.as_bytes()) else {
         panic!(rt; "{line} is a command");
     };
-    let before = (entries_of(session), extent(session));
+    let free = match command {
+        Command::Reserve(_) => in_order(session),
+        _ => free_of(session),
+    };
+    let before = (entries_of(session), extent(session), free);
     let mut reply = session.step(command);
     if reply == Reply::NoMemory {
         assert!(rt;
-            (entries_of(session), extent(session)) == before,
+            (entries_of(session), extent(session), free_of(session)) == before,
             "at {line}"
         );
         reply = session.step(command);
@@ -290,19 +331,34 @@ fn a_refused_command_changes_nothing(rt: HostRuntime) {
             ),
             ("insert 3 -", "given 3"),
             ("insert 4 -", "given 4"),
-            ("invalidate 1", "given 5"),
-            ("compact", "unresolved"),
+            ("remove 2", "removed 2 1"),
             ("remove 3", "removed 3 -"),
-            ("set 2 7 5", "done"),
+            // the free indexes are 3 and 2, in this order
+            ("show", "{P0[1](2): (1, None), P0[4](2): (4, None)}"),
+            ("invalidate 1", "given 5"),
+            ("within 5 1", "given 6"),
+            ("insert 6 -", "given 7"),
+            ("insert 7 -", "given 8"),
+            ("remove 7", "removed 6 -"),
+            ("remove 4", "removed 4 -"),
+            // 4 and 2
+            ("compact", "unresolved"),
+            ("within 8 -", "given 9"),
+            ("remove 6", "removed 5 1"),
+            // 3 and 2
+            ("reserve 7", "done"),
+            ("set 8 7 5", "done"),
+            ("remove 9", "removed 8 -"),
+            // 4, 2 and 3
             ("compact", "compacted"),
-            ("within 8 -", "given 6"),
-            ("invalidate 6", "given 7"),
-            ("invalidate 7", "given 8"),
-            ("within 9 -", "given 9"),
-            ("get 2", "found 7 5"),
-            ("reserve 0", "done"),
-            ("capacity", "count 5"),
-            ("insert 6 -", "given 10"),
+            (
+                "show",
+                "{P0[1](a): (1, None), P0[2](a): (7, Some(P0[1](a)))}",
+            ),
+            ("get 8", "found 7 5"),
+            ("reserve 2", "done"),
+            ("capacity", "count 2"),
+            ("insert 9 5", "given 10"),
             ("clear", "cleared"),
             ("show", "{}"),
         ],

@@ -2,4 +2,5 @@
 
 mod cloning;
 mod on_two;
+mod refused_memory;
 mod transfer;

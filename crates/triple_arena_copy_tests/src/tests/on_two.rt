@@ -43,8 +43,8 @@ fn filled<A: TestedArena>(arena: &mut A, entries: usize) -> Told {
     }
 }
 
-// What a clone answers whose values are clones.
-fn told_clone(cloned: Result<(), CloneFromError<AllocError>>) -> Told {
+/// What cloning tells whose values are clones.
+pub fn told_clone(cloned: Result<(), CloneFromError<AllocError>>) -> Told {
     match cloned {
         Ok(()) => Told::Done,
         Err(CloneFromError::Reallocation(refused)) => Told::Refused(refused),
@@ -52,7 +52,7 @@ fn told_clone(cloned: Result<(), CloneFromError<AllocError>>) -> Told {
     }
 }
 
-fn clone_from<P: Ptr, A: ArenaCloneFromWith<P, Token>, B: CompactArenaTrait<P, Token>>(
+pub fn clone_from<P: Ptr, A: ArenaCloneFromWith<P, Token>, B: CompactArenaTrait<P, Token>>(
     target: &mut A,
     source: &B,
 ) -> Told {
@@ -72,7 +72,7 @@ fn clone_source<P: Ptr, A: ArenaCloneFromWith<P, Token> + CompactArenaTrait<P, T
     }
 }
 
-fn clone_tenfold_but<P: Ptr, A: ArenaCloneFromWith<P, Token>, B: CompactArenaTrait<P, Token>>(
+pub fn clone_tenfold_but<P: Ptr, A: ArenaCloneFromWith<P, Token>, B: CompactArenaTrait<P, Token>>(
     target: &mut A,
     source: &B,
     refused: u64,
@@ -145,7 +145,7 @@ fn received(taken: InvalidationOption<Token>) -> Token {
     }
 }
 
-fn transfer<
+pub fn transfer<
     P: Ptr,
     A: CompactArenaTrait<P, Token>,
     Q: Ptr,

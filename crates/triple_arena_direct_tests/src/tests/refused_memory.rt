@@ -81,20 +81,32 @@ fn clone_from<P: Ptr, A: ArenaCloneFromWith<P, Token>, B: CompactArenaTrait<P, T
     told_clone(target.clone_from(source))
 }
 
-// What it tells of a direct arena and a source.
+// What cloning into an arena tells.
+fn cloned<P: Ptr, A: ArenaCloneFromWith<P, Token>, B: CompactArenaTrait<P, Token>>(
+    target: &mut A,
+    source: &B,
+    call: Copying,
+) -> Told {
+    match call {
+        Copying::CloneFrom => clone_from(target, source),
+        Copying::CloneFromWith => clone_but(target, source, 0),
+        Copying::Transfer => Told::NoSuchCall,
+    }
+}
+
+// What a copy into a direct arena tells.
 fn copy<S: NonZeroInxGenericStack<DirectSlot<P0, Token>>, B: CompactArenaTrait<P0, Token>>(
     target: &mut DirectArena<P0, Token, S>,
     source: &mut B,
     call: Copying,
 ) -> Told {
     match call {
-        Copying::CloneFrom => clone_from(target, source),
-        Copying::CloneFromWith => clone_but(target, source, 0),
         Copying::Transfer => transfer(target, source, 7),
+        _ => cloned(target, source, call),
     }
 }
 
-// Five slots, of which those at 1 to 5 have entries.
+// Five entries, the last of which comes first.
 const FIVE: Steps = Steps(&[
     (Call::DirectInsert(5, 2, 5), Told::Holds(5)),
     (Call::DirectInsert(1, 2, 1), Told::Holds(1)),

@@ -243,7 +243,8 @@ impl NodeTrial for TakesNoMemory {
 }
 
 /// Holds with ample memory, and also where any one request for memory is refused
-/// (`rt try --test --fail-alloc N`), as do the tests below; the first request is the compaction's.
+/// (`rt try --test --fail-alloc N`), as do the tests `without_memory_...`, whose first request is the
+/// compaction's.
 #[test]
 fn without_entries_no_memory_is_asked_for(rt: HostRuntime) -> Result<(), Fail> {
     on_nodes::<P0, Places, _>(rt.alloc(), &[], &[], &TakesNoMemory)?;

@@ -2,11 +2,12 @@
 #![tactic(auto)]
 
 mod arena;
+mod compaction;
 mod stack;
 
 use std::env;
 
-const USAGE: &str = "usage: triple_arena_bench stack | arena SIZES...";
+const USAGE: &str = "usage: triple_arena_bench stack | arena SIZES... | compact SIZES...";
 
 fn main(rt: HostRuntime) -> anyhow::Result<()> {
     let mut args = env::args(&rt)?.skip(1);
@@ -15,6 +16,11 @@ fn main(rt: HostRuntime) -> anyhow::Result<()> {
         Some(what) if what.as_str() == "arena" => {
             for size in args {
                 arena::run(&rt, rt.alloc(), size.as_str().parse()?)?;
+            }
+        }
+        Some(what) if what.as_str() == "compact" => {
+            for size in args {
+                compaction::run(&rt, rt.alloc(), size.as_str().parse()?)?;
             }
         }
         _ => println!(rt; "{USAGE}")?,

@@ -16,7 +16,7 @@ use Rattle.triple_arena_traits.specs.EntryLaws.{by_case, changes_at, slots-remov
 use Rattle.triple_arena.proofs.Keeping.{keeps_pointers}
 use Rattle.triple_arena_traits.proofs.WellFormed.{kept-inserted, place_free, counter-removed, live_item, live_counted}
 use Rattle.triple_arena_traits.specs.Compression.{closed_up, compressed, raised_if_any, counter_after, wraps_after}
-use Rattle.triple_arena_traits.specs.HeldSlots.{held_entry, refill_entry, refill_slots}
+use Rattle.triple_arena_traits.specs.HeldSlots.{held_entry, refill_slots}
 use Rattle.triple_arena_traits.specs.Values.{with_values_of}
 use Rattle.triple_arena_traits.specs.Walks.{keys}
 use Rattle.triple_arena_traits.specs.WalkLaws.{found}

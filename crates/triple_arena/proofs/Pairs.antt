@@ -1,5 +1,5 @@
 -- How two values that a call wrote stand in the slots.
-use Rattle.std.proofs.Common.{◌≡◌, ◌≢◌, ℕ, ◌-◌, List, Option, Some, IsSome, sym, subst, ◌∙◌}
+use Rattle.std.proofs.Common.{◌≡◌, ◌≢◌, ℕ, List, Option, Some, IsSome, sym, subst, ◌∙◌}
 use Rattle.triple_arena_traits.specs.Items.{item, with_item}
 use Rattle.triple_arena_traits.specs.ArenaState.{ArenaState, with_value}
 use Rattle.triple_arena_traits.specs.Entries.{entry_in}

@@ -1,13 +1,13 @@
 -- Laws of lists of pointers, and of the pointers of an arena.
-use Rattle.std.proofs.Common.{◌≡◌, ◌≢◌, ℕ, zero, suc, ◌+◌, ◌<◌, ◌==◌, ◌||◌, Bool, true, false, IsTrue, List, [], ◌∷◌, ◌++◌, Option, Some, None, is_some, slice_get, cond, refl, sym, ap, ◌∙◌, inl, inr, arith, true≢false}
-use Rattle.std.proofs.lemmas.Bool.{cases_Bool, cases_eq, eqb-true, eq-eqb, and_parts}
+use Rattle.std.proofs.Common.{◌≡◌, ◌≢◌, ℕ, zero, suc, ◌+◌, ◌<◌, ◌==◌, ◌||◌, Bool, true, false, IsTrue, List, [], ◌∷◌, ◌++◌, Option, Some, None, is_some, slice_get, refl, sym, ap, ◌∙◌, inl, inr, arith, true≢false}
+use Rattle.std.proofs.lemmas.Bool.{cases_eq, eqb-true, eq-eqb, and_parts}
 use Rattle.std.proofs.lemmas.List.Folds.{list_any-append}
 use Rattle.std.specs.Option.{option_and_then}
 use Rattle.triple_arena_ptr.specs.Pointers.{Pointer, is_same}
 use Rattle.triple_arena_traits.specs.Items.{item}
 use Rattle.triple_arena_traits.specs.ItemLaws.{joined, eq_true, eq_false}
 use Rattle.triple_arena_traits.specs.Entries.{value_under}
-use Rattle.triple_arena_traits.specs.ArenaState.{ArenaState, entry, arena_len}
+use Rattle.triple_arena_traits.specs.ArenaState.{ArenaState, entry}
 use Rattle.triple_arena_traits.specs.Walks.{keys_of, entries_from, keys}
 use Rattle.triple_arena_traits.specs.WalkLaws.{found}
 use Rattle.triple_arena_traits.specs.Histories.{has, AreDistinct, is_live}

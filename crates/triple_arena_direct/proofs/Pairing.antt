@@ -1,9 +1,9 @@
 -- How a walk writes the pointers of one arena into the entries of another.
-use Rattle.std.proofs.Common.{◌≡◌, ℕ, suc, ◌+◌, ◌<◌, false, List, [], ◌∷◌, ◌++◌, length, map, Option, Some, None, refl, sym, ap, ◌∙◌, arith, append_assoc}
+use Rattle.std.proofs.Common.{◌≡◌, ℕ, ◌<◌, false, List, [], ◌∷◌, ◌++◌, length, map, Option, Some, None, refl, sym, ap, ◌∙◌, arith, append_assoc}
 use Rattle.std.proofs.lemmas.List.{append-nil, map_push}
 use Rattle.triple_arena_ptr.specs.Pointers.{Pointer}
 use Rattle.triple_arena_traits.specs.Entries.{with_value_in}
-use Rattle.triple_arena_traits.specs.Walks.{Stand, Steps, IsAtFirst, entries_behind, entries_ahead, entries, keys_of, values_of, keys, values, keys_ahead}
+use Rattle.triple_arena_traits.specs.Walks.{Stand, Steps, IsAtFirst, entries_behind, keys_of, values_of, keys, values, keys_ahead}
 use Rattle.triple_arena_traits.specs.WalkLaws.{keys_first, keys_taken, keys_none, none_behind, all_behind, behind_written, ahead_written, forward_stays}
 
 no_length : (ks : List Pointer) → length ks ≡ 0 → ks ≡ []

@@ -1,12 +1,11 @@
 -- Pointers that values hold, as recasting by a map of live pointers finds and replaces them.
-use Rattle.std.proofs.Common.{◌≡◌, ℕ, not, Bool, true, false, cond, List, [], ◌∷◌, ◌++◌, map, Option, Some, None, is_some, Result, Ok, Err, refl, sym, ap, subst, ◌∙◌}
-use Rattle.std.specs.List.{find, AllZip}
+use Rattle.std.proofs.Common.{◌≡◌, ℕ, not, cond, List, [], ◌∷◌, ◌++◌, map, Option, Some, None, is_some, Result, Ok, Err, refl, sym, ap, subst, ◌∙◌}
 use Rattle.std.specs.Option.{option_map}
 use Rattle.triple_arena_base.specs.Held.{KeepsHeld, recast_from, recast_items, answer_from, recast_answer, held_all, refill_all}
 use Rattle.triple_arena_base.specs.HeldLists.{refill_ok}
 use Rattle.triple_arena_ptr.specs.Pointers.{Pointer}
 use Rattle.triple_arena_traits.specs.Entries.{look_up_in}
-use Rattle.triple_arena_direct.specs.Renaming.{first_unresolved, IsRenamed, AreRenamed}
+use Rattle.triple_arena_direct.specs.Renaming.{first_unresolved, AreRenamed}
 
 module _ {P T : Type 0} (numbers : P → Pointer) (slots : List (Option (ℕ × T))) where
   abbrev live : P → Option T

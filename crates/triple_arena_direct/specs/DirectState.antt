@@ -4,7 +4,7 @@ use Rattle.triple_arena_ptr.specs.Pointers.{Pointer}
 use Rattle.triple_arena_stack.specs.StackKind.{StackKind, reallocated_room}
 use Rattle.triple_arena_stack.specs.Capacity.{capacity_of}
 use Rattle.triple_arena_traits.specs.Items.{with_item}
-use Rattle.triple_arena_traits.specs.Entries.{entry_in, entry_count, with_value_in}
+use Rattle.triple_arena_traits.specs.Entries.{entry_count, with_value_in}
 use Rattle.triple_arena_traits.specs.FreeEnd.{shortened, extended}
 use Rattle.triple_arena_traits.specs.Walks.{keys}
 use Rattle.triple_arena_traits.specs.Compression.{placed}

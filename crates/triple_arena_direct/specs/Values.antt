@@ -1,5 +1,5 @@
 -- A direct arena whose values were written, and nothing else of it.
-use Rattle.std.specs.Prelude.{◌≡◌, ℕ, Option, is_some}
+use Rattle.std.specs.Prelude.{◌≡◌, is_some}
 use Rattle.triple_arena_ptr.specs.Pointers.{Pointer}
 use Rattle.triple_arena_traits.specs.Entries.{look_up_in}
 use Rattle.triple_arena_traits.specs.Values.{with_values_in, generations_in}

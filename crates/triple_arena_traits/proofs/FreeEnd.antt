@@ -1,5 +1,5 @@
 -- The end of a list of slots.
-use Rattle.std.proofs.Common.{◌≡◌, ℕ, ◌-◌, ◌<◌, List, length, Option, None, is_some, IsSome, sym, ap, ◌∙◌, arith, true≢false}
+use Rattle.std.proofs.Common.{◌≡◌, ℕ, ◌<◌, List, length, Option, None, is_some, IsSome, sym, ap, ◌∙◌, arith, true≢false}
 use Rattle.triple_arena_traits.specs.Entries.{entry_in}
 use Rattle.triple_arena_traits.specs.FreeList.{trimmed}
 use Rattle.triple_arena_traits.specs.EntryLaws.{entry-trimmed}

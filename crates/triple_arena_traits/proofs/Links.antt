@@ -1,5 +1,5 @@
 -- Items of mapped lists, and pointers by their parts.
-use Rattle.std.proofs.Common.{◌≡◌, ℕ, zero, suc, ◌-◌, List, map, Some, None, refl}
+use Rattle.std.proofs.Common.{◌≡◌, ℕ, zero, suc, List, map, Some, None, refl}
 use Rattle.std.proofs.lemmas.Option.{slice_get-map}
 use Rattle.triple_arena_traits.specs.Items.{item}
 

@@ -1,15 +1,15 @@
 -- Recasting the values of an arena, as a refill of its slots.
-use Rattle.std.proofs.Common.{◌≡◌, ℕ, zero, suc, ◌+◌, List, [], ◌∷◌, ◌++◌, length, take, drop, Option, Some, None, refl, sym, ap, ◌∙◌, arith, append_assoc}
+use Rattle.std.proofs.Common.{◌≡◌, ℕ, ◌+◌, List, [], ◌∷◌, ◌++◌, length, take, drop, Option, Some, None, refl, sym, ap, ◌∙◌, arith, append_assoc}
 use Rattle.std.proofs.lemmas.List.{length_push}
 use Rattle.std.specs.Option.{option_map}
 use Rattle.triple_arena_base.specs.Held.{recast_items, held_all, refill_all}
 use Rattle.triple_arena_ptr.specs.Pointers.{Pointer}
 use Rattle.triple_arena_traits.specs.Items.{with_item}
 use Rattle.triple_arena_traits.specs.ItemLaws.{joined}
-use Rattle.triple_arena_traits.specs.Entries.{entry_in, with_value_in}
+use Rattle.triple_arena_traits.specs.Entries.{with_value_in}
 use Rattle.triple_arena_traits.specs.Walks.{entries_from, keys_of, values_of, keys, values}
 use Rattle.triple_arena_traits.specs.Recasting.{written, recast_values}
-use Rattle.triple_arena_traits.specs.HeldSlots.{held_entry, refill_entry, held_slots, refill_slots}
+use Rattle.triple_arena_traits.specs.HeldSlots.{held_slots, refill_slots}
 use Rattle.triple_arena_traits.proofs.Compressing.{item-after, set-after}
 
 module _ {T : Type 0} where

@@ -1,5 +1,5 @@
 -- What calls at each entry leave.
-use Rattle.std.proofs.Common.{◌≡◌, List, [], ◌∷◌, map, refl, ap, subst, ◌∙◌, sym}
+use Rattle.std.proofs.Common.{◌≡◌, List, [], ◌∷◌, map, ap, subst, ◌∙◌, sym}
 use Rattle.std.specs.Borrow.{MutBor}
 use Rattle.triple_arena_ptr.specs.Pointers.{Pointer}
 use Rattle.triple_arena_traits.specs.Visits.{Visits}

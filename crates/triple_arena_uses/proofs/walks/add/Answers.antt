@@ -1,4 +1,4 @@
-use Rattle.std.proofs.Common.{◌≡◌, ◌+◌, ◌%◌, ◌^◌, rules}
+use Rattle.std.proofs.Common.{◌+◌, ◌%◌, ◌^◌, rules}
 use Rattle.triple_arena_traits.specs.VisitLaws.{visits_same}
 use Rattle.triple_arena_uses.proofs.walks.add.Goals as goal
 

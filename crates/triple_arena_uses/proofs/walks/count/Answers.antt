@@ -1,4 +1,4 @@
-use Rattle.std.proofs.Common.{◌≡◌, ◌+◌, ◌∙◌, length, ap, arith}
+use Rattle.std.proofs.Common.{◌∙◌, length, ap, arith}
 use Rattle.triple_arena_traits.specs.WalkLaws.{one_less, ahead_none, ahead_first, length-entries, forward_stays}
 use Rattle.triple_arena_uses.proofs.walks.count.Goals as goal
 

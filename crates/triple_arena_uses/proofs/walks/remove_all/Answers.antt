@@ -1,4 +1,3 @@
-use Rattle.std.proofs.Common.{◌≡◌}
 use Rattle.triple_arena_traits.specs.WalkLaws.{taken, others_ahead, none_left}
 use Rattle.triple_arena_uses.proofs.walks.remove_all.Goals as goal
 

@@ -1,4 +1,3 @@
-use Rattle.std.proofs.Common.{◌≡◌}
 use Rattle.triple_arena_ptr.specs.Numbers.{greatest_index}
 use Rattle.triple_arena_traits.specs.Walks.{IsBeforeAll, steps_left}
 use Rattle.triple_arena_uses.proofs.walks.remove_all.Given as goal

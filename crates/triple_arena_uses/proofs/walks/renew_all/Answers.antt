@@ -1,4 +1,4 @@
-use Rattle.std.proofs.Common.{◌≡◌, ◌∙◌, IsSome, ap, subst, sym}
+use Rattle.std.proofs.Common.{ap}
 use Rattle.std.proofs.lemmas.List.{map_push}
 use Rattle.std.proofs.lemmas.List.Elements.{All-nil}
 use Rattle.triple_arena_ptr.specs.Pointers.{Pointer}

@@ -1,4 +1,3 @@
-use Rattle.std.proofs.Common.{◌≡◌}
 use Rattle.triple_arena_direct.proofs.direct_arena.DirectArena.last_live.Goals as goal
 
 pub returns : goal.returns

@@ -1,4 +1,3 @@
-use Rattle.std.proofs.Common.{◌≡◌}
 use Rattle.triple_arena_direct.proofs.direct_arena.DirectArena.live_to.Goals as goal
 
 pub returns : goal.returns

@@ -1,4 +1,4 @@
-use Rattle.std.proofs.Common.{◌∙◌, None, IsSome, sym, ap, subst, arith}
+use Rattle.std.proofs.Common.{◌∙◌, None, ap, subst, arith}
 use Rattle.std.specs.Int.NonZero.{non_zero_usize_get}
 use Rattle.triple_arena_traits.specs.Items.{with_item}
 use Rattle.triple_arena_direct.specs.DirectState.{removed, direct_len}

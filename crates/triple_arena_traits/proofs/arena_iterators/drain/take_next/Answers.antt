@@ -1,4 +1,4 @@
-use Rattle.std.proofs.Common.{◌≡◌, ◌∙◌, ap}
+use Rattle.std.proofs.Common.{◌∙◌, ap}
 use Rattle.triple_arena_base.specs.Invalidation.{as_option}
 use Rattle.triple_arena_traits.specs.Ending.{told_of}
 use Rattle.triple_arena_traits.specs.WalkLaws.{found}

@@ -1,4 +1,4 @@
-use Rattle.std.proofs.Common.{◌≡◌, ◌≤◌, ◌∙◌, [], ◌∷◌, None, refl, sym, ap, subst}
+use Rattle.std.proofs.Common.{◌≤◌, ◌∙◌, [], ◌∷◌, None, refl, sym, ap, subst}
 use Rattle.triple_arena_ptr.specs.Pointers.{Pointer}
 use Rattle.triple_arena_traits.specs.ArenaState.{ArenaState}
 use Rattle.triple_arena_traits.specs.Insertion.{next_pointer}

@@ -1,4 +1,4 @@
-use Rattle.std.proofs.Common.{◌≡◌, ◌∙◌, Some, sym, ap, length, arith}
+use Rattle.std.proofs.Common.{◌∙◌, Some, sym, ap, length, arith}
 use Rattle.triple_arena_base.specs.Invalidation.{allowed_option}
 use Rattle.triple_arena_traits.specs.WalkLaws.{ahead_none, ahead_after_none, ahead_taken_out}
 use Rattle.triple_arena_traits.proofs.Walking.{allowed_told}

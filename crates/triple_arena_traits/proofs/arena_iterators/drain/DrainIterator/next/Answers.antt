@@ -1,4 +1,4 @@
-use Rattle.std.proofs.Common.{◌≡◌, ◌∙◌, ap, refl}
+use Rattle.std.proofs.Common.{◌∙◌, ap, refl}
 use Rattle.triple_arena_base.specs.Invalidation.{overflowing_option}
 use Rattle.triple_arena_traits.specs.WalkLaws.{none_left, answer_first, others_ahead, taken}
 use Rattle.triple_arena_traits.proofs.Walking.{overflowing_told}

@@ -1,4 +1,3 @@
-use Rattle.std.proofs.Common.{◌≡◌}
 use Rattle.triple_arena_traits.specs.WalkLaws.{ahead_first}
 use Rattle.triple_arena_traits.proofs.arena_iterators.iter.Iter.over.Goals as goal
 

@@ -1,4 +1,3 @@
-use Rattle.std.proofs.Common.{◌≡◌}
 use Rattle.triple_arena_traits.specs.WalkLaws.{keys_first}
 use Rattle.triple_arena_traits.proofs.arena_iterators.iter.Ptrs.over.Goals as goal
 

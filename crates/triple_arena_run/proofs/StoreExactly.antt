@@ -14,7 +14,7 @@ use Rattle.triple_arena_run.specs.declared.command.Command.{Command}
 use Rattle.triple_arena_run.specs.declared.command.Command.TheVariants.{Insert, InsertWithin, Get, Set, Remove, Invalidate, Clear, Compact, Len, Capacity, Reserve, Show}
 use Rattle.triple_arena_run.specs.declared.reply.Reply.{Reply}
 use Rattle.triple_arena_run.specs.declared.reply.Reply.TheVariants.{Given, Full, BeyondMaxCapacity, NoMemory, Found, Nothing, Done, Removed, Invalid, Cleared, Compacted, Unresolved, BadName, Count}
-use Rattle.triple_arena_run.specs.NameStore.{NameRow, Store, next_name, row_count, row, is_good_link, HasEnded, with_row, give_row, grown_store, store_refusal, insert_row_unless, get_row_reply, act_on_row, row_dangles, store_answer, RowWantsMemory, IsStoreStep, MayReply}
+use Rattle.triple_arena_run.specs.NameStore.{NameRow, Store, next_name, row_count, row, is_good_link, HasEnded, with_row, give_row, grown_store, store_refusal, insert_row_unless, get_row_reply, act_on_row, row_dangles, store_answer, IsStoreStep, MayReply}
 
 -- a reply gives no name
 abbrev Unnamed : {X : Type 0} → Reply X → Type 0

@@ -2,11 +2,11 @@
 //! the small one, and of a plain vector with free indexes.
 
 mod plain;
-mod random;
 mod table;
 
 use plain::Plain;
-use random::Xorshift;
+use rand_core::Rng;
+use rand_pcg::Pcg64Mcg;
 use std::alloc::Global;
 use std::io::Print;
 use std::time::{Clock, Duration, Instant};
@@ -16,6 +16,17 @@ use triple_arena_ptr::P0;
 use triple_arena_uses::SmallPtr;
 
 const RUNS: usize = 5;
+
+// The same numbers in each run.
+fn new_random() -> Pcg64Mcg {
+    Pcg64Mcg::new(0xcafe_f00d_d15e_a5e5)
+}
+
+// A number below `bound`, or 0, from the upper bits of the next one.
+fn below(random: &mut Pcg64Mcg, bound: u32) -> usize {
+    let upper = random.next_u64() >> 32;
+    (upper.wrapping_mul(bound as u64) >> 32) as usize
+}
 
 // The least time that an operation took on all numbers, and the sum of what was read.
 #[derive(Clone, Copy)]
@@ -126,10 +137,10 @@ fn time_insert<T: Table>(
     table: &mut T,
     names: &mut Vec<T::Name>,
 ) -> anyhow::Result<Timing> {
-    let mut random = Xorshift::new();
+    let mut random = new_random();
     let start = Instant::now(rt)?;
     for _ in 0..size {
-        names.push(table.put(random.next())?)?;
+        names.push(table.put(random.next_u64())?)?;
     }
     let time = start.elapsed(rt)?;
     let sum = sum(table, names);
@@ -142,11 +153,11 @@ fn time_get<T: Table>(
     table: &T,
     names: &[T::Name],
 ) -> anyhow::Result<Timing> {
-    let mut random = Xorshift::new();
+    let mut random = new_random();
     let mut sum = 0u64;
     let start = Instant::now(rt)?;
     for _ in 0..size {
-        if let Some(name) = names.get(random.below(size)) {
+        if let Some(name) = names.get(below(&mut random, size)) {
             sum = sum.wrapping_add(table.read(*name));
         }
     }
@@ -160,13 +171,13 @@ fn time_churn<T: Table>(
     table: &mut T,
     names: &mut [T::Name],
 ) -> anyhow::Result<Timing> {
-    let mut random = Xorshift::new();
+    let mut random = new_random();
     let mut sum = 0u64;
     let start = Instant::now(rt)?;
     for _ in 0..size {
-        if let Some(name) = names.get_mut(random.below(size)) {
+        if let Some(name) = names.get_mut(below(&mut random, size)) {
             sum = sum.wrapping_add(table.take_out(*name));
-            *name = table.put(random.next())?;
+            *name = table.put(random.next_u64())?;
         }
     }
     let time = start.elapsed(rt)?;

@@ -8,5 +8,6 @@ mod entries;
 mod generic_callers;
 mod pairs;
 mod texts;
+mod two_pointer_types;
 mod walks;
 mod writing;

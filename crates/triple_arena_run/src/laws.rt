@@ -1,5 +1,5 @@
-//! What holds of lines, commands, stores of names and sessions. Each law is the contract of a function with an
-//! empty body.
+//! What holds of lines, commands, stores of names and sessions. Each law is the contract of a function
+//! with an empty body.
 
 ghost use Rattle.std.specs.Prelude.{◌≡◌, ◌↔◌, ℕ, ◌+◌, Bool, List, Option, Some, None, IsTrue, true, false};
 ghost use Rattle.std.specs.List.{list_all, list_any};

@@ -133,7 +133,8 @@ impl<P: Ptr, X: Copy, S: NonZeroInxGenericStack<ArenaSlot<P, Node<X, P>>>> Sessi
     /// A sound session answers as the store of names that it shows, its bool aside where the reply
     /// tells of a wrap; where it tells of none, the session shows what the store becomes, and is
     /// sound. The calls on its arena then take each history that fits it to one that fits, so that no
-    /// pointer is given twice.
+    /// pointer is given twice. Of the session before it tells what is true of each (`arena`), so that
+    /// the law `session_steps_as_store` can be used of its steps.
     pub fn step(&mut self, command: Command<X>) -> Reply<X>
     where
         X: Debug,
@@ -146,6 +147,7 @@ impl<P: Ptr, X: Copy, S: NonZeroInxGenericStack<ArenaSlot<P, Node<X, P>>>> Sessi
             → Continues Fits self.old.arena (calls_of self.old command result) self.new.arena }
         ensures at_wrap { P.Gen.counting ≡ true → IsSound self.old
             → (after : Store X) × IsStoreStep (shown self.old) command (without_wrap result) after }
+        ensures arena { IsArenaOver S.kind self.old.arena }
     {
         self.tell_arena();
         self.answer(command)
@@ -207,6 +209,7 @@ impl<P: Ptr, X: Copy, S: NonZeroInxGenericStack<ArenaSlot<P, Node<X, P>>>> Sessi
             let ran = take (length replies.items) commands.now in
             list_all is_named ran ≡ true → list_any is_no_memory replies.items ≡ false
             → seen ran replies.items ≡ ample (shown self.old) (erase ran)) }
+        ensures arena { IsArenaOver S.kind self.old.arena }
     {
         self.tell_arena();
         self.run_commands(commands)

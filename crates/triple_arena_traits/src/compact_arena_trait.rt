@@ -45,8 +45,8 @@ pub trait CompactArenaTrait<P: Ptr, T>: ArenaTrait<P, T> {
     /// keeps its generation, and the answer is `Success`.
     ///
     /// Without a reset and without a wrap it is one model call: it ends every pointer, and gives those
-    /// that stand after it (`fresh`). In each case a history can begin with these, if
-    /// one fitted before (`begun`).
+    /// that stand after it (`fresh`). In each case a history can begin with these, if one fitted
+    /// before (`begun`).
     ///
     /// It takes no memory, limit and capacity stay, and it goes through the slots once.
     fn compress_with<F: FnMut(P, T, P) -> T>(

@@ -40,13 +40,15 @@ pub fn move_over<
     to.transfer_reallocating(generation, from, |_old, taken, _new| taken.allow())
 }
 
-/// Keeps a table as it is, and comes back to it: the capacity of the table stays. `clones_settle` says
-/// so of any turns of clones; what it asks of each, the clauses of the calls tell.
+/// Keeps a table as it is, and comes back to it: the entries of the table stay, under their pointers,
+/// and so does its capacity. `clones_settle` says the latter of any turns of clones; what it asks of
+/// each, the clauses of the calls tell. Refused as `clone_from` is.
 pub fn keep_and_come_back<
     P: Ptr,
     A: CompactArenaTrait<P, u64> + ArenaCloneFromWith<P, u64>,
     B: CompactArenaTrait<P, u64> + ArenaCloneFromWith<P, u64>,
 >(table: &mut A, kept: &mut B) -> Result<(), CloneFromError<AllocError>>
+    ensures same_entries { OnOk result (KeepsEntries (A.slots table.old) (A.slots table.new)) }
     ensures same_capacity { OnOk result (A.fitting table.new ≡ A.fitting table.old) }
 {
     laws::clones_settle::<P, u64, u64, A, B>();

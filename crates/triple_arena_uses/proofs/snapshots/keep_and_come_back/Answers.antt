@@ -1,10 +1,11 @@
-use Rattle.std.proofs.Common.{true, false, [], ◌∷◌, Ok, refl}
+use Rattle.std.proofs.Common.{true, false, [], ◌∷◌, ◌∙◌, Ok, refl}
 use Rattle.triple_arena_traits.specs.Cloning.{ClonesInto}
 use Rattle.triple_arena_traits.specs.CopyLaws.{on_ok}
 use Rattle.triple_arena_uses.proofs.snapshots.keep_and_come_back.Goals as goal
 
 pub returns : goal.returns
 returns g c = record {
+  same_entries = on_ok c.clone_from-2.result _ (λ x is i. (rw is at c.clone_from-2.ensures.entries) i ∙ c.in_ok-clone_from.ensures.entries i);
   same_capacity =
       on_ok c.clone_from-2.result _ (λ x is.
       let there = c.in_ok-clone_from.ensures in

@@ -1,0 +1,151 @@
+-- A run of a session answers as the store that it shows, and compaction is unseen.
+use Rattle.std.proofs.Common.{◌≡◌, ◌⊎◌, ℕ, ◌||◌, Bool, true, false, not, if◌then◌else◌, List, [], ◌∷◌, ◌++◌, length, take, cond, refl, sym, ap, subst, ◌∙◌, inl, inr, arith, true≢false}
+use Rattle.std.specs.List.{list_any, list_all}
+use Rattle.std.proofs.lemmas.Bool.{and_parts}
+use Rattle.std.proofs.lemmas.List.{take_all}
+use Rattle.std.proofs.lemmas.List.Elements.{All-head, All-tail}
+use Rattle.triple_arena_stack.specs.StackKind.{StackKind}
+use Rattle.triple_arena_traits.specs.Histories.{Continues, Fits}
+use Rattle.triple_arena.proofs.HistoryLaws.{Continues-append}
+use Rattle.triple_arena_session.specs.declared.command.Command.{Command}
+use Rattle.triple_arena_session.specs.declared.command.Command.TheVariants.{Compact, Reserve, Show}
+use Rattle.triple_arena_session.specs.declared.reply.Reply.{Reply}
+use Rattle.triple_arena_session.specs.declared.reply.Reply.TheVariants.{NoMemory, Given, Removed, Cleared, Compacted}
+use Rattle.triple_arena_session.specs.ReplyText.{tells_of_wrap}
+use Rattle.triple_arena_session.specs.SessionState.{SessionState}
+use Rattle.triple_arena_session.specs.SessionRun.{IsStep}
+use Rattle.triple_arena_session.specs.NameStore.{Store, store_answer, IsStoreStep}
+use Rattle.triple_arena_session.specs.Shown.{shown}
+use Rattle.triple_arena_session.specs.SessionCalls.{calls_of, calls_in, KeepsHistories}
+use Rattle.triple_arena_session.specs.Runs.{IsRun, TellsOfNoWrap, EndsInWrap, RunsToWrap}
+use Rattle.triple_arena_session.specs.StoreRuns.{is_named, is_compact, is_no_memory, without_wrap, AnswersAsStore, ample, erase, seen}
+use Rattle.triple_arena_session.proofs.StoreSteps.{unmoved}
+use Rattle.triple_arena_session.proofs.StoreLaws.{without_wrap-quiet, StepIsStores}
+use Rattle.triple_arena_session.proofs.Soundness.{SoundOver}
+
+module _ {X : Type 0} where
+  plain_memory : (reply : Reply X) → is_no_memory (without_wrap reply) ≡ is_no_memory reply
+  plain_memory (Given name wrapped) = refl
+  plain_memory (Removed datum link wrapped) = refl
+  plain_memory (Cleared wrapped) = refl
+  plain_memory (Compacted wrapped) = refl
+  plain_memory reply = refl
+
+  -- a step of a named command without want of memory is the answer
+  step_is : (s : Store X) (command : Command X) (reply : Reply X) (t : Store X) → is_named command ≡ true → is_no_memory reply ≡ false → IsStoreStep s command reply t → (reply, t) ≡ store_answer s command
+  step_is s (Reserve m) reply t named enough step = absurd (true≢false (sym named))
+  step_is s Show reply t named enough step = absurd (true≢false (sym named))
+  step_is s command NoMemory t named enough step = absurd (true≢false enough)
+  step_is s command reply t named enough step = step
+
+  compact_stays : (s : Store X) (command : Command X) → is_compact command ≡ true → (store_answer s command).1 ≡ s
+  compact_stays s Compact is = refl
+  compact_stays s command is = absurd (true≢false (sym is))
+
+  -- where no reply tells of a want of memory, the replies to all named commands but compactions are those that the store
+  -- gives to these commands alone
+  pub CompactionIsUnseen : (s : Store X) (commands : List (Command X)) (replies : List (Reply X)) → AnswersAsStore s commands replies → list_all is_named commands ≡ true → list_any is_no_memory replies ≡ false → seen commands replies ≡ ample s (erase commands)
+  CompactionIsUnseen s [] [] run named enough = refl
+  CompactionIsUnseen s [] (reply ∷ replies) run named enough = absurd run
+  CompactionIsUnseen s (command ∷ commands) [] run named enough = absurd run
+  CompactionIsUnseen s (command ∷ commands) (reply ∷ replies) run named enough =
+      let parts = both (is_no_memory reply) (list_any is_no_memory replies) enough in
+      let names = and_parts (is_named command) (list_all is_named commands) named in
+      by (is_compact command) refl (step_is s command (without_wrap reply) run.0 names.0 (plain_memory reply ∙ parts.0) run.1) (CompactionIsUnseen run.0 commands replies run.2 names.1 parts.1)
+    where
+      both : (a b : Bool) → (a || b) ≡ false → (a ≡ false) × (b ≡ false)
+      both true b e = absurd (true≢false e)
+      both false true e = absurd (true≢false e)
+      both false false e = (refl, refl)
+
+      by : (b : Bool) → is_compact command ≡ b → (without_wrap reply, run.0) ≡ store_answer s command → seen commands replies ≡ ample run.0 (erase commands)
+          → (if b then seen commands replies else without_wrap reply ∷ seen commands replies) ≡ ample s (cond (not b) (command ∷ erase commands) (erase commands))
+      by true is step later =
+          later ∙ ap (λ u. ample u (erase commands)) (ap (λ (o : Reply X × Store X). o.1) step ∙ compact_stays s command is)
+      by false is step later =
+          ap (λ r. r ∷ seen commands replies) (ap (λ (o : Reply X × Store X). o.0) step)
+          ∙ ap (λ rest. (store_answer s command).0 ∷ rest) (later ∙ ap (λ u. ample u (erase commands)) (ap (λ (o : Reply X × Store X). o.1) step))
+
+module _ {X : Type 0} (kind : StackKind) (has_memory : ℕ → Type 0) (counting : Bool) (greatest : ℕ) (counts : counting ≡ true) where
+  abbrev pub Step : SessionState X → Command X → Reply X → SessionState X → Type 0
+  Step s command reply t = IsStep kind has_memory counting greatest s command reply t
+
+  -- a run that tells of no wrap is a run of the store; the session stays sound, and its arena has gone on by the model calls
+  pub QuietRunIsStores : (s : SessionState X) (commands : List (Command X)) (replies : List (Reply X)) (t : SessionState X) → SoundOver kind s → (run : IsRun Step s commands replies t) → TellsOfNoWrap replies
+      → IsRun IsStoreStep (shown s) commands replies (shown t) × SoundOver kind t × Continues Fits s.arena (calls_in Step s commands replies t run) t.arena
+  QuietRunIsStores s [] [] t sound run quiet = (ap shown run, subst (SoundOver kind) (sym run) sound, subst (λ (u : SessionState X). Continues Fits s.arena [] u.arena) (sym run) (unmoved kind s.arena))
+  QuietRunIsStores s [] (reply ∷ replies) t sound run quiet = absurd run
+  QuietRunIsStores s (command ∷ commands) [] t sound run quiet = absurd run
+  QuietRunIsStores s (command ∷ commands) (reply ∷ replies) t sound run quiet =
+      let first = StepIsStores kind has_memory counting greatest counts s command reply run.0 sound run.1 in
+      let told = All-head (λ r. tells_of_wrap r ≡ false) reply replies quiet in
+      let later = QuietRunIsStores run.0 commands replies t (first.sound told) run.2 (All-tail (λ r. tells_of_wrap r ≡ false) reply replies quiet) in
+      ((shown run.0, first.step told, later.0), later.1, Continues-append s.arena run.0.arena t.arena (calls_of s command reply) (calls_in Step run.0 commands replies t run.2) (first.calls told) later.2)
+
+  ends_tail : (reply : Reply X) (replies : List (Reply X)) → EndsInWrap (reply ∷ replies) → (replies ≡ []) ⊎ ((tells_of_wrap reply ≡ false) × EndsInWrap replies)
+  ends_tail reply replies ends = by ends.0 ends.2 ends.3
+    where
+      by : (before : List (Reply X)) → reply ∷ replies ≡ before ++ ends.1 ∷ [] → TellsOfNoWrap before → (replies ≡ []) ⊎ ((tells_of_wrap reply ≡ false) × EndsInWrap replies)
+      by [] is quiet = let none : replies ≡ [] = cc in inl none
+      by (b ∷ before) is quiet =
+          let same : reply ≡ b = cc in
+          let rest : replies ≡ before ++ ends.1 ∷ [] = cc in
+          inr (ap tells_of_wrap same ∙ All-head (λ r. tells_of_wrap r ≡ false) b before quiet, (before, ends.1, rest, All-tail (λ r. tells_of_wrap r ≡ false) b before quiet, ends.4))
+
+  -- one that ends with the first reply that tells of a wrap answers as the store all the same
+  pub answers : (s : SessionState X) (commands : List (Command X)) (replies : List (Reply X)) (t : SessionState X) → SoundOver kind s → IsRun Step s commands replies t → TellsOfNoWrap replies ⊎ EndsInWrap replies
+      → AnswersAsStore (shown s) commands replies
+  answers s [] [] t sound run ends = tt
+  answers s [] (reply ∷ replies) t sound run ends = absurd run
+  answers s (command ∷ commands) [] t sound run ends = absurd run
+  answers s (command ∷ commands) (reply ∷ replies) t sound run (inl quiet) =
+      let told = All-head (λ r. tells_of_wrap r ≡ false) reply replies quiet in
+      let first = StepIsStores kind has_memory counting greatest counts s command reply run.0 sound run.1 in
+      (shown run.0, subst (λ r. IsStoreStep (shown s) command r (shown run.0)) (sym (without_wrap-quiet reply told)) (first.step told), answers run.0 commands replies t (first.sound told) run.2 (inl (All-tail (λ r. tells_of_wrap r ≡ false) reply replies quiet)))
+  answers s (command ∷ commands) (reply ∷ replies) t sound run (inr ends) =
+      let first = StepIsStores kind has_memory counting greatest counts s command reply run.0 sound run.1 in
+      elim (ends_tail reply replies ends) [
+        | inl none ↦ (first.answers.0, first.answers.1, last commands replies run.0 first.answers.0 none run.2)
+        | inr more ↦ (shown run.0, subst (λ r. IsStoreStep (shown s) command r (shown run.0)) (sym (without_wrap-quiet reply more.0)) (first.step more.0), answers run.0 commands replies t (first.sound more.0) run.2 (inr more.1))
+      ]
+    where
+      last : (commands : List (Command X)) (replies : List (Reply X)) (m : SessionState X) (u : Store X) → replies ≡ [] → IsRun Step m commands replies t → AnswersAsStore u commands replies
+      last [] [] m u none run = tt
+      last [] (reply ∷ replies) m u none run = absurd run
+      last (command ∷ commands) [] m u none run = absurd run
+      last (command ∷ commands) (reply ∷ replies) m u none run = absurd (cc)
+
+  -- up to the first reply that tells of a wrap, a sound session answers as the store that it shows
+  pub RunAnswersAsStore : (s : SessionState X) (commands : List (Command X)) (replies : List (Reply X)) (t : SessionState X) → SoundOver kind s → RunsToWrap Step s commands replies t
+      → AnswersAsStore (shown s) (take (length replies) commands) replies
+  RunAnswersAsStore s commands replies t sound ran =
+      answers s (take (length replies) commands) replies t sound ran.0 (ends ran.1)
+    where
+      ends : (TellsOfNoWrap replies × (length replies ≡ length commands)) ⊎ EndsInWrap replies → TellsOfNoWrap replies ⊎ EndsInWrap replies
+      ends (inl quiet) = inl quiet.0
+      ends (inr wraps) = inr wraps
+
+  -- and compaction changes no other reply
+  pub RunIsUnseen : (s : SessionState X) (commands : List (Command X)) (replies : List (Reply X)) (t : SessionState X) → SoundOver kind s → RunsToWrap Step s commands replies t
+      → list_all is_named (take (length replies) commands) ≡ true → list_any is_no_memory replies ≡ false → seen (take (length replies) commands) replies ≡ ample (shown s) (erase (take (length replies) commands))
+  RunIsUnseen s commands replies t sound ran named enough =
+      CompactionIsUnseen (shown s) (take (length replies) commands) replies (RunAnswersAsStore s commands replies t sound ran) named enough
+
+  -- its arena has gone on by the model calls of the commands
+  pub RunKeepsHistories : (s : SessionState X) (commands : List (Command X)) (replies : List (Reply X)) (t : SessionState X) → SoundOver kind s → KeepsHistories Step s commands replies t
+  RunKeepsHistories s commands replies t sound ran quiet = (QuietRunIsStores s commands replies t sound ran quiet).2
+
+  -- where no reply tells of a wrap, all commands ran, on the store too, and the session is sound
+  pub RunIsStores : (s : SessionState X) (commands : List (Command X)) (replies : List (Reply X)) (t : SessionState X) → SoundOver kind s → RunsToWrap Step s commands replies t → TellsOfNoWrap replies
+      → IsRun IsStoreStep (shown s) commands replies (shown t) × SoundOver kind t
+  RunIsStores s commands replies t sound ran quiet =
+      let stores = QuietRunIsStores s (take (length replies) commands) replies t sound ran.0 quiet in
+      (subst (λ cs. IsRun IsStoreStep (shown s) cs replies (shown t)) (whole ran.1) stores.0, stores.1)
+    where
+      quiet_last : (before : List (Reply X)) (last : Reply X) → TellsOfNoWrap (before ++ last ∷ []) → tells_of_wrap last ≡ false
+      quiet_last [] last told = All-head (λ r. tells_of_wrap r ≡ false) last [] told
+      quiet_last (r ∷ before) last told = quiet_last before last (All-tail (λ r. tells_of_wrap r ≡ false) r (before ++ last ∷ []) told)
+
+      whole : (TellsOfNoWrap replies × (length replies ≡ length commands)) ⊎ EndsInWrap replies → take (length replies) commands ≡ commands
+      whole (inl all) = take_all (length replies) commands (omega (arith, all.1))
+      whole (inr ends) = absurd (true≢false (sym ends.4 ∙ quiet_last ends.0 ends.1 (subst TellsOfNoWrap ends.2 quiet)))

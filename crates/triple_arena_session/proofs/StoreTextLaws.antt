@@ -1,0 +1,84 @@
+-- What the program writes is what the store of names answers that its session shows.
+use Rattle.std.proofs.Common.{◌≡◌, ◌⊎◌, ℕ, ◌-◌, Bool, true, List, Option, Some, None, Result, Ok, Err, take, refl, sym, subst, inl, inr}
+use Rattle.std.specs.Io.KnownBytes.{Appends}
+use Rattle.triple_arena_ptr.specs.Numbers.{greatest_index, first_generation}
+use Rattle.triple_arena_stack.specs.StackKind.{StackKind, IsOfKind}
+use Rattle.triple_arena_stack.specs.StackKind.StackKind.{heap, limited, fixed, array}
+use Rattle.triple_arena_session.specs.declared.command.Command.{Command}
+use Rattle.triple_arena_session.specs.declared.reply.Reply.{Reply}
+use Rattle.triple_arena_session.specs.declared.program.Kind.{Kind}
+use Rattle.triple_arena_session.specs.declared.program.Kind.TheVariants.{Heap, Limited, Fixed, Array}
+use Rattle.triple_arena_session.specs.declared.program.Outcome.{Outcome}
+use Rattle.triple_arena_session.specs.declared.program.Outcome.TheVariants.{WrongArguments, Ran}
+use Rattle.triple_arena_session.specs.declared.text.TextError.{TextError}
+use Rattle.triple_arena_session.specs.declared.text.TextError.TheVariants.{Malformed, Read, Write, NoMemory}
+use Rattle.triple_arena_session.specs.Lines.{lines_of}
+use Rattle.triple_arena_session.specs.Runs.{TellsOfNoWrap, EndsInWrap}
+use Rattle.triple_arena_session.specs.SessionState.{SessionState}
+use Rattle.triple_arena_session.specs.SessionRun.{IsStep}
+use Rattle.triple_arena_session.specs.TextRun.{RunsLines, AnswersLines, AnswersToWrap, IsTextRun, IsFlushedRun}
+use Rattle.triple_arena_session.specs.ReplyText.{reply_lines}
+use Rattle.triple_arena_session.specs.KindRun.{greatest, first_session, RunsOver, RunsKind}
+use Rattle.triple_arena_session.specs.ProgramRun.{RunsProgram}
+use Rattle.triple_arena_session.specs.NameStore.{new_store}
+use Rattle.triple_arena_session.specs.Shown.{shown}
+use Rattle.triple_arena_session.specs.StoreText.{WritesAsStore, IsStoreText, first_store, AnswersProgram}
+use Rattle.triple_arena_session.proofs.StoreLaws.{SoundOver-new}
+use Rattle.triple_arena_session.proofs.StoreRunLaws.{CompactionIsUnseen, answers}
+use Rattle.triple_arena_session.proofs.Soundness.{SoundOver}
+
+module _ (kind : StackKind) (has_memory : ℕ → Type 0) (counting : Bool) (greatest : ℕ) (counts : counting ≡ true) (s t : SessionState ℕ) (sound : SoundOver kind s) (old new : Option (List ℕ)) where
+  abbrev TextStep : SessionState ℕ → Command ℕ → Reply ℕ → SessionState ℕ → Type 0
+  TextStep = IsStep kind has_memory counting greatest
+
+  written : (Ends : List (Reply ℕ) → Type 0) (lines : List (List ℕ)) (replies : List (Reply ℕ)) → (Ends replies → TellsOfNoWrap replies ⊎ EndsInWrap replies) → RunsLines TextStep lines replies s t → Ends replies → Appends old new (reply_lines replies)
+      → WritesAsStore (shown s) Ends lines old new
+  written Ends lines replies ends ran told out =
+      let as_store = answers kind has_memory counting greatest counts s ran.0 replies t sound ran.2 (ends told) in
+      (ran.0, replies, ran.1, told, out, as_store, CompactionIsUnseen (shown s) ran.0 replies as_store)
+
+  all_lines : (lines : List (List ℕ)) → AnswersLines TextStep lines s t old new → WritesAsStore (shown s) TellsOfNoWrap lines old new
+  all_lines lines a = written TellsOfNoWrap lines a.0 (λ quiet. inl quiet) a.1 a.2 a.3
+
+  to_wrap : (lines : List (List ℕ)) → AnswersToWrap TextStep lines s t old new → WritesAsStore (shown s) EndsInWrap lines old new
+  to_wrap lines a = written EndsInWrap lines a.0 (λ wraps. inr wraps) a.1 a.2 a.3
+
+  -- a text that runs in a sound session is answered as by the store that the session shows
+  pub TextIsStores : (text : Option (List ℕ)) (outcome : Result (Unit {0}) TextError) → IsTextRun TextStep text outcome s t old new → IsStoreText (shown s) text outcome old new
+  TextIsStores None (Ok done) ran = ran
+  TextIsStores (Some bytes) (Ok done) (inl all) = inl (all_lines (lines_of bytes) all)
+  TextIsStores (Some bytes) (Ok done) (inr first) = inr (first.0, to_wrap (take first.0 (lines_of bytes)) first.1)
+  TextIsStores None (Err (Malformed n)) ran = ran
+  TextIsStores (Some bytes) (Err (Malformed n)) ran = (ran.0, all_lines (take (n - 1) (lines_of bytes)) ran.1)
+  TextIsStores text (Err Read) ran = tt
+  TextIsStores text (Err Write) ran = tt
+  TextIsStores text (Err NoMemory) ran = tt
+
+  pub FlushedIsStores : (text : Option (List ℕ)) (outcome : Result (Unit {0}) TextError) → IsFlushedRun TextStep text outcome s t old new → IsStoreText (shown s) text outcome old new
+  FlushedIsStores text (Err Write) ran = tt
+  FlushedIsStores text (Ok done) ran = TextIsStores text (Ok done) ran
+  FlushedIsStores text (Err (Malformed n)) ran = TextIsStores text (Err (Malformed n)) ran
+  FlushedIsStores text (Err Read) ran = tt
+  FlushedIsStores text (Err NoMemory) ran = tt
+
+-- the run over a stack of a kind, from a session that has given no name
+over_kind : (kind : StackKind) (has_memory : ℕ → Type 0) (room : ℕ) (limit : Option ℕ) (text : Option (List ℕ)) (outcome : Result (Unit {0}) TextError) (old new : Option (List ℕ)) → IsOfKind kind room limit
+    → RunsOver kind has_memory (first_session room limit) text outcome old new → IsStoreText (new_store room limit greatest) text outcome old new
+over_kind kind has_memory room limit text outcome old new of_kind ran =
+    FlushedIsStores kind has_memory true greatest refl (first_session room limit) ran.0 (SoundOver-new kind room limit (greatest_index greatest) (first_generation true) of_kind) old new text outcome ran.1
+
+-- the program's run, over each kind of stack
+pub RunsKindAsStore : (kind : Kind) (text : Option (List ℕ)) (outcome : Result (Unit {0}) TextError) (old new : Option (List ℕ)) → RunsKind kind text outcome old new → IsStoreText (first_store kind) text outcome old new
+RunsKindAsStore Heap text outcome old new ran = over_kind heap (λ _. ⊥) 0 None text outcome old new refl ran
+RunsKindAsStore (Limited n) text outcome old new ran = over_kind limited (λ _. ⊥) n (Some n) text outcome old new (n, refl) ran
+RunsKindAsStore (Fixed n) text outcome old new ran = over_kind fixed (λ _. ⊥) n (Some n) text outcome old new refl ran
+RunsKindAsStore Array text outcome old new ran = over_kind (array 8) (λ _. Unit {0}) 8 (Some 8) text outcome old new (refl, refl) ran
+
+-- the program's arguments, input and output
+pub RunsProgramAsStore : {W : Type 0} (contents : W → Option (List ℕ)) (kind : Result Kind Outcome) (text : Option (List ℕ)) (outcome : Outcome) (old : W) (new : Option W) → RunsProgram contents kind text outcome old new → AnswersProgram contents kind text outcome old new
+RunsProgramAsStore contents (Ok kind) text (Ran answer) old (Some new) ran =
+    let same : answer ≡ ran.0 = cc in
+    subst (λ a. IsStoreText (first_store kind) text a (contents old) (contents new)) (sym same) (RunsKindAsStore kind text ran.0 (contents old) (contents new) ran.2)
+RunsProgramAsStore contents (Ok kind) text (Ran answer) old None ran = tt
+RunsProgramAsStore contents (Ok kind) text WrongArguments old new ran = tt
+RunsProgramAsStore contents (Err why) text outcome old new ran = tt

@@ -1,0 +1,29 @@
+use Rattle.std.proofs.Common.{length, take}
+use Rattle.std.proofs.lemmas.Result.{IfOk-weaker}
+use Rattle.triple_arena_session.proofs.Soundness.{sound_over}
+use Rattle.triple_arena_session.proofs.StoreRunLaws.{RunAnswersAsStore, RunIsStores, RunKeepsHistories, RunIsUnseen}
+use Rattle.triple_arena_session.proofs.session.Session.run.Goals as goal
+
+pub returns-clause-store : goal.returns-clause-store
+returns-clause-store g c counts sound =
+    IfOk-weaker c.run_commands.result _ _ (λ replies ran. RunAnswersAsStore g.S.NonZeroInxGenericStack.kind g.S.NonZeroInxGenericStack.has_memory g.P.Gen.PtrGen.counting g.P.Gen.PtrGen.greatest counts c.args.self.now c.args.commands.now replies.items c.run_commands.new.self (sound_over g.S.NonZeroInxGenericStack.kind c.args.self.now sound c.tell_arena.ensures) ran) c.run_commands.ensures.ran
+
+pub returns-clause-shows : goal.returns-clause-shows
+returns-clause-shows g c counts sound =
+    IfOk-weaker c.run_commands.result _ _ (λ replies ran. λ quiet. (RunIsStores g.S.NonZeroInxGenericStack.kind g.S.NonZeroInxGenericStack.has_memory g.P.Gen.PtrGen.counting g.P.Gen.PtrGen.greatest counts c.args.self.now c.args.commands.now replies.items c.run_commands.new.self (sound_over g.S.NonZeroInxGenericStack.kind c.args.self.now sound c.tell_arena.ensures) ran quiet).0) c.run_commands.ensures.ran
+
+pub returns-clause-sound : goal.returns-clause-sound
+returns-clause-sound g c counts sound =
+    IfOk-weaker c.run_commands.result _ _ (λ replies ran. λ quiet. (RunIsStores g.S.NonZeroInxGenericStack.kind g.S.NonZeroInxGenericStack.has_memory g.P.Gen.PtrGen.counting g.P.Gen.PtrGen.greatest counts c.args.self.now c.args.commands.now replies.items c.run_commands.new.self (sound_over g.S.NonZeroInxGenericStack.kind c.args.self.now sound c.tell_arena.ensures) ran quiet).1.table) c.run_commands.ensures.ran
+
+pub returns-clause-calls : goal.returns-clause-calls
+returns-clause-calls g c counts sound =
+    IfOk-weaker c.run_commands.result _ _ (λ replies ran. RunKeepsHistories g.S.NonZeroInxGenericStack.kind g.S.NonZeroInxGenericStack.has_memory g.P.Gen.PtrGen.counting g.P.Gen.PtrGen.greatest counts c.args.self.now (take (length replies.items) c.args.commands.now) replies.items c.run_commands.new.self (sound_over g.S.NonZeroInxGenericStack.kind c.args.self.now sound c.tell_arena.ensures)) c.run_commands.ensures.ran
+
+pub returns-clause-before : goal.returns-clause-before
+returns-clause-before g c counts sound =
+    IfOk-weaker c.run_commands.result _ _ (λ replies ran. λ count after. RunKeepsHistories g.S.NonZeroInxGenericStack.kind g.S.NonZeroInxGenericStack.has_memory g.P.Gen.PtrGen.counting g.P.Gen.PtrGen.greatest counts c.args.self.now (take count c.args.commands.now) (take count replies.items) after (sound_over g.S.NonZeroInxGenericStack.kind c.args.self.now sound c.tell_arena.ensures)) c.run_commands.ensures.ran
+
+pub returns-clause-unseen : goal.returns-clause-unseen
+returns-clause-unseen g c counts sound =
+    IfOk-weaker c.run_commands.result _ _ (λ replies ran. RunIsUnseen g.S.NonZeroInxGenericStack.kind g.S.NonZeroInxGenericStack.has_memory g.P.Gen.PtrGen.counting g.P.Gen.PtrGen.greatest counts c.args.self.now c.args.commands.now replies.items c.run_commands.new.self (sound_over g.S.NonZeroInxGenericStack.kind c.args.self.now sound c.tell_arena.ensures) ran) c.run_commands.ensures.ran

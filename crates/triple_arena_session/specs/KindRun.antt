@@ -1,0 +1,30 @@
+-- What the program runs: a text, in a new session over the stack that was asked for.
+use Rattle.std.specs.Prelude.{ℕ, ◌^◌, ◌-◌, true, List, Option, None, Some, Result}
+use Rattle.triple_arena_ptr.specs.Numbers.{greatest_index, first_generation}
+use Rattle.triple_arena_stack.specs.StackKind.{StackKind, heap, limited, fixed, array}
+use Rattle.triple_arena_traits.specs.ArenaState.{new_arena}
+use Rattle.triple_arena_session.specs.SessionState.{SessionState, new_session}
+use Rattle.triple_arena_session.specs.SessionRun.{IsStep}
+use Rattle.triple_arena_session.specs.TextRun.{IsFlushedRun}
+use Rattle.triple_arena_session.specs.declared.program.Kind.{Kind}
+use Rattle.triple_arena_session.specs.declared.program.Kind.TheVariants.{Heap, Limited, Fixed, Array}
+use Rattle.triple_arena_session.specs.declared.text.TextError.{TextError}
+
+-- the greatest number of an index of P0, and of a generation
+abbrev pub greatest : ℕ
+greatest = 2 ^ 64 - 1
+
+-- a session of P0 over an arena of this room and this limit, that has given no name
+abbrev pub first_session : ℕ → Option ℕ → SessionState ℕ
+first_session room limit = new_session (new_arena room limit (greatest_index greatest) (first_generation true))
+
+-- the text ran over a stack of this kind, where memory is there for such requests, from this session
+abbrev pub RunsOver : StackKind → (ℕ → Type 0) → SessionState ℕ → Option (List ℕ) → Result (Unit {0}) TextError → Option (List ℕ) → Option (List ℕ) → Type 0
+RunsOver kind has_memory first text outcome old new = (last : SessionState ℕ) × IsFlushedRun (IsStep kind has_memory true greatest) text outcome first last old new
+
+-- the text ran in the session that the program's arguments ask for
+abbrev pub RunsKind : Kind → Option (List ℕ) → Result (Unit {0}) TextError → Option (List ℕ) → Option (List ℕ) → Type 0
+RunsKind Heap = RunsOver heap (λ _. ⊥) (first_session 0 None)
+RunsKind (Limited n) = RunsOver limited (λ _. ⊥) (first_session n (Some n))
+RunsKind (Fixed n) = RunsOver fixed (λ _. ⊥) (first_session n (Some n))
+RunsKind Array = RunsOver (array 8) (λ _. Unit {0}) (first_session 8 (Some 8))

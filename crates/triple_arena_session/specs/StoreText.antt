@@ -1,0 +1,51 @@
+-- What is written for a text that is answered as by a store of names.
+use Rattle.std.specs.Prelude.{◌≡◌, ℕ, ◌-◌, true, false, List, Option, Some, None, Result, Ok, Err, IfSome, take, ◌⊎◌}
+use Rattle.std.specs.List.{list_all, list_any}
+use Rattle.std.specs.Io.KnownBytes.{Appends}
+use Rattle.triple_arena_session.specs.declared.command.Command.{Command}
+use Rattle.triple_arena_session.specs.declared.reply.Reply.{Reply}
+use Rattle.triple_arena_session.specs.declared.program.Kind.{Kind}
+use Rattle.triple_arena_session.specs.declared.program.Kind.TheVariants.{Heap, Limited, Fixed, Array}
+use Rattle.triple_arena_session.specs.declared.program.Outcome.{Outcome}
+use Rattle.triple_arena_session.specs.declared.program.Outcome.TheVariants.{Ran}
+use Rattle.triple_arena_session.specs.declared.text.TextError.{TextError}
+use Rattle.triple_arena_session.specs.declared.text.TextError.TheVariants.{Malformed}
+use Rattle.triple_arena_session.specs.Lines.{lines_of}
+use Rattle.triple_arena_session.specs.ReplyText.{reply_lines}
+use Rattle.triple_arena_session.specs.Runs.{TellsOfNoWrap, EndsInWrap}
+use Rattle.triple_arena_session.specs.TextRun.{StandFor, IsMalformed}
+use Rattle.triple_arena_session.specs.KindRun.{greatest}
+use Rattle.triple_arena_session.specs.NameStore.{Store, new_store}
+use Rattle.triple_arena_session.specs.StoreRuns.{is_named, is_no_memory, AnswersAsStore, ample, erase, seen}
+
+-- these lines stand for commands that were answered as by the store, and the reply lines were written. If all of them are
+-- named commands, and no reply is NoMemory, then the replies, but for those to compactions and with their bools read as
+-- false, are those of the store to the commands without compactions, where no memory is refused
+abbrev pub WritesAsStore : Store ℕ → (List (Reply ℕ) → Type 0) → List (List ℕ) → Option (List ℕ) → Option (List ℕ) → Type 0
+WritesAsStore s Ends lines old new =
+    (commands : List (Command ℕ)) × (replies : List (Reply ℕ)) × StandFor lines commands × Ends replies × Appends old new (reply_lines replies)
+    × AnswersAsStore s commands replies
+    × (list_all is_named commands ≡ true → list_any is_no_memory replies ≡ false → seen commands replies ≡ ample s (erase commands))
+
+-- so it was with all lines of the text, or those up to the first reply that told of a wrap; or with the lines before the
+-- first malformed one
+abbrev pub IsStoreText : Store ℕ → Option (List ℕ) → Result (Unit {0}) TextError → Option (List ℕ) → Option (List ℕ) → Type 0
+IsStoreText s text (Ok done) old new =
+    IfSome text (λ bytes.
+    WritesAsStore s TellsOfNoWrap (lines_of bytes) old new ⊎ ((count : ℕ) × WritesAsStore s EndsInWrap (take count (lines_of bytes)) old new))
+IsStoreText s text (Err (Malformed n)) old new =
+    IfSome text (λ bytes. IsMalformed (lines_of bytes) n × WritesAsStore s TellsOfNoWrap (take (n - 1) (lines_of bytes)) old new)
+IsStoreText s text outcome old new = Unit {0}
+
+-- the store that the program begins with
+abbrev pub first_store : Kind → Store ℕ
+first_store Heap = new_store 0 None greatest
+first_store (Limited n) = new_store n (Some n) greatest
+first_store (Fixed n) = new_store n (Some n) greatest
+first_store Array = new_store 8 (Some 8) greatest
+
+-- of the kind that the program's arguments ask for, and of its writer before and after: where a kind was asked for and the
+-- writer is given back, the text was answered as by the store of this kind
+abbrev pub AnswersProgram : {W : Type 0} → (W → Option (List ℕ)) → Result Kind Outcome → Option (List ℕ) → Outcome → W → Option W → Type 0
+AnswersProgram contents (Ok kind) text (Ran answer) old (Some new) = IsStoreText (first_store kind) text answer (contents old) (contents new)
+AnswersProgram contents kind text outcome old new = Unit {0}

@@ -1,0 +1,127 @@
+//! The run of the program: the session that was asked for, and the run of a text in it.
+
+ghost use Rattle.std.specs.Prelude.{◌≡◌, IsErr, IsNone};
+ghost use Rattle.std.specs.Io.Buffered.{writer_contents};
+ghost use Rattle.triple_arena_session.specs.KindRun.{RunsKind};
+ghost use Rattle.triple_arena_session.specs.Program.{asked_kind};
+ghost use Rattle.triple_arena_session.specs.ProgramRun.{RunsProgram};
+ghost use Rattle.triple_arena_session.specs.StoreText.{IsStoreText, first_store, AnswersProgram};
+
+use crate::node::Node;
+use crate::program::{Kind, Outcome, asked_kind};
+use crate::session::Session;
+use crate::text::{TextError, flush_after, run_text_and_flush};
+use std::alloc::Global;
+use std::io;
+use std::io::{BufWriter, Read, Write};
+use triple_arena::ArenaSlot;
+use triple_arena_ptr::P0;
+use triple_arena_stack::{
+    NonZeroInxArray, NonZeroInxBoxedSlice, NonZeroInxLimitedVec, NonZeroInxVec,
+};
+
+/// A slot of the program's arenas.
+type Slot = ArenaSlot<P0, Node<u64, P0>>;
+
+type HeapSession = Session<P0, u64, NonZeroInxVec<Slot>>;
+
+type LimitedSession = Session<P0, u64, NonZeroInxLimitedVec<Slot>>;
+
+type FixedSession = Session<P0, u64, NonZeroInxBoxedSlice<Slot>>;
+
+type ArraySession = Session<P0, u64, NonZeroInxArray<Slot, 8>>;
+
+/// How many bytes of replies are gathered before they go out.
+const OUTPUT_BUFFER: usize = 65536;
+
+/// Runs the program: its input, in the session that its arguments ask for, as `run_kind` does.
+/// Replies are gathered in a buffer over the output, which is given back at the end.
+///
+/// Where the arguments ask for no kind, as `asked_kind` says, nothing is read or written. Where
+/// there is no memory for the buffer, the outcome is `NoMemory`, nothing is read, and the output
+/// is let go. What is written is what a new store of names answers, as `run_kind` says.
+pub fn run_program<R: Read, W: Write + Drop>(
+    args: io::Result<Vec<String>>,
+    alloc: Global,
+    input: &mut R,
+    output: W,
+) -> (Outcome, Option<W>)
+    ensures run { RunsProgram W.contents (asked_kind args) (R.remaining input.old)
+        result.0 output result.1 }
+    ensures unread { IsErr (asked_kind args) → input.new ≡ input.old }
+    ensures unbegun { IsNone result.1 → input.new ≡ input.old }
+    ensures store { AnswersProgram W.contents (asked_kind args) (R.remaining input.old)
+        result.0 output result.1 }
+{
+    run_asked(args, alloc, input, output)
+}
+
+// Runs the program in the session that its arguments ask for, if they ask for one.
+fn run_asked<R: Read, W: Write + Drop>(
+    args: io::Result<Vec<String>>,
+    alloc: Global,
+    input: &mut R,
+    output: W,
+) -> (Outcome, Option<W>)
+    ensures run { RunsProgram W.contents (asked_kind args) (R.remaining input.old)
+        result.0 output result.1 }
+    ensures unread { IsErr (asked_kind args) → input.new ≡ input.old }
+    ensures unbegun { IsNone result.1 → input.new ≡ input.old }
+{
+    match asked_kind(&args) {
+        Ok(kind) => match BufWriter::with_capacity(alloc, OUTPUT_BUFFER, output) {
+            Ok(output) => {
+                let (answer, output) = run_over(kind, alloc, input, output);
+                (Outcome::Ran(answer), Some(output))
+            }
+            Err(_) => (Outcome::Ran(Err(TextError::NoMemory)), None),
+        },
+        Err(outcome) => (outcome, Some(output)),
+    }
+}
+
+/// Runs a text as `run_text_and_flush` does, in a new session of the kind that was asked for: over
+/// the heap; over the heap with this limit, which is its room at first too; over so many fixed
+/// places; or over an array of 8.
+///
+/// Where there is no memory for the session, the outcome is `NoMemory`, and nothing is read.
+///
+/// Up to the first reply that tells of a wrap, what is written is what a new store of names
+/// answers, and compactions change no other line, as `Session::run` says.
+pub fn run_kind<R: Read, W: Write + Drop>(
+    kind: Kind,
+    alloc: Global,
+    input: &mut R,
+    output: BufWriter<W>,
+) -> (Result<(), TextError>, W)
+    ensures run { RunsKind kind (R.remaining input.old) result.0
+        (writer_contents W.contents output) (W.contents result.1) }
+    ensures store { IsStoreText (first_store kind) (R.remaining input.old) result.0
+        (writer_contents W.contents output) (W.contents result.1) }
+{
+    run_over(kind, alloc, input, output)
+}
+
+// Runs a text in a new session of a kind.
+fn run_over<R: Read, W: Write + Drop>(
+    kind: Kind,
+    alloc: Global,
+    input: &mut R,
+    output: BufWriter<W>,
+) -> (Result<(), TextError>, W)
+    ensures { RunsKind kind (R.remaining input.old) result.0
+        (writer_contents W.contents output) (W.contents result.1) }
+{
+    match kind {
+        Kind::Heap => run_text_and_flush(&mut HeapSession::new(alloc), alloc, input, output),
+        Kind::Limited(most) => match LimitedSession::with_min_capacity(alloc, most) {
+            Ok(mut session) => run_text_and_flush(&mut session, alloc, input, output),
+            Err(_) => flush_after(Err(TextError::NoMemory), output),
+        },
+        Kind::Fixed(slots) => match FixedSession::with_min_capacity(alloc, slots) {
+            Ok(mut session) => run_text_and_flush(&mut session, alloc, input, output),
+            Err(_) => flush_after(Err(TextError::NoMemory), output),
+        },
+        Kind::Array => run_text_and_flush(&mut ArraySession::new(alloc), alloc, input, output),
+    }
+}

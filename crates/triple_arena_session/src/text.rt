@@ -1,0 +1,245 @@
+//! The run of a text: from the bytes of a reader to the bytes of a writer.
+
+ghost use Rattle.std.specs.Prelude.{◌≡◌, true, Some};
+ghost use Rattle.std.specs.Io.Buffered.{writer_contents};
+ghost use Rattle.triple_arena_session.specs.ErrorText.{error_text};
+ghost use Rattle.triple_arena_session.specs.SessionRun.{IsStep};
+ghost use Rattle.triple_arena_session.specs.TextRun.{IsTextRun, IsFlushedRun, IsFlushed};
+ghost use Rattle.triple_arena_session.specs.Shown.{shown, IsSound};
+ghost use Rattle.triple_arena_session.specs.StoreText.{IsStoreText};
+ghost use Rattle.triple_arena_session.specs.LineRun.{CommandEnds, LineEnds};
+
+use crate::command::parse_command;
+use crate::input::read_text;
+use crate::lines::split_first;
+use crate::node::Node;
+use crate::output::write_reply;
+use crate::session::Session;
+use std::alloc::Global;
+use std::error::Error;
+use std::fmt;
+use std::io::{BufWriter, Read, Write};
+use triple_arena::ArenaSlot;
+use triple_arena_ptr::Ptr;
+use triple_arena_stack::NonZeroInxGenericStack;
+
+/// Why a text wasn't run to its end.
+#[derive(Clone, Copy, Debug, PartialEq, Eq)]
+pub enum TextError {
+    /// The line of this number, counted from 1, stands for no command. The lines before it have
+    /// run and were answered.
+    Malformed(usize),
+    /// The reader failed, or hadn't ended after 4294967296 reads. Nothing has run.
+    Read,
+    /// The writer failed. The command whose reply was being written has run, and those before it.
+    /// The replies before went out whole, and that one in part or not at all.
+    Write,
+    /// There was no memory for the text. Nothing has run.
+    NoMemory,
+}
+
+impl fmt::Display for TextError {
+    ghost output = { λ e. Some (error_text e) };
+
+    fn fmt<W: fmt::Write>(&self, f: &mut fmt::Formatter<W>) -> fmt::Result {
+        match self {
+            TextError::Malformed(line) => write!(f, "line {line}: malformed"),
+            TextError::Read => f.write_str("read failed"),
+            TextError::Write => f.write_str("write failed"),
+            TextError::NoMemory => f.write_str("no memory"),
+        }
+    }
+}
+
+impl Error for TextError {}
+
+/// Runs the commands of a text: reads the text to its end, and then takes its lines in order, each
+/// parsed, run and answered by one line before the next is parsed.
+///
+/// A line of no bytes is skipped. The run ends with the text, with the first reply that tells of
+/// a wrap, or with the error that comes first; `TextError` says what stands after each. A reply
+/// goes out by writes alone, without asking for memory, and nothing is flushed.
+///
+/// In a sound session the lines are answered as by the store of names that it shows, and
+/// compactions change no other line, as `Session::run` says.
+pub fn run_text<P: Ptr, S: NonZeroInxGenericStack<ArenaSlot<P, Node<u64, P>>>, R: Read, W: Write>(
+    session: &mut Session<P, u64, S>,
+    alloc: Global,
+    input: &mut R,
+    output: &mut W,
+) -> Result<(), TextError>
+    ensures run { IsTextRun (IsStep S.kind S.has_memory P.Gen.counting P.Gen.greatest)
+        (R.remaining input.old) result
+        session.old session.new (W.contents output.old) (W.contents output.new) }
+    ensures store { P.Gen.counting ≡ true → IsSound session.old
+        → IsStoreText (shown session.old) (R.remaining input.old) result
+        (W.contents output.old) (W.contents output.new) }
+{
+    session.tell_arena();
+    read_and_run(session, alloc, input, output)
+}
+
+// Reads a text to its end and runs its lines.
+fn read_and_run<P: Ptr, S: NonZeroInxGenericStack<ArenaSlot<P, Node<u64, P>>>, R: Read, W: Write>(
+    session: &mut Session<P, u64, S>,
+    alloc: Global,
+    input: &mut R,
+    output: &mut W,
+) -> Result<(), TextError>
+    ensures { IsTextRun (IsStep S.kind S.has_memory P.Gen.counting P.Gen.greatest) (R.remaining input.old) result
+        session.old session.new (W.contents output.old) (W.contents output.new) }
+{
+    match read_text(alloc, input) {
+        Ok(text) => run_lines(session, text.as_slice(), output),
+        Err(e) => Err(e),
+    }
+}
+
+/// Runs a text as `run_text` does, over a buffered writer. The writer is flushed once when the run
+/// has ended, whatever its outcome, and the writer below it is given back.
+///
+/// Of a run that failed by reading or for want of memory nothing was written, and at the other
+/// outcomes but `Write` the writer below holds each reply line. At `Write` it holds a front of the
+/// reply lines of the commands that ran. A failed flush is `Write`, as `flush_after` says. In a
+/// sound session the lines are those of a store of names.
+pub fn run_text_and_flush<
+    P: Ptr,
+    S: NonZeroInxGenericStack<ArenaSlot<P, Node<u64, P>>>,
+    R: Read,
+    W: Write + Drop,
+>(
+    session: &mut Session<P, u64, S>,
+    alloc: Global,
+    input: &mut R,
+    output: BufWriter<W>,
+) -> (Result<(), TextError>, W)
+    ensures run { IsFlushedRun (IsStep S.kind S.has_memory P.Gen.counting P.Gen.greatest) (R.remaining input.old)
+        result.0 session.old session.new (writer_contents W.contents output) (W.contents result.1) }
+    ensures store { P.Gen.counting ≡ true → IsSound session.old
+        → IsStoreText (shown session.old) (R.remaining input.old) result.0
+        (writer_contents W.contents output) (W.contents result.1) }
+{
+    session.tell_arena();
+    run_and_flush(session, alloc, input, output)
+}
+
+// Runs a text, and flushes the writer after it.
+fn run_and_flush<
+    P: Ptr,
+    S: NonZeroInxGenericStack<ArenaSlot<P, Node<u64, P>>>,
+    R: Read,
+    W: Write + Drop,
+>(
+    session: &mut Session<P, u64, S>,
+    alloc: Global,
+    input: &mut R,
+    mut output: BufWriter<W>,
+) -> (Result<(), TextError>, W)
+    ensures { IsFlushedRun (IsStep S.kind S.has_memory P.Gen.counting P.Gen.greatest) (R.remaining input.old) result.0
+        session.old session.new (writer_contents W.contents output) (W.contents result.1) }
+{
+    let outcome = read_and_run(session, alloc, input, &mut output);
+    flush_after(outcome, output)
+}
+
+/// Flushes a buffered writer after a run of this outcome, and gives back the writer below it. A
+/// failed flush is the error `Write` whatever the outcome was, and the bytes that it left are let
+/// go: a front of what was written stands in the writer below.
+#[tactic(auto, using(crate::proofs::TextLaws::keeps_emptied))]
+pub fn flush_after<W: Write + Drop>(
+    outcome: Result<(), TextError>,
+    mut output: BufWriter<W>,
+) -> (Result<(), TextError>, W)
+    ensures { IsFlushed outcome result.0
+        (writer_contents W.contents output) (W.contents result.1) }
+{
+    let flushed = output.flush();
+    // A writer that is dropped would try to write once more what a failed flush left.
+    let (inner, _left) = output.into_parts();
+    match flushed {
+        Ok(()) => (outcome, inner),
+        Err(_) => (Err(TextError::Write), inner),
+    }
+}
+
+// Runs the lines of a text.
+fn run_lines<P: Ptr, S: NonZeroInxGenericStack<ArenaSlot<P, Node<u64, P>>>, W: Write>(
+    session: &mut Session<P, u64, S>,
+    text: &[u8],
+    output: &mut W,
+) -> Result<(), TextError>
+    ensures { IsTextRun (IsStep S.kind S.has_memory P.Gen.counting P.Gen.greatest) (Some text.now) result
+        session.old session.new (W.contents output.old) (W.contents output.new) }
+{
+    let mut rest = text;
+    let mut before = 0usize;
+    'lines: loop {
+        let (line, after) = split_first(rest, b'\n');
+        match run_line(session, line, output) {
+            LineEnd::Answered => {}
+            LineEnd::Wrapped => return Ok(()),
+            LineEnd::Malformed => return Err(TextError::Malformed(before + 1)),
+            LineEnd::Unwritten => return Err(TextError::Write),
+        }
+        match after {
+            None => return Ok(()),
+            Some(next) => {
+                rest = next;
+                before += 1;
+            }
+        }
+    }
+}
+
+/// How the run of one line ended.
+#[derive(Clone, Copy)]
+enum LineEnd {
+    Answered,
+    Wrapped,
+    Malformed,
+    Unwritten,
+}
+
+// Runs a line, which may have no bytes.
+fn run_line<P: Ptr, S: NonZeroInxGenericStack<ArenaSlot<P, Node<u64, P>>>, W: Write>(
+    session: &mut Session<P, u64, S>,
+    line: &[u8],
+    output: &mut W,
+) -> LineEnd
+    ensures { LineEnds (IsStep S.kind S.has_memory P.Gen.counting P.Gen.greatest) result line.now
+        session.old session.new (W.contents output.old) (W.contents output.new) }
+{
+    if line.is_empty() {
+        LineEnd::Answered
+    } else {
+        run_command(session, line, output)
+    }
+}
+
+// Runs the command of a line, and writes the line of its reply.
+fn run_command<P: Ptr, S: NonZeroInxGenericStack<ArenaSlot<P, Node<u64, P>>>, W: Write>(
+    session: &mut Session<P, u64, S>,
+    line: &[u8],
+    output: &mut W,
+) -> LineEnd
+    ensures { CommandEnds (IsStep S.kind S.has_memory P.Gen.counting P.Gen.greatest) result line.now
+        session.old session.new (W.contents output.old) (W.contents output.new) }
+{
+    match parse_command(line) {
+        None => LineEnd::Malformed,
+        Some(command) => {
+            let reply = session.step(command);
+            let wrapped = reply.tells_of_wrap();
+            match write_reply(output, &reply) {
+                Err(_) => LineEnd::Unwritten,
+                Ok(()) => {
+                    if wrapped {
+                        LineEnd::Wrapped
+                    } else {
+                        LineEnd::Answered
+                    }
+                }
+            }
+        }
+    }
+}

@@ -1,5 +1,5 @@
 -- Runs one after another.
-use Rattle.std.proofs.Common.{◌≡◌, ◌+◌, ◌<◌, ◌≤◌, ℕ, true, false, List, [], ◌∷◌, ◌++◌, length, take, get_or, subst, sym, ap, ◌∙◌, refl, inl, inr, arith}
+use Rattle.std.proofs.Common.{◌≡◌, ◌+◌, ◌<◌, ◌≤◌, ℕ, zero, suc, true, false, List, [], ◌∷◌, ◌++◌, length, take, get_or, subst, sym, ap, ◌∙◌, refl, inl, inr, arith}
 use Rattle.std.proofs.lemmas.Grind.{take_at_read}
 use Rattle.std.proofs.lemmas.List.{length_push}
 use Rattle.std.proofs.lemmas.List.Elements.{All-push}
@@ -13,6 +13,16 @@ module _ {S C R : Type 0} (Step : S → C → R → S → Type 0) where
   IsRun-append s m t [] ds (r ∷ rs) qs first second = absurd first
   IsRun-append s m t (c ∷ cs) ds [] qs first second = absurd first
   IsRun-append s m t (c ∷ cs) ds (r ∷ rs) qs first second = (first.0, first.1, IsRun-append first.0 m t cs ds rs qs first.2 second)
+
+  -- a front of a run is a run
+  pub IsRun-front : (s t : S) (cs : List C) (rs : List R) (n : ℕ) → IsRun Step s cs rs t → (m : S) × IsRun Step s (take n cs) (take n rs) m
+  IsRun-front s t cs rs zero run = (s, refl)
+  IsRun-front s t [] [] (suc n) run = (s, refl)
+  IsRun-front s t [] (r ∷ rs) (suc n) run = absurd run
+  IsRun-front s t (c ∷ cs) [] (suc n) run = absurd run
+  IsRun-front s t (c ∷ cs) (r ∷ rs) (suc n) run =
+      let rest = IsRun-front run.0 t cs rs n run.2 in
+      (rest.0, (run.0, run.1, rest.1))
 
   -- one more command
   pub IsRun-more : (s m t : S) (all : List C) (i : ℕ) (d : C) (replies : List R) (reply : R) → i < length all → IsRun Step s (take i all) replies m → Step m (get_or all i d) reply t → IsRun Step s (take (i + 1) all) (replies ++ reply ∷ []) t

@@ -1,5 +1,5 @@
 -- What the program writes is what the store of names answers that its session shows.
-use Rattle.std.proofs.Common.{◌≡◌, ◌⊎◌, ℕ, ◌-◌, Bool, true, List, Option, Some, None, Result, Ok, Err, take, refl, sym, subst, inl, inr}
+use Rattle.std.proofs.Common.{◌≡◌, ◌⊎◌, ℕ, ◌-◌, Bool, true, List, Option, Some, None, Result, Ok, Err, take, refl, sym, ap, subst, inl, inr}
 use Rattle.std.specs.Io.KnownBytes.{Appends}
 use Rattle.triple_arena_ptr.specs.Numbers.{greatest_index, first_generation}
 use Rattle.triple_arena_stack.specs.StackKind.{StackKind, IsOfKind}
@@ -21,10 +21,10 @@ use Rattle.triple_arena_session.specs.ReplyText.{reply_lines}
 use Rattle.triple_arena_session.specs.KindRun.{greatest, first_session, RunsOver, RunsKind}
 use Rattle.triple_arena_session.specs.ProgramRun.{RunsProgram}
 use Rattle.triple_arena_session.specs.NameStore.{new_store}
-use Rattle.triple_arena_session.specs.Shown.{shown}
-use Rattle.triple_arena_session.specs.StoreText.{WritesAsStore, IsStoreText, first_store, AnswersProgram}
+use Rattle.triple_arena_session.specs.Shown.{shown, IsSound}
+use Rattle.triple_arena_session.specs.StoreText.{WritesAsStore, IsStoreText, BringsStore, LeavesStore, first_store, AnswersProgram}
 use Rattle.triple_arena_session.proofs.StoreLaws.{SoundOver-new}
-use Rattle.triple_arena_session.proofs.StoreRunLaws.{CompactionIsUnseen, answers}
+use Rattle.triple_arena_session.proofs.StoreRunLaws.{CompactionIsUnseen, QuietRunIsStores, answers}
 use Rattle.triple_arena_session.proofs.Soundness.{SoundOver}
 
 module _ (kind : StackKind) (has_memory : ℕ → Type 0) (counting : Bool) (greatest : ℕ) (counts : counting ≡ true) (s t : SessionState ℕ) (sound : SoundOver kind s) (old new : Option (List ℕ)) where
@@ -60,6 +60,32 @@ module _ (kind : StackKind) (has_memory : ℕ → Type 0) (counting : Bool) (gre
   FlushedIsStores text (Err (Malformed n)) ran = TextIsStores text (Err (Malformed n)) ran
   FlushedIsStores text (Err Read) ran = tt
   FlushedIsStores text (Err NoMemory) ran = tt
+
+  brings : (lines : List (List ℕ)) → AnswersLines TextStep lines s t old new → IsSound t × BringsStore (shown s) (shown t) lines old new
+  brings lines a =
+      let stores = QuietRunIsStores kind has_memory counting greatest counts s a.1.0 a.0 t sound a.1.2 a.2 in
+      (stores.1.table, (a.1.0, a.0, a.1.1, stores.0, a.2, a.3))
+
+  stays : t ≡ s → IsSound t × (shown t ≡ shown s)
+  stays same = (subst IsSound (sym same) sound.table, ap shown same)
+
+  -- and is sound after it, and shows what the store became, but where a wrap ended it or the writer failed
+  pub TextLeavesStore : (text : Option (List ℕ)) (outcome : Result (Unit {0}) TextError) → IsTextRun TextStep text outcome s t old new → LeavesStore (shown s) (shown t) (IsSound t) text outcome old new
+  TextLeavesStore None (Ok done) ran = ran
+  TextLeavesStore (Some bytes) (Ok done) (inl all) = inl (brings (lines_of bytes) all)
+  TextLeavesStore (Some bytes) (Ok done) (inr first) = let last = first.1 in inr (last.0, last.2, last.3)
+  TextLeavesStore None (Err (Malformed n)) ran = ran
+  TextLeavesStore (Some bytes) (Err (Malformed n)) ran = brings (take (n - 1) (lines_of bytes)) ran.1
+  TextLeavesStore text (Err Read) ran = stays ran.0
+  TextLeavesStore text (Err Write) ran = tt
+  TextLeavesStore text (Err NoMemory) ran = stays ran.0
+
+  pub FlushedLeavesStore : (text : Option (List ℕ)) (outcome : Result (Unit {0}) TextError) → IsFlushedRun TextStep text outcome s t old new → LeavesStore (shown s) (shown t) (IsSound t) text outcome old new
+  FlushedLeavesStore text (Err Write) ran = tt
+  FlushedLeavesStore text (Ok done) ran = TextLeavesStore text (Ok done) ran
+  FlushedLeavesStore text (Err (Malformed n)) ran = TextLeavesStore text (Err (Malformed n)) ran
+  FlushedLeavesStore text (Err Read) ran = TextLeavesStore text (Err Read) ran
+  FlushedLeavesStore text (Err NoMemory) ran = TextLeavesStore text (Err NoMemory) ran
 
 -- the run over a stack of a kind, from a session that has given no name
 over_kind : (kind : StackKind) (has_memory : ℕ → Type 0) (room : ℕ) (limit : Option ℕ) (text : Option (List ℕ)) (outcome : Result (Unit {0}) TextError) (old new : Option (List ℕ)) → IsOfKind kind room limit

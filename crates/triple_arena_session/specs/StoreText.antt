@@ -9,13 +9,13 @@ use Rattle.triple_arena_session.specs.declared.program.Kind.TheVariants.{Heap, L
 use Rattle.triple_arena_session.specs.declared.program.Outcome.{Outcome}
 use Rattle.triple_arena_session.specs.declared.program.Outcome.TheVariants.{Ran}
 use Rattle.triple_arena_session.specs.declared.text.TextError.{TextError}
-use Rattle.triple_arena_session.specs.declared.text.TextError.TheVariants.{Malformed}
+use Rattle.triple_arena_session.specs.declared.text.TextError.TheVariants.{Malformed, Read, Write, NoMemory}
 use Rattle.triple_arena_session.specs.Lines.{lines_of}
 use Rattle.triple_arena_session.specs.ReplyText.{reply_lines}
-use Rattle.triple_arena_session.specs.Runs.{TellsOfNoWrap, EndsInWrap}
+use Rattle.triple_arena_session.specs.Runs.{IsRun, TellsOfNoWrap, EndsInWrap}
 use Rattle.triple_arena_session.specs.TextRun.{StandFor, IsMalformed}
 use Rattle.triple_arena_session.specs.KindRun.{greatest}
-use Rattle.triple_arena_session.specs.NameStore.{Store, new_store}
+use Rattle.triple_arena_session.specs.NameStore.{Store, new_store, IsStoreStep}
 use Rattle.triple_arena_session.specs.StoreRuns.{is_named, is_no_memory, AnswersAsStore, ample, erase, seen}
 
 -- these lines stand for commands that were answered as by the store, and the reply lines were written. If all of them are
@@ -37,7 +37,25 @@ IsStoreText s text (Err (Malformed n)) old new =
     IfSome text (λ bytes. IsMalformed (lines_of bytes) n × WritesAsStore s TellsOfNoWrap (take (n - 1) (lines_of bytes)) old new)
 IsStoreText s text outcome old new = Unit {0}
 
--- the store that the program begins with
+-- the commands that these lines stand for took the store from s to t, no reply told of a wrap, and the reply lines were
+-- written
+abbrev pub BringsStore : Store ℕ → Store ℕ → List (List ℕ) → Option (List ℕ) → Option (List ℕ) → Type 0
+BringsStore s t lines old new =
+    (commands : List (Command ℕ)) × (replies : List (Reply ℕ)) × StandFor lines commands × IsRun IsStoreStep s commands replies t × TellsOfNoWrap replies
+    × Appends old new (reply_lines replies)
+
+-- what a run leaves of a session that showed s: t is shown then, and Sound holds. Nothing is said where the last reply that
+-- was written told of a wrap, or where the writer failed
+abbrev pub LeavesStore : Store ℕ → Store ℕ → Type 0 → Option (List ℕ) → Result (Unit {0}) TextError → Option (List ℕ) → Option (List ℕ) → Type 0
+LeavesStore s t Sound text (Ok done) old new =
+    IfSome text (λ bytes.
+    (Sound × BringsStore s t (lines_of bytes) old new) ⊎ ((replies : List (Reply ℕ)) × EndsInWrap replies × Appends old new (reply_lines replies)))
+LeavesStore s t Sound text (Err (Malformed n)) old new = IfSome text (λ bytes. Sound × BringsStore s t (take (n - 1) (lines_of bytes)) old new)
+LeavesStore s t Sound text (Err Write) old new = Unit {0}
+LeavesStore s t Sound text (Err Read) old new = Sound × (t ≡ s)
+LeavesStore s t Sound text (Err NoMemory) old new = Sound × (t ≡ s)
+
+-- the store that a new session shows at the pointer of general use, over a stack of each kind
 abbrev pub first_store : Kind → Store ℕ
 first_store Heap = new_store 0 None greatest
 first_store (Limited n) = new_store n (Some n) greatest

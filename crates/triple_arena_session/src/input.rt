@@ -15,9 +15,9 @@ const MOST_READS: u64 = 4294967296;
 /// How many bytes a read asks for.
 const CHUNK: usize = 65536;
 
-/// All that a reader has left, by at most `MOST_READS` reads. A read that was interrupted is
+/// All that a reader has left, by at most 4294967296 reads. A read that was interrupted is
 /// tried again, and counts.
-pub fn read_text<R: Read>(alloc: Global, input: &mut R) -> Result<Vec<u8>, TextError>
+pub(crate) fn read_text<R: Read>(alloc: Global, input: &mut R) -> Result<Vec<u8>, TextError>
     ensures ok { IfOk result (λ text. IfSome (R.remaining input.old) (λ bytes. text.items ≡ bytes)) }
     ensures err { IfErr result (λ e. (e ≡ TextError.Read) ⊎ (e ≡ TextError.NoMemory)) }
 {

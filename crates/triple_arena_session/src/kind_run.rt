@@ -1,4 +1,4 @@
-//! The run of the program: the session that was asked for, and the run of a text in it.
+//! Runs of a text in a new session, and of the program.
 
 ghost use Rattle.std.specs.Prelude.{◌≡◌, IsErr, IsNone};
 ghost use Rattle.std.specs.Io.Buffered.{writer_contents};
@@ -37,9 +37,11 @@ const OUTPUT_BUFFER: usize = 65536;
 /// Runs the program: its input, in the session that its arguments ask for, as `run_kind` does.
 /// Replies are gathered in a buffer over the output, which is given back at the end.
 ///
-/// Where the arguments ask for no kind, as `asked_kind` says, nothing is read or written. Where
-/// there is no memory for the buffer, the outcome is `NoMemory`, nothing is read, and the output
-/// is let go. What is written is what a new store of names answers, as `run_kind` says.
+/// Where the arguments ask for no kind, nothing is read or written: they are wrong, as `parse_args`
+/// says of their words and as all are that are no text, or there was no memory for them, which is
+/// `NoMemory`. Where there is no memory for the buffer, the outcome is `NoMemory`, nothing is read,
+/// and the output is let go. What is written is what a new store of names answers, as `run_kind`
+/// says.
 pub fn run_program<R: Read, W: Write + Drop>(
     args: io::Result<Vec<String>>,
     alloc: Global,
@@ -84,10 +86,11 @@ fn run_asked<R: Read, W: Write + Drop>(
 /// the heap; over the heap with this limit, which is its room at first too; over so many fixed
 /// places; or over an array of 8.
 ///
-/// Where there is no memory for the session, the outcome is `NoMemory`, and nothing is read.
+/// Where there is no memory for the session, the outcome is `NoMemory`, and nothing is written.
 ///
-/// Up to the first reply that tells of a wrap, what is written is what a new store of names
-/// answers, and compactions change no other line, as `Session::run` says.
+/// Up to the first reply that tells of a wrap, and but where the writer failed, what is written is
+/// what a new store of names answers, and compactions change no other line, as `Session::run` says.
+/// This is said of readers and writers that tell their bytes.
 pub fn run_kind<R: Read, W: Write + Drop>(
     kind: Kind,
     alloc: Global,

@@ -15,12 +15,10 @@ mod session;
 mod text;
 
 pub use command::{Command, parse_command};
-pub use input::read_text;
 pub use kind_run::{run_kind, run_program};
-pub use lines::split_first;
 pub use node::Node;
 pub use output::write_reply;
-pub use program::{Kind, Outcome, asked_kind, parse_args, status};
+pub use program::{Kind, Outcome, parse_args, status};
 pub use reply::Reply;
 pub use session::Session;
-pub use text::{TextError, flush_after, run_text, run_text_and_flush};
+pub use text::{TextError, run_text, run_text_and_flush};

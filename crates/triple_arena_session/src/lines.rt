@@ -5,7 +5,7 @@ ghost use Rattle.std.specs.Option.{option_copied};
 ghost use Rattle.triple_arena_session.specs.Lines.{parts_of, parts_after, length_after};
 
 /// The part before the first byte `at`, and what follows that byte, where there is one.
-pub fn split_first(bytes: &[u8], at: u8) -> (&[u8], Option<&[u8]>)
+pub(crate) fn split_first(bytes: &[u8], at: u8) -> (&[u8], Option<&[u8]>)
     ensures parts { parts_of at bytes.now ≡ result.0.now ∷ parts_after at (option_copied result.1) }
     ensures length { length result.0.now + length_after (option_copied result.1) ≡ length bytes.now }
 {

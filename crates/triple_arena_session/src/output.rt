@@ -1,6 +1,6 @@
 //! The writing of a reply.
 
-ghost use Rattle.std.specs.Prelude.{◌≡◌, ◌<◌, ◌≤◌, ◌++◌, ◌∷◌, [], length, take, OnOk, OnErr, IfSome, IfNone};
+ghost use Rattle.std.specs.Prelude.{◌≡◌, ◌<◌, ◌≤◌, ◌++◌, ◌∷◌, [], length, take, OnOk, OnErr, IfErr, IfSome, IfNone};
 ghost use Rattle.std.specs.Io.KnownBytes.{Appends, Keeps};
 ghost use Rattle.triple_arena_session.specs.ReplyText.{reply_line};
 ghost use Rattle.triple_arena_session.specs.TextRun.{AppendsCut};
@@ -15,12 +15,13 @@ use std::io::{ErrorKind, Write};
 const LINE_ROOM: usize = 64;
 
 /// Writes the line of a reply, by writes alone. The error is `Write`, and then a front of the line
-/// was written, but not all of it.
+/// was written, but not all of it. What was written is said of a writer that tells its bytes.
 pub fn write_reply<W: Write>(output: &mut W, reply: &Reply<u64>) -> Result<(), TextError>
     ensures ok { OnOk result
         (Appends (W.contents output.old) (W.contents output.new) (reply_line reply.now)) }
     ensures err { OnErr result
         (AppendsCut (W.contents output.old) (W.contents output.new) [] (reply_line reply.now)) }
+    ensures write { IfErr result (λ e. e ≡ TextError.Write) }
 {
     match reply {
         Reply::Line(text) => write_shown(output, text),
@@ -38,6 +39,7 @@ fn write_shown<W: Write>(output: &mut W, text: &str) -> Result<(), TextError>
         (Appends (W.contents output.old) (W.contents output.new) (text.now ++ 10 ∷ [])) }
     ensures err { OnErr result
         (AppendsCut (W.contents output.old) (W.contents output.new) [] (text.now ++ 10 ∷ [])) }
+    ensures write { IfErr result (λ e. e ≡ TextError.Write) }
 {
     match write_all(output, text.as_bytes()) {
         Ok(()) => write_all(output, b"\n"),
@@ -62,6 +64,7 @@ fn write_all<W: Write>(output: &mut W, bytes: &[u8]) -> Result<(), TextError>
         (Appends (W.contents output.old) (W.contents output.new) bytes.now) }
     ensures err { OnErr result
         (AppendsCut (W.contents output.old) (W.contents output.new) [] bytes.now) }
+    ensures write { IfErr result (λ e. e ≡ TextError.Write) }
 {
     let mut written = 0;
     'writes: while written < bytes.len() {

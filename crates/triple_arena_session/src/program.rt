@@ -27,14 +27,14 @@ pub enum Outcome {
     /// The arguments are wrong. Nothing was read or written.
     WrongArguments,
     /// The answer of the run of the input. `NoMemory` is also the answer where there was no memory
-    /// for the arguments, the buffer of the output or the session, and then nothing was read.
+    /// for the arguments, the buffer of the output or the session.
     Ran(Result<(), TextError>),
 }
 
 /// The kind that the program's arguments ask for, those after its name: the one that their words
 /// ask for, as `parse_args` reads them. Arguments that are no text are wrong, and no memory for
 /// them is `NoMemory`.
-pub fn asked_kind(args: &io::Result<Vec<String>>) -> Result<Kind, Outcome>
+pub(crate) fn asked_kind(args: &io::Result<Vec<String>>) -> Result<Kind, Outcome>
     ensures { result ≡ asked_kind args.now }
 {
     match args {

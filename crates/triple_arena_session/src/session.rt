@@ -126,9 +126,10 @@ impl<P: Ptr, X: Copy, S: NonZeroInxGenericStack<ArenaSlot<P, Node<X, P>>>> Sessi
     /// - `Show`: `NoMemory`; `Line`.
     ///
     /// All else stays, but that after a `NoMemory` the table of names may have grown, and that a
-    /// reservation, refused or not, puts the free list of the arena in order. `Clear`, `Compact`,
-    /// `Reserve` and `Show` touch each slot, and `Compact` each name; a look-up of an entry with a
-    /// link may have to search the names.
+    /// reservation, refused or not, puts the free list of the arena in order. `Compact`, `Reserve` and
+    /// `Show` touch each slot, and `Compact` each name; a look-up of an entry with a link may have to
+    /// search the names. Which of the two refusals of `Compact` comes first is the body's, and said
+    /// by no clause.
     ///
     /// A sound session answers as the store of names that it shows, its bool aside where the reply
     /// tells of a wrap; where it tells of none, the session shows what the store becomes, and is
@@ -181,8 +182,9 @@ impl<P: Ptr, X: Copy, S: NonZeroInxGenericStack<ArenaSlot<P, Node<X, P>>>> Sessi
     /// There is room for all replies first: where memory for it is refused, nothing is done.
     ///
     /// A sound session answers as the store of names that it shows. Where no reply tells of a wrap,
-    /// it shows what the store becomes, and is sound. Up to a wrap no pointer is given twice. Of
-    /// named commands, which are all but `Capacity`, `Reserve` and `Show`, and with no `NoMemory`
+    /// it shows what the store becomes, and is sound. Of each front of the commands and replies there
+    /// is what stood after it (`before`), and as long as it tells of no wrap no pointer was given twice
+    /// by then. Of named commands, which are all but `Capacity`, `Reserve` and `Show`, and with no `NoMemory`
     /// among the replies, compactions change no other reply.
     pub fn run(&mut self, commands: &[Command<X>]) -> Result<Vec<Reply<X>>, AllocError>
     where
@@ -202,9 +204,11 @@ impl<P: Ptr, X: Copy, S: NonZeroInxGenericStack<ArenaSlot<P, Node<X, P>>>> Sessi
             KeepsHistories (IsStep S.kind S.has_memory P.Gen.counting P.Gen.greatest)
             self.old (take (length replies.items) commands.now) replies.items self.new) }
         ensures before { P.Gen.counting ≡ true → IsSound self.old → IfOk result (λ replies.
-            (count : ℕ) (after : SessionState X)
-            → KeepsHistories (IsStep S.kind S.has_memory P.Gen.counting P.Gen.greatest)
-            self.old (take count commands.now) (take count replies.items) after) }
+            (count : ℕ) → (after : SessionState X)
+            × IsRun (IsStep S.kind S.has_memory P.Gen.counting P.Gen.greatest)
+            self.old (take count (take (length replies.items) commands.now)) (take count replies.items) after
+            × KeepsHistories (IsStep S.kind S.has_memory P.Gen.counting P.Gen.greatest)
+            self.old (take count (take (length replies.items) commands.now)) (take count replies.items) after) }
         ensures unseen { P.Gen.counting ≡ true → IsSound self.old → IfOk result (λ replies.
             let ran = take (length replies.items) commands.now in
             list_all is_named ran ≡ true → list_any is_no_memory replies.items ≡ false

@@ -5,8 +5,8 @@ ghost use Rattle.std.specs.Io.Buffered.{writer_contents};
 ghost use Rattle.triple_arena_session.specs.ErrorText.{error_text};
 ghost use Rattle.triple_arena_session.specs.SessionRun.{IsStep};
 ghost use Rattle.triple_arena_session.specs.TextRun.{IsTextRun, IsFlushedRun, IsFlushed};
-ghost use Rattle.triple_arena_session.specs.Shown.{shown, IsSound};
-ghost use Rattle.triple_arena_session.specs.StoreText.{IsStoreText};
+ghost use Rattle.triple_arena_session.specs.Shown.{shown, IsSound, IsArenaOver};
+ghost use Rattle.triple_arena_session.specs.StoreText.{IsStoreText, LeavesStore};
 ghost use Rattle.triple_arena_session.specs.LineRun.{CommandEnds, LineEnds};
 
 use crate::command::parse_command;
@@ -32,9 +32,10 @@ pub enum TextError {
     /// The reader failed, or hadn't ended after 4294967296 reads. Nothing has run.
     Read,
     /// The writer failed. The command whose reply was being written has run, and those before it.
-    /// The replies before went out whole, and that one in part or not at all.
+    /// The replies before went out whole, and that one in part or not at all. Of a run that is
+    /// flushed after it, a front of the replies of the commands that ran went out.
     Write,
-    /// There was no memory for the text. Nothing has run.
+    /// There was no memory for the text, or for what it was to run in. Nothing has run.
     NoMemory,
 }
 
@@ -60,8 +61,10 @@ impl Error for TextError {}
 /// a wrap, or with the error that comes first; `TextError` says what stands after each. A reply
 /// goes out by writes alone, without asking for memory, and nothing is flushed.
 ///
-/// In a sound session the lines are answered as by the store of names that it shows, and
-/// compactions change no other line, as `Session::run` says.
+/// In a sound session, and but where the writer failed, the lines are answered as by the store of
+/// names that it shows, and compactions change no other line, as `Session::run` says. Where no
+/// reply told of a wrap, it is sound after the run, and shows what the store became: so one text
+/// may follow another. All this is said of readers and writers that tell their bytes.
 pub fn run_text<P: Ptr, S: NonZeroInxGenericStack<ArenaSlot<P, Node<u64, P>>>, R: Read, W: Write>(
     session: &mut Session<P, u64, S>,
     alloc: Global,
@@ -74,6 +77,10 @@ pub fn run_text<P: Ptr, S: NonZeroInxGenericStack<ArenaSlot<P, Node<u64, P>>>, R
     ensures store { P.Gen.counting ≡ true → IsSound session.old
         → IsStoreText (shown session.old) (R.remaining input.old) result
         (W.contents output.old) (W.contents output.new) }
+    ensures leaves { P.Gen.counting ≡ true → IsSound session.old
+        → LeavesStore (shown session.old) (shown session.new) (IsSound session.new)
+        (R.remaining input.old) result (W.contents output.old) (W.contents output.new) }
+    ensures arena { IsArenaOver S.kind session.old.arena }
 {
     session.tell_arena();
     read_and_run(session, alloc, input, output)
@@ -100,8 +107,8 @@ fn read_and_run<P: Ptr, S: NonZeroInxGenericStack<ArenaSlot<P, Node<u64, P>>>, R
 ///
 /// Of a run that failed by reading or for want of memory nothing was written, and at the other
 /// outcomes but `Write` the writer below holds each reply line. At `Write` it holds a front of the
-/// reply lines of the commands that ran. A failed flush is `Write`, as `flush_after` says. In a
-/// sound session the lines are those of a store of names.
+/// reply lines of the commands that ran. A failed flush is `Write`. In a sound session the lines
+/// are those of a store of names, and it is left, as `run_text` says.
 pub fn run_text_and_flush<
     P: Ptr,
     S: NonZeroInxGenericStack<ArenaSlot<P, Node<u64, P>>>,
@@ -118,6 +125,10 @@ pub fn run_text_and_flush<
     ensures store { P.Gen.counting ≡ true → IsSound session.old
         → IsStoreText (shown session.old) (R.remaining input.old) result.0
         (writer_contents W.contents output) (W.contents result.1) }
+    ensures leaves { P.Gen.counting ≡ true → IsSound session.old
+        → LeavesStore (shown session.old) (shown session.new) (IsSound session.new)
+        (R.remaining input.old) result.0 (writer_contents W.contents output) (W.contents result.1) }
+    ensures arena { IsArenaOver S.kind session.old.arena }
 {
     session.tell_arena();
     run_and_flush(session, alloc, input, output)
@@ -146,7 +157,7 @@ fn run_and_flush<
 /// failed flush is the error `Write` whatever the outcome was, and the bytes that it left are let
 /// go: a front of what was written stands in the writer below.
 #[tactic(auto, using(crate::proofs::TextLaws::keeps_emptied))]
-pub fn flush_after<W: Write + Drop>(
+pub(crate) fn flush_after<W: Write + Drop>(
     outcome: Result<(), TextError>,
     mut output: BufWriter<W>,
 ) -> (Result<(), TextError>, W)

@@ -1,7 +1,9 @@
 //! Entries by name: commands to a new session, answered as by a store of names.
 
-ghost use Rattle.std.specs.Prelude.{◌≡◌, true, false, IfOk, take, length};
+ghost use Rattle.std.specs.Prelude.{◌≡◌, ◌+◌, true, false, IfOk, IfSome, take, length};
 ghost use Rattle.std.specs.List.{list_all, list_any};
+ghost use Rattle.triple_arena_session.specs.NameStore.{next_name};
+ghost use Rattle.triple_arena_session.specs.Shown.{shown, IsSound};
 ghost use Rattle.triple_arena_session.specs.StoreText.{first_store};
 ghost use Rattle.triple_arena_session.specs.StoreRuns.{AnswersAsStore, is_named, is_no_memory, seen, ample, erase};
 ghost use Rattle.triple_arena_session.specs.declared.program.Kind.TheVariants.{Heap};
@@ -9,7 +11,8 @@ ghost use Rattle.triple_arena_session.specs.declared.program.Kind.TheVariants.{H
 use std::alloc::Global;
 use triple_arena_base::AllocError;
 use triple_arena_ptr::P0;
-use triple_arena_session::{Command, Reply, Session};
+use triple_arena_session::laws::names_are_new;
+use triple_arena_session::{Command, Reply, Session, TextError, run_text};
 
 /// The replies to commands in a new session over the heap, up to the first that tells of a wrap.
 /// They are those of a new store of names. Where the commands that ran are named ones, and no
@@ -24,4 +27,37 @@ pub fn answers(alloc: Global, commands: &[Command<u64>]) -> Result<Vec<Reply<u64
 {
     let mut session: Session<P0, u64> = Session::new(alloc);
     session.run(commands)
+}
+
+/// Enters a number that links to nothing in a sound session, and gives its name, which is the next
+/// one. `None` where no index is free, or memory was refused.
+pub fn enter(session: &mut Session<P0, u64>, number: u64) -> Option<usize>
+    requires sound { IsSound session.old }
+    ensures next { IfSome result (λ name. name ≡ next_name (shown session.old)) }
+    ensures later { IfSome result (λ name. next_name (shown session.new) ≡ name + 1) }
+    ensures sound { IfSome result (λ name. IsSound session.new) }
+{
+    names_are_new::<u64>();
+    match session.step(Command::Insert(number, None)) {
+        Reply::Given(name, false) => Some(name),
+        _ => None,
+    }
+}
+
+/// Runs a text in a sound session up to its first malformed line, and gives the number of this
+/// line. The session is sound then, and another text may follow. `None` where it ended otherwise.
+pub fn run_to_malformed(
+    session: &mut Session<P0, u64>,
+    alloc: Global,
+    text: &[u8],
+    output: &mut Vec<u8>,
+) -> Option<usize>
+    requires sound { IsSound session.old }
+    ensures sound { IfSome result (λ line. IsSound session.new) }
+{
+    let mut input = text;
+    match run_text(session, alloc, &mut input, output) {
+        Err(TextError::Malformed(line)) => Some(line),
+        _ => None,
+    }
 }

@@ -3,7 +3,7 @@
 use super::steps::says;
 use std::alloc::Global;
 use std::process::Abort;
-use triple_arena_session::{Reply, split_first, write_reply};
+use triple_arena_session::{Reply, write_reply};
 
 // Expects each to be a reply's text, its line to be the same and a line break, and ` wrapped` to
 // stand at its end just where the reply tells of a wrap.
@@ -24,7 +24,8 @@ fn each_is_written(rt: &impl Abort, alloc: Global, rows: &[(Reply<u64>, &str)]) 
 fn is_written(alloc: Global, reply: &Reply<u64>, text: &str) -> bool {
     let mut line = Vec::new(alloc);
     write_reply(&mut line, reply).is_ok()
-        && split_first(line.as_slice(), b'\n') == (text.as_bytes(), Some(b"".as_slice()))
+        && line.pop() == Some(b'\n')
+        && line.as_slice() == text.as_bytes()
 }
 
 /// The last is the longest.

@@ -16,4 +16,4 @@ writes-preserved g c =
 
 pub returns-in-None : goal.returns-in-None
 returns-in-None g c =
-    record { ok = search rules; err = AppendsCut-at _ _ _ c.args.bytes.now c.writes.written (search rules) c.writes.invariant.1 c.in-None.ensures.failed }
+    record { ok = search rules; write = search rules; err = AppendsCut-at _ _ _ c.args.bytes.now c.writes.written (search rules) c.writes.invariant.1 c.in-None.ensures.failed }

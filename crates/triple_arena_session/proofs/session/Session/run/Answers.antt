@@ -1,6 +1,8 @@
 use Rattle.std.proofs.Common.{length, take}
 use Rattle.std.proofs.lemmas.Result.{IfOk-weaker}
+use Rattle.triple_arena_session.specs.SessionRun.{IsStep}
 use Rattle.triple_arena_session.proofs.Soundness.{sound_over}
+use Rattle.triple_arena_session.proofs.RunLaws.{IsRun-front}
 use Rattle.triple_arena_session.proofs.StoreRunLaws.{RunAnswersAsStore, RunIsStores, RunKeepsHistories, RunIsUnseen}
 use Rattle.triple_arena_session.proofs.session.Session.run.Goals as goal
 
@@ -22,7 +24,11 @@ returns-clause-calls g c counts sound =
 
 pub returns-clause-before : goal.returns-clause-before
 returns-clause-before g c counts sound =
-    IfOk-weaker c.run_commands.result _ _ (λ replies ran. λ count after. RunKeepsHistories g.S.NonZeroInxGenericStack.kind g.S.NonZeroInxGenericStack.has_memory g.P.Gen.PtrGen.counting g.P.Gen.PtrGen.greatest counts c.args.self.now (take count c.args.commands.now) (take count replies.items) after (sound_over g.S.NonZeroInxGenericStack.kind c.args.self.now sound c.tell_arena.ensures)) c.run_commands.ensures.ran
+    IfOk-weaker c.run_commands.result _ _ (λ replies ran. λ count.
+    let Step = IsStep g.S.NonZeroInxGenericStack.kind g.S.NonZeroInxGenericStack.has_memory g.P.Gen.PtrGen.counting g.P.Gen.PtrGen.greatest in
+    let answered = take (length replies.items) c.args.commands.now in
+    let front = IsRun-front Step c.args.self.now c.run_commands.new.self answered replies.items count ran.0 in
+    (front.0, front.1, RunKeepsHistories g.S.NonZeroInxGenericStack.kind g.S.NonZeroInxGenericStack.has_memory g.P.Gen.PtrGen.counting g.P.Gen.PtrGen.greatest counts c.args.self.now (take count answered) (take count replies.items) front.0 (sound_over g.S.NonZeroInxGenericStack.kind c.args.self.now sound c.tell_arena.ensures))) c.run_commands.ensures.ran
 
 pub returns-clause-unseen : goal.returns-clause-unseen
 returns-clause-unseen g c counts sound =

@@ -184,8 +184,8 @@ impl<P: Ptr, X: Copy, S: NonZeroInxGenericStack<ArenaSlot<P, Node<X, P>>>> Sessi
     /// A sound session answers as the store of names that it shows. Where no reply tells of a wrap,
     /// it shows what the store becomes, and is sound. Of each front of the commands and replies there
     /// is what stood after it (`before`), and as long as it tells of no wrap no pointer was given twice
-    /// by then. Of named commands, which are all but `Capacity`, `Reserve` and `Show`, and with no `NoMemory`
-    /// among the replies, compactions change no other reply.
+    /// by then. Of named commands, which are all but `Capacity`, `Reserve` and `Show`, and with no
+    /// `NoMemory` among the replies, compactions change no other reply.
     pub fn run(&mut self, commands: &[Command<X>]) -> Result<Vec<Reply<X>>, AllocError>
     where
         X: Debug,

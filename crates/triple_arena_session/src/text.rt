@@ -61,10 +61,10 @@ impl Error for TextError {}
 /// a wrap, or with the error that comes first; `TextError` says what stands after each. A reply
 /// goes out by writes alone, without asking for memory, and nothing is flushed.
 ///
-/// In a sound session, and but where the writer failed, the lines are answered as by the store of
-/// names that it shows, and compactions change no other line, as `Session::run` says. Where no
-/// reply told of a wrap, it is sound after the run, and shows what the store became: so one text
-/// may follow another. All this is said of readers and writers that tell their bytes.
+/// In a sound session the lines are answered as by the store of names that it shows, and
+/// compactions change no other line, as `Session::run` says. Unless the last reply told of a wrap,
+/// it is sound after the run, and shows what the store became: so one text may follow another. All
+/// this is said but where the writer failed, and of readers and writers that tell their bytes.
 pub fn run_text<P: Ptr, S: NonZeroInxGenericStack<ArenaSlot<P, Node<u64, P>>>, R: Read, W: Write>(
     session: &mut Session<P, u64, S>,
     alloc: Global,

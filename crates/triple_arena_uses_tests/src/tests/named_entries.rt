@@ -28,27 +28,35 @@ fn names_find_what_they_name(rt: HostRuntime) {
     assert!(rt; told.is_ok_and(|told| told.as_slice() == replies.as_slice()));
 }
 
-#[test]
-fn each_number_gets_the_next_name(rt: HostRuntime) {
-    let mut session = Session::new(rt.alloc());
-    let names = [enter(&mut session, 7), enter(&mut session, 7)];
-    assert!(rt; names == [Some(1), Some(2)]);
+// The names of two numbers in a new session.
+fn entered(alloc: Global) -> Option<[usize; 2]> {
+    let mut session = Session::new(alloc);
+    let first = enter(&mut session, 7)?;
+    let second = enter(&mut session, 7)?;
+    Some([first, second])
 }
 
-// The lines at which two texts end in one session, and all that is written.
-fn told(alloc: Global, first: &[u8], second: &[u8]) -> ([Option<usize>; 2], Vec<u8>) {
+#[test]
+fn each_number_gets_the_next_name(rt: HostRuntime) {
+    assert!(rt; entered(rt.alloc()) == Some([1, 2]));
+}
+
+// The malformed line of a text, if a text after it has none, and what the two write.
+fn told(alloc: Global, first: &[u8], second: &[u8]) -> Option<(usize, bool, Vec<u8>)> {
     let mut session = Session::new(alloc);
     let mut output = Vec::new(alloc);
-    let ends = [
-        run_to_malformed(&mut session, alloc, first, &mut output),
-        run_to_malformed(&mut session, alloc, second, &mut output),
-    ];
-    (ends, output)
+    let line = run_to_malformed(&mut session, alloc, first, &mut output)?;
+    let ends_well = run_to_malformed(&mut session, alloc, second, &mut output).is_none();
+    Some((line, ends_well, output))
 }
 
 #[test]
 fn a_text_follows_one_with_a_malformed_line(rt: HostRuntime) {
-    let (ends, output) = told(rt.alloc(), b"insert 1 -\ninsert 2\nlen\n", b"get 1\n");
-    assert!(rt; ends == [Some(2), None]);
-    assert_eq!(rt; output.as_slice(), b"given 1\nfound 1 -\n".as_slice());
+    let told = told(rt.alloc(), b"insert 1 -\ninsert 2\nlen\n", b"get 1\n");
+    let written = b"given 1\nfound 1 -\n".as_slice();
+    assert!(rt;
+        told.is_some_and(|(line, ends_well, output)| {
+            line == 2 && ends_well && output.as_slice() == written
+        })
+    );
 }

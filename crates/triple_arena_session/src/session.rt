@@ -183,7 +183,7 @@ impl<P: Ptr, X: Copy, S: NonZeroInxGenericStack<ArenaSlot<P, Node<X, P>>>> Sessi
     ///
     /// A sound session answers as the store of names that it shows. Where no reply tells of a wrap,
     /// it shows what the store becomes, and is sound. Of each front of the commands and replies there
-    /// is what stood after it (`before`), and as long as it tells of no wrap no pointer was given twice
+    /// is what stood after it (`fronts`), and as long as it tells of no wrap no pointer was given twice
     /// by then. Of named commands, which are all but `Capacity`, `Reserve` and `Show`, and with no
     /// `NoMemory` among the replies, compactions change no other reply.
     pub fn run(&mut self, commands: &[Command<X>]) -> Result<Vec<Reply<X>>, AllocError>
@@ -204,6 +204,10 @@ impl<P: Ptr, X: Copy, S: NonZeroInxGenericStack<ArenaSlot<P, Node<X, P>>>> Sessi
             KeepsHistories (IsStep S.kind S.has_memory P.Gen.counting P.Gen.greatest)
             self.old (take (length replies.items) commands.now) replies.items self.new) }
         ensures before { P.Gen.counting ≡ true → IsSound self.old → IfOk result (λ replies.
+            (count : ℕ) (after : SessionState X)
+            → KeepsHistories (IsStep S.kind S.has_memory P.Gen.counting P.Gen.greatest)
+            self.old (take count commands.now) (take count replies.items) after) }
+        ensures fronts { P.Gen.counting ≡ true → IsSound self.old → IfOk result (λ replies.
             (count : ℕ) → (after : SessionState X)
             × IsRun (IsStep S.kind S.has_memory P.Gen.counting P.Gen.greatest)
             self.old (take count (take (length replies.items) commands.now)) (take count replies.items) after

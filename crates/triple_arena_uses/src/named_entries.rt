@@ -1,9 +1,10 @@
 //! Entries by name: commands to a new session, answered as by a store of names.
 
-ghost use Rattle.std.specs.Prelude.{◌≡◌, ◌+◌, true, false, IfOk, IfSome, take, length};
+ghost use Rattle.std.specs.Prelude.{◌≡◌, ◌+◌, ◌⊎◌, true, false, IfOk, IfSome, take, length};
 ghost use Rattle.std.specs.List.{list_all, list_any};
 ghost use Rattle.triple_arena_session.specs.NameStore.{next_name};
 ghost use Rattle.triple_arena_session.specs.Shown.{shown, IsSound};
+ghost use Rattle.triple_arena_session.specs.Runs.{TellsOfNoWrap, EndsInWrap};
 ghost use Rattle.triple_arena_session.specs.StoreText.{first_store};
 ghost use Rattle.triple_arena_session.specs.StoreRuns.{AnswersAsStore, is_named, is_no_memory, seen, ample, erase};
 ghost use Rattle.triple_arena_session.specs.declared.program.Kind.TheVariants.{Heap};
@@ -14,10 +15,14 @@ use triple_arena_ptr::P0;
 use triple_arena_session::laws::names_are_new;
 use triple_arena_session::{Command, Reply, Session, TextError, run_text};
 
-/// The replies to commands in a new session over the heap, up to the first that tells of a wrap.
-/// They are those of a new store of names. Where the commands that ran are named ones, and no
+/// The replies to commands in a new session over the heap: one to each command, or up to the first
+/// that tells of a wrap. They are those of a new store of names. Refused only where there is no
+/// memory for the list of replies. Where the commands that ran are named ones, and no
 /// memory was refused, compactions change no other reply.
 pub fn answers(alloc: Global, commands: &[Command<u64>]) -> Result<Vec<Reply<u64>>, AllocError>
+    ensures whole { IfOk result (λ replies.
+        (TellsOfNoWrap replies.items × (length replies.items ≡ length commands.now))
+        ⊎ EndsInWrap replies.items) }
     ensures store { IfOk result (λ replies.
         AnswersAsStore (first_store Heap) (take (length replies.items) commands.now) replies.items) }
     ensures unseen { IfOk result (λ replies.
@@ -30,7 +35,7 @@ pub fn answers(alloc: Global, commands: &[Command<u64>]) -> Result<Vec<Reply<u64
 }
 
 /// Enters a number that links to nothing in a sound session, and gives its name, which is the next
-/// one. `None` where no index is free, or memory was refused.
+/// one. `None` where no index is free or memory was refused, of which no clause says more.
 pub fn enter(session: &mut Session<P0, u64>, number: u64) -> Option<usize>
     requires sound { IsSound session.old }
     ensures next { IfSome result (λ name. name ≡ next_name (shown session.old)) }

@@ -24,6 +24,10 @@ returns-clause-calls g c counts sound =
 
 pub returns-clause-before : goal.returns-clause-before
 returns-clause-before g c counts sound =
+    IfOk-weaker c.run_commands.result _ _ (λ replies ran. λ count after. RunKeepsHistories g.S.NonZeroInxGenericStack.kind g.S.NonZeroInxGenericStack.has_memory g.P.Gen.PtrGen.counting g.P.Gen.PtrGen.greatest counts c.args.self.now (take count c.args.commands.now) (take count replies.items) after (sound_over g.S.NonZeroInxGenericStack.kind c.args.self.now sound c.tell_arena.ensures)) c.run_commands.ensures.ran
+
+pub returns-clause-fronts : goal.returns-clause-fronts
+returns-clause-fronts g c counts sound =
     IfOk-weaker c.run_commands.result _ _ (λ replies ran. λ count.
     let Step = IsStep g.S.NonZeroInxGenericStack.kind g.S.NonZeroInxGenericStack.has_memory g.P.Gen.PtrGen.counting g.P.Gen.PtrGen.greatest in
     let answered = take (length replies.items) c.args.commands.now in

@@ -21,6 +21,7 @@ ghost use Rattle.triple_arena_traits.specs.Values.{with_values_of};
 ghost use Rattle.triple_arena_traits.specs.Lent.{lends_values};
 ghost use Rattle.triple_arena_traits.specs.Histories.{resizing, Fits, Continues, CountsUp};
 
+mod advancer;
 mod compaction;
 mod copies;
 mod limit;
@@ -39,7 +40,7 @@ use triple_arena_ptr::{Ptr, PtrGen, PtrInx};
 use triple_arena_stack::{NonZeroInxGenericStack, NonZeroInxVec};
 use triple_arena_traits::answers::{told, told_valid};
 use triple_arena_traits::entry_slots::{
-    first_live, last_live, live_from, live_to, slot_at, work_on_two,
+    first_live, last_live, ptr_at, slot_at, work_on_two,
 };
 use triple_arena_traits::pair_call::{AtEntries, AtValues, PairCall};
 use triple_arena_traits::{
@@ -525,37 +526,6 @@ impl<P: Ptr, T, S: NonZeroInxGenericStack<ArenaSlot<P, T>>> Arena<P, T, S> {
         &self.slots.stack
     }
 
-    // The least index of an entry at or above this one, if there is one.
-    pub(crate) fn live_from(&self, from: NonZeroUsize) -> Option<NonZeroUsize>
-        ensures { MatchOption result
-            ((i : ℕ) → non_zero_usize_get from ≤ i → entry self.now i ≡ None)
-            (λ inx. IsSome (entry self.now (non_zero_usize_get inx))
-            × (non_zero_usize_get from ≤ non_zero_usize_get inx)
-            × ((i : ℕ) → non_zero_usize_get from ≤ i → i < non_zero_usize_get inx
-            → entry self.now i ≡ None)) }
-    {
-        live_from::<P, T, ArenaSlot<P, T>, S>(&self.slots.stack, from)
-    }
-
-    // The greatest index of an entry at or below this one, if there is one.
-    pub(crate) fn live_to(&self, to: NonZeroUsize) -> Option<NonZeroUsize>
-        ensures { MatchOption result
-            ((i : ℕ) → i ≤ non_zero_usize_get to → entry self.now i ≡ None)
-            (λ inx. IsSome (entry self.now (non_zero_usize_get inx))
-            × (non_zero_usize_get inx ≤ non_zero_usize_get to)
-            × ((i : ℕ) → i ≤ non_zero_usize_get to → non_zero_usize_get inx < i
-            → entry self.now i ≡ None)) }
-    {
-        live_to::<P, T, ArenaSlot<P, T>, S>(&self.slots.stack, to)
-    }
-
-    // The index past the last slot, or the greatest number.
-    pub(crate) fn next_slot(&self) -> NonZeroUsize
-        ensures { non_zero_usize_get result ≡ min (slot_count self.now + 1) (2 ^ 64 - 1) }
-    {
-        NonZeroUsize::MIN.saturating_add(self.slots.stack.len())
-    }
-
     // An arena over a stack that has no item.
     fn over(stack: S) -> Self
         requires { S.items stack ≡ [] }
@@ -613,8 +583,7 @@ impl<P: Ptr, T, S: NonZeroInxGenericStack<ArenaSlot<P, T>>> Arena<P, T, S> {
         ensures { (h : ℕ) × (v : T) × (entry self.now (non_zero_usize_get inx) ≡ Some (h, v))
             × (P.numbers result ≡ (non_zero_usize_get inx, h)) }
     {
-        let (generation, _value) = slot_at(&self.slots.stack, inx).unwrap().entry().unwrap();
-        P::_from_raw(P::Inx::try_from_usize(inx).unwrap(), generation)
+        ptr_at::<P, T, ArenaSlot<P, T>, S>(&self.slots.stack, inx)
     }
 
     // The numbers of two indexes that name two slots.

@@ -19,6 +19,7 @@ ghost use Rattle.triple_arena_traits.specs.Lent.{lends_values};
 ghost use Rattle.triple_arena_direct.specs.Values.{with_values_of};
 ghost use Rattle.triple_arena_direct.specs.Slot.{slot_entry};
 
+mod advancer;
 mod compaction;
 mod transfer;
 
@@ -37,7 +38,7 @@ use triple_arena_ptr::{Ptr, PtrGen, PtrInx};
 use triple_arena_stack::{NonZeroInxGenericStack, NonZeroInxVec, SetMaxCapacity};
 use triple_arena_traits::ends::last_index;
 use triple_arena_traits::entry_slots::{
-    first_live, last_live, live_from, live_to, shorten, slot_at, work_on_two,
+    first_live, last_live, ptr_at, shorten, slot_at, work_on_two,
 };
 use triple_arena_traits::pair_call::{AtEntries, AtValues, PairCall};
 use triple_arena_traits::{
@@ -497,32 +498,7 @@ impl<P: Ptr, T, S: NonZeroInxGenericStack<DirectSlot<P, T>>> DirectArena<P, T, S
         ensures { (h : ℕ) × (v : T) × (entry_in self.now.slots (non_zero_usize_get inx) ≡ Some (h, v))
             × (P.numbers result ≡ (non_zero_usize_get inx, h)) }
     {
-        let (generation, _value) = slot_at(&self.slots.stack, inx).unwrap().entry().unwrap();
-        P::_from_raw(P::Inx::try_from_usize(inx).unwrap(), generation)
-    }
-
-    // The least index of an entry at or above this one, if there is one.
-    pub(crate) fn live_from(&self, from: NonZeroUsize) -> Option<NonZeroUsize>
-        ensures { MatchOption result
-            ((i : ℕ) → non_zero_usize_get from ≤ i → entry_in self.now.slots i ≡ None)
-            (λ inx. IsSome (entry_in self.now.slots (non_zero_usize_get inx))
-            × (non_zero_usize_get from ≤ non_zero_usize_get inx)
-            × ((i : ℕ) → non_zero_usize_get from ≤ i → i < non_zero_usize_get inx
-            → entry_in self.now.slots i ≡ None)) }
-    {
-        live_from::<P, T, DirectSlot<P, T>, S>(&self.slots.stack, from)
-    }
-
-    // The greatest index of an entry at or below this one, if there is one.
-    pub(crate) fn live_to(&self, to: NonZeroUsize) -> Option<NonZeroUsize>
-        ensures { MatchOption result
-            ((i : ℕ) → i ≤ non_zero_usize_get to → entry_in self.now.slots i ≡ None)
-            (λ inx. IsSome (entry_in self.now.slots (non_zero_usize_get inx))
-            × (non_zero_usize_get inx ≤ non_zero_usize_get to)
-            × ((i : ℕ) → i ≤ non_zero_usize_get to → non_zero_usize_get inx < i
-            → entry_in self.now.slots i ≡ None)) }
-    {
-        live_to::<P, T, DirectSlot<P, T>, S>(&self.slots.stack, to)
+        ptr_at::<P, T, DirectSlot<P, T>, S>(&self.slots.stack, inx)
     }
 
     // The least index of an entry, if there is one.
@@ -543,14 +519,6 @@ impl<P: Ptr, T, S: NonZeroInxGenericStack<DirectSlot<P, T>>> DirectArena<P, T, S
             × ((i : ℕ) → non_zero_usize_get inx < i → entry_in self.now.slots i ≡ None)) }
     {
         last_live::<P, T, DirectSlot<P, T>, S>(&self.slots.stack)
-    }
-
-    // The index past the last slot, or the greatest number.
-    pub(crate) fn next_slot(&self) -> NonZeroUsize
-        ensures value { non_zero_usize_get result ≡ min (slot_count self.now + 1) (2 ^ 64 - 1) }
-        ensures past { slot_count self.now ≤ non_zero_usize_get result }
-    {
-        NonZeroUsize::MIN.saturating_add(self.slots.stack.len())
     }
 
     // How many slots there are.

@@ -22,5 +22,4 @@ pub mod CopyLemmas
 pub mod TransferLemmas
 pub mod Present
 pub mod Lending
-pub mod Advancing
 pub mod Refused

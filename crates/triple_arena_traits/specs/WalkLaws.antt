@@ -297,6 +297,11 @@ module _ {T : Type 0} where
   taken greatest slots b p a s =
       subst (Taken greatest slots b p) (sym s.moves) (taken_moved greatest slots b.reverse b.place p s.answers s.within)
 
+  -- a step that answers leaves fewer
+  pub fewer_left : (greatest : ℕ) (slots : List (Option (ℕ × T))) (b : Stand) (o : Option Pointer) (a : Stand) → Steps greatest slots b o a → IsSome o → steps_left greatest a < steps_left greatest b
+  fewer_left greatest slots b None a s some = absurd (true≢false (sym some))
+  fewer_left greatest slots b (Some p) a s some = (taken greatest slots b p a s).fewer
+
   -- the first of the entries ahead is the one that is answered
   pub ahead_taken : (greatest : ℕ) (slots : List (Option (ℕ × T))) (b : Stand) (p : Pointer) (a : Stand) → b.reverse ≡ false → Steps greatest slots b (Some p) a → (v : T) → look_up_in slots p ≡ Some v → entries_ahead b slots ≡ (p, v) ∷ entries_ahead a slots
   ahead_taken greatest slots b p a forward s v is =

@@ -62,10 +62,7 @@ pub fn copy_entries<
     let _capacity = source.capacity();
     let mut advancer = source.advancer();
     'walk: while let Some(p) = advancer.advance(source) {
-        let value = match f(p, source.get(p).unwrap()) {
-            Ok(value) => value,
-            Err(refusal) => return Err(refusal),
-        };
+        let value = f(p, source.get(p).unwrap())?;
         let inx = P::Inx::try_into_usize(p.inx()).unwrap();
         push_at::<P, T, X, S>(stack, inx, p.generation(), value);
     }

@@ -2,6 +2,7 @@
 
 ghost use Rattle.std.specs.Prelude.{◌≡◌, ◌≢◌, ◌<◌, ◌≤◌, ◌⊎◌, ℕ, true, false, None, Some, IsSome, MatchOption, map, length, take, option_copied};
 ghost use Rattle.std.specs.Int.NonZero.{non_zero_usize_get};
+ghost use Rattle.triple_arena_ptr.specs.Numbers.{greatest_index};
 ghost use Rattle.triple_arena_stack.specs.Capacity.{capacity_of};
 ghost use Rattle.triple_arena_stack.specs.Disjoint.{MayWork, Worked};
 ghost use Rattle.triple_arena_traits.specs.Items.{item, with_item};
@@ -15,7 +16,7 @@ use crate::entry_slot::EntrySlot;
 use crate::pair_call::PairCall;
 use std::mem;
 use std::num::NonZeroUsize;
-use triple_arena_ptr::Ptr;
+use triple_arena_ptr::{Ptr, PtrInx};
 use triple_arena_stack::{NonZeroInxGenericStack, pair_of};
 
 /// The slot of an index, if there is one.
@@ -57,6 +58,7 @@ pub fn extend<P: Ptr, T, X: EntrySlot<P, T>, S: NonZeroInxGenericStack<X>>(
     requires { len ≤ capacity_of (S.room stack.old) (S.limit stack.old) }
     ensures slots { map X.entry (S.items stack.new)
         ≡ extended (map X.entry (S.items stack.old)) len }
+    ensures kept { take (length (S.items stack.old)) (S.items stack.new) ≡ S.items stack.old }
     ensures room { S.room stack.new ≡ S.room stack.old }
     ensures limit { S.limit stack.new ≡ S.limit stack.old }
 {
@@ -137,6 +139,21 @@ pub fn last_live<P: Ptr, T, X: EntrySlot<P, T>, S: NonZeroInxGenericStack<X>>(
         → entry_in (map X.entry (S.items stack.now)) i ≡ None)) }
 {
     live_to::<P, T, X, S>(stack, NonZeroUsize::MIN.saturating_add(stack.len()))
+}
+
+/// The pointer of the entry at an index.
+pub fn ptr_at<P: Ptr, T, X: EntrySlot<P, T>, S: NonZeroInxGenericStack<X>>(
+    stack: &S,
+    inx: NonZeroUsize,
+) -> P
+    requires live { IsSome (entry_in (map X.entry (S.items stack.now)) (non_zero_usize_get inx)) }
+    requires indexed { length (S.items stack.now) ≤ greatest_index P.Inx.greatest }
+    ensures { (h : ℕ) × (v : T)
+        × (entry_in (map X.entry (S.items stack.now)) (non_zero_usize_get inx) ≡ Some (h, v))
+        × (P.numbers result ≡ (non_zero_usize_get inx, h)) }
+{
+    let (generation, _value) = slot_at(stack, inx).unwrap().entry().unwrap();
+    P::_from_raw(P::Inx::try_from_usize(inx).unwrap(), generation)
 }
 
 /// Pops the slots without an entry at the end, as long as there are more than `len`.

@@ -23,6 +23,8 @@ pub fn recast_entries<I, P: Ptr, T: Recast<I>, A: CompactArenaTrait<P, T>, R: Re
         arena.old }
     ensures answer { result ≡ recast_answer (R.image recaster.now)
         (held_all T.held (values (A.slots arena.old))) }
+    ensures limit { A.limit arena.new ≡ A.limit arena.old }
+    ensures capacity { A.fitting arena.new ≡ A.fitting arena.old }
     ensures fresh { Continues A.fits arena.old [] arena.new }
 {
     let mut advancer = arena.advancer();

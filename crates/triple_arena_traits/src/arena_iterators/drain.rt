@@ -67,9 +67,7 @@ impl<'a, P: Ptr, T: Drop, A: CompactArenaTrait<P, T>> Iterator for Drain<'a, P, 
         at_most (steps_left (greatest_index P.Inx.greatest) (drain_stand A.stand drain)) };
 
     fn next(&mut self) -> Option<InvalidationOption<(P, T)>> {
-        let Some((p, taken)) = take_next(&mut *self.arena, &mut self.advancer) else {
-            return None;
-        };
+        let (p, taken) = take_next(&mut *self.arena, &mut self.advancer)?;
         let (value, wrapped) = taken.overflowing();
         Some(told(wrapped, (p, value)))
     }
@@ -123,9 +121,7 @@ impl<P: Ptr, T: Drop, A: CompactArenaTrait<P, T> + Drop> Iterator for CapacityDr
     ghost remaining = { λ rest. at_most (length rest) };
 
     fn next(&mut self) -> Option<(P, T)> {
-        let Some((p, taken)) = take_next(&mut self.arena, &mut self.advancer) else {
-            return None;
-        };
+        let (p, taken) = take_next(&mut self.arena, &mut self.advancer)?;
         Some((p, taken.allow()))
     }
 
@@ -143,8 +139,6 @@ pub(crate) fn take_next<P: Ptr, T, A: CompactArenaTrait<P, T>>(
         (greatest_index P.Inx.greatest) arena.old (A.stand advancer.old) result
         arena.new (A.stand advancer.new) }
 {
-    let Some(p) = advancer.advance(&*arena) else {
-        return None;
-    };
+    let p = advancer.advance(&*arena)?;
     Some((p, arena.remove(p).unwrap()))
 }

@@ -52,9 +52,7 @@ impl<'a, P: Ptr, T: 'a, A: CompactArenaTrait<P, T>> Iterator for Iter<'a, P, T, 
 
     fn next(&mut self) -> Option<(P, &'a T)> {
         let arena = self.arena;
-        let Some(p) = self.advancer.advance(arena) else {
-            return None;
-        };
+        let p = self.advancer.advance(arena)?;
         Some((p, arena.get(p).unwrap()))
     }
 
@@ -146,9 +144,7 @@ impl<'a, P: Ptr, T: 'a, A: CompactArenaTrait<P, T>> Iterator for Vals<'a, P, T, 
     ghost remaining = { λ rest. at_most (length rest) };
 
     fn next(&mut self) -> Option<&'a T> {
-        let Some((_p, value)) = self.entries.next() else {
-            return None;
-        };
+        let (_p, value) = self.entries.next()?;
         Some(value)
     }
 

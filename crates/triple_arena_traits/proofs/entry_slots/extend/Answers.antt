@@ -1,5 +1,5 @@
-use Rattle.std.proofs.Common.{◌≡◌, ◌∙◌, ◌-◌, ◌++◌, ◌∷◌, [], length, map, replicate, None, refl, sym, ap, arith, append_assoc, append-nil}
-use Rattle.std.proofs.lemmas.List.{length-map, length_push, map_push, replicate_more}
+use Rattle.std.proofs.Common.{◌≡◌, ◌∙◌, ◌-◌, ◌++◌, ◌∷◌, [], length, map, take, replicate, None, refl, sym, ap, arith, append_assoc, append-nil}
+use Rattle.std.proofs.lemmas.List.{length-map, length_push, map_push, replicate_more, take_all, take-append-le}
 use Rattle.triple_arena_traits.proofs.entry_slots.extend.Goals as goal
 
 pub gap-init : goal.gap-init
@@ -7,7 +7,7 @@ gap-init g c =
     let old = g.S.NonZeroInxGenericStack.items c.args.stack.now in
     let slots = map g.X.EntrySlot.entry old in
     let none : length old - length old ≡ 0 = omega arith in
-    (refl, refl, omega arith, omega (arith, none), sym (append-nil slots) ∙ ap (λ m. slots ++ replicate m None) (sym none))
+    (refl, refl, omega arith, omega (arith, none), sym (append-nil slots) ∙ ap (λ m. slots ++ replicate m None) (sym none), take_all (length old) old (omega arith))
 
 pub push_reserved-requires : goal.push_reserved-requires
 push_reserved-requires g c =
@@ -39,6 +39,7 @@ gap-preserved g c =
           ∙ ap (λ y. map f old ++ (replicate k None ++ y ∷ [])) (ap f c.push_reserved.ensures.value ∙ c.vacant.ensures)
           ∙ ap (λ l. map f old ++ l) (replicate_more k None)
           ∙ ap (λ m. map f old ++ replicate m None) (omega (arith, size, c.gap.invariant.2)),
+      ap (take (length old)) put ∙ take-append-le (length old) items (x ∷ []) c.gap.invariant.2 ∙ c.gap.invariant.5,
     )
 
 pub returns : goal.returns
@@ -46,6 +47,7 @@ returns g c =
     let old = g.S.NonZeroInxGenericStack.items c.args.stack.now in
     record {
       slots = c.gap.invariant.4 ∙ ap (λ n. map g.X.EntrySlot.entry old ++ replicate n None) (omega (arith, c.len.ensures, c.gap-test.false, c.gap.invariant.2, c.gap.invariant.3, length-map old g.X.EntrySlot.entry));
+      kept = c.gap.invariant.5;
       room = c.gap.invariant.0;
       limit = c.gap.invariant.1;
     }

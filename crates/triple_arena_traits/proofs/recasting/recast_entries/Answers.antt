@@ -1,6 +1,6 @@
 use Rattle.std.specs.Prelude.{IsErrAnd}
 use Rattle.std.specs.Option.{option_copied_mut}
-use Rattle.std.proofs.Common.{◌≡◌, Result, Ok, Err, ap, sym, ◌∙◌}
+use Rattle.std.proofs.Common.{◌≡◌, Result, Ok, Err, ap, sym, refl, ◌∙◌}
 use Rattle.triple_arena_traits.specs.WalkLaws.{taken, forward_stays, keys_first, keys_taken, keys_none, ahead_by_keys}
 use Rattle.triple_arena_traits.proofs.EntryWalks.{walk_start, walk_end, walk_finds, walk_ok, walk_err, keys_kept, lent_some}
 use Rattle.triple_arena_traits.proofs.recasting.recast_entries.Goals as goal
@@ -14,6 +14,8 @@ pub walk-init : goal.walk-init
 walk-init g c = (
   c.advancer-advancer.ensures.forward,
   walk_start _ _ _ _ _ _ _ _ c.args.arena.now _ (keys_first _ _ c.advancer-advancer.ensures),
+  refl,
+  refl,
   λ h fits. fits,
 )
 
@@ -33,7 +35,9 @@ walk-preserved g c =
       forward_stays _ _ _ _ _ steps ∙ c.walk.invariant.0,
       rw same (walk_ok _ _ _ _ _ _ _ _ c.args.arena.now c.walk.arena k _ c.unwrap-value.result.now c.recast.new.self w
           (sym (ap option_copied_mut c.unwrap-value.ensures) ∙ c.get_mut.ensures.value) c.recast.ensures.after (sym c.recast.ensures.answer ∙ c.in_ok-recast.was)),
-      λ h fits. c.get_mut.ensures.fresh _ h (c.walk.invariant.2 h fits),
+      g.met.A.ArenaTrait.limit_with_value _ _ _ ∙ c.walk.invariant.2,
+      g.met.A.ArenaTrait.fitting_with_value _ _ _ ∙ c.walk.invariant.3,
+      λ h fits. c.get_mut.ensures.fresh _ h (c.walk.invariant.4 h fits),
     )
 
 pub returns-in_err-recast-clause-after : goal.returns-in_err-recast-clause-after
@@ -53,8 +57,14 @@ returns-in_err-recast-clause-answer g c =
     ∙ (walk_err _ _ _ _ _ _ _ _ c.args.arena.now c.walk.arena k _ c.unwrap-value.result.now c.recast.new.self c.in_err-recast.field-0.0 w
     (sym (ap option_copied_mut c.unwrap-value.ensures) ∙ c.get_mut.ensures.value) c.recast.ensures.after (sym c.recast.ensures.answer ∙ c.in_err-recast.was)).1
 
+pub returns-in_err-recast-clause-limit : goal.returns-in_err-recast-clause-limit
+returns-in_err-recast-clause-limit g c = g.met.A.ArenaTrait.limit_with_value _ _ _ ∙ c.walk.invariant.2
+
+pub returns-in_err-recast-clause-capacity : goal.returns-in_err-recast-clause-capacity
+returns-in_err-recast-clause-capacity g c = g.met.A.ArenaTrait.fitting_with_value _ _ _ ∙ c.walk.invariant.3
+
 pub returns-in_err-recast-clause-fresh : goal.returns-in_err-recast-clause-fresh
-returns-in_err-recast-clause-fresh g c = λ h fits. c.get_mut.ensures.fresh _ h (c.walk.invariant.2 h fits)
+returns-in_err-recast-clause-fresh g c = λ h fits. c.get_mut.ensures.fresh _ h (c.walk.invariant.4 h fits)
 
 pub returns-clause-after : goal.returns-clause-after
 returns-clause-after g c = (walk_end _ _ _ _ _ _ _ _ c.args.arena.now c.walk.arena (rw (keys_none _ _ _ _ (rw c.in_default.is at (g.met.A.CompactArenaTrait.advanced _ _ _ _ c.advance.ensures.steps))) at c.walk.invariant.1)).0

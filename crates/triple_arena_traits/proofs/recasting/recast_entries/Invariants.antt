@@ -11,6 +11,8 @@ invariant-walk g l =
     × Walked g.T.Recast.held g.T.Recast.refill g.met.T.Recast.refill_held (g.R.Recaster.image l.recaster) g.A.ArenaTrait.slots g.A.ArenaTrait.with_value
     g.met.A.CompactArenaTrait.with_value_same g.met.A.ArenaTrait.slots_with_value
     l.fn.arena l.arena (keys_ahead (g.A.ArenaTrait.stand l.advancer) (g.A.ArenaTrait.slots l.arena))
+    × (g.A.ArenaTrait.limit l.arena ≡ g.A.ArenaTrait.limit l.fn.arena)
+    × (g.A.ArenaTrait.fitting l.arena ≡ g.A.ArenaTrait.fitting l.fn.arena)
     × Continues g.A.ArenaTrait.fits l.fn.arena [] l.arena
 
 abbrev pub decreases-walk : goal.decreases-walk

@@ -1,20 +1,18 @@
-//! The advancer of an arena.
+//! The advancer of arenas.
 
-ghost use Rattle.std.specs.Prelude.{◌≡◌, ◌+◌, ◌-◌, cond, false};
+ghost use Rattle.std.specs.Prelude.{◌≡◌, ◌+◌, ◌-◌, ◌≤◌, ◌^◌, cond, false, length, map, min};
 ghost use Rattle.std.specs.Int.NonZero.{non_zero_usize_get};
 ghost use Rattle.std.specs.Option.{option_map};
 ghost use Rattle.triple_arena_ptr.specs.Numbers.{greatest_index};
 ghost use Rattle.triple_arena_traits.specs.Places.{number_or_zero};
-ghost use Rattle.triple_arena_traits.specs.Walks.{place_of, standing_at, steps_left, Steps};
+ghost use Rattle.triple_arena_traits.specs.Walks.{place_of, standing_at, Steps};
 
-use crate::base_arena::Arena;
-use crate::slot::ArenaSlot;
+use crate::entry_slot::EntrySlot;
+use crate::entry_slots::{live_from, live_to, ptr_at};
 use std::marker::{Model, PhantomData};
 use std::num::NonZeroUsize;
-use triple_arena_base::Advancer;
 use triple_arena_ptr::{Ptr, PtrInx};
 use triple_arena_stack::NonZeroInxGenericStack;
-use triple_arena_traits::ArenaTrait;
 
 /// A place in an arena, or none, and a direction: it goes from live index to live index.
 ///
@@ -23,6 +21,8 @@ use triple_arena_traits::ArenaTrait;
 /// slot. One in reverse answers that of the greatest live index at or below its place, and then
 /// stands one below it; where there is none, nowhere. The arena may change between two steps: the
 /// place of a forward one only rises, and that of one in reverse only falls, so that each walk ends.
+///
+/// An arena over a stack of slots is an `Advancer`'s collection by `step` over that stack.
 #[derive(Drop)]
 pub struct PtrAdvancer<P: Ptr> {
     // None is nowhere.
@@ -41,8 +41,8 @@ impl<P: Ptr> Model for PtrAdvancer<P> {
 }
 
 impl<P: Ptr> PtrAdvancer<P> {
-    // A forward one at an index, or nowhere.
-    pub(crate) fn from(place: Option<NonZeroUsize>) -> Self
+    /// A forward one at an index, or nowhere.
+    pub fn from(place: Option<NonZeroUsize>) -> Self
         ensures { result ≡ record { place = number_or_zero place; reverse = false } }
     {
         PtrAdvancer {
@@ -52,8 +52,9 @@ impl<P: Ptr> PtrAdvancer<P> {
         }
     }
 
-    // One at the index that is named.
-    pub(crate) fn at(inx: P::Inx, reverse: bool) -> Self
+    /// One at the index that is named (`standing_at`): past the greatest index, one in reverse stands
+    /// at the greatest, and a forward one nowhere.
+    pub fn at(inx: P::Inx, reverse: bool) -> Self
         ensures { result ≡ standing_at
             (greatest_index P.Inx.greatest) (P.Inx.number inx) reverse }
     {
@@ -66,6 +67,38 @@ impl<P: Ptr> PtrAdvancer<P> {
             place,
             reverse,
             of: PhantomData,
+        }
+    }
+
+    /// A step over these slots (`Steps`), which are no more than there are indexes: the pointer of
+    /// the next live index in its direction, if there is one.
+    pub fn step<T, X: EntrySlot<P, T>, S: NonZeroInxGenericStack<X>>(
+        &mut self,
+        stack: &S,
+    ) -> Option<P>
+        requires { length (S.items stack.now) ≤ greatest_index P.Inx.greatest }
+        ensures { Steps (greatest_index P.Inx.greatest) (map X.entry (S.items stack.now))
+            self.old (option_map P.numbers result) self.new }
+    {
+        let place = self.place?;
+        let found = if self.reverse {
+            live_to::<P, T, X, S>(stack, place)
+        } else {
+            live_from::<P, T, X, S>(stack, place)
+        };
+        match found {
+            Some(inx) => {
+                self.pass(inx);
+                Some(ptr_at::<P, T, X, S>(stack, inx))
+            }
+            None => {
+                self.place = if self.reverse {
+                    None
+                } else {
+                    place_after::<P>(place.max(next_slot(stack)))
+                };
+                None
+            }
         }
     }
 
@@ -84,43 +117,11 @@ impl<P: Ptr> PtrAdvancer<P> {
     }
 }
 
-impl<P: Ptr, T, S: NonZeroInxGenericStack<ArenaSlot<P, T>>> Advancer<Arena<P, T, S>>
-    for PtrAdvancer<P> {
-    type Item = P;
-
-    ghost advances = { λ before arena answer after.
-        Steps (greatest_index P.Inx.greatest) arena.slots before (option_map P.numbers answer) after };
-
-    ghost left = { λ s _. steps_left (greatest_index P.Inx.greatest) s };
-
-    fn advance(&mut self, arena: &Arena<P, T, S>) -> Option<P> {
-        // By its clauses, no slot is past the greatest index.
-        let _capacity = arena.capacity();
-        let place = self.place?;
-        let found = if self.reverse {
-            arena.live_to(place)
-        } else {
-            arena.live_from(place)
-        };
-        match found {
-            Some(inx) => {
-                self.pass(inx);
-                Some(arena.ptr_at(inx))
-            }
-            None => {
-                self.place = if self.reverse {
-                    None
-                } else {
-                    place_after::<P>(place.max(arena.next_slot()))
-                };
-                None
-            }
-        }
-    }
-
-    fn empty() -> Self {
-        PtrAdvancer::from(None)
-    }
+// The index past the last item, or the greatest number.
+fn next_slot<X, S: NonZeroInxGenericStack<X>>(stack: &S) -> NonZeroUsize
+    ensures { non_zero_usize_get result ≡ min (length (S.items stack.now) + 1) (2 ^ 64 - 1) }
+{
+    NonZeroUsize::MIN.saturating_add(stack.len())
 }
 
 // The index after this one, if there is one.

@@ -5,6 +5,7 @@ use Rattle.std.specs.Int.NonZero.{non_zero_usize_get}
 use Rattle.triple_arena_traits.specs.WalkLaws.{taken}
 use Rattle.triple_arena_traits.specs.Copying.{put_after}
 use Rattle.triple_arena_traits.proofs.Links.{pointer_is}
+use Rattle.triple_arena_traits.proofs.Refused.{err_is}
 use Rattle.triple_arena_traits.proofs.CopyLemmas.{copy_start, next_of, copy_on, copy_refused, copy_end, shared_some, some_within}
 use Rattle.triple_arena_traits.proofs.copying.copy_entries.Goals as goal
 
@@ -18,13 +19,13 @@ unwrap-requires g c =
     let n = next_of _ _ _ c.args.f _ _ _ _ _ _ c.walk.invariant.3 steps in
     shared_some c.get.result n.value (c.get.ensures.value ∙ n.found)
 
-pub returns-in-Err-clause-copied : goal.returns-in-Err-clause-copied
-returns-in-Err-clause-copied g c =
+pub returns-in_err-value-clause-copied : goal.returns-in_err-value-clause-copied
+returns-in_err-value-clause-copied g c =
     let steps = rw c.in-Some.is at (g.met.A.CompactArenaTrait.advanced _ _ _ _ c.advance.ensures.steps) in
-    copy_refused _ _ _ c.args.f _ c.in-Some.p _ _ c.walk.f c.f.new.self _ c.unwrap.result c.in-Err.refusal c.walk.invariant.3 steps (sym c.get.ensures.value ∙ ap option_copied c.unwrap.ensures) c.in-Err.ensures
+    rw (err_is _ _ c.from_residual.ensures.1) (copy_refused _ _ _ c.args.f _ c.in-Some.p _ _ c.walk.f c.f.new.self _ c.unwrap.result c.in_err-value.field-0.0 c.walk.invariant.3 steps (sym c.get.ensures.value ∙ ap option_copied c.unwrap.ensures) (rw c.in_err-value.was at c.f.ensures))
 
-pub returns-in-Err-clause-ends : goal.returns-in-Err-clause-ends
-returns-in-Err-clause-ends g c = omega (arith, c.walk.invariant.3.ends, length-map (g.S.NonZeroInxGenericStack.items c.walk.stack) g.X.EntrySlot.entry)
+pub returns-in_err-value-clause-ends : goal.returns-in_err-value-clause-ends
+returns-in_err-value-clause-ends g c = omega (arith, c.walk.invariant.3.ends, length-map (g.S.NonZeroInxGenericStack.items c.walk.stack) g.X.EntrySlot.entry)
 
 pub unwrap-inx-requires : goal.unwrap-inx-requires
 unwrap-inx-requires g c =
@@ -57,7 +58,7 @@ walk-preserved g c =
       search of_calls,
       c.push_at.ensures.room ∙ c.walk.invariant.1,
       c.push_at.ensures.limit ∙ c.walk.invariant.2,
-      copy_on _ _ _ c.args.f _ c.in-Some.p _ _ c.walk.f c.f.new.self _ _ c.unwrap.result c.in-Ok.value c.walk.invariant.3 steps (sym c.get.ensures.value ∙ ap option_copied c.unwrap.ensures) c.in-Ok.ensures (c.push_at.ensures.slots ∙ ap (λ q. put_after (map g.X.EntrySlot.entry (g.S.NonZeroInxGenericStack.items c.walk.stack)) q c.in-Ok.value) pointer),
+      copy_on _ _ _ c.args.f _ c.in-Some.p _ _ c.walk.f c.f.new.self _ _ c.unwrap.result c.in_ok-value.value c.walk.invariant.3 steps (sym c.get.ensures.value ∙ ap option_copied c.unwrap.ensures) (rw c.in_ok-value.was at c.f.ensures) (c.push_at.ensures.slots ∙ ap (λ q. put_after (map g.X.EntrySlot.entry (g.S.NonZeroInxGenericStack.items c.walk.stack)) q c.in_ok-value.value) pointer),
     )
 
 pub returns-clause-copied : goal.returns-clause-copied

@@ -1,14 +1,9 @@
-use Rattle.std.specs.Prelude.{IsErrAnd}
 use Rattle.std.specs.Option.{option_copied_mut}
-use Rattle.std.proofs.Common.{◌≡◌, Result, Ok, Err, ap, sym, refl, ◌∙◌}
+use Rattle.std.proofs.Common.{ap, sym, refl, ◌∙◌}
 use Rattle.triple_arena_traits.specs.WalkLaws.{taken, forward_stays, keys_first, keys_taken, keys_none, ahead_by_keys}
 use Rattle.triple_arena_traits.proofs.EntryWalks.{walk_start, walk_end, walk_finds, walk_ok, walk_err, keys_kept, lent_some}
+use Rattle.triple_arena_traits.proofs.Refused.{err_is}
 use Rattle.triple_arena_traits.proofs.recasting.recast_entries.Goals as goal
-
--- what `?` makes of an error of its own type
-err_is : {A E : Type 0} (r : Result A E) (w : E) → IsErrAnd r (λ v. v ≡ w) → r ≡ Err w
-err_is (Ok x) w h = absurd h
-err_is (Err v) w h = ap Err h
 
 pub walk-init : goal.walk-init
 walk-init g c = (

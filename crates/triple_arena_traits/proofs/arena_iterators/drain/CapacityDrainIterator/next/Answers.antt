@@ -4,16 +4,17 @@ use Rattle.triple_arena_traits.specs.WalkLaws.{ahead_none, ahead_after_none, ahe
 use Rattle.triple_arena_traits.proofs.Walking.{allowed_told}
 use Rattle.triple_arena_traits.proofs.arena_iterators.drain.CapacityDrainIterator.next.Goals as goal
 
-pub returns-in_default-clause-steps : goal.returns-in_default-clause-steps
-returns-in_default-clause-steps g c =
-    let step = c.in_default.ensures.step in (
+pub returns-in_err-p-clause-steps : goal.returns-in_err-p-clause-steps
+returns-in_err-p-clause-steps g c =
+    let step = rw c.in_err-p.was at c.take_next.ensures.step in
+    rw c.from_residual.ensures (
       sym c.self.view_is ∙ ahead_none _ _ _ _ step.0,
       rw step.1 (ahead_after_none _ _ _ _ c.self.invariant step.0),
     )
 
 pub returns-clause-steps : goal.returns-clause-steps
 returns-clause-steps g c =
-    let step = c.in-Some.ensures.step in
+    let step = rw c.in_ok-p.was at c.take_next.ensures.step in
     let value = sym (c.allow.ensures ∙ ap allowed_option step.1 ∙ allowed_told _ _) in
     sym c.self.view_is ∙ ahead_taken_out _ _ _ _ _ _ _ c.self.invariant step.2 (step.3 ∙ ap Some value) (g.met.A.ArenaTrait.slots_removed _ _ _ step.4.0)
 

@@ -4,14 +4,14 @@ use Rattle.triple_arena_traits.specs.WalkLaws.{none_left, answer_first, others_a
 use Rattle.triple_arena_traits.proofs.Walking.{overflowing_told}
 use Rattle.triple_arena_traits.proofs.arena_iterators.drain.DrainIterator.next.Goals as goal
 
-pub returns-in_default-clause-steps : goal.returns-in_default-clause-steps
-returns-in_default-clause-steps g c =
-    let step = c.in_default.ensures.step in
-    (refl, λ draining. let none = none_left _ _ _ _ draining step.0 in ((none.0, step.1), rw step.1 none.1))
+pub returns-in_err-p-clause-steps : goal.returns-in_err-p-clause-steps
+returns-in_err-p-clause-steps g c =
+    let step = rw c.in_err-p.was at c.take_next.ensures.step in
+    rw c.from_residual.ensures (refl, λ draining. let none = none_left _ _ _ _ draining step.0 in ((none.0, step.1), rw step.1 none.1))
 
 pub returns-clause-steps : goal.returns-clause-steps
 returns-clause-steps g c =
-    let step = c.in-Some.ensures.step in
+    let step = rw c.in_ok-p.was at c.take_next.ensures.step in
     let taken = c.overflowing-value.ensures ∙ ap overflowing_option step.1 ∙ overflowing_told _ _ in (
       refl,
       λ draining. (
@@ -23,7 +23,7 @@ returns-clause-steps g c =
 pub returns-clause-goes : goal.returns-clause-goes
 returns-clause-goes g c =
     record {
-      on = λ f. (tt, tt, (taken _ _ _ _ _ c.in-Some.ensures.step.2).fewer);
+      on = λ f. (tt, tt, (taken _ _ _ _ _ (rw c.in_ok-p.was at c.take_next.ensures.step).2).fewer);
       keeps = tt;
       rests = λ f. tt;
     }

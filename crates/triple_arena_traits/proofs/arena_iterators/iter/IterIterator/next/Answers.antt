@@ -5,11 +5,11 @@ use Rattle.triple_arena_traits.proofs.arena_iterators.iter.IterIterator.next.Goa
 
 pub unwrap-requires : goal.unwrap-requires
 unwrap-requires g c =
-    some_mapped _ c.get.result _ c.get.ensures.value (g.met.A.CompactArenaTrait.advanced _ _ _ _ c.in-Some.ensures.steps).answers.0
+    some_mapped _ c.get.result _ c.get.ensures.value (g.met.A.CompactArenaTrait.advanced _ _ _ _ (rw c.in_ok-p.was at c.advance.ensures.steps)).answers.0
 
 pub returns-clause-steps : goal.returns-clause-steps
 returns-clause-steps g c =
-    sym c.self.view_is ∙ ahead_taken _ _ _ _ _ c.self.invariant (g.met.A.CompactArenaTrait.advanced _ _ _ _ c.in-Some.ensures.steps) c.unwrap.result.now (sym (rw c.unwrap.ensures at c.get.ensures.value))
+    sym c.self.view_is ∙ ahead_taken _ _ _ _ _ c.self.invariant (g.met.A.CompactArenaTrait.advanced _ _ _ _ (rw c.in_ok-p.was at c.advance.ensures.steps)) c.unwrap.result.now (sym (rw c.unwrap.ensures at c.get.ensures.value))
 
 pub returns-clause-goes : goal.returns-clause-goes
 returns-clause-goes g c =
@@ -19,8 +19,8 @@ returns-clause-goes g c =
       rests = λ f. tt;
     }
 
-pub returns-in_default-clause-steps : goal.returns-in_default-clause-steps
-returns-in_default-clause-steps g c = (
-  sym c.self.view_is ∙ ahead_none _ _ _ _ (g.met.A.CompactArenaTrait.advanced _ _ _ _ c.in_default.ensures.steps),
-  ahead_after_none _ _ _ _ c.self.invariant (g.met.A.CompactArenaTrait.advanced _ _ _ _ c.in_default.ensures.steps),
+pub returns-in_err-p-clause-steps : goal.returns-in_err-p-clause-steps
+returns-in_err-p-clause-steps g c = rw c.from_residual.ensures (
+  sym c.self.view_is ∙ ahead_none _ _ _ _ (g.met.A.CompactArenaTrait.advanced _ _ _ _ (rw c.in_err-p.was at c.advance.ensures.steps)),
+  ahead_after_none _ _ _ _ c.self.invariant (g.met.A.CompactArenaTrait.advanced _ _ _ _ (rw c.in_err-p.was at c.advance.ensures.steps)),
 )

@@ -1,14 +1,20 @@
 -- Answers of calls that end an entry, and what a slot that is read tells.
-use Rattle.std.proofs.Common.{◌≡◌, ℕ, ◌<◌, Bool, true, false, List, [], map, Option, Some, None, refl, sym, ap, subst, ◌∙◌, arith}
+use Rattle.std.proofs.Common.{◌≡◌, ℕ, ◌<◌, Bool, true, false, List, [], map, Option, Some, None, Result, Ok, Err, is_ok, OnOk, refl, sym, ap, subst, ◌∙◌, arith}
+use Rattle.std.specs.Borrow.{Bor}
 use Rattle.std.specs.Option.{option_map, option_and_then}
 use Rattle.triple_arena_base.specs.declared.invalidation.InvalidationResult.{InvalidationResult}
 use Rattle.triple_arena_base.specs.declared.invalidation.InvalidationResult.TheVariants.{InvalidPtr}
+use Rattle.triple_arena_ptr.specs.Pointers.{Pointer}
 use Rattle.triple_arena_traits.specs.Items.{item}
 use Rattle.triple_arena_traits.specs.ItemLaws.{joined}
-use Rattle.triple_arena_traits.specs.Entries.{entry_in}
+use Rattle.triple_arena_traits.specs.Entries.{entry_in, KeepsEntries}
 use Rattle.triple_arena_traits.specs.ArenaState.{ArenaState, slot_count, with_value, IsWellFormed}
 use Rattle.triple_arena_traits.specs.Ending.{told_of, map_told}
 use Rattle.triple_arena_traits.specs.Histories.{Fits, Continues}
+use Rattle.triple_arena_traits.specs.FreeList.{last_index}
+use Rattle.triple_arena_traits.specs.Walks.{entries}
+use Rattle.triple_arena_traits.specs.Copying.{Copies}
+use Rattle.triple_arena_traits.proofs.CopyLemmas.{copy_same_end}
 use Rattle.triple_arena_traits.proofs.SlotEntries.{entry_read}
 use Rattle.triple_arena.proofs.HistoryLaws.{Continues-written}
 
@@ -42,3 +48,9 @@ module _ {T : Type 0} where
   pub Continues-two_written : (s t : ArenaState T) (i j : ℕ) (x y : T) → t ≡ with_value (with_value s i x) j y → Continues Fits s [] t
   Continues-two_written s t i j x y is h fits =
       subst (Fits h) (sym is) (Continues-written (with_value s i x) j y h (Continues-written s i x h fits))
+
+-- a copy ends as its source where an answer of the same kind is no refusal
+pub unrefused_end : {P U T E F M : Type 0} (numbers : P → Pointer) (step : M → P → Bor U → Result T E → M → Type 0) (f : M) (source : List (Option (ℕ × U))) (copy new : List (Option (ℕ × T))) (answer : Result (Unit {0}) E) (result : Result (Unit {0}) F) → is_ok result ≡ is_ok answer → Copies numbers step f (entries source) answer copy → KeepsEntries copy new → OnOk result (last_index new ≡ last_index source)
+unrefused_end numbers step f source copy new answer (Err e) same copies keeps = tt
+unrefused_end numbers step f source copy new (Ok x) (Ok y) same copies keeps = copy_same_end numbers step f source copy new copies keeps
+unrefused_end numbers step f source copy new (Err e) (Ok y) same copies keeps = absurd (cc)

@@ -167,10 +167,8 @@ impl<P: Ptr, T, S: NonZeroInxGenericStack<ArenaSlot<P, T>>> ArenaTrait<P, T> for
         if min_capacity > P::Inx::max_index().get() {
             return Err(AllocError);
         }
-        match S::with_min_capacity(alloc, min_capacity) {
-            Ok(stack) => Ok(Arena::over(stack)),
-            Err(refusal) => Err(refusal),
-        }
+        let stack = S::with_min_capacity(alloc, min_capacity)?;
+        Ok(Arena::over(stack))
     }
 
     fn capacity(&self) -> usize
@@ -211,24 +209,16 @@ impl<P: Ptr, T, S: NonZeroInxGenericStack<ArenaSlot<P, T>>> ArenaTrait<P, T> for
     }
 
     fn get(&self, p: P) -> Option<&T> {
-        match self.slot(p.inx()) {
-            Some(slot) => slot.value_under(p.generation()),
-            None => None,
-        }
+        self.slot(p.inx())?.value_under(p.generation())
     }
 
     fn get_mut(&mut self, p: P) -> Option<&mut T> {
-        match self.find(p) {
-            Some(inx) => Some(self.slots.value_mut(inx)),
-            None => None,
-        }
+        let inx = self.find(p)?;
+        Some(self.slots.value_mut(inx))
     }
 
     fn get_inx(&self, inx: P::Inx) -> Option<(P::Gen, &T)> {
-        match self.slot(inx) {
-            Some(slot) => slot.entry(),
-            None => None,
-        }
+        self.slot(inx)?.entry()
     }
 
     fn generation_at(&self, inx: P::Inx) -> Option<P::Gen> {
@@ -237,24 +227,18 @@ impl<P: Ptr, T, S: NonZeroInxGenericStack<ArenaSlot<P, T>>> ArenaTrait<P, T> for
     }
 
     fn get_inx_mut(&mut self, inx: P::Inx) -> Option<&mut T> {
-        match self.find_inx(inx) {
-            Some(inx) => Some(self.slots.value_mut(inx)),
-            None => None,
-        }
+        let inx = self.find_inx(inx)?;
+        Some(self.slots.value_mut(inx))
     }
 
     fn find_first_inx_ptr(&self) -> Option<P> {
-        match first_live::<P, T, ArenaSlot<P, T>, S>(&self.slots.stack) {
-            Some(inx) => Some(self.ptr_at(inx)),
-            None => None,
-        }
+        let inx = first_live::<P, T, ArenaSlot<P, T>, S>(&self.slots.stack)?;
+        Some(self.ptr_at(inx))
     }
 
     fn find_last_inx_ptr(&self) -> Option<P> {
-        match last_live::<P, T, ArenaSlot<P, T>, S>(&self.slots.stack) {
-            Some(inx) => Some(self.ptr_at(inx)),
-            None => None,
-        }
+        let inx = last_live::<P, T, ArenaSlot<P, T>, S>(&self.slots.stack)?;
+        Some(self.ptr_at(inx))
     }
 
     fn advancer(&self) -> PtrAdvancer<P> {
@@ -426,10 +410,7 @@ impl<P: Ptr, T, S: NonZeroInxGenericStack<ArenaSlot<P, T>>> DisjointableArenaTra
         second: P,
         f: F,
     ) -> Result<R, GetDisjointMutError> {
-        let Some(first) = self.find(first) else {
-            return Err(GetDisjointMutError::IndexOutOfBounds);
-        };
-        let Some(second) = self.find(second) else {
+        let (Some(first), Some(second)) = (self.find(first), self.find(second)) else {
             return Err(GetDisjointMutError::IndexOutOfBounds);
         };
         if first == second {
@@ -445,10 +426,7 @@ impl<P: Ptr, T, S: NonZeroInxGenericStack<ArenaSlot<P, T>>> DisjointableArenaTra
         f: F,
     ) -> Result<R, GetDisjointMutError> {
         let (i, j) = self.two_slots(first, second)?;
-        let Some(a) = self.generation_at(first) else {
-            return Err(GetDisjointMutError::IndexOutOfBounds);
-        };
-        let Some(b) = self.generation_at(second) else {
+        let (Some(a), Some(b)) = (self.generation_at(first), self.generation_at(second)) else {
             return Err(GetDisjointMutError::IndexOutOfBounds);
         };
         Ok(self.work_on_two(i, j, AtEntries { f, a, b }))
@@ -546,11 +524,7 @@ impl<P: Ptr, T, S: NonZeroInxGenericStack<ArenaSlot<P, T>>> Arena<P, T, S> {
         ensures within { IsSome (entry self.now (P.Inx.number inx))
             → P.Inx.number inx ≤ greatest_index P.Inx.greatest }
     {
-        let stack = &self.slots.stack;
-        match P::Inx::try_into_usize(inx) {
-            Some(inx) => slot_at(stack, inx),
-            None => None,
-        }
+        slot_at(&self.slots.stack, P::Inx::try_into_usize(inx)?)
     }
 
     // The index of a pointer, if the pointer is valid.
@@ -598,10 +572,10 @@ impl<P: Ptr, T, S: NonZeroInxGenericStack<ArenaSlot<P, T>>> Arena<P, T, S> {
             × (non_zero_usize_get both.1 ≡ P.Inx.number second)) }
     {
         let stack = &self.slots.stack;
-        let Some(first) = P::Inx::try_into_usize(first) else {
-            return Err(GetDisjointMutError::IndexOutOfBounds);
-        };
-        let Some(second) = P::Inx::try_into_usize(second) else {
+        let (Some(first), Some(second)) = (
+            P::Inx::try_into_usize(first),
+            P::Inx::try_into_usize(second),
+        ) else {
             return Err(GetDisjointMutError::IndexOutOfBounds);
         };
         stack.check_disjoint(first, second)?;

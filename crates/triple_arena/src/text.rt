@@ -15,9 +15,7 @@ impl<P: Ptr, T: fmt::Debug, S: NonZeroInxGenericStack<ArenaSlot<P, T>>> fmt::Deb
         let mut entries = f.debug_map();
         let mut advancer = self.advancer();
         'walk: while let Some(p) = advancer.advance(self) {
-            if let Some(value) = self.get(p) {
-                entries.entry(&p, value);
-            }
+            entries.entry(&p, self.get(p).unwrap());
         }
         entries.finish()
     }

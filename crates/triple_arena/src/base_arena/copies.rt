@@ -39,17 +39,10 @@ impl<P: Ptr, T, S: NonZeroInxGenericStack<ArenaSlot<P, T>>> ArenaCloneFromWith<P
     where
         T: Drop,
     {
-        if let Err(refusal) = self.make_room(last_index(source)) {
-            return Err(CloneFromError::Reallocation(refusal));
-        }
-        let counter = match source.singular_generation() {
-            Some(counter) => counter,
-            None => P::Gen::two(),
-        };
-        match self.hold_copies(counter, source, map) {
-            Ok(()) => Ok(()),
-            Err(refusal) => Err(CloneFromError::Map(refusal)),
-        }
+        self.make_room(last_index(source))?;
+        let counter = source.singular_generation().unwrap_or(P::Gen::two());
+        self.hold_copies(counter, source, map)
+            .map_err(CloneFromError::Map)
     }
 
     ghost slots_cloned = { kept-cloned S.kind (first_generation P.Gen.counting) };

@@ -4,6 +4,6 @@ use Rattle.triple_arena.specs.Slot.{entry_of}
 use Rattle.triple_arena_traits.proofs.WellFormed.{none_counted}
 use Rattle.triple_arena.proofs.base_arena.ArenaArenaTrait.find_last_inx_ptr.Goals as goal
 
-pub returns-in-None : goal.returns-in-None
-returns-in-None g c =
-    subst (λ s. entry_count s.slots ≡ 0) c.self.view_is (none_counted (map (entry_of g.P.Gen.PtrGen.number) (g.S.NonZeroInxGenericStack.items c.self.inside.slots.stack)) (rw c.in-None.is at c.last_live.ensures))
+pub returns-in_err-inx : goal.returns-in_err-inx
+returns-in_err-inx g c =
+    rw c.from_residual.ensures (subst (λ s. entry_count s.slots ≡ 0) c.self.view_is (none_counted (map (entry_of g.P.Gen.PtrGen.number) (g.S.NonZeroInxGenericStack.items c.self.inside.slots.stack)) (rw c.in_err-inx.was at c.last_live.ensures)))

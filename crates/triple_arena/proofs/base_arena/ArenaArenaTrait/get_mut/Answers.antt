@@ -12,18 +12,18 @@ use Rattle.triple_arena.proofs.base_arena.ArenaArenaTrait.get_mut.Goals as goal
 
 pub invariant_of-self-lent : goal.invariant_of-self-lent
 invariant_of-self-lent g c w =
-    let live = subst (λ n. IsSome (entry_at g.P.Gen.PtrGen.number (g.S.NonZeroInxGenericStack.items c.self.inside.slots.stack) n)) (sym c.in-Some.ensures.index) (live_entry (map (entry_of g.P.Gen.PtrGen.number) (g.S.NonZeroInxGenericStack.items c.self.inside.slots.stack)) (g.P.Ptr.numbers c.args.p) (sym c.in-Some.ensures.live)) in
-    (lent g.P.Gen.PtrGen.number _ _ _ _ _ _ _ _ _ _ c.args.self.now (non_zero_usize_get c.in-Some.inx) w c.self.invariant c.self.view_is live
+    let live = subst (λ n. IsSome (entry_at g.P.Gen.PtrGen.number (g.S.NonZeroInxGenericStack.items c.self.inside.slots.stack) n)) (sym c.in_ok-inx.ensures.index) (live_entry (map (entry_of g.P.Gen.PtrGen.number) (g.S.NonZeroInxGenericStack.items c.self.inside.slots.stack)) (g.P.Ptr.numbers c.args.p) (sym c.in_ok-inx.ensures.live)) in
+    (lent g.P.Gen.PtrGen.number _ _ _ _ _ _ _ _ _ _ c.args.self.now (non_zero_usize_get c.in_ok-inx.inx) w c.self.invariant c.self.view_is live
     (g.met.S.NonZeroInxGenericStack.items_with_items _ _) (g.met.S.NonZeroInxGenericStack.room_with_items _ _) (g.met.S.NonZeroInxGenericStack.limit_with_items _ _)).0
 
-pub returns-in-Some : goal.returns-in-Some
-returns-in-Some g c =
-    let live = subst (λ n. IsSome (entry_at g.P.Gen.PtrGen.number (g.S.NonZeroInxGenericStack.items c.self.inside.slots.stack) n)) (sym c.in-Some.ensures.index) (live_entry (map (entry_of g.P.Gen.PtrGen.number) (g.S.NonZeroInxGenericStack.items c.self.inside.slots.stack)) (g.P.Ptr.numbers c.args.p) (sym c.in-Some.ensures.live)) in (
+pub returns : goal.returns
+returns g c =
+    let live = subst (λ n. IsSome (entry_at g.P.Gen.PtrGen.number (g.S.NonZeroInxGenericStack.items c.self.inside.slots.stack) n)) (sym c.in_ok-inx.ensures.index) (live_entry (map (entry_of g.P.Gen.PtrGen.number) (g.S.NonZeroInxGenericStack.items c.self.inside.slots.stack)) (g.P.Ptr.numbers c.args.p) (sym c.in_ok-inx.ensures.live)) in (
       ap (λ (F : g.row.T.Denot → ArenaState g.row.T.Denot). inl (c.value_mut.result.ghost_name, F)) (fun_ext (λ w.
-          (lent g.P.Gen.PtrGen.number _ _ _ _ _ _ _ _ _ _ c.args.self.now (non_zero_usize_get c.in-Some.inx) w c.self.invariant c.self.view_is live
+          (lent g.P.Gen.PtrGen.number _ _ _ _ _ _ _ _ _ _ c.args.self.now (non_zero_usize_get c.in_ok-inx.inx) w c.self.invariant c.self.view_is live
           (g.met.S.NonZeroInxGenericStack.items_with_items _ _) (g.met.S.NonZeroInxGenericStack.room_with_items _ _) (g.met.S.NonZeroInxGenericStack.limit_with_items _ _)).1
-          ∙ ap (λ n. with_value c.args.self.now n w) c.in-Some.ensures.index)),
-      let value = sym (value_read c.args.self.now _ (g.P.Ptr.numbers c.args.p) (non_zero_usize_get c.in-Some.inx) _ c.self.view_is c.in-Some.ensures.index (sym c.in-Some.ensures.live) c.value_mut.ensures.value) in
+          ∙ ap (λ n. with_value c.args.self.now n w) c.in_ok-inx.ensures.index)),
+      let value = sym (value_read c.args.self.now _ (g.P.Ptr.numbers c.args.p) (non_zero_usize_get c.in_ok-inx.inx) _ c.self.view_is c.in_ok-inx.ensures.index (sym c.in_ok-inx.ensures.live) c.value_mut.ensures.value) in
           record {
             value = value;
             writes_back = tt;
@@ -32,9 +32,10 @@ returns-in-Some g c =
           },
     )
 
-pub returns-in-None : goal.returns-in-None
-returns-in-None g c =
-    let none = sym (subst (λ (s : ArenaState g.row.T.Denot). look_up s (g.P.Ptr.numbers c.args.p) ≡ None) c.self.view_is (none_of _ (sym c.in-None.ensures.live))) in (
+pub returns-in_err-inx : goal.returns-in_err-inx
+returns-in_err-inx g c =
+    let none = sym (subst (λ (s : ArenaState g.row.T.Denot). look_up s (g.P.Ptr.numbers c.args.p) ≡ None) c.self.view_is (none_of _ (sym c.in_err-inx.ensures.live))) in
+    rw c.from_residual.ensures (
       ap inr c.self.view_is,
       record {
         value = none;
@@ -43,8 +44,3 @@ returns-in-None g c =
         fresh = Continues-written c.args.self.now (g.P.Ptr.numbers c.args.p).0;
       },
     )
-
-pub value_mut-requires-after_bounds : goal.value_mut-requires-after_bounds
-value_mut-requires-after_bounds g c κs within =
-    let slots = map (entry_of g.P.Gen.PtrGen.number) (g.S.NonZeroInxGenericStack.items c.self.inside.slots.stack) in
-    subst (λ n. IsSome (entry_at g.P.Gen.PtrGen.number (g.S.NonZeroInxGenericStack.items c.self.inside.slots.stack) n)) (sym c.in-Some.ensures.index) (live_entry slots (g.P.Ptr.numbers c.args.p) (sym c.in-Some.ensures.live))

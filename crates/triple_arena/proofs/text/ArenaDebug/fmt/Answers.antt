@@ -1,8 +1,5 @@
 use Rattle.std.proofs.Common.{refl}
 use Rattle.triple_arena.proofs.text.ArenaDebug.fmt.Goals as goal
 
-pub walk-smaller-in-Some-get : goal.walk-smaller-in-Some-get
-walk-smaller-in-Some-get g c = c.in-Some.ensures.fewer refl
-
 pub walk-smaller : goal.walk-smaller
 walk-smaller g c = c.in-Some.ensures.fewer refl

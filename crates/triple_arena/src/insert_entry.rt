@@ -1,11 +1,11 @@
 //! The place of a value that is not inserted yet.
 
-ghost use Rattle.std.specs.Prelude.{◌≡◌, ◌<◌, ◌↔◌, ◌∷◌, [], IsTrue, IsOk, IfOk, IsOkAnd, OnOk, Err};
+ghost use Rattle.std.specs.Prelude.{◌≡◌, ◌<◌, ◌↔◌, ◌∷◌, [], IsTrue, IsOk, IfOk, IsOkAnd, OnOk, None, Err};
 ghost use Rattle.std.specs.Borrow.{sem, Lends};
 ghost use Rattle.triple_arena_ptr.specs.Numbers.{greatest_index};
 ghost use Rattle.triple_arena_ptr.specs.Pointers.{Pointer};
 ghost use Rattle.triple_arena_stack.specs.Capacity.{IsFullAtLimit, CanGrow};
-ghost use Rattle.triple_arena_traits.specs.ArenaState.{arena_len, capacity};
+ghost use Rattle.triple_arena_traits.specs.ArenaState.{arena_len, capacity, entry, IsWellFormed};
 ghost use Rattle.triple_arena_traits.specs.Insertion.{next_pointer, inserted};
 ghost use Rattle.triple_arena_traits.specs.Capacity.{grown};
 ghost use Rattle.triple_arena_traits.specs.Histories.{insertion, Fits, Continues};
@@ -86,6 +86,8 @@ impl<'a, P: Ptr, T, S: NonZeroInxGenericStack<ArenaSlot<P, T>>> ArenaInsertEntry
     fn insert(self, t: T) -> &'a mut T
         requires { arena_len (entry_arena self) < capacity (entry_arena self) }
         ensures value { result.now ≡ t }
+        ensures free { entry (entry_arena self.entry) (next_pointer (entry_arena self.entry)).0
+            ≡ None }
         ensures* writes_back { sem 𝓛 (Lends
             ⟦<Arena<P, T, S> as LendingArena>⟧.arena_row
             T.row (entry_reference self.entry) result (inserted (entry_arena self.entry))) }
@@ -111,6 +113,7 @@ impl<P: Ptr, T, S: NonZeroInxGenericStack<ArenaSlot<P, T>>> Arena<P, T, S> {
         ensures arena { IfOk result (λ entry. entry_arena entry ≡ self.old) }
         ensures fresh { IfOk result (λ entry. Continues Fits self.old [] (entry_arena entry)) }
         ensures same_reference { IfOk result (λ entry. entry_lender entry ≡ self.entry.ghost_name) }
+        ensures well_formed { IsWellFormed self.old }
         ensures* refused { sem 𝓛 (entry_rests
             ⟦<Arena<P, T, S> as LendingArena>⟧.arena_row self.entry result) }
     {
@@ -139,6 +142,7 @@ impl<P: Ptr, T, S: NonZeroInxGenericStack<ArenaSlot<P, T>>> Arena<P, T, S> {
         ensures had_place { arena_len self.old < capacity self.old
             → IsOkAnd result (λ entry. entry_arena entry ≡ self.old) }
         ensures same_reference { IfOk result (λ entry. entry_lender entry ≡ self.entry.ghost_name) }
+        ensures well_formed { IsWellFormed self.old }
         ensures* refused { sem 𝓛 (entry_rests
             ⟦<Arena<P, T, S> as LendingArena>⟧.arena_row self.entry result) }
     {
@@ -161,6 +165,7 @@ impl<P: Ptr, T, S: NonZeroInxGenericStack<ArenaSlot<P, T>>> Arena<P, T, S> {
         ensures had_place { arena_len self.old < capacity self.old
             → IsOkAnd result (λ entry. entry_arena entry ≡ self.old) }
         ensures same_reference { IfOk result (λ entry. entry_lender entry ≡ self.entry.ghost_name) }
+        ensures well_formed { IsWellFormed self.old }
         ensures* refused { sem 𝓛 (entry_rests
             ⟦<Arena<P, T, S> as LendingArena>⟧.arena_row self.entry result) }
     {

@@ -1,6 +1,8 @@
-use Rattle.std.proofs.Common.{◌∙◌, ap, refl}
+use Rattle.std.proofs.Common.{◌≡◌, ◌∙◌, None, ap, refl, subst}
 use Rattle.std.proofs.lemmas.Option.{same_Some}
 use Rattle.triple_arena_traits.proofs.Inserted.{found_inserted, rewritten, some_lent}
+use Rattle.triple_arena_ptr.specs.Pointers.{Pointer}
+use Rattle.triple_arena_traits.specs.ArenaState.{entry}
 use Rattle.triple_arena_traits.specs.Insertion.{inserted}
 use Rattle.triple_arena.proofs.HistoryLaws.{Continues-inserted}
 use Rattle.triple_arena.proofs.insert_entry.ArenaInsertEntryArenaInsertEntryTrait.insert.Goals as goal
@@ -19,6 +21,7 @@ returns g c =
       ),
       record {
         value = same_Some _ _ ((rw c.unwrap.ensures at c.get_mut.ensures.value) ∙ found);
+        free = subst (λ (q : Pointer). entry c.args.self.arena.now q.0 ≡ None) c.insert_reserved-p.ensures.pointer c.insert_reserved-p.ensures.free;
         writes_back = tt;
         fresh = λ v. Continues-inserted c.args.self.arena.now (inserted c.args.self.arena.now v) _ v c.insert_reserved-p.ensures.valid refl refl;
       },

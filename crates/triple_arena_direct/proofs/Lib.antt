@@ -12,3 +12,4 @@ pub mod Followed
 pub mod Reading
 pub mod Refused
 pub mod Resizing
+pub mod Limits

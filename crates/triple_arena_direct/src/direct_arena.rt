@@ -683,10 +683,12 @@ impl<P: Ptr, T, S: SetMaxCapacity<DirectSlot<P, T>>> DirectArena<P, T, S> {
     /// the capacity is then the smallest of room, limit and greatest index.
     ///
     /// First free slots at the end go, as far as there are more slots than `max_capacity`; that
-    /// stays done where the limit is refused. Refused exactly where more slots are left.
+    /// stays done where the limit is refused. Refused exactly where more slots are left, and so
+    /// exactly where an entry stands past `max_capacity`.
     pub fn set_max_capacity(&mut self, max_capacity: usize) -> Result<(), MaxCapacityReductionError>
         ensures variant { IsOk result
             ↔ (slot_count (settled self.old max_capacity) ≤ max_capacity) }
+        ensures bound { IsOk result ↔ (last_index self.old.slots ≤ max_capacity) }
         ensures done { OnOk result (self.new
             ≡ with_limit (settled self.old max_capacity) max_capacity) }
         ensures refused { OnErr result (self.new ≡ settled self.old max_capacity) }

@@ -7,14 +7,27 @@ ghost use Rattle.triple_arena_traits.specs.Entries.{entry_in, KeepsEntries};
 ghost use Rattle.triple_arena_traits.specs.ArenaState.{ArenaState, IsWellFormed};
 ghost use Rattle.triple_arena_traits.specs.Insertion.{next_pointer, inserted};
 ghost use Rattle.triple_arena_traits.specs.Ending.{removed};
+ghost use Rattle.triple_arena_traits.specs.FreeList.{last_index};
 ghost use Rattle.triple_arena_traits.specs.Walks.{entries};
 ghost use Rattle.triple_arena_traits.specs.Copying.{Copies};
 ghost use Rattle.triple_arena_traits.specs.DirectInsertion.{IsVacant};
-ghost use Rattle.triple_arena_direct.specs.DirectState.{DirectState, direct_capacity};
+ghost use Rattle.triple_arena_direct.specs.DirectState.{DirectState, direct_capacity, SlotsFit, settled, with_limit};
 ghost use Rattle.triple_arena_direct.specs.Mirrors.{Change, IsMirror, Makes, Follows};
 ghost use Rattle.triple_arena_direct.specs.Mirrors.Change.{comes, goes};
 
 use triple_arena_ptr::Ptr;
+
+/// A limit that is set back: once a limit is set, the old one can be set again, and then the old
+/// capacity is there again. All else is as it was, but for the free slots at the end that went.
+pub fn limit_set_back<T>()
+    ensures succeeds { (s t : DirectState T) (x most : ℕ) → SlotsFit s → s.limit ≡ Some most
+        → t ≡ with_limit (settled s x) x → last_index t.slots ≤ most }
+    ensures same_capacity { (s t : DirectState T) (x most : ℕ) → s.limit ≡ Some most
+        → t ≡ with_limit (settled s x) x
+        → direct_capacity (with_limit (settled t most) most) ≡ direct_capacity s }
+    ensures state { (s t : DirectState T) (x most : ℕ) → SlotsFit s → s.limit ≡ Some most
+        → t ≡ with_limit (settled s x) x → with_limit (settled t most) most ≡ settled s x }
+{}
 
 /// A mirror keeps the pointers: a direct arena that is given each insertion and each removal of
 /// another arena has exactly that one's pointers, if it had them before. While its capacity reaches

@@ -26,7 +26,7 @@ mod transfer;
 use crate::direct_arena_iterators::PtrAdvancer;
 use crate::lent_slots::LentSlots;
 use crate::slot::DirectSlot;
-use crate::slots::{self, Slots};
+use crate::slots::Slots;
 use std::alloc::Global;
 use std::marker::{Model, PhantomData};
 use std::num::NonZeroUsize;
@@ -625,7 +625,7 @@ impl<P: Ptr, T, S: NonZeroInxGenericStack<DirectSlot<P, T>>> DirectArena<P, T, S
             × Copies P.numbers M.step f (entries (A.slots source.now)) result new
             × (self.new ≡ with_slots self.old new) }
     {
-        let (len, answer) = slots::copy(&mut self.slots.stack, source, f);
+        let (len, answer) = self.slots.copy(source, f);
         self.len = len;
         answer
     }
@@ -636,7 +636,7 @@ impl<P: Ptr, T, S: NonZeroInxGenericStack<DirectSlot<P, T>>> DirectArena<P, T, S
         ensures { self.new ≡ inserted_at self.old
             (non_zero_usize_get inx, P.Gen.number generation) value }
     {
-        slots::occupy(&mut self.slots.stack, inx, generation, value);
+        self.slots.occupy(inx, generation, value);
         self.len += 1;
     }
 
@@ -648,7 +648,7 @@ impl<P: Ptr, T, S: NonZeroInxGenericStack<DirectSlot<P, T>>> DirectArena<P, T, S
         ensures state { self.new ≡ removed self.old (non_zero_usize_get inx) }
     {
         self.len -= 1;
-        slots::vacate(&mut self.slots.stack, inx)
+        self.slots.vacate(inx)
     }
 
     // Pops the free slots at the end, as long as there are more slots than `len`.

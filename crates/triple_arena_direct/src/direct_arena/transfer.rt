@@ -1,22 +1,20 @@
 //! Transfer into the direct arena.
 
-ghost use Rattle.std.specs.Prelude.{◌≡◌, ℕ, List, Option, ◌≤◌, ◌<◌, ◌↔◌, map, length, IsOk, OnOk, OnErr, Err};
+ghost use Rattle.std.specs.Prelude.{◌≡◌, ℕ, List, Option, ◌≤◌, ◌<◌, ◌↔◌, length, IsOk, OnOk, OnErr, Err};
 ghost use Rattle.triple_arena_ptr.specs.Numbers.{greatest_index};
-ghost use Rattle.triple_arena_stack.specs.Capacity.{capacity_of, IsWithin, IsBeyond};
+ghost use Rattle.triple_arena_stack.specs.Capacity.{IsWithin, IsBeyond};
 ghost use Rattle.triple_arena_traits.specs.Entries.{entry_count};
 ghost use Rattle.triple_arena_traits.specs.Walks.{keys};
 ghost use Rattle.triple_arena_traits.specs.Transfers.{Transfers};
 ghost use Rattle.triple_arena_traits.specs.Drains.{removals, NoneWraps};
 ghost use Rattle.triple_arena_traits.specs.Histories.{Continues};
 ghost use Rattle.triple_arena_direct.specs.DirectState.{direct_len, direct_capacity, settled, reallocated, ready_for, with_slots};
-ghost use Rattle.triple_arena_direct.specs.Slot.{slot_entry};
 
 use super::DirectArena;
 use crate::slot::DirectSlot;
 use triple_arena_base::{InvalidationOption, ReallocationError};
 use triple_arena_ptr::{Ptr, PtrGen, PtrInx};
 use triple_arena_stack::NonZeroInxGenericStack;
-use triple_arena_traits::transferring::transfer_entries;
 use triple_arena_traits::{ArenaTrait, CompactArenaTrait};
 
 impl<P: Ptr, T, S: NonZeroInxGenericStack<DirectSlot<P, T>>> DirectArena<P, T, S> {
@@ -91,37 +89,6 @@ impl<P: Ptr, T, S: NonZeroInxGenericStack<DirectSlot<P, T>>> DirectArena<P, T, S
         ensures emptied { entry_count (A.slots source.new) ≡ 0 }
         ensures counted { direct_len self.new ≡ entry_count (A.slots source.old) }
     {
-        self.len = fill(&mut self.slots.stack, generation, source, f);
+        self.len = self.slots.take_over(generation, source, f);
     }
-}
-
-// Takes the entries of an arena out, and puts them into the slots of a stack, in place of those that
-// it has. Gives their number.
-fn fill<
-    P: Ptr,
-    T,
-    S: NonZeroInxGenericStack<DirectSlot<P, T>>,
-    Q: Ptr,
-    U,
-    A: CompactArenaTrait<Q, U>,
-    M: FnMut(Q, InvalidationOption<U>, P) -> T,
->(stack: &mut S, generation: P::Gen, source: &mut A, f: M) -> usize
-where
-    T: Drop,
-    requires callable { M.IsAlwaysCallable f }
-    requires fits { entry_count (A.slots source.old)
-        ≤ capacity_of (S.room stack.old) (S.limit stack.old) }
-    requires indexed { entry_count (A.slots source.old) ≤ greatest_index P.Inx.greatest }
-    ensures transferred { Transfers Q.numbers P.numbers M.step A.slots A.fits A.removes
-        A.ending_wraps Q.Gen.counting (P.Gen.number generation) f source.old source.new
-        (map (slot_entry P.Gen.number) (S.items stack.new)) }
-    ensures emptied { entry_count (A.slots source.new) ≡ 0 }
-    ensures count { result ≡ entry_count (A.slots source.old) }
-    ensures many { length (S.items stack.new) ≡ entry_count (A.slots source.old) }
-    ensures room { S.room stack.new ≡ S.room stack.old }
-    ensures limit { S.limit stack.new ≡ S.limit stack.old }
-{
-    stack.clear();
-    transfer_entries::<P, T, DirectSlot<P, T>, S, Q, U, A, M>(stack, generation, source, f);
-    stack.len()
 }

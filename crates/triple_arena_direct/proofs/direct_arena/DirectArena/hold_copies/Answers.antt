@@ -7,7 +7,7 @@ use Rattle.triple_arena_direct.proofs.direct_arena.DirectArena.hold_copies.Goals
 
 pub invariant_of-self : goal.invariant_of-self
 invariant_of-self g c =
-    let items = g.S.NonZeroInxGenericStack.items c.copy-len.new.stack in
+    let items = g.S.NonZeroInxGenericStack.items c.copy-len.new.self.stack in
     let xs = map (slot_entry g.P.Gen.PtrGen.number) items in
     let fits : length xs ≤ direct_capacity c.args.self.now = omega (arith, c.copy-len.ensures.ends, c.requires.fits, length-map items (slot_entry g.P.Gen.PtrGen.number)) in
     (made g.P.Gen.PtrGen.number _ _ _ _ _ (with_slots c.args.self.now xs) refl
@@ -18,7 +18,7 @@ invariant_of-self g c =
 
 pub returns : goal.returns
 returns g c =
-    let items = g.S.NonZeroInxGenericStack.items c.copy-len.new.stack in
+    let items = g.S.NonZeroInxGenericStack.items c.copy-len.new.self.stack in
     let xs = map (slot_entry g.P.Gen.PtrGen.number) items in
     let fits : length xs ≤ direct_capacity c.args.self.now = omega (arith, c.copy-len.ensures.ends, c.requires.fits, length-map items (slot_entry g.P.Gen.PtrGen.number)) in
     let both = made g.P.Gen.PtrGen.number _ _ _ _ _ (with_slots c.args.self.now xs) refl

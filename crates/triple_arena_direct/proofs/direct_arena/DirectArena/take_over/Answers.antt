@@ -8,33 +8,33 @@ use Rattle.triple_arena_direct.proofs.direct_arena.DirectArena.take_over.Goals a
 
 pub invariant_of-self : goal.invariant_of-self
 invariant_of-self g c =
-    let filled = c.fill-self-inside in
-    let items = g.S.NonZeroInxGenericStack.items filled.new.stack in
+    let taken = c.take_over-self-inside in
+    let items = g.S.NonZeroInxGenericStack.items taken.new.self.stack in
     let xs = map (slot_entry g.P.Gen.PtrGen.number) items in
-    let full = closed_up_slots (g.P.Gen.PtrGen.number c.args.generation) _ xs filled.ensures.transferred.stands in
-    let size = length-map items (slot_entry g.P.Gen.PtrGen.number) ∙ filled.ensures.many in
+    let full = closed_up_slots (g.P.Gen.PtrGen.number c.args.generation) _ xs taken.ensures.transferred.stands in
+    let size = length-map items (slot_entry g.P.Gen.PtrGen.number) ∙ taken.ensures.many in
     let fits : length xs ≤ direct_capacity c.args.self.now = omega (arith, size, c.requires.fits) in
     (made g.P.Gen.PtrGen.number _ _ _ _ _ (with_slots c.args.self.now xs) refl
-    (filled.ensures.room ∙ ap (λ s. s.room) c.self.view_is)
-    (filled.ensures.limit ∙ ap (λ s. s.limit) c.self.view_is)
+    (taken.ensures.room ∙ ap (λ s. s.room) c.self.view_is)
+    (taken.ensures.limit ∙ ap (λ s. s.limit) c.self.view_is)
     (ap (λ s. s.greatest) c.self.view_is)
-    (Counts-slots _ c.args.self.now xs (filled.ensures.count ∙ sym size ∙ sym full.1) fits)).0
+    (Counts-slots _ c.args.self.now xs (taken.ensures.count ∙ sym size ∙ sym full.1) fits)).0
 
 pub returns : goal.returns
 returns g c =
-    let filled = c.fill-self-inside in
-    let items = g.S.NonZeroInxGenericStack.items filled.new.stack in
+    let taken = c.take_over-self-inside in
+    let items = g.S.NonZeroInxGenericStack.items taken.new.self.stack in
     let xs = map (slot_entry g.P.Gen.PtrGen.number) items in
-    let full = closed_up_slots (g.P.Gen.PtrGen.number c.args.generation) _ xs filled.ensures.transferred.stands in
-    let size = length-map items (slot_entry g.P.Gen.PtrGen.number) ∙ filled.ensures.many in
+    let full = closed_up_slots (g.P.Gen.PtrGen.number c.args.generation) _ xs taken.ensures.transferred.stands in
+    let size = length-map items (slot_entry g.P.Gen.PtrGen.number) ∙ taken.ensures.many in
     let fits : length xs ≤ direct_capacity c.args.self.now = omega (arith, size, c.requires.fits) in
     let both = made g.P.Gen.PtrGen.number _ _ _ _ _ (with_slots c.args.self.now xs) refl
-    (filled.ensures.room ∙ ap (λ s. s.room) c.self.view_is)
-    (filled.ensures.limit ∙ ap (λ s. s.limit) c.self.view_is)
+    (taken.ensures.room ∙ ap (λ s. s.room) c.self.view_is)
+    (taken.ensures.limit ∙ ap (λ s. s.limit) c.self.view_is)
     (ap (λ s. s.greatest) c.self.view_is)
-    (Counts-slots _ c.args.self.now xs (filled.ensures.count ∙ sym size ∙ sym full.1) fits) in
+    (Counts-slots _ c.args.self.now xs (taken.ensures.count ∙ sym size ∙ sym full.1) fits) in
     record {
-      transferred = (xs, filled.ensures.transferred, both.1, size);
-      emptied = filled.ensures.emptied;
+      transferred = (xs, taken.ensures.transferred, both.1, size);
+      emptied = taken.ensures.emptied;
       counted = ap direct_len both.1 ∙ full.1 ∙ size;
     }

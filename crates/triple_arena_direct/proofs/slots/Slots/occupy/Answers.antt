@@ -8,12 +8,12 @@ use Rattle.triple_arena_traits.specs.FreeEnd.{extended}
 use Rattle.triple_arena_direct.specs.InsertionLaws.{entry-extended, slot-extended}
 use Rattle.triple_arena_direct.specs.Slot.{slot_entry}
 use Rattle.triple_arena_traits.proofs.SlotEntries.{entry_item}
-use Rattle.triple_arena_direct.proofs.slots.occupy.Goals as goal
+use Rattle.triple_arena_direct.proofs.slots.Slots.occupy.Goals as goal
 
 pub replace-requires : goal.replace-requires
 replace-requires g c =
     let f = slot_entry g.P.Gen.PtrGen.number in
-    let old = map f (g.S.NonZeroInxGenericStack.items c.args.stack.now) in
+    let old = map f (g.S.NonZeroInxGenericStack.items c.args.self.now.stack) in
     let es = g.S.NonZeroInxGenericStack.items c.extend.new.stack in
     let i = non_zero_usize_get c.args.inx in
     some_mapped f (item es i) (item (map f es) i) (sym (item-map f es i))
@@ -22,14 +22,14 @@ replace-requires g c =
 pub discard-requires-after_bounds : goal.discard-requires-after_bounds
 discard-requires-after_bounds g c κs within =
     let f = slot_entry g.P.Gen.PtrGen.number in
-    let old = map f (g.S.NonZeroInxGenericStack.items c.args.stack.now) in
+    let old = map f (g.S.NonZeroInxGenericStack.items c.args.self.now.stack) in
     let i = non_zero_usize_get c.args.inx in
     sym (entry_item f _ i c.replace.result c.replace.ensures.value) ∙ ap (λ xs. entry_in xs i) c.extend.ensures.slots ∙ entry-extended old _ i ∙ c.requires.free
 
 pub returns-clause-slots : goal.returns-clause-slots
 returns-clause-slots g c =
     let f = slot_entry g.P.Gen.PtrGen.number in
-    let old = map f (g.S.NonZeroInxGenericStack.items c.args.stack.now) in
+    let old = map f (g.S.NonZeroInxGenericStack.items c.args.self.now.stack) in
     let i = non_zero_usize_get c.args.inx in
     ap (map f) (ap g.S.NonZeroInxGenericStack.items c.replace.ensures.stack ∙ g.met.S.NonZeroInxGenericStack.items_with_items _ _)
     ∙ map-with_item f (g.S.NonZeroInxGenericStack.items c.extend.new.stack) i _

@@ -1,5 +1,5 @@
 use Rattle.std.proofs.Common.{◌∙◌, ap}
-use Rattle.triple_arena_direct.proofs.slots.copy.Goals as goal
+use Rattle.triple_arena_direct.proofs.slots.Slots.copy.Goals as goal
 
 pub copy_entries-answer-requires-clause-empty : goal.copy_entries-answer-requires-clause-empty
 copy_entries-answer-requires-clause-empty g c κs within =

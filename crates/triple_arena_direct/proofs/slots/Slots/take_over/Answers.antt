@@ -1,5 +1,5 @@
 use Rattle.std.proofs.Common.{◌∙◌, ap}
-use Rattle.triple_arena_direct.proofs.direct_arena.transfer.fill.Goals as goal
+use Rattle.triple_arena_direct.proofs.slots.Slots.take_over.Goals as goal
 
 pub transfer_entries-requires-clause-empty : goal.transfer_entries-requires-clause-empty
 transfer_entries-requires-clause-empty g c κs within =

@@ -149,10 +149,8 @@ impl<P: Ptr, T, S: NonZeroInxGenericStack<DirectSlot<P, T>>> ArenaTrait<P, T>
         if min_capacity > P::Inx::max_index().get() {
             return Err(AllocError);
         }
-        match S::with_min_capacity(alloc, min_capacity) {
-            Ok(stack) => Ok(DirectArena::over(stack)),
-            Err(refusal) => Err(refusal),
-        }
+        let stack = S::with_min_capacity(alloc, min_capacity)?;
+        Ok(DirectArena::over(stack))
     }
 
     fn capacity(&self) -> usize
@@ -196,24 +194,16 @@ impl<P: Ptr, T, S: NonZeroInxGenericStack<DirectSlot<P, T>>> ArenaTrait<P, T>
     }
 
     fn get(&self, p: P) -> Option<&T> {
-        match self.slot(p.inx()) {
-            Some(slot) => slot.value_under(p.generation()),
-            None => None,
-        }
+        self.slot(p.inx())?.value_under(p.generation())
     }
 
     fn get_mut(&mut self, p: P) -> Option<&mut T> {
-        match self.find(p) {
-            Some(inx) => Some(self.slots.value_mut(inx)),
-            None => None,
-        }
+        let inx = self.find(p)?;
+        Some(self.slots.value_mut(inx))
     }
 
     fn get_inx(&self, inx: P::Inx) -> Option<(P::Gen, &T)> {
-        match self.slot(inx) {
-            Some(slot) => slot.entry(),
-            None => None,
-        }
+        self.slot(inx)?.entry()
     }
 
     fn generation_at(&self, inx: P::Inx) -> Option<P::Gen> {
@@ -222,24 +212,18 @@ impl<P: Ptr, T, S: NonZeroInxGenericStack<DirectSlot<P, T>>> ArenaTrait<P, T>
     }
 
     fn get_inx_mut(&mut self, inx: P::Inx) -> Option<&mut T> {
-        match self.find_inx(inx) {
-            Some(inx) => Some(self.slots.value_mut(inx)),
-            None => None,
-        }
+        let inx = self.find_inx(inx)?;
+        Some(self.slots.value_mut(inx))
     }
 
     fn find_first_inx_ptr(&self) -> Option<P> {
-        match self.first_live() {
-            Some(inx) => Some(self.ptr_at(inx)),
-            None => None,
-        }
+        let inx = self.first_live()?;
+        Some(self.ptr_at(inx))
     }
 
     fn find_last_inx_ptr(&self) -> Option<P> {
-        match self.last_live() {
-            Some(inx) => Some(self.ptr_at(inx)),
-            None => None,
-        }
+        let inx = self.last_live()?;
+        Some(self.ptr_at(inx))
     }
 
     fn advancer(&self) -> PtrAdvancer<P> {
@@ -374,9 +358,7 @@ impl<P: Ptr, T, S: NonZeroInxGenericStack<DirectSlot<P, T>>> ArenaCloneFromWith<
     where
         T: Drop,
     {
-        if let Err(refusal) = self.make_room(last_index(source)) {
-            return Err(CloneFromError::Reallocation(refusal));
-        }
+        self.make_room(last_index(source))?;
         match self.hold_copies(source, map) {
             Ok(()) => Ok(()),
             Err(refusal) => Err(CloneFromError::Map(refusal)),
@@ -461,11 +443,7 @@ impl<P: Ptr, T, S: NonZeroInxGenericStack<DirectSlot<P, T>>> DirectArena<P, T, S
         ensures within { IsSome (entry_in self.now.slots (P.Inx.number inx))
             → P.Inx.number inx ≤ greatest_index P.Inx.greatest }
     {
-        let stack = &self.slots.stack;
-        match P::Inx::try_into_usize(inx) {
-            Some(inx) => slot_at(stack, inx),
-            None => None,
-        }
+        slot_at(&self.slots.stack, P::Inx::try_into_usize(inx)?)
     }
 
     // The index of a pointer, if the pointer is valid.
@@ -554,16 +532,11 @@ impl<P: Ptr, T, S: NonZeroInxGenericStack<DirectSlot<P, T>>> DirectArena<P, T, S
         ensures numbers { IfOk result (λ both. (non_zero_usize_get both.0 ≡ P.Inx.number first)
             × (non_zero_usize_get both.1 ≡ P.Inx.number second)) }
     {
-        match (
-            P::Inx::try_into_usize(first),
-            P::Inx::try_into_usize(second),
-        ) {
-            (Some(first), Some(second)) => {
-                self.slots.stack.check_disjoint(first, second)?;
-                Ok((first, second))
-            }
-            _ => Err(GetDisjointMutError::IndexOutOfBounds),
-        }
+        let stack = &self.slots.stack;
+        let first = P::Inx::try_into_usize(first).ok_or(GetDisjointMutError::IndexOutOfBounds)?;
+        let second = P::Inx::try_into_usize(second).ok_or(GetDisjointMutError::IndexOutOfBounds)?;
+        stack.check_disjoint(first, second)?;
+        Ok((first, second))
     }
 
     // Makes the call at the values of the entries at two indexes.

@@ -11,17 +11,17 @@ use Rattle.triple_arena_direct.proofs.direct_arena.DirectArenaArenaTrait.get_inx
 
 pub invariant_of-self-lent : goal.invariant_of-self-lent
 invariant_of-self-lent g c w =
-    (lent g.P.Gen.PtrGen.number _ _ _ _ _ _ _ _ c.args.self.now (non_zero_usize_get c.in-Some.inx) w c.self.invariant c.self.view_is
+    (lent g.P.Gen.PtrGen.number _ _ _ _ _ _ _ _ c.args.self.now (non_zero_usize_get c.in_ok-inx.inx) w c.self.invariant c.self.view_is
     (g.met.S.NonZeroInxGenericStack.items_with_items _ _) (g.met.S.NonZeroInxGenericStack.room_with_items _ _) (g.met.S.NonZeroInxGenericStack.limit_with_items _ _)).0
 
-pub returns-in-Some : goal.returns-in-Some
-returns-in-Some g c = (
+pub returns : goal.returns
+returns g c = (
   ap (λ (F : g.row.T.Denot → DirectState g.row.T.Denot). inl (c.value_mut.result.ghost_name, F)) (fun_ext (λ w.
-      (lent g.P.Gen.PtrGen.number _ _ _ _ _ _ _ _ c.args.self.now (non_zero_usize_get c.in-Some.inx) w c.self.invariant c.self.view_is
+      (lent g.P.Gen.PtrGen.number _ _ _ _ _ _ _ _ c.args.self.now (non_zero_usize_get c.in_ok-inx.inx) w c.self.invariant c.self.view_is
       (g.met.S.NonZeroInxGenericStack.items_with_items _ _) (g.met.S.NonZeroInxGenericStack.room_with_items _ _) (g.met.S.NonZeroInxGenericStack.limit_with_items _ _)).1
-      ∙ ap (λ n. with_value c.args.self.now n w) c.in-Some.ensures.index)),
+      ∙ ap (λ n. with_value c.args.self.now n w) c.in_ok-inx.ensures.index)),
   record {
-    value = sym (entry_value_read _ c.args.self.now.slots (g.P.Inx.PtrInx.number c.args.inx) (non_zero_usize_get c.in-Some.inx) _ (ap (λ s. s.slots) c.self.view_is) c.in-Some.ensures.index c.value_mut.ensures.value);
+    value = sym (entry_value_read _ c.args.self.now.slots (g.P.Inx.PtrInx.number c.args.inx) (non_zero_usize_get c.in_ok-inx.inx) _ (ap (λ s. s.slots) c.self.view_is) c.in_ok-inx.ensures.index c.value_mut.ensures.value);
     writes_back = tt;
     fresh = λ value h none. none;
   },
@@ -30,11 +30,12 @@ returns-in-Some g c = (
 pub value_mut-requires-after_bounds : goal.value_mut-requires-after_bounds
 value_mut-requires-after_bounds g c κs within =
     let slots = map (slot_entry g.P.Gen.PtrGen.number) (g.S.NonZeroInxGenericStack.items c.self.inside.slots.stack) in
-    subst (λ n. IsSome (entry_in slots n)) (sym c.in-Some.ensures.index) (sym c.in-Some.ensures.live)
+    subst (λ n. IsSome (entry_in slots n)) (sym c.in_ok-inx.ensures.index) (sym c.in_ok-inx.ensures.live)
 
-pub returns-in-None : goal.returns-in-None
-returns-in-None g c =
-    let none = sym (subst (λ (s : DirectState g.row.T.Denot). entry_in s.slots (g.P.Inx.PtrInx.number c.args.inx) ≡ None) c.self.view_is (none_of _ (sym c.in-None.ensures.live))) in (
+pub returns-in_err-inx : goal.returns-in_err-inx
+returns-in_err-inx g c =
+    let none = sym (subst (λ (s : DirectState g.row.T.Denot). entry_in s.slots (g.P.Inx.PtrInx.number c.args.inx) ≡ None) c.self.view_is (none_of _ (sym c.in_err-inx.ensures.live))) in
+    rw c.from_residual.ensures (
       ap inr c.self.view_is,
       record {
         value = ap (option_map (λ (e : ℕ × g.row.T.Denot). e.1)) none;

@@ -181,10 +181,7 @@ fn parse_link(word: &[u8]) -> Option<Option<usize>>
 fn parse_name(word: &[u8]) -> Option<usize>
     ensures { result ≡ number_of word.now }
 {
-    match parse_number(word) {
-        Some(name) => Some(name as usize),
-        None => None,
-    }
+    Some(parse_number(word)? as usize)
 }
 
 /// The number that a word writes. `str::parse` alone would take a plus before the digits.

@@ -160,23 +160,18 @@ impl<P: Ptr> NameTable<P> {
         let Some(inx) = NonZeroUsize::new(holder) else {
             return;
         };
-        match self.rows.get_mut(inx) {
-            Some(row) => row.link = link,
-            None => return,
-        }
+        let Some(row) = self.rows.get_mut(inx) else {
+            return;
+        };
+        row.link = link;
     }
 
     /// The pointer of a name, if it was given.
     pub(crate) fn pointer(&self, name: usize) -> Option<P>
         ensures { result ≡ item self.now.items name }
     {
-        let Some(inx) = NonZeroUsize::new(name) else {
-            return None;
-        };
-        match self.rows.get(inx) {
-            Some(row) => Some(row.pointer),
-            None => None,
-        }
+        let row = self.rows.get(NonZeroUsize::new(name)?)?;
+        Some(row.pointer)
     }
 
     /// The name of a pointer that the entry of the name `holder` links to. It is found at once
@@ -206,10 +201,7 @@ impl<P: Ptr> NameTable<P> {
 
     /// The name that the entry of a name is said to link to.
     pub(crate) fn hint(&self, holder: usize) -> Option<usize> {
-        match self.rows.get(NonZeroUsize::new(holder)?) {
-            Some(row) => row.link,
-            None => None,
-        }
+        self.rows.get(NonZeroUsize::new(holder)?)?.link
     }
 
     // The name of a pointer, by looking through the table.
@@ -218,10 +210,7 @@ impl<P: Ptr> NameTable<P> {
             (map P.numbers self.now.items)
             (P.numbers p) }
     {
-        match position_of(self.rows.as_slice(), p) {
-            Some(position) => Some(position + 1),
-            None => None,
-        }
+        Some(position_of(self.rows.as_slice(), p)? + 1)
     }
 }
 

@@ -41,10 +41,8 @@ fn write_shown<W: Write>(output: &mut W, text: &str) -> Result<(), TextError>
         (AppendsCut (W.contents output.old) (W.contents output.new) [] (text.now ++ 10 ∷ [])) }
     ensures write { IfErr result (λ e. e ≡ TextError.Write) }
 {
-    match write_all(output, text.as_bytes()) {
-        Ok(()) => write_all(output, b"\n"),
-        Err(e) => Err(e),
-    }
+    write_all(output, text.as_bytes())?;
+    write_all(output, b"\n")
 }
 
 // The line of a reply. Each reply has one, as tests show, but a `Line` that is too long for it.

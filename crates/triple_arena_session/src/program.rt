@@ -38,10 +38,7 @@ pub(crate) fn asked_kind(args: &io::Result<Vec<String>>) -> Result<Kind, Outcome
     ensures { result ≡ asked_kind args.now }
 {
     match args {
-        Ok(args) => match kind_of_args(args.as_slice()) {
-            Some(kind) => Ok(kind),
-            None => Err(Outcome::WrongArguments),
-        },
+        Ok(args) => kind_of_args(args.as_slice()).ok_or(Outcome::WrongArguments),
         Err(e) => match e.kind() {
             ErrorKind::OutOfMemory => Err(Outcome::Ran(Err(TextError::NoMemory))),
             _ => Err(Outcome::WrongArguments),

@@ -92,14 +92,12 @@ impl<P: Ptr, X: Copy, S: NonZeroInxGenericStack<ArenaSlot<P, Node<X, P>>>> Sessi
         ensures given { min_capacity ≤ greatest_index P.Inx.greatest
             → CanHold S.kind min_capacity → S.has_memory min_capacity → IsOk result }
     {
-        match Arena::with_min_capacity(alloc, min_capacity) {
-            Ok(arena) => Ok(Session {
-                arena,
-                table: NameTable::new(alloc),
-                alloc,
-            }),
-            Err(refusal) => Err(refusal),
-        }
+        let arena = Arena::with_min_capacity(alloc, min_capacity)?;
+        Ok(Session {
+            arena,
+            table: NameTable::new(alloc),
+            alloc,
+        })
     }
 
     /// The arena: data with the pointers of their links.
@@ -240,9 +238,7 @@ impl<P: Ptr, X: Copy, S: NonZeroInxGenericStack<ArenaSlot<P, Node<X, P>>>> Sessi
             self.old commands.now replies.items self.new) }
         ensures refused { OnErr result (self.new ≡ self.old) }
     {
-        let Ok(mut replies) = Vec::with_capacity(self.alloc, commands.len()) else {
-            return Err(AllocError);
-        };
+        let mut replies = Vec::with_capacity(self.alloc, commands.len())?;
         'commands: for command in commands {
             let reply = self.answer(*command);
             let wrapped = reply.tells_of_wrap();
@@ -467,9 +463,6 @@ impl<P: Ptr, X: Copy, S: NonZeroInxGenericStack<ArenaSlot<P, Node<X, P>>>> Sessi
     fn link_name(&self, name: usize, link: Option<P>) -> Option<usize>
         ensures { result ≡ link_name self.now.table (option_map P.numbers link) }
     {
-        match link {
-            Some(p) => self.table.link_name(name, p),
-            None => None,
-        }
+        self.table.link_name(name, link?)
     }
 }

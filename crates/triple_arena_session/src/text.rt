@@ -96,10 +96,8 @@ fn read_and_run<P: Ptr, S: NonZeroInxGenericStack<ArenaSlot<P, Node<u64, P>>>, R
     ensures { IsTextRun (IsStep S.kind S.has_memory P.Gen.counting P.Gen.greatest) (R.remaining input.old) result
         session.old session.new (W.contents output.old) (W.contents output.new) }
 {
-    match read_text(alloc, input) {
-        Ok(text) => run_lines(session, text.as_slice(), output),
-        Err(e) => Err(e),
-    }
+    let text = read_text(alloc, input)?;
+    run_lines(session, text.as_slice(), output)
 }
 
 /// Runs a text as `run_text` does, over a buffered writer. The writer is flushed once when the run
@@ -236,21 +234,14 @@ fn run_command<P: Ptr, S: NonZeroInxGenericStack<ArenaSlot<P, Node<u64, P>>>, W:
     ensures { CommandEnds (IsStep S.kind S.has_memory P.Gen.counting P.Gen.greatest) result line.now
         session.old session.new (W.contents output.old) (W.contents output.new) }
 {
-    match parse_command(line) {
-        None => LineEnd::Malformed,
-        Some(command) => {
-            let reply = session.step(command);
-            let wrapped = reply.tells_of_wrap();
-            match write_reply(output, &reply) {
-                Err(_) => LineEnd::Unwritten,
-                Ok(()) => {
-                    if wrapped {
-                        LineEnd::Wrapped
-                    } else {
-                        LineEnd::Answered
-                    }
-                }
-            }
-        }
+    let Some(command) = parse_command(line) else {
+        return LineEnd::Malformed;
+    };
+    let reply = session.step(command);
+    let wrapped = reply.tells_of_wrap();
+    match write_reply(output, &reply) {
+        Ok(()) if wrapped => LineEnd::Wrapped,
+        Ok(()) => LineEnd::Answered,
+        Err(_) => LineEnd::Unwritten,
     }
 }

@@ -1,6 +1,6 @@
 //! Sessions: commands that speak of entries by name.
 
-ghost use Rattle.std.specs.Prelude.{◌≡◌, ℕ, ◌≤◌, ◌==◌, IfOk, OnOk, OnErr, IsOk, true, false, length, take};
+ghost use Rattle.std.specs.Prelude.{◌≡◌, ℕ, ◌≤◌, ◌==◌, [], IfOk, OnOk, OnErr, IsOk, true, false, length, take};
 ghost use Rattle.std.specs.List.{list_all, list_any};
 ghost use Rattle.std.specs.Option.{option_map};
 ghost use Rattle.triple_arena_ptr.specs.Numbers.{greatest_index, first_generation};
@@ -177,7 +177,8 @@ impl<P: Ptr, X: Copy, S: NonZeroInxGenericStack<ArenaSlot<P, Node<X, P>>>> Sessi
     /// Runs the commands in order, and gives their replies, up to the first reply that tells of a
     /// wrap, that one included.
     ///
-    /// There is room for all replies first: where memory for it is refused, nothing is done.
+    /// There is room for all replies first: where memory for it is refused, nothing is done. For no
+    /// commands none is asked for.
     ///
     /// A sound session answers as the store of names that it shows. Where no reply tells of a wrap,
     /// it shows what the store becomes, and is sound. Of each front of the commands and replies there
@@ -191,6 +192,7 @@ impl<P: Ptr, X: Copy, S: NonZeroInxGenericStack<ArenaSlot<P, Node<X, P>>>> Sessi
             RunsToWrap (IsStep S.kind S.has_memory P.Gen.counting P.Gen.greatest)
             self.old commands.now replies.items self.new) }
         ensures refused { OnErr result (self.new ≡ self.old) }
+        ensures succeeds { commands.now ≡ [] → IsOk result }
         ensures store { P.Gen.counting ≡ true → IsSound self.old → IfOk result (λ replies.
             AnswersAsStore (shown self.old) (take (length replies.items) commands.now) replies.items) }
         ensures shows { P.Gen.counting ≡ true → IsSound self.old → IfOk result (λ replies.
@@ -237,6 +239,7 @@ impl<P: Ptr, X: Copy, S: NonZeroInxGenericStack<ArenaSlot<P, Node<X, P>>>> Sessi
             RunsToWrap (IsStep S.kind S.has_memory P.Gen.counting P.Gen.greatest)
             self.old commands.now replies.items self.new) }
         ensures refused { OnErr result (self.new ≡ self.old) }
+        ensures succeeds { commands.now ≡ [] → IsOk result }
     {
         let mut replies = Vec::with_capacity(self.alloc, commands.len())?;
         'commands: for command in commands {

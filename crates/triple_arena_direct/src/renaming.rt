@@ -145,13 +145,10 @@ fn own_map<P: Ptr, T, A: CompactArenaTrait<P, T>>(
 }
 
 // Puts the pointers of an arena into the entries of another, in order.
-fn put_pointers<P: Ptr, U, A: CompactArenaTrait<P, U>, D: CompactArenaTrait<P, P>>(
-    target: &mut D,
-    arena: &A,
-)
-    requires { length (keys (D.slots target.old)) ≡ length (keys (A.slots arena.now)) }
-    ensures keys { keys (D.slots target.new) ≡ keys (D.slots target.old) }
-    ensures values { map P.numbers (values (D.slots target.new)) ≡ keys (A.slots arena.now) }
+fn put_pointers<P: Ptr, U, A: CompactArenaTrait<P, U>>(target: &mut DirectArena<P, P>, arena: &A)
+    requires { length (keys target.old.slots) ≡ length (keys (A.slots arena.now)) }
+    ensures keys { keys target.new.slots ≡ keys target.old.slots }
+    ensures values { map P.numbers (values target.new.slots) ≡ keys (A.slots arena.now) }
 {
     let mut from = target.advancer();
     let mut to = arena.advancer();

@@ -9,24 +9,22 @@ pairs-init g c = paired_start g.P.Ptr.numbers _ _ _ _ c.advancer-from.ensures c.
 pub unwrap-pointer-requires : goal.unwrap-pointer-requires
 unwrap-pointer-requires g c =
     some_answer g.P.Ptr.numbers _ _ _ c.advance-in-Some.result _ (g.met.A.CompactArenaTrait.advanced _ _ _ _ c.advance-in-Some.ensures.steps)
-    (paired_more g.P.Ptr.numbers _ _ _ _ _ _ _ _ c.pairs.invariant (g.met.D.CompactArenaTrait.advanced _ _ _ _ c.in-Some.ensures.steps))
+    (paired_more g.P.Ptr.numbers _ _ _ _ _ _ _ _ c.pairs.invariant c.in-Some.ensures.steps)
 
 pub pairs-smaller : goal.pairs-smaller
-pairs-smaller g c = (taken _ _ _ _ _ (g.met.D.CompactArenaTrait.advanced _ _ _ _ c.in-Some.ensures.steps)).fewer
+pairs-smaller g c = (taken _ _ _ _ _ c.in-Some.ensures.steps).fewer
 
 pub pairs-preserved : goal.pairs-preserved
 pairs-preserved g c =
-    rw (g.met.D.ArenaTrait.slots_with_value _ _ _) (
     paired_on g.P.Ptr.numbers _ _ _ _ _ _ _ _ c.unwrap-pointer.result _ _ c.pairs.invariant
-    (g.met.D.CompactArenaTrait.advanced _ _ _ _ c.in-Some.ensures.steps)
+    c.in-Some.ensures.steps
     (rw c.unwrap-pointer.ensures at (g.met.A.CompactArenaTrait.advanced _ _ _ _ c.advance-in-Some.ensures.steps))
     refl
-    )
 
 pub returns-clause-keys : goal.returns-clause-keys
 returns-clause-keys g c =
-    (paired_end g.P.Ptr.numbers _ _ _ _ _ _ _ c.pairs.invariant (g.met.D.CompactArenaTrait.advanced _ _ _ _ c.in_default.ensures.steps)).0
+    (paired_end g.P.Ptr.numbers _ _ _ _ _ _ _ c.pairs.invariant c.in_default.ensures.steps).0
 
 pub returns-clause-values : goal.returns-clause-values
 returns-clause-values g c =
-    (paired_end g.P.Ptr.numbers _ _ _ _ _ _ _ c.pairs.invariant (g.met.D.CompactArenaTrait.advanced _ _ _ _ c.in_default.ensures.steps)).1
+    (paired_end g.P.Ptr.numbers _ _ _ _ _ _ _ c.pairs.invariant c.in_default.ensures.steps).1

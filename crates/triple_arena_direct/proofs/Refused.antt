@@ -1,13 +1,10 @@
--- Refusals for room or by a closure, and what is past the greatest index.
+-- What is past the greatest index, and what is refused for it.
 use Rattle.std.proofs.Common.{◌≡◌, ℕ, ◌<◌, ◌≤◌, ◌⊎◌, Option, Some, None, Result, Err, refl, ap, arith}
 use Rattle.std.specs.Prelude.{IsErrAnd, ok_or}
 use Rattle.triple_arena_base.specs.declared.errors.GetDisjointMutError.{GetDisjointMutError}
 use Rattle.triple_arena_base.specs.declared.errors.GetDisjointMutError.TheVariants.{IndexOutOfBounds}
 use Rattle.triple_arena_stack.specs.Disjoint.{DisjointAnswer}
 use Rattle.triple_arena_traits.proofs.Refused.{err_is}
-use Rattle.triple_arena_base.specs.declared.errors.CloneFromError.{CloneFromError}
-use Rattle.triple_arena_base.specs.declared.errors.CloneFromError.TheVariants.{Reallocation, Map}
-use Rattle.triple_arena_base.specs.declared.errors.ReallocationError.{ReallocationError}
 use Rattle.triple_arena_direct.specs.DirectState.{DirectState, slot_count}
 use Rattle.triple_arena_direct.specs.Layout.{Counts}
 
@@ -18,10 +15,6 @@ module _ {T : Type 0} where
 
 pub below_above : (a b : ℕ) → b < a → a ≤ b → ⊥
 below_above a b below above = omega (arith, below, above)
-
--- a refusal by the closure is none of room
-pub map_not_room : {X E : Type 0} (refusal : E) (room : ReallocationError) → ◌≡◌ {A = Result X (CloneFromError E)} (Err (Map refusal)) (Err (Reallocation room)) → ⊥
-map_not_room refusal room e = cc
 
 -- two indexes are refused where one of them is no number
 pub out_of_bounds : {A B : Type 0} (r : Option B) (e : GetDisjointMutError) (answer : Result A GetDisjointMutError) (len i j : ℕ) → IsErrAnd answer (λ v. v ≡ e) → Err e ≡ ok_or r IndexOutOfBounds → (r ≡ None → (len < i) ⊎ (len < j)) → DisjointAnswer len i j answer

@@ -451,12 +451,8 @@ impl<P: Ptr, T, S: NonZeroInxGenericStack<DirectSlot<P, T>>> DirectArena<P, T, S
         ensures index { IfSome result (λ inx. non_zero_usize_get inx ≡ (P.numbers p).0) }
         ensures live { is_some result ≡ is_some (look_up_in self.now.slots (P.numbers p)) }
     {
-        match self.slot(p.inx()) {
-            Some(slot) if slot.value_under(p.generation()).is_some() => {
-                P::Inx::try_into_usize(p.inx())
-            }
-            _ => None,
-        }
+        let _value = self.slot(p.inx())?.value_under(p.generation())?;
+        P::Inx::try_into_usize(p.inx())
     }
 
     // An index, if an entry stands there.
@@ -464,10 +460,8 @@ impl<P: Ptr, T, S: NonZeroInxGenericStack<DirectSlot<P, T>>> DirectArena<P, T, S
         ensures index { IfSome result (λ i. non_zero_usize_get i ≡ P.Inx.number inx) }
         ensures live { is_some result ≡ is_some (entry_in self.now.slots (P.Inx.number inx)) }
     {
-        match self.slot(inx) {
-            Some(slot) if slot.is_live() => P::Inx::try_into_usize(inx),
-            _ => None,
-        }
+        let _entry = self.slot(inx)?.entry()?;
+        P::Inx::try_into_usize(inx)
     }
 
     // The pointer of the entry at an index.

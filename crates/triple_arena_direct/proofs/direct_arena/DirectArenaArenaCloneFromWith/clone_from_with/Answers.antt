@@ -1,37 +1,16 @@
-use Rattle.std.proofs.Common.{◌≡◌, ◌∙◌, ◌≤◌, ap, subst, arith}
+use Rattle.std.proofs.Common.{◌≡◌, ◌∙◌, ap, arith}
 use Rattle.triple_arena_traits.specs.Entries.{entry_in}
 use Rattle.triple_arena_traits.proofs.CopyLemmas.{kept_end, copy_ends, copy_same_end, on_copies}
 use Rattle.triple_arena_traits.proofs.Tidying.{trimmed_length}
 use Rattle.triple_arena_direct.specs.DirectState.{DirectState, direct_capacity, ready_for, with_slots}
 use Rattle.triple_arena_direct.specs.StepLaws.{slots-settled}
-use Rattle.triple_arena_traits.proofs.Refused.{ok_not_err}
-use Rattle.triple_arena_direct.proofs.Refused.{map_not_room}
 use Rattle.triple_arena_direct.proofs.direct_arena.DirectArenaArenaCloneFromWith.clone_from_with.Goals as goal
-
-pub returns-in-Ok-clause-beyond : goal.returns-in-Ok-clause-beyond
-returns-in-Ok-clause-beyond g c =
-    let last = c.last_index.ensures.value in
-    (λ e. absurd (ok_not_err _ _ e), λ h. absurd (ok_not_err _ _ ((rw last at c.in_ok-make_room.ensures.beyond).1 (h.0, rw last at c.last_index.ensures.indexed, h.1))))
-
-pub returns-in-Err-clause-beyond : goal.returns-in-Err-clause-beyond
-returns-in-Err-clause-beyond g c =
-    let last = c.last_index.ensures.value in
-    (λ e. absurd (map_not_room _ _ e), λ h. absurd (ok_not_err _ _ ((rw last at c.in_ok-make_room.ensures.beyond).1 (h.0, rw last at c.last_index.ensures.indexed, h.1))))
 
 pub returns-in-Err-clause-cloned : goal.returns-in-Err-clause-cloned
 returns-in-Err-clause-cloned g c answer is =
     let ready = c.in_ok-make_room.ensures.done ∙ ap (ready_for g.S.NonZeroInxGenericStack.kind c.args.self.now) c.last_index.ensures.value in
     let h = c.in-Err.ensures in
     (h.0, on_copies _ _ _ _ _ answer _ is h.1, h.2 ∙ ap (λ s. with_slots s h.0) ready)
-
-pub hold_copies-requires-clause-fits : goal.hold_copies-requires-clause-fits
-hold_copies-requires-clause-fits g c κs within = subst (λ n. n ≤ direct_capacity c.make_room.new.self) c.last_index.ensures.value c.in_ok-make_room.ensures.place
-
-pub returns-in-Ok-clause-source_fits : goal.returns-in-Ok-clause-source_fits
-returns-in-Ok-clause-source_fits g c = rw c.last_index.ensures.value at c.last_index.ensures.fits
-
-pub returns-in-Err-clause-source_fits : goal.returns-in-Err-clause-source_fits
-returns-in-Err-clause-source_fits g c = rw c.last_index.ensures.value at c.last_index.ensures.fits
 
 pub returns-in_err-make_room-clause-fits : goal.returns-in_err-make_room-clause-fits
 returns-in_err-make_room-clause-fits g c =

@@ -112,10 +112,10 @@ impl<P: Ptr> NameTable<P> {
         let Some(inx) = NonZeroUsize::new(name) else {
             return;
         };
-        match self.rows.get_mut(inx) {
-            Some(row) => row.pointer = p,
-            None => return,
-        }
+        let Some(row) = self.rows.get_mut(inx) else {
+            return;
+        };
+        row.pointer = p;
         let newer = note(&mut self.rows, p);
         self.distinct &= newer;
     }

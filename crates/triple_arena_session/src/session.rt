@@ -265,10 +265,9 @@ impl<P: Ptr, X: Copy, S: NonZeroInxGenericStack<ArenaSlot<P, Node<X, P>>>> Sessi
             Some(ReallocationError::AllocError) => return Reply::NoMemory,
             None => {}
         }
-        match self.table.make_room() {
-            Ok(()) => {}
-            Err(_) => return Reply::NoMemory,
-        }
+        let Ok(()) = self.table.make_room() else {
+            return Reply::NoMemory;
+        };
         let node = Node {
             datum,
             link: target,
@@ -289,10 +288,9 @@ impl<P: Ptr, X: Copy, S: NonZeroInxGenericStack<ArenaSlot<P, Node<X, P>>>> Sessi
         if self.is_full() {
             return Reply::Full;
         }
-        match self.table.make_room() {
-            Ok(()) => {}
-            Err(_) => return Reply::NoMemory,
-        }
+        let Ok(()) = self.table.make_room() else {
+            return Reply::NoMemory;
+        };
         let p = self.arena.insert_reserved(Node {
             datum,
             link: target,
@@ -323,15 +321,13 @@ impl<P: Ptr, X: Copy, S: NonZeroInxGenericStack<ArenaSlot<P, Node<X, P>>>> Sessi
         let Some(p) = self.pointer(name) else {
             return Reply::Invalid;
         };
-        match self.arena.get_mut(p) {
-            Some(node) => {
-                *node = Node {
-                    datum,
-                    link: target,
-                };
-            }
-            None => return Reply::Invalid,
-        }
+        let Some(node) = self.arena.get_mut(p) else {
+            return Reply::Invalid;
+        };
+        *node = Node {
+            datum,
+            link: target,
+        };
         self.table.note_link(name, link);
         Reply::Done
     }
@@ -360,10 +356,9 @@ impl<P: Ptr, X: Copy, S: NonZeroInxGenericStack<ArenaSlot<P, Node<X, P>>>> Sessi
         let Some(_) = self.arena.get(p) else {
             return Reply::Invalid;
         };
-        match self.table.make_room() {
-            Ok(()) => {}
-            Err(_) => return Reply::NoMemory,
-        }
+        let Ok(()) = self.table.make_room() else {
+            return Reply::NoMemory;
+        };
         let link = self.table.hint(name);
         let (answer, wrapped) = self.arena.invalidate(p).overflowing();
         match answer {

@@ -3,9 +3,9 @@ use Rattle.std.specs.Int.NonZero.{non_zero_usize_get}
 use Rattle.triple_arena_session.proofs.NameLemmas.{knows_row_written, row_written, no_row_written}
 use Rattle.triple_arena_session.proofs.name_table.NameTable.replace.Goals as goal
 
-pub returns-in-None-clause-items : goal.returns-in-None-clause-items
-returns-in-None-clause-items g c =
-    no_row_written c.self.inside.rows.items c.args.self.now.items c.args.name (non_zero_usize_get c.in-Some.inx) c.args.p (ap (λ t. t.items) c.self.view_is) c.in-Some.ensures c.in-Some.inx.ok c.in-None.ensures.value
+pub returns-in_default-get_mut-clause-items : goal.returns-in_default-get_mut-clause-items
+returns-in_default-get_mut-clause-items g c =
+    no_row_written c.self.inside.rows.items c.args.self.now.items c.args.name (non_zero_usize_get c.in-Some.inx) c.args.p (ap (λ t. t.items) c.self.view_is) c.in-Some.ensures c.in-Some.inx.ok c.in_default-get_mut.ensures.value
 
 pub invariant_of-self-2 : goal.invariant_of-self-2
 invariant_of-self-2 g c =

@@ -25,10 +25,10 @@ returns-in-Ok-insert g c =
     (c.push.ensures.room ∙ c.in-Ok.ensures.grown)
     ∙ sym (ap (insert_answer kind g.P.Gen.PtrGen.counting g.P.Gen.PtrGen.greatest s c.args.datum) link ∙ ap (λ w. insert_unless kind g.P.Gen.PtrGen.counting g.P.Gen.PtrGen.greatest w s c.args.datum (option_map g.P.Ptr.numbers c.in-Some.target)) clear)
 
-pub returns-in-Err-insert : goal.returns-in-Err-insert
-returns-in-Err-insert g c =
+pub returns-in-Err : goal.returns-in-Err
+returns-in-Err g c =
     let link : link_pointer c.args.self.now.table c.args.link ≡ Some (option_map g.P.Ptr.numbers c.in-Some.target) = sym c.link_pointer.ensures ∙ ap (option_map (option_map g.P.Ptr.numbers)) c.in-Some.is in
-    let full = arena_wants g.P.Ptr.numbers c.self.inside.arena c.self.inside.table.items c.self.inside.table.room c.args.self.now c.self.view_is g.S.NonZeroInxGenericStack.has_memory _ c.refusal.ensures.greatest c.in-Err-insert.ensures.given c.refusal.ensures.fits (λ place. (c.in-Err-insert.ensures.had_place place).0) c.insert.new.self c.make_room.new.self.items c.make_room.new.self.room c.in-Err-insert.ensures.refused c.in-Ok.ensures.items c.in-Ok.ensures.grown in
+    let full = arena_wants g.P.Ptr.numbers c.self.inside.arena c.self.inside.table.items c.self.inside.table.room c.args.self.now c.self.view_is g.S.NonZeroInxGenericStack.has_memory _ c.refusal.ensures.greatest c.in-Err.ensures.given c.refusal.ensures.fits (λ place. (c.in-Err.ensures.had_place place).0) c.insert.new.self c.make_room.new.self.items c.make_room.new.self.room c.in-Err.ensures.refused c.in-Ok.ensures.items c.in-Ok.ensures.grown in
     inr (ap is_some link, sym c.in-None.ensures.why, inr full)
 
 pub returns-in_default : goal.returns-in_default
@@ -48,7 +48,7 @@ returns-in-Some-AllocError g c =
     let why : refusal c.args.self.now.arena ≡ Some refused.AllocError = sym c.in-Some-AllocError.ensures.why ∙ ap Some c.in-Some-AllocError.field-0-is in
     inl (sym (ap (insert_answer g.S.NonZeroInxGenericStack.kind g.P.Gen.PtrGen.counting g.P.Gen.PtrGen.greatest c.args.self.now c.args.datum) link ∙ ap (λ w. insert_unless g.S.NonZeroInxGenericStack.kind g.P.Gen.PtrGen.counting g.P.Gen.PtrGen.greatest w c.args.self.now c.args.datum (option_map g.P.Ptr.numbers c.in-Some.target)) why))
 
-pub returns-in-Err : goal.returns-in-Err
-returns-in-Err g c =
+pub returns-in_default-make_room : goal.returns-in_default-make_room
+returns-in_default-make_room g c =
     let link : link_pointer c.args.self.now.table c.args.link ≡ Some (option_map g.P.Ptr.numbers c.in-Some.target) = sym c.link_pointer.ensures ∙ ap (option_map (option_map g.P.Ptr.numbers)) c.in-Some.is in
-    inr (ap is_some link, sym c.in-None.ensures.why, inl (table_wants g.P.Ptr.numbers c.self.inside.arena c.self.inside.table.items c.self.inside.table.room c.args.self.now c.self.view_is c.make_room.new.self.items c.make_room.new.self.room c.in-Err.ensures.refused.0 (ap (λ t. t.items) c.in-Err.ensures.refused.1) (ap (λ t. t.room) c.in-Err.ensures.refused.1)))
+    inr (ap is_some link, sym c.in-None.ensures.why, inl (table_wants g.P.Ptr.numbers c.self.inside.arena c.self.inside.table.items c.self.inside.table.room c.args.self.now c.self.view_is c.make_room.new.self.items c.make_room.new.self.room c.in_default-make_room.ensures.refused.0 (ap (λ t. t.items) c.in_default-make_room.ensures.refused.1) (ap (λ t. t.room) c.in_default-make_room.ensures.refused.1)))

@@ -31,7 +31,7 @@ returns-then-is_full g c =
     let link : link_pointer c.args.self.now.table c.args.link ≡ Some (option_map g.P.Ptr.numbers c.in-Some.target) = sym c.link_pointer.ensures ∙ ap (option_map (option_map g.P.Ptr.numbers)) c.in-Some.is in
     sym (ap (insert_within_answer c.args.self.now c.args.datum) link ∙ not_placed c.args.self.now c.args.datum (option_map g.P.Ptr.numbers c.in-Some.target) (sym c.if-is_full.ensures.full))
 
-pub returns-in-Err : goal.returns-in-Err
-returns-in-Err g c =
+pub returns-in_default-make_room : goal.returns-in_default-make_room
+returns-in_default-make_room g c =
     let link : link_pointer c.args.self.now.table c.args.link ≡ Some (option_map g.P.Ptr.numbers c.in-Some.target) = sym c.link_pointer.ensures ∙ ap (option_map (option_map g.P.Ptr.numbers)) c.in-Some.is in
-    inr (ap is_some link, below _ _ c.if-is_full.ensures.fits (sym c.if-is_full.ensures.full), table_wants g.P.Ptr.numbers c.self.inside.arena c.self.inside.table.items c.self.inside.table.room c.args.self.now c.self.view_is c.make_room.new.self.items c.make_room.new.self.room c.in-Err.ensures.refused.0 (ap (λ t. t.items) c.in-Err.ensures.refused.1) (ap (λ t. t.room) c.in-Err.ensures.refused.1))
+    inr (ap is_some link, below _ _ c.if-is_full.ensures.fits (sym c.if-is_full.ensures.full), table_wants g.P.Ptr.numbers c.self.inside.arena c.self.inside.table.items c.self.inside.table.room c.args.self.now c.self.view_is c.make_room.new.self.items c.make_room.new.self.room c.in_default-make_room.ensures.refused.0 (ap (λ t. t.items) c.in_default-make_room.ensures.refused.1) (ap (λ t. t.room) c.in_default-make_room.ensures.refused.1))

@@ -34,12 +34,12 @@ returns-in_default-get g c =
     let has : item c.args.self.now.table c.args.name ≡ Some p = sym c.pointer.ensures ∙ ap (option_map g.P.Ptr.numbers) c.in-Some.is in
     sym (acts_not g.P.Ptr.numbers c.self.inside.arena c.self.inside.table.items c.self.inside.table.room c.args.self.now c.self.view_is (invalidate_under g.S.NonZeroInxGenericStack.kind g.P.Gen.PtrGen.counting g.P.Gen.PtrGen.greatest c.args.self.now) c.args.name p has (sym c.get.ensures.value ∙ ap option_copied c.in_default-get.is))
 
-pub returns-in-Err : goal.returns-in-Err
-returns-in-Err g c =
+pub returns-in_default-make_room : goal.returns-in_default-make_room
+returns-in_default-make_room g c =
     let p = g.P.Ptr.numbers c.in-Some.p in
     let has : item c.args.self.now.table c.args.name ≡ Some p = sym c.pointer.ensures ∙ ap (option_map g.P.Ptr.numbers) c.in-Some.is in
     let live = named-shown g.P.Ptr.numbers c.self.inside.arena c.self.inside.table.items c.self.inside.table.room c.args.self.now c.self.view_is c.args.name p (look_up c.self.inside.arena p) has refl in
-    inr (ap is_some live ∙ mapped_some (node_of g.P.Ptr.numbers) (look_up c.self.inside.arena p) (ap is_some (sym c.in-Some-get.ensures.value)), table_wants g.P.Ptr.numbers c.self.inside.arena c.self.inside.table.items c.self.inside.table.room c.args.self.now c.self.view_is c.make_room.new.self.items c.make_room.new.self.room c.in-Err.ensures.refused.0 (ap (λ t. t.items) c.in-Err.ensures.refused.1) (ap (λ t. t.room) c.in-Err.ensures.refused.1))
+    inr (ap is_some live ∙ mapped_some (node_of g.P.Ptr.numbers) (look_up c.self.inside.arena p) (ap is_some (sym c.in-Some-get.ensures.value)), table_wants g.P.Ptr.numbers c.self.inside.arena c.self.inside.table.items c.self.inside.table.room c.args.self.now c.self.view_is c.make_room.new.self.items c.make_room.new.self.room c.in_default-make_room.ensures.refused.0 (ap (λ t. t.items) c.in_default-make_room.ensures.refused.1) (ap (λ t. t.room) c.in_default-make_room.ensures.refused.1))
 
 pub returns-in-None : goal.returns-in-None
 returns-in-None g c =

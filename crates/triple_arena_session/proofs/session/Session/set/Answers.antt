@@ -29,11 +29,11 @@ returns-in_default-pointer g c =
     let has : item s.table c.args.name ≡ None = sym c.pointer.ensures ∙ ap (option_map g.P.Ptr.numbers) c.in_default-pointer.is in
     sym (ap (set_answer s c.args.name c.args.datum) link ∙ ap (act_on s (λ q node. (Done, record s { arena = with_value s.arena q.0 (c.args.datum, option_map g.P.Ptr.numbers c.in-Some.target) }))) has)
 
-pub returns-in-None : goal.returns-in-None
-returns-in-None g c =
+pub returns-in_default-get_mut : goal.returns-in_default-get_mut
+returns-in_default-get_mut g c =
     let s = c.args.self.now in
     let p = g.P.Ptr.numbers c.in-Some-pointer.p in
     let link : link_pointer s.table c.args.link ≡ Some (option_map g.P.Ptr.numbers c.in-Some.target) = sym c.link_pointer.ensures ∙ ap (option_map (option_map g.P.Ptr.numbers)) c.in-Some.is in
     let has : item s.table c.args.name ≡ Some p = sym c.pointer.ensures ∙ ap (option_map g.P.Ptr.numbers) c.in-Some-pointer.is in
-    not_removed g.P.Ptr.numbers c.self.inside.arena c.self.inside.table.items c.self.inside.table.room c.args.self.now c.self.view_is (λ q node. (Done, record s { arena = with_value s.arena q.0 (c.args.datum, option_map g.P.Ptr.numbers c.in-Some.target) })) c.args.name p c.self.inside.arena has (sym c.in-None.ensures.value) refl
+    not_removed g.P.Ptr.numbers c.self.inside.arena c.self.inside.table.items c.self.inside.table.room c.args.self.now c.self.view_is (λ q node. (Done, record s { arena = with_value s.arena q.0 (c.args.datum, option_map g.P.Ptr.numbers c.in-Some.target) })) c.args.name p c.self.inside.arena has (sym c.in_default-get_mut.ensures.value) refl
     ∙ sym (ap (set_answer s c.args.name c.args.datum) link)

@@ -532,12 +532,9 @@ impl<P: Ptr, T, S: NonZeroInxGenericStack<ArenaSlot<P, T>>> Arena<P, T, S> {
         ensures index { IfSome result (λ inx. non_zero_usize_get inx ≡ (P.numbers p).0) }
         ensures live { is_some result ≡ is_some (look_up self.now (P.numbers p)) }
     {
-        match self.slot(p.inx()) {
-            Some(slot) if slot.value_under(p.generation()).is_some() => {
-                P::Inx::try_into_usize(p.inx())
-            }
-            _ => None,
-        }
+        let slot = self.slot(p.inx())?;
+        slot.value_under(p.generation())?;
+        P::Inx::try_into_usize(p.inx())
     }
 
     // An index, if an entry stands there.

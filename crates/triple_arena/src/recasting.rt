@@ -16,13 +16,9 @@ impl<P: Ptr, S: NonZeroInxGenericStack<ArenaSlot<P, P>>> Recaster for Arena<P, P
     ghost image = { λ s p. look_up_in s.slots (P.numbers p) };
 
     fn recast_item(&self, item: &mut P) -> Result<(), P> {
-        match self.get(*item) {
-            Some(image) => {
-                *item = *image;
-                Ok(())
-            }
-            None => Err(*item),
-        }
+        let image = self.get(*item).ok_or(*item)?;
+        *item = *image;
+        Ok(())
     }
 }
 

@@ -1,11 +1,7 @@
-use Rattle.std.proofs.Common.{◌≡◌, ◌∙◌, ℕ, None, IsSome, map, inl, inr, sym, ap, subst}
+use Rattle.std.proofs.Common.{◌∙◌, inl, sym, ap}
 use Rattle.std.proofs.Math.Path.{fun_ext}
 use Rattle.std.specs.Int.NonZero.{non_zero_usize_get}
 use Rattle.triple_arena_direct.specs.DirectState.{DirectState, with_value}
-use Rattle.std.specs.Option.{option_map}
-use Rattle.triple_arena_traits.specs.Entries.{entry_in}
-use Rattle.triple_arena_traits.proofs.SlotEntries.{none_of}
-use Rattle.triple_arena_direct.specs.Slot.{slot_entry}
 use Rattle.triple_arena_direct.proofs.Held.{lent, entry_value_read}
 use Rattle.triple_arena_direct.proofs.direct_arena.DirectArenaArenaTrait.get_inx_mut.Goals as goal
 
@@ -26,20 +22,3 @@ returns g c = (
     fresh = λ value h none. none;
   },
 )
-
-pub value_mut-requires-after_bounds : goal.value_mut-requires-after_bounds
-value_mut-requires-after_bounds g c κs within =
-    let slots = map (slot_entry g.P.Gen.PtrGen.number) (g.S.NonZeroInxGenericStack.items c.self.inside.slots.stack) in
-    subst (λ n. IsSome (entry_in slots n)) (sym c.in_ok-inx.ensures.index) (sym c.in_ok-inx.ensures.live)
-
-pub returns-in_err-inx : goal.returns-in_err-inx
-returns-in_err-inx g c =
-    let none = sym (subst (λ (s : DirectState g.row.T.Denot). entry_in s.slots (g.P.Inx.PtrInx.number c.args.inx) ≡ None) c.self.view_is (none_of _ (sym c.in_err-inx.ensures.live))) in
-    rw c.from_residual.ensures (
-      ap inr c.self.view_is,
-      record {
-        value = ap (option_map (λ (e : ℕ × g.row.T.Denot). e.1)) none;
-        writes_back = tt;
-        fresh = λ value h fits. fits;
-      },
-    )

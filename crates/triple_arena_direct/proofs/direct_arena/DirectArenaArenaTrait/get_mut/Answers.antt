@@ -1,11 +1,7 @@
-use Rattle.std.proofs.Common.{◌≡◌, ◌∙◌, None, IsSome, map, inl, inr, sym, ap, subst}
+use Rattle.std.proofs.Common.{◌∙◌, inl, sym, ap}
 use Rattle.std.proofs.Math.Path.{fun_ext}
 use Rattle.std.specs.Int.NonZero.{non_zero_usize_get}
 use Rattle.triple_arena_direct.specs.DirectState.{DirectState, with_value}
-use Rattle.triple_arena_traits.specs.Entries.{entry_in, look_up_in}
-use Rattle.triple_arena_traits.proofs.SlotEntries.{none_of}
-use Rattle.triple_arena_traits.proofs.WellFormed.{live_entry}
-use Rattle.triple_arena_direct.specs.Slot.{slot_entry}
 use Rattle.triple_arena_direct.proofs.Held.{lent, value_read}
 use Rattle.triple_arena_direct.proofs.direct_arena.DirectArenaArenaTrait.get_mut.Goals as goal
 
@@ -27,21 +23,3 @@ returns g c = (
     fresh = λ value h none. none;
   },
 )
-
-pub value_mut-requires-after_bounds : goal.value_mut-requires-after_bounds
-value_mut-requires-after_bounds g c κs within =
-    let slots = map (slot_entry g.P.Gen.PtrGen.number) (g.S.NonZeroInxGenericStack.items c.self.inside.slots.stack) in
-    subst (λ n. IsSome (entry_in slots n)) (sym c.in_ok-inx.ensures.index) (live_entry slots (g.P.Ptr.numbers c.args.p) (sym c.in_ok-inx.ensures.live))
-
-pub returns-in_err-inx : goal.returns-in_err-inx
-returns-in_err-inx g c =
-    let none = sym (subst (λ (s : DirectState g.row.T.Denot). look_up_in s.slots (g.P.Ptr.numbers c.args.p) ≡ None) c.self.view_is (none_of _ (sym c.in_err-inx.ensures.live))) in
-    rw c.from_residual.ensures (
-      ap inr c.self.view_is,
-      record {
-        value = none;
-        writes_back = tt;
-        found = λ h fits. absurd fits;
-        fresh = λ value h fits. fits;
-      },
-    )

@@ -3,6 +3,7 @@
 
 mod calls;
 mod clones;
+mod drops;
 mod insertion;
 mod pops;
 mod refused_memory;

@@ -39,9 +39,7 @@ use triple_arena_base::{
 use triple_arena_ptr::{Ptr, PtrGen, PtrInx};
 use triple_arena_stack::{NonZeroInxGenericStack, NonZeroInxVec};
 use triple_arena_traits::answers::{told, told_valid};
-use triple_arena_traits::entry_slots::{
-    first_live, last_live, ptr_at, slot_at, work_on_two,
-};
+use triple_arena_traits::entry_slots::{first_live, last_live, ptr_at, slot_at, work_on_two};
 use triple_arena_traits::pair_call::{AtEntries, AtValues, PairCall};
 use triple_arena_traits::{
     ArenaInsertTrait, ArenaTrait, DisjointableArenaTrait, EntrySlot, LendingArena,

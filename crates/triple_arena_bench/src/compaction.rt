@@ -1,6 +1,7 @@
 //! Compaction where every second entry was removed: of an arena of numbers, of one of nodes, each with a
 //! link that is renamed, and of a plain vector.
 
+use crate::entry::{Entry, Node, sum_of};
 use std::alloc::Global;
 use std::io::Print;
 use std::time::{Clock, Duration, Instant};
@@ -9,9 +10,6 @@ use triple_arena_direct::compress_recast;
 use triple_arena_ptr::P0;
 
 const RUNS: usize = 5;
-
-// A number, and the pointer of the node before it that stays.
-type Node = (u64, Option<P0>);
 
 // What holds numbers with gaps, and closes them.
 trait Gapped: Drop {
@@ -36,11 +34,7 @@ impl Gapped for Arena<P0, u64> {
     }
 
     fn sum(&self) -> u64 {
-        let mut sum = 0u64;
-        for number in self.vals() {
-            sum = sum.wrapping_add(*number);
-        }
-        sum
+        sum_of(self)
     }
 }
 
@@ -55,11 +49,7 @@ impl Gapped for Arena<P0, Node> {
     }
 
     fn sum(&self) -> u64 {
-        let mut sum = 0u64;
-        for (number, _link) in self.vals() {
-            sum = sum.wrapping_add(*number);
-        }
-        sum
+        sum_of(self)
     }
 }
 
@@ -82,24 +72,6 @@ impl Gapped for Vec<Option<u64>> {
         self.iter()
             .flatten()
             .fold(0u64, |sum, number| sum.wrapping_add(*number))
-    }
-}
-
-// What is inserted for a number.
-trait Entry: Drop {
-    // Of this number, and with a link to the entry before it that stays, if it has links.
-    fn of(number: u64, before: Option<P0>) -> Self;
-}
-
-impl Entry for u64 {
-    fn of(number: u64, _before: Option<P0>) -> Self {
-        number
-    }
-}
-
-impl Entry for Node {
-    fn of(number: u64, before: Option<P0>) -> Self {
-        (number, before)
     }
 }
 

@@ -3,6 +3,7 @@
 
 mod arena;
 mod compaction;
+mod entry;
 mod stack;
 
 use std::env;

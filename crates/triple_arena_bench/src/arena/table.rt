@@ -1,5 +1,6 @@
 //! What an arena and a plain vector both do.
 
+use crate::entry::sum_of;
 use std::alloc::Global;
 use triple_arena::{Arena, ArenaInsertTrait, ArenaTrait, CompactArenaTrait};
 use triple_arena_base::ReallocationError;
@@ -46,11 +47,7 @@ impl<P: Ptr> Table for Arena<P, u64> {
     }
 
     fn sum_all(&self) -> u64 {
-        let mut sum = 0u64;
-        for number in self.vals() {
-            sum = sum.wrapping_add(*number);
-        }
-        sum
+        sum_of(self)
     }
 
     fn add_to_all(&mut self, n: u64) {

@@ -1,0 +1,45 @@
+//! What the arenas that are timed hold.
+
+use triple_arena::CompactArenaTrait;
+use triple_arena_ptr::{P0, Ptr};
+
+/// A number, and the pointer of the node before it that stays.
+pub type Node = (u64, Option<P0>);
+
+/// An entry with a number.
+pub trait Entry: Drop {
+    /// Of this number, and with a link to the entry before it that stays, if it has links.
+    fn of(number: u64, before: Option<P0>) -> Self;
+
+    fn number(&self) -> u64;
+}
+
+impl Entry for u64 {
+    fn of(number: u64, _before: Option<P0>) -> Self {
+        number
+    }
+
+    fn number(&self) -> u64 {
+        *self
+    }
+}
+
+impl Entry for Node {
+    fn of(number: u64, before: Option<P0>) -> Self {
+        (number, before)
+    }
+
+    fn number(&self) -> u64 {
+        self.0
+    }
+}
+
+/// The sum of all numbers, modulo 2^64, in the order in which they lie.
+pub fn sum_of<'a, P: Ptr, T: Entry + 'a, A: CompactArenaTrait<P, T>>(arena: &'a A) -> u64 {
+    let mut sum = 0u64;
+    let mut entries = arena.vals();
+    'sum: while let Some(entry) = entries.next() {
+        sum = sum.wrapping_add(entry.number());
+    }
+    sum
+}

@@ -1,42 +1,19 @@
 -- The arena, and what callers see of it, after a compression.
-use Rattle.std.proofs.Common.{◌≡◌, ℕ, zero, suc, ◌≤◌, List, [], ◌∷◌, map, length, Option, Some, None, is_some, cond, refl, sym, ap, subst, ◌∙◌, arith}
-use Rattle.std.proofs.lemmas.List.{length-map}
-use Rattle.std.proofs.lemmas.List.Sums.{sum_by-cons}
+use Rattle.std.proofs.Common.{◌≡◌, ℕ, ◌≤◌, List, map, length, Option, Some, None, refl, sym, ap, subst, ◌∙◌, arith}
 use Rattle.triple_arena_ptr.specs.Pointers.{Pointer}
-use Rattle.triple_arena_traits.specs.Items.{item}
 use Rattle.triple_arena_traits.specs.Entries.{entry_count}
-use Rattle.triple_arena_traits.specs.ArenaState.{ArenaState, capacity, is_free, IsWellFormed}
+use Rattle.triple_arena_traits.specs.ArenaState.{ArenaState, capacity}
 use Rattle.triple_arena_traits.specs.Walks.{entries, keys}
 use Rattle.triple_arena_traits.specs.Compression.{closed_up, compressed, rank, rank_in, placed}
-use Rattle.triple_arena_traits.specs.CompressionLaws.{placed-closed_up}
+use Rattle.triple_arena_traits.specs.CompressionLaws.{count-closed_up, placed-closed_up}
 use Rattle.triple_arena_traits.specs.Moves.{Moves}
 use Rattle.triple_arena.specs.Slot.{entry_of}
 use Rattle.triple_arena.specs.Layout.{Shows}
 use Rattle.triple_arena.specs.declared.slot.ArenaSlot.{ArenaSlot}
-use Rattle.triple_arena_traits.proofs.Compaction.{count-moved}
+use Rattle.triple_arena_traits.specs.MoveLaws.{count-moved}
+use Rattle.triple_arena_traits.specs.StepLaws.{IsWellFormed-compressed}
 
 module _ {T : Type 0} where
-  count-closed_up : (counter : ℕ) (vs : List T) → entry_count (closed_up counter vs) ≡ length vs
-  count-closed_up counter [] = refl
-  count-closed_up counter (v ∷ vs) =
-      let one : Option (ℕ × T) → ℕ = λ o. cond (is_some o) 1 0 in
-      omega (arith, count-closed_up counter vs, sum_by-cons one (Some (counter, v)) (closed_up counter vs))
-
-  none_free : (counter : ℕ) (vs : List T) (i : ℕ) → cond {A = ℕ} (is_free (item (closed_up counter vs) i)) 1 0 ≡ 0
-  none_free counter vs zero = refl
-  none_free counter [] (suc k) = refl
-  none_free counter (v ∷ vs) (suc zero) = refl
-  none_free counter (v ∷ vs) (suc (suc k)) = none_free counter vs (suc k)
-
-  pub IsWellFormed-compressed : (s : ArenaState T) (counter : ℕ) (vs : List T) → length vs ≤ capacity s → IsWellFormed (compressed s counter vs)
-  IsWellFormed-compressed s counter vs fits =
-      let size : length (closed_up counter vs) ≡ length vs = length-map {B = Option (ℕ × T)} vs (λ v. Some (counter, v)) in
-      record {
-        free_once = λ i. sym (none_free counter vs i);
-        total = omega (arith, count-closed_up counter vs, size);
-        fits = omega (arith, size);
-      }
-
   pub Shows-compressed : {P I G : Type 0} (number : G → ℕ) (es : List (ArenaSlot P T I G)) (len : ℕ) (s : ArenaState T) (counter : ℕ) (vs : List T) → map (entry_of number) es ≡ closed_up counter vs → length vs ≡ len → length vs ≤ capacity s → Shows number es None len (compressed s counter vs)
   Shows-compressed number es len s counter vs slots count fits =
       record { slots = slots; linked = refl; counted = sym (count-closed_up counter vs ∙ count); well = IsWellFormed-compressed s counter vs fits }

@@ -12,9 +12,9 @@ use Rattle.triple_arena_traits.specs.EntryLaws.{entry-trimmed}
 use Rattle.triple_arena_traits.specs.LengthLaws.{trimmed_live}
 use Rattle.triple_arena.specs.Layout.{next_of, after, IsLinked, IsFreeList, Shows}
 use Rattle.triple_arena.specs.declared.slot.ArenaSlot.{ArenaSlot}
-use Rattle.triple_arena_traits.proofs.ItemLists.{joined, item_past, item-take}
+use Rattle.triple_arena_traits.specs.ItemLaws.{joined, item_past, item-take}
 use Rattle.triple_arena_traits.proofs.Shortening.{trimmed_front}
-use Rattle.triple_arena_traits.proofs.Tidying.{trimmed_length, trimmed_done}
+use Rattle.triple_arena_traits.specs.FreeListLaws.{trimmed_length, trimmed_done}
 use Rattle.triple_arena.proofs.UpTo.{up_to-cons, up_to-past, turned_twice, count-up_to, count-past, length_more, up_to_all}
 
 module _ {T : Type 0} where

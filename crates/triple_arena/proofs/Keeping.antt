@@ -1,49 +1,18 @@
 -- What the slots and the state are, where values alone change.
-use Rattle.std.proofs.Common.{◌≡◌, ℕ, zero, suc, ◌==◌, List, [], ◌∷◌, ◌++◌, map, length, take, drop, Option, Some, None, is_some, cond, slice_get, refl, sym, ap, subst, ◌∙◌}
+use Rattle.std.proofs.Common.{◌≡◌, ℕ, zero, suc, ◌==◌, List, [], ◌∷◌, ◌++◌, map, length, take, drop, Option, Some, None, cond, slice_get, refl, sym, ap, subst, ◌∙◌}
 use Rattle.std.proofs.Math.Seq.{take-append_seam}
 use Rattle.std.specs.List.{refill}
-use Rattle.std.specs.Option.{option_and_then}
 use denote.RattleType.{RattleType}
 use Rattle.triple_arena_traits.specs.Items.{item}
-use Rattle.triple_arena_traits.specs.Entries.{value_under}
-use Rattle.triple_arena_traits.specs.ArenaState.{ArenaState, is_free, IsWellFormed}
+use Rattle.triple_arena_traits.specs.ArenaState.{ArenaState}
 use Rattle.triple_arena.specs.Slot.{entry_of, with_slot_value}
 use Rattle.triple_arena.specs.Layout.{next_of, after, state_of, IsLinked, Shows}
 use Rattle.triple_arena.specs.Kept.{filled, filled_all, kept, kept_all}
-use Rattle.triple_arena_traits.specs.Values.{with_value_of, with_values_in, with_values_of, KeepsPointers}
+use Rattle.triple_arena_traits.specs.Values.{with_value_of, with_values_in, with_values_of}
 use Rattle.triple_arena.specs.declared.slot.ArenaSlot.{ArenaSlot}
 use Rattle.triple_arena.specs.declared.slot.ArenaSlot.TheVariants.{Free, Allocated}
-use Rattle.triple_arena_traits.proofs.ItemLists.{joined}
 use Rattle.triple_arena.proofs.Links.{settled}
-use Rattle.triple_arena_traits.proofs.Keeping.{length-kept, count-kept, at-kept, generations-kept, under-kept}
-
-module _ {T : Type 0} where
-  free-kept : (e w : Option (ℕ × T)) → is_free (Some (with_value_of e w)) ≡ is_free (Some e)
-  free-kept None w = refl
-  free-kept (Some e) None = refl
-  free-kept (Some e) (Some w) = refl
-
-  IsWellFormed-kept : (s w : ArenaState T) → IsWellFormed s → IsWellFormed (with_values_of s w)
-  IsWellFormed-kept s w well =
-      record {
-        free_once = λ i. well.free_once i ∙ ap (λ b. cond b 1 0) (sym (at-kept is_free free-kept s.slots w.slots i));
-        total = rw (count-kept s.slots w.slots, length-kept s.slots w.slots) well.total;
-        fits = rw (length-kept s.slots w.slots) well.fits;
-      }
-
-  -- a walk that writes values keeps the pointers
-  pub keeps_pointers : (s : ArenaState T) → KeepsPointers s
-  keeps_pointers s w =
-      record {
-        pointers = λ q. at-kept (λ o. is_some (option_and_then (value_under q.1) (joined o))) (under-kept q.1) s.slots w.slots q.0;
-        generations = generations-kept s.slots w.slots;
-        len = count-kept s.slots w.slots;
-        counter = refl;
-        free = refl;
-        room = refl;
-        limit = refl;
-        greatest = refl;
-      }
+use Rattle.triple_arena_traits.specs.ValueLaws.{count-kept, IsWellFormed-kept}
 
 module _ {P T I G : Type 0} where
   pub length-filled : (xs : List (ArenaSlot P T I G)) (es : List (Option (ℕ × T))) → length (filled_all xs es) ≡ length xs

@@ -6,10 +6,7 @@ pub mod FreeEnd
 pub mod Pairs
 pub mod Keeping
 pub mod Listing
-pub mod Steps
 pub mod Compaction
-pub mod PointerLists
-pub mod HistoryLaws
 pub mod Removals
 pub mod Refused
 pub mod Resizing

@@ -16,10 +16,11 @@ use Rattle.triple_arena.specs.Layout.{entry_at, next_of, after, chain, state_of,
 use Rattle.triple_arena.specs.declared.slot.FreeLink.{FreeLink}
 use Rattle.triple_arena.specs.declared.slot.ArenaSlot.{ArenaSlot}
 use Rattle.triple_arena.specs.declared.slot.ArenaSlot.TheVariants.{Free, Allocated}
-use Rattle.triple_arena_traits.proofs.ItemLists.{joined, map-with_item, eq_true, eq_false, item_within, item-with_same, item-with_other, item-push_other, split_last}
+use Rattle.triple_arena_traits.specs.ItemLaws.{joined, map-with_item, eq_true, eq_false, item_within, item-with_same, item-with_other, item-push_other, split_last, item-map_some, item-map_none}
 use Rattle.triple_arena_traits.proofs.SlotEntries.{entry_item}
-use Rattle.triple_arena_traits.proofs.WellFormed.{with_entry, with_value_is, with_generation_is, live_counted, count_head, count_tail, first_free, live_not_free, count-with_item, IsWellFormed-inserted, IsWellFormed-removed, IsWellFormed-with_entry, IsWellFormed-counter, IsWellFormed-empty}
-use Rattle.triple_arena_traits.proofs.Links.{item-map_some, item-map_none}
+use Rattle.triple_arena_traits.specs.WellFormedLaws.{with_entry, with_value_is, with_generation_is, live_counted, count_tail, live_not_free, IsWellFormed-inserted, IsWellFormed-removed, IsWellFormed-with_entry, IsWellFormed-counter, IsWellFormed-empty}
+use Rattle.triple_arena_traits.specs.EntryLaws.{count_head, first_free}
+use Rattle.triple_arena_traits.specs.LengthLaws.{count-with_item}
 
 module _ {P T I G : Type 0} where
   -- the chain from a link is the list that it links

@@ -7,7 +7,7 @@ use Rattle.triple_arena.specs.Slot.{entry_of, with_slot_value}
 use Rattle.triple_arena.specs.Layout.{entry_at, Shows, with_value_at}
 use Rattle.triple_arena_traits.specs.SlotPairs.{WritesTwo}
 use Rattle.triple_arena.specs.declared.slot.ArenaSlot.{ArenaSlot}
-use Rattle.triple_arena_traits.proofs.ItemLists.{item-with_other}
+use Rattle.triple_arena_traits.specs.ItemLaws.{item-with_other}
 use Rattle.triple_arena_traits.proofs.SlotEntries.{entry_item, live_slot}
 use Rattle.triple_arena.proofs.Links.{Shows-with_value}
 

@@ -16,7 +16,7 @@ use Rattle.triple_arena_traits.specs.Walks.{entries}
 use Rattle.triple_arena_traits.specs.Copying.{Copies}
 use Rattle.triple_arena_traits.proofs.CopyLemmas.{copy_same_end}
 use Rattle.triple_arena_traits.proofs.SlotEntries.{entry_read}
-use Rattle.triple_arena.proofs.HistoryLaws.{Continues-written}
+use Rattle.triple_arena_traits.specs.HistoryLaws.{Continues-written}
 
 -- an answer with a value that was found
 pub told_found : {A : Type 0} (r : InvalidationResult A) (b w : Bool) (o : Option A) (v : A) → r ≡ told_of b (Some v) → b ≡ w → o ≡ Some v → r ≡ told_of w o

@@ -6,7 +6,7 @@ use Rattle.triple_arena_traits.specs.ItemLaws.{eq_false}
 use Rattle.triple_arena_traits.specs.ArenaState.{ArenaState}
 use Rattle.triple_arena_traits.specs.Ending.{removed}
 use Rattle.triple_arena_traits.specs.Drains.{NoneWraps}
-use Rattle.triple_arena_traits.proofs.WellFormed.{counter-removed}
+use Rattle.triple_arena_traits.specs.WellFormedLaws.{counter-removed}
 
 module _ {T : Type 0} (greatest : ℕ) where
   -- as many as the counter is below the greatest generation

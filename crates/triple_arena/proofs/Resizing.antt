@@ -11,7 +11,7 @@ use Rattle.triple_arena_traits.specs.FreeList.{tidied}
 use Rattle.triple_arena_traits.specs.Capacity.{with_room_for, reallocated}
 use Rattle.triple_arena_traits.specs.EntryLaws.{within_room, slots-reallocated}
 use Rattle.triple_arena_traits.specs.Histories.{resizing, Fits, Continues}
-use Rattle.triple_arena.proofs.HistoryLaws.{Continues-resized, Continues-tidied}
+use Rattle.triple_arena_traits.specs.HistoryLaws.{Continues-resized, Continues-tidied}
 
 limit_fits : (n room x greatest : ℕ) (limit : Option ℕ) → n ≤ min (capacity_of room limit) greatest → n ≤ x → n ≤ min (capacity_of room (Some x)) greatest
 limit_fits n room x greatest None fits below = omega arith

@@ -1,57 +1,23 @@
 -- How the free slots are put in order.
-use Rattle.std.proofs.Common.{◌≡◌, ◌≢◌, ℕ, zero, suc, ◌+◌, ◌<◌, ◌≤◌, ◌==◌, true, false, List, [], ◌∷◌, map, length, drop, set, Option, Some, None, is_some, count_by, cond, slice_get, refl, sym, ap, ◌∙◌, arith, true≢false}
+use Rattle.std.proofs.Common.{◌≡◌, ◌≢◌, ℕ, zero, suc, ◌+◌, ◌<◌, ◌≤◌, ◌==◌, true, false, List, [], ◌∷◌, map, length, drop, Option, Some, None, is_some, count_by, cond, refl, sym, ap, ◌∙◌, arith, true≢false}
 use Rattle.std.proofs.lemmas.List.{length-map, drop_all}
-use Rattle.std.proofs.lemmas.List.Sums.{sum_by-cons}
 use Rattle.std.specs.Int.NonZero.{non_zero_usize_get}
 use Rattle.triple_arena_traits.specs.Items.{item, with_item}
-use Rattle.triple_arena_traits.specs.ArenaState.{ArenaState, is_free, IsWellFormed, arena_len, capacity}
+use Rattle.triple_arena_traits.specs.ArenaState.{ArenaState, arena_len, capacity}
 use Rattle.triple_arena_traits.specs.FreeList.{trimmed, gaps, tidied, laid_out}
 use Rattle.triple_arena.specs.Slot.{entry_of}
 use Rattle.triple_arena_traits.specs.LengthLaws.{trimmed_live}
 use Rattle.triple_arena.specs.Layout.{after, IsLinked, Shows}
-use Rattle.triple_arena_traits.proofs.ItemLists.{map-with_item, item_within, item-with_same, item-with_other}
+use Rattle.triple_arena_traits.specs.ItemLaws.{map-with_item, item_within, item-with_same, item-with_other, with_item_same, item-map_some}
 use Rattle.triple_arena.specs.declared.slot.FreeLink.{FreeLink}
 use Rattle.triple_arena.specs.declared.slot.ArenaSlot.{ArenaSlot}
 use Rattle.triple_arena.specs.declared.slot.ArenaSlot.TheVariants.{Free, Allocated}
-use Rattle.triple_arena_traits.proofs.WellFormed.{count_head, count_tail}
-use Rattle.triple_arena_traits.proofs.Links.{item-map_some}
+use Rattle.triple_arena_traits.specs.EntryLaws.{count_head}
 use Rattle.triple_arena.proofs.Links.{IsLinked-off}
-use Rattle.triple_arena_traits.proofs.Tidying.{trimmed_length}
+use Rattle.triple_arena_traits.specs.FreeListLaws.{gaps_above, gaps_free, gaps_total}
+use Rattle.triple_arena_traits.specs.StepLaws.{IsWellFormed-tidied}
 
 module _ {T : Type 0} where
-  -- the gaps are above the indexes before the first slot
-  pub gaps_above : (at : ℕ) (xs : List (Option (ℕ × T))) (k : ℕ) → k < at → count_by (λ j. j == k) (gaps at xs) ≡ 0
-  gaps_above at [] k h = refl
-  gaps_above at (None ∷ xs) k h = count_tail at k (gaps (at + 1) xs) (λ e. omega arith) ∙ gaps_above (at + 1) xs k (omega arith)
-  gaps_above at (Some e ∷ xs) k h = gaps_above (at + 1) xs k (omega arith)
-
-  -- and each is one of them once
-  gaps_once : (at : ℕ) (xs : List (Option (ℕ × T))) (k i : ℕ) → i ≡ at + k → count_by (λ j. j == i) (gaps at xs) ≡ cond (is_free (slice_get xs k)) 1 0
-  gaps_once at [] k i e = refl
-  gaps_once at (None ∷ xs) zero i e =
-      let same : i ≡ at = omega arith in
-      rw same (count_head at (gaps (at + 1) xs) ∙ ap (λ n. 1 + n) (gaps_above (at + 1) xs at (omega arith)))
-  gaps_once at (None ∷ xs) (suc k) i e = count_tail at i (gaps (at + 1) xs) (λ h. omega arith) ∙ gaps_once (at + 1) xs k i (omega arith)
-  gaps_once at (Some x ∷ xs) zero i e = gaps_above (at + 1) xs i (omega arith)
-  gaps_once at (Some x ∷ xs) (suc k) i e = gaps_once (at + 1) xs k i (omega arith)
-
-  gaps_free : (xs : List (Option (ℕ × T))) (i : ℕ) → count_by (λ j. j == i) (gaps 1 xs) ≡ cond (is_free (item xs i)) 1 0
-  gaps_free xs zero = gaps_above 1 xs 0 (omega arith)
-  gaps_free xs (suc k) = gaps_once 1 xs k (suc k) (omega arith)
-
-  gaps_total : (at : ℕ) (xs : List (Option (ℕ × T))) → count_by is_some xs + length (gaps at xs) ≡ length xs
-  gaps_total at [] = refl
-  gaps_total at (None ∷ xs) = omega (arith, gaps_total (at + 1) xs, sum_by-cons (λ o. cond (is_some o) 1 0) None xs)
-  gaps_total at (Some e ∷ xs) = omega (arith, gaps_total (at + 1) xs, sum_by-cons (λ o. cond (is_some o) 1 0) (Some e) xs)
-
-  pub IsWellFormed-tidied : (s : ArenaState T) → IsWellFormed s → IsWellFormed (tidied s)
-  IsWellFormed-tidied s well =
-      record {
-        free_once = λ i. gaps_free (trimmed s.slots) i;
-        total = gaps_total 1 (trimmed s.slots);
-        fits = omega (arith, trimmed_length s.slots, well.fits);
-      }
-
   entry_step : (xs : List (Option (ℕ × T))) (at : ℕ) (x : Option (ℕ × T)) → item xs (at + 1) ≡ Some x → drop at xs ≡ x ∷ drop (at + 1) xs
   entry_step [] at x found = absurd (let n : at + 1 ≡ suc at = omega arith in let h = rw n at found in cc)
   entry_step (y ∷ xs) zero x found = let same : y ≡ x = cc in ap (λ z. z ∷ xs) same
@@ -60,16 +26,6 @@ module _ {T : Type 0} where
       let m : at + 1 ≡ suc at = omega arith in
       let rest = entry_step xs at x (rw m (rw n at found)) in
       rw n (rw m at rest)
-
-module _ {A : Type 0} where
-  set_same : (xs : List A) (k : ℕ) (x : A) → slice_get xs k ≡ Some x → set xs k x ≡ xs
-  set_same [] k x found = refl
-  set_same (y ∷ xs) zero x found = let same : y ≡ x = cc in ap (λ z. z ∷ xs) (sym same)
-  set_same (y ∷ xs) (suc k) x found = ap (λ l. y ∷ l) (set_same xs k x found)
-
-  pub with_item_same : (xs : List A) (i : ℕ) (x : A) → item xs i ≡ Some x → with_item xs i x ≡ xs
-  with_item_same xs zero x found = refl
-  with_item_same xs (suc k) x found = set_same xs k x found
 
 module _ {P T I G : Type 0} (number : G → ℕ) where
   -- the slots from `at` on link in rising order

@@ -10,11 +10,9 @@ use Rattle.triple_arena.specs.Layout.{next_of, after, chain, IsLinked, IsFreeLis
 use Rattle.triple_arena.specs.declared.slot.FreeLink.{FreeLink}
 use Rattle.triple_arena.specs.declared.slot.ArenaSlot.{ArenaSlot}
 use Rattle.triple_arena.specs.declared.slot.ArenaSlot.TheVariants.{Free, Allocated}
-use Rattle.triple_arena_traits.proofs.ItemLists.{item_within, item-with_same, item-with_other, length-with_item, map-with_item}
-use Rattle.triple_arena_traits.proofs.WellFormed.{count_head}
-use Rattle.triple_arena_traits.proofs.Links.{item-map_some, item-map_none}
+use Rattle.triple_arena_traits.specs.ItemLaws.{item_within, item-with_same, item-with_other, length-with_item, map-with_item, item-map_some, item-map_none, with_item_same}
+use Rattle.triple_arena_traits.specs.EntryLaws.{count_head}
 use Rattle.triple_arena.proofs.Links.{chain_is, IsLinked-off}
-use Rattle.triple_arena.proofs.Tidying.{with_item_same}
 use Rattle.triple_arena.proofs.UpTo.{turned_more, up_to-cons, up_to-past}
 
 at_most_once : (n m : ℕ) (b : Bool) → n + (1 + m) ≤ cond b 1 0 → (b ≡ true) × (n ≡ 0) × (m ≡ 0)

@@ -7,7 +7,7 @@ use Rattle.triple_arena_traits.specs.Walks.{entries, keys}
 use Rattle.triple_arena_traits.specs.Compression.{rank_in, placed}
 use Rattle.triple_arena_traits.specs.CompressionLaws.{length-keys}
 use Rattle.triple_arena_traits.specs.Moves.{Moves}
-use Rattle.triple_arena_traits.proofs.Compaction.{count-moved, count_renamed}
+use Rattle.triple_arena_traits.specs.MoveLaws.{count-moved, count_renamed}
 use Rattle.triple_arena_direct.specs.DirectState.{DirectState, compressed}
 use Rattle.triple_arena_direct.specs.CompressionLaws.{placed_own, keys-compressed}
 use Rattle.triple_arena_direct.specs.Layout.{Counts}

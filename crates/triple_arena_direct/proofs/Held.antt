@@ -6,16 +6,15 @@ use Rattle.std.specs.Option.{option_map, option_and_then}
 use Rattle.triple_arena_ptr.specs.Pointers.{Pointer}
 use Rattle.triple_arena_stack.specs.StackKind.{StackKind}
 use Rattle.triple_arena_traits.specs.Items.{item, with_item}
-use Rattle.triple_arena_traits.specs.ItemLaws.{eq_false, with_item-past}
+use Rattle.triple_arena_traits.specs.ItemLaws.{eq_false, with_item-past, length-with_item, map-with_item, with_item-twice, item-with_other, item-map_none}
 use Rattle.triple_arena_traits.specs.Entries.{entry_in, entry_count, look_up_in, value_under, with_value_in, ChangesAt}
 use Rattle.triple_arena_traits.specs.EntryLaws.{within_room}
 use Rattle.triple_arena_traits.specs.DirectInsertion.{IsVacant}
 use Rattle.triple_arena_traits.specs.FreeList.{trimmed}
 use Rattle.triple_arena_traits.specs.SlotPairs.{WritesTwo}
-use Rattle.triple_arena_traits.proofs.ItemLists.{length-with_item, map-with_item, with_item-twice, item-with_other}
-use Rattle.triple_arena_traits.proofs.Links.{item-map_none, pointer_is}
+use Rattle.triple_arena_traits.specs.PointerListLaws.{pointer_is}
 use Rattle.triple_arena_traits.proofs.LookUps.{others_found, new_found}
-use Rattle.triple_arena_traits.proofs.WellFormed.{entry_of_value, with_value_is}
+use Rattle.triple_arena_traits.specs.WellFormedLaws.{entry_of_value, with_value_is}
 use Rattle.triple_arena_traits.specs.FreeEnd.{extended}
 use Rattle.triple_arena_direct.specs.DirectState.{DirectState, slot_count, direct_capacity, with_value, inserted_at, removed, settled, with_room_for, with_slots}
 use Rattle.triple_arena_direct.specs.StepLaws.{len-with_value, len_taken, count-shortened}

@@ -10,7 +10,7 @@ use Rattle.triple_arena_traits.specs.Entries.{value_under}
 use Rattle.triple_arena_traits.specs.Values.{with_value_of, with_values_in}
 use Rattle.triple_arena_traits.specs.Walks.{entries_from}
 use Rattle.triple_arena_traits.specs.WalkLaws.{length-entries_from}
-use Rattle.triple_arena_traits.proofs.Keeping.{length-kept, count-kept, at-kept, generations-kept, under-kept}
+use Rattle.triple_arena_traits.specs.ValueLaws.{length-kept, count-kept, at-kept, generations-kept, under-kept}
 use Rattle.triple_arena_traits.proofs.Listing.{count_within}
 use Rattle.triple_arena_direct.specs.DirectState.{DirectState}
 use Rattle.triple_arena_direct.specs.Slot.{slot_entry, with_slot_value}

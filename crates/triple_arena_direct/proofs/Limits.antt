@@ -4,7 +4,7 @@ use Rattle.std.proofs.lemmas.List.{length-take, take_all}
 use Rattle.triple_arena_stack.specs.Capacity.{capacity_of}
 use Rattle.triple_arena_traits.specs.FreeList.{last_index}
 use Rattle.triple_arena_traits.specs.FreeEnd.{shortened}
-use Rattle.triple_arena_traits.proofs.Tidying.{trimmed_length}
+use Rattle.triple_arena_traits.specs.FreeListLaws.{trimmed_length}
 use Rattle.triple_arena_direct.specs.DirectState.{DirectState, slot_count, direct_capacity, SlotsFit, settled, with_limit}
 
 module _ {T : Type 0} where

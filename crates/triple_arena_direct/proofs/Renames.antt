@@ -7,7 +7,7 @@ use Rattle.triple_arena_ptr.specs.Pointers.{Pointer}
 use Rattle.triple_arena_traits.specs.Entries.{look_up_in}
 use Rattle.triple_arena_traits.specs.Walks.{keys, values}
 use Rattle.triple_arena_traits.specs.WalkLaws.{live_key, key_live}
-use Rattle.triple_arena_traits.proofs.Compaction.{nth_found, found_nth}
+use Rattle.triple_arena_traits.specs.MoveLaws.{nth_found, found_nth}
 
 there_is : {P : Type 0} (numbers : P → Pointer) (o : Option P) (q : Pointer) → option_map numbers o ≡ Some q → (x : P) × (o ≡ Some x) × (numbers x ≡ q)
 there_is numbers None q e = absurd (cc)

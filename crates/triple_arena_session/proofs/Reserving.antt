@@ -14,10 +14,9 @@ use Rattle.triple_arena_traits.specs.FreeList.{tidied}
 use Rattle.triple_arena_traits.specs.Capacity.{reallocated}
 use Rattle.triple_arena_traits.specs.EntryLaws.{slots-settled}
 use Rattle.triple_arena_traits.specs.Histories.{resizing, Continues, Fits}
-use Rattle.triple_arena_traits.proofs.WellFormed.{len_within}
-use Rattle.triple_arena.proofs.Tidying.{IsWellFormed-tidied}
-use Rattle.triple_arena.proofs.Steps.{reallocated_stays}
-use Rattle.triple_arena.proofs.HistoryLaws.{Continues-resized}
+use Rattle.triple_arena_traits.specs.WellFormedLaws.{len_within}
+use Rattle.triple_arena_traits.specs.StepLaws.{IsWellFormed-tidied, reallocated_stays}
+use Rattle.triple_arena_traits.specs.HistoryLaws.{Continues-resized}
 use Rattle.triple_arena_session.specs.declared.reply.Reply.{Reply}
 use Rattle.triple_arena_session.specs.declared.reply.Reply.TheVariants.{BeyondMaxCapacity, NoMemory, Done}
 use Rattle.triple_arena_session.specs.SessionState.{SessionState}

@@ -6,7 +6,7 @@ use Rattle.triple_arena_ptr.specs.Pointers.{Pointer, is_same}
 use Rattle.triple_arena_stack.specs.StackKind.{StackKind, IsOfKind}
 use Rattle.triple_arena_traits.specs.ArenaState.{ArenaState, look_up, IsWellFormed}
 use Rattle.triple_arena_traits.specs.Histories.{has, AreDistinct, ModelCall, clearing, given_by, History, begun_with, and_then, given, ended, is_live, Fits, Continues}
-use Rattle.triple_arena.proofs.PointerLists.{same_is}
+use Rattle.triple_arena_traits.specs.PointerListLaws.{same_is}
 use Rattle.triple_arena_session.specs.SessionState.{SessionState}
 use Rattle.triple_arena_session.specs.Shown.{IsSound, IsArenaOver}
 

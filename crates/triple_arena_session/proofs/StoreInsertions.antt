@@ -17,8 +17,8 @@ use Rattle.triple_arena_traits.specs.Insertion.{place, next_pointer, inserted}
 use Rattle.triple_arena_traits.specs.Capacity.{grown, with_room_for}
 use Rattle.triple_arena_traits.specs.EntryLaws.{doubled, slots-inserted, fitting-inserted, limit-inserted}
 use Rattle.triple_arena_traits.specs.Histories.{has, insertion, Continues, Fits}
-use Rattle.triple_arena_traits.proofs.WellFormed.{IsWellFormed-inserted, kept-inserted, place_free, len_within}
-use Rattle.triple_arena.proofs.HistoryLaws.{Continues-kept, Continues-inserted, Continues-append}
+use Rattle.triple_arena_traits.specs.WellFormedLaws.{IsWellFormed-inserted, kept-inserted, place_free, len_within}
+use Rattle.triple_arena_traits.specs.HistoryLaws.{Continues-kept, Continues-inserted, Continues-append}
 use Rattle.triple_arena_session.specs.declared.command.Command.TheVariants.{Insert, InsertWithin}
 use Rattle.triple_arena_session.specs.declared.reply.Reply.{Reply}
 use Rattle.triple_arena_session.specs.declared.reply.Reply.TheVariants.{Given, Full, BeyondMaxCapacity, NoMemory}

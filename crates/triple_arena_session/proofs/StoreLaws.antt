@@ -11,8 +11,8 @@ use Rattle.triple_arena_traits.specs.ArenaState.{arena_len, capacity, new_arena}
 use Rattle.triple_arena_traits.specs.Walks.{keys, values}
 use Rattle.triple_arena_traits.specs.Compression.{raised_if_any}
 use Rattle.triple_arena_traits.specs.Histories.{compression, is_live, Continues, Fits}
-use Rattle.triple_arena_traits.proofs.WellFormed.{IsWellFormed-empty}
-use Rattle.triple_arena.proofs.HistoryLaws.{Continues-compressed}
+use Rattle.triple_arena_traits.specs.WellFormedLaws.{IsWellFormed-empty}
+use Rattle.triple_arena_traits.specs.HistoryLaws.{Continues-compressed}
 use Rattle.triple_arena_session.specs.declared.command.Command.{Command}
 use Rattle.triple_arena_session.specs.declared.command.Command.TheVariants.{Insert, InsertWithin, Get, Set, Remove, Invalidate, Clear, Compact, Len, Capacity, Reserve, Show}
 use Rattle.triple_arena_session.specs.declared.reply.Reply.{Reply}

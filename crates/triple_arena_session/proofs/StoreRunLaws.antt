@@ -6,7 +6,7 @@ use Rattle.std.proofs.lemmas.List.{take_all}
 use Rattle.std.proofs.lemmas.List.Elements.{All-head, All-tail}
 use Rattle.triple_arena_stack.specs.StackKind.{StackKind}
 use Rattle.triple_arena_traits.specs.Histories.{Continues, Fits}
-use Rattle.triple_arena.proofs.HistoryLaws.{Continues-append}
+use Rattle.triple_arena_traits.specs.HistoryLaws.{Continues-append}
 use Rattle.triple_arena_session.specs.declared.command.Command.{Command}
 use Rattle.triple_arena_session.specs.declared.command.Command.TheVariants.{Compact, Reserve, Show}
 use Rattle.triple_arena_session.specs.declared.reply.Reply.{Reply}

@@ -14,10 +14,10 @@ use Rattle.triple_arena_traits.specs.Ending.{removed, invalidated, cleared}
 use Rattle.triple_arena_traits.specs.EntryLaws.{slots-removed, slots-invalidated, slots-cleared, changes_at, fitting-removed}
 use Rattle.triple_arena_traits.specs.Walks.{keys}
 use Rattle.triple_arena_traits.specs.Histories.{has, removal, invalidation, clearing, Continues, Fits}
-use Rattle.triple_arena_traits.proofs.ItemLists.{length-with_item, item-map}
-use Rattle.triple_arena_traits.proofs.WellFormed.{live_item, IsWellFormed-removed, IsWellFormed-with_entry, IsWellFormed-counter, IsWellFormed-empty, room-removed, limit-removed, greatest-removed, with_value_is, with_generation_is}
-use Rattle.triple_arena.proofs.PointerLists.{has-append}
-use Rattle.triple_arena.proofs.HistoryLaws.{Continues-written, Continues-none, Continues-removed, Continues-invalidated, Continues-cleared}
+use Rattle.triple_arena_traits.specs.ItemLaws.{length-with_item, item-map}
+use Rattle.triple_arena_traits.specs.WellFormedLaws.{live_item, IsWellFormed-removed, IsWellFormed-with_entry, IsWellFormed-counter, IsWellFormed-empty, room-removed, limit-removed, greatest-removed, with_value_is, with_generation_is}
+use Rattle.triple_arena_traits.specs.PointerListLaws.{has-append}
+use Rattle.triple_arena_traits.specs.HistoryLaws.{Continues-written, Continues-none, Continues-removed, Continues-invalidated, Continues-cleared}
 use Rattle.triple_arena_session.specs.declared.command.Command.{Command}
 use Rattle.triple_arena_session.specs.declared.command.Command.TheVariants.{Get, Set, Remove, Invalidate, Clear, Len, Capacity}
 use Rattle.triple_arena_session.specs.declared.reply.Reply.{Reply}

@@ -9,7 +9,7 @@ use Rattle.triple_arena_traits.specs.Items.{item, with_item}
 use Rattle.triple_arena_ptr.specs.Pointers.{Pointer, is_same}
 use Rattle.triple_arena_session.specs.SessionState.{name_of, link_name, link_pointer}
 use Rattle.triple_arena_traits.specs.Histories.{has, AreDistinct}
-use Rattle.triple_arena.proofs.PointerLists.{same_itself, same_is, has_head, has_tail, or_none}
+use Rattle.triple_arena_traits.specs.PointerListLaws.{same_itself, same_is, has_head, has_tail, or_none}
 
 pub not_same : (p q : Pointer) → p ≢ q → is_same p q ≡ false
 not_same p q other =

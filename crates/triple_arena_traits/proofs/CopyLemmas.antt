@@ -19,8 +19,8 @@ use Rattle.triple_arena_traits.specs.Walks.{Stand, Steps, IsAtFirst, entries_fro
 use Rattle.triple_arena_traits.specs.WalkLaws.{taken, found, live_within, forward_stays, ahead_taken, ahead_first, ahead_none, keys_first, keys_taken, keys_rising, live_key, key_live}
 use Rattle.triple_arena_traits.specs.Copying.{Mapping, put_after, mapped_from, mapped_to, MapTurn, Copies}
 use Rattle.triple_arena_traits.specs.Cloning.{IsCloneAnswer}
-use Rattle.triple_arena_traits.proofs.Tidying.{trimmed_last}
-use Rattle.triple_arena_traits.proofs.Limits.{ends_within}
+use Rattle.triple_arena_traits.specs.FreeListLaws.{trimmed_last}
+use Rattle.triple_arena_traits.specs.LimitLaws.{ends_within}
 use Rattle.triple_arena_base.specs.declared.errors.CloneFromError.{CloneFromError}
 use Rattle.triple_arena_base.specs.declared.errors.CloneFromError.TheVariants.{Reallocation, Map}
 use Rattle.triple_arena_base.specs.declared.errors.ReallocationError.{ReallocationError}

@@ -3,9 +3,9 @@ use Rattle.std.proofs.Common.{◌≡◌, ℕ, ◌<◌, List, length, Option, Non
 use Rattle.triple_arena_traits.specs.Entries.{entry_in}
 use Rattle.triple_arena_traits.specs.FreeList.{trimmed}
 use Rattle.triple_arena_traits.specs.EntryLaws.{entry-trimmed}
-use Rattle.triple_arena_traits.proofs.ItemLists.{joined, item_past}
-use Rattle.triple_arena_traits.proofs.Tidying.{trimmed_last}
-use Rattle.triple_arena_traits.proofs.Limits.{ends_within}
+use Rattle.triple_arena_traits.specs.ItemLaws.{joined, item_past}
+use Rattle.triple_arena_traits.specs.FreeListLaws.{trimmed_last}
+use Rattle.triple_arena_traits.specs.LimitLaws.{ends_within}
 
 module _ {T : Type 0} where
   -- so many slots there are up to the last entry

@@ -10,8 +10,8 @@ use Rattle.triple_arena_base.specs.declared.errors.GetDisjointMutError.{GetDisjo
 use Rattle.triple_arena_base.specs.declared.errors.GetDisjointMutError.TheVariants.{IndexOutOfBounds, OverlappingIndices}
 use Rattle.triple_arena_ptr.specs.Pointers.{Pointer}
 use Rattle.triple_arena_stack.specs.Disjoint.{IsRefused}
-use Rattle.triple_arena_traits.proofs.Links.{pointer_is}
-use Rattle.triple_arena_traits.proofs.WellFormed.{entry_of_value}
+use Rattle.triple_arena_traits.specs.PointerListLaws.{pointer_is}
+use Rattle.triple_arena_traits.specs.WellFormedLaws.{entry_of_value}
 use Rattle.triple_arena_traits.specs.Disjoint.{DisjointInxAnswer}
 use Rattle.triple_arena_traits.specs.Entries.{entry_in, value_under, look_up_in, ChangesAt}
 use Rattle.triple_arena_traits.specs.ItemLaws.{eq_false}

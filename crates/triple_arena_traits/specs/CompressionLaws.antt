@@ -156,3 +156,10 @@ module _ {T : Type 0} where
               ap (λ n. (n, p.1)) index ∙ ap (λ n. (q.0, n)) generation
         ]
       ]
+
+module _ {T : Type 0} where
+  pub count-closed_up : (counter : ℕ) (vs : List T) → entry_count (closed_up counter vs) ≡ length vs
+  count-closed_up counter [] = refl
+  count-closed_up counter (v ∷ vs) =
+      let one : Option (ℕ × T) → ℕ = λ o. cond (is_some o) 1 0 in
+      omega (arith, count-closed_up counter vs, sum_by-cons one (Some (counter, v)) (closed_up counter vs))

@@ -10,12 +10,16 @@ pub mod FreeEnd
 pub mod Capacity
 pub mod EntryLaws
 pub mod LengthLaws
+pub mod FreeListLaws
+pub mod WellFormedLaws
+pub mod LimitLaws
 pub mod Walks
 pub mod WalkLaws
 pub mod Visits
 pub mod VisitLaws
 pub mod Places
 pub mod Values
+pub mod ValueLaws
 pub mod Lent
 pub mod Drains
 pub mod Transfers
@@ -23,6 +27,7 @@ pub mod Copying
 pub mod Compression
 pub mod Moves
 pub mod CompressionLaws
+pub mod MoveLaws
 pub mod Recasting
 pub mod HeldSlots
 pub mod Cloning
@@ -31,3 +36,6 @@ pub mod CopyLaws
 pub mod Disjoint
 pub mod SlotPairs
 pub mod Histories
+pub mod StepLaws
+pub mod PointerListLaws
+pub mod HistoryLaws

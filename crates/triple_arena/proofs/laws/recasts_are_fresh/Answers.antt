@@ -1,4 +1,4 @@
-use Rattle.triple_arena.proofs.HistoryLaws.{Continues-refilled}
+use Rattle.triple_arena_traits.specs.HistoryLaws.{Continues-refilled}
 use Rattle.triple_arena.proofs.laws.recasts_are_fresh.Goals as goal
 
 pub returns : goal.returns

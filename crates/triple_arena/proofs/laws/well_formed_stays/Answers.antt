@@ -1,6 +1,5 @@
-use Rattle.triple_arena.proofs.Steps.{with_value_stays, invalidated_stays, removed_stays, cleared_stays, reallocated_stays, with_limit_stays}
-use Rattle.triple_arena_traits.proofs.WellFormed.{IsWellFormed-empty, IsWellFormed-inserted, IsWellFormed-counter}
-use Rattle.triple_arena.proofs.Tidying.{IsWellFormed-tidied}
+use Rattle.triple_arena_traits.specs.StepLaws.{with_value_stays, invalidated_stays, removed_stays, cleared_stays, reallocated_stays, with_limit_stays, IsWellFormed-tidied}
+use Rattle.triple_arena_traits.specs.WellFormedLaws.{IsWellFormed-empty, IsWellFormed-inserted, IsWellFormed-counter}
 use Rattle.triple_arena.proofs.FreeEnd.{IsWellFormed-without_free_end}
 use Rattle.triple_arena_traits.specs.EntryLaws.{well_formed-grown}
 use Rattle.triple_arena.proofs.laws.well_formed_stays.Goals as goal

@@ -2,7 +2,7 @@ use Rattle.std.proofs.Common.{◌≡◌, ◌∙◌, ◌+◌, ◌-◌, None, leng
 use Rattle.std.specs.Int.NonZero.{non_zero_usize_get}
 use Rattle.triple_arena_traits.specs.Places.{number_or_zero}
 use Rattle.triple_arena_traits.specs.Items.{with_item}
-use Rattle.triple_arena_traits.proofs.ItemLists.{item_at, with_item_at, length-with_item}
+use Rattle.triple_arena_traits.specs.ItemLaws.{item_at, with_item_at, length-with_item}
 use Rattle.triple_arena_traits.proofs.Inserted.{some_lent}
 use Rattle.triple_arena_traits.proofs.Present.{some_mapped, some_below}
 use Rattle.triple_arena.proofs.Tidying.{LinkedFrom, LinkedFrom-start, LinkedFrom-live, LinkedFrom-free, LinkedFrom-root, LinkedFrom-done}

@@ -3,7 +3,7 @@ use Rattle.std.proofs.lemmas.Option.{same_Some}
 use Rattle.std.specs.Int.NonZero.{non_zero_usize_get}
 use Rattle.triple_arena_traits.specs.Items.{with_item}
 use Rattle.triple_arena.specs.Slot.{entry_of}
-use Rattle.triple_arena_traits.proofs.ItemLists.{item_at, with_item_at}
+use Rattle.triple_arena_traits.specs.ItemLaws.{item_at, with_item_at}
 use Rattle.triple_arena_traits.proofs.Inserted.{some_lent}
 use Rattle.triple_arena.proofs.Turning.{IsTurning-done, next_slot, not_turned, entries_kept, fewer_ahead, turned_on, left_out}
 use Rattle.triple_arena.proofs.slots.turn_round.Goals.{then-get-end, else-get-end}

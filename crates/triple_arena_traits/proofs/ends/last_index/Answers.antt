@@ -4,7 +4,7 @@ use Rattle.triple_arena_traits.specs.Entries.{entry_in}
 use Rattle.triple_arena_traits.specs.FreeList.{trimmed}
 use Rattle.triple_arena_traits.specs.WalkLaws.{found, live_within}
 use Rattle.triple_arena_traits.proofs.CopyLemmas.{none_of_none, some_within}
-use Rattle.triple_arena_traits.proofs.Tidying.{trimmed_length}
+use Rattle.triple_arena_traits.specs.FreeListLaws.{trimmed_length}
 use Rattle.triple_arena_traits.proofs.FreeEnd.{end_is, end_none}
 use Rattle.triple_arena_traits.proofs.ends.last_index.Goals as goal
 

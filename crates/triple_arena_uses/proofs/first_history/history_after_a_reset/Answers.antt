@@ -2,8 +2,8 @@ use Rattle.std.proofs.Common.{None, [], refl, arith}
 use Rattle.triple_arena_traits.specs.ArenaState.{IsWellFormed}
 use Rattle.triple_arena_traits.specs.Insertion.{inserted}
 use Rattle.triple_arena_traits.specs.Walks.{values}
-use Rattle.triple_arena_traits.proofs.WellFormed.{IsWellFormed-empty, IsWellFormed-inserted, IsWellFormed-removed}
-use Rattle.triple_arena.proofs.HistoryLaws.{Fits-compressed, Continues-calls}
+use Rattle.triple_arena_traits.specs.WellFormedLaws.{IsWellFormed-empty, IsWellFormed-inserted, IsWellFormed-removed}
+use Rattle.triple_arena_traits.specs.HistoryLaws.{Fits-compressed, Continues-calls}
 use Rattle.triple_arena_uses.specs.FirstHistory.{one_more, with_b, reset, with_e, without_e, later_calls}
 use Rattle.triple_arena_uses.proofs.first_history.history_after_a_reset.Goals as goal
 

@@ -9,7 +9,7 @@ use mathlib.Core.List.{List, [], ◌∷◌, map}
 use lib.ListN.{length}
 use seplogic.Ra.Ura.{Ura}
 use base.Fraction.{full_share, left, right}
-use mir.Syntax.{Fn, Args, Kind, Dict, dcons, dnil, named, a_type}
+use mir.Syntax.{Fn, Args, Kind, Dict, dcons, dnil, named, a_type, w64}
 use mir.MapTy.{inst_fn}
 use mir.Val.{Val, vptr, vstruct, vcons, vnil}
 use base.Logic.{SProp, ent, emp, sep, id⊢}
@@ -59,7 +59,6 @@ use denote.Triple.Table.{entered}
 use denote.Triple.Walked.{says, Stays, stay_dropped, walk_of, walked, ends_at, Goes-spent_ref, walk_Meets}
 use denote.Triple.Call.{calls_at}
 use denote.Triple.Statement.{Contract, Triple}
-use mir.Syntax.{w64}
 use Rattle.std.specs.Borrow.{Array}
 use Rattle.std.specs.List.{refill}
 use Rattle.std.specs.Option.{option_map}

@@ -1,6 +1,6 @@
-use Rattle.triple_arena_traits.proofs.Limits.{ready_ends, refused_ready}
+use Rattle.triple_arena_traits.specs.LimitLaws.{ready_ends, refused_ready}
 use Rattle.std.proofs.Common.{rules}
-use Rattle.triple_arena.proofs.HistoryLaws.{Continues-limited}
+use Rattle.triple_arena_traits.specs.HistoryLaws.{Continues-limited}
 use Rattle.triple_arena.proofs.base_arena.Arena.set_max_capacity.Goals as goal
 
 pub returns-clause-variant : goal.returns-clause-variant

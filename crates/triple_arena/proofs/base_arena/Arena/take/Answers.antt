@@ -3,7 +3,7 @@ use Rattle.std.specs.Int.NonZero.{non_zero_usize_get}
 use Rattle.triple_arena_ptr.specs.Numbers.{raise}
 use Rattle.triple_arena_traits.specs.ArenaState.{entry}
 use Rattle.triple_arena_traits.specs.Ending.{removed}
-use Rattle.triple_arena_traits.proofs.WellFormed.{counter-removed, room-removed, limit-removed, greatest-removed}
+use Rattle.triple_arena_traits.specs.WellFormedLaws.{counter-removed, room-removed, limit-removed, greatest-removed}
 use Rattle.triple_arena.proofs.Links.{live_len, carried}
 use Rattle.triple_arena.proofs.base_arena.Arena.take.Goals as goal
 

@@ -4,9 +4,9 @@ use Rattle.triple_arena.proofs.Resizing.{below_room}
 use Rattle.triple_arena_traits.specs.ArenaState.{ArenaState, arena_len, IsWellFormed}
 use Rattle.std.proofs.Common.{◌∙◌, sym, ap, subst, ◌<◌}
 use Rattle.triple_arena_traits.specs.Insertion.{inserted}
-use Rattle.triple_arena_traits.proofs.WellFormed.{kept-inserted}
+use Rattle.triple_arena_traits.specs.WellFormedLaws.{kept-inserted}
 use Rattle.triple_arena.proofs.Links.{carried}
-use Rattle.triple_arena.proofs.HistoryLaws.{Continues-inserted}
+use Rattle.triple_arena_traits.specs.HistoryLaws.{Continues-inserted}
 use Rattle.triple_arena.proofs.base_arena.ArenaArenaInsertTrait.insert_reserved.Goals as goal
 
 pub invariant_of-self : goal.invariant_of-self

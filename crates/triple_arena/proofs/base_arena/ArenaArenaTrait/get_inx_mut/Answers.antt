@@ -3,9 +3,9 @@ use Rattle.std.proofs.Math.Path.{fun_ext}
 use Rattle.std.specs.Int.NonZero.{non_zero_usize_get}
 use Rattle.triple_arena_traits.specs.ArenaState.{ArenaState, with_value}
 use Rattle.triple_arena.specs.Layout.{entry_at}
-use Rattle.triple_arena_traits.proofs.WellFormed.{entry_value_read}
+use Rattle.triple_arena_traits.specs.WellFormedLaws.{entry_value_read}
 use Rattle.triple_arena.proofs.Links.{lent}
-use Rattle.triple_arena.proofs.HistoryLaws.{Continues-written}
+use Rattle.triple_arena_traits.specs.HistoryLaws.{Continues-written}
 use Rattle.triple_arena.proofs.base_arena.ArenaArenaTrait.get_inx_mut.Goals as goal
 
 pub invariant_of-self-lent : goal.invariant_of-self-lent

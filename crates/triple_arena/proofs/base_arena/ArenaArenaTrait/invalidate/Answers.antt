@@ -8,11 +8,11 @@ use Rattle.triple_arena_ptr.specs.Numbers.{raise, wraps}
 use Rattle.triple_arena_traits.specs.Entries.{with_generation_in}
 use Rattle.triple_arena_traits.specs.ArenaState.{look_up, ArenaState, entry}
 use Rattle.triple_arena_traits.specs.EntryLaws.{slots-invalidated}
-use Rattle.triple_arena_traits.proofs.WellFormed.{invalidated_is, live_entry, entry_of_value}
+use Rattle.triple_arena_traits.specs.WellFormedLaws.{invalidated_is, live_entry, entry_of_value}
 use Rattle.triple_arena.proofs.Links.{Shows-counter, carried}
-use Rattle.triple_arena_traits.proofs.Links.{pointer_is}
+use Rattle.triple_arena_traits.specs.PointerListLaws.{pointer_is}
 use Rattle.triple_arena_traits.proofs.LookUps.{renewed_found, renewed_gone, others_found}
-use Rattle.triple_arena.proofs.HistoryLaws.{Continues-invalidated}
+use Rattle.triple_arena_traits.specs.HistoryLaws.{Continues-invalidated}
 use Rattle.triple_arena.proofs.base_arena.ArenaArenaTrait.invalidate.Goals as goal
 
 pub invariant_of-self : goal.invariant_of-self

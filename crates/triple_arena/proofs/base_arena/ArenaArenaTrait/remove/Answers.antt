@@ -1,13 +1,13 @@
 use Rattle.triple_arena_traits.proofs.Refused.{gone_found, rest_found}
 use Rattle.triple_arena.proofs.Refused.{told_found}
 use Rattle.triple_arena_traits.proofs.SlotEntries.{none_of}
-use Rattle.triple_arena_traits.proofs.WellFormed.{value_of_entry, live_entry}
+use Rattle.triple_arena_traits.specs.WellFormedLaws.{value_of_entry, live_entry}
 use Rattle.triple_arena_traits.specs.EntryLaws.{slots-removed}
 use Rattle.triple_arena_traits.specs.Ending.{removed, told_of}
 use Rattle.triple_arena_traits.specs.ArenaState.{entry, look_up}
 use Rattle.triple_arena_ptr.specs.Numbers.{raise, wraps}
 use Rattle.std.proofs.Common.{◌∙◌, IsSome, is_some, sym, ap, subst, true≢false}
-use Rattle.triple_arena.proofs.HistoryLaws.{Continues-removed}
+use Rattle.triple_arena_traits.specs.HistoryLaws.{Continues-removed}
 use Rattle.triple_arena.proofs.base_arena.ArenaArenaTrait.remove.Goals as goal
 
 pub returns-clause-done : goal.returns-clause-done

@@ -6,7 +6,7 @@ use Rattle.triple_arena_traits.specs.Ending.{removed, told_of}
 use Rattle.triple_arena_traits.specs.ArenaState.{entry}
 use Rattle.triple_arena_ptr.specs.Numbers.{raise, wraps}
 use Rattle.std.proofs.Common.{◌∙◌, IsSome, None, is_some, sym, ap, subst, true≢false}
-use Rattle.triple_arena.proofs.HistoryLaws.{Continues-removed_inx}
+use Rattle.triple_arena_traits.specs.HistoryLaws.{Continues-removed_inx}
 use Rattle.triple_arena.proofs.base_arena.ArenaArenaTrait.remove_inx.Goals as goal
 
 pub returns-clause-done : goal.returns-clause-done

@@ -4,7 +4,7 @@ use Rattle.triple_arena_traits.proofs.Inserted.{found_inserted, rewritten, some_
 use Rattle.triple_arena_ptr.specs.Pointers.{Pointer}
 use Rattle.triple_arena_traits.specs.ArenaState.{entry}
 use Rattle.triple_arena_traits.specs.Insertion.{inserted}
-use Rattle.triple_arena.proofs.HistoryLaws.{Continues-inserted}
+use Rattle.triple_arena_traits.specs.HistoryLaws.{Continues-inserted}
 use Rattle.triple_arena.proofs.insert_entry.ArenaInsertEntryArenaInsertEntryTrait.insert.Goals as goal
 
 pub unwrap-requires : goal.unwrap-requires

@@ -11,45 +11,37 @@ use mir.Syntax.{Fn, Args, Kind, Dict, dcons, dnil, Ty, Sym, named, a_type, ty_pt
 use mir.MapTy.{inst_fn}
 use mir.Raw.{raw as bare}
 use mir.Val.{Val, vptr, vstruct, vcons, vnil}
-use base.Logic.{SProp, ent, emp, sep, via, fst∗, snd∗, mono_r, id⊢}
-use base.Fml.{Lft, GName, Share, Fml, ftrue, flft, fobs, fbor, fat}
+use base.Logic.{SProp, ent, emp, sep, via, fst∗, snd∗, mono_r, id⊢, ex, wand, apply∗}
+use base.Fml.{Lft, GName, Share, Fml, ftrue, flft, fobs, fbor, fat, fdead, Incl-refl, Incl-trans}
 use base.Stored.{coded_list}
 use prog.Memory.{Memory}
 use prog.Routine.{Routine}
 use prog.Wp.{Env, Calls, Loops, WpFn, Tables}
 use types.Logic.{Logic, sem}
-use contract.Monad.{fact, fact_use, Fun}
+use contract.Monad.{fact, fact_use, Fun, fact_i}
 use contract.Running.{tables, tables_of}
 use contract.BorrowLft.{◌⊑◌, ⊑_trans, ⊑_static, meet_⊑_left, meet_⊑_right}
 use base.FractionLaws.{common}
-use base.Logic.{ex, wand, apply∗}
-use base.Fml.{fdead, Incl-refl, Incl-trans}
-use types.Kit.{assume}
+use types.Kit.{assume, Item, ‵, ◌⊛◌, some, later, await, at_ret, updating, now, show, ◌$◌, ◌∵◌, !, qed, move, keep, raw, use0, use1, use2, drop, split, split3, join, pick, rewrite, fsplit, fsplit3, fjoin, fjoin3, feq_i, frame, suffices, done}
 use types.Tokens.{bor_new, lent_back, lft_new, lft_end, lft-common}
-use types.Mut.{close_ref}
-use types.Run.{hop}
-use denote.Memory.{hidden_shr}
-use denote.Ref.{Bor}
-use contract.Monad.{fact_i}
+use types.Mut.{close_ref, open_ref}
+use types.Run.{hop, stop, fld, addr, of_opd, first, blocks, exec, returns, enter, and_then, no_more}
+use denote.Memory.{hidden_shr, mem, cell_at, part_at}
+use denote.Ref.{Bor, MutBor, MutRef, mut_vals, mut_Tells}
 use Rattle.std.specs.Option.{option_map}
 use Rattle.triple_arena.specs.Slot.{entry_of}
 use Rattle.triple_arena.proofs.slot.ArenaSlot.TheLaws as S-laws
 use contract.Lifetimes.{Lfts, Shares, AllOutlive, lft_at}
 use sound.WpLaws.{WpFn-mono, FmC, fm_of}
-use types.Kit.{Item, ‵, ◌⊛◌, some, later, await, at_ret, updating, now, show, ◌$◌, ◌∵◌, !, qed, move, keep, raw, use0, use1, use2, drop, split, split3, join, pick, rewrite, fsplit, fsplit3, fjoin, fjoin3, feq_i, frame, suffices, done}
 use types.Part.{whole, sub, look_in}
-use types.Run.{stop, fld, addr, of_opd, first, blocks, exec, returns, enter, and_then, no_more}
 use types.ByLocal.{alloc_all, pass_all, free_all, look_at, get, through, sets, sets_last, env, lands_as}
 use types.SemTy.{Arr, SemTy, Body as Borrowed}
-use types.Mut.{open_ref}
 use denote.Laws.{shows}
 use denote.RattleType.{RattleType, owns}
-use denote.Memory.{mem, cell_at, part_at}
 use denote.Param.{param, copied, bounded}
 use denote.Param.Laws.{Laws, param_laws, copied_laws}
 use Rattle.std.proofs.option.Option.TheLaws.{the_row_laws as option_laws}
 use denote.RawPtr.{Ptr, block_ptr, in_a_block}
-use denote.Ref.{MutBor, MutRef, mut_vals, mut_Tells}
 use denote.Shadow.{pure_l, pure_i, makes_shadow}
 use denote.Signature.{plain, named_lft}
 use denote.Slice.{room}

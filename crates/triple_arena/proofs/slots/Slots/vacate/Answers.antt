@@ -1,6 +1,6 @@
 use Rattle.std.proofs.Common.{◌≢◌, ◌∙◌, IsSome, length, sym, ap, subst, arith}
 use Rattle.std.specs.Int.NonZero.{non_zero_usize_get}
-use Rattle.triple_arena_traits.proofs.ItemLists.{item_last}
+use Rattle.triple_arena_traits.specs.ItemLaws.{item_last}
 use Rattle.triple_arena.specs.Slot.{entry_of}
 use Rattle.triple_arena_traits.proofs.SlotEntries.{entry_item, item_live}
 use Rattle.triple_arena_traits.proofs.Present.{some_below}

@@ -1,7 +1,7 @@
 use Rattle.std.proofs.Common.{◌≡◌, ◌∙◌, ap, arith}
 use Rattle.triple_arena_traits.specs.Entries.{entry_in}
 use Rattle.triple_arena_traits.proofs.CopyLemmas.{kept_end, copy_ends, copy_same_end, on_copies}
-use Rattle.triple_arena_traits.proofs.Tidying.{trimmed_length}
+use Rattle.triple_arena_traits.specs.FreeListLaws.{trimmed_length}
 use Rattle.triple_arena_direct.specs.DirectState.{DirectState, direct_capacity, ready_for, with_slots}
 use Rattle.triple_arena_direct.specs.StepLaws.{slots-settled}
 use Rattle.triple_arena_direct.proofs.direct_arena.DirectArenaArenaCloneFromWith.clone_from_with.Goals as goal

@@ -2,7 +2,7 @@ use Rattle.std.proofs.Common.{◌≡◌, ◌∙◌, ◌<◌, ℕ, sym, ap, subst
 use Rattle.std.specs.Int.NonZero.{non_zero_usize_get}
 use Rattle.triple_arena_ptr.specs.Pointers.{Pointer}
 use Rattle.triple_arena_traits.proofs.CopyLemmas.{some_within}
-use Rattle.triple_arena_traits.proofs.Links.{pointer_is}
+use Rattle.triple_arena_traits.specs.PointerListLaws.{pointer_is}
 use Rattle.triple_arena_direct.specs.DirectState.{inserted_at, direct_capacity}
 use Rattle.triple_arena_traits.specs.DirectInsertion.{IsVacant}
 use Rattle.triple_arena_direct.proofs.Held.{found_inserted_at, others_inserted_at}

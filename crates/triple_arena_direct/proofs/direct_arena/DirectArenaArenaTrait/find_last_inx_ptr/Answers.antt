@@ -1,4 +1,4 @@
-use Rattle.triple_arena_traits.proofs.WellFormed.{none_counted}
+use Rattle.triple_arena_traits.specs.WellFormedLaws.{none_counted}
 use Rattle.triple_arena_direct.proofs.direct_arena.DirectArenaArenaTrait.find_last_inx_ptr.Goals as goal
 
 pub returns-in_err-inx : goal.returns-in_err-inx

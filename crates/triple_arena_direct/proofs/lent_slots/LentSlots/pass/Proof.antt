@@ -17,7 +17,7 @@ use mir.MapTy.{inst_fn}
 use mir.Raw.{raw as bare}
 use mir.Val.{Val, vptr, vstruct, vcons, vnil}
 use base.Logic.{SProp, ent, emp, sep, via, snd∗, mono_r, id⊢}
-use base.Fml.{Lft, GName, Share, fsep, ftrue, flft, fobs, fbor, fauth, fres, fat}
+use base.Fml.{Lft, GName, Share, fsep, ftrue, flft, fobs, fbor, fauth, fres, fat, flent}
 use base.Stored.{coded_list}
 use prog.Memory.{Memory}
 use prog.Routine.{Routine}
@@ -48,7 +48,6 @@ use denote.Struct.Field.{mut_ref_field}
 use denote.Param.Shared.{mut_ref_shared}
 use Rattle.std.proofs.option.Option.TheLaws.{the_row_laws as option_laws}
 use ghost.Rules.{aged}
-use base.Fml.{flent}
 use denote.RawPtr.{Ptr, block_ptr, in_a_block}
 use denote.Ref.{MutBor, MutRef, mut_vals, mut_Tells}
 use denote.Shadow.{pure_l, pure_i, makes_shadow}

@@ -2,7 +2,7 @@ use Rattle.std.proofs.Common.{◌∙◌, map, Some, is_some, sym, ap}
 use Rattle.std.specs.Int.NonZero.{non_zero_usize_get}
 use Rattle.triple_arena_traits.specs.Items.{item, with_item}
 use Rattle.triple_arena_traits.specs.Entries.{entry_in}
-use Rattle.triple_arena_traits.proofs.ItemLists.{item-map, map-with_item}
+use Rattle.triple_arena_traits.specs.ItemLaws.{item-map, map-with_item}
 use Rattle.triple_arena_traits.proofs.Present.{some_mapped}
 use Rattle.triple_arena_traits.specs.FreeEnd.{extended}
 use Rattle.triple_arena_direct.specs.InsertionLaws.{entry-extended, slot-extended}

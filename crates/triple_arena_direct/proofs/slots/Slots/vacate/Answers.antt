@@ -1,6 +1,6 @@
 use Rattle.std.proofs.Common.{◌∙◌}
 use Rattle.std.specs.Int.NonZero.{non_zero_usize_get}
-use Rattle.triple_arena_traits.proofs.ItemLists.{map-with_item}
+use Rattle.triple_arena_traits.specs.ItemLaws.{map-with_item}
 use Rattle.triple_arena_direct.specs.Slot.{slot_entry}
 use Rattle.triple_arena_direct.specs.declared.slot.DirectSlot.TheVariants.{Free}
 use Rattle.triple_arena_traits.proofs.SlotEntries.{entry_item, item_live}

@@ -1,7 +1,7 @@
 use Rattle.std.proofs.Common.{◌∙◌, sym, refl}
 use Rattle.std.specs.Int.NonZero.{non_zero_usize_get}
 use Rattle.triple_arena_direct.specs.Slot.{slot_entry, with_slot_value}
-use Rattle.triple_arena_traits.proofs.ItemLists.{item_at, with_item_at}
+use Rattle.triple_arena_traits.specs.ItemLaws.{item_at, with_item_at}
 use Rattle.triple_arena_traits.proofs.SlotEntries.{entry_item, item_live}
 use Rattle.triple_arena_direct.proofs.Reading.{some_lent}
 use Rattle.triple_arena_direct.proofs.slots.Slots.value_mut.Goals as goal

@@ -3,8 +3,8 @@ use Rattle.triple_arena_ptr.specs.Numbers.{raise, first_generation}
 use Rattle.triple_arena_traits.specs.ArenaState.{capacity}
 use Rattle.triple_arena_traits.specs.Compression.{counter_after}
 use Rattle.triple_arena_traits.specs.CompressionLaws.{keys-compressed}
-use Rattle.triple_arena_traits.proofs.Compaction.{count-moved, count_renamed}
-use Rattle.triple_arena.proofs.HistoryLaws.{Continues-compressed, Fits-compressed}
+use Rattle.triple_arena_traits.specs.MoveLaws.{count-moved, count_renamed}
+use Rattle.triple_arena_traits.specs.HistoryLaws.{Continues-compressed, Fits-compressed}
 use Rattle.triple_arena.proofs.base_arena.compaction.ArenaCompactArenaTrait.compress_with.Goals as goal
 
 pub returns-clause-moved : goal.returns-clause-moved

@@ -3,7 +3,7 @@ use Rattle.triple_arena_traits.specs.ArenaState.{ArenaState, capacity}
 use Rattle.triple_arena_traits.specs.Entries.{entry_in}
 use Rattle.triple_arena_traits.specs.EntryLaws.{slots-settled}
 use Rattle.triple_arena_traits.proofs.CopyLemmas.{kept_end, copy_ends}
-use Rattle.triple_arena_traits.proofs.Tidying.{trimmed_length}
+use Rattle.triple_arena_traits.specs.FreeListLaws.{trimmed_length}
 use Rattle.triple_arena.proofs.Refused.{unrefused_end}
 use Rattle.triple_arena.proofs.base_arena.copies.ArenaArenaCloneFromWith.clone_from_with.Goals as goal
 

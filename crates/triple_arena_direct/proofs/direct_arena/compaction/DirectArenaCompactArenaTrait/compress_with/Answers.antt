@@ -1,6 +1,6 @@
 use Rattle.std.proofs.Common.{◌∙◌, ap, subst, map, arith}
 use Rattle.std.proofs.lemmas.List.{length-map}
-use Rattle.triple_arena_traits.proofs.Compaction.{count-moved}
+use Rattle.triple_arena_traits.specs.MoveLaws.{count-moved}
 use Rattle.triple_arena_direct.specs.DirectState.{compressed, direct_capacity}
 use Rattle.triple_arena_direct.specs.CompressionLaws.{keys-compressed}
 use Rattle.triple_arena_direct.specs.Slot.{slot_entry}

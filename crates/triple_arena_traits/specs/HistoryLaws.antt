@@ -13,15 +13,15 @@ use Rattle.triple_arena_traits.specs.Ending.{removed, invalidated, cleared}
 use Rattle.triple_arena_traits.specs.FreeList.{tidied}
 use Rattle.triple_arena_traits.specs.Capacity.{with_limit, grown}
 use Rattle.triple_arena_traits.specs.EntryLaws.{by_case, changes_at, slots-removed, slots-invalidated, slots-cleared, slots-inserted, slots-settled, slots-grown}
-use Rattle.triple_arena.proofs.Keeping.{keeps_pointers}
-use Rattle.triple_arena_traits.proofs.WellFormed.{kept-inserted, place_free, counter-removed, live_item, live_counted}
+use Rattle.triple_arena_traits.specs.ValueLaws.{keeps_pointers}
+use Rattle.triple_arena_traits.specs.WellFormedLaws.{kept-inserted, place_free, counter-removed, live_item, live_counted}
 use Rattle.triple_arena_traits.specs.Compression.{closed_up, compressed, raised_if_any, counter_after, wraps_after}
 use Rattle.triple_arena_traits.specs.HeldSlots.{held_entry, refill_slots}
 use Rattle.triple_arena_traits.specs.Values.{with_values_of}
 use Rattle.triple_arena_traits.specs.Walks.{keys}
 use Rattle.triple_arena_traits.specs.WalkLaws.{found}
 use Rattle.triple_arena_traits.specs.Histories.{has, AreDistinct, ModelCall, insertion, removal, invalidation, clearing, compression, resizing, given_by, ended_by, History, begun_with, and_then, given, ended, remains, followed_by, CountsUp, is_live, Fits, Continues, IsModelCall, AreModelCalls}
-use Rattle.triple_arena.proofs.PointerLists.{has-append, has_head, has_one, one_is, one_not, or_none, same_is, keys_from, false_unless, distinct-append, distinct_last, live_in, live_in_one, live_same, has-keys, distinct-keys}
+use Rattle.triple_arena_traits.specs.PointerListLaws.{has-append, has_head, has_one, one_is, one_not, or_none, same_is, keys_from, false_unless, distinct-append, distinct_last, live_in, live_in_one, live_same, has-keys, distinct-keys}
 
 -- what was given and has not ended, after a call that gave what was not given, and ended what was live
 after_call : (g e new gone : Bool) → (new ≡ true → (e ≡ false) × (gone ≡ false)) → (((g && not e) && not gone) || new) ≡ ((g || new) && not (e || gone))

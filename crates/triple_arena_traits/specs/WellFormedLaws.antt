@@ -4,16 +4,16 @@ use Rattle.std.proofs.lemmas.Bool.{cases_eq, eqb-true}
 use Rattle.std.proofs.lemmas.List.{length_push}
 use Rattle.std.proofs.lemmas.List.Sums.{sum_by_push, sum_by-cons}
 use Rattle.triple_arena_ptr.specs.Pointers.{Pointer}
-use Rattle.triple_arena_traits.proofs.ItemLists.{joined, item_nil, eq_true, eq_false, item_within, item_past, length-with_item, item-with_same, item-with_other, item-push_same, item-push_other, split_last}
+use Rattle.triple_arena_traits.specs.ItemLaws.{joined, item_nil, eq_true, eq_false, item_within, item_past, length-with_item, item-with_same, item-with_other, item-push_same, item-push_other, split_last}
 use Rattle.std.specs.Option.{option_and_then, option_map}
 use Rattle.triple_arena_traits.specs.Items.{item, with_item}
 use Rattle.triple_arena_traits.specs.Entries.{look_up_in, entry_in, value_under, with_value_in, with_generation_in}
 use Rattle.triple_arena_traits.specs.ArenaState.{ArenaState, new_arena, capacity, entry, look_up, slot_count, arena_len, is_free, IsWellFormed}
 use Rattle.triple_arena_traits.specs.Insertion.{place_among, place, inserted_among, inserted}
 use Rattle.triple_arena_traits.specs.Ending.{removed, invalidated}
-pub use Rattle.triple_arena_traits.specs.EntryLaws.{count_head, first_free}
+use Rattle.triple_arena_traits.specs.EntryLaws.{count_head, first_free}
 use Rattle.triple_arena_traits.specs.EntryLaws.{by_case}
-pub use Rattle.triple_arena_traits.specs.LengthLaws.{count-with_item}
+use Rattle.triple_arena_traits.specs.LengthLaws.{count-with_item}
 
 -- the entry at an index is this one
 abbrev pub with_entry : {T : Type 0} → ArenaState T → ℕ → ℕ × T → ArenaState T

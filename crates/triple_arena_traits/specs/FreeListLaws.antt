@@ -1,10 +1,12 @@
--- The slots without the free ones at their end.
-use Rattle.std.proofs.Common.{◌≡◌, ℕ, ◌+◌, ◌-◌, ◌≤◌, true, false, List, [], ◌∷◌, ◌++◌, length, take, Option, Some, None, refl, sym, ap, ◌∙◌, arith, true≢false}
+-- Laws of the free list in order: the slots without the free ones at their end, and the gaps that are left.
+use Rattle.std.proofs.Common.{◌≡◌, ℕ, zero, suc, ◌+◌, ◌-◌, ◌<◌, ◌≤◌, ◌==◌, true, false, List, [], ◌∷◌, ◌++◌, length, take, Option, Some, None, is_some, count_by, cond, slice_get, refl, sym, ap, ◌∙◌, arith, true≢false}
+use Rattle.std.proofs.lemmas.List.Sums.{sum_by-cons}
 use Rattle.triple_arena_traits.specs.Items.{item}
 use Rattle.triple_arena_traits.specs.ArenaState.{ArenaState, is_free}
 use Rattle.triple_arena_traits.specs.FreeList.{before, trimmed, gaps, tidied, IsRising, IsInOrder}
-use Rattle.triple_arena_traits.specs.EntryLaws.{entry-trimmed}
-use Rattle.triple_arena_traits.proofs.ItemLists.{item_within, split_last}
+use Rattle.triple_arena_traits.specs.EntryLaws.{entry-trimmed, count_head}
+use Rattle.triple_arena_traits.specs.ItemLaws.{item_within, split_last}
+use Rattle.triple_arena_traits.specs.WellFormedLaws.{count_tail}
 
 module _ {T : Type 0} where
   -- a free slot at the end makes no difference
@@ -63,3 +65,28 @@ module _ {T : Type 0} where
 
   pub IsInOrder-tidied : (s : ArenaState T) → IsInOrder s (tidied s)
   IsInOrder-tidied s = record { entries = entry-trimmed s.slots; ends_live = trimmed_last s.slots; rising = gaps_rising 1 (trimmed s.slots) }
+
+  -- the gaps are above the indexes before the first slot
+  pub gaps_above : (at : ℕ) (xs : List (Option (ℕ × T))) (k : ℕ) → k < at → count_by (λ j. j == k) (gaps at xs) ≡ 0
+  gaps_above at [] k h = refl
+  gaps_above at (None ∷ xs) k h = count_tail at k (gaps (at + 1) xs) (λ e. omega arith) ∙ gaps_above (at + 1) xs k (omega arith)
+  gaps_above at (Some e ∷ xs) k h = gaps_above (at + 1) xs k (omega arith)
+
+  -- and each is one of them once
+  gaps_once : (at : ℕ) (xs : List (Option (ℕ × T))) (k i : ℕ) → i ≡ at + k → count_by (λ j. j == i) (gaps at xs) ≡ cond (is_free (slice_get xs k)) 1 0
+  gaps_once at [] k i e = refl
+  gaps_once at (None ∷ xs) zero i e =
+      let same : i ≡ at = omega arith in
+      rw same (count_head at (gaps (at + 1) xs) ∙ ap (λ n. 1 + n) (gaps_above (at + 1) xs at (omega arith)))
+  gaps_once at (None ∷ xs) (suc k) i e = count_tail at i (gaps (at + 1) xs) (λ h. omega arith) ∙ gaps_once (at + 1) xs k i (omega arith)
+  gaps_once at (Some x ∷ xs) zero i e = gaps_above (at + 1) xs i (omega arith)
+  gaps_once at (Some x ∷ xs) (suc k) i e = gaps_once (at + 1) xs k i (omega arith)
+
+  pub gaps_free : (xs : List (Option (ℕ × T))) (i : ℕ) → count_by (λ j. j == i) (gaps 1 xs) ≡ cond (is_free (item xs i)) 1 0
+  gaps_free xs zero = gaps_above 1 xs 0 (omega arith)
+  gaps_free xs (suc k) = gaps_once 1 xs k (suc k) (omega arith)
+
+  pub gaps_total : (at : ℕ) (xs : List (Option (ℕ × T))) → count_by is_some xs + length (gaps at xs) ≡ length xs
+  gaps_total at [] = refl
+  gaps_total at (None ∷ xs) = omega (arith, gaps_total (at + 1) xs, sum_by-cons (λ o. cond (is_some o) 1 0) None xs)
+  gaps_total at (Some e ∷ xs) = omega (arith, gaps_total (at + 1) xs, sum_by-cons (λ o. cond (is_some o) 1 0) (Some e) xs)

@@ -1,22 +1,48 @@
 -- Each step of a well-formed arena leaves it well formed.
-use Rattle.std.proofs.Common.{◌≡◌, ℕ, ◌≤◌, Bool, true, false, Option, Some, None, IsSome, cond, min, nat_lt, refl, arith}
+use Rattle.std.proofs.Common.{◌≡◌, ℕ, zero, suc, ◌≤◌, Bool, true, false, List, [], ◌∷◌, length, Option, Some, None, IsSome, cond, min, nat_lt, refl, sym, arith}
+use Rattle.std.proofs.lemmas.List.{length-map}
 use Rattle.std.specs.Option.{option_map}
 use Rattle.triple_arena_stack.specs.StackKind.{StackKind}
 use Rattle.triple_arena_stack.specs.Capacity.{capacity_of}
 use Rattle.triple_arena_traits.specs.Items.{item, with_item}
-use Rattle.triple_arena_traits.specs.ItemLaws.{joined, with_item-past}
+use Rattle.triple_arena_traits.specs.ItemLaws.{joined, with_item-past, with_item_same}
 use Rattle.triple_arena_traits.specs.Entries.{with_generation_in}
-use Rattle.triple_arena_traits.specs.ArenaState.{ArenaState, slot_count, capacity, entry, with_value, IsWellFormed}
+use Rattle.triple_arena_traits.specs.ArenaState.{ArenaState, slot_count, capacity, entry, with_value, is_free, IsWellFormed}
 use Rattle.triple_arena_traits.specs.Ending.{removed, invalidated, cleared}
-use Rattle.triple_arena_traits.specs.FreeList.{tidied}
+use Rattle.triple_arena_traits.specs.FreeList.{trimmed, tidied}
 use Rattle.triple_arena_traits.specs.Capacity.{EndsBy, reallocated, with_limit}
 use Rattle.triple_arena_traits.specs.EntryLaws.{within_room}
 use Rattle.triple_arena_traits.specs.LengthLaws.{live_slot}
-use Rattle.triple_arena_traits.proofs.WellFormed.{IsWellFormed-with_entry, IsWellFormed-counter, IsWellFormed-removed, IsWellFormed-empty}
-use Rattle.triple_arena.proofs.Tidying.{IsWellFormed-tidied, with_item_same}
-use Rattle.triple_arena_traits.proofs.Limits.{ready_ends}
+use Rattle.triple_arena_traits.specs.WellFormedLaws.{IsWellFormed-with_entry, IsWellFormed-counter, IsWellFormed-removed, IsWellFormed-empty}
+use Rattle.triple_arena_traits.specs.FreeListLaws.{gaps_free, gaps_total, trimmed_length}
+use Rattle.triple_arena_traits.specs.Compression.{closed_up, compressed}
+use Rattle.triple_arena_traits.specs.CompressionLaws.{count-closed_up}
+use Rattle.triple_arena_traits.specs.LimitLaws.{ready_ends}
 
 module _ {T : Type 0} where
+  pub IsWellFormed-tidied : (s : ArenaState T) → IsWellFormed s → IsWellFormed (tidied s)
+  IsWellFormed-tidied s well =
+      record {
+        free_once = λ i. gaps_free (trimmed s.slots) i;
+        total = gaps_total 1 (trimmed s.slots);
+        fits = omega (arith, trimmed_length s.slots, well.fits);
+      }
+
+  none_free : (counter : ℕ) (vs : List T) (i : ℕ) → cond {A = ℕ} (is_free (item (closed_up counter vs) i)) 1 0 ≡ 0
+  none_free counter vs zero = refl
+  none_free counter [] (suc k) = refl
+  none_free counter (v ∷ vs) (suc zero) = refl
+  none_free counter (v ∷ vs) (suc (suc k)) = none_free counter vs (suc k)
+
+  pub IsWellFormed-compressed : (s : ArenaState T) (counter : ℕ) (vs : List T) → length vs ≤ capacity s → IsWellFormed (compressed s counter vs)
+  IsWellFormed-compressed s counter vs fits =
+      let size : length (closed_up counter vs) ≡ length vs = length-map {B = Option (ℕ × T)} vs (λ v. Some (counter, v)) in
+      record {
+        free_once = λ i. sym (none_free counter vs i);
+        total = omega (arith, count-closed_up counter vs, size);
+        fits = omega (arith, size);
+      }
+
   -- an entry that is changed, if there is one
   changed_stays : (change : ℕ × T → ℕ × T) (s : ArenaState T) (i : ℕ) → IsWellFormed s → IsWellFormed (record s { slots = with_item s.slots i (option_map change (entry s i)) })
   changed_stays change s i well = by_item (item s.slots i) refl

@@ -6,8 +6,8 @@ use Rattle.triple_arena_traits.specs.Entries.{entry_in}
 use Rattle.triple_arena_traits.specs.ArenaState.{ArenaState, capacity, slot_count, is_free, IsWellFormed}
 use Rattle.triple_arena_traits.specs.FreeList.{trimmed, tidied}
 use Rattle.triple_arena_traits.specs.Capacity.{EndsBy, ready_for_limit, with_limit}
-use Rattle.triple_arena_traits.proofs.ItemLists.{joined, item_past}
-use Rattle.triple_arena_traits.proofs.Tidying.{trimmed_length, IsInOrder-tidied}
+use Rattle.triple_arena_traits.specs.ItemLaws.{joined, item_past}
+use Rattle.triple_arena_traits.specs.FreeListLaws.{trimmed_length, IsInOrder-tidied}
 
 module _ {T : Type 0} where
   last_live : (y : Option (ℕ × T)) (ys : List (Option (ℕ × T))) → is_free (item (y ∷ ys) (length (y ∷ ys))) ≡ false → entry_in (y ∷ ys) (length (y ∷ ys)) ≡ None → ⊥

@@ -1,10 +1,12 @@
 -- What the entries are, where values alone change.
-use Rattle.std.proofs.Common.{◌≡◌, ℕ, zero, suc, ◌+◌, ◌==◌, Bool, true, false, List, [], ◌∷◌, length, Option, Some, None, is_some, cond, refl, ap}
+use Rattle.std.proofs.Common.{◌≡◌, ℕ, zero, suc, ◌+◌, ◌==◌, Bool, true, false, List, [], ◌∷◌, length, Option, Some, None, is_some, cond, refl, sym, ap, ◌∙◌}
 use Rattle.std.specs.List.{fold}
 use Rattle.std.specs.Option.{option_map, option_and_then}
 use Rattle.triple_arena_traits.specs.Items.{item}
 use Rattle.triple_arena_traits.specs.Entries.{entry_count, value_under}
-use Rattle.triple_arena_traits.specs.Values.{with_value_of, with_values_in, generations_in}
+use Rattle.triple_arena_traits.specs.Values.{with_value_of, with_values_in, generations_in, with_values_of, KeepsPointers}
+use Rattle.triple_arena_traits.specs.ItemLaws.{joined}
+use Rattle.triple_arena_traits.specs.ArenaState.{ArenaState, is_free, IsWellFormed}
 
 module _ {T : Type 0} where
   pub length-kept : (es ws : List (Option (ℕ × T))) → length (with_values_in es ws) ≡ length es
@@ -48,3 +50,30 @@ module _ {T : Type 0} where
       by_test : (b : Bool) → is_some (cond b (Some w.1) None) ≡ is_some (cond b (Some e.1) None)
       by_test true = refl
       by_test false = refl
+
+  free-kept : (e w : Option (ℕ × T)) → is_free (Some (with_value_of e w)) ≡ is_free (Some e)
+  free-kept None w = refl
+  free-kept (Some e) None = refl
+  free-kept (Some e) (Some w) = refl
+
+  pub IsWellFormed-kept : (s w : ArenaState T) → IsWellFormed s → IsWellFormed (with_values_of s w)
+  IsWellFormed-kept s w well =
+      record {
+        free_once = λ i. well.free_once i ∙ ap (λ b. cond b 1 0) (sym (at-kept is_free free-kept s.slots w.slots i));
+        total = rw (count-kept s.slots w.slots, length-kept s.slots w.slots) well.total;
+        fits = rw (length-kept s.slots w.slots) well.fits;
+      }
+
+  -- a walk that writes values keeps the pointers
+  pub keeps_pointers : (s : ArenaState T) → KeepsPointers s
+  keeps_pointers s w =
+      record {
+        pointers = λ q. at-kept (λ o. is_some (option_and_then (value_under q.1) (joined o))) (under-kept q.1) s.slots w.slots q.0;
+        generations = generations-kept s.slots w.slots;
+        len = count-kept s.slots w.slots;
+        counter = refl;
+        free = refl;
+        room = refl;
+        limit = refl;
+        greatest = refl;
+      }

@@ -134,3 +134,6 @@ module _ {T : Type 0} where
 
   pub distinct-keys : (s : ArenaState T) → AreDistinct (keys s.slots)
   distinct-keys s = distinct_from 1 s.slots
+
+pub pointer_is : (a b x y : ℕ) → a ≡ x → b ≡ y → ◌≡◌ {A = ℕ × ℕ} (a, b) (x, y)
+pointer_is a b x y p q = rw (p, q) refl

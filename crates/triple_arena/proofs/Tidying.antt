@@ -14,8 +14,8 @@ use Rattle.triple_arena.specs.declared.slot.ArenaSlot.{ArenaSlot}
 use Rattle.triple_arena.specs.declared.slot.ArenaSlot.TheVariants.{Free, Allocated}
 use Rattle.triple_arena_traits.specs.EntryLaws.{count_head}
 use Rattle.triple_arena.proofs.Links.{IsLinked-off}
-use Rattle.triple_arena_traits.specs.FreeListLaws.{gaps_above, gaps_free, gaps_total}
-use Rattle.triple_arena_traits.specs.StepLaws.{IsWellFormed-tidied}
+use Rattle.triple_arena_traits.specs.FreeListLaws.{gaps_above}
+use Rattle.triple_arena_traits.specs.StepLaws.{IsWellFormed-laid_out, IsWellFormed-tidied}
 
 module _ {T : Type 0} where
   entry_step : (xs : List (Option (ℕ × T))) (at : ℕ) (x : Option (ℕ × T)) → item xs (at + 1) ≡ Some x → drop at xs ≡ x ∷ drop (at + 1) xs
@@ -89,7 +89,7 @@ module _ {P T I G : Type 0} (number : G → ℕ) where
   -- slots whose free ones link in rising order
   pub Shows-laid_out : (es : List (ArenaSlot P T I G)) (root : Option ℕ) (len : ℕ) (s : ArenaState T) (xs : List (Option (ℕ × T))) (counter : ℕ) → map (entry_of number) es ≡ xs → IsLinked es root (gaps 1 xs) → len ≡ arena_len (laid_out s xs counter) → length xs ≤ capacity s → Shows number es root len (laid_out s xs counter)
   Shows-laid_out es root len s xs counter slots linked counted fits =
-      record { slots = slots; linked = linked; counted = counted; well = record { free_once = λ i. gaps_free xs i; total = gaps_total 1 xs; fits = fits } }
+      record { slots = slots; linked = linked; counted = counted; well = IsWellFormed-laid_out s xs counter fits }
 
   -- the slots end with the last entry, and their free ones link in rising order
   pub Shows-tidied : (old es : List (ArenaSlot P T I G)) (root root1 : Option ℕ) (len : ℕ) (s : ArenaState T) → map (entry_of number) es ≡ trimmed (map (entry_of number) old) → IsLinked es root1 (gaps 1 (trimmed (map (entry_of number) old))) → Shows number old root len s → Shows number es root1 len (tidied s)

@@ -8,12 +8,13 @@ ghost use Rattle.triple_arena_ptr.specs.Pointers.{Pointer};
 ghost use Rattle.triple_arena_traits.specs.ArenaState.{ArenaState, new_arena, arena_len, capacity, entry, look_up, with_value, IsWellFormed};
 ghost use Rattle.triple_arena_traits.specs.Insertion.{inserted};
 ghost use Rattle.triple_arena_traits.specs.Ending.{removed, invalidated, cleared};
-ghost use Rattle.triple_arena_traits.specs.FreeList.{tidied, without_free_end};
+ghost use Rattle.triple_arena_traits.specs.FreeList.{tidied, without_free_end, laid_out};
 ghost use Rattle.triple_arena_traits.specs.Walks.{keys, values};
 ghost use Rattle.triple_arena_traits.specs.Capacity.{EndsBy, reallocated, with_limit, grown};
 ghost use Rattle.triple_arena_traits.specs.Histories.{has, ModelCall, insertion, History, begun_with, and_then, given, ended, followed_by, is_live, Fits, Continues, IsModelCall, AreModelCalls};
 ghost use Rattle.triple_arena_traits.specs.Drains.{NoneWraps};
 ghost use Rattle.triple_arena_traits.specs.HeldSlots.{refill_slots};
+ghost use Rattle.triple_arena_traits.specs.Values.{with_values_of};
 ghost use Rattle.triple_arena_traits.specs.Compression.{closed_up, compressed, rank};
 
 use triple_arena_base::Recast;
@@ -38,7 +39,7 @@ pub fn capacity_under_limit<T>()
 
 /// A new arena is well formed, and each step of a well-formed arena leaves it so: an insertion
 /// where there is a place, a removal where there is an entry, a limit that no entry stands past,
-/// and every other step.
+/// slots that are laid out within the capacity, and every other step.
 pub fn well_formed_stays<T>()
     ensures fresh { (room : ℕ) (limit : Option ℕ) (greatest counter : ℕ)
         → IsWellFormed {T = T} (new_arena room limit greatest counter) }
@@ -60,6 +61,10 @@ pub fn well_formed_stays<T>()
         → IsWellFormed (with_limit s x) }
     ensures grown { (kind : StackKind) (s : ArenaState T) → IsWellFormed s
         → IsWellFormed (grown kind s) }
+    ensures with_values_of { (s w : ArenaState T) → IsWellFormed s
+        → IsWellFormed (with_values_of s w) }
+    ensures laid_out { (s : ArenaState T) (slots : List (Option (ℕ × T))) (counter : ℕ)
+        → length slots ≤ capacity s → IsWellFormed (laid_out s slots counter) }
     ensures counter { (s : ArenaState T) (counter : ℕ) → IsWellFormed s
         → IsWellFormed (record s { counter = counter }) }
 {}
@@ -97,10 +102,13 @@ pub fn pointers_are_fresh<T>()
         (λ a. wraps true greatest a.counter) true s ps }
 {}
 
-/// A recast gives and ends no pointer, whatever images the held items have.
+/// A recast gives and ends no pointer, whatever images the held items have, and leaves a well-formed
+/// arena well formed.
 pub fn recasts_are_fresh<I, T: Recast<I>>()
-    ensures { (s : ArenaState T) (items : List I) → Continues Fits s []
+    ensures fresh { (s : ArenaState T) (items : List I) → Continues Fits s []
         (record s { slots = refill_slots T.held T.refill s.slots items }) }
+    ensures well_formed { (s : ArenaState T) (items : List I) → IsWellFormed s
+        → IsWellFormed (record s { slots = refill_slots T.held T.refill s.slots items }) }
 {}
 
 /// A compression moves the entries to the indexes from 1 to their number, by `rank`: it gives no two

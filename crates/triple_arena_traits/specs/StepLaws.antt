@@ -9,7 +9,7 @@ use Rattle.triple_arena_traits.specs.ItemLaws.{joined, with_item-past, with_item
 use Rattle.triple_arena_traits.specs.Entries.{with_generation_in}
 use Rattle.triple_arena_traits.specs.ArenaState.{ArenaState, slot_count, capacity, entry, with_value, is_free, IsWellFormed}
 use Rattle.triple_arena_traits.specs.Ending.{removed, invalidated, cleared}
-use Rattle.triple_arena_traits.specs.FreeList.{trimmed, tidied}
+use Rattle.triple_arena_traits.specs.FreeList.{trimmed, tidied, laid_out}
 use Rattle.triple_arena_traits.specs.Capacity.{EndsBy, reallocated, with_limit}
 use Rattle.triple_arena_traits.specs.EntryLaws.{within_room}
 use Rattle.triple_arena_traits.specs.LengthLaws.{live_slot}
@@ -20,13 +20,12 @@ use Rattle.triple_arena_traits.specs.CompressionLaws.{count-closed_up}
 use Rattle.triple_arena_traits.specs.LimitLaws.{ready_ends}
 
 module _ {T : Type 0} where
+  -- slots that fit in the capacity, with the gaps between them as the free list
+  pub IsWellFormed-laid_out : (s : ArenaState T) (slots : List (Option (ℕ × T))) (counter : ℕ) → length slots ≤ capacity s → IsWellFormed (laid_out s slots counter)
+  IsWellFormed-laid_out s slots counter fits = record { free_once = gaps_free slots; total = gaps_total 1 slots; fits = fits }
+
   pub IsWellFormed-tidied : (s : ArenaState T) → IsWellFormed s → IsWellFormed (tidied s)
-  IsWellFormed-tidied s well =
-      record {
-        free_once = λ i. gaps_free (trimmed s.slots) i;
-        total = gaps_total 1 (trimmed s.slots);
-        fits = omega (arith, trimmed_length s.slots, well.fits);
-      }
+  IsWellFormed-tidied s well = IsWellFormed-laid_out s (trimmed s.slots) s.counter (omega (arith, trimmed_length s.slots, well.fits))
 
   none_free : (counter : ℕ) (vs : List T) (i : ℕ) → cond {A = ℕ} (is_free (item (closed_up counter vs) i)) 1 0 ≡ 0
   none_free counter vs zero = refl

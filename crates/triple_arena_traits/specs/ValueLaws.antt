@@ -1,5 +1,5 @@
 -- What the entries are, where values alone change.
-use Rattle.std.proofs.Common.{◌≡◌, ℕ, zero, suc, ◌+◌, ◌==◌, Bool, true, false, List, [], ◌∷◌, length, Option, Some, None, is_some, cond, refl, sym, ap, ◌∙◌}
+use Rattle.std.proofs.Common.{◌≡◌, ℕ, zero, suc, ◌+◌, ◌==◌, Bool, true, false, List, [], ◌∷◌, length, drop, Option, Some, None, is_some, cond, slice_get, refl, sym, ap, ◌∙◌}
 use Rattle.std.specs.List.{fold}
 use Rattle.std.specs.Option.{option_map, option_and_then}
 use Rattle.triple_arena_traits.specs.Items.{item}
@@ -7,6 +7,7 @@ use Rattle.triple_arena_traits.specs.Entries.{entry_count, value_under}
 use Rattle.triple_arena_traits.specs.Values.{with_value_of, with_values_in, generations_in, with_values_of, KeepsPointers}
 use Rattle.triple_arena_traits.specs.ItemLaws.{joined}
 use Rattle.triple_arena_traits.specs.ArenaState.{ArenaState, is_free, IsWellFormed}
+use Rattle.triple_arena_traits.specs.HeldSlots.{held_entry, refill_slots}
 
 module _ {T : Type 0} where
   pub length-kept : (es ws : List (Option (ℕ × T))) → length (with_values_in es ws) ≡ length es
@@ -77,3 +78,31 @@ module _ {T : Type 0} where
         limit = refl;
         greatest = refl;
       }
+
+  module _ {I : Type 0} (held : T → List I) (refill : T → List I → T) where
+    length-refilled : (xs : List (Option (ℕ × T))) (items : List I) → length (refill_slots held refill xs items) ≡ length xs
+    length-refilled [] items = refl
+    length-refilled (x ∷ xs) items = ap suc (length-refilled xs (drop (length (held_entry held refill x)) items))
+
+    counts-refilled : (a : ℕ) (xs : List (Option (ℕ × T))) (items : List I) → fold (λ (n : ℕ) (o : Option (ℕ × T)). n + cond (is_some o) 1 0) a (refill_slots held refill xs items) ≡ fold (λ (n : ℕ) (o : Option (ℕ × T)). n + cond (is_some o) 1 0) a xs
+    counts-refilled a [] items = refl
+    counts-refilled a (None ∷ xs) items = counts-refilled (a + 0) xs (drop (length (held_entry held refill None)) items)
+    counts-refilled a (Some e ∷ xs) items = counts-refilled (a + 1) xs (drop (length (held_entry held refill (Some e))) items)
+
+    free-refilled_at : (xs : List (Option (ℕ × T))) (items : List I) (k : ℕ) → is_free (slice_get (refill_slots held refill xs items) k) ≡ is_free (slice_get xs k)
+    free-refilled_at [] items k = refl
+    free-refilled_at (None ∷ xs) items zero = refl
+    free-refilled_at (Some e ∷ xs) items zero = refl
+    free-refilled_at (x ∷ xs) items (suc k) = free-refilled_at xs (drop (length (held_entry held refill x)) items) k
+
+    free-refilled : (xs : List (Option (ℕ × T))) (items : List I) (i : ℕ) → is_free (item (refill_slots held refill xs items) i) ≡ is_free (item xs i)
+    free-refilled xs items zero = refl
+    free-refilled xs items (suc k) = free-refilled_at xs items k
+
+    pub IsWellFormed-refilled : (s : ArenaState T) (items : List I) → IsWellFormed s → IsWellFormed (record s { slots = refill_slots held refill s.slots items })
+    IsWellFormed-refilled s items well =
+        record {
+          free_once = λ i. well.free_once i ∙ ap (λ b. cond b 1 0) (sym (free-refilled s.slots items i));
+          total = rw (counts-refilled 0 s.slots items, length-refilled s.slots items) well.total;
+          fits = rw (length-refilled s.slots items) well.fits;
+        }

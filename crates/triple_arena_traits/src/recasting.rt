@@ -13,7 +13,7 @@ use triple_arena_ptr::Ptr;
 
 /// Replaces the items that the values hold by their images, in the order of the indexes of the
 /// entries. Refuses with the first one that has no image: the items before it are replaced then, and
-/// it and all behind it stay.
+/// it and all behind it stay. Pointers, limit and capacity stay.
 pub fn recast_entries<I, P: Ptr, T: Recast<I>, A: CompactArenaTrait<P, T>, R: Recaster<Item = I>>(
     arena: &mut A,
     recaster: &R,
@@ -23,6 +23,7 @@ pub fn recast_entries<I, P: Ptr, T: Recast<I>, A: CompactArenaTrait<P, T>, R: Re
         arena.old }
     ensures answer { result ≡ recast_answer (R.image recaster.now)
         (held_all T.held (values (A.slots arena.old))) }
+    ensures keys { keys (A.slots arena.new) ≡ keys (A.slots arena.old) }
     ensures limit { A.limit arena.new ≡ A.limit arena.old }
     ensures capacity { A.fitting arena.new ≡ A.fitting arena.old }
     ensures fresh { Continues A.fits arena.old [] arena.new }

@@ -1,5 +1,9 @@
 use Rattle.triple_arena_traits.specs.HistoryLaws.{Continues-refilled}
+use Rattle.triple_arena_traits.specs.ValueLaws.{IsWellFormed-refilled}
 use Rattle.triple_arena.proofs.laws.recasts_are_fresh.Goals as goal
 
-pub returns : goal.returns
-returns g c = Continues-refilled g.T.Recast.held g.T.Recast.refill
+pub returns-clause-fresh : goal.returns-clause-fresh
+returns-clause-fresh g c = Continues-refilled g.T.Recast.held g.T.Recast.refill
+
+pub returns-clause-well_formed : goal.returns-clause-well_formed
+returns-clause-well_formed g c = IsWellFormed-refilled g.T.Recast.held g.T.Recast.refill

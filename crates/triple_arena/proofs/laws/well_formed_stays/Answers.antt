@@ -1,4 +1,5 @@
-use Rattle.triple_arena_traits.specs.StepLaws.{with_value_stays, invalidated_stays, removed_stays, cleared_stays, reallocated_stays, with_limit_stays, IsWellFormed-tidied}
+use Rattle.triple_arena_traits.specs.StepLaws.{with_value_stays, invalidated_stays, removed_stays, cleared_stays, reallocated_stays, with_limit_stays, IsWellFormed-laid_out, IsWellFormed-tidied}
+use Rattle.triple_arena_traits.specs.ValueLaws.{IsWellFormed-kept}
 use Rattle.triple_arena_traits.specs.WellFormedLaws.{IsWellFormed-empty, IsWellFormed-inserted, IsWellFormed-counter}
 use Rattle.triple_arena.proofs.FreeEnd.{IsWellFormed-without_free_end}
 use Rattle.triple_arena_traits.specs.EntryLaws.{well_formed-grown}
@@ -39,3 +40,9 @@ returns-clause-grown g c = well_formed-grown
 
 pub returns-clause-counter : goal.returns-clause-counter
 returns-clause-counter g c = IsWellFormed-counter
+
+pub returns-clause-with_values_of : goal.returns-clause-with_values_of
+returns-clause-with_values_of g c = IsWellFormed-kept
+
+pub returns-clause-laid_out : goal.returns-clause-laid_out
+returns-clause-laid_out g c = IsWellFormed-laid_out

@@ -12,6 +12,7 @@ walk-init g c = (
   refl,
   refl,
   λ h fits. fits,
+  refl,
 )
 
 pub unwrap-value-requires : goal.unwrap-value-requires
@@ -26,13 +27,15 @@ walk-preserved g c =
     let steps = rw c.in-Some.is at (g.met.A.CompactArenaTrait.advanced _ _ _ _ c.advance.ensures.steps) in
     let w = rw (keys_taken _ _ _ _ _ c.walk.invariant.0 steps) at c.walk.invariant.1 in
     let k = g.P.Ptr.numbers c.in-Some.p in
-    let same = ahead_by_keys (g.A.ArenaTrait.stand c.advance.new.self) (g.A.ArenaTrait.slots (g.A.ArenaTrait.with_value c.walk.arena k.0 c.recast.new.self)) (g.A.ArenaTrait.slots c.walk.arena) (keys_kept _ _ _ _ _ _ _ _ c.args.arena.now c.walk.arena k _ c.recast.new.self w) in (
+    let keys = keys_kept _ _ _ _ _ _ _ _ c.args.arena.now c.walk.arena k _ c.recast.new.self w in
+    let same = ahead_by_keys (g.A.ArenaTrait.stand c.advance.new.self) (g.A.ArenaTrait.slots (g.A.ArenaTrait.with_value c.walk.arena k.0 c.recast.new.self)) (g.A.ArenaTrait.slots c.walk.arena) keys in (
       forward_stays _ _ _ _ _ steps ∙ c.walk.invariant.0,
       rw same (walk_ok _ _ _ _ _ _ _ _ c.args.arena.now c.walk.arena k _ c.unwrap-value.result.now c.recast.new.self w
           (sym (ap option_copied_mut c.unwrap-value.ensures) ∙ c.get_mut.ensures.value) c.recast.ensures.after (sym c.recast.ensures.answer ∙ c.in_ok-recast.was)),
       g.met.A.ArenaTrait.limit_with_value _ _ _ ∙ c.walk.invariant.2,
       g.met.A.ArenaTrait.fitting_with_value _ _ _ ∙ c.walk.invariant.3,
       λ h fits. c.get_mut.ensures.fresh _ h (c.walk.invariant.4 h fits),
+      keys ∙ c.walk.invariant.5,
     )
 
 pub returns-in_err-recast-clause-after : goal.returns-in_err-recast-clause-after
@@ -51,6 +54,12 @@ returns-in_err-recast-clause-answer g c =
     err_is c.from_residual.result c.in_err-recast.field-0.0 c.from_residual.ensures.1
     ∙ (walk_err _ _ _ _ _ _ _ _ c.args.arena.now c.walk.arena k _ c.unwrap-value.result.now c.recast.new.self c.in_err-recast.field-0.0 w
     (sym (ap option_copied_mut c.unwrap-value.ensures) ∙ c.get_mut.ensures.value) c.recast.ensures.after (sym c.recast.ensures.answer ∙ c.in_err-recast.was)).1
+
+pub returns-in_err-recast-clause-keys : goal.returns-in_err-recast-clause-keys
+returns-in_err-recast-clause-keys g c =
+    let steps = rw c.in-Some.is at (g.met.A.CompactArenaTrait.advanced _ _ _ _ c.advance.ensures.steps) in
+    let w = rw (keys_taken _ _ _ _ _ c.walk.invariant.0 steps) at c.walk.invariant.1 in
+    keys_kept _ _ _ _ _ _ _ _ c.args.arena.now c.walk.arena (g.P.Ptr.numbers c.in-Some.p) _ c.recast.new.self w ∙ c.walk.invariant.5
 
 pub returns-in_err-recast-clause-limit : goal.returns-in_err-recast-clause-limit
 returns-in_err-recast-clause-limit g c = g.met.A.ArenaTrait.limit_with_value _ _ _ ∙ c.walk.invariant.2

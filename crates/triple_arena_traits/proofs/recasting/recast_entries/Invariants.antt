@@ -1,6 +1,6 @@
 use Rattle.std.proofs.Common.{◌≡◌, [], false}
 use Rattle.triple_arena_ptr.specs.Numbers.{greatest_index}
-use Rattle.triple_arena_traits.specs.Walks.{keys_ahead, steps_left}
+use Rattle.triple_arena_traits.specs.Walks.{keys, keys_ahead, steps_left}
 use Rattle.triple_arena_traits.specs.Histories.{Continues}
 use Rattle.triple_arena_traits.proofs.EntryWalks.{Walked}
 use Rattle.triple_arena_traits.proofs.recasting.recast_entries.Given as goal
@@ -14,6 +14,7 @@ invariant-walk g l =
     × (g.A.ArenaTrait.limit l.arena ≡ g.A.ArenaTrait.limit l.fn.arena)
     × (g.A.ArenaTrait.fitting l.arena ≡ g.A.ArenaTrait.fitting l.fn.arena)
     × Continues g.A.ArenaTrait.fits l.fn.arena [] l.arena
+    × (keys (g.A.ArenaTrait.slots l.arena) ≡ keys (g.A.ArenaTrait.slots l.fn.arena))
 
 abbrev pub decreases-walk : goal.decreases-walk
 decreases-walk g l = steps_left (greatest_index g.P.Inx.PtrInx.greatest) (g.A.ArenaTrait.stand l.advancer)

@@ -1,60 +1,17 @@
 -- How the free slots at the end go, and leave the free list.
-use Rattle.std.proofs.Common.{◌≡◌, ℕ, zero, suc, ◌+◌, ◌-◌, ◌<◌, ◌≤◌, ◌==◌, true, false, List, [], ◌∷◌, map, length, take, reverse, get_or, Option, Some, None, count_by, cond, refl, sym, ap, subst, ◌∙◌, inl, inr, arith}
+use Rattle.std.proofs.Common.{◌≡◌, ℕ, ◌==◌, false, List, [], ◌∷◌, map, length, take, reverse, Option, Some, None, cond, sym, ap, subst, ◌∙◌, inl, inr, arith}
 use Rattle.std.proofs.lemmas.Bool.{cases_lt}
 use Rattle.std.proofs.lemmas.List.{length-map}
-use Rattle.std.proofs.lemmas.Option.{slice_get-get_or}
 use Rattle.triple_arena_traits.specs.Items.{item}
-use Rattle.triple_arena_traits.specs.Entries.{entry_in}
-use Rattle.triple_arena_traits.specs.ArenaState.{ArenaState, slot_count, is_free, IsWellFormed}
+use Rattle.triple_arena_traits.specs.ArenaState.{ArenaState, is_free}
 use Rattle.triple_arena_traits.specs.FreeList.{trimmed, up_to, without_free_end}
 use Rattle.triple_arena.specs.Slot.{entry_of}
-use Rattle.triple_arena_traits.specs.EntryLaws.{entry-trimmed}
 use Rattle.triple_arena_traits.specs.LengthLaws.{trimmed_live}
 use Rattle.triple_arena.specs.Layout.{next_of, after, IsLinked, IsFreeList, Shows}
 use Rattle.triple_arena.specs.declared.slot.ArenaSlot.{ArenaSlot}
-use Rattle.triple_arena_traits.specs.ItemLaws.{joined, item_past, item-take}
-use Rattle.triple_arena_traits.proofs.Shortening.{trimmed_front}
-use Rattle.triple_arena_traits.specs.FreeListLaws.{trimmed_length, trimmed_done}
-use Rattle.triple_arena.proofs.UpTo.{up_to-cons, up_to-past, turned_twice, count-up_to, count-past, length_more, up_to_all}
-
-module _ {T : Type 0} where
-  item-trimmed : (xs : List (Option (ℕ × T))) (i : ℕ) → i ≤ length (trimmed xs) → item (trimmed xs) i ≡ item xs i
-  item-trimmed xs i h = ap (λ l. item l i) (trimmed_front xs) ∙ item-take (length (trimmed xs)) xs i h
-
-  -- the slots behind them are free
-  past_free : (xs : List (Option (ℕ × T))) (i : ℕ) → length (trimmed xs) < i → i ≤ length xs → is_free (item xs i) ≡ true
-  past_free xs zero h l = absurd (omega arith)
-  past_free xs (suc k) h l =
-      by_slot (get_or xs k None) (slice_get-get_or xs k None (omega arith)) (sym (entry-trimmed xs (suc k)) ∙ ap joined (item_past (trimmed xs) (suc k) h))
-    where
-      by_slot : (o : Option (ℕ × T)) → item xs (suc k) ≡ Some o → entry_in xs (suc k) ≡ None → is_free (item xs (suc k)) ≡ true
-      by_slot None there none = ap is_free there
-      by_slot (Some e) there none = absurd (let live = ap joined there in cc)
-
-  -- the free indexes are those of slots
-  all_within : (s : ArenaState T) → IsWellFormed s → up_to (slot_count s) s.free ≡ s.free
-  all_within s well = up_to_all (slot_count s) s.free (λ i h. rw (item_past s.slots i h) at (well.free_once i))
-
-  -- where the last slot has an entry, there is none to go
-  without_none : (s : ArenaState T) → IsWellFormed s → is_free (item s.slots (slot_count s)) ≡ false → without_free_end s ≡ s
-  without_none s well live = rw (trimmed_done s.slots live, all_within s well) refl
-
-  pub IsWellFormed-without_free_end : (s : ArenaState T) → IsWellFormed s → IsWellFormed (without_free_end s)
-  IsWellFormed-without_free_end s well =
-      let n = length (trimmed s.slots) in
-      let less = trimmed_length s.slots in
-      let popped : (i : ℕ) → n < i → i ≤ n + (length s.slots - n) → count_by (λ j. j == i) s.free ≡ 1 =
-      λ i h l. well.free_once i ∙ ap (λ b. cond b 1 0) (past_free s.slots i h (omega (arith, less, l))) in
-      let all : n + (length s.slots - n) ≡ length s.slots = omega (arith, less) in
-      let left = rw (all, all_within s well) at (length_more n (length s.slots - n) s.free popped) in
-      record {
-        free_once = λ i. elim (cases_lt n i) [
-          | inl beyond ↦ rw (item_past (trimmed s.slots) i beyond) (count-past n i s.free beyond)
-          | inr within ↦ rw (item-trimmed s.slots i within) (count-up_to n i s.free within ∙ well.free_once i)
-        ];
-        total = omega (arith, trimmed_live s.slots, well.total, left, less);
-        fits = omega (arith, less, well.fits);
-      }
+use Rattle.triple_arena_traits.specs.ItemLaws.{item-take}
+use Rattle.triple_arena_traits.proofs.FreeEnd.{without_none, IsWellFormed-without_free_end}
+use Rattle.triple_arena_traits.proofs.UpTo.{up_to-cons, up_to-past, turned_twice}
 
 module _ {P T I G : Type 0} where
   -- the links between slots of a front are those of all

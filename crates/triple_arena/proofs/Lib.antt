@@ -1,12 +1,10 @@
 pub mod Links
 pub mod Tidying
-pub mod UpTo
 pub mod Turning
 pub mod FreeEnd
 pub mod Pairs
 pub mod Keeping
 pub mod Listing
 pub mod Compaction
-pub mod Removals
 pub mod Refused
 pub mod Resizing

@@ -13,7 +13,7 @@ use Rattle.triple_arena.specs.declared.slot.ArenaSlot.TheVariants.{Free, Allocat
 use Rattle.triple_arena_traits.specs.ItemLaws.{item_within, item-with_same, item-with_other, length-with_item, map-with_item, item-map_some, item-map_none, with_item_same}
 use Rattle.triple_arena_traits.specs.EntryLaws.{count_head}
 use Rattle.triple_arena.proofs.Links.{chain_is, IsLinked-off}
-use Rattle.triple_arena.proofs.UpTo.{turned_more, up_to-cons, up_to-past}
+use Rattle.triple_arena_traits.proofs.UpTo.{turned_more, up_to-cons, up_to-past}
 
 at_most_once : (n m : ℕ) (b : Bool) → n + (1 + m) ≤ cond b 1 0 → (b ≡ true) × (n ≡ 0) × (m ≡ 0)
 at_most_once n m true h = (refl, omega arith, omega arith)

@@ -5,7 +5,6 @@ pub mod arena_iterators;
 mod base_arena;
 mod indexing;
 mod insert_entry;
-pub mod laws;
 mod lending_arena;
 mod lent_slots;
 mod recasting;
@@ -19,5 +18,5 @@ pub use slot::{ArenaSlot, FreeLink};
 pub use triple_arena_traits::{
     ArenaCloneFromWith, ArenaDirectInsertEntryTrait, ArenaDirectInsertTrait, ArenaInsertTrait,
     ArenaTrait, CompactArenaTrait, DisjointableArenaTrait, EntrySlot, LendingArena, answers,
-    close_up, copying, ends, entry_slots, pair_call, recast_entries, transferring,
+    close_up, copying, ends, entry_slots, laws, pair_call, recast_entries, transferring,
 };

@@ -3,6 +3,7 @@ pub mod Growth
 pub mod Inserted
 pub mod LookUps
 pub mod Shortening
+pub mod UpTo
 pub mod FreeEnd
 pub mod Pairs
 pub mod Listing
@@ -16,3 +17,4 @@ pub mod TransferLemmas
 pub mod Present
 pub mod Lending
 pub mod Refused
+pub mod Removals

@@ -2,7 +2,7 @@ use Rattle.std.proofs.Common.{Some, refl, ap, arith}
 use Rattle.triple_arena_traits.specs.CompressionLaws.{ranks, rank_below, rank_apart, keys-compressed, values-compressed}
 use Rattle.triple_arena_traits.specs.WalkLaws.{found}
 use Rattle.triple_arena_traits.specs.StepLaws.{IsWellFormed-compressed}
-use Rattle.triple_arena.proofs.laws.compression_moves.Goals as goal
+use Rattle.triple_arena_traits.proofs.laws.compression_moves.Goals as goal
 
 pub returns-clause-onto : goal.returns-clause-onto
 returns-clause-onto g c = λ s counter. ranks (Some counter) s.slots

@@ -1,6 +1,6 @@
 use Rattle.triple_arena_traits.specs.HistoryLaws.{Continues-refilled}
 use Rattle.triple_arena_traits.specs.ValueLaws.{IsWellFormed-refilled}
-use Rattle.triple_arena.proofs.laws.recasts_are_fresh.Goals as goal
+use Rattle.triple_arena_traits.proofs.laws.recasts_are_fresh.Goals as goal
 
 pub returns-clause-fresh : goal.returns-clause-fresh
 returns-clause-fresh g c = Continues-refilled g.T.Recast.held g.T.Recast.refill

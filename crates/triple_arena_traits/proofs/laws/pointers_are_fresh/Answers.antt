@@ -1,7 +1,7 @@
 use Rattle.std.proofs.Common.{refl}
 use Rattle.triple_arena_traits.specs.HistoryLaws.{Fits-empty, Fits-keys, Continues-none, Continues-call, Continues-calls, Continues-append, Fits-compressed, new_pointer, gone_for_good, never_live}
-use Rattle.triple_arena.proofs.Removals.{none_wraps}
-use Rattle.triple_arena.proofs.laws.pointers_are_fresh.Goals as goal
+use Rattle.triple_arena_traits.proofs.Removals.{none_wraps}
+use Rattle.triple_arena_traits.proofs.laws.pointers_are_fresh.Goals as goal
 
 pub returns-clause-empty : goal.returns-clause-empty
 returns-clause-empty g c = Fits-empty

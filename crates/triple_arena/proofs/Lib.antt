@@ -4,7 +4,6 @@ pub mod Turning
 pub mod FreeEnd
 pub mod Pairs
 pub mod Keeping
-pub mod Listing
 pub mod Compaction
 pub mod Refused
 pub mod Resizing

@@ -2,5 +2,4 @@ pub mod Slot
 pub mod SlotLaws
 pub mod Layout
 pub mod Lends
-pub mod Kept
 pub mod InsertEntry

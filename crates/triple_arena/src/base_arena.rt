@@ -27,7 +27,6 @@ mod copies;
 mod limit;
 
 use crate::arena_iterators::PtrAdvancer;
-use crate::lent_slots::LentSlots;
 use crate::slot::ArenaSlot;
 use crate::slots::Slots;
 use std::alloc::Global;
@@ -42,7 +41,7 @@ use triple_arena_traits::answers::{told, told_valid};
 use triple_arena_traits::entry_slots::{first_live, last_live, ptr_at, slot_at, work_on_two};
 use triple_arena_traits::pair_call::{AtEntries, AtValues, PairCall};
 use triple_arena_traits::{
-    ArenaInsertTrait, ArenaTrait, DisjointableArenaTrait, EntrySlot, LendingArena,
+    ArenaInsertTrait, ArenaTrait, DisjointableArenaTrait, EntrySlot, LendingArena, LentSlots,
 };
 
 /// A generational arena over a stack of slots.
@@ -606,7 +605,7 @@ impl<P: Ptr, T, S: NonZeroInxGenericStack<ArenaSlot<P, T>>> Arena<P, T, S> {
     }
 
     // The slots, so that their values alone can be written.
-    pub(crate) fn lend_slots(&mut self) -> LentSlots<'_, P, T>
+    pub(crate) fn lend_slots(&mut self) -> LentSlots<'_, P, T, ArenaSlot<P, T>>
         ensures* writes_back { sem 𝓛 (lends_values ⟦<Arena<P, T, S> as LendingArena>⟧.arena_row
             self.entry result.tie (with_values_of self.old)) }
         ensures slots { map (entry_of P.Gen.number) result.now ≡ self.old.slots }

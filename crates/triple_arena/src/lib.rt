@@ -6,7 +6,6 @@ mod base_arena;
 mod indexing;
 mod insert_entry;
 mod lending_arena;
-mod lent_slots;
 mod recasting;
 mod slot;
 mod slots;

@@ -1,10 +1,8 @@
 //! A slot of an arena.
 
 ghost use Rattle.std.specs.Prelude.{◌≡◌, ◌≢◌, ◌==◌, cond, None, Some, IsSome, IsNone};
-ghost use Rattle.std.specs.Borrow.{LendsIf, sem};
 ghost use Rattle.std.specs.Int.NonZero.{non_zero_usize_get};
-ghost use Rattle.std.specs.Option.{option_map, option_copied_mut};
-ghost use Rattle.triple_arena_traits.specs.Disjoint.{value_of};
+ghost use Rattle.std.specs.Option.{option_map};
 ghost use Rattle.triple_arena.specs.Slot.{entry_of, next_free, with_slot_value, with_slot_generation};
 
 use std::num::NonZeroUsize;
@@ -65,31 +63,6 @@ impl<P: Ptr, T> Default for ArenaSlot<P, T> {
 }
 
 impl<P: Ptr, T> ArenaSlot<P, T> {
-    ghost use Rattle.triple_arena.specs.contracts.slot.ArenaSlot.{the_row};
-
-    // The generation of the entry, if there is one.
-    pub(crate) fn generation(&self) -> Option<P::Gen>
-        ensures { option_map P.Gen.number result
-            ≡ option_map (λ e. e.0) (entry_of P.Gen.number self.now) }
-    {
-        match self {
-            ArenaSlot::Allocated(generation, _) => Some(*generation),
-            ArenaSlot::Free(_) => None,
-        }
-    }
-
-    // The value of the entry, for writing, if there is one.
-    pub(crate) fn live_value_mut(&mut self) -> Option<&mut T>
-        ensures* lends { sem 𝓛 (LendsIf (the_row P.row T.row P.Inx.row P.Gen.row) T.row self.entry
-            result (with_slot_value self.old) self.old) }
-        ensures value { option_copied_mut result ≡ value_of (entry_of P.Gen.number self.old) }
-    {
-        match self {
-            ArenaSlot::Allocated(_, value) => Some(value),
-            ArenaSlot::Free(_) => None,
-        }
-    }
-
     // Takes the link out of a free slot.
     pub(crate) fn into_link(self) -> FreeLink
         requires { IsNone (entry_of P.Gen.number self) }
@@ -136,7 +109,7 @@ impl<P: Ptr, T> ArenaSlot<P, T> {
 }
 
 impl<P: Ptr, T> EntrySlot<P, T> for ArenaSlot<P, T> {
-    ghost use Rattle.triple_arena.specs.SlotLaws.{entry_of-written};
+    ghost use Rattle.triple_arena.specs.SlotLaws.{entry_of-written, with_own_slot_value, free-with_slot_value};
 
     // the entry, as the state of an arena has it
     ghost entry = { entry_of P.Gen.number };
@@ -177,4 +150,8 @@ impl<P: Ptr, T> EntrySlot<P, T> for ArenaSlot<P, T> {
     }
 
     ghost entry_with_value = { entry_of-written P.Gen.number };
+
+    ghost with_own_value = { with_own_slot_value P.Gen.number };
+
+    ghost vacant_with_value = { free-with_slot_value P.Gen.number };
 }

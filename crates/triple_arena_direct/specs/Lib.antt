@@ -3,7 +3,6 @@ pub mod Slot
 pub mod SlotLaws
 pub mod Layout
 pub mod Lends
-pub mod Kept
 pub mod Values
 pub mod StepLaws
 pub mod InsertionLaws

@@ -24,7 +24,6 @@ mod compaction;
 mod transfer;
 
 use crate::direct_arena_iterators::PtrAdvancer;
-use crate::lent_slots::LentSlots;
 use crate::slot::DirectSlot;
 use crate::slots::Slots;
 use std::alloc::Global;
@@ -43,7 +42,7 @@ use triple_arena_traits::entry_slots::{
 use triple_arena_traits::pair_call::{AtEntries, AtValues, PairCall};
 use triple_arena_traits::{
     ArenaCloneFromWith, ArenaDirectInsertTrait, ArenaTrait, CompactArenaTrait,
-    DisjointableArenaTrait, EntrySlot, LendingArena,
+    DisjointableArenaTrait, EntrySlot, LendingArena, LentSlots,
 };
 
 /// An arena over a stack of slots, whose entries are put under pointers of the caller's choice: it
@@ -502,7 +501,7 @@ impl<P: Ptr, T, S: NonZeroInxGenericStack<DirectSlot<P, T>>> DirectArena<P, T, S
     }
 
     // The slots, so that their values alone can be written.
-    pub(crate) fn lend_slots(&mut self) -> LentSlots<'_, P, T>
+    pub(crate) fn lend_slots(&mut self) -> LentSlots<'_, P, T, DirectSlot<P, T>>
         ensures* writes_back { sem 𝓛 (lends_values
             ⟦<DirectArena<P, T, S> as LendingArena>⟧.arena_row
             self.entry result.tie (with_values_of self.old)) }

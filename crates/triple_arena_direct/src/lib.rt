@@ -7,7 +7,6 @@ mod indexing;
 mod insert_entry;
 pub mod laws;
 mod lending_arena;
-mod lent_slots;
 mod recaster;
 mod renaming;
 mod slot;

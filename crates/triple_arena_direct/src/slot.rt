@@ -1,9 +1,6 @@
 //! A slot of a direct arena.
 
 ghost use Rattle.std.specs.Prelude.{◌≡◌, None};
-ghost use Rattle.std.specs.Borrow.{LendsIf, sem};
-ghost use Rattle.std.specs.Option.{option_map, option_copied_mut};
-ghost use Rattle.triple_arena_traits.specs.Disjoint.{value_of};
 ghost use Rattle.triple_arena_direct.specs.Slot.{slot_entry, with_slot_value};
 
 use triple_arena_ptr::{Ptr, PtrGen};
@@ -27,35 +24,8 @@ impl<P: Ptr, T> Default for DirectSlot<P, T> {
     }
 }
 
-impl<P: Ptr, T> DirectSlot<P, T> {
-    ghost use Rattle.triple_arena_direct.specs.contracts.slot.DirectSlot.{the_row};
-
-    // The generation of the entry, if there is one.
-    pub(crate) fn generation(&self) -> Option<P::Gen>
-        ensures { option_map P.Gen.number result
-            ≡ option_map (λ e. e.0) (slot_entry P.Gen.number self.now) }
-    {
-        match self {
-            DirectSlot::Allocated(generation, _) => Some(*generation),
-            DirectSlot::Free => None,
-        }
-    }
-
-    // The value of the entry, for writing, if there is one.
-    pub(crate) fn live_value_mut(&mut self) -> Option<&mut T>
-        ensures* lends { sem 𝓛 (LendsIf (the_row P.row T.row P.Inx.row P.Gen.row) T.row self.entry
-            result (with_slot_value self.old) self.old) }
-        ensures value { option_copied_mut result ≡ value_of (slot_entry P.Gen.number self.old) }
-    {
-        match self {
-            DirectSlot::Allocated(_, value) => Some(value),
-            DirectSlot::Free => None,
-        }
-    }
-}
-
 impl<P: Ptr, T> EntrySlot<P, T> for DirectSlot<P, T> {
-    ghost use Rattle.triple_arena_direct.specs.SlotLaws.{slot_entry-written};
+    ghost use Rattle.triple_arena_direct.specs.SlotLaws.{slot_entry-written, with_own_slot_value, free-with_slot_value};
 
     // the entry, as the state of an arena has it
     ghost entry = { slot_entry P.Gen.number };
@@ -99,4 +69,8 @@ impl<P: Ptr, T> EntrySlot<P, T> for DirectSlot<P, T> {
     }
 
     ghost entry_with_value = { slot_entry-written P.Gen.number };
+
+    ghost with_own_value = { with_own_slot_value P.Gen.number };
+
+    ghost vacant_with_value = { free-with_slot_value P.Gen.number };
 }

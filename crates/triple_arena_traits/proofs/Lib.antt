@@ -6,6 +6,7 @@ pub mod Shortening
 pub mod UpTo
 pub mod FreeEnd
 pub mod Pairs
+pub mod KeptSlots
 pub mod Listing
 pub mod Walking
 pub mod Visiting

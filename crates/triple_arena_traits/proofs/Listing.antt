@@ -1,7 +1,10 @@
--- How many entries there are.
-use Rattle.std.proofs.Common.{◌≡◌, ℕ, ◌≤◌, ◌<◌, List, [], ◌∷◌, length, cond, Option, Some, None, is_some, refl, arith}
+-- How many entries and items there are.
+use Rattle.std.proofs.Common.{◌≡◌, ℕ, ◌≤◌, ◌<◌, List, [], ◌∷◌, map, length, cond, Option, Some, None, is_some, refl, arith}
+use Rattle.std.proofs.lemmas.List.{length-map}
 use Rattle.std.proofs.lemmas.List.Sums.{sum_by-cons}
 use Rattle.triple_arena_traits.specs.Entries.{entry_count}
+use Rattle.triple_arena_traits.specs.Walks.{entries_from}
+use Rattle.triple_arena_traits.specs.WalkLaws.{length-entries_from}
 
 module _ {T : Type 0} where
   -- there are no more entries than slots
@@ -15,3 +18,8 @@ module _ {A : Type 0} where
   pub first_of : (xs : List A) → 0 < length xs → (x : A) × (rest : List A) × (xs ≡ x ∷ rest)
   first_of [] some = absurd (omega arith)
   first_of (x ∷ rest) some = (x, rest, refl)
+
+module _ {X T : Type 0} (entry : X → Option (ℕ × T)) where
+  -- there are no more items than slots
+  pub entries_within : (i : ℕ) (xs : List X) → length (entries_from i (map entry xs)) ≤ length xs
+  entries_within i xs = omega (arith, length-entries_from i (map entry xs), count_within (map entry xs), length-map xs entry)

@@ -21,6 +21,7 @@ pub mod Places
 pub mod Values
 pub mod ValueLaws
 pub mod Lent
+pub mod Kept
 pub mod Drains
 pub mod Transfers
 pub mod Copying

@@ -11,8 +11,7 @@ use Rattle.triple_arena_traits.specs.Entries.{look_up_in, entry_in, value_under,
 use Rattle.triple_arena_traits.specs.ArenaState.{ArenaState, new_arena, capacity, entry, look_up, slot_count, arena_len, is_free, IsWellFormed}
 use Rattle.triple_arena_traits.specs.Insertion.{place_among, place, inserted_among, inserted}
 use Rattle.triple_arena_traits.specs.Ending.{removed, invalidated}
-use Rattle.triple_arena_traits.specs.EntryLaws.{count_head, first_free}
-use Rattle.triple_arena_traits.specs.EntryLaws.{by_case}
+use Rattle.triple_arena_traits.specs.EntryLaws.{count_head, first_free, by_case}
 use Rattle.triple_arena_traits.specs.LengthLaws.{count-with_item}
 
 -- the entry at an index is this one

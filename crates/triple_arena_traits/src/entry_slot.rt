@@ -1,8 +1,9 @@
 //! What a slot is, for code that works on the slots of any arena.
 
 ghost use Rattle.std.specs.Prelude.{◌≡◌, ℕ, Option, Some, None, IsSome, is_some, option_copied};
-ghost use Rattle.std.specs.Borrow.{sem, Lends};
-ghost use Rattle.std.specs.Option.{option_map, option_and_then};
+ghost use Rattle.std.specs.Borrow.{sem, Lends, LendsIf};
+ghost use Rattle.std.specs.Option.{option_map, option_and_then, option_copied_mut};
+ghost use Rattle.triple_arena_traits.specs.Disjoint.{value_of};
 ghost use Rattle.triple_arena_traits.specs.Entries.{value_under};
 
 use triple_arena_ptr::{Ptr, PtrGen};
@@ -47,11 +48,40 @@ pub trait EntrySlot<P: Ptr, T>: Sized {
     ghost entry_with_value: { (slot : Self) (value : T) → entry (with_value slot value)
         ≡ option_map (λ e. (e.0, value)) (entry slot) };
 
+    // a slot with its own value is itself
+    ghost with_own_value: { (slot : Self) (e : ℕ × T) → entry slot ≡ Some e
+        → with_value slot e.1 ≡ slot };
+
+    // a slot without an entry stays so, whatever value it is given
+    ghost vacant_with_value: { (slot : Self) (value : T) → entry slot ≡ None
+        → with_value slot value ≡ slot };
+
     /// Whether it has an entry.
     final fn is_live(&self) -> bool
         ensures { result ≡ is_some (entry self.now) }
     {
         self.entry().is_some()
+    }
+
+    /// The generation of its entry, if it has one.
+    final fn generation(&self) -> Option<P::Gen>
+        ensures { option_map P.Gen.number result ≡ option_map (λ e. e.0) (entry self.now) }
+    {
+        let (generation, _value) = self.entry()?;
+        Some(generation)
+    }
+
+    /// The value of its entry, for writing, if it has one.
+    final fn live_value_mut(&mut self) -> Option<&mut T>
+        ensures* lends { sem 𝓛 (LendsIf Self.row T.row self.entry result (with_value self.old)
+            self.old) }
+        ensures value { option_copied_mut result ≡ value_of (entry self.old) }
+    {
+        if self.is_live() {
+            Some(self.value_mut())
+        } else {
+            None
+        }
     }
 
     /// The value of its entry, if that has this generation.

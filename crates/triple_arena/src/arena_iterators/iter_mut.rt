@@ -10,13 +10,12 @@ ghost use Rattle.triple_arena_traits.specs.Lent.{lent_rest, lent_name, lends_val
 ghost use Rattle.triple_arena_traits.specs.Values.{with_values_of, KeepsPointers};
 
 use crate::base_arena::Arena;
-use crate::lent_slots::LentSlots;
 use crate::slot::ArenaSlot;
 use std::marker::Model;
 use std::num::NonZeroUsize;
 use triple_arena_ptr::{Ptr, PtrGen, PtrInx};
 use triple_arena_stack::NonZeroInxGenericStack;
-use triple_arena_traits::LendingArena;
+use triple_arena_traits::{LendingArena, LentSlots};
 
 /// The entries of an arena in the order of their indexes, each as its pointer and its value, which
 /// is lent for writing.
@@ -24,7 +23,7 @@ use triple_arena_traits::LendingArena;
 /// A clause sees it as the entries that are left, each after its pointer, and the name of its loan.
 #[derive(Drop)]
 pub struct IterMut<'a, P: Ptr, T> {
-    slots: LentSlots<'a, P, T>,
+    slots: LentSlots<'a, P, T, ArenaSlot<P, T>>,
     // How many slots are left.
     left: usize,
     // The index of the first of them.

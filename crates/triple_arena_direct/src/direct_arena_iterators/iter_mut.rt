@@ -9,13 +9,12 @@ ghost use Rattle.triple_arena_traits.specs.Lent.{lent_rest, lent_name, lends_val
 ghost use Rattle.triple_arena_direct.specs.Values.{with_values_of, KeepsPointers};
 
 use crate::direct_arena::DirectArena;
-use crate::lent_slots::LentSlots;
 use crate::slot::DirectSlot;
 use std::marker::Model;
 use std::num::NonZeroUsize;
 use triple_arena_ptr::{Ptr, PtrGen, PtrInx};
 use triple_arena_stack::NonZeroInxGenericStack;
-use triple_arena_traits::LendingArena;
+use triple_arena_traits::{LendingArena, LentSlots};
 
 /// The entries of a direct arena in the order of their indexes, each as its pointer and its value, which
 /// is lent for writing.
@@ -23,7 +22,7 @@ use triple_arena_traits::LendingArena;
 /// A clause sees it as the entries that are left, each after its pointer, and the name of its loan.
 #[derive(Drop)]
 pub struct IterMut<'a, P: Ptr, T> {
-    slots: LentSlots<'a, P, T>,
+    slots: LentSlots<'a, P, T, DirectSlot<P, T>>,
     // How many slots are left.
     left: usize,
     // The index of the first of them.

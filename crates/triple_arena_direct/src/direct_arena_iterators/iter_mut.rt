@@ -16,8 +16,8 @@ use triple_arena_ptr::{Ptr, PtrGen, PtrInx};
 use triple_arena_stack::NonZeroInxGenericStack;
 use triple_arena_traits::{LendingArena, LentSlots};
 
-/// The entries of a direct arena in the order of their indexes, each as its pointer and its value, which
-/// is lent for writing.
+/// The entries of a direct arena in the order of their indexes, each as its pointer and its value,
+/// which is lent for writing.
 ///
 /// A clause sees it as the entries that are left, each after its pointer, and the name of its loan.
 #[derive(Drop)]

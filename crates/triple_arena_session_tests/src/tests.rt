@@ -4,6 +4,7 @@ mod commands;
 mod devices;
 mod forms;
 mod kind_run;
+mod named_entries;
 mod program;
 mod replies;
 mod runs;

@@ -9,7 +9,6 @@ pub mod first_history;
 pub mod graph;
 pub mod guest_book;
 pub mod links;
-pub mod named_entries;
 pub mod netlist;
 pub mod side_table;
 pub mod small_ptr;

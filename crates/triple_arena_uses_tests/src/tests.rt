@@ -7,7 +7,6 @@ mod first_arena;
 mod graph;
 mod guest_book;
 mod links;
-mod named_entries;
 mod netlist;
 mod side_table;
 mod small_ptr;

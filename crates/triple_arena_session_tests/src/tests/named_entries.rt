@@ -1,6 +1,6 @@
 use std::alloc::Global;
 use triple_arena_session::{Command, Reply, Session};
-use triple_arena_uses::named_entries::{answers, enter, run_to_malformed};
+use triple_arena_session_uses::named_entries::{answers, enter, run_to_malformed};
 
 #[test]
 fn names_find_what_they_name(rt: HostRuntime) {

@@ -3,6 +3,7 @@
 use super::any_stack::exchange_places;
 use super::calls::{Call, Tested, Told, Wrong, both, follow};
 use super::stacks::{in_four_places, on_fixed, on_heap, on_limited};
+use std::alloc::Global;
 use triple_arena_stack::pair_of;
 
 // Three tokens on a stack with room for four, and each call on them.
@@ -52,18 +53,23 @@ const EACH_CALL: &[(Call, Told)] = &[
     (Call::Pop, Told::Nothing),
 ];
 
-#[test]
-fn each_call_on_each_stack(rt: HostRuntime) -> Result<(), Wrong> {
+// Tries a table on each of the four stacks, with room for four.
+fn on_each_stack(alloc: Global, steps: &[(Call, Told)]) -> Result<(), Wrong> {
     both(
         both(
-            on_heap(rt.alloc(), Some(4), EACH_CALL),
-            on_limited(rt.alloc(), Some(4), EACH_CALL),
+            on_heap(alloc, Some(4), steps),
+            on_limited(alloc, Some(4), steps),
         ),
         both(
-            on_fixed(rt.alloc(), Some(4), EACH_CALL),
-            in_four_places(rt.alloc(), Some(4), EACH_CALL),
+            on_fixed(alloc, Some(4), steps),
+            in_four_places(alloc, Some(4), steps),
         ),
     )
+}
+
+#[test]
+fn each_call_on_each_stack(rt: HostRuntime) -> Result<(), Wrong> {
+    on_each_stack(rt.alloc(), EACH_CALL)
 }
 
 // Two of three numbers, tenfold by `pair_of`: what stood there.

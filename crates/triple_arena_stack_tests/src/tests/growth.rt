@@ -7,130 +7,118 @@ use super::stacks::{
 };
 use std::alloc::Global;
 
+// A new stack on the heap gets room for four, and then twice as much.
+const TO_FOUR_AND_TO_TWICE: &[(Call, Told)] = &[
+    (Call::Bounds, Told::Bounds(0, 0, None)),
+    (Call::Push(1), Told::At(1)),
+    (Call::Capacity, Told::Size(4)),
+    (Call::Push(2), Told::At(2)),
+    (Call::Capacity, Told::Size(4)),
+    (Call::Push(3), Told::At(3)),
+    (Call::Capacity, Told::Size(4)),
+    (Call::Push(4), Told::At(4)),
+    (Call::Capacity, Told::Size(4)),
+    (Call::Push(5), Told::At(5)),
+    (Call::Capacity, Told::Size(8)),
+    (Call::Items, Told::Items([1, 2, 3, 4, 5, 0])),
+];
+
+// Reallocation keeps room for the items.
+const ROOM_FOR_THE_ITEMS: &[(Call, Told)] = &[
+    (Call::Push(1), Told::At(1)),
+    (Call::Push(2), Told::At(2)),
+    (Call::Push(3), Told::At(3)),
+    (Call::Capacity, Told::Size(4)),
+    (Call::Reallocate(0), Told::Nothing),
+    (Call::Capacity, Told::Size(3)),
+    (Call::Push(4), Told::At(4)),
+    (Call::Capacity, Told::Size(6)),
+    (Call::Items, Told::Items([1, 2, 3, 4, 0, 0])),
+];
+
 #[test]
-fn a_heap_stack_grows_to_four_and_then_to_twice(rt: HostRuntime) -> Result<(), Wrong> {
-    on_heap(
-        rt.alloc(),
-        None,
-        &[
-            (Call::Bounds, Told::Bounds(0, 0, None)),
-            (Call::Push(1), Told::At(1)),
-            (Call::Capacity, Told::Size(4)),
-            (Call::Push(2), Told::At(2)),
-            (Call::Capacity, Told::Size(4)),
-            (Call::Push(3), Told::At(3)),
-            (Call::Capacity, Told::Size(4)),
-            (Call::Push(4), Told::At(4)),
-            (Call::Capacity, Told::Size(4)),
-            (Call::Push(5), Told::At(5)),
-            (Call::Capacity, Told::Size(8)),
-            (Call::Items, Told::Items([1, 2, 3, 4, 5, 0])),
-        ],
+fn a_heap_stack_grows_and_keeps_room_for_its_items(rt: HostRuntime) -> Result<(), Wrong> {
+    both(
+        on_heap(rt.alloc(), None, TO_FOUR_AND_TO_TWICE),
+        on_heap(rt.alloc(), None, ROOM_FOR_THE_ITEMS),
     )
 }
 
+// A new stack whose limit can be set grows up to it.
+const UP_TO_THE_LIMIT: &[(Call, Told)] = &[
+    (Call::Push(0), Told::BeyondMaxCapacity),
+    (Call::SetMaxCapacity(6), Told::Nothing),
+    (Call::PushReallocating(1), Told::At(1)),
+    (Call::Capacity, Told::Size(4)),
+    (Call::PushReallocating(2), Told::At(2)),
+    (Call::Capacity, Told::Size(4)),
+    (Call::PushReallocating(3), Told::At(3)),
+    (Call::Capacity, Told::Size(4)),
+    (Call::PushReallocating(4), Told::At(4)),
+    (Call::Capacity, Told::Size(4)),
+    (Call::PushReallocating(5), Told::At(5)),
+    (Call::Capacity, Told::Size(6)),
+    (Call::PushReallocating(6), Told::At(6)),
+    (Call::Capacity, Told::Size(6)),
+    (Call::Push(7), Told::BeyondMaxCapacity),
+    (Call::Bounds, Told::Bounds(6, 6, Some(6))),
+    (Call::Items, Told::Items([1, 2, 3, 4, 5, 6])),
+];
+
+// A limit leaves the room of a stack that is made for eight items.
+const LIMITS_LEAVE_THE_ROOM: &[(Call, Told)] = &[
+    (Call::SetMaxCapacity(2), Told::Nothing),
+    (Call::Bounds, Told::Bounds(0, 2, Some(2))),
+    (Call::SetMaxCapacity(100), Told::Nothing),
+    (Call::Bounds, Told::Bounds(0, 8, Some(100))),
+    (Call::Reallocate(101), Told::BeyondMaxCapacity),
+    (Call::Reallocate(3), Told::Nothing),
+    (Call::Bounds, Told::Bounds(0, 3, Some(100))),
+    (Call::PushWithinCapacity(1), Told::At(1)),
+    (Call::PushWithinCapacity(2), Told::At(2)),
+    (Call::PushWithinCapacity(3), Told::At(3)),
+    (Call::SetMaxCapacity(2), Told::BelowLength),
+    (Call::Bounds, Told::Bounds(3, 3, Some(100))),
+    (Call::SetMaxCapacity(3), Told::Nothing),
+    (Call::SetMaxCapacity(2), Told::BelowLength),
+    (Call::Bounds, Told::Bounds(3, 3, Some(3))),
+    (Call::Items, Told::Items([1, 2, 3, 0, 0, 0])),
+];
+
 #[test]
-fn a_limited_stack_grows_to_its_limit(rt: HostRuntime) -> Result<(), Wrong> {
-    on_limited(
-        rt.alloc(),
-        None,
-        &[
-            (Call::Push(0), Told::BeyondMaxCapacity),
-            (Call::SetMaxCapacity(6), Told::Nothing),
-            (Call::PushReallocating(1), Told::At(1)),
-            (Call::Capacity, Told::Size(4)),
-            (Call::PushReallocating(2), Told::At(2)),
-            (Call::Capacity, Told::Size(4)),
-            (Call::PushReallocating(3), Told::At(3)),
-            (Call::Capacity, Told::Size(4)),
-            (Call::PushReallocating(4), Told::At(4)),
-            (Call::Capacity, Told::Size(4)),
-            (Call::PushReallocating(5), Told::At(5)),
-            (Call::Capacity, Told::Size(6)),
-            (Call::PushReallocating(6), Told::At(6)),
-            (Call::Capacity, Told::Size(6)),
-            (Call::Push(7), Told::BeyondMaxCapacity),
-            (Call::Bounds, Told::Bounds(6, 6, Some(6))),
-            (Call::Items, Told::Items([1, 2, 3, 4, 5, 6])),
-        ],
+fn a_limited_stack_grows_to_its_limit_which_leaves_its_room(rt: HostRuntime) -> Result<(), Wrong> {
+    both(
+        on_limited(rt.alloc(), None, UP_TO_THE_LIMIT),
+        on_limited(rt.alloc(), Some(8), LIMITS_LEAVE_THE_ROOM),
     )
 }
 
-#[test]
-fn a_limit_leaves_the_room(rt: HostRuntime) -> Result<(), Wrong> {
-    on_limited(
-        rt.alloc(),
-        Some(8),
-        &[
-            (Call::SetMaxCapacity(2), Told::Nothing),
-            (Call::Bounds, Told::Bounds(0, 2, Some(2))),
-            (Call::SetMaxCapacity(100), Told::Nothing),
-            (Call::Bounds, Told::Bounds(0, 8, Some(100))),
-            (Call::Reallocate(101), Told::BeyondMaxCapacity),
-            (Call::Reallocate(3), Told::Nothing),
-            (Call::Bounds, Told::Bounds(0, 3, Some(100))),
-            (Call::PushWithinCapacity(1), Told::At(1)),
-            (Call::PushWithinCapacity(2), Told::At(2)),
-            (Call::PushWithinCapacity(3), Told::At(3)),
-            (Call::SetMaxCapacity(2), Told::BelowLength),
-            (Call::Bounds, Told::Bounds(3, 3, Some(100))),
-            (Call::SetMaxCapacity(3), Told::Nothing),
-            (Call::SetMaxCapacity(2), Told::BelowLength),
-            (Call::Bounds, Told::Bounds(3, 3, Some(3))),
-            (Call::Items, Told::Items([1, 2, 3, 0, 0, 0])),
-        ],
-    )
-}
+// A stack of fixed room for two items keeps it.
+const KEEPS_ROOM_FOR_TWO: &[(Call, Told)] = &[
+    (Call::PushWithinCapacity(1), Told::At(1)),
+    (Call::Push(2), Told::At(2)),
+    (Call::PushWithinCapacity(3), Told::NotWithinCapacity),
+    (Call::Push(3), Told::BeyondMaxCapacity),
+    (Call::Reallocate(1), Told::Nothing),
+    (Call::Reallocate(3), Told::BeyondMaxCapacity),
+    (Call::Bounds, Told::Bounds(2, 2, Some(2))),
+    (Call::Items, Told::Items([1, 2, 0, 0, 0, 0])),
+];
 
-#[test]
-fn a_reallocation_keeps_room_for_the_items(rt: HostRuntime) -> Result<(), Wrong> {
-    on_heap(
-        rt.alloc(),
-        None,
-        &[
-            (Call::Push(1), Told::At(1)),
-            (Call::Push(2), Told::At(2)),
-            (Call::Push(3), Told::At(3)),
-            (Call::Capacity, Told::Size(4)),
-            (Call::Reallocate(0), Told::Nothing),
-            (Call::Capacity, Told::Size(3)),
-            (Call::Push(4), Told::At(4)),
-            (Call::Capacity, Told::Size(6)),
-            (Call::Items, Told::Items([1, 2, 3, 4, 0, 0])),
-        ],
-    )
-}
+// A new one has no place.
+const HAS_NO_PLACE: &[(Call, Told)] = &[
+    (Call::Bounds, Told::Bounds(0, 0, Some(0))),
+    (Call::PushWithinCapacity(1), Told::NotWithinCapacity),
+    (Call::Push(1), Told::BeyondMaxCapacity),
+    (Call::Reallocate(0), Told::Nothing),
+    (Call::Bounds, Told::Bounds(0, 0, Some(0))),
+];
 
 #[test]
 fn a_fixed_stack_keeps_its_room(rt: HostRuntime) -> Result<(), Wrong> {
-    on_fixed(
-        rt.alloc(),
-        Some(2),
-        &[
-            (Call::PushWithinCapacity(1), Told::At(1)),
-            (Call::Push(2), Told::At(2)),
-            (Call::PushWithinCapacity(3), Told::NotWithinCapacity),
-            (Call::Push(3), Told::BeyondMaxCapacity),
-            (Call::Reallocate(1), Told::Nothing),
-            (Call::Reallocate(3), Told::BeyondMaxCapacity),
-            (Call::Bounds, Told::Bounds(2, 2, Some(2))),
-            (Call::Items, Told::Items([1, 2, 0, 0, 0, 0])),
-        ],
-    )
-}
-
-#[test]
-fn a_new_fixed_stack_has_no_place(rt: HostRuntime) -> Result<(), Wrong> {
-    on_fixed(
-        rt.alloc(),
-        None,
-        &[
-            (Call::Bounds, Told::Bounds(0, 0, Some(0))),
-            (Call::PushWithinCapacity(1), Told::NotWithinCapacity),
-            (Call::Push(1), Told::BeyondMaxCapacity),
-            (Call::Reallocate(0), Told::Nothing),
-            (Call::Bounds, Told::Bounds(0, 0, Some(0))),
-        ],
+    both(
+        on_fixed(rt.alloc(), Some(2), KEEPS_ROOM_FOR_TWO),
+        on_fixed(rt.alloc(), None, HAS_NO_PLACE),
     )
 }
 

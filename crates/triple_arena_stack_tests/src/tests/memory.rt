@@ -35,48 +35,44 @@ fn a_constructor_tells_of_no_memory(rt: HostRuntime) -> Result<(), Wrong> {
     )
 }
 
-#[test]
-fn a_refused_reallocation_of_a_heap_stack_changes_nothing(rt: HostRuntime) -> Result<(), Wrong> {
-    on_heap(
-        rt.alloc(),
-        None,
-        &[
-            (Call::Push(1), Told::At(1)),
-            (Call::Push(2), Told::At(2)),
-            (Call::Push(3), Told::At(3)),
-            (Call::Bounds, Told::Bounds(3, 4, None)),
-            (Call::Reallocate(TOO_MANY), Told::NoMemory),
-            (Call::Bounds, Told::Bounds(3, 4, None)),
-            (Call::Items, Told::Items([1, 2, 3, 0, 0, 0])),
-            (Call::Reallocate(usize::MAX), Told::NoMemory),
-            (Call::Bounds, Told::Bounds(3, 4, None)),
-            (Call::Items, Told::Items([1, 2, 3, 0, 0, 0])),
-            (Call::Push(4), Told::At(4)),
-            (Call::Items, Told::Items([1, 2, 3, 4, 0, 0])),
-        ],
-    )
-}
+// Reallocations of a new stack that are refused.
+const REFUSED_ON_HEAP: &[(Call, Told)] = &[
+    (Call::Push(1), Told::At(1)),
+    (Call::Push(2), Told::At(2)),
+    (Call::Push(3), Told::At(3)),
+    (Call::Bounds, Told::Bounds(3, 4, None)),
+    (Call::Reallocate(TOO_MANY), Told::NoMemory),
+    (Call::Bounds, Told::Bounds(3, 4, None)),
+    (Call::Items, Told::Items([1, 2, 3, 0, 0, 0])),
+    (Call::Reallocate(usize::MAX), Told::NoMemory),
+    (Call::Bounds, Told::Bounds(3, 4, None)),
+    (Call::Items, Told::Items([1, 2, 3, 0, 0, 0])),
+    (Call::Push(4), Told::At(4)),
+    (Call::Items, Told::Items([1, 2, 3, 4, 0, 0])),
+];
+
+// The same where a limit can be set.
+const REFUSED_UNDER_LIMIT: &[(Call, Told)] = &[
+    (Call::SetMaxCapacity(usize::MAX), Told::Nothing),
+    (Call::Push(1), Told::At(1)),
+    (Call::Push(2), Told::At(2)),
+    (Call::Push(3), Told::At(3)),
+    (Call::Bounds, Told::Bounds(3, 4, Some(usize::MAX))),
+    (Call::Reallocate(TOO_MANY), Told::NoMemory),
+    (Call::Bounds, Told::Bounds(3, 4, Some(usize::MAX))),
+    (Call::Items, Told::Items([1, 2, 3, 0, 0, 0])),
+    (Call::Reallocate(usize::MAX), Told::NoMemory),
+    (Call::Bounds, Told::Bounds(3, 4, Some(usize::MAX))),
+    (Call::Items, Told::Items([1, 2, 3, 0, 0, 0])),
+    (Call::Push(4), Told::At(4)),
+    (Call::Items, Told::Items([1, 2, 3, 4, 0, 0])),
+];
 
 #[test]
-fn a_refused_reallocation_of_a_limited_stack_changes_nothing(rt: HostRuntime) -> Result<(), Wrong> {
-    on_limited(
-        rt.alloc(),
-        None,
-        &[
-            (Call::SetMaxCapacity(usize::MAX), Told::Nothing),
-            (Call::Push(1), Told::At(1)),
-            (Call::Push(2), Told::At(2)),
-            (Call::Push(3), Told::At(3)),
-            (Call::Bounds, Told::Bounds(3, 4, Some(usize::MAX))),
-            (Call::Reallocate(TOO_MANY), Told::NoMemory),
-            (Call::Bounds, Told::Bounds(3, 4, Some(usize::MAX))),
-            (Call::Items, Told::Items([1, 2, 3, 0, 0, 0])),
-            (Call::Reallocate(usize::MAX), Told::NoMemory),
-            (Call::Bounds, Told::Bounds(3, 4, Some(usize::MAX))),
-            (Call::Items, Told::Items([1, 2, 3, 0, 0, 0])),
-            (Call::Push(4), Told::At(4)),
-            (Call::Items, Told::Items([1, 2, 3, 4, 0, 0])),
-        ],
+fn a_refused_reallocation_changes_nothing(rt: HostRuntime) -> Result<(), Wrong> {
+    both(
+        on_heap(rt.alloc(), None, REFUSED_ON_HEAP),
+        on_limited(rt.alloc(), None, REFUSED_UNDER_LIMIT),
     )
 }
 

@@ -39,30 +39,45 @@ fn stack_answer<T: Drop, K: NonZeroInxGenericStack<T>, M: Items<T>>(
     }
 }
 
-// A stack and the items that are put on it.
-#[derive(Drop)]
-struct Holding<T, K, M> {
-    stack: NonZeroInxStack<T, K>,
-    items: M,
+// How the limit of a stack is set.
+trait SetsLimit<T, K> {
+    // What the call that sets it answers.
+    fn told_limit_set(&self, stack: &mut NonZeroInxStack<T, K>, limit: usize) -> Told;
 }
 
-impl<T: Drop, K: NonZeroInxGenericStack<T>, M: Items<T>> Tested for Holding<T, K, M> {
-    fn answer(&mut self, call: Call) -> Told {
-        stack_answer(&mut self.stack, &self.items, call)
+// Not at all.
+#[derive(Drop)]
+struct LimitStays;
+
+impl<T, K> SetsLimit<T, K> for LimitStays {
+    fn told_limit_set(&self, _stack: &mut NonZeroInxStack<T, K>, _limit: usize) -> Told {
+        Told::NoSuchCall
     }
 }
 
-// The same where the limit can be set.
+// By its call.
 #[derive(Drop)]
-struct WithLimit<T, K, M> {
-    stack: NonZeroInxStack<T, K>,
-    items: M,
+struct LimitIsSet;
+
+impl<T, K: SetMaxCapacity<T>> SetsLimit<T, K> for LimitIsSet {
+    fn told_limit_set(&self, stack: &mut NonZeroInxStack<T, K>, limit: usize) -> Told {
+        set_max_capacity(stack, limit)
+    }
 }
 
-impl<T: Drop, K: SetMaxCapacity<T>, M: Items<T>> Tested for WithLimit<T, K, M> {
+// A stack, the items that are put on it, and how its limit is set.
+#[derive(Drop)]
+struct Holding<T, K, M, L> {
+    stack: NonZeroInxStack<T, K>,
+    items: M,
+    sets: L,
+}
+
+impl<T: Drop, K: NonZeroInxGenericStack<T>, M: Items<T>, L: SetsLimit<T, K>> Tested
+    for Holding<T, K, M, L> {
     fn answer(&mut self, call: Call) -> Told {
         match call {
-            Call::SetMaxCapacity(limit) => set_max_capacity(&mut self.stack, limit),
+            Call::SetMaxCapacity(limit) => self.sets.told_limit_set(&mut self.stack, limit),
             _ => stack_answer(&mut self.stack, &self.items, call),
         }
     }
@@ -79,6 +94,23 @@ fn made<T, S: NonZeroInxGenericStack<T>>(alloc: Global, room: Option<usize>) -> 
     }
 }
 
+// Tries a table on a stack that is kept in a `K`, which has this limit then, and sets it so.
+fn on_stack_with<
+    T: Drop,
+    K: NonZeroInxGenericStack<T> + Drop,
+    M: Items<T> + Drop,
+    L: SetsLimit<T, K> + Drop,
+>(
+    alloc: Global,
+    items: M,
+    room: Option<usize>,
+    (limit, sets): (Told, L),
+    steps: &[(Call, Told)],
+) -> Result<(), Wrong> {
+    let stack: NonZeroInxStack<T, K> = made(alloc, room)?;
+    follow(&mut Holding { stack, items, sets }, limit, steps)
+}
+
 /// Tries a table on a stack that is kept in a `K`, which has this limit then.
 pub fn on_stack<T: Drop, K: NonZeroInxGenericStack<T> + Drop, M: Items<T> + Drop>(
     alloc: Global,
@@ -87,20 +119,7 @@ pub fn on_stack<T: Drop, K: NonZeroInxGenericStack<T> + Drop, M: Items<T> + Drop
     limit: Told,
     steps: &[(Call, Told)],
 ) -> Result<(), Wrong> {
-    let stack: NonZeroInxStack<T, K> = made(alloc, room)?;
-    follow(&mut Holding { stack, items }, limit, steps)
-}
-
-// The same where the limit can be set.
-fn on_stack_with_limit<T: Drop, K: SetMaxCapacity<T> + Drop, M: Items<T> + Drop>(
-    alloc: Global,
-    items: M,
-    room: Option<usize>,
-    limit: Told,
-    steps: &[(Call, Told)],
-) -> Result<(), Wrong> {
-    let stack: NonZeroInxStack<T, K> = made(alloc, room)?;
-    follow(&mut WithLimit { stack, items }, limit, steps)
+    on_stack_with::<T, K, M, LimitStays>(alloc, items, room, (limit, LimitStays), steps)
 }
 
 /// Tries a table on a stack on the heap, with this room or as `new` makes it.
@@ -121,7 +140,13 @@ pub fn on_limited_of<T: Drop, M: Items<T> + Drop>(
     steps: &[(Call, Told)],
 ) -> Result<(), Wrong> {
     let limit = Told::Size(room.unwrap_or(0));
-    on_stack_with_limit::<T, LimitedStack<T>, M>(alloc, items, room, limit, steps)
+    on_stack_with::<T, LimitedStack<T>, M, LimitIsSet>(
+        alloc,
+        items,
+        room,
+        (limit, LimitIsSet),
+        steps,
+    )
 }
 
 /// The same on a stack of fixed room.

@@ -364,9 +364,9 @@ const FROM_EITHER_END: &[Step] = &[
 ];
 
 // The number behind those that a loop over a range goes over, if each is one more than that before.
-fn number_behind(start: usize, end: usize) -> usize {
-    let mut next = start;
-    for n in nzusize_iter(from(start), NonZeroUsize::new(end)) {
+fn number_behind(start: NonZeroUsize, end: Option<NonZeroUsize>) -> usize {
+    let mut next = start.get();
+    for n in nzusize_iter(start, end) {
         if n.get() != next {
             return 0;
         }
@@ -384,7 +384,7 @@ fn count_from_three_to_two() -> Option<usize> {
 #[test]
 fn ranges_from_either_end(rt: HostRuntime) {
     assert_eq!(rt; mistaken(FROM_EITHER_END), None);
-    assert!(rt; number_behind(2, 4) == 5);
+    assert!(rt; number_behind(from(2), NonZeroUsize::new(4)) == 5);
     assert!(rt; matches!(count_from_three_to_two(), Some(0)));
 }
 

@@ -51,7 +51,7 @@ impl<'a, P: Ptr + 'static> Iterator for Beside<'a, P> {
 }
 
 // Whether a pointer of a type is held beside a lent value, through which another is written. It is
-// a macro and no function with a parameter, since each test is to be a caller at its very type.
+// a macro and no function with a parameter, since each function is to be a caller at its very type.
 macro_rules! is_held {
     ($pointer:ident) => {{
         let mut values = [1, 2];
@@ -66,39 +66,43 @@ macro_rules! is_held {
     }};
 }
 
-#[test]
-fn a_p0_beside_a_lent_value(rt: HostRuntime) {
-    assert!(rt; is_held!(P0));
+fn is_p0_held() -> bool {
+    is_held!(P0)
+}
+
+fn is_p1_held() -> bool {
+    is_held!(P1)
+}
+
+fn is_p2_held() -> bool {
+    is_held!(P2)
+}
+
+fn is_p3_held() -> bool {
+    is_held!(P3)
+}
+
+fn is_p4_held() -> bool {
+    is_held!(P4)
+}
+
+fn is_p5_held() -> bool {
+    is_held!(P5)
+}
+
+fn is_q2_held() -> bool {
+    is_held!(Q2)
 }
 
 #[test]
-fn a_p1_beside_a_lent_value(rt: HostRuntime) {
-    assert!(rt; is_held!(P1));
-}
-
-#[test]
-fn a_p2_beside_a_lent_value(rt: HostRuntime) {
-    assert!(rt; is_held!(P2));
-}
-
-#[test]
-fn a_p3_beside_a_lent_value(rt: HostRuntime) {
-    assert!(rt; is_held!(P3));
-}
-
-#[test]
-fn a_p4_beside_a_lent_value(rt: HostRuntime) {
-    assert!(rt; is_held!(P4));
-}
-
-#[test]
-fn a_p5_beside_a_lent_value(rt: HostRuntime) {
-    assert!(rt; is_held!(P5));
-}
-
-#[test]
-fn a_q2_beside_a_lent_value(rt: HostRuntime) {
-    assert!(rt; is_held!(Q2));
+fn each_pointer_beside_a_lent_value(rt: HostRuntime) {
+    assert!(rt; is_p0_held());
+    assert!(rt; is_p1_held());
+    assert!(rt; is_p2_held());
+    assert!(rt; is_p3_held());
+    assert!(rt; is_p4_held());
+    assert!(rt; is_p5_held());
+    assert!(rt; is_q2_held());
 }
 
 #[test]

@@ -60,15 +60,18 @@ fn is_whole<P: Ptr + Default>(name: &str) -> bool {
 
 #[test]
 fn every_pointer_type_is_whole(rt: HostRuntime) {
-    assert!(rt; is_whole::<P0>("P0"));
-    assert!(rt; is_whole::<P1>("P1"));
-    assert!(rt; is_whole::<P2>("P2"));
-    assert!(rt; is_whole::<P3>("P3"));
-    assert!(rt; is_whole::<P4>("P4"));
-    assert!(rt; is_whole::<P5>("P5"));
-    assert!(rt; is_whole::<Q2>("Q2"));
-    assert!(rt; is_whole::<PtrNoGen<P2>>("P2"));
-    assert!(rt; is_whole::<B>("B"));
+    let each = [
+        is_whole::<P0>("P0"),
+        is_whole::<P1>("P1"),
+        is_whole::<P2>("P2"),
+        is_whole::<P3>("P3"),
+        is_whole::<P4>("P4"),
+        is_whole::<P5>("P5"),
+        is_whole::<Q2>("Q2"),
+        is_whole::<PtrNoGen<P2>>("P2"),
+        is_whole::<B>("B"),
+    ];
+    assert_eq!(rt; each, [true; 9]);
 }
 
 // Whether pointers that differ in the generation alone are hashed apart or alike, as `apart` says,
@@ -86,15 +89,18 @@ fn hashes_generations<P: Ptr>(apart: bool) -> bool {
 
 #[test]
 fn generations_are_hashed(rt: HostRuntime) {
-    assert!(rt; hashes_generations::<P0>(true));
-    assert!(rt; hashes_generations::<P1>(true));
-    assert!(rt; hashes_generations::<P2>(true));
-    assert!(rt; hashes_generations::<P3>(true));
-    assert!(rt; hashes_generations::<P4>(false));
-    assert!(rt; hashes_generations::<P5>(false));
-    assert!(rt; hashes_generations::<Q2>(true));
-    assert!(rt; hashes_generations::<PtrNoGen<P2>>(false));
-    assert!(rt; hashes_generations::<B>(true));
+    let each = [
+        hashes_generations::<P0>(true),
+        hashes_generations::<P1>(true),
+        hashes_generations::<P2>(true),
+        hashes_generations::<P3>(true),
+        hashes_generations::<P4>(false),
+        hashes_generations::<P5>(false),
+        hashes_generations::<Q2>(true),
+        hashes_generations::<PtrNoGen<P2>>(false),
+        hashes_generations::<B>(true),
+    ];
+    assert_eq!(rt; each, [true; 9]);
 }
 
 // How the pointer of the index 5 and the generation 2 stands to that of these numbers.

@@ -34,17 +34,20 @@ fn has_text<P: Ptr + fmt::Display>(alloc: Global, number: usize, text: &str) -> 
 #[test]
 fn pointers_have_their_texts(rt: HostRuntime) {
     let alloc = rt.alloc();
-    assert!(rt; has_text::<P0>(alloc, 26, "P0[1a](2)"));
-    assert!(rt; has_text::<P0>(alloc, 10, "P0[a](2)"));
-    assert!(rt; has_text::<P1>(alloc, 26, "P1[1a](2)"));
-    assert!(rt; has_text::<P2>(alloc, 26, "P2[1a](2)"));
-    assert!(rt; has_text::<P3>(alloc, 26, "P3[1a](2)"));
-    assert!(rt; has_text::<P4>(alloc, 26, "P4[1a]"));
-    assert!(rt; has_text::<P5>(alloc, 26, "P5[1a]"));
-    assert!(rt; has_text::<Q2>(alloc, 26, "Q2[1a](2)"));
-    assert!(rt; has_text::<PtrNoGen<P0>>(alloc, 1, "P0[1]"));
-    assert!(rt; has_text::<PtrNoGen<P1>>(alloc, 26, "P1[1a]"));
-    assert!(rt; has_text::<B>(alloc, 26, "B[1a](2)"));
+    let each = [
+        has_text::<P0>(alloc, 26, "P0[1a](2)"),
+        has_text::<P0>(alloc, 10, "P0[a](2)"),
+        has_text::<P1>(alloc, 26, "P1[1a](2)"),
+        has_text::<P2>(alloc, 26, "P2[1a](2)"),
+        has_text::<P3>(alloc, 26, "P3[1a](2)"),
+        has_text::<P4>(alloc, 26, "P4[1a]"),
+        has_text::<P5>(alloc, 26, "P5[1a]"),
+        has_text::<Q2>(alloc, 26, "Q2[1a](2)"),
+        has_text::<PtrNoGen<P0>>(alloc, 1, "P0[1]"),
+        has_text::<PtrNoGen<P1>>(alloc, 26, "P1[1a]"),
+        has_text::<B>(alloc, 26, "B[1a](2)"),
+    ];
+    assert_eq!(rt; each, [true; 11]);
 }
 
 // Whether Display writes this text for the invalid pointer, and Debug for the default one.

@@ -4,10 +4,11 @@ use Rattle.std.specs.List.{position, position_or_len}
 use Rattle.std.specs.Option.{option_map}
 use Rattle.std.proofs.lemmas.Bool.Decides.{nat_tests}
 use Rattle.std.proofs.lemmas.List.Sums.{position_or_len_is}
-use Rattle.std.proofs.lemmas.List.{map-append, map-set}
+use Rattle.std.proofs.lemmas.List.{length-map, map-append, map-set}
 use Rattle.std.proofs.lemmas.Option.{slice_get_within, get_or_from_slice_get, slice_get-get_or, slice_get-map, slice_get_cases}
 use Rattle.triple_arena_base.specs.Held.{recast_item, item_answer}
 use Rattle.triple_arena_ptr.specs.NonZeroValues.{same_pair}
+use Rattle.triple_arena_stack.specs.StackState.{Roomed}
 use Rattle.triple_arena_traits.specs.Items.{item, with_item}
 use Rattle.triple_arena_ptr.specs.Pointers.{Pointer, is_same}
 use Rattle.triple_arena_session.specs.declared.name_table.Row.{Row}
@@ -175,6 +176,21 @@ module _ {P G : Type 0} where
       ∙ ap (λ ps. slice_get ps (m - 1)) shown
       ∙ sym (item_before table m positive)
       ∙ ap (item table) is
+
+  -- a pointer that is pushed
+  pub row_pushed : (rows : List (Row P G)) (table : List P) (row pushed : Row P G) → pointers_of rows ≡ table → pushed ≡ row → pointers_of (rows ++ pushed ∷ []) ≡ table ++ row.pointer ∷ []
+  row_pushed rows table row pushed shown is =
+      map-append (λ r. r.pointer) rows (pushed ∷ [])
+      ∙ ap (λ ps. ps ++ pushed.pointer ∷ []) shown
+      ∙ ap (λ r. table ++ r.pointer ∷ []) is
+
+  -- how many rows there are, and their room
+  module _ (rows : List (Row P G)) (room : ℕ) (table : Roomed P) (shows : ◌≡◌ {A = Roomed P} (record { items = pointers_of rows; room = room }) table) where
+    pub length-shown : length rows ≡ length table.items
+    length-shown = sym (length-map rows (λ row. row.pointer)) ∙ ap (λ t. length t.items) shows
+
+    pub room-shown : room ≡ table.room
+    room-shown = ap (λ t. t.room) shows
 
   -- a pointer that is written in the row of a name
   pub row_written : (rows : List (Row P G)) (table : List P) (n m : ℕ) (row : Row P G) → pointers_of rows ≡ table → m ≡ n → 0 < m → pointers_of (slice_set rows (m - 1) row) ≡ with_item table n row.pointer

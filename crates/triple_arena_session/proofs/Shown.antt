@@ -211,6 +211,16 @@ module _ {X P : Type 0} (pointer : P → Pointer) (arena : ArenaState (Node X P)
   pub look_up-shown : (p : Pointer) → look_up s.arena p ≡ option_map (node_of pointer) (look_up arena p)
   look_up-shown p = ap (λ a. look_up a p) (sym arena-shown) ∙ look_up-mapped (node_of pointer) arena p
 
+  pub fits-shown : arena_len arena ≤ capacity arena → arena_len s.arena ≤ capacity s.arena
+  fits-shown fits = rw (← len-shown, ← capacity-shown) fits
+
+  pub greatest-shown : arena.greatest ≡ s.arena.greatest
+  greatest-shown = ap (λ t. t.arena.greatest) shows
+
+  -- what is found under a name
+  pub named_found : (name : ℕ) (p : Pointer) (o : Option (Node X P)) → item s.table name ≡ Some p → o ≡ look_up arena p → option_and_then (look_up s.arena) (item s.table name) ≡ option_map (node_of pointer) o
+  named_found name p o has found = ap (option_and_then (look_up s.arena)) has ∙ look_up-shown p ∙ ap (option_map (node_of pointer)) (sym found)
+
   pub next-shown : next_pointer arena ≡ next_pointer s.arena
   next-shown = sym (next_pointer-mapped (node_of pointer) arena) ∙ ap next_pointer arena-shown
 
@@ -296,9 +306,6 @@ module _ {X P : Type 0} (pointer : P → Pointer) (arena : ArenaState (Node X P)
 
       limit-shown : arena.limit ≡ s.arena.limit
       limit-shown = ap (λ t. t.arena.limit) shows
-
-      greatest-shown : arena.greatest ≡ s.arena.greatest
-      greatest-shown = ap (λ t. t.arena.greatest) shows
 
       in_range : m ≤ arena.greatest → nat_le m s.arena.greatest ≡ true
       in_range le = le_true m s.arena.greatest (subst (λ n. m ≤ n) greatest-shown le)

@@ -2,7 +2,8 @@
 
 ghost use Rattle.std.specs.Prelude.{◌≡◌, IsErr, IsNone};
 ghost use Rattle.std.specs.Io.Buffered.{writer_contents};
-ghost use Rattle.triple_arena_session.specs.KindRun.{RunsKind};
+ghost use Rattle.triple_arena_stack.specs.StackKind.{new_room, new_limit, made_room, made_limit};
+ghost use Rattle.triple_arena_session.specs.KindRun.{RunsKind, RunsOver, first_session};
 ghost use Rattle.triple_arena_session.specs.Program.{asked_kind};
 ghost use Rattle.triple_arena_session.specs.ProgramRun.{RunsProgram};
 ghost use Rattle.triple_arena_session.specs.StoreText.{IsStoreText, first_store, AnswersProgram};
@@ -17,19 +18,20 @@ use std::io::{BufWriter, Read, Write};
 use triple_arena::ArenaSlot;
 use triple_arena_ptr::P0;
 use triple_arena_stack::{
-    NonZeroInxArray, NonZeroInxBoxedSlice, NonZeroInxLimitedVec, NonZeroInxVec,
+    NonZeroInxArray, NonZeroInxBoxedSlice, NonZeroInxGenericStack, NonZeroInxLimitedVec,
+    NonZeroInxVec,
 };
 
 /// A slot of the program's arenas.
 type Slot = ArenaSlot<P0, Node<u64, P0>>;
 
-type HeapSession = Session<P0, u64, NonZeroInxVec<Slot>>;
+type HeapSlots = NonZeroInxVec<Slot>;
 
-type LimitedSession = Session<P0, u64, NonZeroInxLimitedVec<Slot>>;
+type LimitedSlots = NonZeroInxLimitedVec<Slot>;
 
-type FixedSession = Session<P0, u64, NonZeroInxBoxedSlice<Slot>>;
+type FixedSlots = NonZeroInxBoxedSlice<Slot>;
 
-type ArraySession = Session<P0, u64, NonZeroInxArray<Slot, 8>>;
+type ArraySlots = NonZeroInxArray<Slot, 8>;
 
 /// How many bytes of replies are gathered before they go out.
 const OUTPUT_BUFFER: usize = 65536;
@@ -116,15 +118,41 @@ fn run_over<R: Read, W: Write + Drop>(
         (writer_contents W.contents output) (W.contents result.1) }
 {
     match kind {
-        Kind::Heap => run_text_and_flush(&mut HeapSession::new(alloc), alloc, input, output),
-        Kind::Limited(most) => match LimitedSession::with_min_capacity(alloc, most) {
-            Ok(mut session) => run_text_and_flush(&mut session, alloc, input, output),
-            Err(_) => flush_after(Err(TextError::NoMemory), output),
-        },
-        Kind::Fixed(slots) => match FixedSession::with_min_capacity(alloc, slots) {
-            Ok(mut session) => run_text_and_flush(&mut session, alloc, input, output),
-            Err(_) => flush_after(Err(TextError::NoMemory), output),
-        },
-        Kind::Array => run_text_and_flush(&mut ArraySession::new(alloc), alloc, input, output),
+        Kind::Heap => run_new::<HeapSlots, R, W>(alloc, input, output),
+        Kind::Limited(most) => run_made::<LimitedSlots, R, W>(most, alloc, input, output),
+        Kind::Fixed(slots) => run_made::<FixedSlots, R, W>(slots, alloc, input, output),
+        Kind::Array => run_new::<ArraySlots, R, W>(alloc, input, output),
+    }
+}
+
+// Runs a text in a new session over this stack.
+fn run_new<S: NonZeroInxGenericStack<Slot> + Drop, R: Read, W: Write + Drop>(
+    alloc: Global,
+    input: &mut R,
+    output: BufWriter<W>,
+) -> (Result<(), TextError>, W)
+    ensures { RunsOver S.kind S.has_memory (first_session (new_room S.kind) (new_limit S.kind))
+        (R.remaining input.old) result.0
+        (writer_contents W.contents output) (W.contents result.1) }
+{
+    let mut session = Session::<P0, u64, S>::new(alloc);
+    run_text_and_flush(&mut session, alloc, input, output)
+}
+
+// Runs a text in a new session over this stack, with room for so many entries.
+fn run_made<S: NonZeroInxGenericStack<Slot> + Drop, R: Read, W: Write + Drop>(
+    slots: usize,
+    alloc: Global,
+    input: &mut R,
+    output: BufWriter<W>,
+) -> (Result<(), TextError>, W)
+    ensures { RunsOver S.kind S.has_memory
+        (first_session (made_room S.kind slots) (made_limit S.kind slots))
+        (R.remaining input.old) result.0
+        (writer_contents W.contents output) (W.contents result.1) }
+{
+    match Session::<P0, u64, S>::with_min_capacity(alloc, slots) {
+        Ok(mut session) => run_text_and_flush(&mut session, alloc, input, output),
+        Err(_) => flush_after(Err(TextError::NoMemory), output),
     }
 }

@@ -1,7 +1,7 @@
 use Rattle.std.proofs.Common.{◌≡◌, ◌≤◌, ◌<◌, false, refl, sym, ◌∙◌}
 use Rattle.triple_arena_traits.specs.ArenaState.{arena_len, capacity}
 use Rattle.triple_arena_session.specs.Limits.{is_at_limit}
-use Rattle.triple_arena_session.proofs.Shown.{refusal-shown, has_place, at_limit, at_greatest, may_grow, reaches_limit, past_limit}
+use Rattle.triple_arena_session.proofs.Shown.{refusal-shown, fits-shown, greatest-shown, has_place, at_limit, at_greatest, may_grow, reaches_limit, past_limit}
 use Rattle.triple_arena_session.proofs.session.Session.refusal.Goals as goal
 use Rattle.triple_arena_session.proofs.session.Session.refusal.Goals.{in_default-via-in-Some+else-limit-capacity, in_default-via-in_default}
 
@@ -38,3 +38,27 @@ returns-in_default-2-clause-why g c =
       | in_default-via-in_default w ↦ rw (← c.max_capacity.ensures.value, w.in_default.is) refl
     ] in
     may_grow a c.len.ensures.fits full below (λ last. c.if-capacity-get.false (c.capacity-capacity.ensures.value ∙ last ∙ c.capacity-capacity.ensures.greatest ∙ sym c.max_index.ensures ∙ sym c.get.ensures.value)) ∙ refusal-shown g.P.Ptr.numbers c.self.inside.arena c.self.inside.table.items c.self.inside.table.room c.args.self.now c.self.view_is
+
+pub returns-then-len-capacity-clause-fits : goal.returns-then-len-capacity-clause-fits
+returns-then-len-capacity-clause-fits g c = fits-shown g.P.Ptr.numbers c.self.inside.arena c.self.inside.table.items c.self.inside.table.room c.args.self.now c.self.view_is c.len.ensures.fits
+
+pub returns-then-len-capacity-clause-greatest : goal.returns-then-len-capacity-clause-greatest
+returns-then-len-capacity-clause-greatest g c = sym (greatest-shown g.P.Ptr.numbers c.self.inside.arena c.self.inside.table.items c.self.inside.table.room c.args.self.now c.self.view_is) ∙ c.capacity-capacity.ensures.greatest
+
+pub returns-in-Some-clause-fits : goal.returns-in-Some-clause-fits
+returns-in-Some-clause-fits g c = fits-shown g.P.Ptr.numbers c.self.inside.arena c.self.inside.table.items c.self.inside.table.room c.args.self.now c.self.view_is c.len.ensures.fits
+
+pub returns-in-Some-clause-greatest : goal.returns-in-Some-clause-greatest
+returns-in-Some-clause-greatest g c = sym (greatest-shown g.P.Ptr.numbers c.self.inside.arena c.self.inside.table.items c.self.inside.table.room c.args.self.now c.self.view_is) ∙ c.capacity-capacity.ensures.greatest
+
+pub returns-in_default-clause-fits : goal.returns-in_default-clause-fits
+returns-in_default-clause-fits g c = fits-shown g.P.Ptr.numbers c.self.inside.arena c.self.inside.table.items c.self.inside.table.room c.args.self.now c.self.view_is c.len.ensures.fits
+
+pub returns-in_default-clause-greatest : goal.returns-in_default-clause-greatest
+returns-in_default-clause-greatest g c = sym (greatest-shown g.P.Ptr.numbers c.self.inside.arena c.self.inside.table.items c.self.inside.table.room c.args.self.now c.self.view_is) ∙ c.capacity-capacity.ensures.greatest
+
+pub returns-in_default-2-clause-fits : goal.returns-in_default-2-clause-fits
+returns-in_default-2-clause-fits g c = fits-shown g.P.Ptr.numbers c.self.inside.arena c.self.inside.table.items c.self.inside.table.room c.args.self.now c.self.view_is c.len.ensures.fits
+
+pub returns-in_default-2-clause-greatest : goal.returns-in_default-2-clause-greatest
+returns-in_default-2-clause-greatest g c = sym (greatest-shown g.P.Ptr.numbers c.self.inside.arena c.self.inside.table.items c.self.inside.table.room c.args.self.now c.self.view_is) ∙ c.capacity-capacity.ensures.greatest

@@ -4,6 +4,7 @@ pub mod Turning
 pub mod FreeEnd
 pub mod Pairs
 pub mod Keeping
+pub mod Cloned
 pub mod Compaction
 pub mod Refused
 pub mod Resizing

@@ -41,6 +41,11 @@ module _ {T : Type 0} where
   pub slot_entry : {X : Type 0} (entry : X → Option (ℕ × T)) (es : List X) (i : ℕ) → option_and_then entry (item es i) ≡ entry_in (map entry es) i
   slot_entry entry es i = joined_mapped entry (item es i) ∙ sym (entry_read entry es i (item es i) refl)
 
+  -- the same, by the slots that a state has, and under a number that the index has
+  pub slot_read : {X : Type 0} (entry : X → Option (ℕ × T)) (es : List X) (slots : List (Option (ℕ × T))) (i n : ℕ) (o : Option X) → o ≡ item es i → map entry es ≡ slots → i ≡ n → option_and_then entry o ≡ entry_in slots n
+  slot_read entry es slots i n o read shown here =
+      ap (option_and_then entry) read ∙ slot_entry entry es i ∙ ap (λ xs. entry_in xs i) shown ∙ ap (entry_in slots) here
+
   -- what is past the greatest index is past the slots
   pub past_slots : (s t : ArenaState T) (n : ℕ) → IsWellFormed t → t ≡ s → t.greatest < n → slot_count s < n
   past_slots s t n well is past = omega (arith, well.fits, ap slot_count is)
@@ -54,3 +59,7 @@ pub unrefused_end : {P U T E F M : Type 0} (numbers : P → Pointer) (step : M �
 unrefused_end numbers step f source copy new answer (Err e) same copies keeps = tt
 unrefused_end numbers step f source copy new (Ok x) (Ok y) same copies keeps = copy_same_end numbers step f source copy new copies keeps
 unrefused_end numbers step f source copy new (Err e) (Ok y) same copies keeps = absurd (cc)
+
+-- a copy that ends in slots with the same entries
+pub copies_seen : {P U T E M : Type 0} (numbers : P → Pointer) (step : M → P → Bor U → Result T E → M → Type 0) (f : M) (source : List (Pointer × U)) (answer : Result (Unit {0}) E) (old new : List (Option (ℕ × T))) → new ≡ old → Copies numbers step f source answer old → Copies numbers step f source answer new
+copies_seen numbers step f source answer old new is = subst (λ slots. Copies numbers step f source answer slots) (sym is)

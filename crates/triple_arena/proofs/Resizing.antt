@@ -76,3 +76,7 @@ module _ {P T I G : Type 0} (number : G → ℕ) where
         tt,
       )
   limit_changed (Err e) es es' root root' len counter room room' limit limit' greatest x s own is same from place within made kept = rw (same, from, place, kept) (own, tt, is)
+
+-- what there is place for, where neither room nor limit changed
+pub room_kept : (n room new_room : ℕ) (limit new_limit : Option ℕ) → new_room ≡ room → new_limit ≡ limit → n ≤ capacity_of room limit → n ≤ capacity_of new_room new_limit
+room_kept n room new_room limit new_limit same_room same_limit fits = rw (same_room, same_limit) fits

@@ -1,11 +1,11 @@
-use Rattle.std.proofs.Common.{◌∙◌, is_some, sym, ap, arith}
+use Rattle.std.proofs.Common.{◌∙◌, is_some, refl, sym, ap, arith}
 use Rattle.std.proofs.lemmas.Option.{same_Some}
 use Rattle.std.specs.Int.NonZero.{non_zero_usize_get}
 use Rattle.triple_arena_traits.specs.Items.{with_item}
 use Rattle.triple_arena.specs.Slot.{entry_of}
 use Rattle.triple_arena_traits.specs.ItemLaws.{item_at, with_item_at}
 use Rattle.triple_arena_traits.proofs.Inserted.{some_lent}
-use Rattle.triple_arena.proofs.Turning.{IsTurning-done, next_slot, not_turned, entries_kept, fewer_ahead, turned_on, left_out}
+use Rattle.triple_arena.proofs.Turning.{IsTurning-start, IsTurning-done, next_slot, not_turned, entries_kept, fewer_ahead, turned_on, left_out}
 use Rattle.triple_arena.proofs.slots.turn_round.Goals.{then-get-end, else-get-end}
 use Rattle.triple_arena.proofs.slots.turn_round.Goals as goal
 
@@ -62,3 +62,12 @@ returns-clause-room g c = c.turns.invariant.0
 
 pub returns-clause-limit : goal.returns-clause-limit
 returns-clause-limit g c = c.turns.invariant.1
+
+pub turns-init : goal.turns-init
+turns-init g c = (refl, refl, refl, λ free list. IsTurning-start g.P.Gen.PtrGen.number c.args.end free _ _ list)
+
+pub part_some-stack : goal.part_some-stack
+part_some-stack g c = (c.unwrap-slot.ensures, refl)
+
+pub set_link-requires-after_bounds : goal.set_link-requires-after_bounds
+set_link-requires-after_bounds g c κs within = ap (λ slot. is_some (entry_of g.P.Gen.PtrGen.number slot)) c.link-link.ensures

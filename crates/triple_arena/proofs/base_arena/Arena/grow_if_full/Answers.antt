@@ -109,3 +109,42 @@ returns-clause-had_place g c has =
     let shows = subst (Shows g.P.Gen.PtrGen.number _ _ _) c.self.view_is c.self.invariant in
     let full : capacity c.args.self.now ≤ arena_len c.args.self.now = omega (arith, c.if-self-capacity.false, shows.counted, c.capacity-capacity.ensures.value) in
     absurd (below_above _ _ has full)
+
+pub same-self : goal.same-self
+same-self g c = refl
+
+pub returns-then-self-capacity-clause-given : goal.returns-then-self-capacity-clause-given
+returns-then-self-capacity-clause-given g c can = refl
+
+pub returns-then-self-capacity-clause-had_place : goal.returns-then-self-capacity-clause-had_place
+returns-then-self-capacity-clause-had_place g c place = refl
+
+pub returns-then-self-capacity-clause-well_formed : goal.returns-then-self-capacity-clause-well_formed
+returns-then-self-capacity-clause-well_formed g c = subst IsWellFormed c.self.view_is c.self.invariant.well
+
+pub same-self-then-is_at_limit : goal.same-self-then-is_at_limit
+same-self-then-is_at_limit g c = refl
+
+pub returns-then-is_at_limit-clause-refused : goal.returns-then-is_at_limit-clause-refused
+returns-then-is_at_limit-clause-refused g c = refl
+
+pub returns-then-is_at_limit-clause-well_formed : goal.returns-then-is_at_limit-clause-well_formed
+returns-then-is_at_limit-clause-well_formed g c = subst IsWellFormed c.self.view_is c.self.invariant.well
+
+pub same-self-then-capacity-greatest : goal.same-self-then-capacity-greatest
+same-self-then-capacity-greatest g c = refl
+
+pub returns-then-capacity-greatest-clause-refused : goal.returns-then-capacity-greatest-clause-refused
+returns-then-capacity-greatest-clause-refused g c = refl
+
+pub returns-then-capacity-greatest-clause-well_formed : goal.returns-then-capacity-greatest-clause-well_formed
+returns-then-capacity-greatest-clause-well_formed g c = subst IsWellFormed c.self.view_is c.self.invariant.well
+
+pub same-self-2 : goal.same-self-2
+same-self-2 g c = refl
+
+pub grown_capacity-requires : goal.grown_capacity-requires
+grown_capacity-requires g c = c.get-greatest.type_inv
+
+pub returns-clause-well_formed : goal.returns-clause-well_formed
+returns-clause-well_formed g c = subst IsWellFormed c.self.view_is c.self.invariant.well

@@ -1,7 +1,9 @@
-use Rattle.std.proofs.Common.{◌∙◌, IsSome, inl, sym, ap, subst}
+use Rattle.std.proofs.Common.{◌≡◌, ◌∙◌, IsSome, None, inl, inr, sym, ap, subst}
+use Rattle.std.specs.Option.{option_map}
+use Rattle.triple_arena_traits.proofs.SlotEntries.{none_of}
 use Rattle.std.proofs.Math.Path.{fun_ext}
 use Rattle.std.specs.Int.NonZero.{non_zero_usize_get}
-use Rattle.triple_arena_traits.specs.ArenaState.{ArenaState, with_value}
+use Rattle.triple_arena_traits.specs.ArenaState.{ArenaState, entry, with_value}
 use Rattle.triple_arena.specs.Layout.{entry_at}
 use Rattle.triple_arena_traits.specs.WellFormedLaws.{entry_value_read}
 use Rattle.triple_arena.proofs.Links.{lent}
@@ -23,6 +25,24 @@ returns g c =
           ∙ ap (λ n. with_value c.args.self.now n w) c.in_ok-inx.ensures.index)),
       record {
         value = sym (entry_value_read c.args.self.now _ (g.P.Inx.PtrInx.number c.args.inx) (non_zero_usize_get c.in_ok-inx.inx) _ c.self.view_is c.in_ok-inx.ensures.index c.value_mut.ensures.value);
+        writes_back = tt;
+        fresh = Continues-written c.args.self.now (g.P.Inx.PtrInx.number c.args.inx);
+      },
+    )
+
+pub invariant_of-self : goal.invariant_of-self
+invariant_of-self g c = c.self.invariant
+
+pub value_mut-requires-after_bounds : goal.value_mut-requires-after_bounds
+value_mut-requires-after_bounds g c κs within =
+    subst (λ n. IsSome (entry_at g.P.Gen.PtrGen.number (g.S.NonZeroInxGenericStack.items c.self.inside.slots.stack) n)) (sym c.in_ok-inx.ensures.index) (sym c.in_ok-inx.ensures.live)
+
+pub returns-in_err-inx : goal.returns-in_err-inx
+returns-in_err-inx g c =
+    rw c.from_residual.ensures (
+      ap inr c.self.view_is,
+      record {
+        value = ap (option_map (λ e. e.1)) (sym (subst (λ (s : ArenaState g.row.T.Denot). entry s (g.P.Inx.PtrInx.number c.args.inx) ≡ None) c.self.view_is (none_of _ (sym c.in_err-inx.ensures.live))));
         writes_back = tt;
         fresh = Continues-written c.args.self.now (g.P.Inx.PtrInx.number c.args.inx);
       },

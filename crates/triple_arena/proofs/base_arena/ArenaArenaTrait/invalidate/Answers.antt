@@ -89,3 +89,12 @@ returns-clause-answer g c =
 
 pub returns-clause-unchanged : goal.returns-clause-unchanged
 returns-clause-unchanged g c none = absurd (true≢false (c.in-Some.ensures.live ∙ ap is_some none))
+
+pub same-self : goal.same-self
+same-self g c = refl
+
+pub returns-in_default-clause-others : goal.returns-in_default-clause-others
+returns-in_default-clause-others g c q away = refl
+
+pub returns-in_default-clause-unchanged : goal.returns-in_default-clause-unchanged
+returns-in_default-clause-unchanged g c none = refl

@@ -83,3 +83,6 @@ pub returns-clause-fresh : goal.returns-clause-fresh
 returns-clause-fresh g c =
     let w = c.work_on_two.ensures in
     Continues-two_written c.args.self.now _ (non_zero_usize_get c.in_ok-i.i) (non_zero_usize_get c.in_ok-i.j) w.2 w.3 w.7
+
+pub returns-in_default-clause-refused : goal.returns-in_default-clause-refused
+returns-in_default-clause-refused g c = refl

@@ -1,5 +1,5 @@
 use Rattle.triple_arena.proofs.Refused.{Continues-two_written}
-use Rattle.std.proofs.Common.{◌≡◌, ◌≢◌, ◌∙◌, true, is_some, IsSome, sym, ap, subst, inl, inr, true≢false}
+use Rattle.std.proofs.Common.{◌≡◌, ◌≢◌, ◌∙◌, true, is_some, IsSome, refl, sym, ap, subst, inl, inr, true≢false}
 use Rattle.std.proofs.lemmas.Bool.{cases_eq}
 use Rattle.std.specs.Int.NonZero.{non_zero_usize_get}
 use Rattle.triple_arena_ptr.specs.Pointers.{Pointer}
@@ -95,3 +95,9 @@ pub returns-clause-fresh : goal.returns-clause-fresh
 returns-clause-fresh g c =
     let w = c.work_on_two.ensures in
     Continues-two_written c.args.self.now _ (non_zero_usize_get c.in-Some-Some.first) (non_zero_usize_get c.in-Some-Some.second) w.2 w.3 w.7
+
+pub returns-in_default-clause-refused : goal.returns-in_default-clause-refused
+returns-in_default-clause-refused g c = refl
+
+pub returns-then-eq-clause-refused : goal.returns-then-eq-clause-refused
+returns-then-eq-clause-refused g c = refl

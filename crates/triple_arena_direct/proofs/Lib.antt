@@ -1,6 +1,7 @@
 pub mod Held
 pub mod Keeping
 pub mod Mirroring
+pub mod Cloned
 pub mod Compaction
 pub mod Renames
 pub mod OwnMaps

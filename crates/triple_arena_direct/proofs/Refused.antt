@@ -1,5 +1,8 @@
 -- What is past the greatest index, and what is refused for it.
-use Rattle.std.proofs.Common.{◌≡◌, ℕ, ◌<◌, ◌≤◌, ◌⊎◌, Option, Some, None, Result, Err, refl, ap, arith}
+use Rattle.std.proofs.Common.{◌≡◌, ℕ, ◌<◌, ◌≤◌, ◌⊎◌, Option, Some, None, IsSome, Result, Err, refl, ap, arith}
+use Rattle.triple_arena_traits.specs.Entries.{entry_in}
+use Rattle.triple_arena_traits.specs.ItemLaws.{joined, item_past}
+use Rattle.triple_arena_traits.specs.WalkLaws.{live_within}
 use Rattle.std.specs.Prelude.{IsErrAnd, ok_or}
 use Rattle.triple_arena_base.specs.declared.errors.GetDisjointMutError.{GetDisjointMutError}
 use Rattle.triple_arena_base.specs.declared.errors.GetDisjointMutError.TheVariants.{IndexOutOfBounds}
@@ -12,6 +15,15 @@ module _ {T : Type 0} where
   -- what is past the greatest index is past the slots
   pub past_slots : (len : ℕ) (s t : DirectState T) (n : ℕ) → Counts len t → t ≡ s → t.greatest < n → slot_count s < n
   past_slots len s t n counts is past = omega (arith, counts.fits, past, ap slot_count is)
+
+  -- and no entry stands there
+  pub none_past : (len : ℕ) (s t : DirectState T) (n : ℕ) → Counts len t → t ≡ s → t.greatest < n → entry_in s.slots n ≡ None
+  none_past len s t n counts is past = ap joined (item_past s.slots n (past_slots len s t n counts is past))
+
+  -- so where one stands, the index is not past it
+  pub entry_indexed : (len : ℕ) (s t : DirectState T) (n : ℕ) → Counts len t → t ≡ s → IsSome (entry_in s.slots n) → n ≤ t.greatest
+  entry_indexed len s t n counts is live =
+      omega (arith, (live_within s.slots n live).1, counts.fits, ap slot_count is)
 
 pub below_above : (a b : ℕ) → b < a → a ≤ b → ⊥
 below_above a b below above = omega (arith, below, above)

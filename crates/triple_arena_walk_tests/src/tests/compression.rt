@@ -1,7 +1,6 @@
 //! Compression: which entries stand after it, under which pointers, and what it tells.
 
 use std::alloc::Global;
-use std::test::Fail;
 use triple_arena_ptr::{P0, P2};
 use triple_arena_test_kit::{
     Call, NO_ENTRY, Steps, TestedArena, Told, Trial, Wrong, from_empty, on_heap,
@@ -38,7 +37,7 @@ fn with_gaps(alloc: Global, steps: &'static [(Call, Told)]) -> Result<(), Wrong>
 }
 
 #[test]
-fn a_compression_closes_the_gaps(rt: HostRuntime) -> Result<(), Fail> {
+fn a_compression_closes_the_gaps(rt: HostRuntime) -> Result<(), Wrong> {
     with_gaps(
         rt.alloc(),
         &[
@@ -62,12 +61,11 @@ fn a_compression_closes_the_gaps(rt: HostRuntime) -> Result<(), Fail> {
             (Call::Slots, Told::Size(3)),
             (Call::Bounds, Told::Bounds(3, 8, None)),
         ],
-    )?;
-    Ok(())
+    )
 }
 
 #[test]
-fn a_closure_meets_each_move_in_order(rt: HostRuntime) -> Result<(), Fail> {
+fn a_closure_meets_each_move_in_order(rt: HostRuntime) -> Result<(), Wrong> {
     with_gaps(
         rt.alloc(),
         &[
@@ -80,14 +78,18 @@ fn a_closure_meets_each_move_in_order(rt: HostRuntime) -> Result<(), Fail> {
             (Call::Slots, Told::Size(3)),
             (Call::Bounds, Told::Bounds(3, 8, None)),
         ],
-    )?;
-    Ok(())
+    )
+}
+
+// The calls on an arena without slots, on the heap.
+fn with_short_generations(alloc: Global, steps: &'static [(Call, Told)]) -> Result<(), Wrong> {
+    from_empty::<P2>(alloc, steps)
 }
 
 #[test]
-fn a_compression_tells_of_a_wrap(rt: HostRuntime) -> Result<(), Fail> {
+fn a_compression_tells_of_a_wrap(rt: HostRuntime) -> Result<(), Wrong> {
     // an entry under the greatest generation
-    from_empty::<P2>(
+    with_short_generations(
         rt.alloc(),
         &[
             (Call::SetGeneration(0xffff), Told::Done),
@@ -98,7 +100,7 @@ fn a_compression_tells_of_a_wrap(rt: HostRuntime) -> Result<(), Fail> {
             (Call::Bounds, Told::Bounds(1, 4, None)),
         ],
     )?;
-    from_empty::<P2>(
+    with_short_generations(
         rt.alloc(),
         &[
             (Call::SetGeneration(0xffff), Told::Done),
@@ -110,7 +112,7 @@ fn a_compression_tells_of_a_wrap(rt: HostRuntime) -> Result<(), Fail> {
         ],
     )?;
     // no entry, and a free slot
-    from_empty::<P2>(
+    with_short_generations(
         rt.alloc(),
         &[
             (Call::Insert(1), Told::At(1, 2)),
@@ -124,6 +126,5 @@ fn a_compression_tells_of_a_wrap(rt: HostRuntime) -> Result<(), Fail> {
             (Call::Bounds, Told::Bounds(0, 4, None)),
             (Call::Insert(3), Told::At(1, 0xffff)),
         ],
-    )?;
-    Ok(())
+    )
 }

@@ -1,8 +1,8 @@
 //! Values that count their drops: each is dropped once, whatever the call, over each stack.
 
+use super::entries::pointer_of_entry;
 use std::alloc::Global;
 use std::cell::Cell;
-use std::test::Fail;
 use triple_arena::{Arena, ArenaInsertEntryTrait, ArenaInsertTrait, ArenaSlot, ArenaTrait};
 use triple_arena_ptr::{P0, Ptr};
 use triple_arena_stack::{
@@ -23,8 +23,27 @@ impl Drop for Counted<'_> {
     }
 }
 
-fn new_value(drops: &Cell<u64>) -> Counted<'_> {
-    Counted { drops }
+// A count of drops, which makes the values whose drops it counts.
+trait Count<T> {
+    fn new_value(&self) -> T;
+
+    fn drops(&self) -> u64;
+
+    fn restart(&self);
+}
+
+impl<'a> Count<Counted<'a>> for &'a Cell<u64> {
+    fn new_value(&self) -> Counted<'a> {
+        Counted { drops: *self }
+    }
+
+    fn drops(&self) -> u64 {
+        self.get()
+    }
+
+    fn restart(&self) {
+        self.set(0);
+    }
 }
 
 // What first differed: the step of this place, from 0, with its answer and the drops after it.
@@ -50,30 +69,24 @@ enum Call {
     Clear,
 }
 
-// Whether a new value is inserted, by each call.
-fn inserts<'a, A: ArenaInsertTrait<P0, Counted<'a>>>(arena: &mut A, drops: &'a Cell<u64>) -> bool {
-    arena.insert(new_value(drops)).is_ok()
+// Whether a value is inserted, by each call.
+fn inserts<T: Drop, A: ArenaInsertTrait<P0, T>>(arena: &mut A, value: T) -> bool {
+    arena.insert(value).is_ok()
 }
 
-fn inserts_reallocating<'a, A: ArenaInsertTrait<P0, Counted<'a>>>(
-    arena: &mut A,
-    drops: &'a Cell<u64>,
-) -> bool {
-    arena.insert_reallocating(new_value(drops)).is_ok()
+fn inserts_reallocating<T: Drop, A: ArenaInsertTrait<P0, T>>(arena: &mut A, value: T) -> bool {
+    arena.insert_reallocating(value).is_ok()
 }
 
-fn inserts_within<'a, A: ArenaInsertTrait<P0, Counted<'a>>>(
-    arena: &mut A,
-    drops: &'a Cell<u64>,
-) -> bool {
-    arena.insert_within_capacity(new_value(drops)).is_ok()
+fn inserts_within<T: Drop, A: ArenaInsertTrait<P0, T>>(arena: &mut A, value: T) -> bool {
+    arena.insert_within_capacity(value).is_ok()
 }
 
-// Writes a new value over the one under a pointer, if there is one.
-fn writes<'a, A: ArenaTrait<P0, Counted<'a>>>(arena: &mut A, p: P0, drops: &'a Cell<u64>) -> bool {
+// Writes a value over the one under a pointer, if there is one.
+fn writes<T: Drop, A: ArenaTrait<P0, T>>(arena: &mut A, p: P0, value: T) -> bool {
     match arena.get_mut(p) {
-        Some(value) => {
-            *value = new_value(drops);
+        Some(old) => {
+            *old = value;
             true
         }
         None => false,
@@ -81,264 +94,262 @@ fn writes<'a, A: ArenaTrait<P0, Counted<'a>>>(arena: &mut A, p: P0, drops: &'a C
 }
 
 // Takes a value out and lets it go: whether there was one that wasn't dropped before.
-fn removes<'a, A: ArenaTrait<P0, Counted<'a>>>(arena: &mut A, p: P0, drops: &Cell<u64>) -> bool {
-    let before = drops.get();
+fn removes<T: Drop, C: Count<T>, A: ArenaTrait<P0, T>>(arena: &mut A, p: P0, count: &C) -> bool {
+    let before = count.drops();
     let taken = arena.remove(p);
-    let is_held = !taken.is_invalid() && drops.get() == before;
+    let is_held = !taken.is_invalid() && count.drops() == before;
     drop(taken);
     is_held
 }
 
 // The same of a removal by index.
-fn removes_inx<'a, A: ArenaTrait<P0, Counted<'a>>>(
+fn removes_inx<T: Drop, C: Count<T>, A: ArenaTrait<P0, T>>(
     arena: &mut A,
     p: P0,
-    drops: &Cell<u64>,
+    count: &C,
 ) -> bool {
-    let before = drops.get();
+    let before = count.drops();
     let taken = arena.remove_inx(p.inx());
-    let is_held = !taken.is_invalid() && drops.get() == before;
+    let is_held = !taken.is_invalid() && count.drops() == before;
     drop(taken);
     is_held
 }
 
 // Whether a pointer was renewed without a wrap.
-fn renews<'a, A: ArenaTrait<P0, Counted<'a>>>(arena: &mut A, p: P0) -> bool {
+fn renews<T, A: ArenaTrait<P0, T>>(arena: &mut A, p: P0) -> bool {
     arena.invalidate(p).is_success()
 }
 
 // Whether the arena has this room.
-fn reallocates<'a, A: ArenaTrait<P0, Counted<'a>>>(arena: &mut A, room: usize) -> bool {
+fn reallocates<T, A: ArenaTrait<P0, T>>(arena: &mut A, room: usize) -> bool {
     arena.reallocate_min_capacity(room).is_ok()
 }
 
 // Whether the arena was cleared without a wrap.
-fn clears<'a, A: ArenaTrait<P0, Counted<'a>>>(arena: &mut A) -> bool {
+fn clears<T: Drop, A: ArenaTrait<P0, T>>(arena: &mut A) -> bool {
     arena.clear().is_success()
 }
 
 // Makes a call.
-fn is_done<'a, A: ArenaInsertTrait<P0, Counted<'a>>>(
+fn is_done<T: Drop, C: Count<T>, A: ArenaInsertTrait<P0, T>>(
     arena: &mut A,
-    drops: &'a Cell<u64>,
+    count: &C,
     call: Call,
 ) -> bool {
     match call {
-        Call::Insert => inserts(arena, drops),
-        Call::InsertReallocating => inserts_reallocating(arena, drops),
-        Call::InsertWithin => inserts_within(arena, drops),
-        Call::Write(i, g) => writes(arena, pointer(i, g), drops),
+        Call::Insert => inserts(arena, count.new_value()),
+        Call::InsertReallocating => inserts_reallocating(arena, count.new_value()),
+        Call::InsertWithin => inserts_within(arena, count.new_value()),
+        Call::Write(i, g) => writes(arena, pointer(i, g), count.new_value()),
         Call::Renew(i, g) => renews(arena, pointer(i, g)),
-        Call::Remove(i, g) => removes(arena, pointer(i, g), drops),
-        Call::RemoveInx(i) => removes_inx(arena, pointer(i, 2), drops),
+        Call::Remove(i, g) => removes(arena, pointer(i, g), count),
+        Call::RemoveInx(i) => removes_inx(arena, pointer(i, 2), count),
         Call::Reallocate(room) => reallocates(arena, room),
         Call::Clear => clears(arena),
     }
 }
 
+// That the call of this place gave this answer, with so many drops after it.
+fn is_told(place: usize, told: (bool, u64), expected: (bool, u64)) -> Result<(), Wrong> {
+    if told == expected {
+        Ok(())
+    } else {
+        Err(Wrong::Step(place, told.0, told.1))
+    }
+}
+
 // Makes each call, and expects its answer and so many drops after it.
-fn follow<'a, A: ArenaInsertTrait<P0, Counted<'a>>>(
+fn follow<T: Drop, C: Count<T>, A: ArenaInsertTrait<P0, T>>(
     arena: &mut A,
-    drops: &'a Cell<u64>,
+    count: &C,
     steps: &[(Call, bool, u64)],
 ) -> Result<(), Wrong> {
     for (place, (call, expected, after)) in steps.iter().enumerate() {
-        let told = is_done(arena, drops, *call);
-        if told != *expected || drops.get() != *after {
-            return Err(Wrong::Step(place, told, drops.get()));
-        }
+        let told = is_done(arena, count, *call);
+        is_told(place, (told, count.drops()), (*expected, *after))?;
     }
     Ok(())
 }
 
 // That there were so many drops once an arena is dropped.
-fn at_end(drops: &Cell<u64>, expected: u64) -> Result<(), Wrong> {
-    if drops.get() == expected {
+fn at_end(drops: u64, expected: u64) -> Result<(), Wrong> {
+    if drops == expected {
         Ok(())
     } else {
-        Err(Wrong::AtEnd(drops.get()))
+        Err(Wrong::AtEnd(drops))
     }
 }
 
-// The calls that end entries or write over a value, and the drop of the arena, on an arena with three
-// places and no entry.
-fn each_drop<'a, A: ArenaInsertTrait<P0, Counted<'a>> + Drop>(
-    mut arena: A,
-    drops: &'a Cell<u64>,
-) -> Result<(), Wrong> {
-    follow(
-        &mut arena,
-        drops,
-        &[
-            (Call::InsertWithin, true, 0),
-            (Call::InsertWithin, true, 0),
-            (Call::InsertWithin, true, 0),
-            // a value that is written over
-            (Call::Write(1, 2), true, 1),
-            (Call::Renew(3, 2), true, 1),
-            // an invalid pointer
-            (Call::Remove(3, 2), false, 1),
-            // a value that is removed, and one by index
-            (Call::Remove(2, 2), true, 2),
-            (Call::RemoveInx(1), true, 3),
-            (Call::InsertReallocating, true, 3),
-            (Call::Reallocate(3), true, 3),
-            // the values that are cleared
-            (Call::Clear, true, 5),
-            (Call::Clear, true, 5),
-            (Call::Insert, true, 5),
-            (Call::Insert, true, 5),
-        ],
-    )?;
-    drop(arena);
-    // the values of an arena that is dropped
-    at_end(drops, 7)
+// Calls on an arena with three places and no entry, each with whether it is done and the drops after
+// it, and the drops once the arena is dropped.
+#[derive(Drop)]
+struct Table<'s> {
+    steps: &'s [(Call, bool, u64)],
+    at_end: u64,
 }
 
-// Values that are refused by an arena with three places, no entry and no way to grow.
-fn each_refused_drop<'a, A: ArenaInsertTrait<P0, Counted<'a>> + Drop>(
-    mut arena: A,
-    drops: &'a Cell<u64>,
+// The calls that end entries or write over a value, and the drop of the arena.
+const EACH_DROP: Table<'static> = Table {
+    steps: &[
+        (Call::InsertWithin, true, 0),
+        (Call::InsertWithin, true, 0),
+        (Call::InsertWithin, true, 0),
+        // a value that is written over
+        (Call::Write(1, 2), true, 1),
+        (Call::Renew(3, 2), true, 1),
+        // an invalid pointer
+        (Call::Remove(3, 2), false, 1),
+        // a value that is removed, and one by index
+        (Call::Remove(2, 2), true, 2),
+        (Call::RemoveInx(1), true, 3),
+        (Call::InsertReallocating, true, 3),
+        (Call::Reallocate(3), true, 3),
+        // the values that are cleared
+        (Call::Clear, true, 5),
+        (Call::Clear, true, 5),
+        (Call::Insert, true, 5),
+        (Call::Insert, true, 5),
+    ],
+    // the values of an arena that is dropped
+    at_end: 7,
+};
+
+// Values that are refused by an arena that has no way to grow.
+const EACH_REFUSED_DROP: Table<'static> = Table {
+    steps: &[
+        (Call::Insert, true, 0),
+        (Call::Insert, true, 0),
+        (Call::Insert, true, 0),
+        // a value that the capacity refuses, that growth refuses, and that an insertion refuses
+        (Call::InsertWithin, false, 1),
+        (Call::InsertReallocating, false, 2),
+        (Call::Insert, false, 3),
+    ],
+    at_end: 6,
+};
+
+// Follows the steps of a table: the one body that takes an `Arena` as the trait, since each such body
+// is slow to prove.
+fn follow_table<T: Drop, C: Count<T>, S: NonZeroInxGenericStack<ArenaSlot<P0, T>>>(
+    arena: &mut Arena<P0, T, S>,
+    count: &C,
+    table: &Table<'_>,
 ) -> Result<(), Wrong> {
-    follow(
-        &mut arena,
-        drops,
-        &[
-            (Call::Insert, true, 0),
-            (Call::Insert, true, 0),
-            (Call::Insert, true, 0),
-            // a value that the capacity refuses, that growth refuses, and that an insertion refuses
-            (Call::InsertWithin, false, 1),
-            (Call::InsertReallocating, false, 2),
-            (Call::Insert, false, 3),
-        ],
-    )?;
+    follow(arena, count, table.steps)
+}
+
+// The same on a new arena over the stack `S`, to the drop of the arena.
+fn drops_on<T: Drop, C: Count<T>, S: NonZeroInxGenericStack<ArenaSlot<P0, T>> + Drop>(
+    alloc: Global,
+    count: &C,
+    table: &Table<'_>,
+) -> Result<(), Wrong> {
+    count.restart();
+    let made: Result<Arena<P0, T, S>, _> = Arena::with_min_capacity(alloc, 3);
+    let Ok(mut arena) = made else {
+        return Err(Wrong::NoMemory);
+    };
+    follow_table(&mut arena, count, table)?;
     drop(arena);
-    at_end(drops, 6)
+    at_end(count.drops(), table.at_end)
+}
+
+// Each drop over a stack that has no way to grow.
+fn each_on_limited<T: Drop, C: Count<T>, S: NonZeroInxGenericStack<ArenaSlot<P0, T>> + Drop>(
+    alloc: Global,
+    count: &C,
+) -> Result<(), Wrong> {
+    drops_on::<T, C, S>(alloc, count, &EACH_DROP)?;
+    drops_on::<T, C, S>(alloc, count, &EACH_REFUSED_DROP)
 }
 
 type Slot<'a> = ArenaSlot<P0, Counted<'a>>;
 
-type Over<'a, S> = Arena<P0, Counted<'a>, S>;
-
-type OnHeap<'a> = Over<'a, NonZeroInxVec<Slot<'a>>>;
-
-type OnLimited<'a> = Over<'a, NonZeroInxLimitedVec<Slot<'a>>>;
-
-type OnFixed<'a> = Over<'a, NonZeroInxBoxedSlice<Slot<'a>>>;
-
-type InArray<'a> = Over<'a, NonZeroInxArray<Slot<'a>, 3>>;
-
-type InLittle<'a> = Over<'a, Scarce<Slot<'a>, 3>>;
-
-// Each drop on an arena of a kind, with three places.
-fn each_on<'a, A: ArenaInsertTrait<P0, Counted<'a>> + Drop>(
-    alloc: Global,
-    drops: &'a Cell<u64>,
-) -> Result<(), Wrong> {
-    drops.set(0);
-    match A::with_min_capacity(alloc, 3) {
-        Ok(arena) => each_drop(arena, drops),
-        Err(_) => Err(Wrong::NoMemory),
-    }
-}
-
-// The same on an arena of a kind that has no way to grow, and each value that is refused.
-fn each_on_limited<'a, A: ArenaInsertTrait<P0, Counted<'a>> + Drop>(
-    alloc: Global,
-    drops: &'a Cell<u64>,
-) -> Result<(), Wrong> {
-    each_on::<A>(alloc, drops)?;
-    drops.set(0);
-    match A::with_min_capacity(alloc, 3) {
-        Ok(arena) => each_refused_drop(arena, drops),
-        Err(_) => Err(Wrong::NoMemory),
-    }
+#[test]
+fn a_value_on_the_heap_is_dropped_once(rt: HostRuntime) -> Result<(), Wrong> {
+    let drops = Cell::new(0);
+    drops_on::<_, _, NonZeroInxVec<Slot<'_>>>(rt.alloc(), &&drops, &EACH_DROP)
 }
 
 #[test]
-fn a_value_on_the_heap_is_dropped_once(rt: HostRuntime) -> Result<(), Fail> {
+fn a_value_under_a_limit_is_dropped_once(rt: HostRuntime) -> Result<(), Wrong> {
     let drops = Cell::new(0);
-    each_on::<OnHeap<'_>>(rt.alloc(), &drops)?;
-    Ok(())
-}
-
-#[test]
-fn a_value_under_a_limit_is_dropped_once(rt: HostRuntime) -> Result<(), Fail> {
-    let drops = Cell::new(0);
-    each_on_limited::<OnLimited<'_>>(rt.alloc(), &drops)?;
-    each_on_limited::<OnFixed<'_>>(rt.alloc(), &drops)?;
-    each_on_limited::<InArray<'_>>(rt.alloc(), &drops)?;
-    Ok(())
+    each_on_limited::<_, _, NonZeroInxLimitedVec<Slot<'_>>>(rt.alloc(), &&drops)?;
+    each_on_limited::<_, _, NonZeroInxBoxedSlice<Slot<'_>>>(rt.alloc(), &&drops)?;
+    each_on_limited::<_, _, NonZeroInxArray<Slot<'_>, 3>>(rt.alloc(), &&drops)
 }
 
 // Whether an arena takes any limit.
-fn is_unlimited<'a, S: SetMaxCapacity<Slot<'a>>>(arena: &mut Over<'a, S>) -> bool {
+fn is_unlimited<T, S: SetMaxCapacity<ArenaSlot<P0, T>>>(arena: &mut Arena<P0, T, S>) -> bool {
     arena.set_max_capacity(usize::MAX).is_ok()
 }
 
-// An arena where there is memory for three places, without a limit in the way.
-fn in_little_memory<'a>(alloc: Global, drops: &'a Cell<u64>) -> Result<(), Wrong> {
-    let made: Result<InLittle<'a>, _> = Arena::with_min_capacity(alloc, 3);
-    match made {
-        Ok(mut arena) => {
-            if !is_unlimited(&mut arena) {
-                return Err(Wrong::AtEnd(0));
-            }
-            each_refused_drop(arena, drops)
-        }
-        Err(_) => Err(Wrong::NoMemory),
+// Each refused drop over a stack that no limit keeps from growing.
+fn refused_without_limit<T: Drop, C: Count<T>, S: SetMaxCapacity<ArenaSlot<P0, T>> + Drop>(
+    alloc: Global,
+    count: &C,
+) -> Result<(), Wrong> {
+    let made: Result<Arena<P0, T, S>, _> = Arena::with_min_capacity(alloc, 3);
+    let Ok(mut arena) = made else {
+        return Err(Wrong::NoMemory);
+    };
+    if !is_unlimited(&mut arena) {
+        return Err(Wrong::AtEnd(0));
     }
+    follow_table(&mut arena, count, &EACH_REFUSED_DROP)?;
+    drop(arena);
+    at_end(count.drops(), EACH_REFUSED_DROP.at_end)
 }
 
 #[test]
-fn a_value_that_memory_refuses_is_dropped_once(rt: HostRuntime) -> Result<(), Fail> {
+fn a_value_that_memory_refuses_is_dropped_once(rt: HostRuntime) -> Result<(), Wrong> {
     let drops = Cell::new(0);
-    in_little_memory(rt.alloc(), &drops)?;
-    Ok(())
-}
-
-// The pointer of an entry that is let go.
-fn entry_ptr<'a>(arena: &mut OnHeap<'a>) -> Option<P0> {
-    match arena.entry_insert() {
-        Ok(entry) => Some(entry.ptr()),
-        Err(_) => None,
-    }
+    refused_without_limit::<_, _, Scarce<Slot<'_>, 3>>(rt.alloc(), &&drops)
 }
 
 // Inserts by an entry, and writes another value over it: whether there was an entry.
-fn writes_over_entry<'a>(arena: &mut OnHeap<'a>, drops: &'a Cell<u64>) -> bool {
+fn writes_over_entry<T: Drop, S: NonZeroInxGenericStack<ArenaSlot<P0, T>>>(
+    arena: &mut Arena<P0, T, S>,
+    first: T,
+    second: T,
+) -> bool {
     match arena.entry_insert() {
         Ok(entry) => {
-            let value = entry.insert(new_value(drops));
-            *value = new_value(drops);
+            *entry.insert(first) = second;
             true
         }
         Err(_) => false,
     }
 }
 
-// A value that is written over through its entry, and the values of the arena.
-fn by_entries(alloc: Global, drops: &Cell<u64>) -> Result<(), Wrong> {
-    let made: Result<OnHeap<'_>, _> = Arena::with_min_capacity(alloc, 3);
+// An entry that is let go, and a value that is written over through its entry, in an arena without
+// entries.
+fn each_entry<T: Drop, C: Count<T>, S: NonZeroInxGenericStack<ArenaSlot<P0, T>>>(
+    arena: &mut Arena<P0, T, S>,
+    count: &C,
+) -> Result<(), Wrong> {
+    let is_first = pointer_of_entry(arena) == Ok(pointer(1, 2));
+    is_told(0, (is_first, count.drops()), (true, 0))?;
+    let is_written = writes_over_entry(arena, count.new_value(), count.new_value());
+    is_told(1, (is_written, count.drops()), (true, 1))
+}
+
+// The same, and the values of an arena with three places.
+fn by_entries<T: Drop, C: Count<T>, S: NonZeroInxGenericStack<ArenaSlot<P0, T>> + Drop>(
+    alloc: Global,
+    count: &C,
+) -> Result<(), Wrong> {
+    let made: Result<Arena<P0, T, S>, _> = Arena::with_min_capacity(alloc, 3);
     let Ok(mut arena) = made else {
         return Err(Wrong::NoMemory);
     };
-    if entry_ptr(&mut arena) != Some(pointer(1, 2)) {
-        return Err(Wrong::Step(0, false, drops.get()));
-    }
-    at_end(drops, 0)?;
-    let is_written = writes_over_entry(&mut arena, drops);
-    if !is_written || drops.get() != 1 {
-        return Err(Wrong::Step(1, is_written, drops.get()));
-    }
+    each_entry(&mut arena, count)?;
     drop(arena);
-    at_end(drops, 2)
+    at_end(count.drops(), 2)
 }
 
 #[test]
-fn a_value_of_an_entry_is_dropped_once(rt: HostRuntime) -> Result<(), Fail> {
+fn a_value_of_an_entry_is_dropped_once(rt: HostRuntime) -> Result<(), Wrong> {
     let drops = Cell::new(0);
-    by_entries(rt.alloc(), &drops)?;
-    Ok(())
+    by_entries::<_, _, NonZeroInxVec<Slot<'_>>>(rt.alloc(), &&drops)
 }

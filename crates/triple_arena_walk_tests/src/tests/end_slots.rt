@@ -1,7 +1,7 @@
 //! Free slots at the end, taken away by themselves.
 
+use super::removals::after_removals;
 use std::alloc::Global;
-use std::test::Fail;
 use triple_arena_ptr::P0;
 use triple_arena_test_kit::{
     Call, Removed, SLOTS, State, TestedArena, Told, Trial, Wrong, follow, follow_to,
@@ -9,33 +9,23 @@ use triple_arena_test_kit::{
 };
 
 // Of five entries the fourth and the fifth go, and the second.
-#[derive(Drop)]
-struct PoppedSlots;
-
-impl Trial for PoppedSlots {
-    fn on<A: TestedArena>(&self, arena: &mut A) -> Result<(), Wrong> {
-        let (entries, removed) = (5, &[2, 4, 5]);
-        Removed { entries, removed }.on(arena)?;
-        follow(
-            arena,
-            &[
-                (Call::Slots, Told::Size(4)),
-                (Call::Root, Told::Size(4)),
-                (Call::RemoveFreeEnd, Told::Done),
-                (Call::Slots, Told::Size(3)),
-                (Call::Root, Told::Size(2)),
-                (Call::Bounds, Told::Bounds(2, 8, None)),
-                (Call::Insert(5), Told::At(2, 5)),
-                (Call::Insert(6), Told::At(4, 5)),
-            ],
-        )
-    }
-}
-
 #[test]
-fn popped_slots_leave_the_free_list(rt: HostRuntime) -> Result<(), Fail> {
-    on_heap::<P0, _>(rt.alloc(), None, &PoppedSlots)?;
-    Ok(())
+fn popped_slots_leave_the_free_list(rt: HostRuntime) -> Result<(), Wrong> {
+    after_removals(
+        rt.alloc(),
+        5,
+        &[2, 4, 5],
+        &[
+            (Call::Slots, Told::Size(4)),
+            (Call::Root, Told::Size(4)),
+            (Call::RemoveFreeEnd, Told::Done),
+            (Call::Slots, Told::Size(3)),
+            (Call::Root, Told::Size(2)),
+            (Call::Bounds, Told::Bounds(2, 8, None)),
+            (Call::Insert(5), Told::At(2, 5)),
+            (Call::Insert(6), Told::At(4, 5)),
+        ],
+    )
 }
 
 // Six slots, of which the fifth and the sixth are free at the end, and 3 and 1 before them.
@@ -75,9 +65,8 @@ impl Trial for EndsAtFour {
 }
 
 #[test]
-fn the_rest_of_the_free_list_keeps_its_order(rt: HostRuntime) -> Result<(), Fail> {
-    on_heap::<P0, _>(rt.alloc(), None, &EndsAtFour)?;
-    Ok(())
+fn the_rest_of_the_free_list_keeps_its_order(rt: HostRuntime) -> Result<(), Wrong> {
+    on_heap::<P0, _>(rt.alloc(), None, &EndsAtFour)
 }
 
 // Of so many entries some go, and the last stays.
@@ -100,37 +89,25 @@ fn last_stays(alloc: Global, entries: usize, removed: &'static [usize]) -> Resul
 }
 
 #[test]
-fn where_the_last_slot_has_an_entry_all_stays(rt: HostRuntime) -> Result<(), Fail> {
+fn where_the_last_slot_has_an_entry_all_stays(rt: HostRuntime) -> Result<(), Wrong> {
     last_stays(rt.alloc(), 0, &[])?;
     last_stays(rt.alloc(), 5, &[])?;
-    last_stays(rt.alloc(), 5, &[2, 4, 1])?;
-    Ok(())
-}
-
-// Each of three entries goes.
-#[derive(Drop)]
-struct AllFree;
-
-impl Trial for AllFree {
-    fn on<A: TestedArena>(&self, arena: &mut A) -> Result<(), Wrong> {
-        let (entries, removed) = (3, &[1, 2, 3]);
-        Removed { entries, removed }.on(arena)?;
-        follow(
-            arena,
-            &[
-                (Call::Slots, Told::Size(2)),
-                (Call::RemoveFreeEnd, Told::Done),
-                (Call::Slots, Told::Size(0)),
-                (Call::Root, Told::Nothing),
-                (Call::Bounds, Told::Bounds(0, 4, None)),
-                (Call::Insert(3), Told::At(1, 5)),
-            ],
-        )
-    }
+    last_stays(rt.alloc(), 5, &[2, 4, 1])
 }
 
 #[test]
-fn where_all_slots_are_free_none_is_left(rt: HostRuntime) -> Result<(), Fail> {
-    on_heap::<P0, _>(rt.alloc(), None, &AllFree)?;
-    Ok(())
+fn where_all_slots_are_free_none_is_left(rt: HostRuntime) -> Result<(), Wrong> {
+    after_removals(
+        rt.alloc(),
+        3,
+        &[1, 2, 3],
+        &[
+            (Call::Slots, Told::Size(2)),
+            (Call::RemoveFreeEnd, Told::Done),
+            (Call::Slots, Told::Size(0)),
+            (Call::Root, Told::Nothing),
+            (Call::Bounds, Told::Bounds(0, 4, None)),
+            (Call::Insert(3), Told::At(1, 5)),
+        ],
+    )
 }

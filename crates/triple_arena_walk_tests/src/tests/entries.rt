@@ -5,7 +5,6 @@ ghost use Rattle.triple_arena_traits.specs.Insertion.{next_pointer};
 ghost use Rattle.triple_arena_traits.specs.Capacity.{grown};
 
 use std::alloc::Global;
-use std::test::Fail;
 use triple_arena::{Arena, ArenaInsertEntryTrait, ArenaSlot};
 use triple_arena_base::ReallocationError;
 use triple_arena_ptr::{P0, P4, P5, Ptr, PtrGen, PtrInx};
@@ -16,15 +15,17 @@ use triple_arena_test_kit::{
 };
 
 // Takes an entry of any arena and lets it go: nothing is inserted, and its room stays.
-fn pointer_of_entry<P: Ptr, T, S: NonZeroInxGenericStack<ArenaSlot<P, T>>>(
+pub fn pointer_of_entry<P: Ptr, T, S: NonZeroInxGenericStack<ArenaSlot<P, T>>>(
     arena: &mut Arena<P, T, S>,
 ) -> Result<P, ReallocationError>
     ensures pointer { IfOk result (λ p. P.numbers p ≡ next_pointer (grown S.kind arena.old)) }
     ensures grown { OnOk result (arena.new ≡ grown S.kind arena.old) }
     ensures refused { OnErr result (arena.new ≡ arena.old) }
 {
-    let entry = arena.entry_insert()?;
-    Ok(entry.ptr())
+    match arena.entry_insert() {
+        Ok(entry) => Ok(entry.ptr()),
+        Err(refused) => Err(refused),
+    }
 }
 
 fn room_of_a_dropped_entry<S: NonZeroInxGenericStack<ArenaSlot<P0, Token>> + Drop>(
@@ -46,13 +47,12 @@ fn room_of_a_dropped_entry<S: NonZeroInxGenericStack<ArenaSlot<P0, Token>> + Dro
 }
 
 #[test]
-fn a_dropped_entry_leaves_its_room(rt: HostRuntime) -> Result<(), Fail> {
-    room_of_a_dropped_entry::<Heap<P0>>(rt.alloc())?;
-    Ok(())
+fn a_dropped_entry_leaves_its_room(rt: HostRuntime) -> Result<(), Wrong> {
+    room_of_a_dropped_entry::<Heap<P0>>(rt.alloc())
 }
 
 #[test]
-fn an_insertion_after_a_dropped_entry_has_its_pointer(rt: HostRuntime) -> Result<(), Fail> {
+fn an_insertion_after_a_dropped_entry_has_its_pointer(rt: HostRuntime) -> Result<(), Wrong> {
     from_empty::<P0>(
         rt.alloc(),
         &[
@@ -60,12 +60,11 @@ fn an_insertion_after_a_dropped_entry_has_its_pointer(rt: HostRuntime) -> Result
             (Call::Insert(1), Told::At(1, 2)),
             (Call::Bounds, Told::Bounds(1, 4, None)),
         ],
-    )?;
-    Ok(())
+    )
 }
 
 #[test]
-fn an_entry_takes_the_index_that_was_freed_last(rt: HostRuntime) -> Result<(), Fail> {
+fn an_entry_takes_the_index_that_was_freed_last(rt: HostRuntime) -> Result<(), Wrong> {
     from_empty::<P0>(
         rt.alloc(),
         &[
@@ -84,12 +83,11 @@ fn an_entry_takes_the_index_that_was_freed_last(rt: HostRuntime) -> Result<(), F
             (Call::Root, Told::Size(2)),
             (Call::Bounds, Told::Bounds(3, 4, None)),
         ],
-    )?;
-    Ok(())
+    )
 }
 
 #[test]
-fn an_entry_of_a_full_arena_makes_it_grow(rt: HostRuntime) -> Result<(), Fail> {
+fn an_entry_of_a_full_arena_makes_it_grow(rt: HostRuntime) -> Result<(), Wrong> {
     let steps = Steps(&[
         (Call::Insert(1), Told::At(1, 2)),
         (Call::EntryPtrWithin, Told::Full),
@@ -98,8 +96,7 @@ fn an_entry_of_a_full_arena_makes_it_grow(rt: HostRuntime) -> Result<(), Fail> {
         (Call::Bounds, Told::Bounds(1, 2, None)),
         (Call::Get(1, 2), Told::Holds(1)),
     ]);
-    on_heap::<P0, _>(rt.alloc(), Some(1), &steps)?;
-    Ok(())
+    on_heap::<P0, _>(rt.alloc(), Some(1), &steps)
 }
 
 // Insertions by entries up to the greatest byte index, and one more entry.
@@ -118,9 +115,8 @@ impl Trial for UpTo255 {
 }
 
 #[test]
-fn an_entry_past_the_greatest_index_is_refused(rt: HostRuntime) -> Result<(), Fail> {
-    on_heap::<P5, _>(rt.alloc(), None, &UpTo255)?;
-    Ok(())
+fn an_entry_past_the_greatest_index_is_refused(rt: HostRuntime) -> Result<(), Wrong> {
+    on_heap::<P5, _>(rt.alloc(), None, &UpTo255)
 }
 
 const BEYOND: Told = Told::Refused(ReallocationError::BeyondMaxCapacity);
@@ -148,11 +144,10 @@ const EACH_ENTRY_CALL: Steps = Steps(&[
 ]);
 
 #[test]
-fn each_entry_call_on_each_stack_with_a_limit(rt: HostRuntime) -> Result<(), Fail> {
+fn each_entry_call_on_each_stack_with_a_limit(rt: HostRuntime) -> Result<(), Wrong> {
     on_limited::<P0, _>(rt.alloc(), Some(2), &EACH_ENTRY_CALL)?;
     on_fixed::<P4, _>(rt.alloc(), Some(2), &EACH_ENTRY_CALL)?;
-    on_new::<Narrow, Places<Narrow, 2>, _>(rt.alloc(), &EACH_ENTRY_CALL)?;
-    Ok(())
+    on_new::<Narrow, Places<Narrow, 2>, _>(rt.alloc(), &EACH_ENTRY_CALL)
 }
 
 // Insertions by each of the three calls, on an arena with place for three.
@@ -166,10 +161,9 @@ const EACH_ENTRY_INSERTION: Steps = Steps(&[
 ]);
 
 #[test]
-fn an_entry_over_each_stack_by_its_name(rt: HostRuntime) -> Result<(), Fail> {
+fn an_entry_over_each_stack_by_its_name(rt: HostRuntime) -> Result<(), Wrong> {
     on_heap::<P0, _>(rt.alloc(), Some(3), &EACH_ENTRY_INSERTION)?;
     on_limited::<P0, _>(rt.alloc(), Some(3), &EACH_ENTRY_INSERTION)?;
     on_fixed::<P0, _>(rt.alloc(), Some(3), &EACH_ENTRY_INSERTION)?;
-    on_new::<P0, Places<P0, 3>, _>(rt.alloc(), &EACH_ENTRY_INSERTION)?;
-    Ok(())
+    on_new::<P0, Places<P0, 3>, _>(rt.alloc(), &EACH_ENTRY_INSERTION)
 }

@@ -1,6 +1,5 @@
 //! Two values at once, by pointers and by indexes.
 
-use std::test::Fail;
 use triple_arena_base::GetDisjointMutError;
 use triple_arena_ptr::{P0, P4};
 use triple_arena_test_kit::{
@@ -94,18 +93,16 @@ impl Trial for EachPair {
 }
 
 #[test]
-fn each_pair_on_wide_pointers(rt: HostRuntime) -> Result<(), Fail> {
+fn each_pair_on_wide_pointers(rt: HostRuntime) -> Result<(), Wrong> {
     on_heap::<P0, _>(rt.alloc(), Some(3), &EachPair)?;
-    on_new::<P0, Places<P0, 3>, _>(rt.alloc(), &EachPair)?;
-    Ok(())
+    on_new::<P0, Places<P0, 3>, _>(rt.alloc(), &EachPair)
 }
 
 #[test]
-fn each_pair_on_byte_pointers_and_without_generations(rt: HostRuntime) -> Result<(), Fail> {
+fn each_pair_on_byte_pointers_and_without_generations(rt: HostRuntime) -> Result<(), Wrong> {
     on_heap::<Narrow, _>(rt.alloc(), Some(3), &EachPair)?;
     on_new::<Narrow, Places<Narrow, 3>, _>(rt.alloc(), &EachPair)?;
-    on_heap::<P4, _>(rt.alloc(), Some(3), &EachPair)?;
-    Ok(())
+    on_heap::<P4, _>(rt.alloc(), Some(3), &EachPair)
 }
 
 // An old pointer of the first index, and two entries.
@@ -141,9 +138,8 @@ impl Trial for NotTwoEntries {
 }
 
 #[test]
-fn two_generations_at_one_index_are_not_two_entries(rt: HostRuntime) -> Result<(), Fail> {
+fn two_generations_at_one_index_are_not_two_entries(rt: HostRuntime) -> Result<(), Wrong> {
     on_heap::<P0, _>(rt.alloc(), None, &NotTwoEntries)?;
     on_heap::<Narrow, _>(rt.alloc(), None, &NotTwoEntries)?;
-    on_heap::<B, _>(rt.alloc(), None, &NotTwoEntries)?;
-    Ok(())
+    on_heap::<B, _>(rt.alloc(), None, &NotTwoEntries)
 }

@@ -1,16 +1,15 @@
 //! The text of an arena.
 
-use std::alloc::{AllocError, Global};
+use super::insertion::put;
+use std::alloc::Global;
 use std::fmt;
 use std::fmt::{Debug, Write};
-use std::test::Fail;
-use triple_arena::{Arena, ArenaInsertTrait, ArenaSlot, ArenaTrait};
-use triple_arena_base::ReallocationError;
+use triple_arena::{Arena, ArenaSlot, ArenaTrait};
 use triple_arena_ptr::{P0, P4, Ptr, Q2};
-use triple_arena_stack::NonZeroInxGenericStack;
+use triple_arena_stack::{NonZeroInxGenericStack, NonZeroInxVec};
 use triple_arena_test_kit::{
     Call, Fixed, Heap, Limited, Narrow, Numbered, Places, Steps, Token, Told, Trial, Wrong,
-    is_text, new_arena, with_room,
+    is_text, new_arena, pointer, with_room,
 };
 
 // Three entries, of which the second goes, and the third gets a new pointer.
@@ -23,15 +22,29 @@ const TWO_LEFT: Steps = Steps(&[
 ]);
 
 // That an arena has this text.
-fn has_text<P: Ptr, S: NonZeroInxGenericStack<ArenaSlot<P, Token>>>(
-    arena: &Arena<P, Token, S>,
+fn has_text<P: Ptr, T: Debug, S: NonZeroInxGenericStack<ArenaSlot<P, T>>>(
+    arena: &Arena<P, T, S>,
     alloc: Global,
     expected: &'static str,
 ) -> Result<(), Wrong> {
     is_text(format!(in alloc; "{arena:?}")?.as_str(), expected)
 }
 
-// The text of an arena with place for three and no entry, and its text with two entries.
+// The text of an arena without entries, and its text with two.
+fn each_text<P: Ptr, S: NonZeroInxGenericStack<ArenaSlot<P, Token>>>(
+    arena: &mut Arena<P, Token, S>,
+    alloc: Global,
+    expected: &'static str,
+) -> Result<(), Wrong>
+where
+    P::Gen: Numbered,
+{
+    let before = has_text(arena, alloc, "{}");
+    let changed = TWO_LEFT.on(arena);
+    before.and(changed).and(has_text(arena, alloc, expected))
+}
+
+// The same of an arena with place for three.
 fn has_texts<P: Ptr, S: NonZeroInxGenericStack<ArenaSlot<P, Token>> + Drop>(
     alloc: Global,
     expected: &'static str,
@@ -40,13 +53,11 @@ where
     P::Gen: Numbered,
 {
     let mut arena: Arena<P, Token, S> = with_room(alloc, 3)?;
-    has_text(&arena, alloc, "{}")?;
-    TWO_LEFT.on(&mut arena)?;
-    has_text(&arena, alloc, expected)
+    each_text(&mut arena, alloc, expected)
 }
 
 #[test]
-fn entries_stand_by_index_over_each_stack(rt: HostRuntime) -> Result<(), Fail> {
+fn entries_stand_by_index_over_each_stack(rt: HostRuntime) -> Result<(), Wrong> {
     has_texts::<P0, Heap<P0>>(
         rt.alloc(),
         "{P0[1](2): Token { number: 7 }, P0[3](4): Token { number: 8 }}",
@@ -62,39 +73,54 @@ fn entries_stand_by_index_over_each_stack(rt: HostRuntime) -> Result<(), Fail> {
     has_texts::<Narrow, Places<Narrow, 3>>(
         rt.alloc(),
         "{PtrOf[1](2): Token { number: 7 }, PtrOf[3](4): Token { number: 8 }}",
-    )?;
-    Ok(())
+    )
 }
 
-// The pointer of a new value.
-fn put<T: Drop>(arena: &mut Arena<P0, T>, value: T) -> Result<P0, ReallocationError> {
-    arena.insert(value)
+// That a value came to this index.
+fn is_put(p: Option<P0>, index: usize) -> Result<(), Wrong> {
+    if p == Some(pointer(index, 2)) {
+        Ok(())
+    } else {
+        Err(Wrong::Answer(index))
+    }
 }
 
-// The text of an arena on the heap.
-fn text_of<T: Debug>(alloc: Global, arena: &Arena<P0, T>) -> Result<String, AllocError> {
-    format!(in alloc; "{arena:?}")
+// The texts of an arena of one value, and of that one and another.
+fn two_values<T: Debug + Drop, S: NonZeroInxGenericStack<ArenaSlot<P0, T>> + Drop>(
+    alloc: Global,
+    values: (T, T),
+    expected: (&'static str, &'static str),
+) -> Result<(), Wrong> {
+    let mut arena: Arena<P0, T, S> = Arena::new(alloc);
+    let (first, second) = values;
+    is_put(put(&mut arena, first), 1)?;
+    has_text(&arena, alloc, expected.0)?;
+    is_put(put(&mut arena, second), 2)?;
+    has_text(&arena, alloc, expected.1)
 }
+
+type OnHeap<T> = NonZeroInxVec<ArenaSlot<P0, T>>;
+
+type Link = (u64, Option<P0>);
 
 #[test]
-fn a_value_has_its_own_text(rt: HostRuntime) -> Result<(), Fail> {
-    let alloc = rt.alloc();
-    let mut words: Arena<P0, &str> = Arena::new(alloc);
-    put(&mut words, "test")?;
-    assert_eq!(rt; text_of(alloc, &words)?.as_str(), r#"{P0[1](2): "test"}"#);
-    put(&mut words, "hello")?;
-    assert_eq!(rt;
-        text_of(alloc, &words)?.as_str(),
-        r#"{P0[1](2): "test", P0[2](2): "hello"}"#
-    );
-    let mut links: Arena<P0, (u64, Option<P0>)> = Arena::new(alloc);
-    let first = put(&mut links, (42, None))?;
-    put(&mut links, (1337, Some(first)))?;
-    assert_eq!(rt;
-        text_of(alloc, &links)?.as_str(),
-        "{P0[1](2): (42, None), P0[2](2): (1337, Some(P0[1](2)))}"
-    );
-    Ok(())
+fn a_value_has_its_own_text(rt: HostRuntime) -> Result<(), Wrong> {
+    two_values::<&'static str, OnHeap<&'static str>>(
+        rt.alloc(),
+        ("test", "hello"),
+        (
+            r#"{P0[1](2): "test"}"#,
+            r#"{P0[1](2): "test", P0[2](2): "hello"}"#,
+        ),
+    )?;
+    two_values::<Link, OnHeap<Link>>(
+        rt.alloc(),
+        ((42, None), (1337, Some(pointer(1, 2)))),
+        (
+            "{P0[1](2): (42, None)}",
+            "{P0[1](2): (42, None), P0[2](2): (1337, Some(P0[1](2)))}",
+        ),
+    )
 }
 
 // Takes so many pieces of a text, and refuses each one behind them.
@@ -115,26 +141,48 @@ impl Write for Refusing {
     }
 }
 
-#[test]
-fn a_writer_that_fails_is_asked_no_more(rt: HostRuntime) -> Result<(), Fail> {
-    let mut arena = new_arena::<P0, Heap<P0>>(rt.alloc());
-    TWO_LEFT.on(&mut arena)?;
-    let mut whole = Refusing {
-        pieces_left: 100,
+// Writes an arena to a writer that takes so many pieces: how many more it takes then, or how many it
+// refused.
+fn written<P: Ptr, T: Debug, S: NonZeroInxGenericStack<ArenaSlot<P, T>>>(
+    arena: &Arena<P, T, S>,
+    pieces_left: usize,
+) -> Result<usize, usize> {
+    let mut writer = Refusing {
+        pieces_left,
         refusals: 0,
     };
-    assert_eq!(rt; write!(whole, "{arena:?}"), Ok(()));
-    for pieces_left in 0..usize::saturating_sub(100, whole.pieces_left) {
-        let mut writer = Refusing {
-            pieces_left,
-            refusals: 0,
-        };
-        assert_eq!(rt;
-            write!(writer, "{arena:?}"),
-            Err(fmt::Error),
-            "after {pieces_left}"
-        );
-        assert_eq!(rt; writer.refusals, 1, "after {pieces_left}");
+    match write!(writer, "{arena:?}") {
+        Ok(()) => Ok(writer.pieces_left),
+        Err(fmt::Error) => Err(writer.refusals),
+    }
+}
+
+// That a writer which takes fewer pieces than these refuses one alone.
+fn refuses_once<P: Ptr, T: Debug, S: NonZeroInxGenericStack<ArenaSlot<P, T>>>(
+    arena: &Arena<P, T, S>,
+    pieces: usize,
+) -> Result<(), Wrong> {
+    for pieces_left in 0..pieces {
+        if written(arena, pieces_left) != Err(1) {
+            return Err(Wrong::Answer(pieces_left));
+        }
     }
     Ok(())
+}
+
+// The same with each number of pieces that is too small for two entries.
+fn each_refusal<S: NonZeroInxGenericStack<ArenaSlot<P0, Token>> + Drop>(
+    alloc: Global,
+) -> Result<(), Wrong> {
+    let mut arena: Arena<P0, Token, S> = new_arena(alloc);
+    TWO_LEFT.on(&mut arena)?;
+    match written(&arena, 100) {
+        Ok(left) => refuses_once(&arena, usize::saturating_sub(100, left)),
+        Err(_) => Err(Wrong::Answer(100)),
+    }
+}
+
+#[test]
+fn a_writer_that_fails_is_asked_no_more(rt: HostRuntime) -> Result<(), Wrong> {
+    each_refusal::<Heap<P0>>(rt.alloc())
 }

@@ -1,8 +1,8 @@
 //! Walks over arenas: advancers, iterators and drains.
 
+use super::removals::after_removals;
 use std::alloc::Global;
 use std::num::NonZeroU128;
-use std::test::Fail;
 use triple_arena::{Arena, ArenaSlot, CompactArenaTrait};
 use triple_arena_ptr::{P0, Ptr, Q2};
 use triple_arena_stack::NonZeroInxGenericStack;
@@ -24,38 +24,8 @@ const FIVE: (usize, u64) = (5, 2);
 
 const NO_POINTERS: Told = Told::MetPointers(NO_POINTER, NO_POINTER, NO_POINTER);
 
-// The calls on an arena of so many entries, each of its index, of which some were removed in turn.
-#[derive(Drop)]
-struct AfterRemovals {
-    entries: usize,
-    removed: &'static [usize],
-    steps: &'static [(Call, Told)],
-}
-
-impl Trial for AfterRemovals {
-    fn on<A: TestedArena>(&self, arena: &mut A) -> Result<(), Wrong> {
-        let (entries, removed) = (self.entries, self.removed);
-        Removed { entries, removed }.on(arena)?;
-        follow(arena, self.steps)
-    }
-}
-
-fn after_removals(
-    alloc: Global,
-    entries: usize,
-    removed: &'static [usize],
-    steps: &'static [(Call, Told)],
-) -> Result<(), Wrong> {
-    let trial = AfterRemovals {
-        entries,
-        removed,
-        steps,
-    };
-    on_heap::<P0, _>(alloc, None, &trial)
-}
-
 #[test]
-fn advancers_go_from_entry_to_entry(rt: HostRuntime) -> Result<(), Fail> {
+fn advancers_go_from_entry_to_entry(rt: HostRuntime) -> Result<(), Wrong> {
     after_removals(
         rt.alloc(),
         5,
@@ -77,12 +47,11 @@ fn advancers_go_from_entry_to_entry(rt: HostRuntime) -> Result<(), Fail> {
             (Call::StepsFrom(6, false), NO_POINTERS),
             (Call::NoSteps, NO_POINTERS),
         ],
-    )?;
-    Ok(())
+    )
 }
 
 #[test]
-fn from_past_the_slots_one_in_reverse_goes_down(rt: HostRuntime) -> Result<(), Fail> {
+fn from_past_the_slots_one_in_reverse_goes_down(rt: HostRuntime) -> Result<(), Wrong> {
     after_removals(
         rt.alloc(),
         2,
@@ -91,12 +60,11 @@ fn from_past_the_slots_one_in_reverse_goes_down(rt: HostRuntime) -> Result<(), F
             Call::StepsFrom(9, true),
             Told::MetPointers(TWO, ONE, NO_POINTER),
         )],
-    )?;
-    Ok(())
+    )
 }
 
 #[test]
-fn an_arena_without_entries_has_nothing_to_walk(rt: HostRuntime) -> Result<(), Fail> {
+fn an_arena_without_entries_has_nothing_to_walk(rt: HostRuntime) -> Result<(), Wrong> {
     after_removals(
         rt.alloc(),
         3,
@@ -107,8 +75,7 @@ fn an_arena_without_entries_has_nothing_to_walk(rt: HostRuntime) -> Result<(), F
             (Call::Pointers, NO_POINTERS),
             (Call::Values, Told::MetValues(NO_VALUE, NO_VALUE, NO_VALUE)),
         ],
-    )?;
-    Ok(())
+    )
 }
 
 // An advancer, while the arena gets entries where it was and where it will be.
@@ -178,21 +145,19 @@ where
 }
 
 #[test]
-fn a_forward_advancer_goes_on_while_the_arena_changes(rt: HostRuntime) -> Result<(), Fail> {
-    walks_on::<P0, Heap<P0>>(rt.alloc(), None)?;
-    Ok(())
+fn a_forward_advancer_goes_on_while_the_arena_changes(rt: HostRuntime) -> Result<(), Wrong> {
+    walks_on::<P0, Heap<P0>>(rt.alloc(), None)
 }
 
 #[test]
-fn indexes_past_any_slot(rt: HostRuntime) -> Result<(), Fail> {
+fn indexes_past_any_slot(rt: HostRuntime) -> Result<(), Wrong> {
     let past = NonZeroU128::new(1 << 64);
     assert!(rt; past.is_some());
-    walks_on::<Wide, Heap<Wide>>(rt.alloc(), past)?;
-    Ok(())
+    walks_on::<Wide, Heap<Wide>>(rt.alloc(), past)
 }
 
 #[test]
-fn iterators_give_the_entries_by_index(rt: HostRuntime) -> Result<(), Fail> {
+fn iterators_give_the_entries_by_index(rt: HostRuntime) -> Result<(), Wrong> {
     after_removals(
         rt.alloc(),
         6,
@@ -204,8 +169,7 @@ fn iterators_give_the_entries_by_index(rt: HostRuntime) -> Result<(), Fail> {
             (Call::AddToAll(10), Told::Done),
             (Call::Values, Told::MetValues(12, 14, 15)),
         ],
-    )?;
-    Ok(())
+    )
 }
 
 // The sum of the numbers of all pointers' indexes and of all values.
@@ -234,25 +198,23 @@ fn sums_of_three<S: NonZeroInxGenericStack<ArenaSlot<P0, Token>> + Drop>(
 }
 
 #[test]
-fn a_loop_over_an_arena_meets_each_entry(rt: HostRuntime) -> Result<(), Fail> {
-    sums_of_three::<Heap<P0>>(rt.alloc())?;
-    Ok(())
+fn a_loop_over_an_arena_meets_each_entry(rt: HostRuntime) -> Result<(), Wrong> {
+    sums_of_three::<Heap<P0>>(rt.alloc())
 }
 
 #[test]
-fn a_walk_gives_pointers_of_the_arena_s_own_type(rt: HostRuntime) -> Result<(), Fail> {
+fn a_walk_gives_pointers_of_the_arena_s_own_type(rt: HostRuntime) -> Result<(), Wrong> {
     from_empty::<Q2>(
         rt.alloc(),
         &[
             (Call::Insert(7), Told::At(1, 2)),
             (Call::Entries, Told::Met((1, 2, 7), NO_ENTRY, NO_ENTRY)),
         ],
-    )?;
-    Ok(())
+    )
 }
 
 #[test]
-fn a_drain_takes_out_each_entry(rt: HostRuntime) -> Result<(), Fail> {
+fn a_drain_takes_out_each_entry(rt: HostRuntime) -> Result<(), Wrong> {
     after_removals(
         rt.alloc(),
         2,
@@ -266,12 +228,11 @@ fn a_drain_takes_out_each_entry(rt: HostRuntime) -> Result<(), Fail> {
             (Call::Slots, Told::Size(0)),
             (Call::Insert(3), Told::At(1, 4)),
         ],
-    )?;
-    Ok(())
+    )
 }
 
 #[test]
-fn a_drain_that_is_let_go_clears(rt: HostRuntime) -> Result<(), Fail> {
+fn a_drain_that_is_let_go_clears(rt: HostRuntime) -> Result<(), Wrong> {
     after_removals(
         rt.alloc(),
         3,
@@ -284,8 +245,7 @@ fn a_drain_that_is_let_go_clears(rt: HostRuntime) -> Result<(), Fail> {
             (Call::Slots, Told::Size(0)),
             (Call::Insert(4), Told::At(1, 4)),
         ],
-    )?;
-    Ok(())
+    )
 }
 
 // 253 insertions and removals, which raise a byte counter from 2 to its end.
@@ -303,7 +263,7 @@ impl Trial for AtTheEnd {
 }
 
 #[test]
-fn a_drain_that_wraps_the_counter(rt: HostRuntime) -> Result<(), Fail> {
+fn a_drain_that_wraps_the_counter(rt: HostRuntime) -> Result<(), Wrong> {
     let drains = Steps(&[
         (Call::Insert(1), Told::At(1, 255)),
         (Call::Insert(2), Told::At(2, 255)),
@@ -321,6 +281,5 @@ fn a_drain_that_wraps_the_counter(rt: HostRuntime) -> Result<(), Fail> {
         ),
         (Call::Generation, Told::Generation(2)),
     ]);
-    on_heap::<B, _>(rt.alloc(), None, &(AtTheEnd, drains))?;
-    Ok(())
+    on_heap::<B, _>(rt.alloc(), None, &(AtTheEnd, drains))
 }

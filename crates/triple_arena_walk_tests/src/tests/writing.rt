@@ -1,6 +1,5 @@
 //! Writing to each value of an arena.
 
-use std::test::Fail;
 use triple_arena_ptr::{P0, P4};
 use triple_arena_test_kit::{
     B, Call, NO_ENTRY, NO_VALUE, Narrow, Places, SLOTS, State, Steps, TestedArena, Told, Trial,
@@ -76,21 +75,19 @@ impl Trial for ThreeOfFive {
 }
 
 #[test]
-fn ten_is_added_to_three_of_five_on_wide_pointers(rt: HostRuntime) -> Result<(), Fail> {
+fn ten_is_added_to_three_of_five_on_wide_pointers(rt: HostRuntime) -> Result<(), Wrong> {
     on_heap::<P0, _>(rt.alloc(), None, &ThreeOfFive)?;
     on_limited::<P0, _>(rt.alloc(), Some(5), &ThreeOfFive)?;
     on_fixed::<P0, _>(rt.alloc(), Some(5), &ThreeOfFive)?;
     on_new::<P0, Places<P0, 5>, _>(rt.alloc(), &ThreeOfFive)?;
-    on_heap::<Wide, _>(rt.alloc(), None, &ThreeOfFive)?;
-    Ok(())
+    on_heap::<Wide, _>(rt.alloc(), None, &ThreeOfFive)
 }
 
 #[test]
-fn ten_is_added_to_three_of_five_on_byte_pointers(rt: HostRuntime) -> Result<(), Fail> {
+fn ten_is_added_to_three_of_five_on_byte_pointers(rt: HostRuntime) -> Result<(), Wrong> {
     on_heap::<B, _>(rt.alloc(), None, &ThreeOfFive)?;
     on_heap::<Narrow, _>(rt.alloc(), None, &ThreeOfFive)?;
-    on_little::<Narrow, 5, _>(rt.alloc(), Some(5), &ThreeOfFive)?;
-    Ok(())
+    on_little::<Narrow, 5, _>(rt.alloc(), Some(5), &ThreeOfFive)
 }
 
 // No entry, and so none to meet.
@@ -130,9 +127,8 @@ impl Trial for NothingIsMet {
 }
 
 #[test]
-fn nothing_is_met_in_an_arena_without_entries(rt: HostRuntime) -> Result<(), Fail> {
-    on_heap::<P0, _>(rt.alloc(), None, &NothingIsMet)?;
-    Ok(())
+fn nothing_is_met_in_an_arena_without_entries(rt: HostRuntime) -> Result<(), Wrong> {
+    on_heap::<P0, _>(rt.alloc(), None, &NothingIsMet)
 }
 
 // Every slot has an entry, up to the greatest index.
@@ -154,13 +150,11 @@ impl Trial for Each255 {
 }
 
 #[test]
-fn each_of_255_entries_is_met(rt: HostRuntime) -> Result<(), Fail> {
-    on_heap::<Narrow, _>(rt.alloc(), Some(255), &Each255)?;
-    Ok(())
+fn each_of_255_entries_is_met(rt: HostRuntime) -> Result<(), Wrong> {
+    on_heap::<Narrow, _>(rt.alloc(), Some(255), &Each255)
 }
 
 #[test]
-fn without_generations_the_entries_are_met_by_their_indexes(rt: HostRuntime) -> Result<(), Fail> {
-    on_heap::<P4, _>(rt.alloc(), None, &ThreeOfFive)?;
-    Ok(())
+fn without_generations_the_entries_are_met_by_their_indexes(rt: HostRuntime) -> Result<(), Wrong> {
+    on_heap::<P4, _>(rt.alloc(), None, &ThreeOfFive)
 }

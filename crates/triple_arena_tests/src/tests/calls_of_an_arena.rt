@@ -1,17 +1,12 @@
 //! The calls of an `Arena` beside those of the traits, over each stack and on pointers of each
 //! kind.
 
-use std::alloc::Global;
-use std::test::Fail;
-use triple_arena_base::ReallocationError;
-use triple_arena_ptr::{P0, P1, P2, P3, P4, P5, Ptr, PtrNoGen, Q2};
-use triple_arena_test_kit::{
-    B, Call, Narrow, Numbered, Places, Steps, Told, Wide, Wrong, on_fixed, on_heap, on_limited,
-    on_little, on_new,
-};
+use super::arenas::{Pointers, Stack, on, on_each};
+use super::parts::{BEYOND, Part};
+use triple_arena_test_kit::{Call, Told, Wrong};
 
 // Each call, on an arena with place for six and no entry.
-const EACH_OWN_CALL: Steps = Steps(&[
+const EACH_OWN_CALL: Part = Part::Steps(&[
     (Call::Generation, Told::Generation(2)),
     (Call::Slots, Told::Size(0)),
     (Call::Root, Told::Nothing),
@@ -65,50 +60,51 @@ const EACH_OWN_CALL: Steps = Steps(&[
     (Call::SlotAt(2), Told::Held(5, 11)),
 ]);
 
-// Over each stack on the heap.
-fn over_heap_stacks<P: Ptr>(alloc: Global) -> Result<(), Wrong>
-where
-    P::Gen: Numbered,
-{
-    on_heap::<P, _>(alloc, Some(6), &EACH_OWN_CALL)?;
-    on_limited::<P, _>(alloc, Some(6), &EACH_OWN_CALL)?;
-    on_fixed::<P, _>(alloc, Some(6), &EACH_OWN_CALL)?;
-    on_little::<P, 6, _>(alloc, Some(6), &EACH_OWN_CALL)
+#[test]
+fn each_own_call_over_each_stack_on_the_heap(rt: HostRuntime) -> Result<(), Wrong> {
+    on_each(
+        rt.alloc(),
+        &[Pointers::P0, Pointers::P5, Pointers::Narrow, Pointers::Wide],
+        &[
+            Stack::Heap(Some(6)),
+            Stack::Limited(Some(6)),
+            Stack::Fixed(Some(6)),
+            Stack::Little(6, Some(6)),
+        ],
+        &[EACH_OWN_CALL],
+    )
 }
 
 #[test]
-fn each_own_call_over_each_stack_on_the_heap(rt: HostRuntime) -> Result<(), Fail> {
-    over_heap_stacks::<P0>(rt.alloc())?;
-    over_heap_stacks::<P5>(rt.alloc())?;
-    over_heap_stacks::<Narrow>(rt.alloc())?;
-    over_heap_stacks::<Wide>(rt.alloc())?;
-    Ok(())
+fn each_own_call_over_an_array(rt: HostRuntime) -> Result<(), Wrong> {
+    on_each(
+        rt.alloc(),
+        &[Pointers::P0, Pointers::P5, Pointers::Narrow],
+        &[Stack::Array(6)],
+        &[EACH_OWN_CALL],
+    )
 }
 
 #[test]
-fn each_own_call_over_an_array(rt: HostRuntime) -> Result<(), Fail> {
-    on_new::<P0, Places<P0, 6>, _>(rt.alloc(), &EACH_OWN_CALL)?;
-    on_new::<P5, Places<P5, 6>, _>(rt.alloc(), &EACH_OWN_CALL)?;
-    on_new::<Narrow, Places<Narrow, 6>, _>(rt.alloc(), &EACH_OWN_CALL)?;
-    Ok(())
+fn each_own_call_on_each_pointer_type(rt: HostRuntime) -> Result<(), Wrong> {
+    on_each(
+        rt.alloc(),
+        &[
+            Pointers::P1,
+            Pointers::P2,
+            Pointers::P3,
+            Pointers::P4,
+            Pointers::Q2,
+            Pointers::NoGen,
+            Pointers::B,
+        ],
+        &[Stack::Heap(None)],
+        &[EACH_OWN_CALL],
+    )
 }
-
-#[test]
-fn each_own_call_on_each_pointer_type(rt: HostRuntime) -> Result<(), Fail> {
-    on_heap::<P1, _>(rt.alloc(), None, &EACH_OWN_CALL)?;
-    on_heap::<P2, _>(rt.alloc(), None, &EACH_OWN_CALL)?;
-    on_heap::<P3, _>(rt.alloc(), None, &EACH_OWN_CALL)?;
-    on_heap::<P4, _>(rt.alloc(), None, &EACH_OWN_CALL)?;
-    on_heap::<Q2, _>(rt.alloc(), None, &EACH_OWN_CALL)?;
-    on_heap::<PtrNoGen<P0>, _>(rt.alloc(), None, &EACH_OWN_CALL)?;
-    on_heap::<B, _>(rt.alloc(), None, &EACH_OWN_CALL)?;
-    Ok(())
-}
-
-const BEYOND: Told = Told::Refused(ReallocationError::BeyondMaxCapacity);
 
 // The calls on the limit of a new arena that has a limit and no room.
-const EACH_LIMIT_CALL: Steps = Steps(&[
+const EACH_LIMIT_CALL: Part = Part::Steps(&[
     (Call::Bounds, Told::Bounds(0, 0, Some(0))),
     (Call::SetLimit(2), Told::Done),
     (Call::Bounds, Told::Bounds(0, 0, Some(2))),
@@ -131,10 +127,17 @@ const EACH_LIMIT_CALL: Steps = Steps(&[
 ]);
 
 #[test]
-fn each_limit_call_on_pointers_of_each_kind(rt: HostRuntime) -> Result<(), Fail> {
-    on_limited::<Wide, _>(rt.alloc(), None, &EACH_LIMIT_CALL)?;
-    on_limited::<Narrow, _>(rt.alloc(), None, &EACH_LIMIT_CALL)?;
-    on_limited::<P4, _>(rt.alloc(), None, &EACH_LIMIT_CALL)?;
-    on_little::<P5, 2, _>(rt.alloc(), None, &EACH_LIMIT_CALL)?;
-    Ok(())
+fn each_limit_call_on_pointers_of_each_kind(rt: HostRuntime) -> Result<(), Wrong> {
+    on_each(
+        rt.alloc(),
+        &[Pointers::Wide, Pointers::Narrow, Pointers::P4],
+        &[Stack::Limited(None)],
+        &[EACH_LIMIT_CALL],
+    )?;
+    on(
+        rt.alloc(),
+        Pointers::P5,
+        Stack::Little(2, None),
+        &[EACH_LIMIT_CALL],
+    )
 }

@@ -1,13 +1,12 @@
 //! Pointers that are given, and what they find once they have ended.
 
-use std::test::Fail;
-use triple_arena_ptr::P0;
-use triple_arena_test_kit::{Call, NO_ENTRY, Told, from_empty};
+use super::arenas::from_empty;
+use triple_arena_test_kit::{Call, NO_ENTRY, Told, Wrong};
 
 /// Insertion, removal, invalidation, clearing and compression give six different pointers.
 #[test]
-fn each_pointer_is_new_and_the_last_alone_is_left(rt: HostRuntime) -> Result<(), Fail> {
-    from_empty::<P0>(
+fn each_pointer_is_new_and_the_last_alone_is_left(rt: HostRuntime) -> Result<(), Wrong> {
+    from_empty(
         rt.alloc(),
         &[
             (Call::Insert(10), Told::At(1, 2)),
@@ -30,15 +29,14 @@ fn each_pointer_is_new_and_the_last_alone_is_left(rt: HostRuntime) -> Result<(),
             (Call::Contains(1, 5), Told::Is(false)),
             (Call::Contains(1, 6), Told::Is(true)),
         ],
-    )?;
-    Ok(())
+    )
 }
 
 /// A reset begins the generations anew: the pointers of the entries then count as given first, and
 /// those that come later are new among them.
 #[test]
-fn after_a_reset_the_entries_count_as_given_first(rt: HostRuntime) -> Result<(), Fail> {
-    from_empty::<P0>(
+fn after_a_reset_the_entries_count_as_given_first(rt: HostRuntime) -> Result<(), Wrong> {
+    from_empty(
         rt.alloc(),
         &[
             (Call::Insert(10), Told::At(1, 2)),
@@ -53,6 +51,5 @@ fn after_a_reset_the_entries_count_as_given_first(rt: HostRuntime) -> Result<(),
             (Call::Get(3, 2), Told::Nothing),
             (Call::Entries, Told::Met((1, 2, 20), (2, 2, 30), (3, 3, 50))),
         ],
-    )?;
-    Ok(())
+    )
 }

@@ -1,48 +1,52 @@
 //! Arenas of thousands of entries.
 
-use super::refused_memory::each_made;
-use std::test::Fail;
-use triple_arena_ptr::P0;
-use triple_arena_test_kit::{
-    Call, Heap, TestedArena, Told, Trial, Wrong, on_heap, on_limited, step,
-};
+use super::arenas::{Pointers, Stack, is_made, on, on_heap_of_p0};
+use super::parts::Part;
+use triple_arena_test_kit::{Call, TestedArena, Told, Wrong, step};
 
-// 5000 insertions in an arena without slots, the ends of every second, and as many insertions
-// again. Then length, capacity and limit are these.
-#[derive(Drop)]
-struct Thousands {
-    bounds: Told,
-}
-
-impl Trial for Thousands {
-    fn on<A: TestedArena>(&self, arena: &mut A) -> Result<(), Wrong> {
-        for index in 1..5001 {
-            step(arena, Call::Insert(index as u64), Told::At(index, 2))?;
-        }
-        for half in 1..2501 {
-            let index = 2 * half;
-            step(arena, Call::RemoveInx(index), Told::Held(2, index as u64))?;
-        }
-        // from the last that was freed to the first; the slot of the last entry was given up
-        for half in 1..2500 {
-            step(arena, Call::Insert(0), Told::At(5000 - 2 * half, 2502))?;
-        }
-        step(arena, Call::Insert(0), Told::At(5000, 2502))?;
-        step(arena, Call::Bounds, self.bounds)
+/// 5000 insertions in an arena without slots, the ends of every second, and as many insertions again.
+pub fn thousands<A: TestedArena>(arena: &mut A) -> Result<(), Wrong> {
+    for index in 1..5001 {
+        step(arena, Call::Insert(index as u64), Told::At(index, 2))?;
     }
+    for half in 1..2501 {
+        let index = 2 * half;
+        step(arena, Call::RemoveInx(index), Told::Held(2, index as u64))?;
+    }
+    // from the last that was freed to the first; the slot of the last entry was given up
+    for half in 1..2500 {
+        step(arena, Call::Insert(0), Told::At(5000 - 2 * half, 2502))?;
+    }
+    step(arena, Call::Insert(0), Told::At(5000, 2502))
 }
 
 #[test]
-fn thousands_of_entries(rt: HostRuntime) -> Result<(), Fail> {
-    let bounds = Told::Bounds(5000, 8192, None);
-    on_heap::<P0, _>(rt.alloc(), None, &Thousands { bounds })?;
-    Ok(())
+fn thousands_of_entries(rt: HostRuntime) -> Result<(), Wrong> {
+    on_heap_of_p0(
+        rt.alloc(),
+        &[
+            Part::Thousands,
+            Part::Step(Call::Bounds, Told::Bounds(5000, 8192, None)),
+        ],
+    )
 }
 
 #[test]
-fn room_for_thousands(rt: HostRuntime) -> Result<(), Fail> {
-    each_made::<P0, Heap<P0>>(rt.alloc(), &[(5000, Told::Size(5000))])?;
-    let bounds = Told::Bounds(5000, 5000, Some(5000));
-    on_limited::<P0, _>(rt.alloc(), Some(5000), &Thousands { bounds })?;
-    Ok(())
+fn room_for_thousands(rt: HostRuntime) -> Result<(), Wrong> {
+    is_made(
+        rt.alloc(),
+        Pointers::P0,
+        Stack::Heap(Some(5000)),
+        5000,
+        None,
+    )?;
+    on(
+        rt.alloc(),
+        Pointers::P0,
+        Stack::Limited(Some(5000)),
+        &[
+            Part::Thousands,
+            Part::Step(Call::Bounds, Told::Bounds(5000, 5000, Some(5000))),
+        ],
+    )
 }

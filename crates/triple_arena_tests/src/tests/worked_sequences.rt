@@ -1,23 +1,14 @@
 //! Worked sequences of calls.
 
-use super::refused_memory::each_made;
-use std::alloc::Global;
-use std::test::Fail;
+use super::arenas::{Pointers, Stack, from_empty, is_made, is_refused, on, on_heap_of_p0};
+use super::parts::{BEYOND, NO_MEMORY, Part, TWO_FREE};
 use triple_arena::ArenaSlot;
-use triple_arena_base::ReallocationError;
-use triple_arena_ptr::{P0, P4, P5};
-use triple_arena_test_kit::{
-    Call, Heap, Steps, TestedArena, Token, Told, Trial, Wrong, from_empty, on_heap, on_limited,
-    step,
-};
-
-const BEYOND: Told = Told::Refused(ReallocationError::BeyondMaxCapacity);
-
-const NO_MEMORY: Told = Told::Refused(ReallocationError::AllocError);
+use triple_arena_ptr::P0;
+use triple_arena_test_kit::{Call, TestedArena, Token, Told, Wrong, follow, step};
 
 #[test]
-fn a_removed_pointer_finds_nothing_again(rt: HostRuntime) -> Result<(), Fail> {
-    from_empty::<P0>(
+fn a_removed_pointer_finds_nothing_again(rt: HostRuntime) -> Result<(), Wrong> {
+    from_empty(
         rt.alloc(),
         &[
             (Call::Insert(1), Told::At(1, 2)),
@@ -30,13 +21,12 @@ fn a_removed_pointer_finds_nothing_again(rt: HostRuntime) -> Result<(), Fail> {
             (Call::Get(1, 3), Told::Holds(3)),
             (Call::Get(2, 2), Told::Holds(2)),
         ],
-    )?;
-    Ok(())
+    )
 }
 
 #[test]
-fn a_removal_at_the_end_pops_the_slot(rt: HostRuntime) -> Result<(), Fail> {
-    from_empty::<P0>(
+fn a_removal_at_the_end_pops_the_slot(rt: HostRuntime) -> Result<(), Wrong> {
+    from_empty(
         rt.alloc(),
         &[
             (Call::Insert(1), Told::At(1, 2)),
@@ -49,26 +39,25 @@ fn a_removal_at_the_end_pops_the_slot(rt: HostRuntime) -> Result<(), Fail> {
             (Call::Insert(3), Told::At(2, 3)),
             (Call::Root, Told::Nothing),
         ],
-    )?;
-    Ok(())
+    )
 }
 
 #[test]
-fn a_new_limited_arena_takes_no_entry(rt: HostRuntime) -> Result<(), Fail> {
-    on_limited::<P0, _>(
+fn a_new_limited_arena_takes_no_entry(rt: HostRuntime) -> Result<(), Wrong> {
+    on(
         rt.alloc(),
-        None,
-        &Steps(&[
+        Pointers::P0,
+        Stack::Limited(None),
+        &[Part::Steps(&[
             (Call::Insert(1), BEYOND),
             (Call::Bounds, Told::Bounds(0, 0, Some(0))),
-        ]),
-    )?;
-    Ok(())
+        ])],
+    )
 }
 
 #[test]
-fn clearing_raises_the_counter_once(rt: HostRuntime) -> Result<(), Fail> {
-    from_empty::<P0>(
+fn clearing_raises_the_counter_once(rt: HostRuntime) -> Result<(), Wrong> {
+    from_empty(
         rt.alloc(),
         &[
             (Call::Clear, Told::Done),
@@ -81,13 +70,12 @@ fn clearing_raises_the_counter_once(rt: HostRuntime) -> Result<(), Fail> {
             (Call::Slots, Told::Size(0)),
             (Call::Insert(3), Told::At(1, 3)),
         ],
-    )?;
-    Ok(())
+    )
 }
 
 #[test]
-fn clearing_forgets_the_free_indexes(rt: HostRuntime) -> Result<(), Fail> {
-    from_empty::<P0>(
+fn clearing_forgets_the_free_indexes(rt: HostRuntime) -> Result<(), Wrong> {
+    from_empty(
         rt.alloc(),
         &[
             (Call::Insert(1), Told::At(1, 2)),
@@ -100,13 +88,12 @@ fn clearing_forgets_the_free_indexes(rt: HostRuntime) -> Result<(), Fail> {
             (Call::Insert(4), Told::At(1, 4)),
             (Call::Insert(5), Told::At(2, 4)),
         ],
-    )?;
-    Ok(())
+    )
 }
 
 #[test]
-fn an_invalidated_pointer_finds_nothing(rt: HostRuntime) -> Result<(), Fail> {
-    from_empty::<P0>(
+fn an_invalidated_pointer_finds_nothing(rt: HostRuntime) -> Result<(), Wrong> {
+    from_empty(
         rt.alloc(),
         &[
             (Call::Insert(1), Told::At(1, 2)),
@@ -116,74 +103,47 @@ fn an_invalidated_pointer_finds_nothing(rt: HostRuntime) -> Result<(), Fail> {
             (Call::Get(1, 3), Told::Holds(1)),
             (Call::Insert(2), Told::At(2, 3)),
         ],
-    )?;
-    Ok(())
-}
-
-// Five entries, of which the first and then the third are removed.
-const TWO_FREE: Steps = Steps(&[
-    (Call::Insert(1), Told::At(1, 2)),
-    (Call::Insert(2), Told::At(2, 2)),
-    (Call::Insert(3), Told::At(3, 2)),
-    (Call::Insert(4), Told::At(4, 2)),
-    (Call::Insert(5), Told::At(5, 2)),
-    (Call::Remove(1, 2), Told::Holds(1)),
-    (Call::Remove(3, 2), Told::Holds(3)),
-]);
-
-// The calls with these entries.
-#[derive(Drop)]
-struct WithTwoFree {
-    steps: Steps,
-}
-
-impl Trial for WithTwoFree {
-    fn on<A: TestedArena>(&self, arena: &mut A) -> Result<(), Wrong> {
-        TWO_FREE.on(arena)?;
-        self.steps.on(arena)
-    }
-}
-
-// The same on the heap.
-fn with_two_free(alloc: Global, steps: &'static [(Call, Told)]) -> Result<(), Wrong> {
-    let steps = Steps(steps);
-    on_heap::<P0, _>(alloc, None, &WithTwoFree { steps })
+    )
 }
 
 #[test]
-fn insertion_takes_the_index_that_was_freed_last(rt: HostRuntime) -> Result<(), Fail> {
-    with_two_free(
+fn insertion_takes_the_index_that_was_freed_last(rt: HostRuntime) -> Result<(), Wrong> {
+    on_heap_of_p0(
         rt.alloc(),
         &[
-            (Call::Root, Told::Size(3)),
-            (Call::Insert(6), Told::At(3, 4)),
-            (Call::Root, Told::Size(1)),
-            (Call::Insert(7), Told::At(1, 4)),
-            (Call::Root, Told::Nothing),
-            (Call::Insert(8), Told::At(6, 4)),
+            TWO_FREE,
+            Part::Steps(&[
+                (Call::Root, Told::Size(3)),
+                (Call::Insert(6), Told::At(3, 4)),
+                (Call::Root, Told::Size(1)),
+                (Call::Insert(7), Told::At(1, 4)),
+                (Call::Root, Told::Nothing),
+                (Call::Insert(8), Told::At(6, 4)),
+            ]),
         ],
-    )?;
-    Ok(())
+    )
 }
 
 #[test]
-fn in_order_the_least_free_index_comes_first(rt: HostRuntime) -> Result<(), Fail> {
-    with_two_free(
+fn in_order_the_least_free_index_comes_first(rt: HostRuntime) -> Result<(), Wrong> {
+    on_heap_of_p0(
         rt.alloc(),
         &[
-            (Call::Canonicalize, Told::Done),
-            (Call::Root, Told::Size(1)),
-            (Call::Insert(6), Told::At(1, 4)),
-            (Call::Insert(7), Told::At(3, 4)),
-            (Call::Insert(8), Told::At(6, 4)),
+            TWO_FREE,
+            Part::Steps(&[
+                (Call::Canonicalize, Told::Done),
+                (Call::Root, Told::Size(1)),
+                (Call::Insert(6), Told::At(1, 4)),
+                (Call::Insert(7), Told::At(3, 4)),
+                (Call::Insert(8), Told::At(6, 4)),
+            ]),
         ],
-    )?;
-    Ok(())
+    )
 }
 
 #[test]
-fn reallocation_gives_up_the_free_end_slots(rt: HostRuntime) -> Result<(), Fail> {
-    from_empty::<P0>(
+fn reallocation_gives_up_the_free_end_slots(rt: HostRuntime) -> Result<(), Wrong> {
+    from_empty(
         rt.alloc(),
         &[
             (Call::Insert(1), Told::At(1, 2)),
@@ -202,13 +162,12 @@ fn reallocation_gives_up_the_free_end_slots(rt: HostRuntime) -> Result<(), Fail>
             (Call::Insert(7), Told::At(4, 5)),
             (Call::Bounds, Told::Bounds(4, 6, None)),
         ],
-    )?;
-    Ok(())
+    )
 }
 
 #[test]
-fn the_first_and_the_last_entry(rt: HostRuntime) -> Result<(), Fail> {
-    from_empty::<P0>(
+fn the_first_and_the_last_entry(rt: HostRuntime) -> Result<(), Wrong> {
+    from_empty(
         rt.alloc(),
         &[
             (Call::First, Told::Nothing),
@@ -224,13 +183,12 @@ fn the_first_and_the_last_entry(rt: HostRuntime) -> Result<(), Fail> {
             (Call::First, Told::At(2, 2)),
             (Call::Last, Told::At(3, 2)),
         ],
-    )?;
-    Ok(())
+    )
 }
 
 #[test]
-fn the_counter_can_be_set_and_raised(rt: HostRuntime) -> Result<(), Fail> {
-    from_empty::<P0>(
+fn the_counter_can_be_set_and_raised(rt: HostRuntime) -> Result<(), Wrong> {
+    from_empty(
         rt.alloc(),
         &[
             (Call::SetGeneration(u64::MAX), Told::Done),
@@ -241,13 +199,12 @@ fn the_counter_can_be_set_and_raised(rt: HostRuntime) -> Result<(), Fail> {
             (Call::IncGeneration, Told::Done),
             (Call::Insert(2), Told::At(2, 3)),
         ],
-    )?;
-    Ok(())
+    )
 }
 
 #[test]
-fn an_index_past_the_slots_has_no_entry(rt: HostRuntime) -> Result<(), Fail> {
-    from_empty::<P0>(
+fn an_index_past_the_slots_has_no_entry(rt: HostRuntime) -> Result<(), Wrong> {
+    from_empty(
         rt.alloc(),
         &[
             (Call::Insert(1), Told::At(1, 2)),
@@ -263,8 +220,7 @@ fn an_index_past_the_slots_has_no_entry(rt: HostRuntime) -> Result<(), Fail> {
             (Call::Remove(usize::MAX, 1), Told::Invalid),
             (Call::Get(1, 2), Told::Holds(1)),
         ],
-    )?;
-    Ok(())
+    )
 }
 
 // The capacity of an arena on the heap after so many insertions, up to 255.
@@ -280,48 +236,47 @@ fn grown_capacity(insertions: usize) -> usize {
     }
 }
 
-// Insertions up to the greatest byte index, and one more.
-#[derive(Drop)]
-struct UpTo255;
-
-impl Trial for UpTo255 {
-    fn on<A: TestedArena>(&self, arena: &mut A) -> Result<(), Wrong> {
-        for number in 1..256 {
-            step(arena, Call::Insert(number as u64), Told::At(number, 1))?;
-            let bounds = Told::Bounds(number, grown_capacity(number), None);
-            step(arena, Call::Bounds, bounds)?;
-        }
-        let full = Told::Bounds(255, 255, None);
-        step(arena, Call::Insert(256), NO_MEMORY)?;
-        step(arena, Call::Bounds, full)?;
-        for number in 1..256 {
-            step(arena, Call::Get(number, 1), Told::Holds(number as u64))?;
-        }
-        step(arena, Call::Reallocate(256), NO_MEMORY)?;
-        step(arena, Call::Bounds, full)
+/// Insertions up to the greatest byte index, and one more.
+pub fn up_to_255<A: TestedArena>(arena: &mut A) -> Result<(), Wrong> {
+    for number in 1..256 {
+        step(arena, Call::Insert(number as u64), Told::At(number, 1))?;
+        let bounds = Told::Bounds(number, grown_capacity(number), None);
+        step(arena, Call::Bounds, bounds)?;
     }
+    let full = (Call::Bounds, Told::Bounds(255, 255, None));
+    follow(arena, &[(Call::Insert(256), NO_MEMORY), full])?;
+    for number in 1..256 {
+        step(arena, Call::Get(number, 1), Told::Holds(number as u64))?;
+    }
+    follow(arena, &[(Call::Reallocate(256), NO_MEMORY), full])
 }
 
 #[test]
-fn a_byte_index_ends_at_255(rt: HostRuntime) -> Result<(), Fail> {
-    on_heap::<P5, _>(rt.alloc(), None, &UpTo255)?;
-    each_made::<P5, Heap<P5>>(rt.alloc(), &[(256, NO_MEMORY), (255, Told::Size(255))])?;
-    Ok(())
-}
-
-#[test]
-fn without_generations_an_invalidated_pointer_stays_valid(rt: HostRuntime) -> Result<(), Fail> {
-    from_empty::<P4>(
+fn a_byte_index_ends_at_255(rt: HostRuntime) -> Result<(), Wrong> {
+    on(
         rt.alloc(),
-        &[
+        Pointers::P5,
+        Stack::Heap(None),
+        &[Part::UpTo255],
+    )?;
+    is_refused(rt.alloc(), Pointers::P5, Stack::Heap(Some(256)))?;
+    is_made(rt.alloc(), Pointers::P5, Stack::Heap(Some(255)), 255, None)
+}
+
+#[test]
+fn without_generations_an_invalidated_pointer_stays_valid(rt: HostRuntime) -> Result<(), Wrong> {
+    on(
+        rt.alloc(),
+        Pointers::P4,
+        Stack::Heap(None),
+        &[Part::Steps(&[
             (Call::Insert(1), Told::At(1, 1)),
             (Call::Invalidate(1, 1), Told::At(1, 1)),
             (Call::Get(1, 1), Told::Holds(1)),
             (Call::IncGeneration, Told::Done),
             (Call::Clear, Told::Done),
-        ],
-    )?;
-    Ok(())
+        ])],
+    )
 }
 
 #[test]

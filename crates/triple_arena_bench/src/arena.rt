@@ -13,7 +13,7 @@ use std::time::{Clock, Duration, Instant};
 use table::Table;
 use triple_arena::Arena;
 use triple_arena_ptr::P0;
-use triple_arena_uses::SmallPtr;
+use triple_arena_ptr_stack_uses::SmallPtr;
 
 const RUNS: usize = 5;
 

@@ -1,4 +1,3 @@
-pub mod Entities
 pub mod Guests
 pub mod FirstHistory
 pub mod Notes

@@ -9,15 +9,15 @@ ghost use Rattle.triple_arena_traits.specs.ArenaState.{arena_len, capacity};
 ghost use Rattle.triple_arena_traits.specs.Entries.{look_up_in};
 ghost use Rattle.triple_arena_traits.specs.Insertion.{next_pointer};
 ghost use Rattle.triple_arena_direct.specs.DirectState.{direct_capacity};
-ghost use Rattle.triple_arena_uses.specs.Entities.{numbers};
+ghost use Rattle.triple_arena_entity_uses.specs.Entities.{numbers};
 ghost use Rattle.triple_arena_uses.specs.Notes.{Noted};
 
-use crate::entity_table::Entity;
 use std::alloc::Global;
 use std::marker::Model;
 use triple_arena::{Arena, ArenaDirectInsertTrait, ArenaInsertTrait, ArenaTrait};
 use triple_arena_base::{AllocError, NotWithinCapacityError};
 use triple_arena_direct::{DirectArena, laws};
+use triple_arena_entity_uses::Entity;
 use triple_arena_ptr::P0;
 
 /// Entities, each with a note beside it.

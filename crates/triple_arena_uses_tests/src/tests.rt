@@ -2,7 +2,6 @@
 
 mod beside;
 mod counting_stack;
-mod entity_table;
 mod first_arena;
 mod graph;
 mod guest_book;
@@ -12,3 +11,10 @@ mod side_table;
 mod small_ptr;
 mod undo;
 mod walks;
+
+use triple_arena_ptr::{P0, Ptr};
+
+// Index and generation of a pointer.
+fn numbers(p: P0) -> (usize, u64) {
+    (p.inx().get(), p.generation().get())
+}

@@ -1,26 +1,71 @@
+use std::alloc::Global;
 use std::process::Abort;
-use std::test::Fail;
-use triple_arena_ptr::Ptr;
+use triple_arena_ptr::{P0, Ptr};
 use triple_arena_uses::graph::Graph;
 
-#[test]
-fn paths_end_at_a_removed_node(rt: HostRuntime) -> Result<(), Fail> {
-    let mut graph = Graph::new(rt.alloc());
-    let a = graph.add(1)?;
-    let b = graph.add(2)?;
-    let c = graph.add(3)?;
-    let d = graph.add(4)?;
+fn added(graph: &mut Graph, label: u64) -> Option<P0> {
+    graph.add(label).ok()
+}
+
+fn connected(graph: &mut Graph, from: P0, to: P0) -> Option<bool> {
+    graph.connect(from, to).ok()
+}
+
+fn removed(graph: &mut Graph, p: P0) -> bool {
+    graph.remove(p).is_some()
+}
+
+// Whether paths lead from `start` to just these nodes, in this order.
+fn reaches(graph: &Graph, start: P0, wanted: &[P0]) -> bool {
+    let Ok(found) = graph.reachable(start) else {
+        return false;
+    };
+    found.as_slice() == wanted
+}
+
+// Whether edges lead from `p` to nodes of just these labels.
+fn has_neighbours(graph: &Graph, p: P0, wanted: &[u64]) -> bool {
+    let Ok(labels) = graph.neighbour_labels(p) else {
+        return false;
+    };
+    labels.as_slice() == wanted
+}
+
+// Four nodes, the first three in a circle. An edge leads from the third to the fourth, and one from that
+// to itself.
+fn circle(graph: &mut Graph) -> Option<(P0, P0, P0, P0)> {
+    let a = added(graph, 1)?;
+    let b = added(graph, 2)?;
+    let c = added(graph, 3)?;
+    let d = added(graph, 4)?;
     for (from, to) in [(a, b), (b, c), (c, a), (c, d), (d, d)] {
-        assert!(rt; graph.connect(from, to)?);
+        if !connected(graph, from, to)? {
+            return None;
+        }
     }
-    assert_eq!(rt; graph.reachable(b)?.as_slice(), [b, c, a, d].as_slice());
-    assert!(rt; graph.remove(c).is_some());
-    let e = graph.add(5)?;
-    assert_eq!(rt; e.inx(), c.inx(), "it stands where the removed node stood");
-    assert_eq!(rt; graph.reachable(a)?.as_slice(), [a, b].as_slice());
-    assert!(rt; graph.reachable(c)?.is_empty());
-    assert_eq!(rt; graph.neighbour_labels(a)?.as_slice(), [2].as_slice());
-    assert!(rt; graph.neighbour_labels(b)?.is_empty());
-    assert!(rt; !graph.connect(c, a)?);
-    Ok(())
+    Some((a, b, c, d))
+}
+
+// What holds of the circle, and then, once its third node is gone, of a node that stands there.
+fn told(alloc: Global) -> Option<[bool; 8]> {
+    let mut graph = Graph::new(alloc);
+    let (a, b, c, d) = circle(&mut graph)?;
+    let is_whole = reaches(&graph, b, &[b, c, a, d]);
+    let is_removed = removed(&mut graph, c);
+    let e = added(&mut graph, 5)?;
+    Some([
+        is_whole,
+        is_removed,
+        e.inx() == c.inx(),
+        reaches(&graph, a, &[a, b]),
+        reaches(&graph, c, &[]),
+        has_neighbours(&graph, a, &[2]),
+        has_neighbours(&graph, b, &[]),
+        !connected(&mut graph, c, a)?,
+    ])
+}
+
+#[test]
+fn paths_end_at_a_removed_node(rt: HostRuntime) {
+    assert_eq!(rt; told(rt.alloc()), Some([true; 8]));
 }

@@ -2,10 +2,9 @@ ghost use Rattle.std.specs.Prelude.{Some};
 
 use std::num::NonZeroUsize;
 use std::process::Abort;
-use std::test::Fail;
 use triple_arena_base::{Recast, Recaster};
 use triple_arena_ptr::{P0, Ptr, PtrGen};
-use triple_arena_uses::links::Link;
+use triple_arena_ptr_stack_uses::links::Link;
 
 /// Sends each pointer to this one.
 #[derive(Drop)]
@@ -22,13 +21,20 @@ impl Recaster for AllTo {
     }
 }
 
+fn to(target: Option<P0>) -> Link {
+    Link { weight: 3, target }
+}
+
+// A link once each pointer is sent to the invalid one.
+fn recast(mut link: Link) -> Option<Link> {
+    link.recast(&AllTo(P0::invalid())).ok()?;
+    Some(link)
+}
+
 #[test]
-fn a_link_follows_its_target(rt: HostRuntime) -> Result<(), Fail> {
+fn a_link_follows_its_target(rt: HostRuntime) {
     let first = P0::_from_raw(NonZeroUsize::MIN, PtrGen::two());
-    for (target, wanted) in [(Some(first), Some(P0::invalid())), (None, None)] {
-        let mut link = Link { weight: 3, target };
-        assert_eq!(rt; link.recast(&AllTo(P0::invalid())), Ok(()));
-        assert_eq!(rt; (link.weight, link.target), (3, wanted));
-    }
-    Ok(())
+    let told = [recast(to(Some(first))), recast(to(None))];
+    let wanted = [Some(to(Some(P0::invalid()))), Some(to(None))];
+    assert_eq!(rt; told, wanted);
 }

@@ -1,10 +1,10 @@
+use super::numbers;
 use std::alloc::Global;
 use std::process::Abort;
 use triple_arena::ArenaTrait;
-use triple_arena_base::InvalidationOption;
 use triple_arena_direct::DirectArena;
-use triple_arena_ptr::{P0, Ptr};
-use triple_arena_uses::links::Link;
+use triple_arena_ptr::P0;
+use triple_arena_ptr_stack_uses::links::Link;
 use triple_arena_uses::netlist::Netlist;
 
 // Each gate is wired to its target.
@@ -12,28 +12,23 @@ type Wired = Netlist<P0, Link>;
 
 type Numbers = (usize, u64);
 
-fn numbers(p: P0) -> Numbers {
-    (p.inx().get(), p.generation().get())
-}
-
 fn added(wired: &mut Wired, weight: u32, target: Option<P0>) -> Option<P0> {
     wired.add(Link { weight, target }).ok()
 }
 
 fn removed(wired: &mut Wired, p: P0) -> Option<u32> {
-    wired.remove(p).map(|gate| gate.weight)
+    Some(wired.remove(p)?.weight)
 }
 
 // The weight of a gate, and index and generation of the one that it is wired to.
 fn gate(wired: &Wired, p: P0) -> Option<(u32, Option<Numbers>)> {
-    wired
-        .get(p)
-        .map(|gate| (gate.weight, gate.target.map(numbers)))
+    let gate = wired.get(p)?;
+    Some((gate.weight, gate.target.map(numbers)))
 }
 
 // The map of a compaction, or none where it is refused.
 fn compacted(wired: &mut Wired, alloc: Global) -> Option<DirectArena<P0, P0>> {
-    wired.compact(alloc).ok().map(InvalidationOption::allow)
+    Some(wired.compact(alloc).ok()?.allow())
 }
 
 fn renamed(map: &DirectArena<P0, P0>, p: P0) -> Option<P0> {

@@ -1,6 +1,6 @@
 use std::alloc::Global;
 use std::process::Abort;
-use triple_arena_ptr::{P0, Ptr};
+use triple_arena_ptr::P0;
 use triple_arena_uses::side_table::NotedEntities;
 
 fn with_room(alloc: Global, room: usize) -> Option<NotedEntities> {
@@ -19,27 +19,28 @@ fn note(table: &NotedEntities, p: P0) -> Option<u64> {
     table.note(p)
 }
 
-// What is told of two entities in a table for two, of a third, and of one that comes after a despawn.
-fn told(alloc: Global) -> Option<[Option<u64>; 6]> {
+// Whether a table for two is full with two entities, and what is told of both, and of one that comes
+// after a despawn.
+fn told(alloc: Global) -> Option<(bool, [Option<u64>; 5])> {
     let mut table = with_room(alloc, 2)?;
     let first = spawned(&mut table, 7)?;
     let second = spawned(&mut table, 8)?;
-    let third = spawned(&mut table, 9).map(|p| p.generation().get());
+    let is_full = spawned(&mut table, 9).is_none();
     let of_first = note(&table, first);
     let left = despawned(&mut table, first);
     let fourth = spawned(&mut table, 9)?;
-    Some([
-        third,
+    let found = [
         of_first,
         left,
         note(&table, first),
         note(&table, second),
         note(&table, fourth),
-    ])
+    ];
+    Some((is_full, found))
 }
 
 #[test]
 fn a_note_goes_with_its_entity(rt: HostRuntime) {
-    let wanted = Some([None, Some(7), Some(7), None, Some(8), Some(9)]);
+    let wanted = Some((true, [Some(7), Some(7), None, Some(8), Some(9)]));
     assert_eq!(rt; told(rt.alloc()), wanted);
 }

@@ -4,7 +4,7 @@ use std::process::Abort;
 use std::test::Fail;
 use triple_arena::{Arena, ArenaInsertTrait};
 use triple_arena_ptr::{Ptr, PtrGen};
-use triple_arena_uses::small_ptr::SmallPtr;
+use triple_arena_ptr_stack_uses::small_ptr::SmallPtr;
 
 // An insertion's pointer, with what is found under it and under the invalid pointer.
 fn found<P: Ptr, A: ArenaInsertTrait<P, u64> + Drop>(

@@ -1,7 +1,8 @@
+use super::numbers;
 use std::alloc::Global;
 use std::process::Abort;
 use triple_arena::{Arena, ArenaInsertTrait, CompactArenaTrait};
-use triple_arena_ptr::{P0, Ptr};
+use triple_arena_ptr::P0;
 use triple_arena_uses::walks::{add, add_one, count, drain_three, pointers, remove_all, renew_all};
 
 fn put<A: ArenaInsertTrait<P0, u64>>(arena: &mut A, number: u64) -> Option<P0> {
@@ -22,11 +23,10 @@ fn two_of_four<A: ArenaInsertTrait<P0, u64> + Drop>(alloc: Global) -> Option<A> 
 
 // Whether these are the pointers of two such indexes and generations.
 fn are_at(all: &[P0], wanted: [(usize, u64); 2]) -> bool {
-    all.len() == 2
-        && all
-            .iter()
-            .zip(wanted)
-            .all(|(p, at)| (p.inx().get(), p.generation().get()) == at)
+    let [first, second] = all else {
+        return false;
+    };
+    [numbers(*first), numbers(*second)] == wanted
 }
 
 // Whether these are all values, in the order of their pointers.
@@ -39,31 +39,44 @@ fn is_empty<A: CompactArenaTrait<P0, u64>>(arena: &A) -> bool {
     arena.len() == 0 && count(arena) == 0
 }
 
-fn meets_each<A: CompactArenaTrait<P0, u64> + Drop>(arena: A, alloc: Global) -> Option<bool> {
+fn meets_each<A: CompactArenaTrait<P0, u64> + ArenaInsertTrait<P0, u64> + Drop>(
+    alloc: Global,
+) -> Option<bool> {
+    let arena: A = two_of_four(alloc)?;
     let all = pointers(&arena, alloc).ok()?;
     Some(count(&arena) == 2 && are_at(&all, [(2, 2), (4, 2)]))
 }
 
-fn writes_each<A: CompactArenaTrait<P0, u64> + Drop>(mut arena: A) -> bool {
+fn writes_each<A: CompactArenaTrait<P0, u64> + ArenaInsertTrait<P0, u64> + Drop>(
+    alloc: Global,
+) -> Option<bool> {
+    let mut arena: A = two_of_four(alloc)?;
     add_one(&mut arena);
     let is_written = has_values(&arena, [21, 41]);
     add(&mut arena, u64::MAX - 40);
-    is_written && has_values(&arena, [u64::MAX - 19, 0])
+    Some(is_written && has_values(&arena, [u64::MAX - 19, 0]))
 }
 
-fn renews_each<A: CompactArenaTrait<P0, u64> + Drop>(mut arena: A, alloc: Global) -> Option<bool> {
+fn renews_each<A: CompactArenaTrait<P0, u64> + ArenaInsertTrait<P0, u64> + Drop>(
+    alloc: Global,
+) -> Option<bool> {
+    let mut arena: A = two_of_four(alloc)?;
     let renewed = renew_all(&mut arena, alloc).ok()?;
     Some(are_at(&renewed, [(2, 5), (4, 6)]) && has_values(&arena, [20, 40]))
 }
 
-fn removes_each<A: CompactArenaTrait<P0, u64> + Drop>(mut arena: A) -> bool {
+fn removes_each<A: CompactArenaTrait<P0, u64> + ArenaInsertTrait<P0, u64> + Drop>(
+    alloc: Global,
+) -> Option<bool> {
+    let mut arena: A = two_of_four(alloc)?;
     remove_all(&mut arena);
-    is_empty(&arena)
+    Some(is_empty(&arena))
 }
 
 fn drains_each<A: CompactArenaTrait<P0, u64> + ArenaInsertTrait<P0, u64> + Drop>(
-    mut arena: A,
+    alloc: Global,
 ) -> Option<bool> {
+    let mut arena: A = two_of_four(alloc)?;
     let _fifth = put(&mut arena, 50)?;
     let _sixth = put(&mut arena, 60)?;
     drain_three(&mut arena);
@@ -72,17 +85,17 @@ fn drains_each<A: CompactArenaTrait<P0, u64> + ArenaInsertTrait<P0, u64> + Drop>
 
 fn walks<A: CompactArenaTrait<P0, u64> + ArenaInsertTrait<P0, u64> + Drop>(
     alloc: Global,
-) -> Option<[bool; 5]> {
-    Some([
-        meets_each::<A>(two_of_four(alloc)?, alloc)?,
-        writes_each::<A>(two_of_four(alloc)?),
-        renews_each::<A>(two_of_four(alloc)?, alloc)?,
-        removes_each::<A>(two_of_four(alloc)?),
-        drains_each::<A>(two_of_four(alloc)?)?,
-    ])
+) -> [Option<bool>; 5] {
+    [
+        meets_each::<A>(alloc),
+        writes_each::<A>(alloc),
+        renews_each::<A>(alloc),
+        removes_each::<A>(alloc),
+        drains_each::<A>(alloc),
+    ]
 }
 
 #[test]
 fn each_entry_is_met_written_renewed_and_taken_out(rt: HostRuntime) {
-    assert_eq!(rt; walks::<Arena<P0, u64>>(rt.alloc()), Some([true; 5]));
+    assert_eq!(rt; walks::<Arena<P0, u64>>(rt.alloc()), [Some(true); 5]);
 }

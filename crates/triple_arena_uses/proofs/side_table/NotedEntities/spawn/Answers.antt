@@ -5,7 +5,7 @@ use Rattle.triple_arena_traits.specs.Insertion.{next_pointer}
 use Rattle.triple_arena_direct.specs.DirectState.{direct_capacity, inserted_at}
 use Rattle.triple_arena_direct.specs.Mirrors.{Makes}
 use Rattle.triple_arena_direct.specs.Mirrors.Change.{comes}
-use Rattle.triple_arena_uses.specs.declared.entity_table.Entity.{Entity}
+use Rattle.triple_arena_entity_uses.specs.declared.entity_table.Entity.{Entity}
 use Rattle.triple_arena_uses.proofs.side_table.NotedEntities.spawn.Goals as goal
 
 pub invariant_of-self : goal.invariant_of-self

@@ -3,42 +3,47 @@ use std::num::NonZeroUsize;
 use std::process::Abort;
 use triple_arena::ArenaSlot;
 use triple_arena_base::ReallocationError;
+use triple_arena_entity_uses::{Entity, EntityTable};
 use triple_arena_ptr::{P0, Ptr, PtrGen};
-use triple_arena_stack::{NonZeroInxArray, NonZeroInxGenericStack};
-use triple_arena_uses::entity_table::{Entity, EntityTable};
+use triple_arena_stack::{NonZeroInxArray, NonZeroInxGenericStack, NonZeroInxVec};
 
-fn spawned<S: NonZeroInxGenericStack<ArenaSlot<P0, Entity>>>(
+type Slot = ArenaSlot<P0, Entity>;
+
+fn spawned<S: NonZeroInxGenericStack<Slot>>(
     table: &mut EntityTable<S>,
     parent: Option<P0>,
 ) -> Option<P0> {
     table.spawn(parent).ok()
 }
 
-fn despawned<S: NonZeroInxGenericStack<ArenaSlot<P0, Entity>>>(
-    table: &mut EntityTable<S>,
-    p: P0,
-) -> bool {
+fn despawned<S: NonZeroInxGenericStack<Slot>>(table: &mut EntityTable<S>, p: P0) -> bool {
     table.despawn(p)
 }
 
-fn damaged(table: &mut EntityTable, p: P0, by: u32) -> Option<u32> {
+fn damaged<S: NonZeroInxGenericStack<Slot>>(
+    table: &mut EntityTable<S>,
+    p: P0,
+    by: u32,
+) -> Option<u32> {
     table.damage(p, by)
 }
 
-fn healed(table: &mut EntityTable, p: P0) {
+fn healed<S: NonZeroInxGenericStack<Slot>>(table: &mut EntityTable<S>, p: P0) {
     if table.get(p).is_some() {
         table.heal(p);
     }
 }
 
-fn entity(table: &EntityTable, p: P0) -> Option<Entity> {
+fn entity<S: NonZeroInxGenericStack<Slot>>(table: &EntityTable<S>, p: P0) -> Option<Entity> {
     table.get(p).copied()
 }
 
 // What is told of a mother and her child, of the child after she is gone, and of a sister that comes
 // then.
-fn family(alloc: Global) -> Option<([bool; 2], [Option<u32>; 5], [Option<Entity>; 2])> {
-    let mut table: EntityTable = EntityTable::new(alloc);
+fn family<S: NonZeroInxGenericStack<Slot> + Drop>(
+    alloc: Global,
+) -> Option<([bool; 2], [Option<u32>; 5], [Option<Entity>; 2])> {
+    let mut table: EntityTable<S> = EntityTable::new(alloc);
     let mother = spawned(&mut table, None)?;
     let child = spawned(&mut table, Some(mother))?;
     let hurt = damaged(&mut table, child, 30);
@@ -66,15 +71,15 @@ fn a_child_outlives_its_parent(rt: HostRuntime) {
     let health = [Some(70), None, Some(0), Some(100), Some(100)];
     let wanted = Some(([true, false], health, [None, Some(child)]));
     assert_eq!(rt;
-        family(rt.alloc()),
+        family::<NonZeroInxVec<Slot>>(rt.alloc()),
         wanted,
         "no other entity is taken for the mother"
     );
 }
 
 // The health of three entities, the second of which is gone, after all are damaged.
-fn after_damage(alloc: Global) -> Option<[Option<u32>; 4]> {
-    let mut table: EntityTable = EntityTable::new(alloc);
+fn after_damage<S: NonZeroInxGenericStack<Slot> + Drop>(alloc: Global) -> Option<[Option<u32>; 4]> {
+    let mut table: EntityTable<S> = EntityTable::new(alloc);
     let first = spawned(&mut table, None)?;
     let second = spawned(&mut table, None)?;
     let third = spawned(&mut table, None)?;
@@ -92,13 +97,11 @@ fn after_damage(alloc: Global) -> Option<[Option<u32>; 4]> {
 #[test]
 fn each_entity_is_damaged(rt: HostRuntime) {
     let wanted = Some([Some(20), Some(70), None, Some(0)]);
-    assert_eq!(rt; after_damage(rt.alloc()), wanted);
+    assert_eq!(rt; after_damage::<NonZeroInxVec<Slot>>(rt.alloc()), wanted);
 }
 
 // Whether two places of three are given, and one again after a despawn.
-fn places<S: NonZeroInxGenericStack<ArenaSlot<P0, Entity>> + Drop>(
-    alloc: Global,
-) -> Option<[bool; 3]> {
+fn places<S: NonZeroInxGenericStack<Slot> + Drop>(alloc: Global) -> Option<[bool; 3]> {
     let mut table: EntityTable<S> = EntityTable::new(alloc);
     let first = spawned(&mut table, None)?;
     let second = spawned(&mut table, None).is_some();
@@ -109,6 +112,8 @@ fn places<S: NonZeroInxGenericStack<ArenaSlot<P0, Entity>> + Drop>(
 
 #[test]
 fn a_table_in_an_array_is_full_at_last(rt: HostRuntime) {
-    let told = places::<NonZeroInxArray<ArenaSlot<P0, Entity>, 2>>(rt.alloc());
-    assert_eq!(rt; told, Some([true; 3]));
+    assert_eq!(rt;
+        places::<NonZeroInxArray<Slot, 2>>(rt.alloc()),
+        Some([true; 3])
+    );
 }

@@ -7,7 +7,7 @@ ghost use Rattle.std.specs.Option.{option_map, option_and_then};
 ghost use Rattle.triple_arena_ptr.specs.Pointers.{Pointer};
 ghost use Rattle.triple_arena_traits.specs.ArenaState.{look_up, entry};
 ghost use Rattle.triple_arena_traits.specs.Values.{SamePointers};
-ghost use Rattle.triple_arena_uses.specs.Entities.{numbers, spawned, damaged, healed};
+ghost use Rattle.triple_arena_entity_uses.specs.Entities.{numbers, spawned, damaged, healed};
 
 use std::alloc::Global;
 use std::marker::Model;
@@ -33,7 +33,7 @@ pub struct EntityTable<
 
 impl<S: NonZeroInxGenericStack<ArenaSlot<P0, Entity>>> Model for EntityTable<S> {
     ghost use Rattle.triple_arena_traits.specs.ArenaState.{ArenaState};
-    ghost use Rattle.triple_arena_uses.specs.declared.entity_table.Entity.{Entity};
+    ghost use Rattle.triple_arena_entity_uses.specs.declared.entity_table.Entity.{Entity};
 
     ghost Value = { ArenaState Entity };
 

@@ -2,7 +2,7 @@
 use Rattle.std.specs.Prelude.{ℕ, suc, ◌-◌, Option}
 use Rattle.triple_arena_ptr.specs.Pointers.{Pointer}
 use Rattle.triple_arena_ptr.specs.declared.P0.{P0}
-use Rattle.triple_arena_uses.specs.declared.entity_table.Entity.{Entity}
+use Rattle.triple_arena_entity_uses.specs.declared.entity_table.Entity.{Entity}
 
 -- the numbers of a pointer's index and of its generation
 abbrev pub numbers : P0 → Pointer

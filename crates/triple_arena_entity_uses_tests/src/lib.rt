@@ -1,0 +1,5 @@
+//! Tests of the table of entities by its public calls.
+#![tactic(auto)]
+
+#[cfg(test)]
+mod tests;

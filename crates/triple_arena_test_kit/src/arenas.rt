@@ -1,7 +1,5 @@
 //! New arenas over each stack.
 
-use crate::scarce_stack::Scarce;
-use crate::token::Token;
 use std::alloc::Global;
 use triple_arena::{Arena, ArenaSlot, ArenaTrait};
 use triple_arena_base::AllocError;
@@ -10,6 +8,7 @@ use triple_arena_stack::{
     NonZeroInxArray, NonZeroInxBoxedSlice, NonZeroInxGenericStack, NonZeroInxLimitedVec,
     NonZeroInxVec,
 };
+use triple_arena_trait_kit::{Scarce, Token};
 
 pub type Heap<P> = NonZeroInxVec<ArenaSlot<P, Token>>;
 
@@ -41,9 +40,6 @@ pub fn capacity_made<P: Ptr, S: NonZeroInxGenericStack<ArenaSlot<P, Token>> + Dr
     alloc: Global,
     room: usize,
 ) -> Result<usize, AllocError> {
-    let made: Result<Arena<P, Token, S>, AllocError> = Arena::with_min_capacity(alloc, room);
-    match made {
-        Ok(arena) => Ok(arena.capacity()),
-        Err(refused) => Err(refused),
-    }
+    let arena: Arena<P, Token, S> = with_room(alloc, room)?;
+    Ok(arena.capacity())
 }

@@ -1,15 +1,14 @@
-//! The look-ups of an arena that have no refusal, each alone, and what it answers.
+//! The look-ups of an arena that have no refusal, and what they answer.
 
 ghost use Rattle.std.specs.Prelude.{◌≡◌, ◌↔◌, IsSome, IsTrue, Some};
 ghost use Rattle.std.specs.Option.{option_map};
 ghost use Rattle.triple_arena_traits.specs.ArenaState.{entry, look_up, with_value};
 
-use crate::token::Token;
-use crate::told::Told;
 use std::mem;
 use triple_arena::{Arena, ArenaSlot, ArenaTrait};
 use triple_arena_ptr::{Ptr, PtrInx};
 use triple_arena_stack::NonZeroInxGenericStack;
+use triple_arena_trait_kit::{Token, Told};
 
 // Whether an entry stands at an index.
 fn has_entry<P: Ptr, T, S: NonZeroInxGenericStack<ArenaSlot<P, T>>>(
@@ -31,17 +30,6 @@ fn is_valid<P: Ptr, T, S: NonZeroInxGenericStack<ArenaSlot<P, T>>>(
     arena.get(p).is_some()
 }
 
-/// The value at an index, if an entry stands there.
-pub fn get_inx_unwrap<P: Ptr, S: NonZeroInxGenericStack<ArenaSlot<P, Token>>>(
-    arena: &Arena<P, Token, S>,
-    inx: P::Inx,
-) -> Told {
-    if !has_entry(arena, inx) {
-        return Told::Nothing;
-    }
-    Told::Holds(arena.get_inx_unwrap(inx).number)
-}
-
 // Puts another value at an index that has an entry, and gives the one that stood there.
 fn exchange_at<P: Ptr, T, S: NonZeroInxGenericStack<ArenaSlot<P, T>>>(
     arena: &mut Arena<P, T, S>,
@@ -55,27 +43,20 @@ fn exchange_at<P: Ptr, T, S: NonZeroInxGenericStack<ArenaSlot<P, T>>>(
     mem::replace(arena.get_inx_mut_unwrap(inx), t)
 }
 
-/// Writes a number at an index, if an entry stands there, and answers the one that stood there.
-pub fn write_inx_unwrap<P: Ptr, S: NonZeroInxGenericStack<ArenaSlot<P, Token>>>(
+/// The value at an index, over which a number is written, if there is one. There is nothing where no
+/// entry stands there.
+pub fn at_index<P: Ptr, S: NonZeroInxGenericStack<ArenaSlot<P, Token>>>(
     arena: &mut Arena<P, Token, S>,
     inx: P::Inx,
-    number: u64,
+    number: Option<u64>,
 ) -> Told {
     if !has_entry(arena, inx) {
         return Told::Nothing;
     }
-    Told::Holds(exchange_at(arena, inx, Token { number }).number)
-}
-
-/// The value under a pointer, if it is valid.
-pub fn index<P: Ptr, S: NonZeroInxGenericStack<ArenaSlot<P, Token>>>(
-    arena: &Arena<P, Token, S>,
-    p: P,
-) -> Told {
-    if !is_valid(arena, p) {
-        return Told::Nothing;
+    match number {
+        Some(number) => Told::Holds(exchange_at(arena, inx, Token { number }).number),
+        None => Told::Holds(arena.get_inx_unwrap(inx).number),
     }
-    Told::Holds(arena[p].number)
 }
 
 // Puts another value under a valid pointer, and gives the one that stood there.
@@ -91,14 +72,18 @@ fn exchange_under<P: Ptr, T, S: NonZeroInxGenericStack<ArenaSlot<P, T>>>(
     mem::replace(&mut arena[p], t)
 }
 
-/// Writes a number under a pointer, if it is valid, and answers the one that stood there.
-pub fn write_index<P: Ptr, S: NonZeroInxGenericStack<ArenaSlot<P, Token>>>(
+/// The value under a pointer, over which a number is written, if there is one. There is nothing where
+/// the pointer is invalid.
+pub fn under_pointer<P: Ptr, S: NonZeroInxGenericStack<ArenaSlot<P, Token>>>(
     arena: &mut Arena<P, Token, S>,
     p: P,
-    number: u64,
+    number: Option<u64>,
 ) -> Told {
     if !is_valid(arena, p) {
         return Told::Nothing;
     }
-    Told::Holds(exchange_under(arena, p, Token { number }).number)
+    match number {
+        Some(number) => Told::Holds(exchange_under(arena, p, Token { number }).number),
+        None => Told::Holds(arena[p].number),
+    }
 }

@@ -1,40 +1,15 @@
-//! The calls of an `Arena` beside those of the traits, each alone, and what it answers.
+//! The calls of an `Arena` by its entries and on its limit, each alone, and what it answers.
 
 ghost use Rattle.std.specs.Prelude.{◌≡◌, ◌<◌, OnOk, OnErr};
 ghost use Rattle.triple_arena_traits.specs.ArenaState.{arena_len, capacity};
 ghost use Rattle.triple_arena.specs.InsertEntry.{entry_arena};
 ghost use Rattle.triple_arena_traits.specs.Insertion.{inserted};
 
-use crate::numbered::Numbered;
-use crate::token::Token;
-use crate::told::{Told, told_pointer};
 use triple_arena::{Arena, ArenaInsertEntry, ArenaInsertEntryTrait, ArenaSlot};
 use triple_arena_base::{MaxCapacityReductionError, NotWithinCapacityError};
 use triple_arena_ptr::Ptr;
 use triple_arena_stack::{NonZeroInxGenericStack, SetMaxCapacity};
-
-/// Sets the counter to the generation of a pointer.
-pub fn set_generation<P: Ptr, T, S: NonZeroInxGenericStack<ArenaSlot<P, T>>>(
-    arena: &mut Arena<P, T, S>,
-    p: P,
-) -> Told {
-    arena.set_generation(p.generation());
-    Told::Done
-}
-
-pub fn canonicalize<P: Ptr, T, S: NonZeroInxGenericStack<ArenaSlot<P, T>>>(
-    arena: &mut Arena<P, T, S>,
-) -> Told {
-    arena.canonicalize_freelist();
-    Told::Done
-}
-
-pub fn remove_free_end<P: Ptr, T, S: NonZeroInxGenericStack<ArenaSlot<P, T>>>(
-    arena: &mut Arena<P, T, S>,
-) -> Told {
-    arena.remove_free_end_slots();
-    Told::Done
-}
+use triple_arena_trait_kit::{Numbered, Token, Told, told_pointer};
 
 // Inserts by an entry that must have its place, through the trait of entries alone: the pointer
 // that it told, and the number that then stands there.
@@ -111,8 +86,8 @@ where
     }
 }
 
-// Inserts `first` where there is a place for it, and writes `second` over it.
-fn insert_and_write<P: Ptr, T: Drop, S: NonZeroInxGenericStack<ArenaSlot<P, T>>>(
+/// Inserts `first` within the capacity by an entry, and writes `second` over it.
+pub fn insert_and_write<P: Ptr, T: Drop, S: NonZeroInxGenericStack<ArenaSlot<P, T>>>(
     arena: &mut Arena<P, T, S>,
     first: T,
     second: T,
@@ -123,18 +98,6 @@ fn insert_and_write<P: Ptr, T: Drop, S: NonZeroInxGenericStack<ArenaSlot<P, T>>>
     let entry = arena.entry_insert_within_capacity()?;
     *entry.insert(first) = second;
     Ok(())
-}
-
-/// Inserts a value within the capacity by an entry, and writes another over it.
-pub fn entry_write<P: Ptr, S: NonZeroInxGenericStack<ArenaSlot<P, Token>>>(
-    arena: &mut Arena<P, Token, S>,
-    first: u64,
-    second: u64,
-) -> Told {
-    match insert_and_write(arena, Token { number: first }, Token { number: second }) {
-        Ok(()) => Told::Done,
-        Err(NotWithinCapacityError) => Told::Full,
-    }
 }
 
 pub fn set_limit<P: Ptr, T, S: SetMaxCapacity<ArenaSlot<P, T>>>(

@@ -1,30 +1,10 @@
-//! All that an arena shows of itself, to compare before and after a call.
+//! The whole state of an `Arena`.
 
-use crate::call::Call;
-use crate::numbered::Numbered;
-use crate::token::Token;
-use crate::told::Told;
 use std::num::NonZeroUsize;
 use triple_arena::{Arena, ArenaSlot, ArenaTrait};
 use triple_arena_ptr::{Ptr, PtrInx};
 use triple_arena_stack::NonZeroInxGenericStack;
-
-/// How many slots of an arena are shown: as many as byte indexes name, and one.
-pub const SLOTS: usize = 256;
-
-/// The whole state of an arena of no more than `SLOTS` slots.
-#[derive(Clone, Copy, PartialEq)]
-pub struct State {
-    pub len: usize,
-    pub capacity: usize,
-    pub limit: Option<usize>,
-    pub counter: u64,
-    pub slots: usize,
-    // by index from 1, the numbers of the generation and of the value of the entry
-    pub entries: [Option<(u64, u64)>; SLOTS],
-    // the free indexes in the order in which insertion takes them, and then 0
-    pub free: [usize; SLOTS],
-}
+use triple_arena_trait_kit::{Numbered, SLOTS, State, Token};
 
 /// The state of `arena`; of more than `SLOTS` slots, the first.
 pub fn state_of<P: Ptr, S: NonZeroInxGenericStack<ArenaSlot<P, Token>>>(
@@ -33,36 +13,24 @@ pub fn state_of<P: Ptr, S: NonZeroInxGenericStack<ArenaSlot<P, Token>>>(
 where
     P::Gen: Numbered,
 {
+    let slots = arena.backing().as_slice();
     State {
         len: arena.len(),
         capacity: arena.capacity(),
         limit: arena.max_capacity(),
         counter: arena.generation().told_number(),
-        slots: arena.backing().len(),
-        entries: entries_in(arena.backing().as_slice()),
-        free: free_in(arena.backing().as_slice(), first_free(arena)),
+        slots: slots.len(),
+        entries: entries_in(slots),
+        free: free_in(slots, slot_index(arena.freelist_root())),
     }
 }
 
-// The first free index, if any is free.
-fn first_free<P: Ptr, S: NonZeroInxGenericStack<ArenaSlot<P, Token>>>(
-    arena: &Arena<P, Token, S>,
-) -> Option<NonZeroUsize> {
-    P::Inx::try_into_usize(arena.freelist_root()?)
+// The number of an index, if there is one that a slot can have.
+fn slot_index<I: PtrInx>(inx: Option<I>) -> Option<NonZeroUsize> {
+    I::try_into_usize(inx?)
 }
 
-// The numbers of the generation and of the value of the entry in a slot, if there is one.
-fn entry_in<P: Ptr>(slot: &ArenaSlot<P, Token>) -> Option<(u64, u64)>
-where
-    P::Gen: Numbered,
-{
-    match slot {
-        ArenaSlot::Allocated(generation, token) => Some((generation.told_number(), token.number)),
-        ArenaSlot::Free(_) => None,
-    }
-}
-
-// The entries of these slots.
+// The entries of these slots, each by the numbers of its generation and of its value.
 fn entries_in<P: Ptr>(slots: &[ArenaSlot<P, Token>]) -> [Option<(u64, u64)>; SLOTS]
 where
     P::Gen: Numbered,
@@ -70,8 +38,10 @@ where
     let mut entries = [None; SLOTS];
     for at in 0..SLOTS {
         entries[at] = match slots.get(at) {
-            Some(slot) => entry_in(slot),
-            None => None,
+            Some(ArenaSlot::Allocated(generation, token)) => {
+                Some((generation.told_number(), token.number))
+            }
+            _ => None,
         };
     }
     entries
@@ -96,56 +66,4 @@ fn free_in<P: Ptr>(slots: &[ArenaSlot<P, Token>], first: Option<NonZeroUsize>) -
         }
     }
     free
-}
-
-// What stands in the slot of this index.
-fn told_slot(state: &State, index: usize) -> Told {
-    if index > state.slots {
-        return Told::Invalid;
-    }
-    match state.entries.get(index.wrapping_sub(1)) {
-        Some(Some((generation, number))) => Told::Held(*generation, *number),
-        Some(None) => Told::Nothing,
-        None => Told::Invalid,
-    }
-}
-
-impl State {
-    /// What a call answers that asks for a part of the state.
-    pub fn told(&self, call: Call) -> Told {
-        match call {
-            Call::Bounds => Told::Bounds(self.len, self.capacity, self.limit),
-            Call::Generation => Told::Generation(self.counter),
-            Call::Slots => Told::Size(self.slots),
-            Call::Root if self.free[0] == 0 => Told::Nothing,
-            Call::Root => Told::Size(self.free[0]),
-            Call::FirstFree => Told::Free([self.free[0], self.free[1], self.free[2]]),
-            Call::SlotAt(index) => told_slot(self, index),
-            _ => Told::NoSuchCall,
-        }
-    }
-
-    /// The same without free slots past the last entry, and with the other free indexes in rising
-    /// order.
-    pub fn in_order(self) -> Self {
-        let mut slots = 0;
-        for at in 0..SLOTS {
-            if self.entries[at].is_some() {
-                slots = at + 1;
-            }
-        }
-        let mut free = [0; SLOTS];
-        let mut place = 0;
-        for at in 0..SLOTS {
-            if at < slots && self.entries[at].is_none() && place < SLOTS {
-                free[place] = at + 1;
-                place += 1;
-            }
-        }
-        State {
-            slots,
-            free,
-            ..self
-        }
-    }
 }

@@ -1,17 +1,14 @@
 //! What is tried on arenas, and the arenas over each stack that it is tried on.
 
 use crate::arenas::{Fixed, Heap, Limited, Little, new_arena, with_room};
-use crate::call::Call;
-use crate::numbered::Numbered;
-use crate::tables::{Wrong, follow, follow_tidied, follow_unchanged, step};
+use crate::tables::{follow, follow_unchanged, step};
 use crate::tested_arena::{TestedArena, WithLimit};
-use crate::token::Token;
-use crate::told::Told;
 use std::alloc::Global;
 use triple_arena::{Arena, ArenaSlot};
 use triple_arena_base::AllocError;
 use triple_arena_ptr::Ptr;
 use triple_arena_stack::{NonZeroInxGenericStack, SetMaxCapacity};
+use triple_arena_trait_kit::{Call, Numbered, Token, Told, Wrong};
 
 /// What is tried on an arena.
 pub trait Trial {
@@ -36,17 +33,6 @@ pub struct Unchanged(pub &'static [(Call, Told)]);
 impl Trial for Unchanged {
     fn on<A: TestedArena>(&self, arena: &mut A) -> Result<(), Wrong> {
         follow_unchanged(arena, self.0)
-    }
-}
-
-/// A table of calls, each of which leaves the whole state as it was, but for the free list, which is
-/// in order.
-#[derive(Clone, Copy)]
-pub struct Tidied(pub &'static [(Call, Told)]);
-
-impl Trial for Tidied {
-    fn on<A: TestedArena>(&self, arena: &mut A) -> Result<(), Wrong> {
-        follow_tidied(arena, self.0)
     }
 }
 
@@ -177,5 +163,5 @@ pub fn from_empty<P: Ptr>(alloc: Global, steps: &'static [(Call, Told)]) -> Resu
 where
     P::Gen: Numbered,
 {
-    on_stack::<P, Heap<P>, Steps>(alloc, None, &Steps(steps))
+    on_heap::<P, Steps>(alloc, None, &Steps(steps))
 }

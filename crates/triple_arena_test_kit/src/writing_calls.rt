@@ -2,24 +2,10 @@
 
 ghost use Rattle.triple_arena_traits.specs.Values.{SamePointers};
 
-use crate::numbered::{Numbered, index_number};
-use crate::token::Token;
-use crate::told::{NO_ENTRY, NO_VALUE, Told};
 use triple_arena::{Arena, ArenaSlot};
 use triple_arena_ptr::Ptr;
 use triple_arena_stack::NonZeroInxGenericStack;
-
-// An entry by its index, its generation and its value.
-fn entry_of<P: Ptr>(p: P, token: &Token) -> (usize, u64, u64)
-where
-    P::Gen: Numbered,
-{
-    (
-        index_number(p.inx()),
-        p.generation().told_number(),
-        token.number,
-    )
-}
+use triple_arena_trait_kit::{NO_ENTRY, NO_VALUE, Numbered, Token, Told, entry_numbers};
 
 /// Adds a number to each value in a loop over the arena.
 pub fn add_to_each<P: Ptr, S: NonZeroInxGenericStack<ArenaSlot<P, Token>>>(
@@ -34,7 +20,7 @@ where
     let mut place = 0;
     for (p, token) in arena {
         if place < 3 {
-            met[place] = entry_of(p, token);
+            met[place] = entry_numbers(p, token);
             place += 1;
         }
         token.number = token.number.wrapping_add(number);
@@ -56,7 +42,7 @@ where
     let mut entries = arena.iter_mut();
     while let Some((p, token)) = entries.next() {
         if place < 3 {
-            met[place] = entry_of(p, token);
+            met[place] = entry_numbers(p, token);
             place += 1;
         }
         token.number = token.number.wrapping_add(number);

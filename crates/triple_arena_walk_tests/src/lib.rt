@@ -1,5 +1,4 @@
-//! Tests of arenas by public calls: walks, texts, and values that are lent, written over and
-//! dropped.
+//! Tests of arenas by public calls: walks, compression, and values that are lent and written over.
 #![tactic(auto)]
 
 #[cfg(test)]

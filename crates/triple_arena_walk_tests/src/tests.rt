@@ -1,15 +1,9 @@
-//! What no clause of the arenas says of walks, entries, pairs, texts and drops: that their calls
-//! succeed, and worked examples.
+//! What no clause of the arenas says of walks, compression and pairs: that their calls succeed, and
+//! worked examples.
 
 mod compression;
-mod drops;
 mod end_slots;
-mod entries;
-mod generic_callers;
-mod insertion;
 mod pairs;
 mod removals;
-mod texts;
-mod two_pointer_types;
 mod walks;
 mod writing;

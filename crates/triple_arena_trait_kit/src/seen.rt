@@ -4,8 +4,8 @@ use crate::call::Call;
 use crate::numbered::Numbered;
 use crate::token::Token;
 use crate::told::{Told, told_found, told_generation, told_held, told_value};
-use triple_arena::ArenaTrait;
 use triple_arena_ptr::Ptr;
+use triple_arena_traits::ArenaTrait;
 
 // What each call answers that reads an arena, at one pointer. They are made at once: one body without
 // branches is faster to prove than a branch for each.
@@ -19,22 +19,6 @@ struct Seen {
     first: Told,
     last: Told,
     singular: Told,
-}
-
-fn seen_at<P: Ptr, A: ArenaTrait<P, Token>>(arena: &A, p: P) -> Seen
-where
-    P::Gen: Numbered,
-{
-    Seen {
-        is_empty: arena.is_empty(),
-        contains: arena.contains(p),
-        value: told_value(arena.get(p)),
-        entry: told_held(arena.get_inx(p.inx())),
-        generation: told_generation(arena.generation_at(p.inx())),
-        first: told_found(arena.find_first_inx_ptr()),
-        last: told_found(arena.find_last_inx_ptr()),
-        singular: told_generation(arena.singular_generation()),
-    }
 }
 
 impl Seen {
@@ -59,5 +43,16 @@ pub fn answer_to_read<P: Ptr, A: ArenaTrait<P, Token>>(arena: &A, call: Call) ->
 where
     P::Gen: Numbered,
 {
-    seen_at(arena, call.first()).told(call)
+    let p: P = call.first();
+    let seen = Seen {
+        is_empty: arena.is_empty(),
+        contains: arena.contains(p),
+        value: told_value(arena.get(p)),
+        entry: told_held(arena.get_inx(p.inx())),
+        generation: told_generation(arena.generation_at(p.inx())),
+        first: told_found(arena.find_first_inx_ptr()),
+        last: told_found(arena.find_last_inx_ptr()),
+        singular: told_generation(arena.singular_generation()),
+    };
+    seen.told(call)
 }

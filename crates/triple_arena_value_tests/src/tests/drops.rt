@@ -4,12 +4,13 @@ use super::entries::pointer_of_entry;
 use std::alloc::Global;
 use std::cell::Cell;
 use triple_arena::{Arena, ArenaInsertEntryTrait, ArenaInsertTrait, ArenaSlot, ArenaTrait};
-use triple_arena_ptr::{P0, Ptr};
+use triple_arena_base::InvalidationResult;
+use triple_arena_ptr::P0;
 use triple_arena_stack::{
     NonZeroInxArray, NonZeroInxBoxedSlice, NonZeroInxGenericStack, NonZeroInxLimitedVec,
     NonZeroInxVec, SetMaxCapacity,
 };
-use triple_arena_test_kit::{Scarce, pointer};
+use triple_arena_test_kit::{Scarce, inx, pointer};
 
 // A value that counts its drop.
 struct Counted<'a> {
@@ -69,22 +70,9 @@ enum Call {
     Clear,
 }
 
-// Whether a value is inserted, by each call.
-fn inserts<T: Drop, A: ArenaInsertTrait<P0, T>>(arena: &mut A, value: T) -> bool {
-    arena.insert(value).is_ok()
-}
-
-fn inserts_reallocating<T: Drop, A: ArenaInsertTrait<P0, T>>(arena: &mut A, value: T) -> bool {
-    arena.insert_reallocating(value).is_ok()
-}
-
-fn inserts_within<T: Drop, A: ArenaInsertTrait<P0, T>>(arena: &mut A, value: T) -> bool {
-    arena.insert_within_capacity(value).is_ok()
-}
-
-// Writes a value over the one under a pointer, if there is one.
-fn writes<T: Drop, A: ArenaTrait<P0, T>>(arena: &mut A, p: P0, value: T) -> bool {
-    match arena.get_mut(p) {
+// Writes a value over one that is lent, if there is one.
+fn writes<T: Drop>(old: Option<&mut T>, value: T) -> bool {
+    match old {
         Some(old) => {
             *old = value;
             true
@@ -93,59 +81,35 @@ fn writes<T: Drop, A: ArenaTrait<P0, T>>(arena: &mut A, p: P0, value: T) -> bool
     }
 }
 
-// Takes a value out and lets it go: whether there was one that wasn't dropped before.
-fn removes<T: Drop, C: Count<T>, A: ArenaTrait<P0, T>>(arena: &mut A, p: P0, count: &C) -> bool {
-    let before = count.drops();
-    let taken = arena.remove(p);
+// Lets go what was taken out: whether there was a value, and so many drops before.
+fn is_held<T, R: Drop, C: Count<T>>(taken: InvalidationResult<R>, count: &C, before: u64) -> bool {
     let is_held = !taken.is_invalid() && count.drops() == before;
     drop(taken);
     is_held
 }
 
-// The same of a removal by index.
-fn removes_inx<T: Drop, C: Count<T>, A: ArenaTrait<P0, T>>(
-    arena: &mut A,
-    p: P0,
-    count: &C,
-) -> bool {
-    let before = count.drops();
-    let taken = arena.remove_inx(p.inx());
-    let is_held = !taken.is_invalid() && count.drops() == before;
-    drop(taken);
-    is_held
-}
-
-// Whether a pointer was renewed without a wrap.
-fn renews<T, A: ArenaTrait<P0, T>>(arena: &mut A, p: P0) -> bool {
-    arena.invalidate(p).is_success()
-}
-
-// Whether the arena has this room.
-fn reallocates<T, A: ArenaTrait<P0, T>>(arena: &mut A, room: usize) -> bool {
-    arena.reallocate_min_capacity(room).is_ok()
-}
-
-// Whether the arena was cleared without a wrap.
-fn clears<T: Drop, A: ArenaTrait<P0, T>>(arena: &mut A) -> bool {
-    arena.clear().is_success()
-}
-
-// Makes a call.
+// Makes a call. An ending is done where the counter doesn't wrap.
 fn is_done<T: Drop, C: Count<T>, A: ArenaInsertTrait<P0, T>>(
     arena: &mut A,
     count: &C,
     call: Call,
 ) -> bool {
     match call {
-        Call::Insert => inserts(arena, count.new_value()),
-        Call::InsertReallocating => inserts_reallocating(arena, count.new_value()),
-        Call::InsertWithin => inserts_within(arena, count.new_value()),
-        Call::Write(i, g) => writes(arena, pointer(i, g), count.new_value()),
-        Call::Renew(i, g) => renews(arena, pointer(i, g)),
-        Call::Remove(i, g) => removes(arena, pointer(i, g), count),
-        Call::RemoveInx(i) => removes_inx(arena, pointer(i, 2), count),
-        Call::Reallocate(room) => reallocates(arena, room),
-        Call::Clear => clears(arena),
+        Call::Insert => arena.insert(count.new_value()).is_ok(),
+        Call::InsertReallocating => arena.insert_reallocating(count.new_value()).is_ok(),
+        Call::InsertWithin => arena.insert_within_capacity(count.new_value()).is_ok(),
+        Call::Write(i, g) => writes(arena.get_mut(pointer(i, g)), count.new_value()),
+        Call::Renew(i, g) => arena.invalidate(pointer(i, g)).is_success(),
+        Call::Remove(i, g) => {
+            let before = count.drops();
+            is_held::<T, _, C>(arena.remove(pointer(i, g)), count, before)
+        }
+        Call::RemoveInx(i) => {
+            let before = count.drops();
+            is_held::<T, _, C>(arena.remove_inx(inx(i)), count, before)
+        }
+        Call::Reallocate(room) => arena.reallocate_min_capacity(room).is_ok(),
+        Call::Clear => arena.clear().is_success(),
     }
 }
 
@@ -238,17 +202,24 @@ fn follow_table<T: Drop, C: Count<T>, S: NonZeroInxGenericStack<ArenaSlot<P0, T>
     follow(arena, count, table.steps)
 }
 
-// The same on a new arena over the stack `S`, to the drop of the arena.
+// A new arena with three places.
+fn with_three_places<T, S: NonZeroInxGenericStack<ArenaSlot<P0, T>>>(
+    alloc: Global,
+) -> Result<Arena<P0, T, S>, Wrong> {
+    match Arena::with_min_capacity(alloc, 3) {
+        Ok(arena) => Ok(arena),
+        Err(_refused) => Err(Wrong::NoMemory),
+    }
+}
+
+// Follows a table on such an arena over the stack `S`, to the drop of the arena.
 fn drops_on<T: Drop, C: Count<T>, S: NonZeroInxGenericStack<ArenaSlot<P0, T>> + Drop>(
     alloc: Global,
     count: &C,
     table: &Table<'_>,
 ) -> Result<(), Wrong> {
     count.restart();
-    let made: Result<Arena<P0, T, S>, _> = Arena::with_min_capacity(alloc, 3);
-    let Ok(mut arena) = made else {
-        return Err(Wrong::NoMemory);
-    };
+    let mut arena: Arena<P0, T, S> = with_three_places(alloc)?;
     follow_table(&mut arena, count, table)?;
     drop(arena);
     at_end(count.drops(), table.at_end)
@@ -289,10 +260,7 @@ fn refused_without_limit<T: Drop, C: Count<T>, S: SetMaxCapacity<ArenaSlot<P0, T
     alloc: Global,
     count: &C,
 ) -> Result<(), Wrong> {
-    let made: Result<Arena<P0, T, S>, _> = Arena::with_min_capacity(alloc, 3);
-    let Ok(mut arena) = made else {
-        return Err(Wrong::NoMemory);
-    };
+    let mut arena: Arena<P0, T, S> = with_three_places(alloc)?;
     if !is_unlimited(&mut arena) {
         return Err(Wrong::AtEnd(0));
     }
@@ -339,10 +307,7 @@ fn by_entries<T: Drop, C: Count<T>, S: NonZeroInxGenericStack<ArenaSlot<P0, T>> 
     alloc: Global,
     count: &C,
 ) -> Result<(), Wrong> {
-    let made: Result<Arena<P0, T, S>, _> = Arena::with_min_capacity(alloc, 3);
-    let Ok(mut arena) = made else {
-        return Err(Wrong::NoMemory);
-    };
+    let mut arena: Arena<P0, T, S> = with_three_places(alloc)?;
     each_entry(&mut arena, count)?;
     drop(arena);
     at_end(count.drops(), 2)

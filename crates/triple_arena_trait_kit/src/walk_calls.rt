@@ -1,43 +1,47 @@
-//! Walks over any arena that has them, each as one call, and what they met.
+//! Walks over any arena that has them, and what they met.
 
-use crate::call::Call;
-use crate::numbered::{Numbered, index_number};
+use crate::numbered::{Numbered, index_number, numbers_of};
 use crate::token::Token;
 use crate::told::{NO_ENTRY, NO_POINTER, NO_VALUE, NOT_DRAINED, Told, told_raise};
-use triple_arena::CompactArenaTrait;
 use triple_arena_base::{Advancer, InvalidationOption};
 use triple_arena_ptr::Ptr;
+use triple_arena_traits::CompactArenaTrait;
 
-// The index and the generation of a pointer, if there is one.
-fn met_pointer<P: Ptr>(p: Option<P>) -> (usize, u64)
+/// The index and the generation of a pointer, if there is one.
+pub fn met_pointer<P: Ptr>(p: Option<P>) -> (usize, u64)
 where
     P::Gen: Numbered,
 {
     match p {
-        Some(p) => (index_number(p.inx()), p.generation().told_number()),
+        Some(p) => numbers_of(p),
         None => NO_POINTER,
     }
 }
 
-// The number of a value, if there is one.
-fn met_value(token: Option<&Token>) -> u64 {
+/// The number of a value, if there is one.
+pub fn met_value(token: Option<&Token>) -> u64 {
     match token {
         Some(token) => token.number,
         None => NO_VALUE,
     }
 }
 
-// Index, generation and number of an entry, if there is one.
-fn met_entry<P: Ptr>(entry: Option<(P, &Token)>) -> (usize, u64, u64)
+/// Index, generation and number of an entry.
+pub fn entry_numbers<P: Ptr>(p: P, token: &Token) -> (usize, u64, u64)
+where
+    P::Gen: Numbered,
+{
+    let (index, generation) = numbers_of(p);
+    (index, generation, token.number)
+}
+
+/// The same of an entry, if there is one.
+pub fn met_entry<P: Ptr>(entry: Option<(P, &Token)>) -> (usize, u64, u64)
 where
     P::Gen: Numbered,
 {
     match entry {
-        Some((p, token)) => (
-            index_number(p.inx()),
-            p.generation().told_number(),
-            token.number,
-        ),
+        Some((p, token)) => entry_numbers(p, token),
         None => NO_ENTRY,
     }
 }
@@ -52,48 +56,8 @@ where
         Some(InvalidationOption::GenerationOverflow((p, token))) => (p, token, true),
         None => return NOT_DRAINED,
     };
-    (
-        index_number(p.inx()),
-        p.generation().told_number(),
-        token.number,
-        wrapped,
-    )
-}
-
-/// The first pointers.
-pub fn pointers<P: Ptr, A: CompactArenaTrait<P, Token>>(arena: &A) -> Told
-where
-    P::Gen: Numbered,
-{
-    let mut ptrs = arena.ptrs();
-    Told::MetPointers(
-        met_pointer(ptrs.next()),
-        met_pointer(ptrs.next()),
-        met_pointer(ptrs.next()),
-    )
-}
-
-/// The first values.
-pub fn values<P: Ptr, A: CompactArenaTrait<P, Token>>(arena: &A) -> Told {
-    let mut vals = arena.vals();
-    Told::MetValues(
-        met_value(vals.next()),
-        met_value(vals.next()),
-        met_value(vals.next()),
-    )
-}
-
-/// The first entries.
-pub fn entries<P: Ptr, A: CompactArenaTrait<P, Token>>(arena: &A) -> Told
-where
-    P::Gen: Numbered,
-{
-    let mut iter = arena.iter();
-    Told::Met(
-        met_entry(iter.next()),
-        met_entry(iter.next()),
-        met_entry(iter.next()),
-    )
+    let (index, generation, number) = entry_numbers(p, &token);
+    (index, generation, number, wrapped)
 }
 
 /// What an advancer answers in its next steps.
@@ -109,21 +73,6 @@ where
         met_pointer(advancer.advance(arena)),
         met_pointer(advancer.advance(arena)),
     )
-}
-
-/// The same of the advancer of a call: one from the first entry on, one from an index on, or the
-/// empty one.
-pub fn steps<P: Ptr, A: CompactArenaTrait<P, Token>>(arena: &A, call: Call) -> Told
-where
-    P::Gen: Numbered,
-{
-    let p: P = call.first();
-    let mut advancer = match call {
-        Call::StepsFromFirst => arena.advancer(),
-        Call::StepsFrom(_, reverse) => arena.advancer_inx(p.inx(), reverse),
-        _ => Advancer::<A>::empty(),
-    };
-    next_steps(arena, &mut advancer)
 }
 
 /// Adds a number to each value by `for_each_mut`.
@@ -147,11 +96,6 @@ where
     Told::Drained(met[0], met[1], met[2])
 }
 
-/// Compresses the arena, and tells whether the counter wrapped.
-pub fn compress<P: Ptr, A: CompactArenaTrait<P, Token>>(arena: &mut A, reset: bool) -> Told {
-    told_raise(arena.compress(reset))
-}
-
 // 10000 v + 100 i + j of a value v that goes from index i to index j.
 fn moved<P: Ptr>(from: P, token: Token, to: P) -> Token {
     let old = (index_number(from.inx()) as u64).wrapping_mul(100);
@@ -162,7 +106,8 @@ fn moved<P: Ptr>(from: P, token: Token, to: P) -> Token {
     }
 }
 
-/// The same by a closure that is told each move, and makes of each value what `moved` makes.
+/// Compresses the arena by a closure that is told each move, and makes of each value what `moved`
+/// makes: whether the counter wrapped.
 pub fn compress_telling<P: Ptr, A: CompactArenaTrait<P, Token>>(
     arena: &mut A,
     reset: bool,

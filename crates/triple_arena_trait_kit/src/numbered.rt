@@ -76,6 +76,14 @@ where
     }
 }
 
+/// The numbers of the index and of the generation of a pointer.
+pub fn numbers_of<P: Ptr>(p: P) -> (usize, u64)
+where
+    P::Gen: Numbered,
+{
+    (index_number(p.inx()), p.generation().told_number())
+}
+
 /// The number of an index, and 0 of one past those of any slot.
 pub fn index_number<I: PtrInx>(inx: I) -> usize {
     match I::try_into_usize(inx) {

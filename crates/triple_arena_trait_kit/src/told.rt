@@ -1,6 +1,6 @@
 //! What a call answers, by numbers.
 
-use crate::numbered::{Numbered, index_number};
+use crate::numbered::{Numbered, numbers_of};
 use crate::token::Token;
 use triple_arena_base::{
     DirectInsertionError, GetDisjointMutError, InvalidationOption, InvalidationResult,
@@ -127,7 +127,8 @@ pub fn told_pointer<P: Ptr>(p: P) -> Told
 where
     P::Gen: Numbered,
 {
-    Told::At(index_number(p.inx()), p.generation().told_number())
+    let (index, generation) = numbers_of(p);
+    Told::At(index, generation)
 }
 
 /// A pointer, if there is one.
@@ -138,6 +139,30 @@ where
     match p {
         Some(p) => told_pointer(p),
         None => Told::Nothing,
+    }
+}
+
+/// That it was done, or what refused it.
+pub fn told_done(done: Result<(), ReallocationError>) -> Told {
+    match done {
+        Ok(()) => Told::Done,
+        Err(refused) => Told::Refused(refused),
+    }
+}
+
+/// That it was done, or that there was no place.
+pub fn told_placed(placed: Result<(), NotWithinCapacityError>) -> Told {
+    match placed {
+        Ok(()) => Told::Done,
+        Err(NotWithinCapacityError) => Told::Full,
+    }
+}
+
+/// That two values were exchanged, or what refused it.
+pub fn told_exchanged(exchanged: Result<(), GetDisjointMutError>) -> Told {
+    match exchanged {
+        Ok(()) => Told::Done,
+        Err(refused) => Told::Apart(refused),
     }
 }
 
@@ -193,7 +218,8 @@ where
     match renewed {
         InvalidationResult::Success(p) => told_pointer(p),
         InvalidationResult::GenerationOverflow(p) => {
-            Told::WrappedAt(index_number(p.inx()), p.generation().told_number())
+            let (index, generation) = numbers_of(p);
+            Told::WrappedAt(index, generation)
         }
         InvalidationResult::InvalidPtr => Told::Invalid,
     }

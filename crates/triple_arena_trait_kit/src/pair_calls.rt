@@ -9,12 +9,12 @@ use crate::numbered::Numbered;
 use crate::token::Token;
 use crate::told::Told;
 use std::mem;
-use triple_arena::DisjointableArenaTrait;
 use triple_arena_base::GetDisjointMutError;
 use triple_arena_ptr::{Ptr, PtrGen, PtrInx};
+use triple_arena_traits::DisjointableArenaTrait;
 
-// Exchanges the values under two pointers of any arena.
-fn exchange_two<P: Ptr, T, A: DisjointableArenaTrait<P, T>>(
+/// Exchanges the values under two pointers of any arena.
+pub fn exchange_two<P: Ptr, T, A: DisjointableArenaTrait<P, T>>(
     arena: &mut A,
     first: P,
     second: P,
@@ -31,8 +31,8 @@ fn exchange_two<P: Ptr, T, A: DisjointableArenaTrait<P, T>>(
     arena.with_disjoint_mut(first, second, |a, b| mem::swap(a, b))
 }
 
-// Exchanges the values at two indexes of any arena.
-fn exchange_two_inx<P: Ptr, T, A: DisjointableArenaTrait<P, T>>(
+/// Exchanges the values at two indexes of any arena.
+pub fn exchange_two_inx<P: Ptr, T, A: DisjointableArenaTrait<P, T>>(
     arena: &mut A,
     first: P::Inx,
     second: P::Inx,
@@ -47,30 +47,6 @@ fn exchange_two_inx<P: Ptr, T, A: DisjointableArenaTrait<P, T>>(
         (A.with_value arena.old (P.Inx.number first) y) (P.Inx.number second) x) }
 {
     arena.with_disjoint_inx_mut(first, second, |_, a, _, b| mem::swap(a, b))
-}
-
-/// Exchanges the values under two pointers.
-pub fn swap<P: Ptr, A: DisjointableArenaTrait<P, Token>>(
-    arena: &mut A,
-    first: P,
-    second: P,
-) -> Told {
-    match exchange_two(arena, first, second) {
-        Ok(()) => Told::Done,
-        Err(refused) => Told::Apart(refused),
-    }
-}
-
-/// Exchanges the values at the indexes of two pointers.
-pub fn swap_inx<P: Ptr, A: DisjointableArenaTrait<P, Token>>(
-    arena: &mut A,
-    first: P,
-    second: P,
-) -> Told {
-    match exchange_two_inx(arena, first.inx(), second.inx()) {
-        Ok(()) => Told::Done,
-        Err(refused) => Told::Apart(refused),
-    }
 }
 
 /// Writes a number under the first of two pointers, and answers those that stood under both.

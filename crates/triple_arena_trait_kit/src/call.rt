@@ -86,14 +86,12 @@ pub enum Call {
     SetLimit(usize),
 }
 
-/// What a call needs of an arena.
+/// What a call of the traits of arenas needs.
 #[derive(Clone, Copy)]
 pub enum Kind {
-    /// It asks for a part of the whole state, which is shown by any arena.
-    OfState,
     /// It reads any arena.
     Reading,
-    /// It changes any arena.
+    /// It changes any arena, or no trait has it.
     OfAny,
     /// Arenas that insert by themselves have it.
     Insertion,
@@ -101,20 +99,6 @@ pub enum Kind {
     Walk,
     /// Arenas that lend two values have it.
     OfTwo,
-    // of an `Arena`: on its slots and its counter, by its entries, to write to each value
-    Own,
-    Entry,
-    Writing,
-    /// Arenas with direct insertion have it.
-    Direct,
-}
-
-// Whether there is a pointer of these numbers.
-fn has_pointer<P: Ptr>(place: (usize, u64)) -> bool
-where
-    P::Gen: Numbered,
-{
-    named_index::<P::Inx>(place.0).is_some() && P::Gen::of_number(place.1).is_some()
 }
 
 // The first pointer, which each type has: it stands in place of one that a call does not name.
@@ -168,7 +152,12 @@ impl Call {
     where
         P::Gen: Numbered,
     {
-        has_pointer::<P>(self.first_place()) && has_pointer::<P>(self.second_place())
+        let (first, number) = self.first_place();
+        let (second, other) = self.second_place();
+        named_index::<P::Inx>(first).is_some()
+            && P::Gen::of_number(number).is_some()
+            && named_index::<P::Inx>(second).is_some()
+            && P::Gen::of_number(other).is_some()
     }
 
     /// The first pointer of the call, or one of its first index.
@@ -194,6 +183,8 @@ impl Call {
         match self {
             Call::Write(_, _, number)
             | Call::WriteInx(_, number)
+            | Call::WriteInxUnwrap(_, number)
+            | Call::WriteIndex(_, _, number)
             | Call::EntryInsert(number)
             | Call::EntryInsertReallocating(number)
             | Call::EntryInsertWithin(number) => Some(number),
@@ -201,15 +192,9 @@ impl Call {
         }
     }
 
-    /// What the call needs of an arena.
+    /// What the call needs of an arena that has the traits.
     pub fn kind(self) -> Kind {
         match self {
-            Call::Bounds
-            | Call::Generation
-            | Call::Slots
-            | Call::Root
-            | Call::FirstFree
-            | Call::SlotAt(_) => Kind::OfState,
             Call::IsEmpty
             | Call::SingularGeneration
             | Call::Get(_, _)
@@ -235,28 +220,6 @@ impl Call {
             | Call::CompressTelling(_) => Kind::Walk,
             Call::Swap(_, _) | Call::SwapInx(_, _) | Call::Lend(_, _, _) | Call::LendInx(_, _, _) =>
                 { Kind::OfTwo }
-            Call::SetGeneration(_)
-            | Call::IncGeneration
-            | Call::Canonicalize
-            | Call::RemoveFreeEnd
-            | Call::GetInxUnwrap(_)
-            | Call::WriteInxUnwrap(_, _)
-            | Call::Index(_, _)
-            | Call::WriteIndex(_, _, _) => Kind::Own,
-            Call::EntryPtr
-            | Call::EntryPtrReallocating
-            | Call::EntryPtrWithin
-            | Call::EntryInsert(_)
-            | Call::EntryInsertReallocating(_)
-            | Call::EntryInsertWithin(_)
-            | Call::EntryWrite(_, _) => Kind::Entry,
-            Call::AddToEach(_) | Call::AddToEachEntry(_) | Call::AddToEachValue(_) => Kind::Writing,
-            Call::DirectInsert(_, _, _)
-            | Call::DirectInsertReserved(_, _, _)
-            | Call::DirectInsertAndWrite(_, _, _, _)
-            | Call::DirectAsk(_, _)
-            | Call::CanDirectInsert(_, _)
-            | Call::PopFreeEnd(_) => Kind::Direct,
             _ => Kind::OfAny,
         }
     }

@@ -1,0 +1,32 @@
+//! What tests of arenas share of calls and their answers as values: pointers of each kind, a stack
+//! whose memory ends, and what any arena answers that has the traits.
+#![tactic(auto)]
+
+mod answers;
+mod call;
+mod numbered;
+mod pair_calls;
+mod pointers;
+mod scarce_stack;
+mod seen;
+mod state;
+mod token;
+mod told;
+mod walk_calls;
+mod wrong;
+
+pub use answers::{
+    answer_by_traits, answer_of_any, answer_of_two, answer_to_insert, answer_to_walk,
+};
+pub use call::{Call, Kind};
+pub use numbered::{Numbered, index_number, inx, named_index, pointer};
+pub use pointers::{B, Narrow, PtrOf, Wide};
+pub use scarce_stack::Scarce;
+pub use seen::answer_to_read;
+pub use state::{SLOTS, State};
+pub use token::Token;
+pub use told::{
+    NO_ENTRY, NO_POINTER, NO_VALUE, NOT_DRAINED, Told, told_placed, told_pointer, told_raise,
+};
+pub use walk_calls::{entry_numbers, next_steps};
+pub use wrong::{Wrong, is_text, is_told, where_there_is_memory};

@@ -1,0 +1,56 @@
+//! What a test found to be wrong.
+
+use crate::told::Told;
+use std::alloc;
+use triple_arena_base::AllocError;
+
+/// The first thing that a test found to be wrong, at this row of its table, counted from 0.
+#[derive(Clone, Copy, Debug)]
+pub enum Wrong {
+    /// A call told another answer than was expected.
+    Answer(usize),
+    /// After a call the arena was in another state than was expected.
+    State(usize),
+    /// The text of an arena was another one than this.
+    Text(&'static str),
+    /// There was no memory for the arena.
+    NoMemory,
+}
+
+impl From<AllocError> for Wrong {
+    fn from(_refused: AllocError) -> Wrong {
+        Wrong::NoMemory
+    }
+}
+
+impl From<alloc::AllocError> for Wrong {
+    fn from(_refused: alloc::AllocError) -> Wrong {
+        Wrong::NoMemory
+    }
+}
+
+/// The same, where memory for the arena may be refused, and then nothing is wrong.
+pub fn where_there_is_memory(tried: Result<(), Wrong>) -> Result<(), Wrong> {
+    match tried {
+        Err(Wrong::NoMemory) => Ok(()),
+        tried => tried,
+    }
+}
+
+/// That the call of this row told what was expected.
+pub fn is_told(row: usize, told: Told, expected: Told) -> Result<(), Wrong> {
+    if told == expected {
+        Ok(())
+    } else {
+        Err(Wrong::Answer(row))
+    }
+}
+
+/// That the text of an arena is this one.
+pub fn is_text(text: &str, expected: &'static str) -> Result<(), Wrong> {
+    if text == expected {
+        Ok(())
+    } else {
+        Err(Wrong::Text(expected))
+    }
+}

@@ -1,0 +1,6 @@
+//! Tests of arenas by public calls: entries, texts, values that are dropped or are of any type, and
+//! callers that are generic over arenas.
+#![tactic(auto)]
+
+#[cfg(test)]
+mod tests;

@@ -7,7 +7,5 @@ mod drops;
 mod insertion;
 mod pops;
 mod refused_memory;
-mod renaming;
 mod tested_direct;
-mod tested_nodes;
 mod transfers;

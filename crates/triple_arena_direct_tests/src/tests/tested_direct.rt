@@ -2,10 +2,9 @@
 
 use std::alloc::Global;
 use triple_arena::{
-    Arena, ArenaDirectInsertEntryTrait, ArenaDirectInsertTrait, ArenaInsertTrait, ArenaSlot,
-    ArenaTrait, CompactArenaTrait, DisjointableArenaTrait,
+    Arena, ArenaDirectInsertEntryTrait, ArenaDirectInsertTrait, ArenaSlot, ArenaTrait,
+    CompactArenaTrait, DisjointableArenaTrait,
 };
-use triple_arena_base::ReallocationError;
 use triple_arena_direct::{DirectArena, DirectSlot};
 use triple_arena_ptr::Ptr;
 use triple_arena_stack::{
@@ -311,15 +310,6 @@ where
     fn state(&self) -> State {
         state_of(&self.direct.arena)
     }
-}
-
-/// The pointer of a value that an arena inserts: the one body that takes an `Arena` as that trait,
-/// since each such body is slow to prove.
-pub fn put<P: Ptr, T: Drop, S: NonZeroInxGenericStack<ArenaSlot<P, T>>>(
-    arena: &mut Arena<P, T, S>,
-    value: T,
-) -> Result<P, ReallocationError> {
-    arena.insert(value)
 }
 
 /// Inserts a value under a pointer: whether there was a place.

@@ -1,10 +1,11 @@
 //! Arenas of nodes that hold links, and what each compaction of them answers.
 
-use super::tested_direct::{put, put_under};
 use std::alloc::{AllocError, Global};
 use std::fmt::Debug;
 use std::num::NonZeroUsize;
-use triple_arena::{Arena, ArenaSlot, ArenaTrait, CompactArenaTrait};
+use triple_arena::{
+    Arena, ArenaDirectInsertEntryTrait, ArenaInsertTrait, ArenaSlot, ArenaTrait, CompactArenaTrait,
+};
 use triple_arena_base::{CompactError, InvalidationOption, ReallocationError, Recast, Recaster};
 use triple_arena_direct::{DirectArena, DirectSlot, compress_recast, compress_recaster};
 use triple_arena_ptr::Ptr;
@@ -304,8 +305,26 @@ fn put_node<P: Ptr, S: NonZeroInxGenericStack<ArenaSlot<P, Node<P>>>>(
 where
     P::Gen: Numbered,
 {
-    match put(arena, node(named)) {
+    match arena.insert_reallocating(node(named)) {
         Ok(_p) => Ok(()),
+        Err(_refused) => Err(Wrong::NoMemory),
+    }
+}
+
+// Puts a node into a direct arena, under the pointer of these numbers.
+fn put_node_under<P: Ptr, S: NonZeroInxGenericStack<DirectSlot<P, Node<P>>>>(
+    arena: &mut DirectArena<P, Node<P>, S>,
+    at: (usize, u64),
+    named: Named,
+) -> Result<(), Wrong>
+where
+    P::Gen: Numbered,
+{
+    match arena.direct_insert_within_capacity(pointer(at.0, at.1)) {
+        Ok(entry) => {
+            entry.insert(node(named));
+            Ok(())
+        }
         Err(_refused) => Err(Wrong::NoMemory),
     }
 }
@@ -365,8 +384,8 @@ where
         Ok(arena) => arena,
         Err(_refused) => return Err(Wrong::NoMemory),
     };
-    for ((index, generation), named) in nodes {
-        put_under(&mut arena, pointer(*index, *generation), node(*named));
+    for (at, named) in nodes {
+        put_node_under(&mut arena, *at, *named)?;
     }
     trial.on(alloc, &mut arena)
 }

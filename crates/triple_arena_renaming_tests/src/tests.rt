@@ -1,0 +1,5 @@
+//! What no clause of compaction with recasting says: that its calls succeed, worked examples, and
+//! refusals of memory.
+
+mod renaming;
+mod tested_nodes;

@@ -1,8 +1,7 @@
 //! Each call of the traits at a direct arena.
 
-use super::tested_direct::{Direct, Heap, on_direct, with_room};
+use super::tested_direct::{Direct, Heap, on_heap, with_room};
 use std::alloc::Global;
-use std::test::Fail;
 use triple_arena_base::{GetDisjointMutError, ReallocationError};
 use triple_arena_direct::DirectSlot;
 use triple_arena_ptr::P0;
@@ -31,11 +30,11 @@ impl Trial for ThreeEntries {
 
 // What is tried on an arena with these entries, of capacity 4.
 fn with_entries<T: Trial + Drop>(alloc: Global, trial: T) -> Result<(), Wrong> {
-    on_direct::<P0, Heap<P0>, _>(alloc, 4, &(ThreeEntries, trial))
+    on_heap::<P0, _>(alloc, 4, &(ThreeEntries, trial))
 }
 
 #[test]
-fn each_look_up_and_walk_leaves_the_arena_as_it_was(rt: HostRuntime) -> Result<(), Fail> {
+fn each_look_up_and_walk_leaves_the_arena_as_it_was(rt: HostRuntime) -> Result<(), Wrong> {
     let reads = Unchanged(&[
         (Call::IsEmpty, Told::Is(false)),
         (Call::Bounds, Told::Bounds(3, 4, None)),
@@ -67,12 +66,11 @@ fn each_look_up_and_walk_leaves_the_arena_as_it_was(rt: HostRuntime) -> Result<(
             Told::MetPointers(NO_POINTER, NO_POINTER, NO_POINTER),
         ),
     ]);
-    with_entries(rt.alloc(), reads)?;
-    Ok(())
+    with_entries(rt.alloc(), reads)
 }
 
 #[test]
-fn what_is_written_stands_there(rt: HostRuntime) -> Result<(), Fail> {
+fn what_is_written_stands_there(rt: HostRuntime) -> Result<(), Wrong> {
     let writes = Steps(&[
         (Call::GetMut(1, 2), Told::Holds(10)),
         (Call::GetInxMut(2), Told::Holds(20)),
@@ -87,8 +85,7 @@ fn what_is_written_stands_there(rt: HostRuntime) -> Result<(), Fail> {
         (Call::AddToEachValue(100), Told::Done),
         (Call::Values, Told::MetValues(312, 321, 341)),
     ]);
-    with_entries(rt.alloc(), writes)?;
-    Ok(())
+    with_entries(rt.alloc(), writes)
 }
 
 const OUTSIDE: Told = Told::Apart(GetDisjointMutError::IndexOutOfBounds);
@@ -125,13 +122,12 @@ impl Trial for LendsTwo {
 }
 
 #[test]
-fn two_values_are_lent_at_once(rt: HostRuntime) -> Result<(), Fail> {
-    with_entries(rt.alloc(), LendsTwo)?;
-    Ok(())
+fn two_values_are_lent_at_once(rt: HostRuntime) -> Result<(), Wrong> {
+    with_entries(rt.alloc(), LendsTwo)
 }
 
 #[test]
-fn an_ending_leaves_a_free_slot_and_tells_of_no_wrap(rt: HostRuntime) -> Result<(), Fail> {
+fn an_ending_leaves_a_free_slot_and_tells_of_no_wrap(rt: HostRuntime) -> Result<(), Wrong> {
     let ends = Steps(&[
         (Call::Invalidate(2, 5), Told::At(2, 5)),
         (Call::Invalidate(2, 4), Told::Invalid),
@@ -154,12 +150,11 @@ fn an_ending_leaves_a_free_slot_and_tells_of_no_wrap(rt: HostRuntime) -> Result<
         (Call::Clear, Told::Done),
         (Call::Bounds, Told::Bounds(0, 4, None)),
     ]);
-    with_entries(rt.alloc(), ends)?;
-    Ok(())
+    with_entries(rt.alloc(), ends)
 }
 
 #[test]
-fn a_new_arena_takes_entries_once_there_is_room(rt: HostRuntime) -> Result<(), Fail> {
+fn a_new_arena_takes_entries_once_there_is_room(rt: HostRuntime) -> Result<(), Wrong> {
     let steps = Steps(&[
         (Call::Bounds, Told::Bounds(0, 0, None)),
         (Call::Reallocate(3), Told::Done),
@@ -171,8 +166,7 @@ fn a_new_arena_takes_entries_once_there_is_room(rt: HostRuntime) -> Result<(), F
         ),
         (Call::Bounds, Told::Bounds(1, 3, None)),
     ]);
-    on_direct::<P0, Heap<P0>, _>(rt.alloc(), 0, &steps)?;
-    Ok(())
+    on_heap::<P0, _>(rt.alloc(), 0, &steps)
 }
 
 // That the text of an arena of capacity 4 with these entries is this one.
@@ -187,11 +181,10 @@ fn has_text<S: NonZeroInxGenericStack<DirectSlot<P0, Token>> + Drop>(
 }
 
 #[test]
-fn the_text_of_a_direct_arena(rt: HostRuntime) -> Result<(), Fail> {
+fn the_text_of_a_direct_arena(rt: HostRuntime) -> Result<(), Wrong> {
     has_text::<Heap<P0>>(
         rt.alloc(),
         "{P0[1](2): Token { number: 10 }, P0[2](5): Token { number: 20 }, \
             P0[4](3): Token { number: 40 }}",
-    )?;
-    Ok(())
+    )
 }

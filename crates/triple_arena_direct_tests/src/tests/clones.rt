@@ -5,7 +5,6 @@ use super::tested_direct::{
 };
 use std::alloc::{AllocError, Global};
 use std::fmt::Debug;
-use std::test::Fail;
 use triple_arena::{Arena, ArenaCloneFromWith, ArenaSlot, ArenaTrait, CompactArenaTrait};
 use triple_arena_base::{CloneFromError, ReallocationError};
 use triple_arena_direct::{DirectArena, DirectSlot};
@@ -18,8 +17,8 @@ use triple_arena_test_kit::{
 
 const BEYOND: Told = Told::Refused(ReallocationError::BeyondMaxCapacity);
 
-/// Clones, each value with a hundred added, and refuses the value of one number.
-pub fn clone_but<P: Ptr, A: ArenaCloneFromWith<P, Token>, B: CompactArenaTrait<P, Token>>(
+// Clones, each value with a hundred added, and refuses the value of one number.
+fn clone_but<P: Ptr, A: ArenaCloneFromWith<P, Token>, B: CompactArenaTrait<P, Token>>(
     target: &mut A,
     source: &B,
     refused: u64,
@@ -40,6 +39,50 @@ pub fn clone_but<P: Ptr, A: ArenaCloneFromWith<P, Token>, B: CompactArenaTrait<P
     }
 }
 
+/// A call that clones into an arena.
+#[derive(Clone, Copy)]
+pub enum Cloning {
+    CloneFrom,
+    /// By a closure that adds a hundred to each value, and refuses the value of one number.
+    CloneBut(u64),
+}
+
+/// What cloning tells whose values are clones.
+pub fn told_clone<E: Drop>(cloned: Result<(), CloneFromError<E>>) -> Told {
+    match cloned {
+        Ok(()) => Told::Done,
+        Err(CloneFromError::Reallocation(refused)) => Told::Refused(refused),
+        Err(CloneFromError::Map(_refused)) => Told::Refused(ReallocationError::AllocError),
+    }
+}
+
+fn clone_from<P: Ptr, A: ArenaCloneFromWith<P, Token>, B: CompactArenaTrait<P, Token>>(
+    target: &mut A,
+    source: &B,
+) -> Told {
+    told_clone(target.clone_from(source))
+}
+
+// What cloning into an arena tells.
+fn cloned<P: Ptr, A: ArenaCloneFromWith<P, Token>, B: CompactArenaTrait<P, Token>>(
+    target: &mut A,
+    source: &B,
+    call: Cloning,
+) -> Told {
+    match call {
+        Cloning::CloneFrom => clone_from(target, source),
+        Cloning::CloneBut(refused) => clone_but(target, source, refused),
+    }
+}
+
+/// The same of a direct arena: the one body that takes it so, since each such body is slow to prove.
+pub fn clone_into_direct<
+    S: NonZeroInxGenericStack<DirectSlot<P0, Token>>,
+    B: CompactArenaTrait<P0, Token>,
+>(target: &mut DirectArena<P0, Token, S>, source: &B, call: Cloning) -> Told {
+    cloned(target, source, call)
+}
+
 // A call on the target of clones.
 #[derive(Clone, Copy)]
 enum OnTarget {
@@ -55,7 +98,9 @@ fn told_by<S: NonZeroInxGenericStack<DirectSlot<P0, Token>>, B: CompactArenaTrai
 ) -> Told {
     match call {
         OnTarget::Of(call) => target.answer(call),
-        OnTarget::CloneBut(refused) => clone_but(&mut target.arena, source, refused),
+        OnTarget::CloneBut(refused) => {
+            clone_into_direct(&mut target.arena, source, Cloning::CloneBut(refused))
+        }
     }
 }
 
@@ -89,7 +134,7 @@ fn cloned_from_arena<
 }
 
 #[test]
-fn a_refused_entry_ends_a_clone(rt: HostRuntime) -> Result<(), Fail> {
+fn a_refused_entry_ends_a_clone(rt: HostRuntime) -> Result<(), Wrong> {
     cloned_from_arena::<Heap<P0>, ArenaHeap<P0>>(
         rt.alloc(),
         0,
@@ -113,12 +158,11 @@ fn a_refused_entry_ends_a_clone(rt: HostRuntime) -> Result<(), Fail> {
             (OnTarget::CloneBut(1), Told::Invalid),
             (OnTarget::Of(Call::Bounds), Told::Bounds(0, 5, None)),
         ],
-    )?;
-    Ok(())
+    )
 }
 
 #[test]
-fn a_clone_past_the_limit_is_refused(rt: HostRuntime) -> Result<(), Fail> {
+fn a_clone_past_the_limit_is_refused(rt: HostRuntime) -> Result<(), Wrong> {
     cloned_from_arena::<Limited<P0>, ArenaHeap<P0>>(
         rt.alloc(),
         0,
@@ -128,8 +172,7 @@ fn a_clone_past_the_limit_is_refused(rt: HostRuntime) -> Result<(), Fail> {
         rt.alloc(),
         5,
         &[(OnTarget::CloneBut(0), Told::Done)],
-    )?;
-    Ok(())
+    )
 }
 
 // One entry, under generation 9.
@@ -163,9 +206,8 @@ fn into_an_arena<
 }
 
 #[test]
-fn an_arena_that_is_cloned_from_a_direct_one_begins_at_two(rt: HostRuntime) -> Result<(), Fail> {
-    into_an_arena::<ArenaHeap<P0>, Heap<P0>>(rt.alloc())?;
-    Ok(())
+fn an_arena_that_is_cloned_from_a_direct_one_begins_at_two(rt: HostRuntime) -> Result<(), Wrong> {
+    into_an_arena::<ArenaHeap<P0>, Heap<P0>>(rt.alloc())
 }
 
 // A call on an arena of numbers, or on a direct arena that mirrors it: it has each number's text under
@@ -259,7 +301,7 @@ fn mirrors<
 }
 
 #[test]
-fn a_mirror_of_texts_keeps_the_pointers(rt: HostRuntime) -> Result<(), Fail> {
+fn a_mirror_of_texts_keeps_the_pointers(rt: HostRuntime) -> Result<(), Wrong> {
     let second = r#"{P0[2](2): "1337"}"#;
     mirrors::<NonZeroInxVec<DirectSlot<P0, String>>, ArenaHeap<P0>>(
         rt.alloc(),
@@ -282,6 +324,5 @@ fn a_mirror_of_texts_keeps_the_pointers(rt: HostRuntime) -> Result<(), Fail> {
                 r#"{P0[1](1): "8", P0[2](2): "1337"}"#,
             ),
         ],
-    )?;
-    Ok(())
+    )
 }

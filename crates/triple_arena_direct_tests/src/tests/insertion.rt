@@ -1,7 +1,6 @@
 //! Insertion under pointers of the caller's choice.
 
-use super::tested_direct::{Heap, InArray, on_direct};
-use std::test::Fail;
+use super::tested_direct::{InArray, on_direct, on_heap};
 use triple_arena_base::DirectInsertionError;
 use triple_arena_ptr::{P0, P4};
 use triple_arena_test_kit::{
@@ -14,7 +13,7 @@ const ABOVE: Told = Told::NotInserted(DirectInsertionError::NotWithinCapacity);
 const STANDS: Told = Told::NotInserted(DirectInsertionError::ExistingElementAtIndex);
 
 #[test]
-fn an_entry_that_is_let_go_changes_nothing(rt: HostRuntime) -> Result<(), Fail> {
+fn an_entry_that_is_let_go_changes_nothing(rt: HostRuntime) -> Result<(), Wrong> {
     // a place that is let go is there again
     let asks = Unchanged(&[
         (Call::DirectAsk(3, 2), Told::Is(true)),
@@ -22,8 +21,7 @@ fn an_entry_that_is_let_go_changes_nothing(rt: HostRuntime) -> Result<(), Fail> 
         (Call::DirectAsk(3, 2), Told::Is(true)),
         (Call::Bounds, Told::Bounds(0, 4, None)),
     ]);
-    on_direct::<P0, Heap<P0>, _>(rt.alloc(), 4, &asks)?;
-    Ok(())
+    on_heap::<P0, _>(rt.alloc(), 4, &asks)
 }
 
 // An index above the capacity, and then one that is taken.
@@ -59,13 +57,12 @@ impl Trial for AboveAndTaken {
 #[test]
 fn an_index_above_the_capacity_is_refused_before_one_that_is_taken(
     rt: HostRuntime,
-) -> Result<(), Fail> {
-    on_direct::<P0, Heap<P0>, _>(rt.alloc(), 4, &AboveAndTaken)?;
-    Ok(())
+) -> Result<(), Wrong> {
+    on_heap::<P0, _>(rt.alloc(), 4, &AboveAndTaken)
 }
 
 #[test]
-fn the_gap_below_is_filled_and_each_generation_accepted(rt: HostRuntime) -> Result<(), Fail> {
+fn the_gap_below_is_filled_and_each_generation_accepted(rt: HostRuntime) -> Result<(), Wrong> {
     let steps = Steps(&[
         (Call::DirectInsertReserved(4, 1, 40), Told::Done),
         (Call::Slots, Told::Size(4)),
@@ -80,13 +77,12 @@ fn the_gap_below_is_filled_and_each_generation_accepted(rt: HostRuntime) -> Resu
             Told::Met((2, u64::MAX, 20), (4, 1, 40), NO_ENTRY),
         ),
     ]);
-    on_direct::<P0, Heap<P0>, _>(rt.alloc(), 4, &steps)?;
-    Ok(())
+    on_heap::<P0, _>(rt.alloc(), 4, &steps)
 }
 
 // An array has its places at once, and an index past the type has none.
 #[test]
-fn an_array_is_filled_in_any_order(rt: HostRuntime) -> Result<(), Fail> {
+fn an_array_is_filled_in_any_order(rt: HostRuntime) -> Result<(), Wrong> {
     let steps = Steps(&[
         (Call::DirectInsert(4, 1, 1), ABOVE),
         (Call::DirectInsert(255, 1, 1), ABOVE),
@@ -95,18 +91,16 @@ fn an_array_is_filled_in_any_order(rt: HostRuntime) -> Result<(), Fail> {
         (Call::DirectInsert(2, 1, 3), Told::Holds(3)),
         (Call::Bounds, Told::Bounds(3, 3, Some(3))),
     ]);
-    on_direct::<Narrow, InArray<Narrow, 3>, _>(rt.alloc(), 3, &steps)?;
-    Ok(())
+    on_direct::<Narrow, InArray<Narrow, 3>, _>(rt.alloc(), 3, &steps)
 }
 
 // Where generations don't count, each pointer of an index is one.
 #[test]
-fn a_pointer_without_generation_is_taken_once(rt: HostRuntime) -> Result<(), Fail> {
+fn a_pointer_without_generation_is_taken_once(rt: HostRuntime) -> Result<(), Wrong> {
     let steps = Steps(&[
         (Call::DirectInsert(2, 7, 1), Told::Holds(1)),
         (Call::DirectInsert(2, 8, 2), STANDS),
         (Call::Get(2, 9), Told::Holds(1)),
     ]);
-    on_direct::<P4, Heap<P4>, _>(rt.alloc(), 2, &steps)?;
-    Ok(())
+    on_heap::<P4, _>(rt.alloc(), 2, &steps)
 }

@@ -1,17 +1,16 @@
 //! Free slots at the end, and the limit.
 
-use super::tested_direct::{Heap, Limited, on_direct, on_limited};
-use std::test::Fail;
+use super::tested_direct::{Limited, on_heap, on_limited};
 use triple_arena_base::ReallocationError;
 use triple_arena_ptr::P0;
-use triple_arena_test_kit::{Call, NO_ENTRY, Narrow, Steps, Told};
+use triple_arena_test_kit::{Call, NO_ENTRY, Narrow, Steps, Told, Wrong};
 
 const NO_MEMORY: Told = Told::Refused(ReallocationError::AllocError);
 
 const BEYOND: Told = Told::Refused(ReallocationError::BeyondMaxCapacity);
 
 #[test]
-fn so_many_free_slots_are_popped(rt: HostRuntime) -> Result<(), Fail> {
+fn so_many_free_slots_are_popped(rt: HostRuntime) -> Result<(), Wrong> {
     let steps = Steps(&[
         (Call::DirectInsert(3, 9, 1), Told::Holds(1)),
         (Call::Remove(3, 9), Told::Holds(1)),
@@ -21,13 +20,12 @@ fn so_many_free_slots_are_popped(rt: HostRuntime) -> Result<(), Fail> {
         (Call::PopFreeEnd(2), Told::Size(1)),
         (Call::PopFreeEnd(2), Told::Size(0)),
     ]);
-    on_direct::<P0, Heap<P0>, _>(rt.alloc(), 4, &steps)?;
-    Ok(())
+    on_heap::<P0, _>(rt.alloc(), 4, &steps)
 }
 
 // An entry at 1, free slots up to 3, and room for 4.
 #[test]
-fn a_reallocation_pops_the_slots_past_it(rt: HostRuntime) -> Result<(), Fail> {
+fn a_reallocation_pops_the_slots_past_it(rt: HostRuntime) -> Result<(), Wrong> {
     let steps = Steps(&[
         (Call::DirectInsert(3, 9, 3), Told::Holds(3)),
         (Call::DirectInsert(1, 9, 1), Told::Holds(1)),
@@ -43,12 +41,11 @@ fn a_reallocation_pops_the_slots_past_it(rt: HostRuntime) -> Result<(), Fail> {
         (Call::Bounds, Told::Bounds(1, 1, None)),
         (Call::Get(1, 9), Told::Holds(1)),
     ]);
-    on_direct::<Narrow, Heap<Narrow>, _>(rt.alloc(), 4, &steps)?;
-    Ok(())
+    on_heap::<Narrow, _>(rt.alloc(), 4, &steps)
 }
 
 #[test]
-fn a_limit_pops_the_slots_past_it_also_where_it_is_refused(rt: HostRuntime) -> Result<(), Fail> {
+fn a_limit_pops_the_slots_past_it_also_where_it_is_refused(rt: HostRuntime) -> Result<(), Wrong> {
     let steps = Steps(&[
         (Call::DirectInsert(5, 2, 5), Told::Holds(5)),
         (Call::DirectInsert(3, 2, 3), Told::Holds(3)),
@@ -68,6 +65,5 @@ fn a_limit_pops_the_slots_past_it_also_where_it_is_refused(rt: HostRuntime) -> R
         (Call::Slots, Told::Size(3)),
         (Call::Entries, Told::Met((3, 2, 3), NO_ENTRY, NO_ENTRY)),
     ]);
-    on_limited::<P0, Limited<P0>, _>(rt.alloc(), 6, &steps)?;
-    Ok(())
+    on_limited::<P0, Limited<P0>, _>(rt.alloc(), 6, &steps)
 }

@@ -1,14 +1,13 @@
 //! Memory that is refused, and the whole state after it.
 
-use super::clones::clone_but;
+use super::clones::{Cloning, clone_into_direct, told_clone};
 use super::tested_direct::{
     Direct, DirectWithLimit, Heap, Little, direct_after, on_limited, with_room,
 };
 use super::transfers::transfer;
 use std::alloc::Global;
-use std::test::Fail;
 use triple_arena::{ArenaCloneFromWith, CompactArenaTrait};
-use triple_arena_base::{AllocError, CloneFromError, ReallocationError};
+use triple_arena_base::ReallocationError;
 use triple_arena_direct::{DirectArena, DirectSlot};
 use triple_arena_ptr::{P0, Ptr};
 use triple_arena_stack::{NonZeroInxGenericStack, SetMaxCapacity};
@@ -39,9 +38,8 @@ impl Trial for PastTheMemory {
 }
 
 #[test]
-fn refused_memory_leaves_the_arena_as_it_was(rt: HostRuntime) -> Result<(), Fail> {
-    on_limited::<P0, Little<P0, 4>, _>(rt.alloc(), 4, &PastTheMemory)?;
-    Ok(())
+fn refused_memory_leaves_the_arena_as_it_was(rt: HostRuntime) -> Result<(), Wrong> {
+    on_limited::<P0, Little<P0, 4>, _>(rt.alloc(), 4, &PastTheMemory)
 }
 
 // Whether memory is refused for five slots where there is memory for four.
@@ -60,38 +58,8 @@ fn an_arena_without_memory_is_not_made(rt: HostRuntime) {
 // A call that copies from one arena to another.
 #[derive(Clone, Copy)]
 enum Copying {
-    CloneFrom,
-    CloneFromWith,
+    Of(Cloning),
     Transfer,
-}
-
-// What cloning tells whose values are clones.
-fn told_clone(cloned: Result<(), CloneFromError<AllocError>>) -> Told {
-    match cloned {
-        Ok(()) => Told::Done,
-        Err(CloneFromError::Reallocation(refused)) => Told::Refused(refused),
-        Err(CloneFromError::Map(_refused)) => NO_MEMORY,
-    }
-}
-
-fn clone_from<P: Ptr, A: ArenaCloneFromWith<P, Token>, B: CompactArenaTrait<P, Token>>(
-    target: &mut A,
-    source: &B,
-) -> Told {
-    told_clone(target.clone_from(source))
-}
-
-// What cloning into an arena tells.
-fn cloned<P: Ptr, A: ArenaCloneFromWith<P, Token>, B: CompactArenaTrait<P, Token>>(
-    target: &mut A,
-    source: &B,
-    call: Copying,
-) -> Told {
-    match call {
-        Copying::CloneFrom => clone_from(target, source),
-        Copying::CloneFromWith => clone_but(target, source, 0),
-        Copying::Transfer => Told::NoSuchCall,
-    }
 }
 
 // What a copy into a direct arena tells.
@@ -101,8 +69,8 @@ fn copy<S: NonZeroInxGenericStack<DirectSlot<P0, Token>>, B: CompactArenaTrait<P
     call: Copying,
 ) -> Told {
     match call {
+        Copying::Of(call) => clone_into_direct(target, source, call),
         Copying::Transfer => transfer(target, source, 7),
-        _ => cloned(target, source, call),
     }
 }
 
@@ -158,8 +126,8 @@ fn refuses_copies<
     let mut source: Direct<P0, R> = direct_after(alloc, 5, &FIVE)?;
     let mut target: DirectWithLimit<P0, S> = target(alloc)?;
     for call in [
-        Copying::CloneFrom,
-        Copying::CloneFromWith,
+        Copying::Of(Cloning::CloneFrom),
+        Copying::Of(Cloning::CloneBut(0)),
         Copying::Transfer,
     ] {
         leaves_both(&mut target, &mut source, call)?;
@@ -168,9 +136,8 @@ fn refuses_copies<
 }
 
 #[test]
-fn a_copy_without_memory_leaves_both_arenas_as_they_were(rt: HostRuntime) -> Result<(), Fail> {
-    refuses_copies::<Little<P0, 4>, Heap<P0>>(rt.alloc())?;
-    Ok(())
+fn a_copy_without_memory_leaves_both_arenas_as_they_were(rt: HostRuntime) -> Result<(), Wrong> {
+    refuses_copies::<Little<P0, 4>, Heap<P0>>(rt.alloc())
 }
 
 fn clone<P: Ptr, A: ArenaCloneFromWith<P, Token> + CompactArenaTrait<P, Token> + Drop>(
@@ -199,7 +166,6 @@ fn clones_or_not<S: NonZeroInxGenericStack<DirectSlot<P0, Token>> + Drop>(
 /// Holds with ample memory, and also where any one request for memory is refused
 /// (`rt try --test --fail-alloc N`).
 #[test]
-fn a_clone_that_is_refused_leaves_its_original(rt: HostRuntime) -> Result<(), Fail> {
-    where_there_is_memory(clones_or_not::<Heap<P0>>(rt.alloc()))?;
-    Ok(())
+fn a_clone_that_is_refused_leaves_its_original(rt: HostRuntime) -> Result<(), Wrong> {
+    where_there_is_memory(clones_or_not::<Heap<P0>>(rt.alloc()))
 }

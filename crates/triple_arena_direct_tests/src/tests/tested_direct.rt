@@ -378,6 +378,14 @@ where
     trial.on(&mut direct)
 }
 
+/// The same on the heap.
+pub fn on_heap<P: Ptr, T: Trial>(alloc: Global, room: usize, trial: &T) -> Result<(), Wrong>
+where
+    P::Gen: Numbered,
+{
+    on_direct::<P, Heap<P>, T>(alloc, room, trial)
+}
+
 /// The same over a stack whose limit can be set.
 pub fn on_limited<P: Ptr, S: SetMaxCapacity<DirectSlot<P, Token>> + Drop, T: Trial>(
     alloc: Global,

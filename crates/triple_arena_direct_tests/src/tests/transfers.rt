@@ -2,15 +2,14 @@
 
 use super::tested_direct::{Direct, Heap, Limited, arena_after, direct_after, with_room};
 use std::alloc::Global;
-use std::test::Fail;
 use triple_arena::{Arena, ArenaSlot, CompactArenaTrait};
 use triple_arena_base::{InvalidationOption, ReallocationError};
 use triple_arena_direct::{DirectArena, DirectSlot};
-use triple_arena_ptr::{P0, Ptr, Q2};
+use triple_arena_ptr::{P0, Ptr};
 use triple_arena_stack::NonZeroInxGenericStack;
 use triple_arena_test_kit::{
-    Call, Heap as ArenaHeap, NO_ENTRY, Numbered, Removed, Steps, TestedArena, Token, Told, Trial,
-    Wrong, is_told,
+    Call, Heap as ArenaHeap, NO_ENTRY, Narrow, Numbered, Removed, Steps, TestedArena, Token, Told,
+    Trial, Wrong, is_told,
 };
 
 // A value that was transferred, and a hundred more where its removal wrapped the counter.
@@ -57,10 +56,10 @@ struct Transferred {
 
 // A new direct arena is the target, over a stack.
 fn into_direct<
-    S: NonZeroInxGenericStack<DirectSlot<Q2, Token>> + Drop,
+    S: NonZeroInxGenericStack<DirectSlot<Narrow, Token>> + Drop,
     A: CompactArenaTrait<P0, Token>,
 >(alloc: Global, source: &mut A, expected: &Transferred) -> Result<(), Wrong> {
-    let mut target: Direct<Q2, S> = with_room(alloc, 0)?;
+    let mut target: Direct<Narrow, S> = with_room(alloc, 0)?;
     is_told(0, transfer(&mut target.arena, source, 7), expected.told)?;
     expected.target.on(&mut target)
 }
@@ -73,7 +72,7 @@ const TWO_OF_THREE: Removed = Removed {
 
 // From an arena of these entries over the second stack.
 fn from_an_arena<
-    S: NonZeroInxGenericStack<DirectSlot<Q2, Token>> + Drop,
+    S: NonZeroInxGenericStack<DirectSlot<Narrow, Token>> + Drop,
     R: NonZeroInxGenericStack<ArenaSlot<P0, Token>> + Drop,
 >(alloc: Global, expected: &Transferred) -> Result<(), Wrong> {
     let mut source: Arena<P0, Token, R> = arena_after(alloc, &TWO_OF_THREE)?;
@@ -82,7 +81,7 @@ fn from_an_arena<
 }
 
 #[test]
-fn a_transfer_renumbers_and_empties_its_source(rt: HostRuntime) -> Result<(), Fail> {
+fn a_transfer_renumbers_and_empties_its_source(rt: HostRuntime) -> Result<(), Wrong> {
     let expected = Transferred {
         told: Told::Done,
         target: Steps(&[
@@ -96,12 +95,11 @@ fn a_transfer_renumbers_and_empties_its_source(rt: HostRuntime) -> Result<(), Fa
             (Call::Entries, Told::Met((2, 5, 4), NO_ENTRY, NO_ENTRY)),
         ]),
     };
-    from_an_arena::<Heap<Q2>, ArenaHeap<P0>>(rt.alloc(), &expected)?;
-    Ok(())
+    from_an_arena::<Heap<Narrow>, ArenaHeap<P0>>(rt.alloc(), &expected)
 }
 
 #[test]
-fn a_transfer_past_the_limit_is_refused(rt: HostRuntime) -> Result<(), Fail> {
+fn a_transfer_past_the_limit_is_refused(rt: HostRuntime) -> Result<(), Wrong> {
     let expected = Transferred {
         told: Told::Refused(ReallocationError::BeyondMaxCapacity),
         target: Steps(&[(Call::Bounds, Told::Bounds(0, 0, Some(0)))]),
@@ -110,8 +108,7 @@ fn a_transfer_past_the_limit_is_refused(rt: HostRuntime) -> Result<(), Fail> {
             (Call::Generation, Told::Generation(3)),
         ]),
     };
-    from_an_arena::<Limited<Q2>, ArenaHeap<P0>>(rt.alloc(), &expected)?;
-    Ok(())
+    from_an_arena::<Limited<Narrow>, ArenaHeap<P0>>(rt.alloc(), &expected)
 }
 
 // Two entries with gaps, one of them under the greatest generation.
@@ -122,7 +119,7 @@ const WITH_GAPS: Steps = Steps(&[
 
 // From a direct arena of these entries over the second stack.
 fn from_a_direct_one<
-    S: NonZeroInxGenericStack<DirectSlot<Q2, Token>> + Drop,
+    S: NonZeroInxGenericStack<DirectSlot<Narrow, Token>> + Drop,
     R: NonZeroInxGenericStack<DirectSlot<P0, Token>> + Drop,
 >(alloc: Global, expected: &Transferred) -> Result<(), Wrong> {
     let mut source: Direct<P0, R> = direct_after(alloc, 4, &WITH_GAPS)?;
@@ -132,7 +129,7 @@ fn from_a_direct_one<
 
 // No removal from a direct arena wraps, and each leaves a free slot.
 #[test]
-fn a_transfer_leaves_the_slots_of_a_direct_arena(rt: HostRuntime) -> Result<(), Fail> {
+fn a_transfer_leaves_the_slots_of_a_direct_arena(rt: HostRuntime) -> Result<(), Wrong> {
     let expected = Transferred {
         told: Told::Done,
         target: Steps(&[
@@ -145,6 +142,5 @@ fn a_transfer_leaves_the_slots_of_a_direct_arena(rt: HostRuntime) -> Result<(), 
             (Call::PopFreeEnd(9), Told::Size(4)),
         ]),
     };
-    from_a_direct_one::<Heap<Q2>, Heap<P0>>(rt.alloc(), &expected)?;
-    Ok(())
+    from_a_direct_one::<Heap<Narrow>, Heap<P0>>(rt.alloc(), &expected)
 }

@@ -7,7 +7,6 @@ use super::tested_nodes::{
 use std::alloc::Global;
 use std::error::Error;
 use std::process::Abort;
-use std::test::Fail;
 use triple_arena::ArenaSlot;
 use triple_arena_base::{CompactError, ReallocationError};
 use triple_arena_direct::DirectSlot;
@@ -71,7 +70,7 @@ fn on_heap<T: NodeTrial>(
 const DANGLING: [Named; 3] = [(1, NO_POINTER), (2, (1, 2)), (3, (usize::MAX, 1))];
 
 #[test]
-fn a_map_tells_the_new_pointers(rt: HostRuntime) -> Result<(), Fail> {
+fn a_map_tells_the_new_pointers(rt: HostRuntime) -> Result<(), Wrong> {
     let first = Texts {
         call: Compaction::Mapped(false),
         told: Told::Done,
@@ -90,12 +89,11 @@ fn a_map_tells_the_new_pointers(rt: HostRuntime) -> Result<(), Fail> {
         (1, NO_POINTER),
         (1337, (2, 2)),
     ];
-    on_heap(rt.alloc(), &nodes, &[1, 3], &BothTexts { first, second })?;
-    Ok(())
+    on_heap(rt.alloc(), &nodes, &[1, 3], &BothTexts { first, second })
 }
 
 #[test]
-fn recasting_by_a_map_ends_at_a_dangling_link(rt: HostRuntime) -> Result<(), Fail> {
+fn recasting_by_a_map_ends_at_a_dangling_link(rt: HostRuntime) -> Result<(), Wrong> {
     let recast = Texts {
         call: Compaction::Mapped(false),
         told: Told::At(usize::MAX, 1),
@@ -103,14 +101,13 @@ fn recasting_by_a_map_ends_at_a_dangling_link(rt: HostRuntime) -> Result<(), Fai
         arena: "{P0[1](3): (1, None), P0[2](3): (2, Some(P0[1](3))), \
             P0[3](3): (3, Some(P0[ffffffffffffffff](1)))}",
     };
-    on_heap(rt.alloc(), &DANGLING, &[], &recast)?;
-    Ok(())
+    on_heap(rt.alloc(), &DANGLING, &[], &recast)
 }
 
 // Two nodes, the first of which has a link to the second, behind a gap: the new pointer of the
 // second is the old one of the first.
 #[test]
-fn each_link_is_renamed_once(rt: HostRuntime) -> Result<(), Fail> {
+fn each_link_is_renamed_once(rt: HostRuntime) -> Result<(), Wrong> {
     let renamed = Texts {
         call: Compaction::Renamed(true),
         told: Told::Done,
@@ -118,12 +115,11 @@ fn each_link_is_renamed_once(rt: HostRuntime) -> Result<(), Fail> {
         arena: "{P0[1](2): (20, Some(P0[2](2))), P0[2](2): (30, None)}",
     };
     let nodes = [(10, NO_POINTER), (20, (3, 2)), (30, NO_POINTER)];
-    on_heap(rt.alloc(), &nodes, &[1], &renamed)?;
-    Ok(())
+    on_heap(rt.alloc(), &nodes, &[1], &renamed)
 }
 
 #[test]
-fn a_direct_arena_keeps_its_generations(rt: HostRuntime) -> Result<(), Fail> {
+fn a_direct_arena_keeps_its_generations(rt: HostRuntime) -> Result<(), Wrong> {
     let renamed = Texts {
         call: Compaction::Renamed(false),
         told: Told::Done,
@@ -139,8 +135,7 @@ fn a_direct_arena_keeps_its_generations(rt: HostRuntime) -> Result<(), Fail> {
         arena: "{P0[1](9): (5, None)}",
     };
     let nodes = [((3, 9), (5, NO_POINTER))];
-    on_direct_nodes::<P0, DirectHeap<P0>, _>(rt.alloc(), &nodes, &compressed)?;
-    Ok(())
+    on_direct_nodes::<P0, DirectHeap<P0>, _>(rt.alloc(), &nodes, &compressed)
 }
 
 // A link that dangles refuses, and the counter is 2 as before.
@@ -164,9 +159,8 @@ impl NodeTrial for Dangles {
 }
 
 #[test]
-fn a_dangling_link_refuses_and_nothing_changes(rt: HostRuntime) -> Result<(), Fail> {
-    on_heap(rt.alloc(), &DANGLING, &[], &Dangles)?;
-    Ok(())
+fn a_dangling_link_refuses_and_nothing_changes(rt: HostRuntime) -> Result<(), Wrong> {
+    on_heap(rt.alloc(), &DANGLING, &[], &Dangles)
 }
 
 // The entry of the greatest generation, after so many that came and went.
@@ -175,7 +169,7 @@ fn at_the_end_of_the_counter(alloc: Global, trial: &Texts) -> Result<(), Wrong> 
 }
 
 #[test]
-fn a_compaction_tells_of_a_wrap(rt: HostRuntime) -> Result<(), Fail> {
+fn a_compaction_tells_of_a_wrap(rt: HostRuntime) -> Result<(), Wrong> {
     let renamed = Texts {
         call: Compaction::Renamed(false),
         told: Told::Wrapped,
@@ -196,8 +190,7 @@ fn a_compaction_tells_of_a_wrap(rt: HostRuntime) -> Result<(), Fail> {
         answer: "GenerationOverflow(())",
         arena: "{PtrOf[1](2): (253, Some(PtrOf[1](ff)))}",
     };
-    at_the_end_of_the_counter(rt.alloc(), &compressed)?;
-    Ok(())
+    at_the_end_of_the_counter(rt.alloc(), &compressed)
 }
 
 // That the arena is in this state.
@@ -210,7 +203,7 @@ fn stands_as<A: Compacted>(arena: &A, state: &NodeState) -> Result<(), Wrong> {
 }
 
 #[test]
-fn without_entries_the_map_is_empty(rt: HostRuntime) -> Result<(), Fail> {
+fn without_entries_the_map_is_empty(rt: HostRuntime) -> Result<(), Wrong> {
     let first = Texts {
         call: Compaction::Mapped(false),
         told: Told::Done,
@@ -223,8 +216,7 @@ fn without_entries_the_map_is_empty(rt: HostRuntime) -> Result<(), Fail> {
     };
     let both = BothTexts { first, second };
     on_heap(rt.alloc(), &[], &[], &both)?;
-    on_direct_nodes::<P0, DirectHeap<P0>, _>(rt.alloc(), &[], &both)?;
-    Ok(())
+    on_direct_nodes::<P0, DirectHeap<P0>, _>(rt.alloc(), &[], &both)
 }
 
 // Both compactions are done, whatever request for memory is refused.
@@ -246,10 +238,9 @@ impl NodeTrial for TakesNoMemory {
 /// (`rt try --test --fail-alloc N`), as do the tests `without_memory_...`, whose first request is the
 /// compaction's.
 #[test]
-fn without_entries_no_memory_is_asked_for(rt: HostRuntime) -> Result<(), Fail> {
+fn without_entries_no_memory_is_asked_for(rt: HostRuntime) -> Result<(), Wrong> {
     on_nodes::<P0, Places, _>(rt.alloc(), &[], &[], &TakesNoMemory)?;
-    on_direct_nodes::<P0, DirectPlaces, _>(rt.alloc(), &[], &TakesNoMemory)?;
-    Ok(())
+    on_direct_nodes::<P0, DirectPlaces, _>(rt.alloc(), &[], &TakesNoMemory)
 }
 
 // Compacts twice, and expects what is told, or once that memory is refused, and that nothing changes.
@@ -320,15 +311,13 @@ const DANGLES: RefusesTwice = RefusesTwice {
 };
 
 #[test]
-fn without_memory_a_dangling_link_changes_nothing(rt: HostRuntime) -> Result<(), Fail> {
-    on_places(rt.alloc(), (9, 9), &DANGLES)?;
-    Ok(())
+fn without_memory_a_dangling_link_changes_nothing(rt: HostRuntime) -> Result<(), Wrong> {
+    on_places(rt.alloc(), (9, 9), &DANGLES)
 }
 
 #[test]
-fn without_memory_a_dangling_link_changes_no_direct_arena(rt: HostRuntime) -> Result<(), Fail> {
-    on_direct_places(rt.alloc(), (9, 9), &DANGLES)?;
-    Ok(())
+fn without_memory_a_dangling_link_changes_no_direct_arena(rt: HostRuntime) -> Result<(), Wrong> {
+    on_direct_places(rt.alloc(), (9, 9), &DANGLES)
 }
 
 // What stands in each arena of two nodes after a compaction.
@@ -360,27 +349,23 @@ fn moves_direct(alloc: Global, call: Compaction) -> Result<(), Wrong> {
 }
 
 #[test]
-fn without_memory_nothing_moves(rt: HostRuntime) -> Result<(), Fail> {
-    moves(rt.alloc(), Compaction::Renamed(false))?;
-    Ok(())
+fn without_memory_nothing_moves(rt: HostRuntime) -> Result<(), Wrong> {
+    moves(rt.alloc(), Compaction::Renamed(false))
 }
 
 #[test]
-fn without_memory_no_direct_arena_moves(rt: HostRuntime) -> Result<(), Fail> {
-    moves_direct(rt.alloc(), Compaction::Renamed(false))?;
-    Ok(())
+fn without_memory_no_direct_arena_moves(rt: HostRuntime) -> Result<(), Wrong> {
+    moves_direct(rt.alloc(), Compaction::Renamed(false))
 }
 
 #[test]
-fn without_memory_there_is_no_map(rt: HostRuntime) -> Result<(), Fail> {
-    moves(rt.alloc(), Compaction::Mapped(false))?;
-    Ok(())
+fn without_memory_there_is_no_map(rt: HostRuntime) -> Result<(), Wrong> {
+    moves(rt.alloc(), Compaction::Mapped(false))
 }
 
 #[test]
-fn without_memory_there_is_no_map_of_a_direct_arena(rt: HostRuntime) -> Result<(), Fail> {
-    moves_direct(rt.alloc(), Compaction::Mapped(false))?;
-    Ok(())
+fn without_memory_there_is_no_map_of_a_direct_arena(rt: HostRuntime) -> Result<(), Wrong> {
+    moves_direct(rt.alloc(), Compaction::Mapped(false))
 }
 
 // The first request for memory is that for the map, before any link is looked at.
@@ -403,9 +388,8 @@ impl NodeTrial for AsksFirst {
 /// Holds also where the first request for memory is refused (`rt try --test --fail-alloc 1`): it is the
 /// compaction's, and not that for the text of its answer, as it would be if a dangling link came first.
 #[test]
-fn memory_comes_before_a_dangling_link(rt: HostRuntime) -> Result<(), Fail> {
-    on_nodes::<P0, Places, _>(rt.alloc(), &DANGLING, &[], &AsksFirst)?;
-    Ok(())
+fn memory_comes_before_a_dangling_link(rt: HostRuntime) -> Result<(), Wrong> {
+    on_nodes::<P0, Places, _>(rt.alloc(), &DANGLING, &[], &AsksFirst)
 }
 
 // Whether an error equals its copy.

@@ -237,10 +237,6 @@ where
 
     fn state(&self) -> NodeState {
         let slots = self.backing().as_slice();
-        let mut places = [NO_PLACE; PLACES];
-        for at in 0..PLACES {
-            places[at] = arena_place(slots, at);
-        }
         NodeState {
             len: self.len(),
             capacity: self.capacity(),
@@ -251,7 +247,12 @@ where
                 None => 0,
             },
             slots: slots.len(),
-            places,
+            places: [
+                arena_place(slots, 0),
+                arena_place(slots, 1),
+                arena_place(slots, 2),
+                arena_place(slots, 3),
+            ],
         }
     }
 
@@ -271,10 +272,6 @@ where
 
     fn state(&self) -> NodeState {
         let slots = self.backing().as_slice();
-        let mut places = [NO_PLACE; PLACES];
-        for at in 0..PLACES {
-            places[at] = direct_place(slots, at);
-        }
         NodeState {
             len: self.len(),
             capacity: self.capacity(),
@@ -282,7 +279,12 @@ where
             counter: 0,
             root: 0,
             slots: slots.len(),
-            places,
+            places: [
+                direct_place(slots, 0),
+                direct_place(slots, 1),
+                direct_place(slots, 2),
+                direct_place(slots, 3),
+            ],
         }
     }
 

@@ -2,7 +2,9 @@
 
 use std::alloc::Global;
 use triple_arena_ptr::{P0, P2};
-use triple_arena_test_kit::{Call, NO_ENTRY, Steps, Told, Wrong, from_empty, on_heap};
+use triple_arena_test_kit::{
+    Call, NO_ENTRY, Steps, TestedArena, Told, Trial, Wrong, from_empty, on_heap,
+};
 
 // Five entries, of which those at the indexes 1 and 4 go.
 const WITH_GAPS: Steps = Steps(&[
@@ -15,9 +17,23 @@ const WITH_GAPS: Steps = Steps(&[
     (Call::Remove(4, 2), Told::Holds(40)),
 ]);
 
-// The calls on these, on the heap.
+// The calls on these.
+#[derive(Drop)]
+struct AfterGaps {
+    steps: Steps,
+}
+
+impl Trial for AfterGaps {
+    fn on<A: TestedArena>(&self, arena: &mut A) -> Result<(), Wrong> {
+        WITH_GAPS.on(arena)?;
+        self.steps.on(arena)
+    }
+}
+
+// The same on the heap.
 fn with_gaps(alloc: Global, steps: &'static [(Call, Told)]) -> Result<(), Wrong> {
-    on_heap::<P0, _>(alloc, None, &(WITH_GAPS, Steps(steps)))
+    let steps = Steps(steps);
+    on_heap::<P0, _>(alloc, None, &AfterGaps { steps })
 }
 
 #[test]
@@ -65,10 +81,15 @@ fn a_closure_meets_each_move_in_order(rt: HostRuntime) -> Result<(), Wrong> {
     )
 }
 
+// The calls on an arena without slots, on the heap.
+fn with_short_generations(alloc: Global, steps: &'static [(Call, Told)]) -> Result<(), Wrong> {
+    from_empty::<P2>(alloc, steps)
+}
+
 #[test]
 fn a_compression_tells_of_a_wrap(rt: HostRuntime) -> Result<(), Wrong> {
     // an entry under the greatest generation
-    from_empty::<P2>(
+    with_short_generations(
         rt.alloc(),
         &[
             (Call::SetGeneration(0xffff), Told::Done),
@@ -79,7 +100,7 @@ fn a_compression_tells_of_a_wrap(rt: HostRuntime) -> Result<(), Wrong> {
             (Call::Bounds, Told::Bounds(1, 4, None)),
         ],
     )?;
-    from_empty::<P2>(
+    with_short_generations(
         rt.alloc(),
         &[
             (Call::SetGeneration(0xffff), Told::Done),
@@ -91,7 +112,7 @@ fn a_compression_tells_of_a_wrap(rt: HostRuntime) -> Result<(), Wrong> {
         ],
     )?;
     // no entry, and a free slot
-    from_empty::<P2>(
+    with_short_generations(
         rt.alloc(),
         &[
             (Call::Insert(1), Told::At(1, 2)),

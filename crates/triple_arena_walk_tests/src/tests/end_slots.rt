@@ -4,8 +4,8 @@ use super::removals::after_removals;
 use std::alloc::Global;
 use triple_arena_ptr::P0;
 use triple_arena_test_kit::{
-    Call, Removed, SLOTS, State, TestedArena, Told, Trial, Unchanged, Wrong, follow, follow_to,
-    on_heap,
+    Call, Removed, SLOTS, State, TestedArena, Told, Trial, Wrong, follow, follow_to,
+    follow_unchanged, on_heap,
 };
 
 // Of five entries the fourth and the fifth go, and the second.
@@ -69,12 +69,23 @@ fn the_rest_of_the_free_list_keeps_its_order(rt: HostRuntime) -> Result<(), Wron
     on_heap::<P0, _>(rt.alloc(), None, &EndsAtFour)
 }
 
-// No free slot at the end, and so none to take away.
-const STAYS: Unchanged = Unchanged(&[(Call::RemoveFreeEnd, Told::Done)]);
-
 // Of so many entries some go, and the last stays.
+#[derive(Drop)]
+struct LastStays {
+    entries: usize,
+    removed: &'static [usize],
+}
+
+impl Trial for LastStays {
+    fn on<A: TestedArena>(&self, arena: &mut A) -> Result<(), Wrong> {
+        let (entries, removed) = (self.entries, self.removed);
+        Removed { entries, removed }.on(arena)?;
+        follow_unchanged(arena, &[(Call::RemoveFreeEnd, Told::Done)])
+    }
+}
+
 fn last_stays(alloc: Global, entries: usize, removed: &'static [usize]) -> Result<(), Wrong> {
-    on_heap::<P0, _>(alloc, None, &(Removed { entries, removed }, STAYS))
+    on_heap::<P0, _>(alloc, None, &LastStays { entries, removed })
 }
 
 #[test]

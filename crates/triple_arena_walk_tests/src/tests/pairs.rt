@@ -4,7 +4,7 @@ use triple_arena_base::GetDisjointMutError;
 use triple_arena_ptr::{P0, P4};
 use triple_arena_test_kit::{
     B, Call, Narrow, Places, Steps, TestedArena, Told, Trial, Unchanged, Wrong, follow_to, on_heap,
-    on_new,
+    on_new, step,
 };
 
 const OUT_OF_BOUNDS: Told = Told::Apart(GetDisjointMutError::IndexOutOfBounds);
@@ -127,11 +127,19 @@ const APART: Unchanged = Unchanged(&[
     (Call::GetInx(1), Told::Held(3, 2)),
 ]);
 
-const NOT_TWO_ENTRIES: (Steps, Unchanged) = (TWO_GENERATIONS, APART);
+#[derive(Drop)]
+struct NotTwoEntries;
+
+impl Trial for NotTwoEntries {
+    fn on<A: TestedArena>(&self, arena: &mut A) -> Result<(), Wrong> {
+        TWO_GENERATIONS.on(arena)?;
+        APART.on(arena)
+    }
+}
 
 #[test]
 fn two_generations_at_one_index_are_not_two_entries(rt: HostRuntime) -> Result<(), Wrong> {
-    on_heap::<P0, _>(rt.alloc(), None, &NOT_TWO_ENTRIES)?;
-    on_heap::<Narrow, _>(rt.alloc(), None, &NOT_TWO_ENTRIES)?;
-    on_heap::<B, _>(rt.alloc(), None, &NOT_TWO_ENTRIES)
+    on_heap::<P0, _>(rt.alloc(), None, &NotTwoEntries)?;
+    on_heap::<Narrow, _>(rt.alloc(), None, &NotTwoEntries)?;
+    on_heap::<B, _>(rt.alloc(), None, &NotTwoEntries)
 }

@@ -2,16 +2,35 @@
 
 use std::alloc::Global;
 use triple_arena_ptr::P0;
-use triple_arena_test_kit::{Call, Removed, Steps, Told, Wrong, on_heap};
+use triple_arena_test_kit::{Call, Removed, TestedArena, Told, Trial, Wrong, follow, on_heap};
 
-/// The calls on an arena on the heap of so many entries, each of its index, of which some were
-/// removed in turn.
+// The calls on an arena of so many entries, each of its index, of which some were removed in turn.
+#[derive(Drop)]
+struct AfterRemovals {
+    entries: usize,
+    removed: &'static [usize],
+    steps: &'static [(Call, Told)],
+}
+
+impl Trial for AfterRemovals {
+    fn on<A: TestedArena>(&self, arena: &mut A) -> Result<(), Wrong> {
+        let (entries, removed) = (self.entries, self.removed);
+        Removed { entries, removed }.on(arena)?;
+        follow(arena, self.steps)
+    }
+}
+
+// The same on the heap.
 pub fn after_removals(
     alloc: Global,
     entries: usize,
     removed: &'static [usize],
     steps: &'static [(Call, Told)],
 ) -> Result<(), Wrong> {
-    let trial = (Removed { entries, removed }, Steps(steps));
+    let trial = AfterRemovals {
+        entries,
+        removed,
+        steps,
+    };
     on_heap::<P0, _>(alloc, None, &trial)
 }

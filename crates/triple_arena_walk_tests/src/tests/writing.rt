@@ -114,9 +114,21 @@ const THE_LAST_ALONE: Steps = Steps(&[
     (Call::Remove(3, 2), Told::Holds(4)),
 ]);
 
+// No entry, the last alone, and no entry again.
+#[derive(Drop)]
+struct NothingIsMet;
+
+impl Trial for NothingIsMet {
+    fn on<A: TestedArena>(&self, arena: &mut A) -> Result<(), Wrong> {
+        NOTHING.on(arena)?;
+        THE_LAST_ALONE.on(arena)?;
+        NOTHING.on(arena)
+    }
+}
+
 #[test]
 fn nothing_is_met_in_an_arena_without_entries(rt: HostRuntime) -> Result<(), Wrong> {
-    on_heap::<P0, _>(rt.alloc(), None, &(NOTHING, (THE_LAST_ALONE, NOTHING)))
+    on_heap::<P0, _>(rt.alloc(), None, &NothingIsMet)
 }
 
 // Every slot has an entry, up to the greatest index.

@@ -1,4 +1,4 @@
-//! Tests of sessions and of the program's run, by public calls alone.
+//! Tests of sessions and of their replies, by public calls alone.
 #![tactic(auto)]
 
 #[cfg(test)]

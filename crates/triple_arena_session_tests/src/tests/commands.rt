@@ -1,14 +1,13 @@
 //! Each command of the program: texts, and the lines that answer them.
 
-use super::steps::{Row as Entry, extent, new_session, says};
-use super::texts::answers_text;
+use super::steps::{Row as Entry, answers_text, extent, new_session, says};
 use std::alloc::Global;
 use std::process::Abort;
 use triple_arena::{ArenaSlot, ArenaTrait};
 use triple_arena_ptr::{P0, Ptr};
 use triple_arena_session::{Command, Node, Reply, Session, parse_command};
 use triple_arena_stack::{NonZeroInxArray, NonZeroInxBoxedSlice, NonZeroInxGenericStack};
-use triple_arena_test_kit::{B, Narrow};
+use triple_arena_trait_kit::{B, Narrow};
 
 type Slot = ArenaSlot<P0, Node<u64, P0>>;
 
@@ -19,7 +18,7 @@ type Row<'a> = (&'a [u8], &'a [u8]);
 fn answers_each(rt: &impl Abort, alloc: Global, rows: &[Row<'_>]) {
     for (text, lines) in rows {
         let mut session: Session<P0, u64> = Session::new(alloc);
-        answers_text(rt, alloc, &mut session, *text, Ok(()), *lines);
+        answers_text(rt, alloc, &mut session, *text, *lines);
     }
 }
 
@@ -126,7 +125,6 @@ fn an_array_is_full_at_eight(rt: HostRuntime) {
         rt.alloc(),
         &mut session,
         b"capacity\nwithin 1 -\nwithin 1 -\nwithin 1 -\nwithin 1 -\nwithin 1 -\nwithin 1 -\nwithin 1 -\nwithin 1 -\nwithin 1 -\ninsert 1 -\nreserve 9\nreserve 8\n",
-        Ok(()),
         b"count 8\ngiven 1\ngiven 2\ngiven 3\ngiven 4\ngiven 5\ngiven 6\ngiven 7\ngiven 8\nfull\nbeyond max capacity\nbeyond max capacity\ndone\n",
     );
 }
@@ -140,7 +138,6 @@ fn no_place_is_full_at_once(rt: HostRuntime) {
         rt.alloc(),
         &mut session,
         b"within 5 -\ninsert 5 -\n",
-        Ok(()),
         lines,
     );
 }
@@ -155,7 +152,6 @@ fn a_byte_index_has_its_greatest_capacity(rt: HostRuntime) {
         rt.alloc(),
         &mut session,
         b"insert 1 -\nwithin 1 -\ncapacity\nreserve 256\nlen\n",
-        Ok(()),
         b"no memory\nfull\ncount 255\nno memory\ncount 255\n",
     );
 }
@@ -193,7 +189,7 @@ fn answers_so<P: Ptr>(
     lines: Result<String, std::alloc::AllocError>,
 ) {
     match lines {
-        Ok(lines) => answers_text(rt, alloc, session, text, Ok(()), lines.as_str().as_bytes()),
+        Ok(lines) => answers_text(rt, alloc, session, text, lines.as_str().as_bytes()),
         Err(_) => panic!(rt; "there is memory"),
     }
 }
@@ -202,7 +198,7 @@ fn answers_so<P: Ptr>(
 fn ends_at_a_wrap(rt: &impl Abort, alloc: Global, text: &[u8], lines: &[u8]) {
     let mut session: Session<B, u64> = Session::new(alloc);
     comes_and_goes(rt, alloc, &mut session, 253);
-    answers_text(rt, alloc, &mut session, text, Ok(()), lines);
+    answers_text(rt, alloc, &mut session, text, lines);
 }
 
 /// The byte counter is at its end after 253 raises, and the next tells of a wrap, which ends the run.

@@ -1,7 +1,8 @@
 //! Sessions by their commands, at pointers of small generations too.
 
-use super::steps::{Row, extent, follow, has_extent, holds, new_session, replies, says};
-use super::texts::answers_text;
+use super::steps::{
+    Row, answers_text, extent, follow, has_extent, holds, new_session, replies, says,
+};
 use std::alloc::Global;
 use std::array;
 use std::num::NonZeroUsize;
@@ -13,7 +14,7 @@ use triple_arena_stack::{
     NonZeroInxArray, NonZeroInxBoxedSlice, NonZeroInxGenericStack, NonZeroInxLimitedVec,
     NonZeroInxVec,
 };
-use triple_arena_test_kit::{B, Narrow};
+use triple_arena_trait_kit::{B, Narrow};
 
 #[test]
 fn answers_by_name(rt: HostRuntime) {
@@ -72,7 +73,6 @@ fn a_text_run_ends_at_a_wrap(rt: HostRuntime) {
         rt.alloc(),
         &mut session,
         b"insert 5 -\nremove 65534\nno command\ninsert 6 -\n",
-        Ok(()),
         b"given 65534\nremoved 5 - wrapped\n",
     );
     follow(&rt, &mut session, &[(Command::Get(65535), Reply::Nothing)]);
@@ -190,7 +190,7 @@ fn answers_over<S: NonZeroInxGenericStack<Slot> + Drop>(
     lines: &[u8],
 ) {
     match Session::<P0, u64, S>::with_min_capacity(alloc, room) {
-        Ok(mut session) => answers_text(rt, alloc, &mut session, text, Ok(()), lines),
+        Ok(mut session) => answers_text(rt, alloc, &mut session, text, lines),
         Err(_) => panic!(rt; "there is memory"),
     }
 }
@@ -203,7 +203,7 @@ fn answers_over_new<S: NonZeroInxGenericStack<Slot> + Drop>(
     lines: &[u8],
 ) {
     let mut session: Session<P0, u64, S> = Session::new(alloc);
-    answers_text(rt, alloc, &mut session, text, Ok(()), lines);
+    answers_text(rt, alloc, &mut session, text, lines);
 }
 
 #[test]

@@ -1,4 +1,4 @@
-//! A new session, and its steps as values, so that a test is a table of them.
+//! A new session, its steps as values, so that a test is a table of them, and texts that run in it.
 
 use arrayvec::ArrayString;
 use std::alloc::Global;
@@ -6,7 +6,7 @@ use std::fmt::{Debug, Write};
 use std::process::Abort;
 use triple_arena::{ArenaSlot, ArenaTrait};
 use triple_arena_ptr::{P0, Ptr};
-use triple_arena_session::{Command, Node, Reply, Session};
+use triple_arena_session::{Command, Node, Reply, Session, run_text};
 use triple_arena_stack::NonZeroInxGenericStack;
 
 /// A new session at the pointer of general use.
@@ -72,4 +72,19 @@ pub fn has_extent<P: Ptr, X: Copy, S: NonZeroInxGenericStack<ArenaSlot<P, Node<X
     before: (usize, usize, P::Gen),
 ) -> bool {
     extent(session) == before
+}
+
+/// Runs a text in a session, and expects it to end well, answered by these lines.
+pub fn answers_text<P: Ptr, S: NonZeroInxGenericStack<ArenaSlot<P, Node<u64, P>>>>(
+    rt: &impl Abort,
+    alloc: Global,
+    session: &mut Session<P, u64, S>,
+    text: &[u8],
+    lines: &[u8],
+) {
+    let mut input = text;
+    let mut output = Vec::new(alloc);
+    let outcome = run_text(session, alloc, &mut input, &mut output);
+    assert!(rt; outcome == Ok(()));
+    assert_eq!(rt; output.as_slice(), lines);
 }

@@ -1,7 +1,6 @@
 //! Runs of texts over memory.
 
 use super::devices::{PieceReader, ShortWriter};
-use super::steps::{follow, new_session, replies};
 use super::texts::{answers, answers_text, writes};
 use std::alloc::Global;
 use std::io::{BufWriter, ErrorKind};
@@ -17,7 +16,7 @@ fn from_new(
     outcome: Result<(), TextError>,
     lines: &[u8],
 ) {
-    let mut session = new_session(alloc);
+    let mut session: Session<P0, u64> = Session::new(alloc);
     answers_text(rt, alloc, &mut session, text, outcome, lines);
 }
 
@@ -70,7 +69,7 @@ fn answers_each_line(rt: HostRuntime) {
 
 #[test]
 fn goes_on_with_the_session_that_it_left(rt: HostRuntime) {
-    let mut session = new_session(rt.alloc());
+    let mut session: Session<P0, u64> = Session::new(rt.alloc());
     let mut output = Vec::new(rt.alloc());
     let texts: [(&[u8], Result<(), TextError>, &[u8]); 2] = [
         (
@@ -100,17 +99,32 @@ fn goes_on_with_the_session_that_it_left(rt: HostRuntime) {
 
 // A read fails, and a session that has given a name is as it was.
 fn fails_to_read(rt: &impl Abort, alloc: Global, reads_before: usize) {
-    let mut session = new_session(alloc);
-    let before = [(Command::Insert(7, None), Reply::Given(1, false))];
-    follow(rt, &mut session, &before);
+    let mut session: Session<P0, u64> = Session::new(alloc);
+    answers_text(
+        rt,
+        alloc,
+        &mut session,
+        b"insert 7 -\n",
+        Ok(()),
+        b"given 1\n",
+    );
     let mut input = PieceReader::new(b"insert 1 -\nremove 1\n", reads_before, ErrorKind::Other);
-    let failed = Err(TextError::Read);
-    answers(rt, alloc, &mut session, &mut input, failed, b"");
-    let after = [
-        (Command::Get(1), Reply::Found(7, None)),
-        (Command::Insert(8, None), Reply::Given(2, false)),
-    ];
-    follow(rt, &mut session, &after);
+    answers(
+        rt,
+        alloc,
+        &mut session,
+        &mut input,
+        Err(TextError::Read),
+        b"",
+    );
+    answers_text(
+        rt,
+        alloc,
+        &mut session,
+        b"get 1\ninsert 8 -\n",
+        Ok(()),
+        b"found 7 -\ngiven 2\n",
+    );
 }
 
 /// Each read of a text fails in turn, the one that would find its end too.
@@ -123,7 +137,7 @@ fn changes_nothing_where_a_read_fails(rt: HostRuntime) {
 
 // A read is interrupted, and the text runs to its end.
 fn reads_on(rt: &impl Abort, alloc: Global, reads_before: usize) {
-    let mut session = new_session(alloc);
+    let mut session: Session<P0, u64> = Session::new(alloc);
     let mut input = PieceReader::new(b"insert 1 -\n", reads_before, ErrorKind::Interrupted);
     answers(rt, alloc, &mut session, &mut input, Ok(()), b"given 1\n");
 }
@@ -150,7 +164,7 @@ fn finds_up_to(
         } else {
             Reply::Nothing
         };
-        assert!(rt; replies(session, Command::Get(name), &reply), "at {name}");
+        assert!(rt; session.step(Command::Get(name)) == reply, "at {name}");
     }
 }
 
@@ -162,7 +176,7 @@ fn reads_pieces(
     outcome: Result<(), TextError>,
     given: usize,
 ) {
-    let mut session = new_session(alloc);
+    let mut session: Session<P0, u64> = Session::new(alloc);
     let mut output = Vec::new(alloc);
     let answer = run_text(&mut session, alloc, input, &mut output);
     assert!(rt; answer == outcome, "at {outcome:?}");
@@ -208,7 +222,7 @@ fn runs_to(
 // Three insertions run over a writer that takes so many writes of two bytes: this is their end, and
 // so many of them have run.
 fn stops_writing(rt: &impl Abort, alloc: Global, writes_before: usize, end: End, ran: usize) {
-    let mut session = new_session(alloc);
+    let mut session: Session<P0, u64> = Session::new(alloc);
     let ended = runs_to(
         alloc,
         &mut session,
@@ -259,10 +273,10 @@ fn flushes(
     end: End,
     reply: Reply<u64>,
 ) {
-    let mut session = new_session(alloc);
+    let mut session: Session<P0, u64> = Session::new(alloc);
     let ended = flushes_to(rt, alloc, &mut session, text, writes_before);
     assert!(rt; ended == end, "at {end:?}");
-    follow(rt, &mut session, &[(Command::Get(1), reply)]);
+    assert!(rt; session.step(Command::Get(1)) == reply);
 }
 
 /// The writer below the buffer takes one write, or fails at the first.
@@ -310,7 +324,7 @@ fn given_by(rt: &impl Abort, outcome: Result<(), TextError>, output: &ShortWrite
 /// insertion that asked answers so, and its name is given to the next.
 #[test]
 fn answers_no_memory_where_it_is_refused(rt: HostRuntime) {
-    let mut session = new_session(rt.alloc());
+    let mut session: Session<P0, u64> = Session::new(rt.alloc());
     let mut input = b"insert 1 -\ninsert 1 -\ninsert 1 -\ninsert 1 -\ninsert 1 -\n".as_slice();
     let mut output = ShortWriter::new(256);
     let outcome = run_text(&mut session, rt.alloc(), &mut input, &mut output);

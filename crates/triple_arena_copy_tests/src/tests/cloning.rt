@@ -1,31 +1,14 @@
 //! Cloning into an arena.
 
-use super::on_two::{OnTwo, clones};
-use std::alloc::Global;
-use std::test::Fail;
-use triple_arena::{Arena, ArenaSlot};
+use super::on_two::{OnTwo, on_heaps, over};
 use triple_arena_base::ReallocationError;
 use triple_arena_ptr::P0;
-use triple_arena_stack::NonZeroInxGenericStack;
-use triple_arena_test_kit::{Call, Fixed, Heap, Limited, NO_ENTRY, Token, Told, Wrong};
+use triple_arena_test_kit::{Call, Fixed, Limited, NO_ENTRY, Told, Wrong};
 
 const BEYOND: Told = Told::Refused(ReallocationError::BeyondMaxCapacity);
 
-// The calls on a source over the first stack and a target over the second, with these rooms.
-fn over<
-    S: NonZeroInxGenericStack<ArenaSlot<P0, Token>> + Drop,
-    R: NonZeroInxGenericStack<ArenaSlot<P0, Token>> + Drop,
->(alloc: Global, rooms: (usize, usize), steps: &[(OnTwo, Told)]) -> Result<(), Wrong> {
-    clones::<P0, Arena<P0, Token, S>, Arena<P0, Token, R>>(alloc, rooms, steps)
-}
-
-// The calls on two arenas on the heap.
-fn on_heaps(alloc: Global, steps: &[(OnTwo, Told)]) -> Result<(), Wrong> {
-    over::<Heap<P0>, Heap<P0>>(alloc, (0, 0), steps)
-}
-
 #[test]
-fn arenas_cloned_into_each_other_settle_their_room(rt: HostRuntime) -> Result<(), Fail> {
+fn arenas_cloned_into_each_other_settle_their_room(rt: HostRuntime) -> Result<(), Wrong> {
     on_heaps(
         rt.alloc(),
         &[
@@ -43,12 +26,11 @@ fn arenas_cloned_into_each_other_settle_their_room(rt: HostRuntime) -> Result<()
             (OnTwo::Target(Call::Bounds), Told::Bounds(8, 8, None)),
             (OnTwo::Target(Call::Slots), Told::Size(8)),
         ],
-    )?;
-    Ok(())
+    )
 }
 
 #[test]
-fn a_clone_has_the_gaps_the_counter_and_no_more_room(rt: HostRuntime) -> Result<(), Fail> {
+fn a_clone_has_the_gaps_the_counter_and_no_more_room(rt: HostRuntime) -> Result<(), Wrong> {
     on_heaps(
         rt.alloc(),
         &[
@@ -67,12 +49,11 @@ fn a_clone_has_the_gaps_the_counter_and_no_more_room(rt: HostRuntime) -> Result<
             (OnTwo::Source(Call::Generation), Told::Generation(5)),
             (OnTwo::Source(Call::Bounds), Told::Bounds(2, 4, None)),
         ],
-    )?;
-    Ok(())
+    )
 }
 
 #[test]
-fn an_empty_source_empties_the_target(rt: HostRuntime) -> Result<(), Fail> {
+fn an_empty_source_empties_the_target(rt: HostRuntime) -> Result<(), Wrong> {
     on_heaps(
         rt.alloc(),
         &[
@@ -88,12 +69,11 @@ fn an_empty_source_empties_the_target(rt: HostRuntime) -> Result<(), Fail> {
             (OnTwo::Target(Call::Generation), Told::Generation(2)),
             (OnTwo::Target(Call::Bounds), Told::Bounds(0, 4, None)),
         ],
-    )?;
-    Ok(())
+    )
 }
 
 #[test]
-fn a_stack_without_room_refuses_a_clone(rt: HostRuntime) -> Result<(), Fail> {
+fn a_stack_without_room_refuses_a_clone(rt: HostRuntime) -> Result<(), Wrong> {
     over::<Limited<P0>, Fixed<P0>>(
         rt.alloc(),
         (4, 2),
@@ -123,12 +103,11 @@ fn a_stack_without_room_refuses_a_clone(rt: HostRuntime) -> Result<(), Fail> {
             (OnTwo::Target(Call::Generation), Told::Generation(2)),
             (OnTwo::Target(Call::Bounds), Told::Bounds(1, 2, Some(2))),
         ],
-    )?;
-    Ok(())
+    )
 }
 
 #[test]
-fn a_map_that_refuses_the_first_leaves_none(rt: HostRuntime) -> Result<(), Fail> {
+fn a_map_that_refuses_the_first_leaves_none(rt: HostRuntime) -> Result<(), Wrong> {
     on_heaps(
         rt.alloc(),
         &[
@@ -147,12 +126,11 @@ fn a_map_that_refuses_the_first_leaves_none(rt: HostRuntime) -> Result<(), Fail>
             (OnTwo::Target(Call::Bounds), Told::Bounds(0, 8, None)),
             (OnTwo::Target(Call::Insert(0)), Told::At(1, 4)),
         ],
-    )?;
-    Ok(())
+    )
 }
 
 #[test]
-fn a_map_that_refuses_leaves_those_before(rt: HostRuntime) -> Result<(), Fail> {
+fn a_map_that_refuses_leaves_those_before(rt: HostRuntime) -> Result<(), Wrong> {
     on_heaps(
         rt.alloc(),
         &[
@@ -190,6 +168,5 @@ fn a_map_that_refuses_leaves_those_before(rt: HostRuntime) -> Result<(), Fail> {
             (OnTwo::Target(Call::Bounds), Told::Bounds(2, 8, None)),
             (OnTwo::Target(Call::Insert(0)), Told::At(2, 4)),
         ],
-    )?;
-    Ok(())
+    )
 }

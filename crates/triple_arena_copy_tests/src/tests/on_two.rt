@@ -1,12 +1,13 @@
 //! Calls on two arenas as values, so that a test of copies is a table of calls and their answers.
 
 use std::alloc::Global;
-use triple_arena::{Arena, ArenaCloneFromWith, ArenaSlot, ArenaTrait, CompactArenaTrait};
+use triple_arena::{Arena, ArenaCloneFromWith, ArenaSlot, CompactArenaTrait};
 use triple_arena_base::{AllocError, CloneFromError, InvalidationOption, ReallocationError};
-use triple_arena_ptr::Ptr;
+use triple_arena_ptr::{P0, Ptr};
 use triple_arena_stack::NonZeroInxGenericStack;
 use triple_arena_test_kit::{
-    Call, Numbered, Removed, TestedArena, Token, Told, Trial, Wrong, is_told, new_arena, with_room,
+    Call, Heap, Numbered, Removed, TestedArena, Token, Told, Trial, Wrong, is_told, new_arena,
+    with_room,
 };
 
 /// A call on one of two arenas, or on both.
@@ -23,6 +24,8 @@ pub enum OnTwo {
     CloneBack,
     /// A clone of the source takes its place.
     CloneSource,
+    /// A clone of the source is made, and let go.
+    CloneApart,
     /// The target is cloned from the source by a closure that makes each value tenfold, and refuses
     /// this one.
     CloneTenfoldBut(u64),
@@ -43,8 +46,8 @@ fn filled<A: TestedArena>(arena: &mut A, entries: usize) -> Told {
     }
 }
 
-/// What cloning tells whose values are clones.
-pub fn told_clone(cloned: Result<(), CloneFromError<AllocError>>) -> Told {
+// What cloning tells whose values are clones.
+fn told_clone(cloned: Result<(), CloneFromError<AllocError>>) -> Told {
     match cloned {
         Ok(()) => Told::Done,
         Err(CloneFromError::Reallocation(refused)) => Told::Refused(refused),
@@ -52,7 +55,7 @@ pub fn told_clone(cloned: Result<(), CloneFromError<AllocError>>) -> Told {
     }
 }
 
-pub fn clone_from<P: Ptr, A: ArenaCloneFromWith<P, Token>, B: CompactArenaTrait<P, Token>>(
+fn clone_from<P: Ptr, A: ArenaCloneFromWith<P, Token>, B: CompactArenaTrait<P, Token>>(
     target: &mut A,
     source: &B,
 ) -> Told {
@@ -72,7 +75,17 @@ fn clone_source<P: Ptr, A: ArenaCloneFromWith<P, Token> + CompactArenaTrait<P, T
     }
 }
 
-pub fn clone_tenfold_but<P: Ptr, A: ArenaCloneFromWith<P, Token>, B: CompactArenaTrait<P, Token>>(
+fn clone_apart<P: Ptr, A: ArenaCloneFromWith<P, Token> + CompactArenaTrait<P, Token> + Drop>(
+    source: &A,
+    alloc: Global,
+) -> Told {
+    match source.clone(alloc) {
+        Ok(_clone) => Told::Done,
+        Err(refused) => told_clone(Err(refused)),
+    }
+}
+
+fn clone_tenfold_but<P: Ptr, A: ArenaCloneFromWith<P, Token>, B: CompactArenaTrait<P, Token>>(
     target: &mut A,
     source: &B,
     refused: u64,
@@ -92,47 +105,20 @@ pub fn clone_tenfold_but<P: Ptr, A: ArenaCloneFromWith<P, Token>, B: CompactAren
     }
 }
 
-// What a call of cloning answers, or one on either arena.
+// What a call of cloning answers.
 fn clone_answer<
     P: Ptr,
-    A: ArenaCloneFromWith<P, Token> + CompactArenaTrait<P, Token> + TestedArena + Drop,
-    B: ArenaCloneFromWith<P, Token> + CompactArenaTrait<P, Token> + TestedArena,
+    A: ArenaCloneFromWith<P, Token> + CompactArenaTrait<P, Token> + Drop,
+    B: ArenaCloneFromWith<P, Token> + CompactArenaTrait<P, Token>,
 >(alloc: Global, source: &mut A, target: &mut B, call: OnTwo) -> Told {
     match call {
-        OnTwo::Source(call) => source.answer(call),
-        OnTwo::Target(call) => target.answer(call),
-        OnTwo::FillSource(entries) => filled(source, entries),
-        OnTwo::FillTarget(entries) => filled(target, entries),
         OnTwo::CloneFrom => clone_from(target, source),
         OnTwo::CloneBack => clone_from(source, target),
         OnTwo::CloneSource => clone_source(source, alloc),
+        OnTwo::CloneApart => clone_apart(source, alloc),
         OnTwo::CloneTenfoldBut(refused) => clone_tenfold_but(target, source, refused),
-        OnTwo::Transfer(_) => Told::NoSuchCall,
+        _ => Told::NoSuchCall,
     }
-}
-
-/// Makes each call on a source and a target, and expects its answer.
-pub fn follow_cloning<
-    P: Ptr,
-    A: ArenaCloneFromWith<P, Token> + CompactArenaTrait<P, Token> + TestedArena + Drop,
-    B: ArenaCloneFromWith<P, Token> + CompactArenaTrait<P, Token> + TestedArena,
->(alloc: Global, source: &mut A, target: &mut B, steps: &[(OnTwo, Told)]) -> Result<(), Wrong> {
-    for (row, (call, expected)) in steps.iter().enumerate() {
-        let told = clone_answer(alloc, source, target, *call);
-        is_told(row, told, *expected)?;
-    }
-    Ok(())
-}
-
-/// The same on a source of the first room and a target of the second.
-pub fn clones<
-    P: Ptr,
-    A: ArenaCloneFromWith<P, Token> + CompactArenaTrait<P, Token> + TestedArena + Drop,
-    B: ArenaCloneFromWith<P, Token> + CompactArenaTrait<P, Token> + TestedArena + Drop,
->(alloc: Global, rooms: (usize, usize), steps: &[(OnTwo, Told)]) -> Result<(), Wrong> {
-    let mut source = A::with_min_capacity(alloc, rooms.0)?;
-    let mut target = B::with_min_capacity(alloc, rooms.1)?;
-    follow_cloning(alloc, &mut source, &mut target, steps)
 }
 
 // A value that was transferred, and a hundred more where its removal wrapped the counter.
@@ -145,7 +131,7 @@ fn received(taken: InvalidationOption<Token>) -> Token {
     }
 }
 
-pub fn transfer<
+fn transfer<
     P: Ptr,
     A: CompactArenaTrait<P, Token>,
     Q: Ptr,
@@ -168,13 +154,53 @@ where
     }
 }
 
-// What a transfer answers, or a call on either arena.
-fn transfer_answer<
-    P: Ptr,
-    A: CompactArenaTrait<P, Token> + TestedArena,
+/// What a call answers of two arenas of `P0`: the one body that takes them as arenas that are cloned and
+/// walked, since each such body is slow to prove.
+pub fn answer_of_two<
+    S: NonZeroInxGenericStack<ArenaSlot<P0, Token>> + Drop,
+    R: NonZeroInxGenericStack<ArenaSlot<P0, Token>>,
+>(
+    alloc: Global,
+    source: &mut Arena<P0, Token, S>,
+    target: &mut Arena<P0, Token, R>,
+    call: OnTwo,
+) -> Told {
+    match call {
+        OnTwo::Source(call) => source.answer(call),
+        OnTwo::Target(call) => target.answer(call),
+        OnTwo::FillSource(entries) => filled(source, entries),
+        OnTwo::FillTarget(entries) => filled(target, entries),
+        OnTwo::Transfer(number) => transfer(source, target, number),
+        _ => clone_answer(alloc, source, target, call),
+    }
+}
+
+/// Makes each call on a source of the first room and a target of the second, over these stacks, and
+/// expects its answer.
+pub fn over<
+    S: NonZeroInxGenericStack<ArenaSlot<P0, Token>> + Drop,
+    R: NonZeroInxGenericStack<ArenaSlot<P0, Token>> + Drop,
+>(alloc: Global, rooms: (usize, usize), steps: &[(OnTwo, Told)]) -> Result<(), Wrong> {
+    let mut source: Arena<P0, Token, S> = with_room(alloc, rooms.0)?;
+    let mut target: Arena<P0, Token, R> = with_room(alloc, rooms.1)?;
+    for (row, (call, expected)) in steps.iter().enumerate() {
+        let told = answer_of_two(alloc, &mut source, &mut target, *call);
+        is_told(row, told, *expected)?;
+    }
+    Ok(())
+}
+
+/// The same of two arenas on the heap, which begin without room.
+pub fn on_heaps(alloc: Global, steps: &[(OnTwo, Told)]) -> Result<(), Wrong> {
+    over::<Heap<P0>, Heap<P0>>(alloc, (0, 0), steps)
+}
+
+// What a transfer answers to an arena of other pointers, or a call on either arena.
+fn answer_of_transfer<
+    S: NonZeroInxGenericStack<ArenaSlot<P0, Token>>,
     Q: Ptr,
-    S: NonZeroInxGenericStack<ArenaSlot<Q, Token>>,
->(source: &mut A, target: &mut Arena<Q, Token, S>, call: OnTwo) -> Told
+    R: NonZeroInxGenericStack<ArenaSlot<Q, Token>>,
+>(source: &mut Arena<P0, Token, S>, target: &mut Arena<Q, Token, R>, call: OnTwo) -> Told
 where
     Q::Gen: Numbered,
 {
@@ -188,20 +214,20 @@ where
     }
 }
 
-/// Makes each call on a new source and a target of this room, and expects its answer.
-pub fn transfers<
-    P: Ptr,
-    A: CompactArenaTrait<P, Token> + TestedArena + Drop,
+/// Makes each call on a new source of `P0` and a new target of other pointers, over these stacks, and
+/// expects its answer.
+pub fn to_other_pointers<
+    S: NonZeroInxGenericStack<ArenaSlot<P0, Token>> + Drop,
     Q: Ptr,
-    S: NonZeroInxGenericStack<ArenaSlot<Q, Token>> + Drop,
->(alloc: Global, room: usize, steps: &[(OnTwo, Told)]) -> Result<(), Wrong>
+    R: NonZeroInxGenericStack<ArenaSlot<Q, Token>> + Drop,
+>(alloc: Global, steps: &[(OnTwo, Told)]) -> Result<(), Wrong>
 where
     Q::Gen: Numbered,
 {
-    let mut source = A::new(alloc);
-    let mut target: Arena<Q, Token, S> = with_room(alloc, room)?;
+    let mut source: Arena<P0, Token, S> = new_arena(alloc);
+    let mut target: Arena<Q, Token, R> = with_room(alloc, 0)?;
     for (row, (call, expected)) in steps.iter().enumerate() {
-        let told = transfer_answer(&mut source, &mut target, *call);
+        let told = answer_of_transfer(&mut source, &mut target, *call);
         is_told(row, told, *expected)?;
     }
     Ok(())

@@ -1,43 +1,17 @@
 //! Copies for which memory is refused, and the whole state of both arenas after each.
 
-use super::on_two::{OnTwo, clone_from, clone_tenfold_but, told_clone, transfer};
+use super::on_two::{OnTwo, answer_of_two};
 use std::alloc::Global;
-use std::test::Fail;
-use triple_arena::{Arena, ArenaCloneFromWith, ArenaSlot, CompactArenaTrait};
+use triple_arena::{Arena, ArenaSlot};
 use triple_arena_base::ReallocationError;
-use triple_arena_ptr::{P0, Ptr};
+use triple_arena_ptr::P0;
 use triple_arena_stack::{NonZeroInxGenericStack, SetMaxCapacity};
 use triple_arena_test_kit::{
     Call, Heap, Little, Removed, Steps, TestedArena, Token, Told, Trial, WithLimit, Wrong,
-    has_state, is_told, where_there_is_memory, with_room,
+    has_state, is_told, new_arena, where_there_is_memory, with_room,
 };
 
 const NO_MEMORY: Told = Told::Refused(ReallocationError::AllocError);
-
-// What cloning into an arena tells.
-fn cloned<P: Ptr, A: ArenaCloneFromWith<P, Token>, B: CompactArenaTrait<P, Token>>(
-    target: &mut A,
-    source: &B,
-    call: OnTwo,
-) -> Told {
-    match call {
-        OnTwo::CloneFrom => clone_from(target, source),
-        OnTwo::CloneTenfoldBut(refused) => clone_tenfold_but(target, source, refused),
-        _ => Told::NoSuchCall,
-    }
-}
-
-// What a copy into an arena tells.
-fn copy<S: NonZeroInxGenericStack<ArenaSlot<P0, Token>>, B: CompactArenaTrait<P0, Token>>(
-    target: &mut Arena<P0, Token, S>,
-    source: &mut B,
-    call: OnTwo,
-) -> Told {
-    match call {
-        OnTwo::Transfer(number) => transfer(source, target, number),
-        _ => cloned(target, source, call),
-    }
-}
 
 // A source of five entries.
 fn source<S: NonZeroInxGenericStack<ArenaSlot<P0, Token>> + Drop>(
@@ -74,16 +48,22 @@ fn target<S: SetMaxCapacity<ArenaSlot<P0, Token>> + Drop>(
     Ok(target)
 }
 
-// A copy that is refused leaves the source as it was, and the target but for its free list, which is in
+// What a copy tells that leaves the source as it was, and the target but for its free list, which is in
 // order.
-fn leaves_both<
-    S: SetMaxCapacity<ArenaSlot<P0, Token>>,
-    B: CompactArenaTrait<P0, Token> + TestedArena,
->(target: &mut WithLimit<P0, S>, source: &mut B, call: OnTwo) -> Result<(), Wrong> {
+fn told_by<
+    S: NonZeroInxGenericStack<ArenaSlot<P0, Token>> + Drop,
+    R: NonZeroInxGenericStack<ArenaSlot<P0, Token>>,
+>(
+    alloc: Global,
+    source: &mut Arena<P0, Token, S>,
+    target: &mut Arena<P0, Token, R>,
+    copy: OnTwo,
+) -> Result<Told, Wrong> {
     let before = (target.state().in_order(), source.state());
-    is_told(0, copy(&mut target.arena, source, call), NO_MEMORY)?;
+    let told = answer_of_two(alloc, source, target, copy);
     has_state(target, 0, &before.0)?;
-    has_state(source, 1, &before.1)
+    has_state(source, 1, &before.1)?;
+    Ok(told)
 }
 
 // An arena that has memory for four slots, over the first stack, refuses a copy from one of five over the
@@ -91,51 +71,40 @@ fn leaves_both<
 fn refuses<
     S: SetMaxCapacity<ArenaSlot<P0, Token>> + Drop,
     R: NonZeroInxGenericStack<ArenaSlot<P0, Token>> + Drop,
->(alloc: Global, call: OnTwo) -> Result<(), Wrong> {
+>(alloc: Global, copy: OnTwo) -> Result<(), Wrong> {
     let mut source: Arena<P0, Token, R> = source(alloc)?;
     let mut target: WithLimit<P0, S> = target(alloc)?;
-    leaves_both::<S, Arena<P0, Token, R>>(&mut target, &mut source, call)
+    let told = told_by(alloc, &mut source, &mut target.arena, copy)?;
+    is_told(0, told, NO_MEMORY)
 }
 
-fn refuses_on_little(alloc: Global, call: OnTwo) -> Result<(), Wrong> {
-    refuses::<Little<P0, 4>, Heap<P0>>(alloc, call)
+fn refuses_on_little(alloc: Global, copy: OnTwo) -> Result<(), Wrong> {
+    refuses::<Little<P0, 4>, Heap<P0>>(alloc, copy)
 }
 
 #[test]
-fn a_copy_without_memory_leaves_both_arenas(rt: HostRuntime) -> Result<(), Fail> {
+fn a_copy_without_memory_leaves_both_arenas(rt: HostRuntime) -> Result<(), Wrong> {
     refuses_on_little(rt.alloc(), OnTwo::CloneFrom)?;
     refuses_on_little(rt.alloc(), OnTwo::CloneTenfoldBut(0))?;
-    refuses_on_little(rt.alloc(), OnTwo::Transfer(7))?;
-    Ok(())
-}
-
-fn clone<P: Ptr, A: ArenaCloneFromWith<P, Token> + CompactArenaTrait<P, Token> + Drop>(
-    source: &A,
-    alloc: Global,
-) -> Told {
-    match source.clone(alloc) {
-        Ok(_clone) => Told::Done,
-        Err(refused) => told_clone(Err(refused)),
-    }
+    refuses_on_little(rt.alloc(), OnTwo::Transfer(7))
 }
 
 // A clone is made, or refused where memory is; its original stays.
 fn clones_or_not<S: NonZeroInxGenericStack<ArenaSlot<P0, Token>> + Drop>(
     alloc: Global,
 ) -> Result<(), Wrong> {
-    let source: Arena<P0, Token, S> = source(alloc)?;
-    let before = source.state();
-    let told = clone(&source, alloc);
-    if told != NO_MEMORY {
-        is_told(0, told, Told::Done)?;
+    let mut source: Arena<P0, Token, S> = source(alloc)?;
+    let mut beside: Arena<P0, Token, S> = new_arena(alloc);
+    let told = told_by(alloc, &mut source, &mut beside, OnTwo::CloneApart)?;
+    if told == NO_MEMORY {
+        return Ok(());
     }
-    has_state(&source, 0, &before)
+    is_told(0, told, Told::Done)
 }
 
 /// Holds with ample memory, and also where any one request for memory is refused
 /// (`rt try --test --fail-alloc N`).
 #[test]
-fn a_clone_that_is_refused_leaves_its_original(rt: HostRuntime) -> Result<(), Fail> {
-    where_there_is_memory(clones_or_not::<Heap<P0>>(rt.alloc()))?;
-    Ok(())
+fn a_clone_that_is_refused_leaves_its_original(rt: HostRuntime) -> Result<(), Wrong> {
+    where_there_is_memory(clones_or_not::<Heap<P0>>(rt.alloc()))
 }

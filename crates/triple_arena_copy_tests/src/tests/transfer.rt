@@ -1,35 +1,18 @@
 //! Transfer into an arena.
 
-use super::on_two::{OnTwo, transfers};
-use std::alloc::Global;
-use std::test::Fail;
-use triple_arena::{Arena, ArenaSlot};
+use super::on_two::{OnTwo, on_heaps, over, to_other_pointers};
 use triple_arena_base::ReallocationError;
-use triple_arena_ptr::{P0, P5, Ptr, Q2};
-use triple_arena_stack::NonZeroInxGenericStack;
-use triple_arena_test_kit::{Call, Heap, Limited, NO_ENTRY, Numbered, Token, Told, Wrong};
+use triple_arena_ptr::{P0, P5, Q2};
+use triple_arena_test_kit::{Call, Heap, Limited, NO_ENTRY, Told, Wrong};
 
 const BEYOND: Told = Told::Refused(ReallocationError::BeyondMaxCapacity);
 
 const NO_MEMORY: Told = Told::Refused(ReallocationError::AllocError);
 
-// The calls on a source on the heap, and a target of this room over a stack.
-fn from_heap<Q: Ptr, S: NonZeroInxGenericStack<ArenaSlot<Q, Token>> + Drop>(
-    alloc: Global,
-    room: usize,
-    steps: &[(OnTwo, Told)],
-) -> Result<(), Wrong>
-where
-    Q::Gen: Numbered,
-{
-    transfers::<P0, Arena<P0, Token, Heap<P0>>, Q, S>(alloc, room, steps)
-}
-
 #[test]
-fn a_transfer_renumbers_and_empties_its_source(rt: HostRuntime) -> Result<(), Fail> {
-    from_heap::<Q2, Heap<Q2>>(
+fn a_transfer_renumbers_and_empties_its_source(rt: HostRuntime) -> Result<(), Wrong> {
+    to_other_pointers::<Heap<P0>, Q2, Heap<Q2>>(
         rt.alloc(),
-        0,
         &[
             (OnTwo::FillSource(3), Told::Done),
             (OnTwo::Source(Call::Remove(1, 2)), Told::Holds(1)),
@@ -46,15 +29,13 @@ fn a_transfer_renumbers_and_empties_its_source(rt: HostRuntime) -> Result<(), Fa
             (OnTwo::Source(Call::Generation), Told::Generation(5)),
             (OnTwo::Source(Call::Insert(4)), Told::At(2, 5)),
         ],
-    )?;
-    Ok(())
+    )
 }
 
 #[test]
-fn the_closure_is_told_each_removal(rt: HostRuntime) -> Result<(), Fail> {
-    from_heap::<P0, Heap<P0>>(
+fn the_closure_is_told_each_removal(rt: HostRuntime) -> Result<(), Wrong> {
+    on_heaps(
         rt.alloc(),
-        0,
         &[
             (OnTwo::FillSource(3), Told::Done),
             (OnTwo::Source(Call::SetGeneration(u64::MAX)), Told::Done),
@@ -71,15 +52,13 @@ fn the_closure_is_told_each_removal(rt: HostRuntime) -> Result<(), Fail> {
             (OnTwo::Target(Call::Generation), Told::Generation(u64::MAX)),
             (OnTwo::Target(Call::Bounds), Told::Bounds(3, 4, None)),
         ],
-    )?;
-    Ok(())
+    )
 }
 
 #[test]
-fn a_transfer_past_the_indexes_leaves_both(rt: HostRuntime) -> Result<(), Fail> {
-    from_heap::<P5, Heap<P5>>(
+fn a_transfer_past_the_indexes_leaves_both(rt: HostRuntime) -> Result<(), Wrong> {
+    to_other_pointers::<Heap<P0>, P5, Heap<P5>>(
         rt.alloc(),
-        0,
         &[
             (OnTwo::FillSource(256), Told::Done),
             (OnTwo::Target(Call::Insert(1)), Told::At(1, 1)),
@@ -94,15 +73,14 @@ fn a_transfer_past_the_indexes_leaves_both(rt: HostRuntime) -> Result<(), Fail> 
             (OnTwo::Target(Call::Bounds), Told::Bounds(1, 4, None)),
             (OnTwo::Source(Call::Bounds), Told::Bounds(256, 256, None)),
         ],
-    )?;
-    Ok(())
+    )
 }
 
 #[test]
-fn a_transfer_past_the_limit_leaves_both(rt: HostRuntime) -> Result<(), Fail> {
-    from_heap::<P0, Limited<P0>>(
+fn a_transfer_past_the_limit_leaves_both(rt: HostRuntime) -> Result<(), Wrong> {
+    over::<Heap<P0>, Limited<P0>>(
         rt.alloc(),
-        3,
+        (0, 3),
         &[
             (OnTwo::FillSource(256), Told::Done),
             (OnTwo::FillTarget(2), Told::Done),
@@ -117,6 +95,5 @@ fn a_transfer_past_the_limit_leaves_both(rt: HostRuntime) -> Result<(), Fail> {
             (OnTwo::Target(Call::Bounds), Told::Bounds(2, 3, Some(3))),
             (OnTwo::Source(Call::Bounds), Told::Bounds(256, 256, None)),
         ],
-    )?;
-    Ok(())
+    )
 }

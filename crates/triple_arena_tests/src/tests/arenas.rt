@@ -148,7 +148,6 @@ fn of_array<T: Trial>(
         (Pointers::P5, 3) => on_new::<P5, Places<P5, 3>, T>(alloc, trial),
         (Pointers::P5, 4) => on_new::<P5, Places<P5, 4>, T>(alloc, trial),
         (Pointers::P5, 6) => on_new::<P5, Places<P5, 6>, T>(alloc, trial),
-        (Pointers::Narrow, 2) => on_new::<Narrow, Places<Narrow, 2>, T>(alloc, trial),
         (Pointers::Narrow, 3) => on_new::<Narrow, Places<Narrow, 3>, T>(alloc, trial),
         (Pointers::Narrow, 6) => on_new::<Narrow, Places<Narrow, 6>, T>(alloc, trial),
         _ => no_such_arena(),

@@ -4,9 +4,10 @@ use super::arenas::{Pointers, Stack, is_made, on_each};
 use super::parts::{BEYOND, Part};
 use std::alloc::Global;
 use std::num::{NonZeroU64, NonZeroU128};
-use triple_arena::{Arena, ArenaTrait};
+use triple_arena::{Arena, ArenaSlot, ArenaTrait};
 use triple_arena_ptr::Ptr;
-use triple_arena_test_kit::{Call, Heap, TestedArena, Token, Told, Wide, Wrong, follow, is_told};
+use triple_arena_stack::NonZeroInxGenericStack;
+use triple_arena_test_kit::{Call, Heap, Token, Told, Wide, Wrong, follow, is_told, new_arena};
 
 /// Each call, on an arena with three places, this limit and no entry.
 pub fn each_call(limit: Option<usize>) -> [(Call, Told); 34] {
@@ -149,20 +150,23 @@ fn has_nothing<A: ArenaTrait<Wide, Token>>(arena: &mut A, index: u128) -> bool {
     reads_nothing(arena, inx, p) && lends_nothing(arena, inx, p) && ends_nothing(arena, inx, p)
 }
 
-// That an arena with one entry has none past 64 bits.
-fn has_nothing_past_64_bits<A: ArenaTrait<Wide, Token> + TestedArena + Drop>(
+// That no index past 64 bits has one: the first, the one that has the lower 64 of the first entry, and
+// the greatest.
+fn has_nothing_past_64_bits<A: ArenaTrait<Wide, Token>>(arena: &mut A) -> bool {
+    let first = has_nothing(arena, 1 << 64);
+    let alike = has_nothing(arena, (1 << 64) + 1);
+    let last = has_nothing(arena, u128::MAX);
+    first && alike && last
+}
+
+// The same of an arena with one entry, which stays.
+fn keeps_one_entry<S: NonZeroInxGenericStack<ArenaSlot<Wide, Token>> + Drop>(
     alloc: Global,
 ) -> Result<(), Wrong> {
-    let mut arena = A::new(alloc);
+    let mut arena: Arena<Wide, Token, S> = new_arena(alloc);
     follow(&mut arena, &[(Call::Insert(1), Told::At(1, 2))])?;
-    // the first past 64 bits, and the one that is the entry's in the lower 64
-    for (row, index) in [1 << 64, (1 << 64) + 1, u128::MAX].into_iter().enumerate() {
-        is_told(
-            row,
-            Told::Is(has_nothing(&mut arena, index)),
-            Told::Is(true),
-        )?;
-    }
+    let has_nothing = has_nothing_past_64_bits(&mut arena);
+    is_told(1, Told::Is(has_nothing), Told::Is(true))?;
     follow(
         &mut arena,
         &[
@@ -174,7 +178,7 @@ fn has_nothing_past_64_bits<A: ArenaTrait<Wide, Token> + TestedArena + Drop>(
 
 #[test]
 fn an_index_past_64_bits_has_no_entry(rt: HostRuntime) -> Result<(), Wrong> {
-    has_nothing_past_64_bits::<Arena<Wide, Token, Heap<Wide>>>(rt.alloc())
+    keeps_one_entry::<Heap<Wide>>(rt.alloc())
 }
 
 // Without generations an old pointer names what stands at its index.

@@ -105,7 +105,7 @@ fn each_raise_of_a_byte_counter(rt: HostRuntime) -> Result<(), Wrong> {
             Stack::Heap(Some(2)),
             Stack::Limited(Some(2)),
             Stack::Fixed(Some(2)),
-            Stack::Array(2),
+            Stack::Array(3),
         ],
         &[
             Part::EachRaise(255, 2, true),

@@ -1,8 +1,7 @@
-//! What no clause of the arenas says of entries, texts and drops: that their calls succeed, and
-//! worked examples.
+//! What no clause of the arenas says of texts and drops: that their calls succeed, and worked
+//! examples.
 
 mod drops;
-mod entries;
 mod generic_callers;
 mod insertion;
 mod texts;

@@ -1,4 +1,5 @@
-//! Tests of arenas by public calls: walks, compression, and values that are lent and written over.
+//! Tests of arenas by public calls: walks, compression, entries, and values that are lent and
+//! written over.
 #![tactic(auto)]
 
 #[cfg(test)]

@@ -1,8 +1,9 @@
-//! What no clause of the arenas says of walks, compression and pairs: that their calls succeed, and
-//! worked examples.
+//! What no clause of the arenas says of walks, compression, entries and pairs: that their calls
+//! succeed, and worked examples.
 
 mod compression;
 mod end_slots;
+mod entries;
 mod pairs;
 mod removals;
 mod walks;

@@ -15,7 +15,7 @@ use triple_arena_test_kit::{
 };
 
 // Takes an entry of any arena and lets it go: nothing is inserted, and its room stays.
-pub fn pointer_of_entry<P: Ptr, T, S: NonZeroInxGenericStack<ArenaSlot<P, T>>>(
+fn pointer_of_entry<P: Ptr, T, S: NonZeroInxGenericStack<ArenaSlot<P, T>>>(
     arena: &mut Arena<P, T, S>,
 ) -> Result<P, ReallocationError>
     ensures pointer { IfOk result (λ p. P.numbers p ≡ next_pointer (grown S.kind arena.old)) }

@@ -10,7 +10,7 @@ use rand_pcg::Pcg64Mcg;
 use std::alloc::Global;
 use std::io::Print;
 use std::time::{Clock, Duration, Instant};
-use table::Table;
+use table::{InArena, Table};
 use triple_arena::Arena;
 use triple_arena_ptr::P0;
 use triple_arena_ptr_stack_uses::SmallPtr;
@@ -75,13 +75,13 @@ pub fn run(rt: &(impl Print + Clock), alloc: Global, size: u32) -> anyhow::Resul
         rt,
         "arena",
         size,
-        time::<_, Arena<P0, u64>>(rt, alloc, size)?,
+        time::<_, InArena<P0, Arena<P0, u64>>>(rt, alloc, size)?,
     )?;
     print(
         rt,
         "small",
         size,
-        time::<_, Arena<SmallPtr, u64>>(rt, alloc, size)?,
+        time::<_, InArena<SmallPtr, Arena<SmallPtr, u64>>>(rt, alloc, size)?,
     )?;
     print(rt, "vector", size, time::<_, Plain>(rt, alloc, size)?)
 }

@@ -5,7 +5,7 @@ use crate::entry::{Entry, Node, sum_of};
 use std::alloc::Global;
 use std::io::Print;
 use std::time::{Clock, Duration, Instant};
-use triple_arena::{Arena, ArenaInsertTrait, ArenaTrait, CompactArenaTrait};
+use triple_arena::{Arena, ArenaInsertTrait, CompactArenaTrait};
 use triple_arena_direct::compress_recast;
 use triple_arena_ptr::P0;
 
@@ -22,34 +22,49 @@ trait Gapped: Drop {
     fn sum(&self) -> u64;
 }
 
-impl Gapped for Arena<P0, u64> {
+// An arena of numbers, which closes its gaps alone.
+#[derive(Drop)]
+struct Numbers<A> {
+    arena: A,
+}
+
+impl<A: ArenaInsertTrait<P0, u64> + CompactArenaTrait<P0, u64> + Drop> Gapped for Numbers<A> {
     fn even_numbers(alloc: Global, size: u32) -> anyhow::Result<Self> {
-        every_second(alloc, size)
+        let arena: A = every_second(alloc, size)?;
+        Ok(Numbers { arena })
     }
 
     fn close_gaps(&mut self, _alloc: Global) -> anyhow::Result<()> {
-        self.compress_with(false, |_old, number, _new| number)
+        self.arena
+            .compress_with(false, |_old, number, _new| number)
             .allow();
         Ok(())
     }
 
     fn sum(&self) -> u64 {
-        sum_of(self)
+        sum_of(&self.arena)
     }
 }
 
-impl Gapped for Arena<P0, Node> {
+// An arena of nodes, which renames their links too.
+#[derive(Drop)]
+struct Nodes<A> {
+    arena: A,
+}
+
+impl<A: ArenaInsertTrait<P0, Node> + CompactArenaTrait<P0, Node> + Drop> Gapped for Nodes<A> {
     fn even_numbers(alloc: Global, size: u32) -> anyhow::Result<Self> {
-        every_second(alloc, size)
+        let arena: A = every_second(alloc, size)?;
+        Ok(Nodes { arena })
     }
 
     fn close_gaps(&mut self, alloc: Global) -> anyhow::Result<()> {
-        let _new_pointers = compress_recast(self, alloc, false)?;
+        let _new_pointers = compress_recast(&mut self.arena, alloc, false)?;
         Ok(())
     }
 
     fn sum(&self) -> u64 {
-        sum_of(self)
+        sum_of(&self.arena)
     }
 }
 
@@ -100,8 +115,8 @@ fn every_second<T: Entry, A: ArenaInsertTrait<P0, T> + Drop>(
 /// Prints the least times of some compactions of so many places, in nanoseconds for each entry that
 /// stays, and the sum of what stays.
 pub fn run(rt: &(impl Print + Clock), alloc: Global, size: u32) -> anyhow::Result<()> {
-    print::<_, Arena<P0, u64>>(rt, alloc, "arena", size)?;
-    print::<_, Arena<P0, Node>>(rt, alloc, "nodes", size)?;
+    print::<_, Numbers<Arena<P0, u64>>>(rt, alloc, "arena", size)?;
+    print::<_, Nodes<Arena<P0, Node>>>(rt, alloc, "nodes", size)?;
     print::<_, Vec<Option<u64>>>(rt, alloc, "vector", size)
 }
 

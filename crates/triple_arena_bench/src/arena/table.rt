@@ -2,7 +2,8 @@
 
 use crate::entry::sum_of;
 use std::alloc::Global;
-use triple_arena::{Arena, ArenaInsertTrait, ArenaTrait, CompactArenaTrait};
+use std::marker::PhantomData;
+use triple_arena::{Arena, ArenaInsertTrait, CompactArenaTrait};
 use triple_arena_base::ReallocationError;
 use triple_arena_ptr::Ptr;
 
@@ -30,37 +31,59 @@ pub trait Table: Drop {
     fn take_out_all(&mut self);
 }
 
-impl<P: Ptr> Table for Arena<P, u64> {
+/// An arena of numbers, each under its pointer.
+#[derive(Drop)]
+pub struct InArena<P, A> {
+    arena: A,
+    pointers: PhantomData<P>,
+}
+
+impl<P: Ptr, A: ArenaInsertTrait<P, u64> + CompactArenaTrait<P, u64> + Written + Drop> Table
+    for InArena<P, A> {
     type Name = P;
 
     fn empty(alloc: Global) -> Self {
-        Arena::new(alloc)
+        InArena {
+            arena: A::new(alloc),
+            pointers: PhantomData,
+        }
     }
 
     #[inline(always)]
     fn put(&mut self, number: u64) -> Result<P, ReallocationError> {
-        self.insert(number)
+        self.arena.insert(number)
     }
 
     fn read(&self, name: P) -> u64 {
-        self.get(name).copied().unwrap_or(0)
+        self.arena.get(name).copied().unwrap_or(0)
     }
 
     fn sum_all(&self) -> u64 {
-        sum_of(self)
+        sum_of(&self.arena)
     }
 
     fn add_to_all(&mut self, n: u64) {
-        for (_p, number) in self {
-            *number = number.wrapping_add(n);
-        }
+        self.arena.add_to_each(n);
     }
 
     fn take_out(&mut self, name: P) -> u64 {
-        self.remove(name).allow().unwrap_or(0)
+        self.arena.remove(name).allow().unwrap_or(0)
     }
 
     fn take_out_all(&mut self) {
-        self.clear();
+        self.arena.clear();
+    }
+}
+
+/// An arena of numbers that a loop writes.
+pub trait Written {
+    fn add_to_each(&mut self, n: u64);
+}
+
+impl<P: Ptr> Written for Arena<P, u64> {
+    fn add_to_each(&mut self, n: u64) {
+        for (_p, number) in self {
+            *number = number.wrapping_add(n);
+        }
     }
 }

@@ -32,92 +32,13 @@ impl Times {
     }
 }
 
-// What numbers are pushed to, read by their place and popped off.
-trait Numbers: Drop {
-    fn empty(alloc: Global) -> Self;
-
-    fn with_room(alloc: Global, room: usize) -> anyhow::Result<Self>;
-
-    // There is room.
-    fn push_within(&mut self, number: u64) -> anyhow::Result<()>;
-
-    fn push_growing(&mut self, number: u64) -> anyhow::Result<()>;
-
-    // Places are counted from 0.
-    fn at(&self, place: usize) -> Option<u64>;
-
-    fn take_last(&mut self) -> Option<u64>;
-}
-
-impl Numbers for NonZeroInxVec<u64> {
-    fn empty(alloc: Global) -> Self {
-        NonZeroInxVec::new(alloc)
-    }
-
-    fn with_room(alloc: Global, room: usize) -> anyhow::Result<Self> {
-        Ok(NonZeroInxVec::with_min_capacity(alloc, room)?)
-    }
-
-    #[inline(always)]
-    fn push_within(&mut self, number: u64) -> anyhow::Result<()> {
-        self.push_within_capacity(number)?;
-        Ok(())
-    }
-
-    #[inline(always)]
-    fn push_growing(&mut self, number: u64) -> anyhow::Result<()> {
-        self.push(number)?;
-        Ok(())
-    }
-
-    #[inline(always)]
-    fn at(&self, place: usize) -> Option<u64> {
-        self.get(NonZeroUsize::MIN.saturating_add(place)).copied()
-    }
-
-    #[inline(always)]
-    fn take_last(&mut self) -> Option<u64> {
-        self.pop()
-    }
-}
-
-impl Numbers for Vec<u64> {
-    fn empty(alloc: Global) -> Self {
-        Vec::new(alloc)
-    }
-
-    fn with_room(alloc: Global, room: usize) -> anyhow::Result<Self> {
-        Ok(Vec::with_capacity(alloc, room)?)
-    }
-
-    #[inline(always)]
-    fn push_within(&mut self, number: u64) -> anyhow::Result<()> {
-        Ok(self.push(number)?)
-    }
-
-    #[inline(always)]
-    fn push_growing(&mut self, number: u64) -> anyhow::Result<()> {
-        Ok(self.push(number)?)
-    }
-
-    #[inline(always)]
-    fn at(&self, place: usize) -> Option<u64> {
-        self.get(place).copied()
-    }
-
-    #[inline(always)]
-    fn take_last(&mut self) -> Option<u64> {
-        self.pop()
-    }
-}
-
 /// Prints the least times of some rounds, and their ratios.
 pub fn run(rt: &(impl Print + Clock), alloc: Global) -> anyhow::Result<()> {
-    let mut vec = time::<_, Vec<u64>>(rt, alloc)?;
-    let mut stack = time::<_, NonZeroInxVec<u64>>(rt, alloc)?;
+    let mut vec = time_vec(rt, alloc)?;
+    let mut stack = time_stack(rt, alloc)?;
     for _ in 1..ROUNDS {
-        vec = vec.least(time::<_, Vec<u64>>(rt, alloc)?);
-        stack = stack.least(time::<_, NonZeroInxVec<u64>>(rt, alloc)?);
+        vec = vec.least(time_vec(rt, alloc)?);
+        stack = stack.least(time_stack(rt, alloc)?);
     }
     for (call, ours, theirs) in [
         ("push", stack.push, vec.push),
@@ -132,58 +53,90 @@ pub fn run(rt: &(impl Print + Clock), alloc: Global) -> anyhow::Result<()> {
     Ok(())
 }
 
-fn time<C: Clock, N: Numbers>(rt: &C, alloc: Global) -> anyhow::Result<Times> {
-    let mut numbers = N::with_room(alloc, ITEMS)?;
+fn time_vec(rt: &impl Clock, alloc: Global) -> anyhow::Result<Times> {
+    let mut vec = Vec::with_capacity(alloc, ITEMS)?;
+    let start = Instant::now(rt)?;
+    for number in 0..ITEMS {
+        vec.push(number as u64)?;
+    }
+    let push = start.elapsed(rt)?;
+    let start = Instant::now(rt)?;
+    let mut sum = 0u64;
+    for place in 0..ITEMS {
+        if let Some(number) = vec.get(place) {
+            sum = sum.wrapping_mul(31).wrapping_add(*number);
+        }
+    }
+    let get = start.elapsed(rt)?;
+    let start = Instant::now(rt)?;
+    for _ in 0..ITEMS {
+        if let Some(number) = vec.pop() {
+            sum = sum.wrapping_mul(31).wrapping_add(number);
+        }
+    }
+    let pop = start.elapsed(rt)?;
+    keep(sum)?;
+    let start = Instant::now(rt)?;
+    for number in 0..ITEMS {
+        vec.push(number as u64)?;
+    }
+    let again = start.elapsed(rt)?;
+    let mut vec = Vec::new(alloc);
+    let start = Instant::now(rt)?;
+    for number in 0..ITEMS {
+        vec.push(number as u64)?;
+    }
+    let grow = start.elapsed(rt)?;
     Ok(Times {
-        push: time_push(rt, &mut numbers)?,
-        get: time_get(rt, &numbers)?,
-        pop: time_pop(rt, &mut numbers)?,
-        again: time_push(rt, &mut numbers)?,
-        grow: time_growth::<C, N>(rt, alloc)?,
+        push,
+        get,
+        pop,
+        again,
+        grow,
     })
 }
 
-fn time_push<N: Numbers>(rt: &impl Clock, numbers: &mut N) -> anyhow::Result<Duration> {
+fn time_stack(rt: &impl Clock, alloc: Global) -> anyhow::Result<Times> {
+    let mut stack = NonZeroInxVec::with_min_capacity(alloc, ITEMS)?;
     let start = Instant::now(rt)?;
     for number in 0..ITEMS {
-        numbers.push_within(number as u64)?;
+        stack.push_within_capacity(number as u64)?;
     }
-    Ok(start.elapsed(rt)?)
-}
-
-fn time_get<N: Numbers>(rt: &impl Clock, numbers: &N) -> anyhow::Result<Duration> {
-    let mut sum = 0u64;
+    let push = start.elapsed(rt)?;
     let start = Instant::now(rt)?;
+    let mut sum = 0u64;
     for place in 0..ITEMS {
-        if let Some(number) = numbers.at(place) {
-            sum = sum.wrapping_mul(31).wrapping_add(number);
+        if let Some(number) = stack.get(NonZeroUsize::MIN.saturating_add(place)) {
+            sum = sum.wrapping_mul(31).wrapping_add(*number);
         }
     }
-    let time = start.elapsed(rt)?;
-    keep(sum)?;
-    Ok(time)
-}
-
-fn time_pop<N: Numbers>(rt: &impl Clock, numbers: &mut N) -> anyhow::Result<Duration> {
-    let mut sum = 0u64;
+    let get = start.elapsed(rt)?;
     let start = Instant::now(rt)?;
     for _ in 0..ITEMS {
-        if let Some(number) = numbers.take_last() {
+        if let Some(number) = stack.pop() {
             sum = sum.wrapping_mul(31).wrapping_add(number);
         }
     }
-    let time = start.elapsed(rt)?;
+    let pop = start.elapsed(rt)?;
     keep(sum)?;
-    Ok(time)
-}
-
-fn time_growth<C: Clock, N: Numbers>(rt: &C, alloc: Global) -> anyhow::Result<Duration> {
-    let mut numbers = N::empty(alloc);
     let start = Instant::now(rt)?;
     for number in 0..ITEMS {
-        numbers.push_growing(number as u64)?;
+        stack.push_within_capacity(number as u64)?;
     }
-    Ok(start.elapsed(rt)?)
+    let again = start.elapsed(rt)?;
+    let mut stack = NonZeroInxVec::new(alloc);
+    let start = Instant::now(rt)?;
+    for number in 0..ITEMS {
+        stack.push(number as u64)?;
+    }
+    let grow = start.elapsed(rt)?;
+    Ok(Times {
+        push,
+        get,
+        pop,
+        again,
+        grow,
+    })
 }
 
 // Uses the sum, so that no loop is left out.

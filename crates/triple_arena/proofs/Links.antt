@@ -167,10 +167,6 @@ module _ {P T I G : Type 0} where
     Shows-counter es root len counter s shows =
         record { slots = shows.slots; linked = shows.linked; counted = shows.counted; well = IsWellFormed-counter s counter shows.well }
 
-    -- no slots
-    pub Shows-empty : (room : ℕ) (limit : Option ℕ) (greatest counter : ℕ) → Shows {P = P} {T = T} {I = I} number [] None 0 (new_arena room limit greatest counter)
-    Shows-empty room limit greatest counter = record { slots = refl; linked = refl; counted = refl; well = IsWellFormed-empty room limit greatest counter }
-
     -- the slot that the root names is free
     pub root_free : (es : List (ArenaSlot P T I G)) (root : Option ℕ) (i len : ℕ) (s : ArenaState T) → root ≡ Some i → Shows number es root len s → (link : FreeLink) × (item es i ≡ Some (Free link))
     root_free es root i len s at_root shows = by_free s.free refl
@@ -202,9 +198,6 @@ module _ {P T I G : Type 0} where
     root_within es root i len s at_root shows =
         let found = root_free number es root i len s at_root shows in
         item_within es i (Free found.0) found.1
-
-  pub free_or_not : (e : ArenaSlot P T I G) (link : FreeLink) (g : G) (v : T) → e ≡ Free link → e ≡ Allocated g v → ⊥
-  free_or_not e link g v a b = cc
 
   module _ (number : G → ℕ) where
     -- an index with an entry is one of a slot
@@ -241,14 +234,6 @@ module _ {P T I G : Type 0} where
     live_len es root i len s live shows =
         let found = live_in es root i len s live shows in
         omega (arith, live_counted s i found.0 found.1, shows.counted)
-
-    pub with_slot_generation_is : (e : ArenaSlot P T I G) (h : ℕ) (v : T) (g : G) → entry_of number e ≡ Some (h, v) → with_slot_generation e g ≡ Allocated g v
-    with_slot_generation_is (Free link) h v g found = absurd (cc)
-    with_slot_generation_is (Allocated old w) h v g found = ap (Allocated g) (some_pair_parts (number old) h w v found).1
-
-    pub with_slot_value_is : (e : ArenaSlot P T I G) (h : ℕ) (v w : T) → entry_of number e ≡ Some (h, v) → (g : G) × (with_slot_value e w ≡ Allocated g w) × (number g ≡ h)
-    with_slot_value_is (Free link) h v w found = absurd (cc)
-    with_slot_value_is (Allocated old u) h v w found = (old, refl, (some_pair_parts (number old) h u v found).0)
 
     -- another slot with an entry under a live index
     pub Shows-rewritten : (es : List (ArenaSlot P T I G)) (root : Option ℕ) (i len : ℕ) (g : G) (v : T) (s : ArenaState T) → IsSome (entry_at number es i) → Shows number es root len s → Shows number (with_item es i (Allocated g v)) root len (with_entry s i (number g, v))

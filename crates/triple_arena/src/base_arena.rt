@@ -154,6 +154,7 @@ impl<P: Ptr, T, S: NonZeroInxGenericStack<ArenaSlot<P, T>>> ArenaTrait<P, T> for
     // the room that the stack's kind makes of it, once the free list is in order, is the old one
     ghost keeps_room = { KeepsRoom S.kind };
 
+    // memory is there for the room that the stack's kind makes of it
     ghost gets_room = { λ s m. S.has_memory (reallocated S.kind s m).room };
 
     fn new(alloc: Global) -> Self {

@@ -16,6 +16,6 @@ pub use insert_entry::{ArenaInsertEntry, ArenaInsertEntryTrait};
 pub use slot::{ArenaSlot, FreeLink};
 pub use triple_arena_traits::{
     ArenaCloneFromWith, ArenaDirectInsertEntryTrait, ArenaDirectInsertTrait, ArenaInsertTrait,
-    ArenaTrait, CompactArenaTrait, DisjointableArenaTrait, EntrySlot, LendingArena, answers,
-    close_up, copying, ends, entry_slots, laws, pair_call, recast_entries, transferring,
+    ArenaTrait, CompactArenaTrait, DisjointableArenaTrait, EntrySlot, LendingArena, LentSlots,
+    answers, close_up, copying, ends, entry_slots, laws, pair_call, recast_entries, transferring,
 };

@@ -14,7 +14,6 @@ ghost use Rattle.triple_arena_traits.specs.Ending.{removed};
 ghost use Rattle.triple_arena_traits.specs.Entries.{with_generation_in, entry_count};
 ghost use Rattle.triple_arena_traits.specs.FreeList.{trimmed, last_index, gaps, up_to, without_free_end};
 ghost use Rattle.triple_arena_traits.specs.Walks.{entries};
-ghost use Rattle.triple_arena_ptr.specs.Numbers.{greatest_index};
 ghost use Rattle.triple_arena_traits.specs.Compression.{compressed, rank};
 ghost use Rattle.triple_arena_traits.specs.Moves.{Moves};
 ghost use Rattle.triple_arena_traits.specs.Copying.{Copies};

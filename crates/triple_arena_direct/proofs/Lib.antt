@@ -3,13 +3,6 @@ pub mod Keeping
 pub mod Mirroring
 pub mod Cloned
 pub mod Compaction
-pub mod Renames
-pub mod OwnMaps
-pub mod Pairing
-pub mod Resolving
-pub mod WrittenValues
-pub mod MappedAnswers
-pub mod Followed
 pub mod Reading
 pub mod Refused
 pub mod Resizing

@@ -10,5 +10,3 @@ pub mod CloningLaws
 pub mod Mirrors
 pub mod InsertEntry
 pub mod CompressionLaws
-pub mod Renaming
-pub mod RenamingLaws

@@ -138,6 +138,7 @@ impl<P: Ptr, T, S: NonZeroInxGenericStack<DirectSlot<P, T>>> ArenaTrait<P, T>
     // the room that the stack's kind makes of it, once those slots are gone, is the old one
     ghost keeps_room = { λ s m. (reallocated S.kind s m).room ≡ s.room };
 
+    // memory is there for the room that the stack's kind makes of it
     ghost gets_room = { λ s m. S.has_memory (reallocated S.kind s m).room };
 
     fn new(alloc: Global) -> Self {

@@ -8,12 +8,10 @@ mod insert_entry;
 pub mod laws;
 mod lending_arena;
 mod recaster;
-mod renaming;
 mod slot;
 mod slots;
 mod text;
 
 pub use direct_arena::DirectArena;
 pub use insert_entry::ArenaDirectInsertEntry;
-pub use renaming::{compress_recast, compress_recaster};
 pub use slot::DirectSlot;

@@ -13,7 +13,8 @@ use Rattle.triple_arena_traits.specs.Compression.{compressed, rank}
 use Rattle.triple_arena_traits.specs.Histories.{has, AreDistinct, is_live}
 use Rattle.triple_arena_traits.specs.WellFormedLaws.{len_within}
 use Rattle.triple_arena_traits.specs.PointerListLaws.{same_itself, same_is, has_head, has_tail, has-keys, false_unless}
-use Rattle.triple_arena_session.specs.SessionState.{SessionState, name_of, link_name}
+use Rattle.triple_arena_commands.specs.PointerNames.{name_of}
+use Rattle.triple_arena_session.specs.SessionState.{SessionState, link_name}
 use Rattle.triple_arena_session.specs.Compaction.{renamed, relinked, compacted}
 use Rattle.triple_arena_session.specs.Shown.{as_row, row_of, shown}
 use Rattle.triple_arena_traits.specs.CompressionLaws.{length-values, rank_apart, keys-compressed, values-compressed}

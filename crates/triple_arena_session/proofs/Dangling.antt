@@ -9,9 +9,10 @@ use Rattle.triple_arena_stack.specs.StackKind.{StackKind}
 use Rattle.triple_arena_traits.specs.ArenaState.{look_up}
 use Rattle.triple_arena_traits.specs.Walks.{entries, values}
 use Rattle.triple_arena_traits.specs.Histories.{has, is_live}
-use Rattle.triple_arena_session.specs.SessionState.{SessionState, name_of}
+use Rattle.triple_arena_commands.specs.PointerNames.{name_of}
+use Rattle.triple_arena_commands.specs.NameStore.{NameRow, row, row_dangles}
+use Rattle.triple_arena_session.specs.SessionState.{SessionState}
 use Rattle.triple_arena_session.specs.Compaction.{dangles, any_dangles}
-use Rattle.triple_arena_session.specs.NameStore.{NameRow, row, row_dangles}
 use Rattle.triple_arena_session.specs.Shown.{as_row, row_of, shown}
 use Rattle.triple_arena_traits.specs.ItemLaws.{item-map}
 use Rattle.triple_arena_traits.specs.MoveLaws.{nth_found, found_nth}

@@ -1,13 +1,7 @@
-mod FormLaws
+mod LineLaws
 mod Mapped
-mod NameLemmas
-mod Numbers
 mod Renaming
-mod RunLaws
 mod Shown
-mod Splits
-mod TextLaws
-mod Writes
 mod TableNames
 mod Rows
 mod Soundness
@@ -19,4 +13,3 @@ mod Dangling
 mod StoreLaws
 mod StoreRunLaws
 mod StoreTextLaws
-mod StoreExactly

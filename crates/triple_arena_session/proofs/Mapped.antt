@@ -1,6 +1,5 @@
 -- What a map of an arena's values, or of a table's pointers, leaves as it is.
 use Rattle.std.proofs.Common.{◌≡◌, ℕ, ◌+◌, ◌-◌, ◌==◌, zero, suc, Bool, true, false, cond, List, [], ◌∷◌, map, take, length, Option, Some, None, is_some, refl, sym, ap, subst, ◌∙◌, ◌≤◌}
-use Rattle.std.specs.List.{position, position_or_len}
 use Rattle.std.specs.Option.{option_map, option_and_then}
 use Rattle.std.proofs.lemmas.List.{map-append, length-map, take-map, map-set}
 use Rattle.std.proofs.lemmas.List.Sums.{sum_by-cons}
@@ -26,15 +25,6 @@ module _ {A B : Type 0} (f : A → B) where
   map-with_item : (xs : List A) (i : ℕ) (x : A) → map f (with_item xs i x) ≡ with_item (map f xs) i (f x)
   map-with_item xs zero x = refl
   map-with_item xs (suc k) x = map-set f xs k x
-
-  module _ (p : B → Bool) (q : A → Bool) (agree : (x : A) → q x ≡ p (f x)) where
-    place-mapped : (xs : List A) → position_or_len q xs ≡ position_or_len p (map f xs)
-    place-mapped [] = refl
-    place-mapped (x ∷ xs) = rw (agree x, place-mapped xs) refl
-
-    -- the first of a list that passes is the first of the mapped list that passes
-    pub position-mapped : (xs : List A) → position q xs ≡ position p (map f xs)
-    position-mapped xs = rw (place-mapped xs, length-map xs f) refl
 
 module _ {T U : Type 0} (f : T → U) where
   under-mapped : (h : ℕ) (e : ℕ × T) → value_under h (e.0, f e.1) ≡ option_map f (value_under h e)

@@ -17,12 +17,12 @@ use Rattle.triple_arena_traits.specs.Histories.{resizing, Continues, Fits}
 use Rattle.triple_arena_traits.specs.WellFormedLaws.{len_within}
 use Rattle.triple_arena_traits.specs.StepLaws.{IsWellFormed-tidied, reallocated_stays}
 use Rattle.triple_arena_traits.specs.HistoryLaws.{Continues-resized}
-use Rattle.triple_arena_session.specs.declared.reply.Reply.{Reply}
-use Rattle.triple_arena_session.specs.declared.reply.Reply.TheVariants.{BeyondMaxCapacity, NoMemory, Done}
+use Rattle.triple_arena_commands.specs.declared.reply.Reply.{Reply}
+use Rattle.triple_arena_commands.specs.declared.reply.Reply.TheVariants.{BeyondMaxCapacity, NoMemory, Done}
+use Rattle.triple_arena_commands.specs.Limits.{is_within}
+use Rattle.triple_arena_commands.specs.NameStore.{row_count, ReservesRows}
 use Rattle.triple_arena_session.specs.SessionState.{SessionState}
-use Rattle.triple_arena_session.specs.Limits.{is_within}
 use Rattle.triple_arena_session.specs.SessionRun.{in_order, reserve_answer, RoomWantsMemory}
-use Rattle.triple_arena_session.specs.NameStore.{row_count, ReservesRows}
 use Rattle.triple_arena_session.specs.Shown.{row_of, shown}
 use Rattle.triple_arena_session.proofs.TableNames.{map_same}
 use Rattle.triple_arena_session.proofs.Rows.{row_kept, row_count-shown}

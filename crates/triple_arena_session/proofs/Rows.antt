@@ -13,8 +13,9 @@ use Rattle.triple_arena_traits.specs.ArenaState.{ArenaState, entry, look_up, are
 use Rattle.triple_arena_traits.specs.Walks.{keys}
 use Rattle.triple_arena_traits.specs.WalkLaws.{found}
 use Rattle.triple_arena_traits.specs.Histories.{has, AreDistinct, is_live}
-use Rattle.triple_arena_session.specs.SessionState.{SessionState, name_of}
-use Rattle.triple_arena_session.specs.NameStore.{row_count}
+use Rattle.triple_arena_commands.specs.PointerNames.{name_of}
+use Rattle.triple_arena_commands.specs.NameStore.{row_count}
+use Rattle.triple_arena_session.specs.SessionState.{SessionState}
 use Rattle.triple_arena_session.specs.Shown.{as_row, row_of, shown}
 use Rattle.triple_arena_traits.specs.PointerListLaws.{same_itself, same_is, keys_from, has-keys, has-below}
 use Rattle.triple_arena_session.proofs.TableNames.{map_changed_at, count_same, count_map, count_none, count_or, count_present}

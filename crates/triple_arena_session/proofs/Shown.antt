@@ -20,13 +20,13 @@ use Rattle.triple_arena_traits.specs.Insertion.{inserted, next_pointer}
 use Rattle.triple_arena_traits.specs.FreeList.{tidied}
 use Rattle.triple_arena_traits.specs.Capacity.{grown, reallocated, KeepsRoom}
 use Rattle.triple_arena_traits.specs.Ending.{told_of, map_told, removed, invalidated}
-use Rattle.triple_arena_session.specs.declared.command.Command.TheVariants.{Reserve}
+use Rattle.triple_arena_commands.specs.declared.command.Command.TheVariants.{Reserve}
+use Rattle.triple_arena_commands.specs.declared.reply.Reply.{Reply}
+use Rattle.triple_arena_commands.specs.declared.reply.Reply.TheVariants.{Given, Full, BeyondMaxCapacity, NoMemory, Done, Removed, Invalid}
+use Rattle.triple_arena_commands.specs.Limits.{is_at_limit, is_within}
 use Rattle.triple_arena_session.specs.declared.node.Node.{Node}
-use Rattle.triple_arena_session.specs.declared.reply.Reply.{Reply}
-use Rattle.triple_arena_session.specs.declared.reply.Reply.TheVariants.{Given, Full, BeyondMaxCapacity, NoMemory, Done, Removed, Invalid}
 use Rattle.triple_arena_session.specs.SessionState.{SessionState, node_of, link_name, named}
 use Rattle.triple_arena_session.specs.SessionLayout.{session_of}
-use Rattle.triple_arena_session.specs.Limits.{is_at_limit, is_within}
 use Rattle.triple_arena_session.specs.SessionRun.{with_room_for_name, give, act_on, act_under, refusal, in_order, remove_under, invalidate_under, insert_within_answer, reserve_answer, TableWantsMemory, ArenaWantsMemory, RoomWantsMemory, IsStep}
 use Rattle.triple_arena_session.proofs.Mapped.{len-mapped, look_up-mapped, next_pointer-mapped, inserted-mapped, grown-mapped, with_value-mapped, removed-mapped, invalidated-mapped, tidied-mapped, reallocated-mapped}
 

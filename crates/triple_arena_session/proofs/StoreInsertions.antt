@@ -19,14 +19,15 @@ use Rattle.triple_arena_traits.specs.EntryLaws.{doubled, slots-inserted, fitting
 use Rattle.triple_arena_traits.specs.Histories.{has, insertion, Continues, Fits}
 use Rattle.triple_arena_traits.specs.WellFormedLaws.{IsWellFormed-inserted, kept-inserted, place_free, len_within}
 use Rattle.triple_arena_traits.specs.HistoryLaws.{Continues-kept, Continues-inserted, Continues-append}
-use Rattle.triple_arena_session.specs.declared.command.Command.TheVariants.{Insert, InsertWithin}
-use Rattle.triple_arena_session.specs.declared.reply.Reply.{Reply}
-use Rattle.triple_arena_session.specs.declared.reply.Reply.TheVariants.{Given, Full, BeyondMaxCapacity, NoMemory}
-use Rattle.triple_arena_session.specs.SessionState.{SessionState, name_of, link_pointer}
-use Rattle.triple_arena_session.specs.Limits.{is_at_limit}
+use Rattle.triple_arena_commands.specs.declared.command.Command.TheVariants.{Insert, InsertWithin}
+use Rattle.triple_arena_commands.specs.declared.reply.Reply.{Reply}
+use Rattle.triple_arena_commands.specs.declared.reply.Reply.TheVariants.{Given, Full, BeyondMaxCapacity, NoMemory}
+use Rattle.triple_arena_commands.specs.PointerNames.{name_of}
+use Rattle.triple_arena_commands.specs.Limits.{is_at_limit}
+use Rattle.triple_arena_commands.specs.NameStore.{row_count, give_row, grown_store, store_refusal, insert_row_unless, store_answer}
+use Rattle.triple_arena_commands.specs.StoreRuns.{without_wrap}
+use Rattle.triple_arena_session.specs.SessionState.{SessionState, link_pointer}
 use Rattle.triple_arena_session.specs.SessionRun.{refusal, refused_reply, give, insert_unless, insert_answer, insert_within_answer, answer}
-use Rattle.triple_arena_session.specs.NameStore.{row_count, give_row, grown_store, store_refusal, insert_row_unless, store_answer}
-use Rattle.triple_arena_session.specs.StoreRuns.{without_wrap}
 use Rattle.triple_arena_session.specs.SessionCalls.{calls_of}
 use Rattle.triple_arena_session.specs.Shown.{row_of, shown}
 use Rattle.triple_arena_session.proofs.TableNames.{map_same, link_name-given, name_of-append}

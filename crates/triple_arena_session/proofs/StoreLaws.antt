@@ -13,16 +13,16 @@ use Rattle.triple_arena_traits.specs.Compression.{raised_if_any}
 use Rattle.triple_arena_traits.specs.Histories.{compression, is_live, Continues, Fits}
 use Rattle.triple_arena_traits.specs.WellFormedLaws.{IsWellFormed-empty}
 use Rattle.triple_arena_traits.specs.HistoryLaws.{Continues-compressed}
-use Rattle.triple_arena_session.specs.declared.command.Command.{Command}
-use Rattle.triple_arena_session.specs.declared.command.Command.TheVariants.{Insert, InsertWithin, Get, Set, Remove, Invalidate, Clear, Compact, Len, Capacity, Reserve, Show}
-use Rattle.triple_arena_session.specs.declared.reply.Reply.{Reply}
-use Rattle.triple_arena_session.specs.declared.reply.Reply.TheVariants.{Given, Removed, Cleared, NoMemory, Compacted, Unresolved}
-use Rattle.triple_arena_session.specs.ReplyText.{tells_of_wrap}
+use Rattle.triple_arena_commands.specs.declared.command.Command.{Command}
+use Rattle.triple_arena_commands.specs.declared.command.Command.TheVariants.{Insert, InsertWithin, Get, Set, Remove, Invalidate, Clear, Compact, Len, Capacity, Reserve, Show}
+use Rattle.triple_arena_commands.specs.declared.reply.Reply.{Reply}
+use Rattle.triple_arena_commands.specs.declared.reply.Reply.TheVariants.{Given, Removed, Cleared, NoMemory, Compacted, Unresolved}
+use Rattle.triple_arena_commands.specs.ReplyText.{tells_of_wrap}
+use Rattle.triple_arena_commands.specs.NameStore.{Store, row_dangles, store_answer, ReservesRows, RowWantsMemory, IsStoreStep}
+use Rattle.triple_arena_commands.specs.StoreRuns.{without_wrap}
 use Rattle.triple_arena_session.specs.SessionState.{SessionState, new_session, named}
 use Rattle.triple_arena_session.specs.Compaction.{relinked, any_dangles, compacted}
 use Rattle.triple_arena_session.specs.SessionRun.{refused_reply, show_reply, shown_text, wraps_if_any, with_room_for_name, reserve_answer, answer, WantsMemory, IsStep}
-use Rattle.triple_arena_session.specs.NameStore.{Store, row_dangles, store_answer, ReservesRows, RowWantsMemory, IsStoreStep}
-use Rattle.triple_arena_session.specs.StoreRuns.{without_wrap}
 use Rattle.triple_arena_session.specs.SessionCalls.{calls_of}
 use Rattle.triple_arena_session.specs.Shown.{as_row, shown}
 use Rattle.triple_arena_traits.specs.CompressionLaws.{length-values}

@@ -18,15 +18,15 @@ use Rattle.triple_arena_traits.specs.ItemLaws.{length-with_item, item-map}
 use Rattle.triple_arena_traits.specs.WellFormedLaws.{live_item, IsWellFormed-removed, IsWellFormed-with_entry, IsWellFormed-counter, IsWellFormed-empty, room-removed, limit-removed, greatest-removed, with_value_is, with_generation_is}
 use Rattle.triple_arena_traits.specs.PointerListLaws.{has-append}
 use Rattle.triple_arena_traits.specs.HistoryLaws.{Continues-written, Continues-none, Continues-removed, Continues-invalidated, Continues-cleared}
-use Rattle.triple_arena_session.specs.declared.command.Command.{Command}
-use Rattle.triple_arena_session.specs.declared.command.Command.TheVariants.{Get, Set, Remove, Invalidate, Clear, Len, Capacity}
-use Rattle.triple_arena_session.specs.declared.reply.Reply.{Reply}
-use Rattle.triple_arena_session.specs.declared.reply.Reply.TheVariants.{Given, Done, Removed, Invalid, Cleared, BadName, Count}
-use Rattle.triple_arena_session.specs.ReplyText.{tells_of_wrap}
+use Rattle.triple_arena_commands.specs.declared.command.Command.{Command}
+use Rattle.triple_arena_commands.specs.declared.command.Command.TheVariants.{Get, Set, Remove, Invalidate, Clear, Len, Capacity}
+use Rattle.triple_arena_commands.specs.declared.reply.Reply.{Reply}
+use Rattle.triple_arena_commands.specs.declared.reply.Reply.TheVariants.{Given, Done, Removed, Invalid, Cleared, BadName, Count}
+use Rattle.triple_arena_commands.specs.ReplyText.{tells_of_wrap}
+use Rattle.triple_arena_commands.specs.NameStore.{NameRow, Store, row, is_good_link, with_row, give_row, get_row_reply, act_on_row, store_answer}
+use Rattle.triple_arena_commands.specs.StoreRuns.{without_wrap}
 use Rattle.triple_arena_session.specs.SessionState.{SessionState, link_name, link_pointer, named}
 use Rattle.triple_arena_session.specs.SessionRun.{get_reply, act_under, act_on, set_answer, remove_under, invalidate_under, answer}
-use Rattle.triple_arena_session.specs.NameStore.{NameRow, Store, row, is_good_link, with_row, give_row, get_row_reply, act_on_row, store_answer}
-use Rattle.triple_arena_session.specs.StoreRuns.{without_wrap}
 use Rattle.triple_arena_session.specs.SessionCalls.{call_at, calls_of}
 use Rattle.triple_arena_session.specs.Shown.{as_row, row_of, shown}
 use Rattle.triple_arena_session.proofs.TableNames.{has_from_item, link_name-given, name_of-append}

@@ -4,27 +4,28 @@ use Rattle.std.specs.Io.KnownBytes.{Appends}
 use Rattle.triple_arena_ptr.specs.Numbers.{greatest_index, first_generation}
 use Rattle.triple_arena_stack.specs.StackKind.{StackKind, IsOfKind}
 use Rattle.triple_arena_stack.specs.StackKind.StackKind.{heap, limited, fixed, array}
-use Rattle.triple_arena_session.specs.declared.command.Command.{Command}
-use Rattle.triple_arena_session.specs.declared.reply.Reply.{Reply}
-use Rattle.triple_arena_session.specs.declared.program.Kind.{Kind}
-use Rattle.triple_arena_session.specs.declared.program.Kind.TheVariants.{Heap, Limited, Fixed, Array}
-use Rattle.triple_arena_session.specs.declared.program.Outcome.{Outcome}
-use Rattle.triple_arena_session.specs.declared.program.Outcome.TheVariants.{WrongArguments, Ran}
-use Rattle.triple_arena_session.specs.declared.text.TextError.{TextError}
-use Rattle.triple_arena_session.specs.declared.text.TextError.TheVariants.{Malformed, Read, Write, NoMemory}
-use Rattle.triple_arena_session.specs.Lines.{lines_of}
-use Rattle.triple_arena_session.specs.Runs.{TellsOfNoWrap, EndsInWrap}
+use Rattle.triple_arena_commands.specs.declared.command.Command.{Command}
+use Rattle.triple_arena_commands.specs.declared.reply.Reply.{Reply}
+use Rattle.triple_arena_commands.specs.declared.program.Kind.{Kind}
+use Rattle.triple_arena_commands.specs.declared.program.Kind.TheVariants.{Heap, Limited, Fixed, Array}
+use Rattle.triple_arena_commands.specs.declared.program.Outcome.{Outcome}
+use Rattle.triple_arena_commands.specs.declared.program.Outcome.TheVariants.{WrongArguments, Ran}
+use Rattle.triple_arena_commands.specs.declared.text_error.TextError.{TextError}
+use Rattle.triple_arena_commands.specs.declared.text_error.TextError.TheVariants.{Malformed, Read, Write, NoMemory}
+use Rattle.triple_arena_commands.specs.Lines.{lines_of}
+use Rattle.triple_arena_commands.specs.Runs.{TellsOfNoWrap, EndsInWrap}
+use Rattle.triple_arena_commands.specs.TextRun.{RunsLines, AnswersLines, AnswersToWrap, IsTextRun, IsFlushedRun}
+use Rattle.triple_arena_commands.specs.ReplyText.{reply_lines}
+use Rattle.triple_arena_commands.specs.NameStore.{new_store}
+use Rattle.triple_arena_commands.specs.UnseenLaws.{CompactionIsUnseen}
 use Rattle.triple_arena_session.specs.SessionState.{SessionState}
 use Rattle.triple_arena_session.specs.SessionRun.{IsStep}
-use Rattle.triple_arena_session.specs.TextRun.{RunsLines, AnswersLines, AnswersToWrap, IsTextRun, IsFlushedRun}
-use Rattle.triple_arena_session.specs.ReplyText.{reply_lines}
 use Rattle.triple_arena_session.specs.KindRun.{greatest, first_session, RunsOver, RunsKind}
 use Rattle.triple_arena_session.specs.ProgramRun.{RunsProgram}
-use Rattle.triple_arena_session.specs.NameStore.{new_store}
 use Rattle.triple_arena_session.specs.Shown.{shown, IsSound}
 use Rattle.triple_arena_session.specs.StoreText.{WritesAsStore, IsStoreText, BringsStore, LeavesStore, first_store, AnswersProgram}
 use Rattle.triple_arena_session.proofs.StoreLaws.{SoundOver-new}
-use Rattle.triple_arena_session.proofs.StoreRunLaws.{CompactionIsUnseen, QuietRunIsStores, answers}
+use Rattle.triple_arena_session.proofs.StoreRunLaws.{QuietRunIsStores, answers}
 use Rattle.triple_arena_session.proofs.Soundness.{SoundOver}
 
 module _ (kind : StackKind) (has_memory : ℕ → Type 0) (counting : Bool) (greatest : ℕ) (counts : counting ≡ true) (s t : SessionState ℕ) (sound : SoundOver kind s) (old new : Option (List ℕ)) where

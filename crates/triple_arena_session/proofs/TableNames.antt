@@ -7,7 +7,8 @@ use Rattle.std.specs.List.{position, position_or_len}
 use Rattle.std.specs.Option.{option_map}
 use Rattle.triple_arena_traits.specs.Items.{item, with_item}
 use Rattle.triple_arena_ptr.specs.Pointers.{Pointer, is_same}
-use Rattle.triple_arena_session.specs.SessionState.{name_of, link_name, link_pointer}
+use Rattle.triple_arena_commands.specs.PointerNames.{name_of}
+use Rattle.triple_arena_session.specs.SessionState.{link_name, link_pointer}
 use Rattle.triple_arena_traits.specs.Histories.{has, AreDistinct}
 use Rattle.triple_arena_traits.specs.PointerListLaws.{same_itself, same_is, has_head, has_tail, or_none}
 

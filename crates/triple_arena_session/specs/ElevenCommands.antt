@@ -1,10 +1,10 @@
 -- Eleven commands, two of them compactions, and the replies to them.
 use Rattle.std.specs.Prelude.{ℕ, true, false, List, [], ◌∷◌, Some, None}
 use Rattle.triple_arena_stack.specs.StackKind.StackKind.{heap}
-use Rattle.triple_arena_session.specs.declared.command.Command.{Command}
-use Rattle.triple_arena_session.specs.declared.command.Command.TheVariants.{Insert, InsertWithin, Get, Set, Remove, Compact, Len}
-use Rattle.triple_arena_session.specs.declared.reply.Reply.{Reply}
-use Rattle.triple_arena_session.specs.declared.reply.Reply.TheVariants.{Given, Found, Nothing, Done, Removed, Compacted, Unresolved, Count}
+use Rattle.triple_arena_commands.specs.declared.command.Command.{Command}
+use Rattle.triple_arena_commands.specs.declared.command.Command.TheVariants.{Insert, InsertWithin, Get, Set, Remove, Compact, Len}
+use Rattle.triple_arena_commands.specs.declared.reply.Reply.{Reply}
+use Rattle.triple_arena_commands.specs.declared.reply.Reply.TheVariants.{Given, Found, Nothing, Done, Removed, Compacted, Unresolved, Count}
 use Rattle.triple_arena_session.specs.SessionState.{SessionState}
 use Rattle.triple_arena_session.specs.SessionRun.{answer}
 use Rattle.triple_arena_session.specs.KindRun.{greatest}

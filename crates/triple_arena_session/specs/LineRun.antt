@@ -1,14 +1,14 @@
 -- What the run of one line of a text does, by how it ended.
 use Rattle.std.specs.Prelude.{◌≡◌, ℕ, true, false, List, [], ◌∷◌, Option, None, Some}
 use Rattle.std.specs.Io.KnownBytes.{Appends}
-use Rattle.triple_arena_session.specs.declared.command.Command.{Command}
-use Rattle.triple_arena_session.specs.declared.reply.Reply.{Reply}
+use Rattle.triple_arena_commands.specs.declared.command.Command.{Command}
+use Rattle.triple_arena_commands.specs.declared.reply.Reply.{Reply}
+use Rattle.triple_arena_commands.specs.Lines.{has_bytes}
+use Rattle.triple_arena_commands.specs.CommandText.{command_of}
+use Rattle.triple_arena_commands.specs.ReplyText.{tells_of_wrap, reply_line}
+use Rattle.triple_arena_commands.specs.TextRun.{AppendsCut, RunsLines, AnswersLines, AnswersToWrap}
 use Rattle.triple_arena_session.specs.declared.text.LineEnd.{LineEnd}
 use Rattle.triple_arena_session.specs.declared.text.LineEnd.TheVariants.{Answered, Wrapped, Malformed, Unwritten}
-use Rattle.triple_arena_session.specs.Lines.{has_bytes}
-use Rattle.triple_arena_session.specs.CommandText.{command_of}
-use Rattle.triple_arena_session.specs.ReplyText.{tells_of_wrap, reply_line}
-use Rattle.triple_arena_session.specs.TextRun.{AppendsCut, RunsLines, AnswersLines, AnswersToWrap}
 
 module _ {S : Type 0} (Step : S → Command ℕ → Reply ℕ → S → Type 0) where
   -- the command of the line ran, with this reply.

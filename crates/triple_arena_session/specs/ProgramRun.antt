@@ -1,10 +1,10 @@
 -- What the program does with its arguments, its input and its output.
 use Rattle.std.specs.Prelude.{◌≡◌, ℕ, List, Option, None, Some, Result, Ok, Err}
-use Rattle.triple_arena_session.specs.declared.program.Kind.{Kind}
-use Rattle.triple_arena_session.specs.declared.program.Outcome.{Outcome}
-use Rattle.triple_arena_session.specs.declared.program.Outcome.TheVariants.{Ran}
-use Rattle.triple_arena_session.specs.declared.text.TextError.{TextError}
-use Rattle.triple_arena_session.specs.declared.text.TextError.TheVariants.{NoMemory}
+use Rattle.triple_arena_commands.specs.declared.program.Kind.{Kind}
+use Rattle.triple_arena_commands.specs.declared.program.Outcome.{Outcome}
+use Rattle.triple_arena_commands.specs.declared.program.Outcome.TheVariants.{Ran}
+use Rattle.triple_arena_commands.specs.declared.text_error.TextError.{TextError}
+use Rattle.triple_arena_commands.specs.declared.text_error.TextError.TheVariants.{NoMemory}
 use Rattle.triple_arena_session.specs.KindRun.{RunsKind}
 
 -- of the kind that the arguments ask for, or the outcome where they ask for none; and of the writer before, and after where

@@ -6,13 +6,13 @@ use Rattle.triple_arena_traits.specs.Insertion.{next_pointer}
 use Rattle.triple_arena_traits.specs.Walks.{keys}
 use Rattle.triple_arena_traits.specs.Compression.{raised_if_any}
 use Rattle.triple_arena_traits.specs.Histories.{ModelCall, insertion, removal, invalidation, clearing, compression, resizing, Fits, Continues}
-use Rattle.triple_arena_session.specs.declared.command.Command.{Command}
-use Rattle.triple_arena_session.specs.declared.command.Command.TheVariants.{Insert, InsertWithin, Remove, Invalidate, Clear, Compact, Reserve}
-use Rattle.triple_arena_session.specs.declared.reply.Reply.{Reply}
-use Rattle.triple_arena_session.specs.declared.reply.Reply.TheVariants.{Given, Removed, Cleared, Compacted}
+use Rattle.triple_arena_commands.specs.declared.command.Command.{Command}
+use Rattle.triple_arena_commands.specs.declared.command.Command.TheVariants.{Insert, InsertWithin, Remove, Invalidate, Clear, Compact, Reserve}
+use Rattle.triple_arena_commands.specs.declared.reply.Reply.{Reply}
+use Rattle.triple_arena_commands.specs.declared.reply.Reply.TheVariants.{Given, Removed, Cleared, Compacted}
+use Rattle.triple_arena_commands.specs.Runs.{IsRun, TellsOfNoWrap}
 use Rattle.triple_arena_session.specs.SessionState.{SessionState}
 use Rattle.triple_arena_session.specs.Compaction.{compacted}
-use Rattle.triple_arena_session.specs.Runs.{IsRun, TellsOfNoWrap}
 
 -- the call at a pointer, if there is one
 abbrev pub call_at : (Pointer → ModelCall) → Option Pointer → List ModelCall

@@ -1,10 +1,10 @@
 -- What a session holds.
-use Rattle.std.specs.Prelude.{ℕ, suc, List, [], Option, Some, None}
-use Rattle.std.specs.List.{position}
+use Rattle.std.specs.Prelude.{ℕ, List, [], Option, Some, None}
 use Rattle.std.specs.Option.{option_map, option_and_then}
-use Rattle.triple_arena_ptr.specs.Pointers.{Pointer, is_same}
+use Rattle.triple_arena_ptr.specs.Pointers.{Pointer}
 use Rattle.triple_arena_traits.specs.Items.{item}
 use Rattle.triple_arena_traits.specs.ArenaState.{ArenaState, look_up}
+use Rattle.triple_arena_commands.specs.PointerNames.{name_of}
 use Rattle.triple_arena_session.specs.declared.node.Node.{Node}
 
 -- an arena of data, each with the pointer of its link; and the table of the pointers that were given, with its room: a
@@ -21,10 +21,6 @@ node_of pointer node = (node.datum, option_map pointer node.link)
 -- a session over an arena, that has given no name
 abbrev pub new_session : {X : Type 0} → ArenaState (X × Option Pointer) → SessionState X
 new_session arena = record { arena = arena; table = []; table_room = 0 }
-
--- the name of a pointer: the least place at which the table has it
-abbrev pub name_of : List Pointer → Pointer → Option ℕ
-name_of table p = option_map suc (position (λ q. is_same q p) table)
 
 -- the name of the pointer of a link
 abbrev pub link_name : List Pointer → Option Pointer → Option ℕ

@@ -5,8 +5,8 @@ use Rattle.triple_arena_ptr.specs.Pointers.{Pointer}
 use Rattle.triple_arena_stack.specs.StackKind.{StackKind, IsOfKind}
 use Rattle.triple_arena_traits.specs.ArenaState.{ArenaState, look_up, capacity, IsWellFormed}
 use Rattle.triple_arena_traits.specs.Histories.{has, AreDistinct, is_live}
+use Rattle.triple_arena_commands.specs.NameStore.{NameRow, Store}
 use Rattle.triple_arena_session.specs.SessionState.{SessionState, link_name}
-use Rattle.triple_arena_session.specs.NameStore.{NameRow, Store}
 
 module _ {X : Type 0} where
   -- a datum and the pointer of its link as a row: the datum, and the name of the link

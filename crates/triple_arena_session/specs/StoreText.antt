@@ -2,21 +2,21 @@
 use Rattle.std.specs.Prelude.{◌≡◌, ℕ, ◌-◌, true, false, List, Option, Some, None, Result, Ok, Err, IfSome, take, ◌⊎◌}
 use Rattle.std.specs.List.{list_all, list_any}
 use Rattle.std.specs.Io.KnownBytes.{Appends}
-use Rattle.triple_arena_session.specs.declared.command.Command.{Command}
-use Rattle.triple_arena_session.specs.declared.reply.Reply.{Reply}
-use Rattle.triple_arena_session.specs.declared.program.Kind.{Kind}
-use Rattle.triple_arena_session.specs.declared.program.Kind.TheVariants.{Heap, Limited, Fixed, Array}
-use Rattle.triple_arena_session.specs.declared.program.Outcome.{Outcome}
-use Rattle.triple_arena_session.specs.declared.program.Outcome.TheVariants.{Ran}
-use Rattle.triple_arena_session.specs.declared.text.TextError.{TextError}
-use Rattle.triple_arena_session.specs.declared.text.TextError.TheVariants.{Malformed, Read, Write, NoMemory}
-use Rattle.triple_arena_session.specs.Lines.{lines_of}
-use Rattle.triple_arena_session.specs.ReplyText.{reply_lines}
-use Rattle.triple_arena_session.specs.Runs.{IsRun, TellsOfNoWrap, EndsInWrap}
-use Rattle.triple_arena_session.specs.TextRun.{StandFor, IsMalformed}
+use Rattle.triple_arena_commands.specs.declared.command.Command.{Command}
+use Rattle.triple_arena_commands.specs.declared.reply.Reply.{Reply}
+use Rattle.triple_arena_commands.specs.declared.program.Kind.{Kind}
+use Rattle.triple_arena_commands.specs.declared.program.Kind.TheVariants.{Heap, Limited, Fixed, Array}
+use Rattle.triple_arena_commands.specs.declared.program.Outcome.{Outcome}
+use Rattle.triple_arena_commands.specs.declared.program.Outcome.TheVariants.{Ran}
+use Rattle.triple_arena_commands.specs.declared.text_error.TextError.{TextError}
+use Rattle.triple_arena_commands.specs.declared.text_error.TextError.TheVariants.{Malformed, Read, Write, NoMemory}
+use Rattle.triple_arena_commands.specs.Lines.{lines_of}
+use Rattle.triple_arena_commands.specs.ReplyText.{reply_lines}
+use Rattle.triple_arena_commands.specs.Runs.{IsRun, TellsOfNoWrap, EndsInWrap}
+use Rattle.triple_arena_commands.specs.TextRun.{StandFor, IsMalformed}
+use Rattle.triple_arena_commands.specs.NameStore.{Store, new_store, IsStoreStep}
+use Rattle.triple_arena_commands.specs.StoreRuns.{is_named, is_no_memory, AnswersAsStore, ample, erase, seen}
 use Rattle.triple_arena_session.specs.KindRun.{greatest}
-use Rattle.triple_arena_session.specs.NameStore.{Store, new_store, IsStoreStep}
-use Rattle.triple_arena_session.specs.StoreRuns.{is_named, is_no_memory, AnswersAsStore, ample, erase, seen}
 
 -- these lines stand for commands that were answered as by the store, and the reply lines were written. If all of them are
 -- named commands, and no reply is NoMemory, then the replies, but for those to compactions and with their bools read as

@@ -3,19 +3,19 @@
 ghost use Rattle.std.specs.Prelude.{◌≡◌, IsErr, IsNone};
 ghost use Rattle.std.specs.Io.Buffered.{writer_contents};
 ghost use Rattle.triple_arena_stack.specs.StackKind.{new_room, new_limit, made_room, made_limit};
+ghost use Rattle.triple_arena_commands.specs.Program.{asked_kind};
 ghost use Rattle.triple_arena_session.specs.KindRun.{RunsKind, RunsOver, first_session};
-ghost use Rattle.triple_arena_session.specs.Program.{asked_kind};
 ghost use Rattle.triple_arena_session.specs.ProgramRun.{RunsProgram};
 ghost use Rattle.triple_arena_session.specs.StoreText.{IsStoreText, first_store, AnswersProgram};
 
 use crate::node::Node;
-use crate::program::{Kind, Outcome, asked_kind};
 use crate::session::Session;
-use crate::text::{TextError, flush_after, run_text_and_flush};
+use crate::text::run_text_and_flush;
 use std::alloc::Global;
 use std::io;
 use std::io::{BufWriter, Read, Write};
 use triple_arena::ArenaSlot;
+use triple_arena_commands::{Kind, Outcome, TextError, asked_kind, flush_after};
 use triple_arena_ptr::P0;
 use triple_arena_stack::{
     NonZeroInxArray, NonZeroInxBoxedSlice, NonZeroInxGenericStack, NonZeroInxLimitedVec,
@@ -88,7 +88,8 @@ fn run_asked<R: Read, W: Write + Drop>(
 /// the heap; over the heap with this limit, which is its room at first too; over so many fixed
 /// places; or over an array of 8.
 ///
-/// Where there is no memory for the session, the outcome is `NoMemory`, and nothing is written.
+/// Where there is no memory for the session, the outcome is `NoMemory`, or `Write` where the flush
+/// fails: nothing has run, and what the buffer held before goes out.
 ///
 /// Up to the first reply that tells of a wrap, and but where the writer failed, what is written is
 /// what a new store of names answers, and compactions change no other line, as `Session::run` says.

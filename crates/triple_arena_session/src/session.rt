@@ -8,26 +8,24 @@ ghost use Rattle.triple_arena_stack.specs.StackKind.{new_room, new_limit, made_r
 ghost use Rattle.triple_arena_traits.specs.Items.{item};
 ghost use Rattle.triple_arena_traits.specs.ArenaState.{ArenaState, new_arena, arena_len, capacity, map_values};
 ghost use Rattle.triple_arena_traits.specs.Histories.{Fits, Continues};
-ghost use Rattle.triple_arena_session.specs.ReplyText.{tells_of_wrap};
-ghost use Rattle.triple_arena_session.specs.Runs.{IsRun, TellsOfNoWrap, RunsToWrap};
+ghost use Rattle.triple_arena_commands.specs.ReplyText.{tells_of_wrap};
+ghost use Rattle.triple_arena_commands.specs.Runs.{IsRun, TellsOfNoWrap, RunsToWrap};
+ghost use Rattle.triple_arena_commands.specs.NameStore.{Store, new_store, IsStoreStep};
+ghost use Rattle.triple_arena_commands.specs.StoreRuns.{is_named, is_no_memory, without_wrap, AnswersAsStore, ample, erase, seen};
 ghost use Rattle.triple_arena_session.specs.SessionState.{SessionState, node_of, new_session, link_name, link_pointer};
 ghost use Rattle.triple_arena_session.specs.SessionRun.{IsStep, refusal};
 ghost use Rattle.triple_arena_session.specs.SessionCalls.{calls_of, KeepsHistories};
-ghost use Rattle.triple_arena_session.specs.NameStore.{Store, new_store, IsStoreStep};
 ghost use Rattle.triple_arena_session.specs.Shown.{shown, IsSound, IsArenaOver};
-ghost use Rattle.triple_arena_session.specs.StoreRuns.{is_named, is_no_memory, without_wrap, AnswersAsStore, ample, erase, seen};
 
-use crate::command::Command;
-use crate::name_table::NameTable;
 use crate::node::Node;
-use crate::reply::Reply;
 use std::alloc::Global;
 use std::fmt::Debug;
 use std::marker::Model;
 use triple_arena::{Arena, ArenaInsertTrait, ArenaSlot, ArenaTrait};
 use triple_arena_base::{AllocError, CompactError, ReallocationError};
-use triple_arena_direct::compress_recast;
+use triple_arena_commands::{Command, NameTable, Reply};
 use triple_arena_ptr::{Ptr, PtrGen, PtrInx};
+use triple_arena_renaming::compress_recast;
 use triple_arena_stack::{NonZeroInxGenericStack, NonZeroInxVec};
 
 /// An arena of data with links, and the pointers that were given: a name is the number of a pointer's

@@ -2,57 +2,22 @@
 
 ghost use Rattle.std.specs.Prelude.{◌≡◌, true, Some};
 ghost use Rattle.std.specs.Io.Buffered.{writer_contents};
-ghost use Rattle.triple_arena_session.specs.ErrorText.{error_text};
+ghost use Rattle.triple_arena_commands.specs.TextRun.{IsTextRun, IsFlushedRun};
 ghost use Rattle.triple_arena_session.specs.SessionRun.{IsStep};
-ghost use Rattle.triple_arena_session.specs.TextRun.{IsTextRun, IsFlushedRun, IsFlushed};
 ghost use Rattle.triple_arena_session.specs.Shown.{shown, IsSound, IsArenaOver};
 ghost use Rattle.triple_arena_session.specs.StoreText.{IsStoreText, LeavesStore};
 ghost use Rattle.triple_arena_session.specs.LineRun.{CommandEnds, LineEnds};
 
-use crate::command::parse_command;
-use crate::input::read_text;
-use crate::lines::split_first;
 use crate::node::Node;
-use crate::output::write_reply;
 use crate::session::Session;
 use std::alloc::Global;
-use std::error::Error;
-use std::fmt;
 use std::io::{BufWriter, Read, Write};
 use triple_arena::ArenaSlot;
+use triple_arena_commands::{
+    TextError, flush_after, parse_command, read_text, split_first, write_reply,
+};
 use triple_arena_ptr::Ptr;
 use triple_arena_stack::NonZeroInxGenericStack;
-
-/// Why a text wasn't run to its end.
-#[derive(Clone, Copy, Debug, PartialEq, Eq)]
-pub enum TextError {
-    /// The line of this number, counted from 1, stands for no command. The lines before it have
-    /// run and were answered.
-    Malformed(usize),
-    /// The reader failed, or hadn't ended after 4294967296 reads. Nothing has run.
-    Read,
-    /// The writer failed. The command whose reply was being written has run, and those before it.
-    /// The replies before went out whole, and that one in part or not at all. Of a run that is
-    /// flushed after it, a front of the replies of the commands that ran went out.
-    Write,
-    /// There was no memory for the text, or for what it was to run in. Nothing has run.
-    NoMemory,
-}
-
-impl fmt::Display for TextError {
-    ghost output = { λ e. Some (error_text e) };
-
-    fn fmt<W: fmt::Write>(&self, f: &mut fmt::Formatter<W>) -> fmt::Result {
-        match self {
-            TextError::Malformed(line) => write!(f, "line {line}: malformed"),
-            TextError::Read => f.write_str("read failed"),
-            TextError::Write => f.write_str("write failed"),
-            TextError::NoMemory => f.write_str("no memory"),
-        }
-    }
-}
-
-impl Error for TextError {}
 
 /// Runs the commands of a text: reads the text to its end, and then takes its lines in order, each
 /// parsed, run and answered by one line before the next is parsed.
@@ -149,26 +114,6 @@ fn run_and_flush<
 {
     let outcome = read_and_run(session, alloc, input, &mut output);
     flush_after(outcome, output)
-}
-
-/// Flushes a buffered writer after a run of this outcome, and gives back the writer below it. A
-/// failed flush is the error `Write` whatever the outcome was, and the bytes that it left are let
-/// go: a front of what was written stands in the writer below.
-#[tactic(auto, using(crate::proofs::TextLaws::keeps_emptied))]
-pub(crate) fn flush_after<W: Write + Drop>(
-    outcome: Result<(), TextError>,
-    mut output: BufWriter<W>,
-) -> (Result<(), TextError>, W)
-    ensures { IsFlushed outcome result.0
-        (writer_contents W.contents output) (W.contents result.1) }
-{
-    let flushed = output.flush();
-    // A writer that is dropped would try to write once more what a failed flush left.
-    let (inner, _left) = output.into_parts();
-    match flushed {
-        Ok(()) => (outcome, inner),
-        Err(_) => (Err(TextError::Write), inner),
-    }
 }
 
 // Runs the lines of a text.

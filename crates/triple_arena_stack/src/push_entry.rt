@@ -1,5 +1,5 @@
 //! The place of an item that is not pushed yet.
-ghost use Rattle.std.specs.Prelude.{◌≡◌, ◌+◌, ◌↔◌, length, ℕ, IsOk, IfOk, IsOkAnd, Err};
+ghost use Rattle.std.specs.Prelude.{◌≡◌, ◌+◌, ◌↔◌, length, ℕ, IsTrue, IsOk, IfOk, IsOkAnd, Err};
 ghost use Rattle.std.specs.Borrow.{sem};
 ghost use Rattle.std.specs.Int.NonZero.{non_zero_usize_get};
 ghost use Rattle.triple_arena_stack.specs.Capacity.{capacity_of, most_places, room_for_one_more, HasPlace, IsFullAtLimit, CanGrow};
@@ -26,21 +26,23 @@ pub trait NonZeroInxGenericStackPushEntryTrait<'a, T> {
     // the index that the item will have
     ghost place: { Self → ℕ };
 
+    /// Whether the entry has its place, as each entry that a stack gives has.
+    fn has_place(&self) -> bool
+        ensures { IsTrue result ↔ has_place self.now };
+
     /// The index that the item will have.
     ///
     /// The entry must have its place, as each entry that a stack gives has: by `variant` and
     /// `stack` of `entry_push_within_capacity`, by `has_place` of `entry_push` and
-    /// `entry_push_reallocating`.
+    /// `entry_push_reallocating`. [`Self::has_place`] tells it of any other.
     fn inx(&self) -> NonZeroUsize
         requires { has_place self.now }
         ensures { non_zero_usize_get result ≡ place self.now };
 
     /// Pushes `t`, and gives the item on the stack. It takes no memory, and has no refusal.
     ///
-    /// The entry must have its place, as each entry that a stack gives has: by `variant` and
-    /// `stack` of `entry_push_within_capacity`, by `has_place` of `entry_push` and
-    /// `entry_push_reallocating`. What is written through the reference stands on the stack after
-    /// the other items.
+    /// The entry must have its place, as for `inx`. What is written through the reference stands on
+    /// the stack after the other items.
     fn push(self, t: T) -> &'a mut T
         requires { has_place self }
         ensures value { result.now ≡ t };
@@ -122,6 +124,10 @@ impl<'a, T, K: NonZeroInxGenericStack<T>> NonZeroInxGenericStackPushEntryTrait<'
         (length (K.items (entry_stack entry))) };
 
     ghost place = { λ entry. length (K.items (entry_stack entry)) + 1 };
+
+    fn has_place(&self) -> bool {
+        self.stack.len() < self.stack.capacity()
+    }
 
     fn inx(&self) -> NonZeroUsize {
         let _capacity = self.stack.capacity();

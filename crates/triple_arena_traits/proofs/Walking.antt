@@ -29,12 +29,6 @@ at_first slots (Some inx) found =
       ];
     }
 
--- the answer of a removal of a live entry is not that of an invalid pointer, and has its value
-pub not_invalid : {A : Type 0} (wrapped : Bool) (o : Option A) → IsSome o → is_invalid (told_of wrapped o) ≡ false
-not_invalid wrapped None live = absurd (true≢false (sym live))
-not_invalid true (Some x) live = refl
-not_invalid false (Some x) live = refl
-
 pub unwrapped : {A : Type 0} (wrapped : Bool) (x : A) (answer : InvalidationOption A) → Some answer ≡ as_option (told_of wrapped (Some x)) → answer ≡ told wrapped x
 unwrapped true x answer e = cc
 unwrapped false x answer e = cc

@@ -118,8 +118,3 @@ pub not_refused : (result : Result (Unit {0}) (CloneFromError AllocError)) → (
 not_refused (Ok x) room map = refl
 not_refused (Err (Reallocation refusal)) room map = absurd (room tt)
 not_refused (Err (Map refusal)) room map = absurd (map refusal refl)
-
--- what is beyond the limit is past the capacity
-pub beyond_capacity : (limit : Option ℕ) (room greatest n : ℕ) → IsBeyond limit n → min (capacity_of room limit) greatest < n
-beyond_capacity None room greatest n beyond = absurd (beyond)
-beyond_capacity (Some most) room greatest n beyond = omega (arith, beyond)

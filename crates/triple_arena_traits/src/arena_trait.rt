@@ -25,9 +25,10 @@ use triple_arena_ptr::{Ptr, PtrGen, PtrInx};
 ///
 /// The slots lie in a stack; the capacity is that of the stack, but at most the greatest index of
 /// the pointer type. Memory is asked for only by `with_min_capacity`, by `reallocate_min_capacity`
-/// where it changes the room, and by an insertion into a full arena. For which requests it is there
-/// is told by `has_memory`, as the stack tells it, and these calls succeed where it says so: a body
-/// over any stack that gives up without asking has no proof.
+/// where it changes the room, by an insertion into a full arena, and by cloning and transfer into
+/// an arena that has no place for so much. For which requests it is there is told by `has_memory`,
+/// as the stack tells it, and these calls succeed where it says so: a body over any stack that
+/// gives up without asking has no proof.
 pub trait ArenaTrait<P: Ptr, T>: Sized {
     /// A place in the arena, which goes from entry to entry.
     type PtrAdvancer: Advancer<Self, Item = P>;

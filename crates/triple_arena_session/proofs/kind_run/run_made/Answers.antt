@@ -1,4 +1,4 @@
-use Rattle.triple_arena_session.proofs.TextLaws.{IsFlushedRun-not_begun}
+use Rattle.triple_arena_commands.specs.TextLaws.{IsFlushedRun-not_begun}
 use Rattle.triple_arena_session.proofs.kind_run.run_made.Goals as goal
 
 pub returns-in-Err : goal.returns-in-Err

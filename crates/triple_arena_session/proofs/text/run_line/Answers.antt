@@ -1,5 +1,5 @@
 use Rattle.std.proofs.Common.{rules}
-use Rattle.triple_arena_session.proofs.TextLaws.{LineEnds-command}
+use Rattle.triple_arena_session.proofs.LineLaws.{LineEnds-command}
 use Rattle.triple_arena_session.proofs.text.run_line.Goals as goal
 
 pub returns-else-is_empty : goal.returns-else-is_empty

@@ -1,7 +1,7 @@
 use Rattle.std.proofs.Common.{◌≡◌, ◌+◌, ◌≤◌, length, take, drop}
-use Rattle.triple_arena_session.specs.Lines.{lines_of}
+use Rattle.triple_arena_commands.specs.Lines.{lines_of}
+use Rattle.triple_arena_commands.specs.TextRun.{AnswersLines}
 use Rattle.triple_arena_session.specs.SessionRun.{IsStep}
-use Rattle.triple_arena_session.specs.TextRun.{AnswersLines}
 use Rattle.triple_arena_session.proofs.text.run_lines.Given as goal
 
 abbrev pub invariant-lines : goal.invariant-lines

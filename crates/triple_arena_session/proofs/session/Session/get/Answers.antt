@@ -2,8 +2,8 @@ use Rattle.std.proofs.Common.{◌≡◌, Some, None, ap, sym, ◌∙◌}
 use Rattle.std.specs.Option.{option_map, option_and_then}
 use Rattle.triple_arena_traits.specs.Items.{item}
 use Rattle.triple_arena_traits.specs.ArenaState.{look_up}
+use Rattle.triple_arena_commands.specs.declared.reply.Reply.TheVariants.{Found}
 use Rattle.triple_arena_session.specs.SessionRun.{get_reply}
-use Rattle.triple_arena_session.specs.declared.reply.Reply.TheVariants.{Found}
 use Rattle.triple_arena_session.proofs.Shown.{named_found}
 use Rattle.triple_arena_session.proofs.session.Session.get.Goals as goal
 

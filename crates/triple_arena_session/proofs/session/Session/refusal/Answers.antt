@@ -1,6 +1,6 @@
 use Rattle.std.proofs.Common.{◌≡◌, ◌≤◌, ◌<◌, false, refl, sym, ◌∙◌}
 use Rattle.triple_arena_traits.specs.ArenaState.{arena_len, capacity}
-use Rattle.triple_arena_session.specs.Limits.{is_at_limit}
+use Rattle.triple_arena_commands.specs.Limits.{is_at_limit}
 use Rattle.triple_arena_session.proofs.Shown.{refusal-shown, fits-shown, greatest-shown, has_place, at_limit, at_greatest, may_grow, reaches_limit, past_limit}
 use Rattle.triple_arena_session.proofs.session.Session.refusal.Goals as goal
 use Rattle.triple_arena_session.proofs.session.Session.refusal.Goals.{in_default-via-in-Some+else-limit-capacity, in_default-via-in_default}

@@ -1,8 +1,8 @@
 use Rattle.std.proofs.Common.{length, take}
 use Rattle.std.proofs.lemmas.Result.{IfOk-weaker}
+use Rattle.triple_arena_commands.specs.RunLaws.{IsRun-front}
 use Rattle.triple_arena_session.specs.SessionRun.{IsStep}
 use Rattle.triple_arena_session.proofs.Soundness.{sound_over}
-use Rattle.triple_arena_session.proofs.RunLaws.{IsRun-front}
 use Rattle.triple_arena_session.proofs.StoreRunLaws.{RunAnswersAsStore, RunIsStores, RunKeepsHistories, RunIsUnseen}
 use Rattle.triple_arena_session.proofs.session.Session.run.Goals as goal
 

@@ -1,7 +1,7 @@
 use Rattle.std.proofs.Common.{◌+◌, subst, sym, ap, ◌∙◌}
 use Rattle.std.proofs.lemmas.List.{length_push}
+use Rattle.triple_arena_commands.specs.RunLaws.{IsRun-more, RunsToWrap-wrapped, TellsOfNoWrap-push}
 use Rattle.triple_arena_session.specs.SessionRun.{IsStep}
-use Rattle.triple_arena_session.proofs.RunLaws.{IsRun-more, RunsToWrap-wrapped, TellsOfNoWrap-push}
 use Rattle.triple_arena_session.proofs.session.Session.run_commands.Goals as goal
 
 pub returns-then-wrapped-clause-ran : goal.returns-then-wrapped-clause-ran

@@ -1,6 +1,6 @@
 use Rattle.std.proofs.Common.{◌≡◌, ◌≤◌, length, take, vec_capacity}
+use Rattle.triple_arena_commands.specs.Runs.{IsRun, TellsOfNoWrap}
 use Rattle.triple_arena_session.specs.SessionRun.{IsStep}
-use Rattle.triple_arena_session.specs.Runs.{IsRun, TellsOfNoWrap}
 use Rattle.triple_arena_session.proofs.session.Session.run_commands.Given as goal
 
 abbrev pub invariant-commands : goal.invariant-commands

@@ -2,7 +2,7 @@ use Rattle.std.proofs.Common.{◌≡◌, Some, None, refl, ap, sym, ◌∙◌}
 use Rattle.std.specs.Option.{option_map}
 use Rattle.triple_arena_traits.specs.Items.{item}
 use Rattle.triple_arena_traits.specs.ArenaState.{with_value}
-use Rattle.triple_arena_session.specs.declared.reply.Reply.TheVariants.{Done}
+use Rattle.triple_arena_commands.specs.declared.reply.Reply.TheVariants.{Done}
 use Rattle.triple_arena_session.specs.SessionState.{link_pointer}
 use Rattle.triple_arena_session.specs.SessionRun.{set_answer, act_on}
 use Rattle.triple_arena_session.proofs.Shown.{value_set, acts, not_removed}

@@ -1,0 +1,6 @@
+mod FormLaws
+mod NameLemmas
+mod Numbers
+mod Splits
+mod StoreExactly
+mod Writes

@@ -1,0 +1,40 @@
+-- Writes of a list's parts, one after another.
+use Rattle.std.proofs.Common.{ℕ, ◌+◌, ◌-◌, ◌<◌, ◌≤◌, List, [], ◌++◌, Option, None, Some, length, take, drop, sym, ap, ◌∙◌, subst, arith, append-nil, take-add, take-take, take_all, take-append-drop, length-drop, length-append, append_assoc}
+use Rattle.std.specs.Io.KnownBytes.{Appends, Keeps}
+use Rattle.std.proofs.KnownBytes.{Appends-trans, Appends-kept}
+use Rattle.triple_arena_commands.specs.TextRun.{AppendsCut}
+
+-- what a writer took of the bytes from `done` on
+pub Appends-next : (a b c : Option (List ℕ)) (xs : List ℕ) (done n : ℕ) → Appends a b (take done xs) → Appends b c (take n (take (length xs - done) (drop done xs))) → n ≤ length xs - done
+    → Appends a c (take (done + n) xs)
+Appends-next a b c xs done n before next within =
+    let joined = ap (λ l. take done xs ++ l) (take-take n (length xs - done) (drop done xs) within) ∙ sym (take-add done n xs) in
+    subst (Appends a c) joined (Appends-trans a b c (take done xs) _ before next)
+
+-- all was taken
+pub Appends-all : (a b : Option (List ℕ)) (xs : List ℕ) (done : ℕ) → length xs ≤ done → Appends a b (take done xs) → Appends a b xs
+Appends-all a b xs done whole wrote = subst (Appends a b) (take_all done xs whole) wrote
+
+-- not all was taken, and the next write failed
+pub AppendsCut-at : (a b c : Option (List ℕ)) (xs : List ℕ) (done : ℕ) → done < length xs → Appends a b (take done xs) → Keeps b c → AppendsCut a c [] xs
+AppendsCut-at a b c xs done within wrote kept =
+    let some = length-drop done xs in
+    (take done xs, drop done xs, sym (take-append-drop done xs), omega (arith, some), Appends-kept a b c (take done xs) wrote kept)
+
+-- no byte was taken
+pub Keeps-taken : (a b : Option (List ℕ)) (xs : List ℕ) → Appends a b (take 0 xs) → Keeps a b
+Keeps-taken None b xs wrote = tt
+Keeps-taken (Some x) None xs wrote = absurd wrote
+Keeps-taken (Some x) (Some y) xs wrote = wrote ∙ append-nil x
+
+-- one list after another, of which all was taken, or a part of the first, or all of it and a part of the second
+pub appended_both : (a b c : Option (List ℕ)) (xs ys : List ℕ) → Appends a b xs → Appends b c ys → Appends a c (xs ++ ys)
+appended_both = Appends-trans
+
+pub cut_more : (a b : Option (List ℕ)) (xs ys : List ℕ) → AppendsCut a b [] xs → AppendsCut a b [] (xs ++ ys)
+cut_more a b xs ys (front, rest, whole, some, wrote) =
+    (front, rest ++ ys, ap (λ l. l ++ ys) whole ∙ append_assoc front rest ys, (let both = length-append rest ys in omega (arith, both, some)), wrote)
+
+pub cut_later : (a b c : Option (List ℕ)) (xs ys : List ℕ) → Appends a b xs → AppendsCut b c [] ys → AppendsCut a c [] (xs ++ ys)
+cut_later a b c xs ys first (front, rest, whole, some, wrote) =
+    (xs ++ front, rest, ap (λ l. xs ++ l) whole ∙ sym (append_assoc xs front rest), some, Appends-trans a b c xs front first wrote)

@@ -1,0 +1,16 @@
+pub mod Lines
+pub mod CommandText
+pub mod Forms
+pub mod ReplyText
+pub mod Runs
+pub mod RunLaws
+pub mod TextRun
+pub mod TextLaws
+pub mod ErrorText
+pub mod Program
+pub mod Limits
+pub mod NameStore
+pub mod StoreRuns
+pub mod UnseenLaws
+pub mod PointerNames
+pub mod NameLayout

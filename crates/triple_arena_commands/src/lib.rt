@@ -1,0 +1,22 @@
+//! Commands that speak of entries by name, their replies, the text of both, and the store of names that
+//! they mean.
+#![tactic(auto)]
+
+mod command;
+mod input;
+pub mod laws;
+mod lines;
+mod name_table;
+mod output;
+mod program;
+mod reply;
+mod text_error;
+
+pub use command::{Command, parse_command};
+pub use input::read_text;
+pub use lines::split_first;
+pub use name_table::NameTable;
+pub use output::{flush_after, write_reply};
+pub use program::{Kind, Outcome, asked_kind, parse_args, status};
+pub use reply::Reply;
+pub use text_error::TextError;

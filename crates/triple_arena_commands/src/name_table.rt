@@ -1,0 +1,274 @@
+//! The table of the pointers that were given, by name.
+
+ghost use Rattle.std.specs.Prelude.{◌≡◌, ◌+◌, ◌<◌, ◌++◌, ◌∷◌, [], length, map, nat_lt, true, None, Some, IsOk, IfSome, OnOk, OnErr};
+ghost use Rattle.std.specs.List.{position};
+ghost use Rattle.triple_arena_base.specs.Held.{recast_item};
+ghost use Rattle.triple_arena_stack.specs.Capacity.{room_for_one_more};
+ghost use Rattle.triple_arena_traits.specs.Items.{item, with_item};
+ghost use Rattle.triple_arena_ptr.specs.Pointers.{is_same};
+ghost use Rattle.triple_arena_commands.specs.PointerNames.{name_of};
+ghost use Rattle.triple_arena_commands.specs.NameLayout.{pointers_of, noted_number, notes_of, Notes, RecastsAt};
+
+use std::alloc::Global;
+use std::marker::Model;
+use std::num::NonZeroUsize;
+use triple_arena_base::{AllocError, Recaster};
+use triple_arena_ptr::{Ptr, PtrGen, PtrInx};
+use triple_arena_stack::{NonZeroInxGenericStack, NonZeroInxVec};
+
+/// What a table keeps at one number.
+#[derive(Drop)]
+struct Row<P, G> {
+    // The pointer of the name of this number.
+    pointer: P,
+    // The name that its entry is said to link to. A hint: what it tells is tried before it is used.
+    link: Option<usize>,
+    // A generation at or above those of all pointers to the index of this number; none where there
+    // is no such pointer.
+    newest: Option<G>,
+}
+
+/// The pointers that were given, that of name 1 first, with room for so many of them.
+///
+/// The name of a pointer is the least place at which the table has it.
+#[derive(Drop)]
+pub struct NameTable<P: Ptr> {
+    rows: NonZeroInxVec<Row<P, P::Gen>>,
+    // Whether it is known that no pointer stands twice, and that each generation is noted. It is
+    // until a pointer comes that is no newer than all others of its index, as after a wrap.
+    distinct: bool,
+}
+
+impl<P: Ptr> Model for NameTable<P> {
+    ghost use Rattle.std.specs.Prelude.{map};
+    ghost use Rattle.triple_arena_stack.specs.StackState.{Roomed};
+    ghost use Rattle.triple_arena_commands.specs.NameLayout.{pointers_of, notes_of, Knows};
+
+    ghost Value = { Roomed P };
+
+    ghost view = { λ t. record { items = pointers_of t.rows.items; room = t.rows.room } };
+
+    ghost invariant = { λ t. Knows t.distinct
+        (map P.numbers
+        (pointers_of t.rows.items))
+        (notes_of P.Gen.number t.rows.items) };
+}
+
+impl<P: Ptr> NameTable<P> {
+    /// A table of no pointers, with no room. It takes no memory.
+    pub fn new(alloc: Global) -> Self
+        ensures items { result.items ≡ [] }
+        ensures room { result.room ≡ 0 }
+    {
+        NameTable {
+            rows: NonZeroInxVec::new(alloc),
+            distinct: true,
+        }
+    }
+
+    /// Makes room for one more pointer where there is none.
+    pub fn make_room(&mut self) -> Result<(), AllocError>
+        ensures items { self.new.items ≡ self.old.items }
+        ensures grown { OnOk result (self.new.room
+            ≡ room_for_one_more self.old.room None (length self.old.items)) }
+        ensures room { OnOk result (length self.new.items < self.new.room) }
+        ensures had_room { length self.old.items < self.old.room → IsOk result }
+        ensures refused { OnErr result
+            ((length self.old.items ≡ self.old.room) × (self.new ≡ self.old)) }
+    {
+        if self.rows.len() < self.rows.capacity() {
+            return Ok(());
+        }
+        match self.rows.entry_push() {
+            Ok(_entry) => Ok(()),
+            Err(_) => Err(AllocError),
+        }
+    }
+
+    /// Pushes a pointer where there is room, and gives its name. The link is a hint for
+    /// [`Self::link_name`]: the name that the entry of the pointer links to.
+    pub fn push(&mut self, p: P, link: Option<usize>) -> usize
+        requires { length self.old.items < self.old.room }
+        ensures number { result ≡ length self.old.items + 1 }
+        ensures items { self.new.items ≡ self.old.items ++ p ∷ [] }
+        ensures room { self.new.room ≡ self.old.room }
+    {
+        let row = Row {
+            pointer: p,
+            link,
+            newest: None,
+        };
+        let (inx, _row) = self.rows.push_reserved(row);
+        let newer = note(&mut self.rows, p);
+        self.distinct &= newer;
+        inx.get()
+    }
+
+    // Puts a pointer in the place of that of a name, if it was given.
+    fn replace(&mut self, name: usize, p: P)
+        ensures items { self.new.items ≡ with_item self.old.items name p }
+        ensures room { self.new.room ≡ self.old.room }
+    {
+        let Some(inx) = NonZeroUsize::new(name) else {
+            return;
+        };
+        let Some(row) = self.rows.get_mut(inx) else {
+            return;
+        };
+        row.pointer = p;
+        let newer = note(&mut self.rows, p);
+        self.distinct &= newer;
+    }
+
+    /// Replaces each pointer that has an image by this; the others stay.
+    pub fn rename<R: Recaster<Item = P>>(&mut self, recaster: &R)
+        ensures items { self.new.items
+            ≡ map (λ p. recast_item (R.image recaster.now p) p) self.old.items }
+        ensures room { self.new.room ≡ self.old.room }
+    {
+        'names: for before in 0..self.len() {
+            self.rename_at(recaster, before + 1);
+        }
+    }
+
+    // Replaces the pointer of a name by its image, if it has one.
+    fn rename_at<R: Recaster<Item = P>>(&mut self, recaster: &R, name: usize)
+        ensures items { RecastsAt (R.image recaster.now) name self.old.items self.new.items }
+        ensures room { self.new.room ≡ self.old.room }
+    {
+        let Some(p) = self.pointer(name) else {
+            return;
+        };
+        let mut image = p;
+        match recaster.recast_item(&mut image) {
+            Ok(()) => self.replace(name, image),
+            Err(_) => {}
+        }
+    }
+
+    // How many pointers there are.
+    fn len(&self) -> usize
+        ensures { result ≡ length self.now.items }
+    {
+        self.rows.len()
+    }
+
+    /// Notes the link of the entry of a name, as [`Self::push`] does.
+    pub fn note_link(&mut self, holder: usize, link: Option<usize>)
+        ensures { self.new ≡ self.old }
+    {
+        let Some(inx) = NonZeroUsize::new(holder) else {
+            return;
+        };
+        let Some(row) = self.rows.get_mut(inx) else {
+            return;
+        };
+        row.link = link;
+    }
+
+    /// The pointer of a name, if it was given.
+    pub fn pointer(&self, name: usize) -> Option<P>
+        ensures { result ≡ item self.now.items name }
+    {
+        let row = self.rows.get(NonZeroUsize::new(name)?)?;
+        Some(row.pointer)
+    }
+
+    /// The name of a pointer that the entry of the name `holder` links to. It is found at once
+    /// where the table has the right hint, and else by looking through the table.
+    pub fn link_name(&self, holder: usize, p: P) -> Option<usize>
+        ensures { result ≡ name_of
+            (map P.numbers self.now.items)
+            (P.numbers p) }
+    {
+        match self.hint(holder) {
+            Some(name) if self.is_name(name, p) => Some(name),
+            _ => self.search(p),
+        }
+    }
+
+    // Whether it is known at once that a name is that of a pointer.
+    fn is_name(&self, name: usize, p: P) -> bool
+        ensures { result ≡ true → name_of
+            (map P.numbers self.now.items)
+            (P.numbers p) ≡ Some name }
+    {
+        match self.pointer(name) {
+            Some(q) => self.distinct && are_same(q, p),
+            None => false,
+        }
+    }
+
+    /// The name that the entry of a name is said to link to.
+    pub fn hint(&self, holder: usize) -> Option<usize> {
+        self.rows.get(NonZeroUsize::new(holder)?)?.link
+    }
+
+    // The name of a pointer, by looking through the table.
+    fn search(&self, p: P) -> Option<usize>
+        ensures { result ≡ name_of
+            (map P.numbers self.now.items)
+            (P.numbers p) }
+    {
+        Some(position_of(self.rows.as_slice(), p)? + 1)
+    }
+}
+
+// Notes the generation of a pointer at its index where it is above what is noted there, and tells
+// whether it was.
+fn note<P: Ptr>(rows: &mut NonZeroInxVec<Row<P, P::Gen>>, p: P) -> bool
+    ensures pointers { pointers_of rows.new.items ≡ pointers_of rows.old.items }
+    ensures room { rows.new.room ≡ rows.old.room }
+    ensures noted { result ≡ true → Notes
+        (P.numbers p)
+        (notes_of P.Gen.number rows.old.items) (notes_of P.Gen.number rows.new.items) }
+{
+    let Some(inx) = P::Inx::try_into_usize(p.inx()) else {
+        return false;
+    };
+    let Some(row) = rows.get_mut(inx) else {
+        return false;
+    };
+    let newer = is_above(p.generation(), row.newest);
+    if newer {
+        row.newest = Some(p.generation());
+    }
+    newer
+}
+
+// Whether a generation is above that which is noted, or none is.
+fn is_above<G: PtrGen>(generation: G, noted: Option<G>) -> bool
+    ensures { result ≡ nat_lt (noted_number G.number noted) (G.number generation) }
+{
+    match noted {
+        Some(noted) => noted < generation,
+        None => true,
+    }
+}
+
+// Whether two pointers are one.
+fn are_same<P: Ptr>(p: P, q: P) -> bool
+    ensures { result ≡ is_same (P.numbers p)
+        (P.numbers q) }
+{
+    p == q
+}
+
+// The first position at which rows have a pointer.
+fn position_of<P: Ptr, G>(rows: &[Row<P, G>], p: P) -> Option<usize>
+    ensures position { result ≡ position
+        (λ q. is_same q (P.numbers p))
+        (map P.numbers
+        (pointers_of rows.now)) }
+    ensures within { IfSome result (λ at. at < length rows.now) }
+{
+    first_row(rows, p)
+}
+
+// The first position at which rows have an item that is equal to this one.
+fn first_row<T: PartialEq + Copy, G>(rows: &[Row<T, G>], item: T) -> Option<usize>
+    ensures position { result ≡ position (λ row. T.eq row.pointer item) rows.now }
+    ensures within { IfSome result (λ at. at < length rows.now) }
+{
+    rows.iter().position(|row| row.pointer == item)
+}

@@ -1,0 +1,119 @@
+//! The writing of a reply.
+
+ghost use Rattle.std.specs.Prelude.{◌≡◌, ◌<◌, ◌≤◌, ◌++◌, ◌∷◌, [], length, take, OnOk, OnErr, IfErr, IfSome, IfNone};
+ghost use Rattle.std.specs.Io.Buffered.{writer_contents};
+ghost use Rattle.std.specs.Io.KnownBytes.{Appends, Keeps};
+ghost use Rattle.triple_arena_commands.specs.ReplyText.{reply_line};
+ghost use Rattle.triple_arena_commands.specs.TextRun.{AppendsCut, IsFlushed};
+
+use crate::reply::Reply;
+use crate::text_error::TextError;
+use arrayvec::ArrayString;
+use std::fmt::Write as FmtWrite;
+use std::io::{BufWriter, ErrorKind, Write};
+
+/// Room for the line of any reply but `Line`: the longest has 58 bytes.
+const LINE_ROOM: usize = 64;
+
+/// Writes the line of a reply, by writes alone. The error is `Write`, and then a front of the line
+/// was written, but not all of it. What was written is said of a writer that tells its bytes.
+pub fn write_reply<W: Write>(output: &mut W, reply: &Reply<u64>) -> Result<(), TextError>
+    ensures ok { OnOk result
+        (Appends (W.contents output.old) (W.contents output.new) (reply_line reply.now)) }
+    ensures err { OnErr result
+        (AppendsCut (W.contents output.old) (W.contents output.new) [] (reply_line reply.now)) }
+    ensures write { IfErr result (λ e. e ≡ TextError.Write) }
+{
+    match reply {
+        Reply::Line(text) => write_shown(output, text),
+        _ => match line_of(reply) {
+            Some(line) => write_all(output, line.as_str().as_bytes()),
+            None => Err(TextError::Write),
+        },
+    }
+}
+
+// Writes a text of any length, and a line break.
+#[tactic(auto, using(crate::proofs::Writes::appended_both, crate::proofs::Writes::cut_more, crate::proofs::Writes::cut_later))]
+fn write_shown<W: Write>(output: &mut W, text: &str) -> Result<(), TextError>
+    ensures ok { OnOk result
+        (Appends (W.contents output.old) (W.contents output.new) (text.now ++ 10 ∷ [])) }
+    ensures err { OnErr result
+        (AppendsCut (W.contents output.old) (W.contents output.new) [] (text.now ++ 10 ∷ [])) }
+    ensures write { IfErr result (λ e. e ≡ TextError.Write) }
+{
+    write_all(output, text.as_bytes())?;
+    write_all(output, b"\n")
+}
+
+// The line of a reply. Each reply has one, as tests show, but a `Line` that is too long for it.
+fn line_of(reply: &Reply<u64>) -> Option<ArrayString<LINE_ROOM>>
+    ensures { IfSome result (λ line. line.bytes ≡ reply_line reply.now) }
+{
+    let mut line = ArrayString::new();
+    match line.writeln(reply) {
+        Ok(()) => Some(line),
+        Err(_) => None,
+    }
+}
+
+// Writes all of these bytes.
+fn write_all<W: Write>(output: &mut W, bytes: &[u8]) -> Result<(), TextError>
+    ensures ok { OnOk result
+        (Appends (W.contents output.old) (W.contents output.new) bytes.now) }
+    ensures err { OnErr result
+        (AppendsCut (W.contents output.old) (W.contents output.new) [] bytes.now) }
+    ensures write { IfErr result (λ e. e ≡ TextError.Write) }
+{
+    let mut written = 0;
+    'writes: while written < bytes.len() {
+        match write_some(output, &bytes[written..]) {
+            Some(count) => written += count,
+            None => return Err(TextError::Write),
+        }
+    }
+    Ok(())
+}
+
+// How many of these bytes a write took. `None` where it failed or took none. A write that was
+// interrupted is tried again.
+fn write_some<W: Write>(output: &mut W, bytes: &[u8]) -> Option<usize>
+    ensures some { IfSome result (λ count. 0 < count) }
+    ensures within { IfSome result (λ count. count ≤ length bytes.now) }
+    ensures took { IfSome result
+        (λ count. Appends (W.contents output.old) (W.contents output.new) (take count bytes.now)) }
+    ensures failed { IfNone result (Keeps (W.contents output.old) (W.contents output.new)) }
+{
+    'tries: for _ in 0..u64::MAX {
+        match output.write(bytes) {
+            Ok(0) => return None,
+            Ok(count) => return Some(count),
+            Err(e) => {
+                if e.kind() != ErrorKind::Interrupted {
+                    return None;
+                }
+            }
+        }
+    }
+    None
+}
+
+/// Flushes a buffered writer after a run of this outcome, and gives back the writer below it. A
+/// failed flush is the error `Write` whatever the outcome was, and the bytes that it left are let
+/// go: a front of what was written stands in the writer below.
+#[tactic(auto, using(crate::specs::TextLaws::keeps_emptied))]
+pub fn flush_after<W: Write + Drop>(
+    outcome: Result<(), TextError>,
+    mut output: BufWriter<W>,
+) -> (Result<(), TextError>, W)
+    ensures { IsFlushed outcome result.0
+        (writer_contents W.contents output) (W.contents result.1) }
+{
+    let flushed = output.flush();
+    // A writer that is dropped would try to write once more what a failed flush left.
+    let (inner, _left) = output.into_parts();
+    match flushed {
+        Ok(()) => (outcome, inner),
+        Err(_) => (Err(TextError::Write), inner),
+    }
+}

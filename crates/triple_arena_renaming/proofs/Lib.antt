@@ -1,0 +1,7 @@
+mod Renames
+mod OwnMaps
+mod Pairing
+mod Resolving
+mod WrittenValues
+mod MappedAnswers
+mod Followed

@@ -1,0 +1,22 @@
+use Rattle.std.proofs.Common.{rules, ◌∙◌, Ok, Err, refl, map, ap, arith}
+use Rattle.triple_arena_base.specs.declared.errors.CloneFromError.TheVariants.{Reallocation}
+use Rattle.triple_arena_traits.specs.Walks.{keys, values}
+use Rattle.triple_arena_renaming.proofs.OwnMaps.{own_copied, last_counts, wants_memory}
+use Rattle.triple_arena_renaming.proofs.renaming.own_map.Goals as goal
+
+pub returns-in-Ok-clause-keys : goal.returns-in-Ok-clause-keys
+returns-in-Ok-clause-keys g c =
+    let k = c.in-Ok.ensures.cloned (Ok tt) refl in
+    ap (λ s. keys s.slots) k.2 ∙ (own_copied g.P.Ptr.numbers _ _ (g.A.ArenaTrait.slots c.args.this.now) k.0 (λ a m b r. search rules) k.1).0
+
+pub returns-in-Ok-clause-values : goal.returns-in-Ok-clause-values
+returns-in-Ok-clause-values g c =
+    let k = c.in-Ok.ensures.cloned (Ok tt) refl in
+    ap (λ s. map g.P.Ptr.numbers (values s.slots)) k.2 ∙ (own_copied g.P.Ptr.numbers _ _ (g.A.ArenaTrait.slots c.args.this.now) k.0 (λ a m b r. search rules) k.1).1
+
+pub returns-in-Err-Reallocation-clause-refused : goal.returns-in-Err-Reallocation-clause-refused
+returns-in-Err-Reallocation-clause-refused g c =
+    let e = c.in-Err-Reallocation.ensures in (
+      wants_memory c.in-Err-Reallocation.refusal (λ is. rw (ap (λ s. s.limit) c.new-all.ensures) at (e.beyond.0 (ap Err (c.in-Err-Reallocation.field-0-is ∙ ap Reallocation is))).1),
+      last_counts (g.A.ArenaTrait.slots c.args.this.now) (omega (arith, rw c.new-all.ensures at (e.short (rw c.in-Err-Reallocation.field-0-is tt)))),
+    )

@@ -1,5 +1,0 @@
-use Rattle.triple_arena_session.proofs.FormLaws.{forms}
-use Rattle.triple_arena_session.proofs.laws.forms_are_exact.Goals as goal
-
-pub returns : goal.returns
-returns c = forms

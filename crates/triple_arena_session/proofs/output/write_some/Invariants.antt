@@ -1,5 +1,0 @@
-use Rattle.std.specs.Io.KnownBytes.{Keeps}
-use Rattle.triple_arena_session.proofs.output.write_some.Given as goal
-
-abbrev pub invariant-tries : goal.invariant-tries
-invariant-tries g l = Keeps (g.W.Write.contents l.initial.output) (g.W.Write.contents l.output)

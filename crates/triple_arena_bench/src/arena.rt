@@ -1,21 +1,20 @@
-//! Insertion, reading, churn, two walks and clearing of an arena, with the pointer of general use and with
+//! Insertion, reading, churn, a walk and clearing of an arena, with the pointer of general use and with
 //! the small one, and of a plain vector with free indexes.
 
 mod plain;
 mod table;
 
+use crate::timing::{RUNS, Timed, Timing, over_arena, print};
 use plain::Plain;
 use rand_core::Rng;
 use rand_pcg::Pcg64Mcg;
 use std::alloc::Global;
-use std::io::Print;
-use std::time::{Clock, Duration, Instant};
+use std::io::{self, Print};
+use std::time::{Clock, Instant};
 use table::{InArena, Table};
-use triple_arena::Arena;
-use triple_arena_ptr::P0;
+use triple_arena::{ArenaInsertTrait, CompactArenaTrait};
+use triple_arena_ptr::{P0, Ptr};
 use triple_arena_ptr_stack_uses::SmallPtr;
-
-const RUNS: usize = 5;
 
 // The same numbers in each run.
 fn new_random() -> Pcg64Mcg {
@@ -28,13 +27,6 @@ fn below(random: &mut Pcg64Mcg, bound: u32) -> usize {
     (upper.wrapping_mul(bound as u64) >> 32) as usize
 }
 
-// The least time that an operation took on all numbers, and the sum of what was read.
-#[derive(Clone, Copy)]
-struct Timing {
-    time: Duration,
-    sum: u64,
-}
-
 // The operations in the order in which they are timed.
 #[derive(Clone, Copy)]
 struct Timings {
@@ -42,28 +34,25 @@ struct Timings {
     get: Timing,
     churn: Timing,
     iterate: Timing,
-    write: Timing,
     clear: Timing,
 }
 
-impl Timing {
-    fn least(self, other: Timing) -> Timing {
-        Timing {
-            time: self.time.min(other.time),
-            sum: self.sum,
-        }
-    }
-}
-
 impl Timings {
-    fn least(self, other: Timings) -> Timings {
+    const LONGEST: Timings = Timings {
+        insert: Timing::LONGEST,
+        get: Timing::LONGEST,
+        churn: Timing::LONGEST,
+        iterate: Timing::LONGEST,
+        clear: Timing::LONGEST,
+    };
+
+    fn least(self, later: Timings) -> Timings {
         Timings {
-            insert: self.insert.least(other.insert),
-            get: self.get.least(other.get),
-            churn: self.churn.least(other.churn),
-            iterate: self.iterate.least(other.iterate),
-            write: self.write.least(other.write),
-            clear: self.clear.least(other.clear),
+            insert: self.insert.least(later.insert),
+            get: self.get.least(later.get),
+            churn: self.churn.least(later.churn),
+            iterate: self.iterate.least(later.iterate),
+            clear: self.clear.least(later.clear),
         }
     }
 }
@@ -71,44 +60,46 @@ impl Timings {
 /// Prints the least times of some runs with so many numbers, in nanoseconds for each number; clearing
 /// is one call, and its time is that of the call.
 pub fn run(rt: &(impl Print + Clock), alloc: Global, size: u32) -> anyhow::Result<()> {
-    print(
-        rt,
-        "arena",
-        size,
-        time::<_, InArena<P0, Arena<P0, u64>>>(rt, alloc, size)?,
-    )?;
-    print(
-        rt,
-        "small",
-        size,
-        time::<_, InArena<SmallPtr, Arena<SmallPtr, u64>>>(rt, alloc, size)?,
-    )?;
-    print(rt, "vector", size, time::<_, Plain>(rt, alloc, size)?)
+    over_arena::<_, P0, u64, Calls>(rt, alloc, "arena", size)?;
+    over_arena::<_, SmallPtr, u64, Calls>(rt, alloc, "small", size)?;
+    time::<_, Plain>(rt, alloc, "vector", size)
 }
 
-fn print(rt: &impl Print, name: &str, size: u32, timings: Timings) -> anyhow::Result<()> {
-    for (operation, calls, timing) in [
-        ("insert", size, timings.insert),
-        ("get", size, timings.get),
-        ("churn", size, timings.churn),
-        ("iterate", size, timings.iterate),
-        ("write", size, timings.write),
-        ("clear", 1, timings.clear),
-    ] {
-        let unit = Duration::from_nanos(calls as u64);
-        let nanoseconds = timing.time.div_duration_f64(unit);
-        println!(rt; "{name} {size} {operation} {nanoseconds:.1} {}", timing.sum)?;
+// What is timed of an arena here.
+struct Calls;
+
+impl<P: Ptr> Timed<P, u64> for Calls {
+    fn time<R: Print + Clock, A: ArenaInsertTrait<P, u64> + CompactArenaTrait<P, u64> + Drop>(
+        rt: &R,
+        alloc: Global,
+        name: &str,
+        size: u32,
+    ) -> anyhow::Result<()> {
+        time::<R, InArena<P, A>>(rt, alloc, name, size)
     }
+}
+
+fn time<R: Print + Clock, T: Table>(
+    rt: &R,
+    alloc: Global,
+    name: &str,
+    size: u32,
+) -> anyhow::Result<()> {
+    let mut names = Vec::with_capacity(alloc, size as usize)?;
+    let mut least = Timings::LONGEST;
+    for _ in 0..RUNS {
+        least = least.least(time_once::<R, T>(rt, alloc, size, &mut names)?);
+    }
+    print_all(rt, name, size, least)?;
     Ok(())
 }
 
-fn time<C: Clock, T: Table>(rt: &C, alloc: Global, size: u32) -> anyhow::Result<Timings> {
-    let mut names = Vec::with_capacity(alloc, size as usize)?;
-    let mut least = time_once::<C, T>(rt, alloc, size, &mut names)?;
-    for _ in 1..RUNS {
-        least = least.least(time_once::<C, T>(rt, alloc, size, &mut names)?);
-    }
-    Ok(least)
+fn print_all(rt: &impl Print, name: &str, size: u32, timings: Timings) -> io::Result<()> {
+    print(rt, name, size, "insert", size, timings.insert)?;
+    print(rt, name, size, "get", size, timings.get)?;
+    print(rt, name, size, "churn", size, timings.churn)?;
+    print(rt, name, size, "iterate", size, timings.iterate)?;
+    print(rt, name, size, "clear", 1, timings.clear)
 }
 
 // The names are those of an earlier run, so that none of the later runs is the first to touch them.
@@ -125,8 +116,7 @@ fn time_once<C: Clock, T: Table>(
         get: time_get(rt, size, &table, names)?,
         churn: time_churn(rt, size, &mut table, names)?,
         iterate: time_iterate(rt, &table)?,
-        write: time_write(rt, &mut table)?,
-        clear: time_clear(rt, &mut table, names)?,
+        clear: time_clear(rt, &mut table)?,
     })
 }
 
@@ -143,7 +133,7 @@ fn time_insert<T: Table>(
         names.push(table.put(random.next_u64())?)?;
     }
     let time = start.elapsed(rt)?;
-    let sum = sum(table, names);
+    let sum = table.sum_all();
     Ok(Timing { time, sum })
 }
 
@@ -192,30 +182,11 @@ fn time_iterate<T: Table>(rt: &impl Clock, table: &T) -> anyhow::Result<Timing> 
     Ok(Timing { time, sum })
 }
 
-// Nothing is read while it is timed: the sum is of all numbers afterwards.
-fn time_write<T: Table>(rt: &impl Clock, table: &mut T) -> anyhow::Result<Timing> {
-    let start = Instant::now(rt)?;
-    table.add_to_all(1);
-    let time = start.elapsed(rt)?;
-    let sum = table.sum_all();
-    Ok(Timing { time, sum })
-}
-
 // The sum is of what is still there afterwards.
-fn time_clear<T: Table>(
-    rt: &impl Clock,
-    table: &mut T,
-    names: &[T::Name],
-) -> anyhow::Result<Timing> {
+fn time_clear<T: Table>(rt: &impl Clock, table: &mut T) -> anyhow::Result<Timing> {
     let start = Instant::now(rt)?;
     table.take_out_all();
     let time = start.elapsed(rt)?;
-    let sum = sum(table, names);
+    let sum = table.sum_all();
     Ok(Timing { time, sum })
-}
-
-fn sum<T: Table>(table: &T, names: &[T::Name]) -> u64 {
-    names
-        .iter()
-        .fold(0u64, |sum, name| sum.wrapping_add(table.read(*name)))
 }

@@ -1,15 +1,15 @@
 //! Compaction where every second entry was removed: of an arena of numbers, of one of nodes, each with a
 //! link that is renamed, and of a plain vector.
 
-use crate::entry::{Entry, Node, sum_of};
+use crate::entry::{Entry, Node, sum_of, sum_of_places};
+use crate::timing::{RUNS, Timed, Timing, over_arena, print};
 use std::alloc::Global;
 use std::io::Print;
-use std::time::{Clock, Duration, Instant};
-use triple_arena::{Arena, ArenaInsertTrait, CompactArenaTrait};
-use triple_arena_direct::compress_recast;
+use std::marker::PhantomData;
+use std::time::{Clock, Instant};
+use triple_arena::{ArenaInsertTrait, CompactArenaTrait};
 use triple_arena_ptr::P0;
-
-const RUNS: usize = 5;
+use triple_arena_renaming::compress_recast;
 
 // What holds numbers with gaps, and closes them.
 trait Gapped: Drop {
@@ -22,45 +22,56 @@ trait Gapped: Drop {
     fn sum(&self) -> u64;
 }
 
-// An arena of numbers, which closes its gaps alone.
-#[derive(Drop)]
-struct Numbers<A> {
-    arena: A,
+// An entry of an arena that closes its gaps.
+trait Moved: Entry {
+    fn close_gaps<A: CompactArenaTrait<P0, Self>>(
+        arena: &mut A,
+        alloc: Global,
+    ) -> anyhow::Result<()>;
 }
 
-impl<A: ArenaInsertTrait<P0, u64> + CompactArenaTrait<P0, u64> + Drop> Gapped for Numbers<A> {
-    fn even_numbers(alloc: Global, size: u32) -> anyhow::Result<Self> {
-        let arena: A = every_second(alloc, size)?;
-        Ok(Numbers { arena })
-    }
-
-    fn close_gaps(&mut self, _alloc: Global) -> anyhow::Result<()> {
-        self.arena
+impl Moved for u64 {
+    fn close_gaps<A: CompactArenaTrait<P0, u64>>(
+        arena: &mut A,
+        _alloc: Global,
+    ) -> anyhow::Result<()> {
+        arena
             .compress_with(false, |_old, number, _new| number)
             .allow();
         Ok(())
     }
+}
 
-    fn sum(&self) -> u64 {
-        sum_of(&self.arena)
+// The links are renamed too.
+impl Moved for Node {
+    fn close_gaps<A: CompactArenaTrait<P0, Node>>(
+        arena: &mut A,
+        alloc: Global,
+    ) -> anyhow::Result<()> {
+        let _new_pointers = compress_recast(arena, alloc, false)?;
+        Ok(())
     }
 }
 
-// An arena of nodes, which renames their links too.
+// An arena of such entries.
 #[derive(Drop)]
-struct Nodes<A> {
+struct Entries<T, A> {
     arena: A,
+    entries: PhantomData<T>,
 }
 
-impl<A: ArenaInsertTrait<P0, Node> + CompactArenaTrait<P0, Node> + Drop> Gapped for Nodes<A> {
+impl<T: Moved, A: ArenaInsertTrait<P0, T> + CompactArenaTrait<P0, T> + Drop> Gapped
+    for Entries<T, A> {
     fn even_numbers(alloc: Global, size: u32) -> anyhow::Result<Self> {
         let arena: A = every_second(alloc, size)?;
-        Ok(Nodes { arena })
+        Ok(Entries {
+            arena,
+            entries: PhantomData,
+        })
     }
 
     fn close_gaps(&mut self, alloc: Global) -> anyhow::Result<()> {
-        let _new_pointers = compress_recast(&mut self.arena, alloc, false)?;
-        Ok(())
+        T::close_gaps(&mut self.arena, alloc)
     }
 
     fn sum(&self) -> u64 {
@@ -84,9 +95,7 @@ impl Gapped for Vec<Option<u64>> {
     }
 
     fn sum(&self) -> u64 {
-        self.iter()
-            .flatten()
-            .fold(0u64, |sum, number| sum.wrapping_add(*number))
+        sum_of_places(self)
     }
 }
 
@@ -115,36 +124,45 @@ fn every_second<T: Entry, A: ArenaInsertTrait<P0, T> + Drop>(
 /// Prints the least times of some compactions of so many places, in nanoseconds for each entry that
 /// stays, and the sum of what stays.
 pub fn run(rt: &(impl Print + Clock), alloc: Global, size: u32) -> anyhow::Result<()> {
-    print::<_, Numbers<Arena<P0, u64>>>(rt, alloc, "arena", size)?;
-    print::<_, Nodes<Arena<P0, Node>>>(rt, alloc, "nodes", size)?;
-    print::<_, Vec<Option<u64>>>(rt, alloc, "vector", size)
+    over_arena::<_, P0, u64, Compaction>(rt, alloc, "arena", size)?;
+    over_arena::<_, P0, Node, Compaction>(rt, alloc, "nodes", size)?;
+    time::<_, Vec<Option<u64>>>(rt, alloc, "vector", size)
 }
 
-fn print<R: Print + Clock, G: Gapped>(
+// What is timed of an arena here.
+struct Compaction;
+
+impl<T: Moved> Timed<P0, T> for Compaction {
+    fn time<R: Print + Clock, A: ArenaInsertTrait<P0, T> + CompactArenaTrait<P0, T> + Drop>(
+        rt: &R,
+        alloc: Global,
+        name: &str,
+        size: u32,
+    ) -> anyhow::Result<()> {
+        time::<R, Entries<T, A>>(rt, alloc, name, size)
+    }
+}
+
+fn time<R: Print + Clock, G: Gapped>(
     rt: &R,
     alloc: Global,
     name: &str,
     size: u32,
 ) -> anyhow::Result<()> {
-    let mut least = time_once::<R, G>(rt, alloc, size)?;
-    for _ in 1..RUNS {
-        least.0 = least.0.min(time_once::<R, G>(rt, alloc, size)?.0);
+    let mut least = Timing::LONGEST;
+    for _ in 0..RUNS {
+        least = least.least(time_once::<R, G>(rt, alloc, size)?);
     }
-    let unit = Duration::from_nanos(size.div_ceil(2) as u64);
-    let nanoseconds = least.0.div_duration_f64(unit);
-    println!(rt; "{name} {size} compact {nanoseconds:.1} {}", least.1)?;
+    print(rt, name, size, "compact", size.div_ceil(2), least)?;
     Ok(())
 }
 
-// The time, and the sum afterwards.
-fn time_once<C: Clock, G: Gapped>(
-    rt: &C,
-    alloc: Global,
-    size: u32,
-) -> anyhow::Result<(Duration, u64)> {
+// The sum is of what is there afterwards.
+fn time_once<C: Clock, G: Gapped>(rt: &C, alloc: Global, size: u32) -> anyhow::Result<Timing> {
     let mut table = G::even_numbers(alloc, size)?;
     let start = Instant::now(rt)?;
     table.close_gaps(alloc)?;
     let time = start.elapsed(rt)?;
-    Ok((time, table.sum()))
+    let sum = table.sum();
+    Ok(Timing { time, sum })
 }

@@ -1,4 +1,4 @@
-//! What the arenas that are timed hold.
+//! What the arenas and the vectors that are timed hold.
 
 use triple_arena::CompactArenaTrait;
 use triple_arena_ptr::{P0, Ptr};
@@ -40,6 +40,15 @@ pub fn sum_of<'a, P: Ptr, T: Entry + 'a, A: CompactArenaTrait<P, T>>(arena: &'a 
     let mut entries = arena.vals();
     'sum: while let Some(entry) = entries.next() {
         sum = sum.wrapping_add(entry.number());
+    }
+    sum
+}
+
+/// The sum of all numbers of a vector, modulo 2^64, in the order in which they lie.
+pub fn sum_of_places(numbers: &[Option<u64>]) -> u64 {
+    let mut sum = 0u64;
+    for number in numbers.iter().flatten() {
+        sum = sum.wrapping_add(*number);
     }
     sum
 }

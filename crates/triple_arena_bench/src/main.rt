@@ -5,6 +5,7 @@ mod arena;
 mod compaction;
 mod entry;
 mod stack;
+mod timing;
 
 use std::env;
 

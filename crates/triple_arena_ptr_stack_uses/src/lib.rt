@@ -3,6 +3,7 @@
 
 pub mod beside;
 pub mod counting_stack;
+pub mod gates;
 pub mod links;
 pub mod small_ptr;
 pub mod undo;

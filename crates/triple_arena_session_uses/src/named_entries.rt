@@ -2,12 +2,12 @@
 
 ghost use Rattle.std.specs.Prelude.{◌≡◌, ◌+◌, ◌⊎◌, true, false, IfOk, IfSome, take, length};
 ghost use Rattle.std.specs.List.{list_all, list_any};
-ghost use Rattle.triple_arena_session.specs.NameStore.{next_name};
+ghost use Rattle.triple_arena_commands.specs.NameStore.{next_name};
+ghost use Rattle.triple_arena_commands.specs.Runs.{TellsOfNoWrap, EndsInWrap};
+ghost use Rattle.triple_arena_commands.specs.StoreRuns.{AnswersAsStore, is_named, is_no_memory, seen, ample, erase};
+ghost use Rattle.triple_arena_commands.specs.declared.program.Kind.TheVariants.{Heap};
 ghost use Rattle.triple_arena_session.specs.Shown.{shown, IsSound};
-ghost use Rattle.triple_arena_session.specs.Runs.{TellsOfNoWrap, EndsInWrap};
 ghost use Rattle.triple_arena_session.specs.StoreText.{first_store};
-ghost use Rattle.triple_arena_session.specs.StoreRuns.{AnswersAsStore, is_named, is_no_memory, seen, ample, erase};
-ghost use Rattle.triple_arena_session.specs.declared.program.Kind.TheVariants.{Heap};
 
 use std::alloc::Global;
 use triple_arena_base::AllocError;

@@ -26,7 +26,3 @@ module _ {A B : Type 0} where
         | inl here ↦ ap is_some (ap (look_up_in ns') here ∙ gone') ∙ sym (ap is_some (ap (look_up_in es') here ∙ gone))
         | inr other ↦ ap is_some (others' q other) ∙ same q ∙ sym (ap is_some (others q other))
       ]
-
--- where there is no slot, no pointer is valid
-pub none_in_empty : {A : Type 0} (q : Pointer) → look_up_in {T = A} [] q ≡ None
-none_in_empty {A = A} q = ap (λ o. option_and_then (value_under q.1) (joined o)) (item_nil {A = Option (ℕ × A)} q.0)

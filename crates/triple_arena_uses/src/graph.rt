@@ -54,12 +54,17 @@ impl Graph {
         self.nodes.remove(p).allow()
     }
 
+    /// The node under a pointer.
+    pub fn get(&self, p: P0) -> Option<&Node> {
+        self.nodes.get(p)
+    }
+
     /// The labels of the nodes that edges lead to from `p`.
     pub fn neighbour_labels(&self, p: P0) -> Result<Vec<u64>, AllocError> {
         let mut labels = Vec::new(self.alloc);
-        if let Some(node) = self.nodes.get(p) {
+        if let Some(node) = self.get(p) {
             for q in &node.neighbours {
-                if let Some(neighbour) = self.nodes.get(*q) {
+                if let Some(neighbour) = self.get(*q) {
                     labels.push(neighbour.label)?;
                 }
             }
@@ -71,17 +76,20 @@ impl Graph {
     pub fn reachable(&self, start: P0) -> Result<Vec<P0>, AllocError> {
         let mut seen = HashSet::new(self.alloc);
         let mut found = Vec::new(self.alloc);
-        if self.nodes.contains(start) {
+        if self.get(start).is_some() {
             seen.insert(start)?;
             found.push(start)?;
         }
         // No more nodes are found than there are.
         for place in 0..self.nodes.len() {
-            let Some(node) = found.get(place).and_then(|p| self.nodes.get(*p)) else {
+            let Some(p) = found.get(place) else {
+                break;
+            };
+            let Some(node) = self.get(*p) else {
                 break;
             };
             for q in &node.neighbours {
-                if self.nodes.contains(*q) && seen.insert(*q)? {
+                if self.get(*q).is_some() && seen.insert(*q)? {
                     found.push(*q)?;
                 }
             }

@@ -1,6 +1,7 @@
 //! A vector of numbers with a vector of free indexes.
 
 use crate::arena::table::Table;
+use crate::entry::sum_of_places;
 use std::alloc::Global;
 use triple_arena_base::ReallocationError;
 
@@ -41,17 +42,7 @@ impl Table for Plain {
     }
 
     fn sum_all(&self) -> u64 {
-        let mut sum = 0u64;
-        for number in self.numbers.iter().flatten() {
-            sum = sum.wrapping_add(*number);
-        }
-        sum
-    }
-
-    fn add_to_all(&mut self, n: u64) {
-        for number in self.numbers.iter_mut().flatten() {
-            *number = number.wrapping_add(n);
-        }
+        sum_of_places(&self.numbers)
     }
 
     fn take_out(&mut self, inx: usize) -> u64 {

@@ -3,7 +3,7 @@
 use crate::entry::sum_of;
 use std::alloc::Global;
 use std::marker::PhantomData;
-use triple_arena::{Arena, ArenaInsertTrait, CompactArenaTrait};
+use triple_arena::{ArenaInsertTrait, CompactArenaTrait};
 use triple_arena_base::ReallocationError;
 use triple_arena_ptr::Ptr;
 
@@ -22,9 +22,6 @@ pub trait Table: Drop {
     /// The sum of all numbers, in the order in which they lie.
     fn sum_all(&self) -> u64;
 
-    /// Adds `n` to each number, modulo 2^64, in the order in which they lie.
-    fn add_to_all(&mut self, n: u64);
-
     /// Takes out the number under `name`, or gives 0.
     fn take_out(&mut self, name: Self::Name) -> u64;
 
@@ -38,7 +35,7 @@ pub struct InArena<P, A> {
     pointers: PhantomData<P>,
 }
 
-impl<P: Ptr, A: ArenaInsertTrait<P, u64> + CompactArenaTrait<P, u64> + Written + Drop> Table
+impl<P: Ptr, A: ArenaInsertTrait<P, u64> + CompactArenaTrait<P, u64> + Drop> Table
     for InArena<P, A> {
     type Name = P;
 
@@ -62,28 +59,11 @@ impl<P: Ptr, A: ArenaInsertTrait<P, u64> + CompactArenaTrait<P, u64> + Written +
         sum_of(&self.arena)
     }
 
-    fn add_to_all(&mut self, n: u64) {
-        self.arena.add_to_each(n);
-    }
-
     fn take_out(&mut self, name: P) -> u64 {
         self.arena.remove(name).allow().unwrap_or(0)
     }
 
     fn take_out_all(&mut self) {
         self.arena.clear();
-    }
-}
-
-/// An arena of numbers that a loop writes.
-pub trait Written {
-    fn add_to_each(&mut self, n: u64);
-}
-
-impl<P: Ptr> Written for Arena<P, u64> {
-    fn add_to_each(&mut self, n: u64) {
-        for (_p, number) in self {
-            *number = number.wrapping_add(n);
-        }
     }
 }

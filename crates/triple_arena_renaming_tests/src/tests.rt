@@ -3,3 +3,4 @@
 
 mod renaming;
 mod tested_nodes;
+mod trials;

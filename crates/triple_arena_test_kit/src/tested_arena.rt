@@ -2,7 +2,7 @@
 
 use crate::state::state_of;
 use crate::{index_calls, own_calls, writing_calls};
-use triple_arena::{Arena, ArenaSlot};
+use triple_arena::{Arena, ArenaInsertTrait, ArenaSlot, CompactArenaTrait, DisjointableArenaTrait};
 use triple_arena_ptr::Ptr;
 use triple_arena_stack::{NonZeroInxGenericStack, SetMaxCapacity};
 use triple_arena_trait_kit::{
@@ -21,16 +21,34 @@ pub trait TestedArena {
     fn state(&self) -> State;
 }
 
-// What a call answers that stands in a trait: the one body that takes an `Arena` as those traits, since
-// each such body is slow to prove.
-fn trait_answer<P: Ptr, S: NonZeroInxGenericStack<ArenaSlot<P, Token>>>(
+/// What is asked of any arena that has the traits of an `Arena`.
+pub trait Asked<P: Ptr, R> {
+    fn of<
+        A: ArenaInsertTrait<P, Token>
+            + CompactArenaTrait<P, Token>
+            + DisjointableArenaTrait<P, Token>,
+    >(self, arena: &mut A) -> R;
+}
+
+/// Asks an `Arena`: the one body that takes one as those traits, since each such body is slow to prove.
+pub fn ask<P: Ptr, S: NonZeroInxGenericStack<ArenaSlot<P, Token>>, R, A: Asked<P, R>>(
     arena: &mut Arena<P, Token, S>,
-    call: Call,
-) -> Told
+    asked: A,
+) -> R {
+    asked.of(arena)
+}
+
+impl<P: Ptr> Asked<P, Told> for Call
 where
     P::Gen: Numbered,
 {
-    answer_by_traits(arena, call)
+    fn of<
+        A: ArenaInsertTrait<P, Token>
+            + CompactArenaTrait<P, Token>
+            + DisjointableArenaTrait<P, Token>,
+    >(self, arena: &mut A) -> Told {
+        answer_by_traits(arena, self)
+    }
 }
 
 // What a call answers of an `Arena`.
@@ -85,7 +103,7 @@ where
         Call::AddToEach(added) => writing_calls::add_to_each(arena, added),
         Call::AddToEachEntry(added) => writing_calls::add_to_each_entry(arena, added),
         Call::AddToEachValue(added) => writing_calls::add_to_each_value(arena, added),
-        _ => trait_answer(arena, call),
+        _ => ask(arena, call),
     }
 }
 

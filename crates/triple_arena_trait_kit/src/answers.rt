@@ -5,12 +5,10 @@ use crate::numbered::Numbered;
 use crate::seen::answer_to_read;
 use crate::token::Token;
 use crate::told::{
-    Told, told_done, told_entry, told_exchanged, told_inserted, told_pointer, told_raise,
-    told_renewed, told_taken, told_within, told_written,
+    Told, told_done, told_entry, told_inserted, told_pointer, told_raise, told_renewed, told_taken,
+    told_within, told_written,
 };
-use crate::walk_calls::{met_entry, met_pointer, met_value, next_steps};
 use crate::{pair_calls, walk_calls};
-use triple_arena_base::Advancer;
 use triple_arena_ptr::Ptr;
 use triple_arena_traits::{
     ArenaInsertTrait, ArenaTrait, CompactArenaTrait, DisjointableArenaTrait,
@@ -37,16 +35,28 @@ where
     }
 }
 
+// What a call answers that inserts within the capacity without a refusal, or asks for the pointer of
+// such an insertion: it is not made where there is no place.
+fn answer_in_place<P: Ptr, A: ArenaInsertTrait<P, Token>>(arena: &mut A, call: Call) -> Told
+where
+    P::Gen: Numbered,
+{
+    if arena.len() >= arena.capacity() {
+        return Told::Full;
+    }
+    match call {
+        Call::InsertReserved(number) => told_pointer(arena.insert_reserved(Token { number })),
+        _ => told_pointer(arena.next_ptr()),
+    }
+}
+
 /// What an insertion answers of any arena that inserts by itself.
 pub fn answer_to_insert<P: Ptr, A: ArenaInsertTrait<P, Token>>(arena: &mut A, call: Call) -> Told
 where
     P::Gen: Numbered,
 {
-    let is_full = arena.len() >= arena.capacity();
     match call {
-        Call::NextPtr | Call::InsertReserved(_) if is_full => Told::Full,
-        Call::NextPtr => told_pointer(arena.next_ptr()),
-        Call::InsertReserved(number) => told_pointer(arena.insert_reserved(Token { number })),
+        Call::NextPtr | Call::InsertReserved(_) => answer_in_place(arena, call),
         Call::Insert(number) => told_inserted(arena.insert(Token { number })),
         Call::InsertReallocating(number) => {
             told_inserted(arena.insert_reallocating(Token { number }))
@@ -63,42 +73,15 @@ pub fn answer_to_walk<P: Ptr, A: CompactArenaTrait<P, Token>>(arena: &mut A, cal
 where
     P::Gen: Numbered,
 {
-    let p: P = call.first();
     match call {
-        Call::Pointers => {
-            let mut ptrs = arena.ptrs();
-            Told::MetPointers(
-                met_pointer(ptrs.next()),
-                met_pointer(ptrs.next()),
-                met_pointer(ptrs.next()),
-            )
-        }
-        Call::Values => {
-            let mut vals = arena.vals();
-            Told::MetValues(
-                met_value(vals.next()),
-                met_value(vals.next()),
-                met_value(vals.next()),
-            )
-        }
-        Call::Entries => {
-            let mut iter = arena.iter();
-            Told::Met(
-                met_entry(iter.next()),
-                met_entry(iter.next()),
-                met_entry(iter.next()),
-            )
-        }
-        Call::StepsFromFirst => next_steps(arena, &mut arena.advancer()),
-        Call::StepsFrom(_, reverse) => {
-            next_steps(arena, &mut arena.advancer_inx(p.inx(), reverse))
-        }
-        Call::NoSteps => next_steps(arena, &mut Advancer::<A>::empty()),
+        Call::Pointers => walk_calls::pointers(arena),
+        Call::Values => walk_calls::values(arena),
+        Call::Entries => walk_calls::entries(arena),
         Call::AddToAll(number) => walk_calls::add_to_all(arena, number),
         Call::Drain(steps) => walk_calls::drain(arena, steps),
-        Call::Compress(reset) => told_raise(arena.compress(reset)),
+        Call::Compress(reset) => walk_calls::compress(arena, reset),
         Call::CompressTelling(reset) => walk_calls::compress_telling(arena, reset),
-        _ => Told::NoSuchCall,
+        _ => walk_calls::steps(arena, call),
     }
 }
 
@@ -110,10 +93,8 @@ where
     let p: P = call.first();
     let q: P = call.second();
     match call {
-        Call::Swap(_, _) => told_exchanged(pair_calls::exchange_two(arena, p, q)),
-        Call::SwapInx(_, _) => {
-            told_exchanged(pair_calls::exchange_two_inx(arena, p.inx(), q.inx()))
-        }
+        Call::Swap(_, _) => pair_calls::swap(arena, p, q),
+        Call::SwapInx(_, _) => pair_calls::swap_inx(arena, p, q),
         Call::Lend(_, _, number) => pair_calls::lend(arena, p, q, number),
         Call::LendInx(_, _, number) => pair_calls::lend_inx(arena, p, q, number),
         _ => Told::NoSuchCall,

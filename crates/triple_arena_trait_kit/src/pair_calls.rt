@@ -7,14 +7,14 @@ ghost use Rattle.triple_arena_traits.specs.Disjoint.{DisjointPtrAnswer, Disjoint
 
 use crate::numbered::Numbered;
 use crate::token::Token;
-use crate::told::Told;
+use crate::told::{Told, told_exchanged, told_lent};
 use std::mem;
 use triple_arena_base::GetDisjointMutError;
 use triple_arena_ptr::{Ptr, PtrGen, PtrInx};
 use triple_arena_traits::DisjointableArenaTrait;
 
-/// Exchanges the values under two pointers of any arena.
-pub fn exchange_two<P: Ptr, T, A: DisjointableArenaTrait<P, T>>(
+// Exchanges the values under two pointers of any arena.
+fn exchange_two<P: Ptr, T, A: DisjointableArenaTrait<P, T>>(
     arena: &mut A,
     first: P,
     second: P,
@@ -31,8 +31,8 @@ pub fn exchange_two<P: Ptr, T, A: DisjointableArenaTrait<P, T>>(
     arena.with_disjoint_mut(first, second, |a, b| mem::swap(a, b))
 }
 
-/// Exchanges the values at two indexes of any arena.
-pub fn exchange_two_inx<P: Ptr, T, A: DisjointableArenaTrait<P, T>>(
+// Exchanges the values at two indexes of any arena.
+fn exchange_two_inx<P: Ptr, T, A: DisjointableArenaTrait<P, T>>(
     arena: &mut A,
     first: P::Inx,
     second: P::Inx,
@@ -49,6 +49,24 @@ pub fn exchange_two_inx<P: Ptr, T, A: DisjointableArenaTrait<P, T>>(
     arena.with_disjoint_inx_mut(first, second, |_, a, _, b| mem::swap(a, b))
 }
 
+/// Exchanges the values under two pointers.
+pub fn swap<P: Ptr, A: DisjointableArenaTrait<P, Token>>(
+    arena: &mut A,
+    first: P,
+    second: P,
+) -> Told {
+    told_exchanged(exchange_two(arena, first, second))
+}
+
+/// Exchanges the values at the indexes of two pointers.
+pub fn swap_inx<P: Ptr, A: DisjointableArenaTrait<P, Token>>(
+    arena: &mut A,
+    first: P,
+    second: P,
+) -> Told {
+    told_exchanged(exchange_two_inx(arena, first.inx(), second.inx()))
+}
+
 /// Writes a number under the first of two pointers, and answers those that stood under both.
 pub fn lend<P: Ptr, A: DisjointableArenaTrait<P, Token>>(
     arena: &mut A,
@@ -56,15 +74,11 @@ pub fn lend<P: Ptr, A: DisjointableArenaTrait<P, Token>>(
     second: P,
     number: u64,
 ) -> Told {
-    let found = arena.with_disjoint_mut(first, second, |a, b| {
-        let found = (a.number, b.number);
+    told_lent(arena.with_disjoint_mut(first, second, |a, b| {
+        let found = Told::Both(a.number, b.number);
         a.number = number;
         found
-    });
-    match found {
-        Ok((a, b)) => Told::Both(a, b),
-        Err(refused) => Told::Apart(refused),
-    }
+    }))
 }
 
 /// Writes a value at the index of the second of two pointers, and answers the entries that stood at
@@ -78,13 +92,9 @@ pub fn lend_inx<P: Ptr, A: DisjointableArenaTrait<P, Token>>(
 where
     P::Gen: Numbered,
 {
-    let found = arena.with_disjoint_inx_mut(first.inx(), second.inx(), |g, a, h, b| {
-        let found = (g, a.number, h, b.number);
+    told_lent(arena.with_disjoint_inx_mut(first.inx(), second.inx(), |g, a, h, b| {
+        let found = Told::BothHeld(g.told_number(), a.number, h.told_number(), b.number);
         *b = Token { number };
         found
-    });
-    match found {
-        Ok((g, a, h, b)) => Told::BothHeld(g.told_number(), a, h.told_number(), b),
-        Err(refused) => Told::Apart(refused),
-    }
+    }))
 }

@@ -166,6 +166,14 @@ pub fn told_exchanged(exchanged: Result<(), GetDisjointMutError>) -> Told {
     }
 }
 
+/// What two values told that were lent, or what refused it.
+pub fn told_lent(lent: Result<Told, GetDisjointMutError>) -> Told {
+    match lent {
+        Ok(told) => told,
+        Err(refused) => Told::Apart(refused),
+    }
+}
+
 /// The pointer of a new entry, or what refused it.
 pub fn told_inserted<P: Ptr>(inserted: Result<P, ReallocationError>) -> Told
 where

@@ -1,5 +1,6 @@
 //! Walks over any arena that has them, and what they met.
 
+use crate::call::Call;
 use crate::numbered::{Numbered, index_number, numbers_of};
 use crate::token::Token;
 use crate::told::{NO_ENTRY, NO_POINTER, NO_VALUE, NOT_DRAINED, Told, told_raise};
@@ -7,8 +8,8 @@ use triple_arena_base::{Advancer, InvalidationOption};
 use triple_arena_ptr::Ptr;
 use triple_arena_traits::CompactArenaTrait;
 
-/// The index and the generation of a pointer, if there is one.
-pub fn met_pointer<P: Ptr>(p: Option<P>) -> (usize, u64)
+// The index and the generation of a pointer, if there is one.
+fn met_pointer<P: Ptr>(p: Option<P>) -> (usize, u64)
 where
     P::Gen: Numbered,
 {
@@ -18,8 +19,8 @@ where
     }
 }
 
-/// The number of a value, if there is one.
-pub fn met_value(token: Option<&Token>) -> u64 {
+// The number of a value, if there is one.
+fn met_value(token: Option<&Token>) -> u64 {
     match token {
         Some(token) => token.number,
         None => NO_VALUE,
@@ -35,8 +36,8 @@ where
     (index, generation, token.number)
 }
 
-/// The same of an entry, if there is one.
-pub fn met_entry<P: Ptr>(entry: Option<(P, &Token)>) -> (usize, u64, u64)
+// The same of an entry, if there is one.
+fn met_entry<P: Ptr>(entry: Option<(P, &Token)>) -> (usize, u64, u64)
 where
     P::Gen: Numbered,
 {
@@ -75,6 +76,57 @@ where
     )
 }
 
+/// What an advancer answers in its first steps: one from the first entry, from an index, or one that
+/// is at its end.
+pub fn steps<P: Ptr, A: CompactArenaTrait<P, Token>>(arena: &A, call: Call) -> Told
+where
+    P::Gen: Numbered,
+{
+    let mut advancer = match call {
+        Call::StepsFromFirst => arena.advancer(),
+        Call::StepsFrom(_, reverse) => arena.advancer_inx(call.first::<P>().inx(), reverse),
+        Call::NoSteps => Advancer::<A>::empty(),
+        _ => return Told::NoSuchCall,
+    };
+    next_steps(arena, &mut advancer)
+}
+
+/// The first pointers that `ptrs` gives.
+pub fn pointers<P: Ptr, A: CompactArenaTrait<P, Token>>(arena: &A) -> Told
+where
+    P::Gen: Numbered,
+{
+    let mut ptrs = arena.ptrs();
+    Told::MetPointers(
+        met_pointer(ptrs.next()),
+        met_pointer(ptrs.next()),
+        met_pointer(ptrs.next()),
+    )
+}
+
+/// The first values that `vals` gives.
+pub fn values<P: Ptr, A: CompactArenaTrait<P, Token>>(arena: &A) -> Told {
+    let mut vals = arena.vals();
+    Told::MetValues(
+        met_value(vals.next()),
+        met_value(vals.next()),
+        met_value(vals.next()),
+    )
+}
+
+/// The first entries that `iter` gives.
+pub fn entries<P: Ptr, A: CompactArenaTrait<P, Token>>(arena: &A) -> Told
+where
+    P::Gen: Numbered,
+{
+    let mut iter = arena.iter();
+    Told::Met(
+        met_entry(iter.next()),
+        met_entry(iter.next()),
+        met_entry(iter.next()),
+    )
+}
+
 /// Adds a number to each value by `for_each_mut`.
 pub fn add_to_all<P: Ptr, A: CompactArenaTrait<P, Token>>(arena: &mut A, number: u64) -> Told {
     arena.for_each_mut(|_p, token| token.number = token.number.wrapping_add(number));
@@ -104,6 +156,11 @@ fn moved<P: Ptr>(from: P, token: Token, to: P) -> Token {
     Token {
         number: number.wrapping_add(old).wrapping_add(new),
     }
+}
+
+/// Compresses the arena: whether the counter wrapped.
+pub fn compress<P: Ptr, A: CompactArenaTrait<P, Token>>(arena: &mut A, reset: bool) -> Told {
+    told_raise(arena.compress(reset))
 }
 
 /// Compresses the arena by a closure that is told each move, and makes of each value what `moved`

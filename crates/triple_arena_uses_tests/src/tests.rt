@@ -2,9 +2,11 @@
 
 mod beside;
 mod counting_stack;
+mod entity_table;
 mod first_arena;
 mod graph;
 mod guest_book;
+mod insertions;
 mod links;
 mod netlist;
 mod side_table;

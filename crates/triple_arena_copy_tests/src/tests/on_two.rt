@@ -121,6 +121,72 @@ fn clone_answer<
     }
 }
 
+// What is asked of any arena that is cloned and walked.
+trait Asked {
+    fn of<A: ArenaCloneFromWith<P0, Token> + CompactArenaTrait<P0, Token> + Drop>(
+        self,
+        arena: &mut A,
+    ) -> Told;
+}
+
+// Asks an `Arena`: the one body that takes one as those traits, since each such body is slow to prove.
+fn ask<S: NonZeroInxGenericStack<ArenaSlot<P0, Token>> + Drop, A: Asked>(
+    arena: &mut Arena<P0, Token, S>,
+    asked: A,
+) -> Told {
+    asked.of(arena)
+}
+
+// A call of cloning, asked of its target.
+struct FromSource<'a, A> {
+    alloc: Global,
+    source: &'a mut A,
+    call: OnTwo,
+}
+
+impl<A: ArenaCloneFromWith<P0, Token> + CompactArenaTrait<P0, Token> + Drop> Asked
+    for FromSource<'_, A> {
+    fn of<B: ArenaCloneFromWith<P0, Token> + CompactArenaTrait<P0, Token> + Drop>(
+        self,
+        target: &mut B,
+    ) -> Told {
+        let FromSource {
+            alloc,
+            source,
+            call,
+        } = self;
+        clone_answer(alloc, source, target, call)
+    }
+}
+
+// A call of cloning, asked of its source.
+struct ToTarget<'a, R: NonZeroInxGenericStack<ArenaSlot<P0, Token>>> {
+    alloc: Global,
+    target: &'a mut Arena<P0, Token, R>,
+    call: OnTwo,
+}
+
+impl<R: NonZeroInxGenericStack<ArenaSlot<P0, Token>> + Drop> Asked for ToTarget<'_, R> {
+    fn of<A: ArenaCloneFromWith<P0, Token> + CompactArenaTrait<P0, Token> + Drop>(
+        self,
+        source: &mut A,
+    ) -> Told {
+        let ToTarget {
+            alloc,
+            target,
+            call,
+        } = self;
+        ask(
+            target,
+            FromSource {
+                alloc,
+                source,
+                call,
+            },
+        )
+    }
+}
+
 // A value that was transferred, and a hundred more where its removal wrapped the counter.
 fn received(taken: InvalidationOption<Token>) -> Token {
     match taken {
@@ -154,11 +220,29 @@ where
     }
 }
 
-/// What a call answers of two arenas of `P0`: the one body that takes them as arenas that are cloned and
-/// walked, since each such body is slow to prove.
+// What a transfer answers to an arena of other pointers, or a call on either arena.
+fn answer_of_transfer<
+    S: NonZeroInxGenericStack<ArenaSlot<P0, Token>>,
+    Q: Ptr,
+    R: NonZeroInxGenericStack<ArenaSlot<Q, Token>>,
+>(source: &mut Arena<P0, Token, S>, target: &mut Arena<Q, Token, R>, call: OnTwo) -> Told
+where
+    Q::Gen: Numbered,
+{
+    match call {
+        OnTwo::Source(call) => source.answer(call),
+        OnTwo::Target(call) => target.answer(call),
+        OnTwo::FillSource(entries) => filled(source, entries),
+        OnTwo::FillTarget(entries) => filled(target, entries),
+        OnTwo::Transfer(number) => transfer(source, target, number),
+        _ => Told::NoSuchCall,
+    }
+}
+
+/// What a call answers of two arenas of `P0`.
 pub fn answer_of_two<
     S: NonZeroInxGenericStack<ArenaSlot<P0, Token>> + Drop,
-    R: NonZeroInxGenericStack<ArenaSlot<P0, Token>>,
+    R: NonZeroInxGenericStack<ArenaSlot<P0, Token>> + Drop,
 >(
     alloc: Global,
     source: &mut Arena<P0, Token, S>,
@@ -166,12 +250,19 @@ pub fn answer_of_two<
     call: OnTwo,
 ) -> Told {
     match call {
-        OnTwo::Source(call) => source.answer(call),
-        OnTwo::Target(call) => target.answer(call),
-        OnTwo::FillSource(entries) => filled(source, entries),
-        OnTwo::FillTarget(entries) => filled(target, entries),
-        OnTwo::Transfer(number) => transfer(source, target, number),
-        _ => clone_answer(alloc, source, target, call),
+        OnTwo::CloneFrom
+        | OnTwo::CloneBack
+        | OnTwo::CloneSource
+        | OnTwo::CloneApart
+        | OnTwo::CloneTenfoldBut(_) => ask(
+            source,
+            ToTarget {
+                alloc,
+                target,
+                call,
+            },
+        ),
+        _ => answer_of_transfer(source, target, call),
     }
 }
 
@@ -193,25 +284,6 @@ pub fn over<
 /// The same of two arenas on the heap, which begin without room.
 pub fn on_heaps(alloc: Global, steps: &[(OnTwo, Told)]) -> Result<(), Wrong> {
     over::<Heap<P0>, Heap<P0>>(alloc, (0, 0), steps)
-}
-
-// What a transfer answers to an arena of other pointers, or a call on either arena.
-fn answer_of_transfer<
-    S: NonZeroInxGenericStack<ArenaSlot<P0, Token>>,
-    Q: Ptr,
-    R: NonZeroInxGenericStack<ArenaSlot<Q, Token>>,
->(source: &mut Arena<P0, Token, S>, target: &mut Arena<Q, Token, R>, call: OnTwo) -> Told
-where
-    Q::Gen: Numbered,
-{
-    match call {
-        OnTwo::Source(call) => source.answer(call),
-        OnTwo::Target(call) => target.answer(call),
-        OnTwo::FillSource(entries) => filled(source, entries),
-        OnTwo::FillTarget(entries) => filled(target, entries),
-        OnTwo::Transfer(number) => transfer(source, target, number),
-        _ => Told::NoSuchCall,
-    }
 }
 
 /// Makes each call on a new source of `P0` and a new target of other pointers, over these stacks, and

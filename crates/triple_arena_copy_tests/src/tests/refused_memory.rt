@@ -52,7 +52,7 @@ fn target<S: SetMaxCapacity<ArenaSlot<P0, Token>> + Drop>(
 // order.
 fn told_by<
     S: NonZeroInxGenericStack<ArenaSlot<P0, Token>> + Drop,
-    R: NonZeroInxGenericStack<ArenaSlot<P0, Token>>,
+    R: NonZeroInxGenericStack<ArenaSlot<P0, Token>> + Drop,
 >(
     alloc: Global,
     source: &mut Arena<P0, Token, S>,

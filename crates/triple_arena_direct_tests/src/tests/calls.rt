@@ -1,41 +1,25 @@
 //! Each call of the traits at a direct arena.
 
-use super::tested_direct::{Direct, Heap, on_heap, with_room};
+use super::arenas::{Over, Part, is_shown, on};
 use std::alloc::Global;
 use triple_arena_base::{GetDisjointMutError, ReallocationError};
-use triple_arena_direct::DirectSlot;
-use triple_arena_ptr::P0;
-use triple_arena_stack::NonZeroInxGenericStack;
-use triple_arena_test_kit::{
-    Call, NO_POINTER, NOT_DRAINED, Steps, TestedArena, Token, Told, Trial, Unchanged, Wrong,
-    follow, follow_unchanged, is_text,
-};
+use triple_arena_test_kit::{Call, NO_POINTER, NOT_DRAINED, Told, Wrong};
 
 // Entries at 1, 2 and 4.
-#[derive(Drop)]
-struct ThreeEntries;
-
-impl Trial for ThreeEntries {
-    fn on<A: TestedArena>(&self, arena: &mut A) -> Result<(), Wrong> {
-        follow(
-            arena,
-            &[
-                (Call::DirectInsert(4, 3, 40), Told::Holds(40)),
-                (Call::DirectInsert(1, 2, 10), Told::Holds(10)),
-                (Call::DirectInsert(2, 5, 20), Told::Holds(20)),
-            ],
-        )
-    }
-}
+const THREE_ENTRIES: Part = Part::Steps(&[
+    (Call::DirectInsert(4, 3, 40), Told::Holds(40)),
+    (Call::DirectInsert(1, 2, 10), Told::Holds(10)),
+    (Call::DirectInsert(2, 5, 20), Told::Holds(20)),
+]);
 
 // What is tried on an arena with these entries, of capacity 4.
-fn with_entries<T: Trial + Drop>(alloc: Global, trial: T) -> Result<(), Wrong> {
-    on_heap::<P0, _>(alloc, 4, &(ThreeEntries, trial))
+fn with_entries(alloc: Global, part: Part) -> Result<(), Wrong> {
+    on(alloc, Over::Heap, 4, &[THREE_ENTRIES, part])
 }
 
 #[test]
 fn each_look_up_and_walk_leaves_the_arena_as_it_was(rt: HostRuntime) -> Result<(), Wrong> {
-    let reads = Unchanged(&[
+    let reads = Part::Unchanged(&[
         (Call::IsEmpty, Told::Is(false)),
         (Call::Bounds, Told::Bounds(3, 4, None)),
         (Call::SingularGeneration, Told::Nothing),
@@ -71,7 +55,7 @@ fn each_look_up_and_walk_leaves_the_arena_as_it_was(rt: HostRuntime) -> Result<(
 
 #[test]
 fn what_is_written_stands_there(rt: HostRuntime) -> Result<(), Wrong> {
-    let writes = Steps(&[
+    let writes = Part::Steps(&[
         (Call::GetMut(1, 2), Told::Holds(10)),
         (Call::GetInxMut(2), Told::Holds(20)),
         (Call::Write(1, 2, 11), Told::Holds(10)),
@@ -92,43 +76,28 @@ const OUTSIDE: Told = Told::Apart(GetDisjointMutError::IndexOutOfBounds);
 
 const SAME: Told = Told::Apart(GetDisjointMutError::OverlappingIndices);
 
-// Two values that can't be lent, and then two that can.
-#[derive(Drop)]
-struct LendsTwo;
-
-impl Trial for LendsTwo {
-    fn on<A: TestedArena>(&self, arena: &mut A) -> Result<(), Wrong> {
-        follow_unchanged(
-            arena,
-            &[
-                (Call::Swap((1, 2), (3, 2)), OUTSIDE),
-                (Call::Swap((1, 2), (1, 2)), SAME),
-                (Call::Swap((3, 2), (3, 2)), OUTSIDE),
-                (Call::SwapInx(5, 5), OUTSIDE),
-                (Call::SwapInx(3, 3), SAME),
-                (Call::SwapInx(3, 1), OUTSIDE),
-            ],
-        )?;
-        follow(
-            arena,
-            &[
-                (Call::Swap((1, 2), (4, 3)), Told::Done),
-                (Call::Get(1, 2), Told::Holds(40)),
-                (Call::SwapInx(1, 2), Told::Done),
-                (Call::Values, Told::MetValues(20, 40, 10)),
-            ],
-        )
-    }
-}
-
 #[test]
 fn two_values_are_lent_at_once(rt: HostRuntime) -> Result<(), Wrong> {
-    with_entries(rt.alloc(), LendsTwo)
+    let refused = Part::Unchanged(&[
+        (Call::Swap((1, 2), (3, 2)), OUTSIDE),
+        (Call::Swap((1, 2), (1, 2)), SAME),
+        (Call::Swap((3, 2), (3, 2)), OUTSIDE),
+        (Call::SwapInx(5, 5), OUTSIDE),
+        (Call::SwapInx(3, 3), SAME),
+        (Call::SwapInx(3, 1), OUTSIDE),
+    ]);
+    let done = Part::Steps(&[
+        (Call::Swap((1, 2), (4, 3)), Told::Done),
+        (Call::Get(1, 2), Told::Holds(40)),
+        (Call::SwapInx(1, 2), Told::Done),
+        (Call::Values, Told::MetValues(20, 40, 10)),
+    ]);
+    on(rt.alloc(), Over::Heap, 4, &[THREE_ENTRIES, refused, done])
 }
 
 #[test]
 fn an_ending_leaves_a_free_slot_and_tells_of_no_wrap(rt: HostRuntime) -> Result<(), Wrong> {
-    let ends = Steps(&[
+    let ends = Part::Steps(&[
         (Call::Invalidate(2, 5), Told::At(2, 5)),
         (Call::Invalidate(2, 4), Told::Invalid),
         (Call::Get(2, 5), Told::Holds(20)),
@@ -155,7 +124,7 @@ fn an_ending_leaves_a_free_slot_and_tells_of_no_wrap(rt: HostRuntime) -> Result<
 
 #[test]
 fn a_new_arena_takes_entries_once_there_is_room(rt: HostRuntime) -> Result<(), Wrong> {
-    let steps = Steps(&[
+    let steps = Part::Steps(&[
         (Call::Bounds, Told::Bounds(0, 0, None)),
         (Call::Reallocate(3), Told::Done),
         (Call::DirectInsert(3, 2, 30), Told::Holds(30)),
@@ -166,24 +135,15 @@ fn a_new_arena_takes_entries_once_there_is_room(rt: HostRuntime) -> Result<(), W
         ),
         (Call::Bounds, Told::Bounds(1, 3, None)),
     ]);
-    on_heap::<P0, _>(rt.alloc(), 0, &steps)
-}
-
-// That the text of an arena of capacity 4 with these entries is this one.
-fn has_text<S: NonZeroInxGenericStack<DirectSlot<P0, Token>> + Drop>(
-    alloc: Global,
-    expected: &'static str,
-) -> Result<(), Wrong> {
-    let mut direct: Direct<P0, S> = with_room(alloc, 4)?;
-    ThreeEntries.on(&mut direct)?;
-    let arena = &direct.arena;
-    is_text(format!(in alloc; "{arena:?}")?.as_str(), expected)
+    on(rt.alloc(), Over::Heap, 0, &[steps])
 }
 
 #[test]
 fn the_text_of_a_direct_arena(rt: HostRuntime) -> Result<(), Wrong> {
-    has_text::<Heap<P0>>(
+    is_shown(
         rt.alloc(),
+        4,
+        &[THREE_ENTRIES],
         "{P0[1](2): Token { number: 10 }, P0[2](5): Token { number: 20 }, \
             P0[4](3): Token { number: 40 }}",
     )

@@ -1,213 +1,94 @@
 //! Cloning into direct arenas and out of them.
 
-use super::tested_direct::{
-    Direct, Heap, Limited, arena_after, direct_after, put_under, with_room,
-};
+use super::arenas::has_text;
+use super::asked::{Asked, ask};
+use super::copying::{Copying, Source, Target};
+use super::on_two::{Goal, OnTwo, Origin, on_two};
+use super::placing::{Placing, Shown, place};
 use std::alloc::{AllocError, Global};
-use std::fmt::Debug;
-use triple_arena::{Arena, ArenaCloneFromWith, ArenaSlot, ArenaTrait, CompactArenaTrait};
+use triple_arena::{
+    Arena, ArenaCloneFromWith, ArenaDirectInsertTrait, ArenaSlot, ArenaTrait, CompactArenaTrait,
+    DisjointableArenaTrait,
+};
 use triple_arena_base::{CloneFromError, ReallocationError};
 use triple_arena_direct::{DirectArena, DirectSlot};
-use triple_arena_ptr::{P0, Ptr};
+use triple_arena_ptr::P0;
 use triple_arena_stack::{NonZeroInxGenericStack, NonZeroInxVec};
 use triple_arena_test_kit::{
-    Call, Heap as ArenaHeap, NO_ENTRY, Removed, Steps, TestedArena, Token, Told, Trial, Wrong, inx,
-    is_text, is_told, new_arena, pointer,
+    Call, Heap as ArenaHeap, NO_ENTRY, Removed, Steps, TestedArena, Token, Told, Wrong, inx,
+    is_told, new_arena, pointer,
 };
 
 const BEYOND: Told = Told::Refused(ReallocationError::BeyondMaxCapacity);
 
-// Clones, each value with a hundred added, and refuses the value of one number.
-fn clone_but<P: Ptr, A: ArenaCloneFromWith<P, Token>, B: CompactArenaTrait<P, Token>>(
-    target: &mut A,
-    source: &B,
-    refused: u64,
-) -> Told {
-    let cloned = target.clone_from_with(source, |_p, token: &Token| {
-        if token.number == refused {
-            Err(())
-        } else {
-            Ok(Token {
-                number: token.number.saturating_add(100),
-            })
-        }
-    });
-    match cloned {
-        Ok(()) => Told::Done,
-        Err(CloneFromError::Reallocation(refused)) => Told::Refused(refused),
-        Err(CloneFromError::Map(())) => Told::Invalid,
-    }
-}
-
-/// A call that clones into an arena.
-#[derive(Clone, Copy)]
-pub enum Cloning {
-    CloneFrom,
-    /// By a closure that adds a hundred to each value, and refuses the value of one number.
-    CloneBut(u64),
-}
-
-/// What cloning tells whose values are clones.
-pub fn told_clone<E: Drop>(cloned: Result<(), CloneFromError<E>>) -> Told {
-    match cloned {
-        Ok(()) => Told::Done,
-        Err(CloneFromError::Reallocation(refused)) => Told::Refused(refused),
-        Err(CloneFromError::Map(_refused)) => Told::Refused(ReallocationError::AllocError),
-    }
-}
-
-fn clone_from<P: Ptr, A: ArenaCloneFromWith<P, Token>, B: CompactArenaTrait<P, Token>>(
-    target: &mut A,
-    source: &B,
-) -> Told {
-    told_clone(target.clone_from(source))
-}
-
-// What cloning into an arena tells.
-fn cloned<P: Ptr, A: ArenaCloneFromWith<P, Token>, B: CompactArenaTrait<P, Token>>(
-    target: &mut A,
-    source: &B,
-    call: Cloning,
-) -> Told {
-    match call {
-        Cloning::CloneFrom => clone_from(target, source),
-        Cloning::CloneBut(refused) => clone_but(target, source, refused),
-    }
-}
-
-/// The same of a direct arena: the one body that takes it so, since each such body is slow to prove.
-pub fn clone_into_direct<
-    S: NonZeroInxGenericStack<DirectSlot<P0, Token>>,
-    B: CompactArenaTrait<P0, Token>,
->(target: &mut DirectArena<P0, Token, S>, source: &B, call: Cloning) -> Told {
-    cloned(target, source, call)
-}
-
-// A call on the target of clones.
-#[derive(Clone, Copy)]
-enum OnTarget {
-    Of(Call),
-    CloneBut(u64),
-}
-
-// What it answers of a direct arena.
-fn told_by<S: NonZeroInxGenericStack<DirectSlot<P0, Token>>, B: CompactArenaTrait<P0, Token>>(
-    target: &mut Direct<P0, S>,
-    source: &B,
-    call: OnTarget,
-) -> Told {
-    match call {
-        OnTarget::Of(call) => target.answer(call),
-        OnTarget::CloneBut(refused) => {
-            clone_into_direct(&mut target.arena, source, Cloning::CloneBut(refused))
-        }
-    }
-}
-
-// Makes each call on a direct arena of this room that is cloned from `source`, and expects its answer.
-fn follow_clones<
-    S: NonZeroInxGenericStack<DirectSlot<P0, Token>> + Drop,
-    B: CompactArenaTrait<P0, Token>,
->(alloc: Global, room: usize, source: &B, steps: &[(OnTarget, Told)]) -> Result<(), Wrong> {
-    let mut target: Direct<P0, S> = with_room(alloc, room)?;
-    for (row, (call, expected)) in steps.iter().enumerate() {
-        let told = told_by(&mut target, source, *call);
-        is_told(row, told, *expected)?;
-    }
-    Ok(())
-}
-
 // Five entries, of which the second and the fourth are removed.
-const THREE_OF_FIVE: Removed = Removed {
+const THREE_OF_FIVE: Origin = Origin::Arena(Removed {
     entries: 5,
     removed: &[2, 4],
-};
-
-// The calls on a direct arena of this room over the first stack that is cloned from an arena of these
-// entries over the second.
-fn cloned_from_arena<
-    S: NonZeroInxGenericStack<DirectSlot<P0, Token>> + Drop,
-    R: NonZeroInxGenericStack<ArenaSlot<P0, Token>> + Drop,
->(alloc: Global, room: usize, steps: &[(OnTarget, Told)]) -> Result<(), Wrong> {
-    let source: Arena<P0, Token, R> = arena_after(alloc, &THREE_OF_FIVE)?;
-    follow_clones::<S, Arena<P0, Token, R>>(alloc, room, &source, steps)
-}
+});
 
 #[test]
 fn a_refused_entry_ends_a_clone(rt: HostRuntime) -> Result<(), Wrong> {
-    cloned_from_arena::<Heap<P0>, ArenaHeap<P0>>(
+    on_two(
         rt.alloc(),
-        0,
+        THREE_OF_FIVE,
+        Goal::Heap(0),
         &[
-            (OnTarget::CloneBut(0), Told::Done),
-            (OnTarget::Of(Call::Bounds), Told::Bounds(3, 5, None)),
-            (OnTarget::Of(Call::Slots), Told::Size(5)),
+            (OnTwo::Copy(Copying::CloneBut(0)), Told::Done),
+            (OnTwo::Target(Call::Bounds), Told::Bounds(3, 5, None)),
+            (OnTwo::Target(Call::Slots), Told::Size(5)),
             (
-                OnTarget::Of(Call::Entries),
+                OnTwo::Target(Call::Entries),
                 Told::Met((1, 2, 101), (3, 2, 103), (5, 2, 105)),
             ),
-            (OnTarget::Of(Call::DirectInsert(2, 1, 2)), Told::Holds(2)),
-            (OnTarget::CloneBut(5), Told::Invalid),
+            (OnTwo::Target(Call::DirectInsert(2, 1, 2)), Told::Holds(2)),
+            (OnTwo::Copy(Copying::CloneBut(5)), Told::Invalid),
             (
-                OnTarget::Of(Call::Entries),
+                OnTwo::Target(Call::Entries),
                 Told::Met((1, 2, 101), (3, 2, 103), NO_ENTRY),
             ),
-            (OnTarget::Of(Call::PopFreeEnd(9)), Told::Size(0)),
-            (OnTarget::Of(Call::Slots), Told::Size(3)),
-            (OnTarget::Of(Call::Bounds), Told::Bounds(2, 5, None)),
-            (OnTarget::CloneBut(1), Told::Invalid),
-            (OnTarget::Of(Call::Bounds), Told::Bounds(0, 5, None)),
+            (OnTwo::Target(Call::PopFreeEnd(9)), Told::Size(0)),
+            (OnTwo::Target(Call::Slots), Told::Size(3)),
+            (OnTwo::Target(Call::Bounds), Told::Bounds(2, 5, None)),
+            (OnTwo::Copy(Copying::CloneBut(1)), Told::Invalid),
+            (OnTwo::Target(Call::Bounds), Told::Bounds(0, 5, None)),
         ],
     )
 }
 
 #[test]
 fn a_clone_past_the_limit_is_refused(rt: HostRuntime) -> Result<(), Wrong> {
-    cloned_from_arena::<Limited<P0>, ArenaHeap<P0>>(
+    on_two(
         rt.alloc(),
-        0,
-        &[(OnTarget::CloneBut(0), BEYOND)],
+        THREE_OF_FIVE,
+        Goal::Limited(0),
+        &[(OnTwo::Copy(Copying::CloneBut(0)), BEYOND)],
     )?;
-    cloned_from_arena::<Limited<P0>, ArenaHeap<P0>>(
+    on_two(
         rt.alloc(),
-        5,
-        &[(OnTarget::CloneBut(0), Told::Done)],
+        THREE_OF_FIVE,
+        Goal::Limited(5),
+        &[(OnTwo::Copy(Copying::CloneBut(0)), Told::Done)],
     )
 }
 
 // One entry, under generation 9.
 const ONE_ENTRY: Steps = Steps(&[(Call::DirectInsert(1, 9, 9), Told::Holds(9))]);
 
-// The first entry of an arena that is cloned from a direct one begins its counter at 2.
-fn begins_at_two<
-    S: NonZeroInxGenericStack<ArenaSlot<P0, Token>> + Drop,
-    B: CompactArenaTrait<P0, Token>,
->(alloc: Global, source: &B) -> Result<(), Wrong> {
-    let mut target: Arena<P0, Token, S> = new_arena(alloc);
-    is_told(0, clone_but(&mut target, source, 0), Told::Done)?;
-    AFTER_A_CLONE.on(&mut target)
-}
-
-// An arena with the entry at index 1 alone, a hundred more than in its source.
-const AFTER_A_CLONE: Steps = Steps(&[
-    (Call::Bounds, Told::Bounds(1, 1, None)),
-    (Call::Generation, Told::Generation(2)),
-    (Call::Get(1, 9), Told::Holds(109)),
-    (Call::Insert(7), Told::At(2, 2)),
-]);
-
-// An arena over the first stack is cloned from a direct one over the second.
-fn into_an_arena<
-    S: NonZeroInxGenericStack<ArenaSlot<P0, Token>> + Drop,
-    R: NonZeroInxGenericStack<DirectSlot<P0, Token>> + Drop,
->(alloc: Global) -> Result<(), Wrong> {
-    let source: Direct<P0, R> = direct_after(alloc, 4, &ONE_ENTRY)?;
-    begins_at_two::<S, DirectArena<P0, Token, R>>(alloc, &source.arena)
-}
-
 #[test]
 fn an_arena_that_is_cloned_from_a_direct_one_begins_at_two(rt: HostRuntime) -> Result<(), Wrong> {
-    into_an_arena::<ArenaHeap<P0>, Heap<P0>>(rt.alloc())
+    on_two(
+        rt.alloc(),
+        Origin::Direct(4, ONE_ENTRY),
+        Goal::Arena,
+        &[
+            (OnTwo::Copy(Copying::CloneBut(0)), Told::Done),
+            (OnTwo::Target(Call::Bounds), Told::Bounds(1, 1, None)),
+            (OnTwo::Target(Call::Generation), Told::Generation(2)),
+            (OnTwo::Target(Call::Get(1, 9)), Told::Holds(109)),
+            (OnTwo::Target(Call::Insert(7)), Told::At(2, 2)),
+        ],
+    )
 }
 
 // A call on an arena of numbers, or on a direct arena that mirrors it: it has each number's text under
@@ -223,8 +104,28 @@ enum OnMirror {
     Remove(usize),
 }
 
-fn mirror_all<S: NonZeroInxGenericStack<DirectSlot<P0, String>>, B: CompactArenaTrait<P0, Token>>(
-    texts: &mut DirectArena<P0, String, S>,
+// A direct arena that mirrors an arena of numbers.
+#[derive(Drop)]
+struct Mirror<S: NonZeroInxGenericStack<DirectSlot<P0, String>>> {
+    texts: DirectArena<P0, String, S>,
+    alloc: Global,
+}
+
+// No table tells a number of a text.
+impl Shown for String {
+    fn shown(&self) -> u64 {
+        0
+    }
+}
+
+// The texts of all numbers.
+#[derive(Drop)]
+struct TextsOfAll {
+    alloc: Global,
+}
+
+fn texts_of_all<A: ArenaCloneFromWith<P0, String>, B: CompactArenaTrait<P0, Token>>(
+    texts: &mut A,
     numbers: &B,
     alloc: Global,
 ) -> Told {
@@ -238,55 +139,91 @@ fn mirror_all<S: NonZeroInxGenericStack<DirectSlot<P0, String>>, B: CompactArena
     }
 }
 
+impl<B: CompactArenaTrait<P0, Token>> Asked<P0, String, B> for TextsOfAll {
+    fn of<
+        A: ArenaDirectInsertTrait<P0, String>
+            + ArenaCloneFromWith<P0, String>
+            + CompactArenaTrait<P0, String>
+            + DisjointableArenaTrait<P0, String>
+            + Drop,
+    >(&self, texts: &mut A, numbers: &mut B) -> Told {
+        texts_of_all(texts, numbers, self.alloc)
+    }
+}
+
+impl<S: NonZeroInxGenericStack<DirectSlot<P0, String>> + Drop> Target for Mirror<S> {
+    fn copy_from<A: CompactArenaTrait<P0, Token>>(
+        &mut self,
+        numbers: &mut A,
+        _call: Copying,
+    ) -> Told {
+        let alloc = self.alloc;
+        ask(&mut self.texts, numbers, &TextsOfAll { alloc })
+    }
+}
+
+// The text at an index, which is taken out.
+#[derive(Drop)]
+struct TextAt {
+    index: usize,
+}
+
+fn remove_text<A: ArenaTrait<P0, String>>(texts: &mut A, index: usize) -> Told {
+    Told::Is(texts.remove_inx(inx(index)).is_success())
+}
+
+impl Asked<P0, String, ()> for TextAt {
+    fn of<
+        A: ArenaDirectInsertTrait<P0, String>
+            + ArenaCloneFromWith<P0, String>
+            + CompactArenaTrait<P0, String>
+            + DisjointableArenaTrait<P0, String>
+            + Drop,
+    >(&self, texts: &mut A, _other: &mut ()) -> Told {
+        remove_text(texts, self.index)
+    }
+}
+
 fn put_text<S: NonZeroInxGenericStack<DirectSlot<P0, String>>>(
-    texts: &mut DirectArena<P0, String, S>,
+    mirror: &mut Mirror<S>,
     p: P0,
     number: u64,
-    alloc: Global,
 ) -> Told {
-    match format!(in alloc; "{number}") {
-        Ok(text) => Told::Is(put_under(texts, p, text)),
+    match format!(in mirror.alloc; "{number}") {
+        Ok(text) => match place(&mut mirror.texts, p, Placing::Insert(text)) {
+            Told::Holds(_) => Told::Is(true),
+            _ => Told::Is(false),
+        },
         Err(_refused) => Told::Nothing,
     }
 }
 
-fn remove_text<S: NonZeroInxGenericStack<DirectSlot<P0, String>>>(
-    texts: &mut DirectArena<P0, String, S>,
-    index: usize,
-) -> Told {
-    Told::Is(texts.remove_inx(inx(index)).is_success())
-}
-
 // What a call tells of a mirror and its numbers.
 fn told_by_mirror<
-    S: NonZeroInxGenericStack<DirectSlot<P0, String>>,
-    B: CompactArenaTrait<P0, Token> + TestedArena,
->(texts: &mut DirectArena<P0, String, S>, numbers: &mut B, alloc: Global, call: OnMirror) -> Told {
+    S: NonZeroInxGenericStack<DirectSlot<P0, String>> + Drop,
+    B: Source + TestedArena,
+>(mirror: &mut Mirror<S>, numbers: &mut B, call: OnMirror) -> Told {
     match call {
         OnMirror::Numbers(call) => numbers.answer(call),
-        OnMirror::Clone => mirror_all(texts, numbers, alloc),
+        OnMirror::Clone => numbers.copy_into(mirror, Copying::CloneFrom),
         OnMirror::Put((index, generation), number) => {
-            put_text(texts, pointer(index, generation), number, alloc)
+            put_text(mirror, pointer(index, generation), number)
         }
-        OnMirror::Remove(index) => remove_text(texts, index),
+        OnMirror::Remove(index) => ask(&mut mirror.texts, &mut (), &TextAt { index }),
     }
 }
 
-// That a mirror has this text.
-fn has_text<D: Debug>(texts: &D, alloc: Global, expected: &'static str) -> Result<(), Wrong> {
-    is_text(format!(in alloc; "{texts:?}")?.as_str(), expected)
-}
-
 // Makes each call on numbers and a new mirror, and expects its answer, and this text after it.
-fn follow_mirror<
-    S: NonZeroInxGenericStack<DirectSlot<P0, String>> + Drop,
-    B: CompactArenaTrait<P0, Token> + TestedArena,
->(alloc: Global, numbers: &mut B, steps: &[(OnMirror, Told, &'static str)]) -> Result<(), Wrong> {
-    let mut texts: DirectArena<P0, String, S> = DirectArena::new(alloc);
+fn follow_mirror<S: NonZeroInxGenericStack<DirectSlot<P0, String>> + Drop, B: Source + TestedArena>(
+    alloc: Global,
+    numbers: &mut B,
+    steps: &[(OnMirror, Told, &'static str)],
+) -> Result<(), Wrong> {
+    let texts: DirectArena<P0, String, S> = DirectArena::new(alloc);
+    let mut mirror = Mirror { texts, alloc };
     for (row, (call, expected, text)) in steps.iter().enumerate() {
-        let told = told_by_mirror(&mut texts, numbers, alloc, *call);
-        is_told(row, told, *expected)?;
-        has_text(&texts, alloc, *text)?;
+        is_told(row, told_by_mirror(&mut mirror, numbers, *call), *expected)?;
+        has_text(alloc, &mirror.texts, *text)?;
     }
     Ok(())
 }

@@ -3,14 +3,15 @@
 
 ghost use Rattle.std.specs.Prelude.{◌≡◌, ⊤};
 
-use super::tested_direct::put_under;
+use super::asked::{Asked, ask};
+use super::placing::{Placing, Shown, place};
 use std::alloc::{AllocError, Global};
 use std::cell::Cell;
 use std::marker::Model;
 use std::rc::Rc;
 use triple_arena::{
-    ArenaCloneFromWith, ArenaDirectInsertEntryTrait, ArenaDirectInsertTrait, ArenaTrait,
-    CompactArenaTrait,
+    ArenaCloneFromWith, ArenaDirectInsertTrait, ArenaTrait, CompactArenaTrait,
+    DisjointableArenaTrait,
 };
 use triple_arena_base::InvalidationOption;
 use triple_arena_direct::{DirectArena, DirectSlot};
@@ -19,7 +20,7 @@ use triple_arena_stack::{
     NonZeroInxArray, NonZeroInxBoxedSlice, NonZeroInxGenericStack, NonZeroInxLimitedVec,
     NonZeroInxVec,
 };
-use triple_arena_test_kit::{Wrong, index_number, pointer};
+use triple_arena_test_kit::{Told, Wrong, index_number, pointer};
 
 // How many values were dropped.
 type Drops = Rc<Cell<u64>>;
@@ -52,6 +53,13 @@ impl Clone for Counted {
         Ok(Counted {
             drops: self.drops.clone()?,
         })
+    }
+}
+
+// No table tells a number of such a value.
+impl Shown for Counted {
+    fn shown(&self) -> u64 {
+        0
     }
 }
 
@@ -104,30 +112,6 @@ fn inserts_reserved<A: ArenaDirectInsertTrait<P0, Counted>>(
     true
 }
 
-// Inserts by an entry, and writes another value over it: whether there was an entry.
-fn writes_over_entry<S: NonZeroInxGenericStack<Slot>>(
-    arena: &mut Over<S>,
-    p: P0,
-    drops: &Drops,
-) -> bool {
-    match arena.direct_insert_within_capacity(p) {
-        Ok(entry) => {
-            let value = entry.insert(new_value(drops));
-            *value = new_value(drops);
-            true
-        }
-        Err(_refused) => false,
-    }
-}
-
-// Whether there was an entry with its place, which is let go.
-fn lets_entry_go<S: NonZeroInxGenericStack<Slot>>(arena: &mut Over<S>, p: P0) -> bool {
-    match arena.direct_insert_within_capacity(p) {
-        Ok(entry) => entry.has_place(),
-        Err(_refused) => false,
-    }
-}
-
 // Writes a new value over the one under a pointer, if there is one.
 fn writes<A: ArenaTrait<P0, Counted>>(arena: &mut A, p: P0, drops: &Drops) -> bool {
     match arena.get_mut(p) {
@@ -160,11 +144,6 @@ fn removes_inx<A: ArenaTrait<P0, Counted>>(arena: &mut A, p: P0, drops: &Drops) 
 // Whether a pointer is valid, and stays so.
 fn renews<A: ArenaTrait<P0, Counted>>(arena: &mut A, p: P0) -> bool {
     arena.invalidate(p).is_success()
-}
-
-// Whether there were so many free slots at the end.
-fn pops<S: NonZeroInxGenericStack<Slot>>(arena: &mut Over<S>, num: usize) -> bool {
-    arena.pop_free_end_slots(num) == num
 }
 
 // Whether the arena has this room.
@@ -210,18 +189,55 @@ fn is_done_by_traits<A: ArenaDirectInsertTrait<P0, Counted> + CompactArenaTrait<
     }
 }
 
+// A call of the traits of arenas.
+#[derive(Drop)]
+struct ByTraits<'a> {
+    drops: &'a Drops,
+    call: Call,
+}
+
+impl Asked<P0, Counted, ()> for ByTraits<'_> {
+    fn of<
+        A: ArenaDirectInsertTrait<P0, Counted>
+            + ArenaCloneFromWith<P0, Counted>
+            + CompactArenaTrait<P0, Counted>
+            + DisjointableArenaTrait<P0, Counted>
+            + Drop,
+    >(&self, arena: &mut A, _other: &mut ()) -> Told {
+        Told::Is(is_done_by_traits(arena, self.drops, self.call))
+    }
+}
+
+// Whether it was done, by what is told.
+fn was_done(told: Told) -> bool {
+    matches!(told, Told::Is(true) | Told::Holds(_) | Told::Done)
+}
+
+// Makes a call that asks for an entry: whether there was one.
+fn places<S: NonZeroInxGenericStack<Slot>>(
+    arena: &mut Over<S>,
+    (index, generation): (usize, u64),
+    placing: Placing<Counted>,
+) -> bool {
+    was_done(place(arena, pointer(index, generation), placing))
+}
+
 // Makes a call.
-fn is_done<S: NonZeroInxGenericStack<Slot>>(
+fn is_done<S: NonZeroInxGenericStack<Slot> + Drop>(
     arena: &mut Over<S>,
     drops: &Drops,
     call: Call,
 ) -> bool {
     match call {
-        Call::Insert(i, g) => put_under(arena, pointer(i, g), new_value(drops)),
-        Call::InsertAndWrite(i, g) => writes_over_entry(arena, pointer(i, g), drops),
-        Call::LetGo(i, g) => lets_entry_go(arena, pointer(i, g)),
-        Call::PopFreeEnd(num) => pops(arena, num),
-        _ => is_done_by_traits(arena, drops, call),
+        Call::Insert(i, g) => places(arena, (i, g), Placing::Insert(new_value(drops))),
+        Call::InsertAndWrite(i, g) => places(
+            arena,
+            (i, g),
+            Placing::InsertAndWrite(new_value(drops), new_value(drops)),
+        ),
+        Call::LetGo(i, g) => places(arena, (i, g), Placing::Ask),
+        Call::PopFreeEnd(num) => arena.pop_free_end_slots(num) == num,
+        _ => was_done(ask(arena, &mut (), &ByTraits { drops, call })),
     }
 }
 
@@ -241,85 +257,6 @@ fn at_end(rows: usize, drops: &Drops, expected: u64) -> Result<(), Wrong> {
     } else {
         Err(Wrong::State(rows))
     }
-}
-
-// Calls on an arena with four places and no entry: whether each is done, and how many drops there
-// were after it. An insertion is refused before it takes the value, which its caller then drops.
-const STEPS: [(Call, bool, u64); 32] = [
-    // an index above the capacity, and one that is taken
-    (Call::Insert(5, 2), false, 1),
-    (Call::Insert(4, 3), true, 1),
-    (Call::Insert(4, 9), false, 2),
-    (Call::InsertReserved(1, 2), true, 2),
-    // an entry that is let go, and a value that is written over through its entry
-    (Call::LetGo(2, 7), true, 2),
-    (Call::InsertAndWrite(2, 7), true, 3),
-    // a value that is written over
-    (Call::Write(1, 2), true, 4),
-    (Call::Renew(4, 3), true, 4),
-    // an invalid pointer, and an index without an entry
-    (Call::Write(1, 3), false, 4),
-    (Call::Renew(4, 2), false, 4),
-    (Call::Remove(4, 2), false, 4),
-    (Call::RemoveInx(3), false, 4),
-    // a value that is removed, and one by index
-    (Call::Remove(2, 7), true, 5),
-    (Call::RemoveInx(4), true, 6),
-    // free slots, and a value that may move
-    (Call::PopFreeEnd(1), true, 6),
-    (Call::Reallocate(2), true, 6),
-    (Call::Reallocate(4), true, 6),
-    // the values that are cleared
-    (Call::Insert(3, 2), true, 6),
-    (Call::Clear, true, 8),
-    (Call::Clear, true, 8),
-    // a drain that takes out one value of three, of one and of none, and one that takes out none
-    (Call::Insert(4, 2), true, 8),
-    (Call::Insert(2, 2), true, 8),
-    (Call::Insert(1, 2), true, 8),
-    (Call::Drain(1), true, 11),
-    (Call::Insert(3, 2), true, 11),
-    (Call::Drain(1), true, 12),
-    (Call::Drain(1), false, 12),
-    (Call::Insert(4, 9), true, 12),
-    (Call::Drain(0), true, 13),
-    // the values of an arena that is dropped
-    (Call::Insert(3, 2), true, 13),
-    (Call::InsertReserved(1, 2), true, 13),
-    (Call::LetGo(4, 2), true, 13),
-];
-
-// Makes each call, and expects its answer and so many drops after it.
-fn follow<S: NonZeroInxGenericStack<Slot>>(
-    arena: &mut Over<S>,
-    drops: &Drops,
-) -> Result<(), Wrong> {
-    for (row, (call, expected, after)) in STEPS.iter().enumerate() {
-        let told = is_done(arena, drops, *call);
-        is_as_expected(row, (told, drops.get()), (*expected, *after))?;
-    }
-    Ok(())
-}
-
-// Makes the calls on an arena over a stack, and drops it with its two values.
-fn each_drop<S: NonZeroInxGenericStack<Slot> + Drop>(
-    alloc: Global,
-    drops: &Drops,
-) -> Result<(), Wrong> {
-    drops.set(0);
-    let mut arena: Over<S> = DirectArena::with_min_capacity(alloc, 4)?;
-    follow(&mut arena, drops)?;
-    drop(arena);
-    at_end(STEPS.len(), drops, 15)
-}
-
-#[test]
-fn each_value_of_a_direct_arena_is_dropped_once(rt: HostRuntime) -> Result<(), Wrong> {
-    let drops = new_count(rt.alloc())?;
-    each_drop::<NonZeroInxVec<Slot>>(rt.alloc(), &drops)?;
-    each_drop::<NonZeroInxLimitedVec<Slot>>(rt.alloc(), &drops)?;
-    each_drop::<NonZeroInxBoxedSlice<Slot>>(rt.alloc(), &drops)?;
-    each_drop::<NonZeroInxArray<Slot, 4>>(rt.alloc(), &drops)
 }
 
 // A call on one of two arenas, or from the one to the other.
@@ -374,22 +311,6 @@ fn clones<A: ArenaCloneFromWith<P0, Counted> + CompactArenaTrait<P0, Counted> + 
     source.clone(alloc).is_ok()
 }
 
-// Makes a call of cloning.
-fn is_cloned<A: ArenaCloneFromWith<P0, Counted> + CompactArenaTrait<P0, Counted> + Drop>(
-    alloc: Global,
-    source: &A,
-    target: &mut A,
-    drops: &Drops,
-    call: OnTwo,
-) -> bool {
-    match call {
-        OnTwo::CloneFrom => clones_from(target, source),
-        OnTwo::CloneBut(refused) => clones_but(target, source, drops, refused),
-        OnTwo::CloneSource => clones(source, alloc),
-        _ => false,
-    }
-}
-
 // Whether the target has the values of the source, which are taken over.
 fn transfers<S: NonZeroInxGenericStack<Slot>, A: CompactArenaTrait<P0, Counted>>(
     target: &mut Over<S>,
@@ -404,6 +325,74 @@ fn transfers<S: NonZeroInxGenericStack<Slot>, A: CompactArenaTrait<P0, Counted>>
     done.is_ok()
 }
 
+// A call that clones into an arena from another.
+#[derive(Drop)]
+struct IntoTarget<'a> {
+    drops: &'a Drops,
+    call: OnTwo,
+}
+
+// Makes a call that clones into an arena.
+fn is_cloned<A: ArenaCloneFromWith<P0, Counted>, B: CompactArenaTrait<P0, Counted>>(
+    target: &mut A,
+    source: &B,
+    drops: &Drops,
+    call: OnTwo,
+) -> bool {
+    match call {
+        OnTwo::CloneFrom => clones_from(target, source),
+        OnTwo::CloneBut(refused) => clones_but(target, source, drops, refused),
+        _ => false,
+    }
+}
+
+impl<B: CompactArenaTrait<P0, Counted>> Asked<P0, Counted, B> for IntoTarget<'_> {
+    fn of<
+        A: ArenaDirectInsertTrait<P0, Counted>
+            + ArenaCloneFromWith<P0, Counted>
+            + CompactArenaTrait<P0, Counted>
+            + DisjointableArenaTrait<P0, Counted>
+            + Drop,
+    >(&self, target: &mut A, source: &mut B) -> Told {
+        Told::Is(is_cloned(target, source, self.drops, self.call))
+    }
+}
+
+// A call that copies an arena.
+#[derive(Drop)]
+struct FromSource<'a> {
+    alloc: Global,
+    drops: &'a Drops,
+    call: OnTwo,
+}
+
+// Makes a call that copies an arena.
+fn is_copied<
+    S: NonZeroInxGenericStack<Slot> + Drop,
+    A: ArenaCloneFromWith<P0, Counted> + CompactArenaTrait<P0, Counted> + Drop,
+>(source: &mut A, target: &mut Over<S>, from: &FromSource<'_>) -> bool {
+    match from.call {
+        OnTwo::CloneSource => clones(source, from.alloc),
+        OnTwo::Transfer => transfers(target, source),
+        call => {
+            let drops = from.drops;
+            was_done(ask(target, source, &IntoTarget { drops, call }))
+        }
+    }
+}
+
+impl<S: NonZeroInxGenericStack<Slot> + Drop> Asked<P0, Counted, Over<S>> for FromSource<'_> {
+    fn of<
+        A: ArenaDirectInsertTrait<P0, Counted>
+            + ArenaCloneFromWith<P0, Counted>
+            + CompactArenaTrait<P0, Counted>
+            + DisjointableArenaTrait<P0, Counted>
+            + Drop,
+    >(&self, source: &mut A, target: &mut Over<S>) -> Told {
+        Told::Is(is_copied(source, target, self))
+    }
+}
+
 // Makes a call on two arenas.
 fn are_done<S: NonZeroInxGenericStack<Slot> + Drop>(
     alloc: Global,
@@ -415,8 +404,7 @@ fn are_done<S: NonZeroInxGenericStack<Slot> + Drop>(
     match call {
         OnTwo::Source(call) => is_done(source, drops, call),
         OnTwo::Target(call) => is_done(target, drops, call),
-        OnTwo::Transfer => transfers(target, source),
-        _ => is_cloned(alloc, source, target, drops, call),
+        _ => was_done(ask(source, target, &FromSource { alloc, drops, call })),
     }
 }
 
@@ -430,6 +418,56 @@ struct Copies<'s> {
     // How many drops there were once both arenas are dropped.
     at_end: u64,
 }
+
+// The calls of one arena, whose two values are dropped with it. An insertion is refused before it takes
+// the value, which its caller then drops.
+const EACH_DROP: Copies<'static> = Copies {
+    rooms: (4, 0),
+    steps: &[
+        // an index above the capacity, and one that is taken
+        (OnTwo::Source(Call::Insert(5, 2)), false, 1),
+        (OnTwo::Source(Call::Insert(4, 3)), true, 1),
+        (OnTwo::Source(Call::Insert(4, 9)), false, 2),
+        (OnTwo::Source(Call::InsertReserved(1, 2)), true, 2),
+        // an entry that is let go, and a value that is written over through its entry
+        (OnTwo::Source(Call::LetGo(2, 7)), true, 2),
+        (OnTwo::Source(Call::InsertAndWrite(2, 7)), true, 3),
+        // a value that is written over
+        (OnTwo::Source(Call::Write(1, 2)), true, 4),
+        (OnTwo::Source(Call::Renew(4, 3)), true, 4),
+        // an invalid pointer, and an index without an entry
+        (OnTwo::Source(Call::Write(1, 3)), false, 4),
+        (OnTwo::Source(Call::Renew(4, 2)), false, 4),
+        (OnTwo::Source(Call::Remove(4, 2)), false, 4),
+        (OnTwo::Source(Call::RemoveInx(3)), false, 4),
+        // a value that is removed, and one by index
+        (OnTwo::Source(Call::Remove(2, 7)), true, 5),
+        (OnTwo::Source(Call::RemoveInx(4)), true, 6),
+        // free slots, and a value that may move
+        (OnTwo::Source(Call::PopFreeEnd(1)), true, 6),
+        (OnTwo::Source(Call::Reallocate(2)), true, 6),
+        (OnTwo::Source(Call::Reallocate(4)), true, 6),
+        // the values that are cleared
+        (OnTwo::Source(Call::Insert(3, 2)), true, 6),
+        (OnTwo::Source(Call::Clear), true, 8),
+        (OnTwo::Source(Call::Clear), true, 8),
+        // a drain that takes out one value of three, of one and of none, and one that takes out none
+        (OnTwo::Source(Call::Insert(4, 2)), true, 8),
+        (OnTwo::Source(Call::Insert(2, 2)), true, 8),
+        (OnTwo::Source(Call::Insert(1, 2)), true, 8),
+        (OnTwo::Source(Call::Drain(1)), true, 11),
+        (OnTwo::Source(Call::Insert(3, 2)), true, 11),
+        (OnTwo::Source(Call::Drain(1)), true, 12),
+        (OnTwo::Source(Call::Drain(1)), false, 12),
+        (OnTwo::Source(Call::Insert(4, 9)), true, 12),
+        (OnTwo::Source(Call::Drain(0)), true, 13),
+        // the values of an arena that is dropped
+        (OnTwo::Source(Call::Insert(3, 2)), true, 13),
+        (OnTwo::Source(Call::InsertReserved(1, 2)), true, 13),
+        (OnTwo::Source(Call::LetGo(4, 2)), true, 13),
+    ],
+    at_end: 15,
+};
 
 // A copy drops what the target held, and no value of the source.
 const EACH_COPY: Copies<'static> = Copies {
@@ -501,6 +539,17 @@ fn follow_copies<S: NonZeroInxGenericStack<Slot> + Drop>(
     Ok(())
 }
 
+// An arena with so many places.
+fn with_places<S: NonZeroInxGenericStack<Slot>>(
+    alloc: Global,
+    places: usize,
+) -> Result<Over<S>, Wrong> {
+    match DirectArena::with_min_capacity(alloc, places) {
+        Ok(arena) => Ok(arena),
+        Err(_refused) => Err(Wrong::NoMemory),
+    }
+}
+
 // The same on two new arenas over a stack, to the drop of both.
 fn copies_on<S: NonZeroInxGenericStack<Slot> + Drop>(
     alloc: Global,
@@ -508,37 +557,59 @@ fn copies_on<S: NonZeroInxGenericStack<Slot> + Drop>(
     table: &Copies<'_>,
 ) -> Result<(), Wrong> {
     drops.set(0);
-    let mut source: Over<S> = DirectArena::with_min_capacity(alloc, table.rooms.0)?;
-    let mut target: Over<S> = DirectArena::with_min_capacity(alloc, table.rooms.1)?;
+    let mut source: Over<S> = with_places(alloc, table.rooms.0)?;
+    let mut target: Over<S> = with_places(alloc, table.rooms.1)?;
     follow_copies(alloc, &mut source, &mut target, drops, table.steps)?;
     drop(source);
     drop(target);
     at_end(table.steps.len(), drops, table.at_end)
 }
 
-// Each copy over a stack that has places for a clone when it is new, or grows.
-fn copies_and_clones<S: NonZeroInxGenericStack<Slot> + Drop>(
-    alloc: Global,
-    drops: &Drops,
-) -> Result<(), Wrong> {
-    copies_on::<S>(alloc, drops, &EACH_COPY)?;
-    copies_on::<S>(alloc, drops, &EACH_CLONE)
+// A stack of a direct arena.
+#[derive(Clone, Copy)]
+enum Stack {
+    Heap,
+    Limited,
+    Fixed,
+    // An array of four places.
+    Array,
 }
 
-// Each copy over a stack that has no way to grow.
-fn copies_and_refusals<S: NonZeroInxGenericStack<Slot> + Drop>(
+// The same over this stack.
+fn copies_over(
     alloc: Global,
     drops: &Drops,
+    stack: Stack,
+    table: &Copies<'_>,
 ) -> Result<(), Wrong> {
-    copies_on::<S>(alloc, drops, &EACH_COPY)?;
-    copies_on::<S>(alloc, drops, &EACH_REFUSED_COPY)
+    match stack {
+        Stack::Heap => copies_on::<NonZeroInxVec<Slot>>(alloc, drops, table),
+        Stack::Limited => copies_on::<NonZeroInxLimitedVec<Slot>>(alloc, drops, table),
+        Stack::Fixed => copies_on::<NonZeroInxBoxedSlice<Slot>>(alloc, drops, table),
+        Stack::Array => copies_on::<NonZeroInxArray<Slot, 4>>(alloc, drops, table),
+    }
 }
 
 #[test]
+fn each_value_of_a_direct_arena_is_dropped_once(rt: HostRuntime) -> Result<(), Wrong> {
+    let drops = new_count(rt.alloc())?;
+    for stack in [Stack::Heap, Stack::Limited, Stack::Fixed, Stack::Array] {
+        copies_over(rt.alloc(), &drops, stack, &EACH_DROP)?;
+    }
+    Ok(())
+}
+
+// Each copy has places for a clone over a stack that has them when it is new, or grows.
+#[test]
 fn each_value_that_is_copied_or_replaced_is_dropped_once(rt: HostRuntime) -> Result<(), Wrong> {
     let drops = new_count(rt.alloc())?;
-    copies_and_clones::<NonZeroInxVec<Slot>>(rt.alloc(), &drops)?;
-    copies_and_clones::<NonZeroInxArray<Slot, 4>>(rt.alloc(), &drops)?;
-    copies_and_refusals::<NonZeroInxLimitedVec<Slot>>(rt.alloc(), &drops)?;
-    copies_and_refusals::<NonZeroInxBoxedSlice<Slot>>(rt.alloc(), &drops)
+    for stack in [Stack::Heap, Stack::Array] {
+        copies_over(rt.alloc(), &drops, stack, &EACH_COPY)?;
+        copies_over(rt.alloc(), &drops, stack, &EACH_CLONE)?;
+    }
+    for stack in [Stack::Limited, Stack::Fixed] {
+        copies_over(rt.alloc(), &drops, stack, &EACH_COPY)?;
+        copies_over(rt.alloc(), &drops, stack, &EACH_REFUSED_COPY)?;
+    }
+    Ok(())
 }

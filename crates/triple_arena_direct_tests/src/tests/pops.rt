@@ -1,9 +1,8 @@
 //! Free slots at the end, and the limit.
 
-use super::tested_direct::{Limited, on_heap, on_limited};
+use super::arenas::{Over, Part, on};
 use triple_arena_base::ReallocationError;
-use triple_arena_ptr::P0;
-use triple_arena_test_kit::{Call, NO_ENTRY, Narrow, Steps, Told, Wrong};
+use triple_arena_test_kit::{Call, NO_ENTRY, Told, Wrong};
 
 const NO_MEMORY: Told = Told::Refused(ReallocationError::AllocError);
 
@@ -11,7 +10,7 @@ const BEYOND: Told = Told::Refused(ReallocationError::BeyondMaxCapacity);
 
 #[test]
 fn so_many_free_slots_are_popped(rt: HostRuntime) -> Result<(), Wrong> {
-    let steps = Steps(&[
+    let steps = Part::Steps(&[
         (Call::DirectInsert(3, 9, 1), Told::Holds(1)),
         (Call::Remove(3, 9), Told::Holds(1)),
         (Call::Slots, Told::Size(3)),
@@ -20,13 +19,13 @@ fn so_many_free_slots_are_popped(rt: HostRuntime) -> Result<(), Wrong> {
         (Call::PopFreeEnd(2), Told::Size(1)),
         (Call::PopFreeEnd(2), Told::Size(0)),
     ]);
-    on_heap::<P0, _>(rt.alloc(), 4, &steps)
+    on(rt.alloc(), Over::Heap, 4, &[steps])
 }
 
 // An entry at 1, free slots up to 3, and room for 4.
 #[test]
 fn a_reallocation_pops_the_slots_past_it(rt: HostRuntime) -> Result<(), Wrong> {
-    let steps = Steps(&[
+    let steps = Part::Steps(&[
         (Call::DirectInsert(3, 9, 3), Told::Holds(3)),
         (Call::DirectInsert(1, 9, 1), Told::Holds(1)),
         (Call::RemoveInx(3), Told::Held(9, 3)),
@@ -41,12 +40,12 @@ fn a_reallocation_pops_the_slots_past_it(rt: HostRuntime) -> Result<(), Wrong> {
         (Call::Bounds, Told::Bounds(1, 1, None)),
         (Call::Get(1, 9), Told::Holds(1)),
     ]);
-    on_heap::<Narrow, _>(rt.alloc(), 4, &steps)
+    on(rt.alloc(), Over::HeapOfNarrow, 4, &[steps])
 }
 
 #[test]
 fn a_limit_pops_the_slots_past_it_also_where_it_is_refused(rt: HostRuntime) -> Result<(), Wrong> {
-    let steps = Steps(&[
+    let steps = Part::Steps(&[
         (Call::DirectInsert(5, 2, 5), Told::Holds(5)),
         (Call::DirectInsert(3, 2, 3), Told::Holds(3)),
         (Call::RemoveInx(5), Told::Held(2, 5)),
@@ -65,5 +64,5 @@ fn a_limit_pops_the_slots_past_it_also_where_it_is_refused(rt: HostRuntime) -> R
         (Call::Slots, Told::Size(3)),
         (Call::Entries, Told::Met((3, 2, 3), NO_ENTRY, NO_ENTRY)),
     ]);
-    on_limited::<P0, Limited<P0>, _>(rt.alloc(), 6, &steps)
+    on(rt.alloc(), Over::Limited, 6, &[steps])
 }

@@ -1,77 +1,38 @@
 //! Memory that is refused, and the whole state after it.
 
-use super::clones::{Cloning, clone_into_direct, told_clone};
-use super::tested_direct::{
-    Direct, DirectWithLimit, Heap, Little, direct_after, on_limited, with_room,
-};
-use super::transfers::transfer;
+use super::arenas::{Heap, Over, Part, on};
+use super::copying::{Copying, clone_of};
+use super::on_two::{Goal, NO_MEMORY, OnTwo, Origin, on_two};
+use super::tested_direct::{Direct, with_room};
 use std::alloc::Global;
-use triple_arena::{ArenaCloneFromWith, CompactArenaTrait};
-use triple_arena_base::ReallocationError;
-use triple_arena_direct::{DirectArena, DirectSlot};
-use triple_arena_ptr::{P0, Ptr};
-use triple_arena_stack::{NonZeroInxGenericStack, SetMaxCapacity};
+use triple_arena_direct::DirectSlot;
+use triple_arena_ptr::P0;
+use triple_arena_stack::NonZeroInxGenericStack;
 use triple_arena_test_kit::{
-    Call, Steps, TestedArena, Token, Told, Trial, Wrong, follow, follow_unchanged, has_state,
-    is_told, where_there_is_memory,
+    Call, Steps, TestedArena, Token, Told, Trial, Wrong, has_state, is_told, where_there_is_memory,
 };
-
-const NO_MEMORY: Told = Told::Refused(ReallocationError::AllocError);
 
 // Memory for one more slot than there is is refused.
-#[derive(Drop)]
-struct PastTheMemory;
-
-impl Trial for PastTheMemory {
-    fn on<A: TestedArena>(&self, arena: &mut A) -> Result<(), Wrong> {
-        follow(
-            arena,
-            &[
-                (Call::SetLimit(usize::MAX), Told::Done),
-                (Call::DirectInsert(3, 2, 3), Told::Holds(3)),
-                (Call::DirectInsert(2, 2, 2), Told::Holds(2)),
-                (Call::RemoveInx(3), Told::Held(2, 3)),
-            ],
-        )?;
-        follow_unchanged(arena, &[(Call::Reallocate(5), NO_MEMORY)])
-    }
-}
-
 #[test]
 fn refused_memory_leaves_the_arena_as_it_was(rt: HostRuntime) -> Result<(), Wrong> {
-    on_limited::<P0, Little<P0, 4>, _>(rt.alloc(), 4, &PastTheMemory)
+    let filled = Part::Steps(&[
+        (Call::SetLimit(usize::MAX), Told::Done),
+        (Call::DirectInsert(3, 2, 3), Told::Holds(3)),
+        (Call::DirectInsert(2, 2, 2), Told::Holds(2)),
+        (Call::RemoveInx(3), Told::Held(2, 3)),
+    ]);
+    let refused = Part::Unchanged(&[(Call::Reallocate(5), NO_MEMORY)]);
+    on(rt.alloc(), Over::Little, 4, &[filled, refused])
 }
 
 // Whether memory is refused for five slots where there is memory for four.
 fn is_refused(alloc: Global) -> bool {
-    matches!(
-        with_room::<P0, Little<P0, 4>>(alloc, 5),
-        Err(Wrong::NoMemory)
-    )
+    matches!(on(alloc, Over::Little, 5, &[]), Err(Wrong::NoMemory))
 }
 
 #[test]
 fn an_arena_without_memory_is_not_made(rt: HostRuntime) {
     assert!(rt; is_refused(rt.alloc()));
-}
-
-// A call that copies from one arena to another.
-#[derive(Clone, Copy)]
-enum Copying {
-    Of(Cloning),
-    Transfer,
-}
-
-// What a copy into a direct arena tells.
-fn copy<S: NonZeroInxGenericStack<DirectSlot<P0, Token>>, B: CompactArenaTrait<P0, Token>>(
-    target: &mut DirectArena<P0, Token, S>,
-    source: &mut B,
-    call: Copying,
-) -> Told {
-    match call {
-        Copying::Of(call) => clone_into_direct(target, source, call),
-        Copying::Transfer => transfer(target, source, 7),
-    }
 }
 
 // Five entries, the last of which comes first.
@@ -91,72 +52,28 @@ const WITH_FREE_SLOTS: Steps = Steps(&[
     (Call::RemoveInx(4), Told::Held(9, 4)),
 ]);
 
-// A target with free slots.
-fn target<S: SetMaxCapacity<DirectSlot<P0, Token>> + Drop>(
-    alloc: Global,
-) -> Result<DirectWithLimit<P0, S>, Wrong> {
-    let direct: Direct<P0, S> = with_room(alloc, 4)?;
-    let mut target = DirectWithLimit { direct };
-    WITH_FREE_SLOTS.on(&mut target)?;
-    Ok(target)
-}
-
-// A copy that is refused leaves both arenas as they were.
-fn leaves_both<
-    S: SetMaxCapacity<DirectSlot<P0, Token>>,
-    R: NonZeroInxGenericStack<DirectSlot<P0, Token>>,
->(
-    target: &mut DirectWithLimit<P0, S>,
-    source: &mut Direct<P0, R>,
-    call: Copying,
-) -> Result<(), Wrong> {
-    let before = (target.state(), source.state());
-    let told = copy(&mut target.direct.arena, &mut source.arena, call);
-    is_told(0, told, NO_MEMORY)?;
-    has_state(target, 0, &before.0)?;
-    has_state(source, 1, &before.1)
-}
-
-// A direct arena that has memory for four slots, over the first stack, is the target of a copy from one
-// of five over the second.
-fn refuses_copies<
-    S: SetMaxCapacity<DirectSlot<P0, Token>> + Drop,
-    R: NonZeroInxGenericStack<DirectSlot<P0, Token>> + Drop,
->(alloc: Global) -> Result<(), Wrong> {
-    let mut source: Direct<P0, R> = direct_after(alloc, 5, &FIVE)?;
-    let mut target: DirectWithLimit<P0, S> = target(alloc)?;
-    for call in [
-        Copying::Of(Cloning::CloneFrom),
-        Copying::Of(Cloning::CloneBut(0)),
-        Copying::Transfer,
-    ] {
-        leaves_both(&mut target, &mut source, call)?;
-    }
-    Ok(())
-}
-
 #[test]
 fn a_copy_without_memory_leaves_both_arenas_as_they_were(rt: HostRuntime) -> Result<(), Wrong> {
-    refuses_copies::<Little<P0, 4>, Heap<P0>>(rt.alloc())
-}
-
-fn clone<P: Ptr, A: ArenaCloneFromWith<P, Token> + CompactArenaTrait<P, Token> + Drop>(
-    source: &A,
-    alloc: Global,
-) -> Told {
-    match source.clone(alloc) {
-        Ok(_clone) => Told::Done,
-        Err(refused) => told_clone(Err(refused)),
-    }
+    on_two(
+        rt.alloc(),
+        Origin::Direct(5, FIVE),
+        Goal::Little(WITH_FREE_SLOTS),
+        &[
+            (OnTwo::Refused(Copying::CloneFrom), NO_MEMORY),
+            (OnTwo::Refused(Copying::CloneBut(0)), NO_MEMORY),
+            (OnTwo::Refused(Copying::Transfer(7)), NO_MEMORY),
+        ],
+    )
 }
 
 // A clone is made, or refused where memory is; its original stays.
 fn clones_or_not<S: NonZeroInxGenericStack<DirectSlot<P0, Token>> + Drop>(
     alloc: Global,
 ) -> Result<(), Wrong> {
-    let source: Direct<P0, S> = direct_after(alloc, 5, &FIVE)?;
+    let mut source: Direct<P0, S> = with_room(alloc, 5)?;
+    FIVE.on(&mut source)?;
     let before = source.state();
-    let told = clone(&source.arena, alloc);
+    let told = clone_of(alloc, &mut source);
     if told != NO_MEMORY {
         is_told(0, told, Told::Done)?;
     }

@@ -7,8 +7,9 @@ use triple_arena::{
     Arena, ArenaDirectInsertEntryTrait, ArenaInsertTrait, ArenaSlot, ArenaTrait, CompactArenaTrait,
 };
 use triple_arena_base::{CompactError, InvalidationOption, ReallocationError, Recast, Recaster};
-use triple_arena_direct::{DirectArena, DirectSlot, compress_recast, compress_recaster};
-use triple_arena_ptr::Ptr;
+use triple_arena_direct::{DirectArena, DirectSlot};
+use triple_arena_ptr::{Ptr, PtrInx};
+use triple_arena_renaming::{compress_recast, compress_recaster};
 use triple_arena_stack::NonZeroInxGenericStack;
 use triple_arena_test_kit::{NO_POINTER, Numbered, Told, Wrong, index_number, inx, pointer};
 
@@ -154,6 +155,95 @@ where
     }
 }
 
+/// What any arena is asked that has the traits of both arenas.
+trait Asked<P: Ptr, T, R> {
+    /// What it answers.
+    fn of<A: CompactArenaTrait<P, T> + Recast<P> + Debug>(&self, arena: &mut A) -> R;
+}
+
+// What an arena answers: the one body that takes it as those traits, since each such body is slow to
+// prove.
+fn ask_arena<P: Ptr, S: NonZeroInxGenericStack<ArenaSlot<P, Node<P>>>, R, Q: Asked<P, Node<P>, R>>(
+    arena: &mut Arena<P, Node<P>, S>,
+    asked: &Q,
+) -> R {
+    asked.of(arena)
+}
+
+// The same of a direct arena.
+fn ask_direct<
+    P: Ptr,
+    S: NonZeroInxGenericStack<DirectSlot<P, Node<P>>>,
+    R,
+    Q: Asked<P, Node<P>, R>,
+>(arena: &mut DirectArena<P, Node<P>, S>, asked: &Q) -> R {
+    asked.of(arena)
+}
+
+// A compaction.
+#[derive(Drop)]
+struct Compacting {
+    alloc: Global,
+    call: Compaction,
+}
+
+impl<P: Ptr, T: Recast<P>> Asked<P, T, Answer> for Compacting
+where
+    P::Gen: Numbered,
+{
+    fn of<A: CompactArenaTrait<P, T> + Recast<P> + Debug>(&self, arena: &mut A) -> Answer {
+        answer(arena, self.alloc, self.call)
+    }
+}
+
+// Length, capacity and limit.
+type Bounds = (usize, usize, Option<usize>);
+
+// Tells length, capacity and limit.
+#[derive(Drop)]
+struct TellsBounds;
+
+fn bounds<P: Ptr, T, A: ArenaTrait<P, T>>(arena: &A) -> Bounds {
+    (arena.len(), arena.capacity(), arena.max_capacity())
+}
+
+impl<P: Ptr, T> Asked<P, T, Bounds> for TellsBounds {
+    fn of<A: CompactArenaTrait<P, T> + Recast<P> + Debug>(&self, arena: &mut A) -> Bounds {
+        bounds::<P, T, A>(arena)
+    }
+}
+
+// Tells the text of an arena.
+#[derive(Drop)]
+struct TellsText {
+    alloc: Global,
+}
+
+impl<P: Ptr, T> Asked<P, T, Result<String, AllocError>> for TellsText {
+    fn of<A: CompactArenaTrait<P, T> + Recast<P> + Debug>(
+        &self,
+        arena: &mut A,
+    ) -> Result<String, AllocError> {
+        text_of(self.alloc, arena)
+    }
+}
+
+// Removes the entry at an index.
+#[derive(Drop)]
+struct Removes {
+    index: usize,
+}
+
+fn remove_at<P: Ptr, T: Drop, A: ArenaTrait<P, T>>(arena: &mut A, index: usize) {
+    drop(arena.remove_inx(inx(index)));
+}
+
+impl<P: Ptr, T: Drop> Asked<P, T, ()> for Removes {
+    fn of<A: CompactArenaTrait<P, T> + Recast<P> + Debug>(&self, arena: &mut A) {
+        remove_at::<P, T, A>(arena, self.index)
+    }
+}
+
 // How many slots of an arena of nodes are shown.
 const PLACES: usize = 4;
 
@@ -221,10 +311,44 @@ pub trait Compacted {
     fn compacted(&mut self, alloc: Global, call: Compaction) -> Answer;
 
     /// The whole state.
-    fn state(&self) -> NodeState;
+    fn state(&mut self) -> NodeState;
 
     /// The text of the arena.
-    fn text(&self, alloc: Global) -> Result<String, AllocError>;
+    fn text(&mut self, alloc: Global) -> Result<String, AllocError>;
+}
+
+// What stands in the first slots of an arena.
+fn arena_places<P: Ptr>(slots: &[ArenaSlot<P, Node<P>>]) -> [Place; PLACES]
+where
+    P::Gen: Numbered,
+{
+    [
+        arena_place(slots, 0),
+        arena_place(slots, 1),
+        arena_place(slots, 2),
+        arena_place(slots, 3),
+    ]
+}
+
+// What stands in the first slots of a direct arena.
+fn direct_places<P: Ptr>(slots: &[DirectSlot<P, Node<P>>]) -> [Place; PLACES]
+where
+    P::Gen: Numbered,
+{
+    [
+        direct_place(slots, 0),
+        direct_place(slots, 1),
+        direct_place(slots, 2),
+        direct_place(slots, 3),
+    ]
+}
+
+// The number of an index, and 0 where there is none.
+fn number_or_0<I: PtrInx>(inx: Option<I>) -> usize {
+    match inx {
+        Some(inx) => index_number(inx),
+        None => 0,
+    }
 }
 
 impl<P: Ptr, S: NonZeroInxGenericStack<ArenaSlot<P, Node<P>>>> Compacted for Arena<P, Node<P>, S>
@@ -232,32 +356,25 @@ where
     P::Gen: Numbered,
 {
     fn compacted(&mut self, alloc: Global, call: Compaction) -> Answer {
-        answer::<P, Node<P>, Arena<P, Node<P>, S>>(self, alloc, call)
+        ask_arena(self, &Compacting { alloc, call })
     }
 
-    fn state(&self) -> NodeState {
+    fn state(&mut self) -> NodeState {
+        let (len, capacity, limit) = ask_arena(self, &TellsBounds);
         let slots = self.backing().as_slice();
         NodeState {
-            len: self.len(),
-            capacity: self.capacity(),
-            limit: self.max_capacity(),
+            len,
+            capacity,
+            limit,
             counter: self.generation().told_number(),
-            root: match self.freelist_root() {
-                Some(inx) => index_number(inx),
-                None => 0,
-            },
+            root: number_or_0(self.freelist_root()),
             slots: slots.len(),
-            places: [
-                arena_place(slots, 0),
-                arena_place(slots, 1),
-                arena_place(slots, 2),
-                arena_place(slots, 3),
-            ],
+            places: arena_places(slots),
         }
     }
 
-    fn text(&self, alloc: Global) -> Result<String, AllocError> {
-        text_of(alloc, self)
+    fn text(&mut self, alloc: Global) -> Result<String, AllocError> {
+        ask_arena(self, &TellsText { alloc })
     }
 }
 
@@ -267,36 +384,26 @@ where
     P::Gen: Numbered,
 {
     fn compacted(&mut self, alloc: Global, call: Compaction) -> Answer {
-        answer::<P, Node<P>, DirectArena<P, Node<P>, S>>(self, alloc, call)
+        ask_direct(self, &Compacting { alloc, call })
     }
 
-    fn state(&self) -> NodeState {
+    fn state(&mut self) -> NodeState {
+        let (len, capacity, limit) = ask_direct(self, &TellsBounds);
         let slots = self.backing().as_slice();
         NodeState {
-            len: self.len(),
-            capacity: self.capacity(),
-            limit: self.max_capacity(),
+            len,
+            capacity,
+            limit,
             counter: 0,
             root: 0,
             slots: slots.len(),
-            places: [
-                direct_place(slots, 0),
-                direct_place(slots, 1),
-                direct_place(slots, 2),
-                direct_place(slots, 3),
-            ],
+            places: direct_places(slots),
         }
     }
 
-    fn text(&self, alloc: Global) -> Result<String, AllocError> {
-        text_of(alloc, self)
+    fn text(&mut self, alloc: Global) -> Result<String, AllocError> {
+        ask_direct(self, &TellsText { alloc })
     }
-}
-
-/// What is tried on an arena of nodes.
-pub trait NodeTrial {
-    /// Tries it, and tells the first thing that is wrong.
-    fn on<A: Compacted>(&self, alloc: Global, arena: &mut A) -> Result<(), Wrong>;
 }
 
 // Puts a node into an arena.
@@ -331,13 +438,12 @@ where
     }
 }
 
-/// Tries it on a new arena of these nodes, of which those at these indexes are removed then.
-pub fn on_nodes<P: Ptr, S: NonZeroInxGenericStack<ArenaSlot<P, Node<P>>> + Drop, T: NodeTrial>(
+/// A new arena of these nodes, of which those at these indexes are removed then.
+pub fn arena_of<P: Ptr, S: NonZeroInxGenericStack<ArenaSlot<P, Node<P>>> + Drop>(
     alloc: Global,
     nodes: &[Named],
     gone: &[usize],
-    trial: &T,
-) -> Result<(), Wrong>
+) -> Result<Arena<P, Node<P>, S>, Wrong>
 where
     P::Gen: Numbered,
 {
@@ -346,37 +452,35 @@ where
         put_node(&mut arena, *named)?;
     }
     for index in gone {
-        drop(arena.remove(pointer(*index, 2)));
+        ask_arena(&mut arena, &Removes { index: *index });
     }
-    trial.on(alloc, &mut arena)
+    Ok(arena)
 }
 
-/// The same on one whose only node, after so many that came and went, has a link to itself under this
+/// The same whose only node, after so many that came and went, has a link to itself under this
 /// generation.
-pub fn on_last_node<P: Ptr, S: NonZeroInxGenericStack<ArenaSlot<P, Node<P>>> + Drop, T: NodeTrial>(
+pub fn arena_of_last<P: Ptr, S: NonZeroInxGenericStack<ArenaSlot<P, Node<P>>> + Drop>(
     alloc: Global,
     times: u64,
     generation: u64,
-    trial: &T,
-) -> Result<(), Wrong>
+) -> Result<Arena<P, Node<P>, S>, Wrong>
 where
     P::Gen: Numbered,
 {
     let mut arena: Arena<P, Node<P>, S> = Arena::new(alloc);
     for time in 0..times {
         put_node(&mut arena, (time, NO_POINTER))?;
-        drop(arena.remove_inx(inx(1)));
+        ask_arena(&mut arena, &Removes { index: 1 });
     }
     put_node(&mut arena, (times, (1, generation)))?;
-    trial.on(alloc, &mut arena)
+    Ok(arena)
 }
 
-/// The same on a direct arena of capacity 4, of nodes under these pointers.
-pub fn on_direct_nodes<
-    P: Ptr,
-    S: NonZeroInxGenericStack<DirectSlot<P, Node<P>>> + Drop,
-    T: NodeTrial,
->(alloc: Global, nodes: &[((usize, u64), Named)], trial: &T) -> Result<(), Wrong>
+/// A direct arena of capacity 4, of nodes under these pointers.
+pub fn direct_arena_of<P: Ptr, S: NonZeroInxGenericStack<DirectSlot<P, Node<P>>> + Drop>(
+    alloc: Global,
+    nodes: &[((usize, u64), Named)],
+) -> Result<DirectArena<P, Node<P>, S>, Wrong>
 where
     P::Gen: Numbered,
 {
@@ -389,5 +493,5 @@ where
     for (at, named) in nodes {
         put_node_under(&mut arena, *at, *named)?;
     }
-    trial.on(alloc, &mut arena)
+    Ok(arena)
 }

@@ -279,10 +279,12 @@ fn a_run_gives_one_reply_for_each_command(rt: HostRuntime) {
     runs_to(&rt, rt.alloc(), &[], &[], 0);
 }
 
-// The command at a position of insertions that are each before the removal of their name.
+// The command at a position of 254 insertions, each before the removal of its name, and a last one.
 fn command_at(position: usize) -> Command<u64> {
-    if position % 2 == 0 {
-        Command::Insert(5, None)
+    if position == 508 {
+        Command::Len
+    } else if position % 2 == 0 {
+        Command::Insert(1, None)
     } else {
         Command::Remove(position / 2 + 1)
     }
@@ -293,7 +295,7 @@ fn reply_at(position: usize) -> Reply<u64> {
     if position % 2 == 0 {
         Reply::Given(position / 2 + 1, false)
     } else {
-        Reply::Removed(5, None, position == 507)
+        Reply::Removed(1, None, position == 507)
     }
 }
 
@@ -311,7 +313,7 @@ fn ends_at_the_wrap(rt: &impl Abort, told: Option<Vec<Reply<u64>>>) {
 /// The byte counter begins at 2, so the 254th removal wraps it, and what follows isn't run.
 #[test]
 fn a_run_ends_at_a_wrap(rt: HostRuntime) {
-    let commands: [Command<u64>; 510] = array::from_fn(command_at);
+    let commands: [Command<u64>; 509] = array::from_fn(command_at);
     let mut session: Session<B, u64> = Session::new(rt.alloc());
     ends_at_the_wrap(&rt, run_of(&mut session, &commands));
     follow(&rt, &mut session, &[(Command::Get(255), Reply::Nothing)]);

@@ -30,6 +30,9 @@ impl<T> EntryUse<T> for LetGo {
         requires { HasPlace (K.room (entry_stack entry)) (K.limit (entry_stack entry))
             (length (K.items (entry_stack entry))) }
     {
+        if !entry.has_place() {
+            return Told::Nothing;
+        }
         Told::At(entry.inx().get())
     }
 }

@@ -1,25 +1,29 @@
+use super::insertions::inserted;
 use std::alloc::Global;
 use std::num::NonZeroU32;
 use std::process::Abort;
 use std::test::Fail;
-use triple_arena::{Arena, ArenaInsertTrait};
+use triple_arena::{Arena, ArenaSlot, ArenaTrait};
 use triple_arena_ptr::{Ptr, PtrGen};
 use triple_arena_ptr_stack_uses::small_ptr::SmallPtr;
+use triple_arena_stack::{NonZeroInxGenericStack, NonZeroInxVec};
+
+type Slot = ArenaSlot<SmallPtr, u64>;
 
 // An insertion's pointer, with what is found under it and under the invalid pointer.
-fn found<P: Ptr, A: ArenaInsertTrait<P, u64> + Drop>(
+fn found<S: NonZeroInxGenericStack<Slot> + Drop>(
     alloc: Global,
-) -> Option<(P, [Option<u64>; 2])> {
-    let mut arena = A::new(alloc);
-    let p = arena.insert(7).ok()?;
-    Some((p, [arena.get(p).copied(), arena.get(P::invalid()).copied()]))
+) -> Option<(SmallPtr, [Option<u64>; 2])> {
+    let mut arena: Arena<SmallPtr, u64, S> = Arena::new(alloc);
+    let (first, found, _entries) = inserted(&mut arena)?;
+    Some((first, found))
 }
 
 #[test]
 fn names_an_entry(rt: HostRuntime) {
     let first = SmallPtr::_from_raw(NonZeroU32::MIN, PtrGen::two());
     let wanted = Some((first, [Some(7), None]));
-    assert_eq!(rt; found::<SmallPtr, Arena<SmallPtr, u64>>(rt.alloc()), wanted);
+    assert_eq!(rt; found::<NonZeroInxVec<Slot>>(rt.alloc()), wanted);
 }
 
 #[test]

@@ -1,15 +1,16 @@
 //! Walks over arenas: advancers, iterators and drains.
 
+use super::asking::ask_new;
 use super::removals::after_removals;
 use std::alloc::Global;
 use std::num::NonZeroU128;
-use triple_arena::{Arena, ArenaSlot, CompactArenaTrait};
+use triple_arena::{Arena, ArenaInsertTrait, ArenaSlot, CompactArenaTrait, DisjointableArenaTrait};
 use triple_arena_ptr::{P0, Ptr, Q2};
 use triple_arena_stack::NonZeroInxGenericStack;
 use triple_arena_test_kit::{
-    B, Call, Heap, NO_ENTRY, NO_POINTER, NO_VALUE, NOT_DRAINED, Numbered, Removed, Steps,
-    TestedArena, Token, Told, Trial, Wide, Wrong, follow, from_empty, inx, is_told, new_arena,
-    next_steps, on_heap, step,
+    Asked, B, Call, Heap, NO_ENTRY, NO_POINTER, NO_VALUE, NOT_DRAINED, Numbered, Removed, Steps,
+    TestedArena, Token, Told, Trial, Wide, Wrong, answer_by_traits, from_empty, inx, is_told,
+    new_arena, next_steps, on_heap, step,
 };
 
 const ONE: (usize, u64) = (1, 2);
@@ -78,82 +79,112 @@ fn an_arena_without_entries_has_nothing_to_walk(rt: HostRuntime) -> Result<(), W
     )
 }
 
-// An advancer, while the arena gets entries where it was and where it will be.
-fn goes_on<P: Ptr, A: CompactArenaTrait<P, Token> + TestedArena>(arena: &mut A) -> Result<(), Wrong>
+// Makes each call by the traits, and expects its answer.
+fn follow_by_traits<
+    P: Ptr,
+    A: ArenaInsertTrait<P, Token> + CompactArenaTrait<P, Token> + DisjointableArenaTrait<P, Token>,
+>(arena: &mut A, steps: &[(Call, Told)]) -> Result<(), Wrong>
 where
     P::Gen: Numbered,
 {
-    let (entries, removed) = (5, &[2, 4]);
-    Removed { entries, removed }.on(arena)?;
+    for (row, (call, expected)) in steps.iter().enumerate() {
+        is_told(row, answer_by_traits(arena, *call), *expected)?;
+    }
+    Ok(())
+}
+
+// Five entries, of which the second goes and the fourth.
+const WITH_GAPS: &[(Call, Told)] = &[
+    (Call::Insert(1), Told::At(1, 2)),
+    (Call::Insert(2), Told::At(2, 2)),
+    (Call::Insert(3), Told::At(3, 2)),
+    (Call::Insert(4), Told::At(4, 2)),
+    (Call::Insert(5), Told::At(5, 2)),
+    (Call::RemoveInx(2), Told::Held(2, 2)),
+    (Call::RemoveInx(4), Told::Held(2, 4)),
+];
+
+// Entries where an advancer was that stands at the fifth, and where it will be.
+const MORE_ENTRIES: &[(Call, Told)] = &[
+    (Call::Insert(6), Told::At(4, 4)),
+    (Call::Insert(7), Told::At(2, 4)),
+    (Call::Insert(8), Told::At(6, 4)),
+    (Call::Insert(9), Told::At(7, 4)),
+];
+
+// An advancer, while the arena gets entries.
+fn goes_on<
+    P: Ptr,
+    A: ArenaInsertTrait<P, Token> + CompactArenaTrait<P, Token> + DisjointableArenaTrait<P, Token>,
+>(arena: &mut A) -> Result<(), Wrong>
+where
+    P::Gen: Numbered,
+{
+    follow_by_traits(arena, WITH_GAPS)?;
     let mut advancer = arena.advancer_inx(inx(2), false);
     let steps = next_steps(arena, &mut advancer);
     is_told(0, steps, Told::MetPointers(THREE, FIVE, NO_POINTER))?;
-    follow(
-        arena,
-        &[
-            (Call::Insert(6), Told::At(4, 4)),
-            (Call::Insert(7), Told::At(2, 4)),
-            (Call::Insert(8), Told::At(6, 4)),
-            (Call::Insert(9), Told::At(7, 4)),
-        ],
-    )?;
+    follow_by_traits(arena, MORE_ENTRIES)?;
     let steps = next_steps(arena, &mut advancer);
     is_told(1, steps, Told::MetPointers((7, 4), NO_POINTER, NO_POINTER))
 }
 
+// An advancer that goes on.
+struct GoesOn;
+
+impl Asked<P0, Result<(), Wrong>> for GoesOn {
+    fn of<
+        A: ArenaInsertTrait<P0, Token>
+            + CompactArenaTrait<P0, Token>
+            + DisjointableArenaTrait<P0, Token>,
+    >(self, arena: &mut A) -> Result<(), Wrong> {
+        let GoesOn = self;
+        goes_on(arena)
+    }
+}
+
 // The steps from an index past any slot, in an arena of one entry.
-fn from_past_any_slot<P: Ptr, A: CompactArenaTrait<P, Token> + TestedArena>(
-    arena: &mut A,
-    past: P::Inx,
-) -> Result<(), Wrong>
+fn from_past_any_slot<
+    P: Ptr,
+    A: ArenaInsertTrait<P, Token> + CompactArenaTrait<P, Token> + DisjointableArenaTrait<P, Token>,
+>(arena: &mut A, past: P::Inx) -> Result<(), Wrong>
 where
     P::Gen: Numbered,
 {
-    follow(arena, &[(Call::Insert(1), Told::At(1, 2))])?;
+    is_told(0, answer_by_traits(arena, Call::Insert(1)), Told::At(1, 2))?;
     let down = next_steps(arena, &mut arena.advancer_inx(past, true));
     is_told(0, down, Told::MetPointers(ONE, NO_POINTER, NO_POINTER))?;
     let up = next_steps(arena, &mut arena.advancer_inx(past, false));
     is_told(1, up, NO_POINTERS)
 }
 
-// The steps from past any slot, where an index is given that is there, or else an advancer that goes
-// on.
-fn walks<P: Ptr, A: CompactArenaTrait<P, Token> + TestedArena>(
-    arena: &mut A,
-    past: Option<P::Inx>,
-) -> Result<(), Wrong>
-where
-    P::Gen: Numbered,
-{
-    match past {
-        Some(past) => from_past_any_slot(arena, past),
-        None => goes_on(arena),
-    }
+// The steps from this index.
+struct FromPastAnySlot {
+    past: NonZeroU128,
 }
 
-// The same on a new arena: the one body that takes an `Arena` as those traits, since each such body is
-// slow to prove.
-fn walks_on<P: Ptr, S: NonZeroInxGenericStack<ArenaSlot<P, Token>> + Drop>(
-    alloc: Global,
-    past: Option<P::Inx>,
-) -> Result<(), Wrong>
-where
-    P::Gen: Numbered,
-{
-    let mut arena: Arena<P, Token, S> = new_arena(alloc);
-    walks(&mut arena, past)
+impl Asked<Wide, Result<(), Wrong>> for FromPastAnySlot {
+    fn of<
+        A: ArenaInsertTrait<Wide, Token>
+            + CompactArenaTrait<Wide, Token>
+            + DisjointableArenaTrait<Wide, Token>,
+    >(self, arena: &mut A) -> Result<(), Wrong> {
+        let FromPastAnySlot { past } = self;
+        from_past_any_slot(arena, past)
+    }
 }
 
 #[test]
 fn a_forward_advancer_goes_on_while_the_arena_changes(rt: HostRuntime) -> Result<(), Wrong> {
-    walks_on::<P0, Heap<P0>>(rt.alloc(), None)
+    ask_new::<P0, Heap<P0>, _>(rt.alloc(), GoesOn)
 }
 
 #[test]
 fn indexes_past_any_slot(rt: HostRuntime) -> Result<(), Wrong> {
-    let past = NonZeroU128::new(1 << 64);
-    assert!(rt; past.is_some());
-    walks_on::<Wide, Heap<Wide>>(rt.alloc(), past)
+    match NonZeroU128::new(1 << 64) {
+        Some(past) => ask_new::<Wide, Heap<Wide>, _>(rt.alloc(), FromPastAnySlot { past }),
+        None => Err(Wrong::Text("no such index")),
+    }
 }
 
 #[test]

@@ -5,12 +5,15 @@ ghost use Rattle.triple_arena_traits.specs.Entries.{look_up_in};
 
 use std::alloc::Global;
 use std::mem;
-use triple_arena::{Arena, ArenaInsertTrait, ArenaSlot, ArenaTrait};
+use triple_arena::{
+    Arena, ArenaInsertTrait, ArenaSlot, ArenaTrait, CompactArenaTrait, DisjointableArenaTrait,
+};
 use triple_arena_base::{InvalidationResult, ReallocationError};
 use triple_arena_ptr::{P0, Ptr, PtrGen, PtrInx};
 use triple_arena_stack::NonZeroInxGenericStack;
 use triple_arena_test_kit::{
-    Call, Heap, Limited, TestedArena, Token, Told, Wrong, is_told, pointer, step, with_room,
+    Asked, Call, Heap, Limited, Token, Told, Wrong, answer_to_read, ask, is_told, pointer,
+    with_room,
 };
 
 // Puts another value under a pointer, and gives the one that stood there.
@@ -74,7 +77,7 @@ fn take_number<A: ArenaTrait<P0, Token>>(arena: &mut A, p: P0) -> Option<u64> {
 }
 
 // The callers on an arena without entries.
-fn callers<A: ArenaInsertTrait<P0, Token> + TestedArena>(arena: &mut A) -> Result<(), Wrong> {
+fn callers<A: ArenaInsertTrait<P0, Token>>(arena: &mut A) -> Result<(), Wrong> {
     let p = pointer(1, 2);
     let all = put_number(arena, 10) == Some(p)
         && put_number(arena, 20) == Some(pointer(2, 2))
@@ -82,7 +85,7 @@ fn callers<A: ArenaInsertTrait<P0, Token> + TestedArena>(arena: &mut A) -> Resul
         && take_number(arena, p) == Some(11)
         && exchange_number(arena, p, 12) == Err(12);
     is_told(0, Told::Is(all), Told::Is(true))?;
-    step(arena, Call::Get(2, 2), Told::Holds(20))
+    is_told(1, answer_to_read(arena, Call::Get(2, 2)), Told::Holds(20))
 }
 
 // Makes place for one more entry, and inserts there.
@@ -111,23 +114,24 @@ fn is_placed<A: ArenaInsertTrait<P0, Token>>(
 }
 
 // A place for each of many insertions.
-fn a_place_each<A: ArenaInsertTrait<P0, Token> + TestedArena>(arena: &mut A) -> Result<(), Wrong> {
+fn a_place_each<A: ArenaInsertTrait<P0, Token>>(arena: &mut A) -> Result<(), Wrong> {
     for index in 1..100 {
         let placed = is_placed(arena, 7, Ok(index));
         is_told(index, Told::Is(placed), Told::Is(true))?;
-        step(arena, Call::Bounds, Told::Bounds(index, index, None))?;
+        let bounds = Told::Bounds(arena.len(), arena.capacity(), arena.max_capacity());
+        is_told(index, bounds, Told::Bounds(index, index, None))?;
     }
     Ok(())
 }
 
 // One place, and no more, on an arena that has one.
-fn one_place<A: ArenaInsertTrait<P0, Token> + TestedArena>(arena: &mut A) -> Result<(), Wrong> {
+fn one_place<A: ArenaInsertTrait<P0, Token>>(arena: &mut A) -> Result<(), Wrong> {
     let placed = is_placed(arena, 7, Ok(1));
     is_told(0, Told::Is(placed), Told::Is(true))?;
     let beyond = Err(ReallocationError::BeyondMaxCapacity);
     let refused = is_placed(arena, 8, beyond);
     is_told(1, Told::Is(refused), Told::Is(true))?;
-    step(arena, Call::Get(1, 2), Told::Holds(7))
+    is_told(2, answer_to_read(arena, Call::Get(1, 2)), Told::Holds(7))
 }
 
 #[derive(Clone, Copy)]
@@ -137,26 +141,28 @@ enum Tried {
     OnePlace,
 }
 
-fn tries<A: ArenaInsertTrait<P0, Token> + TestedArena>(
-    arena: &mut A,
-    tried: Tried,
-) -> Result<(), Wrong> {
-    match tried {
-        Tried::Callers => callers(arena),
-        Tried::APlaceEach => a_place_each(arena),
-        Tried::OnePlace => one_place(arena),
+impl Asked<P0, Result<(), Wrong>> for Tried {
+    fn of<
+        A: ArenaInsertTrait<P0, Token>
+            + CompactArenaTrait<P0, Token>
+            + DisjointableArenaTrait<P0, Token>,
+    >(self, arena: &mut A) -> Result<(), Wrong> {
+        match self {
+            Tried::Callers => callers(arena),
+            Tried::APlaceEach => a_place_each(arena),
+            Tried::OnePlace => one_place(arena),
+        }
     }
 }
 
-// It is tried on an arena with this room: the one body that takes an `Arena` as those traits, since
-// each such body is slow to prove.
+// It is tried on an arena with this room.
 fn tries_on<S: NonZeroInxGenericStack<ArenaSlot<P0, Token>> + Drop>(
     alloc: Global,
     room: usize,
     tried: Tried,
 ) -> Result<(), Wrong> {
     let mut arena: Arena<P0, Token, S> = with_room(alloc, room)?;
-    tries(&mut arena, tried)
+    ask(&mut arena, tried)
 }
 
 #[test]

@@ -1,5 +1,6 @@
 //! Values that count their drops: each is dropped once, whatever the call, over each stack.
 
+use super::asking::{AskedToInsert, ask_to_insert};
 use std::alloc::Global;
 use std::cell::Cell;
 use triple_arena::{Arena, ArenaInsertEntryTrait, ArenaInsertTrait, ArenaSlot, ArenaTrait};
@@ -146,13 +147,13 @@ fn at_end(drops: u64, expected: u64) -> Result<(), Wrong> {
 // Calls on an arena with three places and no entry, each with whether it is done and the drops after
 // it, and the drops once the arena is dropped.
 #[derive(Drop)]
-struct Table<'s> {
-    steps: &'s [(Call, bool, u64)],
+struct Table {
+    steps: &'static [(Call, bool, u64)],
     at_end: u64,
 }
 
 // The calls that end entries or write over a value, and the drop of the arena.
-const EACH_DROP: Table<'static> = Table {
+const EACH_DROP: Table = Table {
     steps: &[
         (Call::InsertWithin, true, 0),
         (Call::InsertWithin, true, 0),
@@ -178,7 +179,7 @@ const EACH_DROP: Table<'static> = Table {
 };
 
 // Values that are refused by an arena that has no way to grow.
-const EACH_REFUSED_DROP: Table<'static> = Table {
+const EACH_REFUSED_DROP: Table = Table {
     steps: &[
         (Call::Insert, true, 0),
         (Call::Insert, true, 0),
@@ -191,14 +192,27 @@ const EACH_REFUSED_DROP: Table<'static> = Table {
     at_end: 6,
 };
 
-// Follows the steps of a table: the one body that takes an `Arena` as the trait, since each such body
-// is slow to prove.
+// The steps of a table, and the count of drops.
+struct Steps<'a, C> {
+    count: &'a C,
+    steps: &'static [(Call, bool, u64)],
+}
+
+impl<T: Drop, C: Count<T>> AskedToInsert<P0, T, Result<(), Wrong>> for Steps<'_, C> {
+    fn of<A: ArenaInsertTrait<P0, T>>(self, arena: &mut A) -> Result<(), Wrong> {
+        let Steps { count, steps } = self;
+        follow(arena, count, steps)
+    }
+}
+
+// Follows the steps of a table.
 fn follow_table<T: Drop, C: Count<T>, S: NonZeroInxGenericStack<ArenaSlot<P0, T>>>(
     arena: &mut Arena<P0, T, S>,
     count: &C,
-    table: &Table<'_>,
+    table: &Table,
 ) -> Result<(), Wrong> {
-    follow(arena, count, table.steps)
+    let steps = table.steps;
+    ask_to_insert(arena, Steps { count, steps })
 }
 
 // A new arena with three places.
@@ -215,7 +229,7 @@ fn with_three_places<T, S: NonZeroInxGenericStack<ArenaSlot<P0, T>>>(
 fn drops_on<T: Drop, C: Count<T>, S: NonZeroInxGenericStack<ArenaSlot<P0, T>> + Drop>(
     alloc: Global,
     count: &C,
-    table: &Table<'_>,
+    table: &Table,
 ) -> Result<(), Wrong> {
     count.restart();
     let mut arena: Arena<P0, T, S> = with_three_places(alloc)?;

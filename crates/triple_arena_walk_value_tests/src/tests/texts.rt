@@ -1,6 +1,6 @@
 //! The text of an arena.
 
-use super::insertion::put;
+use super::asking::put;
 use std::alloc::Global;
 use std::fmt;
 use std::fmt::{Debug, Write};

@@ -66,7 +66,10 @@ impl<P: Ptr> NameTable<P> {
         }
     }
 
-    /// Makes room for one more pointer where there is none.
+    /// Makes room for one more pointer where there is none; the pointers stay. It takes no memory
+    /// where there is room.
+    ///
+    /// Refused only where there is no room and memory is refused; then nothing changes.
     pub fn make_room(&mut self) -> Result<(), AllocError>
         ensures items { self.new.items ≡ self.old.items }
         ensures grown { OnOk result (self.new.room
@@ -85,8 +88,10 @@ impl<P: Ptr> NameTable<P> {
         }
     }
 
-    /// Pushes a pointer where there is room, and gives its name. The link is a hint for
-    /// [`Self::link_name`]: the name that the entry of the pointer links to.
+    /// Pushes a pointer and gives its name, the number of its place, counted from 1. The table must
+    /// have room, as after [`Self::make_room`]. It takes no memory, and the room stays.
+    ///
+    /// The link is a hint for [`Self::link_name`]: the name that the entry of the pointer links to.
     pub fn push(&mut self, p: P, link: Option<usize>) -> usize
         requires { length self.old.items < self.old.room }
         ensures number { result ≡ length self.old.items + 1 }
@@ -120,7 +125,8 @@ impl<P: Ptr> NameTable<P> {
         self.distinct &= newer;
     }
 
-    /// Replaces each pointer that has an image by this; the others stay.
+    /// Replaces each pointer that has an image by this; the others stay, and so does the room. It
+    /// takes no memory, and has no refusal.
     pub fn rename<R: Recaster<Item = P>>(&mut self, recaster: &R)
         ensures items { self.new.items
             ≡ map (λ p. recast_item (R.image recaster.now p) p) self.old.items }
@@ -153,7 +159,8 @@ impl<P: Ptr> NameTable<P> {
         self.rows.len()
     }
 
-    /// Notes the link of the entry of a name, as [`Self::push`] does.
+    /// Notes the link of the entry of a name, as [`Self::push`] does. Pointers and room stay, and a
+    /// name that was never given is passed over.
     pub fn note_link(&mut self, holder: usize, link: Option<usize>)
         ensures { self.new ≡ self.old }
     {
@@ -166,7 +173,7 @@ impl<P: Ptr> NameTable<P> {
         row.link = link;
     }
 
-    /// The pointer of a name, if it was given.
+    /// The pointer of a name; none exactly where the name is 0 or was never given.
     pub fn pointer(&self, name: usize) -> Option<P>
         ensures { result ≡ item self.now.items name }
     {
@@ -174,8 +181,9 @@ impl<P: Ptr> NameTable<P> {
         Some(row.pointer)
     }
 
-    /// The name of a pointer that the entry of the name `holder` links to. It is found at once
-    /// where the table has the right hint, and else by looking through the table.
+    /// The name of a pointer that the entry of the name `holder` links to: the least place at which
+    /// the table has it, and none exactly where it hasn't. It is found at once where the table has
+    /// the right hint, and else by looking through the table.
     pub fn link_name(&self, holder: usize, p: P) -> Option<usize>
         ensures { result ≡ name_of
             (map P.numbers self.now.items)
@@ -199,7 +207,8 @@ impl<P: Ptr> NameTable<P> {
         }
     }
 
-    /// The name that the entry of a name is said to link to.
+    /// The name that the entry of a name is said to link to, as [`Self::push`] or
+    /// [`Self::note_link`] noted it last. A hint, of which no clause says that it is right.
     pub fn hint(&self, holder: usize) -> Option<usize> {
         self.rows.get(NonZeroUsize::new(holder)?)?.link
     }

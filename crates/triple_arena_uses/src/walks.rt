@@ -93,6 +93,15 @@ pub fn remove_all<P: Ptr, T: Drop, A: CompactArenaTrait<P, T>>(arena: &mut A)
     }
 }
 
+/// Takes out every entry, one by one, by a drain.
+pub fn take_all<P: Ptr, T: Drop, A: CompactArenaTrait<P, T>>(arena: &mut A)
+    ensures { entry_count (A.slots arena.new) ≡ 0 }
+{
+    'walk: for taken in arena.drain() {
+        drop(taken);
+    }
+}
+
 /// Takes three steps of a drain, and lets it go: the arena is empty then.
 pub fn drain_three<P: Ptr, T: Drop, A: CompactArenaTrait<P, T>>(arena: &mut A)
     ensures { entry_count (A.slots arena.new) ≡ 0 }

@@ -4,6 +4,7 @@ mod beside;
 mod counting_stack;
 mod entity_table;
 mod first_arena;
+mod gates;
 mod graph;
 mod guest_book;
 mod insertions;

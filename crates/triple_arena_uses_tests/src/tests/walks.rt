@@ -3,7 +3,9 @@ use std::alloc::Global;
 use std::process::Abort;
 use triple_arena::{Arena, ArenaInsertTrait, CompactArenaTrait};
 use triple_arena_ptr::P0;
-use triple_arena_uses::walks::{add, add_one, count, drain_three, pointers, remove_all, renew_all};
+use triple_arena_uses::walks::{
+    add, add_one, count, drain_three, pointers, remove_all, renew_all, take_all,
+};
 
 fn put<A: ArenaInsertTrait<P0, u64>>(arena: &mut A, number: u64) -> Option<P0> {
     arena.insert(number).ok()
@@ -73,6 +75,14 @@ fn removes_each<A: CompactArenaTrait<P0, u64> + ArenaInsertTrait<P0, u64> + Drop
     Some(is_empty(&arena))
 }
 
+fn takes_each<A: CompactArenaTrait<P0, u64> + ArenaInsertTrait<P0, u64> + Drop>(
+    alloc: Global,
+) -> Option<bool> {
+    let mut arena: A = two_of_four(alloc)?;
+    take_all(&mut arena);
+    Some(is_empty(&arena))
+}
+
 fn drains_each<A: CompactArenaTrait<P0, u64> + ArenaInsertTrait<P0, u64> + Drop>(
     alloc: Global,
 ) -> Option<bool> {
@@ -85,17 +95,18 @@ fn drains_each<A: CompactArenaTrait<P0, u64> + ArenaInsertTrait<P0, u64> + Drop>
 
 fn walks<A: CompactArenaTrait<P0, u64> + ArenaInsertTrait<P0, u64> + Drop>(
     alloc: Global,
-) -> [Option<bool>; 5] {
+) -> [Option<bool>; 6] {
     [
         meets_each::<A>(alloc),
         writes_each::<A>(alloc),
         renews_each::<A>(alloc),
         removes_each::<A>(alloc),
+        takes_each::<A>(alloc),
         drains_each::<A>(alloc),
     ]
 }
 
 #[test]
 fn each_entry_is_met_written_renewed_and_taken_out(rt: HostRuntime) {
-    assert_eq!(rt; walks::<Arena<P0, u64>>(rt.alloc()), [Some(true); 5]);
+    assert_eq!(rt; walks::<Arena<P0, u64>>(rt.alloc()), [Some(true); 6]);
 }

@@ -1,5 +1,5 @@
 -- Writes of a list's parts, one after another.
-use Rattle.std.proofs.Common.{ℕ, ◌+◌, ◌-◌, ◌<◌, ◌≤◌, List, [], ◌++◌, Option, None, Some, length, take, drop, sym, ap, ◌∙◌, subst, arith, append-nil, take-add, take-take, take_all, take-append-drop, length-drop, length-append, append_assoc}
+use Rattle.std.proofs.Common.{ℕ, ◌+◌, ◌-◌, ◌<◌, ◌≤◌, List, [], ◌++◌, Option, None, Some, length, take, drop, sym, ap, ◌∙◌, subst, arith, append-nil, take-add, take-take, take-append-drop, length-drop, length-append, append_assoc}
 use Rattle.std.specs.Io.KnownBytes.{Appends, Keeps}
 use Rattle.std.proofs.KnownBytes.{Appends-trans, Appends-kept}
 use Rattle.triple_arena_commands.specs.TextRun.{AppendsCut}
@@ -10,10 +10,6 @@ pub Appends-next : (a b c : Option (List ℕ)) (xs : List ℕ) (done n : ℕ) �
 Appends-next a b c xs done n before next within =
     let joined = ap (λ l. take done xs ++ l) (take-take n (length xs - done) (drop done xs) within) ∙ sym (take-add done n xs) in
     subst (Appends a c) joined (Appends-trans a b c (take done xs) _ before next)
-
--- all was taken
-pub Appends-all : (a b : Option (List ℕ)) (xs : List ℕ) (done : ℕ) → length xs ≤ done → Appends a b (take done xs) → Appends a b xs
-Appends-all a b xs done whole wrote = subst (Appends a b) (take_all done xs whole) wrote
 
 -- not all was taken, and the next write failed
 pub AppendsCut-at : (a b c : Option (List ℕ)) (xs : List ℕ) (done : ℕ) → done < length xs → Appends a b (take done xs) → Keeps b c → AppendsCut a c [] xs

@@ -1,5 +1,5 @@
 -- Runs one after another.
-use Rattle.std.proofs.Common.{◌≡◌, ◌+◌, ◌<◌, ◌≤◌, ℕ, zero, suc, true, false, List, [], ◌∷◌, ◌++◌, length, take, get_or, subst, sym, ap, ◌∙◌, refl, inl, inr, arith}
+use Rattle.std.proofs.Common.{◌≡◌, ◌+◌, ◌<◌, ℕ, zero, suc, true, false, List, [], ◌∷◌, ◌++◌, length, take, get_or, subst, sym, ap, ◌∙◌, refl, inr, arith}
 use Rattle.std.proofs.lemmas.Grind.{take_at_read}
 use Rattle.std.proofs.lemmas.List.{length_push}
 use Rattle.std.proofs.lemmas.List.Elements.{All-push}
@@ -43,9 +43,3 @@ module _ {S C X : Type 0} (Step : S → C → Reply X → S → Type 0) where
       let long : length (replies ++ reply ∷ []) ≡ i + 1 = length_push replies reply ∙ ap (λ n. n + 1) count in
       let Runs : ℕ → Type 0 = λ n. IsRun Step s (take n all) (replies ++ reply ∷ []) t in
       (subst Runs (sym long) (IsRun-more Step s m t all i d replies reply within ran step), inr (replies, reply, refl, none, told))
-
-  -- a run of all commands that tells of no wrap
-  pub RunsToWrap-whole : (s t : S) (all : List C) (replies : List (Reply X)) (n : ℕ) → length all ≤ n → length replies ≡ n → n ≤ length all → IsRun Step s (take n all) replies t → TellsOfNoWrap replies → RunsToWrap Step s all replies t
-  RunsToWrap-whole s t all replies n over count within ran none =
-      let Runs : ℕ → Type 0 = λ k. IsRun Step s (take k all) replies t in
-      (subst Runs (sym count) ran, inl (none, omega arith))

@@ -6,7 +6,6 @@ use Rattle.std.proofs.KnownBytes.{Appends-nil, Appends-trans, Appends-kept, Keep
 use Rattle.std.proofs.lemmas.List.{map-append, take-append-drop, take_all}
 use Rattle.std.proofs.lemmas.List.Elements.{filter-append, All-append}
 use Rattle.std.proofs.lemmas.Grind.{flat_map-append}
-use Rattle.std.proofs.lemmas.Bool.Decides.{nat_tests}
 use Rattle.triple_arena_commands.specs.declared.command.Command.{Command}
 use Rattle.triple_arena_commands.specs.declared.reply.Reply.{Reply}
 use Rattle.triple_arena_commands.specs.declared.text_error.TextError.{TextError}
@@ -112,10 +111,6 @@ module _ {S : Type 0} (Step : S → Command ℕ → Reply ℕ → S → Type 0) 
         Appends-lines a b c first.0 second.0 first.3 second.3,
       )
 
-  -- a line of no bytes does nothing
-  pub AnswersLines-empty : (s : S) (line : List ℕ) (a : Option (List ℕ)) → has_bytes line ≡ false → AnswersLines Step (line ∷ []) s s a a
-  AnswersLines-empty s line a empty = ([], ([], grind (arith, nat_tests, empty), refl), TellsOfNoWrap-nil, Appends-nil a)
-
   module _ (all : List (List ℕ)) (i : ℕ) (line : List ℕ) (after : List (List ℕ)) (left : drop i all ≡ line ∷ after) (s m t : S) (a b c : Option (List ℕ)) (first : AnswersLines Step (take i all) s m a b) where
     -- one line more
     pub AnswersLines-line : AnswersLines Step (line ∷ []) m t b c → AnswersLines Step (take (i + 1) all) s t a c
@@ -135,20 +130,6 @@ module _ {S : Type 0} (Step : S → Command ℕ → Reply ℕ → S → Type 0) 
           i + 1,
           subst (λ lines. AnswersToWrap Step lines s t a c) (sym (front-drop all i line after left).0) (AnswersToWrap-append s m t (take i all) (line ∷ []) a b c first second),
         )
-
-  -- what holds of the text that was read holds of the bytes that the reader had, where it tells them
-  pub IsTextRun-read : (known : Option (List ℕ)) (read text : List ℕ) (r : Result (Unit {0}) TextError) (s t : S) (a b : Option (List ℕ)) → read ≡ text → IfSome known (λ bytes. text ≡ bytes)
-      → IsTextRun Step (Some read) r s t a b → IsTextRun Step known r s t a b
-  IsTextRun-read None read text (Ok x) s t a b is same ran = tt
-  IsTextRun-read None read text (Err (error.Malformed n)) s t a b is same ran = tt
-  IsTextRun-read None read text (Err error.Write) s t a b is same ran = tt
-  IsTextRun-read None read text (Err error.Read) s t a b is same ran = ran
-  IsTextRun-read None read text (Err error.NoMemory) s t a b is same ran = ran
-  IsTextRun-read (Some bytes) read text r s t a b is same ran = subst (λ z. IsTextRun Step (Some z) r s t a b) (is ∙ same) ran
-
-  pub IsTextRun-unread : (known : Option (List ℕ)) (e : TextError) (s : S) (a : Option (List ℕ)) → (e ≡ error.Read) ⊎ (e ≡ error.NoMemory) → IsTextRun Step known (Err e) s s a a
-  IsTextRun-unread known e s a (inl is) = rw is (refl, Keeps-refl a)
-  IsTextRun-unread known e s a (inr is) = rw is (refl, Keeps-refl a)
 
   -- ---- the flush after a run
 

@@ -13,7 +13,7 @@ use Rattle.triple_arena_traits.specs.ArenaState.{ArenaState, arena_len, capacity
 use Rattle.triple_arena_traits.specs.Insertion.{place_among, inserted_among, inserted, next_pointer}
 use Rattle.triple_arena_traits.specs.FreeList.{before, trimmed, gaps, tidied}
 use Rattle.triple_arena_traits.specs.Capacity.{with_room_for, grown, reallocated}
-use Rattle.triple_arena_traits.specs.Ending.{removed, invalidated, cleared}
+use Rattle.triple_arena_traits.specs.Ending.{removed, invalidated}
 use Rattle.triple_arena_traits.specs.Walks.{entries_from, values_of}
 use Rattle.triple_arena_traits.specs.Compression.{closed_up, compressed, rank}
 
@@ -117,9 +117,6 @@ module _ {T U : Type 0} (f : T → U) where
 
   pub invalidated-mapped : (raise : ℕ → ℕ) (s : ArenaState T) (i : ℕ) → map_values f (invalidated raise s i) ≡ invalidated raise (map_values f s) i
   invalidated-mapped raise s i = ap (λ xs. record (map_values f s) { slots = xs; counter = raise s.counter }) (entry-changed (λ e. (raise s.counter, e.1)) (λ e. (raise s.counter, e.1)) (λ e. refl) s.slots i)
-
-  pub cleared-mapped : (raise : ℕ → ℕ) (s : ArenaState T) → map_values f (cleared raise s) ≡ cleared raise (map_values f s)
-  cleared-mapped raise s = rw (len-mapped s) refl
 
   pub values-mapped : (at : ℕ) (xs : List (Option (ℕ × T))) → values_of (entries_from at (map (option_map (map_entry f)) xs)) ≡ map f (values_of (entries_from at xs))
   values-mapped at [] = refl

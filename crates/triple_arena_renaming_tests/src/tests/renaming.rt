@@ -175,9 +175,7 @@ fn without_memory_a_dangling_link_changes_no_direct_arena(rt: HostRuntime) -> Re
 
 // What stands in each arena of two nodes after a compaction.
 const MOVED: NodeState = NodeState {
-    len: 2,
-    capacity: 4,
-    limit: Some(4),
+    bounds: Told::Bounds(2, 4, Some(4)),
     counter: 4,
     root: 0,
     slots: 2,

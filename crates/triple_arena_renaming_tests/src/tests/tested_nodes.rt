@@ -139,108 +139,51 @@ where
     told_renaming(alloc, compress_recast(arena, alloc, reset_generation))
 }
 
-// What a compaction answers of any compact arena that can be recast.
-fn answer<P: Ptr, T: Recast<P>, A: CompactArenaTrait<P, T> + Recast<P>>(
+// Tells length, capacity and limit.
+fn bounds<P: Ptr, T, A: ArenaTrait<P, T>>(arena: &A) -> Told {
+    Told::Bounds(arena.len(), arena.capacity(), arena.max_capacity())
+}
+
+fn remove_at<P: Ptr, T: Drop, A: ArenaTrait<P, T>>(arena: &mut A, index: usize) -> Told {
+    drop(arena.remove_inx(inx(index)));
+    Told::Done
+}
+
+/// What an arena of nodes is told to do by calls that both arenas have.
+#[derive(Clone, Copy)]
+pub enum Command {
+    /// A compaction.
+    Compact(Compaction),
+    /// To remove the entry at an index.
+    Remove(usize),
+    /// To tell length, capacity and limit.
+    TellBounds,
+    /// To tell its text.
+    TellText,
+}
+
+// What a command answers of any arena that has the traits of both arenas.
+fn answer<P: Ptr, T: Recast<P> + Drop, A: CompactArenaTrait<P, T> + Recast<P> + Debug>(
     arena: &mut A,
     alloc: Global,
-    call: Compaction,
+    command: Command,
 ) -> Answer
 where
     P::Gen: Numbered,
 {
-    match call {
-        Compaction::Alone(reset_generation) => alone(arena, alloc, reset_generation),
-        Compaction::Mapped(reset_generation) => mapped(arena, alloc, reset_generation),
-        Compaction::Renamed(reset_generation) => renamed(arena, alloc, reset_generation),
-    }
-}
-
-/// What any arena is asked that has the traits of both arenas.
-trait Asked<P: Ptr, T, R> {
-    /// What it answers.
-    fn of<A: CompactArenaTrait<P, T> + Recast<P> + Debug>(&self, arena: &mut A) -> R;
-}
-
-// What an arena answers: the one body that takes it as those traits, since each such body is slow to
-// prove.
-fn ask_arena<P: Ptr, S: NonZeroInxGenericStack<ArenaSlot<P, Node<P>>>, R, Q: Asked<P, Node<P>, R>>(
-    arena: &mut Arena<P, Node<P>, S>,
-    asked: &Q,
-) -> R {
-    asked.of(arena)
-}
-
-// The same of a direct arena.
-fn ask_direct<
-    P: Ptr,
-    S: NonZeroInxGenericStack<DirectSlot<P, Node<P>>>,
-    R,
-    Q: Asked<P, Node<P>, R>,
->(arena: &mut DirectArena<P, Node<P>, S>, asked: &Q) -> R {
-    asked.of(arena)
-}
-
-// A compaction.
-#[derive(Drop)]
-struct Compacting {
-    alloc: Global,
-    call: Compaction,
-}
-
-impl<P: Ptr, T: Recast<P>> Asked<P, T, Answer> for Compacting
-where
-    P::Gen: Numbered,
-{
-    fn of<A: CompactArenaTrait<P, T> + Recast<P> + Debug>(&self, arena: &mut A) -> Answer {
-        answer(arena, self.alloc, self.call)
-    }
-}
-
-// Length, capacity and limit.
-type Bounds = (usize, usize, Option<usize>);
-
-// Tells length, capacity and limit.
-#[derive(Drop)]
-struct TellsBounds;
-
-fn bounds<P: Ptr, T, A: ArenaTrait<P, T>>(arena: &A) -> Bounds {
-    (arena.len(), arena.capacity(), arena.max_capacity())
-}
-
-impl<P: Ptr, T> Asked<P, T, Bounds> for TellsBounds {
-    fn of<A: CompactArenaTrait<P, T> + Recast<P> + Debug>(&self, arena: &mut A) -> Bounds {
-        bounds::<P, T, A>(arena)
-    }
-}
-
-// Tells the text of an arena.
-#[derive(Drop)]
-struct TellsText {
-    alloc: Global,
-}
-
-impl<P: Ptr, T> Asked<P, T, Result<String, AllocError>> for TellsText {
-    fn of<A: CompactArenaTrait<P, T> + Recast<P> + Debug>(
-        &self,
-        arena: &mut A,
-    ) -> Result<String, AllocError> {
-        text_of(self.alloc, arena)
-    }
-}
-
-// Removes the entry at an index.
-#[derive(Drop)]
-struct Removes {
-    index: usize,
-}
-
-fn remove_at<P: Ptr, T: Drop, A: ArenaTrait<P, T>>(arena: &mut A, index: usize) {
-    drop(arena.remove_inx(inx(index)));
-}
-
-impl<P: Ptr, T: Drop> Asked<P, T, ()> for Removes {
-    fn of<A: CompactArenaTrait<P, T> + Recast<P> + Debug>(&self, arena: &mut A) {
-        remove_at::<P, T, A>(arena, self.index)
+    match command {
+        Command::Compact(Compaction::Alone(reset_generation)) => {
+            alone(arena, alloc, reset_generation)
+        }
+        Command::Compact(Compaction::Mapped(reset_generation)) => {
+            mapped(arena, alloc, reset_generation)
+        }
+        Command::Compact(Compaction::Renamed(reset_generation)) => {
+            renamed(arena, alloc, reset_generation)
+        }
+        Command::Remove(index) => (remove_at(arena, index), Ok(String::new(alloc))),
+        Command::TellBounds => (bounds(arena), Ok(String::new(alloc))),
+        Command::TellText => (Told::Done, text_of(alloc, arena)),
     }
 }
 
@@ -257,9 +200,8 @@ pub const NO_PLACE: Place = (0, (0, NO_POINTER));
 /// isn't there.
 #[derive(Clone, Copy, PartialEq)]
 pub struct NodeState {
-    pub len: usize,
-    pub capacity: usize,
-    pub limit: Option<usize>,
+    /// Length, capacity and limit.
+    pub bounds: Told,
     pub counter: u64,
     pub root: usize,
     pub slots: usize,
@@ -306,15 +248,25 @@ where
 }
 
 /// An arena of nodes that compactions are tried on.
-pub trait Compacted {
-    /// What a compaction answers.
-    fn compacted(&mut self, alloc: Global, call: Compaction) -> Answer;
+// Each body that names the arena itself is slow to prove: all others see no more of it than this.
+pub trait Compacted: Sized {
+    /// An arena without nodes; a direct one has a capacity of 4.
+    fn made(alloc: Global) -> Result<Self, Wrong>;
 
-    /// The whole state.
-    fn state(&mut self) -> NodeState;
+    /// Puts a node into the arena, into a direct one under the pointer of these numbers.
+    fn put(&mut self, at: (usize, u64), named: Named) -> Result<(), Wrong>;
 
-    /// The text of the arena.
-    fn text(&mut self, alloc: Global) -> Result<String, AllocError>;
+    /// What a command answers.
+    fn answer(&mut self, alloc: Global, command: Command) -> Answer;
+
+    /// The whole state, with these bounds.
+    fn state_with(&self, bounds: Told) -> NodeState;
+}
+
+/// The whole state.
+pub fn state<A: Compacted>(alloc: Global, arena: &mut A) -> NodeState {
+    let (bounds, _text) = arena.answer(alloc, Command::TellBounds);
+    arena.state_with(bounds)
 }
 
 // What stands in the first slots of an arena.
@@ -355,26 +307,30 @@ impl<P: Ptr, S: NonZeroInxGenericStack<ArenaSlot<P, Node<P>>>> Compacted for Are
 where
     P::Gen: Numbered,
 {
-    fn compacted(&mut self, alloc: Global, call: Compaction) -> Answer {
-        ask_arena(self, &Compacting { alloc, call })
+    fn made(alloc: Global) -> Result<Self, Wrong> {
+        Ok(Arena::new(alloc))
     }
 
-    fn state(&mut self) -> NodeState {
-        let (len, capacity, limit) = ask_arena(self, &TellsBounds);
+    fn put(&mut self, _at: (usize, u64), named: Named) -> Result<(), Wrong> {
+        match self.insert_reallocating(node(named)) {
+            Ok(_p) => Ok(()),
+            Err(_refused) => Err(Wrong::NoMemory),
+        }
+    }
+
+    fn answer(&mut self, alloc: Global, command: Command) -> Answer {
+        answer(self, alloc, command)
+    }
+
+    fn state_with(&self, bounds: Told) -> NodeState {
         let slots = self.backing().as_slice();
         NodeState {
-            len,
-            capacity,
-            limit,
+            bounds,
             counter: self.generation().told_number(),
             root: number_or_0(self.freelist_root()),
             slots: slots.len(),
             places: arena_places(slots),
         }
-    }
-
-    fn text(&mut self, alloc: Global) -> Result<String, AllocError> {
-        ask_arena(self, &TellsText { alloc })
     }
 }
 
@@ -383,115 +339,79 @@ impl<P: Ptr, S: NonZeroInxGenericStack<DirectSlot<P, Node<P>>>> Compacted
 where
     P::Gen: Numbered,
 {
-    fn compacted(&mut self, alloc: Global, call: Compaction) -> Answer {
-        ask_direct(self, &Compacting { alloc, call })
+    fn made(alloc: Global) -> Result<Self, Wrong> {
+        match DirectArena::with_min_capacity(alloc, PLACES) {
+            Ok(arena) => Ok(arena),
+            Err(_refused) => Err(Wrong::NoMemory),
+        }
     }
 
-    fn state(&mut self) -> NodeState {
-        let (len, capacity, limit) = ask_direct(self, &TellsBounds);
+    fn put(&mut self, at: (usize, u64), named: Named) -> Result<(), Wrong> {
+        match self.direct_insert_within_capacity(pointer(at.0, at.1)) {
+            Ok(entry) => {
+                entry.insert(node(named));
+                Ok(())
+            }
+            Err(_refused) => Err(Wrong::NoMemory),
+        }
+    }
+
+    fn answer(&mut self, alloc: Global, command: Command) -> Answer {
+        answer(self, alloc, command)
+    }
+
+    fn state_with(&self, bounds: Told) -> NodeState {
         let slots = self.backing().as_slice();
         NodeState {
-            len,
-            capacity,
-            limit,
+            bounds,
             counter: 0,
             root: 0,
             slots: slots.len(),
             places: direct_places(slots),
         }
     }
-
-    fn text(&mut self, alloc: Global) -> Result<String, AllocError> {
-        ask_direct(self, &TellsText { alloc })
-    }
-}
-
-// Puts a node into an arena.
-fn put_node<P: Ptr, S: NonZeroInxGenericStack<ArenaSlot<P, Node<P>>>>(
-    arena: &mut Arena<P, Node<P>, S>,
-    named: Named,
-) -> Result<(), Wrong>
-where
-    P::Gen: Numbered,
-{
-    match arena.insert_reallocating(node(named)) {
-        Ok(_p) => Ok(()),
-        Err(_refused) => Err(Wrong::NoMemory),
-    }
-}
-
-// Puts a node into a direct arena, under the pointer of these numbers.
-fn put_node_under<P: Ptr, S: NonZeroInxGenericStack<DirectSlot<P, Node<P>>>>(
-    arena: &mut DirectArena<P, Node<P>, S>,
-    at: (usize, u64),
-    named: Named,
-) -> Result<(), Wrong>
-where
-    P::Gen: Numbered,
-{
-    match arena.direct_insert_within_capacity(pointer(at.0, at.1)) {
-        Ok(entry) => {
-            entry.insert(node(named));
-            Ok(())
-        }
-        Err(_refused) => Err(Wrong::NoMemory),
-    }
 }
 
 /// A new arena of these nodes, of which those at these indexes are removed then.
-pub fn arena_of<P: Ptr, S: NonZeroInxGenericStack<ArenaSlot<P, Node<P>>> + Drop>(
+pub fn arena_of<A: Compacted + Drop>(
     alloc: Global,
     nodes: &[Named],
     gone: &[usize],
-) -> Result<Arena<P, Node<P>, S>, Wrong>
-where
-    P::Gen: Numbered,
-{
-    let mut arena: Arena<P, Node<P>, S> = Arena::new(alloc);
+) -> Result<A, Wrong> {
+    let mut arena = A::made(alloc)?;
     for named in nodes {
-        put_node(&mut arena, *named)?;
+        arena.put(NO_POINTER, *named)?;
     }
     for index in gone {
-        ask_arena(&mut arena, &Removes { index: *index });
+        let _removed = arena.answer(alloc, Command::Remove(*index));
     }
     Ok(arena)
 }
 
 /// The same whose only node, after so many that came and went, has a link to itself under this
 /// generation.
-pub fn arena_of_last<P: Ptr, S: NonZeroInxGenericStack<ArenaSlot<P, Node<P>>> + Drop>(
+pub fn arena_of_last<A: Compacted + Drop>(
     alloc: Global,
     times: u64,
     generation: u64,
-) -> Result<Arena<P, Node<P>, S>, Wrong>
-where
-    P::Gen: Numbered,
-{
-    let mut arena: Arena<P, Node<P>, S> = Arena::new(alloc);
+) -> Result<A, Wrong> {
+    let mut arena = A::made(alloc)?;
     for time in 0..times {
-        put_node(&mut arena, (time, NO_POINTER))?;
-        ask_arena(&mut arena, &Removes { index: 1 });
+        arena.put(NO_POINTER, (time, NO_POINTER))?;
+        let _removed = arena.answer(alloc, Command::Remove(1));
     }
-    put_node(&mut arena, (times, (1, generation)))?;
+    arena.put(NO_POINTER, (times, (1, generation)))?;
     Ok(arena)
 }
 
-/// A direct arena of capacity 4, of nodes under these pointers.
-pub fn direct_arena_of<P: Ptr, S: NonZeroInxGenericStack<DirectSlot<P, Node<P>>> + Drop>(
+/// A direct arena of nodes under these pointers.
+pub fn direct_arena_of<A: Compacted + Drop>(
     alloc: Global,
     nodes: &[((usize, u64), Named)],
-) -> Result<DirectArena<P, Node<P>, S>, Wrong>
-where
-    P::Gen: Numbered,
-{
-    let mut arena: DirectArena<P, Node<P>, S> = match DirectArena::with_min_capacity(
-        alloc, PLACES,
-    ) {
-        Ok(arena) => arena,
-        Err(_refused) => return Err(Wrong::NoMemory),
-    };
+) -> Result<A, Wrong> {
+    let mut arena = A::made(alloc)?;
     for (at, named) in nodes {
-        put_node_under(&mut arena, *at, *named)?;
+        arena.put(*at, *named)?;
     }
     Ok(arena)
 }

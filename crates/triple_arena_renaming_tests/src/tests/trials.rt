@@ -1,19 +1,20 @@
 //! What is tried on arenas of nodes, and the arenas that it is tried on.
 
 use super::tested_nodes::{
-    Compacted, Compaction, Named, Node, NodeState, arena_of, arena_of_last, direct_arena_of,
+    Command, Compacted, Compaction, Named, Node, NodeState, arena_of, arena_of_last,
+    direct_arena_of, state,
 };
 use std::alloc::Global;
-use triple_arena::ArenaSlot;
+use triple_arena::{Arena, ArenaSlot};
 use triple_arena_base::ReallocationError;
-use triple_arena_direct::DirectSlot;
-use triple_arena_ptr::P0;
+use triple_arena_direct::{DirectArena, DirectSlot};
+use triple_arena_ptr::{P0, Ptr};
 use triple_arena_stack::{NonZeroInxArray, NonZeroInxGenericStack, NonZeroInxVec};
-use triple_arena_test_kit::{B, Told, Wrong, is_text, is_told};
+use triple_arena_test_kit::{B, Numbered, Told, Wrong, is_text, is_told};
 
 type Heap<P> = NonZeroInxVec<ArenaSlot<P, Node<P>>>;
 
-type DirectHeap<P> = NonZeroInxVec<DirectSlot<P, Node<P>>>;
+type DirectHeap = NonZeroInxVec<DirectSlot<P0, Node<P0>>>;
 
 // Places that take no memory.
 type Places = NonZeroInxArray<ArenaSlot<P0, Node<P0>>, 4>;
@@ -51,15 +52,20 @@ pub enum Part {
 }
 
 fn has_texts<A: Compacted>(alloc: Global, arena: &mut A, texts: Texts) -> Result<(), Wrong> {
-    let (told, answer) = arena.compacted(alloc, texts.call);
+    let (told, answer) = arena.answer(alloc, Command::Compact(texts.call));
     is_told(0, told, texts.told)?;
     is_text(answer?.as_str(), texts.answer)?;
-    is_text(arena.text(alloc)?.as_str(), texts.arena)
+    let (_told, text) = arena.answer(alloc, Command::TellText);
+    is_text(text?.as_str(), texts.arena)
 }
 
 // That the arena is in this state.
-fn stands_as<A: Compacted>(arena: &mut A, state: &NodeState) -> Result<(), Wrong> {
-    if arena.state() == *state {
+fn stands_as<A: Compacted>(
+    alloc: Global,
+    arena: &mut A,
+    expected: &NodeState,
+) -> Result<(), Wrong> {
+    if state(alloc, arena) == *expected {
         Ok(())
     } else {
         Err(Wrong::State(0))
@@ -67,33 +73,33 @@ fn stands_as<A: Compacted>(arena: &mut A, state: &NodeState) -> Result<(), Wrong
 }
 
 fn refuses<A: Compacted>(alloc: Global, arena: &mut A, texts: Texts) -> Result<(), Wrong> {
-    let before = arena.state();
+    let before = state(alloc, arena);
     has_texts(alloc, arena, texts)?;
     is_told(0, Told::Generation(before.counter), Told::Generation(2))?;
-    stands_as(arena, &before)
+    stands_as(alloc, arena, &before)
 }
 
 // What a compaction tells.
 fn told_by<A: Compacted>(alloc: Global, arena: &mut A, call: Compaction) -> Told {
-    let (told, _text) = arena.compacted(alloc, call);
+    let (told, _text) = arena.answer(alloc, Command::Compact(call));
     told
 }
 
 fn takes_no_memory<A: Compacted>(alloc: Global, arena: &mut A) -> Result<(), Wrong> {
-    let before = arena.state();
+    let before = state(alloc, arena);
     let mapped = told_by(alloc, arena, Compaction::Mapped(false));
     is_told(0, mapped, Told::Done)?;
     let renamed = told_by(alloc, arena, Compaction::Renamed(false));
     is_told(1, renamed, Told::Done)?;
-    stands_as(arena, &before)
+    stands_as(alloc, arena, &before)
 }
 
 fn refuses_twice<A: Compacted>(alloc: Global, arena: &mut A, expected: Told) -> Result<(), Wrong> {
-    let before = arena.state();
+    let before = state(alloc, arena);
     let first = told_by(alloc, arena, Compaction::Renamed(false));
-    stands_as(arena, &before)?;
+    stands_as(alloc, arena, &before)?;
     let second = told_by(alloc, arena, Compaction::Renamed(false));
-    stands_as(arena, &before)?;
+    stands_as(alloc, arena, &before)?;
     if first == NO_MEMORY {
         return is_told(1, second, expected);
     }
@@ -110,27 +116,30 @@ fn moves_once<A: Compacted>(
     call: Compaction,
     after: &NodeState,
 ) -> Result<(), Wrong> {
-    let before = arena.state();
+    let before = state(alloc, arena);
     let first = told_by(alloc, arena, call);
     if first == NO_MEMORY {
-        stands_as(arena, &before)?;
+        stands_as(alloc, arena, &before)?;
         let second = told_by(alloc, arena, call);
         is_told(1, second, Told::Done)?;
     } else {
         is_told(0, first, Told::Done)?;
     }
-    stands_as(arena, after)
+    stands_as(alloc, arena, after)
 }
 
 fn asks_first<A: Compacted>(alloc: Global, arena: &mut A) -> Result<(), Wrong> {
-    let before = arena.state();
-    let (told, answer) = arena.compacted(alloc, Compaction::Renamed(false));
-    stands_as(arena, &before)?;
-    if told == NO_MEMORY {
-        return is_text(answer?.as_str(), "Err(Reallocation(AllocError))");
-    }
-    is_told(0, told, Told::At(usize::MAX, 1))?;
-    is_text(answer?.as_str(), "Err(Unresolved(P0[ffffffffffffffff](1)))")
+    let before = state(alloc, arena);
+    let renamed = Command::Compact(Compaction::Renamed(false));
+    let (told, answer) = arena.answer(alloc, renamed);
+    stands_as(alloc, arena, &before)?;
+    let text = if told == NO_MEMORY {
+        "Err(Reallocation(AllocError))"
+    } else {
+        is_told(0, told, Told::At(usize::MAX, 1))?;
+        "Err(Unresolved(P0[ffffffffffffffff](1)))"
+    };
+    is_text(answer?.as_str(), text)
 }
 
 fn try_part<A: Compacted>(alloc: Global, arena: &mut A, part: &Part) -> Result<(), Wrong> {
@@ -152,36 +161,6 @@ fn try_parts<A: Compacted>(alloc: Global, arena: &mut A, parts: &[Part]) -> Resu
     Ok(())
 }
 
-fn on_nodes<S: NonZeroInxGenericStack<ArenaSlot<P0, Node<P0>>> + Drop>(
-    alloc: Global,
-    nodes: &[Named],
-    gone: &[usize],
-    parts: &[Part],
-) -> Result<(), Wrong> {
-    try_parts(alloc, &mut arena_of::<P0, S>(alloc, nodes, gone)?, parts)
-}
-
-fn on_last_node<S: NonZeroInxGenericStack<ArenaSlot<B, Node<B>>> + Drop>(
-    alloc: Global,
-    times: u64,
-    generation: u64,
-    parts: &[Part],
-) -> Result<(), Wrong> {
-    try_parts(
-        alloc,
-        &mut arena_of_last::<B, S>(alloc, times, generation)?,
-        parts,
-    )
-}
-
-fn on_direct_nodes<S: NonZeroInxGenericStack<DirectSlot<P0, Node<P0>>> + Drop>(
-    alloc: Global,
-    nodes: &[((usize, u64), Named)],
-    parts: &[Part],
-) -> Result<(), Wrong> {
-    try_parts(alloc, &mut direct_arena_of::<P0, S>(alloc, nodes)?, parts)
-}
-
 /// An arena of nodes.
 #[derive(Clone, Copy)]
 pub enum Nodes<'a> {
@@ -198,13 +177,54 @@ pub enum Nodes<'a> {
     DirectPlaces(&'a [((usize, u64), Named)]),
 }
 
+// An arena of these nodes.
+fn arena_with<A: Compacted + Drop>(alloc: Global, nodes: Nodes<'_>) -> Result<A, Wrong> {
+    match nodes {
+        Nodes::Heap(nodes, gone) | Nodes::Places(nodes, gone) => arena_of(alloc, nodes, gone),
+        Nodes::Last(times, generation) => arena_of_last(alloc, times, generation),
+        Nodes::Direct(nodes) | Nodes::DirectPlaces(nodes) => direct_arena_of(alloc, nodes),
+    }
+}
+
+fn on_arena<A: Compacted + Drop>(
+    alloc: Global,
+    nodes: Nodes<'_>,
+    parts: &[Part],
+) -> Result<(), Wrong> {
+    try_parts(alloc, &mut arena_with::<A>(alloc, nodes)?, parts)
+}
+
+// Tries the parts on an arena over this stack.
+fn over<P: Ptr, S: NonZeroInxGenericStack<ArenaSlot<P, Node<P>>> + Drop>(
+    alloc: Global,
+    nodes: Nodes<'_>,
+    parts: &[Part],
+) -> Result<(), Wrong>
+where
+    P::Gen: Numbered,
+{
+    on_arena::<Arena<P, Node<P>, S>>(alloc, nodes, parts)
+}
+
+// The same on a direct arena.
+fn direct_over<P: Ptr, S: NonZeroInxGenericStack<DirectSlot<P, Node<P>>> + Drop>(
+    alloc: Global,
+    nodes: Nodes<'_>,
+    parts: &[Part],
+) -> Result<(), Wrong>
+where
+    P::Gen: Numbered,
+{
+    on_arena::<DirectArena<P, Node<P>, S>>(alloc, nodes, parts)
+}
+
 /// Tries the parts one after the other on an arena of these nodes.
 pub fn on(alloc: Global, nodes: Nodes<'_>, parts: &[Part]) -> Result<(), Wrong> {
     match nodes {
-        Nodes::Heap(nodes, gone) => on_nodes::<Heap<P0>>(alloc, nodes, gone, parts),
-        Nodes::Places(nodes, gone) => on_nodes::<Places>(alloc, nodes, gone, parts),
-        Nodes::Last(times, generation) => on_last_node::<Heap<B>>(alloc, times, generation, parts),
-        Nodes::Direct(nodes) => on_direct_nodes::<DirectHeap<P0>>(alloc, nodes, parts),
-        Nodes::DirectPlaces(nodes) => on_direct_nodes::<DirectPlaces>(alloc, nodes, parts),
+        Nodes::Heap(_, _) => over::<P0, Heap<P0>>(alloc, nodes, parts),
+        Nodes::Places(_, _) => over::<P0, Places>(alloc, nodes, parts),
+        Nodes::Last(_, _) => over::<B, Heap<B>>(alloc, nodes, parts),
+        Nodes::Direct(_) => direct_over::<P0, DirectHeap>(alloc, nodes, parts),
+        Nodes::DirectPlaces(_) => direct_over::<P0, DirectPlaces>(alloc, nodes, parts),
     }
 }

@@ -48,8 +48,8 @@ pub enum Compaction {
     Renamed(bool),
 }
 
-/// What a compaction tells, of a link without an entry its numbers; and the text of the answer, where
-/// there is memory for that.
+/// What a command tells, of a link without an entry its numbers; and the text of a compaction's answer or
+/// of the arena, where there is memory for that.
 pub type Answer = (Told, Result<String, AllocError>);
 
 fn text_of<D: Debug>(alloc: Global, shown: &D) -> Result<String, AllocError> {
@@ -139,14 +139,23 @@ where
     told_renaming(alloc, compress_recast(arena, alloc, reset_generation))
 }
 
-// Tells length, capacity and limit.
-fn bounds<P: Ptr, T, A: ArenaTrait<P, T>>(arena: &A) -> Told {
-    Told::Bounds(arena.len(), arena.capacity(), arena.max_capacity())
+// Length, capacity and limit.
+fn bounds<P: Ptr, T, A: ArenaTrait<P, T>>(arena: &A, alloc: Global) -> Answer {
+    let bounds = Told::Bounds(arena.len(), arena.capacity(), arena.max_capacity());
+    (bounds, Ok(String::new(alloc)))
 }
 
-fn remove_at<P: Ptr, T: Drop, A: ArenaTrait<P, T>>(arena: &mut A, index: usize) -> Told {
+fn remove_at<P: Ptr, T: Drop, A: ArenaTrait<P, T>>(
+    arena: &mut A,
+    alloc: Global,
+    index: usize,
+) -> Answer {
     drop(arena.remove_inx(inx(index)));
-    Told::Done
+    (Told::Done, Ok(String::new(alloc)))
+}
+
+fn text<A: Debug>(arena: &A, alloc: Global) -> Answer {
+    (Told::Done, text_of(alloc, arena))
 }
 
 /// What an arena of nodes is told to do by calls that both arenas have.
@@ -181,9 +190,9 @@ where
         Command::Compact(Compaction::Renamed(reset_generation)) => {
             renamed(arena, alloc, reset_generation)
         }
-        Command::Remove(index) => (remove_at(arena, index), Ok(String::new(alloc))),
-        Command::TellBounds => (bounds(arena), Ok(String::new(alloc))),
-        Command::TellText => (Told::Done, text_of(alloc, arena)),
+        Command::Remove(index) => remove_at(arena, alloc, index),
+        Command::TellBounds => bounds(arena, alloc),
+        Command::TellText => text(arena, alloc),
     }
 }
 

@@ -1,24 +1,22 @@
 //! Each command of the program: texts, and the lines that answer them.
 
-use super::steps::{Row as Entry, answers_text, extent, new_session, says};
+use super::steps::{Asked, Kind, Row as Entry, Text, Trial, answers_text, says, try_new};
 use std::alloc::Global;
 use std::process::Abort;
-use triple_arena::{ArenaSlot, ArenaTrait};
-use triple_arena_ptr::{P0, Ptr};
-use triple_arena_session::{Command, Node, Reply, Session, parse_command};
-use triple_arena_stack::{NonZeroInxArray, NonZeroInxBoxedSlice, NonZeroInxGenericStack};
-use triple_arena_trait_kit::{B, Narrow};
-
-type Slot = ArenaSlot<P0, Node<u64, P0>>;
+use triple_arena_session::{Command, Reply, parse_command};
 
 /// A text, and the lines of its replies.
 type Row<'a> = (&'a [u8], &'a [u8]);
 
+// Expects a text to be answered so in a new session of a kind.
+fn answers(rt: &impl Abort, alloc: Global, kind: Kind, (text, lines): Row<'_>) {
+    try_new(rt, alloc, kind, None, &Text { text, lines });
+}
+
 // Expects each text to be answered so in a new session over the heap.
 fn answers_each(rt: &impl Abort, alloc: Global, rows: &[Row<'_>]) {
-    for (text, lines) in rows {
-        let mut session: Session<P0, u64> = Session::new(alloc);
-        answers_text(rt, alloc, &mut session, *text, *lines);
+    for row in rows {
+        answers(rt, alloc, Kind::General, *row);
     }
 }
 
@@ -119,45 +117,48 @@ fn a_compaction_moves_entries_and_keeps_names(rt: HostRuntime) {
 
 #[test]
 fn an_array_is_full_at_eight(rt: HostRuntime) {
-    let mut session: Session<P0, u64, NonZeroInxArray<Slot, 8>> = Session::new(rt.alloc());
-    answers_text(
+    answers(
         &rt,
         rt.alloc(),
-        &mut session,
-        b"capacity\nwithin 1 -\nwithin 1 -\nwithin 1 -\nwithin 1 -\nwithin 1 -\nwithin 1 -\nwithin 1 -\nwithin 1 -\nwithin 1 -\ninsert 1 -\nreserve 9\nreserve 8\n",
-        b"count 8\ngiven 1\ngiven 2\ngiven 3\ngiven 4\ngiven 5\ngiven 6\ngiven 7\ngiven 8\nfull\nbeyond max capacity\nbeyond max capacity\ndone\n",
+        Kind::Eight,
+        (
+            b"capacity\nwithin 1 -\nwithin 1 -\nwithin 1 -\nwithin 1 -\nwithin 1 -\nwithin 1 -\nwithin 1 -\nwithin 1 -\nwithin 1 -\ninsert 1 -\nreserve 9\nreserve 8\n",
+            b"count 8\ngiven 1\ngiven 2\ngiven 3\ngiven 4\ngiven 5\ngiven 6\ngiven 7\ngiven 8\nfull\nbeyond max capacity\nbeyond max capacity\ndone\n",
+        ),
     );
 }
 
 #[test]
 fn no_place_is_full_at_once(rt: HostRuntime) {
-    let mut session: Session<P0, u64, NonZeroInxBoxedSlice<Slot>> = Session::new(rt.alloc());
+    let text = b"within 5 -\ninsert 5 -\n".as_slice();
     let lines = b"full\nbeyond max capacity\n".as_slice();
-    answers_text(
-        &rt,
-        rt.alloc(),
-        &mut session,
-        b"within 5 -\ninsert 5 -\n",
-        lines,
-    );
+    answers(&rt, rt.alloc(), Kind::Boxed, (text, lines));
 }
 
 /// There are 255 indexes of a byte, and room for no more.
 #[test]
 fn a_byte_index_has_its_greatest_capacity(rt: HostRuntime) {
-    let mut session: Session<Narrow, u64> = Session::new(rt.alloc());
-    fills(&rt, rt.alloc(), &mut session, 255);
-    answers_text(
-        &rt,
-        rt.alloc(),
-        &mut session,
-        b"insert 1 -\nwithin 1 -\ncapacity\nreserve 256\nlen\n",
-        b"no memory\nfull\ncount 255\nno memory\ncount 255\n",
-    );
+    try_new(&rt, rt.alloc(), Kind::ByteIndexes, None, &NoMoreRoom);
+}
+
+// There is room for 255 entries, and for no more.
+struct NoMoreRoom;
+
+impl Trial for NoMoreRoom {
+    fn pass(&self, rt: &impl Abort, alloc: Global, session: &mut impl Asked) {
+        fills(rt, alloc, session, 255);
+        answers_text(
+            rt,
+            alloc,
+            session,
+            b"insert 1 -\nwithin 1 -\ncapacity\nreserve 256\nlen\n",
+            b"no memory\nfull\ncount 255\nno memory\ncount 255\n",
+        );
+    }
 }
 
 // Inserts so many.
-fn fills(rt: &impl Abort, alloc: Global, session: &mut Session<Narrow, u64>, count: u8) {
+fn fills(rt: &impl Abort, alloc: Global, session: &mut impl Asked, count: u8) {
     for name in 1..count as usize + 1 {
         answers_so(
             rt,
@@ -170,7 +171,7 @@ fn fills(rt: &impl Abort, alloc: Global, session: &mut Session<Narrow, u64>, cou
 }
 
 // Inserts and removes so many times, which raises the counter as often.
-fn comes_and_goes(rt: &impl Abort, alloc: Global, session: &mut Session<B, u64>, count: u8) {
+fn comes_and_goes(rt: &impl Abort, alloc: Global, session: &mut impl Asked, count: u8) {
     for name in 1..count as usize + 1 {
         let text = format!(in alloc; "insert 1 -\nremove {name}\n");
         let lines = format!(in alloc; "given {name}\nremoved 1 -\n");
@@ -181,10 +182,10 @@ fn comes_and_goes(rt: &impl Abort, alloc: Global, session: &mut Session<B, u64>,
     }
 }
 
-fn answers_so<P: Ptr>(
+fn answers_so(
     rt: &impl Abort,
     alloc: Global,
-    session: &mut Session<P, u64>,
+    session: &mut impl Asked,
     text: &[u8],
     lines: Result<String, std::alloc::AllocError>,
 ) {
@@ -194,11 +195,18 @@ fn answers_so<P: Ptr>(
     }
 }
 
-// Expects a text to be answered so by a session whose counter is at its end.
-fn ends_at_a_wrap(rt: &impl Abort, alloc: Global, text: &[u8], lines: &[u8]) {
-    let mut session: Session<B, u64> = Session::new(alloc);
-    comes_and_goes(rt, alloc, &mut session, 253);
-    answers_text(rt, alloc, &mut session, text, lines);
+// A text that a session answers so whose counter is at its end.
+#[derive(Drop)]
+struct AtTheEnd<'a> {
+    text: &'a [u8],
+    lines: &'a [u8],
+}
+
+impl Trial for AtTheEnd<'_> {
+    fn pass(&self, rt: &impl Abort, alloc: Global, session: &mut impl Asked) {
+        comes_and_goes(rt, alloc, session, 253);
+        answers_text(rt, alloc, session, self.text, self.lines);
+    }
 }
 
 /// The byte counter is at its end after 253 raises, and the next tells of a wrap, which ends the run.
@@ -219,50 +227,29 @@ fn each_command_that_raises_the_counter_tells_of_a_wrap(rt: HostRuntime) {
             b"given 254\nremoved 7 - wrapped\n",
         ),
     ];
-    for (text, lines) in &rows {
-        ends_at_a_wrap(&rt, rt.alloc(), *text, *lines);
+    for (text, lines) in rows {
+        let trial = AtTheEnd { text, lines };
+        try_new(&rt, rt.alloc(), Kind::ByteGenerations, None, &trial);
     }
 }
 
 // What stands under each of the first names.
-fn entries_of(session: &mut Session<P0, u64>) -> [Entry; 12] {
+fn entries_of(session: &mut impl Asked) -> [Entry; 12] {
     let mut entries = [None; 12];
     for (name, entry) in entries.iter_mut().enumerate() {
-        if let Reply::Found(datum, link) = session.step(Command::Get(name)) {
+        if let Reply::Found(datum, link) = session.answer(Command::Get(name)) {
             *entry = Some((datum, link));
         }
     }
     entries
 }
 
-// The free indexes of an arena of at most 12 slots, in the order in which insertion takes them, and
-// then 0.
-fn free_of(session: &Session<P0, u64>) -> [usize; 12] {
-    let arena = session.arena();
-    let mut free = [0; 12];
-    let mut next = arena.freelist_root();
-    for place in &mut free {
-        if let Some(inx) = next {
-            *place = inx.get();
-            next = match arena.backing().get(inx) {
-                Some(ArenaSlot::Free(link)) => link.after(inx),
-                _ => None,
-            };
-        }
-    }
-    free
-}
-
-// The same once the free list is in order: rising, and without those past the last entry.
-fn in_order(session: &Session<P0, u64>) -> [usize; 12] {
-    let last = match session.arena().find_last_inx_ptr() {
-        Some(p) => p.inx().get(),
-        None => 0,
-    };
-    let free = free_of(session);
+// The free indexes once the free list is in order: rising, and without those past the last entry.
+fn in_order(session: &impl Asked) -> [usize; 12] {
+    let free = session.free();
     let mut ordered = [0; 12];
     let mut place = 0;
-    for inx in 1..=last {
+    for inx in 1..=session.last_index() {
         if free.contains(&inx) && place < 12 {
             ordered[place] = inx;
             place += 1;
@@ -274,36 +261,37 @@ fn in_order(session: &Session<P0, u64>) -> [usize; 12] {
 // Expects the command of a line to be answered so. Memory may be refused first, and then names,
 // entries, length, capacity and counter are as they were, and the free list too; a reservation has
 // put it in order.
-fn answers_or_changes_nothing(
-    rt: &impl Abort,
-    session: &mut Session<P0, u64>,
-    line: &str,
-    text: &str,
-) {
+fn answers_or_changes_nothing(rt: &impl Abort, session: &mut impl Asked, line: &str, text: &str) {
     let Some(command) = parse_command(line.as_bytes()) else {
         panic!(rt; "{line} is a command");
     };
     let free = match command {
         Command::Reserve(_) => in_order(session),
-        _ => free_of(session),
+        _ => session.free(),
     };
-    let before = (entries_of(session), extent(session), free);
-    let mut reply = session.step(command);
+    let before = (entries_of(session), session.extent(), free);
+    let mut reply = session.answer(command);
     if reply == Reply::NoMemory {
         assert!(rt;
-            (entries_of(session), extent(session), free_of(session)) == before,
+            (entries_of(session), session.extent(), session.free()) == before,
             "at {line}"
         );
-        reply = session.step(command);
+        reply = session.answer(command);
     }
     assert!(rt; says(&reply, text), "at {line}");
 }
 
-// The same of each row, a line and the text of its reply, in a new session.
-fn each_answers_or_changes_nothing(rt: &impl Abort, alloc: Global, rows: &[(&str, &str)]) {
-    let mut session = new_session(alloc);
-    for (line, text) in rows {
-        answers_or_changes_nothing(rt, &mut session, *line, *text);
+// The same of each row, a line and the text of its reply.
+#[derive(Drop)]
+struct AnswersOrChangesNothing<'a> {
+    rows: &'a [(&'a str, &'a str)],
+}
+
+impl Trial for AnswersOrChangesNothing<'_> {
+    fn pass(&self, rt: &impl Abort, _alloc: Global, session: &mut impl Asked) {
+        for (line, text) in self.rows {
+            answers_or_changes_nothing(rt, session, *line, *text);
+        }
     }
 }
 
@@ -311,49 +299,47 @@ fn each_answers_or_changes_nothing(rt: &impl Abort, alloc: Global, rows: &[(&str
 /// --fail-alloc N`).
 #[test]
 fn a_refused_command_changes_nothing(rt: HostRuntime) {
-    each_answers_or_changes_nothing(
-        &rt,
-        rt.alloc(),
-        &[
-            ("insert 1 -", "given 1"),
-            ("reserve 6", "done"),
-            ("within 2 1", "given 2"),
-            (
-                "show",
-                "{P0[1](2): (1, None), P0[2](2): (2, Some(P0[1](2)))}",
-            ),
-            ("insert 3 -", "given 3"),
-            ("insert 4 -", "given 4"),
-            ("remove 2", "removed 2 1"),
-            ("remove 3", "removed 3 -"),
-            // the free indexes are 3 and 2, in this order
-            ("show", "{P0[1](2): (1, None), P0[4](2): (4, None)}"),
-            ("invalidate 1", "given 5"),
-            ("within 5 1", "given 6"),
-            ("insert 6 -", "given 7"),
-            ("insert 7 -", "given 8"),
-            ("remove 7", "removed 6 -"),
-            ("remove 4", "removed 4 -"),
-            // 4 and 2
-            ("compact", "unresolved"),
-            ("within 8 -", "given 9"),
-            ("remove 6", "removed 5 1"),
-            // 3 and 2
-            ("reserve 7", "done"),
-            ("set 8 7 5", "done"),
-            ("remove 9", "removed 8 -"),
-            // 4, 2 and 3
-            ("compact", "compacted"),
-            (
-                "show",
-                "{P0[1](a): (1, None), P0[2](a): (7, Some(P0[1](a)))}",
-            ),
-            ("get 8", "found 7 5"),
-            ("reserve 2", "done"),
-            ("capacity", "count 2"),
-            ("insert 9 5", "given 10"),
-            ("clear", "cleared"),
-            ("show", "{}"),
-        ],
-    );
+    let rows = &[
+        ("insert 1 -", "given 1"),
+        ("reserve 6", "done"),
+        ("within 2 1", "given 2"),
+        (
+            "show",
+            "{P0[1](2): (1, None), P0[2](2): (2, Some(P0[1](2)))}",
+        ),
+        ("insert 3 -", "given 3"),
+        ("insert 4 -", "given 4"),
+        ("remove 2", "removed 2 1"),
+        ("remove 3", "removed 3 -"),
+        // the free indexes are 3 and 2, in this order
+        ("show", "{P0[1](2): (1, None), P0[4](2): (4, None)}"),
+        ("invalidate 1", "given 5"),
+        ("within 5 1", "given 6"),
+        ("insert 6 -", "given 7"),
+        ("insert 7 -", "given 8"),
+        ("remove 7", "removed 6 -"),
+        ("remove 4", "removed 4 -"),
+        // 4 and 2
+        ("compact", "unresolved"),
+        ("within 8 -", "given 9"),
+        ("remove 6", "removed 5 1"),
+        // 3 and 2
+        ("reserve 7", "done"),
+        ("set 8 7 5", "done"),
+        ("remove 9", "removed 8 -"),
+        // 4, 2 and 3
+        ("compact", "compacted"),
+        (
+            "show",
+            "{P0[1](a): (1, None), P0[2](a): (7, Some(P0[1](a)))}",
+        ),
+        ("get 8", "found 7 5"),
+        ("reserve 2", "done"),
+        ("capacity", "count 2"),
+        ("insert 9 5", "given 10"),
+        ("clear", "cleared"),
+        ("show", "{}"),
+    ];
+    let trial = AnswersOrChangesNothing { rows };
+    try_new(&rt, rt.alloc(), Kind::General, None, &trial);
 }

@@ -31,7 +31,7 @@ fn is_written(alloc: Global, reply: &Reply<u64>, text: &str) -> bool {
 /// The last is the longest.
 #[test]
 fn writes_each_reply(rt: HostRuntime) {
-    let rows: [(Reply<u64>, &str); 22] = [
+    let rows: &[(Reply<u64>, &str)] = &[
         (Reply::Given(1, false), "given 1"),
         (Reply::Given(20, true), "given 20 wrapped"),
         (Reply::Full, "full"),
@@ -61,5 +61,5 @@ fn writes_each_reply(rt: HostRuntime) {
             "removed 18446744073709551615 18446744073709551615 wrapped",
         ),
     ];
-    each_is_written(&rt, rt.alloc(), &rows);
+    each_is_written(&rt, rt.alloc(), rows);
 }

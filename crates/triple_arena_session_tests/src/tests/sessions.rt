@@ -1,7 +1,7 @@
 //! Sessions by their commands, at pointers of small generations too.
 
 use super::steps::{
-    Row, answers_text, extent, follow, has_extent, holds, new_session, replies, says,
+    Asked, Kind, Row, Text, Trial, answers_text, follow, holds, replies, says, try_new,
 };
 use std::alloc::Global;
 use std::array;
@@ -10,39 +10,35 @@ use std::process::Abort;
 use triple_arena::ArenaSlot;
 use triple_arena_ptr::{P0, P3, Ptr, PtrGen};
 use triple_arena_session::{Command, Node, Reply, Session};
-use triple_arena_stack::{
-    NonZeroInxArray, NonZeroInxBoxedSlice, NonZeroInxGenericStack, NonZeroInxLimitedVec,
-    NonZeroInxVec,
-};
-use triple_arena_trait_kit::{B, Narrow};
+use triple_arena_stack::{NonZeroInxArray, NonZeroInxGenericStack};
+use triple_arena_trait_kit::Narrow;
 
 #[test]
 fn answers_by_name(rt: HostRuntime) {
     let mut session: Session<P0, bool> = Session::new(rt.alloc());
-    follow(
-        &rt,
-        &mut session,
-        &[
-            (Command::Get(0), Reply::Nothing),
-            (Command::Insert(true, Some(1)), Reply::BadName),
-            (Command::Insert(true, None), Reply::Given(1, false)),
-            (Command::Insert(false, Some(1)), Reply::Given(2, false)),
-            (Command::Insert(false, Some(0)), Reply::BadName),
-            (Command::Get(2), Reply::Found(false, Some(1))),
-            (Command::Remove(1), Reply::Removed(true, None, false)),
-            (Command::Remove(1), Reply::Invalid),
-            (Command::Get(2), Reply::Found(false, Some(1))),
-            (Command::Insert(true, Some(1)), Reply::Given(3, false)),
-            (Command::Remove(2), Reply::Removed(false, Some(1), false)),
-            (Command::Get(3), Reply::Found(true, Some(1))),
-            (Command::Get(4), Reply::Nothing),
-        ],
-    );
+    let steps: &[(Command<bool>, Reply<bool>)] = &[
+        (Command::Get(0), Reply::Nothing),
+        (Command::Insert(true, Some(1)), Reply::BadName),
+        (Command::Insert(true, None), Reply::Given(1, false)),
+        (Command::Insert(false, Some(1)), Reply::Given(2, false)),
+        (Command::Insert(false, Some(0)), Reply::BadName),
+        (Command::Get(2), Reply::Found(false, Some(1))),
+        (Command::Remove(1), Reply::Removed(true, None, false)),
+        (Command::Remove(1), Reply::Invalid),
+        (Command::Get(2), Reply::Found(false, Some(1))),
+        (Command::Insert(true, Some(1)), Reply::Given(3, false)),
+        (Command::Remove(2), Reply::Removed(false, Some(1), false)),
+        (Command::Get(3), Reply::Found(true, Some(1))),
+        (Command::Get(4), Reply::Nothing),
+    ];
+    for (command, reply) in steps {
+        assert!(rt; session.step(*command) == *reply, "at {command:?}");
+    }
 }
 
 // Inserts a datum and removes its name, from the first name to before the last, and expects the
 // removal of one name alone to tell of a wrap.
-fn comes_and_goes(rt: &impl Abort, session: &mut Session<P3, u64>, last: usize, wraps: usize) {
+fn comes_and_goes(rt: &impl Abort, session: &mut impl Asked, last: usize, wraps: usize) {
     for name in 1..last {
         let given = replies(
             session,
@@ -59,23 +55,39 @@ fn comes_and_goes(rt: &impl Abort, session: &mut Session<P3, u64>, last: usize, 
 #[test]
 fn tells_of_a_wrap_where_it_comes(rt: HostRuntime) {
     assert!(rt; <P3 as Ptr>::Gen::counts());
-    let mut session: Session<P3, u64> = Session::new(rt.alloc());
-    comes_and_goes(&rt, &mut session, 65535, 65534);
+    try_new(&rt, rt.alloc(), Kind::Small, None, &WrapsOnce);
+}
+
+// The 65534th removal alone tells of a wrap.
+struct WrapsOnce;
+
+impl Trial for WrapsOnce {
+    fn pass(&self, rt: &impl Abort, _alloc: Global, session: &mut impl Asked) {
+        comes_and_goes(rt, session, 65535, 65534);
+    }
 }
 
 /// The run of a text ends with the reply that tells of a wrap: what follows isn't looked at.
 #[test]
 fn a_text_run_ends_at_a_wrap(rt: HostRuntime) {
-    let mut session: Session<P3, u64> = Session::new(rt.alloc());
-    comes_and_goes(&rt, &mut session, 65534, 0);
-    answers_text(
-        &rt,
-        rt.alloc(),
-        &mut session,
-        b"insert 5 -\nremove 65534\nno command\ninsert 6 -\n",
-        b"given 65534\nremoved 5 - wrapped\n",
-    );
-    follow(&rt, &mut session, &[(Command::Get(65535), Reply::Nothing)]);
+    try_new(&rt, rt.alloc(), Kind::Small, None, &EndsTextAtWrap);
+}
+
+// A text ends with the 65534th removal.
+struct EndsTextAtWrap;
+
+impl Trial for EndsTextAtWrap {
+    fn pass(&self, rt: &impl Abort, alloc: Global, session: &mut impl Asked) {
+        comes_and_goes(rt, session, 65534, 0);
+        answers_text(
+            rt,
+            alloc,
+            session,
+            b"insert 5 -\nremove 65534\nno command\ninsert 6 -\n",
+            b"given 65534\nremoved 5 - wrapped\n",
+        );
+        follow(rt, session, &[(Command::Get(65535), Reply::Nothing)]);
+    }
 }
 
 // Whether Debug writes this text for a node of the datum 20 and this link.
@@ -98,15 +110,15 @@ fn a_node_prints_as_its_pair(rt: HostRuntime) {
 // counter are as they were.
 fn inserted(
     rt: &impl Abort,
-    session: &mut Session<P0, u64>,
+    session: &mut impl Asked,
     datum: u64,
     link: Option<usize>,
 ) -> Option<usize> {
-    let before = extent(session);
-    match session.step(Command::Insert(datum, link)) {
+    let before = session.extent();
+    match session.answer(Command::Insert(datum, link)) {
         Reply::Given(name, false) => Some(name),
         reply => {
-            assert!(rt; reply == Reply::NoMemory && has_extent(session, before));
+            assert!(rt; reply == Reply::NoMemory && session.extent() == before);
             None
         }
     }
@@ -158,66 +170,53 @@ impl Expected {
 /// then one insertion answers so, and names, entries, capacity and counter are as they were.
 #[test]
 fn a_refused_insertion_changes_nothing(rt: HostRuntime) {
-    let mut session = new_session(rt.alloc());
-    let mut expected = Expected {
-        rows: [None; 16],
-        given: 0,
-        refused: false,
-    };
-    for datum in 0..12 {
-        let name = inserted(&rt, &mut session, datum, expected.link());
-        expected.keep(&rt, name, datum);
-        if datum % 3 == 2
-            && let Some((datum, link)) = expected.take()
-        {
-            let reply = Reply::Removed(datum, link, false);
-            assert!(rt; replies(&mut session, Command::Remove(expected.given), &reply));
+    try_new(&rt, rt.alloc(), Kind::General, None, &RefusesOnce);
+}
+
+// What was inserted stands, but for one insertion that may be refused.
+struct RefusesOnce;
+
+impl Trial for RefusesOnce {
+    fn pass(&self, rt: &impl Abort, _alloc: Global, session: &mut impl Asked) {
+        let mut expected = Expected {
+            rows: [None; 16],
+            given: 0,
+            refused: false,
+        };
+        for datum in 0..12 {
+            let name = inserted(rt, session, datum, expected.link());
+            expected.keep(rt, name, datum);
+            if datum % 3 == 2
+                && let Some((datum, link)) = expected.take()
+            {
+                let reply = Reply::Removed(datum, link, false);
+                assert!(rt; replies(session, Command::Remove(expected.given), &reply));
+            }
+            holds(rt, session, &expected.rows);
         }
-        holds(&rt, &mut session, &expected.rows);
+        assert_eq!(rt; expected.given, if expected.refused { 11 } else { 12 });
     }
-    assert_eq!(rt; expected.given, if expected.refused { 11 } else { 12 });
-}
-
-type Slot = ArenaSlot<P0, Node<u64, P0>>;
-
-// Expects a session over a kind of stack, with room for so many at first, to answer a text by these
-// lines.
-fn answers_over<S: NonZeroInxGenericStack<Slot> + Drop>(
-    rt: &impl Abort,
-    alloc: Global,
-    room: usize,
-    text: &[u8],
-    lines: &[u8],
-) {
-    match Session::<P0, u64, S>::with_min_capacity(alloc, room) {
-        Ok(mut session) => answers_text(rt, alloc, &mut session, text, lines),
-        Err(_) => panic!(rt; "there is memory"),
-    }
-}
-
-// The same of a session that is made without room.
-fn answers_over_new<S: NonZeroInxGenericStack<Slot> + Drop>(
-    rt: &impl Abort,
-    alloc: Global,
-    text: &[u8],
-    lines: &[u8],
-) {
-    let mut session: Session<P0, u64, S> = Session::new(alloc);
-    answers_text(rt, alloc, &mut session, text, lines);
 }
 
 #[test]
 fn a_limit_refuses_and_a_removal_makes_place(rt: HostRuntime) {
     let text = b"insert 1 -\ninsert 2 -\ninsert 3 -\nremove 1\ninsert 4 -\nget 1\n".as_slice();
-    let limited =
-        b"given 1\ngiven 2\nbeyond max capacity\nremoved 1 -\ngiven 3\nnothing\n".as_slice();
-    let unlimited = b"given 1\ngiven 2\ngiven 3\nremoved 1 -\ngiven 4\nnothing\n".as_slice();
+    let limited = Text {
+        text,
+        lines: b"given 1\ngiven 2\nbeyond max capacity\nremoved 1 -\ngiven 3\nnothing\n",
+    };
+    let unlimited = Text {
+        text,
+        lines: b"given 1\ngiven 2\ngiven 3\nremoved 1 -\ngiven 4\nnothing\n",
+    };
     let alloc = rt.alloc();
-    answers_over::<NonZeroInxLimitedVec<Slot>>(&rt, alloc, 2, text, limited);
-    answers_over::<NonZeroInxBoxedSlice<Slot>>(&rt, alloc, 2, text, limited);
-    answers_over_new::<NonZeroInxArray<Slot, 2>>(&rt, alloc, text, limited);
-    answers_over::<NonZeroInxVec<Slot>>(&rt, alloc, 2, text, unlimited);
+    try_new(&rt, alloc, Kind::Limited, Some(2), &limited);
+    try_new(&rt, alloc, Kind::Boxed, Some(2), &limited);
+    try_new(&rt, alloc, Kind::Two, None, &limited);
+    try_new(&rt, alloc, Kind::General, Some(2), &unlimited);
 }
+
+type Slot = ArenaSlot<P0, Node<u64, P0>>;
 
 // Whether a session is made with room for so many.
 fn has_places<S: NonZeroInxGenericStack<Slot> + Drop>(alloc: Global, room: usize) -> bool {
@@ -226,19 +225,13 @@ fn has_places<S: NonZeroInxGenericStack<Slot> + Drop>(alloc: Global, room: usize
 
 #[test]
 fn a_session_without_places_refuses_each_insertion(rt: HostRuntime) {
-    let text = b"insert 5 -\nget 1\n".as_slice();
-    let lines = b"beyond max capacity\nnothing\n".as_slice();
-    answers_over::<NonZeroInxBoxedSlice<Slot>>(&rt, rt.alloc(), 0, text, lines);
-    answers_over_new::<NonZeroInxLimitedVec<Slot>>(&rt, rt.alloc(), text, lines);
+    let refused = Text {
+        text: b"insert 5 -\nget 1\n",
+        lines: b"beyond max capacity\nnothing\n",
+    };
+    try_new(&rt, rt.alloc(), Kind::Boxed, Some(0), &refused);
+    try_new(&rt, rt.alloc(), Kind::Limited, None, &refused);
     assert!(rt; !has_places::<NonZeroInxArray<Slot, 8>>(rt.alloc(), 9));
-}
-
-// The replies of a run, if there was memory for them.
-fn run_of<P: Ptr>(
-    session: &mut Session<P, u64>,
-    commands: &[Command<u64>],
-) -> Option<Vec<Reply<u64>>> {
-    session.run(commands).ok()
 }
 
 // Expects a run to have had just these reply lines.
@@ -252,11 +245,19 @@ fn each_says(rt: &impl Abort, told: Option<Vec<Reply<u64>>>, lines: &[&str]) {
     }
 }
 
-// Expects the commands to run in a new session to these reply lines, and to leave so many entries.
-fn runs_to(rt: &impl Abort, alloc: Global, commands: &[Command<u64>], lines: &[&str], len: usize) {
-    let mut session = new_session(alloc);
-    each_says(rt, run_of(&mut session, commands), lines);
-    assert!(rt; extent(&session).0 == len);
+// Commands that run to these reply lines, and leave so many entries.
+#[derive(Drop)]
+struct Run<'a> {
+    commands: &'a [Command<u64>],
+    lines: &'a [&'a str],
+    len: usize,
+}
+
+impl Trial for Run<'_> {
+    fn pass(&self, rt: &impl Abort, _alloc: Global, session: &mut impl Asked) {
+        each_says(rt, session.answers(self.commands), self.lines);
+        assert!(rt; session.extent().0 == self.len);
+    }
 }
 
 #[test]
@@ -275,8 +276,18 @@ fn a_run_gives_one_reply_for_each_command(rt: HostRuntime) {
         "found 20 1",
         "nothing",
     ];
-    runs_to(&rt, rt.alloc(), &commands, &lines, 1);
-    runs_to(&rt, rt.alloc(), &[], &[], 0);
+    let some = Run {
+        commands: &commands,
+        lines: &lines,
+        len: 1,
+    };
+    let none = Run {
+        commands: &[],
+        lines: &[],
+        len: 0,
+    };
+    try_new(&rt, rt.alloc(), Kind::General, None, &some);
+    try_new(&rt, rt.alloc(), Kind::General, None, &none);
 }
 
 // The command at a position of 254 insertions, each before the removal of its name, and a last one.
@@ -313,14 +324,20 @@ fn ends_at_the_wrap(rt: &impl Abort, told: Option<Vec<Reply<u64>>>) {
 /// The byte counter begins at 2, so the 254th removal wraps it, and what follows isn't run.
 #[test]
 fn a_run_ends_at_a_wrap(rt: HostRuntime) {
-    let commands: [Command<u64>; 509] = array::from_fn(command_at);
-    let mut session: Session<B, u64> = Session::new(rt.alloc());
-    ends_at_the_wrap(&rt, run_of(&mut session, &commands));
-    follow(&rt, &mut session, &[(Command::Get(255), Reply::Nothing)]);
-    assert!(rt; extent(&session).0 == 0);
+    try_new(&rt, rt.alloc(), Kind::ByteGenerations, None, &EndsRunAtWrap);
 }
 
-type ByteSlot = ArenaSlot<Narrow, Node<u64, Narrow>>;
+// A run ends with the reply at 507.
+struct EndsRunAtWrap;
+
+impl Trial for EndsRunAtWrap {
+    fn pass(&self, rt: &impl Abort, _alloc: Global, session: &mut impl Asked) {
+        let commands: [Command<u64>; 509] = array::from_fn(command_at);
+        ends_at_the_wrap(rt, session.answers(&commands));
+        follow(rt, session, &[(Command::Get(255), Reply::Nothing)]);
+        assert!(rt; session.extent().0 == 0);
+    }
+}
 
 // A datum for each name, and a link to the name before it.
 fn entry_of(name: usize) -> (u64, Option<usize>) {
@@ -329,10 +346,7 @@ fn entry_of(name: usize) -> (u64, Option<usize>) {
 }
 
 // Inserts as many entries as there are byte indexes.
-fn fills<S: NonZeroInxGenericStack<ByteSlot>>(
-    rt: &impl Abort,
-    session: &mut Session<Narrow, u64, S>,
-) {
+fn fills(rt: &impl Abort, session: &mut impl Asked) {
     for name in 1..256 {
         let (datum, link) = entry_of(name);
         let command = Command::Insert(datum, link);
@@ -344,10 +358,7 @@ fn fills<S: NonZeroInxGenericStack<ByteSlot>>(
 }
 
 // Expects each of these names to find its entry.
-fn finds_each<S: NonZeroInxGenericStack<ByteSlot>>(
-    rt: &impl Abort,
-    session: &mut Session<Narrow, u64, S>,
-) {
+fn finds_each(rt: &impl Abort, session: &mut impl Asked) {
     for name in 1..256 {
         let (datum, link) = entry_of(name);
         let reply = Reply::Found(datum, link);
@@ -356,50 +367,56 @@ fn finds_each<S: NonZeroInxGenericStack<ByteSlot>>(
 }
 
 // Expects a full session to refuse an insertion so, and names, entries, capacity and counter to stay.
-fn refuses_and_stays<S: NonZeroInxGenericStack<ByteSlot>>(
-    rt: &impl Abort,
-    session: &mut Session<Narrow, u64, S>,
-    refusal: &Reply<u64>,
-) {
-    let before = extent(session);
+fn refuses_and_stays(rt: &impl Abort, session: &mut impl Asked, refusal: &Reply<u64>) {
+    let before = session.extent();
     assert!(rt; (before.0, before.1) == (255, 255));
     assert!(rt; replies(session, Command::Insert(0, None), refusal));
-    assert!(rt; has_extent(session, before));
+    assert!(rt; session.extent() == before);
     finds_each(rt, session);
 }
 
-// Fills a session, made with this room, up to the greatest byte index. The next insertion is refused
-// so, until a removal makes place.
-fn takes_every_index<S: NonZeroInxGenericStack<ByteSlot> + Drop>(
-    rt: &impl Abort,
-    alloc: Global,
-    room: usize,
-    refusal: &Reply<u64>,
-) {
-    let Ok(mut session) = Session::<Narrow, u64, S>::with_min_capacity(alloc, room) else {
-        panic!(rt; "there is memory");
-    };
-    fills(rt, &mut session);
-    refuses_and_stays(rt, &mut session, refusal);
-    follow(
-        rt,
-        &mut session,
-        &[
-            (Command::Get(0), Reply::Nothing),
-            (Command::Get(256), Reply::Nothing),
-            (Command::Remove(100), Reply::Removed(100, Some(99), false)),
-            (Command::Insert(7, Some(255)), Reply::Given(256, false)),
-        ],
-    );
+// Filled up to the greatest byte index, a session refuses the next insertion so, until a removal
+// makes place.
+#[derive(Drop)]
+struct TakesEveryIndex {
+    refusal: Reply<u64>,
+}
+
+impl Trial for TakesEveryIndex {
+    fn pass(&self, rt: &impl Abort, _alloc: Global, session: &mut impl Asked) {
+        fills(rt, session);
+        refuses_and_stays(rt, session, &self.refusal);
+        follow(
+            rt,
+            session,
+            &[
+                (Command::Get(0), Reply::Nothing),
+                (Command::Get(256), Reply::Nothing),
+                (Command::Remove(100), Reply::Removed(100, Some(99), false)),
+                (Command::Insert(7, Some(255)), Reply::Given(256, false)),
+            ],
+        );
+    }
 }
 
 /// Without a limit the 256th insertion wants an index that there is not. A limit at the greatest
 /// index is told first.
 #[test]
 fn an_arena_without_a_free_index_refuses(rt: HostRuntime) {
-    takes_every_index::<NonZeroInxVec<ByteSlot>>(&rt, rt.alloc(), 0, &Reply::NoMemory);
-    let refusal = Reply::BeyondMaxCapacity;
-    takes_every_index::<NonZeroInxLimitedVec<ByteSlot>>(&rt, rt.alloc(), 255, &refusal);
+    let at_indexes = TakesEveryIndex {
+        refusal: Reply::NoMemory,
+    };
+    let at_limit = TakesEveryIndex {
+        refusal: Reply::BeyondMaxCapacity,
+    };
+    try_new(&rt, rt.alloc(), Kind::ByteIndexes, Some(0), &at_indexes);
+    try_new(
+        &rt,
+        rt.alloc(),
+        Kind::LimitedByteIndexes,
+        Some(255),
+        &at_limit,
+    );
 }
 
 #[test]

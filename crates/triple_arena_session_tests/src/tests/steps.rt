@@ -1,26 +1,113 @@
-//! A new session, its steps as values, so that a test is a table of them, and texts that run in it.
+//! What the tests ask of a session, its steps as values, so that a test is a table of them, and texts
+//! that run in it.
 
 use arrayvec::ArrayString;
 use std::alloc::Global;
-use std::fmt::{Debug, Write};
+use std::fmt::Write;
+use std::num::NonZeroUsize;
 use std::process::Abort;
 use triple_arena::{ArenaSlot, ArenaTrait};
-use triple_arena_ptr::{P0, Ptr};
+use triple_arena_base::AllocError;
+use triple_arena_ptr::{P0, P3, Ptr, PtrGen, PtrInx};
 use triple_arena_session::{Command, Node, Reply, Session, run_text};
-use triple_arena_stack::NonZeroInxGenericStack;
+use triple_arena_stack::{
+    NonZeroInxArray, NonZeroInxBoxedSlice, NonZeroInxGenericStack, NonZeroInxLimitedVec,
+    NonZeroInxVec,
+};
+use triple_arena_trait_kit::{B, Narrow, Numbered, index_number};
 
-/// A new session at the pointer of general use.
-pub fn new_session(alloc: Global) -> Session<P0, u64> {
-    Session::new(alloc)
+/// How many entries an arena holds, for how many it has room, and the generation of its counter.
+pub type Extent = (usize, usize, u64);
+
+/// A session of numbers at any pointer and stack. It has no clauses, so that what is generic over it
+/// is proved at once for each of them.
+pub trait Asked {
+    /// The reply to a command.
+    fn answer(&mut self, command: Command<u64>) -> Reply<u64>;
+
+    /// The replies of a run of commands, if there is memory for them.
+    fn answers(&mut self, commands: &[Command<u64>]) -> Option<Vec<Reply<u64>>>;
+
+    /// The lines that answer a text, if it ends well.
+    fn lines(&mut self, alloc: Global, text: &[u8]) -> Option<Vec<u8>>;
+
+    /// The extent of the arena.
+    fn extent(&self) -> Extent;
+
+    /// The free indexes of an arena of at most 12 slots, in the order in which insertion takes them,
+    /// and then 0.
+    fn free(&self) -> [usize; 12];
+
+    /// The index of the last entry, and 0 where there is none.
+    fn last_index(&self) -> usize;
+}
+
+impl<P: Ptr, S: NonZeroInxGenericStack<ArenaSlot<P, Node<u64, P>>>> Asked for Session<P, u64, S>
+where
+    P::Gen: Numbered,
+{
+    fn answer(&mut self, command: Command<u64>) -> Reply<u64> {
+        self.step(command)
+    }
+
+    fn answers(&mut self, commands: &[Command<u64>]) -> Option<Vec<Reply<u64>>> {
+        self.run(commands).ok()
+    }
+
+    fn lines(&mut self, alloc: Global, text: &[u8]) -> Option<Vec<u8>> {
+        let mut input = text;
+        let mut output = Vec::new(alloc);
+        run_text(self, alloc, &mut input, &mut output).ok()?;
+        Some(output)
+    }
+
+    fn extent(&self) -> Extent {
+        let arena = self.arena();
+        (
+            arena.len(),
+            arena.capacity(),
+            arena.generation().told_number(),
+        )
+    }
+
+    fn free(&self) -> [usize; 12] {
+        let arena = self.arena();
+        let mut free = [0; 12];
+        let mut next = match arena.freelist_root() {
+            Some(inx) => P::Inx::try_into_usize(inx),
+            None => None,
+        };
+        for place in &mut free {
+            if let Some(inx) = next {
+                *place = inx.get();
+                next = free_after(arena.backing(), inx);
+            }
+        }
+        free
+    }
+
+    fn last_index(&self) -> usize {
+        match self.arena().find_last_inx_ptr() {
+            Some(p) => index_number(p.inx()),
+            None => 0,
+        }
+    }
+}
+
+// The free index after that of a free slot.
+fn free_after<P: Ptr, S: NonZeroInxGenericStack<ArenaSlot<P, Node<u64, P>>>>(
+    slots: &S,
+    inx: NonZeroUsize,
+) -> Option<NonZeroUsize> {
+    match slots.get(inx) {
+        Some(ArenaSlot::Free(link)) => link.after(inx),
+        _ => None,
+    }
 }
 
 /// Whether a command is answered so.
-pub fn replies<
-    P: Ptr,
-    X: Copy + PartialEq + Debug,
-    S: NonZeroInxGenericStack<ArenaSlot<P, Node<X, P>>>,
->(session: &mut Session<P, X, S>, command: Command<X>, reply: &Reply<X>) -> bool {
-    session.step(command) == *reply
+pub fn replies(session: &mut impl Asked, command: Command<u64>, reply: &Reply<u64>) -> bool {
+    session.answer(command) == *reply
 }
 
 /// Whether this, which has 64 bytes at most, is the text of a reply. It takes no memory.
@@ -30,11 +117,7 @@ pub fn says(reply: &Reply<u64>, text: &str) -> bool {
 }
 
 /// Makes each step, and expects its reply.
-pub fn follow<
-    P: Ptr,
-    X: Copy + PartialEq + Debug,
-    S: NonZeroInxGenericStack<ArenaSlot<P, Node<X, P>>>,
->(rt: &impl Abort, session: &mut Session<P, X, S>, steps: &[(Command<X>, Reply<X>)]) {
+pub fn follow(rt: &impl Abort, session: &mut impl Asked, steps: &[(Command<u64>, Reply<u64>)]) {
     for (command, reply) in steps {
         assert!(rt; replies(session, *command, reply), "at {command:?}");
     }
@@ -44,11 +127,7 @@ pub fn follow<
 pub type Row = Option<(u64, Option<usize>)>;
 
 /// Expects each name to be answered as its row says; the first row is that of 0.
-pub fn holds<P: Ptr, S: NonZeroInxGenericStack<ArenaSlot<P, Node<u64, P>>>>(
-    rt: &impl Abort,
-    session: &mut Session<P, u64, S>,
-    rows: &[Row],
-) {
+pub fn holds(rt: &impl Abort, session: &mut impl Asked, rows: &[Row]) {
     for (name, row) in rows.iter().enumerate() {
         let reply = match *row {
             Some((datum, link)) => Reply::Found(datum, link),
@@ -58,33 +137,102 @@ pub fn holds<P: Ptr, S: NonZeroInxGenericStack<ArenaSlot<P, Node<u64, P>>>>(
     }
 }
 
-/// How many entries the arena holds, for how many it has room, and the generation of its counter.
-pub fn extent<P: Ptr, X: Copy, S: NonZeroInxGenericStack<ArenaSlot<P, Node<X, P>>>>(
-    session: &Session<P, X, S>,
-) -> (usize, usize, P::Gen) {
-    let arena = session.arena();
-    (arena.len(), arena.capacity(), arena.generation())
-}
-
-/// Whether the arena still has this extent.
-pub fn has_extent<P: Ptr, X: Copy, S: NonZeroInxGenericStack<ArenaSlot<P, Node<X, P>>>>(
-    session: &Session<P, X, S>,
-    before: (usize, usize, P::Gen),
-) -> bool {
-    extent(session) == before
-}
-
 /// Runs a text in a session, and expects it to end well, answered by these lines.
-pub fn answers_text<P: Ptr, S: NonZeroInxGenericStack<ArenaSlot<P, Node<u64, P>>>>(
+pub fn answers_text(
     rt: &impl Abort,
     alloc: Global,
-    session: &mut Session<P, u64, S>,
+    session: &mut impl Asked,
     text: &[u8],
     lines: &[u8],
 ) {
-    let mut input = text;
-    let mut output = Vec::new(alloc);
-    let outcome = run_text(session, alloc, &mut input, &mut output);
-    assert!(rt; outcome == Ok(()));
-    assert_eq!(rt; output.as_slice(), lines);
+    match session.lines(alloc, text) {
+        Some(written) => assert_eq!(rt; written.as_slice(), lines),
+        None => panic!(rt; "the text ends well"),
+    }
+}
+
+/// What is tried in a new session.
+pub trait Trial {
+    /// Expects the session to pass.
+    fn pass(&self, rt: &impl Abort, alloc: Global, session: &mut impl Asked);
+}
+
+/// Lines that a text is answered by.
+#[derive(Drop)]
+pub struct Text<'a> {
+    pub text: &'a [u8],
+    pub lines: &'a [u8],
+}
+
+impl Trial for Text<'_> {
+    fn pass(&self, rt: &impl Abort, alloc: Global, session: &mut impl Asked) {
+        answers_text(rt, alloc, session, self.text, self.lines);
+    }
+}
+
+/// The sessions that are tried, by their pointers and stacks.
+#[derive(Clone, Copy)]
+pub enum Kind {
+    /// The pointer of general use, over the heap.
+    General,
+    Limited,
+    Boxed,
+    /// An array of two places.
+    Two,
+    /// An array of eight places.
+    Eight,
+    /// Generations of 16 bits.
+    Small,
+    /// Generations of a byte.
+    ByteGenerations,
+    /// Indexes of a byte.
+    ByteIndexes,
+    LimitedByteIndexes,
+}
+
+type Slot<P> = ArenaSlot<P, Node<u64, P>>;
+
+/// Tries a new session of a kind, made with room for so many where that is given. The one body that
+/// names the types of the kinds, since each such name is slow to prove.
+pub fn try_new(
+    rt: &impl Abort,
+    alloc: Global,
+    kind: Kind,
+    room: Option<usize>,
+    trial: &impl Trial,
+) {
+    match kind {
+        Kind::General => try_at::<P0, NonZeroInxVec<Slot<P0>>>(rt, alloc, room, trial),
+        Kind::Limited => try_at::<P0, NonZeroInxLimitedVec<Slot<P0>>>(rt, alloc, room, trial),
+        Kind::Boxed => try_at::<P0, NonZeroInxBoxedSlice<Slot<P0>>>(rt, alloc, room, trial),
+        Kind::Two => try_at::<P0, NonZeroInxArray<Slot<P0>, 2>>(rt, alloc, room, trial),
+        Kind::Eight => try_at::<P0, NonZeroInxArray<Slot<P0>, 8>>(rt, alloc, room, trial),
+        Kind::Small => try_at::<P3, NonZeroInxVec<Slot<P3>>>(rt, alloc, room, trial),
+        Kind::ByteGenerations => try_at::<B, NonZeroInxVec<Slot<B>>>(rt, alloc, room, trial),
+        Kind::ByteIndexes => try_at::<Narrow, NonZeroInxVec<Slot<Narrow>>>(rt, alloc, room, trial),
+        Kind::LimitedByteIndexes => {
+            try_at::<Narrow, NonZeroInxLimitedVec<Slot<Narrow>>>(rt, alloc, room, trial)
+        }
+    }
+}
+
+// The same at a pointer and a stack.
+fn try_at<P: Ptr, S: NonZeroInxGenericStack<Slot<P>> + Drop>(
+    rt: &impl Abort,
+    alloc: Global,
+    room: Option<usize>,
+    trial: &impl Trial,
+)
+where
+    P::Gen: Numbered,
+{
+    assert!(rt; P::Gen::counts());
+    let made: Result<Session<P, u64, S>, AllocError> = match room {
+        Some(room) => Session::with_min_capacity(alloc, room),
+        None => Ok(Session::new(alloc)),
+    };
+    match made {
+        Ok(mut session) => trial.pass(rt, alloc, &mut session),
+        Err(_) => panic!(rt; "there is memory"),
+    }
 }

@@ -5,12 +5,12 @@ use std::alloc::Global;
 use std::cell::Cell;
 use triple_arena::{Arena, ArenaInsertEntryTrait, ArenaInsertTrait, ArenaSlot, ArenaTrait};
 use triple_arena_base::InvalidationResult;
-use triple_arena_ptr::P0;
+use triple_arena_ptr::{P0, Ptr};
 use triple_arena_stack::{
     NonZeroInxArray, NonZeroInxBoxedSlice, NonZeroInxGenericStack, NonZeroInxLimitedVec,
     NonZeroInxVec, SetMaxCapacity,
 };
-use triple_arena_test_kit::{Scarce, inx, pointer};
+use triple_arena_test_kit::{Numbered, Scarce, inx, pointer};
 
 // A value that counts its drop.
 struct Counted<'a> {
@@ -89,11 +89,14 @@ fn is_held<T, R: Drop, C: Count<T>>(taken: InvalidationResult<R>, count: &C, bef
 }
 
 // Makes a call. An ending is done where the counter doesn't wrap.
-fn is_done<T: Drop, C: Count<T>, A: ArenaInsertTrait<P0, T>>(
+fn is_done<P: Ptr, T: Drop, C: Count<T>, A: ArenaInsertTrait<P, T>>(
     arena: &mut A,
     count: &C,
     call: Call,
-) -> bool {
+) -> bool
+where
+    P::Gen: Numbered,
+{
     match call {
         Call::Insert => arena.insert(count.new_value()).is_ok(),
         Call::InsertReallocating => arena.insert_reallocating(count.new_value()).is_ok(),
@@ -289,9 +292,12 @@ fn a_value_that_memory_refuses_is_dropped_once(rt: HostRuntime) -> Result<(), Wr
 }
 
 // Takes an entry and lets it go: whether its pointer is the first.
-fn lets_entry_go<T, S: NonZeroInxGenericStack<ArenaSlot<P0, T>>>(
-    arena: &mut Arena<P0, T, S>,
-) -> bool {
+fn lets_entry_go<P: Ptr, T, S: NonZeroInxGenericStack<ArenaSlot<P, T>>>(
+    arena: &mut Arena<P, T, S>,
+) -> bool
+where
+    P::Gen: Numbered,
+{
     match arena.entry_insert() {
         Ok(entry) => entry.ptr() == pointer(1, 2),
         Err(_) => false,
@@ -299,8 +305,8 @@ fn lets_entry_go<T, S: NonZeroInxGenericStack<ArenaSlot<P0, T>>>(
 }
 
 // Inserts by an entry, and writes another value over it: whether there was an entry.
-fn writes_over_entry<T: Drop, S: NonZeroInxGenericStack<ArenaSlot<P0, T>>>(
-    arena: &mut Arena<P0, T, S>,
+fn writes_over_entry<P: Ptr, T: Drop, S: NonZeroInxGenericStack<ArenaSlot<P, T>>>(
+    arena: &mut Arena<P, T, S>,
     first: T,
     second: T,
 ) -> bool {

@@ -12,8 +12,8 @@ use triple_arena_base::{InvalidationResult, ReallocationError};
 use triple_arena_ptr::{P0, Ptr, PtrGen, PtrInx};
 use triple_arena_stack::NonZeroInxGenericStack;
 use triple_arena_test_kit::{
-    Asked, Call, Heap, Limited, Token, Told, Wrong, answer_to_read, ask, is_told, pointer,
-    with_room,
+    Asked, Call, Heap, Limited, Numbered, Token, Told, Wrong, answer_to_read, ask, index_number,
+    is_told, pointer, with_room,
 };
 
 // Puts another value under a pointer, and gives the one that stood there.
@@ -51,43 +51,6 @@ fn take<P: Ptr, T, A: ArenaTrait<P, T>>(arena: &mut A, p: P) -> InvalidationResu
     arena.remove(p)
 }
 
-// The number that stood under a pointer, or the one that is given back.
-fn exchange_number<A: ArenaTrait<P0, Token>>(
-    arena: &mut A,
-    p: P0,
-    number: u64,
-) -> Result<u64, u64> {
-    match exchange(arena, p, Token { number }) {
-        Ok(token) => Ok(token.number),
-        Err(token) => Err(token.number),
-    }
-}
-
-// The pointer of a new number, where there is a place for it.
-fn put_number<A: ArenaInsertTrait<P0, Token>>(arena: &mut A, number: u64) -> Option<P0> {
-    put(arena, Token { number }).ok()
-}
-
-// The number that is taken out, if there is one, where the counter doesn't wrap.
-fn take_number<A: ArenaTrait<P0, Token>>(arena: &mut A, p: P0) -> Option<u64> {
-    match take(arena, p) {
-        InvalidationResult::Success(token) => Some(token.number),
-        _ => None,
-    }
-}
-
-// The callers on an arena without entries.
-fn callers<A: ArenaInsertTrait<P0, Token>>(arena: &mut A) -> Result<(), Wrong> {
-    let p = pointer(1, 2);
-    let all = put_number(arena, 10) == Some(p)
-        && put_number(arena, 20) == Some(pointer(2, 2))
-        && exchange_number(arena, p, 11) == Ok(10)
-        && take_number(arena, p) == Some(11)
-        && exchange_number(arena, p, 12) == Err(12);
-    is_told(0, Told::Is(all), Told::Is(true))?;
-    is_told(1, answer_to_read(arena, Call::Get(2, 2)), Told::Holds(20))
-}
-
 // Makes place for one more entry, and inserts there.
 fn insert_in_new_place<P: Ptr, T: Drop, A: ArenaInsertTrait<P, T>>(
     arena: &mut A,
@@ -100,45 +63,112 @@ fn insert_in_new_place<P: Ptr, T: Drop, A: ArenaInsertTrait<P, T>>(
     Ok(arena.insert_reserved(t))
 }
 
-// Whether a new number in a new place has the pointer of this index, or is refused so.
-fn is_placed<A: ArenaInsertTrait<P0, Token>>(
-    arena: &mut A,
-    number: u64,
-    expected: Result<usize, ReallocationError>,
-) -> bool {
-    match (insert_in_new_place(arena, Token { number }), expected) {
-        (Ok(p), Ok(index)) => p == pointer(index, 2),
-        (Err(refused), Err(expected)) => refused == expected,
-        _ => false,
+// A call of one of these. A pointer is given by the numbers of its index and its generation.
+#[derive(Clone, Copy)]
+enum Caller {
+    Put(u64),
+    PutInNewPlace(u64),
+    Exchange(usize, u64, u64),
+    Take(usize, u64),
+    Get(usize, u64),
+    Bounds,
+}
+
+// Where a value was put.
+fn told_put<P: Ptr>(put: Result<P, ReallocationError>) -> Told
+where
+    P::Gen: Numbered,
+{
+    match put {
+        Ok(p) => Told::At(index_number(p.inx()), p.generation().told_number()),
+        Err(refused) => Told::Refused(refused),
     }
 }
 
-// A place for each of many insertions.
-fn a_place_each<A: ArenaInsertTrait<P0, Token>>(arena: &mut A) -> Result<(), Wrong> {
-    for index in 1..100 {
-        let placed = is_placed(arena, 7, Ok(index));
-        is_told(index, Told::Is(placed), Told::Is(true))?;
-        let bounds = Told::Bounds(arena.len(), arena.capacity(), arena.max_capacity());
-        is_told(index, bounds, Told::Bounds(index, index, None))?;
+// The number that stood under a pointer, or the one that is given back.
+fn told_exchanged(exchanged: Result<Token, Token>) -> Told {
+    match exchanged {
+        Ok(token) => Told::Holds(token.number),
+        Err(token) => Told::GivenBack(token.number),
+    }
+}
+
+// The number that is taken out, if there is one, where the counter doesn't wrap.
+fn told_taken(taken: InvalidationResult<Token>) -> Told {
+    match taken {
+        InvalidationResult::Success(token) => Told::Holds(token.number),
+        _ => Told::Nothing,
+    }
+}
+
+// What a caller answers.
+fn answer<P: Ptr, A: ArenaInsertTrait<P, Token>>(arena: &mut A, caller: Caller) -> Told
+where
+    P::Gen: Numbered,
+{
+    match caller {
+        Caller::Put(number) => told_put(put(arena, Token { number })),
+        Caller::PutInNewPlace(number) => told_put(insert_in_new_place(arena, Token { number })),
+        Caller::Exchange(i, g, number) => {
+            told_exchanged(exchange(arena, pointer(i, g), Token { number }))
+        }
+        Caller::Take(i, g) => told_taken(take(arena, pointer(i, g))),
+        Caller::Get(i, g) => answer_to_read(arena, Call::Get(i, g)),
+        Caller::Bounds => Told::Bounds(arena.len(), arena.capacity(), arena.max_capacity()),
+    }
+}
+
+// Makes each call, and expects its answer.
+fn follow<P: Ptr, A: ArenaInsertTrait<P, Token>>(
+    arena: &mut A,
+    steps: &[(Caller, Told)],
+) -> Result<(), Wrong>
+where
+    P::Gen: Numbered,
+{
+    for (row, (caller, expected)) in steps.iter().enumerate() {
+        is_told(row, answer(arena, *caller), *expected)?;
     }
     Ok(())
 }
 
+// The callers on an arena without entries.
+const CALLERS: Tried = Tried::Steps(&[
+    (Caller::Put(10), Told::At(1, 2)),
+    (Caller::Put(20), Told::At(2, 2)),
+    (Caller::Exchange(1, 2, 11), Told::Holds(10)),
+    (Caller::Take(1, 2), Told::Holds(11)),
+    (Caller::Exchange(1, 2, 12), Told::GivenBack(12)),
+    (Caller::Get(2, 2), Told::Holds(20)),
+]);
+
 // One place, and no more, on an arena that has one.
-fn one_place<A: ArenaInsertTrait<P0, Token>>(arena: &mut A) -> Result<(), Wrong> {
-    let placed = is_placed(arena, 7, Ok(1));
-    is_told(0, Told::Is(placed), Told::Is(true))?;
-    let beyond = Err(ReallocationError::BeyondMaxCapacity);
-    let refused = is_placed(arena, 8, beyond);
-    is_told(1, Told::Is(refused), Told::Is(true))?;
-    is_told(2, answer_to_read(arena, Call::Get(1, 2)), Told::Holds(7))
+const ONE_PLACE: Tried = Tried::Steps(&[
+    (Caller::PutInNewPlace(7), Told::At(1, 2)),
+    (
+        Caller::PutInNewPlace(8),
+        Told::Refused(ReallocationError::BeyondMaxCapacity),
+    ),
+    (Caller::Get(1, 2), Told::Holds(7)),
+]);
+
+// A place for each of many insertions.
+fn a_place_each<P: Ptr, A: ArenaInsertTrait<P, Token>>(arena: &mut A) -> Result<(), Wrong>
+where
+    P::Gen: Numbered,
+{
+    for index in 1..100 {
+        let placed = (Caller::PutInNewPlace(7), Told::At(index, 2));
+        let bounds = (Caller::Bounds, Told::Bounds(index, index, None));
+        follow(arena, &[placed, bounds])?;
+    }
+    Ok(())
 }
 
 #[derive(Clone, Copy)]
 enum Tried {
-    Callers,
+    Steps(&'static [(Caller, Told)]),
     APlaceEach,
-    OnePlace,
 }
 
 impl Asked<P0, Result<(), Wrong>> for Tried {
@@ -148,9 +178,8 @@ impl Asked<P0, Result<(), Wrong>> for Tried {
             + DisjointableArenaTrait<P0, Token>,
     >(self, arena: &mut A) -> Result<(), Wrong> {
         match self {
-            Tried::Callers => callers(arena),
+            Tried::Steps(steps) => follow(arena, steps),
             Tried::APlaceEach => a_place_each(arena),
-            Tried::OnePlace => one_place(arena),
         }
     }
 }
@@ -167,7 +196,7 @@ fn tries_on<S: NonZeroInxGenericStack<ArenaSlot<P0, Token>> + Drop>(
 
 #[test]
 fn callers_over_any_arena(rt: HostRuntime) -> Result<(), Wrong> {
-    tries_on::<Heap<P0>>(rt.alloc(), 0, Tried::Callers)
+    tries_on::<Heap<P0>>(rt.alloc(), 0, CALLERS)
 }
 
 #[test]
@@ -177,5 +206,5 @@ fn a_reallocation_and_then_a_reserved_insertion(rt: HostRuntime) -> Result<(), W
 
 #[test]
 fn a_reallocation_past_the_limit_inserts_nothing(rt: HostRuntime) -> Result<(), Wrong> {
-    tries_on::<Limited<P0>>(rt.alloc(), 1, Tried::OnePlace)
+    tries_on::<Limited<P0>>(rt.alloc(), 1, ONE_PLACE)
 }

@@ -35,7 +35,7 @@ const REFUSED: Unchanged = Unchanged(&[
 
 // A call that leaves the arena with these numbers at the first index and the third, and else as it
 // was.
-#[derive(Drop)]
+#[derive(Clone, Copy)]
 struct Leaves {
     step: (Call, Told),
     first: u64,
@@ -57,6 +57,30 @@ fn entry_of(entry: Option<(u64, u64)>, number: u64) -> Option<(u64, u64)> {
     Some((generation, number))
 }
 
+// The calls on the first value and the third.
+const EXCHANGED: &[Leaves] = &[
+    Leaves {
+        step: (Call::Swap((3, 2), (1, 2)), Told::Done),
+        first: 3,
+        third: 1,
+    },
+    Leaves {
+        step: (Call::Lend((3, 2), (1, 2), 30), Told::Both(1, 3)),
+        first: 3,
+        third: 30,
+    },
+    Leaves {
+        step: (Call::SwapInx(1, 3), Told::Done),
+        first: 30,
+        third: 3,
+    },
+    Leaves {
+        step: (Call::LendInx(1, 3, 4), Told::BothHeld(2, 30, 2, 3)),
+        first: 30,
+        third: 4,
+    },
+];
+
 // Each call on two values, on an arena with three places and no entry.
 #[derive(Drop)]
 struct EachPair;
@@ -65,30 +89,10 @@ impl Trial for EachPair {
     fn on<A: TestedArena>(&self, arena: &mut A) -> Result<(), Wrong> {
         FIRST_AND_THIRD.on(arena)?;
         REFUSED.on(arena)?;
-        let swapped = Leaves {
-            step: (Call::Swap((3, 2), (1, 2)), Told::Done),
-            first: 3,
-            third: 1,
-        };
-        swapped.on(arena)?;
-        let lent = Leaves {
-            step: (Call::Lend((3, 2), (1, 2), 30), Told::Both(1, 3)),
-            first: 3,
-            third: 30,
-        };
-        lent.on(arena)?;
-        let swapped_inx = Leaves {
-            step: (Call::SwapInx(1, 3), Told::Done),
-            first: 30,
-            third: 3,
-        };
-        swapped_inx.on(arena)?;
-        let lent_inx = Leaves {
-            step: (Call::LendInx(1, 3, 4), Told::BothHeld(2, 30, 2, 3)),
-            first: 30,
-            third: 4,
-        };
-        lent_inx.on(arena)
+        for leaves in EXCHANGED {
+            leaves.on(arena)?;
+        }
+        Ok(())
     }
 }
 

@@ -1,15 +1,15 @@
 //! The text of an arena.
 
-use super::asking::put;
+use super::asking::{AskedToInsert, ask_to_insert};
 use std::alloc::Global;
 use std::fmt;
 use std::fmt::{Debug, Write};
-use triple_arena::{Arena, ArenaSlot, ArenaTrait};
+use triple_arena::{Arena, ArenaInsertTrait, ArenaSlot, ArenaTrait};
 use triple_arena_ptr::{P0, P4, Ptr, Q2};
 use triple_arena_stack::{NonZeroInxGenericStack, NonZeroInxVec};
 use triple_arena_test_kit::{
-    Call, Fixed, Heap, Limited, Narrow, Numbered, Places, Steps, Token, Told, Trial, Wrong,
-    is_text, new_arena, pointer, with_room,
+    Call, Fixed, Heap, Limited, Narrow, Numbered, Places, Steps, TestedArena, Token, Told, Trial,
+    Wrong, is_text, pointer, with_room,
 };
 
 // Three entries, of which the second goes, and the third gets a new pointer.
@@ -22,57 +22,58 @@ const TWO_LEFT: Steps = Steps(&[
 ]);
 
 // That an arena has this text.
-fn has_text<P: Ptr, T: Debug, S: NonZeroInxGenericStack<ArenaSlot<P, T>>>(
-    arena: &Arena<P, T, S>,
-    alloc: Global,
-    expected: &'static str,
-) -> Result<(), Wrong> {
+fn has_text<A: Debug>(arena: &A, alloc: Global, expected: &'static str) -> Result<(), Wrong> {
     is_text(format!(in alloc; "{arena:?}")?.as_str(), expected)
 }
 
 // The text of an arena without entries, and its text with two.
-fn each_text<P: Ptr, S: NonZeroInxGenericStack<ArenaSlot<P, Token>>>(
-    arena: &mut Arena<P, Token, S>,
+fn each_text<A: TestedArena + Debug>(
+    arena: &mut A,
     alloc: Global,
     expected: &'static str,
-) -> Result<(), Wrong>
-where
-    P::Gen: Numbered,
-{
-    let before = has_text(arena, alloc, "{}");
-    let changed = TWO_LEFT.on(arena);
-    before.and(changed).and(has_text(arena, alloc, expected))
+) -> Result<(), Wrong> {
+    has_text(arena, alloc, "{}")?;
+    TWO_LEFT.on(arena)?;
+    has_text(arena, alloc, expected)
 }
 
-// The same of an arena with place for three.
-fn has_texts<P: Ptr, S: NonZeroInxGenericStack<ArenaSlot<P, Token>> + Drop>(
+// What is tried of the texts of an arena without entries.
+#[derive(Clone, Copy)]
+enum Tried {
+    // That it has this text with two entries.
+    Text(&'static str),
+    EachRefusal,
+}
+
+// Tries it on an arena with place for three.
+fn tries_on<P: Ptr, S: NonZeroInxGenericStack<ArenaSlot<P, Token>> + Drop>(
     alloc: Global,
-    expected: &'static str,
+    tried: Tried,
 ) -> Result<(), Wrong>
 where
     P::Gen: Numbered,
 {
     let mut arena: Arena<P, Token, S> = with_room(alloc, 3)?;
-    each_text(&mut arena, alloc, expected)
+    tries(&mut arena, alloc, tried)
 }
 
 #[test]
 fn entries_stand_by_index_over_each_stack(rt: HostRuntime) -> Result<(), Wrong> {
-    has_texts::<P0, Heap<P0>>(
+    tries_on::<P0, Heap<P0>>(
         rt.alloc(),
-        "{P0[1](2): Token { number: 7 }, P0[3](4): Token { number: 8 }}",
+        Tried::Text("{P0[1](2): Token { number: 7 }, P0[3](4): Token { number: 8 }}"),
     )?;
-    has_texts::<Q2, Limited<Q2>>(
+    tries_on::<Q2, Limited<Q2>>(
         rt.alloc(),
-        "{Q2[1](2): Token { number: 7 }, Q2[3](4): Token { number: 8 }}",
+        Tried::Text("{Q2[1](2): Token { number: 7 }, Q2[3](4): Token { number: 8 }}"),
     )?;
-    has_texts::<P4, Fixed<P4>>(
+    tries_on::<P4, Fixed<P4>>(
         rt.alloc(),
-        "{P4[1]: Token { number: 7 }, P4[3]: Token { number: 8 }}",
+        Tried::Text("{P4[1]: Token { number: 7 }, P4[3]: Token { number: 8 }}"),
     )?;
-    has_texts::<Narrow, Places<Narrow, 3>>(
+    tries_on::<Narrow, Places<Narrow, 3>>(
         rt.alloc(),
-        "{PtrOf[1](2): Token { number: 7 }, PtrOf[3](4): Token { number: 8 }}",
+        Tried::Text("{PtrOf[1](2): Token { number: 7 }, PtrOf[3](4): Token { number: 8 }}"),
     )
 }
 
@@ -85,18 +86,52 @@ fn is_put(p: Option<P0>, index: usize) -> Result<(), Wrong> {
     }
 }
 
+// A value that is inserted.
+struct NewValue<T> {
+    value: T,
+}
+
+impl<P: Ptr, T: Drop> AskedToInsert<P, T, Option<P>> for NewValue<T> {
+    fn of<A: ArenaInsertTrait<P, T>>(self, arena: &mut A) -> Option<P> {
+        let NewValue { value } = self;
+        arena.insert(value).ok()
+    }
+}
+
+// An arena that takes values.
+trait Taking<T> {
+    // The pointer of a new value, where there is memory for it.
+    fn put(&mut self, value: T) -> Option<P0>;
+}
+
+impl<T: Drop, S: NonZeroInxGenericStack<ArenaSlot<P0, T>>> Taking<T> for Arena<P0, T, S> {
+    fn put(&mut self, value: T) -> Option<P0> {
+        ask_to_insert(self, NewValue { value })
+    }
+}
+
 // The texts of an arena of one value, and of that one and another.
+fn each_text_of_two<T: Drop, A: Taking<T> + Debug>(
+    arena: &mut A,
+    alloc: Global,
+    values: (T, T),
+    expected: (&'static str, &'static str),
+) -> Result<(), Wrong> {
+    let (first, second) = values;
+    is_put(arena.put(first), 1)?;
+    has_text(arena, alloc, expected.0)?;
+    is_put(arena.put(second), 2)?;
+    has_text(arena, alloc, expected.1)
+}
+
+// The same of a new arena.
 fn two_values<T: Debug + Drop, S: NonZeroInxGenericStack<ArenaSlot<P0, T>> + Drop>(
     alloc: Global,
     values: (T, T),
     expected: (&'static str, &'static str),
 ) -> Result<(), Wrong> {
     let mut arena: Arena<P0, T, S> = Arena::new(alloc);
-    let (first, second) = values;
-    is_put(put(&mut arena, first), 1)?;
-    has_text(&arena, alloc, expected.0)?;
-    is_put(put(&mut arena, second), 2)?;
-    has_text(&arena, alloc, expected.1)
+    each_text_of_two(&mut arena, alloc, values, expected)
 }
 
 type OnHeap<T> = NonZeroInxVec<ArenaSlot<P0, T>>;
@@ -143,10 +178,7 @@ impl Write for Refusing {
 
 // Writes an arena to a writer that takes so many pieces: how many more it takes then, or how many it
 // refused.
-fn written<P: Ptr, T: Debug, S: NonZeroInxGenericStack<ArenaSlot<P, T>>>(
-    arena: &Arena<P, T, S>,
-    pieces_left: usize,
-) -> Result<usize, usize> {
+fn written<A: Debug>(arena: &A, pieces_left: usize) -> Result<usize, usize> {
     let mut writer = Refusing {
         pieces_left,
         refusals: 0,
@@ -158,10 +190,7 @@ fn written<P: Ptr, T: Debug, S: NonZeroInxGenericStack<ArenaSlot<P, T>>>(
 }
 
 // That a writer which takes fewer pieces than these refuses one alone.
-fn refuses_once<P: Ptr, T: Debug, S: NonZeroInxGenericStack<ArenaSlot<P, T>>>(
-    arena: &Arena<P, T, S>,
-    pieces: usize,
-) -> Result<(), Wrong> {
+fn refuses_once<A: Debug>(arena: &A, pieces: usize) -> Result<(), Wrong> {
     for pieces_left in 0..pieces {
         if written(arena, pieces_left) != Err(1) {
             return Err(Wrong::Answer(pieces_left));
@@ -171,18 +200,22 @@ fn refuses_once<P: Ptr, T: Debug, S: NonZeroInxGenericStack<ArenaSlot<P, T>>>(
 }
 
 // The same with each number of pieces that is too small for two entries.
-fn each_refusal<S: NonZeroInxGenericStack<ArenaSlot<P0, Token>> + Drop>(
-    alloc: Global,
-) -> Result<(), Wrong> {
-    let mut arena: Arena<P0, Token, S> = new_arena(alloc);
-    TWO_LEFT.on(&mut arena)?;
-    match written(&arena, 100) {
-        Ok(left) => refuses_once(&arena, usize::saturating_sub(100, left)),
+fn each_refusal<A: TestedArena + Debug>(arena: &mut A) -> Result<(), Wrong> {
+    TWO_LEFT.on(arena)?;
+    match written(arena, 100) {
+        Ok(left) => refuses_once(arena, usize::saturating_sub(100, left)),
         Err(_) => Err(Wrong::Answer(100)),
+    }
+}
+
+fn tries<A: TestedArena + Debug>(arena: &mut A, alloc: Global, tried: Tried) -> Result<(), Wrong> {
+    match tried {
+        Tried::Text(expected) => each_text(arena, alloc, expected),
+        Tried::EachRefusal => each_refusal(arena),
     }
 }
 
 #[test]
 fn a_writer_that_fails_is_asked_no_more(rt: HostRuntime) -> Result<(), Wrong> {
-    each_refusal::<Heap<P0>>(rt.alloc())
+    tries_on::<P0, Heap<P0>>(rt.alloc(), Tried::EachRefusal)
 }

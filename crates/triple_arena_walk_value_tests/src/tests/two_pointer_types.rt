@@ -6,7 +6,7 @@ use std::process::Abort;
 use triple_arena::{Arena, ArenaInsertTrait, ArenaSlot, ArenaTrait};
 use triple_arena_ptr::{P0, Ptr, Q2};
 use triple_arena_stack::{NonZeroInxGenericStack, NonZeroInxVec};
-use triple_arena_test_kit::pointer;
+use triple_arena_test_kit::{Numbered, pointer};
 
 // A pointer of another arena, and one of the arena that has the value.
 type Pair = (P0, Q2);
@@ -14,11 +14,14 @@ type Pair = (P0, Q2);
 // Two pairs that come: their pointers, and the second part of the second.
 struct TwoPairs;
 
-impl AskedToInsert<Q2, Pair, Option<(Q2, Q2, Q2)>> for TwoPairs {
-    fn of<A: ArenaInsertTrait<Q2, Pair>>(self, arena: &mut A) -> Option<(Q2, Q2, Q2)> {
+impl<O: Ptr, P: Ptr> AskedToInsert<P, (O, P), Option<(P, P, P)>> for TwoPairs
+where
+    O::Gen: Numbered,
+{
+    fn of<A: ArenaInsertTrait<P, (O, P)>>(self, arena: &mut A) -> Option<(P, P, P)> {
         let TwoPairs = self;
-        let other: P0 = pointer(2, 2);
-        let first = arena.insert((other, Q2::invalid())).ok()?;
+        let other: O = pointer(2, 2);
+        let first = arena.insert((other, P::invalid())).ok()?;
         let second = arena.insert((other, first)).ok()?;
         let (_other, held) = arena.get(second).copied()?;
         Some((first, second, held))
@@ -39,31 +42,23 @@ fn a_value_holds_pointers_of_two_types(rt: HostRuntime) {
     assert!(rt; pairs::<NonZeroInxVec<ArenaSlot<Q2, Pair>>>(rt.alloc()) == Some(expected));
 }
 
-// A number that comes to an arena and is taken out.
+// A number that comes to an arena, is the first entry then, and is taken out.
 struct PutAndTaken {
     number: u64,
 }
 
-impl<P: Ptr> AskedToInsert<P, u64, Option<u64>> for PutAndTaken {
-    fn of<A: ArenaInsertTrait<P, u64>>(self, arena: &mut A) -> Option<u64> {
+impl<P: Ptr> AskedToInsert<P, u64, Option<(P, u64)>> for PutAndTaken {
+    fn of<A: ArenaInsertTrait<P, u64>>(self, arena: &mut A) -> Option<(P, u64)> {
         let PutAndTaken { number } = self;
         let p = arena.insert(number).ok()?;
-        arena.remove(p).allow()
-    }
-}
-
-// A number that comes to an arena: the first entry then.
-struct First {
-    number: u64,
-}
-
-impl<P: Ptr> AskedToInsert<P, u64, Option<(P, u64)>> for First {
-    fn of<A: ArenaInsertTrait<P, u64>>(self, arena: &mut A) -> Option<(P, u64)> {
-        let First { number } = self;
-        arena.insert(number).ok()?;
-        let p = arena.find_first_inx_ptr()?;
-        let found = arena.get(p).copied()?;
-        Some((p, found))
+        let first = arena.find_first_inx_ptr()?;
+        let found = arena.get(first).copied()?;
+        let taken = arena.remove(p).allow()?;
+        if taken == found {
+            Some((first, taken))
+        } else {
+            None
+        }
     }
 }
 
@@ -74,8 +69,8 @@ fn moved<
 >(alloc: Global) -> Option<(Q2, u64)> {
     let mut from: Arena<P0, u64, S> = Arena::new(alloc);
     let mut to: Arena<Q2, u64, U> = Arena::new(alloc);
-    let number = ask_to_insert(&mut from, PutAndTaken { number: 42 })?;
-    ask_to_insert(&mut to, First { number })
+    let (_first, number) = ask_to_insert(&mut from, PutAndTaken { number: 42 })?;
+    ask_to_insert(&mut to, PutAndTaken { number })
 }
 
 type OnHeap<P> = NonZeroInxVec<ArenaSlot<P, u64>>;

@@ -1,6 +1,5 @@
 //! Walks over arenas: advancers, iterators and drains.
 
-use super::asking::ask_new;
 use super::removals::after_removals;
 use std::alloc::Global;
 use std::num::NonZeroU128;
@@ -9,7 +8,7 @@ use triple_arena_ptr::{P0, Ptr, Q2};
 use triple_arena_stack::NonZeroInxGenericStack;
 use triple_arena_test_kit::{
     Asked, B, Call, Heap, NO_ENTRY, NO_POINTER, NO_VALUE, NOT_DRAINED, Numbered, Removed, Steps,
-    TestedArena, Token, Told, Trial, Wide, Wrong, answer_by_traits, from_empty, inx, is_told,
+    TestedArena, Token, Told, Trial, Wide, Wrong, answer_by_traits, ask, from_empty, inx, is_told,
     new_arena, next_steps, on_heap, step,
 };
 
@@ -112,79 +111,95 @@ const MORE_ENTRIES: &[(Call, Told)] = &[
     (Call::Insert(9), Told::At(7, 4)),
 ];
 
-// An advancer, while the arena gets entries.
-fn goes_on<
+// Calls, then the first steps of an advancer from an index, and its further steps after more calls.
+#[derive(Drop)]
+struct Advancing<P: Ptr> {
+    before: &'static [(Call, Told)],
+    from: P::Inx,
+    reverse: bool,
+    first: Told,
+    between: &'static [(Call, Told)],
+    further: Told,
+}
+
+fn advances<
     P: Ptr,
     A: ArenaInsertTrait<P, Token> + CompactArenaTrait<P, Token> + DisjointableArenaTrait<P, Token>,
->(arena: &mut A) -> Result<(), Wrong>
+>(arena: &mut A, advancing: &Advancing<P>) -> Result<(), Wrong>
 where
     P::Gen: Numbered,
 {
-    follow_by_traits(arena, WITH_GAPS)?;
-    let mut advancer = arena.advancer_inx(inx(2), false);
-    let steps = next_steps(arena, &mut advancer);
-    is_told(0, steps, Told::MetPointers(THREE, FIVE, NO_POINTER))?;
-    follow_by_traits(arena, MORE_ENTRIES)?;
-    let steps = next_steps(arena, &mut advancer);
-    is_told(1, steps, Told::MetPointers((7, 4), NO_POINTER, NO_POINTER))
+    follow_by_traits(arena, advancing.before)?;
+    let mut advancer = arena.advancer_inx(advancing.from, advancing.reverse);
+    is_told(0, next_steps(arena, &mut advancer), advancing.first)?;
+    follow_by_traits(arena, advancing.between)?;
+    is_told(1, next_steps(arena, &mut advancer), advancing.further)
 }
 
-// An advancer that goes on.
-struct GoesOn;
+// Each in turn, on one arena.
+struct Each<'a, P: Ptr>(&'a [Advancing<P>]);
 
-impl Asked<P0, Result<(), Wrong>> for GoesOn {
-    fn of<
-        A: ArenaInsertTrait<P0, Token>
-            + CompactArenaTrait<P0, Token>
-            + DisjointableArenaTrait<P0, Token>,
-    >(self, arena: &mut A) -> Result<(), Wrong> {
-        let GoesOn = self;
-        goes_on(arena)
-    }
-}
-
-// The steps from an index past any slot, in an arena of one entry.
-fn from_past_any_slot<
-    P: Ptr,
-    A: ArenaInsertTrait<P, Token> + CompactArenaTrait<P, Token> + DisjointableArenaTrait<P, Token>,
->(arena: &mut A, past: P::Inx) -> Result<(), Wrong>
+impl<P: Ptr> Asked<P, Result<(), Wrong>> for Each<'_, P>
 where
     P::Gen: Numbered,
 {
-    is_told(0, answer_by_traits(arena, Call::Insert(1)), Told::At(1, 2))?;
-    let down = next_steps(arena, &mut arena.advancer_inx(past, true));
-    is_told(0, down, Told::MetPointers(ONE, NO_POINTER, NO_POINTER))?;
-    let up = next_steps(arena, &mut arena.advancer_inx(past, false));
-    is_told(1, up, NO_POINTERS)
-}
-
-// The steps from this index.
-struct FromPastAnySlot {
-    past: NonZeroU128,
-}
-
-impl Asked<Wide, Result<(), Wrong>> for FromPastAnySlot {
     fn of<
-        A: ArenaInsertTrait<Wide, Token>
-            + CompactArenaTrait<Wide, Token>
-            + DisjointableArenaTrait<Wide, Token>,
+        A: ArenaInsertTrait<P, Token>
+            + CompactArenaTrait<P, Token>
+            + DisjointableArenaTrait<P, Token>,
     >(self, arena: &mut A) -> Result<(), Wrong> {
-        let FromPastAnySlot { past } = self;
-        from_past_any_slot(arena, past)
+        let Each(each) = self;
+        for advancing in each {
+            advances(arena, advancing)?;
+        }
+        Ok(())
     }
+}
+
+// The same on a new arena on the heap.
+fn each_advances<P: Ptr>(alloc: Global, each: &[Advancing<P>]) -> Result<(), Wrong>
+where
+    P::Gen: Numbered,
+{
+    let mut arena: Arena<P, Token, Heap<P>> = new_arena(alloc);
+    ask(&mut arena, Each(each))
 }
 
 #[test]
 fn a_forward_advancer_goes_on_while_the_arena_changes(rt: HostRuntime) -> Result<(), Wrong> {
-    ask_new::<P0, Heap<P0>, _>(rt.alloc(), GoesOn)
+    let going_on = Advancing {
+        before: WITH_GAPS,
+        from: inx(2),
+        reverse: false,
+        first: Told::MetPointers(THREE, FIVE, NO_POINTER),
+        between: MORE_ENTRIES,
+        further: Told::MetPointers((7, 4), NO_POINTER, NO_POINTER),
+    };
+    each_advances::<P0>(rt.alloc(), &[going_on])
 }
 
 #[test]
 fn indexes_past_any_slot(rt: HostRuntime) -> Result<(), Wrong> {
-    match NonZeroU128::new(1 << 64) {
-        Some(past) => ask_new::<Wide, Heap<Wide>, _>(rt.alloc(), FromPastAnySlot { past }),
-        None => Err(Wrong::Text("no such index")),
-    }
+    let Some(past) = NonZeroU128::new(1 << 64) else {
+        return Err(Wrong::Text("no such index"));
+    };
+    let down = Advancing {
+        before: &[(Call::Insert(1), Told::At(1, 2))],
+        from: past,
+        reverse: true,
+        first: Told::MetPointers(ONE, NO_POINTER, NO_POINTER),
+        between: &[],
+        further: NO_POINTERS,
+    };
+    let up = Advancing {
+        before: &[],
+        from: past,
+        reverse: false,
+        first: NO_POINTERS,
+        between: &[],
+        further: NO_POINTERS,
+    };
+    each_advances::<Wide>(rt.alloc(), &[down, up])
 }
 
 #[test]

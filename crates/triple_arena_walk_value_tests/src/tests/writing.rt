@@ -6,17 +6,18 @@ use triple_arena_test_kit::{
     Unchanged, Wide, Wrong, follow_to, on_fixed, on_heap, on_limited, on_little, on_new, step,
 };
 
-// A call that adds ten to each value, with what it met: it leaves the arena with these values as it
-// was.
-#[derive(Drop)]
-struct AddsTen {
-    step: (Call, Told),
-}
+// Calls that each add ten to each value, with what each met: each leaves the arena with these values
+// as it was.
+#[derive(Clone, Copy)]
+struct AddsTen(&'static [(Call, Told)]);
 
 impl Trial for AddsTen {
     fn on<A: TestedArena>(&self, arena: &mut A) -> Result<(), Wrong> {
-        let expected = with_ten_more(arena.state());
-        follow_to(arena, &[self.step], &expected)
+        for step in self.0 {
+            let expected = with_ten_more(arena.state());
+            follow_to(arena, &[*step], &expected)?;
+        }
+        Ok(())
     }
 }
 
@@ -54,6 +55,19 @@ const THIRTY_MORE: Steps = Steps(&[
     (Call::Get(5, 2), Told::Holds(35)),
 ]);
 
+// Each way to write to all values, on three.
+const EACH_WAY: AddsTen = AddsTen(&[
+    (
+        Call::AddToEach(10),
+        Told::Met((1, 2, 1), (3, 2, 3), (5, 2, 5)),
+    ),
+    (
+        Call::AddToEachEntry(10),
+        Told::Met((1, 2, 11), (3, 2, 13), (5, 2, 15)),
+    ),
+    (Call::AddToEachValue(10), Told::MetValues(21, 23, 25)),
+]);
+
 // Ten is added to each of three, by each way to write to all values.
 #[derive(Drop)]
 struct ThreeOfFive;
@@ -61,15 +75,7 @@ struct ThreeOfFive;
 impl Trial for ThreeOfFive {
     fn on<A: TestedArena>(&self, arena: &mut A) -> Result<(), Wrong> {
         THREE_LEFT.on(arena)?;
-        let met = Told::Met((1, 2, 1), (3, 2, 3), (5, 2, 5));
-        let step = (Call::AddToEach(10), met);
-        AddsTen { step }.on(arena)?;
-        let met = Told::Met((1, 2, 11), (3, 2, 13), (5, 2, 15));
-        let step = (Call::AddToEachEntry(10), met);
-        AddsTen { step }.on(arena)?;
-        let met = Told::MetValues(21, 23, 25);
-        let step = (Call::AddToEachValue(10), met);
-        AddsTen { step }.on(arena)?;
+        EACH_WAY.on(arena)?;
         THIRTY_MORE.on(arena)
     }
 }
@@ -131,6 +137,15 @@ fn nothing_is_met_in_an_arena_without_entries(rt: HostRuntime) -> Result<(), Wro
     on_heap::<P0, _>(rt.alloc(), None, &NothingIsMet)
 }
 
+// What is met first where each value is 7.
+const TEN_MORE: AddsTen = AddsTen(&[
+    (
+        Call::AddToEach(10),
+        Told::Met((1, 2, 7), (2, 2, 7), (3, 2, 7)),
+    ),
+    (Call::AddToEachValue(10), Told::MetValues(17, 17, 17)),
+]);
+
 // Every slot has an entry, up to the greatest index.
 #[derive(Drop)]
 struct Each255;
@@ -140,12 +155,7 @@ impl Trial for Each255 {
         for index in 1..256 {
             step(arena, Call::Insert(7), Told::At(index, 2))?;
         }
-        let first = Told::Met((1, 2, 7), (2, 2, 7), (3, 2, 7));
-        let step = (Call::AddToEach(10), first);
-        AddsTen { step }.on(arena)?;
-        let first = Told::MetValues(17, 17, 17);
-        let step = (Call::AddToEachValue(10), first);
-        AddsTen { step }.on(arena)
+        TEN_MORE.on(arena)
     }
 }
 

@@ -50,9 +50,13 @@ use triple_arena_traits::{
 /// call that ends entries raises the counter once, and tells of a wrap. With generations that do
 /// not count, a pointer names whatever stands at its index.
 ///
-/// Insertion takes the index that was freed last, and where none is free the one past the last
-/// slot. `get`, `get_mut`, removal, and insertion within the capacity touch a constant number of
-/// slots and take no memory.
+/// Insertion takes a free index: the one that was freed last, or the least one where the free list
+/// was put in order since (`canonicalize_freelist`, `reallocate_min_capacity`, cloning). Where none
+/// is free it takes the one past the last slot. A removal in the last slot takes that slot away, and
+/// frees no index.
+///
+/// `get`, `get_mut`, removal, and insertion within the capacity touch a constant number of slots and
+/// take no memory.
 #[derive(Drop)]
 pub struct Arena<
     P: Ptr,
@@ -446,7 +450,8 @@ impl<P: Ptr, T, S: NonZeroInxGenericStack<ArenaSlot<P, T>>> Arena<P, T, S> {
         self.counter = generation;
     }
 
-    /// Raises the counter.
+    /// Raises the counter, as `generational_inc` of its type does: past the greatest generation it
+    /// begins anew at 2, and the answer tells of that wrap.
     pub fn inc_generation(&mut self) -> InvalidationOption<()>
         ensures answer { result ≡ told (wraps P.Gen.counting P.Gen.greatest self.old.counter) tt }
         ensures state { self.new ≡ record self.old {

@@ -17,6 +17,9 @@ const CHUNK: usize = 65536;
 
 /// All that a reader has left, by at most 4294967296 reads. A read that was interrupted is
 /// tried again, and counts.
+///
+/// `Read` where the reader failed, or had not ended after so many; `NoMemory` where memory was
+/// refused. What the reader has left then isn't told.
 pub fn read_text<R: Read>(alloc: Global, input: &mut R) -> Result<Vec<u8>, TextError>
     ensures ok { IfOk result (λ text. IfSome (R.remaining input.old) (λ bytes. text.items ≡ bytes)) }
     ensures err { IfErr result (λ e. (e ≡ TextError.Read) ⊎ (e ≡ TextError.NoMemory)) }

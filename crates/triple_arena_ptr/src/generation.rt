@@ -34,7 +34,8 @@ pub trait PtrGen: Debug + Hash + Clone + Copy + PartialEq + Eq + PartialOrd + Or
     fn counts() -> bool
         ensures { result ≡ counting };
 
-    /// The generation 1, which no arena gives to an entry where generations count.
+    /// The generation 1. Where generations count, no counter begins with it or comes to it by itself:
+    /// an entry has it only where its counter was set to 1, or its pointer was given.
     fn one() -> Self
         ensures { number result ≡ 1 };
 

@@ -196,7 +196,8 @@ pub trait Ptr: Debug
 
     /// The pointer of the greatest index of the type and the generation 1.
     ///
-    /// Where generations count, no arena gives it to an entry unless its counter was set to 1.
+    /// Where generations count, no arena gives it to an entry unless its counter was set to 1; an entry
+    /// can have it too where its pointer was given, by the caller or by the source of a copy.
     /// Where they don't and the index type is small, an entry can have it: in an arena of `P5`, the
     /// one at the index 255.
     fn invalid() -> Self

@@ -23,7 +23,7 @@ pub trait ArenaCloneFromWith<P: Ptr, T>: ArenaTrait<P, T> {
 
     /// Drops the entries, and holds those of `source` instead, under the same pointers, each mapped
     /// by `map`, which is called at them in the order of their indexes. Where the arena has a counter,
-    /// it becomes the source's next generation, or 2 where that has none.
+    /// it becomes the source's next generation, or `two()` where that has none.
     ///
     /// `Reallocation` only where the source's last index is above the capacity, and as
     /// `reallocate_min_capacity` refuses that index: `BeyondMaxCapacity` exactly where the limit is
@@ -77,7 +77,7 @@ pub trait ArenaCloneFromWith<P: Ptr, T>: ArenaTrait<P, T> {
         → last ≤ Self.fitting old → Self.fitting new ≡ Self.fitting old };
 
     /// Drops the entries, and holds clones of those of `source` instead, under the same pointers. Where
-    /// the arena has a counter, it becomes the source's next generation, or 2 where that has none. A
+    /// the arena has a counter, it becomes the source's next generation, or `two()` where that has none. A
     /// clone must equal its original.
     ///
     /// `Reallocation` as `clone_from_with` tells it, and then every entry is as it was. `Map` where

@@ -217,7 +217,8 @@ pub trait ArenaTrait<P: Ptr, T>: Sized {
     /// Gives the entry under `p` a new pointer, where the arena counts generations; `p` is invalid
     /// from then on, unless the new generation is its own, as it may be once the counter wrapped.
     ///
-    /// `InvalidPtr` exactly where `p` is invalid; then nothing changes.
+    /// `InvalidPtr` exactly where `p` is invalid; then nothing changes. `GenerationOverflow` exactly
+    /// where it is valid and the counter wraps.
     fn invalidate(&mut self, p: P) -> InvalidationResult<P>
         ensures answer { map_told P.numbers result ≡ told_of (ending_wraps self.old) (option_map
             (λ _. ((P.numbers p).0, renewed self.old (P.numbers p).0))
@@ -240,7 +241,8 @@ pub trait ArenaTrait<P: Ptr, T>: Sized {
 
     /// Takes out the entry under `p`, and gives its value.
     ///
-    /// `InvalidPtr` exactly where `p` is invalid; then nothing changes.
+    /// `InvalidPtr` exactly where `p` is invalid; then nothing changes. `GenerationOverflow` exactly
+    /// where it is valid and the counter wraps.
     fn remove(&mut self, p: P) -> InvalidationResult<T>
         ensures answer { result
             ≡ told_of (ending_wraps self.old) (look_up_in (slots self.old) (P.numbers p)) }
@@ -257,7 +259,8 @@ pub trait ArenaTrait<P: Ptr, T>: Sized {
 
     /// Takes out the entry at `inx`, and gives its generation and its value.
     ///
-    /// `InvalidPtr` exactly where there is no entry; then nothing changes.
+    /// `InvalidPtr` exactly where there is no entry; then nothing changes. `GenerationOverflow`
+    /// exactly where there is one and the counter wraps.
     fn remove_inx(&mut self, inx: P::Inx) -> InvalidationResult<(P::Gen, T)>
         ensures answer { map_told (λ e. (P.Gen.number e.0, e.1)) result
             ≡ told_of (ending_wraps self.old) (entry_in (slots self.old) (P.Inx.number inx)) }
@@ -273,8 +276,8 @@ pub trait ArenaTrait<P: Ptr, T>: Sized {
             → CountsUp P.Gen.counting (ending_wraps self.old)
             → Continues fits self.old (removal (P.Inx.number inx, generation) ∷ []) self.new };
 
-    /// Drops all entries; where the arena has a counter, raises it once if there was an entry. The
-    /// capacity stays.
+    /// Drops all entries; where the arena has a counter, raises it once if there was an entry, and
+    /// tells of a wrap. The capacity stays.
     fn clear(&mut self) -> InvalidationOption<()>
     where
         T: Drop,

@@ -37,8 +37,8 @@ fn push_at<P: Ptr, T, X: EntrySlot<P, T>, S: NonZeroInxGenericStack<X>>(
 
 /// Puts the entries of `source` into the slots of a stack that has none, under the same pointers,
 /// each mapped by `f`, which is called at them in the order of their indexes, up to its first
-/// refusal (`Copies`): for the cloning of an arena over such slots. The slots end with the last
-/// entry that was mapped. It takes no memory.
+/// refusal (`Copies`): for the cloning of an arena over such slots. Refused, exactly those that
+/// were mapped before stand. The slots end with the last entry that was mapped. It takes no memory.
 pub fn copy_entries<
     P: Ptr,
     T,

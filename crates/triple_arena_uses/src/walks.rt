@@ -61,8 +61,8 @@ pub fn add<P: Ptr, A: CompactArenaTrait<P, u64>>(arena: &mut A, n: u64)
     arena.for_each_mut(|_p, value| *value = value.wrapping_add(n));
 }
 
-/// Gives each entry a new pointer, in the order of the indexes, and collects these: an advancer
-/// goes on while the arena changes.
+/// Gives each entry a new pointer where the arena counts generations, in the order of the indexes,
+/// and collects those that the entries then have: an advancer goes on while the arena changes.
 ///
 /// Refused where memory is; then the entries up to some index have new pointers.
 pub fn renew_all<P: Ptr, T, A: CompactArenaTrait<P, T>>(

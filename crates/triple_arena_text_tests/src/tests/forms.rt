@@ -4,7 +4,7 @@ use triple_arena_session::{Command, parse_command};
 
 #[test]
 fn reads_each_form(rt: HostRuntime) {
-    let rows: [(&[u8], Command<u64>); 19] = [
+    let rows: &[(&[u8], Command<u64>)] = &[
         (b"insert 10 -", Command::Insert(10, None)),
         (b"insert 0 3", Command::Insert(0, Some(3))),
         (b"insert 007 0012", Command::Insert(7, Some(12))),
@@ -35,13 +35,13 @@ fn reads_each_form(rt: HostRuntime) {
         (b"show", Command::Show),
     ];
     for (line, command) in rows {
-        assert!(rt; parse_command(line) == Some(command));
+        assert!(rt; parse_command(line) == Some(*command));
     }
 }
 
 #[test]
 fn refuses_every_other_line(rt: HostRuntime) {
-    let lines: [&[u8]; 49] = [
+    let lines: &[&[u8]] = &[
         b"",
         b" ",
         b"get",

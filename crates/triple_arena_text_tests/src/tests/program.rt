@@ -5,7 +5,7 @@ use triple_arena_session::{Kind, Outcome, TextError, parse_args, status};
 
 #[test]
 fn takes_each_kind_and_nothing_else(rt: HostRuntime) {
-    let right: [(&[&str], Kind); 8] = [
+    let right: &[(&[&str], Kind)] = &[
         (&[], Kind::Heap),
         (&["heap"], Kind::Heap),
         (&["array"], Kind::Array),
@@ -19,9 +19,9 @@ fn takes_each_kind_and_nothing_else(rt: HostRuntime) {
         ),
     ];
     for (words, kind) in right {
-        assert!(rt; parse_args(words) == Some(kind));
+        assert!(rt; parse_args(words) == Some(*kind));
     }
-    let wrong: [&[&str]; 12] = [
+    let wrong: &[&[&str]] = &[
         &[""],
         &["Heap"],
         &["heap "],
@@ -48,11 +48,12 @@ fn says(alloc: Global, outcome: Outcome, text: &str) -> bool {
     }
 }
 
+const USAGE: &str = "usage: triple_arena_run [heap | limited N | fixed N | array]\n";
+
 #[test]
 fn says_why_it_stopped(rt: HostRuntime) {
-    let usage = "usage: triple_arena_run [heap | limited N | fixed N | array]\n";
-    let rows = [
-        (Outcome::WrongArguments, usage, 2),
+    let rows: &[(Outcome, &str, u8)] = &[
+        (Outcome::WrongArguments, USAGE, 2),
         (Outcome::Ran(Ok(())), "", 0),
         (
             Outcome::Ran(Err(TextError::Malformed(2))),
@@ -69,7 +70,7 @@ fn says_why_it_stopped(rt: HostRuntime) {
         (Outcome::Ran(Err(TextError::NoMemory)), "no memory\n", 1),
     ];
     for (outcome, text, wanted) in rows {
-        assert!(rt; says(rt.alloc(), outcome, text), "{text}");
-        assert_eq!(rt; status(outcome), wanted);
+        assert!(rt; says(rt.alloc(), *outcome, text), "{text}");
+        assert_eq!(rt; status(*outcome), *wanted);
     }
 }

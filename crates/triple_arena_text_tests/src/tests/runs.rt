@@ -22,7 +22,7 @@ fn from_new(
 
 #[test]
 fn answers_each_line(rt: HostRuntime) {
-    let rows: [(&[u8], Result<(), TextError>, &[u8]); 10] = [
+    let rows: &[(&[u8], Result<(), TextError>, &[u8])] = &[
         (
             b"insert 10 -\nget 1\nremove 1\nget 1\n",
             Ok(()),
@@ -63,7 +63,7 @@ fn answers_each_line(rt: HostRuntime) {
         (b"", Ok(()), b""),
     ];
     for (text, outcome, lines) in rows {
-        from_new(&rt, rt.alloc(), text, outcome, lines);
+        from_new(&rt, rt.alloc(), text, *outcome, lines);
     }
 }
 

@@ -1,4 +1,3 @@
-use std::alloc::Global;
 use std::process::Abort;
 use triple_arena_ptr::{P0, Ptr};
 use triple_arena_uses::graph::Graph;
@@ -47,25 +46,24 @@ fn circle(graph: &mut Graph) -> Option<(P0, P0, P0, P0)> {
 }
 
 // What holds of the circle, and then, once its third node is gone, of a node that stands there.
-fn told(alloc: Global) -> Option<[bool; 8]> {
-    let mut graph = Graph::new(alloc);
-    let (a, b, c, d) = circle(&mut graph)?;
-    let is_whole = reaches(&graph, b, &[b, c, a, d]);
-    let is_removed = removed(&mut graph, c);
-    let e = added(&mut graph, 5)?;
+fn told(graph: &mut Graph) -> Option<[bool; 8]> {
+    let (a, b, c, d) = circle(graph)?;
+    let is_whole = reaches(graph, b, &[b, c, a, d]);
+    let is_removed = removed(graph, c);
+    let e = added(graph, 5)?;
     Some([
         is_whole,
         is_removed,
         e.inx() == c.inx(),
-        reaches(&graph, a, &[a, b]),
-        reaches(&graph, c, &[]),
-        has_neighbours(&graph, a, &[2]),
-        has_neighbours(&graph, b, &[]),
-        !connected(&mut graph, c, a)?,
+        reaches(graph, a, &[a, b]),
+        reaches(graph, c, &[]),
+        has_neighbours(graph, a, &[2]),
+        has_neighbours(graph, b, &[]),
+        !connected(graph, c, a)?,
     ])
 }
 
 #[test]
 fn paths_end_at_a_removed_node(rt: HostRuntime) {
-    assert_eq!(rt; told(rt.alloc()), Some([true; 8]));
+    assert_eq!(rt; told(&mut Graph::new(rt.alloc())), Some([true; 8]));
 }

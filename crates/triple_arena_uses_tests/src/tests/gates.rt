@@ -51,52 +51,42 @@ fn compacted(gates: &mut Gates, alloc: Global) -> Result<DirectArena<P0, P0>, Co
     Ok(gates.compact(alloc)?.allow())
 }
 
-// The new pointer of an old one after a compaction, where that isn't refused.
-fn moved(gates: &mut Gates, p: P0, alloc: Global) -> Option<P0> {
-    let map = compacted(gates, alloc).ok()?;
-    map.get(p).copied()
-}
-
 // What the last of four gates holds once the second is gone, and the others are moved together.
-fn after_compaction(gates: &mut Gates, alloc: Global) -> Option<Held> {
-    let first = lone(gates, alloc)?;
-    let between = lone(gates, alloc)?;
-    let third = lone(gates, alloc)?;
-    let last = fed(gates, [third, first], Some(third), alloc)?;
-    removed(gates, between);
-    let last = moved(gates, last, alloc)?;
-    held(gates, last)
+fn after_compaction(alloc: Global) -> Option<Held> {
+    let mut gates = Gates::new(alloc);
+    let first = lone(&mut gates, alloc)?;
+    let between = lone(&mut gates, alloc)?;
+    let third = lone(&mut gates, alloc)?;
+    let last = fed(&mut gates, [third, first], Some(third), alloc)?;
+    removed(&mut gates, between);
+    let map = compacted(&mut gates, alloc).ok()?;
+    held(&gates, *map.get(last)?)
 }
 
 #[test]
 fn each_pin_follows_its_gate(rt: HostRuntime) {
     let wanted = Some(([(2, 4), (1, 4)], Some((2, 4))));
-    assert_eq!(rt;
-        after_compaction(&mut Gates::new(rt.alloc()), rt.alloc()),
-        wanted
-    );
+    assert_eq!(rt; after_compaction(rt.alloc()), wanted);
 }
 
 // Which pointer refuses a compaction where an input that isn't the first leads nowhere, and what the gate
 // holds then.
-fn after_refusal(gates: &mut Gates, alloc: Global) -> Option<(Option<Numbers>, Option<Held>)> {
-    let first = lone(gates, alloc)?;
-    let gone = lone(gates, alloc)?;
-    let last = fed(gates, [first, gone], Some(first), alloc)?;
-    removed(gates, gone);
-    let refused = match compacted(gates, alloc) {
+fn after_refusal(alloc: Global) -> Option<(Option<Numbers>, Option<Held>)> {
+    let mut gates = Gates::new(alloc);
+    let first = lone(&mut gates, alloc)?;
+    let gone = lone(&mut gates, alloc)?;
+    let last = fed(&mut gates, [first, gone], Some(first), alloc)?;
+    removed(&mut gates, gone);
+    let refused = match compacted(&mut gates, alloc) {
         Err(CompactError::Unresolved(p)) => Some(numbers(p)),
         _ => None,
     };
-    Some((refused, held(gates, last)))
+    Some((refused, held(&gates, last)))
 }
 
 #[test]
 fn a_loose_pin_is_no_compaction(rt: HostRuntime) {
     let kept = Some(([(1, 2), (2, 2)], Some((1, 2))));
     let wanted = Some((Some((2, 2)), kept));
-    assert_eq!(rt;
-        after_refusal(&mut Gates::new(rt.alloc()), rt.alloc()),
-        wanted
-    );
+    assert_eq!(rt; after_refusal(rt.alloc()), wanted);
 }

@@ -31,10 +31,8 @@ fn compacted(wired: &mut Wired, alloc: Global) -> Option<DirectArena<P0, P0>> {
     Some(wired.compact(alloc).ok()?.allow())
 }
 
-// The new pointers of two old ones after a compaction, where that isn't refused.
-fn moved(wired: &mut Wired, (p, q): (P0, P0), alloc: Global) -> Option<(P0, P0)> {
-    let map = compacted(wired, alloc)?;
-    Some((map.get(p).copied()?, map.get(q).copied()?))
+fn renamed(map: &DirectArena<P0, P0>, p: P0) -> Option<P0> {
+    map.get(p).copied()
 }
 
 // Gates at the indexes 1 and 3, the second wired to the first.
@@ -46,43 +44,34 @@ fn two_gates(wired: &mut Wired) -> Option<(P0, P0)> {
     Some((first, second))
 }
 
-fn a_wire_after_compaction(
-    wired: &mut Wired,
-    alloc: Global,
-) -> Option<[Option<(u32, Option<Numbers>)>; 3]> {
-    let (first, second) = two_gates(wired)?;
-    let (first_moved, second_moved) = moved(wired, (first, second), alloc)?;
+fn a_wire_after_compaction(alloc: Global) -> Option<[Option<(u32, Option<Numbers>)>; 3]> {
+    let mut wired = Netlist::new(alloc);
+    let (first, second) = two_gates(&mut wired)?;
+    let map = compacted(&mut wired, alloc)?;
+    let moved = renamed(&map, second)?;
     Some([
-        gate(wired, second),
-        gate(wired, first_moved),
-        gate(wired, second_moved),
+        gate(&wired, second),
+        gate(&wired, renamed(&map, first)?),
+        gate(&wired, moved),
     ])
 }
 
 #[test]
 fn a_wire_follows_its_gate(rt: HostRuntime) {
     let wanted = Some([None, Some((10, None)), Some((30, Some((1, 4))))]);
-    assert_eq!(rt;
-        a_wire_after_compaction(&mut Netlist::new(rt.alloc()), rt.alloc()),
-        wanted
-    );
+    assert_eq!(rt; a_wire_after_compaction(rt.alloc()), wanted);
 }
 
-fn a_wire_after_refusal(
-    wired: &mut Wired,
-    alloc: Global,
-) -> Option<(bool, Option<(u32, Option<Numbers>)>)> {
-    let (first, second) = two_gates(wired)?;
-    removed(wired, first)?;
-    let is_refused = compacted(wired, alloc).is_none();
-    Some((is_refused, gate(wired, second)))
+fn a_wire_after_refusal(alloc: Global) -> Option<(bool, Option<(u32, Option<Numbers>)>)> {
+    let mut wired = Netlist::new(alloc);
+    let (first, second) = two_gates(&mut wired)?;
+    removed(&mut wired, first)?;
+    let is_refused = compacted(&mut wired, alloc).is_none();
+    Some((is_refused, gate(&wired, second)))
 }
 
 #[test]
 fn a_wire_to_a_removed_gate_is_no_compaction(rt: HostRuntime) {
     let wanted = Some((true, Some((30, Some((1, 2))))));
-    assert_eq!(rt;
-        a_wire_after_refusal(&mut Netlist::new(rt.alloc()), rt.alloc()),
-        wanted
-    );
+    assert_eq!(rt; a_wire_after_refusal(rt.alloc()), wanted);
 }

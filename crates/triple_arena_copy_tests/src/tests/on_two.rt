@@ -55,72 +55,6 @@ fn told_clone(cloned: Result<(), CloneFromError<AllocError>>) -> Told {
     }
 }
 
-fn clone_from<P: Ptr, A: ArenaCloneFromWith<P, Token>, B: CompactArenaTrait<P, Token>>(
-    target: &mut A,
-    source: &B,
-) -> Told {
-    told_clone(target.clone_from(source))
-}
-
-fn clone_source<P: Ptr, A: ArenaCloneFromWith<P, Token> + CompactArenaTrait<P, Token> + Drop>(
-    source: &mut A,
-    alloc: Global,
-) -> Told {
-    match source.clone(alloc) {
-        Ok(clone) => {
-            *source = clone;
-            Told::Done
-        }
-        Err(refused) => told_clone(Err(refused)),
-    }
-}
-
-fn clone_apart<P: Ptr, A: ArenaCloneFromWith<P, Token> + CompactArenaTrait<P, Token> + Drop>(
-    source: &A,
-    alloc: Global,
-) -> Told {
-    match source.clone(alloc) {
-        Ok(_clone) => Told::Done,
-        Err(refused) => told_clone(Err(refused)),
-    }
-}
-
-fn clone_tenfold_but<P: Ptr, A: ArenaCloneFromWith<P, Token>, B: CompactArenaTrait<P, Token>>(
-    target: &mut A,
-    source: &B,
-    refused: u64,
-) -> Told {
-    let cloned = target.clone_from_with(source, |_p, token: &Token| {
-        if token.number == refused {
-            return Err(token.number);
-        }
-        Ok(Token {
-            number: token.number.wrapping_mul(10),
-        })
-    });
-    match cloned {
-        Ok(()) => Told::Done,
-        Err(CloneFromError::Reallocation(refused)) => Told::Refused(refused),
-        Err(CloneFromError::Map(number)) => Told::GivenBack(number),
-    }
-}
-
-// What a call of cloning answers.
-fn clone_answer<
-    P: Ptr,
-    A: ArenaCloneFromWith<P, Token> + CompactArenaTrait<P, Token> + Drop,
-    B: ArenaCloneFromWith<P, Token> + CompactArenaTrait<P, Token>,
->(alloc: Global, source: &mut A, target: &mut B, call: OnTwo) -> Told {
-    match call {
-        OnTwo::CloneFrom => clone_from(target, source),
-        OnTwo::CloneBack => clone_from(source, target),
-        OnTwo::CloneSource => clone_source(source, alloc),
-        OnTwo::CloneApart => clone_apart(source, alloc),
-        OnTwo::CloneTenfoldBut(refused) => clone_tenfold_but(target, source, refused),
-        _ => Told::NoSuchCall,
-    }
-}
-
 // What is asked of any arena that is cloned and walked.
 trait Asked {
     fn of<A: ArenaCloneFromWith<P0, Token> + CompactArenaTrait<P0, Token> + Drop>(
@@ -137,31 +71,63 @@ fn ask<S: NonZeroInxGenericStack<ArenaSlot<P0, Token>> + Drop, A: Asked>(
     asked.of(arena)
 }
 
-// A call of cloning, asked of its target.
-struct FromSource<'a, A> {
+// A clone of an arena takes its place by `CloneSource`, and is else let go.
+struct OwnClone {
     alloc: Global,
-    source: &'a mut A,
     call: OnTwo,
 }
 
-impl<A: ArenaCloneFromWith<P0, Token> + CompactArenaTrait<P0, Token> + Drop> Asked
-    for FromSource<'_, A> {
+impl Asked for OwnClone {
+    fn of<A: ArenaCloneFromWith<P0, Token> + CompactArenaTrait<P0, Token> + Drop>(
+        self,
+        arena: &mut A,
+    ) -> Told {
+        let OwnClone { alloc, call } = self;
+        match arena.clone(alloc) {
+            Ok(clone) => {
+                if let OnTwo::CloneSource = call {
+                    *arena = clone;
+                }
+                Told::Done
+            }
+            Err(refused) => told_clone(Err(refused)),
+        }
+    }
+}
+
+// A target is cloned from this source: by `CloneTenfoldBut` with its closure, and else each value.
+struct FromSource<'a, A> {
+    source: &'a A,
+    call: OnTwo,
+}
+
+impl<A: CompactArenaTrait<P0, Token>> Asked for FromSource<'_, A> {
     fn of<B: ArenaCloneFromWith<P0, Token> + CompactArenaTrait<P0, Token> + Drop>(
         self,
         target: &mut B,
     ) -> Told {
-        let FromSource {
-            alloc,
-            source,
-            call,
-        } = self;
-        clone_answer(alloc, source, target, call)
+        let FromSource { source, call } = self;
+        let OnTwo::CloneTenfoldBut(refused) = call else {
+            return told_clone(target.clone_from(source));
+        };
+        let cloned = target.clone_from_with(source, |_p, token: &Token| {
+            if token.number == refused {
+                return Err(token.number);
+            }
+            Ok(Token {
+                number: token.number.wrapping_mul(10),
+            })
+        });
+        match cloned {
+            Ok(()) => Told::Done,
+            Err(CloneFromError::Reallocation(refused)) => Told::Refused(refused),
+            Err(CloneFromError::Map(number)) => Told::GivenBack(number),
+        }
     }
 }
 
-// A call of cloning, asked of its source.
+// The same, asked of the source.
 struct ToTarget<'a, R: NonZeroInxGenericStack<ArenaSlot<P0, Token>>> {
-    alloc: Global,
     target: &'a mut Arena<P0, Token, R>,
     call: OnTwo,
 }
@@ -171,19 +137,8 @@ impl<R: NonZeroInxGenericStack<ArenaSlot<P0, Token>> + Drop> Asked for ToTarget<
         self,
         source: &mut A,
     ) -> Told {
-        let ToTarget {
-            alloc,
-            target,
-            call,
-        } = self;
-        ask(
-            target,
-            FromSource {
-                alloc,
-                source,
-                call,
-            },
-        )
+        let ToTarget { target, call } = self;
+        ask(target, FromSource { source, call })
     }
 }
 
@@ -197,32 +152,39 @@ fn received(taken: InvalidationOption<Token>) -> Token {
     }
 }
 
-fn transfer<
-    P: Ptr,
-    A: CompactArenaTrait<P, Token>,
-    Q: Ptr,
-    S: NonZeroInxGenericStack<ArenaSlot<Q, Token>>,
->(source: &mut A, target: &mut Arena<Q, Token, S>, number: u64) -> Told
+// An arena's entries go to this target, under the generation of this number.
+struct TransferTo<'a, Q: Ptr, S: NonZeroInxGenericStack<ArenaSlot<Q, Token>>> {
+    target: &'a mut Arena<Q, Token, S>,
+    number: u64,
+}
+
+impl<Q: Ptr, S: NonZeroInxGenericStack<ArenaSlot<Q, Token>>> Asked for TransferTo<'_, Q, S>
 where
     Q::Gen: Numbered,
 {
-    let Some(generation) = Q::Gen::of_number(number) else {
-        return Told::NoSuchCall;
-    };
-    let done = target.transfer_reallocating(
-        generation,
-        source,
-        |_old, taken, _new| received(taken),
-    );
-    match done {
-        Ok(()) => Told::Done,
-        Err(refused) => Told::Refused(refused),
+    fn of<A: ArenaCloneFromWith<P0, Token> + CompactArenaTrait<P0, Token> + Drop>(
+        self,
+        source: &mut A,
+    ) -> Told {
+        let TransferTo { target, number } = self;
+        let Some(generation) = Q::Gen::of_number(number) else {
+            return Told::NoSuchCall;
+        };
+        let done = target.transfer_reallocating(
+            generation,
+            source,
+            |_old, taken, _new| received(taken),
+        );
+        match done {
+            Ok(()) => Told::Done,
+            Err(refused) => Told::Refused(refused),
+        }
     }
 }
 
 // What a transfer answers to an arena of other pointers, or a call on either arena.
 fn answer_of_transfer<
-    S: NonZeroInxGenericStack<ArenaSlot<P0, Token>>,
+    S: NonZeroInxGenericStack<ArenaSlot<P0, Token>> + Drop,
     Q: Ptr,
     R: NonZeroInxGenericStack<ArenaSlot<Q, Token>>,
 >(source: &mut Arena<P0, Token, S>, target: &mut Arena<Q, Token, R>, call: OnTwo) -> Told
@@ -234,7 +196,7 @@ where
         OnTwo::Target(call) => target.answer(call),
         OnTwo::FillSource(entries) => filled(source, entries),
         OnTwo::FillTarget(entries) => filled(target, entries),
-        OnTwo::Transfer(number) => transfer(source, target, number),
+        OnTwo::Transfer(number) => ask(source, TransferTo { target, number }),
         _ => Told::NoSuchCall,
     }
 }
@@ -250,18 +212,15 @@ pub fn answer_of_two<
     call: OnTwo,
 ) -> Told {
     match call {
-        OnTwo::CloneFrom
-        | OnTwo::CloneBack
-        | OnTwo::CloneSource
-        | OnTwo::CloneApart
-        | OnTwo::CloneTenfoldBut(_) => ask(
-            source,
+        OnTwo::CloneFrom | OnTwo::CloneTenfoldBut(_) => ask(source, ToTarget { target, call }),
+        OnTwo::CloneBack => ask(
+            target,
             ToTarget {
-                alloc,
-                target,
+                target: source,
                 call,
             },
         ),
+        OnTwo::CloneSource | OnTwo::CloneApart => ask(source, OwnClone { alloc, call }),
         _ => answer_of_transfer(source, target, call),
     }
 }

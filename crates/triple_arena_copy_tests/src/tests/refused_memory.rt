@@ -13,18 +13,11 @@ use triple_arena_test_kit::{
 
 const NO_MEMORY: Told = Told::Refused(ReallocationError::AllocError);
 
-// A source of five entries.
-fn source<S: NonZeroInxGenericStack<ArenaSlot<P0, Token>> + Drop>(
-    alloc: Global,
-) -> Result<Arena<P0, Token, S>, Wrong> {
-    let mut source: Arena<P0, Token, S> = with_room(alloc, 5)?;
-    let five = Removed {
-        entries: 5,
-        removed: &[],
-    };
-    five.on(&mut source)?;
-    Ok(source)
-}
+// The entries of a source.
+const FIVE: Removed = Removed {
+    entries: 5,
+    removed: &[],
+};
 
 // Four slots, of which two are free, in an arena without a limit in the way.
 const WITH_FREE_SLOTS: Steps = Steps(&[
@@ -37,16 +30,6 @@ const WITH_FREE_SLOTS: Steps = Steps(&[
     (Call::Remove(3, 2), Told::Holds(3)),
     (Call::FirstFree, Told::Free([3, 1, 0])),
 ]);
-
-// A target with free slots.
-fn target<S: SetMaxCapacity<ArenaSlot<P0, Token>> + Drop>(
-    alloc: Global,
-) -> Result<WithLimit<P0, S>, Wrong> {
-    let arena: Arena<P0, Token, S> = with_room(alloc, 4)?;
-    let mut target = WithLimit { arena };
-    WITH_FREE_SLOTS.on(&mut target)?;
-    Ok(target)
-}
 
 // What a copy tells that leaves the source as it was, and the target but for its free list, which is in
 // order.
@@ -66,20 +49,35 @@ fn told_by<
     Ok(told)
 }
 
-// An arena that has memory for four slots, over the first stack, refuses a copy from one of five over the
-// second.
+// A target with free slots refuses a copy from a source of five entries.
 fn refuses<
     S: SetMaxCapacity<ArenaSlot<P0, Token>> + Drop,
     R: NonZeroInxGenericStack<ArenaSlot<P0, Token>> + Drop,
->(alloc: Global, copy: OnTwo) -> Result<(), Wrong> {
-    let mut source: Arena<P0, Token, R> = source(alloc)?;
-    let mut target: WithLimit<P0, S> = target(alloc)?;
-    let told = told_by(alloc, &mut source, &mut target.arena, copy)?;
+>(
+    alloc: Global,
+    source: &mut Arena<P0, Token, R>,
+    target: &mut WithLimit<P0, S>,
+    copy: OnTwo,
+) -> Result<(), Wrong> {
+    FIVE.on(source)?;
+    WITH_FREE_SLOTS.on(target)?;
+    let told = told_by(alloc, source, &mut target.arena, copy)?;
     is_told(0, told, NO_MEMORY)
 }
 
+// The same of an arena that has memory for four slots, over the first stack, and a source over the
+// second.
+fn refuses_over<
+    S: SetMaxCapacity<ArenaSlot<P0, Token>> + Drop,
+    R: NonZeroInxGenericStack<ArenaSlot<P0, Token>> + Drop,
+>(alloc: Global, copy: OnTwo) -> Result<(), Wrong> {
+    let mut source: Arena<P0, Token, R> = with_room(alloc, 5)?;
+    let arena: Arena<P0, Token, S> = with_room(alloc, 4)?;
+    refuses(alloc, &mut source, &mut WithLimit { arena }, copy)
+}
+
 fn refuses_on_little(alloc: Global, copy: OnTwo) -> Result<(), Wrong> {
-    refuses::<Little<P0, 4>, Heap<P0>>(alloc, copy)
+    refuses_over::<Little<P0, 4>, Heap<P0>>(alloc, copy)
 }
 
 #[test]
@@ -89,22 +87,33 @@ fn a_copy_without_memory_leaves_both_arenas(rt: HostRuntime) -> Result<(), Wrong
     refuses_on_little(rt.alloc(), OnTwo::Transfer(7))
 }
 
-// A clone is made, or refused where memory is; its original stays.
+// A clone of five entries is made, or refused where memory is; its original stays, and so does an
+// arena beside it.
 fn clones_or_not<S: NonZeroInxGenericStack<ArenaSlot<P0, Token>> + Drop>(
     alloc: Global,
+    source: &mut Arena<P0, Token, S>,
+    beside: &mut Arena<P0, Token, S>,
 ) -> Result<(), Wrong> {
-    let mut source: Arena<P0, Token, S> = source(alloc)?;
-    let mut beside: Arena<P0, Token, S> = new_arena(alloc);
-    let told = told_by(alloc, &mut source, &mut beside, OnTwo::CloneApart)?;
+    FIVE.on(source)?;
+    let told = told_by(alloc, source, beside, OnTwo::CloneApart)?;
     if told == NO_MEMORY {
         return Ok(());
     }
     is_told(0, told, Told::Done)
 }
 
+// The same over this stack.
+fn clones_or_not_over<S: NonZeroInxGenericStack<ArenaSlot<P0, Token>> + Drop>(
+    alloc: Global,
+) -> Result<(), Wrong> {
+    let mut source: Arena<P0, Token, S> = with_room(alloc, 5)?;
+    let mut beside: Arena<P0, Token, S> = new_arena(alloc);
+    clones_or_not(alloc, &mut source, &mut beside)
+}
+
 /// Holds with ample memory, and also where any one request for memory is refused
 /// (`rt try --test --fail-alloc N`).
 #[test]
 fn a_clone_that_is_refused_leaves_its_original(rt: HostRuntime) -> Result<(), Wrong> {
-    where_there_is_memory(clones_or_not::<Heap<P0>>(rt.alloc()))
+    where_there_is_memory(clones_or_not_over::<Heap<P0>>(rt.alloc()))
 }

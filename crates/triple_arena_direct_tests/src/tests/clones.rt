@@ -1,16 +1,16 @@
 //! Cloning into direct arenas and out of them.
 
 use super::arenas::has_text;
-use super::asked::{Asked, ask};
+use super::asked::{AnyDirect, Asked};
 use super::copying::{Copying, Source, Target};
 use super::on_two::{Goal, OnTwo, Origin, on_two};
-use super::placing::{Placing, Shown, place};
+use super::placing::{Placing, Shown};
 use std::alloc::{AllocError, Global};
 use triple_arena::{
     Arena, ArenaCloneFromWith, ArenaDirectInsertTrait, ArenaSlot, ArenaTrait, CompactArenaTrait,
     DisjointableArenaTrait,
 };
-use triple_arena_base::{CloneFromError, ReallocationError};
+use triple_arena_base::{CloneFromError, InvalidationOption, ReallocationError};
 use triple_arena_direct::{DirectArena, DirectSlot};
 use triple_arena_ptr::P0;
 use triple_arena_stack::{NonZeroInxGenericStack, NonZeroInxVec};
@@ -116,6 +116,10 @@ impl Shown for String {
     fn shown(&self) -> u64 {
         0
     }
+
+    fn received(taken: InvalidationOption<String>) -> String {
+        taken.allow()
+    }
 }
 
 // The texts of all numbers.
@@ -158,7 +162,7 @@ impl<S: NonZeroInxGenericStack<DirectSlot<P0, String>> + Drop> Target for Mirror
         _call: Copying,
     ) -> Told {
         let alloc = self.alloc;
-        ask(&mut self.texts, numbers, &TextsOfAll { alloc })
+        self.texts.ask(numbers, &TextsOfAll { alloc })
     }
 }
 
@@ -184,13 +188,13 @@ impl Asked<P0, String, ()> for TextAt {
     }
 }
 
-fn put_text<S: NonZeroInxGenericStack<DirectSlot<P0, String>>>(
+fn put_text<S: NonZeroInxGenericStack<DirectSlot<P0, String>> + Drop>(
     mirror: &mut Mirror<S>,
     p: P0,
     number: u64,
 ) -> Told {
     match format!(in mirror.alloc; "{number}") {
-        Ok(text) => match place(&mut mirror.texts, p, Placing::Insert(text)) {
+        Ok(text) => match mirror.texts.place(p, Placing::Insert(text)) {
             Told::Holds(_) => Told::Is(true),
             _ => Told::Is(false),
         },
@@ -209,7 +213,7 @@ fn told_by_mirror<
         OnMirror::Put((index, generation), number) => {
             put_text(mirror, pointer(index, generation), number)
         }
-        OnMirror::Remove(index) => ask(&mut mirror.texts, &mut (), &TextAt { index }),
+        OnMirror::Remove(index) => mirror.texts.ask(&mut (), &TextAt { index }),
     }
 }
 

@@ -1,14 +1,14 @@
 //! Calls that copy from one arena to another, as values.
 
-use super::asked::{Asked, ask};
+use super::asked::{AnyDirect, Asked};
 use super::tested_direct::Direct;
 use std::alloc::Global;
 use triple_arena::{
     Arena, ArenaCloneFromWith, ArenaDirectInsertTrait, ArenaSlot, CompactArenaTrait,
     DisjointableArenaTrait,
 };
-use triple_arena_base::{AllocError, CloneFromError, InvalidationOption, ReallocationError};
-use triple_arena_direct::{DirectArena, DirectSlot};
+use triple_arena_base::{AllocError, CloneFromError, ReallocationError};
+use triple_arena_direct::DirectSlot;
 use triple_arena_ptr::{P0, Ptr};
 use triple_arena_stack::NonZeroInxGenericStack;
 use triple_arena_test_kit::{Narrow, Numbered, Token, Told};
@@ -56,7 +56,7 @@ impl<B: Target> Asked<P0, Token, B> for Copying {
 
 impl<S: NonZeroInxGenericStack<DirectSlot<P0, Token>> + Drop> Source for Direct<P0, S> {
     fn copy_into<B: Target>(&mut self, target: &mut B, call: Copying) -> Told {
-        ask(&mut self.arena, target, &call)
+        self.arena.ask(target, &call)
     }
 }
 
@@ -111,37 +111,18 @@ fn cloned<P: Ptr, A: ArenaCloneFromWith<P, Token>, B: CompactArenaTrait<P, Token
     }
 }
 
-// A value that was transferred, and a hundred more where its removal wrapped the counter.
-fn received(taken: InvalidationOption<Token>) -> Token {
-    match taken {
-        InvalidationOption::Success(token) => token,
-        InvalidationOption::GenerationOverflow(token) => Token {
-            number: token.number.wrapping_add(100),
-        },
-    }
-}
-
 // What a transfer into a direct arena tells, under the generation of this number.
-fn transfer<
-    P: Ptr,
-    A: CompactArenaTrait<P, Token>,
-    Q: Ptr,
-    S: NonZeroInxGenericStack<DirectSlot<Q, Token>>,
->(target: &mut DirectArena<Q, Token, S>, source: &mut A, number: u64) -> Told
+fn transfer<A: CompactArenaTrait<P0, Token>, Q: Ptr, D: AnyDirect<Q, Token>>(
+    target: &mut D,
+    source: &mut A,
+    number: u64,
+) -> Told
 where
     Q::Gen: Numbered,
 {
-    let Some(generation) = Q::Gen::of_number(number) else {
-        return Told::NoSuchCall;
-    };
-    let done = target.transfer_reallocating(
-        generation,
-        source,
-        |_old, taken, _new| received(taken),
-    );
-    match done {
-        Ok(()) => Told::Done,
-        Err(refused) => Told::Refused(refused),
+    match Q::Gen::of_number(number) {
+        Some(generation) => target.take_over(generation, source),
+        None => Told::NoSuchCall,
     }
 }
 
@@ -164,14 +145,14 @@ impl<B: CompactArenaTrait<P0, Token>> Asked<P0, Token, B> for Cloning {
 }
 
 // What a copy into a direct arena tells.
-fn copied<S: NonZeroInxGenericStack<DirectSlot<P0, Token>> + Drop, A: CompactArenaTrait<P0, Token>>(
-    target: &mut DirectArena<P0, Token, S>,
+fn copied<D: AnyDirect<P0, Token>, A: CompactArenaTrait<P0, Token>>(
+    target: &mut D,
     source: &mut A,
     call: Copying,
 ) -> Told {
     match call {
         Copying::Transfer(number) => transfer(target, source, number),
-        _ => ask(target, source, &Cloning { call }),
+        _ => target.ask(source, &Cloning { call }),
     }
 }
 
@@ -186,7 +167,7 @@ impl<S: NonZeroInxGenericStack<DirectSlot<P0, Token>> + Drop> Target for Direct<
 }
 
 // A direct arena of other pointers takes entries over, and no clones.
-impl<S: NonZeroInxGenericStack<DirectSlot<Narrow, Token>>> Target for Direct<Narrow, S> {
+impl<S: NonZeroInxGenericStack<DirectSlot<Narrow, Token>> + Drop> Target for Direct<Narrow, S> {
     fn copy_from<A: CompactArenaTrait<P0, Token>>(
         &mut self,
         source: &mut A,
@@ -242,5 +223,5 @@ pub fn clone_of<S: NonZeroInxGenericStack<DirectSlot<P0, Token>> + Drop>(
     alloc: Global,
     source: &mut Direct<P0, S>,
 ) -> Told {
-    ask(&mut source.arena, &mut (), &CloneApart { alloc })
+    source.arena.ask(&mut (), &CloneApart { alloc })
 }

@@ -3,8 +3,8 @@
 
 ghost use Rattle.std.specs.Prelude.{◌≡◌, ⊤};
 
-use super::asked::{Asked, ask};
-use super::placing::{Placing, Shown, place};
+use super::asked::{AnyDirect, Asked};
+use super::placing::{Placing, Shown};
 use std::alloc::{AllocError, Global};
 use std::cell::Cell;
 use std::marker::Model;
@@ -60,6 +60,10 @@ impl Clone for Counted {
 impl Shown for Counted {
     fn shown(&self) -> u64 {
         0
+    }
+
+    fn received(taken: InvalidationOption<Counted>) -> Counted {
+        taken.allow()
     }
 }
 
@@ -214,20 +218,16 @@ fn was_done(told: Told) -> bool {
 }
 
 // Makes a call that asks for an entry: whether there was one.
-fn places<S: NonZeroInxGenericStack<Slot>>(
-    arena: &mut Over<S>,
+fn places<D: AnyDirect<P0, Counted>>(
+    arena: &mut D,
     (index, generation): (usize, u64),
     placing: Placing<Counted>,
 ) -> bool {
-    was_done(place(arena, pointer(index, generation), placing))
+    was_done(arena.place(pointer(index, generation), placing))
 }
 
 // Makes a call.
-fn is_done<S: NonZeroInxGenericStack<Slot> + Drop>(
-    arena: &mut Over<S>,
-    drops: &Drops,
-    call: Call,
-) -> bool {
+fn is_done<D: AnyDirect<P0, Counted>>(arena: &mut D, drops: &Drops, call: Call) -> bool {
     match call {
         Call::Insert(i, g) => places(arena, (i, g), Placing::Insert(new_value(drops))),
         Call::InsertAndWrite(i, g) => places(
@@ -236,8 +236,8 @@ fn is_done<S: NonZeroInxGenericStack<Slot> + Drop>(
             Placing::InsertAndWrite(new_value(drops), new_value(drops)),
         ),
         Call::LetGo(i, g) => places(arena, (i, g), Placing::Ask),
-        Call::PopFreeEnd(num) => arena.pop_free_end_slots(num) == num,
-        _ => was_done(ask(arena, &mut (), &ByTraits { drops, call })),
+        Call::PopFreeEnd(num) => arena.pop_free_end(num) == num,
+        _ => was_done(arena.ask(&mut (), &ByTraits { drops, call })),
     }
 }
 
@@ -312,17 +312,12 @@ fn clones<A: ArenaCloneFromWith<P0, Counted> + CompactArenaTrait<P0, Counted> + 
 }
 
 // Whether the target has the values of the source, which are taken over.
-fn transfers<S: NonZeroInxGenericStack<Slot>, A: CompactArenaTrait<P0, Counted>>(
-    target: &mut Over<S>,
+fn transfers<D: AnyDirect<P0, Counted>, A: CompactArenaTrait<P0, Counted>>(
+    target: &mut D,
     source: &mut A,
 ) -> bool {
     let generation = pointer::<P0>(1, 7).generation();
-    let done = target.transfer_reallocating(
-        generation,
-        source,
-        |_old, taken: InvalidationOption<Counted>, _new| taken.allow(),
-    );
-    done.is_ok()
+    was_done(target.take_over(generation, source))
 }
 
 // A call that clones into an arena from another.
@@ -368,43 +363,43 @@ struct FromSource<'a> {
 
 // Makes a call that copies an arena.
 fn is_copied<
-    S: NonZeroInxGenericStack<Slot> + Drop,
+    D: AnyDirect<P0, Counted>,
     A: ArenaCloneFromWith<P0, Counted> + CompactArenaTrait<P0, Counted> + Drop,
->(source: &mut A, target: &mut Over<S>, from: &FromSource<'_>) -> bool {
+>(source: &mut A, target: &mut D, from: &FromSource<'_>) -> bool {
     match from.call {
         OnTwo::CloneSource => clones(source, from.alloc),
         OnTwo::Transfer => transfers(target, source),
         call => {
             let drops = from.drops;
-            was_done(ask(target, source, &IntoTarget { drops, call }))
+            was_done(target.ask(source, &IntoTarget { drops, call }))
         }
     }
 }
 
-impl<S: NonZeroInxGenericStack<Slot> + Drop> Asked<P0, Counted, Over<S>> for FromSource<'_> {
+impl<D: AnyDirect<P0, Counted>> Asked<P0, Counted, D> for FromSource<'_> {
     fn of<
         A: ArenaDirectInsertTrait<P0, Counted>
             + ArenaCloneFromWith<P0, Counted>
             + CompactArenaTrait<P0, Counted>
             + DisjointableArenaTrait<P0, Counted>
             + Drop,
-    >(&self, source: &mut A, target: &mut Over<S>) -> Told {
+    >(&self, source: &mut A, target: &mut D) -> Told {
         Told::Is(is_copied(source, target, self))
     }
 }
 
 // Makes a call on two arenas.
-fn are_done<S: NonZeroInxGenericStack<Slot> + Drop>(
+fn are_done<D: AnyDirect<P0, Counted>>(
     alloc: Global,
-    source: &mut Over<S>,
-    target: &mut Over<S>,
+    source: &mut D,
+    target: &mut D,
     drops: &Drops,
     call: OnTwo,
 ) -> bool {
     match call {
         OnTwo::Source(call) => is_done(source, drops, call),
         OnTwo::Target(call) => is_done(target, drops, call),
-        _ => was_done(ask(source, target, &FromSource { alloc, drops, call })),
+        _ => was_done(source.ask(target, &FromSource { alloc, drops, call })),
     }
 }
 
@@ -525,10 +520,10 @@ const EACH_REFUSED_COPY: Copies<'static> = Copies {
 };
 
 // Makes each call of a table, and expects its answer and so many drops after it.
-fn follow_copies<S: NonZeroInxGenericStack<Slot> + Drop>(
+fn follow_copies<D: AnyDirect<P0, Counted>>(
     alloc: Global,
-    source: &mut Over<S>,
-    target: &mut Over<S>,
+    source: &mut D,
+    target: &mut D,
     drops: &Drops,
     steps: &[(OnTwo, bool, u64)],
 ) -> Result<(), Wrong> {

@@ -1,20 +1,30 @@
-//! Insertion into a direct arena of values of any type.
+//! Values that direct arenas hold, and how they are inserted and taken over.
 
-use triple_arena::ArenaDirectInsertEntryTrait;
-use triple_arena_direct::{DirectArena, DirectSlot};
-use triple_arena_ptr::Ptr;
-use triple_arena_stack::NonZeroInxGenericStack;
-use triple_arena_test_kit::{Token, Told};
+use triple_arena_base::InvalidationOption;
+use triple_arena_test_kit::Token;
 
 /// A value of which a table tells a number.
 pub trait Shown {
     /// The number.
     fn shown(&self) -> u64;
+
+    /// What is made of a value that another arena gave up.
+    fn received(taken: InvalidationOption<Self>) -> Self;
 }
 
 impl Shown for Token {
     fn shown(&self) -> u64 {
         self.number
+    }
+
+    /// A hundred more where its removal wrapped the counter.
+    fn received(taken: InvalidationOption<Token>) -> Token {
+        match taken {
+            InvalidationOption::Success(token) => token,
+            InvalidationOption::GenerationOverflow(token) => Token {
+                number: token.number.wrapping_add(100),
+            },
+        }
     }
 }
 
@@ -27,22 +37,4 @@ pub enum Placing<T> {
     Insert(T),
     /// The first is inserted, and the second written over it.
     InsertAndWrite(T, T),
-}
-
-/// What an arena answers to it: of a value that stands there then, its number.
-pub fn place<P: Ptr, T: Shown + Drop, S: NonZeroInxGenericStack<DirectSlot<P, T>>>(
-    arena: &mut DirectArena<P, T, S>,
-    p: P,
-    placing: Placing<T>,
-) -> Told {
-    match (arena.direct_insert_within_capacity(p), placing) {
-        (Ok(entry), Placing::Insert(value)) => Told::Holds(entry.insert(value).shown()),
-        (Ok(entry), Placing::InsertAndWrite(first, second)) => {
-            let value = entry.insert(first);
-            *value = second;
-            Told::Done
-        }
-        (Ok(entry), Placing::Ask) => Told::Is(entry.has_place()),
-        (Err(refused), _) => Told::NotInserted(refused),
-    }
 }

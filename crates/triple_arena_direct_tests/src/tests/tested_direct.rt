@@ -1,7 +1,7 @@
 //! Direct arenas that tables of calls are tried on.
 
-use super::asked::{Asked, ask};
-use super::placing::{Placing, place};
+use super::asked::{AnyDirect, Asked};
+use super::placing::Placing;
 use std::alloc::Global;
 use triple_arena::{
     ArenaCloneFromWith, ArenaDirectInsertTrait, ArenaTrait, CompactArenaTrait,
@@ -76,72 +76,75 @@ where
     }
 }
 
-// The value under a pointer, or a number that is written over it, where there is one.
-fn index<P: Ptr, S: NonZeroInxGenericStack<DirectSlot<P, Token>>>(
-    arena: &mut DirectArena<P, Token, S>,
-    p: P,
-    number: Option<u64>,
-) -> Told {
-    if arena.get(p).is_none() {
-        return Told::Nothing;
-    }
-    match number {
-        Some(number) => {
-            arena[p].number = number;
-            Told::Done
+/// A direct arena of tokens over any stack: what it alone has, or what both arenas have by themselves.
+/// It has no clauses either.
+trait OfTokens<P: Ptr> {
+    /// The value under a pointer, or a number that is written over it, where there is one.
+    fn number_under(&mut self, p: P, number: Option<u64>) -> Told;
+
+    /// The same at an index.
+    fn number_at(&mut self, inx: P::Inx, number: Option<u64>) -> Told;
+
+    /// Adds this number to each value, by the arena as an iterator.
+    fn add_to_each(&mut self, number: u64) -> Told;
+
+    /// The same by its entries.
+    fn add_to_each_entry(&mut self, number: u64) -> Told;
+
+    /// The same by its values.
+    fn add_to_each_value(&mut self, number: u64) -> Told;
+}
+
+impl<P: Ptr, S: NonZeroInxGenericStack<DirectSlot<P, Token>>> OfTokens<P>
+    for DirectArena<P, Token, S> {
+    fn number_under(&mut self, p: P, number: Option<u64>) -> Told {
+        if self.get(p).is_none() {
+            return Told::Nothing;
         }
-        None => Told::Holds(arena[p].number),
-    }
-}
-
-// The same at an index.
-fn at_index<P: Ptr, S: NonZeroInxGenericStack<DirectSlot<P, Token>>>(
-    arena: &mut DirectArena<P, Token, S>,
-    inx: P::Inx,
-    number: Option<u64>,
-) -> Told {
-    if arena.get_inx(inx).is_none() {
-        return Told::Nothing;
-    }
-    match number {
-        Some(number) => {
-            arena.get_inx_mut_unwrap(inx).number = number;
-            Told::Done
+        match number {
+            Some(number) => {
+                self[p].number = number;
+                Told::Done
+            }
+            None => Told::Holds(self[p].number),
         }
-        None => Told::Holds(arena.get_inx_unwrap(inx).number),
     }
-}
 
-fn add_to_each<P: Ptr, S: NonZeroInxGenericStack<DirectSlot<P, Token>>>(
-    arena: &mut DirectArena<P, Token, S>,
-    number: u64,
-) -> Told {
-    for (_p, token) in &mut *arena {
-        token.number = token.number.saturating_add(number);
+    fn number_at(&mut self, inx: P::Inx, number: Option<u64>) -> Told {
+        if self.get_inx(inx).is_none() {
+            return Told::Nothing;
+        }
+        match number {
+            Some(number) => {
+                self.get_inx_mut_unwrap(inx).number = number;
+                Told::Done
+            }
+            None => Told::Holds(self.get_inx_unwrap(inx).number),
+        }
     }
-    Told::Done
-}
 
-fn add_to_each_entry<P: Ptr, S: NonZeroInxGenericStack<DirectSlot<P, Token>>>(
-    arena: &mut DirectArena<P, Token, S>,
-    number: u64,
-) -> Told {
-    let mut entries = arena.iter_mut();
-    while let Some((_p, token)) = entries.next() {
-        token.number = token.number.saturating_add(number);
+    fn add_to_each(&mut self, number: u64) -> Told {
+        for (_p, token) in &mut *self {
+            token.number = token.number.saturating_add(number);
+        }
+        Told::Done
     }
-    Told::Done
-}
 
-fn add_to_each_value<P: Ptr, S: NonZeroInxGenericStack<DirectSlot<P, Token>>>(
-    arena: &mut DirectArena<P, Token, S>,
-    number: u64,
-) -> Told {
-    let mut values = arena.vals_mut();
-    while let Some(token) = values.next() {
-        token.number = token.number.saturating_add(number);
+    fn add_to_each_entry(&mut self, number: u64) -> Told {
+        let mut entries = self.iter_mut();
+        while let Some((_p, token)) = entries.next() {
+            token.number = token.number.saturating_add(number);
+        }
+        Told::Done
     }
-    Told::Done
+
+    fn add_to_each_value(&mut self, number: u64) -> Told {
+        let mut values = self.vals_mut();
+        while let Some(token) = values.next() {
+            token.number = token.number.saturating_add(number);
+        }
+        Told::Done
+    }
 }
 
 // What a call asks under a pointer, if it asks for an entry.
@@ -157,28 +160,25 @@ fn placing_of(call: Call) -> Option<Placing<Token>> {
     }
 }
 
-// What a call answers that a direct arena alone has, or that both arenas have by themselves.
-fn own_answer<P: Ptr, S: NonZeroInxGenericStack<DirectSlot<P, Token>> + Drop>(
-    arena: &mut DirectArena<P, Token, S>,
-    call: Call,
-) -> Told
+// What a call answers of any direct arena.
+fn own_answer<P: Ptr, D: AnyDirect<P, Token> + OfTokens<P>>(arena: &mut D, call: Call) -> Told
 where
     P::Gen: Numbered,
 {
     let p: P = call.first();
     if let Some(placing) = placing_of(call) {
-        return place(arena, p, placing);
+        return arena.place(p, placing);
     }
     match call {
-        Call::PopFreeEnd(num) => Told::Size(arena.pop_free_end_slots(num)),
-        Call::Index(_, _) | Call::WriteIndex(_, _, _) => index(arena, p, call.number()),
+        Call::PopFreeEnd(num) => Told::Size(arena.pop_free_end(num)),
+        Call::Index(_, _) | Call::WriteIndex(_, _, _) => { arena.number_under(p, call.number()) }
         Call::GetInxUnwrap(_) | Call::WriteInxUnwrap(_, _) => {
-            at_index(arena, p.inx(), call.number())
+            arena.number_at(p.inx(), call.number())
         }
-        Call::AddToEach(number) => add_to_each(arena, number),
-        Call::AddToEachEntry(number) => add_to_each_entry(arena, number),
-        Call::AddToEachValue(number) => add_to_each_value(arena, number),
-        _ => ask(arena, &mut (), &call),
+        Call::AddToEach(number) => arena.add_to_each(number),
+        Call::AddToEachEntry(number) => arena.add_to_each_entry(number),
+        Call::AddToEachValue(number) => arena.add_to_each_value(number),
+        _ => arena.ask(&mut (), &call),
     }
 }
 

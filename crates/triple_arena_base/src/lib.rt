@@ -7,8 +7,6 @@ mod invalidation;
 mod nonzero_range;
 mod recast;
 mod recast_impls;
-#[cfg(test)]
-mod tests;
 
 pub use advancer::Advancer;
 pub use errors::{

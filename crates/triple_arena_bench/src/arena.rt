@@ -14,7 +14,7 @@ use std::time::{Clock, Instant};
 use table::{InArena, Table};
 use triple_arena::{ArenaInsertTrait, CompactArenaTrait};
 use triple_arena_ptr::{P0, Ptr};
-use triple_arena_ptr_stack_uses::SmallPtr;
+use triple_arena_trait_uses::SmallPtr;
 
 // The same numbers in each run.
 fn new_random() -> Pcg64Mcg {

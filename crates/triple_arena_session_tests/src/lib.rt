@@ -1,4 +1,4 @@
-//! Tests of sessions and of their replies, by public calls alone.
+//! Tests of sessions, of their replies and of texts, by public calls alone.
 #![tactic(auto)]
 
 #[cfg(test)]

@@ -1,4 +1,2 @@
-pub mod Mapping
 pub mod Notes
-pub mod Renewing
 pub mod Rewiring

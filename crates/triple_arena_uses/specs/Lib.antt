@@ -1,4 +1,3 @@
 pub mod Guests
-pub mod FirstHistory
 pub mod Notes
 pub mod Netlist

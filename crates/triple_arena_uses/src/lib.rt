@@ -2,14 +2,11 @@
 #![tactic(auto)]
 
 pub mod first_arena;
-pub mod first_history;
 pub mod graph;
 pub mod guest_book;
+pub mod moving;
 pub mod netlist;
 pub mod side_table;
-pub mod snapshots;
-pub mod walks;
-pub mod wrong_steps;
 
 pub use graph::{Graph, Node};
 pub use guest_book::GuestBook;

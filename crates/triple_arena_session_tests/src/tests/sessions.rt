@@ -1,8 +1,6 @@
 //! Sessions by their commands, at pointers of small generations too.
 
-use super::steps::{
-    Asked, Kind, Row, Text, Trial, answers_text, follow, holds, replies, says, try_new,
-};
+use super::steps::{Asked, Kind, Row, Trial, answers_text, follow, holds, replies, says, try_new};
 use std::alloc::Global;
 use std::array;
 use std::num::NonZeroUsize;
@@ -198,24 +196,6 @@ impl Trial for RefusesOnce {
     }
 }
 
-#[test]
-fn a_limit_refuses_and_a_removal_makes_place(rt: HostRuntime) {
-    let text = b"insert 1 -\ninsert 2 -\ninsert 3 -\nremove 1\ninsert 4 -\nget 1\n".as_slice();
-    let limited = Text {
-        text,
-        lines: b"given 1\ngiven 2\nbeyond max capacity\nremoved 1 -\ngiven 3\nnothing\n",
-    };
-    let unlimited = Text {
-        text,
-        lines: b"given 1\ngiven 2\ngiven 3\nremoved 1 -\ngiven 4\nnothing\n",
-    };
-    let alloc = rt.alloc();
-    try_new(&rt, alloc, Kind::Limited, Some(2), &limited);
-    try_new(&rt, alloc, Kind::Boxed, Some(2), &limited);
-    try_new(&rt, alloc, Kind::Two, None, &limited);
-    try_new(&rt, alloc, Kind::General, Some(2), &unlimited);
-}
-
 type Slot = ArenaSlot<P0, Node<u64, P0>>;
 
 // Whether a session is made with room for so many.
@@ -224,13 +204,8 @@ fn has_places<S: NonZeroInxGenericStack<Slot> + Drop>(alloc: Global, room: usize
 }
 
 #[test]
-fn a_session_without_places_refuses_each_insertion(rt: HostRuntime) {
-    let refused = Text {
-        text: b"insert 5 -\nget 1\n",
-        lines: b"beyond max capacity\nnothing\n",
-    };
-    try_new(&rt, rt.alloc(), Kind::Boxed, Some(0), &refused);
-    try_new(&rt, rt.alloc(), Kind::Limited, None, &refused);
+fn an_array_has_room_for_no_more_than_its_places(rt: HostRuntime) {
+    assert!(rt; has_places::<NonZeroInxArray<Slot, 8>>(rt.alloc(), 8));
     assert!(rt; !has_places::<NonZeroInxArray<Slot, 8>>(rt.alloc(), 9));
 }
 

@@ -10,10 +10,7 @@ use triple_arena::{ArenaSlot, ArenaTrait};
 use triple_arena_base::AllocError;
 use triple_arena_ptr::{P0, P3, Ptr, PtrGen, PtrInx};
 use triple_arena_session::{Command, Node, Reply, Session, run_text};
-use triple_arena_stack::{
-    NonZeroInxArray, NonZeroInxBoxedSlice, NonZeroInxGenericStack, NonZeroInxLimitedVec,
-    NonZeroInxVec,
-};
+use triple_arena_stack::{NonZeroInxGenericStack, NonZeroInxLimitedVec, NonZeroInxVec};
 use triple_arena_trait_kit::{B, Narrow, Numbered, index_number};
 
 /// How many entries an arena holds, for how many it has room, and the generation of its counter.
@@ -157,30 +154,11 @@ pub trait Trial {
     fn pass(&self, rt: &impl Abort, alloc: Global, session: &mut impl Asked);
 }
 
-/// Lines that a text is answered by.
-#[derive(Drop)]
-pub struct Text<'a> {
-    pub text: &'a [u8],
-    pub lines: &'a [u8],
-}
-
-impl Trial for Text<'_> {
-    fn pass(&self, rt: &impl Abort, alloc: Global, session: &mut impl Asked) {
-        answers_text(rt, alloc, session, self.text, self.lines);
-    }
-}
-
 /// The sessions that are tried, by their pointers and stacks.
 #[derive(Clone, Copy)]
 pub enum Kind {
     /// The pointer of general use, over the heap.
     General,
-    Limited,
-    Boxed,
-    /// An array of two places.
-    Two,
-    /// An array of eight places.
-    Eight,
     /// Generations of 16 bits.
     Small,
     /// Generations of a byte.
@@ -203,10 +181,6 @@ pub fn try_new(
 ) {
     match kind {
         Kind::General => try_at::<P0, NonZeroInxVec<Slot<P0>>>(rt, alloc, room, trial),
-        Kind::Limited => try_at::<P0, NonZeroInxLimitedVec<Slot<P0>>>(rt, alloc, room, trial),
-        Kind::Boxed => try_at::<P0, NonZeroInxBoxedSlice<Slot<P0>>>(rt, alloc, room, trial),
-        Kind::Two => try_at::<P0, NonZeroInxArray<Slot<P0>, 2>>(rt, alloc, room, trial),
-        Kind::Eight => try_at::<P0, NonZeroInxArray<Slot<P0>, 8>>(rt, alloc, room, trial),
         Kind::Small => try_at::<P3, NonZeroInxVec<Slot<P3>>>(rt, alloc, room, trial),
         Kind::ByteGenerations => try_at::<B, NonZeroInxVec<Slot<B>>>(rt, alloc, room, trial),
         Kind::ByteIndexes => try_at::<Narrow, NonZeroInxVec<Slot<Narrow>>>(rt, alloc, room, trial),

@@ -1,7 +1,7 @@
 use std::num::NonZeroUsize;
 use std::process::Abort;
 use triple_arena_ptr::{P0, P5, Ptr, PtrGen};
-use triple_arena_ptr_stack_uses::beside::item_beside;
+use triple_arena_trait_uses::beside::item_beside;
 
 // What a list of two items holds for a pointer.
 fn of_two<P: Ptr>(p: P) -> Option<u8> {

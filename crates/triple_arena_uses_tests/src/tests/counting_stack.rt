@@ -3,8 +3,8 @@ use std::alloc::Global;
 use std::process::Abort;
 use triple_arena::{Arena, ArenaSlot, ArenaTrait};
 use triple_arena_ptr::P0;
-use triple_arena_ptr_stack_uses::counting_stack::CountingStack;
 use triple_arena_stack::{NonZeroInxGenericStack, NonZeroInxVec};
+use triple_arena_trait_uses::counting_stack::CountingStack;
 
 type Slot = ArenaSlot<P0, u64>;
 

@@ -5,7 +5,7 @@ use triple_arena::ArenaTrait;
 use triple_arena_base::CompactError;
 use triple_arena_direct::DirectArena;
 use triple_arena_ptr::P0;
-use triple_arena_ptr_stack_uses::gates::Gate;
+use triple_arena_trait_uses::gates::Gate;
 use triple_arena_uses::netlist::Netlist;
 
 type Gates = Netlist<P0, Gate<P0>>;

@@ -4,7 +4,7 @@ use std::num::NonZeroUsize;
 use std::process::Abort;
 use triple_arena_base::{Recast, Recaster};
 use triple_arena_ptr::{P0, Ptr, PtrGen};
-use triple_arena_ptr_stack_uses::links::Link;
+use triple_arena_trait_uses::links::Link;
 
 /// Sends each pointer to this one.
 #[derive(Drop)]

@@ -4,7 +4,7 @@ use std::process::Abort;
 use triple_arena::ArenaTrait;
 use triple_arena_direct::DirectArena;
 use triple_arena_ptr::P0;
-use triple_arena_ptr_stack_uses::links::Link;
+use triple_arena_trait_uses::links::Link;
 use triple_arena_uses::netlist::Netlist;
 
 // Each gate is wired to its target.

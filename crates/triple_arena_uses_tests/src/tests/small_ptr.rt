@@ -5,8 +5,8 @@ use std::process::Abort;
 use std::test::Fail;
 use triple_arena::{Arena, ArenaSlot, ArenaTrait};
 use triple_arena_ptr::{Ptr, PtrGen};
-use triple_arena_ptr_stack_uses::small_ptr::SmallPtr;
 use triple_arena_stack::{NonZeroInxGenericStack, NonZeroInxVec};
+use triple_arena_trait_uses::small_ptr::SmallPtr;
 
 type Slot = ArenaSlot<SmallPtr, u64>;
 

@@ -1,7 +1,7 @@
 use std::alloc::Global;
 use std::process::Abort;
-use triple_arena_ptr_stack_uses::undo::move_last;
 use triple_arena_stack::{NonZeroInxArray, NonZeroInxGenericStack, NonZeroInxVec};
+use triple_arena_trait_uses::undo::move_last;
 
 // How many steps are done and undone, after two undos where one fits, and after it is done again.
 fn undone<A: NonZeroInxGenericStack<u32> + Drop, B: NonZeroInxGenericStack<u32> + Drop>(

@@ -3,7 +3,7 @@ use std::alloc::Global;
 use std::process::Abort;
 use triple_arena::{Arena, ArenaInsertTrait, CompactArenaTrait};
 use triple_arena_ptr::P0;
-use triple_arena_uses::walks::{
+use triple_arena_trait_uses::walks::{
     add, add_one, count, drain_three, pointers, remove_all, renew_all, take_all,
 };
 

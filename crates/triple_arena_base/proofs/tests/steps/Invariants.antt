@@ -1,4 +1,0 @@
-use Rattle.triple_arena_base.proofs.tests.steps.Given as goal
-
-abbrev pub decreases-loop-item : goal.decreases-loop-item
-decreases-loop-item g l = g.A.Advancer.left l.advancer l.collection

@@ -1,5 +1,0 @@
-//! Tests of stacks by public calls.
-#![tactic(auto)]
-
-#[cfg(test)]
-mod tests;

@@ -1,7 +1,8 @@
 //! Commands where indexes or generations end, and where memory is refused; the others are cases of the
 //! program.
 
-use super::steps::{Asked, Kind, Row as Entry, Trial, answers_text, says, try_new};
+use super::steps::{Asked, Kind, Row as Entry, Trial, says, try_new};
+use super::texts::answers_text;
 use std::alloc::Global;
 use std::process::Abort;
 use triple_arena_session::{Command, Reply, parse_command};

@@ -1,6 +1,7 @@
 //! Sessions by their commands, at pointers of small generations too.
 
-use super::steps::{Asked, Kind, Row, Trial, answers_text, follow, holds, replies, says, try_new};
+use super::steps::{Asked, Kind, Row, Trial, follow, holds, replies, says, try_new};
+use super::texts::answers_text;
 use std::alloc::Global;
 use std::array;
 use std::num::NonZeroUsize;

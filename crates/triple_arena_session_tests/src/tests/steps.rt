@@ -1,15 +1,17 @@
-//! What the tests ask of a session, its steps as values, so that a test is a table of them, and texts
-//! that run in it.
+//! What the tests ask of a session, and its steps as values, so that a test is a table of them.
 
 use arrayvec::ArrayString;
 use std::alloc::Global;
-use std::fmt::Write;
+use std::fmt::Write as _;
+use std::io::{BufWriter, Read, Write};
 use std::num::NonZeroUsize;
 use std::process::Abort;
 use triple_arena::{ArenaSlot, ArenaTrait};
 use triple_arena_base::AllocError;
 use triple_arena_ptr::{P0, P3, Ptr, PtrGen, PtrInx};
-use triple_arena_session::{Command, Node, Reply, Session, run_text};
+use triple_arena_session::{
+    Command, Node, Reply, Session, TextError, run_text, run_text_and_flush,
+};
 use triple_arena_stack::{NonZeroInxGenericStack, NonZeroInxLimitedVec, NonZeroInxVec};
 use triple_arena_trait_kit::{B, Narrow, Numbered, index_number};
 
@@ -25,8 +27,21 @@ pub trait Asked {
     /// The replies of a run of commands, if there is memory for them.
     fn answers(&mut self, commands: &[Command<u64>]) -> Option<Vec<Reply<u64>>>;
 
-    /// The lines that answer a text, if it ends well.
-    fn lines(&mut self, alloc: Global, text: &[u8]) -> Option<Vec<u8>>;
+    /// How a run of what a reader gives ends, whose lines a writer takes.
+    fn runs<R: Read, W: Write>(
+        &mut self,
+        alloc: Global,
+        input: &mut R,
+        output: &mut W,
+    ) -> Result<(), TextError>;
+
+    /// The same through a buffer, which is flushed, with the writer below it.
+    fn runs_and_flushes<R: Read, W: Write + Drop>(
+        &mut self,
+        alloc: Global,
+        input: &mut R,
+        output: BufWriter<W>,
+    ) -> (Result<(), TextError>, W);
 
     /// The extent of the arena.
     fn extent(&self) -> Extent;
@@ -51,11 +66,22 @@ where
         self.run(commands).ok()
     }
 
-    fn lines(&mut self, alloc: Global, text: &[u8]) -> Option<Vec<u8>> {
-        let mut input = text;
-        let mut output = Vec::new(alloc);
-        run_text(self, alloc, &mut input, &mut output).ok()?;
-        Some(output)
+    fn runs<R: Read, W: Write>(
+        &mut self,
+        alloc: Global,
+        input: &mut R,
+        output: &mut W,
+    ) -> Result<(), TextError> {
+        run_text(self, alloc, input, output)
+    }
+
+    fn runs_and_flushes<R: Read, W: Write + Drop>(
+        &mut self,
+        alloc: Global,
+        input: &mut R,
+        output: BufWriter<W>,
+    ) -> (Result<(), TextError>, W) {
+        run_text_and_flush(self, alloc, input, output)
     }
 
     fn extent(&self) -> Extent {
@@ -131,20 +157,6 @@ pub fn holds(rt: &impl Abort, session: &mut impl Asked, rows: &[Row]) {
             None => Reply::Nothing,
         };
         assert!(rt; replies(session, Command::Get(name), &reply), "at {name}");
-    }
-}
-
-/// Runs a text in a session, and expects it to end well, answered by these lines.
-pub fn answers_text(
-    rt: &impl Abort,
-    alloc: Global,
-    session: &mut impl Asked,
-    text: &[u8],
-    lines: &[u8],
-) {
-    match session.lines(alloc, text) {
-        Some(written) => assert_eq!(rt; written.as_slice(), lines),
-        None => panic!(rt; "the text ends well"),
     }
 }
 

@@ -197,6 +197,44 @@ impl Trial for RefusesOnce {
     }
 }
 
+// A text, and the lines that answer it.
+#[derive(Drop)]
+struct Text<'a> {
+    text: &'a [u8],
+    lines: &'a [u8],
+}
+
+impl Trial for Text<'_> {
+    fn pass(&self, rt: &impl Abort, alloc: Global, session: &mut impl Asked) {
+        answers_text(rt, alloc, session, self.text, self.lines);
+    }
+}
+
+/// An array of two places is full at two, and room for two on the heap is no limit.
+#[test]
+fn a_limit_refuses_and_a_removal_makes_place(rt: HostRuntime) {
+    let text = b"insert 1 -\ninsert 2 -\ninsert 3 -\nremove 1\ninsert 4 -\nget 1\n".as_slice();
+    let limited = Text {
+        text,
+        lines: b"given 1\ngiven 2\nbeyond max capacity\nremoved 1 -\ngiven 3\nnothing\n",
+    };
+    let unlimited = Text {
+        text,
+        lines: b"given 1\ngiven 2\ngiven 3\nremoved 1 -\ngiven 4\nnothing\n",
+    };
+    try_new(&rt, rt.alloc(), Kind::Two, None, &limited);
+    try_new(&rt, rt.alloc(), Kind::General, Some(2), &unlimited);
+}
+
+#[test]
+fn a_new_session_under_a_limit_refuses_each_insertion(rt: HostRuntime) {
+    let refused = Text {
+        text: b"insert 5 -\nget 1\n",
+        lines: b"beyond max capacity\nnothing\n",
+    };
+    try_new(&rt, rt.alloc(), Kind::Limited, None, &refused);
+}
+
 type Slot = ArenaSlot<P0, Node<u64, P0>>;
 
 // Whether a session is made with room for so many.

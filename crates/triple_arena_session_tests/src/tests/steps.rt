@@ -12,7 +12,9 @@ use triple_arena_ptr::{P0, P3, Ptr, PtrGen, PtrInx};
 use triple_arena_session::{
     Command, Node, Reply, Session, TextError, run_text, run_text_and_flush,
 };
-use triple_arena_stack::{NonZeroInxGenericStack, NonZeroInxLimitedVec, NonZeroInxVec};
+use triple_arena_stack::{
+    NonZeroInxArray, NonZeroInxGenericStack, NonZeroInxLimitedVec, NonZeroInxVec,
+};
 use triple_arena_trait_kit::{B, Narrow, Numbered, index_number};
 
 /// How many entries an arena holds, for how many it has room, and the generation of its counter.
@@ -171,6 +173,9 @@ pub trait Trial {
 pub enum Kind {
     /// The pointer of general use, over the heap.
     General,
+    Limited,
+    /// An array of two places.
+    Two,
     /// Generations of 16 bits.
     Small,
     /// Generations of a byte.
@@ -193,6 +198,8 @@ pub fn try_new(
 ) {
     match kind {
         Kind::General => try_at::<P0, NonZeroInxVec<Slot<P0>>>(rt, alloc, room, trial),
+        Kind::Limited => try_at::<P0, NonZeroInxLimitedVec<Slot<P0>>>(rt, alloc, room, trial),
+        Kind::Two => try_at::<P0, NonZeroInxArray<Slot<P0>, 2>>(rt, alloc, room, trial),
         Kind::Small => try_at::<P3, NonZeroInxVec<Slot<P3>>>(rt, alloc, room, trial),
         Kind::ByteGenerations => try_at::<B, NonZeroInxVec<Slot<B>>>(rt, alloc, room, trial),
         Kind::ByteIndexes => try_at::<Narrow, NonZeroInxVec<Slot<Narrow>>>(rt, alloc, room, trial),

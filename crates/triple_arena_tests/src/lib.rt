@@ -1,5 +1,5 @@
-//! Tests of arenas by public calls, as tables of calls and answers: insertion, look-ups, endings,
-//! growth, limits and refusals.
+//! Tests of arenas by public calls, as tables of calls and answers: insertion, entries, look-ups, pairs,
+//! writing to each value, endings, growth, limits, compression and refusals.
 #![tactic(auto)]
 
 #[cfg(test)]

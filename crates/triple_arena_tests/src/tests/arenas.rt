@@ -126,6 +126,7 @@ fn of_little<T: Trial>(
         (Pointers::Narrow, 0) => on_little::<Narrow, 0, T>(alloc, room, trial),
         (Pointers::Narrow, 3) => on_little::<Narrow, 3, T>(alloc, room, trial),
         (Pointers::Narrow, 4) => on_little::<Narrow, 4, T>(alloc, room, trial),
+        (Pointers::Narrow, 5) => on_little::<Narrow, 5, T>(alloc, room, trial),
         (Pointers::Narrow, 6) => on_little::<Narrow, 6, T>(alloc, room, trial),
         (Pointers::Wide, 3) => on_little::<Wide, 3, T>(alloc, room, trial),
         (Pointers::Wide, 6) => on_little::<Wide, 6, T>(alloc, room, trial),
@@ -143,13 +144,13 @@ fn of_array<T: Trial>(
 ) -> Result<(), Wrong> {
     match (pointers, places) {
         (Pointers::P0, 3) => on_new::<P0, Places<P0, 3>, T>(alloc, trial),
-        (Pointers::P0, 6) => on_new::<P0, Places<P0, 6>, T>(alloc, trial),
         (Pointers::P0, 8) => on_new::<P0, Places<P0, 8>, T>(alloc, trial),
         (Pointers::P5, 3) => on_new::<P5, Places<P5, 3>, T>(alloc, trial),
         (Pointers::P5, 4) => on_new::<P5, Places<P5, 4>, T>(alloc, trial),
-        (Pointers::P5, 6) => on_new::<P5, Places<P5, 6>, T>(alloc, trial),
+        (Pointers::P5, 8) => on_new::<P5, Places<P5, 8>, T>(alloc, trial),
+        (Pointers::Narrow, 2) => on_new::<Narrow, Places<Narrow, 2>, T>(alloc, trial),
         (Pointers::Narrow, 3) => on_new::<Narrow, Places<Narrow, 3>, T>(alloc, trial),
-        (Pointers::Narrow, 6) => on_new::<Narrow, Places<Narrow, 6>, T>(alloc, trial),
+        (Pointers::Narrow, 8) => on_new::<Narrow, Places<Narrow, 8>, T>(alloc, trial),
         _ => no_such_arena(),
     }
 }

@@ -80,7 +80,7 @@ fn each_own_call_over_an_array(rt: HostRuntime) -> Result<(), Wrong> {
     on_each(
         rt.alloc(),
         &[Pointers::P0, Pointers::P5, Pointers::Narrow],
-        &[Stack::Array(6)],
+        &[Stack::Array(8)],
         &[EACH_OWN_CALL],
     )
 }

@@ -1,16 +1,19 @@
 //! The parts of a test, which are tried on one arena after another.
 
 use super::calls_of_the_traits::each_call;
+use super::end_slots::ends_at_four;
 use super::many_entries::thousands;
 use super::order_of_refusals::refuses_reallocations;
+use super::pairs::leaves;
 use super::refused_growth::each_growth;
 use super::refused_memory::{grown, refused_past};
 use super::state_after_refusals::{nothing_is_named, whatever_is_refused};
 use super::worked_sequences::up_to_255;
 use super::wraps::{each_generation, each_raise, never_counts};
+use super::writing::adds_ten;
 use triple_arena_base::ReallocationError;
 use triple_arena_test_kit::{
-    Call, TestedArena, Told, Trial, Wrong, follow, follow_tidied, follow_unchanged, step,
+    Call, Removed, TestedArena, Told, Trial, Wrong, follow, follow_tidied, follow_unchanged, step,
 };
 
 pub const BEYOND: Told = Told::Refused(ReallocationError::BeyondMaxCapacity);
@@ -34,6 +37,14 @@ pub enum Part {
     Tidied(&'static [(Call, Told)]),
     /// So many times this insertion, in an arena without slots whose counter is 2.
     Filled(usize, Call),
+    /// So many insertions there, each of its index, and then these removals: `Removed`.
+    Removed(usize, &'static [usize]),
+    /// Calls that each add ten to each value: `adds_ten`.
+    AddsTen(&'static [(Call, Told)]),
+    /// A call that leaves these numbers at the first index and the third: `leaves`.
+    Leaves((Call, Told), u64, u64),
+    /// The free slots at the end of six go: `ends_at_four`.
+    EndsAtFour,
     /// Insertions up to the greatest byte index, and one more: `up_to_255`.
     UpTo255,
     /// Insertions by thousands: `thousands`.
@@ -88,6 +99,10 @@ fn try_part<A: TestedArena>(arena: &mut A, part: Part) -> Result<(), Wrong> {
         Part::Unchanged(steps) => follow_unchanged(arena, steps),
         Part::Tidied(steps) => follow_tidied(arena, steps),
         Part::Filled(places, insertion) => filled(arena, places, insertion),
+        Part::Removed(entries, removed) => Removed { entries, removed }.on(arena),
+        Part::AddsTen(steps) => adds_ten(arena, steps),
+        Part::Leaves(step, first, third) => leaves(arena, step, first, third),
+        Part::EndsAtFour => ends_at_four(arena),
         Part::UpTo255 => up_to_255(arena),
         Part::Thousands => thousands(arena),
         Part::EachCall(limit) => follow(arena, &each_call(limit)),

@@ -201,10 +201,9 @@ fn a_call_on_an_invalid_pointer_changes_nothing(rt: HostRuntime) -> Result<(), W
 
 // What refuses room for `asked` slots, under this limit.
 fn refusal_under(limit: Option<usize>, asked: usize) -> Told {
-    if limit.is_some_and(|most| most < asked) {
-        BEYOND
-    } else {
-        NO_MEMORY
+    match limit {
+        Some(most) if most < asked => BEYOND,
+        _ => NO_MEMORY,
     }
 }
 

@@ -225,15 +225,12 @@ fn an_index_past_the_slots_has_no_entry(rt: HostRuntime) -> Result<(), Wrong> {
 
 // The capacity of an arena on the heap after so many insertions, up to 255.
 fn grown_capacity(insertions: usize) -> usize {
-    match insertions {
-        1..=4 => 4,
-        5..=8 => 8,
-        9..=16 => 16,
-        17..=32 => 32,
-        33..=64 => 64,
-        65..=128 => 128,
-        _ => 255,
+    for capacity in &[4, 8, 16, 32, 64, 128] {
+        if insertions <= *capacity {
+            return *capacity;
+        }
     }
+    255
 }
 
 /// Insertions up to the greatest byte index, and one more.

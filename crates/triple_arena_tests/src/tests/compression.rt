@@ -1,13 +1,12 @@
 //! Compression: which entries stand after it, under which pointers, and what it tells.
 
+use super::arenas::{Pointers, Stack, on, on_heap_of_p0};
+use super::parts::Part;
 use std::alloc::Global;
-use triple_arena_ptr::{P0, P2};
-use triple_arena_test_kit::{
-    Call, NO_ENTRY, Steps, TestedArena, Told, Trial, Wrong, from_empty, on_heap,
-};
+use triple_arena_test_kit::{Call, NO_ENTRY, Told, Wrong};
 
 // Five entries, of which those at the indexes 1 and 4 go.
-const WITH_GAPS: Steps = Steps(&[
+const WITH_GAPS: Part = Part::Steps(&[
     (Call::Insert(10), Told::At(1, 2)),
     (Call::Insert(20), Told::At(2, 2)),
     (Call::Insert(30), Told::At(3, 2)),
@@ -18,22 +17,8 @@ const WITH_GAPS: Steps = Steps(&[
 ]);
 
 // The calls on these.
-#[derive(Drop)]
-struct AfterGaps {
-    steps: Steps,
-}
-
-impl Trial for AfterGaps {
-    fn on<A: TestedArena>(&self, arena: &mut A) -> Result<(), Wrong> {
-        WITH_GAPS.on(arena)?;
-        self.steps.on(arena)
-    }
-}
-
-// The same on the heap.
 fn with_gaps(alloc: Global, steps: &'static [(Call, Told)]) -> Result<(), Wrong> {
-    let steps = Steps(steps);
-    on_heap::<P0, _>(alloc, None, &AfterGaps { steps })
+    on_heap_of_p0(alloc, &[WITH_GAPS, Part::Steps(steps)])
 }
 
 #[test]
@@ -83,7 +68,12 @@ fn a_closure_meets_each_move_in_order(rt: HostRuntime) -> Result<(), Wrong> {
 
 // The calls on an arena without slots, on the heap.
 fn with_short_generations(alloc: Global, steps: &'static [(Call, Told)]) -> Result<(), Wrong> {
-    from_empty::<P2>(alloc, steps)
+    on(
+        alloc,
+        Pointers::P2,
+        Stack::Heap(None),
+        &[Part::Steps(steps)],
+    )
 }
 
 #[test]

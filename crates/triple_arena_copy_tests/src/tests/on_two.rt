@@ -46,6 +46,15 @@ fn filled<A: TestedArena>(arena: &mut A, entries: usize) -> Told {
     }
 }
 
+// What the one arena answers that a call is on.
+fn answer_of_one<A: TestedArena>(arena: &mut A, call: OnTwo) -> Told {
+    match call {
+        OnTwo::Source(call) | OnTwo::Target(call) => arena.answer(call),
+        OnTwo::FillSource(entries) | OnTwo::FillTarget(entries) => filled(arena, entries),
+        _ => Told::NoSuchCall,
+    }
+}
+
 // What cloning tells whose values are clones.
 fn told_clone(cloned: Result<(), CloneFromError<AllocError>>) -> Told {
     match cloned {
@@ -192,10 +201,8 @@ where
     Q::Gen: Numbered,
 {
     match call {
-        OnTwo::Source(call) => source.answer(call),
-        OnTwo::Target(call) => target.answer(call),
-        OnTwo::FillSource(entries) => filled(source, entries),
-        OnTwo::FillTarget(entries) => filled(target, entries),
+        OnTwo::Source(_) | OnTwo::FillSource(_) => answer_of_one(source, call),
+        OnTwo::Target(_) | OnTwo::FillTarget(_) => answer_of_one(target, call),
         OnTwo::Transfer(number) => ask(source, TransferTo { target, number }),
         _ => Told::NoSuchCall,
     }
@@ -225,6 +232,23 @@ pub fn answer_of_two<
     }
 }
 
+// Makes each call on these, and expects its answer.
+fn follow<
+    S: NonZeroInxGenericStack<ArenaSlot<P0, Token>> + Drop,
+    R: NonZeroInxGenericStack<ArenaSlot<P0, Token>> + Drop,
+>(
+    alloc: Global,
+    source: &mut Arena<P0, Token, S>,
+    target: &mut Arena<P0, Token, R>,
+    steps: &[(OnTwo, Told)],
+) -> Result<(), Wrong> {
+    for (row, (call, expected)) in steps.iter().enumerate() {
+        let told = answer_of_two(alloc, source, target, *call);
+        is_told(row, told, *expected)?;
+    }
+    Ok(())
+}
+
 /// Makes each call on a source of the first room and a target of the second, over these stacks, and
 /// expects its answer.
 pub fn over<
@@ -233,16 +257,32 @@ pub fn over<
 >(alloc: Global, rooms: (usize, usize), steps: &[(OnTwo, Told)]) -> Result<(), Wrong> {
     let mut source: Arena<P0, Token, S> = with_room(alloc, rooms.0)?;
     let mut target: Arena<P0, Token, R> = with_room(alloc, rooms.1)?;
-    for (row, (call, expected)) in steps.iter().enumerate() {
-        let told = answer_of_two(alloc, &mut source, &mut target, *call);
-        is_told(row, told, *expected)?;
-    }
-    Ok(())
+    follow(alloc, &mut source, &mut target, steps)
 }
 
 /// The same of two arenas on the heap, which begin without room.
 pub fn on_heaps(alloc: Global, steps: &[(OnTwo, Told)]) -> Result<(), Wrong> {
     over::<Heap<P0>, Heap<P0>>(alloc, (0, 0), steps)
+}
+
+// Makes each call on these, whose pointers are of two types, and expects its answer.
+fn follow_transfer<
+    S: NonZeroInxGenericStack<ArenaSlot<P0, Token>> + Drop,
+    Q: Ptr,
+    R: NonZeroInxGenericStack<ArenaSlot<Q, Token>>,
+>(
+    source: &mut Arena<P0, Token, S>,
+    target: &mut Arena<Q, Token, R>,
+    steps: &[(OnTwo, Told)],
+) -> Result<(), Wrong>
+where
+    Q::Gen: Numbered,
+{
+    for (row, (call, expected)) in steps.iter().enumerate() {
+        let told = answer_of_transfer(source, target, *call);
+        is_told(row, told, *expected)?;
+    }
+    Ok(())
 }
 
 /// Makes each call on a new source of `P0` and a new target of other pointers, over these stacks, and
@@ -257,9 +297,5 @@ where
 {
     let mut source: Arena<P0, Token, S> = new_arena(alloc);
     let mut target: Arena<Q, Token, R> = with_room(alloc, 0)?;
-    for (row, (call, expected)) in steps.iter().enumerate() {
-        let told = answer_of_transfer(&mut source, &mut target, *call);
-        is_told(row, told, *expected)?;
-    }
-    Ok(())
+    follow_transfer(&mut source, &mut target, steps)
 }

@@ -336,15 +336,15 @@ fn is_done(numbers: &mut NonZeroUsizeIterator, step: Step) -> bool {
     }
 }
 
-// The first row, counted from 0, whose number isn't the one that is taken.
-fn mistaken(steps: &[Step]) -> Option<usize> {
+// Takes each number; the first row, counted from 0, whose number isn't the one that is taken.
+fn follow(steps: &[Step]) -> Result<(), usize> {
     let mut numbers = range(1, 0);
     for (row, step) in steps.iter().enumerate() {
         if !is_done(&mut numbers, *step) {
-            return Some(row);
+            return Err(row);
         }
     }
-    None
+    Ok(())
 }
 
 const FROM_EITHER_END: &[Step] = &[
@@ -385,10 +385,10 @@ fn count_from_three_to_two() -> Option<usize> {
 }
 
 #[test]
-fn ranges_from_either_end(rt: HostRuntime) {
-    assert_eq!(rt; mistaken(FROM_EITHER_END), None);
+fn ranges_from_either_end(rt: HostRuntime) -> Result<(), usize> {
     assert!(rt; number_behind(from(2), NonZeroUsize::new(4)) == 5);
     assert!(rt; matches!(count_from_three_to_two(), Some(0)));
+    follow(FROM_EITHER_END)
 }
 
 /// The numbers from a place on that are below the number walked over.
@@ -440,9 +440,9 @@ fn an_advancer_ends(rt: HostRuntime) {
         place: 2,
         over: false,
     };
-    assert_eq!(rt; steps(from_two, &5), 3);
+    assert!(rt; steps(from_two, &5) == 3);
     let nowhere: Below = Advancer::<u64>::empty();
-    assert_eq!(rt; steps(nowhere, &5), 0);
+    assert!(rt; steps(nowhere, &5) == 0);
 }
 
 /// An item that holds itself.

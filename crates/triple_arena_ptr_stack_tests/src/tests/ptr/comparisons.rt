@@ -1,12 +1,14 @@
-//! Defaults, equality, order and hash of each pointer type.
+//! Defaults, equality, order, hash and text of each pointer type.
 
 use super::byte_pointer::B;
 use super::pointers::at;
-use super::recasts::AllTo;
+use super::recasts::is_recast;
+use super::texts::has_text;
+use std::alloc::Global;
 use std::cmp::Ordering;
+use std::fmt;
 use std::hash::{DefaultHasher, Hash, Hasher};
 use std::num::NonZeroU8;
-use triple_arena_base::Recast;
 use triple_arena_ptr::{P0, P1, P2, P3, P4, P5, Ptr, PtrGen, PtrInx, PtrNoGen, Q2, pointers_agree};
 
 // The hash of a value.
@@ -42,36 +44,21 @@ fn is_told_apart<P: Ptr>() -> bool {
     }
 }
 
-// What recasting makes of the first and the last pointer of a type, where each is to be the last.
-fn recast_to_last<P: Ptr>() -> Option<(Result<(), P>, Result<(), P>, P)> {
-    let mut first = at::<P>(1)?;
-    let mut last = P::invalid();
-    let to_last = AllTo(last);
-    Some((first.recast(&to_last), last.recast(&to_last), first))
-}
-
-// Whether a pointer type has its default, tells its pointers apart, and recasts them.
-fn is_whole<P: Ptr + Default>(name: &str) -> bool {
+// Whether recasting makes the last pointer of a type of its first, and refuses its last, where each is
+// to be the last.
+fn is_recast_to_last<P: Ptr>() -> bool {
     let last = P::invalid();
-    has_default::<P>(name)
-        && is_told_apart::<P>()
-        && recast_to_last::<P>() == Some((Ok(()), Err(last), last))
+    match at::<P>(1) {
+        Some(first) => {
+            is_recast(first, last, Ok(()), last) && is_recast(last, last, Err(last), last)
+        }
+        None => false,
+    }
 }
 
-#[test]
-fn every_pointer_type_is_whole(rt: HostRuntime) {
-    let each = [
-        is_whole::<P0>("P0"),
-        is_whole::<P1>("P1"),
-        is_whole::<P2>("P2"),
-        is_whole::<P3>("P3"),
-        is_whole::<P4>("P4"),
-        is_whole::<P5>("P5"),
-        is_whole::<Q2>("Q2"),
-        is_whole::<PtrNoGen<P2>>("P2"),
-        is_whole::<B>("B"),
-    ];
-    assert_eq!(rt; each, [true; 9]);
+// A pointer of the same index and this generation.
+fn with_generation<P: Ptr>(p: P, generation: P::Gen) -> P {
+    P::_from_raw(p.inx(), generation)
 }
 
 // Whether pointers that differ in the generation alone are hashed apart or alike, as `apart` says,
@@ -79,28 +66,42 @@ fn every_pointer_type_is_whole(rt: HostRuntime) {
 fn hashes_generations<P: Ptr>(apart: bool) -> bool {
     match at::<P>(1) {
         Some(p) => {
-            let before = P::_from_raw(p.inx(), P::Gen::one());
-            let again = P::_from_raw(p.inx(), p.generation());
-            (hash_of(&p) != hash_of(&before)) == apart && hash_of(&p) == hash_of(&again)
+            let hash = hash_of(&p);
+            let before = hash_of(&with_generation(p, P::Gen::one()));
+            let again = hash_of(&with_generation(p, p.generation()));
+            (hash != before) == apart && hash == again
         }
         None => false,
     }
 }
 
+// Whether a pointer type has its default, tells its pointers apart, recasts them, hashes their
+// generations where these are counted, and has this text for the pointer of the index 26.
+fn is_whole<P: Ptr + Default + fmt::Display>(
+    alloc: Global,
+    name: &str,
+    counted: bool,
+    text: &str,
+) -> bool {
+    has_default::<P>(name)
+        && is_told_apart::<P>()
+        && is_recast_to_last::<P>()
+        && hashes_generations::<P>(counted)
+        && has_text::<P>(alloc, 26, text)
+}
+
 #[test]
-fn generations_are_hashed(rt: HostRuntime) {
-    let each = [
-        hashes_generations::<P0>(true),
-        hashes_generations::<P1>(true),
-        hashes_generations::<P2>(true),
-        hashes_generations::<P3>(true),
-        hashes_generations::<P4>(false),
-        hashes_generations::<P5>(false),
-        hashes_generations::<Q2>(true),
-        hashes_generations::<PtrNoGen<P2>>(false),
-        hashes_generations::<B>(true),
-    ];
-    assert_eq!(rt; each, [true; 9]);
+fn every_pointer_type_is_whole(rt: HostRuntime) {
+    let alloc = rt.alloc();
+    assert!(rt; is_whole::<P0>(alloc, "P0", true, "P0[1a](2)"));
+    assert!(rt; is_whole::<P1>(alloc, "P1", true, "P1[1a](2)"));
+    assert!(rt; is_whole::<P2>(alloc, "P2", true, "P2[1a](2)"));
+    assert!(rt; is_whole::<P3>(alloc, "P3", true, "P3[1a](2)"));
+    assert!(rt; is_whole::<P4>(alloc, "P4", false, "P4[1a]"));
+    assert!(rt; is_whole::<P5>(alloc, "P5", false, "P5[1a]"));
+    assert!(rt; is_whole::<Q2>(alloc, "Q2", true, "Q2[1a](2)"));
+    assert!(rt; is_whole::<PtrNoGen<P2>>(alloc, "P2", false, "P2[1a]"));
+    assert!(rt; is_whole::<B>(alloc, "B", true, "B[1a](2)"));
 }
 
 // How the pointer of the index 5 and the generation 2 stands to that of these numbers.
@@ -118,20 +119,29 @@ fn is_first_before_second<P: Ptr>() -> bool {
     }
 }
 
-#[test]
-fn pointers_go_by_index_first(rt: HostRuntime) {
-    for (inx, generation, wanted) in [
-        (4, 9, Ordering::Greater),
-        (5, 1, Ordering::Greater),
-        (5, 2, Ordering::Equal),
-        (5, 3, Ordering::Less),
-        (6, 1, Ordering::Less),
-    ] {
-        assert_eq!(rt;
-            order_to::<B>(inx, generation),
-            Some(wanted),
-            "to {inx}, {generation}"
-        );
+// That the pointer of the index 5 and the generation 2 stands so to each of these; the first row,
+// counted from 0, to which it doesn't.
+fn orders_to<P: Ptr<Inx = NonZeroU8, Gen = NonZeroU8>>(
+    others: &[(u8, u8, Ordering)],
+) -> Result<(), usize> {
+    for (row, (inx, generation, wanted)) in others.iter().enumerate() {
+        if order_to::<P>(*inx, *generation) != Some(*wanted) {
+            return Err(row);
+        }
     }
+    Ok(())
+}
+
+const BY_INDEX_FIRST: &[(u8, u8, Ordering)] = &[
+    (4, 9, Ordering::Greater),
+    (5, 1, Ordering::Greater),
+    (5, 2, Ordering::Equal),
+    (5, 3, Ordering::Less),
+    (6, 1, Ordering::Less),
+];
+
+#[test]
+fn pointers_go_by_index_first(rt: HostRuntime) -> Result<(), usize> {
     assert!(rt; is_first_before_second::<P0>());
+    orders_to::<B>(BY_INDEX_FIRST)
 }

@@ -1,11 +1,10 @@
-//! The texts of pointers, and of indexes and generations of each width.
+//! The texts of further pointers, and of indexes and generations of each width.
 
-use super::byte_pointer::B;
 use super::pointers::at;
 use std::alloc::Global;
 use std::fmt;
 use std::num::{NonZeroU8, NonZeroU16, NonZeroU32, NonZeroU64, NonZeroU128, NonZeroUsize};
-use triple_arena_ptr::{P0, P1, P2, P3, P4, P5, Ptr, PtrGen, PtrInx, PtrNoGen, Q2, fmt_pointer};
+use triple_arena_ptr::{P0, P1, P5, Ptr, PtrGen, PtrInx, PtrNoGen, fmt_pointer};
 
 // Whether Display writes this text.
 fn displays<T: fmt::Display + Drop>(alloc: Global, value: T, text: &str) -> bool {
@@ -23,31 +22,12 @@ fn debugs<T: fmt::Debug + Drop>(alloc: Global, value: T, text: &str) -> bool {
     }
 }
 
-// Whether Display and Debug write this text for the pointer of an index number.
-fn has_text<P: Ptr + fmt::Display>(alloc: Global, number: usize, text: &str) -> bool {
+/// Whether Display and Debug write this text for the pointer of an index number.
+pub fn has_text<P: Ptr + fmt::Display>(alloc: Global, number: usize, text: &str) -> bool {
     match at::<P>(number) {
         Some(p) => displays(alloc, p, text) && debugs(alloc, p, text),
         None => false,
     }
-}
-
-#[test]
-fn pointers_have_their_texts(rt: HostRuntime) {
-    let alloc = rt.alloc();
-    let each = [
-        has_text::<P0>(alloc, 26, "P0[1a](2)"),
-        has_text::<P0>(alloc, 10, "P0[a](2)"),
-        has_text::<P1>(alloc, 26, "P1[1a](2)"),
-        has_text::<P2>(alloc, 26, "P2[1a](2)"),
-        has_text::<P3>(alloc, 26, "P3[1a](2)"),
-        has_text::<P4>(alloc, 26, "P4[1a]"),
-        has_text::<P5>(alloc, 26, "P5[1a]"),
-        has_text::<Q2>(alloc, 26, "Q2[1a](2)"),
-        has_text::<PtrNoGen<P0>>(alloc, 1, "P0[1]"),
-        has_text::<PtrNoGen<P1>>(alloc, 26, "P1[1a]"),
-        has_text::<B>(alloc, 26, "B[1a](2)"),
-    ];
-    assert_eq!(rt; each, [true; 11]);
 }
 
 // Whether Display writes this text for the invalid pointer, and Debug for the default one.
@@ -56,9 +36,13 @@ fn invalid_has_text<P: Ptr + Default + fmt::Display>(alloc: Global, text: &str) 
 }
 
 #[test]
-fn invalid_pointers_have_their_texts(rt: HostRuntime) {
-    assert!(rt; invalid_has_text::<P0>(rt.alloc(), "P0[ffffffffffffffff](1)"));
-    assert!(rt; invalid_has_text::<P5>(rt.alloc(), "P5[ff]"));
+fn pointers_have_their_texts(rt: HostRuntime) {
+    let alloc = rt.alloc();
+    assert!(rt; has_text::<P0>(alloc, 10, "P0[a](2)"));
+    assert!(rt; has_text::<PtrNoGen<P0>>(alloc, 1, "P0[1]"));
+    assert!(rt; has_text::<PtrNoGen<P1>>(alloc, 26, "P1[1a]"));
+    assert!(rt; invalid_has_text::<P0>(alloc, "P0[ffffffffffffffff](1)"));
+    assert!(rt; invalid_has_text::<P5>(alloc, "P5[ff]"));
 }
 
 // An index and a generation as a pointer's text shows them.

@@ -37,7 +37,7 @@ impl Items<Token> for Tokens {
 }
 
 /// Copies of one item, of any type: the number of each is 1, and that of another item 0.
-#[derive(Drop)]
+#[derive(Clone, Copy)]
 pub struct CopiesOf<T>(pub T);
 
 impl<T: Copy + PartialEq> Items<T> for CopiesOf<T> {

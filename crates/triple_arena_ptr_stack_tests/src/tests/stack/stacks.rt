@@ -46,7 +46,7 @@ trait SetsLimit<T, K> {
 }
 
 // Not at all.
-#[derive(Drop)]
+#[derive(Clone, Copy)]
 struct LimitStays;
 
 impl<T, K> SetsLimit<T, K> for LimitStays {
@@ -56,7 +56,7 @@ impl<T, K> SetsLimit<T, K> for LimitStays {
 }
 
 // By its call.
-#[derive(Drop)]
+#[derive(Clone, Copy)]
 struct LimitIsSet;
 
 impl<T, K: SetMaxCapacity<T>> SetsLimit<T, K> for LimitIsSet {
@@ -98,8 +98,8 @@ fn made<T, S: NonZeroInxGenericStack<T>>(alloc: Global, room: Option<usize>) -> 
 fn on_stack_with<
     T: Drop,
     K: NonZeroInxGenericStack<T> + Drop,
-    M: Items<T> + Drop,
-    L: SetsLimit<T, K> + Drop,
+    M: Items<T> + Copy,
+    L: SetsLimit<T, K> + Copy,
 >(
     alloc: Global,
     items: M,
@@ -112,7 +112,7 @@ fn on_stack_with<
 }
 
 /// Tries a table on a stack that is kept in a `K`, which has this limit then.
-pub fn on_stack<T: Drop, K: NonZeroInxGenericStack<T> + Drop, M: Items<T> + Drop>(
+pub fn on_stack<T: Drop, K: NonZeroInxGenericStack<T> + Drop, M: Items<T> + Copy>(
     alloc: Global,
     items: M,
     room: Option<usize>,
@@ -123,7 +123,7 @@ pub fn on_stack<T: Drop, K: NonZeroInxGenericStack<T> + Drop, M: Items<T> + Drop
 }
 
 /// Tries a table on a stack on the heap, with this room or as `new` makes it.
-pub fn on_heap_of<T: Drop, M: Items<T> + Drop>(
+pub fn on_heap_of<T: Drop, M: Items<T> + Copy>(
     alloc: Global,
     items: M,
     room: Option<usize>,
@@ -133,7 +133,7 @@ pub fn on_heap_of<T: Drop, M: Items<T> + Drop>(
 }
 
 /// The same on a stack on the heap whose limit can be set, and is this room or 0.
-pub fn on_limited_of<T: Drop, M: Items<T> + Drop>(
+pub fn on_limited_of<T: Drop, M: Items<T> + Copy>(
     alloc: Global,
     items: M,
     room: Option<usize>,
@@ -150,7 +150,7 @@ pub fn on_limited_of<T: Drop, M: Items<T> + Drop>(
 }
 
 /// The same on a stack of fixed room.
-pub fn on_fixed_of<T: Drop, M: Items<T> + Drop>(
+pub fn on_fixed_of<T: Drop, M: Items<T> + Copy>(
     alloc: Global,
     items: M,
     room: Option<usize>,

@@ -15,8 +15,8 @@ use triple_arena_base::{
     Recaster, nzusize_iter,
 };
 
-// Whether Display writes this text.
-fn displays<T: fmt::Display>(alloc: Global, value: &T, text: &str) -> bool {
+/// Whether Display writes this text.
+pub fn displays<T: fmt::Display>(alloc: Global, value: &T, text: &str) -> bool {
     match value.to_string(alloc) {
         Ok(written) => written.as_str() == text,
         Err(_) => false,
@@ -128,8 +128,8 @@ fn refusals_of_arenas_have_their_texts(rt: HostRuntime) {
     assert!(rt; display(alloc, OF_COMPACTION));
 }
 
-// Whether Debug writes this text.
-fn debugs<T: fmt::Debug>(alloc: Global, value: &T, text: &str) -> bool {
+/// Whether Debug writes this text.
+pub fn debugs<T: fmt::Debug>(alloc: Global, value: &T, text: &str) -> bool {
     match format!(in alloc; "{value:?}") {
         Ok(written) => written.as_str() == text,
         Err(_) => false,

@@ -1,38 +1,23 @@
 //! The texts of further pointers, and of indexes and generations of each width.
 
 use super::pointers::at;
+use crate::tests::base::{debugs, displays};
 use std::alloc::Global;
 use std::fmt;
 use std::num::{NonZeroU8, NonZeroU16, NonZeroU32, NonZeroU64, NonZeroU128, NonZeroUsize};
 use triple_arena_ptr::{P0, P1, P5, Ptr, PtrGen, PtrInx, PtrNoGen, fmt_pointer};
 
-// Whether Display writes this text.
-fn displays<T: fmt::Display + Drop>(alloc: Global, value: T, text: &str) -> bool {
-    match value.to_string(alloc) {
-        Ok(written) => written.as_str() == text,
-        Err(_) => false,
-    }
-}
-
-// Whether Debug writes this text.
-fn debugs<T: fmt::Debug + Drop>(alloc: Global, value: T, text: &str) -> bool {
-    match format!(in alloc; "{value:?}") {
-        Ok(written) => written.as_str() == text,
-        Err(_) => false,
-    }
-}
-
 /// Whether Display and Debug write this text for the pointer of an index number.
 pub fn has_text<P: Ptr + fmt::Display>(alloc: Global, number: usize, text: &str) -> bool {
     match at::<P>(number) {
-        Some(p) => displays(alloc, p, text) && debugs(alloc, p, text),
+        Some(p) => displays(alloc, &p, text) && debugs(alloc, &p, text),
         None => false,
     }
 }
 
 // Whether Display writes this text for the invalid pointer, and Debug for the default one.
 fn invalid_has_text<P: Ptr + Default + fmt::Display>(alloc: Global, text: &str) -> bool {
-    displays(alloc, P::invalid(), text) && debugs(alloc, P::default(), text)
+    displays(alloc, &P::invalid(), text) && debugs(alloc, &P::default(), text)
 }
 
 #[test]
@@ -67,7 +52,7 @@ impl<G: PtrGen> fmt::Display for Hex<G> {
 
 // Whether a pointer of this index and this generation has this text.
 fn parts_have_text<I: PtrInx, G: PtrGen>(alloc: Global, inx: I, generation: G, text: &str) -> bool {
-    displays(alloc, Parts(inx, generation), text)
+    displays(alloc, &Parts(inx, generation), text)
 }
 
 #[test]
@@ -83,6 +68,6 @@ fn numbers_of_each_width_have_their_texts(rt: HostRuntime) {
     assert!(rt; parts_have_text(alloc, NonZeroU16::MAX, NonZeroU16::MAX, "W[ffff](ffff)"));
     assert!(rt; parts_have_text(alloc, NonZeroU8::MAX, NonZeroU8::MIN, "W[ff](1)"));
     assert!(rt; parts_have_text(alloc, NonZeroUsize::MAX, (), "W[ffffffffffffffff]"));
-    assert!(rt; displays(alloc, Hex(()), "()"));
-    assert!(rt; displays(alloc, Hex(NonZeroU8::MAX), "ff"));
+    assert!(rt; displays(alloc, &Hex(()), "()"));
+    assert!(rt; displays(alloc, &Hex(NonZeroU8::MAX), "ff"));
 }

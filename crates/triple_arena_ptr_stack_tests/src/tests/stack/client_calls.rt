@@ -10,6 +10,7 @@ use super::client::{
 };
 use super::items::Token;
 use std::alloc::Global;
+use std::num::NonZeroUsize;
 use triple_arena_base::NotWithinCapacityError;
 use triple_arena_stack::{
     NonZeroInxArray, NonZeroInxBoxedSlice, NonZeroInxGenericStack, NonZeroInxLimitedVec,
@@ -28,15 +29,27 @@ fn told_put_growing<S: NonZeroInxGenericStack<Slot<Token>>>(slots: &mut S, numbe
     told_push(put_growing(slots, Token { number }))
 }
 
+// Pushes a slot and writes over it, where there is a place for it.
+fn put_over_if_placed<T: Drop, S: NonZeroInxGenericStack<Slot<T>>>(
+    slots: &mut S,
+    value: T,
+    next: usize,
+) -> Option<NonZeroUsize> {
+    if slots.len() < slots.capacity() {
+        Some(put_over(slots, value, next))
+    } else {
+        None
+    }
+}
+
 fn told_put_over<S: NonZeroInxGenericStack<Slot<Token>>>(
     slots: &mut S,
     number: u64,
     next: usize,
 ) -> Told {
-    if slots.len() < slots.capacity() {
-        Told::At(put_over(slots, Token { number }, next).get())
-    } else {
-        Told::NotWithinCapacity
+    match put_over_if_placed(slots, Token { number }, next) {
+        Some(inx) => Told::At(inx.get()),
+        None => Told::NotWithinCapacity,
     }
 }
 
@@ -135,18 +148,26 @@ const OVERWRITE: &[(Call, Told)] = &[
     (Call::Overwrite(1, 8), Told::Is(false)),
 ];
 
-// Makes each call on slots with two places and this limit, and expects its answer, and at the end
-// whether they are at their limit.
+// Makes each call on slots of this limit, and expects its answer, and at the end whether they are at
+// their limit.
+fn follow_to_limit<A: Tested>(
+    slots: &mut A,
+    limit: Told,
+    steps: &[(Call, Told)],
+) -> Result<(), Wrong> {
+    follow(slots, limit, steps)?;
+    let at_limit = slots.answer(Call::IsAtLimit);
+    is_told(steps.len(), at_limit, Told::Is(limit != Told::Nothing))
+}
+
+// The same on slots with two places.
 fn follow_at<S: NonZeroInxGenericStack<Slot<Token>> + Drop>(
     alloc: Global,
     limit: Told,
     steps: &[(Call, Told)],
 ) -> Result<(), Wrong> {
     let slots: S = made(alloc, 2);
-    let mut holding = Holding { slots };
-    follow(&mut holding, limit, steps)?;
-    let at_limit = holding.answer(Call::IsAtLimit);
-    is_told(steps.len(), at_limit, Told::Is(limit != Told::Nothing))
+    follow_to_limit(&mut Holding { slots }, limit, steps)
 }
 
 fn each_call<S: NonZeroInxGenericStack<Slot<Token>> + Drop>(

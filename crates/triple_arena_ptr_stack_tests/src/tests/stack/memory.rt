@@ -117,25 +117,31 @@ impl<K: NonZeroInxGenericStack<Long>> Tested for OfLong<K> {
     }
 }
 
-// That growth of a new stack without a limit is refused. It is forgotten, since so long an item could
-// not be dropped.
-fn refuses_growth<K: NonZeroInxGenericStack<Long> + Drop>(alloc: Global) -> Result<(), Wrong> {
-    let stack: NonZeroInxStack<Long, K> = NonZeroInxStack::new(alloc);
+// That growth of this new stack is refused. It is forgotten, since so long an item could not be
+// dropped.
+fn refuses_growth_of<K: NonZeroInxGenericStack<Long> + Drop>(
+    stack: NonZeroInxStack<Long, K>,
+    limit: Told,
+) -> Result<(), Wrong> {
     let mut of_long = OfLong { stack };
-    let tried = follow(&mut of_long, Told::Nothing, REFUSED_GROWTH);
+    let tried = follow(&mut of_long, limit, REFUSED_GROWTH);
     mem::forget(of_long);
     tried
 }
 
+// The same of one without a limit.
+fn refuses_growth<K: NonZeroInxGenericStack<Long> + Drop>(alloc: Global) -> Result<(), Wrong> {
+    refuses_growth_of::<K>(NonZeroInxStack::new(alloc), Told::Nothing)
+}
+
 // The same under a limit of two.
 fn refuses_growth_under_two<K: SetMaxCapacity<Long> + Drop>(alloc: Global) -> Result<(), Wrong> {
-    let stack: NonZeroInxStack<Long, K> = NonZeroInxStack::new(alloc);
-    let mut of_long = OfLong { stack };
-    let limited = set_max_capacity(&mut of_long.stack, 2);
-    let tried = follow(&mut of_long, Told::Size(2), REFUSED_GROWTH);
-    mem::forget(of_long);
-    is_told(0, limited, Told::Nothing)?;
-    tried
+    let mut stack: NonZeroInxStack<Long, K> = NonZeroInxStack::new(alloc);
+    let limited = set_max_capacity(&mut stack, 2);
+    both(
+        refuses_growth_of(stack, Told::Size(2)),
+        is_told(0, limited, Told::Nothing),
+    )
 }
 
 #[test]

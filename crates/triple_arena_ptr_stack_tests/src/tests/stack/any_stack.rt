@@ -181,8 +181,9 @@ fn write_at<T: Drop, M: Items<T>>(items: &M, item: Option<&mut T>, number: u64) 
 // Writes over two items: the numbers of those.
 fn write_over_both<T: Drop, M: Items<T>>(
     items: &M,
-    (a, first): (&mut T, u64),
-    (b, second): (&mut T, u64),
+    a: &mut T,
+    b: &mut T,
+    (first, second): (u64, u64),
 ) -> Told {
     let before = write_over(items, a, first);
     Told::HoldBoth(before, write_over(items, b, second))
@@ -196,7 +197,7 @@ fn write_both<T: Drop, S: NonZeroInxGenericStack<T>, M: Items<T>>(
     second: (NonZeroUsize, u64),
 ) -> Told {
     let lent = stack.with_disjoint_mut(first.0, second.0, |a, b| {
-        write_over_both(items, (a, first.1), (b, second.1))
+        write_over_both(items, a, b, (first.1, second.1))
     });
     match lent {
         Ok(told) => told,

@@ -13,8 +13,7 @@ use std::alloc::Global;
 use std::num::NonZeroUsize;
 use triple_arena_base::NotWithinCapacityError;
 use triple_arena_stack::{
-    NonZeroInxArray, NonZeroInxBoxedSlice, NonZeroInxGenericStack, NonZeroInxLimitedVec,
-    NonZeroInxVec,
+    ArrayStack, FixedStack, HeapStack, LimitedStack, NonZeroInxGenericStack, NonZeroInxStack,
 };
 use triple_arena_trait_kit::inx;
 
@@ -170,24 +169,25 @@ fn follow_at<S: NonZeroInxGenericStack<Slot<Token>> + Drop>(
     follow_to_limit(&mut Holding { slots }, limit, steps)
 }
 
-fn each_call<S: NonZeroInxGenericStack<Slot<Token>> + Drop>(
+// Each call on slots that are kept in a `K`.
+fn each_call<K: NonZeroInxGenericStack<Slot<Token>> + Drop>(
     alloc: Global,
     limit: Told,
 ) -> Result<(), Wrong> {
-    follow_at::<S>(alloc, limit, EACH_CALL)?;
-    follow_at::<S>(alloc, limit, OVERWRITE)
+    follow_at::<NonZeroInxStack<Slot<Token>, K>>(alloc, limit, EACH_CALL)?;
+    follow_at::<NonZeroInxStack<Slot<Token>, K>>(alloc, limit, OVERWRITE)
 }
 
 #[test]
 fn the_client_on_each_stack(rt: HostRuntime) -> Result<(), Wrong> {
     both(
         both(
-            each_call::<NonZeroInxVec<Slot<Token>>>(rt.alloc(), Told::Nothing),
-            each_call::<NonZeroInxLimitedVec<Slot<Token>>>(rt.alloc(), Told::Size(2)),
+            each_call::<HeapStack<Slot<Token>>>(rt.alloc(), Told::Nothing),
+            each_call::<LimitedStack<Slot<Token>>>(rt.alloc(), Told::Size(2)),
         ),
         both(
-            each_call::<NonZeroInxBoxedSlice<Slot<Token>>>(rt.alloc(), Told::Size(2)),
-            each_call::<NonZeroInxArray<Slot<Token>, 2>>(rt.alloc(), Told::Size(2)),
+            each_call::<FixedStack<Slot<Token>>>(rt.alloc(), Told::Size(2)),
+            each_call::<ArrayStack<Slot<Token>, 2>>(rt.alloc(), Told::Size(2)),
         ),
     )
 }

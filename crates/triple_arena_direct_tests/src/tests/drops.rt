@@ -405,18 +405,18 @@ fn are_done<D: AnyDirect<P0, Counted>>(
 
 // Calls on two arenas without entries, each with whether it is done and how many drops there were
 // after it.
-#[derive(Drop)]
-struct Copies<'s> {
+#[derive(Clone, Copy)]
+struct Copies {
     // The places of the source and of the target.
     rooms: (usize, usize),
-    steps: &'s [(OnTwo, bool, u64)],
+    steps: &'static [(OnTwo, bool, u64)],
     // How many drops there were once both arenas are dropped.
     at_end: u64,
 }
 
 // The calls of one arena, whose two values are dropped with it. An insertion is refused before it takes
 // the value, which its caller then drops.
-const EACH_DROP: Copies<'static> = Copies {
+const EACH_DROP: Copies = Copies {
     rooms: (4, 0),
     steps: &[
         // an index above the capacity, and one that is taken
@@ -465,7 +465,7 @@ const EACH_DROP: Copies<'static> = Copies {
 };
 
 // A copy drops what the target held, and no value of the source.
-const EACH_COPY: Copies<'static> = Copies {
+const EACH_COPY: Copies = Copies {
     rooms: (4, 4),
     steps: &[
         (OnTwo::Source(Call::Insert(4, 3)), true, 0),
@@ -494,7 +494,7 @@ const EACH_COPY: Copies<'static> = Copies {
 };
 
 // A clone of an arena.
-const EACH_CLONE: Copies<'static> = Copies {
+const EACH_CLONE: Copies = Copies {
     rooms: (4, 4),
     steps: &[
         (OnTwo::Source(Call::Insert(4, 3)), true, 0),
@@ -505,7 +505,7 @@ const EACH_CLONE: Copies<'static> = Copies {
 };
 
 // A copy that is refused, since there is no place for it, drops nothing.
-const EACH_REFUSED_COPY: Copies<'static> = Copies {
+const EACH_REFUSED_COPY: Copies = Copies {
     rooms: (4, 1),
     steps: &[
         (OnTwo::Source(Call::Insert(4, 3)), true, 0),
@@ -549,7 +549,7 @@ fn with_places<S: NonZeroInxGenericStack<Slot>>(
 fn copies_on<S: NonZeroInxGenericStack<Slot> + Drop>(
     alloc: Global,
     drops: &Drops,
-    table: &Copies<'_>,
+    table: &Copies,
 ) -> Result<(), Wrong> {
     drops.set(0);
     let mut source: Over<S> = with_places(alloc, table.rooms.0)?;
@@ -571,12 +571,7 @@ enum Stack {
 }
 
 // The same over this stack.
-fn copies_over(
-    alloc: Global,
-    drops: &Drops,
-    stack: Stack,
-    table: &Copies<'_>,
-) -> Result<(), Wrong> {
+fn copies_over(alloc: Global, drops: &Drops, stack: Stack, table: &Copies) -> Result<(), Wrong> {
     match stack {
         Stack::Heap => copies_on::<NonZeroInxVec<Slot>>(alloc, drops, table),
         Stack::Limited => copies_on::<NonZeroInxLimitedVec<Slot>>(alloc, drops, table),
@@ -585,26 +580,28 @@ fn copies_over(
     }
 }
 
-#[test]
-fn each_value_of_a_direct_arena_is_dropped_once(rt: HostRuntime) -> Result<(), Wrong> {
-    let drops = new_count(rt.alloc())?;
-    for stack in [Stack::Heap, Stack::Limited, Stack::Fixed, Stack::Array] {
-        copies_over(rt.alloc(), &drops, stack, &EACH_DROP)?;
+// Each table over each of these stacks.
+fn each_over(alloc: Global, stacks: &[Stack], tables: &[Copies]) -> Result<(), Wrong> {
+    let drops = new_count(alloc)?;
+    for stack in stacks {
+        for table in tables {
+            copies_over(alloc, &drops, *stack, table)?;
+        }
     }
     Ok(())
+}
+
+#[test]
+fn each_value_of_a_direct_arena_is_dropped_once(rt: HostRuntime) -> Result<(), Wrong> {
+    let stacks = &[Stack::Heap, Stack::Limited, Stack::Fixed, Stack::Array];
+    each_over(rt.alloc(), stacks, &[EACH_DROP])
 }
 
 // Each copy has places for a clone over a stack that has them when it is new, or grows.
 #[test]
 fn each_value_that_is_copied_or_replaced_is_dropped_once(rt: HostRuntime) -> Result<(), Wrong> {
-    let drops = new_count(rt.alloc())?;
-    for stack in [Stack::Heap, Stack::Array] {
-        copies_over(rt.alloc(), &drops, stack, &EACH_COPY)?;
-        copies_over(rt.alloc(), &drops, stack, &EACH_CLONE)?;
-    }
-    for stack in [Stack::Limited, Stack::Fixed] {
-        copies_over(rt.alloc(), &drops, stack, &EACH_COPY)?;
-        copies_over(rt.alloc(), &drops, stack, &EACH_REFUSED_COPY)?;
-    }
-    Ok(())
+    let growing = &[Stack::Heap, Stack::Array];
+    each_over(rt.alloc(), growing, &[EACH_COPY, EACH_CLONE])?;
+    let limited = &[Stack::Limited, Stack::Fixed];
+    each_over(rt.alloc(), limited, &[EACH_COPY, EACH_REFUSED_COPY])
 }

@@ -13,13 +13,21 @@ use triple_arena_test_kit::Told;
 /// What any arena is asked that has the traits of a direct one, beside another value.
 pub trait Asked<P: Ptr, T, B> {
     /// What it answers.
-    fn of<
-        A: ArenaDirectInsertTrait<P, T>
-            + ArenaCloneFromWith<P, T>
-            + CompactArenaTrait<P, T>
-            + DisjointableArenaTrait<P, T>
-            + Drop,
-    >(&self, arena: &mut A, other: &mut B) -> Told;
+    fn of<A: ArenaDirectInsertTrait<P, T> + CompactArenaTrait<P, T> + DisjointableArenaTrait<P, T>>(
+        &self,
+        arena: &mut A,
+        other: &mut B,
+    ) -> Told;
+}
+
+/// What any arena is asked that can be cloned into, beside another value.
+pub trait AskedToClone<P: Ptr, T, B> {
+    /// What it answers.
+    fn of<A: ArenaCloneFromWith<P, T> + CompactArenaTrait<P, T> + Drop>(
+        &self,
+        arena: &mut A,
+        other: &mut B,
+    ) -> Told;
 }
 
 /// A direct arena over any stack. It has no clauses, so that its callers are quick to prove.
@@ -37,8 +45,11 @@ pub trait AnyDirect<P: Ptr, T> {
         source: &mut A,
     ) -> Told;
 
-    /// What it answers by the traits of arenas: the one body that takes it as those traits.
+    /// What it answers by the traits of arenas: the one body that takes it as those.
     fn ask<B, Q: Asked<P, T, B>>(&mut self, other: &mut B, asked: &Q) -> Told;
+
+    /// The same by the traits that clone.
+    fn ask_to_clone<B, Q: AskedToClone<P, T, B>>(&mut self, other: &mut B, asked: &Q) -> Told;
 }
 
 impl<P: Ptr, T: Shown + Drop, S: NonZeroInxGenericStack<DirectSlot<P, T>> + Drop> AnyDirect<P, T>
@@ -77,6 +88,10 @@ impl<P: Ptr, T: Shown + Drop, S: NonZeroInxGenericStack<DirectSlot<P, T>> + Drop
     }
 
     fn ask<B, Q: Asked<P, T, B>>(&mut self, other: &mut B, asked: &Q) -> Told {
+        asked.of(self, other)
+    }
+
+    fn ask_to_clone<B, Q: AskedToClone<P, T, B>>(&mut self, other: &mut B, asked: &Q) -> Told {
         asked.of(self, other)
     }
 }

@@ -1,7 +1,7 @@
 //! Cloning into direct arenas and out of them.
 
 use super::arenas::has_text;
-use super::asked::{AnyDirect, Asked};
+use super::asked::{AnyDirect, Asked, AskedToClone};
 use super::copying::{Copying, Source, Target};
 use super::on_two::{Goal, OnTwo, Origin, on_two};
 use super::placing::{Placing, Shown};
@@ -143,14 +143,12 @@ fn texts_of_all<A: ArenaCloneFromWith<P0, String>, B: CompactArenaTrait<P0, Toke
     }
 }
 
-impl<B: CompactArenaTrait<P0, Token>> Asked<P0, String, B> for TextsOfAll {
-    fn of<
-        A: ArenaDirectInsertTrait<P0, String>
-            + ArenaCloneFromWith<P0, String>
-            + CompactArenaTrait<P0, String>
-            + DisjointableArenaTrait<P0, String>
-            + Drop,
-    >(&self, texts: &mut A, numbers: &mut B) -> Told {
+impl<B: CompactArenaTrait<P0, Token>> AskedToClone<P0, String, B> for TextsOfAll {
+    fn of<A: ArenaCloneFromWith<P0, String> + CompactArenaTrait<P0, String> + Drop>(
+        &self,
+        texts: &mut A,
+        numbers: &mut B,
+    ) -> Told {
         texts_of_all(texts, numbers, self.alloc)
     }
 }
@@ -162,7 +160,7 @@ impl<S: NonZeroInxGenericStack<DirectSlot<P0, String>> + Drop> Target for Mirror
         _call: Copying,
     ) -> Told {
         let alloc = self.alloc;
-        self.texts.ask(numbers, &TextsOfAll { alloc })
+        self.texts.ask_to_clone(numbers, &TextsOfAll { alloc })
     }
 }
 
@@ -179,10 +177,8 @@ fn remove_text<A: ArenaTrait<P0, String>>(texts: &mut A, index: usize) -> Told {
 impl Asked<P0, String, ()> for TextAt {
     fn of<
         A: ArenaDirectInsertTrait<P0, String>
-            + ArenaCloneFromWith<P0, String>
             + CompactArenaTrait<P0, String>
-            + DisjointableArenaTrait<P0, String>
-            + Drop,
+            + DisjointableArenaTrait<P0, String>,
     >(&self, texts: &mut A, _other: &mut ()) -> Told {
         remove_text(texts, self.index)
     }

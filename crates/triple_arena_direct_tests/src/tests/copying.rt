@@ -1,6 +1,6 @@
 //! Calls that copy from one arena to another, as values.
 
-use super::asked::{AnyDirect, Asked};
+use super::asked::{AnyDirect, Asked, AskedToClone};
 use super::tested_direct::Direct;
 use std::alloc::Global;
 use triple_arena::{
@@ -45,10 +45,8 @@ impl<S: NonZeroInxGenericStack<ArenaSlot<P0, Token>>> Source for Arena<P0, Token
 impl<B: Target> Asked<P0, Token, B> for Copying {
     fn of<
         A: ArenaDirectInsertTrait<P0, Token>
-            + ArenaCloneFromWith<P0, Token>
             + CompactArenaTrait<P0, Token>
-            + DisjointableArenaTrait<P0, Token>
-            + Drop,
+            + DisjointableArenaTrait<P0, Token>,
     >(&self, source: &mut A, target: &mut B) -> Told {
         target.copy_from(source, *self)
     }
@@ -132,14 +130,12 @@ struct Cloning {
     call: Copying,
 }
 
-impl<B: CompactArenaTrait<P0, Token>> Asked<P0, Token, B> for Cloning {
-    fn of<
-        A: ArenaDirectInsertTrait<P0, Token>
-            + ArenaCloneFromWith<P0, Token>
-            + CompactArenaTrait<P0, Token>
-            + DisjointableArenaTrait<P0, Token>
-            + Drop,
-    >(&self, target: &mut A, source: &mut B) -> Told {
+impl<B: CompactArenaTrait<P0, Token>> AskedToClone<P0, Token, B> for Cloning {
+    fn of<A: ArenaCloneFromWith<P0, Token> + CompactArenaTrait<P0, Token> + Drop>(
+        &self,
+        target: &mut A,
+        source: &mut B,
+    ) -> Told {
         cloned(target, source, self.call)
     }
 }
@@ -152,7 +148,7 @@ fn copied<D: AnyDirect<P0, Token>, A: CompactArenaTrait<P0, Token>>(
 ) -> Told {
     match call {
         Copying::Transfer(number) => transfer(target, source, number),
-        _ => target.ask(source, &Cloning { call }),
+        _ => target.ask_to_clone(source, &Cloning { call }),
     }
 }
 
@@ -206,14 +202,12 @@ fn clone_apart<P: Ptr, A: ArenaCloneFromWith<P, Token> + CompactArenaTrait<P, To
     }
 }
 
-impl Asked<P0, Token, ()> for CloneApart {
-    fn of<
-        A: ArenaDirectInsertTrait<P0, Token>
-            + ArenaCloneFromWith<P0, Token>
-            + CompactArenaTrait<P0, Token>
-            + DisjointableArenaTrait<P0, Token>
-            + Drop,
-    >(&self, arena: &mut A, _other: &mut ()) -> Told {
+impl AskedToClone<P0, Token, ()> for CloneApart {
+    fn of<A: ArenaCloneFromWith<P0, Token> + CompactArenaTrait<P0, Token> + Drop>(
+        &self,
+        arena: &mut A,
+        _other: &mut (),
+    ) -> Told {
         clone_apart(arena, self.alloc)
     }
 }
@@ -223,5 +217,5 @@ pub fn clone_of<S: NonZeroInxGenericStack<DirectSlot<P0, Token>> + Drop>(
     alloc: Global,
     source: &mut Direct<P0, S>,
 ) -> Told {
-    source.arena.ask(&mut (), &CloneApart { alloc })
+    source.arena.ask_to_clone(&mut (), &CloneApart { alloc })
 }

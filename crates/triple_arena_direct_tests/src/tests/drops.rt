@@ -3,7 +3,7 @@
 
 ghost use Rattle.std.specs.Prelude.{◌≡◌, ⊤};
 
-use super::asked::{AnyDirect, Asked};
+use super::asked::{AnyDirect, Asked, AskedToClone};
 use super::placing::{Placing, Shown};
 use std::alloc::{AllocError, Global};
 use std::cell::Cell;
@@ -203,10 +203,8 @@ struct ByTraits<'a> {
 impl Asked<P0, Counted, ()> for ByTraits<'_> {
     fn of<
         A: ArenaDirectInsertTrait<P0, Counted>
-            + ArenaCloneFromWith<P0, Counted>
             + CompactArenaTrait<P0, Counted>
-            + DisjointableArenaTrait<P0, Counted>
-            + Drop,
+            + DisjointableArenaTrait<P0, Counted>,
     >(&self, arena: &mut A, _other: &mut ()) -> Told {
         Told::Is(is_done_by_traits(arena, self.drops, self.call))
     }
@@ -341,14 +339,12 @@ fn is_cloned<A: ArenaCloneFromWith<P0, Counted>, B: CompactArenaTrait<P0, Counte
     }
 }
 
-impl<B: CompactArenaTrait<P0, Counted>> Asked<P0, Counted, B> for IntoTarget<'_> {
-    fn of<
-        A: ArenaDirectInsertTrait<P0, Counted>
-            + ArenaCloneFromWith<P0, Counted>
-            + CompactArenaTrait<P0, Counted>
-            + DisjointableArenaTrait<P0, Counted>
-            + Drop,
-    >(&self, target: &mut A, source: &mut B) -> Told {
+impl<B: CompactArenaTrait<P0, Counted>> AskedToClone<P0, Counted, B> for IntoTarget<'_> {
+    fn of<A: ArenaCloneFromWith<P0, Counted> + CompactArenaTrait<P0, Counted> + Drop>(
+        &self,
+        target: &mut A,
+        source: &mut B,
+    ) -> Told {
         Told::Is(is_cloned(target, source, self.drops, self.call))
     }
 }
@@ -371,19 +367,17 @@ fn is_copied<
         OnTwo::Transfer => transfers(target, source),
         call => {
             let drops = from.drops;
-            was_done(target.ask(source, &IntoTarget { drops, call }))
+            was_done(target.ask_to_clone(source, &IntoTarget { drops, call }))
         }
     }
 }
 
-impl<D: AnyDirect<P0, Counted>> Asked<P0, Counted, D> for FromSource<'_> {
-    fn of<
-        A: ArenaDirectInsertTrait<P0, Counted>
-            + ArenaCloneFromWith<P0, Counted>
-            + CompactArenaTrait<P0, Counted>
-            + DisjointableArenaTrait<P0, Counted>
-            + Drop,
-    >(&self, source: &mut A, target: &mut D) -> Told {
+impl<D: AnyDirect<P0, Counted>> AskedToClone<P0, Counted, D> for FromSource<'_> {
+    fn of<A: ArenaCloneFromWith<P0, Counted> + CompactArenaTrait<P0, Counted> + Drop>(
+        &self,
+        source: &mut A,
+        target: &mut D,
+    ) -> Told {
         Told::Is(is_copied(source, target, self))
     }
 }
@@ -399,7 +393,7 @@ fn are_done<D: AnyDirect<P0, Counted>>(
     match call {
         OnTwo::Source(call) => is_done(source, drops, call),
         OnTwo::Target(call) => is_done(target, drops, call),
-        _ => was_done(source.ask(target, &FromSource { alloc, drops, call })),
+        _ => was_done(source.ask_to_clone(target, &FromSource { alloc, drops, call })),
     }
 }
 

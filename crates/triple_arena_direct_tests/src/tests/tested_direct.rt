@@ -3,10 +3,7 @@
 use super::asked::{AnyDirect, Asked};
 use super::placing::Placing;
 use std::alloc::Global;
-use triple_arena::{
-    ArenaCloneFromWith, ArenaDirectInsertTrait, ArenaTrait, CompactArenaTrait,
-    DisjointableArenaTrait,
-};
+use triple_arena::{ArenaDirectInsertTrait, ArenaTrait, CompactArenaTrait, DisjointableArenaTrait};
 use triple_arena_direct::{DirectArena, DirectSlot};
 use triple_arena_ptr::Ptr;
 use triple_arena_stack::{NonZeroInxGenericStack, SetMaxCapacity};
@@ -67,10 +64,8 @@ where
 {
     fn of<
         A: ArenaDirectInsertTrait<P, Token>
-            + ArenaCloneFromWith<P, Token>
             + CompactArenaTrait<P, Token>
-            + DisjointableArenaTrait<P, Token>
-            + Drop,
+            + DisjointableArenaTrait<P, Token>,
     >(&self, arena: &mut A, _other: &mut ()) -> Told {
         answer_by_traits(arena, *self)
     }

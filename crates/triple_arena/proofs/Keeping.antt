@@ -2,14 +2,14 @@
 use Rattle.std.proofs.Common.{◌≡◌, ℕ, zero, suc, ◌==◌, List, [], ◌∷◌, Option, Some, None, cond, slice_get, refl, sym, ap, subst, ◌∙◌}
 use Rattle.triple_arena_traits.specs.Items.{item}
 use Rattle.triple_arena_traits.specs.ArenaState.{ArenaState}
-use Rattle.triple_arena.specs.Slot.{entry_of, with_slot_value}
-use Rattle.triple_arena.specs.Layout.{next_of, after, state_of, IsLinked, Shows}
-use Rattle.triple_arena.specs.SlotLaws.{entry_of-written}
+use Rattle.triple_arena_slots.specs.Slot.{entry_of, with_slot_value}
+use Rattle.triple_arena_slots.specs.Layout.{next_of, after, state_of, IsLinked, Shows}
+use Rattle.triple_arena_slots.specs.SlotLaws.{entry_of-written}
 use Rattle.triple_arena_traits.specs.Kept.{filled, filled_all}
 use Rattle.triple_arena_traits.specs.Values.{with_values_in, with_values_of}
-use Rattle.triple_arena.specs.declared.slot.ArenaSlot.{ArenaSlot}
-use Rattle.triple_arena.specs.declared.slot.ArenaSlot.TheVariants.{Free, Allocated}
-use Rattle.triple_arena.proofs.Links.{settled}
+use Rattle.triple_arena_slots.specs.declared.slot.ArenaSlot.{ArenaSlot}
+use Rattle.triple_arena_slots.specs.declared.slot.ArenaSlot.TheVariants.{Free, Allocated}
+use Rattle.triple_arena_slots.proofs.Links.{settled}
 use Rattle.triple_arena_traits.proofs.KeptSlots.{entries-filled}
 use Rattle.triple_arena_traits.specs.ValueLaws.{count-kept, IsWellFormed-kept}
 

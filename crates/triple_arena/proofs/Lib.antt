@@ -1,10 +1,3 @@
-pub mod Links
-pub mod Tidying
-pub mod Turning
-pub mod FreeEnd
 pub mod Pairs
 pub mod Keeping
 pub mod Cloned
-pub mod Compaction
-pub mod Refused
-pub mod Resizing

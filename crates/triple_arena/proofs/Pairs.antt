@@ -3,13 +3,13 @@ use Rattle.std.proofs.Common.{◌≡◌, ◌≢◌, ℕ, List, Option, Some, IsS
 use Rattle.triple_arena_traits.specs.Items.{item, with_item}
 use Rattle.triple_arena_traits.specs.ArenaState.{ArenaState, with_value}
 use Rattle.triple_arena_traits.specs.Entries.{entry_in}
-use Rattle.triple_arena.specs.Slot.{entry_of, with_slot_value}
-use Rattle.triple_arena.specs.Layout.{entry_at, Shows, with_value_at}
+use Rattle.triple_arena_slots.specs.Slot.{entry_of, with_slot_value}
+use Rattle.triple_arena_slots.specs.Layout.{entry_at, Shows, with_value_at}
 use Rattle.triple_arena_traits.specs.SlotPairs.{WritesTwo}
-use Rattle.triple_arena.specs.declared.slot.ArenaSlot.{ArenaSlot}
+use Rattle.triple_arena_slots.specs.declared.slot.ArenaSlot.{ArenaSlot}
 use Rattle.triple_arena_traits.specs.ItemLaws.{item-with_other}
 use Rattle.triple_arena_traits.proofs.SlotEntries.{entry_item, live_slot}
-use Rattle.triple_arena.proofs.Links.{Shows-with_value}
+use Rattle.triple_arena_slots.proofs.Links.{Shows-with_value}
 
 module _ {P T I G : Type 0} (number : G → ℕ) where
   value_there : (es : List (ArenaSlot P T I G)) (root : Option ℕ) (i len : ℕ) (e : ArenaSlot P T I G) (w : T) (s : ArenaState T) → item es i ≡ Some e → IsSome (entry_at number es i) → Shows number es root len s → Shows number (with_item es i (with_slot_value e w)) root len (with_value s i w)

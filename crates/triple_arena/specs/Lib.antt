@@ -1,5 +1,1 @@
-pub mod Slot
-pub mod SlotLaws
-pub mod Layout
-pub mod Lends
 pub mod InsertEntry

@@ -15,7 +15,7 @@ ghost use Rattle.triple_arena_traits.specs.Insertion.{next_pointer, inserted};
 ghost use Rattle.triple_arena_traits.specs.Ending.{removed, invalidated, cleared, told};
 ghost use Rattle.triple_arena_traits.specs.FreeList.{tidied, without_free_end, IsInOrder};
 ghost use Rattle.triple_arena_traits.specs.Capacity.{with_room_for, reallocated, KeepsRoom, grown};
-ghost use Rattle.triple_arena.specs.Slot.{entry_of};
+ghost use Rattle.triple_arena_slots.specs.Slot.{entry_of};
 ghost use Rattle.triple_arena_traits.specs.Disjoint.{value_of};
 ghost use Rattle.triple_arena_traits.specs.Values.{with_values_of};
 ghost use Rattle.triple_arena_traits.specs.Lent.{lends_values};
@@ -27,8 +27,6 @@ mod copies;
 mod limit;
 
 use crate::arena_iterators::PtrAdvancer;
-use crate::slot::ArenaSlot;
-use crate::slots::Slots;
 use std::alloc::Global;
 use std::marker::{Model, PhantomData};
 use std::num::NonZeroUsize;
@@ -36,6 +34,7 @@ use triple_arena_base::{
     AllocError, GetDisjointMutError, InvalidationOption, InvalidationResult, ReallocationError,
 };
 use triple_arena_ptr::{Ptr, PtrGen, PtrInx};
+use triple_arena_slots::{ArenaSlot, Slots};
 use triple_arena_stack::{NonZeroInxGenericStack, NonZeroInxVec};
 use triple_arena_traits::answers::{told, told_valid};
 use triple_arena_traits::entry_slots::{first_live, last_live, ptr_at, slot_at, work_on_two};
@@ -78,7 +77,7 @@ impl<P: Ptr, T, S: NonZeroInxGenericStack<ArenaSlot<P, T>>> Model for Arena<P, T
     ghost use Rattle.std.specs.Int.NonZero.{non_zero_usize_get};
     ghost use Rattle.std.specs.Option.{option_map};
     ghost use Rattle.triple_arena_ptr.specs.Numbers.{greatest_index};
-    ghost use Rattle.triple_arena.specs.Layout.{state_of, Shows};
+    ghost use Rattle.triple_arena_slots.specs.Layout.{state_of, Shows};
 
     ghost view = { λ a. state_of P.Gen.number (S.items a.slots.stack)
         (option_map non_zero_usize_get a.slots.root) (P.Gen.number a.counter) (S.room a.slots.stack)

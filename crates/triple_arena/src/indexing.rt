@@ -7,9 +7,9 @@ ghost use Rattle.triple_arena_traits.specs.ArenaState.{entry, look_up, with_valu
 ghost use Rattle.triple_arena_traits.specs.Histories.{Fits, Continues};
 
 use crate::base_arena::Arena;
-use crate::slot::ArenaSlot;
 use std::ops::{Index, IndexMut};
 use triple_arena_ptr::{Ptr, PtrInx};
+use triple_arena_slots::ArenaSlot;
 use triple_arena_stack::NonZeroInxGenericStack;
 use triple_arena_traits::{ArenaTrait, LendingArena};
 

@@ -12,9 +12,9 @@ ghost use Rattle.triple_arena_traits.specs.Histories.{insertion, Fits, Continues
 ghost use Rattle.triple_arena.specs.InsertEntry.{entry_arena, entry_reference, entry_lender, entry_rests};
 
 use crate::base_arena::Arena;
-use crate::slot::ArenaSlot;
 use triple_arena_base::{NotWithinCapacityError, ReallocationError};
 use triple_arena_ptr::{Ptr, PtrInx};
+use triple_arena_slots::ArenaSlot;
 use triple_arena_stack::{NonZeroInxGenericStack, NonZeroInxVec};
 use triple_arena_traits::{ArenaInsertTrait, ArenaTrait, LendingArena};
 

@@ -1,8 +1,8 @@
 //! The arena as clauses on loans name it.
 
 use crate::base_arena::Arena;
-use crate::slot::ArenaSlot;
 use triple_arena_ptr::Ptr;
+use triple_arena_slots::ArenaSlot;
 use triple_arena_stack::NonZeroInxGenericStack;
 use triple_arena_traits::LendingArena;
 

@@ -7,13 +7,11 @@ mod indexing;
 mod insert_entry;
 mod lending_arena;
 mod recasting;
-mod slot;
-mod slots;
 mod text;
 
 pub use base_arena::Arena;
 pub use insert_entry::{ArenaInsertEntry, ArenaInsertEntryTrait};
-pub use slot::{ArenaSlot, FreeLink};
+pub use triple_arena_slots::{ArenaSlot, FreeLink};
 pub use triple_arena_traits::{
     ArenaCloneFromWith, ArenaDirectInsertEntryTrait, ArenaDirectInsertTrait, ArenaInsertTrait,
     ArenaTrait, CompactArenaTrait, DisjointableArenaTrait, EntrySlot, LendingArena, LentSlots,

@@ -3,9 +3,9 @@
 ghost use Rattle.triple_arena_traits.specs.Entries.{look_up_in};
 
 use crate::base_arena::Arena;
-use crate::slot::ArenaSlot;
 use triple_arena_base::{Recast, Recaster};
 use triple_arena_ptr::Ptr;
+use triple_arena_slots::ArenaSlot;
 use triple_arena_stack::NonZeroInxGenericStack;
 use triple_arena_traits::{ArenaTrait, recast_entries};
 

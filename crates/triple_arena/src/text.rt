@@ -1,10 +1,10 @@
 //! The text of an arena.
 
 use crate::base_arena::Arena;
-use crate::slot::ArenaSlot;
 use std::fmt;
 use triple_arena_base::Advancer;
 use triple_arena_ptr::Ptr;
+use triple_arena_slots::ArenaSlot;
 use triple_arena_stack::NonZeroInxGenericStack;
 use triple_arena_traits::ArenaTrait;
 

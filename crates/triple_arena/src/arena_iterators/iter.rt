@@ -4,8 +4,8 @@ ghost use Rattle.std.specs.Prelude.{◌≡◌};
 ghost use Rattle.triple_arena_traits.specs.Walks.{entries};
 
 use crate::base_arena::Arena;
-use crate::slot::ArenaSlot;
 use triple_arena_ptr::Ptr;
+use triple_arena_slots::ArenaSlot;
 use triple_arena_stack::NonZeroInxGenericStack;
 use triple_arena_traits::CompactArenaTrait;
 use triple_arena_traits::arena_iterators::{CapacityDrain, Iter};

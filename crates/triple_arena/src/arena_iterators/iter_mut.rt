@@ -10,10 +10,10 @@ ghost use Rattle.triple_arena_traits.specs.Lent.{lent_rest, lent_name, lends_val
 ghost use Rattle.triple_arena_traits.specs.Values.{with_values_of, KeepsPointers};
 
 use crate::base_arena::Arena;
-use crate::slot::ArenaSlot;
 use std::marker::Model;
 use std::num::NonZeroUsize;
 use triple_arena_ptr::{Ptr, PtrGen, PtrInx};
+use triple_arena_slots::ArenaSlot;
 use triple_arena_stack::NonZeroInxGenericStack;
 use triple_arena_traits::{LendingArena, LentSlots};
 
@@ -37,7 +37,7 @@ impl<'a, P: Ptr, T> Model for IterMut<'a, P, T> {
     ghost use Rattle.triple_arena_ptr.specs.Numbers.{greatest_index};
     ghost use Rattle.triple_arena_ptr.specs.Pointers.{Pointer};
     ghost use Rattle.triple_arena_traits.specs.Walks.{entries_from};
-    ghost use Rattle.triple_arena.specs.Slot.{entry_of};
+    ghost use Rattle.triple_arena_slots.specs.Slot.{entry_of};
 
     ghost Value = { List (Pointer × T) × GName };
 

@@ -5,9 +5,9 @@ ghost use Rattle.triple_arena_ptr.specs.Numbers.{greatest_index};
 ghost use Rattle.triple_arena_traits.specs.Walks.{steps_left, Steps};
 
 use super::Arena;
-use crate::slot::ArenaSlot;
 use triple_arena_base::Advancer;
 use triple_arena_ptr::Ptr;
+use triple_arena_slots::ArenaSlot;
 use triple_arena_stack::NonZeroInxGenericStack;
 use triple_arena_traits::ArenaTrait;
 use triple_arena_traits::arena_iterators::PtrAdvancer;

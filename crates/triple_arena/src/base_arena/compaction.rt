@@ -8,9 +8,9 @@ ghost use Rattle.triple_arena_traits.specs.Compression.{compressed, counter_afte
 ghost use Rattle.triple_arena_traits.specs.Moves.{Moves};
 
 use super::Arena;
-use crate::slot::ArenaSlot;
 use triple_arena_base::InvalidationOption;
 use triple_arena_ptr::{Ptr, PtrGen, PtrInx};
+use triple_arena_slots::ArenaSlot;
 use triple_arena_stack::NonZeroInxGenericStack;
 use triple_arena_traits::{ArenaTrait, CompactArenaTrait};
 

@@ -15,9 +15,9 @@ ghost use Rattle.triple_arena_traits.specs.Drains.{removals, NoneWraps};
 ghost use Rattle.triple_arena_traits.specs.Histories.{Continues};
 
 use crate::base_arena::Arena;
-use crate::slot::ArenaSlot;
 use triple_arena_base::{CloneFromError, InvalidationOption, ReallocationError};
 use triple_arena_ptr::{Ptr, PtrGen, PtrInx};
+use triple_arena_slots::ArenaSlot;
 use triple_arena_stack::NonZeroInxGenericStack;
 use triple_arena_traits::ends::last_index;
 use triple_arena_traits::{ArenaCloneFromWith, ArenaTrait, CompactArenaTrait};

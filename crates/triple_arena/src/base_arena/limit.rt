@@ -7,9 +7,9 @@ ghost use Rattle.triple_arena_traits.specs.Capacity.{EndsBy, ready_for_limit, wi
 ghost use Rattle.triple_arena_traits.specs.Histories.{resizing, Fits, Continues};
 
 use crate::base_arena::Arena;
-use crate::slot::ArenaSlot;
 use triple_arena_base::MaxCapacityReductionError;
 use triple_arena_ptr::Ptr;
+use triple_arena_slots::ArenaSlot;
 use triple_arena_stack::SetMaxCapacity;
 use triple_arena_traits::ArenaTrait;
 

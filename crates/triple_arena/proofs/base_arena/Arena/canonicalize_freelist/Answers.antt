@@ -1,7 +1,7 @@
 use Rattle.std.proofs.Common.{◌∙◌, ap}
 use Rattle.triple_arena_traits.specs.FreeList.{tidied}
-use Rattle.triple_arena.proofs.Links.{carried}
-use Rattle.triple_arena.proofs.Tidying.{Shows-tidied}
+use Rattle.triple_arena_slots.proofs.Links.{carried}
+use Rattle.triple_arena_slots.proofs.Tidying.{Shows-tidied}
 use Rattle.triple_arena_traits.specs.FreeListLaws.{IsInOrder-tidied}
 use Rattle.triple_arena_traits.specs.HistoryLaws.{Continues-tidied}
 use Rattle.triple_arena.proofs.base_arena.Arena.canonicalize_freelist.Goals as goal

@@ -1,11 +1,11 @@
 use Rattle.std.proofs.Common.{◌≡◌, ◌∙◌, refl, ap, subst, arith}
 use Rattle.std.proofs.lemmas.List.{length-map}
 use Rattle.triple_arena_traits.specs.Compression.{compressed, rank}
-use Rattle.triple_arena.specs.Layout.{Shows}
+use Rattle.triple_arena_slots.specs.Layout.{Shows}
 use Rattle.triple_arena_traits.specs.Moves.{Moves}
-use Rattle.triple_arena.specs.Slot.{entry_of}
+use Rattle.triple_arena_slots.specs.Slot.{entry_of}
 use Rattle.triple_arena_traits.specs.Walks.{entries}
-use Rattle.triple_arena.proofs.Links.{carried}
+use Rattle.triple_arena_slots.proofs.Links.{carried}
 use Rattle.triple_arena.proofs.base_arena.Arena.close_up.Goals as goal
 
 pub close_up-requires-clause-indexed : goal.close_up-requires-clause-indexed

@@ -1,8 +1,8 @@
 use Rattle.std.proofs.Common.{◌∙◌, sym, ap, subst, arith}
 use Rattle.std.specs.Int.NonZero.{non_zero_usize_get}
 use Rattle.std.specs.Option.{option_map}
-use Rattle.triple_arena.specs.Layout.{Shows}
-use Rattle.triple_arena.proofs.Links.{root_head, root_indexed, index_of_number}
+use Rattle.triple_arena_slots.specs.Layout.{Shows}
+use Rattle.triple_arena_slots.proofs.Links.{root_head, root_indexed, index_of_number}
 use Rattle.triple_arena.proofs.base_arena.Arena.freelist_root.Goals as goal
 
 pub returns : goal.returns

@@ -2,9 +2,9 @@ use Rattle.std.proofs.Common.{◌∙◌, ◌≤◌, length, map, refl, ap, arith
 use Rattle.std.proofs.lemmas.List.{length-map}
 use Rattle.triple_arena_traits.specs.ArenaState.{capacity}
 use Rattle.triple_arena_traits.specs.FreeList.{laid_out}
-use Rattle.triple_arena.specs.Slot.{entry_of}
-use Rattle.triple_arena.proofs.Links.{carried}
-use Rattle.triple_arena.proofs.Tidying.{Shows-laid_out}
+use Rattle.triple_arena_slots.specs.Slot.{entry_of}
+use Rattle.triple_arena_slots.proofs.Links.{carried}
+use Rattle.triple_arena_slots.proofs.Tidying.{Shows-laid_out}
 use Rattle.triple_arena.proofs.base_arena.Arena.hold_copies.Goals as goal
 
 pub invariant_of-self : goal.invariant_of-self

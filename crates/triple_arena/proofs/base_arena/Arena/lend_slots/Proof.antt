@@ -67,26 +67,26 @@ use Rattle.std.specs.Option.{option_map}
 use Rattle.std.specs.Int.NonZero.{non_zero_usize_get}
 use Rattle.triple_arena_ptr.specs.Numbers.{greatest_index}
 use Rattle.triple_arena_traits.specs.ArenaState.{ArenaState}
-use Rattle.triple_arena.specs.Slot.{entry_of, with_slot_value}
-use Rattle.triple_arena.specs.SlotLaws.{with_own_slot_value}
+use Rattle.triple_arena_slots.specs.Slot.{entry_of, with_slot_value}
+use Rattle.triple_arena_slots.specs.SlotLaws.{with_own_slot_value}
 use Rattle.triple_arena_traits.specs.Values.{with_values_of}
 use Rattle.triple_arena_traits.specs.Kept.{filled_all, Kept}
-use Rattle.triple_arena.specs.Lends.{with_slots}
+use Rattle.triple_arena_slots.specs.Lends.{with_slots}
 use Rattle.triple_arena_traits.proofs.KeptSlots.{filled-own, length-filled, refilled}
 use Rattle.triple_arena.proofs.Keeping.{kept_within}
-use Rattle.triple_arena.specs.declared.slot.ArenaSlot.{ArenaSlot}
-use Rattle.triple_arena.specs.declared.slots.Slots.{Slots}
+use Rattle.triple_arena_slots.specs.declared.slot.ArenaSlot.{ArenaSlot}
+use Rattle.triple_arena_slots.specs.declared.slots.Slots.{Slots}
 use Rattle.triple_arena_traits.specs.declared.lent_slots.LentSlots.{LentSlots}
-use Rattle.triple_arena.specs.contracts.slot.ArenaSlot as S-type
-use Rattle.triple_arena.specs.contracts.slots.Slots as Slots-type
+use Rattle.triple_arena_slots.specs.contracts.slot.ArenaSlot as S-type
+use Rattle.triple_arena_slots.specs.contracts.slots.Slots as Slots-type
 use Rattle.triple_arena_traits.specs.contracts.lent_slots.LentSlots as L-type
-use Rattle.triple_arena.specs.contracts.slot.ArenaSlotEntrySlot.TheImpl as Slot-impl
+use Rattle.triple_arena_slots.specs.contracts.slot.ArenaSlotEntrySlot.TheImpl as Slot-impl
 use Rattle.triple_arena.specs.contracts.base_arena.Arena as A-type
 use Rattle.triple_arena.specs.contracts.base_arena.Arena.TheInside as I-type
 use Rattle.triple_arena.specs.contracts.base_arena.Arena.lend_slots as F
-use Rattle.triple_arena.specs.contracts.slots.Slots.as_mut_slice as G-fn
-use Rattle.triple_arena.proofs.slots.Slots.as_mut_slice.Met.{met}
-use Rattle.triple_arena.proofs.slots.Slots.TheLaws as Slots-laws
+use Rattle.triple_arena_slots.specs.contracts.slots.Slots.as_mut_slice as G-fn
+use Rattle.triple_arena_slots.proofs.slots.Slots.as_mut_slice.Met.{met}
+use Rattle.triple_arena_slots.proofs.slots.Slots.TheLaws as Slots-laws
 use Rattle.triple_arena.specs.contracts.base_arena.Arena.lend_slots.Key.{name as #self}
 use Rattle.triple_arena.proofs.base_arena.Arena.lend_slots.Statement as stated
 use Rattle.triple_arena.proofs.base_arena.Arena.lend_slots.Code as code
@@ -458,7 +458,7 @@ lend_slots_spec 𝓤 𝓛 𝓜 𝓡 wired P T S I G LP LT LS LI LG CP CI CG P-Pt
     P-Gen-PartialOrd-dict P-Gen-Ord P-Gen-Ord-dict S-NonZeroInxGenericStack S-NonZeroInxGenericStack-dict LP LT LS
     LI LG
     (record { of_items = m25.items_with_items; of_room = m25.room_with_items; of_limit = m25.limit_with_items }) 𝓤 𝓛 𝓜 𝓡 wired
-    (met 𝓤 𝓛 𝓜 𝓡 (code.calls-triple_arena::slots::Slots::as_mut_slice 𝓡.env wired) P T S I G LP LT LS LI LG CP CI CG
+    (met 𝓤 𝓛 𝓜 𝓡 (code.calls-triple_arena_slots::Slots::as_mut_slice 𝓡.env wired) P T S I G LP LT LS LI LG CP CI CG
     P-Ptr P-Ptr-dict P-Debug P-Debug-dict P-Hash P-Hash-dict P-Eq P-Eq-dict P-PartialEq P-PartialEq-dict P-Clone
     P-Clone-dict P-PartialOrd P-PartialOrd-dict P-Ord P-Ord-dict P-Recast P-Recast-dict P-Inx-PtrInx
     P-Inx-PtrInx-dict P-Inx-Debug P-Inx-Debug-dict P-Inx-Hash P-Inx-Hash-dict P-Inx-Eq P-Inx-Eq-dict P-Inx-PartialEq

@@ -1,4 +1,4 @@
-use Rattle.triple_arena.proofs.Resizing.{placed, as_shown, room_changed}
+use Rattle.triple_arena_slots.proofs.Resizing.{placed, as_shown, room_changed}
 use Rattle.triple_arena_ptr.specs.Numbers.{greatest_index}
 use Rattle.triple_arena_stack.specs.Capacity.{capacity_of, IsWithin, IsBeyond}
 use Rattle.triple_arena_stack.specs.StackKind.{reallocated_room}

@@ -6,7 +6,7 @@ use Rattle.triple_arena_traits.specs.ArenaState.{slot_count, is_free}
 use Rattle.triple_arena_traits.specs.FreeList.{without_free_end}
 use Rattle.triple_arena_traits.specs.EntryLaws.{slots-without_free_end}
 use Rattle.triple_arena_traits.specs.LengthLaws.{len-without_free_end}
-use Rattle.triple_arena.proofs.Links.{carried}
+use Rattle.triple_arena_slots.proofs.Links.{carried}
 use Rattle.triple_arena_traits.specs.FreeListLaws.{trimmed_last}
 use Rattle.triple_arena_traits.specs.HistoryLaws.{Continues-resized}
 use Rattle.triple_arena.proofs.base_arena.Arena.remove_free_end_slots.Goals as goal

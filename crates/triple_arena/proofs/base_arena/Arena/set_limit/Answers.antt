@@ -1,4 +1,4 @@
-use Rattle.triple_arena.proofs.Resizing.{as_shown, limit_changed}
+use Rattle.triple_arena_slots.proofs.Resizing.{as_shown, limit_changed}
 use Rattle.std.specs.Option.{option_map}
 use Rattle.std.specs.Int.NonZero.{non_zero_usize_get}
 use Rattle.std.proofs.Common.{◌↔◌, ◌≤◌, IsOk, ap}

@@ -1,9 +1,9 @@
 use Rattle.std.proofs.Common.{◌≡◌, ◌∙◌, sym, ap, subst, IsSome, None, option_copied}
 use Rattle.std.specs.Option.{option_and_then}
-use Rattle.triple_arena.specs.Slot.{entry_of}
+use Rattle.triple_arena_slots.specs.Slot.{entry_of}
 use Rattle.triple_arena_traits.specs.ArenaState.{entry}
 use Rattle.triple_arena_traits.specs.WellFormedLaws.{entry_past, entry_within}
-use Rattle.triple_arena.proofs.Refused.{slot_read}
+use Rattle.triple_arena_slots.proofs.Refused.{slot_read}
 use Rattle.triple_arena.proofs.base_arena.Arena.slot.Goals as goal
 
 pub returns-clause-entry : goal.returns-clause-entry

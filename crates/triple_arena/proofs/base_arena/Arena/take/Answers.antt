@@ -4,7 +4,7 @@ use Rattle.triple_arena_ptr.specs.Numbers.{raise}
 use Rattle.triple_arena_traits.specs.ArenaState.{entry}
 use Rattle.triple_arena_traits.specs.Ending.{removed}
 use Rattle.triple_arena_traits.specs.WellFormedLaws.{counter-removed, room-removed, limit-removed, greatest-removed}
-use Rattle.triple_arena.proofs.Links.{live_len, carried}
+use Rattle.triple_arena_slots.proofs.Links.{live_len, carried}
 use Rattle.triple_arena.proofs.base_arena.Arena.take.Goals as goal
 
 pub overflow_sub-self : goal.overflow_sub-self

@@ -1,7 +1,7 @@
 use Rattle.triple_arena_traits.proofs.Refused.{err_is, if_err, of_same}
-use Rattle.triple_arena.proofs.Refused.{past_slots}
+use Rattle.triple_arena_slots.proofs.Refused.{past_slots}
 use Rattle.triple_arena_traits.specs.ArenaState.{slot_count}
-use Rattle.triple_arena.specs.Slot.{entry_of}
+use Rattle.triple_arena_slots.specs.Slot.{entry_of}
 use Rattle.triple_arena_stack.specs.Disjoint.{AreTwo, IsRefused}
 use Rattle.std.proofs.lemmas.List.{length-map}
 use Rattle.std.proofs.Common.{◌∙◌, sym, ap, inl, inr}

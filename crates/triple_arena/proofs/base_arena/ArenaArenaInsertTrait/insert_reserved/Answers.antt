@@ -1,11 +1,11 @@
 use Rattle.triple_arena_stack.specs.Capacity.{capacity_of}
-use Rattle.triple_arena.specs.Layout.{Shows}
-use Rattle.triple_arena.proofs.Resizing.{below_room}
+use Rattle.triple_arena_slots.specs.Layout.{Shows}
+use Rattle.triple_arena_slots.proofs.Resizing.{below_room}
 use Rattle.triple_arena_traits.specs.ArenaState.{ArenaState, arena_len, IsWellFormed}
 use Rattle.std.proofs.Common.{◌∙◌, sym, ap, subst, ◌<◌}
 use Rattle.triple_arena_traits.specs.Insertion.{inserted}
 use Rattle.triple_arena_traits.specs.WellFormedLaws.{kept-inserted}
-use Rattle.triple_arena.proofs.Links.{carried}
+use Rattle.triple_arena_slots.proofs.Links.{carried}
 use Rattle.triple_arena_traits.specs.HistoryLaws.{Continues-inserted}
 use Rattle.triple_arena.proofs.base_arena.ArenaArenaInsertTrait.insert_reserved.Goals as goal
 

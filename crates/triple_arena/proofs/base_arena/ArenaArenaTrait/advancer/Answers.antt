@@ -1,5 +1,5 @@
 use Rattle.std.proofs.Common.{map}
-use Rattle.triple_arena.specs.Slot.{entry_of}
+use Rattle.triple_arena_slots.specs.Slot.{entry_of}
 use Rattle.triple_arena_traits.proofs.Walking.{at_first}
 use Rattle.triple_arena.proofs.base_arena.ArenaArenaTrait.advancer.Goals as goal
 

@@ -1,6 +1,6 @@
 use Rattle.std.proofs.Common.{◌≡◌, map, subst}
 use Rattle.triple_arena_traits.specs.Entries.{entry_count}
-use Rattle.triple_arena.specs.Slot.{entry_of}
+use Rattle.triple_arena_slots.specs.Slot.{entry_of}
 use Rattle.triple_arena_traits.specs.WellFormedLaws.{none_counted}
 use Rattle.triple_arena.proofs.base_arena.ArenaArenaTrait.find_first_inx_ptr.Goals as goal
 

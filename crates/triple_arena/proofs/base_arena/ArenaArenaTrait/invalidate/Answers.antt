@@ -1,4 +1,4 @@
-use Rattle.triple_arena.proofs.Refused.{told_mapped, none_told}
+use Rattle.triple_arena_slots.proofs.Refused.{told_mapped, none_told}
 use Rattle.triple_arena_traits.proofs.SlotEntries.{none_of}
 use Rattle.triple_arena_ptr.specs.Pointers.{Pointer}
 use Rattle.std.specs.Option.{option_map}
@@ -9,7 +9,7 @@ use Rattle.triple_arena_traits.specs.Entries.{with_generation_in}
 use Rattle.triple_arena_traits.specs.ArenaState.{look_up, ArenaState, entry}
 use Rattle.triple_arena_traits.specs.EntryLaws.{slots-invalidated}
 use Rattle.triple_arena_traits.specs.WellFormedLaws.{invalidated_is, live_entry, entry_of_value}
-use Rattle.triple_arena.proofs.Links.{Shows-counter, carried}
+use Rattle.triple_arena_slots.proofs.Links.{Shows-counter, carried}
 use Rattle.triple_arena_traits.specs.PointerListLaws.{pointer_is}
 use Rattle.triple_arena_traits.proofs.LookUps.{renewed_found, renewed_gone, others_found}
 use Rattle.triple_arena_traits.specs.HistoryLaws.{Continues-invalidated}

@@ -1,4 +1,4 @@
-use Rattle.triple_arena.proofs.Resizing.{below_above, Continues-reallocated}
+use Rattle.triple_arena_slots.proofs.Resizing.{below_above, Continues-reallocated}
 use Rattle.triple_arena_traits.proofs.Growth.{on_ok}
 use Rattle.triple_arena_traits.specs.Capacity.{with_room_for}
 use Rattle.triple_arena_traits.specs.ArenaState.{ArenaState}

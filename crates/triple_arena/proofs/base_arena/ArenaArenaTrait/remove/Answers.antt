@@ -1,5 +1,5 @@
 use Rattle.triple_arena_traits.proofs.Refused.{gone_found, rest_found}
-use Rattle.triple_arena.proofs.Refused.{told_found}
+use Rattle.triple_arena_slots.proofs.Refused.{told_found}
 use Rattle.triple_arena_traits.proofs.SlotEntries.{none_of}
 use Rattle.triple_arena_traits.specs.WellFormedLaws.{value_of_entry, live_entry}
 use Rattle.triple_arena_traits.specs.EntryLaws.{slots-removed}

@@ -1,4 +1,4 @@
-use Rattle.triple_arena.proofs.Refused.{told_mapped}
+use Rattle.triple_arena_slots.proofs.Refused.{told_mapped}
 use Rattle.triple_arena_traits.proofs.LookUps.{others_found}
 use Rattle.triple_arena_traits.proofs.SlotEntries.{none_of}
 use Rattle.triple_arena_traits.specs.EntryLaws.{slots-removed}

@@ -1,5 +1,5 @@
 use Rattle.triple_arena_traits.proofs.Refused.{err_is, if_err, on_err, refused_inx}
-use Rattle.triple_arena.proofs.Refused.{Continues-two_written}
+use Rattle.triple_arena_slots.proofs.Refused.{Continues-two_written}
 use Rattle.triple_arena_traits.specs.ArenaState.{entry}
 use Rattle.std.proofs.Common.{◌≡◌, refl, sym, inl, inr, ◌∙◌, IsSome, subst}
 use Rattle.std.specs.Int.NonZero.{non_zero_usize_get}

@@ -1,4 +1,4 @@
-use Rattle.triple_arena.proofs.Refused.{Continues-two_written}
+use Rattle.triple_arena_slots.proofs.Refused.{Continues-two_written}
 use Rattle.std.proofs.Common.{◌≡◌, ◌≢◌, ◌∙◌, true, is_some, IsSome, refl, sym, ap, subst, inl, inr, true≢false}
 use Rattle.std.proofs.lemmas.Bool.{cases_eq}
 use Rattle.std.specs.Int.NonZero.{non_zero_usize_get}

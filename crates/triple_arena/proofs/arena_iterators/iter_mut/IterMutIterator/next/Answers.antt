@@ -1,7 +1,7 @@
 use Rattle.std.proofs.Common.{◌≡◌, ◌∙◌, ◌+◌, ◌-◌, ◌^◌, length, min, sym, ap, refl, arith}
 use Rattle.std.specs.Int.NonZero.{non_zero_usize_get}
 use Rattle.triple_arena_traits.specs.Lent.{lent_rest}
-use Rattle.triple_arena.specs.Slot.{entry_of}
+use Rattle.triple_arena_slots.specs.Slot.{entry_of}
 use Rattle.triple_arena_traits.specs.PointerListLaws.{pointer_is}
 use Rattle.triple_arena_traits.proofs.Lending.{behind_first, generation_there, first_lent, first_passed, none_left}
 use Rattle.triple_arena.proofs.arena_iterators.iter_mut.IterMutIterator.next.Goals as goal

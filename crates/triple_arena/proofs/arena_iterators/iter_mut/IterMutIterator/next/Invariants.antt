@@ -2,7 +2,7 @@ use Rattle.std.proofs.Common.{◌≡◌, length, ◌+◌, ◌≤◌, map}
 use Rattle.std.specs.Int.NonZero.{non_zero_usize_get}
 use Rattle.triple_arena_ptr.specs.Numbers.{greatest_index}
 use Rattle.triple_arena_traits.specs.Walks.{entries_from}
-use Rattle.triple_arena.specs.Slot.{entry_of}
+use Rattle.triple_arena_slots.specs.Slot.{entry_of}
 use Rattle.triple_arena.proofs.arena_iterators.iter_mut.IterMutIterator.next.Given as goal
 
 abbrev pub invariant-slots : goal.invariant-slots

@@ -1,6 +1,6 @@
 use Rattle.std.proofs.Common.{arith}
 use Rattle.std.specs.Int.NonZero.{non_zero_usize_get}
-use Rattle.triple_arena.specs.Slot.{entry_of}
+use Rattle.triple_arena_slots.specs.Slot.{entry_of}
 use Rattle.triple_arena_traits.proofs.Listing.{entries_within}
 use Rattle.triple_arena.proofs.arena_iterators.iter_mut.IterMutIterator.size_hint.Goals as goal
 

@@ -9,7 +9,7 @@ use Rattle.triple_arena_traits.proofs.CopyLemmas.{kept_end, copy_ends, no_answer
 use Rattle.triple_arena_traits.proofs.Refused.{err_is, on_ok_err}
 use Rattle.triple_arena_traits.specs.FreeListLaws.{trimmed_length}
 use Rattle.triple_arena.proofs.Cloned.{counter_given, copy_laid_out, passed_on, no_refusal, beyond_room, not_beyond}
-use Rattle.triple_arena.proofs.Refused.{unrefused_end}
+use Rattle.triple_arena_slots.proofs.Refused.{unrefused_end}
 use Rattle.triple_arena.proofs.base_arena.copies.ArenaArenaCloneFromWith.clone_from_with.Goals as goal
 
 pub returns-in_err-make_room-clause-fits : goal.returns-in_err-make_room-clause-fits

@@ -1,0 +1,102 @@
+-- How the free slots are put in order.
+use Rattle.std.proofs.Common.{◌≡◌, ◌≢◌, ℕ, zero, suc, ◌+◌, ◌<◌, ◌≤◌, ◌==◌, true, false, List, [], ◌∷◌, map, length, drop, Option, Some, None, is_some, count_by, cond, refl, sym, ap, ◌∙◌, arith, true≢false}
+use Rattle.std.proofs.lemmas.List.{length-map, drop_all}
+use Rattle.std.specs.Int.NonZero.{non_zero_usize_get}
+use Rattle.triple_arena_traits.specs.Items.{item, with_item}
+use Rattle.triple_arena_traits.specs.ArenaState.{ArenaState, arena_len, capacity}
+use Rattle.triple_arena_traits.specs.FreeList.{trimmed, gaps, tidied, laid_out}
+use Rattle.triple_arena_slots.specs.Slot.{entry_of}
+use Rattle.triple_arena_traits.specs.LengthLaws.{trimmed_live}
+use Rattle.triple_arena_slots.specs.Layout.{after, IsLinked, Shows}
+use Rattle.triple_arena_traits.specs.ItemLaws.{map-with_item, item_within, item-with_same, item-with_other, with_item_same, item-map_some}
+use Rattle.triple_arena_slots.specs.declared.slot.FreeLink.{FreeLink}
+use Rattle.triple_arena_slots.specs.declared.slot.ArenaSlot.{ArenaSlot}
+use Rattle.triple_arena_slots.specs.declared.slot.ArenaSlot.TheVariants.{Free, Allocated}
+use Rattle.triple_arena_traits.specs.EntryLaws.{count_head}
+use Rattle.triple_arena_slots.proofs.Links.{IsLinked-off}
+use Rattle.triple_arena_traits.specs.FreeListLaws.{gaps_above}
+use Rattle.triple_arena_traits.specs.StepLaws.{IsWellFormed-laid_out, IsWellFormed-tidied}
+
+module _ {T : Type 0} where
+  entry_step : (xs : List (Option (ℕ × T))) (at : ℕ) (x : Option (ℕ × T)) → item xs (at + 1) ≡ Some x → drop at xs ≡ x ∷ drop (at + 1) xs
+  entry_step [] at x found = absurd (let n : at + 1 ≡ suc at = omega arith in let h = rw n at found in cc)
+  entry_step (y ∷ xs) zero x found = let same : y ≡ x = cc in ap (λ z. z ∷ xs) same
+  entry_step (y ∷ xs) (suc at) x found =
+      let n : suc at + 1 ≡ suc (suc at) = omega arith in
+      let m : at + 1 ≡ suc at = omega arith in
+      let rest = entry_step xs at x (rw m (rw n at found)) in
+      rw n (rw m at rest)
+
+module _ {P T I G : Type 0} (number : G → ℕ) where
+  -- the slots from `at` on link in rising order
+  pub record LinkedFrom (old now : List (ArenaSlot P T I G)) (at : ℕ) (root : Option ℕ) : Type 0 where
+    pub same : map (entry_of number) now ≡ map (entry_of number) old
+    pub linked : IsLinked now root (gaps (at + 1) (drop at (map (entry_of number) old)))
+
+  -- a slot with no entry is free
+  pub free_slot : (e : ArenaSlot P T I G) → is_some (entry_of number e) ≡ false → (link : FreeLink) × (e ≡ Free link)
+  free_slot (Free link) none = (link, refl)
+  free_slot (Allocated g v) none = absurd (true≢false none)
+
+  -- the root is no index at or before `at`
+  pub root_past : (es : List (ArenaSlot P T I G)) (from : Option ℕ) (at : ℕ) (xs : List (Option (ℕ × T))) (i : ℕ) → i < at → IsLinked es from (gaps at xs) → from ≢ Some i
+  root_past es from at xs i h linked = by_gaps (gaps at xs) (gaps_above at xs i h) linked
+    where
+      by_gaps : (free : List ℕ) → count_by (λ j. j == i) free ≡ 0 → IsLinked es from free → from ≢ Some i
+      by_gaps [] none linked e = absurd (cc)
+      by_gaps (j ∷ rest) none linked e =
+          let same : j ≡ i = cc (linked.0) in
+          absurd (omega (arith, none, count_head i rest, ap (λ m. count_by (λ k. k == i) (m ∷ rest)) same))
+
+  -- the slots link as before where the one at hand has an entry
+  pub LinkedFrom-live : (old es : List (ArenaSlot P T I G)) (i at : ℕ) (root : Option ℕ) (e : ArenaSlot P T I G) → i ≡ at + 1 → LinkedFrom old es i root → item es i ≡ Some e → is_some (entry_of number e) ≡ true → LinkedFrom old es at root
+  LinkedFrom-live old es i at root e here l found live = by_entry (entry_of number e) refl live
+    where
+      by_entry : (o : Option (ℕ × T)) → entry_of number e ≡ o → is_some o ≡ true → LinkedFrom old es at root
+      by_entry None is some = absurd (true≢false (sym some))
+      by_entry (Some v) is some =
+          let there : item (map (entry_of number) old) (at + 1) ≡ Some (Some v) = ap (item (map (entry_of number) old)) (sym here) ∙ ap (λ xs. item xs i) (sym l.same) ∙ item-map_some (entry_of number) es i e found ∙ ap Some is in
+          record {
+            same = l.same;
+            linked = rw (entry_step (map (entry_of number) old) at (Some v) there) (rw here at l.linked);
+          }
+
+  -- a free slot links to what was the root, and is the root from then on
+  pub LinkedFrom-free : (old es es1 : List (ArenaSlot P T I G)) (i at : ℕ) (root : Option ℕ) (e : ArenaSlot P T I G) (link : FreeLink) → i ≡ at + 1 → LinkedFrom old es i root → item es i ≡ Some e → is_some (entry_of number e) ≡ false → cond (non_zero_usize_get link.next == i) None (Some (non_zero_usize_get link.next)) ≡ root → es1 ≡ with_item es i (Free link) → LinkedFrom old es1 at (Some i)
+  LinkedFrom-free old es es1 i at root e link here l found none links written =
+      let is = (free_slot e none).1 in
+      let within = item_within es i e found in
+      let vacant : item (map (entry_of number) es) i ≡ Some None = item-map_some (entry_of number) es i e found ∙ ap (λ x. Some (entry_of number x)) is in
+      let there : item (map (entry_of number) old) (at + 1) ≡ Some None = ap (item (map (entry_of number) old)) (sym here) ∙ ap (λ xs. item xs i) (sym l.same) ∙ vacant in
+      let next : after (with_item es i (Free link)) i ≡ root = rw (item-with_same es i (Free link) within.0 within.1) links in
+      let rest : IsLinked es root (gaps (i + 1) (drop i (map (entry_of number) old))) = l.linked in
+      let kept : IsLinked (with_item es i (Free link)) root (gaps (i + 1) (drop i (map (entry_of number) old))) = IsLinked-off es (with_item es i (Free link)) i root _ (λ j other. item-with_other es i j (Free link) other) (gaps_above (i + 1) (drop i (map (entry_of number) old)) i (omega arith)) rest in
+      rw written (record {
+        same = map-with_item (entry_of number) es i (Free link) ∙ with_item_same (map (entry_of number) es) i None vacant ∙ l.same;
+        linked = rw (entry_step (map (entry_of number) old) at None there) (ap Some here, rw (← here) (rw next kept));
+      })
+
+  pub LinkedFrom-start : (es : List (ArenaSlot P T I G)) → LinkedFrom es es (length es) None
+  LinkedFrom-start es =
+      record { same = refl; linked = rw (drop_all (length es) (map (entry_of number) es) (omega (arith, length-map es (entry_of number)))) refl }
+
+  pub LinkedFrom-done : (old es : List (ArenaSlot P T I G)) (at : ℕ) (root : Option ℕ) → at ≡ 0 → LinkedFrom old es at root → IsLinked es root (gaps 1 (map (entry_of number) old))
+  LinkedFrom-done old es at root none l = rw none at l.linked
+
+  pub LinkedFrom-root : (old es : List (ArenaSlot P T I G)) (i : ℕ) (root : Option ℕ) → LinkedFrom old es i root → root ≢ Some i
+  LinkedFrom-root old es i root l = root_past es root (i + 1) (drop i (map (entry_of number) old)) i (omega arith) l.linked
+
+  -- slots whose free ones link in rising order
+  pub Shows-laid_out : (es : List (ArenaSlot P T I G)) (root : Option ℕ) (len : ℕ) (s : ArenaState T) (xs : List (Option (ℕ × T))) (counter : ℕ) → map (entry_of number) es ≡ xs → IsLinked es root (gaps 1 xs) → len ≡ arena_len (laid_out s xs counter) → length xs ≤ capacity s → Shows number es root len (laid_out s xs counter)
+  Shows-laid_out es root len s xs counter slots linked counted fits =
+      record { slots = slots; linked = linked; counted = counted; well = IsWellFormed-laid_out s xs counter fits }
+
+  -- the slots end with the last entry, and their free ones link in rising order
+  pub Shows-tidied : (old es : List (ArenaSlot P T I G)) (root root1 : Option ℕ) (len : ℕ) (s : ArenaState T) → map (entry_of number) es ≡ trimmed (map (entry_of number) old) → IsLinked es root1 (gaps 1 (trimmed (map (entry_of number) old))) → Shows number old root len s → Shows number es root1 len (tidied s)
+  Shows-tidied old es root root1 len s cut linked shows =
+      record {
+        slots = cut ∙ ap trimmed shows.slots;
+        linked = rw shows.slots at linked;
+        counted = shows.counted ∙ sym (trimmed_live s.slots);
+        well = IsWellFormed-tidied s shows.well;
+      }

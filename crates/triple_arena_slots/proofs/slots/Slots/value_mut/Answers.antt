@@ -1,0 +1,31 @@
+use Rattle.std.proofs.Common.{◌∙◌, IsSome, sym, subst, refl}
+use Rattle.std.specs.Int.NonZero.{non_zero_usize_get}
+use Rattle.triple_arena_slots.specs.Slot.{entry_of, with_slot_value}
+use Rattle.triple_arena_traits.specs.ItemLaws.{item_at, with_item_at}
+use Rattle.triple_arena_traits.proofs.Present.{some_mapped}
+use Rattle.triple_arena_traits.proofs.SlotEntries.{entry_item, item_live}
+use Rattle.triple_arena_slots.proofs.slots.Slots.value_mut.Goals as goal
+
+pub unwrap-slot-requires : goal.unwrap-slot-requires
+unwrap-slot-requires g c =
+    let items = g.S.NonZeroInxGenericStack.items c.args.self.now.stack in
+    let inx = non_zero_usize_get c.args.inx in
+    some_mapped _ c.get_mut.result _ c.get_mut.ensures.value (subst IsSome (item_at items inx c.args.inx.ok) (item_live (entry_of g.P.Gen.PtrGen.number) items inx c.requires))
+
+pub value_mut-requires-after_bounds : goal.value_mut-requires-after_bounds
+value_mut-requires-after_bounds g c κs within =
+    let found = item_at _ _ c.args.inx.ok ∙ sym (rw c.unwrap-slot.ensures at c.get_mut.ensures.value) in
+    rw (← entry_item (entry_of g.P.Gen.PtrGen.number) (g.S.NonZeroInxGenericStack.items c.args.self.now.stack) (non_zero_usize_get c.args.inx) c.unwrap-slot.result.now found) c.requires
+
+pub returns : goal.returns
+returns g c =
+    let found = item_at _ _ c.args.inx.ok ∙ sym (rw c.unwrap-slot.ensures at c.get_mut.ensures.value) in (
+      (
+        refl,
+        λ w. rw (found, with_item_at (g.S.NonZeroInxGenericStack.items c.args.self.now.stack) (non_zero_usize_get c.args.inx) (with_slot_value c.unwrap-slot.result.now w) c.args.inx.ok) refl,
+      ),
+      record {
+        writes_back = tt;
+        value = rw (entry_item (entry_of g.P.Gen.PtrGen.number) (g.S.NonZeroInxGenericStack.items c.args.self.now.stack) (non_zero_usize_get c.args.inx) c.unwrap-slot.result.now found) c.value_mut.ensures.value;
+      },
+    )

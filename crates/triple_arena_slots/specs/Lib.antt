@@ -1,0 +1,4 @@
+pub mod Slot
+pub mod SlotLaws
+pub mod Layout
+pub mod Lends

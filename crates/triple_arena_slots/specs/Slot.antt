@@ -1,0 +1,26 @@
+-- What a slot holds.
+use Rattle.std.specs.Prelude.{ℕ, ◌==◌, cond, Option, Some, None}
+use Rattle.std.specs.Int.NonZero.{non_zero_usize_get}
+use Rattle.triple_arena_slots.specs.declared.slot.FreeLink.{FreeLink}
+use Rattle.triple_arena_slots.specs.declared.slot.ArenaSlot.{ArenaSlot}
+use Rattle.triple_arena_slots.specs.declared.slot.ArenaSlot.TheVariants.{Free, Allocated}
+
+-- the index that the link of the free slot at index i leads to, if it leads to one
+abbrev pub next_free : FreeLink → ℕ → Option ℕ
+next_free link i = cond (non_zero_usize_get link.next == i) None (Some (non_zero_usize_get link.next))
+
+module _ {P T I G : Type 0} where
+  -- the generation, by its number, and the value of the slot's entry, if it has one
+  abbrev pub entry_of : (G → ℕ) → ArenaSlot P T I G → Option (ℕ × T)
+  entry_of number (Free link) = None
+  entry_of number (Allocated generation value) = Some (number generation, value)
+
+  -- the slot with another value, if it has one
+  abbrev pub with_slot_value : ArenaSlot P T I G → T → ArenaSlot P T I G
+  with_slot_value (Free link) v = Free link
+  with_slot_value (Allocated generation old) v = Allocated generation v
+
+  -- the slot with another generation, if it has a value
+  abbrev pub with_slot_generation : ArenaSlot P T I G → G → ArenaSlot P T I G
+  with_slot_generation (Free link) g = Free link
+  with_slot_generation (Allocated generation v) g = Allocated g v

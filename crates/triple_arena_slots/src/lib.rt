@@ -1,0 +1,8 @@
+//! The slots of an `Arena`, and the free list that runs through them.
+#![tactic(auto)]
+
+mod slot;
+mod slots;
+
+pub use slot::{ArenaSlot, FreeLink};
+pub use slots::Slots;

@@ -1,12 +1,11 @@
 //! What the calls of any stack answer.
 
-use super::calls::{Call, ITEMS, Told, told_lent, told_limit, told_push, told_refusal};
+use super::calls::{Call, ITEMS, Told, inx, told_lent, told_limit, told_push, told_refusal};
 use super::items::Items;
 use std::mem;
 use std::num::NonZeroUsize;
 use triple_arena_base::NotWithinCapacityError;
 use triple_arena_stack::{NonZeroInxGenericStack, SetMaxCapacity, pair_if};
-use triple_arena_trait_kit::inx;
 
 // What each call answers that reads a stack of any items. They are made at once: one body without
 // branches is faster to prove than a branch for each.

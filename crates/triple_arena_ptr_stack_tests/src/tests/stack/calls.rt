@@ -3,6 +3,11 @@
 use std::num::NonZeroUsize;
 use triple_arena_base::{GetDisjointMutError, ReallocationError};
 
+/// The index of this number; of 0, one past all that a stack has items at.
+pub fn inx(number: usize) -> NonZeroUsize {
+    NonZeroUsize::new(number).unwrap_or(NonZeroUsize::MAX)
+}
+
 /// A call; an item is given by its number, and an index by its number.
 ///
 /// A call that writes answers what stood there before.

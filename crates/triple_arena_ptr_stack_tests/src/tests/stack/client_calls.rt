@@ -2,7 +2,7 @@
 
 use super::any_stack::answer_without_items;
 use super::calls::{
-    Call, Tested, Told, Wrong, both, follow, is_told, told_lent, told_push, told_refusal,
+    Call, Tested, Told, Wrong, both, follow, inx, is_told, told_lent, told_push, told_refusal,
 };
 use super::client::{
     Holding, Slot, empty, exchange, free, is_at_limit, made, overwrite, put, put_growing, put_over,
@@ -15,7 +15,6 @@ use triple_arena_base::NotWithinCapacityError;
 use triple_arena_stack::{
     ArrayStack, FixedStack, HeapStack, LimitedStack, NonZeroInxGenericStack, NonZeroInxStack,
 };
-use triple_arena_trait_kit::inx;
 
 fn told_put<S: NonZeroInxGenericStack<Slot<Token>>>(slots: &mut S, number: u64) -> Told {
     match put(slots, Token { number }) {

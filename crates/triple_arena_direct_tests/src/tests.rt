@@ -2,15 +2,8 @@
 //! memory.
 
 mod arenas;
-mod asked;
 mod calls;
-mod clones;
-mod copying;
 mod drops;
 mod insertion;
-mod on_two;
-mod placing;
 mod pops;
 mod refused_memory;
-mod tested_direct;
-mod transfers;

@@ -1,5 +1,6 @@
 //! New arenas over each stack.
 
+use crate::tested_arena::Tested;
 use std::alloc::Global;
 use triple_arena::{Arena, ArenaSlot, ArenaTrait};
 use triple_arena_base::AllocError;
@@ -23,16 +24,18 @@ pub type Little<P, const N: usize> = Scarce<ArenaSlot<P, Token>, N>;
 /// An arena as `new` makes it.
 pub fn new_arena<P: Ptr, S: NonZeroInxGenericStack<ArenaSlot<P, Token>>>(
     alloc: Global,
-) -> Arena<P, Token, S> {
-    Arena::new(alloc)
+) -> Tested<P, S> {
+    let arena = Arena::new(alloc);
+    Tested { arena }
 }
 
 /// An arena with this room, where there is memory for it.
 pub fn with_room<P: Ptr, S: NonZeroInxGenericStack<ArenaSlot<P, Token>>>(
     alloc: Global,
     room: usize,
-) -> Result<Arena<P, Token, S>, AllocError> {
-    Arena::with_min_capacity(alloc, room)
+) -> Result<Tested<P, S>, AllocError> {
+    let arena = Arena::with_min_capacity(alloc, room)?;
+    Ok(Tested { arena })
 }
 
 /// The capacity of an arena that is made with this room.
@@ -40,6 +43,6 @@ pub fn capacity_made<P: Ptr, S: NonZeroInxGenericStack<ArenaSlot<P, Token>> + Dr
     alloc: Global,
     room: usize,
 ) -> Result<usize, AllocError> {
-    let arena: Arena<P, Token, S> = with_room(alloc, room)?;
-    Ok(arena.capacity())
+    let tested: Tested<P, S> = with_room(alloc, room)?;
+    Ok(tested.arena.capacity())
 }

@@ -4,23 +4,20 @@
 
 mod arenas;
 mod index_calls;
+mod on_stacks;
 mod own_calls;
 mod state;
-mod tables;
 mod tested_arena;
-mod trial;
 mod writing_calls;
 
 pub use arenas::{Fixed, Heap, Limited, Little, Places, capacity_made, new_arena, with_room};
+pub use on_stacks::{from_empty, on_fixed, on_heap, on_limited, on_little, on_new};
 pub use state::state_of;
-pub use tables::{follow, follow_tidied, follow_to, follow_unchanged, has_state, step, step_at};
-pub use tested_arena::{Asked, TestedArena, WithLimit, ask};
-pub use trial::{
-    Removed, Steps, Trial, Unchanged, from_empty, on_fixed, on_heap, on_limited, on_little, on_new,
-};
+pub use tested_arena::{Asked, Tested, WithLimit, ask};
 pub use triple_arena_trait_kit::{
-    B, Call, Kind, NO_ENTRY, NO_POINTER, NO_VALUE, NOT_DRAINED, Narrow, Numbered, PtrOf, SLOTS,
-    Scarce, State, Token, Told, Wide, Wrong, answer_by_traits, answer_of_any, answer_of_two,
-    answer_to_insert, answer_to_read, answer_to_walk, index_number, inx, is_text, is_told,
-    named_index, next_steps, pointer, where_there_is_memory,
+    B, Call, Kind, NO_ENTRY, NO_POINTER, NO_VALUE, NOT_DRAINED, Narrow, Numbered, PtrOf, Removed,
+    SLOTS, Scarce, State, Steps, TestedArena, Token, Told, Trial, Unchanged, Wide, Wrong,
+    answer_by_traits, answer_of_any, answer_of_two, answer_to_insert, answer_to_read,
+    answer_to_walk, follow, follow_tidied, follow_to, follow_unchanged, has_state, index_number,
+    inx, is_text, is_told, named_index, next_steps, pointer, step, step_at, where_there_is_memory,
 };

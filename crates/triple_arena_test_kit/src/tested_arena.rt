@@ -1,24 +1,33 @@
-//! Arenas that tables of calls are tried on.
+//! An `Arena` that tables of calls are tried on.
 
 use crate::state::state_of;
 use crate::{index_calls, own_calls, writing_calls};
+use std::fmt;
+use std::fmt::{Debug, Formatter, Write};
 use triple_arena::{Arena, ArenaInsertTrait, ArenaSlot, CompactArenaTrait, DisjointableArenaTrait};
 use triple_arena_ptr::Ptr;
 use triple_arena_stack::{NonZeroInxGenericStack, SetMaxCapacity};
 use triple_arena_trait_kit::{
-    Call, Numbered, State, Token, Told, answer_by_traits, told_placed, told_raise,
+    Call, Numbered, State, TestedArena, Token, Told, answer_by_traits, told_placed, told_raise,
 };
 
-/// An arena that tables of calls are tried on.
-pub trait TestedArena {
-    /// What a call answers: `NoSuchCall` where the arena has no such call, or no such pointer.
-    fn answer(&mut self, call: Call) -> Told;
+/// An `Arena` that tables of calls are tried on.
+#[derive(Drop)]
+pub struct Tested<P: Ptr, S: NonZeroInxGenericStack<ArenaSlot<P, Token>>> {
+    pub arena: Arena<P, Token, S>,
+}
 
-    /// An answer of a table, as the pointers of this arena tell it.
-    fn expected(told: Told) -> Told;
+/// Its text is the arena's.
+impl<P: Ptr, S: NonZeroInxGenericStack<ArenaSlot<P, Token>>> Debug for Tested<P, S> {
+    fn fmt<W: Write>(&self, f: &mut Formatter<W>) -> fmt::Result {
+        self.arena.fmt(f)
+    }
+}
 
-    /// The whole state.
-    fn state(&self) -> State;
+/// One over a stack whose limit can be set.
+#[derive(Drop)]
+pub struct WithLimit<P: Ptr, S: NonZeroInxGenericStack<ArenaSlot<P, Token>>> {
+    pub tested: Tested<P, S>,
 }
 
 /// What is asked of any arena that has the traits of an `Arena`.
@@ -107,38 +116,12 @@ where
     }
 }
 
-impl<P: Ptr, S: NonZeroInxGenericStack<ArenaSlot<P, Token>>> TestedArena for Arena<P, Token, S>
+impl<P: Ptr, S: NonZeroInxGenericStack<ArenaSlot<P, Token>>> TestedArena for Tested<P, S>
 where
     P::Gen: Numbered,
 {
     fn answer(&mut self, call: Call) -> Told {
-        arena_answer(self, call)
-    }
-
-    fn expected(told: Told) -> Told {
-        told.at_type::<P::Gen>()
-    }
-
-    fn state(&self) -> State {
-        state_of(self)
-    }
-}
-
-/// An arena over a stack whose limit can be set.
-#[derive(Drop)]
-pub struct WithLimit<P: Ptr, S: NonZeroInxGenericStack<ArenaSlot<P, Token>>> {
-    pub arena: Arena<P, Token, S>,
-}
-
-impl<P: Ptr, S: SetMaxCapacity<ArenaSlot<P, Token>>> TestedArena for WithLimit<P, S>
-where
-    P::Gen: Numbered,
-{
-    fn answer(&mut self, call: Call) -> Told {
-        match call {
-            Call::SetLimit(limit) => own_calls::set_limit(&mut self.arena, limit),
-            _ => arena_answer(&mut self.arena, call),
-        }
+        arena_answer(&mut self.arena, call)
     }
 
     fn expected(told: Told) -> Told {
@@ -147,5 +130,25 @@ where
 
     fn state(&self) -> State {
         state_of(&self.arena)
+    }
+}
+
+impl<P: Ptr, S: SetMaxCapacity<ArenaSlot<P, Token>>> TestedArena for WithLimit<P, S>
+where
+    P::Gen: Numbered,
+{
+    fn answer(&mut self, call: Call) -> Told {
+        match call {
+            Call::SetLimit(limit) => own_calls::set_limit(&mut self.tested.arena, limit),
+            _ => self.tested.answer(call),
+        }
+    }
+
+    fn expected(told: Told) -> Told {
+        told.at_type::<P::Gen>()
+    }
+
+    fn state(&self) -> State {
+        self.tested.state()
     }
 }

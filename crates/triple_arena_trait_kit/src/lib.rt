@@ -1,5 +1,5 @@
 //! What tests of arenas share of calls and their answers as values: pointers of each kind, a stack
-//! whose memory ends, and what any arena answers that has the traits.
+//! whose memory ends, what any arena answers that has the traits, and tables that are tried on it.
 #![tactic(auto)]
 
 mod answers;
@@ -10,8 +10,11 @@ mod pointers;
 mod scarce_stack;
 mod seen;
 mod state;
+mod tables;
+mod tested_arena;
 mod token;
 mod told;
+mod trial;
 mod walk_calls;
 mod wrong;
 
@@ -24,9 +27,12 @@ pub use pointers::{B, Narrow, PtrOf, Wide};
 pub use scarce_stack::Scarce;
 pub use seen::answer_to_read;
 pub use state::{SLOTS, State};
+pub use tables::{follow, follow_tidied, follow_to, follow_unchanged, has_state, step, step_at};
+pub use tested_arena::TestedArena;
 pub use token::Token;
 pub use told::{
     NO_ENTRY, NO_POINTER, NO_VALUE, NOT_DRAINED, Told, told_placed, told_pointer, told_raise,
 };
+pub use trial::{Removed, Steps, Trial, Unchanged};
 pub use walk_calls::{entry_numbers, next_steps};
 pub use wrong::{Wrong, is_text, is_told, where_there_is_memory};

@@ -1,19 +1,13 @@
 //! What no clause of the users says: that their calls succeed where memory is there, and worked examples.
 
-mod beside;
-mod counting_stack;
 mod entity_table;
 mod first_arena;
 mod gates;
 mod graph;
 mod guest_book;
-mod insertions;
-mod links;
+mod named_entries;
 mod netlist;
 mod side_table;
-mod small_ptr;
-mod undo;
-mod walks;
 
 use triple_arena_ptr::{P0, Ptr};
 

@@ -1,14 +1,17 @@
 //! Copies for which memory is refused, and the whole state of both arenas after each.
 
-use super::on_two::{OnTwo, answer_of_two};
+use super::copying::{Copying, Source};
+use super::on_two::{Goal, OnTwo, Origin, on_two};
 use std::alloc::Global;
-use triple_arena::{Arena, ArenaSlot};
+use triple_arena::ArenaSlot;
 use triple_arena_base::ReallocationError;
+use triple_arena_direct::DirectSlot;
+use triple_arena_direct_kit::{Direct, Heap as DirectHeap, with_room as direct_with_room};
 use triple_arena_ptr::P0;
-use triple_arena_stack::{NonZeroInxGenericStack, SetMaxCapacity};
+use triple_arena_stack::NonZeroInxGenericStack;
 use triple_arena_test_kit::{
-    Call, Heap, Little, Removed, Steps, TestedArena, Token, Told, Trial, WithLimit, Wrong,
-    has_state, is_told, new_arena, where_there_is_memory, with_room,
+    Call, Heap, Removed, Steps, Tested, TestedArena, Token, Told, Trial, Wrong, has_state, is_told,
+    where_there_is_memory, with_room,
 };
 
 const NO_MEMORY: Told = Told::Refused(ReallocationError::AllocError);
@@ -19,8 +22,17 @@ const FIVE: Removed = Removed {
     removed: &[],
 };
 
+// Five entries, the last of which comes first.
+const FIVE_DIRECT: Steps = Steps(&[
+    (Call::DirectInsert(5, 2, 5), Told::Holds(5)),
+    (Call::DirectInsert(1, 2, 1), Told::Holds(1)),
+    (Call::DirectInsert(2, 2, 2), Told::Holds(2)),
+    (Call::DirectInsert(3, 2, 3), Told::Holds(3)),
+    (Call::DirectInsert(4, 2, 4), Told::Holds(4)),
+]);
+
 // Four slots, of which two are free, in an arena without a limit in the way.
-const WITH_FREE_SLOTS: Steps = Steps(&[
+const TWO_FREE: Steps = Steps(&[
     (Call::SetLimit(usize::MAX), Told::Done),
     (Call::Insert(1), Told::At(1, 2)),
     (Call::Insert(2), Told::At(2, 2)),
@@ -31,89 +43,76 @@ const WITH_FREE_SLOTS: Steps = Steps(&[
     (Call::FirstFree, Told::Free([3, 1, 0])),
 ]);
 
-// What a copy tells that leaves the source as it was, and the target but for its free list, which is in
-// order.
-fn told_by<
-    S: NonZeroInxGenericStack<ArenaSlot<P0, Token>> + Drop,
-    R: NonZeroInxGenericStack<ArenaSlot<P0, Token>> + Drop,
->(
-    alloc: Global,
-    source: &mut Arena<P0, Token, S>,
-    target: &mut Arena<P0, Token, R>,
-    copy: OnTwo,
-) -> Result<Told, Wrong> {
-    let before = (target.state().in_order(), source.state());
-    let told = answer_of_two(alloc, source, target, copy);
-    has_state(target, 0, &before.0)?;
-    has_state(source, 1, &before.1)?;
-    Ok(told)
-}
+// A gap, an entry at 3 and a free slot behind it, in an arena without a limit in the way.
+const WITH_FREE_SLOTS: Steps = Steps(&[
+    (Call::SetLimit(usize::MAX), Told::Done),
+    (Call::DirectInsert(4, 9, 4), Told::Holds(4)),
+    (Call::DirectInsert(3, 2, 3), Told::Holds(3)),
+    (Call::RemoveInx(4), Told::Held(9, 4)),
+]);
 
-// A target with free slots refuses a copy from a source of five entries.
-fn refuses<
-    S: SetMaxCapacity<ArenaSlot<P0, Token>> + Drop,
-    R: NonZeroInxGenericStack<ArenaSlot<P0, Token>> + Drop,
->(
-    alloc: Global,
-    source: &mut Arena<P0, Token, R>,
-    target: &mut WithLimit<P0, S>,
-    copy: OnTwo,
-) -> Result<(), Wrong> {
-    FIVE.on(source)?;
-    WITH_FREE_SLOTS.on(target)?;
-    let told = told_by(alloc, source, &mut target.arena, copy)?;
-    is_told(0, told, NO_MEMORY)
-}
-
-// The same of an arena that has memory for four slots, over the first stack, and a source over the
-// second.
-fn refuses_over<
-    S: SetMaxCapacity<ArenaSlot<P0, Token>> + Drop,
-    R: NonZeroInxGenericStack<ArenaSlot<P0, Token>> + Drop,
->(alloc: Global, copy: OnTwo) -> Result<(), Wrong> {
-    let mut source: Arena<P0, Token, R> = with_room(alloc, 5)?;
-    let arena: Arena<P0, Token, S> = with_room(alloc, 4)?;
-    refuses(alloc, &mut source, &mut WithLimit { arena }, copy)
-}
-
-fn refuses_on_little(alloc: Global, copy: OnTwo) -> Result<(), Wrong> {
-    refuses_over::<Little<P0, 4>, Heap<P0>>(alloc, copy)
+// A target that has memory for four slots refuses each copy from a source of five entries.
+fn refuses_each(alloc: Global, origin: Origin, goal: Goal) -> Result<(), Wrong> {
+    for copying in [Copying::CloneFrom, Copying::CloneBut(0), Copying::Transfer(7)] {
+        on_two(alloc, origin, goal, &[(OnTwo::Refused(copying), NO_MEMORY)])?;
+    }
+    Ok(())
 }
 
 #[test]
 fn a_copy_without_memory_leaves_both_arenas(rt: HostRuntime) -> Result<(), Wrong> {
-    refuses_on_little(rt.alloc(), OnTwo::CloneFrom)?;
-    refuses_on_little(rt.alloc(), OnTwo::CloneTenfoldBut(0))?;
-    refuses_on_little(rt.alloc(), OnTwo::Transfer(7))
+    refuses_each(rt.alloc(), Origin::Arena(FIVE), Goal::LittleArena(TWO_FREE))
 }
 
-// A clone of five entries is made, or refused where memory is; its original stays, and so does an
-// arena beside it.
-fn clones_or_not<S: NonZeroInxGenericStack<ArenaSlot<P0, Token>> + Drop>(
+#[test]
+fn a_copy_without_memory_leaves_both_direct_arenas(rt: HostRuntime) -> Result<(), Wrong> {
+    refuses_each(
+        rt.alloc(),
+        Origin::Direct(5, FIVE_DIRECT),
+        Goal::LittleDirect(WITH_FREE_SLOTS),
+    )
+}
+
+// A clone is made, or refused where memory is; its original stays.
+fn clones_or_not<A: Source + TestedArena, T: Trial>(
     alloc: Global,
-    source: &mut Arena<P0, Token, S>,
-    beside: &mut Arena<P0, Token, S>,
+    source: &mut A,
+    entries: &T,
 ) -> Result<(), Wrong> {
-    FIVE.on(source)?;
-    let told = told_by(alloc, source, beside, OnTwo::CloneApart)?;
-    if told == NO_MEMORY {
-        return Ok(());
+    entries.on(source)?;
+    let before = source.state();
+    let told = source.clone_apart(alloc, false);
+    if told != NO_MEMORY {
+        is_told(0, told, Told::Done)?;
     }
-    is_told(0, told, Told::Done)
+    has_state(source, 0, &before)
 }
 
-// The same over this stack.
-fn clones_or_not_over<S: NonZeroInxGenericStack<ArenaSlot<P0, Token>> + Drop>(
+// The same of an arena over this stack.
+fn arena_clones_or_not<S: NonZeroInxGenericStack<ArenaSlot<P0, Token>> + Drop>(
     alloc: Global,
 ) -> Result<(), Wrong> {
-    let mut source: Arena<P0, Token, S> = with_room(alloc, 5)?;
-    let mut beside: Arena<P0, Token, S> = new_arena(alloc);
-    clones_or_not(alloc, &mut source, &mut beside)
+    let mut source: Tested<P0, S> = with_room(alloc, 5)?;
+    clones_or_not(alloc, &mut source, &FIVE)
+}
+
+// The same of a direct arena.
+fn direct_clones_or_not<S: NonZeroInxGenericStack<DirectSlot<P0, Token>> + Drop>(
+    alloc: Global,
+) -> Result<(), Wrong> {
+    let mut source: Direct<P0, S> = direct_with_room(alloc, 5)?;
+    clones_or_not(alloc, &mut source, &FIVE_DIRECT)
 }
 
 /// Holds with ample memory, and also where any one request for memory is refused
 /// (`rt try --test --fail-alloc N`).
 #[test]
 fn a_clone_that_is_refused_leaves_its_original(rt: HostRuntime) -> Result<(), Wrong> {
-    where_there_is_memory(clones_or_not_over::<Heap<P0>>(rt.alloc()))
+    where_there_is_memory(arena_clones_or_not::<Heap<P0>>(rt.alloc()))
+}
+
+/// The same of a direct arena.
+#[test]
+fn a_clone_that_is_refused_leaves_its_direct_original(rt: HostRuntime) -> Result<(), Wrong> {
+    where_there_is_memory(direct_clones_or_not::<DirectHeap<P0>>(rt.alloc()))
 }

@@ -1,22 +1,31 @@
 //! Transfer into an arena.
 
-use super::on_two::{OnTwo, on_heaps, over, to_other_pointers};
+use super::copying::Copying;
+use super::on_two::{Goal, OnTwo, Origin, on_two};
 use triple_arena_base::ReallocationError;
-use triple_arena_ptr::{P0, P5, Q2};
-use triple_arena_test_kit::{Call, Heap, Limited, NO_ENTRY, Told, Wrong};
+use triple_arena_test_kit::{Call, NO_ENTRY, Removed, Told, Wrong};
 
 const BEYOND: Told = Told::Refused(ReallocationError::BeyondMaxCapacity);
 
 const NO_MEMORY: Told = Told::Refused(ReallocationError::AllocError);
 
+// So many entries.
+fn entries(entries: usize) -> Origin {
+    let removed = &[];
+    Origin::Arena(Removed { entries, removed })
+}
+
 #[test]
 fn a_transfer_renumbers_and_empties_its_source(rt: HostRuntime) -> Result<(), Wrong> {
-    to_other_pointers::<Heap<P0>, Q2, Heap<Q2>>(
+    on_two(
         rt.alloc(),
+        Origin::Arena(Removed {
+            entries: 3,
+            removed: &[1],
+        }),
+        Goal::ArenaOfQ2,
         &[
-            (OnTwo::FillSource(3), Told::Done),
-            (OnTwo::Source(Call::Remove(1, 2)), Told::Holds(1)),
-            (OnTwo::Transfer(7), Told::Done),
+            (OnTwo::Copy(Copying::Transfer(7)), Told::Done),
             (
                 OnTwo::Target(Call::Entries),
                 Told::Met((1, 7, 2), (2, 7, 3), NO_ENTRY),
@@ -34,13 +43,14 @@ fn a_transfer_renumbers_and_empties_its_source(rt: HostRuntime) -> Result<(), Wr
 
 #[test]
 fn the_closure_is_told_each_removal(rt: HostRuntime) -> Result<(), Wrong> {
-    on_heaps(
+    on_two(
         rt.alloc(),
+        entries(3),
+        Goal::Arena,
         &[
-            (OnTwo::FillSource(3), Told::Done),
             (OnTwo::Source(Call::SetGeneration(u64::MAX)), Told::Done),
             (OnTwo::FillTarget(4), Told::Done),
-            (OnTwo::Transfer(u64::MAX), Told::Done),
+            (OnTwo::Copy(Copying::Transfer(u64::MAX)), Told::Done),
             (OnTwo::Source(Call::Generation), Told::Generation(4)),
             // the first removal alone wrapped
             (
@@ -57,12 +67,13 @@ fn the_closure_is_told_each_removal(rt: HostRuntime) -> Result<(), Wrong> {
 
 #[test]
 fn a_transfer_past_the_indexes_leaves_both(rt: HostRuntime) -> Result<(), Wrong> {
-    to_other_pointers::<Heap<P0>, P5, Heap<P5>>(
+    on_two(
         rt.alloc(),
+        entries(256),
+        Goal::ArenaOfP5,
         &[
-            (OnTwo::FillSource(256), Told::Done),
             (OnTwo::Target(Call::Insert(1)), Told::At(1, 1)),
-            (OnTwo::Transfer(1), NO_MEMORY),
+            (OnTwo::Copy(Copying::Transfer(1)), NO_MEMORY),
             (
                 OnTwo::Target(Call::Entries),
                 Told::Met((1, 1, 1), NO_ENTRY, NO_ENTRY),
@@ -78,13 +89,13 @@ fn a_transfer_past_the_indexes_leaves_both(rt: HostRuntime) -> Result<(), Wrong>
 
 #[test]
 fn a_transfer_past_the_limit_leaves_both(rt: HostRuntime) -> Result<(), Wrong> {
-    over::<Heap<P0>, Limited<P0>>(
+    on_two(
         rt.alloc(),
-        (0, 3),
+        entries(256),
+        Goal::LimitedArena(3),
         &[
-            (OnTwo::FillSource(256), Told::Done),
             (OnTwo::FillTarget(2), Told::Done),
-            (OnTwo::Transfer(2), BEYOND),
+            (OnTwo::Copy(Copying::Transfer(2)), BEYOND),
             (
                 OnTwo::Target(Call::Entries),
                 Told::Met((1, 2, 1), (2, 2, 2), NO_ENTRY),

@@ -1,25 +1,15 @@
 //! The direct arenas that a test is tried on, by their pointers and their stack.
 
-use super::tested_direct::{Direct, DirectWithLimit, with_room};
 use std::alloc::Global;
-use std::fmt::Debug;
 use triple_arena_direct::DirectSlot;
+use triple_arena_direct_kit::{
+    Direct, DirectWithLimit, Heap, InArray, Limited, Little, has_text, with_room,
+};
 use triple_arena_ptr::{P0, P4, Ptr};
-use triple_arena_stack::{
-    NonZeroInxArray, NonZeroInxGenericStack, NonZeroInxLimitedVec, NonZeroInxVec, SetMaxCapacity,
+use triple_arena_stack::{NonZeroInxGenericStack, SetMaxCapacity};
+use triple_arena_trait_kit::{
+    Call, Narrow, Numbered, TestedArena, Token, Told, Wrong, follow, follow_unchanged,
 };
-use triple_arena_test_kit::{
-    Call, Narrow, Numbered, Scarce, TestedArena, Token, Told, Wrong, follow, follow_unchanged,
-    is_text,
-};
-
-pub type Heap<P> = NonZeroInxVec<DirectSlot<P, Token>>;
-
-pub type Limited<P> = NonZeroInxLimitedVec<DirectSlot<P, Token>>;
-
-pub type InArray<P, const N: usize> = NonZeroInxArray<DirectSlot<P, Token>, N>;
-
-pub type Little<P, const N: usize> = Scarce<DirectSlot<P, Token>, N>;
 
 /// The pointers and the stack of a direct arena.
 #[derive(Clone, Copy)]
@@ -94,11 +84,6 @@ pub fn on(alloc: Global, over: Over, room: usize, parts: &[Part]) -> Result<(), 
         Over::Little => on_limited::<P0, Little<P0, 4>>(alloc, room, parts),
         Over::ArrayOfNarrow => on_direct::<Narrow, InArray<Narrow, 3>>(alloc, room, parts),
     }
-}
-
-/// That the text of a direct arena is this one.
-pub fn has_text<D: Debug>(alloc: Global, arena: &D, expected: &'static str) -> Result<(), Wrong> {
-    is_text(format!(in alloc; "{arena:?}")?.as_str(), expected)
 }
 
 // That the text of an arena over a stack is this one, with this room and after these calls.

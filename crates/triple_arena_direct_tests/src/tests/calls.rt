@@ -3,7 +3,7 @@
 use super::arenas::{Over, Part, is_shown, on};
 use std::alloc::Global;
 use triple_arena_base::{GetDisjointMutError, ReallocationError};
-use triple_arena_test_kit::{Call, NO_POINTER, NOT_DRAINED, Told, Wrong};
+use triple_arena_trait_kit::{Call, NO_POINTER, NOT_DRAINED, Told, Wrong};
 
 // Entries at 1, 2 and 4.
 const THREE_ENTRIES: Part = Part::Steps(&[

@@ -3,24 +3,23 @@
 
 ghost use Rattle.std.specs.Prelude.{◌≡◌, ⊤};
 
-use super::asked::{AnyDirect, Asked, AskedToClone};
-use super::placing::{Placing, Shown};
 use std::alloc::{AllocError, Global};
 use std::cell::Cell;
 use std::marker::Model;
 use std::rc::Rc;
-use triple_arena::{
-    ArenaCloneFromWith, ArenaDirectInsertTrait, ArenaTrait, CompactArenaTrait,
-    DisjointableArenaTrait,
-};
 use triple_arena_base::InvalidationOption;
 use triple_arena_direct::{DirectArena, DirectSlot};
+use triple_arena_direct_kit::{AnyDirect, Asked, AskedToClone, Placing, Shown};
 use triple_arena_ptr::{P0, Ptr};
 use triple_arena_stack::{
     NonZeroInxArray, NonZeroInxBoxedSlice, NonZeroInxGenericStack, NonZeroInxLimitedVec,
     NonZeroInxVec,
 };
-use triple_arena_test_kit::{Told, Wrong, index_number, pointer};
+use triple_arena_trait_kit::{Told, Wrong, index_number, pointer};
+use triple_arena_traits::{
+    ArenaCloneFromWith, ArenaDirectInsertTrait, ArenaTrait, CompactArenaTrait,
+    DisjointableArenaTrait,
+};
 
 // How many values were dropped.
 type Drops = Rc<Cell<u64>>;

@@ -2,7 +2,7 @@
 
 use super::arenas::{Over, Part, on};
 use triple_arena_base::ReallocationError;
-use triple_arena_test_kit::{Call, NO_ENTRY, Told, Wrong};
+use triple_arena_trait_kit::{Call, NO_ENTRY, Told, Wrong};
 
 const NO_MEMORY: Told = Told::Refused(ReallocationError::AllocError);
 

@@ -7,7 +7,7 @@ use std::error::Error;
 use std::process::Abort;
 use triple_arena_base::{CompactError, ReallocationError};
 use triple_arena_ptr::{P0, Ptr};
-use triple_arena_test_kit::{NO_POINTER, Told, Wrong};
+use triple_arena_trait_kit::{NO_POINTER, Told, Wrong};
 
 // The last of three nodes has a link that never was a node's pointer.
 const DANGLING: [Named; 3] = [(1, NO_POINTER), (2, (1, 2)), (3, (usize::MAX, 1))];

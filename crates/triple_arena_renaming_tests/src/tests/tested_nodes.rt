@@ -11,7 +11,7 @@ use triple_arena_direct::{DirectArena, DirectSlot};
 use triple_arena_ptr::{Ptr, PtrInx};
 use triple_arena_renaming::{compress_recast, compress_recaster};
 use triple_arena_stack::NonZeroInxGenericStack;
-use triple_arena_test_kit::{NO_POINTER, Numbered, Told, Wrong, index_number, inx, pointer};
+use triple_arena_trait_kit::{NO_POINTER, Numbered, Told, Wrong, index_number, inx, pointer};
 
 /// A number, and a link.
 pub type Node<P> = (u64, Option<P>);

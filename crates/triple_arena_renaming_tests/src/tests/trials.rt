@@ -10,7 +10,7 @@ use triple_arena_base::ReallocationError;
 use triple_arena_direct::{DirectArena, DirectSlot};
 use triple_arena_ptr::{P0, Ptr};
 use triple_arena_stack::{NonZeroInxArray, NonZeroInxGenericStack, NonZeroInxVec};
-use triple_arena_test_kit::{B, Numbered, Told, Wrong, is_text, is_told};
+use triple_arena_trait_kit::{B, Numbered, Told, Wrong, is_text, is_told};
 
 type Heap<P> = NonZeroInxVec<ArenaSlot<P, Node<P>>>;
 

@@ -1,76 +1,79 @@
-//! The arguments, words and statuses of the program.
+//! Whole runs of the program, from its arguments to what is written.
 
+use super::devices::ShortWriter;
+use super::texts::expect;
 use std::alloc::Global;
-use triple_arena_session::{Kind, Outcome, TextError, parse_args, status};
+use std::io;
+use std::io::{BufWriter, ErrorKind, Write};
+use std::process::Abort;
+use std::test::Fail;
+use triple_arena_session::{Kind, Outcome, TextError, run_kind, run_program};
 
+// The arguments of these words.
+fn args_of(alloc: Global, words: &[&str]) -> io::Result<Vec<String>> {
+    let mut args = Vec::new(alloc);
+    for word in words {
+        args.push(String::from_str(alloc, *word)?)?;
+    }
+    Ok(args)
+}
+
+const WELL: Outcome = Outcome::Ran(Ok(()));
+
+/// Arguments that are no text are wrong, and those that memory was refused for are not.
 #[test]
-fn takes_each_kind_and_nothing_else(rt: HostRuntime) {
-    let right: &[(&[&str], Kind)] = &[
-        (&[], Kind::Heap),
-        (&["heap"], Kind::Heap),
-        (&["array"], Kind::Array),
-        (&["limited", "8"], Kind::Limited(8)),
-        (&["limited", "007"], Kind::Limited(7)),
-        (&["fixed", "0"], Kind::Fixed(0)),
-        (&["fixed", "12"], Kind::Fixed(12)),
+fn tells_of_arguments_that_it_has_not(rt: HostRuntime) {
+    let rows = [
+        (ErrorKind::InvalidData, Outcome::WrongArguments),
         (
-            &["limited", "18446744073709551615"],
-            Kind::Limited(18446744073709551615),
+            ErrorKind::OutOfMemory,
+            Outcome::Ran(Err(TextError::NoMemory)),
         ),
     ];
-    for (words, kind) in right {
-        assert!(rt; parse_args(words) == Some(*kind));
-    }
-    let wrong: &[&[&str]] = &[
-        &[""],
-        &["Heap"],
-        &["heap "],
-        &["heap", "heap"],
-        &["limited"],
-        &["fixed"],
-        &["array", "8"],
-        &["limited", "-1"],
-        &["limited", "+1"],
-        &["fixed", ""],
-        &["fixed", "18446744073709551616"],
-        &["limited", "1", "1"],
-    ];
-    for words in wrong {
-        assert!(rt; parse_args(words).is_none());
+    for (kind, outcome) in rows {
+        let mut input = b"insert 1 -\n".as_slice();
+        let args = Err(io::Error::from(kind));
+        let (ended, _) = run_program(args, rt.alloc(), &mut input, Vec::new(rt.alloc()));
+        assert!(rt; ended == outcome);
+        assert_eq!(rt; input.len(), 11);
     }
 }
 
-// Whether this text is written for an outcome.
-fn says(alloc: Global, outcome: Outcome, text: &str) -> bool {
-    match outcome.to_string(alloc) {
-        Ok(written) => written.as_str() == text,
-        Err(_) => false,
+/// No machine has memory for so many entries. Nothing is read, and what was gathered before goes out.
+#[test]
+fn says_that_there_is_no_memory_to_begin(rt: HostRuntime) -> Result<(), Fail> {
+    for kind in [Kind::Limited(usize::MAX), Kind::Fixed(usize::MAX)] {
+        let mut input = b"insert 1 -\n".as_slice();
+        let mut output = BufWriter::new(rt.alloc(), Vec::new(rt.alloc()))?;
+        output.write_all(b"before\n")?;
+        let (outcome, written) = run_kind(kind, rt.alloc(), &mut input, output);
+        let no_memory = Err(TextError::NoMemory);
+        expect(&rt, outcome, written.as_slice(), no_memory, b"before\n");
+        assert_eq!(rt; input.len(), 11);
     }
+    Ok(())
 }
 
-const USAGE: &str = "usage: triple_arena_run [heap | limited N | fixed N | array]\n";
-
+/// Holds with ample memory, and also where any one request for memory is refused
+/// (`rt try --test --fail-alloc N`): then nothing is written, or one insertion answers so.
 #[test]
-fn says_why_it_stopped(rt: HostRuntime) {
-    let rows: &[(Outcome, &str, u8)] = &[
-        (Outcome::WrongArguments, USAGE, 2),
-        (Outcome::Ran(Ok(())), "", 0),
-        (
-            Outcome::Ran(Err(TextError::Malformed(2))),
-            "line 2: malformed\n",
-            3,
-        ),
-        (
-            Outcome::Ran(Err(TextError::Malformed(18))),
-            "line 18: malformed\n",
-            3,
-        ),
-        (Outcome::Ran(Err(TextError::Read)), "read failed\n", 1),
-        (Outcome::Ran(Err(TextError::Write)), "write failed\n", 1),
-        (Outcome::Ran(Err(TextError::NoMemory)), "no memory\n", 1),
-    ];
-    for (outcome, text, wanted) in rows {
-        assert!(rt; says(rt.alloc(), *outcome, text), "{text}");
-        assert_eq!(rt; status(*outcome), *wanted);
+fn runs_or_says_that_memory_was_refused(rt: HostRuntime) {
+    let rows: [&[&str]; 4] = [&["heap"], &["limited", "2"], &["fixed", "2"], &["array"]];
+    for words in rows {
+        let args = args_of(rt.alloc(), words);
+        let mut input = b"insert 1 -\ninsert 1 -\n".as_slice();
+        let (outcome, output) = run_program(args, rt.alloc(), &mut input, ShortWriter::new(256));
+        match output {
+            Some(written) => {
+                if outcome == WELL {
+                    assert_eq!(rt; written.lines_ended(), 2);
+                    assert!(rt; written.lines_of(b"no memory") < 2);
+                } else {
+                    assert!(rt; outcome == Outcome::Ran(Err(TextError::NoMemory)));
+                    assert_eq!(rt; written.len, 0);
+                }
+            }
+            None => assert!(rt; outcome == Outcome::Ran(Err(TextError::NoMemory))),
+        }
     }
 }

@@ -4,10 +4,10 @@ use super::arenas::{Pointers, Stack, is_made, on_each};
 use super::parts::{BEYOND, Part};
 use std::alloc::Global;
 use std::num::{NonZeroU64, NonZeroU128};
-use triple_arena::{Arena, ArenaSlot, ArenaTrait};
+use triple_arena::{ArenaSlot, ArenaTrait};
 use triple_arena_ptr::Ptr;
 use triple_arena_stack::NonZeroInxGenericStack;
-use triple_arena_test_kit::{Call, Heap, Token, Told, Wide, Wrong, follow, is_told, new_arena};
+use triple_arena_test_kit::{Call, Heap, Tested, Token, Told, Wide, Wrong, follow, is_told, new_arena};
 
 /// Each call, on an arena with three places, this limit and no entry.
 pub fn each_call(limit: Option<usize>) -> [(Call, Told); 34] {
@@ -163,12 +163,12 @@ fn has_nothing_past_64_bits<A: ArenaTrait<Wide, Token>>(arena: &mut A) -> bool {
 fn keeps_one_entry<S: NonZeroInxGenericStack<ArenaSlot<Wide, Token>> + Drop>(
     alloc: Global,
 ) -> Result<(), Wrong> {
-    let mut arena: Arena<Wide, Token, S> = new_arena(alloc);
-    follow(&mut arena, &[(Call::Insert(1), Told::At(1, 2))])?;
-    let has_nothing = has_nothing_past_64_bits(&mut arena);
+    let mut tested: Tested<Wide, S> = new_arena(alloc);
+    follow(&mut tested, &[(Call::Insert(1), Told::At(1, 2))])?;
+    let has_nothing = has_nothing_past_64_bits(&mut tested.arena);
     is_told(1, Told::Is(has_nothing), Told::Is(true))?;
     follow(
-        &mut arena,
+        &mut tested,
         &[
             (Call::Get(1, 2), Told::Holds(1)),
             (Call::Generation, Told::Generation(2)),

@@ -9,7 +9,9 @@ use triple_arena::{Arena, ArenaInsertEntryTrait, ArenaSlot};
 use triple_arena_base::ReallocationError;
 use triple_arena_ptr::{P0, Ptr, PtrGen, PtrInx};
 use triple_arena_stack::NonZeroInxGenericStack;
-use triple_arena_test_kit::{Call, Heap, Token, Told, Wrong, follow, is_told, new_arena, pointer};
+use triple_arena_test_kit::{
+    Call, Heap, Tested, Token, Told, Wrong, follow, is_told, new_arena, pointer,
+};
 
 // Takes an entry of any arena and lets it go: nothing is inserted, and its room stays.
 fn pointer_of_entry<P: Ptr, T, S: NonZeroInxGenericStack<ArenaSlot<P, T>>>(
@@ -28,11 +30,11 @@ fn pointer_of_entry<P: Ptr, T, S: NonZeroInxGenericStack<ArenaSlot<P, T>>>(
 fn room_of_a_dropped_entry<S: NonZeroInxGenericStack<ArenaSlot<P0, Token>> + Drop>(
     alloc: Global,
 ) -> Result<(), Wrong> {
-    let mut arena: Arena<P0, Token, S> = new_arena(alloc);
-    let is_first = pointer_of_entry(&mut arena) == Ok(pointer(1, 2));
+    let mut tested: Tested<P0, S> = new_arena(alloc);
+    let is_first = pointer_of_entry(&mut tested.arena) == Ok(pointer(1, 2));
     is_told(0, Told::Is(is_first), Told::Is(true))?;
     follow(
-        &mut arena,
+        &mut tested,
         &[
             (Call::Bounds, Told::Bounds(0, 4, None)),
             (Call::Slots, Told::Size(0)),

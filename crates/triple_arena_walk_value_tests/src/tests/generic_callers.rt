@@ -6,13 +6,13 @@ ghost use Rattle.triple_arena_traits.specs.Entries.{look_up_in};
 use std::alloc::Global;
 use std::mem;
 use triple_arena::{
-    Arena, ArenaInsertTrait, ArenaSlot, ArenaTrait, CompactArenaTrait, DisjointableArenaTrait,
+    ArenaInsertTrait, ArenaSlot, ArenaTrait, CompactArenaTrait, DisjointableArenaTrait,
 };
 use triple_arena_base::{InvalidationResult, ReallocationError};
 use triple_arena_ptr::{P0, Ptr, PtrGen, PtrInx};
 use triple_arena_stack::NonZeroInxGenericStack;
 use triple_arena_test_kit::{
-    Asked, Call, Heap, Limited, Numbered, Token, Told, Wrong, answer_to_read, ask, index_number,
+    Asked, Call, Heap, Limited, Numbered, Tested, Token, Told, Wrong, answer_to_read, ask, index_number,
     is_told, pointer, with_room,
 };
 
@@ -190,8 +190,8 @@ fn tries_on<S: NonZeroInxGenericStack<ArenaSlot<P0, Token>> + Drop>(
     room: usize,
     tried: Tried,
 ) -> Result<(), Wrong> {
-    let mut arena: Arena<P0, Token, S> = with_room(alloc, room)?;
-    ask(&mut arena, tried)
+    let mut tested: Tested<P0, S> = with_room(alloc, room)?;
+    ask(&mut tested.arena, tried)
 }
 
 #[test]

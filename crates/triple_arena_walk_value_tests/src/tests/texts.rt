@@ -8,7 +8,7 @@ use triple_arena::{Arena, ArenaInsertTrait, ArenaSlot, ArenaTrait};
 use triple_arena_ptr::{P0, P4, Ptr, Q2};
 use triple_arena_stack::{NonZeroInxGenericStack, NonZeroInxVec};
 use triple_arena_test_kit::{
-    Call, Fixed, Heap, Limited, Narrow, Numbered, Places, Steps, TestedArena, Token, Told, Trial,
+    Call, Fixed, Heap, Limited, Narrow, Numbered, Places, Steps, Tested, TestedArena, Token, Told, Trial,
     Wrong, is_text, pointer, with_room,
 };
 
@@ -53,8 +53,8 @@ fn tries_on<P: Ptr, S: NonZeroInxGenericStack<ArenaSlot<P, Token>> + Drop>(
 where
     P::Gen: Numbered,
 {
-    let mut arena: Arena<P, Token, S> = with_room(alloc, 3)?;
-    tries(&mut arena, alloc, tried)
+    let mut tested: Tested<P, S> = with_room(alloc, 3)?;
+    tries(&mut tested, alloc, tried)
 }
 
 #[test]

@@ -8,7 +8,7 @@ use triple_arena_ptr::{P0, Ptr, Q2};
 use triple_arena_stack::NonZeroInxGenericStack;
 use triple_arena_test_kit::{
     Asked, B, Call, Heap, NO_ENTRY, NO_POINTER, NO_VALUE, NOT_DRAINED, Numbered, Removed, Steps,
-    TestedArena, Token, Told, Trial, Wide, Wrong, answer_by_traits, ask, from_empty, inx, is_told,
+    Tested, TestedArena, Token, Told, Trial, Wide, Wrong, answer_by_traits, ask, from_empty, inx, is_told,
     new_arena, next_steps, on_heap, step,
 };
 
@@ -161,8 +161,8 @@ fn each_advances<P: Ptr>(alloc: Global, each: &[Advancing<P>]) -> Result<(), Wro
 where
     P::Gen: Numbered,
 {
-    let mut arena: Arena<P, Token, Heap<P>> = new_arena(alloc);
-    ask(&mut arena, Each(each))
+    let mut tested: Tested<P, Heap<P>> = new_arena(alloc);
+    ask(&mut tested.arena, Each(each))
 }
 
 #[test]
@@ -235,10 +235,10 @@ fn sums<S: NonZeroInxGenericStack<ArenaSlot<P0, Token>>>(
 fn sums_of_three<S: NonZeroInxGenericStack<ArenaSlot<P0, Token>> + Drop>(
     alloc: Global,
 ) -> Result<(), Wrong> {
-    let mut arena: Arena<P0, Token, S> = new_arena(alloc);
+    let mut tested: Tested<P0, S> = new_arena(alloc);
     let (entries, removed) = (6, &[1, 3, 6]);
-    Removed { entries, removed }.on(&mut arena)?;
-    let (indexes, numbers) = sums(&arena);
+    Removed { entries, removed }.on(&mut tested)?;
+    let (indexes, numbers) = sums(&tested.arena);
     is_told(0, Told::Size(indexes), Told::Size(11))?;
     is_told(1, Told::Holds(numbers), Told::Holds(11))
 }

@@ -1,7 +1,7 @@
 //! Values that direct arenas hold, and how they are inserted and taken over.
 
 use triple_arena_base::InvalidationOption;
-use triple_arena_test_kit::Token;
+use triple_arena_trait_kit::Token;
 
 /// A value of which a table tells a number.
 pub trait Shown {
@@ -25,6 +25,17 @@ impl Shown for Token {
                 number: token.number.wrapping_add(100),
             },
         }
+    }
+}
+
+/// No table tells a number of a text.
+impl Shown for String {
+    fn shown(&self) -> u64 {
+        0
+    }
+
+    fn received(taken: InvalidationOption<String>) -> String {
+        taken.allow()
     }
 }
 

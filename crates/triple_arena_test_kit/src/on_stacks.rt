@@ -1,74 +1,19 @@
-//! What is tried on arenas, and the arenas over each stack that it is tried on.
+//! The arenas over each stack that something is tried on.
 
 use crate::arenas::{Fixed, Heap, Limited, Little, new_arena, with_room};
-use crate::tables::{follow, follow_unchanged, step};
-use crate::tested_arena::{TestedArena, WithLimit};
+use crate::tested_arena::{Tested, WithLimit};
 use std::alloc::Global;
-use triple_arena::{Arena, ArenaSlot};
+use triple_arena::ArenaSlot;
 use triple_arena_base::AllocError;
 use triple_arena_ptr::Ptr;
 use triple_arena_stack::{NonZeroInxGenericStack, SetMaxCapacity};
-use triple_arena_trait_kit::{Call, Numbered, Token, Told, Wrong};
-
-/// What is tried on an arena.
-pub trait Trial {
-    /// Tries it, and tells the first thing that is wrong.
-    fn on<A: TestedArena>(&self, arena: &mut A) -> Result<(), Wrong>;
-}
-
-/// A table of calls and answers, tried by making each call.
-#[derive(Clone, Copy)]
-pub struct Steps(pub &'static [(Call, Told)]);
-
-impl Trial for Steps {
-    fn on<A: TestedArena>(&self, arena: &mut A) -> Result<(), Wrong> {
-        follow(arena, self.0)
-    }
-}
-
-/// A table of calls, each of which leaves the whole state as it was.
-#[derive(Clone, Copy)]
-pub struct Unchanged(pub &'static [(Call, Told)]);
-
-impl Trial for Unchanged {
-    fn on<A: TestedArena>(&self, arena: &mut A) -> Result<(), Wrong> {
-        follow_unchanged(arena, self.0)
-    }
-}
-
-/// So many insertions in an arena without slots whose counter is 2, each of its index, and then some
-/// removals.
-#[derive(Clone, Copy)]
-pub struct Removed {
-    pub entries: usize,
-    pub removed: &'static [usize],
-}
-
-impl Trial for Removed {
-    fn on<A: TestedArena>(&self, arena: &mut A) -> Result<(), Wrong> {
-        for index in 1..=self.entries {
-            step(arena, Call::Insert(index as u64), Told::At(index, 2))?;
-        }
-        for index in self.removed {
-            step(arena, Call::RemoveInx(*index), Told::Held(2, *index as u64))?;
-        }
-        Ok(())
-    }
-}
-
-/// The first, and then the second on the same arena.
-impl<A: Trial, B: Trial> Trial for (A, B) {
-    fn on<C: TestedArena>(&self, arena: &mut C) -> Result<(), Wrong> {
-        self.0.on(arena)?;
-        self.1.on(arena)
-    }
-}
+use triple_arena_trait_kit::{Call, Numbered, Steps, Token, Told, Trial, Wrong};
 
 // An arena with this room, or as `new` makes it.
 fn made<P: Ptr, S: NonZeroInxGenericStack<ArenaSlot<P, Token>>>(
     alloc: Global,
     room: Option<usize>,
-) -> Result<Arena<P, Token, S>, AllocError> {
+) -> Result<Tested<P, S>, AllocError> {
     match room {
         Some(room) => with_room(alloc, room),
         None => Ok(new_arena(alloc)),
@@ -84,8 +29,8 @@ pub fn on_stack<P: Ptr, S: NonZeroInxGenericStack<ArenaSlot<P, Token>> + Drop, T
 where
     P::Gen: Numbered,
 {
-    let mut arena: Arena<P, Token, S> = made(alloc, room)?;
-    trial.on(&mut arena)
+    let mut tested: Tested<P, S> = made(alloc, room)?;
+    trial.on(&mut tested)
 }
 
 /// The same over a stack whose limit can be set.
@@ -97,8 +42,8 @@ pub fn on_stack_with_limit<P: Ptr, S: SetMaxCapacity<ArenaSlot<P, Token>> + Drop
 where
     P::Gen: Numbered,
 {
-    let arena: Arena<P, Token, S> = made(alloc, room)?;
-    trial.on(&mut WithLimit { arena })
+    let tested: Tested<P, S> = made(alloc, room)?;
+    trial.on(&mut WithLimit { tested })
 }
 
 /// Tries it on an arena on the heap, with this room or as `new` makes it.

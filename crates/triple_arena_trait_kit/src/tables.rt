@@ -1,7 +1,10 @@
 //! Tables of calls and answers, and what first differs from them.
 
+use crate::call::Call;
+use crate::state::State;
 use crate::tested_arena::TestedArena;
-use triple_arena_trait_kit::{Call, State, Told, Wrong, is_told};
+use crate::told::Told;
+use crate::wrong::{Wrong, is_told};
 
 /// That an arena is in this state after the call of this row.
 pub fn has_state<A: TestedArena>(arena: &A, row: usize, expected: &State) -> Result<(), Wrong> {

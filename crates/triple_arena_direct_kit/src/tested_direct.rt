@@ -1,14 +1,13 @@
 //! Direct arenas that tables of calls are tried on.
 
-use super::asked::{AnyDirect, Asked};
-use super::placing::Placing;
-use std::alloc::Global;
-use triple_arena::{ArenaDirectInsertTrait, ArenaTrait, CompactArenaTrait, DisjointableArenaTrait};
+use crate::asked::{AnyDirect, Asked};
+use crate::placing::Placing;
+use triple_arena_traits::{ArenaDirectInsertTrait, ArenaTrait, CompactArenaTrait, DisjointableArenaTrait};
 use triple_arena_direct::{DirectArena, DirectSlot};
 use triple_arena_ptr::Ptr;
 use triple_arena_stack::{NonZeroInxGenericStack, SetMaxCapacity};
-use triple_arena_test_kit::{
-    Call, Kind, Numbered, SLOTS, State, TestedArena, Token, Told, Wrong, answer_of_any,
+use triple_arena_trait_kit::{
+    Call, Kind, Numbered, SLOTS, State, TestedArena, Token, Told, answer_of_any,
     answer_of_two, answer_to_read, answer_to_walk,
 };
 
@@ -282,16 +281,5 @@ where
 
     fn state(&self) -> State {
         state_of(&self.direct.arena)
-    }
-}
-
-/// A direct arena with this room, where there is memory for it.
-pub fn with_room<P: Ptr, S: NonZeroInxGenericStack<DirectSlot<P, Token>>>(
-    alloc: Global,
-    room: usize,
-) -> Result<Direct<P, S>, Wrong> {
-    match DirectArena::with_min_capacity(alloc, room) {
-        Ok(arena) => Ok(Direct { arena }),
-        Err(_refused) => Err(Wrong::NoMemory),
     }
 }

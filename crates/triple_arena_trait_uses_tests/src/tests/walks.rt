@@ -1,8 +1,7 @@
-use super::numbers;
 use std::alloc::Global;
 use std::process::Abort;
 use triple_arena::{Arena, ArenaInsertTrait, CompactArenaTrait};
-use triple_arena_ptr::P0;
+use triple_arena_ptr::{P0, Ptr};
 use triple_arena_trait_uses::walks::{
     add, add_one, count, drain_three, pointers, remove_all, renew_all, take_all,
 };
@@ -21,6 +20,11 @@ fn two_of_four<A: ArenaInsertTrait<P0, u64> + Drop>(alloc: Global) -> Option<A> 
     let _ = arena.remove(first);
     let _ = arena.remove(third);
     Some(arena)
+}
+
+// Index and generation of a pointer.
+fn numbers(p: P0) -> (usize, u64) {
+    (p.inx().get(), p.generation().get())
 }
 
 // Whether these are the pointers of two such indexes and generations.

@@ -1,6 +1,6 @@
 //! The forms of command lines.
 
-use triple_arena_session::{Command, parse_command};
+use triple_arena_commands::{Command, parse_command};
 
 #[test]
 fn reads_each_form(rt: HostRuntime) {

@@ -1,95 +1,19 @@
-//! Cloning into direct arenas and out of them.
+//! A direct arena that mirrors an arena of numbers.
 
-use super::arenas::has_text;
-use super::asked::{AnyDirect, Asked, AskedToClone};
 use super::copying::{Copying, Source, Target};
-use super::on_two::{Goal, OnTwo, Origin, on_two};
-use super::placing::{Placing, Shown};
 use std::alloc::{AllocError, Global};
 use triple_arena::{
-    Arena, ArenaCloneFromWith, ArenaDirectInsertTrait, ArenaSlot, ArenaTrait, CompactArenaTrait,
+    ArenaCloneFromWith, ArenaDirectInsertTrait, ArenaSlot, ArenaTrait, CompactArenaTrait,
     DisjointableArenaTrait,
 };
-use triple_arena_base::{CloneFromError, InvalidationOption, ReallocationError};
+use triple_arena_base::CloneFromError;
 use triple_arena_direct::{DirectArena, DirectSlot};
+use triple_arena_direct_kit::{AnyDirect, Asked, AskedToClone, Placing, has_text};
 use triple_arena_ptr::P0;
 use triple_arena_stack::{NonZeroInxGenericStack, NonZeroInxVec};
 use triple_arena_test_kit::{
-    Call, Heap as ArenaHeap, NO_ENTRY, Removed, Steps, TestedArena, Token, Told, Wrong, inx,
-    is_told, new_arena, pointer,
+    Call, Heap, State, Tested, TestedArena, Token, Told, Wrong, inx, is_told, new_arena, pointer,
 };
-
-const BEYOND: Told = Told::Refused(ReallocationError::BeyondMaxCapacity);
-
-// Five entries, of which the second and the fourth are removed.
-const THREE_OF_FIVE: Origin = Origin::Arena(Removed {
-    entries: 5,
-    removed: &[2, 4],
-});
-
-#[test]
-fn a_refused_entry_ends_a_clone(rt: HostRuntime) -> Result<(), Wrong> {
-    on_two(
-        rt.alloc(),
-        THREE_OF_FIVE,
-        Goal::Heap(0),
-        &[
-            (OnTwo::Copy(Copying::CloneBut(0)), Told::Done),
-            (OnTwo::Target(Call::Bounds), Told::Bounds(3, 5, None)),
-            (OnTwo::Target(Call::Slots), Told::Size(5)),
-            (
-                OnTwo::Target(Call::Entries),
-                Told::Met((1, 2, 101), (3, 2, 103), (5, 2, 105)),
-            ),
-            (OnTwo::Target(Call::DirectInsert(2, 1, 2)), Told::Holds(2)),
-            (OnTwo::Copy(Copying::CloneBut(5)), Told::Invalid),
-            (
-                OnTwo::Target(Call::Entries),
-                Told::Met((1, 2, 101), (3, 2, 103), NO_ENTRY),
-            ),
-            (OnTwo::Target(Call::PopFreeEnd(9)), Told::Size(0)),
-            (OnTwo::Target(Call::Slots), Told::Size(3)),
-            (OnTwo::Target(Call::Bounds), Told::Bounds(2, 5, None)),
-            (OnTwo::Copy(Copying::CloneBut(1)), Told::Invalid),
-            (OnTwo::Target(Call::Bounds), Told::Bounds(0, 5, None)),
-        ],
-    )
-}
-
-#[test]
-fn a_clone_past_the_limit_is_refused(rt: HostRuntime) -> Result<(), Wrong> {
-    on_two(
-        rt.alloc(),
-        THREE_OF_FIVE,
-        Goal::Limited(0),
-        &[(OnTwo::Copy(Copying::CloneBut(0)), BEYOND)],
-    )?;
-    on_two(
-        rt.alloc(),
-        THREE_OF_FIVE,
-        Goal::Limited(5),
-        &[(OnTwo::Copy(Copying::CloneBut(0)), Told::Done)],
-    )
-}
-
-// One entry, under generation 9.
-const ONE_ENTRY: Steps = Steps(&[(Call::DirectInsert(1, 9, 9), Told::Holds(9))]);
-
-#[test]
-fn an_arena_that_is_cloned_from_a_direct_one_begins_at_two(rt: HostRuntime) -> Result<(), Wrong> {
-    on_two(
-        rt.alloc(),
-        Origin::Direct(4, ONE_ENTRY),
-        Goal::Arena,
-        &[
-            (OnTwo::Copy(Copying::CloneBut(0)), Told::Done),
-            (OnTwo::Target(Call::Bounds), Told::Bounds(1, 1, None)),
-            (OnTwo::Target(Call::Generation), Told::Generation(2)),
-            (OnTwo::Target(Call::Get(1, 9)), Told::Holds(109)),
-            (OnTwo::Target(Call::Insert(7)), Told::At(2, 2)),
-        ],
-    )
-}
 
 // A call on an arena of numbers, or on a direct arena that mirrors it: it has each number's text under
 // the pointer of the number.
@@ -109,17 +33,6 @@ enum OnMirror {
 struct Mirror<S: NonZeroInxGenericStack<DirectSlot<P0, String>>> {
     texts: DirectArena<P0, String, S>,
     alloc: Global,
-}
-
-// No table tells a number of a text.
-impl Shown for String {
-    fn shown(&self) -> u64 {
-        0
-    }
-
-    fn received(taken: InvalidationOption<String>) -> String {
-        taken.allow()
-    }
 }
 
 // The texts of all numbers.
@@ -157,10 +70,14 @@ impl<S: NonZeroInxGenericStack<DirectSlot<P0, String>> + Drop> Target for Mirror
     fn copy_from<A: CompactArenaTrait<P0, Token>>(
         &mut self,
         numbers: &mut A,
-        _call: Copying,
+        _copying: Copying,
     ) -> Told {
         let alloc = self.alloc;
         self.texts.ask_to_clone(numbers, &TextsOfAll { alloc })
+    }
+
+    fn refused(before: State) -> State {
+        before
     }
 }
 
@@ -233,14 +150,14 @@ fn mirrors<
     S: NonZeroInxGenericStack<DirectSlot<P0, String>> + Drop,
     R: NonZeroInxGenericStack<ArenaSlot<P0, Token>> + Drop,
 >(alloc: Global, steps: &[(OnMirror, Told, &'static str)]) -> Result<(), Wrong> {
-    let mut numbers: Arena<P0, Token, R> = new_arena(alloc);
-    follow_mirror::<S, Arena<P0, Token, R>>(alloc, &mut numbers, steps)
+    let mut numbers: Tested<P0, R> = new_arena(alloc);
+    follow_mirror::<S, Tested<P0, R>>(alloc, &mut numbers, steps)
 }
 
 #[test]
 fn a_mirror_of_texts_keeps_the_pointers(rt: HostRuntime) -> Result<(), Wrong> {
     let second = r#"{P0[2](2): "1337"}"#;
-    mirrors::<NonZeroInxVec<DirectSlot<P0, String>>, ArenaHeap<P0>>(
+    mirrors::<NonZeroInxVec<DirectSlot<P0, String>>, Heap<P0>>(
         rt.alloc(),
         &[
             (OnMirror::Numbers(Call::Insert(42)), Told::At(1, 2), "{}"),

@@ -19,7 +19,7 @@ fn a_transfer_renumbers_and_empties_its_source(rt: HostRuntime) -> Result<(), Wr
     on_two(
         rt.alloc(),
         TWO_OF_THREE,
-        Goal::HeapOfNarrow,
+        Goal::DirectOfNarrow,
         &[
             (TRANSFER, Told::Done),
             (
@@ -43,7 +43,7 @@ fn a_transfer_past_the_limit_is_refused(rt: HostRuntime) -> Result<(), Wrong> {
     on_two(
         rt.alloc(),
         TWO_OF_THREE,
-        Goal::LimitedOfNarrow,
+        Goal::LimitedDirectOfNarrow,
         &[
             (
                 TRANSFER,
@@ -71,7 +71,7 @@ fn a_transfer_leaves_the_slots_of_a_direct_arena(rt: HostRuntime) -> Result<(), 
     on_two(
         rt.alloc(),
         Origin::Direct(4, WITH_GAPS),
-        Goal::HeapOfNarrow,
+        Goal::DirectOfNarrow,
         &[
             (TRANSFER, Told::Done),
             (

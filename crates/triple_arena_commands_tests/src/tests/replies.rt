@@ -1,16 +1,16 @@
 //! The texts of replies.
 
-use super::steps::says;
+use super::says;
 use std::alloc::Global;
 use std::process::Abort;
-use triple_arena_session::{Reply, write_reply};
+use triple_arena_commands::{Reply, write_reply};
 
 // Expects each to be a reply's text, its line to be the same and a line break, and ` wrapped` to
 // stand at its end just where the reply tells of a wrap.
 fn each_is_written(rt: &impl Abort, alloc: Global, rows: &[(Reply<u64>, &str)]) {
     for (reply, text) in rows {
         assert!(rt;
-            is_written(alloc, reply, *text) && says(reply, *text),
+            is_written(alloc, reply, *text) && says(alloc, reply, *text),
             "{text}"
         );
         assert!(rt;

@@ -1,0 +1,68 @@
+//! The arguments, words and statuses of the program.
+
+use super::says;
+use triple_arena_commands::{Kind, Outcome, TextError, parse_args, status};
+
+#[test]
+fn takes_each_kind_and_nothing_else(rt: HostRuntime) {
+    let right: &[(&[&str], Kind)] = &[
+        (&[], Kind::Heap),
+        (&["heap"], Kind::Heap),
+        (&["array"], Kind::Array),
+        (&["limited", "8"], Kind::Limited(8)),
+        (&["limited", "007"], Kind::Limited(7)),
+        (&["fixed", "0"], Kind::Fixed(0)),
+        (&["fixed", "12"], Kind::Fixed(12)),
+        (
+            &["limited", "18446744073709551615"],
+            Kind::Limited(18446744073709551615),
+        ),
+    ];
+    for (words, kind) in right {
+        assert!(rt; parse_args(words) == Some(*kind));
+    }
+    let wrong: &[&[&str]] = &[
+        &[""],
+        &["Heap"],
+        &["heap "],
+        &["heap", "heap"],
+        &["limited"],
+        &["fixed"],
+        &["array", "8"],
+        &["limited", "-1"],
+        &["limited", "+1"],
+        &["fixed", ""],
+        &["fixed", "18446744073709551616"],
+        &["limited", "1", "1"],
+    ];
+    for words in wrong {
+        assert!(rt; parse_args(words).is_none());
+    }
+}
+
+const USAGE: &str = "usage: triple_arena_run [heap | limited N | fixed N | array]\n";
+
+#[test]
+fn says_why_it_stopped(rt: HostRuntime) {
+    let rows: &[(Outcome, &str, u8)] = &[
+        (Outcome::WrongArguments, USAGE, 2),
+        (Outcome::Ran(Ok(())), "", 0),
+        (
+            Outcome::Ran(Err(TextError::Malformed(2))),
+            "line 2: malformed\n",
+            3,
+        ),
+        (
+            Outcome::Ran(Err(TextError::Malformed(18))),
+            "line 18: malformed\n",
+            3,
+        ),
+        (Outcome::Ran(Err(TextError::Read)), "read failed\n", 1),
+        (Outcome::Ran(Err(TextError::Write)), "write failed\n", 1),
+        (Outcome::Ran(Err(TextError::NoMemory)), "no memory\n", 1),
+    ];
+    for (outcome, text, wanted) in rows {
+        assert!(rt; says(rt.alloc(), outcome, *text), "{text}");
+        assert_eq!(rt; status(*outcome), *wanted);
+    }
+}

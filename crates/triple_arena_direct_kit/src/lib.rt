@@ -1,0 +1,13 @@
+//! What the tests of direct arenas share: direct arenas over each stack, as tables of calls are tried on
+//! them, and what one is asked by calls without clauses.
+#![tactic(auto)]
+
+mod arenas;
+mod asked;
+mod placing;
+mod tested_direct;
+
+pub use arenas::{Heap, InArray, Limited, Little, has_text, with_room};
+pub use asked::{AnyDirect, Asked, AskedToClone};
+pub use placing::{Placing, Shown};
+pub use tested_direct::{Direct, DirectWithLimit};

@@ -1,0 +1,9 @@
+//! What no clause of these users says: that their calls succeed where memory is there, and worked examples.
+
+mod beside;
+mod counting_stack;
+mod insertions;
+mod links;
+mod small_ptr;
+mod undo;
+mod walks;

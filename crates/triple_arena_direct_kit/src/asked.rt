@@ -1,14 +1,14 @@
 //! What a direct arena is asked, by calls without clauses.
 
 use crate::placing::{Placing, Shown};
-use triple_arena_traits::{
-    ArenaCloneFromWith, ArenaDirectInsertEntryTrait, ArenaDirectInsertTrait, CompactArenaTrait,
-    DisjointableArenaTrait,
-};
 use triple_arena_direct::{DirectArena, DirectSlot};
 use triple_arena_ptr::{P0, Ptr};
 use triple_arena_stack::NonZeroInxGenericStack;
 use triple_arena_trait_kit::Told;
+use triple_arena_traits::{
+    ArenaCloneFromWith, ArenaDirectInsertEntryTrait, ArenaDirectInsertTrait, CompactArenaTrait,
+    DisjointableArenaTrait,
+};
 
 /// What any arena is asked that has the traits of a direct one, beside another value.
 pub trait Asked<P: Ptr, T, B> {

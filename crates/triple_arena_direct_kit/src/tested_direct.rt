@@ -2,13 +2,15 @@
 
 use crate::asked::{AnyDirect, Asked};
 use crate::placing::Placing;
-use triple_arena_traits::{ArenaDirectInsertTrait, ArenaTrait, CompactArenaTrait, DisjointableArenaTrait};
 use triple_arena_direct::{DirectArena, DirectSlot};
 use triple_arena_ptr::Ptr;
 use triple_arena_stack::{NonZeroInxGenericStack, SetMaxCapacity};
 use triple_arena_trait_kit::{
-    Call, Kind, Numbered, SLOTS, State, TestedArena, Token, Told, answer_of_any,
-    answer_of_two, answer_to_read, answer_to_walk,
+    Call, Kind, Numbered, SLOTS, State, TestedArena, Token, Told, answer_of_any, answer_of_two,
+    answer_to_read, answer_to_walk,
+};
+use triple_arena_traits::{
+    ArenaDirectInsertTrait, ArenaTrait, CompactArenaTrait, DisjointableArenaTrait,
 };
 
 /// A direct arena that tables of calls are tried on.

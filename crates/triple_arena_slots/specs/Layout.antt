@@ -1,4 +1,4 @@
--- How an arena lies in its slots. No public clause cites this module.
+-- How an arena lies in its slots. Of public clauses those of `Slots` alone cite this module.
 use Rattle.std.specs.Prelude.{◌≡◌, ◌≤◌, ℕ, zero, suc, ◌==◌, cond, List, [], ◌∷◌, map, length, count_by, Option, Some, None}
 use Rattle.std.specs.Int.NonZero.{non_zero_usize_get}
 use Rattle.triple_arena_traits.specs.Items.{item, with_item}

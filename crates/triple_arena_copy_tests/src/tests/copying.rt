@@ -165,11 +165,7 @@ impl<S: NonZeroInxGenericStack<ArenaSlot<P0, Token>> + Drop> Source for Tested<P
     }
 
     fn clone_apart(&mut self, alloc: Global, takes_place: bool) -> Told {
-        ask_to_clone(
-            &mut self.arena,
-            &mut (),
-            &CloneApart { alloc, takes_place },
-        )
+        ask_to_clone(&mut self.arena, &mut (), &CloneApart { alloc, takes_place })
     }
 }
 

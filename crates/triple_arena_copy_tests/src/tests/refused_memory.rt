@@ -53,7 +53,11 @@ const WITH_FREE_SLOTS: Steps = Steps(&[
 
 // A target that has memory for four slots refuses each copy from a source of five entries.
 fn refuses_each(alloc: Global, origin: Origin, goal: Goal) -> Result<(), Wrong> {
-    for copying in [Copying::CloneFrom, Copying::CloneBut(0), Copying::Transfer(7)] {
+    for copying in [
+        Copying::CloneFrom,
+        Copying::CloneBut(0),
+        Copying::Transfer(7),
+    ] {
         on_two(alloc, origin, goal, &[(OnTwo::Refused(copying), NO_MEMORY)])?;
     }
     Ok(())

@@ -7,7 +7,9 @@ use std::num::{NonZeroU64, NonZeroU128};
 use triple_arena::{ArenaSlot, ArenaTrait};
 use triple_arena_ptr::Ptr;
 use triple_arena_stack::NonZeroInxGenericStack;
-use triple_arena_test_kit::{Call, Heap, Tested, Token, Told, Wide, Wrong, follow, is_told, new_arena};
+use triple_arena_test_kit::{
+    Call, Heap, Tested, Token, Told, Wide, Wrong, follow, is_told, new_arena,
+};
 
 /// Each call, on an arena with three places, this limit and no entry.
 pub fn each_call(limit: Option<usize>) -> [(Call, Told); 34] {

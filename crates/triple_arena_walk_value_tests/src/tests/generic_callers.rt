@@ -12,8 +12,8 @@ use triple_arena_base::{InvalidationResult, ReallocationError};
 use triple_arena_ptr::{P0, Ptr, PtrGen, PtrInx};
 use triple_arena_stack::NonZeroInxGenericStack;
 use triple_arena_test_kit::{
-    Asked, Call, Heap, Limited, Numbered, Tested, Token, Told, Wrong, answer_to_read, ask, index_number,
-    is_told, pointer, with_room,
+    Asked, Call, Heap, Limited, Numbered, Tested, Token, Told, Wrong, answer_to_read, ask,
+    index_number, is_told, pointer, with_room,
 };
 
 // Puts another value under a pointer, and gives the one that stood there.

@@ -8,8 +8,8 @@ use triple_arena::{Arena, ArenaInsertTrait, ArenaSlot, ArenaTrait};
 use triple_arena_ptr::{P0, P4, Ptr, Q2};
 use triple_arena_stack::{NonZeroInxGenericStack, NonZeroInxVec};
 use triple_arena_test_kit::{
-    Call, Fixed, Heap, Limited, Narrow, Numbered, Places, Steps, Tested, TestedArena, Token, Told, Trial,
-    Wrong, is_text, pointer, with_room,
+    Call, Fixed, Heap, Limited, Narrow, Numbered, Places, Steps, Tested, TestedArena, Token, Told,
+    Trial, Wrong, is_text, pointer, with_room,
 };
 
 // Three entries, of which the second goes, and the third gets a new pointer.

@@ -8,8 +8,8 @@ use triple_arena_ptr::{P0, Ptr, Q2};
 use triple_arena_stack::NonZeroInxGenericStack;
 use triple_arena_test_kit::{
     Asked, B, Call, Heap, NO_ENTRY, NO_POINTER, NO_VALUE, NOT_DRAINED, Numbered, Removed, Steps,
-    Tested, TestedArena, Token, Told, Trial, Wide, Wrong, answer_by_traits, ask, from_empty, inx, is_told,
-    new_arena, next_steps, on_heap, step,
+    Tested, TestedArena, Token, Told, Trial, Wide, Wrong, answer_by_traits, ask, from_empty, inx,
+    is_told, new_arena, next_steps, on_heap, step,
 };
 
 const ONE: (usize, u64) = (1, 2);

@@ -3,6 +3,7 @@
 #![tactic(auto)]
 
 mod answers;
+mod b;
 mod call;
 mod numbered;
 mod pair_calls;
@@ -21,9 +22,10 @@ mod wrong;
 pub use answers::{
     answer_by_traits, answer_of_any, answer_of_two, answer_to_insert, answer_to_walk,
 };
+pub use b::B;
 pub use call::{Call, Kind};
 pub use numbered::{Numbered, index_number, inx, named_index, pointer};
-pub use pointers::{B, Narrow, PtrOf, Wide};
+pub use pointers::{Narrow, PtrOf, Wide};
 pub use scarce_stack::Scarce;
 pub use seen::answer_to_read;
 pub use state::{SLOTS, State};

@@ -103,8 +103,8 @@ fn a_compaction_tells_of_a_wrap(rt: HostRuntime) -> Result<(), Wrong> {
     let renamed = Texts {
         call: Compaction::Renamed(false),
         told: Told::Wrapped,
-        answer: "Ok(GenerationOverflow({PtrOf[1](ff): PtrOf[1](2)}))",
-        arena: "{PtrOf[1](2): (253, Some(PtrOf[1](2)))}",
+        answer: "Ok(GenerationOverflow({B[1](ff): B[1](2)}))",
+        arena: "{B[1](2): (253, Some(B[1](2)))}",
     };
     at_the_end_of_the_counter(rt.alloc(), renamed)?;
     let mapped = Texts {
@@ -118,7 +118,7 @@ fn a_compaction_tells_of_a_wrap(rt: HostRuntime) -> Result<(), Wrong> {
         call: Compaction::Alone(false),
         told: Told::Wrapped,
         answer: "GenerationOverflow(())",
-        arena: "{PtrOf[1](2): (253, Some(PtrOf[1](ff)))}",
+        arena: "{B[1](2): (253, Some(B[1](ff)))}",
     };
     at_the_end_of_the_counter(rt.alloc(), compressed)
 }

@@ -1,3 +1,4 @@
 pub mod Guests
 pub mod Notes
 pub mod Netlist
+pub mod Tickets

@@ -1,0 +1,15 @@
+-- Pointers that are gone for good.
+use Rattle.std.specs.Prelude.{◌≡◌, ◌<◌, ◌≤◌, IsTrue, None}
+use Rattle.triple_arena_ptr.specs.Pointers.{Pointer}
+use Rattle.triple_arena_traits.specs.ArenaState.{ArenaState, look_up}
+use Rattle.triple_arena_traits.specs.Histories.{is_live}
+
+module _ {T : Type 0} where
+  -- no entry is of a generation that the counter has not come to
+  abbrev pub IsUpToCounter : ArenaState T → Type 0
+  IsUpToCounter s = (p : Pointer) → IsTrue (is_live s p) → p.1 ≤ s.counter
+
+  -- a pointer is gone for good: it finds nothing, and its generation is one that the counter has left behind, so that no
+  -- entry gets it any more
+  abbrev pub IsGoneForGood : ArenaState T → Pointer → Type 0
+  IsGoneForGood s p = (look_up s p ≡ None) × (p.1 < s.counter)

@@ -1,0 +1,5 @@
+pub mod Strict
+pub mod StrictCalls
+pub mod Gone
+pub mod GoneLaws
+pub mod StrictLaws

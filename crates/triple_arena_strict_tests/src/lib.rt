@@ -1,0 +1,5 @@
+//! Tests of strict arenas by public calls, as tables of calls and answers.
+#![tactic(auto)]
+
+#[cfg(test)]
+mod tests;

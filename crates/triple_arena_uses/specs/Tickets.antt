@@ -1,0 +1,15 @@
+-- The tickets of leases.
+use Rattle.std.specs.Prelude.{suc, ◌-◌, ◌^◌, Bool, true}
+use Rattle.triple_arena_ptr.specs.Pointers.{Pointer}
+use Rattle.triple_arena_traits.specs.ArenaState.{ArenaState}
+use Rattle.triple_arena_strict.specs.Strict.{is_exhausted}
+use Rattle.triple_arena_uses.specs.declared.ticket.Ticket.{Ticket}
+use Rattle.triple_arena_uses.specs.declared.leases.Lease.{Lease}
+
+-- the numbers of a ticket's index and of its generation
+abbrev pub numbers : Ticket → Pointer
+numbers ticket = (suc ticket.0, suc ticket.1)
+
+-- were a lease revoked, its ticket could be given again
+abbrev pub are_used_up : ArenaState Lease → Bool
+are_used_up leases = is_exhausted true (2 ^ 8 - 1) leases

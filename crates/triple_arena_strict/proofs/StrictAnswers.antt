@@ -1,5 +1,5 @@
 -- What an arena answers whose counter is not exhausted, as strict arenas answer it.
-use Rattle.std.proofs.Common.{◌≡◌, ℕ, ◌&&◌, ◌||◌, Bool, true, false, not, List, [], ◌∷◌, length, Option, Some, None, is_some, IsSome, Result, Ok, Err, OnOk, OnErr, refl, sym, ap, ◌∙◌, true≢false}
+use Rattle.std.proofs.Common.{◌≡◌, ℕ, ◌&&◌, ◌||◌, Bool, true, false, not, List, [], ◌∷◌, length, Option, Some, None, is_some, IsSome, Result, Ok, Err, IfOk, OnOk, OnErr, refl, sym, ap, ◌∙◌, true≢false}
 use Rattle.std.specs.Option.{option_map, ok_or}
 use Rattle.std.specs.Result.{result_map_both}
 use Rattle.triple_arena_base.specs.Invalidation.{allowed}
@@ -12,8 +12,8 @@ use Rattle.triple_arena_traits.specs.Ending.{told_of, map_told, removed, invalid
 use Rattle.triple_arena_traits.specs.ArenaState.{ArenaState, arena_len, look_up}
 use Rattle.triple_arena_traits.specs.Compression.{compressed}
 use Rattle.triple_arena_traits.specs.CompressionLaws.{count-closed_up}
-use Rattle.triple_arena_traits.specs.Histories.{has, ModelCall, removal, invalidation, ended_by, Fits, Continues}
-use Rattle.triple_arena_traits.specs.PointerListLaws.{has_head, has-keys}
+use Rattle.triple_arena_traits.specs.Histories.{has, ModelCall, insertion, removal, invalidation, ended_by, Fits, Continues}
+use Rattle.triple_arena_traits.specs.PointerListLaws.{has-keys}
 use Rattle.triple_arena_traits.specs.Walks.{keys}
 use Rattle.triple_arena_strict.specs.declared.errors.StrictError.{StrictError}
 use Rattle.triple_arena_strict.specs.declared.errors.StrictError.TheVariants.{InvalidPtr}
@@ -135,6 +135,11 @@ module _ {T : Type 0} (kind : StackKind) (counting : Bool) (greatest : ℕ) (s t
       (step_renewed numbers q s t exhausted found r (λ x. invalidation p x) (invalidated (raise counting greatest) s p.0) strict
       (on_renewed numbers q exhausted found r (t ≡ invalidated (raise counting greatest) s p.0) strict done)
       (kept_renewed numbers q s t exhausted found r strict tested kept))
+
+-- the history of an insertion, done or refused
+pub inserted_history : {P E T : Type 0} (numbers : P → Pointer) (s t : ArenaState T) (r : Result P E) → IfOk r (λ p. Continues Fits s (insertion (numbers p) ∷ []) t) → OnErr r (t ≡ s) → Continues Fits s (calls_if_ok r (λ p. insertion (numbers p))) t
+inserted_history numbers s t (Ok p) done refused = done
+inserted_history numbers s t (Err e) done refused = rw refused (λ h fits. fits)
 
 -- what a call ended is gone for good, where it was done
 pub gone_if_ok : {A E T : Type 0} (s t : ArenaState T) (r : Result A E) (call : A → ModelCall) (p : Pointer) → IsUpToCounter s → Continues Fits s (calls_if_ok r call) t → ((x : A) → has (ended_by (call x)) p ≡ true) → OnOk r (IsGoneForGood t p)

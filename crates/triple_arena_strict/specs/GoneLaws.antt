@@ -1,10 +1,10 @@
 -- Laws of pointers that are gone for good, by the histories that fit an arena.
-use Rattle.std.proofs.Common.{◌≡◌, ◌<◌, ◌≤◌, ◌&&◌, ◌||◌, Bool, true, false, not, IsTrue, List, [], ◌∷◌, ◌++◌, Option, Some, None, is_some, IsSome, refl, sym, ap, ◌∙◌, arith, true≢false}
+use Rattle.std.proofs.Common.{◌≡◌, ◌≤◌, ◌&&◌, ◌||◌, Bool, true, false, not, List, [], ◌∷◌, ◌++◌, Option, Some, None, is_some, refl, sym, ap, ◌∙◌, arith, true≢false}
 use Rattle.std.proofs.lemmas.Bool.{and_parts}
 use Rattle.triple_arena_ptr.specs.Pointers.{Pointer, is_same}
 use Rattle.triple_arena_traits.specs.ArenaState.{ArenaState, look_up}
 use Rattle.triple_arena_traits.specs.Walks.{keys}
-use Rattle.triple_arena_traits.specs.Histories.{has, ModelCall, removal, given_by, ended_by, History, begun_with, and_then, given, ended, followed_by, is_live, Fits, Continues}
+use Rattle.triple_arena_traits.specs.Histories.{has, ModelCall, removal, ended_by, History, begun_with, and_then, given, ended, followed_by, is_live, Fits, Continues}
 use Rattle.triple_arena_traits.specs.HistoryLaws.{Fits-keys, gone_for_good}
 use Rattle.triple_arena_traits.specs.PointerListLaws.{has-append, has_head, has_one, one_is, same_is, or_no, distinct-append, distinct-keys, has-keys}
 use Rattle.triple_arena_strict.specs.Gone.{IsUpToCounter, IsGoneForGood}

@@ -3,7 +3,6 @@
 
 mod errors;
 mod indexing;
-mod iter_mut;
 pub mod laws;
 mod lending_arena;
 mod strict_arena;

@@ -51,7 +51,7 @@ pub struct StrictArena<
     T,
     S: NonZeroInxGenericStack<ArenaSlot<P, T>> = NonZeroInxVec<ArenaSlot<P, T>>,
 > {
-    pub(crate) arena: Arena<P, T, S>,
+    arena: Arena<P, T, S>,
 }
 
 impl<P: Ptr, T, S: NonZeroInxGenericStack<ArenaSlot<P, T>>> Model for StrictArena<P, T, S> {
@@ -71,7 +71,7 @@ impl<P: Ptr, T, S: NonZeroInxGenericStack<ArenaSlot<P, T>>> Model for StrictAren
 }
 
 impl<P: Ptr, T, S: NonZeroInxGenericStack<ArenaSlot<P, T>>> StrictArena<P, T, S> {
-    /// An arena without slots, as [`ArenaTrait::new`] of an `Arena`. It takes no memory.
+    /// An arena without slots, with the room and the limit of a new stack. It takes no memory.
     pub fn new(alloc: Global) -> Self
         ensures { result ≡ new_arena (new_room S.kind) (new_limit S.kind)
             (greatest_index P.Inx.greatest) (first_generation P.Gen.counting) }
@@ -81,8 +81,10 @@ impl<P: Ptr, T, S: NonZeroInxGenericStack<ArenaSlot<P, T>>> StrictArena<P, T, S>
         }
     }
 
-    /// An arena without slots, over a stack with room for `min_capacity`, refused as that of an
-    /// `Arena` is.
+    /// An arena without slots, over a stack with room for `min_capacity`.
+    ///
+    /// Refused where `min_capacity` is past the greatest index, and where the stack refuses it: an
+    /// array of fewer places, and any other where memory is refused.
     pub fn with_min_capacity(alloc: Global, min_capacity: usize) -> Result<Self, AllocError>
         ensures made { IfOk result (λ arena. arena ≡ new_arena (made_room S.kind min_capacity)
             (made_limit S.kind min_capacity) (greatest_index P.Inx.greatest)
@@ -117,7 +119,11 @@ impl<P: Ptr, T, S: NonZeroInxGenericStack<ArenaSlot<P, T>>> StrictArena<P, T, S>
         self.arena.max_capacity()
     }
 
-    /// Changes the room, as [`ArenaTrait::reallocate_min_capacity`] of an `Arena`.
+    /// Changes the room so that there is place for `min_capacity` entries, and for the slots that are
+    /// in use. First the free list is put in order, and that stays done where the rest is refused.
+    ///
+    /// `AllocError` where `min_capacity` is past the greatest index; else `BeyondMaxCapacity` exactly
+    /// where the limit is below it; else `AllocError` where memory is refused.
     pub fn reallocate_min_capacity(&mut self, min_capacity: usize) -> Result<(), ReallocationError>
         ensures done { OnOk result (self.new ≡ reallocated S.kind self.old min_capacity) }
         ensures refused { OnErr result (self.new ≡ tidied self.old) }
@@ -231,8 +237,10 @@ impl<P: Ptr, T, S: NonZeroInxGenericStack<ArenaSlot<P, T>>> StrictArena<P, T, S>
         &self.arena
     }
 
-    /// Inserts `t`, and gives its pointer, as [`ArenaInsertTrait::insert_within_capacity`] of an
-    /// `Arena`.
+    /// Inserts `t`, and gives its pointer. It takes no memory.
+    ///
+    /// Refused exactly where there are as many entries as the capacity; then nothing changes, and `t`
+    /// is dropped.
     pub fn insert_within_capacity(&mut self, t: T) -> Result<P, NotWithinCapacityError>
     where
         T: Drop,
@@ -256,16 +264,15 @@ impl<P: Ptr, T, S: NonZeroInxGenericStack<ArenaSlot<P, T>>> StrictArena<P, T, S>
         self.arena.insert_within_capacity(t)
     }
 
-    /// Inserts `t`, and gives its pointer, as [`ArenaInsertTrait::insert_reallocating`] of an `Arena`:
-    /// a full arena grows first.
+    /// Inserts `t`, and gives its pointer. A full arena grows first, as an `Arena` does.
+    ///
+    /// `BeyondMaxCapacity` exactly where the arena is full and its limit is reached; else `AllocError`
+    /// where it is full and memory is refused, or there is no greater index. Then nothing changes, and
+    /// `t` is dropped.
     pub fn insert_reallocating(&mut self, t: T) -> Result<P, ReallocationError>
     where
         T: Drop,
         ensures pointer { IfOk result (λ p. P.numbers p ≡ next_pointer self.old) }
-        ensures free { IfOk result (λ p. entry self.old (P.numbers p).0 ≡ None) }
-        ensures found { IfOk result (λ p. look_up self.new (P.numbers p) ≡ Some t) }
-        ensures others { IfOk result (λ p. (q : Pointer) → q.0 ≢ (P.numbers p).0
-            → look_up self.new q ≡ look_up self.old q) }
         ensures inserted { OnOk result (self.new ≡ inserted (grown S.kind self.old) t) }
         ensures refused { OnErr result (self.new ≡ self.old) }
         ensures beyond { (result ≡ Err ReallocationError.BeyondMaxCapacity)
@@ -281,14 +288,13 @@ impl<P: Ptr, T, S: NonZeroInxGenericStack<ArenaSlot<P, T>>> StrictArena<P, T, S>
             self.old (inserts t) (calls_if_ok result (λ p. insertion (P.numbers p))) self.new }
         ensures history { Continues Fits self.old
             (calls_if_ok result (λ p. insertion (P.numbers p))) self.new }
-        ensures new { IfOk result (λ p. (q : Pointer) → IsGoneForGood self.old q → P.numbers p ≢ q) }
         ensures stays_gone { P.Gen.counting ≡ true
             → (q : Pointer) → IsGoneForGood self.old q → IsGoneForGood self.new q }
     {
-        self.arena.insert(t)
+        self.arena.insert_reallocating(t)
     }
 
-    /// As [`Self::insert_reallocating`].
+    /// As [`Self::insert_reallocating`], and in words of look-ups too.
     pub fn insert(&mut self, t: T) -> Result<P, ReallocationError>
     where
         T: Drop,
@@ -316,7 +322,7 @@ impl<P: Ptr, T, S: NonZeroInxGenericStack<ArenaSlot<P, T>>> StrictArena<P, T, S>
         ensures stays_gone { P.Gen.counting ≡ true
             → (q : Pointer) → IsGoneForGood self.old q → IsGoneForGood self.new q }
     {
-        self.insert_reallocating(t)
+        self.arena.insert(t)
     }
 
     /// Takes out the entry under `p`, and gives its value. The counter is raised, and where generations

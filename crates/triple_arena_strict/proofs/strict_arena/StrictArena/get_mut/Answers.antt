@@ -1,5 +1,9 @@
-use Rattle.std.proofs.Common.{refl}
+use Rattle.std.proofs.Common.{[], refl}
+use Rattle.triple_arena_strict.specs.GoneLaws.{up_to-continues, gone-continues}
 use Rattle.triple_arena_strict.proofs.strict_arena.StrictArena.get_mut.Goals as goal
+
+pub invariant_of-self-lent : goal.invariant_of-self-lent
+invariant_of-self-lent g c lent = (λ value counts. up_to-continues c.self.inside.arena _ (c.self.invariant counts) [] (c.get_mut.ensures.fresh value), c.self.invariant)
 
 pub returns : goal.returns
 returns g c = (
@@ -10,5 +14,6 @@ returns g c = (
     history = rw (← c.self.view_is) c.get_mut.ensures.found;
     step = λ value. (refl, refl);
     written = rw (← c.self.view_is) c.get_mut.ensures.fresh;
+    stays_gone = rw (← c.self.view_is) (λ counts value. gone-continues c.self.inside.arena _ (c.self.invariant counts) [] (c.get_mut.ensures.fresh value));
   },
 )

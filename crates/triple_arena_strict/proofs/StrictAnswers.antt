@@ -1,5 +1,6 @@
 -- What an arena answers whose counter is not exhausted, as strict arenas answer it.
-use Rattle.std.proofs.Common.{◌≡◌, ℕ, ◌&&◌, ◌||◌, Bool, true, false, not, List, [], ◌∷◌, length, Option, Some, None, is_some, IsSome, Result, Ok, Err, IfOk, OnOk, OnErr, refl, sym, ap, ◌∙◌, true≢false}
+use Rattle.std.proofs.Common.{◌≡◌, ◌<◌, ◌≤◌, ℕ, ◌&&◌, ◌||◌, Bool, true, false, not, List, [], ◌∷◌, length, Option, Some, None, is_some, IsSome, Result, Ok, Err, IsOk, IfOk, OnOk, OnErr, refl, sym, ap, ◌∙◌, inl, inr, true≢false}
+use Rattle.std.proofs.lemmas.Bool.{cases_lt}
 use Rattle.std.specs.Option.{option_map, ok_or}
 use Rattle.std.specs.Result.{result_map_both}
 use Rattle.triple_arena_base.specs.Invalidation.{allowed}
@@ -9,7 +10,10 @@ use Rattle.triple_arena_ptr.specs.Numbers.{raise}
 use Rattle.triple_arena_ptr.specs.Pointers.{Pointer}
 use Rattle.triple_arena_stack.specs.StackKind.{StackKind}
 use Rattle.triple_arena_traits.specs.Ending.{told_of, map_told, removed, invalidated}
-use Rattle.triple_arena_traits.specs.ArenaState.{ArenaState, arena_len, look_up}
+use Rattle.triple_arena_traits.specs.ArenaState.{ArenaState, arena_len, capacity, look_up, IsWellFormed}
+use Rattle.triple_arena_traits.specs.Insertion.{next_pointer, inserted}
+use Rattle.triple_arena_traits.specs.Capacity.{grown}
+use Rattle.triple_arena_traits.specs.EntryLaws.{same-grown}
 use Rattle.triple_arena_traits.specs.Compression.{compressed}
 use Rattle.triple_arena_traits.specs.CompressionLaws.{count-closed_up}
 use Rattle.triple_arena_traits.specs.Histories.{has, ModelCall, insertion, removal, invalidation, ended_by, Fits, Continues}
@@ -20,7 +24,7 @@ use Rattle.triple_arena_strict.specs.declared.errors.StrictError.TheVariants.{In
 use Rattle.triple_arena_strict.specs.Gone.{IsUpToCounter, IsGoneForGood}
 use Rattle.triple_arena_strict.specs.GoneLaws.{ended-continues}
 use Rattle.triple_arena_strict.specs.Strict.{is_exhausted, strict_of, calls_if_ok}
-use Rattle.triple_arena_strict.specs.StrictCalls.{IsUnless, removes, invalidates}
+use Rattle.triple_arena_strict.specs.StrictCalls.{IsUnless, IsStrictStep, to_insert, to_remove, to_invalidate}
 use Rattle.triple_arena_strict.specs.StrictLaws.{Continues-strict_counting}
 
 -- where an exhausted counter was tested before, and the pointer with it
@@ -119,7 +123,7 @@ module _ {T : Type 0} (kind : StackKind) (counting : Bool) (greatest : ℕ) (s t
       let exhausted = is_exhausted counting greatest s in
       let found = look_up s p in
       let strict : r ≡ strict_of exhausted found = is ∙ answered exhausted found told answer tested in
-      Continues-strict_counting kind greatest s (removes p) (calls_if_ok r (λ _. removal p)) t counts
+      Continues-strict_counting kind greatest counting counts s (to_remove p) (calls_if_ok r (λ _. removal p)) t
       (step_of s t exhausted found r (removal p) (removed (raise counting greatest) s p.0) strict
       (if_found exhausted found r (t ≡ removed (raise counting greatest) s p.0) strict done)
       (kept_of s t exhausted found r strict tested kept))
@@ -131,10 +135,26 @@ module _ {T : Type 0} (kind : StackKind) (counting : Bool) (greatest : ℕ) (s t
       let q : Pointer = (p.0, raise counting greatest s.counter) in
       let strict : result_map_both numbers (λ e. e) r ≡ strict_of exhausted (option_map (λ _. q) found) =
       ap (result_map_both numbers (λ e. e)) is ∙ mapped_answer numbers exhausted (option_map (λ _. q) found) told answer (mapped_test q exhausted found tested) in
-      Continues-strict_counting kind greatest s (invalidates p) (calls_if_ok r (λ x. invalidation p (numbers x))) t counts
+      Continues-strict_counting kind greatest counting counts s (to_invalidate p) (calls_if_ok r (λ x. invalidation p (numbers x))) t
       (step_renewed numbers q s t exhausted found r (λ x. invalidation p x) (invalidated (raise counting greatest) s p.0) strict
       (on_renewed numbers q exhausted found r (t ≡ invalidated (raise counting greatest) s p.0) strict done)
       (kept_renewed numbers q s t exhausted found r strict tested kept))
+
+-- an insertion is a step, which only a full arena refuses
+pub step_inserted : {P E T : Type 0} (numbers : P → Pointer) (kind : StackKind) (counting : Bool) (greatest : ℕ) (s t : ArenaState T) (value : T) (r : Result P E) → IsWellFormed s → (arena_len s < capacity s → IsOk r) → IfOk r (λ p. numbers p ≡ next_pointer s) → OnOk r (t ≡ inserted (grown kind s) value) → OnErr r (t ≡ s) → IsStrictStep kind counting greatest s (to_insert value) (calls_if_ok r (λ p. insertion (numbers p))) t
+step_inserted numbers kind counting greatest s t value (Ok p) well has_place pointer done refused = (well, inr (ap (λ q. insertion q ∷ []) pointer, done))
+step_inserted numbers kind counting greatest s t value (Err e) well has_place pointer done refused = (well, inl (no_less (arena_len s) (capacity s) (λ less. true≢false (sym (has_place less))), (refl, refused)))
+  where
+    no_less : (m n : ℕ) → (m < n → ⊥) → n ≤ m
+    no_less m n not = elim (cases_lt m n) [
+      | inl less ↦ absurd (not less)
+      | inr most ↦ most
+    ]
+
+-- where an arena has a place, growth leaves it as it is
+pub grown_inserted : {P E T : Type 0} (kind : StackKind) (s t : ArenaState T) (value : T) (r : Result P E) → (IsOk r → arena_len s < capacity s) → OnOk r (t ≡ inserted s value) → OnOk r (t ≡ inserted (grown kind s) value)
+grown_inserted kind s t value (Ok p) has_place done = done ∙ sym (ap (λ a. inserted a value) (same-grown kind s (has_place refl)))
+grown_inserted kind s t value (Err e) has_place done = tt
 
 -- the history of an insertion, done or refused
 pub inserted_history : {P E T : Type 0} (numbers : P → Pointer) (s t : ArenaState T) (r : Result P E) → IfOk r (λ p. Continues Fits s (insertion (numbers p) ∷ []) t) → OnErr r (t ≡ s) → Continues Fits s (calls_if_ok r (λ p. insertion (numbers p))) t

@@ -9,7 +9,7 @@ module _ {T : Type 0} where
   abbrev pub IsUpToCounter : ArenaState T → Type 0
   IsUpToCounter s = (p : Pointer) → IsTrue (is_live s p) → p.1 ≤ s.counter
 
-  -- a pointer is gone for good: it finds nothing, and its generation is one that the counter has left behind, so that no
-  -- entry gets it any more
+  -- a pointer is gone for good, or was never given and never will be: it finds nothing, and its generation is one that the
+  -- counter has left behind, so that no entry gets it any more
   abbrev pub IsGoneForGood : ArenaState T → Pointer → Type 0
   IsGoneForGood s p = (look_up s p ≡ None) × (p.1 < s.counter)

@@ -21,7 +21,7 @@ ghost use Rattle.triple_arena_traits.specs.Histories.{History, begun_with, inser
 ghost use Rattle.triple_arena_renaming.specs.Renaming.{MapsPointers, first_unresolved, AreRenamed};
 ghost use Rattle.triple_arena_strict.specs.Gone.{IsGoneForGood};
 ghost use Rattle.triple_arena_strict.specs.Strict.{is_exhausted, is_exhausted_for_any, strict_of, strict_all, calls_if_ok, RefusesStrictly};
-ghost use Rattle.triple_arena_strict.specs.StrictCalls.{IsStrictStep, inserts, writes, removes, invalidates, clears, compresses, reallocates};
+ghost use Rattle.triple_arena_strict.specs.StrictCalls.{IsStrictStep, to_insert, to_write, to_remove, to_invalidate, to_clear, to_compress, to_reallocate};
 
 use crate::errors::{StrictCompactError, StrictError};
 use std::alloc::Global;
@@ -40,8 +40,8 @@ use triple_arena_stack::{NonZeroInxGenericStack, NonZeroInxVec};
 /// and changes nothing. So where generations count, no pointer is ever given twice, and one that has
 /// ended is gone for good (`IsGoneForGood`): for that a caller keeps no history.
 ///
-/// It gives no way to set, reset or copy the counter. Insertion goes on when the counter is at its
-/// greatest value, and look-ups do; entries can't be ended any more then.
+/// No call sets or resets its counter, or copies another to it. Insertion goes on when the counter is at
+/// its greatest value, and look-ups do; entries can't be ended any more then.
 ///
 /// With generations that do not count nothing is refused so, and a pointer names whatever stands at
 /// its index.
@@ -123,7 +123,8 @@ impl<P: Ptr, T, S: NonZeroInxGenericStack<ArenaSlot<P, T>>> StrictArena<P, T, S>
     /// in use. First the free list is put in order, and that stays done where the rest is refused.
     ///
     /// `AllocError` where `min_capacity` is past the greatest index; else `BeyondMaxCapacity` exactly
-    /// where the limit is below it; else `AllocError` where memory is refused.
+    /// where the limit is below it; else `AllocError` where memory is refused. Where the room stays the
+    /// same, no memory is taken.
     pub fn reallocate_min_capacity(&mut self, min_capacity: usize) -> Result<(), ReallocationError>
         ensures done { OnOk result (self.new ≡ reallocated S.kind self.old min_capacity) }
         ensures refused { OnErr result (self.new ≡ tidied self.old) }
@@ -141,7 +142,7 @@ impl<P: Ptr, T, S: NonZeroInxGenericStack<ArenaSlot<P, T>>> StrictArena<P, T, S>
             → S.has_memory (reallocated S.kind self.old min_capacity).room → IsOk result }
         ensures place { OnOk result (min_capacity ≤ capacity self.new) }
         ensures step { IsStrictStep S.kind P.Gen.counting P.Gen.greatest
-            self.old (reallocates min_capacity) (resizing ∷ []) self.new }
+            self.old (to_reallocate min_capacity) (resizing ∷ []) self.new }
         ensures history { Continues Fits self.old (resizing ∷ []) self.new }
         ensures stays_gone { P.Gen.counting ≡ true
             → (q : Pointer) → IsGoneForGood self.old q → IsGoneForGood self.new q }
@@ -165,8 +166,9 @@ impl<P: Ptr, T, S: NonZeroInxGenericStack<ArenaSlot<P, T>>> StrictArena<P, T, S>
         self.arena.is_empty()
     }
 
-    /// The counter: the generation of the next entry. No entry is of a greater one, so that the history
-    /// that begins with the pointers of the entries fits, whatever was done before.
+    /// The counter: the generation of the next entry. Where generations count, no entry is of a greater
+    /// one, so that the history that begins with the pointers of the entries fits, whatever was done
+    /// before; and the calls that end entries are refused exactly where `PtrGen::is_max` holds of it.
     pub fn generation(&self) -> P::Gen
         ensures number { P.Gen.number result ≡ self.now.counter }
         ensures history { P.Gen.counting ≡ true
@@ -199,8 +201,9 @@ impl<P: Ptr, T, S: NonZeroInxGenericStack<ArenaSlot<P, T>>> StrictArena<P, T, S>
             self.entry result (with_value self.old (P.numbers p).0) self.old) }
         ensures history { (h : History) → Fits h self.old
             → is_some result ≡ remains h (P.numbers p) }
-        ensures step { (value : T) → IsStrictStep S.kind P.Gen.counting P.Gen.greatest
-            self.old (writes (P.numbers p) value) [] (with_value self.old (P.numbers p).0 value) }
+        ensures step { IsSome (look_up self.old (P.numbers p)) → (value : T)
+            → IsStrictStep S.kind P.Gen.counting P.Gen.greatest self.old
+            (to_write (P.numbers p) value) [] (with_value self.old (P.numbers p).0 value) }
         ensures written { (value : T) → Continues Fits self.old []
             (with_value self.old (P.numbers p).0 value) }
         ensures stays_gone { P.Gen.counting ≡ true → (value : T) (q : Pointer)
@@ -254,7 +257,7 @@ impl<P: Ptr, T, S: NonZeroInxGenericStack<ArenaSlot<P, T>>> StrictArena<P, T, S>
         ensures refused { OnErr result (self.new ≡ self.old) }
         ensures well_formed { IsWellFormed self.old }
         ensures step { IsStrictStep S.kind P.Gen.counting P.Gen.greatest
-            self.old (inserts t) (calls_if_ok result (λ p. insertion (P.numbers p))) self.new }
+            self.old (to_insert t) (calls_if_ok result (λ p. insertion (P.numbers p))) self.new }
         ensures history { Continues Fits self.old
             (calls_if_ok result (λ p. insertion (P.numbers p))) self.new }
         ensures new { IfOk result (λ p. (q : Pointer) → IsGoneForGood self.old q → P.numbers p ≢ q) }
@@ -273,6 +276,7 @@ impl<P: Ptr, T, S: NonZeroInxGenericStack<ArenaSlot<P, T>>> StrictArena<P, T, S>
     where
         T: Drop,
         ensures pointer { IfOk result (λ p. P.numbers p ≡ next_pointer self.old) }
+        ensures free { IfOk result (λ p. entry self.old (P.numbers p).0 ≡ None) }
         ensures inserted { OnOk result (self.new ≡ inserted (grown S.kind self.old) t) }
         ensures refused { OnErr result (self.new ≡ self.old) }
         ensures beyond { (result ≡ Err ReallocationError.BeyondMaxCapacity)
@@ -283,11 +287,14 @@ impl<P: Ptr, T, S: NonZeroInxGenericStack<ArenaSlot<P, T>>> StrictArena<P, T, S>
             → capacity self.old < greatest_index P.Inx.greatest) }
         ensures had_place { arena_len self.old < capacity self.old
             → IsOk result × (self.new ≡ inserted self.old t) }
+        ensures place { OnOk result (arena_len (grown S.kind self.old)
+            < capacity (grown S.kind self.old)) }
         ensures well_formed { IsWellFormed self.old }
         ensures step { IsStrictStep S.kind P.Gen.counting P.Gen.greatest
-            self.old (inserts t) (calls_if_ok result (λ p. insertion (P.numbers p))) self.new }
+            self.old (to_insert t) (calls_if_ok result (λ p. insertion (P.numbers p))) self.new }
         ensures history { Continues Fits self.old
             (calls_if_ok result (λ p. insertion (P.numbers p))) self.new }
+        ensures new { IfOk result (λ p. (q : Pointer) → IsGoneForGood self.old q → P.numbers p ≢ q) }
         ensures stays_gone { P.Gen.counting ≡ true
             → (q : Pointer) → IsGoneForGood self.old q → IsGoneForGood self.new q }
     {
@@ -313,9 +320,11 @@ impl<P: Ptr, T, S: NonZeroInxGenericStack<ArenaSlot<P, T>>> StrictArena<P, T, S>
             → capacity self.old < greatest_index P.Inx.greatest) }
         ensures had_place { arena_len self.old < capacity self.old
             → IsOk result × (self.new ≡ inserted self.old t) }
+        ensures place { OnOk result (arena_len (grown S.kind self.old)
+            < capacity (grown S.kind self.old)) }
         ensures well_formed { IsWellFormed self.old }
         ensures step { IsStrictStep S.kind P.Gen.counting P.Gen.greatest
-            self.old (inserts t) (calls_if_ok result (λ p. insertion (P.numbers p))) self.new }
+            self.old (to_insert t) (calls_if_ok result (λ p. insertion (P.numbers p))) self.new }
         ensures history { Continues Fits self.old
             (calls_if_ok result (λ p. insertion (P.numbers p))) self.new }
         ensures new { IfOk result (λ p. (q : Pointer) → IsGoneForGood self.old q → P.numbers p ≢ q) }
@@ -340,7 +349,7 @@ impl<P: Ptr, T, S: NonZeroInxGenericStack<ArenaSlot<P, T>>> StrictArena<P, T, S>
         ensures others { (q : Pointer) → q ≢ P.numbers p
             → look_up self.new q ≡ look_up self.old q }
         ensures step { IsStrictStep S.kind P.Gen.counting P.Gen.greatest
-            self.old (removes (P.numbers p)) (calls_if_ok result (λ _. removal (P.numbers p))) self.new }
+            self.old (to_remove (P.numbers p)) (calls_if_ok result (λ _. removal (P.numbers p))) self.new }
         ensures history { P.Gen.counting ≡ true → Continues Fits self.old
             (calls_if_ok result (λ _. removal (P.numbers p))) self.new }
         ensures gone_for_good { P.Gen.counting ≡ true → OnOk result (IsGoneForGood self.new (P.numbers p)) }
@@ -354,7 +363,7 @@ impl<P: Ptr, T, S: NonZeroInxGenericStack<ArenaSlot<P, T>>> StrictArena<P, T, S>
     }
 
     /// Gives the entry under `p` a new pointer, under the raised counter. Where generations count, `p`
-    /// is gone for good.
+    /// is gone for good; where they don't, the pointer stays as it is.
     ///
     /// `InvalidPtr` exactly where `p` is invalid; else `Exhausted` exactly where the counter is at its
     /// greatest value. Then nothing changes.
@@ -373,7 +382,7 @@ impl<P: Ptr, T, S: NonZeroInxGenericStack<ArenaSlot<P, T>>> StrictArena<P, T, S>
         ensures others { (q : Pointer) → q.0 ≢ (P.numbers p).0
             → look_up self.new q ≡ look_up self.old q }
         ensures step { IsStrictStep S.kind P.Gen.counting P.Gen.greatest
-            self.old (invalidates (P.numbers p)) (calls_if_ok result (λ q. invalidation (P.numbers p) (P.numbers q))) self.new }
+            self.old (to_invalidate (P.numbers p)) (calls_if_ok result (λ q. invalidation (P.numbers p) (P.numbers q))) self.new }
         ensures history { P.Gen.counting ≡ true → Continues Fits self.old
             (calls_if_ok result (λ q. invalidation (P.numbers p) (P.numbers q))) self.new }
         ensures gone_for_good { P.Gen.counting ≡ true → OnOk result (IsGoneForGood self.new (P.numbers p)) }
@@ -403,7 +412,7 @@ impl<P: Ptr, T, S: NonZeroInxGenericStack<ArenaSlot<P, T>>> StrictArena<P, T, S>
         ensures refused { OnErr result (self.new ≡ self.old) }
         ensures gone { OnOk result ((q : Pointer) → look_up self.new q ≡ None) }
         ensures step { IsStrictStep S.kind P.Gen.counting P.Gen.greatest
-            self.old clears (calls_if_ok result (λ _. clearing (keys self.old.slots))) self.new }
+            self.old to_clear (calls_if_ok result (λ _. clearing (keys self.old.slots))) self.new }
         ensures history { P.Gen.counting ≡ true → Continues Fits self.old
             (calls_if_ok result (λ _. clearing (keys self.old.slots))) self.new }
         ensures gone_for_good { P.Gen.counting ≡ true → OnOk result
@@ -440,7 +449,7 @@ impl<P: Ptr, T, S: NonZeroInxGenericStack<ArenaSlot<P, T>>> StrictArena<P, T, S>
         ensures refused { OnErr result (self.new ≡ self.old) }
         ensures len { arena_len self.new ≡ arena_len self.old }
         ensures step { (new : List T) × IsStrictStep S.kind P.Gen.counting P.Gen.greatest
-            self.old (compresses new)
+            self.old (to_compress new)
             (calls_if_ok result (λ _. compression (keys self.old.slots) (keys self.new.slots)))
             self.new }
         ensures history { P.Gen.counting ≡ true → Continues Fits self.old
@@ -469,10 +478,14 @@ impl<P: Ptr, T, S: NonZeroInxGenericStack<ArenaSlot<P, T>>> StrictArena<P, T, S>
             (rank self.old (raised_if_any (raise P.Gen.counting P.Gen.greatest) self.old))
             (keys self.old.slots)) }
         ensures values { values self.new.slots ≡ values self.old.slots }
+        ensures found { OnOk result ((q : Pointer) → IsSome (look_up self.old q)
+            → look_up self.new (rank self.old
+            (raised_if_any (raise P.Gen.counting P.Gen.greatest) self.old) q)
+            ≡ look_up self.old q) }
         ensures refused { OnErr result (self.new ≡ self.old) }
         ensures len { arena_len self.new ≡ arena_len self.old }
         ensures step { (new : List T) × IsStrictStep S.kind P.Gen.counting P.Gen.greatest
-            self.old (compresses new)
+            self.old (to_compress new)
             (calls_if_ok result (λ _. compression (keys self.old.slots) (keys self.new.slots)))
             self.new }
         ensures history { P.Gen.counting ≡ true → Continues Fits self.old
@@ -528,7 +541,7 @@ impl<P: Ptr, T, S: NonZeroInxGenericStack<ArenaSlot<P, T>>> StrictArena<P, T, S>
         ensures refused { OnErr result (self.new ≡ self.old) }
         ensures len { arena_len self.new ≡ arena_len self.old }
         ensures step { OnOk result ((new : List T) × IsStrictStep S.kind P.Gen.counting P.Gen.greatest
-            self.old (compresses new)
+            self.old (to_compress new)
             (compression (keys self.old.slots) (keys self.new.slots) ∷ []) self.new) }
         ensures history { P.Gen.counting ≡ true → Continues Fits self.old
             (calls_if_ok result (λ _. compression (keys self.old.slots) (keys self.new.slots)))

@@ -1,8 +1,8 @@
 //! A registry of leases, each under a ticket that is never valid again once its lease has ended.
 
-ghost use Rattle.std.specs.Prelude.{◌≡◌, ◌≢◌, None, Some, IfOk, OnOk, OnErr, option_copied};
+ghost use Rattle.std.specs.Prelude.{◌≡◌, ◌≢◌, ◌<◌, ◌+◌, None, Some, IsOk, IfOk, OnOk, OnErr, option_copied};
 ghost use Rattle.triple_arena_ptr.specs.Pointers.{Pointer};
-ghost use Rattle.triple_arena_traits.specs.ArenaState.{look_up};
+ghost use Rattle.triple_arena_traits.specs.ArenaState.{look_up, arena_len, capacity};
 ghost use Rattle.triple_arena_strict.specs.Gone.{IsGoneForGood};
 ghost use Rattle.triple_arena_strict.specs.Strict.{strict_of};
 ghost use Rattle.triple_arena_uses.specs.Tickets.{numbers, are_used_up};
@@ -41,24 +41,29 @@ impl Model for Leases {
 impl Leases {
     /// A registry without leases.
     pub fn new(alloc: Global) -> Self
-        ensures { (q : Pointer) → look_up result q ≡ None }
+        ensures empty { (q : Pointer) → look_up result q ≡ None }
+        ensures counter { result.counter ≡ 2 }
     {
         Leases {
             leases: StrictArena::new(alloc),
         }
     }
 
-    /// A new lease, and its ticket, which none that has ended was.
+    /// A new lease, and its ticket: no lease had it that has ended, and none has it that has not.
     ///
-    /// Refused where memory is, and where each index has a lease; then nothing changes.
+    /// Refused only where there is no place, and memory is refused or each index has a lease; then
+    /// nothing changes.
     pub fn issue(&mut self, lease: Lease) -> Result<Ticket, ReallocationError>
         ensures found { IfOk result
             (λ ticket. look_up self.new (numbers ticket) ≡ Some lease) }
+        ensures free { IfOk result (λ ticket. look_up self.old (numbers ticket) ≡ None) }
         ensures new { IfOk result
             (λ ticket. (q : Pointer) → IsGoneForGood self.old q → numbers ticket ≢ q) }
         ensures others { IfOk result (λ ticket. (q : Pointer) → q ≢ numbers ticket
             → look_up self.new q ≡ look_up self.old q) }
         ensures stays_gone { (q : Pointer) → IsGoneForGood self.old q → IsGoneForGood self.new q }
+        ensures counter { self.new.counter ≡ self.old.counter }
+        ensures had_place { arena_len self.old < capacity self.old → IsOk result }
         ensures refused { OnErr result (self.new ≡ self.old) }
     {
         self.leases.insert(lease)
@@ -82,6 +87,7 @@ impl Leases {
         ensures others { (q : Pointer) → q ≢ numbers ticket
             → look_up self.new q ≡ look_up self.old q }
         ensures stays_gone { (q : Pointer) → IsGoneForGood self.old q → IsGoneForGood self.new q }
+        ensures counter { OnOk result (self.new.counter ≡ self.old.counter + 1) }
         ensures refused { OnErr result (self.new ≡ self.old) }
     {
         self.leases.remove(ticket)

@@ -37,7 +37,13 @@ const AT_THE_END: &[(Call, Answer)] = &[
 
 #[test]
 fn nothing_ends_at_the_end_of_the_counter(rt: HostRuntime) -> Result<(), Wrong> {
-    on(rt.alloc(), 255, AT_THE_END)
+    let mut nodes = raised_to(rt.alloc(), 255)?;
+    follow(&mut nodes, rt.alloc(), AT_THE_END)?;
+    let text = format!(in rt.alloc(); "{:?}", nodes)?;
+    is_text(
+        text.as_str(),
+        "{B[1](ff): (1, None), B[2](ff): (7, None), B[3](ff): (3, None)}",
+    )
 }
 
 const EMPTY_AT_THE_END: &[(Call, Answer)] = &[
@@ -70,7 +76,7 @@ fn the_counter_comes_before_a_dangling_link(rt: HostRuntime) -> Result<(), Wrong
     on(rt.alloc(), 254, DANGLING_BEFORE_IT)
 }
 
-const LAST_RAISE: &[(Call, Answer)] = &[
+const LAST_COMPRESSION: &[(Call, Answer)] = &[
     (Call::Insert(5), Answer::At(1, 254)),
     (Call::Compress, Answer::Done),
     (Call::Get(1, 255), Answer::Number(5)),
@@ -78,9 +84,42 @@ const LAST_RAISE: &[(Call, Answer)] = &[
     (Call::Compress, Answer::Exhausted),
 ];
 
+// Each other call that raises the counter, for the last time and once more.
+const LAST_RAISES: &[(Call, Answer, Call)] = &[
+    (
+        Call::Remove(1, 254),
+        Answer::Number(5),
+        Call::Remove(2, 254),
+    ),
+    (
+        Call::Invalidate(1, 254),
+        Answer::At(1, 255),
+        Call::Invalidate(1, 255),
+    ),
+    (Call::CompressWith, Answer::Done, Call::CompressWith),
+    (Call::CompressRecast, Answer::Done, Call::CompressRecast),
+];
+
 #[test]
 fn the_last_raise_is_done(rt: HostRuntime) -> Result<(), Wrong> {
-    on(rt.alloc(), 254, LAST_RAISE)
+    on(rt.alloc(), 254, LAST_COMPRESSION)?;
+    for (last, answer, again) in LAST_RAISES {
+        let rows = [
+            (Call::Insert(5), Answer::At(1, 254)),
+            (Call::Insert(6), Answer::At(2, 254)),
+            (*last, *answer),
+            (*again, Answer::Exhausted),
+            (Call::Counter, Answer::Number(255)),
+        ];
+        on(rt.alloc(), 254, &rows)?;
+    }
+    let cleared = [
+        (Call::Insert(5), Answer::At(1, 254)),
+        (Call::Clear, Answer::Done),
+        (Call::Insert(6), Answer::At(1, 255)),
+        (Call::Clear, Answer::Exhausted),
+    ];
+    on(rt.alloc(), 254, &cleared)
 }
 
 const BEFORE_THE_END: &[(Call, Answer)] = &[
@@ -108,14 +147,15 @@ const LINKED: &[(Call, Answer)] = &[
     (Call::Insert(2), Answer::At(2, 2)),
     (Call::InsertLinked(3, 2, 2), Answer::At(3, 2)),
     (Call::Remove(1, 2), Answer::Number(1)),
-    (Call::CompressRecast, Answer::Done),
 ];
 
 #[test]
 fn links_follow_a_compaction(rt: HostRuntime) -> Result<(), Wrong> {
     let mut nodes = Nodes::new(rt.alloc());
     follow(&mut nodes, rt.alloc(), LINKED)?;
-    let text = format!(in rt.alloc(); "{:?}", nodes)?;
+    let map = format!(in rt.alloc(); "{:?}", nodes.compress_recast(rt.alloc()))?;
+    is_text(map.as_str(), "Ok({B[2](2): B[1](4), B[3](2): B[2](4)})")?;
+    let text = format!(in rt.alloc(); "{:?}", nodes.arena())?;
     is_text(
         text.as_str(),
         "{B[1](4): (2, None), B[2](4): (3, Some(B[1](4)))}",
@@ -176,10 +216,6 @@ fn walks_meet_all_entries(rt: HostRuntime) {
         assert!(rt; arena.insert(value).is_ok());
     }
     assert!(rt; met(&arena) == (30, 30, 2));
-    for (_p, value) in arena.iter_mut() {
-        *value = value.saturating_add(1);
-    }
-    assert!(rt; met(&arena) == (32, 32, 2));
 }
 
 #[test]
@@ -200,9 +236,11 @@ fn without_generations_nothing_is_refused(rt: HostRuntime) -> Result<(), Wrong> 
         return Err(Wrong::NoMemory);
     };
     assert!(rt; arena.invalidate(p) == Ok(p));
+    assert!(rt; arena.compress() == Ok(()));
     assert!(rt; arena.remove(p) == Ok(1));
     assert!(rt; arena.remove(p) == Err(StrictError::InvalidPtr));
-    assert!(rt; arena.compress() == Ok(()));
+    let given = arena.insert(2);
+    assert!(rt; given == Ok(p) && arena.clear() == Ok(()) && arena.is_empty());
     Ok(())
 }
 

@@ -37,8 +37,6 @@ pub enum Call {
     CompressRecast,
     Counter,
     Len,
-    Capacity,
-    Reallocate(usize),
 }
 
 /// What a call answers.
@@ -49,7 +47,6 @@ pub enum Answer {
     Is(bool),
     Nothing,
     Done,
-    Refused,
     InvalidPtr,
     Exhausted,
     /// The first link of no node.
@@ -64,7 +61,7 @@ fn told_pointer(p: B) -> Answer {
 fn told_given<E: Drop>(given: Result<B, E>) -> Answer {
     match given {
         Ok(p) => told_pointer(p),
-        Err(_) => Answer::Refused,
+        Err(_) => Answer::NoMemory,
     }
 }
 
@@ -126,13 +123,6 @@ fn set(nodes: &mut Nodes, p: B, to: u64) -> Answer {
     }
 }
 
-fn reallocate(nodes: &mut Nodes, count: usize) -> Answer {
-    match nodes.reallocate_min_capacity(count) {
-        Ok(()) => Answer::Done,
-        Err(_) => Answer::Refused,
-    }
-}
-
 fn insert(nodes: &mut Nodes, call: Call) -> Answer {
     match call {
         Call::Insert(number) => told_given(nodes.insert((number, None))),
@@ -153,7 +143,6 @@ fn tell(nodes: &Nodes, call: Call) -> Answer {
         }
         Call::Counter => Answer::Number(nodes.generation().told_number()),
         Call::Len => Answer::Number(nodes.len() as u64),
-        Call::Capacity => Answer::Number(nodes.capacity() as u64),
         _ => Answer::Nothing,
     }
 }
@@ -181,7 +170,6 @@ pub fn told(nodes: &mut Nodes, alloc: Global, call: Call) -> Answer {
         }
         Call::Clear => told_done(nodes.clear()),
         Call::Compress | Call::CompressWith | Call::CompressRecast => compact(nodes, alloc, call),
-        Call::Reallocate(count) => reallocate(nodes, count),
         _ => tell(nodes, call),
     }
 }

@@ -45,9 +45,6 @@ fn told(alloc: Global) -> Option<([StrictError; 2], [bool; 3])> {
 fn a_ticket_is_never_valid_again(rt: HostRuntime) {
     assert_eq!(rt;
         told(rt.alloc()),
-        Some((
-            [StrictError::InvalidPtr, StrictError::Exhausted],
-            [true; 3]
-        ))
+        Some(([StrictError::InvalidPtr, StrictError::Exhausted], [true; 3]))
     );
 }

@@ -1,24 +1,21 @@
-use Rattle.std.proofs.Common.{[]}
-use Rattle.triple_arena_traits.specs.Histories.{begun_with}
-use Rattle.triple_arena_traits.specs.HistoryLaws.{Fits-empty}
-use Rattle.triple_arena_strict.specs.GoneLaws.{gone-continues}
-use Rattle.triple_arena_strict.specs.StrictLaws.{Continues-strict, Continues-strict_steps, Fits-strict_steps, Continues-each}
+use Rattle.triple_arena_strict.specs.GoneLaws.{up_to-fits, gone-continues, gone-below}
+use Rattle.triple_arena_strict.specs.StrictLaws.{Continues-strict_counting, Continues-strict_steps}
 use Rattle.triple_arena_strict.proofs.laws.strict_calls_are_fresh.Goals as goal
 
 pub returns-clause-call : goal.returns-clause-call
-returns-clause-call g c = Continues-strict
+returns-clause-call g c kind counting greatest s call calls t counts = Continues-strict_counting kind greatest counting counts s call calls t
 
 pub returns-clause-calls : goal.returns-clause-calls
-returns-clause-calls g c = Continues-strict_steps
+returns-clause-calls g c kind counting greatest s steps calls t counts = Continues-strict_steps kind greatest counting counts s steps calls t
 
 pub returns-clause-given_once : goal.returns-clause-given_once
-returns-clause-given_once g c kind greatest s steps calls t none ran = (Fits-strict_steps kind greatest s steps calls t none ran).given_once
+returns-clause-given_once g c kind counting greatest s steps calls t h counts fits ran = (Continues-strict_steps kind greatest counting counts s steps calls t ran h fits).given_once
 
-pub returns-clause-found : goal.returns-clause-found
-returns-clause-found g c kind greatest s steps calls t none ran = (Fits-strict_steps kind greatest s steps calls t none ran).live
+pub returns-clause-live : goal.returns-clause-live
+returns-clause-live g c kind counting greatest s steps calls t h counts fits ran = (Continues-strict_steps kind greatest counting counts s steps calls t ran h fits).live
 
-pub returns-clause-each : goal.returns-clause-each
-returns-clause-each g c s turns none each = Continues-each s turns each (begun_with []) (Fits-empty s none)
+pub returns-clause-stays_gone : goal.returns-clause-stays_gone
+returns-clause-stays_gone g c kind counting greatest s steps calls t h counts fits ran = gone-continues s t (up_to-fits h s fits) calls (Continues-strict_steps kind greatest counting counts s steps calls t ran)
 
-pub returns-clause-gone : goal.returns-clause-gone
-returns-clause-gone g c kind greatest s steps calls t up_to ran = gone-continues s t up_to calls (Continues-strict_steps kind greatest s steps calls t ran)
+pub returns-clause-below : goal.returns-clause-below
+returns-clause-below g c s p none below = gone-below s p none below

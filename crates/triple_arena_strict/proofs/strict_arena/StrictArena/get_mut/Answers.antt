@@ -12,7 +12,7 @@ returns g c = (
     value = rw (← c.self.view_is) c.get_mut.ensures.value;
     writes_back = tt;
     history = rw (← c.self.view_is) c.get_mut.ensures.found;
-    step = λ value. (refl, refl);
+    step = λ live value. (live, refl, refl);
     written = rw (← c.self.view_is) c.get_mut.ensures.fresh;
     stays_gone = rw (← c.self.view_is) (λ counts value. gone-continues c.self.inside.arena _ (c.self.invariant counts) [] (c.get_mut.ensures.fresh value));
   },

@@ -11,6 +11,8 @@ pub mod Program
 pub mod Limits
 pub mod NameStore
 pub mod StoreRuns
+pub mod Strict
+pub mod StrictLaws
 pub mod UnseenLaws
 pub mod PointerNames
 pub mod NameLayout

@@ -1,11 +1,11 @@
 -- The arguments, the words on standard error and the exit status of the program.
-use Rattle.std.specs.Prelude.{ℕ, List, [], ◌∷◌, ◌++◌, Option, None, Some, Result, Ok, Err, Vec, String, string_bytes, map, codes, if◌then◌else◌}
+use Rattle.std.specs.Prelude.{ℕ, Bool, true, false, List, [], ◌∷◌, ◌++◌, Option, None, Some, Result, Ok, Err, Vec, String, string_bytes, map, codes, if◌then◌else◌}
 use Rattle.std.specs.IoError.{error_kind}
 use Rattle.std.specs.declared.io.Error.{Error}
 use Rattle.std.specs.declared.io.ErrorKind.{ErrorKind}
 use Rattle.std.specs.declared.io.ErrorKind.TheVariants.{OutOfMemory}
 use Rattle.std.specs.Str.{bytes_eq}
-use Rattle.std.specs.Option.{option_and_then}
+use Rattle.std.specs.Option.{option_map, option_and_then}
 use Rattle.triple_arena_commands.specs.CommandText.{number_of}
 use Rattle.triple_arena_commands.specs.declared.program.Kind.{Kind}
 use Rattle.triple_arena_commands.specs.declared.program.Kind.TheVariants.{Heap, Limited, Fixed, Array}
@@ -25,20 +25,29 @@ kind_of (word ∷ []) = if bytes_eq word (codes "heap") then Some Heap else (if 
 kind_of (word ∷ number ∷ []) = option_and_then (sized_kind word) (number_of number)
 kind_of words = None
 
--- the kind that words ask for, or that they are wrong
-abbrev pub kind_or_wrong : Option Kind → Result Kind Outcome
-kind_or_wrong (Some kind) = Ok kind
-kind_or_wrong None = Err WrongArguments
+-- whether a session is to be strict, and the kind that these words ask for
+abbrev pub with_kind : Bool → List (List ℕ) → Option (Bool × Kind)
+with_kind strict words = option_map (λ kind. (strict, kind)) (kind_of words)
+
+-- the same of the words after the program's name: the first may ask for a strict session, and the others ask for a kind
+abbrev pub mode_of : List (List ℕ) → Option (Bool × Kind)
+mode_of (word ∷ words) = if bytes_eq word (codes "strict") then with_kind true words else with_kind false (word ∷ words)
+mode_of [] = with_kind false []
+
+-- what words ask for, or that they are wrong
+abbrev pub mode_or_wrong : Option (Bool × Kind) → Result (Bool × Kind) Outcome
+mode_or_wrong (Some mode) = Ok mode
+mode_or_wrong None = Err WrongArguments
 
 -- the outcome where there are no arguments: there was no memory for them, or they are no text
 abbrev pub without_arguments : ErrorKind → Outcome
 without_arguments OutOfMemory = Ran (Err NoMemory)
 without_arguments kind = WrongArguments
 
--- the kind that the arguments ask for, or the outcome where they ask for none
-abbrev pub asked_kind : {A B : Type 0} → Result (Vec (String A) B) Error → Result Kind Outcome
-asked_kind (Ok args) = kind_or_wrong (kind_of (map string_bytes args.items))
-asked_kind (Err e) = Err (without_arguments (error_kind e))
+-- what the arguments ask for, or the outcome where they ask for nothing
+abbrev pub asked_mode : {A B : Type 0} → Result (Vec (String A) B) Error → Result (Bool × Kind) Outcome
+asked_mode (Ok args) = mode_or_wrong (mode_of (map string_bytes args.items))
+asked_mode (Err e) = Err (without_arguments (error_kind e))
 
 -- the exit status.
 abbrev pub status_of : Outcome → ℕ

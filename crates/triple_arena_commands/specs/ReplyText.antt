@@ -3,7 +3,7 @@ use Rattle.std.specs.Prelude.{ℕ, Bool, false, List, [], ◌∷◌, ◌++◌, O
 use Rattle.std.specs.Fmt.{decimal}
 use Rattle.std.specs.List.{flat_map}
 use Rattle.triple_arena_commands.specs.declared.reply.Reply.{Reply}
-use Rattle.triple_arena_commands.specs.declared.reply.Reply.TheVariants.{Given, Full, BeyondMaxCapacity, NoMemory, Found, Nothing, Done, Removed, Invalid, Cleared, Compacted, Unresolved, BadName, Count, Line}
+use Rattle.triple_arena_commands.specs.declared.reply.Reply.TheVariants.{Given, Full, BeyondMaxCapacity, NoMemory, Found, Nothing, Done, Removed, Invalid, Cleared, Compacted, Unresolved, BadName, Count, Line, Exhausted}
 
 -- whether a reply tells that the counter wrapped.
 abbrev pub tells_of_wrap : {X : Type 0} → Reply X → Bool
@@ -37,6 +37,7 @@ reply_text Unresolved = codes "unresolved"
 reply_text BadName = codes "bad name"
 reply_text (Count number) = codes "count " ++ decimal number
 reply_text (Line text) = string_bytes text
+reply_text Exhausted = codes "exhausted"
 
 -- the line of a reply: its text, and a byte 0A.
 abbrev pub reply_line : Reply ℕ → List ℕ

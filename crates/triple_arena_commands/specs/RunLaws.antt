@@ -2,7 +2,7 @@
 use Rattle.std.proofs.Common.{◌≡◌, ◌+◌, ◌<◌, ℕ, zero, suc, true, false, List, [], ◌∷◌, ◌++◌, length, take, get_or, subst, sym, ap, ◌∙◌, refl, inr, arith}
 use Rattle.std.proofs.lemmas.Grind.{take_at_read}
 use Rattle.std.proofs.lemmas.List.{length_push}
-use Rattle.std.proofs.lemmas.List.Elements.{All-push}
+use Rattle.std.proofs.lemmas.List.Elements.{All-push, All-cons}
 use Rattle.triple_arena_commands.specs.declared.reply.Reply.{Reply}
 use Rattle.triple_arena_commands.specs.ReplyText.{tells_of_wrap}
 use Rattle.triple_arena_commands.specs.Runs.{IsRun, TellsOfNoWrap, RunsToWrap}
@@ -35,6 +35,9 @@ module _ {X : Type 0} where
 
   pub TellsOfNoWrap-push : (replies : List (Reply X)) (reply : Reply X) → TellsOfNoWrap replies → tells_of_wrap reply ≡ false → TellsOfNoWrap (replies ++ reply ∷ [])
   TellsOfNoWrap-push replies reply none last = All-push (λ r. tells_of_wrap r ≡ false) replies reply none last
+
+  pub TellsOfNoWrap-first : (reply : Reply X) (replies : List (Reply X)) → tells_of_wrap reply ≡ false → TellsOfNoWrap replies → TellsOfNoWrap (reply ∷ replies)
+  TellsOfNoWrap-first reply replies first rest = All-cons (λ r. tells_of_wrap r ≡ false) reply replies first rest
 
 module _ {S C X : Type 0} (Step : S → C → Reply X → S → Type 0) where
   -- a run that ends with a reply that tells of a wrap

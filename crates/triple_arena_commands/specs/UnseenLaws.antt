@@ -6,8 +6,17 @@ use Rattle.triple_arena_commands.specs.declared.command.Command.{Command}
 use Rattle.triple_arena_commands.specs.declared.command.Command.TheVariants.{Compact, Reserve, Show}
 use Rattle.triple_arena_commands.specs.declared.reply.Reply.{Reply}
 use Rattle.triple_arena_commands.specs.declared.reply.Reply.TheVariants.{NoMemory, Given, Removed, Cleared, Compacted}
+use Rattle.triple_arena_commands.specs.ReplyText.{tells_of_wrap}
 use Rattle.triple_arena_commands.specs.NameStore.{Store, store_answer, IsStoreStep}
 use Rattle.triple_arena_commands.specs.StoreRuns.{is_named, is_compact, is_no_memory, without_wrap, AnswersAsStore, ample, erase, seen}
+
+-- a reply that tells of no wrap has no bool, or one that is false
+pub without_wrap-quiet : {X : Type 0} (reply : Reply X) → tells_of_wrap reply ≡ false → without_wrap reply ≡ reply
+without_wrap-quiet (Given name wrapped) quiet = ap (Given name) (sym quiet)
+without_wrap-quiet (Removed datum link wrapped) quiet = ap (Removed datum link) (sym quiet)
+without_wrap-quiet (Cleared wrapped) quiet = ap Cleared (sym quiet)
+without_wrap-quiet (Compacted wrapped) quiet = ap Compacted (sym quiet)
+without_wrap-quiet reply quiet = refl
 
 module _ {X : Type 0} where
   plain_memory : (reply : Reply X) → is_no_memory (without_wrap reply) ≡ is_no_memory reply

@@ -17,6 +17,6 @@ pub use input::read_text;
 pub use lines::split_first;
 pub use name_table::NameTable;
 pub use output::{flush_after, write_reply};
-pub use program::{Kind, Outcome, asked_kind, parse_args, status};
+pub use program::{Kind, Outcome, asked_mode, parse_args, parse_mode, status};
 pub use reply::Reply;
 pub use text_error::TextError;

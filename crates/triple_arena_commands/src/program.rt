@@ -1,7 +1,7 @@
 //! The arguments, the words on standard error and the exit status of the program.
 
 ghost use Rattle.std.specs.Prelude.{◌≡◌, map, Some, string_bytes};
-ghost use Rattle.triple_arena_commands.specs.Program.{kind_of, sized_kind, asked_kind, status_of, message_of};
+ghost use Rattle.triple_arena_commands.specs.Program.{kind_of, sized_kind, mode_of, asked_mode, status_of, message_of};
 
 use crate::command::parse_number;
 use crate::text_error::TextError;
@@ -31,14 +31,14 @@ pub enum Outcome {
     Ran(Result<(), TextError>),
 }
 
-/// The kind that the program's arguments ask for, those after its name: the one that their words
-/// ask for, as `parse_args` reads them. Arguments that are no text are wrong, and no memory for
-/// them is `NoMemory`.
-pub fn asked_kind(args: &io::Result<Vec<String>>) -> Result<Kind, Outcome>
-    ensures { result ≡ asked_kind args.now }
+/// Whether the program's arguments, those after its name, ask for a strict session, and the kind that
+/// they ask for, as `parse_mode` reads their words. Arguments that are no text are wrong, and no
+/// memory for them is `NoMemory`.
+pub fn asked_mode(args: &io::Result<Vec<String>>) -> Result<(bool, Kind), Outcome>
+    ensures { result ≡ asked_mode args.now }
 {
     match args {
-        Ok(args) => kind_of_args(args.as_slice()).ok_or(Outcome::WrongArguments),
+        Ok(args) => mode_of_args(args.as_slice()).ok_or(Outcome::WrongArguments),
         Err(e) => match e.kind() {
             ErrorKind::OutOfMemory => Err(Outcome::Ran(Err(TextError::NoMemory))),
             _ => Err(Outcome::WrongArguments),
@@ -46,13 +46,14 @@ pub fn asked_kind(args: &io::Result<Vec<String>>) -> Result<Kind, Outcome>
     }
 }
 
-fn kind_of_args(args: &[String]) -> Option<Kind>
-    ensures { result ≡ kind_of (map string_bytes args.now) }
+fn mode_of_args(args: &[String]) -> Option<(bool, Kind)>
+    ensures { result ≡ mode_of (map string_bytes args.now) }
 {
     match args {
-        [] => parse_args(&[]),
-        [word] => parse_args(&[word.as_str()]),
-        [word, number] => parse_args(&[word.as_str(), number.as_str()]),
+        [] => parse_mode(&[]),
+        [word] => parse_mode(&[word.as_str()]),
+        [word, number] => parse_mode(&[word.as_str(), number.as_str()]),
+        [mode, word, number] => parse_mode(&[mode.as_str(), word.as_str(), number.as_str()]),
         _ => None,
     }
 }
@@ -69,6 +70,18 @@ pub fn parse_args(words: &[&str]) -> Option<Kind>
         [word] if *word == "array" => Some(Kind::Array),
         [word, number] => sized_kind(word, parse_number(number.as_bytes())? as usize),
         _ => None,
+    }
+}
+
+/// Whether the words after the program's name ask for a strict session, which `strict` does as the
+/// first of them, and the kind that the others ask for, as `parse_args` reads them. `None` exactly
+/// where these are wrong.
+pub fn parse_mode(words: &[&str]) -> Option<(bool, Kind)>
+    ensures { result ≡ mode_of (map (λ word. word.now) words.now) }
+{
+    match words {
+        [word, rest @ ..] if *word == "strict" => Some((true, parse_args(rest)?)),
+        _ => Some((false, parse_args(words)?)),
     }
 }
 

@@ -39,6 +39,9 @@ pub enum Reply<X> {
     Count(usize),
     /// The arena as text.
     Line(String),
+    /// The counter stands at the greatest generation, and what was asked for would raise it. Nothing has
+    /// changed. Strict sessions alone answer so.
+    Exhausted,
 }
 
 impl<X> Reply<X> {
@@ -94,6 +97,7 @@ impl fmt::Display for Reply<u64> {
             Reply::BadName => f.write_str("bad name"),
             Reply::Count(number) => write!(f, "count {number}"),
             Reply::Line(text) => f.write_str(text.as_str()),
+            Reply::Exhausted => f.write_str("exhausted"),
         }
     }
 }

@@ -13,3 +13,6 @@ mod Dangling
 mod StoreLaws
 mod StoreRunLaws
 mod StoreTextLaws
+mod StrictSteps
+mod StrictLaws
+mod StrictTextLaws

@@ -1,6 +1,7 @@
 -- The end of a line, after the lines before it.
-use Rattle.std.proofs.Common.{◌≡◌, ℕ, ◌+◌, ◌-◌, true, List, [], ◌∷◌, ◌++◌, Option, take, drop, sym, refl, subst, arith}
+use Rattle.std.proofs.Common.{◌≡◌, ℕ, ◌+◌, ◌-◌, true, List, [], ◌∷◌, ◌++◌, Option, length, take, drop, sym, refl, subst, arith}
 use Rattle.std.proofs.lemmas.Bool.Decides.{nat_tests}
+use Rattle.std.proofs.KnownBytes.{Appends-nil}
 use Rattle.triple_arena_commands.specs.declared.command.Command.{Command}
 use Rattle.triple_arena_commands.specs.declared.reply.Reply.{Reply}
 use Rattle.triple_arena_commands.specs.Lines.{has_bytes}
@@ -13,6 +14,10 @@ use Rattle.triple_arena_session.specs.declared.text.LineEnd.TheVariants.{Answere
 use Rattle.triple_arena_session.specs.LineRun.{RunsCommand, CommandEnds, LineEnds}
 
 module _ {S : Type 0} (Step : S → Command ℕ → Reply ℕ → S → Type 0) where
+  -- a line of no bytes is passed over
+  pub AnswersLines-empty : (s : S) (line : List ℕ) (a : Option (List ℕ)) → length line ≡ 0 → AnswersLines Step (line ∷ []) s s a a
+  AnswersLines-empty s line a empty = ([], ([], grind (arith, nat_tests, empty), refl), TellsOfNoWrap-nil, Appends-nil a)
+
   RunsLines-one : (s t : S) (line : List ℕ) (reply : Reply ℕ) → has_bytes line ≡ true → RunsCommand Step line reply s t → RunsLines Step (line ∷ []) (reply ∷ []) s t
   RunsLines-one s t line reply some ran = (ran.0 ∷ [], grind (arith, nat_tests, some, ran.1), (t, ran.2, refl))
 

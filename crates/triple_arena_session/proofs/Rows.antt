@@ -29,7 +29,7 @@ pub some_has : {A : Type 0} (o : Option A) → is_some o ≡ true → (x : A) ×
 some_has None e = absurd (true≢false (sym e))
 some_has (Some x) e = (x, refl)
 
-is_some-map : {A B : Type 0} (f : A → B) (o : Option A) → is_some (option_map f o) ≡ is_some o
+pub is_some-map : {A B : Type 0} (f : A → B) (o : Option A) → is_some (option_map f o) ≡ is_some o
 is_some-map f None = refl
 is_some-map f (Some x) = refl
 

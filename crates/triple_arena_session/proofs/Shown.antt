@@ -270,9 +270,9 @@ module _ {X P : Type 0} (pointer : P → Pointer) (arena : ArenaState (Node X P)
   table_wants new_table new_room full table_is room_is = (sym length-shown ∙ full ∙ ap (λ t. t.table_room) shows, rw (table_is, room_is) shows)
 
   -- another value under a pointer
-  pub value_set : (i : ℕ) (node : Node X P) (new_table : List P) (new_room : ℕ) → new_table ≡ table → new_room ≡ room → ◌≡◌ {A = Reply X × SessionState X} (Done, session_of pointer (with_value arena i node) new_table new_room) (Done, record s { arena = with_value s.arena i (node_of pointer node) })
-  value_set i node new_table new_room table_is room_is =
-      rw (table_is, room_is) (with_state Done (arena_changed (λ a. with_value a i (node_of pointer node)) (with_value arena i node) (with_value-mapped (node_of pointer) arena i node)))
+  pub value_set : (i : ℕ) (node : Node X P) (new_arena : ArenaState (Node X P)) (new_table : List P) (new_room : ℕ) → new_arena ≡ with_value arena i node → new_table ≡ table → new_room ≡ room → ◌≡◌ {A = Reply X × SessionState X} (Done, session_of pointer new_arena new_table new_room) (Done, record s { arena = with_value s.arena i (node_of pointer node) })
+  value_set i node new_arena new_table new_room arena_is table_is room_is =
+      rw (table_is, room_is) (with_state Done (arena_changed (λ a. with_value a i (node_of pointer node)) new_arena (ap (map_values (node_of pointer)) arena_is ∙ with_value-mapped (node_of pointer) arena i node)))
 
   module _ (kind : StackKind) (counting : Bool) (greatest : ℕ) where
     counter-shown : arena.counter ≡ s.arena.counter

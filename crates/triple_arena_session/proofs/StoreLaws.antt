@@ -20,6 +20,7 @@ use Rattle.triple_arena_commands.specs.declared.reply.Reply.TheVariants.{Given, 
 use Rattle.triple_arena_commands.specs.ReplyText.{tells_of_wrap}
 use Rattle.triple_arena_commands.specs.NameStore.{Store, row_dangles, store_answer, ReservesRows, RowWantsMemory, IsStoreStep}
 use Rattle.triple_arena_commands.specs.StoreRuns.{without_wrap}
+use Rattle.triple_arena_commands.specs.UnseenLaws.{without_wrap-quiet}
 use Rattle.triple_arena_session.specs.SessionState.{SessionState, new_session, named}
 use Rattle.triple_arena_session.specs.Compaction.{relinked, any_dangles, compacted}
 use Rattle.triple_arena_session.specs.SessionRun.{refused_reply, show_reply, shown_text, wraps_if_any, with_room_for_name, reserve_answer, answer, WantsMemory, IsStep}
@@ -33,14 +34,6 @@ use Rattle.triple_arena_session.proofs.Reserving.{Reserved, reserved_answer, res
 use Rattle.triple_arena_session.proofs.Compacting.{shown-compacted, SoundOver-compacted}
 use Rattle.triple_arena_session.proofs.Dangling.{dangling}
 use Rattle.triple_arena_session.proofs.Soundness.{SoundOver}
-
--- a reply that tells of no wrap has no bool, or one that is false
-pub without_wrap-quiet : {X : Type 0} (reply : Reply X) → tells_of_wrap reply ≡ false → without_wrap reply ≡ reply
-without_wrap-quiet (Given name wrapped) quiet = ap (Given name) (sym quiet)
-without_wrap-quiet (Removed datum link wrapped) quiet = ap (Removed datum link) (sym quiet)
-without_wrap-quiet (Cleared wrapped) quiet = ap Cleared (sym quiet)
-without_wrap-quiet (Compacted wrapped) quiet = ap Compacted (sym quiet)
-without_wrap-quiet reply quiet = refl
 
 -- the commands that the store answers in one way, memory aside
 abbrev pub has_answer : {X : Type 0} → Command X → Bool
@@ -201,18 +194,19 @@ module _ {X : Type 0} (kind : StackKind) (counting : Bool) (greatest : ℕ) (cou
       by (Some t) = quiet_step kind s Show (show_reply (Some t)) s refl (tt, refl) sound (unmoved kind s.arena)
   answer_steps s command sound = from_agreement kind s command (answer kind counting greatest text s command) refl (agree s command sound refl)
 
-module _ {X : Type 0} (kind : StackKind) (has_memory : ℕ → Type 0) (counting : Bool) (greatest : ℕ) (counts : counting ≡ true) where
+module _ {X : Type 0} (kind : StackKind) (has_memory : ℕ → Type 0) (counting : Bool) (greatest : ℕ) where
   -- a step is the answer, or a refusal for want of memory
-  step_cases : (s : SessionState X) (command : Command X) (reply : Reply X) (t : SessionState X) → IsStep kind has_memory counting greatest s command reply t
+  pub step_cases : (s : SessionState X) (command : Command X) (reply : Reply X) (t : SessionState X) → IsStep kind has_memory counting greatest s command reply t
       → ((reply, t) ≡ answer kind counting greatest (shown_text reply) s command) ⊎ ((reply ≡ NoMemory) × WantsMemory kind has_memory s command t)
   step_cases s command NoMemory t (inl is) = inl is
   step_cases s command NoMemory t (inr wants) = inr (refl, wants)
   step_cases s command reply t is = inl is
 
+module _ {X : Type 0} (kind : StackKind) (has_memory : ℕ → Type 0) (counting : Bool) (greatest : ℕ) (counts : counting ≡ true) where
   -- each step of a sound session is one of the store that it shows
   pub StepIsStores : (s : SessionState X) (command : Command X) (reply : Reply X) (t : SessionState X) → SoundOver kind s → IsStep kind has_memory counting greatest s command reply t → StepsAsStore kind s command reply t
   StepIsStores s command reply t sound step =
-      elim (step_cases s command reply t step) [
+      elim (step_cases kind has_memory counting greatest s command reply t step) [
         | inl is ↦
             let text = shown_text reply in
             subst (λ (a : Reply X × SessionState X). StepsAsStore kind s command a.0 a.1) (sym is) (answer_steps kind counting greatest counts text s command sound)

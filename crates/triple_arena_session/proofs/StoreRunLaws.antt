@@ -12,14 +12,30 @@ use Rattle.triple_arena_commands.specs.ReplyText.{tells_of_wrap}
 use Rattle.triple_arena_commands.specs.NameStore.{Store, IsStoreStep}
 use Rattle.triple_arena_commands.specs.Runs.{IsRun, TellsOfNoWrap, EndsInWrap, RunsToWrap}
 use Rattle.triple_arena_commands.specs.StoreRuns.{is_named, is_no_memory, AnswersAsStore, ample, erase, seen}
-use Rattle.triple_arena_commands.specs.UnseenLaws.{CompactionIsUnseen}
+use Rattle.triple_arena_commands.specs.UnseenLaws.{without_wrap-quiet, CompactionIsUnseen}
 use Rattle.triple_arena_session.specs.SessionState.{SessionState}
 use Rattle.triple_arena_session.specs.SessionRun.{IsStep}
 use Rattle.triple_arena_session.specs.Shown.{shown}
 use Rattle.triple_arena_session.specs.SessionCalls.{calls_of, calls_in, KeepsHistories}
 use Rattle.triple_arena_session.proofs.StoreSteps.{unmoved}
-use Rattle.triple_arena_session.proofs.StoreLaws.{without_wrap-quiet, StepIsStores}
+use Rattle.triple_arena_session.proofs.StoreLaws.{StepIsStores}
 use Rattle.triple_arena_session.proofs.Soundness.{SoundOver}
+
+-- where no reply tells of a wrap, all commands ran
+module _ {X : Type 0} where
+  quiet_last : (before : List (Reply X)) (last : Reply X) → TellsOfNoWrap (before ++ last ∷ []) → tells_of_wrap last ≡ false
+  quiet_last [] last told = All-head (λ r. tells_of_wrap r ≡ false) last [] told
+  quiet_last (r ∷ before) last told = quiet_last before last (All-tail (λ r. tells_of_wrap r ≡ false) r (before ++ last ∷ []) told)
+
+  pub quiet_ends : (replies : List (Reply X)) → TellsOfNoWrap replies → EndsInWrap replies → ⊥
+  quiet_ends replies quiet ends = true≢false (sym ends.4 ∙ quiet_last ends.0 ends.1 (subst TellsOfNoWrap ends.2 quiet))
+
+  pub count_if_quiet : {C : Type 0} (commands : List C) (replies : List (Reply X)) → TellsOfNoWrap replies → (TellsOfNoWrap replies × (length replies ≡ length commands)) ⊎ EndsInWrap replies → length replies ≡ length commands
+  count_if_quiet commands replies quiet (inl all) = all.1
+  count_if_quiet commands replies quiet (inr ends) = absurd (quiet_ends replies quiet ends)
+
+  pub whole_if_quiet : {C : Type 0} (commands : List C) (replies : List (Reply X)) → TellsOfNoWrap replies → (TellsOfNoWrap replies × (length replies ≡ length commands)) ⊎ EndsInWrap replies → take (length replies) commands ≡ commands
+  whole_if_quiet commands replies quiet ran = take_all (length replies) commands (omega (arith, count_if_quiet commands replies quiet ran))
 
 module _ {X : Type 0} (kind : StackKind) (has_memory : ℕ → Type 0) (counting : Bool) (greatest : ℕ) (counts : counting ≡ true) where
   abbrev pub Step : SessionState X → Command X → Reply X → SessionState X → Type 0
@@ -95,12 +111,4 @@ module _ {X : Type 0} (kind : StackKind) (has_memory : ℕ → Type 0) (counting
       → IsRun IsStoreStep (shown s) commands replies (shown t) × SoundOver kind t
   RunIsStores s commands replies t sound ran quiet =
       let stores = QuietRunIsStores s (take (length replies) commands) replies t sound ran.0 quiet in
-      (subst (λ cs. IsRun IsStoreStep (shown s) cs replies (shown t)) (whole ran.1) stores.0, stores.1)
-    where
-      quiet_last : (before : List (Reply X)) (last : Reply X) → TellsOfNoWrap (before ++ last ∷ []) → tells_of_wrap last ≡ false
-      quiet_last [] last told = All-head (λ r. tells_of_wrap r ≡ false) last [] told
-      quiet_last (r ∷ before) last told = quiet_last before last (All-tail (λ r. tells_of_wrap r ≡ false) r (before ++ last ∷ []) told)
-
-      whole : (TellsOfNoWrap replies × (length replies ≡ length commands)) ⊎ EndsInWrap replies → take (length replies) commands ≡ commands
-      whole (inl all) = take_all (length replies) commands (omega (arith, all.1))
-      whole (inr ends) = absurd (true≢false (sym ends.4 ∙ quiet_last ends.0 ends.1 (subst TellsOfNoWrap ends.2 quiet)))
+      (subst (λ cs. IsRun IsStoreStep (shown s) cs replies (shown t)) (whole_if_quiet commands replies quiet ran.1) stores.0, stores.1)

@@ -8,8 +8,6 @@ use Rattle.triple_arena_commands.specs.declared.command.Command.{Command}
 use Rattle.triple_arena_commands.specs.declared.reply.Reply.{Reply}
 use Rattle.triple_arena_commands.specs.declared.program.Kind.{Kind}
 use Rattle.triple_arena_commands.specs.declared.program.Kind.TheVariants.{Heap, Limited, Fixed, Array}
-use Rattle.triple_arena_commands.specs.declared.program.Outcome.{Outcome}
-use Rattle.triple_arena_commands.specs.declared.program.Outcome.TheVariants.{WrongArguments, Ran}
 use Rattle.triple_arena_commands.specs.declared.text_error.TextError.{TextError}
 use Rattle.triple_arena_commands.specs.declared.text_error.TextError.TheVariants.{Malformed, Read, Write, NoMemory}
 use Rattle.triple_arena_commands.specs.Lines.{lines_of}
@@ -21,9 +19,8 @@ use Rattle.triple_arena_commands.specs.UnseenLaws.{CompactionIsUnseen}
 use Rattle.triple_arena_session.specs.SessionState.{SessionState}
 use Rattle.triple_arena_session.specs.SessionRun.{IsStep}
 use Rattle.triple_arena_session.specs.KindRun.{greatest, first_session, RunsOver, RunsKind}
-use Rattle.triple_arena_session.specs.ProgramRun.{RunsProgram}
 use Rattle.triple_arena_session.specs.Shown.{shown, IsSound}
-use Rattle.triple_arena_session.specs.StoreText.{WritesAsStore, IsStoreText, BringsStore, LeavesStore, first_store, AnswersProgram}
+use Rattle.triple_arena_session.specs.StoreText.{WritesAsStore, IsStoreText, BringsStore, LeavesStore, first_store}
 use Rattle.triple_arena_session.proofs.StoreLaws.{SoundOver-new}
 use Rattle.triple_arena_session.proofs.StoreRunLaws.{QuietRunIsStores, answers}
 use Rattle.triple_arena_session.proofs.Soundness.{SoundOver}
@@ -100,12 +97,3 @@ RunsKindAsStore Heap text outcome old new ran = over_kind heap (λ _. ⊥) 0 Non
 RunsKindAsStore (Limited n) text outcome old new ran = over_kind limited (λ _. ⊥) n (Some n) text outcome old new (n, refl) ran
 RunsKindAsStore (Fixed n) text outcome old new ran = over_kind fixed (λ _. ⊥) n (Some n) text outcome old new refl ran
 RunsKindAsStore Array text outcome old new ran = over_kind (array 8) (λ _. Unit {0}) 8 (Some 8) text outcome old new (refl, refl) ran
-
--- the program's arguments, input and output
-pub RunsProgramAsStore : {W : Type 0} (contents : W → Option (List ℕ)) (kind : Result Kind Outcome) (text : Option (List ℕ)) (outcome : Outcome) (old : W) (new : Option W) → RunsProgram contents kind text outcome old new → AnswersProgram contents kind text outcome old new
-RunsProgramAsStore contents (Ok kind) text (Ran answer) old (Some new) ran =
-    let same : answer ≡ ran.0 = cc in
-    subst (λ a. IsStoreText (first_store kind) text a (contents old) (contents new)) (sym same) (RunsKindAsStore kind text ran.0 (contents old) (contents new) ran.2)
-RunsProgramAsStore contents (Ok kind) text (Ran answer) old None ran = tt
-RunsProgramAsStore contents (Ok kind) text WrongArguments old new ran = tt
-RunsProgramAsStore contents (Err why) text outcome old new ran = tt

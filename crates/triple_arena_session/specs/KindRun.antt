@@ -1,5 +1,5 @@
 -- What the program runs: a text, in a new session over the stack that was asked for.
-use Rattle.std.specs.Prelude.{ℕ, ◌^◌, ◌-◌, true, List, Option, None, Some, Result}
+use Rattle.std.specs.Prelude.{ℕ, ◌^◌, ◌-◌, Bool, true, false, List, Option, None, Some, Result}
 use Rattle.triple_arena_ptr.specs.Numbers.{greatest_index, first_generation}
 use Rattle.triple_arena_stack.specs.StackKind.{StackKind, heap, limited, fixed, array}
 use Rattle.triple_arena_traits.specs.ArenaState.{new_arena}
@@ -9,6 +9,8 @@ use Rattle.triple_arena_commands.specs.declared.program.Kind.TheVariants.{Heap, 
 use Rattle.triple_arena_commands.specs.declared.text_error.TextError.{TextError}
 use Rattle.triple_arena_session.specs.SessionState.{SessionState, new_session}
 use Rattle.triple_arena_session.specs.SessionRun.{IsStep}
+use Rattle.triple_arena_session.specs.Strict.{IsStrictStep}
+use Rattle.triple_arena_session.specs.StrictText.{IsWholeFlushedRun}
 
 -- the greatest number of an index of P0, and of a generation
 abbrev pub greatest : ℕ
@@ -22,9 +24,25 @@ first_session room limit = new_session (new_arena room limit (greatest_index gre
 abbrev pub RunsOver : StackKind → (ℕ → Type 0) → SessionState ℕ → Option (List ℕ) → Result (Unit {0}) TextError → Option (List ℕ) → Option (List ℕ) → Type 0
 RunsOver kind has_memory first text outcome old new = (last : SessionState ℕ) × IsFlushedRun (IsStep kind has_memory true greatest) text outcome first last old new
 
--- the text ran in the session that the program's arguments ask for
+-- the text ran in the session over the stack that the program's arguments ask for
 abbrev pub RunsKind : Kind → Option (List ℕ) → Result (Unit {0}) TextError → Option (List ℕ) → Option (List ℕ) → Type 0
 RunsKind Heap = RunsOver heap (λ _. ⊥) (first_session 0 None)
 RunsKind (Limited n) = RunsOver limited (λ _. ⊥) (first_session n (Some n))
 RunsKind (Fixed n) = RunsOver fixed (λ _. ⊥) (first_session n (Some n))
 RunsKind Array = RunsOver (array 8) (λ _. Unit {0}) (first_session 8 (Some 8))
+
+-- the same of a strict session, whose run no wrap ends
+abbrev pub RunsStrictlyOver : StackKind → (ℕ → Type 0) → SessionState ℕ → Option (List ℕ) → Result (Unit {0}) TextError → Option (List ℕ) → Option (List ℕ) → Type 0
+RunsStrictlyOver kind has_memory first text outcome old new = (last : SessionState ℕ) × IsWholeFlushedRun (IsStrictStep kind has_memory true greatest) text outcome first last old new
+
+-- the text ran in the strict session over the stack that the program's arguments ask for
+abbrev pub RunsKindStrictly : Kind → Option (List ℕ) → Result (Unit {0}) TextError → Option (List ℕ) → Option (List ℕ) → Type 0
+RunsKindStrictly Heap = RunsStrictlyOver heap (λ _. ⊥) (first_session 0 None)
+RunsKindStrictly (Limited n) = RunsStrictlyOver limited (λ _. ⊥) (first_session n (Some n))
+RunsKindStrictly (Fixed n) = RunsStrictlyOver fixed (λ _. ⊥) (first_session n (Some n))
+RunsKindStrictly Array = RunsStrictlyOver (array 8) (λ _. Unit {0}) (first_session 8 (Some 8))
+
+-- the text ran in the session that the program's arguments ask for, a strict one or not
+abbrev pub RunsMode : Bool × Kind → Option (List ℕ) → Result (Unit {0}) TextError → Option (List ℕ) → Option (List ℕ) → Type 0
+RunsMode (false, kind) = RunsKind kind
+RunsMode (true, kind) = RunsKindStrictly kind

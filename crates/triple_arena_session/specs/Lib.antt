@@ -6,6 +6,8 @@ pub mod LineRun
 pub mod KindRun
 pub mod ProgramRun
 pub mod Shown
+pub mod Strict
+pub mod StrictText
 pub mod SessionCalls
 pub mod StoreText
 pub mod ElevenCommands

@@ -45,3 +45,7 @@ module _ {X : Type 0} where
   abbrev pub KeepsHistories : (Step : SessionState X → Command X → Reply X → SessionState X → Type 0) → SessionState X → List (Command X) → List (Reply X) → SessionState X → Type 0
   KeepsHistories Step s commands replies t =
       (ran : IsRun Step s commands replies t) → TellsOfNoWrap replies → Continues Fits s.arena (calls_in Step s commands replies t ran) t.arena
+
+  -- commands ran with these replies, and the model calls take each history that fits the arena to one that fits
+  abbrev pub RunsFreshly : (Step : SessionState X → Command X → Reply X → SessionState X → Type 0) → SessionState X → List (Command X) → List (Reply X) → SessionState X → Type 0
+  RunsFreshly Step s commands replies t = (ran : IsRun Step s commands replies t) × Continues Fits s.arena (calls_in Step s commands replies t ran) t.arena

@@ -1,5 +1,5 @@
 -- What is written for a text that is answered as by a store of names.
-use Rattle.std.specs.Prelude.{◌≡◌, ℕ, ◌-◌, true, false, List, Option, Some, None, Result, Ok, Err, IfSome, take, ◌⊎◌}
+use Rattle.std.specs.Prelude.{◌≡◌, ℕ, ◌-◌, Bool, true, false, List, Option, Some, None, Result, Ok, Err, IfSome, take, ◌⊎◌}
 use Rattle.std.specs.List.{list_all, list_any}
 use Rattle.std.specs.Io.KnownBytes.{Appends}
 use Rattle.triple_arena_commands.specs.declared.command.Command.{Command}
@@ -16,7 +16,9 @@ use Rattle.triple_arena_commands.specs.Runs.{IsRun, TellsOfNoWrap, EndsInWrap}
 use Rattle.triple_arena_commands.specs.TextRun.{StandFor, IsMalformed}
 use Rattle.triple_arena_commands.specs.NameStore.{Store, new_store, IsStoreStep}
 use Rattle.triple_arena_commands.specs.StoreRuns.{is_named, is_no_memory, AnswersAsStore, ample, erase, seen}
+use Rattle.triple_arena_commands.specs.Strict.{StrictStore}
 use Rattle.triple_arena_session.specs.KindRun.{greatest}
+use Rattle.triple_arena_session.specs.StrictText.{IsStrictStoreText}
 
 -- these lines stand for commands that were answered as by the store, and the reply lines were written. If all of them are
 -- named commands, and no reply is NoMemory, then the replies, but for those to compactions and with their bools read as
@@ -62,8 +64,15 @@ first_store (Limited n) = new_store n (Some n) greatest
 first_store (Fixed n) = new_store n (Some n) greatest
 first_store Array = new_store 8 (Some 8) greatest
 
--- of the kind that the program's arguments ask for, and of its writer before and after: where a kind was asked for and the
--- writer is given back, the text was answered as by the store of this kind
-abbrev pub AnswersProgram : {W : Type 0} → (W → Option (List ℕ)) → Result Kind Outcome → Option (List ℕ) → Outcome → W → Option W → Type 0
-AnswersProgram contents (Ok kind) text (Ran answer) old (Some new) = IsStoreText (first_store kind) text answer (contents old) (contents new)
-AnswersProgram contents kind text outcome old new = Unit {0}
+-- the strict store that a new strict session shows there: its counter begins at 2
+abbrev pub first_strict_store : Kind → StrictStore ℕ
+first_strict_store kind = record { store = first_store kind; left = greatest - 2 }
+
+-- of what the program's arguments ask for, whether a session is to be strict and its kind, and of its writer before and
+-- after: where a session was asked for and the writer is given back, the text was answered as by the store of this kind, or
+-- by the strict one
+abbrev pub AnswersProgram : {W : Type 0} → (W → Option (List ℕ)) → Result (Bool × Kind) Outcome → Option (List ℕ) → Outcome → W → Option W → Type 0
+AnswersProgram contents (Ok (false, kind)) text (Ran answer) old (Some new) = IsStoreText (first_store kind) text answer (contents old) (contents new)
+AnswersProgram contents (Ok (true, kind)) text (Ran answer) old (Some new) =
+    (after : StrictStore ℕ) × IsStrictStoreText (first_strict_store kind) after text answer (contents old) (contents new)
+AnswersProgram contents mode text outcome old new = Unit {0}

@@ -1,17 +1,23 @@
 //! What holds of sessions, with the laws of lines, commands and stores of names. Each law is the contract
 //! of a function with an empty body.
 
-ghost use Rattle.std.specs.Prelude.{◌≡◌, None, true, false};
-ghost use Rattle.triple_arena_traits.specs.Histories.{Continues, Fits};
+ghost use Rattle.std.specs.Prelude.{◌≡◌, ◌≤◌, List, [], None, true, false};
+ghost use Rattle.std.specs.List.{list_all, list_any};
+ghost use Rattle.triple_arena_traits.specs.ArenaState.{arena_len};
+ghost use Rattle.triple_arena_traits.specs.Histories.{AreDistinct, begun_with, given, followed_by, Continues, Fits};
 ghost use Rattle.triple_arena_commands.specs.declared.command.Command.{Command};
 ghost use Rattle.triple_arena_commands.specs.declared.reply.Reply.{Reply};
+ghost use Rattle.triple_arena_commands.specs.declared.reply.Reply.TheVariants.{Exhausted};
 ghost use Rattle.triple_arena_commands.specs.ReplyText.{tells_of_wrap};
+ghost use Rattle.triple_arena_commands.specs.Runs.{IsRun, TellsOfNoWrap};
 ghost use Rattle.triple_arena_commands.specs.NameStore.{Store, new_store, IsStoreStep};
-ghost use Rattle.triple_arena_commands.specs.StoreRuns.{without_wrap, ample, erase, seen};
+ghost use Rattle.triple_arena_commands.specs.StoreRuns.{is_named, is_no_memory, without_wrap, ample, erase, seen};
+ghost use Rattle.triple_arena_commands.specs.Strict.{is_exhausted, IsStrictStoreStep};
 ghost use Rattle.triple_arena_session.specs.SessionState.{SessionState};
 ghost use Rattle.triple_arena_session.specs.SessionRun.{IsStep};
-ghost use Rattle.triple_arena_session.specs.SessionCalls.{calls_of};
+ghost use Rattle.triple_arena_session.specs.SessionCalls.{calls_of, calls_in};
 ghost use Rattle.triple_arena_session.specs.Shown.{shown, IsSound, IsArenaOver};
+ghost use Rattle.triple_arena_session.specs.Strict.{IsStrictStep, strictly_shown};
 ghost use Rattle.triple_arena_session.specs.KindRun.{greatest, first_session};
 ghost use Rattle.triple_arena_session.specs.ElevenCommands.{eleven_commands, eleven_replies, nine_replies, model_replies};
 
@@ -19,6 +25,7 @@ use crate::node::Node;
 use triple_arena::ArenaSlot;
 pub use triple_arena_commands::laws::{
     compaction_is_unseen, forms_are_exact, lines_are_exact, names_are_new, store_is_exact,
+    strict_compaction_is_unseen, strict_store_is_exact,
 };
 use triple_arena_ptr::Ptr;
 use triple_arena_stack::NonZeroInxGenericStack;
@@ -26,7 +33,7 @@ use triple_arena_stack::NonZeroInxGenericStack;
 /// A step of a session is one of the store that it shows, where the generation counts, the session is
 /// sound, its arena is as every arena over the stack is, and the reply tells of no wrap. All this holds
 /// after it too, and the calls on the arena take each history that fits it to one that fits. Where the
-/// reply tells of a wrap, it is the store's, its bool aside.
+/// reply tells of a wrap, it is the store's, its bool aside. No reply is `Exhausted`.
 pub fn session_steps_as_store<P: Ptr, X, S: NonZeroInxGenericStack<ArenaSlot<P, Node<X, P>>>>()
     ensures store { P.Gen.counting ≡ true → (s t : SessionState X) (command : Command X) (reply : Reply X)
         → IsArenaOver S.kind s.arena → IsSound s
@@ -45,6 +52,79 @@ pub fn session_steps_as_store<P: Ptr, X, S: NonZeroInxGenericStack<ArenaSlot<P, 
         → IsArenaOver S.kind s.arena → IsSound s
         → IsStep S.kind S.has_memory P.Gen.counting P.Gen.greatest s command reply t
         → (after : Store X) × IsStoreStep (shown s) command (without_wrap reply) after }
+    ensures never { (s t : SessionState X) (command : Command X)
+        → IsStep S.kind S.has_memory P.Gen.counting P.Gen.greatest s command Exhausted t → ⊥ }
+{}
+
+/// A step of a strict session is one of the strict store that it shows, where the generation counts,
+/// the session is sound, its arena is as every arena over the stack is, and its counter is at most the
+/// greatest generation, as each is. All this holds after it too, no reply tells of a wrap, and the calls
+/// on the arena take each history that fits it to one that fits, so that every pointer that was given is
+/// new.
+pub fn strict_session_steps_as_store<
+    P: Ptr,
+    X,
+    S: NonZeroInxGenericStack<ArenaSlot<P, Node<X, P>>>,
+>()
+    ensures store { P.Gen.counting ≡ true → (s t : SessionState X) (command : Command X) (reply : Reply X)
+        → IsArenaOver S.kind s.arena → s.arena.counter ≤ P.Gen.greatest → IsSound s
+        → IsStrictStep S.kind S.has_memory P.Gen.counting P.Gen.greatest s command reply t
+        → IsStrictStoreStep (strictly_shown P.Gen.greatest s) command reply (strictly_shown P.Gen.greatest t) }
+    ensures sound { P.Gen.counting ≡ true → (s t : SessionState X) (command : Command X) (reply : Reply X)
+        → IsArenaOver S.kind s.arena → s.arena.counter ≤ P.Gen.greatest → IsSound s
+        → IsStrictStep S.kind S.has_memory P.Gen.counting P.Gen.greatest s command reply t
+        → IsArenaOver S.kind t.arena × (t.arena.counter ≤ P.Gen.greatest) × IsSound t }
+    ensures quiet { (s t : SessionState X) (command : Command X) (reply : Reply X)
+        → IsStrictStep S.kind S.has_memory P.Gen.counting P.Gen.greatest s command reply t
+        → tells_of_wrap reply ≡ false }
+    ensures history { P.Gen.counting ≡ true → (s t : SessionState X) (command : Command X) (reply : Reply X)
+        → IsArenaOver S.kind s.arena → s.arena.counter ≤ P.Gen.greatest → IsSound s
+        → IsStrictStep S.kind S.has_memory P.Gen.counting P.Gen.greatest s command reply t
+        → Continues Fits s.arena (calls_of s command reply) t.arena }
+{}
+
+/// So it is with any list of steps, one after another; from a session without entries, as a new one is,
+/// no pointer is given twice by all of them. Of named commands, with neither `NoMemory` nor `Exhausted`
+/// among the replies, compactions change no other reply.
+pub fn strict_session_runs_as_store<
+    P: Ptr,
+    X,
+    S: NonZeroInxGenericStack<ArenaSlot<P, Node<X, P>>>,
+>()
+    ensures store { P.Gen.counting ≡ true
+        → (s t : SessionState X) (commands : List (Command X)) (replies : List (Reply X))
+        → IsArenaOver S.kind s.arena → s.arena.counter ≤ P.Gen.greatest → IsSound s
+        → IsRun (IsStrictStep S.kind S.has_memory P.Gen.counting P.Gen.greatest) s commands replies t
+        → IsRun IsStrictStoreStep (strictly_shown P.Gen.greatest s) commands replies (strictly_shown P.Gen.greatest t) }
+    ensures sound { P.Gen.counting ≡ true
+        → (s t : SessionState X) (commands : List (Command X)) (replies : List (Reply X))
+        → IsArenaOver S.kind s.arena → s.arena.counter ≤ P.Gen.greatest → IsSound s
+        → IsRun (IsStrictStep S.kind S.has_memory P.Gen.counting P.Gen.greatest) s commands replies t
+        → IsArenaOver S.kind t.arena × (t.arena.counter ≤ P.Gen.greatest) × IsSound t }
+    ensures quiet { (s t : SessionState X) (commands : List (Command X)) (replies : List (Reply X))
+        → IsRun (IsStrictStep S.kind S.has_memory P.Gen.counting P.Gen.greatest) s commands replies t
+        → TellsOfNoWrap replies }
+    ensures history { P.Gen.counting ≡ true
+        → (s t : SessionState X) (commands : List (Command X)) (replies : List (Reply X))
+        → IsArenaOver S.kind s.arena → s.arena.counter ≤ P.Gen.greatest → IsSound s
+        → (run : IsRun (IsStrictStep S.kind S.has_memory P.Gen.counting P.Gen.greatest) s commands replies t)
+        → Continues Fits s.arena (calls_in (IsStrictStep S.kind S.has_memory P.Gen.counting P.Gen.greatest)
+        s commands replies t run) t.arena }
+    ensures given_once { P.Gen.counting ≡ true
+        → (s t : SessionState X) (commands : List (Command X)) (replies : List (Reply X))
+        → IsArenaOver S.kind s.arena → s.arena.counter ≤ P.Gen.greatest → IsSound s
+        → arena_len s.arena ≡ 0
+        → (run : IsRun (IsStrictStep S.kind S.has_memory P.Gen.counting P.Gen.greatest) s commands replies t)
+        → AreDistinct (given (followed_by (begun_with [])
+        (calls_in (IsStrictStep S.kind S.has_memory P.Gen.counting P.Gen.greatest)
+        s commands replies t run))) }
+    ensures unseen { P.Gen.counting ≡ true
+        → (s t : SessionState X) (commands : List (Command X)) (replies : List (Reply X))
+        → IsArenaOver S.kind s.arena → s.arena.counter ≤ P.Gen.greatest → IsSound s
+        → IsRun (IsStrictStep S.kind S.has_memory P.Gen.counting P.Gen.greatest) s commands replies t
+        → list_all is_named commands ≡ true → list_any is_no_memory replies ≡ false
+        → list_any is_exhausted replies ≡ false
+        → seen commands replies ≡ ample (shown s) (erase commands) }
 {}
 
 /// Eleven commands in a new session over the heap, computed: the first of two compactions finds a

@@ -3,14 +3,21 @@
 
 mod kind_run;
 pub mod laws;
+mod named_arena;
 mod node;
 mod session;
+mod session_arena;
+mod strict_session;
+mod strict_text;
 mod text;
 
 pub use kind_run::{run_kind, run_program};
 pub use node::Node;
 pub use session::Session;
+pub use strict_session::StrictSession;
+pub use strict_text::{run_text_strict, run_text_strict_and_flush};
 pub use text::{run_text, run_text_and_flush};
 pub use triple_arena_commands::{
-    Command, Kind, Outcome, Reply, TextError, parse_args, parse_command, status, write_reply,
+    Command, Kind, Outcome, Reply, TextError, parse_args, parse_command, parse_mode, status,
+    write_reply,
 };

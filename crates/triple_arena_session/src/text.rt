@@ -5,11 +5,14 @@ ghost use Rattle.std.specs.Io.Buffered.{writer_contents};
 ghost use Rattle.triple_arena_commands.specs.TextRun.{IsTextRun, IsFlushedRun};
 ghost use Rattle.triple_arena_session.specs.SessionRun.{IsStep};
 ghost use Rattle.triple_arena_session.specs.Shown.{shown, IsSound, IsArenaOver};
+ghost use Rattle.triple_arena_session.specs.SessionLayout.{IsStepOf};
 ghost use Rattle.triple_arena_session.specs.StoreText.{IsStoreText, LeavesStore};
 ghost use Rattle.triple_arena_session.specs.LineRun.{CommandEnds, LineEnds};
 
+use crate::named_arena::NamedArena;
 use crate::node::Node;
 use crate::session::Session;
+use crate::session_arena::SessionArena;
 use std::alloc::Global;
 use std::io::{BufWriter, Read, Write};
 use triple_arena::ArenaSlot;
@@ -47,18 +50,25 @@ pub fn run_text<P: Ptr, S: NonZeroInxGenericStack<ArenaSlot<P, Node<u64, P>>>, R
         (R.remaining input.old) result (W.contents output.old) (W.contents output.new) }
     ensures arena { IsArenaOver S.kind session.old.arena }
 {
-    session.tell_arena();
-    read_and_run(session, alloc, input, output)
+    session.inside.tell_arena();
+    read_and_run(&mut session.inside, alloc, input, output)
 }
 
-// Reads a text to its end and runs its lines.
-fn read_and_run<P: Ptr, S: NonZeroInxGenericStack<ArenaSlot<P, Node<u64, P>>>, R: Read, W: Write>(
-    session: &mut Session<P, u64, S>,
+/// Reads a text to its end and runs its lines.
+pub(crate) fn read_and_run<
+    P: Ptr,
+    S: NonZeroInxGenericStack<ArenaSlot<P, Node<u64, P>>>,
+    A: SessionArena<P, Node<u64, P>, S>,
+    R: Read,
+    W: Write,
+>(
+    session: &mut NamedArena<P, u64, S, A>,
     alloc: Global,
     input: &mut R,
     output: &mut W,
 ) -> Result<(), TextError>
-    ensures { IsTextRun (IsStep S.kind S.has_memory P.Gen.counting P.Gen.greatest) (R.remaining input.old) result
+    ensures { IsTextRun (IsStepOf A.strict S.kind S.has_memory P.Gen.counting P.Gen.greatest)
+        (R.remaining input.old) result
         session.old session.new (W.contents output.old) (W.contents output.new) }
 {
     let text = read_text(alloc, input)?;
@@ -93,23 +103,25 @@ pub fn run_text_and_flush<
         (R.remaining input.old) result.0 (writer_contents W.contents output) (W.contents result.1) }
     ensures arena { IsArenaOver S.kind session.old.arena }
 {
-    session.tell_arena();
-    run_and_flush(session, alloc, input, output)
+    session.inside.tell_arena();
+    run_and_flush(&mut session.inside, alloc, input, output)
 }
 
-// Runs a text, and flushes the writer after it.
-fn run_and_flush<
+/// Runs a text, and flushes the writer after it.
+pub(crate) fn run_and_flush<
     P: Ptr,
     S: NonZeroInxGenericStack<ArenaSlot<P, Node<u64, P>>>,
+    A: SessionArena<P, Node<u64, P>, S>,
     R: Read,
     W: Write + Drop,
 >(
-    session: &mut Session<P, u64, S>,
+    session: &mut NamedArena<P, u64, S, A>,
     alloc: Global,
     input: &mut R,
     mut output: BufWriter<W>,
 ) -> (Result<(), TextError>, W)
-    ensures { IsFlushedRun (IsStep S.kind S.has_memory P.Gen.counting P.Gen.greatest) (R.remaining input.old) result.0
+    ensures { IsFlushedRun (IsStepOf A.strict S.kind S.has_memory P.Gen.counting P.Gen.greatest)
+        (R.remaining input.old) result.0
         session.old session.new (writer_contents W.contents output) (W.contents result.1) }
 {
     let outcome = read_and_run(session, alloc, input, &mut output);
@@ -117,12 +129,14 @@ fn run_and_flush<
 }
 
 // Runs the lines of a text.
-fn run_lines<P: Ptr, S: NonZeroInxGenericStack<ArenaSlot<P, Node<u64, P>>>, W: Write>(
-    session: &mut Session<P, u64, S>,
-    text: &[u8],
-    output: &mut W,
-) -> Result<(), TextError>
-    ensures { IsTextRun (IsStep S.kind S.has_memory P.Gen.counting P.Gen.greatest) (Some text.now) result
+fn run_lines<
+    P: Ptr,
+    S: NonZeroInxGenericStack<ArenaSlot<P, Node<u64, P>>>,
+    A: SessionArena<P, Node<u64, P>, S>,
+    W: Write,
+>(session: &mut NamedArena<P, u64, S, A>, text: &[u8], output: &mut W) -> Result<(), TextError>
+    ensures { IsTextRun (IsStepOf A.strict S.kind S.has_memory P.Gen.counting P.Gen.greatest)
+        (Some text.now) result
         session.old session.new (W.contents output.old) (W.contents output.new) }
 {
     let mut rest = text;
@@ -155,12 +169,13 @@ enum LineEnd {
 }
 
 // Runs a line, which may have no bytes.
-fn run_line<P: Ptr, S: NonZeroInxGenericStack<ArenaSlot<P, Node<u64, P>>>, W: Write>(
-    session: &mut Session<P, u64, S>,
-    line: &[u8],
-    output: &mut W,
-) -> LineEnd
-    ensures { LineEnds (IsStep S.kind S.has_memory P.Gen.counting P.Gen.greatest) result line.now
+fn run_line<
+    P: Ptr,
+    S: NonZeroInxGenericStack<ArenaSlot<P, Node<u64, P>>>,
+    A: SessionArena<P, Node<u64, P>, S>,
+    W: Write,
+>(session: &mut NamedArena<P, u64, S, A>, line: &[u8], output: &mut W) -> LineEnd
+    ensures { LineEnds (IsStepOf A.strict S.kind S.has_memory P.Gen.counting P.Gen.greatest) result line.now
         session.old session.new (W.contents output.old) (W.contents output.new) }
 {
     if line.is_empty() {
@@ -171,18 +186,19 @@ fn run_line<P: Ptr, S: NonZeroInxGenericStack<ArenaSlot<P, Node<u64, P>>>, W: Wr
 }
 
 // Runs the command of a line, and writes the line of its reply.
-fn run_command<P: Ptr, S: NonZeroInxGenericStack<ArenaSlot<P, Node<u64, P>>>, W: Write>(
-    session: &mut Session<P, u64, S>,
-    line: &[u8],
-    output: &mut W,
-) -> LineEnd
-    ensures { CommandEnds (IsStep S.kind S.has_memory P.Gen.counting P.Gen.greatest) result line.now
+fn run_command<
+    P: Ptr,
+    S: NonZeroInxGenericStack<ArenaSlot<P, Node<u64, P>>>,
+    A: SessionArena<P, Node<u64, P>, S>,
+    W: Write,
+>(session: &mut NamedArena<P, u64, S, A>, line: &[u8], output: &mut W) -> LineEnd
+    ensures { CommandEnds (IsStepOf A.strict S.kind S.has_memory P.Gen.counting P.Gen.greatest) result line.now
         session.old session.new (W.contents output.old) (W.contents output.new) }
 {
     let Some(command) = parse_command(line) else {
         return LineEnd::Malformed;
     };
-    let reply = session.step(command);
+    let reply = session.answer(command);
     let wrapped = reply.tells_of_wrap();
     match write_reply(output, &reply) {
         Ok(()) if wrapped => LineEnd::Wrapped,

@@ -7,4 +7,5 @@ mod program;
 mod runs;
 mod sessions;
 mod steps;
+mod strict_sessions;
 mod texts;

@@ -6,6 +6,7 @@ ghost use Rattle.triple_arena_commands.specs.NameStore.{next_name};
 ghost use Rattle.triple_arena_commands.specs.Runs.{TellsOfNoWrap, EndsInWrap};
 ghost use Rattle.triple_arena_commands.specs.StoreRuns.{AnswersAsStore, is_named, is_no_memory, seen, ample, erase};
 ghost use Rattle.triple_arena_commands.specs.declared.program.Kind.TheVariants.{Heap};
+ghost use Rattle.triple_arena_commands.specs.Strict.{is_exhausted};
 ghost use Rattle.triple_arena_session.specs.Shown.{shown, IsSound};
 ghost use Rattle.triple_arena_session.specs.StoreText.{first_store};
 
@@ -13,7 +14,9 @@ use std::alloc::Global;
 use triple_arena_base::AllocError;
 use triple_arena_ptr::P0;
 use triple_arena_session::laws::names_are_new;
-use triple_arena_session::{Command, Reply, Session, TextError, run_text};
+use triple_arena_session::{
+    Command, Reply, Session, StrictSession, TextError, run_text, run_text_strict,
+};
 
 /// The replies to commands in a new session over the heap: one to each command, or up to the first
 /// that tells of a wrap. They are those of a new store of names. Refused only where there is no
@@ -65,4 +68,36 @@ pub fn run_to_malformed(
         Err(TextError::Malformed(line)) => Some(line),
         _ => None,
     }
+}
+
+/// The replies to commands in a new strict session over the heap, one to each command. Refused only
+/// where there is no memory for the list of replies. Where all are named commands, and none was refused
+/// for want of memory or of a raise, compactions change no other reply.
+pub fn strict_answers(
+    alloc: Global,
+    commands: &[Command<u64>],
+) -> Result<Vec<Reply<u64>>, AllocError>
+    ensures whole { IfOk result (λ replies. length replies.items ≡ length commands.now) }
+    ensures unseen { IfOk result (λ replies.
+        list_all is_named commands.now ≡ true → list_any is_no_memory replies.items ≡ false
+        → list_any is_exhausted replies.items ≡ false
+        → seen commands.now replies.items ≡ ample (first_store Heap) (erase commands.now)) }
+{
+    let mut session: StrictSession<P0, u64> = StrictSession::new(alloc);
+    session.run(commands)
+}
+
+/// Runs a text in a sound strict session, and tells whether it ran to its end. The session is sound after
+/// it, however it ended, and another text may follow.
+pub fn runs_to_its_end(
+    session: &mut StrictSession<P0, u64>,
+    alloc: Global,
+    text: &[u8],
+    output: &mut Vec<u8>,
+) -> bool
+    requires sound { IsSound session.old }
+    ensures sound { IsSound session.new }
+{
+    let mut input = text;
+    run_text_strict(session, alloc, &mut input, output).is_ok()
 }

@@ -1,7 +1,7 @@
 //! The arguments, words and statuses of the program.
 
 use super::says;
-use triple_arena_commands::{Kind, Outcome, TextError, parse_args, status};
+use triple_arena_commands::{Kind, Outcome, TextError, parse_args, parse_mode, status};
 
 #[test]
 fn takes_each_kind_and_nothing_else(rt: HostRuntime) {
@@ -37,6 +37,38 @@ fn takes_each_kind_and_nothing_else(rt: HostRuntime) {
     ];
     for words in wrong {
         assert!(rt; parse_args(words).is_none());
+        assert!(rt; parse_mode(words).is_none());
+    }
+}
+
+/// The first word may ask for a strict session; alone it asks for one over the heap.
+#[test]
+fn takes_strict_as_the_first_word_alone(rt: HostRuntime) {
+    let right: &[(&[&str], (bool, Kind))] = &[
+        (&[], (false, Kind::Heap)),
+        (&["heap"], (false, Kind::Heap)),
+        (&["fixed", "12"], (false, Kind::Fixed(12))),
+        (&["strict"], (true, Kind::Heap)),
+        (&["strict", "heap"], (true, Kind::Heap)),
+        (&["strict", "array"], (true, Kind::Array)),
+        (&["strict", "limited", "007"], (true, Kind::Limited(7))),
+        (&["strict", "fixed", "0"], (true, Kind::Fixed(0))),
+    ];
+    for (words, mode) in right {
+        assert!(rt; parse_mode(words) == Some(*mode));
+    }
+    let wrong: &[&[&str]] = &[
+        &["Strict"],
+        &["heap", "strict"],
+        &["strict", "strict"],
+        &["strict", ""],
+        &["strict", "limited"],
+        &["strict", "array", "8"],
+        &["limited", "8", "strict"],
+        &["strict", "limited", "8", "8"],
+    ];
+    for words in wrong {
+        assert!(rt; parse_mode(words).is_none());
     }
 }
 

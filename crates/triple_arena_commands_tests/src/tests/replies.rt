@@ -56,6 +56,7 @@ fn writes_each_reply(rt: HostRuntime) {
         (Reply::Unresolved, "unresolved"),
         (Reply::BadName, "bad name"),
         (Reply::Count(255), "count 255"),
+        (Reply::Exhausted, "exhausted"),
         (
             Reply::Removed(u64::MAX, Some(usize::MAX), true),
             "removed 18446744073709551615 18446744073709551615 wrapped",

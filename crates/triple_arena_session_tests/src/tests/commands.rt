@@ -70,11 +70,11 @@ fn answers_so(
     }
 }
 
-// A text that a session answers so whose counter is at its end.
+/// A text that a session answers so whose counter is at its end.
 #[derive(Drop)]
-struct AtTheEnd<'a> {
-    text: &'a [u8],
-    lines: &'a [u8],
+pub struct AtTheEnd<'a> {
+    pub text: &'a [u8],
+    pub lines: &'a [u8],
 }
 
 impl Trial for AtTheEnd<'_> {
@@ -156,15 +156,53 @@ fn answers_or_changes_nothing(rt: &impl Abort, session: &mut impl Asked, line: &
     assert!(rt; says(&reply, text), "at {line}");
 }
 
-// The same of each row, a line and the text of its reply.
-#[derive(Drop)]
-struct AnswersOrChangesNothing<'a> {
-    rows: &'a [(&'a str, &'a str)],
-}
+/// Each command that asks for memory is answered or changes nothing.
+pub struct AnswersOrChangesNothing;
 
-impl Trial for AnswersOrChangesNothing<'_> {
+impl Trial for AnswersOrChangesNothing {
     fn pass(&self, rt: &impl Abort, _alloc: Global, session: &mut impl Asked) {
-        for (line, text) in self.rows {
+        let rows: &[(&str, &str)] = &[
+            ("insert 1 -", "given 1"),
+            ("reserve 6", "done"),
+            ("within 2 1", "given 2"),
+            (
+                "show",
+                "{P0[1](2): (1, None), P0[2](2): (2, Some(P0[1](2)))}",
+            ),
+            ("insert 3 -", "given 3"),
+            ("insert 4 -", "given 4"),
+            ("remove 2", "removed 2 1"),
+            ("remove 3", "removed 3 -"),
+            // the free indexes are 3 and 2, in this order
+            ("show", "{P0[1](2): (1, None), P0[4](2): (4, None)}"),
+            ("invalidate 1", "given 5"),
+            ("within 5 1", "given 6"),
+            ("insert 6 -", "given 7"),
+            ("insert 7 -", "given 8"),
+            ("remove 7", "removed 6 -"),
+            ("remove 4", "removed 4 -"),
+            // 4 and 2
+            ("compact", "unresolved"),
+            ("within 8 -", "given 9"),
+            ("remove 6", "removed 5 1"),
+            // 3 and 2
+            ("reserve 7", "done"),
+            ("set 8 7 5", "done"),
+            ("remove 9", "removed 8 -"),
+            // 4, 2 and 3
+            ("compact", "compacted"),
+            (
+                "show",
+                "{P0[1](a): (1, None), P0[2](a): (7, Some(P0[1](a)))}",
+            ),
+            ("get 8", "found 7 5"),
+            ("reserve 2", "done"),
+            ("capacity", "count 2"),
+            ("insert 9 5", "given 10"),
+            ("clear", "cleared"),
+            ("show", "{}"),
+        ];
+        for (line, text) in rows {
             answers_or_changes_nothing(rt, session, *line, *text);
         }
     }
@@ -174,47 +212,11 @@ impl Trial for AnswersOrChangesNothing<'_> {
 /// --fail-alloc N`).
 #[test]
 fn a_refused_command_changes_nothing(rt: HostRuntime) {
-    let rows = &[
-        ("insert 1 -", "given 1"),
-        ("reserve 6", "done"),
-        ("within 2 1", "given 2"),
-        (
-            "show",
-            "{P0[1](2): (1, None), P0[2](2): (2, Some(P0[1](2)))}",
-        ),
-        ("insert 3 -", "given 3"),
-        ("insert 4 -", "given 4"),
-        ("remove 2", "removed 2 1"),
-        ("remove 3", "removed 3 -"),
-        // the free indexes are 3 and 2, in this order
-        ("show", "{P0[1](2): (1, None), P0[4](2): (4, None)}"),
-        ("invalidate 1", "given 5"),
-        ("within 5 1", "given 6"),
-        ("insert 6 -", "given 7"),
-        ("insert 7 -", "given 8"),
-        ("remove 7", "removed 6 -"),
-        ("remove 4", "removed 4 -"),
-        // 4 and 2
-        ("compact", "unresolved"),
-        ("within 8 -", "given 9"),
-        ("remove 6", "removed 5 1"),
-        // 3 and 2
-        ("reserve 7", "done"),
-        ("set 8 7 5", "done"),
-        ("remove 9", "removed 8 -"),
-        // 4, 2 and 3
-        ("compact", "compacted"),
-        (
-            "show",
-            "{P0[1](a): (1, None), P0[2](a): (7, Some(P0[1](a)))}",
-        ),
-        ("get 8", "found 7 5"),
-        ("reserve 2", "done"),
-        ("capacity", "count 2"),
-        ("insert 9 5", "given 10"),
-        ("clear", "cleared"),
-        ("show", "{}"),
-    ];
-    let trial = AnswersOrChangesNothing { rows };
-    try_new(&rt, rt.alloc(), Kind::General, None, &trial);
+    try_new(
+        &rt,
+        rt.alloc(),
+        Kind::General,
+        None,
+        &AnswersOrChangesNothing,
+    );
 }

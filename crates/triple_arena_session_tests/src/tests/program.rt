@@ -58,7 +58,16 @@ fn says_that_there_is_no_memory_to_begin(rt: HostRuntime) -> Result<(), Fail> {
 /// (`rt try --test --fail-alloc N`): then nothing is written, or one insertion answers so.
 #[test]
 fn runs_or_says_that_memory_was_refused(rt: HostRuntime) {
-    let rows: [&[&str]; 4] = [&["heap"], &["limited", "2"], &["fixed", "2"], &["array"]];
+    let rows: [&[&str]; 8] = [
+        &["heap"],
+        &["limited", "2"],
+        &["fixed", "2"],
+        &["array"],
+        &["strict"],
+        &["strict", "limited", "2"],
+        &["strict", "fixed", "2"],
+        &["strict", "array"],
+    ];
     for words in rows {
         let args = args_of(rt.alloc(), words);
         let mut input = b"insert 1 -\ninsert 1 -\n".as_slice();

@@ -13,8 +13,8 @@ fn tries(rt: &impl Abort, alloc: Global, trial: &impl Trial) {
     try_new(rt, alloc, Kind::General, None, trial);
 }
 
-// A text up to its malformed line, and one after it.
-struct GoesOn;
+/// A text up to its malformed line, and one after it.
+pub struct GoesOn;
 
 impl Trial for GoesOn {
     fn pass(&self, rt: &impl Abort, alloc: Global, session: &mut impl Asked) {
@@ -152,8 +152,8 @@ fn takes_hundreds_of_reads(rt: HostRuntime) {
     }
 }
 
-// How a run ended, and how many lines and bytes its output then held.
-type End = (Result<(), TextError>, usize, usize);
+/// How a run ended, and how many lines and bytes its output then held.
+pub type End = (Result<(), TextError>, usize, usize);
 
 // A text run over a writer: its end, and whether a front of these lines was written.
 fn runs_to(
@@ -231,13 +231,13 @@ fn flushes_to(
     (outcome, written.lines_ended(), written.len)
 }
 
-// A text runs so, and the first name then has this reply.
+/// A text runs so, and the first name then has this reply.
 #[derive(Drop)]
-struct Flushes<'a> {
-    text: &'a [u8],
-    writes_before: usize,
-    end: End,
-    reply: Reply<u64>,
+pub struct Flushes<'a> {
+    pub text: &'a [u8],
+    pub writes_before: usize,
+    pub end: End,
+    pub reply: Reply<u64>,
 }
 
 impl Trial for Flushes<'_> {
@@ -294,8 +294,8 @@ fn given_by(rt: &impl Abort, outcome: Result<(), TextError>, output: &ShortWrite
     }
 }
 
-// Five insertions, of which one may be refused memory, or the run.
-struct RunsWhereThereIsMemory;
+/// Five insertions, of which one may be refused memory, or the run.
+pub struct RunsWhereThereIsMemory;
 
 impl Trial for RunsWhereThereIsMemory {
     fn pass(&self, rt: &impl Abort, alloc: Global, session: &mut impl Asked) {

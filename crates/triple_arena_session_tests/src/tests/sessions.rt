@@ -304,8 +304,8 @@ fn a_run_gives_one_reply_for_each_command(rt: HostRuntime) {
     try_new(&rt, rt.alloc(), Kind::General, None, &none);
 }
 
-// The command at a position of 254 insertions, each before the removal of its name, and a last one.
-fn command_at(position: usize) -> Command<u64> {
+/// The command at a position of 254 insertions, each before the removal of its name, and a last one.
+pub fn command_at(position: usize) -> Command<u64> {
     if position == 508 {
         Command::Len
     } else if position % 2 == 0 {
@@ -315,8 +315,8 @@ fn command_at(position: usize) -> Command<u64> {
     }
 }
 
-// Its reply, of which that at 507 tells of a wrap.
-fn reply_at(position: usize) -> Reply<u64> {
+/// Its reply, of which that at 507 tells of a wrap.
+pub fn reply_at(position: usize) -> Reply<u64> {
     if position % 2 == 0 {
         Reply::Given(position / 2 + 1, false)
     } else {

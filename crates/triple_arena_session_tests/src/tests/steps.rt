@@ -6,11 +6,12 @@ use std::fmt::Write as _;
 use std::io::{BufWriter, Read, Write};
 use std::num::NonZeroUsize;
 use std::process::Abort;
-use triple_arena::{ArenaSlot, ArenaTrait};
+use triple_arena::{Arena, ArenaSlot, ArenaTrait};
 use triple_arena_base::AllocError;
 use triple_arena_ptr::{P0, P3, Ptr, PtrGen, PtrInx};
 use triple_arena_session::{
-    Command, Node, Reply, Session, TextError, run_text, run_text_and_flush,
+    Command, Node, Reply, Session, StrictSession, TextError, run_text, run_text_and_flush,
+    run_text_strict, run_text_strict_and_flush,
 };
 use triple_arena_stack::{
     NonZeroInxArray, NonZeroInxGenericStack, NonZeroInxLimitedVec, NonZeroInxVec,
@@ -87,35 +88,98 @@ where
     }
 
     fn extent(&self) -> Extent {
-        let arena = self.arena();
-        (
-            arena.len(),
-            arena.capacity(),
-            arena.generation().told_number(),
-        )
+        extent_of(self.arena())
     }
 
     fn free(&self) -> [usize; 12] {
-        let arena = self.arena();
-        let mut free = [0; 12];
-        let mut next = match arena.freelist_root() {
-            Some(inx) => P::Inx::try_into_usize(inx),
-            None => None,
-        };
-        for place in &mut free {
-            if let Some(inx) = next {
-                *place = inx.get();
-                next = free_after(arena.backing(), inx);
-            }
-        }
-        free
+        free_of(self.arena())
     }
 
     fn last_index(&self) -> usize {
-        match self.arena().find_last_inx_ptr() {
-            Some(p) => index_number(p.inx()),
-            None => 0,
+        last_index_of(self.arena())
+    }
+}
+
+impl<P: Ptr, S: NonZeroInxGenericStack<ArenaSlot<P, Node<u64, P>>>> Asked
+    for StrictSession<P, u64, S>
+where
+    P::Gen: Numbered,
+{
+    fn answer(&mut self, command: Command<u64>) -> Reply<u64> {
+        self.step(command)
+    }
+
+    fn answers(&mut self, commands: &[Command<u64>]) -> Option<Vec<Reply<u64>>> {
+        self.run(commands).ok()
+    }
+
+    fn runs<R: Read, W: Write>(
+        &mut self,
+        alloc: Global,
+        input: &mut R,
+        output: &mut W,
+    ) -> Result<(), TextError> {
+        run_text_strict(self, alloc, input, output)
+    }
+
+    fn runs_and_flushes<R: Read, W: Write + Drop>(
+        &mut self,
+        alloc: Global,
+        input: &mut R,
+        output: BufWriter<W>,
+    ) -> (Result<(), TextError>, W) {
+        run_text_strict_and_flush(self, alloc, input, output)
+    }
+
+    fn extent(&self) -> Extent {
+        extent_of(self.arena().arena())
+    }
+
+    fn free(&self) -> [usize; 12] {
+        free_of(self.arena().arena())
+    }
+
+    fn last_index(&self) -> usize {
+        last_index_of(self.arena().arena())
+    }
+}
+
+fn extent_of<P: Ptr, S: NonZeroInxGenericStack<ArenaSlot<P, Node<u64, P>>>>(
+    arena: &Arena<P, Node<u64, P>, S>,
+) -> Extent
+where
+    P::Gen: Numbered,
+{
+    (
+        arena.len(),
+        arena.capacity(),
+        arena.generation().told_number(),
+    )
+}
+
+fn free_of<P: Ptr, S: NonZeroInxGenericStack<ArenaSlot<P, Node<u64, P>>>>(
+    arena: &Arena<P, Node<u64, P>, S>,
+) -> [usize; 12] {
+    let mut free = [0; 12];
+    let mut next = match arena.freelist_root() {
+        Some(inx) => P::Inx::try_into_usize(inx),
+        None => None,
+    };
+    for place in &mut free {
+        if let Some(inx) = next {
+            *place = inx.get();
+            next = free_after(arena.backing(), inx);
         }
+    }
+    free
+}
+
+fn last_index_of<P: Ptr, S: NonZeroInxGenericStack<ArenaSlot<P, Node<u64, P>>>>(
+    arena: &Arena<P, Node<u64, P>, S>,
+) -> usize {
+    match arena.find_last_inx_ptr() {
+        Some(p) => index_number(p.inx()),
+        None => 0,
     }
 }
 
@@ -228,4 +292,14 @@ where
         Ok(mut session) => trial.pass(rt, alloc, &mut session),
         Err(_) => panic!(rt; "there is memory"),
     }
+}
+
+/// Tries a new strict session over the heap, at a pointer.
+pub fn try_strict<P: Ptr>(rt: &impl Abort, alloc: Global, trial: &impl Trial)
+where
+    P::Gen: Numbered,
+{
+    assert!(rt; P::Gen::counts());
+    let mut session: StrictSession<P, u64> = StrictSession::new(alloc);
+    trial.pass(rt, alloc, &mut session);
 }

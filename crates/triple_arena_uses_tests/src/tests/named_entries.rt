@@ -1,6 +1,8 @@
 use std::alloc::Global;
-use triple_arena_session::{Command, Reply, Session};
-use triple_arena_session_uses::named_entries::{answers, enter, run_to_malformed};
+use triple_arena_session::{Command, Reply, Session, StrictSession};
+use triple_arena_session_uses::named_entries::{
+    answers, enter, run_to_malformed, runs_to_its_end, strict_answers,
+};
 
 #[test]
 fn names_find_what_they_name(rt: HostRuntime) {
@@ -25,6 +27,8 @@ fn names_find_what_they_name(rt: HostRuntime) {
         Reply::Found(30, Some(2)),
     ];
     let told = answers(rt.alloc(), &commands);
+    assert!(rt; told.is_ok_and(|told| told.as_slice() == replies.as_slice()));
+    let told = strict_answers(rt.alloc(), &commands);
     assert!(rt; told.is_ok_and(|told| told.as_slice() == replies.as_slice()));
 }
 
@@ -59,4 +63,19 @@ fn a_text_follows_one_with_a_malformed_line(rt: HostRuntime) {
             line == 2 && ends_well && output.as_slice() == written
         })
     );
+}
+
+#[test]
+fn a_text_follows_another_in_a_strict_session(rt: HostRuntime) {
+    let mut session = StrictSession::new(rt.alloc());
+    let mut output = Vec::new(rt.alloc());
+    let stops = runs_to_its_end(
+        &mut session,
+        rt.alloc(),
+        b"insert 1 -\ninsert 2\n",
+        &mut output,
+    );
+    let ends = runs_to_its_end(&mut session, rt.alloc(), b"get 1\n", &mut output);
+    assert!(rt; (stops, ends) == (false, true));
+    assert_eq!(rt; output.as_slice(), b"given 1\nfound 1 -\n".as_slice());
 }

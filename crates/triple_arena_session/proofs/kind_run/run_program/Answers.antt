@@ -1,4 +1,4 @@
-use Rattle.triple_arena_session.proofs.StoreTextLaws.{RunsProgramAsStore}
+use Rattle.triple_arena_session.proofs.StrictTextLaws.{RunsProgramAsStore}
 use Rattle.triple_arena_session.proofs.kind_run.run_program.Goals as goal
 
 pub returns-clause-store : goal.returns-clause-store

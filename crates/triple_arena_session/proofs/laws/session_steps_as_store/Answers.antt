@@ -1,5 +1,6 @@
 use Rattle.triple_arena_session.proofs.Soundness.{sound_over}
 use Rattle.triple_arena_session.proofs.StoreLaws.{StepIsStores}
+use Rattle.triple_arena_session.proofs.StrictSteps.{NeverExhausted}
 use Rattle.triple_arena_session.proofs.laws.session_steps_as_store.Goals as goal
 
 pub returns-clause-store : goal.returns-clause-store
@@ -15,3 +16,6 @@ returns-clause-calls g c counts s t command reply over sound step quiet = (StepI
 
 pub returns-clause-at_wrap : goal.returns-clause-at_wrap
 returns-clause-at_wrap g c counts s t command reply over sound step = (StepIsStores g.S.NonZeroInxGenericStack.kind g.S.NonZeroInxGenericStack.has_memory g.P.Gen.PtrGen.counting g.P.Gen.PtrGen.greatest counts s command reply t (sound_over g.S.NonZeroInxGenericStack.kind s sound over) step).answers
+
+pub returns-clause-never : goal.returns-clause-never
+returns-clause-never g c s t command step = NeverExhausted g.P.Gen.PtrGen.counting g.P.Gen.PtrGen.greatest g.S.NonZeroInxGenericStack.kind g.S.NonZeroInxGenericStack.has_memory s t command step

@@ -1,0 +1,192 @@
+-- A strict session answers as the strict store that it shows, and its counter never wraps.
+use Rattle.std.proofs.Common.{◌≡◌, ◌↔◌, ℕ, ◌+◌, ◌-◌, ◌≤◌, ◌==◌, nat_lt, ◌&&◌, Bool, true, false, List, [], ◌∷◌, length, take, is_some, cond, refl, sym, ap, subst, ◌∙◌, arith, true≢false}
+use Rattle.std.specs.Option.{option_map}
+use Rattle.std.specs.List.{list_all, list_any}
+use Rattle.std.proofs.lemmas.Bool.{and_parts}
+use Rattle.std.proofs.lemmas.Bool.Decides.{nat_tests}
+use Rattle.triple_arena_ptr.specs.Numbers.{raise, wraps}
+use Rattle.triple_arena_stack.specs.StackKind.{StackKind}
+use Rattle.triple_arena_traits.specs.Histories.{Continues, Fits}
+use Rattle.triple_arena_traits.specs.HistoryLaws.{Continues-append}
+use Rattle.triple_arena_commands.specs.declared.command.Command.{Command}
+use Rattle.triple_arena_commands.specs.declared.command.Command.TheVariants.{Remove, Invalidate, Clear, Compact, Reserve}
+use Rattle.triple_arena_commands.specs.declared.reply.Reply.{Reply}
+use Rattle.triple_arena_commands.specs.declared.reply.Reply.TheVariants.{Exhausted}
+use Rattle.triple_arena_commands.specs.ReplyText.{tells_of_wrap}
+use Rattle.triple_arena_commands.specs.Runs.{IsRun, TellsOfNoWrap, RunsToWrap}
+use Rattle.triple_arena_commands.specs.RunLaws.{TellsOfNoWrap-nil, TellsOfNoWrap-first}
+use Rattle.triple_arena_commands.specs.StoreRuns.{is_named, is_no_memory, ample, erase, seen}
+use Rattle.triple_arena_commands.specs.Strict.{is_success, is_exhausted, UnlessExhausted, raises_row, used, is_spent, IsCountedStep, IsStrictStoreStep}
+use Rattle.triple_arena_commands.specs.StrictLaws.{unless_so, refused_where, made_where, StrictIsUnseen}
+use Rattle.triple_arena_session.specs.SessionState.{SessionState, named}
+use Rattle.triple_arena_session.specs.SessionRun.{IsStep}
+use Rattle.triple_arena_session.specs.SessionCalls.{calls_of, calls_in}
+use Rattle.triple_arena_session.specs.Shown.{as_row, shown}
+use Rattle.triple_arena_session.specs.Strict.{raises_counter, is_refused, IsStrictStep, strictly_shown}
+use Rattle.triple_arena_session.proofs.Rows.{is_some-map, row_count-shown}
+use Rattle.triple_arena_session.proofs.StoreSteps.{row_named, raised_by_one, unmoved}
+use Rattle.triple_arena_session.proofs.StoreLaws.{StepIsStores}
+use Rattle.triple_arena_session.proofs.StoreRunLaws.{whole_if_quiet}
+use Rattle.triple_arena_session.proofs.Soundness.{SoundOver}
+use Rattle.triple_arena_session.proofs.StrictSteps.{step_counts}
+
+-- no raise is left exactly where the next one wraps
+none_left : (counting : Bool) (greatest n : ℕ) → counting ≡ true → n ≤ greatest → (greatest - n == 0) ≡ wraps counting greatest n
+none_left true greatest n counts within = grind (arith, nat_tests, within)
+none_left false greatest n counts within = absurd (true≢false (sym counts))
+
+below : (counting : Bool) (greatest n : ℕ) → counting ≡ true → n ≤ greatest → wraps counting greatest n ≡ false → n + 1 ≤ greatest
+below true greatest n counts within quiet = grind (arith, nat_tests, within, quiet)
+below false greatest n counts within quiet = absurd (true≢false (sym counts))
+
+not_due : (a b : Bool) → (a && b) ≡ false → b ≡ true → a ≡ false
+not_due true b h due = sym due ∙ h
+not_due false b h due = refl
+
+module _ {X : Type 0} where
+  row_live : (s : SessionState X) (name : ℕ) → is_some (option_map (as_row s.table) (named s name)) ≡ is_some (named s name)
+  row_live s name = is_some-map (as_row s.table) (named s name)
+
+  -- a sound session raises its counter where its store uses a raise
+  raises-shown : (kind : StackKind) (s : SessionState X) (command : Command X) → SoundOver kind s → raises_row (shown s) command ≡ raises_counter s command
+  raises-shown kind s (Remove name) sound = ap is_some (row_named s name) ∙ row_live s name
+  raises-shown kind s (Invalidate name) sound = ap is_some (row_named s name) ∙ row_live s name
+  raises-shown kind s Clear sound = ap (nat_lt 0) (row_count-shown kind s sound)
+  raises-shown kind s Compact sound = ap (nat_lt 0) (row_count-shown kind s sound)
+  raises-shown kind s command sound = refl
+
+  -- what is refused is no call
+  no_calls : (s : SessionState X) (command : Command X) → raises_counter s command ≡ true → calls_of s command Exhausted ≡ []
+  no_calls s (Reserve m) due = absurd (true≢false (sym due))
+  no_calls s command due = refl
+
+module _ {X : Type 0} (kind : StackKind) (has_memory : ℕ → Type 0) (counting : Bool) (greatest : ℕ) (counts : counting ≡ true) where
+  abbrev pub StrictStep : SessionState X → Command X → Reply X → SessionState X → Type 0
+  StrictStep s command reply t = IsStrictStep kind has_memory counting greatest s command reply t
+
+  -- a sound session whose counter is one of its pointers' generations
+  pub record StrictlySound (s : SessionState X) : Type 0 where
+    pub sound : SoundOver kind s
+    pub within : s.arena.counter ≤ greatest
+
+  -- a step of a strict session is one of the strict store that it shows
+  pub record StepsStrictly (s : SessionState X) (command : Command X) (reply : Reply X) (t : SessionState X) : Type 0 where
+    pub quiet : tells_of_wrap reply ≡ false
+    pub step : IsStrictStoreStep (strictly_shown greatest s) command reply (strictly_shown greatest t)
+    pub sound : StrictlySound t
+    pub calls : Continues Fits s.arena (calls_of s command reply) t.arena
+
+  module _ (s : SessionState X) (command : Command X) (sound : StrictlySound s) where
+    spent : is_spent (strictly_shown greatest s) command ≡ is_refused counting greatest s command
+    spent =
+        ap (λ b. b && raises_row (shown s) command) (none_left counting greatest s.arena.counter counts sound.within)
+        ∙ ap (λ b. wraps counting greatest s.arena.counter && b) (raises-shown kind s command sound.sound)
+
+    as_refused : is_refused counting greatest s command ≡ true → StepsStrictly s command Exhausted s
+    as_refused so =
+        record {
+          quiet = refl;
+          step = refused_where (IsCountedStep (strictly_shown greatest s) command Exhausted (strictly_shown greatest s)) Exhausted (strictly_shown greatest s) (strictly_shown greatest s) (is_spent (strictly_shown greatest s) command) (spent ∙ so) refl refl;
+          sound = sound;
+          calls = subst (λ l. Continues Fits s.arena l s.arena) (sym (no_calls s command (and_parts (wraps counting greatest s.arena.counter) (raises_counter s command) so).1)) (unmoved kind s.arena);
+        }
+
+    module _ (reply : Reply X) (t : SessionState X) where
+      -- the counter after a step that is not refused
+      counted : (b : Bool) → (raises_counter s command && is_success reply) ≡ b → (b ≡ true → wraps counting greatest s.arena.counter ≡ false) → t.arena.counter ≡ cond b (raise counting greatest s.arena.counter) s.arena.counter
+          → (t.arena.counter ≤ greatest) × (greatest - t.arena.counter + cond b 1 0 ≡ greatest - s.arena.counter)
+      counted true is quiet after =
+          let up : t.arena.counter ≡ s.arena.counter + 1 = after ∙ raised_by_one counting greatest s.arena.counter counts (quiet refl) in
+          let room : s.arena.counter + 1 ≤ greatest = below counting greatest s.arena.counter counts sound.within (quiet refl) in
+          (omega (arith, up, room), omega (arith, up, room))
+      counted false is quiet after = (subst (λ n. n ≤ greatest) (sym after) sound.within, ap (λ n. greatest - n + 0) after ∙ omega arith)
+
+      as_step : is_refused counting greatest s command ≡ false → IsStep kind has_memory counting greatest s command reply t → StepsStrictly s command reply t
+      as_step not_so step =
+          let counting_of = step_counts counting greatest kind has_memory s command reply t step in
+          let stores = StepIsStores kind has_memory counting greatest counts s command reply t sound.sound step in
+          let quiet : tells_of_wrap reply ≡ false = counting_of.told not_so in
+          let after = counted (raises_counter s command && is_success reply) refl (λ both. not_due (wraps counting greatest s.arena.counter) (raises_counter s command) not_so (and_parts (raises_counter s command) (is_success reply) both).0) counting_of.counter in
+          let uses : used (shown s) command reply ≡ cond (raises_counter s command && is_success reply) 1 0 = ap (λ b. cond (b && is_success reply) 1 0) (raises-shown kind s command sound.sound) in
+          record {
+            quiet = quiet;
+            step = made_where (IsCountedStep (strictly_shown greatest s) command reply (strictly_shown greatest t)) reply (strictly_shown greatest s) (strictly_shown greatest t) (is_spent (strictly_shown greatest s) command) (spent ∙ not_so)
+                (stores.step quiet, ap (λ n. greatest - t.arena.counter + n) uses ∙ after.1);
+            sound = record { sound = stores.sound quiet; within = after.0 };
+            calls = stores.calls quiet;
+          }
+
+  pub StrictStepIsStores : (s : SessionState X) (command : Command X) (reply : Reply X) (t : SessionState X) → StrictlySound s → StrictStep s command reply t → StepsStrictly s command reply t
+  StrictStepIsStores s command reply t sound step = by (is_refused counting greatest s command) refl step
+    where
+      by : (b : Bool) → is_refused counting greatest s command ≡ b → UnlessExhausted b (IsStep kind has_memory counting greatest s command reply t) reply s t → StepsStrictly s command reply t
+      by true so refused = subst (λ r. StepsStrictly s command r t) (sym refused.0) (subst (StepsStrictly s command Exhausted) (sym refused.1) (as_refused s command sound so))
+      by false not_so step = as_step s command sound reply t not_so step
+
+  -- and so is each list of steps
+  pub record RunsStrictly (s : SessionState X) (commands : List (Command X)) (replies : List (Reply X)) (t : SessionState X) (run : IsRun StrictStep s commands replies t) : Type 0 where
+    pub quiet : TellsOfNoWrap replies
+    pub stores : IsRun IsStrictStoreStep (strictly_shown greatest s) commands replies (strictly_shown greatest t)
+    pub sound : StrictlySound t
+    pub calls : Continues Fits s.arena (calls_in StrictStep s commands replies t run) t.arena
+
+  pub StrictRunIsStores : (s : SessionState X) (commands : List (Command X)) (replies : List (Reply X)) (t : SessionState X) → StrictlySound s → (run : IsRun StrictStep s commands replies t) → RunsStrictly s commands replies t run
+  StrictRunIsStores s [] [] t sound run =
+      record {
+        quiet = TellsOfNoWrap-nil;
+        stores = ap (strictly_shown greatest) run;
+        sound = subst StrictlySound (sym run) sound;
+        calls = subst (λ (u : SessionState X). Continues Fits s.arena [] u.arena) (sym run) (unmoved kind s.arena);
+      }
+  StrictRunIsStores s [] (reply ∷ replies) t sound run = absurd run
+  StrictRunIsStores s (command ∷ commands) [] t sound run = absurd run
+  StrictRunIsStores s (command ∷ commands) (reply ∷ replies) t sound run =
+      let first = StrictStepIsStores s command reply run.0 sound run.1 in
+      let later = StrictRunIsStores run.0 commands replies t first.sound run.2 in
+      record {
+        quiet = TellsOfNoWrap-first reply replies first.quiet later.quiet;
+        stores = (strictly_shown greatest run.0, first.step, later.stores);
+        sound = later.sound;
+        calls = Continues-append s.arena run.0.arena t.arena (calls_of s command reply) (calls_in StrictStep run.0 commands replies t run.2) first.calls later.calls;
+      }
+
+  -- compaction changes no other reply, as long as neither the refusal nor a want of memory comes
+  pub StrictRunIsUnseen : (s : SessionState X) (commands : List (Command X)) (replies : List (Reply X)) (t : SessionState X) → StrictlySound s → IsRun StrictStep s commands replies t
+      → list_all is_named commands ≡ true → list_any is_no_memory replies ≡ false → list_any is_exhausted replies ≡ false → seen commands replies ≡ ample (shown s) (erase commands)
+  StrictRunIsUnseen s commands replies t sound run named enough other =
+      StrictIsUnseen (strictly_shown greatest s) (strictly_shown greatest t) commands replies (StrictRunIsStores s commands replies t sound run).stores named enough other
+
+module _ {X : Type 0} (kind : StackKind) (has_memory : ℕ → Type 0) (counting : Bool) (greatest : ℕ) where
+  refused : (s : SessionState X) (command : Command X) (reply : Reply X) (t : SessionState X) → IsStrictStep kind has_memory counting greatest s command reply t → reply ≡ Exhausted → (is_refused counting greatest s command ≡ true) × (t ≡ s)
+  refused s command reply t step so =
+      unless_so (IsStep kind has_memory counting greatest s command reply t) reply s t (is_refused counting greatest s command) step (λ made. (step_counts counting greatest kind has_memory s command reply t made).other) (ap is_exhausted so)
+
+  -- no reply of a strict session tells of a wrap, whatever it shows
+  pub StrictStepIsQuiet : (s : SessionState X) (command : Command X) (reply : Reply X) (t : SessionState X) → IsStrictStep kind has_memory counting greatest s command reply t → tells_of_wrap reply ≡ false
+  StrictStepIsQuiet s command reply t step = by (is_refused counting greatest s command) refl step
+    where
+      by : (b : Bool) → is_refused counting greatest s command ≡ b → UnlessExhausted b (IsStep kind has_memory counting greatest s command reply t) reply s t → tells_of_wrap reply ≡ false
+      by true so refused = ap tells_of_wrap refused.0
+      by false not_so step = (step_counts counting greatest kind has_memory s command reply t step).told not_so
+
+  -- a command is refused for want of a raise exactly where the session is to refuse it, and then nothing changes
+  pub ExhaustedWhere : (s : SessionState X) (command : Command X) (reply : Reply X) (t : SessionState X) → IsStrictStep kind has_memory counting greatest s command reply t → (reply ≡ Exhausted) ↔ (is_refused counting greatest s command ≡ true)
+  ExhaustedWhere s command reply t step = (
+    (λ so. (refused s command reply t step so).0),
+    λ due. (subst (λ b. UnlessExhausted b (IsStep kind has_memory counting greatest s command reply t) reply s t) due step).0,
+  )
+
+  pub ExhaustedKeeps : (s : SessionState X) (command : Command X) (reply : Reply X) (t : SessionState X) → IsStrictStep kind has_memory counting greatest s command reply t → reply ≡ Exhausted → t ≡ s
+  ExhaustedKeeps s command reply t step so = (refused s command reply t step so).1
+
+  pub StrictRunIsQuiet : (s : SessionState X) (commands : List (Command X)) (replies : List (Reply X)) (t : SessionState X) → IsRun (IsStrictStep kind has_memory counting greatest) s commands replies t → TellsOfNoWrap replies
+  StrictRunIsQuiet s [] [] t run = TellsOfNoWrap-nil
+  StrictRunIsQuiet s [] (reply ∷ replies) t run = absurd run
+  StrictRunIsQuiet s (command ∷ commands) [] t run = absurd run
+  StrictRunIsQuiet s (command ∷ commands) (reply ∷ replies) t run = TellsOfNoWrap-first reply replies (StrictStepIsQuiet s command reply run.0 run.1) (StrictRunIsQuiet run.0 commands replies t run.2)
+
+  -- so it runs all commands
+  pub StrictRunsAll : (s : SessionState X) (commands : List (Command X)) (replies : List (Reply X)) (t : SessionState X) → RunsToWrap (IsStrictStep kind has_memory counting greatest) s commands replies t → IsRun (IsStrictStep kind has_memory counting greatest) s commands replies t
+  StrictRunsAll s commands replies t ran =
+      let quiet = StrictRunIsQuiet s (take (length replies) commands) replies t ran.0 in
+      subst (λ cs. IsRun (IsStrictStep kind has_memory counting greatest) s cs replies t) (whole_if_quiet commands replies quiet ran.1) ran.0

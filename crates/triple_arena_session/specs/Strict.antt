@@ -1,0 +1,28 @@
+-- What each command makes of a strict session, and the strict store that it shows.
+use Rattle.std.specs.Prelude.{ℕ, ◌-◌, ◌&&◌, Bool, is_some}
+use Rattle.triple_arena_ptr.specs.Numbers.{wraps}
+use Rattle.triple_arena_stack.specs.StackKind.{StackKind}
+use Rattle.triple_arena_traits.specs.ArenaState.{arena_len}
+use Rattle.triple_arena_commands.specs.declared.command.Command.{Command}
+use Rattle.triple_arena_commands.specs.declared.reply.Reply.{Reply}
+use Rattle.triple_arena_commands.specs.Strict.{raises, IsStrictly, StrictStore}
+use Rattle.triple_arena_session.specs.SessionState.{SessionState, named}
+use Rattle.triple_arena_session.specs.SessionRun.{IsStep}
+use Rattle.triple_arena_session.specs.Shown.{shown}
+
+module _ {X : Type 0} where
+  -- whether a command to a session raises the counter where it succeeds
+  abbrev pub raises_counter : SessionState X → Command X → Bool
+  raises_counter s command = raises (λ name. is_some (named s name)) (arena_len s.arena) command
+
+  -- whether a strict session refuses a command: it would raise a counter that stands at the greatest generation
+  abbrev pub is_refused : Bool → ℕ → SessionState X → Command X → Bool
+  is_refused counting greatest s command = wraps counting greatest s.arena.counter && raises_counter s command
+
+  -- a command, its reply and the strict session after it: the refusal, and nothing changes, or a step as of any session
+  abbrev pub IsStrictStep : StackKind → (ℕ → Type 0) → Bool → ℕ → SessionState X → Command X → Reply X → SessionState X → Type 0
+  IsStrictStep kind has_memory counting greatest = IsStrictly (is_refused counting greatest) (IsStep kind has_memory counting greatest)
+
+  -- the strict store that a session shows: its counter has the raises left that lead to the greatest generation
+  abbrev pub strictly_shown : ℕ → SessionState X → StrictStore X
+  strictly_shown greatest s = record { store = shown s; left = greatest - s.arena.counter }

@@ -1,0 +1,390 @@
+//! The body of every session, strict or not.
+
+ghost use Rattle.std.specs.Prelude.{◌≡◌, ◌≤◌, ◌==◌, [], IfOk, OnErr, IsOk, is_some, false};
+ghost use Rattle.std.specs.Option.{option_map};
+ghost use Rattle.triple_arena_ptr.specs.Numbers.{greatest_index};
+ghost use Rattle.triple_arena_traits.specs.Items.{item};
+ghost use Rattle.triple_arena_traits.specs.ArenaState.{arena_len, capacity, map_values};
+ghost use Rattle.triple_arena_commands.specs.Runs.{RunsToWrap};
+ghost use Rattle.triple_arena_session.specs.SessionState.{new_session, node_of, named, link_name, link_pointer};
+ghost use Rattle.triple_arena_session.specs.SessionRun.{IsStep, refusal};
+ghost use Rattle.triple_arena_session.specs.Shown.{IsArenaOver};
+ghost use Rattle.triple_arena_session.specs.Strict.{raises_counter, is_refused};
+ghost use Rattle.triple_arena_session.specs.SessionLayout.{refuses, IsStepOf};
+
+use crate::node::Node;
+use crate::session_arena::SessionArena;
+use std::alloc::Global;
+use std::fmt::Debug;
+use std::marker::{Model, PhantomData};
+use triple_arena::ArenaSlot;
+use triple_arena_base::{AllocError, CompactError, ReallocationError};
+use triple_arena_commands::{Command, NameTable, Reply};
+use triple_arena_ptr::{Ptr, PtrGen, PtrInx};
+use triple_arena_stack::NonZeroInxGenericStack;
+
+/// The arena of a session, and the table of the pointers that were given.
+#[derive(Drop)]
+pub(crate) struct NamedArena<
+    P: Ptr,
+    X,
+    S: NonZeroInxGenericStack<ArenaSlot<P, Node<X, P>>>,
+    A: SessionArena<P, Node<X, P>, S>,
+> {
+    pub(crate) arena: A,
+    table: NameTable<P>,
+    // For the replies of a run, and for texts.
+    alloc: Global,
+    of: PhantomData<(X, S)>,
+}
+
+impl<
+    P: Ptr,
+    X,
+    S: NonZeroInxGenericStack<ArenaSlot<P, Node<X, P>>>,
+    A: SessionArena<P, Node<X, P>, S>,
+> Model for NamedArena<P, X, S, A> {
+    ghost use Rattle.triple_arena_session.specs.SessionState.{SessionState};
+
+    ghost Value = { SessionState X };
+
+    ghost use Rattle.triple_arena_session.specs.SessionLayout.{session_of};
+
+    ghost view = { λ s. session_of P.numbers (A.state s.arena) s.table.items s.table.room };
+}
+
+impl<
+    P: Ptr,
+    X: Copy,
+    S: NonZeroInxGenericStack<ArenaSlot<P, Node<X, P>>>,
+    A: SessionArena<P, Node<X, P>, S>,
+> NamedArena<P, X, S, A> {
+    /// Over this arena, without names.
+    pub(crate) fn over(arena: A, alloc: Global) -> Self
+        ensures { result ≡ new_session (map_values (node_of P.numbers) (A.state arena)) }
+    {
+        NamedArena {
+            arena,
+            table: NameTable::new(alloc),
+            alloc,
+            of: PhantomData,
+        }
+    }
+
+    /// The reply to a command, and what it leaves. Over a strict arena it is `Exhausted` where the command
+    /// would raise a counter that stands at the greatest generation.
+    pub(crate) fn answer(&mut self, command: Command<X>) -> Reply<X>
+    where
+        X: Debug,
+        ensures { IsStepOf A.strict S.kind S.has_memory P.Gen.counting P.Gen.greatest
+            self.old command result self.new }
+    {
+        if A::is_strict() && self.is_refused(command) {
+            return Reply::Exhausted;
+        }
+        self.reply(command)
+    }
+
+    // Whether a command would raise a counter that stands at the greatest generation.
+    fn is_refused(&self, command: Command<X>) -> bool
+        ensures { result ≡ is_refused P.Gen.counting P.Gen.greatest self.now command }
+    {
+        self.arena.is_at_greatest() && self.raises(command)
+    }
+
+    // Whether a command raises the counter where it succeeds.
+    fn raises(&self, command: Command<X>) -> bool
+        ensures { result ≡ raises_counter self.now command }
+    {
+        match command {
+            Command::Remove(name) | Command::Invalidate(name) => self.is_live(name),
+            Command::Clear | Command::Compact => 0 < self.arena.len(),
+            _ => false,
+        }
+    }
+
+    // Whether an entry stands under a name.
+    fn is_live(&self, name: usize) -> bool
+        ensures { result ≡ is_some (named self.now name) }
+    {
+        match self.pointer(name) {
+            Some(p) => self.arena.get(p).is_some(),
+            None => false,
+        }
+    }
+
+    // The reply to a command that is not refused for want of a raise, and what it leaves.
+    fn reply(&mut self, command: Command<X>) -> Reply<X>
+    where
+        X: Debug,
+        requires { refuses A.strict P.Gen.counting P.Gen.greatest self.old command ≡ false }
+        ensures { IsStep S.kind S.has_memory P.Gen.counting P.Gen.greatest self.old command result self.new }
+    {
+        match command {
+            Command::Insert(datum, link) => self.insert(datum, link),
+            Command::InsertWithin(datum, link) => self.insert_within(datum, link),
+            Command::Get(name) => self.get(name),
+            Command::Set(name, datum, link) => self.set(name, datum, link),
+            Command::Remove(name) => self.remove(name),
+            Command::Invalidate(name) => self.invalidate(name),
+            Command::Clear => self.clear(),
+            Command::Compact => self.compact(),
+            Command::Len => Reply::Count(self.arena.len()),
+            Command::Capacity => Reply::Count(self.arena.capacity()),
+            Command::Reserve(count) => self.reserve(count),
+            Command::Show => self.show(),
+        }
+    }
+
+    // Tells what is true of the arena of any session, and does nothing.
+    pub(crate) fn tell_arena(&self)
+        ensures over { IsArenaOver S.kind self.now.arena }
+        ensures within { self.now.arena.counter ≤ P.Gen.greatest }
+    {
+        let _len = self.arena.len();
+        let _limit = self.arena.max_capacity();
+        let _is_at_greatest = self.arena.is_at_greatest();
+    }
+
+    // The replies to commands, up to the first wrap.
+    pub(crate) fn run_commands(
+        &mut self,
+        commands: &[Command<X>],
+    ) -> Result<Vec<Reply<X>>, AllocError>
+    where
+        X: Debug,
+        ensures ran { IfOk result (λ replies.
+            RunsToWrap (IsStepOf A.strict S.kind S.has_memory P.Gen.counting P.Gen.greatest)
+            self.old commands.now replies.items self.new) }
+        ensures refused { OnErr result (self.new ≡ self.old) }
+        ensures succeeds { commands.now ≡ [] → IsOk result }
+    {
+        let mut replies = Vec::with_capacity(self.alloc, commands.len())?;
+        'commands: for command in commands {
+            let reply = self.answer(*command);
+            let wrapped = reply.tells_of_wrap();
+            replies.push_reserved(reply);
+            if wrapped {
+                return Ok(replies);
+            }
+        }
+        Ok(replies)
+    }
+
+    fn insert(&mut self, datum: X, link: Option<usize>) -> Reply<X>
+        ensures { IsStep S.kind S.has_memory P.Gen.counting P.Gen.greatest
+            self.old (Command.Insert datum link) result self.new }
+    {
+        let Some(target) = self.link_pointer(link) else {
+            return Reply::BadName;
+        };
+        match self.refusal() {
+            Some(ReallocationError::BeyondMaxCapacity) => return Reply::BeyondMaxCapacity,
+            Some(ReallocationError::AllocError) => return Reply::NoMemory,
+            None => {}
+        }
+        let Ok(()) = self.table.make_room() else {
+            return Reply::NoMemory;
+        };
+        let node = Node {
+            datum,
+            link: target,
+        };
+        match self.arena.insert(node) {
+            Ok(p) => Reply::Given(self.table.push(p, link), false),
+            Err(_) => Reply::NoMemory,
+        }
+    }
+
+    fn insert_within(&mut self, datum: X, link: Option<usize>) -> Reply<X>
+        ensures { IsStep S.kind S.has_memory P.Gen.counting P.Gen.greatest
+            self.old (Command.InsertWithin datum link) result self.new }
+    {
+        let Some(target) = self.link_pointer(link) else {
+            return Reply::BadName;
+        };
+        if self.is_full() {
+            return Reply::Full;
+        }
+        let Ok(()) = self.table.make_room() else {
+            return Reply::NoMemory;
+        };
+        let p = self.arena.insert_reserved(Node {
+            datum,
+            link: target,
+        });
+        Reply::Given(self.table.push(p, link), false)
+    }
+
+    fn get(&self, name: usize) -> Reply<X>
+        ensures { IsStep S.kind S.has_memory P.Gen.counting P.Gen.greatest
+            self.now (Command.Get name) result self.now }
+    {
+        let Some(p) = self.pointer(name) else {
+            return Reply::Nothing;
+        };
+        match self.arena.get(p) {
+            Some(node) => Reply::Found(node.datum, self.link_name(name, node.link)),
+            None => Reply::Nothing,
+        }
+    }
+
+    fn set(&mut self, name: usize, datum: X, link: Option<usize>) -> Reply<X>
+        ensures { IsStep S.kind S.has_memory P.Gen.counting P.Gen.greatest
+            self.old (Command.Set name datum link) result self.new }
+    {
+        let Some(target) = self.link_pointer(link) else {
+            return Reply::BadName;
+        };
+        let Some(p) = self.pointer(name) else {
+            return Reply::Invalid;
+        };
+        let node = Node {
+            datum,
+            link: target,
+        };
+        if !self.arena.put(p, node) {
+            return Reply::Invalid;
+        }
+        self.table.note_link(name, link);
+        Reply::Done
+    }
+
+    fn remove(&mut self, name: usize) -> Reply<X>
+        requires { refuses A.strict P.Gen.counting P.Gen.greatest
+            self.old (Command.Remove name) ≡ false }
+        ensures { IsStep S.kind S.has_memory P.Gen.counting P.Gen.greatest
+            self.old (Command.Remove name) result self.new }
+    {
+        let Some(p) = self.pointer(name) else {
+            return Reply::Invalid;
+        };
+        let (taken, wrapped) = self.arena.remove(p).overflowing();
+        match taken {
+            Some(node) => Reply::Removed(node.datum, self.link_name(name, node.link), wrapped),
+            None => Reply::Invalid,
+        }
+    }
+
+    fn invalidate(&mut self, name: usize) -> Reply<X>
+        requires { refuses A.strict P.Gen.counting P.Gen.greatest
+            self.old (Command.Invalidate name) ≡ false }
+        ensures { IsStep S.kind S.has_memory P.Gen.counting P.Gen.greatest
+            self.old (Command.Invalidate name) result self.new }
+    {
+        let Some(p) = self.pointer(name) else {
+            return Reply::Invalid;
+        };
+        let Some(_) = self.arena.get(p) else {
+            return Reply::Invalid;
+        };
+        let Ok(()) = self.table.make_room() else {
+            return Reply::NoMemory;
+        };
+        let link = self.table.hint(name);
+        let (answer, wrapped) = self.arena.invalidate(p).overflowing();
+        match answer {
+            Some(renewed) => Reply::Given(self.table.push(renewed, link), wrapped),
+            None => Reply::Invalid,
+        }
+    }
+
+    fn clear(&mut self) -> Reply<X>
+        requires { refuses A.strict P.Gen.counting P.Gen.greatest self.old Command.Clear ≡ false }
+        ensures { IsStep S.kind S.has_memory P.Gen.counting P.Gen.greatest
+            self.old Command.Clear result self.new }
+    {
+        let ((), wrapped) = self.arena.clear().overflowing();
+        Reply::Cleared(wrapped)
+    }
+
+    fn compact(&mut self) -> Reply<X>
+        requires { refuses A.strict P.Gen.counting P.Gen.greatest self.old Command.Compact ≡ false }
+        ensures { IsStep S.kind S.has_memory P.Gen.counting P.Gen.greatest
+            self.old Command.Compact result self.new }
+    {
+        match self.arena.compress_recast(self.alloc) {
+            Ok(answer) => {
+                let (renaming, wrapped) = answer.overflowing();
+                self.table.rename(&renaming);
+                Reply::Compacted(wrapped)
+            }
+            Err(CompactError::Unresolved(_)) => Reply::Unresolved,
+            Err(CompactError::Reallocation(_)) => Reply::NoMemory,
+        }
+    }
+
+    fn reserve(&mut self, count: usize) -> Reply<X>
+        ensures { IsStep S.kind S.has_memory P.Gen.counting P.Gen.greatest
+            self.old (Command.Reserve count) result self.new }
+    {
+        // It tells the greatest index of the arena.
+        let _capacity = self.arena.capacity();
+        match self.arena.reallocate_min_capacity(count) {
+            Ok(()) => Reply::Done,
+            Err(ReallocationError::BeyondMaxCapacity) => Reply::BeyondMaxCapacity,
+            Err(ReallocationError::AllocError) => Reply::NoMemory,
+        }
+    }
+
+    fn show(&self) -> Reply<X>
+    where
+        X: Debug,
+        ensures { IsStep S.kind S.has_memory P.Gen.counting P.Gen.greatest
+            self.now Command.Show result self.now }
+    {
+        match format!(in self.alloc; "{:?}", self.arena.arena()) {
+            Ok(text) => Reply::Line(text),
+            Err(_) => Reply::NoMemory,
+        }
+    }
+
+    // Why the arena cannot take one more entry, whatever memory there is.
+    fn refusal(&self) -> Option<ReallocationError>
+        ensures why { result ≡ refusal self.now.arena }
+        ensures fits { arena_len self.now.arena ≤ capacity self.now.arena }
+        ensures greatest { self.now.arena.greatest ≡ greatest_index P.Inx.greatest }
+    {
+        let capacity = self.arena.capacity();
+        if self.arena.len() < capacity {
+            return None;
+        }
+        match self.arena.max_capacity() {
+            Some(limit) if limit <= capacity => Some(ReallocationError::BeyondMaxCapacity),
+            _ if capacity == P::Inx::max_index().get() => Some(ReallocationError::AllocError),
+            _ => None,
+        }
+    }
+
+    // Whether the arena has as many entries as fit without growth.
+    fn is_full(&self) -> bool
+        ensures full { result ≡ (arena_len self.now.arena == capacity self.now.arena) }
+        ensures fits { arena_len self.now.arena ≤ capacity self.now.arena }
+    {
+        self.arena.len() == self.arena.capacity()
+    }
+
+    // The pointer of a name, if it was given.
+    fn pointer(&self, name: usize) -> Option<P>
+        ensures { option_map P.numbers result ≡ item self.now.table name }
+    {
+        self.table.pointer(name)
+    }
+
+    // The pointer of a link, or none if the link is to a name that was never given.
+    fn link_pointer(&self, link: Option<usize>) -> Option<Option<P>>
+        ensures { option_map (option_map P.numbers) result ≡ link_pointer self.now.table link }
+    {
+        match link {
+            Some(name) => self.pointer(name).map(Some),
+            None => Some(None),
+        }
+    }
+
+    // The name of the pointer of a link that the entry of a name has.
+    fn link_name(&self, name: usize, link: Option<P>) -> Option<usize>
+        ensures { result ≡ link_name self.now.table (option_map P.numbers link) }
+    {
+        self.table.link_name(name, link?)
+    }
+}

@@ -1,0 +1,176 @@
+//! Strict sessions: sessions that refuse what would wrap the counter of their arena.
+
+ghost use Rattle.std.specs.Prelude.{◌≡◌, ◌-◌, ◌≤◌, ◌↔◌, [], IfOk, OnOk, OnErr, IsOk, true, false, length};
+ghost use Rattle.std.specs.List.{list_all, list_any};
+ghost use Rattle.triple_arena_ptr.specs.Numbers.{greatest_index, first_generation};
+ghost use Rattle.triple_arena_stack.specs.StackKind.{new_room, new_limit, made_room, made_limit, CanHold, TakesNoMemory};
+ghost use Rattle.triple_arena_traits.specs.ArenaState.{new_arena, map_values};
+ghost use Rattle.triple_arena_traits.specs.Histories.{Fits, Continues};
+ghost use Rattle.triple_arena_commands.specs.declared.reply.Reply.TheVariants.{Exhausted};
+ghost use Rattle.triple_arena_commands.specs.ReplyText.{tells_of_wrap};
+ghost use Rattle.triple_arena_commands.specs.Runs.{IsRun, TellsOfNoWrap};
+ghost use Rattle.triple_arena_commands.specs.NameStore.{new_store};
+ghost use Rattle.triple_arena_commands.specs.StoreRuns.{is_named, is_no_memory, ample, erase, seen};
+ghost use Rattle.triple_arena_commands.specs.Strict.{is_exhausted, IsStrictStoreStep};
+ghost use Rattle.triple_arena_session.specs.SessionState.{node_of, new_session};
+ghost use Rattle.triple_arena_session.specs.SessionCalls.{calls_of, RunsFreshly};
+ghost use Rattle.triple_arena_session.specs.Shown.{shown, IsSound, IsArenaOver};
+ghost use Rattle.triple_arena_session.specs.Strict.{is_refused, IsStrictStep, strictly_shown};
+
+use crate::named_arena::NamedArena;
+use crate::node::Node;
+use std::alloc::Global;
+use std::fmt::Debug;
+use std::marker::Model;
+use triple_arena::ArenaSlot;
+use triple_arena_base::AllocError;
+use triple_arena_commands::{Command, Reply};
+use triple_arena_ptr::{Ptr, PtrGen, PtrInx};
+use triple_arena_stack::{NonZeroInxGenericStack, NonZeroInxVec};
+use triple_arena_strict::StrictArena;
+
+/// A session over a strict arena: a command that would raise the counter past the greatest generation is
+/// answered `Exhausted`, and changes nothing. So no reply tells of a wrap, and no pointer is ever given
+/// twice, however long the session is used.
+#[derive(Drop)]
+pub struct StrictSession<
+    P: Ptr,
+    X,
+    S: NonZeroInxGenericStack<ArenaSlot<P, Node<X, P>>> = NonZeroInxVec<ArenaSlot<P, Node<X, P>>>,
+> {
+    pub(crate) inside: NamedArena<P, X, S, StrictArena<P, Node<X, P>, S>>,
+}
+
+impl<P: Ptr, X, S: NonZeroInxGenericStack<ArenaSlot<P, Node<X, P>>>> Model
+    for StrictSession<P, X, S> {
+    ghost use Rattle.triple_arena_session.specs.SessionState.{SessionState};
+
+    ghost Value = { SessionState X };
+
+    ghost view = { λ s. s.inside };
+}
+
+impl<P: Ptr, X: Copy, S: NonZeroInxGenericStack<ArenaSlot<P, Node<X, P>>>> StrictSession<P, X, S> {
+    /// A strict session over a new arena, that has given no name, on the condition that the generation
+    /// of its pointers counts, which `PtrGen::counts` tells. It takes no memory.
+    ///
+    /// It is sound, and shows an empty store of names, to whose counter the raises are left that lead
+    /// from the first generation to the greatest.
+    pub fn new(alloc: Global) -> Self
+        requires { P.Gen.counting ≡ true }
+        ensures made { result ≡ new_session (new_arena (new_room S.kind) (new_limit S.kind)
+            (greatest_index P.Inx.greatest) (first_generation P.Gen.counting)) }
+        ensures sound { IsSound result }
+        ensures store { shown result ≡ new_store (new_room S.kind) (new_limit S.kind) (greatest_index P.Inx.greatest) }
+        ensures left { (strictly_shown P.Gen.greatest result).left
+            ≡ P.Gen.greatest - first_generation P.Gen.counting }
+    {
+        StrictSession {
+            inside: NamedArena::over(StrictArena::new(alloc), alloc),
+        }
+    }
+
+    /// A strict session over an arena with room for `min_capacity` entries, on the same condition.
+    ///
+    /// Refused where the arena is: where `min_capacity` is past the greatest index or the places of
+    /// an array, and where memory is refused. The session is sound, and shows an empty store of names
+    /// with the same raises left.
+    pub fn with_min_capacity(alloc: Global, min_capacity: usize) -> Result<Self, AllocError>
+        requires { P.Gen.counting ≡ true }
+        ensures made { IfOk result (λ session. session ≡ new_session (new_arena
+            (made_room S.kind min_capacity) (made_limit S.kind min_capacity)
+            (greatest_index P.Inx.greatest) (first_generation P.Gen.counting))) }
+        ensures sound { IfOk result (λ session. IsSound session) }
+        ensures store { IfOk result (λ session. shown session ≡ new_store
+            (made_room S.kind min_capacity) (made_limit S.kind min_capacity) (greatest_index P.Inx.greatest)) }
+        ensures left { IfOk result (λ session. (strictly_shown P.Gen.greatest session).left
+            ≡ P.Gen.greatest - first_generation P.Gen.counting) }
+        ensures holds { OnOk result
+            ((min_capacity ≤ greatest_index P.Inx.greatest) × CanHold S.kind min_capacity) }
+        ensures succeeds { min_capacity ≤ greatest_index P.Inx.greatest
+            → TakesNoMemory S.kind min_capacity → IsOk result }
+        ensures given { min_capacity ≤ greatest_index P.Inx.greatest
+            → CanHold S.kind min_capacity → S.has_memory min_capacity → IsOk result }
+    {
+        let arena = StrictArena::with_min_capacity(alloc, min_capacity)?;
+        Ok(StrictSession {
+            inside: NamedArena::over(arena, alloc),
+        })
+    }
+
+    /// The arena: data with the pointers of their links.
+    pub fn arena(&self) -> &StrictArena<P, Node<X, P>, S>
+        ensures { map_values (node_of P.numbers) result.now ≡ self.now.arena }
+    {
+        &self.inside.arena
+    }
+
+    /// Runs a command, and gives its reply, as `Session::step` does, but that it is `Exhausted` where
+    /// the command would raise a counter that stands at the greatest generation: `Remove` and
+    /// `Invalidate` of a live name, after `Invalid` and before `NoMemory`, and `Clear` and `Compact`
+    /// where there is an entry, before all else. Then nothing changes. No reply tells of a wrap.
+    ///
+    /// A sound session answers as the strict store of names that it shows, shows what the store
+    /// becomes, and is sound. The calls on its arena take each history that fits it to one that fits,
+    /// so that every pointer that was given is new (`history`). Of the session before it tells what is
+    /// true of each (`arena`, `within`), so that the law `strict_session_steps_as_store` can be used of
+    /// its steps.
+    pub fn step(&mut self, command: Command<X>) -> Reply<X>
+    where
+        X: Debug,
+        ensures step { IsStrictStep S.kind S.has_memory P.Gen.counting P.Gen.greatest
+            self.old command result self.new }
+        ensures exhausted { (result ≡ Exhausted)
+            ↔ (is_refused P.Gen.counting P.Gen.greatest self.old command ≡ true) }
+        ensures unchanged { result ≡ Exhausted → self.new ≡ self.old }
+        ensures quiet { tells_of_wrap result ≡ false }
+        ensures store { P.Gen.counting ≡ true → IsSound self.old → IsStrictStoreStep
+            (strictly_shown P.Gen.greatest self.old) command result
+            (strictly_shown P.Gen.greatest self.new) }
+        ensures sound { P.Gen.counting ≡ true → IsSound self.old → IsSound self.new }
+        ensures history { P.Gen.counting ≡ true → IsSound self.old
+            → Continues Fits self.old.arena (calls_of self.old command result) self.new.arena }
+        ensures arena { IsArenaOver S.kind self.old.arena }
+        ensures within { self.old.arena.counter ≤ P.Gen.greatest }
+    {
+        self.inside.tell_arena();
+        self.inside.answer(command)
+    }
+
+    /// Runs the commands in order, all of them, and gives their replies, one to each.
+    ///
+    /// There is room for all replies first: where memory for it is refused, nothing is done. For no
+    /// commands none is asked for.
+    ///
+    /// A sound session answers as the strict store of names that it shows, shows what the store
+    /// becomes, and is sound; and every pointer that was given is new. Of named commands, which are
+    /// all but `Capacity`, `Reserve` and `Show`, and with neither `NoMemory` nor `Exhausted` among the
+    /// replies, compactions change no other reply.
+    pub fn run(&mut self, commands: &[Command<X>]) -> Result<Vec<Reply<X>>, AllocError>
+    where
+        X: Debug,
+        ensures ran { IfOk result (λ replies.
+            IsRun (IsStrictStep S.kind S.has_memory P.Gen.counting P.Gen.greatest)
+            self.old commands.now replies.items self.new) }
+        ensures whole { IfOk result (λ replies. length replies.items ≡ length commands.now) }
+        ensures quiet { IfOk result (λ replies. TellsOfNoWrap replies.items) }
+        ensures refused { OnErr result (self.new ≡ self.old) }
+        ensures succeeds { commands.now ≡ [] → IsOk result }
+        ensures store { P.Gen.counting ≡ true → IsSound self.old → IfOk result (λ replies.
+            IsRun IsStrictStoreStep (strictly_shown P.Gen.greatest self.old) commands.now
+            replies.items (strictly_shown P.Gen.greatest self.new)) }
+        ensures sound { P.Gen.counting ≡ true → IsSound self.old → IsSound self.new }
+        ensures history { P.Gen.counting ≡ true → IsSound self.old → IfOk result (λ replies.
+            RunsFreshly (IsStrictStep S.kind S.has_memory P.Gen.counting P.Gen.greatest)
+            self.old commands.now replies.items self.new) }
+        ensures unseen { P.Gen.counting ≡ true → IsSound self.old → IfOk result (λ replies.
+            list_all is_named commands.now ≡ true → list_any is_no_memory replies.items ≡ false
+            → list_any is_exhausted replies.items ≡ false
+            → seen commands.now replies.items ≡ ample (shown self.old) (erase commands.now)) }
+        ensures arena { IsArenaOver S.kind self.old.arena }
+        ensures within { self.old.arena.counter ≤ P.Gen.greatest }
+    {
+        self.inside.tell_arena();
+        self.inside.run_commands(commands)
+    }
+}

@@ -1,0 +1,85 @@
+//! The run of a text in a strict session.
+
+ghost use Rattle.std.specs.Prelude.{◌≡◌, ◌≤◌, IfSome, true};
+ghost use Rattle.std.specs.Io.Buffered.{writer_contents};
+ghost use Rattle.triple_arena_session.specs.Shown.{IsSound, IsArenaOver};
+ghost use Rattle.triple_arena_session.specs.Strict.{IsStrictStep, strictly_shown};
+ghost use Rattle.triple_arena_session.specs.StrictText.{IsWholeTextRun, IsWholeFlushedRun, IsStrictStoreText};
+
+use crate::node::Node;
+use crate::strict_session::StrictSession;
+use crate::text::{read_and_run, run_and_flush};
+use std::alloc::Global;
+use std::io::{BufWriter, Read, Write};
+use triple_arena::ArenaSlot;
+use triple_arena_commands::TextError;
+use triple_arena_ptr::Ptr;
+use triple_arena_stack::NonZeroInxGenericStack;
+
+/// Runs the commands of a text in a strict session, as `run_text` does in another. No reply tells of a
+/// wrap, so none ends the run: where the outcome is `Ok`, all lines were answered.
+///
+/// In a sound session the lines are answered as by the strict store of names that it shows, and
+/// compactions change no other line, as `StrictSession::run` says. It shows what the store became, where
+/// the writer failed by the first lines, and is sound after the run, however it ended: so one text may
+/// follow another. All this is said of readers and writers that tell their bytes.
+pub fn run_text_strict<
+    P: Ptr,
+    S: NonZeroInxGenericStack<ArenaSlot<P, Node<u64, P>>>,
+    R: Read,
+    W: Write,
+>(
+    session: &mut StrictSession<P, u64, S>,
+    alloc: Global,
+    input: &mut R,
+    output: &mut W,
+) -> Result<(), TextError>
+    ensures run { IsWholeTextRun (IsStrictStep S.kind S.has_memory P.Gen.counting P.Gen.greatest)
+        (R.remaining input.old) result
+        session.old session.new (W.contents output.old) (W.contents output.new) }
+    ensures store { P.Gen.counting ≡ true → IsSound session.old
+        → IsStrictStoreText (strictly_shown P.Gen.greatest session.old)
+        (strictly_shown P.Gen.greatest session.new)
+        (R.remaining input.old) result (W.contents output.old) (W.contents output.new) }
+    ensures sound { P.Gen.counting ≡ true → IsSound session.old
+        → IfSome (R.remaining input.old) (λ _. IsSound session.new) }
+    ensures arena { IsArenaOver S.kind session.old.arena }
+    ensures within { session.old.arena.counter ≤ P.Gen.greatest }
+{
+    session.inside.tell_arena();
+    read_and_run(&mut session.inside, alloc, input, output)
+}
+
+/// Runs a text as `run_text_strict` does, over a buffered writer. The writer is flushed once when the
+/// run has ended, whatever its outcome, and the writer below it is given back.
+///
+/// Of a run that failed by reading or for want of memory nothing was written, and at the other
+/// outcomes but `Write` the writer below holds each reply line. At `Write` it holds a front of the
+/// reply lines of the commands that ran. A failed flush is `Write`. In a sound session the lines
+/// are those of a strict store of names, and it is left, as `run_text_strict` says.
+pub fn run_text_strict_and_flush<
+    P: Ptr,
+    S: NonZeroInxGenericStack<ArenaSlot<P, Node<u64, P>>>,
+    R: Read,
+    W: Write + Drop,
+>(
+    session: &mut StrictSession<P, u64, S>,
+    alloc: Global,
+    input: &mut R,
+    output: BufWriter<W>,
+) -> (Result<(), TextError>, W)
+    ensures run { IsWholeFlushedRun (IsStrictStep S.kind S.has_memory P.Gen.counting P.Gen.greatest)
+        (R.remaining input.old) result.0
+        session.old session.new (writer_contents W.contents output) (W.contents result.1) }
+    ensures store { P.Gen.counting ≡ true → IsSound session.old
+        → IsStrictStoreText (strictly_shown P.Gen.greatest session.old)
+        (strictly_shown P.Gen.greatest session.new)
+        (R.remaining input.old) result.0 (writer_contents W.contents output) (W.contents result.1) }
+    ensures sound { P.Gen.counting ≡ true → IsSound session.old
+        → IfSome (R.remaining input.old) (λ _. IsSound session.new) }
+    ensures arena { IsArenaOver S.kind session.old.arena }
+    ensures within { session.old.arena.counter ≤ P.Gen.greatest }
+{
+    session.inside.tell_arena();
+    run_and_flush(&mut session.inside, alloc, input, output)
+}

@@ -1,0 +1,118 @@
+//! Strict sessions: at a pointer whose generation is a byte, and where memory is refused.
+
+use super::commands::{AnswersOrChangesNothing, AtTheEnd};
+use super::runs::{Flushes, GoesOn, RunsWhereThereIsMemory};
+use super::sessions::{command_at, reply_at};
+use super::steps::{Asked, Trial, follow, try_strict};
+use std::alloc::Global;
+use std::array;
+use std::process::Abort;
+use triple_arena::ArenaSlot;
+use triple_arena_ptr::P0;
+use triple_arena_session::{Command, Node, Reply, StrictSession, TextError};
+use triple_arena_stack::NonZeroInxArray;
+use triple_arena_trait_kit::B;
+
+/// The byte counter is at its end after 253 raises. What would raise it is refused where an entry
+/// stands, and all else is answered.
+#[test]
+fn refuses_what_would_raise_a_counter_at_its_end(rt: HostRuntime) {
+    let trial = AtTheEnd {
+        text: b"insert 5 -\nremove 254\ninvalidate 254\ncompact\nclear\nremove 1\nget 254\ninsert 6 254\nset 254 7 -\nlen\nshow\n",
+        lines: b"given 254\nexhausted\nexhausted\nexhausted\nexhausted\ninvalid\nfound 5 -\ngiven 255\ndone\ncount 2\n{B[1](ff): (7, None), B[2](ff): (6, Some(B[1](ff)))}\n",
+    };
+    try_strict::<B>(&rt, rt.alloc(), &trial);
+}
+
+/// Without an entry nothing raises the counter, and nothing is refused so.
+#[test]
+fn clears_and_compacts_without_an_entry(rt: HostRuntime) {
+    let trial = AtTheEnd {
+        text: b"clear\ncompact\ninvalidate 1\n",
+        lines: b"cleared\ncompacted\ninvalid\n",
+    };
+    try_strict::<B>(&rt, rt.alloc(), &trial);
+}
+
+// A run has 509 replies, of which that at 507 is a refusal.
+struct RunsOnPastARefusal;
+
+impl Trial for RunsOnPastARefusal {
+    fn pass(&self, rt: &impl Abort, _alloc: Global, session: &mut impl Asked) {
+        let commands: [Command<u64>; 509] = array::from_fn(command_at);
+        is_refused_once(rt, session.answers(&commands));
+        follow(rt, session, &[(Command::Get(254), Reply::Found(1, None))]);
+        assert!(rt; session.extent().0 == 1);
+    }
+}
+
+// Expects a run to have been refused the removal at 507, and to have gone on.
+fn is_refused_once(rt: &impl Abort, told: Option<Vec<Reply<u64>>>) {
+    let Some(told) = told else {
+        panic!(rt; "there is memory");
+    };
+    assert!(rt; told.len() == 509);
+    for (position, reply) in told.iter().enumerate() {
+        let wanted = match position {
+            507 => Reply::Exhausted,
+            508 => Reply::Count(1),
+            _ => reply_at(position),
+        };
+        assert!(rt; *reply == wanted, "at {position}");
+    }
+}
+
+/// The 254th removal would wrap the byte counter, and is refused; what follows runs.
+#[test]
+fn a_run_goes_on_past_a_refusal(rt: HostRuntime) {
+    try_strict::<B>(&rt, rt.alloc(), &RunsOnPastARefusal);
+}
+
+#[test]
+fn a_strict_session_goes_on_after_a_malformed_line(rt: HostRuntime) {
+    try_strict::<P0>(&rt, rt.alloc(), &GoesOn);
+}
+
+/// The writer below the buffer takes one write, or fails at the first.
+#[test]
+fn a_strict_run_flushes_what_was_answered(rt: HostRuntime) {
+    for (writes_before, end) in [
+        (1, (Err(TextError::Malformed(2)), 1, 8)),
+        (0, (Err(TextError::Write), 0, 0)),
+    ] {
+        let trial = Flushes {
+            text: b"insert 1 -\nwhat\n",
+            writes_before,
+            end,
+            reply: Reply::Found(1, None),
+        };
+        try_strict::<P0>(&rt, rt.alloc(), &trial);
+    }
+}
+
+/// Holds with ample memory, and also where any one request for memory is refused (`rt try --test
+/// --fail-alloc N`).
+#[test]
+fn a_refused_command_changes_nothing_of_a_strict_session(rt: HostRuntime) {
+    try_strict::<P0>(&rt, rt.alloc(), &AnswersOrChangesNothing);
+}
+
+/// Holds with ample memory, and also where any one request for memory is refused
+/// (`rt try --test --fail-alloc N`).
+#[test]
+fn a_strict_run_answers_no_memory_where_it_is_refused(rt: HostRuntime) {
+    try_strict::<P0>(&rt, rt.alloc(), &RunsWhereThereIsMemory);
+}
+
+type Slot = ArenaSlot<P0, Node<u64, P0>>;
+
+// Whether a strict session over an array of 8 is made with room for so many.
+fn has_places(alloc: Global, room: usize) -> bool {
+    StrictSession::<P0, u64, NonZeroInxArray<Slot, 8>>::with_min_capacity(alloc, room).is_ok()
+}
+
+#[test]
+fn a_strict_session_has_room_for_no_more_than_its_places(rt: HostRuntime) {
+    assert!(rt; has_places(rt.alloc(), 8));
+    assert!(rt; !has_places(rt.alloc(), 9));
+}

@@ -72,6 +72,16 @@ pub trait PtrGen: Debug + Hash + Clone + Copy + PartialEq + Eq + PartialOrd + Or
 
     /// Generations are in the order of their numbers.
     ghost orders: { (g h : Self) → Self.cmp g h ≡ nat_cmp (number g) (number h) };
+
+    /// Whether this is the greatest generation of its type, where generations count: exactly there
+    /// [`Self::generational_inc`] tells of a wrap. Never of `()`.
+    final fn is_max(this: Self) -> bool
+        ensures value { result ≡ wraps counting greatest (number this) }
+        ensures within { number this ≤ greatest }
+    {
+        let (_next, wrapped) = Self::generational_inc(this);
+        wrapped
+    }
 }
 
 /// The generation after this one, and whether it is two again.

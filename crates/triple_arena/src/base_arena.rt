@@ -10,8 +10,8 @@ ghost use Rattle.triple_arena_stack.specs.Capacity.{IsWithin, IsBeyond, IsAtLimi
 ghost use Rattle.triple_arena_stack.specs.StackKind.{IsOfKind};
 ghost use Rattle.triple_arena_stack.specs.Disjoint.{DisjointAnswer, MayWork, Worked};
 ghost use Rattle.triple_arena_traits.specs.Items.{item};
-ghost use Rattle.triple_arena_traits.specs.ArenaState.{ArenaState, new_arena, slot_count, capacity, arena_len, entry, look_up, with_value, is_free, IsWellFormed};
-ghost use Rattle.triple_arena_traits.specs.Insertion.{next_pointer, inserted};
+ghost use Rattle.triple_arena_traits.specs.ArenaState.{ArenaState, IsUnchanged, touched, new_arena, slot_count, capacity, arena_len, entry, look_up, with_value, is_free, IsWellFormed};
+ghost use Rattle.triple_arena_traits.specs.Insertion.{next_pointer, inserted, insertion_steps};
 ghost use Rattle.triple_arena_traits.specs.Ending.{removed, invalidated, cleared, told};
 ghost use Rattle.triple_arena_traits.specs.FreeList.{tidied, without_free_end, IsInOrder};
 ghost use Rattle.triple_arena_traits.specs.Capacity.{with_room_for, reallocated, KeepsRoom, grown};
@@ -81,18 +81,19 @@ impl<P: Ptr, T, S: NonZeroInxGenericStack<ArenaSlot<P, T>>> Model for Arena<P, T
 
     ghost view = { λ a. state_of P.Gen.number (S.items a.slots.stack)
         (option_map non_zero_usize_get a.slots.root) (P.Gen.number a.counter) (S.room a.slots.stack)
-        (S.limit a.slots.stack) (greatest_index P.Inx.greatest) };
+        (S.limit a.slots.stack) (greatest_index P.Inx.greatest) a.slots.steps.count };
 
     ghost invariant = { λ a. Shows P.Gen.number (S.items a.slots.stack)
         (option_map non_zero_usize_get a.slots.root) a.len
         (state_of P.Gen.number (S.items a.slots.stack) (option_map non_zero_usize_get a.slots.root)
         (P.Gen.number a.counter) (S.room a.slots.stack) (S.limit a.slots.stack)
-        (greatest_index P.Inx.greatest)) };
+        (greatest_index P.Inx.greatest) a.slots.steps.count) };
 }
 
 impl<P: Ptr, T, S: NonZeroInxGenericStack<ArenaSlot<P, T>>> ArenaTrait<P, T> for Arena<P, T, S> {
     ghost use Rattle.std.specs.Prelude.{refl};
-    ghost use Rattle.std.proofs.Common.{ap};
+    ghost use Rattle.std.proofs.Common.{ap, subst, sym, ◌∙◌};
+    ghost use Rattle.triple_arena_traits.specs.Entries.{ChangesAt};
     ghost use Rattle.triple_arena_traits.specs.EntryLaws.{slots-removed, limit_of-removed, fitting-removed, slots-invalidated, slots-cleared, slots-reallocated, slots-settled};
     ghost use Rattle.triple_arena_traits.specs.LengthLaws.{len-with_value, len-removed, len-invalidated, len-reallocated, len-settled};
 
@@ -128,15 +129,22 @@ impl<P: Ptr, T, S: NonZeroInxGenericStack<ArenaSlot<P, T>>> ArenaTrait<P, T> for
 
     ghost with_value = { with_value };
 
+    // the count of the slots that were touched
+    ghost steps = { λ s. s.steps };
+
+    // nothing changed, that count aside
+    ghost unchanged = { IsUnchanged };
+
     // the counter is raised, and the entry has it as its generation
     ghost invalidates = { λ old i new.
-        new ≡ invalidated (raise P.Gen.counting P.Gen.greatest) old i };
+        IsUnchanged (invalidated (raise P.Gen.counting P.Gen.greatest) old i) new };
 
     // the raised counter
     ghost renewed = { λ s _. raise P.Gen.counting P.Gen.greatest s.counter };
 
     // the counter is raised; the last slot goes, and any other becomes the first free one
-    ghost removes = { λ old i new. new ≡ removed (raise P.Gen.counting P.Gen.greatest) old i };
+    ghost removes = { λ old i new.
+        IsUnchanged (removed (raise P.Gen.counting P.Gen.greatest) old i) new };
 
     // the counter is the greatest generation
     ghost ending_wraps = { λ s. wraps P.Gen.counting P.Gen.greatest s.counter };
@@ -251,7 +259,7 @@ impl<P: Ptr, T, S: NonZeroInxGenericStack<ArenaSlot<P, T>>> ArenaTrait<P, T> for
     }
 
     fn invalidate(&mut self, p: P) -> InvalidationResult<P> {
-        let Some(inx) = self.find(p) else {
+        let Some(inx) = self.look_for(p) else {
             return InvalidationResult::InvalidPtr;
         };
         let (counter, wrapped) = P::Gen::generational_inc(self.counter);
@@ -261,7 +269,7 @@ impl<P: Ptr, T, S: NonZeroInxGenericStack<ArenaSlot<P, T>>> ArenaTrait<P, T> for
     }
 
     fn remove(&mut self, p: P) -> InvalidationResult<T> {
-        let Some(inx) = self.find(p) else {
+        let Some(inx) = self.look_for(p) else {
             return InvalidationResult::InvalidPtr;
         };
         let ((_generation, value), wrapped) = self.take(inx);
@@ -269,7 +277,7 @@ impl<P: Ptr, T, S: NonZeroInxGenericStack<ArenaSlot<P, T>>> ArenaTrait<P, T> for
     }
 
     fn remove_inx(&mut self, inx: P::Inx) -> InvalidationResult<(P::Gen, T)> {
-        let Some(inx) = self.find_inx(inx) else {
+        let Some(inx) = self.look_at(inx) else {
             return InvalidationResult::InvalidPtr;
         };
         let (taken, wrapped) = self.take(inx);
@@ -303,17 +311,38 @@ impl<P: Ptr, T, S: NonZeroInxGenericStack<ArenaSlot<P, T>>> ArenaTrait<P, T> for
 
     ghost fitting_with_value = { λ _ _ _. refl };
 
-    ghost slots_removed = { slots-removed (raise P.Gen.counting P.Gen.greatest) };
+    ghost slots_removed = { λ old i new same. subst (ChangesAt old.slots i None)
+        (sym (ap (λ s. s.slots) same))
+        (slots-removed (raise P.Gen.counting P.Gen.greatest) old i
+        (removed (raise P.Gen.counting P.Gen.greatest) old i) refl) };
 
-    ghost len_removed = { len-removed (raise P.Gen.counting P.Gen.greatest) };
+    ghost len_removed = { λ old i new same live. ap (λ s. arena_len s + 1) same
+        ∙ len-removed (raise P.Gen.counting P.Gen.greatest) old i
+        (removed (raise P.Gen.counting P.Gen.greatest) old i) refl live };
 
-    ghost limit_removed = { limit_of-removed (raise P.Gen.counting P.Gen.greatest) };
+    ghost limit_removed = { λ old i new same. ap (λ s. s.limit) same
+        ∙ limit_of-removed (raise P.Gen.counting P.Gen.greatest) old i
+        (removed (raise P.Gen.counting P.Gen.greatest) old i) refl };
 
-    ghost fitting_removed = { fitting-removed (raise P.Gen.counting P.Gen.greatest) };
+    ghost fitting_removed = { λ old i new same. ap capacity same
+        ∙ fitting-removed (raise P.Gen.counting P.Gen.greatest) old i
+        (removed (raise P.Gen.counting P.Gen.greatest) old i) refl };
 
-    ghost slots_invalidated = { slots-invalidated (raise P.Gen.counting P.Gen.greatest) };
+    ghost slots_unchanged = { λ _ _. ap (λ s. s.slots) };
 
-    ghost len_invalidated = { len-invalidated (raise P.Gen.counting P.Gen.greatest) };
+    ghost limit_unchanged = { λ _ _. ap (λ s. s.limit) };
+
+    ghost fitting_unchanged = { λ _ _. ap capacity };
+
+    ghost slots_invalidated = { λ old i new same. subst (ChangesAt old.slots i
+        (option_map (λ e. (raise P.Gen.counting P.Gen.greatest old.counter, e.1)) (entry old i)))
+        (sym (ap (λ s. s.slots) same))
+        (slots-invalidated (raise P.Gen.counting P.Gen.greatest) old i
+        (invalidated (raise P.Gen.counting P.Gen.greatest) old i) refl) };
+
+    ghost len_invalidated = { λ old i new same. ap arena_len same
+        ∙ len-invalidated (raise P.Gen.counting P.Gen.greatest) old i
+        (invalidated (raise P.Gen.counting P.Gen.greatest) old i) refl };
 
     ghost limit_invalidated = { λ _ _ _. ap (λ s. s.limit) };
 
@@ -351,7 +380,7 @@ impl<P: Ptr, T, S: NonZeroInxGenericStack<ArenaSlot<P, T>>> ArenaInsertTrait<P, 
     ghost next = { next_pointer };
 
     // the value stands there, and the index is free no longer
-    ghost inserted = { inserted };
+    ghost inserted = { λ s value. touched (insertion_steps s) (inserted s value) };
 
     // a full arena has room for 4 slots or for twice its capacity, as far as the limit allows and
     // there are indexes
@@ -477,10 +506,11 @@ impl<P: Ptr, T, S: NonZeroInxGenericStack<ArenaSlot<P, T>>> Arena<P, T, S> {
     /// Gives up the free slots past the last entry. The other free indexes keep their order, and no
     /// entry moves.
     ///
-    /// It takes no memory. Where the last slot is free it touches each free slot, and else that
-    /// slot alone.
+    /// It takes no memory, and touches a few slots for each that it gives up.
     pub fn remove_free_end_slots(&mut self)
-        ensures state { self.new ≡ without_free_end self.old }
+        ensures state { IsUnchanged (without_free_end self.old) self.new }
+        ensures bounded { self.new.steps + 6 * slot_count self.new
+            ≤ self.old.steps + 6 * slot_count self.old + 2 }
         ensures kept { (q : Pointer) → look_up self.new q ≡ look_up self.old q }
         ensures same_len { arena_len self.new ≡ arena_len self.old }
         ensures same_capacity { capacity self.new ≡ capacity self.old }
@@ -537,6 +567,38 @@ impl<P: Ptr, T, S: NonZeroInxGenericStack<ArenaSlot<P, T>>> Arena<P, T, S> {
         let slot = self.slot(p.inx())?;
         slot.value_under(p.generation())?;
         P::Inx::try_into_usize(p.inx())
+    }
+
+    // The index of a pointer, if the pointer is valid. It touches one slot.
+    fn look_for(&mut self, p: P) -> Option<NonZeroUsize>
+        ensures index { IfSome result (λ inx. non_zero_usize_get inx ≡ (P.numbers p).0) }
+        ensures live { is_some result ≡ is_some (look_up self.old (P.numbers p)) }
+        ensures unchanged { IsUnchanged self.old self.new }
+        ensures steps { self.new.steps ≤ self.old.steps + 1 }
+    {
+        let _count = self.slots.stack.len();
+        let inx = P::Inx::try_into_usize(p.inx())?;
+        if self.slots.has_generation(inx, p.generation()) {
+            Some(inx)
+        } else {
+            None
+        }
+    }
+
+    // An index, if an entry stands there. It touches one slot.
+    fn look_at(&mut self, inx: P::Inx) -> Option<NonZeroUsize>
+        ensures index { IfSome result (λ i. non_zero_usize_get i ≡ P.Inx.number inx) }
+        ensures live { is_some result ≡ is_some (entry self.old (P.Inx.number inx)) }
+        ensures unchanged { IsUnchanged self.old self.new }
+        ensures steps { self.new.steps ≤ self.old.steps + 1 }
+    {
+        let _count = self.slots.stack.len();
+        let inx = P::Inx::try_into_usize(inx)?;
+        if self.slots.has_entry(inx) {
+            Some(inx)
+        } else {
+            None
+        }
     }
 
     // An index, if an entry stands there.
@@ -628,8 +690,9 @@ impl<P: Ptr, T, S: NonZeroInxGenericStack<ArenaSlot<P, T>>> Arena<P, T, S> {
         ensures entry { entry self.old (non_zero_usize_get inx)
             ≡ Some (P.Gen.number result.0.0, result.0.1) }
         ensures wrapped { result.1 ≡ wraps P.Gen.counting P.Gen.greatest self.old.counter }
-        ensures state { self.new ≡ removed (raise P.Gen.counting P.Gen.greatest) self.old
-            (non_zero_usize_get inx) }
+        ensures state { IsUnchanged (removed (raise P.Gen.counting P.Gen.greatest) self.old
+            (non_zero_usize_get inx)) self.new }
+        ensures steps { self.new.steps ≤ self.old.steps + 2 }
     {
         let taken = self.slots.vacate(inx);
         self.len -= 1;

@@ -113,6 +113,11 @@ impl<P: Ptr, T, S: NonZeroInxGenericStack<DirectSlot<P, T>>> ArenaTrait<P, T>
 
     ghost with_value = { with_value };
 
+    // nothing is counted
+    ghost steps = { λ _. 0 };
+
+    ghost unchanged = { λ old new. new ≡ old };
+
     // all stays, the generation too
     ghost invalidates = { λ old _ new. new ≡ old };
 
@@ -286,6 +291,12 @@ impl<P: Ptr, T, S: NonZeroInxGenericStack<DirectSlot<P, T>>> ArenaTrait<P, T>
     ghost limit_removed = { λ _ _ _. ap (λ s. s.limit) };
 
     ghost fitting_removed = { λ _ _ _. ap direct_capacity };
+
+    ghost slots_unchanged = { λ _ _. ap (λ s. s.slots) };
+
+    ghost limit_unchanged = { λ _ _. ap (λ s. s.limit) };
+
+    ghost fitting_unchanged = { λ _ _. ap direct_capacity };
 
     ghost slots_invalidated = { slots-kept };
 

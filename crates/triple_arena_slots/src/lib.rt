@@ -2,7 +2,9 @@
 #![tactic(auto)]
 
 mod slot;
+mod slot_steps;
 mod slots;
 
 pub use slot::{ArenaSlot, FreeLink};
+pub use slot_steps::SlotSteps;
 pub use slots::Slots;

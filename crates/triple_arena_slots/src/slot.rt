@@ -3,26 +3,30 @@
 ghost use Rattle.std.specs.Prelude.{◌≡◌, ◌≢◌, ◌==◌, cond, None, Some, IsSome, IsNone};
 ghost use Rattle.std.specs.Int.NonZero.{non_zero_usize_get};
 ghost use Rattle.std.specs.Option.{option_map};
-ghost use Rattle.triple_arena_slots.specs.Slot.{entry_of, next_free, with_slot_value, with_slot_generation};
+ghost use Rattle.triple_arena_slots.specs.Slot.{entry_of, next_free, previous_free, LinksOn, LinksBack, with_slot_value, with_slot_generation};
 
 use std::num::NonZeroUsize;
 use triple_arena_ptr::{Ptr, PtrGen};
 use triple_arena_traits::EntrySlot;
 
-/// Names the next free slot, or its own where it is the last.
+/// Names the free slots before and after a free one in the free list, or its own where there is
+/// none on that side.
 #[derive(Clone, Copy)]
 pub struct FreeLink {
+    pub(crate) previous: NonZeroUsize,
     pub(crate) next: NonZeroUsize,
 }
 
 impl FreeLink {
-    // The link at `inx` to the next free slot, if there is one.
-    pub(crate) fn to(next: Option<NonZeroUsize>, inx: NonZeroUsize) -> Self
+    // The link at `inx` of the first free slot, before the one that was first, if there was one.
+    pub(crate) fn first(next: Option<NonZeroUsize>, inx: NonZeroUsize) -> Self
         requires { option_map non_zero_usize_get next ≢ Some (non_zero_usize_get inx) }
-        ensures { cond (non_zero_usize_get result.next == non_zero_usize_get inx)
-            None (Some (non_zero_usize_get result.next)) ≡ option_map non_zero_usize_get next }
+        ensures next { next_free result (non_zero_usize_get inx)
+            ≡ option_map non_zero_usize_get next }
+        ensures previous { previous_free result (non_zero_usize_get inx) ≡ None }
     {
         FreeLink {
+            previous: inx,
             next: next.unwrap_or(inx),
         }
     }
@@ -38,6 +42,46 @@ impl FreeLink {
             None
         } else {
             Some(self.next)
+        }
+    }
+
+    // The link of the free slot at `inx`, on to another.
+    pub(crate) fn with_next(self, next: Option<NonZeroUsize>, inx: NonZeroUsize) -> Self
+        requires { option_map non_zero_usize_get next ≢ Some (non_zero_usize_get inx) }
+        ensures next { next_free result (non_zero_usize_get inx)
+            ≡ option_map non_zero_usize_get next }
+        ensures previous { previous_free result (non_zero_usize_get inx)
+            ≡ previous_free self (non_zero_usize_get inx) }
+    {
+        FreeLink {
+            previous: self.previous,
+            next: next.unwrap_or(inx),
+        }
+    }
+
+    // The link of the free slot at `inx`, back to another.
+    pub(crate) fn with_previous(self, previous: Option<NonZeroUsize>, inx: NonZeroUsize) -> Self
+        requires { option_map non_zero_usize_get previous ≢ Some (non_zero_usize_get inx) }
+        ensures next { next_free result (non_zero_usize_get inx)
+            ≡ next_free self (non_zero_usize_get inx) }
+        ensures previous { previous_free result (non_zero_usize_get inx)
+            ≡ option_map non_zero_usize_get previous }
+    {
+        FreeLink {
+            previous: previous.unwrap_or(inx),
+            next: self.next,
+        }
+    }
+
+    // The free index that comes before `inx`; none where `inx` comes first.
+    pub(crate) fn before(self, inx: NonZeroUsize) -> Option<NonZeroUsize>
+        ensures { option_map non_zero_usize_get result
+            ≡ previous_free self (non_zero_usize_get inx) }
+    {
+        if self.previous == inx {
+            None
+        } else {
+            Some(self.previous)
         }
     }
 }
@@ -57,6 +101,7 @@ impl<P: Ptr, T> Default for ArenaSlot<P, T> {
     /// A free slot.
     fn default() -> Self {
         ArenaSlot::Free(FreeLink {
+            previous: NonZeroUsize::MIN,
             next: NonZeroUsize::MIN,
         })
     }
@@ -74,24 +119,28 @@ impl<P: Ptr, T> ArenaSlot<P, T> {
         }
     }
 
-    // The link of a free slot.
-    pub(crate) fn link(&self) -> FreeLink
-        requires { IsNone (entry_of P.Gen.number self.now) }
-        ensures { self.now ≡ ArenaSlot.Free result }
+    // Links a free slot at `inx` on to another, or makes it the last.
+    pub(crate) fn link_on(&mut self, next: Option<NonZeroUsize>, inx: NonZeroUsize)
+        requires free { IsNone (entry_of P.Gen.number self.old) }
+        requires other { option_map non_zero_usize_get next ≢ Some (non_zero_usize_get inx) }
+        ensures { LinksOn self.old self.new (non_zero_usize_get inx)
+            (option_map non_zero_usize_get next) }
     {
         match self {
-            ArenaSlot::Free(link) => *link,
+            ArenaSlot::Free(link) => *link = link.with_next(next, inx),
             ArenaSlot::Allocated(_, _) => unreachable!(),
         }
     }
 
-    // Puts another link on a free slot.
-    pub(crate) fn set_link(&mut self, link: FreeLink)
-        requires { IsNone (entry_of P.Gen.number self.old) }
-        ensures { self.new ≡ ArenaSlot.Free link }
+    // Links a free slot at `inx` back to another, or makes it the first.
+    pub(crate) fn link_back(&mut self, previous: Option<NonZeroUsize>, inx: NonZeroUsize)
+        requires free { IsNone (entry_of P.Gen.number self.old) }
+        requires other { option_map non_zero_usize_get previous ≢ Some (non_zero_usize_get inx) }
+        ensures { LinksBack self.old self.new (non_zero_usize_get inx)
+            (option_map non_zero_usize_get previous) }
     {
         match self {
-            ArenaSlot::Free(old) => *old = link,
+            ArenaSlot::Free(link) => *link = link.with_previous(previous, inx),
             ArenaSlot::Allocated(_, _) => unreachable!(),
         }
     }

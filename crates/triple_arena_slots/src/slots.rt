@@ -1,6 +1,6 @@
 //! The slots of an arena, and the free list that runs through them.
 
-ghost use Rattle.std.specs.Prelude.{◌≡◌, ◌<◌, ◌≤◌, ◌+◌, ◌-◌, ◌^◌, ◌==◌, ◌↔◌, ℕ, List, [], map, length, take, reverse, Option, Some, None, IsSome, IsOk, OnOk, OnErr, Err, MatchOption, option_copied};
+ghost use Rattle.std.specs.Prelude.{◌≡◌, ◌≢◌, ◌<◌, ◌≤◌, ◌+◌, ◌*◌, ◌-◌, ◌∷◌, ◌++◌, slice_get, ◌^◌, ◌==◌, ◌↔◌, ℕ, List, [], map, length, take, Option, Some, None, is_some, IsSome, IsOk, OnOk, OnErr, Err, MatchOption, option_copied};
 ghost use Rattle.std.specs.Borrow.{sem};
 ghost use Rattle.std.specs.Int.NonZero.{non_zero_usize_get};
 ghost use Rattle.std.specs.Option.{option_map};
@@ -9,27 +9,29 @@ ghost use Rattle.triple_arena_stack.specs.StackKind.{reallocated_room, IsOfKind}
 ghost use Rattle.triple_arena_stack.specs.Capacity.{capacity_of, IsWithin, IsBeyond};
 ghost use Rattle.triple_arena_traits.specs.Items.{item, with_item};
 ghost use Rattle.triple_arena_traits.specs.ArenaState.{ArenaState, arena_len, capacity, is_free};
-ghost use Rattle.triple_arena_traits.specs.Insertion.{place, inserted};
+ghost use Rattle.triple_arena_traits.specs.Insertion.{place, inserted, insertion_steps};
 ghost use Rattle.triple_arena_traits.specs.Ending.{removed};
-ghost use Rattle.triple_arena_traits.specs.Entries.{with_generation_in, entry_count};
-ghost use Rattle.triple_arena_traits.specs.FreeList.{trimmed, last_index, gaps, up_to, without_free_end};
+ghost use Rattle.triple_arena_traits.specs.Entries.{with_generation_in, entry_count, look_up_in};
+ghost use Rattle.triple_arena_traits.specs.FreeList.{trimmed, last_index, gaps, without_free_end};
 ghost use Rattle.triple_arena_traits.specs.Walks.{entries};
 ghost use Rattle.triple_arena_traits.specs.Compression.{compressed, rank};
 ghost use Rattle.triple_arena_traits.specs.Moves.{Moves};
 ghost use Rattle.triple_arena_traits.specs.Copying.{Copies};
 ghost use Rattle.triple_arena_traits.specs.Transfers.{Transfers};
-ghost use Rattle.triple_arena_slots.specs.Slot.{entry_of};
+ghost use Rattle.triple_arena_slots.specs.Slot.{entry_of, next_free, previous_free, touch_if};
 ghost use Rattle.triple_arena_traits.specs.Places.{number_or_zero};
-ghost use Rattle.triple_arena_slots.specs.Layout.{Shows, IsLinked, IsFreeList, entry_at};
+ghost use Rattle.triple_arena_slots.specs.Layout.{Shows, IsLinked, LeadsOn, LeadsBack, Begins, CanLeave, Leaves, without_last, entry_at};
 
 use crate::slot::{ArenaSlot, FreeLink};
+use crate::slot_steps::SlotSteps;
 use std::marker::PhantomData;
+use std::mem;
 use std::num::NonZeroUsize;
 use triple_arena_base::{InvalidationOption, MaxCapacityReductionError, ReallocationError};
 use triple_arena_ptr::{Ptr, PtrGen, PtrInx};
 use triple_arena_stack::{NonZeroInxGenericStack, SetMaxCapacity};
 use triple_arena_traits::copying::copy_entries;
-use triple_arena_traits::entry_slots::{count_live, last_live, replace, shorten};
+use triple_arena_traits::entry_slots::{count_live, replace, shorten, slot_at};
 use triple_arena_traits::transferring::transfer_entries;
 use triple_arena_traits::{ArenaTrait, CompactArenaTrait, EntrySlot, close_up};
 
@@ -44,6 +46,8 @@ pub struct Slots<P: Ptr, T, S: NonZeroInxGenericStack<ArenaSlot<P, T>>> {
     pub stack: S,
     /// The first free slot, if there is one.
     pub root: Option<NonZeroUsize>,
+    /// How many slots were touched by the calls that bounded work speaks of.
+    pub steps: SlotSteps,
     of: PhantomData<ArenaSlot<P, T>>,
 }
 
@@ -54,10 +58,12 @@ impl<P: Ptr, T, S: NonZeroInxGenericStack<ArenaSlot<P, T>>> Slots<P, T, S> {
     pub fn over(stack: S) -> Self
         ensures stack { result.stack ≡ stack }
         ensures root { result.root ≡ None }
+        ensures steps { result.steps.count ≡ 0 }
     {
         Slots {
             stack,
             root: None,
+            steps: SlotSteps::new(),
             of: PhantomData,
         }
     }
@@ -99,7 +105,9 @@ impl<P: Ptr, T, S: NonZeroInxGenericStack<ArenaSlot<P, T>>> Slots<P, T, S> {
             }) }
         ensures room { S.room self.new.stack ≡ S.room self.old.stack }
         ensures limit { S.limit self.new.stack ≡ S.limit self.old.stack }
+        ensures steps { self.new.steps.count ≡ self.old.steps.count + 1 }
     {
+        self.steps = self.steps.next();
         let slot = self.stack.get_mut(inx).unwrap();
         slot.set_generation(generation);
     }
@@ -133,15 +141,17 @@ impl<P: Ptr, T, S: NonZeroInxGenericStack<ArenaSlot<P, T>>> Slots<P, T, S> {
             (inserted s value) }
         ensures room { S.room self.new.stack ≡ S.room self.old.stack }
         ensures limit { S.limit self.new.stack ≡ S.limit self.old.stack }
+        ensures steps { (s : ArenaState T) (len : ℕ)
+            → Shows P.Gen.number (S.items self.old.stack)
+            (option_map non_zero_usize_get self.old.root) len s
+            → self.new.steps.count ≡ self.old.steps.count + insertion_steps s }
     {
         let slot = ArenaSlot::Allocated(generation, value);
         match self.root {
-            None => {
-                self.stack.push_reserved(slot);
-            }
+            None => self.push(slot),
             Some(inx) => {
-                let link = replace(&mut self.stack, inx, slot).into_link();
-                self.root = link.after(inx);
+                let link = self.put(inx, slot).into_link();
+                self.unlink(link, inx);
             }
         }
     }
@@ -164,13 +174,12 @@ impl<P: Ptr, T, S: NonZeroInxGenericStack<ArenaSlot<P, T>>> Slots<P, T, S> {
             (removed raise s (non_zero_usize_get inx)) }
         ensures room { S.room self.new.stack ≡ S.room self.old.stack }
         ensures limit { S.limit self.new.stack ≡ S.limit self.old.stack }
+        ensures steps { self.new.steps.count ≤ self.old.steps.count + 2 }
     {
         if inx.get() == self.stack.len() {
-            return self.stack.pop().unwrap().into_entry();
+            return self.pop().into_entry();
         }
-        let slot = ArenaSlot::Free(FreeLink::to(self.root, inx));
-        self.root = Some(inx);
-        replace(&mut self.stack, inx, slot).into_entry()
+        self.free(inx).into_entry()
     }
 
     /// Drops all slots.
@@ -181,6 +190,7 @@ impl<P: Ptr, T, S: NonZeroInxGenericStack<ArenaSlot<P, T>>> Slots<P, T, S> {
         ensures root { self.new.root ≡ None }
         ensures room { S.room self.new.stack ≡ S.room self.old.stack }
         ensures limit { S.limit self.new.stack ≡ S.limit self.old.stack }
+        ensures steps { self.new.steps.count ≡ self.old.steps.count }
     {
         self.stack.clear();
         self.root = None;
@@ -224,6 +234,7 @@ impl<P: Ptr, T, S: NonZeroInxGenericStack<ArenaSlot<P, T>>> Slots<P, T, S> {
             → IsOk result }
         ensures place { OnOk result
             (min_capacity ≤ capacity_of (S.room self.new.stack) (S.limit self.new.stack)) }
+        ensures steps { self.new.steps.count ≡ self.old.steps.count }
     {
         // By its clause, room and limit are those of the stack's kind.
         let _limit = self.stack.max_capacity();
@@ -239,9 +250,10 @@ impl<P: Ptr, T, S: NonZeroInxGenericStack<ArenaSlot<P, T>>> Slots<P, T, S> {
             (gaps 1 (trimmed (map (entry_of P.Gen.number) (S.items self.old.stack)))) }
         ensures room { S.room self.new.stack ≡ S.room self.old.stack }
         ensures limit { S.limit self.new.stack ≡ S.limit self.old.stack }
+        ensures steps { self.new.steps.count ≡ self.old.steps.count }
     {
         pop_free_end(&mut self.stack);
-        self.root = relink(&mut self.stack);
+        self.relink();
     }
 
     /// Pops the free slots at the end, and takes them out of the free list. The rest of it keeps its
@@ -258,15 +270,12 @@ impl<P: Ptr, T, S: NonZeroInxGenericStack<ArenaSlot<P, T>>> Slots<P, T, S> {
             (without_free_end s) }
         ensures room { S.room self.new.stack ≡ S.room self.old.stack }
         ensures limit { S.limit self.new.stack ≡ S.limit self.old.stack }
+        ensures steps { self.new.steps.count + 4 * length (S.items self.new.stack)
+            ≤ self.old.steps.count + 4 * length (S.items self.old.stack) + 1 }
     {
-        let end = self.live_end();
-        if end == self.stack.len() {
-            return;
+        'pops: while self.ends_free() {
+            self.pop_free();
         }
-        // Turned round twice, the list has its order again.
-        let turned = turn_round(&mut self.stack, self.root, end);
-        self.root = turn_round(&mut self.stack, turned, end);
-        pop_free_end(&mut self.stack);
     }
 
     /// Moves the entries to the first slots, in their order, under this generation, with the values
@@ -284,6 +293,7 @@ impl<P: Ptr, T, S: NonZeroInxGenericStack<ArenaSlot<P, T>>> Slots<P, T, S> {
             (compressed s (P.Gen.number generation) values) }
         ensures room { S.room self.new.stack ≡ S.room self.old.stack }
         ensures limit { S.limit self.new.stack ≡ S.limit self.old.stack }
+        ensures steps { self.new.steps.count ≡ self.old.steps.count }
     {
         self.root = None;
         close_up::<P, T, ArenaSlot<P, T>, S, F>(&mut self.stack, Some(generation), f);
@@ -311,6 +321,7 @@ impl<P: Ptr, T, S: NonZeroInxGenericStack<ArenaSlot<P, T>>> Slots<P, T, S> {
             ≡ entry_count (map (entry_of P.Gen.number) (S.items self.new.stack)) }
         ensures room { S.room self.new.stack ≡ S.room self.old.stack }
         ensures limit { S.limit self.new.stack ≡ S.limit self.old.stack }
+        ensures steps { self.new.steps.count ≡ self.old.steps.count }
     {
         self.stack.clear();
         let answer = copy_entries::<P, T, ArenaSlot<P, T>, S, U, E, A, M>(
@@ -318,7 +329,7 @@ impl<P: Ptr, T, S: NonZeroInxGenericStack<ArenaSlot<P, T>>> Slots<P, T, S> {
             source,
             f,
         );
-        self.root = relink(&mut self.stack);
+        self.relink();
         (count_live::<P, T, ArenaSlot<P, T>, S>(&self.stack), answer)
     }
 
@@ -345,6 +356,7 @@ impl<P: Ptr, T, S: NonZeroInxGenericStack<ArenaSlot<P, T>>> Slots<P, T, S> {
         ensures root { self.new.root ≡ None }
         ensures room { S.room self.new.stack ≡ S.room self.old.stack }
         ensures limit { S.limit self.new.stack ≡ S.limit self.old.stack }
+        ensures steps { self.new.steps.count ≡ self.old.steps.count }
     {
         self.stack.clear();
         self.root = None;
@@ -357,13 +369,226 @@ impl<P: Ptr, T, S: NonZeroInxGenericStack<ArenaSlot<P, T>>> Slots<P, T, S> {
         self.stack.len()
     }
 
-    // How many slots there are up to the last entry.
-    fn live_end(&self) -> usize
-        ensures { result ≡ length (trimmed (map (entry_of P.Gen.number) (S.items self.now.stack))) }
+    // Links the free slots in rising order. Bounded work doesn't speak of it, so it counts nothing.
+    fn relink(&mut self)
+        ensures slots { map (entry_of P.Gen.number) (S.items self.new.stack)
+            ≡ map (entry_of P.Gen.number) (S.items self.old.stack) }
+        ensures linked { IsLinked (S.items self.new.stack)
+            (option_map non_zero_usize_get self.new.root)
+            (gaps 1 (map (entry_of P.Gen.number) (S.items self.old.stack))) }
+        ensures room { S.room self.new.stack ≡ S.room self.old.stack }
+        ensures limit { S.limit self.new.stack ≡ S.limit self.old.stack }
+        ensures steps { self.new.steps.count ≡ self.old.steps.count }
     {
-        match last_live::<P, T, ArenaSlot<P, T>, S>(&self.stack) {
-            Some(inx) => inx.get(),
-            None => 0,
+        let steps = mem::replace(&mut self.steps, SlotSteps::new());
+        self.root = None;
+        let mut next = index_of(self.stack.len());
+        'links: while let Some(inx) = next {
+            if !self.stack.get(inx).unwrap().is_live() {
+                self.free(inx).discard();
+            }
+            next = index_of(inx.get() - 1);
+        }
+        self.steps = steps;
+    }
+
+    // Puts a free slot at an index, as the first of the free list, and gives the slot that it
+    // replaces.
+    fn free(&mut self, inx: NonZeroUsize) -> ArenaSlot<P, T>
+        requires there { IsSome (item (S.items self.old.stack) (non_zero_usize_get inx)) }
+        requires other { option_map non_zero_usize_get self.old.root
+            ≢ Some (non_zero_usize_get inx) }
+        requires root_free { (j : ℕ) → option_map non_zero_usize_get self.old.root ≡ Some j
+            → item (map (entry_of P.Gen.number) (S.items self.old.stack)) j ≡ Some None }
+        ensures slot { item (S.items self.old.stack) (non_zero_usize_get inx) ≡ Some result }
+        ensures begins { Begins P.Gen.number (S.items self.old.stack) (S.items self.new.stack)
+            (option_map non_zero_usize_get self.old.root) (non_zero_usize_get inx) }
+        ensures root { self.new.root ≡ Some inx }
+        ensures room { S.room self.new.stack ≡ S.room self.old.stack }
+        ensures limit { S.limit self.new.stack ≡ S.limit self.old.stack }
+        ensures steps { self.new.steps.count ≤ self.old.steps.count + 2 }
+    {
+        let next = self.root;
+        let slot = ArenaSlot::Free(FreeLink::first(next, inx));
+        self.root = Some(inx);
+        let old = self.put(inx, slot);
+        self.link_back(next, Some(inx));
+        old
+    }
+
+    // Pops the last slot, which is free, and takes it out of the free list where it stands.
+    fn pop_free(&mut self)
+        requires free { item (map (entry_of P.Gen.number) (S.items self.old.stack))
+            (length (S.items self.old.stack)) ≡ Some None }
+        requires shown { (s : ArenaState T) × (len : ℕ)
+            × Shows P.Gen.number (S.items self.old.stack)
+            (option_map non_zero_usize_get self.old.root) len s }
+        ensures shows { (s : ArenaState T) (len : ℕ)
+            → Shows P.Gen.number (S.items self.old.stack)
+            (option_map non_zero_usize_get self.old.root) len s
+            → Shows P.Gen.number (S.items self.new.stack)
+            (option_map non_zero_usize_get self.new.root) len
+            (without_last s) }
+        ensures popped { length (S.items self.new.stack) + 1 ≡ length (S.items self.old.stack) }
+        ensures room { S.room self.new.stack ≡ S.room self.old.stack }
+        ensures limit { S.limit self.new.stack ≡ S.limit self.old.stack }
+        ensures steps { self.new.steps.count ≤ self.old.steps.count + 3 }
+    {
+        let inx = index_of(self.stack.len()).unwrap();
+        let link = self.pop().into_link();
+        self.unlink(link, inx);
+    }
+
+    // Takes the free slot that had this link at this index out of the free list: the one before it
+    // and the one after lead to each other.
+    fn unlink(&mut self, link: FreeLink, inx: NonZeroUsize)
+        requires { CanLeave P.Gen.number (S.items self.old.stack)
+            (next_free link (non_zero_usize_get inx)) (previous_free link (non_zero_usize_get inx)) }
+        ensures leaves { Leaves P.Gen.number (S.items self.old.stack) (S.items self.new.stack)
+            (option_map non_zero_usize_get self.old.root)
+            (option_map non_zero_usize_get self.new.root)
+            (next_free link (non_zero_usize_get inx)) (previous_free link (non_zero_usize_get inx)) }
+        ensures room { S.room self.new.stack ≡ S.room self.old.stack }
+        ensures limit { S.limit self.new.stack ≡ S.limit self.old.stack }
+        ensures steps { self.new.steps.count ≡ self.old.steps.count
+            + (touch_if (previous_free link (non_zero_usize_get inx))
+            + touch_if (next_free link (non_zero_usize_get inx))) }
+    {
+        let previous = link.before(inx);
+        let next = link.after(inx);
+        if previous.is_none() {
+            self.root = next;
+        }
+        self.link_on(previous, next);
+        self.link_back(next, previous);
+    }
+
+    // Each of the calls below touches one slot, or none where it is given no index.
+
+    /// Whether the entry at an index has this generation.
+    pub fn has_generation(&mut self, inx: NonZeroUsize, generation: P::Gen) -> bool
+        ensures value { result ≡ is_some (look_up_in (map (entry_of P.Gen.number)
+            (S.items self.old.stack)) (non_zero_usize_get inx, P.Gen.number generation)) }
+        ensures stack { self.new.stack ≡ self.old.stack }
+        ensures root { self.new.root ≡ self.old.root }
+        ensures steps { self.new.steps.count ≡ self.old.steps.count + 1 }
+    {
+        self.steps = self.steps.next();
+        match slot_at(&self.stack, inx) {
+            Some(slot) => slot.value_under(generation).is_some(),
+            None => false,
+        }
+    }
+
+    /// Whether an entry stands at an index.
+    pub fn has_entry(&mut self, inx: NonZeroUsize) -> bool
+        ensures value { result ≡ is_some (entry_at P.Gen.number (S.items self.old.stack)
+            (non_zero_usize_get inx)) }
+        ensures stack { self.new.stack ≡ self.old.stack }
+        ensures root { self.new.root ≡ self.old.root }
+        ensures steps { self.new.steps.count ≡ self.old.steps.count + 1 }
+    {
+        self.steps = self.steps.next();
+        match slot_at(&self.stack, inx) {
+            Some(slot) => slot.is_live(),
+            None => false,
+        }
+    }
+
+    // Whether the last slot is free.
+    fn ends_free(&mut self) -> bool
+        ensures value { result ≡ is_free (item (map (entry_of P.Gen.number)
+            (S.items self.old.stack)) (length (S.items self.old.stack))) }
+        ensures stack { self.new.stack ≡ self.old.stack }
+        ensures root { self.new.root ≡ self.old.root }
+        ensures steps { self.new.steps.count ≡ self.old.steps.count + 1 }
+    {
+        self.steps = self.steps.next();
+        match index_of(self.stack.len()) {
+            Some(inx) => !self.stack.get(inx).unwrap().is_live(),
+            None => false,
+        }
+    }
+
+    // Puts a slot in the place of the one at an index, which it gives.
+    fn put(&mut self, inx: NonZeroUsize, slot: ArenaSlot<P, T>) -> ArenaSlot<P, T>
+        requires { IsSome (item (S.items self.old.stack) (non_zero_usize_get inx)) }
+        ensures value { item (S.items self.old.stack) (non_zero_usize_get inx) ≡ Some result }
+        ensures stack { self.new.stack ≡ S.with_items self.old.stack
+            (with_item (S.items self.old.stack) (non_zero_usize_get inx) slot) }
+        ensures root { self.new.root ≡ self.old.root }
+        ensures steps { self.new.steps.count ≡ self.old.steps.count + 1 }
+    {
+        self.steps = self.steps.next();
+        replace(&mut self.stack, inx, slot)
+    }
+
+    // Pushes a slot.
+    fn push(&mut self, slot: ArenaSlot<P, T>)
+        requires { length (S.items self.old.stack)
+            < capacity_of (S.room self.old.stack) (S.limit self.old.stack) }
+        ensures stack { self.new.stack ≡ S.with_items self.old.stack
+            (S.items self.old.stack ++ slot ∷ []) }
+        ensures root { self.new.root ≡ self.old.root }
+        ensures steps { self.new.steps.count ≡ self.old.steps.count + 1 }
+    {
+        self.steps = self.steps.next();
+        self.stack.push_reserved(slot);
+    }
+
+    // Pops the last slot.
+    fn pop(&mut self) -> ArenaSlot<P, T>
+        requires { 0 < length (S.items self.old.stack) }
+        ensures value { slice_get (S.items self.old.stack) (length (S.items self.old.stack) - 1)
+            ≡ Some result }
+        ensures stack { self.new.stack ≡ S.with_items self.old.stack
+            (take (length (S.items self.old.stack) - 1) (S.items self.old.stack)) }
+        ensures root { self.new.root ≡ self.old.root }
+        ensures steps { self.new.steps.count ≡ self.old.steps.count + 1 }
+    {
+        self.steps = self.steps.next();
+        self.stack.pop().unwrap()
+    }
+
+    // Links the free slot at an index, if there is one, on to another, or makes it the last.
+    fn link_on(&mut self, from: Option<NonZeroUsize>, next: Option<NonZeroUsize>)
+        requires free { (j : ℕ) → option_map non_zero_usize_get from ≡ Some j
+            → item (map (entry_of P.Gen.number) (S.items self.old.stack)) j ≡ Some None }
+        requires other { (j : ℕ) → option_map non_zero_usize_get from ≡ Some j
+            → option_map non_zero_usize_get next ≢ Some j }
+        ensures links { LeadsOn P.Gen.number (S.items self.old.stack) (S.items self.new.stack)
+            (option_map non_zero_usize_get from) (option_map non_zero_usize_get next) }
+        ensures root { self.new.root ≡ self.old.root }
+        ensures room { S.room self.new.stack ≡ S.room self.old.stack }
+        ensures limit { S.limit self.new.stack ≡ S.limit self.old.stack }
+        ensures steps { self.new.steps.count
+            ≡ self.old.steps.count + touch_if (option_map non_zero_usize_get from) }
+    {
+        if let Some(inx) = from {
+            self.steps = self.steps.next();
+            let slot = self.stack.get_mut(inx).unwrap();
+            slot.link_on(next, inx);
+        }
+    }
+
+    // Links the free slot at an index, if there is one, back to another, or makes it the first.
+    fn link_back(&mut self, to: Option<NonZeroUsize>, previous: Option<NonZeroUsize>)
+        requires free { (j : ℕ) → option_map non_zero_usize_get to ≡ Some j
+            → item (map (entry_of P.Gen.number) (S.items self.old.stack)) j ≡ Some None }
+        requires other { (j : ℕ) → option_map non_zero_usize_get to ≡ Some j
+            → option_map non_zero_usize_get previous ≢ Some j }
+        ensures links { LeadsBack P.Gen.number (S.items self.old.stack) (S.items self.new.stack)
+            (option_map non_zero_usize_get to) (option_map non_zero_usize_get previous) }
+        ensures root { self.new.root ≡ self.old.root }
+        ensures room { S.room self.new.stack ≡ S.room self.old.stack }
+        ensures limit { S.limit self.new.stack ≡ S.limit self.old.stack }
+        ensures steps { self.new.steps.count
+            ≡ self.old.steps.count + touch_if (option_map non_zero_usize_get to) }
+    {
+        if let Some(inx) = to {
+            self.steps = self.steps.next();
+            let slot = self.stack.get_mut(inx).unwrap();
+            slot.link_back(previous, inx);
         }
     }
 }
@@ -377,6 +602,7 @@ impl<P: Ptr, T, S: SetMaxCapacity<ArenaSlot<P, T>>> Slots<P, T, S> {
         ensures room { S.room self.new.stack ≡ S.room self.old.stack }
         ensures limit { OnOk result (S.limit self.new.stack ≡ Some max_capacity) }
         ensures refused { OnErr result (S.limit self.new.stack ≡ S.limit self.old.stack) }
+        ensures steps { self.new.steps.count ≡ self.old.steps.count }
     {
         self.stack.set_max_capacity(max_capacity)
     }
@@ -393,62 +619,6 @@ fn pop_free_end<P: Ptr, T, S: NonZeroInxGenericStack<ArenaSlot<P, T>>>(stack: &m
     ensures limit { S.limit stack.new ≡ S.limit stack.old }
 {
     shorten::<P, T, ArenaSlot<P, T>, S>(stack, 0);
-}
-
-// Links the free slots in rising order, and gives the index of the first.
-fn relink<P: Ptr, T, S: NonZeroInxGenericStack<ArenaSlot<P, T>>>(
-    stack: &mut S,
-) -> Option<NonZeroUsize>
-    ensures slots { map (entry_of P.Gen.number) (S.items stack.new)
-        ≡ map (entry_of P.Gen.number) (S.items stack.old) }
-    ensures linked { IsLinked (S.items stack.new) (option_map non_zero_usize_get result)
-        (gaps 1 (map (entry_of P.Gen.number) (S.items stack.old))) }
-    ensures room { S.room stack.new ≡ S.room stack.old }
-    ensures limit { S.limit stack.new ≡ S.limit stack.old }
-{
-    let mut root = None;
-    let mut next = index_of(stack.len());
-    'links: while let Some(inx) = next {
-        if !stack.get(inx).unwrap().is_live() {
-            let slot = stack.get_mut(inx).unwrap();
-            slot.set_link(FreeLink::to(root, inx));
-            root = Some(inx);
-        }
-        next = index_of(inx.get() - 1);
-    }
-    root
-}
-
-// Links the slots of a free list in the opposite order, but for those past `end`, and gives the
-// index of the first.
-fn turn_round<P: Ptr, T, S: NonZeroInxGenericStack<ArenaSlot<P, T>>>(
-    stack: &mut S,
-    root: Option<NonZeroUsize>,
-    end: usize,
-) -> Option<NonZeroUsize>
-    requires { (free : List ℕ) × IsFreeList P.Gen.number (S.items stack.old)
-        (option_map non_zero_usize_get root) free }
-    ensures slots { map (entry_of P.Gen.number) (S.items stack.new)
-        ≡ map (entry_of P.Gen.number) (S.items stack.old) }
-    ensures turned { (free : List ℕ)
-        → IsFreeList P.Gen.number (S.items stack.old) (option_map non_zero_usize_get root) free
-        → IsFreeList P.Gen.number (S.items stack.new) (option_map non_zero_usize_get result)
-        (reverse (up_to end free)) }
-    ensures room { S.room stack.new ≡ S.room stack.old }
-    ensures limit { S.limit stack.new ≡ S.limit stack.old }
-{
-    let mut turned = None;
-    let mut next = root;
-    'turns: while let Some(inx) = next {
-        let slot = stack.get_mut(inx).unwrap();
-        let link = slot.link();
-        slot.set_link(FreeLink::to(turned, inx));
-        if inx.get() <= end {
-            turned = Some(inx);
-        }
-        next = link.after(inx);
-    }
-    turned
 }
 
 // The index of that number, if it is not 0.

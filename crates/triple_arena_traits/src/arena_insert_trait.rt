@@ -37,6 +37,7 @@ pub trait ArenaInsertTrait<P: Ptr, T>: ArenaTrait<P, T> {
         ensures free { entry_in (Self.slots self.old) (P.numbers result).0 ≡ None }
         ensures inserted { self.new ≡ inserted self.old t }
         ensures valid { Self.valid self.old }
+        ensures bounded { Self.steps self.new ≤ Self.steps self.old + 6 }
         ensures fresh { Continues Self.fits self.old (insertion (P.numbers result) ∷ []) self.new };
 
     /// Inserts `t`, and gives its pointer. A full arena grows first: its capacity never falls, and
@@ -126,6 +127,7 @@ pub trait ArenaInsertTrait<P: Ptr, T>: ArenaTrait<P, T> {
         ensures inserted { OnOk result (self.new ≡ inserted self.old t) }
         ensures refused { OnErr result (self.new ≡ self.old) }
         ensures valid { Self.valid self.old }
+        ensures bounded { Self.steps self.new ≤ Self.steps self.old + 6 }
         ensures fresh { IfOk result
             (λ p. Continues Self.fits self.old (insertion (P.numbers p) ∷ []) self.new) }
     {

@@ -67,6 +67,12 @@ pub trait ArenaTrait<P: Ptr, T>: Sized {
     // the same with another value in the entry at an index
     ghost with_value: { Self → ℕ → T → Self };
 
+    // how many slots were touched, where the arena counts them
+    ghost steps: { Self → ℕ };
+
+    // nothing changed but that count
+    ghost unchanged: { Self → Self → Type 0 };
+
     // what an invalidation at an index leaves, and the generation of the entry after it
     ghost invalidates: { Self → ℕ → Self → Type 0 };
 
@@ -233,7 +239,8 @@ pub trait ArenaTrait<P: Ptr, T>: Sized {
         ensures others { (q : Pointer) → q.0 ≢ (P.numbers p).0
             → look_up_in (slots self.new) q ≡ look_up_in (slots self.old) q }
         ensures unchanged { look_up_in (slots self.old) (P.numbers p) ≡ None
-            → self.new ≡ self.old }
+            → unchanged self.old self.new }
+        ensures bounded { steps self.new ≤ steps self.old + 6 }
         ensures fresh { IsSome (look_up_in (slots self.old) (P.numbers p))
             → CountsUp P.Gen.counting (ending_wraps self.old) → Continues fits self.old
             (invalidation (P.numbers p) ((P.numbers p).0, renewed self.old (P.numbers p).0) ∷ [])
@@ -252,7 +259,8 @@ pub trait ArenaTrait<P: Ptr, T>: Sized {
         ensures others { (q : Pointer) → q ≢ P.numbers p
             → look_up_in (slots self.new) q ≡ look_up_in (slots self.old) q }
         ensures unchanged { look_up_in (slots self.old) (P.numbers p) ≡ None
-            → self.new ≡ self.old }
+            → unchanged self.old self.new }
+        ensures bounded { steps self.new ≤ steps self.old + 6 }
         ensures fresh { IsSome (look_up_in (slots self.old) (P.numbers p))
             → CountsUp P.Gen.counting (ending_wraps self.old)
             → Continues fits self.old (removal (P.numbers p) ∷ []) self.new };
@@ -270,7 +278,8 @@ pub trait ArenaTrait<P: Ptr, T>: Sized {
         ensures others { (q : Pointer) → q.0 ≢ P.Inx.number inx
             → look_up_in (slots self.new) q ≡ look_up_in (slots self.old) q }
         ensures unchanged { entry_in (slots self.old) (P.Inx.number inx) ≡ None
-            → self.new ≡ self.old }
+            → unchanged self.old self.new }
+        ensures bounded { steps self.new ≤ steps self.old + 6 }
         ensures fresh { (generation : ℕ) (value : T)
             → entry_in (slots self.old) (P.Inx.number inx) ≡ Some (generation, value)
             → CountsUp P.Gen.counting (ending_wraps self.old)
@@ -322,6 +331,13 @@ pub trait ArenaTrait<P: Ptr, T>: Sized {
 
     ghost fitting_removed: { (old : Self) (i : ℕ) (new : Self) → removes old i new
         → fitting new ≡ fitting old };
+
+    // what is unchanged but for the count has the same entries, limit and capacity
+    ghost slots_unchanged: { (old new : Self) → unchanged old new → slots new ≡ slots old };
+
+    ghost limit_unchanged: { (old new : Self) → unchanged old new → limit new ≡ limit old };
+
+    ghost fitting_unchanged: { (old new : Self) → unchanged old new → fitting new ≡ fitting old };
 
     // an invalidation renews the generation of the entry at its index alone, and leaves the number
     // of entries, limit and capacity

@@ -13,12 +13,12 @@ invariant_of-self g c =
     let xs = map (entry_of g.P.Gen.PtrGen.number) items in
     let n = g.P.Gen.PtrGen.number c.args.counter in
     let fits : length xs ≤ capacity c.args.self.now = omega (arith, c.copy-len.ensures.ends, c.requires.fits, length-map items (entry_of g.P.Gen.PtrGen.number)) in
-    (carried g.P.Gen.PtrGen.number _ items _ _ _ c.copy-len.result.0 _ n _ _ _ _ _ c.args.self.now (laid_out c.args.self.now xs n) c.self.invariant c.self.view_is
+    (carried g.P.Gen.PtrGen.number _ items _ _ _ c.copy-len.result.0 _ n _ _ _ _ _ _ _ c.args.self.now (laid_out c.args.self.now xs n) c.self.invariant c.self.view_is
     (λ _. Shows-laid_out g.P.Gen.PtrGen.number items _ c.copy-len.result.0 c.args.self.now xs n refl c.copy-len.ensures.linked c.copy-len.ensures.count fits)
     refl
     (c.copy-len.ensures.room ∙ ap (λ s. s.room) c.self.view_is)
     (c.copy-len.ensures.limit ∙ ap (λ s. s.limit) c.self.view_is)
-    (ap (λ s. s.greatest) c.self.view_is)).0
+    (ap (λ s. s.greatest) c.self.view_is) (c.copy-len.ensures.steps ∙ ap (λ s. s.steps) c.self.view_is)).0
 
 pub returns : goal.returns
 returns g c =
@@ -26,10 +26,10 @@ returns g c =
     let xs = map (entry_of g.P.Gen.PtrGen.number) items in
     let n = g.P.Gen.PtrGen.number c.args.counter in
     let fits : length xs ≤ capacity c.args.self.now = omega (arith, c.copy-len.ensures.ends, c.requires.fits, length-map items (entry_of g.P.Gen.PtrGen.number)) in
-    let both = carried g.P.Gen.PtrGen.number _ items _ _ _ c.copy-len.result.0 _ n _ _ _ _ _ c.args.self.now (laid_out c.args.self.now xs n) c.self.invariant c.self.view_is
+    let both = carried g.P.Gen.PtrGen.number _ items _ _ _ c.copy-len.result.0 _ n _ _ _ _ _ _ _ c.args.self.now (laid_out c.args.self.now xs n) c.self.invariant c.self.view_is
     (λ _. Shows-laid_out g.P.Gen.PtrGen.number items _ c.copy-len.result.0 c.args.self.now xs n refl c.copy-len.ensures.linked c.copy-len.ensures.count fits)
     refl
     (c.copy-len.ensures.room ∙ ap (λ s. s.room) c.self.view_is)
     (c.copy-len.ensures.limit ∙ ap (λ s. s.limit) c.self.view_is)
-    (ap (λ s. s.greatest) c.self.view_is) in
+    (ap (λ s. s.greatest) c.self.view_is) (c.copy-len.ensures.steps ∙ ap (λ s. s.steps) c.self.view_is) in
     (xs, c.copy-len.ensures.copied, both.1)

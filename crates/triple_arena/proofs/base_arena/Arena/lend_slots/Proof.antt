@@ -249,7 +249,7 @@ module _ (P T S I G : RattleType) (P-Ptr : gPtr.Ghosts P.Denot I.Denot G.Denot) 
         kept_within number es (items (with_items a.slots.stack (refill (length es) es ws))) (option_map non_zero_usize_get a.slots.root) a.len (number a.counter)
         (S-NonZeroInxGenericStack.room a.slots.stack) (S-NonZeroInxGenericStack.room (with_items a.slots.stack (refill (length es) es ws)))
         (S-NonZeroInxGenericStack.limit a.slots.stack) (S-NonZeroInxGenericStack.limit (with_items a.slots.stack (refill (length es) es ws)))
-        (greatest_index P-Inx-PtrInx.greatest) w
+        (greatest_index P-Inx-PtrInx.greatest) a.slots.steps.count w
         (laws.of_items a.slots.stack (refill (length es) es ws) ∙ refilled es ws (length-filled with_slot_value es w.slots))
         (laws.of_room a.slots.stack (refill (length es) es ws)) (laws.of_limit a.slots.stack (refill (length es) es ws)) ok
 

@@ -12,7 +12,7 @@ use Rattle.triple_arena_slots.proofs.slots.Slots.copy.Goals as goal
 pub returns-clause-ends : goal.returns-clause-ends
 returns-clause-ends g c =
     let f = entry_of g.P.Gen.PtrGen.number in
-    omega (arith, c.copy_entries-answer.ensures.ends, ap length c.relink-self.ensures.slots, length-map (g.S.NonZeroInxGenericStack.items c.relink-self.new.stack) f, length-map (g.S.NonZeroInxGenericStack.items c.copy_entries-answer.new.stack) f)
+    omega (arith, c.copy_entries-answer.ensures.ends, ap length c.relink.ensures.slots, length-map (g.S.NonZeroInxGenericStack.items c.relink.new.self.stack) f, length-map (g.S.NonZeroInxGenericStack.items c.copy_entries-answer.new.stack) f)
 
 pub copy_entries-answer-requires-clause-empty : goal.copy_entries-answer-requires-clause-empty
 copy_entries-answer-requires-clause-empty g c κs within = ap g.S.NonZeroInxGenericStack.items c.clear.ensures ∙ g.met.S.NonZeroInxGenericStack.items_with_items _ _
@@ -24,19 +24,19 @@ copy_entries-answer-requires-clause-fits g c κs within =
 
 pub returns-clause-copied : goal.returns-clause-copied
 returns-clause-copied g c =
-    copies_seen _ _ c.args.f _ c.copy_entries-answer.result _ _ c.relink-self.ensures.slots c.copy_entries-answer.ensures.copied
+    copies_seen _ _ c.args.f _ c.copy_entries-answer.result _ _ c.relink.ensures.slots c.copy_entries-answer.ensures.copied
 
 pub returns-clause-linked : goal.returns-clause-linked
 returns-clause-linked g c =
-    subst (λ slots. IsLinked (g.S.NonZeroInxGenericStack.items c.relink-self.new.stack) (option_map non_zero_usize_get c.relink-self.result) (gaps 1 slots)) (sym c.relink-self.ensures.slots) c.relink-self.ensures.linked
+    subst (λ slots. IsLinked (g.S.NonZeroInxGenericStack.items c.relink.new.self.stack) (option_map non_zero_usize_get c.relink.new.self.root) (gaps 1 slots)) (sym c.relink.ensures.slots) c.relink.ensures.linked
 
 pub returns-clause-count : goal.returns-clause-count
 returns-clause-count g c = c.count_live.ensures
 
 pub returns-clause-room : goal.returns-clause-room
 returns-clause-room g c =
-    c.relink-self.ensures.room ∙ c.copy_entries-answer.ensures.room ∙ ap g.S.NonZeroInxGenericStack.room c.clear.ensures ∙ g.met.S.NonZeroInxGenericStack.room_with_items _ _
+    c.relink.ensures.room ∙ c.copy_entries-answer.ensures.room ∙ ap g.S.NonZeroInxGenericStack.room c.clear.ensures ∙ g.met.S.NonZeroInxGenericStack.room_with_items _ _
 
 pub returns-clause-limit : goal.returns-clause-limit
 returns-clause-limit g c =
-    c.relink-self.ensures.limit ∙ c.copy_entries-answer.ensures.limit ∙ ap g.S.NonZeroInxGenericStack.limit c.clear.ensures ∙ g.met.S.NonZeroInxGenericStack.limit_with_items _ _
+    c.relink.ensures.limit ∙ c.copy_entries-answer.ensures.limit ∙ ap g.S.NonZeroInxGenericStack.limit c.clear.ensures ∙ g.met.S.NonZeroInxGenericStack.limit_with_items _ _

@@ -48,14 +48,6 @@ module _ {T : Type 0} where
   abbrev pub with_value : ArenaState T → ℕ → T → ArenaState T
   with_value s i value = record s { slots = with_value_in s.slots i value }
 
-  -- the same, but that so many more slots were touched
-  abbrev pub touched : ℕ → ArenaState T → ArenaState T
-  touched n s = record s { steps = s.steps + n }
-
-  -- nothing changed, how many slots were touched aside
-  abbrev pub IsUnchanged : ArenaState T → ArenaState T → Type 0
-  IsUnchanged old new = new ≡ record old { steps = new.steps }
-
   -- a slot without an entry
   abbrev pub is_free : Option (Option (ℕ × T)) → Bool
   is_free None = false

@@ -9,12 +9,6 @@ abbrev pub place_among : List ℕ → ℕ → ℕ
 place_among [] n = n + 1
 place_among (i ∷ rest) n = i
 
--- so many slots an insertion touches that takes the first of these
-abbrev pub steps_among : List ℕ → ℕ
-steps_among [] = 1
-steps_among (i ∷ []) = 1
-steps_among (i ∷ j ∷ rest) = 2
-
 module _ {T : Type 0} where
   -- the index that insertion takes: the first free one, or one past the last slot
   abbrev pub place : ArenaState T → ℕ
@@ -23,10 +17,6 @@ module _ {T : Type 0} where
   -- the pointer that insertion gives
   abbrev pub next_pointer : ArenaState T → Pointer
   next_pointer s = (place s, s.counter)
-
-  -- so many slots an insertion touches: the one that it takes, and the free one after it, if there is one
-  abbrev pub insertion_steps : ArenaState T → ℕ
-  insertion_steps s = steps_among s.free
 
   -- the value under the counter at the first of these free indexes, which is free no longer, or in a slot past the last
   -- where there is none

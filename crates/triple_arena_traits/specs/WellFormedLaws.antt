@@ -9,7 +9,8 @@ use Rattle.std.specs.Option.{option_and_then, option_map}
 use Rattle.triple_arena_traits.specs.Items.{item, with_item}
 use Rattle.triple_arena_traits.specs.Entries.{look_up_in, entry_in, value_under, with_value_in, with_generation_in}
 use Rattle.triple_arena_traits.specs.ArenaState.{ArenaState, new_arena, capacity, entry, look_up, slot_count, arena_len, is_free, IsWellFormed}
-use Rattle.triple_arena_traits.specs.Insertion.{place_among, place, inserted_among, inserted, steps_among}
+use Rattle.triple_arena_traits.specs.Insertion.{place_among, place, inserted_among, inserted}
+use Rattle.triple_arena_traits.specs.SlotSteps.{steps_among, IsTouched}
 use Rattle.triple_arena_traits.specs.Ending.{removed, invalidated}
 use Rattle.triple_arena_traits.specs.EntryLaws.{count_head, first_free, by_case}
 use Rattle.triple_arena_traits.specs.LengthLaws.{count-with_item}
@@ -159,12 +160,18 @@ module _ {T : Type 0} where
       by_free (i ∷ rest) = (refl, refl, refl, refl, refl)
 
   -- a removal counts nothing, and what was counted before makes no difference to it
-  pub aside-removed : (raise : ℕ → ℕ) (s : ArenaState T) (n m i : ℕ) → ◌≡◌ {A = ArenaState T} (record (removed raise (record s { steps = n }) i) { steps = m }) (record (removed raise s i) { steps = m })
-  aside-removed raise s n m i = by_test (i == slot_count s)
+  pub steps-removed : (raise : ℕ → ℕ) (s : ArenaState T) (n m i : ℕ) → ◌≡◌ {A = ArenaState T} (record (removed raise (record s { steps = n }) i) { steps = m }) (record (removed raise s i) { steps = m })
+  steps-removed raise s n m i = by_test (i == slot_count s)
     where
       by_test : (b : Bool) → ◌≡◌ {A = ArenaState T} (record (cond b (record s { slots = take (slot_count s - 1) s.slots; counter = raise s.counter; steps = n }) (record s { slots = with_item s.slots i None; counter = raise s.counter; free = i ∷ s.free; steps = n })) { steps = m }) (record (cond b (record s { slots = take (slot_count s - 1) s.slots; counter = raise s.counter }) (record s { slots = with_item s.slots i None; counter = raise s.counter; free = i ∷ s.free })) { steps = m })
       by_test true = refl
       by_test false = refl
+
+  -- slots that were touched make no difference
+  pub IsWellFormed-touched : (s new : ArenaState T) → IsTouched s new → IsWellFormed s → IsWellFormed new
+  IsWellFormed-touched s new touched well =
+      let counted : IsWellFormed (record s { steps = new.steps }) = record { free_once = well.free_once; total = well.total; fits = well.fits } in
+      subst IsWellFormed (sym touched.0) counted
 
   -- the place of an insertion is an index within the bounds
   pub place_within : (s : ArenaState T) → IsWellFormed s → arena_len s < capacity s → (0 < place s) × (place s ≤ capacity s)

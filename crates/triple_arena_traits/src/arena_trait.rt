@@ -7,6 +7,7 @@ ghost use Rattle.triple_arena_ptr.specs.Numbers.{greatest_index};
 ghost use Rattle.triple_arena_ptr.specs.Pointers.{Pointer};
 ghost use Rattle.triple_arena_stack.specs.StackKind.{StackKind, new_room, new_limit, made_room, made_limit, CanHold, TakesNoMemory};
 ghost use Rattle.triple_arena_stack.specs.Capacity.{capacity_of, IsWithin, IsBeyond};
+ghost use Rattle.triple_arena_traits.specs.SlotSteps.{RisesByAtMost};
 ghost use Rattle.triple_arena_traits.specs.Entries.{entry_in, look_up_in, entry_count, with_value_in, ChangesAt, KeepsEntries, IsFirst, IsLast};
 ghost use Rattle.triple_arena_traits.specs.Ending.{told, told_of, map_told};
 ghost use Rattle.triple_arena_traits.specs.Walks.{Stand, standing_at, IsAtFirst, keys};
@@ -240,7 +241,7 @@ pub trait ArenaTrait<P: Ptr, T>: Sized {
             → look_up_in (slots self.new) q ≡ look_up_in (slots self.old) q }
         ensures unchanged { look_up_in (slots self.old) (P.numbers p) ≡ None
             → unchanged self.old self.new }
-        ensures bounded { steps self.new ≤ steps self.old + 6 }
+        ensures bounded { RisesByAtMost 6 (steps self.old) (steps self.new) }
         ensures fresh { IsSome (look_up_in (slots self.old) (P.numbers p))
             → CountsUp P.Gen.counting (ending_wraps self.old) → Continues fits self.old
             (invalidation (P.numbers p) ((P.numbers p).0, renewed self.old (P.numbers p).0) ∷ [])
@@ -260,7 +261,7 @@ pub trait ArenaTrait<P: Ptr, T>: Sized {
             → look_up_in (slots self.new) q ≡ look_up_in (slots self.old) q }
         ensures unchanged { look_up_in (slots self.old) (P.numbers p) ≡ None
             → unchanged self.old self.new }
-        ensures bounded { steps self.new ≤ steps self.old + 6 }
+        ensures bounded { RisesByAtMost 6 (steps self.old) (steps self.new) }
         ensures fresh { IsSome (look_up_in (slots self.old) (P.numbers p))
             → CountsUp P.Gen.counting (ending_wraps self.old)
             → Continues fits self.old (removal (P.numbers p) ∷ []) self.new };
@@ -279,7 +280,7 @@ pub trait ArenaTrait<P: Ptr, T>: Sized {
             → look_up_in (slots self.new) q ≡ look_up_in (slots self.old) q }
         ensures unchanged { entry_in (slots self.old) (P.Inx.number inx) ≡ None
             → unchanged self.old self.new }
-        ensures bounded { steps self.new ≤ steps self.old + 6 }
+        ensures bounded { RisesByAtMost 6 (steps self.old) (steps self.new) }
         ensures fresh { (generation : ℕ) (value : T)
             → entry_in (slots self.old) (P.Inx.number inx) ≡ Some (generation, value)
             → CountsUp P.Gen.counting (ending_wraps self.old)
@@ -332,12 +333,20 @@ pub trait ArenaTrait<P: Ptr, T>: Sized {
     ghost fitting_removed: { (old : Self) (i : ℕ) (new : Self) → removes old i new
         → fitting new ≡ fitting old };
 
-    // what is unchanged but for the count has the same entries, limit and capacity
+    // what is unchanged but for the count has the same entries, limit, capacity and next generation,
+    // and each history that fitted fits
     ghost slots_unchanged: { (old new : Self) → unchanged old new → slots new ≡ slots old };
+
+    ghost valid_unchanged: { (old new : Self) → unchanged old new → valid old → valid new };
 
     ghost limit_unchanged: { (old new : Self) → unchanged old new → limit new ≡ limit old };
 
     ghost fitting_unchanged: { (old new : Self) → unchanged old new → fitting new ≡ fitting old };
+
+    ghost generation_unchanged: { (old new : Self) → unchanged old new
+        → next_generation new ≡ next_generation old };
+
+    ghost fits_unchanged: { (old new : Self) → unchanged old new → Continues fits old [] new };
 
     // an invalidation renews the generation of the entry at its index alone, and leaves the number
     // of entries, limit and capacity

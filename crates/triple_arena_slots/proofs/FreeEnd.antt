@@ -44,8 +44,8 @@ module _ {T : Type 0} where
       let all : up_to n s.free ≡ s.free = up_to_all n s.free (λ i h. rw (item_past s.slots i h) at (well.free_once i)) in
       let m : n - 1 + 1 ≡ n = omega (arith, within) in
       let fewer = length_more (n - 1) 1 s.free (λ i h l.
-        let here : n ≡ i = omega (arith, h, l, m) in
-        subst (λ k. times k s.free ≡ 1) here once) in
+      let here : n ≡ i = omega (arith, h, l, m) in
+      subst (λ k. times k s.free ≡ 1) here once) in
       record {
         free_once = λ j. elim (cases_lt (n - 1) j) [
           | inl past ↦ rw (item_past rest j (omega (arith, shorter, past))) (count-past (n - 1) j s.free past)
@@ -101,7 +101,7 @@ module _ {P T I G : Type 0} (number : G → ℕ) where
       let vacant : item s.slots (slot_count s) ≡ Some None = last_vacant es root len s (ap (item (map (entry_of number) es)) (sym last) ∙ item-map_some (entry_of number) es i (Free link) found) shows in
       let here : i ≡ slot_count s - 1 + 1 = omega (arith, last, size, positive) in
       let greatest : (j : ℕ) → i < j → times j (at.in_front ++ i ∷ at.behind) ≡ 0 =
-        λ j h. ap (times j) (sym at.split) ∙ rw (item_past s.slots j (omega (arith, h, last, size))) at (shows.well.free_once j) in
+      λ j h. ap (times j) (sym at.split) ∙ rw (item_past s.slots j (omega (arith, h, last, size))) at (shows.well.free_once j) in
       let free : up_to (slot_count s - 1) s.free ≡ at.in_front ++ at.behind = ap (up_to (slot_count s - 1)) at.split ∙ up_to-split (slot_count s - 1) i at.in_front at.behind here at.once greatest in
       let rest : List (Option (ℕ × T)) = take (slot_count s - 1) s.slots in
       let live = ap (count_by is_some) (split_last s.slots None vacant) ∙ sum_by_push (λ o. cond (is_some o) 1 0) rest None in

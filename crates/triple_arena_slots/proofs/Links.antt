@@ -8,7 +8,8 @@ use Rattle.std.specs.Option.{option_map, option_and_then}
 use Rattle.triple_arena_traits.specs.Items.{item, with_item}
 use Rattle.triple_arena_traits.specs.Entries.{with_generation_in}
 use Rattle.triple_arena_traits.specs.ArenaState.{ArenaState, capacity, slot_count, arena_len, with_value, is_free, IsWellFormed}
-use Rattle.triple_arena_traits.specs.Insertion.{place_among, place, inserted_among, inserted, steps_among, insertion_steps}
+use Rattle.triple_arena_traits.specs.Insertion.{place_among, place, inserted_among, inserted}
+use Rattle.triple_arena_traits.specs.SlotSteps.{steps_among, insertion_steps}
 use Rattle.triple_arena_traits.specs.Ending.{removed}
 use Rattle.triple_arena_slots.specs.Slot.{entry_of, touch_if, next_free, previous_free, next_in, previous_in, with_slot_generation}
 use Rattle.triple_arena_slots.specs.Layout.{entry_at, Linked, after, before, chain, state_of, IsLinked, Begins, CanLeave, Leaves, Shows, with_value_at}
@@ -77,8 +78,8 @@ module _ {P T I G : Type 0} where
   pub IsLinked-off : (old new : List (ArenaSlot P T I G)) (k : ℕ) (from : Option ℕ) (free : List ℕ) → ((j : ℕ) → j ≢ k → item new j ≡ item old j) → count_by (λ j. j == k) free ≡ 0 → IsLinked old from free → IsLinked new from free
   IsLinked-off old new k from free same off linked =
       Linked-same (after old) (before old) (after new) (before new) None from free (λ j there.
-        let other : j ≢ k = λ e. omega (arith, off, subst (λ m. 1 ≤ times m free) e there) in
-        (after_same old new j (same j other), before_same old new j (same j other))) linked
+      let other : j ≢ k = λ e. omega (arith, off, subst (λ m. 1 ≤ times m free) e there) in
+      (after_same old new j (same j other), before_same old new j (same j other))) linked
 
   module _ (number : G → ℕ) where
     -- the view is the state that the slots show
@@ -127,7 +128,7 @@ module _ {P T I G : Type 0} where
         let on : after es i ≡ next_free link i = ap (option_and_then (λ slot. next_in slot i)) found in
         let back : before es i ≡ previous_free link i = ap (option_and_then (λ slot. previous_in slot i)) found in
         let entry : (j : ℕ) → j ≢ i → 1 ≤ times j (at.in_front ++ i ∷ at.behind) → item (map (entry_of number) es1) j ≡ Some None =
-          λ j other there. item-map (entry_of number) es1 j ∙ ap (option_map (entry_of number)) (same j other) ∙ sym (item-map (entry_of number) es j) ∙ ap (λ xs. item xs j) shows.slots ∙ vacant_there s j shows.well (subst (λ xs. 1 ≤ times j xs) (sym at.split) there) in
+        λ j other there. item-map (entry_of number) es1 j ∙ ap (option_map (entry_of number)) (same j other) ∙ sym (item-map (entry_of number) es j) ∙ ap (λ xs. item xs j) shows.slots ∙ vacant_there s j shows.well (subst (λ xs. 1 ≤ times j xs) (sym at.split) there) in
         record {
           next = λ j e. entry j (not_own (non_zero_usize_get link.next) i j (non_zero_usize_get link.next == i) refl e) (next_there (after es) (before es) root at.in_front i at.behind j at.linked (on ∙ e));
           previous = λ j e. entry j (not_own (non_zero_usize_get link.previous) i j (non_zero_usize_get link.previous == i) refl e) (previous_there (after es) (before es) root at.in_front i at.behind j at.linked (back ∙ e));

@@ -7,12 +7,10 @@ use Rattle.triple_arena_traits.specs.Items.{item}
 use Rattle.triple_arena_traits.specs.ArenaState.{ArenaState, arena_len, capacity}
 use Rattle.triple_arena_traits.specs.FreeList.{trimmed, gaps, tidied, laid_out}
 use Rattle.triple_arena_slots.specs.Slot.{entry_of}
-use Rattle.triple_arena_traits.specs.LengthLaws.{trimmed_live}
-use Rattle.triple_arena_slots.specs.Layout.{after, before, IsLinked, Begins, Shows}
-use Rattle.triple_arena_traits.specs.ItemLaws.{item_within, length-with_item, with_item_same, item-map_some}
-use Rattle.triple_arena_slots.specs.declared.slot.FreeLink.{FreeLink}
+use Rattle.triple_arena_traits.specs.LengthLaws.{trimmed_live, live_slot}
+use Rattle.triple_arena_slots.specs.Layout.{after, before, entry_at, IsLinked, Begins, Shows}
+use Rattle.triple_arena_traits.specs.ItemLaws.{joined, length-with_item, with_item_same}
 use Rattle.triple_arena_slots.specs.declared.slot.ArenaSlot.{ArenaSlot}
-use Rattle.triple_arena_slots.specs.declared.slot.ArenaSlot.TheVariants.{Free, Allocated}
 use Rattle.triple_arena_traits.specs.EntryLaws.{count_head}
 use Rattle.triple_arena_traits.specs.WellFormedLaws.{count_tail}
 use Rattle.triple_arena_slots.proofs.TwoWay.{times, Once, Linked-led}
@@ -29,6 +27,14 @@ module _ {T : Type 0} where
       let m : at + 1 ≡ suc at = omega arith in
       let rest = entry_step xs at x (rw m (rw n at found)) in
       rw n (rw m at rest)
+
+  -- an index of a slot without an entry is that of a free one
+  pub vacant_within : (xs : List (Option (ℕ × T))) (i : ℕ) → 0 < i → i ≤ length xs → is_some (joined (item xs i)) ≡ false → item xs i ≡ Some None
+  vacant_within xs zero positive within none = absurd (omega (arith, positive))
+  vacant_within [] (suc k) positive within none = absurd (omega (arith, within))
+  vacant_within (None ∷ xs) (suc zero) positive within none = refl
+  vacant_within (Some e ∷ xs) (suc zero) positive within none = absurd (true≢false none)
+  vacant_within (x ∷ xs) (suc (suc k)) positive within none = vacant_within xs (suc k) (omega arith) (omega (arith, within)) none
 
   -- each gap is one once
   Once-gaps : (at : ℕ) (xs : List (Option (ℕ × T))) → Once (gaps at xs)
@@ -47,11 +53,6 @@ module _ {P T I G : Type 0} (number : G → ℕ) where
     pub linked : IsLinked now root (gaps (at + 1) (drop at (map (entry_of number) old)))
     pub vacant : (j : ℕ) → root ≡ Some j → item (map (entry_of number) now) j ≡ Some None
 
-  -- a slot with no entry is free
-  pub free_slot : (e : ArenaSlot P T I G) → is_some (entry_of number e) ≡ false → (link : FreeLink) × (e ≡ Free link)
-  free_slot (Free link) none = (link, refl)
-  free_slot (Allocated g v) none = absurd (true≢false none)
-
   -- the root is no index at or before `at`
   pub root_past : (es : List (ArenaSlot P T I G)) (from : Option ℕ) (at : ℕ) (xs : List (Option (ℕ × T))) (i : ℕ) → i < at → IsLinked es from (gaps at xs) → from ≢ Some i
   root_past es from at xs i h linked = by_gaps (gaps at xs) (gaps_above at xs i h) linked
@@ -63,25 +64,19 @@ module _ {P T I G : Type 0} (number : G → ℕ) where
           absurd (omega (arith, none, count_head i rest, ap (λ m. count_by (λ k. k == i) (m ∷ rest)) same))
 
   -- the slots link as before where the one at hand has an entry
-  pub LinkedFrom-live : (old es : List (ArenaSlot P T I G)) (i at : ℕ) (root : Option ℕ) (e : ArenaSlot P T I G) → i ≡ at + 1 → LinkedFrom old es i root → item es i ≡ Some e → is_some (entry_of number e) ≡ true → LinkedFrom old es at root
-  LinkedFrom-live old es i at root e here l found live = by_entry (entry_of number e) refl live
-    where
-      by_entry : (o : Option (ℕ × T)) → entry_of number e ≡ o → is_some o ≡ true → LinkedFrom old es at root
-      by_entry None is some = absurd (true≢false (sym some))
-      by_entry (Some v) is some =
-          let there : item (map (entry_of number) old) (at + 1) ≡ Some (Some v) = ap (item (map (entry_of number) old)) (sym here) ∙ ap (λ xs. item xs i) (sym l.same) ∙ item-map_some (entry_of number) es i e found ∙ ap Some is in
-          record {
-            same = l.same;
-            linked = rw (entry_step (map (entry_of number) old) at (Some v) there) (rw here at l.linked);
-            vacant = l.vacant;
-          }
+  pub LinkedFrom-live : (old es : List (ArenaSlot P T I G)) (i at : ℕ) (root : Option ℕ) → i ≡ at + 1 → LinkedFrom old es i root → is_some (entry_at number es i) ≡ true → LinkedFrom old es at root
+  LinkedFrom-live old es i at root here l live =
+      let found = live_slot (map (entry_of number) es) i live in
+      let there : item (map (entry_of number) old) (at + 1) ≡ Some (Some found.0) = ap (item (map (entry_of number) old)) (sym here) ∙ ap (λ xs. item xs i) (sym l.same) ∙ found.1 in
+      record {
+        same = l.same;
+        linked = rw (entry_step (map (entry_of number) old) at (Some found.0) there) (rw here at l.linked);
+        vacant = l.vacant;
+      }
 
   -- a free slot comes before what was the root, and is the root from then on
-  pub LinkedFrom-free : (old es es1 : List (ArenaSlot P T I G)) (i at : ℕ) (root : Option ℕ) (e : ArenaSlot P T I G) → i ≡ at + 1 → LinkedFrom old es i root → item es i ≡ Some e → is_some (entry_of number e) ≡ false → Begins number es es1 root i → LinkedFrom old es1 at (Some i)
-  LinkedFrom-free old es es1 i at root e here l found none begins =
-      let is = (free_slot e none).1 in
-      let within = item_within es i e found in
-      let vacant : item (map (entry_of number) es) i ≡ Some None = item-map_some (entry_of number) es i e found ∙ ap (λ x. Some (entry_of number x)) is in
+  pub LinkedFrom-free : (old es es1 : List (ArenaSlot P T I G)) (i at : ℕ) (root : Option ℕ) → i ≡ at + 1 → LinkedFrom old es i root → item (map (entry_of number) es) i ≡ Some None → Begins number es es1 root i → LinkedFrom old es1 at (Some i)
+  LinkedFrom-free old es es1 i at root here l vacant begins =
       let there : item (map (entry_of number) old) (at + 1) ≡ Some None = ap (item (map (entry_of number) old)) (sym here) ∙ ap (λ xs. item xs i) (sym l.same) ∙ vacant in
       let same : map (entry_of number) es1 ≡ map (entry_of number) es = begins.entries ∙ with_item_same (map (entry_of number) es) i None vacant in
       let linked : IsLinked es1 (Some i) (i ∷ gaps (i + 1) (drop i (map (entry_of number) old))) = Linked-led (after es) (before es) (after es1) (before es1) root i _ (leads_of number es es1 root i begins) (gaps_above (i + 1) (drop i (map (entry_of number) old)) i (omega arith)) (Once-gaps (i + 1) (drop i (map (entry_of number) old))) l.linked in

@@ -78,10 +78,10 @@ Linked-first on back on1 back1 last i (y ∷ ys) skips once fresh first linked =
     let inner : 1 ≤ times y (i ∷ y ∷ ys) = omega (arith, times_head y ys, times_rest i y (y ∷ ys)) in
     let on_y : on1 y ≡ on y = skips.kept y other (off y inner) in
     let rest : Linked on1 back1 (Some y) (on y) ys = Linked-same on back on1 back1 (Some y) (on y) ys (λ j there.
-      let in_rest : 1 ≤ times j (y ∷ ys) = omega (arith, there, times_rest y j ys) in
-      let j_i : j ≢ i = apart i j (y ∷ ys) once in_rest in
-      let j_y : j ≢ y = apart y j ys (Once-rest i (y ∷ ys) once) there in
-      (skips.kept j j_i (off j (omega (arith, in_rest, times_rest i j (y ∷ ys)))), skips.kept_back j j_i (λ e. j_y (sym (same_Some _ _ (sym linked.0 ∙ e)))))) linked.2 in
+    let in_rest : 1 ≤ times j (y ∷ ys) = omega (arith, there, times_rest y j ys) in
+    let j_i : j ≢ i = apart i j (y ∷ ys) once in_rest in
+    let j_y : j ≢ y = apart y j ys (Once-rest i (y ∷ ys) once) there in
+    (skips.kept j j_i (off j (omega (arith, in_rest, times_rest i j (y ∷ ys)))), skips.kept_back j j_i (λ e. j_y (sym (same_Some _ _ (sym linked.0 ∙ e)))))) linked.2 in
     (linked.0, skips.previous y other linked.0 ∙ first, rw on_y rest)
 
 -- one leaves a list where it stands
@@ -92,10 +92,10 @@ Linked-skipped on back on1 back1 last from (x ∷ xs) i ys skips once fresh link
     let at_i : 1 ≤ times i (xs ++ i ∷ ys) = omega (arith, times-append i xs (i ∷ ys), times_head i ys) in
     let x_i : x ≢ i = λ e. apart x i (xs ++ i ∷ ys) once at_i (sym e) in
     let not_next : on i ≢ Some x = λ e.
-      omega (arith, next_behind on back (Some x) (on x) xs i ys x linked.2 e, times-append x xs (i ∷ ys), times_rest i x ys, once x, count_head x (xs ++ i ∷ ys)) in
+    omega (arith, next_behind on back (Some x) (on x) xs i ys x linked.2 e, times-append x xs (i ∷ ys), times_rest i x ys, once x, count_head x (xs ++ i ∷ ys)) in
     let inner : Linked on1 back1 (Some x) (root_without on (on x) i xs) (xs ++ ys) =
-      Linked-skipped on back on1 back1 (Some x) (on x) xs i ys skips (Once-rest x (xs ++ i ∷ ys) once)
-      (λ j e. subst (λ m. times m (xs ++ i ∷ ys) ≡ 0) (same_Some _ _ e) (omega (arith, once x, count_head x (xs ++ i ∷ ys)))) linked.2 in
+    Linked-skipped on back on1 back1 (Some x) (on x) xs i ys skips (Once-rest x (xs ++ i ∷ ys) once)
+    (λ j e. subst (λ m. times m (xs ++ i ∷ ys) ≡ 0) (same_Some _ _ e) (omega (arith, once x, count_head x (xs ++ i ∷ ys)))) linked.2 in
     (linked.0, skips.kept_back x x_i not_next ∙ linked.1, rw (by_front xs linked.2 once x_i) inner)
   where
     by_front : (zs : List ℕ) → Linked on back (Some x) (on x) (zs ++ i ∷ ys) → Once (x ∷ zs ++ i ∷ ys) → x ≢ i → on1 x ≡ root_without on (on x) i zs
@@ -169,7 +169,14 @@ pub Linked-led : (on back on1 back1 : ℕ → Option ℕ) (root : Option ℕ) (i
 Linked-led on back on1 back1 root i [] leads off once linked = (refl, leads.first, leads.next ∙ linked)
 Linked-led on back on1 back1 root i (y ∷ ys) leads off once linked =
     let other : (j : ℕ) → 1 ≤ times j (y ∷ ys) → j ≢ i = λ j there e. omega (arith, off, subst (λ m. 1 ≤ times m (y ∷ ys)) e there) in
-    let y_i = other y (times_head y ys) in
-    (refl, leads.first, (leads.next ∙ linked.0, leads.previous y y_i linked.0, rw (leads.kept y y_i) (Linked-same on back on1 back1 (Some y) (on y) ys (λ j there.
-      let j_i = other j (omega (arith, there, times_rest y j ys)) in
-      (leads.kept j j_i, leads.kept_back j j_i (λ e. apart y j ys once there (sym (same_Some _ _ (sym linked.0 ∙ e)))))) linked.2)))
+    let y_i = other y (times_head y ys) in (
+      refl,
+      leads.first,
+      (
+        leads.next ∙ linked.0,
+        leads.previous y y_i linked.0,
+        rw (leads.kept y y_i) (Linked-same on back on1 back1 (Some y) (on y) ys (λ j there.
+            let j_i = other j (omega (arith, there, times_rest y j ys)) in
+            (leads.kept j j_i, leads.kept_back j j_i (λ e. apart y j ys once there (sym (same_Some _ _ (sym linked.0 ∙ e)))))) linked.2),
+      ),
+    )

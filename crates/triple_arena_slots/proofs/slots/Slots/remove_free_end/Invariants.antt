@@ -11,6 +11,8 @@ invariant-pops g l =
     (g.S.NonZeroInxGenericStack.room l.self.stack ≡ g.S.NonZeroInxGenericStack.room l.fn.self.stack)
     × (g.S.NonZeroInxGenericStack.limit l.self.stack ≡ g.S.NonZeroInxGenericStack.limit l.fn.self.stack)
     × (l.self.steps.count + 4 * length (g.S.NonZeroInxGenericStack.items l.self.stack) ≤ l.fn.self.steps.count + 4 * length (g.S.NonZeroInxGenericStack.items l.fn.self.stack))
+    × (l.fn.self.steps.count ≤ l.self.steps.count)
+    × (length (g.S.NonZeroInxGenericStack.items l.self.stack) ≤ length (g.S.NonZeroInxGenericStack.items l.fn.self.stack))
     × ((s : ArenaState g.row.T.Denot) (len : ℕ) → Shows g.P.Gen.PtrGen.number (g.S.NonZeroInxGenericStack.items l.fn.self.stack) (option_map non_zero_usize_get l.fn.self.root) len s
     → (t : ArenaState g.row.T.Denot) × Shows g.P.Gen.PtrGen.number (g.S.NonZeroInxGenericStack.items l.self.stack) (option_map non_zero_usize_get l.self.root) len t × (without_free_end t ≡ without_free_end s))
 

@@ -10,6 +10,7 @@ invariant-links g l =
     (g.S.NonZeroInxGenericStack.room l.self.stack ≡ g.S.NonZeroInxGenericStack.room l.fn.self.stack)
     × (g.S.NonZeroInxGenericStack.limit l.self.stack ≡ g.S.NonZeroInxGenericStack.limit l.fn.self.stack)
     × (length (g.S.NonZeroInxGenericStack.items l.self.stack) ≡ length (g.S.NonZeroInxGenericStack.items l.fn.self.stack))
+    × (l.fn.self.steps.count ≤ l.self.steps.count)
     × (number_or_zero l.next ≤ length (g.S.NonZeroInxGenericStack.items l.self.stack))
     × LinkedFrom g.P.Gen.PtrGen.number (g.S.NonZeroInxGenericStack.items l.fn.self.stack) (g.S.NonZeroInxGenericStack.items l.self.stack) (number_or_zero l.next) (option_map non_zero_usize_get l.self.root)
 

@@ -8,7 +8,7 @@ use Rattle.triple_arena_traits.specs.ArenaState.{ArenaState, slot_count, is_free
 use Rattle.triple_arena_traits.specs.FreeList.{trimmed, up_to, without_free_end}
 use Rattle.triple_arena_slots.specs.Slot.{entry_of, next_free, previous_free}
 use Rattle.triple_arena_slots.specs.Layout.{IsLinked, Leaves, Shows, without_last}
-use Rattle.triple_arena_slots.specs.declared.slot.FreeLink.{FreeLink}
+use Rattle.triple_arena_slots.specs.Link.{Link}
 use Rattle.triple_arena_slots.specs.declared.slot.ArenaSlot.{ArenaSlot}
 use Rattle.triple_arena_slots.specs.declared.slot.ArenaSlot.TheVariants.{Free}
 use Rattle.triple_arena_traits.specs.ItemLaws.{item_within, item_past, item-take, split_last, item-map_some}
@@ -93,7 +93,7 @@ module _ {P T I G : Type 0} (number : G → ℕ) where
       rw size at (ap (λ xs. item xs (length es)) (sym shows.slots) ∙ vacant)
 
   -- the last slot is popped, and left the list where it stood
-  pub Shows-without_last : (es es1 es2 : List (ArenaSlot P T I G)) (root root2 : Option ℕ) (i len : ℕ) (link : FreeLink) (s : ArenaState T) → i ≡ length es → item es i ≡ Some (Free link) → ((j : ℕ) → j ≢ i → item es1 j ≡ item es j) → map (entry_of number) es1 ≡ take (length es - 1) (map (entry_of number) es) → Leaves number es1 es2 root root2 (next_free link i) (previous_free link i) → Shows number es root len s → Shows number es2 root2 len (without_last s)
+  pub Shows-without_last : (es es1 es2 : List (ArenaSlot P T I G)) (root root2 : Option ℕ) (i len : ℕ) (link : Link) (s : ArenaState T) → i ≡ length es → item es i ≡ Some (Free link) → ((j : ℕ) → j ≢ i → item es1 j ≡ item es j) → map (entry_of number) es1 ≡ take (length es - 1) (map (entry_of number) es) → Leaves number es1 es2 root root2 (next_free link i) (previous_free link i) → Shows number es root len s → Shows number es2 root2 len (without_last s)
   Shows-without_last es es1 es2 root root2 i len link s last found same popped leaves shows =
       let size : length es ≡ slot_count s = sym (length-map es (entry_of number)) ∙ ap length shows.slots in
       let at = free_at number es root i len link s found shows in

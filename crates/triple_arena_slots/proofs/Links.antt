@@ -3,7 +3,6 @@ use Rattle.std.proofs.Common.{◌≡◌, ◌≢◌, ℕ, zero, suc, ◌+◌, ◌
 use Rattle.std.proofs.lemmas.List.{length-take-le, length-map, length_push, map_push, take-map}
 use Rattle.std.proofs.lemmas.List.Sums.{sum_by_push}
 use Rattle.std.proofs.lemmas.Option.{same_Some}
-use Rattle.std.specs.Int.NonZero.{non_zero_usize_get}
 use Rattle.std.specs.Option.{option_map, option_and_then}
 use Rattle.triple_arena_traits.specs.Items.{item, with_item}
 use Rattle.triple_arena_traits.specs.Entries.{with_generation_in}
@@ -13,7 +12,7 @@ use Rattle.triple_arena_traits.specs.SlotSteps.{steps_among, insertion_steps}
 use Rattle.triple_arena_traits.specs.Ending.{removed}
 use Rattle.triple_arena_slots.specs.Slot.{entry_of, touch_if, next_free, previous_free, next_in, previous_in, with_slot_generation}
 use Rattle.triple_arena_slots.specs.Layout.{entry_at, Linked, after, before, chain, state_of, IsLinked, Begins, CanLeave, Leaves, Shows, with_value_at}
-use Rattle.triple_arena_slots.specs.declared.slot.FreeLink.{FreeLink}
+use Rattle.triple_arena_slots.specs.Link.{Link}
 use Rattle.triple_arena_slots.specs.declared.slot.ArenaSlot.{ArenaSlot}
 use Rattle.triple_arena_slots.specs.declared.slot.ArenaSlot.TheVariants.{Free, Allocated}
 use Rattle.triple_arena_traits.specs.ItemLaws.{joined, map-with_item, eq_true, eq_false, item_within, item-with_other, item-push_other, split_last, item-map, item-map_some, item-map_none}
@@ -100,7 +99,7 @@ module _ {P T I G : Type 0} where
         (rw is shows, is)
 
     -- an index of slots of which one is free, with this link
-    pub record IsFreeAt (es : List (ArenaSlot P T I G)) (root : Option ℕ) (i : ℕ) (link : FreeLink) (s : ArenaState T) : Type 0 where
+    pub record IsFreeAt (es : List (ArenaSlot P T I G)) (root : Option ℕ) (i : ℕ) (link : Link) (s : ArenaState T) : Type 0 where
       pub found : item es i ≡ Some (Free link)
       pub in_front : List ℕ
       pub behind : List ℕ
@@ -108,7 +107,7 @@ module _ {P T I G : Type 0} where
       pub linked : IsLinked es root (in_front ++ i ∷ behind)
       pub once : Once (in_front ++ i ∷ behind)
 
-    pub free_at : (es : List (ArenaSlot P T I G)) (root : Option ℕ) (i len : ℕ) (link : FreeLink) (s : ArenaState T) → item es i ≡ Some (Free link) → Shows number es root len s → IsFreeAt es root i link s
+    pub free_at : (es : List (ArenaSlot P T I G)) (root : Option ℕ) (i len : ℕ) (link : Link) (s : ArenaState T) → item es i ≡ Some (Free link) → Shows number es root len s → IsFreeAt es root i link s
     free_at es root i len link s found shows =
         let vacant : item s.slots i ≡ Some None = ap (λ xs. item xs i) (sym shows.slots) ∙ item-map_some (entry_of number) es i (Free link) found in
         let parts = split_at i s.free (there_vacant s i shows.well vacant) in
@@ -122,7 +121,7 @@ module _ {P T I G : Type 0} where
         }
 
     -- the slots to which it leads can lead to each other
-    pub can_leave : (es es1 : List (ArenaSlot P T I G)) (root : Option ℕ) (i len : ℕ) (link : FreeLink) (s : ArenaState T) → ((j : ℕ) → j ≢ i → item es1 j ≡ item es j) → item es i ≡ Some (Free link) → Shows number es root len s → CanLeave number es1 (next_free link i) (previous_free link i)
+    pub can_leave : (es es1 : List (ArenaSlot P T I G)) (root : Option ℕ) (i len : ℕ) (link : Link) (s : ArenaState T) → ((j : ℕ) → j ≢ i → item es1 j ≡ item es j) → item es i ≡ Some (Free link) → Shows number es root len s → CanLeave number es1 (next_free link i) (previous_free link i)
     can_leave es es1 root i len link s same found shows =
         let at = free_at es root i len link s found shows in
         let on : after es i ≡ next_free link i = ap (option_and_then (λ slot. next_in slot i)) found in
@@ -130,13 +129,13 @@ module _ {P T I G : Type 0} where
         let entry : (j : ℕ) → j ≢ i → 1 ≤ times j (at.in_front ++ i ∷ at.behind) → item (map (entry_of number) es1) j ≡ Some None =
         λ j other there. item-map (entry_of number) es1 j ∙ ap (option_map (entry_of number)) (same j other) ∙ sym (item-map (entry_of number) es j) ∙ ap (λ xs. item xs j) shows.slots ∙ vacant_there s j shows.well (subst (λ xs. 1 ≤ times j xs) (sym at.split) there) in
         record {
-          next = λ j e. entry j (not_own (non_zero_usize_get link.next) i j (non_zero_usize_get link.next == i) refl e) (next_there (after es) (before es) root at.in_front i at.behind j at.linked (on ∙ e));
-          previous = λ j e. entry j (not_own (non_zero_usize_get link.previous) i j (non_zero_usize_get link.previous == i) refl e) (previous_there (after es) (before es) root at.in_front i at.behind j at.linked (back ∙ e));
+          next = λ j e. entry j (not_own link.next i j (link.next == i) refl e) (next_there (after es) (before es) root at.in_front i at.behind j at.linked (on ∙ e));
+          previous = λ j e. entry j (not_own link.previous i j (link.previous == i) refl e) (previous_there (after es) (before es) root at.in_front i at.behind j at.linked (back ∙ e));
           apart = λ j e h. neighbours_apart (after es) (before es) root at.in_front i at.behind j at.once at.linked (back ∙ e) (on ∙ h);
         }
 
     -- once it left, the rest of the list is linked
-    pub left_linked : (es es1 es2 : List (ArenaSlot P T I G)) (root root2 : Option ℕ) (i : ℕ) (link : FreeLink) (s : ArenaState T) (at : IsFreeAt es root i link s) → ((j : ℕ) → j ≢ i → item es1 j ≡ item es j) → Leaves number es1 es2 root root2 (next_free link i) (previous_free link i) → IsLinked es2 root2 (at.in_front ++ at.behind)
+    pub left_linked : (es es1 es2 : List (ArenaSlot P T I G)) (root root2 : Option ℕ) (i : ℕ) (link : Link) (s : ArenaState T) (at : IsFreeAt es root i link s) → ((j : ℕ) → j ≢ i → item es1 j ≡ item es j) → Leaves number es1 es2 root root2 (next_free link i) (previous_free link i) → IsLinked es2 root2 (at.in_front ++ at.behind)
     left_linked es es1 es2 root root2 i link s at same leaves =
         let on : after es i ≡ next_free link i = ap (option_and_then (λ slot. next_in slot i)) at.found in
         let back : before es i ≡ previous_free link i = ap (option_and_then (λ slot. previous_in slot i)) at.found in
@@ -150,7 +149,7 @@ module _ {P T I G : Type 0} where
         rw begins (Linked-skipped (after es) (before es) (after es2) (before es2) None root at.in_front i at.behind skips at.once (λ j e. absurd (cc)) at.linked)
 
     -- insertion under the first free index
-    pub Shows-filled : (es es2 : List (ArenaSlot P T I G)) (root2 : Option ℕ) (i len : ℕ) (link : FreeLink) (g : G) (v : T) (s : ArenaState T) → arena_len s < capacity s → number g ≡ s.counter → item es i ≡ Some (Free link) → Leaves number (with_item es i (Allocated g v)) es2 (Some i) root2 (next_free link i) (previous_free link i) → Shows number es (Some i) len s → (place s ≡ i) × Shows number es2 root2 (len + 1) (inserted s v)
+    pub Shows-filled : (es es2 : List (ArenaSlot P T I G)) (root2 : Option ℕ) (i len : ℕ) (link : Link) (g : G) (v : T) (s : ArenaState T) → arena_len s < capacity s → number g ≡ s.counter → item es i ≡ Some (Free link) → Leaves number (with_item es i (Allocated g v)) es2 (Some i) root2 (next_free link i) (previous_free link i) → Shows number es (Some i) len s → (place s ≡ i) × Shows number es2 root2 (len + 1) (inserted s v)
     Shows-filled es es2 root2 i len link g v s room stamped found leaves shows = by_free s.free refl
       where
         filled : (rest : List ℕ) → s.free ≡ i ∷ rest → Shows number es2 root2 (len + 1) (inserted_among (i ∷ rest) s v)
@@ -180,7 +179,7 @@ module _ {P T I G : Type 0} where
             (sym same, subst (λ m. Shows number es2 root2 (len + 1) (inserted_among (m ∷ rest) s v)) same (filled rest (e ∙ ap (λ m. m ∷ rest) (sym same))))
 
     -- so many slots are touched where an insertion takes the first free one
-    pub steps-filled : (es : List (ArenaSlot P T I G)) (i len : ℕ) (link : FreeLink) (s : ArenaState T) → item es i ≡ Some (Free link) → Shows number es (Some i) len s → 1 + (touch_if (previous_free link i) + touch_if (next_free link i)) ≡ insertion_steps s
+    pub steps-filled : (es : List (ArenaSlot P T I G)) (i len : ℕ) (link : Link) (s : ArenaState T) → item es i ≡ Some (Free link) → Shows number es (Some i) len s → 1 + (touch_if (previous_free link i) + touch_if (next_free link i)) ≡ insertion_steps s
     steps-filled es i len link s found shows = by_free s.free (subst (λ f. IsLinked es (Some i) f) refl shows.linked)
       where
         on : after es i ≡ next_free link i
@@ -301,15 +300,15 @@ module _ {P T I G : Type 0} where
         record { slots = shows.slots; linked = shows.linked; counted = shows.counted; well = record { free_once = shows.well.free_once; total = shows.well.total; fits = shows.well.fits } }
 
     -- the slot that the root names is free
-    pub root_free : (es : List (ArenaSlot P T I G)) (root : Option ℕ) (i len : ℕ) (s : ArenaState T) → root ≡ Some i → Shows number es root len s → (link : FreeLink) × (item es i ≡ Some (Free link))
+    pub root_free : (es : List (ArenaSlot P T I G)) (root : Option ℕ) (i len : ℕ) (s : ArenaState T) → root ≡ Some i → Shows number es root len s → (link : Link) × (item es i ≡ Some (Free link))
     root_free es root i len s at_root shows = by_free s.free refl
       where
-        vacant : item s.slots i ≡ Some None → (o : Option (ArenaSlot P T I G)) → item es i ≡ o → (link : FreeLink) × (item es i ≡ Some (Free link))
+        vacant : item s.slots i ≡ Some None → (o : Option (ArenaSlot P T I G)) → item es i ≡ o → (link : Link) × (item es i ≡ Some (Free link))
         vacant none None h = absurd (let m = item-map_none (entry_of number) es i h in let k = ap (λ xs. item xs i) shows.slots in cc)
         vacant none (Some (Free link)) h = (link, h)
         vacant none (Some (Allocated g v)) h = absurd (let m = item-map_some (entry_of number) es i (Allocated g v) h in let k = ap (λ xs. item xs i) shows.slots in cc)
 
-        by_free : (f : List ℕ) → s.free ≡ f → (link : FreeLink) × (item es i ≡ Some (Free link))
+        by_free : (f : List ℕ) → s.free ≡ f → (link : Link) × (item es i ≡ Some (Free link))
         by_free [] e = absurd (let h = subst (IsLinked es root) e shows.linked in cc)
         by_free (j ∷ rest) e =
             let linked = (subst (IsLinked es root) e shows.linked).0 in

@@ -1,16 +1,24 @@
 -- What writes to the links of single slots make of all links.
-use Rattle.std.proofs.Common.{◌≡◌, ◌≢◌, ℕ, List, map, Option, Some, None, MatchOption, refl, sym, ap, subst, ◌∙◌, inl, inr}
+use Rattle.std.proofs.Common.{◌≡◌, ◌≢◌, ℕ, ◌≤◌, List, map, length, Option, Some, None, IsSome, MatchOption, refl, sym, ap, subst, ◌∙◌, inl, inr, arith, true≢false}
 use Rattle.std.proofs.lemmas.Bool.{cases_eq}
+use Rattle.std.proofs.lemmas.List.{length-map}
 use Rattle.std.proofs.lemmas.Option.{same_Some}
 use Rattle.std.specs.Option.{option_map, option_and_then}
 use Rattle.triple_arena_traits.specs.Items.{item, with_item}
 use Rattle.triple_arena_traits.specs.ItemLaws.{map-with_item, item_within, item-map, item-with_same, item-with_other, with_item_same, item-map_some}
 use Rattle.triple_arena_slots.specs.Slot.{entry_of, next_free, previous_free, next_in, previous_in, LinksOn, LinksBack}
 use Rattle.triple_arena_slots.specs.Layout.{after, before, LeadsOn, LeadsBack, Begins, Leaves}
-use Rattle.triple_arena_slots.specs.declared.slot.FreeLink.{FreeLink}
+use Rattle.triple_arena_slots.specs.Link.{Link}
 use Rattle.triple_arena_slots.specs.declared.slot.ArenaSlot.{ArenaSlot}
 use Rattle.triple_arena_slots.specs.declared.slot.ArenaSlot.TheVariants.{Free}
 use Rattle.triple_arena_slots.proofs.Links.{after_same, before_same}
+
+pub there_indexed : {A : Type 0} (xs : List A) (i greatest : ℕ) → length xs ≤ greatest → IsSome (item xs i) → i ≤ greatest
+there_indexed xs i greatest indexed there = by_item (item xs i) refl there
+  where
+    by_item : (o : Option _) → item xs i ≡ o → IsSome o → i ≤ greatest
+    by_item None is some = absurd (true≢false (sym some))
+    by_item (Some x) is some = omega (arith, indexed, (item_within xs i x is).1)
 
 module _ {P T I G : Type 0} where
   after_at : (es : List (ArenaSlot P T I G)) (i : ℕ) (slot : ArenaSlot P T I G) → item es i ≡ Some slot → after es i ≡ next_in slot i
@@ -31,7 +39,12 @@ module _ {P T I G : Type 0} where
     pub no_entry_at : (es : List (ArenaSlot P T I G)) (i : ℕ) (slot : ArenaSlot P T I G) → item (map (entry_of number) es) i ≡ Some None → item es i ≡ Some slot → entry_of number slot ≡ None
     no_entry_at es i slot vacant found = same_Some _ _ (sym (item-map_some (entry_of number) es i slot found) ∙ vacant)
 
-    same_entries : (es : List (ArenaSlot P T I G)) (i : ℕ) (slot new : ArenaSlot P T I G) → item es i ≡ Some slot → entry_of number slot ≡ None → (link : FreeLink) × (new ≡ Free link) → map (entry_of number) (with_item es i new) ≡ map (entry_of number) es
+    -- the index of a slot is within what all of them are within
+    pub free_indexed : (es : List (ArenaSlot P T I G)) (i greatest : ℕ) → length es ≤ greatest → item (map (entry_of number) es) i ≡ Some None → i ≤ greatest
+    free_indexed es i greatest indexed vacant =
+        omega (arith, indexed, (item_within (map (entry_of number) es) i None vacant).1, length-map es (entry_of number))
+
+    same_entries : (es : List (ArenaSlot P T I G)) (i : ℕ) (slot new : ArenaSlot P T I G) → item es i ≡ Some slot → entry_of number slot ≡ None → (link : Link) × (new ≡ Free link) → map (entry_of number) (with_item es i new) ≡ map (entry_of number) es
     same_entries es i slot new found none free =
         map-with_item (entry_of number) es i new ∙ with_item_same (map (entry_of number) es) i (entry_of number new) (item-map_some (entry_of number) es i slot found ∙ ap Some (none ∙ sym (ap (entry_of number) free.1)))
 
@@ -72,7 +85,7 @@ module _ {P T I G : Type 0} where
         })
 
     -- the slot that was first leads back to one that is put before it
-    pub Begins-put : (es es1 es2 : List (ArenaSlot P T I G)) (root : Option ℕ) (i : ℕ) (link : FreeLink) (old : ArenaSlot P T I G) → item es i ≡ Some old → next_free link i ≡ root → previous_free link i ≡ None → root ≢ Some i → es1 ≡ with_item es i (Free link) → LeadsBack number es1 es2 root (Some i) → Begins number es es2 root i
+    pub Begins-put : (es es1 es2 : List (ArenaSlot P T I G)) (root : Option ℕ) (i : ℕ) (link : Link) (old : ArenaSlot P T I G) → item es i ≡ Some old → next_free link i ≡ root → previous_free link i ≡ None → root ≢ Some i → es1 ≡ with_item es i (Free link) → LeadsBack number es1 es2 root (Some i) → Begins number es es2 root i
     Begins-put es es1 es2 root i link old found next first other put back =
         let within = item_within es i old found in
         let here : item es1 i ≡ Some (Free link) = ap (λ xs. item xs i) put ∙ item-with_same es i (Free link) within.0 within.1 in

@@ -1,17 +1,16 @@
 -- What a slot holds.
 use Rattle.std.specs.Prelude.{◌≡◌, ℕ, ◌==◌, cond, Option, Some, None}
-use Rattle.std.specs.Int.NonZero.{non_zero_usize_get}
-use Rattle.triple_arena_slots.specs.declared.slot.FreeLink.{FreeLink}
+use Rattle.triple_arena_slots.specs.Link.{Link}
 use Rattle.triple_arena_slots.specs.declared.slot.ArenaSlot.{ArenaSlot}
 use Rattle.triple_arena_slots.specs.declared.slot.ArenaSlot.TheVariants.{Free, Allocated}
 
 -- the index that the link of the free slot at index i leads to, if it leads to one
-abbrev pub next_free : FreeLink → ℕ → Option ℕ
-next_free link i = cond (non_zero_usize_get link.next == i) None (Some (non_zero_usize_get link.next))
+abbrev pub next_free : Link → ℕ → Option ℕ
+next_free link i = cond (link.next == i) None (Some link.next)
 
 -- the index that it leads back to, if it leads back to one
-abbrev pub previous_free : FreeLink → ℕ → Option ℕ
-previous_free link i = cond (non_zero_usize_get link.previous == i) None (Some (non_zero_usize_get link.previous))
+abbrev pub previous_free : Link → ℕ → Option ℕ
+previous_free link i = cond (link.previous == i) None (Some link.previous)
 
 -- one slot is touched where there is an index
 abbrev pub touch_if : Option ℕ → ℕ
@@ -46,12 +45,12 @@ module _ {P T I G : Type 0} where
 
   -- a free slot stays so, and leads on to this index alone
   pub record LinksOn (old new : ArenaSlot P T I G) (i : ℕ) (to : Option ℕ) : Type 0 where
-    pub free : (link : FreeLink) × (new ≡ Free link)
+    pub free : (link : Link) × (new ≡ Free link)
     pub next : next_in new i ≡ to
     pub previous : previous_in new i ≡ previous_in old i
 
   -- a free slot stays so, and leads back to this index alone
   pub record LinksBack (old new : ArenaSlot P T I G) (i : ℕ) (to : Option ℕ) : Type 0 where
-    pub free : (link : FreeLink) × (new ≡ Free link)
+    pub free : (link : Link) × (new ≡ Free link)
     pub next : next_in new i ≡ next_in old i
     pub previous : previous_in new i ≡ to

@@ -81,7 +81,8 @@ impl<P: Ptr, T, S: NonZeroInxGenericStack<ArenaSlot<P, T>>> Slots<P, T, S> {
 
     /// Puts an entry at the place of an insertion.
     pub fn occupy(&mut self, generation: P::Gen, value: T)
-        requires { (s : ArenaState T) × (len : ℕ)
+        requires indexed { length (S.items self.old.stack) ≤ greatest_index P.Inx.greatest }
+        requires shown { (s : ArenaState T) × (len : ℕ)
             × Shows P.Gen.number (S.items self.old.stack)
             (option_map non_zero_usize_get self.old.root) len s
             × (arena_len s < capacity_of (S.room self.old.stack) (S.limit self.old.stack)) }
@@ -112,6 +113,7 @@ impl<P: Ptr, T, S: NonZeroInxGenericStack<ArenaSlot<P, T>>> Slots<P, T, S> {
     /// Takes out the entry at an index: the last slot goes, and any other becomes the first free
     /// one.
     pub fn vacate(&mut self, inx: NonZeroUsize) -> (P::Gen, T)
+        requires indexed { length (S.items self.old.stack) ≤ greatest_index P.Inx.greatest }
         requires live { IsSome (entry_at P.Gen.number (S.items self.old.stack)
             (non_zero_usize_get inx)) }
         requires shown { (s : ArenaState T) × (len : ℕ)
@@ -137,6 +139,7 @@ impl<P: Ptr, T, S: NonZeroInxGenericStack<ArenaSlot<P, T>>> Slots<P, T, S> {
 
     /// Pops the free slots at the end, and links the others in rising order.
     pub fn tidy(&mut self)
+        requires { length (S.items self.old.stack) ≤ greatest_index P.Inx.greatest }
         ensures slots { map (entry_of P.Gen.number) (S.items self.new.stack)
             ≡ trimmed (map (entry_of P.Gen.number) (S.items self.old.stack)) }
         ensures linked { IsLinked (S.items self.new.stack)
@@ -153,7 +156,8 @@ impl<P: Ptr, T, S: NonZeroInxGenericStack<ArenaSlot<P, T>>> Slots<P, T, S> {
     /// Pops the free slots at the end, and takes them out of the free list. The rest of it keeps its
     /// order.
     pub fn remove_free_end(&mut self)
-        requires { (s : ArenaState T) × (len : ℕ)
+        requires indexed { length (S.items self.old.stack) ≤ greatest_index P.Inx.greatest }
+        requires shown { (s : ArenaState T) × (len : ℕ)
             × Shows P.Gen.number (S.items self.old.stack)
             (option_map non_zero_usize_get self.old.root) len s }
         ensures shows { (s : ArenaState T) (len : ℕ)
@@ -183,6 +187,7 @@ impl<P: Ptr, T, S: NonZeroInxGenericStack<ArenaSlot<P, T>>> Slots<P, T, S> {
     where
         T: Drop,
         requires callable { M.IsAlwaysCallable f }
+        requires indexed { last_index (A.slots source.now) ≤ greatest_index P.Inx.greatest }
         requires fits { last_index (A.slots source.now)
             ≤ capacity_of (S.room self.old.stack) (S.limit self.old.stack) }
         ensures copied { Copies P.numbers M.step f (entries (A.slots source.now)) result.1
@@ -204,6 +209,7 @@ impl<P: Ptr, T, S: NonZeroInxGenericStack<ArenaSlot<P, T>>> Slots<P, T, S> {
 
     // Links the free slots in rising order.
     fn relink(&mut self)
+        requires { length (S.items self.old.stack) ≤ greatest_index P.Inx.greatest }
         ensures slots { map (entry_of P.Gen.number) (S.items self.new.stack)
             ≡ map (entry_of P.Gen.number) (S.items self.old.stack) }
         ensures linked { IsLinked (S.items self.new.stack)
@@ -226,6 +232,7 @@ impl<P: Ptr, T, S: NonZeroInxGenericStack<ArenaSlot<P, T>>> Slots<P, T, S> {
     // Puts a free slot at an index, as the first of the free list, and gives the slot that it
     // replaces.
     fn free(&mut self, inx: NonZeroUsize) -> ArenaSlot<P, T>
+        requires indexed { length (S.items self.old.stack) ≤ greatest_index P.Inx.greatest }
         requires there { IsSome (item (S.items self.old.stack) (non_zero_usize_get inx)) }
         requires other { option_map non_zero_usize_get self.old.root
             ≢ Some (non_zero_usize_get inx) }
@@ -249,6 +256,7 @@ impl<P: Ptr, T, S: NonZeroInxGenericStack<ArenaSlot<P, T>>> Slots<P, T, S> {
 
     // Pops the last slot, which is free, and takes it out of the free list where it stands.
     fn pop_free(&mut self)
+        requires indexed { length (S.items self.old.stack) ≤ greatest_index P.Inx.greatest }
         requires free { item (map (entry_of P.Gen.number) (S.items self.old.stack))
             (length (S.items self.old.stack)) ≡ Some None }
         requires shown { (s : ArenaState T) × (len : ℕ)
@@ -272,8 +280,9 @@ impl<P: Ptr, T, S: NonZeroInxGenericStack<ArenaSlot<P, T>>> Slots<P, T, S> {
 
     // Takes the free slot that had this link at this index out of the free list: the one before it
     // and the one after lead to each other.
-    fn unlink(&mut self, link: FreeLink, inx: NonZeroUsize)
-        requires { CanLeave P.Gen.number (S.items self.old.stack)
+    fn unlink(&mut self, link: FreeLink<P::Inx>, inx: NonZeroUsize)
+        requires indexed { length (S.items self.old.stack) ≤ greatest_index P.Inx.greatest }
+        requires can_leave { CanLeave P.Gen.number (S.items self.old.stack)
             (next_free link (non_zero_usize_get inx)) (previous_free link (non_zero_usize_get inx)) }
         ensures leaves { Leaves P.Gen.number (S.items self.old.stack) (S.items self.new.stack)
             (option_map non_zero_usize_get self.old.root)

@@ -1,96 +1,122 @@
 //! A slot of an arena.
 
-ghost use Rattle.std.specs.Prelude.{◌≡◌, ◌≢◌, ◌==◌, cond, None, Some, IsSome, IsNone};
+ghost use Rattle.std.specs.Prelude.{◌≡◌, ◌≢◌, ◌≤◌, ℕ, None, Some, IsSome, IsNone};
+ghost use Rattle.triple_arena_ptr.specs.Numbers.{greatest_index};
 ghost use Rattle.std.specs.Int.NonZero.{non_zero_usize_get};
 ghost use Rattle.std.specs.Option.{option_map};
 ghost use Rattle.triple_arena_slots.specs.Slot.{entry_of, next_free, previous_free, LinksOn, LinksBack, with_slot_value, with_slot_generation};
 
+use std::marker::Model;
 use std::num::NonZeroUsize;
-use triple_arena_ptr::{Ptr, PtrGen};
+use triple_arena_ptr::{Ptr, PtrGen, PtrInx};
 use triple_arena_traits::EntrySlot;
 
 /// Names the free slots before and after a free one in the free list, or its own where there is
 /// none on that side.
-#[derive(Clone, Copy)]
-pub struct FreeLink {
-    pub(crate) previous: NonZeroUsize,
-    pub(crate) next: NonZeroUsize,
+#[derive(Drop)]
+pub struct FreeLink<I: PtrInx> {
+    previous: I,
+    next: I,
 }
 
-impl FreeLink {
+impl<I: PtrInx> Model for FreeLink<I> {
+    ghost use Rattle.std.specs.Prelude.{◌≤◌};
+    ghost use Rattle.triple_arena_ptr.specs.Numbers.{greatest_index};
+    ghost use Rattle.triple_arena_slots.specs.Link.{Link};
+
+    ghost Value = { Link };
+
+    ghost view = { λ link. record {
+      previous = I.number link.previous;
+      next = I.number link.next;
+    } };
+
+    ghost invariant = { λ link. (I.number link.previous ≤ greatest_index I.greatest)
+        × (I.number link.next ≤ greatest_index I.greatest) };
+}
+
+impl<I: PtrInx> FreeLink<I> {
     // The link at `inx` of the first free slot, before the one that was first, if there was one.
     pub(crate) fn first(next: Option<NonZeroUsize>, inx: NonZeroUsize) -> Self
-        requires { option_map non_zero_usize_get next ≢ Some (non_zero_usize_get inx) }
+        requires other { option_map non_zero_usize_get next ≢ Some (non_zero_usize_get inx) }
+        requires indexed { non_zero_usize_get inx ≤ greatest_index I.greatest }
+        requires next_indexed { (j : ℕ) → option_map non_zero_usize_get next ≡ Some j
+            → j ≤ greatest_index I.greatest }
         ensures next { next_free result (non_zero_usize_get inx)
             ≡ option_map non_zero_usize_get next }
         ensures previous { previous_free result (non_zero_usize_get inx) ≡ None }
     {
         FreeLink {
-            previous: inx,
-            next: next.unwrap_or(inx),
+            previous: index_of(inx),
+            next: index_of(next.unwrap_or(inx)),
         }
     }
 
     /// The free index that comes after `inx` in the free list, where this is the link of the free
     /// slot at `inx`; none where `inx` comes last. From `freelist_root` on, the links of `backing`
     /// go through all free indexes in the order in which insertion takes them.
-    pub fn after(self, inx: NonZeroUsize) -> Option<NonZeroUsize>
+    pub fn after(&self, inx: NonZeroUsize) -> Option<NonZeroUsize>
         ensures { option_map non_zero_usize_get result
-            ≡ next_free self (non_zero_usize_get inx) }
+            ≡ next_free self.now (non_zero_usize_get inx) }
     {
-        if self.next == inx {
+        let next = I::try_into_usize(self.next).unwrap();
+        if next == inx { None } else { Some(next) }
+    }
+
+    /// The free index that comes before `inx` in the free list, where this is the link of the free
+    /// slot at `inx`; none where `inx` comes first.
+    pub fn before(&self, inx: NonZeroUsize) -> Option<NonZeroUsize>
+        ensures { option_map non_zero_usize_get result
+            ≡ previous_free self.now (non_zero_usize_get inx) }
+    {
+        let previous = I::try_into_usize(self.previous).unwrap();
+        if previous == inx {
             None
         } else {
-            Some(self.next)
+            Some(previous)
         }
     }
 
-    // The link of the free slot at `inx`, on to another.
-    pub(crate) fn with_next(self, next: Option<NonZeroUsize>, inx: NonZeroUsize) -> Self
-        requires { option_map non_zero_usize_get next ≢ Some (non_zero_usize_get inx) }
-        ensures next { next_free result (non_zero_usize_get inx)
+    // Leads the link of the free slot at `inx` on to another.
+    pub(crate) fn set_next(&mut self, next: Option<NonZeroUsize>, inx: NonZeroUsize)
+        requires other { option_map non_zero_usize_get next ≢ Some (non_zero_usize_get inx) }
+        requires indexed { non_zero_usize_get inx ≤ greatest_index I.greatest }
+        requires next_indexed { (j : ℕ) → option_map non_zero_usize_get next ≡ Some j
+            → j ≤ greatest_index I.greatest }
+        ensures next { next_free self.new (non_zero_usize_get inx)
             ≡ option_map non_zero_usize_get next }
-        ensures previous { previous_free result (non_zero_usize_get inx)
-            ≡ previous_free self (non_zero_usize_get inx) }
+        ensures previous { self.new.previous ≡ self.old.previous }
     {
-        FreeLink {
-            previous: self.previous,
-            next: next.unwrap_or(inx),
-        }
+        self.next = index_of(next.unwrap_or(inx));
     }
 
-    // The link of the free slot at `inx`, back to another.
-    pub(crate) fn with_previous(self, previous: Option<NonZeroUsize>, inx: NonZeroUsize) -> Self
-        requires { option_map non_zero_usize_get previous ≢ Some (non_zero_usize_get inx) }
-        ensures next { next_free result (non_zero_usize_get inx)
-            ≡ next_free self (non_zero_usize_get inx) }
-        ensures previous { previous_free result (non_zero_usize_get inx)
+    // Leads the link of the free slot at `inx` back to another.
+    pub(crate) fn set_previous(&mut self, previous: Option<NonZeroUsize>, inx: NonZeroUsize)
+        requires other { option_map non_zero_usize_get previous ≢ Some (non_zero_usize_get inx) }
+        requires indexed { non_zero_usize_get inx ≤ greatest_index I.greatest }
+        requires previous_indexed { (j : ℕ) → option_map non_zero_usize_get previous ≡ Some j
+            → j ≤ greatest_index I.greatest }
+        ensures next { self.new.next ≡ self.old.next }
+        ensures previous { previous_free self.new (non_zero_usize_get inx)
             ≡ option_map non_zero_usize_get previous }
     {
-        FreeLink {
-            previous: previous.unwrap_or(inx),
-            next: self.next,
-        }
+        self.previous = index_of(previous.unwrap_or(inx));
     }
+}
 
-    // The free index that comes before `inx`; none where `inx` comes first.
-    pub(crate) fn before(self, inx: NonZeroUsize) -> Option<NonZeroUsize>
-        ensures { option_map non_zero_usize_get result
-            ≡ previous_free self (non_zero_usize_get inx) }
-    {
-        if self.previous == inx {
-            None
-        } else {
-            Some(self.previous)
-        }
-    }
+// The index of that number.
+fn index_of<I: PtrInx>(inx: NonZeroUsize) -> I
+    requires { non_zero_usize_get inx ≤ greatest_index I.greatest }
+    ensures { I.number result ≡ non_zero_usize_get inx }
+{
+    I::try_from_usize(inx).unwrap()
 }
 
 /// A slot of an arena: free, or with an entry, which has a generation and a value.
 #[derive(Drop)]
 pub enum ArenaSlot<P: Ptr, T> {
     /// A slot without an entry.
-    Free(FreeLink),
+    Free(FreeLink<P::Inx>),
     /// The generation and the value of an entry.
     Allocated(P::Gen, T),
 }
@@ -100,16 +126,13 @@ impl<P: Ptr, T> Default for ArenaSlot<P, T> {
 
     /// A free slot.
     fn default() -> Self {
-        ArenaSlot::Free(FreeLink {
-            previous: NonZeroUsize::MIN,
-            next: NonZeroUsize::MIN,
-        })
+        ArenaSlot::Free(FreeLink::first(None, NonZeroUsize::MIN))
     }
 }
 
 impl<P: Ptr, T> ArenaSlot<P, T> {
     // Takes the link out of a free slot.
-    pub(crate) fn into_link(self) -> FreeLink
+    pub(crate) fn into_link(self) -> FreeLink<P::Inx>
         requires { IsNone (entry_of P.Gen.number self) }
         ensures { self ≡ ArenaSlot.Free result }
     {
@@ -123,11 +146,14 @@ impl<P: Ptr, T> ArenaSlot<P, T> {
     pub(crate) fn link_on(&mut self, next: Option<NonZeroUsize>, inx: NonZeroUsize)
         requires free { IsNone (entry_of P.Gen.number self.old) }
         requires other { option_map non_zero_usize_get next ≢ Some (non_zero_usize_get inx) }
+        requires indexed { non_zero_usize_get inx ≤ greatest_index P.Inx.greatest }
+        requires next_indexed { (j : ℕ) → option_map non_zero_usize_get next ≡ Some j
+            → j ≤ greatest_index P.Inx.greatest }
         ensures { LinksOn self.old self.new (non_zero_usize_get inx)
             (option_map non_zero_usize_get next) }
     {
         match self {
-            ArenaSlot::Free(link) => *link = link.with_next(next, inx),
+            ArenaSlot::Free(link) => link.set_next(next, inx),
             ArenaSlot::Allocated(_, _) => unreachable!(),
         }
     }
@@ -136,11 +162,14 @@ impl<P: Ptr, T> ArenaSlot<P, T> {
     pub(crate) fn link_back(&mut self, previous: Option<NonZeroUsize>, inx: NonZeroUsize)
         requires free { IsNone (entry_of P.Gen.number self.old) }
         requires other { option_map non_zero_usize_get previous ≢ Some (non_zero_usize_get inx) }
+        requires indexed { non_zero_usize_get inx ≤ greatest_index P.Inx.greatest }
+        requires previous_indexed { (j : ℕ) → option_map non_zero_usize_get previous ≡ Some j
+            → j ≤ greatest_index P.Inx.greatest }
         ensures { LinksBack self.old self.new (non_zero_usize_get inx)
             (option_map non_zero_usize_get previous) }
     {
         match self {
-            ArenaSlot::Free(link) => *link = link.with_previous(previous, inx),
+            ArenaSlot::Free(link) => link.set_previous(previous, inx),
             ArenaSlot::Allocated(_, _) => unreachable!(),
         }
     }

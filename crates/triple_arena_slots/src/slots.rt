@@ -93,7 +93,8 @@ impl<P: Ptr, T, S: NonZeroInxGenericStack<ArenaSlot<P, T>>> Slots<P, T, S> {
         requires { IsSome (entry_at P.Gen.number (S.items self.old.stack)
             (non_zero_usize_get inx)) }
         ensures* writes_back { sem 𝓛 (lends_slot_value P.row T.row S.row P.Inx.row P.Gen.row
-            S.items S.with_items self.entry (non_zero_usize_get inx) result) }
+            P.Inx.PtrInx.own P.Inx.Debug P.Inx.Hash.own P.Inx.PartialEq P.Inx.PartialOrd.own
+            P.Inx.Ord.own S.items S.with_items self.entry (non_zero_usize_get inx) result) }
         ensures value { option_map (λ e. e.1)
             (entry_at P.Gen.number (S.items self.old.stack) (non_zero_usize_get inx))
             ≡ Some result.now }
@@ -135,7 +136,8 @@ impl<P: Ptr, T, S: NonZeroInxGenericStack<ArenaSlot<P, T>>> Slots<P, T, S> {
     /// The slots, for writing.
     pub fn as_mut_slice(&mut self) -> &mut [ArenaSlot<P, T>]
         ensures* writes_back { sem 𝓛 (lends_slots P.row T.row S.row P.Inx.row P.Gen.row
-            S.items S.with_items self.entry result) }
+            P.Inx.PtrInx.own P.Inx.Debug P.Inx.Hash.own P.Inx.PartialEq P.Inx.PartialOrd.own
+            P.Inx.Ord.own S.items S.with_items self.entry result) }
         ensures value { result.now ≡ S.items self.old.stack }
     {
         self.stack.as_mut_slice()
@@ -388,6 +390,9 @@ impl<P: Ptr, T, S: NonZeroInxGenericStack<ArenaSlot<P, T>>> Slots<P, T, S> {
             → item (map (entry_of P.Gen.number) (S.items self.old.stack)) j ≡ Some None }
         requires other { (j : ℕ) → option_map non_zero_usize_get from ≡ Some j
             → option_map non_zero_usize_get next ≢ Some j }
+        requires indexed { length (S.items self.old.stack) ≤ greatest_index P.Inx.greatest }
+        requires next_indexed { (j : ℕ) → option_map non_zero_usize_get next ≡ Some j
+            → j ≤ greatest_index P.Inx.greatest }
         ensures links { LeadsOn P.Gen.number (S.items self.old.stack) (S.items self.new.stack)
             (option_map non_zero_usize_get from) (option_map non_zero_usize_get next) }
         ensures root { self.new.root ≡ self.old.root }
@@ -409,6 +414,9 @@ impl<P: Ptr, T, S: NonZeroInxGenericStack<ArenaSlot<P, T>>> Slots<P, T, S> {
             → item (map (entry_of P.Gen.number) (S.items self.old.stack)) j ≡ Some None }
         requires other { (j : ℕ) → option_map non_zero_usize_get to ≡ Some j
             → option_map non_zero_usize_get previous ≢ Some j }
+        requires indexed { length (S.items self.old.stack) ≤ greatest_index P.Inx.greatest }
+        requires previous_indexed { (j : ℕ) → option_map non_zero_usize_get previous ≡ Some j
+            → j ≤ greatest_index P.Inx.greatest }
         ensures links { LeadsBack P.Gen.number (S.items self.old.stack) (S.items self.new.stack)
             (option_map non_zero_usize_get to) (option_map non_zero_usize_get previous) }
         ensures root { self.new.root ≡ self.old.root }

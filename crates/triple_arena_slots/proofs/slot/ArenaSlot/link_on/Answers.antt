@@ -1,4 +1,4 @@
-use Rattle.std.proofs.Common.{refl, ◌∙◌, sym, ap}
+use Rattle.std.proofs.Common.{ℕ, Some, None, cond, ◌==◌, refl, ◌∙◌, sym, ap}
 use Rattle.std.specs.Int.NonZero.{non_zero_usize_get}
 use Rattle.triple_arena_slots.specs.Slot.{previous_in}
 use Rattle.triple_arena_slots.proofs.slot.ArenaSlot.link_on.Goals as goal
@@ -7,6 +7,6 @@ pub returns : goal.returns
 returns g c =
     record {
       free = (_, refl);
-      next = c.with_next.ensures.next;
-      previous = c.with_next.ensures.previous ∙ sym (ap (λ slot. previous_in slot (non_zero_usize_get c.args.inx)) c.in-Free.is);
+      next = c.set_next.ensures.next;
+      previous = ap (λ (i : ℕ). cond (i == non_zero_usize_get c.args.inx) None (Some i)) c.set_next.ensures.previous ∙ sym (ap (λ slot. previous_in slot (non_zero_usize_get c.args.inx)) c.in-Free.is);
     }

@@ -9,6 +9,9 @@ use Rattle.triple_arena_slots.specs.Layout.{IsLinked}
 use Rattle.triple_arena_slots.proofs.Refused.{copies_seen}
 use Rattle.triple_arena_slots.proofs.slots.Slots.copy.Goals as goal
 
+pub relink-requires-after_bounds : goal.relink-requires-after_bounds
+relink-requires-after_bounds g c κs within = omega (arith, c.hold_copies-answer.ensures.ends, c.requires.indexed)
+
 pub returns-clause-ends : goal.returns-clause-ends
 returns-clause-ends g c =
     let f = entry_of g.P.Gen.PtrGen.number in

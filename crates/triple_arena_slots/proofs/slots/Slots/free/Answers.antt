@@ -1,9 +1,11 @@
-use Rattle.std.proofs.Common.{◌∙◌, ◌≢◌, Some, ap}
+use Rattle.std.proofs.Common.{◌∙◌, ◌≢◌, ◌≤◌, Some, length, ap, subst, arith}
+use Rattle.std.proofs.lemmas.Option.{same_Some}
 use Rattle.std.specs.Int.NonZero.{non_zero_usize_get}
-use Rattle.triple_arena_traits.specs.ItemLaws.{map-with_item, item-with_other}
+use Rattle.triple_arena_ptr.specs.Numbers.{greatest_index}
+use Rattle.triple_arena_traits.specs.ItemLaws.{map-with_item, item-with_other, length-with_item}
 use Rattle.triple_arena_slots.specs.Slot.{entry_of}
 use Rattle.triple_arena_slots.specs.declared.slot.ArenaSlot.TheVariants.{Free}
-use Rattle.triple_arena_slots.proofs.Unlinking.{Begins-put}
+use Rattle.triple_arena_slots.proofs.Unlinking.{Begins-put, there_indexed, free_indexed}
 use Rattle.triple_arena_slots.proofs.slots.Slots.free.Goals as goal
 
 pub link_back-requires-clause-free : goal.link_back-requires-clause-free
@@ -22,3 +24,21 @@ returns-clause-begins g c =
     let inx = non_zero_usize_get c.args.inx in
     let put = ap g.S.NonZeroInxGenericStack.items c.put-old.ensures.stack ∙ g.met.S.NonZeroInxGenericStack.items_with_items _ _ in
     Begins-put g.P.Gen.PtrGen.number items _ _ _ inx c.first.result c.put-old.result c.put-old.ensures.value c.first.ensures.next c.first.ensures.previous c.requires.other put c.link_back.ensures.links
+
+pub first-requires-clause-indexed : goal.first-requires-clause-indexed
+first-requires-clause-indexed g c κs within =
+    there_indexed (g.S.NonZeroInxGenericStack.items c.args.self.now.stack) (non_zero_usize_get c.args.inx) _ c.requires.indexed c.requires.there
+
+pub first-requires-clause-next_indexed : goal.first-requires-clause-next_indexed
+first-requires-clause-next_indexed g c κs within = λ j e.
+    free_indexed g.P.Gen.PtrGen.number (g.S.NonZeroInxGenericStack.items c.args.self.now.stack) j _ c.requires.indexed (c.requires.root_free j e)
+
+pub link_back-requires-clause-indexed : goal.link_back-requires-clause-indexed
+link_back-requires-clause-indexed g c κs within =
+    let items = g.S.NonZeroInxGenericStack.items c.args.self.now.stack in
+    let put = ap g.S.NonZeroInxGenericStack.items c.put-old.ensures.stack ∙ g.met.S.NonZeroInxGenericStack.items_with_items _ _ in
+    omega (arith, ap length put, length-with_item items (non_zero_usize_get c.args.inx) (Free c.first.result), c.requires.indexed)
+
+pub link_back-requires-clause-previous_indexed : goal.link_back-requires-clause-previous_indexed
+link_back-requires-clause-previous_indexed g c κs within = λ j e.
+    subst (λ i. i ≤ greatest_index g.P.Inx.PtrInx.greatest) (same_Some _ _ e) (there_indexed (g.S.NonZeroInxGenericStack.items c.args.self.now.stack) (non_zero_usize_get c.args.inx) _ c.requires.indexed c.requires.there)

@@ -3,7 +3,7 @@ use Rattle.std.specs.Int.NonZero.{non_zero_usize_get}
 use Rattle.std.specs.Option.{option_map}
 use Rattle.triple_arena_traits.specs.ItemLaws.{item_at, with_item_at}
 use Rattle.triple_arena_traits.proofs.Inserted.{some_lent}
-use Rattle.triple_arena_slots.proofs.Unlinking.{free_slot_at, no_entry_at, LeadsBack-some}
+use Rattle.triple_arena_slots.proofs.Unlinking.{free_slot_at, free_indexed, no_entry_at, LeadsBack-some}
 use Rattle.triple_arena_slots.proofs.slots.Slots.link_back.Goals as goal
 
 pub unwrap-slot-requires : goal.unwrap-slot-requires
@@ -25,3 +25,7 @@ returns-in-Some-clause-links g c =
     let found = item_at _ _ c.in-Some.inx.ok ∙ sym (rw c.unwrap-slot.ensures at c.get_mut.ensures.value) in
     let written = g.met.S.NonZeroInxGenericStack.items_with_items _ _ ∙ sym (with_item_at items inx _ c.in-Some.inx.ok) in
     rw c.in-Some.is (LeadsBack-some g.P.Gen.PtrGen.number items _ inx c.unwrap-slot.result.now c.link_back.new.self _ found (no_entry_at g.P.Gen.PtrGen.number items inx c.unwrap-slot.result.now vacant found) c.link_back.ensures written)
+
+pub link_back-requires-clause-indexed : goal.link_back-requires-clause-indexed
+link_back-requires-clause-indexed g c κs within =
+    free_indexed g.P.Gen.PtrGen.number (g.S.NonZeroInxGenericStack.items c.args.self.now.stack) (non_zero_usize_get c.in-Some.inx) _ c.requires.indexed (c.requires.free (non_zero_usize_get c.in-Some.inx) (ap (option_map non_zero_usize_get) c.in-Some.is))

@@ -1,4 +1,4 @@
-use Rattle.std.proofs.Common.{◌∙◌, Some, is_some, sym, ap, arith}
+use Rattle.std.proofs.Common.{◌∙◌, Some, is_some, length, sym, ap, arith}
 use Rattle.std.proofs.lemmas.Option.{same_Some}
 use Rattle.std.specs.Int.NonZero.{non_zero_usize_get}
 use Rattle.std.specs.Option.{option_map}
@@ -6,20 +6,20 @@ use Rattle.triple_arena_slots.specs.Slot.{entry_of}
 use Rattle.triple_arena_slots.specs.declared.slot.ArenaSlot.TheVariants.{Allocated}
 use Rattle.triple_arena_slots.proofs.Links.{root_free, full_at_none, can_leave, Shows-filled, Shows-pushed, steps-filled, steps-pushed}
 use Rattle.triple_arena_traits.specs.Items.{with_item}
-use Rattle.triple_arena_traits.specs.ItemLaws.{item-with_other}
+use Rattle.triple_arena_traits.specs.ItemLaws.{item-with_other, length-with_item}
 use Rattle.triple_arena_slots.proofs.slots.Slots.occupy.Goals as goal
 
 pub push-requires-after_bounds : goal.push-requires-after_bounds
 push-requires-after_bounds g c κs within =
-    omega (arith, full_at_none g.P.Gen.PtrGen.number _ _ _ c.requires.0 (ap (option_map non_zero_usize_get) c.in-None.is) c.requires.2, c.requires.3)
+    omega (arith, full_at_none g.P.Gen.PtrGen.number _ _ _ c.requires.shown.0 (ap (option_map non_zero_usize_get) c.in-None.is) c.requires.shown.2, c.requires.shown.3)
 
 pub put-requires-after_bounds : goal.put-requires-after_bounds
 put-requires-after_bounds g c κs within =
-    ap is_some (root_free g.P.Gen.PtrGen.number _ _ _ _ c.requires.0 (ap (option_map non_zero_usize_get) c.in-Some.is) c.requires.2).1
+    ap is_some (root_free g.P.Gen.PtrGen.number _ _ _ _ c.requires.shown.0 (ap (option_map non_zero_usize_get) c.in-Some.is) c.requires.shown.2).1
 
 pub into_link-link-requires-after_bounds : goal.into_link-link-requires-after_bounds
 into_link-link-requires-after_bounds g c κs within =
-    let free = root_free g.P.Gen.PtrGen.number _ _ _ _ c.requires.0 (ap (option_map non_zero_usize_get) c.in-Some.is) c.requires.2 in
+    let free = root_free g.P.Gen.PtrGen.number _ _ _ _ c.requires.shown.0 (ap (option_map non_zero_usize_get) c.in-Some.is) c.requires.shown.2 in
     ap (λ e. is_some (entry_of g.P.Gen.PtrGen.number e)) (same_Some _ _ (sym c.put.ensures.value ∙ free.1))
 
 pub returns-in-None-clause-shows : goal.returns-in-None-clause-shows
@@ -27,12 +27,18 @@ returns-in-None-clause-shows g c s len shows room stamped =
     rw (c.push.ensures.stack, g.met.S.NonZeroInxGenericStack.items_with_items, c.push.ensures.root, c.in-None.is)
     (Shows-pushed g.P.Gen.PtrGen.number _ len c.args.generation c.args.value s room stamped (rw c.in-None.is at shows)).1
 
-pub unlink-requires-after_bounds : goal.unlink-requires-after_bounds
-unlink-requires-after_bounds g c κs within =
+pub unlink-requires-clause-can_leave : goal.unlink-requires-clause-can_leave
+unlink-requires-clause-can_leave g c κs within =
     let items = g.S.NonZeroInxGenericStack.items c.args.self.now.stack in
     let inx = non_zero_usize_get c.in-Some.inx in
     rw (c.put.ensures.stack, g.met.S.NonZeroInxGenericStack.items_with_items)
-    (can_leave g.P.Gen.PtrGen.number items (with_item items inx (Allocated c.args.generation c.args.value)) _ inx c.requires.1 c.into_link-link.result c.requires.0 (λ j other. item-with_other items inx j _ other) (c.put.ensures.value ∙ ap Some c.into_link-link.ensures) c.requires.2)
+    (can_leave g.P.Gen.PtrGen.number items (with_item items inx (Allocated c.args.generation c.args.value)) _ inx c.requires.shown.1 c.into_link-link.result c.requires.shown.0 (λ j other. item-with_other items inx j _ other) (c.put.ensures.value ∙ ap Some c.into_link-link.ensures) c.requires.shown.2)
+
+pub unlink-requires-clause-indexed : goal.unlink-requires-clause-indexed
+unlink-requires-clause-indexed g c κs within =
+    let items = g.S.NonZeroInxGenericStack.items c.args.self.now.stack in
+    let put = ap g.S.NonZeroInxGenericStack.items c.put.ensures.stack ∙ g.met.S.NonZeroInxGenericStack.items_with_items _ _ in
+    omega (arith, ap length put, length-with_item items (non_zero_usize_get c.in-Some.inx) (Allocated c.args.generation c.args.value), c.requires.indexed)
 
 pub returns-in-Some-clause-shows : goal.returns-in-Some-clause-shows
 returns-in-Some-clause-shows g c s len shows room stamped =

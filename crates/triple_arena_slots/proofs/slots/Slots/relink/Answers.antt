@@ -1,4 +1,4 @@
-use Rattle.std.proofs.Common.{◌≡◌, ◌∙◌, ◌+◌, ◌-◌, Some, None, is_some, map, sym, ap, arith}
+use Rattle.std.proofs.Common.{◌≡◌, ◌∙◌, ◌+◌, ◌-◌, Some, None, is_some, length, map, sym, ap, arith}
 use Rattle.std.proofs.lemmas.List.{length-map}
 use Rattle.std.specs.Int.NonZero.{non_zero_usize_get}
 use Rattle.triple_arena_traits.specs.Items.{item}
@@ -8,6 +8,10 @@ use Rattle.triple_arena_slots.proofs.Tidying.{LinkedFrom-live, LinkedFrom-free, 
 use Rattle.triple_arena_slots.proofs.Unlinking.{free_slot_at}
 use Rattle.triple_arena_slots.proofs.slots.Slots.relink.Goals.{then-not-has_entry, else-not-has_entry}
 use Rattle.triple_arena_slots.proofs.slots.Slots.relink.Goals as goal
+
+pub free-requires-clause-indexed : goal.free-requires-clause-indexed
+free-requires-clause-indexed g c κs within =
+    omega (arith, c.links.invariant.2, c.requires, ap (λ stack. length (g.S.NonZeroInxGenericStack.items stack)) c.has_entry.ensures.stack)
 
 pub free-requires-clause-there : goal.free-requires-clause-there
 free-requires-clause-there g c κs within =

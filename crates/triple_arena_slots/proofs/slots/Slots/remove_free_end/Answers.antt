@@ -9,14 +9,18 @@ pub pops-smaller : goal.pops-smaller
 pops-smaller g c =
     omega (arith, c.pop_free.ensures.popped, ap (λ stack. length (g.S.NonZeroInxGenericStack.items stack)) c.ends_free.ensures.stack)
 
+pub pop_free-requires-clause-indexed : goal.pop_free-requires-clause-indexed
+pop_free-requires-clause-indexed g c κs within =
+    omega (arith, c.pops.invariant.4, c.requires.indexed, ap (λ stack. length (g.S.NonZeroInxGenericStack.items stack)) c.ends_free.ensures.stack)
+
 pub pop_free-requires-clause-free : goal.pop_free-requires-clause-free
 pop_free-requires-clause-free g c κs within =
     rw c.ends_free.ensures.stack (vacant_is _ (sym c.ends_free.ensures.value ∙ c.pops-test.true))
 
 pub pop_free-requires-clause-shown : goal.pop_free-requires-clause-shown
 pop_free-requires-clause-shown g c κs within =
-    let now = c.pops.invariant.5 c.requires.0 c.requires.1 c.requires.2 in
-    (now.0, c.requires.1, rw (c.ends_free.ensures.stack, c.ends_free.ensures.root) now.1)
+    let now = c.pops.invariant.5 c.requires.shown.0 c.requires.shown.1 c.requires.shown.2 in
+    (now.0, c.requires.shown.1, rw (c.ends_free.ensures.stack, c.ends_free.ensures.root) now.1)
 
 pub pops-preserved : goal.pops-preserved
 pops-preserved g c = (

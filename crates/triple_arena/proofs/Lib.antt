@@ -1,4 +1,4 @@
 pub mod Pairs
 pub mod Keeping
 pub mod Cloned
-mod Aside
+mod Touched

@@ -6,6 +6,7 @@ use Rattle.triple_arena_traits.specs.Moves.{Moves}
 use Rattle.triple_arena_slots.specs.Slot.{entry_of}
 use Rattle.triple_arena_traits.specs.Walks.{entries}
 use Rattle.triple_arena_slots.proofs.Links.{carried}
+use Rattle.triple_arena.proofs.Touched.{touched_same}
 use Rattle.triple_arena.proofs.base_arena.Arena.close_up.Goals as goal
 
 pub close_up-requires-clause-indexed : goal.close_up-requires-clause-indexed
@@ -35,8 +36,9 @@ returns g c =
     (c.close_up.ensures.room ∙ ap (λ s. s.room) c.self.view_is)
     (c.close_up.ensures.limit ∙ ap (λ s. s.limit) c.self.view_is)
     (ap (λ s. s.greatest) c.self.view_is) (c.close_up.ensures.steps ∙ ap (λ s. s.steps) c.self.view_is)).1 in
-    let same : n ≡ c.args.self.now.counter = ap (λ s. s.counter) c.self.view_is in (
+    let same : n ≡ c.args.self.now.counter = ap (λ s. s.counter) c.self.view_is in
+    let closed_up = is ∙ ap (λ k. compressed c.args.self.now k closed.0) same in (
       closed.0,
       subst (λ k. Moves g.P.Ptr.numbers (goal.F-step g) (rank c.args.self.now k) c.args.f (entries c.args.self.now.slots) closed.0) same closed.1,
-      is ∙ ap (λ k. compressed c.args.self.now k closed.0) same,
+      touched_same (compressed c.args.self.now c.args.self.now.counter closed.0) _ closed_up,
     )

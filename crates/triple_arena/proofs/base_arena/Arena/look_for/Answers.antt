@@ -1,15 +1,38 @@
-use Rattle.std.proofs.Common.{◌≡◌, ◌∙◌, ℕ, is_some, None, sym, ap, subst}
-use Rattle.std.specs.Option.{option_and_then}
-use Rattle.triple_arena_ptr.specs.Pointers.{Pointer}
-use Rattle.triple_arena_traits.specs.Entries.{value_under}
-use Rattle.triple_arena_traits.specs.ArenaState.{ArenaState, entry}
-use Rattle.triple_arena_traits.specs.WellFormedLaws.{entry_past}
+use Rattle.std.proofs.Common.{◌∙◌, is_some, refl, ap, arith}
+use Rattle.std.proofs.lemmas.List.{length-map}
+use Rattle.std.specs.Int.NonZero.{non_zero_usize_get}
+use Rattle.std.specs.Option.{option_map}
+use Rattle.triple_arena_traits.specs.ArenaState.{ArenaState, look_up}
+use Rattle.triple_arena_slots.specs.Slot.{entry_of}
+use Rattle.triple_arena_slots.proofs.Links.{carried, Shows-steps}
 use Rattle.triple_arena.proofs.base_arena.Arena.look_for.Goals as goal
 
-pub returns-in_err-inx-clause-live : goal.returns-in_err-inx-clause-live
-returns-in_err-inx-clause-live g c =
-    let at = ap g.P.Inx.PtrInx.number c.inx.ensures ∙ sym (ap (λ (q : Pointer). q.0) (g.met.P.Ptr.numbers_of c.args.p)) in
-    let n : ℕ = g.P.Inx.PtrInx.number c.inx.result in
-    let none : entry c.args.self.now n ≡ None = subst (λ (s : ArenaState g.row.T.Denot). entry s n ≡ None) c.self.view_is (entry_past _ _ c.self.invariant.well c.in_err-inx.ensures.number) in
-    let here : entry c.args.self.now (g.P.Ptr.numbers c.args.p).0 ≡ None = subst (λ k. entry c.args.self.now k ≡ None) at none in
-    ap is_some c.from_residual.ensures ∙ sym (ap (λ o. is_some (option_and_then (value_under (g.P.Ptr.numbers c.args.p).1) o)) here)
+pub find-requires-after_bounds : goal.find-requires-after_bounds
+find-requires-after_bounds g c κs within =
+    omega (arith, c.self.invariant.well.fits, length-map (g.S.NonZeroInxGenericStack.items c.self.inside.slots.stack) (entry_of g.P.Gen.PtrGen.number))
+
+pub invariant_of-self : goal.invariant_of-self
+invariant_of-self g c =
+    (carried g.P.Gen.PtrGen.number _ (g.S.NonZeroInxGenericStack.items c.find.new.self.stack) _ (option_map non_zero_usize_get c.find.new.self.root) c.self.inside.len c.self.inside.len _ _ _ _ _ _ _ _ _ c.args.self.now (record c.args.self.now { steps = c.find.new.self.steps.count }) c.self.invariant c.self.view_is
+    (λ shows. rw (c.find.ensures.stack, c.find.ensures.root) (Shows-steps g.P.Gen.PtrGen.number _ _ _ c.find.new.self.steps.count _ shows))
+    (ap (λ s. s.counter) c.self.view_is)
+    (ap g.S.NonZeroInxGenericStack.room c.find.ensures.stack ∙ ap (λ s. s.room) c.self.view_is)
+    (ap g.S.NonZeroInxGenericStack.limit c.find.ensures.stack ∙ ap (λ s. s.limit) c.self.view_is)
+    (ap (λ s. s.greatest) c.self.view_is) refl).0
+
+pub returns-clause-live : goal.returns-clause-live
+returns-clause-live g c = c.find.ensures.live ∙ ap (λ (s : ArenaState g.row.T.Denot). is_some (look_up s (g.P.Ptr.numbers c.args.p))) c.self.view_is
+
+pub returns-clause-unchanged : goal.returns-clause-unchanged
+returns-clause-unchanged g c = (
+  (carried g.P.Gen.PtrGen.number _ (g.S.NonZeroInxGenericStack.items c.find.new.self.stack) _ (option_map non_zero_usize_get c.find.new.self.root) c.self.inside.len c.self.inside.len _ _ _ _ _ _ _ _ _ c.args.self.now (record c.args.self.now { steps = c.find.new.self.steps.count }) c.self.invariant c.self.view_is
+      (λ shows. rw (c.find.ensures.stack, c.find.ensures.root) (Shows-steps g.P.Gen.PtrGen.number _ _ _ c.find.new.self.steps.count _ shows))
+      (ap (λ s. s.counter) c.self.view_is)
+      (ap g.S.NonZeroInxGenericStack.room c.find.ensures.stack ∙ ap (λ s. s.room) c.self.view_is)
+      (ap g.S.NonZeroInxGenericStack.limit c.find.ensures.stack ∙ ap (λ s. s.limit) c.self.view_is)
+      (ap (λ s. s.greatest) c.self.view_is) refl).1,
+  omega (arith, c.find.ensures.steps, ap (λ s. s.steps) c.self.view_is),
+)
+
+pub returns-clause-steps : goal.returns-clause-steps
+returns-clause-steps g c = omega (arith, c.find.ensures.steps, ap (λ s. s.steps) c.self.view_is)

@@ -11,7 +11,7 @@ use Rattle.triple_arena_slots.specs.Slot.{entry_of}
 use Rattle.std.proofs.lemmas.List.{length-map}
 use Rattle.triple_arena_traits.specs.FreeListLaws.{trimmed_last, trimmed_length}
 use Rattle.triple_arena_traits.specs.Histories.{resizing}
-use Rattle.triple_arena_traits.specs.HistoryLaws.{Continues-resized, Continues-aside}
+use Rattle.triple_arena_traits.specs.HistoryLaws.{Continues-resized, Continues-touched}
 use Rattle.triple_arena.proofs.base_arena.Arena.remove_free_end_slots.Goals as goal
 
 pub invariant_of-self : goal.invariant_of-self
@@ -24,13 +24,15 @@ invariant_of-self g c =
     (ap (λ s. s.greatest) c.self.view_is) refl).0
 
 pub returns-clause-state : goal.returns-clause-state
-returns-clause-state g c =
-    (carried g.P.Gen.PtrGen.number _ _ _ _ _ _ _ _ _ _ _ _ _ _ _ c.args.self.now (record (without_free_end c.args.self.now) { steps = c.remove_free_end.new.self.steps.count }) c.self.invariant c.self.view_is
-    (λ shows. Shows-steps g.P.Gen.PtrGen.number _ _ _ c.remove_free_end.new.self.steps.count _ (c.remove_free_end.ensures.shows c.args.self.now c.self.inside.len shows))
-    (ap (λ s. s.counter) c.self.view_is)
-    (c.remove_free_end.ensures.room ∙ ap (λ s. s.room) c.self.view_is)
-    (c.remove_free_end.ensures.limit ∙ ap (λ s. s.limit) c.self.view_is)
-    (ap (λ s. s.greatest) c.self.view_is) refl).1
+returns-clause-state g c = (
+  (carried g.P.Gen.PtrGen.number _ _ _ _ _ _ _ _ _ _ _ _ _ _ _ c.args.self.now (record (without_free_end c.args.self.now) { steps = c.remove_free_end.new.self.steps.count }) c.self.invariant c.self.view_is
+      (λ shows. Shows-steps g.P.Gen.PtrGen.number _ _ _ c.remove_free_end.new.self.steps.count _ (c.remove_free_end.ensures.shows c.args.self.now c.self.inside.len shows))
+      (ap (λ s. s.counter) c.self.view_is)
+      (c.remove_free_end.ensures.room ∙ ap (λ s. s.room) c.self.view_is)
+      (c.remove_free_end.ensures.limit ∙ ap (λ s. s.limit) c.self.view_is)
+      (ap (λ s. s.greatest) c.self.view_is) refl).1,
+  omega (arith, c.remove_free_end.ensures.steps, ap (λ s. s.steps) c.self.view_is),
+)
 
 pub returns-clause-bounded : goal.returns-clause-bounded
 returns-clause-bounded g c =
@@ -38,22 +40,26 @@ returns-clause-bounded g c =
     let old = g.S.NonZeroInxGenericStack.items c.self.inside.slots.stack in
     let new = g.S.NonZeroInxGenericStack.items c.remove_free_end.new.self.stack in
     let less : slot_count (without_free_end c.args.self.now) ≤ slot_count c.args.self.now = trimmed_length c.args.self.now.slots in
-    omega (arith, c.remove_free_end.ensures.steps, ap (λ s. s.steps) c.self.view_is, length-map old f, length-map new f, ap slot_count c.self.view_is, ap slot_count (returns-clause-state g c), less)
+    omega (arith, c.remove_free_end.ensures.steps, ap (λ s. s.steps) c.self.view_is, length-map old f, length-map new f, ap slot_count c.self.view_is, c.remove_free_end.ensures.fewer, ap slot_count (returns-clause-state g c).0, less)
 
 pub returns-clause-kept : goal.returns-clause-kept
 returns-clause-kept g c q =
     let same = slots-without_free_end c.args.self.now (without_free_end c.args.self.now) refl q.0 in
-    ap (option_and_then (value_under q.1)) (ap (λ (t : ArenaState g.row.T.Denot). entry t q.0) (returns-clause-state g c) ∙ same)
+    ap (option_and_then (value_under q.1)) (ap (λ (t : ArenaState g.row.T.Denot). entry t q.0) (returns-clause-state g c).0 ∙ same)
 
 pub returns-clause-same_len : goal.returns-clause-same_len
 returns-clause-same_len g c =
-    ap arena_len (returns-clause-state g c) ∙ len-without_free_end c.args.self.now (without_free_end c.args.self.now) refl
+    ap arena_len (returns-clause-state g c).0 ∙ len-without_free_end c.args.self.now (without_free_end c.args.self.now) refl
 
 pub returns-clause-ends_live : goal.returns-clause-ends_live
 returns-clause-ends_live g c =
-    ap (λ s. is_free (item s.slots (slot_count s))) (returns-clause-state g c) ∙ trimmed_last c.args.self.now.slots
+    ap (λ s. is_free (item s.slots (slot_count s))) (returns-clause-state g c).0 ∙ trimmed_last c.args.self.now.slots
 
 pub returns-clause-fresh : goal.returns-clause-fresh
 returns-clause-fresh g c =
-    Continues-aside c.args.self.now (without_free_end c.args.self.now) _ (resizing ∷ []) (returns-clause-state g c)
+    Continues-touched c.args.self.now (without_free_end c.args.self.now) _ (resizing ∷ []) (returns-clause-state g c)
     (Continues-resized c.args.self.now (without_free_end c.args.self.now) (slots-without_free_end c.args.self.now (without_free_end c.args.self.now) refl) refl)
+
+pub remove_free_end-requires-clause-indexed : goal.remove_free_end-requires-clause-indexed
+remove_free_end-requires-clause-indexed g c κs within =
+    omega (arith, c.self.invariant.well.fits, length-map (g.S.NonZeroInxGenericStack.items c.self.inside.slots.stack) (entry_of g.P.Gen.PtrGen.number))

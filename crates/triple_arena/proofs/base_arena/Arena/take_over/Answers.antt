@@ -4,6 +4,7 @@ use Rattle.triple_arena_traits.specs.ArenaState.{capacity, arena_len}
 use Rattle.triple_arena_traits.specs.FreeList.{laid_out}
 use Rattle.triple_arena_slots.specs.Slot.{entry_of}
 use Rattle.triple_arena_slots.proofs.Links.{carried}
+use Rattle.triple_arena.proofs.Touched.{touched_same}
 use Rattle.triple_arena_slots.proofs.Tidying.{Shows-laid_out}
 use Rattle.triple_arena_traits.proofs.TransferLemmas.{closed_up_slots}
 use Rattle.triple_arena.proofs.base_arena.Arena.take_over.Goals as goal
@@ -39,7 +40,7 @@ returns g c =
     (taken.ensures.limit ∙ ap (λ s. s.limit) c.self.view_is)
     (ap (λ s. s.greatest) c.self.view_is) (taken.ensures.steps ∙ ap (λ s. s.steps) c.self.view_is) in
     record {
-      transferred = (xs, taken.ensures.transferred, both.1, size);
+      transferred = (xs, taken.ensures.transferred, touched_same (laid_out c.args.self.now xs n) _ both.1, size);
       emptied = taken.ensures.emptied;
       counted = ap arena_len both.1 ∙ full.1 ∙ size;
     }

@@ -5,8 +5,8 @@ use Rattle.std.proofs.lemmas.Bool.{false≢true}
 use Rattle.std.proofs.Common.{◌∙◌, ◌<◌, refl, ap, subst}
 use Rattle.triple_arena_traits.specs.ArenaState.{arena_len, capacity, entry}
 use Rattle.triple_arena_traits.specs.EntryLaws.{same-grown, next-grown}
-use Rattle.triple_arena_traits.specs.ArenaState.{touched}
-use Rattle.triple_arena_traits.specs.Insertion.{inserted, insertion_steps, next_pointer}
+use Rattle.triple_arena_traits.specs.Insertion.{inserted, next_pointer}
+use Rattle.triple_arena_traits.specs.SlotSteps.{touched, insertion_steps}
 use Rattle.triple_arena_traits.specs.HistoryLaws.{Continues-grown}
 use Rattle.triple_arena.proofs.base_arena.ArenaArenaInsertTrait.insert_reallocating.Goals as goal
 

@@ -1,13 +1,16 @@
 use Rattle.triple_arena_stack.specs.Capacity.{capacity_of}
 use Rattle.triple_arena_slots.specs.Layout.{Shows}
 use Rattle.triple_arena_slots.proofs.Resizing.{below_room}
-use Rattle.triple_arena_traits.specs.ArenaState.{ArenaState, touched, arena_len, IsWellFormed}
+use Rattle.triple_arena_traits.specs.ArenaState.{ArenaState, arena_len, IsWellFormed}
 use Rattle.std.proofs.Common.{◌∙◌, ◌+◌, ◌∷◌, [], sym, ap, subst, refl, ◌<◌, arith}
-use Rattle.triple_arena_traits.specs.Insertion.{inserted, insertion_steps}
+use Rattle.triple_arena_traits.specs.Insertion.{inserted}
+use Rattle.triple_arena_traits.specs.SlotSteps.{touched, insertion_steps}
 use Rattle.triple_arena_traits.specs.WellFormedLaws.{kept-inserted, few_steps}
 use Rattle.triple_arena_slots.proofs.Links.{carried, Shows-steps}
 use Rattle.triple_arena_traits.specs.Histories.{insertion}
-use Rattle.triple_arena_traits.specs.HistoryLaws.{Continues-inserted, Continues-aside}
+use Rattle.triple_arena_traits.specs.HistoryLaws.{Continues-inserted, Continues-touched}
+use Rattle.std.proofs.lemmas.List.{length-map}
+use Rattle.triple_arena_slots.specs.Slot.{entry_of}
 use Rattle.triple_arena.proofs.base_arena.ArenaArenaInsertTrait.insert_reserved.Goals as goal
 
 pub invariant_of-self : goal.invariant_of-self
@@ -47,14 +50,15 @@ returns-clause-pointer g c = c.next_ptr-p.ensures.pointer
 pub returns-clause-fresh : goal.returns-clause-fresh
 returns-clause-fresh g c =
     let is = returns-clause-inserted g c in
-    let aside = is ∙ ap (λ k. record (inserted c.args.self.now c.args.t) { steps = k }) (sym (ap (λ (s : ArenaState g.row.T.Denot). s.steps) is)) in
-    Continues-aside c.args.self.now (inserted c.args.self.now c.args.t) _ (insertion (g.P.Ptr.numbers c.next_ptr-p.result) ∷ []) aside (Continues-inserted c.args.self.now (inserted c.args.self.now c.args.t) _ c.args.t (returns-clause-valid g c) (returns-clause-pointer g c) refl)
+    let counted = ap (λ (s : ArenaState g.row.T.Denot). s.steps) is in
+    Continues-touched c.args.self.now (inserted c.args.self.now c.args.t) _ (insertion (g.P.Ptr.numbers c.next_ptr-p.result) ∷ []) (is ∙ ap (λ k. record (inserted c.args.self.now c.args.t) { steps = k }) (sym counted), omega (arith, counted))
+    (Continues-inserted c.args.self.now (inserted c.args.self.now c.args.t) _ c.args.t (returns-clause-valid g c) (returns-clause-pointer g c) refl)
 
 pub next_ptr-p-requires-after_bounds : goal.next_ptr-p-requires-after_bounds
 next_ptr-p-requires-after_bounds g c κs within = c.requires
 
-pub occupy-requires-after_bounds : goal.occupy-requires-after_bounds
-occupy-requires-after_bounds g c κs within = (
+pub occupy-requires-clause-shown : goal.occupy-requires-clause-shown
+occupy-requires-clause-shown g c κs within = (
   c.args.self.now,
   c.self.inside.len,
   subst (Shows g.P.Gen.PtrGen.number _ _ _) c.self.view_is c.self.invariant,
@@ -63,3 +67,7 @@ occupy-requires-after_bounds g c κs within = (
 
 pub returns-clause-free : goal.returns-clause-free
 returns-clause-free g c = c.next_ptr-p.ensures.free
+
+pub occupy-requires-clause-indexed : goal.occupy-requires-clause-indexed
+occupy-requires-clause-indexed g c κs within =
+    omega (arith, c.self.invariant.well.fits, length-map (g.S.NonZeroInxGenericStack.items c.self.inside.slots.stack) (entry_of g.P.Gen.PtrGen.number))

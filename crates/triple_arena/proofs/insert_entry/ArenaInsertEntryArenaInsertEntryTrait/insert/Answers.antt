@@ -1,10 +1,11 @@
-use Rattle.std.proofs.Common.{◌≡◌, ◌∙◌, ◌∷◌, [], None, ap, refl, subst}
+use Rattle.std.proofs.Common.{◌≡◌, ◌∙◌, ◌∷◌, [], None, ap, refl, subst, arith}
 use Rattle.std.proofs.lemmas.Option.{same_Some}
 use Rattle.triple_arena_traits.proofs.Inserted.{found_inserted, rewritten, some_lent}
 use Rattle.triple_arena_ptr.specs.Pointers.{Pointer}
-use Rattle.triple_arena_traits.specs.ArenaState.{ArenaState, entry, look_up, with_value, touched}
-use Rattle.triple_arena_traits.specs.Insertion.{inserted, insertion_steps, next_pointer}
-use Rattle.triple_arena_traits.specs.HistoryLaws.{Continues-inserted, Continues-aside}
+use Rattle.triple_arena_traits.specs.ArenaState.{ArenaState, entry, look_up, with_value}
+use Rattle.triple_arena_traits.specs.Insertion.{inserted, next_pointer}
+use Rattle.triple_arena_traits.specs.SlotSteps.{touched, insertion_steps}
+use Rattle.triple_arena_traits.specs.HistoryLaws.{Continues-inserted, Continues-touched}
 use Rattle.triple_arena_traits.specs.Histories.{insertion}
 use Rattle.triple_arena.proofs.insert_entry.ArenaInsertEntryArenaInsertEntryTrait.insert.Goals as goal
 
@@ -24,6 +25,6 @@ returns g c =
         value = same_Some _ _ ((rw c.unwrap.ensures at c.get_mut.ensures.value) ∙ found);
         free = subst (λ (q : Pointer). entry c.args.self.arena.now q.0 ≡ None) c.insert_reserved-p.ensures.pointer c.insert_reserved-p.ensures.free;
         writes_back = tt;
-        fresh = λ v. Continues-aside c.args.self.arena.now (inserted c.args.self.arena.now v) _ (insertion (next_pointer c.args.self.arena.now) ∷ []) refl (Continues-inserted c.args.self.arena.now (inserted c.args.self.arena.now v) _ v c.insert_reserved-p.ensures.valid refl refl);
+        fresh = λ v. Continues-touched c.args.self.arena.now (inserted c.args.self.arena.now v) _ (insertion (next_pointer c.args.self.arena.now) ∷ []) (refl, omega arith) (Continues-inserted c.args.self.arena.now (inserted c.args.self.arena.now v) _ v c.insert_reserved-p.ensures.valid refl refl);
       },
     )

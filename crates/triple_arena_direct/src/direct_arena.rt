@@ -79,7 +79,7 @@ impl<P: Ptr, T, S: NonZeroInxGenericStack<DirectSlot<P, T>>> Model for DirectAre
 impl<P: Ptr, T, S: NonZeroInxGenericStack<DirectSlot<P, T>>> ArenaTrait<P, T>
     for DirectArena<P, T, S> {
     ghost use Rattle.std.specs.Prelude.{refl};
-    ghost use Rattle.std.proofs.Common.{ap};
+    ghost use Rattle.std.proofs.Common.{ap, subst, sym};
     ghost use Rattle.triple_arena_direct.specs.StepLaws.{len-with_value, slots-removed, len-removed, slots-kept, slots-cleared, slots-settled, len-settled, slots-reallocated, len-reallocated};
 
     type PtrAdvancer = PtrAdvancer<P>;
@@ -294,9 +294,15 @@ impl<P: Ptr, T, S: NonZeroInxGenericStack<DirectSlot<P, T>>> ArenaTrait<P, T>
 
     ghost slots_unchanged = { λ _ _. ap (λ s. s.slots) };
 
+    ghost valid_unchanged = { λ _ _ same. subst SlotsFit (sym same) };
+
     ghost limit_unchanged = { λ _ _. ap (λ s. s.limit) };
 
     ghost fitting_unchanged = { λ _ _. ap direct_capacity };
+
+    ghost generation_unchanged = { λ _ _ _. refl };
+
+    ghost fits_unchanged = { λ _ _ _ _ none. none };
 
     ghost slots_invalidated = { slots-kept };
 

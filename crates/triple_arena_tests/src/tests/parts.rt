@@ -2,6 +2,7 @@
 
 use super::calls_of_the_traits::each_call;
 use super::end_slots::ends_at_four;
+use super::links::keeps_links;
 use super::many_entries::thousands;
 use super::order_of_refusals::refuses_reallocations;
 use super::pairs::leaves;
@@ -49,6 +50,8 @@ pub enum Part {
     UpTo255,
     /// Insertions by thousands: `thousands`.
     Thousands,
+    /// Many calls where so many entries fit, chosen from this number on: `keeps_links`.
+    KeepsLinks(usize, u64),
     /// Each call of the traits under this limit: `each_call`.
     EachCall(Option<usize>),
     /// Each byte generation up to the wrap: `each_generation`.
@@ -105,6 +108,7 @@ fn try_part<A: TestedArena>(arena: &mut A, part: Part) -> Result<(), Wrong> {
         Part::EndsAtFour => ends_at_four(arena),
         Part::UpTo255 => up_to_255(arena),
         Part::Thousands => thousands(arena),
+        Part::KeepsLinks(most, seed) => keeps_links(arena, most, seed),
         Part::EachCall(limit) => follow(arena, &each_call(limit)),
         Part::EachGeneration => each_generation(arena),
         Part::EachRaise(before, after, wraps) => follow(arena, &each_raise(before, after, wraps)),

@@ -1,5 +1,5 @@
 -- What stands where more slots may have been touched.
-use Rattle.std.proofs.Common.{◌≡◌, ℕ, ◌+◌, ◌≤◌, ◌==◌, ◌↔◌, Bool, false, List, [], ◌∷◌, length, Result, Ok, Err, IsOk, OnOk, OnErr, sym, ap, subst, refl, ◌∙◌, arith}
+use Rattle.std.proofs.Common.{◌≡◌, ℕ, ◌≤◌, ◌==◌, ◌↔◌, Bool, false, List, [], ◌∷◌, length, Result, Ok, Err, IsOk, OnOk, OnErr, sym, ap, subst, refl, ◌∙◌, arith}
 use Rattle.triple_arena_ptr.specs.Numbers.{raise, wraps}
 use Rattle.triple_arena_stack.specs.StackKind.{StackKind}
 use Rattle.triple_arena_traits.specs.ArenaState.{ArenaState, slot_count, arena_len, capacity}

@@ -1,10 +1,10 @@
 -- What an arena keeps, where more slots may have been touched.
-use Rattle.std.proofs.Common.{◌≡◌, ℕ, ◌+◌, ◌≤◌, List, Option, None, Some, [], length, map, IsSome, refl, sym, ap, subst, ◌∙◌, arith}
+use Rattle.std.proofs.Common.{◌≡◌, ℕ, ◌+◌, ◌≤◌, List, Option, None, [], length, map, IsSome, refl, sym, ap, subst, ◌∙◌}
 use Rattle.std.specs.Option.{option_map}
 use Rattle.triple_arena_stack.specs.StackKind.{StackKind}
 use Rattle.triple_arena_traits.specs.Items.{with_item}
 use Rattle.triple_arena_traits.specs.Entries.{ChangesAt, KeepsEntries, entry_in, entry_count}
-use Rattle.triple_arena_traits.specs.ArenaState.{ArenaState, arena_len, capacity, slot_count, with_value}
+use Rattle.triple_arena_traits.specs.ArenaState.{ArenaState, arena_len, capacity, with_value}
 use Rattle.triple_arena_traits.specs.SlotSteps.{IsTouched}
 use Rattle.triple_arena_traits.specs.Ending.{removed, invalidated}
 use Rattle.triple_arena_traits.specs.FreeList.{tidied, laid_out}
@@ -15,7 +15,7 @@ use Rattle.triple_arena_traits.specs.Cloning.{counter_of}
 use Rattle.triple_arena_traits.specs.Histories.{Fits, Continues}
 use Rattle.triple_arena_traits.specs.EntryLaws.{slots-removed, limit_of-removed, fitting-removed, slots-invalidated, slots-reallocated, slots-settled}
 use Rattle.triple_arena_traits.specs.LengthLaws.{len-removed, len-invalidated, len-reallocated, len-settled}
-use Rattle.triple_arena_traits.specs.CloningLaws.{kept-cloned, limit-cloned, fitting-cloned}
+use Rattle.triple_arena_traits.specs.CloningLaws.{limit-cloned, fitting-cloned}
 use Rattle.triple_arena_traits.specs.CompressionLaws.{keys-compressed, values-compressed, compressed-with_value}
 use Rattle.triple_arena_traits.specs.HistoryLaws.{Continues-touched}
 

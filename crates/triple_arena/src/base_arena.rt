@@ -55,8 +55,8 @@ use triple_arena_traits::{
 /// is free it takes the one past the last slot. A removal in the last slot takes that slot away, and
 /// frees no index.
 ///
-/// `get`, `get_mut`, removal, and insertion within the capacity touch a constant number of slots and
-/// take no memory.
+/// Insertion within the capacity, removal and invalidation touch at most 6 slots, `get` and `get_mut`
+/// one or two. They take no memory.
 #[derive(Drop)]
 pub struct Arena<
     P: Ptr,
@@ -502,7 +502,7 @@ impl<P: Ptr, T, S: NonZeroInxGenericStack<ArenaSlot<P, T>>> Arena<P, T, S> {
     /// Gives up the free slots past the last entry. The other free indexes keep their order, and no
     /// entry moves.
     ///
-    /// It takes no memory, and touches a few slots for each that it gives up.
+    /// It takes no memory, and touches at most 6 slots for each that it gives up, and 2.
     pub fn remove_free_end_slots(&mut self)
         ensures state { IsTouched (without_free_end self.old) self.new }
         ensures bounded { RisesByAtMost (6 * (slot_count self.old - slot_count self.new) + 2)

@@ -4,7 +4,6 @@ use Rattle.triple_arena_traits.specs.FreeList.{tidied, IsInOrder}
 use Rattle.triple_arena_slots.proofs.Links.{carried, Shows-steps}
 use Rattle.triple_arena_slots.proofs.Tidying.{Shows-tidied}
 use Rattle.triple_arena_traits.specs.FreeListLaws.{IsInOrder-tidied}
-use Rattle.triple_arena_traits.specs.Histories.{resizing}
 use Rattle.triple_arena_traits.specs.HistoryLaws.{Continues-resized}
 use Rattle.triple_arena.specs.TouchedLaws.{settled_slots}
 use Rattle.std.proofs.lemmas.List.{length-map}

@@ -1,4 +1,4 @@
-use Rattle.std.proofs.Common.{◌≡◌, ◌≤◌, ◌∙◌, ◌∷◌, [], ap, refl, arith}
+use Rattle.std.proofs.Common.{◌≤◌, ◌∙◌, ◌∷◌, [], ap, refl, arith}
 use Rattle.std.specs.Option.{option_and_then}
 use Rattle.triple_arena_traits.specs.Entries.{value_under}
 use Rattle.triple_arena_traits.specs.Items.{item}

@@ -1,7 +1,7 @@
 use Rattle.triple_arena_traits.proofs.Refused.{err_is, ok_not_err, on_ok_err, on_err, same_error}
 use Rattle.triple_arena_traits.specs.ArenaState.{capacity}
 use Rattle.std.proofs.lemmas.Bool.{false≢true}
-use Rattle.std.proofs.Common.{◌∙◌, sym, ap, ◌<◌, refl, subst}
+use Rattle.std.proofs.Common.{◌∙◌, sym, ◌<◌, refl, subst}
 use Rattle.triple_arena_traits.proofs.TransferLemmas.{source_goes_on}
 use Rattle.triple_arena.proofs.Cloned.{copy_laid_out}
 use Rattle.triple_arena.proofs.base_arena.Arena.transfer_reallocating.Goals as goal

@@ -9,7 +9,7 @@ use triple_arena_stack::{
 };
 use triple_arena_trait_kit::Wrong;
 
-/// A call of a stack that asks for memory that is full.
+/// A call of a full stack, which asks for memory.
 #[derive(Clone, Copy)]
 enum Call {
     Push,
@@ -29,16 +29,11 @@ const CALLS: &[(&str, Call)] = &[
     ("reallocate_min_capacity(0)", Call::ReallocateDown),
 ];
 
-// A call by an entry, which gets this item.
-fn by_entry<'a, E: NonZeroInxGenericStackPushEntryTrait<'a, u64> + Drop>(
-    entry: Result<E, ReallocationError>,
-    item: u64,
-) -> Result<(), ReallocationError> {
-    let entry = entry?;
+// Pushes by an entry.
+fn push_by<'a, E: NonZeroInxGenericStackPushEntryTrait<'a, u64> + Drop>(entry: E, item: u64) {
     if entry.has_place() {
         entry.push(item);
     }
-    Ok(())
 }
 
 fn make<K: NonZeroInxGenericStack<u64>>(
@@ -55,8 +50,20 @@ fn make<K: NonZeroInxGenericStack<u64>>(
             stack.push_reallocating(item)?;
             Ok(())
         }
-        Call::EntryPush => by_entry(stack.entry_push(), item),
-        Call::EntryPushReallocating => by_entry(stack.entry_push_reallocating(), item),
+        Call::EntryPush => match stack.entry_push() {
+            Ok(entry) => {
+                push_by(entry, item);
+                Ok(())
+            }
+            Err(refused) => Err(refused),
+        },
+        Call::EntryPushReallocating => match stack.entry_push_reallocating() {
+            Ok(entry) => {
+                push_by(entry, item);
+                Ok(())
+            }
+            Err(refused) => Err(refused),
+        },
         Call::ReallocateUp => stack.reallocate_min_capacity(100),
         Call::ReallocateDown => stack.reallocate_min_capacity(0),
     }

@@ -32,6 +32,31 @@ impl Trial for NoMoreRoom {
     }
 }
 
+// A text that a new session answers so.
+#[derive(Drop)]
+struct Answered<'a> {
+    text: &'a [u8],
+    lines: &'a [u8],
+}
+
+impl Trial for Answered<'_> {
+    fn pass(&self, rt: &impl Abort, alloc: Global, session: &mut impl Asked) {
+        answers_text(rt, alloc, session, self.text, self.lines);
+    }
+}
+
+/// An index of 128 bits is there for more entries than any machine has memory for.
+#[test]
+fn a_wide_index_has_no_greatest_capacity(rt: HostRuntime) {
+    let trial = Answered {
+        text: b"insert 1 -\ninsert 2 1\ninsert 3 2\nreserve 18446744073709551615\nremove 1\n\
+            set 2 2 3\ncompact\nget 2\nget 3\ncapacity\n",
+        lines: b"given 1\ngiven 2\ngiven 3\nno memory\nremoved 1 -\n\
+            done\ncompacted\nfound 2 3\nfound 3 2\ncount 4\n",
+    };
+    try_new(&rt, rt.alloc(), Kind::WideIndexes, None, &trial);
+}
+
 // Inserts so many.
 fn fills(rt: &impl Abort, alloc: Global, session: &mut impl Asked, count: u8) {
     for name in 1..count as usize + 1 {

@@ -16,7 +16,7 @@ use triple_arena_session::{
 use triple_arena_stack::{
     NonZeroInxArray, NonZeroInxGenericStack, NonZeroInxLimitedVec, NonZeroInxVec,
 };
-use triple_arena_trait_kit::{B, Narrow, Numbered, index_number};
+use triple_arena_trait_kit::{B, Narrow, Numbered, Wide, index_number};
 
 /// How many entries an arena holds, for how many it has room, and the generation of its counter.
 pub type Extent = (usize, usize, u64);
@@ -247,6 +247,8 @@ pub enum Kind {
     /// Indexes of a byte.
     ByteIndexes,
     LimitedByteIndexes,
+    /// Indexes of 128 bits.
+    WideIndexes,
 }
 
 type Slot<P> = ArenaSlot<P, Node<u64, P>>;
@@ -270,6 +272,7 @@ pub fn try_new(
         Kind::LimitedByteIndexes => {
             try_at::<Narrow, NonZeroInxLimitedVec<Slot<Narrow>>>(rt, alloc, room, trial)
         }
+        Kind::WideIndexes => try_at::<Wide, NonZeroInxVec<Slot<Wide>>>(rt, alloc, room, trial),
     }
 }
 

@@ -11,7 +11,7 @@ use triple_arena_direct::DirectArena;
 use triple_arena_direct_kit::{Direct, Heap as DirectHeap, with_room as direct_with_room};
 use triple_arena_ptr::{P0, Ptr, PtrGen};
 use triple_arena_renaming::{compress_recast, compress_recaster};
-use triple_arena_session::{Command, Reply, Session};
+use triple_arena_session::{Command, Reply, Session, StrictSession};
 use triple_arena_stack::{
     ArrayStack, FixedStack, HeapStack, LimitedStack, NonZeroInxGenericStack, NonZeroInxStack,
     SetMaxCapacity,
@@ -258,4 +258,6 @@ pub fn try_each(alloc: Global, report: &mut Report) {
     report.note(call, "a compaction", compactions(alloc));
     let mut new: Session<P0, u64> = Session::new(alloc);
     report.note(call, "a session", session(&mut new));
+    let mut new: StrictSession<P0, u64> = StrictSession::new(alloc);
+    report.note(call, "a strict session", session(&mut new));
 }

@@ -6,7 +6,7 @@ use crate::sessions::{Asked, seen};
 use std::alloc::Global;
 use std::io::Cursor;
 use triple_arena_ptr::P0;
-use triple_arena_session::{Command, Reply, Session, TextError};
+use triple_arena_session::{Command, Reply, Session, StrictSession, TextError};
 use triple_arena_trait_kit::Wrong;
 
 // Three names, of which the second has ended, in a new session.
@@ -121,8 +121,13 @@ impl Text {
 pub fn try_each(alloc: Global, report: &mut Report) {
     let mut session: Session<P0, u64> = Session::new(alloc);
     report.note("run", "a session", runs_commands(&mut session));
+    let mut strict: StrictSession<P0, u64> = StrictSession::new(alloc);
+    report.note("run", "a strict session", runs_commands(&mut strict));
     for text in TEXTS {
         let mut session: Session<P0, u64> = Session::new(alloc);
         report.note("run_text", text.name, text.runs_in(alloc, &mut session));
+        let mut strict: StrictSession<P0, u64> = StrictSession::new(alloc);
+        let ended = text.runs_in(alloc, &mut strict);
+        report.note("run_text_strict", text.name, ended);
     }
 }

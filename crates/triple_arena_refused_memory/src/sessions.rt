@@ -5,16 +5,24 @@ use arrayvec::ArrayString;
 use std::alloc::Global;
 use std::fmt::Write as _;
 use std::io::{Read, Write};
-use triple_arena::{ArenaSlot, ArenaTrait};
+use triple_arena::{Arena, ArenaSlot, ArenaTrait};
 use triple_arena_base::AllocError;
 use triple_arena_ptr::{P0, Ptr};
-use triple_arena_session::{Command, Node, Reply, Session, TextError, parse_command, run_text};
+use triple_arena_session::{
+    Command, Node, Reply, Session, StrictSession, TextError, parse_command, run_text,
+    run_text_strict,
+};
 use triple_arena_stack::{
     NonZeroInxArray, NonZeroInxBoxedSlice, NonZeroInxGenericStack, NonZeroInxLimitedVec,
     NonZeroInxVec,
 };
 use triple_arena_test_kit::free_of;
 use triple_arena_trait_kit::{SLOTS, Wrong, index_number};
+
+type Slot = ArenaSlot<P0, Node<u64, P0>>;
+
+/// The arena of a session.
+type Entries<S> = Arena<P0, Node<u64, P0>, S>;
 
 /// What stands under a name.
 type Row = Option<(u64, Option<usize>)>;
@@ -64,8 +72,7 @@ impl<S: NonZeroInxGenericStack<Slot>> Asked for Session<P0, u64, S> {
     }
 
     fn extent(&self) -> (usize, usize, u64) {
-        let arena = self.arena();
-        (arena.len(), arena.capacity(), arena.generation().get())
+        extent_of(self.arena())
     }
 
     fn free(&self) -> [usize; SLOTS] {
@@ -73,10 +80,49 @@ impl<S: NonZeroInxGenericStack<Slot>> Asked for Session<P0, u64, S> {
     }
 
     fn last_index(&self) -> usize {
-        match self.arena().find_last_inx_ptr() {
-            Some(p) => index_number(p.inx()),
-            None => 0,
-        }
+        last_index_of(self.arena())
+    }
+}
+
+impl<S: NonZeroInxGenericStack<Slot>> Asked for StrictSession<P0, u64, S> {
+    fn answer(&mut self, command: Command<u64>) -> Reply<u64> {
+        self.step(command)
+    }
+
+    fn answers(&mut self, commands: &[Command<u64>]) -> Option<Vec<Reply<u64>>> {
+        self.run(commands).ok()
+    }
+
+    fn runs<R: Read, W: Write>(
+        &mut self,
+        alloc: Global,
+        input: &mut R,
+        output: &mut W,
+    ) -> Result<(), TextError> {
+        run_text_strict(self, alloc, input, output)
+    }
+
+    fn extent(&self) -> (usize, usize, u64) {
+        extent_of(self.arena().arena())
+    }
+
+    fn free(&self) -> [usize; SLOTS] {
+        free_of(self.arena().arena())
+    }
+
+    fn last_index(&self) -> usize {
+        last_index_of(self.arena().arena())
+    }
+}
+
+fn extent_of<S: NonZeroInxGenericStack<Slot>>(arena: &Entries<S>) -> (usize, usize, u64) {
+    (arena.len(), arena.capacity(), arena.generation().get())
+}
+
+fn last_index_of<S: NonZeroInxGenericStack<Slot>>(arena: &Entries<S>) -> usize {
+    match arena.find_last_inx_ptr() {
+        Some(p) => index_number(p.inx()),
+        None => 0,
     }
 }
 
@@ -161,6 +207,10 @@ const ROWS: &[(&str, &str)] = &[
     ("insert 1 -", "given 1"),
     ("reserve 6", "done"),
     ("within 2 1", "given 2"),
+    (
+        "show",
+        "{P0[1](2): (1, None), P0[2](2): (2, Some(P0[1](2)))}",
+    ),
     ("insert 3 -", "given 3"),
     ("insert 4 -", "given 4"),
     ("remove 2", "removed 2 1"),
@@ -183,10 +233,15 @@ const ROWS: &[(&str, &str)] = &[
     ("remove 9", "removed 8 -"),
     // 4, 2 and 3
     ("compact", "compacted"),
+    (
+        "show",
+        "{P0[1](a): (1, None), P0[2](a): (7, Some(P0[1](a)))}",
+    ),
     ("get 8", "found 7 5"),
     ("reserve 2", "done"),
     ("insert 9 5", "given 10"),
     ("clear", "cleared"),
+    ("show", "{}"),
 ];
 
 // Each row, in a session of this kind. A text that it shows is on the heap, whatever its stack is, so that one
@@ -199,8 +254,6 @@ fn each_row<T: Asked>(session: &mut T, kind: &'static str, shows: bool, report: 
         }
     }
 }
-
-type Slot = ArenaSlot<P0, Node<u64, P0>>;
 
 // In a session with this room, or as `new` makes it.
 fn on_stack<S: NonZeroInxGenericStack<Slot> + Drop>(
@@ -234,4 +287,6 @@ pub fn try_each(alloc: Global, report: &mut Report) {
         report,
     );
     on_stack::<NonZeroInxArray<Slot, 8>>(alloc, None, ("a session in an array", false), report);
+    let mut strict: StrictSession<P0, u64> = StrictSession::new(alloc);
+    each_row(&mut strict, "a strict session", true, report);
 }

@@ -386,38 +386,3 @@ fn flushes_what_was_answered(rt: HostRuntime) {
         tries(&rt, rt.alloc(), &trial);
     }
 }
-
-// How many names a run of five insertions gave, of which one may be refused memory, or the run.
-fn given_by(rt: &impl Abort, outcome: Result<(), TextError>, output: &ShortWriter) -> usize {
-    if outcome == Ok(()) {
-        let refused = output.lines_of(b"no memory");
-        assert_eq!(rt; output.lines_ended(), 5);
-        assert!(rt; refused < 2);
-        5 - refused
-    } else {
-        assert!(rt; outcome == Err(TextError::NoMemory));
-        assert_eq!(rt; output.len, 0);
-        0
-    }
-}
-
-/// Five insertions, of which one may be refused memory, or the run.
-pub struct RunsWhereThereIsMemory;
-
-impl Trial for RunsWhereThereIsMemory {
-    fn pass(&self, rt: &impl Abort, alloc: Global, session: &mut impl Asked) {
-        let mut input = b"insert 1 -\ninsert 1 -\ninsert 1 -\ninsert 1 -\ninsert 1 -\n".as_slice();
-        let mut output = ShortWriter::new(256);
-        let outcome = session.runs(alloc, &mut input, &mut output);
-        let given = given_by(rt, outcome, &output);
-        finds_up_to(rt, session, 1, given, 6);
-    }
-}
-
-/// Holds with ample memory, and also where any one request for memory is refused
-/// (`rt try --test --fail-alloc N`): then the run answers `NoMemory` before it writes, or the
-/// insertion that asked answers so, and its name is given to the next.
-#[test]
-fn answers_no_memory_where_it_is_refused(rt: HostRuntime) {
-    tries(&rt, rt.alloc(), &RunsWhereThereIsMemory);
-}

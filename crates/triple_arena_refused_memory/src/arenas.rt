@@ -33,26 +33,58 @@ where
     Ok(arena)
 }
 
-// The insertions into an arena, where it could be made.
-fn grow<A: TestedArena + Drop>(
-    made: Result<A, Wrong>,
-    limit: Option<usize>,
-    calls: &[Named],
-    kind: &'static str,
-    report: &mut Report,
-) {
-    match made {
-        Ok(mut arena) => each_growth(&mut arena, limit, calls, kind, report),
+// Each insertion into an arena on the heap, where it could be made.
+fn grow_on_heap<P: Ptr>(alloc: Global, calls: &[Named], kind: &'static str, report: &mut Report)
+where
+    P::Gen: Numbered,
+{
+    match heap::<P>(alloc, 4) {
+        Ok(mut arena) => each_growth(&mut arena, None, calls, kind, report),
         Err(wrong) => report.note("made", kind, Err(wrong)),
     }
 }
 
-// The reallocations of an arena, where it could be made.
-fn reallocate<A: TestedArena + Drop>(
-    made: Result<A, Wrong>,
-    limit: Option<usize>,
-) -> Result<End, Wrong> {
-    reallocates(&mut made?, limit)
+// The same under a limit.
+fn grow_under_limit<P: Ptr>(alloc: Global, calls: &[Named], kind: &'static str, report: &mut Report)
+where
+    P::Gen: Numbered,
+{
+    match limited::<P>(alloc, 4) {
+        Ok(mut arena) => each_growth(&mut arena, LIMIT, calls, kind, report),
+        Err(wrong) => report.note("made", kind, Err(wrong)),
+    }
+}
+
+// The same of a strict arena, which has no entries to insert by.
+fn grow_strict(alloc: Global, report: &mut Report) {
+    let kind = "a strict arena";
+    match Strict::<Heap<P0>>::with_room(alloc, 4) {
+        Ok(mut arena) => each_growth(&mut arena, None, INSERTIONS, kind, report),
+        Err(wrong) => report.note("made", kind, Err(wrong)),
+    }
+}
+
+// Each insertion, of arenas over each kind of pointer.
+fn try_insertions(alloc: Global, report: &mut Report) {
+    grow_on_heap::<P0>(alloc, ALL_INSERTIONS, "an arena", report);
+    grow_on_heap::<Narrow>(alloc, INSERT, "an arena of byte pointers", report);
+    grow_on_heap::<P4>(alloc, INSERT, "an arena without generations", report);
+    grow_on_heap::<Wide>(alloc, INSERT, "an arena of wide indexes", report);
+    grow_under_limit::<P0>(alloc, ALL_INSERTIONS, "an arena under a limit", report);
+    grow_under_limit::<B>(alloc, INSERT, "an arena of byte generations", report);
+    grow_strict(alloc, report);
+}
+
+fn reallocate_on_heap(alloc: Global) -> Result<End, Wrong> {
+    reallocates(&mut heap::<P0>(alloc, 8)?, None)
+}
+
+fn reallocate_under_limit(alloc: Global) -> Result<End, Wrong> {
+    reallocates(&mut limited::<P0>(alloc, 8)?, LIMIT)
+}
+
+fn reallocate_strict(alloc: Global) -> Result<End, Wrong> {
+    reallocates(&mut Strict::<Heap<P0>>::with_room(alloc, 8)?, None)
 }
 
 // Entries at 2 and 4 and a free slot at the end, of a direct arena of eight places.
@@ -100,64 +132,17 @@ fn worked_on_heap(alloc: Global) -> Result<End, Wrong> {
     worked(&mut heap::<P0>(alloc, 8)?)
 }
 
-// Each insertion, of arenas over each kind of pointer; a strict one has no entries to insert by.
-fn try_insertions(alloc: Global, report: &mut Report) {
-    grow(
-        heap::<P0>(alloc, 4),
-        None,
-        ALL_INSERTIONS,
-        "an arena",
-        report,
-    );
-    grow(
-        heap::<Narrow>(alloc, 4),
-        None,
-        INSERT,
-        "an arena of byte pointers",
-        report,
-    );
-    grow(
-        heap::<P4>(alloc, 4),
-        None,
-        INSERT,
-        "an arena without generations",
-        report,
-    );
-    grow(
-        heap::<Wide>(alloc, 4),
-        None,
-        INSERT,
-        "an arena of wide indexes",
-        report,
-    );
-    let under_limit = "an arena under a limit";
-    grow(
-        limited::<P0>(alloc, 4),
-        LIMIT,
-        ALL_INSERTIONS,
-        under_limit,
-        report,
-    );
-    grow(
-        limited::<B>(alloc, 4),
-        LIMIT,
-        INSERT,
-        "an arena of byte generations",
-        report,
-    );
-    let strict = Strict::<Heap<P0>>::with_room(alloc, 4);
-    grow(strict, None, INSERTIONS, "a strict arena", report);
-}
-
 pub fn try_each(alloc: Global, report: &mut Report) {
     try_insertions(alloc, report);
     let call = "reallocate_min_capacity";
-    report.note(call, "an arena", reallocate(heap::<P0>(alloc, 8), None));
+    report.note(call, "an arena", reallocate_on_heap(alloc));
     report.note(call, "an arena of five", worked_on_heap(alloc));
-    let under_limit = reallocate(limited::<P0>(alloc, 8), LIMIT);
-    report.note(call, "an arena under a limit", under_limit);
-    let strict = reallocate(Strict::<Heap<P0>>::with_room(alloc, 8), None);
-    report.note(call, "a strict arena", strict);
+    report.note(
+        call,
+        "an arena under a limit",
+        reallocate_under_limit(alloc),
+    );
+    report.note(call, "a strict arena", reallocate_strict(alloc));
     report.note(call, "a direct arena", direct(alloc));
     report.note(call, "a direct arena under a limit", limited_direct(alloc));
 }

@@ -18,7 +18,7 @@ pub struct Costly {
 }
 
 impl Clone for Costly {
-    ghost use Rattle.std.specs.Prelude.{◌≡◌, ⊥};
+    ghost use Rattle.std.specs.Prelude.{◌≡◌};
 
     ghost is_clone = { λ t u. u ≡ t };
 

@@ -24,9 +24,9 @@ module _ {X : Type 0} where
   is_success (Compacted wrapped) = true
   is_success reply = false
 
-  abbrev pub is_exhausted : Reply X → Bool
-  is_exhausted Exhausted = true
-  is_exhausted reply = false
+  abbrev pub tells_exhausted : Reply X → Bool
+  tells_exhausted Exhausted = true
+  tells_exhausted reply = false
 
   -- a step, or in its place the refusal, which changes nothing
   abbrev pub UnlessExhausted : {S : Type 0} → Bool → Type 0 → Reply X → S → S → Type 0

@@ -1,5 +1,5 @@
 -- A strict store of names answers as the store that it has, but where a command needs a raise and none is left.
-use Rattle.std.proofs.Common.{◌≡◌, ◌↔◌, ◌==◌, ◌||◌, Bool, true, false, List, [], ◌∷◌, Option, Some, None, if◌then◌else◌, refl, sym, ap, subst, ◌∙◌, true≢false}
+use Rattle.std.proofs.Common.{◌≡◌, ◌↔◌, ◌+◌, ◌==◌, ◌||◌, Bool, true, false, List, [], ◌∷◌, Option, Some, None, if◌then◌else◌, refl, sym, ap, subst, ◌∙◌, true≢false}
 use Rattle.std.specs.List.{list_any, list_all}
 use Rattle.triple_arena_commands.specs.declared.command.Command.{Command}
 use Rattle.triple_arena_commands.specs.declared.command.Command.TheVariants.{Insert, InsertWithin, Get, Set, Remove, Invalidate, Clear, Compact, Len, Capacity, Reserve, Show}
@@ -12,16 +12,16 @@ use Rattle.triple_arena_commands.specs.RunLaws.{TellsOfNoWrap-nil, TellsOfNoWrap
 use Rattle.triple_arena_commands.specs.NameStore.{NameRow, Store, row_count, row, is_good_link, with_row, give_row, grown_store, store_refusal, insert_row_unless, get_row_reply, act_on_row, row_dangles, store_answer, IsStoreStep}
 use Rattle.triple_arena_commands.specs.StoreRuns.{is_named, is_no_memory, AnswersAsStore, ample, erase, seen}
 use Rattle.triple_arena_commands.specs.UnseenLaws.{without_wrap-quiet, CompactionIsUnseen}
-use Rattle.triple_arena_commands.specs.Strict.{is_exhausted, UnlessExhausted, StrictStore, is_spent, IsCountedStep, IsStrictStoreStep}
+use Rattle.triple_arena_commands.specs.Strict.{tells_exhausted, UnlessExhausted, StrictStore, used, is_spent, IsCountedStep, IsStrictStoreStep}
 
 module _ {S X : Type 0} (Step : Type 0) (reply : Reply X) (s t : S) where
   -- where the reply is another, the step was made
-  pub unless_not : (b : Bool) → UnlessExhausted b Step reply s t → is_exhausted reply ≡ false → Step
-  unless_not true refused other = absurd (true≢false (sym (ap is_exhausted refused.0) ∙ other))
+  pub unless_not : (b : Bool) → UnlessExhausted b Step reply s t → tells_exhausted reply ≡ false → Step
+  unless_not true refused other = absurd (true≢false (sym (ap tells_exhausted refused.0) ∙ other))
   unless_not false step other = step
 
   -- where a step is never answered so, that reply comes exactly where it is to come
-  pub unless_so : (b : Bool) → UnlessExhausted b Step reply s t → (Step → is_exhausted reply ≡ false) → is_exhausted reply ≡ true → (b ≡ true) × (t ≡ s)
+  pub unless_so : (b : Bool) → UnlessExhausted b Step reply s t → (Step → tells_exhausted reply ≡ false) → tells_exhausted reply ≡ true → (b ≡ true) × (t ≡ s)
   unless_so true refused never so = (refl, refused.1)
   unless_so false step never so = absurd (true≢false (sym so ∙ never step))
 
@@ -41,10 +41,10 @@ either_false false b e = (refl, e)
 -- a reply without a bool that is true, and not the refusal
 pub record IsPlain {X : Type 0} (reply : Reply X) : Type 0 where
   pub quiet : tells_of_wrap reply ≡ false
-  pub other : is_exhausted reply ≡ false
+  pub other : tells_exhausted reply ≡ false
 
 module _ {X : Type 0} where
-  pub plain : (reply : Reply X) → tells_of_wrap reply ≡ false → is_exhausted reply ≡ false → IsPlain reply
+  pub plain : (reply : Reply X) → tells_of_wrap reply ≡ false → tells_exhausted reply ≡ false → IsPlain reply
   plain reply quiet other = record { quiet = quiet; other = other }
 
   if_plain : (b : Bool) (x y : Reply X × Store X) → IsPlain x.0 → IsPlain y.0 → IsPlain (if b then x else y).0
@@ -108,9 +108,15 @@ module _ {X : Type 0} where
       by true refused = ap tells_of_wrap refused.0
       by false step = (step_plain s.store command reply t.store step.0).quiet
 
-  -- a step that isn't refused so is one of the store
-  pub StrictIsStores : (s t : StrictStore X) (command : Command X) (reply : Reply X) → IsStrictStoreStep s command reply t → is_exhausted reply ≡ false → IsStoreStep s.store command reply t.store
-  StrictIsStores s t command reply step other = (unless_not (IsCountedStep s command reply t) reply s t (is_spent s command) step other).0
+  -- a step that isn't refused so is one of the store, and the raise that it used is left no more
+  StrictIsCounted : (s t : StrictStore X) (command : Command X) (reply : Reply X) → IsStrictStoreStep s command reply t → tells_exhausted reply ≡ false → IsCountedStep s command reply t
+  StrictIsCounted s t command reply step other = unless_not (IsCountedStep s command reply t) reply s t (is_spent s command) step other
+
+  pub StrictIsStores : (s t : StrictStore X) (command : Command X) (reply : Reply X) → IsStrictStoreStep s command reply t → tells_exhausted reply ≡ false → IsStoreStep s.store command reply t.store
+  StrictIsStores s t command reply step other = (StrictIsCounted s t command reply step other).0
+
+  pub StrictCounts : (s t : StrictStore X) (command : Command X) (reply : Reply X) → IsStrictStoreStep s command reply t → tells_exhausted reply ≡ false → t.left + used s.store command reply ≡ s.left
+  StrictCounts s t command reply step other = (StrictIsCounted s t command reply step other).1
 
   -- a command is refused so exactly where it needs a raise and none is left, and then nothing changes
   pub ExhaustedExactly : (s t : StrictStore X) (command : Command X) → IsStrictStoreStep s command Exhausted t ↔ ((is_spent s command ≡ true) × (t ≡ s))
@@ -126,16 +132,16 @@ module _ {X : Type 0} where
   StrictRunIsQuiet s t (command ∷ commands) (reply ∷ replies) run = TellsOfNoWrap-first reply replies (StrictIsQuiet s run.0 command reply run.1) (StrictRunIsQuiet run.0 t commands replies run.2)
 
   -- a run without this refusal is one of the store
-  pub StrictRunAnswers : (s t : StrictStore X) (commands : List (Command X)) (replies : List (Reply X)) → IsRun IsStrictStoreStep s commands replies t → list_any is_exhausted replies ≡ false → AnswersAsStore s.store commands replies
+  pub StrictRunAnswers : (s t : StrictStore X) (commands : List (Command X)) (replies : List (Reply X)) → IsRun IsStrictStoreStep s commands replies t → list_any tells_exhausted replies ≡ false → AnswersAsStore s.store commands replies
   StrictRunAnswers s t [] [] run other = tt
   StrictRunAnswers s t [] (reply ∷ replies) run other = absurd run
   StrictRunAnswers s t (command ∷ commands) [] run other = absurd run
   StrictRunAnswers s t (command ∷ commands) (reply ∷ replies) run other =
-      let others = either_false (is_exhausted reply) (list_any is_exhausted replies) other in
+      let others = either_false (tells_exhausted reply) (list_any tells_exhausted replies) other in
       let step : IsStoreStep s.store command reply run.0.store = StrictIsStores s run.0 command reply run.1 others.0 in
       (run.0.store, subst (λ r. IsStoreStep s.store command r run.0.store) (sym (without_wrap-quiet reply (StrictIsQuiet s run.0 command reply run.1))) step, StrictRunAnswers run.0 t commands replies run.2 others.1)
 
   -- compaction is unseen by whoever asks a strict store, as long as neither this refusal nor a want of memory comes
-  pub StrictIsUnseen : (s t : StrictStore X) (commands : List (Command X)) (replies : List (Reply X)) → IsRun IsStrictStoreStep s commands replies t → list_all is_named commands ≡ true → list_any is_no_memory replies ≡ false → list_any is_exhausted replies ≡ false
+  pub StrictIsUnseen : (s t : StrictStore X) (commands : List (Command X)) (replies : List (Reply X)) → IsRun IsStrictStoreStep s commands replies t → list_all is_named commands ≡ true → list_any is_no_memory replies ≡ false → list_any tells_exhausted replies ≡ false
       → seen commands replies ≡ ample s.store (erase commands)
   StrictIsUnseen s t commands replies run named enough other = CompactionIsUnseen s.store commands replies (StrictRunAnswers s t commands replies run other) named enough

@@ -11,7 +11,7 @@ ghost use Rattle.triple_arena_commands.specs.ReplyText.{tells_of_wrap};
 ghost use Rattle.triple_arena_commands.specs.Runs.{IsRun};
 ghost use Rattle.triple_arena_commands.specs.NameStore.{Store, next_name, row_count, row, is_good_link, HasEnded, row_dangles, IsStoreStep, MayReply};
 ghost use Rattle.triple_arena_commands.specs.StoreRuns.{is_named, is_no_memory, AnswersAsStore, ample, erase, seen};
-ghost use Rattle.triple_arena_commands.specs.Strict.{StrictStore, is_exhausted, is_spent, IsStrictStoreStep};
+ghost use Rattle.triple_arena_commands.specs.Strict.{StrictStore, tells_exhausted, used, is_spent, IsStrictStoreStep};
 ghost use Rattle.triple_arena_commands.specs.Forms.{FormsAreExact, LinesAreExact};
 
 /// A line stands for just the command whose form it has, so for one at most.
@@ -63,13 +63,17 @@ pub fn compaction_is_unseen<X>()
 {}
 
 /// A strict store of names answers as the store that it has, and tells of no wrap, but that a command
-/// is refused exactly where it needs a raise and none is left, and then nothing changes.
+/// is refused exactly where it needs a raise and none is left, and then nothing changes. Of the raises
+/// that are left, a command that needs one and succeeds uses one, and no other does (`counted`).
 pub fn strict_store_is_exact<X>()
     ensures exhausted { (s t : StrictStore X) (command : Command X)
         → IsStrictStoreStep s command Exhausted t ↔ ((is_spent s command ≡ true) × (t ≡ s)) }
     ensures stores { (s t : StrictStore X) (command : Command X) (reply : Reply X)
-        → IsStrictStoreStep s command reply t → is_exhausted reply ≡ false
+        → IsStrictStoreStep s command reply t → tells_exhausted reply ≡ false
         → IsStoreStep s.store command reply t.store }
+    ensures counted { (s t : StrictStore X) (command : Command X) (reply : Reply X)
+        → IsStrictStoreStep s command reply t → tells_exhausted reply ≡ false
+        → t.left + used s.store command reply ≡ s.left }
     ensures quiet { (s t : StrictStore X) (command : Command X) (reply : Reply X)
         → IsStrictStoreStep s command reply t → tells_of_wrap reply ≡ false }
 {}
@@ -79,6 +83,6 @@ pub fn strict_store_is_exact<X>()
 pub fn strict_compaction_is_unseen<X>()
     ensures { (s t : StrictStore X) (commands : List (Command X)) (replies : List (Reply X))
         → IsRun IsStrictStoreStep s commands replies t → list_all is_named commands ≡ true
-        → list_any is_no_memory replies ≡ false → list_any is_exhausted replies ≡ false
+        → list_any is_no_memory replies ≡ false → list_any tells_exhausted replies ≡ false
         → seen commands replies ≡ ample s.store (erase commands) }
 {}

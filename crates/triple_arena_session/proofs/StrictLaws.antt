@@ -16,7 +16,7 @@ use Rattle.triple_arena_commands.specs.ReplyText.{tells_of_wrap}
 use Rattle.triple_arena_commands.specs.Runs.{IsRun, TellsOfNoWrap, RunsToWrap}
 use Rattle.triple_arena_commands.specs.RunLaws.{TellsOfNoWrap-nil, TellsOfNoWrap-first}
 use Rattle.triple_arena_commands.specs.StoreRuns.{is_named, is_no_memory, ample, erase, seen}
-use Rattle.triple_arena_commands.specs.Strict.{is_success, is_exhausted, UnlessExhausted, raises_row, used, is_spent, IsCountedStep, IsStrictStoreStep}
+use Rattle.triple_arena_commands.specs.Strict.{is_success, tells_exhausted, UnlessExhausted, raises_row, used, is_spent, IsCountedStep, IsStrictStoreStep}
 use Rattle.triple_arena_commands.specs.StrictLaws.{unless_so, refused_where, made_where, StrictIsUnseen}
 use Rattle.triple_arena_session.specs.SessionState.{SessionState, named}
 use Rattle.triple_arena_session.specs.SessionRun.{IsStep}
@@ -152,14 +152,14 @@ module _ {X : Type 0} (kind : StackKind) (has_memory : ℕ → Type 0) (counting
 
   -- compaction changes no other reply, as long as neither the refusal nor a want of memory comes
   pub StrictRunIsUnseen : (s : SessionState X) (commands : List (Command X)) (replies : List (Reply X)) (t : SessionState X) → StrictlySound s → IsRun StrictStep s commands replies t
-      → list_all is_named commands ≡ true → list_any is_no_memory replies ≡ false → list_any is_exhausted replies ≡ false → seen commands replies ≡ ample (shown s) (erase commands)
+      → list_all is_named commands ≡ true → list_any is_no_memory replies ≡ false → list_any tells_exhausted replies ≡ false → seen commands replies ≡ ample (shown s) (erase commands)
   StrictRunIsUnseen s commands replies t sound run named enough other =
       StrictIsUnseen (strictly_shown greatest s) (strictly_shown greatest t) commands replies (StrictRunIsStores s commands replies t sound run).stores named enough other
 
 module _ {X : Type 0} (kind : StackKind) (has_memory : ℕ → Type 0) (counting : Bool) (greatest : ℕ) where
   refused : (s : SessionState X) (command : Command X) (reply : Reply X) (t : SessionState X) → IsStrictStep kind has_memory counting greatest s command reply t → reply ≡ Exhausted → (is_refused counting greatest s command ≡ true) × (t ≡ s)
   refused s command reply t step so =
-      unless_so (IsStep kind has_memory counting greatest s command reply t) reply s t (is_refused counting greatest s command) step (λ made. (step_counts counting greatest kind has_memory s command reply t made).other) (ap is_exhausted so)
+      unless_so (IsStep kind has_memory counting greatest s command reply t) reply s t (is_refused counting greatest s command) step (λ made. (step_counts counting greatest kind has_memory s command reply t made).other) (ap tells_exhausted so)
 
   -- no reply of a strict session tells of a wrap, whatever it shows
   pub StrictStepIsQuiet : (s : SessionState X) (command : Command X) (reply : Reply X) (t : SessionState X) → IsStrictStep kind has_memory counting greatest s command reply t → tells_of_wrap reply ≡ false

@@ -22,7 +22,7 @@ use Rattle.triple_arena_commands.specs.declared.reply.Reply.TheVariants.{Full, B
 use Rattle.triple_arena_commands.specs.Limits.{is_within}
 use Rattle.triple_arena_commands.specs.ReplyText.{tells_of_wrap}
 use Rattle.triple_arena_commands.specs.Runs.{IsRun}
-use Rattle.triple_arena_commands.specs.Strict.{is_success, is_exhausted}
+use Rattle.triple_arena_commands.specs.Strict.{is_success, tells_exhausted}
 use Rattle.triple_arena_session.specs.SessionState.{SessionState, named, link_pointer}
 use Rattle.triple_arena_session.specs.Compaction.{any_dangles, compacted}
 use Rattle.triple_arena_session.specs.SessionRun.{refusal, get_reply, show_reply, shown_text, act_under, act_on, set_answer, insert_within_answer, insert_unless, insert_answer, remove_under, invalidate_under, in_order, with_room_for_name, answer, WantsMemory, IsStep}
@@ -52,10 +52,10 @@ module _ {X : Type 0} (counting : Bool) (greatest : ℕ) where
   pub record Counts (s : SessionState X) (command : Command X) (a : Reply X × SessionState X) : Type 0 where
     pub told : (wraps counting greatest s.arena.counter && raises_counter s command) ≡ false → tells_of_wrap a.0 ≡ false
     pub counter : a.1.arena.counter ≡ cond (raises_counter s command && is_success a.0) (raise counting greatest s.arena.counter) s.arena.counter
-    pub other : is_exhausted a.0 ≡ false
+    pub other : tells_exhausted a.0 ≡ false
 
   -- nothing is raised
-  kept : (s : SessionState X) (command : Command X) (r : Reply X) (t : SessionState X) → (raises_counter s command && is_success r) ≡ false → tells_of_wrap r ≡ false → is_exhausted r ≡ false → t.arena.counter ≡ s.arena.counter → Counts s command (r, t)
+  kept : (s : SessionState X) (command : Command X) (r : Reply X) (t : SessionState X) → (raises_counter s command && is_success r) ≡ false → tells_of_wrap r ≡ false → tells_exhausted r ≡ false → t.arena.counter ≡ s.arena.counter → Counts s command (r, t)
   kept s command r t none quiet other same =
       record {
         told = λ h. quiet;
@@ -64,7 +64,7 @@ module _ {X : Type 0} (counting : Bool) (greatest : ℕ) where
       }
 
   -- the counter is raised
-  raised : (s : SessionState X) (command : Command X) (r : Reply X) (t : SessionState X) → raises_counter s command ≡ true → is_success r ≡ true → tells_of_wrap r ≡ wraps counting greatest s.arena.counter → is_exhausted r ≡ false → t.arena.counter ≡ raise counting greatest s.arena.counter → Counts s command (r, t)
+  raised : (s : SessionState X) (command : Command X) (r : Reply X) (t : SessionState X) → raises_counter s command ≡ true → is_success r ≡ true → tells_of_wrap r ≡ wraps counting greatest s.arena.counter → tells_exhausted r ≡ false → t.arena.counter ≡ raise counting greatest s.arena.counter → Counts s command (r, t)
   raised s command r t due success tells other up =
       record {
         told = λ h. tells ∙ first (wraps counting greatest s.arena.counter) (raises_counter s command) due h;
@@ -187,9 +187,9 @@ module _ {X : Type 0} (counting : Bool) (greatest : ℕ) where
     pub NeverExhausted : (s t : SessionState X) (command : Command X) → IsStep kind has_memory counting greatest s command Exhausted t → ⊥
     NeverExhausted s t command step = true≢false (step_counts s command Exhausted t step).other
 
-    pub RunNeverExhausted : (s t : SessionState X) (commands : List (Command X)) (replies : List (Reply X)) → IsRun (IsStep kind has_memory counting greatest) s commands replies t → list_any is_exhausted replies ≡ false
+    pub RunNeverExhausted : (s t : SessionState X) (commands : List (Command X)) (replies : List (Reply X)) → IsRun (IsStep kind has_memory counting greatest) s commands replies t → list_any tells_exhausted replies ≡ false
     RunNeverExhausted s t [] [] run = refl
     RunNeverExhausted s t [] (reply ∷ replies) run = absurd run
     RunNeverExhausted s t (command ∷ commands) [] run = absurd run
     RunNeverExhausted s t (command ∷ commands) (reply ∷ replies) run =
-        ap (λ b. b || list_any is_exhausted replies) (step_counts s command reply run.0 run.1).other ∙ RunNeverExhausted run.0 t commands replies run.2
+        ap (λ b. b || list_any tells_exhausted replies) (step_counts s command reply run.0 run.1).other ∙ RunNeverExhausted run.0 t commands replies run.2

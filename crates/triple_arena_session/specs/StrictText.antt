@@ -11,7 +11,7 @@ use Rattle.triple_arena_commands.specs.ReplyText.{reply_lines}
 use Rattle.triple_arena_commands.specs.Runs.{IsRun}
 use Rattle.triple_arena_commands.specs.TextRun.{StandFor, IsMalformed, AnswersLines, IsTextRun, IsFlushedRun}
 use Rattle.triple_arena_commands.specs.StoreRuns.{is_named, is_no_memory, ample, erase, seen}
-use Rattle.triple_arena_commands.specs.Strict.{is_exhausted, StrictStore, IsStrictStoreStep}
+use Rattle.triple_arena_commands.specs.Strict.{tells_exhausted, StrictStore, IsStrictStoreStep}
 
 module _ {S : Type 0} (Step : S → Command ℕ → Reply ℕ → S → Type 0) where
   -- a run as of any session, but that where it ended well all lines were answered
@@ -30,7 +30,7 @@ module _ {S : Type 0} (Step : S → Command ℕ → Reply ℕ → S → Type 0) 
 abbrev pub RunsStrictStore : StrictStore ℕ → StrictStore ℕ → List (List ℕ) → List (Reply ℕ) → Type 0
 RunsStrictStore s t lines replies =
     (commands : List (Command ℕ)) × StandFor lines commands × IsRun IsStrictStoreStep s commands replies t
-    × (list_all is_named commands ≡ true → list_any is_no_memory replies ≡ false → list_any is_exhausted replies ≡ false → seen commands replies ≡ ample s.store (erase commands))
+    × (list_all is_named commands ≡ true → list_any is_no_memory replies ≡ false → list_any tells_exhausted replies ≡ false → seen commands replies ≡ ample s.store (erase commands))
 
 -- so these lines did, and the reply lines were written
 abbrev pub BringsStrictStore : StrictStore ℕ → StrictStore ℕ → List (List ℕ) → Option (List ℕ) → Option (List ℕ) → Type 0

@@ -12,7 +12,7 @@ ghost use Rattle.triple_arena_commands.specs.ReplyText.{tells_of_wrap};
 ghost use Rattle.triple_arena_commands.specs.Runs.{IsRun, TellsOfNoWrap};
 ghost use Rattle.triple_arena_commands.specs.NameStore.{Store, new_store, IsStoreStep};
 ghost use Rattle.triple_arena_commands.specs.StoreRuns.{is_named, is_no_memory, without_wrap, ample, erase, seen};
-ghost use Rattle.triple_arena_commands.specs.Strict.{is_exhausted, IsStrictStoreStep};
+ghost use Rattle.triple_arena_commands.specs.Strict.{tells_exhausted, IsStrictStoreStep};
 ghost use Rattle.triple_arena_session.specs.SessionState.{SessionState};
 ghost use Rattle.triple_arena_session.specs.SessionRun.{IsStep};
 ghost use Rattle.triple_arena_session.specs.SessionCalls.{calls_of, calls_in};
@@ -123,7 +123,7 @@ pub fn strict_session_runs_as_store<
         → IsArenaOver S.kind s.arena → s.arena.counter ≤ P.Gen.greatest → IsSound s
         → IsRun (IsStrictStep S.kind S.has_memory P.Gen.counting P.Gen.greatest) s commands replies t
         → list_all is_named commands ≡ true → list_any is_no_memory replies ≡ false
-        → list_any is_exhausted replies ≡ false
+        → list_any tells_exhausted replies ≡ false
         → seen commands replies ≡ ample (shown s) (erase commands) }
 {}
 

@@ -11,7 +11,7 @@ ghost use Rattle.triple_arena_commands.specs.ReplyText.{tells_of_wrap};
 ghost use Rattle.triple_arena_commands.specs.Runs.{IsRun, TellsOfNoWrap, RunsToWrap};
 ghost use Rattle.triple_arena_commands.specs.NameStore.{Store, new_store, IsStoreStep};
 ghost use Rattle.triple_arena_commands.specs.StoreRuns.{is_named, is_no_memory, without_wrap, AnswersAsStore, ample, erase, seen};
-ghost use Rattle.triple_arena_commands.specs.Strict.{is_exhausted};
+ghost use Rattle.triple_arena_commands.specs.Strict.{tells_exhausted};
 ghost use Rattle.triple_arena_session.specs.SessionState.{SessionState, node_of, new_session};
 ghost use Rattle.triple_arena_session.specs.SessionRun.{IsStep};
 ghost use Rattle.triple_arena_session.specs.SessionCalls.{calls_of, KeepsHistories};
@@ -185,7 +185,7 @@ impl<P: Ptr, X: Copy, S: NonZeroInxGenericStack<ArenaSlot<P, Node<X, P>>>> Sessi
             let ran = take (length replies.items) commands.now in
             list_all is_named ran ≡ true → list_any is_no_memory replies.items ≡ false
             → seen ran replies.items ≡ ample (shown self.old) (erase ran)) }
-        ensures never { IfOk result (λ replies. list_any is_exhausted replies.items ≡ false) }
+        ensures never { IfOk result (λ replies. list_any tells_exhausted replies.items ≡ false) }
         ensures arena { IsArenaOver S.kind self.old.arena }
     {
         self.inside.tell_arena();

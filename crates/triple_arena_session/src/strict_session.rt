@@ -11,7 +11,7 @@ ghost use Rattle.triple_arena_commands.specs.ReplyText.{tells_of_wrap};
 ghost use Rattle.triple_arena_commands.specs.Runs.{IsRun, TellsOfNoWrap};
 ghost use Rattle.triple_arena_commands.specs.NameStore.{new_store};
 ghost use Rattle.triple_arena_commands.specs.StoreRuns.{is_named, is_no_memory, ample, erase, seen};
-ghost use Rattle.triple_arena_commands.specs.Strict.{is_exhausted, IsStrictStoreStep};
+ghost use Rattle.triple_arena_commands.specs.Strict.{tells_exhausted, IsStrictStoreStep};
 ghost use Rattle.triple_arena_session.specs.SessionState.{node_of, new_session};
 ghost use Rattle.triple_arena_session.specs.SessionCalls.{calls_of, RunsFreshly};
 ghost use Rattle.triple_arena_session.specs.Shown.{shown, IsSound, IsArenaOver};
@@ -165,7 +165,7 @@ impl<P: Ptr, X: Copy, S: NonZeroInxGenericStack<ArenaSlot<P, Node<X, P>>>> Stric
             self.old commands.now replies.items self.new) }
         ensures unseen { P.Gen.counting ≡ true → IsSound self.old → IfOk result (λ replies.
             list_all is_named commands.now ≡ true → list_any is_no_memory replies.items ≡ false
-            → list_any is_exhausted replies.items ≡ false
+            → list_any tells_exhausted replies.items ≡ false
             → seen commands.now replies.items ≡ ample (shown self.old) (erase commands.now)) }
         ensures arena { IsArenaOver S.kind self.old.arena }
         ensures within { self.old.arena.counter ≤ P.Gen.greatest }

@@ -1,14 +1,14 @@
 //! Entries by name: commands to a new session, answered as by a store of names.
 
-ghost use Rattle.std.specs.Prelude.{◌≡◌, ◌+◌, ◌⊎◌, true, false, IfOk, IfSome, take, length};
+ghost use Rattle.std.specs.Prelude.{◌≡◌, ◌+◌, ◌⊎◌, ℕ, true, false, IfOk, IfSome, take, length};
 ghost use Rattle.std.specs.List.{list_all, list_any};
 ghost use Rattle.triple_arena_commands.specs.NameStore.{next_name};
-ghost use Rattle.triple_arena_commands.specs.Runs.{TellsOfNoWrap, EndsInWrap};
+ghost use Rattle.triple_arena_commands.specs.Runs.{IsRun, TellsOfNoWrap, EndsInWrap};
 ghost use Rattle.triple_arena_commands.specs.StoreRuns.{AnswersAsStore, is_named, is_no_memory, seen, ample, erase};
 ghost use Rattle.triple_arena_commands.specs.declared.program.Kind.TheVariants.{Heap};
-ghost use Rattle.triple_arena_commands.specs.Strict.{is_exhausted};
+ghost use Rattle.triple_arena_commands.specs.Strict.{tells_exhausted, StrictStore, IsStrictStoreStep};
 ghost use Rattle.triple_arena_session.specs.Shown.{shown, IsSound};
-ghost use Rattle.triple_arena_session.specs.StoreText.{first_store};
+ghost use Rattle.triple_arena_session.specs.StoreText.{first_store, first_strict_store};
 
 use std::alloc::Global;
 use triple_arena_base::AllocError;
@@ -70,17 +70,20 @@ pub fn run_to_malformed(
     }
 }
 
-/// The replies to commands in a new strict session over the heap, one to each command. Refused only
-/// where there is no memory for the list of replies. Where all are named commands, and none was refused
-/// for want of memory or of a raise, compactions change no other reply.
+/// The replies to commands in a new strict session over the heap, one to each command. They are those of
+/// a new strict store of names. Refused only where there is no memory for the list of replies. Where all
+/// are named commands, and none was refused for want of memory or of a raise, compactions change no
+/// other reply.
 pub fn strict_answers(
     alloc: Global,
     commands: &[Command<u64>],
 ) -> Result<Vec<Reply<u64>>, AllocError>
     ensures whole { IfOk result (λ replies. length replies.items ≡ length commands.now) }
+    ensures store { IfOk result (λ replies. (after : StrictStore ℕ)
+        × IsRun IsStrictStoreStep (first_strict_store Heap) commands.now replies.items after) }
     ensures unseen { IfOk result (λ replies.
         list_all is_named commands.now ≡ true → list_any is_no_memory replies.items ≡ false
-        → list_any is_exhausted replies.items ≡ false
+        → list_any tells_exhausted replies.items ≡ false
         → seen commands.now replies.items ≡ ample (first_store Heap) (erase commands.now)) }
 {
     let mut session: StrictSession<P0, u64> = StrictSession::new(alloc);

@@ -392,10 +392,8 @@ impl<P: Ptr, T, S: NonZeroInxGenericStack<ArenaSlot<P, T>>> StrictArena<P, T, S>
         if self.is_exhausted_for(p) {
             return Err(StrictError::Exhausted);
         }
-        self.arena
-            .invalidate(p)
-            .allow()
-            .ok_or(StrictError::InvalidPtr)
+        let renewed = self.arena.invalidate(p).allow();
+        renewed.ok_or(StrictError::InvalidPtr)
     }
 
     /// Drops all entries, and raises the counter once if there was one. The capacity stays.

@@ -171,8 +171,7 @@ impl<S: NonZeroInxGenericStack<DirectSlot<P0, Token>> + Drop> Source for Direct<
     }
 
     fn clone_apart(&mut self, alloc: Global) -> Told {
-        self.arena
-            .ask_to_clone(&mut (), &CloneApart { alloc })
+        self.arena.ask_to_clone(&mut (), &CloneApart { alloc })
     }
 }
 

@@ -13,6 +13,8 @@ use Rattle.triple_arena_stack.specs.StackKind.{StackKind}
 use Rattle.triple_arena_traits.specs.ArenaState.{ArenaState}
 use Rattle.triple_arena_traits.specs.Capacity.{ready_for}
 use Rattle.triple_arena_traits.specs.FreeList.{laid_out}
+use Rattle.triple_arena_traits.specs.SlotSteps.{IsTouched}
+use Rattle.triple_arena.proofs.Touched.{touched_through}
 use Rattle.triple_arena_traits.specs.Cloning.{IsCloneAnswer, IsRoomRefusal, counter_of}
 use Rattle.triple_arena_traits.specs.Copying.{Copies}
 use Rattle.triple_arena_traits.proofs.CopyLemmas.{beyond_told}
@@ -24,9 +26,11 @@ counter_given number None two given next first is told start = ap number is ∙ 
 counter_given number (Some x) two given next first is told start = ap number is ∙ ap (counter_of first) told
 
 -- the slots of the copy, laid out in the arena that was made ready for them
-pub copy_laid_out : {T : Type 0} (kind : StackKind) (s made new : ArenaState T) (n last : ℕ) (put : List (Option (ℕ × T))) (given counter : ℕ) → new ≡ laid_out made put given → made ≡ ready_for kind s n → n ≡ last → given ≡ counter → new ≡ laid_out (ready_for kind s last) put counter
+pub copy_laid_out : {T : Type 0} (kind : StackKind) (s made new : ArenaState T) (n last : ℕ) (put : List (Option (ℕ × T))) (given counter : ℕ) → IsTouched (laid_out made put given) new → IsTouched (ready_for kind s n) made → n ≡ last → given ≡ counter → IsTouched (laid_out (ready_for kind s last) put counter) new
 copy_laid_out kind s made new n last put given counter is ready same under =
-    is ∙ ap (λ (r : ArenaState _). laid_out r put given) (ready ∙ ap (ready_for kind s) same) ∙ ap (laid_out (ready_for kind s last) put) under
+    subst (λ k. IsTouched (laid_out (ready_for kind s last) put k) new) under
+    (subst (λ k. IsTouched (laid_out (ready_for kind s k) put given) new) same
+    (touched_through (λ r. laid_out r put given) (λ r i j. refl) (λ r. refl) (ready_for kind s n) made new ready is))
 
 module _ {E : Type 0} where
   -- an answer of the copy, mapped to one of the clone

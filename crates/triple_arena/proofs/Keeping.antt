@@ -1,41 +1,51 @@
 -- What the slots and the state are, where values alone change.
-use Rattle.std.proofs.Common.{◌≡◌, ℕ, zero, suc, ◌==◌, List, [], ◌∷◌, Option, Some, None, cond, slice_get, refl, sym, ap, subst, ◌∙◌}
+use Rattle.std.proofs.Common.{◌≡◌, ℕ, zero, suc, List, [], ◌∷◌, Option, Some, None, slice_get, refl, sym, ap, subst, ◌∙◌}
+use Rattle.std.specs.Option.{option_and_then}
 use Rattle.triple_arena_traits.specs.Items.{item}
 use Rattle.triple_arena_traits.specs.ArenaState.{ArenaState}
-use Rattle.triple_arena_slots.specs.Slot.{entry_of, with_slot_value}
-use Rattle.triple_arena_slots.specs.Layout.{next_of, after, state_of, IsLinked, Shows}
+use Rattle.triple_arena_slots.specs.Slot.{entry_of, next_in, previous_in, with_slot_value}
+use Rattle.triple_arena_slots.specs.Layout.{after, before, state_of, IsLinked, Shows}
 use Rattle.triple_arena_slots.specs.SlotLaws.{entry_of-written}
 use Rattle.triple_arena_traits.specs.Kept.{filled, filled_all}
 use Rattle.triple_arena_traits.specs.Values.{with_values_in, with_values_of}
 use Rattle.triple_arena_slots.specs.declared.slot.ArenaSlot.{ArenaSlot}
 use Rattle.triple_arena_slots.specs.declared.slot.ArenaSlot.TheVariants.{Free, Allocated}
+use Rattle.triple_arena_slots.proofs.TwoWay.{Linked-same}
 use Rattle.triple_arena_slots.proofs.Links.{settled}
 use Rattle.triple_arena_traits.proofs.KeptSlots.{entries-filled}
 use Rattle.triple_arena_traits.specs.ValueLaws.{count-kept, IsWellFormed-kept}
 
 module _ {P T I G : Type 0} where
-  next-filled_slot : (x : ArenaSlot P T I G) (e : Option (ℕ × T)) (i : ℕ) → next_of (Some (filled with_slot_value x e)) i ≡ next_of (Some x) i
-  next-filled_slot (Free link) None i = refl
-  next-filled_slot (Free link) (Some e) i = refl
-  next-filled_slot (Allocated g v) None i = refl
-  next-filled_slot (Allocated g v) (Some e) i = refl
+  -- the links of a slot are the same whatever its value
+  next-filled : (x : ArenaSlot P T I G) (e : Option (ℕ × T)) (i : ℕ) → next_in (filled with_slot_value x e) i ≡ next_in x i
+  next-filled (Free link) None i = refl
+  next-filled (Free link) (Some e) i = refl
+  next-filled (Allocated g v) None i = refl
+  next-filled (Allocated g v) (Some e) i = refl
 
-  next-filled_at : (xs : List (ArenaSlot P T I G)) (es : List (Option (ℕ × T))) (k i : ℕ) → next_of (slice_get (filled_all with_slot_value xs es) k) i ≡ next_of (slice_get xs k) i
-  next-filled_at [] es k i = refl
-  next-filled_at (x ∷ xs) [] k i = refl
-  next-filled_at (x ∷ xs) (e ∷ es) zero i = next-filled_slot x e i
-  next-filled_at (x ∷ xs) (e ∷ es) (suc k) i = next-filled_at xs es k i
+  previous-filled : (x : ArenaSlot P T I G) (e : Option (ℕ × T)) (i : ℕ) → previous_in (filled with_slot_value x e) i ≡ previous_in x i
+  previous-filled (Free link) None i = refl
+  previous-filled (Free link) (Some e) i = refl
+  previous-filled (Allocated g v) None i = refl
+  previous-filled (Allocated g v) (Some e) i = refl
 
-  next-filled : (xs : List (ArenaSlot P T I G)) (es : List (Option (ℕ × T))) (k i : ℕ) → next_of (item (filled_all with_slot_value xs es) k) i ≡ next_of (item xs k) i
-  next-filled xs es zero i = refl
-  next-filled xs es (suc k) i = next-filled_at xs es k i
+  -- and so is what is read of the slot at an index, if it is the same whatever the value
+  read-filled_at : (read : ArenaSlot P T I G → Option ℕ) → ((x : ArenaSlot P T I G) (e : Option (ℕ × T)) → read (filled with_slot_value x e) ≡ read x) → (xs : List (ArenaSlot P T I G)) (es : List (Option (ℕ × T))) (k : ℕ) → option_and_then read (slice_get (filled_all with_slot_value xs es) k) ≡ option_and_then read (slice_get xs k)
+  read-filled_at read same [] es k = refl
+  read-filled_at read same (x ∷ xs) [] k = refl
+  read-filled_at read same (x ∷ xs) (e ∷ es) zero = same x e
+  read-filled_at read same (x ∷ xs) (e ∷ es) (suc k) = read-filled_at read same xs es k
 
-  after-filled : (xs : List (ArenaSlot P T I G)) (es : List (Option (ℕ × T))) (i : ℕ) → after (filled_all with_slot_value xs es) i ≡ after xs i
-  after-filled xs es i = ap (λ n. cond (n == i) None (Some n)) (next-filled xs es i i)
+  read-filled : (read : ArenaSlot P T I G → Option ℕ) → ((x : ArenaSlot P T I G) (e : Option (ℕ × T)) → read (filled with_slot_value x e) ≡ read x) → (xs : List (ArenaSlot P T I G)) (es : List (Option (ℕ × T))) (i : ℕ) → option_and_then read (item (filled_all with_slot_value xs es) i) ≡ option_and_then read (item xs i)
+  read-filled read same xs es zero = refl
+  read-filled read same xs es (suc k) = read-filled_at read same xs es k
 
   IsLinked-filled : (xs : List (ArenaSlot P T I G)) (es : List (Option (ℕ × T))) (from : Option ℕ) (free : List ℕ) → IsLinked xs from free → IsLinked (filled_all with_slot_value xs es) from free
-  IsLinked-filled xs es from [] linked = linked
-  IsLinked-filled xs es from (i ∷ rest) linked = (linked.0, rw (after-filled xs es i) (IsLinked-filled xs es (after xs i) rest linked.1))
+  IsLinked-filled xs es from free linked =
+      Linked-same (after xs) (before xs) (after (filled_all with_slot_value xs es)) (before (filled_all with_slot_value xs es)) None from free (λ j there. (
+        read-filled (λ x. next_in x j) (λ x e. next-filled x e j) xs es j,
+        read-filled (λ x. previous_in x j) (λ x e. previous-filled x e j) xs es j,
+      )) linked
 
 module _ {P T I G : Type 0} (number : G → ℕ) where
   Shows-filled_values : (xs : List (ArenaSlot P T I G)) (root : Option ℕ) (len : ℕ) (s w : ArenaState T) → Shows number xs root len s → Shows number (filled_all with_slot_value xs w.slots) root len (with_values_of s w)
@@ -48,8 +58,8 @@ module _ {P T I G : Type 0} (number : G → ℕ) where
       }
 
   -- the invariant and the view of an arena whose values alone changed
-  pub kept_within : (es es' : List (ArenaSlot P T I G)) (root : Option ℕ) (len counter room room' : ℕ) (limit limit' : Option ℕ) (greatest : ℕ) (w : ArenaState T) → es' ≡ filled_all with_slot_value es w.slots → room' ≡ room → limit' ≡ limit → Shows number es root len (state_of number es root counter room limit greatest)
-      → Shows number es' root len (state_of number es' root counter room' limit' greatest) × (state_of number es' root counter room' limit' greatest ≡ with_values_of (state_of number es root counter room limit greatest) w)
-  kept_within es es' root len counter room room' limit limit' greatest w e r l shows =
-      let s : ArenaState T = state_of number es root counter room limit greatest in
-      settled number es' root len counter room' limit' greatest (with_values_of s w) (subst (λ (zs : List (ArenaSlot P T I G)). Shows number zs root len (with_values_of s w)) (sym e) (Shows-filled_values es root len s w shows)) refl r l refl
+  pub kept_within : (es es' : List (ArenaSlot P T I G)) (root : Option ℕ) (len counter room room' : ℕ) (limit limit' : Option ℕ) (greatest steps : ℕ) (w : ArenaState T) → es' ≡ filled_all with_slot_value es w.slots → room' ≡ room → limit' ≡ limit → Shows number es root len (state_of number es root counter room limit greatest steps)
+      → Shows number es' root len (state_of number es' root counter room' limit' greatest steps) × (state_of number es' root counter room' limit' greatest steps ≡ with_values_of (state_of number es root counter room limit greatest steps) w)
+  kept_within es es' root len counter room room' limit limit' greatest steps w e r l shows =
+      let s : ArenaState T = state_of number es root counter room limit greatest steps in
+      settled number es' root len counter room' limit' greatest steps (with_values_of s w) (subst (λ (zs : List (ArenaSlot P T I G)). Shows number zs root len (with_values_of s w)) (sym e) (Shows-filled_values es root len s w shows)) refl r l refl refl

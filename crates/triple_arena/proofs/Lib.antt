@@ -1,3 +1,4 @@
 pub mod Pairs
 pub mod Keeping
 pub mod Cloned
+mod Touched

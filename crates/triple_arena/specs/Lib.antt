@@ -1,1 +1,2 @@
 pub mod InsertEntry
+pub mod TouchedLaws

@@ -12,10 +12,12 @@ ghost use Rattle.triple_arena_stack.specs.Disjoint.{DisjointAnswer, MayWork, Wor
 ghost use Rattle.triple_arena_traits.specs.Items.{item};
 ghost use Rattle.triple_arena_traits.specs.ArenaState.{ArenaState, new_arena, slot_count, capacity, arena_len, entry, look_up, with_value, is_free, IsWellFormed};
 ghost use Rattle.triple_arena_traits.specs.Insertion.{next_pointer, inserted};
+ghost use Rattle.triple_arena_traits.specs.SlotSteps.{RisesByAtMost, IsTouched, touched, insertion_steps};
 ghost use Rattle.triple_arena_traits.specs.Ending.{removed, invalidated, cleared, told};
 ghost use Rattle.triple_arena_traits.specs.FreeList.{tidied, without_free_end, IsInOrder};
 ghost use Rattle.triple_arena_traits.specs.Capacity.{with_room_for, reallocated, KeepsRoom, grown};
 ghost use Rattle.triple_arena_slots.specs.Slot.{entry_of};
+ghost use Rattle.triple_arena_slots.specs.Layout.{IsLinked};
 ghost use Rattle.triple_arena_traits.specs.Disjoint.{value_of};
 ghost use Rattle.triple_arena_traits.specs.Values.{with_values_of};
 ghost use Rattle.triple_arena_traits.specs.Lent.{lends_values};
@@ -37,7 +39,7 @@ use triple_arena_ptr::{Ptr, PtrGen, PtrInx};
 use triple_arena_slots::{ArenaSlot, Slots};
 use triple_arena_stack::{NonZeroInxGenericStack, NonZeroInxVec};
 use triple_arena_traits::answers::{told, told_valid};
-use triple_arena_traits::entry_slots::{first_live, last_live, ptr_at, slot_at, work_on_two};
+use triple_arena_traits::entry_slots::{first_live, last_live, ptr_at, slot_at};
 use triple_arena_traits::pair_call::{AtEntries, AtValues, PairCall};
 use triple_arena_traits::{
     ArenaInsertTrait, ArenaTrait, DisjointableArenaTrait, EntrySlot, LendingArena, LentSlots,
@@ -54,8 +56,8 @@ use triple_arena_traits::{
 /// is free it takes the one past the last slot. A removal in the last slot takes that slot away, and
 /// frees no index.
 ///
-/// `get`, `get_mut`, removal, and insertion within the capacity touch a constant number of slots and
-/// take no memory.
+/// Insertion within the capacity, removal and invalidation touch at most 6 slots, `get` and `get_mut`
+/// one or two. They take no memory.
 #[derive(Drop)]
 pub struct Arena<
     P: Ptr,
@@ -81,20 +83,22 @@ impl<P: Ptr, T, S: NonZeroInxGenericStack<ArenaSlot<P, T>>> Model for Arena<P, T
 
     ghost view = { λ a. state_of P.Gen.number (S.items a.slots.stack)
         (option_map non_zero_usize_get a.slots.root) (P.Gen.number a.counter) (S.room a.slots.stack)
-        (S.limit a.slots.stack) (greatest_index P.Inx.greatest) };
+        (S.limit a.slots.stack) (greatest_index P.Inx.greatest) a.slots.steps.count };
 
     ghost invariant = { λ a. Shows P.Gen.number (S.items a.slots.stack)
         (option_map non_zero_usize_get a.slots.root) a.len
         (state_of P.Gen.number (S.items a.slots.stack) (option_map non_zero_usize_get a.slots.root)
         (P.Gen.number a.counter) (S.room a.slots.stack) (S.limit a.slots.stack)
-        (greatest_index P.Inx.greatest)) };
+        (greatest_index P.Inx.greatest) a.slots.steps.count) };
 }
 
 impl<P: Ptr, T, S: NonZeroInxGenericStack<ArenaSlot<P, T>>> ArenaTrait<P, T> for Arena<P, T, S> {
     ghost use Rattle.std.specs.Prelude.{refl};
-    ghost use Rattle.std.proofs.Common.{ap};
-    ghost use Rattle.triple_arena_traits.specs.EntryLaws.{slots-removed, limit_of-removed, fitting-removed, slots-invalidated, slots-cleared, slots-reallocated, slots-settled};
-    ghost use Rattle.triple_arena_traits.specs.LengthLaws.{len-with_value, len-removed, len-invalidated, len-reallocated, len-settled};
+    ghost use Rattle.std.proofs.Common.{ap, subst, sym};
+    ghost use Rattle.triple_arena_traits.specs.EntryLaws.{slots-cleared};
+    ghost use Rattle.triple_arena_traits.specs.LengthLaws.{len-with_value};
+    ghost use Rattle.triple_arena_traits.specs.WellFormedLaws.{IsWellFormed-touched};
+    ghost use Rattle.triple_arena.specs.TouchedLaws.{removed_slots, removed_len, removed_limit, removed_capacity, invalidated_slots, invalidated_len, reallocated_slots, reallocated_len, settled_slots, settled_len, Continues-unchanged};
 
     type PtrAdvancer = PtrAdvancer<P>;
 
@@ -128,15 +132,22 @@ impl<P: Ptr, T, S: NonZeroInxGenericStack<ArenaSlot<P, T>>> ArenaTrait<P, T> for
 
     ghost with_value = { with_value };
 
+    // the count of the slots that were touched
+    ghost steps = { λ s. s.steps };
+
+    // nothing else changed
+    ghost unchanged = { IsTouched };
+
     // the counter is raised, and the entry has it as its generation
     ghost invalidates = { λ old i new.
-        new ≡ invalidated (raise P.Gen.counting P.Gen.greatest) old i };
+        IsTouched (invalidated (raise P.Gen.counting P.Gen.greatest) old i) new };
 
     // the raised counter
     ghost renewed = { λ s _. raise P.Gen.counting P.Gen.greatest s.counter };
 
     // the counter is raised; the last slot goes, and any other becomes the first free one
-    ghost removes = { λ old i new. new ≡ removed (raise P.Gen.counting P.Gen.greatest) old i };
+    ghost removes = { λ old i new.
+        IsTouched (removed (raise P.Gen.counting P.Gen.greatest) old i) new };
 
     // the counter is the greatest generation
     ghost ending_wraps = { λ s. wraps P.Gen.counting P.Gen.greatest s.counter };
@@ -149,10 +160,10 @@ impl<P: Ptr, T, S: NonZeroInxGenericStack<ArenaSlot<P, T>>> ArenaTrait<P, T> for
         (wraps P.Gen.counting P.Gen.greatest s.counter) };
 
     // the free list is put in order, and then the room is changed as the stack's kind does it
-    ghost reallocates = { λ old m new. new ≡ reallocated S.kind old m };
+    ghost reallocates = { λ old m new. IsTouched (reallocated S.kind old m) new };
 
     // the free list is put in order
-    ghost settles = { λ old _ new. new ≡ tidied old };
+    ghost settles = { λ old _ new. IsTouched (tidied old) new };
 
     // the room that the stack's kind makes of it, once the free list is in order, is the old one
     ghost keeps_room = { KeepsRoom S.kind };
@@ -233,17 +244,17 @@ impl<P: Ptr, T, S: NonZeroInxGenericStack<ArenaSlot<P, T>>> ArenaTrait<P, T> for
     }
 
     fn find_first_inx_ptr(&self) -> Option<P> {
-        let inx = first_live::<P, T, ArenaSlot<P, T>, S>(&self.slots.stack)?;
+        let inx = first_live::<P, T, ArenaSlot<P, T>, S>(self.slots.stack())?;
         Some(self.ptr_at(inx))
     }
 
     fn find_last_inx_ptr(&self) -> Option<P> {
-        let inx = last_live::<P, T, ArenaSlot<P, T>, S>(&self.slots.stack)?;
+        let inx = last_live::<P, T, ArenaSlot<P, T>, S>(self.slots.stack())?;
         Some(self.ptr_at(inx))
     }
 
     fn advancer(&self) -> PtrAdvancer<P> {
-        PtrAdvancer::from(first_live::<P, T, ArenaSlot<P, T>, S>(&self.slots.stack))
+        PtrAdvancer::from(first_live::<P, T, ArenaSlot<P, T>, S>(self.slots.stack()))
     }
 
     fn advancer_inx(&self, inx: P::Inx, reverse: bool) -> PtrAdvancer<P> {
@@ -251,7 +262,7 @@ impl<P: Ptr, T, S: NonZeroInxGenericStack<ArenaSlot<P, T>>> ArenaTrait<P, T> for
     }
 
     fn invalidate(&mut self, p: P) -> InvalidationResult<P> {
-        let Some(inx) = self.find(p) else {
+        let Some(inx) = self.look_for(p) else {
             return InvalidationResult::InvalidPtr;
         };
         let (counter, wrapped) = P::Gen::generational_inc(self.counter);
@@ -261,7 +272,7 @@ impl<P: Ptr, T, S: NonZeroInxGenericStack<ArenaSlot<P, T>>> ArenaTrait<P, T> for
     }
 
     fn remove(&mut self, p: P) -> InvalidationResult<T> {
-        let Some(inx) = self.find(p) else {
+        let Some(inx) = self.look_for(p) else {
             return InvalidationResult::InvalidPtr;
         };
         let ((_generation, value), wrapped) = self.take(inx);
@@ -269,7 +280,7 @@ impl<P: Ptr, T, S: NonZeroInxGenericStack<ArenaSlot<P, T>>> ArenaTrait<P, T> for
     }
 
     fn remove_inx(&mut self, inx: P::Inx) -> InvalidationResult<(P::Gen, T)> {
-        let Some(inx) = self.find_inx(inx) else {
+        let Some(inx) = self.look_at(inx) else {
             return InvalidationResult::InvalidPtr;
         };
         let (taken, wrapped) = self.take(inx);
@@ -303,21 +314,48 @@ impl<P: Ptr, T, S: NonZeroInxGenericStack<ArenaSlot<P, T>>> ArenaTrait<P, T> for
 
     ghost fitting_with_value = { λ _ _ _. refl };
 
-    ghost slots_removed = { slots-removed (raise P.Gen.counting P.Gen.greatest) };
+    ghost slots_removed = { removed_slots (raise P.Gen.counting P.Gen.greatest) };
 
-    ghost len_removed = { len-removed (raise P.Gen.counting P.Gen.greatest) };
+    ghost len_removed = { removed_len (raise P.Gen.counting P.Gen.greatest) };
 
-    ghost limit_removed = { limit_of-removed (raise P.Gen.counting P.Gen.greatest) };
+    ghost limit_removed = { removed_limit (raise P.Gen.counting P.Gen.greatest) };
 
-    ghost fitting_removed = { fitting-removed (raise P.Gen.counting P.Gen.greatest) };
+    ghost fitting_removed = { removed_capacity (raise P.Gen.counting P.Gen.greatest) };
 
-    ghost slots_invalidated = { slots-invalidated (raise P.Gen.counting P.Gen.greatest) };
+    ghost slots_unchanged = { λ _ _ same. ap (λ s. s.slots) same.0 };
 
-    ghost len_invalidated = { len-invalidated (raise P.Gen.counting P.Gen.greatest) };
+    ghost valid_unchanged = { IsWellFormed-touched };
 
-    ghost limit_invalidated = { λ _ _ _. ap (λ s. s.limit) };
+    ghost limit_unchanged = { λ _ _ same. ap (λ s. s.limit) same.0 };
 
-    ghost fitting_invalidated = { λ _ _ _. ap capacity };
+    ghost fitting_unchanged = { λ _ _ same. ap capacity same.0 };
+
+    ghost generation_unchanged = { λ _ _ same. ap (λ s. Some s.counter) same.0 };
+
+    ghost renewed_unchanged = { λ _ _ _ same.
+        ap (λ s. raise P.Gen.counting P.Gen.greatest s.counter) same.0 };
+
+    ghost ending_wraps_unchanged = { λ _ _ same.
+        ap (λ s. wraps P.Gen.counting P.Gen.greatest s.counter) same.0 };
+
+    ghost clearing_wraps_unchanged = { λ _ _ same.
+        ap (λ s. cond (arena_len s == 0) false (wraps P.Gen.counting P.Gen.greatest s.counter))
+        same.0 };
+
+    ghost keeps_room_unchanged = { λ _ _ m same. subst (λ s. KeepsRoom S.kind s m) (sym same.0) };
+
+    ghost gets_room_unchanged = { λ _ _ m same.
+        subst (λ s. S.has_memory (reallocated S.kind s m).room) (sym same.0) };
+
+    ghost fits_unchanged = { Continues-unchanged };
+
+    ghost slots_invalidated = { invalidated_slots (raise P.Gen.counting P.Gen.greatest) };
+
+    ghost len_invalidated = { invalidated_len (raise P.Gen.counting P.Gen.greatest) };
+
+    ghost limit_invalidated = { λ _ _ _ same. ap (λ s. s.limit) same.0 };
+
+    ghost fitting_invalidated = { λ _ _ _ same. ap capacity same.0 };
 
     ghost slots_cleared = { slots-cleared (raise P.Gen.counting P.Gen.greatest) };
 
@@ -327,31 +365,33 @@ impl<P: Ptr, T, S: NonZeroInxGenericStack<ArenaSlot<P, T>>> ArenaTrait<P, T> for
 
     ghost fitting_cleared = { λ _ _. ap capacity };
 
-    ghost slots_reallocated = { slots-reallocated S.kind };
+    ghost slots_reallocated = { reallocated_slots S.kind };
 
-    ghost len_reallocated = { len-reallocated S.kind };
+    ghost len_reallocated = { reallocated_len S.kind };
 
-    ghost limit_reallocated = { λ _ _ _. ap (λ s. s.limit) };
+    ghost limit_reallocated = { λ _ _ _ same. ap (λ s. s.limit) same.0 };
 
-    ghost slots_settled = { λ old _. slots-settled old };
+    ghost slots_settled = { λ old _. settled_slots old };
 
-    ghost len_settled = { λ old _. len-settled old };
+    ghost len_settled = { λ old _. settled_len old };
 
-    ghost limit_settled = { λ _ _ _. ap (λ s. s.limit) };
+    ghost limit_settled = { λ _ _ _ same. ap (λ s. s.limit) same.0 };
 
-    ghost fitting_settled = { λ _ _ _. ap capacity };
+    ghost fitting_settled = { λ _ _ _ same. ap capacity same.0 };
 }
 
 impl<P: Ptr, T, S: NonZeroInxGenericStack<ArenaSlot<P, T>>> ArenaInsertTrait<P, T>
     for Arena<P, T, S> {
+    ghost use Rattle.std.proofs.Common.{ap};
     ghost use Rattle.triple_arena_traits.specs.EntryLaws.{slots-inserted, limit-inserted, fitting-inserted, slots-grown, limit-grown, next-grown, well_formed-grown, fitting-grown, same-grown, generation-next};
     ghost use Rattle.triple_arena_traits.specs.LengthLaws.{len-inserted, len-grown};
+    ghost use Rattle.triple_arena.specs.TouchedLaws.{grown_touched};
 
     // the first free index, or one past the last slot, under the counter
     ghost next = { next_pointer };
 
     // the value stands there, and the index is free no longer
-    ghost inserted = { inserted };
+    ghost inserted = { λ s value. touched (insertion_steps s) (inserted s value) };
 
     // a full arena has room for 4 slots or for twice its capacity, as far as the limit allows and
     // there are indexes
@@ -387,6 +427,10 @@ impl<P: Ptr, T, S: NonZeroInxGenericStack<ArenaSlot<P, T>>> ArenaInsertTrait<P, 
     ghost limit_inserted = { limit-inserted };
 
     ghost fitting_inserted = { fitting-inserted };
+
+    ghost next_unchanged = { λ _ _ same. ap next_pointer same.0 };
+
+    ghost grown_unchanged = { grown_touched S.kind };
 
     ghost same_grown = { same-grown S.kind };
 
@@ -467,7 +511,7 @@ impl<P: Ptr, T, S: NonZeroInxGenericStack<ArenaSlot<P, T>>> Arena<P, T, S> {
     /// Gives up the free slots past the last entry, and puts the other free indexes in rising
     /// order.
     pub fn canonicalize_freelist(&mut self)
-        ensures state { self.new ≡ tidied self.old }
+        ensures state { IsTouched (tidied self.old) self.new }
         ensures in_order { IsInOrder self.old self.new }
         ensures fresh { Continues Fits self.old (resizing ∷ []) self.new }
     {
@@ -477,10 +521,11 @@ impl<P: Ptr, T, S: NonZeroInxGenericStack<ArenaSlot<P, T>>> Arena<P, T, S> {
     /// Gives up the free slots past the last entry. The other free indexes keep their order, and no
     /// entry moves.
     ///
-    /// It takes no memory. Where the last slot is free it touches each free slot, and else that
-    /// slot alone.
+    /// It takes no memory, and touches at most 6 slots for each that it gives up, and 2 more.
     pub fn remove_free_end_slots(&mut self)
-        ensures state { self.new ≡ without_free_end self.old }
+        ensures state { IsTouched (without_free_end self.old) self.new }
+        ensures bounded { RisesByAtMost (6 * (slot_count self.old - slot_count self.new) + 2)
+            self.old.steps self.new.steps }
         ensures kept { (q : Pointer) → look_up self.new q ≡ look_up self.old q }
         ensures same_len { arena_len self.new ≡ arena_len self.old }
         ensures same_capacity { capacity self.new ≡ capacity self.old }
@@ -494,16 +539,18 @@ impl<P: Ptr, T, S: NonZeroInxGenericStack<ArenaSlot<P, T>>> Arena<P, T, S> {
     pub fn freelist_root(&self) -> Option<P::Inx>
         ensures { option_map P.Inx.number result ≡ slice_get self.now.free 0 }
     {
-        P::Inx::try_from_usize(self.slots.root?)
+        P::Inx::try_from_usize(self.slots.root()?)
     }
 
-    /// The stack of the slots.
+    /// The stack of the slots. The free ones link to each other in the order in which insertion takes
+    /// them, from `freelist_root` on and back.
     pub fn backing(&self) -> &S
         ensures slots { map (entry_of P.Gen.number) (S.items result.now) ≡ self.now.slots }
         ensures room { S.room result.now ≡ self.now.room }
         ensures limit { S.limit result.now ≡ self.now.limit }
+        ensures links { IsLinked (S.items result.now) (slice_get self.now.free 0) self.now.free }
     {
-        &self.slots.stack
+        self.slots.stack()
     }
 
     // An arena over a stack that has no item.
@@ -526,7 +573,7 @@ impl<P: Ptr, T, S: NonZeroInxGenericStack<ArenaSlot<P, T>>> Arena<P, T, S> {
         ensures within { IsSome (entry self.now (P.Inx.number inx))
             → P.Inx.number inx ≤ greatest_index P.Inx.greatest }
     {
-        slot_at(&self.slots.stack, P::Inx::try_into_usize(inx)?)
+        slot_at(self.slots.stack(), P::Inx::try_into_usize(inx)?)
     }
 
     // The index of a pointer, if the pointer is valid.
@@ -537,6 +584,26 @@ impl<P: Ptr, T, S: NonZeroInxGenericStack<ArenaSlot<P, T>>> Arena<P, T, S> {
         let slot = self.slot(p.inx())?;
         slot.value_under(p.generation())?;
         P::Inx::try_into_usize(p.inx())
+    }
+
+    // The index of a pointer, if the pointer is valid. It touches at most one slot.
+    fn look_for(&mut self, p: P) -> Option<NonZeroUsize>
+        ensures index { IfSome result (λ inx. non_zero_usize_get inx ≡ (P.numbers p).0) }
+        ensures live { is_some result ≡ is_some (look_up self.old (P.numbers p)) }
+        ensures unchanged { IsTouched self.old self.new }
+        ensures steps { self.new.steps ≤ self.old.steps + 1 }
+    {
+        self.slots.find(p)
+    }
+
+    // An index, if an entry stands there. It touches at most one slot.
+    fn look_at(&mut self, inx: P::Inx) -> Option<NonZeroUsize>
+        ensures index { IfSome result (λ i. non_zero_usize_get i ≡ P.Inx.number inx) }
+        ensures live { is_some result ≡ is_some (entry self.old (P.Inx.number inx)) }
+        ensures unchanged { IsTouched self.old self.new }
+        ensures steps { self.new.steps ≤ self.old.steps + 1 }
+    {
+        self.slots.find_inx(inx)
     }
 
     // An index, if an entry stands there.
@@ -556,7 +623,7 @@ impl<P: Ptr, T, S: NonZeroInxGenericStack<ArenaSlot<P, T>>> Arena<P, T, S> {
         ensures { (h : ℕ) × (v : T) × (entry self.now (non_zero_usize_get inx) ≡ Some (h, v))
             × (P.numbers result ≡ (non_zero_usize_get inx, h)) }
     {
-        ptr_at::<P, T, ArenaSlot<P, T>, S>(&self.slots.stack, inx)
+        ptr_at::<P, T, ArenaSlot<P, T>, S>(self.slots.stack(), inx)
     }
 
     // The numbers of two indexes that name two slots.
@@ -570,7 +637,7 @@ impl<P: Ptr, T, S: NonZeroInxGenericStack<ArenaSlot<P, T>>> Arena<P, T, S> {
         ensures numbers { IfOk result (λ both. (non_zero_usize_get both.0 ≡ P.Inx.number first)
             × (non_zero_usize_get both.1 ≡ P.Inx.number second)) }
     {
-        let stack = &self.slots.stack;
+        let stack = self.slots.stack();
         let (Some(first), Some(second)) = (
             P::Inx::try_into_usize(first),
             P::Inx::try_into_usize(second),
@@ -598,7 +665,7 @@ impl<P: Ptr, T, S: NonZeroInxGenericStack<ArenaSlot<P, T>>> Arena<P, T, S> {
             result (λ x y. self.new ≡ with_value
             (with_value self.old (non_zero_usize_get first) x) (non_zero_usize_get second) y) }
     {
-        work_on_two::<P, T, ArenaSlot<P, T>, S, R, C>(&mut self.slots.stack, first, second, call)
+        self.slots.work_on_two(first, second, call)
     }
 
     // How many slots there are.
@@ -606,7 +673,7 @@ impl<P: Ptr, T, S: NonZeroInxGenericStack<ArenaSlot<P, T>>> Arena<P, T, S> {
         ensures value { result ≡ slot_count self.now }
         ensures indexed { result ≤ greatest_index P.Inx.greatest }
     {
-        self.slots.stack.len()
+        self.slots.len()
     }
 
     // The slots, so that their values alone can be written.
@@ -628,8 +695,9 @@ impl<P: Ptr, T, S: NonZeroInxGenericStack<ArenaSlot<P, T>>> Arena<P, T, S> {
         ensures entry { entry self.old (non_zero_usize_get inx)
             ≡ Some (P.Gen.number result.0.0, result.0.1) }
         ensures wrapped { result.1 ≡ wraps P.Gen.counting P.Gen.greatest self.old.counter }
-        ensures state { self.new ≡ removed (raise P.Gen.counting P.Gen.greatest) self.old
-            (non_zero_usize_get inx) }
+        ensures state { IsTouched (removed (raise P.Gen.counting P.Gen.greatest) self.old
+            (non_zero_usize_get inx)) self.new }
+        ensures steps { self.new.steps ≤ self.old.steps + 2 }
     {
         let taken = self.slots.vacate(inx);
         self.len -= 1;

@@ -6,7 +6,7 @@ ghost use Rattle.triple_arena_ptr.specs.Numbers.{greatest_index};
 ghost use Rattle.triple_arena_ptr.specs.Pointers.{Pointer};
 ghost use Rattle.triple_arena_stack.specs.Capacity.{IsFullAtLimit, CanGrow};
 ghost use Rattle.triple_arena_traits.specs.ArenaState.{arena_len, capacity, entry, IsWellFormed};
-ghost use Rattle.triple_arena_traits.specs.Insertion.{next_pointer, inserted};
+ghost use Rattle.triple_arena_traits.specs.Insertion.{next_pointer};
 ghost use Rattle.triple_arena_traits.specs.Capacity.{grown};
 ghost use Rattle.triple_arena_traits.specs.Histories.{insertion, Fits, Continues};
 ghost use Rattle.triple_arena.specs.InsertEntry.{entry_arena, entry_reference, entry_lender, entry_rests};
@@ -90,10 +90,11 @@ impl<'a, P: Ptr, T, S: NonZeroInxGenericStack<ArenaSlot<P, T>>> ArenaInsertEntry
             ≡ None }
         ensures* writes_back { sem 𝓛 (Lends
             ⟦<Arena<P, T, S> as LendingArena>⟧.arena_row
-            T.row (entry_reference self.entry) result (inserted (entry_arena self.entry))) }
+            T.row (entry_reference self.entry) result
+            (⟦<Arena<P, T, S> as ArenaInsertTrait<P, T>>⟧.inserted (entry_arena self.entry))) }
         ensures fresh { (value : T) → Continues Fits (entry_arena self.entry)
             (insertion (next_pointer (entry_arena self.entry)) ∷ [])
-            (inserted (entry_arena self.entry) value) }
+            (⟦<Arena<P, T, S> as ArenaInsertTrait<P, T>>⟧.inserted (entry_arena self.entry) value) }
     {
         let ArenaInsertEntry { arena } = self;
         let p = arena.insert_reserved(t);

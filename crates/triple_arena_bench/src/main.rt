@@ -3,13 +3,15 @@
 
 mod arena;
 mod compaction;
+mod end_slots;
 mod entry;
 mod stack;
 mod timing;
 
 use std::env;
 
-const USAGE: &str = "usage: triple_arena_bench stack | arena SIZES... | compact SIZES...";
+const USAGE: &str =
+    "usage: triple_arena_bench stack | arena SIZES... | compact SIZES... | ends SIZES...";
 
 fn main(rt: HostRuntime) -> anyhow::Result<()> {
     let mut args = env::args(&rt)?.skip(1);
@@ -23,6 +25,11 @@ fn main(rt: HostRuntime) -> anyhow::Result<()> {
         Some(what) if what.as_str() == "compact" => {
             for size in args {
                 compaction::run(&rt, rt.alloc(), size.as_str().parse()?)?;
+            }
+        }
+        Some(what) if what.as_str() == "ends" => {
+            for size in args {
+                end_slots::run(&rt, rt.alloc(), size.as_str().parse()?)?;
             }
         }
         _ => println!(rt; "{USAGE}")?,

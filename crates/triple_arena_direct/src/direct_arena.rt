@@ -79,7 +79,7 @@ impl<P: Ptr, T, S: NonZeroInxGenericStack<DirectSlot<P, T>>> Model for DirectAre
 impl<P: Ptr, T, S: NonZeroInxGenericStack<DirectSlot<P, T>>> ArenaTrait<P, T>
     for DirectArena<P, T, S> {
     ghost use Rattle.std.specs.Prelude.{refl};
-    ghost use Rattle.std.proofs.Common.{ap};
+    ghost use Rattle.std.proofs.Common.{ap, subst, sym};
     ghost use Rattle.triple_arena_direct.specs.StepLaws.{len-with_value, slots-removed, len-removed, slots-kept, slots-cleared, slots-settled, len-settled, slots-reallocated, len-reallocated};
 
     type PtrAdvancer = PtrAdvancer<P>;
@@ -112,6 +112,11 @@ impl<P: Ptr, T, S: NonZeroInxGenericStack<DirectSlot<P, T>>> ArenaTrait<P, T>
     ghost fits = { λ _ _. ⊥ };
 
     ghost with_value = { with_value };
+
+    // nothing is counted
+    ghost steps = { λ _. 0 };
+
+    ghost unchanged = { λ old new. new ≡ old };
 
     // all stays, the generation too
     ghost invalidates = { λ old _ new. new ≡ old };
@@ -286,6 +291,30 @@ impl<P: Ptr, T, S: NonZeroInxGenericStack<DirectSlot<P, T>>> ArenaTrait<P, T>
     ghost limit_removed = { λ _ _ _. ap (λ s. s.limit) };
 
     ghost fitting_removed = { λ _ _ _. ap direct_capacity };
+
+    ghost slots_unchanged = { λ _ _. ap (λ s. s.slots) };
+
+    ghost valid_unchanged = { λ _ _ same. subst SlotsFit (sym same) };
+
+    ghost limit_unchanged = { λ _ _. ap (λ s. s.limit) };
+
+    ghost fitting_unchanged = { λ _ _. ap direct_capacity };
+
+    ghost generation_unchanged = { λ _ _ _. refl };
+
+    ghost renewed_unchanged = { λ _ _ i. ap (λ s. generation_of (entry_in s.slots i)) };
+
+    ghost ending_wraps_unchanged = { λ _ _ _. refl };
+
+    ghost clearing_wraps_unchanged = { λ _ _ _. refl };
+
+    ghost keeps_room_unchanged = { λ _ _ m same.
+        subst (λ s. (reallocated S.kind s m).room ≡ s.room) (sym same) };
+
+    ghost gets_room_unchanged = { λ _ _ m same.
+        subst (λ s. S.has_memory (reallocated S.kind s m).room) (sym same) };
+
+    ghost fits_unchanged = { λ _ _ _ _ none. none };
 
     ghost slots_invalidated = { slots-kept };
 

@@ -2,10 +2,12 @@
 //!
 //! The clauses speak of look-ups alone: what each pointer finds before a call, and after it.
 
-ghost use Rattle.std.specs.Prelude.{◌≡◌, ◌≢◌, ◌-◌, None, Some, IfOk, OnErr, IsSome, is_some, option_copied};
+ghost use Rattle.std.specs.Prelude.{◌≡◌, ◌≢◌, ◌+◌, ◌*◌, ◌-◌, None, Some, IfOk, OnErr, IsSome, is_some, false, option_copied};
 ghost use Rattle.std.specs.Option.{option_map, option_and_then};
 ghost use Rattle.triple_arena_ptr.specs.Pointers.{Pointer};
-ghost use Rattle.triple_arena_traits.specs.ArenaState.{look_up, entry};
+ghost use Rattle.triple_arena_traits.specs.Items.{item};
+ghost use Rattle.triple_arena_traits.specs.ArenaState.{look_up, entry, slot_count, is_free};
+ghost use Rattle.triple_arena_traits.specs.SlotSteps.{RisesByAtMost};
 ghost use Rattle.triple_arena_traits.specs.Values.{SamePointers};
 ghost use Rattle.triple_arena_entity_uses.specs.Entities.{numbers, spawned, damaged, healed};
 
@@ -67,13 +69,25 @@ impl<S: NonZeroInxGenericStack<ArenaSlot<P0, Entity>>> EntityTable<S> {
     }
 
     /// Takes an entity away, and tells whether there was one. Its children keep its pointer, which
-    /// finds nothing then.
+    /// finds nothing then. However many entities there are, at most 6 slots are touched.
     pub fn despawn(&mut self, p: P0) -> bool
         ensures answer { result ≡ is_some (look_up self.old (numbers p)) }
         ensures gone { look_up self.new (numbers p) ≡ None }
         ensures others { (q : Pointer) → q ≢ numbers p → look_up self.new q ≡ look_up self.old q }
+        ensures bounded { RisesByAtMost 6 self.old.steps self.new.steps }
     {
         self.entities.remove(p).allow().is_some()
+    }
+
+    /// Gives up the slots past the last entity, and touches at most 6 slots for each of these, and 2
+    /// more. Each entity stays under its pointer.
+    pub fn trim(&mut self)
+        ensures kept { (q : Pointer) → look_up self.new q ≡ look_up self.old q }
+        ensures trimmed { is_free (item self.new.slots (slot_count self.new)) ≡ false }
+        ensures bounded { RisesByAtMost (6 * (slot_count self.old - slot_count self.new) + 2)
+            self.old.steps self.new.steps }
+    {
+        self.entities.remove_free_end_slots();
     }
 
     /// Takes health from an entity, and tells what is left; none where there is no such entity.

@@ -2,6 +2,7 @@ mod LineLaws
 mod Mapped
 mod Renaming
 mod Shown
+mod Uncounted
 mod TableNames
 mod Rows
 mod Soundness

@@ -15,7 +15,8 @@ use Rattle.triple_arena_traits.specs.EntryLaws.{slots-removed, slots-invalidated
 use Rattle.triple_arena_traits.specs.Walks.{keys}
 use Rattle.triple_arena_traits.specs.Histories.{has, removal, invalidation, clearing, Continues, Fits}
 use Rattle.triple_arena_traits.specs.ItemLaws.{length-with_item, item-map}
-use Rattle.triple_arena_traits.specs.WellFormedLaws.{live_item, IsWellFormed-removed, IsWellFormed-with_entry, IsWellFormed-counter, IsWellFormed-empty, room-removed, limit-removed, greatest-removed, with_value_is, with_generation_is}
+use Rattle.triple_arena_traits.specs.StepLaws.{cleared_stays}
+use Rattle.triple_arena_traits.specs.WellFormedLaws.{live_item, IsWellFormed-removed, IsWellFormed-with_entry, IsWellFormed-counter, room-removed, limit-removed, greatest-removed, with_value_is, with_generation_is}
 use Rattle.triple_arena_traits.specs.PointerListLaws.{has-append}
 use Rattle.triple_arena_traits.specs.HistoryLaws.{Continues-written, Continues-none, Continues-removed, Continues-invalidated, Continues-cleared}
 use Rattle.triple_arena_commands.specs.declared.command.Command.{Command}
@@ -298,7 +299,7 @@ module _ {X : Type 0} (kind : StackKind) (counting : Bool) (greatest : ℕ) (cou
         SoundOver-from kind (record s { arena = t })
             (subst (TableSound t) (append-nil s.table) (TableSound-given kind s sound (clearing (keys s.arena.slots)) t continues))
             (λ q l datum holds. absurd (let none = gone q in cc))
-            (IsWellFormed-empty s.arena.room s.arena.limit s.arena.greatest t.counter)
+            (cleared_stays (raise counting greatest) s.arena)
             sound.of_kind,
         continues,
       ))

@@ -11,6 +11,10 @@ use Rattle.triple_arena_session.specs.SessionState.{SessionState, node_of}
 use Rattle.triple_arena_session.specs.SessionRun.{IsStep}
 use Rattle.triple_arena_session.specs.Strict.{is_refused}
 
+-- the same arena, and no slot is counted
+abbrev pub uncounted : {T : Type 0} → ArenaState T → ArenaState T
+uncounted s = record s { steps = 0 }
+
 -- the session with this arena, and with a table of these pointers and this room
 abbrev pub session_of : {X P : Type 0} → (P → Pointer) → ArenaState (Node X P) → List P → ℕ → SessionState X
 session_of pointer arena table room = record { arena = map_values (node_of pointer) arena; table = map pointer table; table_room = room }

@@ -16,6 +16,7 @@ ghost use Rattle.triple_arena_traits.specs.Capacity.{reallocated, KeepsRoom, gro
 ghost use Rattle.triple_arena_traits.specs.Compression.{compressed, raised_if_any, wraps_after, rank};
 ghost use Rattle.triple_arena_traits.specs.Walks.{values};
 ghost use Rattle.triple_arena_renaming.specs.Renaming.{MapsPointers, first_unresolved, AreRenamed, Refuses};
+ghost use Rattle.triple_arena_session.specs.SessionLayout.{uncounted};
 
 use std::alloc::Global;
 use triple_arena::{Arena, ArenaInsertTrait, ArenaSlot, ArenaTrait};
@@ -31,7 +32,7 @@ use triple_arena_strict::{StrictArena, StrictCompactError, StrictError};
 /// The arena of a session. What its calls answer and leave is said of the state of an `Arena`. A strict
 /// one refuses to wrap its counter, and its session makes no call that would.
 pub(crate) trait SessionArena<P: Ptr, T, S: NonZeroInxGenericStack<ArenaSlot<P, T>>>: Sized {
-    // what it holds
+    // what it holds, where no slot is counted
     ghost state: { Self → ArenaState T };
 
     // it refuses to wrap its counter
@@ -43,7 +44,7 @@ pub(crate) trait SessionArena<P: Ptr, T, S: NonZeroInxGenericStack<ArenaSlot<P, 
 
     /// The same as an `Arena`.
     fn arena(&self) -> &Arena<P, T, S>
-        ensures { result.now ≡ state self.now };
+        ensures { uncounted result.now ≡ state self.now };
 
     /// The value under `p`; none exactly where `p` is invalid.
     fn get(&self, p: P) -> Option<&T>
@@ -182,7 +183,7 @@ pub(crate) trait SessionArena<P: Ptr, T, S: NonZeroInxGenericStack<ArenaSlot<P, 
 
 impl<P: Ptr, T, S: NonZeroInxGenericStack<ArenaSlot<P, T>>> SessionArena<P, T, S>
     for Arena<P, T, S> {
-    ghost state = { λ s. s };
+    ghost state = { uncounted };
 
     ghost strict = { false };
 
@@ -257,7 +258,7 @@ impl<P: Ptr, T, S: NonZeroInxGenericStack<ArenaSlot<P, T>>> SessionArena<P, T, S
 
 impl<P: Ptr, T, S: NonZeroInxGenericStack<ArenaSlot<P, T>>> SessionArena<P, T, S>
     for StrictArena<P, T, S> {
-    ghost state = { λ s. s };
+    ghost state = { uncounted };
 
     ghost strict = { true };
 

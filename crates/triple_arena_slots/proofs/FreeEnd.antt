@@ -1,60 +1,124 @@
 -- How the free slots at the end go, and leave the free list.
-use Rattle.std.proofs.Common.{◌≡◌, ℕ, ◌==◌, false, List, [], ◌∷◌, map, length, take, reverse, Option, Some, None, cond, sym, ap, subst, ◌∙◌, inl, inr, arith}
+use Rattle.std.proofs.Common.{◌≡◌, ◌≢◌, ℕ, ◌+◌, ◌-◌, ◌<◌, ◌≤◌, true, false, List, [], ◌∷◌, ◌++◌, map, length, take, Option, Some, None, count_by, cond, is_some, refl, sym, ap, subst, ◌∙◌, inl, inr, not, true≢false, arith}
 use Rattle.std.proofs.lemmas.Bool.{cases_lt}
-use Rattle.std.proofs.lemmas.List.{length-map}
+use Rattle.std.proofs.lemmas.List.{length-map, length-take-le}
+use Rattle.std.proofs.lemmas.List.Sums.{sum_by_push}
 use Rattle.triple_arena_traits.specs.Items.{item}
-use Rattle.triple_arena_traits.specs.ArenaState.{ArenaState, is_free}
+use Rattle.triple_arena_traits.specs.ArenaState.{ArenaState, slot_count, is_free, IsWellFormed}
 use Rattle.triple_arena_traits.specs.FreeList.{trimmed, up_to, without_free_end}
-use Rattle.triple_arena_slots.specs.Slot.{entry_of}
-use Rattle.triple_arena_traits.specs.LengthLaws.{trimmed_live}
-use Rattle.triple_arena_slots.specs.Layout.{next_of, after, IsLinked, IsFreeList, Shows}
+use Rattle.triple_arena_slots.specs.Slot.{entry_of, next_free, previous_free}
+use Rattle.triple_arena_slots.specs.Layout.{IsLinked, Leaves, Shows, without_last}
+use Rattle.triple_arena_slots.specs.Link.{Link}
 use Rattle.triple_arena_slots.specs.declared.slot.ArenaSlot.{ArenaSlot}
-use Rattle.triple_arena_traits.specs.ItemLaws.{item-take}
-use Rattle.triple_arena_traits.proofs.FreeEnd.{without_none, IsWellFormed-without_free_end}
-use Rattle.triple_arena_traits.proofs.UpTo.{up_to-cons, up_to-past, turned_twice}
+use Rattle.triple_arena_slots.specs.declared.slot.ArenaSlot.TheVariants.{Free}
+use Rattle.triple_arena_traits.specs.ItemLaws.{item_within, item_past, item-take, split_last, item-map_some}
+use Rattle.triple_arena_traits.specs.FreeListLaws.{trimmed_popped, trimmed_length}
+use Rattle.triple_arena_traits.proofs.FreeEnd.{without_none}
+use Rattle.triple_arena_traits.proofs.UpTo.{up_to-cons, up_to-past, up_to_all, count-up_to, count-past, length_more}
+use Rattle.triple_arena_slots.proofs.TwoWay.{times, up_to-split}
+use Rattle.triple_arena_slots.proofs.Links.{free_at, left_linked}
 
-module _ {P T I G : Type 0} where
-  -- the links between slots of a front are those of all
-  IsLinked-front : (es : List (ArenaSlot P T I G)) (n : ℕ) (from : Option ℕ) (free : List ℕ) → IsLinked es from (up_to n free) → IsLinked (take n es) from (up_to n free)
-  IsLinked-front es n from [] linked = linked
-  IsLinked-front es n from (i ∷ rest) linked =
-      elim (cases_lt n i) [
-        | inl past ↦
-            let same = up_to-past n i rest past in
-            subst (IsLinked (take n es) from) (sym same) (IsLinked-front es n from rest (subst (IsLinked es from) same linked))
-        | inr within ↦
-            let same = up_to-cons n i rest within in
-            let here : (from ≡ Some i) × IsLinked es (after es i) (up_to n rest) = subst (IsLinked es from) same linked in
-            let kept : after (take n es) i ≡ after es i = ap (λ o. cond (next_of o i == i) None (Some (next_of o i))) (item-take n es i within) in
-            subst (IsLinked (take n es) from) (sym same) (here.0, rw kept (IsLinked-front es n (after es i) rest here.1))
-      ]
+-- of the indexes up to a number those up to a lower one are left
+up_to-less : (n m : ℕ) (xs : List ℕ) → n ≤ m → up_to n (up_to m xs) ≡ up_to n xs
+up_to-less n m [] h = refl
+up_to-less n m (x ∷ xs) h =
+    elim (cases_lt m x) [
+      | inl past ↦ rw (up_to-past m x xs past, up_to-past n x xs (omega arith)) (up_to-less n m xs h)
+      | inr within ↦ rw (up_to-cons m x xs within) (elim (cases_lt n x) [
+        | inl beyond ↦ rw (up_to-past n x (up_to m xs) beyond, up_to-past n x xs beyond) (up_to-less n m xs h)
+        | inr below ↦ rw (up_to-cons n x (up_to m xs) below, up_to-cons n x xs below) (ap (λ l. x ∷ l) (up_to-less n m xs h))
+      ])
+    ]
 
-  module _ (number : G → ℕ) where
-    -- the free list of an arena
-    pub IsFreeList-shown : (es : List (ArenaSlot P T I G)) (root : Option ℕ) (len : ℕ) (s : ArenaState T) → Shows number es root len s → IsFreeList number es root s.free
-    IsFreeList-shown es root len s shows =
-        record {
-          linked = shows.linked;
-          once = λ i. rw shows.slots (omega (arith, shows.well.free_once i));
-          fits = omega (arith, shows.well.total, length-map es (entry_of number), ap length shows.slots);
-        }
+module _ {T : Type 0} where
+  -- without a last slot that is free an arena stays well formed
+  IsWellFormed-without_last : (s : ArenaState T) → IsWellFormed s → item s.slots (slot_count s) ≡ Some None → IsWellFormed (without_last s)
+  IsWellFormed-without_last s well vacant =
+      let n = slot_count s in
+      let within = item_within s.slots n None vacant in
+      let rest : List (Option (ℕ × T)) = take (n - 1) s.slots in
+      let split : s.slots ≡ rest ++ None ∷ [] = split_last s.slots None vacant in
+      let shorter = length-take-le (n - 1) s.slots (omega arith) in
+      let live = ap (count_by is_some) split ∙ sum_by_push (λ o. cond (is_some o) 1 0) rest None in
+      let once : times n s.free ≡ 1 = rw vacant at (well.free_once n) in
+      let all : up_to n s.free ≡ s.free = up_to_all n s.free (λ i h. rw (item_past s.slots i h) at (well.free_once i)) in
+      let m : n - 1 + 1 ≡ n = omega (arith, within) in
+      let fewer = length_more (n - 1) 1 s.free (λ i h l.
+      let here : n ≡ i = omega (arith, h, l, m) in
+      subst (λ k. times k s.free ≡ 1) here once) in
+      record {
+        free_once = λ j. elim (cases_lt (n - 1) j) [
+          | inl past ↦ rw (item_past rest j (omega (arith, shorter, past))) (count-past (n - 1) j s.free past)
+          | inr below ↦ rw (item-take (n - 1) s.slots j below) (count-up_to (n - 1) j s.free below ∙ well.free_once j)
+        ];
+        total = omega (arith, well.total, live, shorter, rw (m, all) at fewer);
+        fits = omega (arith, well.fits, shorter);
+      }
 
-    -- slots of which the last has an entry are left as they are
-    pub Shows-ended : (es : List (ArenaSlot P T I G)) (root : Option ℕ) (len : ℕ) (s : ArenaState T) → is_free (item (map (entry_of number) es) (length (map (entry_of number) es))) ≡ false → Shows number es root len s → Shows number es root len (without_free_end s)
-    Shows-ended es root len s live shows =
-        rw (without_none s shows.well (ap (λ xs. is_free (item xs (length xs))) (sym shows.slots) ∙ live)) shows
+  -- and its free end is the same
+  pub ends_same : (s : ArenaState T) → item s.slots (slot_count s) ≡ Some None → without_free_end (without_last s) ≡ without_free_end s
+  ends_same s vacant =
+      let same = trimmed_popped s.slots (ap is_free vacant) in
+      let less = trimmed_length (take (slot_count s - 1) s.slots) in
+      let kept = length-take-le (slot_count s - 1) s.slots (omega arith) in
+      let free : up_to (length (trimmed (take (slot_count s - 1) s.slots))) (up_to (slot_count s - 1) s.free) ≡ up_to (length (trimmed (take (slot_count s - 1) s.slots))) s.free = up_to-less (length (trimmed (take (slot_count s - 1) s.slots))) (slot_count s - 1) s.free (omega (arith, less, kept)) in
+      rw free (rw same refl)
 
-    -- the slots end with the last entry, and the others of the free list are linked in their order
-    pub Shows-without_free_end : (old es es1 : List (ArenaSlot P T I G)) (root root1 : Option ℕ) (len end : ℕ) (s : ArenaState T) → Shows number old root len s → end ≡ length (trimmed (map (entry_of number) old)) → map (entry_of number) es ≡ map (entry_of number) old → IsFreeList number es root1 (reverse (up_to end (reverse (up_to end s.free)))) → es1 ≡ take (length (trimmed (map (entry_of number) es))) es → map (entry_of number) es1 ≡ trimmed (map (entry_of number) es) → Shows number es1 root1 len (without_free_end s)
-    Shows-without_free_end old es es1 root root1 len end s shows ends same list front cut =
-        let slots = same ∙ shows.slots in
-        let last : end ≡ length (trimmed s.slots) = ends ∙ ap (λ xs. length (trimmed xs)) shows.slots in
-        let linked = subst (IsLinked es root1) (turned_twice end s.free) list.linked in
-        let kept = IsLinked-front es end root1 s.free linked in
-        let taken : take end es ≡ es1 = ap (λ n. take n es) (last ∙ ap (λ xs. length (trimmed xs)) (sym slots)) ∙ sym front in
-        record {
-          slots = cut ∙ ap trimmed slots;
-          linked = subst (λ n. IsLinked es1 root1 (up_to n s.free)) last (subst (λ xs. IsLinked xs root1 (up_to end s.free)) taken kept);
-          counted = shows.counted ∙ sym (trimmed_live s.slots);
-          well = IsWellFormed-without_free_end s shows.well;
-        }
+-- every other item stays where the last is popped
+pub item-popped : {A : Type 0} (xs : List A) (i : ℕ) → i ≡ length xs → (j : ℕ) → j ≢ i → item (take (length xs - 1) xs) j ≡ item xs j
+item-popped xs i last j other =
+    elim (cases_lt (length xs) j) [
+      | inl past ↦ item_past (take (length xs - 1) xs) j (omega (arith, past, length-take-le (length xs - 1) xs (omega arith))) ∙ sym (item_past xs j past)
+      | inr within ↦ item-take (length xs - 1) xs j (omega (arith, within, other, last))
+    ]
+
+module _ {T : Type 0} where
+  pub vacant_is : (o : Option (Option (ℕ × T))) → is_free o ≡ true → o ≡ Some None
+  vacant_is None e = absurd (true≢false (sym e))
+  vacant_is (Some None) e = refl
+  vacant_is (Some (Some x)) e = absurd (true≢false (sym e))
+
+module _ {P T I G : Type 0} (number : G → ℕ) where
+  pub free_or_live : (es : List (ArenaSlot P T I G)) (i : ℕ) (slot : ArenaSlot P T I G) → item es i ≡ Some slot → not (is_some (entry_of number slot)) ≡ is_free (item (map (entry_of number) es) i)
+  free_or_live es i slot found = by_entry (entry_of number slot) (item-map_some (entry_of number) es i slot found)
+    where
+      by_entry : (o : Option (ℕ × T)) → item (map (entry_of number) es) i ≡ Some o → not (is_some o) ≡ is_free (item (map (entry_of number) es) i)
+      by_entry None h = sym (ap is_free h)
+      by_entry (Some e) h = sym (ap is_free h)
+
+  -- the last slot of the state is free where that of the slots is
+  pub last_vacant : (es : List (ArenaSlot P T I G)) (root : Option ℕ) (len : ℕ) (s : ArenaState T) → item (map (entry_of number) es) (length es) ≡ Some None → Shows number es root len s → item s.slots (slot_count s) ≡ Some None
+  last_vacant es root len s vacant shows =
+      let size : length es ≡ slot_count s = sym (length-map es (entry_of number)) ∙ ap length shows.slots in
+      rw size at (ap (λ xs. item xs (length es)) (sym shows.slots) ∙ vacant)
+
+  -- the last slot is popped, and left the list where it stood
+  pub Shows-without_last : (es es1 es2 : List (ArenaSlot P T I G)) (root root2 : Option ℕ) (i len : ℕ) (link : Link) (s : ArenaState T) → i ≡ length es → item es i ≡ Some (Free link) → ((j : ℕ) → j ≢ i → item es1 j ≡ item es j) → map (entry_of number) es1 ≡ take (length es - 1) (map (entry_of number) es) → Leaves number es1 es2 root root2 (next_free link i) (previous_free link i) → Shows number es root len s → Shows number es2 root2 len (without_last s)
+  Shows-without_last es es1 es2 root root2 i len link s last found same popped leaves shows =
+      let size : length es ≡ slot_count s = sym (length-map es (entry_of number)) ∙ ap length shows.slots in
+      let at = free_at number es root i len link s found shows in
+      let positive = (item_within es i (Free link) found).0 in
+      let vacant : item s.slots (slot_count s) ≡ Some None = last_vacant es root len s (ap (item (map (entry_of number) es)) (sym last) ∙ item-map_some (entry_of number) es i (Free link) found) shows in
+      let here : i ≡ slot_count s - 1 + 1 = omega (arith, last, size, positive) in
+      let greatest : (j : ℕ) → i < j → times j (at.in_front ++ i ∷ at.behind) ≡ 0 =
+      λ j h. ap (times j) (sym at.split) ∙ rw (item_past s.slots j (omega (arith, h, last, size))) at (shows.well.free_once j) in
+      let free : up_to (slot_count s - 1) s.free ≡ at.in_front ++ at.behind = ap (up_to (slot_count s - 1)) at.split ∙ up_to-split (slot_count s - 1) i at.in_front at.behind here at.once greatest in
+      let rest : List (Option (ℕ × T)) = take (slot_count s - 1) s.slots in
+      let live = ap (count_by is_some) (split_last s.slots None vacant) ∙ sum_by_push (λ o. cond (is_some o) 1 0) rest None in
+      record {
+        slots = leaves.entries ∙ popped ∙ ap (λ n. take (n - 1) (map (entry_of number) es)) size ∙ ap (take (slot_count s - 1)) shows.slots;
+        linked = subst (IsLinked es2 root2) (sym free) (left_linked number es es1 es2 root root2 i link s at same leaves);
+        counted = omega (arith, shows.counted, live);
+        well = IsWellFormed-without_last s shows.well vacant;
+      }
+
+  -- slots of which the last has an entry are left as they are
+  pub Shows-ended : (es : List (ArenaSlot P T I G)) (root : Option ℕ) (len : ℕ) (s : ArenaState T) → is_free (item (map (entry_of number) es) (length es)) ≡ false → Shows number es root len s → Shows number es root len (without_free_end s)
+  Shows-ended es root len s live shows =
+      let size : length es ≡ slot_count s = sym (length-map es (entry_of number)) ∙ ap length shows.slots in
+      let ends : is_free (item s.slots (slot_count s)) ≡ false = rw size at (ap (λ xs. is_free (item xs (length es))) (sym shows.slots) ∙ live) in
+      rw (without_none s shows.well ends) shows
+
+  -- so many pops to come leave the arena as they leave it without its last slot
+  pub Shows-fewer : (es : List (ArenaSlot P T I G)) (root : Option ℕ) (len : ℕ) (s : ArenaState T) → item (map (entry_of number) es) (length es) ≡ Some None → Shows number es root len s → without_free_end (without_last s) ≡ without_free_end s
+  Shows-fewer es root len s vacant shows = ends_same s (last_vacant es root len s vacant shows)

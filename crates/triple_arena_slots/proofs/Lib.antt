@@ -1,6 +1,7 @@
+pub mod TwoWay
 pub mod Links
+pub mod Unlinking
 pub mod Tidying
-pub mod Turning
 pub mod FreeEnd
 pub mod Compaction
 pub mod Refused

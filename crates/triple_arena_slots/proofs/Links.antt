@@ -1,87 +1,218 @@
 -- How the slots, and the links in them, follow each change of an arena.
-use Rattle.std.proofs.Common.{◌≡◌, ◌≢◌, ℕ, zero, suc, ◌+◌, ◌-◌, ◌<◌, ◌≤◌, ◌==◌, List, [], ◌∷◌, ◌++◌, map, length, take, Option, Some, None, is_some, IsSome, count_by, cond, slice_get, refl, sym, ap, subst, ◌∙◌, inl, inr, arith, true≢false, IfSome, ◌↔◌}
-use Rattle.std.proofs.lemmas.Bool.{cases_eq}
+use Rattle.std.proofs.Common.{◌≡◌, ◌≢◌, ℕ, zero, suc, ◌+◌, ◌-◌, ◌<◌, ◌≤◌, ◌==◌, List, [], ◌∷◌, ◌++◌, map, length, take, Option, Some, None, is_some, IsSome, count_by, cond, slice_get, refl, sym, ap, subst, ◌∙◌, arith, true≢false, true, false, Bool, IfSome, ◌↔◌, MatchOption}
 use Rattle.std.proofs.lemmas.List.{length-take-le, length-map, length_push, map_push, take-map}
 use Rattle.std.proofs.lemmas.List.Sums.{sum_by_push}
-use Rattle.std.proofs.lemmas.Option.{some_pair_parts}
-use Rattle.std.specs.Int.NonZero.{non_zero_usize_get}
-use Rattle.std.specs.Option.{option_map}
+use Rattle.std.proofs.lemmas.Option.{same_Some}
+use Rattle.std.specs.Option.{option_map, option_and_then}
 use Rattle.triple_arena_traits.specs.Items.{item, with_item}
 use Rattle.triple_arena_traits.specs.Entries.{with_generation_in}
-use Rattle.triple_arena_traits.specs.ArenaState.{ArenaState, new_arena, capacity, slot_count, arena_len, with_value, IsWellFormed}
+use Rattle.triple_arena_traits.specs.ArenaState.{ArenaState, capacity, slot_count, arena_len, with_value, is_free, IsWellFormed}
 use Rattle.triple_arena_traits.specs.Insertion.{place_among, place, inserted_among, inserted}
+use Rattle.triple_arena_traits.specs.SlotSteps.{steps_among, insertion_steps}
 use Rattle.triple_arena_traits.specs.Ending.{removed}
-use Rattle.triple_arena_slots.specs.Slot.{entry_of, with_slot_value, with_slot_generation}
-use Rattle.triple_arena_slots.specs.Layout.{entry_at, next_of, after, chain, state_of, IsLinked, Shows, with_value_at}
-use Rattle.triple_arena_slots.specs.declared.slot.FreeLink.{FreeLink}
+use Rattle.triple_arena_slots.specs.Slot.{entry_of, touch_if, next_free, previous_free, next_in, previous_in, with_slot_generation}
+use Rattle.triple_arena_slots.specs.Layout.{entry_at, Linked, after, before, chain, state_of, IsLinked, Begins, CanLeave, Leaves, Shows, with_value_at}
+use Rattle.triple_arena_slots.specs.Link.{Link}
 use Rattle.triple_arena_slots.specs.declared.slot.ArenaSlot.{ArenaSlot}
 use Rattle.triple_arena_slots.specs.declared.slot.ArenaSlot.TheVariants.{Free, Allocated}
-use Rattle.triple_arena_traits.specs.ItemLaws.{joined, map-with_item, eq_true, eq_false, item_within, item-with_same, item-with_other, item-push_other, split_last, item-map_some, item-map_none}
+use Rattle.triple_arena_traits.specs.ItemLaws.{joined, map-with_item, eq_true, eq_false, item_within, item-with_other, item-push_other, split_last, item-map, item-map_some, item-map_none}
+use Rattle.triple_arena_slots.proofs.TwoWay.{times, Once, Skips, Leads, Linked-same, Linked-skipped, Linked-led, neighbours_apart, next_there, previous_there, root_skipped, split_at}
 use Rattle.triple_arena_traits.proofs.SlotEntries.{entry_item}
-use Rattle.triple_arena_traits.specs.WellFormedLaws.{with_entry, with_value_is, with_generation_is, live_counted, count_tail, live_not_free, IsWellFormed-inserted, IsWellFormed-removed, IsWellFormed-with_entry, IsWellFormed-counter, IsWellFormed-empty}
-use Rattle.triple_arena_traits.specs.EntryLaws.{count_head, first_free}
+use Rattle.triple_arena_traits.specs.WellFormedLaws.{with_entry, with_value_is, with_generation_is, live_counted, live_not_free, IsWellFormed-inserted, IsWellFormed-removed, IsWellFormed-with_entry, IsWellFormed-counter}
+use Rattle.triple_arena_traits.specs.EntryLaws.{first_free}
 use Rattle.triple_arena_traits.specs.LengthLaws.{count-with_item}
+
+not_own : (n i j : ℕ) (b : Bool) → (n == i) ≡ b → cond b None (Some n) ≡ Some j → j ≢ i
+not_own n i j true t e = absurd (cc)
+not_own n i j false t e = λ h. true≢false (sym (eq_true n i (same_Some _ _ e ∙ h)) ∙ t)
+
+when_none : (o : Option ℕ) (A : Type 0) (B : ℕ → Type 0) → MatchOption o A B → o ≡ None → A
+when_none None A B m e = m
+when_none (Some j) A B m e = absurd (cc)
+
+when_some : (o : Option ℕ) (A B : Type 0) (j : ℕ) → MatchOption o A (λ _. B) → o ≡ Some j → B
+when_some None A B j m e = absurd (cc)
+when_some (Some k) A B j m e = m
+
+module _ {T : Type 0} where
+  -- an index of the free list is that of a free slot, and the other way round
+  pub vacant_there : (s : ArenaState T) (j : ℕ) → IsWellFormed s → 1 ≤ times j s.free → item s.slots j ≡ Some None
+  vacant_there s j well there = by_slot (item s.slots j) (well.free_once j)
+    where
+      by_slot : (o : Option (Option (ℕ × T))) → times j s.free ≡ cond (is_free o) 1 0 → o ≡ Some None
+      by_slot None h = absurd (omega (arith, h, there))
+      by_slot (Some None) h = refl
+      by_slot (Some (Some e)) h = absurd (omega (arith, h, there))
+
+  pub there_vacant : (s : ArenaState T) (j : ℕ) → IsWellFormed s → item s.slots j ≡ Some None → 1 ≤ times j s.free
+  there_vacant s j well vacant = omega (arith, rw vacant at (well.free_once j))
+
+  pub Once-free : (s : ArenaState T) → IsWellFormed s → Once s.free
+  Once-free s well j = by_test (is_free (item s.slots j)) (well.free_once j)
+    where
+      by_test : (b : Bool) → times j s.free ≡ cond b 1 0 → times j s.free ≤ 1
+      by_test true h = omega (arith, h)
+      by_test false h = omega (arith, h)
 
 module _ {P T I G : Type 0} where
   -- the chain from a link is the list that it links
+  chain_from : (es : List (ArenaSlot P T I G)) (fuel : ℕ) (last from : Option ℕ) (free : List ℕ) → length free ≤ fuel → Linked (after es) (before es) last from free → chain es fuel from ≡ free
+  chain_from es zero last from [] fits linked = refl
+  chain_from es (suc fuel) last from [] fits linked = rw linked refl
+  chain_from es zero last from (i ∷ rest) fits linked = absurd (omega arith)
+  chain_from es (suc fuel) last from (i ∷ rest) fits linked =
+      rw linked.0 (ap (λ l. i ∷ l) (chain_from es fuel (Some i) (after es i) rest (omega arith) linked.2))
+
   pub chain_is : (es : List (ArenaSlot P T I G)) (fuel : ℕ) (from : Option ℕ) (free : List ℕ) → length free ≤ fuel → IsLinked es from free → chain es fuel from ≡ free
-  chain_is es zero from [] fits linked = refl
-  chain_is es (suc fuel) from [] fits linked = rw linked refl
-  chain_is es zero from (i ∷ rest) fits linked = absurd (omega arith)
-  chain_is es (suc fuel) from (i ∷ rest) fits linked =
-      rw linked.0 (ap (λ l. i ∷ l) (chain_is es fuel (after es i) rest (omega arith) linked.1))
+  chain_is es fuel from free fits linked = chain_from es fuel None from free fits linked
+
+  -- the links of a slot that stays
+  pub after_same : (old new : List (ArenaSlot P T I G)) (j : ℕ) → item new j ≡ item old j → after new j ≡ after old j
+  after_same old new j same = ap (option_and_then (λ slot. next_in slot j)) same
+
+  pub before_same : (old new : List (ArenaSlot P T I G)) (j : ℕ) → item new j ≡ item old j → before new j ≡ before old j
+  before_same old new j same = ap (option_and_then (λ slot. previous_in slot j)) same
 
   -- what changes under an index that is not on the list keeps the list
   pub IsLinked-off : (old new : List (ArenaSlot P T I G)) (k : ℕ) (from : Option ℕ) (free : List ℕ) → ((j : ℕ) → j ≢ k → item new j ≡ item old j) → count_by (λ j. j == k) free ≡ 0 → IsLinked old from free → IsLinked new from free
-  IsLinked-off old new k from [] same off linked = linked
-  IsLinked-off old new k from (i ∷ rest) same off linked =
-      elim (cases_eq i k) [
-        | inl here ↦ absurd (omega (arith, count_head k rest, ap (λ m. count_by (λ j. j == k) (m ∷ rest)) here))
-        | inr other ↦
-            let kept : after new i ≡ after old i = ap (λ o. cond (next_of o i == i) None (Some (next_of o i))) (same i other) in
-            (linked.0, rw kept (IsLinked-off old new k (after old i) rest same (sym (count_tail i k rest other) ∙ off) linked.1))
-      ]
+  IsLinked-off old new k from free same off linked =
+      Linked-same (after old) (before old) (after new) (before new) None from free (λ j there.
+      let other : j ≢ k = λ e. omega (arith, off, subst (λ m. 1 ≤ times m free) e there) in
+      (after_same old new j (same j other), before_same old new j (same j other))) linked
+
+  -- the links go from the first free index on
+  pub linked_from_first : (es : List (ArenaSlot P T I G)) (root : Option ℕ) (free : List ℕ) → IsLinked es root free → IsLinked es (slice_get free 0) free
+  linked_from_first es root [] linked = refl
+  linked_from_first es root (i ∷ rest) linked = (refl, linked.1, linked.2)
 
   module _ (number : G → ℕ) where
     -- the view is the state that the slots show
-    state_is : (es : List (ArenaSlot P T I G)) (root : Option ℕ) (len : ℕ) (s : ArenaState T) → Shows number es root len s → state_of number es root s.counter s.room s.limit s.greatest ≡ s
+    state_is : (es : List (ArenaSlot P T I G)) (root : Option ℕ) (len : ℕ) (s : ArenaState T) → Shows number es root len s → state_of number es root s.counter s.room s.limit s.greatest s.steps ≡ s
     state_is es root len s shows =
         let size : length es ≡ length s.slots = sym (length-map es (entry_of number)) ∙ ap length shows.slots in
         let free : chain es (length es) root ≡ s.free = chain_is es (length es) root s.free (omega (arith, shows.well.total)) shows.linked in
         rw (shows.slots, free) refl
 
     -- the same for the fields that the arena has
-    view_is : (es : List (ArenaSlot P T I G)) (root : Option ℕ) (len counter room : ℕ) (limit : Option ℕ) (greatest : ℕ) (s : ArenaState T) → Shows number es root len s → counter ≡ s.counter → room ≡ s.room → limit ≡ s.limit → greatest ≡ s.greatest → state_of number es root counter room limit greatest ≡ s
-    view_is es root len counter room limit greatest s shows c r l g = rw (c, r, l, g) (state_is es root len s shows)
+    view_is : (es : List (ArenaSlot P T I G)) (root : Option ℕ) (len counter room : ℕ) (limit : Option ℕ) (greatest steps : ℕ) (s : ArenaState T) → Shows number es root len s → counter ≡ s.counter → room ≡ s.room → limit ≡ s.limit → greatest ≡ s.greatest → steps ≡ s.steps → state_of number es root counter room limit greatest steps ≡ s
+    view_is es root len counter room limit greatest steps s shows c r l g n = rw (c, r, l, g, n) (state_is es root len s shows)
 
     -- slots that show a state make an arena of that state
-    pub settled : (es : List (ArenaSlot P T I G)) (root : Option ℕ) (len counter room : ℕ) (limit : Option ℕ) (greatest : ℕ) (s : ArenaState T) → Shows number es root len s → counter ≡ s.counter → room ≡ s.room → limit ≡ s.limit → greatest ≡ s.greatest → Shows number es root len (state_of number es root counter room limit greatest) × (state_of number es root counter room limit greatest ≡ s)
-    settled es root len counter room limit greatest s shows c r l g =
-        let is = view_is es root len counter room limit greatest s shows c r l g in
+    pub settled : (es : List (ArenaSlot P T I G)) (root : Option ℕ) (len counter room : ℕ) (limit : Option ℕ) (greatest steps : ℕ) (s : ArenaState T) → Shows number es root len s → counter ≡ s.counter → room ≡ s.room → limit ≡ s.limit → greatest ≡ s.greatest → steps ≡ s.steps → Shows number es root len (state_of number es root counter room limit greatest steps) × (state_of number es root counter room limit greatest steps ≡ s)
+    settled es root len counter room limit greatest steps s shows c r l g n =
+        let is = view_is es root len counter room limit greatest steps s shows c r l g n in
         (rw is shows, is)
 
+    -- an index of slots of which one is free, with this link
+    pub record IsFreeAt (es : List (ArenaSlot P T I G)) (root : Option ℕ) (i : ℕ) (link : Link) (s : ArenaState T) : Type 0 where
+      pub found : item es i ≡ Some (Free link)
+      pub in_front : List ℕ
+      pub behind : List ℕ
+      pub split : s.free ≡ in_front ++ i ∷ behind
+      pub linked : IsLinked es root (in_front ++ i ∷ behind)
+      pub once : Once (in_front ++ i ∷ behind)
+
+    pub free_at : (es : List (ArenaSlot P T I G)) (root : Option ℕ) (i len : ℕ) (link : Link) (s : ArenaState T) → item es i ≡ Some (Free link) → Shows number es root len s → IsFreeAt es root i link s
+    free_at es root i len link s found shows =
+        let vacant : item s.slots i ≡ Some None = ap (λ xs. item xs i) (sym shows.slots) ∙ item-map_some (entry_of number) es i (Free link) found in
+        let parts = split_at i s.free (there_vacant s i shows.well vacant) in
+        record {
+          found = found;
+          in_front = parts.0;
+          behind = parts.1;
+          split = parts.2;
+          linked = subst (IsLinked es root) parts.2 shows.linked;
+          once = subst Once parts.2 (Once-free s shows.well);
+        }
+
+    -- the slots to which it leads can lead to each other
+    pub can_leave : (es es1 : List (ArenaSlot P T I G)) (root : Option ℕ) (i len : ℕ) (link : Link) (s : ArenaState T) → ((j : ℕ) → j ≢ i → item es1 j ≡ item es j) → item es i ≡ Some (Free link) → Shows number es root len s → CanLeave number es1 (next_free link i) (previous_free link i)
+    can_leave es es1 root i len link s same found shows =
+        let at = free_at es root i len link s found shows in
+        let on : after es i ≡ next_free link i = ap (option_and_then (λ slot. next_in slot i)) found in
+        let back : before es i ≡ previous_free link i = ap (option_and_then (λ slot. previous_in slot i)) found in
+        let entry : (j : ℕ) → j ≢ i → 1 ≤ times j (at.in_front ++ i ∷ at.behind) → item (map (entry_of number) es1) j ≡ Some None =
+        λ j other there. item-map (entry_of number) es1 j ∙ ap (option_map (entry_of number)) (same j other) ∙ sym (item-map (entry_of number) es j) ∙ ap (λ xs. item xs j) shows.slots ∙ vacant_there s j shows.well (subst (λ xs. 1 ≤ times j xs) (sym at.split) there) in
+        record {
+          next = λ j e. entry j (not_own link.next i j (link.next == i) refl e) (next_there (after es) (before es) root at.in_front i at.behind j at.linked (on ∙ e));
+          previous = λ j e. entry j (not_own link.previous i j (link.previous == i) refl e) (previous_there (after es) (before es) root at.in_front i at.behind j at.linked (back ∙ e));
+          apart = λ j e h. neighbours_apart (after es) (before es) root at.in_front i at.behind j at.once at.linked (back ∙ e) (on ∙ h);
+        }
+
+    -- once it left, the rest of the list is linked
+    pub left_linked : (es es1 es2 : List (ArenaSlot P T I G)) (root root2 : Option ℕ) (i : ℕ) (link : Link) (s : ArenaState T) (at : IsFreeAt es root i link s) → ((j : ℕ) → j ≢ i → item es1 j ≡ item es j) → Leaves number es1 es2 root root2 (next_free link i) (previous_free link i) → IsLinked es2 root2 (at.in_front ++ at.behind)
+    left_linked es es1 es2 root root2 i link s at same leaves =
+        let on : after es i ≡ next_free link i = ap (option_and_then (λ slot. next_in slot i)) at.found in
+        let back : before es i ≡ previous_free link i = ap (option_and_then (λ slot. previous_in slot i)) at.found in
+        let skips : Skips (after es) (before es) (after es2) (before es2) i = record {
+          next = λ j other e. leaves.next j (sym back ∙ e) ∙ sym on;
+          kept = λ j other ne. leaves.kept_next j (λ e. ne (back ∙ e)) ∙ after_same es es1 j (same j other);
+          previous = λ j other e. leaves.previous j (sym on ∙ e) ∙ sym back;
+          kept_back = λ j other ne. leaves.kept_previous j (λ e. ne (on ∙ e)) ∙ before_same es es1 j (same j other);
+        } in
+        let begins = root_skipped (after es) (before es) root at.in_front i at.behind root2 at.linked (λ e. when_none _ _ _ leaves.begins (sym back ∙ e) ∙ sym on) (λ j e. when_some _ _ _ j leaves.begins (sym back ∙ e)) in
+        rw begins (Linked-skipped (after es) (before es) (after es2) (before es2) None root at.in_front i at.behind skips at.once (λ j e. absurd (cc)) at.linked)
+
     -- insertion under the first free index
-    pub Shows-filled : (es : List (ArenaSlot P T I G)) (i len : ℕ) (link : FreeLink) (g : G) (v : T) (s : ArenaState T) → arena_len s < capacity s → number g ≡ s.counter → item es i ≡ Some (Free link) → Shows number es (Some i) len s → (place s ≡ i) × Shows number (with_item es i (Allocated g v)) (cond (non_zero_usize_get link.next == i) None (Some (non_zero_usize_get link.next))) (len + 1) (inserted s v)
-    Shows-filled es i len link g v s room stamped found shows = by_free s.free refl
+    pub Shows-filled : (es es2 : List (ArenaSlot P T I G)) (root2 : Option ℕ) (i len : ℕ) (link : Link) (g : G) (v : T) (s : ArenaState T) → arena_len s < capacity s → number g ≡ s.counter → item es i ≡ Some (Free link) → Leaves number (with_item es i (Allocated g v)) es2 (Some i) root2 (next_free link i) (previous_free link i) → Shows number es (Some i) len s → (place s ≡ i) × Shows number es2 root2 (len + 1) (inserted s v)
+    Shows-filled es es2 root2 i len link g v s room stamped found leaves shows = by_free s.free refl
       where
-        filled : (rest : List ℕ) → s.free ≡ i ∷ rest → Shows number (with_item es i (Allocated g v)) (cond (non_zero_usize_get link.next == i) None (Some (non_zero_usize_get link.next))) (len + 1) (inserted_among (i ∷ rest) s v)
+        filled : (rest : List ℕ) → s.free ≡ i ∷ rest → Shows number es2 root2 (len + 1) (inserted_among (i ∷ rest) s v)
         filled rest e =
-            let linked : (Some i ≡ Some i) × IsLinked es (after es i) rest = subst (IsLinked es (Some i)) e shows.linked in
             let first = first_free s i rest shows.well e in
             let slot : Option (ℕ × T) = Some (s.counter, v) in
+            let at : IsFreeAt es (Some i) i link s = record {
+              found = found;
+              in_front = [];
+              behind = rest;
+              split = e;
+              linked = subst (IsLinked es (Some i)) e shows.linked;
+              once = subst Once e (Once-free s shows.well);
+            } in
             record {
-              slots = rw (map-with_item (entry_of number) es i (Allocated g v), shows.slots, stamped) refl;
-              linked = IsLinked-off es (with_item es i (Allocated g v)) i _ rest (λ j other. item-with_other es i j (Allocated g v) other) first.1 (rw found at linked.1);
+              slots = leaves.entries ∙ rw (map-with_item (entry_of number) es i (Allocated g v), shows.slots, stamped) refl;
+              linked = left_linked es (with_item es i (Allocated g v)) es2 (Some i) root2 i link s at (λ j other. item-with_other es i j (Allocated g v) other) leaves;
               counted = omega (arith, count-with_item s.slots i None slot first.0, shows.counted);
               well = subst (λ f. IsWellFormed (inserted_among f s v)) e (IsWellFormed-inserted s v shows.well room);
             }
 
-        by_free : (f : List ℕ) → s.free ≡ f → (place_among f (slot_count s) ≡ i) × Shows number (with_item es i (Allocated g v)) (cond (non_zero_usize_get link.next == i) None (Some (non_zero_usize_get link.next))) (len + 1) (inserted_among f s v)
+        by_free : (f : List ℕ) → s.free ≡ f → (place_among f (slot_count s) ≡ i) × Shows number es2 root2 (len + 1) (inserted_among f s v)
         by_free [] e = absurd (let h = subst (IsLinked es (Some i)) e shows.linked in cc)
         by_free (j ∷ rest) e =
             let linked = subst (IsLinked es (Some i)) e shows.linked in
-            let same : i ≡ j = cc (linked.0) in
-            (sym same, subst (λ m. Shows number (with_item es i (Allocated g v)) (cond (non_zero_usize_get link.next == i) None (Some (non_zero_usize_get link.next))) (len + 1) (inserted_among (m ∷ rest) s v)) same (filled rest (e ∙ ap (λ m. m ∷ rest) (sym same))))
+            let same : i ≡ j = same_Some _ _ linked.0 in
+            (sym same, subst (λ m. Shows number es2 root2 (len + 1) (inserted_among (m ∷ rest) s v)) same (filled rest (e ∙ ap (λ m. m ∷ rest) (sym same))))
+
+    -- so many slots are touched where an insertion takes the first free one
+    pub steps-filled : (es : List (ArenaSlot P T I G)) (i len : ℕ) (link : Link) (s : ArenaState T) → item es i ≡ Some (Free link) → Shows number es (Some i) len s → 1 + (touch_if (previous_free link i) + touch_if (next_free link i)) ≡ insertion_steps s
+    steps-filled es i len link s found shows = by_free s.free (subst (λ f. IsLinked es (Some i) f) refl shows.linked)
+      where
+        on : after es i ≡ next_free link i
+        on = ap (option_and_then (λ slot. next_in slot i)) found
+
+        back : before es i ≡ previous_free link i
+        back = ap (option_and_then (λ slot. previous_in slot i)) found
+
+        by_free : (f : List ℕ) → IsLinked es (Some i) f → 1 + (touch_if (previous_free link i) + touch_if (next_free link i)) ≡ steps_among f
+        by_free [] linked = absurd (cc)
+        by_free (j ∷ []) linked =
+            let same : j ≡ i = sym (same_Some _ _ linked.0) in
+            let first : previous_free link i ≡ None = sym back ∙ subst (λ m. before es m ≡ None) same linked.1 in
+            let last : next_free link i ≡ None = sym on ∙ subst (λ m. after es m ≡ None) same linked.2 in
+            rw (first, last) refl
+        by_free (j ∷ k ∷ rest) linked =
+            let same : j ≡ i = sym (same_Some _ _ linked.0) in
+            let first : previous_free link i ≡ None = sym back ∙ subst (λ m. before es m ≡ None) same linked.1 in
+            let next : next_free link i ≡ Some k = sym on ∙ subst (λ m. after es m ≡ Some k) same linked.2.0 in
+            rw (first, next) refl
+
+    -- with no free slot one is touched
+    pub steps-pushed : (es : List (ArenaSlot P T I G)) (len : ℕ) (s : ArenaState T) → Shows number es None len s → insertion_steps s ≡ 1
+    steps-pushed es len s shows = by_free s.free shows.linked
+      where
+        by_free : (f : List ℕ) → IsLinked es None f → steps_among f ≡ 1
+        by_free [] linked = refl
+        by_free (j ∷ rest) linked = absurd (let h = linked.0 in cc)
 
     -- insertion past the last slot
     pub Shows-pushed : (es : List (ArenaSlot P T I G)) (len : ℕ) (g : G) (v : T) (s : ArenaState T) → arena_len s < capacity s → number g ≡ s.counter → Shows number es None len s → (place s ≡ length es + 1) × Shows number (es ++ Allocated g v ∷ []) None (len + 1) (inserted s v)
@@ -113,6 +244,10 @@ module _ {P T I G : Type 0} where
             let both : (number g, v) ≡ e = cc in
             (g, h ∙ ap (λ p. Some (Allocated g p.1)) both, ap (λ p. p.0) both)
 
+    pub leads_of : (es es1 : List (ArenaSlot P T I G)) (root : Option ℕ) (i : ℕ) → Begins number es es1 root i → Leads (after es) (before es) (after es1) (before es1) root i
+    leads_of es es1 root i begins =
+        record { next = begins.next; first = begins.first; previous = begins.back; kept = begins.kept; kept_back = begins.kept_back }
+
     -- removal at the last slot
     pub Shows-popped : (raise : ℕ → ℕ) (es : List (ArenaSlot P T I G)) (root : Option ℕ) (i len : ℕ) (e : ℕ × T) (s : ArenaState T) → i ≡ length es → item s.slots i ≡ Some (Some e) → Shows number es root len s → Shows number (take (length es - 1) es) root (len - 1) (removed raise s i)
     Shows-popped raise es root i len e s last live shows =
@@ -136,18 +271,15 @@ module _ {P T I G : Type 0} where
         })
 
     -- removal at any other slot
-    pub Shows-freed : (raise : ℕ → ℕ) (es : List (ArenaSlot P T I G)) (root : Option ℕ) (i len : ℕ) (link : FreeLink) (e : ℕ × T) (s : ArenaState T) → i ≢ length es → cond (non_zero_usize_get link.next == i) None (Some (non_zero_usize_get link.next)) ≡ root → item s.slots i ≡ Some (Some e) → Shows number es root len s → Shows number (with_item es i (Free link)) (Some i) (len - 1) (removed raise s i)
-    Shows-freed raise es root i len link e s inner links live shows =
+    pub Shows-freed : (raise : ℕ → ℕ) (es es1 : List (ArenaSlot P T I G)) (root : Option ℕ) (i len : ℕ) (e : ℕ × T) (s : ArenaState T) → i ≢ length es → Begins number es es1 root i → item s.slots i ≡ Some (Some e) → Shows number es root len s → Shows number es1 (Some i) (len - 1) (removed raise s i)
+    Shows-freed raise es es1 root i len e s inner begins live shows =
         let size : length es ≡ length s.slots = sym (length-map es (entry_of number)) ∙ ap length shows.slots in
         let not_last : i ≢ slot_count s = λ h. inner (omega arith) in
-        let found = allocated_at es i e (ap (λ xs. item xs i) shows.slots ∙ live) in
-        let within = item_within es i _ found.1 in
         let off = live_not_free s i e shows.well live in
         let well : IsWellFormed (record s { slots = with_item s.slots i None; counter = raise s.counter; free = i ∷ s.free }) = rw (eq_false i (slot_count s) not_last) at (IsWellFormed-removed raise s i e shows.well live) in
-        let next : after (with_item es i (Free link)) i ≡ root = rw (item-with_same es i (Free link) within.0 within.1) links in
         rw (eq_false i (slot_count s) not_last) (record {
-          slots = rw (map-with_item (entry_of number) es i (Free link), shows.slots) refl;
-          linked = (refl, rw next (IsLinked-off es (with_item es i (Free link)) i root s.free (λ j other. item-with_other es i j (Free link) other) off shows.linked));
+          slots = begins.entries ∙ ap (λ xs. with_item xs i None) shows.slots;
+          linked = Linked-led (after es) (before es) (after es1) (before es1) root i s.free (leads_of es es1 root i begins) off (Once-free s shows.well) shows.linked;
           counted = omega (arith, count-with_item s.slots i (Some e) None live, shows.counted);
           well = well;
         })
@@ -167,22 +299,32 @@ module _ {P T I G : Type 0} where
     Shows-counter es root len counter s shows =
         record { slots = shows.slots; linked = shows.linked; counted = shows.counted; well = IsWellFormed-counter s counter shows.well }
 
+    -- the state with another count of steps
+    pub Shows-steps : (es : List (ArenaSlot P T I G)) (root : Option ℕ) (len steps : ℕ) (s : ArenaState T) → Shows number es root len s → Shows number es root len (record s { steps = steps })
+    Shows-steps es root len steps s shows =
+        record { slots = shows.slots; linked = shows.linked; counted = shows.counted; well = record { free_once = shows.well.free_once; total = shows.well.total; fits = shows.well.fits } }
+
     -- the slot that the root names is free
-    pub root_free : (es : List (ArenaSlot P T I G)) (root : Option ℕ) (i len : ℕ) (s : ArenaState T) → root ≡ Some i → Shows number es root len s → (link : FreeLink) × (item es i ≡ Some (Free link))
+    pub root_free : (es : List (ArenaSlot P T I G)) (root : Option ℕ) (i len : ℕ) (s : ArenaState T) → root ≡ Some i → Shows number es root len s → (link : Link) × (item es i ≡ Some (Free link))
     root_free es root i len s at_root shows = by_free s.free refl
       where
-        vacant : item s.slots i ≡ Some None → (o : Option (ArenaSlot P T I G)) → item es i ≡ o → (link : FreeLink) × (item es i ≡ Some (Free link))
+        vacant : item s.slots i ≡ Some None → (o : Option (ArenaSlot P T I G)) → item es i ≡ o → (link : Link) × (item es i ≡ Some (Free link))
         vacant none None h = absurd (let m = item-map_none (entry_of number) es i h in let k = ap (λ xs. item xs i) shows.slots in cc)
         vacant none (Some (Free link)) h = (link, h)
         vacant none (Some (Allocated g v)) h = absurd (let m = item-map_some (entry_of number) es i (Allocated g v) h in let k = ap (λ xs. item xs i) shows.slots in cc)
 
-        by_free : (f : List ℕ) → s.free ≡ f → (link : FreeLink) × (item es i ≡ Some (Free link))
+        by_free : (f : List ℕ) → s.free ≡ f → (link : Link) × (item es i ≡ Some (Free link))
         by_free [] e = absurd (let h = subst (IsLinked es root) e shows.linked in cc)
         by_free (j ∷ rest) e =
             let linked = (subst (IsLinked es root) e shows.linked).0 in
             let same : j ≡ i = cc in
             let first = (first_free s j rest shows.well e).0 in
             vacant (subst (λ m. item s.slots m ≡ Some None) same first) (item es i) refl
+
+    pub root_vacant : (es : List (ArenaSlot P T I G)) (root : Option ℕ) (i len : ℕ) (s : ArenaState T) → root ≡ Some i → Shows number es root len s → item (map (entry_of number) es) i ≡ Some None
+    root_vacant es root i len s at_root shows =
+        let free = root_free es root i len s at_root shows in
+        item-map_some (entry_of number) es i (Free free.0) free.1
 
     -- with no root every slot has a value
     pub full_at_none : (es : List (ArenaSlot P T I G)) (root : Option ℕ) (len : ℕ) (s : ArenaState T) → root ≡ None → Shows number es root len s → arena_len s ≡ length es
@@ -225,9 +367,9 @@ module _ {P T I G : Type 0} where
         true≢false (sym (rw none at live))
 
     -- what a call makes of the slots carries over to the arena: its invariant, and its state
-    pub carried : (es es' : List (ArenaSlot P T I G)) (root root' : Option ℕ) (len len' counter counter' room room' : ℕ) (limit limit' : Option ℕ) (greatest : ℕ) (s s' : ArenaState T) → Shows number es root len (state_of number es root counter room limit greatest) → state_of number es root counter room limit greatest ≡ s → (Shows number es root len s → Shows number es' root' len' s') → counter' ≡ s'.counter → room' ≡ s'.room → limit' ≡ s'.limit → greatest ≡ s'.greatest → Shows number es' root' len' (state_of number es' root' counter' room' limit' greatest) × (state_of number es' root' counter' room' limit' greatest ≡ s')
-    carried es es' root root' len len' counter counter' room room' limit limit' greatest s s' own is step c r l g =
-        settled number es' root' len' counter' room' limit' greatest s' (step (subst (Shows number es root len) is own)) c r l g
+    pub carried : (es es' : List (ArenaSlot P T I G)) (root root' : Option ℕ) (len len' counter counter' room room' : ℕ) (limit limit' : Option ℕ) (greatest steps steps' : ℕ) (s s' : ArenaState T) → Shows number es root len (state_of number es root counter room limit greatest steps) → state_of number es root counter room limit greatest steps ≡ s → (Shows number es root len s → Shows number es' root' len' s') → counter' ≡ s'.counter → room' ≡ s'.room → limit' ≡ s'.limit → greatest ≡ s'.greatest → steps' ≡ s'.steps → Shows number es' root' len' (state_of number es' root' counter' room' limit' greatest steps') × (state_of number es' root' counter' room' limit' greatest steps' ≡ s')
+    carried es es' root root' len len' counter counter' room room' limit limit' greatest steps steps' s s' own is step c r l g n =
+        settled number es' root' len' counter' room' limit' greatest steps' s' (step (subst (Shows number es root len) is own)) c r l g n
 
     -- the slots that hold an entry hold at least one
     pub live_len : (es : List (ArenaSlot P T I G)) (root : Option ℕ) (i len : ℕ) (s : ArenaState T) → IsSome (entry_at number es i) → Shows number es root len s → 1 ≤ len
@@ -281,9 +423,9 @@ module _ {P T I G : Type 0} where
     one_more es root len s at_root shows room = omega (arith, full_at_none number es root len s at_root shows, room)
 
     -- the arena after a write through a borrow of a value
-    pub lent : (es es' : List (ArenaSlot P T I G)) (root : Option ℕ) (len counter room room' : ℕ) (limit limit' : Option ℕ) (greatest : ℕ) (s : ArenaState T) (i : ℕ) (w : T) → Shows number es root len (state_of number es root counter room limit greatest) → state_of number es root counter room limit greatest ≡ s → IsSome (entry_at number es i) → es' ≡ with_value_at es i (item es i) w → room' ≡ room → limit' ≡ limit → Shows number es' root len (state_of number es' root counter room' limit' greatest) × (state_of number es' root counter room' limit' greatest ≡ with_value s i w)
-    lent es es' root len counter room room' limit limit' greatest s i w own is live written r l =
-        carried es es' root root len len counter counter room room' limit limit' greatest s (with_value s i w) own is (λ shows. rw written (Shows-with_value es root i len w s live shows)) (ap (λ t. t.counter) is) (r ∙ ap (λ t. t.room) is) (l ∙ ap (λ t. t.limit) is) (ap (λ t. t.greatest) is)
+    pub lent : (es es' : List (ArenaSlot P T I G)) (root : Option ℕ) (len counter room room' : ℕ) (limit limit' : Option ℕ) (greatest steps : ℕ) (s : ArenaState T) (i : ℕ) (w : T) → Shows number es root len (state_of number es root counter room limit greatest steps) → state_of number es root counter room limit greatest steps ≡ s → IsSome (entry_at number es i) → es' ≡ with_value_at es i (item es i) w → room' ≡ room → limit' ≡ limit → Shows number es' root len (state_of number es' root counter room' limit' greatest steps) × (state_of number es' root counter room' limit' greatest steps ≡ with_value s i w)
+    lent es es' root len counter room room' limit limit' greatest steps s i w own is live written r l =
+        carried es es' root root len len counter counter room room' limit limit' greatest steps steps s (with_value s i w) own is (λ shows. rw written (Shows-with_value es root i len w s live shows)) (ap (λ t. t.counter) is) (r ∙ ap (λ t. t.room) is) (l ∙ ap (λ t. t.limit) is) (ap (λ t. t.greatest) is) (ap (λ t. t.steps) is)
 
 -- an index that is within the greatest has its number
 pub index_of_number : {I : Type 0} (number : I → ℕ) (o : Option I) (i greatest : ℕ) → (IsSome o ↔ (i ≤ greatest)) → IfSome o (λ x. number x ≡ i) → i ≤ greatest → option_map number o ≡ Some i

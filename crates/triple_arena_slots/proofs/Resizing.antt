@@ -41,13 +41,13 @@ module _ {T : Type 0} where
 
 module _ {P T I G : Type 0} (number : G → ℕ) where
   -- what is said of a stack's room, limit and length is said of the arena's
-  pub as_shown : (es : List (ArenaSlot P T I G)) (root : Option ℕ) (len counter room : ℕ) (limit : Option ℕ) (greatest : ℕ) (s : ArenaState T) (Q : ℕ → Option ℕ → ℕ → Type 0) → Shows number es root len (state_of number es root counter room limit greatest) → state_of number es root counter room limit greatest ≡ s → Q room limit (length es) → Q s.room s.limit (slot_count s)
-  as_shown es root len counter room limit greatest s Q own is h =
+  pub as_shown : (es : List (ArenaSlot P T I G)) (root : Option ℕ) (len counter room : ℕ) (limit : Option ℕ) (greatest steps : ℕ) (s : ArenaState T) (Q : ℕ → Option ℕ → ℕ → Type 0) → Shows number es root len (state_of number es root counter room limit greatest steps) → state_of number es root counter room limit greatest steps ≡ s → Q room limit (length es) → Q s.room s.limit (slot_count s)
+  as_shown es root len counter room limit greatest steps s Q own is h =
       subst (λ (a : ArenaState T). Q a.room a.limit (slot_count a)) is (subst (Q room limit) (sym (length-map es (entry_of number))) h)
 
   -- with another room or limit the slots are shown as before, if they fit
-  shows_again : (es : List (ArenaSlot P T I G)) (root : Option ℕ) (len counter room room' : ℕ) (limit limit' : Option ℕ) (greatest : ℕ) → Shows number es root len (state_of number es root counter room limit greatest) → length (map (entry_of number) es) ≤ min (capacity_of room' limit') greatest → Shows number es root len (state_of number es root counter room' limit' greatest)
-  shows_again es root len counter room room' limit limit' greatest own fits =
+  shows_again : (es : List (ArenaSlot P T I G)) (root : Option ℕ) (len counter room room' : ℕ) (limit limit' : Option ℕ) (greatest steps : ℕ) → Shows number es root len (state_of number es root counter room limit greatest steps) → length (map (entry_of number) es) ≤ min (capacity_of room' limit') greatest → Shows number es root len (state_of number es root counter room' limit' greatest steps)
+  shows_again es root len counter room room' limit limit' greatest steps own fits =
       record {
         slots = own.slots;
         linked = own.linked;
@@ -55,27 +55,27 @@ module _ {P T I G : Type 0} (number : G → ℕ) where
         well = record { free_once = own.well.free_once; total = own.well.total; fits = fits };
       }
 
-  pub room_changed : {A E : Type 0} (r : Result A E) (kind : StackKind) (es es' : List (ArenaSlot P T I G)) (root root' : Option ℕ) (len counter room room' : ℕ) (limit limit' : Option ℕ) (greatest m : ℕ) (s : ArenaState T) → Shows number es root len (state_of number es root counter room limit greatest) → state_of number es root counter room limit greatest ≡ s → es' ≡ es → root' ≡ root → limit' ≡ limit → OnOk r (room' ≡ reallocated_room kind room (length es) m) → OnErr r (room' ≡ room) → Shows number es' root' len (state_of number es' root' counter room' limit' greatest) × OnOk r (state_of number es' root' counter room' limit' greatest ≡ with_room_for kind s m) × OnErr r (state_of number es' root' counter room' limit' greatest ≡ s)
-  room_changed (Ok x) kind es es' root root' len counter room room' limit limit' greatest m s own is same from most made kept =
+  pub room_changed : {A E : Type 0} (r : Result A E) (kind : StackKind) (es es' : List (ArenaSlot P T I G)) (root root' : Option ℕ) (len counter room room' : ℕ) (limit limit' : Option ℕ) (greatest steps steps' m : ℕ) (s : ArenaState T) → Shows number es root len (state_of number es root counter room limit greatest steps) → state_of number es root counter room limit greatest steps ≡ s → es' ≡ es → root' ≡ root → limit' ≡ limit → OnOk r (room' ≡ reallocated_room kind room (length es) m) → OnErr r (room' ≡ room) → steps' ≡ steps → Shows number es' root' len (state_of number es' root' counter room' limit' greatest steps') × OnOk r (state_of number es' root' counter room' limit' greatest steps' ≡ with_room_for kind s m) × OnErr r (state_of number es' root' counter room' limit' greatest steps' ≡ s)
+  room_changed (Ok x) kind es es' root root' len counter room room' limit limit' greatest steps steps' m s own is same from most made kept n =
       let count = length-map es (entry_of number) in
       let fits = subst (λ n. length (map (entry_of number) es) ≤ min (capacity_of (reallocated_room kind room n m) limit) greatest) count (within_room kind room (length (map (entry_of number) es)) m greatest limit own.well.fits) in
-      rw (same, from, most, made) (
-        shows_again es root len counter room (reallocated_room kind room (length es) m) limit limit greatest own fits,
-        ap (λ n. state_of number es root counter (reallocated_room kind room n m) limit greatest) (sym count) ∙ ap (λ (a : ArenaState T). with_room_for kind a m) is,
+      rw (same, from, most, made, n) (
+        shows_again es root len counter room (reallocated_room kind room (length es) m) limit limit greatest steps own fits,
+        ap (λ k. state_of number es root counter (reallocated_room kind room k m) limit greatest steps) (sym count) ∙ ap (λ (a : ArenaState T). with_room_for kind a m) is,
         tt,
       )
-  room_changed (Err e) kind es es' root root' len counter room room' limit limit' greatest m s own is same from most made kept = rw (same, from, most, kept) (own, tt, is)
+  room_changed (Err e) kind es es' root root' len counter room room' limit limit' greatest steps steps' m s own is same from most made kept n = rw (same, from, most, kept, n) (own, tt, is)
 
-  pub limit_changed : {A E : Type 0} (r : Result A E) (es es' : List (ArenaSlot P T I G)) (root root' : Option ℕ) (len counter room room' : ℕ) (limit limit' : Option ℕ) (greatest x : ℕ) (s : ArenaState T) → Shows number es root len (state_of number es root counter room limit greatest) → state_of number es root counter room limit greatest ≡ s → es' ≡ es → root' ≡ root → room' ≡ room → (IsOk r → length es ≤ x) → OnOk r (limit' ≡ Some x) → OnErr r (limit' ≡ limit) → Shows number es' root' len (state_of number es' root' counter room' limit' greatest) × OnOk r (state_of number es' root' counter room' limit' greatest ≡ record s { limit = Some x }) × OnErr r (state_of number es' root' counter room' limit' greatest ≡ s)
-  limit_changed (Ok y) es es' root root' len counter room room' limit limit' greatest x s own is same from place within made kept =
+  pub limit_changed : {A E : Type 0} (r : Result A E) (es es' : List (ArenaSlot P T I G)) (root root' : Option ℕ) (len counter room room' : ℕ) (limit limit' : Option ℕ) (greatest steps steps' x : ℕ) (s : ArenaState T) → Shows number es root len (state_of number es root counter room limit greatest steps) → state_of number es root counter room limit greatest steps ≡ s → es' ≡ es → root' ≡ root → room' ≡ room → (IsOk r → length es ≤ x) → OnOk r (limit' ≡ Some x) → OnErr r (limit' ≡ limit) → steps' ≡ steps → Shows number es' root' len (state_of number es' root' counter room' limit' greatest steps') × OnOk r (state_of number es' root' counter room' limit' greatest steps' ≡ record s { limit = Some x }) × OnErr r (state_of number es' root' counter room' limit' greatest steps' ≡ s)
+  limit_changed (Ok y) es es' root root' len counter room room' limit limit' greatest steps steps' x s own is same from place within made kept n =
       let below = subst (λ n. n ≤ x) (sym (length-map es (entry_of number))) (within refl) in
       let fits = limit_fits (length (map (entry_of number) es)) room x greatest limit own.well.fits below in
-      rw (same, from, place, made) (
-        shows_again es root len counter room room limit (Some x) greatest own fits,
+      rw (same, from, place, made, n) (
+        shows_again es root len counter room room limit (Some x) greatest steps own fits,
         ap (λ (a : ArenaState T). record a { limit = Some x }) is,
         tt,
       )
-  limit_changed (Err e) es es' root root' len counter room room' limit limit' greatest x s own is same from place within made kept = rw (same, from, place, kept) (own, tt, is)
+  limit_changed (Err e) es es' root root' len counter room room' limit limit' greatest steps steps' x s own is same from place within made kept n = rw (same, from, place, kept, n) (own, tt, is)
 
 -- what there is place for, where neither room nor limit changed
 pub room_kept : (n room new_room : ℕ) (limit new_limit : Option ℕ) → new_room ≡ room → new_limit ≡ limit → n ≤ capacity_of room limit → n ≤ capacity_of new_room new_limit

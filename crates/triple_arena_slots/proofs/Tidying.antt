@@ -1,19 +1,20 @@
 -- How the free slots are put in order.
-use Rattle.std.proofs.Common.{◌≡◌, ◌≢◌, ℕ, zero, suc, ◌+◌, ◌<◌, ◌≤◌, ◌==◌, true, false, List, [], ◌∷◌, map, length, drop, Option, Some, None, is_some, count_by, cond, refl, sym, ap, ◌∙◌, arith, true≢false}
+use Rattle.std.proofs.Common.{◌≡◌, ◌≢◌, ℕ, zero, suc, ◌+◌, ◌<◌, ◌≤◌, ◌==◌, true, false, List, [], ◌∷◌, map, length, drop, Option, Some, None, is_some, count_by, refl, sym, ap, subst, ◌∙◌, inl, inr, arith, true≢false}
+use Rattle.std.proofs.lemmas.Bool.{cases_eq}
 use Rattle.std.proofs.lemmas.List.{length-map, drop_all}
-use Rattle.std.specs.Int.NonZero.{non_zero_usize_get}
-use Rattle.triple_arena_traits.specs.Items.{item, with_item}
+use Rattle.std.proofs.lemmas.Option.{same_Some}
+use Rattle.triple_arena_traits.specs.Items.{item}
 use Rattle.triple_arena_traits.specs.ArenaState.{ArenaState, arena_len, capacity}
 use Rattle.triple_arena_traits.specs.FreeList.{trimmed, gaps, tidied, laid_out}
 use Rattle.triple_arena_slots.specs.Slot.{entry_of}
-use Rattle.triple_arena_traits.specs.LengthLaws.{trimmed_live}
-use Rattle.triple_arena_slots.specs.Layout.{after, IsLinked, Shows}
-use Rattle.triple_arena_traits.specs.ItemLaws.{map-with_item, item_within, item-with_same, item-with_other, with_item_same, item-map_some}
-use Rattle.triple_arena_slots.specs.declared.slot.FreeLink.{FreeLink}
+use Rattle.triple_arena_traits.specs.LengthLaws.{trimmed_live, live_slot}
+use Rattle.triple_arena_slots.specs.Layout.{after, before, entry_at, IsLinked, Begins, Shows}
+use Rattle.triple_arena_traits.specs.ItemLaws.{joined, length-with_item, with_item_same}
 use Rattle.triple_arena_slots.specs.declared.slot.ArenaSlot.{ArenaSlot}
-use Rattle.triple_arena_slots.specs.declared.slot.ArenaSlot.TheVariants.{Free, Allocated}
 use Rattle.triple_arena_traits.specs.EntryLaws.{count_head}
-use Rattle.triple_arena_slots.proofs.Links.{IsLinked-off}
+use Rattle.triple_arena_traits.specs.WellFormedLaws.{count_tail}
+use Rattle.triple_arena_slots.proofs.TwoWay.{times, Once, Linked-led}
+use Rattle.triple_arena_slots.proofs.Links.{leads_of}
 use Rattle.triple_arena_traits.specs.FreeListLaws.{gaps_above}
 use Rattle.triple_arena_traits.specs.StepLaws.{IsWellFormed-laid_out, IsWellFormed-tidied}
 
@@ -27,16 +28,30 @@ module _ {T : Type 0} where
       let rest = entry_step xs at x (rw m (rw n at found)) in
       rw n (rw m at rest)
 
+  -- an index of a slot without an entry is that of a free one
+  pub vacant_within : (xs : List (Option (ℕ × T))) (i : ℕ) → 0 < i → i ≤ length xs → is_some (joined (item xs i)) ≡ false → item xs i ≡ Some None
+  vacant_within xs zero positive within none = absurd (omega (arith, positive))
+  vacant_within [] (suc k) positive within none = absurd (omega (arith, within))
+  vacant_within (None ∷ xs) (suc zero) positive within none = refl
+  vacant_within (Some e ∷ xs) (suc zero) positive within none = absurd (true≢false none)
+  vacant_within (x ∷ xs) (suc (suc k)) positive within none = vacant_within xs (suc k) (omega arith) (omega (arith, within)) none
+
+  -- each gap is one once
+  Once-gaps : (at : ℕ) (xs : List (Option (ℕ × T))) → Once (gaps at xs)
+  Once-gaps at [] j = omega arith
+  Once-gaps at (None ∷ xs) j =
+      elim (cases_eq at j) [
+        | inl here ↦ subst (λ m. times m (at ∷ gaps (at + 1) xs) ≤ 1) here (omega (arith, count_head at (gaps (at + 1) xs), gaps_above (at + 1) xs at (omega arith)))
+        | inr other ↦ omega (arith, count_tail at j (gaps (at + 1) xs) other, Once-gaps (at + 1) xs j)
+      ]
+  Once-gaps at (Some e ∷ xs) j = Once-gaps (at + 1) xs j
+
 module _ {P T I G : Type 0} (number : G → ℕ) where
   -- the slots from `at` on link in rising order
   pub record LinkedFrom (old now : List (ArenaSlot P T I G)) (at : ℕ) (root : Option ℕ) : Type 0 where
     pub same : map (entry_of number) now ≡ map (entry_of number) old
     pub linked : IsLinked now root (gaps (at + 1) (drop at (map (entry_of number) old)))
-
-  -- a slot with no entry is free
-  pub free_slot : (e : ArenaSlot P T I G) → is_some (entry_of number e) ≡ false → (link : FreeLink) × (e ≡ Free link)
-  free_slot (Free link) none = (link, refl)
-  free_slot (Allocated g v) none = absurd (true≢false none)
+    pub vacant : (j : ℕ) → root ≡ Some j → item (map (entry_of number) now) j ≡ Some None
 
   -- the root is no index at or before `at`
   pub root_past : (es : List (ArenaSlot P T I G)) (from : Option ℕ) (at : ℕ) (xs : List (Option (ℕ × T))) (i : ℕ) → i < at → IsLinked es from (gaps at xs) → from ≢ Some i
@@ -49,36 +64,35 @@ module _ {P T I G : Type 0} (number : G → ℕ) where
           absurd (omega (arith, none, count_head i rest, ap (λ m. count_by (λ k. k == i) (m ∷ rest)) same))
 
   -- the slots link as before where the one at hand has an entry
-  pub LinkedFrom-live : (old es : List (ArenaSlot P T I G)) (i at : ℕ) (root : Option ℕ) (e : ArenaSlot P T I G) → i ≡ at + 1 → LinkedFrom old es i root → item es i ≡ Some e → is_some (entry_of number e) ≡ true → LinkedFrom old es at root
-  LinkedFrom-live old es i at root e here l found live = by_entry (entry_of number e) refl live
-    where
-      by_entry : (o : Option (ℕ × T)) → entry_of number e ≡ o → is_some o ≡ true → LinkedFrom old es at root
-      by_entry None is some = absurd (true≢false (sym some))
-      by_entry (Some v) is some =
-          let there : item (map (entry_of number) old) (at + 1) ≡ Some (Some v) = ap (item (map (entry_of number) old)) (sym here) ∙ ap (λ xs. item xs i) (sym l.same) ∙ item-map_some (entry_of number) es i e found ∙ ap Some is in
-          record {
-            same = l.same;
-            linked = rw (entry_step (map (entry_of number) old) at (Some v) there) (rw here at l.linked);
-          }
+  pub LinkedFrom-live : (old es : List (ArenaSlot P T I G)) (i at : ℕ) (root : Option ℕ) → i ≡ at + 1 → LinkedFrom old es i root → is_some (entry_at number es i) ≡ true → LinkedFrom old es at root
+  LinkedFrom-live old es i at root here l live =
+      let found = live_slot (map (entry_of number) es) i live in
+      let there : item (map (entry_of number) old) (at + 1) ≡ Some (Some found.0) = ap (item (map (entry_of number) old)) (sym here) ∙ ap (λ xs. item xs i) (sym l.same) ∙ found.1 in
+      record {
+        same = l.same;
+        linked = rw (entry_step (map (entry_of number) old) at (Some found.0) there) (rw here at l.linked);
+        vacant = l.vacant;
+      }
 
-  -- a free slot links to what was the root, and is the root from then on
-  pub LinkedFrom-free : (old es es1 : List (ArenaSlot P T I G)) (i at : ℕ) (root : Option ℕ) (e : ArenaSlot P T I G) (link : FreeLink) → i ≡ at + 1 → LinkedFrom old es i root → item es i ≡ Some e → is_some (entry_of number e) ≡ false → cond (non_zero_usize_get link.next == i) None (Some (non_zero_usize_get link.next)) ≡ root → es1 ≡ with_item es i (Free link) → LinkedFrom old es1 at (Some i)
-  LinkedFrom-free old es es1 i at root e link here l found none links written =
-      let is = (free_slot e none).1 in
-      let within = item_within es i e found in
-      let vacant : item (map (entry_of number) es) i ≡ Some None = item-map_some (entry_of number) es i e found ∙ ap (λ x. Some (entry_of number x)) is in
+  -- a free slot comes before what was the root, and is the root from then on
+  pub LinkedFrom-free : (old es es1 : List (ArenaSlot P T I G)) (i at : ℕ) (root : Option ℕ) → i ≡ at + 1 → LinkedFrom old es i root → item (map (entry_of number) es) i ≡ Some None → Begins number es es1 root i → LinkedFrom old es1 at (Some i)
+  LinkedFrom-free old es es1 i at root here l vacant begins =
       let there : item (map (entry_of number) old) (at + 1) ≡ Some None = ap (item (map (entry_of number) old)) (sym here) ∙ ap (λ xs. item xs i) (sym l.same) ∙ vacant in
-      let next : after (with_item es i (Free link)) i ≡ root = rw (item-with_same es i (Free link) within.0 within.1) links in
-      let rest : IsLinked es root (gaps (i + 1) (drop i (map (entry_of number) old))) = l.linked in
-      let kept : IsLinked (with_item es i (Free link)) root (gaps (i + 1) (drop i (map (entry_of number) old))) = IsLinked-off es (with_item es i (Free link)) i root _ (λ j other. item-with_other es i j (Free link) other) (gaps_above (i + 1) (drop i (map (entry_of number) old)) i (omega arith)) rest in
-      rw written (record {
-        same = map-with_item (entry_of number) es i (Free link) ∙ with_item_same (map (entry_of number) es) i None vacant ∙ l.same;
-        linked = rw (entry_step (map (entry_of number) old) at None there) (ap Some here, rw (← here) (rw next kept));
-      })
+      let same : map (entry_of number) es1 ≡ map (entry_of number) es = begins.entries ∙ with_item_same (map (entry_of number) es) i None vacant in
+      let linked : IsLinked es1 (Some i) (i ∷ gaps (i + 1) (drop i (map (entry_of number) old))) = Linked-led (after es) (before es) (after es1) (before es1) root i _ (leads_of number es es1 root i begins) (gaps_above (i + 1) (drop i (map (entry_of number) old)) i (omega arith)) (Once-gaps (i + 1) (drop i (map (entry_of number) old))) l.linked in
+      record {
+        same = same ∙ l.same;
+        linked = rw (entry_step (map (entry_of number) old) at None there) (subst (λ m. IsLinked es1 (Some i) (m ∷ gaps (m + 1) (drop m (map (entry_of number) old)))) here linked);
+        vacant = λ j h. ap (λ xs. item xs j) same ∙ subst (λ m. item (map (entry_of number) es) m ≡ Some None) (same_Some _ _ h) vacant;
+      }
+
+  pub Begins-length : (es es1 : List (ArenaSlot P T I G)) (root : Option ℕ) (i : ℕ) → Begins number es es1 root i → length es1 ≡ length es
+  Begins-length es es1 root i begins =
+      sym (length-map es1 (entry_of number)) ∙ ap length begins.entries ∙ length-with_item (map (entry_of number) es) i None ∙ length-map es (entry_of number)
 
   pub LinkedFrom-start : (es : List (ArenaSlot P T I G)) → LinkedFrom es es (length es) None
   LinkedFrom-start es =
-      record { same = refl; linked = rw (drop_all (length es) (map (entry_of number) es) (omega (arith, length-map es (entry_of number)))) refl }
+      record { same = refl; linked = rw (drop_all (length es) (map (entry_of number) es) (omega (arith, length-map es (entry_of number)))) refl; vacant = λ j h. absurd (cc) }
 
   pub LinkedFrom-done : (old es : List (ArenaSlot P T I G)) (at : ℕ) (root : Option ℕ) → at ≡ 0 → LinkedFrom old es at root → IsLinked es root (gaps 1 (map (entry_of number) old))
   LinkedFrom-done old es at root none l = rw none at l.linked

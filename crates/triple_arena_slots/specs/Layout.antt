@@ -1,23 +1,26 @@
--- How an arena lies in its slots. Of public clauses those of `Slots` alone cite this module.
-use Rattle.std.specs.Prelude.{◌≡◌, ◌≤◌, ℕ, zero, suc, ◌==◌, cond, List, [], ◌∷◌, map, length, count_by, Option, Some, None}
-use Rattle.std.specs.Int.NonZero.{non_zero_usize_get}
+-- How an arena lies in its slots. Of public clauses those of `Slots` cite this module, and `links` of an arena's `backing`.
+use Rattle.std.specs.Prelude.{◌≡◌, ◌≢◌, ℕ, zero, suc, List, [], ◌∷◌, map, length, take, ◌-◌, Option, Some, None, MatchOption}
+use Rattle.std.specs.Option.{option_and_then}
 use Rattle.triple_arena_traits.specs.Items.{item, with_item}
 use Rattle.triple_arena_traits.specs.Entries.{entry_in}
-use Rattle.triple_arena_traits.specs.ArenaState.{ArenaState, IsWellFormed, arena_len, is_free}
-use Rattle.triple_arena_slots.specs.Slot.{entry_of, with_slot_value}
+use Rattle.triple_arena_traits.specs.ArenaState.{ArenaState, IsWellFormed, arena_len, slot_count}
+use Rattle.triple_arena_traits.specs.FreeList.{up_to}
+use Rattle.triple_arena_slots.specs.Slot.{entry_of, next_in, previous_in, with_slot_value}
 use Rattle.triple_arena_slots.specs.declared.slot.ArenaSlot.{ArenaSlot}
-use Rattle.triple_arena_slots.specs.declared.slot.ArenaSlot.TheVariants.{Free, Allocated}
+
+-- from a link on, each index leads to the next and back to the one before, and the last leads to none
+abbrev pub Linked : (ℕ → Option ℕ) → (ℕ → Option ℕ) → Option ℕ → Option ℕ → List ℕ → Type 0
+Linked on back last from [] = from ≡ None
+Linked on back last from (i ∷ rest) = (from ≡ Some i) × (back i ≡ last) × Linked on back (Some i) (on i) rest
 
 module _ {P T I G : Type 0} where
-  -- the index that the slot links to, or i where there is none
-  abbrev pub next_of : Option (ArenaSlot P T I G) → ℕ → ℕ
-  next_of None i = i
-  next_of (Some (Free link)) i = non_zero_usize_get link.next
-  next_of (Some (Allocated generation value)) i = i
-
   -- the free index after i, if there is one
   abbrev pub after : List (ArenaSlot P T I G) → ℕ → Option ℕ
-  after es i = cond (next_of (item es i) i == i) None (Some (next_of (item es i) i))
+  after es i = option_and_then (λ slot. next_in slot i) (item es i)
+
+  -- the free index before i, if there is one
+  abbrev pub before : List (ArenaSlot P T I G) → ℕ → Option ℕ
+  before es i = option_and_then (λ slot. previous_in slot i) (item es i)
 
   -- the indexes from a link on, at most so many
   abbrev pub chain : List (ArenaSlot P T I G) → ℕ → Option ℕ → List ℕ
@@ -25,9 +28,9 @@ module _ {P T I G : Type 0} where
   chain es (suc fuel) None = []
   chain es (suc fuel) (Some i) = i ∷ chain es fuel (after es i)
 
-  -- the state that these slots and this first free index stand for, with counter, room, limit and greatest index
-  abbrev pub state_of : (G → ℕ) → List (ArenaSlot P T I G) → Option ℕ → ℕ → ℕ → Option ℕ → ℕ → ArenaState T
-  state_of number es root counter room limit greatest =
+  -- the state that these slots and this first free index stand for, with counter, room, limit, greatest index and count of steps
+  abbrev pub state_of : (G → ℕ) → List (ArenaSlot P T I G) → Option ℕ → ℕ → ℕ → Option ℕ → ℕ → ℕ → ArenaState T
+  state_of number es root counter room limit greatest steps =
       record {
         slots = map (entry_of number) es;
         counter = counter;
@@ -35,18 +38,52 @@ module _ {P T I G : Type 0} where
         room = room;
         limit = limit;
         greatest = greatest;
+        steps = steps;
       }
 
-  -- these free slots each link to the next, and the last to none
+  -- these free slots each link to the next and to the one before, and the first and the last to none there
   abbrev pub IsLinked : List (ArenaSlot P T I G) → Option ℕ → List ℕ → Type 0
-  IsLinked es from [] = from ≡ None
-  IsLinked es from (i ∷ rest) = (from ≡ Some i) × IsLinked es (after es i) rest
+  IsLinked es from free = Linked (after es) (before es) None from free
 
-  -- these are indexes of free slots, each once, which link to each other in this order
-  pub record IsFreeList (number : G → ℕ) (es : List (ArenaSlot P T I G)) (from : Option ℕ) (free : List ℕ) : Type 0 where
-    pub linked : IsLinked es from free
-    pub once : (i : ℕ) → count_by (λ j. j == i) free ≤ cond (is_free (item (map (entry_of number) es) i)) 1 0
-    pub fits : length free ≤ length es
+  -- of the slots one that is free, if any, leads on to this index, and no other link changes
+  pub record LeadsOn (number : G → ℕ) (old new : List (ArenaSlot P T I G)) (from to : Option ℕ) : Type 0 where
+    pub entries : map (entry_of number) new ≡ map (entry_of number) old
+    pub next : (j : ℕ) → from ≡ Some j → after new j ≡ to
+    pub kept : (j : ℕ) → from ≢ Some j → after new j ≡ after old j
+    pub back : (j : ℕ) → before new j ≡ before old j
+
+  -- of the slots one that is free, if any, leads back to this index, and no other link changes
+  pub record LeadsBack (number : G → ℕ) (old new : List (ArenaSlot P T I G)) (from to : Option ℕ) : Type 0 where
+    pub entries : map (entry_of number) new ≡ map (entry_of number) old
+    pub previous : (j : ℕ) → from ≡ Some j → before new j ≡ to
+    pub kept : (j : ℕ) → from ≢ Some j → before new j ≡ before old j
+    pub on : (j : ℕ) → after new j ≡ after old j
+
+  -- the slot at the index is free, leads to what was first, and back to none, and no link of another changes but that
+  -- what was first leads back to it
+  pub record Begins (number : G → ℕ) (old new : List (ArenaSlot P T I G)) (root : Option ℕ) (i : ℕ) : Type 0 where
+    pub entries : map (entry_of number) new ≡ with_item (map (entry_of number) old) i None
+    pub next : after new i ≡ root
+    pub first : before new i ≡ None
+    pub back : (j : ℕ) → j ≢ i → root ≡ Some j → before new j ≡ Some i
+    pub kept : (j : ℕ) → j ≢ i → after new j ≡ after old j
+    pub kept_back : (j : ℕ) → j ≢ i → root ≢ Some j → before new j ≡ before old j
+
+  -- a free slot with this link at this index can leave the list: the slots that it leads to are free, and two
+  pub record CanLeave (number : G → ℕ) (es : List (ArenaSlot P T I G)) (on back : Option ℕ) : Type 0 where
+    pub next : (j : ℕ) → on ≡ Some j → item (map (entry_of number) es) j ≡ Some None
+    pub previous : (j : ℕ) → back ≡ Some j → item (map (entry_of number) es) j ≡ Some None
+    pub apart : (j : ℕ) → back ≡ Some j → on ≢ Some j
+
+  -- the slots before and after one that left lead to each other, and no other link changes; where there is none before
+  -- it, the one after is the first
+  pub record Leaves (number : G → ℕ) (old new : List (ArenaSlot P T I G)) (root new_root on back : Option ℕ) : Type 0 where
+    pub entries : map (entry_of number) new ≡ map (entry_of number) old
+    pub next : (j : ℕ) → back ≡ Some j → after new j ≡ on
+    pub kept_next : (j : ℕ) → back ≢ Some j → after new j ≡ after old j
+    pub previous : (j : ℕ) → on ≡ Some j → before new j ≡ back
+    pub kept_previous : (j : ℕ) → on ≢ Some j → before new j ≡ before old j
+    pub begins : MatchOption back (new_root ≡ on) (λ _. new_root ≡ root)
 
   -- the slots, the first free index and the count of entries are those of the state
   pub record Shows (number : G → ℕ) (es : List (ArenaSlot P T I G)) (root : Option ℕ) (len : ℕ) (s : ArenaState T) : Type 0 where
@@ -63,3 +100,7 @@ module _ {P T I G : Type 0} where
   abbrev pub with_value_at : List (ArenaSlot P T I G) → ℕ → Option (ArenaSlot P T I G) → T → List (ArenaSlot P T I G)
   with_value_at es i None value = es
   with_value_at es i (Some slot) value = with_item es i (with_slot_value slot value)
+
+-- the state without the last slot, which leaves the free list
+abbrev pub without_last : {T : Type 0} → ArenaState T → ArenaState T
+without_last s = record s { slots = take (slot_count s - 1) s.slots; free = up_to (slot_count s - 1) s.free }

@@ -2,6 +2,12 @@
 use Rattle.std.specs.Prelude.{ℕ, List, length}
 use Rattle.std.specs.Borrow.{Lends, Array, Fml, RattleType, MutBor}
 use Rattle.std.specs.List.{refill}
+use Rattle.std.specs.declared.fmt.Debug as gDebug
+use Rattle.std.specs.declared.hash.Hash as gHash
+use Rattle.std.specs.declared.cmp.PartialEq as gPartialEq
+use Rattle.std.specs.declared.cmp.PartialOrd as gPartialOrd
+use Rattle.std.specs.declared.cmp.Ord as gOrd
+use Rattle.triple_arena_ptr.specs.declared.inx.PtrInx as gPtrInx
 use Rattle.triple_arena_traits.specs.Items.{item}
 use Rattle.triple_arena_slots.specs.Layout.{with_value_at}
 use Rattle.triple_arena_slots.specs.declared.slot.ArenaSlot.{ArenaSlot}
@@ -9,11 +15,12 @@ use Rattle.triple_arena_slots.specs.declared.slots.Slots.{Slots}
 use Rattle.triple_arena_slots.specs.contracts.slot.ArenaSlot.{the_row as slot_row}
 use Rattle.triple_arena_slots.specs.contracts.slots.Slots.{the_row}
 
-module _ (P T S I G : RattleType) (items : S.Denot → List (ArenaSlot P.Denot T.Denot I.Denot G.Denot)) (with_items : S.Denot → List (ArenaSlot P.Denot T.Denot I.Denot G.Denot) → S.Denot) where
+module _ (P T S I G : RattleType) (inx : gPtrInx.Ghosts I.Denot) (debug : gDebug.Ghosts I.Denot) (hash : gHash.Ghosts I.Denot) (equal : gPartialEq.Ghosts I.Denot) (compared : gPartialOrd.Ghosts I.Denot) (order : gOrd.Ghosts I.Denot)
+    (items : S.Denot → List (ArenaSlot P.Denot T.Denot I.Denot G.Denot)) (with_items : S.Denot → List (ArenaSlot P.Denot T.Denot I.Denot G.Denot) → S.Denot) where
   -- once the borrow ends, the entry at that index has the value that was last written
   abbrev pub lends_slot_value : MutBor (Slots P.Denot T.Denot S.Denot I.Denot G.Denot) → ℕ → MutBor T.Denot → Fml
   lends_slot_value slots i value =
-      Lends (the_row P T S I G) T slots value (λ w. record slots.now {
+      Lends (the_row P T S I G inx debug hash equal compared order) T slots value (λ w. record slots.now {
         stack = with_items slots.now.stack (with_value_at (items slots.now.stack) i (item (items slots.now.stack) i) w);
       })
 
@@ -24,4 +31,4 @@ module _ (P T S I G : RattleType) (items : S.Denot → List (ArenaSlot P.Denot T
 
   -- once the borrow ends, the slots are those that were last written
   abbrev pub lends_slots : MutBor (Slots P.Denot T.Denot S.Denot I.Denot G.Denot) → MutBor (List (ArenaSlot P.Denot T.Denot I.Denot G.Denot)) → Fml
-  lends_slots slots written = Lends (the_row P T S I G) (Array (slot_row P T I G) 0) slots written (with_slots slots.now)
+  lends_slots slots written = Lends (the_row P T S I G inx debug hash equal compared order) (Array (slot_row P T I G inx debug hash equal compared order) 0) slots written (with_slots slots.now)

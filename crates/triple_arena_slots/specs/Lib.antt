@@ -1,3 +1,4 @@
+pub mod Link
 pub mod Slot
 pub mod SlotLaws
 pub mod Layout

@@ -1,13 +1,21 @@
 -- What a slot holds.
-use Rattle.std.specs.Prelude.{ℕ, ◌==◌, cond, Option, Some, None}
-use Rattle.std.specs.Int.NonZero.{non_zero_usize_get}
-use Rattle.triple_arena_slots.specs.declared.slot.FreeLink.{FreeLink}
+use Rattle.std.specs.Prelude.{◌≡◌, ℕ, ◌==◌, cond, Option, Some, None}
+use Rattle.triple_arena_slots.specs.Link.{Link}
 use Rattle.triple_arena_slots.specs.declared.slot.ArenaSlot.{ArenaSlot}
 use Rattle.triple_arena_slots.specs.declared.slot.ArenaSlot.TheVariants.{Free, Allocated}
 
 -- the index that the link of the free slot at index i leads to, if it leads to one
-abbrev pub next_free : FreeLink → ℕ → Option ℕ
-next_free link i = cond (non_zero_usize_get link.next == i) None (Some (non_zero_usize_get link.next))
+abbrev pub next_free : Link → ℕ → Option ℕ
+next_free link i = cond (link.next == i) None (Some link.next)
+
+-- the index that it leads back to, if it leads back to one
+abbrev pub previous_free : Link → ℕ → Option ℕ
+previous_free link i = cond (link.previous == i) None (Some link.previous)
+
+-- one slot is touched where there is an index
+abbrev pub touch_if : Option ℕ → ℕ
+touch_if None = 0
+touch_if (Some i) = 1
 
 module _ {P T I G : Type 0} where
   -- the generation, by its number, and the value of the slot's entry, if it has one
@@ -24,3 +32,25 @@ module _ {P T I G : Type 0} where
   abbrev pub with_slot_generation : ArenaSlot P T I G → G → ArenaSlot P T I G
   with_slot_generation (Free link) g = Free link
   with_slot_generation (Allocated generation v) g = Allocated g v
+
+  -- the index that the slot at index i leads to, if it is free and leads to one
+  abbrev pub next_in : ArenaSlot P T I G → ℕ → Option ℕ
+  next_in (Free link) i = next_free link i
+  next_in (Allocated generation v) i = None
+
+  -- the index that it leads back to, if it is free and leads back to one
+  abbrev pub previous_in : ArenaSlot P T I G → ℕ → Option ℕ
+  previous_in (Free link) i = previous_free link i
+  previous_in (Allocated generation v) i = None
+
+  -- a free slot stays so, and leads on to this index alone
+  pub record LinksOn (old new : ArenaSlot P T I G) (i : ℕ) (to : Option ℕ) : Type 0 where
+    pub free : (link : Link) × (new ≡ Free link)
+    pub next : next_in new i ≡ to
+    pub previous : previous_in new i ≡ previous_in old i
+
+  -- a free slot stays so, and leads back to this index alone
+  pub record LinksBack (old new : ArenaSlot P T I G) (i : ℕ) (to : Option ℕ) : Type 0 where
+    pub free : (link : Link) × (new ≡ Free link)
+    pub next : next_in new i ≡ next_in old i
+    pub previous : previous_in new i ≡ to

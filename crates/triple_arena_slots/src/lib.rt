@@ -1,7 +1,9 @@
 //! The slots of an `Arena`, and the free list that runs through them.
 #![tactic(auto)]
 
+mod arena_steps;
 mod slot;
+mod slot_steps;
 mod slots;
 
 pub use slot::{ArenaSlot, FreeLink};

@@ -1,52 +1,122 @@
 //! A slot of an arena.
 
-ghost use Rattle.std.specs.Prelude.{◌≡◌, ◌≢◌, ◌==◌, cond, None, Some, IsSome, IsNone};
+ghost use Rattle.std.specs.Prelude.{◌≡◌, ◌≢◌, ◌≤◌, ℕ, None, Some, IsSome, IsNone};
+ghost use Rattle.triple_arena_ptr.specs.Numbers.{greatest_index};
 ghost use Rattle.std.specs.Int.NonZero.{non_zero_usize_get};
 ghost use Rattle.std.specs.Option.{option_map};
-ghost use Rattle.triple_arena_slots.specs.Slot.{entry_of, next_free, with_slot_value, with_slot_generation};
+ghost use Rattle.triple_arena_slots.specs.Slot.{entry_of, next_free, previous_free, LinksOn, LinksBack, with_slot_value, with_slot_generation};
 
+use std::marker::Model;
 use std::num::NonZeroUsize;
-use triple_arena_ptr::{Ptr, PtrGen};
+use triple_arena_ptr::{Ptr, PtrGen, PtrInx};
 use triple_arena_traits::EntrySlot;
 
-/// Names the next free slot, or its own where it is the last.
-#[derive(Clone, Copy)]
-pub struct FreeLink {
-    pub(crate) next: NonZeroUsize,
+/// Names the free slots before and after a free one in the free list, or its own where there is
+/// none on that side.
+#[derive(Drop)]
+pub struct FreeLink<I: PtrInx> {
+    previous: I,
+    next: I,
 }
 
-impl FreeLink {
-    // The link at `inx` to the next free slot, if there is one.
-    pub(crate) fn to(next: Option<NonZeroUsize>, inx: NonZeroUsize) -> Self
-        requires { option_map non_zero_usize_get next ≢ Some (non_zero_usize_get inx) }
-        ensures { cond (non_zero_usize_get result.next == non_zero_usize_get inx)
-            None (Some (non_zero_usize_get result.next)) ≡ option_map non_zero_usize_get next }
+impl<I: PtrInx> Model for FreeLink<I> {
+    ghost use Rattle.std.specs.Prelude.{◌≤◌};
+    ghost use Rattle.triple_arena_ptr.specs.Numbers.{greatest_index};
+    ghost use Rattle.triple_arena_slots.specs.Link.{Link};
+
+    ghost Value = { Link };
+
+    ghost view = { λ link. record {
+      previous = I.number link.previous;
+      next = I.number link.next;
+    } };
+
+    ghost invariant = { λ link. (I.number link.previous ≤ greatest_index I.greatest)
+        × (I.number link.next ≤ greatest_index I.greatest) };
+}
+
+impl<I: PtrInx> FreeLink<I> {
+    // The link at `inx` of the first free slot, before the one that was first, if there was one.
+    pub(crate) fn first(next: Option<NonZeroUsize>, inx: NonZeroUsize) -> Self
+        requires other { option_map non_zero_usize_get next ≢ Some (non_zero_usize_get inx) }
+        requires indexed { non_zero_usize_get inx ≤ greatest_index I.greatest }
+        requires next_indexed { (j : ℕ) → option_map non_zero_usize_get next ≡ Some j
+            → j ≤ greatest_index I.greatest }
+        ensures next { next_free result (non_zero_usize_get inx)
+            ≡ option_map non_zero_usize_get next }
+        ensures previous { previous_free result (non_zero_usize_get inx) ≡ None }
     {
         FreeLink {
-            next: next.unwrap_or(inx),
+            previous: index_of(inx),
+            next: index_of(next.unwrap_or(inx)),
         }
     }
 
     /// The free index that comes after `inx` in the free list, where this is the link of the free
     /// slot at `inx`; none where `inx` comes last. From `freelist_root` on, the links of `backing`
     /// go through all free indexes in the order in which insertion takes them.
-    pub fn after(self, inx: NonZeroUsize) -> Option<NonZeroUsize>
+    pub fn after(&self, inx: NonZeroUsize) -> Option<NonZeroUsize>
         ensures { option_map non_zero_usize_get result
-            ≡ next_free self (non_zero_usize_get inx) }
+            ≡ next_free self.now (non_zero_usize_get inx) }
     {
-        if self.next == inx {
+        let next = I::try_into_usize(self.next).unwrap();
+        if next == inx { None } else { Some(next) }
+    }
+
+    /// The free index that comes before `inx` in the free list, where this is the link of the free
+    /// slot at `inx`; none where `inx` comes first.
+    pub fn before(&self, inx: NonZeroUsize) -> Option<NonZeroUsize>
+        ensures { option_map non_zero_usize_get result
+            ≡ previous_free self.now (non_zero_usize_get inx) }
+    {
+        let previous = I::try_into_usize(self.previous).unwrap();
+        if previous == inx {
             None
         } else {
-            Some(self.next)
+            Some(previous)
         }
     }
+
+    // Leads the link of the free slot at `inx` on to another.
+    pub(crate) fn set_next(&mut self, next: Option<NonZeroUsize>, inx: NonZeroUsize)
+        requires other { option_map non_zero_usize_get next ≢ Some (non_zero_usize_get inx) }
+        requires indexed { non_zero_usize_get inx ≤ greatest_index I.greatest }
+        requires next_indexed { (j : ℕ) → option_map non_zero_usize_get next ≡ Some j
+            → j ≤ greatest_index I.greatest }
+        ensures next { next_free self.new (non_zero_usize_get inx)
+            ≡ option_map non_zero_usize_get next }
+        ensures previous { self.new.previous ≡ self.old.previous }
+    {
+        self.next = index_of(next.unwrap_or(inx));
+    }
+
+    // Leads the link of the free slot at `inx` back to another.
+    pub(crate) fn set_previous(&mut self, previous: Option<NonZeroUsize>, inx: NonZeroUsize)
+        requires other { option_map non_zero_usize_get previous ≢ Some (non_zero_usize_get inx) }
+        requires indexed { non_zero_usize_get inx ≤ greatest_index I.greatest }
+        requires previous_indexed { (j : ℕ) → option_map non_zero_usize_get previous ≡ Some j
+            → j ≤ greatest_index I.greatest }
+        ensures next { self.new.next ≡ self.old.next }
+        ensures previous { previous_free self.new (non_zero_usize_get inx)
+            ≡ option_map non_zero_usize_get previous }
+    {
+        self.previous = index_of(previous.unwrap_or(inx));
+    }
+}
+
+// The index of that number.
+fn index_of<I: PtrInx>(inx: NonZeroUsize) -> I
+    requires { non_zero_usize_get inx ≤ greatest_index I.greatest }
+    ensures { I.number result ≡ non_zero_usize_get inx }
+{
+    I::try_from_usize(inx).unwrap()
 }
 
 /// A slot of an arena: free, or with an entry, which has a generation and a value.
 #[derive(Drop)]
 pub enum ArenaSlot<P: Ptr, T> {
     /// A slot without an entry.
-    Free(FreeLink),
+    Free(FreeLink<P::Inx>),
     /// The generation and the value of an entry.
     Allocated(P::Gen, T),
 }
@@ -56,15 +126,13 @@ impl<P: Ptr, T> Default for ArenaSlot<P, T> {
 
     /// A free slot.
     fn default() -> Self {
-        ArenaSlot::Free(FreeLink {
-            next: NonZeroUsize::MIN,
-        })
+        ArenaSlot::Free(FreeLink::first(None, NonZeroUsize::MIN))
     }
 }
 
 impl<P: Ptr, T> ArenaSlot<P, T> {
     // Takes the link out of a free slot.
-    pub(crate) fn into_link(self) -> FreeLink
+    pub(crate) fn into_link(self) -> FreeLink<P::Inx>
         requires { IsNone (entry_of P.Gen.number self) }
         ensures { self ≡ ArenaSlot.Free result }
     {
@@ -74,24 +142,34 @@ impl<P: Ptr, T> ArenaSlot<P, T> {
         }
     }
 
-    // The link of a free slot.
-    pub(crate) fn link(&self) -> FreeLink
-        requires { IsNone (entry_of P.Gen.number self.now) }
-        ensures { self.now ≡ ArenaSlot.Free result }
+    // Links a free slot at `inx` on to another, or makes it the last.
+    pub(crate) fn link_on(&mut self, next: Option<NonZeroUsize>, inx: NonZeroUsize)
+        requires free { IsNone (entry_of P.Gen.number self.old) }
+        requires other { option_map non_zero_usize_get next ≢ Some (non_zero_usize_get inx) }
+        requires indexed { non_zero_usize_get inx ≤ greatest_index P.Inx.greatest }
+        requires next_indexed { (j : ℕ) → option_map non_zero_usize_get next ≡ Some j
+            → j ≤ greatest_index P.Inx.greatest }
+        ensures { LinksOn self.old self.new (non_zero_usize_get inx)
+            (option_map non_zero_usize_get next) }
     {
         match self {
-            ArenaSlot::Free(link) => *link,
+            ArenaSlot::Free(link) => link.set_next(next, inx),
             ArenaSlot::Allocated(_, _) => unreachable!(),
         }
     }
 
-    // Puts another link on a free slot.
-    pub(crate) fn set_link(&mut self, link: FreeLink)
-        requires { IsNone (entry_of P.Gen.number self.old) }
-        ensures { self.new ≡ ArenaSlot.Free link }
+    // Links a free slot at `inx` back to another, or makes it the first.
+    pub(crate) fn link_back(&mut self, previous: Option<NonZeroUsize>, inx: NonZeroUsize)
+        requires free { IsNone (entry_of P.Gen.number self.old) }
+        requires other { option_map non_zero_usize_get previous ≢ Some (non_zero_usize_get inx) }
+        requires indexed { non_zero_usize_get inx ≤ greatest_index P.Inx.greatest }
+        requires previous_indexed { (j : ℕ) → option_map non_zero_usize_get previous ≡ Some j
+            → j ≤ greatest_index P.Inx.greatest }
+        ensures { LinksBack self.old self.new (non_zero_usize_get inx)
+            (option_map non_zero_usize_get previous) }
     {
         match self {
-            ArenaSlot::Free(old) => *old = link,
+            ArenaSlot::Free(link) => link.set_previous(previous, inx),
             ArenaSlot::Allocated(_, _) => unreachable!(),
         }
     }

@@ -1,6 +1,6 @@
-//! The slots of an arena, and the free list that runs through them.
+//! The stack of an arena's slots, and how many of them were touched.
 
-ghost use Rattle.std.specs.Prelude.{◌≡◌, ◌<◌, ◌≤◌, ◌+◌, ◌-◌, ◌^◌, ◌==◌, ◌↔◌, ℕ, List, [], map, length, take, reverse, Option, Some, None, IsSome, IsOk, OnOk, OnErr, Err, MatchOption, option_copied};
+ghost use Rattle.std.specs.Prelude.{◌≡◌, ◌≢◌, ◌<◌, ◌≤◌, ◌+◌, ◌-◌, ◌∷◌, ◌++◌, slice_get, ◌↔◌, ℕ, List, [], map, length, take, Some, None, is_some, IsSome, IsOk, OnOk, OnErr, Err};
 ghost use Rattle.std.specs.Borrow.{sem};
 ghost use Rattle.std.specs.Int.NonZero.{non_zero_usize_get};
 ghost use Rattle.std.specs.Option.{option_map};
@@ -8,42 +8,52 @@ ghost use Rattle.triple_arena_ptr.specs.Numbers.{greatest_index};
 ghost use Rattle.triple_arena_stack.specs.StackKind.{reallocated_room, IsOfKind};
 ghost use Rattle.triple_arena_stack.specs.Capacity.{capacity_of, IsWithin, IsBeyond};
 ghost use Rattle.triple_arena_traits.specs.Items.{item, with_item};
-ghost use Rattle.triple_arena_traits.specs.ArenaState.{ArenaState, arena_len, capacity, is_free};
-ghost use Rattle.triple_arena_traits.specs.Insertion.{place, inserted};
-ghost use Rattle.triple_arena_traits.specs.Ending.{removed};
-ghost use Rattle.triple_arena_traits.specs.Entries.{with_generation_in, entry_count};
-ghost use Rattle.triple_arena_traits.specs.FreeList.{trimmed, last_index, gaps, up_to, without_free_end};
+ghost use Rattle.triple_arena_traits.specs.ArenaState.{ArenaState, is_free};
+ghost use Rattle.triple_arena_traits.specs.Entries.{with_generation_in, entry_count, look_up_in};
+ghost use Rattle.triple_arena_traits.specs.FreeList.{trimmed, last_index};
 ghost use Rattle.triple_arena_traits.specs.Walks.{entries};
 ghost use Rattle.triple_arena_traits.specs.Compression.{compressed, rank};
 ghost use Rattle.triple_arena_traits.specs.Moves.{Moves};
 ghost use Rattle.triple_arena_traits.specs.Copying.{Copies};
 ghost use Rattle.triple_arena_traits.specs.Transfers.{Transfers};
-ghost use Rattle.triple_arena_slots.specs.Slot.{entry_of};
+ghost use Rattle.triple_arena_slots.specs.Slot.{entry_of, touch_if, with_slot_value};
 ghost use Rattle.triple_arena_traits.specs.Places.{number_or_zero};
-ghost use Rattle.triple_arena_slots.specs.Layout.{Shows, IsLinked, IsFreeList, entry_at};
+ghost use Rattle.triple_arena_slots.specs.Layout.{Shows, LeadsOn, LeadsBack, entry_at};
+ghost use Rattle.triple_arena_stack.specs.Disjoint.{MayWork, Worked};
+ghost use Rattle.triple_arena_traits.specs.Disjoint.{value_of};
+ghost use Rattle.triple_arena_traits.specs.SlotPairs.{WritesTwo};
 
-use crate::slot::{ArenaSlot, FreeLink};
+use crate::slot::ArenaSlot;
+use crate::slot_steps::SlotSteps;
 use std::marker::PhantomData;
 use std::num::NonZeroUsize;
 use triple_arena_base::{InvalidationOption, MaxCapacityReductionError, ReallocationError};
 use triple_arena_ptr::{Ptr, PtrGen, PtrInx};
 use triple_arena_stack::{NonZeroInxGenericStack, SetMaxCapacity};
 use triple_arena_traits::copying::copy_entries;
-use triple_arena_traits::entry_slots::{count_live, last_live, replace, shorten};
+use triple_arena_traits::entry_slots::{replace, shorten, slot_at, work_on_two};
+use triple_arena_traits::pair_call::PairCall;
 use triple_arena_traits::transferring::transfer_entries;
-use triple_arena_traits::{ArenaTrait, CompactArenaTrait, EntrySlot, close_up};
+use triple_arena_traits::{CompactArenaTrait, EntrySlot, close_up};
 
-/// The slots of an arena. Each free one links to the next, beginning at the root.
+/// The slots of an arena. Each free one links to the next and to the one before, beginning at the
+/// root.
 ///
-/// No other type writes, pushes or pops a slot; look-ups borrow one from here. The clauses speak of
-/// the arena states that the slots show, together with the number of entries, which the arena
-/// counts.
+/// No other type pushes or pops a slot, or writes one but through what `value_mut`, `work_on_two` and
+/// `as_mut_slice` lend; look-ups borrow the stack from here. The calls that touch one slot come last
+/// in this module, and each adds one to a count that no other line writes. The other calls lend
+/// slots, or change many at once, and add nothing; no call of bounded work stands on one of these.
+///
+/// The clauses speak of the arena states that the slots show, together with the number of entries,
+/// which the arena counts.
 #[derive(Drop)]
 pub struct Slots<P: Ptr, T, S: NonZeroInxGenericStack<ArenaSlot<P, T>>> {
-    /// The slots, numbered from 1.
-    pub stack: S,
-    /// The first free slot, if there is one.
-    pub root: Option<NonZeroUsize>,
+    // The slots, numbered from 1.
+    stack: S,
+    // The first free slot, if there is one.
+    pub(crate) root: Option<NonZeroUsize>,
+    // How many slots were touched.
+    steps: SlotSteps,
     of: PhantomData<ArenaSlot<P, T>>,
 }
 
@@ -54,12 +64,28 @@ impl<P: Ptr, T, S: NonZeroInxGenericStack<ArenaSlot<P, T>>> Slots<P, T, S> {
     pub fn over(stack: S) -> Self
         ensures stack { result.stack ≡ stack }
         ensures root { result.root ≡ None }
+        ensures steps { result.steps.count ≡ 0 }
     {
         Slots {
             stack,
             root: None,
+            steps: SlotSteps::new(),
             of: PhantomData,
         }
+    }
+
+    /// The stack, to look at.
+    pub fn stack(&self) -> &S
+        ensures { result.now ≡ self.now.stack }
+    {
+        &self.stack
+    }
+
+    /// How many slots there are.
+    pub fn len(&self) -> usize
+        ensures { result ≡ length (S.items self.now.stack) }
+    {
+        self.stack.len()
     }
 
     /// The value of the entry at an index, for writing.
@@ -67,7 +93,8 @@ impl<P: Ptr, T, S: NonZeroInxGenericStack<ArenaSlot<P, T>>> Slots<P, T, S> {
         requires { IsSome (entry_at P.Gen.number (S.items self.old.stack)
             (non_zero_usize_get inx)) }
         ensures* writes_back { sem 𝓛 (lends_slot_value P.row T.row S.row P.Inx.row P.Gen.row
-            S.items S.with_items self.entry (non_zero_usize_get inx) result) }
+            P.Inx.PtrInx.own P.Inx.Debug P.Inx.Hash.own P.Inx.PartialEq P.Inx.PartialOrd.own
+            P.Inx.Ord.own S.items S.with_items self.entry (non_zero_usize_get inx) result) }
         ensures value { option_map (λ e. e.1)
             (entry_at P.Gen.number (S.items self.old.stack) (non_zero_usize_get inx))
             ≡ Some result.now }
@@ -76,101 +103,44 @@ impl<P: Ptr, T, S: NonZeroInxGenericStack<ArenaSlot<P, T>>> Slots<P, T, S> {
         slot.value_mut()
     }
 
+    /// Makes the call at the values of the entries at two indexes. Both are lent to it at once; what
+    /// it writes stands there, and no other slot changes.
+    pub fn work_on_two<R, C: PairCall<T, R>>(
+        &mut self,
+        first: NonZeroUsize,
+        second: NonZeroUsize,
+        call: C,
+    ) -> R
+        requires first { IsSome (entry_at P.Gen.number (S.items self.old.stack)
+            (non_zero_usize_get first)) }
+        requires second { IsSome (entry_at P.Gen.number (S.items self.old.stack)
+            (non_zero_usize_get second)) }
+        requires apart { non_zero_usize_get first ≢ non_zero_usize_get second }
+        requires callable { MayWork C.calls call
+            (value_of (entry_at P.Gen.number (S.items self.old.stack) (non_zero_usize_get first)))
+            (value_of (entry_at P.Gen.number (S.items self.old.stack)
+            (non_zero_usize_get second))) }
+        ensures worked { Worked C.calls call
+            (value_of (entry_at P.Gen.number (S.items self.old.stack) (non_zero_usize_get first)))
+            (value_of (entry_at P.Gen.number (S.items self.old.stack) (non_zero_usize_get second)))
+            result (WritesTwo with_slot_value (S.items self.old.stack) (S.items self.new.stack)
+            (non_zero_usize_get first) (non_zero_usize_get second)) }
+        ensures root { self.new.root ≡ self.old.root }
+        ensures room { S.room self.new.stack ≡ S.room self.old.stack }
+        ensures limit { S.limit self.new.stack ≡ S.limit self.old.stack }
+        ensures steps { self.new.steps.count ≡ self.old.steps.count }
+    {
+        work_on_two::<P, T, ArenaSlot<P, T>, S, R, C>(&mut self.stack, first, second, call)
+    }
+
     /// The slots, for writing.
     pub fn as_mut_slice(&mut self) -> &mut [ArenaSlot<P, T>]
         ensures* writes_back { sem 𝓛 (lends_slots P.row T.row S.row P.Inx.row P.Gen.row
-            S.items S.with_items self.entry result) }
+            P.Inx.PtrInx.own P.Inx.Debug P.Inx.Hash.own P.Inx.PartialEq P.Inx.PartialOrd.own
+            P.Inx.Ord.own S.items S.with_items self.entry result) }
         ensures value { result.now ≡ S.items self.old.stack }
     {
         self.stack.as_mut_slice()
-    }
-
-    /// Puts another generation on the entry at an index.
-    pub fn restamp(&mut self, inx: NonZeroUsize, generation: P::Gen)
-        requires { IsSome (entry_at P.Gen.number (S.items self.old.stack)
-            (non_zero_usize_get inx)) }
-        ensures shows { (s : ArenaState T) (len : ℕ)
-            → Shows P.Gen.number (S.items self.old.stack)
-            (option_map non_zero_usize_get self.old.root) len s
-            → Shows P.Gen.number (S.items self.new.stack)
-            (option_map non_zero_usize_get self.new.root) len
-            (record s {
-              slots = with_generation_in s.slots (non_zero_usize_get inx) (P.Gen.number generation);
-            }) }
-        ensures room { S.room self.new.stack ≡ S.room self.old.stack }
-        ensures limit { S.limit self.new.stack ≡ S.limit self.old.stack }
-    {
-        let slot = self.stack.get_mut(inx).unwrap();
-        slot.set_generation(generation);
-    }
-
-    /// The index that an insertion takes: the root, or one past the last slot.
-    pub fn place(&self) -> NonZeroUsize
-        requires { self.now.root ≡ None → length (S.items self.now.stack) < 2 ^ 64 - 1 }
-        ensures { (s : ArenaState T) (len : ℕ)
-            → Shows P.Gen.number (S.items self.now.stack)
-            (option_map non_zero_usize_get self.now.root) len s
-            → non_zero_usize_get result ≡ place s }
-    {
-        match self.root {
-            Some(inx) => inx,
-            None => NonZeroUsize::MIN.saturating_add(self.stack.len()),
-        }
-    }
-
-    /// Puts an entry at the place of an insertion.
-    pub fn occupy(&mut self, generation: P::Gen, value: T)
-        requires { (s : ArenaState T) × (len : ℕ)
-            × Shows P.Gen.number (S.items self.old.stack)
-            (option_map non_zero_usize_get self.old.root) len s
-            × (arena_len s < capacity_of (S.room self.old.stack) (S.limit self.old.stack)) }
-        ensures shows { (s : ArenaState T) (len : ℕ)
-            → Shows P.Gen.number (S.items self.old.stack)
-            (option_map non_zero_usize_get self.old.root) len s
-            → arena_len s < capacity s → P.Gen.number generation ≡ s.counter
-            → Shows P.Gen.number (S.items self.new.stack)
-            (option_map non_zero_usize_get self.new.root) (len + 1)
-            (inserted s value) }
-        ensures room { S.room self.new.stack ≡ S.room self.old.stack }
-        ensures limit { S.limit self.new.stack ≡ S.limit self.old.stack }
-    {
-        let slot = ArenaSlot::Allocated(generation, value);
-        match self.root {
-            None => {
-                self.stack.push_reserved(slot);
-            }
-            Some(inx) => {
-                let link = replace(&mut self.stack, inx, slot).into_link();
-                self.root = link.after(inx);
-            }
-        }
-    }
-
-    /// Takes out the entry at an index: the last slot goes, and any other becomes the first free
-    /// one.
-    pub fn vacate(&mut self, inx: NonZeroUsize) -> (P::Gen, T)
-        requires live { IsSome (entry_at P.Gen.number (S.items self.old.stack)
-            (non_zero_usize_get inx)) }
-        requires shown { (s : ArenaState T) × (len : ℕ)
-            × Shows P.Gen.number (S.items self.old.stack)
-            (option_map non_zero_usize_get self.old.root) len s }
-        ensures entry { entry_at P.Gen.number (S.items self.old.stack) (non_zero_usize_get inx)
-            ≡ Some (P.Gen.number result.0, result.1) }
-        ensures shows { (raise : ℕ → ℕ) (s : ArenaState T) (len : ℕ)
-            → Shows P.Gen.number (S.items self.old.stack)
-            (option_map non_zero_usize_get self.old.root) len s
-            → Shows P.Gen.number (S.items self.new.stack)
-            (option_map non_zero_usize_get self.new.root) (len - 1)
-            (removed raise s (non_zero_usize_get inx)) }
-        ensures room { S.room self.new.stack ≡ S.room self.old.stack }
-        ensures limit { S.limit self.new.stack ≡ S.limit self.old.stack }
-    {
-        if inx.get() == self.stack.len() {
-            return self.stack.pop().unwrap().into_entry();
-        }
-        let slot = ArenaSlot::Free(FreeLink::to(self.root, inx));
-        self.root = Some(inx);
-        replace(&mut self.stack, inx, slot).into_entry()
     }
 
     /// Drops all slots.
@@ -181,6 +151,7 @@ impl<P: Ptr, T, S: NonZeroInxGenericStack<ArenaSlot<P, T>>> Slots<P, T, S> {
         ensures root { self.new.root ≡ None }
         ensures room { S.room self.new.stack ≡ S.room self.old.stack }
         ensures limit { S.limit self.new.stack ≡ S.limit self.old.stack }
+        ensures steps { self.new.steps.count ≡ self.old.steps.count }
     {
         self.stack.clear();
         self.root = None;
@@ -224,49 +195,25 @@ impl<P: Ptr, T, S: NonZeroInxGenericStack<ArenaSlot<P, T>>> Slots<P, T, S> {
             → IsOk result }
         ensures place { OnOk result
             (min_capacity ≤ capacity_of (S.room self.new.stack) (S.limit self.new.stack)) }
+        ensures steps { self.new.steps.count ≡ self.old.steps.count }
     {
         // By its clause, room and limit are those of the stack's kind.
         let _limit = self.stack.max_capacity();
         self.stack.reallocate_min_capacity(min_capacity)
     }
 
-    /// Pops the free slots at the end, and links the others in rising order.
-    pub fn tidy(&mut self)
+    // Pops the free slots at the end, and leaves the links as they are.
+    pub(crate) fn pop_free_end(&mut self)
         ensures slots { map (entry_of P.Gen.number) (S.items self.new.stack)
             ≡ trimmed (map (entry_of P.Gen.number) (S.items self.old.stack)) }
-        ensures linked { IsLinked (S.items self.new.stack)
-            (option_map non_zero_usize_get self.new.root)
-            (gaps 1 (trimmed (map (entry_of P.Gen.number) (S.items self.old.stack)))) }
+        ensures items { S.items self.new.stack
+            ≡ take (length (trimmed (map (entry_of P.Gen.number) (S.items self.old.stack))))
+            (S.items self.old.stack) }
         ensures room { S.room self.new.stack ≡ S.room self.old.stack }
         ensures limit { S.limit self.new.stack ≡ S.limit self.old.stack }
+        ensures steps { self.new.steps.count ≡ self.old.steps.count }
     {
-        pop_free_end(&mut self.stack);
-        self.root = relink(&mut self.stack);
-    }
-
-    /// Pops the free slots at the end, and takes them out of the free list. The rest of it keeps its
-    /// order.
-    pub fn remove_free_end(&mut self)
-        requires { (s : ArenaState T) × (len : ℕ)
-            × Shows P.Gen.number (S.items self.old.stack)
-            (option_map non_zero_usize_get self.old.root) len s }
-        ensures shows { (s : ArenaState T) (len : ℕ)
-            → Shows P.Gen.number (S.items self.old.stack)
-            (option_map non_zero_usize_get self.old.root) len s
-            → Shows P.Gen.number (S.items self.new.stack)
-            (option_map non_zero_usize_get self.new.root) len
-            (without_free_end s) }
-        ensures room { S.room self.new.stack ≡ S.room self.old.stack }
-        ensures limit { S.limit self.new.stack ≡ S.limit self.old.stack }
-    {
-        let end = self.live_end();
-        if end == self.stack.len() {
-            return;
-        }
-        // Turned round twice, the list has its order again.
-        let turned = turn_round(&mut self.stack, self.root, end);
-        self.root = turn_round(&mut self.stack, turned, end);
-        pop_free_end(&mut self.stack);
+        shorten::<P, T, ArenaSlot<P, T>, S>(&mut self.stack, 0);
     }
 
     /// Moves the entries to the first slots, in their order, under this generation, with the values
@@ -284,42 +231,33 @@ impl<P: Ptr, T, S: NonZeroInxGenericStack<ArenaSlot<P, T>>> Slots<P, T, S> {
             (compressed s (P.Gen.number generation) values) }
         ensures room { S.room self.new.stack ≡ S.room self.old.stack }
         ensures limit { S.limit self.new.stack ≡ S.limit self.old.stack }
+        ensures steps { self.new.steps.count ≡ self.old.steps.count }
     {
         self.root = None;
         close_up::<P, T, ArenaSlot<P, T>, S, F>(&mut self.stack, Some(generation), f);
     }
 
-    /// Holds the entries of an arena alone, under the same pointers, each mapped by the closure, up to
-    /// its first refusal, and links the gaps in rising order. Gives the number of entries.
-    pub fn copy<U, E, A: CompactArenaTrait<P, U>, M: FnMut(P, &U) -> Result<T, E>>(
+    // Holds the entries of an arena alone, under the same pointers, each mapped by the closure, up to
+    // its first refusal, with free slots that are not linked yet in the gaps.
+    pub(crate) fn hold_copies<U, E, A: CompactArenaTrait<P, U>, M: FnMut(P, &U) -> Result<T, E>>(
         &mut self,
         source: &A,
         f: M,
-    ) -> (usize, Result<(), E>)
+    ) -> Result<(), E>
     where
         T: Drop,
         requires callable { M.IsAlwaysCallable f }
         requires fits { last_index (A.slots source.now)
             ≤ capacity_of (S.room self.old.stack) (S.limit self.old.stack) }
-        ensures copied { Copies P.numbers M.step f (entries (A.slots source.now)) result.1
+        ensures copied { Copies P.numbers M.step f (entries (A.slots source.now)) result
             (map (entry_of P.Gen.number) (S.items self.new.stack)) }
         ensures ends { length (S.items self.new.stack) ≤ last_index (A.slots source.now) }
-        ensures linked { IsLinked (S.items self.new.stack)
-            (option_map non_zero_usize_get self.new.root)
-            (gaps 1 (map (entry_of P.Gen.number) (S.items self.new.stack))) }
-        ensures count { result.0
-            ≡ entry_count (map (entry_of P.Gen.number) (S.items self.new.stack)) }
         ensures room { S.room self.new.stack ≡ S.room self.old.stack }
         ensures limit { S.limit self.new.stack ≡ S.limit self.old.stack }
+        ensures steps { self.new.steps.count ≡ self.old.steps.count }
     {
         self.stack.clear();
-        let answer = copy_entries::<P, T, ArenaSlot<P, T>, S, U, E, A, M>(
-            &mut self.stack,
-            source,
-            f,
-        );
-        self.root = relink(&mut self.stack);
-        (count_live::<P, T, ArenaSlot<P, T>, S>(&self.stack), answer)
+        copy_entries::<P, T, ArenaSlot<P, T>, S, U, E, A, M>(&mut self.stack, source, f)
     }
 
     /// Takes the entries of an arena out, one by one in order, and holds them alone, from index 1 on,
@@ -345,6 +283,7 @@ impl<P: Ptr, T, S: NonZeroInxGenericStack<ArenaSlot<P, T>>> Slots<P, T, S> {
         ensures root { self.new.root ≡ None }
         ensures room { S.room self.new.stack ≡ S.room self.old.stack }
         ensures limit { S.limit self.new.stack ≡ S.limit self.old.stack }
+        ensures steps { self.new.steps.count ≡ self.old.steps.count }
     {
         self.stack.clear();
         self.root = None;
@@ -357,14 +296,161 @@ impl<P: Ptr, T, S: NonZeroInxGenericStack<ArenaSlot<P, T>>> Slots<P, T, S> {
         self.stack.len()
     }
 
-    // How many slots there are up to the last entry.
-    fn live_end(&self) -> usize
-        ensures { result ≡ length (trimmed (map (entry_of P.Gen.number) (S.items self.now.stack))) }
+    // Each of these calls touches one slot at most, and adds one to the count; `link_on` and
+    // `link_back` add nothing where they are given no index.
+
+    // Whether the entry at an index has this generation.
+    pub(crate) fn has_generation(&mut self, inx: NonZeroUsize, generation: P::Gen) -> bool
+        ensures value { result ≡ is_some (look_up_in (map (entry_of P.Gen.number)
+            (S.items self.old.stack)) (non_zero_usize_get inx, P.Gen.number generation)) }
+        ensures stack { self.new.stack ≡ self.old.stack }
+        ensures root { self.new.root ≡ self.old.root }
+        ensures steps { self.new.steps.count ≡ self.old.steps.count + 1 }
     {
-        match last_live::<P, T, ArenaSlot<P, T>, S>(&self.stack) {
-            Some(inx) => inx.get(),
-            None => 0,
+        self.steps = self.steps.next();
+        match slot_at(&self.stack, inx) {
+            Some(slot) => slot.value_under(generation).is_some(),
+            None => false,
         }
+    }
+
+    // Whether an entry stands at an index.
+    pub(crate) fn has_entry(&mut self, inx: NonZeroUsize) -> bool
+        ensures value { result ≡ is_some (entry_at P.Gen.number (S.items self.old.stack)
+            (non_zero_usize_get inx)) }
+        ensures stack { self.new.stack ≡ self.old.stack }
+        ensures root { self.new.root ≡ self.old.root }
+        ensures steps { self.new.steps.count ≡ self.old.steps.count + 1 }
+    {
+        self.steps = self.steps.next();
+        match slot_at(&self.stack, inx) {
+            Some(slot) => slot.is_live(),
+            None => false,
+        }
+    }
+
+    // Whether the last slot is free.
+    pub(crate) fn ends_free(&mut self) -> bool
+        ensures value { result ≡ is_free (item (map (entry_of P.Gen.number)
+            (S.items self.old.stack)) (length (S.items self.old.stack))) }
+        ensures stack { self.new.stack ≡ self.old.stack }
+        ensures root { self.new.root ≡ self.old.root }
+        ensures steps { self.new.steps.count ≡ self.old.steps.count + 1 }
+    {
+        self.steps = self.steps.next();
+        match index_of(self.stack.len()) {
+            Some(inx) => !self.stack.get(inx).unwrap().is_live(),
+            None => false,
+        }
+    }
+
+    // Puts a slot in the place of the one at an index, which it gives.
+    pub(crate) fn put(&mut self, inx: NonZeroUsize, slot: ArenaSlot<P, T>) -> ArenaSlot<P, T>
+        requires { IsSome (item (S.items self.old.stack) (non_zero_usize_get inx)) }
+        ensures value { item (S.items self.old.stack) (non_zero_usize_get inx) ≡ Some result }
+        ensures stack { self.new.stack ≡ S.with_items self.old.stack
+            (with_item (S.items self.old.stack) (non_zero_usize_get inx) slot) }
+        ensures root { self.new.root ≡ self.old.root }
+        ensures steps { self.new.steps.count ≡ self.old.steps.count + 1 }
+    {
+        self.steps = self.steps.next();
+        replace(&mut self.stack, inx, slot)
+    }
+
+    // Pushes a slot.
+    pub(crate) fn push(&mut self, slot: ArenaSlot<P, T>)
+        requires { length (S.items self.old.stack)
+            < capacity_of (S.room self.old.stack) (S.limit self.old.stack) }
+        ensures stack { self.new.stack ≡ S.with_items self.old.stack
+            (S.items self.old.stack ++ slot ∷ []) }
+        ensures root { self.new.root ≡ self.old.root }
+        ensures steps { self.new.steps.count ≡ self.old.steps.count + 1 }
+    {
+        self.steps = self.steps.next();
+        self.stack.push_reserved(slot);
+    }
+
+    // Pops the last slot.
+    pub(crate) fn pop(&mut self) -> ArenaSlot<P, T>
+        requires { 0 < length (S.items self.old.stack) }
+        ensures value { slice_get (S.items self.old.stack) (length (S.items self.old.stack) - 1)
+            ≡ Some result }
+        ensures stack { self.new.stack ≡ S.with_items self.old.stack
+            (take (length (S.items self.old.stack) - 1) (S.items self.old.stack)) }
+        ensures root { self.new.root ≡ self.old.root }
+        ensures steps { self.new.steps.count ≡ self.old.steps.count + 1 }
+    {
+        self.steps = self.steps.next();
+        self.stack.pop().unwrap()
+    }
+
+    // Links the free slot at an index, if there is one, on to another, or makes it the last.
+    pub(crate) fn link_on(&mut self, from: Option<NonZeroUsize>, next: Option<NonZeroUsize>)
+        requires free { (j : ℕ) → option_map non_zero_usize_get from ≡ Some j
+            → item (map (entry_of P.Gen.number) (S.items self.old.stack)) j ≡ Some None }
+        requires other { (j : ℕ) → option_map non_zero_usize_get from ≡ Some j
+            → option_map non_zero_usize_get next ≢ Some j }
+        requires indexed { length (S.items self.old.stack) ≤ greatest_index P.Inx.greatest }
+        requires next_indexed { (j : ℕ) → option_map non_zero_usize_get next ≡ Some j
+            → j ≤ greatest_index P.Inx.greatest }
+        ensures links { LeadsOn P.Gen.number (S.items self.old.stack) (S.items self.new.stack)
+            (option_map non_zero_usize_get from) (option_map non_zero_usize_get next) }
+        ensures root { self.new.root ≡ self.old.root }
+        ensures room { S.room self.new.stack ≡ S.room self.old.stack }
+        ensures limit { S.limit self.new.stack ≡ S.limit self.old.stack }
+        ensures steps { self.new.steps.count
+            ≡ self.old.steps.count + touch_if (option_map non_zero_usize_get from) }
+    {
+        if let Some(inx) = from {
+            self.steps = self.steps.next();
+            let slot = self.stack.get_mut(inx).unwrap();
+            slot.link_on(next, inx);
+        }
+    }
+
+    // Links the free slot at an index, if there is one, back to another, or makes it the first.
+    pub(crate) fn link_back(&mut self, to: Option<NonZeroUsize>, previous: Option<NonZeroUsize>)
+        requires free { (j : ℕ) → option_map non_zero_usize_get to ≡ Some j
+            → item (map (entry_of P.Gen.number) (S.items self.old.stack)) j ≡ Some None }
+        requires other { (j : ℕ) → option_map non_zero_usize_get to ≡ Some j
+            → option_map non_zero_usize_get previous ≢ Some j }
+        requires indexed { length (S.items self.old.stack) ≤ greatest_index P.Inx.greatest }
+        requires previous_indexed { (j : ℕ) → option_map non_zero_usize_get previous ≡ Some j
+            → j ≤ greatest_index P.Inx.greatest }
+        ensures links { LeadsBack P.Gen.number (S.items self.old.stack) (S.items self.new.stack)
+            (option_map non_zero_usize_get to) (option_map non_zero_usize_get previous) }
+        ensures root { self.new.root ≡ self.old.root }
+        ensures room { S.room self.new.stack ≡ S.room self.old.stack }
+        ensures limit { S.limit self.new.stack ≡ S.limit self.old.stack }
+        ensures steps { self.new.steps.count
+            ≡ self.old.steps.count + touch_if (option_map non_zero_usize_get to) }
+    {
+        if let Some(inx) = to {
+            self.steps = self.steps.next();
+            let slot = self.stack.get_mut(inx).unwrap();
+            slot.link_back(previous, inx);
+        }
+    }
+
+    /// Puts another generation on the entry at an index.
+    pub fn restamp(&mut self, inx: NonZeroUsize, generation: P::Gen)
+        requires { IsSome (entry_at P.Gen.number (S.items self.old.stack)
+            (non_zero_usize_get inx)) }
+        ensures shows { (s : ArenaState T) (len : ℕ)
+            → Shows P.Gen.number (S.items self.old.stack)
+            (option_map non_zero_usize_get self.old.root) len s
+            → Shows P.Gen.number (S.items self.new.stack)
+            (option_map non_zero_usize_get self.new.root) len
+            (record s {
+              slots = with_generation_in s.slots (non_zero_usize_get inx) (P.Gen.number generation);
+            }) }
+        ensures room { S.room self.new.stack ≡ S.room self.old.stack }
+        ensures limit { S.limit self.new.stack ≡ S.limit self.old.stack }
+        ensures steps { self.new.steps.count ≡ self.old.steps.count + 1 }
+    {
+        self.steps = self.steps.next();
+        let slot = self.stack.get_mut(inx).unwrap();
+        slot.set_generation(generation);
     }
 }
 
@@ -377,82 +463,14 @@ impl<P: Ptr, T, S: SetMaxCapacity<ArenaSlot<P, T>>> Slots<P, T, S> {
         ensures room { S.room self.new.stack ≡ S.room self.old.stack }
         ensures limit { OnOk result (S.limit self.new.stack ≡ Some max_capacity) }
         ensures refused { OnErr result (S.limit self.new.stack ≡ S.limit self.old.stack) }
+        ensures steps { self.new.steps.count ≡ self.old.steps.count }
     {
         self.stack.set_max_capacity(max_capacity)
     }
 }
 
-// Pops the free slots at the end.
-fn pop_free_end<P: Ptr, T, S: NonZeroInxGenericStack<ArenaSlot<P, T>>>(stack: &mut S)
-    ensures slots { map (entry_of P.Gen.number) (S.items stack.new)
-        ≡ trimmed (map (entry_of P.Gen.number) (S.items stack.old)) }
-    ensures items { S.items stack.new
-        ≡ take (length (trimmed (map (entry_of P.Gen.number) (S.items stack.old))))
-        (S.items stack.old) }
-    ensures room { S.room stack.new ≡ S.room stack.old }
-    ensures limit { S.limit stack.new ≡ S.limit stack.old }
-{
-    shorten::<P, T, ArenaSlot<P, T>, S>(stack, 0);
-}
-
-// Links the free slots in rising order, and gives the index of the first.
-fn relink<P: Ptr, T, S: NonZeroInxGenericStack<ArenaSlot<P, T>>>(
-    stack: &mut S,
-) -> Option<NonZeroUsize>
-    ensures slots { map (entry_of P.Gen.number) (S.items stack.new)
-        ≡ map (entry_of P.Gen.number) (S.items stack.old) }
-    ensures linked { IsLinked (S.items stack.new) (option_map non_zero_usize_get result)
-        (gaps 1 (map (entry_of P.Gen.number) (S.items stack.old))) }
-    ensures room { S.room stack.new ≡ S.room stack.old }
-    ensures limit { S.limit stack.new ≡ S.limit stack.old }
-{
-    let mut root = None;
-    let mut next = index_of(stack.len());
-    'links: while let Some(inx) = next {
-        if !stack.get(inx).unwrap().is_live() {
-            let slot = stack.get_mut(inx).unwrap();
-            slot.set_link(FreeLink::to(root, inx));
-            root = Some(inx);
-        }
-        next = index_of(inx.get() - 1);
-    }
-    root
-}
-
-// Links the slots of a free list in the opposite order, but for those past `end`, and gives the
-// index of the first.
-fn turn_round<P: Ptr, T, S: NonZeroInxGenericStack<ArenaSlot<P, T>>>(
-    stack: &mut S,
-    root: Option<NonZeroUsize>,
-    end: usize,
-) -> Option<NonZeroUsize>
-    requires { (free : List ℕ) × IsFreeList P.Gen.number (S.items stack.old)
-        (option_map non_zero_usize_get root) free }
-    ensures slots { map (entry_of P.Gen.number) (S.items stack.new)
-        ≡ map (entry_of P.Gen.number) (S.items stack.old) }
-    ensures turned { (free : List ℕ)
-        → IsFreeList P.Gen.number (S.items stack.old) (option_map non_zero_usize_get root) free
-        → IsFreeList P.Gen.number (S.items stack.new) (option_map non_zero_usize_get result)
-        (reverse (up_to end free)) }
-    ensures room { S.room stack.new ≡ S.room stack.old }
-    ensures limit { S.limit stack.new ≡ S.limit stack.old }
-{
-    let mut turned = None;
-    let mut next = root;
-    'turns: while let Some(inx) = next {
-        let slot = stack.get_mut(inx).unwrap();
-        let link = slot.link();
-        slot.set_link(FreeLink::to(turned, inx));
-        if inx.get() <= end {
-            turned = Some(inx);
-        }
-        next = link.after(inx);
-    }
-    turned
-}
-
 // The index of that number, if it is not 0.
-fn index_of(number: usize) -> Option<NonZeroUsize>
+pub(crate) fn index_of(number: usize) -> Option<NonZeroUsize>
     ensures { number_or_zero result ≡ number }
 {
     NonZeroUsize::new(number)

@@ -5,6 +5,7 @@ use Rattle.triple_arena_ptr.specs.Pointers.{Pointer}
 use Rattle.triple_arena_stack.specs.StackKind.{StackKind}
 use Rattle.triple_arena_traits.specs.ArenaState.{ArenaState, arena_len, capacity, with_value, IsWellFormed}
 use Rattle.triple_arena_traits.specs.Insertion.{next_pointer, inserted}
+use Rattle.triple_arena_traits.specs.SlotSteps.{IsTouched}
 use Rattle.triple_arena_traits.specs.Ending.{removed, invalidated, cleared}
 use Rattle.triple_arena_traits.specs.FreeList.{tidied}
 use Rattle.triple_arena_traits.specs.Capacity.{reallocated, grown}
@@ -25,13 +26,13 @@ pub data StrictCall (T : Type 0) : Type 0 where
   to_reallocate : ℕ → StrictCall T
 
 module _ {T : Type 0} where
-  -- nothing was done
+  -- nothing was done, but that slots may have been touched
   abbrev pub IsRefused : ArenaState T → List ModelCall → ArenaState T → Type 0
-  IsRefused s calls t = (calls ≡ []) × (t ≡ s)
+  IsRefused s calls t = (calls ≡ []) × IsTouched s t
 
-  -- one model call was made, and left this
+  -- one model call was made, and left this, how many slots were touched aside
   abbrev pub IsDone : ModelCall → ArenaState T → List ModelCall → ArenaState T → Type 0
-  IsDone call after calls t = (calls ≡ call ∷ []) × (t ≡ after)
+  IsDone call after calls t = (calls ≡ call ∷ []) × IsTouched after t
 
   -- the one or the other, as is said
   abbrev pub IsUnless : Bool → ModelCall → ArenaState T → ArenaState T → List ModelCall → ArenaState T → Type 0
@@ -61,7 +62,7 @@ module _ {T : Type 0} (kind : StackKind) (counting : Bool) (greatest : ℕ) wher
       × IsUnless (is_exhausted_for_any counting greatest s)
       (compression (keys s.slots) (keys (closed_up (raised_if_any (raise counting greatest) s) values)))
       (compressed s (raised_if_any (raise counting greatest) s) values) s calls t
-  IsStrictStep s (to_reallocate m) calls t = (calls ≡ resizing ∷ []) × ((t ≡ reallocated kind s m) ⊎ (t ≡ tidied s))
+  IsStrictStep s (to_reallocate m) calls t = (calls ≡ resizing ∷ []) × (IsTouched (reallocated kind s m) t ⊎ IsTouched (tidied s) t)
 
   -- calls one after another, and the model calls that they are
   abbrev pub AreStrictSteps : ArenaState T → List (StrictCall T) → List ModelCall → ArenaState T → Type 0

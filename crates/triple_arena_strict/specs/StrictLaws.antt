@@ -1,12 +1,14 @@
 -- Laws of strict calls: each takes every history that fits to one that fits, where generations count.
-use Rattle.std.proofs.Common.{◌≡◌, ℕ, ◌||◌, Bool, true, false, not, List, [], ◌∷◌, refl, sym, ap, subst, inl, inr, true≢false}
+use Rattle.std.proofs.Common.{◌≡◌, ℕ, ◌||◌, Bool, true, false, not, List, [], ◌∷◌, refl, sym, subst, inl, inr, true≢false}
 use Rattle.triple_arena_stack.specs.StackKind.{StackKind}
 use Rattle.triple_arena_traits.specs.ArenaState.{ArenaState, IsWellFormed}
 use Rattle.triple_arena_traits.specs.Insertion.{next_pointer, inserted}
-use Rattle.triple_arena_traits.specs.Capacity.{grown}
+use Rattle.triple_arena_traits.specs.SlotSteps.{IsTouched}
+use Rattle.triple_arena_traits.specs.FreeList.{tidied}
+use Rattle.triple_arena_traits.specs.Capacity.{grown, reallocated}
 use Rattle.triple_arena_traits.specs.EntryLaws.{slots-reallocated, next-grown, well_formed-grown}
-use Rattle.triple_arena_traits.specs.Histories.{ModelCall, insertion, is_live, Fits, Continues}
-use Rattle.triple_arena_traits.specs.HistoryLaws.{Continues-append, Continues-grown, Continues-inserted, Continues-written, Continues-removed, Continues-invalidated, Continues-cleared, Continues-compressed, Continues-resized, Continues-tidied}
+use Rattle.triple_arena_traits.specs.Histories.{ModelCall, insertion, resizing, is_live, Fits, Continues}
+use Rattle.triple_arena_traits.specs.HistoryLaws.{Continues-touched, Continues-append, Continues-grown, Continues-inserted, Continues-written, Continues-removed, Continues-invalidated, Continues-cleared, Continues-compressed, Continues-resized, Continues-tidied}
 use Rattle.triple_arena_strict.specs.Strict.{is_exhausted, is_exhausted_for_any}
 use Rattle.triple_arena_strict.specs.StrictCalls.{StrictCall, to_insert, to_write, to_remove, to_invalidate, to_clear, to_compress, to_reallocate, IsUnless, cannot_end, IsStrictStep, AreStrictSteps}
 
@@ -17,21 +19,23 @@ not_refused false exhausted h = absurd (true≢false h)
 
 module _ {T : Type 0} where
   Continues-unless : (refused : Bool) (call : ModelCall) (after s : ArenaState T) (calls : List ModelCall) (t : ArenaState T) → IsUnless refused call after s calls t → (refused ≡ false → Continues Fits s (call ∷ []) after) → Continues Fits s calls t
-  Continues-unless true call after s calls t is done = rw (is.0, is.1) (λ h fits. fits)
-  Continues-unless false call after s calls t is done = rw (is.0, is.1) (done refl)
+  Continues-unless true call after s calls t is done = rw is.0 (Continues-touched s s t [] is.1 (λ h fits. fits))
+  Continues-unless false call after s calls t is done = rw is.0 (Continues-touched s after t (call ∷ []) is.1 (done refl))
 
   module _ (kind : StackKind) where
     -- an insertion, where a full arena grows first
-    pub Continues-grown_inserted : (s t : ArenaState T) (value : T) → IsWellFormed s → t ≡ inserted (grown kind s) value → Continues Fits s (insertion (next_pointer s) ∷ []) t
+    pub Continues-grown_inserted : (s t : ArenaState T) (value : T) → IsWellFormed s → IsTouched (inserted (grown kind s) value) t → Continues Fits s (insertion (next_pointer s) ∷ []) t
     Continues-grown_inserted s t value well is =
-        Continues-append s (grown kind s) t [] (insertion (next_pointer s) ∷ [])
+        let after = inserted (grown kind s) value in
+        Continues-touched s after t (insertion (next_pointer s) ∷ []) is
+        (Continues-append s (grown kind s) after [] (insertion (next_pointer s) ∷ [])
         (Continues-grown kind s (grown kind s) refl)
-        (Continues-inserted (grown kind s) t (next_pointer s) value (well_formed-grown kind s well) (sym (next-grown kind s)) is)
+        (Continues-inserted (grown kind s) after (next_pointer s) value (well_formed-grown kind s well) (sym (next-grown kind s)) refl))
 
     module _ (greatest : ℕ) where
       -- a call takes every history that fits to one that fits
       Continues-strict : (s : ArenaState T) (call : StrictCall T) (calls : List ModelCall) (t : ArenaState T) → IsStrictStep kind true greatest s call calls t → Continues Fits s calls t
-      Continues-strict s (to_insert value) calls t (well, inl is) = rw (is.1.0, is.1.1) (λ h fits. fits)
+      Continues-strict s (to_insert value) calls t (well, inl is) = rw is.1.0 (Continues-touched s s t [] is.1.1 (λ h fits. fits))
       Continues-strict s (to_insert value) calls t (well, inr is) = rw is.0 (Continues-grown_inserted s t value well is.1)
       Continues-strict s (to_write p value) calls t is = rw (is.1, is.2) (Continues-written s p.0 value)
       Continues-strict s (to_remove p) calls t is =
@@ -51,8 +55,10 @@ module _ {T : Type 0} where
           Continues-unless (is_exhausted_for_any true greatest s) _ _ s calls t is
           (λ allowed. Continues-compressed true greatest s _ 2 false values refl (refl, allowed) len refl)
       Continues-strict s (to_reallocate m) calls t (one, inl is) =
-          rw one (Continues-resized s t (slots-reallocated kind s m t is) (ap (λ (a : ArenaState T). a.counter) is))
-      Continues-strict s (to_reallocate m) calls t (one, inr is) = rw one (Continues-tidied s t is)
+          let after = reallocated kind s m in
+          rw one (Continues-touched s after t (resizing ∷ []) is (Continues-resized s after (slots-reallocated kind s m after refl) refl))
+      Continues-strict s (to_reallocate m) calls t (one, inr is) =
+          rw one (Continues-touched s (tidied s) t (resizing ∷ []) is (Continues-tidied s (tidied s) refl))
 
       -- and so do calls one after another
       Continues-steps : (s : ArenaState T) (steps : List (StrictCall T)) (calls : List ModelCall) (t : ArenaState T) → AreStrictSteps kind true greatest s steps calls t → Continues Fits s calls t

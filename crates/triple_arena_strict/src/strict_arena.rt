@@ -11,6 +11,7 @@ ghost use Rattle.triple_arena_stack.specs.StackKind.{new_room, new_limit, made_r
 ghost use Rattle.triple_arena_stack.specs.Capacity.{IsWithin, IsBeyond, IsFullAtLimit, CanGrow};
 ghost use Rattle.triple_arena_traits.specs.ArenaState.{ArenaState, new_arena, slot_count, arena_len, capacity, entry, look_up, with_value, IsWellFormed};
 ghost use Rattle.triple_arena_traits.specs.Insertion.{next_pointer, inserted};
+ghost use Rattle.triple_arena_traits.specs.SlotSteps.{RisesByAtMost, IsTouched};
 ghost use Rattle.triple_arena_traits.specs.Ending.{removed, invalidated, cleared};
 ghost use Rattle.triple_arena_traits.specs.FreeList.{tidied};
 ghost use Rattle.triple_arena_traits.specs.Capacity.{reallocated, KeepsRoom, grown};
@@ -45,6 +46,8 @@ use triple_arena_stack::{NonZeroInxGenericStack, NonZeroInxVec};
 ///
 /// With generations that do not count nothing is refused so, and a pointer names whatever stands at
 /// its index.
+///
+/// Where a clause says what a call leaves, it leaves the count of touched slots aside (`IsTouched`).
 #[derive(Drop)]
 pub struct StrictArena<
     P: Ptr,
@@ -126,8 +129,9 @@ impl<P: Ptr, T, S: NonZeroInxGenericStack<ArenaSlot<P, T>>> StrictArena<P, T, S>
     /// where the limit is below it; else `AllocError` where memory is refused. Where the room stays the
     /// same, no memory is taken.
     pub fn reallocate_min_capacity(&mut self, min_capacity: usize) -> Result<(), ReallocationError>
-        ensures done { OnOk result (self.new ≡ reallocated S.kind self.old min_capacity) }
-        ensures refused { OnErr result (self.new ≡ tidied self.old) }
+        ensures done { OnOk result
+            (IsTouched (reallocated S.kind self.old min_capacity) self.new) }
+        ensures refused { OnErr result (IsTouched (tidied self.old) self.new) }
         ensures within { OnOk result
             ((min_capacity ≤ greatest_index P.Inx.greatest)
             × IsWithin self.old.limit min_capacity) }
@@ -240,7 +244,7 @@ impl<P: Ptr, T, S: NonZeroInxGenericStack<ArenaSlot<P, T>>> StrictArena<P, T, S>
         &self.arena
     }
 
-    /// Inserts `t`, and gives its pointer. It takes no memory.
+    /// Inserts `t`, and gives its pointer. It takes no memory, and touches at most 6 slots.
     ///
     /// Refused exactly where there are as many entries as the capacity; then nothing changes, and `t`
     /// is dropped.
@@ -253,8 +257,9 @@ impl<P: Ptr, T, S: NonZeroInxGenericStack<ArenaSlot<P, T>>> StrictArena<P, T, S>
         ensures found { IfOk result (λ p. look_up self.new (P.numbers p) ≡ Some t) }
         ensures others { IfOk result (λ p. (q : Pointer) → q.0 ≢ (P.numbers p).0
             → look_up self.new q ≡ look_up self.old q) }
-        ensures inserted { OnOk result (self.new ≡ inserted self.old t) }
+        ensures inserted { OnOk result (IsTouched (inserted self.old t) self.new) }
         ensures refused { OnErr result (self.new ≡ self.old) }
+        ensures bounded { RisesByAtMost 6 self.old.steps self.new.steps }
         ensures well_formed { IsWellFormed self.old }
         ensures step { IsStrictStep S.kind P.Gen.counting P.Gen.greatest
             self.old (to_insert t) (calls_if_ok result (λ p. insertion (P.numbers p))) self.new }
@@ -277,8 +282,10 @@ impl<P: Ptr, T, S: NonZeroInxGenericStack<ArenaSlot<P, T>>> StrictArena<P, T, S>
         T: Drop,
         ensures pointer { IfOk result (λ p. P.numbers p ≡ next_pointer self.old) }
         ensures free { IfOk result (λ p. entry self.old (P.numbers p).0 ≡ None) }
-        ensures inserted { OnOk result (self.new ≡ inserted (grown S.kind self.old) t) }
+        ensures inserted { OnOk result
+            (IsTouched (inserted (grown S.kind self.old) t) self.new) }
         ensures refused { OnErr result (self.new ≡ self.old) }
+        ensures bounded { RisesByAtMost 6 self.old.steps self.new.steps }
         ensures beyond { (result ≡ Err ReallocationError.BeyondMaxCapacity)
             ↔ IsFullAtLimit (capacity self.old) self.old.limit (arena_len self.old) }
         ensures with_memory { CanGrow S.has_memory (capacity self.old) self.old.limit
@@ -286,7 +293,7 @@ impl<P: Ptr, T, S: NonZeroInxGenericStack<ArenaSlot<P, T>>> StrictArena<P, T, S>
         ensures indexed { OnOk result (arena_len self.old ≡ capacity self.old
             → capacity self.old < greatest_index P.Inx.greatest) }
         ensures had_place { arena_len self.old < capacity self.old
-            → IsOk result × (self.new ≡ inserted self.old t) }
+            → IsOk result × IsTouched (inserted self.old t) self.new }
         ensures place { OnOk result (arena_len (grown S.kind self.old)
             < capacity (grown S.kind self.old)) }
         ensures well_formed { IsWellFormed self.old }
@@ -310,8 +317,10 @@ impl<P: Ptr, T, S: NonZeroInxGenericStack<ArenaSlot<P, T>>> StrictArena<P, T, S>
         ensures found { IfOk result (λ p. look_up self.new (P.numbers p) ≡ Some t) }
         ensures others { IfOk result (λ p. (q : Pointer) → q.0 ≢ (P.numbers p).0
             → look_up self.new q ≡ look_up self.old q) }
-        ensures inserted { OnOk result (self.new ≡ inserted (grown S.kind self.old) t) }
+        ensures inserted { OnOk result
+            (IsTouched (inserted (grown S.kind self.old) t) self.new) }
         ensures refused { OnErr result (self.new ≡ self.old) }
+        ensures bounded { RisesByAtMost 6 self.old.steps self.new.steps }
         ensures beyond { (result ≡ Err ReallocationError.BeyondMaxCapacity)
             ↔ IsFullAtLimit (capacity self.old) self.old.limit (arena_len self.old) }
         ensures with_memory { CanGrow S.has_memory (capacity self.old) self.old.limit
@@ -319,7 +328,7 @@ impl<P: Ptr, T, S: NonZeroInxGenericStack<ArenaSlot<P, T>>> StrictArena<P, T, S>
         ensures indexed { OnOk result (arena_len self.old ≡ capacity self.old
             → capacity self.old < greatest_index P.Inx.greatest) }
         ensures had_place { arena_len self.old < capacity self.old
-            → IsOk result × (self.new ≡ inserted self.old t) }
+            → IsOk result × IsTouched (inserted self.old t) self.new }
         ensures place { OnOk result (arena_len (grown S.kind self.old)
             < capacity (grown S.kind self.old)) }
         ensures well_formed { IsWellFormed self.old }
@@ -335,16 +344,17 @@ impl<P: Ptr, T, S: NonZeroInxGenericStack<ArenaSlot<P, T>>> StrictArena<P, T, S>
     }
 
     /// Takes out the entry under `p`, and gives its value. The counter is raised, and where generations
-    /// count, `p` is gone for good (`IsGoneForGood`).
+    /// count, `p` is gone for good (`IsGoneForGood`). It touches at most 6 slots.
     ///
     /// `InvalidPtr` exactly where `p` is invalid; else `Exhausted` exactly where the counter is at its
-    /// greatest value. Then nothing changes.
+    /// greatest value. Then nothing changes but how many slots were touched.
     pub fn remove(&mut self, p: P) -> Result<T, StrictError>
         ensures answer { result ≡ strict_of (is_exhausted P.Gen.counting P.Gen.greatest self.old)
             (look_up self.old (P.numbers p)) }
-        ensures done { OnOk result (self.new
-            ≡ removed (raise P.Gen.counting P.Gen.greatest) self.old (P.numbers p).0) }
-        ensures refused { OnErr result (self.new ≡ self.old) }
+        ensures done { OnOk result (IsTouched
+            (removed (raise P.Gen.counting P.Gen.greatest) self.old (P.numbers p).0) self.new) }
+        ensures refused { OnErr result (IsTouched self.old self.new) }
+        ensures bounded { RisesByAtMost 6 self.old.steps self.new.steps }
         ensures gone { OnOk result (look_up self.new (P.numbers p) ≡ None) }
         ensures others { (q : Pointer) → q ≢ P.numbers p
             → look_up self.new q ≡ look_up self.old q }
@@ -363,18 +373,19 @@ impl<P: Ptr, T, S: NonZeroInxGenericStack<ArenaSlot<P, T>>> StrictArena<P, T, S>
     }
 
     /// Gives the entry under `p` a new pointer, under the raised counter. Where generations count, `p`
-    /// is gone for good; where they don't, the pointer stays as it is.
+    /// is gone for good; where they don't, the pointer stays as it is. It touches at most 6 slots.
     ///
     /// `InvalidPtr` exactly where `p` is invalid; else `Exhausted` exactly where the counter is at its
-    /// greatest value. Then nothing changes.
+    /// greatest value. Then nothing changes but how many slots were touched.
     pub fn invalidate(&mut self, p: P) -> Result<P, StrictError>
         ensures answer { result_map_both P.numbers (λ e. e) result
             ≡ strict_of (is_exhausted P.Gen.counting P.Gen.greatest self.old) (option_map
             (λ _. ((P.numbers p).0, raise P.Gen.counting P.Gen.greatest self.old.counter))
             (look_up self.old (P.numbers p))) }
-        ensures done { OnOk result (self.new
-            ≡ invalidated (raise P.Gen.counting P.Gen.greatest) self.old (P.numbers p).0) }
-        ensures refused { OnErr result (self.new ≡ self.old) }
+        ensures done { OnOk result (IsTouched
+            (invalidated (raise P.Gen.counting P.Gen.greatest) self.old (P.numbers p).0) self.new) }
+        ensures refused { OnErr result (IsTouched self.old self.new) }
+        ensures bounded { RisesByAtMost 6 self.old.steps self.new.steps }
         ensures found { IfOk result (λ q. look_up self.new (P.numbers q)
             ≡ look_up self.old (P.numbers p)) }
         ensures gone { P.Gen.counting ≡ true
@@ -382,7 +393,8 @@ impl<P: Ptr, T, S: NonZeroInxGenericStack<ArenaSlot<P, T>>> StrictArena<P, T, S>
         ensures others { (q : Pointer) → q.0 ≢ (P.numbers p).0
             → look_up self.new q ≡ look_up self.old q }
         ensures step { IsStrictStep S.kind P.Gen.counting P.Gen.greatest
-            self.old (to_invalidate (P.numbers p)) (calls_if_ok result (λ q. invalidation (P.numbers p) (P.numbers q))) self.new }
+            self.old (to_invalidate (P.numbers p))
+            (calls_if_ok result (λ q. invalidation (P.numbers p) (P.numbers q))) self.new }
         ensures history { P.Gen.counting ≡ true → Continues Fits self.old
             (calls_if_ok result (λ q. invalidation (P.numbers p) (P.numbers q))) self.new }
         ensures gone_for_good { P.Gen.counting ≡ true → OnOk result (IsGoneForGood self.new (P.numbers p)) }
@@ -439,8 +451,8 @@ impl<P: Ptr, T, S: NonZeroInxGenericStack<ArenaSlot<P, T>>> StrictArena<P, T, S>
             × Moves P.numbers F.step
             (rank self.old (raised_if_any (raise P.Gen.counting P.Gen.greatest) self.old)) f
             (entries self.old.slots) new
-            × (self.new ≡ compressed self.old
-            (raised_if_any (raise P.Gen.counting P.Gen.greatest) self.old) new)) }
+            × IsTouched (compressed self.old
+            (raised_if_any (raise P.Gen.counting P.Gen.greatest) self.old) new) self.new) }
         ensures keys { OnOk result (keys self.new.slots ≡ map
             (rank self.old (raised_if_any (raise P.Gen.counting P.Gen.greatest) self.old))
             (keys self.old.slots)) }
@@ -469,9 +481,9 @@ impl<P: Ptr, T, S: NonZeroInxGenericStack<ArenaSlot<P, T>>> StrictArena<P, T, S>
     pub fn compress(&mut self) -> Result<(), StrictError>
         ensures answer { result
             ≡ strict_all (is_exhausted_for_any P.Gen.counting P.Gen.greatest self.old) }
-        ensures done { OnOk result (self.new ≡ compressed self.old
+        ensures done { OnOk result (IsTouched (compressed self.old
             (raised_if_any (raise P.Gen.counting P.Gen.greatest) self.old)
-            (values self.old.slots)) }
+            (values self.old.slots)) self.new) }
         ensures keys { OnOk result (keys self.new.slots ≡ map
             (rank self.old (raised_if_any (raise P.Gen.counting P.Gen.greatest) self.old))
             (keys self.old.slots)) }
@@ -522,8 +534,8 @@ impl<P: Ptr, T, S: NonZeroInxGenericStack<ArenaSlot<P, T>>> StrictArena<P, T, S>
             × AreRenamed P.numbers
             (rank self.old (raised_if_any (raise P.Gen.counting P.Gen.greatest) self.old))
             T.held T.refill (values self.old.slots) new
-            × (self.new ≡ compressed self.old
-            (raised_if_any (raise P.Gen.counting P.Gen.greatest) self.old) new)) }
+            × IsTouched (compressed self.old
+            (raised_if_any (raise P.Gen.counting P.Gen.greatest) self.old) new) self.new) }
         ensures keys { OnOk result (keys self.new.slots ≡ map
             (rank self.old (raised_if_any (raise P.Gen.counting P.Gen.greatest) self.old))
             (keys self.old.slots)) }

@@ -4,6 +4,7 @@ ghost use Rattle.std.specs.Prelude.{◌≡◌, ◌<◌, OnOk, OnErr};
 ghost use Rattle.triple_arena_traits.specs.ArenaState.{arena_len, capacity};
 ghost use Rattle.triple_arena.specs.InsertEntry.{entry_arena};
 ghost use Rattle.triple_arena_traits.specs.Insertion.{inserted};
+ghost use Rattle.triple_arena_traits.specs.SlotSteps.{touched, insertion_steps};
 
 use triple_arena::{Arena, ArenaInsertEntry, ArenaInsertEntryTrait, ArenaSlot};
 use triple_arena_base::{MaxCapacityReductionError, NotWithinCapacityError};
@@ -92,7 +93,8 @@ pub fn insert_and_write<P: Ptr, T: Drop, S: NonZeroInxGenericStack<ArenaSlot<P, 
     first: T,
     second: T,
 ) -> Result<(), NotWithinCapacityError>
-    ensures inserted { OnOk result (arena.new ≡ inserted arena.old second) }
+    ensures inserted { OnOk result
+        (arena.new ≡ touched (insertion_steps arena.old) (inserted arena.old second)) }
     ensures refused { OnErr result (arena.new ≡ arena.old) }
 {
     let entry = arena.entry_insert_within_capacity()?;

@@ -1,7 +1,7 @@
 //! The whole state of an `Arena`.
 
 use std::num::NonZeroUsize;
-use triple_arena::{Arena, ArenaSlot, ArenaTrait};
+use triple_arena::{Arena, ArenaSlot, ArenaTrait, FreeLink};
 use triple_arena_ptr::{Ptr, PtrInx};
 use triple_arena_stack::NonZeroInxGenericStack;
 use triple_arena_trait_kit::{Numbered, SLOTS, State, Token};
@@ -47,22 +47,27 @@ where
     entries
 }
 
-// The free index after one.
-fn free_after<P: Ptr>(slots: &[ArenaSlot<P, Token>], inx: NonZeroUsize) -> Option<NonZeroUsize> {
+// The link of a free slot.
+fn link_of<P: Ptr>(slots: &[ArenaSlot<P, Token>], inx: NonZeroUsize) -> Option<&FreeLink<P::Inx>> {
     match slots.get(inx.get() - 1) {
-        Some(ArenaSlot::Free(link)) => link.after(inx),
+        Some(ArenaSlot::Free(link)) => Some(link),
         _ => None,
     }
 }
 
-// The free indexes of these slots from the first on.
+// The free indexes of these slots from the first on. In the place of one that does not lead back to
+// the one before stands `usize::MAX`.
 fn free_in<P: Ptr>(slots: &[ArenaSlot<P, Token>], first: Option<NonZeroUsize>) -> [usize; SLOTS] {
     let mut free = [0; SLOTS];
+    let mut last = None;
     let mut next = first;
     for place in 0..SLOTS {
         if let Some(inx) = next {
-            free[place] = inx.get();
-            next = free_after(slots, inx);
+            let link = link_of(slots, inx);
+            let leads_back = matches!(link, Some(link) if link.before(inx) == last);
+            free[place] = if leads_back { inx.get() } else { usize::MAX };
+            last = next;
+            next = link.and_then(|link| link.after(inx));
         }
     }
     free

@@ -10,6 +10,7 @@ mod end_slots;
 mod entries;
 mod fresh_pointers;
 mod limits;
+mod links;
 mod many_entries;
 mod order_of_refusals;
 mod pairs;

@@ -1,8 +1,6 @@
 -- The indexes of a list up to a number.
-use Rattle.std.proofs.Common.{◌≡◌, ℕ, zero, suc, ◌+◌, ◌<◌, ◌≤◌, ◌==◌, nat_le, Bool, true, false, List, [], ◌∷◌, ◌++◌, length, reverse, count_by, cond, refl, sym, ap, ◌∙◌, inl, inr, arith}
+use Rattle.std.proofs.Common.{◌≡◌, ℕ, zero, suc, ◌+◌, ◌<◌, ◌≤◌, ◌==◌, nat_le, Bool, true, false, List, [], ◌∷◌, length, count_by, cond, refl, sym, ap, ◌∙◌, inl, inr, arith}
 use Rattle.std.proofs.lemmas.Bool.{cases_lt, leb-true, leb-false}
-use Rattle.std.proofs.lemmas.Grind.{reverse_onto}
-use Rattle.std.proofs.lemmas.List.{append-nil, append_assoc, reverse-reverse}
 use Rattle.std.proofs.lemmas.List.Sums.{sum_by-cons}
 use Rattle.triple_arena_traits.specs.FreeList.{up_to}
 use Rattle.triple_arena_traits.specs.ItemLaws.{eq_true}
@@ -22,32 +20,6 @@ up_to-past n i xs h = by_test (nat_le i n) refl
     by_test : (b : Bool) → nat_le i n ≡ b → cond b (i ∷ up_to n xs) (up_to n xs) ≡ up_to n xs
     by_test true e = absurd (omega (arith, leb-true i n e))
     by_test false e = refl
-
--- one more item turned round
-pub turned_more : {A : Type 0} (x : A) (xs ys : List A) → reverse (x ∷ xs) ++ ys ≡ reverse xs ++ x ∷ ys
-turned_more x xs ys = ap (λ l. l ++ ys) (reverse_onto xs x []) ∙ append_assoc (reverse xs) (x ∷ []) ys
-
-up_to-turned : (n : ℕ) (xs ys : List ℕ) → up_to n (reverse xs ++ ys) ≡ reverse (up_to n xs) ++ up_to n ys
-up_to-turned n [] ys = refl
-up_to-turned n (x ∷ xs) ys =
-    ap (up_to n) (turned_more x xs ys) ∙ up_to-turned n xs (x ∷ ys) ∙ elim (cases_lt n x) [
-      | inl past ↦ rw (up_to-past n x xs past, up_to-past n x ys past) refl
-      | inr within ↦ rw (up_to-cons n x xs within, up_to-cons n x ys within) (sym (turned_more x (up_to n xs) (up_to n ys)))
-    ]
-
-up_to-twice : (n : ℕ) (xs : List ℕ) → up_to n (up_to n xs) ≡ up_to n xs
-up_to-twice n [] = refl
-up_to-twice n (x ∷ xs) =
-    elim (cases_lt n x) [
-      | inl past ↦ rw (up_to-past n x xs past) (up_to-twice n xs)
-      | inr within ↦ rw (up_to-cons n x xs within, up_to-cons n x (up_to n xs) within) (ap (λ l. x ∷ l) (up_to-twice n xs))
-    ]
-
--- turned round twice, what is left of a list has its order
-pub turned_twice : (n : ℕ) (xs : List ℕ) → reverse (up_to n (reverse (up_to n xs))) ≡ up_to n xs
-turned_twice n xs =
-    let kept = up_to n xs in
-    ap reverse (ap (up_to n) (sym (append-nil (reverse kept))) ∙ up_to-turned n kept [] ∙ append-nil (reverse (up_to n kept))) ∙ reverse-reverse (up_to n kept) ∙ up_to-twice n xs
 
 -- an index that is left counts as before, and no other does
 pub count-up_to : (n i : ℕ) (xs : List ℕ) → i ≤ n → count_by (λ k. k == i) (up_to n xs) ≡ count_by (λ k. k == i) xs

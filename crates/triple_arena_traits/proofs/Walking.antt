@@ -1,5 +1,5 @@
 -- Advancers and drains of an arena.
-use Rattle.std.proofs.Common.{◌≡◌, ℕ, ◌<◌, Bool, true, false, IsSome, List, Option, Some, None, MatchOption, length, refl, sym, ap, inl, inr, true≢false, arith}
+use Rattle.std.proofs.Common.{◌≡◌, ℕ, ◌<◌, Bool, true, false, IsSome, List, Option, Some, None, MatchOption, length, refl, ap, inl, inr, arith}
 use Rattle.std.proofs.lemmas.Bool.{cases_lt}
 use Rattle.std.specs.Prelude.{⊤}
 use Rattle.std.specs.Iterator.{YieldsFirstBy, MakesProgress, at_most}
@@ -7,7 +7,7 @@ use Rattle.std.specs.Int.NonZero.{non_zero_usize_get}
 use Rattle.std.specs.Option.{option_map}
 use Rattle.std.specs.declared.num.NonZeroUsize.{NonZeroUsize}
 use Rattle.triple_arena_base.specs.declared.invalidation.InvalidationOption.{InvalidationOption}
-use Rattle.triple_arena_base.specs.Invalidation.{is_invalid, as_option, overflowing_option, allowed_option}
+use Rattle.triple_arena_base.specs.Invalidation.{as_option, overflowing_option, allowed_option}
 use Rattle.triple_arena_ptr.specs.Pointers.{Pointer}
 use Rattle.triple_arena_traits.specs.Entries.{entry_in}
 use Rattle.triple_arena_traits.specs.Ending.{told, told_of}

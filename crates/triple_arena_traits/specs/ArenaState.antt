@@ -8,7 +8,8 @@ use Rattle.triple_arena_traits.specs.Entries.{entry_in, look_up_in, entry_count,
 
 -- by index, from 1 to the number of slots, the generation and the value of the entry that stands there, or nothing; the
 -- counter, which is the generation of the next entry; the free indexes, in the order in which insertion takes them; for how
--- many slots there is room, and how many are allowed, if there is a limit; and the greatest index
+-- many slots there is room, and how many are allowed, if there is a limit; the greatest index; and how many slots were
+-- touched, of which bounded work alone speaks
 pub record ArenaState (T : Type 0) : Type 0 where
   pub slots : List (Option (ℕ × T))
   pub counter : ℕ
@@ -16,11 +17,12 @@ pub record ArenaState (T : Type 0) : Type 0 where
   pub room : ℕ
   pub limit : Option ℕ
   pub greatest : ℕ
+  pub steps : ℕ
 
 module _ {T : Type 0} where
   -- an arena without slots
   abbrev pub new_arena : ℕ → Option ℕ → ℕ → ℕ → ArenaState T
-  new_arena room limit greatest counter = record { slots = []; counter = counter; free = []; room = room; limit = limit; greatest = greatest }
+  new_arena room limit greatest counter = record { slots = []; counter = counter; free = []; room = room; limit = limit; greatest = greatest; steps = 0 }
 
   -- the number of slots
   abbrev pub slot_count : ArenaState T → ℕ
@@ -62,7 +64,7 @@ module _ {T : Type 0} where
 abbrev pub map_entry : {T U : Type 0} → (T → U) → ℕ × T → ℕ × U
 map_entry f e = (e.0, f e.1)
 
--- the arena with another value in each entry
+-- the arena with another value in each entry, how many slots were touched aside
 abbrev pub map_values : {T U : Type 0} → (T → U) → ArenaState T → ArenaState U
 map_values f s =
     record {
@@ -72,4 +74,5 @@ map_values f s =
       room = s.room;
       limit = s.limit;
       greatest = s.greatest;
+      steps = 0;
     }

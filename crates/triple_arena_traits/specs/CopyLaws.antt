@@ -1,5 +1,5 @@
 -- What a copy holds, where each value is cloned.
-use Rattle.std.proofs.Common.{◌≡◌, ℕ, zero, suc, ◌+◌, ◌<◌, ◌==◌, cond, List, [], ◌∷◌, ◌++◌, map, Option, Some, None, slice_get, Result, Ok, Err, min, refl, sym, ap, subst, ◌∙◌, arith, append-nil}
+use Rattle.std.proofs.Common.{◌≡◌, ℕ, zero, suc, ◌+◌, ◌<◌, ◌==◌, cond, List, [], ◌∷◌, ◌++◌, map, Option, Some, None, slice_get, Result, Ok, Err, refl, sym, ap, subst, ◌∙◌, arith, append-nil}
 use Rattle.std.specs.Prelude.{MatchResult, OnOk, IsOk, Contains}
 use Rattle.std.specs.Borrow.{Bor}
 use Rattle.std.specs.List.{FoldsTo}
@@ -8,7 +8,6 @@ use Rattle.triple_arena_base.specs.declared.errors.AllocError.{AllocError}
 use Rattle.triple_arena_base.specs.declared.errors.CloneFromError.{CloneFromError}
 use Rattle.triple_arena_base.specs.declared.errors.CloneFromError.TheVariants.{Reallocation, Map}
 use Rattle.triple_arena_ptr.specs.Pointers.{Pointer}
-use Rattle.triple_arena_stack.specs.Capacity.{capacity_of, IsBeyond}
 use Rattle.triple_arena_traits.specs.ItemLaws.{joined, eq_true, eq_false}
 use Rattle.triple_arena_traits.specs.Entries.{KeepsEntries}
 use Rattle.triple_arena_traits.specs.Walks.{entries_from, entries}

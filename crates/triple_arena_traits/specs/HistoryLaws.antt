@@ -9,6 +9,7 @@ use Rattle.triple_arena_traits.specs.ItemLaws.{joined, eq_true, eq_false}
 use Rattle.triple_arena_traits.specs.Entries.{entry_in, KeepsEntries}
 use Rattle.triple_arena_traits.specs.ArenaState.{ArenaState, entry, look_up, arena_len, capacity, with_value, IsWellFormed}
 use Rattle.triple_arena_traits.specs.Insertion.{place, next_pointer, inserted}
+use Rattle.triple_arena_traits.specs.SlotSteps.{IsTouched}
 use Rattle.triple_arena_traits.specs.Ending.{removed, invalidated, cleared}
 use Rattle.triple_arena_traits.specs.FreeList.{tidied}
 use Rattle.triple_arena_traits.specs.Capacity.{with_limit, grown}
@@ -186,6 +187,13 @@ module _ {T : Type 0} where
         ends = λ p e. absurd (true≢false (sym e));
         rises = omega (arith, counter);
       }
+
+  -- slots that were touched make no difference
+  pub Continues-touched : (s t new : ArenaState T) (calls : List ModelCall) → IsTouched t new → Continues Fits s calls t → Continues Fits s calls new
+  Continues-touched s t new calls same goes h fits =
+      let f = goes h fits in
+      let counted : Fits (followed_by h calls) (record t { steps = new.steps }) = record { given_once = f.given_once; live = f.live; given_by_now = f.given_by_now; ended_before = f.ended_before } in
+      subst (Fits (followed_by h calls)) (sym same.0) counted
 
   pub Continues-resized : (s t : ArenaState T) → KeepsEntries s.slots t.slots → t.counter ≡ s.counter → Continues Fits s (resizing ∷ []) t
   Continues-resized s t same counter = Continues-moved s t resizing (moves-resized s t same counter)

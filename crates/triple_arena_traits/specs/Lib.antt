@@ -3,6 +3,7 @@ pub mod ItemLaws
 pub mod Entries
 pub mod ArenaState
 pub mod Insertion
+pub mod SlotSteps
 pub mod DirectInsertion
 pub mod Ending
 pub mod FreeList

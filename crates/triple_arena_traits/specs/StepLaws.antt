@@ -64,7 +64,9 @@ module _ {T : Type 0} where
       IsWellFormed-removed raise s i found.0 well found.1
 
   pub cleared_stays : (raise : ℕ → ℕ) (s : ArenaState T) → IsWellFormed (cleared raise s)
-  cleared_stays raise s = IsWellFormed-empty s.room s.limit s.greatest (cleared raise s).counter
+  cleared_stays raise s =
+      let empty = IsWellFormed-empty s.room s.limit s.greatest (cleared raise s).counter in
+      record { free_once = empty.free_once; total = empty.total; fits = empty.fits }
 
   pub reallocated_stays : (kind : StackKind) (s : ArenaState T) (m : ℕ) → IsWellFormed s → IsWellFormed (reallocated kind s m)
   reallocated_stays kind s m well =

@@ -10,6 +10,7 @@ use Rattle.triple_arena_traits.specs.Items.{item, with_item}
 use Rattle.triple_arena_traits.specs.Entries.{look_up_in, entry_in, value_under, with_value_in, with_generation_in}
 use Rattle.triple_arena_traits.specs.ArenaState.{ArenaState, new_arena, capacity, entry, look_up, slot_count, arena_len, is_free, IsWellFormed}
 use Rattle.triple_arena_traits.specs.Insertion.{place_among, place, inserted_among, inserted}
+use Rattle.triple_arena_traits.specs.SlotSteps.{steps_among, IsTouched}
 use Rattle.triple_arena_traits.specs.Ending.{removed, invalidated}
 use Rattle.triple_arena_traits.specs.EntryLaws.{count_head, first_free, by_case}
 use Rattle.triple_arena_traits.specs.LengthLaws.{count-with_item}
@@ -17,6 +18,12 @@ use Rattle.triple_arena_traits.specs.LengthLaws.{count-with_item}
 -- the entry at an index is this one
 abbrev pub with_entry : {T : Type 0} → ArenaState T → ℕ → ℕ × T → ArenaState T
 with_entry s i e = record s { slots = with_item s.slots i (Some e) }
+
+-- an insertion touches at most two slots
+pub few_steps : (free : List ℕ) → steps_among free ≤ 2
+few_steps [] = omega arith
+few_steps (i ∷ []) = omega arith
+few_steps (i ∷ j ∷ rest) = omega arith
 
 -- the count of an index in a list that begins with another
 pub count_tail : (i j : ℕ) (rest : List ℕ) → i ≢ j → count_by (λ k. k == j) (i ∷ rest) ≡ count_by (λ k. k == j) rest
@@ -145,12 +152,26 @@ module _ {T : Type 0} where
   greatest-removed raise s i = by_case (λ t. t.greatest) (i == slot_count s) _ _ s.greatest refl refl
 
   -- insertion leaves what is no entry
-  pub kept-inserted : (s : ArenaState T) (v : T) → ((inserted s v).counter ≡ s.counter) × ((inserted s v).room ≡ s.room) × ((inserted s v).limit ≡ s.limit) × ((inserted s v).greatest ≡ s.greatest)
+  pub kept-inserted : (s : ArenaState T) (v : T) → ((inserted s v).counter ≡ s.counter) × ((inserted s v).room ≡ s.room) × ((inserted s v).limit ≡ s.limit) × ((inserted s v).greatest ≡ s.greatest) × ((inserted s v).steps ≡ s.steps)
   kept-inserted s v = by_free s.free
     where
-      by_free : (f : List ℕ) → ((inserted_among f s v).counter ≡ s.counter) × ((inserted_among f s v).room ≡ s.room) × ((inserted_among f s v).limit ≡ s.limit) × ((inserted_among f s v).greatest ≡ s.greatest)
-      by_free [] = (refl, refl, refl, refl)
-      by_free (i ∷ rest) = (refl, refl, refl, refl)
+      by_free : (f : List ℕ) → ((inserted_among f s v).counter ≡ s.counter) × ((inserted_among f s v).room ≡ s.room) × ((inserted_among f s v).limit ≡ s.limit) × ((inserted_among f s v).greatest ≡ s.greatest) × ((inserted_among f s v).steps ≡ s.steps)
+      by_free [] = (refl, refl, refl, refl, refl)
+      by_free (i ∷ rest) = (refl, refl, refl, refl, refl)
+
+  -- a removal counts nothing, and what was counted before makes no difference to it
+  pub steps-removed : (raise : ℕ → ℕ) (s : ArenaState T) (n m i : ℕ) → ◌≡◌ {A = ArenaState T} (record (removed raise (record s { steps = n }) i) { steps = m }) (record (removed raise s i) { steps = m })
+  steps-removed raise s n m i = by_test (i == slot_count s)
+    where
+      by_test : (b : Bool) → ◌≡◌ {A = ArenaState T} (record (cond b (record s { slots = take (slot_count s - 1) s.slots; counter = raise s.counter; steps = n }) (record s { slots = with_item s.slots i None; counter = raise s.counter; free = i ∷ s.free; steps = n })) { steps = m }) (record (cond b (record s { slots = take (slot_count s - 1) s.slots; counter = raise s.counter }) (record s { slots = with_item s.slots i None; counter = raise s.counter; free = i ∷ s.free })) { steps = m })
+      by_test true = refl
+      by_test false = refl
+
+  -- slots that were touched make no difference
+  pub IsWellFormed-touched : (s new : ArenaState T) → IsTouched s new → IsWellFormed s → IsWellFormed new
+  IsWellFormed-touched s new touched well =
+      let counted : IsWellFormed (record s { steps = new.steps }) = record { free_once = well.free_once; total = well.total; fits = well.fits } in
+      subst IsWellFormed (sym touched.0) counted
 
   -- the place of an insertion is an index within the bounds
   pub place_within : (s : ArenaState T) → IsWellFormed s → arena_len s < capacity s → (0 < place s) × (place s ≤ capacity s)

@@ -5,6 +5,7 @@ ghost use Rattle.triple_arena_ptr.specs.Numbers.{greatest_index};
 ghost use Rattle.triple_arena_ptr.specs.Pointers.{Pointer};
 ghost use Rattle.triple_arena_stack.specs.Capacity.{IsFullAtLimit, CanGrow};
 ghost use Rattle.triple_arena_traits.specs.Entries.{entry_in, look_up_in, entry_count, ChangesAt, KeepsEntries};
+ghost use Rattle.triple_arena_traits.specs.SlotSteps.{RisesByAtMost};
 ghost use Rattle.triple_arena_traits.specs.Histories.{insertion, Continues};
 
 use crate::arena_trait::ArenaTrait;
@@ -37,6 +38,7 @@ pub trait ArenaInsertTrait<P: Ptr, T>: ArenaTrait<P, T> {
         ensures free { entry_in (Self.slots self.old) (P.numbers result).0 ≡ None }
         ensures inserted { self.new ≡ inserted self.old t }
         ensures valid { Self.valid self.old }
+        ensures bounded { RisesByAtMost 6 (Self.steps self.old) (Self.steps self.new) }
         ensures fresh { Continues Self.fits self.old (insertion (P.numbers result) ∷ []) self.new };
 
     /// Inserts `t`, and gives its pointer. A full arena grows first: its capacity never falls, and
@@ -88,6 +90,13 @@ pub trait ArenaInsertTrait<P: Ptr, T>: ArenaTrait<P, T> {
     ghost fitting_inserted: { (arena : Self) (value : T)
         → Self.fitting (inserted arena value) ≡ Self.fitting arena };
 
+    // where nothing changed but how many slots were touched, the next pointer is the same, and growth
+    // leaves the same but for that
+    ghost next_unchanged: { (old new : Self) → Self.unchanged old new → next new ≡ next old };
+
+    ghost grown_unchanged: { (old new : Self) → Self.unchanged old new
+        → Self.unchanged (grown old) (grown new) };
+
     // growth leaves an arena that has a place as it is
     ghost same_grown: { (arena : Self) → entry_count (Self.slots arena) < Self.fitting arena
         → grown arena ≡ arena };
@@ -126,6 +135,7 @@ pub trait ArenaInsertTrait<P: Ptr, T>: ArenaTrait<P, T> {
         ensures inserted { OnOk result (self.new ≡ inserted self.old t) }
         ensures refused { OnErr result (self.new ≡ self.old) }
         ensures valid { Self.valid self.old }
+        ensures bounded { RisesByAtMost 6 (Self.steps self.old) (Self.steps self.new) }
         ensures fresh { IfOk result
             (λ p. Continues Self.fits self.old (insertion (P.numbers p) ∷ []) self.new) }
     {

@@ -7,6 +7,7 @@ ghost use Rattle.triple_arena_ptr.specs.Numbers.{greatest_index};
 ghost use Rattle.triple_arena_ptr.specs.Pointers.{Pointer};
 ghost use Rattle.triple_arena_stack.specs.StackKind.{StackKind, new_room, new_limit, made_room, made_limit, CanHold, TakesNoMemory};
 ghost use Rattle.triple_arena_stack.specs.Capacity.{capacity_of, IsWithin, IsBeyond};
+ghost use Rattle.triple_arena_traits.specs.SlotSteps.{RisesByAtMost};
 ghost use Rattle.triple_arena_traits.specs.Entries.{entry_in, look_up_in, entry_count, with_value_in, ChangesAt, KeepsEntries, IsFirst, IsLast};
 ghost use Rattle.triple_arena_traits.specs.Ending.{told, told_of, map_told};
 ghost use Rattle.triple_arena_traits.specs.Walks.{Stand, standing_at, IsAtFirst, keys};
@@ -66,6 +67,12 @@ pub trait ArenaTrait<P: Ptr, T>: Sized {
 
     // the same with another value in the entry at an index
     ghost with_value: { Self → ℕ → T → Self };
+
+    // how many slots were touched, where the arena counts them
+    ghost steps: { Self → ℕ };
+
+    // nothing changed but that count
+    ghost unchanged: { Self → Self → Type 0 };
 
     // what an invalidation at an index leaves, and the generation of the entry after it
     ghost invalidates: { Self → ℕ → Self → Type 0 };
@@ -217,8 +224,8 @@ pub trait ArenaTrait<P: Ptr, T>: Sized {
     /// Gives the entry under `p` a new pointer, where the arena counts generations; `p` is invalid
     /// from then on, unless the new generation is its own, as it may be once the counter wrapped.
     ///
-    /// `InvalidPtr` exactly where `p` is invalid; then nothing changes. `GenerationOverflow` exactly
-    /// where it is valid and the counter wraps.
+    /// `InvalidPtr` exactly where `p` is invalid; then nothing changes but how many slots were touched.
+    /// `GenerationOverflow` exactly where it is valid and the counter wraps.
     fn invalidate(&mut self, p: P) -> InvalidationResult<P>
         ensures answer { map_told P.numbers result ≡ told_of (ending_wraps self.old) (option_map
             (λ _. ((P.numbers p).0, renewed self.old (P.numbers p).0))
@@ -233,7 +240,8 @@ pub trait ArenaTrait<P: Ptr, T>: Sized {
         ensures others { (q : Pointer) → q.0 ≢ (P.numbers p).0
             → look_up_in (slots self.new) q ≡ look_up_in (slots self.old) q }
         ensures unchanged { look_up_in (slots self.old) (P.numbers p) ≡ None
-            → self.new ≡ self.old }
+            → unchanged self.old self.new }
+        ensures bounded { RisesByAtMost 6 (steps self.old) (steps self.new) }
         ensures fresh { IsSome (look_up_in (slots self.old) (P.numbers p))
             → CountsUp P.Gen.counting (ending_wraps self.old) → Continues fits self.old
             (invalidation (P.numbers p) ((P.numbers p).0, renewed self.old (P.numbers p).0) ∷ [])
@@ -241,8 +249,8 @@ pub trait ArenaTrait<P: Ptr, T>: Sized {
 
     /// Takes out the entry under `p`, and gives its value.
     ///
-    /// `InvalidPtr` exactly where `p` is invalid; then nothing changes. `GenerationOverflow` exactly
-    /// where it is valid and the counter wraps.
+    /// `InvalidPtr` exactly where `p` is invalid; then nothing changes but how many slots were touched.
+    /// `GenerationOverflow` exactly where it is valid and the counter wraps.
     fn remove(&mut self, p: P) -> InvalidationResult<T>
         ensures answer { result
             ≡ told_of (ending_wraps self.old) (look_up_in (slots self.old) (P.numbers p)) }
@@ -252,15 +260,16 @@ pub trait ArenaTrait<P: Ptr, T>: Sized {
         ensures others { (q : Pointer) → q ≢ P.numbers p
             → look_up_in (slots self.new) q ≡ look_up_in (slots self.old) q }
         ensures unchanged { look_up_in (slots self.old) (P.numbers p) ≡ None
-            → self.new ≡ self.old }
+            → unchanged self.old self.new }
+        ensures bounded { RisesByAtMost 6 (steps self.old) (steps self.new) }
         ensures fresh { IsSome (look_up_in (slots self.old) (P.numbers p))
             → CountsUp P.Gen.counting (ending_wraps self.old)
             → Continues fits self.old (removal (P.numbers p) ∷ []) self.new };
 
     /// Takes out the entry at `inx`, and gives its generation and its value.
     ///
-    /// `InvalidPtr` exactly where there is no entry; then nothing changes. `GenerationOverflow`
-    /// exactly where there is one and the counter wraps.
+    /// `InvalidPtr` exactly where there is no entry; then nothing changes but how many slots were
+    /// touched. `GenerationOverflow` exactly where there is one and the counter wraps.
     fn remove_inx(&mut self, inx: P::Inx) -> InvalidationResult<(P::Gen, T)>
         ensures answer { map_told (λ e. (P.Gen.number e.0, e.1)) result
             ≡ told_of (ending_wraps self.old) (entry_in (slots self.old) (P.Inx.number inx)) }
@@ -270,7 +279,8 @@ pub trait ArenaTrait<P: Ptr, T>: Sized {
         ensures others { (q : Pointer) → q.0 ≢ P.Inx.number inx
             → look_up_in (slots self.new) q ≡ look_up_in (slots self.old) q }
         ensures unchanged { entry_in (slots self.old) (P.Inx.number inx) ≡ None
-            → self.new ≡ self.old }
+            → unchanged self.old self.new }
+        ensures bounded { RisesByAtMost 6 (steps self.old) (steps self.new) }
         ensures fresh { (generation : ℕ) (value : T)
             → entry_in (slots self.old) (P.Inx.number inx) ≡ Some (generation, value)
             → CountsUp P.Gen.counting (ending_wraps self.old)
@@ -322,6 +332,37 @@ pub trait ArenaTrait<P: Ptr, T>: Sized {
 
     ghost fitting_removed: { (old : Self) (i : ℕ) (new : Self) → removes old i new
         → fitting new ≡ fitting old };
+
+    // where nothing changed but the count, entries, limit, capacity and next generation are the same,
+    // an ending is told and renewed as before, a reallocation asks for the same room, and each
+    // history that fitted fits
+    ghost slots_unchanged: { (old new : Self) → unchanged old new → slots new ≡ slots old };
+
+    ghost valid_unchanged: { (old new : Self) → unchanged old new → valid old → valid new };
+
+    ghost limit_unchanged: { (old new : Self) → unchanged old new → limit new ≡ limit old };
+
+    ghost fitting_unchanged: { (old new : Self) → unchanged old new → fitting new ≡ fitting old };
+
+    ghost generation_unchanged: { (old new : Self) → unchanged old new
+        → next_generation new ≡ next_generation old };
+
+    ghost renewed_unchanged: { (old new : Self) (i : ℕ) → unchanged old new
+        → renewed new i ≡ renewed old i };
+
+    ghost ending_wraps_unchanged: { (old new : Self) → unchanged old new
+        → ending_wraps new ≡ ending_wraps old };
+
+    ghost clearing_wraps_unchanged: { (old new : Self) → unchanged old new
+        → clearing_wraps new ≡ clearing_wraps old };
+
+    ghost keeps_room_unchanged: { (old new : Self) (m : ℕ) → unchanged old new
+        → keeps_room old m → keeps_room new m };
+
+    ghost gets_room_unchanged: { (old new : Self) (m : ℕ) → unchanged old new
+        → gets_room old m → gets_room new m };
+
+    ghost fits_unchanged: { (old new : Self) → unchanged old new → Continues fits old [] new };
 
     // an invalidation renews the generation of the entry at its index alone, and leaves the number
     // of entries, limit and capacity

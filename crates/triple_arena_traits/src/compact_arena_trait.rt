@@ -103,6 +103,14 @@ pub trait CompactArenaTrait<P: Ptr, T>: ArenaTrait<P, T> {
         (i : ℕ) (value : T) → compresses old reset values new
         → compresses old reset (with_item values i value) (Self.with_value new i value) };
 
+    // where nothing changed but how many slots were touched, a compression moves the same entries to
+    // the same places, and is told as before
+    ghost rank_unchanged: { (old new : Self) (reset : Bool) → Self.unchanged old new
+        → rank new reset ≡ rank old reset };
+
+    ghost compression_wraps_unchanged: { (old new : Self) (reset : Bool) → Self.unchanged old new
+        → compression_wraps new reset ≡ compression_wraps old reset };
+
     // limit and capacity stay
     ghost limit_compressed: { (old : Self) (reset : Bool) (values : List T) (new : Self)
         → compresses old reset values new → Self.limit new ≡ Self.limit old };

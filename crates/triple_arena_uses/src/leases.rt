@@ -3,6 +3,7 @@
 ghost use Rattle.std.specs.Prelude.{◌≡◌, ◌≢◌, ◌<◌, ◌+◌, None, Some, IsOk, IfOk, OnOk, OnErr, option_copied};
 ghost use Rattle.triple_arena_ptr.specs.Pointers.{Pointer};
 ghost use Rattle.triple_arena_traits.specs.ArenaState.{look_up, arena_len, capacity};
+ghost use Rattle.triple_arena_traits.specs.SlotSteps.{RisesByAtMost, IsTouched};
 ghost use Rattle.triple_arena_strict.specs.Gone.{IsGoneForGood};
 ghost use Rattle.triple_arena_strict.specs.Strict.{strict_of};
 ghost use Rattle.triple_arena_uses.specs.Tickets.{numbers, are_used_up};
@@ -76,10 +77,11 @@ impl Leases {
         self.leases.get(ticket)
     }
 
-    /// Ends the lease of a ticket, and gives it. No lease is found under the ticket any more.
+    /// Ends the lease of a ticket, and gives it. No lease is found under the ticket any more. However
+    /// many leases there are, at most 6 slots are touched.
     ///
     /// `InvalidPtr` exactly where there is none; else `Exhausted` exactly where its ticket could be given
-    /// again (`are_used_up`). Then nothing changes.
+    /// again (`are_used_up`). Then nothing changes but how many slots were touched.
     pub fn revoke(&mut self, ticket: Ticket) -> Result<Lease, StrictError>
         ensures answer { result
             ≡ strict_of (are_used_up self.old) (look_up self.old (numbers ticket)) }
@@ -88,7 +90,8 @@ impl Leases {
             → look_up self.new q ≡ look_up self.old q }
         ensures stays_gone { (q : Pointer) → IsGoneForGood self.old q → IsGoneForGood self.new q }
         ensures counter { OnOk result (self.new.counter ≡ self.old.counter + 1) }
-        ensures refused { OnErr result (self.new ≡ self.old) }
+        ensures refused { OnErr result (IsTouched self.old self.new) }
+        ensures bounded { RisesByAtMost 6 self.old.steps self.new.steps }
     {
         self.leases.remove(ticket)
     }

@@ -25,7 +25,7 @@ impl<P: Ptr, T, S: NonZeroInxGenericStack<ArenaSlot<P, T>>> Advancer<Arena<P, T,
     fn advance(&mut self, arena: &Arena<P, T, S>) -> Option<P> {
         // By its clauses, no slot is past the greatest index.
         let _capacity = arena.capacity();
-        self.step::<T, ArenaSlot<P, T>, S>(&arena.slots.stack)
+        self.step::<T, ArenaSlot<P, T>, S>(arena.slots.stack())
     }
 
     fn empty() -> Self {

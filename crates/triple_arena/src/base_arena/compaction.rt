@@ -5,6 +5,7 @@ ghost use Rattle.triple_arena_ptr.specs.Numbers.{raise, wraps, first_generation}
 ghost use Rattle.triple_arena_traits.specs.Ending.{told};
 ghost use Rattle.triple_arena_traits.specs.Walks.{entries};
 ghost use Rattle.triple_arena_traits.specs.Compression.{compressed, counter_after, wraps_after, rank};
+ghost use Rattle.triple_arena_traits.specs.SlotSteps.{IsTouched};
 ghost use Rattle.triple_arena_traits.specs.Moves.{Moves};
 
 use super::Arena;
@@ -18,14 +19,15 @@ impl<P: Ptr, T, S: NonZeroInxGenericStack<ArenaSlot<P, T>>> CompactArenaTrait<P,
     for Arena<P, T, S> {
     ghost use Rattle.std.proofs.Common.{ap};
     ghost use Rattle.triple_arena_traits.specs.ArenaState.{capacity};
-    ghost use Rattle.triple_arena_traits.specs.CompressionLaws.{ranks, keys-compressed, values-compressed, compressed-with_value, with_value-same};
+    ghost use Rattle.triple_arena_traits.specs.CompressionLaws.{ranks, with_value-same};
+    ghost use Rattle.triple_arena.specs.TouchedLaws.{compressed_keys, compressed_values, compressed_with_value};
 
     ghost advanced = { λ _ _ _ _ steps. steps };
 
     // the entries have these values, in their order, from index 1 on, under the counter
-    ghost compresses = { λ old reset values new. new ≡ compressed old
+    ghost compresses = { λ old reset values new. IsTouched (compressed old
         (counter_after (first_generation P.Gen.counting) (raise P.Gen.counting P.Gen.greatest)
-        reset old) values };
+        reset old) values) new };
 
     // the number of the entry, under the counter
     ghost rank = { λ s reset. rank s (counter_after (first_generation P.Gen.counting)
@@ -47,23 +49,29 @@ impl<P: Ptr, T, S: NonZeroInxGenericStack<ArenaSlot<P, T>>> CompactArenaTrait<P,
 
     ghost with_value_same = { with_value-same };
 
-    ghost keys_compressed = { λ old reset values new. keys-compressed old new (counter_after
+    ghost keys_compressed = { λ old reset values new. compressed_keys old new (counter_after
         (first_generation P.Gen.counting) (raise P.Gen.counting P.Gen.greatest) reset old) values };
 
-    ghost values_compressed = { λ old reset values new. values-compressed old new (counter_after
+    ghost values_compressed = { λ old reset values new. compressed_values old new (counter_after
         (first_generation P.Gen.counting) (raise P.Gen.counting P.Gen.greatest) reset old) values };
 
     ghost ranked = { λ old reset. ranks (Some (counter_after
         (first_generation P.Gen.counting) (raise P.Gen.counting P.Gen.greatest) reset old))
         old.slots };
 
-    ghost compresses_with_value = { λ old reset values new. compressed-with_value old new
+    ghost compresses_with_value = { λ old reset values new. compressed_with_value old new
         (counter_after (first_generation P.Gen.counting) (raise P.Gen.counting P.Gen.greatest)
         reset old) values };
 
-    ghost limit_compressed = { λ _ _ _ _. ap (λ s. s.limit) };
+    ghost rank_unchanged = { λ _ _ reset same. ap (λ s. rank s (counter_after
+        (first_generation P.Gen.counting) (raise P.Gen.counting P.Gen.greatest) reset s)) same.0 };
 
-    ghost fitting_compressed = { λ _ _ _ _. ap capacity };
+    ghost compression_wraps_unchanged = { λ _ _ reset same.
+        ap (wraps_after (wraps P.Gen.counting P.Gen.greatest) reset) same.0 };
+
+    ghost limit_compressed = { λ _ _ _ _ same. ap (λ s. s.limit) same.0 };
+
+    ghost fitting_compressed = { λ _ _ _ _ same. ap capacity same.0 };
 }
 
 impl<P: Ptr, T, S: NonZeroInxGenericStack<ArenaSlot<P, T>>> Arena<P, T, S> {
@@ -92,7 +100,7 @@ impl<P: Ptr, T, S: NonZeroInxGenericStack<ArenaSlot<P, T>>> Arena<P, T, S> {
         requires callable { F.IsAlwaysCallable f }
         ensures { (values : List T)
             × Moves P.numbers F.step (rank self.old self.old.counter) f (entries self.old.slots) values
-            × (self.new ≡ compressed self.old self.old.counter values) }
+            × IsTouched (compressed self.old self.old.counter values) self.new }
     {
         self.slots.close_up(self.counter, f);
     }

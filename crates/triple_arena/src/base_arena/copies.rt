@@ -6,6 +6,7 @@ ghost use Rattle.triple_arena_stack.specs.Capacity.{IsWithin, IsBeyond};
 ghost use Rattle.triple_arena_traits.specs.ArenaState.{slot_count, capacity, arena_len};
 ghost use Rattle.triple_arena_traits.specs.Entries.{entry_count};
 ghost use Rattle.triple_arena_traits.specs.FreeList.{tidied, laid_out, last_index};
+ghost use Rattle.triple_arena_traits.specs.SlotSteps.{IsTouched};
 ghost use Rattle.triple_arena_traits.specs.Capacity.{reallocated, ready_for};
 ghost use Rattle.triple_arena_traits.specs.Walks.{entries, keys};
 ghost use Rattle.triple_arena_traits.specs.Copying.{Copies};
@@ -24,12 +25,12 @@ use triple_arena_traits::{ArenaCloneFromWith, ArenaTrait, CompactArenaTrait};
 
 impl<P: Ptr, T, S: NonZeroInxGenericStack<ArenaSlot<P, T>>> ArenaCloneFromWith<P, T>
     for Arena<P, T, S> {
-    ghost use Rattle.triple_arena_traits.specs.CloningLaws.{kept-cloned, limit-cloned, fitting-cloned};
+    ghost use Rattle.triple_arena.specs.TouchedLaws.{cloned_slots, cloned_limit, cloned_capacity};
 
     // the slots of the copy stand, in room for the last index; the free indexes are the gaps in
     // rising order, and the counter is the source's, or the first generation
-    ghost clones = { λ old last next copy new. new ≡ laid_out (ready_for S.kind old last) copy
-        (counter_of (first_generation P.Gen.counting) next) };
+    ghost clones = { λ old last next copy new. IsTouched (laid_out (ready_for S.kind old last) copy
+        (counter_of (first_generation P.Gen.counting) next)) new };
 
     fn clone_from_with<U, E, A: CompactArenaTrait<P, U>, M: FnMut(P, &U) -> Result<T, E>>(
         &mut self,
@@ -45,11 +46,11 @@ impl<P: Ptr, T, S: NonZeroInxGenericStack<ArenaSlot<P, T>>> ArenaCloneFromWith<P
             .map_err(CloneFromError::Map)
     }
 
-    ghost slots_cloned = { kept-cloned S.kind (first_generation P.Gen.counting) };
+    ghost slots_cloned = { cloned_slots S.kind (first_generation P.Gen.counting) };
 
-    ghost limit_cloned = { limit-cloned S.kind (first_generation P.Gen.counting) };
+    ghost limit_cloned = { cloned_limit S.kind (first_generation P.Gen.counting) };
 
-    ghost fitting_cloned = { fitting-cloned S.kind (first_generation P.Gen.counting) };
+    ghost fitting_cloned = { cloned_capacity S.kind (first_generation P.Gen.counting) };
 }
 
 impl<P: Ptr, T, S: NonZeroInxGenericStack<ArenaSlot<P, T>>> Arena<P, T, S> {
@@ -78,14 +79,14 @@ impl<P: Ptr, T, S: NonZeroInxGenericStack<ArenaSlot<P, T>>> Arena<P, T, S> {
         ensures done { OnOk result ((put : List (Option (ℕ × T)))
             × Transfers Q.numbers P.numbers M.step A.slots A.fits A.removes A.ending_wraps
             Q.Gen.counting (P.Gen.number new_generation) map source.old source.new put
-            × (self.new ≡ laid_out (ready_for S.kind self.old (length put)) put
-            (P.Gen.number new_generation))) }
+            × IsTouched (laid_out (ready_for S.kind self.old (length put)) put
+            (P.Gen.number new_generation)) self.new) }
         ensures counted { OnOk result (arena_len self.new ≡ entry_count (A.slots source.old)) }
         ensures emptied { OnOk result (entry_count (A.slots source.new) ≡ 0) }
         ensures fresh { OnOk result (NoneWraps A.removes A.ending_wraps Q.Gen.counting source.old
             (keys (A.slots source.old)) → Continues A.fits source.old
             (removals (keys (A.slots source.old))) source.new) }
-        ensures refused { OnErr result (self.new ≡ tidied self.old) }
+        ensures refused { OnErr result (IsTouched (tidied self.old) self.new) }
         ensures whole { OnErr result (source.new ≡ source.old) }
         ensures short { OnErr result (capacity self.old < entry_count (A.slots source.old)) }
         ensures indexed { OnOk result (entry_count (A.slots source.old)
@@ -106,8 +107,8 @@ impl<P: Ptr, T, S: NonZeroInxGenericStack<ArenaSlot<P, T>>> Arena<P, T, S> {
 
     // Reallocates where so many are past the capacity.
     fn make_room(&mut self, min_capacity: usize) -> Result<(), ReallocationError>
-        ensures done { OnOk result (self.new ≡ ready_for S.kind self.old min_capacity) }
-        ensures refused { OnErr result (self.new ≡ tidied self.old) }
+        ensures done { OnOk result (IsTouched (ready_for S.kind self.old min_capacity) self.new) }
+        ensures refused { OnErr result (IsTouched (tidied self.old) self.new) }
         ensures short { OnErr result (capacity self.old < min_capacity) }
         ensures fits { slot_count self.old ≤ capacity self.old }
         ensures beyond { (result ≡ Err ReallocationError.BeyondMaxCapacity)
@@ -139,7 +140,7 @@ impl<P: Ptr, T, S: NonZeroInxGenericStack<ArenaSlot<P, T>>> Arena<P, T, S> {
         requires fits { last_index (A.slots source.now) ≤ capacity self.old }
         ensures { (new : List (Option (ℕ × T)))
             × Copies P.numbers M.step f (entries (A.slots source.now)) result new
-            × (self.new ≡ laid_out self.old new (P.Gen.number counter)) }
+            × IsTouched (laid_out self.old new (P.Gen.number counter)) self.new }
     {
         let (len, answer) = self.slots.copy(source, f);
         self.len = len;
@@ -162,7 +163,7 @@ impl<P: Ptr, T, S: NonZeroInxGenericStack<ArenaSlot<P, T>>> Arena<P, T, S> {
         ensures transferred { (put : List (Option (ℕ × T)))
             × Transfers Q.numbers P.numbers M.step A.slots A.fits A.removes A.ending_wraps
             Q.Gen.counting (P.Gen.number generation) f source.old source.new put
-            × (self.new ≡ laid_out self.old put (P.Gen.number generation))
+            × IsTouched (laid_out self.old put (P.Gen.number generation)) self.new
             × (length put ≡ entry_count (A.slots source.old)) }
         ensures emptied { entry_count (A.slots source.new) ≡ 0 }
         ensures counted { arena_len self.new ≡ entry_count (A.slots source.old) }

@@ -3,6 +3,7 @@
 ghost use Rattle.std.specs.Prelude.{◌≡◌, ◌≤◌, ◌∷◌, ◌↔◌, [], IsOk, OnOk, OnErr, Some};
 ghost use Rattle.triple_arena_traits.specs.ArenaState.{capacity, slot_count};
 ghost use Rattle.triple_arena_traits.specs.FreeList.{tidied};
+ghost use Rattle.triple_arena_traits.specs.SlotSteps.{IsTouched};
 ghost use Rattle.triple_arena_traits.specs.Capacity.{EndsBy, ready_for_limit, with_limit};
 ghost use Rattle.triple_arena_traits.specs.Histories.{resizing, Fits, Continues};
 
@@ -24,8 +25,8 @@ impl<P: Ptr, T, S: SetMaxCapacity<ArenaSlot<P, T>>> Arena<P, T, S> {
     /// free list, which is in order, without the free slots past the last entry.
     pub fn set_max_capacity(&mut self, max_capacity: usize) -> Result<(), MaxCapacityReductionError>
         ensures variant { IsOk result ↔ EndsBy self.old max_capacity }
-        ensures done { OnOk result (self.new ≡ with_limit self.old max_capacity) }
-        ensures refused { OnErr result (self.new ≡ tidied self.old) }
+        ensures done { OnOk result (IsTouched (with_limit self.old max_capacity) self.new) }
+        ensures refused { OnErr result (IsTouched (tidied self.old) self.new) }
         ensures fresh { Continues Fits self.old (resizing ∷ []) self.new }
     {
         self.make_ready_for_limit(max_capacity);
@@ -34,7 +35,7 @@ impl<P: Ptr, T, S: SetMaxCapacity<ArenaSlot<P, T>>> Arena<P, T, S> {
 
     // Puts the free list in order where the limit to come is below the capacity.
     fn make_ready_for_limit(&mut self, limit: usize)
-        ensures state { self.new ≡ ready_for_limit self.old limit }
+        ensures state { IsTouched (ready_for_limit self.old limit) self.new }
         ensures fits { slot_count self.old ≤ capacity self.old }
     {
         if limit < self.capacity() {

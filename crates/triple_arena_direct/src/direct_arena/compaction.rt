@@ -13,6 +13,7 @@ use triple_arena_traits::{CompactArenaTrait, close_up};
 
 impl<P: Ptr, T, S: NonZeroInxGenericStack<DirectSlot<P, T>>> CompactArenaTrait<P, T>
     for DirectArena<P, T, S> {
+    ghost use Rattle.std.specs.Prelude.{refl};
     ghost use Rattle.std.proofs.Common.{ap};
     ghost use Rattle.triple_arena_traits.specs.CompressionLaws.{ranks};
     ghost use Rattle.triple_arena_direct.specs.DirectState.{direct_capacity};
@@ -47,6 +48,10 @@ impl<P: Ptr, T, S: NonZeroInxGenericStack<DirectSlot<P, T>>> CompactArenaTrait<P
     ghost ranked = { λ old _. ranks None old.slots };
 
     ghost compresses_with_value = { λ old _ values new. compressed-with_value old new values };
+
+    ghost rank_unchanged = { λ _ _ _. ap (λ s. rank_in None s.slots) };
+
+    ghost compression_wraps_unchanged = { λ _ _ _ _. refl };
 
     ghost limit_compressed = { λ _ _ _ _. ap (λ s. s.limit) };
 

@@ -26,6 +26,67 @@ fn popped_slots_leave_the_free_list(rt: HostRuntime) -> Result<(), Wrong> {
     )
 }
 
+// Of eight entries four go, and then the last: of the free list a middle index and the last leave.
+#[test]
+fn a_middle_index_and_the_last_leave_the_free_list(rt: HostRuntime) -> Result<(), Wrong> {
+    on_heap_of_p0(
+        rt.alloc(),
+        &[
+            Part::Removed(8, &[6, 2, 7, 4, 8]),
+            Part::Steps(&[
+                (Call::Slots, Told::Size(7)),
+                (Call::Root, Told::Size(4)),
+            ]),
+            Part::Free(&[4, 7, 2, 6]),
+            Part::Steps(&[
+                (Call::RemoveFreeEnd, Told::Done),
+                (Call::Slots, Told::Size(5)),
+                (Call::Root, Told::Size(4)),
+            ]),
+            Part::Free(&[4, 2]),
+            Part::Steps(&[
+                (Call::Insert(9), Told::At(4, 7)),
+                (Call::Insert(10), Told::At(2, 7)),
+                (Call::Insert(11), Told::At(6, 7)),
+            ]),
+        ],
+    )
+}
+
+#[test]
+fn the_first_a_middle_index_and_the_last_leave_it(rt: HostRuntime) -> Result<(), Wrong> {
+    on_heap_of_p0(
+        rt.alloc(),
+        &[
+            Part::Removed(8, &[5, 1, 6, 2, 7, 8]),
+            Part::Step(Call::Slots, Told::Size(7)),
+            Part::Free(&[7, 2, 6, 1, 5]),
+            Part::Steps(&[
+                (Call::RemoveFreeEnd, Told::Done),
+                (Call::Slots, Told::Size(4)),
+            ]),
+            Part::Free(&[2, 1]),
+            Part::Steps(&[
+                (Call::Insert(9), Told::At(2, 8)),
+                (Call::Insert(10), Told::At(1, 8)),
+                (Call::Insert(11), Told::At(5, 8)),
+            ]),
+        ],
+    )
+}
+
+/// These are the free indexes, in the order in which insertion takes them; tells the place of the first
+/// that isn't so.
+pub fn has_free<A: TestedArena>(arena: &mut A, indexes: &[usize]) -> Result<(), Wrong> {
+    let free = arena.state().free;
+    for at in 0..SLOTS {
+        if free[at] != indexes.get(at).copied().unwrap_or(0) {
+            return Err(Wrong::State(at));
+        }
+    }
+    Ok(())
+}
+
 /// Of six slots the fifth and the sixth, which are free, are taken away, and of the others the third
 /// and then the first stay free.
 pub fn ends_at_four<A: TestedArena>(arena: &mut A) -> Result<(), Wrong> {

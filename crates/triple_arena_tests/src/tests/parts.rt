@@ -1,7 +1,8 @@
 //! The parts of a test, which are tried on one arena after another.
 
 use super::calls_of_the_traits::each_call;
-use super::end_slots::ends_at_four;
+use super::end_slots::{ends_at_four, has_free};
+use super::links::keeps_links;
 use super::many_entries::thousands;
 use super::order_of_refusals::refuses_reallocations;
 use super::pairs::leaves;
@@ -43,12 +44,16 @@ pub enum Part {
     AddsTen(&'static [(Call, Told)]),
     /// A call that leaves these numbers at the first index and the third: `leaves`.
     Leaves((Call, Told), u64, u64),
+    /// These are the free indexes, in the order in which insertion takes them: `has_free`.
+    Free(&'static [usize]),
     /// The free slots at the end of six go: `ends_at_four`.
     EndsAtFour,
     /// Insertions up to the greatest byte index, and one more: `up_to_255`.
     UpTo255,
     /// Insertions by thousands: `thousands`.
     Thousands,
+    /// Many calls where so many entries fit, chosen from this number on: `keeps_links`.
+    KeepsLinks(usize, u64),
     /// Each call of the traits under this limit: `each_call`.
     EachCall(Option<usize>),
     /// Each byte generation up to the wrap: `each_generation`.
@@ -102,9 +107,11 @@ fn try_part<A: TestedArena>(arena: &mut A, part: Part) -> Result<(), Wrong> {
         Part::Removed(entries, removed) => Removed { entries, removed }.on(arena),
         Part::AddsTen(steps) => adds_ten(arena, steps),
         Part::Leaves(step, first, third) => leaves(arena, step, first, third),
+        Part::Free(indexes) => has_free(arena, indexes),
         Part::EndsAtFour => ends_at_four(arena),
         Part::UpTo255 => up_to_255(arena),
         Part::Thousands => thousands(arena),
+        Part::KeepsLinks(most, seed) => keeps_links(arena, most, seed),
         Part::EachCall(limit) => follow(arena, &each_call(limit)),
         Part::EachGeneration => each_generation(arena),
         Part::EachRaise(before, after, wraps) => follow(arena, &each_raise(before, after, wraps)),

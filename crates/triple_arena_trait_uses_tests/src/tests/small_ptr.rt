@@ -33,3 +33,8 @@ fn is_written_with_its_name(rt: HostRuntime) -> Result<(), Fail> {
     assert_eq!(rt; texts.as_str(), "SmallPtr[1](2) SmallPtr[ffffffff](1)");
     Ok(())
 }
+
+#[test]
+fn a_slot_of_a_number_takes_16_bytes(rt: HostRuntime) {
+    assert_eq!(rt; size_of::<Slot>(), 16);
+}

@@ -1,31 +1,46 @@
-use Rattle.std.proofs.Common.{◌∙◌, ap}
-use Rattle.triple_arena_traits.specs.FreeList.{tidied}
-use Rattle.triple_arena_slots.proofs.Links.{carried}
+use Rattle.std.proofs.Common.{◌∙◌, ap, refl, subst, sym, arith}
+use Rattle.triple_arena_traits.specs.ArenaState.{ArenaState}
+use Rattle.triple_arena_traits.specs.FreeList.{tidied, IsInOrder}
+use Rattle.triple_arena_slots.proofs.Links.{carried, Shows-steps}
 use Rattle.triple_arena_slots.proofs.Tidying.{Shows-tidied}
 use Rattle.triple_arena_traits.specs.FreeListLaws.{IsInOrder-tidied}
-use Rattle.triple_arena_traits.specs.HistoryLaws.{Continues-tidied}
+use Rattle.triple_arena_traits.specs.HistoryLaws.{Continues-resized}
+use Rattle.triple_arena.specs.TouchedLaws.{settled_slots}
+use Rattle.std.proofs.lemmas.List.{length-map}
+use Rattle.triple_arena_slots.specs.Slot.{entry_of}
 use Rattle.triple_arena.proofs.base_arena.Arena.canonicalize_freelist.Goals as goal
 
 pub invariant_of-self : goal.invariant_of-self
 invariant_of-self g c =
-    (carried g.P.Gen.PtrGen.number _ _ _ _ _ _ _ _ _ _ _ _ _ c.args.self.now (tidied c.args.self.now) c.self.invariant c.self.view_is
-    (Shows-tidied g.P.Gen.PtrGen.number _ _ _ _ _ c.args.self.now c.tidy.ensures.slots c.tidy.ensures.linked)
+    (carried g.P.Gen.PtrGen.number _ _ _ _ _ _ _ _ _ _ _ _ _ _ _ c.args.self.now (record (tidied c.args.self.now) { steps = c.tidy.new.self.steps.count }) c.self.invariant c.self.view_is
+    (λ shows. Shows-steps g.P.Gen.PtrGen.number _ _ _ c.tidy.new.self.steps.count _ (Shows-tidied g.P.Gen.PtrGen.number _ _ _ _ _ c.args.self.now c.tidy.ensures.slots c.tidy.ensures.linked shows))
     (ap (λ s. s.counter) c.self.view_is)
     (c.tidy.ensures.room ∙ ap (λ s. s.room) c.self.view_is)
     (c.tidy.ensures.limit ∙ ap (λ s. s.limit) c.self.view_is)
-    (ap (λ s. s.greatest) c.self.view_is)).0
+    (ap (λ s. s.greatest) c.self.view_is) refl).0
 
 pub returns-clause-state : goal.returns-clause-state
-returns-clause-state g c =
-    (carried g.P.Gen.PtrGen.number _ _ _ _ _ _ _ _ _ _ _ _ _ c.args.self.now (tidied c.args.self.now) c.self.invariant c.self.view_is
-    (Shows-tidied g.P.Gen.PtrGen.number _ _ _ _ _ c.args.self.now c.tidy.ensures.slots c.tidy.ensures.linked)
-    (ap (λ s. s.counter) c.self.view_is)
-    (c.tidy.ensures.room ∙ ap (λ s. s.room) c.self.view_is)
-    (c.tidy.ensures.limit ∙ ap (λ s. s.limit) c.self.view_is)
-    (ap (λ s. s.greatest) c.self.view_is)).1
+returns-clause-state g c = (
+  (carried g.P.Gen.PtrGen.number _ _ _ _ _ _ _ _ _ _ _ _ _ _ _ c.args.self.now (record (tidied c.args.self.now) { steps = c.tidy.new.self.steps.count }) c.self.invariant c.self.view_is
+      (λ shows. Shows-steps g.P.Gen.PtrGen.number _ _ _ c.tidy.new.self.steps.count _ (Shows-tidied g.P.Gen.PtrGen.number _ _ _ _ _ c.args.self.now c.tidy.ensures.slots c.tidy.ensures.linked shows))
+      (ap (λ s. s.counter) c.self.view_is)
+      (c.tidy.ensures.room ∙ ap (λ s. s.room) c.self.view_is)
+      (c.tidy.ensures.limit ∙ ap (λ s. s.limit) c.self.view_is)
+      (ap (λ s. s.greatest) c.self.view_is) refl).1,
+  omega (arith, c.tidy.ensures.steps, ap (λ s. s.steps) c.self.view_is),
+)
 
 pub returns-clause-in_order : goal.returns-clause-in_order
-returns-clause-in_order g c = rw (returns-clause-state g c) (IsInOrder-tidied c.args.self.now)
+returns-clause-in_order g c =
+    let order = IsInOrder-tidied c.args.self.now in
+    let counted : IsInOrder c.args.self.now (record (tidied c.args.self.now) { steps = c.tidy.new.self.steps.count }) = record { entries = order.entries; ends_live = order.ends_live; rising = order.rising } in
+    subst (IsInOrder c.args.self.now) (sym (returns-clause-state g c).0) counted
 
 pub returns-clause-fresh : goal.returns-clause-fresh
-returns-clause-fresh g c = Continues-tidied c.args.self.now _ (returns-clause-state g c)
+returns-clause-fresh g c =
+    let state = returns-clause-state g c in
+    Continues-resized c.args.self.now _ (settled_slots c.args.self.now _ state) (ap (λ (s : ArenaState g.row.T.Denot). s.counter) state.0)
+
+pub tidy-requires-after_bounds : goal.tidy-requires-after_bounds
+tidy-requires-after_bounds g c κs within =
+    omega (arith, c.self.invariant.well.fits, length-map (g.S.NonZeroInxGenericStack.items c.self.inside.slots.stack) (entry_of g.P.Gen.PtrGen.number))

@@ -8,6 +8,6 @@ use Rattle.triple_arena.proofs.base_arena.Arena.freelist_root.Goals as goal
 pub returns : goal.returns
 returns g c =
     let shows = subst (Shows g.P.Gen.PtrGen.number _ _ _) c.self.view_is c.self.invariant in
-    let root = ap (option_map non_zero_usize_get) c.in_ok-self.was in
+    let root = ap (option_map non_zero_usize_get) (sym c.root.ensures ∙ c.in_ok-root.was) in
     index_of_number g.P.Inx.PtrInx.number _ _ _ c.try_from_usize.ensures.variant c.try_from_usize.ensures.number (omega (arith, root_indexed g.P.Gen.PtrGen.number _ _ _ _ c.args.self.now root shows, ap (λ s. s.greatest) c.self.view_is))
     ∙ sym (root_head g.P.Gen.PtrGen.number _ _ _ _ c.args.self.now root shows)

@@ -137,14 +137,14 @@ module _ (P T S I G : RattleType) (P-Ptr : gPtr.Ghosts P.Denot I.Denot G.Denot) 
 
   -- a slot
   abbrev Sr : RattleType
-  Sr = S-type.the_row rP rT rI rG
+  Sr = S-type.the_row rP rT rI rG P-Inx-PtrInx P-Inx-Debug P-Inx-Hash P-Inx-PartialEq P-Inx-PartialOrd P-Inx-Ord
 
   abbrev X : Type 0
   X = ArenaSlot P.Denot T.Denot I.Denot G.Denot
 
   -- the slots
   abbrev Slr : RattleType
-  Slr = Slots-type.the_row rP rT rS rI rG
+  Slr = Slots-type.the_row rP rT rS rI rG P-Inx-PtrInx P-Inx-Debug P-Inx-Hash P-Inx-PartialEq P-Inx-PartialOrd P-Inx-Ord
 
   abbrev D : Type 0
   D = Slots P.Denot T.Denot S.Denot I.Denot G.Denot
@@ -231,7 +231,7 @@ module _ (P T S I G : RattleType) (P-Ptr : gPtr.Ghosts P.Denot I.Denot G.Denot) 
 
   -- the slots of the arena once values were written
   abbrev put : D → List X → St → D
-  put t xs s = with_slots rP rT rS rI rG items with_items t (filled_all with_slot_value xs s.slots)
+  put t xs s = with_slots rP rT rS rI rG P-Inx-PtrInx P-Inx-Debug P-Inx-Hash P-Inx-PartialEq P-Inx-PartialOrd P-Inx-Ord items with_items t (filled_all with_slot_value xs s.slots)
 
   -- three laws of the stack
   pub record StackLaws : Type 0 where
@@ -249,7 +249,7 @@ module _ (P T S I G : RattleType) (P-Ptr : gPtr.Ghosts P.Denot I.Denot G.Denot) 
         kept_within number es (items (with_items a.slots.stack (refill (length es) es ws))) (option_map non_zero_usize_get a.slots.root) a.len (number a.counter)
         (S-NonZeroInxGenericStack.room a.slots.stack) (S-NonZeroInxGenericStack.room (with_items a.slots.stack (refill (length es) es ws)))
         (S-NonZeroInxGenericStack.limit a.slots.stack) (S-NonZeroInxGenericStack.limit (with_items a.slots.stack (refill (length es) es ws)))
-        (greatest_index P-Inx-PtrInx.greatest) w
+        (greatest_index P-Inx-PtrInx.greatest) a.slots.steps.count w
         (laws.of_items a.slots.stack (refill (length es) es ws) ∙ refilled es ws (length-filled with_slot_value es w.slots))
         (laws.of_room a.slots.stack (refill (length es) es ws)) (laws.of_limit a.slots.stack (refill (length es) es ws)) ok
 
@@ -266,7 +266,7 @@ module _ (P T S I G : RattleType) (P-Ptr : gPtr.Ghosts P.Denot I.Denot G.Denot) 
         P-Gen-PartialOrd-dict P-Gen-Ord P-Gen-Ord-dict S-NonZeroInxGenericStack S-NonZeroInxGenericStack-dict 𝓛 at run
 
     -- the contract of the call
-    abbrev called_spec : Spec 𝓤 (G-fn.signature P T S I G)
+    abbrev called_spec : Spec 𝓤 called_end.signature
     called_spec = G-fn.spec P T S I G P-Ptr P-Ptr-dict P-Debug P-Debug-dict P-Hash P-Hash-dict P-Eq P-Eq-dict
         P-PartialEq P-PartialEq-dict P-Clone P-Clone-dict P-PartialOrd P-PartialOrd-dict P-Ord P-Ord-dict P-Recast
         P-Recast-dict P-Inx-PtrInx P-Inx-PtrInx-dict P-Inx-Debug P-Inx-Debug-dict P-Inx-Hash P-Inx-Hash-dict P-Inx-Eq
@@ -277,7 +277,7 @@ module _ (P T S I G : RattleType) (P-Ptr : gPtr.Ghosts P.Denot I.Denot G.Denot) 
         S-NonZeroInxGenericStack-dict 𝓛 at run
 
     abbrev Called : Contract 𝓤
-    Called = triple_of 𝓛 (G-fn.signature P T S I G) called_spec
+    Called = triple_of 𝓛 called_end.signature called_spec
 
     module _ (κs : Lfts 6) (qs : Shares 6) (within : AllOutlive 6 end.signature.outlives κs) (rb ro : ℕ) (γ : GName) (d : St) where
       abbrev κ : Lft
@@ -321,7 +321,7 @@ module _ (P T S I G : RattleType) (P-Ptr : gPtr.Ghosts P.Denot I.Denot G.Denot) 
 
         field_of : ent 𝓤 (sem 𝓛 (part_at Inside full_share a rb ro)) (sep 𝓤 (sem 𝓛 (part_at Slr full_share t rb (ro + off))) Back)
         unfolding part_of
-        field_of = field_out 𝓛 full_share [] ms ((Slots-laws.the_row_laws rP rT rS rI rG (copied_laws 0 P LP) (param_laws 1 T LT) (param_laws 2 S LS) (copied_laws 3 I LI) (copied_laws 4 G LG)).lawful 𝓛, (uint_Lawful 𝓛 w64, ((copied_laws 4 G LG).lawful 𝓛, tt))) (t, (a.len, (a.counter, tt))) rb ro 0
+        field_of = field_out 𝓛 full_share [] ms ((Slots-laws.the_row_laws rP rT rS rI rG P-Inx-PtrInx P-Inx-Debug P-Inx-Hash P-Inx-PartialEq P-Inx-PartialOrd P-Inx-Ord (copied_laws 0 P LP) (param_laws 1 T LT) (param_laws 2 S LS) (copied_laws 3 I LI) (copied_laws 4 G LG)).lawful 𝓛, (uint_Lawful 𝓛 w64, ((copied_laws 4 G LG).lawful 𝓛, tt))) (t, (a.len, (a.counter, tt))) rb ro 0
 
         -- with slots whose values were written it is an arena again
         back : view a ≡ d → good a → (w : St) → ent 𝓤 (sep 𝓤 (sem 𝓛 ((mem Slr).own_at (put t (items t.stack) w) rb (ro + off))) Back) (sem 𝓛 ((mem Ar).own_at (with_values_of d w) rb ro))
@@ -369,7 +369,7 @@ module _ (P T S I G : RattleType) (P-Ptr : gPtr.Ghosts P.Denot I.Denot G.Denot) 
             use1 𝓛 (raw (Called.pre z)) (id⊢ 𝓤 _) $
             calls_at ! fm Called callee z (and_then ! (get ! refl) (no_more !)) (λ v.
             use1 𝓛 (later (some (λ (r : MutBor (List X)). ((‵ (flft κ (right q)) ⊛ others) ⊛ ‵ ((MutSlice (named 0) κ Sr).own_val r (v ∷ []))) ⊛
-            some (λ (ws : Unit {0} × Unit {0}). ‵ (lasts called_end κs (lent_slots, tt) ws) ⊛ (‵ (follows Slr (Array Sr 0) δ r.ghost_name (with_slots rP rT rS rI rG items with_items t)) ⊛ raw (fact 𝓤 (r.now ≡ es))))))) (id⊢ 𝓤 _) $
+            some (λ (ws : Unit {0} × Unit {0}). ‵ (lasts called_end κs (lent_slots, tt) ws) ⊛ (‵ (follows Slr (Array Sr 0) δ r.ghost_name (with_slots rP rT rS rI rG P-Inx-PtrInx P-Inx-Debug P-Inx-Hash P-Inx-PartialEq P-Inx-PartialOrd P-Inx-Ord items with_items t)) ⊛ raw (fact 𝓤 (r.now ≡ es))))))) (id⊢ 𝓤 _) $
             await ! tt $ pick ! (λ r. split ! $ split ! $
             let b : ℕ = r.ref_ptr.0 in let o : ℕ = r.ref_ptr.1 in let ρ : GName = r.ghost_name in let xs : List X = r.now in let n' : ℕ = length xs in
             move ! (2 ∷ []) $ pick ! (λ ws. split ! $ drop ! $ split ! $ move ! (1 ∷ []) $ heard ! _ (λ is.
@@ -394,8 +394,8 @@ module _ (P T S I G : RattleType) (P-Ptr : gPtr.Ghosts P.Denot I.Denot G.Denot) 
             (takes_part 𝓛 (Arr (mem Sr) n') (KeptBy xs) G₂ κ (right q) b o b o ρ (emp 𝓤) back₁ ((coded_list Sr.coded).code xs) ((coded_list Sr.coded).code xs) d) $ await ! tt $ pick ! (λ ν. split3 ! $
             -- [obs; the borrow; half with what follows; the others; what follows; the right; the aged borrow; what is left; obs; auth]
             move ! (2 ∷ []) $ split ! $ move ! (5 ∷ 1 ∷ []) $
-            use2 𝓛 (‵ (follows Slr Ar δ ν (λ w. with_slots rP rT rS rI rG items with_items t (filled_all with_slot_value xs w.slots)))) (follows_then 𝓛 Slr (Array Sr 0) Ar (with_slots rP rT rS rI rG items with_items t) G₂ δ ρ ν) $
-            rewrite ! 0 (λ (zs : List X). ‵ (follows Slr Ar δ ν (λ w. with_slots rP rT rS rI rG items with_items t (filled_all with_slot_value zs w.slots)))) is refl $
+            use2 𝓛 (‵ (follows Slr Ar δ ν (λ w. with_slots rP rT rS rI rG P-Inx-PtrInx P-Inx-Debug P-Inx-Hash P-Inx-PartialEq P-Inx-PartialOrd P-Inx-Ord items with_items t (filled_all with_slot_value xs w.slots)))) (follows_then 𝓛 Slr (Array Sr 0) Ar (with_slots rP rT rS rI rG P-Inx-PtrInx P-Inx-Debug P-Inx-Hash P-Inx-PartialEq P-Inx-PartialOrd P-Inx-Ord items with_items t) G₂ δ ρ ν) $
+            rewrite ! 0 (λ (zs : List X). ‵ (follows Slr Ar δ ν (λ w. with_slots rP rT rS rI rG P-Inx-PtrInx P-Inx-Debug P-Inx-Hash P-Inx-PartialEq P-Inx-PartialOrd P-Inx-Ord items with_items t (filled_all with_slot_value zs w.slots)))) is refl $
             -- [what follows; half; obs; the borrow; the others; the right; the aged borrow; what is left; obs; auth]
             move ! (6 ∷ 8 ∷ 9 ∷ 5 ∷ 0 ∷ 7 ∷ []) $ group ! 6 $
             use1 𝓛 (later (‵ (flft κ (left q)) ⊛ ‵ (follows Ar Ar γ ν (with_values_of d))))
@@ -426,7 +426,7 @@ module _ (P T S I G : RattleType) (P-Ptr : gPtr.Ghosts P.Denot I.Denot G.Denot) 
   module _ (LP : Laws P) (LT : Laws T) (LS : Laws S) (LI : Laws I) (LG : Laws G) (laws : StackLaws) {M : Type 1} (𝓤 : Ura M) (𝓛 : Logic 𝓤) (𝓜 : Model 𝓤 𝓛.H) (𝓡 : Running 𝓤 𝓛.H 𝓜) where
     -- the function meets its contract where the one that it calls does
     holds : Wired 𝓡.env code.code
-        → Meets 𝓛 (G-fn.signature P T S I G) (𝓡.run (𝓡.env (G-fn.Key.name args))) (called_spec LP LT LS LI LG laws 𝓛 𝓜.mem 𝓡.returns)
+        → Meets 𝓛 called_end.signature (𝓡.run (𝓡.env (G-fn.Key.name args))) (called_spec LP LT LS LI LG laws 𝓛 𝓜.mem 𝓡.returns)
         → Meets 𝓛 end.signature (𝓡.run (𝓡.env (#self args))) (closing 𝓛 end (spec LP LT LS LI LG laws 𝓛 𝓜.mem 𝓡.returns))
     unfolding tables_of
     holds wired callee =

@@ -9,25 +9,25 @@ use Rattle.std.proofs.Common.{◌≡◌, ◌↔◌, Err, IsOk, OnOk, ap}
 use Rattle.triple_arena.proofs.base_arena.Arena.reallocate.Goals as goal
 
 pub invariant_of-self : goal.invariant_of-self
-invariant_of-self g c = (room_changed g.P.Gen.PtrGen.number c.reallocate.result g.S.NonZeroInxGenericStack.kind _ _ _ _ _ _ _ _ _ _ _ c.args.min_capacity c.args.self.now c.self.invariant c.self.view_is c.reallocate.ensures.items (ap (option_map non_zero_usize_get) c.reallocate.ensures.root) c.reallocate.ensures.limit c.reallocate.ensures.room c.reallocate.ensures.refused).0
+invariant_of-self g c = (room_changed g.P.Gen.PtrGen.number c.reallocate.result g.S.NonZeroInxGenericStack.kind _ _ _ _ _ _ _ _ _ _ _ _ _ c.args.min_capacity c.args.self.now c.self.invariant c.self.view_is c.reallocate.ensures.items (ap (option_map non_zero_usize_get) c.reallocate.ensures.root) c.reallocate.ensures.limit c.reallocate.ensures.room c.reallocate.ensures.refused c.reallocate.ensures.steps).0
 
 pub returns-clause-done : goal.returns-clause-done
-returns-clause-done g c = (room_changed g.P.Gen.PtrGen.number c.reallocate.result g.S.NonZeroInxGenericStack.kind _ _ _ _ _ _ _ _ _ _ _ c.args.min_capacity c.args.self.now c.self.invariant c.self.view_is c.reallocate.ensures.items (ap (option_map non_zero_usize_get) c.reallocate.ensures.root) c.reallocate.ensures.limit c.reallocate.ensures.room c.reallocate.ensures.refused).1
+returns-clause-done g c = (room_changed g.P.Gen.PtrGen.number c.reallocate.result g.S.NonZeroInxGenericStack.kind _ _ _ _ _ _ _ _ _ _ _ _ _ c.args.min_capacity c.args.self.now c.self.invariant c.self.view_is c.reallocate.ensures.items (ap (option_map non_zero_usize_get) c.reallocate.ensures.root) c.reallocate.ensures.limit c.reallocate.ensures.room c.reallocate.ensures.refused c.reallocate.ensures.steps).1
 
 pub returns-clause-refused : goal.returns-clause-refused
-returns-clause-refused g c = (room_changed g.P.Gen.PtrGen.number c.reallocate.result g.S.NonZeroInxGenericStack.kind _ _ _ _ _ _ _ _ _ _ _ c.args.min_capacity c.args.self.now c.self.invariant c.self.view_is c.reallocate.ensures.items (ap (option_map non_zero_usize_get) c.reallocate.ensures.root) c.reallocate.ensures.limit c.reallocate.ensures.room c.reallocate.ensures.refused).2
+returns-clause-refused g c = (room_changed g.P.Gen.PtrGen.number c.reallocate.result g.S.NonZeroInxGenericStack.kind _ _ _ _ _ _ _ _ _ _ _ _ _ c.args.min_capacity c.args.self.now c.self.invariant c.self.view_is c.reallocate.ensures.items (ap (option_map non_zero_usize_get) c.reallocate.ensures.root) c.reallocate.ensures.limit c.reallocate.ensures.room c.reallocate.ensures.refused c.reallocate.ensures.steps).2
 
 pub returns-clause-within : goal.returns-clause-within
-returns-clause-within g c = as_shown g.P.Gen.PtrGen.number _ _ _ _ _ _ _ c.args.self.now (λ room limit n. OnOk c.reallocate.result (IsWithin limit c.args.min_capacity)) c.self.invariant c.self.view_is c.reallocate.ensures.within
+returns-clause-within g c = as_shown g.P.Gen.PtrGen.number _ _ _ _ _ _ _ _ c.args.self.now (λ room limit n. OnOk c.reallocate.result (IsWithin limit c.args.min_capacity)) c.self.invariant c.self.view_is c.reallocate.ensures.within
 
 pub returns-clause-beyond : goal.returns-clause-beyond
-returns-clause-beyond g c = as_shown g.P.Gen.PtrGen.number _ _ _ _ _ _ _ c.args.self.now (λ room limit n. (c.reallocate.result ≡ Err BeyondMaxCapacity) ↔ IsBeyond limit c.args.min_capacity) c.self.invariant c.self.view_is c.reallocate.ensures.beyond
+returns-clause-beyond g c = as_shown g.P.Gen.PtrGen.number _ _ _ _ _ _ _ _ c.args.self.now (λ room limit n. (c.reallocate.result ≡ Err BeyondMaxCapacity) ↔ IsBeyond limit c.args.min_capacity) c.self.invariant c.self.view_is c.reallocate.ensures.beyond
 
 pub returns-clause-succeeds : goal.returns-clause-succeeds
-returns-clause-succeeds g c = as_shown g.P.Gen.PtrGen.number _ _ _ _ _ _ _ c.args.self.now (λ room limit n. IsWithin limit c.args.min_capacity → reallocated_room g.S.NonZeroInxGenericStack.kind room n c.args.min_capacity ≡ room → IsOk c.reallocate.result) c.self.invariant c.self.view_is c.reallocate.ensures.succeeds
+returns-clause-succeeds g c = as_shown g.P.Gen.PtrGen.number _ _ _ _ _ _ _ _ c.args.self.now (λ room limit n. IsWithin limit c.args.min_capacity → reallocated_room g.S.NonZeroInxGenericStack.kind room n c.args.min_capacity ≡ room → IsOk c.reallocate.result) c.self.invariant c.self.view_is c.reallocate.ensures.succeeds
 
 pub returns-clause-given : goal.returns-clause-given
-returns-clause-given g c = as_shown g.P.Gen.PtrGen.number _ _ _ _ _ _ _ c.args.self.now (λ room limit n. IsWithin limit c.args.min_capacity → g.S.NonZeroInxGenericStack.has_memory (reallocated_room g.S.NonZeroInxGenericStack.kind room n c.args.min_capacity) → IsOk c.reallocate.result) c.self.invariant c.self.view_is c.reallocate.ensures.given
+returns-clause-given g c = as_shown g.P.Gen.PtrGen.number _ _ _ _ _ _ _ _ c.args.self.now (λ room limit n. IsWithin limit c.args.min_capacity → g.S.NonZeroInxGenericStack.has_memory (reallocated_room g.S.NonZeroInxGenericStack.kind room n c.args.min_capacity) → IsOk c.reallocate.result) c.self.invariant c.self.view_is c.reallocate.ensures.given
 
 pub returns-clause-place : goal.returns-clause-place
 returns-clause-place g c = placed c.reallocate.result c.args.min_capacity (capacity_of (g.S.NonZeroInxGenericStack.room c.reallocate.new.self.stack) (g.S.NonZeroInxGenericStack.limit c.reallocate.new.self.stack)) (greatest_index g.P.Inx.PtrInx.greatest) c.reallocate.ensures.place

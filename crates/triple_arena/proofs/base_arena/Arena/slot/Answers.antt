@@ -8,7 +8,7 @@ use Rattle.triple_arena.proofs.base_arena.Arena.slot.Goals as goal
 
 pub returns-clause-entry : goal.returns-clause-entry
 returns-clause-entry g c =
-    slot_read (entry_of g.P.Gen.PtrGen.number) (g.S.NonZeroInxGenericStack.items c.self.inside.slots.stack) _ _ _ _ c.slot_at.ensures (ap (λ s. s.slots) c.self.view_is) c.in_ok-try_into_usize.ensures.number
+    slot_read (entry_of g.P.Gen.PtrGen.number) (g.S.NonZeroInxGenericStack.items c.self.inside.slots.stack) _ _ _ _ (rw c.stack.ensures at c.slot_at.ensures) (ap (λ s. s.slots) c.self.view_is) c.in_ok-try_into_usize.ensures.number
 
 pub returns-clause-within : goal.returns-clause-within
 returns-clause-within g c live =

@@ -1,17 +1,15 @@
 use Rattle.triple_arena_traits.proofs.Refused.{err_is, ok_not_err, on_ok_err, on_err, same_error}
 use Rattle.triple_arena_traits.specs.ArenaState.{capacity}
 use Rattle.std.proofs.lemmas.Bool.{false≢true}
-use Rattle.std.proofs.Common.{◌∙◌, sym, ap, ◌<◌, refl, subst}
-use Rattle.triple_arena_traits.specs.FreeList.{laid_out}
-use Rattle.triple_arena_traits.specs.Capacity.{ready_for}
+use Rattle.std.proofs.Common.{◌∙◌, sym, ◌<◌, refl, subst}
 use Rattle.triple_arena_traits.proofs.TransferLemmas.{source_goes_on}
+use Rattle.triple_arena.proofs.Cloned.{copy_laid_out}
 use Rattle.triple_arena.proofs.base_arena.Arena.transfer_reallocating.Goals as goal
 
 pub returns-clause-done : goal.returns-clause-done
 returns-clause-done g c =
     let d = c.take_over.ensures.transferred in
-    let ready = c.in_ok-make_room.ensures.done ∙ ap (ready_for g.S.NonZeroInxGenericStack.kind c.args.self.now) (c.len.ensures.value ∙ sym d.3) in
-    (d.0, d.1, d.2 ∙ ap (λ s. laid_out s d.0 (g.P.Gen.PtrGen.number c.args.new_generation)) ready)
+    (d.0, d.1, copy_laid_out g.S.NonZeroInxGenericStack.kind c.args.self.now _ _ _ _ d.0 _ _ d.2 c.in_ok-make_room.ensures.done (c.len.ensures.value ∙ sym d.3) refl)
 
 pub returns-clause-fresh : goal.returns-clause-fresh
 returns-clause-fresh g c none =

@@ -1,5 +1,6 @@
 use Rattle.std.proofs.Common.{◌∙◌, ap, refl}
 use Rattle.std.specs.Int.NonZero.{non_zero_usize_get}
+use Rattle.std.specs.Option.{option_map}
 use Rattle.triple_arena_traits.specs.ArenaState.{with_value}
 use Rattle.triple_arena_traits.specs.WellFormedLaws.{entry_value_read}
 use Rattle.triple_arena_slots.proofs.Links.{carried}
@@ -11,12 +12,12 @@ invariant_of-self g c =
     let i = non_zero_usize_get c.args.first in
     let j = non_zero_usize_get c.args.second in
     let w = c.work_on_two.ensures.worked in
-    (carried g.P.Gen.PtrGen.number _ _ _ _ _ _ _ _ _ _ _ _ _ c.args.self.now (with_value (with_value c.args.self.now i w.2) j w.3) c.self.invariant c.self.view_is
-    (Shows-two_written g.P.Gen.PtrGen.number _ _ _ i j c.self.inside.len w.2 w.3 c.args.self.now c.requires.apart c.requires.first c.requires.second w.7)
+    (carried g.P.Gen.PtrGen.number _ (g.S.NonZeroInxGenericStack.items c.work_on_two.new.self.stack) _ (option_map non_zero_usize_get c.work_on_two.new.self.root) c.self.inside.len c.self.inside.len _ _ _ _ _ _ _ _ _ c.args.self.now (with_value (with_value c.args.self.now i w.2) j w.3) c.self.invariant c.self.view_is
+    (λ shows. rw c.work_on_two.ensures.root (Shows-two_written g.P.Gen.PtrGen.number _ _ _ i j c.self.inside.len w.2 w.3 c.args.self.now c.requires.apart c.requires.first c.requires.second w.7 shows))
     (ap (λ s. s.counter) c.self.view_is)
     (c.work_on_two.ensures.room ∙ ap (λ s. s.room) c.self.view_is)
     (c.work_on_two.ensures.limit ∙ ap (λ s. s.limit) c.self.view_is)
-    (ap (λ s. s.greatest) c.self.view_is)).0
+    (ap (λ s. s.greatest) c.self.view_is) (c.work_on_two.ensures.steps ∙ ap (λ s. s.steps) c.self.view_is)).0
 
 pub returns : goal.returns
 returns g c =
@@ -30,10 +31,10 @@ returns g c =
       entry_value_read c.args.self.now _ i i _ c.self.view_is refl w.4,
       entry_value_read c.args.self.now _ j j _ c.self.view_is refl w.5,
       w.6,
-      (carried g.P.Gen.PtrGen.number _ _ _ _ _ _ _ _ _ _ _ _ _ c.args.self.now (with_value (with_value c.args.self.now i w.2) j w.3) c.self.invariant c.self.view_is
-          (Shows-two_written g.P.Gen.PtrGen.number _ _ _ i j c.self.inside.len w.2 w.3 c.args.self.now c.requires.apart c.requires.first c.requires.second w.7)
+      (carried g.P.Gen.PtrGen.number _ (g.S.NonZeroInxGenericStack.items c.work_on_two.new.self.stack) _ (option_map non_zero_usize_get c.work_on_two.new.self.root) c.self.inside.len c.self.inside.len _ _ _ _ _ _ _ _ _ c.args.self.now (with_value (with_value c.args.self.now i w.2) j w.3) c.self.invariant c.self.view_is
+          (λ shows. rw c.work_on_two.ensures.root (Shows-two_written g.P.Gen.PtrGen.number _ _ _ i j c.self.inside.len w.2 w.3 c.args.self.now c.requires.apart c.requires.first c.requires.second w.7 shows))
           (ap (λ s. s.counter) c.self.view_is)
           (c.work_on_two.ensures.room ∙ ap (λ s. s.room) c.self.view_is)
           (c.work_on_two.ensures.limit ∙ ap (λ s. s.limit) c.self.view_is)
-          (ap (λ s. s.greatest) c.self.view_is)).1,
+          (ap (λ s. s.greatest) c.self.view_is) (c.work_on_two.ensures.steps ∙ ap (λ s. s.steps) c.self.view_is)).1,
     )

@@ -6,6 +6,7 @@ use Rattle.std.proofs.Common.{◌∙◌, ◌<◌, refl, ap, subst}
 use Rattle.triple_arena_traits.specs.ArenaState.{arena_len, capacity, entry}
 use Rattle.triple_arena_traits.specs.EntryLaws.{same-grown, next-grown}
 use Rattle.triple_arena_traits.specs.Insertion.{inserted, next_pointer}
+use Rattle.triple_arena_traits.specs.SlotSteps.{touched, insertion_steps}
 use Rattle.triple_arena_traits.specs.HistoryLaws.{Continues-grown}
 use Rattle.triple_arena.proofs.base_arena.ArenaArenaInsertTrait.insert_reallocating.Goals as goal
 
@@ -13,7 +14,7 @@ pub returns-clause-had_place : goal.returns-clause-had_place
 returns-clause-had_place g c has = (
   refl,
   c.insert_reserved.ensures.inserted
-      ∙ ap (λ s. inserted s c.args.t) (c.in_ok-grow_if_full.ensures.done ∙ same-grown g.S.NonZeroInxGenericStack.kind c.args.self.now has),
+      ∙ ap (λ s. touched (insertion_steps s) (inserted s c.args.t)) (c.in_ok-grow_if_full.ensures.done ∙ same-grown g.S.NonZeroInxGenericStack.kind c.args.self.now has),
 )
 
 pub returns-clause-place : goal.returns-clause-place
@@ -65,7 +66,7 @@ returns-clause-free g c =
     ap (λ (p : Pointer). entry c.args.self.now p.0) (returns-clause-pointer g c) ∙ place_free c.args.self.now c.in_ok-grow_if_full.ensures.well_formed
 
 pub returns-clause-inserted : goal.returns-clause-inserted
-returns-clause-inserted g c = c.insert_reserved.ensures.inserted ∙ ap (λ s. inserted s c.args.t) c.in_ok-grow_if_full.ensures.done
+returns-clause-inserted g c = c.insert_reserved.ensures.inserted ∙ ap (λ s. touched (insertion_steps s) (inserted s c.args.t)) c.in_ok-grow_if_full.ensures.done
 
 pub returns-clause-beyond : goal.returns-clause-beyond
 returns-clause-beyond g c = (λ e. absurd (ok_not_err _ _ e), λ full. absurd (ok_not_err _ _ (c.in_ok-grow_if_full.ensures.beyond.1 full)))

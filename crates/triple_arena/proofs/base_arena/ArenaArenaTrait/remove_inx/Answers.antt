@@ -1,20 +1,26 @@
 use Rattle.triple_arena_slots.proofs.Refused.{told_mapped}
 use Rattle.triple_arena_traits.proofs.LookUps.{others_found}
 use Rattle.triple_arena_traits.proofs.SlotEntries.{none_of}
-use Rattle.triple_arena_traits.specs.EntryLaws.{slots-removed}
+use Rattle.triple_arena.proofs.Touched.{removed_after, steps_of-removed}
+use Rattle.triple_arena.specs.TouchedLaws.{removed_slots}
+use Rattle.std.specs.Int.NonZero.{non_zero_usize_get}
+use Rattle.triple_arena_traits.specs.Histories.{removal}
 use Rattle.triple_arena_traits.specs.Ending.{removed, told_of}
-use Rattle.triple_arena_traits.specs.ArenaState.{entry}
+use Rattle.triple_arena_traits.specs.ArenaState.{ArenaState, entry, look_up}
 use Rattle.triple_arena_ptr.specs.Numbers.{raise, wraps}
-use Rattle.std.proofs.Common.{◌∙◌, IsSome, None, is_some, sym, ap, subst, true≢false}
-use Rattle.triple_arena_traits.specs.HistoryLaws.{Continues-removed_inx}
+use Rattle.std.proofs.Common.{◌∙◌, ◌∷◌, [], refl, arith, IsSome, None, is_some, sym, ap, subst, true≢false}
+use Rattle.triple_arena_traits.specs.HistoryLaws.{Continues-removed_inx, Continues-touched}
 use Rattle.triple_arena.proofs.base_arena.ArenaArenaTrait.remove_inx.Goals as goal
 
 pub returns-clause-done : goal.returns-clause-done
-returns-clause-done g c live = c.take-taken.ensures.state ∙ ap (removed (raise g.P.Gen.PtrGen.counting g.P.Gen.PtrGen.greatest) c.args.self.now) c.in-Some.ensures.index
+returns-clause-done g c live = removed_after (raise g.P.Gen.PtrGen.counting g.P.Gen.PtrGen.greatest) c.args.self.now c.look_at.new.self c.take-taken.new.self _ _ c.in-Some.ensures.unchanged c.take-taken.ensures.state c.in-Some.ensures.index
 
 pub returns-clause-fresh : goal.returns-clause-fresh
 returns-clause-fresh g c generation value here counts =
-    Continues-removed_inx g.P.Gen.PtrGen.counting g.P.Gen.PtrGen.greatest c.args.self.now _ (g.P.Inx.PtrInx.number c.args.inx) generation value here counts (returns-clause-done g c)
+    let i = g.P.Inx.PtrInx.number c.args.inx in
+    let left = removed (raise g.P.Gen.PtrGen.counting g.P.Gen.PtrGen.greatest) c.args.self.now i in
+    Continues-touched c.args.self.now left _ (removal (i, generation) ∷ []) (returns-clause-done g c (ap is_some here))
+    (Continues-removed_inx g.P.Gen.PtrGen.counting g.P.Gen.PtrGen.greatest c.args.self.now left i generation value here counts (λ some. refl))
 
 pub returns-in_default-clause-answer : goal.returns-in_default-clause-answer
 returns-in_default-clause-answer g c = ap (told_of (wraps g.P.Gen.PtrGen.counting g.P.Gen.PtrGen.greatest c.args.self.now.counter)) (sym (none_of _ (sym c.in_default.ensures.live)))
@@ -23,26 +29,42 @@ pub returns-in_default-clause-done : goal.returns-in_default-clause-done
 returns-in_default-clause-done g c live = absurd (true≢false (sym (c.in_default.ensures.live ∙ live)))
 
 pub returns-in_default-clause-gone : goal.returns-in_default-clause-gone
-returns-in_default-clause-gone g c = none_of _ (sym c.in_default.ensures.live)
+returns-in_default-clause-gone g c =
+    ap (λ (s : ArenaState g.row.T.Denot). entry s (g.P.Inx.PtrInx.number c.args.inx)) c.in_default.ensures.unchanged.0 ∙ none_of _ (sym c.in_default.ensures.live)
+
+pub returns-in_default-clause-others : goal.returns-in_default-clause-others
+returns-in_default-clause-others g c q away = ap (λ (s : ArenaState g.row.T.Denot). look_up s q) c.in_default.ensures.unchanged.0
 
 pub returns-in_default-clause-fresh : goal.returns-in_default-clause-fresh
 returns-in_default-clause-fresh g c generation value here counts = absurd (true≢false (sym (c.in_default.ensures.live ∙ ap is_some here)))
 
 pub take-taken-requires-after_bounds : goal.take-taken-requires-after_bounds
-take-taken-requires-after_bounds g c κs within = subst (λ n. IsSome (entry c.args.self.now n)) (sym c.in-Some.ensures.index) (sym c.in-Some.ensures.live)
+take-taken-requires-after_bounds g c κs within =
+    subst (λ (s : ArenaState g.row.T.Denot). IsSome (entry s (non_zero_usize_get c.in-Some.inx))) (sym c.in-Some.ensures.unchanged.0)
+    (subst (λ n. IsSome (entry c.args.self.now n)) (sym c.in-Some.ensures.index) (sym c.in-Some.ensures.live))
 
 pub returns-clause-answer : goal.returns-clause-answer
 returns-clause-answer g c =
-    told_mapped (λ (e : g.row.P-Gen.Denot × g.row.T.Denot). (g.P.Gen.PtrGen.number e.0, e.1)) c.told_valid.result _ (wraps g.P.Gen.PtrGen.counting g.P.Gen.PtrGen.greatest c.args.self.now.counter) (entry c.args.self.now (g.P.Inx.PtrInx.number c.args.inx)) c.take-taken.result.0 c.told_valid.ensures c.take-taken.ensures.wrapped
-    (ap (entry c.args.self.now) (sym c.in-Some.ensures.index) ∙ c.take-taken.ensures.entry)
+    told_mapped (λ (e : g.row.P-Gen.Denot × g.row.T.Denot). (g.P.Gen.PtrGen.number e.0, e.1)) c.told_valid.result _ (wraps g.P.Gen.PtrGen.counting g.P.Gen.PtrGen.greatest c.args.self.now.counter) (entry c.args.self.now (g.P.Inx.PtrInx.number c.args.inx)) c.take-taken.result.0 c.told_valid.ensures (c.take-taken.ensures.wrapped ∙ ap (λ (s : ArenaState g.row.T.Denot). wraps g.P.Gen.PtrGen.counting g.P.Gen.PtrGen.greatest s.counter) c.in-Some.ensures.unchanged.0)
+    (ap (entry c.args.self.now) (sym c.in-Some.ensures.index) ∙ sym (ap (λ (s : ArenaState g.row.T.Denot). entry s (non_zero_usize_get c.in-Some.inx)) c.in-Some.ensures.unchanged.0) ∙ c.take-taken.ensures.entry)
 
 pub returns-clause-gone : goal.returns-clause-gone
-returns-clause-gone g c = (slots-removed (raise g.P.Gen.PtrGen.counting g.P.Gen.PtrGen.greatest) c.args.self.now (g.P.Inx.PtrInx.number c.args.inx) c.take-taken.new.self (returns-clause-done g c (sym c.in-Some.ensures.live))).there
+returns-clause-gone g c = (removed_slots (raise g.P.Gen.PtrGen.counting g.P.Gen.PtrGen.greatest) c.args.self.now (g.P.Inx.PtrInx.number c.args.inx) c.take-taken.new.self (returns-clause-done g c (sym c.in-Some.ensures.live))).there
 
 pub returns-clause-others : goal.returns-clause-others
 returns-clause-others g c =
     let inx = g.P.Inx.PtrInx.number c.args.inx in
-    others_found c.args.self.now.slots _ inx None (slots-removed (raise g.P.Gen.PtrGen.counting g.P.Gen.PtrGen.greatest) c.args.self.now inx c.take-taken.new.self (returns-clause-done g c (sym c.in-Some.ensures.live)))
+    others_found c.args.self.now.slots _ inx None (removed_slots (raise g.P.Gen.PtrGen.counting g.P.Gen.PtrGen.greatest) c.args.self.now inx c.take-taken.new.self (returns-clause-done g c (sym c.in-Some.ensures.live)))
 
 pub returns-clause-unchanged : goal.returns-clause-unchanged
 returns-clause-unchanged g c none = absurd (true≢false (c.in-Some.ensures.live ∙ ap is_some none))
+
+pub returns-clause-bounded : goal.returns-clause-bounded
+returns-clause-bounded g c =
+    omega (arith, c.take-taken.ensures.steps, c.take-taken.ensures.state.1, c.in-Some.ensures.steps, c.in-Some.ensures.unchanged.1, steps_of-removed (raise g.P.Gen.PtrGen.counting g.P.Gen.PtrGen.greatest) c.look_at.new.self (non_zero_usize_get c.in-Some.inx))
+
+pub returns-in_default-clause-bounded : goal.returns-in_default-clause-bounded
+returns-in_default-clause-bounded g c = omega (arith, c.in_default.ensures.steps)
+
+pub returns-in_default-clause-unchanged : goal.returns-in_default-clause-unchanged
+returns-in_default-clause-unchanged g c none = c.in_default.ensures.unchanged

@@ -1,30 +1,57 @@
-use Rattle.std.proofs.Common.{◌∙◌, Some, is_some, sym, ap, arith}
+use Rattle.std.proofs.Common.{◌∙◌, Some, is_some, length, sym, ap, arith}
 use Rattle.std.proofs.lemmas.Option.{same_Some}
 use Rattle.std.specs.Int.NonZero.{non_zero_usize_get}
 use Rattle.std.specs.Option.{option_map}
 use Rattle.triple_arena_slots.specs.Slot.{entry_of}
-use Rattle.triple_arena_slots.proofs.Links.{root_free, full_at_none, Shows-filled, Shows-pushed}
+use Rattle.triple_arena_slots.specs.declared.slot.ArenaSlot.TheVariants.{Allocated}
+use Rattle.triple_arena_slots.proofs.Links.{root_free, full_at_none, can_leave, Shows-filled, Shows-pushed, steps-filled, steps-pushed}
+use Rattle.triple_arena_traits.specs.Items.{with_item}
+use Rattle.triple_arena_traits.specs.ItemLaws.{item-with_other, length-with_item}
 use Rattle.triple_arena_slots.proofs.slots.Slots.occupy.Goals as goal
 
-pub push_reserved-requires : goal.push_reserved-requires
-push_reserved-requires g c =
-    omega (arith, full_at_none g.P.Gen.PtrGen.number _ _ _ c.requires.0 (ap (option_map non_zero_usize_get) c.in-None.is) c.requires.2, c.requires.3)
+pub push-requires-after_bounds : goal.push-requires-after_bounds
+push-requires-after_bounds g c κs within =
+    omega (arith, full_at_none g.P.Gen.PtrGen.number _ _ _ c.requires.shown.0 (ap (option_map non_zero_usize_get) c.in-None.is) c.requires.shown.2, c.requires.shown.3)
 
-pub replace-requires : goal.replace-requires
-replace-requires g c =
-    ap is_some (root_free g.P.Gen.PtrGen.number _ _ _ _ c.requires.0 (ap (option_map non_zero_usize_get) c.in-Some.is) c.requires.2).1
+pub put-requires-after_bounds : goal.put-requires-after_bounds
+put-requires-after_bounds g c κs within =
+    ap is_some (root_free g.P.Gen.PtrGen.number _ _ _ _ c.requires.shown.0 (ap (option_map non_zero_usize_get) c.in-Some.is) c.requires.shown.2).1
 
 pub into_link-link-requires-after_bounds : goal.into_link-link-requires-after_bounds
 into_link-link-requires-after_bounds g c κs within =
-    let free = root_free g.P.Gen.PtrGen.number _ _ _ _ c.requires.0 (ap (option_map non_zero_usize_get) c.in-Some.is) c.requires.2 in
-    ap (λ e. is_some (entry_of g.P.Gen.PtrGen.number e)) (same_Some _ _ (sym c.replace.ensures.value ∙ free.1))
+    let free = root_free g.P.Gen.PtrGen.number _ _ _ _ c.requires.shown.0 (ap (option_map non_zero_usize_get) c.in-Some.is) c.requires.shown.2 in
+    ap (λ e. is_some (entry_of g.P.Gen.PtrGen.number e)) (same_Some _ _ (sym c.put.ensures.value ∙ free.1))
 
 pub returns-in-None-clause-shows : goal.returns-in-None-clause-shows
 returns-in-None-clause-shows g c s len shows room stamped =
-    rw (g.met.S.NonZeroInxGenericStack.items_with_items, c.push_reserved.ensures.value, c.in-None.is)
+    rw (c.push.ensures.stack, g.met.S.NonZeroInxGenericStack.items_with_items, c.push.ensures.root, c.in-None.is)
     (Shows-pushed g.P.Gen.PtrGen.number _ len c.args.generation c.args.value s room stamped (rw c.in-None.is at shows)).1
+
+pub unlink-requires-clause-can_leave : goal.unlink-requires-clause-can_leave
+unlink-requires-clause-can_leave g c κs within =
+    let items = g.S.NonZeroInxGenericStack.items c.args.self.now.stack in
+    let inx = non_zero_usize_get c.in-Some.inx in
+    rw (c.put.ensures.stack, g.met.S.NonZeroInxGenericStack.items_with_items)
+    (can_leave g.P.Gen.PtrGen.number items (with_item items inx (Allocated c.args.generation c.args.value)) _ inx c.requires.shown.1 c.into_link-link.result c.requires.shown.0 (λ j other. item-with_other items inx j _ other) (c.put.ensures.value ∙ ap Some c.into_link-link.ensures) c.requires.shown.2)
+
+pub unlink-requires-clause-indexed : goal.unlink-requires-clause-indexed
+unlink-requires-clause-indexed g c κs within =
+    let items = g.S.NonZeroInxGenericStack.items c.args.self.now.stack in
+    let put = ap g.S.NonZeroInxGenericStack.items c.put.ensures.stack ∙ g.met.S.NonZeroInxGenericStack.items_with_items _ _ in
+    omega (arith, ap length put, length-with_item items (non_zero_usize_get c.in-Some.inx) (Allocated c.args.generation c.args.value), c.requires.indexed)
 
 pub returns-in-Some-clause-shows : goal.returns-in-Some-clause-shows
 returns-in-Some-clause-shows g c s len shows room stamped =
-    rw (c.replace.ensures.stack, g.met.S.NonZeroInxGenericStack.items_with_items, c.after-self.ensures)
-    (Shows-filled g.P.Gen.PtrGen.number _ _ len c.into_link-link.result c.args.generation c.args.value s room stamped (c.replace.ensures.value ∙ ap Some c.into_link-link.ensures) (rw c.in-Some.is at shows)).1
+    let items = g.S.NonZeroInxGenericStack.items c.args.self.now.stack in
+    let inx = non_zero_usize_get c.in-Some.inx in
+    let put = ap g.S.NonZeroInxGenericStack.items c.put.ensures.stack ∙ g.met.S.NonZeroInxGenericStack.items_with_items _ _ in
+    (Shows-filled g.P.Gen.PtrGen.number items _ _ inx len c.into_link-link.result c.args.generation c.args.value s room stamped (c.put.ensures.value ∙ ap Some c.into_link-link.ensures)
+    (rw c.in-Some.is at (rw c.put.ensures.root at (rw put at c.unlink.ensures.leaves))) (rw c.in-Some.is at shows)).1
+
+pub returns-in-None-clause-steps : goal.returns-in-None-clause-steps
+returns-in-None-clause-steps g c s len shows =
+    omega (arith, c.push.ensures.steps, steps-pushed g.P.Gen.PtrGen.number _ len s (rw c.in-None.is at shows))
+
+pub returns-in-Some-clause-steps : goal.returns-in-Some-clause-steps
+returns-in-Some-clause-steps g c s len shows =
+    omega (arith, c.put.ensures.steps, c.unlink.ensures.steps, steps-filled g.P.Gen.PtrGen.number _ _ len c.into_link-link.result s (c.put.ensures.value ∙ ap Some c.into_link-link.ensures) (rw c.in-Some.is at shows))

@@ -18,7 +18,7 @@ returns-clause-step g c =
     let s : ArenaState g.row.T.Denot = c.self.inside.arena in
     let allowed = ap (is_exhausted_for_any g.P.Gen.PtrGen.counting g.P.Gen.PtrGen.greatest) c.self.view_is ∙ sym c.is_exhausted_for_any.ensures ∙ c.if-is_exhausted_for_any.false in
     let done = c.compress-answer.ensures.done in
-    rw (← c.self.view_is) (values s.slots, (length-values s.slots, step_done s _ _ _ _ _ allowed (ap (λ (t : ArenaState g.row.T.Denot). compression (keys s.slots) (keys t.slots) ∷ []) done) done))
+    rw (← c.self.view_is) (values s.slots, (length-values s.slots, step_done s _ _ _ _ _ allowed (ap (λ (t : ArenaState g.row.T.Denot). compression (keys s.slots) (keys t.slots) ∷ []) done.0) done))
 
 pub invariant_of-self : goal.invariant_of-self
 invariant_of-self g c counts =

@@ -12,7 +12,7 @@ returns-clause-step g c =
     let s : ArenaState g.row.T.Denot = c.self.inside.arena in
     let allowed = ap (is_exhausted_for_any g.P.Gen.PtrGen.counting g.P.Gen.PtrGen.greatest) c.self.view_is ∙ sym c.is_exhausted_for_any.ensures ∙ c.if-is_exhausted_for_any.false in
     let done = c.in_ok-answer.ensures.done in
-    rw (← c.self.view_is) (done.0, (moved_len s _ _ done.0 done.2 c.in_ok-answer.ensures.len, step_done s _ _ _ _ _ allowed (ap (λ (t : ArenaState g.row.T.Denot). compression (keys s.slots) (keys t.slots) ∷ []) done.2) done.2))
+    rw (← c.self.view_is) (done.0, (moved_len s _ _ done.0 done.2 c.in_ok-answer.ensures.len, step_done s _ _ _ _ _ allowed (ap (λ (t : ArenaState g.row.T.Denot). compression (keys s.slots) (keys t.slots) ∷ []) done.2.0) done.2))
 
 pub returns-clause-maps : goal.returns-clause-maps
 returns-clause-maps g c = rw c.allow.ensures (rw (← c.self.view_is) c.in_ok-answer.ensures.maps)

@@ -18,7 +18,7 @@ returns-clause-step g c =
     let s : ArenaState g.row.T.Denot = c.self.inside.arena in
     let allowed = ap (is_exhausted_for_any g.P.Gen.PtrGen.counting g.P.Gen.PtrGen.greatest) c.self.view_is ∙ sym c.is_exhausted_for_any.ensures ∙ c.if-is_exhausted_for_any.false in
     let moved = c.compress_with-answer.ensures.moved in
-    rw (← c.self.view_is) (moved.0, (moved_len s _ _ moved.0 moved.2 c.compress_with-answer.ensures.len, step_done s _ _ _ _ _ allowed (ap (λ (t : ArenaState g.row.T.Denot). compression (keys s.slots) (keys t.slots) ∷ []) moved.2) moved.2))
+    rw (← c.self.view_is) (moved.0, (moved_len s _ _ moved.0 moved.2 c.compress_with-answer.ensures.len, step_done s _ _ _ _ _ allowed (ap (λ (t : ArenaState g.row.T.Denot). compression (keys s.slots) (keys t.slots) ∷ []) moved.2.0) moved.2))
 
 pub invariant_of-self : goal.invariant_of-self
 invariant_of-self g c counts =

@@ -2,9 +2,9 @@ use Rattle.std.proofs.Common.{ap}
 use Rattle.triple_arena_ptr.specs.Numbers.{raise, first_generation}
 use Rattle.triple_arena_traits.specs.ArenaState.{capacity}
 use Rattle.triple_arena_traits.specs.Compression.{counter_after}
-use Rattle.triple_arena_traits.specs.CompressionLaws.{keys-compressed}
+use Rattle.triple_arena.specs.TouchedLaws.{compressed_keys}
 use Rattle.triple_arena_traits.specs.MoveLaws.{count-moved, count_renamed}
-use Rattle.triple_arena_traits.specs.HistoryLaws.{Continues-compressed, Fits-compressed}
+use Rattle.triple_arena.proofs.Touched.{compressed_goes_on, compressed_begins}
 use Rattle.triple_arena.proofs.base_arena.compaction.ArenaCompactArenaTrait.compress_with.Goals as goal
 
 pub returns-clause-moved : goal.returns-clause-moved
@@ -13,25 +13,25 @@ returns-clause-moved g c = rw c.renew_counter-answer.ensures.state at c.close_up
 pub returns-clause-keys : goal.returns-clause-keys
 returns-clause-keys g c =
     let m = returns-clause-moved g c in
-    keys-compressed c.args.self.now c.close_up.new.self (counter_after (first_generation g.P.Gen.PtrGen.counting) (raise g.P.Gen.PtrGen.counting g.P.Gen.PtrGen.greatest) c.args.reset_generation c.args.self.now) m.0 m.2
+    compressed_keys c.args.self.now c.close_up.new.self (counter_after (first_generation g.P.Gen.PtrGen.counting) (raise g.P.Gen.PtrGen.counting g.P.Gen.PtrGen.greatest) c.args.reset_generation c.args.self.now) m.0 m.2
     (count-moved g.P.Ptr.numbers (goal.F-step g) _ c.args.f c.args.self.now.slots m.0 m.1)
 
 pub returns-clause-len : goal.returns-clause-len
 returns-clause-len g c = count_renamed c.args.self.now.slots c.close_up.new.self.slots _ (returns-clause-keys g c)
 
 pub returns-clause-limit : goal.returns-clause-limit
-returns-clause-limit g c = ap (λ s. s.limit) (returns-clause-moved g c).2
+returns-clause-limit g c = ap (λ s. s.limit) (returns-clause-moved g c).2.0
 
 pub returns-clause-capacity : goal.returns-clause-capacity
-returns-clause-capacity g c = ap capacity (returns-clause-moved g c).2
+returns-clause-capacity g c = ap capacity (returns-clause-moved g c).2.0
 
 pub returns-clause-fresh : goal.returns-clause-fresh
 returns-clause-fresh g c kept counts =
     let m = returns-clause-moved g c in
-    Continues-compressed g.P.Gen.PtrGen.counting g.P.Gen.PtrGen.greatest c.args.self.now c.close_up.new.self (first_generation g.P.Gen.PtrGen.counting) c.args.reset_generation m.0 kept counts
+    compressed_goes_on g.P.Gen.PtrGen.counting g.P.Gen.PtrGen.greatest c.args.self.now c.close_up.new.self (first_generation g.P.Gen.PtrGen.counting) c.args.reset_generation m.0 kept counts
     (count-moved g.P.Ptr.numbers (goal.F-step g) _ c.args.f c.args.self.now.slots m.0 m.1) m.2
 
 pub returns-clause-begun : goal.returns-clause-begun
 returns-clause-begun g c h fits =
     let m = returns-clause-moved g c in
-    Fits-compressed c.args.self.now c.close_up.new.self _ m.0 m.2
+    compressed_begins c.args.self.now c.close_up.new.self _ m.0 m.2

@@ -1,0 +1,8 @@
+use Rattle.triple_arena_ptr.specs.Numbers.{raise}
+use Rattle.triple_arena_traits.specs.Compression.{raised_if_any}
+use Rattle.triple_arena_session.proofs.Uncounted.{uncounted-compressed}
+use Rattle.triple_arena_session.proofs.session_arena.ArenaSessionArena.compress_recast.Goals as goal
+
+pub returns-clause-done : goal.returns-clause-done
+returns-clause-done g c =
+    uncounted-compressed c.compress_recast.result c.args.self.now c.compress_recast.new.this (raised_if_any (raise g.P.Gen.PtrGen.counting g.P.Gen.PtrGen.greatest) c.args.self.now) _ c.compress_recast.ensures.done

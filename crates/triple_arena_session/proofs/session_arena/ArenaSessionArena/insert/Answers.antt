@@ -1,0 +1,13 @@
+use Rattle.std.proofs.Common.{ap, ◌∙◌}
+use Rattle.triple_arena_traits.specs.Insertion.{inserted}
+use Rattle.triple_arena_traits.specs.Capacity.{grown}
+use Rattle.triple_arena_session.specs.SessionLayout.{uncounted}
+use Rattle.triple_arena_session.proofs.Uncounted.{uncounted-counted, uncounted-inserted, uncounted-grown_inserted}
+use Rattle.triple_arena_session.proofs.session_arena.ArenaSessionArena.insert.Goals as goal
+
+pub returns-clause-inserted : goal.returns-clause-inserted
+returns-clause-inserted g c =
+    uncounted-counted c.insert.result _ (inserted (grown g.S.NonZeroInxGenericStack.kind c.args.self.now) c.args.t) c.insert.new.self _ (uncounted-grown_inserted g.S.NonZeroInxGenericStack.kind c.args.self.now c.args.t) c.insert.ensures.inserted
+
+pub returns-clause-had_place : goal.returns-clause-had_place
+returns-clause-had_place g c = λ less. let had = c.insert.ensures.had_place less in (had.0, ap uncounted had.1 ∙ uncounted-inserted c.args.self.now c.args.t)

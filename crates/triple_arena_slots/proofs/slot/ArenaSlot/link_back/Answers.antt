@@ -1,0 +1,12 @@
+use Rattle.std.proofs.Common.{ℕ, Some, None, cond, ◌==◌, refl, ◌∙◌, sym, ap}
+use Rattle.std.specs.Int.NonZero.{non_zero_usize_get}
+use Rattle.triple_arena_slots.specs.Slot.{next_in}
+use Rattle.triple_arena_slots.proofs.slot.ArenaSlot.link_back.Goals as goal
+
+pub returns : goal.returns
+returns g c =
+    record {
+      free = (_, refl);
+      next = ap (λ (i : ℕ). cond (i == non_zero_usize_get c.args.inx) None (Some i)) c.set_previous.ensures.next ∙ sym (ap (λ slot. next_in slot (non_zero_usize_get c.args.inx)) c.in-Free.is);
+      previous = c.set_previous.ensures.previous;
+    }

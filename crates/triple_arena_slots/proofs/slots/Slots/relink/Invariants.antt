@@ -1,0 +1,18 @@
+use Rattle.std.proofs.Common.{◌≡◌, ◌≤◌, length}
+use Rattle.std.specs.Int.NonZero.{non_zero_usize_get}
+use Rattle.std.specs.Option.{option_map}
+use Rattle.triple_arena_traits.specs.Places.{number_or_zero}
+use Rattle.triple_arena_slots.proofs.Tidying.{LinkedFrom}
+use Rattle.triple_arena_slots.proofs.slots.Slots.relink.Given as goal
+
+abbrev pub invariant-links : goal.invariant-links
+invariant-links g l =
+    (g.S.NonZeroInxGenericStack.room l.self.stack ≡ g.S.NonZeroInxGenericStack.room l.fn.self.stack)
+    × (g.S.NonZeroInxGenericStack.limit l.self.stack ≡ g.S.NonZeroInxGenericStack.limit l.fn.self.stack)
+    × (length (g.S.NonZeroInxGenericStack.items l.self.stack) ≡ length (g.S.NonZeroInxGenericStack.items l.fn.self.stack))
+    × (l.fn.self.steps.count ≤ l.self.steps.count)
+    × (number_or_zero l.next ≤ length (g.S.NonZeroInxGenericStack.items l.self.stack))
+    × LinkedFrom g.P.Gen.PtrGen.number (g.S.NonZeroInxGenericStack.items l.fn.self.stack) (g.S.NonZeroInxGenericStack.items l.self.stack) (number_or_zero l.next) (option_map non_zero_usize_get l.self.root)
+
+abbrev pub decreases-links : goal.decreases-links
+decreases-links g l = number_or_zero l.next

@@ -1,6 +1,6 @@
 //! The reading of a text.
 
-ghost use Rattle.std.specs.Prelude.{◌≡◌, ◌+◌, ◌<◌, ◌⊎◌, length, IfOk, IfErr, IfSome};
+ghost use Rattle.std.specs.Prelude.{◌≡◌, ◌+◌, ◌^◌, ◌<◌, ◌⊎◌, length, IfOk, IfErr, IfSome};
 ghost use Rattle.std.specs.Io.{ReadsAtMost};
 ghost use Rattle.std.specs.Io.KnownBytes.{ReadConsumes};
 
@@ -62,7 +62,7 @@ fn read_by_chunks<R: Read>(
 
 // One read, which uses up one of the reads that a text may take. No other function reads.
 fn read_counted<R: Read>(input: &mut R, chunk: &mut [u8], reads: &mut u64) -> io::Result<usize>
-    requires { reads.old < MOST_READS }
+    requires { reads.old < 2 ^ 32 }
     ensures bound { ReadsAtMost result chunk.new }
     ensures bytes { ReadConsumes (R.remaining input.old) (R.remaining input.new) result chunk.new }
     ensures counted { reads.new ≡ reads.old + 1 }

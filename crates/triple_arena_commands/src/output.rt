@@ -15,7 +15,13 @@ use std::io::{BufWriter, ErrorKind, Write};
 /// Room for the line of any reply but `Line`: the longest has 58 bytes.
 const LINE_ROOM: usize = 64;
 
-/// Writes the line of a reply, by writes alone. The error is `Write`, and then a front of the line
+/// The most times that one write is made which is interrupted each time.
+const MOST_TRIES: u64 = 4294967296;
+
+/// Writes the line of a reply, by writes alone. One that was interrupted is made again, up to
+/// 4294967296 times.
+///
+/// The error is `Write`, where a write failed, or was interrupted so often; then a front of the line
 /// was written, but not all of it. What was written is said of a writer that tells its bytes.
 pub fn write_reply<W: Write>(output: &mut W, reply: &Reply<u64>) -> Result<(), TextError>
     ensures ok { OnOk result
@@ -75,8 +81,8 @@ fn write_all<W: Write>(output: &mut W, bytes: &[u8]) -> Result<(), TextError>
     Ok(())
 }
 
-// How many of these bytes a write took. `None` where it failed or took none. A write that was
-// interrupted is tried again.
+// How many of these bytes a write took. `None` where it failed, took none, or was interrupted so often
+// that it isn't tried again.
 fn write_some<W: Write>(output: &mut W, bytes: &[u8]) -> Option<usize>
     ensures some { IfSome result (λ count. 0 < count) }
     ensures within { IfSome result (λ count. count ≤ length bytes.now) }
@@ -84,7 +90,9 @@ fn write_some<W: Write>(output: &mut W, bytes: &[u8]) -> Option<usize>
         (λ count. Appends (W.contents output.old) (W.contents output.new) (take count bytes.now)) }
     ensures failed { IfNone result (Keeps (W.contents output.old) (W.contents output.new)) }
 {
-    'tries: for _ in 0..u64::MAX {
+    let mut tries = 0;
+    'tries: while tries < MOST_TRIES {
+        tries += 1;
         match output.write(bytes) {
             Ok(0) => return None,
             Ok(count) => return Some(count),

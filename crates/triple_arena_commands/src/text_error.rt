@@ -14,9 +14,10 @@ pub enum TextError {
     Malformed(usize),
     /// The reader failed, or hadn't ended after 4294967296 reads. Nothing has run.
     Read,
-    /// The writer failed. The command whose reply was being written has run, and those before it.
-    /// The replies before went out whole, and that one in part or not at all. Of a run that is
-    /// flushed after it, a front of the replies of the commands that ran went out.
+    /// The writer failed, or interrupted one write 4294967296 times. The command whose reply was being
+    /// written has run, and those before it. The replies before went out whole, and that one in part
+    /// or not at all. Of a run that is flushed after it, a front of the replies of the commands that ran
+    /// went out.
     Write,
     /// There was no memory for the text, or for what it was to run in. Nothing has run.
     NoMemory,

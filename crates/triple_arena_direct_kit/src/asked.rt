@@ -1,10 +1,10 @@
 //! What a direct arena is asked, by calls without clauses.
 
-use crate::placing::{Placing, Shown};
+use crate::placing::Placing;
 use triple_arena_direct::{DirectArena, DirectSlot};
 use triple_arena_ptr::{P0, Ptr};
 use triple_arena_stack::NonZeroInxGenericStack;
-use triple_arena_trait_kit::Told;
+use triple_arena_trait_kit::{Shown, Told};
 use triple_arena_traits::{
     ArenaCloneFromWith, ArenaDirectInsertEntryTrait, ArenaDirectInsertTrait, CompactArenaTrait,
     DisjointableArenaTrait,

@@ -9,5 +9,6 @@ mod tested_direct;
 
 pub use arenas::{Heap, InArray, Limited, Little, has_text, with_room};
 pub use asked::{AnyDirect, Asked, AskedToClone};
-pub use placing::{Placing, Shown};
-pub use tested_direct::{Direct, DirectWithLimit};
+pub use placing::Placing;
+pub use tested_direct::{Direct, DirectWithLimit, direct_state_of};
+pub use triple_arena_trait_kit::Shown;

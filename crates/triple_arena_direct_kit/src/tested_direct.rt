@@ -6,8 +6,8 @@ use triple_arena_direct::{DirectArena, DirectSlot};
 use triple_arena_ptr::Ptr;
 use triple_arena_stack::{NonZeroInxGenericStack, SetMaxCapacity};
 use triple_arena_trait_kit::{
-    Call, Kind, Numbered, SLOTS, State, TestedArena, Token, Told, answer_of_any, answer_of_two,
-    answer_to_read, answer_to_walk,
+    Call, Kind, Numbered, SLOTS, Shown, State, TestedArena, Token, Told, answer_of_any,
+    answer_of_two, answer_to_read, answer_to_walk,
 };
 use triple_arena_traits::{
     ArenaDirectInsertTrait, ArenaTrait, CompactArenaTrait, DisjointableArenaTrait,
@@ -179,20 +179,20 @@ where
 }
 
 // The numbers of the generation and of the value of the entry in a slot, if there is one.
-fn entry_in<P: Ptr>(slot: Option<&DirectSlot<P, Token>>) -> Option<(u64, u64)>
+fn entry_in<P: Ptr, T: Shown>(slot: Option<&DirectSlot<P, T>>) -> Option<(u64, u64)>
 where
     P::Gen: Numbered,
 {
     match slot {
-        Some(DirectSlot::Allocated(generation, token)) => {
-            Some((generation.told_number(), token.number))
+        Some(DirectSlot::Allocated(generation, value)) => {
+            Some((generation.told_number(), value.shown()))
         }
         _ => None,
     }
 }
 
 // The entries of these slots.
-fn entries_in<P: Ptr>(slots: &[DirectSlot<P, Token>]) -> [Option<(u64, u64)>; SLOTS]
+fn entries_in<P: Ptr, T: Shown>(slots: &[DirectSlot<P, T>]) -> [Option<(u64, u64)>; SLOTS]
 where
     P::Gen: Numbered,
 {
@@ -203,9 +203,9 @@ where
     entries
 }
 
-// The whole state; there is no counter and no free list.
-fn state_of<P: Ptr, S: NonZeroInxGenericStack<DirectSlot<P, Token>>>(
-    arena: &DirectArena<P, Token, S>,
+/// The whole state of `arena`; there is no counter and no free list. Of more than `SLOTS` slots, the first.
+pub fn direct_state_of<P: Ptr, T: Shown, S: NonZeroInxGenericStack<DirectSlot<P, T>>>(
+    arena: &DirectArena<P, T, S>,
 ) -> State
 where
     P::Gen: Numbered,
@@ -234,7 +234,7 @@ where
         return Told::NoSuchCall;
     }
     match call {
-        Call::Bounds | Call::Slots => state_of(arena).told(call),
+        Call::Bounds | Call::Slots => direct_state_of(arena).told(call),
         _ => own_answer(arena, call),
     }
 }
@@ -252,7 +252,7 @@ where
     }
 
     fn state(&self) -> State {
-        state_of(&self.arena)
+        direct_state_of(&self.arena)
     }
 }
 
@@ -282,6 +282,6 @@ where
     }
 
     fn state(&self) -> State {
-        state_of(&self.direct.arena)
+        direct_state_of(&self.direct.arena)
     }
 }

@@ -5,5 +5,6 @@ mod arenas;
 mod calls;
 mod drops;
 mod insertion;
+mod loops;
 mod pops;
 mod refused_memory;

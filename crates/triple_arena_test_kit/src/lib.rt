@@ -12,7 +12,7 @@ mod writing_calls;
 
 pub use arenas::{Fixed, Heap, Limited, Little, Places, capacity_made, new_arena, with_room};
 pub use on_stacks::{from_empty, on_fixed, on_heap, on_limited, on_little, on_new};
-pub use state::state_of;
+pub use state::{free_of, state_of};
 pub use tested_arena::{Asked, Tested, WithLimit, ask};
 pub use triple_arena_trait_kit::{
     B, Call, Kind, NO_ENTRY, NO_POINTER, NO_VALUE, NOT_DRAINED, Narrow, Numbered, PtrOf, Removed,

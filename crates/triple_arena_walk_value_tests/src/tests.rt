@@ -5,6 +5,7 @@ mod asking;
 mod drops;
 mod entries;
 mod generic_callers;
+mod no_size;
 mod removals;
 mod texts;
 mod two_pointer_types;

@@ -245,7 +245,9 @@ pub fn up_to_255<A: TestedArena>(arena: &mut A) -> Result<(), Wrong> {
     for number in 1..256 {
         step(arena, Call::Get(number, 1), Told::Holds(number as u64))?;
     }
-    follow(arena, &[(Call::Reallocate(256), NO_MEMORY), full])
+    // without generations the pointer of the greatest index is `P5::invalid()`
+    let invalid = (Call::Contains(255, 1), Told::Is(true));
+    follow(arena, &[(Call::Reallocate(256), NO_MEMORY), full, invalid])
 }
 
 #[test]
@@ -258,6 +260,21 @@ fn a_byte_index_ends_at_255(rt: HostRuntime) -> Result<(), Wrong> {
     )?;
     is_refused(rt.alloc(), Pointers::P5, Stack::Heap(Some(256)))?;
     is_made(rt.alloc(), Pointers::P5, Stack::Heap(Some(255)), 255, None)
+}
+
+// Such a pointer may be below the counter of an arena that was made and had no other set.
+#[test]
+fn a_new_arena_whose_counter_is_set_gives_that_generation(rt: HostRuntime) -> Result<(), Wrong> {
+    on(
+        rt.alloc(),
+        Pointers::P0,
+        Stack::Heap(None),
+        &[Part::Steps(&[
+            (Call::SetGeneration(1), Told::Done),
+            (Call::Insert(7), Told::At(1, 1)),
+            (Call::Get(1, 1), Told::Holds(7)),
+        ])],
+    )
 }
 
 #[test]

@@ -17,7 +17,9 @@ pub fn each_generation<A: TestedArena>(arena: &mut A) -> Result<(), Wrong> {
         &[
             (Call::Insert(255), Told::At(1, 255)),
             (Call::Remove(1, 255), Told::WrappedHolds(255)),
+            // the pointer that was given first, which now finds the last value
             (Call::Insert(256), Told::At(1, 2)),
+            (Call::Get(1, 2), Told::Holds(256)),
         ],
     )
 }

@@ -9,6 +9,7 @@ use super::entry_calls::{LetGo, answer_of_entry};
 use super::stacks::{in_four_places, in_three_places, on_fixed, on_heap, on_limited};
 use std::alloc::Global;
 use std::mem;
+use triple_arena_base::AllocError;
 use triple_arena_stack::{
     HeapStack, LimitedStack, NonZeroInxGenericStack, NonZeroInxStack, SetMaxCapacity,
 };
@@ -32,6 +33,28 @@ fn a_constructor_tells_of_no_memory(rt: HostRuntime) -> Result<(), Wrong> {
     both(
         are_refused(rt.alloc(), TOO_MANY),
         are_refused(rt.alloc(), usize::MAX),
+    )
+}
+
+// The capacity of a stack that is made for so many items of no size, where it is made.
+fn capacity_for_nothings(alloc: Global, items: usize) -> Told {
+    match NonZeroInxStack::<(), HeapStack<()>>::with_min_capacity(alloc, items) {
+        Ok(stack) => Told::Size(stack.capacity()),
+        Err(AllocError) => Told::NoMemory,
+    }
+}
+
+// They take no memory, and a vector of the toolchain holds fewer than 2^63 of them.
+#[test]
+fn items_of_no_size_have_their_greatest_number(rt: HostRuntime) -> Result<(), Wrong> {
+    let most = usize::MAX / 2;
+    both(
+        is_told(0, capacity_for_nothings(rt.alloc(), most), Told::Size(most)),
+        is_told(
+            1,
+            capacity_for_nothings(rt.alloc(), most + 1),
+            Told::NoMemory,
+        ),
     )
 }
 

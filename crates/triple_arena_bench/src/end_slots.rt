@@ -38,7 +38,7 @@ fn time_once<C: Clock>(rt: &C, alloc: Global, size: u32) -> anyhow::Result<Timin
 fn with_free_end(alloc: Global, size: u32) -> anyhow::Result<Arena<P0, u64>> {
     let mut arena = Arena::new(alloc);
     let first = arena.insert(0)?;
-    let others = insert_many(&mut arena, alloc, size - 1)?;
+    let others = insert_many(&mut arena, alloc, size.saturating_sub(1))?;
     arena.insert(size as u64)?;
     let ends = insert_many(&mut arena, alloc, ENDS)?;
     let last = arena.insert(0)?;

@@ -1,11 +1,9 @@
 //! Compactions that make a map: memory for it is asked for before any link is looked at.
 
-use crate::asking::NO_MEMORY;
+use crate::asking::{NO_MEMORY, insert_each};
 use crate::report::{End, Report};
 use std::alloc::Global;
-use triple_arena::{
-    Arena, ArenaDirectInsertTrait, ArenaInsertTrait, ArenaTrait, CompactArenaTrait,
-};
+use triple_arena::{Arena, ArenaDirectInsertTrait, ArenaTrait, CompactArenaTrait};
 use triple_arena_base::CompactError;
 use triple_arena_direct::DirectArena;
 use triple_arena_direct_kit::direct_state_of;
@@ -13,7 +11,7 @@ use triple_arena_ptr::{P0, Ptr};
 use triple_arena_renaming::{compress_recast, compress_recaster};
 use triple_arena_strict::{StrictArena, StrictCompactError};
 use triple_arena_test_kit::state_of;
-use triple_arena_trait_kit::{State, Told, Wrong, index_number, inx, is_told, pointer};
+use triple_arena_trait_kit::{State, Told, Wrong, index_number, is_told, pointer};
 
 type Node = (u64, Option<P0>);
 
@@ -113,8 +111,9 @@ impl Compacted for StrictArena<P0, Node> {
     }
 }
 
-// A compaction, and once more where memory is refused, which changes nothing. A dangling link refuses it
-// too, and changes nothing; else the second node has moved from index 3 to 2, with this generation.
+// A compaction, and once more where memory is refused, which changes nothing. A dangling link
+// refuses it too, and changes nothing; else the second node has moved from index 3 to 2, with this
+// generation.
 fn compacts<A: Compacted>(
     alloc: Global,
     arena: &mut A,
@@ -159,34 +158,38 @@ fn told_with(link: (usize, u64)) -> Told {
     }
 }
 
+// The node of a number up to 3: the third has this link.
+fn node_of(number: u64, link: (usize, u64)) -> Node {
+    if number == 3 {
+        (3, Some(pointer(link.0, link.1)))
+    } else {
+        (number, None)
+    }
+}
+
 // Three nodes, of which the second is removed.
 fn arena(alloc: Global, link: (usize, u64)) -> Result<Arena<P0, Node>, Wrong> {
     let mut arena: Arena<P0, Node> = Arena::with_min_capacity(alloc, 3)?;
-    for node in [(1, None), (2, None), (3, Some(pointer(link.0, link.1)))] {
-        if arena.insert_within_capacity(node).is_err() {
-            return Err(Wrong::Answer(0));
-        }
-    }
-    drop(arena.remove_inx(inx(2)));
+    insert_each(&mut arena, 3, &[2], |number| node_of(number, link))?;
     Ok(arena)
 }
 
 fn direct(alloc: Global, link: (usize, u64)) -> Result<DirectArena<P0, Node>, Wrong> {
     let mut arena: DirectArena<P0, Node> = DirectArena::with_min_capacity(alloc, 3)?;
-    for (index, node) in [(1, (1, None)), (3, (3, Some(pointer(link.0, link.1))))] {
-        let p: P0 = pointer(index, 2);
+    for number in [1, 3] {
+        let p: P0 = pointer(number as usize, 2);
         if !arena.can_direct_insert(p) {
             return Err(Wrong::Answer(0));
         }
-        arena.direct_insert_reserved(p, node);
+        arena.direct_insert_reserved(p, node_of(number, link));
     }
     Ok(arena)
 }
 
 fn strict(alloc: Global, link: (usize, u64)) -> Result<StrictArena<P0, Node>, Wrong> {
     let mut arena: StrictArena<P0, Node> = StrictArena::with_min_capacity(alloc, 3)?;
-    for node in [(1, None), (2, None), (3, Some(pointer(link.0, link.1)))] {
-        if arena.insert_within_capacity(node).is_err() {
+    for number in [1, 2, 3] {
+        if arena.insert_within_capacity(node_of(number, link)).is_err() {
             return Err(Wrong::Answer(0));
         }
     }

@@ -1,12 +1,12 @@
 //! Clones, whose values ask for memory too, and transfers.
 
+use crate::asking::{insert_each, tidied};
 use crate::costly::{Costly, ask};
 use crate::report::{End, Report};
 use std::alloc;
 use std::alloc::Global;
 use triple_arena::{
-    Arena, ArenaCloneFromWith, ArenaDirectInsertTrait, ArenaInsertTrait, ArenaTrait,
-    CompactArenaTrait,
+    Arena, ArenaCloneFromWith, ArenaDirectInsertTrait, ArenaTrait, CompactArenaTrait,
 };
 use triple_arena_base::{AllocError, CloneFromError, ReallocationError};
 use triple_arena_direct::DirectArena;
@@ -53,41 +53,50 @@ impl Goal for DirectCostlies {
 // An arena of this room and so many entries, of which those at these indexes are removed.
 fn arena_of(alloc: Global, entries: usize, removed: &[usize]) -> Result<Costlies, Wrong> {
     let mut arena = Costlies::with_min_capacity(alloc, entries)?;
-    for number in 1..=entries as u64 {
-        if arena
-            .insert_within_capacity(Costly { number, alloc })
-            .is_err()
-        {
-            return Err(Wrong::Answer(0));
-        }
-    }
-    for index in removed {
-        drop(arena.remove_inx(inx(*index)));
-    }
+    insert_each(
+        &mut arena,
+        entries as u64,
+        removed,
+        |number| Costly { number, alloc },
+    )?;
     Ok(arena)
 }
 
-// Five entries, of which the second and the fourth are removed.
+// Five entries, of which the second and the fourth are removed, which makes the counter 4.
 fn source(alloc: Global) -> Result<Costlies, Wrong> {
     arena_of(alloc, 5, &[2, 4])
 }
 
-// Four entries, of which the third and then the first are removed.
+// Four entries, of which all but the second are removed, which makes the counter 5.
 fn target(alloc: Global) -> Result<Costlies, Wrong> {
-    arena_of(alloc, 4, &[3, 1])
+    arena_of(alloc, 4, &[3, 1, 4])
 }
 
-// A direct arena with room for four, a gap, and a free slot at the end.
-fn direct_target(alloc: Global) -> Result<DirectCostlies, Wrong> {
-    let mut arena = DirectCostlies::with_min_capacity(alloc, 4)?;
-    for (index, generation) in [(1, 1), (3, 9), (4, 7)] {
-        let p: P0 = pointer(index, generation);
+// A direct arena of this room, with entries of their indexes under these pointers.
+fn direct_of(
+    alloc: Global,
+    room: usize,
+    pointers: &[(usize, u64)],
+) -> Result<DirectCostlies, Wrong> {
+    let mut arena = DirectCostlies::with_min_capacity(alloc, room)?;
+    for (index, generation) in pointers {
+        let p: P0 = pointer(*index, *generation);
         if !arena.can_direct_insert(p) {
             return Err(Wrong::Answer(0));
         }
-        let number = index as u64;
+        let number = *index as u64;
         arena.direct_insert_reserved(p, Costly { number, alloc });
     }
+    Ok(arena)
+}
+
+fn direct_source(alloc: Global) -> Result<DirectCostlies, Wrong> {
+    direct_of(alloc, 5, &[(5, 2), (1, 9), (3, 1)])
+}
+
+// A direct arena with a gap, and a free slot at the end.
+fn direct_target(alloc: Global) -> Result<DirectCostlies, Wrong> {
+    let mut arena = direct_of(alloc, 4, &[(1, 1), (3, 9), (4, 7)])?;
     drop(arena.remove_inx(inx(4)));
     Ok(arena)
 }
@@ -134,26 +143,28 @@ enum Refusal {
     Value,
 }
 
-fn refusal_of<E: Drop>(cloned: Result<(), CloneFromError<E>>) -> Result<Option<Refusal>, Wrong> {
-    match cloned {
-        Ok(()) => Ok(None),
-        Err(CloneFromError::Reallocation(ReallocationError::AllocError)) => Ok(Some(Refusal::Room)),
-        Err(CloneFromError::Map(_refused)) => Ok(Some(Refusal::Value)),
-        Err(CloneFromError::Reallocation(ReallocationError::BeyondMaxCapacity)) => {
-            Err(Wrong::Answer(0))
-        }
+fn refusal_of<E: Drop>(refused: CloneFromError<E>) -> Result<Refusal, Wrong> {
+    match refused {
+        CloneFromError::Reallocation(ReallocationError::AllocError) => Ok(Refusal::Room),
+        CloneFromError::Map(_refused) => Ok(Refusal::Value),
+        CloneFromError::Reallocation(ReallocationError::BeyondMaxCapacity) => Err(Wrong::Answer(0)),
     }
 }
 
-// Whether a state is what a refused clone of a value leaves: the clones before it, of which there are at
-// most two.
-fn has_clones_before(before: State, seen: State) -> bool {
-    for count in 0..3 {
-        if seen == as_seen(before, cloned(before, count, 5), seen) {
-            return true;
+// The values that are cloned, in their order.
+const VALUES: [&str; 3] = ["the first value", "the second value", "the third value"];
+
+// How a refused clone ended that left this: without room all is as it was, but for the order of the
+// free list; where a value was refused, just the clones before it stand.
+fn end_at(refusal: Refusal, before: State, seen: State) -> Result<End, Wrong> {
+    match (refusal, VALUES.get(seen.len)) {
+        (Refusal::Room, _) if seen == tidied(before) => Ok(End::Refused),
+        (Refusal::Value, Some(value))
+            if seen == as_seen(before, cloned(before, seen.len, 5), seen) => {
+            Ok(End::PartRefused(*value))
         }
+        _ => Err(Wrong::State(1)),
     }
-    false
 }
 
 // A clone into an arena, and once more where it is refused.
@@ -162,28 +173,15 @@ fn clones_into<A: ArenaCloneFromWith<P0, Costly> + Goal>(
     source: &Costlies,
 ) -> Result<End, Wrong> {
     let (before, of_source) = (target.seen(), state_of(source));
-    let refusal = refusal_of(target.clone_from(source))?;
-    let seen = target.seen();
-    let (is_left, end) = match refusal {
-        None => (true, End::Ample),
-        Some(Refusal::Room) => {
-            let left = if before.counter == 0 {
-                before
-            } else {
-                before.in_order()
-            };
-            (seen == left, End::Refused)
+    let mut end = End::Ample;
+    if let Err(refused) = target.clone_from(source) {
+        end = end_at(refusal_of(refused)?, before, target.seen())?;
+        if target.clone_from(source).is_err() {
+            return Err(Wrong::Answer(2));
         }
-        Some(Refusal::Value) => (has_clones_before(before, seen), End::Refused),
-    };
-    if !is_left || state_of(source) != of_source {
-        return Err(Wrong::State(1));
-    }
-    if end == End::Refused && target.clone_from(source).is_err() {
-        return Err(Wrong::Answer(2));
     }
     let seen = target.seen();
-    if seen == as_seen(before, cloned(before, 3, 5), seen) {
+    if seen == as_seen(before, cloned(before, 3, 5), seen) && state_of(source) == of_source {
         Ok(end)
     } else {
         Err(Wrong::State(3))
@@ -198,26 +196,45 @@ fn direct_clone_from(alloc: Global, source: &Costlies) -> Result<End, Wrong> {
     clones_into(&mut direct_target(alloc)?, source)
 }
 
-// A clone leaves its original, and a refused one nothing beside it.
-fn clone(alloc: Global, source: &Costlies) -> Result<End, Wrong> {
-    let before = state_of(source);
-    let (is_cloned, end) = match source.clone(alloc) {
-        Ok(clone) => (state_of(&clone) == cloned(before, 3, 5), End::Ample),
-        Err(CloneFromError::Reallocation(ReallocationError::AllocError)) => (true, End::Refused),
-        Err(CloneFromError::Map(_refused)) => (true, End::Refused),
-        Err(_refused) => (false, End::Ample),
-    };
-    if is_cloned && state_of(source) == before {
-        Ok(end)
-    } else {
-        Err(Wrong::State(1))
+// How a clone ended that was refused, and that leaves nothing.
+fn end_of(refusal: Refusal) -> End {
+    match refusal {
+        Refusal::Room => End::Refused,
+        Refusal::Value => End::PartRefused("a value"),
     }
 }
 
-// A clone by a closure that asks for memory, and that is called up to the first refusal.
-fn clone_from_with(alloc: Global, source: &Costlies) -> Result<End, Wrong> {
-    let mut target = target(alloc)?;
-    let before = target.seen();
+// A clone, and once more where it is refused. It is as its original, which stays as it was, but
+// that the free list is in order.
+fn clones<A: ArenaCloneFromWith<P0, Costly> + CompactArenaTrait<P0, Costly> + Goal + Drop>(
+    alloc: Global,
+    source: &A,
+) -> Result<End, Wrong> {
+    let before = source.seen();
+    let (copy, end) = match source.clone(alloc) {
+        Ok(copy) => (copy, End::Ample),
+        Err(refused) => match (refusal_of(refused)?, source.clone(alloc)) {
+            (refusal, Ok(copy)) => (copy, end_of(refusal)),
+            (_, Err(_refused)) => return Err(Wrong::Answer(2)),
+        },
+    };
+    if copy.seen() == tidied(before) && source.seen() == before {
+        Ok(end)
+    } else {
+        Err(Wrong::State(3))
+    }
+}
+
+fn direct_clone(alloc: Global) -> Result<End, Wrong> {
+    clones(alloc, &direct_source(alloc)?)
+}
+
+// Clones by a closure that asks for memory, and tells how often it was called.
+fn clone_by_closure(
+    alloc: Global,
+    target: &mut Costlies,
+    source: &Costlies,
+) -> (Result<(), CloneFromError<AllocError>>, usize) {
     let mut calls = 0usize;
     let answer = target.clone_from_with(
         source,
@@ -232,19 +249,35 @@ fn clone_from_with(alloc: Global, source: &Costlies) -> Result<End, Wrong> {
             }
         },
     );
-    let seen = target.seen();
-    let (left, end) = match refusal_of(answer)? {
-        None if calls == 3 => (cloned(before, 3, 5), End::Ample),
-        Some(Refusal::Room) if calls == 0 => (before.in_order(), End::Refused),
-        Some(Refusal::Value) if calls > 0 => {
-            (cloned(before, calls.saturating_sub(1), 5), End::Refused)
+    (answer, calls)
+}
+
+// The same, and once more where it is refused: the closure is called up to its first refusal.
+fn clone_from_with(alloc: Global, source: &Costlies) -> Result<End, Wrong> {
+    let mut target = target(alloc)?;
+    let before = target.seen();
+    let (mut answer, mut calls) = clone_by_closure(alloc, &mut target, source);
+    let mut end = End::Ample;
+    if let Err(refused) = answer {
+        let seen = target.seen();
+        end = end_at(refusal_of(refused)?, before, seen)?;
+        let called = if end == End::Refused {
+            0
+        } else {
+            seen.len.saturating_add(1)
+        };
+        if calls != called {
+            return Err(Wrong::Answer(1));
         }
-        _ => return Err(Wrong::Answer(1)),
-    };
-    if seen == left {
+        (answer, calls) = clone_by_closure(alloc, &mut target, source);
+        if answer.is_err() {
+            return Err(Wrong::Answer(2));
+        }
+    }
+    if calls == 3 && target.seen() == cloned(before, 3, 5) {
         Ok(end)
     } else {
-        Err(Wrong::State(1))
+        Err(Wrong::State(3))
     }
 }
 
@@ -255,12 +288,7 @@ fn goes_over_to<A: Goal>(alloc: Global, target: &mut A) -> Result<End, Wrong> {
     let end = match target.take_over(&mut source) {
         Ok(()) => End::Ample,
         Err(ReallocationError::AllocError) => {
-            let left = if before.counter == 0 {
-                before
-            } else {
-                before.in_order()
-            };
-            if state_of(&source) != of_source || target.seen() != left {
+            if state_of(&source) != of_source || target.seen() != tidied(before) {
                 return Err(Wrong::State(1));
             }
             if target.take_over(&mut source).is_err() {
@@ -287,7 +315,7 @@ fn direct_transfer(alloc: Global) -> Result<End, Wrong> {
 
 // Each clone of this source.
 fn each_clone(alloc: Global, source: &Costlies, report: &mut Report) {
-    report.note("clone", "an arena", clone(alloc, source));
+    report.note("clone", "an arena", clones(alloc, source));
     report.note("clone_from", "an arena", clone_from(alloc, source));
     report.note(
         "clone_from",
@@ -306,6 +334,7 @@ pub fn try_each(alloc: Global, report: &mut Report) {
         Ok(source) => each_clone(alloc, &source, report),
         Err(wrong) => report.note("made", "an arena", Err(wrong)),
     }
+    report.note("clone", "a direct arena", direct_clone(alloc));
     report.note("transfer_reallocating", "an arena", transfer(alloc));
     report.note(
         "transfer_reallocating",

@@ -1,12 +1,11 @@
 //! Calls that take no memory: whichever request is refused, none of them is.
 
+use crate::asking::insert_each;
 use crate::report::{End, Report};
 use crate::sessions::{Asked, answers};
 use crate::strict::Strict;
 use std::alloc::Global;
-use triple_arena::{
-    Arena, ArenaCloneFromWith, ArenaInsertTrait, ArenaSlot, ArenaTrait, CompactArenaTrait,
-};
+use triple_arena::{Arena, ArenaCloneFromWith, ArenaSlot, ArenaTrait, CompactArenaTrait};
 use triple_arena_direct::DirectArena;
 use triple_arena_direct_kit::{Direct, Heap as DirectHeap, with_room as direct_with_room};
 use triple_arena_ptr::{P0, Ptr, PtrGen};
@@ -142,12 +141,7 @@ fn direct(alloc: Global) -> Result<End, Wrong> {
 // Five numbers in an arena with room for eight, of which the second and the fourth are removed.
 fn numbers(alloc: Global) -> Result<Arena<P0, u64>, Wrong> {
     let mut arena: Arena<P0, u64> = Arena::with_min_capacity(alloc, 8)?;
-    for number in [1, 2, 3, 4, 5] {
-        holds(0, arena.insert_within_capacity(number).is_ok())?;
-    }
-    for index in [2, 4] {
-        drop(arena.remove_inx(inx(index)));
-    }
+    insert_each(&mut arena, 5, &[2, 4], |number| number)?;
     Ok(arena)
 }
 
@@ -187,11 +181,16 @@ fn compactions(alloc: Global) -> Result<End, Wrong> {
 
 // Calls of a strict arena with room for eight and no entry.
 const OF_STRICT_ARENAS: &[(Call, Told)] = &[
-    (Call::Insert(1), Told::At(1, 2)),
-    (Call::InsertReallocating(2), Told::At(2, 2)),
+    (Call::InsertWithinCapacity(1), Told::At(1, 2)),
+    (Call::Insert(2), Told::At(2, 2)),
+    (Call::InsertReallocating(3), Told::At(3, 2)),
     (Call::Reallocate(8), Told::Done),
+    (Call::Invalidate(3, 2), Told::At(3, 3)),
     (Call::Remove(1, 2), Told::Holds(1)),
-    (Call::Insert(3), Told::At(1, 3)),
+    (Call::Insert(4), Told::At(1, 4)),
+    (Call::Compress(false), Told::Done),
+    (Call::Clear, Told::Done),
+    (Call::Insert(5), Told::At(1, 6)),
 ];
 
 fn strict(alloc: Global) -> Result<End, Wrong> {
@@ -229,6 +228,16 @@ fn session<T: Asked>(session: &mut T) -> Result<End, Wrong> {
     Ok(End::Ample)
 }
 
+fn general_session(alloc: Global) -> Result<End, Wrong> {
+    let mut new: Session<P0, u64> = Session::new(alloc);
+    session(&mut new)
+}
+
+fn strict_session(alloc: Global) -> Result<End, Wrong> {
+    let mut new: StrictSession<P0, u64> = StrictSession::new(alloc);
+    session(&mut new)
+}
+
 pub fn try_each(alloc: Global, report: &mut Report) {
     let call = "no call";
     report.note(call, "a stack", stack_of::<HeapStack<u64>>(alloc));
@@ -256,8 +265,10 @@ pub fn try_each(alloc: Global, report: &mut Report) {
     report.note(call, "a strict arena", strict(alloc));
     report.note(call, "a copy", copies(alloc));
     report.note(call, "a compaction", compactions(alloc));
-    let mut new: Session<P0, u64> = Session::new(alloc);
-    report.note(call, "a session", session(&mut new));
-    let mut new: StrictSession<P0, u64> = StrictSession::new(alloc);
-    report.note(call, "a strict session", session(&mut new));
+    report.note(call, "a session of five names", general_session(alloc));
+    report.note(
+        call,
+        "a strict session of five names",
+        strict_session(alloc),
+    );
 }

@@ -6,16 +6,12 @@ use std::alloc::Global;
 use std::fmt::Write as _;
 use std::io::{Read, Write};
 use triple_arena::{Arena, ArenaSlot, ArenaTrait};
-use triple_arena_base::AllocError;
 use triple_arena_ptr::{P0, Ptr};
 use triple_arena_session::{
     Command, Node, Reply, Session, StrictSession, TextError, parse_command, run_text,
     run_text_strict,
 };
-use triple_arena_stack::{
-    NonZeroInxArray, NonZeroInxBoxedSlice, NonZeroInxGenericStack, NonZeroInxLimitedVec,
-    NonZeroInxVec,
-};
+use triple_arena_stack::{NonZeroInxArray, NonZeroInxGenericStack};
 use triple_arena_test_kit::free_of;
 use triple_arena_trait_kit::{SLOTS, Wrong, index_number};
 
@@ -25,7 +21,7 @@ type Slot = ArenaSlot<P0, Node<u64, P0>>;
 type Entries<S> = Arena<P0, Node<u64, P0>, S>;
 
 /// What stands under a name.
-type Row = Option<(u64, Option<usize>)>;
+pub type Row = Option<(u64, Option<usize>)>;
 
 /// A session of numbers, of any kind.
 pub trait Asked {
@@ -129,9 +125,9 @@ fn last_index_of<S: NonZeroInxGenericStack<Slot>>(arena: &Entries<S>) -> usize {
 /// All that a session of at most twelve names shows of itself.
 #[derive(Clone, Copy, PartialEq)]
 pub struct View {
-    names: [Row; 13],
-    extent: (usize, usize, u64),
-    free: [usize; SLOTS],
+    pub names: [Row; 13],
+    pub extent: (usize, usize, u64),
+    pub free: [usize; SLOTS],
 }
 
 pub fn seen<T: Asked>(session: &mut T) -> View {
@@ -175,8 +171,8 @@ fn word_of(line: &'static str) -> &'static str {
     }
 }
 
-// A line and the text of its reply. Memory may be refused first, and then names, entries, length, capacity,
-// counter and free list are as they were; a reservation has put the last in order.
+// A line and the text of its reply. Memory may be refused first, and then names, entries, length,
+// capacity, counter and free list are as they were; a reservation has put the last in order.
 pub fn answers<T: Asked>(session: &mut T, line: &'static str, text: &str) -> Result<End, Wrong> {
     let Some(command) = parse_command(line.as_bytes()) else {
         return Err(Wrong::Text(line));
@@ -244,8 +240,8 @@ const ROWS: &[(&str, &str)] = &[
     ("show", "{}"),
 ];
 
-// Each row, in a session of this kind. A text that it shows is on the heap, whatever its stack is, so that one
-// session of all shows it.
+// Each row, in a session of this kind. A text that it shows is on the heap, whatever its stack is,
+// so that one session of all shows it.
 fn each_row<T: Asked>(session: &mut T, kind: &'static str, shows: bool, report: &mut Report) {
     for (line, text) in ROWS {
         let word = word_of(*line);
@@ -255,38 +251,37 @@ fn each_row<T: Asked>(session: &mut T, kind: &'static str, shows: bool, report: 
     }
 }
 
-// In a session with this room, or as `new` makes it.
-fn on_stack<S: NonZeroInxGenericStack<Slot> + Drop>(
-    alloc: Global,
-    room: Option<usize>,
-    (kind, shows): (&'static str, bool),
-    report: &mut Report,
-) {
-    let made: Result<Session<P0, u64, S>, AllocError> = match room {
-        Some(room) => Session::with_min_capacity(alloc, room),
-        None => Ok(Session::new(alloc)),
-    };
-    match made {
-        Ok(mut session) => each_row(&mut session, kind, shows, report),
-        Err(_refused) => report.note("made", kind, Err(Wrong::NoMemory)),
+// A session is made with room for eight.
+fn has_room(alloc: Global) -> Result<End, Wrong> {
+    let session: Session<P0, u64> = Session::with_min_capacity(alloc, 8)?;
+    is_empty_with_eight(session.extent())
+}
+
+fn strict_has_room(alloc: Global) -> Result<End, Wrong> {
+    let session: StrictSession<P0, u64> = StrictSession::with_min_capacity(alloc, 8)?;
+    is_empty_with_eight(session.extent())
+}
+
+// That a session has no entry, room for eight, and the first counter.
+fn is_empty_with_eight(extent: (usize, usize, u64)) -> Result<End, Wrong> {
+    if extent == (0, 8, 2) {
+        Ok(End::Ample)
+    } else {
+        Err(Wrong::State(0))
     }
 }
 
 pub fn try_each(alloc: Global, report: &mut Report) {
-    on_stack::<NonZeroInxVec<Slot>>(alloc, None, ("a session", true), report);
-    on_stack::<NonZeroInxLimitedVec<Slot>>(
-        alloc,
-        Some(8),
-        ("a session under a limit", false),
-        report,
+    let mut session: Session<P0, u64> = Session::new(alloc);
+    each_row(&mut session, "a session", true, report);
+    let mut session: Session<P0, u64, NonZeroInxArray<Slot, 8>> = Session::new(alloc);
+    each_row(&mut session, "a session in an array", false, report);
+    let mut session: StrictSession<P0, u64> = StrictSession::new(alloc);
+    each_row(&mut session, "a strict session", true, report);
+    report.note("no call", "a session with room", has_room(alloc));
+    report.note(
+        "no call",
+        "a strict session with room",
+        strict_has_room(alloc),
     );
-    on_stack::<NonZeroInxBoxedSlice<Slot>>(
-        alloc,
-        Some(8),
-        ("a session of fixed room", false),
-        report,
-    );
-    on_stack::<NonZeroInxArray<Slot, 8>>(alloc, None, ("a session in an array", false), report);
-    let mut strict: StrictSession<P0, u64> = StrictSession::new(alloc);
-    each_row(&mut strict, "a strict session", true, report);
 }

@@ -2,7 +2,7 @@
 
 use crate::report::{End, Report};
 use std::alloc::Global;
-use triple_arena_base::{AllocError, MaxCapacityReductionError, ReallocationError};
+use triple_arena_base::{MaxCapacityReductionError, ReallocationError};
 use triple_arena_stack::{
     HeapStack, LimitedStack, NonZeroInxGenericStack, NonZeroInxGenericStackPushEntryTrait,
     NonZeroInxStack, SetMaxCapacity,
@@ -99,8 +99,8 @@ fn fill<K: NonZeroInxGenericStack<u64>>(stack: &mut NonZeroInxStack<u64, K>) -> 
     Ok(())
 }
 
-// Fills a stack, and makes the call, and once more where memory is refused, which leaves it as it was.
-// Reallocations leave the items.
+// Fills a stack, and makes the call, and once more where memory is refused, which leaves it as it
+// was. Reallocations leave the items.
 fn call_twice<K: NonZeroInxGenericStack<u64>>(
     stack: &mut NonZeroInxStack<u64, K>,
     call: Call,
@@ -134,7 +134,7 @@ fn call_twice<K: NonZeroInxGenericStack<u64>>(
 
 // Each call of a stack that was made with room for four.
 fn each<K: NonZeroInxGenericStack<u64> + Drop>(
-    made: Result<NonZeroInxStack<u64, K>, AllocError>,
+    made: Result<NonZeroInxStack<u64, K>, Wrong>,
     limit: Option<usize>,
     kind: &'static str,
     report: &mut Report,
@@ -145,15 +145,15 @@ fn each<K: NonZeroInxGenericStack<u64> + Drop>(
                 report.note(*name, kind, call_twice(&mut stack, *call, limit));
             }
         }
-        Err(AllocError) => report.note("made", kind, Err(Wrong::NoMemory)),
+        Err(wrong) => report.note("made", kind, Err(wrong)),
     }
 }
 
-fn heap(alloc: Global) -> Result<NonZeroInxStack<u64, HeapStack<u64>>, AllocError> {
-    NonZeroInxStack::with_min_capacity(alloc, 4)
+fn heap(alloc: Global) -> Result<NonZeroInxStack<u64, HeapStack<u64>>, Wrong> {
+    Ok(NonZeroInxStack::with_min_capacity(alloc, 4)?)
 }
 
-fn limited(alloc: Global) -> Result<NonZeroInxStack<u64, LimitedStack<u64>>, AllocError> {
+fn limited(alloc: Global) -> Result<NonZeroInxStack<u64, LimitedStack<u64>>, Wrong> {
     let mut stack = NonZeroInxStack::with_min_capacity(alloc, 4)?;
     let _is_above: Result<(), MaxCapacityReductionError> = stack.set_max_capacity(200);
     Ok(stack)

@@ -4,9 +4,17 @@ use std::alloc::Global;
 use triple_arena::{ArenaSlot, ArenaTrait};
 use triple_arena_ptr::{P0, Ptr};
 use triple_arena_stack::NonZeroInxGenericStack;
-use triple_arena_strict::StrictArena;
+use triple_arena_strict::{StrictArena, StrictError};
 use triple_arena_test_kit::state_of;
 use triple_arena_trait_kit::{Call, State, TestedArena, Token, Told, Wrong, told_pointer};
+
+// What a call tells that may raise the counter.
+fn told_raise(raised: Result<(), StrictError>) -> Told {
+    match raised {
+        Ok(()) => Told::Done,
+        Err(_refused) => Told::Wrapped,
+    }
+}
 
 /// A strict arena of numbers.
 #[derive(Drop)]
@@ -36,6 +44,18 @@ impl<S: NonZeroInxGenericStack<ArenaSlot<P0, Token>>> TestedArena for Strict<S> 
                     Err(refused) => Told::Refused(refused),
                 }
             }
+            Call::InsertWithinCapacity(number) => {
+                match self.arena.insert_within_capacity(Token { number }) {
+                    Ok(p) => told_pointer(p),
+                    Err(_refused) => Told::Full,
+                }
+            }
+            Call::Invalidate(_, _) => match self.arena.invalidate(p) {
+                Ok(p) => told_pointer(p),
+                Err(_refused) => Told::Invalid,
+            },
+            Call::Clear => told_raise(self.arena.clear()),
+            Call::Compress(_) => told_raise(self.arena.compress()),
             Call::Remove(_, _) => match self.arena.remove(p) {
                 Ok(token) => Told::Holds(token.number),
                 Err(_refused) => Told::Invalid,

@@ -45,7 +45,7 @@ impl Trial for Answered<'_> {
 
 /// An index of 128 bits is there for more entries than any machine has memory for.
 #[test]
-fn a_wide_index_has_no_greatest_capacity(rt: HostRuntime) {
+fn a_session_of_wide_indexes_answers_as_others(rt: HostRuntime) {
     let trial = Answered {
         text: b"insert 1 -\ninsert 2 1\ninsert 3 2\nreserve 18446744073709551615\nremove 1\n\
             set 2 2 3\ncompact\nget 2\nget 3\ncapacity\n",
@@ -107,7 +107,8 @@ impl Trial for AtTheEnd<'_> {
     }
 }
 
-/// The byte counter is at its end after 253 raises, and the next tells of a wrap, which ends the run.
+/// The byte counter is at its end after 253 raises, and the next tells of a wrap, which ends the
+/// run.
 #[test]
 fn each_command_that_raises_the_counter_tells_of_a_wrap(rt: HostRuntime) {
     let rows: [Row<'_>; 4] = [

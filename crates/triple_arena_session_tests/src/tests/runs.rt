@@ -184,10 +184,12 @@ fn runs_to(
     (end, output.flushes == 0 && output.is_front_of(lines))
 }
 
-// Three insertions run over a writer that takes so many writes of two bytes: this is their end, and
-// so many of them have run.
+// A text of these reply lines runs over a writer that takes so many writes of a byte: this is the
+// end, and so many of its insertions of 1 have run.
 #[derive(Drop)]
 struct StopsWriting {
+    text: &'static [u8],
+    lines: &'static [u8],
     writes_before: usize,
     failure: WriteFailure,
     end: End,
@@ -196,33 +198,38 @@ struct StopsWriting {
 
 impl Trial for StopsWriting {
     fn pass(&self, rt: &impl Abort, alloc: Global, session: &mut impl Asked) {
-        let ended = runs_to(
-            alloc,
-            session,
-            b"insert 1 -\ninsert 1 -\ninsert 1 -\n",
-            ShortWriter::of_pieces(2, self.writes_before, self.failure),
-            b"given 1\ngiven 2\ngiven 3\n",
-        );
+        let output = ShortWriter::of_pieces(1, self.writes_before, self.failure);
+        let ended = runs_to(alloc, session, self.text, output, self.lines);
         assert!(rt; ended == (self.end, true), "at {}", self.writes_before);
         finds_up_to(rt, session, 1, self.ran, 4);
     }
 }
 
-/// Each write of two bytes fails in turn, by errors of several kinds, or takes nothing. The command
+// Three insertions, and the lines of their replies, of eight bytes each.
+const INSERTIONS: &[u8] = b"insert 1 -\ninsert 1 -\ninsert 1 -\n";
+
+const GIVEN: &[u8] = b"given 1\ngiven 2\ngiven 3\n";
+
+// How a write fails.
+const FAILURES: [WriteFailure; 3] = [
+    WriteFailure::Error(ErrorKind::Other),
+    WriteFailure::Error(ErrorKind::BrokenPipe),
+    WriteFailure::TakesNone,
+];
+
+/// Each write of a byte fails in turn, by errors of several kinds, or takes nothing. The command
 /// whose reply was being written has run, and no later one.
 #[test]
 fn runs_no_further_where_a_write_fails(rt: HostRuntime) {
-    for failure in [
-        WriteFailure::Error(ErrorKind::Other),
-        WriteFailure::Error(ErrorKind::BrokenPipe),
-        WriteFailure::TakesNone,
-    ] {
-        for writes_before in 0..12 {
-            let answered = writes_before / 4;
+    for failure in FAILURES {
+        for writes_before in 0..24 {
+            let answered = writes_before / 8;
             let trial = StopsWriting {
+                text: INSERTIONS,
+                lines: GIVEN,
                 writes_before,
                 failure,
-                end: (Err(TextError::Write), answered, writes_before * 2),
+                end: (Err(TextError::Write), answered, writes_before),
                 ran: answered + 1,
             };
             tries(&rt, rt.alloc(), &trial);
@@ -230,9 +237,32 @@ fn runs_no_further_where_a_write_fails(rt: HostRuntime) {
     }
 }
 
+/// The same where the entries are shown between two insertions: the line of the first reply ends
+/// with the eighth byte, and that of the entries, of 22 bytes, with the thirtieth.
+#[test]
+fn runs_no_further_where_the_entries_are_not_written(rt: HostRuntime) {
+    for failure in FAILURES {
+        for (first, last, answered, ran) in [(0, 7, 0, 1), (8, 29, 1, 1), (30, 37, 2, 2)] {
+            for writes_before in first..=last {
+                let trial = StopsWriting {
+                    text: b"insert 1 -\nshow\ninsert 1 -\n",
+                    lines: b"given 1\n{P0[1](2): (1, None)}\ngiven 2\n",
+                    writes_before,
+                    failure,
+                    end: (Err(TextError::Write), answered, writes_before),
+                    ran,
+                };
+                tries(&rt, rt.alloc(), &trial);
+            }
+        }
+    }
+}
+
 // Three insertions run to their end over a writer that is refused this write so.
 fn writes_on(rt: &impl Abort, alloc: Global, writes_before: usize, failure: WriteFailure) {
     let trial = StopsWriting {
+        text: INSERTIONS,
+        lines: GIVEN,
         writes_before,
         failure,
         end: (Ok(()), 3, 24),
@@ -244,7 +274,7 @@ fn writes_on(rt: &impl Abort, alloc: Global, writes_before: usize, failure: Writ
 /// Each write in turn is interrupted, and made again.
 #[test]
 fn writes_on_after_an_interruption(rt: HostRuntime) {
-    for writes_before in 0..12 {
+    for writes_before in 0..24 {
         writes_on(&rt, rt.alloc(), writes_before, WriteFailure::Interrupted);
     }
 }
@@ -252,7 +282,7 @@ fn writes_on_after_an_interruption(rt: HostRuntime) {
 #[test]
 fn asks_for_no_write_past_its_last(rt: HostRuntime) {
     let failure = WriteFailure::Error(ErrorKind::Other);
-    writes_on(&rt, rt.alloc(), 12, failure);
+    writes_on(&rt, rt.alloc(), 24, failure);
 }
 
 // A text ends so, and these lines are written.
@@ -295,28 +325,29 @@ fn a_line_that_is_cut_is_malformed_or_another(rt: HostRuntime) {
     }
 }
 
+/// The command before it has run, and the one after it doesn't.
 #[test]
-fn a_malformed_line_runs_nothing(rt: HostRuntime) {
-    let lines: [&[u8]; 13] = [
-        b"get  1",
-        b" get 1",
-        b"get 1 ",
-        b"get 1\r",
-        b"GET 1",
-        b"get +1",
-        b"get -",
-        b"get 18446744073709551616",
-        b"insert 1",
-        b"insert 1 - 2",
-        b"insert 1 --",
-        b"len 1",
-        b"\x80",
+fn a_malformed_line_ends_the_run(rt: HostRuntime) {
+    let texts: [&[u8]; 13] = [
+        b"insert 1 -\nget  1\nlen\n",
+        b"insert 1 -\n get 1\nlen\n",
+        b"insert 1 -\nget 1 \nlen\n",
+        b"insert 1 -\nget 1\r\nlen\n",
+        b"insert 1 -\nGET 1\nlen\n",
+        b"insert 1 -\nget +1\nlen\n",
+        b"insert 1 -\nget -\nlen\n",
+        b"insert 1 -\nget 18446744073709551616\nlen\n",
+        b"insert 1 -\ninsert 1\nlen\n",
+        b"insert 1 -\ninsert 1 - 2\nlen\n",
+        b"insert 1 -\ninsert 1 --\nlen\n",
+        b"insert 1 -\nlen 1\nlen\n",
+        b"insert 1 -\n\x80\nlen\n",
     ];
-    for text in lines {
+    for text in texts {
         let trial = Ends {
             text,
-            outcome: Err(TextError::Malformed(1)),
-            lines: b"",
+            outcome: Err(TextError::Malformed(2)),
+            lines: b"given 1\n",
         };
         tries(&rt, rt.alloc(), &trial);
     }

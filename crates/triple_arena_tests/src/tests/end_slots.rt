@@ -33,10 +33,7 @@ fn a_middle_index_and_the_last_leave_the_free_list(rt: HostRuntime) -> Result<()
         rt.alloc(),
         &[
             Part::Removed(8, &[6, 2, 7, 4, 8]),
-            Part::Steps(&[
-                (Call::Slots, Told::Size(7)),
-                (Call::Root, Told::Size(4)),
-            ]),
+            Part::Steps(&[(Call::Slots, Told::Size(7)), (Call::Root, Told::Size(4))]),
             Part::Free(&[4, 7, 2, 6]),
             Part::Steps(&[
                 (Call::RemoveFreeEnd, Told::Done),

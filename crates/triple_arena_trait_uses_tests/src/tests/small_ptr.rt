@@ -4,7 +4,7 @@ use std::num::NonZeroU32;
 use std::process::Abort;
 use std::test::Fail;
 use triple_arena::{Arena, ArenaSlot, ArenaTrait};
-use triple_arena_ptr::{Ptr, PtrGen};
+use triple_arena_ptr::{P0, Ptr, PtrGen};
 use triple_arena_stack::{NonZeroInxGenericStack, NonZeroInxVec};
 use triple_arena_trait_uses::small_ptr::SmallPtr;
 
@@ -35,6 +35,7 @@ fn is_written_with_its_name(rt: HostRuntime) -> Result<(), Fail> {
 }
 
 #[test]
-fn a_slot_of_a_number_takes_16_bytes(rt: HostRuntime) {
+fn a_slot_of_a_number_takes_16_bytes_and_24_under_p0(rt: HostRuntime) {
     assert_eq!(rt; size_of::<Slot>(), 16);
+    assert_eq!(rt; size_of::<ArenaSlot<P0, u64>>(), 24);
 }

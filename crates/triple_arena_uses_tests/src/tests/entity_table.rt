@@ -125,7 +125,10 @@ fn a_trimmed_table_takes_the_next_index(rt: HostRuntime) {
         NonZeroUsize::MIN.saturating_add(1),
         NonZeroU64::MIN.saturating_add(5),
     );
-    assert_eq!(rt; after_trim::<NonZeroInxVec<Slot>>(rt.alloc()), Some((next, true)));
+    assert_eq!(rt;
+        after_trim::<NonZeroInxVec<Slot>>(rt.alloc()),
+        Some((next, true))
+    );
 }
 
 // Whether two places of three are given, and one again after a despawn.

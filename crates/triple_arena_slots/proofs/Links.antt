@@ -183,28 +183,33 @@ module _ {P T I G : Type 0} where
             let same : i ≡ j = same_Some _ _ linked.0 in
             (sym same, subst (λ m. Shows number es2 root2 (len + 1) (inserted_among (m ∷ rest) s v)) same (filled rest (e ∙ ap (λ m. m ∷ rest) (sym same))))
 
-    -- so many slots are touched where an insertion takes the first free one
+    -- the link of the first free slot leads back to none
+    pub first_link : (es : List (ArenaSlot P T I G)) (i len : ℕ) (link : Link) (s : ArenaState T) → item es i ≡ Some (Free link) → Shows number es (Some i) len s → previous_free link i ≡ None
+    first_link es i len link s found shows = sym back ∙ by_free s.free (subst (λ f. IsLinked es (Some i) f) refl shows.linked)
+      where
+        back : before es i ≡ previous_free link i
+        back = ap (option_and_then (λ slot. previous_in slot i)) found
+
+        by_free : (f : List ℕ) → IsLinked es (Some i) f → before es i ≡ None
+        by_free [] linked = absurd (cc)
+        by_free (j ∷ []) linked = subst (λ m. before es m ≡ None) (sym (same_Some _ _ linked.0)) linked.1
+        by_free (j ∷ k ∷ rest) linked = subst (λ m. before es m ≡ None) (sym (same_Some _ _ linked.0)) linked.1
+
+    -- so many slots are touched where an insertion takes it
     pub steps-filled : (es : List (ArenaSlot P T I G)) (i len : ℕ) (link : Link) (s : ArenaState T) → item es i ≡ Some (Free link) → Shows number es (Some i) len s → 1 + (touch_if (previous_free link i) + touch_if (next_free link i)) ≡ insertion_steps s
-    steps-filled es i len link s found shows = by_free s.free (subst (λ f. IsLinked es (Some i) f) refl shows.linked)
+    steps-filled es i len link s found shows = rw (first_link es i len link s found shows) (by_free s.free (subst (λ f. IsLinked es (Some i) f) refl shows.linked))
       where
         on : after es i ≡ next_free link i
         on = ap (option_and_then (λ slot. next_in slot i)) found
 
-        back : before es i ≡ previous_free link i
-        back = ap (option_and_then (λ slot. previous_in slot i)) found
-
-        by_free : (f : List ℕ) → IsLinked es (Some i) f → 1 + (touch_if (previous_free link i) + touch_if (next_free link i)) ≡ steps_among f
+        by_free : (f : List ℕ) → IsLinked es (Some i) f → 1 + (0 + touch_if (next_free link i)) ≡ steps_among f
         by_free [] linked = absurd (cc)
         by_free (j ∷ []) linked =
-            let same : j ≡ i = sym (same_Some _ _ linked.0) in
-            let first : previous_free link i ≡ None = sym back ∙ subst (λ m. before es m ≡ None) same linked.1 in
-            let last : next_free link i ≡ None = sym on ∙ subst (λ m. after es m ≡ None) same linked.2 in
-            rw (first, last) refl
+            let last : next_free link i ≡ None = sym on ∙ subst (λ m. after es m ≡ None) (sym (same_Some _ _ linked.0)) linked.2 in
+            rw last refl
         by_free (j ∷ k ∷ rest) linked =
-            let same : j ≡ i = sym (same_Some _ _ linked.0) in
-            let first : previous_free link i ≡ None = sym back ∙ subst (λ m. before es m ≡ None) same linked.1 in
-            let next : next_free link i ≡ Some k = sym on ∙ subst (λ m. after es m ≡ Some k) same linked.2.0 in
-            rw (first, next) refl
+            let next : next_free link i ≡ Some k = sym on ∙ subst (λ m. after es m ≡ Some k) (sym (same_Some _ _ linked.0)) linked.2.0 in
+            rw next refl
 
     -- with no free slot one is touched
     pub steps-pushed : (es : List (ArenaSlot P T I G)) (len : ℕ) (s : ArenaState T) → Shows number es None len s → insertion_steps s ≡ 1

@@ -105,7 +105,7 @@ impl<P: Ptr, T, S: NonZeroInxGenericStack<ArenaSlot<P, T>>> Slots<P, T, S> {
             None => self.push(slot),
             Some(inx) => {
                 let link = self.put(inx, slot).into_link();
-                self.unlink(link, inx);
+                self.unlink_first(link, inx);
             }
         }
     }
@@ -230,7 +230,8 @@ impl<P: Ptr, T, S: NonZeroInxGenericStack<ArenaSlot<P, T>>> Slots<P, T, S> {
     }
 
     // Puts a free slot at an index, as the first of the free list, and gives the slot that it
-    // replaces.
+    // replaces. What was first is told as it is known in each case, so that the compiler branches on
+    // it: a choice between two indexes would make each removal wait for the insertion before it.
     fn free(&mut self, inx: NonZeroUsize) -> ArenaSlot<P, T>
         requires indexed { length (S.items self.old.stack) ≤ greatest_index P.Inx.greatest }
         requires there { IsSome (item (S.items self.old.stack) (non_zero_usize_get inx)) }
@@ -246,7 +247,27 @@ impl<P: Ptr, T, S: NonZeroInxGenericStack<ArenaSlot<P, T>>> Slots<P, T, S> {
         ensures limit { S.limit self.new.stack ≡ S.limit self.old.stack }
         ensures steps { RisesByAtMost 2 self.old.steps.count self.new.steps.count }
     {
-        let next = self.root;
+        match self.root {
+            None => self.free_before(None, inx),
+            Some(next) => self.free_before(Some(next), inx),
+        }
+    }
+
+    // Puts a free slot at an index, as the first of the free list, before this one, if there is one.
+    fn free_before(&mut self, next: Option<NonZeroUsize>, inx: NonZeroUsize) -> ArenaSlot<P, T>
+        requires indexed { length (S.items self.old.stack) ≤ greatest_index P.Inx.greatest }
+        requires there { IsSome (item (S.items self.old.stack) (non_zero_usize_get inx)) }
+        requires other { option_map non_zero_usize_get next ≢ Some (non_zero_usize_get inx) }
+        requires next_free { (j : ℕ) → option_map non_zero_usize_get next ≡ Some j
+            → item (map (entry_of P.Gen.number) (S.items self.old.stack)) j ≡ Some None }
+        ensures slot { item (S.items self.old.stack) (non_zero_usize_get inx) ≡ Some result }
+        ensures begins { Begins P.Gen.number (S.items self.old.stack) (S.items self.new.stack)
+            (option_map non_zero_usize_get next) (non_zero_usize_get inx) }
+        ensures root { self.new.root ≡ Some inx }
+        ensures room { S.room self.new.stack ≡ S.room self.old.stack }
+        ensures limit { S.limit self.new.stack ≡ S.limit self.old.stack }
+        ensures steps { RisesByAtMost 2 self.old.steps.count self.new.steps.count }
+    {
         let slot = ArenaSlot::Free(FreeLink::first(next, inx));
         self.root = Some(inx);
         let old = self.put(inx, slot);
@@ -276,6 +297,27 @@ impl<P: Ptr, T, S: NonZeroInxGenericStack<ArenaSlot<P, T>>> Slots<P, T, S> {
         let inx = index_of(self.len()).unwrap();
         let link = self.pop().into_link();
         self.unlink(link, inx);
+    }
+
+    // Takes the first free slot, which had this link at this index, out of the free list: the one
+    // after it is the first then. It is what `unlink` does of it, in fewer instructions.
+    fn unlink_first(&mut self, link: FreeLink<P::Inx>, inx: NonZeroUsize)
+        requires first { previous_free link (non_zero_usize_get inx) ≡ None }
+        requires indexed { length (S.items self.old.stack) ≤ greatest_index P.Inx.greatest }
+        requires can_leave { CanLeave P.Gen.number (S.items self.old.stack)
+            (next_free link (non_zero_usize_get inx)) (previous_free link (non_zero_usize_get inx)) }
+        ensures leaves { Leaves P.Gen.number (S.items self.old.stack) (S.items self.new.stack)
+            (option_map non_zero_usize_get self.old.root)
+            (option_map non_zero_usize_get self.new.root)
+            (next_free link (non_zero_usize_get inx)) (previous_free link (non_zero_usize_get inx)) }
+        ensures room { S.room self.new.stack ≡ S.room self.old.stack }
+        ensures limit { S.limit self.new.stack ≡ S.limit self.old.stack }
+        ensures steps { self.new.steps.count ≡ self.old.steps.count
+            + (touch_if (previous_free link (non_zero_usize_get inx))
+            + touch_if (next_free link (non_zero_usize_get inx))) }
+    {
+        self.root = link.after(inx);
+        self.link_back(self.root, None);
     }
 
     // Takes the free slot that had this link at this index out of the free list: the one before it

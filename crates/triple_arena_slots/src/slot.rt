@@ -46,9 +46,13 @@ impl<I: PtrInx> FreeLink<I> {
             ≡ option_map non_zero_usize_get next }
         ensures previous { previous_free result (non_zero_usize_get inx) ≡ None }
     {
+        let own = index_of(inx);
         FreeLink {
-            previous: index_of(inx),
-            next: index_of(next.unwrap_or(inx)),
+            previous: own,
+            next: match next {
+                Some(next) => index_of(next),
+                None => own,
+            },
         }
     }
 

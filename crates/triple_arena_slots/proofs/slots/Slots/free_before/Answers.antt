@@ -6,7 +6,7 @@ use Rattle.triple_arena_traits.specs.ItemLaws.{map-with_item, item-with_other, l
 use Rattle.triple_arena_slots.specs.Slot.{entry_of}
 use Rattle.triple_arena_slots.specs.declared.slot.ArenaSlot.TheVariants.{Free}
 use Rattle.triple_arena_slots.proofs.Unlinking.{Begins-put, there_indexed, free_indexed}
-use Rattle.triple_arena_slots.proofs.slots.Slots.free.Goals as goal
+use Rattle.triple_arena_slots.proofs.slots.Slots.free_before.Goals as goal
 
 pub link_back-requires-clause-free : goal.link_back-requires-clause-free
 link_back-requires-clause-free g c κs within = λ j e.
@@ -16,7 +16,7 @@ link_back-requires-clause-free g c κs within = λ j e.
     let put = ap g.S.NonZeroInxGenericStack.items c.put-old.ensures.stack ∙ g.met.S.NonZeroInxGenericStack.items_with_items _ _ in
     let other : j ≢ inx = λ h. c.requires.other (e ∙ ap Some h) in
     let f = entry_of g.P.Gen.PtrGen.number in
-    rw put (rw (map-with_item f items inx slot) (item-with_other _ inx j (f slot) other ∙ c.requires.root_free j e))
+    rw put (rw (map-with_item f items inx slot) (item-with_other _ inx j (f slot) other ∙ c.requires.next_free j e))
 
 pub returns-clause-begins : goal.returns-clause-begins
 returns-clause-begins g c =
@@ -31,7 +31,7 @@ first-requires-clause-indexed g c κs within =
 
 pub first-requires-clause-next_indexed : goal.first-requires-clause-next_indexed
 first-requires-clause-next_indexed g c κs within = λ j e.
-    free_indexed g.P.Gen.PtrGen.number (g.S.NonZeroInxGenericStack.items c.args.self.now.stack) j _ c.requires.indexed (c.requires.root_free j e)
+    free_indexed g.P.Gen.PtrGen.number (g.S.NonZeroInxGenericStack.items c.args.self.now.stack) j _ c.requires.indexed (c.requires.next_free j e)
 
 pub link_back-requires-clause-indexed : goal.link_back-requires-clause-indexed
 link_back-requires-clause-indexed g c κs within =

@@ -1,5 +1,6 @@
 //! Walks over arenas: advancers, iterators and drains.
 
+mod by_value;
 mod iter;
 mod iter_mut;
 

@@ -1,5 +1,6 @@
 //! Walks over direct arenas.
 
+mod by_value;
 mod iter;
 mod iter_mut;
 

@@ -6,7 +6,8 @@ use std::fmt::Debug;
 use triple_arena_direct::{DirectArena, DirectSlot};
 use triple_arena_ptr::Ptr;
 use triple_arena_stack::{
-    NonZeroInxArray, NonZeroInxGenericStack, NonZeroInxLimitedVec, NonZeroInxVec,
+    NonZeroInxArray, NonZeroInxBoxedSlice, NonZeroInxGenericStack, NonZeroInxLimitedVec,
+    NonZeroInxVec,
 };
 use triple_arena_trait_kit::{Scarce, Token, Wrong, is_text};
 use triple_arena_traits::ArenaTrait;
@@ -14,6 +15,8 @@ use triple_arena_traits::ArenaTrait;
 pub type Heap<P> = NonZeroInxVec<DirectSlot<P, Token>>;
 
 pub type Limited<P> = NonZeroInxLimitedVec<DirectSlot<P, Token>>;
+
+pub type Fixed<P> = NonZeroInxBoxedSlice<DirectSlot<P, Token>>;
 
 pub type InArray<P, const N: usize> = NonZeroInxArray<DirectSlot<P, Token>, N>;
 

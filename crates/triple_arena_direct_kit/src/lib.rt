@@ -7,7 +7,7 @@ mod asked;
 mod placing;
 mod tested_direct;
 
-pub use arenas::{Heap, InArray, Limited, Little, has_text, with_room};
+pub use arenas::{Fixed, Heap, InArray, Limited, Little, has_text, with_room};
 pub use asked::{AnyDirect, Asked, AskedToClone};
 pub use placing::Placing;
 pub use tested_direct::{Direct, DirectWithLimit, direct_state_of};

@@ -4,6 +4,7 @@
 pub mod first_arena;
 pub mod graph;
 pub mod guest_book;
+pub mod into_values;
 pub mod leases;
 pub mod moving;
 pub mod netlist;

@@ -5,6 +5,7 @@ mod first_arena;
 mod gates;
 mod graph;
 mod guest_book;
+mod into_values;
 mod leases;
 mod named_entries;
 mod netlist;

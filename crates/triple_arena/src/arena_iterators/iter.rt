@@ -8,7 +8,7 @@ use triple_arena_ptr::Ptr;
 use triple_arena_slots::ArenaSlot;
 use triple_arena_stack::NonZeroInxGenericStack;
 use triple_arena_traits::CompactArenaTrait;
-use triple_arena_traits::arena_iterators::{CapacityDrain, Iter};
+use triple_arena_traits::arena_iterators::Iter;
 
 impl<'a, P: Ptr, T, S: NonZeroInxGenericStack<ArenaSlot<P, T>>> IntoIterator
     for &'a Arena<P, T, S> {
@@ -20,18 +20,5 @@ impl<'a, P: Ptr, T, S: NonZeroInxGenericStack<ArenaSlot<P, T>>> IntoIterator
 
     fn into_iter(self) -> Iter<'a, P, T, Arena<P, T, S>> {
         self.iter()
-    }
-}
-
-impl<P: Ptr, T: Drop, S: NonZeroInxGenericStack<ArenaSlot<P, T>> + Drop> IntoIterator
-    for Arena<P, T, S> {
-    type Item = (P, T);
-
-    type IntoIter = CapacityDrain<P, T, Arena<P, T, S>>;
-
-    ghost into_iter_gives = { λ arena drain. drain ≡ entries arena.slots };
-
-    fn into_iter(self) -> CapacityDrain<P, T, Arena<P, T, S>> {
-        CapacityDrain::over(self)
     }
 }

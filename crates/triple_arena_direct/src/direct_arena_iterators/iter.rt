@@ -8,7 +8,7 @@ use crate::slot::DirectSlot;
 use triple_arena_ptr::Ptr;
 use triple_arena_stack::NonZeroInxGenericStack;
 use triple_arena_traits::CompactArenaTrait;
-use triple_arena_traits::arena_iterators::{CapacityDrain, Iter};
+use triple_arena_traits::arena_iterators::Iter;
 
 impl<'a, P: Ptr, T, S: NonZeroInxGenericStack<DirectSlot<P, T>>> IntoIterator
     for &'a DirectArena<P, T, S> {
@@ -20,18 +20,5 @@ impl<'a, P: Ptr, T, S: NonZeroInxGenericStack<DirectSlot<P, T>>> IntoIterator
 
     fn into_iter(self) -> Iter<'a, P, T, DirectArena<P, T, S>> {
         self.iter()
-    }
-}
-
-impl<P: Ptr, T: Drop, S: NonZeroInxGenericStack<DirectSlot<P, T>> + Drop> IntoIterator
-    for DirectArena<P, T, S> {
-    type Item = (P, T);
-
-    type IntoIter = CapacityDrain<P, T, DirectArena<P, T, S>>;
-
-    ghost into_iter_gives = { λ arena drain. drain ≡ entries arena.slots };
-
-    fn into_iter(self) -> CapacityDrain<P, T, DirectArena<P, T, S>> {
-        CapacityDrain::over(self)
     }
 }

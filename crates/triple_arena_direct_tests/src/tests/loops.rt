@@ -3,7 +3,7 @@
 use std::alloc::Global;
 use triple_arena_base::InvalidationOption;
 use triple_arena_direct::{DirectArena, DirectSlot};
-use triple_arena_direct_kit::{Direct, Heap, with_room};
+use triple_arena_direct_kit::{Direct, Fixed, Heap, InArray, Limited, with_room};
 use triple_arena_ptr::P0;
 use triple_arena_stack::NonZeroInxGenericStack;
 use triple_arena_trait_kit::{Call, Token, Told, Wrong, follow, is_told};
@@ -13,6 +13,15 @@ use triple_arena_traits::CompactArenaTrait;
 fn sum_of<S: NonZeroInxGenericStack<DirectSlot<P0, Token>>>(
     arena: &DirectArena<P0, Token, S>,
 ) -> u64 {
+    let mut sum = 0u64;
+    for (_p, token) in arena {
+        sum = sum.wrapping_add(token.number);
+    }
+    sum
+}
+
+// The same of a loop that takes the arena.
+fn sum_taken<A: IntoIterator<Item = (P0, Token)>>(arena: A) -> u64 {
     let mut sum = 0u64;
     for (_p, token) in arena {
         sum = sum.wrapping_add(token.number);
@@ -42,9 +51,16 @@ const THREE: &[(Call, Told)] = &[
     (Call::DirectInsert(2, 5, 20), Told::Holds(20)),
 ];
 
-fn three_are_met(alloc: Global) -> Result<(), Wrong> {
-    let mut direct: Direct<P0, Heap<P0>> = with_room(alloc, 4)?;
+fn three_over<S: NonZeroInxGenericStack<DirectSlot<P0, Token>> + Drop>(
+    alloc: Global,
+) -> Result<Direct<P0, S>, Wrong> {
+    let mut direct: Direct<P0, S> = with_room(alloc, 4)?;
     follow(&mut direct, THREE)?;
+    Ok(direct)
+}
+
+fn three_are_met(alloc: Global) -> Result<(), Wrong> {
+    let mut direct = three_over::<Heap<P0>>(alloc)?;
     let sum = sum_of(&direct.arena);
     is_told(0, Told::Holds(sum), Told::Holds(421))?;
     let sum = sum_of_rest(&mut direct.arena);
@@ -55,4 +71,17 @@ fn three_are_met(alloc: Global) -> Result<(), Wrong> {
 #[test]
 fn a_loop_meets_each_entry_once(rt: HostRuntime) -> Result<(), Wrong> {
     three_are_met(rt.alloc())
+}
+
+fn is_sum_of_three(sum: u64) -> Result<(), Wrong> {
+    is_told(0, Told::Holds(sum), Told::Holds(421))
+}
+
+#[test]
+fn a_loop_by_value_meets_each_entry_over_each_stack(rt: HostRuntime) -> Result<(), Wrong> {
+    let alloc = rt.alloc();
+    is_sum_of_three(sum_taken(three_over::<Heap<P0>>(alloc)?.arena))?;
+    is_sum_of_three(sum_taken(three_over::<Limited<P0>>(alloc)?.arena))?;
+    is_sum_of_three(sum_taken(three_over::<Fixed<P0>>(alloc)?.arena))?;
+    is_sum_of_three(sum_taken(three_over::<InArray<P0, 4>>(alloc)?.arena))
 }

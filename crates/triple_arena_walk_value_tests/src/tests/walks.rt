@@ -7,9 +7,9 @@ use triple_arena::{Arena, ArenaInsertTrait, ArenaSlot, CompactArenaTrait, Disjoi
 use triple_arena_ptr::{P0, Ptr, Q2};
 use triple_arena_stack::NonZeroInxGenericStack;
 use triple_arena_test_kit::{
-    Asked, B, Call, Heap, NO_ENTRY, NO_POINTER, NO_VALUE, NOT_DRAINED, Numbered, Removed, Steps,
-    Tested, TestedArena, Token, Told, Trial, Wide, Wrong, answer_by_traits, ask, from_empty, inx,
-    is_told, new_arena, next_steps, on_heap, step,
+    Asked, B, Call, Fixed, Heap, Limited, NO_ENTRY, NO_POINTER, NO_VALUE, NOT_DRAINED, Numbered,
+    Places, Removed, Steps, Tested, TestedArena, Token, Told, Trial, Wide, Wrong, answer_by_traits,
+    ask, from_empty, inx, is_told, new_arena, next_steps, on_heap, step, with_room,
 };
 
 const ONE: (usize, u64) = (1, 2);
@@ -231,21 +231,44 @@ fn sums<S: NonZeroInxGenericStack<ArenaSlot<P0, Token>>>(
     (indexes, numbers)
 }
 
-// The sums over the entries at 2, 4 and 5, each of its index.
-fn sums_of_three<S: NonZeroInxGenericStack<ArenaSlot<P0, Token>> + Drop>(
+// An arena over a stack with room for six, with entries at 2, 4 and 5, each of its index.
+fn three<S: NonZeroInxGenericStack<ArenaSlot<P0, Token>> + Drop>(
     alloc: Global,
-) -> Result<(), Wrong> {
-    let mut tested: Tested<P0, S> = new_arena(alloc);
+) -> Result<Tested<P0, S>, Wrong> {
+    let mut tested: Tested<P0, S> = with_room(alloc, 6)?;
     let (entries, removed) = (6, &[1, 3, 6]);
     Removed { entries, removed }.on(&mut tested)?;
-    let (indexes, numbers) = sums(&tested.arena);
+    Ok(tested)
+}
+
+fn are_sums_of_three((indexes, numbers): (usize, u64)) -> Result<(), Wrong> {
     is_told(0, Told::Size(indexes), Told::Size(11))?;
     is_told(1, Told::Holds(numbers), Told::Holds(11))
 }
 
 #[test]
 fn a_loop_over_an_arena_meets_each_entry(rt: HostRuntime) -> Result<(), Wrong> {
-    sums_of_three::<Heap<P0>>(rt.alloc())
+    are_sums_of_three(sums(&three::<Heap<P0>>(rt.alloc())?.arena))
+}
+
+// The same of a loop that takes the arena.
+fn sums_taken<A: IntoIterator<Item = (P0, Token)>>(arena: A) -> (usize, u64) {
+    let mut indexes = 0usize;
+    let mut numbers = 0u64;
+    for (p, token) in arena {
+        indexes = indexes.wrapping_add(p.inx().get());
+        numbers = numbers.wrapping_add(token.number);
+    }
+    (indexes, numbers)
+}
+
+#[test]
+fn a_loop_by_value_meets_each_entry_over_each_stack(rt: HostRuntime) -> Result<(), Wrong> {
+    let alloc = rt.alloc();
+    are_sums_of_three(sums_taken(three::<Heap<P0>>(alloc)?.arena))?;
+    are_sums_of_three(sums_taken(three::<Limited<P0>>(alloc)?.arena))?;
+    are_sums_of_three(sums_taken(three::<Fixed<P0>>(alloc)?.arena))?;
+    are_sums_of_three(sums_taken(three::<Places<P0, 6>>(alloc)?.arena))
 }
 
 #[test]

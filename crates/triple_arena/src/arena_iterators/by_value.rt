@@ -1,0 +1,64 @@
+//! Loops over an arena by value. There is one impl for each kind of stack, since one over any stack
+//! has no proved caller; an arena over another stack is walked by `CapacityDrain::over`.
+
+ghost use Rattle.std.specs.Prelude.{◌≡◌};
+ghost use Rattle.triple_arena_traits.specs.Walks.{entries};
+
+use crate::base_arena::Arena;
+use triple_arena_ptr::Ptr;
+use triple_arena_slots::ArenaSlot;
+use triple_arena_stack::{
+    NonZeroInxArray, NonZeroInxBoxedSlice, NonZeroInxLimitedVec, NonZeroInxVec,
+};
+use triple_arena_traits::arena_iterators::CapacityDrain;
+
+type Entries<P, T, S> = CapacityDrain<P, T, Arena<P, T, S>>;
+
+impl<P: Ptr, T: Drop> IntoIterator for Arena<P, T, NonZeroInxVec<ArenaSlot<P, T>>> {
+    type Item = (P, T);
+
+    type IntoIter = Entries<P, T, NonZeroInxVec<ArenaSlot<P, T>>>;
+
+    ghost into_iter_gives = { λ arena drain. drain ≡ entries arena.slots };
+
+    fn into_iter(self) -> Entries<P, T, NonZeroInxVec<ArenaSlot<P, T>>> {
+        CapacityDrain::over(self)
+    }
+}
+
+impl<P: Ptr, T: Drop> IntoIterator for Arena<P, T, NonZeroInxLimitedVec<ArenaSlot<P, T>>> {
+    type Item = (P, T);
+
+    type IntoIter = Entries<P, T, NonZeroInxLimitedVec<ArenaSlot<P, T>>>;
+
+    ghost into_iter_gives = { λ arena drain. drain ≡ entries arena.slots };
+
+    fn into_iter(self) -> Entries<P, T, NonZeroInxLimitedVec<ArenaSlot<P, T>>> {
+        CapacityDrain::over(self)
+    }
+}
+
+impl<P: Ptr, T: Drop> IntoIterator for Arena<P, T, NonZeroInxBoxedSlice<ArenaSlot<P, T>>> {
+    type Item = (P, T);
+
+    type IntoIter = Entries<P, T, NonZeroInxBoxedSlice<ArenaSlot<P, T>>>;
+
+    ghost into_iter_gives = { λ arena drain. drain ≡ entries arena.slots };
+
+    fn into_iter(self) -> Entries<P, T, NonZeroInxBoxedSlice<ArenaSlot<P, T>>> {
+        CapacityDrain::over(self)
+    }
+}
+
+impl<P: Ptr, T: Drop, const LIMIT: usize> IntoIterator
+    for Arena<P, T, NonZeroInxArray<ArenaSlot<P, T>, LIMIT>> {
+    type Item = (P, T);
+
+    type IntoIter = Entries<P, T, NonZeroInxArray<ArenaSlot<P, T>, LIMIT>>;
+
+    ghost into_iter_gives = { λ arena drain. drain ≡ entries arena.slots };
+
+    fn into_iter(self) -> Entries<P, T, NonZeroInxArray<ArenaSlot<P, T>, LIMIT>> {
+        CapacityDrain::over(self)
+    }
+}

@@ -38,8 +38,8 @@ pub trait Source {
     /// What a copy into the target tells.
     fn copy_into<B: Target>(&mut self, target: &mut B, copying: Copying) -> Told;
 
-    /// What a clone tells, which takes the place of its original or is let go.
-    fn clone_apart(&mut self, alloc: Global, takes_place: bool) -> Told;
+    /// What a clone tells, which takes the place of its original.
+    fn clone_apart(&mut self, alloc: Global) -> Told;
 }
 
 // Clones, each value made tenfold, and refuses the value of one number.
@@ -117,23 +117,19 @@ impl<B: Target> AskedToClone<P0, Token, B> for Giving {
     }
 }
 
-// A clone that takes the place of its original, or is let go.
+// A clone that takes the place of its original.
 #[derive(Drop)]
 struct CloneApart {
     alloc: Global,
-    takes_place: bool,
 }
 
 fn clone_apart<P: Ptr, A: ArenaCloneFromWith<P, Token> + CompactArenaTrait<P, Token> + Drop>(
     arena: &mut A,
     alloc: Global,
-    takes_place: bool,
 ) -> Told {
     match arena.clone(alloc) {
         Ok(clone) => {
-            if takes_place {
-                *arena = clone;
-            }
+            *arena = clone;
             Told::Done
         }
         Err(refused) => told_clone(Err(refused)),
@@ -146,7 +142,7 @@ impl AskedToClone<P0, Token, ()> for CloneApart {
         arena: &mut A,
         _other: &mut (),
     ) -> Told {
-        clone_apart(arena, self.alloc, self.takes_place)
+        clone_apart(arena, self.alloc)
     }
 }
 
@@ -164,8 +160,8 @@ impl<S: NonZeroInxGenericStack<ArenaSlot<P0, Token>> + Drop> Source for Tested<P
         ask_to_clone(&mut self.arena, target, &Giving { copying })
     }
 
-    fn clone_apart(&mut self, alloc: Global, takes_place: bool) -> Told {
-        ask_to_clone(&mut self.arena, &mut (), &CloneApart { alloc, takes_place })
+    fn clone_apart(&mut self, alloc: Global) -> Told {
+        ask_to_clone(&mut self.arena, &mut (), &CloneApart { alloc })
     }
 }
 
@@ -174,9 +170,8 @@ impl<S: NonZeroInxGenericStack<DirectSlot<P0, Token>> + Drop> Source for Direct<
         self.arena.ask_to_clone(target, &Giving { copying })
     }
 
-    fn clone_apart(&mut self, alloc: Global, takes_place: bool) -> Told {
-        self.arena
-            .ask_to_clone(&mut (), &CloneApart { alloc, takes_place })
+    fn clone_apart(&mut self, alloc: Global) -> Told {
+        self.arena.ask_to_clone(&mut (), &CloneApart { alloc })
     }
 }
 

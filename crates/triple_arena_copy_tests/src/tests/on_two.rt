@@ -100,7 +100,7 @@ fn told_by<A: Source + TestedArena, B: Target + TestedArena>(
         OnTwo::Target(call) => target.answer(call),
         OnTwo::FillTarget(entries) => filled(target, entries),
         OnTwo::Copy(copying) | OnTwo::Refused(copying) => source.copy_into(target, copying),
-        OnTwo::CloneSource => source.clone_apart(alloc, true),
+        OnTwo::CloneSource => source.clone_apart(alloc),
     }
 }
 

@@ -1,18 +1,10 @@
 //! Copies for which memory is refused, and the whole state of both arenas after each.
 
-use super::copying::{Copying, Source};
+use super::copying::Copying;
 use super::on_two::{Goal, OnTwo, Origin, on_two};
 use std::alloc::Global;
-use triple_arena::ArenaSlot;
 use triple_arena_base::ReallocationError;
-use triple_arena_direct::DirectSlot;
-use triple_arena_direct_kit::{Direct, Heap as DirectHeap, with_room as direct_with_room};
-use triple_arena_ptr::P0;
-use triple_arena_stack::NonZeroInxGenericStack;
-use triple_arena_test_kit::{
-    Call, Heap, Removed, Steps, Tested, TestedArena, Token, Told, Trial, Wrong, has_state, is_told,
-    where_there_is_memory, with_room,
-};
+use triple_arena_test_kit::{Call, Removed, Steps, Told, Wrong};
 
 const NO_MEMORY: Told = Told::Refused(ReallocationError::AllocError);
 
@@ -75,48 +67,4 @@ fn a_copy_without_memory_leaves_both_direct_arenas(rt: HostRuntime) -> Result<()
         Origin::Direct(5, FIVE_DIRECT),
         Goal::LittleDirect(WITH_FREE_SLOTS),
     )
-}
-
-// A clone is made, or refused where memory is; its original stays.
-fn clones_or_not<A: Source + TestedArena, T: Trial>(
-    alloc: Global,
-    source: &mut A,
-    entries: &T,
-) -> Result<(), Wrong> {
-    entries.on(source)?;
-    let before = source.state();
-    let told = source.clone_apart(alloc, false);
-    if told != NO_MEMORY {
-        is_told(0, told, Told::Done)?;
-    }
-    has_state(source, 0, &before)
-}
-
-// The same of an arena over this stack.
-fn arena_clones_or_not<S: NonZeroInxGenericStack<ArenaSlot<P0, Token>> + Drop>(
-    alloc: Global,
-) -> Result<(), Wrong> {
-    let mut source: Tested<P0, S> = with_room(alloc, 5)?;
-    clones_or_not(alloc, &mut source, &FIVE)
-}
-
-// The same of a direct arena.
-fn direct_clones_or_not<S: NonZeroInxGenericStack<DirectSlot<P0, Token>> + Drop>(
-    alloc: Global,
-) -> Result<(), Wrong> {
-    let mut source: Direct<P0, S> = direct_with_room(alloc, 5)?;
-    clones_or_not(alloc, &mut source, &FIVE_DIRECT)
-}
-
-/// Holds with ample memory, and also where any one request for memory is refused
-/// (`rt try --test --fail-alloc N`).
-#[test]
-fn a_clone_that_is_refused_leaves_its_original(rt: HostRuntime) -> Result<(), Wrong> {
-    where_there_is_memory(arena_clones_or_not::<Heap<P0>>(rt.alloc()))
-}
-
-/// The same of a direct arena.
-#[test]
-fn a_clone_that_is_refused_leaves_its_direct_original(rt: HostRuntime) -> Result<(), Wrong> {
-    where_there_is_memory(direct_clones_or_not::<DirectHeap<P0>>(rt.alloc()))
 }

@@ -1,6 +1,6 @@
 //! Compaction that tells the new pointers, and that renames those which the values hold.
 
-use super::tested_nodes::{Compaction, NO_PLACE, Named, NodeState};
+use super::tested_nodes::{Compaction, Named};
 use super::trials::{Nodes, Part, Texts, on};
 use std::alloc::Global;
 use std::error::Error;
@@ -138,95 +138,6 @@ fn without_entries_the_map_is_empty(rt: HostRuntime) -> Result<(), Wrong> {
     let both = [Part::Texts(first), Part::Texts(second)];
     on(rt.alloc(), Nodes::Heap(&[], &[]), &both)?;
     on(rt.alloc(), Nodes::Direct(&[]), &both)
-}
-
-/// Holds with ample memory, and also where any one request for memory is refused
-/// (`rt try --test --fail-alloc N`), as do the tests `without_memory_...`, whose first request is the
-/// compaction's.
-#[test]
-fn without_entries_no_memory_is_asked_for(rt: HostRuntime) -> Result<(), Wrong> {
-    on(rt.alloc(), Nodes::Places(&[], &[]), &[Part::TakesNoMemory])?;
-    on(rt.alloc(), Nodes::DirectPlaces(&[]), &[Part::TakesNoMemory])
-}
-
-// Tries it on two nodes, the second behind a gap and with this link, in places that take no memory.
-fn on_places(alloc: Global, link: (usize, u64), part: Part) -> Result<(), Wrong> {
-    let nodes = [(1, NO_POINTER), (2, NO_POINTER), (3, link)];
-    on(alloc, Nodes::Places(&nodes, &[2]), &[part])
-}
-
-// The same in a direct arena.
-fn on_direct_places(alloc: Global, link: (usize, u64), part: Part) -> Result<(), Wrong> {
-    let nodes = [((1, 2), (1, NO_POINTER)), ((3, 7), (3, link))];
-    on(alloc, Nodes::DirectPlaces(&nodes), &[part])
-}
-
-const DANGLES: Part = Part::RefusesTwice(Told::At(9, 9));
-
-#[test]
-fn without_memory_a_dangling_link_changes_nothing(rt: HostRuntime) -> Result<(), Wrong> {
-    on_places(rt.alloc(), (9, 9), DANGLES)
-}
-
-#[test]
-fn without_memory_a_dangling_link_changes_no_direct_arena(rt: HostRuntime) -> Result<(), Wrong> {
-    on_direct_places(rt.alloc(), (9, 9), DANGLES)
-}
-
-// What stands in each arena of two nodes after a compaction.
-const MOVED: NodeState = NodeState {
-    bounds: Told::Bounds(2, 4, Some(4)),
-    counter: 4,
-    root: 0,
-    slots: 2,
-    places: [(4, (1, NO_POINTER)), (4, (3, (1, 4))), NO_PLACE, NO_PLACE],
-};
-
-const DIRECT_MOVED: NodeState = NodeState {
-    counter: 0,
-    places: [(2, (1, NO_POINTER)), (7, (3, (1, 2))), NO_PLACE, NO_PLACE],
-    ..MOVED
-};
-
-// That this compaction moves the nodes, or is refused memory and moves none.
-fn moves(alloc: Global, call: Compaction) -> Result<(), Wrong> {
-    on_places(alloc, (1, 2), Part::MovesOnce(call, MOVED))
-}
-
-// The same in a direct arena.
-fn moves_direct(alloc: Global, call: Compaction) -> Result<(), Wrong> {
-    on_direct_places(alloc, (1, 2), Part::MovesOnce(call, DIRECT_MOVED))
-}
-
-#[test]
-fn without_memory_nothing_moves(rt: HostRuntime) -> Result<(), Wrong> {
-    moves(rt.alloc(), Compaction::Renamed(false))
-}
-
-#[test]
-fn without_memory_no_direct_arena_moves(rt: HostRuntime) -> Result<(), Wrong> {
-    moves_direct(rt.alloc(), Compaction::Renamed(false))
-}
-
-#[test]
-fn without_memory_there_is_no_map(rt: HostRuntime) -> Result<(), Wrong> {
-    moves(rt.alloc(), Compaction::Mapped(false))
-}
-
-#[test]
-fn without_memory_there_is_no_map_of_a_direct_arena(rt: HostRuntime) -> Result<(), Wrong> {
-    moves_direct(rt.alloc(), Compaction::Mapped(false))
-}
-
-/// Holds also where the first request for memory is refused (`rt try --test --fail-alloc 1`): it is the
-/// compaction's, and not that for the text of its answer, as it would be if a dangling link came first.
-#[test]
-fn memory_comes_before_a_dangling_link(rt: HostRuntime) -> Result<(), Wrong> {
-    on(
-        rt.alloc(),
-        Nodes::Places(&DANGLING, &[]),
-        &[Part::AsksFirst],
-    )
 }
 
 // Whether an error equals its copy.

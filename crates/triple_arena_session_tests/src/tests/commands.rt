@@ -1,11 +1,9 @@
-//! Commands where indexes or generations end, and where memory is refused; the others are cases of the
-//! program.
+//! Commands where indexes or generations end; the others are cases of the program.
 
-use super::steps::{Asked, Kind, Row as Entry, Trial, says, try_new};
+use super::steps::{Asked, Kind, Trial, try_new};
 use super::texts::answers_text;
 use std::alloc::Global;
 use std::process::Abort;
-use triple_arena_session::{Command, Reply, parse_command};
 
 /// A text, and the lines of its replies.
 type Row<'a> = (&'a [u8], &'a [u8]);
@@ -30,6 +28,31 @@ impl Trial for NoMoreRoom {
             b"no memory\nfull\ncount 255\nno memory\ncount 255\n",
         );
     }
+}
+
+// A text that a new session answers so.
+#[derive(Drop)]
+struct Answered<'a> {
+    text: &'a [u8],
+    lines: &'a [u8],
+}
+
+impl Trial for Answered<'_> {
+    fn pass(&self, rt: &impl Abort, alloc: Global, session: &mut impl Asked) {
+        answers_text(rt, alloc, session, self.text, self.lines);
+    }
+}
+
+/// An index of 128 bits is there for more entries than any machine has memory for.
+#[test]
+fn a_session_of_wide_indexes_answers_as_others(rt: HostRuntime) {
+    let trial = Answered {
+        text: b"insert 1 -\ninsert 2 1\ninsert 3 2\nreserve 18446744073709551615\nremove 1\n\
+            set 2 2 3\ncompact\nget 2\nget 3\ncapacity\n",
+        lines: b"given 1\ngiven 2\ngiven 3\nno memory\nremoved 1 -\n\
+            done\ncompacted\nfound 2 3\nfound 3 2\ncount 4\n",
+    };
+    try_new(&rt, rt.alloc(), Kind::WideIndexes, None, &trial);
 }
 
 // Inserts so many.
@@ -84,7 +107,8 @@ impl Trial for AtTheEnd<'_> {
     }
 }
 
-/// The byte counter is at its end after 253 raises, and the next tells of a wrap, which ends the run.
+/// The byte counter is at its end after 253 raises, and the next tells of a wrap, which ends the
+/// run.
 #[test]
 fn each_command_that_raises_the_counter_tells_of_a_wrap(rt: HostRuntime) {
     let rows: [Row<'_>; 4] = [
@@ -106,117 +130,4 @@ fn each_command_that_raises_the_counter_tells_of_a_wrap(rt: HostRuntime) {
         let trial = AtTheEnd { text, lines };
         try_new(&rt, rt.alloc(), Kind::ByteGenerations, None, &trial);
     }
-}
-
-// What stands under each of the first names.
-fn entries_of(session: &mut impl Asked) -> [Entry; 12] {
-    let mut entries = [None; 12];
-    for (name, entry) in entries.iter_mut().enumerate() {
-        if let Reply::Found(datum, link) = session.answer(Command::Get(name)) {
-            *entry = Some((datum, link));
-        }
-    }
-    entries
-}
-
-// The free indexes once the free list is in order: rising, and without those past the last entry.
-fn in_order(session: &impl Asked) -> [usize; 12] {
-    let free = session.free();
-    let mut ordered = [0; 12];
-    let mut place = 0;
-    for inx in 1..=session.last_index() {
-        if free.contains(&inx) && place < 12 {
-            ordered[place] = inx;
-            place += 1;
-        }
-    }
-    ordered
-}
-
-// Expects the command of a line to be answered so. Memory may be refused first, and then names,
-// entries, length, capacity and counter are as they were, and the free list too; a reservation has
-// put it in order.
-fn answers_or_changes_nothing(rt: &impl Abort, session: &mut impl Asked, line: &str, text: &str) {
-    let Some(command) = parse_command(line.as_bytes()) else {
-        panic!(rt; "{line} is a command");
-    };
-    let free = match command {
-        Command::Reserve(_) => in_order(session),
-        _ => session.free(),
-    };
-    let before = (entries_of(session), session.extent(), free);
-    let mut reply = session.answer(command);
-    if reply == Reply::NoMemory {
-        assert!(rt;
-            (entries_of(session), session.extent(), session.free()) == before,
-            "at {line}"
-        );
-        reply = session.answer(command);
-    }
-    assert!(rt; says(&reply, text), "at {line}");
-}
-
-/// Each command that asks for memory is answered or changes nothing.
-pub struct AnswersOrChangesNothing;
-
-impl Trial for AnswersOrChangesNothing {
-    fn pass(&self, rt: &impl Abort, _alloc: Global, session: &mut impl Asked) {
-        let rows: &[(&str, &str)] = &[
-            ("insert 1 -", "given 1"),
-            ("reserve 6", "done"),
-            ("within 2 1", "given 2"),
-            (
-                "show",
-                "{P0[1](2): (1, None), P0[2](2): (2, Some(P0[1](2)))}",
-            ),
-            ("insert 3 -", "given 3"),
-            ("insert 4 -", "given 4"),
-            ("remove 2", "removed 2 1"),
-            ("remove 3", "removed 3 -"),
-            // the free indexes are 3 and 2, in this order
-            ("show", "{P0[1](2): (1, None), P0[4](2): (4, None)}"),
-            ("invalidate 1", "given 5"),
-            ("within 5 1", "given 6"),
-            ("insert 6 -", "given 7"),
-            ("insert 7 -", "given 8"),
-            ("remove 7", "removed 6 -"),
-            ("remove 4", "removed 4 -"),
-            // 4 and 2
-            ("compact", "unresolved"),
-            ("within 8 -", "given 9"),
-            ("remove 6", "removed 5 1"),
-            // 3 and 2
-            ("reserve 7", "done"),
-            ("set 8 7 5", "done"),
-            ("remove 9", "removed 8 -"),
-            // 4, 2 and 3
-            ("compact", "compacted"),
-            (
-                "show",
-                "{P0[1](a): (1, None), P0[2](a): (7, Some(P0[1](a)))}",
-            ),
-            ("get 8", "found 7 5"),
-            ("reserve 2", "done"),
-            ("capacity", "count 2"),
-            ("insert 9 5", "given 10"),
-            ("clear", "cleared"),
-            ("show", "{}"),
-        ];
-        for (line, text) in rows {
-            answers_or_changes_nothing(rt, session, *line, *text);
-        }
-    }
-}
-
-/// Holds with ample memory, and also where any one request for memory is refused (`rt try --test
-/// --fail-alloc N`).
-#[test]
-fn a_refused_command_changes_nothing(rt: HostRuntime) {
-    try_new(
-        &rt,
-        rt.alloc(),
-        Kind::General,
-        None,
-        &AnswersOrChangesNothing,
-    );
 }

@@ -3,17 +3,17 @@
 use std::io;
 use std::io::{ErrorKind, Read, Write};
 
-/// Gives a text in pieces of at most four bytes, and fails once, at the read of a given number.
+/// Gives a text one byte a read, and fails once, at the read of a given number.
 #[derive(Drop)]
-pub struct PieceReader<'a> {
+pub struct ByteReader<'a> {
     pub rest: &'a [u8],
     pub reads_before: usize,
     pub failure: ErrorKind,
 }
 
-impl<'a> PieceReader<'a> {
-    pub fn new(text: &'a [u8], reads_before: usize, failure: ErrorKind) -> PieceReader<'a> {
-        PieceReader {
+impl<'a> ByteReader<'a> {
+    pub fn new(text: &'a [u8], reads_before: usize, failure: ErrorKind) -> ByteReader<'a> {
+        ByteReader {
             rest: text,
             reads_before,
             failure,
@@ -21,40 +21,67 @@ impl<'a> PieceReader<'a> {
     }
 }
 
-impl<'a> Read for PieceReader<'a> {
+impl<'a> Read for ByteReader<'a> {
     fn read(&mut self, buf: &mut [u8]) -> io::Result<usize> {
         if self.reads_before == 0 {
             self.reads_before = usize::MAX;
             return Err(io::Error::from(self.failure));
         }
         self.reads_before -= 1;
-        let size = buf.len().min(4);
+        let size = buf.len().min(1);
         self.rest.read(&mut buf[..size])
     }
 }
 
+/// How a write is refused.
+#[derive(Clone, Copy)]
+pub enum WriteFailure {
+    /// By an error.
+    Error(ErrorKind),
+    /// It takes no byte, and says so.
+    TakesNone,
+    /// It is interrupted once, and the writes after it are taken.
+    Interrupted,
+}
+
 /// Holds up to 256 bytes, takes at most so many at a write, and fails at the write of a given
-/// number and after it.
+/// number and after it. It counts its flushes.
 #[derive(Drop)]
 pub struct ShortWriter {
     pub bytes: [u8; 256],
     pub len: usize,
     pub most: usize,
     pub writes_before: usize,
+    pub failure: WriteFailure,
+    pub flushes: usize,
 }
 
 impl ShortWriter {
     /// Takes all of a write.
     pub fn new(writes_before: usize) -> ShortWriter {
-        ShortWriter::of_pieces(256, writes_before)
+        ShortWriter::of_pieces(256, writes_before, WriteFailure::Error(ErrorKind::Other))
     }
 
-    pub fn of_pieces(most: usize, writes_before: usize) -> ShortWriter {
+    pub fn of_pieces(most: usize, writes_before: usize, failure: WriteFailure) -> ShortWriter {
         ShortWriter {
             bytes: [0; 256],
             len: 0,
             most,
             writes_before,
+            failure,
+            flushes: 0,
+        }
+    }
+
+    // What the write answers that is refused.
+    fn refuse(&mut self) -> io::Result<usize> {
+        match self.failure {
+            WriteFailure::Error(kind) => Err(io::Error::from(kind)),
+            WriteFailure::TakesNone => Ok(0),
+            WriteFailure::Interrupted => {
+                self.writes_before = usize::MAX;
+                Err(io::Error::from(ErrorKind::Interrupted))
+            }
         }
     }
 
@@ -81,7 +108,7 @@ impl Write for ShortWriter {
     fn write(&mut self, buf: &[u8]) -> io::Result<usize> {
         let piece = &buf[..buf.len().min(self.most)];
         if self.writes_before == 0 || self.len > 256 || 256 - self.len < piece.len() {
-            return Err(io::Error::from(ErrorKind::Other));
+            return self.refuse();
         }
         self.writes_before -= 1;
         for byte in piece {
@@ -94,6 +121,7 @@ impl Write for ShortWriter {
     }
 
     fn flush(&mut self) -> io::Result<()> {
+        self.flushes = self.flushes.saturating_add(1);
         Ok(())
     }
 }

@@ -1,6 +1,6 @@
 //! Runs of texts over memory.
 
-use super::devices::{PieceReader, ShortWriter};
+use super::devices::{ByteReader, ShortWriter, WriteFailure};
 use super::steps::{Asked, Kind, Trial, replies, try_new};
 use super::texts::{answers, answers_text, writes};
 use std::alloc::Global;
@@ -52,26 +52,40 @@ fn goes_on_with_the_session_that_it_left(rt: HostRuntime) {
 
 // A read fails, and a session that has given a name is as it was.
 #[derive(Drop)]
-struct FailsToRead {
+struct FailsToRead<'a> {
+    text: &'a [u8],
     reads_before: usize,
+    failure: ErrorKind,
 }
 
-impl Trial for FailsToRead {
+impl Trial for FailsToRead<'_> {
     fn pass(&self, rt: &impl Abort, alloc: Global, session: &mut impl Asked) {
         answers_text(rt, alloc, session, b"insert 7 -\n", b"given 1\n");
-        let text = b"insert 1 -\nremove 1\n".as_slice();
-        let mut input = PieceReader::new(text, self.reads_before, ErrorKind::Other);
+        let mut input = ByteReader::new(self.text, self.reads_before, self.failure);
         answers(rt, alloc, session, &mut input, Err(TextError::Read), b"");
         let (text, lines) = (b"get 1\ninsert 8 -\n", b"found 7 -\ngiven 2\n");
         answers_text(rt, alloc, session, text, lines);
     }
 }
 
-/// Each read of a text fails in turn, the one that would find its end too.
+/// Each read of a text of 20 bytes fails in turn, the one that would find its end too. It does so
+/// after a malformed line, too, since all is read before the first command runs.
 #[test]
 fn changes_nothing_where_a_read_fails(rt: HostRuntime) {
-    for reads_before in 0..6 {
-        tries(&rt, rt.alloc(), &FailsToRead { reads_before });
+    let rows: [(&[u8], ErrorKind); 3] = [
+        (b"insert 1 -\nremove 1\n", ErrorKind::Other),
+        (b"what\ninsert 1 -\nlen\n", ErrorKind::UnexpectedEof),
+        (b"insert 1 -\nwhat\nlen\n", ErrorKind::WouldBlock),
+    ];
+    for (text, failure) in rows {
+        for reads_before in 0..21 {
+            let trial = FailsToRead {
+                text,
+                reads_before,
+                failure,
+            };
+            tries(&rt, rt.alloc(), &trial);
+        }
     }
 }
 
@@ -84,14 +98,14 @@ struct ReadsOn {
 impl Trial for ReadsOn {
     fn pass(&self, rt: &impl Abort, alloc: Global, session: &mut impl Asked) {
         let text = b"insert 1 -\n".as_slice();
-        let mut input = PieceReader::new(text, self.reads_before, ErrorKind::Interrupted);
+        let mut input = ByteReader::new(text, self.reads_before, ErrorKind::Interrupted);
         answers(rt, alloc, session, &mut input, Ok(()), b"given 1\n");
     }
 }
 
 #[test]
 fn reads_on_after_an_interruption(rt: HostRuntime) {
-    for reads_before in 0..4 {
+    for reads_before in 0..13 {
         tries(&rt, rt.alloc(), &ReadsOn { reads_before });
     }
 }
@@ -121,7 +135,7 @@ struct ReadsPieces {
 impl Trial for ReadsPieces {
     fn pass(&self, rt: &impl Abort, alloc: Global, session: &mut impl Asked) {
         let text = [*b"insert 5 -\n"; 100];
-        let mut input = PieceReader::new(text.as_flattened(), self.reads_before, self.failure);
+        let mut input = ByteReader::new(text.as_flattened(), self.reads_before, self.failure);
         let mut output = Vec::new(alloc);
         let answer = session.runs(alloc, &mut input, &mut output);
         assert!(rt; answer == self.outcome);
@@ -129,17 +143,17 @@ impl Trial for ReadsPieces {
     }
 }
 
-/// A text of 1,100 bytes comes in 275 reads, one more finds its end, and any of them may be
+/// A text of 1,100 bytes comes in as many reads, one more finds its end, and any of them may be
 /// interrupted or fail.
 #[test]
-fn takes_hundreds_of_reads(rt: HostRuntime) {
+fn takes_a_thousand_reads(rt: HostRuntime) {
     let failed = Err(TextError::Read);
     let rows = [
         (usize::MAX, ErrorKind::Other, Ok(()), 100),
-        (260, ErrorKind::Interrupted, Ok(()), 100),
-        (260, ErrorKind::Other, failed, 0),
-        (275, ErrorKind::Other, failed, 0),
-        (276, ErrorKind::Other, Ok(()), 100),
+        (1000, ErrorKind::Interrupted, Ok(()), 100),
+        (1000, ErrorKind::Other, failed, 0),
+        (1100, ErrorKind::Other, failed, 0),
+        (1101, ErrorKind::Other, Ok(()), 100),
     ];
     for (reads_before, failure, outcome, given) in rows {
         let trial = ReadsPieces {
@@ -155,7 +169,8 @@ fn takes_hundreds_of_reads(rt: HostRuntime) {
 /// How a run ended, and how many lines and bytes its output then held.
 pub type End = (Result<(), TextError>, usize, usize);
 
-// A text run over a writer: its end, and whether a front of these lines was written.
+// A text run over a writer: its end, and whether a front of these lines was written, and none of it
+// flushed.
 fn runs_to(
     alloc: Global,
     session: &mut impl Asked,
@@ -166,50 +181,173 @@ fn runs_to(
     let mut input = text;
     let outcome = session.runs(alloc, &mut input, &mut output);
     let end = (outcome, output.lines_ended(), output.len);
-    (end, output.is_front_of(lines))
+    (end, output.flushes == 0 && output.is_front_of(lines))
 }
 
-// Three insertions run over a writer that takes so many writes of two bytes: this is their end, and
-// so many of them have run.
+// A text of these reply lines runs over a writer that takes so many writes of a byte: this is the
+// end, and so many of its insertions of 1 have run.
 #[derive(Drop)]
 struct StopsWriting {
+    text: &'static [u8],
+    lines: &'static [u8],
     writes_before: usize,
+    failure: WriteFailure,
     end: End,
     ran: usize,
 }
 
 impl Trial for StopsWriting {
     fn pass(&self, rt: &impl Abort, alloc: Global, session: &mut impl Asked) {
-        let ended = runs_to(
-            alloc,
-            session,
-            b"insert 1 -\ninsert 1 -\ninsert 1 -\n",
-            ShortWriter::of_pieces(2, self.writes_before),
-            b"given 1\ngiven 2\ngiven 3\n",
-        );
+        let output = ShortWriter::of_pieces(1, self.writes_before, self.failure);
+        let ended = runs_to(alloc, session, self.text, output, self.lines);
         assert!(rt; ended == (self.end, true), "at {}", self.writes_before);
         finds_up_to(rt, session, 1, self.ran, 4);
     }
 }
 
-/// Each write of two bytes fails in turn. The command whose reply was being written has run, and no
-/// later one.
+// Three insertions, and the lines of their replies, of eight bytes each.
+const INSERTIONS: &[u8] = b"insert 1 -\ninsert 1 -\ninsert 1 -\n";
+
+const GIVEN: &[u8] = b"given 1\ngiven 2\ngiven 3\n";
+
+// How a write fails.
+const FAILURES: [WriteFailure; 3] = [
+    WriteFailure::Error(ErrorKind::Other),
+    WriteFailure::Error(ErrorKind::BrokenPipe),
+    WriteFailure::TakesNone,
+];
+
+/// Each write of a byte fails in turn, by errors of several kinds, or takes nothing. The command
+/// whose reply was being written has run, and no later one.
 #[test]
 fn runs_no_further_where_a_write_fails(rt: HostRuntime) {
-    for writes_before in 0..12 {
-        let answered = writes_before / 4;
-        let trial = StopsWriting {
-            writes_before,
-            end: (Err(TextError::Write), answered, writes_before * 2),
-            ran: answered + 1,
-        };
-        tries(&rt, rt.alloc(), &trial);
+    for failure in FAILURES {
+        for writes_before in 0..24 {
+            let answered = writes_before / 8;
+            let trial = StopsWriting {
+                text: INSERTIONS,
+                lines: GIVEN,
+                writes_before,
+                failure,
+                end: (Err(TextError::Write), answered, writes_before),
+                ran: answered + 1,
+            };
+            tries(&rt, rt.alloc(), &trial);
+        }
     }
-    for writes_before in 12..40 {
-        let trial = StopsWriting {
-            writes_before,
-            end: (Ok(()), 3, 24),
-            ran: 3,
+}
+
+/// The same where the entries are shown between two insertions: the line of the first reply ends
+/// with the eighth byte, and that of the entries, of 22 bytes, with the thirtieth.
+#[test]
+fn runs_no_further_where_the_entries_are_not_written(rt: HostRuntime) {
+    for failure in FAILURES {
+        for (first, last, answered, ran) in [(0, 7, 0, 1), (8, 29, 1, 1), (30, 37, 2, 2)] {
+            for writes_before in first..=last {
+                let trial = StopsWriting {
+                    text: b"insert 1 -\nshow\ninsert 1 -\n",
+                    lines: b"given 1\n{P0[1](2): (1, None)}\ngiven 2\n",
+                    writes_before,
+                    failure,
+                    end: (Err(TextError::Write), answered, writes_before),
+                    ran,
+                };
+                tries(&rt, rt.alloc(), &trial);
+            }
+        }
+    }
+}
+
+// Three insertions run to their end over a writer that is refused this write so.
+fn writes_on(rt: &impl Abort, alloc: Global, writes_before: usize, failure: WriteFailure) {
+    let trial = StopsWriting {
+        text: INSERTIONS,
+        lines: GIVEN,
+        writes_before,
+        failure,
+        end: (Ok(()), 3, 24),
+        ran: 3,
+    };
+    tries(rt, alloc, &trial);
+}
+
+/// Each write in turn is interrupted, and made again.
+#[test]
+fn writes_on_after_an_interruption(rt: HostRuntime) {
+    for writes_before in 0..24 {
+        writes_on(&rt, rt.alloc(), writes_before, WriteFailure::Interrupted);
+    }
+}
+
+#[test]
+fn asks_for_no_write_past_its_last(rt: HostRuntime) {
+    let failure = WriteFailure::Error(ErrorKind::Other);
+    writes_on(&rt, rt.alloc(), 24, failure);
+}
+
+// A text ends so, and these lines are written.
+#[derive(Drop)]
+struct Ends<'a> {
+    text: &'a [u8],
+    outcome: Result<(), TextError>,
+    lines: &'a [u8],
+}
+
+impl Trial for Ends<'_> {
+    fn pass(&self, rt: &impl Abort, alloc: Global, session: &mut impl Asked) {
+        let mut input = ByteReader::new(self.text, usize::MAX, ErrorKind::Other);
+        answers(rt, alloc, session, &mut input, self.outcome, self.lines);
+    }
+}
+
+/// Two lines, the second without its end, are cut after each byte.
+#[test]
+fn a_line_that_is_cut_is_malformed_or_another(rt: HostRuntime) {
+    let whole = b"insert 10 -\nget 1".as_slice();
+    let malformed = |line| Err(TextError::Malformed(line));
+    let rows: [(usize, usize, Result<(), TextError>, &[u8]); 5] = [
+        (0, 0, Ok(()), b""),
+        (1, 10, malformed(1), b""),
+        (11, 12, Ok(()), b"given 1\n"),
+        (13, 16, malformed(2), b"given 1\n"),
+        (17, 17, Ok(()), b"given 1\nfound 10 -\n"),
+    ];
+    for (first, last, outcome, lines) in rows {
+        for size in first..=last {
+            let text = &whole[..size.min(whole.len())];
+            let trial = Ends {
+                text,
+                outcome,
+                lines,
+            };
+            tries(&rt, rt.alloc(), &trial);
+        }
+    }
+}
+
+/// The command before it has run, and the one after it doesn't.
+#[test]
+fn a_malformed_line_ends_the_run(rt: HostRuntime) {
+    let texts: [&[u8]; 13] = [
+        b"insert 1 -\nget  1\nlen\n",
+        b"insert 1 -\n get 1\nlen\n",
+        b"insert 1 -\nget 1 \nlen\n",
+        b"insert 1 -\nget 1\r\nlen\n",
+        b"insert 1 -\nGET 1\nlen\n",
+        b"insert 1 -\nget +1\nlen\n",
+        b"insert 1 -\nget -\nlen\n",
+        b"insert 1 -\nget 18446744073709551616\nlen\n",
+        b"insert 1 -\ninsert 1\nlen\n",
+        b"insert 1 -\ninsert 1 - 2\nlen\n",
+        b"insert 1 -\ninsert 1 --\nlen\n",
+        b"insert 1 -\nlen 1\nlen\n",
+        b"insert 1 -\n\x80\nlen\n",
+    ];
+    for text in texts {
+        let trial = Ends {
+            text,
+            outcome: Err(TextError::Malformed(2)),
+            lines: b"given 1\n",
         };
         tries(&rt, rt.alloc(), &trial);
     }
@@ -278,39 +416,4 @@ fn flushes_what_was_answered(rt: HostRuntime) {
         };
         tries(&rt, rt.alloc(), &trial);
     }
-}
-
-// How many names a run of five insertions gave, of which one may be refused memory, or the run.
-fn given_by(rt: &impl Abort, outcome: Result<(), TextError>, output: &ShortWriter) -> usize {
-    if outcome == Ok(()) {
-        let refused = output.lines_of(b"no memory");
-        assert_eq!(rt; output.lines_ended(), 5);
-        assert!(rt; refused < 2);
-        5 - refused
-    } else {
-        assert!(rt; outcome == Err(TextError::NoMemory));
-        assert_eq!(rt; output.len, 0);
-        0
-    }
-}
-
-/// Five insertions, of which one may be refused memory, or the run.
-pub struct RunsWhereThereIsMemory;
-
-impl Trial for RunsWhereThereIsMemory {
-    fn pass(&self, rt: &impl Abort, alloc: Global, session: &mut impl Asked) {
-        let mut input = b"insert 1 -\ninsert 1 -\ninsert 1 -\ninsert 1 -\ninsert 1 -\n".as_slice();
-        let mut output = ShortWriter::new(256);
-        let outcome = session.runs(alloc, &mut input, &mut output);
-        let given = given_by(rt, outcome, &output);
-        finds_up_to(rt, session, 1, given, 6);
-    }
-}
-
-/// Holds with ample memory, and also where any one request for memory is refused
-/// (`rt try --test --fail-alloc N`): then the run answers `NoMemory` before it writes, or the
-/// insertion that asked answers so, and its name is given to the next.
-#[test]
-fn answers_no_memory_where_it_is_refused(rt: HostRuntime) {
-    tries(&rt, rt.alloc(), &RunsWhereThereIsMemory);
 }

@@ -4,11 +4,10 @@ use arrayvec::ArrayString;
 use std::alloc::Global;
 use std::fmt::Write as _;
 use std::io::{BufWriter, Read, Write};
-use std::num::NonZeroUsize;
 use std::process::Abort;
 use triple_arena::{Arena, ArenaSlot, ArenaTrait};
 use triple_arena_base::AllocError;
-use triple_arena_ptr::{P0, P3, Ptr, PtrGen, PtrInx};
+use triple_arena_ptr::{P0, P3, Ptr, PtrGen};
 use triple_arena_session::{
     Command, Node, Reply, Session, StrictSession, TextError, run_text, run_text_and_flush,
     run_text_strict, run_text_strict_and_flush,
@@ -16,7 +15,7 @@ use triple_arena_session::{
 use triple_arena_stack::{
     NonZeroInxArray, NonZeroInxGenericStack, NonZeroInxLimitedVec, NonZeroInxVec,
 };
-use triple_arena_trait_kit::{B, Narrow, Numbered, index_number};
+use triple_arena_trait_kit::{B, Narrow, Numbered, Wide};
 
 /// How many entries an arena holds, for how many it has room, and the generation of its counter.
 pub type Extent = (usize, usize, u64);
@@ -48,13 +47,6 @@ pub trait Asked {
 
     /// The extent of the arena.
     fn extent(&self) -> Extent;
-
-    /// The free indexes of an arena of at most 12 slots, in the order in which insertion takes them,
-    /// and then 0.
-    fn free(&self) -> [usize; 12];
-
-    /// The index of the last entry, and 0 where there is none.
-    fn last_index(&self) -> usize;
 }
 
 impl<P: Ptr, S: NonZeroInxGenericStack<ArenaSlot<P, Node<u64, P>>>> Asked for Session<P, u64, S>
@@ -89,14 +81,6 @@ where
 
     fn extent(&self) -> Extent {
         extent_of(self.arena())
-    }
-
-    fn free(&self) -> [usize; 12] {
-        free_of(self.arena())
-    }
-
-    fn last_index(&self) -> usize {
-        last_index_of(self.arena())
     }
 }
 
@@ -134,14 +118,6 @@ where
     fn extent(&self) -> Extent {
         extent_of(self.arena().arena())
     }
-
-    fn free(&self) -> [usize; 12] {
-        free_of(self.arena().arena())
-    }
-
-    fn last_index(&self) -> usize {
-        last_index_of(self.arena().arena())
-    }
 }
 
 fn extent_of<P: Ptr, S: NonZeroInxGenericStack<ArenaSlot<P, Node<u64, P>>>>(
@@ -155,43 +131,6 @@ where
         arena.capacity(),
         arena.generation().told_number(),
     )
-}
-
-fn free_of<P: Ptr, S: NonZeroInxGenericStack<ArenaSlot<P, Node<u64, P>>>>(
-    arena: &Arena<P, Node<u64, P>, S>,
-) -> [usize; 12] {
-    let mut free = [0; 12];
-    let mut next = match arena.freelist_root() {
-        Some(inx) => P::Inx::try_into_usize(inx),
-        None => None,
-    };
-    for place in &mut free {
-        if let Some(inx) = next {
-            *place = inx.get();
-            next = free_after(arena.backing(), inx);
-        }
-    }
-    free
-}
-
-fn last_index_of<P: Ptr, S: NonZeroInxGenericStack<ArenaSlot<P, Node<u64, P>>>>(
-    arena: &Arena<P, Node<u64, P>, S>,
-) -> usize {
-    match arena.find_last_inx_ptr() {
-        Some(p) => index_number(p.inx()),
-        None => 0,
-    }
-}
-
-// The free index after that of a free slot.
-fn free_after<P: Ptr, S: NonZeroInxGenericStack<ArenaSlot<P, Node<u64, P>>>>(
-    slots: &S,
-    inx: NonZeroUsize,
-) -> Option<NonZeroUsize> {
-    match slots.get(inx) {
-        Some(ArenaSlot::Free(link)) => link.after(inx),
-        _ => None,
-    }
 }
 
 /// Whether a command is answered so.
@@ -247,6 +186,8 @@ pub enum Kind {
     /// Indexes of a byte.
     ByteIndexes,
     LimitedByteIndexes,
+    /// Indexes of 128 bits.
+    WideIndexes,
 }
 
 type Slot<P> = ArenaSlot<P, Node<u64, P>>;
@@ -270,6 +211,7 @@ pub fn try_new(
         Kind::LimitedByteIndexes => {
             try_at::<Narrow, NonZeroInxLimitedVec<Slot<Narrow>>>(rt, alloc, room, trial)
         }
+        Kind::WideIndexes => try_at::<Wide, NonZeroInxVec<Slot<Wide>>>(rt, alloc, room, trial),
     }
 }
 

@@ -1,7 +1,7 @@
-//! Strict sessions: at a pointer whose generation is a byte, and where memory is refused.
+//! Strict sessions: at a pointer whose generation is a byte, runs of texts, and room.
 
-use super::commands::{AnswersOrChangesNothing, AtTheEnd};
-use super::runs::{Flushes, GoesOn, RunsWhereThereIsMemory};
+use super::commands::AtTheEnd;
+use super::runs::{Flushes, GoesOn};
 use super::sessions::{command_at, reply_at};
 use super::steps::{Asked, Trial, follow, try_strict};
 use std::alloc::Global;
@@ -88,20 +88,6 @@ fn a_strict_run_flushes_what_was_answered(rt: HostRuntime) {
         };
         try_strict::<P0>(&rt, rt.alloc(), &trial);
     }
-}
-
-/// Holds with ample memory, and also where any one request for memory is refused (`rt try --test
-/// --fail-alloc N`).
-#[test]
-fn a_refused_command_changes_nothing_of_a_strict_session(rt: HostRuntime) {
-    try_strict::<P0>(&rt, rt.alloc(), &AnswersOrChangesNothing);
-}
-
-/// Holds with ample memory, and also where any one request for memory is refused
-/// (`rt try --test --fail-alloc N`).
-#[test]
-fn a_strict_run_answers_no_memory_where_it_is_refused(rt: HostRuntime) {
-    try_strict::<P0>(&rt, rt.alloc(), &RunsWhereThereIsMemory);
 }
 
 type Slot = ArenaSlot<P0, Node<u64, P0>>;

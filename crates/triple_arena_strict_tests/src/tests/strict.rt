@@ -1,13 +1,13 @@
 //! Strict arenas at the end of their counter, and before it.
 
-use super::tested_strict::{Answer, Call, FewNodes, Nodes, follow, raised_to, told_recast};
+use super::tested_strict::{Answer, Call, Nodes, follow, raised_to};
 use std::alloc::Global;
 use std::fmt::Display;
 use std::process::Abort;
 use triple_arena_base::CompactError;
 use triple_arena_ptr::{P0, P4, Ptr};
 use triple_arena_strict::{StrictArena, StrictCompactError, StrictError};
-use triple_arena_trait_kit::{Wrong, is_text, pointer};
+use triple_arena_trait_kit::{Wrong, is_text};
 
 // Makes these calls on a strict arena whose counter was raised to this.
 fn on(alloc: Global, counter: u64, rows: &[(Call, Answer)]) -> Result<(), Wrong> {
@@ -174,21 +174,6 @@ fn room_is_as_that_of_an_arena(rt: HostRuntime) -> Result<(), Wrong> {
     assert_eq!(rt; arena.capacity(), 3);
     assert_eq!(rt; arena.max_capacity(), None);
     Ok(())
-}
-
-/// Holds also where the first request for memory is refused (`rt try --test --fail-alloc 1`): it is that
-/// for the map, and not that for the text after it, as it would be if the dangling link came first.
-#[test]
-fn memory_comes_before_a_dangling_link(rt: HostRuntime) -> Result<(), Wrong> {
-    let mut nodes = FewNodes::new(rt.alloc());
-    let given = nodes.insert_within_capacity((1, Some(pointer(9, 9))));
-    assert!(rt; given == Ok(pointer(1, 2)));
-    let first = told_recast(nodes.compress_recast(rt.alloc()));
-    let text = format!(in rt.alloc(); "{:?}", nodes)?;
-    let dangles = Answer::Unresolved(9, 9);
-    assert!(rt; first == Answer::NoMemory || first == dangles);
-    assert!(rt; told_recast(nodes.compress_recast(rt.alloc())) == dangles);
-    is_text(text.as_str(), "{B[1](2): (1, Some(B[9](9)))}")
 }
 
 // The sums of the values that two walks meet, and how many pointers a third meets that are valid.

@@ -1,11 +1,9 @@
 //! A strict arena of nodes that hold links, with generations that end soon, and what its calls answer.
 
 use std::alloc::Global;
-use triple_arena::ArenaSlot;
 use triple_arena_base::CompactError;
 use triple_arena_direct::DirectArena;
 use triple_arena_ptr::Ptr;
-use triple_arena_stack::NonZeroInxArray;
 use triple_arena_strict::{StrictArena, StrictCompactError, StrictError};
 use triple_arena_trait_kit::{B, Numbered, Wrong, index_number, pointer};
 
@@ -13,9 +11,6 @@ use triple_arena_trait_kit::{B, Numbered, Wrong, index_number, pointer};
 pub type Node = (u64, Option<B>);
 
 pub type Nodes = StrictArena<B, Node>;
-
-/// Two places for nodes, which take no memory.
-pub type FewNodes = StrictArena<B, Node, NonZeroInxArray<ArenaSlot<B, Node>, 2>>;
 
 /// A call; pointers are given by their numbers.
 #[derive(Clone, Copy)]
@@ -93,8 +88,8 @@ fn told_renewed(renewed: Result<B, StrictError>) -> Answer {
     }
 }
 
-/// What a compaction with recasting answers.
-pub fn told_recast(done: Result<DirectArena<B, B>, StrictCompactError<B>>) -> Answer {
+// What a compaction with recasting answers.
+fn told_recast(done: Result<DirectArena<B, B>, StrictCompactError<B>>) -> Answer {
     match done {
         Ok(_map) => Answer::Done,
         Err(StrictCompactError::Exhausted) => Answer::Exhausted,

@@ -2,7 +2,11 @@
 
 use super::arenas::{Pointers, Stack, on, on_each};
 use super::parts::Part;
-use triple_arena_test_kit::{Call, TestedArena, Told, Wrong, follow, step};
+use std::alloc::Global;
+use std::process::Abort;
+use triple_arena::{Arena, ArenaInsertTrait, ArenaTrait};
+use triple_arena_base::ReallocationError;
+use triple_arena_test_kit::{B, Call, TestedArena, Told, Wrong, follow, step};
 
 /// 253 times an insertion and its removal, which raise a byte counter from 2 to its end.
 pub fn each_generation<A: TestedArena>(arena: &mut A) -> Result<(), Wrong> {
@@ -32,6 +36,24 @@ fn a_byte_generation_wraps_at_its_end(rt: HostRuntime) -> Result<(), Wrong> {
         &[Stack::Heap(None)],
         &[Part::EachGeneration],
     )
+}
+
+// Whether the pointer that is given after a wrap is the one that was given first.
+fn comes_again(alloc: Global) -> Result<bool, ReallocationError> {
+    let mut arena: Arena<B, u64> = Arena::new(alloc);
+    let first = arena.insert(1)?;
+    drop(arena.remove(first));
+    for _ in 3..=255 {
+        let p = arena.insert(2)?;
+        drop(arena.remove(p));
+    }
+    let again = arena.insert(3)?;
+    Ok(again == first && arena.get(first) == Some(&3))
+}
+
+#[test]
+fn the_first_pointer_comes_again_after_a_wrap(rt: HostRuntime) {
+    assert!(rt; comes_again(rt.alloc()) == Ok(true));
 }
 
 // The first of two answers, or the second where the counter wraps.

@@ -3,7 +3,7 @@
 ghost use Rattle.std.specs.Prelude.{◌≡◌, ◌+◌, ◌<◌, ◌++◌, ◌∷◌, [], length, map, nat_lt, true, None, Some, IsOk, IfSome, OnOk, OnErr};
 ghost use Rattle.std.specs.List.{position};
 ghost use Rattle.triple_arena_base.specs.Held.{recast_item};
-ghost use Rattle.triple_arena_stack.specs.Capacity.{room_for_one_more};
+ghost use Rattle.triple_arena_stack.specs.Capacity.{capacity_of, most_places, room_for_one_more, HasPlace, CanGrow};
 ghost use Rattle.triple_arena_traits.specs.Items.{item, with_item};
 ghost use Rattle.triple_arena_ptr.specs.Pointers.{is_same};
 ghost use Rattle.triple_arena_commands.specs.PointerNames.{name_of};
@@ -12,9 +12,9 @@ ghost use Rattle.triple_arena_commands.specs.NameLayout.{pointers_of, noted_numb
 use std::alloc::Global;
 use std::marker::Model;
 use std::num::NonZeroUsize;
-use triple_arena_base::{AllocError, Recaster};
+use triple_arena_base::{AllocError, ReallocationError, Recaster};
 use triple_arena_ptr::{Ptr, PtrGen, PtrInx};
-use triple_arena_stack::{NonZeroInxGenericStack, NonZeroInxVec};
+use triple_arena_stack::{NonZeroInxGenericStack, NonZeroInxStack, NonZeroInxVec};
 
 /// What a table keeps at one number.
 #[derive(Drop)]
@@ -82,8 +82,8 @@ impl<P: Ptr> NameTable<P> {
         if self.rows.len() < self.rows.capacity() {
             return Ok(());
         }
-        match self.rows.entry_push() {
-            Ok(_entry) => Ok(()),
+        match make_place(&mut self.rows) {
+            Ok(()) => Ok(()),
             Err(_) => Err(AllocError),
         }
     }
@@ -220,6 +220,28 @@ impl<P: Ptr> NameTable<P> {
             (P.numbers p) }
     {
         Some(position_of(self.rows.as_slice(), p)? + 1)
+    }
+}
+
+// Makes a place for one more item on a stack of any kind; the items stay. Refused only where the
+// stack is full and can't grow: its limit is reached, or memory isn't there. So it can't give up
+// without asking.
+fn make_place<T, K: NonZeroInxGenericStack<T>>(
+    stack: &mut NonZeroInxStack<T, K>,
+) -> Result<(), ReallocationError>
+    ensures items { K.items stack.new ≡ K.items stack.old }
+    ensures limit { K.limit stack.new ≡ K.limit stack.old }
+    ensures room { OnOk result (K.room stack.new
+        ≡ room_for_one_more (K.room stack.old) (K.limit stack.old) (length (K.items stack.old))) }
+    ensures place { OnOk result
+        (HasPlace (K.room stack.new) (K.limit stack.new) (length (K.items stack.new))) }
+    ensures given { CanGrow K.has_memory (capacity_of (K.room stack.old) (K.limit stack.old))
+        (K.limit stack.old) most_places → IsOk result }
+    ensures refused { OnErr result (stack.new ≡ stack.old) }
+{
+    match stack.entry_push() {
+        Ok(_entry) => Ok(()),
+        Err(refusal) => Err(refusal),
     }
 }
 

@@ -6,14 +6,9 @@ ghost use Rattle.std.specs.Io.KnownBytes.{Appends, Keeps};
 ghost use Rattle.triple_arena_commands.specs.ReplyText.{reply_line};
 ghost use Rattle.triple_arena_commands.specs.TextRun.{AppendsCut, IsFlushed};
 
-use crate::reply::Reply;
+use crate::reply::{Reply, text_of};
 use crate::text_error::TextError;
-use arrayvec::ArrayString;
-use std::fmt::Write as FmtWrite;
 use std::io::{BufWriter, ErrorKind, Write};
-
-/// Room for the line of any reply but `Line`: the longest has 58 bytes.
-const LINE_ROOM: usize = 64;
 
 /// The most times that one write is made which is interrupted each time.
 const MOST_TRIES: u64 = 4294967296;
@@ -30,12 +25,12 @@ pub fn write_reply<W: Write>(output: &mut W, reply: &Reply<u64>) -> Result<(), T
         (AppendsCut (W.contents output.old) (W.contents output.new) [] (reply_line reply.now)) }
     ensures write { IfErr result (λ e. e ≡ TextError.Write) }
 {
-    match reply {
-        Reply::Line(text) => write_shown(output, text),
-        _ => match line_of(reply) {
-            Some(line) => write_all(output, line.as_str().as_bytes()),
-            None => Err(TextError::Write),
-        },
+    match text_of(reply) {
+        Ok(mut line) => {
+            line.push_str("\n");
+            write_all(output, line.as_str().as_bytes())
+        }
+        Err(text) => write_shown(output, text),
     }
 }
 
@@ -50,17 +45,6 @@ fn write_shown<W: Write>(output: &mut W, text: &str) -> Result<(), TextError>
 {
     write_all(output, text.as_bytes())?;
     write_all(output, b"\n")
-}
-
-// The line of a reply. Each reply has one, as tests show, but a `Line` that is too long for it.
-fn line_of(reply: &Reply<u64>) -> Option<ArrayString<LINE_ROOM>>
-    ensures { IfSome result (λ line. line.bytes ≡ reply_line reply.now) }
-{
-    let mut line = ArrayString::new();
-    match line.writeln(reply) {
-        Ok(()) => Some(line),
-        Err(_) => None,
-    }
 }
 
 // Writes all of these bytes.

@@ -1,5 +1,5 @@
 -- The map of each pointer of an arena to itself.
-use Rattle.std.proofs.Common.{◌≡◌, ℕ, ◌<◌, List, [], ◌∷◌, ◌++◌, length, map, Option, Some, None, is_some, cond, Result, Ok, refl, sym, ap, ◌∙◌, arith}
+use Rattle.std.proofs.Common.{◌≡◌, ℕ, ◌<◌, List, [], ◌∷◌, ◌++◌, length, map, Option, Some, None, is_some, cond, take, max, Result, Ok, zero, suc, refl, sym, ap, ◌∙◌, arith}
 use Rattle.std.proofs.lemmas.List.{append-nil}
 use Rattle.std.proofs.lemmas.List.Sums.{sum_by-cons}
 use Rattle.std.specs.List.{FoldsTo}
@@ -10,6 +10,7 @@ use Rattle.triple_arena_base.specs.declared.errors.ReallocationError.TheVariants
 use Rattle.triple_arena_ptr.specs.Pointers.{Pointer}
 use Rattle.triple_arena_traits.specs.Entries.{look_up_in, entry_count}
 use Rattle.triple_arena_traits.specs.FreeList.{before, trimmed, last_index}
+use Rattle.triple_arena_traits.specs.FreeEnd.{shortened}
 use Rattle.triple_arena_traits.specs.Walks.{entries, keys_of, values_of, keys, values}
 use Rattle.triple_arena_traits.specs.Copying.{Mapping, MapTurn, Copies, mapped_from, mapped_to}
 use Rattle.triple_arena_renaming.proofs.Renames.{renames}
@@ -67,6 +68,14 @@ last_counts {T = T} (None ∷ xs) some = by_rest (trimmed xs) some (last_counts 
 pub wants_memory : (refusal : ReallocationError) → (refusal ≡ BeyondMaxCapacity → ⊥) → refusal ≡ AllocError
 wants_memory BeyondMaxCapacity other = absurd (other refl)
 wants_memory AllocError other = refl
+
+none_taken : {A : Type 0} (n : ℕ) → take {A = A} n [] ≡ []
+none_taken zero = refl
+none_taken (suc n) = refl
+
+-- of no slots none are left
+pub none_shortened : {A : Type 0} (m : ℕ) → shortened {A = A} m [] ≡ []
+none_shortened m = none_taken (max 0 m)
 
 -- pointers of the same numbers are the same
 pub same_pointer : {P I G : Type 0} (numbers : P → Pointer) (index : P → I) (generation : P → G) (inx : I → ℕ) (gen : G → ℕ)

@@ -7,6 +7,8 @@ use Rattle.triple_arena_base.specs.declared.errors.ReallocationError.TheVariants
 use Rattle.triple_arena_base.specs.declared.errors.CompactError.{CompactError}
 use Rattle.triple_arena_base.specs.declared.errors.CompactError.TheVariants.{Unresolved, Reallocation}
 use Rattle.triple_arena_ptr.specs.Pointers.{Pointer}
+use Rattle.triple_arena_stack.specs.Capacity.{IsWithin}
+use Rattle.triple_arena_stack.specs.StackKind.{StackKind, new_room, new_limit, reallocated_room}
 use Rattle.triple_arena_traits.specs.Entries.{look_up_in}
 
 module _ {P T : Type 0} (numbers : P → Pointer) where
@@ -37,3 +39,12 @@ RefusesMemory count refusal = (refusal ≡ AllocError) × (0 < count)
 abbrev pub Refuses : {P : Type 0} → ℕ → Option P → CompactError P → Type 0
 Refuses count first (Unresolved p) = first ≡ Some p
 Refuses count first (Reallocation refusal) = RefusesMemory count refusal
+
+-- a stored pointer finds nothing, and no memory was refused
+abbrev pub IsUnresolved : {P : Type 0} → CompactError P → Type 0
+IsUnresolved (Unresolved p) = Unit {0}
+IsUnresolved (Reallocation refusal) = ⊥
+
+-- a new stack of this kind may have a map up to this last index, and memory is there for it
+abbrev pub MapHasMemory : StackKind → (ℕ → Type 0) → ℕ → Type 0
+MapHasMemory kind has_memory last = IsWithin (new_limit kind) last × has_memory (reallocated_room kind (new_room kind) 0 last)

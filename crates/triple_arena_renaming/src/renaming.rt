@@ -1,23 +1,26 @@
 //! Compaction that tells the new pointers, and that renames those which the values hold.
 
-ghost use Rattle.std.specs.Prelude.{◌≡◌, ◌∷◌, false, List, [], map, length, None, Some, IsSome, OnOk, OnErr, IfOk};
+ghost use Rattle.std.specs.Prelude.{◌≡◌, ◌∷◌, false, List, [], map, length, None, Some, IsSome, IsOk, OnOk, OnErr, IfOk};
 ghost use Rattle.std.specs.Result.{IfErr};
 ghost use Rattle.triple_arena_base.specs.Held.{held_all};
 ghost use Rattle.triple_arena_base.specs.Invalidation.{allowed_option};
 ghost use Rattle.triple_arena_ptr.specs.Pointers.{Pointer};
+ghost use Rattle.triple_arena_stack.specs.StackKind.{new_limit};
 ghost use Rattle.triple_arena_traits.specs.Entries.{look_up_in, entry_count};
+ghost use Rattle.triple_arena_traits.specs.FreeList.{last_index};
 ghost use Rattle.triple_arena_traits.specs.Ending.{told};
 ghost use Rattle.triple_arena_traits.specs.Histories.{History, compression, begun_with, CountsUp, Continues};
 ghost use Rattle.triple_arena_traits.specs.Walks.{keys, values};
-ghost use Rattle.triple_arena_renaming.specs.Renaming.{MapsPointers, first_unresolved, AreRenamed, RefusesMemory, Refuses};
+ghost use Rattle.triple_arena_renaming.specs.Renaming.{MapsPointers, first_unresolved, AreRenamed, RefusesMemory, Refuses, IsUnresolved, MapHasMemory};
 
 use std::alloc::Global;
 use std::convert::Infallible;
 use triple_arena_base::{
     Advancer, CloneFromError, CompactError, InvalidationOption, ReallocationError, Recast,
 };
-use triple_arena_direct::DirectArena;
+use triple_arena_direct::{DirectArena, DirectSlot};
 use triple_arena_ptr::{Ptr, PtrGen};
+use triple_arena_stack::NonZeroInxGenericStack;
 use triple_arena_traits::{ArenaCloneFromWith, ArenaTrait, CompactArenaTrait, recast_entries};
 
 /// Compresses the arena, and gives the map from each old pointer of an entry to its new one: a
@@ -107,17 +110,23 @@ pub fn compress_recast<P: Ptr, T: Recast<P>, A: CompactArenaTrait<P, T>>(
     Ok(answer.map(|()| images))
 }
 
-// The map of each pointer of an arena to itself, if each that a value holds finds an entry.
-fn resolved_map<P: Ptr, T: Recast<P>, A: CompactArenaTrait<P, T>>(
-    this: &mut A,
-    alloc: Global,
-) -> Result<DirectArena<P, P>, CompactError<P>>
+// The map of each pointer of an arena to itself, if each that a value holds finds an entry. As of
+// `own_map`, memory is not refused where it is there.
+fn resolved_map<
+    P: Ptr,
+    T: Recast<P>,
+    A: CompactArenaTrait<P, T>,
+    K: NonZeroInxGenericStack<DirectSlot<P, P>> + Drop,
+>(this: &mut A, alloc: Global) -> Result<DirectArena<P, P, K>, CompactError<P>>
     ensures keys { IfOk result (λ all. keys all.slots ≡ keys (A.slots this.old)) }
     ensures resolved { OnOk result (first_unresolved P.numbers (A.slots this.old)
         (held_all T.held (values (A.slots this.old))) ≡ None) }
-    ensures refused { IfErr result (Refuses (entry_count (A.slots this.old))
+    ensures refused { new_limit K.kind ≡ None
+        → IfErr result (Refuses (entry_count (A.slots this.old))
         (first_unresolved P.numbers (A.slots this.old)
         (held_all T.held (values (A.slots this.old))))) }
+    ensures given { MapHasMemory K.kind K.has_memory (last_index (A.slots this.old))
+        → IfErr result IsUnresolved }
     ensures unchanged { this.new ≡ this.old }
 {
     let all = own_map(this, alloc)?;
@@ -127,15 +136,21 @@ fn resolved_map<P: Ptr, T: Recast<P>, A: CompactArenaTrait<P, T>>(
     }
 }
 
-// The map of each pointer of an arena to itself.
-fn own_map<P: Ptr, T, A: CompactArenaTrait<P, T>>(
-    this: &A,
-    alloc: Global,
-) -> Result<DirectArena<P, P>, ReallocationError>
+// The map of each pointer of an arena to itself, over any stack. It isn't refused where the stack
+// tells that memory is there, so that it can't give up without asking.
+fn own_map<
+    P: Ptr,
+    T,
+    A: CompactArenaTrait<P, T>,
+    K: NonZeroInxGenericStack<DirectSlot<P, P>> + Drop,
+>(this: &A, alloc: Global) -> Result<DirectArena<P, P, K>, ReallocationError>
     ensures keys { IfOk result (λ all. keys all.slots ≡ keys (A.slots this.now)) }
     ensures values { IfOk result (λ all. map P.numbers (values all.slots)
         ≡ keys (A.slots this.now)) }
-    ensures refused { IfErr result (RefusesMemory (entry_count (A.slots this.now))) }
+    ensures refused { new_limit K.kind ≡ None
+        → IfErr result (RefusesMemory (entry_count (A.slots this.now))) }
+    ensures given { MapHasMemory K.kind K.has_memory (last_index (A.slots this.now))
+        → IsOk result }
 {
     let mut all = DirectArena::new(alloc);
     match all.clone_from_with(this, |p, _value| Ok::<P, Infallible>(p)) {

@@ -1,3 +1,4 @@
+pub mod NodeText
 pub mod SessionState
 pub mod SessionLayout
 pub mod Compaction

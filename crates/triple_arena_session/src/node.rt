@@ -1,8 +1,10 @@
 //! What a session keeps under a name.
 
 ghost use Rattle.std.proofs.Common.{ap};
+ghost use Rattle.std.specs.Fmt.{debug_option};
 ghost use Rattle.triple_arena_base.specs.Held.{held_option, refill_option};
 ghost use Rattle.triple_arena_base.specs.HeldLaws.{option_held_refill, option_refill_held, option_refill_refill};
+ghost use Rattle.triple_arena_session.specs.NodeText.{pair_text};
 
 use std::fmt;
 use triple_arena_base::{Recast, Recaster};
@@ -16,8 +18,11 @@ pub struct Node<X, P> {
     pub link: Option<P>,
 }
 
-/// Writes the pair of the datum and the link.
+/// Writes the pair of the datum and the link: `(20, None)`.
 impl<X: fmt::Debug, P: fmt::Debug> fmt::Debug for Node<X, P> {
+    ghost debug_output = { λ node. pair_text (X.debug_output node.datum)
+        (debug_option P.debug_output node.link) };
+
     fn fmt<W: fmt::Write>(&self, f: &mut fmt::Formatter<W>) -> fmt::Result {
         (&self.datum, &self.link).fmt(f)
     }

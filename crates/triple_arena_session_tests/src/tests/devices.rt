@@ -40,8 +40,8 @@ pub enum WriteFailure {
     Error(ErrorKind),
     /// It takes no byte, and says so.
     TakesNone,
-    /// It is interrupted once, and the writes after it are taken.
-    Interrupted,
+    /// It is interrupted so many times, at least once, and then taken, as the writes after it are.
+    Interrupted(usize),
 }
 
 /// Holds up to 256 bytes, takes at most so many at a write, and fails at the write of a given
@@ -78,8 +78,12 @@ impl ShortWriter {
         match self.failure {
             WriteFailure::Error(kind) => Err(io::Error::from(kind)),
             WriteFailure::TakesNone => Ok(0),
-            WriteFailure::Interrupted => {
-                self.writes_before = usize::MAX;
+            WriteFailure::Interrupted(times) => {
+                if times > 1 {
+                    self.failure = WriteFailure::Interrupted(times - 1);
+                } else {
+                    self.writes_before = usize::MAX;
+                }
                 Err(io::Error::from(ErrorKind::Interrupted))
             }
         }

@@ -271,11 +271,14 @@ fn writes_on(rt: &impl Abort, alloc: Global, writes_before: usize, failure: Writ
     tries(rt, alloc, &trial);
 }
 
-/// Each write in turn is interrupted, and made again.
+/// Each write in turn is interrupted, once and a thousand times, and made again each time.
 #[test]
 fn writes_on_after_an_interruption(rt: HostRuntime) {
-    for writes_before in 0..24 {
-        writes_on(&rt, rt.alloc(), writes_before, WriteFailure::Interrupted);
+    for times in [1, 1000] {
+        for writes_before in 0..24 {
+            let failure = WriteFailure::Interrupted(times);
+            writes_on(&rt, rt.alloc(), writes_before, failure);
+        }
     }
 }
 

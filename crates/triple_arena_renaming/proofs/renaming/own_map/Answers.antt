@@ -1,7 +1,8 @@
-use Rattle.std.proofs.Common.{rules, ◌∙◌, Ok, Err, refl, map, ap, arith}
+use Rattle.std.proofs.Common.{rules, ℕ, ◌∙◌, Ok, Err, refl, map, ap, arith}
 use Rattle.triple_arena_base.specs.declared.errors.CloneFromError.TheVariants.{Reallocation}
+use Rattle.triple_arena_traits.specs.FreeList.{last_index}
 use Rattle.triple_arena_traits.specs.Walks.{keys, values}
-use Rattle.triple_arena_renaming.proofs.OwnMaps.{own_copied, last_counts, wants_memory}
+use Rattle.triple_arena_renaming.proofs.OwnMaps.{own_copied, last_counts, wants_memory, none_shortened}
 use Rattle.triple_arena_renaming.proofs.renaming.own_map.Goals as goal
 
 pub returns-in-Ok-clause-keys : goal.returns-in-Ok-clause-keys
@@ -15,8 +16,13 @@ returns-in-Ok-clause-values g c =
     ap (λ s. map g.P.Ptr.numbers (values s.slots)) k.2 ∙ (own_copied g.P.Ptr.numbers _ _ (g.A.ArenaTrait.slots c.args.this.now) k.0 (λ a m b r. search rules) k.1).1
 
 pub returns-in-Err-Reallocation-clause-refused : goal.returns-in-Err-Reallocation-clause-refused
-returns-in-Err-Reallocation-clause-refused g c =
+returns-in-Err-Reallocation-clause-refused g c unlimited =
     let e = c.in-Err-Reallocation.ensures in (
-      wants_memory c.in-Err-Reallocation.refusal (λ is. rw (ap (λ s. s.limit) c.new-all.ensures) at (e.beyond.0 (ap Err (c.in-Err-Reallocation.field-0-is ∙ ap Reallocation is))).1),
+      wants_memory c.in-Err-Reallocation.refusal (λ is. rw (ap (λ s. s.limit) c.new-all.ensures, unlimited) at (e.beyond.0 (ap Err (c.in-Err-Reallocation.field-0-is ∙ ap Reallocation is))).1),
       last_counts (g.A.ArenaTrait.slots c.args.this.now) (omega (arith, rw c.new-all.ensures at (e.short (rw c.in-Err-Reallocation.field-0-is tt)))),
     )
+
+pub returns-in-Err-Reallocation-clause-given : goal.returns-in-Err-Reallocation-clause-given
+returns-in-Err-Reallocation-clause-given g c there =
+    let e = c.in-Err-Reallocation.ensures in
+    absurd (e.given (rw c.new-all.ensures there.0) (rw (c.new-all.ensures, none_shortened {A = ℕ × g.row.P.Denot} (last_index (g.A.ArenaTrait.slots c.args.this.now))) there.1) (rw c.in-Err-Reallocation.field-0-is tt))

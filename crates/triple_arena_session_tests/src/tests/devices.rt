@@ -1,5 +1,7 @@
 //! Readers and writers that fail where a test wants it.
 
+ghost use Rattle.std.specs.Prelude.{◌≡◌, IfOk};
+
 use std::io;
 use std::io::{ErrorKind, Read, Write};
 
@@ -73,8 +75,10 @@ impl ShortWriter {
         }
     }
 
-    // What the write answers that is refused.
-    fn refuse(&mut self) -> io::Result<usize> {
+    // What the write answers that is refused: it takes no byte.
+    fn refuse(&mut self) -> io::Result<usize>
+        ensures { IfOk result (λ count. count ≡ 0) }
+    {
         match self.failure {
             WriteFailure::Error(kind) => Err(io::Error::from(kind)),
             WriteFailure::TakesNone => Ok(0),

@@ -66,8 +66,8 @@ impl<X> Reply<X> {
 /// Room for the line of any reply but `Line`: the longest has 58 bytes.
 pub(crate) const LINE_ROOM: usize = 64;
 
-/// The text of any reply but `Line`, of at most 57 bytes, or that of a `Line`, which may be of any length. Numbers are
-/// decimal, no link is a dash, and ` wrapped` follows where the reply tells of a wrap.
+/// The text of a reply: that of any but a `Line`, of at most 57 bytes; or `Err`, that of a `Line`, which
+/// may have any length.
 pub(crate) fn text_of(reply: &Reply<u64>) -> Result<ArrayString<LINE_ROOM>, &str>
     ensures text { IfOk result (λ text. text.bytes ≡ reply_text reply.now) }
     ensures short { IfOk result (λ text. array_string_len text ≤ 57) }
@@ -109,7 +109,7 @@ fn word(text: &str) -> ArrayString<LINE_ROOM>
     word
 }
 
-// The text, and a number of at most 20 digits after it.
+// The text, and a number after it, of at most 20 digits.
 fn with_number(mut text: ArrayString<LINE_ROOM>, number: u64) -> ArrayString<LINE_ROOM>
     requires { array_string_len text ≤ 44 }
     ensures text { result.bytes ≡ text.bytes ++ decimal number }

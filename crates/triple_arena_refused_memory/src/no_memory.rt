@@ -229,12 +229,12 @@ fn session<T: Asked>(session: &mut T) -> Result<End, Wrong> {
 }
 
 fn general_session(alloc: Global) -> Result<End, Wrong> {
-    let mut new: Session<P0, u64> = Session::new(alloc);
+    let mut new: Session<P0, u64> = Session::with_new_arena(alloc);
     session(&mut new)
 }
 
 fn strict_session(alloc: Global) -> Result<End, Wrong> {
-    let mut new: StrictSession<P0, u64> = StrictSession::new(alloc);
+    let mut new: StrictSession<P0, u64> = StrictSession::with_new_arena(alloc);
     session(&mut new)
 }
 

@@ -168,23 +168,23 @@ impl Text {
     }
 
     fn runs(&self, alloc: Global) -> Result<End, Wrong> {
-        let mut session: Session<P0, u64> = Session::new(alloc);
+        let mut session: Session<P0, u64> = Session::with_new_arena(alloc);
         self.runs_in(alloc, &mut session)
     }
 }
 
 fn runs_strictly(alloc: Global) -> Result<End, Wrong> {
-    let mut session: StrictSession<P0, u64> = StrictSession::new(alloc);
+    let mut session: StrictSession<P0, u64> = StrictSession::with_new_arena(alloc);
     TAKES_MEMORY.runs_in(alloc, &mut session)
 }
 
 fn run(alloc: Global) -> Result<End, Wrong> {
-    let mut session: Session<P0, u64> = Session::new(alloc);
+    let mut session: Session<P0, u64> = Session::with_new_arena(alloc);
     runs_commands(&mut session)
 }
 
 fn run_strict(alloc: Global) -> Result<End, Wrong> {
-    let mut session: StrictSession<P0, u64> = StrictSession::new(alloc);
+    let mut session: StrictSession<P0, u64> = StrictSession::with_new_arena(alloc);
     runs_commands(&mut session)
 }
 

@@ -272,11 +272,11 @@ fn is_empty_with_eight(extent: (usize, usize, u64)) -> Result<End, Wrong> {
 }
 
 pub fn try_each(alloc: Global, report: &mut Report) {
-    let mut session: Session<P0, u64> = Session::new(alloc);
+    let mut session: Session<P0, u64> = Session::with_new_arena(alloc);
     each_row(&mut session, "a session", true, report);
-    let mut session: Session<P0, u64, NonZeroInxArray<Slot, 8>> = Session::new(alloc);
+    let mut session: Session<P0, u64, NonZeroInxArray<Slot, 8>> = Session::with_new_arena(alloc);
     each_row(&mut session, "a session in an array", false, report);
-    let mut session: StrictSession<P0, u64> = StrictSession::new(alloc);
+    let mut session: StrictSession<P0, u64> = StrictSession::with_new_arena(alloc);
     each_row(&mut session, "a strict session", true, report);
     report.note("no call", "a session with room", has_room(alloc));
     report.note(

@@ -7,11 +7,10 @@ use Rattle.std.specs.Option.{option_map}
 use Rattle.triple_arena_ptr.specs.Pointers.{Pointer, is_same}
 use Rattle.triple_arena_stack.specs.StackKind.{StackKind}
 use Rattle.triple_arena_traits.specs.Entries.{entry_count}
-use Rattle.triple_arena_traits.specs.ArenaState.{ArenaState, look_up, IsWellFormed}
+use Rattle.triple_arena_traits.specs.ArenaState.{ArenaState, look_up}
 use Rattle.triple_arena_traits.specs.Walks.{keys, values}
 use Rattle.triple_arena_traits.specs.Compression.{compressed, rank}
 use Rattle.triple_arena_traits.specs.Histories.{has, AreDistinct, is_live}
-use Rattle.triple_arena_traits.specs.WellFormedLaws.{len_within}
 use Rattle.triple_arena_traits.specs.PointerListLaws.{same_itself, same_is, has_head, has_tail, has-keys, false_unless}
 use Rattle.triple_arena_commands.specs.PointerNames.{name_of}
 use Rattle.triple_arena_session.specs.SessionState.{SessionState, link_name}
@@ -19,10 +18,10 @@ use Rattle.triple_arena_session.specs.Compaction.{renamed, relinked, compacted}
 use Rattle.triple_arena_session.specs.Shown.{as_row, row_of, shown}
 use Rattle.triple_arena_traits.specs.CompressionLaws.{length-values, rank_apart, keys-compressed, values-compressed}
 use Rattle.triple_arena_traits.specs.MoveLaws.{nth_found, found_nth}
-use Rattle.triple_arena_traits.specs.StepLaws.{IsWellFormed-compressed}
 use Rattle.triple_arena_session.proofs.TableNames.{not_same, has_from_get, name_of-map, map_same}
 use Rattle.triple_arena_session.proofs.Rows.{some_is, some_has}
-use Rattle.triple_arena_session.proofs.Soundness.{SoundOver, SoundOver-from}
+use Rattle.triple_arena_session.proofs.Soundness.{SoundOver, SoundOver-from, over_of}
+use Rattle.triple_arena_session.proofs.Continuing.{over_compressed}
 
 module _ {T : Type 0} (s : ArenaState T) (n : ℕ) where
   -- ranks of different live pointers differ
@@ -59,9 +58,6 @@ module _ {T : Type 0} (s : ArenaState T) (n : ℕ) where
         by : (k : ℕ) (o : Option Pointer) → slice_get (keys s.slots) k ≡ o → option_map (rank s n) o ≡ Some r → (p : Pointer) × (is_live s p ≡ true) × (rank s n p ≡ r)
         by k None is e = absurd (cc)
         by k (Some p) is e = (p, sym (has-keys s p) ∙ has_from_get (keys s.slots) k p is, same_Some (rank s n p) r e)
-
-    pub IsWellFormed-moved : IsWellFormed s → IsWellFormed moved
-    IsWellFormed-moved well = IsWellFormed-compressed s n (map f (values s.slots)) (omega (arith, many, len_within s well))
 
 -- a renaming that is one to one on a table
 module _ (f : Pointer → Pointer) where
@@ -182,8 +178,7 @@ module _ {X : Type 0} (kind : StackKind) (s : SessionState X) (n : ℕ) (sound :
         before = λ r h dead. let from = from-map there s.table r h in below from.0 r from.1 from.2 dead (cases_Bool (is_live s.arena from.0));
       })
       (λ r q datum found. linked r q datum found)
-      (IsWellFormed-moved s.arena n image sound.well_formed)
-      sound.of_kind
+      (over_compressed kind s.arena (over_of kind s sound) n image)
     where
       now : (p r : Pointer) → has s.table p ≡ true → there p ≡ r → (is_live s.arena p ≡ true) ⊎ (is_live s.arena p ≡ false) → r.1 ≤ n
       now p r h e (inl live) = let g : n ≡ r.1 = ap (λ (x : Pointer). x.1) (sym (live_to p live) ∙ e) in omega (arith, g)

@@ -6,6 +6,7 @@ mod Uncounted
 mod TableNames
 mod Rows
 mod Soundness
+mod Continuing
 mod StoreSteps
 mod Reserving
 mod StoreInsertions

@@ -1,5 +1,5 @@
 -- Reserve: what a session shows stays, its capacity aside.
-use Rattle.std.proofs.Common.{◌≡◌, ◌⊎◌, ℕ, ◌≤◌, Bool, true, false, cond, [], ◌∷◌, map, Option, Some, None, min, refl, sym, ap, subst, ◌∙◌, inl, inr, arith}
+use Rattle.std.proofs.Common.{◌≡◌, ◌⊎◌, ℕ, ◌≤◌, Bool, true, false, cond, map, Option, Some, None, min, refl, sym, ap, subst, ◌∙◌, inl, inr, arith}
 use Rattle.std.proofs.lemmas.Bool.Decides.{leb_tells}
 use Rattle.std.proofs.lemmas.List.{append-nil}
 use Rattle.std.proofs.lemmas.Option.{same_Some}
@@ -9,13 +9,12 @@ use Rattle.triple_arena_stack.specs.StackKind.{StackKind, IsOfKind, reallocated_
 use Rattle.triple_arena_stack.specs.StackKind.StackKind.{heap, limited, fixed, array}
 use Rattle.triple_arena_stack.specs.Capacity.{capacity_of, IsWithin, IsBeyond}
 use Rattle.triple_arena_traits.specs.Entries.{value_under, KeepsEntries}
-use Rattle.triple_arena_traits.specs.ArenaState.{ArenaState, arena_len, capacity, slot_count, IsWellFormed}
+use Rattle.triple_arena_traits.specs.ArenaState.{ArenaState, arena_len, capacity, slot_count}
 use Rattle.triple_arena_traits.specs.FreeList.{tidied}
 use Rattle.triple_arena_traits.specs.Capacity.{reallocated}
 use Rattle.triple_arena_traits.specs.EntryLaws.{slots-settled}
-use Rattle.triple_arena_traits.specs.Histories.{resizing, Continues, Fits}
+use Rattle.triple_arena_traits.specs.Histories.{resizing}
 use Rattle.triple_arena_traits.specs.WellFormedLaws.{len_within}
-use Rattle.triple_arena_traits.specs.StepLaws.{IsWellFormed-tidied, reallocated_stays}
 use Rattle.triple_arena_traits.specs.HistoryLaws.{Continues-resized}
 use Rattle.triple_arena_commands.specs.declared.reply.Reply.{Reply}
 use Rattle.triple_arena_commands.specs.declared.reply.Reply.TheVariants.{BeyondMaxCapacity, NoMemory, Done}
@@ -23,10 +22,11 @@ use Rattle.triple_arena_commands.specs.Limits.{is_within}
 use Rattle.triple_arena_commands.specs.NameStore.{row_count, ReservesRows}
 use Rattle.triple_arena_session.specs.SessionState.{SessionState}
 use Rattle.triple_arena_session.specs.SessionRun.{in_order, reserve_answer, RoomWantsMemory}
-use Rattle.triple_arena_session.specs.Shown.{row_of, shown}
+use Rattle.triple_arena_session.specs.Shown.{row_of, shown, IsArenaOver}
 use Rattle.triple_arena_session.proofs.TableNames.{map_same}
 use Rattle.triple_arena_session.proofs.Rows.{row_kept, row_count-shown}
-use Rattle.triple_arena_session.proofs.Soundness.{SoundOver, TableSound, TableSound-given, SoundOver-from}
+use Rattle.triple_arena_session.proofs.Soundness.{SoundOver, TableSound, TableSound-given, SoundOver-from, over_of}
+use Rattle.triple_arena_session.proofs.Continuing.{over_tidied, over_reallocated}
 
 -- a reallocation within the limit makes room for what was asked
 enough : (kind : StackKind) (room n m : ℕ) (limit : Option ℕ) (greatest : ℕ) → IsOfKind kind room limit → m ≤ greatest → IsWithin limit m → m ≤ min (capacity_of (reallocated_room kind room n m) limit) greatest
@@ -38,12 +38,6 @@ enough fixed room n m None greatest is below within = absurd (cc)
 enough fixed room n m (Some most) greatest is below within = let same : most ≡ room = same_Some most room is in omega (arith, same, within)
 enough (array places) room n m None greatest is below within = absurd (let no = is.1 in cc)
 enough (array places) room n m (Some most) greatest is below within = let same : most ≡ places = same_Some most places is.1 in omega (arith, same, within, is.0)
-
-pub kind_kept : (kind : StackKind) (room n m : ℕ) (limit : Option ℕ) → IsOfKind kind room limit → IsOfKind kind (reallocated_room kind room n m) limit
-kind_kept heap room n m limit is = is
-kind_kept limited room n m limit is = is
-kind_kept fixed room n m limit is = is
-kind_kept (array places) room n m limit is = is
 
 cut_within : (room : ℕ) (limit : Option ℕ) (greatest : ℕ) → IsWithin limit (min (capacity_of room limit) greatest)
 cut_within room None greatest = tt
@@ -58,23 +52,22 @@ module _ {X : Type 0} (kind : StackKind) (s : SessionState X) (sound : SoundOver
   same_rows : (a : ArenaState (X × Option Pointer)) → KeepsEntries s.arena.slots a.slots → map (row_of a s.table) s.table ≡ map (row_of s.arena s.table) s.table
   same_rows a same = map_same (row_of s.arena s.table) (row_of a s.table) s.table (λ q h. row_kept kind s a s.table q sound (λ l h. refl) (ap (option_and_then (value_under q.1)) (same q.0)))
 
-  same_sound : (a : ArenaState (X × Option Pointer)) → KeepsEntries s.arena.slots a.slots → a.counter ≡ s.arena.counter → IsWellFormed a → IsOfKind kind a.room a.limit → SoundOver kind (record s { arena = a })
-  same_sound a same counter well of_kind =
+  same_sound : (a : ArenaState (X × Option Pointer)) → KeepsEntries s.arena.slots a.slots → a.counter ≡ s.arena.counter → IsArenaOver kind a → SoundOver kind (record s { arena = a })
+  same_sound a same counter over =
       SoundOver-from kind (record s { arena = a })
       (subst (TableSound a) (append-nil s.table) (TableSound-given kind s sound resizing a (Continues-resized s.arena a same counter)))
       (λ p q datum found. sound.table.has_links p q datum (sym (ap (option_and_then (value_under p.1)) (same p.0)) ∙ found))
-      well of_kind
+      over
 
   -- a reply to a reservation, and the session after it, are those of the store that the session shows
   abbrev pub Reserved : ℕ → Reply X × SessionState X → Type 0
-  Reserved m a = ReservesRows (shown s) m a.0 (shown a.1) × SoundOver kind a.1 × Continues Fits s.arena (resizing ∷ []) a.1.arena
+  Reserved m a = ReservesRows (shown s) m a.0 (shown a.1) × SoundOver kind a.1
 
-  in_order_shows : (shown (in_order s) ≡ shown s) × SoundOver kind (in_order s) × Continues Fits s.arena (resizing ∷ []) (in_order s).arena
+  in_order_shows : (shown (in_order s) ≡ shown s) × SoundOver kind (in_order s)
   in_order_shows =
       let entries = slots-settled s.arena (tidied s.arena) refl in (
         ap (λ rows. record (shown s) { rows = rows }) (same_rows (tidied s.arena) entries),
-        same_sound (tidied s.arena) entries refl (IsWellFormed-tidied s.arena sound.well_formed) sound.of_kind,
-        Continues-resized s.arena (tidied s.arena) entries refl,
+        same_sound (tidied s.arena) entries refl (over_tidied kind s.arena (over_of kind s sound)),
       )
 
   reallocated_shows : (m : ℕ) → m ≤ s.arena.greatest → IsWithin s.arena.limit m → Reserved m (Done, record s { arena = reallocated kind s.arena m })
@@ -82,19 +75,18 @@ module _ {X : Type 0} (kind : StackKind) (s : SessionState X) (sound : SoundOver
       let a : ArenaState (X × Option Pointer) = reallocated kind s.arena m in
       let entries = slots-settled s.arena (tidied s.arena) refl in
       let n : ℕ = slot_count (tidied s.arena) in
-      let well : IsWellFormed a = reallocated_stays kind s.arena m sound.well_formed in
-      let after = same_sound a entries refl well (kind_kept kind s.arena.room n m s.arena.limit sound.of_kind) in
+      let over : IsArenaOver kind a = over_reallocated kind s.arena (over_of kind s sound) m in
+      let after = same_sound a entries refl over in
       let rows = same_rows a entries in
       let count : row_count (shown s) ≡ arena_len a = ap (λ r. row_count {X = X} (record (shown s) { rows = r })) (sym rows) ∙ row_count-shown kind (record s { arena = a }) after in (
         (
           ap (λ r. record (shown s) { rows = r; capacity = capacity a }) rows,
           enough kind s.arena.room n m s.arena.limit s.arena.greatest sound.of_kind below within,
-          subst (λ k. k ≤ capacity a) (sym count) (len_within a well),
+          subst (λ k. k ≤ capacity a) (sym count) (len_within a over.0),
           cut_within (reallocated_room kind s.arena.room n m) s.arena.limit s.arena.greatest,
           omega arith,
         ),
         after,
-        Continues-resized s.arena a entries refl,
       )
 
   module _ (counting : Bool) (greatest : ℕ) where
@@ -105,13 +97,13 @@ module _ {X : Type 0} (kind : StackKind) (s : SessionState X) (sound : SoundOver
           | inl fits ↦ subst (λ b. Reserved m (cond b (cond (is_within s.arena.limit m) (Done, record s { arena = reallocated kind s.arena m }) (BeyondMaxCapacity, in_order s)) (NoMemory, in_order s))) (sym fits.0)
               (elim (within_tells s.arena.limit m) [
                 | inl allowed ↦ subst (λ b. Reserved m (cond b (Done, record s { arena = reallocated kind s.arena m }) (BeyondMaxCapacity, in_order s))) (sym allowed.0) (reallocated_shows m fits.1 allowed.1)
-                | inr beyond ↦ subst (λ b. Reserved m (cond b (Done, record s { arena = reallocated kind s.arena m }) (BeyondMaxCapacity, in_order s))) (sym beyond.0) ((fits.1, beyond.1, in_order_shows.0), in_order_shows.1, in_order_shows.2)
+                | inr beyond ↦ subst (λ b. Reserved m (cond b (Done, record s { arena = reallocated kind s.arena m }) (BeyondMaxCapacity, in_order s))) (sym beyond.0) ((fits.1, beyond.1, in_order_shows.0), in_order_shows.1)
               ])
           | inr past ↦ subst (λ b. Reserved m (cond b (cond (is_within s.arena.limit m) (Done, record s { arena = reallocated kind s.arena m }) (BeyondMaxCapacity, in_order s)) (NoMemory, in_order s))) (sym past.0)
-              (((λ fits. absurd (omega (arith, past.1, fits))), in_order_shows.0), in_order_shows.1, in_order_shows.2)
+              (((λ fits. absurd (omega (arith, past.1, fits))), in_order_shows.0), in_order_shows.1)
         ]
 
   -- and where it is
   pub reserved_wanting : (has_memory : ℕ → Type 0) (m : ℕ) (t : SessionState X) → RoomWantsMemory kind has_memory s.arena m → t ≡ in_order s → Reserved m (NoMemory, t)
   reserved_wanting has_memory m t wants is =
-      subst (λ u. Reserved m (NoMemory, u)) (sym is) (((λ below. wants.1), in_order_shows.0), in_order_shows.1, in_order_shows.2)
+      subst (λ u. Reserved m (NoMemory, u)) (sym is) (((λ below. wants.1), in_order_shows.0), in_order_shows.1)

@@ -1,13 +1,14 @@
 -- The table of a sound session is what a history of its arena gave.
-use Rattle.std.proofs.Common.{◌≡◌, ◌<◌, ◌≤◌, ◌&&◌, ◌||◌, Bool, true, false, not, IsTrue, List, [], ◌∷◌, ◌++◌, filter, Some, cond, Option, refl, sym, ap, subst, ◌∙◌, true≢false}
+use Rattle.std.proofs.Common.{◌≡◌, ◌<◌, ◌≤◌, ◌&&◌, ◌||◌, Bool, true, false, not, IsTrue, List, [], ◌∷◌, ◌++◌, filter, Some, cond, Option, is_some, refl, sym, ap, subst, ◌∙◌, true≢false}
 use Rattle.std.proofs.lemmas.Bool.{and_parts}
 use Rattle.std.proofs.lemmas.List.{append-nil}
 use Rattle.triple_arena_ptr.specs.Pointers.{Pointer, is_same}
 use Rattle.triple_arena_stack.specs.StackKind.{StackKind, IsOfKind}
-use Rattle.triple_arena_traits.specs.ArenaState.{ArenaState, look_up, IsWellFormed}
+use Rattle.triple_arena_traits.specs.ArenaState.{ArenaState, arena_len, look_up, IsWellFormed}
 use Rattle.triple_arena_traits.specs.Histories.{has, AreDistinct, ModelCall, clearing, given_by, History, begun_with, and_then, given, ended, is_live, Fits, Continues}
+use Rattle.triple_arena_traits.specs.HistoryLaws.{Fits-empty}
 use Rattle.triple_arena_traits.specs.PointerListLaws.{same_is}
-use Rattle.triple_arena_session.specs.SessionState.{SessionState}
+use Rattle.triple_arena_session.specs.SessionState.{SessionState, new_session}
 use Rattle.triple_arena_session.specs.Shown.{IsSound, IsArenaOver}
 
 -- a session is sound, over an arena of a stack of this kind
@@ -18,6 +19,9 @@ pub record SoundOver {X : Type 0} (kind : StackKind) (s : SessionState X) : Type
 
 pub sound_over : {X : Type 0} (kind : StackKind) (s : SessionState X) → IsSound s → IsArenaOver kind s.arena → SoundOver kind s
 sound_over kind s sound over = record { table = sound; well_formed = over.0; of_kind = over.1 }
+
+pub over_of : {X : Type 0} (kind : StackKind) (s : SessionState X) → SoundOver kind s → IsArenaOver kind s.arena
+over_of kind s sound = (sound.well_formed, sound.of_kind)
 
 -- the pointers of a list that pass a test
 has-filter : (f : Pointer → Bool) (ps : List Pointer) (p : Pointer) → has (filter f ps) p ≡ (has ps p && f p)
@@ -106,11 +110,19 @@ module _ {X : Type 0} (kind : StackKind) (s : SessionState X) (sound : SoundOver
       subst (λ l. TableSound t (l ++ given_by call)) (append-nil s.table)
       (TableSound-fits (and_then (history_of s.arena s.table) call) t (continues (history_of s.arena s.table) Fits-table))
 
--- with the links, and what holds of the arena, that is soundness
-pub SoundOver-from : {X : Type 0} (kind : StackKind) (t : SessionState X) → TableSound t.arena t.table → ((p q : Pointer) (datum : X) → look_up t.arena p ≡ Some (datum, Some q) → has t.table q ≡ true) → IsWellFormed t.arena → IsOfKind kind t.arena.room t.arena.limit → SoundOver kind t
-SoundOver-from kind t table links well of_kind =
+-- a session that has given no name is sound, over an arena without an entry
+pub IsSound-empty : {X : Type 0} (a : ArenaState (X × Option Pointer)) → arena_len a ≡ 0 → IsSound (new_session a)
+IsSound-empty a none =
+    let fits : Fits (begun_with []) a = Fits-empty a none in
     record {
-      table = record { distinct = table.distinct; has_live = table.has_live; has_links = links; by_now = table.by_now; before = table.before };
-      well_formed = well;
-      of_kind = of_kind;
+      distinct = tt;
+      has_live = λ p live. absurd (true≢false (sym live ∙ fits.live p));
+      has_links = λ p q datum found. absurd (true≢false (sym (ap is_some found) ∙ fits.live p));
+      by_now = λ p h. absurd (true≢false (sym h));
+      before = λ p h dead. absurd (true≢false (sym h));
     }
+
+-- with the links, and what holds of the arena, that is soundness
+pub SoundOver-from : {X : Type 0} (kind : StackKind) (t : SessionState X) → TableSound t.arena t.table → ((p q : Pointer) (datum : X) → look_up t.arena p ≡ Some (datum, Some q) → has t.table q ≡ true) → IsArenaOver kind t.arena → SoundOver kind t
+SoundOver-from kind t table links over =
+    sound_over kind t (record { distinct = table.distinct; has_live = table.has_live; has_links = links; by_now = table.by_now; before = table.before }) over

@@ -8,11 +8,9 @@ use Rattle.triple_arena_ptr.specs.Numbers.{raise, wraps, first_generation}
 use Rattle.triple_arena_ptr.specs.Pointers.{Pointer}
 use Rattle.triple_arena_stack.specs.StackKind.{StackKind, IsOfKind}
 use Rattle.triple_arena_traits.specs.ArenaState.{arena_len, capacity, new_arena}
-use Rattle.triple_arena_traits.specs.Walks.{keys, values}
 use Rattle.triple_arena_traits.specs.Compression.{raised_if_any}
-use Rattle.triple_arena_traits.specs.Histories.{compression, is_live, Continues, Fits}
+use Rattle.triple_arena_traits.specs.Histories.{is_live}
 use Rattle.triple_arena_traits.specs.WellFormedLaws.{IsWellFormed-empty}
-use Rattle.triple_arena_traits.specs.HistoryLaws.{Continues-compressed}
 use Rattle.triple_arena_commands.specs.declared.command.Command.{Command}
 use Rattle.triple_arena_commands.specs.declared.command.Command.TheVariants.{Insert, InsertWithin, Get, Set, Remove, Invalidate, Clear, Compact, Len, Capacity, Reserve, Show}
 use Rattle.triple_arena_commands.specs.declared.reply.Reply.{Reply}
@@ -24,16 +22,15 @@ use Rattle.triple_arena_commands.specs.UnseenLaws.{without_wrap-quiet}
 use Rattle.triple_arena_session.specs.SessionState.{SessionState, new_session, named}
 use Rattle.triple_arena_session.specs.Compaction.{relinked, any_dangles, compacted}
 use Rattle.triple_arena_session.specs.SessionRun.{refused_reply, show_reply, shown_text, wraps_if_any, with_room_for_name, reserve_answer, answer, WantsMemory, IsStep}
-use Rattle.triple_arena_session.specs.SessionCalls.{calls_of}
 use Rattle.triple_arena_session.specs.Shown.{as_row, shown}
-use Rattle.triple_arena_traits.specs.CompressionLaws.{length-values}
 use Rattle.triple_arena_session.proofs.Rows.{row_count-shown}
-use Rattle.triple_arena_session.proofs.StoreSteps.{row_named, good_link, raised_by_one, unmoved, Agrees, agrees, agrees_same, agrees_get, agrees_len, agrees_capacity, agrees_set, agrees_remove, agrees_invalidate, agrees_clear}
+use Rattle.triple_arena_session.proofs.StoreSteps.{row_named, good_link, Agrees, agrees, agrees_same, agrees_get, agrees_len, agrees_capacity, agrees_set, agrees_remove, agrees_invalidate, agrees_clear}
 use Rattle.triple_arena_session.proofs.StoreInsertions.{refusal-shown, agrees_insert, agrees_within}
 use Rattle.triple_arena_session.proofs.Reserving.{Reserved, reserved_answer, reserved_wanting}
 use Rattle.triple_arena_session.proofs.Compacting.{shown-compacted, SoundOver-compacted}
 use Rattle.triple_arena_session.proofs.Dangling.{dangling}
-use Rattle.triple_arena_session.proofs.Soundness.{SoundOver}
+use Rattle.triple_arena_session.proofs.Soundness.{SoundOver, IsSound-empty}
+use Rattle.triple_arena_session.proofs.Continuing.{raised_by_one, step_cases}
 
 -- the commands that the store answers in one way, memory aside
 abbrev pub has_answer : {X : Type 0} → Command X → Bool
@@ -55,13 +52,11 @@ module _ {X : Type 0} (kind : StackKind) where
   as_wanting s command wants = inr (wants, refl)
 
   -- the reply to a command, bools aside, is one that the store that the session shows can give; and where it tells of no wrap,
-  -- what the session shows then is what that store becomes, the session stays sound, and its arena has gone on by the model
-  -- calls of the command
+  -- what the session shows then is what that store becomes, and the session stays sound
   pub record StepsAsStore (s : SessionState X) (command : Command X) (reply : Reply X) (t : SessionState X) : Type 0 where
     pub answers : (u : Store X) × IsStoreStep (shown s) command (without_wrap reply) u
     pub step : tells_of_wrap reply ≡ false → IsStoreStep (shown s) command reply (shown t)
     pub sound : tells_of_wrap reply ≡ false → SoundOver kind t
-    pub calls : tells_of_wrap reply ≡ false → Continues Fits s.arena (calls_of s command reply) t.arena
 
   from_agreement : (s : SessionState X) (command : Command X) (a : Reply X × SessionState X) → has_answer command ≡ true → Agrees kind s command a → StepsAsStore s command a.0 a.1
   from_agreement s command a has agreement =
@@ -69,17 +64,15 @@ module _ {X : Type 0} (kind : StackKind) where
         answers = ((store_answer (shown s) command).1, as_step (shown s) command (without_wrap a.0) (store_answer (shown s) command).1 has (ap (λ r. (r, (store_answer (shown s) command).1)) agreement.reply));
         step = λ quiet. as_step (shown s) command a.0 (shown a.1) has (ap (λ r. (r, shown a.1)) (sym (without_wrap-quiet a.0 quiet) ∙ agreement.reply) ∙ ap (λ u. ((store_answer (shown s) command).0, u)) (agreement.store quiet));
         sound = agreement.sound;
-        calls = agreement.calls;
       }
 
   -- a step without a wrap
-  quiet_step : (s : SessionState X) (command : Command X) (reply : Reply X) (t : SessionState X) → without_wrap reply ≡ reply → IsStoreStep (shown s) command reply (shown t) → SoundOver kind t → Continues Fits s.arena (calls_of s command reply) t.arena → StepsAsStore s command reply t
-  quiet_step s command reply t plain step sound calls =
+  quiet_step : (s : SessionState X) (command : Command X) (reply : Reply X) (t : SessionState X) → without_wrap reply ≡ reply → IsStoreStep (shown s) command reply (shown t) → SoundOver kind t → StepsAsStore s command reply t
+  quiet_step s command reply t plain step sound =
       record {
         answers = (shown t, subst (λ r. IsStoreStep (shown s) command r (shown t)) (sym plain) step);
         step = λ quiet. step;
         sound = λ quiet. sound;
-        calls = λ quiet. calls;
       }
 
   reserved_plain : (s : SessionState X) (m : ℕ) (reply : Reply X) (u : Store X) → ReservesRows (shown s) m reply u → without_wrap reply ≡ reply
@@ -90,7 +83,7 @@ module _ {X : Type 0} (kind : StackKind) where
   reserved_plain s m reply u is = refl
 
   from_reserved : (s : SessionState X) (sound : SoundOver kind s) (m : ℕ) (a : Reply X × SessionState X) → Reserved kind s sound m a → StepsAsStore s (Reserve m) a.0 a.1
-  from_reserved s sound m a is = quiet_step s (Reserve m) a.0 a.1 (reserved_plain s m a.0 (shown a.1) is.0) is.0 is.1 is.2
+  from_reserved s sound m a is = quiet_step s (Reserve m) a.0 a.1 (reserved_plain s m a.0 (shown a.1) is.0) is.0 is.1
 
   -- a session with more room in its table shows the same
   more_room : (s : SessionState X) → SoundOver kind s → SoundOver kind (with_room_for_name s)
@@ -109,32 +102,32 @@ module _ {X : Type 0} (kind : StackKind) where
       }
 
   -- where memory is refused, and nothing changes but the table's room
-  refused_step : (s : SessionState X) (command : Command X) (t : SessionState X) → SoundOver kind s → (t ≡ s) ⊎ (t ≡ with_room_for_name s) → calls_of s command NoMemory ≡ [] → RowWantsMemory (shown s) command → StepsAsStore s command NoMemory t
-  refused_step s command t sound (inl is) none wants =
+  refused_step : (s : SessionState X) (command : Command X) (t : SessionState X) → SoundOver kind s → (t ≡ s) ⊎ (t ≡ with_room_for_name s) → RowWantsMemory (shown s) command → StepsAsStore s command NoMemory t
+  refused_step s command t sound (inl is) wants =
       subst (λ u. StepsAsStore s command NoMemory u) (sym is)
-      (quiet_step s command NoMemory s refl (as_wanting (shown s) command wants) sound (subst (λ calls. Continues Fits s.arena calls s.arena) (sym none) (unmoved kind s.arena)))
-  refused_step s command t sound (inr is) none wants =
+      (quiet_step s command NoMemory s refl (as_wanting (shown s) command wants) sound)
+  refused_step s command t sound (inr is) wants =
       subst (λ u. StepsAsStore s command NoMemory u) (sym is)
-      (quiet_step s command NoMemory (with_room_for_name s) refl (as_wanting (shown s) command wants) (more_room s sound) (subst (λ calls. Continues Fits s.arena calls s.arena) (sym none) (unmoved kind s.arena)))
+      (quiet_step s command NoMemory (with_room_for_name s) refl (as_wanting (shown s) command wants) (more_room s sound))
 
   module _ (has_memory : ℕ → Type 0) where
     wanting_steps : (s : SessionState X) (command : Command X) (t : SessionState X) → SoundOver kind s → WantsMemory kind has_memory s command t → StepsAsStore s command NoMemory t
     wanting_steps s (Insert datum link) t sound wants =
-        refused_step s (Insert datum link) t sound (either wants.2) refl (good_link s link ∙ wants.0, refusal-shown kind s sound ∙ ap (option_map refused_reply) wants.1)
+        refused_step s (Insert datum link) t sound (either wants.2) (good_link s link ∙ wants.0, refusal-shown kind s sound ∙ ap (option_map refused_reply) wants.1)
       where
         either : {P Q R : Type 0} → (P × (t ≡ s)) ⊎ (Q × R × (t ≡ with_room_for_name s)) → (t ≡ s) ⊎ (t ≡ with_room_for_name s)
         either (inl table) = inl table.1
         either (inr arena) = inr arena.2
     wanting_steps s (InsertWithin datum link) t sound wants =
-        refused_step s (InsertWithin datum link) t sound (inl wants.2.1) refl (good_link s link ∙ wants.0, subst (λ n. n < capacity s.arena) (sym (row_count-shown kind s sound)) wants.1)
+        refused_step s (InsertWithin datum link) t sound (inl wants.2.1) (good_link s link ∙ wants.0, subst (λ n. n < capacity s.arena) (sym (row_count-shown kind s sound)) wants.1)
     wanting_steps s (Invalidate name) t sound wants =
-        refused_step s (Invalidate name) t sound (inl wants.1.1) refl (ap is_some (row_named s name) ∙ by (named s name) ∙ wants.0)
+        refused_step s (Invalidate name) t sound (inl wants.1.1) (ap is_some (row_named s name) ∙ by (named s name) ∙ wants.0)
       where
         by : (o : Option (X × Option Pointer)) → is_some (option_map (as_row s.table) o) ≡ is_some o
         by None = refl
         by (Some node) = refl
     wanting_steps s Compact t sound wants =
-        refused_step s Compact t sound (inl wants.1) refl (subst (λ n. 0 < n) (sym (row_count-shown kind s sound)) wants.0)
+        refused_step s Compact t sound (inl wants.1) (subst (λ n. 0 < n) (sym (row_count-shown kind s sound)) wants.0)
     wanting_steps s (Reserve m) t sound wants = from_reserved s sound m (NoMemory, t) (reserved_wanting kind s sound has_memory m t wants.0 wants.1)
     wanting_steps s command t sound wants = absurd wants
 
@@ -160,14 +153,11 @@ module _ {X : Type 0} (kind : StackKind) (counting : Bool) (greatest : ℕ) (cou
       rises quiet = subst (λ m. s.arena.counter ≤ m) (sym (at_one (arena_len s.arena == 0) quiet)) (no_lower (arena_len s.arena == 0))
 
       by : (b : Bool) → list_any (row_dangles (shown s)) (shown s).rows ≡ b → Agrees kind s Compact (cond b (Unresolved, s) (Compacted wrapped, compacted s n))
-      by true is = agrees_same kind s Compact Unresolved sound (ap (λ b. (if b then Unresolved else Compacted false, shown s)) is) refl refl
+      by true is = agrees_same kind s Compact Unresolved sound (ap (λ b. (if b then Unresolved else Compacted false, shown s)) is) refl
       by false is =
           agrees kind s Compact (Compacted wrapped) (compacted s n) (Compacted false) (shown s) (ap (λ b. (if b then Unresolved else Compacted false, shown s)) is) refl (λ quiet. (
             shown-compacted kind s n sound (rises quiet),
             SoundOver-compacted kind s n sound (rises quiet),
-            subst (λ m. Continues Fits s.arena (compression (keys s.arena.slots) (keys (compacted s m).arena.slots) ∷ []) (compacted s n).arena) (at_one (arena_len s.arena == 0) quiet)
-                (Continues-compressed counting greatest s.arena (compacted s n).arena (first_generation counting) false (map (relinked s.arena n) (values s.arena.slots)) refl (counts, quiet)
-                (length-map (values s.arena.slots) (relinked s.arena n) ∙ length-values s.arena.slots) refl),
           ))
 
   agree : (s : SessionState X) (command : Command X) → SoundOver kind s → has_answer command ≡ true → Agrees kind s command (answer kind counting greatest text s command)
@@ -190,23 +180,15 @@ module _ {X : Type 0} (kind : StackKind) (counting : Bool) (greatest : ℕ) (cou
   answer_steps s Show sound = by text
     where
       by : (o : Option (String Global)) → StepsAsStore kind s Show (show_reply o) s
-      by None = quiet_step kind s Show NoMemory s refl (tt, refl) sound (unmoved kind s.arena)
-      by (Some t) = quiet_step kind s Show (show_reply (Some t)) s refl (tt, refl) sound (unmoved kind s.arena)
+      by None = quiet_step kind s Show NoMemory s refl (tt, refl) sound
+      by (Some t) = quiet_step kind s Show (show_reply (Some t)) s refl (tt, refl) sound
   answer_steps s command sound = from_agreement kind s command (answer kind counting greatest text s command) refl (agree s command sound refl)
-
-module _ {X : Type 0} (kind : StackKind) (has_memory : ℕ → Type 0) (counting : Bool) (greatest : ℕ) where
-  -- a step is the answer, or a refusal for want of memory
-  pub step_cases : (s : SessionState X) (command : Command X) (reply : Reply X) (t : SessionState X) → IsStep kind has_memory counting greatest s command reply t
-      → ((reply, t) ≡ answer kind counting greatest (shown_text reply) s command) ⊎ ((reply ≡ NoMemory) × WantsMemory kind has_memory s command t)
-  step_cases s command NoMemory t (inl is) = inl is
-  step_cases s command NoMemory t (inr wants) = inr (refl, wants)
-  step_cases s command reply t is = inl is
 
 module _ {X : Type 0} (kind : StackKind) (has_memory : ℕ → Type 0) (counting : Bool) (greatest : ℕ) (counts : counting ≡ true) where
   -- each step of a sound session is one of the store that it shows
   pub StepIsStores : (s : SessionState X) (command : Command X) (reply : Reply X) (t : SessionState X) → SoundOver kind s → IsStep kind has_memory counting greatest s command reply t → StepsAsStore kind s command reply t
   StepIsStores s command reply t sound step =
-      elim (step_cases kind has_memory counting greatest s command reply t step) [
+      elim (step_cases kind counting greatest has_memory s command reply t step) [
         | inl is ↦
             let text = shown_text reply in
             subst (λ (a : Reply X × SessionState X). StepsAsStore kind s command a.0 a.1) (sym is) (answer_steps kind counting greatest counts text s command sound)
@@ -216,20 +198,6 @@ module _ {X : Type 0} (kind : StackKind) (has_memory : ℕ → Type 0) (counting
 
 -- a session that has given no name is sound, over an empty arena of its kind
 pub SoundOver-new : {X : Type 0} (kind : StackKind) (room : ℕ) (limit : Option ℕ) (most counter : ℕ) → IsOfKind kind room limit → SoundOver {X = X} kind (new_session (new_arena room limit most counter))
-SoundOver-new {X = X} kind room limit most counter of_kind =
-    record {
-      table =
-          record {
-            distinct = tt;
-            has_live = λ p live. absurd (true≢false (sym live ∙ dead p p.0));
-            has_links = λ p q datum found. absurd (true≢false (sym (ap is_some found) ∙ dead p p.0));
-            by_now = λ p h. absurd (true≢false (sym h));
-            before = λ p h dead. absurd (true≢false (sym h));
-          };
-      well_formed = IsWellFormed-empty room limit most counter;
-      of_kind = of_kind;
-    }
-  where
-    dead : (p : Pointer) (i : ℕ) → is_live {T = X × Option Pointer} (new_arena room limit most counter) (i, p.1) ≡ false
-    dead p zero = refl
-    dead p (suc k) = refl
+SoundOver-new kind room limit most counter of_kind =
+    let arena = new_arena room limit most counter in
+    record { table = IsSound-empty arena refl; well_formed = IsWellFormed-empty room limit most counter; of_kind = of_kind }

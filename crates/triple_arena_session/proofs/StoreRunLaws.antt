@@ -4,8 +4,6 @@ use Rattle.std.specs.List.{list_any, list_all}
 use Rattle.std.proofs.lemmas.List.{take_all}
 use Rattle.std.proofs.lemmas.List.Elements.{All-head, All-tail}
 use Rattle.triple_arena_stack.specs.StackKind.{StackKind}
-use Rattle.triple_arena_traits.specs.Histories.{Continues, Fits}
-use Rattle.triple_arena_traits.specs.HistoryLaws.{Continues-append}
 use Rattle.triple_arena_commands.specs.declared.command.Command.{Command}
 use Rattle.triple_arena_commands.specs.declared.reply.Reply.{Reply}
 use Rattle.triple_arena_commands.specs.ReplyText.{tells_of_wrap}
@@ -16,8 +14,6 @@ use Rattle.triple_arena_commands.specs.UnseenLaws.{without_wrap-quiet, Compactio
 use Rattle.triple_arena_session.specs.SessionState.{SessionState}
 use Rattle.triple_arena_session.specs.SessionRun.{IsStep}
 use Rattle.triple_arena_session.specs.Shown.{shown}
-use Rattle.triple_arena_session.specs.SessionCalls.{calls_of, calls_in, KeepsHistories}
-use Rattle.triple_arena_session.proofs.StoreSteps.{unmoved}
 use Rattle.triple_arena_session.proofs.StoreLaws.{StepIsStores}
 use Rattle.triple_arena_session.proofs.Soundness.{SoundOver}
 
@@ -41,17 +37,17 @@ module _ {X : Type 0} (kind : StackKind) (has_memory : ℕ → Type 0) (counting
   abbrev pub Step : SessionState X → Command X → Reply X → SessionState X → Type 0
   Step s command reply t = IsStep kind has_memory counting greatest s command reply t
 
-  -- a run that tells of no wrap is a run of the store; the session stays sound, and its arena has gone on by the model calls
-  pub QuietRunIsStores : (s : SessionState X) (commands : List (Command X)) (replies : List (Reply X)) (t : SessionState X) → SoundOver kind s → (run : IsRun Step s commands replies t) → TellsOfNoWrap replies
-      → IsRun IsStoreStep (shown s) commands replies (shown t) × SoundOver kind t × Continues Fits s.arena (calls_in Step s commands replies t run) t.arena
-  QuietRunIsStores s [] [] t sound run quiet = (ap shown run, subst (SoundOver kind) (sym run) sound, subst (λ (u : SessionState X). Continues Fits s.arena [] u.arena) (sym run) (unmoved kind s.arena))
+  -- a run that tells of no wrap is a run of the store, and the session stays sound
+  pub QuietRunIsStores : (s : SessionState X) (commands : List (Command X)) (replies : List (Reply X)) (t : SessionState X) → SoundOver kind s → IsRun Step s commands replies t → TellsOfNoWrap replies
+      → IsRun IsStoreStep (shown s) commands replies (shown t) × SoundOver kind t
+  QuietRunIsStores s [] [] t sound run quiet = (ap shown run, subst (SoundOver kind) (sym run) sound)
   QuietRunIsStores s [] (reply ∷ replies) t sound run quiet = absurd run
   QuietRunIsStores s (command ∷ commands) [] t sound run quiet = absurd run
   QuietRunIsStores s (command ∷ commands) (reply ∷ replies) t sound run quiet =
       let first = StepIsStores kind has_memory counting greatest counts s command reply run.0 sound run.1 in
       let told = All-head (λ r. tells_of_wrap r ≡ false) reply replies quiet in
       let later = QuietRunIsStores run.0 commands replies t (first.sound told) run.2 (All-tail (λ r. tells_of_wrap r ≡ false) reply replies quiet) in
-      ((shown run.0, first.step told, later.0), later.1, Continues-append s.arena run.0.arena t.arena (calls_of s command reply) (calls_in Step run.0 commands replies t run.2) (first.calls told) later.2)
+      ((shown run.0, first.step told, later.0), later.1)
 
   ends_tail : (reply : Reply X) (replies : List (Reply X)) → EndsInWrap (reply ∷ replies) → (replies ≡ []) ⊎ ((tells_of_wrap reply ≡ false) × EndsInWrap replies)
   ends_tail reply replies ends = by ends.0 ends.2 ends.3
@@ -101,10 +97,6 @@ module _ {X : Type 0} (kind : StackKind) (has_memory : ℕ → Type 0) (counting
       → list_all is_named (take (length replies) commands) ≡ true → list_any is_no_memory replies ≡ false → seen (take (length replies) commands) replies ≡ ample (shown s) (erase (take (length replies) commands))
   RunIsUnseen s commands replies t sound ran named enough =
       CompactionIsUnseen (shown s) (take (length replies) commands) replies (RunAnswersAsStore s commands replies t sound ran) named enough
-
-  -- its arena has gone on by the model calls of the commands
-  pub RunKeepsHistories : (s : SessionState X) (commands : List (Command X)) (replies : List (Reply X)) (t : SessionState X) → SoundOver kind s → KeepsHistories Step s commands replies t
-  RunKeepsHistories s commands replies t sound ran quiet = (QuietRunIsStores s commands replies t sound ran quiet).2
 
   -- where no reply tells of a wrap, all commands ran, on the store too, and the session is sound
   pub RunIsStores : (s : SessionState X) (commands : List (Command X)) (replies : List (Reply X)) (t : SessionState X) → SoundOver kind s → RunsToWrap Step s commands replies t → TellsOfNoWrap replies

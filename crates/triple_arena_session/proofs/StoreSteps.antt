@@ -32,7 +32,8 @@ use Rattle.triple_arena_session.specs.SessionCalls.{call_at, calls_of}
 use Rattle.triple_arena_session.specs.Shown.{as_row, row_of, shown}
 use Rattle.triple_arena_session.proofs.TableNames.{has_from_item, link_name-given, name_of-append}
 use Rattle.triple_arena_session.proofs.Rows.{value_hit, value_miss, entry_found, row_count-shown, rows_changed, found_before}
-use Rattle.triple_arena_session.proofs.Soundness.{SoundOver, TableSound, TableSound-kept, TableSound-given, SoundOver-from}
+use Rattle.triple_arena_session.proofs.Soundness.{SoundOver, TableSound, TableSound-kept, TableSound-given, SoundOver-from, over_of}
+use Rattle.triple_arena_session.proofs.Continuing.{raised_by_one, over_written, over_removed, over_invalidated, over_cleared}
 
 -- the pointer of a good link is in the table
 pub link_there : (table : List Pointer) (link : Option ℕ) (q : Pointer) → link_pointer table link ≡ Some (Some q) → has table q ≡ true
@@ -62,11 +63,6 @@ pub Store-is : {X : Type 0} (r1 r2 : List (Option (NameRow X))) (c1 c2 : ℕ) (l
     → ◌≡◌ {A = Store X} (record { rows = r1; capacity = c1; limit = l1; greatest = g1 }) (record { rows = r2; capacity = c2; limit = l2; greatest = g2 })
 Store-is r1 r2 c1 c2 l1 l2 g1 g2 a b c d = rw (a, b, c, d) refl
 
--- where the count does not begin anew, the raised counter is the next number
-pub raised_by_one : (counting : Bool) (greatest n : ℕ) → counting ≡ true → wraps counting greatest n ≡ false → raise counting greatest n ≡ n + 1
-raised_by_one true greatest n counts quiet = ap {B = ℕ} (λ b. if b then 2 else n + 1) quiet
-raised_by_one false greatest n counts quiet = absurd (true≢false (sym counts))
-
 module _ {X : Type 0} where
   -- what is named is what the store has under the name
   pub row_named : (s : SessionState X) (name : ℕ) → row (shown s) name ≡ option_map (as_row s.table) (named s name)
@@ -94,66 +90,59 @@ module _ {X : Type 0} where
       by (Some l) is = name_of-append s.table (p ∷ []) l (there l is)
 
 module _ {X : Type 0} (kind : StackKind) where
-  -- a reply to a command, and the session after it, are those of the store that the session shows; and the session's arena
-  -- has gone on by the command's model calls
+  -- a reply to a command, and the session after it, are those of the store that the session shows
   pub record Agrees (s : SessionState X) (command : Command X) (a : Reply X × SessionState X) : Type 0 where
     pub reply : without_wrap a.0 ≡ (store_answer (shown s) command).0
     pub store : tells_of_wrap a.0 ≡ false → shown a.1 ≡ (store_answer (shown s) command).1
     pub sound : tells_of_wrap a.0 ≡ false → SoundOver kind a.1
-    pub calls : tells_of_wrap a.0 ≡ false → Continues Fits s.arena (calls_of s command a.0) a.1.arena
 
   -- what is left of the agreement where the answer of the store is known
-  pub agrees : (s : SessionState X) (command : Command X) (r : Reply X) (t : SessionState X) (q : Reply X) (u : Store X) → store_answer (shown s) command ≡ (q, u) → without_wrap r ≡ q → (tells_of_wrap r ≡ false → (shown t ≡ u) × SoundOver kind t × Continues Fits s.arena (calls_of s command r) t.arena) → Agrees s command (r, t)
+  pub agrees : (s : SessionState X) (command : Command X) (r : Reply X) (t : SessionState X) (q : Reply X) (u : Store X) → store_answer (shown s) command ≡ (q, u) → without_wrap r ≡ q → (tells_of_wrap r ≡ false → (shown t ≡ u) × SoundOver kind t) → Agrees s command (r, t)
   agrees s command r t q u is same rest =
       record {
         reply = same ∙ sym (ap (λ (o : Reply X × Store X). o.0) is);
         store = λ quiet. (rest quiet).0 ∙ sym (ap (λ (o : Reply X × Store X). o.1) is);
         sound = λ quiet. (rest quiet).1;
-        calls = λ quiet. (rest quiet).2;
       }
 
-  pub unmoved : (s : ArenaState (X × Option Pointer)) → Continues Fits s [] s
-  unmoved s = Continues-none s s (λ p. refl) (omega arith)
-
   -- nothing has changed
-  pub agrees_same : (s : SessionState X) (command : Command X) (r : Reply X) → SoundOver kind s → store_answer (shown s) command ≡ (r, shown s) → without_wrap r ≡ r → calls_of s command r ≡ [] → Agrees s command (r, s)
-  agrees_same s command r sound is quiet none =
-      agrees s command r s r (shown s) is quiet (λ h. (refl, sound, subst (λ calls. Continues Fits s.arena calls s.arena) (sym none) (unmoved s.arena)))
+  pub agrees_same : (s : SessionState X) (command : Command X) (r : Reply X) → SoundOver kind s → store_answer (shown s) command ≡ (r, shown s) → without_wrap r ≡ r → Agrees s command (r, s)
+  agrees_same s command r sound is quiet = agrees s command r s r (shown s) is quiet (λ h. (refl, sound))
 
   -- a command to a name that was never given, or has ended, and to any other
   pub agrees_at : (s : SessionState X) (command : Command X) (name : ℕ) (act : Pointer → X × Option Pointer → Reply X × SessionState X) (on_row : NameRow X → Reply X × Store X)
-      → SoundOver kind s → store_answer (shown s) command ≡ act_on_row (shown s) (row (shown s) name) on_row → calls_of s command Invalid ≡ []
+      → SoundOver kind s → store_answer (shown s) command ≡ act_on_row (shown s) (row (shown s) name) on_row
       → ((p : Pointer) (node : X × Option Pointer) → item s.table name ≡ Some p → look_up s.arena p ≡ Some node → store_answer (shown s) command ≡ on_row (as_row s.table node) → Agrees s command (act p node))
       → Agrees s command (act_on s act (item s.table name))
-  agrees_at s command name act on_row sound is none acts = by (item s.table name) refl
+  agrees_at s command name act on_row sound is acts = by (item s.table name) refl
     where
       row_is : (o : Option (X × Option Pointer)) → named s name ≡ o → store_answer (shown s) command ≡ act_on_row (shown s) (option_map (as_row s.table) o) on_row
       row_is o at = is ∙ ap (λ r. act_on_row (shown s) r on_row) (row_named s name ∙ ap (option_map (as_row s.table)) at)
 
       under : (p : Pointer) (o : Option (X × Option Pointer)) → item s.table name ≡ Some p → look_up s.arena p ≡ o → Agrees s command (act_under s act p o)
-      under p None at found = agrees_same s command Invalid sound (row_is None (ap (option_and_then (look_up s.arena)) at ∙ found)) refl none
+      under p None at found = agrees_same s command Invalid sound (row_is None (ap (option_and_then (look_up s.arena)) at ∙ found)) refl
       under p (Some node) at found = acts p node at found (row_is (Some node) (ap (option_and_then (look_up s.arena)) at ∙ found))
 
       by : (o : Option Pointer) → item s.table name ≡ o → Agrees s command (act_on s act o)
-      by None at = agrees_same s command Invalid sound (row_is None (ap (option_and_then (look_up s.arena)) at)) refl none
+      by None at = agrees_same s command Invalid sound (row_is None (ap (option_and_then (look_up s.arena)) at)) refl
       by (Some p) at = under p (look_up s.arena p) at refl
 
   -- a command with a link that was never given, and with any other
   pub agrees_linked : (s : SessionState X) (command : Command X) (link : Option ℕ) (a : Option (Option Pointer) → Reply X × SessionState X) (b : Reply X × Store X)
-      → SoundOver kind s → store_answer (shown s) command ≡ (if is_good_link (shown s) link then b else (BadName, shown s)) → a None ≡ (BadName, s) → calls_of s command BadName ≡ []
+      → SoundOver kind s → store_answer (shown s) command ≡ (if is_good_link (shown s) link then b else (BadName, shown s)) → a None ≡ (BadName, s)
       → ((l : Option Pointer) → link_pointer s.table link ≡ Some l → store_answer (shown s) command ≡ b → Agrees s command (a (Some l)))
       → Agrees s command (a (link_pointer s.table link))
-  agrees_linked s command link a b sound is bad none good = by (link_pointer s.table link) refl
+  agrees_linked s command link a b sound is bad good = by (link_pointer s.table link) refl
     where
       by : (o : Option (Option Pointer)) → link_pointer s.table link ≡ o → Agrees s command (a o)
       by None e =
           subst (Agrees s command) (sym bad)
-          (agrees_same s command BadName sound (is ∙ ap (λ t. if t then b else (BadName, shown s)) (good_link s link ∙ ap is_some e)) refl none)
+          (agrees_same s command BadName sound (is ∙ ap (λ t. if t then b else (BadName, shown s)) (good_link s link ∙ ap is_some e)) refl)
       by (Some l) e = good l e (is ∙ ap (λ t. if t then b else (BadName, shown s)) (good_link s link ∙ ap is_some e))
 
 module _ {X : Type 0} (kind : StackKind) (counting : Bool) (greatest : ℕ) (counts : counting ≡ true) (text : Option (String Global)) where
   pub agrees_get : (s : SessionState X) (name : ℕ) → SoundOver kind s → Agrees kind s (Get name) (answer kind counting greatest text s (Get name))
-  agrees_get s name sound = agrees_same kind s (Get name) (get_reply s (named s name)) sound (ap (λ r. (r, shown s)) (ap get_row_reply (row_named s name) ∙ by (named s name))) (plain (named s name)) (none (named s name))
+  agrees_get s name sound = agrees_same kind s (Get name) (get_reply s (named s name)) sound (ap (λ r. (r, shown s)) (ap get_row_reply (row_named s name) ∙ by (named s name))) (plain (named s name))
     where
       by : (o : Option (X × Option Pointer)) → get_row_reply (option_map (as_row s.table) o) ≡ get_reply s o
       by None = refl
@@ -163,20 +152,16 @@ module _ {X : Type 0} (kind : StackKind) (counting : Bool) (greatest : ℕ) (cou
       plain None = refl
       plain (Some node) = refl
 
-      none : (o : Option (X × Option Pointer)) → calls_of s (Get name) (get_reply s o) ≡ []
-      none None = refl
-      none (Some node) = refl
-
   pub agrees_len : (s : SessionState X) → SoundOver kind s → Agrees kind s Len (answer kind counting greatest text s Len)
-  agrees_len s sound = agrees_same kind s Len (Count (arena_len s.arena)) sound (ap (λ n. (Count n, shown s)) (row_count-shown kind s sound)) refl refl
+  agrees_len s sound = agrees_same kind s Len (Count (arena_len s.arena)) sound (ap (λ n. (Count n, shown s)) (row_count-shown kind s sound)) refl
 
   pub agrees_capacity : (s : SessionState X) → SoundOver kind s → Agrees kind s Capacity (answer kind counting greatest text s Capacity)
-  agrees_capacity s sound = agrees_same kind s Capacity (Count (capacity s.arena)) sound refl refl refl
+  agrees_capacity s sound = agrees_same kind s Capacity (Count (capacity s.arena)) sound refl refl
 
   pub agrees_set : (s : SessionState X) (name : ℕ) (datum : X) (link : Option ℕ) → SoundOver kind s → Agrees kind s (Set name datum link) (answer kind counting greatest text s (Set name datum link))
   agrees_set s name datum link sound =
-      agrees_linked kind s (Set name datum link) link (set_answer s name datum) (act_on_row (shown s) (row (shown s) name) (λ r. (Done, with_row (shown s) name (Some (datum, link))))) sound refl refl refl
-      (λ l good is. agrees_at kind s (Set name datum link) name (λ p node. (Done, record s { arena = with_value s.arena p.0 (datum, l) })) (λ r. (Done, with_row (shown s) name (Some (datum, link)))) sound is refl (under l good))
+      agrees_linked kind s (Set name datum link) link (set_answer s name datum) (act_on_row (shown s) (row (shown s) name) (λ r. (Done, with_row (shown s) name (Some (datum, link))))) sound refl refl
+      (λ l good is. agrees_at kind s (Set name datum link) name (λ p node. (Done, record s { arena = with_value s.arena p.0 (datum, l) })) (λ r. (Done, with_row (shown s) name (Some (datum, link)))) sound is (under l good))
     where
       under : (l : Option Pointer) → link_pointer s.table link ≡ Some l → (p : Pointer) (node : X × Option Pointer) → item s.table name ≡ Some p → look_up s.arena p ≡ Some node
           → store_answer (shown s) (Set name datum link) ≡ (Done, with_row (shown s) name (Some (datum, link)))
@@ -184,11 +169,9 @@ module _ {X : Type 0} (kind : StackKind) (counting : Bool) (greatest : ℕ) (cou
       under l good p node at found is =
           let t : ArenaState (X × Option Pointer) = with_value s.arena p.0 (datum, l) in
           let stands = entry_found s.arena p node found in
-          let slot = live_item s.arena p.0 (p.1, node) stands in
           let e : Option (ℕ × (X × Option Pointer)) = Some (p.1, (datum, l)) in
           let written : t.slots ≡ with_item s.arena.slots p.0 e = with_value_is s.arena.slots p.0 p.1 node (datum, l) stands in
           let changes : ChangesAt s.arena.slots p.0 e t.slots = subst (ChangesAt s.arena.slots p.0 e) (sym written) (changes_at s.arena.slots p.0 e (λ none. absurd (cc))) in
-          let continues = Continues-written s.arena p.0 (datum, l) in
           agrees kind s (Set name datum link) Done (record s { arena = t }) Done (with_row (shown s) name (Some (datum, link))) is refl (λ quiet. (
             Store-is _ _ _ _ _ _ _ _
                 (rows_changed kind s t s.table name p node e (Some (datum, link)) sound (λ l h. refl) at found changes
@@ -196,19 +179,17 @@ module _ {X : Type 0} (kind : StackKind) (counting : Bool) (greatest : ℕ) (cou
                 (ap (option_map (as_row s.table)) (value_hit (entry t p.0) p.1 (datum, l) changes.there) ∙ ap (λ n. Some (datum, n)) (link_name-given s.table link l sound.table.distinct good)))
                 refl refl refl,
             SoundOver-from kind (record s { arena = t })
-                (TableSound-kept kind s sound t continues)
+                (TableSound-kept kind s sound t (Continues-written s.arena p.0 (datum, l)))
                 (λ q x d holds. elim (found_before s.arena t p.0 e q (d, Some x) changes holds) [
                   | inl here ↦ link_there s.table link x (good ∙ ap Some (new_link p.1 q.1 (datum, l) d x here))
                   | inr before ↦ sound.table.has_links q x d before
                 ])
-                (subst (λ xs. IsWellFormed (record s.arena { slots = xs })) (sym written) (IsWellFormed-with_entry s.arena p.0 (p.1, node) (p.1, (datum, l)) sound.well_formed slot))
-                sound.of_kind,
-            continues,
+                (over_written kind s.arena (over_of kind s sound) p.0 (datum, l)),
           ))
 
   pub agrees_remove : (s : SessionState X) (name : ℕ) → SoundOver kind s → Agrees kind s (Remove name) (answer kind counting greatest text s (Remove name))
   agrees_remove s name sound =
-      agrees_at kind s (Remove name) name (remove_under kind counting greatest s) (λ r. (Removed r.0 r.1 false, with_row (shown s) name None)) sound refl refl under
+      agrees_at kind s (Remove name) name (remove_under kind counting greatest s) (λ r. (Removed r.0 r.1 false, with_row (shown s) name None)) sound refl under
     where
       under : (p : Pointer) (node : X × Option Pointer) → item s.table name ≡ Some p → look_up s.arena p ≡ Some node
           → store_answer (shown s) (Remove name) ≡ (Removed node.0 (link_name s.table node.1) false, with_row (shown s) name None)
@@ -217,7 +198,6 @@ module _ {X : Type 0} (kind : StackKind) (counting : Bool) (greatest : ℕ) (cou
           let raised : ℕ → ℕ = raise counting greatest in
           let t : ArenaState (X × Option Pointer) = removed raised s.arena p.0 in
           let changes = slots-removed raised s.arena p.0 t refl in
-          let stands = entry_found s.arena p node found in
           agrees kind s (Remove name) (Removed node.0 (link_name s.table node.1) (wraps counting greatest s.arena.counter)) (record s { arena = t }) (Removed node.0 (link_name s.table node.1) false) (with_row (shown s) name None) is refl (λ quiet.
           let continues = Continues-removed counting greatest s.arena t p (counts, quiet) (ap is_some found) refl in (
             Store-is _ _ _ _ _ _ _ _
@@ -226,14 +206,12 @@ module _ {X : Type 0} (kind : StackKind) (counting : Bool) (greatest : ℕ) (cou
             SoundOver-from kind (record s { arena = t })
                 (subst (TableSound t) (append-nil s.table) (TableSound-given kind s sound (removal p) t continues))
                 (λ q l datum holds. elim (found_before s.arena t p.0 None q (datum, Some l) changes holds) [ inl no_more ↦ absurd (cc) | inr before ↦ sound.table.has_links q l datum before ])
-                (IsWellFormed-removed raised s.arena p.0 (p.1, node) sound.well_formed (live_item s.arena p.0 (p.1, node) stands))
-                (rw (room-removed raised s.arena p.0, limit-removed raised s.arena p.0) sound.of_kind),
-            subst (λ o. Continues Fits s.arena (call_at removal o) t) (sym at) continues,
+                (over_removed kind s.arena (over_of kind s sound) raised p.0 (p.1, node) (entry_found s.arena p node found)),
           ))
 
   pub agrees_invalidate : (s : SessionState X) (name : ℕ) → SoundOver kind s → Agrees kind s (Invalidate name) (answer kind counting greatest text s (Invalidate name))
   agrees_invalidate s name sound =
-      agrees_at kind s (Invalidate name) name (invalidate_under kind counting greatest s) (λ r. give_row (with_row (shown s) name None) r) sound refl refl under
+      agrees_at kind s (Invalidate name) name (invalidate_under kind counting greatest s) (λ r. give_row (with_row (shown s) name None) r) sound refl under
     where
       under : (p : Pointer) (node : X × Option Pointer) → item s.table name ≡ Some p → look_up s.arena p ≡ Some node
           → store_answer (shown s) (Invalidate name) ≡ give_row (with_row (shown s) name None) (as_row s.table node)
@@ -261,15 +239,12 @@ module _ {X : Type 0} (kind : StackKind) (counting : Bool) (greatest : ℕ) (cou
           after : wraps counting greatest s.arena.counter ≡ false
               → (shown (invalidate_under kind counting greatest s p node).1 ≡ record (shown s) { rows = with_item (map (row_of s.arena s.table) s.table) name None ++ Some (as_row s.table node) ∷ [] })
               × SoundOver kind (invalidate_under kind counting greatest s p node).1
-              × Continues Fits s.arena (calls_of s (Invalidate name) (Given (length s.table + 1) (wraps counting greatest s.arena.counter))) (invalidated (raise counting greatest) s.arena p.0)
           after quiet =
               let one : c ≡ s.arena.counter + 1 = raised_by_one counting greatest s.arena.counter counts quiet in
               let stands = entry_found s.arena p node found in
               let changes : ChangesAt s.arena.slots p.0 (Some (c, node)) t.slots = subst (λ o. ChangesAt s.arena.slots p.0 o t.slots) (ap (option_map (λ (e : ℕ × (X × Option Pointer)). (c, e.1))) stands) (slots-invalidated raised s.arena p.0 t refl) in
               let past : (q : Pointer) → has s.table q ≡ true → option_and_then (value_under q.1) (Some (c, node)) ≡ None = λ q h. value_miss (Some (c, node)) q.1 c node refl (λ same. omega (arith, sound.table.by_now q h, one, same)) in
               let there : has s.table p ≡ true = has_from_item s.table name p at in
-              let written : with_generation_in s.arena.slots p.0 c ≡ with_item s.arena.slots p.0 (Some (c, node)) = with_generation_is s.arena.slots p.0 p.1 c node stands in
-              let slot = live_item s.arena p.0 (p.1, node) stands in
               let continues = Continues-invalidated counting greatest s.arena t p (counts, quiet) (ap is_some found) refl in (
                 Store-is _ _ _ _ _ _ _ _
                     (map-append (row_of t (s.table ++ new ∷ [])) s.table (new ∷ [])
@@ -284,9 +259,7 @@ module _ {X : Type 0} (kind : StackKind) (counting : Bool) (greatest : ℕ) (cou
                       | inl here ↦ sound.table.has_links p l node.0 (found ∙ ap (λ x. Some (node.0, x)) (new_link c q.1 node datum l here))
                       | inr before ↦ sound.table.has_links q l datum before
                     ]))
-                    (subst (λ xs. IsWellFormed (record s.arena { slots = xs; counter = c })) (sym written) (IsWellFormed-counter _ c (IsWellFormed-with_entry s.arena p.0 (p.1, node) (c, node) sound.well_formed slot)))
-                    sound.of_kind,
-                subst (λ o. Continues Fits s.arena (call_at (λ q. invalidation q (q.0, s.arena.counter + 1)) o) t) (sym at) (subst (λ n. Continues Fits s.arena (invalidation p (p.0, n) ∷ []) t) one continues),
+                    (over_invalidated kind s.arena (over_of kind s sound) raised p.0),
               )
 
   pub agrees_clear : (s : SessionState X) → SoundOver kind s → Agrees kind s Clear (answer kind counting greatest text s Clear)
@@ -299,9 +272,7 @@ module _ {X : Type 0} (kind : StackKind) (counting : Bool) (greatest : ℕ) (cou
         SoundOver-from kind (record s { arena = t })
             (subst (TableSound t) (append-nil s.table) (TableSound-given kind s sound (clearing (keys s.arena.slots)) t continues))
             (λ q l datum holds. absurd (let none = gone q in cc))
-            (cleared_stays (raise counting greatest) s.arena)
-            sound.of_kind,
-        continues,
+            (over_cleared kind s.arena (over_of kind s sound) (raise counting greatest)),
       ))
     where
       gone : (q : Pointer) → look_up (cleared (raise counting greatest) s.arena) q ≡ None

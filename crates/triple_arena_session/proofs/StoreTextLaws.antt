@@ -68,17 +68,17 @@ module _ (kind : StackKind) (has_memory : ℕ → Type 0) (counting : Bool) (gre
   stays same = (subst IsSound (sym same) sound.table, ap shown same)
 
   -- and is sound after it, and shows what the store became, but where a wrap ended it or the writer failed
-  pub TextLeavesStore : (text : Option (List ℕ)) (outcome : Result (Unit {0}) TextError) → IsTextRun TextStep text outcome s t old new → LeavesStore (shown s) (shown t) (IsSound t) text outcome old new
+  pub TextLeavesStore : (text : Option (List ℕ)) (outcome : Result (Unit {0}) TextError) → IsTextRun TextStep text outcome s t old new → LeavesStore TextStep text outcome s t old new
   TextLeavesStore None (Ok done) ran = ran
   TextLeavesStore (Some bytes) (Ok done) (inl all) = inl (brings (lines_of bytes) all)
-  TextLeavesStore (Some bytes) (Ok done) (inr first) = let last = first.1 in inr (last.0, last.2, last.3)
+  TextLeavesStore (Some bytes) (Ok done) (inr first) = inr first
   TextLeavesStore None (Err (Malformed n)) ran = ran
   TextLeavesStore (Some bytes) (Err (Malformed n)) ran = brings (take (n - 1) (lines_of bytes)) ran.1
   TextLeavesStore text (Err Read) ran = stays ran.0
   TextLeavesStore text (Err Write) ran = tt
   TextLeavesStore text (Err NoMemory) ran = stays ran.0
 
-  pub FlushedLeavesStore : (text : Option (List ℕ)) (outcome : Result (Unit {0}) TextError) → IsFlushedRun TextStep text outcome s t old new → LeavesStore (shown s) (shown t) (IsSound t) text outcome old new
+  pub FlushedLeavesStore : (text : Option (List ℕ)) (outcome : Result (Unit {0}) TextError) → IsFlushedRun TextStep text outcome s t old new → LeavesStore TextStep text outcome s t old new
   FlushedLeavesStore text (Err Write) ran = tt
   FlushedLeavesStore text (Ok done) ran = TextLeavesStore text (Ok done) ran
   FlushedLeavesStore text (Err (Malformed n)) ran = TextLeavesStore text (Err (Malformed n)) ran

@@ -7,7 +7,6 @@ use Rattle.std.proofs.lemmas.Bool.Decides.{nat_tests}
 use Rattle.triple_arena_ptr.specs.Numbers.{raise, wraps}
 use Rattle.triple_arena_stack.specs.StackKind.{StackKind}
 use Rattle.triple_arena_traits.specs.Histories.{Continues, Fits}
-use Rattle.triple_arena_traits.specs.HistoryLaws.{Continues-append}
 use Rattle.triple_arena_commands.specs.declared.command.Command.{Command}
 use Rattle.triple_arena_commands.specs.declared.command.Command.TheVariants.{Remove, Invalidate, Clear, Compact, Reserve}
 use Rattle.triple_arena_commands.specs.declared.reply.Reply.{Reply}
@@ -21,10 +20,11 @@ use Rattle.triple_arena_commands.specs.StrictLaws.{unless_so, refused_where, mad
 use Rattle.triple_arena_session.specs.SessionState.{SessionState, named}
 use Rattle.triple_arena_session.specs.SessionRun.{IsStep}
 use Rattle.triple_arena_session.specs.SessionCalls.{calls_of, calls_in}
-use Rattle.triple_arena_session.specs.Shown.{as_row, shown}
+use Rattle.triple_arena_session.specs.Shown.{as_row, shown, IsArenaOver}
 use Rattle.triple_arena_session.specs.Strict.{raises_counter, is_refused, IsStrictStep, strictly_shown}
 use Rattle.triple_arena_session.proofs.Rows.{is_some-map, row_count-shown}
-use Rattle.triple_arena_session.proofs.StoreSteps.{row_named, raised_by_one, unmoved}
+use Rattle.triple_arena_session.proofs.Continuing.{raised_by_one, GoesOn, goes_same, StepGoesOn, StepsKeepHistories}
+use Rattle.triple_arena_session.proofs.StoreSteps.{row_named}
 use Rattle.triple_arena_session.proofs.StoreLaws.{StepIsStores}
 use Rattle.triple_arena_session.proofs.StoreRunLaws.{whole_if_quiet}
 use Rattle.triple_arena_session.proofs.Soundness.{SoundOver}
@@ -74,7 +74,6 @@ module _ {X : Type 0} (kind : StackKind) (has_memory : ℕ → Type 0) (counting
     pub quiet : tells_of_wrap reply ≡ false
     pub step : IsStrictStoreStep (strictly_shown greatest s) command reply (strictly_shown greatest t)
     pub sound : StrictlySound t
-    pub calls : Continues Fits s.arena (calls_of s command reply) t.arena
 
   module _ (s : SessionState X) (command : Command X) (sound : StrictlySound s) where
     spent : is_spent (strictly_shown greatest s) command ≡ is_refused counting greatest s command
@@ -88,7 +87,6 @@ module _ {X : Type 0} (kind : StackKind) (has_memory : ℕ → Type 0) (counting
           quiet = refl;
           step = refused_where (IsCountedStep (strictly_shown greatest s) command Exhausted (strictly_shown greatest s)) Exhausted (strictly_shown greatest s) (strictly_shown greatest s) (is_spent (strictly_shown greatest s) command) (spent ∙ so) refl refl;
           sound = sound;
-          calls = subst (λ l. Continues Fits s.arena l s.arena) (sym (no_calls s command (and_parts (wraps counting greatest s.arena.counter) (raises_counter s command) so).1)) (unmoved kind s.arena);
         }
 
     module _ (reply : Reply X) (t : SessionState X) where
@@ -113,7 +111,6 @@ module _ {X : Type 0} (kind : StackKind) (has_memory : ℕ → Type 0) (counting
             step = made_where (IsCountedStep (strictly_shown greatest s) command reply (strictly_shown greatest t)) reply (strictly_shown greatest s) (strictly_shown greatest t) (is_spent (strictly_shown greatest s) command) (spent ∙ not_so)
                 (stores.step quiet, ap (λ n. greatest - t.arena.counter + n) uses ∙ after.1);
             sound = record { sound = stores.sound quiet; within = after.0 };
-            calls = stores.calls quiet;
           }
 
   pub StrictStepIsStores : (s : SessionState X) (command : Command X) (reply : Reply X) (t : SessionState X) → StrictlySound s → StrictStep s command reply t → StepsStrictly s command reply t
@@ -124,19 +121,17 @@ module _ {X : Type 0} (kind : StackKind) (has_memory : ℕ → Type 0) (counting
       by false not_so step = as_step s command sound reply t not_so step
 
   -- and so is each list of steps
-  pub record RunsStrictly (s : SessionState X) (commands : List (Command X)) (replies : List (Reply X)) (t : SessionState X) (run : IsRun StrictStep s commands replies t) : Type 0 where
+  pub record RunsStrictly (s : SessionState X) (commands : List (Command X)) (replies : List (Reply X)) (t : SessionState X) : Type 0 where
     pub quiet : TellsOfNoWrap replies
     pub stores : IsRun IsStrictStoreStep (strictly_shown greatest s) commands replies (strictly_shown greatest t)
     pub sound : StrictlySound t
-    pub calls : Continues Fits s.arena (calls_in StrictStep s commands replies t run) t.arena
 
-  pub StrictRunIsStores : (s : SessionState X) (commands : List (Command X)) (replies : List (Reply X)) (t : SessionState X) → StrictlySound s → (run : IsRun StrictStep s commands replies t) → RunsStrictly s commands replies t run
+  pub StrictRunIsStores : (s : SessionState X) (commands : List (Command X)) (replies : List (Reply X)) (t : SessionState X) → StrictlySound s → IsRun StrictStep s commands replies t → RunsStrictly s commands replies t
   StrictRunIsStores s [] [] t sound run =
       record {
         quiet = TellsOfNoWrap-nil;
         stores = ap (strictly_shown greatest) run;
         sound = subst StrictlySound (sym run) sound;
-        calls = subst (λ (u : SessionState X). Continues Fits s.arena [] u.arena) (sym run) (unmoved kind s.arena);
       }
   StrictRunIsStores s [] (reply ∷ replies) t sound run = absurd run
   StrictRunIsStores s (command ∷ commands) [] t sound run = absurd run
@@ -147,7 +142,6 @@ module _ {X : Type 0} (kind : StackKind) (has_memory : ℕ → Type 0) (counting
         quiet = TellsOfNoWrap-first reply replies first.quiet later.quiet;
         stores = (strictly_shown greatest run.0, first.step, later.stores);
         sound = later.sound;
-        calls = Continues-append s.arena run.0.arena t.arena (calls_of s command reply) (calls_in StrictStep run.0 commands replies t run.2) first.calls later.calls;
       }
 
   -- compaction changes no other reply, as long as neither the refusal nor a want of memory comes
@@ -179,13 +173,34 @@ module _ {X : Type 0} (kind : StackKind) (has_memory : ℕ → Type 0) (counting
   pub ExhaustedKeeps : (s : SessionState X) (command : Command X) (reply : Reply X) (t : SessionState X) → IsStrictStep kind has_memory counting greatest s command reply t → reply ≡ Exhausted → t ≡ s
   ExhaustedKeeps s command reply t step so = (refused s command reply t step so).1
 
+  -- its arena goes on by the model calls of the command, whatever the table is
+  pub StrictStepGoesOn : (s : SessionState X) (command : Command X) (reply : Reply X) (t : SessionState X) → IsArenaOver kind s.arena → IsStrictStep kind has_memory counting greatest s command reply t → GoesOn kind counting s command (reply, t)
+  StrictStepGoesOn s command reply t over step = by (is_refused counting greatest s command) refl step
+    where
+      by : (b : Bool) → is_refused counting greatest s command ≡ b → UnlessExhausted b (IsStep kind has_memory counting greatest s command reply t) reply s t → GoesOn kind counting s command (reply, t)
+      by true so refused =
+          subst (λ r. GoesOn kind counting s command (r, t)) (sym refused.0)
+          (goes_same kind counting s command Exhausted t over (ap (λ u. u.arena) refused.1)
+          (no_calls s command (and_parts (wraps counting greatest s.arena.counter) (raises_counter s command) so).1))
+      by false not_so step = StepGoesOn kind counting greatest has_memory s command reply t over step
+
   pub StrictRunIsQuiet : (s : SessionState X) (commands : List (Command X)) (replies : List (Reply X)) (t : SessionState X) → IsRun (IsStrictStep kind has_memory counting greatest) s commands replies t → TellsOfNoWrap replies
   StrictRunIsQuiet s [] [] t run = TellsOfNoWrap-nil
   StrictRunIsQuiet s [] (reply ∷ replies) t run = absurd run
   StrictRunIsQuiet s (command ∷ commands) [] t run = absurd run
   StrictRunIsQuiet s (command ∷ commands) (reply ∷ replies) t run = TellsOfNoWrap-first reply replies (StrictStepIsQuiet s command reply run.0 run.1) (StrictRunIsQuiet run.0 commands replies t run.2)
 
-  -- so it runs all commands
+  -- so where generations count, its arena goes on by all model calls
+  pub StrictStepKeepsHistory : counting ≡ true → (s : SessionState X) (command : Command X) (reply : Reply X) (t : SessionState X) → IsArenaOver kind s.arena → IsStrictStep kind has_memory counting greatest s command reply t → Continues Fits s.arena (calls_of s command reply) t.arena
+  StrictStepKeepsHistory counts s command reply t over step =
+      (StrictStepGoesOn s command reply t over step).calls (counts, StrictStepIsQuiet s command reply t step)
+
+  pub StrictRunKeepsHistory : counting ≡ true → (s : SessionState X) (commands : List (Command X)) (replies : List (Reply X)) (t : SessionState X) → IsArenaOver kind s.arena → (run : IsRun (IsStrictStep kind has_memory counting greatest) s commands replies t)
+      → Continues Fits s.arena (calls_in (IsStrictStep kind has_memory counting greatest) s commands replies t run) t.arena
+  StrictRunKeepsHistory counts s commands replies t over run =
+      StepsKeepHistories kind counting (IsStrictStep kind has_memory counting greatest) StrictStepGoesOn counts s commands replies t over run (StrictRunIsQuiet s commands replies t run)
+
+  -- and it runs all commands
   pub StrictRunsAll : (s : SessionState X) (commands : List (Command X)) (replies : List (Reply X)) (t : SessionState X) → RunsToWrap (IsStrictStep kind has_memory counting greatest) s commands replies t → IsRun (IsStrictStep kind has_memory counting greatest) s commands replies t
   StrictRunsAll s commands replies t ran =
       let quiet = StrictRunIsQuiet s (take (length replies) commands) replies t ran.0 in

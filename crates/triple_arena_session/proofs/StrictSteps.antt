@@ -27,7 +27,7 @@ use Rattle.triple_arena_session.specs.SessionState.{SessionState, named, link_po
 use Rattle.triple_arena_session.specs.Compaction.{any_dangles, compacted}
 use Rattle.triple_arena_session.specs.SessionRun.{refusal, get_reply, show_reply, shown_text, act_under, act_on, set_answer, insert_within_answer, insert_unless, insert_answer, remove_under, invalidate_under, in_order, with_room_for_name, answer, WantsMemory, IsStep}
 use Rattle.triple_arena_session.specs.Strict.{raises_counter}
-use Rattle.triple_arena_session.proofs.StoreLaws.{step_cases}
+use Rattle.triple_arena_session.proofs.Continuing.{step_cases}
 
 -- the insertion of a value leaves the counter, and so does growth
 counter-inserted : {T : Type 0} (free : List ℕ) (s : ArenaState T) (value : T) → (inserted_among free s value).counter ≡ s.counter
@@ -178,7 +178,7 @@ module _ {X : Type 0} (counting : Bool) (greatest : ℕ) where
     -- the same of each step
     pub step_counts : (s : SessionState X) (command : Command X) (reply : Reply X) (t : SessionState X) → IsStep kind has_memory counting greatest s command reply t → Counts s command (reply, t)
     step_counts s command reply t step =
-        elim (step_cases kind has_memory counting greatest s command reply t step) [
+        elim (step_cases kind counting greatest has_memory s command reply t step) [
           | inl is ↦ subst (Counts s command) (sym is) (counts kind (shown_text reply) s command)
           | inr wants ↦ subst (λ r. Counts s command (r, t)) (sym wants.0) (kept s command NoMemory t (not_success (raises_counter s command) NoMemory refl) refl refl (wanting s command t wants.1))
         ]

@@ -13,11 +13,13 @@ use Rattle.triple_arena_commands.specs.declared.text_error.TextError.TheVariants
 use Rattle.triple_arena_commands.specs.Lines.{lines_of}
 use Rattle.triple_arena_commands.specs.ReplyText.{reply_lines}
 use Rattle.triple_arena_commands.specs.Runs.{IsRun, TellsOfNoWrap, EndsInWrap}
-use Rattle.triple_arena_commands.specs.TextRun.{StandFor, IsMalformed}
+use Rattle.triple_arena_commands.specs.TextRun.{StandFor, IsMalformed, AnswersToWrap}
 use Rattle.triple_arena_commands.specs.NameStore.{Store, new_store, IsStoreStep}
 use Rattle.triple_arena_commands.specs.StoreRuns.{is_named, is_no_memory, AnswersAsStore, ample, erase, seen}
 use Rattle.triple_arena_commands.specs.Strict.{StrictStore}
+use Rattle.triple_arena_session.specs.SessionState.{SessionState}
 use Rattle.triple_arena_session.specs.KindRun.{greatest}
+use Rattle.triple_arena_session.specs.Shown.{shown, IsSound}
 use Rattle.triple_arena_session.specs.StrictText.{IsStrictStoreText}
 
 -- these lines stand for commands that were answered as by the store, and the reply lines were written. If all of them are
@@ -46,16 +48,18 @@ BringsStore s t lines old new =
     (commands : List (Command ℕ)) × (replies : List (Reply ℕ)) × StandFor lines commands × IsRun IsStoreStep s commands replies t × TellsOfNoWrap replies
     × Appends old new (reply_lines replies)
 
--- what a run leaves of a session that showed s: t is shown then, and Sound holds. Nothing is said where the last reply that
--- was written told of a wrap, or where the writer failed
-abbrev pub LeavesStore : Store ℕ → Store ℕ → Type 0 → Option (List ℕ) → Result (Unit {0}) TextError → Option (List ℕ) → Option (List ℕ) → Type 0
-LeavesStore s t Sound text (Ok done) old new =
-    IfSome text (λ bytes.
-    (Sound × BringsStore s t (lines_of bytes) old new) ⊎ ((replies : List (Reply ℕ)) × EndsInWrap replies × Appends old new (reply_lines replies)))
-LeavesStore s t Sound text (Err (Malformed n)) old new = IfSome text (λ bytes. Sound × BringsStore s t (take (n - 1) (lines_of bytes)) old new)
-LeavesStore s t Sound text (Err Write) old new = Unit {0}
-LeavesStore s t Sound text (Err Read) old new = Sound × (t ≡ s)
-LeavesStore s t Sound text (Err NoMemory) old new = Sound × (t ≡ s)
+module _ (Step : SessionState ℕ → Command ℕ → Reply ℕ → SessionState ℕ → Type 0) where
+  -- what a run leaves of a sound session: it is sound, and shows what the lines that ran made of the store. Where the text's
+  -- own commands, up to some line, were answered so that the last reply told of a wrap, no more is said, nor where the writer
+  -- failed
+  abbrev pub LeavesStore : Option (List ℕ) → Result (Unit {0}) TextError → SessionState ℕ → SessionState ℕ → Option (List ℕ) → Option (List ℕ) → Type 0
+  LeavesStore text (Ok done) s t old new =
+      IfSome text (λ bytes.
+      (IsSound t × BringsStore (shown s) (shown t) (lines_of bytes) old new) ⊎ ((count : ℕ) × AnswersToWrap Step (take count (lines_of bytes)) s t old new))
+  LeavesStore text (Err (Malformed n)) s t old new = IfSome text (λ bytes. IsSound t × BringsStore (shown s) (shown t) (take (n - 1) (lines_of bytes)) old new)
+  LeavesStore text (Err Write) s t old new = Unit {0}
+  LeavesStore text (Err Read) s t old new = IsSound t × (shown t ≡ shown s)
+  LeavesStore text (Err NoMemory) s t old new = IsSound t × (shown t ≡ shown s)
 
 -- the store that a new session shows at the pointer of general use, over a stack of each kind
 abbrev pub first_store : Kind → Store ℕ

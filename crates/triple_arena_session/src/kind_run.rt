@@ -155,7 +155,7 @@ fn run_new<S: NonZeroInxGenericStack<Slot> + Drop, R: Read, W: Write + Drop>(
         (R.remaining input.old) result.0
         (writer_contents W.contents output) (W.contents result.1) }
 {
-    let mut session = Session::<P0, u64, S>::new(alloc);
+    let mut session = Session::<P0, u64, S>::with_new_arena(alloc);
     run_text_and_flush(&mut session, alloc, input, output)
 }
 
@@ -205,7 +205,7 @@ fn run_new_strictly<S: NonZeroInxGenericStack<Slot> + Drop, R: Read, W: Write + 
         (first_session (new_room S.kind) (new_limit S.kind)) (R.remaining input.old) result.0
         (writer_contents W.contents output) (W.contents result.1) }
 {
-    let mut session = StrictSession::<P0, u64, S>::new(alloc);
+    let mut session = StrictSession::<P0, u64, S>::with_new_arena(alloc);
     run_text_strict_and_flush(&mut session, alloc, input, output)
 }
 

@@ -15,7 +15,7 @@ ghost use Rattle.triple_arena_commands.specs.StoreRuns.{is_named, is_no_memory, 
 ghost use Rattle.triple_arena_commands.specs.Strict.{tells_exhausted, IsStrictStoreStep};
 ghost use Rattle.triple_arena_session.specs.SessionState.{SessionState};
 ghost use Rattle.triple_arena_session.specs.SessionRun.{IsStep};
-ghost use Rattle.triple_arena_session.specs.SessionCalls.{calls_of, calls_in};
+ghost use Rattle.triple_arena_session.specs.SessionCalls.{calls_of, calls_in, KeepsHistories};
 ghost use Rattle.triple_arena_session.specs.Shown.{shown, IsSound, IsArenaOver};
 ghost use Rattle.triple_arena_session.specs.Strict.{IsStrictStep, strictly_shown};
 ghost use Rattle.triple_arena_session.specs.KindRun.{greatest, first_session};
@@ -32,8 +32,12 @@ use triple_arena_stack::NonZeroInxGenericStack;
 
 /// A step of a session is one of the store that it shows, where the generation counts, the session is
 /// sound, its arena is as every arena over the stack is, and the reply tells of no wrap. All this holds
-/// after it too, and the calls on the arena take each history that fits it to one that fits. Where the
-/// reply tells of a wrap, it is the store's, its bool aside. No reply is `Exhausted`.
+/// after it too. Where the reply tells of a wrap, it is the store's, its bool aside. No reply is
+/// `Exhausted`.
+///
+/// Of any session, sound or not, the arena stays as every arena over the stack is; and where the
+/// generation counts and the reply tells of no wrap, the calls on the arena take each history that fits
+/// it to one that fits.
 pub fn session_steps_as_store<P: Ptr, X, S: NonZeroInxGenericStack<ArenaSlot<P, Node<X, P>>>>()
     ensures store { P.Gen.counting ≡ true → (s t : SessionState X) (command : Command X) (reply : Reply X)
         → IsArenaOver S.kind s.arena → IsSound s
@@ -44,10 +48,14 @@ pub fn session_steps_as_store<P: Ptr, X, S: NonZeroInxGenericStack<ArenaSlot<P, 
         → IsStep S.kind S.has_memory P.Gen.counting P.Gen.greatest s command reply t
         → tells_of_wrap reply ≡ false → IsArenaOver S.kind t.arena × IsSound t }
     ensures calls { P.Gen.counting ≡ true → (s t : SessionState X) (command : Command X) (reply : Reply X)
-        → IsArenaOver S.kind s.arena → IsSound s
+        → IsArenaOver S.kind s.arena
         → IsStep S.kind S.has_memory P.Gen.counting P.Gen.greatest s command reply t
         → tells_of_wrap reply ≡ false
         → Continues Fits s.arena (calls_of s command reply) t.arena }
+    ensures arena { (s t : SessionState X) (command : Command X) (reply : Reply X)
+        → IsArenaOver S.kind s.arena
+        → IsStep S.kind S.has_memory P.Gen.counting P.Gen.greatest s command reply t
+        → IsArenaOver S.kind t.arena }
     ensures at_wrap { P.Gen.counting ≡ true → (s t : SessionState X) (command : Command X) (reply : Reply X)
         → IsArenaOver S.kind s.arena → IsSound s
         → IsStep S.kind S.has_memory P.Gen.counting P.Gen.greatest s command reply t
@@ -56,11 +64,34 @@ pub fn session_steps_as_store<P: Ptr, X, S: NonZeroInxGenericStack<ArenaSlot<P, 
         → IsStep S.kind S.has_memory P.Gen.counting P.Gen.greatest s command Exhausted t → ⊥ }
 {}
 
+/// A list of steps of any session, sound or not, takes each history that fits its arena to one that
+/// fits, where the generation counts, the arena is as every arena over the stack is, which it stays, and
+/// no reply tells of a wrap. So from a session without entries, as a new one is, and any one that was
+/// cleared, no pointer is given twice by all of them.
+pub fn session_runs_keep_histories<P: Ptr, X, S: NonZeroInxGenericStack<ArenaSlot<P, Node<X, P>>>>()
+    ensures calls { P.Gen.counting ≡ true
+        → (s t : SessionState X) (commands : List (Command X)) (replies : List (Reply X))
+        → IsArenaOver S.kind s.arena
+        → KeepsHistories (IsStep S.kind S.has_memory P.Gen.counting P.Gen.greatest) s commands replies t }
+    ensures arena { (s t : SessionState X) (commands : List (Command X)) (replies : List (Reply X))
+        → IsArenaOver S.kind s.arena
+        → IsRun (IsStep S.kind S.has_memory P.Gen.counting P.Gen.greatest) s commands replies t
+        → IsArenaOver S.kind t.arena }
+    ensures given_once { P.Gen.counting ≡ true
+        → (s t : SessionState X) (commands : List (Command X)) (replies : List (Reply X))
+        → IsArenaOver S.kind s.arena → arena_len s.arena ≡ 0
+        → (run : IsRun (IsStep S.kind S.has_memory P.Gen.counting P.Gen.greatest) s commands replies t)
+        → TellsOfNoWrap replies
+        → AreDistinct (given (followed_by (begun_with [])
+        (calls_in (IsStep S.kind S.has_memory P.Gen.counting P.Gen.greatest)
+        s commands replies t run))) }
+{}
+
 /// A step of a strict session is one of the strict store that it shows, where the generation counts,
 /// the session is sound, its arena is as every arena over the stack is, and its counter is at most the
-/// greatest generation, as each is. All this holds after it too, no reply tells of a wrap, and the calls
-/// on the arena take each history that fits it to one that fits, so that every pointer that was given is
-/// new.
+/// greatest generation, as each is. All this holds after it too, and no reply tells of a wrap. Of any
+/// session, sound or not, whose counter may be any number, the calls on the arena take each history that
+/// fits it to one that fits, so that every pointer that was given is new.
 pub fn strict_session_steps_as_store<
     P: Ptr,
     X,
@@ -78,13 +109,13 @@ pub fn strict_session_steps_as_store<
         → IsStrictStep S.kind S.has_memory P.Gen.counting P.Gen.greatest s command reply t
         → tells_of_wrap reply ≡ false }
     ensures history { P.Gen.counting ≡ true → (s t : SessionState X) (command : Command X) (reply : Reply X)
-        → IsArenaOver S.kind s.arena → s.arena.counter ≤ P.Gen.greatest → IsSound s
+        → IsArenaOver S.kind s.arena
         → IsStrictStep S.kind S.has_memory P.Gen.counting P.Gen.greatest s command reply t
         → Continues Fits s.arena (calls_of s command reply) t.arena }
 {}
 
-/// So it is with any list of steps, one after another; from a session without entries, as a new one is,
-/// no pointer is given twice by all of them. Of named commands, with neither `NoMemory` nor `Exhausted`
+/// So it is with any list of steps, one after another; from a session without entries, sound or not, no
+/// pointer is given twice by all of them. Of named commands, with neither `NoMemory` nor `Exhausted`
 /// among the replies, compactions change no other reply.
 pub fn strict_session_runs_as_store<
     P: Ptr,
@@ -106,14 +137,13 @@ pub fn strict_session_runs_as_store<
         → TellsOfNoWrap replies }
     ensures history { P.Gen.counting ≡ true
         → (s t : SessionState X) (commands : List (Command X)) (replies : List (Reply X))
-        → IsArenaOver S.kind s.arena → s.arena.counter ≤ P.Gen.greatest → IsSound s
+        → IsArenaOver S.kind s.arena
         → (run : IsRun (IsStrictStep S.kind S.has_memory P.Gen.counting P.Gen.greatest) s commands replies t)
         → Continues Fits s.arena (calls_in (IsStrictStep S.kind S.has_memory P.Gen.counting P.Gen.greatest)
         s commands replies t run) t.arena }
     ensures given_once { P.Gen.counting ≡ true
         → (s t : SessionState X) (commands : List (Command X)) (replies : List (Reply X))
-        → IsArenaOver S.kind s.arena → s.arena.counter ≤ P.Gen.greatest → IsSound s
-        → arena_len s.arena ≡ 0
+        → IsArenaOver S.kind s.arena → arena_len s.arena ≡ 0
         → (run : IsRun (IsStrictStep S.kind S.has_memory P.Gen.counting P.Gen.greatest) s commands replies t)
         → AreDistinct (given (followed_by (begun_with [])
         (calls_in (IsStrictStep S.kind S.has_memory P.Gen.counting P.Gen.greatest)

@@ -1,6 +1,7 @@
 //! Sessions: commands that speak of the entries of an arena by name, their text, and the run of a whole program.
 #![tactic(auto)]
 
+mod begins_over;
 mod kind_run;
 pub mod laws;
 mod named_arena;
@@ -11,6 +12,7 @@ mod strict_session;
 mod strict_text;
 mod text;
 
+pub use begins_over::BeginsOver;
 pub use kind_run::{run_kind, run_program};
 pub use node::Node;
 pub use session::Session;

@@ -8,7 +8,7 @@ ghost use Rattle.triple_arena_traits.specs.ArenaState.{arena_len, capacity, map_
 ghost use Rattle.triple_arena_commands.specs.Runs.{RunsToWrap};
 ghost use Rattle.triple_arena_session.specs.SessionState.{new_session, node_of, named, link_name, link_pointer};
 ghost use Rattle.triple_arena_session.specs.SessionRun.{IsStep, refusal};
-ghost use Rattle.triple_arena_session.specs.Shown.{IsArenaOver};
+ghost use Rattle.triple_arena_session.specs.Shown.{IsSound, IsArenaOver};
 ghost use Rattle.triple_arena_session.specs.Strict.{raises_counter, is_refused};
 ghost use Rattle.triple_arena_session.specs.SessionLayout.{refuses, IsStepOf};
 
@@ -59,9 +59,10 @@ impl<
     S: NonZeroInxGenericStack<ArenaSlot<P, Node<X, P>>>,
     A: SessionArena<P, Node<X, P>, S>,
 > NamedArena<P, X, S, A> {
-    /// Over this arena, without names.
+    /// Over this arena, without names; sound where it has no entry.
     pub(crate) fn over(arena: A, alloc: Global) -> Self
-        ensures { result ≡ new_session (map_values (node_of P.numbers) (A.state arena)) }
+        ensures made { result ≡ new_session (map_values (node_of P.numbers) (A.state arena)) }
+        ensures sound { arena_len (A.state arena) ≡ 0 → IsSound result }
     {
         NamedArena {
             arena,

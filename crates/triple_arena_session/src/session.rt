@@ -52,7 +52,7 @@ impl<P: Ptr, X: Copy, S: NonZeroInxGenericStack<ArenaSlot<P, Node<X, P>>>> Sessi
     /// its pointers counts, which `PtrGen::counts` tells. It takes no memory.
     ///
     /// It is sound, and shows an empty store of names.
-    pub fn new(alloc: Global) -> Self
+    pub fn with_new_arena(alloc: Global) -> Self
         requires { P.Gen.counting ≡ true }
         ensures made { result ≡ new_session (new_arena (new_room S.kind) (new_limit S.kind)
             (greatest_index P.Inx.greatest) (first_generation P.Gen.counting)) }
@@ -121,8 +121,9 @@ impl<P: Ptr, X: Copy, S: NonZeroInxGenericStack<ArenaSlot<P, Node<X, P>>>> Sessi
     /// A sound session answers as the store of names that it shows, its bool aside where the reply
     /// tells of a wrap; where it tells of none, the session shows what the store becomes, and is
     /// sound. The calls on its arena then take each history that fits it to one that fits, so that no
-    /// pointer is given twice. Of the session before it tells what is true of each (`arena`), so that
-    /// the law `session_steps_as_store` can be used of its steps.
+    /// pointer is given twice: of any session, sound or not (`calls`). Of the session before it tells
+    /// what is true of each (`arena`), so that the law `session_steps_as_store` can be used of its
+    /// steps.
     pub fn step(&mut self, command: Command<X>) -> Reply<X>
     where
         X: Debug,
@@ -131,7 +132,7 @@ impl<P: Ptr, X: Copy, S: NonZeroInxGenericStack<ArenaSlot<P, Node<X, P>>>> Sessi
             → IsStoreStep (shown self.old) command result (shown self.new) }
         ensures sound { P.Gen.counting ≡ true → IsSound self.old → tells_of_wrap result ≡ false
             → IsSound self.new }
-        ensures calls { P.Gen.counting ≡ true → IsSound self.old → tells_of_wrap result ≡ false
+        ensures calls { P.Gen.counting ≡ true → tells_of_wrap result ≡ false
             → Continues Fits self.old.arena (calls_of self.old command result) self.new.arena }
         ensures at_wrap { P.Gen.counting ≡ true → IsSound self.old
             → (after : Store X) × IsStoreStep (shown self.old) command (without_wrap result) after }
@@ -151,7 +152,8 @@ impl<P: Ptr, X: Copy, S: NonZeroInxGenericStack<ArenaSlot<P, Node<X, P>>>> Sessi
     /// A sound session answers as the store of names that it shows. Where no reply tells of a wrap,
     /// it shows what the store becomes, and is sound. Of each front of the commands and replies there
     /// is what stood after it (`fronts`), and as long as it tells of no wrap no pointer was given twice
-    /// by then. Of named commands, which are all but `Capacity`, `Reserve` and `Show`, and with no
+    /// by then: of any session, sound or not, as the law `session_runs_keep_histories` says of every
+    /// list of steps. Of named commands, which are all but `Capacity`, `Reserve` and `Show`, and with no
     /// `NoMemory` among the replies, compactions change no other reply.
     pub fn run(&mut self, commands: &[Command<X>]) -> Result<Vec<Reply<X>>, AllocError>
     where
@@ -168,14 +170,10 @@ impl<P: Ptr, X: Copy, S: NonZeroInxGenericStack<ArenaSlot<P, Node<X, P>>>> Sessi
             → IsRun IsStoreStep (shown self.old) commands.now replies.items (shown self.new)) }
         ensures sound { P.Gen.counting ≡ true → IsSound self.old → IfOk result (λ replies.
             TellsOfNoWrap replies.items → IsSound self.new) }
-        ensures calls { P.Gen.counting ≡ true → IsSound self.old → IfOk result (λ replies.
+        ensures calls { P.Gen.counting ≡ true → IfOk result (λ replies.
             KeepsHistories (IsStep S.kind S.has_memory P.Gen.counting P.Gen.greatest)
             self.old (take (length replies.items) commands.now) replies.items self.new) }
-        ensures before { P.Gen.counting ≡ true → IsSound self.old → IfOk result (λ replies.
-            (count : ℕ) (after : SessionState X)
-            → KeepsHistories (IsStep S.kind S.has_memory P.Gen.counting P.Gen.greatest)
-            self.old (take count commands.now) (take count replies.items) after) }
-        ensures fronts { P.Gen.counting ≡ true → IsSound self.old → IfOk result (λ replies.
+        ensures fronts { P.Gen.counting ≡ true → IfOk result (λ replies.
             (count : ℕ) → (after : SessionState X)
             × IsRun (IsStep S.kind S.has_memory P.Gen.counting P.Gen.greatest)
             self.old (take count (take (length replies.items) commands.now)) (take count replies.items) after

@@ -56,7 +56,7 @@ impl<P: Ptr, X: Copy, S: NonZeroInxGenericStack<ArenaSlot<P, Node<X, P>>>> Stric
     ///
     /// It is sound, and shows an empty store of names, to whose counter the raises are left that lead
     /// from the first generation to the greatest.
-    pub fn new(alloc: Global) -> Self
+    pub fn with_new_arena(alloc: Global) -> Self
         requires { P.Gen.counting ≡ true }
         ensures made { result ≡ new_session (new_arena (new_room S.kind) (new_limit S.kind)
             (greatest_index P.Inx.greatest) (first_generation P.Gen.counting)) }
@@ -112,9 +112,9 @@ impl<P: Ptr, X: Copy, S: NonZeroInxGenericStack<ArenaSlot<P, Node<X, P>>>> Stric
     ///
     /// A sound session answers as the strict store of names that it shows, shows what the store
     /// becomes, and is sound. The calls on its arena take each history that fits it to one that fits,
-    /// so that every pointer that was given is new (`history`). Of the session before it tells what is
-    /// true of each (`arena`, `within`), so that the law `strict_session_steps_as_store` can be used of
-    /// its steps.
+    /// so that every pointer that was given is new: of any session, sound or not (`history`). Of the
+    /// session before it tells what is true of each (`arena`, `within`), so that the law
+    /// `strict_session_steps_as_store` can be used of its steps.
     pub fn step(&mut self, command: Command<X>) -> Reply<X>
     where
         X: Debug,
@@ -128,7 +128,7 @@ impl<P: Ptr, X: Copy, S: NonZeroInxGenericStack<ArenaSlot<P, Node<X, P>>>> Stric
             (strictly_shown P.Gen.greatest self.old) command result
             (strictly_shown P.Gen.greatest self.new) }
         ensures sound { P.Gen.counting ≡ true → IsSound self.old → IsSound self.new }
-        ensures history { P.Gen.counting ≡ true → IsSound self.old
+        ensures history { P.Gen.counting ≡ true
             → Continues Fits self.old.arena (calls_of self.old command result) self.new.arena }
         ensures arena { IsArenaOver S.kind self.old.arena }
         ensures within { self.old.arena.counter ≤ P.Gen.greatest }
@@ -143,9 +143,9 @@ impl<P: Ptr, X: Copy, S: NonZeroInxGenericStack<ArenaSlot<P, Node<X, P>>>> Stric
     /// commands none is asked for.
     ///
     /// A sound session answers as the strict store of names that it shows, shows what the store
-    /// becomes, and is sound; and every pointer that was given is new. Of named commands, which are
-    /// all but `Capacity`, `Reserve` and `Show`, and with neither `NoMemory` nor `Exhausted` among the
-    /// replies, compactions change no other reply.
+    /// becomes, and is sound. Every pointer that was given is new, of any session, sound or not. Of
+    /// named commands, which are all but `Capacity`, `Reserve` and `Show`, and with neither `NoMemory`
+    /// nor `Exhausted` among the replies, compactions change no other reply.
     pub fn run(&mut self, commands: &[Command<X>]) -> Result<Vec<Reply<X>>, AllocError>
     where
         X: Debug,
@@ -160,7 +160,7 @@ impl<P: Ptr, X: Copy, S: NonZeroInxGenericStack<ArenaSlot<P, Node<X, P>>>> Stric
             IsRun IsStrictStoreStep (strictly_shown P.Gen.greatest self.old) commands.now
             replies.items (strictly_shown P.Gen.greatest self.new)) }
         ensures sound { P.Gen.counting ≡ true → IsSound self.old → IsSound self.new }
-        ensures history { P.Gen.counting ≡ true → IsSound self.old → IfOk result (λ replies.
+        ensures history { P.Gen.counting ≡ true → IfOk result (λ replies.
             RunsFreshly (IsStrictStep S.kind S.has_memory P.Gen.counting P.Gen.greatest)
             self.old commands.now replies.items self.new) }
         ensures unseen { P.Gen.counting ≡ true → IsSound self.old → IfOk result (λ replies.

@@ -46,8 +46,8 @@ pub fn run_text<P: Ptr, S: NonZeroInxGenericStack<ArenaSlot<P, Node<u64, P>>>, R
         → IsStoreText (shown session.old) (R.remaining input.old) result
         (W.contents output.old) (W.contents output.new) }
     ensures leaves { P.Gen.counting ≡ true → IsSound session.old
-        → LeavesStore (shown session.old) (shown session.new) (IsSound session.new)
-        (R.remaining input.old) result (W.contents output.old) (W.contents output.new) }
+        → LeavesStore (IsStep S.kind S.has_memory P.Gen.counting P.Gen.greatest) (R.remaining input.old) result
+        session.old session.new (W.contents output.old) (W.contents output.new) }
     ensures arena { IsArenaOver S.kind session.old.arena }
 {
     session.inside.tell_arena();
@@ -99,8 +99,8 @@ pub fn run_text_and_flush<
         → IsStoreText (shown session.old) (R.remaining input.old) result.0
         (writer_contents W.contents output) (W.contents result.1) }
     ensures leaves { P.Gen.counting ≡ true → IsSound session.old
-        → LeavesStore (shown session.old) (shown session.new) (IsSound session.new)
-        (R.remaining input.old) result.0 (writer_contents W.contents output) (W.contents result.1) }
+        → LeavesStore (IsStep S.kind S.has_memory P.Gen.counting P.Gen.greatest) (R.remaining input.old)
+        result.0 session.old session.new (writer_contents W.contents output) (W.contents result.1) }
     ensures arena { IsArenaOver S.kind session.old.arena }
 {
     session.inside.tell_arena();

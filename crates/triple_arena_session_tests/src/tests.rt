@@ -1,6 +1,7 @@
 //! Sessions at several pointers and stacks, and texts that run over memory up to the whole program, which
 //! no clause states.
 
+mod begun_sessions;
 mod commands;
 mod devices;
 mod program;

@@ -33,7 +33,7 @@ pub fn answers(alloc: Global, commands: &[Command<u64>]) -> Result<Vec<Reply<u64
         list_all is_named ran ≡ true → list_any is_no_memory replies.items ≡ false
         → seen ran replies.items ≡ ample (first_store Heap) (erase ran)) }
 {
-    let mut session: Session<P0, u64> = Session::new(alloc);
+    let mut session: Session<P0, u64> = Session::with_new_arena(alloc);
     session.run(commands)
 }
 
@@ -86,7 +86,7 @@ pub fn strict_answers(
         → list_any tells_exhausted replies.items ≡ false
         → seen commands.now replies.items ≡ ample (first_store Heap) (erase commands.now)) }
 {
-    let mut session: StrictSession<P0, u64> = StrictSession::new(alloc);
+    let mut session: StrictSession<P0, u64> = StrictSession::with_new_arena(alloc);
     session.run(commands)
 }
 

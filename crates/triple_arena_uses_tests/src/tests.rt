@@ -1,5 +1,7 @@
 //! What no clause of the users says: that their calls succeed where memory is there, and worked examples.
 
+mod audit;
+mod begun_sessions;
 mod entity_table;
 mod first_arena;
 mod gates;
@@ -10,6 +12,7 @@ mod leases;
 mod named_entries;
 mod netlist;
 mod side_table;
+mod whole_program;
 
 use triple_arena_ptr::{P0, Ptr};
 

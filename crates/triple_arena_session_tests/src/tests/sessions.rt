@@ -14,7 +14,7 @@ use triple_arena_trait_kit::Narrow;
 
 #[test]
 fn answers_by_name(rt: HostRuntime) {
-    let mut session: Session<P0, bool> = Session::new(rt.alloc());
+    let mut session: Session<P0, bool> = Session::with_new_arena(rt.alloc());
     let steps: &[(Command<bool>, Reply<bool>)] = &[
         (Command::Get(0), Reply::Nothing),
         (Command::Insert(true, Some(1)), Reply::BadName),

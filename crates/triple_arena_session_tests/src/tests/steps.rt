@@ -228,7 +228,7 @@ where
     assert!(rt; P::Gen::counts());
     let made: Result<Session<P, u64, S>, AllocError> = match room {
         Some(room) => Session::with_min_capacity(alloc, room),
-        None => Ok(Session::new(alloc)),
+        None => Ok(Session::with_new_arena(alloc)),
     };
     match made {
         Ok(mut session) => trial.pass(rt, alloc, &mut session),
@@ -242,6 +242,6 @@ where
     P::Gen: Numbered,
 {
     assert!(rt; P::Gen::counts());
-    let mut session: StrictSession<P, u64> = StrictSession::new(alloc);
+    let mut session: StrictSession<P, u64> = StrictSession::with_new_arena(alloc);
     trial.pass(rt, alloc, &mut session);
 }

@@ -34,7 +34,7 @@ fn names_find_what_they_name(rt: HostRuntime) {
 
 // The names of two numbers in a new session.
 fn entered(alloc: Global) -> Option<[usize; 2]> {
-    let mut session = Session::new(alloc);
+    let mut session = Session::with_new_arena(alloc);
     let first = enter(&mut session, 7)?;
     let second = enter(&mut session, 7)?;
     Some([first, second])
@@ -47,7 +47,7 @@ fn each_number_gets_the_next_name(rt: HostRuntime) {
 
 // The malformed line of a text, if a text after it has none, and what the two write.
 fn told(alloc: Global, first: &[u8], second: &[u8]) -> Option<(usize, bool, Vec<u8>)> {
-    let mut session = Session::new(alloc);
+    let mut session = Session::with_new_arena(alloc);
     let mut output = Vec::new(alloc);
     let line = run_to_malformed(&mut session, alloc, first, &mut output)?;
     let ends_well = run_to_malformed(&mut session, alloc, second, &mut output).is_none();
@@ -67,7 +67,7 @@ fn a_text_follows_one_with_a_malformed_line(rt: HostRuntime) {
 
 #[test]
 fn a_text_follows_another_in_a_strict_session(rt: HostRuntime) {
-    let mut session = StrictSession::new(rt.alloc());
+    let mut session = StrictSession::with_new_arena(rt.alloc());
     let mut output = Vec::new(rt.alloc());
     let stops = runs_to_its_end(
         &mut session,

@@ -2,7 +2,7 @@ use Rattle.std.proofs.Common.{[]}
 use Rattle.triple_arena_traits.specs.Histories.{begun_with}
 use Rattle.triple_arena_traits.specs.HistoryLaws.{Fits-empty}
 use Rattle.triple_arena_session.proofs.Soundness.{sound_over}
-use Rattle.triple_arena_session.proofs.StrictLaws.{StrictRunIsStores, StrictRunIsQuiet, StrictRunIsUnseen}
+use Rattle.triple_arena_session.proofs.StrictLaws.{StrictRunIsStores, StrictRunIsQuiet, StrictRunKeepsHistory, StrictRunIsUnseen}
 use Rattle.triple_arena_session.proofs.laws.strict_session_runs_as_store.Goals as goal
 
 pub returns-clause-store : goal.returns-clause-store
@@ -19,12 +19,11 @@ returns-clause-quiet g c s t commands replies run =
     StrictRunIsQuiet g.S.NonZeroInxGenericStack.kind g.S.NonZeroInxGenericStack.has_memory g.P.Gen.PtrGen.counting g.P.Gen.PtrGen.greatest s commands replies t run
 
 pub returns-clause-history : goal.returns-clause-history
-returns-clause-history g c counts s t commands replies over within sound run =
-    (StrictRunIsStores g.S.NonZeroInxGenericStack.kind g.S.NonZeroInxGenericStack.has_memory g.P.Gen.PtrGen.counting g.P.Gen.PtrGen.greatest counts s commands replies t (record { sound = sound_over g.S.NonZeroInxGenericStack.kind s sound over; within = within }) run).calls
+returns-clause-history g c counts s t commands replies over run = StrictRunKeepsHistory g.S.NonZeroInxGenericStack.kind g.S.NonZeroInxGenericStack.has_memory g.P.Gen.PtrGen.counting g.P.Gen.PtrGen.greatest counts s commands replies t over run
 
 pub returns-clause-given_once : goal.returns-clause-given_once
-returns-clause-given_once g c counts s t commands replies over within sound none run =
-    ((StrictRunIsStores g.S.NonZeroInxGenericStack.kind g.S.NonZeroInxGenericStack.has_memory g.P.Gen.PtrGen.counting g.P.Gen.PtrGen.greatest counts s commands replies t (record { sound = sound_over g.S.NonZeroInxGenericStack.kind s sound over; within = within }) run).calls (begun_with []) (Fits-empty s.arena none)).given_once
+returns-clause-given_once g c counts s t commands replies over none run =
+    (StrictRunKeepsHistory g.S.NonZeroInxGenericStack.kind g.S.NonZeroInxGenericStack.has_memory g.P.Gen.PtrGen.counting g.P.Gen.PtrGen.greatest counts s commands replies t over run (begun_with []) (Fits-empty s.arena none)).given_once
 
 pub returns-clause-unseen : goal.returns-clause-unseen
 returns-clause-unseen g c counts s t commands replies over within sound run named enough other =

@@ -3,7 +3,8 @@ use Rattle.std.proofs.lemmas.Result.{IfOk-weaker}
 use Rattle.triple_arena_commands.specs.RunLaws.{IsRun-front}
 use Rattle.triple_arena_session.specs.SessionRun.{IsStep}
 use Rattle.triple_arena_session.proofs.Soundness.{sound_over}
-use Rattle.triple_arena_session.proofs.StoreRunLaws.{RunAnswersAsStore, RunIsStores, RunKeepsHistories, RunIsUnseen}
+use Rattle.triple_arena_session.proofs.Continuing.{StepGoesOn, StepsKeepHistories}
+use Rattle.triple_arena_session.proofs.StoreRunLaws.{RunAnswersAsStore, RunIsStores, RunIsUnseen}
 use Rattle.triple_arena_session.proofs.StrictSteps.{RunNeverExhausted}
 use Rattle.triple_arena_session.proofs.session.Session.run.Goals as goal
 
@@ -21,19 +22,15 @@ returns-clause-sound g c =
 
 pub returns-clause-calls : goal.returns-clause-calls
 returns-clause-calls g c =
-    rw (← c.self.view_is) (λ counts sound. IfOk-weaker c.run_commands.result _ _ (λ replies ran. RunKeepsHistories g.S.NonZeroInxGenericStack.kind g.S.NonZeroInxGenericStack.has_memory g.P.Gen.PtrGen.counting g.P.Gen.PtrGen.greatest counts c.self.inside.inside (take (length replies.items) c.args.commands.now) replies.items c.run_commands.new.self (sound_over g.S.NonZeroInxGenericStack.kind c.self.inside.inside sound c.tell_arena.ensures.over)) c.run_commands.ensures.ran)
-
-pub returns-clause-before : goal.returns-clause-before
-returns-clause-before g c =
-    rw (← c.self.view_is) (λ counts sound. IfOk-weaker c.run_commands.result _ _ (λ replies ran. λ count after. RunKeepsHistories g.S.NonZeroInxGenericStack.kind g.S.NonZeroInxGenericStack.has_memory g.P.Gen.PtrGen.counting g.P.Gen.PtrGen.greatest counts c.self.inside.inside (take count c.args.commands.now) (take count replies.items) after (sound_over g.S.NonZeroInxGenericStack.kind c.self.inside.inside sound c.tell_arena.ensures.over)) c.run_commands.ensures.ran)
+    rw (← c.self.view_is) (λ counts. IfOk-weaker c.run_commands.result _ _ (λ replies ran. StepsKeepHistories g.S.NonZeroInxGenericStack.kind g.P.Gen.PtrGen.counting (IsStep g.S.NonZeroInxGenericStack.kind g.S.NonZeroInxGenericStack.has_memory g.P.Gen.PtrGen.counting g.P.Gen.PtrGen.greatest) (StepGoesOn g.S.NonZeroInxGenericStack.kind g.P.Gen.PtrGen.counting g.P.Gen.PtrGen.greatest g.S.NonZeroInxGenericStack.has_memory) counts c.self.inside.inside (take (length replies.items) c.args.commands.now) replies.items c.run_commands.new.self c.tell_arena.ensures.over) c.run_commands.ensures.ran)
 
 pub returns-clause-fronts : goal.returns-clause-fronts
 returns-clause-fronts g c =
-    rw (← c.self.view_is) (λ counts sound. IfOk-weaker c.run_commands.result _ _ (λ replies ran. λ count.
+    rw (← c.self.view_is) (λ counts. IfOk-weaker c.run_commands.result _ _ (λ replies ran. λ count.
     let Step = IsStep g.S.NonZeroInxGenericStack.kind g.S.NonZeroInxGenericStack.has_memory g.P.Gen.PtrGen.counting g.P.Gen.PtrGen.greatest in
     let answered = take (length replies.items) c.args.commands.now in
     let front = IsRun-front Step c.self.inside.inside c.run_commands.new.self answered replies.items count ran.0 in
-    (front.0, front.1, RunKeepsHistories g.S.NonZeroInxGenericStack.kind g.S.NonZeroInxGenericStack.has_memory g.P.Gen.PtrGen.counting g.P.Gen.PtrGen.greatest counts c.self.inside.inside (take count answered) (take count replies.items) front.0 (sound_over g.S.NonZeroInxGenericStack.kind c.self.inside.inside sound c.tell_arena.ensures.over))) c.run_commands.ensures.ran)
+    (front.0, front.1, StepsKeepHistories g.S.NonZeroInxGenericStack.kind g.P.Gen.PtrGen.counting (IsStep g.S.NonZeroInxGenericStack.kind g.S.NonZeroInxGenericStack.has_memory g.P.Gen.PtrGen.counting g.P.Gen.PtrGen.greatest) (StepGoesOn g.S.NonZeroInxGenericStack.kind g.P.Gen.PtrGen.counting g.P.Gen.PtrGen.greatest g.S.NonZeroInxGenericStack.has_memory) counts c.self.inside.inside (take count answered) (take count replies.items) front.0 c.tell_arena.ensures.over)) c.run_commands.ensures.ran)
 
 pub returns-clause-unseen : goal.returns-clause-unseen
 returns-clause-unseen g c =

@@ -1,6 +1,7 @@
 use Rattle.std.proofs.Common.{subst}
 use Rattle.triple_arena_session.specs.SessionRun.{IsStep}
 use Rattle.triple_arena_session.proofs.Soundness.{sound_over}
+use Rattle.triple_arena_session.proofs.Continuing.{StepGoesOn}
 use Rattle.triple_arena_session.proofs.StoreLaws.{StepIsStores}
 use Rattle.triple_arena_session.proofs.StrictSteps.{NeverExhausted}
 use Rattle.triple_arena_session.proofs.session.Session.step.Goals as goal
@@ -15,7 +16,7 @@ returns-clause-sound g c =
 
 pub returns-clause-calls : goal.returns-clause-calls
 returns-clause-calls g c =
-    rw (← c.self.view_is) (λ counts sound quiet. (StepIsStores g.S.NonZeroInxGenericStack.kind g.S.NonZeroInxGenericStack.has_memory g.P.Gen.PtrGen.counting g.P.Gen.PtrGen.greatest counts c.self.inside.inside c.args.command c.answer.result c.answer.new.self (sound_over g.S.NonZeroInxGenericStack.kind c.self.inside.inside sound c.tell_arena.ensures.over) c.answer.ensures).calls quiet)
+    rw (← c.self.view_is) (λ counts quiet. (StepGoesOn g.S.NonZeroInxGenericStack.kind g.P.Gen.PtrGen.counting g.P.Gen.PtrGen.greatest g.S.NonZeroInxGenericStack.has_memory c.self.inside.inside c.args.command c.answer.result c.answer.new.self c.tell_arena.ensures.over c.answer.ensures).calls (counts, quiet))
 
 pub returns-clause-at_wrap : goal.returns-clause-at_wrap
 returns-clause-at_wrap g c =

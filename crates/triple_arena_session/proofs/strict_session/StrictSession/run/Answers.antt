@@ -3,7 +3,7 @@ use Rattle.std.proofs.lemmas.Result.{IfOk-weaker}
 use Rattle.triple_arena_session.specs.Shown.{IsSound}
 use Rattle.triple_arena_session.proofs.Soundness.{sound_over}
 use Rattle.triple_arena_session.proofs.StoreRunLaws.{count_if_quiet}
-use Rattle.triple_arena_session.proofs.StrictLaws.{StrictRunsAll, StrictRunIsStores, StrictRunIsQuiet, StrictRunIsUnseen}
+use Rattle.triple_arena_session.proofs.StrictLaws.{StrictRunsAll, StrictRunIsStores, StrictRunIsQuiet, StrictRunKeepsHistory, StrictRunIsUnseen}
 use Rattle.triple_arena_session.proofs.strict_session.StrictSession.run.Goals as goal
 
 -- what holds after a run, and where nothing was done
@@ -39,9 +39,9 @@ returns-clause-sound g c =
 
 pub returns-clause-history : goal.returns-clause-history
 returns-clause-history g c =
-    rw (← c.self.view_is) (λ counts sound. IfOk-weaker c.run_commands.result _ _ (λ replies ran.
+    rw (← c.self.view_is) (λ counts. IfOk-weaker c.run_commands.result _ _ (λ replies ran.
     let run = StrictRunsAll g.S.NonZeroInxGenericStack.kind g.S.NonZeroInxGenericStack.has_memory g.P.Gen.PtrGen.counting g.P.Gen.PtrGen.greatest c.self.inside.inside c.args.commands.now replies.items c.run_commands.new.self ran in
-    (run, (StrictRunIsStores g.S.NonZeroInxGenericStack.kind g.S.NonZeroInxGenericStack.has_memory g.P.Gen.PtrGen.counting g.P.Gen.PtrGen.greatest counts c.self.inside.inside c.args.commands.now replies.items c.run_commands.new.self (record { sound = sound_over g.S.NonZeroInxGenericStack.kind c.self.inside.inside sound c.tell_arena.ensures.over; within = c.tell_arena.ensures.within }) run).calls)) c.run_commands.ensures.ran)
+    (run, StrictRunKeepsHistory g.S.NonZeroInxGenericStack.kind g.S.NonZeroInxGenericStack.has_memory g.P.Gen.PtrGen.counting g.P.Gen.PtrGen.greatest counts c.self.inside.inside c.args.commands.now replies.items c.run_commands.new.self c.tell_arena.ensures.over run)) c.run_commands.ensures.ran)
 
 pub returns-clause-unseen : goal.returns-clause-unseen
 returns-clause-unseen g c =

@@ -1,5 +1,5 @@
 use Rattle.triple_arena_session.proofs.Soundness.{sound_over}
-use Rattle.triple_arena_session.proofs.StrictLaws.{StrictStepIsStores, StrictStepIsQuiet, ExhaustedWhere, ExhaustedKeeps}
+use Rattle.triple_arena_session.proofs.StrictLaws.{StrictStepIsStores, StrictStepIsQuiet, StrictStepKeepsHistory, ExhaustedWhere, ExhaustedKeeps}
 use Rattle.triple_arena_session.proofs.strict_session.StrictSession.step.Goals as goal
 
 pub returns-clause-exhausted : goal.returns-clause-exhausted
@@ -22,4 +22,4 @@ returns-clause-sound g c =
 
 pub returns-clause-history : goal.returns-clause-history
 returns-clause-history g c =
-    rw (← c.self.view_is) (λ counts sound. (StrictStepIsStores g.S.NonZeroInxGenericStack.kind g.S.NonZeroInxGenericStack.has_memory g.P.Gen.PtrGen.counting g.P.Gen.PtrGen.greatest counts c.self.inside.inside c.args.command c.answer.result c.answer.new.self (record { sound = sound_over g.S.NonZeroInxGenericStack.kind c.self.inside.inside sound c.tell_arena.ensures.over; within = c.tell_arena.ensures.within }) c.answer.ensures).calls)
+    rw (← c.self.view_is) (λ counts. StrictStepKeepsHistory g.S.NonZeroInxGenericStack.kind g.S.NonZeroInxGenericStack.has_memory g.P.Gen.PtrGen.counting g.P.Gen.PtrGen.greatest counts c.self.inside.inside c.args.command c.answer.result c.answer.new.self c.tell_arena.ensures.over c.answer.ensures)

@@ -1,0 +1,15 @@
+use triple_arena_session::{Command, Reply, Session};
+use triple_arena_session_uses::audit::audited;
+
+#[test]
+fn a_cleared_session_is_audited(rt: HostRuntime) {
+    let mut session = Session::with_new_arena(rt.alloc());
+    assert!(rt; session.step(Command::Insert(7, None)) == Reply::Given(1, false));
+    assert!(rt; session.step(Command::Clear) == Reply::Cleared(false));
+    let told = audited(
+        &mut session,
+        &[Command::Insert(8, None), Command::Invalidate(2)],
+    );
+    let replies = [Reply::Given(2, false), Reply::Given(3, false)];
+    assert!(rt; told.is_ok_and(|told| told.as_slice() == replies.as_slice()));
+}

@@ -11,7 +11,7 @@ fn a_session_begins_under_a_limit(rt: HostRuntime) -> Result<(), Fail> {
     let mut arena: Arena<P0, Node<u64, P0>, LimitedSlots> = Arena::new(rt.alloc());
     arena.set_max_capacity(1)?;
     let Some((mut session, name)) = begin(arena, rt.alloc(), 7) else {
-        return Err(Fail);
+        panic!(rt; "there is memory");
     };
     assert!(rt; name == 1);
     assert!(rt; session.step(Command::Get(1)) == Reply::Found(7, None));

@@ -59,6 +59,7 @@ fn a_session_has_the_free_indexes_of_its_arena(rt: HostRuntime) -> Result<(), Fa
     let second = arena.insert(node(2))?;
     assert!(rt; arena.remove(first).is_success());
     assert!(rt; arena.remove(second).is_success());
+    assert!(rt; arena.is_empty());
     let mut session: Session<P0, u64> = Session::new(arena, rt.alloc());
     assert!(rt;
         replies(
@@ -106,6 +107,7 @@ fn a_strict_session_has_the_counter_of_its_arena(rt: HostRuntime) -> Result<(), 
         let p = arena.insert(node(datum))?;
         arena.remove(p)?;
     }
+    assert!(rt; arena.is_empty());
     let mut session: StrictSession<B, u64> = StrictSession::new(arena, rt.alloc());
     follow(
         &rt,

@@ -112,8 +112,8 @@ impl Compacted for StrictArena<P0, Node> {
 }
 
 // A compaction, and once more where memory is refused, which changes nothing. A dangling link
-// refuses it too, and changes nothing; else the second node has moved from index 3 to 2, with this
-// generation.
+// refuses it too, and changes nothing; else the third node has moved to index 2, with this
+// generation, and where links are renamed its own leads to the first, which has it too.
 fn compacts<A: Compacted>(
     alloc: Global,
     arena: &mut A,
@@ -132,8 +132,13 @@ fn compacts<A: Compacted>(
         end = End::Refused;
     }
     is_told(1, told, expected)?;
+    let first = match call {
+        Compaction::Mapped => LINKED,
+        Compaction::Renamed => (1, generation),
+    };
     let stands = if expected == Told::Done {
-        arena.node(2, generation).is_some() && arena.node(3, 2).is_none()
+        let moved = (3, Some(pointer(first.0, first.1)));
+        arena.node(2, generation) == Some(moved) && arena.node(3, 2).is_none()
     } else {
         arena.seen() == before
     };

@@ -230,9 +230,9 @@ fn direct_clone(alloc: Global) -> Result<End, Wrong> {
 }
 
 // Clones by a closure that asks for memory, and tells how often it was called.
-fn clone_by_closure(
+fn clone_by_closure<A: ArenaCloneFromWith<P0, Costly>>(
     alloc: Global,
-    target: &mut Costlies,
+    target: &mut A,
     source: &Costlies,
 ) -> (Result<(), CloneFromError<AllocError>>, usize) {
     let mut calls = 0usize;
@@ -253,10 +253,13 @@ fn clone_by_closure(
 }
 
 // The same, and once more where it is refused: the closure is called up to its first refusal.
-fn clone_from_with(alloc: Global, source: &Costlies) -> Result<End, Wrong> {
-    let mut target = target(alloc)?;
+fn clones_with<A: ArenaCloneFromWith<P0, Costly> + Goal>(
+    alloc: Global,
+    target: &mut A,
+    source: &Costlies,
+) -> Result<End, Wrong> {
     let before = target.seen();
-    let (mut answer, mut calls) = clone_by_closure(alloc, &mut target, source);
+    let (mut answer, mut calls) = clone_by_closure(alloc, target, source);
     let mut end = End::Ample;
     if let Err(refused) = answer {
         let seen = target.seen();
@@ -269,15 +272,41 @@ fn clone_from_with(alloc: Global, source: &Costlies) -> Result<End, Wrong> {
         if calls != called {
             return Err(Wrong::Answer(1));
         }
-        (answer, calls) = clone_by_closure(alloc, &mut target, source);
+        (answer, calls) = clone_by_closure(alloc, target, source);
         if answer.is_err() {
             return Err(Wrong::Answer(2));
         }
     }
-    if calls == 3 && target.seen() == cloned(before, 3, 5) {
+    let seen = target.seen();
+    if calls == 3 && seen == as_seen(before, cloned(before, 3, 5), seen) {
         Ok(end)
     } else {
         Err(Wrong::State(3))
+    }
+}
+
+fn clone_from_with(alloc: Global, source: &Costlies) -> Result<End, Wrong> {
+    clones_with(alloc, &mut target(alloc)?, source)
+}
+
+fn direct_clone_from_with(alloc: Global, source: &Costlies) -> Result<End, Wrong> {
+    clones_with(alloc, &mut direct_target(alloc)?, source)
+}
+
+// What stands where five entries went over, from index 1 on, under generation 2.
+fn gone_over(before: State) -> State {
+    let mut entries = [None; SLOTS];
+    for at in 0..5 {
+        entries[at] = Some((2, (at as u64).wrapping_add(1)));
+    }
+    State {
+        len: 5,
+        capacity: 5,
+        slots: 5,
+        counter: if before.counter == 0 { 0 } else { 2 },
+        free: [0; SLOTS],
+        entries,
+        ..before
     }
 }
 
@@ -299,10 +328,11 @@ fn goes_over_to<A: Goal>(alloc: Global, target: &mut A) -> Result<End, Wrong> {
         Err(ReallocationError::BeyondMaxCapacity) => return Err(Wrong::Answer(1)),
     };
     let seen = target.seen();
-    if !source.is_empty() || (seen.len, seen.capacity, seen.slots) != (5, 5, 5) {
-        return Err(Wrong::State(3));
+    if source.is_empty() && seen == as_seen(before, gone_over(before), seen) {
+        Ok(end)
+    } else {
+        Err(Wrong::State(3))
     }
-    Ok(end)
 }
 
 fn transfer(alloc: Global) -> Result<End, Wrong> {
@@ -326,6 +356,11 @@ fn each_clone(alloc: Global, source: &Costlies, report: &mut Report) {
         "clone_from_with",
         "an arena",
         clone_from_with(alloc, source),
+    );
+    report.note(
+        "clone_from_with",
+        "a direct arena",
+        direct_clone_from_with(alloc, source),
     );
 }
 

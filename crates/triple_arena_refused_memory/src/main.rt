@@ -77,7 +77,7 @@ fn main(rt: HostRuntime) -> anyhow::Result<()> {
     for word in WORDS {
         if is_asked(asked, word) {
             try_calls(rt.alloc(), word, &mut report);
-            if report.has_unmade() {
+            if report.had_unmade() {
                 try_calls(rt.alloc(), word, &mut report);
             }
         }

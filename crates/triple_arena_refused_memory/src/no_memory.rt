@@ -17,7 +17,7 @@ use triple_arena_stack::{
 };
 use triple_arena_strict::StrictArena;
 use triple_arena_test_kit::{Fixed, Heap, Limited, Places, WithLimit, with_room};
-use triple_arena_trait_kit::{Call, TestedArena, Token, Told, Wrong, follow, inx};
+use triple_arena_trait_kit::{Call, NOT_DRAINED, TestedArena, Token, Told, Wrong, follow, inx};
 
 // That this holds, at the row of a table.
 fn holds(row: usize, holds: bool) -> Result<(), Wrong> {
@@ -39,11 +39,15 @@ fn stack<K: NonZeroInxGenericStack<u64>>(
     holds(4, stack.entry_push_reallocating().is_ok())?;
     holds(5, stack.entry_push_within_capacity().is_ok())?;
     holds(6, stack.reallocate_min_capacity(8).is_ok())?;
-    holds(7, stack.get(inx(3)).is_some())?;
-    holds(8, stack.get_mut(inx(2)).is_some())?;
-    holds(9, stack.pop() == Some(3))?;
+    if stack.len() < stack.capacity() {
+        let _pushed = stack.push_reserved(4);
+    }
+    holds(7, stack.pop() == Some(4))?;
+    holds(8, stack.get(inx(3)).is_some())?;
+    holds(9, stack.get_mut(inx(2)).is_some())?;
+    holds(10, stack.pop() == Some(3))?;
     stack.clear();
-    holds(10, stack.is_empty() && stack.capacity() == 8)?;
+    holds(11, stack.is_empty() && stack.capacity() == 8)?;
     Ok(End::Ample)
 }
 
@@ -67,6 +71,14 @@ const OF_ARENAS: &[(Call, Told)] = &[
     (Call::Remove(3, 2), Told::Holds(3)),
     (Call::RemoveInx(5), Told::Held(2, 5)),
     (Call::NextPtr, Told::At(5, 5)),
+    (Call::Get(2, 2), Told::Holds(2)),
+    (Call::GetMut(2, 2), Told::Holds(2)),
+    (Call::GetInx(1), Told::Held(3, 1)),
+    (Call::Contains(3, 2), Told::Is(false)),
+    (Call::First, Told::At(1, 3)),
+    (Call::Last, Told::At(7, 2)),
+    (Call::Values, Told::MetValues(1, 2, 4)),
+    (Call::Entries, Told::Met((1, 3, 1), (2, 2, 2), (4, 2, 4))),
     (Call::Canonicalize, Told::Done),
     (Call::RemoveFreeEnd, Told::Done),
     (Call::SetGeneration(2), Told::Done),
@@ -83,9 +95,10 @@ const OF_ARENAS: &[(Call, Told)] = &[
     (Call::CompressTelling(true), Told::Done),
     (Call::Clear, Told::Done),
     (Call::Insert(1), Told::At(1, 3)),
+    (Call::Insert(2), Told::At(2, 3)),
     (
-        Call::Drain(0),
-        Told::Drained((0, 0, 0, false), (0, 0, 0, false), (0, 0, 0, false)),
+        Call::Drain(1),
+        Told::Drained((1, 3, 1, false), NOT_DRAINED, NOT_DRAINED),
     ),
     (Call::IsEmpty, Told::Is(true)),
 ];
@@ -124,6 +137,10 @@ const OF_DIRECT_ARENAS: &[(Call, Told)] = &[
     (Call::DirectInsertReserved(3, 2, 3), Told::Done),
     (Call::DirectInsertAndWrite(5, 9, 1, 5), Told::Done),
     (Call::Reallocate(8), Told::Done),
+    (Call::Get(3, 2), Told::Holds(3)),
+    (Call::GetMut(3, 2), Told::Holds(3)),
+    (Call::Contains(3, 1), Told::Is(false)),
+    (Call::Values, Told::MetValues(3, 5, 8)),
     (Call::Remove(8, 1), Told::Holds(8)),
     (Call::PopFreeEnd(1), Told::Size(1)),
     (Call::Invalidate(3, 2), Told::At(3, 2)),
@@ -145,15 +162,25 @@ fn numbers(alloc: Global) -> Result<Arena<P0, u64>, Wrong> {
     Ok(arena)
 }
 
-// Copies into an arena that has the room.
+// Clones into an arena that has the room.
+fn clones_into<A: ArenaCloneFromWith<P0, u64>>(
+    target: &mut A,
+    source: &Arena<P0, u64>,
+) -> Result<(), Wrong> {
+    holds(1, target.clone_from(source).is_ok())?;
+    let mapped = target.clone_from_with(source, |_p, number: &u64| -> Result<u64, u64> {
+        Ok(*number)
+    });
+    holds(2, mapped.is_ok())
+}
+
+// Copies into arenas that have the room.
 fn copies(alloc: Global) -> Result<End, Wrong> {
     let mut source = numbers(alloc)?;
     let mut target = numbers(alloc)?;
-    holds(1, target.clone_from(&source).is_ok())?;
-    let mapped = target.clone_from_with(&source, |_p, number: &u64| -> Result<u64, u64> {
-        Ok(*number)
-    });
-    holds(2, mapped.is_ok())?;
+    let mut direct: DirectArena<P0, u64> = DirectArena::with_min_capacity(alloc, 8)?;
+    clones_into(&mut target, &source)?;
+    clones_into(&mut direct, &source)?;
     let generation = <P0 as Ptr>::Gen::two();
     let moved = target.transfer_reallocating(
         generation,
@@ -161,6 +188,12 @@ fn copies(alloc: Global) -> Result<End, Wrong> {
         |_old, taken, _new| taken.allow(),
     );
     holds(3, moved.is_ok() && source.is_empty() && target.len() == 3)?;
+    let moved = direct.transfer_reallocating(
+        generation,
+        &mut target,
+        |_old, taken, _new| taken.allow(),
+    );
+    holds(4, moved.is_ok() && target.is_empty() && direct.len() == 3)?;
     Ok(End::Ample)
 }
 

@@ -57,9 +57,11 @@ impl Report {
         }
     }
 
-    /// Whether there was no memory to make something.
-    pub fn has_unmade(&self) -> bool {
-        self.has_unmade
+    /// Whether there was no memory to make something since this was last asked.
+    pub fn had_unmade(&mut self) -> bool {
+        let had_unmade = self.has_unmade;
+        self.has_unmade = false;
+        had_unmade
     }
 }
 

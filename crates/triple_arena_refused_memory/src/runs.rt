@@ -9,6 +9,9 @@ use triple_arena_ptr::P0;
 use triple_arena_session::{Command, Reply, Session, StrictSession, TextError};
 use triple_arena_trait_kit::{SLOTS, Wrong};
 
+// What was refused where nothing has run.
+const WHOLE: &str = "all";
+
 // Three names, of which the second has ended, in a new session.
 fn three_names<T: Asked>(session: &mut T) -> Result<(), Wrong> {
     for command in [
@@ -75,7 +78,7 @@ fn runs_commands<T: Asked>(session: &mut T) -> Result<End, Wrong> {
     }
     match session.answers(&COMMANDS) {
         Some(replies) if has_run(session, &before, replies.as_slice())? == End::Ample => {
-            Ok(End::Refused)
+            Ok(End::PartRefused(WHOLE))
         }
         _ => Err(Wrong::Answer(0)),
     }
@@ -85,6 +88,8 @@ fn runs_commands<T: Asked>(session: &mut T) -> Result<End, Wrong> {
 #[derive(Drop)]
 struct Text {
     name: &'static str,
+    // Whether a command of it asks for memory.
+    takes_memory: bool,
     text: &'static [u8],
     lines: &'static [u8],
 }
@@ -93,6 +98,7 @@ struct Text {
 // made in its step, so that its line alone tells that memory was refused, and those after it stand.
 const TAKES_NONE: Text = Text {
     name: "a text whose commands take none",
+    takes_memory: false,
     text: b"get 1\nlen\ncapacity\ninsert 4 1\nset 1 5 4\nget 4\nget 9\nremove 3\n\
         clear\ncompact\nset 1 1 77\nreserve 4\n",
     lines: b"found 1 -\ncount 2\ncount 4\ngiven 4\ndone\nfound 4 1\nnothing\nremoved 3 -\n\
@@ -101,6 +107,7 @@ const TAKES_NONE: Text = Text {
 
 const TAKES_MEMORY: Text = Text {
     name: "a text whose commands take memory",
+    takes_memory: true,
     text: b"len\nshow\nreserve 9\ncompact\nget 3\n",
     lines: b"count 2\n{P0[1](2): (1, None), P0[3](2): (3, None)}\ndone\ncompacted\nfound 3 -\n",
 };
@@ -157,12 +164,12 @@ impl Text {
         let before = seen(session);
         match self.ends_in(alloc, session) {
             Ended::Whole(0) => return Ok(End::Ample),
-            Ended::Whole(1) => return Ok(End::Refused),
+            Ended::Whole(1) if self.takes_memory => return Ok(End::Refused),
             Ended::Unwritten if seen(session) == before => {}
             _ => return Err(Wrong::Text(self.name)),
         }
         match self.ends_in(alloc, session) {
-            Ended::Whole(0) => Ok(End::Refused),
+            Ended::Whole(0) => Ok(End::PartRefused(WHOLE)),
             _ => Err(Wrong::Text(self.name)),
         }
     }

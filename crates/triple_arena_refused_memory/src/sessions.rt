@@ -240,8 +240,8 @@ const ROWS: &[(&str, &str)] = &[
     ("show", "{}"),
 ];
 
-// Each row, in a session of this kind. A text that it shows is on the heap, whatever its stack is,
-// so that one session of all shows it.
+// Each row, in a session of this kind. A text that is shown is on the heap, whatever the session's
+// stack is, so that a session in an array need not show it.
 fn each_row<T: Asked>(session: &mut T, kind: &'static str, shows: bool, report: &mut Report) {
     for (line, text) in ROWS {
         let word = word_of(*line);

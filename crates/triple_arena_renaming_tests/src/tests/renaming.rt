@@ -5,9 +5,11 @@ use super::trials::{Nodes, Part, Texts, on};
 use std::alloc::Global;
 use std::error::Error;
 use std::process::Abort;
+use triple_arena::{Arena, ArenaInsertTrait, ArenaTrait};
 use triple_arena_base::{CompactError, ReallocationError};
 use triple_arena_ptr::{P0, Ptr};
-use triple_arena_trait_kit::{NO_POINTER, Told, Wrong};
+use triple_arena_renaming::compress_recaster;
+use triple_arena_trait_kit::{NO_POINTER, Told, Wrong, pointer};
 
 // The last of three nodes has a link that never was a node's pointer.
 const DANGLING: [Named; 3] = [(1, NO_POINTER), (2, (1, 2)), (3, (usize::MAX, 1))];
@@ -138,6 +140,25 @@ fn without_entries_the_map_is_empty(rt: HostRuntime) -> Result<(), Wrong> {
     let both = [Part::Texts(first), Part::Texts(second)];
     on(rt.alloc(), Nodes::Heap(&[], &[]), &both)?;
     on(rt.alloc(), Nodes::Direct(&[]), &both)
+}
+
+// The new pointers of the first and the last of five thousand entries, behind one that was removed,
+// and how many the map has.
+fn maps_thousands(alloc: Global) -> Result<(Option<P0>, Option<P0>, usize), ReallocationError> {
+    let mut arena: Arena<P0, u64> = Arena::new(alloc);
+    for number in 1..=5001 {
+        arena.insert(number)?;
+    }
+    drop(arena.remove(pointer(1, 2)));
+    let all = compress_recaster(&mut arena, alloc, false)?.allow();
+    let (first, last) = (all.get(pointer(2, 2)), all.get(pointer(5001, 2)));
+    Ok((first.copied(), last.copied(), all.len()))
+}
+
+#[test]
+fn a_map_has_thousands_of_pointers(rt: HostRuntime) {
+    let told = (Some(pointer(1, 4)), Some(pointer(5000, 4)), 5000);
+    assert!(rt; maps_thousands(rt.alloc()) == Ok(told));
 }
 
 // Whether an error equals its copy.

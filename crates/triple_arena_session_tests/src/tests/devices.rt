@@ -40,6 +40,8 @@ impl<'a> Read for ByteReader<'a> {
 pub enum WriteFailure {
     /// By an error.
     Error(ErrorKind),
+    /// By an error once; the writes after it are taken.
+    Once(ErrorKind),
     /// It takes no byte, and says so.
     TakesNone,
     /// It is interrupted so many times, at least once, and then taken, as the writes after it are.
@@ -47,7 +49,7 @@ pub enum WriteFailure {
 }
 
 /// Holds up to 256 bytes, takes at most so many at a write, and fails at the write of a given
-/// number and after it. It counts its flushes.
+/// number and, where its failure says no other, after it. It counts its flushes.
 #[derive(Drop)]
 pub struct ShortWriter {
     pub bytes: [u8; 256],
@@ -81,6 +83,10 @@ impl ShortWriter {
     {
         match self.failure {
             WriteFailure::Error(kind) => Err(io::Error::from(kind)),
+            WriteFailure::Once(kind) => {
+                self.writes_before = usize::MAX;
+                Err(io::Error::from(kind))
+            }
             WriteFailure::TakesNone => Ok(0),
             WriteFailure::Interrupted(times) => {
                 if times > 1 {

@@ -211,9 +211,10 @@ const INSERTIONS: &[u8] = b"insert 1 -\ninsert 1 -\ninsert 1 -\n";
 const GIVEN: &[u8] = b"given 1\ngiven 2\ngiven 3\n";
 
 // How a write fails.
-const FAILURES: [WriteFailure; 3] = [
+const FAILURES: [WriteFailure; 4] = [
     WriteFailure::Error(ErrorKind::Other),
     WriteFailure::Error(ErrorKind::BrokenPipe),
+    WriteFailure::Once(ErrorKind::Other),
     WriteFailure::TakesNone,
 ];
 

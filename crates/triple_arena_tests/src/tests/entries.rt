@@ -5,13 +5,22 @@ use super::parts::{BEYOND, NO_MEMORY, Part};
 use triple_arena_test_kit::{Call, Told, Wrong};
 
 #[test]
-fn an_insertion_after_a_dropped_entry_has_its_pointer(rt: HostRuntime) -> Result<(), Wrong> {
+fn an_insertion_after_dropped_entries_has_their_pointer(rt: HostRuntime) -> Result<(), Wrong> {
     from_empty(
         rt.alloc(),
         &[
             (Call::EntryPtr, Told::At(1, 2)),
+            (Call::EntryPtr, Told::At(1, 2)),
             (Call::Insert(1), Told::At(1, 2)),
             (Call::Bounds, Told::Bounds(1, 4, None)),
+            (Call::Insert(2), Told::At(2, 2)),
+            (Call::Insert(3), Told::At(3, 2)),
+            (Call::Remove(1, 2), Told::Holds(1)),
+            (Call::Remove(2, 2), Told::Holds(2)),
+            // on a free index
+            (Call::EntryPtr, Told::At(2, 4)),
+            (Call::EntryPtr, Told::At(2, 4)),
+            (Call::Insert(4), Told::At(2, 4)),
         ],
     )
 }

@@ -1,11 +1,15 @@
-//! Values that count their drops: each is dropped once, whatever the call, over each stack.
+//! Values that count their drops: each is dropped once. Insertions, writes, endings and the drop of an
+//! arena are tried over each stack, and entries, drains and copies on the heap.
 
 use super::asking::{AskedToInsert, ask_to_insert};
 use std::alloc::Global;
 use std::cell::Cell;
-use triple_arena::{Arena, ArenaInsertEntryTrait, ArenaInsertTrait, ArenaSlot, ArenaTrait};
+use triple_arena::{
+    Arena, ArenaCloneFromWith, ArenaInsertEntryTrait, ArenaInsertTrait, ArenaSlot, ArenaTrait,
+    CompactArenaTrait,
+};
 use triple_arena_base::InvalidationResult;
-use triple_arena_ptr::{P0, Ptr};
+use triple_arena_ptr::{P0, Ptr, PtrGen};
 use triple_arena_stack::{
     NonZeroInxArray, NonZeroInxBoxedSlice, NonZeroInxGenericStack, NonZeroInxLimitedVec,
     NonZeroInxVec, SetMaxCapacity,
@@ -346,4 +350,156 @@ fn by_entries<T: Drop, C: Count<T>, S: NonZeroInxGenericStack<ArenaSlot<P0, T>> 
 fn a_value_of_an_entry_is_dropped_once(rt: HostRuntime) -> Result<(), Wrong> {
     let drops = Cell::new(0);
     by_entries::<_, _, NonZeroInxVec<Slot<'_>>>(rt.alloc(), &&drops)
+}
+
+// Takes so many values out by a drain, each dropped when it is let go, and lets the drain go: whether
+// there were so many.
+fn drains<T: Drop, C: Count<T>, S: NonZeroInxGenericStack<ArenaSlot<P0, T>>>(
+    arena: &mut Arena<P0, T, S>,
+    count: &C,
+    steps: u64,
+) -> bool {
+    let before = count.drops();
+    let mut drain = arena.drain();
+    let mut all_held = true;
+    for step in 0..steps {
+        let taken = drain.next();
+        let is_held = taken.is_some() && count.drops() == before.wrapping_add(step);
+        drop(taken);
+        all_held = all_held && is_held;
+    }
+    all_held
+}
+
+// Inserts so many values: whether all have come.
+fn come<T: Drop, C: Count<T>, S: NonZeroInxGenericStack<ArenaSlot<P0, T>>>(
+    arena: &mut Arena<P0, T, S>,
+    count: &C,
+    values: u64,
+) -> bool {
+    for _ in 0..values {
+        if arena.insert(count.new_value()).is_err() {
+            return false;
+        }
+    }
+    true
+}
+
+// A drain that takes out one value of two, one that finds none, and one that takes out none of two.
+fn each_drain<T: Drop, C: Count<T>, S: NonZeroInxGenericStack<ArenaSlot<P0, T>>>(
+    arena: &mut Arena<P0, T, S>,
+    count: &C,
+) -> Result<(), Wrong> {
+    let is_drained = come(arena, count, 2) && drains(arena, count, 1);
+    is_told(0, (is_drained, count.drops()), (true, 2))?;
+    let is_drained = drains(arena, count, 1);
+    is_told(1, (is_drained, count.drops()), (false, 2))?;
+    let is_drained = come(arena, count, 2) && drains(arena, count, 0);
+    is_told(2, (is_drained, count.drops()), (true, 4))
+}
+
+fn by_drains<T: Drop, C: Count<T>, S: NonZeroInxGenericStack<ArenaSlot<P0, T>> + Drop>(
+    alloc: Global,
+    count: &C,
+) -> Result<(), Wrong> {
+    let mut arena: Arena<P0, T, S> = with_three_places(alloc)?;
+    each_drain(&mut arena, count)?;
+    drop(arena);
+    at_end(count.drops(), 4)
+}
+
+#[test]
+fn a_value_of_a_drain_is_dropped_once(rt: HostRuntime) -> Result<(), Wrong> {
+    let drops = Cell::new(0);
+    by_drains::<_, _, NonZeroInxVec<Slot<'_>>>(rt.alloc(), &&drops)
+}
+
+// Clones by a closure that refuses the value of this number: whether none was refused.
+fn clones_but<
+    T: Drop,
+    C: Count<T>,
+    S: NonZeroInxGenericStack<ArenaSlot<P0, T>>,
+    R: NonZeroInxGenericStack<ArenaSlot<P0, T>>,
+>(target: &mut Arena<P0, T, S>, source: &Arena<P0, T, R>, count: &C, refused: u64) -> bool {
+    let mut calls = 0u64;
+    let answer = target.clone_from_with(source, |_p, _value: &T| -> Result<T, ()> {
+        calls = calls.wrapping_add(1);
+        if calls == refused {
+            Err(())
+        } else {
+            Ok(count.new_value())
+        }
+    });
+    answer.is_ok()
+}
+
+// Whether the values of an arena go over to another.
+fn go_over<
+    T: Drop,
+    S: NonZeroInxGenericStack<ArenaSlot<P0, T>>,
+    R: NonZeroInxGenericStack<ArenaSlot<P0, T>>,
+>(target: &mut Arena<P0, T, S>, source: &mut Arena<P0, T, R>) -> bool {
+    let generation = <P0 as Ptr>::Gen::two();
+    let answer = target.transfer_reallocating(
+        generation,
+        source,
+        |_old, taken, _new| taken.allow(),
+    );
+    answer.is_ok()
+}
+
+// Copies of two values to an arena of one: where the second clone is refused, where none is, and a
+// transfer.
+fn each_copy<T: Drop, C: Count<T>, S: NonZeroInxGenericStack<ArenaSlot<P0, T>> + Drop>(
+    alloc: Global,
+    count: &C,
+) -> Result<(), Wrong> {
+    let mut source: Arena<P0, T, S> = with_three_places(alloc)?;
+    let mut target: Arena<P0, T, S> = with_three_places(alloc)?;
+    let have_come = come(&mut source, count, 2) && come(&mut target, count, 1);
+    is_told(0, (have_come, count.drops()), (true, 0))?;
+    // the value of the target
+    let is_cloned = clones_but(&mut target, &source, count, 2);
+    is_told(1, (is_cloned, count.drops()), (false, 1))?;
+    // the clone before the one that was refused
+    let is_cloned = clones_but(&mut target, &source, count, 0);
+    is_told(2, (is_cloned, count.drops()), (true, 2))?;
+    // both clones
+    let is_over = go_over(&mut target, &mut source);
+    is_told(3, (is_over, count.drops()), (true, 4))?;
+    drop(source);
+    is_told(4, (true, count.drops()), (true, 4))?;
+    drop(target);
+    at_end(count.drops(), 6)
+}
+
+// Copies of four values to an arena of one value and three places, which its limit refuses: nothing is
+// dropped.
+fn each_refused_copy<
+    T: Drop,
+    C: Count<T>,
+    S: NonZeroInxGenericStack<ArenaSlot<P0, T>> + Drop,
+    R: NonZeroInxGenericStack<ArenaSlot<P0, T>> + Drop,
+>(alloc: Global, count: &C) -> Result<(), Wrong> {
+    count.restart();
+    let mut source: Arena<P0, T, S> = with_three_places(alloc)?;
+    let mut target: Arena<P0, T, R> = with_three_places(alloc)?;
+    let have_come = come(&mut source, count, 4) && come(&mut target, count, 1);
+    is_told(0, (have_come, count.drops()), (true, 0))?;
+    let is_cloned = clones_but(&mut target, &source, count, 0);
+    is_told(1, (is_cloned, count.drops()), (false, 0))?;
+    let is_over = go_over(&mut target, &mut source);
+    is_told(2, (is_over, count.drops()), (false, 0))?;
+    drop(source);
+    drop(target);
+    at_end(count.drops(), 5)
+}
+
+#[test]
+fn a_value_of_a_copy_is_dropped_once(rt: HostRuntime) -> Result<(), Wrong> {
+    let (alloc, drops) = (rt.alloc(), Cell::new(0));
+    each_copy::<_, _, NonZeroInxVec<Slot<'_>>>(alloc, &&drops)?;
+    each_refused_copy::<_, _, NonZeroInxVec<Slot<'_>>, NonZeroInxLimitedVec<Slot<'_>>>(
+        alloc, &&drops,
+    )
 }

@@ -319,6 +319,18 @@ const GROWS_TO_ITS_LIMIT: &[(Call, Told)] = &[
     (Call::Push(5001), Told::BeyondMaxCapacity),
 ];
 
+// Room for more than a hundred thousand, which a stack is not made with.
+const MAKES_ROOM: &[(Call, Told)] = &[
+    (Call::SetMaxCapacity(200_000), Told::Nothing),
+    (Call::Reallocate(150_000), Told::Nothing),
+    (Call::Bounds, Told::Bounds(0, 150_000, Some(200_000))),
+];
+
+#[test]
+fn a_limited_stack_makes_room_for_many_items(rt: HostRuntime) -> Result<(), Wrong> {
+    on_limited(rt.alloc(), None, MAKES_ROOM)
+}
+
 #[test]
 fn stacks_grow_to_thousands_of_items(rt: HostRuntime) -> Result<(), Wrong> {
     both(

@@ -8,6 +8,7 @@ use triple_arena_ptr::P0;
 use triple_arena_stack::NonZeroInxGenericStack;
 use triple_arena_trait_kit::{Call, Token, Told, Wrong, follow, is_told};
 use triple_arena_traits::CompactArenaTrait;
+use triple_arena_traits::arena_iterators::CapacityDrain;
 
 // The sum of the numbers that a loop over a direct arena meets.
 fn sum_of<S: NonZeroInxGenericStack<DirectSlot<P0, Token>>>(
@@ -20,10 +21,10 @@ fn sum_of<S: NonZeroInxGenericStack<DirectSlot<P0, Token>>>(
     sum
 }
 
-// The same of a loop that takes the arena.
-fn sum_taken<A: IntoIterator<Item = (P0, Token)>>(arena: A) -> u64 {
+// The same of what a loop over an arena by value takes.
+fn sum_taken<A: CompactArenaTrait<P0, Token> + Drop>(entries: CapacityDrain<P0, Token, A>) -> u64 {
     let mut sum = 0u64;
-    for (_p, token) in arena {
+    for (_p, token) in entries {
         sum = sum.wrapping_add(token.number);
     }
     sum
@@ -80,8 +81,8 @@ fn is_sum_of_three(sum: u64) -> Result<(), Wrong> {
 #[test]
 fn a_loop_by_value_meets_each_entry_over_each_stack(rt: HostRuntime) -> Result<(), Wrong> {
     let alloc = rt.alloc();
-    is_sum_of_three(sum_taken(three_over::<Heap<P0>>(alloc)?.arena))?;
-    is_sum_of_three(sum_taken(three_over::<Limited<P0>>(alloc)?.arena))?;
-    is_sum_of_three(sum_taken(three_over::<Fixed<P0>>(alloc)?.arena))?;
-    is_sum_of_three(sum_taken(three_over::<InArray<P0, 4>>(alloc)?.arena))
+    is_sum_of_three(sum_taken(three_over::<Heap<P0>>(alloc)?.arena.into_iter()))?;
+    is_sum_of_three(sum_taken(three_over::<Limited<P0>>(alloc)?.arena.into_iter()))?;
+    is_sum_of_three(sum_taken(three_over::<Fixed<P0>>(alloc)?.arena.into_iter()))?;
+    is_sum_of_three(sum_taken(three_over::<InArray<P0, 4>>(alloc)?.arena.into_iter()))
 }

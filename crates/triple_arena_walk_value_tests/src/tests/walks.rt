@@ -3,6 +3,7 @@
 use super::removals::after_removals;
 use std::alloc::Global;
 use std::num::NonZeroU128;
+use triple_arena::arena_iterators::CapacityDrain;
 use triple_arena::{Arena, ArenaInsertTrait, ArenaSlot, CompactArenaTrait, DisjointableArenaTrait};
 use triple_arena_ptr::{P0, Ptr, Q2};
 use triple_arena_stack::NonZeroInxGenericStack;
@@ -251,11 +252,13 @@ fn a_loop_over_an_arena_meets_each_entry(rt: HostRuntime) -> Result<(), Wrong> {
     are_sums_of_three(sums(&three::<Heap<P0>>(rt.alloc())?.arena))
 }
 
-// The same of a loop that takes the arena.
-fn sums_taken<A: IntoIterator<Item = (P0, Token)>>(arena: A) -> (usize, u64) {
+// The same of what a loop over an arena by value takes.
+fn sums_taken<A: CompactArenaTrait<P0, Token> + Drop>(
+    entries: CapacityDrain<P0, Token, A>,
+) -> (usize, u64) {
     let mut indexes = 0usize;
     let mut numbers = 0u64;
-    for (p, token) in arena {
+    for (p, token) in entries {
         indexes = indexes.wrapping_add(p.inx().get());
         numbers = numbers.wrapping_add(token.number);
     }
@@ -265,10 +268,10 @@ fn sums_taken<A: IntoIterator<Item = (P0, Token)>>(arena: A) -> (usize, u64) {
 #[test]
 fn a_loop_by_value_meets_each_entry_over_each_stack(rt: HostRuntime) -> Result<(), Wrong> {
     let alloc = rt.alloc();
-    are_sums_of_three(sums_taken(three::<Heap<P0>>(alloc)?.arena))?;
-    are_sums_of_three(sums_taken(three::<Limited<P0>>(alloc)?.arena))?;
-    are_sums_of_three(sums_taken(three::<Fixed<P0>>(alloc)?.arena))?;
-    are_sums_of_three(sums_taken(three::<Places<P0, 6>>(alloc)?.arena))
+    are_sums_of_three(sums_taken(three::<Heap<P0>>(alloc)?.arena.into_iter()))?;
+    are_sums_of_three(sums_taken(three::<Limited<P0>>(alloc)?.arena.into_iter()))?;
+    are_sums_of_three(sums_taken(three::<Fixed<P0>>(alloc)?.arena.into_iter()))?;
+    are_sums_of_three(sums_taken(three::<Places<P0, 6>>(alloc)?.arena.into_iter()))
 }
 
 #[test]

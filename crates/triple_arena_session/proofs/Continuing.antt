@@ -32,7 +32,7 @@ use Rattle.triple_arena_commands.specs.declared.reply.Reply.{Reply}
 use Rattle.triple_arena_commands.specs.declared.reply.Reply.TheVariants.{Full, BeyondMaxCapacity, NoMemory, Nothing, Done, Invalid, Compacted, Unresolved, BadName, Count}
 use Rattle.triple_arena_commands.specs.Limits.{is_at_limit, is_within}
 use Rattle.triple_arena_commands.specs.ReplyText.{tells_of_wrap}
-use Rattle.triple_arena_commands.specs.Runs.{IsRun, TellsOfNoWrap}
+use Rattle.triple_arena_commands.specs.Runs.{IsRun}
 use Rattle.triple_arena_session.specs.SessionState.{SessionState, named, link_pointer}
 use Rattle.triple_arena_session.specs.Compaction.{relinked, any_dangles, compacted}
 use Rattle.triple_arena_session.specs.SessionRun.{refusal, get_reply, show_reply, shown_text, act_under, act_on, set_answer, insert_within_answer, insert_unless, insert_answer, remove_under, invalidate_under, wraps_if_any, give, in_order, with_room_for_name, answer, WantsMemory, IsStep}

@@ -1,15 +1,13 @@
 -- A session answers as the store that it shows.
-use Rattle.std.proofs.Common.{◌≡◌, ◌⊎◌, ℕ, zero, suc, ◌+◌, ◌<◌, ◌≤◌, ◌==◌, Bool, true, false, [], ◌∷◌, map, Option, Some, None, is_some, if◌then◌else◌, cond, refl, sym, ap, subst, ◌∙◌, inl, inr, arith, true≢false, String}
+use Rattle.std.proofs.Common.{◌≡◌, ◌⊎◌, ℕ, ◌+◌, ◌<◌, ◌≤◌, ◌==◌, Bool, true, false, Option, Some, None, is_some, if◌then◌else◌, cond, refl, sym, ap, subst, ◌∙◌, inl, inr, arith, true≢false, String}
 use Rattle.std.specs.declared.alloc.Global.{Global}
 use Rattle.std.specs.List.{list_any}
 use Rattle.std.specs.Option.{option_map}
-use Rattle.std.proofs.lemmas.List.{length-map}
-use Rattle.triple_arena_ptr.specs.Numbers.{raise, wraps, first_generation}
+use Rattle.triple_arena_ptr.specs.Numbers.{raise, wraps}
 use Rattle.triple_arena_ptr.specs.Pointers.{Pointer}
 use Rattle.triple_arena_stack.specs.StackKind.{StackKind, IsOfKind}
 use Rattle.triple_arena_traits.specs.ArenaState.{arena_len, capacity, new_arena}
 use Rattle.triple_arena_traits.specs.Compression.{raised_if_any}
-use Rattle.triple_arena_traits.specs.Histories.{is_live}
 use Rattle.triple_arena_traits.specs.WellFormedLaws.{IsWellFormed-empty}
 use Rattle.triple_arena_commands.specs.declared.command.Command.{Command}
 use Rattle.triple_arena_commands.specs.declared.command.Command.TheVariants.{Insert, InsertWithin, Get, Set, Remove, Invalidate, Clear, Compact, Len, Capacity, Reserve, Show}
@@ -20,7 +18,7 @@ use Rattle.triple_arena_commands.specs.NameStore.{Store, row_dangles, store_answ
 use Rattle.triple_arena_commands.specs.StoreRuns.{without_wrap}
 use Rattle.triple_arena_commands.specs.UnseenLaws.{without_wrap-quiet}
 use Rattle.triple_arena_session.specs.SessionState.{SessionState, new_session, named}
-use Rattle.triple_arena_session.specs.Compaction.{relinked, any_dangles, compacted}
+use Rattle.triple_arena_session.specs.Compaction.{any_dangles, compacted}
 use Rattle.triple_arena_session.specs.SessionRun.{refused_reply, show_reply, shown_text, wraps_if_any, with_room_for_name, reserve_answer, answer, WantsMemory, IsStep}
 use Rattle.triple_arena_session.specs.Shown.{as_row, shown}
 use Rattle.triple_arena_session.proofs.Rows.{row_count-shown}

@@ -1,5 +1,5 @@
 -- Commands to a sound session that insert nothing are answered as by the store that it shows.
-use Rattle.std.proofs.Common.{◌≡◌, ℕ, ◌+◌, ◌==◌, Bool, true, false, List, [], ◌∷◌, ◌++◌, length, map, Option, Some, None, is_some, if◌then◌else◌, cond, refl, sym, ap, subst, ◌∙◌, inl, inr, arith, true≢false, String, ◌||◌}
+use Rattle.std.proofs.Common.{◌≡◌, ℕ, ◌+◌, ◌==◌, Bool, true, false, List, [], ◌∷◌, ◌++◌, length, map, Option, Some, None, is_some, if◌then◌else◌, cond, refl, sym, ap, subst, ◌∙◌, inl, inr, arith, String, ◌||◌}
 use Rattle.std.specs.declared.alloc.Global.{Global}
 use Rattle.std.specs.Option.{option_map, option_and_then}
 use Rattle.std.proofs.lemmas.Option.{same_Some}
@@ -8,17 +8,16 @@ use Rattle.triple_arena_ptr.specs.Numbers.{raise, wraps}
 use Rattle.triple_arena_ptr.specs.Pointers.{Pointer}
 use Rattle.triple_arena_stack.specs.StackKind.{StackKind}
 use Rattle.triple_arena_traits.specs.Items.{item, with_item}
-use Rattle.triple_arena_traits.specs.Entries.{value_under, ChangesAt, with_generation_in}
-use Rattle.triple_arena_traits.specs.ArenaState.{ArenaState, entry, look_up, arena_len, capacity, with_value, IsWellFormed}
+use Rattle.triple_arena_traits.specs.Entries.{value_under, ChangesAt}
+use Rattle.triple_arena_traits.specs.ArenaState.{ArenaState, entry, look_up, arena_len, capacity, with_value}
 use Rattle.triple_arena_traits.specs.Ending.{removed, invalidated, cleared}
 use Rattle.triple_arena_traits.specs.EntryLaws.{slots-removed, slots-invalidated, slots-cleared, changes_at, fitting-removed}
 use Rattle.triple_arena_traits.specs.Walks.{keys}
-use Rattle.triple_arena_traits.specs.Histories.{has, removal, invalidation, clearing, Continues, Fits}
+use Rattle.triple_arena_traits.specs.Histories.{has, removal, invalidation, clearing}
 use Rattle.triple_arena_traits.specs.ItemLaws.{length-with_item, item-map}
-use Rattle.triple_arena_traits.specs.StepLaws.{cleared_stays}
-use Rattle.triple_arena_traits.specs.WellFormedLaws.{live_item, IsWellFormed-removed, IsWellFormed-with_entry, IsWellFormed-counter, room-removed, limit-removed, greatest-removed, with_value_is, with_generation_is}
+use Rattle.triple_arena_traits.specs.WellFormedLaws.{limit-removed, greatest-removed, with_value_is}
 use Rattle.triple_arena_traits.specs.PointerListLaws.{has-append}
-use Rattle.triple_arena_traits.specs.HistoryLaws.{Continues-written, Continues-none, Continues-removed, Continues-invalidated, Continues-cleared}
+use Rattle.triple_arena_traits.specs.HistoryLaws.{Continues-written, Continues-removed, Continues-invalidated, Continues-cleared}
 use Rattle.triple_arena_commands.specs.declared.command.Command.{Command}
 use Rattle.triple_arena_commands.specs.declared.command.Command.TheVariants.{Get, Set, Remove, Invalidate, Clear, Len, Capacity}
 use Rattle.triple_arena_commands.specs.declared.reply.Reply.{Reply}
@@ -28,7 +27,6 @@ use Rattle.triple_arena_commands.specs.NameStore.{NameRow, Store, row, is_good_l
 use Rattle.triple_arena_commands.specs.StoreRuns.{without_wrap}
 use Rattle.triple_arena_session.specs.SessionState.{SessionState, link_name, link_pointer, named}
 use Rattle.triple_arena_session.specs.SessionRun.{get_reply, act_under, act_on, set_answer, remove_under, invalidate_under, answer}
-use Rattle.triple_arena_session.specs.SessionCalls.{call_at, calls_of}
 use Rattle.triple_arena_session.specs.Shown.{as_row, row_of, shown}
 use Rattle.triple_arena_session.proofs.TableNames.{has_from_item, link_name-given, name_of-append}
 use Rattle.triple_arena_session.proofs.Rows.{value_hit, value_miss, entry_found, row_count-shown, rows_changed, found_before}

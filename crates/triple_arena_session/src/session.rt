@@ -120,10 +120,10 @@ impl<P: Ptr, X: Copy, S: NonZeroInxGenericStack<ArenaSlot<P, Node<X, P>>>> Sessi
     ///
     /// A sound session answers as the store of names that it shows, its bool aside where the reply
     /// tells of a wrap; where it tells of none, the session shows what the store becomes, and is
-    /// sound. The calls on its arena then take each history that fits it to one that fits, so that no
-    /// pointer is given twice: of any session, sound or not (`calls`). Of the session before it tells
-    /// what is true of each (`arena`), so that the law `session_steps_as_store` can be used of its
-    /// steps.
+    /// sound. Of any session, sound or not, the calls on its arena then take each history that fits
+    /// it to one that fits (`calls`), so that no pointer is given that such a history has: one fits a
+    /// sound session, and any whose arena has no entry. Of the session before it tells what is true of
+    /// each (`arena`), so that the law `session_steps_as_store` can be used of its steps.
     pub fn step(&mut self, command: Command<X>) -> Reply<X>
     where
         X: Debug,
@@ -151,10 +151,11 @@ impl<P: Ptr, X: Copy, S: NonZeroInxGenericStack<ArenaSlot<P, Node<X, P>>>> Sessi
     ///
     /// A sound session answers as the store of names that it shows. Where no reply tells of a wrap,
     /// it shows what the store becomes, and is sound. Of each front of the commands and replies there
-    /// is what stood after it (`fronts`), and as long as it tells of no wrap no pointer was given twice
-    /// by then: of any session, sound or not, as the law `session_runs_keep_histories` says of every
-    /// list of steps. Of named commands, which are all but `Capacity`, `Reserve` and `Show`, and with no
-    /// `NoMemory` among the replies, compactions change no other reply.
+    /// is what stood after it (`fronts`), and as long as it tells of no wrap each history that fits the
+    /// arena goes on, sound or not, as the law `session_runs_keep_histories` says of every list of steps:
+    /// from an arena without entries no pointer was given twice by then. Of named commands, which are all
+    /// but `Capacity`, `Reserve` and `Show`, and with no `NoMemory` among the replies, compactions change
+    /// no other reply.
     pub fn run(&mut self, commands: &[Command<X>]) -> Result<Vec<Reply<X>>, AllocError>
     where
         X: Debug,

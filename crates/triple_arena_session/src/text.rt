@@ -32,7 +32,8 @@ use triple_arena_stack::NonZeroInxGenericStack;
 /// In a sound session the lines are answered as by the store of names that it shows, and
 /// compactions change no other line, as `Session::run` says. Unless the last reply told of a wrap,
 /// it is sound after the run, and shows what the store became: so one text may follow another. All
-/// this is said but where the writer failed, and of readers and writers that tell their bytes.
+/// this is said but where the writer failed, of readers that tell their bytes, and what is said of the
+/// lines of writers that do.
 pub fn run_text<P: Ptr, S: NonZeroInxGenericStack<ArenaSlot<P, Node<u64, P>>>, R: Read, W: Write>(
     session: &mut Session<P, u64, S>,
     alloc: Global,

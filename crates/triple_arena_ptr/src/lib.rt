@@ -4,7 +4,7 @@
 mod generation;
 mod hex;
 mod inx;
-mod laws;
+pub mod laws;
 mod non_zero;
 mod p0;
 mod p1;
@@ -19,7 +19,6 @@ mod text;
 
 pub use generation::PtrGen;
 pub use inx::PtrInx;
-pub use laws::{index_through_number, number_through_index, pointers_agree};
 pub use non_zero::{
     non_zero_u8, non_zero_u16, non_zero_u32, non_zero_u64, non_zero_u128, non_zero_usize,
 };

@@ -9,7 +9,8 @@ use std::cmp::Ordering;
 use std::fmt;
 use std::hash::{DefaultHasher, Hash, Hasher};
 use std::num::NonZeroU8;
-use triple_arena_ptr::{P0, P1, P2, P3, P4, P5, Ptr, PtrGen, PtrInx, PtrNoGen, Q2, pointers_agree};
+use triple_arena_ptr::laws::pointers_agree;
+use triple_arena_ptr::{P0, P1, P2, P3, P4, P5, Ptr, PtrGen, PtrInx, PtrNoGen, Q2};
 
 // The hash of a value.
 fn hash_of<T: Hash>(value: &T) -> u64 {

@@ -1,7 +1,8 @@
 //! How indexes and their numbers convert.
 
 use std::num::{NonZeroU8, NonZeroU16, NonZeroU32, NonZeroU64, NonZeroU128, NonZeroUsize};
-use triple_arena_ptr::{PtrInx, index_through_number, number_through_index};
+use triple_arena_ptr::PtrInx;
+use triple_arena_ptr::laws::{index_through_number, number_through_index};
 
 // Whether the greatest index of an arena is this number, converts to it and back, and the number
 // after it has no index.

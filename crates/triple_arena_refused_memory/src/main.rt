@@ -15,6 +15,7 @@ mod asking;
 mod compactions;
 mod copies;
 mod costly;
+mod counted;
 mod no_memory;
 mod report;
 mod runs;

@@ -6,8 +6,11 @@ use crate::sessions::{Asked, answers};
 use crate::strict::Strict;
 use std::alloc::Global;
 use triple_arena::{Arena, ArenaCloneFromWith, ArenaSlot, ArenaTrait, CompactArenaTrait};
-use triple_arena_direct::DirectArena;
-use triple_arena_direct_kit::{Direct, Heap as DirectHeap, with_room as direct_with_room};
+use triple_arena_direct::{DirectArena, DirectSlot};
+use triple_arena_direct_kit::{
+    Direct, Fixed as DirectFixed, Heap as DirectHeap, InArray, Limited as DirectLimited,
+    with_room as direct_with_room,
+};
 use triple_arena_ptr::{P0, Ptr, PtrGen};
 use triple_arena_renaming::{compress_recast, compress_recaster};
 use triple_arena_session::{Command, Reply, Session, StrictSession};
@@ -149,8 +152,10 @@ const OF_DIRECT_ARENAS: &[(Call, Told)] = &[
     (Call::Clear, Told::Done),
 ];
 
-fn direct(alloc: Global) -> Result<End, Wrong> {
-    let mut arena: Direct<P0, DirectHeap<P0>> = direct_with_room(alloc, 8)?;
+fn direct_on<S: NonZeroInxGenericStack<DirectSlot<P0, Token>> + Drop>(
+    alloc: Global,
+) -> Result<End, Wrong> {
+    let mut arena: Direct<P0, S> = direct_with_room(alloc, 8)?;
     follow(&mut arena, OF_DIRECT_ARENAS)?;
     Ok(End::Ample)
 }
@@ -294,7 +299,22 @@ pub fn try_each(alloc: Global, report: &mut Report) {
         arena_on::<Places<P0, 8>>(alloc),
     );
     report.note(call, "a limit", limited::<Limited<P0>>(alloc));
-    report.note(call, "a direct arena", direct(alloc));
+    report.note(call, "a direct arena", direct_on::<DirectHeap<P0>>(alloc));
+    report.note(
+        call,
+        "a limited direct arena",
+        direct_on::<DirectLimited<P0>>(alloc),
+    );
+    report.note(
+        call,
+        "a direct arena of fixed room",
+        direct_on::<DirectFixed<P0>>(alloc),
+    );
+    report.note(
+        call,
+        "a direct arena in an array",
+        direct_on::<InArray<P0, 8>>(alloc),
+    );
     report.note(call, "a strict arena", strict(alloc));
     report.note(call, "a copy", copies(alloc));
     report.note(call, "a compaction", compactions(alloc));

@@ -8,14 +8,22 @@ use std::io::{Read, Write};
 use triple_arena::{Arena, ArenaSlot, ArenaTrait};
 use triple_arena_ptr::{P0, Ptr};
 use triple_arena_session::{
-    Command, Node, Reply, Session, StrictSession, TextError, parse_command, run_text,
+    BeginsOver, Command, Node, Reply, Session, StrictSession, TextError, parse_command, run_text,
     run_text_strict,
 };
-use triple_arena_stack::{NonZeroInxArray, NonZeroInxGenericStack};
+use triple_arena_stack::{
+    NonZeroInxArray, NonZeroInxBoxedSlice, NonZeroInxGenericStack, NonZeroInxLimitedVec,
+};
 use triple_arena_test_kit::free_of;
 use triple_arena_trait_kit::{SLOTS, Wrong, index_number};
 
 type Slot = ArenaSlot<P0, Node<u64, P0>>;
+
+type Limited = NonZeroInxLimitedVec<Slot>;
+
+type Fixed = NonZeroInxBoxedSlice<Slot>;
+
+type InArray = NonZeroInxArray<Slot, 8>;
 
 /// The arena of a session.
 type Entries<S> = Arena<P0, Node<u64, P0>, S>;
@@ -271,17 +279,62 @@ fn is_empty_with_eight(extent: (usize, usize, u64)) -> Result<End, Wrong> {
     }
 }
 
-pub fn try_each(alloc: Global, report: &mut Report) {
+// Each row but `show`, where a session that needs memory for its room could be made.
+fn each_row_where_made<T: Asked + Drop>(
+    made: Result<T, Wrong>,
+    kind: &'static str,
+    report: &mut Report,
+) {
+    match made {
+        Ok(mut session) => each_row(&mut session, kind, false, report),
+        Err(wrong) => report.note("made", kind, Err(wrong)),
+    }
+}
+
+// A session that grows up to a limit of eight.
+fn limited(alloc: Global) -> Result<Session<P0, u64, Limited>, Wrong> {
+    let mut arena: Entries<Limited> = Arena::new(alloc);
+    if arena.set_max_capacity(8).is_err() {
+        return Err(Wrong::Answer(0));
+    }
+    Ok(Session::new(arena, alloc))
+}
+
+// A session of fixed room for eight.
+fn fixed(alloc: Global) -> Result<Session<P0, u64, Fixed>, Wrong> {
+    Ok(Session::with_min_capacity(alloc, 8)?)
+}
+
+fn strict_fixed(alloc: Global) -> Result<StrictSession<P0, u64, Fixed>, Wrong> {
+    Ok(StrictSession::with_min_capacity(alloc, 8)?)
+}
+
+// The rows in sessions over each stack.
+fn each_general(alloc: Global, report: &mut Report) {
     let mut session: Session<P0, u64> = Session::with_new_arena(alloc);
     each_row(&mut session, "a session", true, report);
-    let mut session: Session<P0, u64, NonZeroInxArray<Slot, 8>> = Session::with_new_arena(alloc);
+    each_row_where_made(limited(alloc), "a session under a limit", report);
+    each_row_where_made(fixed(alloc), "a session of fixed room", report);
+    let mut session: Session<P0, u64, InArray> = Session::with_new_arena(alloc);
     each_row(&mut session, "a session in an array", false, report);
+}
+
+// The same in strict ones.
+fn each_strict(alloc: Global, report: &mut Report) {
     let mut session: StrictSession<P0, u64> = StrictSession::with_new_arena(alloc);
     each_row(&mut session, "a strict session", true, report);
-    report.note("no call", "a session with room", has_room(alloc));
-    report.note(
-        "no call",
-        "a strict session with room",
-        strict_has_room(alloc),
-    );
+    let mut session: StrictSession<P0, u64, Limited> = StrictSession::with_new_arena(alloc);
+    each_row(&mut session, "a limited strict session", false, report);
+    let made = strict_fixed(alloc);
+    each_row_where_made(made, "a strict session of fixed room", report);
+    let mut session: StrictSession<P0, u64, InArray> = StrictSession::with_new_arena(alloc);
+    each_row(&mut session, "a strict session in an array", false, report);
+}
+
+pub fn try_each(alloc: Global, report: &mut Report) {
+    each_general(alloc, report);
+    each_strict(alloc, report);
+    let (call, made, made_strictly) = ("no call", has_room(alloc), strict_has_room(alloc));
+    report.note(call, "a session with room", made);
+    report.note(call, "a strict session with room", made_strictly);
 }

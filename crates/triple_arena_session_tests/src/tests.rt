@@ -4,6 +4,7 @@
 mod begun_sessions;
 mod commands;
 mod devices;
+mod large_sizes;
 mod program;
 mod runs;
 mod sessions;

@@ -304,25 +304,6 @@ fn a_run_gives_one_reply_for_each_command(rt: HostRuntime) {
     try_new(&rt, rt.alloc(), Kind::General, None, &none);
 }
 
-// So many commands that take no memory are answered by as many replies.
-struct RunsMany;
-
-impl Trial for RunsMany {
-    fn pass(&self, rt: &impl Abort, _alloc: Global, session: &mut impl Asked) {
-        let commands = [Command::Len; 5000];
-        let Some(told) = session.answers(&commands) else {
-            panic!(rt; "there is memory");
-        };
-        assert!(rt; told.len() == 5000);
-        assert!(rt; told.iter().all(|reply| *reply == Reply::Count(0)));
-    }
-}
-
-#[test]
-fn a_run_of_thousands_of_commands_is_answered(rt: HostRuntime) {
-    try_new(&rt, rt.alloc(), Kind::General, None, &RunsMany);
-}
-
 /// The command at a position of 254 insertions, each before the removal of its name, and a last one.
 pub fn command_at(position: usize) -> Command<u64> {
     if position == 508 {

@@ -1,5 +1,5 @@
-//! Values that count their drops: each is dropped once. Insertions, writes, endings and the drop of an
-//! arena are tried over each stack, and entries, drains and copies on the heap.
+//! Values that count their drops: each is dropped once. Insertions, entries, writes, endings and the drop
+//! of an arena are tried over each stack, and drains and copies on the heap.
 
 use super::asking::{AskedToInsert, ask_to_insert};
 use std::alloc::Global;
@@ -245,13 +245,45 @@ fn drops_on<T: Drop, C: Count<T>, S: NonZeroInxGenericStack<ArenaSlot<P0, T>> + 
     at_end(count.drops(), table.at_end)
 }
 
+// Whether a full arena that has no way to grow refuses each entry to insert by.
+fn refuses_entries<P: Ptr, T, S: NonZeroInxGenericStack<ArenaSlot<P, T>>>(
+    arena: &mut Arena<P, T, S>,
+) -> bool {
+    arena.entry_insert().is_err()
+        && arena.entry_insert_reallocating().is_err()
+        && arena.entry_insert_within_capacity().is_err()
+}
+
+// The values, and then the entries, that such an arena with three places refuses. An entry that is
+// refused has taken no value, and none is dropped.
+fn each_refusal<T: Drop, C: Count<T>, S: NonZeroInxGenericStack<ArenaSlot<P0, T>>>(
+    arena: &mut Arena<P0, T, S>,
+    count: &C,
+) -> Result<(), Wrong> {
+    follow_table(arena, count, &EACH_REFUSED_DROP)?;
+    let is_refused = refuses_entries(arena);
+    is_told(6, (is_refused, count.drops()), (true, 3))
+}
+
+// The same over the stack `S`, to the drop of the arena.
+fn refused_on<T: Drop, C: Count<T>, S: NonZeroInxGenericStack<ArenaSlot<P0, T>> + Drop>(
+    alloc: Global,
+    count: &C,
+) -> Result<(), Wrong> {
+    count.restart();
+    let mut arena: Arena<P0, T, S> = with_three_places(alloc)?;
+    each_refusal(&mut arena, count)?;
+    drop(arena);
+    at_end(count.drops(), EACH_REFUSED_DROP.at_end)
+}
+
 // Each drop over a stack that has no way to grow.
 fn each_on_limited<T: Drop, C: Count<T>, S: NonZeroInxGenericStack<ArenaSlot<P0, T>> + Drop>(
     alloc: Global,
     count: &C,
 ) -> Result<(), Wrong> {
     drops_on::<T, C, S>(alloc, count, &EACH_DROP)?;
-    drops_on::<T, C, S>(alloc, count, &EACH_REFUSED_DROP)
+    refused_on::<T, C, S>(alloc, count)
 }
 
 type Slot<'a> = ArenaSlot<P0, Counted<'a>>;
@@ -284,7 +316,7 @@ fn refused_without_limit<T: Drop, C: Count<T>, S: SetMaxCapacity<ArenaSlot<P0, T
     if !is_unlimited(&mut arena) {
         return Err(Wrong::AtEnd(0));
     }
-    follow_table(&mut arena, count, &EACH_REFUSED_DROP)?;
+    each_refusal(&mut arena, count)?;
     drop(arena);
     at_end(count.drops(), EACH_REFUSED_DROP.at_end)
 }
@@ -340,6 +372,7 @@ fn by_entries<T: Drop, C: Count<T>, S: NonZeroInxGenericStack<ArenaSlot<P0, T>> 
     alloc: Global,
     count: &C,
 ) -> Result<(), Wrong> {
+    count.restart();
     let mut arena: Arena<P0, T, S> = with_three_places(alloc)?;
     each_entry(&mut arena, count)?;
     drop(arena);
@@ -348,8 +381,11 @@ fn by_entries<T: Drop, C: Count<T>, S: NonZeroInxGenericStack<ArenaSlot<P0, T>> 
 
 #[test]
 fn a_value_of_an_entry_is_dropped_once(rt: HostRuntime) -> Result<(), Wrong> {
-    let drops = Cell::new(0);
-    by_entries::<_, _, NonZeroInxVec<Slot<'_>>>(rt.alloc(), &&drops)
+    let (alloc, drops) = (rt.alloc(), Cell::new(0));
+    by_entries::<_, _, NonZeroInxVec<Slot<'_>>>(alloc, &&drops)?;
+    by_entries::<_, _, NonZeroInxLimitedVec<Slot<'_>>>(alloc, &&drops)?;
+    by_entries::<_, _, NonZeroInxBoxedSlice<Slot<'_>>>(alloc, &&drops)?;
+    by_entries::<_, _, NonZeroInxArray<Slot<'_>, 3>>(alloc, &&drops)
 }
 
 // Takes so many values out by a drain, each dropped when it is let go, and lets the drain go: whether

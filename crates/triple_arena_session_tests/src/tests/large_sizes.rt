@@ -1,0 +1,96 @@
+//! Sizes at which a session that gives up late would show.
+
+use super::steps::{Asked, Kind, Trial, replies, try_new};
+use super::texts::expect;
+use std::alloc::Global;
+use std::fmt;
+use std::fmt::Write as _;
+use std::io::BufWriter;
+use std::process::Abort;
+use std::test::Fail;
+use triple_arena_session::{Command, Kind as Places, Reply, run_kind};
+
+// So many commands that take no memory are answered by as many replies.
+struct RunsMany;
+
+impl Trial for RunsMany {
+    fn pass(&self, rt: &impl Abort, _alloc: Global, session: &mut impl Asked) {
+        let commands = [Command::Len; 5000];
+        let Some(told) = session.answers(&commands) else {
+            panic!(rt; "there is memory");
+        };
+        assert!(rt; told.len() == 5000);
+        assert!(rt; told.iter().all(|reply| *reply == Reply::Count(0)));
+    }
+}
+
+#[test]
+fn a_run_of_thousands_of_commands_is_answered(rt: HostRuntime) {
+    try_new(&rt, rt.alloc(), Kind::General, None, &RunsMany);
+}
+
+// So many insertions give as many names, each of which finds its entry.
+struct GivesMany;
+
+impl Trial for GivesMany {
+    fn pass(&self, rt: &impl Abort, _alloc: Global, session: &mut impl Asked) {
+        for name in 1..=70_000 {
+            let given = Reply::Given(name, false);
+            assert!(rt; replies(session, Command::Insert(name as u64, None), &given));
+        }
+        for name in 1..=70_000 {
+            let found = Reply::Found(name as u64, None);
+            assert!(rt; replies(session, Command::Get(name), &found));
+        }
+        assert!(rt; replies(session, Command::Get(70_001), &Reply::Nothing));
+    }
+}
+
+#[test]
+fn tens_of_thousands_of_names_are_given(rt: HostRuntime) {
+    try_new(&rt, rt.alloc(), Kind::General, None, &GivesMany);
+}
+
+// Writes what is shown of so many entries of 7, inserted into a new arena.
+fn write_entries(text: &mut String, count: usize) -> fmt::Result {
+    text.write_str("{")?;
+    for index in 1..=count {
+        let separator = if index == 1 { "" } else { ", " };
+        write!(text, "{separator}P0[{index:x}](2): (7, None)")?;
+    }
+    text.write_str("}")
+}
+
+// So many entries are all shown.
+struct ShowsMany;
+
+impl Trial for ShowsMany {
+    fn pass(&self, rt: &impl Abort, alloc: Global, session: &mut impl Asked) {
+        for name in 1..=1000 {
+            let given = Reply::Given(name, false);
+            assert!(rt; replies(session, Command::Insert(7, None), &given));
+        }
+        let mut wanted = String::new(alloc);
+        assert!(rt; write_entries(&mut wanted, 1000).is_ok());
+        match session.answer(Command::Show) {
+            Reply::Line(text) => assert!(rt; text == wanted),
+            _ => panic!(rt; "there is memory"),
+        }
+    }
+}
+
+#[test]
+fn a_thousand_entries_are_shown(rt: HostRuntime) {
+    try_new(&rt, rt.alloc(), Kind::General, None, &ShowsMany);
+}
+
+#[test]
+fn a_session_has_thousands_of_places(rt: HostRuntime) -> Result<(), Fail> {
+    for places in [Places::Limited(3000), Places::Fixed(3000)] {
+        let mut input = b"capacity\n".as_slice();
+        let output = BufWriter::new(rt.alloc(), Vec::new(rt.alloc()))?;
+        let (outcome, written) = run_kind(places, rt.alloc(), &mut input, output);
+        expect(&rt, outcome, written.as_slice(), Ok(()), b"count 3000\n");
+    }
+    Ok(())
+}

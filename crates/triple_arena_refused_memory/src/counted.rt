@@ -18,7 +18,11 @@ pub struct Counted<'a, P: Copy> {
 
 impl<P: Copy> Drop for Counted<'_, P> {
     fn drop(self) {
-        let Counted { drops, .. } = self;
+        let Counted {
+            number: _number,
+            link: _link,
+            drops,
+        } = self;
         drops.set(drops.get().wrapping_add(1));
     }
 }

@@ -305,6 +305,10 @@ fn fixed(alloc: Global) -> Result<Session<P0, u64, Fixed>, Wrong> {
     Ok(Session::with_min_capacity(alloc, 8)?)
 }
 
+fn strict_limited(alloc: Global) -> Result<StrictSession<P0, u64, Limited>, Wrong> {
+    Ok(StrictSession::with_min_capacity(alloc, 8)?)
+}
+
 fn strict_fixed(alloc: Global) -> Result<StrictSession<P0, u64, Fixed>, Wrong> {
     Ok(StrictSession::with_min_capacity(alloc, 8)?)
 }
@@ -323,10 +327,10 @@ fn each_general(alloc: Global, report: &mut Report) {
 fn each_strict(alloc: Global, report: &mut Report) {
     let mut session: StrictSession<P0, u64> = StrictSession::with_new_arena(alloc);
     each_row(&mut session, "a strict session", true, report);
-    let mut session: StrictSession<P0, u64, Limited> = StrictSession::with_new_arena(alloc);
-    each_row(&mut session, "a limited strict session", false, report);
-    let made = strict_fixed(alloc);
-    each_row_where_made(made, "a strict session of fixed room", report);
+    let limited = strict_limited(alloc);
+    each_row_where_made(limited, "a limited strict session", report);
+    let fixed = strict_fixed(alloc);
+    each_row_where_made(fixed, "a strict session of fixed room", report);
     let mut session: StrictSession<P0, u64, InArray> = StrictSession::with_new_arena(alloc);
     each_row(&mut session, "a strict session in an array", false, report);
 }

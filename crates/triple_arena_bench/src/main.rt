@@ -3,36 +3,45 @@
 
 mod arena;
 mod compaction;
+mod copies;
 mod end_slots;
 mod entry;
 mod stack;
 mod timing;
 
+use std::alloc::Global;
 use std::env;
+use std::io::Print;
+use std::time::Clock;
 
-const USAGE: &str =
-    "usage: triple_arena_bench stack | arena SIZES... | compact SIZES... | ends SIZES...";
+const USAGE: &str = "usage: triple_arena_bench stack | arena SIZES... | compact SIZES... | copy SIZES... | ends SIZES...";
+
+// Times what a word names, at a size.
+fn run(rt: &(impl Print + Clock), alloc: Global, what: &str, size: u32) -> anyhow::Result<()> {
+    match what {
+        "arena" => arena::run(rt, alloc, size),
+        "compact" => compaction::run(rt, alloc, size),
+        "copy" => copies::run(rt, alloc, size),
+        "ends" => end_slots::run(rt, alloc, size),
+        _ => Ok(println!(rt; "{USAGE}")?),
+    }
+}
 
 fn main(rt: HostRuntime) -> anyhow::Result<()> {
     let mut args = env::args(&rt)?.skip(1);
-    match args.next() {
-        Some(what) if what.as_str() == "stack" => stack::run(&rt, rt.alloc())?,
-        Some(what) if what.as_str() == "arena" => {
-            for size in args {
-                arena::run(&rt, rt.alloc(), size.as_str().parse()?)?;
-            }
-        }
-        Some(what) if what.as_str() == "compact" => {
-            for size in args {
-                compaction::run(&rt, rt.alloc(), size.as_str().parse()?)?;
-            }
-        }
-        Some(what) if what.as_str() == "ends" => {
-            for size in args {
-                end_slots::run(&rt, rt.alloc(), size.as_str().parse()?)?;
-            }
-        }
-        _ => println!(rt; "{USAGE}")?,
+    let Some(what) = args.next() else {
+        return Ok(println!(rt; "{USAGE}")?);
+    };
+    if what.as_str() == "stack" {
+        return stack::run(&rt, rt.alloc());
+    }
+    let mut has_sizes = false;
+    for size in args {
+        run(&rt, rt.alloc(), what.as_str(), size.as_str().parse()?)?;
+        has_sizes = true;
+    }
+    if !has_sizes {
+        println!(rt; "{USAGE}")?;
     }
     Ok(())
 }

@@ -15,7 +15,7 @@ use triple_arena_strict::{StrictArena, StrictCompactError};
 use triple_arena_test_kit::state_of;
 use triple_arena_trait_kit::{State, Told, Wrong, index_number, is_told, pointer};
 
-/// A node with its link, which counts its drop.
+/// A node with its link, of which is counted how many there are.
 type Node<'a> = Counted<'a, P0>;
 
 /// A compaction.
@@ -122,21 +122,21 @@ impl Compacted for StrictArena<P0, Node<'_>> {
 
 // A compaction, and once more where memory is refused, which changes nothing. A dangling link
 // refuses it too, and changes nothing; else the third node has moved to index 2, with this
-// generation, and where links are renamed its own leads to the first, which has it too. No node is
-// dropped.
+// generation, and where links are renamed its own leads to the first, which has it too. As many
+// nodes are there as before.
 fn compacts<A: Compacted>(
     alloc: Global,
     arena: &mut A,
-    drops: &Cell<u64>,
+    live: &Cell<u64>,
     call: Compaction,
     expected: Told,
     generation: u64,
 ) -> Result<End, Wrong> {
-    let (before, dropped) = (arena.seen(), drops.get());
+    let (before, count) = (arena.seen(), live.get());
     let mut told = arena.compact(alloc, call);
     let mut end = End::Ample;
     if told == NO_MEMORY {
-        if arena.seen() != before || drops.get() != dropped {
+        if arena.seen() != before || live.get() != count {
             return Err(Wrong::State(0));
         }
         told = arena.compact(alloc, call);
@@ -153,7 +153,7 @@ fn compacts<A: Compacted>(
     } else {
         arena.seen() == before
     };
-    if stands && drops.get() == dropped {
+    if stands && live.get() == count {
         Ok(end)
     } else {
         Err(Wrong::State(1))
@@ -176,49 +176,47 @@ fn told_with(link: (usize, u64)) -> Told {
 }
 
 // The node of a number up to 3: the second leads to the first, and the third has this link.
-fn node_of(number: u64, link: (usize, u64), drops: &Cell<u64>) -> Node<'_> {
+fn node_of(alloc: Global, number: u64, link: (usize, u64), live: &Cell<u64>) -> Node<'_> {
     let link = match number {
         1 => None,
         2 => Some(pointer(1, 2)),
         _ => Some(pointer(link.0, link.1)),
     };
-    Counted {
-        number,
-        link,
-        drops,
-    }
+    Counted::new(number, link, alloc, live)
 }
 
 // Three nodes are compacted, of which the second is removed where the third leads to an entry.
 fn on_arena(alloc: Global, call: Compaction, link: (usize, u64)) -> Result<End, Wrong> {
-    let drops = Cell::new(0);
+    let live = Cell::new(0);
     let removed: &[usize] = if link == LINKED { &[2] } else { &[] };
     let mut arena: Arena<P0, Node<'_>> = Arena::with_min_capacity(alloc, 3)?;
-    insert_each(&mut arena, 3, removed, |number| node_of(number, link, &drops))?;
-    compacts(alloc, &mut arena, &drops, call, told_with(link), 4)
+    insert_each(&mut arena, 3, removed, |number| {
+        node_of(alloc, number, link, &live)
+    })?;
+    compacts(alloc, &mut arena, &live, call, told_with(link), 4)
 }
 
 // Two, under the indexes 1 and 3.
 fn on_direct(alloc: Global, call: Compaction, link: (usize, u64)) -> Result<End, Wrong> {
-    let drops = Cell::new(0);
+    let live = Cell::new(0);
     let mut arena: DirectArena<P0, Node<'_>> = DirectArena::with_min_capacity(alloc, 3)?;
     for number in [1, 3] {
         let p: P0 = pointer(number as usize, 2);
         if !arena.can_direct_insert(p) {
             return Err(Wrong::Answer(0));
         }
-        arena.direct_insert_reserved(p, node_of(number, link, &drops));
+        arena.direct_insert_reserved(p, node_of(alloc, number, link, &live));
     }
-    compacts(alloc, &mut arena, &drops, call, told_with(link), 2)
+    compacts(alloc, &mut arena, &live, call, told_with(link), 2)
 }
 
 // Three, of which the second is removed.
 fn on_strict(alloc: Global, link: (usize, u64)) -> Result<End, Wrong> {
-    let drops = Cell::new(0);
+    let live = Cell::new(0);
     let mut arena: StrictArena<P0, Node<'_>> = StrictArena::with_min_capacity(alloc, 3)?;
     for number in [1, 2, 3] {
         if arena
-            .insert_within_capacity(node_of(number, link, &drops))
+            .insert_within_capacity(node_of(alloc, number, link, &live))
             .is_err()
         {
             return Err(Wrong::Answer(0));
@@ -228,7 +226,7 @@ fn on_strict(alloc: Global, link: (usize, u64)) -> Result<End, Wrong> {
         return Err(Wrong::Answer(0));
     }
     let call = Compaction::Renamed;
-    compacts(alloc, &mut arena, &drops, call, told_with(link), 4)
+    compacts(alloc, &mut arena, &live, call, told_with(link), 4)
 }
 
 pub fn try_each(alloc: Global, report: &mut Report) {

@@ -1,19 +1,41 @@
-//! A value with a link, which counts its drop.
+//! A value with a link, of which is counted how many there are.
 
 ghost use Rattle.std.proofs.Common.{ap};
 ghost use Rattle.triple_arena_base.specs.Held.{held_option, refill_option};
 ghost use Rattle.triple_arena_base.specs.HeldLaws.{option_held_refill, option_refill_held, option_refill_refill};
 
+use crate::costly::ask;
+use std::alloc::{AllocError, Global};
 use std::cell::Cell;
 use triple_arena_base::{InvalidationOption, Recast, Recaster};
 use triple_arena_ptr::Ptr;
 use triple_arena_trait_kit::{Numbered, Shown};
 
-/// A number, a link, and the count that its drop raises.
+/// A number and a link. Its clone makes a request for memory.
 pub struct Counted<'a, P: Copy> {
     pub number: u64,
     pub link: Option<P>,
-    pub drops: &'a Cell<u64>,
+    alloc: Global,
+    // How many there are.
+    live: &'a Cell<u64>,
+}
+
+impl<'a, P: Copy> Counted<'a, P> {
+    /// One more of those that are counted.
+    pub fn new(
+        number: u64,
+        link: Option<P>,
+        alloc: Global,
+        live: &'a Cell<u64>,
+    ) -> Counted<'a, P> {
+        live.set(live.get().wrapping_add(1));
+        Counted {
+            number,
+            link,
+            alloc,
+            live,
+        }
+    }
 }
 
 impl<P: Copy> Drop for Counted<'_, P> {
@@ -21,9 +43,29 @@ impl<P: Copy> Drop for Counted<'_, P> {
         let Counted {
             number: _number,
             link: _link,
-            drops,
+            alloc: _alloc,
+            live,
         } = self;
-        drops.set(drops.get().wrapping_add(1));
+        live.set(live.get().wrapping_sub(1));
+    }
+}
+
+impl<P: Copy> Clone for Counted<'_, P> {
+    ghost use Rattle.std.specs.Prelude.{◌≡◌};
+
+    ghost is_clone = { λ t u. u ≡ t };
+
+    ghost is_infallible = { λ _. ⊥ };
+
+    fn clone(&self) -> Result<Self, AllocError> {
+        ask(self.alloc)?;
+        self.live.set(self.live.get().wrapping_add(1));
+        Ok(Counted {
+            number: self.number,
+            link: self.link,
+            alloc: self.alloc,
+            live: self.live,
+        })
     }
 }
 

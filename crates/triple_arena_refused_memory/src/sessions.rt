@@ -15,15 +15,15 @@ use triple_arena_stack::{
     NonZeroInxArray, NonZeroInxBoxedSlice, NonZeroInxGenericStack, NonZeroInxLimitedVec,
 };
 use triple_arena_test_kit::free_of;
-use triple_arena_trait_kit::{SLOTS, Wrong, index_number};
+use triple_arena_trait_kit::{SLOTS, Wrong, index_number, inx};
 
-type Slot = ArenaSlot<P0, Node<u64, P0>>;
+pub type Slot = ArenaSlot<P0, Node<u64, P0>>;
 
-type Limited = NonZeroInxLimitedVec<Slot>;
+pub type Limited = NonZeroInxLimitedVec<Slot>;
 
-type Fixed = NonZeroInxBoxedSlice<Slot>;
+pub type Fixed = NonZeroInxBoxedSlice<Slot>;
 
-type InArray = NonZeroInxArray<Slot, 8>;
+pub type InArray = NonZeroInxArray<Slot, 8>;
 
 /// The arena of a session.
 type Entries<S> = Arena<P0, Node<u64, P0>, S>;
@@ -55,7 +55,14 @@ pub trait Asked {
 
     /// The index of the last entry, and 0 where there is none.
     fn last_index(&self) -> usize;
+
+    /// The limit, how many slots there are, and by index the generations and the numbers of the first
+    /// entries.
+    fn layout(&self) -> Layout;
 }
+
+/// The limit, how many slots there are, and by index the generations and the numbers of the first entries.
+type Layout = (Option<usize>, usize, [Option<(u64, u64)>; 13]);
 
 impl<S: NonZeroInxGenericStack<Slot>> Asked for Session<P0, u64, S> {
     fn answer(&mut self, command: Command<u64>) -> Reply<u64> {
@@ -85,6 +92,10 @@ impl<S: NonZeroInxGenericStack<Slot>> Asked for Session<P0, u64, S> {
 
     fn last_index(&self) -> usize {
         last_index_of(self.arena())
+    }
+
+    fn layout(&self) -> Layout {
+        layout_of(self.arena())
     }
 }
 
@@ -117,6 +128,10 @@ impl<S: NonZeroInxGenericStack<Slot>> Asked for StrictSession<P0, u64, S> {
     fn last_index(&self) -> usize {
         last_index_of(self.arena().arena())
     }
+
+    fn layout(&self) -> Layout {
+        layout_of(self.arena().arena())
+    }
 }
 
 fn extent_of<S: NonZeroInxGenericStack<Slot>>(arena: &Entries<S>) -> (usize, usize, u64) {
@@ -130,12 +145,27 @@ fn last_index_of<S: NonZeroInxGenericStack<Slot>>(arena: &Entries<S>) -> usize {
     }
 }
 
+fn layout_of<S: NonZeroInxGenericStack<Slot>>(arena: &Entries<S>) -> Layout {
+    let mut entries = [None; 13];
+    for index in 1..13 {
+        if let Some((generation, node)) = arena.get_inx(inx(index)) {
+            entries[index] = Some((generation.get(), node.datum));
+        }
+    }
+    (
+        arena.max_capacity(),
+        arena.backing().as_slice().len(),
+        entries,
+    )
+}
+
 /// All that a session of at most twelve names shows of itself.
 #[derive(Clone, Copy, PartialEq)]
 pub struct View {
     pub names: [Row; 13],
     pub extent: (usize, usize, u64),
     pub free: [usize; SLOTS],
+    layout: Layout,
 }
 
 pub fn seen<T: Asked>(session: &mut T) -> View {
@@ -149,6 +179,7 @@ pub fn seen<T: Asked>(session: &mut T) -> View {
         names,
         extent: session.extent(),
         free: session.free(),
+        layout: session.layout(),
     }
 }
 
@@ -156,13 +187,19 @@ pub fn seen<T: Asked>(session: &mut T) -> View {
 fn in_order(before: View, last_index: usize) -> View {
     let mut free = [0; SLOTS];
     let mut place = 0;
-    for inx in 1..=last_index {
-        if before.free.contains(&inx) && place < SLOTS {
-            free[place] = inx;
+    for index in 1..=last_index {
+        if before.free.contains(&index) && place < SLOTS {
+            free[place] = index;
             place += 1;
         }
     }
-    View { free, ..before }
+    let (limit, _slots, entries) = before.layout;
+    let layout = (limit, last_index, entries);
+    View {
+        free,
+        layout,
+        ..before
+    }
 }
 
 // Whether this, which has 64 bytes at most, is the text of a reply. It takes no memory.

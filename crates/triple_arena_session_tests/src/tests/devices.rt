@@ -5,31 +5,44 @@ ghost use Rattle.std.specs.Prelude.{◌≡◌, IfOk};
 use std::io;
 use std::io::{ErrorKind, Read, Write};
 
-/// Gives a text one byte a read, and fails once, at the read of a given number.
+/// Gives a text one byte a read, and fails so many times, from the read of a given number on.
 #[derive(Drop)]
 pub struct ByteReader<'a> {
     pub rest: &'a [u8],
     pub reads_before: usize,
     pub failure: ErrorKind,
+    pub times: usize,
 }
 
 impl<'a> ByteReader<'a> {
+    /// Fails once.
     pub fn new(text: &'a [u8], reads_before: usize, failure: ErrorKind) -> ByteReader<'a> {
+        ByteReader::failing(text, reads_before, failure, 1)
+    }
+
+    pub fn failing(
+        text: &'a [u8],
+        reads_before: usize,
+        failure: ErrorKind,
+        times: usize,
+    ) -> ByteReader<'a> {
         ByteReader {
             rest: text,
             reads_before,
             failure,
+            times,
         }
     }
 }
 
 impl<'a> Read for ByteReader<'a> {
     fn read(&mut self, buf: &mut [u8]) -> io::Result<usize> {
-        if self.reads_before == 0 {
-            self.reads_before = usize::MAX;
+        if 0 < self.reads_before {
+            self.reads_before -= 1;
+        } else if 0 < self.times {
+            self.times -= 1;
             return Err(io::Error::from(self.failure));
         }
-        self.reads_before -= 1;
         let size = buf.len().min(1);
         self.rest.read(&mut buf[..size])
     }

@@ -1,14 +1,12 @@
 //! Sizes at which a session that gives up late would show.
 
+use super::program::{WELL, args_of};
 use super::steps::{Asked, Kind, Trial, replies, try_new};
-use super::texts::expect;
 use std::alloc::Global;
 use std::fmt;
 use std::fmt::Write as _;
-use std::io::BufWriter;
 use std::process::Abort;
-use std::test::Fail;
-use triple_arena_session::{Command, Kind as Places, Reply, run_kind};
+use triple_arena_session::{Command, Reply, run_program};
 
 // So many commands that take no memory are answered by as many replies.
 struct RunsMany;
@@ -85,12 +83,19 @@ fn a_thousand_entries_are_shown(rt: HostRuntime) {
 }
 
 #[test]
-fn a_session_has_thousands_of_places(rt: HostRuntime) -> Result<(), Fail> {
-    for places in [Places::Limited(3000), Places::Fixed(3000)] {
+fn the_program_has_thousands_of_places(rt: HostRuntime) {
+    let rows: [&[&str]; 4] = [
+        &["limited", "3000"],
+        &["fixed", "3000"],
+        &["strict", "limited", "3000"],
+        &["strict", "fixed", "3000"],
+    ];
+    for words in rows {
+        let args = args_of(rt.alloc(), words);
         let mut input = b"capacity\n".as_slice();
-        let output = BufWriter::new(rt.alloc(), Vec::new(rt.alloc()))?;
-        let (outcome, written) = run_kind(places, rt.alloc(), &mut input, output);
-        expect(&rt, outcome, written.as_slice(), Ok(()), b"count 3000\n");
+        let (outcome, output) = run_program(args, rt.alloc(), &mut input, Vec::new(rt.alloc()));
+        let written = output.unwrap_or(Vec::new(rt.alloc()));
+        assert!(rt; outcome == WELL);
+        assert!(rt; written.as_slice() == b"count 3000\n".as_slice());
     }
-    Ok(())
 }

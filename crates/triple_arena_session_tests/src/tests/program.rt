@@ -9,8 +9,8 @@ use std::process::Abort;
 use std::test::Fail;
 use triple_arena_session::{Kind, Outcome, TextError, run_kind, run_program};
 
-// The arguments of these words.
-fn args_of(alloc: Global, words: &[&str]) -> io::Result<Vec<String>> {
+/// The arguments of these words.
+pub fn args_of(alloc: Global, words: &[&str]) -> io::Result<Vec<String>> {
     let mut args = Vec::new(alloc);
     for word in words {
         args.push(String::from_str(alloc, *word)?)?;
@@ -18,7 +18,8 @@ fn args_of(alloc: Global, words: &[&str]) -> io::Result<Vec<String>> {
     Ok(args)
 }
 
-const WELL: Outcome = Outcome::Ran(Ok(()));
+/// The program ran, and ended well.
+pub const WELL: Outcome = Outcome::Ran(Ok(()));
 
 /// Arguments that are no text are wrong, and those that memory was refused for are not.
 #[test]

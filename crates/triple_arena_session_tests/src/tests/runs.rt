@@ -56,57 +56,72 @@ struct FailsToRead<'a> {
     text: &'a [u8],
     reads_before: usize,
     failure: ErrorKind,
+    times: usize,
 }
 
 impl Trial for FailsToRead<'_> {
     fn pass(&self, rt: &impl Abort, alloc: Global, session: &mut impl Asked) {
         answers_text(rt, alloc, session, b"insert 7 -\n", b"given 1\n");
-        let mut input = ByteReader::new(self.text, self.reads_before, self.failure);
+        let extent = session.extent();
+        let mut input =
+            ByteReader::failing(self.text, self.reads_before, self.failure, self.times);
         answers(rt, alloc, session, &mut input, Err(TextError::Read), b"");
+        assert!(rt; session.extent() == extent);
         let (text, lines) = (b"get 1\ninsert 8 -\n", b"found 7 -\ngiven 2\n");
         answers_text(rt, alloc, session, text, lines);
     }
 }
 
-/// Each read of a text of 20 bytes fails in turn, the one that would find its end too. It does so
-/// after a malformed line, too, since all is read before the first command runs.
+/// Each read of a text of 20 bytes fails in turn, the one that would find its end too, once or with all
+/// after it. It does so after a malformed line, too, since all is read before the first command runs.
 #[test]
 fn changes_nothing_where_a_read_fails(rt: HostRuntime) {
-    let rows: [(&[u8], ErrorKind); 3] = [
-        (b"insert 1 -\nremove 1\n", ErrorKind::Other),
-        (b"what\ninsert 1 -\nlen\n", ErrorKind::UnexpectedEof),
-        (b"insert 1 -\nwhat\nlen\n", ErrorKind::WouldBlock),
+    let rows: [(&[u8], ErrorKind, usize); 4] = [
+        (b"insert 1 -\nremove 1\n", ErrorKind::Other, 1),
+        (b"insert 1 -\nremove 1\n", ErrorKind::Other, usize::MAX),
+        (b"what\ninsert 1 -\nlen\n", ErrorKind::UnexpectedEof, 1),
+        (b"insert 1 -\nwhat\nlen\n", ErrorKind::WouldBlock, usize::MAX),
     ];
-    for (text, failure) in rows {
+    for (text, failure, times) in rows {
         for reads_before in 0..21 {
             let trial = FailsToRead {
                 text,
                 reads_before,
                 failure,
+                times,
             };
             tries(&rt, rt.alloc(), &trial);
         }
     }
 }
 
-// A read is interrupted, and the text runs to its end.
+// A read is interrupted so many times, and the text runs to its end.
 #[derive(Drop)]
 struct ReadsOn {
     reads_before: usize,
+    times: usize,
 }
 
 impl Trial for ReadsOn {
     fn pass(&self, rt: &impl Abort, alloc: Global, session: &mut impl Asked) {
         let text = b"insert 1 -\n".as_slice();
-        let mut input = ByteReader::new(text, self.reads_before, ErrorKind::Interrupted);
+        let mut input =
+            ByteReader::failing(text, self.reads_before, ErrorKind::Interrupted, self.times);
         answers(rt, alloc, session, &mut input, Ok(()), b"given 1\n");
     }
 }
 
+/// Each read in turn is interrupted, once and a thousand times, and made again each time.
 #[test]
 fn reads_on_after_an_interruption(rt: HostRuntime) {
-    for reads_before in 0..13 {
-        tries(&rt, rt.alloc(), &ReadsOn { reads_before });
+    for times in [1, 1000] {
+        for reads_before in 0..13 {
+            let trial = ReadsOn {
+                reads_before,
+                times,
+            };
+            tries(&rt, rt.alloc(), &trial);
+        }
     }
 }
 
@@ -202,6 +217,7 @@ impl Trial for StopsWriting {
         let ended = runs_to(alloc, session, self.text, output, self.lines);
         assert!(rt; ended == (self.end, true), "at {}", self.writes_before);
         finds_up_to(rt, session, 1, self.ran, 4);
+        assert!(rt; session.extent().0 == self.ran);
     }
 }
 

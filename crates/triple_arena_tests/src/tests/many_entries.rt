@@ -1,7 +1,10 @@
-//! Arenas of thousands of entries.
+//! Arenas of thousands of entries, and of as many as there are indexes.
 
 use super::arenas::{Pointers, Stack, is_made, on, on_heap_of_p0};
 use super::parts::Part;
+use std::test::Fail;
+use triple_arena::{Arena, ArenaInsertTrait, ArenaTrait};
+use triple_arena_ptr::{P5, Ptr};
 use triple_arena_test_kit::{Call, TestedArena, Told, Wrong, step};
 
 /// 5000 insertions in an arena without slots, the ends of every second, and as many insertions again.
@@ -49,4 +52,16 @@ fn room_for_thousands(rt: HostRuntime) -> Result<(), Wrong> {
             Part::Step(Call::Bounds, Told::Bounds(5000, 5000, Some(5000))),
         ],
     )
+}
+
+/// Without generations the invalid pointer is that of the greatest index.
+#[test]
+fn a_full_arena_of_byte_indexes_contains_the_invalid_pointer(rt: HostRuntime) -> Result<(), Fail> {
+    let mut arena: Arena<P5, u64> = Arena::new(rt.alloc());
+    for number in 1..=255 {
+        assert!(rt; !arena.contains(P5::invalid()));
+        arena.insert(number)?;
+    }
+    assert!(rt; arena.contains(P5::invalid()));
+    Ok(())
 }

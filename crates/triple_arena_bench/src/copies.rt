@@ -55,11 +55,11 @@ fn insert_each<P: Ptr, A: ArenaInsertTrait<P, u64>>(
     Ok(pointers)
 }
 
-fn time_clone<
-    C: Clock,
-    P: Ptr,
-    A: ArenaCloneFromWith<P, u64> + CompactArenaTrait<P, u64> + Drop,
->(rt: &C, alloc: Global, arena: &A) -> anyhow::Result<Timing> {
+fn time_clone<C: Clock, P: Ptr, A: ArenaCloneFromWith<P, u64> + CompactArenaTrait<P, u64> + Drop>(
+    rt: &C,
+    alloc: Global,
+    arena: &A,
+) -> anyhow::Result<Timing> {
     let start = Instant::now(rt)?;
     let clone = arena.clone(alloc)?;
     let time = start.elapsed(rt)?;

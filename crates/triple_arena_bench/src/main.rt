@@ -14,7 +14,8 @@ use std::env;
 use std::io::Print;
 use std::time::Clock;
 
-const USAGE: &str = "usage: triple_arena_bench stack | arena SIZES... | compact SIZES... | copy SIZES... | ends SIZES...";
+const USAGE: &str =
+    "usage: triple_arena_bench stack | arena SIZES... | compact SIZES... | copy SIZES... | ends SIZES...";
 
 // Times what a word names, at a size.
 fn run(rt: &(impl Print + Clock), alloc: Global, what: &str, size: u32) -> anyhow::Result<()> {

@@ -22,12 +22,7 @@ pub struct Counted<'a, P: Copy> {
 
 impl<'a, P: Copy> Counted<'a, P> {
     /// One more of those that are counted.
-    pub fn new(
-        number: u64,
-        link: Option<P>,
-        alloc: Global,
-        live: &'a Cell<u64>,
-    ) -> Counted<'a, P> {
+    pub fn new(number: u64, link: Option<P>, alloc: Global, live: &'a Cell<u64>) -> Counted<'a, P> {
         live.set(live.get().wrapping_add(1));
         Counted {
             number,

@@ -12,8 +12,8 @@ use triple_arena::{Arena, ArenaCloneFromWith, ArenaSlot, ArenaTrait, CompactAren
 use triple_arena_base::{AllocError, Recast};
 use triple_arena_direct::{DirectArena, DirectSlot};
 use triple_arena_direct_kit::{
-    Direct, DirectWithLimit, Fixed as DirectFixed, Heap as DirectHeap, InArray, Limited as DirectLimited,
-    with_room as direct_with_room,
+    Direct, DirectWithLimit, Fixed as DirectFixed, Heap as DirectHeap, InArray,
+    Limited as DirectLimited, with_room as direct_with_room,
 };
 use triple_arena_ptr::{P0, Ptr, PtrGen};
 use triple_arena_renaming::{compress_recast, compress_recaster};
@@ -365,11 +365,7 @@ fn strict_session_on<S: NonZeroInxGenericStack<Slot> + Drop>(alloc: Global) -> R
 // Sessions of five names over each stack.
 fn each_session(alloc: Global, report: &mut Report) {
     let call = "no call";
-    report.note(
-        call,
-        "a session of five names",
-        session_on::<OnHeap>(alloc),
-    );
+    report.note(call, "a session of five names", session_on::<OnHeap>(alloc));
     report.note(
         call,
         "a limited session of five names",

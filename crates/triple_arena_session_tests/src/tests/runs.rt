@@ -63,8 +63,7 @@ impl Trial for FailsToRead<'_> {
     fn pass(&self, rt: &impl Abort, alloc: Global, session: &mut impl Asked) {
         answers_text(rt, alloc, session, b"insert 7 -\n", b"given 1\n");
         let extent = session.extent();
-        let mut input =
-            ByteReader::failing(self.text, self.reads_before, self.failure, self.times);
+        let mut input = ByteReader::failing(self.text, self.reads_before, self.failure, self.times);
         answers(rt, alloc, session, &mut input, Err(TextError::Read), b"");
         assert!(rt; session.extent() == extent);
         let (text, lines) = (b"get 1\ninsert 8 -\n", b"found 7 -\ngiven 2\n");
@@ -80,7 +79,11 @@ fn changes_nothing_where_a_read_fails(rt: HostRuntime) {
         (b"insert 1 -\nremove 1\n", ErrorKind::Other, 1),
         (b"insert 1 -\nremove 1\n", ErrorKind::Other, usize::MAX),
         (b"what\ninsert 1 -\nlen\n", ErrorKind::UnexpectedEof, 1),
-        (b"insert 1 -\nwhat\nlen\n", ErrorKind::WouldBlock, usize::MAX),
+        (
+            b"insert 1 -\nwhat\nlen\n",
+            ErrorKind::WouldBlock,
+            usize::MAX,
+        ),
     ];
     for (text, failure, times) in rows {
         for reads_before in 0..21 {
@@ -105,8 +108,12 @@ struct ReadsOn {
 impl Trial for ReadsOn {
     fn pass(&self, rt: &impl Abort, alloc: Global, session: &mut impl Asked) {
         let text = b"insert 1 -\n".as_slice();
-        let mut input =
-            ByteReader::failing(text, self.reads_before, ErrorKind::Interrupted, self.times);
+        let mut input = ByteReader::failing(
+            text,
+            self.reads_before,
+            ErrorKind::Interrupted,
+            self.times,
+        );
         answers(rt, alloc, session, &mut input, Ok(()), b"given 1\n");
     }
 }

@@ -39,12 +39,12 @@ list_all-digits (d ∷ ds) all =
     let rest = list_all-digits ds all.1 in
     grind (arith, nat_tests, parts.0, rest)
 
-number_of-is : (word : List ℕ) (n : ℕ) → number_of word ≡ Some n → WritesNumber word n
+pub number_of-is : (word : List ℕ) (n : ℕ) → number_of word ≡ Some n → WritesNumber word n
 number_of-is word n e =
     let parts : (list_all is_ascii_digit word ≡ true) × (0 < length word) × (digits_value 10 word < 2 ^ 64) × (digits_value 10 word ≡ n) = grind (arith, nat_tests, e) in
     ((parts.1, AllDigits-is word parts.0), parts.3, subst (λ x. x < 2 ^ 64) parts.3 parts.2)
 
-number_of-from : (word : List ℕ) (n : ℕ) → WritesNumber word n → number_of word ≡ Some n
+pub number_of-from : (word : List ℕ) (n : ℕ) → WritesNumber word n → number_of word ≡ Some n
 number_of-from word n is =
     let all = list_all-digits word is.0.1 in
     grind (arith, nat_tests, all, is.0.0, is.1, is.2)

@@ -1,6 +1,6 @@
+mod FirstWords
 mod FormLaws
 mod NameLemmas
-mod Numbers
 mod Splits
 mod StoreExactly
 mod Writes

@@ -1,7 +1,9 @@
 pub mod Lines
+pub mod Words
 pub mod CommandText
 pub mod Forms
 pub mod ReplyText
+pub mod ReplyParts
 pub mod Runs
 pub mod RunLaws
 pub mod TextRun

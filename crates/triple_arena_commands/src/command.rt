@@ -1,13 +1,11 @@
 //! Commands, and the lines that stand for them.
 
-ghost use Rattle.std.specs.Prelude.{◌≡◌, [], ◌∷◌};
-ghost use Rattle.std.specs.Char.{is_ascii_digit};
-ghost use Rattle.std.specs.List.{list_all};
+ghost use Rattle.std.specs.Prelude.{◌≡◌, ◌∷◌, ℕ, List, Some};
 ghost use Rattle.triple_arena_commands.specs.Lines.{words_of};
-ghost use Rattle.triple_arena_commands.specs.CommandText.{number_of, link_of, bare_of, numbered_of, insert_of, set_of, command_of_words, command_of};
+ghost use Rattle.triple_arena_commands.specs.CommandText.{number_of, link_of, bare_of, numbered, linked, set_of, command_of_words, command_of};
 
 use crate::lines::split_first;
-use std::str;
+use crate::words::{read_link, read_number};
 
 /// One command of a session. Names are numbers from 1, in the order of giving.
 #[derive(Clone, Copy, Debug, PartialEq, Eq)]
@@ -61,36 +59,35 @@ pub fn parse_command(line: &[u8]) -> Option<Command<u64>>
 fn parse_arguments(verb: &[u8], rest: &[u8]) -> Option<Command<u64>>
     ensures { result ≡ command_of_words (verb.now ∷ words_of rest.now) }
 {
-    let (first, after_first) = split_first(rest, b' ');
+    let (first, after_first) = read_number(rest)?;
     match after_first {
-        None => parse_numbered(verb, parse_number(first)),
+        None => parse_numbered(verb, first as usize),
         Some(rest) => parse_linked(verb, first, rest),
     }
 }
 
-// The command of a verb, one word and the words after it.
-fn parse_linked(verb: &[u8], first: &[u8], rest: &[u8]) -> Option<Command<u64>>
-    ensures { result ≡ command_of_words (verb.now ∷ first.now ∷ words_of rest.now) }
+// The command of a verb, a word that writes this number, and the words after it.
+fn parse_linked(verb: &[u8], first: u64, rest: &[u8]) -> Option<Command<u64>>
+    ensures { (word : List ℕ) → number_of word ≡ Some first
+        → result ≡ command_of_words (verb.now ∷ word ∷ words_of rest.now) }
 {
-    let (second, after_second) = split_first(rest, b' ');
+    let (second, after_second) = read_link(rest)?;
     match after_second {
-        None => parse_insert(verb, parse_number(first), parse_link(second)),
-        Some(rest) => parse_last(verb, first, second, rest),
+        None => parse_insert(verb, first, second),
+        Some(rest) => parse_last(verb, first as usize, second, rest),
     }
 }
 
-// The command of a verb, two words and the words after them.
-fn parse_last(verb: &[u8], first: &[u8], second: &[u8], rest: &[u8]) -> Option<Command<u64>>
-    ensures { result ≡ command_of_words
-        (verb.now ∷ first.now ∷ second.now ∷ words_of rest.now) }
+// The command of a verb, two words that write this name and this link, and the words after them. A link
+// that is there writes a datum, too.
+fn parse_last(verb: &[u8], name: usize, second: Option<usize>, rest: &[u8]) -> Option<Command<u64>>
+    ensures { (first word : List ℕ) → number_of first ≡ Some name → link_of word ≡ Some second
+        → result ≡ command_of_words (verb.now ∷ first ∷ word ∷ words_of rest.now) }
 {
-    let (third, after_third) = split_first(rest, b' ');
+    let datum = second? as u64;
+    let (link, after_third) = read_link(rest)?;
     match after_third {
-        None => {
-            let name = parse_number(first);
-            let datum = parse_number(second);
-            parse_set(verb, name, datum, parse_link(third))
-        }
+        None => parse_set(verb, name, datum, link),
         Some(_) => None,
     }
 }
@@ -115,10 +112,9 @@ fn parse_bare(verb: &[u8]) -> Option<Command<u64>>
 }
 
 // The command of a verb before a number.
-fn parse_numbered(verb: &[u8], number: Option<u64>) -> Option<Command<u64>>
-    ensures { result ≡ numbered_of verb.now number }
+fn parse_numbered(verb: &[u8], number: usize) -> Option<Command<u64>>
+    ensures { result ≡ numbered verb.now number }
 {
-    let number = number? as usize;
     if verb == b"get".as_slice() {
         Some(Command::Get(number))
     } else if verb == b"remove".as_slice() {
@@ -133,14 +129,9 @@ fn parse_numbered(verb: &[u8], number: Option<u64>) -> Option<Command<u64>>
 }
 
 // The command of a verb before a datum and a link.
-fn parse_insert(
-    verb: &[u8],
-    datum: Option<u64>,
-    link: Option<Option<usize>>,
-) -> Option<Command<u64>>
-    ensures { result ≡ insert_of verb.now datum link }
+fn parse_insert(verb: &[u8], datum: u64, link: Option<usize>) -> Option<Command<u64>>
+    ensures { result ≡ linked verb.now datum link }
 {
-    let (datum, link) = (datum?, link?);
     if verb == b"insert".as_slice() {
         Some(Command::Insert(datum, link))
     } else if verb == b"within".as_slice() {
@@ -151,54 +142,12 @@ fn parse_insert(
 }
 
 // The command of a verb before a name, a datum and a link.
-fn parse_set(
-    verb: &[u8],
-    name: Option<u64>,
-    datum: Option<u64>,
-    link: Option<Option<usize>>,
-) -> Option<Command<u64>>
-    ensures { result ≡ set_of verb.now name datum link }
+fn parse_set(verb: &[u8], name: usize, datum: u64, link: Option<usize>) -> Option<Command<u64>>
+    ensures { result ≡ set_of verb.now (Some name) (Some datum) (Some link) }
 {
-    let (name, datum, link) = (name? as usize, datum?, link?);
     if verb == b"set".as_slice() {
         Some(Command::Set(name, datum, link))
     } else {
         None
     }
-}
-
-// The link that a word writes: a dash for none, or a name.
-fn parse_link(word: &[u8]) -> Option<Option<usize>>
-    ensures { result ≡ link_of word.now }
-{
-    if word == b"-".as_slice() {
-        Some(None)
-    } else {
-        parse_name(word).map(Some)
-    }
-}
-
-fn parse_name(word: &[u8]) -> Option<usize>
-    ensures { result ≡ number_of word.now }
-{
-    Some(parse_number(word)? as usize)
-}
-
-/// The number that a word writes. `str::parse` alone would take a plus before the digits.
-pub(crate) fn parse_number(word: &[u8]) -> Option<u64>
-    ensures { result ≡ number_of word.now }
-{
-    if !is_all_digits(word) {
-        return None;
-    }
-    match str::from_utf8(word) {
-        Ok(digits) => digits.parse().ok(),
-        Err(_) => None,
-    }
-}
-
-fn is_all_digits(word: &[u8]) -> bool
-    ensures { result ≡ list_all is_ascii_digit word.now }
-{
-    word.iter().all(|byte| byte.is_ascii_digit())
 }

@@ -5,12 +5,14 @@
 mod command;
 mod input;
 pub mod laws;
+mod line;
 mod lines;
 mod name_table;
 mod output;
 mod program;
 mod reply;
 mod text_error;
+mod words;
 
 pub use command::{Command, parse_command};
 pub use input::read_text;

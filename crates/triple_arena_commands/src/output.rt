@@ -6,7 +6,8 @@ ghost use Rattle.std.specs.Io.KnownBytes.{Appends, Keeps};
 ghost use Rattle.triple_arena_commands.specs.ReplyText.{reply_line};
 ghost use Rattle.triple_arena_commands.specs.TextRun.{AppendsCut, IsFlushed};
 
-use crate::reply::{Reply, text_of};
+use crate::line::{LINE_ROOM, put_line};
+use crate::reply::{Reply, parts_of};
 use crate::text_error::TextError;
 use std::io::{BufWriter, ErrorKind, Write};
 
@@ -25,10 +26,11 @@ pub fn write_reply<W: Write>(output: &mut W, reply: &Reply<u64>) -> Result<(), T
         (AppendsCut (W.contents output.old) (W.contents output.new) [] (reply_line reply.now)) }
     ensures write { IfErr result (λ e. e ≡ TextError.Write) }
 {
-    match text_of(reply) {
-        Ok(mut line) => {
-            line.push_str("\n");
-            write_all(output, line.as_str().as_bytes())
+    match parts_of(reply) {
+        Ok(parts) => {
+            let mut room = [0; LINE_ROOM];
+            let start = put_line(parts, &mut room);
+            write_all(output, &room[start..])
         }
         Err(text) => write_shown(output, text),
     }

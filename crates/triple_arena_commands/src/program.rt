@@ -3,8 +3,8 @@
 ghost use Rattle.std.specs.Prelude.{◌≡◌, map, Some, string_bytes};
 ghost use Rattle.triple_arena_commands.specs.Program.{kind_of, sized_kind, mode_of, asked_mode, status_of, message_of};
 
-use crate::command::parse_number;
 use crate::text_error::TextError;
+use crate::words::parse_number;
 use std::io::ErrorKind;
 use std::{fmt, io};
 

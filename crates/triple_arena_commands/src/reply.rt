@@ -1,12 +1,9 @@
 //! Replies, and their text.
 
-ghost use Rattle.std.specs.Prelude.{◌≡◌, ◌+◌, ◌≤◌, ◌++◌, length, codes, Some, IfOk, IfErr};
-ghost use Rattle.std.specs.Fmt.{decimal};
-ghost use Rattle.arrayvec.specs.ArrayString.{array_string_len};
-ghost use Rattle.triple_arena_commands.specs.ReplyText.{tells_of_wrap, reply_text, link_text, wrapped_text};
+ghost use Rattle.std.specs.Prelude.{◌≡◌, ◌≤◌, ◌++◌, length, Some, IfOk, IfErr};
+ghost use Rattle.triple_arena_commands.specs.ReplyText.{tells_of_wrap, reply_text, wrapped_text};
+ghost use Rattle.triple_arena_commands.specs.ReplyParts.{numbers_text};
 
-use arrayvec::ArrayString;
-use itoa::Buffer;
 use std::fmt;
 
 /// The reply to one command. A `bool` tells whether the counter of generations wrapped.
@@ -63,91 +60,48 @@ impl<X> Reply<X> {
     }
 }
 
-/// Room for the line of any reply but `Line`: the longest has 58 bytes.
-pub(crate) const LINE_ROOM: usize = 64;
+/// What the text of a reply but `Line` is made of: a word, its numbers, and whether it tells of a wrap.
+#[derive(Clone, Copy)]
+pub(crate) struct Parts(pub(crate) &'static str, pub(crate) Numbers, pub(crate) bool);
 
-/// The text of a reply: that of any but a `Line`, of at most 57 bytes; or `Err`, that of a `Line`, which
-/// may have any length.
-pub(crate) fn text_of(reply: &Reply<u64>) -> Result<ArrayString<LINE_ROOM>, &str>
-    ensures text { IfOk result (λ text. text.bytes ≡ reply_text reply.now) }
-    ensures short { IfOk result (λ text. array_string_len text ≤ 57) }
+/// The numbers of a reply: none, one, or a datum and after a space the name of its link, or a dash.
+#[derive(Clone, Copy)]
+pub(crate) enum Numbers {
+    Nothing,
+    Number(u64),
+    Linked(u64, Option<usize>),
+}
+
+/// The parts of a reply's text, or `Err`, the text of a `Line`, which may have any length.
+pub(crate) fn parts_of(reply: &Reply<u64>) -> Result<Parts, &str>
+    ensures text { IfOk result (λ parts. parts.0.now ++ numbers_text parts.1
+        ++ wrapped_text parts.2 ≡ reply_text reply.now) }
+    ensures short { IfOk result (λ parts. length parts.0.now ≤ 20) }
     ensures shown { IfErr result (λ text. text.now ≡ reply_text reply.now) }
 {
+    let none = Numbers::Nothing;
     match reply {
         Reply::Given(name, wrapped) => {
-            let given = with_number(word("given "), *name as u64);
-            Ok(with_wrapped(given, *wrapped))
+            Ok(Parts("given ", Numbers::Number(*name as u64), *wrapped))
         }
-        Reply::Full => Ok(word("full")),
-        Reply::BeyondMaxCapacity => Ok(word("beyond max capacity")),
-        Reply::NoMemory => Ok(word("no memory")),
-        Reply::Found(datum, link) => Ok(with_link(with_number(word("found "), *datum), *link)),
-        Reply::Nothing => Ok(word("nothing")),
-        Reply::Done => Ok(word("done")),
+        Reply::Full => Ok(Parts("full", none, false)),
+        Reply::BeyondMaxCapacity => Ok(Parts("beyond max capacity", none, false)),
+        Reply::NoMemory => Ok(Parts("no memory", none, false)),
+        Reply::Found(datum, link) => Ok(Parts("found ", Numbers::Linked(*datum, *link), false)),
+        Reply::Nothing => Ok(Parts("nothing", none, false)),
+        Reply::Done => Ok(Parts("done", none, false)),
         Reply::Removed(datum, link, wrapped) => {
-            let removed = with_link(with_number(word("removed "), *datum), *link);
-            Ok(with_wrapped(removed, *wrapped))
+            Ok(Parts("removed ", Numbers::Linked(*datum, *link), *wrapped))
         }
-        Reply::Invalid => Ok(word("invalid")),
-        Reply::Cleared(wrapped) => Ok(with_wrapped(word("cleared"), *wrapped)),
-        Reply::Compacted(wrapped) => Ok(with_wrapped(word("compacted"), *wrapped)),
-        Reply::Unresolved => Ok(word("unresolved")),
-        Reply::BadName => Ok(word("bad name")),
-        Reply::Count(number) => Ok(with_number(word("count "), *number as u64)),
+        Reply::Invalid => Ok(Parts("invalid", none, false)),
+        Reply::Cleared(wrapped) => Ok(Parts("cleared", none, *wrapped)),
+        Reply::Compacted(wrapped) => Ok(Parts("compacted", none, *wrapped)),
+        Reply::Unresolved => Ok(Parts("unresolved", none, false)),
+        Reply::BadName => Ok(Parts("bad name", none, false)),
+        Reply::Count(number) => Ok(Parts("count ", Numbers::Number(*number as u64), false)),
         Reply::Line(text) => Err(text.as_str()),
-        Reply::Exhausted => Ok(word("exhausted")),
+        Reply::Exhausted => Ok(Parts("exhausted", none, false)),
     }
-}
-
-// A text that begins so.
-fn word(text: &str) -> ArrayString<LINE_ROOM>
-    requires { length text.now ≤ 20 }
-    ensures { result.bytes ≡ text.now }
-{
-    let mut word = ArrayString::new();
-    word.push_str(text);
-    word
-}
-
-// The text, and a number after it, of at most 20 digits.
-fn with_number(mut text: ArrayString<LINE_ROOM>, number: u64) -> ArrayString<LINE_ROOM>
-    requires { array_string_len text ≤ 44 }
-    ensures text { result.bytes ≡ text.bytes ++ decimal number }
-    ensures short { array_string_len result ≤ array_string_len text + 20 }
-{
-    let mut digits = Buffer::new();
-    text.push_str(digits.format(number));
-    text
-}
-
-// The text, and after it a space and a link: its name, or a dash.
-fn with_link(mut text: ArrayString<LINE_ROOM>, link: Option<usize>) -> ArrayString<LINE_ROOM>
-    requires { array_string_len text ≤ 43 }
-    ensures text { result.bytes ≡ text.bytes ++ codes " " ++ link_text link }
-    ensures short { array_string_len result ≤ array_string_len text + 21 }
-{
-    match link {
-        Some(name) => {
-            text.push_str(" ");
-            with_number(text, name as u64)
-        }
-        None => {
-            text.push_str(" -");
-            text
-        }
-    }
-}
-
-// The text, and what follows that of a reply that tells of a wrap.
-fn with_wrapped(mut text: ArrayString<LINE_ROOM>, wrapped: bool) -> ArrayString<LINE_ROOM>
-    requires { array_string_len text ≤ 56 }
-    ensures text { result.bytes ≡ text.bytes ++ wrapped_text wrapped }
-    ensures short { array_string_len result ≤ array_string_len text + 8 }
-{
-    if wrapped {
-        text.push_str(" wrapped");
-    }
-    text
 }
 
 /// A reply's text, without a line break: `found 10 -`. Numbers are decimal, no link is a dash,
@@ -156,9 +110,38 @@ impl fmt::Display for Reply<u64> {
     ghost output = { λ reply. Some (reply_text reply) };
 
     fn fmt<W: fmt::Write>(&self, f: &mut fmt::Formatter<W>) -> fmt::Result {
-        match text_of(self) {
-            Ok(text) => f.write_str(text.as_str()),
+        match parts_of(self) {
+            Ok(Parts(word, numbers, wrapped)) => write!(f, "{word}{numbers}{}", Wrapped(wrapped)),
             Err(text) => f.write_str(text),
+        }
+    }
+}
+
+impl fmt::Display for Numbers {
+    ghost output = { λ numbers. Some (numbers_text numbers) };
+
+    fn fmt<W: fmt::Write>(&self, f: &mut fmt::Formatter<W>) -> fmt::Result {
+        match self {
+            Numbers::Nothing => Ok(()),
+            Numbers::Number(number) => write!(f, "{number}"),
+            Numbers::Linked(datum, Some(name)) => write!(f, "{datum} {name}"),
+            Numbers::Linked(datum, None) => write!(f, "{datum} -"),
+        }
+    }
+}
+
+// What stands at the end of a reply that tells of a wrap.
+#[derive(Clone, Copy)]
+struct Wrapped(bool);
+
+impl fmt::Display for Wrapped {
+    ghost output = { λ this. Some (wrapped_text this.0) };
+
+    fn fmt<W: fmt::Write>(&self, f: &mut fmt::Formatter<W>) -> fmt::Result {
+        if self.0 {
+            f.write_str(" wrapped")
+        } else {
+            Ok(())
         }
     }
 }

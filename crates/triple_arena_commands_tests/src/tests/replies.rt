@@ -1,7 +1,7 @@
 //! The texts of replies.
 
 use super::says;
-use std::alloc::Global;
+use std::alloc::{AllocError, Global};
 use std::process::Abort;
 use triple_arena_commands::{Reply, write_reply};
 
@@ -63,4 +63,18 @@ fn writes_each_reply(rt: HostRuntime) {
         ),
     ];
     each_is_written(&rt, rt.alloc(), rows);
+}
+
+/// One of them is longer than the line of any other reply.
+#[test]
+fn writes_a_text_as_it_stands(rt: HostRuntime) -> Result<(), AllocError> {
+    let long = "0123456789012345678901234567890123456789012345678901234567890123456789 wrapped";
+    for text in ["", "{}", long] {
+        let reply = Reply::Line(format!(in rt.alloc(); "{text}")?);
+        assert!(rt;
+            is_written(rt.alloc(), &reply, text) && says(rt.alloc(), &reply, text),
+            "{text}"
+        );
+    }
+    Ok(())
 }

@@ -1,11 +1,13 @@
 //! Compaction that tells the new pointers, and that renames those which the values hold.
 
-ghost use Rattle.std.specs.Prelude.{◌≡◌, ◌∷◌, false, List, [], map, length, None, Some, IsSome, IsOk, OnOk, OnErr, IfOk};
+ghost use Rattle.std.specs.Prelude.{◌≡◌, ◌≤◌, ◌⊎◌, ◌∷◌, false, List, [], map, length, None, Some, IsSome, IsOk, OnOk, OnErr, IfOk};
 ghost use Rattle.std.specs.Result.{IfErr};
 ghost use Rattle.triple_arena_base.specs.Held.{held_all};
 ghost use Rattle.triple_arena_base.specs.Invalidation.{allowed_option};
 ghost use Rattle.triple_arena_ptr.specs.Pointers.{Pointer};
-ghost use Rattle.triple_arena_stack.specs.StackKind.{new_limit};
+ghost use Rattle.triple_arena_ptr.specs.Numbers.{greatest_index};
+ghost use Rattle.triple_arena_stack.specs.StackKind.{new_room, new_limit};
+ghost use Rattle.triple_arena_direct.specs.DirectState.{direct_capacity};
 ghost use Rattle.triple_arena_traits.specs.Entries.{look_up_in, entry_count};
 ghost use Rattle.triple_arena_traits.specs.FreeList.{last_index};
 ghost use Rattle.triple_arena_traits.specs.Ending.{told};
@@ -19,8 +21,9 @@ use triple_arena_base::{
     Advancer, CloneFromError, CompactError, InvalidationOption, ReallocationError, Recast,
 };
 use triple_arena_direct::{DirectArena, DirectSlot};
-use triple_arena_ptr::{Ptr, PtrGen};
+use triple_arena_ptr::{Ptr, PtrGen, PtrInx};
 use triple_arena_stack::NonZeroInxGenericStack;
+use triple_arena_traits::ends::last_index;
 use triple_arena_traits::{ArenaCloneFromWith, ArenaTrait, CompactArenaTrait, recast_entries};
 
 /// Compresses the arena, and gives the map from each old pointer of an entry to its new one: a
@@ -152,11 +155,33 @@ fn own_map<
     ensures given { MapHasMemory K.kind K.has_memory (last_index (A.slots this.now))
         → IsOk result }
 {
-    let mut all = DirectArena::new(alloc);
+    let mut all = empty_map(alloc, last_index(this));
     match all.clone_from_with(this, |p, _value| Ok::<P, Infallible>(p)) {
         Ok(()) => Ok(all),
         Err(CloneFromError::Reallocation(refusal)) => Err(refusal),
     }
+}
+
+// The most entries of a map that is asked for as it is.
+const SMALL_MAP: usize = 1024;
+
+// An empty map, for entries up to this index. A larger one has room for a power of two of them, where memory
+// is there: so the memory that one map gives back serves the next, which may be for a few entries more.
+fn empty_map<P: Ptr, K: NonZeroInxGenericStack<DirectSlot<P, P>> + Drop>(
+    alloc: Global,
+    last: usize,
+) -> DirectArena<P, P, K>
+    requires { last ≤ greatest_index P.Inx.greatest }
+    ensures slots { result.slots ≡ [] }
+    ensures limit { result.limit ≡ new_limit K.kind }
+    ensures room { (result.room ≡ new_room K.kind) ⊎ (last ≤ direct_capacity result) }
+{
+    let mut all = DirectArena::new(alloc);
+    if SMALL_MAP < last && last <= usize::MAX / 2 {
+        let room = last.next_power_of_two();
+        let _larger = all.reallocate_min_capacity(room.min(P::Inx::max_index().get()));
+    }
+    all
 }
 
 // Puts the pointers of an arena into the entries of another, in order.

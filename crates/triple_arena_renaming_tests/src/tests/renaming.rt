@@ -9,7 +9,7 @@ use triple_arena::{Arena, ArenaInsertTrait, ArenaTrait};
 use triple_arena_base::{CompactError, ReallocationError};
 use triple_arena_ptr::{P0, Ptr};
 use triple_arena_renaming::compress_recaster;
-use triple_arena_trait_kit::{NO_POINTER, Told, Wrong, pointer};
+use triple_arena_trait_kit::{NO_POINTER, Narrow, Told, Wrong, pointer};
 
 // The last of three nodes has a link that never was a node's pointer.
 const DANGLING: [Named; 3] = [(1, NO_POINTER), (2, (1, 2)), (3, (usize::MAX, 1))];
@@ -159,6 +159,26 @@ fn maps_thousands(alloc: Global) -> Result<(Option<P0>, Option<P0>, usize), Real
 fn a_map_has_thousands_of_pointers(rt: HostRuntime) {
     let told = (Some(pointer(1, 4)), Some(pointer(5000, 4)), 5000);
     assert!(rt; maps_thousands(rt.alloc()) == Ok(told));
+}
+
+// The new pointer of the last of so many entries under byte indexes, and how many pointers the map has.
+fn maps_narrow(alloc: Global, count: usize) -> Result<(Option<Narrow>, usize), ReallocationError> {
+    let mut arena: Arena<Narrow, usize> = Arena::new(alloc);
+    for number in 1..=count {
+        arena.insert(number)?;
+    }
+    let all = compress_recaster(&mut arena, alloc, false)?.allow();
+    let last = all.get(pointer(count, 2)).copied();
+    Ok((last, all.len()))
+}
+
+/// There is no index 256, the power of two above both.
+#[test]
+fn a_map_has_pointers_up_to_the_greatest_byte_index(rt: HostRuntime) {
+    for count in [129, 255] {
+        let told = (Some(pointer(count, 3)), count);
+        assert!(rt; maps_narrow(rt.alloc(), count) == Ok(told));
+    }
 }
 
 // Whether an error equals its copy.

@@ -359,7 +359,8 @@ fn entry_of(name: usize) -> (u64, Option<usize>) {
     (name as u64, link)
 }
 
-// Inserts as many entries as there are byte indexes.
+// Inserts as many entries as there are byte indexes. They are compacted twice: past half of them, and at
+// the end.
 fn fills(rt: &impl Abort, session: &mut impl Asked) {
     for name in 1..256 {
         let (datum, link) = entry_of(name);
@@ -368,6 +369,9 @@ fn fills(rt: &impl Abort, session: &mut impl Asked) {
             replies(session, command, &Reply::Given(name, false)),
             "at {name}"
         );
+        if name == 129 || name == 255 {
+            assert!(rt; replies(session, Command::Compact, &Reply::Compacted(false)));
+        }
     }
 }
 

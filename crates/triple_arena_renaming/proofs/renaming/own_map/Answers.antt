@@ -1,4 +1,4 @@
-use Rattle.std.proofs.Common.{rules, ℕ, ◌∙◌, Ok, Err, refl, map, ap, arith}
+use Rattle.std.proofs.Common.{rules, ℕ, ◌∙◌, Ok, Err, inl, inr, refl, map, ap, arith}
 use Rattle.triple_arena_base.specs.declared.errors.CloneFromError.TheVariants.{Reallocation}
 use Rattle.triple_arena_traits.specs.FreeList.{last_index}
 use Rattle.triple_arena_traits.specs.Walks.{keys, values}
@@ -17,12 +17,16 @@ returns-in-Ok-clause-values g c =
 
 pub returns-in-Err-Reallocation-clause-refused : goal.returns-in-Err-Reallocation-clause-refused
 returns-in-Err-Reallocation-clause-refused g c unlimited =
-    let e = c.in-Err-Reallocation.ensures in (
-      wants_memory c.in-Err-Reallocation.refusal (λ is. rw (ap (λ s. s.limit) c.new-all.ensures, unlimited) at (e.beyond.0 (ap Err (c.in-Err-Reallocation.field-0-is ∙ ap Reallocation is))).1),
-      last_counts (g.A.ArenaTrait.slots c.args.this.now) (omega (arith, rw c.new-all.ensures at (e.short (rw c.in-Err-Reallocation.field-0-is tt)))),
+    let e = c.in-Err-Reallocation.ensures in
+    let short = e.short (rw c.in-Err-Reallocation.field-0-is tt) in (
+      wants_memory c.in-Err-Reallocation.refusal (λ is. rw (c.empty_map-all.ensures.limit, unlimited) at (e.beyond.0 (ap Err (c.in-Err-Reallocation.field-0-is ∙ ap Reallocation is))).1),
+      last_counts (g.A.ArenaTrait.slots c.args.this.now) (omega (arith, short)),
     )
 
 pub returns-in-Err-Reallocation-clause-given : goal.returns-in-Err-Reallocation-clause-given
 returns-in-Err-Reallocation-clause-given g c there =
     let e = c.in-Err-Reallocation.ensures in
-    absurd (e.given (rw c.new-all.ensures there.0) (rw (c.new-all.ensures, none_shortened {A = ℕ × g.row.P.Denot} (last_index (g.A.ArenaTrait.slots c.args.this.now))) there.1) (rw c.in-Err-Reallocation.field-0-is tt))
+    elim c.empty_map-all.ensures.room [
+      | inl same ↦ absurd (e.given (rw c.empty_map-all.ensures.limit there.0) (rw (c.empty_map-all.ensures.slots, same, none_shortened {A = ℕ × g.row.P.Denot} (last_index (g.A.ArenaTrait.slots c.args.this.now))) there.1) (rw c.in-Err-Reallocation.field-0-is tt))
+      | inr fits ↦ absurd (omega (arith, fits, e.short (rw c.in-Err-Reallocation.field-0-is tt)))
+    ]

@@ -17,8 +17,8 @@ const MOST_TRIES: u64 = 4294967296;
 /// Writes the line of a reply, by writes alone. One that was interrupted is made again, up to
 /// 4294967296 times.
 ///
-/// The error is `Write`, where a write failed, or was interrupted so often; then a front of the line
-/// was written, but not all of it. What was written is said of a writer that tells its bytes.
+/// The error is `Write`, where a write failed, took no byte, or was interrupted so often; then a front of
+/// the line was written, but not all of it. What was written is said of a writer that tells its bytes.
 pub fn write_reply<W: Write>(output: &mut W, reply: &Reply<u64>) -> Result<(), TextError>
     ensures ok { OnOk result
         (Appends (W.contents output.old) (W.contents output.new) (reply_line reply.now)) }

@@ -14,8 +14,8 @@ pub enum TextError {
     Malformed(usize),
     /// The reader failed, or hadn't ended after 4294967296 reads. Nothing has run.
     Read,
-    /// The writer failed, or interrupted one write 4294967296 times. The command whose reply was being
-    /// written has run, and those before it. The replies before went out whole, and that one in part
+    /// The writer failed, took no byte, or interrupted one write 4294967296 times. The command whose reply
+    /// was being written has run, and those before it. The replies before went out whole, and that one in part
     /// or not at all. Of a run that is flushed after it, a front of the replies of the commands that ran
     /// went out.
     Write,

@@ -34,7 +34,9 @@ impl Entry for Node {
     }
 }
 
-/// The sum of all numbers, modulo 2^64, in the order in which they lie.
+/// The sum of all numbers, modulo 2^64, in the order in which they lie. It is inlined where it is timed, as a walk is
+/// in the code of a user.
+#[inline(always)]
 pub fn sum_of<'a, P: Ptr, T: Entry + 'a, A: CompactArenaTrait<P, T>>(arena: &'a A) -> u64 {
     let mut sum = 0u64;
     let mut entries = arena.vals();

@@ -1,12 +1,10 @@
 //! Compactions that make a map: memory for it is asked for before any link is looked at.
 
 use crate::asking::{NO_MEMORY, insert_each};
-use crate::counted::Counted;
 use crate::report::{End, Report};
 use std::alloc::Global;
-use std::cell::Cell;
 use triple_arena::{Arena, ArenaDirectInsertTrait, ArenaTrait, CompactArenaTrait};
-use triple_arena_base::{CompactError, Recast};
+use triple_arena_base::CompactError;
 use triple_arena_direct::DirectArena;
 use triple_arena_direct_kit::direct_state_of;
 use triple_arena_ptr::{P0, Ptr};
@@ -15,8 +13,7 @@ use triple_arena_strict::{StrictArena, StrictCompactError};
 use triple_arena_test_kit::state_of;
 use triple_arena_trait_kit::{State, Told, Wrong, index_number, is_told, pointer};
 
-/// A node with its link, of which is counted how many there are.
-type Node<'a> = Counted<'a, P0>;
+type Node = (u64, Option<P0>);
 
 /// A compaction.
 #[derive(Clone, Copy)]
@@ -34,8 +31,8 @@ trait Compacted {
 
     fn seen(&self) -> State;
 
-    /// The number and the link of the node under a pointer.
-    fn node(&self, index: usize, generation: u64) -> Option<(u64, Option<P0>)>;
+    /// The node under a pointer.
+    fn node(&self, index: usize, generation: u64) -> Option<Node>;
 }
 
 fn told_link(p: P0) -> Told {
@@ -50,7 +47,7 @@ fn told_compaction(refusal: CompactError<P0>) -> Told {
 }
 
 // What a compaction without a reset tells of any arena.
-fn compact_any<T: Recast<P0>, A: CompactArenaTrait<P0, T>>(
+fn compact_any<A: CompactArenaTrait<P0, Node>>(
     arena: &mut A,
     alloc: Global,
     call: Compaction,
@@ -67,13 +64,7 @@ fn compact_any<T: Recast<P0>, A: CompactArenaTrait<P0, T>>(
     }
 }
 
-// The number and the link of a node.
-fn parts(node: Option<&Node<'_>>) -> Option<(u64, Option<P0>)> {
-    let node = node?;
-    Some((node.number, node.link))
-}
-
-impl Compacted for Arena<P0, Node<'_>> {
+impl Compacted for Arena<P0, Node> {
     fn compact(&mut self, alloc: Global, call: Compaction) -> Told {
         compact_any(self, alloc, call)
     }
@@ -82,12 +73,12 @@ impl Compacted for Arena<P0, Node<'_>> {
         state_of(self)
     }
 
-    fn node(&self, index: usize, generation: u64) -> Option<(u64, Option<P0>)> {
-        parts(self.get(pointer(index, generation)))
+    fn node(&self, index: usize, generation: u64) -> Option<Node> {
+        self.get(pointer(index, generation)).copied()
     }
 }
 
-impl Compacted for DirectArena<P0, Node<'_>> {
+impl Compacted for DirectArena<P0, Node> {
     fn compact(&mut self, alloc: Global, call: Compaction) -> Told {
         compact_any(self, alloc, call)
     }
@@ -96,13 +87,13 @@ impl Compacted for DirectArena<P0, Node<'_>> {
         direct_state_of(self)
     }
 
-    fn node(&self, index: usize, generation: u64) -> Option<(u64, Option<P0>)> {
-        parts(self.get(pointer(index, generation)))
+    fn node(&self, index: usize, generation: u64) -> Option<Node> {
+        self.get(pointer(index, generation)).copied()
     }
 }
 
 /// It has the renaming alone.
-impl Compacted for StrictArena<P0, Node<'_>> {
+impl Compacted for StrictArena<P0, Node> {
     fn compact(&mut self, alloc: Global, _call: Compaction) -> Told {
         match self.compress_recast(alloc) {
             Ok(_map) => Told::Done,
@@ -115,28 +106,26 @@ impl Compacted for StrictArena<P0, Node<'_>> {
         state_of(self.arena())
     }
 
-    fn node(&self, index: usize, generation: u64) -> Option<(u64, Option<P0>)> {
-        parts(self.get(pointer(index, generation)))
+    fn node(&self, index: usize, generation: u64) -> Option<Node> {
+        self.get(pointer(index, generation)).copied()
     }
 }
 
 // A compaction, and once more where memory is refused, which changes nothing. A dangling link
 // refuses it too, and changes nothing; else the third node has moved to index 2, with this
-// generation, and where links are renamed its own leads to the first, which has it too. As many
-// nodes are there as before.
+// generation, and where links are renamed its own leads to the first, which has it too.
 fn compacts<A: Compacted>(
     alloc: Global,
     arena: &mut A,
-    live: &Cell<u64>,
     call: Compaction,
     expected: Told,
     generation: u64,
 ) -> Result<End, Wrong> {
-    let (before, count) = (arena.seen(), live.get());
+    let before = arena.seen();
     let mut told = arena.compact(alloc, call);
     let mut end = End::Ample;
     if told == NO_MEMORY {
-        if arena.seen() != before || live.get() != count {
+        if arena.seen() != before {
             return Err(Wrong::State(0));
         }
         told = arena.compact(alloc, call);
@@ -153,7 +142,7 @@ fn compacts<A: Compacted>(
     } else {
         arena.seen() == before
     };
-    if stands && live.get() == count {
+    if stands {
         Ok(end)
     } else {
         Err(Wrong::State(1))
@@ -176,57 +165,58 @@ fn told_with(link: (usize, u64)) -> Told {
 }
 
 // The node of a number up to 3: the second leads to the first, and the third has this link.
-fn node_of(alloc: Global, number: u64, link: (usize, u64), live: &Cell<u64>) -> Node<'_> {
-    let link = match number {
-        1 => None,
-        2 => Some(pointer(1, 2)),
-        _ => Some(pointer(link.0, link.1)),
-    };
-    Counted::new(number, link, alloc, live)
+fn node_of(number: u64, link: (usize, u64)) -> Node {
+    match number {
+        1 => (1, None),
+        2 => (2, Some(pointer(1, 2))),
+        _ => (number, Some(pointer(link.0, link.1))),
+    }
 }
 
-// Three nodes are compacted, of which the second is removed where the third leads to an entry.
-fn on_arena(alloc: Global, call: Compaction, link: (usize, u64)) -> Result<End, Wrong> {
-    let live = Cell::new(0);
+// Three nodes, of which the second is removed where the third leads to an entry.
+fn arena(alloc: Global, link: (usize, u64)) -> Result<Arena<P0, Node>, Wrong> {
     let removed: &[usize] = if link == LINKED { &[2] } else { &[] };
-    let mut arena: Arena<P0, Node<'_>> = Arena::with_min_capacity(alloc, 3)?;
-    insert_each(&mut arena, 3, removed, |number| {
-        node_of(alloc, number, link, &live)
-    })?;
-    compacts(alloc, &mut arena, &live, call, told_with(link), 4)
+    let mut arena: Arena<P0, Node> = Arena::with_min_capacity(alloc, 3)?;
+    insert_each(&mut arena, 3, removed, |number| node_of(number, link))?;
+    Ok(arena)
 }
 
-// Two, under the indexes 1 and 3.
-fn on_direct(alloc: Global, call: Compaction, link: (usize, u64)) -> Result<End, Wrong> {
-    let live = Cell::new(0);
-    let mut arena: DirectArena<P0, Node<'_>> = DirectArena::with_min_capacity(alloc, 3)?;
+fn direct(alloc: Global, link: (usize, u64)) -> Result<DirectArena<P0, Node>, Wrong> {
+    let mut arena: DirectArena<P0, Node> = DirectArena::with_min_capacity(alloc, 3)?;
     for number in [1, 3] {
         let p: P0 = pointer(number as usize, 2);
         if !arena.can_direct_insert(p) {
             return Err(Wrong::Answer(0));
         }
-        arena.direct_insert_reserved(p, node_of(alloc, number, link, &live));
+        arena.direct_insert_reserved(p, node_of(number, link));
     }
-    compacts(alloc, &mut arena, &live, call, told_with(link), 2)
+    Ok(arena)
 }
 
-// Three, of which the second is removed.
-fn on_strict(alloc: Global, link: (usize, u64)) -> Result<End, Wrong> {
-    let live = Cell::new(0);
-    let mut arena: StrictArena<P0, Node<'_>> = StrictArena::with_min_capacity(alloc, 3)?;
+fn strict(alloc: Global, link: (usize, u64)) -> Result<StrictArena<P0, Node>, Wrong> {
+    let mut arena: StrictArena<P0, Node> = StrictArena::with_min_capacity(alloc, 3)?;
     for number in [1, 2, 3] {
-        if arena
-            .insert_within_capacity(node_of(alloc, number, link, &live))
-            .is_err()
-        {
+        if arena.insert_within_capacity(node_of(number, link)).is_err() {
             return Err(Wrong::Answer(0));
         }
     }
     if arena.remove(pointer(2, 2)).is_err() {
         return Err(Wrong::Answer(0));
     }
+    Ok(arena)
+}
+
+fn on_arena(alloc: Global, call: Compaction, link: (usize, u64)) -> Result<End, Wrong> {
+    compacts(alloc, &mut arena(alloc, link)?, call, told_with(link), 4)
+}
+
+fn on_direct(alloc: Global, call: Compaction, link: (usize, u64)) -> Result<End, Wrong> {
+    compacts(alloc, &mut direct(alloc, link)?, call, told_with(link), 2)
+}
+
+fn on_strict(alloc: Global, link: (usize, u64)) -> Result<End, Wrong> {
     let call = Compaction::Renamed;
-    compacts(alloc, &mut arena, &live, call, told_with(link), 4)
+    compacts(alloc, &mut strict(alloc, link)?, call, told_with(link), 4)
 }
 
 pub fn try_each(alloc: Global, report: &mut Report) {

@@ -7,9 +7,7 @@ ghost use Rattle.triple_arena_base.specs.HeldLaws.{option_held_refill, option_re
 use crate::costly::ask;
 use std::alloc::{AllocError, Global};
 use std::cell::Cell;
-use triple_arena_base::{InvalidationOption, Recast, Recaster};
-use triple_arena_ptr::Ptr;
-use triple_arena_trait_kit::{Numbered, Shown};
+use triple_arena_base::{Recast, Recaster};
 
 /// A number and a link. Its clone makes a request for memory.
 pub struct Counted<'a, P: Copy> {
@@ -81,17 +79,4 @@ impl<I, P: Recast<I> + Copy> Recast<I> for Counted<'_, P> {
 
     ghost refill_refill = { λ it l m h k. ap (λ link. record it { link = link })
         (option_refill_refill P.held P.refill P.refill_refill it.link l m h k) };
-}
-
-impl<P: Ptr> Shown for Counted<'_, P>
-where
-    P::Gen: Numbered,
-{
-    fn shown(&self) -> u64 {
-        (self.number, self.link).shown()
-    }
-
-    fn received(taken: InvalidationOption<Self>) -> Self {
-        taken.allow()
-    }
 }

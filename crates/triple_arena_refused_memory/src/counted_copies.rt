@@ -1,12 +1,14 @@
-//! Clones, transfers and pushes of values that are counted: as many are there as the arenas and the
-//! stack hold, also where memory is refused.
+//! Clones, transfers, compactions and pushes of values that are counted: as many are there as the arenas
+//! and the stack hold, also where memory is refused.
 
 use crate::counted::Counted;
 use crate::report::{End, Report};
 use std::alloc::Global;
 use std::cell::Cell;
 use triple_arena::{Arena, ArenaCloneFromWith, ArenaInsertTrait, ArenaTrait, CompactArenaTrait};
+use triple_arena_base::CompactError;
 use triple_arena_ptr::{P0, Ptr, PtrGen};
+use triple_arena_renaming::compress_recast;
 use triple_arena_stack::{HeapStack, NonZeroInxGenericStack, NonZeroInxStack};
 use triple_arena_trait_kit::Wrong;
 
@@ -14,6 +16,7 @@ type Value<'a> = Counted<'a, P0>;
 
 type Values<'a> = Arena<P0, Value<'a>>;
 
+// A value without a link.
 fn value(alloc: Global, live: &Cell<u64>) -> Value<'_> {
     Counted::new(7, None, alloc, live)
 }
@@ -72,7 +75,9 @@ fn clone_from(alloc: Global) -> Result<End, Wrong> {
     Ok(end)
 }
 
-fn go_over<'a>(target: &mut Values<'a>, source: &mut Values<'a>) -> bool {
+// Whether the values of an arena go over to another. It is of any values: a closure whose values have a
+// lifetime isn't covered here.
+fn go_over<T: Drop>(target: &mut Arena<P0, T>, source: &mut Arena<P0, T>) -> bool {
     let generation = <P0 as Ptr>::Gen::two();
     let answer = target.transfer_reallocating(
         generation,
@@ -97,6 +102,27 @@ fn transfer(alloc: Global) -> Result<End, Wrong> {
     }
     are_there(&live, 3)?;
     Ok(end)
+}
+
+// A compaction lets no value go, where a link leads to no entry and where none is there.
+fn compact(alloc: Global, link: Option<P0>) -> Result<End, Wrong> {
+    let live = Cell::new(0);
+    let mut arena = Values::with_min_capacity(alloc, 1)?;
+    let linked = Counted::new(7, link, alloc, &live);
+    if arena.insert_within_capacity(linked).is_err() {
+        return Err(Wrong::Answer(0));
+    }
+    let (mut told, mut end) = (compress_recast(&mut arena, alloc, false), End::Ample);
+    if matches!(told, Err(CompactError::Reallocation(_))) {
+        are_there(&live, 1)?;
+        (told, end) = (compress_recast(&mut arena, alloc, false), End::Refused);
+    }
+    are_there(&live, 1)?;
+    if told.is_ok() == link.is_none() {
+        Ok(end)
+    } else {
+        Err(Wrong::Answer(1))
+    }
 }
 
 // An item that a full stack refuses for want of memory is let go.
@@ -124,5 +150,8 @@ pub fn try_each(alloc: Global, report: &mut Report) {
     report.note("clone", arena, clone(alloc));
     report.note("clone_from", arena, clone_from(alloc));
     report.note("transfer_reallocating", arena, transfer(alloc));
+    report.note("compress_recast", arena, compact(alloc, None));
+    let dangling = compact(alloc, Some(P0::invalid()));
+    report.note("compress_recast with a dangling link", arena, dangling);
     report.note("push", stack, push(alloc));
 }

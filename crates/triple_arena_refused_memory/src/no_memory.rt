@@ -354,52 +354,41 @@ fn session<T: Asked + Drop>(made: Result<T, AllocError>) -> Result<End, Wrong> {
     Ok(End::Ample)
 }
 
-fn session_on<S: NonZeroInxGenericStack<Slot> + Drop>(alloc: Global) -> Result<End, Wrong> {
-    session(Session::<P0, u64, S>::with_min_capacity(alloc, 8))
-}
-
-fn strict_session_on<S: NonZeroInxGenericStack<Slot> + Drop>(alloc: Global) -> Result<End, Wrong> {
-    session(StrictSession::<P0, u64, S>::with_min_capacity(alloc, 8))
-}
-
-// Sessions of five names over each stack.
+// Sessions of five names, made with room for eight, over each stack.
 fn each_session(alloc: Global, report: &mut Report) {
     let call = "no call";
-    report.note(call, "a session of five names", session_on::<OnHeap>(alloc));
-    report.note(
-        call,
-        "a limited session of five names",
-        session_on::<LimitedSlots>(alloc),
-    );
-    report.note(
-        call,
-        "a session of five names of fixed room",
-        session_on::<FixedSlots>(alloc),
-    );
-    report.note(
-        call,
-        "a session of five names in an array",
-        session_on::<SlotsInArray>(alloc),
-    );
-    report.note(
-        call,
-        "a strict session of five names",
-        strict_session_on::<OnHeap>(alloc),
-    );
+    let made = Session::<P0, u64, OnHeap>::with_min_capacity(alloc, 8);
+    report.note(call, "a session of five names", session(made));
+    let made = Session::<P0, u64, LimitedSlots>::with_min_capacity(alloc, 8);
+    report.note(call, "a limited session of five names", session(made));
+    let made = Session::<P0, u64, FixedSlots>::with_min_capacity(alloc, 8);
+    report.note(call, "a session of five names of fixed room", session(made));
+    let made = Session::<P0, u64, SlotsInArray>::with_min_capacity(alloc, 8);
+    report.note(call, "a session of five names in an array", session(made));
+}
+
+// The same of strict ones.
+fn each_strict_session(alloc: Global, report: &mut Report) {
+    let call = "no call";
+    let made = StrictSession::<P0, u64, OnHeap>::with_min_capacity(alloc, 8);
+    report.note(call, "a strict session of five names", session(made));
+    let made = StrictSession::<P0, u64, LimitedSlots>::with_min_capacity(alloc, 8);
     report.note(
         call,
         "a limited strict session of five names",
-        strict_session_on::<LimitedSlots>(alloc),
+        session(made),
     );
+    let made = StrictSession::<P0, u64, FixedSlots>::with_min_capacity(alloc, 8);
     report.note(
         call,
         "a strict session of five names of fixed room",
-        strict_session_on::<FixedSlots>(alloc),
+        session(made),
     );
+    let made = StrictSession::<P0, u64, SlotsInArray>::with_min_capacity(alloc, 8);
     report.note(
         call,
         "a strict session of five names in an array",
-        strict_session_on::<SlotsInArray>(alloc),
+        session(made),
     );
 }
 
@@ -477,4 +466,5 @@ pub fn try_each(alloc: Global, report: &mut Report) {
     );
     report.note(call, "a compaction", compactions(alloc));
     each_session(alloc, report);
+    each_strict_session(alloc, report);
 }

@@ -152,32 +152,30 @@ fn compacts<A: Compacted>(
 // The link of the last of three nodes: to the first, or to no entry.
 const LINKED: (usize, u64) = (1, 2);
 
-// The invalid pointer.
-const DANGLING: (usize, u64) = (usize::MAX, 1);
+const DANGLING: (usize, u64) = (9, 9);
 
 // What a compaction tells of a node with this link.
 fn told_with(link: (usize, u64)) -> Told {
     if link == LINKED {
         Told::Done
     } else {
-        Told::At(DANGLING.0, DANGLING.1)
+        Told::At(9, 9)
     }
 }
 
-// The node of a number up to 3: the second leads to the first, and the third has this link.
+// The node of a number up to 3: the third has this link.
 fn node_of(number: u64, link: (usize, u64)) -> Node {
-    match number {
-        1 => (1, None),
-        2 => (2, Some(pointer(1, 2))),
-        _ => (number, Some(pointer(link.0, link.1))),
+    if number == 3 {
+        (3, Some(pointer(link.0, link.1)))
+    } else {
+        (number, None)
     }
 }
 
-// Three nodes, of which the second is removed where the third leads to an entry.
+// Three nodes, of which the second is removed.
 fn arena(alloc: Global, link: (usize, u64)) -> Result<Arena<P0, Node>, Wrong> {
-    let removed: &[usize] = if link == LINKED { &[2] } else { &[] };
     let mut arena: Arena<P0, Node> = Arena::with_min_capacity(alloc, 3)?;
-    insert_each(&mut arena, 3, removed, |number| node_of(number, link))?;
+    insert_each(&mut arena, 3, &[2], |number| node_of(number, link))?;
     Ok(arena)
 }
 

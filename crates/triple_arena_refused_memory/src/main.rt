@@ -15,8 +15,6 @@ mod asking;
 mod compactions;
 mod copies;
 mod costly;
-mod counted;
-mod counted_copies;
 mod no_memory;
 mod report;
 mod runs;
@@ -41,7 +39,6 @@ fn try_calls(alloc: Global, word: &str, report: &mut Report) {
         "stacks" => stacks::try_each(alloc, report),
         "arenas" => arenas::try_each(alloc, report),
         "copies" => copies::try_each(alloc, report),
-        "counted" => counted_copies::try_each(alloc, report),
         "compactions" => compactions::try_each(alloc, report),
         "sessions" => sessions::try_each(alloc, report),
         "runs" => runs::try_each(alloc, report),
@@ -49,11 +46,10 @@ fn try_calls(alloc: Global, word: &str, report: &mut Report) {
     }
 }
 
-const WORDS: [&str; 8] = [
+const WORDS: [&str; 7] = [
     "stacks",
     "arenas",
     "copies",
-    "counted",
     "compactions",
     "sessions",
     "runs",

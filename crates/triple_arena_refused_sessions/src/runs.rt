@@ -1,11 +1,12 @@
 //! Runs of commands and of texts: they are refused as a whole, before anything has run, or one
 //! command is.
 
-use crate::report::{End, Report};
 use crate::sessions::{Asked, View, seen};
 use std::alloc::Global;
-use std::io::Cursor;
+use std::io;
+use std::io::{Cursor, Read};
 use triple_arena_ptr::P0;
+use triple_arena_refused_kit::{End, Report};
 use triple_arena_session::{Command, Reply, Session, StrictSession, TextError};
 use triple_arena_trait_kit::{SLOTS, Wrong};
 
@@ -53,15 +54,12 @@ fn has_run<T: Asked>(session: &mut T, before: &View, replies: &[Reply<u64>]) -> 
         }
     }
     let len = given.saturating_sub(1);
-    let left = View {
-        names,
-        extent: (len, 8, 3),
-        free: [0; SLOTS],
-    };
+    let left = seen(session);
+    let is_left = left.names == names && left.extent == (len, 8, 3) && left.free == [0; SLOTS];
     let is_counted = replies.len() == 5 && replies.get(4) == Some(&Reply::Count(len));
     match given {
-        7 if is_counted && seen(session) == left => Ok(End::Ample),
-        6 if is_counted && seen(session) == left => Ok(End::Refused),
+        7 if is_counted && is_left => Ok(End::Ample),
+        6 if is_counted && is_left => Ok(End::Refused),
         _ => Err(Wrong::State(given)),
     }
 }
@@ -84,11 +82,24 @@ fn runs_commands<T: Asked>(session: &mut T) -> Result<End, Wrong> {
     }
 }
 
+/// Gives a text in pieces, so that room for it is asked for more than once.
+#[derive(Drop)]
+struct Pieces {
+    rest: &'static [u8],
+}
+
+impl Read for Pieces {
+    fn read(&mut self, buf: &mut [u8]) -> io::Result<usize> {
+        let size = buf.len().min(5);
+        self.rest.read(&mut buf[..size])
+    }
+}
+
 /// A text, and the lines of its replies, of which one may tell that memory was refused.
 #[derive(Drop)]
 struct Text {
     name: &'static str,
-    // Whether a command of it asks for memory.
+    // Whether a command of it asks for memory; then none gives a name, ends one or writes under one.
     takes_memory: bool,
     text: &'static [u8],
     lines: &'static [u8],
@@ -144,7 +155,7 @@ enum Ended {
 impl Text {
     // How it ends in a session.
     fn ends_in<T: Asked>(&self, alloc: Global, session: &mut T) -> Ended {
-        let mut input = self.text;
+        let mut input = Pieces { rest: self.text };
         let mut output = Cursor::new([0u8; 256]);
         let outcome = session.runs(alloc, &mut input, &mut output);
         let size = (output.position() as usize).min(256);
@@ -164,7 +175,9 @@ impl Text {
         let before = seen(session);
         match self.ends_in(alloc, session) {
             Ended::Whole(0) => return Ok(End::Ample),
-            Ended::Whole(1) if self.takes_memory => return Ok(End::Refused),
+            Ended::Whole(1) if self.takes_memory && seen(session).names == before.names => {
+                return Ok(End::Refused);
+            }
             Ended::Unwritten if seen(session) == before => {}
             _ => return Err(Wrong::Text(self.name)),
         }

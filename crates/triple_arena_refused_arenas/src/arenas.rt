@@ -3,11 +3,11 @@
 use crate::asking::{
     ALL_INSERTIONS, INSERTIONS, each_growth, reallocates, reallocates_direct, worked,
 };
-use crate::report::{End, Report};
 use crate::strict::Strict;
 use std::alloc::Global;
 use triple_arena_direct_kit::{Direct, Heap as DirectHeap, with_room as direct_with_room};
 use triple_arena_ptr::P0;
+use triple_arena_refused_kit::{End, Report};
 use triple_arena_test_kit::{Heap, Limited, Tested, WithLimit, with_room};
 use triple_arena_trait_kit::{Call, Told, Wrong, step};
 

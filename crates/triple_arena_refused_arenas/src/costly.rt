@@ -2,13 +2,8 @@
 
 use std::alloc::{AllocError, Global};
 use triple_arena_base::InvalidationOption;
+use triple_arena_refused_kit::ask;
 use triple_arena_trait_kit::Shown;
-
-/// Makes a request for memory, and gives it back.
-pub fn ask(alloc: Global) -> Result<(), AllocError> {
-    let _given: Vec<u8> = Vec::with_capacity(alloc, 1)?;
-    Ok(())
-}
 
 /// A number. Its clone makes a request for memory.
 #[derive(Drop)]

@@ -1,19 +1,22 @@
-//! Calls that take no memory: whichever request is refused, none of them is.
+//! Calls of stacks and arenas that take no memory: whichever request is refused, none of them is.
 
 use crate::asking::insert_each;
-use crate::report::{End, Report};
-use crate::sessions::{Asked, answers};
 use crate::strict::Strict;
 use std::alloc::Global;
+use std::mem;
 use triple_arena::{Arena, ArenaCloneFromWith, ArenaSlot, ArenaTrait, CompactArenaTrait};
-use triple_arena_direct::DirectArena;
-use triple_arena_direct_kit::{Direct, Heap as DirectHeap, with_room as direct_with_room};
+use triple_arena_base::Recast;
+use triple_arena_direct::{DirectArena, DirectSlot};
+use triple_arena_direct_kit::{
+    Direct, DirectWithLimit, Fixed as DirectFixed, Heap as DirectHeap, InArray,
+    Limited as DirectLimited, with_room as direct_with_room,
+};
 use triple_arena_ptr::{P0, Ptr, PtrGen};
+use triple_arena_refused_kit::{End, Report};
 use triple_arena_renaming::{compress_recast, compress_recaster};
-use triple_arena_session::{Command, Reply, Session, StrictSession};
 use triple_arena_stack::{
-    ArrayStack, FixedStack, HeapStack, LimitedStack, NonZeroInxGenericStack, NonZeroInxStack,
-    SetMaxCapacity,
+    ArrayStack, FixedStack, HeapStack, LimitedStack, NonZeroInxArray, NonZeroInxBoxedSlice,
+    NonZeroInxGenericStack, NonZeroInxStack, NonZeroInxVec, SetMaxCapacity,
 };
 use triple_arena_strict::StrictArena;
 use triple_arena_test_kit::{Fixed, Heap, Limited, Places, WithLimit, with_room};
@@ -39,6 +42,10 @@ fn stack<K: NonZeroInxGenericStack<u64>>(
     holds(4, stack.entry_push_reallocating().is_ok())?;
     holds(5, stack.entry_push_within_capacity().is_ok())?;
     holds(6, stack.reallocate_min_capacity(8).is_ok())?;
+    let exchanged = stack.with_disjoint_mut(inx(1), inx(3), |a, b| mem::swap(a, b));
+    holds(12, exchanged.is_ok())?;
+    let exchanged = stack.with_disjoint_mut(inx(1), inx(3), |a, b| mem::swap(a, b));
+    holds(13, exchanged.is_ok())?;
     if stack.len() < stack.capacity() {
         let _pushed = stack.push_reserved(4);
     }
@@ -74,7 +81,29 @@ const OF_ARENAS: &[(Call, Told)] = &[
     (Call::Get(2, 2), Told::Holds(2)),
     (Call::GetMut(2, 2), Told::Holds(2)),
     (Call::GetInx(1), Told::Held(3, 1)),
+    (Call::GetInxMut(1), Told::Holds(1)),
+    (Call::GetInxUnwrap(1), Told::Holds(1)),
+    (Call::WriteInxUnwrap(1, 1), Told::Holds(1)),
+    (Call::Index(2, 2), Told::Holds(2)),
+    (Call::WriteIndex(2, 2, 2), Told::Holds(2)),
     (Call::Contains(3, 2), Told::Is(false)),
+    (
+        Call::StepsFrom(7, true),
+        Told::MetPointers((7, 2), (6, 2), (4, 2)),
+    ),
+    (
+        Call::AddToEach(0),
+        Told::Met((1, 3, 1), (2, 2, 2), (4, 2, 4)),
+    ),
+    (
+        Call::AddToEachEntry(0),
+        Told::Met((1, 3, 1), (2, 2, 2), (4, 2, 4)),
+    ),
+    (Call::AddToEachValue(0), Told::MetValues(1, 2, 4)),
+    (Call::SwapInx(2, 4), Told::Done),
+    (Call::LendInx(2, 4, 2), Told::BothHeld(2, 4, 2, 2)),
+    (Call::SwapInx(2, 4), Told::Done),
+    (Call::WriteInx(4, 4), Told::Holds(4)),
     (Call::First, Told::At(1, 3)),
     (Call::Last, Told::At(7, 2)),
     (Call::Values, Told::MetValues(1, 2, 4)),
@@ -141,17 +170,52 @@ const OF_DIRECT_ARENAS: &[(Call, Told)] = &[
     (Call::GetMut(3, 2), Told::Holds(3)),
     (Call::Contains(3, 1), Told::Is(false)),
     (Call::Values, Told::MetValues(3, 5, 8)),
+    (Call::Entries, Told::Met((3, 2, 3), (5, 9, 5), (8, 1, 8))),
+    (Call::Pointers, Told::MetPointers((3, 2), (5, 9), (8, 1))),
+    (
+        Call::StepsFrom(8, true),
+        Told::MetPointers((8, 1), (5, 9), (3, 2)),
+    ),
+    (Call::AddToEach(0), Told::Done),
+    (Call::AddToEachEntry(0), Told::Done),
+    (Call::AddToEachValue(0), Told::Done),
+    (Call::Index(3, 2), Told::Holds(3)),
+    (Call::GetInxUnwrap(3), Told::Holds(3)),
     (Call::Remove(8, 1), Told::Holds(8)),
     (Call::PopFreeEnd(1), Told::Size(1)),
     (Call::Invalidate(3, 2), Told::At(3, 2)),
     (Call::Swap((3, 2), (5, 9)), Told::Done),
+    (Call::RemoveInx(5), Told::Held(9, 3)),
+    (Call::CompressTelling(false), Told::Done),
     (Call::Compress(true), Told::Done),
     (Call::Clear, Told::Done),
+    (Call::DirectInsert(2, 3, 2), Told::Holds(2)),
+    (
+        Call::Drain(1),
+        Told::Drained((2, 3, 2, false), NOT_DRAINED, NOT_DRAINED),
+    ),
 ];
 
-fn direct(alloc: Global) -> Result<End, Wrong> {
-    let mut arena: Direct<P0, DirectHeap<P0>> = direct_with_room(alloc, 8)?;
+fn direct_on<S: NonZeroInxGenericStack<DirectSlot<P0, Token>> + Drop>(
+    alloc: Global,
+) -> Result<End, Wrong> {
+    let mut arena: Direct<P0, S> = direct_with_room(alloc, 8)?;
     follow(&mut arena, OF_DIRECT_ARENAS)?;
+    Ok(End::Ample)
+}
+
+// Limits of one with an entry at its second index.
+const DIRECT_LIMITS: &[(Call, Told)] = &[
+    (Call::DirectInsert(2, 1, 2), Told::Holds(2)),
+    (Call::SetLimit(1), Told::LimitRefused),
+    (Call::SetLimit(2), Told::Done),
+    (Call::SetLimit(9), Told::Done),
+    (Call::Bounds, Told::Bounds(1, 8, Some(9))),
+];
+
+fn limited_direct(alloc: Global) -> Result<End, Wrong> {
+    let direct: Direct<P0, DirectLimited<P0>> = direct_with_room(alloc, 8)?;
+    follow(&mut DirectWithLimit { direct }, DIRECT_LIMITS)?;
     Ok(End::Ample)
 }
 
@@ -174,10 +238,23 @@ fn clones_into<A: ArenaCloneFromWith<P0, u64>>(
     holds(2, mapped.is_ok())
 }
 
-// Copies into arenas that have the room.
-fn copies(alloc: Global) -> Result<End, Wrong> {
+// A loop that takes an arena, and lets go what it has not taken out.
+fn loops(alloc: Global) -> Result<End, Wrong> {
+    let mut sum = 0u64;
+    for (_p, number) in numbers(alloc)? {
+        sum = sum.wrapping_add(number);
+    }
+    holds(0, sum == 9)?;
+    Ok(End::Ample)
+}
+
+// Copies into arenas that have the room, one of them over this stack.
+fn copies_on<S: NonZeroInxGenericStack<ArenaSlot<P0, u64>> + Drop>(
+    alloc: Global,
+) -> Result<End, Wrong> {
     let mut source = numbers(alloc)?;
-    let mut target = numbers(alloc)?;
+    let mut target: Arena<P0, u64, S> = Arena::with_min_capacity(alloc, 8)?;
+    insert_each(&mut target, 5, &[2, 4], |number| number)?;
     let mut direct: DirectArena<P0, u64> = DirectArena::with_min_capacity(alloc, 8)?;
     clones_into(&mut target, &source)?;
     clones_into(&mut direct, &source)?;
@@ -209,6 +286,9 @@ fn compactions(alloc: Global) -> Result<End, Wrong> {
     holds(2, compress_recast(&mut direct, alloc, false).is_ok())?;
     holds(3, compress_recaster(&mut direct, alloc, false).is_ok())?;
     holds(4, strict.compress_recast(alloc).is_ok())?;
+    let map: DirectArena<P0, P0> = DirectArena::new(alloc);
+    holds(5, arena.recast(&map).is_ok())?;
+    holds(6, direct.recast(&map).is_ok())?;
     Ok(End::Ample)
 }
 
@@ -218,57 +298,23 @@ const OF_STRICT_ARENAS: &[(Call, Told)] = &[
     (Call::Insert(2), Told::At(2, 2)),
     (Call::InsertReallocating(3), Told::At(3, 2)),
     (Call::Reallocate(8), Told::Done),
+    (Call::Get(3, 2), Told::Holds(3)),
+    (Call::GetMut(3, 2), Told::Holds(3)),
     (Call::Invalidate(3, 2), Told::At(3, 3)),
     (Call::Remove(1, 2), Told::Holds(1)),
     (Call::Insert(4), Told::At(1, 4)),
     (Call::Compress(false), Told::Done),
+    (Call::CompressTelling(false), Told::Done),
     (Call::Clear, Told::Done),
-    (Call::Insert(5), Told::At(1, 6)),
+    (Call::Insert(5), Told::At(1, 7)),
 ];
 
-fn strict(alloc: Global) -> Result<End, Wrong> {
-    let mut arena = Strict::<Heap<P0>>::with_room(alloc, 8)?;
+fn strict_on<S: NonZeroInxGenericStack<ArenaSlot<P0, Token>> + Drop>(
+    alloc: Global,
+) -> Result<End, Wrong> {
+    let mut arena = Strict::<S>::with_room(alloc, 8)?;
     follow(&mut arena, OF_STRICT_ARENAS)?;
     Ok(End::Ample)
-}
-
-// Lines, and the texts of their replies, of a session of five names that has room for eight.
-const OF_SESSIONS: &[(&str, &str)] = &[
-    ("get 1", "found 1 -"),
-    ("set 1 7 2", "done"),
-    ("insert 8 1", "given 6"),
-    ("within 8 1", "given 7"),
-    ("invalidate 1", "given 8"),
-    ("remove 8", "removed 7 2"),
-    ("len", "count 6"),
-    ("capacity", "count 8"),
-    ("reserve 8", "done"),
-    ("clear", "cleared"),
-    ("compact", "compacted"),
-];
-
-fn session<T: Asked>(session: &mut T) -> Result<End, Wrong> {
-    for _ in 0..5 {
-        if session.answer(Command::Insert(1, None)) == Reply::NoMemory {
-            return Err(Wrong::NoMemory);
-        }
-    }
-    for (line, text) in OF_SESSIONS {
-        if answers(session, *line, *text)? == End::Refused {
-            return Err(Wrong::Text(*line));
-        }
-    }
-    Ok(End::Ample)
-}
-
-fn general_session(alloc: Global) -> Result<End, Wrong> {
-    let mut new: Session<P0, u64> = Session::with_new_arena(alloc);
-    session(&mut new)
-}
-
-fn strict_session(alloc: Global) -> Result<End, Wrong> {
-    let mut new: StrictSession<P0, u64> = StrictSession::with_new_arena(alloc);
-    session(&mut new)
 }
 
 pub fn try_each(alloc: Global, report: &mut Report) {
@@ -294,14 +340,54 @@ pub fn try_each(alloc: Global, report: &mut Report) {
         arena_on::<Places<P0, 8>>(alloc),
     );
     report.note(call, "a limit", limited::<Limited<P0>>(alloc));
-    report.note(call, "a direct arena", direct(alloc));
-    report.note(call, "a strict arena", strict(alloc));
-    report.note(call, "a copy", copies(alloc));
-    report.note(call, "a compaction", compactions(alloc));
-    report.note(call, "a session of five names", general_session(alloc));
+    report.note(call, "a direct arena", direct_on::<DirectHeap<P0>>(alloc));
     report.note(
         call,
-        "a strict session of five names",
-        strict_session(alloc),
+        "a limited direct arena",
+        direct_on::<DirectLimited<P0>>(alloc),
     );
+    report.note(
+        call,
+        "a direct arena of fixed room",
+        direct_on::<DirectFixed<P0>>(alloc),
+    );
+    report.note(
+        call,
+        "a direct arena in an array",
+        direct_on::<InArray<P0, 8>>(alloc),
+    );
+    report.note(call, "a limit of a direct arena", limited_direct(alloc));
+    report.note(call, "a strict arena", strict_on::<Heap<P0>>(alloc));
+    report.note(
+        call,
+        "a limited strict arena",
+        strict_on::<Limited<P0>>(alloc),
+    );
+    report.note(
+        call,
+        "a strict arena of fixed room",
+        strict_on::<Fixed<P0>>(alloc),
+    );
+    report.note(
+        call,
+        "a strict arena in an array",
+        strict_on::<Places<P0, 8>>(alloc),
+    );
+    report.note(call, "a loop", loops(alloc));
+    report.note(
+        call,
+        "a copy",
+        copies_on::<NonZeroInxVec<ArenaSlot<P0, u64>>>(alloc),
+    );
+    report.note(
+        call,
+        "a copy of fixed room",
+        copies_on::<NonZeroInxBoxedSlice<ArenaSlot<P0, u64>>>(alloc),
+    );
+    report.note(
+        call,
+        "a copy in an array",
+        copies_on::<NonZeroInxArray<ArenaSlot<P0, u64>, 8>>(alloc),
+    );
+    report.note(call, "a compaction", compactions(alloc));
 }

@@ -1,13 +1,13 @@
 //! Compactions that make a map: memory for it is asked for before any link is looked at.
 
 use crate::asking::{NO_MEMORY, insert_each};
-use crate::report::{End, Report};
 use std::alloc::Global;
 use triple_arena::{Arena, ArenaDirectInsertTrait, ArenaTrait, CompactArenaTrait};
 use triple_arena_base::CompactError;
 use triple_arena_direct::DirectArena;
 use triple_arena_direct_kit::direct_state_of;
 use triple_arena_ptr::{P0, Ptr};
+use triple_arena_refused_kit::{End, Report};
 use triple_arena_renaming::{compress_recast, compress_recaster};
 use triple_arena_strict::{StrictArena, StrictCompactError};
 use triple_arena_test_kit::state_of;
@@ -152,30 +152,32 @@ fn compacts<A: Compacted>(
 // The link of the last of three nodes: to the first, or to no entry.
 const LINKED: (usize, u64) = (1, 2);
 
-const DANGLING: (usize, u64) = (9, 9);
+// The invalid pointer.
+const DANGLING: (usize, u64) = (usize::MAX, 1);
 
 // What a compaction tells of a node with this link.
 fn told_with(link: (usize, u64)) -> Told {
     if link == LINKED {
         Told::Done
     } else {
-        Told::At(9, 9)
+        Told::At(DANGLING.0, DANGLING.1)
     }
 }
 
-// The node of a number up to 3: the third has this link.
+// The node of a number up to 3: the second leads to the first, and the third has this link.
 fn node_of(number: u64, link: (usize, u64)) -> Node {
-    if number == 3 {
-        (3, Some(pointer(link.0, link.1)))
-    } else {
-        (number, None)
+    match number {
+        1 => (1, None),
+        2 => (2, Some(pointer(1, 2))),
+        _ => (number, Some(pointer(link.0, link.1))),
     }
 }
 
-// Three nodes, of which the second is removed.
+// Three nodes, of which the second is removed where the third leads to an entry.
 fn arena(alloc: Global, link: (usize, u64)) -> Result<Arena<P0, Node>, Wrong> {
+    let removed: &[usize] = if link == LINKED { &[2] } else { &[] };
     let mut arena: Arena<P0, Node> = Arena::with_min_capacity(alloc, 3)?;
-    insert_each(&mut arena, 3, &[2], |number| node_of(number, link))?;
+    insert_each(&mut arena, 3, removed, |number| node_of(number, link))?;
     Ok(arena)
 }
 

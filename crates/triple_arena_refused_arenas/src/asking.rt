@@ -1,8 +1,8 @@
 //! Calls of an arena that ask for memory, and what is left where it is refused.
 
-use crate::report::{End, Report};
 use triple_arena_base::ReallocationError;
 use triple_arena_ptr::P0;
+use triple_arena_refused_kit::{End, Report};
 use triple_arena_trait_kit::{
     Call, State, TestedArena, Told, Wrong, follow, has_state, inx, is_told, step,
 };
@@ -170,16 +170,18 @@ pub fn reallocates_direct<A: TestedArena>(arena: &mut A) -> Result<End, Wrong> {
 
 /// Of five entries the first and then the third are removed, and a reallocation is refused: the
 /// capacity is still 8, and the free list is in order, so that the next insertion takes the first
-/// index.
+/// index. All else is as it was.
 pub fn worked<A: TestedArena>(arena: &mut A) -> Result<End, Wrong> {
     fill(arena, 5, &[1, 3])?;
     step(arena, Call::Root, Told::Size(3))?;
+    let left = tidied(arena.state());
     let told = arena.answer(Call::Reallocate(100));
     let (capacity, end) = match told {
         Told::Done => (100, End::Ample),
         NO_MEMORY => (8, End::Refused),
         _ => return Err(Wrong::Answer(1)),
     };
+    has_state(arena, 1, &State { capacity, ..left })?;
     step(arena, Call::Bounds, Told::Bounds(3, capacity, None))?;
     step(arena, Call::Root, Told::Size(1))?;
     step(arena, Call::Insert(6), Told::At(1, 4))?;

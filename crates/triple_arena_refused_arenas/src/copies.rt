@@ -1,8 +1,7 @@
 //! Clones, whose values ask for memory too, and transfers.
 
 use crate::asking::{insert_each, tidied};
-use crate::costly::{Costly, ask};
-use crate::report::{End, Report};
+use crate::costly::Costly;
 use std::alloc;
 use std::alloc::Global;
 use triple_arena::{
@@ -12,6 +11,7 @@ use triple_arena_base::{AllocError, CloneFromError, ReallocationError};
 use triple_arena_direct::DirectArena;
 use triple_arena_direct_kit::direct_state_of;
 use triple_arena_ptr::{P0, Ptr, PtrGen};
+use triple_arena_refused_kit::{End, Report, ask};
 use triple_arena_test_kit::state_of;
 use triple_arena_trait_kit::{Numbered, SLOTS, State, Wrong, inx, pointer};
 

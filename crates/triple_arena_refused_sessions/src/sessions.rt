@@ -1,21 +1,29 @@
 //! Sessions: each command that may be refused memory.
 
-use crate::report::{End, Report};
 use arrayvec::ArrayString;
 use std::alloc::Global;
 use std::fmt::Write as _;
 use std::io::{Read, Write};
 use triple_arena::{Arena, ArenaSlot, ArenaTrait};
 use triple_arena_ptr::{P0, Ptr};
+use triple_arena_refused_kit::{End, Report};
 use triple_arena_session::{
-    Command, Node, Reply, Session, StrictSession, TextError, parse_command, run_text,
+    BeginsOver, Command, Node, Reply, Session, StrictSession, TextError, parse_command, run_text,
     run_text_strict,
 };
-use triple_arena_stack::{NonZeroInxArray, NonZeroInxGenericStack};
+use triple_arena_stack::{
+    NonZeroInxArray, NonZeroInxBoxedSlice, NonZeroInxGenericStack, NonZeroInxLimitedVec,
+};
 use triple_arena_test_kit::free_of;
-use triple_arena_trait_kit::{SLOTS, Wrong, index_number};
+use triple_arena_trait_kit::{SLOTS, Wrong, index_number, inx};
 
-type Slot = ArenaSlot<P0, Node<u64, P0>>;
+pub type Slot = ArenaSlot<P0, Node<u64, P0>>;
+
+pub type Limited = NonZeroInxLimitedVec<Slot>;
+
+pub type Fixed = NonZeroInxBoxedSlice<Slot>;
+
+pub type InArray = NonZeroInxArray<Slot, 8>;
 
 /// The arena of a session.
 type Entries<S> = Arena<P0, Node<u64, P0>, S>;
@@ -47,7 +55,14 @@ pub trait Asked {
 
     /// The index of the last entry, and 0 where there is none.
     fn last_index(&self) -> usize;
+
+    /// The limit, how many slots there are, and by index the generations and the numbers of the first
+    /// entries.
+    fn layout(&self) -> Layout;
 }
+
+/// The limit, how many slots there are, and by index the generations and the numbers of the first entries.
+type Layout = (Option<usize>, usize, [Option<(u64, u64)>; 13]);
 
 impl<S: NonZeroInxGenericStack<Slot>> Asked for Session<P0, u64, S> {
     fn answer(&mut self, command: Command<u64>) -> Reply<u64> {
@@ -77,6 +92,10 @@ impl<S: NonZeroInxGenericStack<Slot>> Asked for Session<P0, u64, S> {
 
     fn last_index(&self) -> usize {
         last_index_of(self.arena())
+    }
+
+    fn layout(&self) -> Layout {
+        layout_of(self.arena())
     }
 }
 
@@ -109,6 +128,10 @@ impl<S: NonZeroInxGenericStack<Slot>> Asked for StrictSession<P0, u64, S> {
     fn last_index(&self) -> usize {
         last_index_of(self.arena().arena())
     }
+
+    fn layout(&self) -> Layout {
+        layout_of(self.arena().arena())
+    }
 }
 
 fn extent_of<S: NonZeroInxGenericStack<Slot>>(arena: &Entries<S>) -> (usize, usize, u64) {
@@ -122,12 +145,27 @@ fn last_index_of<S: NonZeroInxGenericStack<Slot>>(arena: &Entries<S>) -> usize {
     }
 }
 
+fn layout_of<S: NonZeroInxGenericStack<Slot>>(arena: &Entries<S>) -> Layout {
+    let mut entries = [None; 13];
+    for index in 1..13 {
+        if let Some((generation, node)) = arena.get_inx(inx(index)) {
+            entries[index] = Some((generation.get(), node.datum));
+        }
+    }
+    (
+        arena.max_capacity(),
+        arena.backing().as_slice().len(),
+        entries,
+    )
+}
+
 /// All that a session of at most twelve names shows of itself.
 #[derive(Clone, Copy, PartialEq)]
 pub struct View {
     pub names: [Row; 13],
     pub extent: (usize, usize, u64),
     pub free: [usize; SLOTS],
+    layout: Layout,
 }
 
 pub fn seen<T: Asked>(session: &mut T) -> View {
@@ -141,6 +179,7 @@ pub fn seen<T: Asked>(session: &mut T) -> View {
         names,
         extent: session.extent(),
         free: session.free(),
+        layout: session.layout(),
     }
 }
 
@@ -148,13 +187,19 @@ pub fn seen<T: Asked>(session: &mut T) -> View {
 fn in_order(before: View, last_index: usize) -> View {
     let mut free = [0; SLOTS];
     let mut place = 0;
-    for inx in 1..=last_index {
-        if before.free.contains(&inx) && place < SLOTS {
-            free[place] = inx;
+    for index in 1..=last_index {
+        if before.free.contains(&index) && place < SLOTS {
+            free[place] = index;
             place += 1;
         }
     }
-    View { free, ..before }
+    let (limit, _slots, entries) = before.layout;
+    let layout = (limit, last_index, entries);
+    View {
+        free,
+        layout,
+        ..before
+    }
 }
 
 // Whether this, which has 64 bytes at most, is the text of a reply. It takes no memory.
@@ -271,17 +316,66 @@ fn is_empty_with_eight(extent: (usize, usize, u64)) -> Result<End, Wrong> {
     }
 }
 
-pub fn try_each(alloc: Global, report: &mut Report) {
+// Each row but `show`, where a session that needs memory for its room could be made.
+fn each_row_where_made<T: Asked + Drop>(
+    made: Result<T, Wrong>,
+    kind: &'static str,
+    report: &mut Report,
+) {
+    match made {
+        Ok(mut session) => each_row(&mut session, kind, false, report),
+        Err(wrong) => report.note("made", kind, Err(wrong)),
+    }
+}
+
+// A session that grows up to a limit of eight.
+fn limited(alloc: Global) -> Result<Session<P0, u64, Limited>, Wrong> {
+    let mut arena: Entries<Limited> = Arena::new(alloc);
+    if arena.set_max_capacity(8).is_err() {
+        return Err(Wrong::Answer(0));
+    }
+    Ok(Session::new(arena, alloc))
+}
+
+// A session of fixed room for eight.
+fn fixed(alloc: Global) -> Result<Session<P0, u64, Fixed>, Wrong> {
+    Ok(Session::with_min_capacity(alloc, 8)?)
+}
+
+fn strict_limited(alloc: Global) -> Result<StrictSession<P0, u64, Limited>, Wrong> {
+    Ok(StrictSession::with_min_capacity(alloc, 8)?)
+}
+
+fn strict_fixed(alloc: Global) -> Result<StrictSession<P0, u64, Fixed>, Wrong> {
+    Ok(StrictSession::with_min_capacity(alloc, 8)?)
+}
+
+// The rows in sessions over each stack.
+fn each_general(alloc: Global, report: &mut Report) {
     let mut session: Session<P0, u64> = Session::with_new_arena(alloc);
     each_row(&mut session, "a session", true, report);
-    let mut session: Session<P0, u64, NonZeroInxArray<Slot, 8>> = Session::with_new_arena(alloc);
+    each_row_where_made(limited(alloc), "a session under a limit", report);
+    each_row_where_made(fixed(alloc), "a session of fixed room", report);
+    let mut session: Session<P0, u64, InArray> = Session::with_new_arena(alloc);
     each_row(&mut session, "a session in an array", false, report);
+}
+
+// The same in strict ones.
+fn each_strict(alloc: Global, report: &mut Report) {
     let mut session: StrictSession<P0, u64> = StrictSession::with_new_arena(alloc);
     each_row(&mut session, "a strict session", true, report);
-    report.note("no call", "a session with room", has_room(alloc));
-    report.note(
-        "no call",
-        "a strict session with room",
-        strict_has_room(alloc),
-    );
+    let limited = strict_limited(alloc);
+    each_row_where_made(limited, "a limited strict session", report);
+    let fixed = strict_fixed(alloc);
+    each_row_where_made(fixed, "a strict session of fixed room", report);
+    let mut session: StrictSession<P0, u64, InArray> = StrictSession::with_new_arena(alloc);
+    each_row(&mut session, "a strict session in an array", false, report);
+}
+
+pub fn try_each(alloc: Global, report: &mut Report) {
+    each_general(alloc, report);
+    each_strict(alloc, report);
+    let (call, made, made_strictly) = ("no call", has_room(alloc), strict_has_room(alloc));
+    report.note(call, "a session with room", made);
+    report.note(call, "a strict session with room", made_strictly);
 }

@@ -56,6 +56,17 @@ impl<S: NonZeroInxGenericStack<ArenaSlot<P0, Token>>> TestedArena for Strict<S> 
             },
             Call::Clear => told_raise(self.arena.clear()),
             Call::Compress(_) => told_raise(self.arena.compress()),
+            Call::Get(_, _) => match self.arena.get(p) {
+                Some(token) => Told::Holds(token.number),
+                None => Told::Nothing,
+            },
+            Call::GetMut(_, _) => match self.arena.get_mut(p) {
+                Some(token) => Told::Holds(token.number),
+                None => Told::Nothing,
+            },
+            Call::CompressTelling(_) => {
+                told_raise(self.arena.compress_with(|_old, token, _new| token))
+            }
             Call::Remove(_, _) => match self.arena.remove(p) {
                 Ok(token) => Told::Holds(token.number),
                 Err(_refused) => Told::Invalid,

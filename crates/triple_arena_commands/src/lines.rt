@@ -4,6 +4,8 @@ ghost use Rattle.std.specs.Prelude.{◌≡◌, ◌==◌, ◌+◌, ◌∷◌, len
 ghost use Rattle.std.specs.Option.{option_copied};
 ghost use Rattle.triple_arena_commands.specs.Lines.{parts_of, parts_after, length_after};
 
+use memchr::memchr;
+
 /// The part before the first byte `at`, and what follows that byte, where there is one.
 pub fn split_first(bytes: &[u8], at: u8) -> (&[u8], Option<&[u8]>)
     ensures parts { parts_of at bytes.now ≡ result.0.now ∷ parts_after at (option_copied result.1) }
@@ -18,5 +20,5 @@ pub fn split_first(bytes: &[u8], at: u8) -> (&[u8], Option<&[u8]>)
 fn position_of(bytes: &[u8], at: u8) -> Option<usize>
     ensures { result ≡ position (λ byte. byte == at) bytes.now }
 {
-    bytes.iter().position(|byte| *byte == at)
+    memchr(at, bytes)
 }

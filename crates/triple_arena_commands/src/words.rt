@@ -57,14 +57,29 @@ fn read_digits(text: &[u8]) -> Option<(u64, usize)>
     ensures large { IfNone result ((count : ℕ) × (count ≤ length text.now)
         × AllDigits 10 (take count text.now) × (2 ^ 64 ≤ digits_value 10 (take count text.now))) }
 {
-    let mut number = 0u64;
-    let mut count = 0;
+    let (mut number, mut count) = read_front(text);
     'digits: while count < text.len() && text[count].is_ascii_digit() {
         let digit = (text[count] - b'0') as u64;
         number = number.checked_mul(10)?.checked_add(digit)?;
         count += 1;
     }
     Some((number, count))
+}
+
+// The same of as many digits as are read without a look at what the next one makes of the number: of all,
+// but of very large numbers.
+fn read_front(text: &[u8]) -> (u64, usize)
+    ensures within { result.1 ≤ length text.now }
+    ensures digits { AllDigits 10 (take result.1 text.now) }
+    ensures value { digits_value 10 (take result.1 text.now) ≡ result.0 }
+{
+    let mut number = 0u64;
+    let mut count = 0;
+    'digits: while count < text.len() && text[count].is_ascii_digit() && number < u64::MAX / 10 {
+        number = number * 10 + (text[count] - b'0') as u64;
+        count += 1;
+    }
+    (number, count)
 }
 
 // What follows the first word of a line, where that is just so many bytes: `None` inside where nothing does.

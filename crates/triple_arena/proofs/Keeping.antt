@@ -5,7 +5,7 @@ use Rattle.triple_arena_traits.specs.Items.{item}
 use Rattle.triple_arena_traits.specs.ArenaState.{ArenaState}
 use Rattle.triple_arena_slots.specs.Slot.{entry_of, next_in, previous_in, with_slot_value}
 use Rattle.triple_arena_slots.specs.Layout.{after, before, state_of, IsLinked, Shows}
-use Rattle.triple_arena_slots.specs.SlotLaws.{entry_of-written}
+use Rattle.triple_arena_slots.specs.laws.SlotLaws.{entry_of-written}
 use Rattle.triple_arena_traits.specs.Kept.{filled, filled_all}
 use Rattle.triple_arena_traits.specs.Values.{with_values_in, with_values_of}
 use Rattle.triple_arena_slots.specs.declared.slot.ArenaSlot.{ArenaSlot}
@@ -13,7 +13,7 @@ use Rattle.triple_arena_slots.specs.declared.slot.ArenaSlot.TheVariants.{Free, A
 use Rattle.triple_arena_slots.proofs.TwoWay.{Linked-same}
 use Rattle.triple_arena_slots.proofs.Links.{settled}
 use Rattle.triple_arena_traits.proofs.KeptSlots.{entries-filled}
-use Rattle.triple_arena_traits.specs.ValueLaws.{count-kept, IsWellFormed-kept}
+use Rattle.triple_arena_traits.specs.laws.ValueLaws.{count-kept, IsWellFormed-kept}
 
 module _ {P T I G : Type 0} where
   -- the links of a slot are the same whatever its value

@@ -7,7 +7,7 @@ use Rattle.triple_arena_slots.specs.Slot.{entry_of, with_slot_value}
 use Rattle.triple_arena_slots.specs.Layout.{entry_at, Shows, with_value_at}
 use Rattle.triple_arena_traits.specs.SlotPairs.{WritesTwo}
 use Rattle.triple_arena_slots.specs.declared.slot.ArenaSlot.{ArenaSlot}
-use Rattle.triple_arena_traits.specs.ItemLaws.{item-with_other}
+use Rattle.triple_arena_traits.specs.laws.ItemLaws.{item-with_other}
 use Rattle.triple_arena_traits.proofs.SlotEntries.{entry_item, live_slot}
 use Rattle.triple_arena_slots.proofs.Links.{Shows-with_value}
 

@@ -7,14 +7,14 @@ use Rattle.triple_arena_traits.specs.SlotSteps.{IsTouched}
 use Rattle.triple_arena_traits.specs.Ending.{removed}
 use Rattle.triple_arena_traits.specs.FreeList.{tidied}
 use Rattle.triple_arena_traits.specs.Capacity.{reallocated, ready_for_limit, with_limit}
-use Rattle.triple_arena_traits.specs.EntryLaws.{by_case}
-use Rattle.triple_arena_traits.specs.LimitLaws.{refused_ready}
-use Rattle.triple_arena_traits.specs.WellFormedLaws.{steps-removed}
+use Rattle.triple_arena_traits.specs.laws.EntryLaws.{by_case}
+use Rattle.triple_arena_traits.specs.laws.LimitLaws.{refused_ready}
+use Rattle.triple_arena_traits.specs.laws.WellFormedLaws.{steps-removed}
 use Rattle.triple_arena_traits.specs.Compression.{compressed, counter_after, wraps_after}
 use Rattle.triple_arena_traits.specs.Walks.{keys}
 use Rattle.triple_arena_traits.specs.Histories.{resizing, compression, begun_with, CountsUp, Fits, Continues}
-use Rattle.triple_arena_traits.specs.HistoryLaws.{Continues-touched, Continues-resized, Continues-limited, Continues-compressed, Fits-compressed}
-use Rattle.triple_arena.specs.TouchedLaws.{settled_slots, reallocated_slots, Continues-unchanged}
+use Rattle.triple_arena_traits.specs.laws.HistoryLaws.{Continues-touched, Continues-resized, Continues-limited, Continues-compressed, Fits-compressed}
+use Rattle.triple_arena.specs.laws.TouchedLaws.{settled_slots, reallocated_slots, Continues-unchanged}
 
 pub on_err : {A E P Q : Type 0} (r : Result A E) → (P → Q) → OnErr r P → OnErr r Q
 on_err (Ok x) f h = h

@@ -1,2 +1,2 @@
 pub mod InsertEntry
-pub mod TouchedLaws
+pub mod laws

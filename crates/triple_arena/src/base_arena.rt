@@ -6,7 +6,7 @@ ghost use Rattle.std.specs.Int.NonZero.{non_zero_usize_get};
 ghost use Rattle.std.specs.Option.{option_map, option_and_then};
 ghost use Rattle.triple_arena_ptr.specs.Numbers.{greatest_index, raise, wraps, first_generation};
 ghost use Rattle.triple_arena_ptr.specs.Pointers.{Pointer};
-ghost use Rattle.triple_arena_stack.specs.Capacity.{IsWithin, IsBeyond, IsAtLimit, next_capacity, IsFullAtLimit, CanGrow};
+ghost use Rattle.triple_arena_stack.specs.Capacity.{IsWithin, IsBeyond, IsAtLimit, IsFullAtLimit, CanGrow};
 ghost use Rattle.triple_arena_stack.specs.StackKind.{IsOfKind};
 ghost use Rattle.triple_arena_stack.specs.Disjoint.{DisjointAnswer, MayWork, Worked};
 ghost use Rattle.triple_arena_traits.specs.Items.{item};
@@ -15,7 +15,7 @@ ghost use Rattle.triple_arena_traits.specs.Insertion.{next_pointer, inserted};
 ghost use Rattle.triple_arena_traits.specs.SlotSteps.{RisesByAtMost, IsTouched, touched, insertion_steps};
 ghost use Rattle.triple_arena_traits.specs.Ending.{removed, invalidated, cleared, told};
 ghost use Rattle.triple_arena_traits.specs.FreeList.{tidied, without_free_end, IsInOrder};
-ghost use Rattle.triple_arena_traits.specs.Capacity.{with_room_for, reallocated, KeepsRoom, grown};
+ghost use Rattle.triple_arena_traits.specs.Capacity.{with_room_for, reallocated, KeepsRoom, grown, EndsBy, ready_for_limit, with_limit};
 ghost use Rattle.triple_arena_slots.specs.Slot.{entry_of};
 ghost use Rattle.triple_arena_slots.specs.Layout.{IsLinked};
 ghost use Rattle.triple_arena_traits.specs.Disjoint.{value_of};
@@ -26,18 +26,18 @@ ghost use Rattle.triple_arena_traits.specs.Histories.{resizing, Fits, Continues,
 mod advancer;
 mod compaction;
 mod copies;
-mod limit;
 
 use crate::arena_iterators::PtrAdvancer;
 use std::alloc::Global;
 use std::marker::{Model, PhantomData};
 use std::num::NonZeroUsize;
 use triple_arena_base::{
-    AllocError, GetDisjointMutError, InvalidationOption, InvalidationResult, ReallocationError,
+    AllocError, GetDisjointMutError, InvalidationOption, InvalidationResult,
+    MaxCapacityReductionError, ReallocationError,
 };
 use triple_arena_ptr::{Ptr, PtrGen, PtrInx};
 use triple_arena_slots::{ArenaSlot, Slots};
-use triple_arena_stack::{NonZeroInxGenericStack, NonZeroInxVec};
+use triple_arena_stack::{NonZeroInxGenericStack, NonZeroInxVec, SetMaxCapacity, grown_capacity};
 use triple_arena_traits::answers::{told, told_valid};
 use triple_arena_traits::entry_slots::{first_live, last_live, ptr_at, slot_at};
 use triple_arena_traits::pair_call::{AtEntries, AtValues, PairCall};
@@ -95,10 +95,10 @@ impl<P: Ptr, T, S: NonZeroInxGenericStack<ArenaSlot<P, T>>> Model for Arena<P, T
 impl<P: Ptr, T, S: NonZeroInxGenericStack<ArenaSlot<P, T>>> ArenaTrait<P, T> for Arena<P, T, S> {
     ghost use Rattle.std.specs.Prelude.{refl};
     ghost use Rattle.std.proofs.Common.{ap, subst, sym};
-    ghost use Rattle.triple_arena_traits.specs.EntryLaws.{slots-cleared};
-    ghost use Rattle.triple_arena_traits.specs.LengthLaws.{len-with_value};
-    ghost use Rattle.triple_arena_traits.specs.WellFormedLaws.{IsWellFormed-touched};
-    ghost use Rattle.triple_arena.specs.TouchedLaws.{removed_slots, removed_len, removed_limit, removed_capacity, invalidated_slots, invalidated_len, reallocated_slots, reallocated_len, settled_slots, settled_len, Continues-unchanged};
+    ghost use Rattle.triple_arena_traits.specs.laws.EntryLaws.{slots-cleared};
+    ghost use Rattle.triple_arena_traits.specs.laws.LengthLaws.{len-with_value};
+    ghost use Rattle.triple_arena_traits.specs.laws.WellFormedLaws.{IsWellFormed-touched};
+    ghost use Rattle.triple_arena.specs.laws.TouchedLaws.{removed_slots, removed_len, removed_limit, removed_capacity, invalidated_slots, invalidated_len, reallocated_slots, reallocated_len, settled_slots, settled_len, Continues-unchanged};
 
     type PtrAdvancer = PtrAdvancer<P>;
 
@@ -383,9 +383,9 @@ impl<P: Ptr, T, S: NonZeroInxGenericStack<ArenaSlot<P, T>>> ArenaTrait<P, T> for
 impl<P: Ptr, T, S: NonZeroInxGenericStack<ArenaSlot<P, T>>> ArenaInsertTrait<P, T>
     for Arena<P, T, S> {
     ghost use Rattle.std.proofs.Common.{ap};
-    ghost use Rattle.triple_arena_traits.specs.EntryLaws.{slots-inserted, limit-inserted, fitting-inserted, slots-grown, limit-grown, next-grown, well_formed-grown, fitting-grown, same-grown, generation-next};
-    ghost use Rattle.triple_arena_traits.specs.LengthLaws.{len-inserted, len-grown};
-    ghost use Rattle.triple_arena.specs.TouchedLaws.{grown_touched};
+    ghost use Rattle.triple_arena_traits.specs.laws.EntryLaws.{slots-inserted, limit-inserted, fitting-inserted, slots-grown, limit-grown, next-grown, well_formed-grown, fitting-grown, same-grown, generation-next};
+    ghost use Rattle.triple_arena_traits.specs.laws.LengthLaws.{len-inserted, len-grown};
+    ghost use Rattle.triple_arena.specs.laws.TouchedLaws.{grown_touched};
 
     // the first free index, or one past the last slot, under the counter
     ghost next = { next_pointer };
@@ -765,18 +765,41 @@ fn is_at_limit(limit: Option<usize>, capacity: usize) -> bool
     }
 }
 
-// The capacity that a full arena grows to.
-fn grown_capacity(capacity: usize, limit: Option<usize>, greatest: usize) -> usize
-    requires { greatest < 2 ^ 64 }
-    ensures { result ≡ next_capacity capacity limit greatest }
-{
-    let next = if capacity == 0 {
-        4
-    } else {
-        capacity.saturating_mul(2)
-    };
-    match limit {
-        Some(most) => next.min(most).min(greatest),
-        None => next.min(greatest),
+impl<P: Ptr, T, S: SetMaxCapacity<ArenaSlot<P, T>>> Arena<P, T, S> {
+    /// Sets the limit to `max_capacity`, a number of slots. It takes no memory, and the room stays:
+    /// the capacity is then the smallest of room, limit and greatest index.
+    ///
+    /// Where the new limit is below the old one and the capacity, first the free list is put in
+    /// order, as by `canonicalize_freelist`; that stays done where the limit is refused.
+    ///
+    /// Refused exactly where an entry stands at an index past `max_capacity`; then all stays but the
+    /// free list, which is in order, without the free slots past the last entry.
+    pub fn set_max_capacity(&mut self, max_capacity: usize) -> Result<(), MaxCapacityReductionError>
+        ensures variant { IsOk result ↔ EndsBy self.old max_capacity }
+        ensures done { OnOk result (IsTouched (with_limit self.old max_capacity) self.new) }
+        ensures refused { OnErr result (IsTouched (tidied self.old) self.new) }
+        ensures fresh { Continues Fits self.old (resizing ∷ []) self.new }
+    {
+        self.make_ready_for_limit(max_capacity);
+        self.set_limit(max_capacity)
+    }
+
+    // Puts the free list in order where the limit to come is below the capacity.
+    fn make_ready_for_limit(&mut self, limit: usize)
+        ensures state { IsTouched (ready_for_limit self.old limit) self.new }
+        ensures fits { slot_count self.old ≤ capacity self.old }
+    {
+        if limit < self.capacity() {
+            self.canonicalize_freelist();
+        }
+    }
+
+    // Sets the limit of the stack, and leaves the slots as they are.
+    fn set_limit(&mut self, limit: usize) -> Result<(), MaxCapacityReductionError>
+        ensures variant { IsOk result ↔ (slot_count self.old ≤ limit) }
+        ensures done { OnOk result (self.new ≡ record self.old { limit = Some limit }) }
+        ensures refused { OnErr result (self.new ≡ self.old) }
+    {
+        self.slots.set_max_capacity(limit)
     }
 }

@@ -1,4 +1,5 @@
-//! Generational arenas: values in slots, each named by the pointer that its insertion gave.
+//! Generational arenas: values in slots, each named by the pointer that its insertion gave. It is a door,
+//! and hands on what an arena is.
 #![tactic(auto)]
 
 pub mod arena_iterators;

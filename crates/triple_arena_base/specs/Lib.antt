@@ -1,7 +1,8 @@
+-- Read first: Held and Invalidation.
 pub mod Held
-pub mod HeldLaws
 pub mod HeldLists
 pub mod HeldPairs
 pub mod HeldVecs
 pub mod Invalidation
 pub mod NonZeroRange
+pub mod laws

@@ -47,8 +47,8 @@ impl<T> InvalidationOption<T> {
         }
     }
 
-    /// The same variant with `f` of the value, which is called once, on the condition that `f` may
-    /// be called with it.
+    /// This variant with `f` of the value, which is called once, on the condition that `f` may be
+    /// called with it.
     pub fn map<U, F: FnOnce(T) -> U>(self, f: F) -> InvalidationOption<U>
         requires callable { F.pre f (allowed_option self) }
         ensures { MapsOption (F.post f) self result }
@@ -129,7 +129,7 @@ impl<T> InvalidationResult<T> {
         }
     }
 
-    /// The same variant with `f` of the value, on the condition that `f` may be called with it. For
+    /// This variant with `f` of the value, on the condition that `f` may be called with it. For
     /// `InvalidPtr`, `f` is not called.
     pub fn map<U, F: FnOnce(T) -> U>(self, f: F) -> InvalidationResult<U>
         requires callable { ForValue self (F.pre f) }

@@ -1,4 +1,4 @@
-//! Refusals, small answers and recasting: the ground that the arena crates share.
+//! Refusals, small answers and recasting: the ground that the arena crates share. It is a door.
 #![tactic(auto)]
 
 mod advancer;

@@ -3,7 +3,7 @@
 ghost use Rattle.std.specs.Prelude.{◌≡◌};
 ghost use Rattle.std.proofs.Common.{ap};
 ghost use Rattle.triple_arena_base.specs.Held.{held_option, refill_option, held_all, refill_all, recast_items, recast_answer};
-ghost use Rattle.triple_arena_base.specs.HeldLaws.{option_held_refill, option_refill_held, option_refill_refill};
+ghost use Rattle.triple_arena_base.specs.laws.HeldLaws.{option_held_refill, option_refill_held, option_refill_refill};
 ghost use Rattle.triple_arena_base.specs.HeldVecs.{held_vec, refill_vec, vec_held_refill, vec_refill_held, vec_refill_refill};
 
 use crate::recast::{Recast, Recaster};

@@ -7,7 +7,7 @@ use Rattle.std.proofs.lemmas.Option.{same_Some}
 use Rattle.std.proofs.lemmas.List.{length_push}
 use Rattle.triple_arena_stack.specs.Capacity.{next_capacity}
 use Rattle.triple_arena_traits.specs.Items.{item}
-use Rattle.triple_arena_traits.specs.ItemLaws.{item_within, item-with_other, item-push_other, length-with_item, item-map}
+use Rattle.triple_arena_traits.specs.laws.ItemLaws.{item_within, item-with_other, item-push_other, length-with_item, item-map}
 use Rattle.triple_arena_commands.specs.Limits.{is_at_limit}
 use Rattle.triple_arena_commands.specs.declared.command.Command.{Command}
 use Rattle.triple_arena_commands.specs.declared.command.Command.TheVariants.{Insert, InsertWithin, Get, Set, Remove, Invalidate, Clear, Compact, Len, Capacity, Reserve, Show}

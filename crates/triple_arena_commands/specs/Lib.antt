@@ -1,3 +1,4 @@
+-- Read first: CommandText, ReplyText, NameStore and StoreRuns.
 pub mod Lines
 pub mod Words
 pub mod CommandText
@@ -5,16 +6,13 @@ pub mod Forms
 pub mod ReplyText
 pub mod ReplyParts
 pub mod Runs
-pub mod RunLaws
 pub mod TextRun
-pub mod TextLaws
 pub mod ErrorText
 pub mod Program
 pub mod Limits
 pub mod NameStore
 pub mod StoreRuns
 pub mod Strict
-pub mod StrictLaws
-pub mod UnseenLaws
 pub mod PointerNames
 pub mod NameLayout
+pub mod laws

@@ -7,10 +7,10 @@ use Rattle.std.specs.declared.io.ErrorKind.TheVariants.{OutOfMemory}
 use Rattle.std.specs.Str.{bytes_eq}
 use Rattle.std.specs.Option.{option_map, option_and_then}
 use Rattle.triple_arena_commands.specs.CommandText.{number_of}
-use Rattle.triple_arena_commands.specs.declared.program.Kind.{Kind}
-use Rattle.triple_arena_commands.specs.declared.program.Kind.TheVariants.{Heap, Limited, Fixed, Array}
-use Rattle.triple_arena_commands.specs.declared.program.Outcome.{Outcome}
-use Rattle.triple_arena_commands.specs.declared.program.Outcome.TheVariants.{WrongArguments, Ran}
+use Rattle.triple_arena_commands.specs.declared.arguments.Kind.{Kind}
+use Rattle.triple_arena_commands.specs.declared.arguments.Kind.TheVariants.{Heap, Limited, Fixed, Array}
+use Rattle.triple_arena_commands.specs.declared.arguments.Outcome.{Outcome}
+use Rattle.triple_arena_commands.specs.declared.arguments.Outcome.TheVariants.{WrongArguments, Ran}
 use Rattle.triple_arena_commands.specs.declared.text_error.TextError.TheVariants.{Malformed, NoMemory}
 use Rattle.triple_arena_commands.specs.ErrorText.{error_text}
 

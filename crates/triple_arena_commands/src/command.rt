@@ -12,7 +12,7 @@ use crate::words::{read_link, read_number};
 pub enum Command<X> {
     /// Keeps a datum, with a link to a name that was given, or with none, under a new name.
     Insert(X, Option<usize>),
-    /// The same, where the arena needn't grow for it.
+    /// Keeps a datum and a link under a new name, where the arena needn't grow for it.
     InsertWithin(X, Option<usize>),
     /// Looks up the datum and the link under a name.
     Get(usize),
@@ -62,25 +62,30 @@ fn parse_arguments(verb: &[u8], rest: &[u8]) -> Option<Command<u64>>
     let (first, after_first) = read_number(rest)?;
     match after_first {
         None => parse_numbered(verb, first as usize),
-        Some(rest) => parse_linked(verb, first, rest),
+        Some(rest) => parse_after_first(verb, first, rest),
     }
 }
 
 // The command of a verb, a word that writes this number, and the words after it.
-fn parse_linked(verb: &[u8], first: u64, rest: &[u8]) -> Option<Command<u64>>
+fn parse_after_first(verb: &[u8], first: u64, rest: &[u8]) -> Option<Command<u64>>
     ensures { (word : List ℕ) → number_of word ≡ Some first
         → result ≡ command_of_words (verb.now ∷ word ∷ words_of rest.now) }
 {
     let (second, after_second) = read_link(rest)?;
     match after_second {
         None => parse_insert(verb, first, second),
-        Some(rest) => parse_last(verb, first as usize, second, rest),
+        Some(rest) => parse_after_second(verb, first as usize, second, rest),
     }
 }
 
 // The command of a verb, two words that write this name and this link, and the words after them. A link
 // that is there writes a datum, too.
-fn parse_last(verb: &[u8], name: usize, second: Option<usize>, rest: &[u8]) -> Option<Command<u64>>
+fn parse_after_second(
+    verb: &[u8],
+    name: usize,
+    second: Option<usize>,
+    rest: &[u8],
+) -> Option<Command<u64>>
     ensures { (first word : List ℕ) → number_of first ≡ Some name → link_of word ≡ Some second
         → result ≡ command_of_words (verb.now ∷ first ∷ word ∷ words_of rest.now) }
 {

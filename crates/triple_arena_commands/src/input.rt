@@ -30,7 +30,7 @@ pub fn read_text<R: Read>(alloc: Global, input: &mut R) -> Result<Vec<u8>, TextE
     }
 }
 
-// The same, with what each read gives put into the chunk first.
+// All that a reader has left, where what each read gives is put into the chunk first.
 fn read_by_chunks<R: Read>(
     alloc: Global,
     input: &mut R,

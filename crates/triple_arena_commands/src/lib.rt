@@ -1,7 +1,8 @@
 //! Commands that speak of entries by name, their replies, the text of both, and the store of names that
-//! they mean.
+//! they mean. It is a room behind `triple_arena_session`, apart so that it is proved beside the arenas.
 #![tactic(auto)]
 
+mod arguments;
 mod command;
 mod input;
 pub mod laws;
@@ -9,16 +10,15 @@ mod line;
 mod lines;
 mod name_table;
 mod output;
-mod program;
 mod reply;
 mod text_error;
 mod words;
 
+pub use arguments::{Kind, Outcome, asked_mode, parse_args, parse_mode, status};
 pub use command::{Command, parse_command};
 pub use input::read_text;
 pub use lines::split_first;
 pub use name_table::NameTable;
 pub use output::{flush_after, write_reply};
-pub use program::{Kind, Outcome, asked_mode, parse_args, parse_mode, status};
 pub use reply::Reply;
 pub use text_error::TextError;

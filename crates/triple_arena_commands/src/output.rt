@@ -95,7 +95,7 @@ fn write_some<W: Write>(output: &mut W, bytes: &[u8]) -> Option<usize>
 /// Flushes a buffered writer after a run of this outcome, and gives back the writer below it. A
 /// failed flush is the error `Write` whatever the outcome was, and the bytes that it left are let
 /// go: a front of what was written stands in the writer below.
-#[tactic(auto, using(crate::specs::TextLaws::keeps_emptied))]
+#[tactic(auto, using(crate::specs::laws::TextLaws::keeps_emptied))]
 pub fn flush_after<W: Write + Drop>(
     outcome: Result<(), TextError>,
     mut output: BufWriter<W>,

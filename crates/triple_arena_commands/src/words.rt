@@ -66,8 +66,8 @@ fn read_digits(text: &[u8]) -> Option<(u64, usize)>
     Some((number, count))
 }
 
-// The same of as many digits as are read without a look at what the next one makes of the number: of all,
-// but of very large numbers.
+// The number of as many digits at the front as are read without a test for one that is too large: of all, but of
+// very large numbers. And how many they are.
 fn read_front(text: &[u8]) -> (u64, usize)
     ensures within { result.1 ≤ length text.now }
     ensures digits { AllDigits 10 (take result.1 text.now) }

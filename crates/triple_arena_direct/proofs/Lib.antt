@@ -1,9 +1,8 @@
-pub mod Held
-pub mod Keeping
-pub mod Mirroring
-pub mod Cloned
-pub mod Compaction
-pub mod Reading
-pub mod Refused
-pub mod Resizing
-pub mod Limits
+mod Renames
+mod OwnMaps
+mod Pairing
+mod Resolving
+mod WrittenValues
+mod MappedAnswers
+mod Followed
+pub mod StrictAnswers

@@ -1,12 +1,6 @@
-pub mod DirectState
-pub mod Slot
-pub mod SlotLaws
-pub mod Layout
-pub mod Lends
-pub mod Values
-pub mod StepLaws
-pub mod InsertionLaws
-pub mod CloningLaws
-pub mod Mirrors
-pub mod InsertEntry
-pub mod CompressionLaws
+-- Read first: Renaming and Strict.
+pub mod Renaming
+pub mod Strict
+pub mod StrictCalls
+pub mod Gone
+pub mod laws

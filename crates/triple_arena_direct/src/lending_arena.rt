@@ -1,13 +1,12 @@
-//! Direct arenas as clauses on loans name them.
+//! The strict arena as clauses on loans name it.
 
-use crate::direct_arena::DirectArena;
-use crate::slot::DirectSlot;
+use crate::strict_arena::StrictArena;
+use triple_arena::{ArenaSlot, LendingArena};
 use triple_arena_ptr::Ptr;
 use triple_arena_stack::NonZeroInxGenericStack;
-use triple_arena_traits::LendingArena;
 
-impl<P: Ptr, T, S: NonZeroInxGenericStack<DirectSlot<P, T>>> LendingArena for DirectArena<P, T, S> {
-    ghost use Rattle.triple_arena_direct.specs.contracts.direct_arena.DirectArena.{the_row};
+impl<P: Ptr, T, S: NonZeroInxGenericStack<ArenaSlot<P, T>>> LendingArena for StrictArena<P, T, S> {
+    ghost use Rattle.triple_arena_direct.specs.contracts.strict_arena.StrictArena.{the_row};
 
     ghost arena_row = { the_row P.row T.row S.row P.Inx.row P.Gen.row
         P.Ptr.own P.Debug P.Hash.own P.PartialEq P.PartialOrd.own P.Ord.own P.Recast

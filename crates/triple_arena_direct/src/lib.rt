@@ -1,17 +1,17 @@
-//! Arenas whose entries are put under pointers of the caller's choice.
+//! Strict arenas, and compaction of any arena with recasting. It is a door, and hands on direct arenas.
 #![tactic(auto)]
 
-mod direct_arena;
-pub mod direct_arena_iterators;
+mod errors;
 mod indexing;
-mod insert_entry;
-pub mod laws;
 mod lending_arena;
-mod recaster;
-mod slot;
-mod slots;
+mod renaming;
+mod strict_arena;
+pub mod strict_laws;
 mod text;
 
-pub use direct_arena::DirectArena;
-pub use insert_entry::ArenaDirectInsertEntry;
-pub use slot::DirectSlot;
+pub use errors::{StrictCompactError, StrictError};
+pub use renaming::{compress_recast, compress_recaster};
+pub use strict_arena::StrictArena;
+pub use triple_arena_direct_arena::{
+    ArenaDirectInsertEntry, DirectArena, DirectSlot, direct_arena_iterators, laws,
+};

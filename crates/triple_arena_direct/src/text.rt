@@ -1,22 +1,15 @@
-//! The text of a direct arena.
+//! The text of a strict arena.
 
-use crate::direct_arena::DirectArena;
-use crate::slot::DirectSlot;
+use crate::strict_arena::StrictArena;
 use std::fmt;
-use triple_arena_base::Advancer;
+use triple_arena::ArenaSlot;
 use triple_arena_ptr::Ptr;
 use triple_arena_stack::NonZeroInxGenericStack;
-use triple_arena_traits::ArenaTrait;
 
-impl<P: Ptr, T: fmt::Debug, S: NonZeroInxGenericStack<DirectSlot<P, T>>> fmt::Debug
-    for DirectArena<P, T, S> {
-    /// Writes `{pointer: value, ..}`, by index.
+impl<P: Ptr, T: fmt::Debug, S: NonZeroInxGenericStack<ArenaSlot<P, T>>> fmt::Debug
+    for StrictArena<P, T, S> {
+    /// Writes what the arena inside does, `{pointer: value, ..}` by index.
     fn fmt<W: fmt::Write>(&self, f: &mut fmt::Formatter<W>) -> fmt::Result {
-        let mut entries = f.debug_map();
-        let mut advancer = self.advancer();
-        'walk: while let Some(p) = advancer.advance(self) {
-            entries.entry(&p, self.get(p).unwrap());
-        }
-        entries.finish()
+        fmt::Debug::fmt(self.arena(), f)
     }
 }

@@ -1,10 +1,6 @@
-//! What no clause of the direct arena says: that its calls succeed, worked examples, and refusals of
-//! memory.
+//! What no clause of these arenas says: that their calls succeed, worked examples, and refusals of memory.
 
-mod arenas;
-mod calls;
-mod drops;
-mod insertion;
-mod loops;
-mod pops;
-mod refused_memory;
+mod compaction;
+mod copies;
+mod direct;
+mod strict_arenas;

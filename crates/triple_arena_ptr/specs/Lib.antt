@@ -1,3 +1,4 @@
+-- Read first: Numbers and Pointers.
 pub mod Numbers
 pub mod NonZeroValues
 pub mod Pointers

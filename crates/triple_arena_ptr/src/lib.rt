@@ -1,4 +1,5 @@
-//! Pointers into an arena: an index, and a generation that tells apart the entries of one index.
+//! Pointers into an arena: an index, and a generation that tells apart the entries of one index. It is a
+//! door.
 #![tactic(auto)]
 
 mod generation;

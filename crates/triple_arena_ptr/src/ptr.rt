@@ -30,7 +30,7 @@ use triple_arena_base::Recast;
 /// ghost use Rattle.std.specs.Prelude.{◌≡◌, ◌^◌, ◌-◌, Some, true, suc, codes};
 /// ghost use Rattle.std.proofs.Common.{refl};
 /// ghost use Rattle.triple_arena_base.specs.Held.{held_itself, refill_itself};
-/// ghost use Rattle.triple_arena_base.specs.HeldLaws.{itself_held_refill, itself_refill_held, itself_refill_refill};
+/// ghost use Rattle.triple_arena_base.specs.laws.HeldLaws.{itself_held_refill, itself_refill_held, itself_refill_refill};
 /// ghost use Rattle.triple_arena_ptr.specs.NonZeroValues.{same_pair, u8_after, u8_after_cancels};
 /// ghost use Rattle.triple_arena_ptr.specs.PointerText.{pointer_text};
 ///

@@ -11,13 +11,13 @@ use Rattle.triple_arena_traits.specs.ArenaState.{ArenaState, look_up}
 use Rattle.triple_arena_traits.specs.Walks.{keys, values}
 use Rattle.triple_arena_traits.specs.Compression.{compressed, rank}
 use Rattle.triple_arena_traits.specs.Histories.{has, AreDistinct, is_live}
-use Rattle.triple_arena_traits.specs.PointerListLaws.{same_itself, same_is, has_head, has_tail, has-keys, false_unless}
+use Rattle.triple_arena_traits.specs.laws.PointerListLaws.{same_itself, same_is, has_head, has_tail, has-keys, false_unless}
 use Rattle.triple_arena_commands.specs.PointerNames.{name_of}
 use Rattle.triple_arena_session.specs.SessionState.{SessionState, link_name}
 use Rattle.triple_arena_session.specs.Compaction.{renamed, relinked, compacted}
 use Rattle.triple_arena_session.specs.Shown.{as_row, row_of, shown}
-use Rattle.triple_arena_traits.specs.CompressionLaws.{length-values, rank_apart, keys-compressed, values-compressed}
-use Rattle.triple_arena_traits.specs.MoveLaws.{nth_found, found_nth}
+use Rattle.triple_arena_traits.specs.laws.CompressionLaws.{length-values, rank_apart, keys-compressed, values-compressed}
+use Rattle.triple_arena_traits.specs.laws.MoveLaws.{nth_found, found_nth}
 use Rattle.triple_arena_session.proofs.TableNames.{not_same, has_from_get, name_of-map, map_same}
 use Rattle.triple_arena_session.proofs.Rows.{some_is, some_has}
 use Rattle.triple_arena_session.proofs.Soundness.{SoundOver, SoundOver-from, over_of}

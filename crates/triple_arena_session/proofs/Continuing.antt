@@ -20,12 +20,12 @@ use Rattle.triple_arena_traits.specs.Capacity.{grown, with_room_for, reallocated
 use Rattle.triple_arena_traits.specs.Ending.{removed, invalidated, cleared}
 use Rattle.triple_arena_traits.specs.Walks.{keys, values}
 use Rattle.triple_arena_traits.specs.Compression.{compressed, raised_if_any}
-use Rattle.triple_arena_traits.specs.CompressionLaws.{length-values}
-use Rattle.triple_arena_traits.specs.EntryLaws.{doubled, slots-settled}
+use Rattle.triple_arena_traits.specs.laws.CompressionLaws.{length-values}
+use Rattle.triple_arena_traits.specs.laws.EntryLaws.{doubled, slots-settled}
 use Rattle.triple_arena_traits.specs.Histories.{insertion, removal, invalidation, compression, CountsUp, Continues, Fits}
-use Rattle.triple_arena_traits.specs.WellFormedLaws.{IsWellFormed-inserted, kept-inserted, len_within, room-removed, limit-removed}
-use Rattle.triple_arena_traits.specs.StepLaws.{IsWellFormed-tidied, IsWellFormed-compressed, with_value_stays, invalidated_stays, removed_stays, cleared_stays, reallocated_stays}
-use Rattle.triple_arena_traits.specs.HistoryLaws.{Continues-none, Continues-kept, Continues-written, Continues-inserted, Continues-removed, Continues-invalidated, Continues-cleared, Continues-compressed, Continues-resized, Continues-append}
+use Rattle.triple_arena_traits.specs.laws.WellFormedLaws.{IsWellFormed-inserted, kept-inserted, len_within, room-removed, limit-removed}
+use Rattle.triple_arena_traits.specs.laws.StepLaws.{IsWellFormed-tidied, IsWellFormed-compressed, with_value_stays, invalidated_stays, removed_stays, cleared_stays, reallocated_stays}
+use Rattle.triple_arena_traits.specs.laws.HistoryLaws.{Continues-none, Continues-kept, Continues-written, Continues-inserted, Continues-removed, Continues-invalidated, Continues-cleared, Continues-compressed, Continues-resized, Continues-append}
 use Rattle.triple_arena_commands.specs.declared.command.Command.{Command}
 use Rattle.triple_arena_commands.specs.declared.command.Command.TheVariants.{Insert, InsertWithin, Get, Set, Remove, Invalidate, Clear, Compact, Len, Capacity, Reserve, Show}
 use Rattle.triple_arena_commands.specs.declared.reply.Reply.{Reply}

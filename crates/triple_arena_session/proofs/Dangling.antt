@@ -14,8 +14,8 @@ use Rattle.triple_arena_commands.specs.NameStore.{NameRow, row, row_dangles}
 use Rattle.triple_arena_session.specs.SessionState.{SessionState}
 use Rattle.triple_arena_session.specs.Compaction.{dangles, any_dangles}
 use Rattle.triple_arena_session.specs.Shown.{as_row, row_of, shown}
-use Rattle.triple_arena_traits.specs.ItemLaws.{item-map}
-use Rattle.triple_arena_traits.specs.MoveLaws.{nth_found, found_nth}
+use Rattle.triple_arena_traits.specs.laws.ItemLaws.{item-map}
+use Rattle.triple_arena_traits.specs.laws.MoveLaws.{nth_found, found_nth}
 use Rattle.triple_arena_session.proofs.TableNames.{item_of_name, get_from_has}
 use Rattle.triple_arena_session.proofs.Soundness.{SoundOver}
 

@@ -7,8 +7,8 @@ use Rattle.triple_arena_commands.specs.declared.reply.Reply.{Reply}
 use Rattle.triple_arena_commands.specs.Lines.{has_bytes}
 use Rattle.triple_arena_commands.specs.ReplyText.{reply_line, reply_lines}
 use Rattle.triple_arena_commands.specs.TextRun.{RunsLines, AnswersLines, StopsAtLine, StopsAtReply}
-use Rattle.triple_arena_commands.specs.RunLaws.{TellsOfNoWrap-nil, TellsOfNoWrap-push}
-use Rattle.triple_arena_commands.specs.TextLaws.{Appends-one, AppendsCut-after, RunsLines-append, front-drop}
+use Rattle.triple_arena_commands.specs.laws.RunLaws.{TellsOfNoWrap-nil, TellsOfNoWrap-push}
+use Rattle.triple_arena_commands.specs.laws.TextLaws.{Appends-one, AppendsCut-after, RunsLines-append, front-drop}
 use Rattle.triple_arena_session.specs.declared.text.LineEnd.{LineEnd}
 use Rattle.triple_arena_session.specs.declared.text.LineEnd.TheVariants.{Answered, Wrapped, Malformed, Unwritten}
 use Rattle.triple_arena_session.specs.LineRun.{RunsCommand, CommandEnds, LineEnds}

@@ -15,7 +15,7 @@ use Rattle.triple_arena_traits.specs.ArenaState.{ArenaState, look_up, map_values
 use Rattle.triple_arena_traits.specs.Walks.{values}
 use Rattle.triple_arena_traits.specs.Compression.{compressed, rank, raised_if_any, wraps_after}
 use Rattle.triple_arena_traits.specs.Ending.{told}
-use Rattle.triple_arena_renaming.specs.Renaming.{MapsPointers, IsRenamed, AreRenamed, first_unresolved}
+use Rattle.triple_arena_direct.specs.Renaming.{MapsPointers, IsRenamed, AreRenamed, first_unresolved}
 use Rattle.triple_arena_commands.specs.declared.reply.Reply.{Reply}
 use Rattle.triple_arena_commands.specs.declared.reply.Reply.TheVariants.{Compacted, Unresolved}
 use Rattle.triple_arena_session.specs.declared.node.Node.{Node}

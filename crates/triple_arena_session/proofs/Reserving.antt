@@ -12,10 +12,10 @@ use Rattle.triple_arena_traits.specs.Entries.{value_under, KeepsEntries}
 use Rattle.triple_arena_traits.specs.ArenaState.{ArenaState, arena_len, capacity, slot_count}
 use Rattle.triple_arena_traits.specs.FreeList.{tidied}
 use Rattle.triple_arena_traits.specs.Capacity.{reallocated}
-use Rattle.triple_arena_traits.specs.EntryLaws.{slots-settled}
+use Rattle.triple_arena_traits.specs.laws.EntryLaws.{slots-settled}
 use Rattle.triple_arena_traits.specs.Histories.{resizing}
-use Rattle.triple_arena_traits.specs.WellFormedLaws.{len_within}
-use Rattle.triple_arena_traits.specs.HistoryLaws.{Continues-resized}
+use Rattle.triple_arena_traits.specs.laws.WellFormedLaws.{len_within}
+use Rattle.triple_arena_traits.specs.laws.HistoryLaws.{Continues-resized}
 use Rattle.triple_arena_commands.specs.declared.reply.Reply.{Reply}
 use Rattle.triple_arena_commands.specs.declared.reply.Reply.TheVariants.{BeyondMaxCapacity, NoMemory, Done}
 use Rattle.triple_arena_commands.specs.Limits.{is_within}

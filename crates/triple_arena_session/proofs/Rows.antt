@@ -6,18 +6,18 @@ use Rattle.std.proofs.lemmas.List.Sums.{sum_by-cons}
 use Rattle.std.specs.Option.{option_map, option_and_then}
 use Rattle.triple_arena_stack.specs.StackKind.{StackKind}
 use Rattle.triple_arena_traits.specs.Items.{item, with_item}
-use Rattle.triple_arena_traits.specs.ItemLaws.{eq_true, eq_false}
+use Rattle.triple_arena_traits.specs.laws.ItemLaws.{eq_true, eq_false}
 use Rattle.triple_arena_ptr.specs.Pointers.{Pointer, is_same}
 use Rattle.triple_arena_traits.specs.Entries.{value_under, entry_count, ChangesAt}
 use Rattle.triple_arena_traits.specs.ArenaState.{ArenaState, entry, look_up, arena_len}
 use Rattle.triple_arena_traits.specs.Walks.{keys}
-use Rattle.triple_arena_traits.specs.WalkLaws.{found}
+use Rattle.triple_arena_traits.specs.laws.WalkLaws.{found}
 use Rattle.triple_arena_traits.specs.Histories.{has, AreDistinct, is_live}
 use Rattle.triple_arena_commands.specs.PointerNames.{name_of}
 use Rattle.triple_arena_commands.specs.NameStore.{row_count}
 use Rattle.triple_arena_session.specs.SessionState.{SessionState}
 use Rattle.triple_arena_session.specs.Shown.{as_row, row_of, shown}
-use Rattle.triple_arena_traits.specs.PointerListLaws.{same_itself, same_is, keys_from, has-keys, has-below}
+use Rattle.triple_arena_traits.specs.laws.PointerListLaws.{same_itself, same_is, keys_from, has-keys, has-below}
 use Rattle.triple_arena_session.proofs.TableNames.{map_changed_at, count_same, count_map, count_none, count_or, count_present}
 use Rattle.triple_arena_session.proofs.Soundness.{SoundOver}
 

@@ -6,8 +6,8 @@ use Rattle.triple_arena_ptr.specs.Pointers.{Pointer, is_same}
 use Rattle.triple_arena_stack.specs.StackKind.{StackKind, IsOfKind}
 use Rattle.triple_arena_traits.specs.ArenaState.{ArenaState, arena_len, look_up, IsWellFormed}
 use Rattle.triple_arena_traits.specs.Histories.{has, AreDistinct, ModelCall, clearing, given_by, History, begun_with, and_then, given, ended, is_live, Fits, Continues}
-use Rattle.triple_arena_traits.specs.HistoryLaws.{Fits-empty}
-use Rattle.triple_arena_traits.specs.PointerListLaws.{same_is}
+use Rattle.triple_arena_traits.specs.laws.HistoryLaws.{Fits-empty}
+use Rattle.triple_arena_traits.specs.laws.PointerListLaws.{same_is}
 use Rattle.triple_arena_session.specs.SessionState.{SessionState, new_session}
 use Rattle.triple_arena_session.specs.Shown.{IsSound, IsArenaOver}
 

@@ -13,9 +13,9 @@ use Rattle.triple_arena_traits.specs.Entries.{value_under, ChangesAt}
 use Rattle.triple_arena_traits.specs.ArenaState.{ArenaState, entry, look_up, arena_len, capacity, slot_count, IsWellFormed}
 use Rattle.triple_arena_traits.specs.Insertion.{place, next_pointer, inserted}
 use Rattle.triple_arena_traits.specs.Capacity.{grown, with_room_for}
-use Rattle.triple_arena_traits.specs.EntryLaws.{slots-inserted, fitting-inserted, limit-inserted}
+use Rattle.triple_arena_traits.specs.laws.EntryLaws.{slots-inserted, fitting-inserted, limit-inserted}
 use Rattle.triple_arena_traits.specs.Histories.{has, insertion}
-use Rattle.triple_arena_traits.specs.WellFormedLaws.{kept-inserted, place_free, len_within}
+use Rattle.triple_arena_traits.specs.laws.WellFormedLaws.{kept-inserted, place_free, len_within}
 use Rattle.triple_arena_commands.specs.declared.command.Command.TheVariants.{Insert, InsertWithin}
 use Rattle.triple_arena_commands.specs.declared.reply.Reply.{Reply}
 use Rattle.triple_arena_commands.specs.declared.reply.Reply.TheVariants.{Given, Full, BeyondMaxCapacity, NoMemory}

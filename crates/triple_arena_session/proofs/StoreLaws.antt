@@ -8,7 +8,7 @@ use Rattle.triple_arena_ptr.specs.Pointers.{Pointer}
 use Rattle.triple_arena_stack.specs.StackKind.{StackKind, IsOfKind}
 use Rattle.triple_arena_traits.specs.ArenaState.{arena_len, capacity, new_arena}
 use Rattle.triple_arena_traits.specs.Compression.{raised_if_any}
-use Rattle.triple_arena_traits.specs.WellFormedLaws.{IsWellFormed-empty}
+use Rattle.triple_arena_traits.specs.laws.WellFormedLaws.{IsWellFormed-empty}
 use Rattle.triple_arena_commands.specs.declared.command.Command.{Command}
 use Rattle.triple_arena_commands.specs.declared.command.Command.TheVariants.{Insert, InsertWithin, Get, Set, Remove, Invalidate, Clear, Compact, Len, Capacity, Reserve, Show}
 use Rattle.triple_arena_commands.specs.declared.reply.Reply.{Reply}
@@ -16,7 +16,7 @@ use Rattle.triple_arena_commands.specs.declared.reply.Reply.TheVariants.{Given, 
 use Rattle.triple_arena_commands.specs.ReplyText.{tells_of_wrap}
 use Rattle.triple_arena_commands.specs.NameStore.{Store, row_dangles, store_answer, ReservesRows, RowWantsMemory, IsStoreStep}
 use Rattle.triple_arena_commands.specs.StoreRuns.{without_wrap}
-use Rattle.triple_arena_commands.specs.UnseenLaws.{without_wrap-quiet}
+use Rattle.triple_arena_commands.specs.laws.UnseenLaws.{without_wrap-quiet}
 use Rattle.triple_arena_session.specs.SessionState.{SessionState, new_session, named}
 use Rattle.triple_arena_session.specs.Compaction.{any_dangles, compacted}
 use Rattle.triple_arena_session.specs.SessionRun.{refused_reply, show_reply, shown_text, wraps_if_any, with_room_for_name, reserve_answer, answer, WantsMemory, IsStep}

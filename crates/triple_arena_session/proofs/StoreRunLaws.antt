@@ -10,7 +10,7 @@ use Rattle.triple_arena_commands.specs.ReplyText.{tells_of_wrap}
 use Rattle.triple_arena_commands.specs.NameStore.{Store, IsStoreStep}
 use Rattle.triple_arena_commands.specs.Runs.{IsRun, TellsOfNoWrap, EndsInWrap, RunsToWrap}
 use Rattle.triple_arena_commands.specs.StoreRuns.{is_named, is_no_memory, AnswersAsStore, ample, erase, seen}
-use Rattle.triple_arena_commands.specs.UnseenLaws.{without_wrap-quiet, CompactionIsUnseen}
+use Rattle.triple_arena_commands.specs.laws.UnseenLaws.{without_wrap-quiet, CompactionIsUnseen}
 use Rattle.triple_arena_session.specs.SessionState.{SessionState}
 use Rattle.triple_arena_session.specs.SessionRun.{IsStep}
 use Rattle.triple_arena_session.specs.Shown.{shown}

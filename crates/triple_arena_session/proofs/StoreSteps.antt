@@ -11,13 +11,13 @@ use Rattle.triple_arena_traits.specs.Items.{item, with_item}
 use Rattle.triple_arena_traits.specs.Entries.{value_under, ChangesAt}
 use Rattle.triple_arena_traits.specs.ArenaState.{ArenaState, entry, look_up, arena_len, capacity, with_value}
 use Rattle.triple_arena_traits.specs.Ending.{removed, invalidated, cleared}
-use Rattle.triple_arena_traits.specs.EntryLaws.{slots-removed, slots-invalidated, slots-cleared, changes_at, fitting-removed}
+use Rattle.triple_arena_traits.specs.laws.EntryLaws.{slots-removed, slots-invalidated, slots-cleared, changes_at, fitting-removed}
 use Rattle.triple_arena_traits.specs.Walks.{keys}
 use Rattle.triple_arena_traits.specs.Histories.{has, removal, invalidation, clearing}
-use Rattle.triple_arena_traits.specs.ItemLaws.{length-with_item, item-map}
-use Rattle.triple_arena_traits.specs.WellFormedLaws.{limit-removed, greatest-removed, with_value_is}
-use Rattle.triple_arena_traits.specs.PointerListLaws.{has-append}
-use Rattle.triple_arena_traits.specs.HistoryLaws.{Continues-written, Continues-removed, Continues-invalidated, Continues-cleared}
+use Rattle.triple_arena_traits.specs.laws.ItemLaws.{length-with_item, item-map}
+use Rattle.triple_arena_traits.specs.laws.WellFormedLaws.{limit-removed, greatest-removed, with_value_is}
+use Rattle.triple_arena_traits.specs.laws.PointerListLaws.{has-append}
+use Rattle.triple_arena_traits.specs.laws.HistoryLaws.{Continues-written, Continues-removed, Continues-invalidated, Continues-cleared}
 use Rattle.triple_arena_commands.specs.declared.command.Command.{Command}
 use Rattle.triple_arena_commands.specs.declared.command.Command.TheVariants.{Get, Set, Remove, Invalidate, Clear, Len, Capacity}
 use Rattle.triple_arena_commands.specs.declared.reply.Reply.{Reply}

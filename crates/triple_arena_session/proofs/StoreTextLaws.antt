@@ -6,8 +6,8 @@ use Rattle.triple_arena_stack.specs.StackKind.{StackKind, IsOfKind}
 use Rattle.triple_arena_stack.specs.StackKind.StackKind.{heap, limited, fixed, array}
 use Rattle.triple_arena_commands.specs.declared.command.Command.{Command}
 use Rattle.triple_arena_commands.specs.declared.reply.Reply.{Reply}
-use Rattle.triple_arena_commands.specs.declared.program.Kind.{Kind}
-use Rattle.triple_arena_commands.specs.declared.program.Kind.TheVariants.{Heap, Limited, Fixed, Array}
+use Rattle.triple_arena_commands.specs.declared.arguments.Kind.{Kind}
+use Rattle.triple_arena_commands.specs.declared.arguments.Kind.TheVariants.{Heap, Limited, Fixed, Array}
 use Rattle.triple_arena_commands.specs.declared.text_error.TextError.{TextError}
 use Rattle.triple_arena_commands.specs.declared.text_error.TextError.TheVariants.{Malformed, Read, Write, NoMemory}
 use Rattle.triple_arena_commands.specs.Lines.{lines_of}
@@ -15,7 +15,7 @@ use Rattle.triple_arena_commands.specs.Runs.{TellsOfNoWrap, EndsInWrap}
 use Rattle.triple_arena_commands.specs.TextRun.{RunsLines, AnswersLines, AnswersToWrap, IsTextRun, IsFlushedRun}
 use Rattle.triple_arena_commands.specs.ReplyText.{reply_lines}
 use Rattle.triple_arena_commands.specs.NameStore.{new_store}
-use Rattle.triple_arena_commands.specs.UnseenLaws.{CompactionIsUnseen}
+use Rattle.triple_arena_commands.specs.laws.UnseenLaws.{CompactionIsUnseen}
 use Rattle.triple_arena_session.specs.SessionState.{SessionState}
 use Rattle.triple_arena_session.specs.SessionRun.{IsStep}
 use Rattle.triple_arena_session.specs.KindRun.{greatest, first_session, RunsOver, RunsKind}

@@ -13,10 +13,10 @@ use Rattle.triple_arena_commands.specs.declared.reply.Reply.{Reply}
 use Rattle.triple_arena_commands.specs.declared.reply.Reply.TheVariants.{Exhausted}
 use Rattle.triple_arena_commands.specs.ReplyText.{tells_of_wrap}
 use Rattle.triple_arena_commands.specs.Runs.{IsRun, TellsOfNoWrap, RunsToWrap}
-use Rattle.triple_arena_commands.specs.RunLaws.{TellsOfNoWrap-nil, TellsOfNoWrap-first}
+use Rattle.triple_arena_commands.specs.laws.RunLaws.{TellsOfNoWrap-nil, TellsOfNoWrap-first}
 use Rattle.triple_arena_commands.specs.StoreRuns.{is_named, is_no_memory, ample, erase, seen}
 use Rattle.triple_arena_commands.specs.Strict.{is_success, tells_exhausted, UnlessExhausted, raises_row, used, is_spent, IsCountedStep, IsStrictStoreStep}
-use Rattle.triple_arena_commands.specs.StrictLaws.{unless_so, refused_where, made_where, StrictIsUnseen}
+use Rattle.triple_arena_commands.specs.laws.StrictLaws.{unless_so, refused_where, made_where, StrictIsUnseen}
 use Rattle.triple_arena_session.specs.SessionState.{SessionState, named}
 use Rattle.triple_arena_session.specs.SessionRun.{IsStep}
 use Rattle.triple_arena_session.specs.SessionCalls.{calls_of, calls_in}

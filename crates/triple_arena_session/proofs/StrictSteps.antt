@@ -14,7 +14,7 @@ use Rattle.triple_arena_traits.specs.ArenaState.{ArenaState, arena_len, capacity
 use Rattle.triple_arena_traits.specs.Insertion.{inserted, inserted_among}
 use Rattle.triple_arena_stack.specs.Capacity.{next_capacity}
 use Rattle.triple_arena_traits.specs.Capacity.{with_room_for, grown, reallocated}
-use Rattle.triple_arena_traits.specs.WellFormedLaws.{counter-removed}
+use Rattle.triple_arena_traits.specs.laws.WellFormedLaws.{counter-removed}
 use Rattle.triple_arena_commands.specs.declared.command.Command.{Command}
 use Rattle.triple_arena_commands.specs.declared.command.Command.TheVariants.{Insert, InsertWithin, Get, Set, Remove, Invalidate, Clear, Compact, Len, Capacity, Reserve, Show}
 use Rattle.triple_arena_commands.specs.declared.reply.Reply.{Reply}

@@ -5,17 +5,17 @@ use Rattle.triple_arena_stack.specs.StackKind.{StackKind, IsOfKind}
 use Rattle.triple_arena_stack.specs.StackKind.StackKind.{heap, limited, fixed, array}
 use Rattle.triple_arena_commands.specs.declared.command.Command.{Command}
 use Rattle.triple_arena_commands.specs.declared.reply.Reply.{Reply}
-use Rattle.triple_arena_commands.specs.declared.program.Kind.{Kind}
-use Rattle.triple_arena_commands.specs.declared.program.Kind.TheVariants.{Heap, Limited, Fixed, Array}
-use Rattle.triple_arena_commands.specs.declared.program.Outcome.{Outcome}
-use Rattle.triple_arena_commands.specs.declared.program.Outcome.TheVariants.{WrongArguments, Ran}
+use Rattle.triple_arena_commands.specs.declared.arguments.Kind.{Kind}
+use Rattle.triple_arena_commands.specs.declared.arguments.Kind.TheVariants.{Heap, Limited, Fixed, Array}
+use Rattle.triple_arena_commands.specs.declared.arguments.Outcome.{Outcome}
+use Rattle.triple_arena_commands.specs.declared.arguments.Outcome.TheVariants.{WrongArguments, Ran}
 use Rattle.triple_arena_commands.specs.declared.text_error.TextError.{TextError}
 use Rattle.triple_arena_commands.specs.declared.text_error.TextError.TheVariants.{Malformed, Read, Write, NoMemory}
 use Rattle.triple_arena_commands.specs.Lines.{lines_of}
 use Rattle.triple_arena_commands.specs.TextRun.{RunsLines, AnswersLines, RunsThrough, IsTextRun, IsFlushedRun, IsFlushed}
 use Rattle.triple_arena_commands.specs.Strict.{StrictStore}
-use Rattle.triple_arena_commands.specs.StrictLaws.{StrictIsUnseen}
-use Rattle.triple_arena_commands.specs.TextLaws.{IsFlushedRun-not_begun}
+use Rattle.triple_arena_commands.specs.laws.StrictLaws.{StrictIsUnseen}
+use Rattle.triple_arena_commands.specs.laws.TextLaws.{IsFlushedRun-not_begun}
 use Rattle.triple_arena_session.specs.SessionState.{SessionState}
 use Rattle.triple_arena_session.specs.KindRun.{greatest, first_session, RunsStrictlyOver, RunsKindStrictly}
 use Rattle.triple_arena_session.specs.ProgramRun.{RunsProgram}

@@ -10,7 +10,7 @@ use Rattle.triple_arena_ptr.specs.Pointers.{Pointer, is_same}
 use Rattle.triple_arena_commands.specs.PointerNames.{name_of}
 use Rattle.triple_arena_session.specs.SessionState.{link_name, link_pointer}
 use Rattle.triple_arena_traits.specs.Histories.{has, AreDistinct}
-use Rattle.triple_arena_traits.specs.PointerListLaws.{same_itself, same_is, has_head, has_tail, or_none}
+use Rattle.triple_arena_traits.specs.laws.PointerListLaws.{same_itself, same_is, has_head, has_tail, or_none}
 
 pub not_same : (p q : Pointer) → p ≢ q → is_same p q ≡ false
 not_same p q other =

@@ -4,8 +4,8 @@ use Rattle.triple_arena_ptr.specs.Numbers.{greatest_index, first_generation}
 use Rattle.triple_arena_stack.specs.StackKind.{StackKind, heap, limited, fixed, array}
 use Rattle.triple_arena_traits.specs.ArenaState.{new_arena}
 use Rattle.triple_arena_commands.specs.TextRun.{IsFlushedRun}
-use Rattle.triple_arena_commands.specs.declared.program.Kind.{Kind}
-use Rattle.triple_arena_commands.specs.declared.program.Kind.TheVariants.{Heap, Limited, Fixed, Array}
+use Rattle.triple_arena_commands.specs.declared.arguments.Kind.{Kind}
+use Rattle.triple_arena_commands.specs.declared.arguments.Kind.TheVariants.{Heap, Limited, Fixed, Array}
 use Rattle.triple_arena_commands.specs.declared.text_error.TextError.{TextError}
 use Rattle.triple_arena_session.specs.SessionState.{SessionState, new_session}
 use Rattle.triple_arena_session.specs.SessionRun.{IsStep}

@@ -1,3 +1,4 @@
+-- Read first: SessionState, SessionRun and Shown.
 pub mod NodeText
 pub mod SessionState
 pub mod SessionLayout

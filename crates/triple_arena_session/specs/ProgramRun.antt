@@ -1,8 +1,8 @@
 -- What the program does with its arguments, its input and its output.
 use Rattle.std.specs.Prelude.{◌≡◌, ℕ, Bool, List, Option, None, Some, Result, Ok, Err}
-use Rattle.triple_arena_commands.specs.declared.program.Kind.{Kind}
-use Rattle.triple_arena_commands.specs.declared.program.Outcome.{Outcome}
-use Rattle.triple_arena_commands.specs.declared.program.Outcome.TheVariants.{Ran}
+use Rattle.triple_arena_commands.specs.declared.arguments.Kind.{Kind}
+use Rattle.triple_arena_commands.specs.declared.arguments.Outcome.{Outcome}
+use Rattle.triple_arena_commands.specs.declared.arguments.Outcome.TheVariants.{Ran}
 use Rattle.triple_arena_commands.specs.declared.text_error.TextError.{TextError}
 use Rattle.triple_arena_commands.specs.declared.text_error.TextError.TheVariants.{NoMemory}
 use Rattle.triple_arena_session.specs.KindRun.{RunsMode}

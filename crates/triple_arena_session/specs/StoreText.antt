@@ -4,10 +4,10 @@ use Rattle.std.specs.List.{list_all, list_any}
 use Rattle.std.specs.Io.KnownBytes.{Appends}
 use Rattle.triple_arena_commands.specs.declared.command.Command.{Command}
 use Rattle.triple_arena_commands.specs.declared.reply.Reply.{Reply}
-use Rattle.triple_arena_commands.specs.declared.program.Kind.{Kind}
-use Rattle.triple_arena_commands.specs.declared.program.Kind.TheVariants.{Heap, Limited, Fixed, Array}
-use Rattle.triple_arena_commands.specs.declared.program.Outcome.{Outcome}
-use Rattle.triple_arena_commands.specs.declared.program.Outcome.TheVariants.{Ran}
+use Rattle.triple_arena_commands.specs.declared.arguments.Kind.{Kind}
+use Rattle.triple_arena_commands.specs.declared.arguments.Kind.TheVariants.{Heap, Limited, Fixed, Array}
+use Rattle.triple_arena_commands.specs.declared.arguments.Outcome.{Outcome}
+use Rattle.triple_arena_commands.specs.declared.arguments.Outcome.TheVariants.{Ran}
 use Rattle.triple_arena_commands.specs.declared.text_error.TextError.{TextError}
 use Rattle.triple_arena_commands.specs.declared.text_error.TextError.TheVariants.{Malformed, Read, Write, NoMemory}
 use Rattle.triple_arena_commands.specs.Lines.{lines_of}

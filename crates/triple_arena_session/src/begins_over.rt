@@ -13,11 +13,11 @@ use crate::session::Session;
 use crate::strict_session::StrictSession;
 use std::alloc::Global;
 use triple_arena::{Arena, ArenaSlot};
+use triple_arena_direct::StrictArena;
 use triple_arena_ptr::{Ptr, PtrGen};
 use triple_arena_stack::{
     NonZeroInxArray, NonZeroInxBoxedSlice, NonZeroInxLimitedVec, NonZeroInxVec,
 };
-use triple_arena_strict::StrictArena;
 
 // The slots of a session over each kind of stack.
 type HeapSlots<P, X> = NonZeroInxVec<ArenaSlot<P, Node<X, P>>>;

@@ -1,11 +1,12 @@
-//! Sessions: commands that speak of the entries of an arena by name, their text, and the run of a whole program.
+//! Sessions: commands that speak of the entries of an arena by name, their text, and the run of a whole program. It is
+//! a door, and hands on the commands.
 #![tactic(auto)]
 
 mod begins_over;
-mod kind_run;
 pub mod laws;
 mod named_arena;
 mod node;
+mod program;
 mod session;
 mod session_arena;
 mod strict_session;
@@ -13,8 +14,8 @@ mod strict_text;
 mod text;
 
 pub use begins_over::BeginsOver;
-pub use kind_run::{run_kind, run_program};
 pub use node::Node;
+pub use program::{run_kind, run_program};
 pub use session::Session;
 pub use strict_session::StrictSession;
 pub use strict_text::{run_text_strict, run_text_strict_and_flush};

@@ -72,8 +72,8 @@ impl<
         }
     }
 
-    /// The reply to a command, and what it leaves. Over a strict arena it is `Exhausted` where the command
-    /// would raise a counter that stands at the greatest generation.
+    /// The body of `step`: the reply to a command, and what it leaves. Over a strict arena it is `Exhausted`
+    /// where the command would raise a counter that stands at the greatest generation.
     pub(crate) fn answer(&mut self, command: Command<X>) -> Reply<X>
     where
         X: Debug,
@@ -142,12 +142,13 @@ impl<
         ensures over { IsArenaOver S.kind self.now.arena }
         ensures within { self.now.arena.counter ≤ P.Gen.greatest }
     {
+        // By their clauses, together.
         let _len = self.arena.len();
         let _limit = self.arena.max_capacity();
         let _is_at_greatest = self.arena.is_at_greatest();
     }
 
-    // The replies to commands, up to the first wrap.
+    // The body of `run`: the replies to commands, up to the first wrap.
     pub(crate) fn run_commands(
         &mut self,
         commands: &[Command<X>],
@@ -319,7 +320,7 @@ impl<
         ensures { IsStep S.kind S.has_memory P.Gen.counting P.Gen.greatest
             self.old (Command.Reserve count) result self.new }
     {
-        // It tells the greatest index of the arena.
+        // By its clause, the greatest index of the arena is that of its pointers.
         let _capacity = self.arena.capacity();
         match self.arena.reallocate_min_capacity(count) {
             Ok(()) => Reply::Done,

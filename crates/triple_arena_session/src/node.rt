@@ -3,7 +3,7 @@
 ghost use Rattle.std.proofs.Common.{ap};
 ghost use Rattle.std.specs.Fmt.{debug_option};
 ghost use Rattle.triple_arena_base.specs.Held.{held_option, refill_option};
-ghost use Rattle.triple_arena_base.specs.HeldLaws.{option_held_refill, option_refill_held, option_refill_refill};
+ghost use Rattle.triple_arena_base.specs.laws.HeldLaws.{option_held_refill, option_refill_held, option_refill_refill};
 ghost use Rattle.triple_arena_session.specs.NodeText.{pair_text};
 
 use std::fmt;

@@ -15,7 +15,7 @@ ghost use Rattle.triple_arena_traits.specs.FreeList.{tidied};
 ghost use Rattle.triple_arena_traits.specs.Capacity.{reallocated, KeepsRoom, grown};
 ghost use Rattle.triple_arena_traits.specs.Compression.{compressed, raised_if_any, wraps_after, rank};
 ghost use Rattle.triple_arena_traits.specs.Walks.{values};
-ghost use Rattle.triple_arena_renaming.specs.Renaming.{MapsPointers, first_unresolved, AreRenamed, Refuses};
+ghost use Rattle.triple_arena_direct.specs.Renaming.{MapsPointers, first_unresolved, AreRenamed, Refuses};
 ghost use Rattle.triple_arena_session.specs.SessionLayout.{uncounted};
 
 use std::alloc::Global;
@@ -23,11 +23,11 @@ use triple_arena::{Arena, ArenaInsertTrait, ArenaSlot, ArenaTrait};
 use triple_arena_base::{
     CompactError, InvalidationOption, InvalidationResult, ReallocationError, Recast,
 };
-use triple_arena_direct::DirectArena;
+use triple_arena_direct::{
+    DirectArena, StrictArena, StrictCompactError, StrictError, compress_recast,
+};
 use triple_arena_ptr::{Ptr, PtrGen, PtrInx};
-use triple_arena_renaming::compress_recast;
 use triple_arena_stack::NonZeroInxGenericStack;
-use triple_arena_strict::{StrictArena, StrictCompactError, StrictError};
 
 /// The arena of a session. What its calls answer and leave is said of the state of an `Arena`. A strict
 /// one refuses to wrap its counter, and its session makes no call that would.
@@ -42,7 +42,7 @@ pub(crate) trait SessionArena<P: Ptr, T, S: NonZeroInxGenericStack<ArenaSlot<P, 
     fn is_strict() -> bool
         ensures { result ≡ strict };
 
-    /// The same as an `Arena`.
+    /// The arena that its own calls and walks are made on.
     fn arena(&self) -> &Arena<P, T, S>
         ensures { uncounted result.now ≡ state self.now };
 

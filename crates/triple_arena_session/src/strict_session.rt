@@ -25,9 +25,9 @@ use std::marker::Model;
 use triple_arena::ArenaSlot;
 use triple_arena_base::AllocError;
 use triple_arena_commands::{Command, Reply};
+use triple_arena_direct::StrictArena;
 use triple_arena_ptr::{Ptr, PtrGen, PtrInx};
 use triple_arena_stack::{NonZeroInxGenericStack, NonZeroInxVec};
-use triple_arena_strict::StrictArena;
 
 /// A session over a strict arena: a command that would raise the counter past the greatest generation is
 /// answered `Exhausted`, and changes nothing. So no reply tells of a wrap, and no pointer is ever given

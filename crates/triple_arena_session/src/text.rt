@@ -55,7 +55,7 @@ pub fn run_text<P: Ptr, S: NonZeroInxGenericStack<ArenaSlot<P, Node<u64, P>>>, R
     read_and_run(&mut session.inside, alloc, input, output)
 }
 
-/// Reads a text to its end and runs its lines.
+/// The body of `run_text`, of a session of any arena: reads a text to its end and runs its lines.
 pub(crate) fn read_and_run<
     P: Ptr,
     S: NonZeroInxGenericStack<ArenaSlot<P, Node<u64, P>>>,
@@ -108,7 +108,8 @@ pub fn run_text_and_flush<
     run_and_flush(&mut session.inside, alloc, input, output)
 }
 
-/// Runs a text, and flushes the writer after it.
+/// The body of `run_text_and_flush`, of a session of any arena: runs a text, and flushes the writer
+/// after it.
 pub(crate) fn run_and_flush<
     P: Ptr,
     S: NonZeroInxGenericStack<ArenaSlot<P, Node<u64, P>>>,

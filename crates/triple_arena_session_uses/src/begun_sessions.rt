@@ -11,10 +11,10 @@ ghost use Rattle.triple_arena_session.specs.Strict.{strictly_shown};
 
 use std::alloc::Global;
 use triple_arena::{Arena, ArenaSlot};
+use triple_arena_direct::StrictArena;
 use triple_arena_ptr::P0;
 use triple_arena_session::{BeginsOver, Command, Node, Reply, Session, StrictSession};
 use triple_arena_stack::NonZeroInxLimitedVec;
-use triple_arena_strict::StrictArena;
 
 /// The slots of a session of numbers, up to a limit.
 pub type LimitedSlots = NonZeroInxLimitedVec<ArenaSlot<P0, Node<u64, P0>>>;

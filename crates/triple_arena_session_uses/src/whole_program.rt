@@ -2,7 +2,7 @@
 
 ghost use Rattle.std.specs.Prelude.{◌≡◌, [], IfSome, Some, Ok, false};
 ghost use Rattle.triple_arena_commands.specs.Program.{asked_mode};
-ghost use Rattle.triple_arena_commands.specs.declared.program.Kind.TheVariants.{Heap};
+ghost use Rattle.triple_arena_commands.specs.declared.arguments.Kind.TheVariants.{Heap};
 ghost use Rattle.triple_arena_session.specs.StoreText.{IsStoreText, first_store};
 
 use std::alloc::Global;

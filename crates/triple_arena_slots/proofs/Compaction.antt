@@ -5,13 +5,13 @@ use Rattle.triple_arena_traits.specs.Entries.{entry_count}
 use Rattle.triple_arena_traits.specs.ArenaState.{ArenaState, capacity}
 use Rattle.triple_arena_traits.specs.Walks.{entries, keys}
 use Rattle.triple_arena_traits.specs.Compression.{closed_up, compressed, rank, rank_in, placed}
-use Rattle.triple_arena_traits.specs.CompressionLaws.{count-closed_up, placed-closed_up}
+use Rattle.triple_arena_traits.specs.laws.CompressionLaws.{count-closed_up, placed-closed_up}
 use Rattle.triple_arena_traits.specs.Moves.{Moves}
 use Rattle.triple_arena_slots.specs.Slot.{entry_of}
 use Rattle.triple_arena_slots.specs.Layout.{Shows}
 use Rattle.triple_arena_slots.specs.declared.slot.ArenaSlot.{ArenaSlot}
-use Rattle.triple_arena_traits.specs.MoveLaws.{count-moved}
-use Rattle.triple_arena_traits.specs.StepLaws.{IsWellFormed-compressed}
+use Rattle.triple_arena_traits.specs.laws.MoveLaws.{count-moved}
+use Rattle.triple_arena_traits.specs.laws.StepLaws.{IsWellFormed-compressed}
 
 module _ {T : Type 0} where
   pub Shows-compressed : {P I G : Type 0} (number : G → ℕ) (es : List (ArenaSlot P T I G)) (len : ℕ) (s : ArenaState T) (counter : ℕ) (vs : List T) → map (entry_of number) es ≡ closed_up counter vs → length vs ≡ len → length vs ≤ capacity s → Shows number es None len (compressed s counter vs)

@@ -11,8 +11,8 @@ use Rattle.triple_arena_slots.specs.Layout.{IsLinked, Leaves, Shows, without_las
 use Rattle.triple_arena_slots.specs.Link.{Link}
 use Rattle.triple_arena_slots.specs.declared.slot.ArenaSlot.{ArenaSlot}
 use Rattle.triple_arena_slots.specs.declared.slot.ArenaSlot.TheVariants.{Free}
-use Rattle.triple_arena_traits.specs.ItemLaws.{item_within, item_past, item-take, split_last, item-map_some}
-use Rattle.triple_arena_traits.specs.FreeListLaws.{trimmed_popped, trimmed_length}
+use Rattle.triple_arena_traits.specs.laws.ItemLaws.{item_within, item_past, item-take, split_last, item-map_some}
+use Rattle.triple_arena_traits.specs.laws.FreeListLaws.{trimmed_popped, trimmed_length}
 use Rattle.triple_arena_traits.proofs.FreeEnd.{without_none}
 use Rattle.triple_arena_traits.proofs.UpTo.{up_to-cons, up_to-past, up_to_all, count-up_to, count-past, length_more}
 use Rattle.triple_arena_slots.proofs.TwoWay.{times, up_to-split}

@@ -15,12 +15,12 @@ use Rattle.triple_arena_slots.specs.Layout.{entry_at, Linked, after, before, cha
 use Rattle.triple_arena_slots.specs.Link.{Link}
 use Rattle.triple_arena_slots.specs.declared.slot.ArenaSlot.{ArenaSlot}
 use Rattle.triple_arena_slots.specs.declared.slot.ArenaSlot.TheVariants.{Free, Allocated}
-use Rattle.triple_arena_traits.specs.ItemLaws.{joined, map-with_item, eq_true, eq_false, item_within, item-with_other, item-push_other, split_last, item-map, item-map_some, item-map_none}
+use Rattle.triple_arena_traits.specs.laws.ItemLaws.{joined, map-with_item, eq_true, eq_false, item_within, item-with_other, item-push_other, split_last, item-map, item-map_some, item-map_none}
 use Rattle.triple_arena_slots.proofs.TwoWay.{times, Once, Skips, Leads, Linked-same, Linked-skipped, Linked-led, neighbours_apart, next_there, previous_there, root_skipped, split_at}
 use Rattle.triple_arena_traits.proofs.SlotEntries.{entry_item}
-use Rattle.triple_arena_traits.specs.WellFormedLaws.{with_entry, with_value_is, with_generation_is, live_counted, live_not_free, IsWellFormed-inserted, IsWellFormed-removed, IsWellFormed-with_entry, IsWellFormed-counter}
-use Rattle.triple_arena_traits.specs.EntryLaws.{first_free}
-use Rattle.triple_arena_traits.specs.LengthLaws.{count-with_item}
+use Rattle.triple_arena_traits.specs.laws.WellFormedLaws.{with_entry, with_value_is, with_generation_is, live_counted, live_not_free, IsWellFormed-inserted, IsWellFormed-removed, IsWellFormed-with_entry, IsWellFormed-counter}
+use Rattle.triple_arena_traits.specs.laws.EntryLaws.{first_free}
+use Rattle.triple_arena_traits.specs.laws.LengthLaws.{count-with_item}
 
 not_own : (n i j : ℕ) (b : Bool) → (n == i) ≡ b → cond b None (Some n) ≡ Some j → j ≢ i
 not_own n i j true t e = absurd (cc)

@@ -6,7 +6,7 @@ use Rattle.triple_arena_base.specs.declared.invalidation.InvalidationResult.{Inv
 use Rattle.triple_arena_base.specs.declared.invalidation.InvalidationResult.TheVariants.{InvalidPtr}
 use Rattle.triple_arena_ptr.specs.Pointers.{Pointer}
 use Rattle.triple_arena_traits.specs.Items.{item}
-use Rattle.triple_arena_traits.specs.ItemLaws.{joined}
+use Rattle.triple_arena_traits.specs.laws.ItemLaws.{joined}
 use Rattle.triple_arena_traits.specs.Entries.{entry_in, KeepsEntries}
 use Rattle.triple_arena_traits.specs.ArenaState.{ArenaState, slot_count, with_value, IsWellFormed}
 use Rattle.triple_arena_traits.specs.Ending.{told_of, map_told}
@@ -16,7 +16,7 @@ use Rattle.triple_arena_traits.specs.Walks.{entries}
 use Rattle.triple_arena_traits.specs.Copying.{Copies}
 use Rattle.triple_arena_traits.proofs.CopyLemmas.{copy_same_end}
 use Rattle.triple_arena_traits.proofs.SlotEntries.{entry_read}
-use Rattle.triple_arena_traits.specs.HistoryLaws.{Continues-written}
+use Rattle.triple_arena_traits.specs.laws.HistoryLaws.{Continues-written}
 
 -- an answer with a value that was found
 pub told_found : {A : Type 0} (r : InvalidationResult A) (b w : Bool) (o : Option A) (v : A) → r ≡ told_of b (Some v) → b ≡ w → o ≡ Some v → r ≡ told_of w o

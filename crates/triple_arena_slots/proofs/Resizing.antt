@@ -9,9 +9,9 @@ use Rattle.triple_arena_slots.specs.Layout.{state_of, Shows}
 use Rattle.triple_arena_traits.specs.ArenaState.{ArenaState, capacity, slot_count, arena_len}
 use Rattle.triple_arena_traits.specs.FreeList.{tidied}
 use Rattle.triple_arena_traits.specs.Capacity.{with_room_for, reallocated}
-use Rattle.triple_arena_traits.specs.EntryLaws.{within_room, slots-reallocated}
+use Rattle.triple_arena_traits.specs.laws.EntryLaws.{within_room, slots-reallocated}
 use Rattle.triple_arena_traits.specs.Histories.{resizing, Fits, Continues}
-use Rattle.triple_arena_traits.specs.HistoryLaws.{Continues-resized, Continues-tidied}
+use Rattle.triple_arena_traits.specs.laws.HistoryLaws.{Continues-resized, Continues-tidied}
 
 limit_fits : (n room x greatest : ℕ) (limit : Option ℕ) → n ≤ min (capacity_of room limit) greatest → n ≤ x → n ≤ min (capacity_of room (Some x)) greatest
 limit_fits n room x greatest None fits below = omega arith

@@ -7,16 +7,16 @@ use Rattle.triple_arena_traits.specs.Items.{item}
 use Rattle.triple_arena_traits.specs.ArenaState.{ArenaState, arena_len, capacity}
 use Rattle.triple_arena_traits.specs.FreeList.{trimmed, gaps, tidied, laid_out}
 use Rattle.triple_arena_slots.specs.Slot.{entry_of}
-use Rattle.triple_arena_traits.specs.LengthLaws.{trimmed_live, live_slot}
+use Rattle.triple_arena_traits.specs.laws.LengthLaws.{trimmed_live, live_slot}
 use Rattle.triple_arena_slots.specs.Layout.{after, before, entry_at, IsLinked, Begins, Shows}
-use Rattle.triple_arena_traits.specs.ItemLaws.{joined, length-with_item, with_item_same}
+use Rattle.triple_arena_traits.specs.laws.ItemLaws.{joined, length-with_item, with_item_same}
 use Rattle.triple_arena_slots.specs.declared.slot.ArenaSlot.{ArenaSlot}
-use Rattle.triple_arena_traits.specs.EntryLaws.{count_head}
-use Rattle.triple_arena_traits.specs.WellFormedLaws.{count_tail}
+use Rattle.triple_arena_traits.specs.laws.EntryLaws.{count_head}
+use Rattle.triple_arena_traits.specs.laws.WellFormedLaws.{count_tail}
 use Rattle.triple_arena_slots.proofs.TwoWay.{times, Once, Linked-led}
 use Rattle.triple_arena_slots.proofs.Links.{leads_of}
-use Rattle.triple_arena_traits.specs.FreeListLaws.{gaps_above}
-use Rattle.triple_arena_traits.specs.StepLaws.{IsWellFormed-laid_out, IsWellFormed-tidied}
+use Rattle.triple_arena_traits.specs.laws.FreeListLaws.{gaps_above}
+use Rattle.triple_arena_traits.specs.laws.StepLaws.{IsWellFormed-laid_out, IsWellFormed-tidied}
 
 module _ {T : Type 0} where
   entry_step : (xs : List (Option (ℕ × T))) (at : ℕ) (x : Option (ℕ × T)) → item xs (at + 1) ≡ Some x → drop at xs ≡ x ∷ drop (at + 1) xs

@@ -4,8 +4,8 @@ use Rattle.std.proofs.lemmas.Bool.{cases_eq}
 use Rattle.std.proofs.lemmas.List.Sums.{sum_by-cons, sum_by-append}
 use Rattle.std.proofs.lemmas.Option.{same_Some}
 use Rattle.triple_arena_traits.specs.FreeList.{up_to}
-use Rattle.triple_arena_traits.specs.EntryLaws.{count_head}
-use Rattle.triple_arena_traits.specs.WellFormedLaws.{count_tail}
+use Rattle.triple_arena_traits.specs.laws.EntryLaws.{count_head}
+use Rattle.triple_arena_traits.specs.laws.WellFormedLaws.{count_tail}
 use Rattle.triple_arena_traits.proofs.UpTo.{up_to-cons, up_to-past, up_to_all}
 use Rattle.triple_arena_slots.specs.Layout.{Linked}
 

@@ -5,7 +5,7 @@ use Rattle.std.proofs.lemmas.List.{length-map}
 use Rattle.std.proofs.lemmas.Option.{same_Some}
 use Rattle.std.specs.Option.{option_map, option_and_then}
 use Rattle.triple_arena_traits.specs.Items.{item, with_item}
-use Rattle.triple_arena_traits.specs.ItemLaws.{map-with_item, item_within, item-map, item-with_same, item-with_other, with_item_same, item-map_some}
+use Rattle.triple_arena_traits.specs.laws.ItemLaws.{map-with_item, item_within, item-map, item-with_same, item-with_other, with_item_same, item-map_some}
 use Rattle.triple_arena_slots.specs.Slot.{entry_of, next_free, previous_free, next_in, previous_in, LinksOn, LinksBack}
 use Rattle.triple_arena_slots.specs.Layout.{after, before, LeadsOn, LeadsBack, Begins, Leaves}
 use Rattle.triple_arena_slots.specs.Link.{Link}

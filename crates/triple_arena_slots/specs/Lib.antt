@@ -1,5 +1,6 @@
+-- Read first: Slot and Link.
 pub mod Link
 pub mod Slot
-pub mod SlotLaws
 pub mod Layout
 pub mod Lends
+pub mod laws

@@ -191,7 +191,7 @@ impl<P: Ptr, T> ArenaSlot<P, T> {
 }
 
 impl<P: Ptr, T> EntrySlot<P, T> for ArenaSlot<P, T> {
-    ghost use Rattle.triple_arena_slots.specs.SlotLaws.{entry_of-written, with_own_slot_value, free-with_slot_value};
+    ghost use Rattle.triple_arena_slots.specs.laws.SlotLaws.{entry_of-written, with_own_slot_value, free-with_slot_value};
 
     // the entry, as the state of an arena has it
     ghost entry = { entry_of P.Gen.number };

@@ -1,3 +1,4 @@
+-- Read first: StackKind, StackState and Capacity.
 pub mod StackKind
 pub mod StackState
 pub mod Capacity

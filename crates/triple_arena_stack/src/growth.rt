@@ -1,5 +1,5 @@
 //! How a full stack grows.
-ghost use Rattle.std.specs.Prelude.{◌≡◌, ◌↔◌, length, IsOk, OnOk, OnErr};
+ghost use Rattle.std.specs.Prelude.{◌≡◌, ◌↔◌, ◌<◌, ◌^◌, length, IsOk, OnOk, OnErr};
 ghost use Rattle.triple_arena_stack.specs.Capacity.{capacity_of, most_places, next_capacity, room_for_one_more, HasPlace, IsFullAtLimit, CanGrow};
 
 use crate::stack::NonZeroInxGenericStack;
@@ -36,12 +36,14 @@ pub fn grow_if_full<T, S: NonZeroInxGenericStack<T>>(stack: &mut S) -> Result<()
     if capacity == usize::MAX {
         return Err(ReallocationError::AllocError);
     }
-    stack.reallocate_min_capacity(grown_capacity(capacity, limit))
+    stack.reallocate_min_capacity(grown_capacity(capacity, limit, usize::MAX))
 }
 
-// The capacity that a full stack grows to.
-fn grown_capacity(capacity: usize, limit: Option<usize>) -> usize
-    ensures { result ≡ next_capacity capacity limit most_places }
+/// The capacity that a full stack or arena grows to: twice the old one, and 4 from 0, but no more than its
+/// limit, where there is one, and than the greatest capacity.
+pub fn grown_capacity(capacity: usize, limit: Option<usize>, greatest: usize) -> usize
+    requires { greatest < 2 ^ 64 }
+    ensures { result ≡ next_capacity capacity limit greatest }
 {
     let next = if capacity == 0 {
         4
@@ -49,7 +51,7 @@ fn grown_capacity(capacity: usize, limit: Option<usize>) -> usize
         capacity.saturating_mul(2)
     };
     match limit {
-        Some(most) => next.min(most),
-        None => next,
+        Some(most) => next.min(most).min(greatest),
+        None => next.min(greatest),
     }
 }

@@ -1,4 +1,4 @@
-//! Stacks whose items are numbered from 1, under one contract.
+//! Stacks whose items are numbered from 1, under one contract. It is a door.
 #![tactic(auto)]
 
 mod array;
@@ -14,6 +14,7 @@ mod vec;
 
 pub use array::{ArrayStack, NonZeroInxArray, NonZeroInxArrayPushEntry};
 pub use boxed_slice::{FixedStack, NonZeroInxBoxedSlice, NonZeroInxBoxedSlicePushEntry};
+pub use growth::grown_capacity;
 pub use limited_vec::{LimitedStack, NonZeroInxLimitedVec, NonZeroInxLimitedVecPushEntry};
 pub use non_zero_inx_stack::NonZeroInxStack;
 pub use pair::{pair_if, pair_of};

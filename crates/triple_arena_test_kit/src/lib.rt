@@ -3,6 +3,7 @@
 #![tactic(auto)]
 
 mod arenas;
+pub mod direct;
 mod index_calls;
 mod on_stacks;
 mod own_calls;

@@ -33,7 +33,7 @@ where
     trial.on(&mut tested)
 }
 
-/// The same over a stack whose limit can be set.
+/// Tries it on an arena over `S`, whose limit can be set, with this room or as `new` makes it.
 pub fn on_stack_with_limit<P: Ptr, S: SetMaxCapacity<ArenaSlot<P, Token>> + Drop, T: Trial>(
     alloc: Global,
     room: Option<usize>,

@@ -59,7 +59,8 @@ where
     }
 }
 
-/// The same by `entry_insert_reallocating`.
+/// The pointer of an entry of `entry_insert_reallocating`, by which a value is inserted, if there
+/// is one, and which else is let go.
 pub fn entry_reallocating<P: Ptr, S: NonZeroInxGenericStack<ArenaSlot<P, Token>>>(
     arena: &mut Arena<P, Token, S>,
     number: Option<u64>,
@@ -73,7 +74,8 @@ where
     }
 }
 
-/// The same by `entry_insert_within_capacity`.
+/// The pointer of an entry of `entry_insert_within_capacity`, by which a value is inserted, if
+/// there is one, and which else is let go.
 pub fn entry_within<P: Ptr, S: NonZeroInxGenericStack<ArenaSlot<P, Token>>>(
     arena: &mut Arena<P, Token, S>,
     number: Option<u64>,

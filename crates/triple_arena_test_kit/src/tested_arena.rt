@@ -24,7 +24,7 @@ impl<P: Ptr, S: NonZeroInxGenericStack<ArenaSlot<P, Token>>> Debug for Tested<P,
     }
 }
 
-/// One over a stack whose limit can be set.
+/// An `Arena` over a stack whose limit can be set, that tables of calls are tried on.
 #[derive(Drop)]
 pub struct WithLimit<P: Ptr, S: NonZeroInxGenericStack<ArenaSlot<P, Token>>> {
     pub tested: Tested<P, S>,

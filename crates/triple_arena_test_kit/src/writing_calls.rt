@@ -28,7 +28,7 @@ where
     Told::Met(met[0], met[1], met[2])
 }
 
-/// The same by `iter_mut`.
+/// Adds a number to each value by `iter_mut`.
 pub fn add_to_each_entry<P: Ptr, S: NonZeroInxGenericStack<ArenaSlot<P, Token>>>(
     arena: &mut Arena<P, Token, S>,
     number: u64,
@@ -50,7 +50,7 @@ where
     Told::Met(met[0], met[1], met[2])
 }
 
-/// The same by `vals_mut`.
+/// Adds a number to each value by `vals_mut`.
 pub fn add_to_each_value<P: Ptr, S: NonZeroInxGenericStack<ArenaSlot<P, Token>>>(
     arena: &mut Arena<P, Token, S>,
     number: u64,

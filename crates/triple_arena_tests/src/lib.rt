@@ -1,5 +1,4 @@
-//! Tests of arenas by public calls, as tables of calls and answers: insertion, entries, look-ups, pairs,
-//! writing to each value, endings, growth, limits, compression and refusals.
+//! Tests of arenas by public calls, as tables of calls and answers.
 #![tactic(auto)]
 
 #[cfg(test)]

@@ -4,7 +4,7 @@ ghost use Rattle.std.specs.Prelude.{◌≡◌, Some, true, codes};
 ghost use Rattle.std.specs.Int.NonZero.{non_zero_u8_get, non_zero_usize_get};
 ghost use Rattle.std.proofs.Common.{refl, ap, ◌∙◌};
 ghost use Rattle.triple_arena_base.specs.Held.{held_itself, refill_itself};
-ghost use Rattle.triple_arena_base.specs.HeldLaws.{itself_held_refill, itself_refill_held, itself_refill_refill};
+ghost use Rattle.triple_arena_base.specs.laws.HeldLaws.{itself_held_refill, itself_refill_held, itself_refill_refill};
 ghost use Rattle.triple_arena_ptr.specs.PointerText.{pointer_text};
 
 use std::fmt;

@@ -8,6 +8,7 @@ mod call;
 mod numbered;
 mod pair_calls;
 mod pointers;
+pub mod refused;
 mod scarce_stack;
 mod seen;
 mod shown;

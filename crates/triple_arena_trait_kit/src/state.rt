@@ -47,7 +47,7 @@ impl State {
         }
     }
 
-    /// The same without free slots past the last entry, and with the other free indexes in rising
+    /// This state without free slots past the last entry, and with the other free indexes in rising
     /// order.
     pub fn in_order(self) -> Self {
         let mut slots = 0;

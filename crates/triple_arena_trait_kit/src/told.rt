@@ -48,7 +48,7 @@ pub enum Told {
     BothHeld(u64, u64, u64, u64),
     /// A value that is given back.
     GivenBack(u64),
-    // The same where the counter wrapped.
+    // `Done`, `At`, `Holds` and `Held`, where the counter wrapped.
     Wrapped,
     WrappedAt(usize, u64),
     WrappedHolds(u64),
@@ -85,23 +85,23 @@ fn told_as<G: Numbered>(number: u64) -> u64 {
     }
 }
 
-// The same pointer of the type whose generations are `G`.
+// A pointer by its numbers, as it is told where generations are of the type `G`.
 fn pointer_as<G: Numbered>(met: (usize, u64)) -> (usize, u64) {
     (met.0, told_as::<G>(met.1))
 }
 
-// The same entry on pointers whose generations are of the type `G`.
+// An entry by its numbers, as it is told where generations are of the type `G`.
 fn entry_as<G: Numbered>(met: (usize, u64, u64)) -> (usize, u64, u64) {
     (met.0, told_as::<G>(met.1), met.2)
 }
 
-// The same entry of a drain.
+// An entry that a drain took out, as it is told where generations are of the type `G`.
 fn drained_as<G: Numbered>(met: (usize, u64, u64, bool)) -> (usize, u64, u64, bool) {
     (met.0, told_as::<G>(met.1), met.2, met.3)
 }
 
 impl Told {
-    /// The same on pointers whose generations are of the type `G`.
+    /// This answer, as it is told on pointers whose generations are of the type `G`.
     pub fn at_type<G: Numbered>(self) -> Told {
         match self {
             Told::Generation(g) => Told::Generation(told_as::<G>(g)),

@@ -36,7 +36,7 @@ where
     (index, generation, token.number)
 }
 
-// The same of an entry, if there is one.
+// Index, generation and number of an entry, if there is one.
 fn met_entry<P: Ptr>(entry: Option<(P, &Token)>) -> (usize, u64, u64)
 where
     P::Gen: Numbered,
@@ -47,7 +47,7 @@ where
     }
 }
 
-// The same of an entry that a drain took out, and whether the counter wrapped.
+// Index, generation and number of an entry that a drain took out, and whether the counter wrapped.
 fn drained_entry<P: Ptr>(item: Option<InvalidationOption<(P, Token)>>) -> (usize, u64, u64, bool)
 where
     P::Gen: Numbered,

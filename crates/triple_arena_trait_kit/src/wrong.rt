@@ -29,7 +29,7 @@ impl From<alloc::AllocError> for Wrong {
     }
 }
 
-/// The same, where memory for the arena may be refused, and then nothing is wrong.
+/// What was tried, where memory for the arena may be refused, and then nothing is wrong.
 pub fn where_there_is_memory(tried: Result<(), Wrong>) -> Result<(), Wrong> {
     match tried {
         Err(Wrong::NoMemory) => Ok(()),

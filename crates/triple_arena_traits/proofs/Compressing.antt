@@ -13,7 +13,7 @@ use Rattle.triple_arena_traits.specs.Entries.{entry_count}
 use Rattle.triple_arena_traits.specs.Walks.{entries_from, entries, keys_of, keys}
 use Rattle.triple_arena_traits.specs.Compression.{rank_in, placed}
 use Rattle.triple_arena_traits.specs.Moves.{Move, moved_from, moved_to}
-use Rattle.triple_arena_traits.specs.ItemLaws.{map-with_item, item-map_some}
+use Rattle.triple_arena_traits.specs.laws.ItemLaws.{map-with_item, item-map_some}
 
 module _ {X : Type 0} where
   slice_get-after : (front : List X) (x : X) (back : List X) → slice_get (front ++ x ∷ back) (length front) ≡ Some x

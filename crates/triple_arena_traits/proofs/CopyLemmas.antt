@@ -10,17 +10,17 @@ use Rattle.std.proofs.lemmas.List.Elements.{Contains-append_left}
 use Rattle.std.proofs.lemmas.List.Sums.{sum_by-cons}
 use Rattle.triple_arena_ptr.specs.Pointers.{Pointer}
 use Rattle.triple_arena_traits.specs.Items.{item}
-use Rattle.triple_arena_traits.specs.ItemLaws.{joined, item-push_same, eq_true}
+use Rattle.triple_arena_traits.specs.laws.ItemLaws.{joined, item-push_same, eq_true}
 use Rattle.triple_arena_traits.specs.ArenaState.{is_free}
 use Rattle.triple_arena_traits.specs.Entries.{entry_in, look_up_in, entry_count, KeepsEntries}
-use Rattle.triple_arena_traits.specs.EntryLaws.{entry-trimmed}
+use Rattle.triple_arena_traits.specs.laws.EntryLaws.{entry-trimmed}
 use Rattle.triple_arena_traits.specs.FreeList.{trimmed, last_index, IsRising}
 use Rattle.triple_arena_traits.specs.Walks.{Stand, Steps, IsAtFirst, entries_from, entries, entries_ahead, keys, keys_ahead}
-use Rattle.triple_arena_traits.specs.WalkLaws.{taken, found, live_within, forward_stays, ahead_taken, ahead_first, ahead_none, keys_first, keys_taken, keys_rising, live_key, key_live}
+use Rattle.triple_arena_traits.specs.laws.WalkLaws.{taken, found, live_within, forward_stays, ahead_taken, ahead_first, ahead_none, keys_first, keys_taken, keys_rising, live_key, key_live}
 use Rattle.triple_arena_traits.specs.Copying.{Mapping, put_after, mapped_from, mapped_to, MapTurn, Copies}
 use Rattle.triple_arena_traits.specs.Cloning.{IsCloneAnswer}
-use Rattle.triple_arena_traits.specs.FreeListLaws.{trimmed_last}
-use Rattle.triple_arena_traits.specs.LimitLaws.{ends_within}
+use Rattle.triple_arena_traits.specs.laws.FreeListLaws.{trimmed_last}
+use Rattle.triple_arena_traits.specs.laws.LimitLaws.{ends_within}
 use Rattle.triple_arena_base.specs.declared.errors.CloneFromError.{CloneFromError}
 use Rattle.triple_arena_base.specs.declared.errors.CloneFromError.TheVariants.{Reallocation, Map}
 use Rattle.triple_arena_base.specs.declared.errors.ReallocationError.{ReallocationError}

@@ -6,7 +6,7 @@ use Rattle.std.specs.Option.{option_map, option_and_then, option_copied_mut}
 use Rattle.std.specs.Borrow.{MutBor}
 use Rattle.std.specs.Prelude.{IsSome}
 use Rattle.triple_arena_traits.specs.Items.{with_item}
-use Rattle.triple_arena_traits.specs.ItemLaws.{joined, eq_true}
+use Rattle.triple_arena_traits.specs.laws.ItemLaws.{joined, eq_true}
 use Rattle.triple_arena_ptr.specs.Pointers.{Pointer}
 use Rattle.triple_arena_traits.specs.Entries.{entry_in, look_up_in, value_under, with_value_in}
 use Rattle.triple_arena_traits.specs.Walks.{entries_from, entries, keys_of, keys, values_of, values}

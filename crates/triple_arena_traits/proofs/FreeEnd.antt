@@ -6,11 +6,11 @@ use Rattle.triple_arena_traits.specs.Items.{item}
 use Rattle.triple_arena_traits.specs.ArenaState.{ArenaState, slot_count, is_free, IsWellFormed}
 use Rattle.triple_arena_traits.specs.Entries.{entry_in}
 use Rattle.triple_arena_traits.specs.FreeList.{trimmed, up_to, without_free_end}
-use Rattle.triple_arena_traits.specs.EntryLaws.{entry-trimmed}
-use Rattle.triple_arena_traits.specs.ItemLaws.{joined, item_past, item-take}
-use Rattle.triple_arena_traits.specs.FreeListLaws.{trimmed_length, trimmed_done, trimmed_last}
-use Rattle.triple_arena_traits.specs.LengthLaws.{trimmed_live}
-use Rattle.triple_arena_traits.specs.LimitLaws.{ends_within}
+use Rattle.triple_arena_traits.specs.laws.EntryLaws.{entry-trimmed}
+use Rattle.triple_arena_traits.specs.laws.ItemLaws.{joined, item_past, item-take}
+use Rattle.triple_arena_traits.specs.laws.FreeListLaws.{trimmed_length, trimmed_done, trimmed_last}
+use Rattle.triple_arena_traits.specs.laws.LengthLaws.{trimmed_live}
+use Rattle.triple_arena_traits.specs.laws.LimitLaws.{ends_within}
 use Rattle.triple_arena_traits.proofs.Shortening.{trimmed_front}
 use Rattle.triple_arena_traits.proofs.UpTo.{count-up_to, count-past, length_more, up_to_all}
 

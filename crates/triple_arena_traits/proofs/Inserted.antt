@@ -7,9 +7,9 @@ use Rattle.triple_arena_traits.specs.Items.{item}
 use Rattle.triple_arena_traits.specs.Entries.{value_under}
 use Rattle.triple_arena_traits.specs.ArenaState.{ArenaState, slot_count, look_up, with_value, IsWellFormed}
 use Rattle.triple_arena_traits.specs.Insertion.{place_among, place, next_pointer, inserted_among, inserted}
-use Rattle.triple_arena_traits.specs.ItemLaws.{joined, eq_true, item_within, item-with_same, item-push_same, with_item-twice, with_item-push}
-use Rattle.triple_arena_traits.specs.EntryLaws.{first_free}
-use Rattle.triple_arena_traits.specs.WellFormedLaws.{with_value_is}
+use Rattle.triple_arena_traits.specs.laws.ItemLaws.{joined, eq_true, item_within, item-with_same, item-push_same, with_item-twice, with_item-push}
+use Rattle.triple_arena_traits.specs.laws.EntryLaws.{first_free}
+use Rattle.triple_arena_traits.specs.laws.WellFormedLaws.{with_value_is}
 
 module _ {T : Type 0} where
   -- the slot at the place has the value, under the counter

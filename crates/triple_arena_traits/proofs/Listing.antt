@@ -4,7 +4,7 @@ use Rattle.std.proofs.lemmas.List.{length-map}
 use Rattle.std.proofs.lemmas.List.Sums.{sum_by-cons}
 use Rattle.triple_arena_traits.specs.Entries.{entry_count}
 use Rattle.triple_arena_traits.specs.Walks.{entries_from}
-use Rattle.triple_arena_traits.specs.WalkLaws.{length-entries_from}
+use Rattle.triple_arena_traits.specs.laws.WalkLaws.{length-entries_from}
 
 module _ {T : Type 0} where
   -- there are no more entries than slots

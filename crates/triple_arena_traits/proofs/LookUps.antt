@@ -3,8 +3,8 @@ use Rattle.std.proofs.Common.{◌≡◌, ◌≢◌, ℕ, List, Option, Some, Non
 use Rattle.std.specs.Option.{option_and_then, option_map}
 use Rattle.triple_arena_ptr.specs.Pointers.{Pointer}
 use Rattle.triple_arena_traits.specs.Entries.{entry_in, value_under, look_up_in, ChangesAt, KeepsEntries}
-use Rattle.triple_arena_traits.specs.ItemLaws.{eq_true, eq_false}
-use Rattle.triple_arena_traits.specs.WellFormedLaws.{entry_of_value}
+use Rattle.triple_arena_traits.specs.laws.ItemLaws.{eq_true, eq_false}
+use Rattle.triple_arena_traits.specs.laws.WellFormedLaws.{entry_of_value}
 
 module _ {T : Type 0} (old new : List (Option (ℕ × T))) where
   -- pointers of other indexes find what they found

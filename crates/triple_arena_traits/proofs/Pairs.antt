@@ -11,9 +11,9 @@ use Rattle.triple_arena_traits.specs.Items.{item, with_item}
 use Rattle.triple_arena_traits.specs.Entries.{entry_in, look_up_in}
 use Rattle.triple_arena_traits.specs.Disjoint.{PairOnce, value_of}
 use Rattle.triple_arena_traits.specs.SlotPairs.{WritesTwo}
-use Rattle.triple_arena_traits.specs.ItemLaws.{item_at, with_item_at}
-use Rattle.triple_arena_traits.specs.WellFormedLaws.{entry_of_value}
-use Rattle.triple_arena_traits.specs.PointerListLaws.{pointer_is}
+use Rattle.triple_arena_traits.specs.laws.ItemLaws.{item_at, with_item_at}
+use Rattle.triple_arena_traits.specs.laws.WellFormedLaws.{entry_of_value}
+use Rattle.triple_arena_traits.specs.laws.PointerListLaws.{pointer_is}
 
 refill-same_length : {X : Type 0} (xs ws : List X) → length ws ≡ length xs → refill (length xs) xs ws ≡ ws
 refill-same_length xs ws len =

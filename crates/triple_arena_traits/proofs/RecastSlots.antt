@@ -5,7 +5,7 @@ use Rattle.std.specs.Option.{option_map}
 use Rattle.triple_arena_base.specs.Held.{recast_items, held_all, refill_all}
 use Rattle.triple_arena_ptr.specs.Pointers.{Pointer}
 use Rattle.triple_arena_traits.specs.Items.{with_item}
-use Rattle.triple_arena_traits.specs.ItemLaws.{joined}
+use Rattle.triple_arena_traits.specs.laws.ItemLaws.{joined}
 use Rattle.triple_arena_traits.specs.Entries.{with_value_in}
 use Rattle.triple_arena_traits.specs.Walks.{entries_from, keys_of, values_of, keys, values}
 use Rattle.triple_arena_traits.specs.Recasting.{written, recast_values}

@@ -10,11 +10,11 @@ use Rattle.triple_arena_base.specs.declared.errors.GetDisjointMutError.{GetDisjo
 use Rattle.triple_arena_base.specs.declared.errors.GetDisjointMutError.TheVariants.{IndexOutOfBounds, OverlappingIndices}
 use Rattle.triple_arena_ptr.specs.Pointers.{Pointer}
 use Rattle.triple_arena_stack.specs.Disjoint.{IsRefused}
-use Rattle.triple_arena_traits.specs.PointerListLaws.{pointer_is}
-use Rattle.triple_arena_traits.specs.WellFormedLaws.{entry_of_value}
+use Rattle.triple_arena_traits.specs.laws.PointerListLaws.{pointer_is}
+use Rattle.triple_arena_traits.specs.laws.WellFormedLaws.{entry_of_value}
 use Rattle.triple_arena_traits.specs.Disjoint.{DisjointInxAnswer}
 use Rattle.triple_arena_traits.specs.Entries.{entry_in, value_under, look_up_in, ChangesAt}
-use Rattle.triple_arena_traits.specs.ItemLaws.{eq_false}
+use Rattle.triple_arena_traits.specs.laws.ItemLaws.{eq_false}
 
 -- what `?` makes of an error of its own type
 pub err_is : {A E : Type 0} (r : Result A E) (w : E) → IsErrAnd r (λ v. v ≡ w) → r ≡ Err w

@@ -2,11 +2,11 @@
 use Rattle.std.proofs.Common.{◌≡◌, ℕ, ◌+◌, ◌≤◌, ◌==◌, true, false, if◌then◌else◌, List, [], ◌∷◌, length, refl, ap, ◌∙◌, arith}
 use Rattle.triple_arena_ptr.specs.Numbers.{raise, wraps}
 use Rattle.triple_arena_ptr.specs.Pointers.{Pointer}
-use Rattle.triple_arena_traits.specs.ItemLaws.{eq_false}
+use Rattle.triple_arena_traits.specs.laws.ItemLaws.{eq_false}
 use Rattle.triple_arena_traits.specs.ArenaState.{ArenaState}
 use Rattle.triple_arena_traits.specs.Ending.{removed}
 use Rattle.triple_arena_traits.specs.Drains.{NoneWraps}
-use Rattle.triple_arena_traits.specs.WellFormedLaws.{counter-removed}
+use Rattle.triple_arena_traits.specs.laws.WellFormedLaws.{counter-removed}
 
 module _ {T : Type 0} (greatest : ℕ) where
   -- as many as the counter is below the greatest generation

@@ -4,8 +4,8 @@ use Rattle.std.proofs.lemmas.List.{length-take-le}
 use Rattle.triple_arena_traits.specs.Items.{item}
 use Rattle.triple_arena_traits.specs.ArenaState.{is_free}
 use Rattle.triple_arena_traits.specs.FreeList.{before, trimmed}
-use Rattle.triple_arena_traits.specs.ItemLaws.{front_popped}
-use Rattle.triple_arena_traits.specs.FreeListLaws.{trimmed_popped, trimmed_done, trimmed_length, trimmed_last}
+use Rattle.triple_arena_traits.specs.laws.ItemLaws.{front_popped}
+use Rattle.triple_arena_traits.specs.laws.FreeListLaws.{trimmed_popped, trimmed_done, trimmed_length, trimmed_last}
 use Rattle.triple_arena_traits.specs.FreeEnd.{shortened}
 
 module _ {A : Type 0} where

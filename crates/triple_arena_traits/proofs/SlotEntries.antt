@@ -9,8 +9,8 @@ use Rattle.std.specs.declared.num.NonZeroUsize.{NonZeroUsize}
 use Rattle.triple_arena_traits.specs.Items.{item}
 use Rattle.triple_arena_traits.specs.Entries.{entry_in}
 use Rattle.triple_arena_traits.specs.ArenaState.{is_free}
-use Rattle.triple_arena_traits.specs.ItemLaws.{joined, item_at, item_last, item_past, item_within, item-map}
-use Rattle.triple_arena_traits.specs.WellFormedLaws.{is_free_not}
+use Rattle.triple_arena_traits.specs.laws.ItemLaws.{joined, item_at, item_last, item_past, item_within, item-map}
+use Rattle.triple_arena_traits.specs.laws.WellFormedLaws.{is_free_not}
 
 module _ {X T : Type 0} (entry : X → Option (ℕ × T)) where
   -- the entry at an index, by the slot that stands there

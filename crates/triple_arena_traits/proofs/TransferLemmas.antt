@@ -10,7 +10,7 @@ use Rattle.triple_arena_traits.specs.Entries.{look_up_in, entry_count, ChangesAt
 use Rattle.triple_arena_traits.specs.Ending.{told}
 use Rattle.triple_arena_traits.specs.FreeList.{gaps}
 use Rattle.triple_arena_traits.specs.Walks.{Stand, IsAtFirst, IsBeforeAll, Steps, entries, entries_ahead, keys_of, keys}
-use Rattle.triple_arena_traits.specs.WalkLaws.{ahead_first, ahead_none, ahead_taken_out, length-entries, none_left, others_ahead}
+use Rattle.triple_arena_traits.specs.laws.WalkLaws.{ahead_first, ahead_none, ahead_taken_out, length-entries, none_left, others_ahead}
 use Rattle.triple_arena_traits.specs.Compression.{closed_up}
 use Rattle.triple_arena_traits.specs.Histories.{History, removal, and_then, Continues}
 use Rattle.triple_arena_traits.specs.Drains.{TakesOut, removals, NoneWraps}

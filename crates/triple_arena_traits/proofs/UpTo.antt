@@ -3,9 +3,9 @@ use Rattle.std.proofs.Common.{◌≡◌, ℕ, zero, suc, ◌+◌, ◌<◌, ◌�
 use Rattle.std.proofs.lemmas.Bool.{cases_lt, leb-true, leb-false}
 use Rattle.std.proofs.lemmas.List.Sums.{sum_by-cons}
 use Rattle.triple_arena_traits.specs.FreeList.{up_to}
-use Rattle.triple_arena_traits.specs.ItemLaws.{eq_true}
-use Rattle.triple_arena_traits.specs.EntryLaws.{count_head}
-use Rattle.triple_arena_traits.specs.WellFormedLaws.{count_tail}
+use Rattle.triple_arena_traits.specs.laws.ItemLaws.{eq_true}
+use Rattle.triple_arena_traits.specs.laws.EntryLaws.{count_head}
+use Rattle.triple_arena_traits.specs.laws.WellFormedLaws.{count_tail}
 
 pub up_to-cons : (n i : ℕ) (xs : List ℕ) → i ≤ n → up_to n (i ∷ xs) ≡ i ∷ up_to n xs
 up_to-cons n i xs h = by_test (nat_le i n) refl

@@ -6,7 +6,7 @@ use Rattle.triple_arena_traits.specs.Entries.{look_up_in, with_value_in}
 use Rattle.triple_arena_traits.specs.Walks.{Stand, Steps, IsAtFirst, entries, entries_ahead, entries_behind}
 use Rattle.triple_arena_traits.specs.Recasting.{written}
 use Rattle.triple_arena_traits.specs.Visits.{CalledAt, Visits}
-use Rattle.triple_arena_traits.specs.WalkLaws.{ahead_taken, ahead_written, ahead_none, ahead_first, behind_written, none_behind, all_behind}
+use Rattle.triple_arena_traits.specs.laws.WalkLaws.{ahead_taken, ahead_written, ahead_none, ahead_first, behind_written, none_behind, all_behind}
 
 module _ {P T F : Type 0} (numbers : P → Pointer) (step : F → P → MutBor T → Unit {0} → MutBor T → F → Type 0) where
   pub called_at : (f : F) (p : P) (shown : MutBor T) (r : Unit {0}) (left : MutBor T) (after : F) → step f p shown r left after → CalledAt numbers step f (numbers p) shown.now left.now after

@@ -13,7 +13,7 @@ use Rattle.triple_arena_traits.specs.Entries.{entry_in}
 use Rattle.triple_arena_traits.specs.Ending.{told, told_of}
 use Rattle.triple_arena_traits.specs.Places.{number_or_zero}
 use Rattle.triple_arena_traits.specs.Walks.{Stand, Steps, IsAtFirst, keys_of, keys_ahead}
-use Rattle.triple_arena_traits.specs.WalkLaws.{some_or_none, live_within, up_yes, keys_taken, keys_none, ahead_after_none}
+use Rattle.triple_arena_traits.specs.laws.WalkLaws.{some_or_none, live_within, up_yes, keys_taken, keys_none, ahead_after_none}
 
 -- a forward advancer at the least index of an entry, if there is one
 pub at_first : {T : Type 0} (slots : List (Option (ℕ × T))) (o : Option NonZeroUsize) → MatchOption o ((i : ℕ) → entry_in slots i ≡ None) (λ inx. IsSome (entry_in slots (non_zero_usize_get inx)) × ((i : ℕ) → i < non_zero_usize_get inx → entry_in slots i ≡ None)) → IsAtFirst slots (record { place = number_or_zero o; reverse = false })

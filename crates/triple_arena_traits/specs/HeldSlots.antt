@@ -2,7 +2,7 @@
 use Rattle.std.specs.Prelude.{ℕ, List, Option}
 use Rattle.std.proofs.Common.{ap}
 use Rattle.triple_arena_base.specs.Held.{HoldsRefill, KeepsHeld, LastRefills, held_option, refill_option, held_all, refill_all}
-use Rattle.triple_arena_base.specs.HeldLaws.{option_held_refill, option_refill_held, option_refill_refill}
+use Rattle.triple_arena_base.specs.laws.HeldLaws.{option_held_refill, option_refill_held, option_refill_refill}
 use Rattle.triple_arena_base.specs.HeldLists.{held_refill_all, refill_all_held, refill_refill_all}
 
 module _ {I T : Type 0} (held : T → List I) (refill : T → List I → T) where

@@ -1,5 +1,5 @@
+-- Read first: ArenaState, Insertion, Ending and Histories.
 pub mod Items
-pub mod ItemLaws
 pub mod Entries
 pub mod ArenaState
 pub mod Insertion
@@ -9,18 +9,10 @@ pub mod Ending
 pub mod FreeList
 pub mod FreeEnd
 pub mod Capacity
-pub mod EntryLaws
-pub mod LengthLaws
-pub mod FreeListLaws
-pub mod WellFormedLaws
-pub mod LimitLaws
 pub mod Walks
-pub mod WalkLaws
 pub mod Visits
-pub mod VisitLaws
 pub mod Places
 pub mod Values
-pub mod ValueLaws
 pub mod Lent
 pub mod Kept
 pub mod Drains
@@ -28,16 +20,10 @@ pub mod Transfers
 pub mod Copying
 pub mod Compression
 pub mod Moves
-pub mod CompressionLaws
-pub mod MoveLaws
 pub mod Recasting
 pub mod HeldSlots
 pub mod Cloning
-pub mod CloningLaws
-pub mod CopyLaws
 pub mod Disjoint
 pub mod SlotPairs
 pub mod Histories
-pub mod StepLaws
-pub mod PointerListLaws
-pub mod HistoryLaws
+pub mod laws

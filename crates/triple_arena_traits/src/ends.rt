@@ -13,6 +13,7 @@ pub fn last_index<P: Ptr, T, A: ArenaTrait<P, T>>(arena: &A) -> usize
     ensures indexed { result ≤ greatest_index P.Inx.greatest }
     ensures fits { result ≤ A.fitting arena.now }
 {
+    // By its clauses, no slot is past it, nor past the greatest index.
     let _capacity = arena.capacity();
     match arena.find_last_inx_ptr() {
         Some(p) => P::Inx::try_into_usize(p.inx()).unwrap().get(),

@@ -1,2 +1,4 @@
+pub mod Mapping
+pub mod Renewing
 pub mod Notes
 pub mod Rewiring

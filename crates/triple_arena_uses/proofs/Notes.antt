@@ -4,9 +4,9 @@ use Rattle.std.proofs.lemmas.Bool.{cases_eq}
 use Rattle.std.specs.Option.{option_and_then}
 use Rattle.triple_arena_ptr.specs.Pointers.{Pointer}
 use Rattle.triple_arena_traits.specs.Entries.{look_up_in, value_under}
-use Rattle.triple_arena_traits.specs.ItemLaws.{joined, item_nil}
-use Rattle.triple_arena_traits.specs.PointerListLaws.{pointer_is}
-use Rattle.triple_arena_direct.specs.Mirrors.{IsMirror}
+use Rattle.triple_arena_traits.specs.laws.ItemLaws.{joined, item_nil}
+use Rattle.triple_arena_traits.specs.laws.PointerListLaws.{pointer_is}
+use Rattle.triple_arena_direct_arena.specs.Mirrors.{IsMirror}
 
 same_or_other : (q p : Pointer) → (q ≡ p) ⊎ (q ≢ p)
 same_or_other q p =

@@ -4,8 +4,8 @@ use Rattle.std.specs.Prelude.{IfOk, OnOk}
 use Rattle.std.proofs.lemmas.List.{map-append}
 use Rattle.triple_arena_base.specs.Held.{HoldsRefill}
 use Rattle.triple_arena_ptr.specs.Pointers.{Pointer}
-use Rattle.triple_arena_renaming.specs.Renaming.{AreRenamed}
-use Rattle.triple_arena_renaming.specs.RenamingLaws.{held_renamed}
+use Rattle.triple_arena_direct.specs.Renaming.{AreRenamed}
+use Rattle.triple_arena_direct.specs.laws.RenamingLaws.{held_renamed}
 use Rattle.triple_arena_uses.specs.Netlist.{wires_of, rewired}
 
 module _ {P T : Type 0} (numbers : P → Pointer) (rename : Pointer → Pointer) (held : T → List P) (refill : T → List P → T) (law : HoldsRefill held refill) where

@@ -3,7 +3,7 @@
 ghost use Rattle.std.specs.Prelude.{◌≡◌, ◌++◌, ◌∷◌, ◌&&◌, ◌||◌, [], false, map, None, Some, is_some, IfOk, OnErr, option_copied};
 ghost use Rattle.triple_arena_traits.specs.ArenaState.{look_up};
 ghost use Rattle.triple_arena_traits.specs.Histories.{has, AreDistinct};
-ghost use Rattle.triple_arena_entity_uses.specs.Entities.{numbers};
+ghost use Rattle.triple_arena_uses.specs.Entities.{numbers};
 ghost use Rattle.triple_arena_uses.specs.Guests.{BookState, is_before_wrap};
 
 use std::alloc::Global;
@@ -26,7 +26,7 @@ pub struct GuestBook {
 
 impl Model for GuestBook {
     ghost use Rattle.std.specs.Prelude.{map};
-    ghost use Rattle.triple_arena_entity_uses.specs.Entities.{numbers};
+    ghost use Rattle.triple_arena_uses.specs.Entities.{numbers};
     ghost use Rattle.triple_arena_uses.specs.Guests.{BookState, ListsAll};
 
     ghost Value = { BookState };

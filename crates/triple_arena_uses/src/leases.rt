@@ -4,15 +4,15 @@ ghost use Rattle.std.specs.Prelude.{◌≡◌, ◌≢◌, ◌<◌, ◌+◌, None
 ghost use Rattle.triple_arena_ptr.specs.Pointers.{Pointer};
 ghost use Rattle.triple_arena_traits.specs.ArenaState.{look_up, arena_len, capacity};
 ghost use Rattle.triple_arena_traits.specs.SlotSteps.{RisesByAtMost, IsTouched};
-ghost use Rattle.triple_arena_strict.specs.Gone.{IsGoneForGood};
-ghost use Rattle.triple_arena_strict.specs.Strict.{strict_of};
+ghost use Rattle.triple_arena_direct.specs.Gone.{IsGoneForGood};
+ghost use Rattle.triple_arena_direct.specs.Strict.{strict_of};
 ghost use Rattle.triple_arena_uses.specs.Tickets.{numbers, are_used_up};
 
 use crate::ticket::Ticket;
 use std::alloc::Global;
 use std::marker::Model;
 use triple_arena_base::ReallocationError;
-use triple_arena_strict::{StrictArena, StrictError};
+use triple_arena_direct::{StrictArena, StrictError};
 
 /// What is leased, and to whom.
 #[derive(Clone, Copy, PartialEq, Eq, Debug)]

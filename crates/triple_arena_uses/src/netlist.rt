@@ -10,16 +10,15 @@ ghost use Rattle.triple_arena_base.specs.Invalidation.{allowed_option};
 ghost use Rattle.triple_arena_ptr.specs.Pointers.{Pointer};
 ghost use Rattle.triple_arena_traits.specs.ArenaState.{look_up, arena_len};
 ghost use Rattle.triple_arena_traits.specs.Walks.{values};
-ghost use Rattle.triple_arena_renaming.specs.Renaming.{MapsPointers, first_unresolved, Refuses};
+ghost use Rattle.triple_arena_direct.specs.Renaming.{MapsPointers, first_unresolved, Refuses};
 ghost use Rattle.triple_arena_uses.specs.Netlist.{wires, rewired};
 
 use std::alloc::Global;
 use std::marker::Model;
 use triple_arena::{Arena, ArenaInsertTrait, ArenaTrait};
 use triple_arena_base::{CompactError, InvalidationOption, ReallocationError, Recast};
-use triple_arena_direct::DirectArena;
+use triple_arena_direct::{DirectArena, compress_recast};
 use triple_arena_ptr::Ptr;
-use triple_arena_renaming::compress_recast;
 
 /// A netlist of gates of any type that holds pointers, each gate named by the pointer that its
 /// insertion gave. A wire to a gate that was removed leads nowhere.

@@ -8,16 +8,16 @@ ghost use Rattle.triple_arena_ptr.specs.Pointers.{Pointer};
 ghost use Rattle.triple_arena_traits.specs.ArenaState.{arena_len, capacity};
 ghost use Rattle.triple_arena_traits.specs.Entries.{look_up_in};
 ghost use Rattle.triple_arena_traits.specs.Insertion.{next_pointer};
-ghost use Rattle.triple_arena_direct.specs.DirectState.{direct_capacity};
-ghost use Rattle.triple_arena_entity_uses.specs.Entities.{numbers};
+ghost use Rattle.triple_arena_direct_arena.specs.DirectState.{direct_capacity};
+ghost use Rattle.triple_arena_uses.specs.Entities.{numbers};
 ghost use Rattle.triple_arena_uses.specs.Notes.{Noted};
 
+use crate::Entity;
 use std::alloc::Global;
 use std::marker::Model;
 use triple_arena::{Arena, ArenaDirectInsertTrait, ArenaInsertTrait, ArenaTrait};
 use triple_arena_base::{AllocError, NotWithinCapacityError};
 use triple_arena_direct::{DirectArena, laws};
-use triple_arena_entity_uses::Entity;
 use triple_arena_ptr::P0;
 
 /// Entities, each with a note beside it.
@@ -28,7 +28,7 @@ pub struct NotedEntities {
 }
 
 impl Model for NotedEntities {
-    ghost use Rattle.triple_arena_direct.specs.Mirrors.{IsMirror};
+    ghost use Rattle.triple_arena_direct_arena.specs.Mirrors.{IsMirror};
     ghost use Rattle.triple_arena_uses.specs.Notes.{Noted};
 
     ghost Value = { Noted };

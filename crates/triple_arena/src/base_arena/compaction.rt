@@ -19,8 +19,8 @@ impl<P: Ptr, T, S: NonZeroInxGenericStack<ArenaSlot<P, T>>> CompactArenaTrait<P,
     for Arena<P, T, S> {
     ghost use Rattle.std.proofs.Common.{ap};
     ghost use Rattle.triple_arena_traits.specs.ArenaState.{capacity};
-    ghost use Rattle.triple_arena_traits.specs.CompressionLaws.{ranks, with_value-same};
-    ghost use Rattle.triple_arena.specs.TouchedLaws.{compressed_keys, compressed_values, compressed_with_value};
+    ghost use Rattle.triple_arena_traits.specs.laws.CompressionLaws.{ranks, with_value-same};
+    ghost use Rattle.triple_arena.specs.laws.TouchedLaws.{compressed_keys, compressed_values, compressed_with_value};
 
     ghost advanced = { λ _ _ _ _ steps. steps };
 

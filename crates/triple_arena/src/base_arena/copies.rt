@@ -25,7 +25,7 @@ use triple_arena_traits::{ArenaCloneFromWith, ArenaTrait, CompactArenaTrait};
 
 impl<P: Ptr, T, S: NonZeroInxGenericStack<ArenaSlot<P, T>>> ArenaCloneFromWith<P, T>
     for Arena<P, T, S> {
-    ghost use Rattle.triple_arena.specs.TouchedLaws.{cloned_slots, cloned_limit, cloned_capacity};
+    ghost use Rattle.triple_arena.specs.laws.TouchedLaws.{cloned_slots, cloned_limit, cloned_capacity};
 
     // the slots of the copy stand, in room for the last index; the free indexes are the gaps in
     // rising order, and the counter is the source's, or the first generation

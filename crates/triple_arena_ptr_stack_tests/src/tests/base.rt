@@ -3,7 +3,7 @@
 
 ghost use Rattle.std.specs.Prelude.{◌≡◌, ◌⊎◌, ◌+◌, ◌-◌, ◌≤◌, ◌<◌, IsTrue, false, Some, None, MatchOption, if◌then◌else◌, ◌==◌};
 ghost use Rattle.triple_arena_base.specs.Held.{held_itself, refill_itself};
-ghost use Rattle.triple_arena_base.specs.HeldLaws.{itself_held_refill, itself_refill_held, itself_refill_refill};
+ghost use Rattle.triple_arena_base.specs.laws.HeldLaws.{itself_held_refill, itself_refill_held, itself_refill_refill};
 
 use std::alloc::{self, Global};
 use std::fmt;
@@ -498,7 +498,7 @@ fn is_renamed<T: Recast<Item> + PartialEq + Drop>(
     renamed(&mut value) == answer && value == *renamed_value
 }
 
-// The same of a vector of values.
+// Whether a vector of values that hold items is recast with this answer to others.
 fn are_renamed<T: Recast<Item> + Copy + PartialEq>(
     alloc: Global,
     values: &[T],

@@ -1,7 +1,7 @@
 use Rattle.std.proofs.Common.{[], subst, sym, refl, inr}
 use Rattle.std.specs.Io.Buffered.{writer_contents}
 use Rattle.triple_arena_commands.specs.TextRun.{AppendsFront}
-use Rattle.triple_arena_commands.specs.TextLaws.{AppendsFront-buffer}
+use Rattle.triple_arena_commands.specs.laws.TextLaws.{AppendsFront-buffer}
 use Rattle.triple_arena_commands.proofs.output.flush_after.Goals as goal
 
 pub returns : goal.returns

@@ -43,7 +43,7 @@ fn recast<P: Ptr, T: Recast<P>>(value: &mut T, to: P) -> Result<(), P> {
     value.recast(&AllTo(to))
 }
 
-// The same as `is_recast` of a vector of values.
+// Whether a vector of values is recast with this answer to others, where each pointer is to be one.
 fn are_recast<P: Ptr, T: Recast<P> + Copy + PartialEq>(
     alloc: Global,
     values: &[T],

@@ -51,7 +51,7 @@ pub enum Call {
     EntryPushWithinCapacity(u64, u64),
     /// The index of an entry that is let go, by a caller that is proved over any stack.
     IndexOfEntry,
-    /// As `EntryPushWithinCapacity`, by such a caller.
+    /// `EntryPushWithinCapacity`, by a caller that is proved over any stack.
     PushAndWrite(u64, u64),
     // of a stack whose limit can be set
     SetMaxCapacity(usize),
@@ -170,7 +170,7 @@ pub fn is_told(row: usize, told: Told, expected: Told) -> Result<(), Wrong> {
     }
 }
 
-/// The same, where memory for the stack may be refused, and then nothing is wrong.
+/// What was tried, where memory for the stack may be refused, and then nothing is wrong.
 pub fn where_there_is_memory(tried: Result<(), Wrong>) -> Result<(), Wrong> {
     match tried {
         Err(Wrong::NoMemory) => Ok(()),

@@ -158,7 +158,8 @@ fn follow_to_limit<A: Tested>(
     is_told(steps.len(), at_limit, Told::Is(limit != Told::Nothing))
 }
 
-// The same on slots with two places.
+// Makes each call on new slots with two places, and expects its answer, and at the end whether they
+// are at their limit.
 fn follow_at<S: NonZeroInxGenericStack<Slot<Token>> + Drop>(
     alloc: Global,
     limit: Told,

@@ -237,7 +237,7 @@ const HEAP_ROOM: &[(Call, Told)] = &[
     HAS_TWO,
 ];
 
-// The same under a limit of four.
+// Reallocations of a stack with two items and room for four, under a limit of four.
 const LIMITED_ROOM: &[(Call, Told)] = &[
     (Call::Push(1), Told::At(1)),
     (Call::Push(2), Told::At(2)),
@@ -311,7 +311,7 @@ const GROWS_TO_THOUSANDS: &[(Call, Told)] = &[
     (Call::Bounds, Told::Bounds(5000, 8192, None)),
 ];
 
-// The same under a limit of as many, and no more.
+// A new stack takes five thousand items under a limit of as many, and no more.
 const GROWS_TO_ITS_LIMIT: &[(Call, Told)] = &[
     (Call::SetMaxCapacity(5000), Told::Nothing),
     (Call::PushUpTo(5000), Told::Is(true)),

@@ -74,7 +74,7 @@ const REFUSED_ON_HEAP: &[(Call, Told)] = &[
     (Call::Items, Told::Items([1, 2, 3, 4, 0, 0])),
 ];
 
-// The same where a limit can be set.
+// Reallocations that are refused, of a new stack whose limit is set to the greatest number.
 const REFUSED_UNDER_LIMIT: &[(Call, Told)] = &[
     (Call::SetMaxCapacity(usize::MAX), Told::Nothing),
     (Call::Push(1), Told::At(1)),
@@ -152,12 +152,12 @@ fn refuses_growth_of<K: NonZeroInxGenericStack<Long> + Drop>(
     tried
 }
 
-// The same of one without a limit.
+// That growth of a new stack without a limit is refused.
 fn refuses_growth<K: NonZeroInxGenericStack<Long> + Drop>(alloc: Global) -> Result<(), Wrong> {
     refuses_growth_of::<K>(NonZeroInxStack::new(alloc), Told::Nothing)
 }
 
-// The same under a limit of two.
+// That growth of a new stack under a limit of two is refused.
 fn refuses_growth_under_two<K: SetMaxCapacity<Long> + Drop>(alloc: Global) -> Result<(), Wrong> {
     let mut stack: NonZeroInxStack<Long, K> = NonZeroInxStack::new(alloc);
     let limited = set_max_capacity(&mut stack, 2);
@@ -186,7 +186,8 @@ const WHATEVER: &[(Call, Told)] = &[
     (Call::Whatever(20), Told::Is(true)),
 ];
 
-// The same under a limit of 15.
+// Pushes, entries and reallocations of a new stack under a limit of 15, of which the machine may
+// refuse any: each refusal leaves the stack as it was.
 const WHATEVER_UNDER_15: &[(Call, Told)] = &[
     (Call::SetMaxCapacity(15), Told::Nothing),
     (Call::Whatever(0), Told::Is(true)),

@@ -132,7 +132,7 @@ pub fn on_heap_of<T: Drop, M: Items<T> + Copy>(
     on_stack::<T, HeapStack<T>, M>(alloc, items, room, Told::Nothing, steps)
 }
 
-/// The same on a stack on the heap whose limit can be set, and is this room or 0.
+/// Tries a table on a stack on the heap whose limit can be set, and is this room or 0.
 pub fn on_limited_of<T: Drop, M: Items<T> + Copy>(
     alloc: Global,
     items: M,
@@ -149,7 +149,7 @@ pub fn on_limited_of<T: Drop, M: Items<T> + Copy>(
     )
 }
 
-/// The same on a stack of fixed room.
+/// Tries a table on a stack whose room is fixed, and is this room or 0.
 pub fn on_fixed_of<T: Drop, M: Items<T> + Copy>(
     alloc: Global,
     items: M,
@@ -166,17 +166,17 @@ pub fn on_heap(alloc: Global, room: Option<usize>, steps: &[(Call, Told)]) -> Re
     on_heap_of(alloc, Tokens, room, steps)
 }
 
-/// The same on a stack on the heap whose limit can be set, and is this room or 0.
+/// Tries a table on a stack of tokens on the heap whose limit can be set, and is this room or 0.
 pub fn on_limited(alloc: Global, room: Option<usize>, steps: &[(Call, Told)]) -> Result<(), Wrong> {
     on_limited_of(alloc, Tokens, room, steps)
 }
 
-/// The same on a stack of fixed room.
+/// Tries a table on a stack of tokens whose room is fixed, and is this room or 0.
 pub fn on_fixed(alloc: Global, room: Option<usize>, steps: &[(Call, Told)]) -> Result<(), Wrong> {
     on_fixed_of(alloc, Tokens, room, steps)
 }
 
-/// The same in an array of no places.
+/// Tries a table on a stack of tokens in an array of no places.
 pub fn in_no_places(
     alloc: Global,
     room: Option<usize>,
@@ -185,7 +185,7 @@ pub fn in_no_places(
     on_stack::<Token, ArrayStack<Token, 0>, Tokens>(alloc, Tokens, room, Told::Size(0), steps)
 }
 
-/// The same in an array of one place.
+/// Tries a table on a stack of tokens in an array of one place.
 pub fn in_one_place(
     alloc: Global,
     room: Option<usize>,
@@ -194,7 +194,7 @@ pub fn in_one_place(
     on_stack::<Token, ArrayStack<Token, 1>, Tokens>(alloc, Tokens, room, Told::Size(1), steps)
 }
 
-/// The same in an array of two places.
+/// Tries a table on a stack of tokens in an array of two places.
 pub fn in_two_places(
     alloc: Global,
     room: Option<usize>,
@@ -203,7 +203,7 @@ pub fn in_two_places(
     on_stack::<Token, ArrayStack<Token, 2>, Tokens>(alloc, Tokens, room, Told::Size(2), steps)
 }
 
-/// The same in an array of three places.
+/// Tries a table on a stack of tokens in an array of three places.
 pub fn in_three_places(
     alloc: Global,
     room: Option<usize>,
@@ -212,7 +212,7 @@ pub fn in_three_places(
     on_stack::<Token, ArrayStack<Token, 3>, Tokens>(alloc, Tokens, room, Told::Size(3), steps)
 }
 
-/// The same in an array of four places.
+/// Tries a table on a stack of tokens in an array of four places.
 pub fn in_four_places(
     alloc: Global,
     room: Option<usize>,

@@ -1,6 +1,6 @@
 use Rattle.std.proofs.Common.{[]}
 use Rattle.triple_arena_traits.specs.Histories.{begun_with}
-use Rattle.triple_arena_traits.specs.HistoryLaws.{Fits-empty}
+use Rattle.triple_arena_traits.specs.laws.HistoryLaws.{Fits-empty}
 use Rattle.triple_arena_session.specs.SessionRun.{IsStep}
 use Rattle.triple_arena_session.proofs.Continuing.{StepGoesOn, OverAfterRun, StepsKeepHistories}
 use Rattle.triple_arena_session.proofs.laws.session_runs_keep_histories.Goals as goal

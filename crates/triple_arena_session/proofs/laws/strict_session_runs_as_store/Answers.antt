@@ -1,6 +1,6 @@
 use Rattle.std.proofs.Common.{[]}
 use Rattle.triple_arena_traits.specs.Histories.{begun_with}
-use Rattle.triple_arena_traits.specs.HistoryLaws.{Fits-empty}
+use Rattle.triple_arena_traits.specs.laws.HistoryLaws.{Fits-empty}
 use Rattle.triple_arena_session.proofs.Soundness.{sound_over}
 use Rattle.triple_arena_session.proofs.StrictLaws.{StrictRunIsStores, StrictRunIsQuiet, StrictRunKeepsHistory, StrictRunIsUnseen}
 use Rattle.triple_arena_session.proofs.laws.strict_session_runs_as_store.Goals as goal

@@ -1,4 +1,4 @@
-use Rattle.triple_arena_commands.specs.TextLaws.{IsFlushedRun-after}
+use Rattle.triple_arena_commands.specs.laws.TextLaws.{IsFlushedRun-after}
 use Rattle.triple_arena_session.proofs.text.run_and_flush.Goals as goal
 
 pub returns : goal.returns

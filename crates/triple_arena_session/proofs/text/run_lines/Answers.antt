@@ -1,6 +1,6 @@
 use Rattle.std.proofs.Common.{rules, sym, ◌∙◌, ◌≡◌, ◌∷◌, [], drop, refl}
 use Rattle.triple_arena_commands.specs.Lines.{lines_of}
-use Rattle.triple_arena_commands.specs.TextLaws.{AnswersLines-nil, AnswersLines-line, RunsThrough-last, RunsThrough-wrapped, front-drop}
+use Rattle.triple_arena_commands.specs.laws.TextLaws.{AnswersLines-nil, AnswersLines-line, RunsThrough-last, RunsThrough-wrapped, front-drop}
 use Rattle.triple_arena_session.proofs.LineLaws.{StopsAtLine-malformed, StopsAtReply-unwritten}
 use Rattle.triple_arena_session.proofs.text.run_lines.Goals as goal
 

@@ -4,8 +4,8 @@ use Rattle.std.specs.Int.NonZero.{non_zero_usize_get}
 use Rattle.triple_arena_traits.specs.Items.{item, with_item}
 use Rattle.std.specs.Option.{option_map}
 use Rattle.triple_arena_traits.specs.Moves.{MoveTurn}
-use Rattle.triple_arena_traits.specs.ItemLaws.{length-with_item}
-use Rattle.triple_arena_traits.specs.PointerListLaws.{pointer_is}
+use Rattle.triple_arena_traits.specs.laws.ItemLaws.{length-with_item}
+use Rattle.triple_arena_traits.specs.laws.PointerListLaws.{pointer_is}
 use Rattle.triple_arena_traits.proofs.Compressing.{CompactAt-start, CompactAt-free_slot, CompactAt-moved_slot, CompactAt-done, place_free_slot, item_inside, number_of_given, none_unpacked}
 use Rattle.triple_arena_traits.proofs.compress.close_up.Goals.{in-Some, in_default}
 use Rattle.triple_arena_traits.proofs.compress.close_up.Goals as goal

@@ -2,9 +2,9 @@ use Rattle.std.proofs.Common.{of_calls, ◌≡◌, ◌∙◌, ℕ, map, refl, sy
 use Rattle.std.proofs.lemmas.List.{length-map}
 use Rattle.std.specs.Option.{option_copied}
 use Rattle.std.specs.Int.NonZero.{non_zero_usize_get}
-use Rattle.triple_arena_traits.specs.WalkLaws.{taken}
+use Rattle.triple_arena_traits.specs.laws.WalkLaws.{taken}
 use Rattle.triple_arena_traits.specs.Copying.{put_after}
-use Rattle.triple_arena_traits.specs.PointerListLaws.{pointer_is}
+use Rattle.triple_arena_traits.specs.laws.PointerListLaws.{pointer_is}
 use Rattle.triple_arena_traits.proofs.Refused.{err_is}
 use Rattle.triple_arena_traits.proofs.CopyLemmas.{copy_start, next_of, copy_on, copy_refused, copy_end, shared_some, some_within}
 use Rattle.triple_arena_traits.proofs.copying.copy_entries.Goals as goal

@@ -2,9 +2,9 @@ use Rattle.std.proofs.Common.{◌≡◌, ◌∙◌, ℕ, IsSome, length, refl, s
 use Rattle.std.specs.Int.NonZero.{non_zero_usize_get}
 use Rattle.triple_arena_traits.specs.Entries.{entry_in}
 use Rattle.triple_arena_traits.specs.FreeList.{trimmed}
-use Rattle.triple_arena_traits.specs.WalkLaws.{found, live_within}
+use Rattle.triple_arena_traits.specs.laws.WalkLaws.{found, live_within}
 use Rattle.triple_arena_traits.proofs.CopyLemmas.{none_of_none, some_within}
-use Rattle.triple_arena_traits.specs.FreeListLaws.{trimmed_length}
+use Rattle.triple_arena_traits.specs.laws.FreeListLaws.{trimmed_length}
 use Rattle.triple_arena_traits.proofs.FreeEnd.{end_is, end_none}
 use Rattle.triple_arena_traits.proofs.ends.last_index.Goals as goal
 

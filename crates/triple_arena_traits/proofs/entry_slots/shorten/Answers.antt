@@ -1,6 +1,6 @@
 use Rattle.std.proofs.Common.{◌∙◌, ◌-◌, IsSome, length, map, take, sym, ap, subst, refl, inl, inr, arith}
 use Rattle.std.proofs.lemmas.List.{length-map, length-take-le, take-map}
-use Rattle.triple_arena_traits.specs.ItemLaws.{front_popped}
+use Rattle.triple_arena_traits.specs.laws.ItemLaws.{front_popped}
 use Rattle.triple_arena_traits.proofs.SlotEntries.{free_popped, none_of}
 use Rattle.triple_arena_traits.proofs.Present.{some_below}
 use Rattle.triple_arena_traits.proofs.Shortening.{Pops, pops_start, pops_more, pops_end, take_all}

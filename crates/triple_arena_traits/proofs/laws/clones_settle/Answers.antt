@@ -1,4 +1,4 @@
-use Rattle.triple_arena_traits.specs.CloningLaws.{clones_settle}
+use Rattle.triple_arena_traits.specs.laws.CloningLaws.{clones_settle}
 use Rattle.triple_arena_traits.proofs.laws.clones_settle.Goals as goal
 
 pub returns : goal.returns

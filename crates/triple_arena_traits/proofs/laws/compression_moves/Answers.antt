@@ -1,7 +1,7 @@
 use Rattle.std.proofs.Common.{Some, refl, ap, arith}
-use Rattle.triple_arena_traits.specs.CompressionLaws.{ranks, rank_below, rank_apart, keys-compressed, values-compressed}
-use Rattle.triple_arena_traits.specs.WalkLaws.{found}
-use Rattle.triple_arena_traits.specs.StepLaws.{IsWellFormed-compressed}
+use Rattle.triple_arena_traits.specs.laws.CompressionLaws.{ranks, rank_below, rank_apart, keys-compressed, values-compressed}
+use Rattle.triple_arena_traits.specs.laws.WalkLaws.{found}
+use Rattle.triple_arena_traits.specs.laws.StepLaws.{IsWellFormed-compressed}
 use Rattle.triple_arena_traits.proofs.laws.compression_moves.Goals as goal
 
 pub returns-clause-onto : goal.returns-clause-onto

@@ -1,4 +1,4 @@
-use Rattle.triple_arena_traits.specs.WalkLaws.{walk_rises, walk_sees}
+use Rattle.triple_arena_traits.specs.laws.WalkLaws.{walk_rises, walk_sees}
 use Rattle.triple_arena_traits.proofs.laws.forward_walk.Goals as goal
 
 pub returns-clause-rises : goal.returns-clause-rises

@@ -1,4 +1,4 @@
-use Rattle.triple_arena_traits.specs.LimitLaws.{set_back, capacity_set_back, set_back_ends}
+use Rattle.triple_arena_traits.specs.laws.LimitLaws.{set_back, capacity_set_back, set_back_ends}
 use Rattle.triple_arena_traits.proofs.laws.limit_set_back.Goals as goal
 
 pub returns-clause-succeeds : goal.returns-clause-succeeds

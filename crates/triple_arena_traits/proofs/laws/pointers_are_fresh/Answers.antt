@@ -1,5 +1,5 @@
 use Rattle.std.proofs.Common.{refl}
-use Rattle.triple_arena_traits.specs.HistoryLaws.{Fits-empty, Fits-keys, Continues-none, Continues-call, Continues-calls, Continues-append, Fits-compressed, new_pointer, gone_for_good, never_live}
+use Rattle.triple_arena_traits.specs.laws.HistoryLaws.{Fits-empty, Fits-keys, Continues-none, Continues-call, Continues-calls, Continues-append, Fits-compressed, new_pointer, gone_for_good, never_live}
 use Rattle.triple_arena_traits.proofs.Removals.{none_wraps}
 use Rattle.triple_arena_traits.proofs.laws.pointers_are_fresh.Goals as goal
 

@@ -1,5 +1,5 @@
-use Rattle.triple_arena_traits.specs.HistoryLaws.{Continues-refilled}
-use Rattle.triple_arena_traits.specs.ValueLaws.{IsWellFormed-refilled}
+use Rattle.triple_arena_traits.specs.laws.HistoryLaws.{Continues-refilled}
+use Rattle.triple_arena_traits.specs.laws.ValueLaws.{IsWellFormed-refilled}
 use Rattle.triple_arena_traits.proofs.laws.recasts_are_fresh.Goals as goal
 
 pub returns-clause-fresh : goal.returns-clause-fresh

@@ -1,4 +1,4 @@
-use Rattle.triple_arena_traits.specs.WalkLaws.{keys_rising, live_key, key_live, keys_end}
+use Rattle.triple_arena_traits.specs.laws.WalkLaws.{keys_rising, live_key, key_live, keys_end}
 use Rattle.triple_arena_traits.proofs.laws.walk_in_order.Goals as goal
 
 pub returns-clause-rising : goal.returns-clause-rising

@@ -1,8 +1,8 @@
-use Rattle.triple_arena_traits.specs.StepLaws.{with_value_stays, invalidated_stays, removed_stays, cleared_stays, reallocated_stays, with_limit_stays, IsWellFormed-laid_out, IsWellFormed-tidied}
-use Rattle.triple_arena_traits.specs.ValueLaws.{IsWellFormed-kept}
-use Rattle.triple_arena_traits.specs.WellFormedLaws.{IsWellFormed-empty, IsWellFormed-inserted, IsWellFormed-counter}
+use Rattle.triple_arena_traits.specs.laws.StepLaws.{with_value_stays, invalidated_stays, removed_stays, cleared_stays, reallocated_stays, with_limit_stays, IsWellFormed-laid_out, IsWellFormed-tidied}
+use Rattle.triple_arena_traits.specs.laws.ValueLaws.{IsWellFormed-kept}
+use Rattle.triple_arena_traits.specs.laws.WellFormedLaws.{IsWellFormed-empty, IsWellFormed-inserted, IsWellFormed-counter}
 use Rattle.triple_arena_traits.proofs.FreeEnd.{IsWellFormed-without_free_end}
-use Rattle.triple_arena_traits.specs.EntryLaws.{well_formed-grown}
+use Rattle.triple_arena_traits.specs.laws.EntryLaws.{well_formed-grown}
 use Rattle.triple_arena_traits.proofs.laws.well_formed_stays.Goals as goal
 
 pub returns-clause-fresh : goal.returns-clause-fresh

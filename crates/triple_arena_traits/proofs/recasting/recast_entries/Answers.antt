@@ -1,6 +1,6 @@
 use Rattle.std.specs.Option.{option_copied_mut}
 use Rattle.std.proofs.Common.{ap, sym, refl, ◌∙◌}
-use Rattle.triple_arena_traits.specs.WalkLaws.{taken, forward_stays, keys_first, keys_taken, keys_none, ahead_by_keys}
+use Rattle.triple_arena_traits.specs.laws.WalkLaws.{taken, forward_stays, keys_first, keys_taken, keys_none, ahead_by_keys}
 use Rattle.triple_arena_traits.proofs.EntryWalks.{walk_start, walk_end, walk_finds, walk_ok, walk_err, keys_kept, lent_some}
 use Rattle.triple_arena_traits.proofs.Refused.{err_is}
 use Rattle.triple_arena_traits.proofs.recasting.recast_entries.Goals as goal

@@ -2,8 +2,8 @@ use Rattle.std.proofs.Common.{of_calls, ◌≡◌, ◌∙◌, ◌+◌, ◌++◌,
 use Rattle.std.proofs.lemmas.List.{length-map, map_push}
 use Rattle.std.specs.Int.NonZero.{non_zero_usize_get}
 use Rattle.triple_arena_traits.specs.Entries.{entry_count}
-use Rattle.triple_arena_traits.specs.WalkLaws.{taken}
-use Rattle.triple_arena_traits.specs.PointerListLaws.{pointer_is}
+use Rattle.triple_arena_traits.specs.laws.WalkLaws.{taken}
+use Rattle.triple_arena_traits.specs.laws.PointerListLaws.{pointer_is}
 use Rattle.triple_arena_traits.proofs.TransferLemmas.{transfer_start, transfer_room, transfer_on, transfer_end}
 use Rattle.triple_arena_traits.proofs.transferring.transfer_entries.Goals as goal
 

@@ -3,9 +3,9 @@ use Rattle.triple_arena_traits.specs.ArenaState.{ArenaState}
 use Rattle.triple_arena_traits.specs.FreeList.{tidied, IsInOrder}
 use Rattle.triple_arena_slots.proofs.Links.{carried, Shows-steps}
 use Rattle.triple_arena_slots.proofs.Tidying.{Shows-tidied}
-use Rattle.triple_arena_traits.specs.FreeListLaws.{IsInOrder-tidied}
-use Rattle.triple_arena_traits.specs.HistoryLaws.{Continues-resized}
-use Rattle.triple_arena.specs.TouchedLaws.{settled_slots}
+use Rattle.triple_arena_traits.specs.laws.FreeListLaws.{IsInOrder-tidied}
+use Rattle.triple_arena_traits.specs.laws.HistoryLaws.{Continues-resized}
+use Rattle.triple_arena.specs.laws.TouchedLaws.{settled_slots}
 use Rattle.std.proofs.lemmas.List.{length-map}
 use Rattle.triple_arena_slots.specs.Slot.{entry_of}
 use Rattle.triple_arena.proofs.base_arena.Arena.canonicalize_freelist.Goals as goal

@@ -1,6 +1,6 @@
 use Rattle.triple_arena_traits.proofs.Refused.{copied_some, index_found, index_there}
-use Rattle.triple_arena_traits.specs.PointerListLaws.{pointer_is}
-use Rattle.triple_arena_traits.specs.WellFormedLaws.{live_entry}
+use Rattle.triple_arena_traits.specs.laws.PointerListLaws.{pointer_is}
+use Rattle.triple_arena_traits.specs.laws.WellFormedLaws.{live_entry}
 use Rattle.triple_arena_traits.specs.ArenaState.{entry, look_up}
 use Rattle.triple_arena_traits.specs.Entries.{value_under}
 use Rattle.triple_arena_ptr.specs.Pointers.{Pointer}

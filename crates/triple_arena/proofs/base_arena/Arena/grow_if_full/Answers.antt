@@ -1,10 +1,10 @@
 use Rattle.triple_arena_slots.proofs.Resizing.{below_above, not_within}
-use Rattle.triple_arena_traits.specs.EntryLaws.{same-grown}
+use Rattle.triple_arena_traits.specs.laws.EntryLaws.{same-grown}
 use Rattle.std.proofs.Common.{◌≡◌, ◌≢◌, ◌∙◌, ◌<◌, cond, true≢false, sym, ap, subst, arith, ◌≤◌, refl}
 use Rattle.triple_arena_stack.specs.Capacity.{IsAtLimit, IsBeyond, next_capacity}
 use Rattle.triple_arena_stack.specs.StackKind.{IsOfKind}
 use Rattle.triple_arena_traits.specs.ArenaState.{arena_len, capacity, IsWellFormed}
-use Rattle.triple_arena_traits.specs.ItemLaws.{eq_true}
+use Rattle.triple_arena_traits.specs.laws.ItemLaws.{eq_true}
 use Rattle.triple_arena_slots.specs.Layout.{Shows}
 use Rattle.triple_arena_traits.specs.Capacity.{with_room_for}
 use Rattle.triple_arena_traits.proofs.Growth.{on_ok, grown_more, never_beyond}

@@ -1,8 +1,8 @@
 use Rattle.std.proofs.Common.{refl, ap, length, ◌∙◌, arith}
 use Rattle.triple_arena_traits.specs.Walks.{entries}
-use Rattle.triple_arena_traits.specs.ValueLaws.{keeps_pointers}
-use Rattle.triple_arena_traits.specs.WalkLaws.{length-entries}
-use Rattle.triple_arena_traits.specs.HistoryLaws.{Continues-values_of}
+use Rattle.triple_arena_traits.specs.laws.ValueLaws.{keeps_pointers}
+use Rattle.triple_arena_traits.specs.laws.WalkLaws.{length-entries}
+use Rattle.triple_arena_traits.specs.laws.HistoryLaws.{Continues-values_of}
 use Rattle.triple_arena_traits.proofs.Listing.{count_within}
 use Rattle.triple_arena.proofs.base_arena.Arena.iter_mut.Goals as goal
 

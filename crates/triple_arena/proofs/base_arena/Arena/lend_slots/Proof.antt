@@ -68,7 +68,7 @@ use Rattle.std.specs.Int.NonZero.{non_zero_usize_get}
 use Rattle.triple_arena_ptr.specs.Numbers.{greatest_index}
 use Rattle.triple_arena_traits.specs.ArenaState.{ArenaState}
 use Rattle.triple_arena_slots.specs.Slot.{entry_of, with_slot_value}
-use Rattle.triple_arena_slots.specs.SlotLaws.{with_own_slot_value}
+use Rattle.triple_arena_slots.specs.laws.SlotLaws.{with_own_slot_value}
 use Rattle.triple_arena_traits.specs.Values.{with_values_of}
 use Rattle.triple_arena_traits.specs.Kept.{filled_all, Kept}
 use Rattle.triple_arena_slots.specs.Lends.{with_slots}

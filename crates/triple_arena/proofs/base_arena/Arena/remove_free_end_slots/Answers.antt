@@ -4,14 +4,14 @@ use Rattle.triple_arena_traits.specs.Entries.{value_under}
 use Rattle.triple_arena_traits.specs.Items.{item}
 use Rattle.triple_arena_traits.specs.ArenaState.{ArenaState, slot_count, arena_len, entry, is_free}
 use Rattle.triple_arena_traits.specs.FreeList.{without_free_end}
-use Rattle.triple_arena_traits.specs.EntryLaws.{slots-without_free_end}
-use Rattle.triple_arena_traits.specs.LengthLaws.{len-without_free_end}
+use Rattle.triple_arena_traits.specs.laws.EntryLaws.{slots-without_free_end}
+use Rattle.triple_arena_traits.specs.laws.LengthLaws.{len-without_free_end}
 use Rattle.triple_arena_slots.proofs.Links.{carried, Shows-steps}
 use Rattle.triple_arena_slots.specs.Slot.{entry_of}
 use Rattle.std.proofs.lemmas.List.{length-map}
-use Rattle.triple_arena_traits.specs.FreeListLaws.{trimmed_last, trimmed_length}
+use Rattle.triple_arena_traits.specs.laws.FreeListLaws.{trimmed_last, trimmed_length}
 use Rattle.triple_arena_traits.specs.Histories.{resizing}
-use Rattle.triple_arena_traits.specs.HistoryLaws.{Continues-resized, Continues-touched}
+use Rattle.triple_arena_traits.specs.laws.HistoryLaws.{Continues-resized, Continues-touched}
 use Rattle.triple_arena.proofs.base_arena.Arena.remove_free_end_slots.Goals as goal
 
 pub invariant_of-self : goal.invariant_of-self

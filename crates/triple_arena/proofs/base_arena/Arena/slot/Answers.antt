@@ -2,7 +2,7 @@ use Rattle.std.proofs.Common.{◌≡◌, ◌∙◌, sym, ap, subst, IsSome, None
 use Rattle.std.specs.Option.{option_and_then}
 use Rattle.triple_arena_slots.specs.Slot.{entry_of}
 use Rattle.triple_arena_traits.specs.ArenaState.{entry}
-use Rattle.triple_arena_traits.specs.WellFormedLaws.{entry_past, entry_within}
+use Rattle.triple_arena_traits.specs.laws.WellFormedLaws.{entry_past, entry_within}
 use Rattle.triple_arena_slots.proofs.Refused.{slot_read}
 use Rattle.triple_arena.proofs.base_arena.Arena.slot.Goals as goal
 

@@ -3,7 +3,7 @@ use Rattle.std.specs.Int.NonZero.{non_zero_usize_get}
 use Rattle.triple_arena_ptr.specs.Numbers.{raise}
 use Rattle.triple_arena_traits.specs.ArenaState.{entry}
 use Rattle.triple_arena_traits.specs.Ending.{removed}
-use Rattle.triple_arena_traits.specs.WellFormedLaws.{counter-removed, room-removed, limit-removed, greatest-removed}
+use Rattle.triple_arena_traits.specs.laws.WellFormedLaws.{counter-removed, room-removed, limit-removed, greatest-removed}
 use Rattle.triple_arena_slots.proofs.Links.{live_len, carried, Shows-steps}
 use Rattle.triple_arena.proofs.Touched.{steps_of-removed}
 use Rattle.std.proofs.lemmas.List.{length-map}

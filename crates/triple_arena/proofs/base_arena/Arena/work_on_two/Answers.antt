@@ -2,7 +2,7 @@ use Rattle.std.proofs.Common.{◌∙◌, ap, refl}
 use Rattle.std.specs.Int.NonZero.{non_zero_usize_get}
 use Rattle.std.specs.Option.{option_map}
 use Rattle.triple_arena_traits.specs.ArenaState.{with_value}
-use Rattle.triple_arena_traits.specs.WellFormedLaws.{entry_value_read}
+use Rattle.triple_arena_traits.specs.laws.WellFormedLaws.{entry_value_read}
 use Rattle.triple_arena_slots.proofs.Links.{carried}
 use Rattle.triple_arena.proofs.Pairs.{Shows-two_written}
 use Rattle.triple_arena.proofs.base_arena.Arena.work_on_two.Goals as goal

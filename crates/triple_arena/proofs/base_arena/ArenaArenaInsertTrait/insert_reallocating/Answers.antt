@@ -1,13 +1,13 @@
 use Rattle.triple_arena_traits.proofs.Refused.{err_is, ok_not_err, if_err, on_ok_err, on_err, same_error}
-use Rattle.triple_arena_traits.specs.WellFormedLaws.{place_free}
+use Rattle.triple_arena_traits.specs.laws.WellFormedLaws.{place_free}
 use Rattle.triple_arena_ptr.specs.Pointers.{Pointer}
 use Rattle.std.proofs.lemmas.Bool.{false≢true}
 use Rattle.std.proofs.Common.{◌∙◌, ◌<◌, refl, ap, subst}
 use Rattle.triple_arena_traits.specs.ArenaState.{arena_len, capacity, entry}
-use Rattle.triple_arena_traits.specs.EntryLaws.{same-grown, next-grown}
+use Rattle.triple_arena_traits.specs.laws.EntryLaws.{same-grown, next-grown}
 use Rattle.triple_arena_traits.specs.Insertion.{inserted, next_pointer}
 use Rattle.triple_arena_traits.specs.SlotSteps.{touched, insertion_steps}
-use Rattle.triple_arena_traits.specs.HistoryLaws.{Continues-grown}
+use Rattle.triple_arena_traits.specs.laws.HistoryLaws.{Continues-grown}
 use Rattle.triple_arena.proofs.base_arena.ArenaArenaInsertTrait.insert_reallocating.Goals as goal
 
 pub returns-clause-had_place : goal.returns-clause-had_place

@@ -5,10 +5,10 @@ use Rattle.triple_arena_traits.specs.ArenaState.{ArenaState, arena_len, IsWellFo
 use Rattle.std.proofs.Common.{◌∙◌, ◌+◌, ◌∷◌, [], sym, ap, subst, refl, ◌<◌, arith}
 use Rattle.triple_arena_traits.specs.Insertion.{inserted}
 use Rattle.triple_arena_traits.specs.SlotSteps.{touched, insertion_steps}
-use Rattle.triple_arena_traits.specs.WellFormedLaws.{kept-inserted, few_steps}
+use Rattle.triple_arena_traits.specs.laws.WellFormedLaws.{kept-inserted, few_steps}
 use Rattle.triple_arena_slots.proofs.Links.{carried, Shows-steps}
 use Rattle.triple_arena_traits.specs.Histories.{insertion}
-use Rattle.triple_arena_traits.specs.HistoryLaws.{Continues-inserted, Continues-touched}
+use Rattle.triple_arena_traits.specs.laws.HistoryLaws.{Continues-inserted, Continues-touched}
 use Rattle.std.proofs.lemmas.List.{length-map}
 use Rattle.triple_arena_slots.specs.Slot.{entry_of}
 use Rattle.triple_arena.proofs.base_arena.ArenaArenaInsertTrait.insert_reserved.Goals as goal

@@ -4,9 +4,9 @@ use Rattle.std.specs.Option.{option_map}
 use Rattle.triple_arena_ptr.specs.Pointers.{Pointer}
 use Rattle.triple_arena_traits.specs.ArenaState.{entry}
 use Rattle.triple_arena_slots.specs.Layout.{Shows}
-use Rattle.triple_arena_traits.specs.WellFormedLaws.{place_within, place_free}
+use Rattle.triple_arena_traits.specs.laws.WellFormedLaws.{place_within, place_free}
 use Rattle.triple_arena_slots.proofs.Links.{one_more}
-use Rattle.triple_arena_traits.specs.PointerListLaws.{pointer_is}
+use Rattle.triple_arena_traits.specs.laws.PointerListLaws.{pointer_is}
 use Rattle.triple_arena.proofs.base_arena.ArenaArenaInsertTrait.next_ptr.Goals as goal
 
 pub place-inx-requires-after_bounds : goal.place-inx-requires-after_bounds

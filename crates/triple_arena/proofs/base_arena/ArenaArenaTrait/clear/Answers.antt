@@ -1,5 +1,5 @@
 use Rattle.std.proofs.Common.{rules}
-use Rattle.triple_arena_traits.specs.HistoryLaws.{Continues-cleared}
+use Rattle.triple_arena_traits.specs.laws.HistoryLaws.{Continues-cleared}
 use Rattle.triple_arena.proofs.base_arena.ArenaArenaTrait.clear.Goals as goal
 
 pub returns-then-is_empty-clause-done : goal.returns-then-is_empty-clause-done

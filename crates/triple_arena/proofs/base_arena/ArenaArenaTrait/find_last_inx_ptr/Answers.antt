@@ -1,7 +1,7 @@
 use Rattle.std.proofs.Common.{◌≡◌, map, subst}
 use Rattle.triple_arena_traits.specs.Entries.{entry_count}
 use Rattle.triple_arena_slots.specs.Slot.{entry_of}
-use Rattle.triple_arena_traits.specs.WellFormedLaws.{none_counted}
+use Rattle.triple_arena_traits.specs.laws.WellFormedLaws.{none_counted}
 use Rattle.triple_arena.proofs.base_arena.ArenaArenaTrait.find_last_inx_ptr.Goals as goal
 
 pub returns-in_err-inx : goal.returns-in_err-inx

@@ -1,6 +1,6 @@
 use Rattle.triple_arena_traits.proofs.Refused.{copied_some}
-use Rattle.triple_arena_traits.specs.HistoryLaws.{found_as_given}
-use Rattle.triple_arena_traits.specs.PointerListLaws.{pointer_is}
+use Rattle.triple_arena_traits.specs.laws.HistoryLaws.{found_as_given}
+use Rattle.triple_arena_traits.specs.laws.PointerListLaws.{pointer_is}
 use Rattle.triple_arena_traits.specs.ArenaState.{look_up}
 use Rattle.triple_arena_traits.specs.Entries.{value_under}
 use Rattle.std.specs.Option.{option_and_then}

@@ -5,9 +5,9 @@ use Rattle.std.proofs.Math.Path.{fun_ext}
 use Rattle.std.specs.Int.NonZero.{non_zero_usize_get}
 use Rattle.triple_arena_traits.specs.ArenaState.{ArenaState, entry, with_value}
 use Rattle.triple_arena_slots.specs.Layout.{entry_at}
-use Rattle.triple_arena_traits.specs.WellFormedLaws.{entry_value_read}
+use Rattle.triple_arena_traits.specs.laws.WellFormedLaws.{entry_value_read}
 use Rattle.triple_arena_slots.proofs.Links.{lent}
-use Rattle.triple_arena_traits.specs.HistoryLaws.{Continues-written}
+use Rattle.triple_arena_traits.specs.laws.HistoryLaws.{Continues-written}
 use Rattle.triple_arena.proofs.base_arena.ArenaArenaTrait.get_inx_mut.Goals as goal
 
 pub invariant_of-self-lent : goal.invariant_of-self-lent

@@ -5,9 +5,9 @@ use Rattle.std.specs.Int.NonZero.{non_zero_usize_get}
 use Rattle.triple_arena_traits.specs.ArenaState.{ArenaState, look_up, with_value}
 use Rattle.triple_arena_slots.specs.Slot.{entry_of}
 use Rattle.triple_arena_slots.specs.Layout.{entry_at}
-use Rattle.triple_arena_traits.specs.WellFormedLaws.{live_entry, value_read}
+use Rattle.triple_arena_traits.specs.laws.WellFormedLaws.{live_entry, value_read}
 use Rattle.triple_arena_slots.proofs.Links.{lent}
-use Rattle.triple_arena_traits.specs.HistoryLaws.{Continues-written, found_as_given}
+use Rattle.triple_arena_traits.specs.laws.HistoryLaws.{Continues-written, found_as_given}
 use Rattle.triple_arena.proofs.base_arena.ArenaArenaTrait.get_mut.Goals as goal
 
 pub invariant_of-self-lent : goal.invariant_of-self-lent

@@ -7,12 +7,12 @@ use Rattle.std.specs.Int.NonZero.{non_zero_usize_get}
 use Rattle.triple_arena_ptr.specs.Numbers.{raise, wraps}
 use Rattle.triple_arena_traits.specs.Entries.{with_generation_in}
 use Rattle.triple_arena_traits.specs.ArenaState.{look_up, ArenaState, entry}
-use Rattle.triple_arena.specs.TouchedLaws.{invalidated_slots}
-use Rattle.triple_arena_traits.specs.WellFormedLaws.{invalidated_is, live_entry, entry_of_value}
+use Rattle.triple_arena.specs.laws.TouchedLaws.{invalidated_slots}
+use Rattle.triple_arena_traits.specs.laws.WellFormedLaws.{invalidated_is, live_entry, entry_of_value}
 use Rattle.triple_arena_slots.proofs.Links.{Shows-counter, Shows-steps, carried}
-use Rattle.triple_arena_traits.specs.PointerListLaws.{pointer_is}
+use Rattle.triple_arena_traits.specs.laws.PointerListLaws.{pointer_is}
 use Rattle.triple_arena_traits.proofs.LookUps.{renewed_found, renewed_gone, others_found}
-use Rattle.triple_arena_traits.specs.HistoryLaws.{Continues-invalidated, Continues-touched}
+use Rattle.triple_arena_traits.specs.laws.HistoryLaws.{Continues-invalidated, Continues-touched}
 use Rattle.triple_arena_traits.specs.Histories.{invalidation}
 use Rattle.triple_arena_traits.specs.Ending.{invalidated}
 use Rattle.triple_arena.proofs.base_arena.ArenaArenaTrait.invalidate.Goals as goal

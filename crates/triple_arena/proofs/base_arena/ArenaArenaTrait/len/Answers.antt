@@ -1,6 +1,6 @@
 use Rattle.std.proofs.Common.{subst}
 use Rattle.triple_arena_traits.specs.ArenaState.{IsWellFormed}
-use Rattle.triple_arena_traits.specs.WellFormedLaws.{len_within}
+use Rattle.triple_arena_traits.specs.laws.WellFormedLaws.{len_within}
 use Rattle.triple_arena.proofs.base_arena.ArenaArenaTrait.len.Goals as goal
 
 pub returns-clause-fits : goal.returns-clause-fits

@@ -1,16 +1,16 @@
 use Rattle.triple_arena_traits.proofs.Refused.{gone_found, rest_found}
 use Rattle.triple_arena_slots.proofs.Refused.{told_found}
 use Rattle.triple_arena_traits.proofs.SlotEntries.{none_of}
-use Rattle.triple_arena_traits.specs.WellFormedLaws.{value_of_entry, live_entry}
+use Rattle.triple_arena_traits.specs.laws.WellFormedLaws.{value_of_entry, live_entry}
 use Rattle.triple_arena.proofs.Touched.{removed_after, steps_of-removed}
-use Rattle.triple_arena.specs.TouchedLaws.{removed_slots}
+use Rattle.triple_arena.specs.laws.TouchedLaws.{removed_slots}
 use Rattle.std.specs.Int.NonZero.{non_zero_usize_get}
 use Rattle.triple_arena_traits.specs.Histories.{removal}
 use Rattle.triple_arena_traits.specs.Ending.{removed, told_of}
 use Rattle.triple_arena_traits.specs.ArenaState.{ArenaState, entry, look_up}
 use Rattle.triple_arena_ptr.specs.Numbers.{raise, wraps}
 use Rattle.std.proofs.Common.{◌∙◌, ◌∷◌, [], refl, arith, IsSome, is_some, sym, ap, subst, true≢false}
-use Rattle.triple_arena_traits.specs.HistoryLaws.{Continues-removed, Continues-touched}
+use Rattle.triple_arena_traits.specs.laws.HistoryLaws.{Continues-removed, Continues-touched}
 use Rattle.triple_arena.proofs.base_arena.ArenaArenaTrait.remove.Goals as goal
 
 pub returns-clause-done : goal.returns-clause-done

@@ -4,8 +4,8 @@ use Rattle.std.proofs.lemmas.Bool.{cases_eq}
 use Rattle.std.specs.Int.NonZero.{non_zero_usize_get}
 use Rattle.triple_arena_ptr.specs.Pointers.{Pointer}
 use Rattle.triple_arena_traits.specs.ArenaState.{look_up, entry}
-use Rattle.triple_arena_traits.specs.ItemLaws.{eq_true, eq_false}
-use Rattle.triple_arena_traits.specs.WellFormedLaws.{live_entry}
+use Rattle.triple_arena_traits.specs.laws.ItemLaws.{eq_true, eq_false}
+use Rattle.triple_arena_traits.specs.laws.WellFormedLaws.{live_entry}
 use Rattle.triple_arena_traits.proofs.SlotEntries.{none_of}
 use Rattle.triple_arena_traits.proofs.Pairs.{value_under_pointer, same_pointer}
 use Rattle.triple_arena.proofs.base_arena.ArenaDisjointableArenaTrait.with_disjoint_mut.Goals.{in_default-via-in-Some+in_default, in_default-via-in_default}

@@ -5,7 +5,7 @@ use Rattle.triple_arena_ptr.specs.Pointers.{Pointer}
 use Rattle.triple_arena_traits.specs.ArenaState.{ArenaState, entry, look_up, with_value}
 use Rattle.triple_arena_traits.specs.Insertion.{inserted, next_pointer}
 use Rattle.triple_arena_traits.specs.SlotSteps.{touched, insertion_steps}
-use Rattle.triple_arena_traits.specs.HistoryLaws.{Continues-inserted, Continues-touched}
+use Rattle.triple_arena_traits.specs.laws.HistoryLaws.{Continues-inserted, Continues-touched}
 use Rattle.triple_arena_traits.specs.Histories.{insertion}
 use Rattle.triple_arena.proofs.insert_entry.ArenaInsertEntryArenaInsertEntryTrait.insert.Goals as goal
 

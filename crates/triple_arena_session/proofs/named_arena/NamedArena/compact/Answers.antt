@@ -5,7 +5,7 @@ use Rattle.triple_arena_ptr.specs.Numbers.{wraps}
 use Rattle.triple_arena_traits.specs.Entries.{look_up_in}
 use Rattle.triple_arena_traits.specs.ArenaState.{map_values}
 use Rattle.triple_arena_traits.specs.Compression.{wraps_after}
-use Rattle.triple_arena_renaming.specs.Renaming.{Refuses}
+use Rattle.triple_arena_direct.specs.Renaming.{Refuses}
 use Rattle.triple_arena_session.specs.SessionState.{node_of}
 use Rattle.triple_arena_session.proofs.Shown.{len-shown, arena_changed}
 use Rattle.triple_arena_session.proofs.Renaming.{compacts, compacts_not, told_parts}

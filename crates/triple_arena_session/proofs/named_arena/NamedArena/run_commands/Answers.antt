@@ -1,6 +1,6 @@
 use Rattle.std.proofs.Common.{◌+◌, subst, sym, ap, ◌∙◌}
 use Rattle.std.proofs.lemmas.List.{length_push}
-use Rattle.triple_arena_commands.specs.RunLaws.{IsRun-more, RunsToWrap-wrapped, TellsOfNoWrap-push}
+use Rattle.triple_arena_commands.specs.laws.RunLaws.{IsRun-more, RunsToWrap-wrapped, TellsOfNoWrap-push}
 use Rattle.triple_arena_session.specs.SessionLayout.{IsStepOf}
 use Rattle.triple_arena_session.proofs.named_arena.NamedArena.run_commands.Goals as goal
 

@@ -1,6 +1,6 @@
 use Rattle.std.proofs.Common.{length, take}
 use Rattle.std.proofs.lemmas.Result.{IfOk-weaker}
-use Rattle.triple_arena_commands.specs.RunLaws.{IsRun-front}
+use Rattle.triple_arena_commands.specs.laws.RunLaws.{IsRun-front}
 use Rattle.triple_arena_session.specs.SessionRun.{IsStep}
 use Rattle.triple_arena_session.proofs.Soundness.{sound_over}
 use Rattle.triple_arena_session.proofs.Continuing.{StepGoesOn, StepsKeepHistories}

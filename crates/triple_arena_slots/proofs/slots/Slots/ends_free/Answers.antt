@@ -3,7 +3,7 @@ use Rattle.std.specs.Int.NonZero.{non_zero_usize_get}
 use Rattle.triple_arena_traits.specs.Items.{item}
 use Rattle.triple_arena_traits.specs.ArenaState.{is_free}
 use Rattle.triple_arena_traits.specs.Places.{number_or_zero}
-use Rattle.triple_arena_traits.specs.ItemLaws.{item_at}
+use Rattle.triple_arena_traits.specs.laws.ItemLaws.{item_at}
 use Rattle.triple_arena_slots.specs.Slot.{entry_of}
 use Rattle.triple_arena_slots.proofs.FreeEnd.{free_or_live}
 use Rattle.triple_arena_slots.proofs.slots.Slots.ends_free.Goals as goal

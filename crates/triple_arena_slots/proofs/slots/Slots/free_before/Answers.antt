@@ -2,7 +2,7 @@ use Rattle.std.proofs.Common.{◌∙◌, ◌≢◌, ◌≤◌, Some, length, ap,
 use Rattle.std.proofs.lemmas.Option.{same_Some}
 use Rattle.std.specs.Int.NonZero.{non_zero_usize_get}
 use Rattle.triple_arena_ptr.specs.Numbers.{greatest_index}
-use Rattle.triple_arena_traits.specs.ItemLaws.{map-with_item, item-with_other, length-with_item}
+use Rattle.triple_arena_traits.specs.laws.ItemLaws.{map-with_item, item-with_other, length-with_item}
 use Rattle.triple_arena_slots.specs.Slot.{entry_of}
 use Rattle.triple_arena_slots.specs.declared.slot.ArenaSlot.TheVariants.{Free}
 use Rattle.triple_arena_slots.proofs.Unlinking.{Begins-put, there_indexed, free_indexed}

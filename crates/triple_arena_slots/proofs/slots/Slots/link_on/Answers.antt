@@ -1,7 +1,7 @@
 use Rattle.std.proofs.Common.{◌∙◌, is_some, sym, ap}
 use Rattle.std.specs.Int.NonZero.{non_zero_usize_get}
 use Rattle.std.specs.Option.{option_map}
-use Rattle.triple_arena_traits.specs.ItemLaws.{item_at, with_item_at}
+use Rattle.triple_arena_traits.specs.laws.ItemLaws.{item_at, with_item_at}
 use Rattle.triple_arena_traits.proofs.Inserted.{some_lent}
 use Rattle.triple_arena_slots.proofs.Unlinking.{free_slot_at, free_indexed, no_entry_at, LeadsOn-some}
 use Rattle.triple_arena_slots.proofs.slots.Slots.link_on.Goals as goal

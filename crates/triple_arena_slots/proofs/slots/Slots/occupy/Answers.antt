@@ -6,7 +6,7 @@ use Rattle.triple_arena_slots.specs.Slot.{entry_of}
 use Rattle.triple_arena_slots.specs.declared.slot.ArenaSlot.TheVariants.{Allocated}
 use Rattle.triple_arena_slots.proofs.Links.{root_free, full_at_none, can_leave, first_link, Shows-filled, Shows-pushed, steps-filled, steps-pushed}
 use Rattle.triple_arena_traits.specs.Items.{with_item}
-use Rattle.triple_arena_traits.specs.ItemLaws.{item-with_other, length-with_item}
+use Rattle.triple_arena_traits.specs.laws.ItemLaws.{item-with_other, length-with_item}
 use Rattle.triple_arena_slots.proofs.slots.Slots.occupy.Goals as goal
 
 pub push-requires-after_bounds : goal.push-requires-after_bounds

@@ -3,7 +3,7 @@ use Rattle.std.proofs.lemmas.List.{take-map, length-take-le}
 use Rattle.std.specs.Int.NonZero.{non_zero_usize_get}
 use Rattle.triple_arena_traits.specs.Items.{item}
 use Rattle.triple_arena_traits.specs.Places.{number_or_zero}
-use Rattle.triple_arena_traits.specs.ItemLaws.{item_last}
+use Rattle.triple_arena_traits.specs.laws.ItemLaws.{item_last}
 use Rattle.triple_arena_slots.specs.Slot.{entry_of}
 use Rattle.triple_arena_slots.proofs.Links.{can_leave}
 use Rattle.triple_arena_slots.proofs.Unlinking.{no_entry_at}

@@ -1,6 +1,6 @@
 use Rattle.std.proofs.Common.{length, map, ap, arith}
 use Rattle.std.proofs.lemmas.List.{length-map}
-use Rattle.triple_arena_traits.specs.FreeListLaws.{trimmed_length}
+use Rattle.triple_arena_traits.specs.laws.FreeListLaws.{trimmed_length}
 use Rattle.triple_arena_slots.specs.Slot.{entry_of}
 use Rattle.triple_arena_slots.proofs.slots.Slots.tidy.Goals as goal
 

@@ -1,6 +1,6 @@
 use Rattle.std.proofs.Common.{◌≢◌, ◌∙◌, length, ap, arith}
 use Rattle.std.specs.Int.NonZero.{non_zero_usize_get}
-use Rattle.triple_arena_traits.specs.ItemLaws.{item_last}
+use Rattle.triple_arena_traits.specs.laws.ItemLaws.{item_last}
 use Rattle.triple_arena_slots.specs.Slot.{entry_of}
 use Rattle.triple_arena_traits.proofs.SlotEntries.{entry_item, item_live}
 use Rattle.triple_arena_slots.proofs.Links.{live_in, root_not_live, root_vacant, Shows-popped, Shows-freed}

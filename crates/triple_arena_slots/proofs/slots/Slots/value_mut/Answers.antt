@@ -1,7 +1,7 @@
 use Rattle.std.proofs.Common.{◌∙◌, IsSome, sym, subst, refl}
 use Rattle.std.specs.Int.NonZero.{non_zero_usize_get}
 use Rattle.triple_arena_slots.specs.Slot.{entry_of, with_slot_value}
-use Rattle.triple_arena_traits.specs.ItemLaws.{item_at, with_item_at}
+use Rattle.triple_arena_traits.specs.laws.ItemLaws.{item_at, with_item_at}
 use Rattle.triple_arena_traits.proofs.Present.{some_mapped}
 use Rattle.triple_arena_traits.proofs.SlotEntries.{entry_item, item_live}
 use Rattle.triple_arena_slots.proofs.slots.Slots.value_mut.Goals as goal

@@ -1,5 +1,5 @@
 use Rattle.std.proofs.Common.{Ok, refl}
-use Rattle.triple_arena_traits.specs.CopyLaws.{room_passed, map_passed}
+use Rattle.triple_arena_traits.specs.laws.CopyLaws.{room_passed, map_passed}
 use Rattle.triple_arena_traits.proofs.Refused.{err_is}
 use Rattle.triple_arena_traits.proofs.arena_clone_trait.ArenaCloneFromWith.clone.Goals as goal
 

@@ -1,5 +1,5 @@
 use Rattle.std.proofs.Common.{rules, Ok, Err, arith}
-use Rattle.triple_arena_traits.specs.CopyLaws.{clones_exactly, copies_front, front_keeps, front_given, front_refused, map_refusal, on_ok, not_refused}
+use Rattle.triple_arena_traits.specs.laws.CopyLaws.{clones_exactly, copies_front, front_keeps, front_given, front_refused, map_refusal, on_ok, not_refused}
 use Rattle.triple_arena_traits.proofs.arena_clone_trait.ArenaCloneFromWith.clone_from.Goals as goal
 
 pub returns-clause-cloned : goal.returns-clause-cloned

@@ -1,7 +1,7 @@
 use Rattle.std.proofs.Common.{◌∙◌, ap}
 use Rattle.triple_arena_base.specs.Invalidation.{as_option}
 use Rattle.triple_arena_traits.specs.Ending.{told_of}
-use Rattle.triple_arena_traits.specs.WalkLaws.{found}
+use Rattle.triple_arena_traits.specs.laws.WalkLaws.{found}
 use Rattle.triple_arena_traits.proofs.Walking.{unwrapped}
 use Rattle.triple_arena_traits.proofs.arena_iterators.drain.take_next.Goals as goal
 

@@ -1,6 +1,6 @@
 use Rattle.std.proofs.Common.{subst, rules}
-use Rattle.triple_arena_traits.specs.CompressionLaws.{length-values}
-use Rattle.triple_arena_traits.specs.MoveLaws.{values_kept, found_renamed}
+use Rattle.triple_arena_traits.specs.laws.CompressionLaws.{length-values}
+use Rattle.triple_arena_traits.specs.laws.MoveLaws.{values_kept, found_renamed}
 use Rattle.triple_arena_traits.proofs.compact_arena_trait.CompactArenaTrait.compress.Goals as goal
 
 pub returns-clause-done : goal.returns-clause-done

@@ -1,7 +1,7 @@
 use Rattle.std.proofs.Common.{◌∙◌, ◌∷◌, is_some, sym, ap, refl, true≢false, of_calls}
 use Rattle.std.specs.Option.{option_copied_mut}
 use Rattle.triple_arena_traits.specs.Walks.{keys_of}
-use Rattle.triple_arena_traits.specs.WalkLaws.{taken, forward_stays, ahead_written, keys_first, keys_taken, keys_none}
+use Rattle.triple_arena_traits.specs.laws.WalkLaws.{taken, forward_stays, ahead_written, keys_first, keys_taken, keys_none}
 use Rattle.triple_arena_traits.proofs.Visiting.{begins, goes_on, ends, called_at, wrote_none, wrote_one, wrote_all}
 use Rattle.triple_arena_traits.proofs.compact_arena_trait.CompactArenaTrait.for_each_mut.Goals as goal
 

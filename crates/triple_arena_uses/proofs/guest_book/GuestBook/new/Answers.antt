@@ -1,8 +1,8 @@
 use Rattle.std.proofs.Common.{◌≡◌, [], map, ap, rules}
 use Rattle.triple_arena_traits.specs.ArenaState.{arena_len}
 use Rattle.triple_arena_traits.specs.Histories.{begun_with}
-use Rattle.triple_arena_traits.specs.HistoryLaws.{Fits-empty}
-use Rattle.triple_arena_entity_uses.specs.Entities.{numbers}
+use Rattle.triple_arena_traits.specs.laws.HistoryLaws.{Fits-empty}
+use Rattle.triple_arena_uses.specs.Entities.{numbers}
 use Rattle.triple_arena_uses.proofs.guest_book.GuestBook.new.Goals as goal
 
 pub invariant_of-result : goal.invariant_of-result

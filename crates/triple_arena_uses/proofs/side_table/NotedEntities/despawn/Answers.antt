@@ -1,4 +1,4 @@
-use Rattle.triple_arena_entity_uses.specs.Entities.{numbers}
+use Rattle.triple_arena_uses.specs.Entities.{numbers}
 use Rattle.triple_arena_uses.proofs.Notes.{same_removed}
 use Rattle.triple_arena_uses.proofs.side_table.NotedEntities.despawn.Goals as goal
 

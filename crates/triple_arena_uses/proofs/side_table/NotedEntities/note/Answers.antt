@@ -1,6 +1,6 @@
 use Rattle.std.proofs.Common.{◌∙◌, is_some, ap}
 use Rattle.triple_arena_traits.specs.Entries.{look_up_in}
-use Rattle.triple_arena_entity_uses.specs.Entities.{numbers}
+use Rattle.triple_arena_uses.specs.Entities.{numbers}
 use Rattle.triple_arena_uses.specs.Notes.{Noted}
 use Rattle.triple_arena_uses.proofs.side_table.NotedEntities.note.Goals as goal
 

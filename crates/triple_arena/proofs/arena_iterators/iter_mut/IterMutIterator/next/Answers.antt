@@ -2,7 +2,7 @@ use Rattle.std.proofs.Common.{◌≡◌, ◌∙◌, ◌+◌, ◌-◌, ◌^◌, l
 use Rattle.std.specs.Int.NonZero.{non_zero_usize_get}
 use Rattle.triple_arena_traits.specs.Lent.{lent_rest}
 use Rattle.triple_arena_slots.specs.Slot.{entry_of}
-use Rattle.triple_arena_traits.specs.PointerListLaws.{pointer_is}
+use Rattle.triple_arena_traits.specs.laws.PointerListLaws.{pointer_is}
 use Rattle.triple_arena_traits.proofs.Lending.{behind_first, generation_there, first_lent, first_passed, none_left}
 use Rattle.triple_arena.proofs.arena_iterators.iter_mut.IterMutIterator.next.Goals as goal
 

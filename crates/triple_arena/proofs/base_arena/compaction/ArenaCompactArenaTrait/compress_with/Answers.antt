@@ -2,8 +2,8 @@ use Rattle.std.proofs.Common.{ap}
 use Rattle.triple_arena_ptr.specs.Numbers.{raise, first_generation}
 use Rattle.triple_arena_traits.specs.ArenaState.{capacity}
 use Rattle.triple_arena_traits.specs.Compression.{counter_after}
-use Rattle.triple_arena.specs.TouchedLaws.{compressed_keys}
-use Rattle.triple_arena_traits.specs.MoveLaws.{count-moved, count_renamed}
+use Rattle.triple_arena.specs.laws.TouchedLaws.{compressed_keys}
+use Rattle.triple_arena_traits.specs.laws.MoveLaws.{count-moved, count_renamed}
 use Rattle.triple_arena.proofs.Touched.{compressed_goes_on, compressed_begins}
 use Rattle.triple_arena.proofs.base_arena.compaction.ArenaCompactArenaTrait.compress_with.Goals as goal
 

@@ -4,10 +4,10 @@ use Rattle.triple_arena_traits.specs.ArenaState.{ArenaState, capacity}
 use Rattle.triple_arena_traits.specs.Capacity.{reallocated}
 use Rattle.triple_arena_traits.specs.Cloning.{IsCloneAnswer}
 use Rattle.triple_arena_traits.specs.Entries.{entry_in}
-use Rattle.triple_arena.specs.TouchedLaws.{settled_slots}
+use Rattle.triple_arena.specs.laws.TouchedLaws.{settled_slots}
 use Rattle.triple_arena_traits.proofs.CopyLemmas.{kept_end, copy_ends, no_answer}
 use Rattle.triple_arena_traits.proofs.Refused.{err_is, on_ok_err}
-use Rattle.triple_arena_traits.specs.FreeListLaws.{trimmed_length}
+use Rattle.triple_arena_traits.specs.laws.FreeListLaws.{trimmed_length}
 use Rattle.triple_arena.proofs.Cloned.{counter_given, copy_laid_out, passed_on, no_refusal, beyond_room, not_beyond}
 use Rattle.triple_arena_slots.proofs.Refused.{unrefused_end}
 use Rattle.triple_arena.proofs.base_arena.copies.ArenaArenaCloneFromWith.clone_from_with.Goals as goal

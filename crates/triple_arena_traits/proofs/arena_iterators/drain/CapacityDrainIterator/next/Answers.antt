@@ -1,6 +1,6 @@
 use Rattle.std.proofs.Common.{◌∙◌, Some, sym, ap, length, arith}
 use Rattle.triple_arena_base.specs.Invalidation.{allowed_option}
-use Rattle.triple_arena_traits.specs.WalkLaws.{ahead_none, ahead_after_none, ahead_taken_out}
+use Rattle.triple_arena_traits.specs.laws.WalkLaws.{ahead_none, ahead_after_none, ahead_taken_out}
 use Rattle.triple_arena_traits.proofs.Walking.{allowed_told}
 use Rattle.triple_arena_traits.proofs.arena_iterators.drain.CapacityDrainIterator.next.Goals as goal
 

@@ -1,6 +1,6 @@
 use Rattle.std.proofs.Common.{◌∙◌, ap, refl}
 use Rattle.triple_arena_base.specs.Invalidation.{overflowing_option}
-use Rattle.triple_arena_traits.specs.WalkLaws.{none_left, answer_first, others_ahead, taken}
+use Rattle.triple_arena_traits.specs.laws.WalkLaws.{none_left, answer_first, others_ahead, taken}
 use Rattle.triple_arena_traits.proofs.Walking.{overflowing_told}
 use Rattle.triple_arena_traits.proofs.arena_iterators.drain.DrainIterator.next.Goals as goal
 

@@ -1,4 +1,4 @@
-use Rattle.triple_arena_traits.specs.WalkLaws.{ahead_first}
+use Rattle.triple_arena_traits.specs.laws.WalkLaws.{ahead_first}
 use Rattle.triple_arena_traits.proofs.arena_iterators.iter.Iter.over.Goals as goal
 
 pub returns : goal.returns

@@ -1,5 +1,5 @@
 use Rattle.std.proofs.Common.{◌∙◌, sym, ap, length, arith}
-use Rattle.triple_arena_traits.specs.WalkLaws.{ahead_taken, ahead_none, ahead_after_none}
+use Rattle.triple_arena_traits.specs.laws.WalkLaws.{ahead_taken, ahead_none, ahead_after_none}
 use Rattle.triple_arena_traits.proofs.Present.{some_mapped}
 use Rattle.triple_arena_traits.proofs.arena_iterators.iter.IterIterator.next.Goals as goal
 

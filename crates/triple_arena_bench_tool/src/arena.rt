@@ -1,0 +1,192 @@
+//! Insertion, reading, churn, a walk and clearing of an arena, with the pointer of general use and with
+//! the small one, and of a plain vector with free indexes.
+
+mod plain;
+mod table;
+
+use crate::timing::{RUNS, Timed, Timing, over_arena, print};
+use plain::Plain;
+use rand_core::Rng;
+use rand_pcg::Pcg64Mcg;
+use std::alloc::Global;
+use std::io::{self, Print};
+use std::time::{Clock, Instant};
+use table::{InArena, Table};
+use triple_arena::{ArenaInsertTrait, CompactArenaTrait};
+use triple_arena_ptr::{P0, Ptr};
+use triple_arena_uses::SmallPtr;
+
+// A source of random numbers, which are the same in each run.
+fn new_random() -> Pcg64Mcg {
+    Pcg64Mcg::new(0xcafe_f00d_d15e_a5e5)
+}
+
+// A number below `bound`, or 0, from the upper bits of the next one.
+fn below(random: &mut Pcg64Mcg, bound: u32) -> usize {
+    let upper = random.next_u64() >> 32;
+    (upper.wrapping_mul(bound as u64) >> 32) as usize
+}
+
+// The operations in the order in which they are timed.
+#[derive(Clone, Copy)]
+struct Timings {
+    insert: Timing,
+    get: Timing,
+    churn: Timing,
+    iterate: Timing,
+    clear: Timing,
+}
+
+impl Timings {
+    const LONGEST: Timings = Timings {
+        insert: Timing::LONGEST,
+        get: Timing::LONGEST,
+        churn: Timing::LONGEST,
+        iterate: Timing::LONGEST,
+        clear: Timing::LONGEST,
+    };
+
+    fn least(self, later: Timings) -> Timings {
+        Timings {
+            insert: self.insert.least(later.insert),
+            get: self.get.least(later.get),
+            churn: self.churn.least(later.churn),
+            iterate: self.iterate.least(later.iterate),
+            clear: self.clear.least(later.clear),
+        }
+    }
+}
+
+/// Prints the least times of some runs with so many numbers, in nanoseconds for each number; clearing
+/// is one call, and its time is that of the call.
+pub fn run(rt: &(impl Print + Clock), alloc: Global, size: u32) -> anyhow::Result<()> {
+    over_arena::<_, P0, u64, Calls>(rt, alloc, "arena", size)?;
+    over_arena::<_, SmallPtr, u64, Calls>(rt, alloc, "small", size)?;
+    time::<_, Plain>(rt, alloc, "vector", size)
+}
+
+// What is timed of an arena here.
+struct Calls;
+
+impl<P: Ptr> Timed<P, u64> for Calls {
+    fn time<R: Print + Clock, A: ArenaInsertTrait<P, u64> + CompactArenaTrait<P, u64> + Drop>(
+        rt: &R,
+        alloc: Global,
+        name: &str,
+        size: u32,
+    ) -> anyhow::Result<()> {
+        time::<R, InArena<P, A>>(rt, alloc, name, size)
+    }
+}
+
+fn time<R: Print + Clock, T: Table>(
+    rt: &R,
+    alloc: Global,
+    name: &str,
+    size: u32,
+) -> anyhow::Result<()> {
+    let mut names = Vec::with_capacity(alloc, size as usize)?;
+    let mut least = Timings::LONGEST;
+    for _ in 0..RUNS {
+        least = least.least(time_once::<R, T>(rt, alloc, size, &mut names)?);
+    }
+    print_all(rt, name, size, least)?;
+    Ok(())
+}
+
+fn print_all(rt: &impl Print, name: &str, size: u32, timings: Timings) -> io::Result<()> {
+    print(rt, name, size, "insert", size, timings.insert)?;
+    print(rt, name, size, "get", size, timings.get)?;
+    print(rt, name, size, "churn", size, timings.churn)?;
+    print(rt, name, size, "iterate", size, timings.iterate)?;
+    print(rt, name, size, "clear", 1, timings.clear)
+}
+
+// The names are those of an earlier run, so that none of the later runs is the first to touch them.
+fn time_once<C: Clock, T: Table>(
+    rt: &C,
+    alloc: Global,
+    size: u32,
+    names: &mut Vec<T::Name>,
+) -> anyhow::Result<Timings> {
+    let mut table = T::empty(alloc);
+    names.clear();
+    Ok(Timings {
+        insert: time_insert(rt, size, &mut table, names)?,
+        get: time_get(rt, size, &table, names)?,
+        churn: time_churn(rt, size, &mut table, names)?,
+        iterate: time_iterate(rt, &table)?,
+        clear: time_clear(rt, &mut table)?,
+    })
+}
+
+// Nothing is read while it is timed: the sum is of all numbers afterwards.
+fn time_insert<T: Table>(
+    rt: &impl Clock,
+    size: u32,
+    table: &mut T,
+    names: &mut Vec<T::Name>,
+) -> anyhow::Result<Timing> {
+    let mut random = new_random();
+    let start = Instant::now(rt)?;
+    for _ in 0..size {
+        names.push(table.put(random.next_u64())?)?;
+    }
+    let time = start.elapsed(rt)?;
+    let sum = table.sum_all();
+    Ok(Timing { time, sum })
+}
+
+fn time_get<T: Table>(
+    rt: &impl Clock,
+    size: u32,
+    table: &T,
+    names: &[T::Name],
+) -> anyhow::Result<Timing> {
+    let mut random = new_random();
+    let mut sum = 0u64;
+    let start = Instant::now(rt)?;
+    for _ in 0..size {
+        if let Some(name) = names.get(below(&mut random, size)) {
+            sum = sum.wrapping_add(table.read(*name));
+        }
+    }
+    let time = start.elapsed(rt)?;
+    Ok(Timing { time, sum })
+}
+
+fn time_churn<T: Table>(
+    rt: &impl Clock,
+    size: u32,
+    table: &mut T,
+    names: &mut [T::Name],
+) -> anyhow::Result<Timing> {
+    let mut random = new_random();
+    let mut sum = 0u64;
+    let start = Instant::now(rt)?;
+    for _ in 0..size {
+        if let Some(name) = names.get_mut(below(&mut random, size)) {
+            sum = sum.wrapping_add(table.take_out(*name));
+            *name = table.put(random.next_u64())?;
+        }
+    }
+    let time = start.elapsed(rt)?;
+    Ok(Timing { time, sum })
+}
+
+// The numbers lie as the churn left them.
+fn time_iterate<T: Table>(rt: &impl Clock, table: &T) -> anyhow::Result<Timing> {
+    let start = Instant::now(rt)?;
+    let sum = table.sum_all();
+    let time = start.elapsed(rt)?;
+    Ok(Timing { time, sum })
+}
+
+// The sum is of what is still there afterwards.
+fn time_clear<T: Table>(rt: &impl Clock, table: &mut T) -> anyhow::Result<Timing> {
+    let start = Instant::now(rt)?;
+    table.take_out_all();
+    let time = start.elapsed(rt)?;
+    let sum = table.sum_all();
+    Ok(Timing { time, sum })
+}

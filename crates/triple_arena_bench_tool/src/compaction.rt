@@ -1,0 +1,168 @@
+//! Compaction where every second entry was removed: of an arena of numbers, of one of nodes, each with a
+//! link that is renamed, and of a plain vector.
+
+use crate::entry::{Entry, Node, sum_of, sum_of_places};
+use crate::timing::{RUNS, Timed, Timing, over_arena, print};
+use std::alloc::Global;
+use std::io::Print;
+use std::marker::PhantomData;
+use std::time::{Clock, Instant};
+use triple_arena::{ArenaInsertTrait, CompactArenaTrait};
+use triple_arena_direct::compress_recast;
+use triple_arena_ptr::P0;
+
+// What holds numbers with gaps, and closes them.
+trait Gapped: Drop {
+    // The even numbers below `size`; the odd ones between were removed.
+    fn even_numbers(alloc: Global, size: u32) -> anyhow::Result<Self>;
+
+    fn close_gaps(&mut self, alloc: Global) -> anyhow::Result<()>;
+
+    // The sum of all numbers.
+    fn sum(&self) -> u64;
+}
+
+// An entry of an arena that closes its gaps.
+trait Moved: Entry {
+    fn close_gaps<A: CompactArenaTrait<P0, Self>>(
+        arena: &mut A,
+        alloc: Global,
+    ) -> anyhow::Result<()>;
+}
+
+impl Moved for u64 {
+    fn close_gaps<A: CompactArenaTrait<P0, u64>>(
+        arena: &mut A,
+        _alloc: Global,
+    ) -> anyhow::Result<()> {
+        arena
+            .compress_with(false, |_old, number, _new| number)
+            .allow();
+        Ok(())
+    }
+}
+
+// The links are renamed too.
+impl Moved for Node {
+    fn close_gaps<A: CompactArenaTrait<P0, Node>>(
+        arena: &mut A,
+        alloc: Global,
+    ) -> anyhow::Result<()> {
+        let _new_pointers = compress_recast(arena, alloc, false)?;
+        Ok(())
+    }
+}
+
+// An arena of such entries.
+#[derive(Drop)]
+struct Entries<T, A> {
+    arena: A,
+    entries: PhantomData<T>,
+}
+
+impl<T: Moved, A: ArenaInsertTrait<P0, T> + CompactArenaTrait<P0, T> + Drop> Gapped
+    for Entries<T, A> {
+    fn even_numbers(alloc: Global, size: u32) -> anyhow::Result<Self> {
+        let arena: A = every_second(alloc, size)?;
+        Ok(Entries {
+            arena,
+            entries: PhantomData,
+        })
+    }
+
+    fn close_gaps(&mut self, alloc: Global) -> anyhow::Result<()> {
+        T::close_gaps(&mut self.arena, alloc)
+    }
+
+    fn sum(&self) -> u64 {
+        sum_of(&self.arena)
+    }
+}
+
+impl Gapped for Vec<Option<u64>> {
+    fn even_numbers(alloc: Global, size: u32) -> anyhow::Result<Self> {
+        let mut numbers = Vec::with_capacity(alloc, size as usize)?;
+        for number in 0..size {
+            let is_even = number % 2 == 0;
+            numbers.push(is_even.then_some(number as u64))?;
+        }
+        Ok(numbers)
+    }
+
+    fn close_gaps(&mut self, _alloc: Global) -> anyhow::Result<()> {
+        self.retain(|number| number.is_some());
+        Ok(())
+    }
+
+    fn sum(&self) -> u64 {
+        sum_of_places(self)
+    }
+}
+
+// Inserts an entry for each number below `size`, and removes those of the odd ones.
+fn every_second<T: Entry, A: ArenaInsertTrait<P0, T> + Drop>(
+    alloc: Global,
+    size: u32,
+) -> anyhow::Result<A> {
+    let mut arena = A::new(alloc);
+    let mut even: Vec<P0> = Vec::with_capacity(alloc, size as usize)?;
+    let mut odd: Vec<P0> = Vec::with_capacity(alloc, size as usize)?;
+    for number in 0..size {
+        let p = arena.insert(T::of(number as u64, even.last().copied()))?;
+        if number % 2 == 0 {
+            even.push(p)?;
+        } else {
+            odd.push(p)?;
+        }
+    }
+    for p in odd {
+        drop(arena.remove(p));
+    }
+    Ok(arena)
+}
+
+/// Prints the least times of some compactions of so many places, in nanoseconds for each entry that
+/// stays, and the sum of what stays.
+pub fn run(rt: &(impl Print + Clock), alloc: Global, size: u32) -> anyhow::Result<()> {
+    over_arena::<_, P0, u64, Compaction>(rt, alloc, "arena", size)?;
+    over_arena::<_, P0, Node, Compaction>(rt, alloc, "nodes", size)?;
+    time::<_, Vec<Option<u64>>>(rt, alloc, "vector", size)
+}
+
+// What is timed of an arena here.
+struct Compaction;
+
+impl<T: Moved> Timed<P0, T> for Compaction {
+    fn time<R: Print + Clock, A: ArenaInsertTrait<P0, T> + CompactArenaTrait<P0, T> + Drop>(
+        rt: &R,
+        alloc: Global,
+        name: &str,
+        size: u32,
+    ) -> anyhow::Result<()> {
+        time::<R, Entries<T, A>>(rt, alloc, name, size)
+    }
+}
+
+fn time<R: Print + Clock, G: Gapped>(
+    rt: &R,
+    alloc: Global,
+    name: &str,
+    size: u32,
+) -> anyhow::Result<()> {
+    let mut least = Timing::LONGEST;
+    for _ in 0..RUNS {
+        least = least.least(time_once::<R, G>(rt, alloc, size)?);
+    }
+    print(rt, name, size, "compact", size.div_ceil(2), least)?;
+    Ok(())
+}
+
+// The sum is of what is there afterwards.
+fn time_once<C: Clock, G: Gapped>(rt: &C, alloc: Global, size: u32) -> anyhow::Result<Timing> {
+    let mut table = G::even_numbers(alloc, size)?;
+    let start = Instant::now(rt)?;
+    table.close_gaps(alloc)?;
+    let time = start.elapsed(rt)?;
+    let sum = table.sum();
+    Ok(Timing { time, sum })
+}

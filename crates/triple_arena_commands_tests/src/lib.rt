@@ -1,5 +1,0 @@
-//! Tests of commands, their replies and the outcome of the program, by public calls alone.
-#![tactic(auto)]
-
-#[cfg(test)]
-mod tests;

@@ -1,0 +1,32 @@
+use Rattle.std.proofs.Common.{rules, ℕ, ◌∙◌, Ok, Err, inl, inr, refl, map, ap, arith}
+use Rattle.triple_arena_base.specs.declared.errors.CloneFromError.TheVariants.{Reallocation}
+use Rattle.triple_arena_traits.specs.FreeList.{last_index}
+use Rattle.triple_arena_traits.specs.Walks.{keys, values}
+use Rattle.triple_arena_direct.proofs.OwnMaps.{own_copied, last_counts, wants_memory, none_shortened}
+use Rattle.triple_arena_direct.proofs.renaming.own_map.Goals as goal
+
+pub returns-in-Ok-clause-keys : goal.returns-in-Ok-clause-keys
+returns-in-Ok-clause-keys g c =
+    let k = c.in-Ok.ensures.cloned (Ok tt) refl in
+    ap (λ s. keys s.slots) k.2 ∙ (own_copied g.P.Ptr.numbers _ _ (g.A.ArenaTrait.slots c.args.this.now) k.0 (λ a m b r. search rules) k.1).0
+
+pub returns-in-Ok-clause-values : goal.returns-in-Ok-clause-values
+returns-in-Ok-clause-values g c =
+    let k = c.in-Ok.ensures.cloned (Ok tt) refl in
+    ap (λ s. map g.P.Ptr.numbers (values s.slots)) k.2 ∙ (own_copied g.P.Ptr.numbers _ _ (g.A.ArenaTrait.slots c.args.this.now) k.0 (λ a m b r. search rules) k.1).1
+
+pub returns-in-Err-Reallocation-clause-refused : goal.returns-in-Err-Reallocation-clause-refused
+returns-in-Err-Reallocation-clause-refused g c unlimited =
+    let e = c.in-Err-Reallocation.ensures in
+    let short = e.short (rw c.in-Err-Reallocation.field-0-is tt) in (
+      wants_memory c.in-Err-Reallocation.refusal (λ is. rw (c.empty_map-all.ensures.limit, unlimited) at (e.beyond.0 (ap Err (c.in-Err-Reallocation.field-0-is ∙ ap Reallocation is))).1),
+      last_counts (g.A.ArenaTrait.slots c.args.this.now) (omega (arith, short)),
+    )
+
+pub returns-in-Err-Reallocation-clause-given : goal.returns-in-Err-Reallocation-clause-given
+returns-in-Err-Reallocation-clause-given g c there =
+    let e = c.in-Err-Reallocation.ensures in
+    elim c.empty_map-all.ensures.room [
+      | inl same ↦ absurd (e.given (rw c.empty_map-all.ensures.limit there.0) (rw (c.empty_map-all.ensures.slots, same, none_shortened {A = ℕ × g.row.P.Denot} (last_index (g.A.ArenaTrait.slots c.args.this.now))) there.1) (rw c.in-Err-Reallocation.field-0-is tt))
+      | inr fits ↦ absurd (omega (arith, fits, e.short (rw c.in-Err-Reallocation.field-0-is tt)))
+    ]

@@ -1,0 +1,36 @@
+use Rattle.triple_arena_traits.specs.Capacity.{grown}
+use Rattle.triple_arena_traits.specs.Histories.{insertion}
+use Rattle.triple_arena_direct.specs.laws.GoneLaws.{up_to-continues, gone-continues}
+use Rattle.triple_arena_direct.specs.Strict.{calls_if_ok}
+use Rattle.triple_arena_direct.proofs.StrictAnswers.{counted_inserted, counted_place, few_inserted, inserted_history, step_inserted}
+use Rattle.triple_arena_direct.proofs.strict_arena.StrictArena.insert.Goals as goal
+
+pub invariant_of-self : goal.invariant_of-self
+invariant_of-self g c counts =
+    up_to-continues c.self.inside.arena c.insert.new.self (c.self.invariant counts)
+    (calls_if_ok c.insert.result (λ p. insertion (g.P.Ptr.numbers p)))
+    (inserted_history g.P.Ptr.numbers _ _ c.insert.result c.insert.ensures.fresh c.insert.ensures.refused)
+
+pub returns-clause-step : goal.returns-clause-step
+returns-clause-step g c =
+    rw (← c.self.view_is) (step_inserted g.P.Ptr.numbers g.S.NonZeroInxGenericStack.kind g.P.Gen.PtrGen.counting g.P.Gen.PtrGen.greatest
+    c.self.inside.arena c.insert.new.self c.args.t c.insert.result c.insert.ensures.valid (λ less. (c.insert.ensures.had_place less).0)
+    c.insert.ensures.pointer (counted_inserted (grown g.S.NonZeroInxGenericStack.kind c.self.inside.arena) c.insert.new.self c.args.t c.insert.result c.insert.ensures.inserted) c.insert.ensures.refused)
+
+pub returns-clause-stays_gone : goal.returns-clause-stays_gone
+returns-clause-stays_gone g c =
+    rw (← c.self.view_is) (λ counts. gone-continues c.self.inside.arena c.insert.new.self (c.self.invariant counts)
+    (calls_if_ok c.insert.result (λ p. insertion (g.P.Ptr.numbers p)))
+    (inserted_history g.P.Ptr.numbers _ _ c.insert.result c.insert.ensures.fresh c.insert.ensures.refused))
+
+pub returns-clause-inserted : goal.returns-clause-inserted
+returns-clause-inserted g c =
+    rw (← c.self.view_is) (counted_inserted (grown g.S.NonZeroInxGenericStack.kind c.self.inside.arena) c.insert.new.self c.args.t c.insert.result c.insert.ensures.inserted)
+
+pub returns-clause-had_place : goal.returns-clause-had_place
+returns-clause-had_place g c =
+    rw (← c.self.view_is) (λ less. counted_place c.self.inside.arena c.insert.new.self c.args.t c.insert.result (c.insert.ensures.had_place less))
+
+pub returns-clause-bounded : goal.returns-clause-bounded
+returns-clause-bounded g c =
+    rw (← c.self.view_is) (few_inserted g.S.NonZeroInxGenericStack.kind c.self.inside.arena c.insert.new.self c.args.t c.insert.result c.insert.ensures.inserted c.insert.ensures.refused)

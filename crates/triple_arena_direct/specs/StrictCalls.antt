@@ -1,0 +1,72 @@
+-- Calls of a strict arena, one after another, as they change its state.
+use Rattle.std.specs.Prelude.{◌≡◌, ◌≤◌, ◌⊎◌, ℕ, ◌||◌, not, IsTrue, Bool, true, false, List, [], ◌∷◌, ◌++◌, length}
+use Rattle.triple_arena_ptr.specs.Numbers.{raise}
+use Rattle.triple_arena_ptr.specs.Pointers.{Pointer}
+use Rattle.triple_arena_stack.specs.StackKind.{StackKind}
+use Rattle.triple_arena_traits.specs.ArenaState.{ArenaState, arena_len, capacity, with_value, IsWellFormed}
+use Rattle.triple_arena_traits.specs.Insertion.{next_pointer, inserted}
+use Rattle.triple_arena_traits.specs.SlotSteps.{IsTouched}
+use Rattle.triple_arena_traits.specs.Ending.{removed, invalidated, cleared}
+use Rattle.triple_arena_traits.specs.FreeList.{tidied}
+use Rattle.triple_arena_traits.specs.Capacity.{reallocated, grown}
+use Rattle.triple_arena_traits.specs.Compression.{compressed, raised_if_any, closed_up}
+use Rattle.triple_arena_traits.specs.Walks.{keys}
+use Rattle.triple_arena_traits.specs.Histories.{ModelCall, insertion, removal, invalidation, clearing, compression, resizing, is_live}
+use Rattle.triple_arena_direct.specs.Strict.{is_exhausted, is_exhausted_for_any}
+
+-- a call that may change a strict arena: to insert a value; to write one under a pointer; to remove or to invalidate a
+-- pointer; to clear; to compress, after which these values stand; to reallocate to so many
+pub data StrictCall (T : Type 0) : Type 0 where
+  to_insert : T → StrictCall T
+  to_write : Pointer → T → StrictCall T
+  to_remove : Pointer → StrictCall T
+  to_invalidate : Pointer → StrictCall T
+  to_clear : StrictCall T
+  to_compress : List T → StrictCall T
+  to_reallocate : ℕ → StrictCall T
+
+module _ {T : Type 0} where
+  -- nothing was done, but that slots may have been touched
+  abbrev pub IsRefused : ArenaState T → List ModelCall → ArenaState T → Type 0
+  IsRefused s calls t = (calls ≡ []) × IsTouched s t
+
+  -- one model call was made, and left this, how many slots were touched aside
+  abbrev pub IsDone : ModelCall → ArenaState T → List ModelCall → ArenaState T → Type 0
+  IsDone call after calls t = (calls ≡ call ∷ []) × IsTouched after t
+
+  -- the one or the other, as is said
+  abbrev pub IsUnless : Bool → ModelCall → ArenaState T → ArenaState T → List ModelCall → ArenaState T → Type 0
+  IsUnless true call after s calls t = IsRefused s calls t
+  IsUnless false call after s calls t = IsDone call after calls t
+
+module _ {T : Type 0} (kind : StackKind) (counting : Bool) (greatest : ℕ) where
+  -- no entry can be ended under this pointer: there is none, or the counter is exhausted
+  abbrev pub cannot_end : ArenaState T → Pointer → Bool
+  cannot_end s p = not (is_live s p) || is_exhausted counting greatest s
+
+  -- a call, the model calls that it is, and the state after it. Whether a full arena grows for an insertion, and whether a
+  -- reallocation is done, isn't said, since memory may be refused
+  abbrev pub IsStrictStep : ArenaState T → StrictCall T → List ModelCall → ArenaState T → Type 0
+  IsStrictStep s (to_insert value) calls t =
+      IsWellFormed s
+      × (((capacity s ≤ arena_len s) × IsRefused s calls t)
+      ⊎ IsDone (insertion (next_pointer s)) (inserted (grown kind s) value) calls t)
+  IsStrictStep s (to_write p value) calls t = IsTrue (is_live s p) × (calls ≡ []) × (t ≡ with_value s p.0 value)
+  IsStrictStep s (to_remove p) calls t = IsUnless (cannot_end s p) (removal p) (removed (raise counting greatest) s p.0) s calls t
+  IsStrictStep s (to_invalidate p) calls t =
+      IsUnless (cannot_end s p) (invalidation p (p.0, raise counting greatest s.counter)) (invalidated (raise counting greatest) s p.0) s calls t
+  IsStrictStep s to_clear calls t =
+      IsUnless (is_exhausted_for_any counting greatest s) (clearing (keys s.slots)) (cleared (raise counting greatest) s) s calls t
+  IsStrictStep s (to_compress values) calls t =
+      (length values ≡ arena_len s)
+      × IsUnless (is_exhausted_for_any counting greatest s)
+      (compression (keys s.slots) (keys (closed_up (raised_if_any (raise counting greatest) s) values)))
+      (compressed s (raised_if_any (raise counting greatest) s) values) s calls t
+  IsStrictStep s (to_reallocate m) calls t = (calls ≡ resizing ∷ []) × (IsTouched (reallocated kind s m) t ⊎ IsTouched (tidied s) t)
+
+  -- calls one after another, and the model calls that they are
+  abbrev pub AreStrictSteps : ArenaState T → List (StrictCall T) → List ModelCall → ArenaState T → Type 0
+  AreStrictSteps s [] calls t = (calls ≡ []) × (t ≡ s)
+  AreStrictSteps s (call ∷ rest) calls t =
+      (m : ArenaState T) × (first second : List ModelCall)
+      × IsStrictStep s call first m × AreStrictSteps m rest second t × (calls ≡ first ++ second)

@@ -1,0 +1,75 @@
+-- Laws of strict calls: each takes every history that fits to one that fits, where generations count.
+use Rattle.std.proofs.Common.{◌≡◌, ℕ, ◌||◌, Bool, true, false, not, List, [], ◌∷◌, refl, sym, subst, inl, inr, true≢false}
+use Rattle.triple_arena_stack.specs.StackKind.{StackKind}
+use Rattle.triple_arena_traits.specs.ArenaState.{ArenaState, IsWellFormed}
+use Rattle.triple_arena_traits.specs.Insertion.{next_pointer, inserted}
+use Rattle.triple_arena_traits.specs.SlotSteps.{IsTouched}
+use Rattle.triple_arena_traits.specs.FreeList.{tidied}
+use Rattle.triple_arena_traits.specs.Capacity.{grown, reallocated}
+use Rattle.triple_arena_traits.specs.laws.EntryLaws.{slots-reallocated, next-grown, well_formed-grown}
+use Rattle.triple_arena_traits.specs.Histories.{ModelCall, insertion, resizing, is_live, Fits, Continues}
+use Rattle.triple_arena_traits.specs.laws.HistoryLaws.{Continues-touched, Continues-append, Continues-grown, Continues-inserted, Continues-written, Continues-removed, Continues-invalidated, Continues-cleared, Continues-compressed, Continues-resized, Continues-tidied}
+use Rattle.triple_arena_direct.specs.Strict.{is_exhausted, is_exhausted_for_any}
+use Rattle.triple_arena_direct.specs.StrictCalls.{StrictCall, to_insert, to_write, to_remove, to_invalidate, to_clear, to_compress, to_reallocate, IsUnless, cannot_end, IsStrictStep, AreStrictSteps}
+
+not_refused : (live exhausted : Bool) → (not live || exhausted) ≡ false → (live ≡ true) × (exhausted ≡ false)
+not_refused true true h = absurd (true≢false h)
+not_refused true false h = (refl, refl)
+not_refused false exhausted h = absurd (true≢false h)
+
+module _ {T : Type 0} where
+  Continues-unless : (refused : Bool) (call : ModelCall) (after s : ArenaState T) (calls : List ModelCall) (t : ArenaState T) → IsUnless refused call after s calls t → (refused ≡ false → Continues Fits s (call ∷ []) after) → Continues Fits s calls t
+  Continues-unless true call after s calls t is done = rw is.0 (Continues-touched s s t [] is.1 (λ h fits. fits))
+  Continues-unless false call after s calls t is done = rw is.0 (Continues-touched s after t (call ∷ []) is.1 (done refl))
+
+  module _ (kind : StackKind) where
+    -- an insertion, where a full arena grows first
+    pub Continues-grown_inserted : (s t : ArenaState T) (value : T) → IsWellFormed s → IsTouched (inserted (grown kind s) value) t → Continues Fits s (insertion (next_pointer s) ∷ []) t
+    Continues-grown_inserted s t value well is =
+        let after = inserted (grown kind s) value in
+        Continues-touched s after t (insertion (next_pointer s) ∷ []) is
+        (Continues-append s (grown kind s) after [] (insertion (next_pointer s) ∷ [])
+        (Continues-grown kind s (grown kind s) refl)
+        (Continues-inserted (grown kind s) after (next_pointer s) value (well_formed-grown kind s well) (sym (next-grown kind s)) refl))
+
+    module _ (greatest : ℕ) where
+      -- a call takes every history that fits to one that fits
+      Continues-strict : (s : ArenaState T) (call : StrictCall T) (calls : List ModelCall) (t : ArenaState T) → IsStrictStep kind true greatest s call calls t → Continues Fits s calls t
+      Continues-strict s (to_insert value) calls t (well, inl is) = rw is.1.0 (Continues-touched s s t [] is.1.1 (λ h fits. fits))
+      Continues-strict s (to_insert value) calls t (well, inr is) = rw is.0 (Continues-grown_inserted s t value well is.1)
+      Continues-strict s (to_write p value) calls t is = rw (is.1, is.2) (Continues-written s p.0 value)
+      Continues-strict s (to_remove p) calls t is =
+          Continues-unless (cannot_end kind true greatest s p) _ _ s calls t is
+          (λ allowed.
+          let both = not_refused (is_live s p) (is_exhausted true greatest s) allowed in
+          Continues-removed true greatest s _ p (refl, both.1) both.0 refl)
+      Continues-strict s (to_invalidate p) calls t is =
+          Continues-unless (cannot_end kind true greatest s p) _ _ s calls t is
+          (λ allowed.
+          let both = not_refused (is_live s p) (is_exhausted true greatest s) allowed in
+          Continues-invalidated true greatest s _ p (refl, both.1) both.0 refl)
+      Continues-strict s to_clear calls t is =
+          Continues-unless (is_exhausted_for_any true greatest s) _ _ s calls t is
+          (λ allowed. Continues-cleared true greatest s _ (refl, allowed) refl)
+      Continues-strict s (to_compress values) calls t (len, is) =
+          Continues-unless (is_exhausted_for_any true greatest s) _ _ s calls t is
+          (λ allowed. Continues-compressed true greatest s _ 2 false values refl (refl, allowed) len refl)
+      Continues-strict s (to_reallocate m) calls t (one, inl is) =
+          let after = reallocated kind s m in
+          rw one (Continues-touched s after t (resizing ∷ []) is (Continues-resized s after (slots-reallocated kind s m after refl) refl))
+      Continues-strict s (to_reallocate m) calls t (one, inr is) =
+          rw one (Continues-touched s (tidied s) t (resizing ∷ []) is (Continues-tidied s (tidied s) refl))
+
+      -- and so do calls one after another
+      Continues-steps : (s : ArenaState T) (steps : List (StrictCall T)) (calls : List ModelCall) (t : ArenaState T) → AreStrictSteps kind true greatest s steps calls t → Continues Fits s calls t
+      Continues-steps s [] calls t ran = rw (ran.0, ran.1) (λ h fits. fits)
+      Continues-steps s (step ∷ steps) calls t (m, first, second, step_ran, ran, both) =
+          rw both (Continues-append s m t first second (Continues-strict s step first m step_ran) (Continues-steps m steps second t ran))
+
+      -- the same where generations are said to count
+      module _ (counting : Bool) (counts : counting ≡ true) where
+        pub Continues-strict_counting : (s : ArenaState T) (call : StrictCall T) (calls : List ModelCall) (t : ArenaState T) → IsStrictStep kind counting greatest s call calls t → Continues Fits s calls t
+        Continues-strict_counting s call calls t step = Continues-strict s call calls t (subst (λ c. IsStrictStep kind c greatest s call calls t) counts step)
+
+        pub Continues-strict_steps : (s : ArenaState T) (steps : List (StrictCall T)) (calls : List ModelCall) (t : ArenaState T) → AreStrictSteps kind counting greatest s steps calls t → Continues Fits s calls t
+        Continues-strict_steps s steps calls t ran = Continues-steps s steps calls t (subst (λ c. AreStrictSteps kind c greatest s steps calls t) counts ran)

@@ -1,0 +1,37 @@
+//! The refusals of strict arenas.
+
+use thiserror::Error;
+use triple_arena_base::CompactError;
+
+/// A call on a strict arena was refused, and nothing changed.
+#[derive(Clone, Copy, Debug, PartialEq, Eq, Error)]
+pub enum StrictError {
+    /// The pointer has no entry.
+    #[error("the pointer is invalid")]
+    InvalidPtr,
+    /// The counter would have to be raised past the greatest generation.
+    #[error("the generation counter is at its greatest value")]
+    Exhausted,
+}
+
+/// Nothing was compacted, and nothing changed.
+#[derive(Clone, Copy, Debug, PartialEq, Eq, Error)]
+pub enum StrictCompactError<I> {
+    /// The counter would have to be raised past the greatest generation.
+    #[error("the generation counter is at its greatest value")]
+    Exhausted,
+    /// It could be raised, and the compaction was refused.
+    #[error("the compaction was refused")]
+    Compact(CompactError<I>),
+}
+
+impl<I> From<CompactError<I>> for StrictCompactError<I> {
+    ghost use Rattle.std.specs.Prelude.{◌≡◌};
+    ghost use Rattle.triple_arena_direct.specs.declared.errors.StrictCompactError.TheVariants.{Compact};
+
+    ghost from_gives = { λ refusal e. e ≡ Compact refusal };
+
+    fn from(refusal: CompactError<I>) -> StrictCompactError<I> {
+        StrictCompactError::Compact(refusal)
+    }
+}

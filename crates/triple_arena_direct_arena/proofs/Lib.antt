@@ -1,0 +1,9 @@
+pub mod Held
+pub mod Keeping
+pub mod Mirroring
+pub mod Cloned
+pub mod Compaction
+pub mod Reading
+pub mod Refused
+pub mod Resizing
+pub mod Limits

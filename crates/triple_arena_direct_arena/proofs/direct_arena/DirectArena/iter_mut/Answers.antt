@@ -1,0 +1,19 @@
+use Rattle.std.proofs.Common.{refl, ap, length, ◌∙◌, arith}
+use Rattle.triple_arena_traits.specs.Walks.{entries}
+use Rattle.triple_arena_direct_arena.proofs.Keeping.{keeps_pointers}
+use Rattle.triple_arena_traits.specs.laws.WalkLaws.{length-entries}
+use Rattle.triple_arena_traits.proofs.Listing.{count_within}
+use Rattle.triple_arena_direct_arena.proofs.direct_arena.DirectArena.iter_mut.Goals as goal
+
+pub returns : goal.returns
+returns g c =
+    let rest = ap entries c.lend_slots.ensures.slots in (
+      (refl, λ w. refl),
+      record {
+        writes_back = tt;
+        keeps = keeps_pointers c.args.self.now;
+        rest = rest;
+        len = ap length rest ∙ length-entries c.args.self.now.slots;
+        fits = omega (arith, count_within c.args.self.now.slots);
+      },
+    )

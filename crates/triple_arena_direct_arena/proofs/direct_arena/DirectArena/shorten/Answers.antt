@@ -1,0 +1,24 @@
+use Rattle.std.proofs.Common.{◌∙◌, ap, subst}
+use Rattle.triple_arena_traits.specs.FreeEnd.{shortened}
+use Rattle.triple_arena_direct_arena.specs.DirectState.{settled}
+use Rattle.triple_arena_direct_arena.specs.Layout.{Counts}
+use Rattle.triple_arena_direct_arena.proofs.Held.{made, Counts-settled}
+use Rattle.triple_arena_direct_arena.proofs.direct_arena.DirectArena.shorten.Goals as goal
+
+pub invariant_of-self : goal.invariant_of-self
+invariant_of-self g c =
+    (made g.P.Gen.PtrGen.number _ _ _ _ _ (settled c.args.self.now c.args.len)
+    (c.shorten.ensures.slots ∙ ap (λ s. shortened c.args.len s.slots) c.self.view_is)
+    (c.shorten.ensures.room ∙ ap (λ s. s.room) c.self.view_is)
+    (c.shorten.ensures.limit ∙ ap (λ s. s.limit) c.self.view_is)
+    (ap (λ s. s.greatest) c.self.view_is)
+    (Counts-settled _ c.args.self.now c.args.len (subst (Counts _) c.self.view_is c.self.invariant))).0
+
+pub returns : goal.returns
+returns g c =
+    (made g.P.Gen.PtrGen.number _ _ _ _ _ (settled c.args.self.now c.args.len)
+    (c.shorten.ensures.slots ∙ ap (λ s. shortened c.args.len s.slots) c.self.view_is)
+    (c.shorten.ensures.room ∙ ap (λ s. s.room) c.self.view_is)
+    (c.shorten.ensures.limit ∙ ap (λ s. s.limit) c.self.view_is)
+    (ap (λ s. s.greatest) c.self.view_is)
+    (Counts-settled _ c.args.self.now c.args.len (subst (Counts _) c.self.view_is c.self.invariant))).1

@@ -1,0 +1,79 @@
+use Rattle.std.proofs.Common.{◌≡◌, ◌∙◌, IsSome, refl, sym, subst, inl, inr}
+use Rattle.std.specs.Int.NonZero.{non_zero_usize_get}
+use Rattle.triple_arena_traits.specs.Entries.{entry_in}
+use Rattle.triple_arena_traits.proofs.Pairs.{entry_by_parts}
+use Rattle.triple_arena_traits.proofs.Present.{some_mapped, none_mapped}
+use Rattle.triple_arena_traits.proofs.Refused.{err_is, if_err, on_err, refused_inx}
+use Rattle.triple_arena_direct_arena.proofs.direct_arena.DirectArenaDisjointableArenaTrait.with_disjoint_inx_mut.Goals.{in_default-via-in-Some+in_default, in_default-via-in_default}
+use Rattle.triple_arena_direct_arena.proofs.direct_arena.DirectArenaDisjointableArenaTrait.with_disjoint_inx_mut.Goals as goal
+
+pub returns-clause-worked : goal.returns-clause-worked
+returns-clause-worked g c =
+    let at_first : non_zero_usize_get c.in_ok-i.i ≡ g.P.Inx.PtrInx.number c.args.first = c.in_ok-i.ensures.numbers.0 in
+    let at_second : non_zero_usize_get c.in_ok-i.j ≡ g.P.Inx.PtrInx.number c.args.second = c.in_ok-i.ensures.numbers.1 in
+    let w = c.work_on_two.ensures in (
+      c.in-Some-Some.a,
+      c.in-Some-Some.b,
+      w.0,
+      w.1,
+      w.2,
+      w.3,
+      entry_by_parts c.args.self.now.slots _ _ _ _ at_first (rw c.in-Some-Some.is-0 at c.generation_at.ensures) w.4,
+      entry_by_parts c.args.self.now.slots _ _ _ _ at_second (rw c.in-Some-Some.is-1 at c.generation_at-2.ensures) w.5,
+      record { first = w.6.first; second = w.6.second; shows = w.6.shows; left = w.6.left; met = w.6.met; leaves = w.6.leaves },
+      rw (at_first, at_second) at w.7,
+    )
+
+pub returns-in_default-clause-variant : goal.returns-in_default-clause-variant
+returns-in_default-clause-variant g c =
+    inr (
+      c.in_ok-i.ensures.variant,
+      elim c.in_default.branch [
+        | in_default-via-in-Some+in_default w ↦ inr (none_mapped _ _ (rw w.in_default.is-1 at c.generation_at-2.ensures))
+        | in_default-via-in_default w ↦ inl (none_mapped _ _ (rw w.in_default.is-0 at c.generation_at.ensures))
+      ],
+    )
+
+pub returns-clause-variant : goal.returns-clause-variant
+returns-clause-variant g c = (
+  some_mapped _ _ _ (sym (rw c.in-Some-Some.is-0 at c.generation_at.ensures)) refl,
+  some_mapped _ _ _ (sym (rw c.in-Some-Some.is-1 at c.generation_at-2.ensures)) refl,
+  c.in_ok-i.ensures.variant.2,
+)
+
+pub work_on_two-requires-clause-callable : goal.work_on_two-requires-clause-callable
+work_on_two-requires-clause-callable g c κs within =
+    let slots = c.args.self.now.slots in
+    λ x y at_x at_y.
+    c.requires c.in_ok-i.ensures.variant.2 c.in-Some-Some.a c.in-Some-Some.b x y
+    (entry_by_parts slots _ _ _ _ c.in_ok-i.ensures.numbers.0 (rw c.in-Some-Some.is-0 at c.generation_at.ensures) at_x)
+    (entry_by_parts slots _ _ _ _ c.in_ok-i.ensures.numbers.1 (rw c.in-Some-Some.is-1 at c.generation_at-2.ensures) at_y)
+
+pub returns-in_err-i-clause-variant : goal.returns-in_err-i-clause-variant
+returns-in_err-i-clause-variant g c =
+    refused_inx c.args.self.now.slots _ _ c.from_residual.result c.in_err-i.field-0.0 (err_is c.from_residual.result c.in_err-i.field-0.0 c.from_residual.ensures.1) c.in_err-i.ensures.variant
+
+pub returns-in_err-i-clause-refused : goal.returns-in_err-i-clause-refused
+returns-in_err-i-clause-refused g c =
+    on_err c.from_residual.result c.in_err-i.field-0.0 (err_is c.from_residual.result c.in_err-i.field-0.0 c.from_residual.ensures.1) _ refl
+
+pub returns-in_err-i-clause-worked : goal.returns-in_err-i-clause-worked
+returns-in_err-i-clause-worked g c =
+    if_err c.from_residual.result c.in_err-i.field-0.0 (err_is c.from_residual.result c.in_err-i.field-0.0 c.from_residual.ensures.1) _
+
+pub returns-in_err-i-clause-fresh : goal.returns-in_err-i-clause-fresh
+returns-in_err-i-clause-fresh g c h fits = absurd fits
+
+pub returns-in_default-clause-fresh : goal.returns-in_default-clause-fresh
+returns-in_default-clause-fresh g c h fits = absurd fits
+
+pub work_on_two-requires-clause-first : goal.work_on_two-requires-clause-first
+work_on_two-requires-clause-first g c κs within =
+    subst (λ n. IsSome (entry_in c.args.self.now.slots n)) (sym c.in_ok-i.ensures.numbers.0) (some_mapped _ _ _ (sym (rw c.in-Some-Some.is-0 at c.generation_at.ensures)) refl)
+
+pub work_on_two-requires-clause-second : goal.work_on_two-requires-clause-second
+work_on_two-requires-clause-second g c κs within =
+    subst (λ n. IsSome (entry_in c.args.self.now.slots n)) (sym c.in_ok-i.ensures.numbers.1) (some_mapped _ _ _ (sym (rw c.in-Some-Some.is-1 at c.generation_at-2.ensures)) refl)
+
+pub work_on_two-requires-clause-apart : goal.work_on_two-requires-clause-apart
+work_on_two-requires-clause-apart g c κs within same = c.in_ok-i.ensures.variant.2 (sym c.in_ok-i.ensures.numbers.0 ∙ same ∙ c.in_ok-i.ensures.numbers.1)

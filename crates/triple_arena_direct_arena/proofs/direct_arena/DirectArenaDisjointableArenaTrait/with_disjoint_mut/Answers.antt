@@ -1,0 +1,91 @@
+use Rattle.std.proofs.Common.{◌≡◌, ◌≢◌, ◌∙◌, true, is_some, IsSome, sym, ap, subst, inl, inr, true≢false}
+use Rattle.std.proofs.lemmas.Bool.{cases_eq}
+use Rattle.std.specs.Int.NonZero.{non_zero_usize_get}
+use Rattle.triple_arena_ptr.specs.Pointers.{Pointer}
+use Rattle.triple_arena_traits.specs.Entries.{look_up_in, entry_in}
+use Rattle.triple_arena_traits.specs.laws.ItemLaws.{eq_true, eq_false}
+use Rattle.triple_arena_traits.specs.laws.WellFormedLaws.{live_entry}
+use Rattle.triple_arena_traits.proofs.SlotEntries.{none_of}
+use Rattle.triple_arena_traits.proofs.Pairs.{value_under_pointer, same_pointer}
+use Rattle.triple_arena_direct_arena.proofs.direct_arena.DirectArenaDisjointableArenaTrait.with_disjoint_mut.Goals.{in_default-via-in-Some+in_default, in_default-via-in_default}
+use Rattle.triple_arena_direct_arena.proofs.direct_arena.DirectArenaDisjointableArenaTrait.with_disjoint_mut.Goals as goal
+
+pub returns-clause-worked : goal.returns-clause-worked
+returns-clause-worked g c =
+    let first : Pointer = g.P.Ptr.numbers c.args.first in
+    let second : Pointer = g.P.Ptr.numbers c.args.second in
+    let at_first : non_zero_usize_get c.in-Some-Some.first ≡ first.0 = rw c.in-Some-Some.is-0 at c.find.ensures.index in
+    let at_second : non_zero_usize_get c.in-Some-Some.second ≡ second.0 = rw c.in-Some-Some.is-1 at c.find-2.ensures.index in
+    let first_valid : is_some (look_up_in c.args.self.now.slots first) ≡ true = sym (rw c.in-Some-Some.is-0 at c.find.ensures.live) in
+    let second_valid : is_some (look_up_in c.args.self.now.slots second) ≡ true = sym (rw c.in-Some-Some.is-1 at c.find-2.ensures.live) in
+    let w = c.work_on_two.ensures in (
+      w.0,
+      w.1,
+      w.2,
+      w.3,
+      sym (value_under_pointer c.args.self.now.slots first _ at_first first_valid) ∙ w.4,
+      sym (value_under_pointer c.args.self.now.slots second _ at_second second_valid) ∙ w.5,
+      record { first = w.6.first; second = w.6.second; shows = w.6.shows; left = w.6.left; met = w.6.met; leaves = w.6.leaves },
+      rw (at_first, at_second) at w.7,
+    )
+
+pub returns-in_default-clause-variant : goal.returns-in_default-clause-variant
+returns-in_default-clause-variant g c =
+    elim c.in_default.branch [
+      | in_default-via-in-Some+in_default w ↦ inr (none_of _ (sym c.find-2.ensures.live ∙ ap is_some w.in_default.is-1))
+      | in_default-via-in_default w ↦ inl (none_of _ (sym c.find.ensures.live ∙ ap is_some w.in_default.is-0))
+    ]
+
+pub returns-then-eq-clause-variant : goal.returns-then-eq-clause-variant
+returns-then-eq-clause-variant g c =
+    let first : Pointer = g.P.Ptr.numbers c.args.first in
+    let second : Pointer = g.P.Ptr.numbers c.args.second in
+    let at_first : non_zero_usize_get c.in-Some-Some.first ≡ first.0 = rw c.in-Some-Some.is-0 at c.find.ensures.index in
+    let at_second : non_zero_usize_get c.in-Some-Some.second ≡ second.0 = rw c.in-Some-Some.is-1 at c.find-2.ensures.index in
+    let first_valid : is_some (look_up_in c.args.self.now.slots first) ≡ true = sym (rw c.in-Some-Some.is-0 at c.find.ensures.live) in
+    let second_valid : is_some (look_up_in c.args.self.now.slots second) ≡ true = sym (rw c.in-Some-Some.is-1 at c.find-2.ensures.live) in
+    elim (cases_eq (non_zero_usize_get c.in-Some-Some.first) (non_zero_usize_get c.in-Some-Some.second)) [
+      | inl same ↦ (first_valid, same_pointer c.args.self.now.slots first second first_valid second_valid (sym at_first ∙ same ∙ at_second))
+      | inr other ↦ absurd (true≢false (sym (sym c.eq.ensures ∙ c.if-eq.true) ∙ eq_false _ _ other))
+    ]
+
+pub work_on_two-requires-clause-callable : goal.work_on_two-requires-clause-callable
+work_on_two-requires-clause-callable g c κs within =
+    let first : Pointer = g.P.Ptr.numbers c.args.first in
+    let second : Pointer = g.P.Ptr.numbers c.args.second in
+    let at_first : non_zero_usize_get c.in-Some-Some.first ≡ first.0 = rw c.in-Some-Some.is-0 at c.find.ensures.index in
+    let at_second : non_zero_usize_get c.in-Some-Some.second ≡ second.0 = rw c.in-Some-Some.is-1 at c.find-2.ensures.index in
+    let first_valid : is_some (look_up_in c.args.self.now.slots first) ≡ true = sym (rw c.in-Some-Some.is-0 at c.find.ensures.live) in
+    let second_valid : is_some (look_up_in c.args.self.now.slots second) ≡ true = sym (rw c.in-Some-Some.is-1 at c.find-2.ensures.live) in
+    let apart : first.0 ≢ second.0 = λ same. true≢false (sym (eq_true _ _ (at_first ∙ same ∙ sym at_second)) ∙ sym c.eq.ensures ∙ c.if-eq.false) in
+    λ x y at_x at_y. c.requires apart x y (sym (value_under_pointer c.args.self.now.slots first _ at_first first_valid) ∙ at_x) (sym (value_under_pointer c.args.self.now.slots second _ at_second second_valid) ∙ at_y)
+
+pub returns-in_default-clause-fresh : goal.returns-in_default-clause-fresh
+returns-in_default-clause-fresh g c h fits = absurd fits
+
+pub returns-then-eq-clause-fresh : goal.returns-then-eq-clause-fresh
+returns-then-eq-clause-fresh g c h fits = absurd fits
+
+pub work_on_two-requires-clause-first : goal.work_on_two-requires-clause-first
+work_on_two-requires-clause-first g c κs within =
+    let first : Pointer = g.P.Ptr.numbers c.args.first in
+    subst (λ n. IsSome (entry_in c.args.self.now.slots n)) (sym (rw c.in-Some-Some.is-0 at c.find.ensures.index)) (live_entry c.args.self.now.slots first (sym (rw c.in-Some-Some.is-0 at c.find.ensures.live)))
+
+pub work_on_two-requires-clause-second : goal.work_on_two-requires-clause-second
+work_on_two-requires-clause-second g c κs within =
+    let second : Pointer = g.P.Ptr.numbers c.args.second in
+    subst (λ n. IsSome (entry_in c.args.self.now.slots n)) (sym (rw c.in-Some-Some.is-1 at c.find-2.ensures.index)) (live_entry c.args.self.now.slots second (sym (rw c.in-Some-Some.is-1 at c.find-2.ensures.live)))
+
+pub work_on_two-requires-clause-apart : goal.work_on_two-requires-clause-apart
+work_on_two-requires-clause-apart g c κs within same = true≢false (sym (eq_true _ _ same) ∙ sym c.eq.ensures ∙ c.if-eq.false)
+
+pub returns-clause-variant : goal.returns-clause-variant
+returns-clause-variant g c =
+    let first : Pointer = g.P.Ptr.numbers c.args.first in
+    let second : Pointer = g.P.Ptr.numbers c.args.second in
+    let at_first : non_zero_usize_get c.in-Some-Some.first ≡ first.0 = rw c.in-Some-Some.is-0 at c.find.ensures.index in
+    let at_second : non_zero_usize_get c.in-Some-Some.second ≡ second.0 = rw c.in-Some-Some.is-1 at c.find-2.ensures.index in (
+      sym (rw c.in-Some-Some.is-0 at c.find.ensures.live),
+      sym (rw c.in-Some-Some.is-1 at c.find-2.ensures.live),
+      λ same. true≢false (sym (eq_true _ _ (at_first ∙ same ∙ sym at_second)) ∙ sym c.eq.ensures ∙ c.if-eq.false),
+    )

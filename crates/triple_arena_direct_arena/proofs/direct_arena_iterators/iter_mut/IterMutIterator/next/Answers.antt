@@ -1,0 +1,58 @@
+use Rattle.std.proofs.Common.{◌≡◌, ◌∙◌, ◌+◌, ◌-◌, ◌^◌, length, min, sym, ap, arith}
+use Rattle.std.specs.Int.NonZero.{non_zero_usize_get}
+use Rattle.triple_arena_traits.specs.Lent.{lent_rest}
+use Rattle.triple_arena_direct_arena.specs.Slot.{slot_entry}
+use Rattle.triple_arena_traits.specs.laws.PointerListLaws.{pointer_is}
+use Rattle.triple_arena_traits.proofs.Lending.{behind_first, generation_there, first_lent, first_passed, none_left}
+use Rattle.triple_arena_direct_arena.proofs.direct_arena_iterators.iter_mut.IterMutIterator.next.Goals as goal
+
+pub unwrap-inx-requires : goal.unwrap-inx-requires
+unwrap-inx-requires g c =
+    c.try_from_usize.ensures.variant.1 (omega (arith, c.slots.invariant.indexed, c.slots-test.true))
+
+pub unwrap-requires : goal.unwrap-requires
+unwrap-requires g c =
+    let read = c.generation-generation.ensures in
+    let lent = c.pass.ensures in
+    generation_there g.P.Gen.PtrGen.number (slot_entry g.P.Gen.PtrGen.number) _ _ _ _ c.slots.self-inside.slots.now _ c.in-Some.value.now read.2 (ap (λ s. s.now) (sym read.3) ∙ lent.1) read.4 (rw c.in-Some.is at lent.2)
+
+pub slots-preserved : goal.slots-preserved
+slots-preserved g c =
+    let entry = slot_entry g.P.Gen.PtrGen.number in
+    let s = c.slots.self-inside in
+    let lent = c.pass.ensures in
+    let at = ap (λ s. s.now) (sym c.generation-generation.ensures.3) ∙ lent.1 in
+    let next : non_zero_usize_get c.saturating_add-self-inside.result ≡ min (non_zero_usize_get s.next + 1) (2 ^ 64 - 1) = omega (arith, c.saturating_add-self-inside.ensures) in
+    let behind = behind_first g.P.Gen.PtrGen.number entry (non_zero_usize_get s.next) _ (2 ^ 64 - 1) c.pass.new.self.now next (omega (arith, ap length at, c.slots.invariant.counted, c.slots.invariant.indexed)) in
+    record {
+      rest = first_passed g.P.Gen.PtrGen.number entry _ _ _ _ s.slots.now at (rw c.in_default.is at lent.2) behind ∙ c.slots.invariant.rest;
+      counted = omega (arith, ap length at, c.slots.invariant.counted);
+      indexed = omega (arith, next, c.slots.invariant.indexed, c.slots-test.true);
+    }
+
+pub returns-in-Some-clause-steps : goal.returns-in-Some-clause-steps
+returns-in-Some-clause-steps g c =
+    let number = g.P.Gen.PtrGen.number in
+    let entry = slot_entry number in
+    let s = c.slots.self-inside in
+    let read = c.generation-generation.ensures in
+    let lent = c.pass.ensures in
+    let at = ap (λ s. s.now) (sym read.3) ∙ lent.1 in
+    let next : non_zero_usize_get c.saturating_add-self-inside.result ≡ min (non_zero_usize_get s.next + 1) (2 ^ 64 - 1) = omega (arith, c.saturating_add-self-inside.ensures) in
+    let behind = behind_first number entry (non_zero_usize_get s.next) _ (2 ^ 64 - 1) c.pass.new.self.now next (omega (arith, ap length at, c.slots.invariant.counted, c.slots.invariant.indexed)) in
+    let pointer = g.met.P.Ptr.numbers_of c._from_raw.result ∙ pointer_is _ _ _ _ (ap g.P.Inx.PtrInx.number c._from_raw.ensures.index ∙ rw c.unwrap-inx.ensures at c.try_from_usize.ensures.number) (ap number c._from_raw.ensures.generation) in
+    sym (ap lent_rest c.self.view_is) ∙ sym c.slots.invariant.rest
+    ∙ first_lent number entry _ _ _ _ _ _ s.slots.now _ c.unwrap.result c.in-Some.value.now _ read.2 at c.unwrap.ensures read.4 (rw c.in-Some.is at lent.2) behind pointer
+
+pub returns-in-Some-clause-goes : goal.returns-in-Some-clause-goes
+returns-in-Some-clause-goes g c =
+    record {
+      on = λ f. (tt, tt, omega (arith, ap length (returns-in-Some-clause-steps g c)));
+      keeps = tt;
+      rests = λ f. tt;
+    }
+
+pub returns-clause-steps : goal.returns-clause-steps
+returns-clause-steps g c =
+    let none = none_left g.P.Gen.PtrGen.number (slot_entry g.P.Gen.PtrGen.number) (non_zero_usize_get c.slots.self-inside.next) c.slots.self-inside.slots.now (omega (arith, c.slots.invariant.counted, c.slots-test.false)) in
+    (sym (ap lent_rest c.self.view_is) ∙ sym c.slots.invariant.rest ∙ none, none)

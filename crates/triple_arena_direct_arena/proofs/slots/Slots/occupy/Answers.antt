@@ -1,0 +1,36 @@
+use Rattle.std.proofs.Common.{◌∙◌, map, Some, is_some, sym, ap}
+use Rattle.std.specs.Int.NonZero.{non_zero_usize_get}
+use Rattle.triple_arena_traits.specs.Items.{item, with_item}
+use Rattle.triple_arena_traits.specs.Entries.{entry_in}
+use Rattle.triple_arena_traits.specs.laws.ItemLaws.{item-map, map-with_item}
+use Rattle.triple_arena_traits.proofs.Present.{some_mapped}
+use Rattle.triple_arena_traits.specs.FreeEnd.{extended}
+use Rattle.triple_arena_direct_arena.specs.laws.InsertionLaws.{entry-extended, slot-extended}
+use Rattle.triple_arena_direct_arena.specs.Slot.{slot_entry}
+use Rattle.triple_arena_traits.proofs.SlotEntries.{entry_item}
+use Rattle.triple_arena_direct_arena.proofs.slots.Slots.occupy.Goals as goal
+
+pub replace-requires : goal.replace-requires
+replace-requires g c =
+    let f = slot_entry g.P.Gen.PtrGen.number in
+    let old = map f (g.S.NonZeroInxGenericStack.items c.args.self.now.stack) in
+    let es = g.S.NonZeroInxGenericStack.items c.extend.new.stack in
+    let i = non_zero_usize_get c.args.inx in
+    some_mapped f (item es i) (item (map f es) i) (sym (item-map f es i))
+    (ap is_some (ap (λ xs. item xs i) (c.extend.ensures.slots ∙ ap (extended old) c.get.ensures.value) ∙ slot-extended old i c.args.inx.ok))
+
+pub discard-requires-after_bounds : goal.discard-requires-after_bounds
+discard-requires-after_bounds g c κs within =
+    let f = slot_entry g.P.Gen.PtrGen.number in
+    let old = map f (g.S.NonZeroInxGenericStack.items c.args.self.now.stack) in
+    let i = non_zero_usize_get c.args.inx in
+    sym (entry_item f _ i c.replace.result c.replace.ensures.value) ∙ ap (λ xs. entry_in xs i) c.extend.ensures.slots ∙ entry-extended old _ i ∙ c.requires.free
+
+pub returns-clause-slots : goal.returns-clause-slots
+returns-clause-slots g c =
+    let f = slot_entry g.P.Gen.PtrGen.number in
+    let old = map f (g.S.NonZeroInxGenericStack.items c.args.self.now.stack) in
+    let i = non_zero_usize_get c.args.inx in
+    ap (map f) (ap g.S.NonZeroInxGenericStack.items c.replace.ensures.stack ∙ g.met.S.NonZeroInxGenericStack.items_with_items _ _)
+    ∙ map-with_item f (g.S.NonZeroInxGenericStack.items c.extend.new.stack) i _
+    ∙ ap (λ xs. with_item xs i (Some (g.P.Gen.PtrGen.number c.args.generation, c.args.value))) (c.extend.ensures.slots ∙ ap (extended old) c.get.ensures.value)

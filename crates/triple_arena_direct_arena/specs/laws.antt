@@ -1,0 +1,6 @@
+-- What follows from the definitions.
+pub mod SlotLaws
+pub mod StepLaws
+pub mod InsertionLaws
+pub mod CloningLaws
+pub mod CompressionLaws

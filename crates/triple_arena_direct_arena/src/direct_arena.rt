@@ -1,0 +1,629 @@
+//! The direct arena.
+
+ghost use Rattle.std.specs.Prelude.{◌≡◌, ◌≢◌, ℕ, List, Option, IfOk, ◌≤◌, ◌<◌, ◌+◌, ◌^◌, ◌↔◌, false, [], map, length, is_some, IsSome, IfSome, IsOk, OnOk, OnErr, Some, None, Err, option_copied, min, MatchOption, ◌-◌};
+ghost use Rattle.std.specs.Int.NonZero.{non_zero_usize_get};
+ghost use Rattle.std.specs.Borrow.{sem};
+ghost use Rattle.std.specs.Option.{option_and_then};
+ghost use Rattle.triple_arena_ptr.specs.Numbers.{greatest_index};
+ghost use Rattle.triple_arena_stack.specs.Capacity.{IsWithin, IsBeyond};
+ghost use Rattle.triple_arena_stack.specs.StackKind.{IsOfKind};
+ghost use Rattle.triple_arena_traits.specs.Entries.{entry_in, look_up_in};
+ghost use Rattle.triple_arena_traits.specs.DirectInsertion.{IsVacant};
+ghost use Rattle.triple_arena_traits.specs.Disjoint.{value_of};
+ghost use Rattle.triple_arena_traits.specs.FreeList.{last_index};
+ghost use Rattle.triple_arena_stack.specs.Disjoint.{DisjointAnswer, MayWork, Worked};
+ghost use Rattle.triple_arena_direct_arena.specs.DirectState.{DirectState, new_direct, generation_of, slot_count, direct_len, direct_capacity, SlotsFit, with_value, inserted_at, removed, cleared, settled, with_room_for, reallocated, with_limit};
+ghost use Rattle.triple_arena_traits.specs.Lent.{lends_values};
+ghost use Rattle.triple_arena_direct_arena.specs.Values.{with_values_of};
+ghost use Rattle.triple_arena_direct_arena.specs.Slot.{slot_entry};
+
+mod advancer;
+mod compaction;
+mod copies;
+
+use crate::direct_arena_iterators::PtrAdvancer;
+use crate::slot::DirectSlot;
+use crate::slots::Slots;
+use std::alloc::Global;
+use std::marker::{Model, PhantomData};
+use std::num::NonZeroUsize;
+use triple_arena_base::{
+    AllocError, GetDisjointMutError, InvalidationOption, InvalidationResult,
+    MaxCapacityReductionError, ReallocationError,
+};
+use triple_arena_ptr::{Ptr, PtrGen, PtrInx};
+use triple_arena_stack::{NonZeroInxGenericStack, NonZeroInxVec, SetMaxCapacity};
+use triple_arena_traits::entry_slots::{
+    first_live, last_live, ptr_at, shorten, slot_at, work_on_two,
+};
+use triple_arena_traits::pair_call::{AtEntries, AtValues, PairCall};
+use triple_arena_traits::{
+    ArenaDirectInsertTrait, ArenaTrait, DisjointableArenaTrait, EntrySlot, LendingArena, LentSlots,
+};
+
+/// An arena over a stack of slots, whose entries are put under pointers of the caller's choice: it
+/// has no counter and no free list.
+///
+/// A removal leaves a free slot, also at the end. `get`, `get_mut` and removal touch a constant
+/// number of slots and take no memory.
+#[derive(Drop)]
+pub struct DirectArena<
+    P: Ptr,
+    T,
+    S: NonZeroInxGenericStack<DirectSlot<P, T>> = NonZeroInxVec<DirectSlot<P, T>>,
+> {
+    slots: Slots<P, T, S>,
+    // How many entries there are.
+    len: usize,
+}
+
+impl<P: Ptr, T, S: NonZeroInxGenericStack<DirectSlot<P, T>>> Model for DirectArena<P, T, S> {
+    ghost use Rattle.triple_arena_direct_arena.specs.DirectState.{DirectState};
+
+    ghost Value = { DirectState T };
+
+    ghost use Rattle.triple_arena_ptr.specs.Numbers.{greatest_index};
+    ghost use Rattle.triple_arena_direct_arena.specs.Layout.{direct_of, Counts};
+
+    ghost view = { λ a. direct_of P.Gen.number (S.items a.slots.stack) (S.room a.slots.stack) (S.limit a.slots.stack)
+        (greatest_index P.Inx.greatest) };
+
+    ghost invariant = { λ a. Counts a.len (direct_of P.Gen.number (S.items a.slots.stack)
+        (S.room a.slots.stack) (S.limit a.slots.stack) (greatest_index P.Inx.greatest)) };
+}
+
+impl<P: Ptr, T, S: NonZeroInxGenericStack<DirectSlot<P, T>>> ArenaTrait<P, T>
+    for DirectArena<P, T, S> {
+    ghost use Rattle.std.specs.Prelude.{refl};
+    ghost use Rattle.std.proofs.Common.{ap, subst, sym};
+    ghost use Rattle.triple_arena_direct_arena.specs.laws.StepLaws.{len-with_value, slots-removed, len-removed, slots-kept, slots-cleared, slots-settled, len-settled, slots-reallocated, len-reallocated};
+
+    type PtrAdvancer = PtrAdvancer<P>;
+
+    // an advancer is seen as its stand
+    ghost stand = { λ s. s };
+
+    // the entries of the slots, and nothing for a free one
+    ghost slots = { λ s. s.slots };
+
+    // the slots are no more than fit
+    ghost valid = { SlotsFit };
+
+    // the smallest of room, limit and greatest index
+    ghost fitting = { direct_capacity };
+
+    ghost limit = { λ s. s.limit };
+
+    ghost kind = { S.kind };
+
+    ghost has_memory = { S.has_memory };
+
+    // no slot
+    ghost fresh = { λ room limit. new_direct room limit (greatest_index P.Inx.greatest) };
+
+    // an insertion is told its generation
+    ghost next_generation = { λ _. None };
+
+    // none, since insertion is told the pointer
+    ghost fits = { λ _ _. ⊥ };
+
+    ghost with_value = { with_value };
+
+    // nothing is counted
+    ghost steps = { λ _. 0 };
+
+    ghost unchanged = { λ old new. new ≡ old };
+
+    // all stays, the generation too
+    ghost invalidates = { λ old _ new. new ≡ old };
+
+    ghost renewed = { λ s i. generation_of (entry_in s.slots i) };
+
+    // the slot is free
+    ghost removes = { λ old i new. new ≡ removed old i };
+
+    // there is no counter
+    ghost ending_wraps = { λ _. false };
+
+    // no slot is left
+    ghost clears = { λ old new. new ≡ cleared old };
+
+    ghost clearing_wraps = { λ _. false };
+
+    // free slots past the new capacity go, and then the room is changed as the stack's kind does it
+    ghost reallocates = { λ old m new. new ≡ reallocated S.kind old m };
+
+    // free slots past the capacity that was asked for go
+    ghost settles = { λ old m new. new ≡ settled old m };
+
+    // the room that the stack's kind makes of it, once those slots are gone, is the old one
+    ghost keeps_room = { λ s m. (reallocated S.kind s m).room ≡ s.room };
+
+    // memory is there for the room that the stack's kind makes of it
+    ghost gets_room = { λ s m. S.has_memory (reallocated S.kind s m).room };
+
+    fn new(alloc: Global) -> Self {
+        DirectArena::over(S::new(alloc))
+    }
+
+    fn with_min_capacity(alloc: Global, min_capacity: usize) -> Result<Self, AllocError> {
+        if min_capacity > P::Inx::max_index().get() {
+            return Err(AllocError);
+        }
+        let stack = S::with_min_capacity(alloc, min_capacity)?;
+        Ok(DirectArena::over(stack))
+    }
+
+    fn capacity(&self) -> usize
+        ensures value { result ≡ direct_capacity self.now }
+        ensures fits { length self.now.slots ≤ result }
+        ensures indexed { result ≤ greatest_index P.Inx.greatest }
+        ensures allowed { IsWithin self.now.limit result }
+        ensures greatest { self.now.greatest ≡ greatest_index P.Inx.greatest }
+    {
+        self.slots.stack.capacity().min(P::Inx::max_index().get())
+    }
+
+    fn max_capacity(&self) -> Option<usize>
+        ensures value { result ≡ self.now.limit }
+        ensures of_kind { IsOfKind S.kind self.now.room self.now.limit }
+    {
+        self.slots.stack.max_capacity()
+    }
+
+    /// Changes the room so that there is place for `min_capacity` slots, and for those that are in
+    /// use. First free slots at the end go, as far as there are more slots than `min_capacity`; that
+    /// stays done where the rest is refused.
+    fn reallocate_min_capacity(&mut self, min_capacity: usize) -> Result<(), ReallocationError> {
+        self.shorten(min_capacity);
+        if min_capacity > P::Inx::max_index().get() {
+            return Err(ReallocationError::AllocError);
+        }
+        self.reallocate(min_capacity)
+    }
+
+    fn len(&self) -> usize
+        ensures value { result ≡ direct_len self.now }
+        ensures fits { direct_len self.now ≤ direct_capacity self.now }
+        ensures valid { SlotsFit self.now }
+    {
+        self.len
+    }
+
+    fn singular_generation(&self) -> Option<P::Gen> {
+        None
+    }
+
+    fn get(&self, p: P) -> Option<&T> {
+        self.slot(p.inx())?.value_under(p.generation())
+    }
+
+    fn get_mut(&mut self, p: P) -> Option<&mut T> {
+        let inx = self.find(p)?;
+        Some(self.slots.value_mut(inx))
+    }
+
+    fn get_inx(&self, inx: P::Inx) -> Option<(P::Gen, &T)> {
+        self.slot(inx)?.entry()
+    }
+
+    fn generation_at(&self, inx: P::Inx) -> Option<P::Gen> {
+        let (generation, _value) = self.get_inx(inx)?;
+        Some(generation)
+    }
+
+    fn get_inx_mut(&mut self, inx: P::Inx) -> Option<&mut T> {
+        let inx = self.find_inx(inx)?;
+        Some(self.slots.value_mut(inx))
+    }
+
+    fn find_first_inx_ptr(&self) -> Option<P> {
+        let inx = self.first_live()?;
+        Some(self.ptr_at(inx))
+    }
+
+    fn find_last_inx_ptr(&self) -> Option<P> {
+        let inx = self.last_live()?;
+        Some(self.ptr_at(inx))
+    }
+
+    fn advancer(&self) -> PtrAdvancer<P> {
+        PtrAdvancer::from(self.first_live())
+    }
+
+    fn advancer_inx(&self, inx: P::Inx, reverse: bool) -> PtrAdvancer<P> {
+        PtrAdvancer::at(inx, reverse)
+    }
+
+    fn invalidate(&mut self, p: P) -> InvalidationResult<P> {
+        let Some(_inx) = self.find(p) else {
+            return InvalidationResult::InvalidPtr;
+        };
+        InvalidationResult::Success(p)
+    }
+
+    fn remove(&mut self, p: P) -> InvalidationResult<T> {
+        let Some(inx) = self.find(p) else {
+            return InvalidationResult::InvalidPtr;
+        };
+        let (_generation, value) = self.take(inx);
+        InvalidationResult::Success(value)
+    }
+
+    fn remove_inx(&mut self, inx: P::Inx) -> InvalidationResult<(P::Gen, T)> {
+        let Some(inx) = self.find_inx(inx) else {
+            return InvalidationResult::InvalidPtr;
+        };
+        InvalidationResult::Success(self.take(inx))
+    }
+
+    fn clear(&mut self) -> InvalidationOption<()>
+    where
+        T: Drop,
+    {
+        self.slots.stack.clear();
+        self.len = 0;
+        InvalidationOption::Success(())
+    }
+
+    ghost slots_fresh = { λ _ _. refl };
+
+    ghost limit_fresh = { λ _ _. refl };
+
+    ghost fitting_fresh = { λ _ _. refl };
+
+    ghost slots_with_value = { λ _ _ _. refl };
+
+    ghost len_with_value = { len-with_value };
+
+    ghost limit_with_value = { λ _ _ _. refl };
+
+    ghost fitting_with_value = { λ _ _ _. refl };
+
+    ghost slots_removed = { slots-removed };
+
+    ghost len_removed = { len-removed };
+
+    ghost limit_removed = { λ _ _ _. ap (λ s. s.limit) };
+
+    ghost fitting_removed = { λ _ _ _. ap direct_capacity };
+
+    ghost slots_unchanged = { λ _ _. ap (λ s. s.slots) };
+
+    ghost valid_unchanged = { λ _ _ same. subst SlotsFit (sym same) };
+
+    ghost limit_unchanged = { λ _ _. ap (λ s. s.limit) };
+
+    ghost fitting_unchanged = { λ _ _. ap direct_capacity };
+
+    ghost generation_unchanged = { λ _ _ _. refl };
+
+    ghost renewed_unchanged = { λ _ _ i. ap (λ s. generation_of (entry_in s.slots i)) };
+
+    ghost ending_wraps_unchanged = { λ _ _ _. refl };
+
+    ghost clearing_wraps_unchanged = { λ _ _ _. refl };
+
+    ghost keeps_room_unchanged = { λ _ _ m same.
+        subst (λ s. (reallocated S.kind s m).room ≡ s.room) (sym same) };
+
+    ghost gets_room_unchanged = { λ _ _ m same.
+        subst (λ s. S.has_memory (reallocated S.kind s m).room) (sym same) };
+
+    ghost fits_unchanged = { λ _ _ _ _ none. none };
+
+    ghost slots_invalidated = { slots-kept };
+
+    ghost len_invalidated = { λ _ _ _. ap direct_len };
+
+    ghost limit_invalidated = { λ _ _ _. ap (λ s. s.limit) };
+
+    ghost fitting_invalidated = { λ _ _ _. ap direct_capacity };
+
+    ghost slots_cleared = { slots-cleared };
+
+    ghost len_cleared = { λ _ _. ap direct_len };
+
+    ghost limit_cleared = { λ _ _. ap (λ s. s.limit) };
+
+    ghost fitting_cleared = { λ _ _. ap direct_capacity };
+
+    ghost slots_reallocated = { slots-reallocated S.kind };
+
+    ghost len_reallocated = { len-reallocated S.kind };
+
+    ghost limit_reallocated = { λ _ _ _. ap (λ s. s.limit) };
+
+    ghost slots_settled = { slots-settled };
+
+    ghost len_settled = { len-settled };
+
+    ghost limit_settled = { λ _ _ _. ap (λ s. s.limit) };
+
+    ghost fitting_settled = { λ _ _ _. ap direct_capacity };
+}
+
+impl<P: Ptr, T, S: NonZeroInxGenericStack<DirectSlot<P, T>>> ArenaDirectInsertTrait<P, T>
+    for DirectArena<P, T, S> {
+    ghost use Rattle.std.specs.Prelude.{refl};
+    ghost use Rattle.triple_arena_direct_arena.specs.laws.InsertionLaws.{slots-inserted_at, len-inserted_at};
+
+    // the value stands at the index, under the generation, and the slots that were missing below
+    // are free
+    ghost inserted_at = { inserted_at };
+
+    fn direct_insert_reserved(&mut self, p: P, t: T) {
+        // By its clauses, it is at most the greatest index.
+        let _capacity = self.capacity();
+        let inx = P::Inx::try_into_usize(p.inx()).unwrap();
+        self.put(inx, p.generation(), t);
+    }
+
+    ghost slots_inserted_at = { slots-inserted_at };
+
+    ghost len_inserted_at = { len-inserted_at };
+
+    ghost limit_inserted_at = { λ _ _ _. refl };
+
+    ghost fitting_inserted_at = { λ _ _ _. refl };
+}
+
+impl<P: Ptr, T, S: NonZeroInxGenericStack<DirectSlot<P, T>>> DisjointableArenaTrait<P, T>
+    for DirectArena<P, T, S> {
+    fn with_disjoint_mut<R, F: FnOnce(&mut T, &mut T) -> R>(
+        &mut self,
+        first: P,
+        second: P,
+        f: F,
+    ) -> Result<R, GetDisjointMutError> {
+        let (Some(first), Some(second)) = (self.find(first), self.find(second)) else {
+            return Err(GetDisjointMutError::IndexOutOfBounds);
+        };
+        if first == second {
+            return Err(GetDisjointMutError::OverlappingIndices);
+        }
+        Ok(self.work_on_two(first, second, AtValues { f }))
+    }
+
+    fn with_disjoint_inx_mut<R, F: FnOnce(P::Gen, &mut T, P::Gen, &mut T) -> R>(
+        &mut self,
+        first: P::Inx,
+        second: P::Inx,
+        f: F,
+    ) -> Result<R, GetDisjointMutError> {
+        let (i, j) = self.two_slots(first, second)?;
+        let (Some(a), Some(b)) = (self.generation_at(first), self.generation_at(second)) else {
+            return Err(GetDisjointMutError::IndexOutOfBounds);
+        };
+        Ok(self.work_on_two(i, j, AtEntries { f, a, b }))
+    }
+}
+
+impl<P: Ptr, T, S: NonZeroInxGenericStack<DirectSlot<P, T>>> DirectArena<P, T, S> {
+    /// The stack of the slots.
+    pub fn backing(&self) -> &S
+        ensures slots { map (slot_entry P.Gen.number) (S.items result.now) ≡ self.now.slots }
+        ensures room { S.room result.now ≡ self.now.room }
+        ensures limit { S.limit result.now ≡ self.now.limit }
+    {
+        &self.slots.stack
+    }
+
+    /// Pops free slots at the end, at most `num`, and tells how many. It takes no memory, and no
+    /// entry moves.
+    pub fn pop_free_end_slots(&mut self, num: usize) -> usize
+        ensures state { self.new ≡ settled self.old (slot_count self.old - num) }
+        ensures popped { result ≡ slot_count self.old - slot_count self.new }
+    {
+        let before = self.slots.stack.len();
+        self.shorten(before.saturating_sub(num));
+        before.saturating_sub(self.slots.stack.len())
+    }
+
+    // An arena over a stack that has no item.
+    fn over(stack: S) -> Self
+        requires { S.items stack ≡ [] }
+        ensures { result ≡ new_direct (S.room stack) (S.limit stack)
+            (greatest_index P.Inx.greatest) }
+    {
+        DirectArena {
+            slots: Slots::over(stack),
+            len: 0,
+        }
+    }
+
+    // The slot of an index, if there is one.
+    fn slot(&self, inx: P::Inx) -> Option<&DirectSlot<P, T>>
+        ensures entry { option_and_then (slot_entry P.Gen.number) (option_copied result)
+            ≡ entry_in self.now.slots (P.Inx.number inx) }
+        ensures within { IsSome (entry_in self.now.slots (P.Inx.number inx))
+            → P.Inx.number inx ≤ greatest_index P.Inx.greatest }
+    {
+        slot_at(&self.slots.stack, P::Inx::try_into_usize(inx)?)
+    }
+
+    // The index of a pointer, if the pointer is valid.
+    fn find(&self, p: P) -> Option<NonZeroUsize>
+        ensures index { IfSome result (λ inx. non_zero_usize_get inx ≡ (P.numbers p).0) }
+        ensures live { is_some result ≡ is_some (look_up_in self.now.slots (P.numbers p)) }
+    {
+        let _value = self.slot(p.inx())?.value_under(p.generation())?;
+        P::Inx::try_into_usize(p.inx())
+    }
+
+    // An index, if an entry stands there.
+    fn find_inx(&self, inx: P::Inx) -> Option<NonZeroUsize>
+        ensures index { IfSome result (λ i. non_zero_usize_get i ≡ P.Inx.number inx) }
+        ensures live { is_some result ≡ is_some (entry_in self.now.slots (P.Inx.number inx)) }
+    {
+        let _entry = self.slot(inx)?.entry()?;
+        P::Inx::try_into_usize(inx)
+    }
+
+    // The pointer of the entry at an index.
+    pub(crate) fn ptr_at(&self, inx: NonZeroUsize) -> P
+        requires { IsSome (entry_in self.now.slots (non_zero_usize_get inx)) }
+        ensures { (h : ℕ) × (v : T) × (entry_in self.now.slots (non_zero_usize_get inx) ≡ Some (h, v))
+            × (P.numbers result ≡ (non_zero_usize_get inx, h)) }
+    {
+        ptr_at::<P, T, DirectSlot<P, T>, S>(&self.slots.stack, inx)
+    }
+
+    // The least index of an entry, if there is one.
+    fn first_live(&self) -> Option<NonZeroUsize>
+        ensures { MatchOption result
+            ((i : ℕ) → entry_in self.now.slots i ≡ None)
+            (λ inx. IsSome (entry_in self.now.slots (non_zero_usize_get inx))
+            × ((i : ℕ) → i < non_zero_usize_get inx → entry_in self.now.slots i ≡ None)) }
+    {
+        first_live::<P, T, DirectSlot<P, T>, S>(&self.slots.stack)
+    }
+
+    // The greatest index of an entry, if there is one.
+    fn last_live(&self) -> Option<NonZeroUsize>
+        ensures { MatchOption result
+            ((i : ℕ) → entry_in self.now.slots i ≡ None)
+            (λ inx. IsSome (entry_in self.now.slots (non_zero_usize_get inx))
+            × ((i : ℕ) → non_zero_usize_get inx < i → entry_in self.now.slots i ≡ None)) }
+    {
+        last_live::<P, T, DirectSlot<P, T>, S>(&self.slots.stack)
+    }
+
+    // How many slots there are.
+    pub(crate) fn slot_count(&self) -> usize
+        ensures value { result ≡ slot_count self.now }
+        ensures indexed { result ≤ greatest_index P.Inx.greatest }
+    {
+        self.slots.stack.len()
+    }
+
+    // The slots, so that their values alone can be written.
+    pub(crate) fn lend_slots(&mut self) -> LentSlots<'_, P, T, DirectSlot<P, T>>
+        ensures* writes_back { sem 𝓛 (lends_values
+            ⟦<DirectArena<P, T, S> as LendingArena>⟧.arena_row
+            self.entry result.tie (with_values_of self.old)) }
+        ensures slots { map (slot_entry P.Gen.number) result.now ≡ self.old.slots }
+    {
+        let slots = self.slots.as_mut_slice();
+        LentSlots {
+            at: slots.as_mut_ptr(),
+            mark: PhantomData,
+        }
+    }
+
+    // The numbers of two indexes that name two slots.
+    fn two_slots(
+        &self,
+        first: P::Inx,
+        second: P::Inx,
+    ) -> Result<(NonZeroUsize, NonZeroUsize), GetDisjointMutError>
+        ensures variant { DisjointAnswer (slot_count self.now)
+            (P.Inx.number first) (P.Inx.number second) result }
+        ensures numbers { IfOk result (λ both. (non_zero_usize_get both.0 ≡ P.Inx.number first)
+            × (non_zero_usize_get both.1 ≡ P.Inx.number second)) }
+    {
+        let stack = &self.slots.stack;
+        let first = P::Inx::try_into_usize(first).ok_or(GetDisjointMutError::IndexOutOfBounds)?;
+        let second = P::Inx::try_into_usize(second).ok_or(GetDisjointMutError::IndexOutOfBounds)?;
+        stack.check_disjoint(first, second)?;
+        Ok((first, second))
+    }
+
+    // Makes the call at the values of the entries at two indexes.
+    fn work_on_two<R, C: PairCall<T, R>>(
+        &mut self,
+        first: NonZeroUsize,
+        second: NonZeroUsize,
+        call: C,
+    ) -> R
+        requires first { IsSome (entry_in self.old.slots (non_zero_usize_get first)) }
+        requires second { IsSome (entry_in self.old.slots (non_zero_usize_get second)) }
+        requires apart { non_zero_usize_get first ≢ non_zero_usize_get second }
+        requires callable { MayWork C.calls call
+            (value_of (entry_in self.old.slots (non_zero_usize_get first)))
+            (value_of (entry_in self.old.slots (non_zero_usize_get second))) }
+        ensures { Worked C.calls call
+            (value_of (entry_in self.old.slots (non_zero_usize_get first)))
+            (value_of (entry_in self.old.slots (non_zero_usize_get second)))
+            result (λ x y. self.new ≡ with_value
+            (with_value self.old (non_zero_usize_get first) x) (non_zero_usize_get second) y) }
+    {
+        work_on_two::<P, T, DirectSlot<P, T>, S, R, C>(&mut self.slots.stack, first, second, call)
+    }
+
+    // Puts an entry at an index where none stands.
+    fn put(&mut self, inx: NonZeroUsize, generation: P::Gen, value: T)
+        requires { IsVacant self.old.slots (direct_capacity self.old) (non_zero_usize_get inx) }
+        ensures { self.new ≡ inserted_at self.old
+            (non_zero_usize_get inx, P.Gen.number generation) value }
+    {
+        self.slots.occupy(inx, generation, value);
+        self.len += 1;
+    }
+
+    // Takes out the entry at an index.
+    fn take(&mut self, inx: NonZeroUsize) -> (P::Gen, T)
+        requires { IsSome (entry_in self.old.slots (non_zero_usize_get inx)) }
+        ensures entry { entry_in self.old.slots (non_zero_usize_get inx)
+            ≡ Some (P.Gen.number result.0, result.1) }
+        ensures state { self.new ≡ removed self.old (non_zero_usize_get inx) }
+    {
+        self.len -= 1;
+        self.slots.vacate(inx)
+    }
+
+    // Pops the free slots at the end, as long as there are more slots than `len`.
+    fn shorten(&mut self, len: usize)
+        ensures { self.new ≡ settled self.old len }
+    {
+        shorten::<P, T, DirectSlot<P, T>, S>(&mut self.slots.stack, len);
+    }
+
+    // Reallocates the stack, and leaves the slots as they are.
+    fn reallocate(&mut self, min_capacity: usize) -> Result<(), ReallocationError>
+        ensures done { OnOk result (self.new ≡ with_room_for S.kind self.old min_capacity) }
+        ensures refused { OnErr result (self.new ≡ self.old) }
+        ensures within { OnOk result (IsWithin self.old.limit min_capacity) }
+        ensures beyond { (result ≡ Err ReallocationError.BeyondMaxCapacity)
+            ↔ IsBeyond self.old.limit min_capacity }
+        ensures succeeds { IsWithin self.old.limit min_capacity
+            → (with_room_for S.kind self.old min_capacity).room ≡ self.old.room → IsOk result }
+        ensures given { IsWithin self.old.limit min_capacity
+            → S.has_memory (with_room_for S.kind self.old min_capacity).room → IsOk result }
+        ensures place { OnOk result (min_capacity ≤ greatest_index P.Inx.greatest
+            → min_capacity ≤ direct_capacity self.new) }
+    {
+        // By its clause, room and limit are those of the stack's kind.
+        let _limit = self.slots.stack.max_capacity();
+        self.slots.stack.reallocate_min_capacity(min_capacity)
+    }
+}
+
+impl<P: Ptr, T, S: SetMaxCapacity<DirectSlot<P, T>>> DirectArena<P, T, S> {
+    /// Sets the limit to `max_capacity`, a number of slots. It takes no memory, and the room stays:
+    /// the capacity is then the smallest of room, limit and greatest index.
+    ///
+    /// First free slots at the end go, as far as there are more slots than `max_capacity`; that
+    /// stays done where the limit is refused. Refused exactly where more slots are left, and so
+    /// exactly where an entry stands past `max_capacity`.
+    pub fn set_max_capacity(&mut self, max_capacity: usize) -> Result<(), MaxCapacityReductionError>
+        ensures variant { IsOk result
+            ↔ (slot_count (settled self.old max_capacity) ≤ max_capacity) }
+        ensures bound { IsOk result ↔ (last_index self.old.slots ≤ max_capacity) }
+        ensures done { OnOk result (self.new
+            ≡ with_limit (settled self.old max_capacity) max_capacity) }
+        ensures refused { OnErr result (self.new ≡ settled self.old max_capacity) }
+    {
+        self.shorten(max_capacity);
+        self.set_limit(max_capacity)
+    }
+
+    // Sets the limit of the stack, and leaves the slots as they are.
+    fn set_limit(&mut self, limit: usize) -> Result<(), MaxCapacityReductionError>
+        ensures variant { IsOk result ↔ (slot_count self.old ≤ limit) }
+        ensures done { OnOk result (self.new ≡ with_limit self.old limit) }
+        ensures refused { OnErr result (self.new ≡ self.old) }
+    {
+        self.slots.stack.set_max_capacity(limit)
+    }
+}

@@ -1,0 +1,34 @@
+//! Steps of an advancer over a direct arena.
+
+ghost use Rattle.std.specs.Option.{option_map};
+ghost use Rattle.triple_arena_ptr.specs.Numbers.{greatest_index};
+ghost use Rattle.triple_arena_traits.specs.Walks.{steps_left, Steps};
+
+use super::DirectArena;
+use crate::slot::DirectSlot;
+use triple_arena_base::Advancer;
+use triple_arena_ptr::Ptr;
+use triple_arena_stack::NonZeroInxGenericStack;
+use triple_arena_traits::ArenaTrait;
+use triple_arena_traits::arena_iterators::PtrAdvancer;
+
+impl<P: Ptr, T, S: NonZeroInxGenericStack<DirectSlot<P, T>>> Advancer<DirectArena<P, T, S>>
+    for PtrAdvancer<P> {
+    type Item = P;
+
+    ghost advances = { λ before arena answer after.
+        Steps (greatest_index P.Inx.greatest) arena.slots before (option_map P.numbers answer) after };
+
+    ghost left = { λ s _. steps_left (greatest_index P.Inx.greatest) s };
+
+    #[tactic(auto, using(triple_arena_traits::specs::laws::WalkLaws::fewer_left))]
+    fn advance(&mut self, arena: &DirectArena<P, T, S>) -> Option<P> {
+        // By its clauses, no slot is past the greatest index.
+        let _capacity = arena.capacity();
+        self.step::<T, DirectSlot<P, T>, S>(&arena.slots.stack)
+    }
+
+    fn empty() -> Self {
+        PtrAdvancer::from(None)
+    }
+}

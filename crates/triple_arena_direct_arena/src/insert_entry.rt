@@ -1,0 +1,87 @@
+//! The place of a value that is not inserted yet.
+
+ghost use Rattle.std.specs.Prelude.{◌≡◌, IfOk};
+ghost use Rattle.std.specs.Borrow.{sem, Lends};
+ghost use Rattle.triple_arena_traits.specs.DirectInsertion.{IsVacant, DirectInsertAnswer};
+ghost use Rattle.triple_arena_direct_arena.specs.DirectState.{direct_capacity, inserted_at};
+ghost use Rattle.triple_arena_direct_arena.specs.InsertEntry.{entry_pointer, entry_reference, entry_arena, entry_lender, entry_rests};
+
+use crate::direct_arena::DirectArena;
+use crate::slot::DirectSlot;
+use triple_arena_base::DirectInsertionError;
+use triple_arena_ptr::Ptr;
+use triple_arena_stack::{NonZeroInxGenericStack, NonZeroInxVec};
+use triple_arena_traits::{
+    ArenaDirectInsertEntryTrait, ArenaDirectInsertTrait, ArenaTrait, LendingArena,
+};
+
+/// A place in a direct arena, under a pointer of the caller's choice.
+///
+/// Dropped, it changes nothing.
+pub struct ArenaDirectInsertEntry<
+    'a,
+    P: Ptr,
+    T,
+    S: NonZeroInxGenericStack<DirectSlot<P, T>> = NonZeroInxVec<DirectSlot<P, T>>,
+> {
+    p: P,
+    arena: &'a mut DirectArena<P, T, S>,
+}
+
+impl<'a, P: Ptr, T, S: NonZeroInxGenericStack<DirectSlot<P, T>>> ArenaDirectInsertEntryTrait<
+    'a,
+    P,
+    T,
+> for ArenaDirectInsertEntry<'a, P, T, S> {
+    ghost has_place = { λ entry. IsVacant (entry_arena entry).slots
+        (direct_capacity (entry_arena entry)) (P.numbers (entry_pointer entry)).0 };
+
+    fn has_place(&self) -> bool {
+        self.arena.can_direct_insert(self.p)
+    }
+
+    fn insert(self, t: T) -> &'a mut T
+        requires { IsVacant (entry_arena self).slots
+            (direct_capacity (entry_arena self)) (P.numbers (entry_pointer self)).0 }
+        ensures value { result.now ≡ t }
+        ensures* writes_back { sem 𝓛 (Lends
+            ⟦<DirectArena<P, T, S> as LendingArena>⟧.arena_row
+            T.row (entry_reference self.entry) result
+            (inserted_at (entry_arena self.entry) (P.numbers (entry_pointer self.entry)))) }
+    {
+        let ArenaDirectInsertEntry { p, arena } = self;
+        arena.direct_insert_reserved(p, t);
+        arena.get_mut(p).unwrap()
+    }
+}
+
+impl<P: Ptr, T, S: NonZeroInxGenericStack<DirectSlot<P, T>>> DirectArena<P, T, S> {
+    /// A place under `p`. It takes no memory; every generation is accepted, 1 too.
+    ///
+    /// `NotWithinCapacity` exactly where the index of `p` is above the capacity, else
+    /// `ExistingElementAtIndex` exactly where an entry stands there; then the arena is unchanged.
+    pub fn direct_insert_within_capacity(
+        &mut self,
+        p: P,
+    ) -> Result<ArenaDirectInsertEntry<'_, P, T, S>, DirectInsertionError>
+        ensures variant { DirectInsertAnswer self.old.slots (direct_capacity self.old)
+            (P.numbers p).0 result }
+        ensures arena { IfOk result (λ entry. entry_arena entry ≡ self.old) }
+        ensures pointer { IfOk result (λ entry. entry_pointer entry ≡ p) }
+        ensures same_reference { IfOk result (λ entry. entry_lender entry ≡ self.entry.ghost_name) }
+        ensures* refused { sem 𝓛 (entry_rests
+            ⟦<DirectArena<P, T, S> as LendingArena>⟧.arena_row self.entry result) }
+    {
+        self.check_direct_insert(p)?;
+        Ok(ArenaDirectInsertEntry { p, arena: self })
+    }
+}
+
+impl<P: Ptr, T, S: NonZeroInxGenericStack<DirectSlot<P, T>>> Drop
+    for ArenaDirectInsertEntry<'_, P, T, S> {
+    fn drop(self)
+        ensures { self.exit.1.0.now ≡ self.entry.arena.now }
+    {
+        let ArenaDirectInsertEntry { p: _, arena: _ } = self;
+    }
+}

@@ -1,0 +1,17 @@
+//! Direct arenas as clauses on loans name them.
+
+use crate::direct_arena::DirectArena;
+use crate::slot::DirectSlot;
+use triple_arena_ptr::Ptr;
+use triple_arena_stack::NonZeroInxGenericStack;
+use triple_arena_traits::LendingArena;
+
+impl<P: Ptr, T, S: NonZeroInxGenericStack<DirectSlot<P, T>>> LendingArena for DirectArena<P, T, S> {
+    ghost use Rattle.triple_arena_direct_arena.specs.contracts.direct_arena.DirectArena.{the_row};
+
+    ghost arena_row = { the_row P.row T.row S.row P.Inx.row P.Gen.row
+        P.Ptr.own P.Debug P.Hash.own P.PartialEq P.PartialOrd.own P.Ord.own P.Recast
+        P.Inx.PtrInx.own P.Inx.Debug P.Inx.Hash.own P.Inx.PartialEq P.Inx.PartialOrd.own
+        P.Inx.Ord.own P.Gen.PtrGen.own P.Gen.Debug P.Gen.Hash.own P.Gen.PartialEq
+        P.Gen.PartialOrd.own P.Gen.Ord.own S.NonZeroInxGenericStack };
+}

@@ -1,7 +1,0 @@
-mod Renames
-mod OwnMaps
-mod Pairing
-mod Resolving
-mod WrittenValues
-mod MappedAnswers
-mod Followed

@@ -1,0 +1,247 @@
+//! What the tests ask of a session, and its steps as values, so that a test is a table of them.
+
+use arrayvec::ArrayString;
+use std::alloc::Global;
+use std::fmt::Write as _;
+use std::io::{BufWriter, Read, Write};
+use std::process::Abort;
+use triple_arena::{Arena, ArenaSlot, ArenaTrait};
+use triple_arena_base::AllocError;
+use triple_arena_ptr::{P0, P3, Ptr, PtrGen};
+use triple_arena_session::{
+    Command, Node, Reply, Session, StrictSession, TextError, run_text, run_text_and_flush,
+    run_text_strict, run_text_strict_and_flush,
+};
+use triple_arena_stack::{
+    NonZeroInxArray, NonZeroInxGenericStack, NonZeroInxLimitedVec, NonZeroInxVec,
+};
+use triple_arena_trait_kit::{B, Narrow, Numbered, Wide};
+
+/// How many entries an arena holds, for how many it has room, and the generation of its counter.
+pub type Extent = (usize, usize, u64);
+
+/// A session of numbers at any pointer and stack. It has no clauses, so that what is generic over it
+/// is proved at once for each of them.
+pub trait Asked {
+    /// The reply to a command.
+    fn answer(&mut self, command: Command<u64>) -> Reply<u64>;
+
+    /// The replies of a run of commands, if there is memory for them.
+    fn answers(&mut self, commands: &[Command<u64>]) -> Option<Vec<Reply<u64>>>;
+
+    /// How a run of what a reader gives ends, whose lines a writer takes.
+    fn runs<R: Read, W: Write>(
+        &mut self,
+        alloc: Global,
+        input: &mut R,
+        output: &mut W,
+    ) -> Result<(), TextError>;
+
+    /// How a run ends whose lines go through a buffer, which is flushed, and the writer below it.
+    fn runs_and_flushes<R: Read, W: Write + Drop>(
+        &mut self,
+        alloc: Global,
+        input: &mut R,
+        output: BufWriter<W>,
+    ) -> (Result<(), TextError>, W);
+
+    /// The extent of the arena.
+    fn extent(&self) -> Extent;
+}
+
+impl<P: Ptr, S: NonZeroInxGenericStack<ArenaSlot<P, Node<u64, P>>>> Asked for Session<P, u64, S>
+where
+    P::Gen: Numbered,
+{
+    fn answer(&mut self, command: Command<u64>) -> Reply<u64> {
+        self.step(command)
+    }
+
+    fn answers(&mut self, commands: &[Command<u64>]) -> Option<Vec<Reply<u64>>> {
+        self.run(commands).ok()
+    }
+
+    fn runs<R: Read, W: Write>(
+        &mut self,
+        alloc: Global,
+        input: &mut R,
+        output: &mut W,
+    ) -> Result<(), TextError> {
+        run_text(self, alloc, input, output)
+    }
+
+    fn runs_and_flushes<R: Read, W: Write + Drop>(
+        &mut self,
+        alloc: Global,
+        input: &mut R,
+        output: BufWriter<W>,
+    ) -> (Result<(), TextError>, W) {
+        run_text_and_flush(self, alloc, input, output)
+    }
+
+    fn extent(&self) -> Extent {
+        extent_of(self.arena())
+    }
+}
+
+impl<P: Ptr, S: NonZeroInxGenericStack<ArenaSlot<P, Node<u64, P>>>> Asked
+    for StrictSession<P, u64, S>
+where
+    P::Gen: Numbered,
+{
+    fn answer(&mut self, command: Command<u64>) -> Reply<u64> {
+        self.step(command)
+    }
+
+    fn answers(&mut self, commands: &[Command<u64>]) -> Option<Vec<Reply<u64>>> {
+        self.run(commands).ok()
+    }
+
+    fn runs<R: Read, W: Write>(
+        &mut self,
+        alloc: Global,
+        input: &mut R,
+        output: &mut W,
+    ) -> Result<(), TextError> {
+        run_text_strict(self, alloc, input, output)
+    }
+
+    fn runs_and_flushes<R: Read, W: Write + Drop>(
+        &mut self,
+        alloc: Global,
+        input: &mut R,
+        output: BufWriter<W>,
+    ) -> (Result<(), TextError>, W) {
+        run_text_strict_and_flush(self, alloc, input, output)
+    }
+
+    fn extent(&self) -> Extent {
+        extent_of(self.arena().arena())
+    }
+}
+
+fn extent_of<P: Ptr, S: NonZeroInxGenericStack<ArenaSlot<P, Node<u64, P>>>>(
+    arena: &Arena<P, Node<u64, P>, S>,
+) -> Extent
+where
+    P::Gen: Numbered,
+{
+    (
+        arena.len(),
+        arena.capacity(),
+        arena.generation().told_number(),
+    )
+}
+
+/// Whether a command is answered so.
+pub fn replies(session: &mut impl Asked, command: Command<u64>, reply: &Reply<u64>) -> bool {
+    session.answer(command) == *reply
+}
+
+/// Whether this, which has 64 bytes at most, is the text of a reply. It takes no memory.
+pub fn says(reply: &Reply<u64>, text: &str) -> bool {
+    let mut written: ArrayString<64> = ArrayString::new();
+    written.write(reply).is_ok() && written.as_str() == text
+}
+
+/// Makes each step, and expects its reply.
+pub fn follow(rt: &impl Abort, session: &mut impl Asked, steps: &[(Command<u64>, Reply<u64>)]) {
+    for (command, reply) in steps {
+        assert!(rt; replies(session, *command, reply), "at {command:?}");
+    }
+}
+
+/// What stands under a name.
+pub type Row = Option<(u64, Option<usize>)>;
+
+/// Expects each name to be answered as its row says; the first row is that of 0.
+pub fn holds(rt: &impl Abort, session: &mut impl Asked, rows: &[Row]) {
+    for (name, row) in rows.iter().enumerate() {
+        let reply = match *row {
+            Some((datum, link)) => Reply::Found(datum, link),
+            None => Reply::Nothing,
+        };
+        assert!(rt; replies(session, Command::Get(name), &reply), "at {name}");
+    }
+}
+
+/// What is tried in a new session.
+pub trait Trial {
+    /// Expects the session to pass.
+    fn pass(&self, rt: &impl Abort, alloc: Global, session: &mut impl Asked);
+}
+
+/// The sessions that are tried, by their pointers and stacks.
+#[derive(Clone, Copy)]
+pub enum Kind {
+    /// The pointer of general use, over the heap.
+    General,
+    Limited,
+    /// An array of two places.
+    Two,
+    /// Generations of 16 bits.
+    Small,
+    /// Generations of a byte.
+    ByteGenerations,
+    /// Indexes of a byte.
+    ByteIndexes,
+    LimitedByteIndexes,
+    /// Indexes of 128 bits.
+    WideIndexes,
+}
+
+type Slot<P> = ArenaSlot<P, Node<u64, P>>;
+
+/// Tries a new session of a kind, made with room for so many where that is given. The one body that
+/// names the types of the kinds, since each such name is slow to prove.
+pub fn try_new(
+    rt: &impl Abort,
+    alloc: Global,
+    kind: Kind,
+    room: Option<usize>,
+    trial: &impl Trial,
+) {
+    match kind {
+        Kind::General => try_at::<P0, NonZeroInxVec<Slot<P0>>>(rt, alloc, room, trial),
+        Kind::Limited => try_at::<P0, NonZeroInxLimitedVec<Slot<P0>>>(rt, alloc, room, trial),
+        Kind::Two => try_at::<P0, NonZeroInxArray<Slot<P0>, 2>>(rt, alloc, room, trial),
+        Kind::Small => try_at::<P3, NonZeroInxVec<Slot<P3>>>(rt, alloc, room, trial),
+        Kind::ByteGenerations => try_at::<B, NonZeroInxVec<Slot<B>>>(rt, alloc, room, trial),
+        Kind::ByteIndexes => try_at::<Narrow, NonZeroInxVec<Slot<Narrow>>>(rt, alloc, room, trial),
+        Kind::LimitedByteIndexes => {
+            try_at::<Narrow, NonZeroInxLimitedVec<Slot<Narrow>>>(rt, alloc, room, trial)
+        }
+        Kind::WideIndexes => try_at::<Wide, NonZeroInxVec<Slot<Wide>>>(rt, alloc, room, trial),
+    }
+}
+
+// Tries a new session at a pointer and a stack, made with room for so many where that is given.
+fn try_at<P: Ptr, S: NonZeroInxGenericStack<Slot<P>> + Drop>(
+    rt: &impl Abort,
+    alloc: Global,
+    room: Option<usize>,
+    trial: &impl Trial,
+)
+where
+    P::Gen: Numbered,
+{
+    assert!(rt; P::Gen::counts());
+    let made: Result<Session<P, u64, S>, AllocError> = match room {
+        Some(room) => Session::with_min_capacity(alloc, room),
+        None => Ok(Session::with_new_arena(alloc)),
+    };
+    match made {
+        Ok(mut session) => trial.pass(rt, alloc, &mut session),
+        Err(_) => panic!(rt; "there is memory"),
+    }
+}
+
+/// Tries a new strict session over the heap, at a pointer.
+pub fn try_strict<P: Ptr>(rt: &impl Abort, alloc: Global, trial: &impl Trial)
+where
+    P::Gen: Numbered,
+{
+    assert!(rt; P::Gen::counts());
+    let mut session: StrictSession<P, u64> = StrictSession::with_new_arena(alloc);
+    trial.pass(rt, alloc, &mut session);
+}

@@ -1,5 +1,0 @@
-//! Tests of strict arenas by public calls, as tables of calls and answers.
-#![tactic(auto)]
-
-#[cfg(test)]
-mod tests;

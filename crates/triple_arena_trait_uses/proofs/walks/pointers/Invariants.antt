@@ -1,6 +1,0 @@
-use Rattle.std.proofs.Common.{◌≡◌, ◌++◌, map}
-use Rattle.triple_arena_traits.specs.Walks.{keys}
-use Rattle.triple_arena_trait_uses.proofs.walks.pointers.Given as goal
-
-abbrev pub invariant-walk : goal.invariant-walk
-invariant-walk g l = map g.P.Ptr.numbers l.all.items ++ l.p-iterator ≡ keys (g.A.ArenaTrait.slots l.fn.arena)

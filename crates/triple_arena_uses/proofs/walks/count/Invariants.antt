@@ -1,0 +1,12 @@
+use Rattle.std.proofs.Common.{◌≡◌, ◌+◌, length, false}
+use Rattle.triple_arena_traits.specs.Entries.{entry_count}
+use Rattle.triple_arena_traits.specs.Walks.{entries_ahead}
+use Rattle.triple_arena_uses.proofs.walks.count.Given as goal
+
+abbrev pub invariant-walk : goal.invariant-walk
+invariant-walk g l =
+    ((g.A.ArenaTrait.stand l.advancer).reverse ≡ false)
+    × (l.count + length (entries_ahead (g.A.ArenaTrait.stand l.advancer) (g.A.ArenaTrait.slots l.arena)) ≡ entry_count (g.A.ArenaTrait.slots l.arena))
+
+abbrev pub decreases-walk : goal.decreases-walk
+decreases-walk g l = length (entries_ahead (g.A.ArenaTrait.stand l.advancer) (g.A.ArenaTrait.slots l.arena))

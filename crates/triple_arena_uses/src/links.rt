@@ -1,0 +1,35 @@
+//! A type of one's own that holds pointers, and follows them where they are renamed.
+
+ghost use Rattle.std.proofs.Common.{ap};
+ghost use Rattle.triple_arena_base.specs.Held.{held_itself, refill_itself, held_option, refill_option};
+ghost use Rattle.triple_arena_base.specs.laws.HeldLaws.{itself_held_refill, itself_refill_held, itself_refill_refill, option_held_refill, option_refill_held, option_refill_refill};
+
+use triple_arena_base::{Recast, Recaster};
+use triple_arena_ptr::P0;
+
+/// A link with a weight, which may lead nowhere.
+#[derive(Clone, Copy, PartialEq, Eq, Debug)]
+pub struct Link {
+    pub weight: u32,
+    pub target: Option<P0>,
+}
+
+/// Holds its target.
+impl Recast<P0> for Link {
+    ghost held = { λ link. held_option held_itself link.target };
+
+    ghost refill = { λ link l. record link { target = refill_option refill_itself link.target l } };
+
+    fn recast<R: Recaster<Item = P0>>(&mut self, recaster: &R) -> Result<(), P0> {
+        self.target.recast(recaster)
+    }
+
+    ghost held_refill = { λ link. option_held_refill held_itself refill_itself
+        itself_held_refill link.target };
+
+    ghost refill_held = { λ link. ap (λ target. record link { target = target })
+        (option_refill_held held_itself refill_itself itself_refill_held link.target) };
+
+    ghost refill_refill = { λ link l m h k. ap (λ target. record link { target = target })
+        (option_refill_refill held_itself refill_itself itself_refill_refill link.target l m h k) };
+}

@@ -2,7 +2,6 @@
 
 use crate::sessions::{Asked, Fixed, InArray, Limited, Slot, answers};
 use std::alloc::Global;
-use triple_arena_base::AllocError;
 use triple_arena_ptr::P0;
 use triple_arena_session::{Command, Reply, Session, StrictSession};
 use triple_arena_stack::NonZeroInxVec;
@@ -27,60 +26,86 @@ const OF_SESSIONS: &[(&str, &str)] = &[
     ("compact", "compacted"),
 ];
 
-fn session<T: Asked + Drop>(made: Result<T, AllocError>) -> Result<End, Wrong> {
-    let mut session = made?;
+// A session that has room for eight takes five names, and then answers the lines.
+fn session<T: Asked>(session: &mut T) -> Result<End, Wrong> {
     for _ in 0..5 {
         if session.answer(Command::Insert(1, None)) == Reply::NoMemory {
             return Err(Wrong::NoMemory);
         }
     }
     for (line, text) in OF_SESSIONS {
-        if answers(&mut session, *line, *text)? == End::Refused {
+        if answers(session, *line, *text)? == End::Refused {
             return Err(Wrong::Text(*line));
         }
     }
     Ok(End::Ample)
 }
 
-// Sessions of five names, made with room for eight, over each stack.
-fn each_session(alloc: Global, report: &mut Report) {
-    let call = "no call";
-    let made = Session::<P0, u64, OnHeap>::with_min_capacity(alloc, 8);
-    report.note(call, "a session of five names", session(made));
-    let made = Session::<P0, u64, Limited>::with_min_capacity(alloc, 8);
-    report.note(call, "a limited session of five names", session(made));
-    let made = Session::<P0, u64, Fixed>::with_min_capacity(alloc, 8);
-    report.note(call, "a session of five names of fixed room", session(made));
-    let made = Session::<P0, u64, InArray>::with_min_capacity(alloc, 8);
-    report.note(call, "a session of five names in an array", session(made));
+// A session, strict or not, over each stack. Each names its type: one that is generic in its stack can't be dropped.
+fn on_heap(alloc: Global) -> Result<End, Wrong> {
+    let mut made: Session<P0, u64, OnHeap> = Session::with_min_capacity(alloc, 8)?;
+    session(&mut made)
 }
 
-// Strict sessions of five names, made with room for eight, over each stack.
-fn each_strict_session(alloc: Global, report: &mut Report) {
-    let call = "no call";
-    let made = StrictSession::<P0, u64, OnHeap>::with_min_capacity(alloc, 8);
-    report.note(call, "a strict session of five names", session(made));
-    let made = StrictSession::<P0, u64, Limited>::with_min_capacity(alloc, 8);
-    report.note(
-        call,
-        "a limited strict session of five names",
-        session(made),
-    );
-    let made = StrictSession::<P0, u64, Fixed>::with_min_capacity(alloc, 8);
-    report.note(
-        call,
-        "a strict session of five names of fixed room",
-        session(made),
-    );
-    let made = StrictSession::<P0, u64, InArray>::with_min_capacity(alloc, 8);
-    report.note(
-        call,
-        "a strict session of five names in an array",
-        session(made),
-    );
+fn limited(alloc: Global) -> Result<End, Wrong> {
+    let mut made: Session<P0, u64, Limited> = Session::with_min_capacity(alloc, 8)?;
+    session(&mut made)
+}
+
+fn fixed(alloc: Global) -> Result<End, Wrong> {
+    let mut made: Session<P0, u64, Fixed> = Session::with_min_capacity(alloc, 8)?;
+    session(&mut made)
+}
+
+fn in_array(alloc: Global) -> Result<End, Wrong> {
+    let mut made: Session<P0, u64, InArray> = Session::with_min_capacity(alloc, 8)?;
+    session(&mut made)
+}
+
+fn strict_on_heap(alloc: Global) -> Result<End, Wrong> {
+    let mut made: StrictSession<P0, u64, OnHeap> = StrictSession::with_min_capacity(alloc, 8)?;
+    session(&mut made)
+}
+
+fn strict_limited(alloc: Global) -> Result<End, Wrong> {
+    let mut made: StrictSession<P0, u64, Limited> = StrictSession::with_min_capacity(alloc, 8)?;
+    session(&mut made)
+}
+
+fn strict_fixed(alloc: Global) -> Result<End, Wrong> {
+    let mut made: StrictSession<P0, u64, Fixed> = StrictSession::with_min_capacity(alloc, 8)?;
+    session(&mut made)
+}
+
+fn strict_in_array(alloc: Global) -> Result<End, Wrong> {
+    let mut made: StrictSession<P0, u64, InArray> = StrictSession::with_min_capacity(alloc, 8)?;
+    session(&mut made)
 }
 
 pub fn try_each(alloc: Global, report: &mut Report) {
-    each_session(alloc, report);
-    each_strict_session(alloc, report);
+    let call = "no call";
+    report.note(call, "a session of five names", on_heap(alloc));
+    report.note(call, "a limited session of five names", limited(alloc));
+    report.note(call, "a session of five names of fixed room", fixed(alloc));
+    report.note(call, "a session of five names in an array", in_array(alloc));
+    report.note(
+        call,
+        "a strict session of five names",
+        strict_on_heap(alloc),
+    );
+    report.note(
+        call,
+        "a limited strict session of five names",
+        strict_limited(alloc),
+    );
+    report.note(
+        call,
+        "a strict session of five names of fixed room",
+        strict_fixed(alloc),
+    );
+    report.note(
+        call,
+        "a strict session of five names in an array",
+        strict_in_array(alloc),
+    );
 }

@@ -316,18 +316,6 @@ fn is_empty_with_eight(extent: (usize, usize, u64)) -> Result<End, Wrong> {
     }
 }
 
-// Each row but `show`, where a session that needs memory for its room could be made.
-fn each_row_where_made<T: Asked + Drop>(
-    made: Result<T, Wrong>,
-    kind: &'static str,
-    report: &mut Report,
-) {
-    match made {
-        Ok(mut session) => each_row(&mut session, kind, false, report),
-        Err(wrong) => report.note("made", kind, Err(wrong)),
-    }
-}
-
 // A session that grows up to a limit of eight.
 fn limited(alloc: Global) -> Result<Session<P0, u64, Limited>, Wrong> {
     let mut arena: Entries<Limited> = Arena::new(alloc);
@@ -350,12 +338,46 @@ fn strict_fixed(alloc: Global) -> Result<StrictSession<P0, u64, Fixed>, Wrong> {
     Ok(StrictSession::with_min_capacity(alloc, 8)?)
 }
 
+// Each row but `show` in a session that needs memory for its room, where that could be made. Each names its type: one
+// that is generic in its stack can't be dropped.
+fn each_row_limited(alloc: Global, report: &mut Report) {
+    let kind = "a session under a limit";
+    match limited(alloc) {
+        Ok(mut session) => each_row(&mut session, kind, false, report),
+        Err(wrong) => report.note("made", kind, Err(wrong)),
+    }
+}
+
+fn each_row_fixed(alloc: Global, report: &mut Report) {
+    let kind = "a session of fixed room";
+    match fixed(alloc) {
+        Ok(mut session) => each_row(&mut session, kind, false, report),
+        Err(wrong) => report.note("made", kind, Err(wrong)),
+    }
+}
+
+fn each_row_strict_limited(alloc: Global, report: &mut Report) {
+    let kind = "a limited strict session";
+    match strict_limited(alloc) {
+        Ok(mut session) => each_row(&mut session, kind, false, report),
+        Err(wrong) => report.note("made", kind, Err(wrong)),
+    }
+}
+
+fn each_row_strict_fixed(alloc: Global, report: &mut Report) {
+    let kind = "a strict session of fixed room";
+    match strict_fixed(alloc) {
+        Ok(mut session) => each_row(&mut session, kind, false, report),
+        Err(wrong) => report.note("made", kind, Err(wrong)),
+    }
+}
+
 // The rows in sessions over each stack.
 fn each_general(alloc: Global, report: &mut Report) {
     let mut session: Session<P0, u64> = Session::with_new_arena(alloc);
     each_row(&mut session, "a session", true, report);
-    each_row_where_made(limited(alloc), "a session under a limit", report);
-    each_row_where_made(fixed(alloc), "a session of fixed room", report);
+    each_row_limited(alloc, report);
+    each_row_fixed(alloc, report);
     let mut session: Session<P0, u64, InArray> = Session::with_new_arena(alloc);
     each_row(&mut session, "a session in an array", false, report);
 }
@@ -364,10 +386,8 @@ fn each_general(alloc: Global, report: &mut Report) {
 fn each_strict(alloc: Global, report: &mut Report) {
     let mut session: StrictSession<P0, u64> = StrictSession::with_new_arena(alloc);
     each_row(&mut session, "a strict session", true, report);
-    let limited = strict_limited(alloc);
-    each_row_where_made(limited, "a limited strict session", report);
-    let fixed = strict_fixed(alloc);
-    each_row_where_made(fixed, "a strict session of fixed room", report);
+    each_row_strict_limited(alloc, report);
+    each_row_strict_fixed(alloc, report);
     let mut session: StrictSession<P0, u64, InArray> = StrictSession::with_new_arena(alloc);
     each_row(&mut session, "a strict session in an array", false, report);
 }

@@ -1,5 +1,5 @@
-//! Tests of direct arenas, of copies between arenas, of compaction with recasting and of strict arenas, by public
-//! calls, as tables of calls and answers.
+//! Tests of direct arenas, of compaction with recasting and of strict arenas, by public calls, as tables of calls and
+//! answers.
 #![tactic(auto)]
 
 #[cfg(test)]

@@ -1,6 +1,5 @@
 //! What no clause of these arenas says: that their calls succeed, worked examples, and refusals of memory.
 
 mod compaction;
-mod copies;
 mod direct;
 mod strict_arenas;

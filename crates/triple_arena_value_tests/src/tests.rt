@@ -1,7 +1,8 @@
-//! What no clause of the arenas says of their values: that each is dropped once, texts, values of no size, and
-//! pointers of two types side by side.
+//! What no clause of the arenas says of their values and of copies: that each value is dropped once, texts, values of no
+//! size, pointers of two types side by side, and cloning and transfer between any two arenas.
 
 mod asking;
+mod copies;
 mod drops;
 mod no_size;
 mod texts;

@@ -1,2 +1,3 @@
+-- Read first: InsertEntry.
 pub mod InsertEntry
 pub mod laws

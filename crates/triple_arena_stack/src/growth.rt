@@ -42,7 +42,6 @@ pub fn grow_if_full<T, S: NonZeroInxGenericStack<T>>(stack: &mut S) -> Result<()
 /// The capacity that a full stack or arena grows to: twice the old one, and 4 from 0, but no more than its
 /// limit, where there is one, and than the greatest capacity.
 pub fn grown_capacity(capacity: usize, limit: Option<usize>, greatest: usize) -> usize
-    requires { greatest < 2 ^ 64 }
     ensures { result ≡ next_capacity capacity limit greatest }
 {
     let next = if capacity == 0 {

@@ -215,24 +215,20 @@ fn was_done(told: Told) -> bool {
 }
 
 // Makes a call that asks for an entry: whether there was one.
-fn places<D: AnyDirect<P0, Counted>>(
-    arena: &mut D,
-    (index, generation): (usize, u64),
-    placing: Placing<Counted>,
-) -> bool {
-    was_done(arena.place(pointer(index, generation), placing))
+fn places<D: AnyDirect<P0, Counted>>(arena: &mut D, p: P0, placing: Placing<Counted>) -> bool {
+    was_done(arena.place(p, placing))
 }
 
 // Makes a call.
 fn is_done<D: AnyDirect<P0, Counted>>(arena: &mut D, drops: &Drops, call: Call) -> bool {
     match call {
-        Call::Insert(i, g) => places(arena, (i, g), Placing::Insert(new_value(drops))),
+        Call::Insert(i, g) => places(arena, pointer(i, g), Placing::Insert(new_value(drops))),
         Call::InsertAndWrite(i, g) => places(
             arena,
-            (i, g),
+            pointer(i, g),
             Placing::InsertAndWrite(new_value(drops), new_value(drops)),
         ),
-        Call::LetGo(i, g) => places(arena, (i, g), Placing::Ask),
+        Call::LetGo(i, g) => places(arena, pointer(i, g), Placing::Ask),
         Call::PopFreeEnd(num) => arena.pop_free_end(num) == num,
         _ => was_done(arena.ask(&mut (), &ByTraits { drops, call })),
     }

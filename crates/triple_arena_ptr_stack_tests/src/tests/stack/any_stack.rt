@@ -182,7 +182,8 @@ fn write_over_both<T: Drop, M: Items<T>>(
     items: &M,
     a: &mut T,
     b: &mut T,
-    (first, second): (u64, u64),
+    first: u64,
+    second: u64,
 ) -> Told {
     let before = write_over(items, a, first);
     Told::HoldBoth(before, write_over(items, b, second))
@@ -196,7 +197,7 @@ fn write_both<T: Drop, S: NonZeroInxGenericStack<T>, M: Items<T>>(
     second: (NonZeroUsize, u64),
 ) -> Told {
     let lent = stack.with_disjoint_mut(first.0, second.0, |a, b| {
-        write_over_both(items, a, b, (first.1, second.1))
+        write_over_both(items, a, b, first.1, second.1)
     });
     match lent {
         Ok(told) => told,

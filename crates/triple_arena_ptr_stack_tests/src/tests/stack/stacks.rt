@@ -104,7 +104,8 @@ fn on_stack_with<
     alloc: Global,
     items: M,
     room: Option<usize>,
-    (limit, sets): (Told, L),
+    limit: Told,
+    sets: L,
     steps: &[(Call, Told)],
 ) -> Result<(), Wrong> {
     let stack: NonZeroInxStack<T, K> = made(alloc, room)?;
@@ -119,7 +120,7 @@ pub fn on_stack<T: Drop, K: NonZeroInxGenericStack<T> + Drop, M: Items<T> + Copy
     limit: Told,
     steps: &[(Call, Told)],
 ) -> Result<(), Wrong> {
-    on_stack_with::<T, K, M, LimitStays>(alloc, items, room, (limit, LimitStays), steps)
+    on_stack_with::<T, K, M, LimitStays>(alloc, items, room, limit, LimitStays, steps)
 }
 
 /// Tries a table on a stack on the heap, with this room or as `new` makes it.
@@ -140,13 +141,7 @@ pub fn on_limited_of<T: Drop, M: Items<T> + Copy>(
     steps: &[(Call, Told)],
 ) -> Result<(), Wrong> {
     let limit = Told::Size(room.unwrap_or(0));
-    on_stack_with::<T, LimitedStack<T>, M, LimitIsSet>(
-        alloc,
-        items,
-        room,
-        (limit, LimitIsSet),
-        steps,
-    )
+    on_stack_with::<T, LimitedStack<T>, M, LimitIsSet>(alloc, items, room, limit, LimitIsSet, steps)
 }
 
 /// Tries a table on a stack whose room is fixed, and is this room or 0.

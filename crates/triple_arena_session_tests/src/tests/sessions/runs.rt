@@ -33,14 +33,7 @@ impl Trial for GoesOn {
         ];
         for (text, outcome, lines) in texts {
             let mut input = text;
-            writes(
-                rt,
-                alloc,
-                session,
-                (&mut input, &mut output),
-                outcome,
-                lines,
-            );
+            writes(rt, alloc, session, &mut input, &mut output, outcome, lines);
         }
     }
 }

@@ -24,7 +24,8 @@ pub fn writes<R: Read>(
     rt: &impl Abort,
     alloc: Global,
     session: &mut impl Asked,
-    (input, output): (&mut R, &mut Vec<u8>),
+    input: &mut R,
+    output: &mut Vec<u8>,
     outcome: Result<(), TextError>,
     lines: &[u8],
 ) {
@@ -42,7 +43,7 @@ pub fn answers<R: Read>(
     lines: &[u8],
 ) {
     let mut output = Vec::new(alloc);
-    writes(rt, alloc, session, (input, &mut output), outcome, lines);
+    writes(rt, alloc, session, input, &mut output, outcome, lines);
 }
 
 /// Runs a text in a session, and expects this outcome and these lines.

@@ -89,7 +89,8 @@ where
 fn of_limited<T: Trial>(
     alloc: Global,
     pointers: Pointers,
-    (can_be_set, room): (bool, Option<usize>),
+    can_be_set: bool,
+    room: Option<usize>,
     trial: &T,
 ) -> Result<(), Wrong> {
     match pointers {
@@ -108,7 +109,8 @@ fn of_limited<T: Trial>(
 fn of_little<T: Trial>(
     alloc: Global,
     pointers: Pointers,
-    (places, room): (usize, Option<usize>),
+    places: usize,
+    room: Option<usize>,
     trial: &T,
 ) -> Result<(), Wrong> {
     match (pointers, places) {
@@ -165,9 +167,9 @@ fn on_one<T: Trial>(
 ) -> Result<(), Wrong> {
     match stack {
         Stack::Heap(room) => of_heap(alloc, pointers, room, trial),
-        Stack::Limited(room) => of_limited(alloc, pointers, (true, room), trial),
-        Stack::Fixed(room) => of_limited(alloc, pointers, (false, room), trial),
-        Stack::Little(places, room) => of_little(alloc, pointers, (places, room), trial),
+        Stack::Limited(room) => of_limited(alloc, pointers, true, room, trial),
+        Stack::Fixed(room) => of_limited(alloc, pointers, false, room, trial),
+        Stack::Little(places, room) => of_little(alloc, pointers, places, room, trial),
         Stack::Array(places) => of_array(alloc, pointers, places, trial),
     }
 }

@@ -123,7 +123,8 @@ pub fn follow_two<A: Source + TestedArena, B: Target + TestedArena>(
 // Makes each call where the source is an arena over a stack, after these insertions and removals.
 fn from_arena<S: NonZeroInxGenericStack<ArenaSlot<P0, Token>> + Drop, B: Target + TestedArena>(
     alloc: Global,
-    (room, entries): (usize, Removed),
+    room: usize,
+    entries: Removed,
     target: &mut B,
     steps: &[(OnTwo, Told)],
 ) -> Result<(), Wrong> {
@@ -136,7 +137,8 @@ fn from_arena<S: NonZeroInxGenericStack<ArenaSlot<P0, Token>> + Drop, B: Target 
 // entries.
 fn from_direct<S: NonZeroInxGenericStack<DirectSlot<P0, Token>> + Drop, B: Target + TestedArena>(
     alloc: Global,
-    (room, entries): (usize, Steps),
+    room: usize,
+    entries: Steps,
     target: &mut B,
     steps: &[(OnTwo, Told)],
 ) -> Result<(), Wrong> {
@@ -153,12 +155,12 @@ fn from<B: Target + TestedArena>(
     steps: &[(OnTwo, Told)],
 ) -> Result<(), Wrong> {
     match origin {
-        Origin::Arena(entries) => from_arena::<Heap<P0>, B>(alloc, (0, entries), target, steps),
+        Origin::Arena(entries) => from_arena::<Heap<P0>, B>(alloc, 0, entries, target, steps),
         Origin::LimitedArena(room, entries) => {
-            from_arena::<Limited<P0>, B>(alloc, (room, entries), target, steps)
+            from_arena::<Limited<P0>, B>(alloc, room, entries, target, steps)
         }
         Origin::Direct(room, entries) => {
-            from_direct::<DirectHeap<P0>, B>(alloc, (room, entries), target, steps)
+            from_direct::<DirectHeap<P0>, B>(alloc, room, entries, target, steps)
         }
     }
 }

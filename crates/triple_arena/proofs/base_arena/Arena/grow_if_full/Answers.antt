@@ -143,8 +143,5 @@ returns-then-capacity-greatest-clause-well_formed g c = subst IsWellFormed c.sel
 pub same-self-2 : goal.same-self-2
 same-self-2 g c = refl
 
-pub grown_capacity-requires : goal.grown_capacity-requires
-grown_capacity-requires g c = c.get-greatest.type_inv
-
 pub returns-clause-well_formed : goal.returns-clause-well_formed
 returns-clause-well_formed g c = subst IsWellFormed c.self.view_is c.self.invariant.well

@@ -112,7 +112,7 @@ impl<P: Ptr, T, S: NonZeroInxGenericStack<ArenaSlot<P, T>>> ArenaTrait<P, T> for
     ghost valid = { IsWellFormed };
 
     // the smallest of room, limit and greatest index
-    ghost fitting = { capacity };
+    ghost capacity = { capacity };
 
     ghost limit = { λ s. s.limit };
 
@@ -304,7 +304,7 @@ impl<P: Ptr, T, S: NonZeroInxGenericStack<ArenaSlot<P, T>>> ArenaTrait<P, T> for
 
     ghost limit_fresh = { λ _ _. refl };
 
-    ghost fitting_fresh = { λ _ _. refl };
+    ghost capacity_empty = { λ _ _. refl };
 
     ghost slots_with_value = { λ _ _ _. refl };
 
@@ -312,7 +312,7 @@ impl<P: Ptr, T, S: NonZeroInxGenericStack<ArenaSlot<P, T>>> ArenaTrait<P, T> for
 
     ghost limit_with_value = { λ _ _ _. refl };
 
-    ghost fitting_with_value = { λ _ _ _. refl };
+    ghost capacity_with_value = { λ _ _ _. refl };
 
     ghost slots_removed = { removed_slots (raise P.Gen.counting P.Gen.greatest) };
 
@@ -320,7 +320,7 @@ impl<P: Ptr, T, S: NonZeroInxGenericStack<ArenaSlot<P, T>>> ArenaTrait<P, T> for
 
     ghost limit_removed = { removed_limit (raise P.Gen.counting P.Gen.greatest) };
 
-    ghost fitting_removed = { removed_capacity (raise P.Gen.counting P.Gen.greatest) };
+    ghost capacity_removed = { removed_capacity (raise P.Gen.counting P.Gen.greatest) };
 
     ghost slots_unchanged = { λ _ _ same. ap (λ s. s.slots) same.0 };
 
@@ -328,7 +328,7 @@ impl<P: Ptr, T, S: NonZeroInxGenericStack<ArenaSlot<P, T>>> ArenaTrait<P, T> for
 
     ghost limit_unchanged = { λ _ _ same. ap (λ s. s.limit) same.0 };
 
-    ghost fitting_unchanged = { λ _ _ same. ap capacity same.0 };
+    ghost capacity_unchanged = { λ _ _ same. ap capacity same.0 };
 
     ghost generation_unchanged = { λ _ _ same. ap (λ s. Some s.counter) same.0 };
 
@@ -355,7 +355,7 @@ impl<P: Ptr, T, S: NonZeroInxGenericStack<ArenaSlot<P, T>>> ArenaTrait<P, T> for
 
     ghost limit_invalidated = { λ _ _ _ same. ap (λ s. s.limit) same.0 };
 
-    ghost fitting_invalidated = { λ _ _ _ same. ap capacity same.0 };
+    ghost capacity_invalidated = { λ _ _ _ same. ap capacity same.0 };
 
     ghost slots_cleared = { slots-cleared (raise P.Gen.counting P.Gen.greatest) };
 
@@ -363,7 +363,7 @@ impl<P: Ptr, T, S: NonZeroInxGenericStack<ArenaSlot<P, T>>> ArenaTrait<P, T> for
 
     ghost limit_cleared = { λ _ _. ap (λ s. s.limit) };
 
-    ghost fitting_cleared = { λ _ _. ap capacity };
+    ghost capacity_cleared = { λ _ _. ap capacity };
 
     ghost slots_reallocated = { reallocated_slots S.kind };
 
@@ -377,13 +377,13 @@ impl<P: Ptr, T, S: NonZeroInxGenericStack<ArenaSlot<P, T>>> ArenaTrait<P, T> for
 
     ghost limit_settled = { λ _ _ _ same. ap (λ s. s.limit) same.0 };
 
-    ghost fitting_settled = { λ _ _ _ same. ap capacity same.0 };
+    ghost capacity_settled = { λ _ _ _ same. ap capacity same.0 };
 }
 
 impl<P: Ptr, T, S: NonZeroInxGenericStack<ArenaSlot<P, T>>> ArenaInsertTrait<P, T>
     for Arena<P, T, S> {
     ghost use Rattle.std.proofs.Common.{ap};
-    ghost use Rattle.triple_arena_traits.specs.laws.EntryLaws.{slots-inserted, limit-inserted, fitting-inserted, slots-grown, limit-grown, next-grown, well_formed-grown, fitting-grown, same-grown, generation-next};
+    ghost use Rattle.triple_arena_traits.specs.laws.EntryLaws.{slots-inserted, limit-inserted, capacity-inserted, slots-grown, limit-grown, next-grown, well_formed-grown, capacity-grown, same-grown, generation-next};
     ghost use Rattle.triple_arena_traits.specs.laws.LengthLaws.{len-inserted, len-grown};
     ghost use Rattle.triple_arena.specs.laws.TouchedLaws.{grown_touched};
 
@@ -426,7 +426,7 @@ impl<P: Ptr, T, S: NonZeroInxGenericStack<ArenaSlot<P, T>>> ArenaInsertTrait<P, 
 
     ghost limit_inserted = { limit-inserted };
 
-    ghost fitting_inserted = { fitting-inserted };
+    ghost capacity_inserted = { capacity-inserted };
 
     ghost next_unchanged = { λ _ _ same. ap next_pointer same.0 };
 
@@ -438,7 +438,7 @@ impl<P: Ptr, T, S: NonZeroInxGenericStack<ArenaSlot<P, T>>> ArenaInsertTrait<P, 
 
     ghost len_grown = { len-grown S.kind };
 
-    ghost fitting_grown = { fitting-grown S.kind };
+    ghost capacity_grown = { capacity-grown S.kind };
 
     ghost limit_grown = { limit-grown S.kind };
 

@@ -2,7 +2,7 @@
 use Rattle.std.specs.Prelude.{◌≡◌, ℕ, ◌<◌, ◌≤◌, ◌+◌, ◌==◌, ◌⊎◌, Bool, true, false, not, if◌then◌else◌, List, [], ◌∷◌, ◌++◌, length, map, min, count_by, Option, Some, None, IsSome, IsTrue, is_some}
 use Rattle.std.specs.Option.{option_and_then}
 use Rattle.std.specs.List.{list_any}
-use Rattle.triple_arena_stack.specs.Capacity.{capacity_of, IsWithin, IsBeyond, next_capacity}
+use Rattle.triple_arena_stack.specs.Capacity.{stack_capacity, IsWithin, IsBeyond, next_capacity}
 use Rattle.triple_arena_traits.specs.Items.{item, with_item}
 use Rattle.triple_arena_commands.specs.declared.command.Command.{Command}
 use Rattle.triple_arena_commands.specs.declared.command.Command.TheVariants.{Insert, InsertWithin, Get, Set, Remove, Invalidate, Clear, Compact, Len, Capacity, Reserve, Show}
@@ -25,7 +25,7 @@ pub record Store (X : Type 0) : Type 0 where
 module _ {X : Type 0} where
   -- a store that has given no name, over so much room: the room counts as far as limit and greatest number allow
   abbrev pub new_store : ℕ → Option ℕ → ℕ → Store X
-  new_store room limit greatest = record { rows = []; capacity = min (capacity_of room limit) greatest; limit = limit; greatest = greatest }
+  new_store room limit greatest = record { rows = []; capacity = min (stack_capacity room limit) greatest; limit = limit; greatest = greatest }
 
   -- the number that the next name will be
   abbrev pub next_name : Store X → ℕ

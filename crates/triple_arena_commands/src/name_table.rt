@@ -3,7 +3,7 @@
 ghost use Rattle.std.specs.Prelude.{◌≡◌, ◌+◌, ◌<◌, ◌++◌, ◌∷◌, [], length, map, nat_lt, true, None, Some, IsOk, IfSome, OnOk, OnErr};
 ghost use Rattle.std.specs.List.{position};
 ghost use Rattle.triple_arena_base.specs.Held.{recast_item};
-ghost use Rattle.triple_arena_stack.specs.Capacity.{capacity_of, most_places, room_for_one_more, HasPlace, CanGrow};
+ghost use Rattle.triple_arena_stack.specs.Capacity.{stack_capacity, most_places, room_for_one_more, HasPlace, CanGrow};
 ghost use Rattle.triple_arena_traits.specs.Items.{item, with_item};
 ghost use Rattle.triple_arena_ptr.specs.Pointers.{is_same};
 ghost use Rattle.triple_arena_commands.specs.PointerNames.{name_of};
@@ -235,7 +235,7 @@ fn make_place<T, K: NonZeroInxGenericStack<T>>(
         ≡ room_for_one_more (K.room stack.old) (K.limit stack.old) (length (K.items stack.old))) }
     ensures place { OnOk result
         (HasPlace (K.room stack.new) (K.limit stack.new) (length (K.items stack.new))) }
-    ensures given { CanGrow K.has_memory (capacity_of (K.room stack.old) (K.limit stack.old))
+    ensures given { CanGrow K.has_memory (stack_capacity (K.room stack.old) (K.limit stack.old))
         (K.limit stack.old) most_places → IsOk result }
     ensures refused { OnErr result (stack.new ≡ stack.old) }
 {

@@ -50,7 +50,7 @@ pub fn compress_recaster<P: Ptr, T, A: CompactArenaTrait<P, T>>(
     ensures values { OnOk result (values (A.slots this.new) ≡ values (A.slots this.old)) }
     ensures len { entry_count (A.slots this.new) ≡ entry_count (A.slots this.old) }
     ensures limit { A.limit this.new ≡ A.limit this.old }
-    ensures capacity { A.fitting this.new ≡ A.fitting this.old }
+    ensures capacity { A.capacity this.new ≡ A.capacity this.old }
     ensures fresh { OnOk result (reset_generation ≡ false
         → CountsUp P.Gen.counting (A.compression_wraps this.old reset_generation)
         → Continues A.fits this.old
@@ -93,7 +93,7 @@ pub fn compress_recast<P: Ptr, T: Recast<P>, A: CompactArenaTrait<P, T>>(
         (held_all T.held (values (A.slots this.old))) ≡ None) }
     ensures len { entry_count (A.slots this.new) ≡ entry_count (A.slots this.old) }
     ensures limit { A.limit this.new ≡ A.limit this.old }
-    ensures capacity { A.fitting this.new ≡ A.fitting this.old }
+    ensures capacity { A.capacity this.new ≡ A.capacity this.old }
     ensures fresh { OnOk result (reset_generation ≡ false
         → CountsUp P.Gen.counting (A.compression_wraps this.old reset_generation)
         → Continues A.fits this.old

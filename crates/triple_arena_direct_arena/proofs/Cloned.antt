@@ -18,17 +18,17 @@ module _ {E : Type 0} where
   on_all_copied numbers step f source new (Ok y) x is copies = copies
   on_all_copied numbers step f source new (Err e) x is copies = absurd (cc)
 
-  module _ (fitting greatest n last : ℕ) (limit : Option ℕ) (same : n ≡ last) (within : n ≤ greatest) (result : Result (Unit {0}) (CloneFromError E)) where
+  module _ (capacity greatest n last : ℕ) (limit : Option ℕ) (same : n ≡ last) (within : n ≤ greatest) (result : Result (Unit {0}) (CloneFromError E)) where
     -- when the limit is what there is no room for
-    pub beyond_room : (refusal : ReallocationError) → result ≡ Err (Reallocation refusal) → (◌≡◌ {A = Result (Unit {0}) ReallocationError} (Err refusal) (Err BeyondMaxCapacity) ↔ ((fitting < n) × (n ≤ greatest) × IsBeyond limit n)) → (result ≡ Err (Reallocation BeyondMaxCapacity)) ↔ ((fitting < last) × IsBeyond limit last)
+    pub beyond_room : (refusal : ReallocationError) → result ≡ Err (Reallocation refusal) → (◌≡◌ {A = Result (Unit {0}) ReallocationError} (Err refusal) (Err BeyondMaxCapacity) ↔ ((capacity < n) × (n ≤ greatest) × IsBeyond limit n)) → (result ≡ Err (Reallocation BeyondMaxCapacity)) ↔ ((capacity < last) × IsBeyond limit last)
     beyond_room refusal is when =
-        subst (λ m. (result ≡ Err (Reallocation BeyondMaxCapacity)) ↔ ((fitting < m) × IsBeyond limit m)) same (beyond_told (Err refusal) result refusal refl is when within)
+        subst (λ m. (result ≡ Err (Reallocation BeyondMaxCapacity)) ↔ ((capacity < m) × IsBeyond limit m)) same (beyond_told (Err refusal) result refusal refl is when within)
 
     -- it is not, where there is room
-    pub not_beyond : (IsRoomRefusal result → ⊥) → (x : Unit {0}) → (◌≡◌ {A = Result (Unit {0}) ReallocationError} (Ok x) (Err BeyondMaxCapacity) ↔ ((fitting < n) × (n ≤ greatest) × IsBeyond limit n)) → (result ≡ Err (Reallocation BeyondMaxCapacity)) ↔ ((fitting < last) × IsBeyond limit last)
+    pub not_beyond : (IsRoomRefusal result → ⊥) → (x : Unit {0}) → (◌≡◌ {A = Result (Unit {0}) ReallocationError} (Ok x) (Err BeyondMaxCapacity) ↔ ((capacity < n) × (n ≤ greatest) × IsBeyond limit n)) → (result ≡ Err (Reallocation BeyondMaxCapacity)) ↔ ((capacity < last) × IsBeyond limit last)
     not_beyond not_refused x when = (
       λ is. absurd (not_refused (subst IsRoomRefusal (sym is) tt)),
       λ h.
-          let above = subst (λ m. (fitting < m) × IsBeyond limit m) (sym same) h in
+          let above = subst (λ m. (capacity < m) × IsBeyond limit m) (sym same) h in
           absurd (ok_not_err x BeyondMaxCapacity (when.1 (above.0, within, above.1))),
     )

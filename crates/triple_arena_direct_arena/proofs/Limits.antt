@@ -1,7 +1,7 @@
 -- How a change of the limit finds and leaves a direct arena.
 use Rattle.std.proofs.Common.{◌≡◌, ℕ, ◌≤◌, ◌↔◌, List, length, Option, Some, max, min, sym, ap, ◌∙◌, arith}
 use Rattle.std.proofs.lemmas.List.{length-take, take_all}
-use Rattle.triple_arena_stack.specs.Capacity.{capacity_of}
+use Rattle.triple_arena_stack.specs.Capacity.{stack_capacity}
 use Rattle.triple_arena_traits.specs.FreeList.{last_index}
 use Rattle.triple_arena_traits.specs.FreeEnd.{shortened}
 use Rattle.triple_arena_traits.specs.laws.FreeListLaws.{trimmed_length}
@@ -30,7 +30,7 @@ module _ {T : Type 0} where
 
   -- and then the old capacity is there again
   pub capacity_set_back : (s t : DirectState T) (x most : ℕ) → s.limit ≡ Some most → t ≡ with_limit (settled s x) x → direct_capacity (with_limit (settled t most) most) ≡ direct_capacity s
-  capacity_set_back s t x most e is = rw is (ap (λ l. min (capacity_of s.room l) s.greatest) (sym e))
+  capacity_set_back s t x most e is = rw is (ap (λ l. min (stack_capacity s.room l) s.greatest) (sym e))
 
   -- the free slots at the end that went stay away, and all else is as it was
   pub set_back : (s t : DirectState T) (x most : ℕ) → SlotsFit s → s.limit ≡ Some most → t ≡ with_limit (settled s x) x → with_limit (settled t most) most ≡ settled s x

@@ -2,7 +2,7 @@
 use Rattle.std.proofs.Common.{◌≡◌, ℕ, ◌≤◌, List, map, length, Option, Some, Result, Ok, Err, IsOk, OnOk, OnErr, None, refl, sym, ap, subst, ◌∙◌, arith}
 use Rattle.std.proofs.lemmas.List.{length-map}
 use Rattle.triple_arena_stack.specs.StackKind.{StackKind, reallocated_room, IsOfKind}
-use Rattle.triple_arena_stack.specs.Capacity.{capacity_of, IsWithin}
+use Rattle.triple_arena_stack.specs.Capacity.{stack_capacity, IsWithin}
 use Rattle.triple_arena_traits.proofs.Growth.{place_made}
 use Rattle.triple_arena_direct_arena.specs.DirectState.{DirectState, slot_count, direct_capacity, with_room_for, with_limit}
 use Rattle.triple_arena_direct_arena.specs.Slot.{slot_entry}
@@ -19,7 +19,7 @@ pub on_err : {A E : Type 0} (r : Result A E) {P Q : Type 0} → (P → Q) → On
 on_err (Ok x) f h = h
 on_err (Err e) f h = f h
 
-capacity_within : (room : ℕ) (limit : Option ℕ) → capacity_of room limit ≤ room
+capacity_within : (room : ℕ) (limit : Option ℕ) → stack_capacity room limit ≤ room
 capacity_within room None = omega arith
 capacity_within room (Some most) = omega arith
 

@@ -2,7 +2,7 @@
 use Rattle.std.specs.Prelude.{◌≤◌, ℕ, nat_lt, cond, List, [], length, Option, Some, None, min}
 use Rattle.triple_arena_ptr.specs.Pointers.{Pointer}
 use Rattle.triple_arena_stack.specs.StackKind.{StackKind, reallocated_room}
-use Rattle.triple_arena_stack.specs.Capacity.{capacity_of}
+use Rattle.triple_arena_stack.specs.Capacity.{stack_capacity}
 use Rattle.triple_arena_traits.specs.Items.{with_item}
 use Rattle.triple_arena_traits.specs.Entries.{entry_count, with_value_in}
 use Rattle.triple_arena_traits.specs.FreeEnd.{shortened, extended}
@@ -37,7 +37,7 @@ module _ {T : Type 0} where
 
   -- how many slots fit without growth: the smallest of room, limit and greatest index
   abbrev pub direct_capacity : DirectState T → ℕ
-  direct_capacity s = min (capacity_of s.room s.limit) s.greatest
+  direct_capacity s = min (stack_capacity s.room s.limit) s.greatest
 
   -- the slots are no more than fit
   abbrev pub SlotsFit : DirectState T → Type 0

@@ -90,7 +90,7 @@ impl<P: Ptr, T, S: NonZeroInxGenericStack<DirectSlot<P, T>>> ArenaTrait<P, T>
     ghost valid = { SlotsFit };
 
     // the smallest of room, limit and greatest index
-    ghost fitting = { direct_capacity };
+    ghost capacity = { direct_capacity };
 
     ghost limit = { λ s. s.limit };
 
@@ -270,7 +270,7 @@ impl<P: Ptr, T, S: NonZeroInxGenericStack<DirectSlot<P, T>>> ArenaTrait<P, T>
 
     ghost limit_fresh = { λ _ _. refl };
 
-    ghost fitting_fresh = { λ _ _. refl };
+    ghost capacity_empty = { λ _ _. refl };
 
     ghost slots_with_value = { λ _ _ _. refl };
 
@@ -278,7 +278,7 @@ impl<P: Ptr, T, S: NonZeroInxGenericStack<DirectSlot<P, T>>> ArenaTrait<P, T>
 
     ghost limit_with_value = { λ _ _ _. refl };
 
-    ghost fitting_with_value = { λ _ _ _. refl };
+    ghost capacity_with_value = { λ _ _ _. refl };
 
     ghost slots_removed = { slots-removed };
 
@@ -286,7 +286,7 @@ impl<P: Ptr, T, S: NonZeroInxGenericStack<DirectSlot<P, T>>> ArenaTrait<P, T>
 
     ghost limit_removed = { λ _ _ _. ap (λ s. s.limit) };
 
-    ghost fitting_removed = { λ _ _ _. ap direct_capacity };
+    ghost capacity_removed = { λ _ _ _. ap direct_capacity };
 
     ghost slots_unchanged = { λ _ _. ap (λ s. s.slots) };
 
@@ -294,7 +294,7 @@ impl<P: Ptr, T, S: NonZeroInxGenericStack<DirectSlot<P, T>>> ArenaTrait<P, T>
 
     ghost limit_unchanged = { λ _ _. ap (λ s. s.limit) };
 
-    ghost fitting_unchanged = { λ _ _. ap direct_capacity };
+    ghost capacity_unchanged = { λ _ _. ap direct_capacity };
 
     ghost generation_unchanged = { λ _ _ _. refl };
 
@@ -318,7 +318,7 @@ impl<P: Ptr, T, S: NonZeroInxGenericStack<DirectSlot<P, T>>> ArenaTrait<P, T>
 
     ghost limit_invalidated = { λ _ _ _. ap (λ s. s.limit) };
 
-    ghost fitting_invalidated = { λ _ _ _. ap direct_capacity };
+    ghost capacity_invalidated = { λ _ _ _. ap direct_capacity };
 
     ghost slots_cleared = { slots-cleared };
 
@@ -326,7 +326,7 @@ impl<P: Ptr, T, S: NonZeroInxGenericStack<DirectSlot<P, T>>> ArenaTrait<P, T>
 
     ghost limit_cleared = { λ _ _. ap (λ s. s.limit) };
 
-    ghost fitting_cleared = { λ _ _. ap direct_capacity };
+    ghost capacity_cleared = { λ _ _. ap direct_capacity };
 
     ghost slots_reallocated = { slots-reallocated S.kind };
 
@@ -340,7 +340,7 @@ impl<P: Ptr, T, S: NonZeroInxGenericStack<DirectSlot<P, T>>> ArenaTrait<P, T>
 
     ghost limit_settled = { λ _ _ _. ap (λ s. s.limit) };
 
-    ghost fitting_settled = { λ _ _ _. ap direct_capacity };
+    ghost capacity_settled = { λ _ _ _. ap direct_capacity };
 }
 
 impl<P: Ptr, T, S: NonZeroInxGenericStack<DirectSlot<P, T>>> ArenaDirectInsertTrait<P, T>
@@ -365,7 +365,7 @@ impl<P: Ptr, T, S: NonZeroInxGenericStack<DirectSlot<P, T>>> ArenaDirectInsertTr
 
     ghost limit_inserted_at = { λ _ _ _. refl };
 
-    ghost fitting_inserted_at = { λ _ _ _. refl };
+    ghost capacity_inserted_at = { λ _ _ _. refl };
 }
 
 impl<P: Ptr, T, S: NonZeroInxGenericStack<DirectSlot<P, T>>> DisjointableArenaTrait<P, T>

@@ -6,7 +6,7 @@ ghost use Rattle.std.specs.Int.NonZero.{non_zero_usize_get};
 ghost use Rattle.std.specs.Option.{option_map};
 ghost use Rattle.triple_arena_ptr.specs.Numbers.{greatest_index};
 ghost use Rattle.triple_arena_traits.specs.Items.{with_item};
-ghost use Rattle.triple_arena_stack.specs.Capacity.{capacity_of};
+ghost use Rattle.triple_arena_stack.specs.Capacity.{stack_capacity};
 ghost use Rattle.triple_arena_traits.specs.Entries.{entry_count};
 ghost use Rattle.triple_arena_traits.specs.FreeList.{last_index};
 ghost use Rattle.triple_arena_traits.specs.Walks.{entries};
@@ -73,7 +73,7 @@ impl<P: Ptr, T, S: NonZeroInxGenericStack<DirectSlot<P, T>>> Slots<P, T, S> {
     // Puts an entry at an index where none stands; the slots that are missing below it are free.
     pub(crate) fn occupy(&mut self, inx: NonZeroUsize, generation: P::Gen, value: T)
         requires within { non_zero_usize_get inx
-            ≤ capacity_of (S.room self.old.stack) (S.limit self.old.stack) }
+            ≤ stack_capacity (S.room self.old.stack) (S.limit self.old.stack) }
         requires free { entry_at P.Gen.number (S.items self.old.stack)
             (non_zero_usize_get inx) ≡ None }
         ensures slots { map (slot_entry P.Gen.number) (S.items self.new.stack) ≡ with_item
@@ -118,7 +118,7 @@ impl<P: Ptr, T, S: NonZeroInxGenericStack<DirectSlot<P, T>>> Slots<P, T, S> {
         T: Drop,
         requires callable { M.IsAlwaysCallable f }
         requires fits { last_index (A.slots source.now)
-            ≤ capacity_of (S.room self.old.stack) (S.limit self.old.stack) }
+            ≤ stack_capacity (S.room self.old.stack) (S.limit self.old.stack) }
         ensures copied { Copies P.numbers M.step f (entries (A.slots source.now)) result.1
             (map (slot_entry P.Gen.number) (S.items self.new.stack)) }
         ensures ends { length (S.items self.new.stack) ≤ last_index (A.slots source.now) }
@@ -148,7 +148,7 @@ impl<P: Ptr, T, S: NonZeroInxGenericStack<DirectSlot<P, T>>> Slots<P, T, S> {
         T: Drop,
         requires callable { M.IsAlwaysCallable f }
         requires fits { entry_count (A.slots source.old)
-            ≤ capacity_of (S.room self.old.stack) (S.limit self.old.stack) }
+            ≤ stack_capacity (S.room self.old.stack) (S.limit self.old.stack) }
         requires indexed { entry_count (A.slots source.old) ≤ greatest_index P.Inx.greatest }
         ensures transferred { Transfers Q.numbers P.numbers M.step A.slots A.fits A.removes
             A.ending_wraps Q.Gen.counting (P.Gen.number generation) f source.old source.new

@@ -11,7 +11,7 @@ use Rattle.triple_arena_ptr.specs.Numbers.{raise, wraps, first_generation}
 use Rattle.triple_arena_ptr.specs.Pointers.{Pointer}
 use Rattle.triple_arena_stack.specs.StackKind.{StackKind, IsOfKind, reallocated_room}
 use Rattle.triple_arena_stack.specs.StackKind.StackKind.{heap, limited, fixed, array}
-use Rattle.triple_arena_stack.specs.Capacity.{capacity_of, next_capacity}
+use Rattle.triple_arena_stack.specs.Capacity.{stack_capacity, next_capacity}
 use Rattle.triple_arena_traits.specs.Items.{item}
 use Rattle.triple_arena_traits.specs.ArenaState.{ArenaState, entry, look_up, arena_len, capacity, slot_count, with_value, IsWellFormed}
 use Rattle.triple_arena_traits.specs.Insertion.{next_pointer, inserted}
@@ -41,7 +41,7 @@ use Rattle.triple_arena_session.specs.Shown.{IsArenaOver}
 use Rattle.triple_arena_session.proofs.Rows.{entry_found}
 
 -- an arena of a fixed room is at its limit or has all its indexes
-fixed_full : (room : ℕ) (limit : Option ℕ) (greatest : ℕ) → limit ≡ Some room → is_at_limit limit (min (capacity_of room limit) greatest) ≡ false → min (capacity_of room limit) greatest ≢ greatest → ⊥
+fixed_full : (room : ℕ) (limit : Option ℕ) (greatest : ℕ) → limit ≡ Some room → is_at_limit limit (min (stack_capacity room limit) greatest) ≡ false → min (stack_capacity room limit) greatest ≢ greatest → ⊥
 fixed_full room None greatest is below past = absurd (cc)
 fixed_full room (Some most) greatest is below past =
     let same : most ≡ room = same_Some most room is in
@@ -49,10 +49,10 @@ fixed_full room (Some most) greatest is below past =
     omega (arith, same, under, past)
 
 -- a full arena that can take one more entry grows past its capacity, and to just the next capacity
-grows : (kind : StackKind) (room n w : ℕ) (limit : Option ℕ) (greatest : ℕ) → IsOfKind kind room limit → n ≤ min (capacity_of room limit) greatest
-    → is_at_limit limit (min (capacity_of room limit) greatest) ≡ false → min (capacity_of room limit) greatest ≢ greatest → min (capacity_of room limit) greatest < w
-    → (min (capacity_of (reallocated_room kind room n (min (capacity_of w limit) greatest)) limit) greatest ≡ min (capacity_of w limit) greatest)
-    × (min (capacity_of room limit) greatest < min (capacity_of w limit) greatest)
+grows : (kind : StackKind) (room n w : ℕ) (limit : Option ℕ) (greatest : ℕ) → IsOfKind kind room limit → n ≤ min (stack_capacity room limit) greatest
+    → is_at_limit limit (min (stack_capacity room limit) greatest) ≡ false → min (stack_capacity room limit) greatest ≢ greatest → min (stack_capacity room limit) greatest < w
+    → (min (stack_capacity (reallocated_room kind room n (min (stack_capacity w limit) greatest)) limit) greatest ≡ min (stack_capacity w limit) greatest)
+    × (min (stack_capacity room limit) greatest < min (stack_capacity w limit) greatest)
 grows heap room n w None greatest is fits below past more = (omega arith, omega arith)
 grows heap room n w (Some most) greatest is fits below past more = absurd (cc)
 grows limited room n w None greatest is fits below past more = absurd (let no = is.1 in cc)

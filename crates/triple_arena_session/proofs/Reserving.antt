@@ -7,7 +7,7 @@ use Rattle.std.specs.Option.{option_and_then}
 use Rattle.triple_arena_ptr.specs.Pointers.{Pointer}
 use Rattle.triple_arena_stack.specs.StackKind.{StackKind, IsOfKind, reallocated_room}
 use Rattle.triple_arena_stack.specs.StackKind.StackKind.{heap, limited, fixed, array}
-use Rattle.triple_arena_stack.specs.Capacity.{capacity_of, IsWithin, IsBeyond}
+use Rattle.triple_arena_stack.specs.Capacity.{stack_capacity, IsWithin, IsBeyond}
 use Rattle.triple_arena_traits.specs.Entries.{value_under, KeepsEntries}
 use Rattle.triple_arena_traits.specs.ArenaState.{ArenaState, arena_len, capacity, slot_count}
 use Rattle.triple_arena_traits.specs.FreeList.{tidied}
@@ -29,7 +29,7 @@ use Rattle.triple_arena_session.proofs.Soundness.{SoundOver, TableSound, TableSo
 use Rattle.triple_arena_session.proofs.Continuing.{over_tidied, over_reallocated}
 
 -- a reallocation within the limit makes room for what was asked
-enough : (kind : StackKind) (room n m : ℕ) (limit : Option ℕ) (greatest : ℕ) → IsOfKind kind room limit → m ≤ greatest → IsWithin limit m → m ≤ min (capacity_of (reallocated_room kind room n m) limit) greatest
+enough : (kind : StackKind) (room n m : ℕ) (limit : Option ℕ) (greatest : ℕ) → IsOfKind kind room limit → m ≤ greatest → IsWithin limit m → m ≤ min (stack_capacity (reallocated_room kind room n m) limit) greatest
 enough heap room n m None greatest is below within = omega arith
 enough heap room n m (Some most) greatest is below within = omega arith
 enough limited room n m None greatest is below within = omega arith
@@ -39,7 +39,7 @@ enough fixed room n m (Some most) greatest is below within = let same : most ≡
 enough (array places) room n m None greatest is below within = absurd (let no = is.1 in cc)
 enough (array places) room n m (Some most) greatest is below within = let same : most ≡ places = same_Some most places is.1 in omega (arith, same, within, is.0)
 
-cut_within : (room : ℕ) (limit : Option ℕ) (greatest : ℕ) → IsWithin limit (min (capacity_of room limit) greatest)
+cut_within : (room : ℕ) (limit : Option ℕ) (greatest : ℕ) → IsWithin limit (min (stack_capacity room limit) greatest)
 cut_within room None greatest = tt
 cut_within room (Some most) greatest = omega arith
 

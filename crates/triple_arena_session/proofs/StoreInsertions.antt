@@ -13,7 +13,7 @@ use Rattle.triple_arena_traits.specs.Entries.{value_under, ChangesAt}
 use Rattle.triple_arena_traits.specs.ArenaState.{ArenaState, entry, look_up, arena_len, capacity, slot_count, IsWellFormed}
 use Rattle.triple_arena_traits.specs.Insertion.{place, next_pointer, inserted}
 use Rattle.triple_arena_traits.specs.Capacity.{grown, with_room_for}
-use Rattle.triple_arena_traits.specs.laws.EntryLaws.{slots-inserted, fitting-inserted, limit-inserted}
+use Rattle.triple_arena_traits.specs.laws.EntryLaws.{slots-inserted, capacity-inserted, limit-inserted}
 use Rattle.triple_arena_traits.specs.Histories.{has, insertion}
 use Rattle.triple_arena_traits.specs.laws.WellFormedLaws.{kept-inserted, place_free, len_within}
 use Rattle.triple_arena_commands.specs.declared.command.Command.TheVariants.{Insert, InsertWithin}
@@ -83,7 +83,7 @@ module _ {X : Type 0} (kind : StackKind) (s : SessionState X) (sound : SoundOver
             ∙ ap (λ rows. rows ++ row_of t (s.table ++ new ∷ []) new ∷ []) (map_same (row_of s.arena s.table) (row_of t (s.table ++ new ∷ [])) s.table old)
             ∙ ap (λ r. map (row_of s.arena s.table) s.table ++ r ∷ [])
             (row_last s t new node stored (value_hit (entry t (place a)) a.counter node changes.there) ∙ ap (λ name. Some (datum, name)) (link_name-given s.table link l sound.table.distinct good)))
-            (fitting-inserted a node) (limit-inserted a node) all_kept.3,
+            (capacity-inserted a node) (limit-inserted a node) all_kept.3,
         SoundOver-from kind (after room)
             (TableSound-given kind s sound (insertion new) t inserts.1)
             (λ q x d holds. has_longer s.table (new ∷ []) x (elim (found_before a t (place a) (Some (a.counter, node)) q (d, Some x) changes holds) [

@@ -11,7 +11,7 @@ use Rattle.triple_arena_traits.specs.Items.{item, with_item}
 use Rattle.triple_arena_traits.specs.Entries.{value_under, ChangesAt}
 use Rattle.triple_arena_traits.specs.ArenaState.{ArenaState, entry, look_up, arena_len, capacity, with_value}
 use Rattle.triple_arena_traits.specs.Ending.{removed, invalidated, cleared}
-use Rattle.triple_arena_traits.specs.laws.EntryLaws.{slots-removed, slots-invalidated, slots-cleared, changes_at, fitting-removed}
+use Rattle.triple_arena_traits.specs.laws.EntryLaws.{slots-removed, slots-invalidated, slots-cleared, changes_at, capacity-removed}
 use Rattle.triple_arena_traits.specs.Walks.{keys}
 use Rattle.triple_arena_traits.specs.Histories.{has, removal, invalidation, clearing}
 use Rattle.triple_arena_traits.specs.laws.ItemLaws.{length-with_item, item-map}
@@ -200,7 +200,7 @@ module _ {X : Type 0} (kind : StackKind) (counting : Bool) (greatest : ℕ) (cou
           let continues = Continues-removed counting greatest s.arena t p (counts, quiet) (ap is_some found) refl in (
             Store-is _ _ _ _ _ _ _ _
                 (rows_changed kind s t s.table name p node None None sound (λ l h. refl) at found changes (λ q h other. refl) (ap (option_map (as_row s.table)) (ap (option_and_then (value_under p.1)) changes.there)))
-                (fitting-removed raised s.arena p.0 t refl) (limit-removed raised s.arena p.0) (greatest-removed raised s.arena p.0),
+                (capacity-removed raised s.arena p.0 t refl) (limit-removed raised s.arena p.0) (greatest-removed raised s.arena p.0),
             SoundOver-from kind (record s { arena = t })
                 (subst (TableSound t) (append-nil s.table) (TableSound-given kind s sound (removal p) t continues))
                 (λ q l datum holds. elim (found_before s.arena t p.0 None q (datum, Some l) changes holds) [ inl no_more ↦ absurd (cc) | inr before ↦ sound.table.has_links q l datum before ])

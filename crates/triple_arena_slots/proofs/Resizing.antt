@@ -2,7 +2,7 @@
 use Rattle.std.proofs.Common.{◌≡◌, ℕ, ◌+◌, ◌<◌, ◌≤◌, ◌∷◌, [], List, length, map, Option, Some, None, Result, Ok, Err, IsOk, OnOk, OnErr, min, refl, sym, ap, subst, ◌∙◌, arith}
 use Rattle.std.proofs.lemmas.List.{length-map}
 use Rattle.triple_arena_stack.specs.StackKind.{StackKind, reallocated_room}
-use Rattle.triple_arena_stack.specs.Capacity.{capacity_of, IsAtLimit, IsWithin}
+use Rattle.triple_arena_stack.specs.Capacity.{stack_capacity, IsAtLimit, IsWithin}
 use Rattle.triple_arena_slots.specs.declared.slot.ArenaSlot.{ArenaSlot}
 use Rattle.triple_arena_slots.specs.Slot.{entry_of}
 use Rattle.triple_arena_slots.specs.Layout.{state_of, Shows}
@@ -13,7 +13,7 @@ use Rattle.triple_arena_traits.specs.laws.EntryLaws.{within_room, slots-realloca
 use Rattle.triple_arena_traits.specs.Histories.{resizing, Fits, Continues}
 use Rattle.triple_arena_traits.specs.laws.HistoryLaws.{Continues-resized, Continues-tidied}
 
-limit_fits : (n room x greatest : ℕ) (limit : Option ℕ) → n ≤ min (capacity_of room limit) greatest → n ≤ x → n ≤ min (capacity_of room (Some x)) greatest
+limit_fits : (n room x greatest : ℕ) (limit : Option ℕ) → n ≤ min (stack_capacity room limit) greatest → n ≤ x → n ≤ min (stack_capacity room (Some x)) greatest
 limit_fits n room x greatest None fits below = omega arith
 limit_fits n room x greatest (Some most) fits below = omega arith
 
@@ -31,7 +31,7 @@ placed (Ok x) m n greatest place = λ indexed. omega arith
 placed (Err e) m n greatest place = place
 
 module _ {T : Type 0} where
-  pub below_room : (s : ArenaState T) → arena_len s < capacity s → arena_len s < capacity_of s.room s.limit
+  pub below_room : (s : ArenaState T) → arena_len s < capacity s → arena_len s < stack_capacity s.room s.limit
   below_room s below = omega arith
 
   pub Continues-reallocated : {A E : Type 0} (kind : StackKind) (r : Result A E) (s t : ArenaState T) (m : ℕ) → OnOk r (t ≡ reallocated kind s m) → OnErr r (t ≡ tidied s) → Continues Fits s (resizing ∷ []) t
@@ -46,7 +46,7 @@ module _ {P T I G : Type 0} (number : G → ℕ) where
       subst (λ (a : ArenaState T). Q a.room a.limit (slot_count a)) is (subst (Q room limit) (sym (length-map es (entry_of number))) h)
 
   -- with another room or limit the slots are shown as before, if they fit
-  shows_again : (es : List (ArenaSlot P T I G)) (root : Option ℕ) (len counter room room' : ℕ) (limit limit' : Option ℕ) (greatest steps : ℕ) → Shows number es root len (state_of number es root counter room limit greatest steps) → length (map (entry_of number) es) ≤ min (capacity_of room' limit') greatest → Shows number es root len (state_of number es root counter room' limit' greatest steps)
+  shows_again : (es : List (ArenaSlot P T I G)) (root : Option ℕ) (len counter room room' : ℕ) (limit limit' : Option ℕ) (greatest steps : ℕ) → Shows number es root len (state_of number es root counter room limit greatest steps) → length (map (entry_of number) es) ≤ min (stack_capacity room' limit') greatest → Shows number es root len (state_of number es root counter room' limit' greatest steps)
   shows_again es root len counter room room' limit limit' greatest steps own fits =
       record {
         slots = own.slots;
@@ -58,7 +58,7 @@ module _ {P T I G : Type 0} (number : G → ℕ) where
   pub room_changed : {A E : Type 0} (r : Result A E) (kind : StackKind) (es es' : List (ArenaSlot P T I G)) (root root' : Option ℕ) (len counter room room' : ℕ) (limit limit' : Option ℕ) (greatest steps steps' m : ℕ) (s : ArenaState T) → Shows number es root len (state_of number es root counter room limit greatest steps) → state_of number es root counter room limit greatest steps ≡ s → es' ≡ es → root' ≡ root → limit' ≡ limit → OnOk r (room' ≡ reallocated_room kind room (length es) m) → OnErr r (room' ≡ room) → steps' ≡ steps → Shows number es' root' len (state_of number es' root' counter room' limit' greatest steps') × OnOk r (state_of number es' root' counter room' limit' greatest steps' ≡ with_room_for kind s m) × OnErr r (state_of number es' root' counter room' limit' greatest steps' ≡ s)
   room_changed (Ok x) kind es es' root root' len counter room room' limit limit' greatest steps steps' m s own is same from most made kept n =
       let count = length-map es (entry_of number) in
-      let fits = subst (λ n. length (map (entry_of number) es) ≤ min (capacity_of (reallocated_room kind room n m) limit) greatest) count (within_room kind room (length (map (entry_of number) es)) m greatest limit own.well.fits) in
+      let fits = subst (λ n. length (map (entry_of number) es) ≤ min (stack_capacity (reallocated_room kind room n m) limit) greatest) count (within_room kind room (length (map (entry_of number) es)) m greatest limit own.well.fits) in
       rw (same, from, most, made, n) (
         shows_again es root len counter room (reallocated_room kind room (length es) m) limit limit greatest steps own fits,
         ap (λ k. state_of number es root counter (reallocated_room kind room k m) limit greatest steps) (sym count) ∙ ap (λ (a : ArenaState T). with_room_for kind a m) is,
@@ -78,5 +78,5 @@ module _ {P T I G : Type 0} (number : G → ℕ) where
   limit_changed (Err e) es es' root root' len counter room room' limit limit' greatest steps steps' x s own is same from place within made kept n = rw (same, from, place, kept, n) (own, tt, is)
 
 -- what there is place for, where neither room nor limit changed
-pub room_kept : (n room new_room : ℕ) (limit new_limit : Option ℕ) → new_room ≡ room → new_limit ≡ limit → n ≤ capacity_of room limit → n ≤ capacity_of new_room new_limit
+pub room_kept : (n room new_room : ℕ) (limit new_limit : Option ℕ) → new_room ≡ room → new_limit ≡ limit → n ≤ stack_capacity room limit → n ≤ stack_capacity new_room new_limit
 room_kept n room new_room limit new_limit same_room same_limit fits = rw (same_room, same_limit) fits

@@ -4,7 +4,7 @@ ghost use Rattle.std.specs.Prelude.{◌≡◌, ◌≢◌, ◌<◌, ◌≤◌, �
 ghost use Rattle.std.specs.Int.NonZero.{non_zero_usize_get};
 ghost use Rattle.std.specs.Option.{option_map};
 ghost use Rattle.triple_arena_ptr.specs.Numbers.{greatest_index};
-ghost use Rattle.triple_arena_stack.specs.Capacity.{capacity_of};
+ghost use Rattle.triple_arena_stack.specs.Capacity.{stack_capacity};
 ghost use Rattle.triple_arena_traits.specs.Items.{item};
 ghost use Rattle.triple_arena_traits.specs.ArenaState.{ArenaState, arena_len, capacity};
 ghost use Rattle.triple_arena_traits.specs.Insertion.{place, inserted};
@@ -85,7 +85,7 @@ impl<P: Ptr, T, S: NonZeroInxGenericStack<ArenaSlot<P, T>>> Slots<P, T, S> {
         requires shown { (s : ArenaState T) × (len : ℕ)
             × Shows P.Gen.number (S.items self.old.stack)
             (option_map non_zero_usize_get self.old.root) len s
-            × (arena_len s < capacity_of (S.room self.old.stack) (S.limit self.old.stack)) }
+            × (arena_len s < stack_capacity (S.room self.old.stack) (S.limit self.old.stack)) }
         ensures shows { (s : ArenaState T) (len : ℕ)
             → Shows P.Gen.number (S.items self.old.stack)
             (option_map non_zero_usize_get self.old.root) len s
@@ -189,7 +189,7 @@ impl<P: Ptr, T, S: NonZeroInxGenericStack<ArenaSlot<P, T>>> Slots<P, T, S> {
         requires callable { M.IsAlwaysCallable f }
         requires indexed { last_index (A.slots source.now) ≤ greatest_index P.Inx.greatest }
         requires fits { last_index (A.slots source.now)
-            ≤ capacity_of (S.room self.old.stack) (S.limit self.old.stack) }
+            ≤ stack_capacity (S.room self.old.stack) (S.limit self.old.stack) }
         ensures copied { Copies P.numbers M.step f (entries (A.slots source.now)) result.1
             (map (entry_of P.Gen.number) (S.items self.new.stack)) }
         ensures ends { length (S.items self.new.stack) ≤ last_index (A.slots source.now) }

@@ -6,7 +6,7 @@ ghost use Rattle.std.specs.Int.NonZero.{non_zero_usize_get};
 ghost use Rattle.std.specs.Option.{option_map};
 ghost use Rattle.triple_arena_ptr.specs.Numbers.{greatest_index};
 ghost use Rattle.triple_arena_stack.specs.StackKind.{reallocated_room, IsOfKind};
-ghost use Rattle.triple_arena_stack.specs.Capacity.{capacity_of, IsWithin, IsBeyond};
+ghost use Rattle.triple_arena_stack.specs.Capacity.{stack_capacity, IsWithin, IsBeyond};
 ghost use Rattle.triple_arena_traits.specs.Items.{item, with_item};
 ghost use Rattle.triple_arena_traits.specs.ArenaState.{ArenaState, is_free};
 ghost use Rattle.triple_arena_traits.specs.Entries.{with_generation_in, entry_count, look_up_in};
@@ -159,7 +159,7 @@ impl<P: Ptr, T, S: NonZeroInxGenericStack<ArenaSlot<P, T>>> Slots<P, T, S> {
 
     /// How many slots there may be without growth, the indexes aside.
     pub fn capacity(&self) -> usize
-        ensures value { result ≡ capacity_of (S.room self.now.stack) (S.limit self.now.stack) }
+        ensures value { result ≡ stack_capacity (S.room self.now.stack) (S.limit self.now.stack) }
         ensures within { length (S.items self.now.stack) ≤ result }
     {
         self.stack.capacity()
@@ -194,7 +194,7 @@ impl<P: Ptr, T, S: NonZeroInxGenericStack<ArenaSlot<P, T>>> Slots<P, T, S> {
             (S.room self.old.stack) (length (S.items self.old.stack)) min_capacity)
             → IsOk result }
         ensures place { OnOk result
-            (min_capacity ≤ capacity_of (S.room self.new.stack) (S.limit self.new.stack)) }
+            (min_capacity ≤ stack_capacity (S.room self.new.stack) (S.limit self.new.stack)) }
         ensures steps { self.new.steps.count ≡ self.old.steps.count }
     {
         // By its clause, room and limit are those of the stack's kind.
@@ -248,7 +248,7 @@ impl<P: Ptr, T, S: NonZeroInxGenericStack<ArenaSlot<P, T>>> Slots<P, T, S> {
         T: Drop,
         requires callable { M.IsAlwaysCallable f }
         requires fits { last_index (A.slots source.now)
-            ≤ capacity_of (S.room self.old.stack) (S.limit self.old.stack) }
+            ≤ stack_capacity (S.room self.old.stack) (S.limit self.old.stack) }
         ensures copied { Copies P.numbers M.step f (entries (A.slots source.now)) result
             (map (entry_of P.Gen.number) (S.items self.new.stack)) }
         ensures ends { length (S.items self.new.stack) ≤ last_index (A.slots source.now) }
@@ -272,7 +272,7 @@ impl<P: Ptr, T, S: NonZeroInxGenericStack<ArenaSlot<P, T>>> Slots<P, T, S> {
         T: Drop,
         requires callable { M.IsAlwaysCallable f }
         requires fits { entry_count (A.slots source.old)
-            ≤ capacity_of (S.room self.old.stack) (S.limit self.old.stack) }
+            ≤ stack_capacity (S.room self.old.stack) (S.limit self.old.stack) }
         requires indexed { entry_count (A.slots source.old) ≤ greatest_index P.Inx.greatest }
         ensures transferred { Transfers Q.numbers P.numbers M.step A.slots A.fits A.removes
             A.ending_wraps Q.Gen.counting (P.Gen.number generation) f source.old source.new
@@ -360,7 +360,7 @@ impl<P: Ptr, T, S: NonZeroInxGenericStack<ArenaSlot<P, T>>> Slots<P, T, S> {
     // Pushes a slot.
     pub(crate) fn push(&mut self, slot: ArenaSlot<P, T>)
         requires { length (S.items self.old.stack)
-            < capacity_of (S.room self.old.stack) (S.limit self.old.stack) }
+            < stack_capacity (S.room self.old.stack) (S.limit self.old.stack) }
         ensures stack { self.new.stack ≡ S.with_items self.old.stack
             (S.items self.old.stack ++ slot ∷ []) }
         ensures root { self.new.root ≡ self.old.root }

@@ -1,6 +1,6 @@
 //! How a full stack grows.
 ghost use Rattle.std.specs.Prelude.{◌≡◌, ◌↔◌, ◌<◌, ◌^◌, length, IsOk, OnOk, OnErr};
-ghost use Rattle.triple_arena_stack.specs.Capacity.{capacity_of, most_places, next_capacity, room_for_one_more, HasPlace, IsFullAtLimit, CanGrow};
+ghost use Rattle.triple_arena_stack.specs.Capacity.{stack_capacity, most_places, next_capacity, room_for_one_more, HasPlace, IsFullAtLimit, CanGrow};
 
 use crate::stack::NonZeroInxGenericStack;
 use triple_arena_base::ReallocationError;
@@ -20,9 +20,9 @@ pub fn grow_if_full<T, S: NonZeroInxGenericStack<T>>(stack: &mut S) -> Result<()
     ensures had_place { HasPlace (S.room stack.old) (S.limit stack.old) (length (S.items stack.old))
         → IsOk result × (stack.new ≡ stack.old) }
     ensures beyond { (result ≡ Err ReallocationError.BeyondMaxCapacity)
-        ↔ IsFullAtLimit (capacity_of (S.room stack.old) (S.limit stack.old))
+        ↔ IsFullAtLimit (stack_capacity (S.room stack.old) (S.limit stack.old))
         (S.limit stack.old) (length (S.items stack.old)) }
-    ensures given { CanGrow S.has_memory (capacity_of (S.room stack.old) (S.limit stack.old))
+    ensures given { CanGrow S.has_memory (stack_capacity (S.room stack.old) (S.limit stack.old))
         (S.limit stack.old) most_places → IsOk result }
 {
     let capacity = stack.capacity();

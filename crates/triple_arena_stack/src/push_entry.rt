@@ -2,7 +2,7 @@
 ghost use Rattle.std.specs.Prelude.{◌≡◌, ◌+◌, ◌↔◌, length, ℕ, IsTrue, IsOk, IfOk, IsOkAnd, Err};
 ghost use Rattle.std.specs.Borrow.{sem};
 ghost use Rattle.std.specs.Int.NonZero.{non_zero_usize_get};
-ghost use Rattle.triple_arena_stack.specs.Capacity.{capacity_of, most_places, room_for_one_more, HasPlace, IsFullAtLimit, CanGrow};
+ghost use Rattle.triple_arena_stack.specs.Capacity.{stack_capacity, most_places, room_for_one_more, HasPlace, IsFullAtLimit, CanGrow};
 ghost use Rattle.triple_arena_stack.specs.PushEntry.{entry_stack, entry_lender, entry_rests, entry_lends};
 
 use crate::growth::grow_if_full;
@@ -82,9 +82,9 @@ impl<T, K: NonZeroInxGenericStack<T>> NonZeroInxStack<T, K> {
             (K.room self.old) (K.limit self.old) (length (K.items self.old))
             → IsOkAnd result (λ entry. entry_stack entry ≡ self.old) }
         ensures beyond { (result ≡ Err ReallocationError.BeyondMaxCapacity)
-            ↔ IsFullAtLimit (capacity_of (K.room self.old) (K.limit self.old))
+            ↔ IsFullAtLimit (stack_capacity (K.room self.old) (K.limit self.old))
             (K.limit self.old) (length (K.items self.old)) }
-        ensures given { CanGrow K.has_memory (capacity_of (K.room self.old) (K.limit self.old))
+        ensures given { CanGrow K.has_memory (stack_capacity (K.room self.old) (K.limit self.old))
             (K.limit self.old) most_places → IsOk result }
         ensures same_reference { IfOk result (λ entry. entry_lender entry ≡ self.entry.ghost_name) }
         ensures* refused { sem 𝓛 (entry_rests T.row K.row self.entry result) }
@@ -106,9 +106,9 @@ impl<T, K: NonZeroInxGenericStack<T>> NonZeroInxStack<T, K> {
             (K.room self.old) (K.limit self.old) (length (K.items self.old))
             → IsOkAnd result (λ entry. entry_stack entry ≡ self.old) }
         ensures beyond { (result ≡ Err ReallocationError.BeyondMaxCapacity)
-            ↔ IsFullAtLimit (capacity_of (K.room self.old) (K.limit self.old))
+            ↔ IsFullAtLimit (stack_capacity (K.room self.old) (K.limit self.old))
             (K.limit self.old) (length (K.items self.old)) }
-        ensures given { CanGrow K.has_memory (capacity_of (K.room self.old) (K.limit self.old))
+        ensures given { CanGrow K.has_memory (stack_capacity (K.room self.old) (K.limit self.old))
             (K.limit self.old) most_places → IsOk result }
         ensures same_reference { IfOk result (λ entry. entry_lender entry ≡ self.entry.ghost_name) }
         ensures* refused { sem 𝓛 (entry_rests T.row K.row self.entry result) }

@@ -5,7 +5,7 @@ ghost use Rattle.std.specs.Int.NonZero.{non_zero_usize_get};
 ghost use Rattle.std.specs.List.{refill};
 ghost use Rattle.std.specs.Option.{option_copied, option_copied_mut};
 ghost use Rattle.triple_arena_stack.specs.StackKind.{StackKind, new_room, new_limit, made_room, made_limit, CanHold, TakesNoMemory, reallocated_room, IsOfKind};
-ghost use Rattle.triple_arena_stack.specs.Capacity.{capacity_of, most_places, room_for_one_more, HasPlace, IsWithin, IsBeyond, IsFullAtLimit, CanGrow};
+ghost use Rattle.triple_arena_stack.specs.Capacity.{stack_capacity, most_places, room_for_one_more, HasPlace, IsWithin, IsBeyond, IsFullAtLimit, CanGrow};
 ghost use Rattle.triple_arena_stack.specs.Disjoint.{DisjointAnswer, set_both, MayWork, Worked};
 
 use crate::growth::grow_if_full;
@@ -185,7 +185,7 @@ pub trait NonZeroInxGenericStack<T> {
 
     /// How many items fit: the smaller of room and limit.
     fn capacity(&self) -> usize
-        ensures value { result ≡ capacity_of (room self.now) (limit self.now) }
+        ensures value { result ≡ stack_capacity (room self.now) (limit self.now) }
         ensures within { length (items self.now) ≤ result };
 
     /// The limit, if there is one.
@@ -335,14 +335,14 @@ pub trait NonZeroInxGenericStack<T> {
             ≡ room_for_one_more (room self.old) (limit self.old) (length (items self.old))) }
         ensures limit { limit self.new ≡ limit self.old }
         ensures fits { OnOk result
-            (length (items self.new) ≤ capacity_of (room self.new) (limit self.new)) }
+            (length (items self.new) ≤ stack_capacity (room self.new) (limit self.new)) }
         ensures refused { OnErr result (self.new ≡ self.old) }
         ensures had_place { HasPlace (room self.old) (limit self.old) (length (items self.old))
             → IsOk result × (self.new ≡ with_items self.old (items self.old ++ t ∷ [])) }
         ensures beyond { (result ≡ Err ReallocationError.BeyondMaxCapacity)
-            ↔ IsFullAtLimit (capacity_of (room self.old) (limit self.old))
+            ↔ IsFullAtLimit (stack_capacity (room self.old) (limit self.old))
             (limit self.old) (length (items self.old)) }
-        ensures given { CanGrow has_memory (capacity_of (room self.old) (limit self.old))
+        ensures given { CanGrow has_memory (stack_capacity (room self.old) (limit self.old))
             (limit self.old) most_places → IsOk result }
     {
         grow_if_full(self)?;
@@ -360,14 +360,14 @@ pub trait NonZeroInxGenericStack<T> {
             ≡ room_for_one_more (room self.old) (limit self.old) (length (items self.old))) }
         ensures limit { limit self.new ≡ limit self.old }
         ensures fits { OnOk result
-            (length (items self.new) ≤ capacity_of (room self.new) (limit self.new)) }
+            (length (items self.new) ≤ stack_capacity (room self.new) (limit self.new)) }
         ensures refused { OnErr result (self.new ≡ self.old) }
         ensures had_place { HasPlace (room self.old) (limit self.old) (length (items self.old))
             → IsOk result × (self.new ≡ with_items self.old (items self.old ++ t ∷ [])) }
         ensures beyond { (result ≡ Err ReallocationError.BeyondMaxCapacity)
-            ↔ IsFullAtLimit (capacity_of (room self.old) (limit self.old))
+            ↔ IsFullAtLimit (stack_capacity (room self.old) (limit self.old))
             (limit self.old) (length (items self.old)) }
-        ensures given { CanGrow has_memory (capacity_of (room self.old) (limit self.old))
+        ensures given { CanGrow has_memory (stack_capacity (room self.old) (limit self.old))
             (limit self.old) most_places → IsOk result }
     {
         self.push_reallocating(t)

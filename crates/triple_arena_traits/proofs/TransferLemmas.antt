@@ -40,7 +40,7 @@ module _ {Q U P T A M : Type 0} (source : Q → Pointer) (target : P → Pointer
   abbrev pub Turn : M × A → Transfer Q U P T → M × A → Type 0
   Turn = TransferTurn source target step slots fits removes wraps counting
 
-  -- one removal is made, and each fitting history goes on with it
+  -- one removal is made, and each history that fits goes on with it
   abbrev Taken : A → Q → A → Type 0
   Taken now q new = TakesOut fits removes wraps counting now (source q) new
 

@@ -2,7 +2,7 @@
 use Rattle.std.specs.Prelude.{◌≡◌, ℕ, ◌+◌, ◌≤◌, ◌==◌, Bool, true, false, cond, List, [], length, map, count_by, Option, Some, None, min}
 use Rattle.std.specs.Option.{option_map}
 use Rattle.triple_arena_ptr.specs.Pointers.{Pointer}
-use Rattle.triple_arena_stack.specs.Capacity.{capacity_of}
+use Rattle.triple_arena_stack.specs.Capacity.{stack_capacity}
 use Rattle.triple_arena_traits.specs.Items.{item}
 use Rattle.triple_arena_traits.specs.Entries.{entry_in, look_up_in, entry_count, with_value_in}
 
@@ -34,7 +34,7 @@ module _ {T : Type 0} where
 
   -- how many entries fit without growth: the smallest of room, limit and greatest index
   abbrev pub capacity : ArenaState T → ℕ
-  capacity s = min (capacity_of s.room s.limit) s.greatest
+  capacity s = min (stack_capacity s.room s.limit) s.greatest
 
   -- the entry at an index, if there is one
   abbrev pub entry : ArenaState T → ℕ → Option (ℕ × T)

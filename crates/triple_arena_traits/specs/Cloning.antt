@@ -50,7 +50,7 @@ module _ {T : Type 0} (infallible : T → Type 0) where
     pub ends_live : is_free (item slots (length slots)) ≡ false
     pub ends : MatchResult answer (λ _. rest ≡ []) (λ _. FirstMayFail rest)
 
-module _ {T U A B : Type 0} (slots : A → List (Option (ℕ × T))) (fitting : A → ℕ) (slots_of : B → List (Option (ℕ × U))) (fitting_of : B → ℕ)
+module _ {T U A B : Type 0} (slots : A → List (Option (ℕ × T))) (capacity : A → ℕ) (slots_of : B → List (Option (ℕ × U))) (into_capacity : B → ℕ)
     (clones : B → ℕ → Option ℕ → List (Option (ℕ × U)) → B → Type 0) where
   -- the second arena is cloned from the first with no refusal, so that both end with the same index; the capacity of each
   -- reaches it, as that of every arena does
@@ -59,12 +59,12 @@ module _ {T U A B : Type 0} (slots : A → List (Option (ℕ × T))) (fitting : 
     pub copy : List (Option (ℕ × U))
     pub cloned : clones old (last_index (slots source)) next copy new
     pub same_end : last_index (slots_of new) ≡ last_index (slots source)
-    pub source_fits : last_index (slots source) ≤ fitting source
-    pub fits : last_index (slots_of new) ≤ fitting_of new
+    pub source_fits : last_index (slots source) ≤ capacity source
+    pub fits : last_index (slots_of new) ≤ into_capacity new
 
-module _ {T U A B : Type 0} (slots : A → List (Option (ℕ × T))) (fitting : A → ℕ) (clones : A → ℕ → Option ℕ → List (Option (ℕ × T)) → A → Type 0)
-    (slots_of : B → List (Option (ℕ × U))) (fitting_of : B → ℕ) (clones_of : B → ℕ → Option ℕ → List (Option (ℕ × U)) → B → Type 0) where
+module _ {T U A B : Type 0} (slots : A → List (Option (ℕ × T))) (capacity : A → ℕ) (clones : A → ℕ → Option ℕ → List (Option (ℕ × T)) → A → Type 0)
+    (slots_of : B → List (Option (ℕ × U))) (into_capacity : B → ℕ) (clones_of : B → ℕ → Option ℕ → List (Option (ℕ × U)) → B → Type 0) where
   -- of two arenas one is cloned into the other: the first into the second, or the second into the first
   abbrev pub CloneTurn : A × B → Bool → A × B → Type 0
-  CloneTurn old true new = (new.0 ≡ old.0) × ClonesInto slots fitting slots_of fitting_of clones_of old.0 old.1 new.1
-  CloneTurn old false new = (new.1 ≡ old.1) × ClonesInto slots_of fitting_of slots fitting clones old.1 old.0 new.0
+  CloneTurn old true new = (new.0 ≡ old.0) × ClonesInto slots capacity slots_of into_capacity clones_of old.0 old.1 new.1
+  CloneTurn old false new = (new.1 ≡ old.1) × ClonesInto slots_of into_capacity slots capacity clones old.1 old.0 new.0

@@ -27,7 +27,7 @@ module _ {P T A I G Q : Type 0} where
   IsDraining slots stand drain = IsBeforeAll (slots (drain_arena drain)) (drain_stand stand drain)
 
 module _ {A : Type 0} (fits : History → A → Type 0) (removes : A → ℕ → A → Type 0) (wraps : A → Bool) (counting : Bool) where
-  -- the entry of a pointer is removed, and where that does not wrap the counter, each fitting history goes on with it
+  -- the entry of a pointer is removed, and where that does not wrap the counter, each history that fits goes on with it
   abbrev pub TakesOut : A → Pointer → A → Type 0
   TakesOut old p new = removes old p.0 new × (CountsUp counting (wraps old) → Continues fits old (removal p ∷ []) new)
 

@@ -51,18 +51,18 @@ pub trait ArenaCloneFromWith<P: Ptr, T>: ArenaTrait<P, T> {
         ensures refused { IsRoomRefusal result
             → Self.settles self.old (last_index (A.slots source.now)) self.new }
         ensures short { IsRoomRefusal result
-            → Self.fitting self.old < last_index (A.slots source.now) }
+            → Self.capacity self.old < last_index (A.slots source.now) }
         ensures beyond { (result
             ≡ Err (CloneFromError.Reallocation ReallocationError.BeyondMaxCapacity))
-            ↔ ((Self.fitting self.old < last_index (A.slots source.now))
+            ↔ ((Self.capacity self.old < last_index (A.slots source.now))
             × IsBeyond (Self.limit self.old) (last_index (A.slots source.now))) }
         ensures given { IsWithin (Self.limit self.old) (last_index (A.slots source.now))
             → Self.gets_room self.old (last_index (A.slots source.now)) → IsRoomRefusal result
             → ⊥ }
         ensures same_end { OnOk result
             (last_index (Self.slots self.new) ≡ last_index (A.slots source.now)) }
-        ensures source_fits { last_index (A.slots source.now) ≤ A.fitting source.now }
-        ensures fits { last_index (Self.slots self.new) ≤ Self.fitting self.new };
+        ensures source_fits { last_index (A.slots source.now) ≤ A.capacity source.now }
+        ensures fits { last_index (Self.slots self.new) ≤ Self.capacity self.new };
 
     // the entries are those of the copy, the limit stays, and the capacity where the last index is
     // not above it
@@ -72,9 +72,9 @@ pub trait ArenaCloneFromWith<P: Ptr, T>: ArenaTrait<P, T> {
     ghost limit_cloned: { (old : Self) (last : ℕ) (next : Option ℕ) (copy : List (Option (ℕ × T)))
         (new : Self) → clones old last next copy new → Self.limit new ≡ Self.limit old };
 
-    ghost fitting_cloned: { (old : Self) (last : ℕ) (next : Option ℕ)
+    ghost capacity_cloned: { (old : Self) (last : ℕ) (next : Option ℕ)
         (copy : List (Option (ℕ × T))) (new : Self) → clones old last next copy new
-        → last ≤ Self.fitting old → Self.fitting new ≡ Self.fitting old };
+        → last ≤ Self.capacity old → Self.capacity new ≡ Self.capacity old };
 
     /// Drops the entries, and holds clones of those of `source` instead, under the same pointers. Where
     /// the arena has a counter, it becomes the source's next generation, or `two()` where that has none. A
@@ -98,22 +98,22 @@ pub trait ArenaCloneFromWith<P: Ptr, T>: ArenaTrait<P, T> {
         ensures refused { IsRoomRefusal result
             → Self.settles self.old (last_index (A.slots source.now)) self.new }
         ensures short { IsRoomRefusal result
-            → Self.fitting self.old < last_index (A.slots source.now) }
+            → Self.capacity self.old < last_index (A.slots source.now) }
         ensures beyond { (result
             ≡ Err (CloneFromError.Reallocation ReallocationError.BeyondMaxCapacity))
-            ↔ ((Self.fitting self.old < last_index (A.slots source.now))
+            ↔ ((Self.capacity self.old < last_index (A.slots source.now))
             × IsBeyond (Self.limit self.old) (last_index (A.slots source.now))) }
         ensures given { IsWithin (Self.limit self.old) (last_index (A.slots source.now))
             → Self.gets_room self.old (last_index (A.slots source.now)) → IsRoomRefusal result
             → ⊥ }
         ensures same_end { OnOk result
             (last_index (Self.slots self.new) ≡ last_index (A.slots source.now)) }
-        ensures source_fits { last_index (A.slots source.now) ≤ A.fitting source.now }
-        ensures fits { last_index (Self.slots self.new) ≤ Self.fitting self.new }
+        ensures source_fits { last_index (A.slots source.now) ≤ A.capacity source.now }
+        ensures fits { last_index (Self.slots self.new) ≤ Self.capacity self.new }
         ensures mapped { IsMapRefusal result
             → SomeMayFail T.is_infallible (entries (A.slots source.now)) }
         ensures succeeds { ((x : T) → T.is_infallible x)
-            → last_index (A.slots source.now) ≤ Self.fitting self.old → IsOk result }
+            → last_index (A.slots source.now) ≤ Self.capacity self.old → IsOk result }
     {
         self.clone_from_with(
             source,
@@ -141,7 +141,7 @@ pub trait ArenaCloneFromWith<P: Ptr, T>: ArenaTrait<P, T> {
         ensures entries { IfOk result (λ copy. KeepsEntries (Self.slots self.now)
             (Self.slots copy)) }
         ensures short { IsRoomRefusal result
-            → Self.fitting (Self.fresh (new_room Self.kind) (new_limit Self.kind))
+            → Self.capacity (Self.fresh (new_room Self.kind) (new_limit Self.kind))
             < last_index (Self.slots self.now) }
         ensures beyond { (result
             ≡ Err (CloneFromError.Reallocation ReallocationError.BeyondMaxCapacity))
@@ -152,7 +152,7 @@ pub trait ArenaCloneFromWith<P: Ptr, T>: ArenaTrait<P, T> {
         ensures mapped { IsMapRefusal result
             → SomeMayFail T.is_infallible (entries (Self.slots self.now)) }
         ensures succeeds { ((x : T) → T.is_infallible x) → last_index (Self.slots self.now)
-            ≤ Self.fitting (Self.fresh (new_room Self.kind) (new_limit Self.kind))
+            ≤ Self.capacity (Self.fresh (new_room Self.kind) (new_limit Self.kind))
             → IsOk result }
     {
         let mut copy = Self::new(alloc);

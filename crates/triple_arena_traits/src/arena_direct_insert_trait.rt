@@ -21,13 +21,13 @@ pub trait ArenaDirectInsertTrait<P: Ptr, T>: ArenaTrait<P, T> {
     /// [`Self::can_direct_insert`] tells. It takes no memory. It touches the slot at the index, and
     /// each that is missing below it.
     fn direct_insert_reserved(&mut self, p: P, t: T)
-        requires { IsVacant (Self.slots self.old) (Self.fitting self.old) (P.numbers p).0 }
+        requires { IsVacant (Self.slots self.old) (Self.capacity self.old) (P.numbers p).0 }
         ensures inserted { self.new ≡ inserted_at self.old (P.numbers p) t }
         ensures found { look_up_in (Self.slots self.new) (P.numbers p) ≡ Some t }
         ensures others { (q : Pointer) → q ≢ P.numbers p
             → look_up_in (Self.slots self.new) q ≡ look_up_in (Self.slots self.old) q }
         ensures limit { Self.limit self.new ≡ Self.limit self.old }
-        ensures capacity { Self.fitting self.new ≡ Self.fitting self.old };
+        ensures capacity { Self.capacity self.new ≡ Self.capacity self.old };
 
     // an insertion puts the value under the pointer, so that there is one entry more, and leaves
     // every other entry, limit and capacity
@@ -36,22 +36,22 @@ pub trait ArenaDirectInsertTrait<P: Ptr, T>: ArenaTrait<P, T> {
         (Self.slots (inserted_at arena p value)) };
 
     ghost len_inserted_at: { (arena : Self) (p : Pointer) (value : T) → 0 < p.0
-        → IsVacant (Self.slots arena) (Self.fitting arena) p.0
+        → IsVacant (Self.slots arena) (Self.capacity arena) p.0
         → entry_count (Self.slots (inserted_at arena p value))
         ≡ entry_count (Self.slots arena) + 1 };
 
     ghost limit_inserted_at: { (arena : Self) (p : Pointer) (value : T)
         → Self.limit (inserted_at arena p value) ≡ Self.limit arena };
 
-    ghost fitting_inserted_at: { (arena : Self) (p : Pointer) (value : T)
-        → Self.fitting (inserted_at arena p value) ≡ Self.fitting arena };
+    ghost capacity_inserted_at: { (arena : Self) (p : Pointer) (value : T)
+        → Self.capacity (inserted_at arena p value) ≡ Self.capacity arena };
 
     /// Whether an insertion under `p` has a place, and else why not.
     ///
     /// `NotWithinCapacity` exactly where the index of `p` is above the capacity, else
     /// `ExistingElementAtIndex` exactly where an entry stands there.
     final fn check_direct_insert(&self, p: P) -> Result<(), DirectInsertionError>
-        ensures { DirectInsertAnswer (Self.slots self.now) (Self.fitting self.now)
+        ensures { DirectInsertAnswer (Self.slots self.now) (Self.capacity self.now)
             (P.numbers p).0 result }
     {
         let capacity = self.capacity();
@@ -69,7 +69,7 @@ pub trait ArenaDirectInsertTrait<P: Ptr, T>: ArenaTrait<P, T> {
     /// stands there.
     final fn can_direct_insert(&self, p: P) -> bool
         ensures { IsTrue result
-            ↔ IsVacant (Self.slots self.now) (Self.fitting self.now) (P.numbers p).0 }
+            ↔ IsVacant (Self.slots self.now) (Self.capacity self.now) (P.numbers p).0 }
     {
         self.check_direct_insert(p).is_ok()
     }

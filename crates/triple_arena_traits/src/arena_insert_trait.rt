@@ -26,14 +26,14 @@ pub trait ArenaInsertTrait<P: Ptr, T>: ArenaTrait<P, T> {
     /// The pointer that the next insertion gives, on the condition that there is a place without
     /// growth, which `len` and `capacity` tell. No entry stands at its index.
     fn next_ptr(&self) -> P
-        requires { entry_count (Self.slots self.now) < Self.fitting self.now }
+        requires { entry_count (Self.slots self.now) < Self.capacity self.now }
         ensures pointer { P.numbers result ≡ next self.now }
         ensures free { entry_in (Self.slots self.now) (P.numbers result).0 ≡ None };
 
     /// Inserts `t` where no entry stood, and gives its pointer, on the condition that there is a
     /// place without growth, which `len` and `capacity` tell. It takes no memory.
     fn insert_reserved(&mut self, t: T) -> P
-        requires { entry_count (Self.slots self.old) < Self.fitting self.old }
+        requires { entry_count (Self.slots self.old) < Self.capacity self.old }
         ensures pointer { P.numbers result ≡ next self.old }
         ensures free { entry_in (Self.slots self.old) (P.numbers result).0 ≡ None }
         ensures inserted { self.new ≡ inserted self.old t }
@@ -58,15 +58,15 @@ pub trait ArenaInsertTrait<P: Ptr, T>: ArenaTrait<P, T> {
         ensures refused { OnErr result (self.new ≡ self.old) }
         ensures beyond { (result ≡ Err ReallocationError.BeyondMaxCapacity)
             ↔ IsFullAtLimit
-            (Self.fitting self.old) (Self.limit self.old) (entry_count (Self.slots self.old)) }
-        ensures given { CanGrow Self.has_memory (Self.fitting self.old) (Self.limit self.old)
+            (Self.capacity self.old) (Self.limit self.old) (entry_count (Self.slots self.old)) }
+        ensures given { CanGrow Self.has_memory (Self.capacity self.old) (Self.limit self.old)
             (greatest_index P.Inx.greatest) → IsOk result }
-        ensures indexed { OnOk result (entry_count (Self.slots self.old) ≡ Self.fitting self.old
-            → Self.fitting self.old < greatest_index P.Inx.greatest) }
-        ensures had_place { entry_count (Self.slots self.old) < Self.fitting self.old
+        ensures indexed { OnOk result (entry_count (Self.slots self.old) ≡ Self.capacity self.old
+            → Self.capacity self.old < greatest_index P.Inx.greatest) }
+        ensures had_place { entry_count (Self.slots self.old) < Self.capacity self.old
             → IsOk result × (self.new ≡ inserted self.old t) }
         ensures place { OnOk result (entry_count (Self.slots (grown self.old))
-            < Self.fitting (grown self.old)) }
+            < Self.capacity (grown self.old)) }
         ensures valid { Self.valid self.old }
         ensures fresh { IfOk result
             (λ p. Continues Self.fits self.old (insertion (P.numbers p) ∷ []) self.new) };
@@ -87,8 +87,8 @@ pub trait ArenaInsertTrait<P: Ptr, T>: ArenaTrait<P, T> {
     ghost limit_inserted: { (arena : Self) (value : T)
         → Self.limit (inserted arena value) ≡ Self.limit arena };
 
-    ghost fitting_inserted: { (arena : Self) (value : T)
-        → Self.fitting (inserted arena value) ≡ Self.fitting arena };
+    ghost capacity_inserted: { (arena : Self) (value : T)
+        → Self.capacity (inserted arena value) ≡ Self.capacity arena };
 
     // where nothing changed but how many slots were touched, the next pointer is the same, and growth
     // leaves the same but for that
@@ -98,7 +98,7 @@ pub trait ArenaInsertTrait<P: Ptr, T>: ArenaTrait<P, T> {
         → Self.unchanged (grown old) (grown new) };
 
     // growth leaves an arena that has a place as it is
-    ghost same_grown: { (arena : Self) → entry_count (Self.slots arena) < Self.fitting arena
+    ghost same_grown: { (arena : Self) → entry_count (Self.slots arena) < Self.capacity arena
         → grown arena ≡ arena };
 
     // growth leaves every entry, the limit, and what the next insertion gives; the capacity never
@@ -109,7 +109,7 @@ pub trait ArenaInsertTrait<P: Ptr, T>: ArenaTrait<P, T> {
     ghost len_grown: { (arena : Self)
         → entry_count (Self.slots (grown arena)) ≡ entry_count (Self.slots arena) };
 
-    ghost fitting_grown: { (arena : Self) → Self.fitting arena ≤ Self.fitting (grown arena) };
+    ghost capacity_grown: { (arena : Self) → Self.capacity arena ≤ Self.capacity (grown arena) };
 
     ghost limit_grown: { (arena : Self) → Self.limit (grown arena) ≡ Self.limit arena };
 
@@ -126,7 +126,7 @@ pub trait ArenaInsertTrait<P: Ptr, T>: ArenaTrait<P, T> {
     where
         T: Drop,
         ensures variant { IsOk result
-            ↔ (entry_count (Self.slots self.old) < Self.fitting self.old) }
+            ↔ (entry_count (Self.slots self.old) < Self.capacity self.old) }
         ensures pointer { IfOk result (λ p. P.numbers p ≡ next self.old) }
         ensures free { IfOk result (λ p. entry_in (Self.slots self.old) (P.numbers p).0 ≡ None) }
         ensures found { IfOk result (λ p. look_up_in (Self.slots self.new) (P.numbers p) ≡ Some t) }
@@ -160,15 +160,15 @@ pub trait ArenaInsertTrait<P: Ptr, T>: ArenaTrait<P, T> {
         ensures refused { OnErr result (self.new ≡ self.old) }
         ensures beyond { (result ≡ Err ReallocationError.BeyondMaxCapacity)
             ↔ IsFullAtLimit
-            (Self.fitting self.old) (Self.limit self.old) (entry_count (Self.slots self.old)) }
-        ensures given { CanGrow Self.has_memory (Self.fitting self.old) (Self.limit self.old)
+            (Self.capacity self.old) (Self.limit self.old) (entry_count (Self.slots self.old)) }
+        ensures given { CanGrow Self.has_memory (Self.capacity self.old) (Self.limit self.old)
             (greatest_index P.Inx.greatest) → IsOk result }
-        ensures indexed { OnOk result (entry_count (Self.slots self.old) ≡ Self.fitting self.old
-            → Self.fitting self.old < greatest_index P.Inx.greatest) }
-        ensures had_place { entry_count (Self.slots self.old) < Self.fitting self.old
+        ensures indexed { OnOk result (entry_count (Self.slots self.old) ≡ Self.capacity self.old
+            → Self.capacity self.old < greatest_index P.Inx.greatest) }
+        ensures had_place { entry_count (Self.slots self.old) < Self.capacity self.old
             → IsOk result × (self.new ≡ inserted self.old t) }
         ensures place { OnOk result (entry_count (Self.slots (grown self.old))
-            < Self.fitting (grown self.old)) }
+            < Self.capacity (grown self.old)) }
         ensures valid { Self.valid self.old }
         ensures fresh { IfOk result
             (λ p. Continues Self.fits self.old (insertion (P.numbers p) ∷ []) self.new) }

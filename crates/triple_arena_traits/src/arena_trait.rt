@@ -6,7 +6,7 @@ ghost use Rattle.std.specs.Option.{option_map, option_copied_mut};
 ghost use Rattle.triple_arena_ptr.specs.Numbers.{greatest_index};
 ghost use Rattle.triple_arena_ptr.specs.Pointers.{Pointer};
 ghost use Rattle.triple_arena_stack.specs.StackKind.{StackKind, new_room, new_limit, made_room, made_limit, CanHold, TakesNoMemory};
-ghost use Rattle.triple_arena_stack.specs.Capacity.{capacity_of, IsWithin, IsBeyond};
+ghost use Rattle.triple_arena_stack.specs.Capacity.{stack_capacity, IsWithin, IsBeyond};
 ghost use Rattle.triple_arena_traits.specs.SlotSteps.{RisesByAtMost};
 ghost use Rattle.triple_arena_traits.specs.Entries.{entry_in, look_up_in, entry_count, with_value_in, ChangesAt, KeepsEntries, IsFirst, IsLast};
 ghost use Rattle.triple_arena_traits.specs.Ending.{told, told_of, map_told};
@@ -44,7 +44,7 @@ pub trait ArenaTrait<P: Ptr, T>: Sized {
     ghost valid: { Self → Type 0 };
 
     // how many entries fit without growth
-    ghost fitting: { Self → ℕ };
+    ghost capacity: { Self → ℕ };
 
     // how many are allowed, if there is a limit
     ghost limit: { Self → Option ℕ };
@@ -122,7 +122,7 @@ pub trait ArenaTrait<P: Ptr, T>: Sized {
     /// How many entries fit without growth: the capacity of the stack, but at most the greatest
     /// index.
     fn capacity(&self) -> usize
-        ensures value { result ≡ fitting self.now }
+        ensures value { result ≡ capacity self.now }
         ensures fits { length (slots self.now) ≤ result }
         ensures indexed { result ≤ greatest_index P.Inx.greatest }
         ensures allowed { IsWithin (limit self.now) result };
@@ -153,13 +153,13 @@ pub trait ArenaTrait<P: Ptr, T>: Sized {
         ensures given { min_capacity ≤ greatest_index P.Inx.greatest
             → IsWithin (limit self.old) min_capacity
             → gets_room self.old min_capacity → IsOk result }
-        ensures place { OnOk result (min_capacity ≤ fitting self.new) }
+        ensures place { OnOk result (min_capacity ≤ capacity self.new) }
         ensures fresh { Continues fits self.old (resizing ∷ []) self.new };
 
     /// How many entries there are: never more than the capacity.
     fn len(&self) -> usize
         ensures value { result ≡ entry_count (slots self.now) }
-        ensures fits { entry_count (slots self.now) ≤ fitting self.now }
+        ensures fits { entry_count (slots self.now) ≤ capacity self.now }
         ensures valid { valid self.now };
 
     /// The generation of the next insertion; none where an insertion is told its generation.
@@ -302,8 +302,8 @@ pub trait ArenaTrait<P: Ptr, T>: Sized {
 
     ghost limit_fresh: { (room : ℕ) (most : Option ℕ) → limit (fresh room most) ≡ most };
 
-    ghost fitting_fresh: { (room : ℕ) (most : Option ℕ)
-        → fitting (fresh room most) ≡ min (capacity_of room most) (greatest_index P.Inx.greatest) };
+    ghost capacity_empty: { (room : ℕ) (most : Option ℕ)
+        → capacity (fresh room most) ≡ min (stack_capacity room most) (greatest_index P.Inx.greatest) };
 
     // another value changes one entry's value, and leaves the number of entries, limit and capacity
     ghost slots_with_value: { (arena : Self) (i : ℕ) (value : T)
@@ -315,8 +315,8 @@ pub trait ArenaTrait<P: Ptr, T>: Sized {
     ghost limit_with_value: { (arena : Self) (i : ℕ) (value : T)
         → limit (with_value arena i value) ≡ limit arena };
 
-    ghost fitting_with_value: { (arena : Self) (i : ℕ) (value : T)
-        → fitting (with_value arena i value) ≡ fitting arena };
+    ghost capacity_with_value: { (arena : Self) (i : ℕ) (value : T)
+        → capacity (with_value arena i value) ≡ capacity arena };
 
     // a removal takes away the entry at its index alone, so that there is one less, and leaves
     // limit and capacity
@@ -330,8 +330,8 @@ pub trait ArenaTrait<P: Ptr, T>: Sized {
     ghost limit_removed: { (old : Self) (i : ℕ) (new : Self) → removes old i new
         → limit new ≡ limit old };
 
-    ghost fitting_removed: { (old : Self) (i : ℕ) (new : Self) → removes old i new
-        → fitting new ≡ fitting old };
+    ghost capacity_removed: { (old : Self) (i : ℕ) (new : Self) → removes old i new
+        → capacity new ≡ capacity old };
 
     // where nothing changed but the count, entries, limit, capacity and next generation are the same,
     // an ending is told and renewed as before, a reallocation asks for the same room, and each
@@ -342,7 +342,7 @@ pub trait ArenaTrait<P: Ptr, T>: Sized {
 
     ghost limit_unchanged: { (old new : Self) → unchanged old new → limit new ≡ limit old };
 
-    ghost fitting_unchanged: { (old new : Self) → unchanged old new → fitting new ≡ fitting old };
+    ghost capacity_unchanged: { (old new : Self) → unchanged old new → capacity new ≡ capacity old };
 
     ghost generation_unchanged: { (old new : Self) → unchanged old new
         → next_generation new ≡ next_generation old };
@@ -376,8 +376,8 @@ pub trait ArenaTrait<P: Ptr, T>: Sized {
     ghost limit_invalidated: { (old : Self) (i : ℕ) (new : Self) → invalidates old i new
         → limit new ≡ limit old };
 
-    ghost fitting_invalidated: { (old : Self) (i : ℕ) (new : Self) → invalidates old i new
-        → fitting new ≡ fitting old };
+    ghost capacity_invalidated: { (old : Self) (i : ℕ) (new : Self) → invalidates old i new
+        → capacity new ≡ capacity old };
 
     // clearing leaves no entry, and limit and capacity as they are
     ghost slots_cleared: { (old new : Self) → clears old new
@@ -387,7 +387,7 @@ pub trait ArenaTrait<P: Ptr, T>: Sized {
 
     ghost limit_cleared: { (old new : Self) → clears old new → limit new ≡ limit old };
 
-    ghost fitting_cleared: { (old new : Self) → clears old new → fitting new ≡ fitting old };
+    ghost capacity_cleared: { (old new : Self) → clears old new → capacity new ≡ capacity old };
 
     // a reallocation leaves every entry and the limit, and one that is refused the capacity too
     ghost slots_reallocated: { (old : Self) (m : ℕ) (new : Self) → reallocates old m new
@@ -408,8 +408,8 @@ pub trait ArenaTrait<P: Ptr, T>: Sized {
     ghost limit_settled: { (old : Self) (m : ℕ) (new : Self) → settles old m new
         → limit new ≡ limit old };
 
-    ghost fitting_settled: { (old : Self) (m : ℕ) (new : Self) → settles old m new
-        → fitting new ≡ fitting old };
+    ghost capacity_settled: { (old : Self) (m : ℕ) (new : Self) → settles old m new
+        → capacity new ≡ capacity old };
 
     /// Whether there is no entry.
     final fn is_empty(&self) -> bool

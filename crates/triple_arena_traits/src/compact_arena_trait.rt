@@ -64,7 +64,7 @@ pub trait CompactArenaTrait<P: Ptr, T>: ArenaTrait<P, T> {
             ≡ map (rank self.old reset_generation) (keys (Self.slots self.old)) }
         ensures len { entry_count (Self.slots self.new) ≡ entry_count (Self.slots self.old) }
         ensures limit { Self.limit self.new ≡ Self.limit self.old }
-        ensures capacity { Self.fitting self.new ≡ Self.fitting self.old }
+        ensures capacity { Self.capacity self.new ≡ Self.capacity self.old }
         ensures fresh { reset_generation ≡ false
             → CountsUp P.Gen.counting (compression_wraps self.old reset_generation)
             → Continues Self.fits self.old
@@ -115,8 +115,8 @@ pub trait CompactArenaTrait<P: Ptr, T>: ArenaTrait<P, T> {
     ghost limit_compressed: { (old : Self) (reset : Bool) (values : List T) (new : Self)
         → compresses old reset values new → Self.limit new ≡ Self.limit old };
 
-    ghost fitting_compressed: { (old : Self) (reset : Bool) (values : List T) (new : Self)
-        → compresses old reset values new → Self.fitting new ≡ Self.fitting old };
+    ghost capacity_compressed: { (old : Self) (reset : Bool) (values : List T) (new : Self)
+        → compresses old reset values new → Self.capacity new ≡ Self.capacity old };
 
     /// As `compress_with`, and no value changes: each is found under its new pointer.
     final fn compress(&mut self, reset_generation: bool) -> InvalidationOption<()>
@@ -130,7 +130,7 @@ pub trait CompactArenaTrait<P: Ptr, T>: ArenaTrait<P, T> {
         ensures values { values (Self.slots self.new) ≡ values (Self.slots self.old) }
         ensures len { entry_count (Self.slots self.new) ≡ entry_count (Self.slots self.old) }
         ensures limit { Self.limit self.new ≡ Self.limit self.old }
-        ensures capacity { Self.fitting self.new ≡ Self.fitting self.old }
+        ensures capacity { Self.capacity self.new ≡ Self.capacity self.old }
         ensures fresh { reset_generation ≡ false
             → CountsUp P.Gen.counting (compression_wraps self.old reset_generation)
             → Continues Self.fits self.old
@@ -171,7 +171,7 @@ pub trait CompactArenaTrait<P: Ptr, T>: ArenaTrait<P, T> {
         ensures written { (values : List T)
             × (self.new ≡ written Self.with_value (keys (Self.slots self.old)) values self.old) }
         ensures limit { Self.limit self.new ≡ Self.limit self.old }
-        ensures capacity { Self.fitting self.new ≡ Self.fitting self.old }
+        ensures capacity { Self.capacity self.new ≡ Self.capacity self.old }
         ensures fresh { Continues Self.fits self.old [] self.new }
     {
         let mut advancer = self.advancer();

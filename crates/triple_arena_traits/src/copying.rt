@@ -3,7 +3,7 @@
 ghost use Rattle.std.specs.Prelude.{◌≡◌, ◌<◌, ◌≤◌, [], map, length};
 ghost use Rattle.std.specs.Int.NonZero.{non_zero_usize_get};
 ghost use Rattle.triple_arena_ptr.specs.Numbers.{greatest_index};
-ghost use Rattle.triple_arena_stack.specs.Capacity.{capacity_of};
+ghost use Rattle.triple_arena_stack.specs.Capacity.{stack_capacity};
 ghost use Rattle.triple_arena_traits.specs.FreeList.{last_index};
 ghost use Rattle.triple_arena_traits.specs.Walks.{entries};
 ghost use Rattle.triple_arena_traits.specs.Copying.{Copies, put_after};
@@ -24,7 +24,7 @@ fn push_at<P: Ptr, T, X: EntrySlot<P, T>, S: NonZeroInxGenericStack<X>>(
     generation: P::Gen,
     value: T,
 )
-    requires within { non_zero_usize_get inx ≤ capacity_of (S.room stack.old) (S.limit stack.old) }
+    requires within { non_zero_usize_get inx ≤ stack_capacity (S.room stack.old) (S.limit stack.old) }
     requires past { length (S.items stack.old) < non_zero_usize_get inx }
     ensures slots { map X.entry (S.items stack.new) ≡ put_after (map X.entry (S.items stack.old))
         (non_zero_usize_get inx, P.Gen.number generation) value }
@@ -52,7 +52,7 @@ pub fn copy_entries<
     requires callable { M.IsAlwaysCallable f }
     requires empty { S.items stack.old ≡ [] }
     requires fits { last_index (A.slots source.now)
-        ≤ capacity_of (S.room stack.old) (S.limit stack.old) }
+        ≤ stack_capacity (S.room stack.old) (S.limit stack.old) }
     ensures copied { Copies P.numbers M.step f (entries (A.slots source.now)) result
         (map X.entry (S.items stack.new)) }
     ensures ends { length (S.items stack.new) ≤ last_index (A.slots source.now) }

@@ -11,7 +11,7 @@ use triple_arena_ptr::{Ptr, PtrInx};
 pub fn last_index<P: Ptr, T, A: ArenaTrait<P, T>>(arena: &A) -> usize
     ensures value { result ≡ last_index (A.slots arena.now) }
     ensures indexed { result ≤ greatest_index P.Inx.greatest }
-    ensures fits { result ≤ A.fitting arena.now }
+    ensures fits { result ≤ A.capacity arena.now }
 {
     // By its clauses, no slot is past it, nor past the greatest index.
     let _capacity = arena.capacity();

@@ -3,7 +3,7 @@
 ghost use Rattle.std.specs.Prelude.{◌≡◌, ◌≢◌, ◌<◌, ◌≤◌, ◌⊎◌, ℕ, true, false, None, Some, IsSome, MatchOption, map, length, take, option_copied};
 ghost use Rattle.std.specs.Int.NonZero.{non_zero_usize_get};
 ghost use Rattle.triple_arena_ptr.specs.Numbers.{greatest_index};
-ghost use Rattle.triple_arena_stack.specs.Capacity.{capacity_of};
+ghost use Rattle.triple_arena_stack.specs.Capacity.{stack_capacity};
 ghost use Rattle.triple_arena_stack.specs.Disjoint.{MayWork, Worked};
 ghost use Rattle.triple_arena_traits.specs.Items.{item, with_item};
 ghost use Rattle.triple_arena_traits.specs.Entries.{entry_in, entry_count};
@@ -55,7 +55,7 @@ pub fn extend<P: Ptr, T, X: EntrySlot<P, T>, S: NonZeroInxGenericStack<X>>(
     stack: &mut S,
     len: usize,
 )
-    requires { len ≤ capacity_of (S.room stack.old) (S.limit stack.old) }
+    requires { len ≤ stack_capacity (S.room stack.old) (S.limit stack.old) }
     ensures slots { map X.entry (S.items stack.new)
         ≡ extended (map X.entry (S.items stack.old)) len }
     ensures kept { take (length (S.items stack.old)) (S.items stack.new) ≡ S.items stack.old }

@@ -54,14 +54,14 @@ pub fn forward_walk<T>()
 /// other call between, at most the target of the first clone is reallocated.
 pub fn clones_settle<P: Ptr, T, U, A: ArenaCloneFromWith<P, T>, B: ArenaCloneFromWith<P, U>>()
     ensures fits { (old : A) (last : ℕ) (next : Option ℕ) (copy : List (Option (ℕ × T))) (new : A)
-        → A.clones old last next copy new → last ≤ A.fitting old
-        → A.fitting new ≡ A.fitting old }
+        → A.clones old last next copy new → last ≤ A.capacity old
+        → A.capacity new ≡ A.capacity old }
     ensures settled { (start : A × B) (first : Bool) (middle : A × B) (turns : List Bool)
         (end : A × B)
-        → CloneTurn A.slots A.fitting A.clones B.slots B.fitting B.clones start first middle
-        → FoldsTo (CloneTurn A.slots A.fitting A.clones B.slots B.fitting B.clones)
+        → CloneTurn A.slots A.capacity A.clones B.slots B.capacity B.clones start first middle
+        → FoldsTo (CloneTurn A.slots A.capacity A.clones B.slots B.capacity B.clones)
         middle turns end
-        → (A.fitting end.0 ≡ A.fitting middle.0) × (B.fitting end.1 ≡ B.fitting middle.1) }
+        → (A.capacity end.0 ≡ A.capacity middle.0) × (B.capacity end.1 ≡ B.capacity middle.1) }
 {}
 
 /// A limit that is set back: once a limit is set, the old one can be set again, and then the old

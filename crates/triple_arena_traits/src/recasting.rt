@@ -25,7 +25,7 @@ pub fn recast_entries<I, P: Ptr, T: Recast<I>, A: CompactArenaTrait<P, T>, R: Re
         (held_all T.held (values (A.slots arena.old))) }
     ensures keys { keys (A.slots arena.new) ≡ keys (A.slots arena.old) }
     ensures limit { A.limit arena.new ≡ A.limit arena.old }
-    ensures capacity { A.fitting arena.new ≡ A.fitting arena.old }
+    ensures capacity { A.capacity arena.new ≡ A.capacity arena.old }
     ensures fresh { Continues A.fits arena.old [] arena.new }
 {
     let mut advancer = arena.advancer();

@@ -2,7 +2,7 @@
 
 ghost use Rattle.std.specs.Prelude.{◌≡◌, ◌≤◌, ◌^◌, ◌*◌, [], map, length};
 ghost use Rattle.triple_arena_ptr.specs.Numbers.{greatest_index};
-ghost use Rattle.triple_arena_stack.specs.Capacity.{capacity_of};
+ghost use Rattle.triple_arena_stack.specs.Capacity.{stack_capacity};
 ghost use Rattle.triple_arena_traits.specs.Entries.{entry_count};
 ghost use Rattle.triple_arena_traits.specs.Transfers.{Transfers};
 
@@ -32,7 +32,7 @@ pub fn transfer_entries<
     requires callable { M.IsAlwaysCallable f }
     requires empty { S.items stack.old ≡ [] }
     requires fits { entry_count (A.slots source.old)
-        ≤ capacity_of (S.room stack.old) (S.limit stack.old) }
+        ≤ stack_capacity (S.room stack.old) (S.limit stack.old) }
     requires indexed { entry_count (A.slots source.old) ≤ greatest_index P.Inx.greatest }
     ensures transferred { Transfers Q.numbers P.numbers M.step A.slots A.fits A.removes
         A.ending_wraps Q.Gen.counting (P.Gen.number generation) f source.old source.new

@@ -17,7 +17,7 @@ pub fn keep<P: Ptr, A: CompactArenaTrait<P, u64>, B: ArenaCloneFromWith<P, u64>>
     kept: &mut B,
 ) -> Result<(), CloneFromError<AllocError>>
     ensures same { OnOk result (KeepsEntries (A.slots table.now) (B.slots kept.new)) }
-    ensures fits { last_index (A.slots table.now) ≤ B.fitting kept.old → IsOk result }
+    ensures fits { last_index (A.slots table.now) ≤ B.capacity kept.old → IsOk result }
 {
     kept.clone_from(table)
 }
@@ -31,7 +31,7 @@ pub fn keep_and_come_back<
     B: CompactArenaTrait<P, u64> + ArenaCloneFromWith<P, u64>,
 >(table: &mut A, kept: &mut B) -> Result<(), CloneFromError<AllocError>>
     ensures same_entries { OnOk result (KeepsEntries (A.slots table.old) (A.slots table.new)) }
-    ensures same_capacity { OnOk result (A.fitting table.new ≡ A.fitting table.old) }
+    ensures same_capacity { OnOk result (A.capacity table.new ≡ A.capacity table.old) }
 {
     laws::clones_settle::<P, u64, u64, A, B>();
     kept.clone_from(&*table)?;

@@ -1,7 +1,7 @@
 //! Undo and redo: the last step goes from one stack to another.
 
 ghost use Rattle.std.specs.Prelude.{◌≡◌, ◌-◌, ◌≤◌, ◌++◌, length, take, slice_get, option_to_list};
-ghost use Rattle.triple_arena_stack.specs.Capacity.{capacity_of, HasPlace};
+ghost use Rattle.triple_arena_stack.specs.Capacity.{stack_capacity, HasPlace};
 
 use triple_arena_stack::NonZeroInxGenericStack;
 
@@ -17,7 +17,7 @@ pub fn move_last<T, S: NonZeroInxGenericStack<T>, U: NonZeroInxGenericStack<T>>(
     ensures pushed { HasPlace (U.room to.old) (U.limit to.old) (length (U.items to.old))
         → to.new ≡ U.with_items to.old (U.items to.old
         ++ option_to_list (slice_get (S.items from.old) (length (S.items from.old) - 1))) }
-    ensures kept { capacity_of (U.room to.old) (U.limit to.old) ≤ length (U.items to.old)
+    ensures kept { stack_capacity (U.room to.old) (U.limit to.old) ≤ length (U.items to.old)
         → (from.new ≡ from.old) × (to.new ≡ to.old) }
 {
     if to.len() < to.capacity() {

@@ -14,9 +14,9 @@ use Rattle.triple_arena_traits.specs.Compression.{compressed, rank}
 use Rattle.triple_arena_traits.specs.Walks.{keys, values}
 use Rattle.triple_arena_traits.specs.Cloning.{counter_of}
 use Rattle.triple_arena_traits.specs.Histories.{Fits, Continues}
-use Rattle.triple_arena_traits.specs.laws.EntryLaws.{slots-removed, limit_of-removed, fitting-removed, slots-invalidated, slots-reallocated, slots-settled}
+use Rattle.triple_arena_traits.specs.laws.EntryLaws.{slots-removed, limit_of-removed, capacity-removed, slots-invalidated, slots-reallocated, slots-settled}
 use Rattle.triple_arena_traits.specs.laws.LengthLaws.{len-removed, len-invalidated, len-reallocated, len-settled}
-use Rattle.triple_arena_traits.specs.laws.CloningLaws.{limit-cloned, fitting-cloned}
+use Rattle.triple_arena_traits.specs.laws.CloningLaws.{limit-cloned, capacity-cloned}
 use Rattle.triple_arena_traits.specs.laws.CompressionLaws.{keys-compressed, values-compressed, compressed-with_value}
 use Rattle.triple_arena_traits.specs.laws.HistoryLaws.{Continues-touched}
 
@@ -39,7 +39,7 @@ module _ {T : Type 0} where
         ap (λ (s : ArenaState T). s.limit) same.0 ∙ limit_of-removed raise old i (removed raise old i) refl
 
     pub removed_capacity : (old : ArenaState T) (i : ℕ) (new : ArenaState T) → IsTouched (removed raise old i) new → capacity new ≡ capacity old
-    removed_capacity old i new same = ap capacity same.0 ∙ fitting-removed raise old i (removed raise old i) refl
+    removed_capacity old i new same = ap capacity same.0 ∙ capacity-removed raise old i (removed raise old i) refl
 
     pub invalidated_slots : (old : ArenaState T) (i : ℕ) (new : ArenaState T) → IsTouched (invalidated raise old i) new → ChangesAt old.slots i (option_map (λ (e : ℕ × T). (raise old.counter, e.1)) (entry_in old.slots i)) new.slots
     invalidated_slots old i new same =
@@ -84,7 +84,7 @@ module _ {T : Type 0} where
 
       pub cloned_capacity : (old : ArenaState T) (last : ℕ) (next : Option ℕ) (copy : List (Option (ℕ × T))) (new : ArenaState T) → IsTouched (laid_out (ready_for kind old last) copy (counter_of first next)) new → last ≤ capacity old → capacity new ≡ capacity old
       cloned_capacity old last next copy new same fits =
-          ap capacity same.0 ∙ fitting-cloned kind first old last next copy (laid_out (ready_for kind old last) copy (counter_of first next)) refl fits
+          ap capacity same.0 ∙ capacity-cloned kind first old last next copy (laid_out (ready_for kind old last) copy (counter_of first next)) refl fits
 
   pub compressed_keys : (s new : ArenaState T) (counter : ℕ) (vs : List T) → IsTouched (compressed s counter vs) new → length vs ≡ entry_count s.slots → keys new.slots ≡ map (rank s counter) (keys s.slots)
   compressed_keys s new counter vs same many =

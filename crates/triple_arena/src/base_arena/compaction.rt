@@ -71,7 +71,7 @@ impl<P: Ptr, T, S: NonZeroInxGenericStack<ArenaSlot<P, T>>> CompactArenaTrait<P,
 
     ghost limit_compressed = { λ _ _ _ _ same. ap (λ s. s.limit) same.0 };
 
-    ghost fitting_compressed = { λ _ _ _ _ same. ap capacity same.0 };
+    ghost capacity_compressed = { λ _ _ _ _ same. ap capacity same.0 };
 }
 
 impl<P: Ptr, T, S: NonZeroInxGenericStack<ArenaSlot<P, T>>> Arena<P, T, S> {

@@ -50,7 +50,7 @@ impl<P: Ptr, T, S: NonZeroInxGenericStack<ArenaSlot<P, T>>> ArenaCloneFromWith<P
 
     ghost limit_cloned = { cloned_limit S.kind (first_generation P.Gen.counting) };
 
-    ghost fitting_cloned = { cloned_capacity S.kind (first_generation P.Gen.counting) };
+    ghost capacity_cloned = { cloned_capacity S.kind (first_generation P.Gen.counting) };
 }
 
 impl<P: Ptr, T, S: NonZeroInxGenericStack<ArenaSlot<P, T>>> Arena<P, T, S> {

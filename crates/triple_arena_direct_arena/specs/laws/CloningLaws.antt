@@ -23,5 +23,5 @@ module _ {T : Type 0} (kind : StackKind) where
   limit-cloned old last next copy new is =
       ap (λ s. s.limit) is ∙ by_case (nat_lt (direct_capacity old) last) (reallocated kind old last) old old.limit refl refl
 
-  pub fitting-cloned : (old : DirectState T) (last : ℕ) (next : Option ℕ) (copy : List (Option (ℕ × T))) (new : DirectState T) → new ≡ with_slots (ready_for kind old last) copy → last ≤ direct_capacity old → direct_capacity new ≡ direct_capacity old
-  fitting-cloned old last next copy new is fits = ap direct_capacity is ∙ ap direct_capacity (ready-fits old last fits)
+  pub capacity-cloned : (old : DirectState T) (last : ℕ) (next : Option ℕ) (copy : List (Option (ℕ × T))) (new : DirectState T) → new ≡ with_slots (ready_for kind old last) copy → last ≤ direct_capacity old → direct_capacity new ≡ direct_capacity old
+  capacity-cloned old last next copy new is fits = ap direct_capacity is ∙ ap direct_capacity (ready-fits old last fits)

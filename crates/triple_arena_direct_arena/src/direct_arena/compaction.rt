@@ -55,5 +55,5 @@ impl<P: Ptr, T, S: NonZeroInxGenericStack<DirectSlot<P, T>>> CompactArenaTrait<P
 
     ghost limit_compressed = { λ _ _ _ _. ap (λ s. s.limit) };
 
-    ghost fitting_compressed = { λ _ _ _ _. ap direct_capacity };
+    ghost capacity_compressed = { λ _ _ _ _. ap direct_capacity };
 }

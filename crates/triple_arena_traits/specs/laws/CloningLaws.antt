@@ -28,21 +28,21 @@ module _ {T : Type 0} (kind : StackKind) where
     pub limit-cloned : (old : ArenaState T) (last : ℕ) (next : Option ℕ) (copy : List (Option (ℕ × T))) (new : ArenaState T) → new ≡ laid_out (ready_for kind old last) copy (counter_of first next) → new.limit ≡ old.limit
     limit-cloned old last next copy new is = ap (λ s. s.limit) is ∙ limit-ready old last
 
-    pub fitting-cloned : (old : ArenaState T) (last : ℕ) (next : Option ℕ) (copy : List (Option (ℕ × T))) (new : ArenaState T) → new ≡ laid_out (ready_for kind old last) copy (counter_of first next) → last ≤ capacity old → capacity new ≡ capacity old
-    fitting-cloned old last next copy new is fits = ap capacity is ∙ ap capacity (ready-fits old last fits)
+    pub capacity-cloned : (old : ArenaState T) (last : ℕ) (next : Option ℕ) (copy : List (Option (ℕ × T))) (new : ArenaState T) → new ≡ laid_out (ready_for kind old last) copy (counter_of first next) → last ≤ capacity old → capacity new ≡ capacity old
+    capacity-cloned old last next copy new is fits = ap capacity is ∙ ap capacity (ready-fits old last fits)
 
-module _ {T U A B : Type 0} (slots : A → List (Option (ℕ × T))) (fitting : A → ℕ) (clones : A → ℕ → Option ℕ → List (Option (ℕ × T)) → A → Type 0)
-    (slots_of : B → List (Option (ℕ × U))) (fitting_of : B → ℕ) (clones_of : B → ℕ → Option ℕ → List (Option (ℕ × U)) → B → Type 0)
-    (stays : (old : A) (last : ℕ) (next : Option ℕ) (copy : List (Option (ℕ × T))) (new : A) → clones old last next copy new → last ≤ fitting old → fitting new ≡ fitting old)
-    (stays_of : (old : B) (last : ℕ) (next : Option ℕ) (copy : List (Option (ℕ × U))) (new : B) → clones_of old last next copy new → last ≤ fitting_of old → fitting_of new ≡ fitting_of old) where
+module _ {T U A B : Type 0} (slots : A → List (Option (ℕ × T))) (capacity : A → ℕ) (clones : A → ℕ → Option ℕ → List (Option (ℕ × T)) → A → Type 0)
+    (slots_of : B → List (Option (ℕ × U))) (into_capacity : B → ℕ) (clones_of : B → ℕ → Option ℕ → List (Option (ℕ × U)) → B → Type 0)
+    (stays : (old : A) (last : ℕ) (next : Option ℕ) (copy : List (Option (ℕ × T))) (new : A) → clones old last next copy new → last ≤ capacity old → capacity new ≡ capacity old)
+    (stays_of : (old : B) (last : ℕ) (next : Option ℕ) (copy : List (Option (ℕ × U))) (new : B) → clones_of old last next copy new → last ≤ into_capacity old → into_capacity new ≡ into_capacity old) where
   abbrev Turn : A × B → Bool → A × B → Type 0
-  Turn = CloneTurn slots fitting clones slots_of fitting_of clones_of
+  Turn = CloneTurn slots capacity clones slots_of into_capacity clones_of
 
   -- both end with the same index, and the capacity of each reaches it
   record Settled (pair : A × B) : Type 0 where
     pub same_end : last_index (slots_of pair.1) ≡ last_index (slots pair.0)
-    pub first_fits : last_index (slots pair.0) ≤ fitting pair.0
-    pub second_fits : last_index (slots_of pair.1) ≤ fitting_of pair.1
+    pub first_fits : last_index (slots pair.0) ≤ capacity pair.0
+    pub second_fits : last_index (slots_of pair.1) ≤ into_capacity pair.1
 
   settles : (old : A × B) (turn : Bool) (new : A × B) → Turn old turn new → Settled new
   settles old true new t =
@@ -58,19 +58,19 @@ module _ {T U A B : Type 0} (slots : A → List (Option (ℕ × T))) (fitting : 
         second_fits = rw t.0 t.1.source_fits;
       }
 
-  keeps : (old : A × B) (turn : Bool) (new : A × B) → Settled old → Turn old turn new → (fitting new.0 ≡ fitting old.0) × (fitting_of new.1 ≡ fitting_of old.1)
+  keeps : (old : A × B) (turn : Bool) (new : A × B) → Settled old → Turn old turn new → (capacity new.0 ≡ capacity old.0) × (into_capacity new.1 ≡ into_capacity old.1)
   keeps old true new s t =
-      (ap fitting t.0, stays_of old.1 (last_index (slots old.0)) t.1.next t.1.copy new.1 t.1.cloned (omega (arith, s.same_end, s.second_fits)))
+      (ap capacity t.0, stays_of old.1 (last_index (slots old.0)) t.1.next t.1.copy new.1 t.1.cloned (omega (arith, s.same_end, s.second_fits)))
   keeps old false new s t =
-      (stays old.0 (last_index (slots_of old.1)) t.1.next t.1.copy new.0 t.1.cloned (omega (arith, s.same_end, s.first_fits)), ap fitting_of t.0)
+      (stays old.0 (last_index (slots_of old.1)) t.1.next t.1.copy new.0 t.1.cloned (omega (arith, s.same_end, s.first_fits)), ap into_capacity t.0)
 
-  keeps_all : (old : A × B) (turns : List Bool) (new : A × B) → Settled old → FoldsTo Turn old turns new → (fitting new.0 ≡ fitting old.0) × (fitting_of new.1 ≡ fitting_of old.1)
-  keeps_all old [] new s same = (ap (λ p. fitting p.0) (sym same), ap (λ p. fitting_of p.1) (sym same))
+  keeps_all : (old : A × B) (turns : List Bool) (new : A × B) → Settled old → FoldsTo Turn old turns new → (capacity new.0 ≡ capacity old.0) × (into_capacity new.1 ≡ into_capacity old.1)
+  keeps_all old [] new s same = (ap (λ p. capacity p.0) (sym same), ap (λ p. into_capacity p.1) (sym same))
   keeps_all old (turn ∷ turns) new s (next, here, there) =
       let one = keeps old turn next s here in
       let rest = keeps_all next turns new (settles old turn next here) there in
       (rest.0 ∙ one.0, rest.1 ∙ one.1)
 
   -- once one of two arenas was cloned into the other, further clones leave both capacities
-  pub clones_settle : (start : A × B) (first : Bool) (middle : A × B) (turns : List Bool) (end : A × B) → Turn start first middle → FoldsTo Turn middle turns end → (fitting end.0 ≡ fitting middle.0) × (fitting_of end.1 ≡ fitting_of middle.1)
+  pub clones_settle : (start : A × B) (first : Bool) (middle : A × B) (turns : List Bool) (end : A × B) → Turn start first middle → FoldsTo Turn middle turns end → (capacity end.0 ≡ capacity middle.0) × (into_capacity end.1 ≡ into_capacity middle.1)
   clones_settle start first middle turns end here there = keeps_all middle turns end (settles start first middle here) there

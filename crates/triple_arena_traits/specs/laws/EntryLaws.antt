@@ -6,7 +6,7 @@ use Rattle.std.proofs.lemmas.List.Sums.{sum_by-cons}
 use Rattle.std.specs.Option.{option_map}
 use Rattle.triple_arena_stack.specs.StackKind.{StackKind, reallocated_room}
 use Rattle.triple_arena_stack.specs.StackKind.StackKind.{heap, limited, fixed, array}
-use Rattle.triple_arena_stack.specs.Capacity.{capacity_of, next_capacity}
+use Rattle.triple_arena_stack.specs.Capacity.{stack_capacity, next_capacity}
 use Rattle.triple_arena_traits.specs.Items.{item, with_item}
 use Rattle.triple_arena_traits.specs.laws.ItemLaws.{joined, eq_true, eq_false, item_past, item-with_other, item-push_same, item-push_other}
 use Rattle.triple_arena_traits.specs.Entries.{entry_in, ChangesAt, KeepsEntries}
@@ -21,7 +21,7 @@ pub count_head : (i : ℕ) (rest : List ℕ) → count_by (λ j. j == i) (i ∷ 
 count_head i rest = omega (arith, sum_by-cons (λ j. cond (j == i) 1 0) i rest, ap {B = ℕ} (λ b. cond b 1 0) (eq_true i i refl))
 
 -- a reallocation leaves room for what fits
-pub within_room : (kind : StackKind) (room len m greatest : ℕ) (limit : Option ℕ) → len ≤ min (capacity_of room limit) greatest → len ≤ min (capacity_of (reallocated_room kind room len m) limit) greatest
+pub within_room : (kind : StackKind) (room len m greatest : ℕ) (limit : Option ℕ) → len ≤ min (stack_capacity room limit) greatest → len ≤ min (stack_capacity (reallocated_room kind room len m) limit) greatest
 within_room heap room len m greatest None fits = omega arith
 within_room heap room len m greatest (Some most) fits = omega arith
 within_room limited room len m greatest None fits = omega arith
@@ -35,7 +35,7 @@ doubled zero = omega arith
 doubled (suc c) = rw (eq_false (suc c) 0 (λ e. omega arith)) (omega arith)
 
 -- a reallocation to a capacity that is no less leaves one that is no less
-kept_room : (kind : StackKind) (room len m greatest : ℕ) (limit : Option ℕ) → min (capacity_of room limit) greatest ≤ m → min (capacity_of room limit) greatest ≤ min (capacity_of (reallocated_room kind room len (min (capacity_of m limit) greatest)) limit) greatest
+kept_room : (kind : StackKind) (room len m greatest : ℕ) (limit : Option ℕ) → min (stack_capacity room limit) greatest ≤ m → min (stack_capacity room limit) greatest ≤ min (stack_capacity (reallocated_room kind room len (min (stack_capacity m limit) greatest)) limit) greatest
 kept_room heap room len m greatest None more = omega arith
 kept_room heap room len m greatest (Some most) more = omega arith
 kept_room limited room len m greatest None more = omega arith
@@ -100,8 +100,8 @@ module _ {T : Type 0} where
     pub limit_of-removed : (old : ArenaState T) (i : ℕ) (new : ArenaState T) → new ≡ removed raise old i → new.limit ≡ old.limit
     limit_of-removed old i new is = ap (λ s. s.limit) is ∙ by_case (λ s. s.limit) (i == slot_count old) _ _ old.limit refl refl
 
-    pub fitting-removed : (old : ArenaState T) (i : ℕ) (new : ArenaState T) → new ≡ removed raise old i → capacity new ≡ capacity old
-    fitting-removed old i new is = ap capacity is ∙ by_case capacity (i == slot_count old) _ _ (capacity old) refl refl
+    pub capacity-removed : (old : ArenaState T) (i : ℕ) (new : ArenaState T) → new ≡ removed raise old i → capacity new ≡ capacity old
+    capacity-removed old i new is = ap capacity is ∙ by_case capacity (i == slot_count old) _ _ (capacity old) refl refl
 
     pub slots-invalidated : (old : ArenaState T) (i : ℕ) (new : ArenaState T) → new ≡ invalidated raise old i → ChangesAt old.slots i (option_map (λ e. (raise old.counter, e.1)) (entry_in old.slots i)) new.slots
     slots-invalidated old i new is =
@@ -170,8 +170,8 @@ module _ {T : Type 0} where
       by_free [] = refl
       by_free (i ∷ rest) = refl
 
-  pub fitting-inserted : (s : ArenaState T) (v : T) → capacity (inserted s v) ≡ capacity s
-  fitting-inserted s v = by_free s.free
+  pub capacity-inserted : (s : ArenaState T) (v : T) → capacity (inserted s v) ≡ capacity s
+  capacity-inserted s v = by_free s.free
     where
       by_free : (f : List ℕ) → capacity (inserted_among f s v) ≡ capacity s
       by_free [] = refl
@@ -199,8 +199,8 @@ module _ {T : Type 0} where
             fits = within_room kind s.room (slot_count s) (next_capacity (capacity s) s.limit s.greatest) s.greatest s.limit well.fits;
           }
 
-  pub fitting-grown : (kind : StackKind) (s : ArenaState T) → capacity s ≤ capacity (grown kind s)
-  fitting-grown kind s = by_test (arena_len s == capacity s)
+  pub capacity-grown : (kind : StackKind) (s : ArenaState T) → capacity s ≤ capacity (grown kind s)
+  capacity-grown kind s = by_test (arena_len s == capacity s)
     where
       by_test : (b : Bool) → capacity s ≤ capacity (cond b (with_room_for kind s (next_capacity (capacity s) s.limit s.greatest)) s)
       by_test false = omega arith

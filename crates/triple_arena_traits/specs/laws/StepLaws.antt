@@ -3,7 +3,7 @@ use Rattle.std.proofs.Common.{◌≡◌, ℕ, zero, suc, ◌≤◌, Bool, true, 
 use Rattle.std.proofs.lemmas.List.{length-map}
 use Rattle.std.specs.Option.{option_map}
 use Rattle.triple_arena_stack.specs.StackKind.{StackKind}
-use Rattle.triple_arena_stack.specs.Capacity.{capacity_of}
+use Rattle.triple_arena_stack.specs.Capacity.{stack_capacity}
 use Rattle.triple_arena_traits.specs.Items.{item, with_item}
 use Rattle.triple_arena_traits.specs.laws.ItemLaws.{joined, with_item-past, with_item_same}
 use Rattle.triple_arena_traits.specs.Entries.{with_generation_in}
@@ -85,7 +85,7 @@ module _ {T : Type 0} where
       limited t kept below =
           record { free_once = kept.free_once; total = kept.total; fits = by_limit t.limit kept.fits }
         where
-          by_limit : (o : Option ℕ) → slot_count t ≤ min (capacity_of t.room o) t.greatest → slot_count t ≤ min (min t.room x) t.greatest
+          by_limit : (o : Option ℕ) → slot_count t ≤ min (stack_capacity t.room o) t.greatest → slot_count t ≤ min (min t.room x) t.greatest
           by_limit None fits = omega arith
           by_limit (Some most) fits = omega arith
 

@@ -75,7 +75,7 @@ pub returns-clause-limit : goal.returns-clause-limit
 returns-clause-limit g c = let d = returns-clause-done g c in g.met.A.CompactArenaTrait.limit_compressed _ _ _ _ d.2
 
 pub returns-clause-capacity : goal.returns-clause-capacity
-returns-clause-capacity g c = let d = returns-clause-done g c in g.met.A.CompactArenaTrait.fitting_compressed _ _ _ _ d.2
+returns-clause-capacity g c = let d = returns-clause-done g c in g.met.A.CompactArenaTrait.capacity_compressed _ _ _ _ d.2
 
 pub returns-clause-fresh : goal.returns-clause-fresh
 returns-clause-fresh g c unset up h fits =

@@ -2,7 +2,7 @@
 ghost use Rattle.std.specs.Prelude.{◌≡◌, ◌≢◌, ◌+◌, ◌-◌, ◌<◌, ◌≤◌, ◌↔◌, List, [], ◌∷◌, ◌++◌, length, take, slice_get, slice_set, IsOk, IsSome, IfOk, IfSome, OnOk, OnErr, OnSome, Some, None, Err, IsTrue, true, false, max};
 ghost use Rattle.std.specs.Borrow.{sem, LendsIf, LendsSo};
 ghost use Rattle.std.specs.Int.NonZero.{non_zero_usize_get};
-ghost use Rattle.triple_arena_stack.specs.Capacity.{capacity_of, room_for_one_more, IsAtLimit, IsBeyond, IsWithin};
+ghost use Rattle.triple_arena_stack.specs.Capacity.{stack_capacity, room_for_one_more, IsAtLimit, IsBeyond, IsWithin};
 ghost use Rattle.triple_arena_stack.specs.StackKind.{IsOfKind, new_room, new_limit, made_room, made_limit, reallocated_room};
 ghost use Rattle.triple_arena_stack.specs.Disjoint.{DisjointAnswer, set_both};
 
@@ -49,7 +49,7 @@ pub fn put<T: Drop, S: NonZeroInxGenericStack<Slot<T>>>(
     value: T,
 ) -> Result<NonZeroUsize, NotWithinCapacityError>
     ensures variant { IsOk result
-        ↔ (length (S.items slots.old) < capacity_of (S.room slots.old) (S.limit slots.old)) }
+        ↔ (length (S.items slots.old) < stack_capacity (S.room slots.old) (S.limit slots.old)) }
     ensures index { IfOk result (λ inx. non_zero_usize_get inx ≡ length (S.items slots.old) + 1) }
     ensures items { OnOk result (S.items slots.new ≡ S.items slots.old ++ Slot.Full value ∷ []) }
     ensures room { S.room slots.new ≡ S.room slots.old }
@@ -65,7 +65,7 @@ pub fn put_over<T: Drop, S: NonZeroInxGenericStack<Slot<T>>>(
     value: T,
     next: usize,
 ) -> NonZeroUsize
-    requires { length (S.items slots.old) < capacity_of (S.room slots.old) (S.limit slots.old) }
+    requires { length (S.items slots.old) < stack_capacity (S.room slots.old) (S.limit slots.old) }
     ensures index { non_zero_usize_get result ≡ length (S.items slots.old) + 1 }
     ensures items { S.items slots.new ≡ S.items slots.old ++ Slot.Free next ∷ [] }
     ensures room { S.room slots.new ≡ S.room slots.old }
@@ -85,7 +85,7 @@ pub fn put_growing<T: Drop, S: NonZeroInxGenericStack<Slot<T>>>(
         ≡ room_for_one_more (S.room slots.old) (S.limit slots.old) (length (S.items slots.old))) }
     ensures refused { OnErr result (slots.new ≡ slots.old) }
     ensures had_room { length (S.items slots.old)
-        < capacity_of (S.room slots.old) (S.limit slots.old) → IsOk result }
+        < stack_capacity (S.room slots.old) (S.limit slots.old) → IsOk result }
 {
     slots.push(Slot::Full(value))
 }
@@ -187,7 +187,7 @@ pub fn reserve<T, S: NonZeroInxGenericStack<Slot<T>>>(
 ) -> Result<usize, ReallocationError>
     ensures items { S.items slots.new ≡ S.items slots.old }
     ensures limit { S.limit slots.new ≡ S.limit slots.old }
-    ensures capacity { IfOk result (λ capacity. capacity ≡ capacity_of
+    ensures capacity { IfOk result (λ capacity. capacity ≡ stack_capacity
         (reallocated_room S.kind (S.room slots.old) (length (S.items slots.old)) min_capacity)
         (S.limit slots.old)) }
     ensures refused { OnErr result (slots.new ≡ slots.old) }
@@ -203,10 +203,10 @@ pub fn reserve<T, S: NonZeroInxGenericStack<Slot<T>>>(
 /// Whether the slots have reached their limit; a stack without one is on the heap.
 pub fn is_at_limit<T, S: NonZeroInxGenericStack<Slot<T>>>(slots: &S) -> bool
     ensures value { IsTrue result
-        ↔ IsAtLimit (S.limit slots.now) (capacity_of (S.room slots.now) (S.limit slots.now)) }
+        ↔ IsAtLimit (S.limit slots.now) (stack_capacity (S.room slots.now) (S.limit slots.now)) }
     ensures of_kind { IsOfKind S.kind (S.room slots.now) (S.limit slots.now) }
     ensures within { length (S.items slots.now)
-        ≤ capacity_of (S.room slots.now) (S.limit slots.now) }
+        ≤ stack_capacity (S.room slots.now) (S.limit slots.now) }
 {
     let capacity = slots.capacity();
     match slots.max_capacity() {

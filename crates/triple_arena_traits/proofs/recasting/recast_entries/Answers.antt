@@ -33,7 +33,7 @@ walk-preserved g c =
       rw same (walk_ok _ _ _ _ _ _ _ _ c.args.arena.now c.walk.arena k _ c.unwrap-value.result.now c.recast.new.self w
           (sym (ap option_copied_mut c.unwrap-value.ensures) ∙ c.get_mut.ensures.value) c.recast.ensures.after (sym c.recast.ensures.answer ∙ c.in_ok-recast.was)),
       g.met.A.ArenaTrait.limit_with_value _ _ _ ∙ c.walk.invariant.2,
-      g.met.A.ArenaTrait.fitting_with_value _ _ _ ∙ c.walk.invariant.3,
+      g.met.A.ArenaTrait.capacity_with_value _ _ _ ∙ c.walk.invariant.3,
       λ h fits. c.get_mut.ensures.fresh _ h (c.walk.invariant.4 h fits),
       keys ∙ c.walk.invariant.5,
     )
@@ -65,7 +65,7 @@ pub returns-in_err-recast-clause-limit : goal.returns-in_err-recast-clause-limit
 returns-in_err-recast-clause-limit g c = g.met.A.ArenaTrait.limit_with_value _ _ _ ∙ c.walk.invariant.2
 
 pub returns-in_err-recast-clause-capacity : goal.returns-in_err-recast-clause-capacity
-returns-in_err-recast-clause-capacity g c = g.met.A.ArenaTrait.fitting_with_value _ _ _ ∙ c.walk.invariant.3
+returns-in_err-recast-clause-capacity g c = g.met.A.ArenaTrait.capacity_with_value _ _ _ ∙ c.walk.invariant.3
 
 pub returns-in_err-recast-clause-fresh : goal.returns-in_err-recast-clause-fresh
 returns-in_err-recast-clause-fresh g c = λ h fits. c.get_mut.ensures.fresh _ h (c.walk.invariant.4 h fits)

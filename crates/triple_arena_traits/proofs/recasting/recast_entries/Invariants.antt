@@ -12,7 +12,7 @@ invariant-walk g l =
     g.met.A.CompactArenaTrait.with_value_same g.met.A.ArenaTrait.slots_with_value
     l.fn.arena l.arena (keys_ahead (g.A.ArenaTrait.stand l.advancer) (g.A.ArenaTrait.slots l.arena))
     × (g.A.ArenaTrait.limit l.arena ≡ g.A.ArenaTrait.limit l.fn.arena)
-    × (g.A.ArenaTrait.fitting l.arena ≡ g.A.ArenaTrait.fitting l.fn.arena)
+    × (g.A.ArenaTrait.capacity l.arena ≡ g.A.ArenaTrait.capacity l.fn.arena)
     × Continues g.A.ArenaTrait.fits l.fn.arena [] l.arena
     × (keys (g.A.ArenaTrait.slots l.arena) ≡ keys (g.A.ArenaTrait.slots l.fn.arena))
 

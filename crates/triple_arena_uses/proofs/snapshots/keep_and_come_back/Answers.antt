@@ -12,9 +12,9 @@ returns g c = record {
       let first = there.cloned (Ok tt) refl in
       let back = c.clone_from-2.ensures in
       let second = back.cloned (Ok x) is in
-      let one : ClonesInto g.A.ArenaTrait.slots g.A.ArenaTrait.fitting g.B.ArenaTrait.slots g.B.ArenaTrait.fitting g.B.ArenaCloneFromWith.clones c.args.table.now c.args.kept.now c.clone_from.new.self =
+      let one : ClonesInto g.A.ArenaTrait.slots g.A.ArenaTrait.capacity g.B.ArenaTrait.slots g.B.ArenaTrait.capacity g.B.ArenaCloneFromWith.clones c.args.table.now c.args.kept.now c.clone_from.new.self =
       record { next = _; copy = first.0; cloned = first.2; same_end = there.same_end; source_fits = there.source_fits; fits = there.fits } in
-      let two : ClonesInto g.B.ArenaTrait.slots g.B.ArenaTrait.fitting g.A.ArenaTrait.slots g.A.ArenaTrait.fitting g.A.ArenaCloneFromWith.clones c.clone_from.new.self c.args.table.now c.clone_from-2.new.self =
+      let two : ClonesInto g.B.ArenaTrait.slots g.B.ArenaTrait.capacity g.A.ArenaTrait.slots g.A.ArenaTrait.capacity g.A.ArenaCloneFromWith.clones c.clone_from.new.self c.args.table.now c.clone_from-2.new.self =
       record { next = _; copy = second.0; cloned = second.2; same_end = rw is at back.same_end; source_fits = back.source_fits; fits = back.fits } in
       (c.clones_settle.ensures.settled (c.args.table.now, c.args.kept.now) true (c.args.table.now, c.clone_from.new.self) (false ∷ []) (c.clone_from-2.new.self, c.clone_from.new.self) (refl, one) ((c.clone_from-2.new.self, c.clone_from.new.self), (refl, two), refl)).0);
 }

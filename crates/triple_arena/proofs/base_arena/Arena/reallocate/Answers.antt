@@ -1,6 +1,6 @@
 use Rattle.triple_arena_slots.proofs.Resizing.{placed, as_shown, room_changed}
 use Rattle.triple_arena_ptr.specs.Numbers.{greatest_index}
-use Rattle.triple_arena_stack.specs.Capacity.{capacity_of, IsWithin, IsBeyond}
+use Rattle.triple_arena_stack.specs.Capacity.{stack_capacity, IsWithin, IsBeyond}
 use Rattle.triple_arena_stack.specs.StackKind.{reallocated_room}
 use Rattle.triple_arena_base.specs.declared.errors.ReallocationError.TheVariants.{BeyondMaxCapacity}
 use Rattle.std.specs.Option.{option_map}
@@ -30,4 +30,4 @@ pub returns-clause-given : goal.returns-clause-given
 returns-clause-given g c = as_shown g.P.Gen.PtrGen.number _ _ _ _ _ _ _ _ c.args.self.now (λ room limit n. IsWithin limit c.args.min_capacity → g.S.NonZeroInxGenericStack.has_memory (reallocated_room g.S.NonZeroInxGenericStack.kind room n c.args.min_capacity) → IsOk c.reallocate.result) c.self.invariant c.self.view_is c.reallocate.ensures.given
 
 pub returns-clause-place : goal.returns-clause-place
-returns-clause-place g c = placed c.reallocate.result c.args.min_capacity (capacity_of (g.S.NonZeroInxGenericStack.room c.reallocate.new.self.stack) (g.S.NonZeroInxGenericStack.limit c.reallocate.new.self.stack)) (greatest_index g.P.Inx.PtrInx.greatest) c.reallocate.ensures.place
+returns-clause-place g c = placed c.reallocate.result c.args.min_capacity (stack_capacity (g.S.NonZeroInxGenericStack.room c.reallocate.new.self.stack) (g.S.NonZeroInxGenericStack.limit c.reallocate.new.self.stack)) (greatest_index g.P.Inx.PtrInx.greatest) c.reallocate.ensures.place

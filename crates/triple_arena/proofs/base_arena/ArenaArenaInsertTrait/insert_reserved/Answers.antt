@@ -1,4 +1,4 @@
-use Rattle.triple_arena_stack.specs.Capacity.{capacity_of}
+use Rattle.triple_arena_stack.specs.Capacity.{stack_capacity}
 use Rattle.triple_arena_slots.specs.Layout.{Shows}
 use Rattle.triple_arena_slots.proofs.Resizing.{below_room}
 use Rattle.triple_arena_traits.specs.ArenaState.{ArenaState, arena_len, IsWellFormed}
@@ -62,7 +62,7 @@ occupy-requires-clause-shown g c κs within = (
   c.args.self.now,
   c.self.inside.len,
   subst (Shows g.P.Gen.PtrGen.number _ _ _) c.self.view_is c.self.invariant,
-  subst (λ (s : ArenaState g.row.T.Denot). arena_len c.args.self.now < capacity_of s.room s.limit) (sym c.self.view_is) (below_room c.args.self.now c.requires),
+  subst (λ (s : ArenaState g.row.T.Denot). arena_len c.args.self.now < stack_capacity s.room s.limit) (sym c.self.view_is) (below_room c.args.self.now c.requires),
 )
 
 pub returns-clause-free : goal.returns-clause-free

@@ -13,7 +13,7 @@ walk-init g c =
       goes_on = begins g.P.Ptr.numbers (goal.F-step g) _ _ _ c.advancer-advancer.ensures;
       wrote = wrote_none _ _ _ _ (keys_first _ _ c.advancer-advancer.ensures);
       limit = refl;
-      fitting = refl;
+      capacity = refl;
       fresh = λ h fits. fits;
     }
 
@@ -34,7 +34,7 @@ walk-preserved-in-Some-get_mut g c =
           c.walk.invariant.goes_on);
       wrote = rw (g.met.Self.ArenaTrait.slots_with_value _ _ _) (wrote_one _ _ _ _ _ _ (g.P.Ptr.numbers c.in-Some.p) _ (keys_taken _ _ _ _ _ c.walk.invariant.forward steps ∙ ap (λ ks. g.P.Ptr.numbers c.in-Some.p ∷ ks) (sym (ap keys_of (ahead_written _ _ _ _ _ _ steps)))) c.walk.invariant.wrote);
       limit = g.met.Self.ArenaTrait.limit_with_value _ _ _ ∙ c.walk.invariant.limit;
-      fitting = g.met.Self.ArenaTrait.fitting_with_value _ _ _ ∙ c.walk.invariant.fitting;
+      capacity = g.met.Self.ArenaTrait.capacity_with_value _ _ _ ∙ c.walk.invariant.capacity;
       fresh = λ h fits. c.get_mut.ensures.fresh _ h (c.walk.invariant.fresh h fits);
     }
 
@@ -49,7 +49,7 @@ pub returns-clause-limit : goal.returns-clause-limit
 returns-clause-limit g c = c.walk.invariant.limit
 
 pub returns-clause-capacity : goal.returns-clause-capacity
-returns-clause-capacity g c = c.walk.invariant.fitting
+returns-clause-capacity g c = c.walk.invariant.capacity
 
 pub returns-clause-fresh : goal.returns-clause-fresh
 returns-clause-fresh g c = c.walk.invariant.fresh

@@ -12,7 +12,7 @@ invariant-walk g l = record {
   goes_on : GoesOn g.P.Ptr.numbers (goal.F-step g) l.fn.f (entries (g.Self.ArenaTrait.slots l.fn.self)) (g.Self.ArenaTrait.stand l.advancer) (g.Self.ArenaTrait.slots l.self) l.f;
   wrote : Wrote g.Self.ArenaTrait.with_value (keys (g.Self.ArenaTrait.slots l.fn.self)) (keys_ahead (g.Self.ArenaTrait.stand l.advancer) (g.Self.ArenaTrait.slots l.self)) l.fn.self l.self;
   limit : g.Self.ArenaTrait.limit l.self ≡ g.Self.ArenaTrait.limit l.fn.self;
-  fitting : g.Self.ArenaTrait.fitting l.self ≡ g.Self.ArenaTrait.fitting l.fn.self;
+  capacity : g.Self.ArenaTrait.capacity l.self ≡ g.Self.ArenaTrait.capacity l.fn.self;
   fresh : Continues g.Self.ArenaTrait.fits l.fn.self [] l.self;
 }
 

@@ -60,7 +60,7 @@ returns-in_err-make_room-clause-same_end g c = on_ok_err _ _ (err_is _ _ c.from_
 
 pub returns-in_err-make_room-clause-source_fits : goal.returns-in_err-make_room-clause-source_fits
 returns-in_err-make_room-clause-source_fits g c =
-    subst (λ n. n ≤ g.A.ArenaTrait.fitting c.args.source.now) c.last_index.ensures.value c.last_index.ensures.fits
+    subst (λ n. n ≤ g.A.ArenaTrait.capacity c.args.source.now) c.last_index.ensures.value c.last_index.ensures.fits
 
 pub returns-clause-cloned : goal.returns-clause-cloned
 returns-clause-cloned g c answer is =
@@ -86,4 +86,4 @@ returns-clause-given g c allowed memory refused = no_refusal c.hold_copies.resul
 
 pub returns-clause-source_fits : goal.returns-clause-source_fits
 returns-clause-source_fits g c =
-    subst (λ n. n ≤ g.A.ArenaTrait.fitting c.args.source.now) c.last_index.ensures.value c.last_index.ensures.fits
+    subst (λ n. n ≤ g.A.ArenaTrait.capacity c.args.source.now) c.last_index.ensures.value c.last_index.ensures.fits

@@ -73,7 +73,7 @@ returns-in_err-make_room-clause-same_end g c = on_ok_err _ _ (err_is _ _ c.from_
 
 pub returns-in_err-make_room-clause-source_fits : goal.returns-in_err-make_room-clause-source_fits
 returns-in_err-make_room-clause-source_fits g c =
-    subst (λ n. n ≤ g.A.ArenaTrait.fitting c.args.source.now) c.last_index.ensures.value c.last_index.ensures.fits
+    subst (λ n. n ≤ g.A.ArenaTrait.capacity c.args.source.now) c.last_index.ensures.value c.last_index.ensures.fits
 
 pub returns-in-Ok-clause-cloned : goal.returns-in-Ok-clause-cloned
 returns-in-Ok-clause-cloned g c answer is =
@@ -96,7 +96,7 @@ returns-in-Ok-clause-given g c allowed memory refused = refused
 
 pub returns-in-Ok-clause-source_fits : goal.returns-in-Ok-clause-source_fits
 returns-in-Ok-clause-source_fits g c =
-    subst (λ n. n ≤ g.A.ArenaTrait.fitting c.args.source.now) c.last_index.ensures.value c.last_index.ensures.fits
+    subst (λ n. n ≤ g.A.ArenaTrait.capacity c.args.source.now) c.last_index.ensures.value c.last_index.ensures.fits
 
 pub returns-in-Err-clause-refused : goal.returns-in-Err-clause-refused
 returns-in-Err-clause-refused g c refused = absurd refused
@@ -113,4 +113,4 @@ returns-in-Err-clause-given g c allowed memory refused = refused
 
 pub returns-in-Err-clause-source_fits : goal.returns-in-Err-clause-source_fits
 returns-in-Err-clause-source_fits g c =
-    subst (λ n. n ≤ g.A.ArenaTrait.fitting c.args.source.now) c.last_index.ensures.value c.last_index.ensures.fits
+    subst (λ n. n ≤ g.A.ArenaTrait.capacity c.args.source.now) c.last_index.ensures.value c.last_index.ensures.fits

@@ -717,7 +717,7 @@ impl<P: Ptr, T, S: NonZeroInxGenericStack<ArenaSlot<P, T>>> Arena<P, T, S> {
             ↔ IsBeyond self.old.limit min_capacity }
         ensures succeeds { IsWithin self.old.limit min_capacity
             → (with_room_for S.kind self.old min_capacity).room ≡ self.old.room → IsOk result }
-        ensures given { IsWithin self.old.limit min_capacity
+        ensures with_memory { IsWithin self.old.limit min_capacity
             → S.has_memory (with_room_for S.kind self.old min_capacity).room → IsOk result }
         ensures place { OnOk result (min_capacity ≤ greatest_index P.Inx.greatest
             → min_capacity ≤ capacity self.new) }
@@ -732,7 +732,7 @@ impl<P: Ptr, T, S: NonZeroInxGenericStack<ArenaSlot<P, T>>> Arena<P, T, S> {
         ensures has_place { OnOk result (arena_len self.new < capacity self.new) }
         ensures beyond { (result ≡ Err ReallocationError.BeyondMaxCapacity)
             ↔ IsFullAtLimit (capacity self.old) self.old.limit (arena_len self.old) }
-        ensures given { CanGrow S.has_memory (capacity self.old) self.old.limit
+        ensures with_memory { CanGrow S.has_memory (capacity self.old) self.old.limit
             (greatest_index P.Inx.greatest) → IsOk result }
         ensures indexed { OnOk result (arena_len self.old ≡ capacity self.old
             → capacity self.old < greatest_index P.Inx.greatest) }

@@ -136,7 +136,7 @@ impl<P: Ptr, T, S: NonZeroInxGenericStack<ArenaSlot<P, T>>> Arena<P, T, S> {
             (λ entry. arena_len (entry_arena entry) < capacity (entry_arena entry)) }
         ensures beyond { (result ≡ Err ReallocationError.BeyondMaxCapacity)
             ↔ IsFullAtLimit (capacity self.old) self.old.limit (arena_len self.old) }
-        ensures given { CanGrow S.has_memory (capacity self.old) self.old.limit
+        ensures with_memory { CanGrow S.has_memory (capacity self.old) self.old.limit
             (greatest_index P.Inx.greatest) → IsOk result }
         ensures indexed { OnOk result (arena_len self.old ≡ capacity self.old
             → capacity self.old < greatest_index P.Inx.greatest) }
@@ -159,7 +159,7 @@ impl<P: Ptr, T, S: NonZeroInxGenericStack<ArenaSlot<P, T>>> Arena<P, T, S> {
             (λ entry. arena_len (entry_arena entry) < capacity (entry_arena entry)) }
         ensures beyond { (result ≡ Err ReallocationError.BeyondMaxCapacity)
             ↔ IsFullAtLimit (capacity self.old) self.old.limit (arena_len self.old) }
-        ensures given { CanGrow S.has_memory (capacity self.old) self.old.limit
+        ensures with_memory { CanGrow S.has_memory (capacity self.old) self.old.limit
             (greatest_index P.Inx.greatest) → IsOk result }
         ensures indexed { OnOk result (arena_len self.old ≡ capacity self.old
             → capacity self.old < greatest_index P.Inx.greatest) }

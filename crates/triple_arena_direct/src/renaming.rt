@@ -128,7 +128,7 @@ fn resolved_map<
         → IfErr result (Refuses (entry_count (A.slots this.old))
         (first_unresolved P.numbers (A.slots this.old)
         (held_all T.held (values (A.slots this.old))))) }
-    ensures given { MapHasMemory K.kind K.has_memory (last_index (A.slots this.old))
+    ensures with_memory { MapHasMemory K.kind K.has_memory (last_index (A.slots this.old))
         → IfErr result IsUnresolved }
     ensures unchanged { this.new ≡ this.old }
 {
@@ -152,7 +152,7 @@ fn own_map<
         ≡ keys (A.slots this.now)) }
     ensures refused { new_limit K.kind ≡ None
         → IfErr result (RefusesMemory (entry_count (A.slots this.now))) }
-    ensures given { MapHasMemory K.kind K.has_memory (last_index (A.slots this.now))
+    ensures with_memory { MapHasMemory K.kind K.has_memory (last_index (A.slots this.now))
         → IsOk result }
 {
     let mut all = empty_map(alloc, last_index(this));

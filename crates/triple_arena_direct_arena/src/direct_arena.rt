@@ -588,7 +588,7 @@ impl<P: Ptr, T, S: NonZeroInxGenericStack<DirectSlot<P, T>>> DirectArena<P, T, S
             ↔ IsBeyond self.old.limit min_capacity }
         ensures succeeds { IsWithin self.old.limit min_capacity
             → (with_room_for S.kind self.old min_capacity).room ≡ self.old.room → IsOk result }
-        ensures given { IsWithin self.old.limit min_capacity
+        ensures with_memory { IsWithin self.old.limit min_capacity
             → S.has_memory (with_room_for S.kind self.old min_capacity).room → IsOk result }
         ensures place { OnOk result (min_capacity ≤ greatest_index P.Inx.greatest
             → min_capacity ≤ direct_capacity self.new) }

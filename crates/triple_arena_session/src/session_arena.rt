@@ -70,7 +70,7 @@ pub(crate) trait SessionArena<P: Ptr, T, S: NonZeroInxGenericStack<ArenaSlot<P, 
         ensures succeeds { min_capacity ≤ greatest_index P.Inx.greatest
             → IsWithin (state self.old).limit min_capacity
             → KeepsRoom S.kind (state self.old) min_capacity → IsOk result }
-        ensures given { min_capacity ≤ greatest_index P.Inx.greatest
+        ensures with_memory { min_capacity ≤ greatest_index P.Inx.greatest
             → IsWithin (state self.old).limit min_capacity
             → S.has_memory (reallocated S.kind (state self.old) min_capacity).room → IsOk result };
 
@@ -87,7 +87,7 @@ pub(crate) trait SessionArena<P: Ptr, T, S: NonZeroInxGenericStack<ArenaSlot<P, 
         ensures pointer { IfOk result (λ p. P.numbers p ≡ next_pointer (state self.old)) }
         ensures inserted { OnOk result (state self.new ≡ inserted (grown S.kind (state self.old)) t) }
         ensures refused { OnErr result (state self.new ≡ state self.old) }
-        ensures given { CanGrow S.has_memory (capacity (state self.old)) (state self.old).limit
+        ensures with_memory { CanGrow S.has_memory (capacity (state self.old)) (state self.old).limit
             (greatest_index P.Inx.greatest) → IsOk result }
         ensures had_place { arena_len (state self.old) < capacity (state self.old)
             → IsOk result × (state self.new ≡ inserted (state self.old) t) };

@@ -89,7 +89,7 @@ impl<P: Ptr, X: Copy, S: NonZeroInxGenericStack<ArenaSlot<P, Node<X, P>>>> Stric
             ((min_capacity ≤ greatest_index P.Inx.greatest) × CanHold S.kind min_capacity) }
         ensures succeeds { min_capacity ≤ greatest_index P.Inx.greatest
             → TakesNoMemory S.kind min_capacity → IsOk result }
-        ensures given { min_capacity ≤ greatest_index P.Inx.greatest
+        ensures with_memory { min_capacity ≤ greatest_index P.Inx.greatest
             → CanHold S.kind min_capacity → S.has_memory min_capacity → IsOk result }
     {
         let arena = StrictArena::with_min_capacity(alloc, min_capacity)?;

@@ -189,7 +189,7 @@ impl<P: Ptr, T, S: NonZeroInxGenericStack<ArenaSlot<P, T>>> Slots<P, T, S> {
             (S.room self.old.stack) (length (S.items self.old.stack)) min_capacity
             ≡ S.room self.old.stack
             → IsOk result }
-        ensures given { IsWithin (S.limit self.old.stack) min_capacity
+        ensures with_memory { IsWithin (S.limit self.old.stack) min_capacity
             → S.has_memory (reallocated_room S.kind
             (S.room self.old.stack) (length (S.items self.old.stack)) min_capacity)
             → IsOk result }

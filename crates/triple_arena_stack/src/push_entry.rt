@@ -84,7 +84,7 @@ impl<T, K: NonZeroInxGenericStack<T>> NonZeroInxStack<T, K> {
         ensures beyond { (result ≡ Err ReallocationError.BeyondMaxCapacity)
             ↔ IsFullAtLimit (stack_capacity (K.room self.old) (K.limit self.old))
             (K.limit self.old) (length (K.items self.old)) }
-        ensures given { CanGrow K.has_memory (stack_capacity (K.room self.old) (K.limit self.old))
+        ensures with_memory { CanGrow K.has_memory (stack_capacity (K.room self.old) (K.limit self.old))
             (K.limit self.old) most_places → IsOk result }
         ensures same_reference { IfOk result (λ entry. entry_lender entry ≡ self.entry.ghost_name) }
         ensures* refused { sem 𝓛 (entry_rests T.row K.row self.entry result) }
@@ -108,7 +108,7 @@ impl<T, K: NonZeroInxGenericStack<T>> NonZeroInxStack<T, K> {
         ensures beyond { (result ≡ Err ReallocationError.BeyondMaxCapacity)
             ↔ IsFullAtLimit (stack_capacity (K.room self.old) (K.limit self.old))
             (K.limit self.old) (length (K.items self.old)) }
-        ensures given { CanGrow K.has_memory (stack_capacity (K.room self.old) (K.limit self.old))
+        ensures with_memory { CanGrow K.has_memory (stack_capacity (K.room self.old) (K.limit self.old))
             (K.limit self.old) most_places → IsOk result }
         ensures same_reference { IfOk result (λ entry. entry_lender entry ≡ self.entry.ghost_name) }
         ensures* refused { sem 𝓛 (entry_rests T.row K.row self.entry result) }

@@ -181,7 +181,7 @@ pub trait NonZeroInxGenericStack<T> {
         ensures limit { IfOk result (λ stack. limit stack ≡ made_limit kind min_capacity) }
         ensures holds { OnOk result (CanHold kind min_capacity) }
         ensures succeeds { TakesNoMemory kind min_capacity → IsOk result }
-        ensures given { CanHold kind min_capacity → has_memory min_capacity → IsOk result };
+        ensures with_memory { CanHold kind min_capacity → has_memory min_capacity → IsOk result };
 
     /// How many items fit: the smaller of room and limit.
     fn capacity(&self) -> usize
@@ -213,7 +213,7 @@ pub trait NonZeroInxGenericStack<T> {
             → reallocated_room kind (room self.old) (length (items self.old)) min_capacity
             ≡ room self.old
             → IsOk result }
-        ensures given { IsWithin (limit self.old) min_capacity
+        ensures with_memory { IsWithin (limit self.old) min_capacity
             → has_memory (reallocated_room kind
             (room self.old) (length (items self.old)) min_capacity)
             → IsOk result };
@@ -342,7 +342,7 @@ pub trait NonZeroInxGenericStack<T> {
         ensures beyond { (result ≡ Err ReallocationError.BeyondMaxCapacity)
             ↔ IsFullAtLimit (stack_capacity (room self.old) (limit self.old))
             (limit self.old) (length (items self.old)) }
-        ensures given { CanGrow has_memory (stack_capacity (room self.old) (limit self.old))
+        ensures with_memory { CanGrow has_memory (stack_capacity (room self.old) (limit self.old))
             (limit self.old) most_places → IsOk result }
     {
         grow_if_full(self)?;
@@ -367,7 +367,7 @@ pub trait NonZeroInxGenericStack<T> {
         ensures beyond { (result ≡ Err ReallocationError.BeyondMaxCapacity)
             ↔ IsFullAtLimit (stack_capacity (room self.old) (limit self.old))
             (limit self.old) (length (items self.old)) }
-        ensures given { CanGrow has_memory (stack_capacity (room self.old) (limit self.old))
+        ensures with_memory { CanGrow has_memory (stack_capacity (room self.old) (limit self.old))
             (limit self.old) most_places → IsOk result }
     {
         self.push_reallocating(t)

@@ -56,7 +56,7 @@ pub trait ArenaCloneFromWith<P: Ptr, T>: ArenaTrait<P, T> {
             ≡ Err (CloneFromError.Reallocation ReallocationError.BeyondMaxCapacity))
             ↔ ((Self.capacity self.old < last_index (A.slots source.now))
             × IsBeyond (Self.limit self.old) (last_index (A.slots source.now))) }
-        ensures given { IsWithin (Self.limit self.old) (last_index (A.slots source.now))
+        ensures with_memory { IsWithin (Self.limit self.old) (last_index (A.slots source.now))
             → Self.gets_room self.old (last_index (A.slots source.now)) → IsRoomRefusal result
             → ⊥ }
         ensures same_end { OnOk result
@@ -103,7 +103,7 @@ pub trait ArenaCloneFromWith<P: Ptr, T>: ArenaTrait<P, T> {
             ≡ Err (CloneFromError.Reallocation ReallocationError.BeyondMaxCapacity))
             ↔ ((Self.capacity self.old < last_index (A.slots source.now))
             × IsBeyond (Self.limit self.old) (last_index (A.slots source.now))) }
-        ensures given { IsWithin (Self.limit self.old) (last_index (A.slots source.now))
+        ensures with_memory { IsWithin (Self.limit self.old) (last_index (A.slots source.now))
             → Self.gets_room self.old (last_index (A.slots source.now)) → IsRoomRefusal result
             → ⊥ }
         ensures same_end { OnOk result
@@ -146,7 +146,7 @@ pub trait ArenaCloneFromWith<P: Ptr, T>: ArenaTrait<P, T> {
         ensures beyond { (result
             ≡ Err (CloneFromError.Reallocation ReallocationError.BeyondMaxCapacity))
             ↔ IsBeyond (new_limit Self.kind) (last_index (Self.slots self.now)) }
-        ensures given { IsWithin (new_limit Self.kind) (last_index (Self.slots self.now))
+        ensures with_memory { IsWithin (new_limit Self.kind) (last_index (Self.slots self.now))
             → Self.gets_room (Self.fresh (new_room Self.kind) (new_limit Self.kind))
             (last_index (Self.slots self.now)) → IsRoomRefusal result → ⊥ }
         ensures mapped { IsMapRefusal result

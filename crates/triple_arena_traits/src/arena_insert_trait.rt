@@ -59,7 +59,7 @@ pub trait ArenaInsertTrait<P: Ptr, T>: ArenaTrait<P, T> {
         ensures beyond { (result ≡ Err ReallocationError.BeyondMaxCapacity)
             ↔ IsFullAtLimit
             (Self.capacity self.old) (Self.limit self.old) (entry_count (Self.slots self.old)) }
-        ensures given { CanGrow Self.has_memory (Self.capacity self.old) (Self.limit self.old)
+        ensures with_memory { CanGrow Self.has_memory (Self.capacity self.old) (Self.limit self.old)
             (greatest_index P.Inx.greatest) → IsOk result }
         ensures indexed { OnOk result (entry_count (Self.slots self.old) ≡ Self.capacity self.old
             → Self.capacity self.old < greatest_index P.Inx.greatest) }
@@ -161,7 +161,7 @@ pub trait ArenaInsertTrait<P: Ptr, T>: ArenaTrait<P, T> {
         ensures beyond { (result ≡ Err ReallocationError.BeyondMaxCapacity)
             ↔ IsFullAtLimit
             (Self.capacity self.old) (Self.limit self.old) (entry_count (Self.slots self.old)) }
-        ensures given { CanGrow Self.has_memory (Self.capacity self.old) (Self.limit self.old)
+        ensures with_memory { CanGrow Self.has_memory (Self.capacity self.old) (Self.limit self.old)
             (greatest_index P.Inx.greatest) → IsOk result }
         ensures indexed { OnOk result (entry_count (Self.slots self.old) ≡ Self.capacity self.old
             → Self.capacity self.old < greatest_index P.Inx.greatest) }

@@ -116,7 +116,7 @@ pub trait ArenaTrait<P: Ptr, T>: Sized {
             ((min_capacity ≤ greatest_index P.Inx.greatest) × CanHold kind min_capacity) }
         ensures succeeds { min_capacity ≤ greatest_index P.Inx.greatest
             → TakesNoMemory kind min_capacity → IsOk result }
-        ensures given { min_capacity ≤ greatest_index P.Inx.greatest
+        ensures with_memory { min_capacity ≤ greatest_index P.Inx.greatest
             → CanHold kind min_capacity → has_memory min_capacity → IsOk result };
 
     /// How many entries fit without growth: the capacity of the stack, but at most the greatest
@@ -150,7 +150,7 @@ pub trait ArenaTrait<P: Ptr, T>: Sized {
         ensures succeeds { min_capacity ≤ greatest_index P.Inx.greatest
             → IsWithin (limit self.old) min_capacity
             → keeps_room self.old min_capacity → IsOk result }
-        ensures given { min_capacity ≤ greatest_index P.Inx.greatest
+        ensures with_memory { min_capacity ≤ greatest_index P.Inx.greatest
             → IsWithin (limit self.old) min_capacity
             → gets_room self.old min_capacity → IsOk result }
         ensures place { OnOk result (min_capacity ≤ capacity self.new) }

@@ -95,7 +95,7 @@ impl<P: Ptr, T, S: NonZeroInxGenericStack<ArenaSlot<P, T>>> Arena<P, T, S> {
             ↔ ((capacity self.old < entry_count (A.slots source.old))
             × (entry_count (A.slots source.old) ≤ greatest_index P.Inx.greatest)
             × IsBeyond self.old.limit (entry_count (A.slots source.old))) }
-        ensures given { entry_count (A.slots source.old) ≤ greatest_index P.Inx.greatest
+        ensures with_memory { entry_count (A.slots source.old) ≤ greatest_index P.Inx.greatest
             → IsWithin self.old.limit (entry_count (A.slots source.old))
             → S.has_memory (reallocated S.kind self.old (entry_count (A.slots source.old))).room
             → IsOk result }
@@ -114,7 +114,7 @@ impl<P: Ptr, T, S: NonZeroInxGenericStack<ArenaSlot<P, T>>> Arena<P, T, S> {
         ensures beyond { (result ≡ Err ReallocationError.BeyondMaxCapacity)
             ↔ ((capacity self.old < min_capacity) × (min_capacity ≤ greatest_index P.Inx.greatest)
             × IsBeyond self.old.limit min_capacity) }
-        ensures given { min_capacity ≤ greatest_index P.Inx.greatest
+        ensures with_memory { min_capacity ≤ greatest_index P.Inx.greatest
             → IsWithin self.old.limit min_capacity
             → S.has_memory (reallocated S.kind self.old min_capacity).room → IsOk result }
         ensures place { OnOk result (min_capacity ≤ capacity self.new) }

@@ -28,8 +28,8 @@ returns-then-self-capacity-clause-beyond g c =
     let shows = subst (Shows g.P.Gen.PtrGen.number _ _ _) c.self.view_is c.self.invariant in
     (λ e. absurd (cc), λ full. absurd (omega (arith, full.0, c.if-self-capacity.true, shows.counted, c.capacity-capacity.ensures.value)))
 
-pub returns-then-capacity-greatest-clause-given : goal.returns-then-capacity-greatest-clause-given
-returns-then-capacity-greatest-clause-given g c grows =
+pub returns-then-capacity-greatest-clause-with_memory : goal.returns-then-capacity-greatest-clause-with_memory
+returns-then-capacity-greatest-clause-with_memory g c grows =
     absurd (omega (arith, grows.1, c.if-capacity-greatest.true, c.capacity-capacity.ensures.value, c.get-greatest.ensures.value, c.max_index.ensures))
 
 pub returns-clause-done : goal.returns-clause-done
@@ -80,8 +80,8 @@ returns-then-is_at_limit-clause-beyond g c =
     let at_limit = rw (limit, c.capacity-capacity.ensures.value) at c.is_at_limit.ensures in
     (λ e. (full, at_limit.0 c.if-is_at_limit.true), λ h. refl)
 
-pub returns-then-is_at_limit-clause-given : goal.returns-then-is_at_limit-clause-given
-returns-then-is_at_limit-clause-given g c grows =
+pub returns-then-is_at_limit-clause-with_memory : goal.returns-then-is_at_limit-clause-with_memory
+returns-then-is_at_limit-clause-with_memory g c grows =
     let limit = c.max_capacity-limit.ensures.value ∙ ap (λ s. s.limit) c.self.view_is in
     let at_limit = rw (limit, c.capacity-capacity.ensures.value) at c.is_at_limit.ensures in
     absurd (not_within c.args.self.now.limit (capacity c.args.self.now) (at_limit.0 c.if-is_at_limit.true) grows.0)
@@ -113,8 +113,8 @@ returns-clause-had_place g c has =
 pub same-self : goal.same-self
 same-self g c = refl
 
-pub returns-then-self-capacity-clause-given : goal.returns-then-self-capacity-clause-given
-returns-then-self-capacity-clause-given g c can = refl
+pub returns-then-self-capacity-clause-with_memory : goal.returns-then-self-capacity-clause-with_memory
+returns-then-self-capacity-clause-with_memory g c can = refl
 
 pub returns-then-self-capacity-clause-had_place : goal.returns-then-self-capacity-clause-had_place
 returns-then-self-capacity-clause-had_place g c place = refl

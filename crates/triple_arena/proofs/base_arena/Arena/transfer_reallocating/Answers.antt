@@ -48,9 +48,9 @@ returns-in_err-make_room-clause-indexed g c = on_ok_err c.from_residual.result c
 pub returns-in_err-make_room-clause-beyond : goal.returns-in_err-make_room-clause-beyond
 returns-in_err-make_room-clause-beyond g c = same_error c.from_residual.result c.in_err-make_room.field-0.0 (err_is c.from_residual.result c.in_err-make_room.field-0.0 c.from_residual.ensures.1) _ _ (rw c.len.ensures.value at c.in_err-make_room.ensures.beyond)
 
-pub returns-in_err-make_room-clause-given : goal.returns-in_err-make_room-clause-given
-returns-in_err-make_room-clause-given g c within allowed has =
-    let given = rw c.len.ensures.value at c.in_err-make_room.ensures.given in
+pub returns-in_err-make_room-clause-with_memory : goal.returns-in_err-make_room-clause-with_memory
+returns-in_err-make_room-clause-with_memory g c within allowed has =
+    let given = rw c.len.ensures.value at c.in_err-make_room.ensures.with_memory in
     absurd (false≢true (given within allowed has))
 
 pub take_over-requires-clause-fits : goal.take_over-requires-clause-fits
@@ -62,5 +62,5 @@ returns-clause-counted g c = c.take_over.ensures.counted
 pub returns-clause-indexed : goal.returns-clause-indexed
 returns-clause-indexed g c = rw c.len.ensures.value at c.in_ok-make_room.ensures.indexed
 
-pub returns-clause-given : goal.returns-clause-given
-returns-clause-given g c within allowed has = refl
+pub returns-clause-with_memory : goal.returns-clause-with_memory
+returns-clause-with_memory g c within allowed has = refl

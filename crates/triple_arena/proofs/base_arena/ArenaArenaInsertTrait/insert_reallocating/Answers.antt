@@ -40,8 +40,8 @@ returns-in_err-grow_if_full-clause-refused g c = on_err c.from_residual.result c
 pub returns-in_err-grow_if_full-clause-beyond : goal.returns-in_err-grow_if_full-clause-beyond
 returns-in_err-grow_if_full-clause-beyond g c = same_error c.from_residual.result c.in_err-grow_if_full.field-0.0 (err_is c.from_residual.result c.in_err-grow_if_full.field-0.0 c.from_residual.ensures.1) _ _ c.in_err-grow_if_full.ensures.beyond
 
-pub returns-in_err-grow_if_full-clause-given : goal.returns-in_err-grow_if_full-clause-given
-returns-in_err-grow_if_full-clause-given g c can = absurd (false≢true (c.in_err-grow_if_full.ensures.given can))
+pub returns-in_err-grow_if_full-clause-with_memory : goal.returns-in_err-grow_if_full-clause-with_memory
+returns-in_err-grow_if_full-clause-with_memory g c can = absurd (false≢true (c.in_err-grow_if_full.ensures.with_memory can))
 
 pub returns-in_err-grow_if_full-clause-indexed : goal.returns-in_err-grow_if_full-clause-indexed
 returns-in_err-grow_if_full-clause-indexed g c = on_ok_err c.from_residual.result c.in_err-grow_if_full.field-0.0 (err_is c.from_residual.result c.in_err-grow_if_full.field-0.0 c.from_residual.ensures.1) _

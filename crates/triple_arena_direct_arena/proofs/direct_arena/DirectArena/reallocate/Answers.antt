@@ -39,9 +39,9 @@ returns-clause-succeeds g c within same =
     (subst (λ l. IsWithin l c.args.min_capacity) (sym (ap (λ (s : DirectState g.row.T.Denot). s.limit) c.self.view_is)) within)
     (room_asked g.P.Gen.PtrGen.number g.S.NonZeroInxGenericStack.kind _ _ _ _ c.args.self.now c.args.min_capacity c.self.view_is ∙ same ∙ sym (ap (λ (s : DirectState g.row.T.Denot). s.room) c.self.view_is))
 
-pub returns-clause-given : goal.returns-clause-given
-returns-clause-given g c within memory =
-    c.reallocate_min_capacity.ensures.given
+pub returns-clause-with_memory : goal.returns-clause-with_memory
+returns-clause-with_memory g c within memory =
+    c.reallocate_min_capacity.ensures.with_memory
     (subst (λ l. IsWithin l c.args.min_capacity) (sym (ap (λ (s : DirectState g.row.T.Denot). s.limit) c.self.view_is)) within)
     (subst g.S.NonZeroInxGenericStack.has_memory (sym (room_asked g.P.Gen.PtrGen.number g.S.NonZeroInxGenericStack.kind _ _ _ _ c.args.self.now c.args.min_capacity c.self.view_is)) memory)
 

@@ -15,8 +15,8 @@ returns-then-min_capacity-get-clause-beyond g c = (λ e. absurd (cc), λ h. absu
 pub returns-then-min_capacity-get-clause-succeeds : goal.returns-then-min_capacity-get-clause-succeeds
 returns-then-min_capacity-get-clause-succeeds g c within allowed keeps = absurd (below_above _ _ (subst (λ n. n < c.args.min_capacity) (c.get.ensures.value ∙ c.max_index.ensures) c.if-min_capacity-get.true) within)
 
-pub returns-then-min_capacity-get-clause-given : goal.returns-then-min_capacity-get-clause-given
-returns-then-min_capacity-get-clause-given g c within allowed has = absurd (below_above _ _ (subst (λ n. n < c.args.min_capacity) (c.get.ensures.value ∙ c.max_index.ensures) c.if-min_capacity-get.true) within)
+pub returns-then-min_capacity-get-clause-with_memory : goal.returns-then-min_capacity-get-clause-with_memory
+returns-then-min_capacity-get-clause-with_memory g c within allowed has = absurd (below_above _ _ (subst (λ n. n < c.args.min_capacity) (c.get.ensures.value ∙ c.max_index.ensures) c.if-min_capacity-get.true) within)
 
 pub returns-clause-done : goal.returns-clause-done
 returns-clause-done g c = subst (λ (s : DirectState g.row.T.Denot). OnOk c.reallocate.result (c.reallocate.new.self ≡ with_room_for g.S.NonZeroInxGenericStack.kind s c.args.min_capacity)) c.shorten.ensures c.reallocate.ensures.done
@@ -35,8 +35,8 @@ returns-clause-beyond g c =
 pub returns-clause-succeeds : goal.returns-clause-succeeds
 returns-clause-succeeds g c within = subst (λ (s : DirectState g.row.T.Denot). IsWithin s.limit c.args.min_capacity → (with_room_for g.S.NonZeroInxGenericStack.kind s c.args.min_capacity).room ≡ s.room → IsOk c.reallocate.result) c.shorten.ensures c.reallocate.ensures.succeeds
 
-pub returns-clause-given : goal.returns-clause-given
-returns-clause-given g c within = subst (λ (s : DirectState g.row.T.Denot). IsWithin s.limit c.args.min_capacity → g.S.NonZeroInxGenericStack.has_memory (with_room_for g.S.NonZeroInxGenericStack.kind s c.args.min_capacity).room → IsOk c.reallocate.result) c.shorten.ensures c.reallocate.ensures.given
+pub returns-clause-with_memory : goal.returns-clause-with_memory
+returns-clause-with_memory g c within = subst (λ (s : DirectState g.row.T.Denot). IsWithin s.limit c.args.min_capacity → g.S.NonZeroInxGenericStack.has_memory (with_room_for g.S.NonZeroInxGenericStack.kind s c.args.min_capacity).room → IsOk c.reallocate.result) c.shorten.ensures c.reallocate.ensures.with_memory
 
 pub returns-clause-place : goal.returns-clause-place
 returns-clause-place g c = on_ok c.reallocate.result (λ h. h (subst (λ n. c.args.min_capacity ≤ n) (c.get.ensures.value ∙ c.max_index.ensures) c.if-min_capacity-get.false)) c.reallocate.ensures.place

@@ -28,7 +28,7 @@ returns-in-Ok-insert g c =
 pub returns-in-Err : goal.returns-in-Err
 returns-in-Err g c =
     let link : link_pointer c.args.self.now.table c.args.link ≡ Some (option_map g.P.Ptr.numbers c.in-Some.target) = sym c.link_pointer.ensures ∙ ap (option_map (option_map g.P.Ptr.numbers)) c.in-Some.is in
-    let full = arena_wants g.P.Ptr.numbers (g.A.SessionArena.state c.self.inside.arena) c.self.inside.table.items c.self.inside.table.room c.args.self.now c.self.view_is g.S.NonZeroInxGenericStack.has_memory _ c.refusal.ensures.greatest c.in-Err.ensures.given c.refusal.ensures.fits (λ place. (c.in-Err.ensures.had_place place).0) (g.A.SessionArena.state c.insert.new.self) c.make_room.new.self.items c.make_room.new.self.room c.in-Err.ensures.refused c.in-Ok.ensures.items c.in-Ok.ensures.grown in
+    let full = arena_wants g.P.Ptr.numbers (g.A.SessionArena.state c.self.inside.arena) c.self.inside.table.items c.self.inside.table.room c.args.self.now c.self.view_is g.S.NonZeroInxGenericStack.has_memory _ c.refusal.ensures.greatest c.in-Err.ensures.with_memory c.refusal.ensures.fits (λ place. (c.in-Err.ensures.had_place place).0) (g.A.SessionArena.state c.insert.new.self) c.make_room.new.self.items c.make_room.new.self.room c.in-Err.ensures.refused c.in-Ok.ensures.items c.in-Ok.ensures.grown in
     inr (ap is_some link, sym c.in-None.ensures.why, inr full)
 
 pub returns-in_default : goal.returns-in_default

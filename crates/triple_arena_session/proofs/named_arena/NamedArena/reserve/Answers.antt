@@ -15,6 +15,6 @@ returns g c =
       | in-Err-AllocError w ↦ reserved_not g.P.Ptr.numbers (g.A.SessionArena.state c.self.inside.arena) c.self.inside.table.items c.self.inside.table.room c.args.self.now c.self.view_is g.S.NonZeroInxGenericStack.kind g.P.Gen.PtrGen.counting g.P.Gen.PtrGen.greatest g.S.NonZeroInxGenericStack.has_memory c.args.count c.match-reallocate_min_capacity.result (g.A.SessionArena.state c.reallocate_min_capacity.new.self) w.result-is
           (λ le past. no_beyond w.in-Err-AllocError.is w.in-Err-AllocError.field-0-is (c.reallocate_min_capacity.ensures.beyond.1 (subst (λ n. c.args.count ≤ n) last le, past)))
           (λ le within same. no_success w.in-Err-AllocError.is (c.reallocate_min_capacity.ensures.succeeds (subst (λ n. c.args.count ≤ n) last le) within same))
-          (λ le within there. no_success w.in-Err-AllocError.is (c.reallocate_min_capacity.ensures.given (subst (λ n. c.args.count ≤ n) last le) within there))
+          (λ le within there. no_success w.in-Err-AllocError.is (c.reallocate_min_capacity.ensures.with_memory (subst (λ n. c.args.count ≤ n) last le) within there))
           w.in-Err-AllocError.ensures.refused
     ]

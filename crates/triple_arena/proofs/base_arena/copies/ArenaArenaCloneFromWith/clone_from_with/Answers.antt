@@ -49,10 +49,10 @@ pub returns-in_err-make_room-clause-beyond : goal.returns-in_err-make_room-claus
 returns-in_err-make_room-clause-beyond g c =
     beyond_room _ _ _ _ c.args.self.now.limit c.last_index.ensures.value c.last_index.ensures.indexed _ _ (err_is _ _ c.from_residual.ensures.1) c.in_err-make_room.ensures.beyond
 
-pub returns-in_err-make_room-clause-given : goal.returns-in_err-make_room-clause-given
-returns-in_err-make_room-clause-given g c allowed memory refused =
+pub returns-in_err-make_room-clause-with_memory : goal.returns-in_err-make_room-clause-with_memory
+returns-in_err-make_room-clause-with_memory g c allowed memory refused =
     let last = sym c.last_index.ensures.value in
-    true≢false (sym (c.in_err-make_room.ensures.given c.last_index.ensures.indexed (subst (IsWithin c.args.self.now.limit) last allowed)
+    true≢false (sym (c.in_err-make_room.ensures.with_memory c.last_index.ensures.indexed (subst (IsWithin c.args.self.now.limit) last allowed)
     (subst (λ n. g.S.NonZeroInxGenericStack.has_memory (reallocated g.S.NonZeroInxGenericStack.kind c.args.self.now n).room) last memory)))
 
 pub returns-in_err-make_room-clause-same_end : goal.returns-in_err-make_room-clause-same_end
@@ -81,8 +81,8 @@ pub returns-clause-beyond : goal.returns-clause-beyond
 returns-clause-beyond g c =
     not_beyond _ _ _ _ c.args.self.now.limit c.last_index.ensures.value c.last_index.ensures.indexed _ c.hold_copies.result _ c.map_err.ensures.cases c.in_ok-make_room.ensures.beyond
 
-pub returns-clause-given : goal.returns-clause-given
-returns-clause-given g c allowed memory refused = no_refusal c.hold_copies.result _ c.map_err.ensures.cases refused
+pub returns-clause-with_memory : goal.returns-clause-with_memory
+returns-clause-with_memory g c allowed memory refused = no_refusal c.hold_copies.result _ c.map_err.ensures.cases refused
 
 pub returns-clause-source_fits : goal.returns-clause-source_fits
 returns-clause-source_fits g c =

@@ -62,10 +62,10 @@ pub returns-in_err-make_room-clause-beyond : goal.returns-in_err-make_room-claus
 returns-in_err-make_room-clause-beyond g c =
     beyond_room _ _ _ _ c.args.self.now.limit c.last_index.ensures.value c.last_index.ensures.indexed _ _ (err_is _ _ c.from_residual.ensures.1) c.in_err-make_room.ensures.beyond
 
-pub returns-in_err-make_room-clause-given : goal.returns-in_err-make_room-clause-given
-returns-in_err-make_room-clause-given g c allowed memory refused =
+pub returns-in_err-make_room-clause-with_memory : goal.returns-in_err-make_room-clause-with_memory
+returns-in_err-make_room-clause-with_memory g c allowed memory refused =
     let last = sym c.last_index.ensures.value in
-    true≢false (sym (c.in_err-make_room.ensures.given c.last_index.ensures.indexed (subst (IsWithin c.args.self.now.limit) last allowed)
+    true≢false (sym (c.in_err-make_room.ensures.with_memory c.last_index.ensures.indexed (subst (IsWithin c.args.self.now.limit) last allowed)
     (subst (λ n. g.S.NonZeroInxGenericStack.has_memory (reallocated g.S.NonZeroInxGenericStack.kind c.args.self.now n).room) last memory)))
 
 pub returns-in_err-make_room-clause-same_end : goal.returns-in_err-make_room-clause-same_end
@@ -91,8 +91,8 @@ pub returns-in-Ok-clause-beyond : goal.returns-in-Ok-clause-beyond
 returns-in-Ok-clause-beyond g c =
     not_beyond _ _ _ _ c.args.self.now.limit c.last_index.ensures.value c.last_index.ensures.indexed _ (λ refused. refused) _ c.in_ok-make_room.ensures.beyond
 
-pub returns-in-Ok-clause-given : goal.returns-in-Ok-clause-given
-returns-in-Ok-clause-given g c allowed memory refused = refused
+pub returns-in-Ok-clause-with_memory : goal.returns-in-Ok-clause-with_memory
+returns-in-Ok-clause-with_memory g c allowed memory refused = refused
 
 pub returns-in-Ok-clause-source_fits : goal.returns-in-Ok-clause-source_fits
 returns-in-Ok-clause-source_fits g c =
@@ -108,8 +108,8 @@ pub returns-in-Err-clause-beyond : goal.returns-in-Err-clause-beyond
 returns-in-Err-clause-beyond g c =
     not_beyond _ _ _ _ c.args.self.now.limit c.last_index.ensures.value c.last_index.ensures.indexed _ (λ refused. refused) _ c.in_ok-make_room.ensures.beyond
 
-pub returns-in-Err-clause-given : goal.returns-in-Err-clause-given
-returns-in-Err-clause-given g c allowed memory refused = refused
+pub returns-in-Err-clause-with_memory : goal.returns-in-Err-clause-with_memory
+returns-in-Err-clause-with_memory g c allowed memory refused = refused
 
 pub returns-in-Err-clause-source_fits : goal.returns-in-Err-clause-source_fits
 returns-in-Err-clause-source_fits g c =

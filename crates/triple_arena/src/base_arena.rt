@@ -121,7 +121,7 @@ impl<P: Ptr, T, S: NonZeroInxGenericStack<ArenaSlot<P, T>>> ArenaTrait<P, T> for
     ghost has_memory = { S.has_memory };
 
     // no slot, and the first generation as the counter
-    ghost fresh = { λ room limit. new_arena room limit (greatest_index P.Inx.greatest)
+    ghost empty = { λ room limit. new_arena room limit (greatest_index P.Inx.greatest)
         (first_generation P.Gen.counting) };
 
     // the counter
@@ -300,9 +300,9 @@ impl<P: Ptr, T, S: NonZeroInxGenericStack<ArenaSlot<P, T>>> ArenaTrait<P, T> for
         self.inc_generation()
     }
 
-    ghost slots_fresh = { λ _ _. refl };
+    ghost slots_empty = { λ _ _. refl };
 
-    ghost limit_fresh = { λ _ _. refl };
+    ghost limit_empty = { λ _ _. refl };
 
     ghost capacity_empty = { λ _ _. refl };
 

@@ -99,7 +99,7 @@ impl<P: Ptr, T, S: NonZeroInxGenericStack<DirectSlot<P, T>>> ArenaTrait<P, T>
     ghost has_memory = { S.has_memory };
 
     // no slot
-    ghost fresh = { λ room limit. new_direct room limit (greatest_index P.Inx.greatest) };
+    ghost empty = { λ room limit. new_direct room limit (greatest_index P.Inx.greatest) };
 
     // an insertion is told its generation
     ghost next_generation = { λ _. None };
@@ -266,9 +266,9 @@ impl<P: Ptr, T, S: NonZeroInxGenericStack<DirectSlot<P, T>>> ArenaTrait<P, T>
         InvalidationOption::Success(())
     }
 
-    ghost slots_fresh = { λ _ _. refl };
+    ghost slots_empty = { λ _ _. refl };
 
-    ghost limit_fresh = { λ _ _. refl };
+    ghost limit_empty = { λ _ _. refl };
 
     ghost capacity_empty = { λ _ _. refl };
 

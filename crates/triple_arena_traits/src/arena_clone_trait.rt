@@ -136,23 +136,23 @@ pub trait ArenaCloneFromWith<P: Ptr, T>: ArenaTrait<P, T> {
         requires exact { (x y : T) → T.is_clone x y → y ≡ x }
         ensures cloned { IfOk result (λ copy. (new : List (Option (ℕ × T)))
             × IsFront T.is_infallible (entries (Self.slots self.now)) (Ok tt) new
-            × clones (Self.fresh (new_room Self.kind) (new_limit Self.kind))
+            × clones (Self.empty (new_room Self.kind) (new_limit Self.kind))
             (last_index (Self.slots self.now)) (Self.next_generation self.now) new copy) }
         ensures entries { IfOk result (λ copy. KeepsEntries (Self.slots self.now)
             (Self.slots copy)) }
         ensures short { IsRoomRefusal result
-            → Self.capacity (Self.fresh (new_room Self.kind) (new_limit Self.kind))
+            → Self.capacity (Self.empty (new_room Self.kind) (new_limit Self.kind))
             < last_index (Self.slots self.now) }
         ensures beyond { (result
             ≡ Err (CloneFromError.Reallocation ReallocationError.BeyondMaxCapacity))
             ↔ IsBeyond (new_limit Self.kind) (last_index (Self.slots self.now)) }
         ensures with_memory { IsWithin (new_limit Self.kind) (last_index (Self.slots self.now))
-            → Self.gets_room (Self.fresh (new_room Self.kind) (new_limit Self.kind))
+            → Self.gets_room (Self.empty (new_room Self.kind) (new_limit Self.kind))
             (last_index (Self.slots self.now)) → IsRoomRefusal result → ⊥ }
         ensures mapped { IsMapRefusal result
             → SomeMayFail T.is_infallible (entries (Self.slots self.now)) }
         ensures succeeds { ((x : T) → T.is_infallible x) → last_index (Self.slots self.now)
-            ≤ Self.capacity (Self.fresh (new_room Self.kind) (new_limit Self.kind))
+            ≤ Self.capacity (Self.empty (new_room Self.kind) (new_limit Self.kind))
             → IsOk result }
     {
         let mut copy = Self::new(alloc);

@@ -56,7 +56,7 @@ pub trait ArenaTrait<P: Ptr, T>: Sized {
     ghost has_memory: { ℕ → Type 0 };
 
     // the arena without slots, of this room and this limit
-    ghost fresh: { ℕ → Option ℕ → Self };
+    ghost empty: { ℕ → Option ℕ → Self };
 
     // the generation of the next insertion, where the arena gives it
     ghost next_generation: { Self → Option ℕ };
@@ -103,7 +103,7 @@ pub trait ArenaTrait<P: Ptr, T>: Sized {
 
     /// An arena without slots, with the room and the limit of a new stack. It takes no memory.
     fn new(alloc: Global) -> Self
-        ensures { result ≡ fresh (new_room kind) (new_limit kind) };
+        ensures { result ≡ empty (new_room kind) (new_limit kind) };
 
     /// An arena without slots, over a stack with room for `min_capacity`.
     ///
@@ -111,7 +111,7 @@ pub trait ArenaTrait<P: Ptr, T>: Sized {
     /// array of fewer places, and any other where memory is refused, which it isn't where it is there.
     fn with_min_capacity(alloc: Global, min_capacity: usize) -> Result<Self, AllocError>
         ensures made { IfOk result
-            (λ arena. arena ≡ fresh (made_room kind min_capacity) (made_limit kind min_capacity)) }
+            (λ arena. arena ≡ empty (made_room kind min_capacity) (made_limit kind min_capacity)) }
         ensures holds { OnOk result
             ((min_capacity ≤ greatest_index P.Inx.greatest) × CanHold kind min_capacity) }
         ensures succeeds { min_capacity ≤ greatest_index P.Inx.greatest
@@ -298,12 +298,12 @@ pub trait ArenaTrait<P: Ptr, T>: Sized {
             → Continues fits self.old (clearing (keys (slots self.old)) ∷ []) self.new };
 
     // an arena without slots has none, and its limit and capacity are those asked for
-    ghost slots_fresh: { (room : ℕ) (limit : Option ℕ) → slots (fresh room limit) ≡ [] };
+    ghost slots_empty: { (room : ℕ) (limit : Option ℕ) → slots (empty room limit) ≡ [] };
 
-    ghost limit_fresh: { (room : ℕ) (most : Option ℕ) → limit (fresh room most) ≡ most };
+    ghost limit_empty: { (room : ℕ) (most : Option ℕ) → limit (empty room most) ≡ most };
 
     ghost capacity_empty: { (room : ℕ) (most : Option ℕ)
-        → capacity (fresh room most) ≡ min (stack_capacity room most) (greatest_index P.Inx.greatest) };
+        → capacity (empty room most) ≡ min (stack_capacity room most) (greatest_index P.Inx.greatest) };
 
     // another value changes one entry's value, and leaves the number of entries, limit and capacity
     ghost slots_with_value: { (arena : Self) (i : ℕ) (value : T)

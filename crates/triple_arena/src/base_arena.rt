@@ -500,7 +500,7 @@ impl<P: Ptr, T, S: NonZeroInxGenericStack<ArenaSlot<P, T>>> Arena<P, T, S> {
         ensures state { self.new ≡ record self.old {
           counter = raise P.Gen.counting P.Gen.greatest self.old.counter;
         } }
-        ensures fresh { CountsUp P.Gen.counting (wraps P.Gen.counting P.Gen.greatest
+        ensures history { CountsUp P.Gen.counting (wraps P.Gen.counting P.Gen.greatest
             self.old.counter) → Continues Fits self.old [] self.new }
     {
         let (counter, wrapped) = P::Gen::generational_inc(self.counter);
@@ -513,7 +513,7 @@ impl<P: Ptr, T, S: NonZeroInxGenericStack<ArenaSlot<P, T>>> Arena<P, T, S> {
     pub fn canonicalize_freelist(&mut self)
         ensures state { IsTouched (tidied self.old) self.new }
         ensures in_order { IsInOrder self.old self.new }
-        ensures fresh { Continues Fits self.old (resizing ∷ []) self.new }
+        ensures history { Continues Fits self.old (resizing ∷ []) self.new }
     {
         self.slots.tidy();
     }
@@ -530,7 +530,7 @@ impl<P: Ptr, T, S: NonZeroInxGenericStack<ArenaSlot<P, T>>> Arena<P, T, S> {
         ensures same_len { arena_len self.new ≡ arena_len self.old }
         ensures same_capacity { capacity self.new ≡ capacity self.old }
         ensures ends_live { is_free (item self.new.slots (slot_count self.new)) ≡ false }
-        ensures fresh { Continues Fits self.old (resizing ∷ []) self.new }
+        ensures history { Continues Fits self.old (resizing ∷ []) self.new }
     {
         self.slots.remove_free_end();
     }
@@ -778,7 +778,7 @@ impl<P: Ptr, T, S: SetMaxCapacity<ArenaSlot<P, T>>> Arena<P, T, S> {
         ensures variant { IsOk result ↔ EndsBy self.old max_capacity }
         ensures done { OnOk result (IsTouched (with_limit self.old max_capacity) self.new) }
         ensures refused { OnErr result (IsTouched (tidied self.old) self.new) }
-        ensures fresh { Continues Fits self.old (resizing ∷ []) self.new }
+        ensures history { Continues Fits self.old (resizing ∷ []) self.new }
     {
         self.make_ready_for_limit(max_capacity);
         self.set_limit(max_capacity)

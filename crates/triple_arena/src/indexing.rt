@@ -34,7 +34,7 @@ impl<P: Ptr, T, S: NonZeroInxGenericStack<ArenaSlot<P, T>>> Arena<P, T, S> {
             ≡ Some result.now }
         ensures* writes_back { sem 𝓛 (Lends ⟦<Arena<P, T, S> as LendingArena>⟧.arena_row T.row
             self.entry result (with_value self.old (P.Inx.number inx))) }
-        ensures fresh { (value : T)
+        ensures written { (value : T)
             → Continues Fits self.old [] (with_value self.old (P.Inx.number inx) value) }
     {
         self.get_inx_mut(inx).unwrap()
@@ -63,7 +63,7 @@ impl<P: Ptr, T, S: NonZeroInxGenericStack<ArenaSlot<P, T>>> IndexMut<P> for Aren
         ensures value { look_up self.old (P.numbers p) ≡ Some result.now }
         ensures* writes_back { sem 𝓛 (Lends ⟦<Arena<P, T, S> as LendingArena>⟧.arena_row T.row
             self.entry result (with_value self.old (P.numbers p).0)) }
-        ensures fresh { (value : T)
+        ensures written { (value : T)
             → Continues Fits self.old [] (with_value self.old (P.numbers p).0 value) }
     {
         self.get_mut(p).unwrap()

@@ -92,7 +92,7 @@ impl<'a, P: Ptr, T, S: NonZeroInxGenericStack<ArenaSlot<P, T>>> ArenaInsertEntry
             ⟦<Arena<P, T, S> as LendingArena>⟧.arena_row
             T.row (entry_reference self.entry) result
             (⟦<Arena<P, T, S> as ArenaInsertTrait<P, T>>⟧.inserted (entry_arena self.entry))) }
-        ensures fresh { (value : T) → Continues Fits (entry_arena self.entry)
+        ensures history { (value : T) → Continues Fits (entry_arena self.entry)
             (insertion (next_pointer (entry_arena self.entry)) ∷ [])
             (⟦<Arena<P, T, S> as ArenaInsertTrait<P, T>>⟧.inserted (entry_arena self.entry) value) }
     {
@@ -112,7 +112,7 @@ impl<P: Ptr, T, S: NonZeroInxGenericStack<ArenaSlot<P, T>>> Arena<P, T, S> {
     ) -> Result<ArenaInsertEntry<'_, P, T, S>, NotWithinCapacityError>
         ensures variant { IsOk result ↔ (arena_len self.old < capacity self.old) }
         ensures arena { IfOk result (λ entry. entry_arena entry ≡ self.old) }
-        ensures fresh { IfOk result (λ entry. Continues Fits self.old [] (entry_arena entry)) }
+        ensures history { IfOk result (λ entry. Continues Fits self.old [] (entry_arena entry)) }
         ensures same_reference { IfOk result (λ entry. entry_lender entry ≡ self.entry.ghost_name) }
         ensures well_formed { IsWellFormed self.old }
         ensures* refused { sem 𝓛 (entry_rests
@@ -131,7 +131,7 @@ impl<P: Ptr, T, S: NonZeroInxGenericStack<ArenaSlot<P, T>>> Arena<P, T, S> {
         &mut self,
     ) -> Result<ArenaInsertEntry<'_, P, T, S>, ReallocationError>
         ensures arena { IfOk result (λ entry. entry_arena entry ≡ grown S.kind self.old) }
-        ensures fresh { IfOk result (λ entry. Continues Fits self.old [] (entry_arena entry)) }
+        ensures history { IfOk result (λ entry. Continues Fits self.old [] (entry_arena entry)) }
         ensures has_place { IfOk result
             (λ entry. arena_len (entry_arena entry) < capacity (entry_arena entry)) }
         ensures beyond { (result ≡ Err ReallocationError.BeyondMaxCapacity)
@@ -154,7 +154,7 @@ impl<P: Ptr, T, S: NonZeroInxGenericStack<ArenaSlot<P, T>>> Arena<P, T, S> {
     /// As [`Self::entry_insert_reallocating`].
     pub fn entry_insert(&mut self) -> Result<ArenaInsertEntry<'_, P, T, S>, ReallocationError>
         ensures arena { IfOk result (λ entry. entry_arena entry ≡ grown S.kind self.old) }
-        ensures fresh { IfOk result (λ entry. Continues Fits self.old [] (entry_arena entry)) }
+        ensures history { IfOk result (λ entry. Continues Fits self.old [] (entry_arena entry)) }
         ensures has_place { IfOk result
             (λ entry. arena_len (entry_arena entry) < capacity (entry_arena entry)) }
         ensures beyond { (result ≡ Err ReallocationError.BeyondMaxCapacity)

@@ -51,7 +51,7 @@ pub fn compress_recaster<P: Ptr, T, A: CompactArenaTrait<P, T>>(
     ensures len { entry_count (A.slots this.new) ≡ entry_count (A.slots this.old) }
     ensures limit { A.limit this.new ≡ A.limit this.old }
     ensures capacity { A.capacity this.new ≡ A.capacity this.old }
-    ensures fresh { OnOk result (reset_generation ≡ false
+    ensures history { OnOk result (reset_generation ≡ false
         → CountsUp P.Gen.counting (A.compression_wraps this.old reset_generation)
         → Continues A.fits this.old
         (compression (keys (A.slots this.old)) (keys (A.slots this.new)) ∷ []) this.new) }
@@ -94,7 +94,7 @@ pub fn compress_recast<P: Ptr, T: Recast<P>, A: CompactArenaTrait<P, T>>(
     ensures len { entry_count (A.slots this.new) ≡ entry_count (A.slots this.old) }
     ensures limit { A.limit this.new ≡ A.limit this.old }
     ensures capacity { A.capacity this.new ≡ A.capacity this.old }
-    ensures fresh { OnOk result (reset_generation ≡ false
+    ensures history { OnOk result (reset_generation ≡ false
         → CountsUp P.Gen.counting (A.compression_wraps this.old reset_generation)
         → Continues A.fits this.old
         (compression (keys (A.slots this.old)) (keys (A.slots this.new)) ∷ []) this.new) }

@@ -39,7 +39,7 @@ pub trait ArenaInsertTrait<P: Ptr, T>: ArenaTrait<P, T> {
         ensures inserted { self.new ≡ inserted self.old t }
         ensures valid { Self.valid self.old }
         ensures bounded { RisesByAtMost 6 (Self.steps self.old) (Self.steps self.new) }
-        ensures fresh { Continues Self.fits self.old (insertion (P.numbers result) ∷ []) self.new };
+        ensures history { Continues Self.fits self.old (insertion (P.numbers result) ∷ []) self.new };
 
     /// Inserts `t`, and gives its pointer. A full arena grows first: its capacity never falls, and
     /// it has a place then. An `Arena` grows to 4 slots or to twice its capacity, as far as the
@@ -68,7 +68,7 @@ pub trait ArenaInsertTrait<P: Ptr, T>: ArenaTrait<P, T> {
         ensures place { OnOk result (entry_count (Self.slots (grown self.old))
             < Self.capacity (grown self.old)) }
         ensures valid { Self.valid self.old }
-        ensures fresh { IfOk result
+        ensures history { IfOk result
             (λ p. Continues Self.fits self.old (insertion (P.numbers p) ∷ []) self.new) };
 
     // the generation of the next pointer is the one that the arena tells, where it tells one
@@ -136,7 +136,7 @@ pub trait ArenaInsertTrait<P: Ptr, T>: ArenaTrait<P, T> {
         ensures refused { OnErr result (self.new ≡ self.old) }
         ensures valid { Self.valid self.old }
         ensures bounded { RisesByAtMost 6 (Self.steps self.old) (Self.steps self.new) }
-        ensures fresh { IfOk result
+        ensures history { IfOk result
             (λ p. Continues Self.fits self.old (insertion (P.numbers p) ∷ []) self.new) }
     {
         if self.len() < self.capacity() {
@@ -170,7 +170,7 @@ pub trait ArenaInsertTrait<P: Ptr, T>: ArenaTrait<P, T> {
         ensures place { OnOk result (entry_count (Self.slots (grown self.old))
             < Self.capacity (grown self.old)) }
         ensures valid { Self.valid self.old }
-        ensures fresh { IfOk result
+        ensures history { IfOk result
             (λ p. Continues Self.fits self.old (insertion (P.numbers p) ∷ []) self.new) }
     {
         self.insert_reallocating(t)

@@ -154,7 +154,7 @@ pub trait ArenaTrait<P: Ptr, T>: Sized {
             → IsWithin (limit self.old) min_capacity
             → gets_room self.old min_capacity → IsOk result }
         ensures place { OnOk result (min_capacity ≤ capacity self.new) }
-        ensures fresh { Continues fits self.old (resizing ∷ []) self.new };
+        ensures history { Continues fits self.old (resizing ∷ []) self.new };
 
     /// How many entries there are: never more than the capacity.
     fn len(&self) -> usize
@@ -169,7 +169,7 @@ pub trait ArenaTrait<P: Ptr, T>: Sized {
     /// The value under `p`; none exactly where `p` is invalid.
     fn get(&self, p: P) -> Option<&T>
         ensures value { option_copied result ≡ look_up_in (slots self.now) (P.numbers p) }
-        ensures fresh { (h : History) → fits h self.now
+        ensures history { (h : History) → fits h self.now
             → is_some result ≡ remains h (P.numbers p) };
 
     /// The value under `p`, for writing; none exactly where `p` is invalid.
@@ -177,9 +177,9 @@ pub trait ArenaTrait<P: Ptr, T>: Sized {
         ensures value { option_copied_mut result ≡ look_up_in (slots self.old) (P.numbers p) }
         ensures* writes_back { sem 𝓛 (LendsIf Self.row T.row self.entry result
             (with_value self.old (P.numbers p).0) self.old) }
-        ensures found { (h : History) → fits h self.old
+        ensures history { (h : History) → fits h self.old
             → is_some result ≡ remains h (P.numbers p) }
-        ensures fresh { (value : T) → Continues fits self.old []
+        ensures written { (value : T) → Continues fits self.old []
             (with_value self.old (P.numbers p).0 value) };
 
     /// The generation and the value of the entry at `inx`; none exactly where there is no entry.
@@ -198,7 +198,7 @@ pub trait ArenaTrait<P: Ptr, T>: Sized {
             ≡ option_map (λ e. e.1) (entry_in (slots self.old) (P.Inx.number inx)) }
         ensures* writes_back { sem 𝓛 (LendsIf Self.row T.row self.entry result
             (with_value self.old (P.Inx.number inx)) self.old) }
-        ensures fresh { (value : T) → Continues fits self.old []
+        ensures written { (value : T) → Continues fits self.old []
             (with_value self.old (P.Inx.number inx) value) };
 
     /// The pointer of the entry of least index; none exactly where there is no entry.
@@ -242,7 +242,7 @@ pub trait ArenaTrait<P: Ptr, T>: Sized {
         ensures unchanged { look_up_in (slots self.old) (P.numbers p) ≡ None
             → unchanged self.old self.new }
         ensures bounded { RisesByAtMost 6 (steps self.old) (steps self.new) }
-        ensures fresh { IsSome (look_up_in (slots self.old) (P.numbers p))
+        ensures history { IsSome (look_up_in (slots self.old) (P.numbers p))
             → CountsUp P.Gen.counting (ending_wraps self.old) → Continues fits self.old
             (invalidation (P.numbers p) ((P.numbers p).0, renewed self.old (P.numbers p).0) ∷ [])
             self.new };
@@ -262,7 +262,7 @@ pub trait ArenaTrait<P: Ptr, T>: Sized {
         ensures unchanged { look_up_in (slots self.old) (P.numbers p) ≡ None
             → unchanged self.old self.new }
         ensures bounded { RisesByAtMost 6 (steps self.old) (steps self.new) }
-        ensures fresh { IsSome (look_up_in (slots self.old) (P.numbers p))
+        ensures history { IsSome (look_up_in (slots self.old) (P.numbers p))
             → CountsUp P.Gen.counting (ending_wraps self.old)
             → Continues fits self.old (removal (P.numbers p) ∷ []) self.new };
 
@@ -281,7 +281,7 @@ pub trait ArenaTrait<P: Ptr, T>: Sized {
         ensures unchanged { entry_in (slots self.old) (P.Inx.number inx) ≡ None
             → unchanged self.old self.new }
         ensures bounded { RisesByAtMost 6 (steps self.old) (steps self.new) }
-        ensures fresh { (generation : ℕ) (value : T)
+        ensures history { (generation : ℕ) (value : T)
             → entry_in (slots self.old) (P.Inx.number inx) ≡ Some (generation, value)
             → CountsUp P.Gen.counting (ending_wraps self.old)
             → Continues fits self.old (removal (P.Inx.number inx, generation) ∷ []) self.new };
@@ -294,7 +294,7 @@ pub trait ArenaTrait<P: Ptr, T>: Sized {
         ensures answer { result ≡ told (clearing_wraps self.old) tt }
         ensures done { clears self.old self.new }
         ensures gone { (q : Pointer) → look_up_in (slots self.new) q ≡ None }
-        ensures fresh { CountsUp P.Gen.counting (clearing_wraps self.old)
+        ensures history { CountsUp P.Gen.counting (clearing_wraps self.old)
             → Continues fits self.old (clearing (keys (slots self.old)) ∷ []) self.new };
 
     // an arena without slots has none, and its limit and capacity are those asked for
@@ -421,7 +421,7 @@ pub trait ArenaTrait<P: Ptr, T>: Sized {
     /// Whether `p` is valid.
     final fn contains(&self, p: P) -> bool
         ensures value { result ≡ is_some (look_up_in (slots self.now) (P.numbers p)) }
-        ensures fresh { (h : History) → fits h self.now → result ≡ remains h (P.numbers p) }
+        ensures history { (h : History) → fits h self.now → result ≡ remains h (P.numbers p) }
     {
         self.get(p).is_some()
     }

@@ -45,7 +45,7 @@ pub trait CompactArenaTrait<P: Ptr, T>: ArenaTrait<P, T> {
     /// keeps its generation, and the answer is `Success`.
     ///
     /// Without a reset and without a wrap it is one model call: it ends every pointer, and gives those
-    /// that stand after it (`fresh`). In each case a history can begin with these, if one fitted
+    /// that stand after it (`history`). In each case a history can begin with these, if one fitted
     /// before (`begun`).
     ///
     /// It takes no memory, limit and capacity stay, and it goes through the slots once.
@@ -65,7 +65,7 @@ pub trait CompactArenaTrait<P: Ptr, T>: ArenaTrait<P, T> {
         ensures len { entry_count (Self.slots self.new) ≡ entry_count (Self.slots self.old) }
         ensures limit { Self.limit self.new ≡ Self.limit self.old }
         ensures capacity { Self.capacity self.new ≡ Self.capacity self.old }
-        ensures fresh { reset_generation ≡ false
+        ensures history { reset_generation ≡ false
             → CountsUp P.Gen.counting (compression_wraps self.old reset_generation)
             → Continues Self.fits self.old
             (compression (keys (Self.slots self.old)) (keys (Self.slots self.new)) ∷ []) self.new }
@@ -131,7 +131,7 @@ pub trait CompactArenaTrait<P: Ptr, T>: ArenaTrait<P, T> {
         ensures len { entry_count (Self.slots self.new) ≡ entry_count (Self.slots self.old) }
         ensures limit { Self.limit self.new ≡ Self.limit self.old }
         ensures capacity { Self.capacity self.new ≡ Self.capacity self.old }
-        ensures fresh { reset_generation ≡ false
+        ensures history { reset_generation ≡ false
             → CountsUp P.Gen.counting (compression_wraps self.old reset_generation)
             → Continues Self.fits self.old
             (compression (keys (Self.slots self.old)) (keys (Self.slots self.new)) ∷ []) self.new }
@@ -172,7 +172,7 @@ pub trait CompactArenaTrait<P: Ptr, T>: ArenaTrait<P, T> {
             × (self.new ≡ written Self.with_value (keys (Self.slots self.old)) values self.old) }
         ensures limit { Self.limit self.new ≡ Self.limit self.old }
         ensures capacity { Self.capacity self.new ≡ Self.capacity self.old }
-        ensures fresh { Continues Self.fits self.old [] self.new }
+        ensures history { Continues Self.fits self.old [] self.new }
     {
         let mut advancer = self.advancer();
         'walk: while let Some(p) = advancer.advance(self) {

@@ -36,7 +36,7 @@ pub trait DisjointableArenaTrait<P: Ptr, T>: ArenaTrait<P, T> {
             (look_up_in (Self.slots self.old) (P.numbers second))
             r (λ x y. self.new ≡ Self.with_value
             (Self.with_value self.old (P.numbers first).0 x) (P.numbers second).0 y)) }
-        ensures fresh { Continues Self.fits self.old [] self.new };
+        ensures history { Continues Self.fits self.old [] self.new };
 
     /// Calls `f` at the entries at two indexes, in their order, each value after its generation, and
     /// gives its result; what it writes stands there, and nothing else changes.
@@ -62,5 +62,5 @@ pub trait DisjointableArenaTrait<P: Ptr, T>: ArenaTrait<P, T> {
             (entry_in (Self.slots self.old) (P.Inx.number second))
             r (λ x y. self.new ≡ Self.with_value
             (Self.with_value self.old (P.Inx.number first) x) (P.Inx.number second) y)) }
-        ensures fresh { Continues Self.fits self.old [] self.new };
+        ensures history { Continues Self.fits self.old [] self.new };
 }

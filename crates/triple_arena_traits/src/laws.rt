@@ -85,7 +85,7 @@ pub fn capacity_under_limit<T>()
 /// where there is a place, a removal where there is an entry, a limit that no entry stands past,
 /// slots that are laid out within the capacity, and every other step.
 pub fn well_formed_stays<T>()
-    ensures fresh { (room : ℕ) (limit : Option ℕ) (greatest counter : ℕ)
+    ensures new { (room : ℕ) (limit : Option ℕ) (greatest counter : ℕ)
         → IsWellFormed {T = T} (new_arena room limit greatest counter) }
     ensures inserted { (s : ArenaState T) (value : T) → IsWellFormed s → arena_len s < capacity s
         → IsWellFormed (inserted s value) }
@@ -149,7 +149,7 @@ pub fn pointers_are_fresh<T>()
 /// A recast gives and ends no pointer, whatever images the held items have, and leaves a well-formed
 /// arena well formed.
 pub fn recasts_are_fresh<I, T: Recast<I>>()
-    ensures fresh { (s : ArenaState T) (items : List I) → Continues Fits s []
+    ensures history { (s : ArenaState T) (items : List I) → Continues Fits s []
         (record s { slots = refill_slots T.held T.refill s.slots items }) }
     ensures well_formed { (s : ArenaState T) (items : List I) → IsWellFormed s
         → IsWellFormed (record s { slots = refill_slots T.held T.refill s.slots items }) }

@@ -26,7 +26,7 @@ pub fn recast_entries<I, P: Ptr, T: Recast<I>, A: CompactArenaTrait<P, T>, R: Re
     ensures keys { keys (A.slots arena.new) ≡ keys (A.slots arena.old) }
     ensures limit { A.limit arena.new ≡ A.limit arena.old }
     ensures capacity { A.capacity arena.new ≡ A.capacity arena.old }
-    ensures fresh { Continues A.fits arena.old [] arena.new }
+    ensures history { Continues A.fits arena.old [] arena.new }
 {
     let mut advancer = arena.advancer();
     'walk: while let Some(p) = advancer.advance(arena) {

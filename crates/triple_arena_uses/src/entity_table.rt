@@ -57,7 +57,7 @@ impl<S: NonZeroInxGenericStack<ArenaSlot<P0, Entity>>> EntityTable<S> {
     /// Refused as an insertion into an arena is; then nothing changes.
     pub fn spawn(&mut self, parent: Option<P0>) -> Result<P0, ReallocationError>
         ensures found { IfOk result (λ p. look_up self.new (numbers p) ≡ Some (spawned parent)) }
-        ensures fresh { IfOk result (λ p. entry self.old (numbers p).0 ≡ None) }
+        ensures free { IfOk result (λ p. entry self.old (numbers p).0 ≡ None) }
         ensures others { IfOk result (λ p. (q : Pointer) → q ≢ numbers p
             → look_up self.new q ≡ look_up self.old q) }
         ensures refused { OnErr result (self.new ≡ self.old) }

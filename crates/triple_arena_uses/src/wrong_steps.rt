@@ -5,7 +5,7 @@ ghost use Rattle.triple_arena_ptr.specs.Pointers.{Pointer};
 ghost use Rattle.triple_arena_traits.specs.ArenaState.{ArenaState, look_up};
 ghost use Rattle.triple_arena_traits.specs.Histories.{History, has, ended, remains, removal, invalidation, Fits, Continues};
 
-/// An arena may be made to leave anything, and its own clauses to say so: the clause `fresh` can't
+/// An arena may be made to leave anything, and its own clauses to say so: the clause `history` can't
 /// be proved of a removal that ends a pointer of the counter's generation and leaves the counter
 /// there, nor of an invalidation that gives the pointer which it ends; and one of a look-up can't
 /// where it finds something under a pointer that has ended.

@@ -124,7 +124,7 @@ impl<P: Ptr, T, S: NonZeroInxGenericStack<ArenaSlot<P, T>>> Arena<P, T, S> {
         ensures* writes_back { sem 𝓛 (lends_values ⟦<Arena<P, T, S> as LendingArena>⟧.arena_row
             self.entry (lent_name result) (with_values_of self.old)) }
         ensures keeps { KeepsPointers self.old }
-        ensures fresh { (w : ArenaState T)
+        ensures written { (w : ArenaState T)
             → Continues Fits self.old [] (with_values_of self.old w) }
         ensures rest { lent_rest result ≡ entries self.old.slots }
         ensures len { length (lent_rest result) ≡ arena_len self.old }
@@ -144,7 +144,7 @@ impl<P: Ptr, T, S: NonZeroInxGenericStack<ArenaSlot<P, T>>> Arena<P, T, S> {
         ensures* writes_back { sem 𝓛 (lends_values ⟦<Arena<P, T, S> as LendingArena>⟧.arena_row
             self.entry (lent_name result) (with_values_of self.old)) }
         ensures keeps { KeepsPointers self.old }
-        ensures fresh { (w : ArenaState T)
+        ensures written { (w : ArenaState T)
             → Continues Fits self.old [] (with_values_of self.old w) }
         ensures rest { lent_rest result ≡ values self.old.slots }
         ensures len { length (lent_rest result) ≡ arena_len self.old }
@@ -169,7 +169,7 @@ impl<'a, P: Ptr, T, S: NonZeroInxGenericStack<ArenaSlot<P, T>>> IntoIterator
         ensures* writes_back { sem 𝓛 (lends_values ⟦<Arena<P, T, S> as LendingArena>⟧.arena_row
             self.entry (lent_name result) (with_values_of self.old)) }
         ensures keeps { KeepsPointers self.old }
-        ensures fresh { (w : ArenaState T)
+        ensures written { (w : ArenaState T)
             → Continues Fits self.old [] (with_values_of self.old w) }
         ensures into_iter_gives { lent_rest result ≡ entries self.old.slots }
         ensures len { length (lent_rest result) ≡ arena_len self.old }

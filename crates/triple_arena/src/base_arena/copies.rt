@@ -60,7 +60,7 @@ impl<P: Ptr, T, S: NonZeroInxGenericStack<ArenaSlot<P, T>>> Arena<P, T, S> {
     /// with the new pointer. The pointer types may differ.
     ///
     /// `source` is left as its own removals leave it: it has no entry. Where none of them wraps its
-    /// counter, each history that fitted it goes on by the removals of its pointers (`fresh`). The
+    /// counter, each history that fitted it goes on by the removals of its pointers (`history`). The
     /// room changes only where there are more entries than fit, and no memory is taken elsewhere.
     ///
     /// Refused only where `source` has more entries than fit, and as `reallocate_min_capacity`
@@ -83,7 +83,7 @@ impl<P: Ptr, T, S: NonZeroInxGenericStack<ArenaSlot<P, T>>> Arena<P, T, S> {
             (P.Gen.number new_generation)) self.new) }
         ensures counted { OnOk result (arena_len self.new ≡ entry_count (A.slots source.old)) }
         ensures emptied { OnOk result (entry_count (A.slots source.new) ≡ 0) }
-        ensures fresh { OnOk result (NoneWraps A.removes A.ending_wraps Q.Gen.counting source.old
+        ensures history { OnOk result (NoneWraps A.removes A.ending_wraps Q.Gen.counting source.old
             (keys (A.slots source.old)) → Continues A.fits source.old
             (removals (keys (A.slots source.old))) source.new) }
         ensures refused { OnErr result (IsTouched (tidied self.old) self.new) }

@@ -27,7 +27,7 @@ pub struct Drain<'a, P: Ptr, T: Drop, A: CompactArenaTrait<P, T>> {
 impl<'a, P: Ptr, T: Drop, A: CompactArenaTrait<P, T>> Drop for Drain<'a, P, T, A> {
     fn drop(self)
         ensures cleared { A.clears (drain_arena self.entry) self.exit.0.now }
-        ensures fresh { CountsUp P.Gen.counting (A.clearing_wraps (drain_arena self.entry))
+        ensures history { CountsUp P.Gen.counting (A.clearing_wraps (drain_arena self.entry))
             → Continues A.fits (drain_arena self.entry)
             (clearing (keys (A.slots (drain_arena self.entry))) ∷ []) self.exit.0.now }
     {

@@ -77,15 +77,15 @@ returns-clause-limit g c = let d = returns-clause-done g c in g.met.A.CompactAre
 pub returns-clause-capacity : goal.returns-clause-capacity
 returns-clause-capacity g c = let d = returns-clause-done g c in g.met.A.CompactArenaTrait.capacity_compressed _ _ _ _ d.2
 
-pub returns-clause-fresh : goal.returns-clause-fresh
-returns-clause-fresh g c unset up h fits =
+pub returns-clause-history : goal.returns-clause-history
+returns-clause-history g c unset up h fits =
     let old = c.args.this.now in
     let same = c.in_ok-images.ensures.unchanged in
     let ks = rw same at c.compress-answer.ensures.keys in
-    rw (returns-clause-keys g c ∙ sym ks) (c.recast_entries-renamed.ensures.fresh _ ((rw same at c.compress-answer.ensures.fresh) unset up h fits))
+    rw (returns-clause-keys g c ∙ sym ks) (c.recast_entries-renamed.ensures.history _ ((rw same at c.compress-answer.ensures.history) unset up h fits))
 
 pub returns-clause-begun : goal.returns-clause-begun
 returns-clause-begun g c h fits =
     let same = c.in_ok-images.ensures.unchanged in
     let ks = rw same at c.compress-answer.ensures.keys in
-    rw (returns-clause-keys g c ∙ sym ks) (c.recast_entries-renamed.ensures.fresh _ ((rw same at c.compress-answer.ensures.begun) h fits))
+    rw (returns-clause-keys g c ∙ sym ks) (c.recast_entries-renamed.ensures.history _ ((rw same at c.compress-answer.ensures.begun) h fits))

@@ -5,8 +5,8 @@ use Rattle.triple_arena_traits.proofs.FreeEnd.{IsWellFormed-without_free_end}
 use Rattle.triple_arena_traits.specs.laws.EntryLaws.{well_formed-grown}
 use Rattle.triple_arena_traits.proofs.laws.well_formed_stays.Goals as goal
 
-pub returns-clause-fresh : goal.returns-clause-fresh
-returns-clause-fresh g c = IsWellFormed-empty
+pub returns-clause-new : goal.returns-clause-new
+returns-clause-new g c = IsWellFormed-empty
 
 pub returns-clause-inserted : goal.returns-clause-inserted
 returns-clause-inserted g c = IsWellFormed-inserted

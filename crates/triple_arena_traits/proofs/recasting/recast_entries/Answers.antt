@@ -34,7 +34,7 @@ walk-preserved g c =
           (sym (ap option_copied_mut c.unwrap-value.ensures) ∙ c.get_mut.ensures.value) c.recast.ensures.after (sym c.recast.ensures.answer ∙ c.in_ok-recast.was)),
       g.met.A.ArenaTrait.limit_with_value _ _ _ ∙ c.walk.invariant.2,
       g.met.A.ArenaTrait.capacity_with_value _ _ _ ∙ c.walk.invariant.3,
-      λ h fits. c.get_mut.ensures.fresh _ h (c.walk.invariant.4 h fits),
+      λ h fits. c.get_mut.ensures.written _ h (c.walk.invariant.4 h fits),
       keys ∙ c.walk.invariant.5,
     )
 
@@ -67,8 +67,8 @@ returns-in_err-recast-clause-limit g c = g.met.A.ArenaTrait.limit_with_value _ _
 pub returns-in_err-recast-clause-capacity : goal.returns-in_err-recast-clause-capacity
 returns-in_err-recast-clause-capacity g c = g.met.A.ArenaTrait.capacity_with_value _ _ _ ∙ c.walk.invariant.3
 
-pub returns-in_err-recast-clause-fresh : goal.returns-in_err-recast-clause-fresh
-returns-in_err-recast-clause-fresh g c = λ h fits. c.get_mut.ensures.fresh _ h (c.walk.invariant.4 h fits)
+pub returns-in_err-recast-clause-history : goal.returns-in_err-recast-clause-history
+returns-in_err-recast-clause-history g c = λ h fits. c.get_mut.ensures.written _ h (c.walk.invariant.4 h fits)
 
 pub returns-clause-after : goal.returns-clause-after
 returns-clause-after g c = (walk_end _ _ _ _ _ _ _ _ c.args.arena.now c.walk.arena (rw (keys_none _ _ _ _ (rw c.in_default.is at (g.met.A.CompactArenaTrait.advanced _ _ _ _ c.advance.ensures.steps))) at c.walk.invariant.1)).0

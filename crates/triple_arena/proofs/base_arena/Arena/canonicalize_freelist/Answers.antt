@@ -36,8 +36,8 @@ returns-clause-in_order g c =
     let counted : IsInOrder c.args.self.now (record (tidied c.args.self.now) { steps = c.tidy.new.self.steps.count }) = record { entries = order.entries; ends_live = order.ends_live; rising = order.rising } in
     subst (IsInOrder c.args.self.now) (sym (returns-clause-state g c).0) counted
 
-pub returns-clause-fresh : goal.returns-clause-fresh
-returns-clause-fresh g c =
+pub returns-clause-history : goal.returns-clause-history
+returns-clause-history g c =
     let state = returns-clause-state g c in
     Continues-resized c.args.self.now _ (settled_slots c.args.self.now _ state) (ap (λ (s : ArenaState g.row.T.Denot). s.counter) state.0)
 

@@ -13,7 +13,7 @@ returns g c =
       record {
         writes_back = tt;
         keeps = keeps_pointers c.args.self.now;
-        fresh = Continues-values_of c.args.self.now;
+        written = Continues-values_of c.args.self.now;
         rest = rest;
         len = ap length rest ∙ length-entries c.args.self.now.slots;
         fits = omega (arith, count_within c.args.self.now.slots);

@@ -55,8 +55,8 @@ pub returns-clause-ends_live : goal.returns-clause-ends_live
 returns-clause-ends_live g c =
     ap (λ s. is_free (item s.slots (slot_count s))) (returns-clause-state g c).0 ∙ trimmed_last c.args.self.now.slots
 
-pub returns-clause-fresh : goal.returns-clause-fresh
-returns-clause-fresh g c =
+pub returns-clause-history : goal.returns-clause-history
+returns-clause-history g c =
     Continues-touched c.args.self.now (without_free_end c.args.self.now) _ (resizing ∷ []) (returns-clause-state g c)
     (Continues-resized c.args.self.now (without_free_end c.args.self.now) (slots-without_free_end c.args.self.now (without_free_end c.args.self.now) refl) refl)
 

@@ -23,6 +23,6 @@ returns-clause-done g c =
     let limited : ArenaState g.row.T.Denot → ArenaState g.row.T.Denot = λ s. record s { limit = Some c.args.max_capacity } in
     on_ok c.set_limit.result (λ is. touched_through limited (λ s n m. refl) (λ s. refl) (ready_for_limit c.args.self.now c.args.max_capacity) c.make_ready_for_limit.new.self c.set_limit.new.self c.make_ready_for_limit.ensures.state (touched_same (limited c.make_ready_for_limit.new.self) c.set_limit.new.self is)) c.set_limit.ensures.done
 
-pub returns-clause-fresh : goal.returns-clause-fresh
-returns-clause-fresh g c =
+pub returns-clause-history : goal.returns-clause-history
+returns-clause-history g c =
     limited_goes_on c.set_limit.result c.args.self.now _ c.args.max_capacity (returns-clause-done g c) (returns-clause-refused g c)

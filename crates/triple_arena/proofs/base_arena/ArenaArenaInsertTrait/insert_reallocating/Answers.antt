@@ -21,9 +21,9 @@ pub returns-clause-place : goal.returns-clause-place
 returns-clause-place g c =
     subst (λ s. arena_len s < capacity s) c.in_ok-grow_if_full.ensures.done c.in_ok-grow_if_full.ensures.has_place
 
-pub returns-clause-fresh : goal.returns-clause-fresh
-returns-clause-fresh g c h fits =
-    c.insert_reserved.ensures.fresh h (Continues-grown g.S.NonZeroInxGenericStack.kind c.args.self.now c.grow_if_full.new.self c.in_ok-grow_if_full.ensures.done h fits)
+pub returns-clause-history : goal.returns-clause-history
+returns-clause-history g c h fits =
+    c.insert_reserved.ensures.history h (Continues-grown g.S.NonZeroInxGenericStack.kind c.args.self.now c.grow_if_full.new.self c.in_ok-grow_if_full.ensures.done h fits)
 
 pub returns-in_err-grow_if_full-clause-pointer : goal.returns-in_err-grow_if_full-clause-pointer
 returns-in_err-grow_if_full-clause-pointer g c = if_err c.from_residual.result c.in_err-grow_if_full.field-0.0 (err_is c.from_residual.result c.in_err-grow_if_full.field-0.0 c.from_residual.ensures.1) _
@@ -52,8 +52,8 @@ returns-in_err-grow_if_full-clause-had_place g c has = absurd (false≢true (c.i
 pub returns-in_err-grow_if_full-clause-place : goal.returns-in_err-grow_if_full-clause-place
 returns-in_err-grow_if_full-clause-place g c = on_ok_err c.from_residual.result c.in_err-grow_if_full.field-0.0 (err_is c.from_residual.result c.in_err-grow_if_full.field-0.0 c.from_residual.ensures.1) _
 
-pub returns-in_err-grow_if_full-clause-fresh : goal.returns-in_err-grow_if_full-clause-fresh
-returns-in_err-grow_if_full-clause-fresh g c = if_err c.from_residual.result c.in_err-grow_if_full.field-0.0 (err_is c.from_residual.result c.in_err-grow_if_full.field-0.0 c.from_residual.ensures.1) _
+pub returns-in_err-grow_if_full-clause-history : goal.returns-in_err-grow_if_full-clause-history
+returns-in_err-grow_if_full-clause-history g c = if_err c.from_residual.result c.in_err-grow_if_full.field-0.0 (err_is c.from_residual.result c.in_err-grow_if_full.field-0.0 c.from_residual.ensures.1) _
 
 pub insert_reserved-requires-after_bounds : goal.insert_reserved-requires-after_bounds
 insert_reserved-requires-after_bounds g c κs within = c.in_ok-grow_if_full.ensures.has_place

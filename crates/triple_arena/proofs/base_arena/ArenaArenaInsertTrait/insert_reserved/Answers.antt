@@ -47,8 +47,8 @@ returns-clause-valid g c = subst IsWellFormed c.self.view_is c.self.invariant.we
 pub returns-clause-pointer : goal.returns-clause-pointer
 returns-clause-pointer g c = c.next_ptr-p.ensures.pointer
 
-pub returns-clause-fresh : goal.returns-clause-fresh
-returns-clause-fresh g c =
+pub returns-clause-history : goal.returns-clause-history
+returns-clause-history g c =
     let is = returns-clause-inserted g c in
     let counted = ap (λ (s : ArenaState g.row.T.Denot). s.steps) is in
     Continues-touched c.args.self.now (inserted c.args.self.now c.args.t) _ (insertion (g.P.Ptr.numbers c.next_ptr-p.result) ∷ []) (is ∙ ap (λ k. record (inserted c.args.self.now c.args.t) { steps = k }) (sym counted), omega (arith, counted))

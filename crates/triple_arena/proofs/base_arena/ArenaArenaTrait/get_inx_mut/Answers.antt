@@ -26,7 +26,7 @@ returns g c =
       record {
         value = sym (entry_value_read c.args.self.now _ (g.P.Inx.PtrInx.number c.args.inx) (non_zero_usize_get c.in_ok-inx.inx) _ c.self.view_is c.in_ok-inx.ensures.index c.value_mut.ensures.value);
         writes_back = tt;
-        fresh = Continues-written c.args.self.now (g.P.Inx.PtrInx.number c.args.inx);
+        written = Continues-written c.args.self.now (g.P.Inx.PtrInx.number c.args.inx);
       },
     )
 
@@ -44,6 +44,6 @@ returns-in_err-inx g c =
       record {
         value = ap (option_map (λ e. e.1)) (sym (subst (λ (s : ArenaState g.row.T.Denot). entry s (g.P.Inx.PtrInx.number c.args.inx) ≡ None) c.self.view_is (none_of _ (sym c.in_err-inx.ensures.live))));
         writes_back = tt;
-        fresh = Continues-written c.args.self.now (g.P.Inx.PtrInx.number c.args.inx);
+        written = Continues-written c.args.self.now (g.P.Inx.PtrInx.number c.args.inx);
       },
     )

@@ -27,8 +27,8 @@ returns g c =
           record {
             value = value;
             writes_back = tt;
-            found = found_as_given c.args.self.now (g.P.Ptr.numbers c.args.p) _ value;
-            fresh = Continues-written c.args.self.now (g.P.Ptr.numbers c.args.p).0;
+            history = found_as_given c.args.self.now (g.P.Ptr.numbers c.args.p) _ value;
+            written = Continues-written c.args.self.now (g.P.Ptr.numbers c.args.p).0;
           },
     )
 
@@ -40,7 +40,7 @@ returns-in_err-inx g c =
       record {
         value = none;
         writes_back = tt;
-        found = found_as_given c.args.self.now (g.P.Ptr.numbers c.args.p) None none;
-        fresh = Continues-written c.args.self.now (g.P.Ptr.numbers c.args.p).0;
+        history = found_as_given c.args.self.now (g.P.Ptr.numbers c.args.p) None none;
+        written = Continues-written c.args.self.now (g.P.Ptr.numbers c.args.p).0;
       },
     )

@@ -63,8 +63,8 @@ returns-clause-others g c q away =
     let live : IsSome (look_up c.args.self.now p) = sym (rw c.in-Some.is at c.look_for.ensures.live) in
     others_found c.args.self.now.slots _ p.0 _ (invalidated_slots (raise g.P.Gen.PtrGen.counting g.P.Gen.PtrGen.greatest) c.args.self.now p.0 _ (returns-clause-done g c live)) q away
 
-pub returns-clause-fresh : goal.returns-clause-fresh
-returns-clause-fresh g c live counts =
+pub returns-clause-history : goal.returns-clause-history
+returns-clause-history g c live counts =
     let p = g.P.Ptr.numbers c.args.p in
     let left = invalidated (raise g.P.Gen.PtrGen.counting g.P.Gen.PtrGen.greatest) c.args.self.now p.0 in
     Continues-touched c.args.self.now left _ (invalidation p (p.0, raise g.P.Gen.PtrGen.counting g.P.Gen.PtrGen.greatest c.args.self.now.counter) ∷ []) (returns-clause-done g c live)
@@ -80,8 +80,8 @@ returns-in_default-clause-done g c live = absurd (true≢false (sym (c.in_defaul
 pub returns-in_default-clause-found : goal.returns-in_default-clause-found
 returns-in_default-clause-found g c live = absurd (true≢false (sym (c.in_default.ensures.live ∙ live)))
 
-pub returns-in_default-clause-fresh : goal.returns-in_default-clause-fresh
-returns-in_default-clause-fresh g c live counts = absurd (true≢false (sym (c.in_default.ensures.live ∙ live)))
+pub returns-in_default-clause-history : goal.returns-in_default-clause-history
+returns-in_default-clause-history g c live counts = absurd (true≢false (sym (c.in_default.ensures.live ∙ live)))
 
 pub restamp-requires-after_bounds : goal.restamp-requires-after_bounds
 restamp-requires-after_bounds g c κs within =

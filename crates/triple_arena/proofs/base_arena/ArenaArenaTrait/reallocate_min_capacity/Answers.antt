@@ -22,8 +22,8 @@ returns-then-min_capacity-get-clause-succeeds g c within allowed keeps = absurd 
 pub returns-then-min_capacity-get-clause-with_memory : goal.returns-then-min_capacity-get-clause-with_memory
 returns-then-min_capacity-get-clause-with_memory g c within allowed has = absurd (below_above _ _ (subst (λ n. n < c.args.min_capacity) (c.get.ensures.value ∙ c.max_index.ensures) c.if-min_capacity-get.true) within)
 
-pub returns-then-min_capacity-get-clause-fresh : goal.returns-then-min_capacity-get-clause-fresh
-returns-then-min_capacity-get-clause-fresh g c = c.canonicalize_freelist.ensures.fresh
+pub returns-then-min_capacity-get-clause-history : goal.returns-then-min_capacity-get-clause-history
+returns-then-min_capacity-get-clause-history g c = c.canonicalize_freelist.ensures.history
 
 pub returns-clause-done : goal.returns-clause-done
 returns-clause-done g c =
@@ -51,5 +51,5 @@ returns-clause-with_memory g c within = subst (λ (s : ArenaState g.row.T.Denot)
 pub returns-clause-place : goal.returns-clause-place
 returns-clause-place g c = on_ok c.reallocate.result (λ h. h (subst (λ n. c.args.min_capacity ≤ n) (c.get.ensures.value ∙ c.max_index.ensures) c.if-min_capacity-get.false)) c.reallocate.ensures.place
 
-pub returns-clause-fresh : goal.returns-clause-fresh
-returns-clause-fresh g c = reallocated_goes_on g.S.NonZeroInxGenericStack.kind c.reallocate.result c.args.self.now c.reallocate.new.self c.args.min_capacity (returns-clause-done g c) (returns-clause-refused g c)
+pub returns-clause-history : goal.returns-clause-history
+returns-clause-history g c = reallocated_goes_on g.S.NonZeroInxGenericStack.kind c.reallocate.result c.args.self.now c.reallocate.new.self c.args.min_capacity (returns-clause-done g c) (returns-clause-refused g c)

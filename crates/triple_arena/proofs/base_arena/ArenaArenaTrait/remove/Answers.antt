@@ -16,8 +16,8 @@ use Rattle.triple_arena.proofs.base_arena.ArenaArenaTrait.remove.Goals as goal
 pub returns-clause-done : goal.returns-clause-done
 returns-clause-done g c live = removed_after (raise g.P.Gen.PtrGen.counting g.P.Gen.PtrGen.greatest) c.args.self.now c.look_for.new.self c.take-generation.new.self _ _ c.in-Some.ensures.unchanged c.take-generation.ensures.state c.in-Some.ensures.index
 
-pub returns-clause-fresh : goal.returns-clause-fresh
-returns-clause-fresh g c live counts =
+pub returns-clause-history : goal.returns-clause-history
+returns-clause-history g c live counts =
     let p = g.P.Ptr.numbers c.args.p in
     let left = removed (raise g.P.Gen.PtrGen.counting g.P.Gen.PtrGen.greatest) c.args.self.now p.0 in
     Continues-touched c.args.self.now left _ (removal p ∷ []) (returns-clause-done g c live)
@@ -36,8 +36,8 @@ returns-in_default-clause-gone g c =
 pub returns-in_default-clause-others : goal.returns-in_default-clause-others
 returns-in_default-clause-others g c q away = ap (λ (s : ArenaState g.row.T.Denot). look_up s q) c.in_default.ensures.unchanged.0
 
-pub returns-in_default-clause-fresh : goal.returns-in_default-clause-fresh
-returns-in_default-clause-fresh g c live counts = absurd (true≢false (sym (c.in_default.ensures.live ∙ live)))
+pub returns-in_default-clause-history : goal.returns-in_default-clause-history
+returns-in_default-clause-history g c live counts = absurd (true≢false (sym (c.in_default.ensures.live ∙ live)))
 
 pub take-generation-requires-after_bounds : goal.take-generation-requires-after_bounds
 take-generation-requires-after_bounds g c κs within =

@@ -15,8 +15,8 @@ use Rattle.triple_arena.proofs.base_arena.ArenaArenaTrait.remove_inx.Goals as go
 pub returns-clause-done : goal.returns-clause-done
 returns-clause-done g c live = removed_after (raise g.P.Gen.PtrGen.counting g.P.Gen.PtrGen.greatest) c.args.self.now c.look_at.new.self c.take-taken.new.self _ _ c.in-Some.ensures.unchanged c.take-taken.ensures.state c.in-Some.ensures.index
 
-pub returns-clause-fresh : goal.returns-clause-fresh
-returns-clause-fresh g c generation value here counts =
+pub returns-clause-history : goal.returns-clause-history
+returns-clause-history g c generation value here counts =
     let i = g.P.Inx.PtrInx.number c.args.inx in
     let left = removed (raise g.P.Gen.PtrGen.counting g.P.Gen.PtrGen.greatest) c.args.self.now i in
     Continues-touched c.args.self.now left _ (removal (i, generation) ∷ []) (returns-clause-done g c (ap is_some here))
@@ -35,8 +35,8 @@ returns-in_default-clause-gone g c =
 pub returns-in_default-clause-others : goal.returns-in_default-clause-others
 returns-in_default-clause-others g c q away = ap (λ (s : ArenaState g.row.T.Denot). look_up s q) c.in_default.ensures.unchanged.0
 
-pub returns-in_default-clause-fresh : goal.returns-in_default-clause-fresh
-returns-in_default-clause-fresh g c generation value here counts = absurd (true≢false (sym (c.in_default.ensures.live ∙ ap is_some here)))
+pub returns-in_default-clause-history : goal.returns-in_default-clause-history
+returns-in_default-clause-history g c generation value here counts = absurd (true≢false (sym (c.in_default.ensures.live ∙ ap is_some here)))
 
 pub take-taken-requires-after_bounds : goal.take-taken-requires-after_bounds
 take-taken-requires-after_bounds g c κs within =

@@ -62,11 +62,11 @@ pub returns-in_err-i-clause-worked : goal.returns-in_err-i-clause-worked
 returns-in_err-i-clause-worked g c =
     if_err c.from_residual.result c.in_err-i.field-0.0 (err_is c.from_residual.result c.in_err-i.field-0.0 c.from_residual.ensures.1) _
 
-pub returns-in_err-i-clause-fresh : goal.returns-in_err-i-clause-fresh
-returns-in_err-i-clause-fresh g c h fits = fits
+pub returns-in_err-i-clause-history : goal.returns-in_err-i-clause-history
+returns-in_err-i-clause-history g c h fits = fits
 
-pub returns-in_default-clause-fresh : goal.returns-in_default-clause-fresh
-returns-in_default-clause-fresh g c h fits = fits
+pub returns-in_default-clause-history : goal.returns-in_default-clause-history
+returns-in_default-clause-history g c h fits = fits
 
 pub work_on_two-requires-clause-first : goal.work_on_two-requires-clause-first
 work_on_two-requires-clause-first g c κs within =
@@ -79,8 +79,8 @@ work_on_two-requires-clause-second g c κs within =
 pub work_on_two-requires-clause-apart : goal.work_on_two-requires-clause-apart
 work_on_two-requires-clause-apart g c κs within same = c.in_ok-i.ensures.variant.2 (sym c.in_ok-i.ensures.numbers.0 ∙ same ∙ c.in_ok-i.ensures.numbers.1)
 
-pub returns-clause-fresh : goal.returns-clause-fresh
-returns-clause-fresh g c =
+pub returns-clause-history : goal.returns-clause-history
+returns-clause-history g c =
     let w = c.work_on_two.ensures in
     Continues-two_written c.args.self.now _ (non_zero_usize_get c.in_ok-i.i) (non_zero_usize_get c.in_ok-i.j) w.2 w.3 w.7
 

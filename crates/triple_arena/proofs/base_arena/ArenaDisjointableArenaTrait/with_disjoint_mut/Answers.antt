@@ -61,11 +61,11 @@ work_on_two-requires-clause-callable g c κs within =
     let apart : first.0 ≢ second.0 = λ same. true≢false (sym (eq_true _ _ (at_first ∙ same ∙ sym at_second)) ∙ sym c.eq.ensures ∙ c.if-eq.false) in
     λ x y at_x at_y. c.requires apart x y (sym (value_under_pointer c.args.self.now.slots first _ at_first first_valid) ∙ at_x) (sym (value_under_pointer c.args.self.now.slots second _ at_second second_valid) ∙ at_y)
 
-pub returns-in_default-clause-fresh : goal.returns-in_default-clause-fresh
-returns-in_default-clause-fresh g c h fits = fits
+pub returns-in_default-clause-history : goal.returns-in_default-clause-history
+returns-in_default-clause-history g c h fits = fits
 
-pub returns-then-eq-clause-fresh : goal.returns-then-eq-clause-fresh
-returns-then-eq-clause-fresh g c h fits = fits
+pub returns-then-eq-clause-history : goal.returns-then-eq-clause-history
+returns-then-eq-clause-history g c h fits = fits
 
 pub work_on_two-requires-clause-first : goal.work_on_two-requires-clause-first
 work_on_two-requires-clause-first g c κs within =
@@ -91,8 +91,8 @@ returns-clause-variant g c =
       λ same. true≢false (sym (eq_true _ _ (at_first ∙ same ∙ sym at_second)) ∙ sym c.eq.ensures ∙ c.if-eq.false),
     )
 
-pub returns-clause-fresh : goal.returns-clause-fresh
-returns-clause-fresh g c =
+pub returns-clause-history : goal.returns-clause-history
+returns-clause-history g c =
     let w = c.work_on_two.ensures in
     Continues-two_written c.args.self.now _ (non_zero_usize_get c.in-Some-Some.first) (non_zero_usize_get c.in-Some-Some.second) w.2 w.3 w.7
 

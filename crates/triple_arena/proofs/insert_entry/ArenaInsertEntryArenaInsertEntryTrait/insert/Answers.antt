@@ -25,6 +25,6 @@ returns g c =
         value = same_Some _ _ ((rw c.unwrap.ensures at c.get_mut.ensures.value) ∙ found);
         free = subst (λ (q : Pointer). entry c.args.self.arena.now q.0 ≡ None) c.insert_reserved-p.ensures.pointer c.insert_reserved-p.ensures.free;
         writes_back = tt;
-        fresh = λ v. Continues-touched c.args.self.arena.now (inserted c.args.self.arena.now v) _ (insertion (next_pointer c.args.self.arena.now) ∷ []) (refl, omega arith) (Continues-inserted c.args.self.arena.now (inserted c.args.self.arena.now v) _ v c.insert_reserved-p.ensures.valid refl refl);
+        history = λ v. Continues-touched c.args.self.arena.now (inserted c.args.self.arena.now v) _ (insertion (next_pointer c.args.self.arena.now) ∷ []) (refl, omega arith) (Continues-inserted c.args.self.arena.now (inserted c.args.self.arena.now v) _ v c.insert_reserved-p.ensures.valid refl refl);
       },
     )

@@ -23,14 +23,14 @@ returns-clause-step g c =
 pub invariant_of-self : goal.invariant_of-self
 invariant_of-self g c counts =
     let allowed = ap (is_exhausted_for_any g.P.Gen.PtrGen.counting g.P.Gen.PtrGen.greatest) c.self.view_is ∙ sym c.is_exhausted_for_any.ensures ∙ c.if-is_exhausted_for_any.false in
-    up_to-continues c.self.inside.arena c.compress_with-answer.new.self (c.self.invariant counts) (compression (keys c.self.inside.arena.slots) (keys c.compress_with-answer.new.self.slots) ∷ []) (c.compress_with-answer.ensures.fresh refl (counts, allowed))
+    up_to-continues c.self.inside.arena c.compress_with-answer.new.self (c.self.invariant counts) (compression (keys c.self.inside.arena.slots) (keys c.compress_with-answer.new.self.slots) ∷ []) (c.compress_with-answer.ensures.history refl (counts, allowed))
 
 pub returns-clause-gone_for_good : goal.returns-clause-gone_for_good
 returns-clause-gone_for_good g c =
     let allowed = ap (is_exhausted_for_any g.P.Gen.PtrGen.counting g.P.Gen.PtrGen.greatest) c.self.view_is ∙ sym c.is_exhausted_for_any.ensures ∙ c.if-is_exhausted_for_any.false in
-    rw (← c.self.view_is) (λ counts. all_gone c.self.inside.arena c.compress_with-answer.new.self (compression (keys c.self.inside.arena.slots) (keys c.compress_with-answer.new.self.slots)) (c.self.invariant counts) (c.compress_with-answer.ensures.fresh refl (counts, allowed)) refl)
+    rw (← c.self.view_is) (λ counts. all_gone c.self.inside.arena c.compress_with-answer.new.self (compression (keys c.self.inside.arena.slots) (keys c.compress_with-answer.new.self.slots)) (c.self.invariant counts) (c.compress_with-answer.ensures.history refl (counts, allowed)) refl)
 
 pub returns-clause-stays_gone : goal.returns-clause-stays_gone
 returns-clause-stays_gone g c =
     let allowed = ap (is_exhausted_for_any g.P.Gen.PtrGen.counting g.P.Gen.PtrGen.greatest) c.self.view_is ∙ sym c.is_exhausted_for_any.ensures ∙ c.if-is_exhausted_for_any.false in
-    rw (← c.self.view_is) (λ counts. gone-continues c.self.inside.arena c.compress_with-answer.new.self (c.self.invariant counts) (compression (keys c.self.inside.arena.slots) (keys c.compress_with-answer.new.self.slots) ∷ []) (c.compress_with-answer.ensures.fresh refl (counts, allowed)))
+    rw (← c.self.view_is) (λ counts. gone-continues c.self.inside.arena c.compress_with-answer.new.self (c.self.invariant counts) (compression (keys c.self.inside.arena.slots) (keys c.compress_with-answer.new.self.slots) ∷ []) (c.compress_with-answer.ensures.history refl (counts, allowed)))

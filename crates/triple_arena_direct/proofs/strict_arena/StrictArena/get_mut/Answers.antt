@@ -3,7 +3,7 @@ use Rattle.triple_arena_direct.specs.laws.GoneLaws.{up_to-continues, gone-contin
 use Rattle.triple_arena_direct.proofs.strict_arena.StrictArena.get_mut.Goals as goal
 
 pub invariant_of-self-lent : goal.invariant_of-self-lent
-invariant_of-self-lent g c lent = (λ value counts. up_to-continues c.self.inside.arena _ (c.self.invariant counts) [] (c.get_mut.ensures.fresh value), c.self.invariant)
+invariant_of-self-lent g c lent = (λ value counts. up_to-continues c.self.inside.arena _ (c.self.invariant counts) [] (c.get_mut.ensures.written value), c.self.invariant)
 
 pub returns : goal.returns
 returns g c = (
@@ -11,9 +11,9 @@ returns g c = (
   record {
     value = rw (← c.self.view_is) c.get_mut.ensures.value;
     writes_back = tt;
-    history = rw (← c.self.view_is) c.get_mut.ensures.found;
+    history = rw (← c.self.view_is) c.get_mut.ensures.history;
     step = λ live value. (live, refl, refl);
-    written = rw (← c.self.view_is) c.get_mut.ensures.fresh;
-    stays_gone = rw (← c.self.view_is) (λ counts value. gone-continues c.self.inside.arena _ (c.self.invariant counts) [] (c.get_mut.ensures.fresh value));
+    written = rw (← c.self.view_is) c.get_mut.ensures.written;
+    stays_gone = rw (← c.self.view_is) (λ counts value. gone-continues c.self.inside.arena _ (c.self.invariant counts) [] (c.get_mut.ensures.written value));
   },
 )

@@ -9,7 +9,7 @@ pub invariant_of-self : goal.invariant_of-self
 invariant_of-self g c counts =
     up_to-continues c.self.inside.arena c.insert_reallocating.new.self (c.self.invariant counts)
     (calls_if_ok c.insert_reallocating.result (λ p. insertion (g.P.Ptr.numbers p)))
-    (inserted_history g.P.Ptr.numbers _ _ c.insert_reallocating.result c.insert_reallocating.ensures.fresh c.insert_reallocating.ensures.refused)
+    (inserted_history g.P.Ptr.numbers _ _ c.insert_reallocating.result c.insert_reallocating.ensures.history c.insert_reallocating.ensures.refused)
 
 pub returns-clause-step : goal.returns-clause-step
 returns-clause-step g c =
@@ -21,7 +21,7 @@ pub returns-clause-stays_gone : goal.returns-clause-stays_gone
 returns-clause-stays_gone g c =
     rw (← c.self.view_is) (λ counts. gone-continues c.self.inside.arena c.insert_reallocating.new.self (c.self.invariant counts)
     (calls_if_ok c.insert_reallocating.result (λ p. insertion (g.P.Ptr.numbers p)))
-    (inserted_history g.P.Ptr.numbers _ _ c.insert_reallocating.result c.insert_reallocating.ensures.fresh c.insert_reallocating.ensures.refused))
+    (inserted_history g.P.Ptr.numbers _ _ c.insert_reallocating.result c.insert_reallocating.ensures.history c.insert_reallocating.ensures.refused))
 
 pub returns-clause-inserted : goal.returns-clause-inserted
 returns-clause-inserted g c =

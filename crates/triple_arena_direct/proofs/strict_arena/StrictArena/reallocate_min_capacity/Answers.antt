@@ -5,8 +5,8 @@ use Rattle.triple_arena_direct.proofs.strict_arena.StrictArena.reallocate_min_ca
 
 pub invariant_of-self : goal.invariant_of-self
 invariant_of-self g c counts =
-    up_to-continues c.self.inside.arena c.reallocate_min_capacity.new.self (c.self.invariant counts) (resizing ∷ []) c.reallocate_min_capacity.ensures.fresh
+    up_to-continues c.self.inside.arena c.reallocate_min_capacity.new.self (c.self.invariant counts) (resizing ∷ []) c.reallocate_min_capacity.ensures.history
 
 pub returns-clause-stays_gone : goal.returns-clause-stays_gone
 returns-clause-stays_gone g c =
-    rw (← c.self.view_is) (λ counts. gone-continues c.self.inside.arena c.reallocate_min_capacity.new.self (c.self.invariant counts) (resizing ∷ []) c.reallocate_min_capacity.ensures.fresh)
+    rw (← c.self.view_is) (λ counts. gone-continues c.self.inside.arena c.reallocate_min_capacity.new.self (c.self.invariant counts) (resizing ∷ []) c.reallocate_min_capacity.ensures.history)

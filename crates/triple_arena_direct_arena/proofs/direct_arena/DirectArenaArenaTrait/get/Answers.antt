@@ -10,8 +10,8 @@ returns-clause-value g c =
     let at = g.met.P.Ptr.numbers_of c.args.p ∙ pointer_is _ _ _ (number c.generation.result) (ap g.P.Inx.PtrInx.number (sym c.inx.ensures)) (ap number (sym c.generation.ensures)) in
     c.value_under.ensures ∙ ap (option_and_then (value_under (number c.generation.result))) c.in_ok-slot.ensures.entry ∙ sym (ap (look_up_in c.args.self.now.slots) at)
 
-pub returns-clause-fresh : goal.returns-clause-fresh
-returns-clause-fresh g c h fits = absurd fits
+pub returns-clause-history : goal.returns-clause-history
+returns-clause-history g c h fits = absurd fits
 
 pub returns-in_err-slot-clause-value : goal.returns-in_err-slot-clause-value
 returns-in_err-slot-clause-value g c =
@@ -20,5 +20,5 @@ returns-in_err-slot-clause-value g c =
     let at = g.met.P.Ptr.numbers_of c.args.p ∙ pointer_is _ _ _ generation (ap g.P.Inx.PtrInx.number (sym c.inx.ensures)) refl in
     ap option_copied c.from_residual.ensures ∙ ap (option_and_then (value_under generation)) c.in_err-slot.ensures.entry ∙ sym (ap (look_up_in c.args.self.now.slots) at)
 
-pub returns-in_err-slot-clause-fresh : goal.returns-in_err-slot-clause-fresh
-returns-in_err-slot-clause-fresh g c h fits = absurd fits
+pub returns-in_err-slot-clause-history : goal.returns-in_err-slot-clause-history
+returns-in_err-slot-clause-history g c h fits = absurd fits

@@ -19,6 +19,6 @@ returns g c = (
   record {
     value = sym (entry_value_read _ c.args.self.now.slots (g.P.Inx.PtrInx.number c.args.inx) (non_zero_usize_get c.in_ok-inx.inx) _ (ap (λ s. s.slots) c.self.view_is) c.in_ok-inx.ensures.index c.value_mut.ensures.value);
     writes_back = tt;
-    fresh = λ value h none. none;
+    written = λ value h none. none;
   },
 )

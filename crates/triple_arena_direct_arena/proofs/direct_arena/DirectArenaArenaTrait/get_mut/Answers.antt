@@ -19,7 +19,7 @@ returns g c = (
   record {
     value = sym (value_read _ c.args.self.now.slots (g.P.Ptr.numbers c.args.p) (non_zero_usize_get c.in_ok-inx.inx) _ (ap (λ s. s.slots) c.self.view_is) c.in_ok-inx.ensures.index (sym c.in_ok-inx.ensures.live) c.value_mut.ensures.value);
     writes_back = tt;
-    found = λ h none. absurd none;
-    fresh = λ value h none. none;
+    history = λ h none. absurd none;
+    written = λ value h none. none;
   },
 )

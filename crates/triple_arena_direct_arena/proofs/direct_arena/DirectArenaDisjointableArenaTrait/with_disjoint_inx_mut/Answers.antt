@@ -61,11 +61,11 @@ pub returns-in_err-i-clause-worked : goal.returns-in_err-i-clause-worked
 returns-in_err-i-clause-worked g c =
     if_err c.from_residual.result c.in_err-i.field-0.0 (err_is c.from_residual.result c.in_err-i.field-0.0 c.from_residual.ensures.1) _
 
-pub returns-in_err-i-clause-fresh : goal.returns-in_err-i-clause-fresh
-returns-in_err-i-clause-fresh g c h fits = absurd fits
+pub returns-in_err-i-clause-history : goal.returns-in_err-i-clause-history
+returns-in_err-i-clause-history g c h fits = absurd fits
 
-pub returns-in_default-clause-fresh : goal.returns-in_default-clause-fresh
-returns-in_default-clause-fresh g c h fits = absurd fits
+pub returns-in_default-clause-history : goal.returns-in_default-clause-history
+returns-in_default-clause-history g c h fits = absurd fits
 
 pub work_on_two-requires-clause-first : goal.work_on_two-requires-clause-first
 work_on_two-requires-clause-first g c κs within =

@@ -60,11 +60,11 @@ work_on_two-requires-clause-callable g c κs within =
     let apart : first.0 ≢ second.0 = λ same. true≢false (sym (eq_true _ _ (at_first ∙ same ∙ sym at_second)) ∙ sym c.eq.ensures ∙ c.if-eq.false) in
     λ x y at_x at_y. c.requires apart x y (sym (value_under_pointer c.args.self.now.slots first _ at_first first_valid) ∙ at_x) (sym (value_under_pointer c.args.self.now.slots second _ at_second second_valid) ∙ at_y)
 
-pub returns-in_default-clause-fresh : goal.returns-in_default-clause-fresh
-returns-in_default-clause-fresh g c h fits = absurd fits
+pub returns-in_default-clause-history : goal.returns-in_default-clause-history
+returns-in_default-clause-history g c h fits = absurd fits
 
-pub returns-then-eq-clause-fresh : goal.returns-then-eq-clause-fresh
-returns-then-eq-clause-fresh g c h fits = absurd fits
+pub returns-then-eq-clause-history : goal.returns-then-eq-clause-history
+returns-then-eq-clause-history g c h fits = absurd fits
 
 pub work_on_two-requires-clause-first : goal.work_on_two-requires-clause-first
 work_on_two-requires-clause-first g c κs within =

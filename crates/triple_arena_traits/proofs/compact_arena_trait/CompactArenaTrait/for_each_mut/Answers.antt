@@ -14,7 +14,7 @@ walk-init g c =
       wrote = wrote_none _ _ _ _ (keys_first _ _ c.advancer-advancer.ensures);
       limit = refl;
       capacity = refl;
-      fresh = λ h fits. fits;
+      history = λ h fits. fits;
     }
 
 pub walk-smaller-in-Some-get_mut : goal.walk-smaller-in-Some-get_mut
@@ -35,7 +35,7 @@ walk-preserved-in-Some-get_mut g c =
       wrote = rw (g.met.Self.ArenaTrait.slots_with_value _ _ _) (wrote_one _ _ _ _ _ _ (g.P.Ptr.numbers c.in-Some.p) _ (keys_taken _ _ _ _ _ c.walk.invariant.forward steps ∙ ap (λ ks. g.P.Ptr.numbers c.in-Some.p ∷ ks) (sym (ap keys_of (ahead_written _ _ _ _ _ _ steps)))) c.walk.invariant.wrote);
       limit = g.met.Self.ArenaTrait.limit_with_value _ _ _ ∙ c.walk.invariant.limit;
       capacity = g.met.Self.ArenaTrait.capacity_with_value _ _ _ ∙ c.walk.invariant.capacity;
-      fresh = λ h fits. c.get_mut.ensures.fresh _ h (c.walk.invariant.fresh h fits);
+      history = λ h fits. c.get_mut.ensures.written _ h (c.walk.invariant.history h fits);
     }
 
 pub returns-clause-visited : goal.returns-clause-visited
@@ -51,8 +51,8 @@ returns-clause-limit g c = c.walk.invariant.limit
 pub returns-clause-capacity : goal.returns-clause-capacity
 returns-clause-capacity g c = c.walk.invariant.capacity
 
-pub returns-clause-fresh : goal.returns-clause-fresh
-returns-clause-fresh g c = c.walk.invariant.fresh
+pub returns-clause-history : goal.returns-clause-history
+returns-clause-history g c = c.walk.invariant.history
 
 pub walk-preserved : goal.walk-preserved
 walk-preserved g c =

@@ -13,7 +13,7 @@ invariant-walk g l = record {
   wrote : Wrote g.Self.ArenaTrait.with_value (keys (g.Self.ArenaTrait.slots l.fn.self)) (keys_ahead (g.Self.ArenaTrait.stand l.advancer) (g.Self.ArenaTrait.slots l.self)) l.fn.self l.self;
   limit : g.Self.ArenaTrait.limit l.self ≡ g.Self.ArenaTrait.limit l.fn.self;
   capacity : g.Self.ArenaTrait.capacity l.self ≡ g.Self.ArenaTrait.capacity l.fn.self;
-  fresh : Continues g.Self.ArenaTrait.fits l.fn.self [] l.self;
+  history : Continues g.Self.ArenaTrait.fits l.fn.self [] l.self;
 }
 
 abbrev pub decreases-walk : goal.decreases-walk

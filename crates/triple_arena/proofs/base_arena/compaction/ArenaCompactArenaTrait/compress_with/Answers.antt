@@ -25,8 +25,8 @@ returns-clause-limit g c = ap (λ s. s.limit) (returns-clause-moved g c).2.0
 pub returns-clause-capacity : goal.returns-clause-capacity
 returns-clause-capacity g c = ap capacity (returns-clause-moved g c).2.0
 
-pub returns-clause-fresh : goal.returns-clause-fresh
-returns-clause-fresh g c kept counts =
+pub returns-clause-history : goal.returns-clause-history
+returns-clause-history g c kept counts =
     let m = returns-clause-moved g c in
     compressed_goes_on g.P.Gen.PtrGen.counting g.P.Gen.PtrGen.greatest c.args.self.now c.close_up.new.self (first_generation g.P.Gen.PtrGen.counting) c.args.reset_generation m.0 kept counts
     (count-moved g.P.Ptr.numbers (goal.F-step g) _ c.args.f c.args.self.now.slots m.0 m.1) m.2

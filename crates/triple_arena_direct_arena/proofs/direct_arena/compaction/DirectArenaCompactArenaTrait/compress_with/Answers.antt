@@ -54,8 +54,8 @@ returns-clause-limit g c = ap (λ s. s.limit) (returns-clause-moved g c).2
 pub returns-clause-capacity : goal.returns-clause-capacity
 returns-clause-capacity g c = ap direct_capacity (returns-clause-moved g c).2
 
-pub returns-clause-fresh : goal.returns-clause-fresh
-returns-clause-fresh g c kept counts h fits = absurd fits
+pub returns-clause-history : goal.returns-clause-history
+returns-clause-history g c kept counts h fits = absurd fits
 
 pub returns-clause-begun : goal.returns-clause-begun
 returns-clause-begun g c h fits = absurd fits

@@ -57,8 +57,8 @@ pub fn compress_recaster<P: Ptr, T, A: CompactArenaTrait<P, T>>(
         (compression (keys (A.slots this.old)) (keys (A.slots this.new)) ∷ []) this.new) }
     ensures begun { OnOk result ((h : History) → A.fits h this.old
         → A.fits (begun_with (keys (A.slots this.new))) this.new) }
-    ensures refused { IfErr result (RefusesMemory (entry_count (A.slots this.old))) }
-    ensures unchanged { OnErr result (this.new ≡ this.old) }
+    ensures refusal { IfErr result (RefusesMemory (entry_count (A.slots this.old))) }
+    ensures refused { OnErr result (this.new ≡ this.old) }
 {
     let mut all = own_map(this, alloc)?;
     let answer = this.compress(reset_generation);
@@ -100,10 +100,10 @@ pub fn compress_recast<P: Ptr, T: Recast<P>, A: CompactArenaTrait<P, T>>(
         (compression (keys (A.slots this.old)) (keys (A.slots this.new)) ∷ []) this.new) }
     ensures begun { OnOk result ((h : History) → A.fits h this.old
         → A.fits (begun_with (keys (A.slots this.new))) this.new) }
-    ensures refused { IfErr result (Refuses (entry_count (A.slots this.old))
+    ensures refusal { IfErr result (Refuses (entry_count (A.slots this.old))
         (first_unresolved P.numbers (A.slots this.old)
         (held_all T.held (values (A.slots this.old))))) }
-    ensures unchanged { OnErr result (this.new ≡ this.old) }
+    ensures refused { OnErr result (this.new ≡ this.old) }
 {
     let mut images = resolved_map(this, alloc)?;
     let answer = this.compress(reset_generation);
@@ -124,7 +124,7 @@ fn resolved_map<
     ensures keys { IfOk result (λ all. keys all.slots ≡ keys (A.slots this.old)) }
     ensures resolved { OnOk result (first_unresolved P.numbers (A.slots this.old)
         (held_all T.held (values (A.slots this.old))) ≡ None) }
-    ensures refused { new_limit K.kind ≡ None
+    ensures refusal { new_limit K.kind ≡ None
         → IfErr result (Refuses (entry_count (A.slots this.old))
         (first_unresolved P.numbers (A.slots this.old)
         (held_all T.held (values (A.slots this.old))))) }
@@ -150,7 +150,7 @@ fn own_map<
     ensures keys { IfOk result (λ all. keys all.slots ≡ keys (A.slots this.now)) }
     ensures values { IfOk result (λ all. map P.numbers (values all.slots)
         ≡ keys (A.slots this.now)) }
-    ensures refused { new_limit K.kind ≡ None
+    ensures refusal { new_limit K.kind ≡ None
         → IfErr result (RefusesMemory (entry_count (A.slots this.now))) }
     ensures with_memory { MapHasMemory K.kind K.has_memory (last_index (A.slots this.now))
         → IsOk result }

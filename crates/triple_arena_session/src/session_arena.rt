@@ -145,10 +145,10 @@ pub(crate) trait SessionArena<P: Ptr, T, S: NonZeroInxGenericStack<ArenaSlot<P, 
             (raised_if_any (raise P.Gen.counting P.Gen.greatest) (state self.old)) new)) }
         ensures resolved { OnOk result (first_unresolved P.numbers (state self.old).slots
             (held_all T.held (values (state self.old).slots)) ≡ None) }
-        ensures refused { IfErr result (Refuses (arena_len (state self.old))
+        ensures refusal { IfErr result (Refuses (arena_len (state self.old))
             (first_unresolved P.numbers (state self.old).slots
             (held_all T.held (values (state self.old).slots)))) }
-        ensures unchanged { OnErr result (state self.new ≡ state self.old) };
+        ensures refused { OnErr result (state self.new ≡ state self.old) };
 
     final fn len(&self) -> usize
         ensures value { result ≡ arena_len (state self.now) }

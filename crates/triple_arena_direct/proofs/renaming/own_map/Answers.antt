@@ -15,8 +15,8 @@ returns-in-Ok-clause-values g c =
     let k = c.in-Ok.ensures.cloned (Ok tt) refl in
     ap (λ s. map g.P.Ptr.numbers (values s.slots)) k.2 ∙ (own_copied g.P.Ptr.numbers _ _ (g.A.ArenaTrait.slots c.args.this.now) k.0 (λ a m b r. search rules) k.1).1
 
-pub returns-in-Err-Reallocation-clause-refused : goal.returns-in-Err-Reallocation-clause-refused
-returns-in-Err-Reallocation-clause-refused g c unlimited =
+pub returns-in-Err-Reallocation-clause-refusal : goal.returns-in-Err-Reallocation-clause-refusal
+returns-in-Err-Reallocation-clause-refusal g c unlimited =
     let e = c.in-Err-Reallocation.ensures in
     let short = e.short (rw c.in-Err-Reallocation.field-0-is tt) in (
       wants_memory c.in-Err-Reallocation.refusal (λ is. rw (c.empty_map-all.ensures.limit, unlimited) at (e.beyond.0 (ap Err (c.in-Err-Reallocation.field-0-is ∙ ap Reallocation is))).1),

@@ -28,8 +28,8 @@ returns-in-Err-clause-unchanged g c =
     unchanged g.P.Ptr.numbers g.T.Recast.held g.T.Recast.refill g.met.T.Recast.refill_held g.A.ArenaTrait.slots g.A.ArenaTrait.with_value g.met.A.CompactArenaTrait.with_value_same g.met.A.ArenaTrait.slots_with_value
     (λ p. look_up_in c.in_ok-all.all.slots (g.P.Ptr.numbers p)) c.args.this.now c.recast_entries.new.arena own c.recast_entries.ensures.after
 
-pub returns-in-Err-clause-refused : goal.returns-in-Err-clause-refused
-returns-in-Err-clause-refused g c unlimited =
+pub returns-in-Err-clause-refusal : goal.returns-in-Err-clause-refusal
+returns-in-Err-clause-refusal g c unlimited =
     let own = own_image g.P.Ptr.numbers (same_pointer g.P.Ptr.numbers g.P.Ptr.index_of g.P.Ptr.generation_of g.P.Inx.PtrInx.number g.P.Gen.PtrGen.number g.met.P.Ptr.numbers_of g.met.P.Inx.PtrInx.distinct g.met.P.Gen.PtrGen.distinct g.met.P.Ptr.distinct)
     (g.A.ArenaTrait.slots c.args.this.now) c.in_ok-all.all.slots c.in_ok-all.ensures.keys c.in_ok-all.ensures.values in
     one_unresolved g.P.Ptr.numbers (g.A.ArenaTrait.slots c.args.this.now) (λ p. look_up_in c.in_ok-all.all.slots (g.P.Ptr.numbers p)) own (held_all g.T.Recast.held (values (g.A.ArenaTrait.slots c.args.this.now)))

@@ -27,12 +27,12 @@ pub returns-in-Err-Unresolved : goal.returns-in-Err-Unresolved
 returns-in-Err-Unresolved g c =
     compacts_not g.P.Ptr.numbers g.P.Recast.held g.P.Recast.refill g.met.P.Ptr.holds_itself g.met.P.Ptr.refills (g.A.SessionArena.state c.self.inside.arena)
     g.S.NonZeroInxGenericStack.kind g.P.Gen.PtrGen.counting g.P.Gen.PtrGen.greatest c.self.inside.table.items c.self.inside.table.room c.args.self.now c.self.view_is
-    c.in-Err-Unresolved.field-0-0 (g.A.SessionArena.state c.compress_recast.new.self) (subst (Refuses _ _) c.in-Err-Unresolved.field-0-is c.in-Err-Unresolved.ensures.refused) c.in-Err-Unresolved.ensures.unchanged
+    c.in-Err-Unresolved.field-0-0 (g.A.SessionArena.state c.compress_recast.new.self) (subst (Refuses _ _) c.in-Err-Unresolved.field-0-is c.in-Err-Unresolved.ensures.refusal) c.in-Err-Unresolved.ensures.refused
 
 pub returns-in-Err-Reallocation : goal.returns-in-Err-Reallocation
 returns-in-Err-Reallocation g c =
-    let wants = subst (Refuses _ _) c.in-Err-Reallocation.field-0-is c.in-Err-Reallocation.ensures.refused in
+    let wants = subst (Refuses _ _) c.in-Err-Reallocation.field-0-is c.in-Err-Reallocation.ensures.refusal in
     inr (
       subst (λ n. 0 < n) (len-shown g.P.Ptr.numbers (g.A.SessionArena.state c.self.inside.arena) c.self.inside.table.items c.self.inside.table.room c.args.self.now c.self.view_is) wants.1,
-      arena_changed g.P.Ptr.numbers (g.A.SessionArena.state c.self.inside.arena) c.self.inside.table.items c.self.inside.table.room c.args.self.now c.self.view_is (λ a. a) (g.A.SessionArena.state c.compress_recast.new.self) (ap (map_values (node_of g.P.Ptr.numbers)) c.in-Err-Reallocation.ensures.unchanged),
+      arena_changed g.P.Ptr.numbers (g.A.SessionArena.state c.self.inside.arena) c.self.inside.table.items c.self.inside.table.room c.args.self.now c.self.view_is (λ a. a) (g.A.SessionArena.state c.compress_recast.new.self) (ap (map_values (node_of g.P.Ptr.numbers)) c.in-Err-Reallocation.ensures.refused),
     )

@@ -11,7 +11,7 @@ use Rattle.triple_arena_traits.specs.Values.{with_values_in, with_values_of}
 use Rattle.triple_arena_slots.specs.declared.slot.ArenaSlot.{ArenaSlot}
 use Rattle.triple_arena_slots.specs.declared.slot.ArenaSlot.TheVariants.{Free, Allocated}
 use Rattle.triple_arena_slots.proofs.TwoWay.{Linked-same}
-use Rattle.triple_arena_slots.proofs.Links.{settled}
+use Rattle.triple_arena_slots.proofs.Links.{shows_state}
 use Rattle.triple_arena_traits.proofs.KeptSlots.{entries-filled}
 use Rattle.triple_arena_traits.specs.laws.ValueLaws.{count-kept, IsWellFormed-kept}
 
@@ -62,4 +62,4 @@ module _ {P T I G : Type 0} (number : G → ℕ) where
       → Shows number es' root len (state_of number es' root counter room' limit' greatest steps) × (state_of number es' root counter room' limit' greatest steps ≡ with_values_of (state_of number es root counter room limit greatest steps) w)
   kept_within es es' root len counter room room' limit limit' greatest steps w e r l shows =
       let s : ArenaState T = state_of number es root counter room limit greatest steps in
-      settled number es' root len counter room' limit' greatest steps (with_values_of s w) (subst (λ (zs : List (ArenaSlot P T I G)). Shows number zs root len (with_values_of s w)) (sym e) (Shows-filled_values es root len s w shows)) refl r l refl refl
+      shows_state number es' root len counter room' limit' greatest steps (with_values_of s w) (subst (λ (zs : List (ArenaSlot P T I G)). Shows number zs root len (with_values_of s w)) (sym e) (Shows-filled_values es root len s w shows)) refl r l refl refl

@@ -14,7 +14,7 @@ use Rattle.triple_arena_traits.specs.Compression.{compressed, counter_after, wra
 use Rattle.triple_arena_traits.specs.Walks.{keys}
 use Rattle.triple_arena_traits.specs.Histories.{resizing, compression, begun_with, CountsUp, Fits, Continues}
 use Rattle.triple_arena_traits.specs.laws.HistoryLaws.{Continues-touched, Continues-resized, Continues-limited, Continues-compressed, Fits-compressed}
-use Rattle.triple_arena.specs.laws.TouchedLaws.{settled_slots, reallocated_slots, Continues-unchanged}
+use Rattle.triple_arena.specs.laws.TouchedLaws.{tidied_slots, reallocated_slots, Continues-unchanged}
 
 pub on_err : {A E P Q : Type 0} (r : Result A E) → (P → Q) → OnErr r P → OnErr r Q
 on_err (Ok x) f h = h
@@ -63,7 +63,7 @@ module _ {T : Type 0} where
     reallocated_goes_on kind (Ok x) s new m done refused =
         Continues-resized s new (reallocated_slots kind s m new done) (ap (λ (t : ArenaState T). t.counter) done.0)
     reallocated_goes_on kind (Err e) s new m done refused =
-        Continues-resized s new (settled_slots s new refused) (ap (λ (t : ArenaState T). t.counter) refused.0)
+        Continues-resized s new (tidied_slots s new refused) (ap (λ (t : ArenaState T). t.counter) refused.0)
 
   -- so it does after a compression, and one begins with the pointers that stand then
   pub compressed_goes_on : (counting : Bool) (greatest : ℕ) (s new : ArenaState T) (first : ℕ) (reset : Bool) (values : List T) → reset ≡ false → CountsUp counting (wraps_after (wraps counting greatest) reset s) → length values ≡ arena_len s → IsTouched (compressed s (counter_after first (raise counting greatest) reset s) values) new → Continues Fits s (compression (keys s.slots) (keys new.slots) ∷ []) new

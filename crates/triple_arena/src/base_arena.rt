@@ -14,7 +14,7 @@ ghost use Rattle.triple_arena_traits.specs.ArenaState.{ArenaState, new_arena, sl
 ghost use Rattle.triple_arena_traits.specs.Insertion.{next_pointer, inserted};
 ghost use Rattle.triple_arena_traits.specs.SlotSteps.{RisesByAtMost, IsTouched, touched, insertion_steps};
 ghost use Rattle.triple_arena_traits.specs.Ending.{removed, invalidated, cleared, told};
-ghost use Rattle.triple_arena_traits.specs.FreeList.{tidied, without_free_end, IsInOrder};
+ghost use Rattle.triple_arena_traits.specs.FreeList.{tidied, without_free_end, IsTidied};
 ghost use Rattle.triple_arena_traits.specs.Capacity.{with_room_for, reallocated, KeepsRoom, grown, EndsBy, ready_for_limit, with_limit};
 ghost use Rattle.triple_arena_slots.specs.Slot.{entry_of};
 ghost use Rattle.triple_arena_slots.specs.Layout.{IsLinked};
@@ -98,7 +98,7 @@ impl<P: Ptr, T, S: NonZeroInxGenericStack<ArenaSlot<P, T>>> ArenaTrait<P, T> for
     ghost use Rattle.triple_arena_traits.specs.laws.EntryLaws.{slots-cleared};
     ghost use Rattle.triple_arena_traits.specs.laws.LengthLaws.{len-with_value};
     ghost use Rattle.triple_arena_traits.specs.laws.WellFormedLaws.{IsWellFormed-touched};
-    ghost use Rattle.triple_arena.specs.laws.TouchedLaws.{removed_slots, removed_len, removed_limit, removed_capacity, invalidated_slots, invalidated_len, reallocated_slots, reallocated_len, settled_slots, settled_len, Continues-unchanged};
+    ghost use Rattle.triple_arena.specs.laws.TouchedLaws.{removed_slots, removed_len, removed_limit, removed_capacity, invalidated_slots, invalidated_len, reallocated_slots, reallocated_len, tidied_slots, tidied_len, Continues-unchanged};
 
     type PtrAdvancer = PtrAdvancer<P>;
 
@@ -163,7 +163,7 @@ impl<P: Ptr, T, S: NonZeroInxGenericStack<ArenaSlot<P, T>>> ArenaTrait<P, T> for
     ghost reallocates = { λ old m new. IsTouched (reallocated S.kind old m) new };
 
     // the free list is put in order
-    ghost settles = { λ old _ new. IsTouched (tidied old) new };
+    ghost tidies = { λ old _ new. IsTouched (tidied old) new };
 
     // the room that the stack's kind makes of it, once the free list is in order, is the old one
     ghost keeps_room = { KeepsRoom S.kind };
@@ -371,13 +371,13 @@ impl<P: Ptr, T, S: NonZeroInxGenericStack<ArenaSlot<P, T>>> ArenaTrait<P, T> for
 
     ghost limit_reallocated = { λ _ _ _ same. ap (λ s. s.limit) same.0 };
 
-    ghost slots_settled = { λ old _. settled_slots old };
+    ghost slots_tidied = { λ old _. tidied_slots old };
 
-    ghost len_settled = { λ old _. settled_len old };
+    ghost len_tidied = { λ old _. tidied_len old };
 
-    ghost limit_settled = { λ _ _ _ same. ap (λ s. s.limit) same.0 };
+    ghost limit_tidied = { λ _ _ _ same. ap (λ s. s.limit) same.0 };
 
-    ghost capacity_settled = { λ _ _ _ same. ap capacity same.0 };
+    ghost capacity_tidied = { λ _ _ _ same. ap capacity same.0 };
 }
 
 impl<P: Ptr, T, S: NonZeroInxGenericStack<ArenaSlot<P, T>>> ArenaInsertTrait<P, T>
@@ -512,7 +512,7 @@ impl<P: Ptr, T, S: NonZeroInxGenericStack<ArenaSlot<P, T>>> Arena<P, T, S> {
     /// order.
     pub fn canonicalize_freelist(&mut self)
         ensures state { IsTouched (tidied self.old) self.new }
-        ensures in_order { IsInOrder self.old self.new }
+        ensures tidied { IsTidied self.old self.new }
         ensures history { Continues Fits self.old (resizing ∷ []) self.new }
     {
         self.slots.tidy();

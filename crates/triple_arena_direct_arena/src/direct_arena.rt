@@ -76,7 +76,7 @@ impl<P: Ptr, T, S: NonZeroInxGenericStack<DirectSlot<P, T>>> ArenaTrait<P, T>
     for DirectArena<P, T, S> {
     ghost use Rattle.std.specs.Prelude.{refl};
     ghost use Rattle.std.proofs.Common.{ap, subst, sym};
-    ghost use Rattle.triple_arena_direct_arena.specs.laws.StepLaws.{len-with_value, slots-removed, len-removed, slots-kept, slots-cleared, slots-settled, len-settled, slots-reallocated, len-reallocated};
+    ghost use Rattle.triple_arena_direct_arena.specs.laws.StepLaws.{len-with_value, slots-removed, len-removed, slots-kept, slots-cleared, slots-tidied, len-tidied, slots-reallocated, len-reallocated};
 
     type PtrAdvancer = PtrAdvancer<P>;
 
@@ -134,7 +134,7 @@ impl<P: Ptr, T, S: NonZeroInxGenericStack<DirectSlot<P, T>>> ArenaTrait<P, T>
     ghost reallocates = { λ old m new. new ≡ reallocated S.kind old m };
 
     // free slots past the capacity that was asked for go
-    ghost settles = { λ old m new. new ≡ settled old m };
+    ghost tidies = { λ old m new. new ≡ settled old m };
 
     // the room that the stack's kind makes of it, once those slots are gone, is the old one
     ghost keeps_room = { λ s m. (reallocated S.kind s m).room ≡ s.room };
@@ -334,13 +334,13 @@ impl<P: Ptr, T, S: NonZeroInxGenericStack<DirectSlot<P, T>>> ArenaTrait<P, T>
 
     ghost limit_reallocated = { λ _ _ _. ap (λ s. s.limit) };
 
-    ghost slots_settled = { slots-settled };
+    ghost slots_tidied = { slots-tidied };
 
-    ghost len_settled = { len-settled };
+    ghost len_tidied = { len-tidied };
 
-    ghost limit_settled = { λ _ _ _. ap (λ s. s.limit) };
+    ghost limit_tidied = { λ _ _ _. ap (λ s. s.limit) };
 
-    ghost capacity_settled = { λ _ _ _. ap direct_capacity };
+    ghost capacity_tidied = { λ _ _ _. ap direct_capacity };
 }
 
 impl<P: Ptr, T, S: NonZeroInxGenericStack<DirectSlot<P, T>>> ArenaDirectInsertTrait<P, T>

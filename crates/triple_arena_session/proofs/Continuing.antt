@@ -21,7 +21,7 @@ use Rattle.triple_arena_traits.specs.Ending.{removed, invalidated, cleared}
 use Rattle.triple_arena_traits.specs.Walks.{keys, values}
 use Rattle.triple_arena_traits.specs.Compression.{compressed, raised_if_any}
 use Rattle.triple_arena_traits.specs.laws.CompressionLaws.{length-values}
-use Rattle.triple_arena_traits.specs.laws.EntryLaws.{doubled, slots-settled}
+use Rattle.triple_arena_traits.specs.laws.EntryLaws.{doubled, slots-tidied}
 use Rattle.triple_arena_traits.specs.Histories.{insertion, removal, invalidation, compression, CountsUp, Continues, Fits}
 use Rattle.triple_arena_traits.specs.laws.WellFormedLaws.{IsWellFormed-inserted, kept-inserted, len_within, room-removed, limit-removed}
 use Rattle.triple_arena_traits.specs.laws.StepLaws.{IsWellFormed-tidied, IsWellFormed-compressed, with_value_stays, invalidated_stays, removed_stays, cleared_stays, reallocated_stays}
@@ -202,7 +202,7 @@ module _ {X : Type 0} (kind : StackKind) (counting : Bool) (greatest : ℕ) wher
   in_order_goes s m reply over =
       record {
         over = over_tidied kind s.arena over;
-        calls = λ up. Continues-resized s.arena (tidied s.arena) (slots-settled s.arena (tidied s.arena) refl) refl;
+        calls = λ up. Continues-resized s.arena (tidied s.arena) (slots-tidied s.arena (tidied s.arena) refl) refl;
       }
 
   compacts : (s : SessionState X) → IsArenaOver kind s.arena → Goes s Compact (Compacted (wraps_if_any kind counting greatest s), compacted s (raised_if_any (raise counting greatest) s.arena))
@@ -290,7 +290,7 @@ module _ {X : Type 0} (kind : StackKind) (counting : Bool) (greatest : ℕ) wher
       by true true =
           record {
             over = over_reallocated kind s.arena over m;
-            calls = λ up. Continues-resized s.arena (reallocated kind s.arena m) (slots-settled s.arena (tidied s.arena) refl) refl;
+            calls = λ up. Continues-resized s.arena (reallocated kind s.arena m) (slots-tidied s.arena (tidied s.arena) refl) refl;
           }
       by true false = in_order_goes s m BeyondMaxCapacity over
       by false within = in_order_goes s m NoMemory over

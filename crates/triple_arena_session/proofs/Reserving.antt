@@ -12,7 +12,7 @@ use Rattle.triple_arena_traits.specs.Entries.{value_under, KeepsEntries}
 use Rattle.triple_arena_traits.specs.ArenaState.{ArenaState, arena_len, capacity, slot_count}
 use Rattle.triple_arena_traits.specs.FreeList.{tidied}
 use Rattle.triple_arena_traits.specs.Capacity.{reallocated}
-use Rattle.triple_arena_traits.specs.laws.EntryLaws.{slots-settled}
+use Rattle.triple_arena_traits.specs.laws.EntryLaws.{slots-tidied}
 use Rattle.triple_arena_traits.specs.Histories.{resizing}
 use Rattle.triple_arena_traits.specs.laws.WellFormedLaws.{len_within}
 use Rattle.triple_arena_traits.specs.laws.HistoryLaws.{Continues-resized}
@@ -65,7 +65,7 @@ module _ {X : Type 0} (kind : StackKind) (s : SessionState X) (sound : SoundOver
 
   in_order_shows : (shown (in_order s) ≡ shown s) × SoundOver kind (in_order s)
   in_order_shows =
-      let entries = slots-settled s.arena (tidied s.arena) refl in (
+      let entries = slots-tidied s.arena (tidied s.arena) refl in (
         ap (λ rows. record (shown s) { rows = rows }) (same_rows (tidied s.arena) entries),
         same_sound (tidied s.arena) entries refl (over_tidied kind s.arena (over_of kind s sound)),
       )
@@ -73,7 +73,7 @@ module _ {X : Type 0} (kind : StackKind) (s : SessionState X) (sound : SoundOver
   reallocated_shows : (m : ℕ) → m ≤ s.arena.greatest → IsWithin s.arena.limit m → Reserved m (Done, record s { arena = reallocated kind s.arena m })
   reallocated_shows m below within =
       let a : ArenaState (X × Option Pointer) = reallocated kind s.arena m in
-      let entries = slots-settled s.arena (tidied s.arena) refl in
+      let entries = slots-tidied s.arena (tidied s.arena) refl in
       let n : ℕ = slot_count (tidied s.arena) in
       let over : IsArenaOver kind a = over_reallocated kind s.arena (over_of kind s sound) m in
       let after = same_sound a entries refl over in

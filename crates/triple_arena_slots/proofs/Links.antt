@@ -98,8 +98,8 @@ module _ {P T I G : Type 0} where
     view_is es root len counter room limit greatest steps s shows c r l g n = rw (c, r, l, g, n) (state_is es root len s shows)
 
     -- slots that show a state make an arena of that state
-    pub settled : (es : List (ArenaSlot P T I G)) (root : Option ℕ) (len counter room : ℕ) (limit : Option ℕ) (greatest steps : ℕ) (s : ArenaState T) → Shows number es root len s → counter ≡ s.counter → room ≡ s.room → limit ≡ s.limit → greatest ≡ s.greatest → steps ≡ s.steps → Shows number es root len (state_of number es root counter room limit greatest steps) × (state_of number es root counter room limit greatest steps ≡ s)
-    settled es root len counter room limit greatest steps s shows c r l g n =
+    pub shows_state : (es : List (ArenaSlot P T I G)) (root : Option ℕ) (len counter room : ℕ) (limit : Option ℕ) (greatest steps : ℕ) (s : ArenaState T) → Shows number es root len s → counter ≡ s.counter → room ≡ s.room → limit ≡ s.limit → greatest ≡ s.greatest → steps ≡ s.steps → Shows number es root len (state_of number es root counter room limit greatest steps) × (state_of number es root counter room limit greatest steps ≡ s)
+    shows_state es root len counter room limit greatest steps s shows c r l g n =
         let is = view_is es root len counter room limit greatest steps s shows c r l g n in
         (rw is shows, is)
 
@@ -374,7 +374,7 @@ module _ {P T I G : Type 0} where
     -- what a call makes of the slots carries over to the arena: its invariant, and its state
     pub carried : (es es' : List (ArenaSlot P T I G)) (root root' : Option ℕ) (len len' counter counter' room room' : ℕ) (limit limit' : Option ℕ) (greatest steps steps' : ℕ) (s s' : ArenaState T) → Shows number es root len (state_of number es root counter room limit greatest steps) → state_of number es root counter room limit greatest steps ≡ s → (Shows number es root len s → Shows number es' root' len' s') → counter' ≡ s'.counter → room' ≡ s'.room → limit' ≡ s'.limit → greatest ≡ s'.greatest → steps' ≡ s'.steps → Shows number es' root' len' (state_of number es' root' counter' room' limit' greatest steps') × (state_of number es' root' counter' room' limit' greatest steps' ≡ s')
     carried es es' root root' len len' counter counter' room room' limit limit' greatest steps steps' s s' own is step c r l g n =
-        settled number es' root' len' counter' room' limit' greatest steps' s' (step (subst (Shows number es root len) is own)) c r l g n
+        shows_state number es' root' len' counter' room' limit' greatest steps' s' (step (subst (Shows number es root len) is own)) c r l g n
 
     -- the slots that hold an entry hold at least one
     pub live_len : (es : List (ArenaSlot P T I G)) (root : Option ℕ) (i len : ℕ) (s : ArenaState T) → IsSome (entry_at number es i) → Shows number es root len s → 1 ≤ len

@@ -47,7 +47,7 @@ IsRising low [] = Unit {0}
 IsRising low (i ∷ rest) = (low ≤ i) × IsRising (i + 1) rest
 
 -- every entry stays, the last slot has one, and the free indexes rise
-pub record IsInOrder {T : Type 0} (old new : ArenaState T) : Type 0 where
+pub record IsTidied {T : Type 0} (old new : ArenaState T) : Type 0 where
   pub entries : (i : ℕ) → entry new i ≡ entry old i
   pub ends_live : is_free (item new.slots (slot_count new)) ≡ false
   pub rising : IsRising 1 new.free

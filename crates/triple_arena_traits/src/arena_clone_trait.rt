@@ -33,7 +33,7 @@ pub trait ArenaCloneFromWith<P: Ptr, T>: ArenaTrait<P, T> {
     /// memory is taken elsewhere.
     ///
     /// Without a refusal both arenas end with the same index (`same_end`); the capacity of each reaches
-    /// its last index (`source_fits`, `fits`). So what `laws::clones_settle` asks of a clone, this call
+    /// its last index (`source_fits`, `fits`). So what `laws::clones_keep_capacity` asks of a clone, this call
     /// tells.
     fn clone_from_with<U, E, A: CompactArenaTrait<P, U>, M: FnMut(P, &U) -> Result<T, E>>(
         &mut self,
@@ -49,7 +49,7 @@ pub trait ArenaCloneFromWith<P: Ptr, T>: ArenaTrait<P, T> {
             × clones self.old (last_index (A.slots source.now)) (A.next_generation source.now) new
             self.new }
         ensures refused { IsRoomRefusal result
-            → Self.settles self.old (last_index (A.slots source.now)) self.new }
+            → Self.tidies self.old (last_index (A.slots source.now)) self.new }
         ensures short { IsRoomRefusal result
             → Self.capacity self.old < last_index (A.slots source.now) }
         ensures beyond { (result
@@ -96,7 +96,7 @@ pub trait ArenaCloneFromWith<P: Ptr, T>: ArenaTrait<P, T> {
             self.new }
         ensures entries { OnOk result (KeepsEntries (A.slots source.now) (Self.slots self.new)) }
         ensures refused { IsRoomRefusal result
-            → Self.settles self.old (last_index (A.slots source.now)) self.new }
+            → Self.tidies self.old (last_index (A.slots source.now)) self.new }
         ensures short { IsRoomRefusal result
             → Self.capacity self.old < last_index (A.slots source.now) }
         ensures beyond { (result

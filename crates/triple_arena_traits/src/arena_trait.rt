@@ -93,7 +93,7 @@ pub trait ArenaTrait<P: Ptr, T>: Sized {
     // what a reallocation to so many leaves, and what it leaves where it is refused
     ghost reallocates: { Self → ℕ → Self → Type 0 };
 
-    ghost settles: { Self → ℕ → Self → Type 0 };
+    ghost tidies: { Self → ℕ → Self → Type 0 };
 
     // a reallocation to so many leaves the room as it is
     ghost keeps_room: { Self → ℕ → Type 0 };
@@ -140,7 +140,7 @@ pub trait ArenaTrait<P: Ptr, T>: Sized {
     /// where it is there for the new room. Where the room stays the same, no memory is taken.
     fn reallocate_min_capacity(&mut self, min_capacity: usize) -> Result<(), ReallocationError>
         ensures done { OnOk result (reallocates self.old min_capacity self.new) }
-        ensures refused { OnErr result (settles self.old min_capacity self.new) }
+        ensures refused { OnErr result (tidies self.old min_capacity self.new) }
         ensures within { OnOk result
             ((min_capacity ≤ greatest_index P.Inx.greatest)
             × IsWithin (limit self.old) min_capacity) }
@@ -399,16 +399,16 @@ pub trait ArenaTrait<P: Ptr, T>: Sized {
     ghost limit_reallocated: { (old : Self) (m : ℕ) (new : Self) → reallocates old m new
         → limit new ≡ limit old };
 
-    ghost slots_settled: { (old : Self) (m : ℕ) (new : Self) → settles old m new
+    ghost slots_tidied: { (old : Self) (m : ℕ) (new : Self) → tidies old m new
         → KeepsEntries (slots old) (slots new) };
 
-    ghost len_settled: { (old : Self) (m : ℕ) (new : Self) → settles old m new
+    ghost len_tidied: { (old : Self) (m : ℕ) (new : Self) → tidies old m new
         → entry_count (slots new) ≡ entry_count (slots old) };
 
-    ghost limit_settled: { (old : Self) (m : ℕ) (new : Self) → settles old m new
+    ghost limit_tidied: { (old : Self) (m : ℕ) (new : Self) → tidies old m new
         → limit new ≡ limit old };
 
-    ghost capacity_settled: { (old : Self) (m : ℕ) (new : Self) → settles old m new
+    ghost capacity_tidied: { (old : Self) (m : ℕ) (new : Self) → tidies old m new
         → capacity new ≡ capacity old };
 
     /// Whether there is no entry.

@@ -49,14 +49,14 @@ pub fn forward_walk<T>()
         → IsSome (entry_in last i) → Contains (map (λ turn. turn.1.0) turns) i }
 {}
 
-/// Clones settle their capacity. Cloning leaves the capacity where the source's last index is not
+/// Clones keep their capacity. Cloning leaves the capacity where the source's last index is not
 /// above it; so of two arenas that are cloned into each other by turns, with no refusal and no
 /// other call between, at most the target of the first clone is reallocated.
-pub fn clones_settle<P: Ptr, T, U, A: ArenaCloneFromWith<P, T>, B: ArenaCloneFromWith<P, U>>()
+pub fn clones_keep_capacity<P: Ptr, T, U, A: ArenaCloneFromWith<P, T>, B: ArenaCloneFromWith<P, U>>()
     ensures fits { (old : A) (last : ℕ) (next : Option ℕ) (copy : List (Option (ℕ × T))) (new : A)
         → A.clones old last next copy new → last ≤ A.capacity old
         → A.capacity new ≡ A.capacity old }
-    ensures settled { (start : A × B) (first : Bool) (middle : A × B) (turns : List Bool)
+    ensures kept { (start : A × B) (first : Bool) (middle : A × B) (turns : List Bool)
         (end : A × B)
         → CloneTurn A.slots A.capacity A.clones B.slots B.capacity B.clones start first middle
         → FoldsTo (CloneTurn A.slots A.capacity A.clones B.slots B.capacity B.clones)

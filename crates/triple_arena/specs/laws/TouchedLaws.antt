@@ -14,8 +14,8 @@ use Rattle.triple_arena_traits.specs.Compression.{compressed, rank}
 use Rattle.triple_arena_traits.specs.Walks.{keys, values}
 use Rattle.triple_arena_traits.specs.Cloning.{counter_of}
 use Rattle.triple_arena_traits.specs.Histories.{Fits, Continues}
-use Rattle.triple_arena_traits.specs.laws.EntryLaws.{slots-removed, limit_of-removed, capacity-removed, slots-invalidated, slots-reallocated, slots-settled}
-use Rattle.triple_arena_traits.specs.laws.LengthLaws.{len-removed, len-invalidated, len-reallocated, len-settled}
+use Rattle.triple_arena_traits.specs.laws.EntryLaws.{slots-removed, limit_of-removed, capacity-removed, slots-invalidated, slots-reallocated, slots-tidied}
+use Rattle.triple_arena_traits.specs.laws.LengthLaws.{len-removed, len-invalidated, len-reallocated, len-tidied}
 use Rattle.triple_arena_traits.specs.laws.CloningLaws.{limit-cloned, capacity-cloned}
 use Rattle.triple_arena_traits.specs.laws.CompressionLaws.{keys-compressed, values-compressed, compressed-with_value}
 use Rattle.triple_arena_traits.specs.laws.HistoryLaws.{Continues-touched}
@@ -48,12 +48,12 @@ module _ {T : Type 0} where
     pub invalidated_len : (old : ArenaState T) (i : ℕ) (new : ArenaState T) → IsTouched (invalidated raise old i) new → arena_len new ≡ arena_len old
     invalidated_len old i new same = ap arena_len same.0 ∙ len-invalidated raise old i (invalidated raise old i) refl
 
-  pub settled_slots : (old new : ArenaState T) → IsTouched (tidied old) new → KeepsEntries old.slots new.slots
-  settled_slots old new same i =
-      ap (λ (s : ArenaState T). entry_in s.slots i) same.0 ∙ slots-settled old (tidied old) refl i
+  pub tidied_slots : (old new : ArenaState T) → IsTouched (tidied old) new → KeepsEntries old.slots new.slots
+  tidied_slots old new same i =
+      ap (λ (s : ArenaState T). entry_in s.slots i) same.0 ∙ slots-tidied old (tidied old) refl i
 
-  pub settled_len : (old new : ArenaState T) → IsTouched (tidied old) new → arena_len new ≡ arena_len old
-  settled_len old new same = ap arena_len same.0 ∙ len-settled old (tidied old) refl
+  pub tidied_len : (old new : ArenaState T) → IsTouched (tidied old) new → arena_len new ≡ arena_len old
+  tidied_len old new same = ap arena_len same.0 ∙ len-tidied old (tidied old) refl
 
   module _ (kind : StackKind) where
     pub grown_touched : (old new : ArenaState T) → IsTouched old new → IsTouched (grown kind old) (grown kind new)

@@ -92,11 +92,11 @@ module _ {T : Type 0} where
   pub count-shortened : (m : ℕ) (xs : List (Option (ℕ × T))) → entry_count (shortened m xs) ≡ entry_count xs
   count-shortened m xs = front_count (max (length (trimmed xs)) m) xs (omega arith)
 
-  pub slots-settled : (old : DirectState T) (m : ℕ) (new : DirectState T) → new ≡ settled old m → KeepsEntries old.slots new.slots
-  slots-settled old m new is i = ap (λ (s : DirectState T). entry_in s.slots i) is ∙ entry-shortened m old.slots i
+  pub slots-tidied : (old : DirectState T) (m : ℕ) (new : DirectState T) → new ≡ settled old m → KeepsEntries old.slots new.slots
+  slots-tidied old m new is i = ap (λ (s : DirectState T). entry_in s.slots i) is ∙ entry-shortened m old.slots i
 
-  pub len-settled : (old : DirectState T) (m : ℕ) (new : DirectState T) → new ≡ settled old m → direct_len new ≡ direct_len old
-  len-settled old m new is = ap direct_len is ∙ count-shortened m old.slots
+  pub len-tidied : (old : DirectState T) (m : ℕ) (new : DirectState T) → new ≡ settled old m → direct_len new ≡ direct_len old
+  len-tidied old m new is = ap direct_len is ∙ count-shortened m old.slots
 
   pub slots-reallocated : (kind : StackKind) (old : DirectState T) (m : ℕ) (new : DirectState T) → new ≡ reallocated kind old m → KeepsEntries old.slots new.slots
   slots-reallocated kind old m new is i = ap (λ (s : DirectState T). entry_in s.slots i) is ∙ entry-shortened m old.slots i

@@ -39,38 +39,38 @@ module _ {T U A B : Type 0} (slots : A → List (Option (ℕ × T))) (capacity :
   Turn = CloneTurn slots capacity clones slots_of into_capacity clones_of
 
   -- both end with the same index, and the capacity of each reaches it
-  record Settled (pair : A × B) : Type 0 where
+  record BothFit (pair : A × B) : Type 0 where
     pub same_end : last_index (slots_of pair.1) ≡ last_index (slots pair.0)
     pub first_fits : last_index (slots pair.0) ≤ capacity pair.0
     pub second_fits : last_index (slots_of pair.1) ≤ into_capacity pair.1
 
-  settles : (old : A × B) (turn : Bool) (new : A × B) → Turn old turn new → Settled new
-  settles old true new t =
+  both_fit : (old : A × B) (turn : Bool) (new : A × B) → Turn old turn new → BothFit new
+  both_fit old true new t =
       record {
         same_end = t.1.same_end ∙ sym (ap (λ a. last_index (slots a)) t.0);
         first_fits = rw t.0 t.1.source_fits;
         second_fits = t.1.fits;
       }
-  settles old false new t =
+  both_fit old false new t =
       record {
         same_end = ap (λ b. last_index (slots_of b)) t.0 ∙ sym t.1.same_end;
         first_fits = t.1.fits;
         second_fits = rw t.0 t.1.source_fits;
       }
 
-  keeps : (old : A × B) (turn : Bool) (new : A × B) → Settled old → Turn old turn new → (capacity new.0 ≡ capacity old.0) × (into_capacity new.1 ≡ into_capacity old.1)
+  keeps : (old : A × B) (turn : Bool) (new : A × B) → BothFit old → Turn old turn new → (capacity new.0 ≡ capacity old.0) × (into_capacity new.1 ≡ into_capacity old.1)
   keeps old true new s t =
       (ap capacity t.0, stays_of old.1 (last_index (slots old.0)) t.1.next t.1.copy new.1 t.1.cloned (omega (arith, s.same_end, s.second_fits)))
   keeps old false new s t =
       (stays old.0 (last_index (slots_of old.1)) t.1.next t.1.copy new.0 t.1.cloned (omega (arith, s.same_end, s.first_fits)), ap into_capacity t.0)
 
-  keeps_all : (old : A × B) (turns : List Bool) (new : A × B) → Settled old → FoldsTo Turn old turns new → (capacity new.0 ≡ capacity old.0) × (into_capacity new.1 ≡ into_capacity old.1)
+  keeps_all : (old : A × B) (turns : List Bool) (new : A × B) → BothFit old → FoldsTo Turn old turns new → (capacity new.0 ≡ capacity old.0) × (into_capacity new.1 ≡ into_capacity old.1)
   keeps_all old [] new s same = (ap (λ p. capacity p.0) (sym same), ap (λ p. into_capacity p.1) (sym same))
   keeps_all old (turn ∷ turns) new s (next, here, there) =
       let one = keeps old turn next s here in
-      let rest = keeps_all next turns new (settles old turn next here) there in
+      let rest = keeps_all next turns new (both_fit old turn next here) there in
       (rest.0 ∙ one.0, rest.1 ∙ one.1)
 
   -- once one of two arenas was cloned into the other, further clones leave both capacities
-  pub clones_settle : (start : A × B) (first : Bool) (middle : A × B) (turns : List Bool) (end : A × B) → Turn start first middle → FoldsTo Turn middle turns end → (capacity end.0 ≡ capacity middle.0) × (into_capacity end.1 ≡ into_capacity middle.1)
-  clones_settle start first middle turns end here there = keeps_all middle turns end (settles start first middle here) there
+  pub clones_keep_capacity : (start : A × B) (first : Bool) (middle : A × B) (turns : List Bool) (end : A × B) → Turn start first middle → FoldsTo Turn middle turns end → (capacity end.0 ≡ capacity middle.0) × (into_capacity end.1 ≡ into_capacity middle.1)
+  clones_keep_capacity start first middle turns end here there = keeps_all middle turns end (both_fit start first middle here) there

@@ -129,8 +129,8 @@ module _ {T : Type 0} where
   entry-trimmed xs (suc k) = trimmed_entry xs k
 
   -- the order of the free list leaves every entry
-  pub slots-settled : (old new : ArenaState T) → new ≡ tidied old → KeepsEntries old.slots new.slots
-  slots-settled old new is i = ap (λ s. entry_in s.slots i) is ∙ entry-trimmed old.slots i
+  pub slots-tidied : (old new : ArenaState T) → new ≡ tidied old → KeepsEntries old.slots new.slots
+  slots-tidied old new is i = ap (λ s. entry_in s.slots i) is ∙ entry-trimmed old.slots i
 
   -- and so do free slots at the end that are taken away
   pub slots-without_free_end : (old new : ArenaState T) → new ≡ without_free_end old → KeepsEntries old.slots new.slots

@@ -3,7 +3,7 @@ use Rattle.std.proofs.Common.{◌≡◌, ℕ, zero, suc, ◌+◌, ◌-◌, ◌<�
 use Rattle.std.proofs.lemmas.List.Sums.{sum_by-cons}
 use Rattle.triple_arena_traits.specs.Items.{item}
 use Rattle.triple_arena_traits.specs.ArenaState.{ArenaState, is_free}
-use Rattle.triple_arena_traits.specs.FreeList.{before, trimmed, gaps, tidied, IsRising, IsInOrder}
+use Rattle.triple_arena_traits.specs.FreeList.{before, trimmed, gaps, tidied, IsRising, IsTidied}
 use Rattle.triple_arena_traits.specs.laws.EntryLaws.{entry-trimmed, count_head}
 use Rattle.triple_arena_traits.specs.laws.ItemLaws.{item_within, split_last}
 use Rattle.triple_arena_traits.specs.laws.WellFormedLaws.{count_tail}
@@ -63,8 +63,8 @@ module _ {T : Type 0} where
   trimmed_last [] = refl
   trimmed_last (x ∷ xs) = before_last x (trimmed xs) (trimmed_last xs)
 
-  pub IsInOrder-tidied : (s : ArenaState T) → IsInOrder s (tidied s)
-  IsInOrder-tidied s = record { entries = entry-trimmed s.slots; ends_live = trimmed_last s.slots; rising = gaps_rising 1 (trimmed s.slots) }
+  pub IsTidied-tidied : (s : ArenaState T) → IsTidied s (tidied s)
+  IsTidied-tidied s = record { entries = entry-trimmed s.slots; ends_live = trimmed_last s.slots; rising = gaps_rising 1 (trimmed s.slots) }
 
   -- the gaps are above the indexes before the first slot
   pub gaps_above : (at : ℕ) (xs : List (Option (ℕ × T))) (k : ℕ) → k < at → count_by (λ j. j == k) (gaps at xs) ≡ 0

@@ -13,7 +13,7 @@ use Rattle.triple_arena_traits.specs.SlotSteps.{IsTouched}
 use Rattle.triple_arena_traits.specs.Ending.{removed, invalidated, cleared}
 use Rattle.triple_arena_traits.specs.FreeList.{tidied}
 use Rattle.triple_arena_traits.specs.Capacity.{with_limit, grown}
-use Rattle.triple_arena_traits.specs.laws.EntryLaws.{by_case, changes_at, slots-removed, slots-invalidated, slots-cleared, slots-inserted, slots-settled, slots-grown}
+use Rattle.triple_arena_traits.specs.laws.EntryLaws.{by_case, changes_at, slots-removed, slots-invalidated, slots-cleared, slots-inserted, slots-tidied, slots-grown}
 use Rattle.triple_arena_traits.specs.laws.ValueLaws.{keeps_pointers}
 use Rattle.triple_arena_traits.specs.laws.WellFormedLaws.{kept-inserted, place_free, counter-removed, live_item, live_counted}
 use Rattle.triple_arena_traits.specs.Compression.{closed_up, compressed, raised_if_any, counter_after, wraps_after}
@@ -199,7 +199,7 @@ module _ {T : Type 0} where
   Continues-resized s t same counter = Continues-moved s t resizing (moves-resized s t same counter)
 
   pub Continues-tidied : (s t : ArenaState T) → t ≡ tidied s → Continues Fits s (resizing ∷ []) t
-  Continues-tidied s t is = Continues-resized s t (slots-settled s t is) (ap (λ a. a.counter) is)
+  Continues-tidied s t is = Continues-resized s t (slots-tidied s t is) (ap (λ a. a.counter) is)
 
   -- a limit that is set, or refused
   pub Continues-limited : {A E : Type 0} (r : Result A E) (s t : ArenaState T) (x : ℕ) → OnOk r (t ≡ with_limit s x) → OnErr r (t ≡ tidied s) → Continues Fits s (resizing ∷ []) t
@@ -207,7 +207,7 @@ module _ {T : Type 0} where
   Continues-limited (Ok done) s t x is refused = rw is (by (nat_lt x (capacity s)))
     where
       by : (b : Bool) → Continues Fits s (resizing ∷ []) (record (cond b (tidied s) s) { limit = Some x })
-      by true = Continues-resized s (record (tidied s) { limit = Some x }) (slots-settled s (tidied s) refl) refl
+      by true = Continues-resized s (record (tidied s) { limit = Some x }) (slots-tidied s (tidied s) refl) refl
       by false = Continues-resized s (record s { limit = Some x }) (λ i. refl) refl
 
   -- insertion gives the next pointer

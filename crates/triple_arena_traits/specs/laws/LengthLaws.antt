@@ -73,8 +73,8 @@ module _ {T : Type 0} where
   trimmed_live [] = refl
   trimmed_live (x ∷ xs) = omega (arith, before_live x (trimmed xs), trimmed_live xs, sum_by-cons (λ o. cond (is_some o) 1 0) x xs)
 
-  pub len-settled : (old new : ArenaState T) → new ≡ tidied old → arena_len new ≡ arena_len old
-  len-settled old new is = ap arena_len is ∙ trimmed_live old.slots
+  pub len-tidied : (old new : ArenaState T) → new ≡ tidied old → arena_len new ≡ arena_len old
+  len-tidied old new is = ap arena_len is ∙ trimmed_live old.slots
 
   pub len-without_free_end : (old new : ArenaState T) → new ≡ without_free_end old → arena_len new ≡ arena_len old
   len-without_free_end old new is = ap arena_len is ∙ trimmed_live old.slots

@@ -7,7 +7,7 @@ use Rattle.triple_arena_traits.specs.ArenaState.{ArenaState, capacity, slot_coun
 use Rattle.triple_arena_traits.specs.FreeList.{trimmed, tidied}
 use Rattle.triple_arena_traits.specs.Capacity.{EndsBy, ready_for_limit, with_limit}
 use Rattle.triple_arena_traits.specs.laws.ItemLaws.{joined, item_past}
-use Rattle.triple_arena_traits.specs.laws.FreeListLaws.{trimmed_length, IsInOrder-tidied}
+use Rattle.triple_arena_traits.specs.laws.FreeListLaws.{trimmed_length, IsTidied-tidied}
 
 module _ {T : Type 0} where
   last_live : (y : Option (ℕ × T)) (ys : List (Option (ℕ × T))) → is_free (item (y ∷ ys) (length (y ∷ ys))) ≡ false → entry_in (y ∷ ys) (length (y ∷ ys)) ≡ None → ⊥
@@ -27,7 +27,7 @@ module _ {T : Type 0} where
 
   tidied_ends : (s : ArenaState T) (x : ℕ) → (slot_count (tidied s) ≤ x) ↔ EndsBy s x
   tidied_ends s x =
-      let order = IsInOrder-tidied s in
+      let order = IsTidied-tidied s in
       ((λ fits i h. sym (order.entries i) ∙ none_past (tidied s) x fits i h), (λ none. ends_within (trimmed s.slots) x order.ends_live (λ i h. order.entries i ∙ none i h)))
 
   -- the slots that a limit finds are no more than it exactly where no entry stands past it

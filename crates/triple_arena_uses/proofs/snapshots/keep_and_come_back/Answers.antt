@@ -16,5 +16,5 @@ returns g c = record {
       record { next = _; copy = first.0; cloned = first.2; same_end = there.same_end; source_fits = there.source_fits; fits = there.fits } in
       let two : ClonesInto g.B.ArenaTrait.slots g.B.ArenaTrait.capacity g.A.ArenaTrait.slots g.A.ArenaTrait.capacity g.A.ArenaCloneFromWith.clones c.clone_from.new.self c.args.table.now c.clone_from-2.new.self =
       record { next = _; copy = second.0; cloned = second.2; same_end = rw is at back.same_end; source_fits = back.source_fits; fits = back.fits } in
-      (c.clones_settle.ensures.settled (c.args.table.now, c.args.kept.now) true (c.args.table.now, c.clone_from.new.self) (false ∷ []) (c.clone_from-2.new.self, c.clone_from.new.self) (refl, one) ((c.clone_from-2.new.self, c.clone_from.new.self), (refl, two), refl)).0);
+      (c.clones_keep_capacity.ensures.kept (c.args.table.now, c.args.kept.now) true (c.args.table.now, c.clone_from.new.self) (false ∷ []) (c.clone_from-2.new.self, c.clone_from.new.self) (refl, one) ((c.clone_from-2.new.self, c.clone_from.new.self), (refl, two), refl)).0);
 }

@@ -20,7 +20,7 @@ const EIGHT_OF_TEN: Removed = Removed {
 };
 
 // Clones the second from the first, then the first from the second, and then the second again.
-fn settles<A: Source + Target + TestedArena>(
+fn keep_their_room<A: Source + Target + TestedArena>(
     alloc: Global,
     first: &mut A,
     second: &mut A,
@@ -42,17 +42,17 @@ fn settles<A: Source + Target + TestedArena>(
     follow_two(alloc, first, second, has_eight)
 }
 
-fn settle_over<S: NonZeroInxGenericStack<ArenaSlot<P0, Token>> + Drop>(
+fn keep_room_over<S: NonZeroInxGenericStack<ArenaSlot<P0, Token>> + Drop>(
     alloc: Global,
 ) -> Result<(), Wrong> {
     let mut first: Tested<P0, S> = new_arena(alloc);
     let mut second: Tested<P0, S> = new_arena(alloc);
-    settles(alloc, &mut first, &mut second)
+    keep_their_room(alloc, &mut first, &mut second)
 }
 
 #[test]
-fn arenas_cloned_into_each_other_settle_their_room(rt: HostRuntime) -> Result<(), Wrong> {
-    settle_over::<Heap<P0>>(rt.alloc())
+fn arenas_cloned_into_each_other_keep_their_room(rt: HostRuntime) -> Result<(), Wrong> {
+    keep_room_over::<Heap<P0>>(rt.alloc())
 }
 
 // Five entries, of which the first, the third and the last are removed.

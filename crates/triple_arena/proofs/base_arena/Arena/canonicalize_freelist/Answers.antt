@@ -1,11 +1,11 @@
 use Rattle.std.proofs.Common.{◌∙◌, ap, refl, subst, sym, arith}
 use Rattle.triple_arena_traits.specs.ArenaState.{ArenaState}
-use Rattle.triple_arena_traits.specs.FreeList.{tidied, IsInOrder}
+use Rattle.triple_arena_traits.specs.FreeList.{tidied, IsTidied}
 use Rattle.triple_arena_slots.proofs.Links.{carried, Shows-steps}
 use Rattle.triple_arena_slots.proofs.Tidying.{Shows-tidied}
-use Rattle.triple_arena_traits.specs.laws.FreeListLaws.{IsInOrder-tidied}
+use Rattle.triple_arena_traits.specs.laws.FreeListLaws.{IsTidied-tidied}
 use Rattle.triple_arena_traits.specs.laws.HistoryLaws.{Continues-resized}
-use Rattle.triple_arena.specs.laws.TouchedLaws.{settled_slots}
+use Rattle.triple_arena.specs.laws.TouchedLaws.{tidied_slots}
 use Rattle.std.proofs.lemmas.List.{length-map}
 use Rattle.triple_arena_slots.specs.Slot.{entry_of}
 use Rattle.triple_arena.proofs.base_arena.Arena.canonicalize_freelist.Goals as goal
@@ -30,16 +30,16 @@ returns-clause-state g c = (
   omega (arith, c.tidy.ensures.steps, ap (λ s. s.steps) c.self.view_is),
 )
 
-pub returns-clause-in_order : goal.returns-clause-in_order
-returns-clause-in_order g c =
-    let order = IsInOrder-tidied c.args.self.now in
-    let counted : IsInOrder c.args.self.now (record (tidied c.args.self.now) { steps = c.tidy.new.self.steps.count }) = record { entries = order.entries; ends_live = order.ends_live; rising = order.rising } in
-    subst (IsInOrder c.args.self.now) (sym (returns-clause-state g c).0) counted
+pub returns-clause-tidied : goal.returns-clause-tidied
+returns-clause-tidied g c =
+    let order = IsTidied-tidied c.args.self.now in
+    let counted : IsTidied c.args.self.now (record (tidied c.args.self.now) { steps = c.tidy.new.self.steps.count }) = record { entries = order.entries; ends_live = order.ends_live; rising = order.rising } in
+    subst (IsTidied c.args.self.now) (sym (returns-clause-state g c).0) counted
 
 pub returns-clause-history : goal.returns-clause-history
 returns-clause-history g c =
     let state = returns-clause-state g c in
-    Continues-resized c.args.self.now _ (settled_slots c.args.self.now _ state) (ap (λ (s : ArenaState g.row.T.Denot). s.counter) state.0)
+    Continues-resized c.args.self.now _ (tidied_slots c.args.self.now _ state) (ap (λ (s : ArenaState g.row.T.Denot). s.counter) state.0)
 
 pub tidy-requires-after_bounds : goal.tidy-requires-after_bounds
 tidy-requires-after_bounds g c κs within =

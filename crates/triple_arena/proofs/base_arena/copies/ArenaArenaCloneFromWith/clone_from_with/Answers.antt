@@ -4,7 +4,7 @@ use Rattle.triple_arena_traits.specs.ArenaState.{ArenaState, capacity}
 use Rattle.triple_arena_traits.specs.Capacity.{reallocated}
 use Rattle.triple_arena_traits.specs.Cloning.{IsCloneAnswer}
 use Rattle.triple_arena_traits.specs.Entries.{entry_in}
-use Rattle.triple_arena.specs.laws.TouchedLaws.{settled_slots}
+use Rattle.triple_arena.specs.laws.TouchedLaws.{tidied_slots}
 use Rattle.triple_arena_traits.proofs.CopyLemmas.{kept_end, copy_ends, no_answer}
 use Rattle.triple_arena_traits.proofs.Refused.{err_is, on_ok_err}
 use Rattle.triple_arena_traits.specs.laws.FreeListLaws.{trimmed_length}
@@ -15,7 +15,7 @@ use Rattle.triple_arena.proofs.base_arena.copies.ArenaArenaCloneFromWith.clone_f
 pub returns-in_err-make_room-clause-fits : goal.returns-in_err-make_room-clause-fits
 returns-in_err-make_room-clause-fits g c =
     let is = c.in_err-make_room.ensures.refused in
-    let kept = kept_end _ _ (settled_slots c.args.self.now c.make_room.new.self is) in
+    let kept = kept_end _ _ (tidied_slots c.args.self.now c.make_room.new.self is) in
     let size : capacity c.make_room.new.self ≡ capacity c.args.self.now = ap capacity is.0 in
     omega (arith, kept, size, trimmed_length c.args.self.now.slots, c.in_err-make_room.ensures.fits)
 

@@ -7,7 +7,7 @@ use Rattle.triple_arena_traits.specs.Entries.{entry_in}
 use Rattle.triple_arena_traits.proofs.CopyLemmas.{kept_end, copy_ends, copy_same_end, on_copies, no_answer}
 use Rattle.triple_arena_traits.specs.laws.FreeListLaws.{trimmed_length}
 use Rattle.triple_arena_direct_arena.specs.DirectState.{DirectState, direct_capacity, reallocated, ready_for, settled, with_slots}
-use Rattle.triple_arena_direct_arena.specs.laws.StepLaws.{slots-settled}
+use Rattle.triple_arena_direct_arena.specs.laws.StepLaws.{slots-tidied}
 use Rattle.triple_arena_direct_arena.proofs.direct_arena.copies.DirectArenaArenaCloneFromWith.clone_from_with.Goals as goal
 
 pub returns-in-Err-clause-cloned : goal.returns-in-Err-clause-cloned
@@ -19,7 +19,7 @@ returns-in-Err-clause-cloned g c answer is =
 pub returns-in_err-make_room-clause-fits : goal.returns-in_err-make_room-clause-fits
 returns-in_err-make_room-clause-fits g c =
     let is = c.in_err-make_room.ensures.refused in
-    let kept = kept_end _ _ (slots-settled c.args.self.now _ c.make_room.new.self is) in
+    let kept = kept_end _ _ (slots-tidied c.args.self.now _ c.make_room.new.self is) in
     let size : direct_capacity c.make_room.new.self ≡ direct_capacity c.args.self.now = ap direct_capacity is in
     omega (arith, kept, size, trimmed_length c.args.self.now.slots, c.in_err-make_room.ensures.fits)
 

@@ -50,21 +50,34 @@ module _ {T : Type 0} (infallible : T → Type 0) where
     pub ends_live : is_free (item slots (length slots)) ≡ false
     pub ends : MatchResult answer (λ _. rest ≡ []) (λ _. FirstMayFail rest)
 
-module _ {T U A B : Type 0} (slots : A → List (Option (ℕ × T))) (capacity : A → ℕ) (slots_of : B → List (Option (ℕ × U))) (into_capacity : B → ℕ)
-    (clones : B → ℕ → Option ℕ → List (Option (ℕ × U)) → B → Type 0) where
+-- what cloning sees of a kind of arena: the slots; how many entries fit; and what a clone makes of an arena, by the last
+-- index and the next generation of its source, and the slots that were copied
+pub record Clonable (A T : Type 0) : Type 1 where
+  pub slots : A → List (Option (ℕ × T))
+  pub capacity : A → ℕ
+  pub clones : A → ℕ → Option ℕ → List (Option (ℕ × T)) → A → Type 0
+
+module _ {A T : Type 0} where
+  abbrev pub clonable : (slots : A → List (Option (ℕ × T))) (capacity : A → ℕ) (clones : A → ℕ → Option ℕ → List (Option (ℕ × T)) → A → Type 0) → Clonable A T
+  clonable slots capacity clones = record { slots = slots; capacity = capacity; clones = clones }
+
+  -- the index of the last entry
+  abbrev pub end_of : Clonable A T → A → ℕ
+  end_of kind a = last_index (kind.slots a)
+
+module _ {A B T U : Type 0} (from : Clonable A T) (into : Clonable B U) where
   -- the second arena is cloned from the first with no refusal, so that both end with the same index; the capacity of each
   -- reaches it, as that of every arena does
   pub record ClonesInto (source : A) (old new : B) : Type 0 where
     pub next : Option ℕ
     pub copy : List (Option (ℕ × U))
-    pub cloned : clones old (last_index (slots source)) next copy new
-    pub same_end : last_index (slots_of new) ≡ last_index (slots source)
-    pub source_fits : last_index (slots source) ≤ capacity source
-    pub fits : last_index (slots_of new) ≤ into_capacity new
+    pub cloned : into.clones old (end_of from source) next copy new
+    pub same_end : end_of into new ≡ end_of from source
+    pub source_fits : end_of from source ≤ from.capacity source
+    pub fits : end_of into new ≤ into.capacity new
 
-module _ {T U A B : Type 0} (slots : A → List (Option (ℕ × T))) (capacity : A → ℕ) (clones : A → ℕ → Option ℕ → List (Option (ℕ × T)) → A → Type 0)
-    (slots_of : B → List (Option (ℕ × U))) (into_capacity : B → ℕ) (clones_of : B → ℕ → Option ℕ → List (Option (ℕ × U)) → B → Type 0) where
+module _ {A B T U : Type 0} (one : Clonable A T) (other : Clonable B U) where
   -- of two arenas one is cloned into the other: the first into the second, or the second into the first
   abbrev pub CloneTurn : A × B → Bool → A × B → Type 0
-  CloneTurn old true new = (new.0 ≡ old.0) × ClonesInto slots capacity slots_of into_capacity clones_of old.0 old.1 new.1
-  CloneTurn old false new = (new.1 ≡ old.1) × ClonesInto slots_of into_capacity slots capacity clones old.1 old.0 new.0
+  CloneTurn old true new = (new.0 ≡ old.0) × ClonesInto one other old.0 old.1 new.1
+  CloneTurn old false new = (new.1 ≡ old.1) × ClonesInto other one old.1 old.0 new.0

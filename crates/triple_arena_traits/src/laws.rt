@@ -15,7 +15,7 @@ ghost use Rattle.triple_arena_traits.specs.Capacity.{EndsBy, reallocated, with_l
 ghost use Rattle.triple_arena_traits.specs.Values.{with_values_of};
 ghost use Rattle.triple_arena_traits.specs.HeldSlots.{refill_slots};
 ghost use Rattle.triple_arena_traits.specs.Walks.{Stand, Steps, Walk, IsAtFirst, keys, values};
-ghost use Rattle.triple_arena_traits.specs.Cloning.{CloneTurn};
+ghost use Rattle.triple_arena_traits.specs.Cloning.{clonable, CloneTurn};
 ghost use Rattle.triple_arena_traits.specs.Compression.{closed_up, compressed, rank};
 ghost use Rattle.triple_arena_traits.specs.Drains.{NoneWraps};
 ghost use Rattle.triple_arena_traits.specs.Histories.{has, ModelCall, insertion, History, begun_with, and_then, given, ended, followed_by, is_live, Fits, Continues, IsModelCall, AreModelCalls};
@@ -58,9 +58,10 @@ pub fn clones_keep_capacity<P: Ptr, T, U, A: ArenaCloneFromWith<P, T>, B: ArenaC
         → A.capacity new ≡ A.capacity old }
     ensures kept { (start : A × B) (first : Bool) (middle : A × B) (turns : List Bool)
         (end : A × B)
-        → CloneTurn A.slots A.capacity A.clones B.slots B.capacity B.clones start first middle
-        → FoldsTo (CloneTurn A.slots A.capacity A.clones B.slots B.capacity B.clones)
-        middle turns end
+        → CloneTurn (clonable A.slots A.capacity A.clones) (clonable B.slots B.capacity B.clones)
+        start first middle
+        → FoldsTo (CloneTurn (clonable A.slots A.capacity A.clones)
+        (clonable B.slots B.capacity B.clones)) middle turns end
         → (A.capacity end.0 ≡ A.capacity middle.0) × (B.capacity end.1 ≡ B.capacity middle.1) }
 {}
 

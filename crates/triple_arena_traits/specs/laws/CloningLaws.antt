@@ -5,8 +5,8 @@ use Rattle.std.proofs.lemmas.Bool.Decides.{nat_tests}
 use Rattle.triple_arena_stack.specs.StackKind.{StackKind}
 use Rattle.triple_arena_traits.specs.ArenaState.{ArenaState, capacity}
 use Rattle.triple_arena_traits.specs.Entries.{entry_in, KeepsEntries}
-use Rattle.triple_arena_traits.specs.FreeList.{laid_out, last_index}
-use Rattle.triple_arena_traits.specs.Cloning.{counter_of, CloneTurn}
+use Rattle.triple_arena_traits.specs.FreeList.{laid_out}
+use Rattle.triple_arena_traits.specs.Cloning.{Clonable, end_of, counter_of, CloneTurn}
 use Rattle.triple_arena_traits.specs.Capacity.{ready_for, reallocated}
 
 module _ {T : Type 0} (kind : StackKind) where
@@ -31,46 +31,45 @@ module _ {T : Type 0} (kind : StackKind) where
     pub capacity-cloned : (old : ArenaState T) (last : ℕ) (next : Option ℕ) (copy : List (Option (ℕ × T))) (new : ArenaState T) → new ≡ laid_out (ready_for kind old last) copy (counter_of first next) → last ≤ capacity old → capacity new ≡ capacity old
     capacity-cloned old last next copy new is fits = ap capacity is ∙ ap capacity (ready-fits old last fits)
 
-module _ {T U A B : Type 0} (slots : A → List (Option (ℕ × T))) (capacity : A → ℕ) (clones : A → ℕ → Option ℕ → List (Option (ℕ × T)) → A → Type 0)
-    (slots_of : B → List (Option (ℕ × U))) (into_capacity : B → ℕ) (clones_of : B → ℕ → Option ℕ → List (Option (ℕ × U)) → B → Type 0)
-    (stays : (old : A) (last : ℕ) (next : Option ℕ) (copy : List (Option (ℕ × T))) (new : A) → clones old last next copy new → last ≤ capacity old → capacity new ≡ capacity old)
-    (stays_of : (old : B) (last : ℕ) (next : Option ℕ) (copy : List (Option (ℕ × U))) (new : B) → clones_of old last next copy new → last ≤ into_capacity old → into_capacity new ≡ into_capacity old) where
+module _ {A B T U : Type 0} (one : Clonable A T) (other : Clonable B U)
+    (stays : (old : A) (last : ℕ) (next : Option ℕ) (copy : List (Option (ℕ × T))) (new : A) → one.clones old last next copy new → last ≤ one.capacity old → one.capacity new ≡ one.capacity old)
+    (other_stays : (old : B) (last : ℕ) (next : Option ℕ) (copy : List (Option (ℕ × U))) (new : B) → other.clones old last next copy new → last ≤ other.capacity old → other.capacity new ≡ other.capacity old) where
   abbrev Turn : A × B → Bool → A × B → Type 0
-  Turn = CloneTurn slots capacity clones slots_of into_capacity clones_of
+  Turn = CloneTurn one other
 
   -- both end with the same index, and the capacity of each reaches it
   record BothFit (pair : A × B) : Type 0 where
-    pub same_end : last_index (slots_of pair.1) ≡ last_index (slots pair.0)
-    pub first_fits : last_index (slots pair.0) ≤ capacity pair.0
-    pub second_fits : last_index (slots_of pair.1) ≤ into_capacity pair.1
+    pub same_end : end_of other pair.1 ≡ end_of one pair.0
+    pub first_fits : end_of one pair.0 ≤ one.capacity pair.0
+    pub second_fits : end_of other pair.1 ≤ other.capacity pair.1
 
   both_fit : (old : A × B) (turn : Bool) (new : A × B) → Turn old turn new → BothFit new
   both_fit old true new t =
       record {
-        same_end = t.1.same_end ∙ sym (ap (λ a. last_index (slots a)) t.0);
+        same_end = t.1.same_end ∙ sym (ap (end_of one) t.0);
         first_fits = rw t.0 t.1.source_fits;
         second_fits = t.1.fits;
       }
   both_fit old false new t =
       record {
-        same_end = ap (λ b. last_index (slots_of b)) t.0 ∙ sym t.1.same_end;
+        same_end = ap (end_of other) t.0 ∙ sym t.1.same_end;
         first_fits = t.1.fits;
         second_fits = rw t.0 t.1.source_fits;
       }
 
-  keeps : (old : A × B) (turn : Bool) (new : A × B) → BothFit old → Turn old turn new → (capacity new.0 ≡ capacity old.0) × (into_capacity new.1 ≡ into_capacity old.1)
+  keeps : (old : A × B) (turn : Bool) (new : A × B) → BothFit old → Turn old turn new → (one.capacity new.0 ≡ one.capacity old.0) × (other.capacity new.1 ≡ other.capacity old.1)
   keeps old true new s t =
-      (ap capacity t.0, stays_of old.1 (last_index (slots old.0)) t.1.next t.1.copy new.1 t.1.cloned (omega (arith, s.same_end, s.second_fits)))
+      (ap one.capacity t.0, other_stays old.1 (end_of one old.0) t.1.next t.1.copy new.1 t.1.cloned (omega (arith, s.same_end, s.second_fits)))
   keeps old false new s t =
-      (stays old.0 (last_index (slots_of old.1)) t.1.next t.1.copy new.0 t.1.cloned (omega (arith, s.same_end, s.first_fits)), ap into_capacity t.0)
+      (stays old.0 (end_of other old.1) t.1.next t.1.copy new.0 t.1.cloned (omega (arith, s.same_end, s.first_fits)), ap other.capacity t.0)
 
-  keeps_all : (old : A × B) (turns : List Bool) (new : A × B) → BothFit old → FoldsTo Turn old turns new → (capacity new.0 ≡ capacity old.0) × (into_capacity new.1 ≡ into_capacity old.1)
-  keeps_all old [] new s same = (ap (λ p. capacity p.0) (sym same), ap (λ p. into_capacity p.1) (sym same))
+  keeps_all : (old : A × B) (turns : List Bool) (new : A × B) → BothFit old → FoldsTo Turn old turns new → (one.capacity new.0 ≡ one.capacity old.0) × (other.capacity new.1 ≡ other.capacity old.1)
+  keeps_all old [] new s same = (ap (λ p. one.capacity p.0) (sym same), ap (λ p. other.capacity p.1) (sym same))
   keeps_all old (turn ∷ turns) new s (next, here, there) =
-      let one = keeps old turn next s here in
+      let first = keeps old turn next s here in
       let rest = keeps_all next turns new (both_fit old turn next here) there in
-      (rest.0 ∙ one.0, rest.1 ∙ one.1)
+      (rest.0 ∙ first.0, rest.1 ∙ first.1)
 
   -- once one of two arenas was cloned into the other, further clones leave both capacities
-  pub clones_keep_capacity : (start : A × B) (first : Bool) (middle : A × B) (turns : List Bool) (end : A × B) → Turn start first middle → FoldsTo Turn middle turns end → (capacity end.0 ≡ capacity middle.0) × (into_capacity end.1 ≡ into_capacity middle.1)
+  pub clones_keep_capacity : (start : A × B) (first : Bool) (middle : A × B) (turns : List Bool) (end : A × B) → Turn start first middle → FoldsTo Turn middle turns end → (one.capacity end.0 ≡ one.capacity middle.0) × (other.capacity end.1 ≡ other.capacity middle.1)
   clones_keep_capacity start first middle turns end here there = keeps_all middle turns end (both_fit start first middle here) there

@@ -1,3 +1,4 @@
+use Rattle.triple_arena_traits.specs.Cloning.{clonable}
 use Rattle.triple_arena_traits.specs.laws.CloningLaws.{clones_keep_capacity}
 use Rattle.triple_arena_traits.proofs.laws.clones_keep_capacity.Goals as goal
 
@@ -5,5 +6,8 @@ pub returns : goal.returns
 returns g c =
     record {
       fits = g.met.A.ArenaCloneFromWith.capacity_cloned;
-      kept = clones_keep_capacity _ _ _ _ _ _ g.met.A.ArenaCloneFromWith.capacity_cloned g.met.B.ArenaCloneFromWith.capacity_cloned;
+      kept = clones_keep_capacity
+          (clonable g.A.ArenaTrait.slots g.A.ArenaTrait.capacity g.A.ArenaCloneFromWith.clones)
+          (clonable g.B.ArenaTrait.slots g.B.ArenaTrait.capacity g.B.ArenaCloneFromWith.clones)
+          g.met.A.ArenaCloneFromWith.capacity_cloned g.met.B.ArenaCloneFromWith.capacity_cloned;
     }

@@ -10,7 +10,8 @@ ghost use Rattle.triple_arena_stack.specs.Capacity.{IsWithin, IsBeyond, IsAtLimi
 ghost use Rattle.triple_arena_stack.specs.StackKind.{IsOfKind};
 ghost use Rattle.triple_arena_stack.specs.Disjoint.{DisjointAnswer, MayWork, Worked};
 ghost use Rattle.triple_arena_traits.specs.Items.{item};
-ghost use Rattle.triple_arena_traits.specs.ArenaState.{ArenaState, new_arena, slot_count, capacity, arena_len, entry, look_up, with_value, is_free, IsWellFormed};
+ghost use Rattle.triple_arena_traits.specs.Entries.{look_up};
+ghost use Rattle.triple_arena_traits.specs.ArenaState.{ArenaState, new_arena, slot_count, capacity, arena_len, entry, with_value, is_free, IsWellFormed};
 ghost use Rattle.triple_arena_traits.specs.Insertion.{next_pointer, inserted};
 ghost use Rattle.triple_arena_traits.specs.SlotSteps.{RisesByAtMost, IsTouched, touched, insertion_steps};
 ghost use Rattle.triple_arena_traits.specs.Ending.{removed, invalidated, cleared, told};
@@ -526,7 +527,7 @@ impl<P: Ptr, T, S: NonZeroInxGenericStack<ArenaSlot<P, T>>> Arena<P, T, S> {
         ensures state { IsTouched (without_free_end self.old) self.new }
         ensures bounded { RisesByAtMost (6 * (slot_count self.old - slot_count self.new) + 2)
             self.old.steps self.new.steps }
-        ensures kept { (q : Pointer) → look_up self.new q ≡ look_up self.old q }
+        ensures kept { (q : Pointer) → look_up self.new.slots q ≡ look_up self.old.slots q }
         ensures same_len { arena_len self.new ≡ arena_len self.old }
         ensures same_capacity { capacity self.new ≡ capacity self.old }
         ensures ends_live { is_free (item self.new.slots (slot_count self.new)) ≡ false }
@@ -579,7 +580,7 @@ impl<P: Ptr, T, S: NonZeroInxGenericStack<ArenaSlot<P, T>>> Arena<P, T, S> {
     // The index of a pointer, if the pointer is valid.
     fn find(&self, p: P) -> Option<NonZeroUsize>
         ensures index { IfSome result (λ inx. non_zero_usize_get inx ≡ (P.numbers p).0) }
-        ensures live { is_some result ≡ is_some (look_up self.now (P.numbers p)) }
+        ensures live { is_some result ≡ is_some (look_up self.now.slots (P.numbers p)) }
     {
         let slot = self.slot(p.inx())?;
         slot.value_under(p.generation())?;
@@ -589,7 +590,7 @@ impl<P: Ptr, T, S: NonZeroInxGenericStack<ArenaSlot<P, T>>> Arena<P, T, S> {
     // The index of a pointer, if the pointer is valid. It touches at most one slot.
     fn look_for(&mut self, p: P) -> Option<NonZeroUsize>
         ensures index { IfSome result (λ inx. non_zero_usize_get inx ≡ (P.numbers p).0) }
-        ensures live { is_some result ≡ is_some (look_up self.old (P.numbers p)) }
+        ensures live { is_some result ≡ is_some (look_up self.old.slots (P.numbers p)) }
         ensures unchanged { IsTouched self.old self.new }
         ensures steps { self.new.steps ≤ self.old.steps + 1 }
     {

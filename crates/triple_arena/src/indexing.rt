@@ -3,7 +3,8 @@
 ghost use Rattle.std.specs.Prelude.{◌≡◌, [], Some, IsSome};
 ghost use Rattle.std.specs.Borrow.{sem, Lends};
 ghost use Rattle.std.specs.Option.{option_map};
-ghost use Rattle.triple_arena_traits.specs.ArenaState.{entry, look_up, with_value};
+ghost use Rattle.triple_arena_traits.specs.Entries.{look_up};
+ghost use Rattle.triple_arena_traits.specs.ArenaState.{entry, with_value};
 ghost use Rattle.triple_arena_traits.specs.Histories.{Fits, Continues};
 
 use crate::base_arena::Arena;
@@ -45,10 +46,10 @@ impl<P: Ptr, T, S: NonZeroInxGenericStack<ArenaSlot<P, T>>> Index<P> for Arena<P
     type Output = T;
 
     // the pointer is valid
-    ghost can_index = { λ arena p. IsSome (look_up arena (P.numbers p)) };
+    ghost can_index = { λ arena p. IsSome (look_up arena.slots (P.numbers p)) };
 
     // the value under it
-    ghost index_gives = { λ arena p value. look_up arena (P.numbers p) ≡ Some value };
+    ghost index_gives = { λ arena p value. look_up arena.slots (P.numbers p) ≡ Some value };
 
     /// The value under `p`. The pointer must be valid, which `contains` tells.
     fn index(&self, p: P) -> &T {
@@ -59,8 +60,8 @@ impl<P: Ptr, T, S: NonZeroInxGenericStack<ArenaSlot<P, T>>> Index<P> for Arena<P
 impl<P: Ptr, T, S: NonZeroInxGenericStack<ArenaSlot<P, T>>> IndexMut<P> for Arena<P, T, S> {
     /// The value under `p`, for writing. The pointer must be valid, which `contains` tells.
     fn index_mut(&mut self, p: P) -> &mut T
-        requires { IsSome (look_up self.old (P.numbers p)) }
-        ensures value { look_up self.old (P.numbers p) ≡ Some result.now }
+        requires { IsSome (look_up self.old.slots (P.numbers p)) }
+        ensures value { look_up self.old.slots (P.numbers p) ≡ Some result.now }
         ensures* writes_back { sem 𝓛 (Lends ⟦<Arena<P, T, S> as LendingArena>⟧.arena_row T.row
             self.entry result (with_value self.old (P.numbers p).0)) }
         ensures written { (value : T)

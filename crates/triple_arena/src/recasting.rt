@@ -1,6 +1,6 @@
 //! Recasting the values of an arena, and arenas of pointers as recasters.
 
-ghost use Rattle.triple_arena_traits.specs.Entries.{look_up_in};
+ghost use Rattle.triple_arena_traits.specs.Entries.{look_up};
 
 use crate::base_arena::Arena;
 use triple_arena_base::{Recast, Recaster};
@@ -13,7 +13,7 @@ use triple_arena_traits::{ArenaTrait, recast_entries};
 impl<P: Ptr, S: NonZeroInxGenericStack<ArenaSlot<P, P>>> Recaster for Arena<P, P, S> {
     type Item = P;
 
-    ghost image = { λ s p. look_up_in s.slots (P.numbers p) };
+    ghost image = { λ s p. look_up s.slots (P.numbers p) };
 
     fn recast_item(&self, item: &mut P) -> Result<(), P> {
         let image = self.get(*item).ok_or(*item)?;

@@ -7,7 +7,7 @@ use Rattle.triple_arena_base.specs.Held.{KeepsHeld, held_all, refill_all}
 use Rattle.triple_arena_base.specs.HeldLists.{length_refill_all, refill_all_held}
 use Rattle.triple_arena_ptr.specs.Pointers.{Pointer}
 use Rattle.triple_arena_traits.specs.Items.{with_item}
-use Rattle.triple_arena_traits.specs.Entries.{entry_in, look_up_in, entry_count, with_value_in}
+use Rattle.triple_arena_traits.specs.Entries.{entry_in, look_up, entry_count, with_value_in}
 use Rattle.triple_arena_traits.specs.Walks.{entries, keys, values}
 use Rattle.triple_arena_traits.specs.Recasting.{written, recast_values}
 use Rattle.triple_arena_traits.specs.laws.CompressionLaws.{length-keys, length-values}
@@ -20,7 +20,7 @@ module _ {P T A : Type 0} (numbers : P → Pointer) (held : T → List P) (refil
     (same : (a : A) (i : ℕ) (e : ℕ × T) → entry_in (slots a) i ≡ Some e → with_value a i e.1 ≡ a)
     (sets : (a : A) (i : ℕ) (v : T) → slots (with_value a i v) ≡ with_value_in (slots a) i v) where
   -- recasting by the map of the live pointers to themselves changes nothing
-  pub unchanged : (image : P → Option P) (old new : A) → ((p : P) → image p ≡ option_map (λ _. p) (look_up_in (slots old) (numbers p)))
+  pub unchanged : (image : P → Option P) (old new : A) → ((p : P) → image p ≡ option_map (λ _. p) (look_up (slots old) (numbers p)))
       → new ≡ written with_value (keys (slots old)) (recast_values held refill image (values (slots old))) old → new ≡ old
   unchanged image old new own is =
       let stay : recast_values held refill image (values (slots old)) ≡ values (slots old) =

@@ -8,7 +8,7 @@ use Rattle.std.specs.Option.{option_map}
 use Rattle.triple_arena_base.specs.declared.errors.ReallocationError.{ReallocationError}
 use Rattle.triple_arena_base.specs.declared.errors.ReallocationError.TheVariants.{BeyondMaxCapacity, AllocError}
 use Rattle.triple_arena_ptr.specs.Pointers.{Pointer}
-use Rattle.triple_arena_traits.specs.Entries.{look_up_in, entry_count}
+use Rattle.triple_arena_traits.specs.Entries.{look_up, entry_count}
 use Rattle.triple_arena_traits.specs.FreeList.{before, trimmed, last_index}
 use Rattle.triple_arena_traits.specs.FreeEnd.{shortened}
 use Rattle.triple_arena_traits.specs.Walks.{entries, keys_of, values_of, keys, values}
@@ -47,9 +47,9 @@ module _ {P T : Type 0} (numbers : P → Pointer) (apart : (p q : P) → numbers
   own_some p (Some x) (Some v) e = let same : numbers x ≡ numbers p = cc in ap Some (apart x p same)
 
   -- each live pointer is its own image, and no other has one
-  pub own_image : (old : List (Option (ℕ × T))) (own : List (Option (ℕ × P))) → keys own ≡ keys old → map numbers (values own) ≡ keys old → (p : P) → look_up_in own (numbers p) ≡ option_map (λ _. p) (look_up_in old (numbers p))
+  pub own_image : (old : List (Option (ℕ × T))) (own : List (Option (ℕ × P))) → keys own ≡ keys old → map numbers (values own) ≡ keys old → (p : P) → look_up own (numbers p) ≡ option_map (λ _. p) (look_up old (numbers p))
   own_image old own ks vs p =
-      own_some p (look_up_in own (numbers p)) (look_up_in old (numbers p))
+      own_some p (look_up own (numbers p)) (look_up old (numbers p))
       (renames numbers (λ q. q) old own ks (vs ∙ sym (map_same (keys old))) (numbers p))
 
 -- where the greatest index of an entry is above 0, there is an entry

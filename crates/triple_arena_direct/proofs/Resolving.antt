@@ -4,12 +4,12 @@ use Rattle.std.specs.Option.{option_map}
 use Rattle.triple_arena_base.specs.Held.{KeepsHeld, recast_from, recast_items, answer_from, recast_answer, held_all, refill_all}
 use Rattle.triple_arena_base.specs.HeldLists.{refill_ok}
 use Rattle.triple_arena_ptr.specs.Pointers.{Pointer}
-use Rattle.triple_arena_traits.specs.Entries.{look_up_in}
+use Rattle.triple_arena_traits.specs.Entries.{look_up}
 use Rattle.triple_arena_direct.specs.Renaming.{first_unresolved, AreRenamed}
 
 module _ {P T : Type 0} (numbers : P → Pointer) (slots : List (Option (ℕ × T))) where
   abbrev live : P → Option T
-  live p = look_up_in slots (numbers p)
+  live p = look_up slots (numbers p)
 
   -- by the map of the live pointers to themselves, nothing is replaced
   pub items_stay : (image : P → Option P) → ((p : P) → image p ≡ option_map (λ _. p) (live p)) → (ps : List P) → recast_items image ps ≡ ps

@@ -10,7 +10,8 @@ use Rattle.triple_arena_ptr.specs.Numbers.{raise}
 use Rattle.triple_arena_ptr.specs.Pointers.{Pointer}
 use Rattle.triple_arena_stack.specs.StackKind.{StackKind}
 use Rattle.triple_arena_traits.specs.Ending.{told_of, map_told, removed, invalidated}
-use Rattle.triple_arena_traits.specs.ArenaState.{ArenaState, arena_len, capacity, look_up, IsWellFormed}
+use Rattle.triple_arena_traits.specs.Entries.{look_up}
+use Rattle.triple_arena_traits.specs.ArenaState.{ArenaState, arena_len, capacity, IsWellFormed}
 use Rattle.triple_arena_traits.specs.Insertion.{next_pointer, inserted}
 use Rattle.triple_arena_traits.specs.SlotSteps.{RisesByAtMost, IsTouched, touched, insertion_steps}
 use Rattle.triple_arena_traits.specs.Capacity.{grown}
@@ -120,20 +121,20 @@ mapped_test q exhausted (Some x) tested = tested
 
 -- the history of a call that ends the entry of a pointer, where an exhausted counter was tested before
 module _ {T : Type 0} (kind : StackKind) (counting : Bool) (greatest : ℕ) (s t : ArenaState T) (p : Pointer) where
-  pub removed_history : (told : InvalidationResult T) (r : Result T StrictError) → r ≡ ok_or (allowed told) InvalidPtr → told ≡ told_of (is_exhausted counting greatest s) (look_up s p) → (is_exhausted counting greatest s && is_some (look_up s p)) ≡ false → (IsSome (look_up s p) → IsTouched (removed (raise counting greatest) s p.0) t) → (look_up s p ≡ None → IsTouched s t) → counting ≡ true → Continues Fits s (calls_if_ok r (λ _. removal p)) t
+  pub removed_history : (told : InvalidationResult T) (r : Result T StrictError) → r ≡ ok_or (allowed told) InvalidPtr → told ≡ told_of (is_exhausted counting greatest s) (look_up s.slots p) → (is_exhausted counting greatest s && is_some (look_up s.slots p)) ≡ false → (IsSome (look_up s.slots p) → IsTouched (removed (raise counting greatest) s p.0) t) → (look_up s.slots p ≡ None → IsTouched s t) → counting ≡ true → Continues Fits s (calls_if_ok r (λ _. removal p)) t
   removed_history told r is answer tested done kept counts =
       let exhausted = is_exhausted counting greatest s in
-      let found = look_up s p in
+      let found = look_up s.slots p in
       let strict : r ≡ strict_of exhausted found = is ∙ answered exhausted found told answer tested in
       Continues-strict_counting kind greatest counting counts s (to_remove p) (calls_if_ok r (λ _. removal p)) t
       (step_of s t exhausted found r (removal p) (removed (raise counting greatest) s p.0) strict
       (if_found exhausted found r (IsTouched (removed (raise counting greatest) s p.0) t) strict done)
       (kept_of s t exhausted found r strict tested kept))
 
-  pub invalidated_history : {P : Type 0} (numbers : P → Pointer) (told : InvalidationResult P) (r : Result P StrictError) → r ≡ ok_or (allowed told) InvalidPtr → map_told numbers told ≡ told_of (is_exhausted counting greatest s) (option_map (λ _. (p.0, raise counting greatest s.counter)) (look_up s p)) → (is_exhausted counting greatest s && is_some (look_up s p)) ≡ false → (IsSome (look_up s p) → IsTouched (invalidated (raise counting greatest) s p.0) t) → (look_up s p ≡ None → IsTouched s t) → counting ≡ true → Continues Fits s (calls_if_ok r (λ q. invalidation p (numbers q))) t
+  pub invalidated_history : {P : Type 0} (numbers : P → Pointer) (told : InvalidationResult P) (r : Result P StrictError) → r ≡ ok_or (allowed told) InvalidPtr → map_told numbers told ≡ told_of (is_exhausted counting greatest s) (option_map (λ _. (p.0, raise counting greatest s.counter)) (look_up s.slots p)) → (is_exhausted counting greatest s && is_some (look_up s.slots p)) ≡ false → (IsSome (look_up s.slots p) → IsTouched (invalidated (raise counting greatest) s p.0) t) → (look_up s.slots p ≡ None → IsTouched s t) → counting ≡ true → Continues Fits s (calls_if_ok r (λ q. invalidation p (numbers q))) t
   invalidated_history numbers told r is answer tested done kept counts =
       let exhausted = is_exhausted counting greatest s in
-      let found = look_up s p in
+      let found = look_up s.slots p in
       let q : Pointer = (p.0, raise counting greatest s.counter) in
       let strict : result_map_both numbers (λ e. e) r ≡ strict_of exhausted (option_map (λ _. q) found) =
       ap (result_map_both numbers (λ e. e)) is ∙ mapped_answer numbers exhausted (option_map (λ _. q) found) told answer (mapped_test q exhausted found tested) in
@@ -189,5 +190,5 @@ gone_if_ok s t (Ok x) call p up_to continues ends = ended-continues s t up_to (c
 gone_if_ok s t (Err e) call p up_to continues ends = tt
 
 -- and where it ended every entry
-pub all_gone : {T : Type 0} (s t : ArenaState T) (call : ModelCall) → IsUpToCounter s → Continues Fits s (call ∷ []) t → ended_by call ≡ keys s.slots → (p : Pointer) → IsSome (look_up s p) → IsGoneForGood t p
+pub all_gone : {T : Type 0} (s t : ArenaState T) (call : ModelCall) → IsUpToCounter s → Continues Fits s (call ∷ []) t → ended_by call ≡ keys s.slots → (p : Pointer) → IsSome (look_up s.slots p) → IsGoneForGood t p
 all_gone s t call up_to continues ends p live = ended-continues s t up_to call continues p (ap (λ ps. has ps p) ends ∙ has-keys s p ∙ live)

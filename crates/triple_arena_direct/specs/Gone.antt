@@ -1,7 +1,8 @@
 -- Pointers that are gone for good.
 use Rattle.std.specs.Prelude.{◌≡◌, ◌<◌, ◌≤◌, IsTrue, None}
 use Rattle.triple_arena_ptr.specs.Pointers.{Pointer}
-use Rattle.triple_arena_traits.specs.ArenaState.{ArenaState, look_up}
+use Rattle.triple_arena_traits.specs.Entries.{look_up}
+use Rattle.triple_arena_traits.specs.ArenaState.{ArenaState}
 use Rattle.triple_arena_traits.specs.Histories.{is_live}
 
 module _ {T : Type 0} where
@@ -12,4 +13,4 @@ module _ {T : Type 0} where
   -- a pointer is gone for good, or was never given and never will be: it finds nothing, and its generation is one that the
   -- counter has left behind, so that no entry gets it any more
   abbrev pub IsGoneForGood : ArenaState T → Pointer → Type 0
-  IsGoneForGood s p = (look_up s p ≡ None) × (p.1 < s.counter)
+  IsGoneForGood s p = (look_up s.slots p ≡ None) × (p.1 < s.counter)

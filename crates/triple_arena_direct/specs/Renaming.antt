@@ -9,16 +9,16 @@ use Rattle.triple_arena_base.specs.declared.errors.CompactError.TheVariants.{Unr
 use Rattle.triple_arena_ptr.specs.Pointers.{Pointer}
 use Rattle.triple_arena_stack.specs.Capacity.{IsWithin}
 use Rattle.triple_arena_stack.specs.StackKind.{StackKind, new_room, new_limit, reallocated_room}
-use Rattle.triple_arena_traits.specs.Entries.{look_up_in}
+use Rattle.triple_arena_traits.specs.Entries.{look_up}
 
 module _ {P T : Type 0} (numbers : P → Pointer) where
   -- the map has, for each pointer of these slots, its new pointer, and none for any other
   abbrev pub MapsPointers : (Pointer → Pointer) → List (Option (ℕ × T)) → List (Option (ℕ × P)) → Type 0
-  MapsPointers rename slots images = (p : Pointer) → option_map numbers (look_up_in images p) ≡ option_map (λ _. rename p) (look_up_in slots p)
+  MapsPointers rename slots images = (p : Pointer) → option_map numbers (look_up images p) ≡ option_map (λ _. rename p) (look_up slots p)
 
   -- the first of these pointers that finds nothing in the slots, if there is one
   abbrev pub first_unresolved : List (Option (ℕ × T)) → List P → Option P
-  first_unresolved slots ps = find (λ p. not (is_some (look_up_in slots (numbers p)))) ps
+  first_unresolved slots ps = find (λ p. not (is_some (look_up slots (numbers p)))) ps
 
 module _ {P T : Type 0} (numbers : P → Pointer) (rename : Pointer → Pointer) (held : T → List P) (refill : T → List P → T) where
   -- a value, and the same with each pointer that it holds renamed once

@@ -8,7 +8,7 @@ ghost use Rattle.triple_arena_ptr.specs.Pointers.{Pointer};
 ghost use Rattle.triple_arena_ptr.specs.Numbers.{greatest_index};
 ghost use Rattle.triple_arena_stack.specs.StackKind.{new_room, new_limit};
 ghost use Rattle.triple_arena_direct_arena.specs.DirectState.{direct_capacity};
-ghost use Rattle.triple_arena_traits.specs.Entries.{look_up_in, entry_count};
+ghost use Rattle.triple_arena_traits.specs.Entries.{look_up, entry_count};
 ghost use Rattle.triple_arena_traits.specs.FreeList.{last_index};
 ghost use Rattle.triple_arena_traits.specs.Ending.{told};
 ghost use Rattle.triple_arena_traits.specs.Histories.{History, compression, begun_with, CountsUp, Continues};
@@ -42,9 +42,9 @@ pub fn compress_recaster<P: Ptr, T, A: CompactArenaTrait<P, T>>(
         (A.slots this.old) (allowed_option answer).slots) }
     ensures done { OnOk result (A.compresses this.old reset_generation
         (values (A.slots this.old)) this.new) }
-    ensures found { OnOk result ((p : Pointer) → IsSome (look_up_in (A.slots this.old) p)
-        → look_up_in (A.slots this.new) (A.rank this.old reset_generation p)
-        ≡ look_up_in (A.slots this.old) p) }
+    ensures found { OnOk result ((p : Pointer) → IsSome (look_up (A.slots this.old) p)
+        → look_up (A.slots this.new) (A.rank this.old reset_generation p)
+        ≡ look_up (A.slots this.old) p) }
     ensures keys { OnOk result (keys (A.slots this.new)
         ≡ map (A.rank this.old reset_generation) (keys (A.slots this.old))) }
     ensures values { OnOk result (values (A.slots this.new) ≡ values (A.slots this.old)) }

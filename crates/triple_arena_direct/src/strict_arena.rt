@@ -9,7 +9,8 @@ ghost use Rattle.triple_arena_ptr.specs.Numbers.{greatest_index, raise, first_ge
 ghost use Rattle.triple_arena_ptr.specs.Pointers.{Pointer};
 ghost use Rattle.triple_arena_stack.specs.StackKind.{new_room, new_limit, made_room, made_limit, CanHold, TakesNoMemory, IsOfKind};
 ghost use Rattle.triple_arena_stack.specs.Capacity.{IsWithin, IsBeyond, IsFullAtLimit, CanGrow};
-ghost use Rattle.triple_arena_traits.specs.ArenaState.{ArenaState, new_arena, slot_count, arena_len, capacity, entry, look_up, with_value, IsWellFormed};
+ghost use Rattle.triple_arena_traits.specs.Entries.{look_up};
+ghost use Rattle.triple_arena_traits.specs.ArenaState.{ArenaState, new_arena, slot_count, arena_len, capacity, entry, with_value, IsWellFormed};
 ghost use Rattle.triple_arena_traits.specs.Insertion.{next_pointer, inserted};
 ghost use Rattle.triple_arena_traits.specs.SlotSteps.{RisesByAtMost, IsTouched};
 ghost use Rattle.triple_arena_traits.specs.Ending.{removed, invalidated, cleared};
@@ -183,7 +184,7 @@ impl<P: Ptr, T, S: NonZeroInxGenericStack<ArenaSlot<P, T>>> StrictArena<P, T, S>
 
     /// Whether `p` is valid.
     pub fn contains(&self, p: P) -> bool
-        ensures value { result ≡ is_some (look_up self.now (P.numbers p)) }
+        ensures value { result ≡ is_some (look_up self.now.slots (P.numbers p)) }
         ensures history { (h : History) → Fits h self.now → result ≡ remains h (P.numbers p) }
     {
         self.arena.contains(p)
@@ -191,7 +192,7 @@ impl<P: Ptr, T, S: NonZeroInxGenericStack<ArenaSlot<P, T>>> StrictArena<P, T, S>
 
     /// The value under `p`; none exactly where `p` is invalid.
     pub fn get(&self, p: P) -> Option<&T>
-        ensures value { option_copied result ≡ look_up self.now (P.numbers p) }
+        ensures value { option_copied result ≡ look_up self.now.slots (P.numbers p) }
         ensures history { (h : History) → Fits h self.now
             → is_some result ≡ remains h (P.numbers p) }
     {
@@ -200,12 +201,12 @@ impl<P: Ptr, T, S: NonZeroInxGenericStack<ArenaSlot<P, T>>> StrictArena<P, T, S>
 
     /// The value under `p`, for writing; none exactly where `p` is invalid.
     pub fn get_mut(&mut self, p: P) -> Option<&mut T>
-        ensures value { option_copied_mut result ≡ look_up self.old (P.numbers p) }
+        ensures value { option_copied_mut result ≡ look_up self.old.slots (P.numbers p) }
         ensures* writes_back { sem 𝓛 (LendsIf ⟦<StrictArena<P, T, S> as LendingArena>⟧.arena_row T.row
             self.entry result (with_value self.old (P.numbers p).0) self.old) }
         ensures history { (h : History) → Fits h self.old
             → is_some result ≡ remains h (P.numbers p) }
-        ensures step { IsSome (look_up self.old (P.numbers p)) → (value : T)
+        ensures step { IsSome (look_up self.old.slots (P.numbers p)) → (value : T)
             → IsStrictStep S.kind P.Gen.counting P.Gen.greatest self.old
             (to_write (P.numbers p) value) [] (with_value self.old (P.numbers p).0 value) }
         ensures written { (value : T) → Continues Fits self.old []
@@ -254,9 +255,9 @@ impl<P: Ptr, T, S: NonZeroInxGenericStack<ArenaSlot<P, T>>> StrictArena<P, T, S>
         ensures variant { IsOk result ↔ (arena_len self.old < capacity self.old) }
         ensures pointer { IfOk result (λ p. P.numbers p ≡ next_pointer self.old) }
         ensures free { IfOk result (λ p. entry self.old (P.numbers p).0 ≡ None) }
-        ensures found { IfOk result (λ p. look_up self.new (P.numbers p) ≡ Some t) }
+        ensures found { IfOk result (λ p. look_up self.new.slots (P.numbers p) ≡ Some t) }
         ensures others { IfOk result (λ p. (q : Pointer) → q.0 ≢ (P.numbers p).0
-            → look_up self.new q ≡ look_up self.old q) }
+            → look_up self.new.slots q ≡ look_up self.old.slots q) }
         ensures inserted { OnOk result (IsTouched (inserted self.old t) self.new) }
         ensures refused { OnErr result (self.new ≡ self.old) }
         ensures bounded { RisesByAtMost 6 self.old.steps self.new.steps }
@@ -314,9 +315,9 @@ impl<P: Ptr, T, S: NonZeroInxGenericStack<ArenaSlot<P, T>>> StrictArena<P, T, S>
         T: Drop,
         ensures pointer { IfOk result (λ p. P.numbers p ≡ next_pointer self.old) }
         ensures free { IfOk result (λ p. entry self.old (P.numbers p).0 ≡ None) }
-        ensures found { IfOk result (λ p. look_up self.new (P.numbers p) ≡ Some t) }
+        ensures found { IfOk result (λ p. look_up self.new.slots (P.numbers p) ≡ Some t) }
         ensures others { IfOk result (λ p. (q : Pointer) → q.0 ≢ (P.numbers p).0
-            → look_up self.new q ≡ look_up self.old q) }
+            → look_up self.new.slots q ≡ look_up self.old.slots q) }
         ensures inserted { OnOk result
             (IsTouched (inserted (grown S.kind self.old) t) self.new) }
         ensures refused { OnErr result (self.new ≡ self.old) }
@@ -350,14 +351,14 @@ impl<P: Ptr, T, S: NonZeroInxGenericStack<ArenaSlot<P, T>>> StrictArena<P, T, S>
     /// greatest value. Then nothing changes but how many slots were touched.
     pub fn remove(&mut self, p: P) -> Result<T, StrictError>
         ensures answer { result ≡ strict_of (is_exhausted P.Gen.counting P.Gen.greatest self.old)
-            (look_up self.old (P.numbers p)) }
+            (look_up self.old.slots (P.numbers p)) }
         ensures done { OnOk result (IsTouched
             (removed (raise P.Gen.counting P.Gen.greatest) self.old (P.numbers p).0) self.new) }
         ensures refused { OnErr result (IsTouched self.old self.new) }
         ensures bounded { RisesByAtMost 6 self.old.steps self.new.steps }
-        ensures gone { OnOk result (look_up self.new (P.numbers p) ≡ None) }
+        ensures gone { OnOk result (look_up self.new.slots (P.numbers p) ≡ None) }
         ensures others { (q : Pointer) → q ≢ P.numbers p
-            → look_up self.new q ≡ look_up self.old q }
+            → look_up self.new.slots q ≡ look_up self.old.slots q }
         ensures step { IsStrictStep S.kind P.Gen.counting P.Gen.greatest
             self.old (to_remove (P.numbers p)) (calls_if_ok result (λ _. removal (P.numbers p))) self.new }
         ensures history { P.Gen.counting ≡ true → Continues Fits self.old
@@ -381,17 +382,17 @@ impl<P: Ptr, T, S: NonZeroInxGenericStack<ArenaSlot<P, T>>> StrictArena<P, T, S>
         ensures answer { result_map_both P.numbers (λ e. e) result
             ≡ strict_of (is_exhausted P.Gen.counting P.Gen.greatest self.old) (option_map
             (λ _. ((P.numbers p).0, raise P.Gen.counting P.Gen.greatest self.old.counter))
-            (look_up self.old (P.numbers p))) }
+            (look_up self.old.slots (P.numbers p))) }
         ensures done { OnOk result (IsTouched
             (invalidated (raise P.Gen.counting P.Gen.greatest) self.old (P.numbers p).0) self.new) }
         ensures refused { OnErr result (IsTouched self.old self.new) }
         ensures bounded { RisesByAtMost 6 self.old.steps self.new.steps }
-        ensures found { IfOk result (λ q. look_up self.new (P.numbers q)
-            ≡ look_up self.old (P.numbers p)) }
+        ensures found { IfOk result (λ q. look_up self.new.slots (P.numbers q)
+            ≡ look_up self.old.slots (P.numbers p)) }
         ensures gone { P.Gen.counting ≡ true
-            → OnOk result (look_up self.new (P.numbers p) ≡ None) }
+            → OnOk result (look_up self.new.slots (P.numbers p) ≡ None) }
         ensures others { (q : Pointer) → q.0 ≢ (P.numbers p).0
-            → look_up self.new q ≡ look_up self.old q }
+            → look_up self.new.slots q ≡ look_up self.old.slots q }
         ensures step { IsStrictStep S.kind P.Gen.counting P.Gen.greatest
             self.old (to_invalidate (P.numbers p))
             (calls_if_ok result (λ q. invalidation (P.numbers p) (P.numbers q))) self.new }
@@ -420,13 +421,13 @@ impl<P: Ptr, T, S: NonZeroInxGenericStack<ArenaSlot<P, T>>> StrictArena<P, T, S>
         ensures done { OnOk result (self.new
             ≡ cleared (raise P.Gen.counting P.Gen.greatest) self.old) }
         ensures refused { OnErr result (self.new ≡ self.old) }
-        ensures gone { OnOk result ((q : Pointer) → look_up self.new q ≡ None) }
+        ensures gone { OnOk result ((q : Pointer) → look_up self.new.slots q ≡ None) }
         ensures step { IsStrictStep S.kind P.Gen.counting P.Gen.greatest
             self.old to_clear (calls_if_ok result (λ _. clearing (keys self.old.slots))) self.new }
         ensures history { P.Gen.counting ≡ true → Continues Fits self.old
             (calls_if_ok result (λ _. clearing (keys self.old.slots))) self.new }
         ensures gone_for_good { P.Gen.counting ≡ true → OnOk result
-            ((q : Pointer) → IsSome (look_up self.old q) → IsGoneForGood self.new q) }
+            ((q : Pointer) → IsSome (look_up self.old.slots q) → IsGoneForGood self.new q) }
         ensures stays_gone { P.Gen.counting ≡ true
             → (q : Pointer) → IsGoneForGood self.old q → IsGoneForGood self.new q }
     {
@@ -466,7 +467,7 @@ impl<P: Ptr, T, S: NonZeroInxGenericStack<ArenaSlot<P, T>>> StrictArena<P, T, S>
             (calls_if_ok result (λ _. compression (keys self.old.slots) (keys self.new.slots)))
             self.new }
         ensures gone_for_good { P.Gen.counting ≡ true → OnOk result
-            ((q : Pointer) → IsSome (look_up self.old q) → IsGoneForGood self.new q) }
+            ((q : Pointer) → IsSome (look_up self.old.slots q) → IsGoneForGood self.new q) }
         ensures stays_gone { P.Gen.counting ≡ true
             → (q : Pointer) → IsGoneForGood self.old q → IsGoneForGood self.new q }
     {
@@ -488,10 +489,10 @@ impl<P: Ptr, T, S: NonZeroInxGenericStack<ArenaSlot<P, T>>> StrictArena<P, T, S>
             (rank self.old (raised_if_any (raise P.Gen.counting P.Gen.greatest) self.old))
             (keys self.old.slots)) }
         ensures values { values self.new.slots ≡ values self.old.slots }
-        ensures found { OnOk result ((q : Pointer) → IsSome (look_up self.old q)
-            → look_up self.new (rank self.old
+        ensures found { OnOk result ((q : Pointer) → IsSome (look_up self.old.slots q)
+            → look_up self.new.slots (rank self.old
             (raised_if_any (raise P.Gen.counting P.Gen.greatest) self.old) q)
-            ≡ look_up self.old q) }
+            ≡ look_up self.old.slots q) }
         ensures refused { OnErr result (self.new ≡ self.old) }
         ensures len { arena_len self.new ≡ arena_len self.old }
         ensures step { (new : List T) × IsStrictStep S.kind P.Gen.counting P.Gen.greatest
@@ -502,7 +503,7 @@ impl<P: Ptr, T, S: NonZeroInxGenericStack<ArenaSlot<P, T>>> StrictArena<P, T, S>
             (calls_if_ok result (λ _. compression (keys self.old.slots) (keys self.new.slots)))
             self.new }
         ensures gone_for_good { P.Gen.counting ≡ true → OnOk result
-            ((q : Pointer) → IsSome (look_up self.old q) → IsGoneForGood self.new q) }
+            ((q : Pointer) → IsSome (look_up self.old.slots q) → IsGoneForGood self.new q) }
         ensures stays_gone { P.Gen.counting ≡ true
             → (q : Pointer) → IsGoneForGood self.old q → IsGoneForGood self.new q }
     {
@@ -557,7 +558,7 @@ impl<P: Ptr, T, S: NonZeroInxGenericStack<ArenaSlot<P, T>>> StrictArena<P, T, S>
             (calls_if_ok result (λ _. compression (keys self.old.slots) (keys self.new.slots)))
             self.new }
         ensures gone_for_good { P.Gen.counting ≡ true → OnOk result
-            ((q : Pointer) → IsSome (look_up self.old q) → IsGoneForGood self.new q) }
+            ((q : Pointer) → IsSome (look_up self.old.slots q) → IsGoneForGood self.new q) }
         ensures stays_gone { P.Gen.counting ≡ true
             → (q : Pointer) → IsGoneForGood self.old q → IsGoneForGood self.new q }
     {
@@ -578,7 +579,7 @@ impl<P: Ptr, T, S: NonZeroInxGenericStack<ArenaSlot<P, T>>> StrictArena<P, T, S>
     // Whether a raise of the counter would wrap it, and the pointer is valid.
     fn is_exhausted_for(&self, p: P) -> bool
         ensures { result ≡ is_exhausted P.Gen.counting P.Gen.greatest self.now
-            && is_some (look_up self.now (P.numbers p)) }
+            && is_some (look_up self.now.slots (P.numbers p)) }
     {
         self.is_exhausted() && self.contains(p)
     }

@@ -7,7 +7,7 @@ use Rattle.triple_arena_ptr.specs.Pointers.{Pointer}
 use Rattle.triple_arena_stack.specs.StackKind.{StackKind}
 use Rattle.triple_arena_traits.specs.Items.{item, with_item}
 use Rattle.triple_arena_traits.specs.laws.ItemLaws.{eq_false, with_item-past, length-with_item, map-with_item, with_item-twice, item-with_other, item-map_none}
-use Rattle.triple_arena_traits.specs.Entries.{entry_in, entry_count, look_up_in, value_under, with_value_in, ChangesAt}
+use Rattle.triple_arena_traits.specs.Entries.{entry_in, entry_count, look_up, value_under, with_value_in, ChangesAt}
 use Rattle.triple_arena_traits.specs.laws.EntryLaws.{within_room}
 use Rattle.triple_arena_traits.specs.DirectInsertion.{IsVacant}
 use Rattle.triple_arena_traits.specs.FreeList.{trimmed}
@@ -54,7 +54,7 @@ module _ {T : Type 0} where
   inserted_changes old new p v positive is = rw is (slots-inserted_at old p v positive)
 
   -- the pointer of an insertion finds the value
-  pub found_inserted_at : (old new : DirectState T) (p : Pointer) (v : T) → 0 < p.0 → new ≡ inserted_at old p v → look_up_in new.slots p ≡ Some v
+  pub found_inserted_at : (old new : DirectState T) (p : Pointer) (v : T) → 0 < p.0 → new ≡ inserted_at old p v → look_up new.slots p ≡ Some v
   found_inserted_at old new p v positive is =
       new_found old.slots new.slots p p v refl (inserted_changes old new p v positive is)
 
@@ -62,7 +62,7 @@ module _ {T : Type 0} where
   stale generation h v other = ap (λ b. cond b (Some v) None) (eq_false h generation other)
 
   -- every other pointer finds what it found
-  pub others_inserted_at : (old new : DirectState T) (p : Pointer) (v : T) → 0 < p.0 → entry_in old.slots p.0 ≡ None → new ≡ inserted_at old p v → (q : Pointer) → q ≢ p → look_up_in new.slots q ≡ look_up_in old.slots q
+  pub others_inserted_at : (old new : DirectState T) (p : Pointer) (v : T) → 0 < p.0 → entry_in old.slots p.0 ≡ None → new ≡ inserted_at old p v → (q : Pointer) → q ≢ p → look_up new.slots q ≡ look_up old.slots q
   others_inserted_at old new p v positive free is q other =
       elim (cases_eq q.0 p.0) [
         | inl here ↦
@@ -107,9 +107,9 @@ module _ {T : Type 0} where
       record { counted = counts.counted; fits = within_room kind s.room (slot_count s) m s.greatest s.limit counts.fits }
 
   -- the value that is read at the index of a valid pointer
-  pub value_read : (xs ys : List (Option (ℕ × T))) (p : Pointer) (i : ℕ) (v : T) → xs ≡ ys → i ≡ p.0 → is_some (look_up_in xs p) ≡ true → option_map (λ (e : ℕ × T). e.1) (entry_in xs i) ≡ Some v → look_up_in ys p ≡ Some v
+  pub value_read : (xs ys : List (Option (ℕ × T))) (p : Pointer) (i : ℕ) (v : T) → xs ≡ ys → i ≡ p.0 → is_some (look_up xs p) ≡ true → option_map (λ (e : ℕ × T). e.1) (entry_in xs i) ≡ Some v → look_up ys p ≡ Some v
   value_read xs ys p i v same here live read =
-      let found = entry_of_value ys p.0 p.1 (ap (λ (zs : List (Option (ℕ × T))). is_some (look_up_in zs p)) (sym same) ∙ live) in
+      let found = entry_of_value ys p.0 p.1 (ap (λ (zs : List (Option (ℕ × T))). is_some (look_up zs p)) (sym same) ∙ live) in
       found.2
       ∙ sym (ap (option_map (λ (e : ℕ × T). e.1)) found.1)
       ∙ ap (λ n. option_map (λ (e : ℕ × T). e.1) (entry_in ys n)) (sym here)

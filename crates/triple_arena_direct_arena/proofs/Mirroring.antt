@@ -6,7 +6,7 @@ use Rattle.std.specs.Borrow.{Bor}
 use Rattle.std.specs.Option.{option_and_then}
 use Rattle.triple_arena_ptr.specs.Pointers.{Pointer}
 use Rattle.triple_arena_traits.specs.laws.ItemLaws.{eq_true}
-use Rattle.triple_arena_traits.specs.Entries.{entry_in, value_under, look_up_in, ChangesAt, KeepsEntries}
+use Rattle.triple_arena_traits.specs.Entries.{entry_in, value_under, look_up, ChangesAt, KeepsEntries}
 use Rattle.triple_arena_traits.specs.Walks.{entries, keys}
 use Rattle.triple_arena_traits.specs.laws.WalkLaws.{live_key, key_live}
 use Rattle.triple_arena_traits.specs.Copying.{Copies}
@@ -28,7 +28,7 @@ module _ {T U : Type 0} where
   -- arenas whose walks have the same pointers
   pub same_keys : (slots : List (Option (ℕ × T))) (mirror : List (Option (ℕ × U))) → keys mirror ≡ keys slots → IsMirror slots mirror
   same_keys slots mirror same p =
-      same_bool (is_some (look_up_in mirror p)) (is_some (look_up_in slots p))
+      same_bool (is_some (look_up mirror p)) (is_some (look_up slots p))
       (λ live. key_live slots p (subst (λ ks. Contains ks p) same (live_key mirror p live)))
       (λ live. key_live mirror p (subst (λ ks. Contains ks p) (sym same) (live_key slots p live)))
 
@@ -75,8 +75,8 @@ module _ {T U : Type 0} where
       by_entry : (o : Option (ℕ × U)) → entry_in mirror.slots i ≡ o → entry_in mirror.slots i ≡ None
       by_entry None is = is
       by_entry (Some e) is =
-          let live : is_some (look_up_in mirror.slots (i, e.0)) ≡ true = ap (λ o. is_some (option_and_then (value_under e.0) o)) is ∙ ap (λ b. is_some (cond b (Some e.1) None)) (eq_true e.0 e.0 refl) in
-          let none : is_some (look_up_in slots (i, e.0)) ≡ false = ap (λ o. is_some (option_and_then (value_under e.0) o)) free in
+          let live : is_some (look_up mirror.slots (i, e.0)) ≡ true = ap (λ o. is_some (option_and_then (value_under e.0) o)) is ∙ ap (λ b. is_some (cond b (Some e.1) None)) (eq_true e.0 e.0 refl) in
+          let none : is_some (look_up slots (i, e.0)) ≡ false = ap (λ o. is_some (option_and_then (value_under e.0) o)) free in
           absurd (true≢false (sym live ∙ same (i, e.0) ∙ none))
 
 -- a mirror keeps its capacity

@@ -1,7 +1,7 @@
 -- Mirrors: direct arenas that are given the changes of another arena, and so have its pointers.
 use Rattle.std.specs.Prelude.{◌≡◌, ℕ, List, Option, Some, None, is_some}
 use Rattle.triple_arena_ptr.specs.Pointers.{Pointer}
-use Rattle.triple_arena_traits.specs.Entries.{look_up_in, ChangesAt}
+use Rattle.triple_arena_traits.specs.Entries.{look_up, ChangesAt}
 use Rattle.triple_arena_direct_arena.specs.DirectState.{DirectState, inserted_at, removed}
 
 -- a change of the pointers of an arena: an entry comes under this one, or the entry at an index goes
@@ -11,7 +11,7 @@ pub data Change : Type 0 where
 
 -- the same pointers are valid
 abbrev pub IsMirror : {T U : Type 0} → List (Option (ℕ × T)) → List (Option (ℕ × U)) → Type 0
-IsMirror slots mirror = (p : Pointer) → is_some (look_up_in mirror p) ≡ is_some (look_up_in slots p)
+IsMirror slots mirror = (p : Pointer) → is_some (look_up mirror p) ≡ is_some (look_up slots p)
 
 module _ {T : Type 0} where
   -- the change, as the arena makes it

@@ -1,7 +1,7 @@
 -- A direct arena whose values were written, and nothing else of it.
 use Rattle.std.specs.Prelude.{◌≡◌, is_some}
 use Rattle.triple_arena_ptr.specs.Pointers.{Pointer}
-use Rattle.triple_arena_traits.specs.Entries.{look_up_in}
+use Rattle.triple_arena_traits.specs.Entries.{look_up}
 use Rattle.triple_arena_traits.specs.Values.{with_values_in, generations_in}
 use Rattle.triple_arena_direct_arena.specs.DirectState.{DirectState, direct_len}
 
@@ -12,7 +12,7 @@ module _ {T : Type 0} where
 
   -- the same pointers are valid, and nothing but values differs
   pub record DiffersInValues (old new : DirectState T) : Type 0 where
-    pub pointers : (q : Pointer) → is_some (look_up_in new.slots q) ≡ is_some (look_up_in old.slots q)
+    pub pointers : (q : Pointer) → is_some (look_up new.slots q) ≡ is_some (look_up old.slots q)
     pub generations : generations_in new.slots ≡ generations_in old.slots
     pub len : direct_len new ≡ direct_len old
     pub room : new.room ≡ old.room

@@ -7,7 +7,7 @@ ghost use Rattle.std.specs.Option.{option_and_then};
 ghost use Rattle.triple_arena_ptr.specs.Numbers.{greatest_index};
 ghost use Rattle.triple_arena_stack.specs.Capacity.{IsWithin, IsBeyond};
 ghost use Rattle.triple_arena_stack.specs.StackKind.{IsOfKind};
-ghost use Rattle.triple_arena_traits.specs.Entries.{entry_in, look_up_in};
+ghost use Rattle.triple_arena_traits.specs.Entries.{entry_in, look_up};
 ghost use Rattle.triple_arena_traits.specs.DirectInsertion.{IsVacant};
 ghost use Rattle.triple_arena_traits.specs.Disjoint.{value_of};
 ghost use Rattle.triple_arena_traits.specs.FreeList.{last_index};
@@ -445,7 +445,7 @@ impl<P: Ptr, T, S: NonZeroInxGenericStack<DirectSlot<P, T>>> DirectArena<P, T, S
     // The index of a pointer, if the pointer is valid.
     fn find(&self, p: P) -> Option<NonZeroUsize>
         ensures index { IfSome result (λ inx. non_zero_usize_get inx ≡ (P.numbers p).0) }
-        ensures live { is_some result ≡ is_some (look_up_in self.now.slots (P.numbers p)) }
+        ensures live { is_some result ≡ is_some (look_up self.now.slots (P.numbers p)) }
     {
         let _value = self.slot(p.inx())?.value_under(p.generation())?;
         P::Inx::try_into_usize(p.inx())

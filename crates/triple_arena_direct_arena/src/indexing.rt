@@ -2,7 +2,7 @@
 
 ghost use Rattle.std.specs.Prelude.{◌≡◌, Some, IsSome};
 ghost use Rattle.std.specs.Borrow.{sem, Lends};
-ghost use Rattle.triple_arena_traits.specs.Entries.{entry_in, look_up_in};
+ghost use Rattle.triple_arena_traits.specs.Entries.{entry_in, look_up};
 ghost use Rattle.triple_arena_traits.specs.Disjoint.{value_of};
 ghost use Rattle.triple_arena_direct_arena.specs.DirectState.{with_value};
 
@@ -43,10 +43,10 @@ impl<P: Ptr, T, S: NonZeroInxGenericStack<DirectSlot<P, T>>> Index<P> for Direct
     type Output = T;
 
     // the pointer is valid
-    ghost can_index = { λ arena p. IsSome (look_up_in arena.slots (P.numbers p)) };
+    ghost can_index = { λ arena p. IsSome (look_up arena.slots (P.numbers p)) };
 
     // the value under it
-    ghost index_gives = { λ arena p value. look_up_in arena.slots (P.numbers p) ≡ Some value };
+    ghost index_gives = { λ arena p value. look_up arena.slots (P.numbers p) ≡ Some value };
 
     /// The value under `p`. The pointer must be valid, which `contains` tells.
     fn index(&self, p: P) -> &T {
@@ -57,8 +57,8 @@ impl<P: Ptr, T, S: NonZeroInxGenericStack<DirectSlot<P, T>>> Index<P> for Direct
 impl<P: Ptr, T, S: NonZeroInxGenericStack<DirectSlot<P, T>>> IndexMut<P> for DirectArena<P, T, S> {
     /// The value under `p`, for writing. The pointer must be valid, which `contains` tells.
     fn index_mut(&mut self, p: P) -> &mut T
-        requires { IsSome (look_up_in self.old.slots (P.numbers p)) }
-        ensures value { look_up_in self.old.slots (P.numbers p) ≡ Some result.now }
+        requires { IsSome (look_up self.old.slots (P.numbers p)) }
+        ensures value { look_up self.old.slots (P.numbers p) ≡ Some result.now }
         ensures* writes_back { sem 𝓛 (Lends
             ⟦<DirectArena<P, T, S> as LendingArena>⟧.arena_row
             T.row self.entry result (with_value self.old (P.numbers p).0)) }

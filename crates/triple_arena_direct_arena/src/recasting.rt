@@ -1,7 +1,7 @@
 //! Direct arenas of pointers as recasters, and the items that a direct arena holds.
 
 ghost use Rattle.std.specs.Prelude.{◌≡◌};
-ghost use Rattle.triple_arena_traits.specs.Entries.{look_up_in};
+ghost use Rattle.triple_arena_traits.specs.Entries.{look_up};
 
 use crate::direct_arena::DirectArena;
 use crate::slot::DirectSlot;
@@ -14,7 +14,7 @@ use triple_arena_traits::{ArenaTrait, recast_entries};
 impl<P: Ptr, S: NonZeroInxGenericStack<DirectSlot<P, P>>> Recaster for DirectArena<P, P, S> {
     type Item = P;
 
-    ghost image = { λ s p. look_up_in s.slots (P.numbers p) };
+    ghost image = { λ s p. look_up s.slots (P.numbers p) };
 
     fn recast_item(&self, item: &mut P) -> Result<(), P> {
         match self.get(*item) {

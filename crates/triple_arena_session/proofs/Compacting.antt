@@ -6,8 +6,8 @@ use Rattle.std.proofs.lemmas.Option.{same_Some, slice_get-map}
 use Rattle.std.specs.Option.{option_map}
 use Rattle.triple_arena_ptr.specs.Pointers.{Pointer, is_same}
 use Rattle.triple_arena_stack.specs.StackKind.{StackKind}
-use Rattle.triple_arena_traits.specs.Entries.{entry_count}
-use Rattle.triple_arena_traits.specs.ArenaState.{ArenaState, look_up}
+use Rattle.triple_arena_traits.specs.Entries.{entry_count, look_up}
+use Rattle.triple_arena_traits.specs.ArenaState.{ArenaState}
 use Rattle.triple_arena_traits.specs.Walks.{keys, values}
 use Rattle.triple_arena_traits.specs.Compression.{compressed, rank}
 use Rattle.triple_arena_traits.specs.Histories.{has, AreDistinct, is_live}
@@ -40,7 +40,7 @@ module _ {T : Type 0} (s : ArenaState T) (n : ℕ) where
     key_moved k = ap (λ l. slice_get l k) (keys-compressed s moved n (map f (values s.slots)) refl many) ∙ slice_get-map (rank s n) (keys s.slots) k
 
     -- a live pointer finds at its rank the image of what it found
-    pub found_moved : (p : Pointer) (v : T) → look_up s p ≡ Some v → look_up moved (rank s n p) ≡ Some (f v)
+    pub found_moved : (p : Pointer) (v : T) → look_up s.slots p ≡ Some v → look_up moved.slots (rank s n p) ≡ Some (f v)
     found_moved p v at =
         let nth = nth_found s.slots p (ap is_some at) in
         let same : nth.0 ≡ v = same_Some nth.0 v (sym nth.2 ∙ at) in
@@ -106,8 +106,8 @@ module _ {X : Type 0} (kind : StackKind) (s : SessionState X) (n : ℕ) (sound :
   dead_to p dead = ap (λ b. cond b (rank s.arena n p) p) dead
 
   -- a live pointer finds the image of what it found, and one that is not live finds nothing
-  found_after : (p : Pointer) (node : X × Option Pointer) → look_up s.arena p ≡ Some node → look_up after (there p) ≡ Some (image node)
-  found_after p node found = ap (look_up after) (live_to p (ap is_some found)) ∙ found_moved s.arena n image p node found
+  found_after : (p : Pointer) (node : X × Option Pointer) → look_up s.arena.slots p ≡ Some node → look_up after.slots (there p) ≡ Some (image node)
+  found_after p node found = ap (look_up after.slots) (live_to p (ap is_some found)) ∙ found_moved s.arena n image p node found
 
   dead_after : (p : Pointer) → has s.table p ≡ true → is_live s.arena p ≡ false → is_live after (there p) ≡ false
   dead_after p h dead =
@@ -143,14 +143,14 @@ module _ {X : Type 0} (kind : StackKind) (s : SessionState X) (n : ℕ) (sound :
   name_after p h = name_of-map there s.table p (λ q k. same_there p q h k)
 
   row_after : (p : Pointer) → has s.table p ≡ true → row_of after (map there s.table) (there p) ≡ row_of s.arena s.table p
-  row_after p h = by (look_up s.arena p) refl
+  row_after p h = by (look_up s.arena.slots p) refl
     where
-      link_after : (datum : X) (l : Option Pointer) → look_up s.arena p ≡ Some (datum, l) → link_name (map there s.table) (option_map there l) ≡ link_name s.table l
+      link_after : (datum : X) (l : Option Pointer) → look_up s.arena.slots p ≡ Some (datum, l) → link_name (map there s.table) (option_map there l) ≡ link_name s.table l
       link_after datum None found = refl
       link_after datum (Some l) found = name_after l (sound.table.has_links p l datum found)
 
-      by : (o : Option (X × Option Pointer)) → look_up s.arena p ≡ o → row_of after (map there s.table) (there p) ≡ option_map (as_row s.table) o
-      by None none = ap (option_map (as_row (map there s.table))) (some_is (look_up after (there p)) (dead_after p h (ap is_some none)))
+      by : (o : Option (X × Option Pointer)) → look_up s.arena.slots p ≡ o → row_of after (map there s.table) (there p) ≡ option_map (as_row s.table) o
+      by None none = ap (option_map (as_row (map there s.table))) (some_is (look_up after.slots (there p)) (dead_after p h (ap is_some none)))
       by (Some node) found = ap (option_map (as_row (map there s.table))) (found_after p node found) ∙ ap (λ name. Some (node.0, name)) (link_after node.0 node.1 found)
 
   map_map : {A : Type 0} (g : Pointer → A) (table : List Pointer) → map g (map there table) ≡ map (λ p. g (there p)) table
@@ -186,19 +186,19 @@ module _ {X : Type 0} (kind : StackKind) (s : SessionState X) (n : ℕ) (sound :
 
       below : (p r : Pointer) → has s.table p ≡ true → there p ≡ r → is_live after r ≡ false → (is_live s.arena p ≡ true) ⊎ (is_live s.arena p ≡ false) → r.1 < n
       below p r h e gone (inl live) =
-          let node = some_has (look_up s.arena p) live in
+          let node = some_has (look_up s.arena.slots p) live in
           absurd (true≢false (sym (ap is_some (found_after p node.0 node.1)) ∙ ap (is_live after) e ∙ gone))
       below p r h e gone (inr dead) = let g : p.1 ≡ r.1 = ap (λ (x : Pointer). x.1) (sym (dead_to p dead) ∙ e) in omega (arith, g, sound.table.before p h dead, rises)
 
-      link_of : (p q : Pointer) (node : X × Option Pointer) (l : Option Pointer) → look_up s.arena p ≡ Some node → node.1 ≡ l → option_map there l ≡ Some q → has (map there s.table) q ≡ true
+      link_of : (p q : Pointer) (node : X × Option Pointer) (l : Option Pointer) → look_up s.arena.slots p ≡ Some node → node.1 ≡ l → option_map there l ≡ Some q → has (map there s.table) q ≡ true
       link_of p q node None found is e = absurd (cc)
       link_of p q node (Some l) found is e =
           let same : there l ≡ q = same_Some (there l) q e in
           ap (has (map there s.table)) (sym same) ∙ has-map there s.table l (sound.table.has_links p l node.0 (found ∙ ap (λ x. Some (node.0, x)) is))
 
-      linked : (r q : Pointer) (datum : X) → look_up after r ≡ Some (datum, Some q) → has (map there s.table) q ≡ true
+      linked : (r q : Pointer) (datum : X) → look_up after.slots r ≡ Some (datum, Some q) → has (map there s.table) q ≡ true
       linked r q datum found =
           let from = image_of r (ap is_some found) in
-          let node = some_has (look_up s.arena from.0) from.1 in
-          let same : image node.0 ≡ (datum, Some q) = same_Some (image node.0) (datum, Some q) (sym (found_after from.0 node.0 node.1) ∙ ap (look_up after) from.2 ∙ found) in
+          let node = some_has (look_up s.arena.slots from.0) from.1 in
+          let same : image node.0 ≡ (datum, Some q) = same_Some (image node.0) (datum, Some q) (sym (found_after from.0 node.0 node.1) ∙ ap (look_up after.slots) from.2 ∙ found) in
           link_of from.0 q node.0 node.0.1 node.1 refl (ap (λ (x : X × Option Pointer). x.1) same)

@@ -13,7 +13,8 @@ use Rattle.triple_arena_stack.specs.StackKind.{StackKind, IsOfKind, reallocated_
 use Rattle.triple_arena_stack.specs.StackKind.StackKind.{heap, limited, fixed, array}
 use Rattle.triple_arena_stack.specs.Capacity.{stack_capacity, next_capacity}
 use Rattle.triple_arena_traits.specs.Items.{item}
-use Rattle.triple_arena_traits.specs.ArenaState.{ArenaState, entry, look_up, arena_len, capacity, slot_count, with_value, IsWellFormed}
+use Rattle.triple_arena_traits.specs.Entries.{look_up}
+use Rattle.triple_arena_traits.specs.ArenaState.{ArenaState, entry, arena_len, capacity, slot_count, with_value, IsWellFormed}
 use Rattle.triple_arena_traits.specs.Insertion.{next_pointer, inserted}
 use Rattle.triple_arena_traits.specs.FreeList.{tidied}
 use Rattle.triple_arena_traits.specs.Capacity.{grown, with_room_for, reallocated}
@@ -178,17 +179,17 @@ module _ {X : Type 0} (kind : StackKind) (counting : Bool) where
 
   -- what is done under a name
   goes_at : (s : SessionState X) (command : Command X) (name : ℕ) (act : Pointer → X × Option Pointer → Reply X × SessionState X) → IsArenaOver kind s.arena → calls_of s command Invalid ≡ []
-      → ((p : Pointer) (node : X × Option Pointer) → item s.table name ≡ Some p → look_up s.arena p ≡ Some node → GoesOn s command (act p node))
+      → ((p : Pointer) (node : X × Option Pointer) → item s.table name ≡ Some p → look_up s.arena.slots p ≡ Some node → GoesOn s command (act p node))
       → GoesOn s command (act_on s act (item s.table name))
   goes_at s command name act over none acts = by (item s.table name) refl
     where
-      under : (p : Pointer) (o : Option (X × Option Pointer)) → item s.table name ≡ Some p → look_up s.arena p ≡ o → GoesOn s command (act_under s act p o)
+      under : (p : Pointer) (o : Option (X × Option Pointer)) → item s.table name ≡ Some p → look_up s.arena.slots p ≡ o → GoesOn s command (act_under s act p o)
       under p None at found = goes_same s command Invalid s over refl none
       under p (Some node) at found = acts p node at found
 
       by : (o : Option Pointer) → item s.table name ≡ o → GoesOn s command (act_on s act o)
       by None at = goes_same s command Invalid s over refl none
-      by (Some p) at = under p (look_up s.arena p) at refl
+      by (Some p) at = under p (look_up s.arena.slots p) at refl
 
 module _ {X : Type 0} (kind : StackKind) (counting : Bool) (greatest : ℕ) where
   abbrev Goes : SessionState X → Command X → Reply X × SessionState X → Type 0

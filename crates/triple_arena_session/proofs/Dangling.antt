@@ -6,7 +6,7 @@ use Rattle.std.specs.List.{list_any}
 use Rattle.std.specs.Option.{option_map, option_and_then}
 use Rattle.triple_arena_ptr.specs.Pointers.{Pointer}
 use Rattle.triple_arena_stack.specs.StackKind.{StackKind}
-use Rattle.triple_arena_traits.specs.ArenaState.{look_up}
+use Rattle.triple_arena_traits.specs.Entries.{look_up}
 use Rattle.triple_arena_traits.specs.Walks.{entries, values}
 use Rattle.triple_arena_traits.specs.Histories.{has, is_live}
 use Rattle.triple_arena_commands.specs.PointerNames.{name_of}
@@ -47,24 +47,24 @@ module _ {X : Type 0} (kind : StackKind) (s : SessionState X) (sound : SoundOver
   named_row : (q : Pointer) → has s.table q ≡ true → (name : ℕ) × (name_of s.table q ≡ Some name) × (is_some (row (shown s) name) ≡ is_live s.arena q)
   named_row q h =
       let at = item_of_name s.table q sound.table.distinct h in
-      (at.0, at.2, ap (λ o. is_some (option_and_then (λ r. r) o)) (item-map (row_of s.arena s.table) s.table at.0 ∙ ap (option_map (row_of s.arena s.table)) at.1) ∙ by (look_up s.arena q))
+      (at.0, at.2, ap (λ o. is_some (option_and_then (λ r. r) o)) (item-map (row_of s.arena s.table) s.table at.0 ∙ ap (option_map (row_of s.arena s.table)) at.1) ∙ by (look_up s.arena.slots q))
     where
       by : (o : Option (X × Option Pointer)) → is_some (option_map (as_row s.table) o) ≡ is_some o
       by None = refl
       by (Some node) = refl
 
   -- whether the link of what stands under a pointer dangles, by the pointer and by the row
-  link_dangles : (p : Pointer) (node : X × Option Pointer) → look_up s.arena p ≡ Some node → row_dangles (shown s) (Some (as_row s.table node)) ≡ dangles s.arena node
+  link_dangles : (p : Pointer) (node : X × Option Pointer) → look_up s.arena.slots p ≡ Some node → row_dangles (shown s) (Some (as_row s.table node)) ≡ dangles s.arena node
   link_dangles p (datum, None) found = refl
   link_dangles p (datum, Some q) found =
       let at = named_row q (sound.table.has_links p q datum found) in
       ap (λ name. row_dangles (shown s) (Some (datum, name))) at.1 ∙ ap not at.2
 
   -- the pointer of a value
-  pointer_of : (k : ℕ) (node : X × Option Pointer) → slice_get (values s.arena.slots) k ≡ Some node → (p : Pointer) × (look_up s.arena p ≡ Some node)
+  pointer_of : (k : ℕ) (node : X × Option Pointer) → slice_get (values s.arena.slots) k ≡ Some node → (p : Pointer) × (look_up s.arena.slots p ≡ Some node)
   pointer_of k node at = by (slice_get (entries s.arena.slots) k) refl (sym (slice_get-map (λ (e : Pointer × (X × Option Pointer)). e.1) (entries s.arena.slots) k) ∙ at)
     where
-      by : (o : Option (Pointer × (X × Option Pointer))) → slice_get (entries s.arena.slots) k ≡ o → option_map (λ (e : Pointer × (X × Option Pointer)). e.1) o ≡ Some node → (p : Pointer) × (look_up s.arena p ≡ Some node)
+      by : (o : Option (Pointer × (X × Option Pointer))) → slice_get (entries s.arena.slots) k ≡ o → option_map (λ (e : Pointer × (X × Option Pointer)). e.1) o ≡ Some node → (p : Pointer) × (look_up s.arena.slots p ≡ Some node)
       by None is e = absurd (cc)
       by (Some e) is h =
           (e.0, found_nth s.arena.slots k e.0 node (slice_get-map (λ (e : Pointer × (X × Option Pointer)). e.0) (entries s.arena.slots) k ∙ ap (option_map (λ (e : Pointer × (X × Option Pointer)). e.0)) is) at)
@@ -78,7 +78,7 @@ module _ {X : Type 0} (kind : StackKind) (s : SessionState X) (sound : SoundOver
       to : list_any (row_dangles (shown s)) (shown s).rows ≡ true → any_dangles s.arena ≡ true
       to h = by_row (any_from (row_dangles (shown s)) (shown s).rows h)
         where
-          by_found : (p : Pointer) (o : Option (X × Option Pointer)) → look_up s.arena p ≡ o → row_dangles (shown s) (option_map (as_row s.table) o) ≡ true → any_dangles s.arena ≡ true
+          by_found : (p : Pointer) (o : Option (X × Option Pointer)) → look_up s.arena.slots p ≡ o → row_dangles (shown s) (option_map (as_row s.table) o) ≡ true → any_dangles s.arena ≡ true
           by_found p None is h = absurd (true≢false (sym h))
           by_found p (Some node) is h =
               let nth = nth_found s.arena.slots p (ap is_some is) in
@@ -88,7 +88,7 @@ module _ {X : Type 0} (kind : StackKind) (s : SessionState X) (sound : SoundOver
           by_place : (k : ℕ) (r : Option (NameRow X)) (o : Option Pointer) → slice_get s.table k ≡ o → option_map (row_of s.arena s.table) o ≡ Some r → row_dangles (shown s) r ≡ true → any_dangles s.arena ≡ true
           by_place k r None is e h = absurd (cc)
           by_place k r (Some p) is e h =
-              by_found p (look_up s.arena p) refl (ap (row_dangles (shown s)) (same_Some (row_of s.arena s.table p) r e) ∙ h)
+              by_found p (look_up s.arena.slots p) refl (ap (row_dangles (shown s)) (same_Some (row_of s.arena s.table p) r e) ∙ h)
 
           by_row : (k : ℕ) × (r : Option (NameRow X)) × (slice_get (shown s).rows k ≡ Some r) × (row_dangles (shown s) r ≡ true) → any_dangles s.arena ≡ true
           by_row at = by_place at.0 at.1 (slice_get s.table at.0) refl (sym (slice_get-map (row_of s.arena s.table) s.table at.0) ∙ at.2) at.3

@@ -8,8 +8,8 @@ use Rattle.triple_arena_stack.specs.StackKind.{StackKind, reallocated_room}
 use Rattle.triple_arena_stack.specs.Capacity.{next_capacity}
 use Rattle.triple_arena_ptr.specs.Pointers.{Pointer}
 use Rattle.triple_arena_traits.specs.Items.{item, with_item}
-use Rattle.triple_arena_traits.specs.Entries.{value_under, entry_count, entry_in}
-use Rattle.triple_arena_traits.specs.ArenaState.{ArenaState, arena_len, capacity, entry, look_up, slot_count, with_value, is_free, IsWellFormed, map_entry, map_values}
+use Rattle.triple_arena_traits.specs.Entries.{value_under, entry_count, entry_in, look_up}
+use Rattle.triple_arena_traits.specs.ArenaState.{ArenaState, arena_len, capacity, entry, slot_count, with_value, is_free, IsWellFormed, map_entry, map_values}
 use Rattle.triple_arena_traits.specs.Insertion.{place_among, inserted_among, inserted, next_pointer}
 use Rattle.triple_arena_traits.specs.FreeList.{before, trimmed, gaps, tidied}
 use Rattle.triple_arena_traits.specs.Capacity.{with_room_for, grown, reallocated}
@@ -42,7 +42,7 @@ module _ {T U : Type 0} (f : T → U) where
   value-mapped h None = refl
   value-mapped h (Some e) = under-mapped h e
 
-  pub look_up-mapped : (s : ArenaState T) (p : Pointer) → look_up (map_values f s) p ≡ option_map f (look_up s p)
+  pub look_up-mapped : (s : ArenaState T) (p : Pointer) → look_up (map_values f s).slots p ≡ option_map f (look_up s.slots p)
   look_up-mapped s p =
       ap (λ o. option_and_then (value_under p.1) (option_and_then (λ slot. slot) o)) (item-map (option_map (map_entry f)) s.slots p.0)
       ∙ ap (option_and_then (value_under p.1)) (entry-mapped (item s.slots p.0))

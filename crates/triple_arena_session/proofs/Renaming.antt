@@ -10,8 +10,8 @@ use Rattle.triple_arena_base.specs.Invalidation.{allowed_option, overflowing_opt
 use Rattle.triple_arena_ptr.specs.Numbers.{raise, wraps}
 use Rattle.triple_arena_ptr.specs.Pointers.{Pointer}
 use Rattle.triple_arena_stack.specs.StackKind.{StackKind}
-use Rattle.triple_arena_traits.specs.Entries.{look_up_in}
-use Rattle.triple_arena_traits.specs.ArenaState.{ArenaState, look_up, map_values}
+use Rattle.triple_arena_traits.specs.Entries.{look_up}
+use Rattle.triple_arena_traits.specs.ArenaState.{ArenaState, map_values}
 use Rattle.triple_arena_traits.specs.Walks.{values}
 use Rattle.triple_arena_traits.specs.Compression.{compressed, rank, raised_if_any, wraps_after}
 use Rattle.triple_arena_traits.specs.Ending.{told}
@@ -63,10 +63,10 @@ module _ {X P : Type 0} (pointer : P → Pointer) (held : P → List P) (refill 
 
   -- whether a pointer finds nothing
   abbrev is_lost : P → Bool
-  is_lost p = not (is_some (look_up arena (pointer p)))
+  is_lost p = not (is_some (look_up arena.slots (pointer p)))
 
-  found_shown : (q : Pointer) → is_some (look_up shown q) ≡ is_some (look_up arena q)
-  found_shown q = ap is_some (look_up-mapped (node_of pointer) arena q) ∙ some_mapped (node_of pointer) (look_up arena q)
+  found_shown : (q : Pointer) → is_some (look_up shown.slots q) ≡ is_some (look_up arena.slots q)
+  found_shown q = ap is_some (look_up-mapped (node_of pointer) arena q) ∙ some_mapped (node_of pointer) (look_up arena.slots q)
 
   -- a link dangles where the pointer that its node holds finds nothing
   link_dangles : (datum : X) (link : Option P) → dangles shown (datum, option_map pointer link) ≡ list_any is_lost (held_option held link)
@@ -90,11 +90,11 @@ module _ {X P : Type 0} (pointer : P → Pointer) (held : P → List P) (refill 
   resolved none = dangling ∙ ap is_some none
 
   module _ (n : ℕ) where
-    renamed_is : (q : Pointer) → renamed shown n q ≡ cond (is_some (look_up arena q)) (rank arena n q) q
-    renamed_is q = ap (λ b. cond b (rank shown n q) q) (found_shown q) ∙ ap (λ r. cond (is_some (look_up arena q)) r q) (rank-mapped (node_of pointer) arena n q)
+    renamed_is : (q : Pointer) → renamed shown n q ≡ cond (is_some (look_up arena.slots q)) (rank arena n q) q
+    renamed_is q = ap (λ b. cond b (rank shown n q) q) (found_shown q) ∙ ap (λ r. cond (is_some (look_up arena.slots q)) r q) (rank-mapped (node_of pointer) arena n q)
 
     renamed_live : (p : P) → is_lost p ≡ false → renamed shown n (pointer p) ≡ rank arena n (pointer p)
-    renamed_live p live = renamed_is (pointer p) ∙ ap (λ b. cond b (rank arena n (pointer p)) (pointer p)) (not_false (is_some (look_up arena (pointer p))) live)
+    renamed_live p live = renamed_is (pointer p) ∙ ap (λ b. cond b (rank arena n (pointer p)) (pointer p)) (not_false (is_some (look_up arena.slots (pointer p))) live)
 
     -- a node whose link is renamed
     link_renamed : (datum : X) (link : Option P) (new : Node X P) → list_any is_lost (held_option held link) ≡ false → IsRenamed pointer (rank arena n) held_node refill_node (record { datum = datum; link = link }) new → node_of pointer new ≡ relinked shown n (datum, option_map pointer link)
@@ -125,8 +125,8 @@ module _ {X P : Type 0} (pointer : P → Pointer) (held : P → List P) (refill 
 
     -- the names are renamed by a map of each live pointer to its rank, and of no other
     module _ (images : List (Option (ℕ × P))) (maps : MapsPointers pointer (rank arena n) arena.slots images) where
-      name_renamed : (p : P) → pointer (recast_item (look_up_in images (pointer p)) p) ≡ renamed shown n (pointer p)
-      name_renamed p = by_image (look_up_in images (pointer p)) (look_up arena (pointer p)) (maps (pointer p)) ∙ sym (renamed_is (pointer p))
+      name_renamed : (p : P) → pointer (recast_item (look_up images (pointer p)) p) ≡ renamed shown n (pointer p)
+      name_renamed p = by_image (look_up images (pointer p)) (look_up arena.slots (pointer p)) (maps (pointer p)) ∙ sym (renamed_is (pointer p))
         where
           by_image : (i : Option P) (o : Option (Node X P)) → option_map pointer i ≡ option_map (λ _. rank arena n (pointer p)) o → pointer (recast_item i p) ≡ cond (is_some o) (rank arena n (pointer p)) (pointer p)
           by_image None None e = refl
@@ -134,12 +134,12 @@ module _ {X P : Type 0} (pointer : P → Pointer) (held : P → List P) (refill 
           by_image (Some y) None e = absurd (cc)
           by_image (Some y) (Some v) e = same_Some (pointer y) (rank arena n (pointer p)) e
 
-      names_renamed : (ps : List P) → map pointer (map (λ p. recast_item (look_up_in images (pointer p)) p) ps) ≡ map (renamed shown n) (map pointer ps)
+      names_renamed : (ps : List P) → map pointer (map (λ p. recast_item (look_up images (pointer p)) p) ps) ≡ map (renamed shown n) (map pointer ps)
       names_renamed [] = refl
-      names_renamed (p ∷ ps) = ap (λ q. q ∷ map pointer (map (λ p. recast_item (look_up_in images (pointer p)) p) ps)) (name_renamed p) ∙ ap (λ l. renamed shown n (pointer p) ∷ l) (names_renamed ps)
+      names_renamed (p ∷ ps) = ap (λ q. q ∷ map pointer (map (λ p. recast_item (look_up images (pointer p)) p) ps)) (name_renamed p) ∙ ap (λ l. renamed shown n (pointer p) ∷ l) (names_renamed ps)
 
       -- the session after a compression with recasting, and after the renaming of its names by the map
-      session_renamed : (table : List P) (room : ℕ) (news : List (Node X P)) (new_arena : ArenaState (Node X P)) (new_table : List P) (new_room : ℕ) → first_unresolved pointer arena.slots (held_all held_node (values arena.slots)) ≡ None → AreRenamed pointer (rank arena n) held_node refill_node (values arena.slots) news → new_arena ≡ compressed arena n news → new_table ≡ map (λ p. recast_item (look_up_in images (pointer p)) p) table → new_room ≡ room → session_of pointer new_arena new_table new_room ≡ compacted (session_of pointer arena table room) n
+      session_renamed : (table : List P) (room : ℕ) (news : List (Node X P)) (new_arena : ArenaState (Node X P)) (new_table : List P) (new_room : ℕ) → first_unresolved pointer arena.slots (held_all held_node (values arena.slots)) ≡ None → AreRenamed pointer (rank arena n) held_node refill_node (values arena.slots) news → new_arena ≡ compressed arena n news → new_table ≡ map (λ p. recast_item (look_up images (pointer p)) p) table → new_room ≡ room → session_of pointer new_arena new_table new_room ≡ compacted (session_of pointer arena table room) n
       session_renamed table room news new_arena new_table new_room none each arena_is table_is room_is =
           rw (arena_renamed news new_arena none each arena_is, ap (map pointer) table_is ∙ names_renamed table, room_is) refl
 
@@ -148,7 +148,7 @@ module _ {X P : Type 0} (pointer : P → Pointer) (held : P → List P) (refill 
     abbrev raised : ℕ
     raised = raised_if_any (raise counting greatest) arena
 
-    pub compacts : (images : List (Option (ℕ × P))) → MapsPointers pointer (rank arena raised) arena.slots images → (news : List (Node X P)) (new_arena : ArenaState (Node X P)) (new_table : List P) (new_room : ℕ) (wrapped : Bool) → first_unresolved pointer arena.slots (held_all held_node (values arena.slots)) ≡ None → AreRenamed pointer (rank arena raised) held_node refill_node (values arena.slots) news → new_arena ≡ compressed arena raised news → new_table ≡ map (λ p. recast_item (look_up_in images (pointer p)) p) table → new_room ≡ room → wrapped ≡ wraps_after (wraps counting greatest) false arena → ◌≡◌ {A = Reply X × SessionState X} (Compacted wrapped, session_of pointer new_arena new_table new_room) (compact_answer kind counting greatest s)
+    pub compacts : (images : List (Option (ℕ × P))) → MapsPointers pointer (rank arena raised) arena.slots images → (news : List (Node X P)) (new_arena : ArenaState (Node X P)) (new_table : List P) (new_room : ℕ) (wrapped : Bool) → first_unresolved pointer arena.slots (held_all held_node (values arena.slots)) ≡ None → AreRenamed pointer (rank arena raised) held_node refill_node (values arena.slots) news → new_arena ≡ compressed arena raised news → new_table ≡ map (λ p. recast_item (look_up images (pointer p)) p) table → new_room ≡ room → wrapped ≡ wraps_after (wraps counting greatest) false arena → ◌≡◌ {A = Reply X × SessionState X} (Compacted wrapped, session_of pointer new_arena new_table new_room) (compact_answer kind counting greatest s)
     compacts images maps news new_arena new_table new_room wrapped none each arena_is table_is room_is wrapped_is =
         answers (ap Compacted wrapped_is) (session_renamed raised images maps table room news new_arena new_table new_room none each arena_is table_is room_is)
         ∙ sym chosen

@@ -8,8 +8,8 @@ use Rattle.triple_arena_stack.specs.StackKind.{StackKind}
 use Rattle.triple_arena_traits.specs.Items.{item, with_item}
 use Rattle.triple_arena_traits.specs.laws.ItemLaws.{eq_true, eq_false}
 use Rattle.triple_arena_ptr.specs.Pointers.{Pointer, is_same}
-use Rattle.triple_arena_traits.specs.Entries.{value_under, entry_count, ChangesAt}
-use Rattle.triple_arena_traits.specs.ArenaState.{ArenaState, entry, look_up, arena_len}
+use Rattle.triple_arena_traits.specs.Entries.{value_under, entry_count, ChangesAt, look_up}
+use Rattle.triple_arena_traits.specs.ArenaState.{ArenaState, entry, arena_len}
 use Rattle.triple_arena_traits.specs.Walks.{keys}
 use Rattle.triple_arena_traits.specs.laws.WalkLaws.{found}
 use Rattle.triple_arena_traits.specs.Histories.{has, AreDistinct, is_live}
@@ -41,13 +41,13 @@ module _ {T : Type 0} where
   value_miss o n h v e other = ap (option_and_then (value_under n)) e ∙ ap (λ b. cond b (Some v) None) (eq_false h n other)
 
   -- the entry of a pointer that finds a value
-  pub entry_found : (s : ArenaState T) (p : Pointer) (v : T) → look_up s p ≡ Some v → entry s p.0 ≡ Some (p.1, v)
+  pub entry_found : (s : ArenaState T) (p : Pointer) (v : T) → look_up s.slots p ≡ Some v → entry s p.0 ≡ Some (p.1, v)
   entry_found s p v at =
       let f = found s.slots p (ap is_some at) in
       f.entry ∙ ap (λ w. Some (p.1, w)) (same_Some f.value v (sym f.looked_up ∙ at))
 
   -- a pointer at another index, or with nothing under it before and after, finds what it found
-  pub kept_value : (s t : ArenaState T) (i : ℕ) (e : Option (ℕ × T)) (q : Pointer) → ChangesAt s.slots i e t.slots → (q.0 ≡ i → (look_up s q ≡ None) × (option_and_then (value_under q.1) e ≡ None)) → look_up t q ≡ look_up s q
+  pub kept_value : (s t : ArenaState T) (i : ℕ) (e : Option (ℕ × T)) (q : Pointer) → ChangesAt s.slots i e t.slots → (q.0 ≡ i → (look_up s.slots q ≡ None) × (option_and_then (value_under q.1) e ≡ None)) → look_up t.slots q ≡ look_up s.slots q
   kept_value s t i e q changes there =
       elim (cases_eq q.0 i) [
         | inl here ↦ ap (option_and_then (value_under q.1)) (ap (entry t) here ∙ changes.there) ∙ (there here).1 ∙ sym (there here).0
@@ -87,14 +87,14 @@ module _ {X : Type 0} where
   pub row_count-shown : (kind : StackKind) (s : SessionState X) → SoundOver kind s → row_count (shown s) ≡ arena_len s.arena
   row_count-shown kind s sound =
       count_map is_some (row_of s.arena s.table) s.table
-      ∙ count_same _ (is_live s.arena) (λ p. is_some-map _ (look_up s.arena p)) s.table
+      ∙ count_same _ (is_live s.arena) (λ p. is_some-map _ (look_up s.arena.slots p)) s.table
       ∙ count_live s.arena s.table sound.table.distinct sound.table.has_live
 
   -- a row stays where its pointer finds the same, and stored pointers keep their names
-  pub row_kept : (kind : StackKind) (s : SessionState X) (t : ArenaState (X × Option Pointer)) (table : List Pointer) (q : Pointer) → SoundOver kind s → ((l : Pointer) → has s.table l ≡ true → name_of table l ≡ name_of s.table l) → look_up t q ≡ look_up s.arena q → row_of t table q ≡ row_of s.arena s.table q
-  row_kept kind s t table q sound names same = ap (option_map {U = X × Option ℕ} (as_row table)) same ∙ by (look_up s.arena q) refl
+  pub row_kept : (kind : StackKind) (s : SessionState X) (t : ArenaState (X × Option Pointer)) (table : List Pointer) (q : Pointer) → SoundOver kind s → ((l : Pointer) → has s.table l ≡ true → name_of table l ≡ name_of s.table l) → look_up t.slots q ≡ look_up s.arena.slots q → row_of t table q ≡ row_of s.arena s.table q
+  row_kept kind s t table q sound names same = ap (option_map {U = X × Option ℕ} (as_row table)) same ∙ by (look_up s.arena.slots q) refl
     where
-      by : (o : Option (X × Option Pointer)) → look_up s.arena q ≡ o → option_map {U = X × Option ℕ} (as_row table) o ≡ option_map (as_row s.table) o
+      by : (o : Option (X × Option Pointer)) → look_up s.arena.slots q ≡ o → option_map {U = X × Option ℕ} (as_row table) o ≡ option_map (as_row s.table) o
       by None is = refl
       by (Some (datum, None)) is = refl
       by (Some (datum, Some l)) is = ap (λ name. Some (datum, name)) (names l (sound.table.has_links q l datum is))
@@ -102,7 +102,7 @@ module _ {X : Type 0} where
   -- the rows after a change at a live pointer
   pub rows_changed : (kind : StackKind) (s : SessionState X) (t : ArenaState (X × Option Pointer)) (table : List Pointer) (name : ℕ) (p : Pointer) (node : X × Option Pointer) (e : Option (ℕ × (X × Option Pointer))) (r : Option (X × Option ℕ))
       → SoundOver kind s → ((l : Pointer) → has s.table l ≡ true → name_of table l ≡ name_of s.table l)
-      → item s.table name ≡ Some p → look_up s.arena p ≡ Some node → ChangesAt s.arena.slots p.0 e t.slots
+      → item s.table name ≡ Some p → look_up s.arena.slots p ≡ Some node → ChangesAt s.arena.slots p.0 e t.slots
       → ((q : Pointer) → has s.table q ≡ true → q.1 ≢ p.1 → option_and_then (value_under q.1) e ≡ None)
       → row_of t table p ≡ r → map (row_of t table) s.table ≡ with_item (map (row_of s.arena s.table) s.table) name r
   rows_changed kind s t table name p node e r sound names at found changes others there =
@@ -114,7 +114,7 @@ module _ {X : Type 0} where
       (value_miss (entry s.arena q.0) q.1 p.1 node (ap (entry s.arena) here ∙ stands) (λ same. generation (sym same)), others q h generation))))
 
   -- what is found after a change was found before, or stands where the change is
-  pub found_before : (s t : ArenaState (X × Option Pointer)) (i : ℕ) (e : Option (ℕ × (X × Option Pointer))) (q : Pointer) (node : X × Option Pointer) → ChangesAt s.slots i e t.slots → look_up t q ≡ Some node → (option_and_then (value_under q.1) e ≡ Some node) ⊎ (look_up s q ≡ Some node)
+  pub found_before : (s t : ArenaState (X × Option Pointer)) (i : ℕ) (e : Option (ℕ × (X × Option Pointer))) (q : Pointer) (node : X × Option Pointer) → ChangesAt s.slots i e t.slots → look_up t.slots q ≡ Some node → (option_and_then (value_under q.1) e ≡ Some node) ⊎ (look_up s.slots q ≡ Some node)
   found_before s t i e q node changes found =
       elim (cases_eq q.0 i) [
         | inl here ↦ inl (sym (ap (option_and_then (value_under q.1)) (ap (entry t) here ∙ changes.there)) ∙ found)

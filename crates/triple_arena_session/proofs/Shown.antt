@@ -15,7 +15,8 @@ use Rattle.triple_arena_ptr.specs.Pointers.{Pointer}
 use Rattle.triple_arena_stack.specs.StackKind.{StackKind}
 use Rattle.triple_arena_stack.specs.Capacity.{IsWithin, IsBeyond, room_for_one_more, CanGrow}
 use Rattle.triple_arena_traits.specs.Items.{item}
-use Rattle.triple_arena_traits.specs.ArenaState.{ArenaState, arena_len, capacity, look_up, with_value, map_values}
+use Rattle.triple_arena_traits.specs.Entries.{look_up}
+use Rattle.triple_arena_traits.specs.ArenaState.{ArenaState, arena_len, capacity, with_value, map_values}
 use Rattle.triple_arena_traits.specs.Insertion.{inserted, next_pointer}
 use Rattle.triple_arena_traits.specs.FreeList.{tidied}
 use Rattle.triple_arena_traits.specs.Capacity.{grown, reallocated, KeepsRoom}
@@ -208,8 +209,8 @@ module _ {X P : Type 0} (pointer : P → Pointer) (arena : ArenaState (Node X P)
   pub capacity-shown : capacity arena ≡ capacity s.arena
   capacity-shown = rw (← shows) refl
 
-  pub look_up-shown : (p : Pointer) → look_up s.arena p ≡ option_map (node_of pointer) (look_up arena p)
-  look_up-shown p = ap (λ a. look_up a p) (sym arena-shown) ∙ look_up-mapped (node_of pointer) arena p
+  pub look_up-shown : (p : Pointer) → look_up s.arena.slots p ≡ option_map (node_of pointer) (look_up arena.slots p)
+  look_up-shown p = ap (λ a. look_up a.slots p) (sym arena-shown) ∙ look_up-mapped (node_of pointer) arena p
 
   pub fits-shown : arena_len arena ≤ capacity arena → arena_len s.arena ≤ capacity s.arena
   fits-shown fits = rw (← len-shown, ← capacity-shown) fits
@@ -218,8 +219,8 @@ module _ {X P : Type 0} (pointer : P → Pointer) (arena : ArenaState (Node X P)
   greatest-shown = ap (λ t. t.arena.greatest) shows
 
   -- what is found under a name
-  pub named_found : (name : ℕ) (p : Pointer) (o : Option (Node X P)) → item s.table name ≡ Some p → o ≡ look_up arena p → option_and_then (look_up s.arena) (item s.table name) ≡ option_map (node_of pointer) o
-  named_found name p o has found = ap (option_and_then (look_up s.arena)) has ∙ look_up-shown p ∙ ap (option_map (node_of pointer)) (sym found)
+  pub named_found : (name : ℕ) (p : Pointer) (o : Option (Node X P)) → item s.table name ≡ Some p → o ≡ look_up arena.slots p → option_and_then (look_up s.arena.slots) (item s.table name) ≡ option_map (node_of pointer) o
+  named_found name p o has found = ap (option_and_then (look_up s.arena.slots)) has ∙ look_up-shown p ∙ ap (option_map (node_of pointer)) (sym found)
 
   pub next-shown : next_pointer arena ≡ next_pointer s.arena
   next-shown = sym (next_pointer-mapped (node_of pointer) arena) ∙ ap next_pointer arena-shown
@@ -251,19 +252,19 @@ module _ {X P : Type 0} (pointer : P → Pointer) (arena : ArenaState (Node X P)
   arena_changed step new_arena is = ap (with_arena (session_of pointer arena table room)) is ∙ ap (λ (t : SessionState X). with_arena t (step t.arena)) shows
 
   -- what is done under a name that is live, and under one that has ended
-  pub acts : (act : Pointer → X × Option Pointer → Reply X × SessionState X) (name : ℕ) (p : Pointer) (node : Node X P) → item s.table name ≡ Some p → look_up arena p ≡ Some node → act_on s act (item s.table name) ≡ act p (node_of pointer node)
+  pub acts : (act : Pointer → X × Option Pointer → Reply X × SessionState X) (name : ℕ) (p : Pointer) (node : Node X P) → item s.table name ≡ Some p → look_up arena.slots p ≡ Some node → act_on s act (item s.table name) ≡ act p (node_of pointer node)
   acts act name p node has live = ap (act_on s act) has ∙ ap (act_under s act p) (look_up-shown p ∙ ap (option_map (node_of pointer)) live)
 
-  pub acts_not : (act : Pointer → X × Option Pointer → Reply X × SessionState X) (name : ℕ) (p : Pointer) → item s.table name ≡ Some p → look_up arena p ≡ None → act_on s act (item s.table name) ≡ (Invalid, s)
+  pub acts_not : (act : Pointer → X × Option Pointer → Reply X × SessionState X) (name : ℕ) (p : Pointer) → item s.table name ≡ Some p → look_up arena.slots p ≡ None → act_on s act (item s.table name) ≡ (Invalid, s)
   acts_not act name p has ended = ap (act_on s act) has ∙ ap (act_under s act p) (look_up-shown p ∙ ap (option_map (node_of pointer)) ended)
 
   -- a removal that took nothing
-  pub not_removed : (act : Pointer → X × Option Pointer → Reply X × SessionState X) (name : ℕ) (p : Pointer) (new_arena : ArenaState (Node X P)) → item s.table name ≡ Some p → look_up arena p ≡ None → new_arena ≡ arena → ◌≡◌ {A = Reply X × SessionState X} (Invalid, session_of pointer new_arena table room) (act_on s act (item s.table name))
+  pub not_removed : (act : Pointer → X × Option Pointer → Reply X × SessionState X) (name : ℕ) (p : Pointer) (new_arena : ArenaState (Node X P)) → item s.table name ≡ Some p → look_up arena.slots p ≡ None → new_arena ≡ arena → ◌≡◌ {A = Reply X × SessionState X} (Invalid, session_of pointer new_arena table room) (act_on s act (item s.table name))
   not_removed act name p new_arena has ended same = with_state Invalid (arena_changed (λ a. a) new_arena (ap (map_values (node_of pointer)) same)) ∙ sym (acts_not act name p has ended)
 
   -- what stands under a name that was given
-  pub named-shown : (name : ℕ) (p : Pointer) (o : Option (Node X P)) → item s.table name ≡ Some p → look_up arena p ≡ o → named s name ≡ option_map (node_of pointer) o
-  named-shown name p o has there = ap (option_and_then (look_up s.arena)) has ∙ look_up-shown p ∙ ap (option_map (node_of pointer)) there
+  pub named-shown : (name : ℕ) (p : Pointer) (o : Option (Node X P)) → item s.table name ≡ Some p → look_up arena.slots p ≡ o → named s name ≡ option_map (node_of pointer) o
+  named-shown name p o has there = ap (option_and_then (look_up s.arena.slots)) has ∙ look_up-shown p ∙ ap (option_map (node_of pointer)) there
 
   -- a table that refused for want of memory was full
   pub table_wants : (new_table : List P) (new_room : ℕ) → length table ≡ room → new_table ≡ table → new_room ≡ room → TableWantsMemory s (session_of pointer arena new_table new_room)

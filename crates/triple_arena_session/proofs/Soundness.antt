@@ -4,7 +4,8 @@ use Rattle.std.proofs.lemmas.Bool.{and_parts}
 use Rattle.std.proofs.lemmas.List.{append-nil}
 use Rattle.triple_arena_ptr.specs.Pointers.{Pointer, is_same}
 use Rattle.triple_arena_stack.specs.StackKind.{StackKind, IsOfKind}
-use Rattle.triple_arena_traits.specs.ArenaState.{ArenaState, arena_len, look_up, IsWellFormed}
+use Rattle.triple_arena_traits.specs.Entries.{look_up}
+use Rattle.triple_arena_traits.specs.ArenaState.{ArenaState, arena_len, IsWellFormed}
 use Rattle.triple_arena_traits.specs.Histories.{has, AreDistinct, ModelCall, clearing, given_by, History, begun_with, and_then, given, ended, is_live, Fits, Continues}
 use Rattle.triple_arena_traits.specs.laws.HistoryLaws.{Fits-empty}
 use Rattle.triple_arena_traits.specs.laws.PointerListLaws.{same_is}
@@ -123,6 +124,6 @@ IsSound-empty a none =
     }
 
 -- with the links, and what holds of the arena, that is soundness
-pub SoundOver-from : {X : Type 0} (kind : StackKind) (t : SessionState X) → TableSound t.arena t.table → ((p q : Pointer) (datum : X) → look_up t.arena p ≡ Some (datum, Some q) → has t.table q ≡ true) → IsArenaOver kind t.arena → SoundOver kind t
+pub SoundOver-from : {X : Type 0} (kind : StackKind) (t : SessionState X) → TableSound t.arena t.table → ((p q : Pointer) (datum : X) → look_up t.arena.slots p ≡ Some (datum, Some q) → has t.table q ≡ true) → IsArenaOver kind t.arena → SoundOver kind t
 SoundOver-from kind t table links over =
     sound_over kind t (record { distinct = table.distinct; has_live = table.has_live; has_links = links; by_now = table.by_now; before = table.before }) over

@@ -8,8 +8,8 @@ use Rattle.triple_arena_ptr.specs.Numbers.{raise, wraps}
 use Rattle.triple_arena_ptr.specs.Pointers.{Pointer}
 use Rattle.triple_arena_stack.specs.StackKind.{StackKind}
 use Rattle.triple_arena_traits.specs.Items.{item, with_item}
-use Rattle.triple_arena_traits.specs.Entries.{value_under, ChangesAt}
-use Rattle.triple_arena_traits.specs.ArenaState.{ArenaState, entry, look_up, arena_len, capacity, with_value}
+use Rattle.triple_arena_traits.specs.Entries.{value_under, ChangesAt, look_up}
+use Rattle.triple_arena_traits.specs.ArenaState.{ArenaState, entry, arena_len, capacity, with_value}
 use Rattle.triple_arena_traits.specs.Ending.{removed, invalidated, cleared}
 use Rattle.triple_arena_traits.specs.laws.EntryLaws.{slots-removed, slots-invalidated, slots-cleared, changes_at, capacity-removed}
 use Rattle.triple_arena_traits.specs.Walks.{keys}
@@ -66,7 +66,7 @@ module _ {X : Type 0} where
   pub row_named : (s : SessionState X) (name : ℕ) → row (shown s) name ≡ option_map (as_row s.table) (named s name)
   row_named s name = ap (option_and_then (λ r. r)) (item-map (row_of s.arena s.table) s.table name) ∙ by (item s.table name)
     where
-      by : (o : Option Pointer) → option_and_then (λ r. r) (option_map (row_of s.arena s.table) o) ≡ option_map (as_row s.table) (option_and_then (look_up s.arena) o)
+      by : (o : Option Pointer) → option_and_then (λ r. r) (option_map (row_of s.arena s.table) o) ≡ option_map (as_row s.table) (option_and_then (look_up s.arena.slots) o)
       by None = refl
       by (Some p) = refl
 
@@ -80,7 +80,7 @@ module _ {X : Type 0} where
       by (Some p) = refl
 
   -- the last row of a longer table
-  pub row_last : (s : SessionState X) (t : ArenaState (X × Option Pointer)) (p : Pointer) (node : X × Option Pointer) → ((l : Pointer) → node.1 ≡ Some l → has s.table l ≡ true) → look_up t p ≡ Some node → row_of t (s.table ++ p ∷ []) p ≡ Some (as_row s.table node)
+  pub row_last : (s : SessionState X) (t : ArenaState (X × Option Pointer)) (p : Pointer) (node : X × Option Pointer) → ((l : Pointer) → node.1 ≡ Some l → has s.table l ≡ true) → look_up t.slots p ≡ Some node → row_of t (s.table ++ p ∷ []) p ≡ Some (as_row s.table node)
   row_last s t p node there found = ap (option_map (as_row (s.table ++ p ∷ []))) found ∙ ap (λ name. Some (node.0, name)) (by node.1 refl)
     where
       by : (l : Option Pointer) → node.1 ≡ l → link_name (s.table ++ p ∷ []) l ≡ link_name s.table l
@@ -110,20 +110,20 @@ module _ {X : Type 0} (kind : StackKind) where
   -- a command to a name that was never given, or has ended, and to any other
   pub agrees_at : (s : SessionState X) (command : Command X) (name : ℕ) (act : Pointer → X × Option Pointer → Reply X × SessionState X) (on_row : NameRow X → Reply X × Store X)
       → SoundOver kind s → store_answer (shown s) command ≡ act_on_row (shown s) (row (shown s) name) on_row
-      → ((p : Pointer) (node : X × Option Pointer) → item s.table name ≡ Some p → look_up s.arena p ≡ Some node → store_answer (shown s) command ≡ on_row (as_row s.table node) → Agrees s command (act p node))
+      → ((p : Pointer) (node : X × Option Pointer) → item s.table name ≡ Some p → look_up s.arena.slots p ≡ Some node → store_answer (shown s) command ≡ on_row (as_row s.table node) → Agrees s command (act p node))
       → Agrees s command (act_on s act (item s.table name))
   agrees_at s command name act on_row sound is acts = by (item s.table name) refl
     where
       row_is : (o : Option (X × Option Pointer)) → named s name ≡ o → store_answer (shown s) command ≡ act_on_row (shown s) (option_map (as_row s.table) o) on_row
       row_is o at = is ∙ ap (λ r. act_on_row (shown s) r on_row) (row_named s name ∙ ap (option_map (as_row s.table)) at)
 
-      under : (p : Pointer) (o : Option (X × Option Pointer)) → item s.table name ≡ Some p → look_up s.arena p ≡ o → Agrees s command (act_under s act p o)
-      under p None at found = agrees_same s command Invalid sound (row_is None (ap (option_and_then (look_up s.arena)) at ∙ found)) refl
-      under p (Some node) at found = acts p node at found (row_is (Some node) (ap (option_and_then (look_up s.arena)) at ∙ found))
+      under : (p : Pointer) (o : Option (X × Option Pointer)) → item s.table name ≡ Some p → look_up s.arena.slots p ≡ o → Agrees s command (act_under s act p o)
+      under p None at found = agrees_same s command Invalid sound (row_is None (ap (option_and_then (look_up s.arena.slots)) at ∙ found)) refl
+      under p (Some node) at found = acts p node at found (row_is (Some node) (ap (option_and_then (look_up s.arena.slots)) at ∙ found))
 
       by : (o : Option Pointer) → item s.table name ≡ o → Agrees s command (act_on s act o)
-      by None at = agrees_same s command Invalid sound (row_is None (ap (option_and_then (look_up s.arena)) at)) refl
-      by (Some p) at = under p (look_up s.arena p) at refl
+      by None at = agrees_same s command Invalid sound (row_is None (ap (option_and_then (look_up s.arena.slots)) at)) refl
+      by (Some p) at = under p (look_up s.arena.slots p) at refl
 
   -- a command with a link that was never given, and with any other
   pub agrees_linked : (s : SessionState X) (command : Command X) (link : Option ℕ) (a : Option (Option Pointer) → Reply X × SessionState X) (b : Reply X × Store X)
@@ -161,7 +161,7 @@ module _ {X : Type 0} (kind : StackKind) (counting : Bool) (greatest : ℕ) (cou
       agrees_linked kind s (Set name datum link) link (set_answer s name datum) (act_on_row (shown s) (row (shown s) name) (λ r. (Done, with_row (shown s) name (Some (datum, link))))) sound refl refl
       (λ l good is. agrees_at kind s (Set name datum link) name (λ p node. (Done, record s { arena = with_value s.arena p.0 (datum, l) })) (λ r. (Done, with_row (shown s) name (Some (datum, link)))) sound is (under l good))
     where
-      under : (l : Option Pointer) → link_pointer s.table link ≡ Some l → (p : Pointer) (node : X × Option Pointer) → item s.table name ≡ Some p → look_up s.arena p ≡ Some node
+      under : (l : Option Pointer) → link_pointer s.table link ≡ Some l → (p : Pointer) (node : X × Option Pointer) → item s.table name ≡ Some p → look_up s.arena.slots p ≡ Some node
           → store_answer (shown s) (Set name datum link) ≡ (Done, with_row (shown s) name (Some (datum, link)))
           → Agrees kind s (Set name datum link) (Done, record s { arena = with_value s.arena p.0 (datum, l) })
       under l good p node at found is =
@@ -189,7 +189,7 @@ module _ {X : Type 0} (kind : StackKind) (counting : Bool) (greatest : ℕ) (cou
   agrees_remove s name sound =
       agrees_at kind s (Remove name) name (remove_under kind counting greatest s) (λ r. (Removed r.0 r.1 false, with_row (shown s) name None)) sound refl under
     where
-      under : (p : Pointer) (node : X × Option Pointer) → item s.table name ≡ Some p → look_up s.arena p ≡ Some node
+      under : (p : Pointer) (node : X × Option Pointer) → item s.table name ≡ Some p → look_up s.arena.slots p ≡ Some node
           → store_answer (shown s) (Remove name) ≡ (Removed node.0 (link_name s.table node.1) false, with_row (shown s) name None)
           → Agrees kind s (Remove name) (remove_under kind counting greatest s p node)
       under p node at found is =
@@ -211,7 +211,7 @@ module _ {X : Type 0} (kind : StackKind) (counting : Bool) (greatest : ℕ) (cou
   agrees_invalidate s name sound =
       agrees_at kind s (Invalidate name) name (invalidate_under kind counting greatest s) (λ r. give_row (with_row (shown s) name None) r) sound refl under
     where
-      under : (p : Pointer) (node : X × Option Pointer) → item s.table name ≡ Some p → look_up s.arena p ≡ Some node
+      under : (p : Pointer) (node : X × Option Pointer) → item s.table name ≡ Some p → look_up s.arena.slots p ≡ Some node
           → store_answer (shown s) (Invalidate name) ≡ give_row (with_row (shown s) name None) (as_row s.table node)
           → Agrees kind s (Invalidate name) (invalidate_under kind counting greatest s p node)
       under p node at found is =
@@ -273,5 +273,5 @@ module _ {X : Type 0} (kind : StackKind) (counting : Bool) (greatest : ℕ) (cou
             (over_cleared kind s.arena (over_of kind s sound) (raise counting greatest)),
       ))
     where
-      gone : (q : Pointer) → look_up (cleared (raise counting greatest) s.arena) q ≡ None
+      gone : (q : Pointer) → look_up (cleared (raise counting greatest) s.arena).slots q ≡ None
       gone q = ap (option_and_then (value_under q.1)) (slots-cleared (raise counting greatest) s.arena (cleared (raise counting greatest) s.arena) refl q.0)

@@ -10,7 +10,8 @@ use Rattle.triple_arena_ptr.specs.Numbers.{raise, wraps}
 use Rattle.triple_arena_ptr.specs.Pointers.{Pointer}
 use Rattle.triple_arena_stack.specs.StackKind.{StackKind}
 use Rattle.triple_arena_traits.specs.Items.{item}
-use Rattle.triple_arena_traits.specs.ArenaState.{ArenaState, arena_len, capacity, look_up, with_value}
+use Rattle.triple_arena_traits.specs.Entries.{look_up}
+use Rattle.triple_arena_traits.specs.ArenaState.{ArenaState, arena_len, capacity, with_value}
 use Rattle.triple_arena_traits.specs.Insertion.{inserted, inserted_among}
 use Rattle.triple_arena_stack.specs.Capacity.{next_capacity}
 use Rattle.triple_arena_traits.specs.Capacity.{with_room_for, grown, reallocated}
@@ -88,13 +89,13 @@ module _ {X : Type 0} (counting : Bool) (greatest : ℕ) where
         none : Counts s command (Invalid, s)
         none = kept s command Invalid s (not_success (raises_counter s command) Invalid refl) refl refl refl
 
-        under : (p : Pointer) (o : Option (X × Option Pointer)) → item s.table name ≡ Some p → look_up s.arena p ≡ o → Counts s command (act_under s act p o)
+        under : (p : Pointer) (o : Option (X × Option Pointer)) → item s.table name ≡ Some p → look_up s.arena.slots p ≡ o → Counts s command (act_under s act p o)
         under p None at found = none
-        under p (Some node) at found = each p node (ap (option_and_then (look_up s.arena)) at ∙ found)
+        under p (Some node) at found = each p node (ap (option_and_then (look_up s.arena.slots)) at ∙ found)
 
         by : (o : Option Pointer) → item s.table name ≡ o → Counts s command (act_on s act o)
         by None at = none
-        by (Some p) at = under p (look_up s.arena p) at refl
+        by (Some p) at = under p (look_up s.arena.slots p) at refl
 
   module _ (kind : StackKind) (text : Option (String Global)) where
     counts : (s : SessionState X) (command : Command X) → Counts s command (answer kind counting greatest text s command)

@@ -3,7 +3,8 @@ use Rattle.std.specs.Prelude.{ℕ, Bool, false, not, cond, map, Option, Some, No
 use Rattle.std.specs.Option.{option_map}
 use Rattle.std.specs.List.{list_any}
 use Rattle.triple_arena_ptr.specs.Pointers.{Pointer}
-use Rattle.triple_arena_traits.specs.ArenaState.{ArenaState, look_up}
+use Rattle.triple_arena_traits.specs.Entries.{look_up}
+use Rattle.triple_arena_traits.specs.ArenaState.{ArenaState}
 use Rattle.triple_arena_traits.specs.Walks.{values}
 use Rattle.triple_arena_traits.specs.Compression.{compressed, rank}
 use Rattle.triple_arena_session.specs.SessionState.{SessionState}
@@ -12,7 +13,7 @@ module _ {X : Type 0} where
   -- whether a datum has a link, and the arena has no entry under its pointer
   abbrev pub dangles : ArenaState (X × Option Pointer) → X × Option Pointer → Bool
   dangles arena (datum, None) = false
-  dangles arena (datum, Some p) = not (is_some (look_up arena p))
+  dangles arena (datum, Some p) = not (is_some (look_up arena.slots p))
 
   -- whether some link of the arena does
   abbrev pub any_dangles : ArenaState (X × Option Pointer) → Bool
@@ -20,7 +21,7 @@ module _ {X : Type 0} where
 
   -- a pointer after compression under this counter: that of its entry, or the same where it has none
   abbrev pub renamed : ArenaState (X × Option Pointer) → ℕ → Pointer → Pointer
-  renamed arena counter p = cond (is_some (look_up arena p)) (rank arena counter p) p
+  renamed arena counter p = cond (is_some (look_up arena.slots p)) (rank arena counter p) p
 
   -- a datum with its link after compression
   abbrev pub relinked : ArenaState (X × Option Pointer) → ℕ → X × Option Pointer → X × Option Pointer

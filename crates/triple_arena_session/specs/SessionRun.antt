@@ -8,7 +8,8 @@ use Rattle.triple_arena_ptr.specs.Pointers.{Pointer}
 use Rattle.triple_arena_stack.specs.StackKind.{StackKind}
 use Rattle.triple_arena_stack.specs.Capacity.{IsWithin, room_for_one_more, CanGrow}
 use Rattle.triple_arena_traits.specs.Items.{item}
-use Rattle.triple_arena_traits.specs.ArenaState.{ArenaState, arena_len, capacity, look_up, with_value}
+use Rattle.triple_arena_traits.specs.Entries.{look_up}
+use Rattle.triple_arena_traits.specs.ArenaState.{ArenaState, arena_len, capacity, with_value}
 use Rattle.triple_arena_traits.specs.Insertion.{inserted, next_pointer}
 use Rattle.triple_arena_traits.specs.FreeList.{tidied}
 use Rattle.triple_arena_traits.specs.Capacity.{grown, reallocated, KeepsRoom}
@@ -65,7 +66,7 @@ module _ {X : Type 0} where
   act_under s act p None = (Invalid, s)
 
   abbrev pub act_on : SessionState X → (Pointer → X × Option Pointer → Reply X × SessionState X) → Option Pointer → Reply X × SessionState X
-  act_on s act (Some p) = act_under s act p (look_up s.arena p)
+  act_on s act (Some p) = act_under s act p (look_up s.arena.slots p)
   act_on s act None = (Invalid, s)
 
   -- another datum and another link, if it is good, under a name

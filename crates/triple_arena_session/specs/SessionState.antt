@@ -3,7 +3,8 @@ use Rattle.std.specs.Prelude.{ℕ, List, [], Option, Some, None}
 use Rattle.std.specs.Option.{option_map, option_and_then}
 use Rattle.triple_arena_ptr.specs.Pointers.{Pointer}
 use Rattle.triple_arena_traits.specs.Items.{item}
-use Rattle.triple_arena_traits.specs.ArenaState.{ArenaState, look_up}
+use Rattle.triple_arena_traits.specs.Entries.{look_up}
+use Rattle.triple_arena_traits.specs.ArenaState.{ArenaState}
 use Rattle.triple_arena_commands.specs.PointerNames.{name_of}
 use Rattle.triple_arena_session.specs.declared.node.Node.{Node}
 
@@ -33,4 +34,4 @@ link_pointer table (Some name) = option_map Some (item table name)
 
 -- what stands under a name, if the name is live: the table has its place, and the arena that pointer
 abbrev pub named : {X : Type 0} → SessionState X → ℕ → Option (X × Option Pointer)
-named s name = option_and_then (look_up s.arena) (item s.table name)
+named s name = option_and_then (look_up s.arena.slots) (item s.table name)

@@ -3,7 +3,8 @@ use Rattle.std.specs.Prelude.{◌≡◌, ◌≤◌, ◌<◌, List, map, Option, 
 use Rattle.std.specs.Option.{option_map}
 use Rattle.triple_arena_ptr.specs.Pointers.{Pointer}
 use Rattle.triple_arena_stack.specs.StackKind.{StackKind, IsOfKind}
-use Rattle.triple_arena_traits.specs.ArenaState.{ArenaState, look_up, capacity, IsWellFormed}
+use Rattle.triple_arena_traits.specs.Entries.{look_up}
+use Rattle.triple_arena_traits.specs.ArenaState.{ArenaState, capacity, IsWellFormed}
 use Rattle.triple_arena_traits.specs.Histories.{has, AreDistinct, is_live}
 use Rattle.triple_arena_commands.specs.NameStore.{NameRow, Store}
 use Rattle.triple_arena_session.specs.SessionState.{SessionState, link_name}
@@ -15,7 +16,7 @@ module _ {X : Type 0} where
 
   -- the row of a pointer, if the arena has it
   abbrev pub row_of : ArenaState (X × Option Pointer) → List Pointer → Pointer → Option (NameRow X)
-  row_of arena table p = option_map (as_row table) (look_up arena p)
+  row_of arena table p = option_map (as_row table) (look_up arena.slots p)
 
   -- the store that a session shows: the row of each name is that of its pointer
   abbrev pub shown : SessionState X → Store X
@@ -32,7 +33,7 @@ module _ {X : Type 0} where
   pub record IsSound (s : SessionState X) : Type 0 where
     pub distinct : AreDistinct s.table
     pub has_live : (p : Pointer) → IsTrue (is_live s.arena p) → IsTrue (has s.table p)
-    pub has_links : (p q : Pointer) (datum : X) → look_up s.arena p ≡ Some (datum, Some q) → IsTrue (has s.table q)
+    pub has_links : (p q : Pointer) (datum : X) → look_up s.arena.slots p ≡ Some (datum, Some q) → IsTrue (has s.table q)
     pub by_now : (p : Pointer) → IsTrue (has s.table p) → p.1 ≤ s.arena.counter
     pub before : (p : Pointer) → IsTrue (has s.table p) → is_live s.arena p ≡ false → p.1 < s.arena.counter
 

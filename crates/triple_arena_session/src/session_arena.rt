@@ -8,7 +8,8 @@ ghost use Rattle.triple_arena_base.specs.Invalidation.{allowed_option};
 ghost use Rattle.triple_arena_ptr.specs.Numbers.{greatest_index, raise, wraps};
 ghost use Rattle.triple_arena_stack.specs.StackKind.{IsOfKind};
 ghost use Rattle.triple_arena_stack.specs.Capacity.{IsWithin, IsBeyond, CanGrow};
-ghost use Rattle.triple_arena_traits.specs.ArenaState.{ArenaState, arena_len, capacity, look_up, with_value, IsWellFormed};
+ghost use Rattle.triple_arena_traits.specs.Entries.{look_up};
+ghost use Rattle.triple_arena_traits.specs.ArenaState.{ArenaState, arena_len, capacity, with_value, IsWellFormed};
 ghost use Rattle.triple_arena_traits.specs.Insertion.{next_pointer, inserted};
 ghost use Rattle.triple_arena_traits.specs.Ending.{removed, invalidated, cleared, told, told_of, map_told};
 ghost use Rattle.triple_arena_traits.specs.FreeList.{tidied};
@@ -48,13 +49,13 @@ pub(crate) trait SessionArena<P: Ptr, T, S: NonZeroInxGenericStack<ArenaSlot<P, 
 
     /// The value under `p`; none exactly where `p` is invalid.
     fn get(&self, p: P) -> Option<&T>
-        ensures value { option_copied result ≡ look_up (state self.now) (P.numbers p) };
+        ensures value { option_copied result ≡ look_up (state self.now).slots (P.numbers p) };
 
     /// Puts another value under `p`, and tells whether it is valid.
     fn put(&mut self, p: P, value: T) -> bool
     where
         T: Drop,
-        ensures answer { result ≡ is_some (look_up (state self.old) (P.numbers p)) }
+        ensures answer { result ≡ is_some (look_up (state self.old).slots (P.numbers p)) }
         ensures done { result ≡ true
             → state self.new ≡ with_value (state self.old) (P.numbers p).0 value }
         ensures unchanged { result ≡ false → state self.new ≡ state self.old };
@@ -93,25 +94,25 @@ pub(crate) trait SessionArena<P: Ptr, T, S: NonZeroInxGenericStack<ArenaSlot<P, 
             → IsOk result × (state self.new ≡ inserted (state self.old) t) };
 
     fn remove(&mut self, p: P) -> InvalidationResult<T>
-        requires { IsSome (look_up (state self.old) (P.numbers p))
+        requires { IsSome (look_up (state self.old).slots (P.numbers p))
             → (strict && wraps P.Gen.counting P.Gen.greatest (state self.old).counter) ≡ false }
         ensures answer { result ≡ told_of (wraps P.Gen.counting P.Gen.greatest
-            (state self.old).counter) (look_up (state self.old) (P.numbers p)) }
-        ensures done { IsSome (look_up (state self.old) (P.numbers p)) → state self.new
+            (state self.old).counter) (look_up (state self.old).slots (P.numbers p)) }
+        ensures done { IsSome (look_up (state self.old).slots (P.numbers p)) → state self.new
             ≡ removed (raise P.Gen.counting P.Gen.greatest) (state self.old) (P.numbers p).0 }
-        ensures unchanged { look_up (state self.old) (P.numbers p) ≡ None
+        ensures unchanged { look_up (state self.old).slots (P.numbers p) ≡ None
             → state self.new ≡ state self.old };
 
     fn invalidate(&mut self, p: P) -> InvalidationResult<P>
-        requires { IsSome (look_up (state self.old) (P.numbers p))
+        requires { IsSome (look_up (state self.old).slots (P.numbers p))
             → (strict && wraps P.Gen.counting P.Gen.greatest (state self.old).counter) ≡ false }
         ensures answer { map_told P.numbers result ≡ told_of (wraps P.Gen.counting P.Gen.greatest
             (state self.old).counter) (option_map (λ _. (
               (P.numbers p).0,
               raise P.Gen.counting P.Gen.greatest (state self.old).counter,
             ))
-            (look_up (state self.old) (P.numbers p))) }
-        ensures done { IsSome (look_up (state self.old) (P.numbers p)) → state self.new
+            (look_up (state self.old).slots (P.numbers p))) }
+        ensures done { IsSome (look_up (state self.old).slots (P.numbers p)) → state self.new
             ≡ invalidated (raise P.Gen.counting P.Gen.greatest) (state self.old) (P.numbers p).0 };
 
     fn clear(&mut self) -> InvalidationOption<()>

@@ -9,7 +9,7 @@ ghost use Rattle.triple_arena_traits.specs.Items.{item};
 ghost use Rattle.triple_arena_traits.specs.ArenaState.{ArenaState, arena_len, capacity};
 ghost use Rattle.triple_arena_traits.specs.Insertion.{place, inserted};
 ghost use Rattle.triple_arena_traits.specs.Ending.{removed};
-ghost use Rattle.triple_arena_traits.specs.Entries.{entry_count, look_up_in};
+ghost use Rattle.triple_arena_traits.specs.Entries.{entry_count, look_up};
 ghost use Rattle.triple_arena_traits.specs.FreeList.{trimmed, last_index, gaps, without_free_end};
 ghost use Rattle.triple_arena_traits.specs.Walks.{entries};
 ghost use Rattle.triple_arena_traits.specs.Copying.{Copies};
@@ -37,7 +37,7 @@ impl<P: Ptr, T, S: NonZeroInxGenericStack<ArenaSlot<P, T>>> Slots<P, T, S> {
     pub fn find(&mut self, p: P) -> Option<NonZeroUsize>
         requires { length (S.items self.old.stack) ≤ greatest_index P.Inx.greatest }
         ensures index { IfSome result (λ inx. non_zero_usize_get inx ≡ (P.numbers p).0) }
-        ensures live { is_some result ≡ is_some (look_up_in
+        ensures live { is_some result ≡ is_some (look_up
             (map (entry_of P.Gen.number) (S.items self.old.stack)) (P.numbers p)) }
         ensures stack { self.new.stack ≡ self.old.stack }
         ensures root { self.new.root ≡ self.old.root }

@@ -9,7 +9,7 @@ ghost use Rattle.triple_arena_stack.specs.StackKind.{reallocated_room, IsOfKind}
 ghost use Rattle.triple_arena_stack.specs.Capacity.{stack_capacity, IsWithin, IsBeyond};
 ghost use Rattle.triple_arena_traits.specs.Items.{item, with_item};
 ghost use Rattle.triple_arena_traits.specs.ArenaState.{ArenaState, is_free};
-ghost use Rattle.triple_arena_traits.specs.Entries.{with_generation_in, entry_count, look_up_in};
+ghost use Rattle.triple_arena_traits.specs.Entries.{with_generation_in, entry_count, look_up};
 ghost use Rattle.triple_arena_traits.specs.FreeList.{trimmed, last_index};
 ghost use Rattle.triple_arena_traits.specs.Walks.{entries};
 ghost use Rattle.triple_arena_traits.specs.Compression.{compressed, rank};
@@ -301,7 +301,7 @@ impl<P: Ptr, T, S: NonZeroInxGenericStack<ArenaSlot<P, T>>> Slots<P, T, S> {
 
     // Whether the entry at an index has this generation.
     pub(crate) fn has_generation(&mut self, inx: NonZeroUsize, generation: P::Gen) -> bool
-        ensures value { result ≡ is_some (look_up_in (map (entry_of P.Gen.number)
+        ensures value { result ≡ is_some (look_up (map (entry_of P.Gen.number)
             (S.items self.old.stack)) (non_zero_usize_get inx, P.Gen.number generation)) }
         ensures stack { self.new.stack ≡ self.old.stack }
         ensures root { self.new.root ≡ self.old.root }

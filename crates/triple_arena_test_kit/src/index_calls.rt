@@ -2,7 +2,8 @@
 
 ghost use Rattle.std.specs.Prelude.{◌≡◌, ◌↔◌, IsSome, IsTrue, Some};
 ghost use Rattle.std.specs.Option.{option_map};
-ghost use Rattle.triple_arena_traits.specs.ArenaState.{entry, look_up, with_value};
+ghost use Rattle.triple_arena_traits.specs.Entries.{look_up};
+ghost use Rattle.triple_arena_traits.specs.ArenaState.{entry, with_value};
 
 use std::mem;
 use triple_arena::{Arena, ArenaSlot, ArenaTrait};
@@ -25,7 +26,7 @@ fn is_valid<P: Ptr, T, S: NonZeroInxGenericStack<ArenaSlot<P, T>>>(
     arena: &Arena<P, T, S>,
     p: P,
 ) -> bool
-    ensures { IsTrue result ↔ IsSome (look_up arena.now (P.numbers p)) }
+    ensures { IsTrue result ↔ IsSome (look_up arena.now.slots (P.numbers p)) }
 {
     arena.get(p).is_some()
 }
@@ -65,8 +66,8 @@ fn exchange_under<P: Ptr, T, S: NonZeroInxGenericStack<ArenaSlot<P, T>>>(
     p: P,
     t: T,
 ) -> T
-    requires { IsSome (look_up arena.old (P.numbers p)) }
-    ensures value { look_up arena.old (P.numbers p) ≡ Some result }
+    requires { IsSome (look_up arena.old.slots (P.numbers p)) }
+    ensures value { look_up arena.old.slots (P.numbers p) ≡ Some result }
     ensures written { arena.new ≡ with_value arena.old (P.numbers p).0 t }
 {
     mem::replace(&mut arena[p], t)

@@ -2,7 +2,7 @@
 //! lends two, and what they answer.
 
 ghost use Rattle.std.specs.Prelude.{◌≡◌, ℕ, Some, OnOk, OnErr};
-ghost use Rattle.triple_arena_traits.specs.Entries.{entry_in, look_up_in};
+ghost use Rattle.triple_arena_traits.specs.Entries.{entry_in, look_up};
 ghost use Rattle.triple_arena_traits.specs.Disjoint.{DisjointPtrAnswer, DisjointInxAnswer};
 
 use crate::numbered::Numbered;
@@ -23,8 +23,8 @@ fn exchange_two<P: Ptr, T, A: DisjointableArenaTrait<P, T>>(
         (P.numbers first) (P.numbers second) result }
     ensures refused { OnErr result (arena.new ≡ arena.old) }
     ensures swapped { (x y : T)
-        → look_up_in (A.slots arena.old) (P.numbers first) ≡ Some x
-        → look_up_in (A.slots arena.old) (P.numbers second) ≡ Some y
+        → look_up (A.slots arena.old) (P.numbers first) ≡ Some x
+        → look_up (A.slots arena.old) (P.numbers second) ≡ Some y
         → OnOk result (arena.new ≡ A.with_value
         (A.with_value arena.old (P.numbers first).0 y) (P.numbers second).0 x) }
 {

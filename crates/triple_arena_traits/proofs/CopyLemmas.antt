@@ -12,7 +12,7 @@ use Rattle.triple_arena_ptr.specs.Pointers.{Pointer}
 use Rattle.triple_arena_traits.specs.Items.{item}
 use Rattle.triple_arena_traits.specs.laws.ItemLaws.{joined, item-push_same, eq_true}
 use Rattle.triple_arena_traits.specs.ArenaState.{is_free}
-use Rattle.triple_arena_traits.specs.Entries.{entry_in, look_up_in, entry_count, KeepsEntries}
+use Rattle.triple_arena_traits.specs.Entries.{entry_in, look_up, entry_count, KeepsEntries}
 use Rattle.triple_arena_traits.specs.laws.EntryLaws.{entry-trimmed}
 use Rattle.triple_arena_traits.specs.FreeList.{trimmed, last_index, IsRising}
 use Rattle.triple_arena_traits.specs.Walks.{Stand, Steps, IsAtFirst, entries_from, entries, entries_ahead, keys, keys_ahead}
@@ -105,7 +105,7 @@ module _ {P U T E M : Type 0} (numbers : P → Pointer) (step : M → P → Bor 
   pub record Next (source : List (Option (ℕ × U))) (p : Pointer) (b a : Stand) (size : ℕ) : Type 0 where
     pub value : U
     pub first : entries_ahead b source ≡ (p, value) ∷ entries_ahead a source
-    pub found : look_up_in source p ≡ Some value
+    pub found : look_up source p ≡ Some value
     pub past : size < p.0
     pub within : p.0 ≤ last_index source
     pub inside : p.0 ≤ length source
@@ -130,7 +130,7 @@ module _ {P U T E M : Type 0} (numbers : P → Pointer) (step : M → P → Bor 
   some_same a b e = cc
 
   pub copy_on : (greatest : ℕ) (f : M) (source : List (Option (ℕ × U))) (p : P) (b a : Stand) (g h : M) (now new : List (Option (ℕ × T))) (x : Bor U) (t : T) → Copied f source b g now → Steps greatest source b (Some (numbers p)) a
-      → look_up_in source (numbers p) ≡ Some (x.now) → step g p x (Ok t) h → new ≡ put_after now (numbers p) t → Copied f source a h new
+      → look_up source (numbers p) ≡ Some (x.now) → step g p x (Ok t) h → new ≡ put_after now (numbers p) t → Copied f source a h new
   copy_on greatest f source p b a g h now new x t w steps got called is =
       let n = next_of greatest f source (numbers p) b a g now w steps in
       let same : x.now ≡ n.value = some_same (x.now) n.value (sym got ∙ n.found) in
@@ -148,7 +148,7 @@ module _ {P U T E M : Type 0} (numbers : P → Pointer) (step : M → P → Bor 
       })
 
   pub copy_refused : (greatest : ℕ) (f : M) (source : List (Option (ℕ × U))) (p : P) (b a : Stand) (g h : M) (now : List (Option (ℕ × T))) (x : Bor U) (e : E) → Copied f source b g now → Steps greatest source b (Some (numbers p)) a
-      → look_up_in source (numbers p) ≡ Some (x.now) → step g p x (Err e) h → Copies numbers step f (entries source) (Err e) now
+      → look_up source (numbers p) ≡ Some (x.now) → step g p x (Err e) h → Copies numbers step f (entries source) (Err e) now
   copy_refused greatest f source p b a g h now x e w steps got called =
       let n = next_of greatest f source (numbers p) b a g now w steps in
       let same : x.now ≡ n.value = some_same (x.now) n.value (sym got ∙ n.found) in
@@ -185,7 +185,7 @@ module _ {T U : Type 0} where
       by_entry : (i : ℕ) (o : Option (ℕ × T)) → entry_in ys i ≡ o → IsSome (entry_in ys i) → IsSome (entry_in xs i)
       by_entry i None is live = absurd (true≢false (sym live ∙ ap is_some is))
       by_entry i (Some e) is live =
-          let there : IsSome (look_up_in ys (i, e.0)) = rw (is, eq_true e.0 e.0 refl) refl in
+          let there : IsSome (look_up ys (i, e.0)) = rw (is, eq_true e.0 e.0 refl) refl in
           let f = found xs (i, e.0) (key_live xs (i, e.0) (among (i, e.0) (live_key ys (i, e.0) there))) in
           ap is_some f.entry
 

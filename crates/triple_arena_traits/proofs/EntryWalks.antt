@@ -8,7 +8,7 @@ use Rattle.std.specs.Prelude.{IsSome}
 use Rattle.triple_arena_traits.specs.Items.{with_item}
 use Rattle.triple_arena_traits.specs.laws.ItemLaws.{joined, eq_true}
 use Rattle.triple_arena_ptr.specs.Pointers.{Pointer}
-use Rattle.triple_arena_traits.specs.Entries.{entry_in, look_up_in, value_under, with_value_in}
+use Rattle.triple_arena_traits.specs.Entries.{entry_in, look_up, value_under, with_value_in}
 use Rattle.triple_arena_traits.specs.Walks.{entries_from, entries, keys_of, keys, values_of, values}
 use Rattle.triple_arena_traits.specs.Recasting.{written, recast_values}
 
@@ -59,7 +59,7 @@ module _ {T : Type 0} where
       let i : k.0 ≡ suc s.place = omega (arith, s.index) in
       rw i (ap joined s.found)
 
-  pub value_found : (xs : List (Option (ℕ × T))) (left : List (Pointer × T)) (k : Pointer) (v : T) (right : List (Pointer × T)) → entries xs ≡ left ++ (k, v) ∷ right → look_up_in xs k ≡ Some v
+  pub value_found : (xs : List (Option (ℕ × T))) (left : List (Pointer × T)) (k : Pointer) (v : T) (right : List (Pointer × T)) → entries xs ≡ left ++ (k, v) ∷ right → look_up xs k ≡ Some v
   value_found xs left k v right e =
       ap (option_and_then (value_under k.1)) (entry_found xs left k v right e) ∙ ap (λ b. cond b (Some v) None) (eq_true k.1 k.1 refl)
 
@@ -122,7 +122,7 @@ module _ {I T A : Type 0} (held : T → List I) (refill : T → List I → T) (l
     pub left : after ≡ keys_of others
     pub state : written with_value (k ∷ keys_of others) (recast_all (value ∷ values_of others)) now ≡ written with_value (keys (slots start)) (recast_all (values (slots start))) start
     pub answer : recast_answer image (held_all held (value ∷ values_of others)) ≡ recast_answer image (held_all held (values (slots start)))
-    pub found : look_up_in (slots now) k ≡ Some value
+    pub found : look_up (slots now) k ≡ Some value
 
   pub next_of : (start now : A) (k : Pointer) (after : List Pointer) → (w : Walked start now (k ∷ after)) → Next start now w.done k after
   next_of start now k after w = go w.rest w.split w.left w.state w.answer
@@ -146,7 +146,7 @@ module _ {I T A : Type 0} (held : T → List I) (refill : T → List I → T) (l
             found = value_found (slots now) w.done k (x.1) rest whole;
           }
 
-  pub walk_finds : (start now : A) (k : Pointer) (after : List Pointer) → Walked start now (k ∷ after) → (v : T) × (look_up_in (slots now) k ≡ Some v)
+  pub walk_finds : (start now : A) (k : Pointer) (after : List Pointer) → Walked start now (k ∷ after) → (v : T) × (look_up (slots now) k ≡ Some v)
   walk_finds start now k after w = let n = next_of start now k after w in (n.value, n.found)
 
   pub keys_kept : (start now : A) (k : Pointer) (after : List Pointer) (y : T) → Walked start now (k ∷ after) → keys (slots (with_value now k.0 y)) ≡ keys (slots now)
@@ -158,7 +158,7 @@ module _ {I T A : Type 0} (held : T → List I) (refill : T → List I → T) (l
   some_same : (x y : T) → Some x ≡ Some y → x ≡ y
   some_same x y e = cc
 
-  pub walk_ok : (start now : A) (k : Pointer) (after : List Pointer) (x y : T) → Walked start now (k ∷ after) → Some x ≡ look_up_in (slots now) k
+  pub walk_ok : (start now : A) (k : Pointer) (after : List Pointer) (x y : T) → Walked start now (k ∷ after) → Some x ≡ look_up (slots now) k
       → y ≡ refill x (recast_items image (held x)) → recast_answer image (held x) ≡ Ok tt → Walked start (with_value now k.0 y) after
   walk_ok start now k after x y w got new e =
       let n = next_of start now k after w in
@@ -178,7 +178,7 @@ module _ {I T A : Type 0} (held : T → List I) (refill : T → List I → T) (l
         answer = sym ok.1 ∙ n.answer;
       }
 
-  pub walk_err : (start now : A) (k : Pointer) (after : List Pointer) (x y : T) (i : I) → Walked start now (k ∷ after) → Some x ≡ look_up_in (slots now) k
+  pub walk_err : (start now : A) (k : Pointer) (after : List Pointer) (x y : T) (i : I) → Walked start now (k ∷ after) → Some x ≡ look_up (slots now) k
       → y ≡ refill x (recast_items image (held x)) → recast_answer image (held x) ≡ Err i
       → (with_value now k.0 y ≡ written with_value (keys (slots start)) (recast_all (values (slots start))) start) × (Err i ≡ recast_answer image (held_all held (values (slots start))))
   walk_err start now k after x y i w got new e =

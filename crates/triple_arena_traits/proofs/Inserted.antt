@@ -4,8 +4,8 @@ use Rattle.std.specs.Borrow.{MutBor}
 use Rattle.std.specs.Option.{option_and_then, option_copied_mut}
 use Rattle.triple_arena_ptr.specs.Pointers.{Pointer}
 use Rattle.triple_arena_traits.specs.Items.{item}
-use Rattle.triple_arena_traits.specs.Entries.{value_under}
-use Rattle.triple_arena_traits.specs.ArenaState.{ArenaState, slot_count, look_up, with_value, IsWellFormed}
+use Rattle.triple_arena_traits.specs.Entries.{value_under, look_up}
+use Rattle.triple_arena_traits.specs.ArenaState.{ArenaState, slot_count, with_value, IsWellFormed}
 use Rattle.triple_arena_traits.specs.Insertion.{place_among, place, next_pointer, inserted_among, inserted}
 use Rattle.triple_arena_traits.specs.laws.ItemLaws.{joined, eq_true, item_within, item-with_same, item-push_same, with_item-twice, with_item-push}
 use Rattle.triple_arena_traits.specs.laws.EntryLaws.{first_free}
@@ -35,7 +35,7 @@ module _ {T : Type 0} where
           ∙ with_item-twice s.slots i (Some (s.counter, v)) (Some (s.counter, w)))
 
   -- the pointer of an insertion finds the value
-  pub found_inserted : (s new : ArenaState T) (p : Pointer) (v : T) → IsWellFormed s → p ≡ next_pointer s → new ≡ inserted s v → look_up new p ≡ Some v
+  pub found_inserted : (s new : ArenaState T) (p : Pointer) (v : T) → IsWellFormed s → p ≡ next_pointer s → new ≡ inserted s v → look_up new.slots p ≡ Some v
   found_inserted s new p v well pointer is =
       rw (pointer, is) (ap (λ o. option_and_then (value_under s.counter) (joined o)) (item-inserted s v well) ∙ ap (λ b. cond b (Some v) None) (eq_true s.counter s.counter refl))
 

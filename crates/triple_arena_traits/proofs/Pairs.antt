@@ -8,7 +8,7 @@ use Rattle.std.specs.Option.{option_map}
 use Rattle.triple_arena_ptr.specs.Pointers.{Pointer}
 use Rattle.triple_arena_stack.specs.Disjoint.{set_both, MayWork}
 use Rattle.triple_arena_traits.specs.Items.{item, with_item}
-use Rattle.triple_arena_traits.specs.Entries.{entry_in, look_up_in}
+use Rattle.triple_arena_traits.specs.Entries.{entry_in, look_up}
 use Rattle.triple_arena_traits.specs.Disjoint.{PairOnce, value_of}
 use Rattle.triple_arena_traits.specs.SlotPairs.{WritesTwo}
 use Rattle.triple_arena_traits.specs.laws.ItemLaws.{item_at, with_item_at}
@@ -43,13 +43,13 @@ writes_two put es es' i j a b a' b' x y at_i at_j left_i left_j is =
 
 module _ {T : Type 0} (slots : List (Option (ℕ × T))) where
   -- the value under a valid pointer is that of the entry at its index
-  pub value_under_pointer : (p : Pointer) (i : ℕ) → i ≡ p.0 → is_some (look_up_in slots p) ≡ true → value_of (entry_in slots i) ≡ look_up_in slots p
+  pub value_under_pointer : (p : Pointer) (i : ℕ) → i ≡ p.0 → is_some (look_up slots p) ≡ true → value_of (entry_in slots i) ≡ look_up slots p
   value_under_pointer p i here valid =
       let found = entry_of_value slots p.0 p.1 valid in
       ap (λ n. value_of (entry_in slots n)) here ∙ ap value_of found.1 ∙ sym found.2
 
   -- two valid pointers with one index are one
-  pub same_pointer : (p q : Pointer) → is_some (look_up_in slots p) ≡ true → is_some (look_up_in slots q) ≡ true → p.0 ≡ q.0 → p ≡ q
+  pub same_pointer : (p q : Pointer) → is_some (look_up slots p) ≡ true → is_some (look_up slots q) ≡ true → p.0 ≡ q.0 → p ≡ q
   same_pointer p q valid_p valid_q here =
       let found_p = entry_of_value slots p.0 p.1 valid_p in
       let found_q = entry_of_value slots q.0 q.1 valid_q in

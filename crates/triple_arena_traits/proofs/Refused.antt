@@ -13,7 +13,7 @@ use Rattle.triple_arena_stack.specs.Disjoint.{IsRefused}
 use Rattle.triple_arena_traits.specs.laws.PointerListLaws.{pointer_is}
 use Rattle.triple_arena_traits.specs.laws.WellFormedLaws.{entry_of_value}
 use Rattle.triple_arena_traits.specs.Disjoint.{DisjointInxAnswer}
-use Rattle.triple_arena_traits.specs.Entries.{entry_in, value_under, look_up_in, ChangesAt}
+use Rattle.triple_arena_traits.specs.Entries.{entry_in, value_under, look_up, ChangesAt}
 use Rattle.triple_arena_traits.specs.laws.ItemLaws.{eq_false}
 
 -- what `?` makes of an error of its own type
@@ -49,13 +49,13 @@ module _ {T : Type 0} where
   refused_inx slots i j r IndexOutOfBounds is refused = rw is (inl refused)
   refused_inx slots i j r OverlappingIndices is refused = rw is refused
 
-  module _ (old new : List (Option (ℕ × T))) (p : Pointer) (live : IsSome (look_up_in old p)) (change : ChangesAt old p.0 None new) where
+  module _ (old new : List (Option (ℕ × T))) (p : Pointer) (live : IsSome (look_up old p)) (change : ChangesAt old p.0 None new) where
     -- a pointer whose entry was taken away finds nothing
-    pub gone_found : look_up_in new p ≡ None
+    pub gone_found : look_up new p ≡ None
     gone_found = ap (option_and_then (value_under p.1)) change.there
 
     -- and every other finds what it found
-    pub rest_found : (q : Pointer) → q ≢ p → look_up_in new q ≡ look_up_in old q
+    pub rest_found : (q : Pointer) → q ≢ p → look_up new q ≡ look_up old q
     rest_found q other =
         elim (cases_eq q.0 p.0) [
           | inl here ↦ let found = entry_of_value old p.0 p.1 live in

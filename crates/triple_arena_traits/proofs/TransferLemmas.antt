@@ -6,7 +6,7 @@ use Rattle.std.proofs.lemmas.List.Sums.{sum_by-cons}
 use Rattle.std.proofs.lemmas.List.{map_push, append-nil, length-append, length-map}
 use Rattle.triple_arena_base.specs.declared.invalidation.InvalidationOption.{InvalidationOption}
 use Rattle.triple_arena_ptr.specs.Pointers.{Pointer}
-use Rattle.triple_arena_traits.specs.Entries.{look_up_in, entry_count, ChangesAt}
+use Rattle.triple_arena_traits.specs.Entries.{look_up, entry_count, ChangesAt}
 use Rattle.triple_arena_traits.specs.Ending.{told}
 use Rattle.triple_arena_traits.specs.FreeList.{gaps}
 use Rattle.triple_arena_traits.specs.Walks.{Stand, IsAtFirst, IsBeforeAll, Steps, entries, entries_ahead, keys_of, keys}
@@ -80,12 +80,12 @@ module _ {Q U P T A M : Type 0} (source : Q → Pointer) (target : P → Pointer
       )
 
   -- there is a place for one more
-  pub transfer_room : (f : M) (start : A) (g : M) (now new : A) (b a : Stand) (put : List (Option (ℕ × T))) (q : Q) (v : U) → Transferred f start g now b put → Steps greatest (slots now) b (Some (source q)) a → look_up_in (slots now) (source q) ≡ Some v → Taken now q new → length put + 1 ≤ entry_count (slots start)
+  pub transfer_room : (f : M) (start : A) (g : M) (now new : A) (b a : Stand) (put : List (Option (ℕ × T))) (q : Q) (v : U) → Transferred f start g now b put → Steps greatest (slots now) b (Some (source q)) a → look_up (slots now) (source q) ≡ Some v → Taken now q new → length put + 1 ≤ entry_count (slots start)
   transfer_room f start g now new b a put q v w steps found gone =
       let first = ahead_taken_out greatest (slots now) (slots new) b (source q) a v w.left.forward steps found (changes now (source q).0 new gone.0) in
       omega (arith, put_count f start g now b put w, ap length first)
 
-  pub transfer_on : (f : M) (start : A) (g h : M) (now new : A) (b a : Stand) (put put2 : List (Option (ℕ × T))) (q : Q) (v : U) (p : P) (t : T) → Transferred f start g now b put → Steps greatest (slots now) b (Some (source q)) a → look_up_in (slots now) (source q) ≡ Some v → Taken now q new
+  pub transfer_on : (f : M) (start : A) (g h : M) (now new : A) (b a : Stand) (put put2 : List (Option (ℕ × T))) (q : Q) (v : U) (p : P) (t : T) → Transferred f start g now b put → Steps greatest (slots now) b (Some (source q)) a → look_up (slots now) (source q) ≡ Some v → Taken now q new
       → step g q (told (wraps now) v) p t h → target p ≡ (length put + 1, generation) → put2 ≡ put ++ Some (generation, t) ∷ [] → Transferred f start h new a put2
   transfer_on f start g h now new b a put put2 q v p t w steps found gone called onto is =
       let m : Transfer Q U P T = record { from = q; old = v; to = p; new = t } in

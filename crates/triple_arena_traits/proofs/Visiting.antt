@@ -2,7 +2,7 @@
 use Rattle.std.proofs.Common.{◌≡◌, ℕ, suc, List, [], ◌∷◌, ◌++◌, length, Option, Some, None, false, refl, sym, ap, subst, ◌∙◌, append_assoc, append-nil}
 use Rattle.std.specs.Borrow.{MutBor}
 use Rattle.triple_arena_ptr.specs.Pointers.{Pointer}
-use Rattle.triple_arena_traits.specs.Entries.{look_up_in, with_value_in}
+use Rattle.triple_arena_traits.specs.Entries.{look_up, with_value_in}
 use Rattle.triple_arena_traits.specs.Walks.{Stand, Steps, IsAtFirst, entries, entries_ahead, entries_behind}
 use Rattle.triple_arena_traits.specs.Recasting.{written}
 use Rattle.triple_arena_traits.specs.Visits.{CalledAt, Visits}
@@ -23,7 +23,7 @@ module _ {P T F : Type 0} (numbers : P → Pointer) (step : F → P → MutBor T
   begins start slots s first left last visits =
       rw (none_behind slots s first) (subst (λ es. Visits numbers step start es left last) (ahead_first slots s first) visits)
 
-  pub goes_on : (start : F) (old : List (Pointer × T)) (greatest : ℕ) (slots : List (Option (ℕ × T))) (b : Stand) (p : Pointer) (a : Stand) (f : F) (v w : T) (after : F) → b.reverse ≡ false → Steps greatest slots b (Some p) a → look_up_in slots p ≡ Some v → CalledAt numbers step f p v w after → GoesOn start old b slots f → GoesOn start old a (with_value_in slots p.0 w) after
+  pub goes_on : (start : F) (old : List (Pointer × T)) (greatest : ℕ) (slots : List (Option (ℕ × T))) (b : Stand) (p : Pointer) (a : Stand) (f : F) (v w : T) (after : F) → b.reverse ≡ false → Steps greatest slots b (Some p) a → look_up slots p ≡ Some v → CalledAt numbers step f p v w after → GoesOn start old b slots f → GoesOn start old a (with_value_in slots p.0 w) after
   goes_on start old greatest slots b p a f v w after forward s is call so_far left last visits =
       let later = subst (λ es. Visits numbers step after es left last) (ahead_written greatest slots b p a w s) visits in
       let from = subst (λ es. Visits numbers step f es ((p, w) ∷ left) last) (sym (ahead_taken greatest slots b p a forward s v is)) (w, after, left, call, refl, later) in

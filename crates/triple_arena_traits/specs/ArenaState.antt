@@ -1,10 +1,9 @@
 -- What an arena holds.
 use Rattle.std.specs.Prelude.{◌≡◌, ℕ, ◌+◌, ◌≤◌, ◌==◌, Bool, true, false, cond, List, [], length, map, count_by, Option, Some, None, min}
 use Rattle.std.specs.Option.{option_map}
-use Rattle.triple_arena_ptr.specs.Pointers.{Pointer}
 use Rattle.triple_arena_stack.specs.Capacity.{stack_capacity}
 use Rattle.triple_arena_traits.specs.Items.{item}
-use Rattle.triple_arena_traits.specs.Entries.{entry_in, look_up_in, entry_count, with_value_in}
+use Rattle.triple_arena_traits.specs.Entries.{entry_in, entry_count, with_value_in}
 
 -- by index, from 1 to the number of slots, the generation and the value of the entry that stands there, or nothing; the
 -- counter, which is the generation of the next entry; the free indexes, in the order in which insertion takes them; for how
@@ -39,10 +38,6 @@ module _ {T : Type 0} where
   -- the entry at an index, if there is one
   abbrev pub entry : ArenaState T → ℕ → Option (ℕ × T)
   entry s i = entry_in s.slots i
-
-  -- the value under a pointer, if the entry at its index has its generation
-  abbrev pub look_up : ArenaState T → Pointer → Option T
-  look_up s p = look_up_in s.slots p
 
   -- another value in the entry at an index
   abbrev pub with_value : ArenaState T → ℕ → T → ArenaState T

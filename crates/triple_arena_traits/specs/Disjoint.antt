@@ -7,7 +7,7 @@ use Rattle.triple_arena_base.specs.declared.errors.GetDisjointMutError.{GetDisjo
 use Rattle.triple_arena_base.specs.declared.errors.GetDisjointMutError.TheVariants.{IndexOutOfBounds, OverlappingIndices}
 use Rattle.triple_arena_ptr.specs.Pointers.{Pointer}
 use Rattle.triple_arena_stack.specs.Disjoint.{AreTwo, IsRefused, FnOnceTakesAtPairMut, FnOnceReturnsAtPairMut}
-use Rattle.triple_arena_traits.specs.Entries.{entry_in, look_up_in}
+use Rattle.triple_arena_traits.specs.Entries.{entry_in, look_up}
 
 module _ {T : Type 0} where
   -- the value of an entry, if there is one
@@ -16,9 +16,9 @@ module _ {T : Type 0} where
 
   -- the answer on two pointers: both are valid and name two entries, one is invalid, or both are one valid pointer
   abbrev pub DisjointPtrAnswer : List (Option (ℕ × T)) → Pointer → Pointer → {A : Type 0} → Result A GetDisjointMutError → Type 0
-  DisjointPtrAnswer slots p q (Ok done) = IsSome (look_up_in slots p) × IsSome (look_up_in slots q) × (p.0 ≢ q.0)
-  DisjointPtrAnswer slots p q (Err IndexOutOfBounds) = (look_up_in slots p ≡ None) ⊎ (look_up_in slots q ≡ None)
-  DisjointPtrAnswer slots p q (Err OverlappingIndices) = IsSome (look_up_in slots p) × (p ≡ q)
+  DisjointPtrAnswer slots p q (Ok done) = IsSome (look_up slots p) × IsSome (look_up slots q) × (p.0 ≢ q.0)
+  DisjointPtrAnswer slots p q (Err IndexOutOfBounds) = (look_up slots p ≡ None) ⊎ (look_up slots q ≡ None)
+  DisjointPtrAnswer slots p q (Err OverlappingIndices) = IsSome (look_up slots p) × (p ≡ q)
 
   -- the answer on two indexes: both name entries, and two of them; or they are refused as on a stack of so many slots; or
   -- they are two of the slots, and one of these is free

@@ -3,7 +3,7 @@ use Rattle.std.specs.Prelude.{◌≡◌, ℕ, ◌∷◌, [], Bool, List, map, Op
 use Rattle.std.specs.Borrow.{GName}
 use Rattle.triple_arena_base.specs.declared.invalidation.InvalidationOption.{InvalidationOption}
 use Rattle.triple_arena_ptr.specs.Pointers.{Pointer}
-use Rattle.triple_arena_traits.specs.Entries.{look_up_in, entry_count, IsFirst}
+use Rattle.triple_arena_traits.specs.Entries.{look_up, entry_count, IsFirst}
 use Rattle.triple_arena_traits.specs.Ending.{told}
 use Rattle.triple_arena_traits.specs.Walks.{Stand, Steps, IsBeforeAll}
 use Rattle.triple_arena_traits.specs.Histories.{History, ModelCall, removal, CountsUp, Continues}
@@ -49,7 +49,7 @@ module _ {P T A : Type 0} (slots : A → List (Option (ℕ × T))) (fits : Histo
       MatchOption item
       ((entry_count (slots old) ≡ 0) × (new ≡ old))
       (λ taken. (p : P) × (value : T) × (taken ≡ told (wraps old) (p, value)) × IsFirst (slots old) (numbers p)
-      × (look_up_in (slots old) (numbers p) ≡ Some value) × TakesOut fits removes wraps counting old (numbers p) new)
+      × (look_up (slots old) (numbers p) ≡ Some value) × TakesOut fits removes wraps counting old (numbers p) new)
 
   -- an advancer goes on, and the entry that it answers is removed
   abbrev pub TakeStep : ℕ → A → Stand → Option (P × InvalidationOption T) → A → Stand → Type 0
@@ -57,4 +57,4 @@ module _ {P T A : Type 0} (slots : A → List (Option (ℕ × T))) (fits : Histo
       MatchOption taken
       (Steps greatest (slots old) before None after × (new ≡ old))
       (λ item. (value : T) × (item.1 ≡ told (wraps old) value) × Steps greatest (slots old) before (Some (numbers item.0)) after
-      × (look_up_in (slots old) (numbers item.0) ≡ Some value) × TakesOut fits removes wraps counting old (numbers item.0) new)
+      × (look_up (slots old) (numbers item.0) ≡ Some value) × TakesOut fits removes wraps counting old (numbers item.0) new)

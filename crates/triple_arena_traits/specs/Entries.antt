@@ -14,8 +14,8 @@ module _ {T : Type 0} where
   value_under generation e = cond (e.0 == generation) (Some e.1) None
 
   -- the value under a pointer: that of the entry at its index, if the generation is the pointer's
-  abbrev pub look_up_in : List (Option (ℕ × T)) → Pointer → Option T
-  look_up_in slots p = option_and_then (value_under p.1) (entry_in slots p.0)
+  abbrev pub look_up : List (Option (ℕ × T)) → Pointer → Option T
+  look_up slots p = option_and_then (value_under p.1) (entry_in slots p.0)
 
   -- the number of entries
   abbrev pub entry_count : List (Option (ℕ × T)) → ℕ
@@ -40,10 +40,10 @@ module _ {T : Type 0} where
 
   -- the pointer is that of the entry of least index
   pub record IsFirst (slots : List (Option (ℕ × T))) (p : Pointer) : Type 0 where
-    pub live : IsSome (look_up_in slots p)
+    pub live : IsSome (look_up slots p)
     pub none_below : (i : ℕ) → i < p.0 → entry_in slots i ≡ None
 
   -- the pointer is that of the entry of greatest index
   pub record IsLast (slots : List (Option (ℕ × T))) (p : Pointer) : Type 0 where
-    pub live : IsSome (look_up_in slots p)
+    pub live : IsSome (look_up slots p)
     pub none_above : (i : ℕ) → p.0 < i → entry_in slots i ≡ None

@@ -2,8 +2,8 @@
 use Rattle.std.specs.Prelude.{◌≡◌, ◌+◌, ◌<◌, ◌≤◌, ◌&&◌, not, IsTrue, Bool, true, false, List, [], ◌∷◌, ◌++◌, length, is_some}
 use Rattle.std.specs.List.{list_any}
 use Rattle.triple_arena_ptr.specs.Pointers.{Pointer, is_same}
-use Rattle.triple_arena_traits.specs.Entries.{KeepsEntries}
-use Rattle.triple_arena_traits.specs.ArenaState.{ArenaState, arena_len, look_up, IsWellFormed}
+use Rattle.triple_arena_traits.specs.Entries.{KeepsEntries, look_up}
+use Rattle.triple_arena_traits.specs.ArenaState.{ArenaState, arena_len, IsWellFormed}
 use Rattle.triple_arena_traits.specs.Insertion.{next_pointer, inserted}
 use Rattle.triple_arena_traits.specs.Ending.{removed, invalidated, cleared}
 use Rattle.triple_arena_traits.specs.Compression.{compressed, raised_if_any}
@@ -82,7 +82,7 @@ Continues fits old calls new = (h : History) → fits h old → fits (followed_b
 module _ {T : Type 0} where
   -- whether the arena has an entry under this pointer
   abbrev pub is_live : ArenaState T → Pointer → Bool
-  is_live s p = is_some (look_up s p)
+  is_live s p = is_some (look_up s.slots p)
 
   -- a history fits an arena: no pointer was given twice; the arena's pointers are exactly those that remain; no generation
   -- that was given is above the counter; and each that has ended is below it

@@ -2,7 +2,8 @@
 use Rattle.std.specs.Prelude.{◌≡◌, ℕ, List, [], ◌∷◌, map, Option, Some, None, is_some}
 use Rattle.std.specs.Option.{option_map}
 use Rattle.triple_arena_ptr.specs.Pointers.{Pointer}
-use Rattle.triple_arena_traits.specs.ArenaState.{ArenaState, arena_len, look_up}
+use Rattle.triple_arena_traits.specs.Entries.{look_up}
+use Rattle.triple_arena_traits.specs.ArenaState.{ArenaState, arena_len}
 
 module _ {T : Type 0} where
   -- the entry with the value of the other, where both are there
@@ -27,7 +28,7 @@ module _ {T : Type 0} where
 
   -- the same pointers are valid, and nothing but values differs
   pub record SamePointers (old new : ArenaState T) : Type 0 where
-    pub pointers : (q : Pointer) → is_some (look_up new q) ≡ is_some (look_up old q)
+    pub pointers : (q : Pointer) → is_some (look_up new.slots q) ≡ is_some (look_up old.slots q)
     pub generations : generations_in new.slots ≡ generations_in old.slots
     pub len : arena_len new ≡ arena_len old
     pub counter : new.counter ≡ old.counter

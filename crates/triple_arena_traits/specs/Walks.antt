@@ -1,7 +1,7 @@
 -- Walks over the entries of an arena, by their indexes.
 use Rattle.std.specs.Prelude.{◌≡◌, ℕ, ◌+◌, ◌-◌, ◌≤◌, nat_le, nat_lt, ◌&&◌, not, Bool, true, false, IsTrue, IsSome, cond, List, [], ◌∷◌, map, length, Option, Some, None, max, min, ◌⊎◌}
 use Rattle.triple_arena_ptr.specs.Pointers.{Pointer}
-use Rattle.triple_arena_traits.specs.Entries.{entry_in, look_up_in}
+use Rattle.triple_arena_traits.specs.Entries.{entry_in, look_up}
 
 -- where an advancer stands: at an index, or nowhere, which is 0; and whether it goes downward
 pub record Stand : Type 0 where
@@ -40,7 +40,7 @@ module _ {T : Type 0} where
   abbrev pub Answers : List (Option (ℕ × T)) → Stand → Option Pointer → Type 0
   Answers slots s None = (i : ℕ) → IsTrue (is_ahead s i) → entry_in slots i ≡ None
   Answers slots s (Some p) =
-      IsSome (look_up_in slots p) × IsTrue (is_ahead s p.0)
+      IsSome (look_up slots p) × IsTrue (is_ahead s p.0)
       × ((i : ℕ) → IsTrue (is_ahead s i) → IsTrue (is_before s i p.0) → entry_in slots i ≡ None)
 
   -- a step of an advancer over these slots, none of which is past the greatest index

@@ -2,7 +2,7 @@
 
 ghost use Rattle.std.specs.Prelude.{◌≡◌, ◌≢◌, ℕ, ◌+◌, ◌<◌, ◌↔◌, IsTrue, Some};
 ghost use Rattle.triple_arena_ptr.specs.Pointers.{Pointer};
-ghost use Rattle.triple_arena_traits.specs.Entries.{look_up_in, entry_count, ChangesAt};
+ghost use Rattle.triple_arena_traits.specs.Entries.{look_up, entry_count, ChangesAt};
 ghost use Rattle.triple_arena_traits.specs.DirectInsertion.{IsVacant, DirectInsertAnswer};
 
 use crate::arena_trait::ArenaTrait;
@@ -23,9 +23,9 @@ pub trait ArenaDirectInsertTrait<P: Ptr, T>: ArenaTrait<P, T> {
     fn direct_insert_reserved(&mut self, p: P, t: T)
         requires { IsVacant (Self.slots self.old) (Self.capacity self.old) (P.numbers p).0 }
         ensures inserted { self.new ≡ inserted_at self.old (P.numbers p) t }
-        ensures found { look_up_in (Self.slots self.new) (P.numbers p) ≡ Some t }
+        ensures found { look_up (Self.slots self.new) (P.numbers p) ≡ Some t }
         ensures others { (q : Pointer) → q ≢ P.numbers p
-            → look_up_in (Self.slots self.new) q ≡ look_up_in (Self.slots self.old) q }
+            → look_up (Self.slots self.new) q ≡ look_up (Self.slots self.old) q }
         ensures limit { Self.limit self.new ≡ Self.limit self.old }
         ensures capacity { Self.capacity self.new ≡ Self.capacity self.old };
 

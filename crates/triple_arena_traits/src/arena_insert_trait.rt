@@ -4,7 +4,7 @@ ghost use Rattle.std.specs.Prelude.{◌≡◌, ◌≢◌, ℕ, ◌+◌, ◌≤�
 ghost use Rattle.triple_arena_ptr.specs.Numbers.{greatest_index};
 ghost use Rattle.triple_arena_ptr.specs.Pointers.{Pointer};
 ghost use Rattle.triple_arena_stack.specs.Capacity.{IsFullAtLimit, CanGrow};
-ghost use Rattle.triple_arena_traits.specs.Entries.{entry_in, look_up_in, entry_count, ChangesAt, KeepsEntries};
+ghost use Rattle.triple_arena_traits.specs.Entries.{entry_in, look_up, entry_count, ChangesAt, KeepsEntries};
 ghost use Rattle.triple_arena_traits.specs.SlotSteps.{RisesByAtMost};
 ghost use Rattle.triple_arena_traits.specs.Histories.{insertion, Continues};
 
@@ -129,9 +129,9 @@ pub trait ArenaInsertTrait<P: Ptr, T>: ArenaTrait<P, T> {
             ↔ (entry_count (Self.slots self.old) < Self.capacity self.old) }
         ensures pointer { IfOk result (λ p. P.numbers p ≡ next self.old) }
         ensures free { IfOk result (λ p. entry_in (Self.slots self.old) (P.numbers p).0 ≡ None) }
-        ensures found { IfOk result (λ p. look_up_in (Self.slots self.new) (P.numbers p) ≡ Some t) }
+        ensures found { IfOk result (λ p. look_up (Self.slots self.new) (P.numbers p) ≡ Some t) }
         ensures others { IfOk result (λ p. (q : Pointer) → q.0 ≢ (P.numbers p).0
-            → look_up_in (Self.slots self.new) q ≡ look_up_in (Self.slots self.old) q) }
+            → look_up (Self.slots self.new) q ≡ look_up (Self.slots self.old) q) }
         ensures inserted { OnOk result (self.new ≡ inserted self.old t) }
         ensures refused { OnErr result (self.new ≡ self.old) }
         ensures valid { Self.valid self.old }
@@ -153,9 +153,9 @@ pub trait ArenaInsertTrait<P: Ptr, T>: ArenaTrait<P, T> {
         T: Drop,
         ensures pointer { IfOk result (λ p. P.numbers p ≡ next self.old) }
         ensures free { IfOk result (λ p. entry_in (Self.slots self.old) (P.numbers p).0 ≡ None) }
-        ensures found { IfOk result (λ p. look_up_in (Self.slots self.new) (P.numbers p) ≡ Some t) }
+        ensures found { IfOk result (λ p. look_up (Self.slots self.new) (P.numbers p) ≡ Some t) }
         ensures others { IfOk result (λ p. (q : Pointer) → q.0 ≢ (P.numbers p).0
-            → look_up_in (Self.slots self.new) q ≡ look_up_in (Self.slots self.old) q) }
+            → look_up (Self.slots self.new) q ≡ look_up (Self.slots self.old) q) }
         ensures inserted { OnOk result (self.new ≡ inserted (grown self.old) t) }
         ensures refused { OnErr result (self.new ≡ self.old) }
         ensures beyond { (result ≡ Err ReallocationError.BeyondMaxCapacity)

@@ -8,7 +8,7 @@ ghost use Rattle.triple_arena_ptr.specs.Pointers.{Pointer};
 ghost use Rattle.triple_arena_stack.specs.StackKind.{StackKind, new_room, new_limit, made_room, made_limit, CanHold, TakesNoMemory};
 ghost use Rattle.triple_arena_stack.specs.Capacity.{stack_capacity, IsWithin, IsBeyond};
 ghost use Rattle.triple_arena_traits.specs.SlotSteps.{RisesByAtMost};
-ghost use Rattle.triple_arena_traits.specs.Entries.{entry_in, look_up_in, entry_count, with_value_in, ChangesAt, KeepsEntries, IsFirst, IsLast};
+ghost use Rattle.triple_arena_traits.specs.Entries.{entry_in, look_up, entry_count, with_value_in, ChangesAt, KeepsEntries, IsFirst, IsLast};
 ghost use Rattle.triple_arena_traits.specs.Ending.{told, told_of, map_told};
 ghost use Rattle.triple_arena_traits.specs.Walks.{Stand, standing_at, IsAtFirst, keys};
 ghost use Rattle.triple_arena_traits.specs.Histories.{History, removal, invalidation, clearing, resizing, remains, CountsUp, Continues};
@@ -168,13 +168,13 @@ pub trait ArenaTrait<P: Ptr, T>: Sized {
 
     /// The value under `p`; none exactly where `p` is invalid.
     fn get(&self, p: P) -> Option<&T>
-        ensures value { option_copied result ≡ look_up_in (slots self.now) (P.numbers p) }
+        ensures value { option_copied result ≡ look_up (slots self.now) (P.numbers p) }
         ensures history { (h : History) → fits h self.now
             → is_some result ≡ remains h (P.numbers p) };
 
     /// The value under `p`, for writing; none exactly where `p` is invalid.
     fn get_mut(&mut self, p: P) -> Option<&mut T>
-        ensures value { option_copied_mut result ≡ look_up_in (slots self.old) (P.numbers p) }
+        ensures value { option_copied_mut result ≡ look_up (slots self.old) (P.numbers p) }
         ensures* writes_back { sem 𝓛 (LendsIf Self.row T.row self.entry result
             (with_value self.old (P.numbers p).0) self.old) }
         ensures history { (h : History) → fits h self.old
@@ -229,20 +229,20 @@ pub trait ArenaTrait<P: Ptr, T>: Sized {
     fn invalidate(&mut self, p: P) -> InvalidationResult<P>
         ensures answer { map_told P.numbers result ≡ told_of (ending_wraps self.old) (option_map
             (λ _. ((P.numbers p).0, renewed self.old (P.numbers p).0))
-            (look_up_in (slots self.old) (P.numbers p))) }
-        ensures done { IsSome (look_up_in (slots self.old) (P.numbers p))
+            (look_up (slots self.old) (P.numbers p))) }
+        ensures done { IsSome (look_up (slots self.old) (P.numbers p))
             → invalidates self.old (P.numbers p).0 self.new }
-        ensures found { IsSome (look_up_in (slots self.old) (P.numbers p))
-            → look_up_in (slots self.new) ((P.numbers p).0, renewed self.old (P.numbers p).0)
-            ≡ look_up_in (slots self.old) (P.numbers p) }
+        ensures found { IsSome (look_up (slots self.old) (P.numbers p))
+            → look_up (slots self.new) ((P.numbers p).0, renewed self.old (P.numbers p).0)
+            ≡ look_up (slots self.old) (P.numbers p) }
         ensures gone { renewed self.old (P.numbers p).0 ≢ (P.numbers p).1
-            → look_up_in (slots self.new) (P.numbers p) ≡ None }
+            → look_up (slots self.new) (P.numbers p) ≡ None }
         ensures others { (q : Pointer) → q.0 ≢ (P.numbers p).0
-            → look_up_in (slots self.new) q ≡ look_up_in (slots self.old) q }
-        ensures unchanged { look_up_in (slots self.old) (P.numbers p) ≡ None
+            → look_up (slots self.new) q ≡ look_up (slots self.old) q }
+        ensures unchanged { look_up (slots self.old) (P.numbers p) ≡ None
             → unchanged self.old self.new }
         ensures bounded { RisesByAtMost 6 (steps self.old) (steps self.new) }
-        ensures history { IsSome (look_up_in (slots self.old) (P.numbers p))
+        ensures history { IsSome (look_up (slots self.old) (P.numbers p))
             → CountsUp P.Gen.counting (ending_wraps self.old) → Continues fits self.old
             (invalidation (P.numbers p) ((P.numbers p).0, renewed self.old (P.numbers p).0) ∷ [])
             self.new };
@@ -253,16 +253,16 @@ pub trait ArenaTrait<P: Ptr, T>: Sized {
     /// `GenerationOverflow` exactly where it is valid and the counter wraps.
     fn remove(&mut self, p: P) -> InvalidationResult<T>
         ensures answer { result
-            ≡ told_of (ending_wraps self.old) (look_up_in (slots self.old) (P.numbers p)) }
-        ensures done { IsSome (look_up_in (slots self.old) (P.numbers p))
+            ≡ told_of (ending_wraps self.old) (look_up (slots self.old) (P.numbers p)) }
+        ensures done { IsSome (look_up (slots self.old) (P.numbers p))
             → removes self.old (P.numbers p).0 self.new }
-        ensures gone { look_up_in (slots self.new) (P.numbers p) ≡ None }
+        ensures gone { look_up (slots self.new) (P.numbers p) ≡ None }
         ensures others { (q : Pointer) → q ≢ P.numbers p
-            → look_up_in (slots self.new) q ≡ look_up_in (slots self.old) q }
-        ensures unchanged { look_up_in (slots self.old) (P.numbers p) ≡ None
+            → look_up (slots self.new) q ≡ look_up (slots self.old) q }
+        ensures unchanged { look_up (slots self.old) (P.numbers p) ≡ None
             → unchanged self.old self.new }
         ensures bounded { RisesByAtMost 6 (steps self.old) (steps self.new) }
-        ensures history { IsSome (look_up_in (slots self.old) (P.numbers p))
+        ensures history { IsSome (look_up (slots self.old) (P.numbers p))
             → CountsUp P.Gen.counting (ending_wraps self.old)
             → Continues fits self.old (removal (P.numbers p) ∷ []) self.new };
 
@@ -277,7 +277,7 @@ pub trait ArenaTrait<P: Ptr, T>: Sized {
             → removes self.old (P.Inx.number inx) self.new }
         ensures gone { entry_in (slots self.new) (P.Inx.number inx) ≡ None }
         ensures others { (q : Pointer) → q.0 ≢ P.Inx.number inx
-            → look_up_in (slots self.new) q ≡ look_up_in (slots self.old) q }
+            → look_up (slots self.new) q ≡ look_up (slots self.old) q }
         ensures unchanged { entry_in (slots self.old) (P.Inx.number inx) ≡ None
             → unchanged self.old self.new }
         ensures bounded { RisesByAtMost 6 (steps self.old) (steps self.new) }
@@ -293,7 +293,7 @@ pub trait ArenaTrait<P: Ptr, T>: Sized {
         T: Drop,
         ensures answer { result ≡ told (clearing_wraps self.old) tt }
         ensures done { clears self.old self.new }
-        ensures gone { (q : Pointer) → look_up_in (slots self.new) q ≡ None }
+        ensures gone { (q : Pointer) → look_up (slots self.new) q ≡ None }
         ensures history { CountsUp P.Gen.counting (clearing_wraps self.old)
             → Continues fits self.old (clearing (keys (slots self.old)) ∷ []) self.new };
 
@@ -420,7 +420,7 @@ pub trait ArenaTrait<P: Ptr, T>: Sized {
 
     /// Whether `p` is valid.
     final fn contains(&self, p: P) -> bool
-        ensures value { result ≡ is_some (look_up_in (slots self.now) (P.numbers p)) }
+        ensures value { result ≡ is_some (look_up (slots self.now) (P.numbers p)) }
         ensures history { (h : History) → fits h self.now → result ≡ remains h (P.numbers p) }
     {
         self.get(p).is_some()

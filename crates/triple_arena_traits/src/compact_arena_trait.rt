@@ -6,7 +6,7 @@ ghost use Rattle.std.specs.Option.{option_map};
 ghost use Rattle.triple_arena_ptr.specs.Numbers.{greatest_index};
 ghost use Rattle.triple_arena_ptr.specs.Pointers.{Pointer};
 ghost use Rattle.triple_arena_traits.specs.Items.{with_item};
-ghost use Rattle.triple_arena_traits.specs.Entries.{entry_in, look_up_in, entry_count};
+ghost use Rattle.triple_arena_traits.specs.Entries.{entry_in, look_up, entry_count};
 ghost use Rattle.triple_arena_traits.specs.Ending.{told};
 ghost use Rattle.triple_arena_traits.specs.Moves.{Moves};
 ghost use Rattle.triple_arena_traits.specs.Recasting.{written};
@@ -122,9 +122,9 @@ pub trait CompactArenaTrait<P: Ptr, T>: ArenaTrait<P, T> {
     final fn compress(&mut self, reset_generation: bool) -> InvalidationOption<()>
         ensures answer { result ≡ told (compression_wraps self.old reset_generation) tt }
         ensures done { compresses self.old reset_generation (values (Self.slots self.old)) self.new }
-        ensures found { (p : Pointer) → IsSome (look_up_in (Self.slots self.old) p)
-            → look_up_in (Self.slots self.new) (rank self.old reset_generation p)
-            ≡ look_up_in (Self.slots self.old) p }
+        ensures found { (p : Pointer) → IsSome (look_up (Self.slots self.old) p)
+            → look_up (Self.slots self.new) (rank self.old reset_generation p)
+            ≡ look_up (Self.slots self.old) p }
         ensures keys { keys (Self.slots self.new)
             ≡ map (rank self.old reset_generation) (keys (Self.slots self.old)) }
         ensures values { values (Self.slots self.new) ≡ values (Self.slots self.old) }

@@ -2,7 +2,7 @@
 
 ghost use Rattle.std.specs.Prelude.{◌≡◌, ◌≢◌, [], IfOk, OnErr};
 ghost use Rattle.triple_arena_stack.specs.Disjoint.{MayWork, Worked};
-ghost use Rattle.triple_arena_traits.specs.Entries.{entry_in, look_up_in};
+ghost use Rattle.triple_arena_traits.specs.Entries.{entry_in, look_up};
 ghost use Rattle.triple_arena_traits.specs.Histories.{Continues};
 ghost use Rattle.triple_arena_traits.specs.Disjoint.{DisjointPtrAnswer, DisjointInxAnswer, MayWorkAtEntries, WorkedAtEntries};
 
@@ -26,14 +26,14 @@ pub trait DisjointableArenaTrait<P: Ptr, T>: ArenaTrait<P, T> {
         f: F,
     ) -> Result<R, GetDisjointMutError>
         requires { (P.numbers first).0 ≢ (P.numbers second).0 → MayWork F.FnOnce f
-            (look_up_in (Self.slots self.old) (P.numbers first))
-            (look_up_in (Self.slots self.old) (P.numbers second)) }
+            (look_up (Self.slots self.old) (P.numbers first))
+            (look_up (Self.slots self.old) (P.numbers second)) }
         ensures variant { DisjointPtrAnswer (Self.slots self.old)
             (P.numbers first) (P.numbers second) result }
         ensures refused { OnErr result (self.new ≡ self.old) }
         ensures worked { IfOk result (λ r. Worked F.FnOnce f
-            (look_up_in (Self.slots self.old) (P.numbers first))
-            (look_up_in (Self.slots self.old) (P.numbers second))
+            (look_up (Self.slots self.old) (P.numbers first))
+            (look_up (Self.slots self.old) (P.numbers second))
             r (λ x y. self.new ≡ Self.with_value
             (Self.with_value self.old (P.numbers first).0 x) (P.numbers second).0 y)) }
         ensures history { Continues Self.fits self.old [] self.new };

@@ -6,8 +6,8 @@ ghost use Rattle.std.specs.List.{FoldsTo, range_with_len};
 ghost use Rattle.triple_arena_ptr.specs.Numbers.{raise, wraps};
 ghost use Rattle.triple_arena_ptr.specs.Pointers.{Pointer};
 ghost use Rattle.triple_arena_stack.specs.StackKind.{StackKind};
-ghost use Rattle.triple_arena_traits.specs.Entries.{entry_in, look_up_in, IsLast};
-ghost use Rattle.triple_arena_traits.specs.ArenaState.{ArenaState, new_arena, arena_len, capacity, entry, look_up, with_value, IsWellFormed};
+ghost use Rattle.triple_arena_traits.specs.Entries.{entry_in, look_up, IsLast};
+ghost use Rattle.triple_arena_traits.specs.ArenaState.{ArenaState, new_arena, arena_len, capacity, entry, with_value, IsWellFormed};
 ghost use Rattle.triple_arena_traits.specs.Insertion.{inserted};
 ghost use Rattle.triple_arena_traits.specs.Ending.{removed, invalidated, cleared};
 ghost use Rattle.triple_arena_traits.specs.FreeList.{IsRising, tidied, without_free_end, laid_out};
@@ -29,7 +29,7 @@ use triple_arena_ptr::Ptr;
 pub fn walk_in_order<T>()
     ensures rising { (slots : List (Option (ℕ × T))) → IsRising 1 (map (λ p. p.0) (keys slots)) }
     ensures all { (slots : List (Option (ℕ × T))) (p : Pointer)
-        → IsSome (look_up_in slots p) ↔ Contains (keys slots) p }
+        → IsSome (look_up slots p) ↔ Contains (keys slots) p }
     ensures last { (slots : List (Option (ℕ × T))) (p : Pointer) → IsLast slots p
         → (before : List Pointer) × (keys slots ≡ before ++ p ∷ []) }
 {}
@@ -162,10 +162,10 @@ pub fn recasts_are_fresh<I, T: Recast<I>>()
 pub fn compression_moves<T>()
     ensures onto { (s : ArenaState T) (counter : ℕ)
         → map (λ p. p.0) (map (rank s counter) (keys s.slots)) ≡ range_with_len 1 (arena_len s) }
-    ensures in_order { (s : ArenaState T) (counter : ℕ) (p q : Pointer) → IsSome (look_up s q)
+    ensures in_order { (s : ArenaState T) (counter : ℕ) (p q : Pointer) → IsSome (look_up s.slots q)
         → p.0 < q.0 → (rank s counter p).0 < (rank s counter q).0 }
-    ensures one_to_one { (s : ArenaState T) (counter : ℕ) (p q : Pointer) → IsSome (look_up s p)
-        → IsSome (look_up s q) → rank s counter p ≡ rank s counter q → p ≡ q }
+    ensures one_to_one { (s : ArenaState T) (counter : ℕ) (p q : Pointer) → IsSome (look_up s.slots p)
+        → IsSome (look_up s.slots q) → rank s counter p ≡ rank s counter q → p ≡ q }
     ensures pointers { (s : ArenaState T) (counter : ℕ) (new : List T) → length new ≡ arena_len s
         → keys (compressed s counter new).slots ≡ map (rank s counter) (keys s.slots) }
     ensures values { (s : ArenaState T) (counter : ℕ) (new : List T) → length new ≡ arena_len s

@@ -3,7 +3,7 @@ use Rattle.std.proofs.Common.{◌≡◌, ◌≢◌, ◌⊎◌, ℕ, List, [], Op
 use Rattle.std.proofs.lemmas.Bool.{cases_eq}
 use Rattle.std.specs.Option.{option_and_then}
 use Rattle.triple_arena_ptr.specs.Pointers.{Pointer}
-use Rattle.triple_arena_traits.specs.Entries.{look_up_in, value_under}
+use Rattle.triple_arena_traits.specs.Entries.{look_up, value_under}
 use Rattle.triple_arena_traits.specs.laws.ItemLaws.{joined, item_nil}
 use Rattle.triple_arena_traits.specs.laws.PointerListLaws.{pointer_is}
 use Rattle.triple_arena_direct_arena.specs.Mirrors.{IsMirror}
@@ -20,9 +20,9 @@ same_or_other q p =
 
 module _ {A B : Type 0} where
   -- what both lose under one pointer alone
-  pub same_removed : (es es' : List (Option (ℕ × A))) (ns ns' : List (Option (ℕ × B))) (p : Pointer) → IsMirror es ns → look_up_in es' p ≡ None → look_up_in ns' p ≡ None → ((q : Pointer) → q ≢ p → look_up_in es' q ≡ look_up_in es q) → ((q : Pointer) → q ≢ p → look_up_in ns' q ≡ look_up_in ns q) → IsMirror es' ns'
+  pub same_removed : (es es' : List (Option (ℕ × A))) (ns ns' : List (Option (ℕ × B))) (p : Pointer) → IsMirror es ns → look_up es' p ≡ None → look_up ns' p ≡ None → ((q : Pointer) → q ≢ p → look_up es' q ≡ look_up es q) → ((q : Pointer) → q ≢ p → look_up ns' q ≡ look_up ns q) → IsMirror es' ns'
   same_removed es es' ns ns' p same gone gone' others others' q =
       elim (same_or_other q p) [
-        | inl here ↦ ap is_some (ap (look_up_in ns') here ∙ gone') ∙ sym (ap is_some (ap (look_up_in es') here ∙ gone))
+        | inl here ↦ ap is_some (ap (look_up ns') here ∙ gone') ∙ sym (ap is_some (ap (look_up es') here ∙ gone))
         | inr other ↦ ap is_some (others' q other) ∙ same q ∙ sym (ap is_some (others q other))
       ]

@@ -9,7 +9,7 @@ use Rattle.triple_arena_base.specs.declared.invalidation.InvalidationResult.{Inv
 use Rattle.triple_arena_base.specs.declared.invalidation.InvalidationResult.TheVariants.{Success, GenerationOverflow, InvalidPtr}
 use Rattle.triple_arena_base.specs.Invalidation.{as_option, allowed_option}
 use Rattle.triple_arena_ptr.specs.Pointers.{Pointer}
-use Rattle.triple_arena_traits.specs.Entries.{entry_in, look_up_in, ChangesAt}
+use Rattle.triple_arena_traits.specs.Entries.{entry_in, look_up, ChangesAt}
 use Rattle.triple_arena_traits.specs.Ending.{told_of, map_told}
 use Rattle.triple_arena_traits.specs.FreeList.{IsRising}
 use Rattle.triple_arena_traits.specs.Walks.{Stand, Steps, Walk, IsAtFirst}
@@ -62,12 +62,12 @@ module _ {T : Type 0} where
       subst (λ is. Contains is i) so_far.answers (walk_sees greatest so_far.from so_far.turns b slots a i (so_far.first.all i live) so_far.walk s (so_far.lived i live) (so_far.live i live))
 
   -- pointers of lower indexes than one that was renewed stay valid
-  pub still_valid : {P : Type 0} (numbers : P → Pointer) (slots left : List (Option (ℕ × T))) (low : ℕ) (all : List P) (new : P) → IsRising low (map (λ p. (numbers p).0) all ++ (numbers new).0 ∷ []) → All (λ p. IsSome (look_up_in slots (numbers p))) all → ((q : Pointer) → q.0 ≢ (numbers new).0 → look_up_in left q ≡ look_up_in slots q) → IsSome (look_up_in left (numbers new)) → All (λ p. IsSome (look_up_in left (numbers p))) (all ++ new ∷ [])
-  still_valid numbers slots left low [] new rising valid others now = All-cons (λ p. IsSome (look_up_in left (numbers p))) new [] now (All-nil (λ p. IsSome (look_up_in left (numbers p))))
+  pub still_valid : {P : Type 0} (numbers : P → Pointer) (slots left : List (Option (ℕ × T))) (low : ℕ) (all : List P) (new : P) → IsRising low (map (λ p. (numbers p).0) all ++ (numbers new).0 ∷ []) → All (λ p. IsSome (look_up slots (numbers p))) all → ((q : Pointer) → q.0 ≢ (numbers new).0 → look_up left q ≡ look_up slots q) → IsSome (look_up left (numbers new)) → All (λ p. IsSome (look_up left (numbers p))) (all ++ new ∷ [])
+  still_valid numbers slots left low [] new rising valid others now = All-cons (λ p. IsSome (look_up left (numbers p))) new [] now (All-nil (λ p. IsSome (look_up left (numbers p))))
   still_valid numbers slots left low (p ∷ all) new rising valid others now =
       let below = rises_below ((numbers p).0 + 1) (map (λ q. (numbers q).0) all) (numbers new).0 rising.1 in
       let other : (numbers p).0 ≢ (numbers new).0 = λ e. absurd (omega (arith, below, e)) in
-      All-cons (λ q. IsSome (look_up_in left (numbers q))) p (all ++ new ∷ []) (subst IsSome (sym (others (numbers p) other)) (valid zero p (omega arith)))
+      All-cons (λ q. IsSome (look_up left (numbers q))) p (all ++ new ∷ []) (subst IsSome (sym (others (numbers p) other)) (valid zero p (omega arith)))
       (still_valid numbers slots left ((numbers p).0 + 1) all new rising.1 (λ k d within. valid (suc k) d (omega (arith, within))) others now)
 
   -- an entry that gets another generation stays

@@ -1,7 +1,7 @@
 //! A book of guests, which names each by a pointer that it never gave before.
 
 ghost use Rattle.std.specs.Prelude.{◌≡◌, ◌++◌, ◌∷◌, ◌&&◌, ◌||◌, [], false, map, None, Some, is_some, IfOk, OnErr, option_copied};
-ghost use Rattle.triple_arena_traits.specs.ArenaState.{look_up};
+ghost use Rattle.triple_arena_traits.specs.Entries.{look_up};
 ghost use Rattle.triple_arena_traits.specs.Histories.{has, AreDistinct};
 ghost use Rattle.triple_arena_uses.specs.Entities.{numbers};
 ghost use Rattle.triple_arena_uses.specs.Guests.{BookState, is_before_wrap};
@@ -63,7 +63,7 @@ impl GuestBook {
     pub fn arrive(&mut self, guest: u32) -> Result<P0, ReallocationError>
         ensures new { self.old.wrapped ≡ false
             → IfOk result (λ p. has self.old.came (numbers p) ≡ false) }
-        ensures found { IfOk result (λ p. look_up self.new.guests (numbers p) ≡ Some guest) }
+        ensures found { IfOk result (λ p. look_up self.new.guests.slots (numbers p) ≡ Some guest) }
         ensures came { IfOk result (λ p. self.new.came ≡ self.old.came ++ numbers p ∷ []) }
         ensures refused { OnErr result (self.new ≡ self.old) }
         ensures wrapped { self.new.wrapped ≡ self.old.wrapped }
@@ -79,8 +79,8 @@ impl GuestBook {
     /// A guest leaves, if there is one of this pointer. The pointer stays in the book. The counter
     /// wraps where it stood at the greatest generation, and only there.
     pub fn leave(&mut self, p: P0) -> Option<u32>
-        ensures guest { result ≡ look_up self.old.guests (numbers p) }
-        ensures gone { look_up self.new.guests (numbers p) ≡ None }
+        ensures guest { result ≡ look_up self.old.guests.slots (numbers p) }
+        ensures gone { look_up self.new.guests.slots (numbers p) ≡ None }
         ensures came { self.new.came ≡ self.old.came }
         ensures wrapped { self.new.wrapped
             ≡ self.old.wrapped || (is_some result && is_before_wrap self.old) }
@@ -97,7 +97,7 @@ impl GuestBook {
 
     /// The guest of a pointer, who is there exactly if he came and has not left.
     pub fn get(&self, p: P0) -> Option<&u32>
-        ensures { option_copied result ≡ look_up self.now.guests (numbers p) }
+        ensures { option_copied result ≡ look_up self.now.guests.slots (numbers p) }
     {
         self.guests.get(p)
     }

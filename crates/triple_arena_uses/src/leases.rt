@@ -2,7 +2,8 @@
 
 ghost use Rattle.std.specs.Prelude.{◌≡◌, ◌≢◌, ◌<◌, ◌+◌, None, Some, IsOk, IfOk, OnOk, OnErr, option_copied};
 ghost use Rattle.triple_arena_ptr.specs.Pointers.{Pointer};
-ghost use Rattle.triple_arena_traits.specs.ArenaState.{look_up, arena_len, capacity};
+ghost use Rattle.triple_arena_traits.specs.Entries.{look_up};
+ghost use Rattle.triple_arena_traits.specs.ArenaState.{arena_len, capacity};
 ghost use Rattle.triple_arena_traits.specs.SlotSteps.{RisesByAtMost, IsTouched};
 ghost use Rattle.triple_arena_direct.specs.Gone.{IsGoneForGood};
 ghost use Rattle.triple_arena_direct.specs.Strict.{strict_of};
@@ -42,7 +43,7 @@ impl Model for Leases {
 impl Leases {
     /// A registry without leases.
     pub fn new(alloc: Global) -> Self
-        ensures empty { (q : Pointer) → look_up result q ≡ None }
+        ensures empty { (q : Pointer) → look_up result.slots q ≡ None }
         ensures counter { result.counter ≡ 2 }
     {
         Leases {
@@ -56,12 +57,12 @@ impl Leases {
     /// nothing changes.
     pub fn issue(&mut self, lease: Lease) -> Result<Ticket, ReallocationError>
         ensures found { IfOk result
-            (λ ticket. look_up self.new (numbers ticket) ≡ Some lease) }
-        ensures free { IfOk result (λ ticket. look_up self.old (numbers ticket) ≡ None) }
+            (λ ticket. look_up self.new.slots (numbers ticket) ≡ Some lease) }
+        ensures free { IfOk result (λ ticket. look_up self.old.slots (numbers ticket) ≡ None) }
         ensures new { IfOk result
             (λ ticket. (q : Pointer) → IsGoneForGood self.old q → numbers ticket ≢ q) }
         ensures others { IfOk result (λ ticket. (q : Pointer) → q ≢ numbers ticket
-            → look_up self.new q ≡ look_up self.old q) }
+            → look_up self.new.slots q ≡ look_up self.old.slots q) }
         ensures stays_gone { (q : Pointer) → IsGoneForGood self.old q → IsGoneForGood self.new q }
         ensures counter { self.new.counter ≡ self.old.counter }
         ensures had_place { arena_len self.old < capacity self.old → IsOk result }
@@ -72,7 +73,7 @@ impl Leases {
 
     /// The lease of a ticket; none exactly where it has ended, or the ticket was never issued.
     pub fn redeem(&self, ticket: Ticket) -> Option<&Lease>
-        ensures { option_copied result ≡ look_up self.now (numbers ticket) }
+        ensures { option_copied result ≡ look_up self.now.slots (numbers ticket) }
     {
         self.leases.get(ticket)
     }
@@ -84,10 +85,10 @@ impl Leases {
     /// again (`are_used_up`). Then nothing changes but how many slots were touched.
     pub fn revoke(&mut self, ticket: Ticket) -> Result<Lease, StrictError>
         ensures answer { result
-            ≡ strict_of (are_used_up self.old) (look_up self.old (numbers ticket)) }
+            ≡ strict_of (are_used_up self.old) (look_up self.old.slots (numbers ticket)) }
         ensures gone_for_good { OnOk result (IsGoneForGood self.new (numbers ticket)) }
         ensures others { (q : Pointer) → q ≢ numbers ticket
-            → look_up self.new q ≡ look_up self.old q }
+            → look_up self.new.slots q ≡ look_up self.old.slots q }
         ensures stays_gone { (q : Pointer) → IsGoneForGood self.old q → IsGoneForGood self.new q }
         ensures counter { OnOk result (self.new.counter ≡ self.old.counter + 1) }
         ensures refused { OnErr result (IsTouched self.old self.new) }

@@ -8,7 +8,8 @@ ghost use Rattle.std.specs.Result.{IfErr};
 ghost use Rattle.triple_arena_base.specs.Held.{held_all};
 ghost use Rattle.triple_arena_base.specs.Invalidation.{allowed_option};
 ghost use Rattle.triple_arena_ptr.specs.Pointers.{Pointer};
-ghost use Rattle.triple_arena_traits.specs.ArenaState.{look_up, arena_len};
+ghost use Rattle.triple_arena_traits.specs.Entries.{look_up};
+ghost use Rattle.triple_arena_traits.specs.ArenaState.{arena_len};
 ghost use Rattle.triple_arena_traits.specs.Walks.{values};
 ghost use Rattle.triple_arena_direct.specs.Renaming.{MapsPointers, first_unresolved, Refuses};
 ghost use Rattle.triple_arena_uses.specs.Netlist.{wires, rewired};
@@ -38,7 +39,7 @@ impl<P: Ptr, G: Recast<P>> Model for Netlist<P, G> {
 impl<P: Ptr, G: Recast<P>> Netlist<P, G> {
     /// A netlist without gates.
     pub fn new(alloc: Global) -> Self
-        ensures { (q : Pointer) → look_up result q ≡ None }
+        ensures { (q : Pointer) → look_up result.slots q ≡ None }
     {
         Netlist {
             gates: Arena::new(alloc),
@@ -49,9 +50,9 @@ impl<P: Ptr, G: Recast<P>> Netlist<P, G> {
     pub fn add(&mut self, gate: G) -> Result<P, ReallocationError>
     where
         G: Drop,
-        ensures found { IfOk result (λ p. look_up self.new (P.numbers p) ≡ Some gate) }
+        ensures found { IfOk result (λ p. look_up self.new.slots (P.numbers p) ≡ Some gate) }
         ensures others { IfOk result (λ p. (q : Pointer) → q.0 ≢ (P.numbers p).0
-            → look_up self.new q ≡ look_up self.old q) }
+            → look_up self.new.slots q ≡ look_up self.old.slots q) }
         ensures refused { OnErr result (self.new ≡ self.old) }
     {
         self.gates.insert(gate)
@@ -59,17 +60,17 @@ impl<P: Ptr, G: Recast<P>> Netlist<P, G> {
 
     /// Takes a gate away, with the wires from it.
     pub fn remove(&mut self, p: P) -> Option<G>
-        ensures answer { result ≡ look_up self.old (P.numbers p) }
-        ensures gone { look_up self.new (P.numbers p) ≡ None }
+        ensures answer { result ≡ look_up self.old.slots (P.numbers p) }
+        ensures gone { look_up self.new.slots (P.numbers p) ≡ None }
         ensures others { (q : Pointer) → q ≢ P.numbers p
-            → look_up self.new q ≡ look_up self.old q }
+            → look_up self.new.slots q ≡ look_up self.old.slots q }
     {
         self.gates.remove(p).allow()
     }
 
     /// The gate under a pointer.
     pub fn get(&self, p: P) -> Option<&G>
-        ensures { option_copied result ≡ look_up self.now (P.numbers p) }
+        ensures { option_copied result ≡ look_up self.now.slots (P.numbers p) }
     {
         self.gates.get(p)
     }

@@ -6,7 +6,7 @@
 ghost use Rattle.std.specs.Prelude.{◌≡◌, ◌≢◌, ◌<◌, ◌≤◌, None, Some, IsOk, IfOk, OnErr, is_some};
 ghost use Rattle.triple_arena_ptr.specs.Pointers.{Pointer};
 ghost use Rattle.triple_arena_traits.specs.ArenaState.{arena_len, capacity};
-ghost use Rattle.triple_arena_traits.specs.Entries.{look_up_in};
+ghost use Rattle.triple_arena_traits.specs.Entries.{look_up};
 ghost use Rattle.triple_arena_traits.specs.Insertion.{next_pointer};
 ghost use Rattle.triple_arena_direct_arena.specs.DirectState.{direct_capacity};
 ghost use Rattle.triple_arena_uses.specs.Entities.{numbers};
@@ -42,7 +42,7 @@ impl Model for NotedEntities {
 impl NotedEntities {
     /// Room for so many entities, and as many notes.
     pub fn with_room(alloc: Global, room: usize) -> Result<Self, AllocError>
-        ensures { IfOk result (λ table. (q : Pointer) → look_up_in table.notes.slots q ≡ None) }
+        ensures { IfOk result (λ table. (q : Pointer) → look_up table.notes.slots q ≡ None) }
     {
         let entities = Arena::with_min_capacity(alloc, room)?;
         let notes = DirectArena::with_min_capacity(alloc, room)?;
@@ -54,9 +54,9 @@ impl NotedEntities {
     /// Refused only where there is no room for one of the two; then nothing changes.
     pub fn spawn(&mut self, health: u32, note: u64) -> Result<P0, NotWithinCapacityError>
         ensures noted { IfOk result
-            (λ p. look_up_in self.new.notes.slots (numbers p) ≡ Some note) }
+            (λ p. look_up self.new.notes.slots (numbers p) ≡ Some note) }
         ensures others { IfOk result (λ p. (q : Pointer) → q ≢ numbers p
-            → look_up_in self.new.notes.slots q ≡ look_up_in self.old.notes.slots q) }
+            → look_up self.new.notes.slots q ≡ look_up self.old.notes.slots q) }
         ensures refused { OnErr result (self.new ≡ self.old) }
         ensures succeeds { arena_len self.old.entities < capacity self.old.entities
             → (next_pointer self.old.entities).0 ≤ direct_capacity self.old.notes → IsOk result }
@@ -79,10 +79,10 @@ impl NotedEntities {
 
     /// Takes an entity away, and its note, which it gives; none where there is no such entity.
     pub fn despawn(&mut self, p: P0) -> Option<u64>
-        ensures answer { result ≡ look_up_in self.old.notes.slots (numbers p) }
-        ensures gone { look_up_in self.new.notes.slots (numbers p) ≡ None }
+        ensures answer { result ≡ look_up self.old.notes.slots (numbers p) }
+        ensures gone { look_up self.new.notes.slots (numbers p) ≡ None }
         ensures others { (q : Pointer) → q ≢ numbers p
-            → look_up_in self.new.notes.slots q ≡ look_up_in self.old.notes.slots q }
+            → look_up self.new.notes.slots q ≡ look_up self.old.notes.slots q }
     {
         drop(self.entities.remove(p));
         self.notes.remove(p).allow()
@@ -90,9 +90,9 @@ impl NotedEntities {
 
     /// The note on an entity; none exactly where there is no such entity.
     pub fn note(&self, p: P0) -> Option<u64>
-        ensures value { result ≡ look_up_in self.now.notes.slots (numbers p) }
+        ensures value { result ≡ look_up self.now.notes.slots (numbers p) }
         ensures exactly { is_some result
-            ≡ is_some (look_up_in self.now.entities.slots (numbers p)) }
+            ≡ is_some (look_up self.now.entities.slots (numbers p)) }
     {
         self.notes.get(p).copied()
     }

@@ -1,7 +1,7 @@
 //! Walks over any compact arena: its entries counted, collected, changed, renewed and taken out.
 
 ghost use Rattle.std.specs.Prelude.{◌≡◌, ◌+◌, ◌%◌, ◌^◌, ℕ, All, Contains, IfOk, IsSome, map};
-ghost use Rattle.triple_arena_traits.specs.Entries.{entry_in, look_up_in, entry_count};
+ghost use Rattle.triple_arena_traits.specs.Entries.{entry_in, look_up, entry_count};
 ghost use Rattle.triple_arena_traits.specs.FreeList.{IsRising};
 ghost use Rattle.triple_arena_traits.specs.Walks.{entries, keys};
 
@@ -73,7 +73,7 @@ pub fn renew_all<P: Ptr, T, A: CompactArenaTrait<P, T>>(
     ensures all { IfOk result (λ all. (i : ℕ) → IsSome (entry_in (A.slots arena.old) i)
         → Contains (map (λ p. (P.numbers p).0) all.items) i) }
     ensures valid { IfOk result (λ all.
-        All (λ p. IsSome (look_up_in (A.slots arena.new) (P.numbers p))) all.items) }
+        All (λ p. IsSome (look_up (A.slots arena.new) (P.numbers p))) all.items) }
 {
     let mut all = Vec::new(alloc);
     let mut advancer = arena.advancer();

@@ -2,7 +2,8 @@
 
 ghost use Rattle.std.specs.Prelude.{◌≡◌, IsTrue, IsSome, [], ◌∷◌, false};
 ghost use Rattle.triple_arena_ptr.specs.Pointers.{Pointer};
-ghost use Rattle.triple_arena_traits.specs.ArenaState.{ArenaState, look_up};
+ghost use Rattle.triple_arena_traits.specs.Entries.{look_up};
+ghost use Rattle.triple_arena_traits.specs.ArenaState.{ArenaState};
 ghost use Rattle.triple_arena_traits.specs.Histories.{History, has, ended, remains, removal, invalidation, Fits, Continues};
 
 /// An arena may be made to leave anything, and its own clauses to say so: the clause `history` can't
@@ -13,7 +14,7 @@ pub fn wrong_steps_are_stale<T>()
     ensures removal { (h : History) (s t : ArenaState T) (p : Pointer) → Fits h s
         → p.1 ≡ s.counter → t.counter ≡ s.counter → Continues Fits s (removal p ∷ []) t → ⊥ }
     ensures invalidation { (h : History) (s t : ArenaState T) (p : Pointer) → Fits h s
-        → IsSome (look_up s p) → Continues Fits s (invalidation p p ∷ []) t → ⊥ }
+        → IsSome (look_up s.slots p) → Continues Fits s (invalidation p p ∷ []) t → ⊥ }
     ensures look_up { (h : History) (p : Pointer) → IsTrue (has (ended h) p)
         → remains h p ≡ false }
 {}

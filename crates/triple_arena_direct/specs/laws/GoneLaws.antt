@@ -2,7 +2,8 @@
 use Rattle.std.proofs.Common.{◌≡◌, ◌<◌, ◌≤◌, ◌&&◌, ◌||◌, Bool, true, false, not, List, [], ◌∷◌, ◌++◌, Option, Some, None, is_some, refl, sym, ap, ◌∙◌, arith, true≢false}
 use Rattle.std.proofs.lemmas.Bool.{and_parts}
 use Rattle.triple_arena_ptr.specs.Pointers.{Pointer, is_same}
-use Rattle.triple_arena_traits.specs.ArenaState.{ArenaState, arena_len, look_up}
+use Rattle.triple_arena_traits.specs.Entries.{look_up}
+use Rattle.triple_arena_traits.specs.ArenaState.{ArenaState, arena_len}
 use Rattle.triple_arena_traits.specs.Walks.{keys}
 use Rattle.triple_arena_traits.specs.Histories.{has, ModelCall, removal, ended_by, History, begun_with, and_then, given, ended, followed_by, is_live, Fits, Continues}
 use Rattle.triple_arena_traits.specs.laws.HistoryLaws.{Fits-keys, Fits-empty, gone_for_good}
@@ -34,11 +35,11 @@ module _ {T : Type 0} where
 
   -- and what has ended in it is gone for good
   gone-fits : (h : History) (s : ArenaState T) → Fits h s → (p : Pointer) → has (ended h) p ≡ true → IsGoneForGood s p
-  gone-fits h s fits p e = (none_of (look_up s p) (gone_for_good h [] s p e fits), fits.ended_before p e)
+  gone-fits h s fits p e = (none_of (look_up s.slots p) (gone_for_good h [] s p e fits), fits.ended_before p e)
 
   -- without entries, each pointer of a generation below the counter is gone for good
   pub gone-below : (s : ArenaState T) (p : Pointer) → arena_len s ≡ 0 → p.1 < s.counter → IsGoneForGood s p
-  gone-below s p none below = (none_of (look_up s p) ((Fits-empty s none).live p), below)
+  gone-below s p none below = (none_of (look_up s.slots p) ((Fits-empty s none).live p), below)
 
   -- the history of an arena's own pointers, and of one more that is gone for good
   Fits-gone : (s : ArenaState T) (p : Pointer) → IsUpToCounter s → IsGoneForGood s p → Fits (and_then (begun_with (p ∷ keys s.slots)) (removal p)) s

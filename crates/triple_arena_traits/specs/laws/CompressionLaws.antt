@@ -9,7 +9,7 @@ use Rattle.triple_arena_ptr.specs.Pointers.{Pointer}
 use Rattle.std.specs.Option.{option_map}
 use Rattle.triple_arena_traits.specs.Items.{with_item}
 use Rattle.triple_arena_traits.specs.laws.ItemLaws.{joined}
-use Rattle.triple_arena_traits.specs.Entries.{entry_in, look_up_in, entry_count, with_value_in}
+use Rattle.triple_arena_traits.specs.Entries.{entry_in, look_up, entry_count, with_value_in}
 use Rattle.triple_arena_traits.specs.ArenaState.{ArenaState, with_value}
 use Rattle.triple_arena_traits.specs.Walks.{entries_from, keys_of, values_of, entries, keys, values}
 use Rattle.triple_arena_traits.specs.laws.WalkLaws.{length-entries, found}
@@ -141,7 +141,7 @@ module _ {T : Type 0} where
       omega (arith, later, sum_by-cons one x (take i xs), sum_by-cons one x (take (suc k) xs))
 
   -- no two entries have one number
-  pub rank_apart : (slots : List (Option (ℕ × T))) (p q : Pointer) → IsSome (look_up_in slots p) → IsSome (look_up_in slots q) → rank_among slots p.0 ≡ rank_among slots q.0 → p ≡ q
+  pub rank_apart : (slots : List (Option (ℕ × T))) (p q : Pointer) → IsSome (look_up slots p) → IsSome (look_up slots q) → rank_among slots p.0 ≡ rank_among slots q.0 → p ≡ q
   rank_apart slots p q live live' same =
       let f = found slots p live in
       let f' = found slots q live' in

@@ -6,8 +6,8 @@ use Rattle.triple_arena_ptr.specs.Numbers.{raise, wraps}
 use Rattle.triple_arena_ptr.specs.Pointers.{Pointer, is_same}
 use Rattle.triple_arena_stack.specs.StackKind.{StackKind}
 use Rattle.triple_arena_traits.specs.laws.ItemLaws.{joined, eq_true, eq_false}
-use Rattle.triple_arena_traits.specs.Entries.{entry_in, KeepsEntries}
-use Rattle.triple_arena_traits.specs.ArenaState.{ArenaState, entry, look_up, arena_len, capacity, with_value, IsWellFormed}
+use Rattle.triple_arena_traits.specs.Entries.{entry_in, KeepsEntries, look_up}
+use Rattle.triple_arena_traits.specs.ArenaState.{ArenaState, entry, arena_len, capacity, with_value, IsWellFormed}
 use Rattle.triple_arena_traits.specs.Insertion.{place, next_pointer, inserted}
 use Rattle.triple_arena_traits.specs.SlotSteps.{IsTouched}
 use Rattle.triple_arena_traits.specs.Ending.{removed, invalidated, cleared}
@@ -175,7 +175,7 @@ module _ {T : Type 0} where
     Continues-refilled s items = Continues-none s (record s { slots = refill_slots held refill s.slots items }) (λ p. refilled_live p.1 s.slots items p.0) (omega arith)
 
   -- a pointer finds something exactly if it was given and has not ended
-  pub found_as_given : (s : ArenaState T) (p : Pointer) (value : Option T) → value ≡ look_up s p → (h : History) → Fits h s → is_some value ≡ remains h p
+  pub found_as_given : (s : ArenaState T) (p : Pointer) (value : Option T) → value ≡ look_up s.slots p → (h : History) → Fits h s → is_some value ≡ remains h p
   found_as_given s p value is h fits = ap is_some is ∙ fits.live p
 
   pub moves-resized : (s t : ArenaState T) → KeepsEntries s.slots t.slots → t.counter ≡ s.counter → MovesPointers s [] [] t
@@ -431,7 +431,7 @@ up false greatest n counts = absurd (true≢false (sym counts.0))
 
 module _ {T : Type 0} (counting : Bool) (greatest : ℕ) (s t : ArenaState T) where
   -- the same as the calls state it
-  pub Continues-removed : (p : Pointer) → CountsUp counting (wraps counting greatest s.counter) → IsSome (look_up s p) → t ≡ removed (raise counting greatest) s p.0 → Continues Fits s (removal p ∷ []) t
+  pub Continues-removed : (p : Pointer) → CountsUp counting (wraps counting greatest s.counter) → IsSome (look_up s.slots p) → t ≡ removed (raise counting greatest) s p.0 → Continues Fits s (removal p ∷ []) t
   Continues-removed p counts live is =
       Continues-moved s t (removal p) (rw is (moves-removed (raise counting greatest) s p (up counting greatest s.counter counts) live))
 
@@ -439,7 +439,7 @@ module _ {T : Type 0} (counting : Bool) (greatest : ℕ) (s t : ArenaState T) wh
   Continues-removed_inx i generation value here counts is =
       Continues-removed (i, generation) counts (rw (here, eq_true generation generation refl) refl) (is (rw here refl))
 
-  pub Continues-invalidated : (p : Pointer) → CountsUp counting (wraps counting greatest s.counter) → IsSome (look_up s p) → t ≡ invalidated (raise counting greatest) s p.0 → Continues Fits s (invalidation p (p.0, raise counting greatest s.counter) ∷ []) t
+  pub Continues-invalidated : (p : Pointer) → CountsUp counting (wraps counting greatest s.counter) → IsSome (look_up s.slots p) → t ≡ invalidated (raise counting greatest) s p.0 → Continues Fits s (invalidation p (p.0, raise counting greatest s.counter) ∷ []) t
   Continues-invalidated p counts live is =
       Continues-moved s t (invalidation p (p.0, raise counting greatest s.counter)) (rw is (moves-invalidated (raise counting greatest) s p (up counting greatest s.counter counts) live))
 

@@ -4,7 +4,7 @@ use Rattle.std.proofs.lemmas.List.{length-map}
 use Rattle.std.proofs.lemmas.Option.{slice_get-map}
 use Rattle.triple_arena_ptr.specs.Pointers.{Pointer}
 use Rattle.triple_arena_traits.specs.laws.ItemLaws.{joined, eq_true}
-use Rattle.triple_arena_traits.specs.Entries.{entry_in, look_up_in, entry_count}
+use Rattle.triple_arena_traits.specs.Entries.{entry_in, look_up, entry_count}
 use Rattle.triple_arena_traits.specs.Walks.{entries_from, entries, keys_of, values_of, keys, values}
 use Rattle.triple_arena_traits.specs.laws.WalkLaws.{found, slot_at, slot_of, length-entries}
 use Rattle.triple_arena_traits.specs.Compression.{rank}
@@ -36,7 +36,7 @@ module _ {T : Type 0} where
       let later = nth_of (at + 1) xs i j e (omega (arith, place)) found in
       (suc later.0, later.1, later.2)
 
-  pub nth_found : (slots : List (Option (ℕ × T))) (p : Pointer) → IsSome (look_up_in slots p) → (v : T) × (k : ℕ) × (look_up_in slots p ≡ Some v) × (slice_get (keys slots) k ≡ Some p) × (slice_get (values slots) k ≡ Some v)
+  pub nth_found : (slots : List (Option (ℕ × T))) (p : Pointer) → IsSome (look_up slots p) → (v : T) × (k : ℕ) × (look_up slots p ≡ Some v) × (slice_get (keys slots) k ≡ Some p) × (slice_get (values slots) k ≡ Some v)
   nth_found slots p live =
       let f = found slots p live in
       let slot = slot_at slots p.0 (p.1, f.value) f.entry in
@@ -57,14 +57,14 @@ module _ {T : Type 0} where
       (suc later.0, omega (arith, later.1), later.2)
 
   -- what is found under the k-th pointer is the k-th value
-  pub found_nth : (slots : List (Option (ℕ × T))) (k : ℕ) (p : Pointer) (v : T) → slice_get (keys slots) k ≡ Some p → slice_get (values slots) k ≡ Some v → look_up_in slots p ≡ Some v
+  pub found_nth : (slots : List (Option (ℕ × T))) (k : ℕ) (p : Pointer) (v : T) → slice_get (keys slots) k ≡ Some p → slice_get (values slots) k ≡ Some v → look_up slots p ≡ Some v
   found_nth slots k p v key value =
       let slot = at_nth 1 slots k p v key value in
       let entry : entry_in slots p.0 ≡ Some (p.1, v) = slot_of slots p.0 slot.0 slot.1 ∙ ap joined slot.2 in
       rw (entry, eq_true p.1 p.1 refl) refl
 
   -- where the pointers are renamed and the values are the same, each value is found under the new pointer
-  pub found_renamed : (old new : List (Option (ℕ × T))) (rename : Pointer → Pointer) → keys new ≡ map rename (keys old) → values new ≡ values old → (p : Pointer) → IsSome (look_up_in old p) → look_up_in new (rename p) ≡ look_up_in old p
+  pub found_renamed : (old new : List (Option (ℕ × T))) (rename : Pointer → Pointer) → keys new ≡ map rename (keys old) → values new ≡ values old → (p : Pointer) → IsSome (look_up old p) → look_up new (rename p) ≡ look_up old p
   found_renamed old new rename ks vs p live =
       let nth = nth_found old p live in
       found_nth new nth.1 (rename p) nth.0

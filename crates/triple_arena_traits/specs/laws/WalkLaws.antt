@@ -7,7 +7,7 @@ use Rattle.std.specs.Option.{option_map, option_and_then}
 use Rattle.triple_arena_ptr.specs.Pointers.{Pointer}
 use Rattle.triple_arena_traits.specs.Items.{item}
 use Rattle.triple_arena_traits.specs.laws.ItemLaws.{joined, item_within, eq_true, eq_false}
-use Rattle.triple_arena_traits.specs.Entries.{entry_in, look_up_in, value_under, entry_count, ChangesAt, with_value_in, IsFirst, IsLast}
+use Rattle.triple_arena_traits.specs.Entries.{entry_in, look_up, value_under, entry_count, ChangesAt, with_value_in, IsFirst, IsLast}
 use Rattle.triple_arena_traits.specs.laws.EntryLaws.{changes_at}
 use Rattle.triple_arena_traits.specs.FreeList.{IsRising}
 use Rattle.triple_arena_traits.specs.Walks.{Stand, place_of, is_ahead, moved, steps_left, Answers, Steps, IsAtFirst, IsBeforeAll, Walk, put_entry, entries_where, entries_from, entries, entries_ahead, entries_behind, keys_of, keys, keys_ahead}
@@ -245,7 +245,7 @@ module _ {T : Type 0} where
   pub record Found (slots : List (Option (ℕ × T))) (p : Pointer) : Type 0 where
     pub value : T
     pub entry : entry_in slots p.0 ≡ Some (p.1, value)
-    pub looked_up : look_up_in slots p ≡ Some value
+    pub looked_up : look_up slots p ≡ Some value
 
   found_in : (o : Option (ℕ × T)) (g : ℕ) → IsSome (option_and_then (value_under g) o) → (v : T) × (o ≡ Some (g, v)) × (option_and_then (value_under g) o ≡ Some v)
   found_in None g live = absurd (true≢false (sym live))
@@ -255,17 +255,17 @@ module _ {T : Type 0} where
         | inr other ↦ absurd (true≢false (sym (rw (eq_false h g other) at live)))
       ]
 
-  pub found : (slots : List (Option (ℕ × T))) (p : Pointer) → IsSome (look_up_in slots p) → Found slots p
+  pub found : (slots : List (Option (ℕ × T))) (p : Pointer) → IsSome (look_up slots p) → Found slots p
   found slots p live =
       let f = found_in (entry_in slots p.0) p.1 live in
       record { value = f.0; entry = f.1; looked_up = f.2 }
 
-  live_entry : (slots : List (Option (ℕ × T))) (p : Pointer) → IsSome (look_up_in slots p) → IsSome (entry_in slots p.0)
+  live_entry : (slots : List (Option (ℕ × T))) (p : Pointer) → IsSome (look_up slots p) → IsSome (entry_in slots p.0)
   live_entry slots p live = let f = found slots p live in rw f.entry refl
 
   -- a step that answers takes one live index out of those ahead
   pub record Taken (greatest : ℕ) (slots : List (Option (ℕ × T))) (b : Stand) (p : Pointer) (a : Stand) : Type 0 where
-    pub live : IsSome (look_up_in slots p)
+    pub live : IsSome (look_up slots p)
     pub was : is_ahead b p.0 ≡ true
     pub gone : is_ahead a p.0 ≡ false
     pub same : (j : ℕ) → IsSome (entry_in slots j) → j ≢ p.0 → is_ahead a j ≡ is_ahead b j
@@ -303,7 +303,7 @@ module _ {T : Type 0} where
   fewer_left greatest slots b (Some p) a s some = (taken greatest slots b p a s).fewer
 
   -- the first of the entries ahead is the one that is answered
-  pub ahead_taken : (greatest : ℕ) (slots : List (Option (ℕ × T))) (b : Stand) (p : Pointer) (a : Stand) → b.reverse ≡ false → Steps greatest slots b (Some p) a → (v : T) → look_up_in slots p ≡ Some v → entries_ahead b slots ≡ (p, v) ∷ entries_ahead a slots
+  pub ahead_taken : (greatest : ℕ) (slots : List (Option (ℕ × T))) (b : Stand) (p : Pointer) (a : Stand) → b.reverse ≡ false → Steps greatest slots b (Some p) a → (v : T) → look_up slots p ≡ Some v → entries_ahead b slots ≡ (p, v) ∷ entries_ahead a slots
   ahead_taken greatest slots b p a forward s v is =
       let t = taken greatest slots b p a s in
       let f = found slots p t.live in
@@ -504,7 +504,7 @@ module _ {T : Type 0} where
   )
 
   -- the first of the entries ahead is the one that is answered, and where it is taken out, the others stay ahead
-  pub ahead_taken_out : (greatest : ℕ) (slots left : List (Option (ℕ × T))) (b : Stand) (p : Pointer) (a : Stand) (v : T) → b.reverse ≡ false → Steps greatest slots b (Some p) a → look_up_in slots p ≡ Some v → ChangesAt slots p.0 None left → entries_ahead b slots ≡ (p, v) ∷ entries_ahead a left
+  pub ahead_taken_out : (greatest : ℕ) (slots left : List (Option (ℕ × T))) (b : Stand) (p : Pointer) (a : Stand) (v : T) → b.reverse ≡ false → Steps greatest slots b (Some p) a → look_up slots p ≡ Some v → ChangesAt slots p.0 None left → entries_ahead b slots ≡ (p, v) ∷ entries_ahead a left
   ahead_taken_out greatest slots left b p a v forward s is change =
       ahead_taken greatest slots b p a forward s v is ∙ ap (λ rest. (p, v) ∷ rest) (sym (ahead_changed greatest slots left b p a None s change))
 
@@ -530,7 +530,7 @@ module _ {T : Type 0} where
       let later = key_of (at + 1) xs i k e (omega (arith, place)) found in
       (suc later.0, omega (arith, later.1), later.2)
 
-  pub live_key : (slots : List (Option (ℕ × T))) (p : Pointer) → IsSome (look_up_in slots p) → Contains (keys slots) p
+  pub live_key : (slots : List (Option (ℕ × T))) (p : Pointer) → IsSome (look_up slots p) → Contains (keys slots) p
   live_key slots p live =
       let f = found slots p live in
       let slot = slot_at slots p.0 (p.1, f.value) f.entry in
@@ -548,7 +548,7 @@ module _ {T : Type 0} where
       let later = entry_of_key (at + 1) xs j p (omega (arith, within)) is in
       (suc later.0, later.1, omega (arith, later.2), later.3)
 
-  pub key_live : (slots : List (Option (ℕ × T))) (p : Pointer) → Contains (keys slots) p → IsSome (look_up_in slots p)
+  pub key_live : (slots : List (Option (ℕ × T))) (p : Pointer) → Contains (keys slots) p → IsSome (look_up slots p)
   key_live slots p key =
       let found = entry_of_key 1 slots key.0 p key.1 key.2 in
       let entry : entry_in slots p.0 ≡ Some (p.1, found.1) = slot_of slots p.0 found.0 found.2 ∙ ap joined found.3 in

@@ -7,8 +7,8 @@ use Rattle.triple_arena_ptr.specs.Pointers.{Pointer}
 use Rattle.triple_arena_traits.specs.laws.ItemLaws.{joined, item_nil, eq_true, eq_false, item_within, item_past, length-with_item, item-with_same, item-with_other, item-push_same, item-push_other, split_last}
 use Rattle.std.specs.Option.{option_and_then, option_map}
 use Rattle.triple_arena_traits.specs.Items.{item, with_item}
-use Rattle.triple_arena_traits.specs.Entries.{look_up_in, entry_in, value_under, with_value_in, with_generation_in}
-use Rattle.triple_arena_traits.specs.ArenaState.{ArenaState, new_arena, capacity, entry, look_up, slot_count, arena_len, is_free, IsWellFormed}
+use Rattle.triple_arena_traits.specs.Entries.{look_up, entry_in, value_under, with_value_in, with_generation_in}
+use Rattle.triple_arena_traits.specs.ArenaState.{ArenaState, new_arena, capacity, entry, slot_count, arena_len, is_free, IsWellFormed}
 use Rattle.triple_arena_traits.specs.Insertion.{place_among, place, inserted_among, inserted}
 use Rattle.triple_arena_traits.specs.SlotSteps.{steps_among, IsTouched}
 use Rattle.triple_arena_traits.specs.Ending.{removed, invalidated}
@@ -196,24 +196,24 @@ module _ {T : Type 0} where
   len_within s well = omega (arith, well.total, well.fits)
 
   -- the value under an index and a generation is that of the entry
-  pub value_of_entry : (s : ArenaState T) (i h stamp : ℕ) (v : T) → entry s i ≡ Some (h, v) → is_some (look_up s (i, stamp)) ≡ true → look_up s (i, stamp) ≡ Some v
+  pub value_of_entry : (s : ArenaState T) (i h stamp : ℕ) (v : T) → entry s i ≡ Some (h, v) → is_some (look_up s.slots (i, stamp)) ≡ true → look_up s.slots (i, stamp) ≡ Some v
   value_of_entry s i h stamp v found some = by_test (h == stamp) (ap (option_and_then (value_under stamp)) found) some
     where
-      by_test : (b : Bool) → look_up s (i, stamp) ≡ cond b (Some v) None → is_some (look_up s (i, stamp)) ≡ true → look_up s (i, stamp) ≡ Some v
+      by_test : (b : Bool) → look_up s.slots (i, stamp) ≡ cond b (Some v) None → is_some (look_up s.slots (i, stamp)) ≡ true → look_up s.slots (i, stamp) ≡ Some v
       by_test true e some = e
       by_test false e some = absurd (cc)
 
   -- a live index and generation have an entry
-  pub entry_of_value : (xs : List (Option (ℕ × T))) (i stamp : ℕ) → is_some (look_up_in xs (i, stamp)) ≡ true → (v : T) × (entry_in xs i ≡ Some (stamp, v)) × (look_up_in xs (i, stamp) ≡ Some v)
+  pub entry_of_value : (xs : List (Option (ℕ × T))) (i stamp : ℕ) → is_some (look_up xs (i, stamp)) ≡ true → (v : T) × (entry_in xs i ≡ Some (stamp, v)) × (look_up xs (i, stamp) ≡ Some v)
   entry_of_value xs i stamp some = by_entry (entry_in xs i) refl some
     where
-      by_test : (e : ℕ × T) (b : Bool) → (e.0 == stamp) ≡ b → entry_in xs i ≡ Some e → is_some (cond b (Some e.1) None) ≡ true → (v : T) × (entry_in xs i ≡ Some (stamp, v)) × (look_up_in xs (i, stamp) ≡ Some v)
+      by_test : (e : ℕ × T) (b : Bool) → (e.0 == stamp) ≡ b → entry_in xs i ≡ Some e → is_some (cond b (Some e.1) None) ≡ true → (v : T) × (entry_in xs i ≡ Some (stamp, v)) × (look_up xs (i, stamp) ≡ Some v)
       by_test e true t h some =
           let same : e.0 ≡ stamp = eqb-true e.0 stamp t in
           (e.1, h ∙ ap (λ n. Some (n, e.1)) same, ap (option_and_then (value_under stamp)) h ∙ ap (λ b. cond b (Some e.1) None) t)
       by_test e false t h some = absurd (cc)
 
-      by_entry : (o : Option (ℕ × T)) → entry_in xs i ≡ o → is_some (option_and_then (value_under stamp) o) ≡ true → (v : T) × (entry_in xs i ≡ Some (stamp, v)) × (look_up_in xs (i, stamp) ≡ Some v)
+      by_entry : (o : Option (ℕ × T)) → entry_in xs i ≡ o → is_some (option_and_then (value_under stamp) o) ≡ true → (v : T) × (entry_in xs i ≡ Some (stamp, v)) × (look_up xs (i, stamp) ≡ Some v)
       by_entry None h some = absurd (cc)
       by_entry (Some e) h some = by_test e (e.0 == stamp) refl h some
 
@@ -239,14 +239,14 @@ module _ {T : Type 0} where
           (within.0, omega (arith, within.1, well.fits))
 
   -- a valid pointer is that of an entry, and finds its value
-  pub live_entry : (xs : List (Option (ℕ × T))) (p : Pointer) → is_some (look_up_in xs p) ≡ true → is_some (entry_in xs p.0) ≡ true
+  pub live_entry : (xs : List (Option (ℕ × T))) (p : Pointer) → is_some (look_up xs p) ≡ true → is_some (entry_in xs p.0) ≡ true
   live_entry xs p live = by_entry (entry_in xs p.0) live
     where
       by_entry : (o : Option (ℕ × T)) → is_some (option_and_then (value_under p.1) o) ≡ true → is_some o ≡ true
       by_entry None some = some
       by_entry (Some e) some = refl
 
-  pub look_up_value : (s : ArenaState T) (p : Pointer) (v : T) → is_some (look_up s p) ≡ true → option_map (λ (e : ℕ × T). e.1) (entry s p.0) ≡ Some v → look_up s p ≡ Some v
+  pub look_up_value : (s : ArenaState T) (p : Pointer) (v : T) → is_some (look_up s.slots p) ≡ true → option_map (λ (e : ℕ × T). e.1) (entry s p.0) ≡ Some v → look_up s.slots p ≡ Some v
   look_up_value s p v live found = by_entry (entry s p.0) live found
     where
       by_test : (e : ℕ × T) (b : Bool) → is_some (cond b (Some e.1) None) ≡ true → Some e.1 ≡ Some v → cond b (Some e.1) None ≡ Some v
@@ -262,8 +262,8 @@ module _ {T : Type 0} where
   invalidated_is raise s i j n here raised = rw (here, raised) refl
 
   -- what is read of an arena that is s, at the index of a valid pointer
-  pub value_read : (s t : ArenaState T) (p : Pointer) (i : ℕ) (v : T) → t ≡ s → i ≡ p.0 → is_some (look_up t p) ≡ true → option_map (λ (e : ℕ × T). e.1) (entry t i) ≡ Some v → look_up s p ≡ Some v
-  value_read s t p i v is here live read = sym (ap (λ a. look_up a p) is) ∙ look_up_value t p v live (sym (ap (λ n. option_map (λ (e : ℕ × T). e.1) (entry t n)) here) ∙ read)
+  pub value_read : (s t : ArenaState T) (p : Pointer) (i : ℕ) (v : T) → t ≡ s → i ≡ p.0 → is_some (look_up t.slots p) ≡ true → option_map (λ (e : ℕ × T). e.1) (entry t i) ≡ Some v → look_up s.slots p ≡ Some v
+  value_read s t p i v is here live read = sym (ap (λ a. look_up a.slots p) is) ∙ look_up_value t p v live (sym (ap (λ n. option_map (λ (e : ℕ × T). e.1) (entry t n)) here) ∙ read)
 
   pub entry_value_read : (s t : ArenaState T) (i j : ℕ) (v : T) → t ≡ s → j ≡ i → option_map (λ (e : ℕ × T). e.1) (entry t j) ≡ Some v → option_map (λ (e : ℕ × T). e.1) (entry s i) ≡ Some v
   entry_value_read s t i j v is here read = sym (ap (λ a. option_map (λ (e : ℕ × T). e.1) (entry a j)) is ∙ ap (λ n. option_map (λ (e : ℕ × T). e.1) (entry s n)) here) ∙ read

@@ -1,7 +1,7 @@
 use Rattle.std.proofs.Common.{rules, sym, ap, subst, length, Option, ◌∙◌}
 use Rattle.std.proofs.lemmas.List.{length-map}
 use Rattle.std.proofs.lemmas.Slice.Zip.{AllZip-long}
-use Rattle.triple_arena_traits.specs.Entries.{look_up_in}
+use Rattle.triple_arena_traits.specs.Entries.{look_up}
 use Rattle.triple_arena_traits.specs.Walks.{keys, values}
 use Rattle.triple_arena_traits.specs.laws.CompressionLaws.{length-keys, length-values}
 use Rattle.triple_arena_traits.specs.Recasting.{recast_values}
@@ -36,7 +36,7 @@ returns-clause-done g c =
     let same = c.in_ok-images.ensures.unchanged in
     let slots = g.A.ArenaTrait.slots old in
     let rank = g.A.CompactArenaTrait.rank old c.args.reset_generation in
-    let image : g.row.P.Denot → Option g.row.P.Denot = λ p. look_up_in c.put_pointers.new.target.slots (g.P.Ptr.numbers p) in
+    let image : g.row.P.Denot → Option g.row.P.Denot = λ p. look_up c.put_pointers.new.target.slots (g.P.Ptr.numbers p) in
     let ks = rw same at c.compress-answer.ensures.keys in
     let maps = renames g.P.Ptr.numbers rank slots c.put_pointers.new.target.slots (c.put_pointers.ensures.keys ∙ c.in_ok-images.ensures.keys) (c.put_pointers.ensures.values ∙ ks) in (
       recast_values g.T.Recast.held g.T.Recast.refill image (values slots),

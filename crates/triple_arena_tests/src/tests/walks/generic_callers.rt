@@ -1,7 +1,7 @@
 //! Callers that are generic over arenas: proved over the traits and their laws alone.
 
 ghost use Rattle.std.specs.Prelude.{◌≡◌, ◌≢◌, ℕ, None, Some, OnOk, IfOk, OnErr};
-ghost use Rattle.triple_arena_traits.specs.Entries.{look_up_in};
+ghost use Rattle.triple_arena_traits.specs.Entries.{look_up};
 
 use std::alloc::Global;
 use std::mem;
@@ -19,7 +19,7 @@ use triple_arena_test_kit::{
 // Puts another value under a pointer, and gives the one that stood there.
 fn exchange<P: Ptr, T, A: ArenaTrait<P, T>>(arena: &mut A, p: P, t: T) -> Result<T, T>
     ensures value { IfOk result
-        (λ old. look_up_in (A.slots arena.old) (P.numbers p) ≡ Some old) }
+        (λ old. look_up (A.slots arena.old) (P.numbers p) ≡ Some old) }
     ensures written { OnOk result
         (arena.new ≡ A.with_value arena.old (P.numbers p).0 t) }
     ensures refused { OnErr result (arena.new ≡ arena.old) }
@@ -35,7 +35,7 @@ fn put<P: Ptr, T: Drop, A: ArenaInsertTrait<P, T>>(
     arena: &mut A,
     t: T,
 ) -> Result<P, ReallocationError>
-    ensures found { IfOk result (λ p. look_up_in (A.slots arena.new) (P.numbers p) ≡ Some t) }
+    ensures found { IfOk result (λ p. look_up (A.slots arena.new) (P.numbers p) ≡ Some t) }
     ensures refused { OnErr result (arena.new ≡ arena.old) }
 {
     arena.insert(t)
@@ -44,9 +44,9 @@ fn put<P: Ptr, T: Drop, A: ArenaInsertTrait<P, T>>(
 // Takes out what stands under a pointer: it finds nothing then, and pointers of other indexes find
 // what they found.
 fn take<P: Ptr, T, A: ArenaTrait<P, T>>(arena: &mut A, p: P) -> InvalidationResult<T>
-    ensures gone { look_up_in (A.slots arena.new) (P.numbers p) ≡ None }
+    ensures gone { look_up (A.slots arena.new) (P.numbers p) ≡ None }
     ensures kept { (q : ℕ × ℕ) → q.0 ≢ (P.numbers p).0
-        → look_up_in (A.slots arena.new) q ≡ look_up_in (A.slots arena.old) q }
+        → look_up (A.slots arena.new) q ≡ look_up (A.slots arena.old) q }
 {
     arena.remove(p)
 }

@@ -2,7 +2,8 @@ use Rattle.std.proofs.Common.{◌∙◌, is_some, refl, ap, arith}
 use Rattle.std.proofs.lemmas.List.{length-map}
 use Rattle.std.specs.Int.NonZero.{non_zero_usize_get}
 use Rattle.std.specs.Option.{option_map}
-use Rattle.triple_arena_traits.specs.ArenaState.{ArenaState, look_up}
+use Rattle.triple_arena_traits.specs.Entries.{look_up}
+use Rattle.triple_arena_traits.specs.ArenaState.{ArenaState}
 use Rattle.triple_arena_slots.specs.Slot.{entry_of}
 use Rattle.triple_arena_slots.proofs.Links.{carried, Shows-steps}
 use Rattle.triple_arena.proofs.base_arena.Arena.look_for.Goals as goal
@@ -21,7 +22,7 @@ invariant_of-self g c =
     (ap (λ s. s.greatest) c.self.view_is) refl).0
 
 pub returns-clause-live : goal.returns-clause-live
-returns-clause-live g c = c.find.ensures.live ∙ ap (λ (s : ArenaState g.row.T.Denot). is_some (look_up s (g.P.Ptr.numbers c.args.p))) c.self.view_is
+returns-clause-live g c = c.find.ensures.live ∙ ap (λ (s : ArenaState g.row.T.Denot). is_some (look_up s.slots (g.P.Ptr.numbers c.args.p))) c.self.view_is
 
 pub returns-clause-unchanged : goal.returns-clause-unchanged
 returns-clause-unchanged g c = (

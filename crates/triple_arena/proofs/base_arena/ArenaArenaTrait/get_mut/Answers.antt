@@ -2,7 +2,8 @@ use Rattle.triple_arena_traits.proofs.SlotEntries.{none_of}
 use Rattle.std.proofs.Common.{◌≡◌, ◌∙◌, IsSome, None, map, inl, sym, ap, subst, inr}
 use Rattle.std.proofs.Math.Path.{fun_ext}
 use Rattle.std.specs.Int.NonZero.{non_zero_usize_get}
-use Rattle.triple_arena_traits.specs.ArenaState.{ArenaState, look_up, with_value}
+use Rattle.triple_arena_traits.specs.Entries.{look_up}
+use Rattle.triple_arena_traits.specs.ArenaState.{ArenaState, with_value}
 use Rattle.triple_arena_slots.specs.Slot.{entry_of}
 use Rattle.triple_arena_slots.specs.Layout.{entry_at}
 use Rattle.triple_arena_traits.specs.laws.WellFormedLaws.{live_entry, value_read}
@@ -34,7 +35,7 @@ returns g c =
 
 pub returns-in_err-inx : goal.returns-in_err-inx
 returns-in_err-inx g c =
-    let none = sym (subst (λ (s : ArenaState g.row.T.Denot). look_up s (g.P.Ptr.numbers c.args.p) ≡ None) c.self.view_is (none_of _ (sym c.in_err-inx.ensures.live))) in
+    let none = sym (subst (λ (s : ArenaState g.row.T.Denot). look_up s.slots (g.P.Ptr.numbers c.args.p) ≡ None) c.self.view_is (none_of _ (sym c.in_err-inx.ensures.live))) in
     rw c.from_residual.ensures (
       ap inr c.self.view_is,
       record {

@@ -5,8 +5,8 @@ use Rattle.std.specs.Option.{option_map}
 use Rattle.std.proofs.Common.{◌∙◌, ◌∷◌, [], arith, IsSome, ap, sym, refl, Some, is_some, subst, true≢false}
 use Rattle.std.specs.Int.NonZero.{non_zero_usize_get}
 use Rattle.triple_arena_ptr.specs.Numbers.{raise, wraps}
-use Rattle.triple_arena_traits.specs.Entries.{with_generation_in}
-use Rattle.triple_arena_traits.specs.ArenaState.{look_up, ArenaState, entry}
+use Rattle.triple_arena_traits.specs.Entries.{with_generation_in, look_up}
+use Rattle.triple_arena_traits.specs.ArenaState.{ArenaState, entry}
 use Rattle.triple_arena.specs.laws.TouchedLaws.{invalidated_slots}
 use Rattle.triple_arena_traits.specs.laws.WellFormedLaws.{invalidated_is, live_entry, entry_of_value}
 use Rattle.triple_arena_slots.proofs.Links.{Shows-counter, Shows-steps, carried}
@@ -50,17 +50,17 @@ returns-clause-found g c live =
 pub returns-clause-gone : goal.returns-clause-gone
 returns-clause-gone g c other =
     let p = g.P.Ptr.numbers c.args.p in
-    let live : IsSome (look_up c.args.self.now p) = sym (rw c.in-Some.is at c.look_for.ensures.live) in
+    let live : IsSome (look_up c.args.self.now.slots p) = sym (rw c.in-Some.is at c.look_for.ensures.live) in
     renewed_gone c.args.self.now.slots _ p (raise g.P.Gen.PtrGen.counting g.P.Gen.PtrGen.greatest c.args.self.now.counter) live (invalidated_slots (raise g.P.Gen.PtrGen.counting g.P.Gen.PtrGen.greatest) c.args.self.now p.0 _ (returns-clause-done g c live)) other
 
 pub returns-in_default-clause-gone : goal.returns-in_default-clause-gone
 returns-in_default-clause-gone g c other =
-    ap (λ (s : ArenaState g.row.T.Denot). look_up s (g.P.Ptr.numbers c.args.p)) c.in_default.ensures.unchanged.0 ∙ none_of _ (sym c.in_default.ensures.live)
+    ap (λ (s : ArenaState g.row.T.Denot). look_up s.slots (g.P.Ptr.numbers c.args.p)) c.in_default.ensures.unchanged.0 ∙ none_of _ (sym c.in_default.ensures.live)
 
 pub returns-clause-others : goal.returns-clause-others
 returns-clause-others g c q away =
     let p = g.P.Ptr.numbers c.args.p in
-    let live : IsSome (look_up c.args.self.now p) = sym (rw c.in-Some.is at c.look_for.ensures.live) in
+    let live : IsSome (look_up c.args.self.now.slots p) = sym (rw c.in-Some.is at c.look_for.ensures.live) in
     others_found c.args.self.now.slots _ p.0 _ (invalidated_slots (raise g.P.Gen.PtrGen.counting g.P.Gen.PtrGen.greatest) c.args.self.now p.0 _ (returns-clause-done g c live)) q away
 
 pub returns-clause-history : goal.returns-clause-history
@@ -72,7 +72,7 @@ returns-clause-history g c live counts =
 
 pub returns-in_default-clause-answer : goal.returns-in_default-clause-answer
 returns-in_default-clause-answer g c =
-    none_told (wraps g.P.Gen.PtrGen.counting g.P.Gen.PtrGen.greatest c.args.self.now.counter) (λ (v : g.row.T.Denot). ((g.P.Ptr.numbers c.args.p).0, raise g.P.Gen.PtrGen.counting g.P.Gen.PtrGen.greatest c.args.self.now.counter)) (look_up c.args.self.now (g.P.Ptr.numbers c.args.p)) (none_of _ (sym c.in_default.ensures.live))
+    none_told (wraps g.P.Gen.PtrGen.counting g.P.Gen.PtrGen.greatest c.args.self.now.counter) (λ (v : g.row.T.Denot). ((g.P.Ptr.numbers c.args.p).0, raise g.P.Gen.PtrGen.counting g.P.Gen.PtrGen.greatest c.args.self.now.counter)) (look_up c.args.self.now.slots (g.P.Ptr.numbers c.args.p)) (none_of _ (sym c.in_default.ensures.live))
 
 pub returns-in_default-clause-done : goal.returns-in_default-clause-done
 returns-in_default-clause-done g c live = absurd (true≢false (sym (c.in_default.ensures.live ∙ live)))
@@ -95,7 +95,7 @@ returns-clause-answer g c =
     let found = entry_of_value c.args.self.now.slots p.0 p.1 (sym c.in-Some.ensures.live) in
     let at = g.met.P.Ptr.numbers_of c._from_raw.result
     ∙ pointer_is _ _ p.0 n (ap g.P.Inx.PtrInx.number (c._from_raw.ensures.index ∙ c.inx.ensures) ∙ sym (ap (λ (q : Pointer). q.0) (g.met.P.Ptr.numbers_of c.args.p))) (ap g.P.Gen.PtrGen.number c._from_raw.ensures.generation ∙ c.generational_inc-counter.ensures.raised ∙ ap (λ (s : ArenaState g.row.T.Denot). raise g.P.Gen.PtrGen.counting g.P.Gen.PtrGen.greatest s.counter) (c.self.view_is ∙ c.in-Some.ensures.unchanged.0)) in
-    told_mapped g.P.Ptr.numbers c.told_valid.result _ (wraps g.P.Gen.PtrGen.counting g.P.Gen.PtrGen.greatest c.args.self.now.counter) (option_map (λ (v : g.row.T.Denot). (p.0, n)) (look_up c.args.self.now p)) c._from_raw.result c.told_valid.ensures
+    told_mapped g.P.Ptr.numbers c.told_valid.result _ (wraps g.P.Gen.PtrGen.counting g.P.Gen.PtrGen.greatest c.args.self.now.counter) (option_map (λ (v : g.row.T.Denot). (p.0, n)) (look_up c.args.self.now.slots p)) c._from_raw.result c.told_valid.ensures
     (c.generational_inc-counter.ensures.wrapped ∙ ap (λ (s : ArenaState g.row.T.Denot). wraps g.P.Gen.PtrGen.counting g.P.Gen.PtrGen.greatest s.counter) (c.self.view_is ∙ c.in-Some.ensures.unchanged.0))
     (ap (option_map (λ (v : g.row.T.Denot). (p.0, n))) found.2 ∙ ap Some (sym at))
 
@@ -103,7 +103,7 @@ pub returns-clause-unchanged : goal.returns-clause-unchanged
 returns-clause-unchanged g c none = absurd (true≢false (c.in-Some.ensures.live ∙ ap is_some none))
 
 pub returns-in_default-clause-others : goal.returns-in_default-clause-others
-returns-in_default-clause-others g c q away = ap (λ (s : ArenaState g.row.T.Denot). look_up s q) c.in_default.ensures.unchanged.0
+returns-in_default-clause-others g c q away = ap (λ (s : ArenaState g.row.T.Denot). look_up s.slots q) c.in_default.ensures.unchanged.0
 
 pub returns-in_default-clause-unchanged : goal.returns-in_default-clause-unchanged
 returns-in_default-clause-unchanged g c none = c.in_default.ensures.unchanged

@@ -7,7 +7,8 @@ use Rattle.triple_arena.specs.laws.TouchedLaws.{removed_slots}
 use Rattle.std.specs.Int.NonZero.{non_zero_usize_get}
 use Rattle.triple_arena_traits.specs.Histories.{removal}
 use Rattle.triple_arena_traits.specs.Ending.{removed, told_of}
-use Rattle.triple_arena_traits.specs.ArenaState.{ArenaState, entry, look_up}
+use Rattle.triple_arena_traits.specs.Entries.{look_up}
+use Rattle.triple_arena_traits.specs.ArenaState.{ArenaState, entry}
 use Rattle.triple_arena_ptr.specs.Numbers.{raise, wraps}
 use Rattle.std.proofs.Common.{◌∙◌, ◌∷◌, [], refl, arith, IsSome, is_some, sym, ap, subst, true≢false}
 use Rattle.triple_arena_traits.specs.laws.HistoryLaws.{Continues-removed, Continues-touched}
@@ -31,10 +32,10 @@ returns-in_default-clause-done g c live = absurd (true≢false (sym (c.in_defaul
 
 pub returns-in_default-clause-gone : goal.returns-in_default-clause-gone
 returns-in_default-clause-gone g c =
-    ap (λ (s : ArenaState g.row.T.Denot). look_up s (g.P.Ptr.numbers c.args.p)) c.in_default.ensures.unchanged.0 ∙ none_of _ (sym c.in_default.ensures.live)
+    ap (λ (s : ArenaState g.row.T.Denot). look_up s.slots (g.P.Ptr.numbers c.args.p)) c.in_default.ensures.unchanged.0 ∙ none_of _ (sym c.in_default.ensures.live)
 
 pub returns-in_default-clause-others : goal.returns-in_default-clause-others
-returns-in_default-clause-others g c q away = ap (λ (s : ArenaState g.row.T.Denot). look_up s q) c.in_default.ensures.unchanged.0
+returns-in_default-clause-others g c q away = ap (λ (s : ArenaState g.row.T.Denot). look_up s.slots q) c.in_default.ensures.unchanged.0
 
 pub returns-in_default-clause-history : goal.returns-in_default-clause-history
 returns-in_default-clause-history g c live counts = absurd (true≢false (sym (c.in_default.ensures.live ∙ live)))
@@ -47,7 +48,7 @@ take-generation-requires-after_bounds g c κs within =
 pub returns-clause-answer : goal.returns-clause-answer
 returns-clause-answer g c =
     let p = g.P.Ptr.numbers c.args.p in
-    told_found _ _ (wraps g.P.Gen.PtrGen.counting g.P.Gen.PtrGen.greatest c.args.self.now.counter) (look_up c.args.self.now p) _ c.told_valid.ensures (c.take-generation.ensures.wrapped ∙ ap (λ (s : ArenaState g.row.T.Denot). wraps g.P.Gen.PtrGen.counting g.P.Gen.PtrGen.greatest s.counter) c.in-Some.ensures.unchanged.0)
+    told_found _ _ (wraps g.P.Gen.PtrGen.counting g.P.Gen.PtrGen.greatest c.args.self.now.counter) (look_up c.args.self.now.slots p) _ c.told_valid.ensures (c.take-generation.ensures.wrapped ∙ ap (λ (s : ArenaState g.row.T.Denot). wraps g.P.Gen.PtrGen.counting g.P.Gen.PtrGen.greatest s.counter) c.in-Some.ensures.unchanged.0)
     (value_of_entry c.args.self.now p.0 _ p.1 _ (ap (entry c.args.self.now) (sym c.in-Some.ensures.index) ∙ sym (ap (λ (s : ArenaState g.row.T.Denot). entry s (non_zero_usize_get c.in-Some.inx)) c.in-Some.ensures.unchanged.0) ∙ c.take-generation.ensures.entry) (sym c.in-Some.ensures.live))
 
 pub returns-clause-gone : goal.returns-clause-gone

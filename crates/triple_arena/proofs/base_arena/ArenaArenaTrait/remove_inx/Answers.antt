@@ -6,7 +6,8 @@ use Rattle.triple_arena.specs.laws.TouchedLaws.{removed_slots}
 use Rattle.std.specs.Int.NonZero.{non_zero_usize_get}
 use Rattle.triple_arena_traits.specs.Histories.{removal}
 use Rattle.triple_arena_traits.specs.Ending.{removed, told_of}
-use Rattle.triple_arena_traits.specs.ArenaState.{ArenaState, entry, look_up}
+use Rattle.triple_arena_traits.specs.Entries.{look_up}
+use Rattle.triple_arena_traits.specs.ArenaState.{ArenaState, entry}
 use Rattle.triple_arena_ptr.specs.Numbers.{raise, wraps}
 use Rattle.std.proofs.Common.{◌∙◌, ◌∷◌, [], refl, arith, IsSome, None, is_some, sym, ap, subst, true≢false}
 use Rattle.triple_arena_traits.specs.laws.HistoryLaws.{Continues-removed_inx, Continues-touched}
@@ -33,7 +34,7 @@ returns-in_default-clause-gone g c =
     ap (λ (s : ArenaState g.row.T.Denot). entry s (g.P.Inx.PtrInx.number c.args.inx)) c.in_default.ensures.unchanged.0 ∙ none_of _ (sym c.in_default.ensures.live)
 
 pub returns-in_default-clause-others : goal.returns-in_default-clause-others
-returns-in_default-clause-others g c q away = ap (λ (s : ArenaState g.row.T.Denot). look_up s q) c.in_default.ensures.unchanged.0
+returns-in_default-clause-others g c q away = ap (λ (s : ArenaState g.row.T.Denot). look_up s.slots q) c.in_default.ensures.unchanged.0
 
 pub returns-in_default-clause-history : goal.returns-in_default-clause-history
 returns-in_default-clause-history g c generation value here counts = absurd (true≢false (sym (c.in_default.ensures.live ∙ ap is_some here)))

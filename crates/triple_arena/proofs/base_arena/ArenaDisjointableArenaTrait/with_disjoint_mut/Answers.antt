@@ -3,7 +3,8 @@ use Rattle.std.proofs.Common.{◌≡◌, ◌≢◌, ◌∙◌, true, is_some, Is
 use Rattle.std.proofs.lemmas.Bool.{cases_eq}
 use Rattle.std.specs.Int.NonZero.{non_zero_usize_get}
 use Rattle.triple_arena_ptr.specs.Pointers.{Pointer}
-use Rattle.triple_arena_traits.specs.ArenaState.{look_up, entry}
+use Rattle.triple_arena_traits.specs.Entries.{look_up}
+use Rattle.triple_arena_traits.specs.ArenaState.{entry}
 use Rattle.triple_arena_traits.specs.laws.ItemLaws.{eq_true, eq_false}
 use Rattle.triple_arena_traits.specs.laws.WellFormedLaws.{live_entry}
 use Rattle.triple_arena_traits.proofs.SlotEntries.{none_of}
@@ -17,8 +18,8 @@ returns-clause-worked g c =
     let second : Pointer = g.P.Ptr.numbers c.args.second in
     let at_first : non_zero_usize_get c.in-Some-Some.first ≡ first.0 = rw c.in-Some-Some.is-0 at c.find.ensures.index in
     let at_second : non_zero_usize_get c.in-Some-Some.second ≡ second.0 = rw c.in-Some-Some.is-1 at c.find-2.ensures.index in
-    let first_valid : is_some (look_up c.args.self.now first) ≡ true = sym (rw c.in-Some-Some.is-0 at c.find.ensures.live) in
-    let second_valid : is_some (look_up c.args.self.now second) ≡ true = sym (rw c.in-Some-Some.is-1 at c.find-2.ensures.live) in
+    let first_valid : is_some (look_up c.args.self.now.slots first) ≡ true = sym (rw c.in-Some-Some.is-0 at c.find.ensures.live) in
+    let second_valid : is_some (look_up c.args.self.now.slots second) ≡ true = sym (rw c.in-Some-Some.is-1 at c.find-2.ensures.live) in
     let w = c.work_on_two.ensures in (
       w.0,
       w.1,
@@ -43,8 +44,8 @@ returns-then-eq-clause-variant g c =
     let second : Pointer = g.P.Ptr.numbers c.args.second in
     let at_first : non_zero_usize_get c.in-Some-Some.first ≡ first.0 = rw c.in-Some-Some.is-0 at c.find.ensures.index in
     let at_second : non_zero_usize_get c.in-Some-Some.second ≡ second.0 = rw c.in-Some-Some.is-1 at c.find-2.ensures.index in
-    let first_valid : is_some (look_up c.args.self.now first) ≡ true = sym (rw c.in-Some-Some.is-0 at c.find.ensures.live) in
-    let second_valid : is_some (look_up c.args.self.now second) ≡ true = sym (rw c.in-Some-Some.is-1 at c.find-2.ensures.live) in
+    let first_valid : is_some (look_up c.args.self.now.slots first) ≡ true = sym (rw c.in-Some-Some.is-0 at c.find.ensures.live) in
+    let second_valid : is_some (look_up c.args.self.now.slots second) ≡ true = sym (rw c.in-Some-Some.is-1 at c.find-2.ensures.live) in
     elim (cases_eq (non_zero_usize_get c.in-Some-Some.first) (non_zero_usize_get c.in-Some-Some.second)) [
       | inl same ↦ (first_valid, same_pointer c.args.self.now.slots first second first_valid second_valid (sym at_first ∙ same ∙ at_second))
       | inr other ↦ absurd (true≢false (sym (sym c.eq.ensures ∙ c.if-eq.true) ∙ eq_false _ _ other))
@@ -56,8 +57,8 @@ work_on_two-requires-clause-callable g c κs within =
     let second : Pointer = g.P.Ptr.numbers c.args.second in
     let at_first : non_zero_usize_get c.in-Some-Some.first ≡ first.0 = rw c.in-Some-Some.is-0 at c.find.ensures.index in
     let at_second : non_zero_usize_get c.in-Some-Some.second ≡ second.0 = rw c.in-Some-Some.is-1 at c.find-2.ensures.index in
-    let first_valid : is_some (look_up c.args.self.now first) ≡ true = sym (rw c.in-Some-Some.is-0 at c.find.ensures.live) in
-    let second_valid : is_some (look_up c.args.self.now second) ≡ true = sym (rw c.in-Some-Some.is-1 at c.find-2.ensures.live) in
+    let first_valid : is_some (look_up c.args.self.now.slots first) ≡ true = sym (rw c.in-Some-Some.is-0 at c.find.ensures.live) in
+    let second_valid : is_some (look_up c.args.self.now.slots second) ≡ true = sym (rw c.in-Some-Some.is-1 at c.find-2.ensures.live) in
     let apart : first.0 ≢ second.0 = λ same. true≢false (sym (eq_true _ _ (at_first ∙ same ∙ sym at_second)) ∙ sym c.eq.ensures ∙ c.if-eq.false) in
     λ x y at_x at_y. c.requires apart x y (sym (value_under_pointer c.args.self.now.slots first _ at_first first_valid) ∙ at_x) (sym (value_under_pointer c.args.self.now.slots second _ at_second second_valid) ∙ at_y)
 

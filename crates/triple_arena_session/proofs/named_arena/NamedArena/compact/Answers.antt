@@ -2,7 +2,7 @@ use Rattle.std.proofs.Common.{◌<◌, false, map, ap, subst, ◌∙◌, inr}
 use Rattle.triple_arena_base.specs.Held.{recast_item}
 use Rattle.triple_arena_base.specs.Invalidation.{allowed_option}
 use Rattle.triple_arena_ptr.specs.Numbers.{wraps}
-use Rattle.triple_arena_traits.specs.Entries.{look_up_in}
+use Rattle.triple_arena_traits.specs.Entries.{look_up}
 use Rattle.triple_arena_traits.specs.ArenaState.{map_values}
 use Rattle.triple_arena_traits.specs.Compression.{wraps_after}
 use Rattle.triple_arena_direct.specs.Renaming.{Refuses}
@@ -20,7 +20,7 @@ returns-in-Ok g c =
     g.S.NonZeroInxGenericStack.kind g.P.Gen.PtrGen.counting g.P.Gen.PtrGen.greatest table c.self.inside.table.room c.args.self.now c.self.view_is
     (allowed_option c.in-Ok.answer).slots c.in-Ok.ensures.maps c.in-Ok.ensures.done.0 (g.A.SessionArena.state c.compress_recast.new.self) c.rename.new.self.items c.rename.new.self.room c.overflowing-renaming.result.1
     c.in-Ok.ensures.resolved c.in-Ok.ensures.done.1 c.in-Ok.ensures.done.2
-    (c.rename.ensures.items ∙ ap (λ images. map (λ p. recast_item (look_up_in images.slots (g.P.Ptr.numbers p)) p) table) parts.0)
+    (c.rename.ensures.items ∙ ap (λ images. map (λ p. recast_item (look_up images.slots (g.P.Ptr.numbers p)) p) table) parts.0)
     c.rename.ensures.room parts.1
 
 pub returns-in-Err-Unresolved : goal.returns-in-Err-Unresolved

@@ -1,7 +1,7 @@
 use Rattle.std.proofs.Common.{◌≡◌, ◌++◌, ◌∷◌, [], List, Some, None, is_some, refl, length, ap, sym, ◌∙◌, inr, ◌+◌}
 use Rattle.std.specs.Option.{option_map, option_copied}
 use Rattle.triple_arena_traits.specs.Items.{item}
-use Rattle.triple_arena_traits.specs.ArenaState.{look_up}
+use Rattle.triple_arena_traits.specs.Entries.{look_up}
 use Rattle.triple_arena_ptr.specs.Numbers.{raise, wraps}
 use Rattle.triple_arena_session.specs.SessionState.{node_of}
 use Rattle.triple_arena_session.specs.SessionRun.{act_on, invalidate_under}
@@ -15,7 +15,7 @@ returns-in-Some-answer g c =
     let greatest = g.P.Gen.PtrGen.greatest in
     let p = g.P.Ptr.numbers c.in-Some.p in
     let has : item c.args.self.now.table c.args.name ≡ Some p = sym c.pointer.ensures ∙ ap (option_map g.P.Ptr.numbers) c.in-Some.is in
-    let told = told_renewed g.P.Ptr.numbers (p.0, raise counting greatest (g.A.SessionArena.state c.self.inside.arena).counter) (wraps counting greatest (g.A.SessionArena.state c.self.inside.arena).counter) (look_up (g.A.SessionArena.state c.self.inside.arena) p) c.invalidate.result c.overflowing-answer.result c.in-Some-answer.renewed c.invalidate.ensures.answer c.overflowing-answer.ensures c.in-Some-answer.is in
+    let told = told_renewed g.P.Ptr.numbers (p.0, raise counting greatest (g.A.SessionArena.state c.self.inside.arena).counter) (wraps counting greatest (g.A.SessionArena.state c.self.inside.arena).counter) (look_up (g.A.SessionArena.state c.self.inside.arena).slots p) c.invalidate.result c.overflowing-answer.result c.in-Some-answer.renewed c.invalidate.ensures.answer c.overflowing-answer.ensures c.in-Some-answer.is in
     entry_renewed g.P.Ptr.numbers (g.A.SessionArena.state c.self.inside.arena) c.self.inside.table.items c.self.inside.table.room c.args.self.now c.self.view_is kind counting greatest p c.in-Some-answer.renewed c.overflowing-answer.result.1 c.push.result (g.A.SessionArena.state c.invalidate.new.self) c.push.new.self.items c.push.new.self.room (node_of g.P.Ptr.numbers told.0)
     told.2 told.3 (c.invalidate.ensures.done (ap is_some told.1))
     (c.push.ensures.number ∙ ap (λ (l : List g.row.P.Denot). length l + 1) c.in-Ok.ensures.items)
@@ -38,10 +38,10 @@ pub returns-in_default-make_room : goal.returns-in_default-make_room
 returns-in_default-make_room g c =
     let p = g.P.Ptr.numbers c.in-Some.p in
     let has : item c.args.self.now.table c.args.name ≡ Some p = sym c.pointer.ensures ∙ ap (option_map g.P.Ptr.numbers) c.in-Some.is in
-    let live = named-shown g.P.Ptr.numbers (g.A.SessionArena.state c.self.inside.arena) c.self.inside.table.items c.self.inside.table.room c.args.self.now c.self.view_is c.args.name p (look_up (g.A.SessionArena.state c.self.inside.arena) p) has refl in
-    inr (ap is_some live ∙ mapped_some (node_of g.P.Ptr.numbers) (look_up (g.A.SessionArena.state c.self.inside.arena) p) (ap is_some (sym c.in-Some-get.ensures.value)), table_wants g.P.Ptr.numbers (g.A.SessionArena.state c.self.inside.arena) c.self.inside.table.items c.self.inside.table.room c.args.self.now c.self.view_is c.make_room.new.self.items c.make_room.new.self.room c.in_default-make_room.ensures.refused.0 (ap (λ t. t.items) c.in_default-make_room.ensures.refused.1) (ap (λ t. t.room) c.in_default-make_room.ensures.refused.1))
+    let live = named-shown g.P.Ptr.numbers (g.A.SessionArena.state c.self.inside.arena) c.self.inside.table.items c.self.inside.table.room c.args.self.now c.self.view_is c.args.name p (look_up (g.A.SessionArena.state c.self.inside.arena).slots p) has refl in
+    inr (ap is_some live ∙ mapped_some (node_of g.P.Ptr.numbers) (look_up (g.A.SessionArena.state c.self.inside.arena).slots p) (ap is_some (sym c.in-Some-get.ensures.value)), table_wants g.P.Ptr.numbers (g.A.SessionArena.state c.self.inside.arena) c.self.inside.table.items c.self.inside.table.room c.args.self.now c.self.view_is c.make_room.new.self.items c.make_room.new.self.room c.in_default-make_room.ensures.refused.0 (ap (λ t. t.items) c.in_default-make_room.ensures.refused.1) (ap (λ t. t.room) c.in_default-make_room.ensures.refused.1))
 
 pub returns-in-None : goal.returns-in-None
 returns-in-None g c =
     let p = g.P.Ptr.numbers c.in-Some.p in
-    absurd (renewed_some g.P.Ptr.numbers (p.0, raise g.P.Gen.PtrGen.counting g.P.Gen.PtrGen.greatest (g.A.SessionArena.state c.self.inside.arena).counter) (wraps g.P.Gen.PtrGen.counting g.P.Gen.PtrGen.greatest (g.A.SessionArena.state c.self.inside.arena).counter) (look_up (g.A.SessionArena.state c.self.inside.arena) p) c.invalidate.result c.overflowing-answer.result (ap is_some (sym c.in-Some-get.ensures.value)) c.invalidate.ensures.answer c.overflowing-answer.ensures c.in-None.is)
+    absurd (renewed_some g.P.Ptr.numbers (p.0, raise g.P.Gen.PtrGen.counting g.P.Gen.PtrGen.greatest (g.A.SessionArena.state c.self.inside.arena).counter) (wraps g.P.Gen.PtrGen.counting g.P.Gen.PtrGen.greatest (g.A.SessionArena.state c.self.inside.arena).counter) (look_up (g.A.SessionArena.state c.self.inside.arena).slots p) c.invalidate.result c.overflowing-answer.result (ap is_some (sym c.in-Some-get.ensures.value)) c.invalidate.ensures.answer c.overflowing-answer.ensures c.in-None.is)

@@ -1,7 +1,7 @@
 use Rattle.std.proofs.Common.{◌≡◌, Some, None, is_some, ap, sym, ◌∙◌}
 use Rattle.std.specs.Option.{option_map}
 use Rattle.triple_arena_traits.specs.Items.{item}
-use Rattle.triple_arena_traits.specs.ArenaState.{look_up}
+use Rattle.triple_arena_traits.specs.Entries.{look_up}
 use Rattle.triple_arena_ptr.specs.Numbers.{wraps}
 use Rattle.triple_arena_session.specs.SessionRun.{act_on, remove_under}
 use Rattle.triple_arena_session.proofs.Shown.{told_some, told_none, entry_removed, not_removed, acts}
@@ -14,7 +14,7 @@ returns-in-Some-taken g c =
     let greatest = g.P.Gen.PtrGen.greatest in
     let p = g.P.Ptr.numbers c.in-Some.p in
     let has : item c.args.self.now.table c.args.name ≡ Some p = sym c.pointer.ensures ∙ ap (option_map g.P.Ptr.numbers) c.in-Some.is in
-    let told = told_some (wraps counting greatest (g.A.SessionArena.state c.self.inside.arena).counter) (look_up (g.A.SessionArena.state c.self.inside.arena) p) c.remove.result c.overflowing-taken.result c.in-Some-taken.node c.remove.ensures.answer c.overflowing-taken.ensures c.in-Some-taken.is in
+    let told = told_some (wraps counting greatest (g.A.SessionArena.state c.self.inside.arena).counter) (look_up (g.A.SessionArena.state c.self.inside.arena).slots p) c.remove.result c.overflowing-taken.result c.in-Some-taken.node c.remove.ensures.answer c.overflowing-taken.ensures c.in-Some-taken.is in
     entry_removed g.P.Ptr.numbers (g.A.SessionArena.state c.self.inside.arena) c.self.inside.table.items c.self.inside.table.room c.args.self.now c.self.view_is kind counting greatest p c.in-Some-taken.node c.link_name.result c.overflowing-taken.result.1 (g.A.SessionArena.state c.remove.new.self) c.link_name.ensures told.1 (c.remove.ensures.done (ap is_some told.0))
     ∙ sym (acts g.P.Ptr.numbers (g.A.SessionArena.state c.self.inside.arena) c.self.inside.table.items c.self.inside.table.room c.args.self.now c.self.view_is (remove_under kind counting greatest c.args.self.now) c.args.name p c.in-Some-taken.node has told.0)
 
@@ -25,7 +25,7 @@ returns-in-None g c =
     let greatest = g.P.Gen.PtrGen.greatest in
     let p = g.P.Ptr.numbers c.in-Some.p in
     let has : item c.args.self.now.table c.args.name ≡ Some p = sym c.pointer.ensures ∙ ap (option_map g.P.Ptr.numbers) c.in-Some.is in
-    let ended = told_none (wraps counting greatest (g.A.SessionArena.state c.self.inside.arena).counter) (look_up (g.A.SessionArena.state c.self.inside.arena) p) c.remove.result c.overflowing-taken.result c.remove.ensures.answer c.overflowing-taken.ensures c.in-None.is in
+    let ended = told_none (wraps counting greatest (g.A.SessionArena.state c.self.inside.arena).counter) (look_up (g.A.SessionArena.state c.self.inside.arena).slots p) c.remove.result c.overflowing-taken.result c.remove.ensures.answer c.overflowing-taken.ensures c.in-None.is in
     not_removed g.P.Ptr.numbers (g.A.SessionArena.state c.self.inside.arena) c.self.inside.table.items c.self.inside.table.room c.args.self.now c.self.view_is (remove_under kind counting greatest c.args.self.now) c.args.name p (g.A.SessionArena.state c.remove.new.self) has ended (c.remove.ensures.unchanged ended)
 
 pub returns-in_default : goal.returns-in_default

@@ -1,5 +1,5 @@
 use Rattle.std.proofs.Common.{◌∙◌, is_some, ap}
-use Rattle.triple_arena_traits.specs.Entries.{look_up_in}
+use Rattle.triple_arena_traits.specs.Entries.{look_up}
 use Rattle.triple_arena_uses.specs.Entities.{numbers}
 use Rattle.triple_arena_uses.specs.Notes.{Noted}
 use Rattle.triple_arena_uses.proofs.side_table.NotedEntities.note.Goals as goal
@@ -7,4 +7,4 @@ use Rattle.triple_arena_uses.proofs.side_table.NotedEntities.note.Goals as goal
 pub returns-clause-exactly : goal.returns-clause-exactly
 returns-clause-exactly c =
     ap is_some (c.copied.ensures ∙ c.get.ensures.value) ∙ c.self.invariant (numbers c.args.p)
-    ∙ ap (λ (t : Noted). is_some (look_up_in t.entities.slots (numbers c.args.p))) c.self.view_is
+    ∙ ap (λ (t : Noted). is_some (look_up t.entities.slots (numbers c.args.p))) c.self.view_is

@@ -222,7 +222,7 @@ impl<P: Ptr, T, S: NonZeroInxGenericStack<ArenaSlot<P, T>>> ArenaTrait<P, T> for
     }
 
     fn get(&self, p: P) -> Option<&T> {
-        self.slot(p.inx())?.value_under(p.generation())
+        self.slot(p.inx())?.look_up(p.generation())
     }
 
     fn get_mut(&mut self, p: P) -> Option<&mut T> {
@@ -583,7 +583,7 @@ impl<P: Ptr, T, S: NonZeroInxGenericStack<ArenaSlot<P, T>>> Arena<P, T, S> {
         ensures live { is_some result ≡ is_some (look_up self.now.slots (P.numbers p)) }
     {
         let slot = self.slot(p.inx())?;
-        slot.value_under(p.generation())?;
+        slot.look_up(p.generation())?;
         P::Inx::try_into_usize(p.inx())
     }
 

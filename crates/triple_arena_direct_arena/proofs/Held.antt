@@ -7,7 +7,7 @@ use Rattle.triple_arena_ptr.specs.Pointers.{Pointer}
 use Rattle.triple_arena_stack.specs.StackKind.{StackKind}
 use Rattle.triple_arena_traits.specs.Items.{item, with_item}
 use Rattle.triple_arena_traits.specs.laws.ItemLaws.{eq_false, with_item-past, length-with_item, map-with_item, with_item-twice, item-with_other, item-map_none}
-use Rattle.triple_arena_traits.specs.Entries.{entry_in, entry_count, look_up, value_under, with_value_in, ChangesAt}
+use Rattle.triple_arena_traits.specs.Entries.{entry_in, entry_count, look_up, value_of_generation, with_value_in, ChangesAt}
 use Rattle.triple_arena_traits.specs.laws.EntryLaws.{within_room}
 use Rattle.triple_arena_traits.specs.DirectInsertion.{IsVacant}
 use Rattle.triple_arena_traits.specs.FreeList.{trimmed}
@@ -58,7 +58,7 @@ module _ {T : Type 0} where
   found_inserted_at old new p v positive is =
       new_found old.slots new.slots p p v refl (inserted_changes old new p v positive is)
 
-  stale : (generation h : ℕ) (v : T) → h ≢ generation → option_and_then (value_under generation) (Some (h, v)) ≡ None
+  stale : (generation h : ℕ) (v : T) → h ≢ generation → option_and_then (value_of_generation generation) (Some (h, v)) ≡ None
   stale generation h v other = ap (λ b. cond b (Some v) None) (eq_false h generation other)
 
   -- every other pointer finds what it found
@@ -66,9 +66,9 @@ module _ {T : Type 0} where
   others_inserted_at old new p v positive free is q other =
       elim (cases_eq q.0 p.0) [
         | inl here ↦
-            ap (option_and_then (value_under q.1)) (ap (entry_in new.slots) here ∙ change.there)
+            ap (option_and_then (value_of_generation q.1)) (ap (entry_in new.slots) here ∙ change.there)
             ∙ stale q.1 p.1 v (λ same. other (pointer_is q.0 q.1 p.0 p.1 here (sym same)))
-            ∙ sym (ap (option_and_then (value_under q.1)) (ap (entry_in old.slots) here ∙ free))
+            ∙ sym (ap (option_and_then (value_of_generation q.1)) (ap (entry_in old.slots) here ∙ free))
         | inr away ↦ others_found old.slots new.slots p.0 (Some (p.1, v)) change q away
       ]
     where

@@ -2,7 +2,7 @@
 use Rattle.std.proofs.Common.{◌≡◌, ℕ, List, map, Option, is_some, refl, sym, ap, ◌∙◌}
 use Rattle.std.specs.Option.{option_and_then}
 use Rattle.triple_arena_traits.specs.laws.ItemLaws.{joined}
-use Rattle.triple_arena_traits.specs.Entries.{value_under}
+use Rattle.triple_arena_traits.specs.Entries.{value_of_generation}
 use Rattle.triple_arena_traits.specs.Kept.{filled_all}
 use Rattle.triple_arena_traits.proofs.KeptSlots.{entries-filled}
 use Rattle.triple_arena_traits.specs.laws.ValueLaws.{length-kept, count-kept, at-kept, generations-kept, under-kept}
@@ -19,7 +19,7 @@ module _ {T : Type 0} where
   pub keeps_pointers : (s : DirectState T) → KeepsPointers s
   keeps_pointers s w =
       record {
-        pointers = λ q. at-kept (λ o. is_some (option_and_then (value_under q.1) (joined o))) (under-kept q.1) s.slots w.slots q.0;
+        pointers = λ q. at-kept (λ o. is_some (option_and_then (value_of_generation q.1) (joined o))) (under-kept q.1) s.slots w.slots q.0;
         generations = generations-kept s.slots w.slots;
         len = count-kept s.slots w.slots;
         room = refl;

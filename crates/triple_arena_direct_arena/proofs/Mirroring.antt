@@ -6,7 +6,7 @@ use Rattle.std.specs.Borrow.{Bor}
 use Rattle.std.specs.Option.{option_and_then}
 use Rattle.triple_arena_ptr.specs.Pointers.{Pointer}
 use Rattle.triple_arena_traits.specs.laws.ItemLaws.{eq_true}
-use Rattle.triple_arena_traits.specs.Entries.{entry_in, value_under, look_up, ChangesAt, KeepsEntries}
+use Rattle.triple_arena_traits.specs.Entries.{entry_in, value_of_generation, look_up, ChangesAt, KeepsEntries}
 use Rattle.triple_arena_traits.specs.Walks.{entries, keys}
 use Rattle.triple_arena_traits.specs.laws.WalkLaws.{live_key, key_live}
 use Rattle.triple_arena_traits.specs.Copying.{Copies}
@@ -33,20 +33,20 @@ module _ {T U : Type 0} where
       (λ live. key_live mirror p (subst (λ ks. Contains ks p) (sym same) (live_key slots p live)))
 
   -- a change at one index that leaves entries of one generation there, or none
-  same_changed : (slots slots' : List (Option (ℕ × T))) (mirror mirror' : List (Option (ℕ × U))) (i : ℕ) (e : Option (ℕ × T)) (e' : Option (ℕ × U)) → IsMirror slots mirror → ((generation : ℕ) → is_some (option_and_then (value_under generation) e') ≡ is_some (option_and_then (value_under generation) e)) → ChangesAt slots i e slots' → ChangesAt mirror i e' mirror' → IsMirror slots' mirror'
+  same_changed : (slots slots' : List (Option (ℕ × T))) (mirror mirror' : List (Option (ℕ × U))) (i : ℕ) (e : Option (ℕ × T)) (e' : Option (ℕ × U)) → IsMirror slots mirror → ((generation : ℕ) → is_some (option_and_then (value_of_generation generation) e') ≡ is_some (option_and_then (value_of_generation generation) e)) → ChangesAt slots i e slots' → ChangesAt mirror i e' mirror' → IsMirror slots' mirror'
   same_changed slots slots' mirror mirror' i e e' same alike change change' p =
       elim (cases_eq p.0 i) [
         | inl here ↦
-            ap (λ o. is_some (option_and_then (value_under p.1) o)) (ap (entry_in mirror') here ∙ change'.there)
+            ap (λ o. is_some (option_and_then (value_of_generation p.1) o)) (ap (entry_in mirror') here ∙ change'.there)
             ∙ alike p.1
-            ∙ sym (ap (λ o. is_some (option_and_then (value_under p.1) o)) (ap (entry_in slots') here ∙ change.there))
+            ∙ sym (ap (λ o. is_some (option_and_then (value_of_generation p.1) o)) (ap (entry_in slots') here ∙ change.there))
         | inr away ↦
             ap is_some (others_found mirror mirror' i e' change' p away)
             ∙ same p
             ∙ sym (ap is_some (others_found slots slots' i e change p away))
       ]
 
-  alike_at : (h generation : ℕ) (u : U) (v : T) → is_some (option_and_then (value_under generation) (Some (h, u))) ≡ is_some (option_and_then (value_under generation) (Some (h, v)))
+  alike_at : (h generation : ℕ) (u : U) (v : T) → is_some (option_and_then (value_of_generation generation) (Some (h, u))) ≡ is_some (option_and_then (value_of_generation generation) (Some (h, v)))
   alike_at h generation u v = by_test (h == generation)
     where
       by_test : (b : Bool) → is_some (cond b (Some u) None) ≡ is_some (cond b (Some v) None)
@@ -75,8 +75,8 @@ module _ {T U : Type 0} where
       by_entry : (o : Option (ℕ × U)) → entry_in mirror.slots i ≡ o → entry_in mirror.slots i ≡ None
       by_entry None is = is
       by_entry (Some e) is =
-          let live : is_some (look_up mirror.slots (i, e.0)) ≡ true = ap (λ o. is_some (option_and_then (value_under e.0) o)) is ∙ ap (λ b. is_some (cond b (Some e.1) None)) (eq_true e.0 e.0 refl) in
-          let none : is_some (look_up slots (i, e.0)) ≡ false = ap (λ o. is_some (option_and_then (value_under e.0) o)) free in
+          let live : is_some (look_up mirror.slots (i, e.0)) ≡ true = ap (λ o. is_some (option_and_then (value_of_generation e.0) o)) is ∙ ap (λ b. is_some (cond b (Some e.1) None)) (eq_true e.0 e.0 refl) in
+          let none : is_some (look_up slots (i, e.0)) ≡ false = ap (λ o. is_some (option_and_then (value_of_generation e.0) o)) free in
           absurd (true≢false (sym live ∙ same (i, e.0) ∙ none))
 
 -- a mirror keeps its capacity
@@ -91,4 +91,4 @@ module _ {P T U E M : Type 0} (numbers : P → Pointer) (step : M → P → Bor 
   -- a clone has the pointers of its source
   pub same_cloned : (f : M) (source : List (Option (ℕ × T))) (copy mirror : List (Option (ℕ × U))) → Copies numbers step f (entries source) (Ok tt) copy → KeepsEntries copy mirror → IsMirror source mirror
   same_cloned f source copy mirror copies kept p =
-      ap (λ o. is_some (option_and_then (value_under p.1) o)) (kept p.0) ∙ same_keys source copy (copied_keys numbers step f source copy copies) p
+      ap (λ o. is_some (option_and_then (value_of_generation p.1) o)) (kept p.0) ∙ same_keys source copy (copied_keys numbers step f source copy copies) p

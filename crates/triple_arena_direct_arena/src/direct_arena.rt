@@ -195,7 +195,7 @@ impl<P: Ptr, T, S: NonZeroInxGenericStack<DirectSlot<P, T>>> ArenaTrait<P, T>
     }
 
     fn get(&self, p: P) -> Option<&T> {
-        self.slot(p.inx())?.value_under(p.generation())
+        self.slot(p.inx())?.look_up(p.generation())
     }
 
     fn get_mut(&mut self, p: P) -> Option<&mut T> {
@@ -447,7 +447,7 @@ impl<P: Ptr, T, S: NonZeroInxGenericStack<DirectSlot<P, T>>> DirectArena<P, T, S
         ensures index { IfSome result (λ inx. non_zero_usize_get inx ≡ (P.numbers p).0) }
         ensures live { is_some result ≡ is_some (look_up self.now.slots (P.numbers p)) }
     {
-        let _value = self.slot(p.inx())?.value_under(p.generation())?;
+        let _value = self.slot(p.inx())?.look_up(p.generation())?;
         P::Inx::try_into_usize(p.inx())
     }
 

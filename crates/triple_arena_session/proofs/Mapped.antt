@@ -8,7 +8,7 @@ use Rattle.triple_arena_stack.specs.StackKind.{StackKind, reallocated_room}
 use Rattle.triple_arena_stack.specs.Capacity.{next_capacity}
 use Rattle.triple_arena_ptr.specs.Pointers.{Pointer}
 use Rattle.triple_arena_traits.specs.Items.{item, with_item}
-use Rattle.triple_arena_traits.specs.Entries.{value_under, entry_count, entry_in, look_up}
+use Rattle.triple_arena_traits.specs.Entries.{value_of_generation, entry_count, entry_in, look_up}
 use Rattle.triple_arena_traits.specs.ArenaState.{ArenaState, arena_len, capacity, entry, slot_count, with_value, is_free, IsWellFormed, map_entry, map_values}
 use Rattle.triple_arena_traits.specs.Insertion.{place_among, inserted_among, inserted, next_pointer}
 use Rattle.triple_arena_traits.specs.FreeList.{before, trimmed, gaps, tidied}
@@ -27,7 +27,7 @@ module _ {A B : Type 0} (f : A → B) where
   map-with_item xs (suc k) x = map-set f xs k x
 
 module _ {T U : Type 0} (f : T → U) where
-  under-mapped : (h : ℕ) (e : ℕ × T) → value_under h (e.0, f e.1) ≡ option_map f (value_under h e)
+  under-mapped : (h : ℕ) (e : ℕ × T) → value_of_generation h (e.0, f e.1) ≡ option_map f (value_of_generation h e)
   under-mapped h e = by_test (e.0 == h)
     where
       by_test : (b : Bool) → cond b (Some (f e.1)) None ≡ option_map f (cond b (Some e.1) None)
@@ -38,14 +38,14 @@ module _ {T U : Type 0} (f : T → U) where
   entry-mapped None = refl
   entry-mapped (Some slot) = refl
 
-  value-mapped : (h : ℕ) (o : Option (ℕ × T)) → option_and_then (value_under h) (option_map (map_entry f) o) ≡ option_map f (option_and_then (value_under h) o)
+  value-mapped : (h : ℕ) (o : Option (ℕ × T)) → option_and_then (value_of_generation h) (option_map (map_entry f) o) ≡ option_map f (option_and_then (value_of_generation h) o)
   value-mapped h None = refl
   value-mapped h (Some e) = under-mapped h e
 
   pub look_up-mapped : (s : ArenaState T) (p : Pointer) → look_up (map_values f s).slots p ≡ option_map f (look_up s.slots p)
   look_up-mapped s p =
-      ap (λ o. option_and_then (value_under p.1) (option_and_then (λ slot. slot) o)) (item-map (option_map (map_entry f)) s.slots p.0)
-      ∙ ap (option_and_then (value_under p.1)) (entry-mapped (item s.slots p.0))
+      ap (λ o. option_and_then (value_of_generation p.1) (option_and_then (λ slot. slot) o)) (item-map (option_map (map_entry f)) s.slots p.0)
+      ∙ ap (option_and_then (value_of_generation p.1)) (entry-mapped (item s.slots p.0))
       ∙ value-mapped p.1 (entry s p.0)
 
   some-mapped : (o : Option (ℕ × T)) → is_some (option_map (map_entry f) o) ≡ is_some o

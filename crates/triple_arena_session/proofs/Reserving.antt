@@ -8,7 +8,7 @@ use Rattle.triple_arena_ptr.specs.Pointers.{Pointer}
 use Rattle.triple_arena_stack.specs.StackKind.{StackKind, IsOfKind, reallocated_room}
 use Rattle.triple_arena_stack.specs.StackKind.StackKind.{heap, limited, fixed, array}
 use Rattle.triple_arena_stack.specs.Capacity.{stack_capacity, IsWithin, IsBeyond}
-use Rattle.triple_arena_traits.specs.Entries.{value_under, KeepsEntries}
+use Rattle.triple_arena_traits.specs.Entries.{value_of_generation, KeepsEntries}
 use Rattle.triple_arena_traits.specs.ArenaState.{ArenaState, arena_len, capacity, slot_count}
 use Rattle.triple_arena_traits.specs.FreeList.{tidied}
 use Rattle.triple_arena_traits.specs.Capacity.{reallocated}
@@ -50,13 +50,13 @@ within_tells (Some most) m = leb_tells m most
 module _ {X : Type 0} (kind : StackKind) (s : SessionState X) (sound : SoundOver kind s) where
   -- another arena with the same entries
   same_rows : (a : ArenaState (X × Option Pointer)) → KeepsEntries s.arena.slots a.slots → map (row_of a s.table) s.table ≡ map (row_of s.arena s.table) s.table
-  same_rows a same = map_same (row_of s.arena s.table) (row_of a s.table) s.table (λ q h. row_kept kind s a s.table q sound (λ l h. refl) (ap (option_and_then (value_under q.1)) (same q.0)))
+  same_rows a same = map_same (row_of s.arena s.table) (row_of a s.table) s.table (λ q h. row_kept kind s a s.table q sound (λ l h. refl) (ap (option_and_then (value_of_generation q.1)) (same q.0)))
 
   same_sound : (a : ArenaState (X × Option Pointer)) → KeepsEntries s.arena.slots a.slots → a.counter ≡ s.arena.counter → IsArenaOver kind a → SoundOver kind (record s { arena = a })
   same_sound a same counter over =
       SoundOver-from kind (record s { arena = a })
       (subst (TableSound a) (append-nil s.table) (TableSound-given kind s sound resizing a (Continues-resized s.arena a same counter)))
-      (λ p q datum found. sound.table.has_links p q datum (sym (ap (option_and_then (value_under p.1)) (same p.0)) ∙ found))
+      (λ p q datum found. sound.table.has_links p q datum (sym (ap (option_and_then (value_of_generation p.1)) (same p.0)) ∙ found))
       over
 
   -- a reply to a reservation, and the session after it, are those of the store that the session shows

@@ -8,7 +8,7 @@ use Rattle.triple_arena_stack.specs.StackKind.{StackKind}
 use Rattle.triple_arena_traits.specs.Items.{item, with_item}
 use Rattle.triple_arena_traits.specs.laws.ItemLaws.{eq_true, eq_false}
 use Rattle.triple_arena_ptr.specs.Pointers.{Pointer, is_same}
-use Rattle.triple_arena_traits.specs.Entries.{value_under, entry_count, ChangesAt, look_up}
+use Rattle.triple_arena_traits.specs.Entries.{value_of_generation, entry_count, ChangesAt, look_up}
 use Rattle.triple_arena_traits.specs.ArenaState.{ArenaState, entry, arena_len}
 use Rattle.triple_arena_traits.specs.Walks.{keys}
 use Rattle.triple_arena_traits.specs.laws.WalkLaws.{found}
@@ -34,11 +34,11 @@ is_some-map f None = refl
 is_some-map f (Some x) = refl
 
 module _ {T : Type 0} where
-  pub value_hit : (o : Option (ℕ × T)) (n : ℕ) (v : T) → o ≡ Some (n, v) → option_and_then (value_under n) o ≡ Some v
-  value_hit o n v e = ap (option_and_then (value_under n)) e ∙ ap (λ b. cond b (Some v) None) (eq_true n n refl)
+  pub value_hit : (o : Option (ℕ × T)) (n : ℕ) (v : T) → o ≡ Some (n, v) → option_and_then (value_of_generation n) o ≡ Some v
+  value_hit o n v e = ap (option_and_then (value_of_generation n)) e ∙ ap (λ b. cond b (Some v) None) (eq_true n n refl)
 
-  pub value_miss : (o : Option (ℕ × T)) (n h : ℕ) (v : T) → o ≡ Some (h, v) → h ≢ n → option_and_then (value_under n) o ≡ None
-  value_miss o n h v e other = ap (option_and_then (value_under n)) e ∙ ap (λ b. cond b (Some v) None) (eq_false h n other)
+  pub value_miss : (o : Option (ℕ × T)) (n h : ℕ) (v : T) → o ≡ Some (h, v) → h ≢ n → option_and_then (value_of_generation n) o ≡ None
+  value_miss o n h v e other = ap (option_and_then (value_of_generation n)) e ∙ ap (λ b. cond b (Some v) None) (eq_false h n other)
 
   -- the entry of a pointer that finds a value
   pub entry_found : (s : ArenaState T) (p : Pointer) (v : T) → look_up s.slots p ≡ Some v → entry s p.0 ≡ Some (p.1, v)
@@ -47,11 +47,11 @@ module _ {T : Type 0} where
       f.entry ∙ ap (λ w. Some (p.1, w)) (same_Some f.value v (sym f.looked_up ∙ at))
 
   -- a pointer at another index, or with nothing under it before and after, finds what it found
-  pub kept_value : (s t : ArenaState T) (i : ℕ) (e : Option (ℕ × T)) (q : Pointer) → ChangesAt s.slots i e t.slots → (q.0 ≡ i → (look_up s.slots q ≡ None) × (option_and_then (value_under q.1) e ≡ None)) → look_up t.slots q ≡ look_up s.slots q
+  pub kept_value : (s t : ArenaState T) (i : ℕ) (e : Option (ℕ × T)) (q : Pointer) → ChangesAt s.slots i e t.slots → (q.0 ≡ i → (look_up s.slots q ≡ None) × (option_and_then (value_of_generation q.1) e ≡ None)) → look_up t.slots q ≡ look_up s.slots q
   kept_value s t i e q changes there =
       elim (cases_eq q.0 i) [
-        | inl here ↦ ap (option_and_then (value_under q.1)) (ap (entry t) here ∙ changes.there) ∙ (there here).1 ∙ sym (there here).0
-        | inr other ↦ ap (option_and_then (value_under q.1)) (changes.others q.0 other)
+        | inl here ↦ ap (option_and_then (value_of_generation q.1)) (ap (entry t) here ∙ changes.there) ∙ (there here).1 ∙ sym (there here).0
+        | inr other ↦ ap (option_and_then (value_of_generation q.1)) (changes.others q.0 other)
       ]
 
   -- the number of entries is that of live pointers in a table that has them all
@@ -103,7 +103,7 @@ module _ {X : Type 0} where
   pub rows_changed : (kind : StackKind) (s : SessionState X) (t : ArenaState (X × Option Pointer)) (table : List Pointer) (name : ℕ) (p : Pointer) (node : X × Option Pointer) (e : Option (ℕ × (X × Option Pointer))) (r : Option (X × Option ℕ))
       → SoundOver kind s → ((l : Pointer) → has s.table l ≡ true → name_of table l ≡ name_of s.table l)
       → item s.table name ≡ Some p → look_up s.arena.slots p ≡ Some node → ChangesAt s.arena.slots p.0 e t.slots
-      → ((q : Pointer) → has s.table q ≡ true → q.1 ≢ p.1 → option_and_then (value_under q.1) e ≡ None)
+      → ((q : Pointer) → has s.table q ≡ true → q.1 ≢ p.1 → option_and_then (value_of_generation q.1) e ≡ None)
       → row_of t table p ≡ r → map (row_of t table) s.table ≡ with_item (map (row_of s.arena s.table) s.table) name r
   rows_changed kind s t table name p node e r sound names at found changes others there =
       map_changed_at (row_of s.arena s.table) (row_of t table) s.table name p r sound.table.distinct at there
@@ -114,9 +114,9 @@ module _ {X : Type 0} where
       (value_miss (entry s.arena q.0) q.1 p.1 node (ap (entry s.arena) here ∙ stands) (λ same. generation (sym same)), others q h generation))))
 
   -- what is found after a change was found before, or stands where the change is
-  pub found_before : (s t : ArenaState (X × Option Pointer)) (i : ℕ) (e : Option (ℕ × (X × Option Pointer))) (q : Pointer) (node : X × Option Pointer) → ChangesAt s.slots i e t.slots → look_up t.slots q ≡ Some node → (option_and_then (value_under q.1) e ≡ Some node) ⊎ (look_up s.slots q ≡ Some node)
+  pub found_before : (s t : ArenaState (X × Option Pointer)) (i : ℕ) (e : Option (ℕ × (X × Option Pointer))) (q : Pointer) (node : X × Option Pointer) → ChangesAt s.slots i e t.slots → look_up t.slots q ≡ Some node → (option_and_then (value_of_generation q.1) e ≡ Some node) ⊎ (look_up s.slots q ≡ Some node)
   found_before s t i e q node changes found =
       elim (cases_eq q.0 i) [
-        | inl here ↦ inl (sym (ap (option_and_then (value_under q.1)) (ap (entry t) here ∙ changes.there)) ∙ found)
-        | inr other ↦ inr (sym (ap (option_and_then (value_under q.1)) (changes.others q.0 other)) ∙ found)
+        | inl here ↦ inl (sym (ap (option_and_then (value_of_generation q.1)) (ap (entry t) here ∙ changes.there)) ∙ found)
+        | inr other ↦ inr (sym (ap (option_and_then (value_of_generation q.1)) (changes.others q.0 other)) ∙ found)
       ]

@@ -9,7 +9,7 @@ use Rattle.triple_arena_base.specs.declared.errors.ReallocationError.TheVariants
 use Rattle.triple_arena_ptr.specs.Pointers.{Pointer}
 use Rattle.triple_arena_stack.specs.StackKind.{StackKind, IsOfKind, reallocated_room}
 use Rattle.triple_arena_stack.specs.Capacity.{next_capacity}
-use Rattle.triple_arena_traits.specs.Entries.{value_under, ChangesAt, look_up}
+use Rattle.triple_arena_traits.specs.Entries.{value_of_generation, ChangesAt, look_up}
 use Rattle.triple_arena_traits.specs.ArenaState.{ArenaState, entry, arena_len, capacity, slot_count, IsWellFormed}
 use Rattle.triple_arena_traits.specs.Insertion.{place, next_pointer, inserted}
 use Rattle.triple_arena_traits.specs.Capacity.{grown, with_room_for}
@@ -76,7 +76,7 @@ module _ {X : Type 0} (kind : StackKind) (s : SessionState X) (sound : SoundOver
       let old : (q : Pointer) → has s.table q ≡ true → row_of t (s.table ++ new ∷ []) q ≡ row_of s.arena s.table q =
       λ q h. row_kept kind s t (s.table ++ new ∷ []) q sound names
       (kept_value a t (place a) (Some (a.counter, node)) q changes (λ here.
-      let none : look_up s.arena.slots q ≡ None = ap (option_and_then (value_under q.1)) (ap (entry a) here ∙ vacant) in
+      let none : look_up s.arena.slots q ≡ None = ap (option_and_then (value_of_generation q.1)) (ap (entry a) here ∙ vacant) in
       (none, value_miss (Some (a.counter, node)) q.1 a.counter node refl (λ same. omega (arith, sound.table.before q h (ap is_some none), same))))) in (
         Store-is _ _ _ _ _ _ _ _
             (map-append (row_of t (s.table ++ new ∷ [])) s.table (new ∷ [])

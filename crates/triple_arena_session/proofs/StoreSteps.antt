@@ -8,7 +8,7 @@ use Rattle.triple_arena_ptr.specs.Numbers.{raise, wraps}
 use Rattle.triple_arena_ptr.specs.Pointers.{Pointer}
 use Rattle.triple_arena_stack.specs.StackKind.{StackKind}
 use Rattle.triple_arena_traits.specs.Items.{item, with_item}
-use Rattle.triple_arena_traits.specs.Entries.{value_under, ChangesAt, look_up}
+use Rattle.triple_arena_traits.specs.Entries.{value_of_generation, ChangesAt, look_up}
 use Rattle.triple_arena_traits.specs.ArenaState.{ArenaState, entry, arena_len, capacity, with_value}
 use Rattle.triple_arena_traits.specs.Ending.{removed, invalidated, cleared}
 use Rattle.triple_arena_traits.specs.laws.EntryLaws.{slots-removed, slots-invalidated, slots-cleared, changes_at, capacity-removed}
@@ -50,7 +50,7 @@ map_none f g [] none = refl
 map_none f g (q ∷ table) none = ap (λ x. x ∷ map g table) (none q) ∙ ap (λ l. None ∷ l) (map_none f g table none)
 
 -- the link of what is found where it was put
-pub new_link : {X : Type 0} (h n : ℕ) (v : X × Option Pointer) (d : X) (x : Pointer) → option_and_then (value_under n) (Some (h, v)) ≡ Some (d, Some x) → v.1 ≡ Some x
+pub new_link : {X : Type 0} (h n : ℕ) (v : X × Option Pointer) (d : X) (x : Pointer) → option_and_then (value_of_generation n) (Some (h, v)) ≡ Some (d, Some x) → v.1 ≡ Some x
 new_link {X = X} h n v d x e = by (h == n) e
   where
     by : (b : Bool) → cond b (Some v) None ≡ Some (d, Some x) → v.1 ≡ Some x
@@ -199,7 +199,7 @@ module _ {X : Type 0} (kind : StackKind) (counting : Bool) (greatest : ℕ) (cou
           agrees kind s (Remove name) (Removed node.0 (link_name s.table node.1) (wraps counting greatest s.arena.counter)) (record s { arena = t }) (Removed node.0 (link_name s.table node.1) false) (with_row (shown s) name None) is refl (λ quiet.
           let continues = Continues-removed counting greatest s.arena t p (counts, quiet) (ap is_some found) refl in (
             Store-is _ _ _ _ _ _ _ _
-                (rows_changed kind s t s.table name p node None None sound (λ l h. refl) at found changes (λ q h other. refl) (ap (option_map (as_row s.table)) (ap (option_and_then (value_under p.1)) changes.there)))
+                (rows_changed kind s t s.table name p node None None sound (λ l h. refl) at found changes (λ q h other. refl) (ap (option_map (as_row s.table)) (ap (option_and_then (value_of_generation p.1)) changes.there)))
                 (capacity-removed raised s.arena p.0 t refl) (limit-removed raised s.arena p.0) (greatest-removed raised s.arena p.0),
             SoundOver-from kind (record s { arena = t })
                 (subst (TableSound t) (append-nil s.table) (TableSound-given kind s sound (removal p) t continues))
@@ -241,14 +241,14 @@ module _ {X : Type 0} (kind : StackKind) (counting : Bool) (greatest : ℕ) (cou
               let one : c ≡ s.arena.counter + 1 = raised_by_one counting greatest s.arena.counter counts quiet in
               let stands = entry_found s.arena p node found in
               let changes : ChangesAt s.arena.slots p.0 (Some (c, node)) t.slots = subst (λ o. ChangesAt s.arena.slots p.0 o t.slots) (ap (option_map (λ (e : ℕ × (X × Option Pointer)). (c, e.1))) stands) (slots-invalidated raised s.arena p.0 t refl) in
-              let past : (q : Pointer) → has s.table q ≡ true → option_and_then (value_under q.1) (Some (c, node)) ≡ None = λ q h. value_miss (Some (c, node)) q.1 c node refl (λ same. omega (arith, sound.table.by_now q h, one, same)) in
+              let past : (q : Pointer) → has s.table q ≡ true → option_and_then (value_of_generation q.1) (Some (c, node)) ≡ None = λ q h. value_miss (Some (c, node)) q.1 c node refl (λ same. omega (arith, sound.table.by_now q h, one, same)) in
               let there : has s.table p ≡ true = has_from_item s.table name p at in
               let continues = Continues-invalidated counting greatest s.arena t p (counts, quiet) (ap is_some found) refl in (
                 Store-is _ _ _ _ _ _ _ _
                     (map-append (row_of t (s.table ++ new ∷ [])) s.table (new ∷ [])
                     ∙ ap (λ l. l ++ row_of t (s.table ++ new ∷ []) new ∷ [])
                     (rows_changed kind s t (s.table ++ new ∷ []) name p node (Some (c, node)) None sound (λ l h. name_of-append s.table (new ∷ []) l h) at found changes (λ q h other. past q h)
-                    (ap (option_map (as_row (s.table ++ new ∷ []))) (ap (option_and_then (value_under p.1)) changes.there ∙ past p there)))
+                    (ap (option_map (as_row (s.table ++ new ∷ []))) (ap (option_and_then (value_of_generation p.1)) changes.there ∙ past p there)))
                     ∙ ap (λ r. with_item (map (row_of s.arena s.table) s.table) name None ++ r ∷ []) (row_last s t new node (λ l h. sound.table.has_links p l node.0 (found ∙ ap (λ x. Some (node.0, x)) h)) (value_hit (entry t p.0) c node changes.there)))
                     refl refl refl,
                 SoundOver-from kind (invalidate_under kind counting greatest s p node).1
@@ -274,4 +274,4 @@ module _ {X : Type 0} (kind : StackKind) (counting : Bool) (greatest : ℕ) (cou
       ))
     where
       gone : (q : Pointer) → look_up (cleared (raise counting greatest) s.arena).slots q ≡ None
-      gone q = ap (option_and_then (value_under q.1)) (slots-cleared (raise counting greatest) s.arena (cleared (raise counting greatest) s.arena) refl q.0)
+      gone q = ap (option_and_then (value_of_generation q.1)) (slots-cleared (raise counting greatest) s.arena (cleared (raise counting greatest) s.arena) refl q.0)

@@ -309,7 +309,7 @@ impl<P: Ptr, T, S: NonZeroInxGenericStack<ArenaSlot<P, T>>> Slots<P, T, S> {
     {
         self.steps = self.steps.next();
         match slot_at(&self.stack, inx) {
-            Some(slot) => slot.value_under(generation).is_some(),
+            Some(slot) => slot.look_up(generation).is_some(),
             None => false,
         }
     }

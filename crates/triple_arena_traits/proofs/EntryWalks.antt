@@ -8,7 +8,7 @@ use Rattle.std.specs.Prelude.{IsSome}
 use Rattle.triple_arena_traits.specs.Items.{with_item}
 use Rattle.triple_arena_traits.specs.laws.ItemLaws.{joined, eq_true}
 use Rattle.triple_arena_ptr.specs.Pointers.{Pointer}
-use Rattle.triple_arena_traits.specs.Entries.{entry_in, look_up, value_under, with_value_in}
+use Rattle.triple_arena_traits.specs.Entries.{entry_in, look_up, value_of_generation, with_value_in}
 use Rattle.triple_arena_traits.specs.Walks.{entries_from, entries, keys_of, keys, values_of, values}
 use Rattle.triple_arena_traits.specs.Recasting.{written, recast_values}
 
@@ -61,7 +61,7 @@ module _ {T : Type 0} where
 
   pub value_found : (xs : List (Option (ℕ × T))) (left : List (Pointer × T)) (k : Pointer) (v : T) (right : List (Pointer × T)) → entries xs ≡ left ++ (k, v) ∷ right → look_up xs k ≡ Some v
   value_found xs left k v right e =
-      ap (option_and_then (value_under k.1)) (entry_found xs left k v right e) ∙ ap (λ b. cond b (Some v) None) (eq_true k.1 k.1 refl)
+      ap (option_and_then (value_of_generation k.1)) (entry_found xs left k v right e) ∙ ap (λ b. cond b (Some v) None) (eq_true k.1 k.1 refl)
 
   -- another value in an entry
   pub entries_with_value : (xs : List (Option (ℕ × T))) (left : List (Pointer × T)) (k : Pointer) (v w : T) (right : List (Pointer × T)) → entries xs ≡ left ++ (k, v) ∷ right → entries (with_value_in xs k.0 w) ≡ left ++ (k, w) ∷ right

@@ -4,7 +4,7 @@ use Rattle.std.specs.Borrow.{MutBor}
 use Rattle.std.specs.Option.{option_and_then, option_copied_mut}
 use Rattle.triple_arena_ptr.specs.Pointers.{Pointer}
 use Rattle.triple_arena_traits.specs.Items.{item}
-use Rattle.triple_arena_traits.specs.Entries.{value_under, look_up}
+use Rattle.triple_arena_traits.specs.Entries.{value_of_generation, look_up}
 use Rattle.triple_arena_traits.specs.ArenaState.{ArenaState, slot_count, with_value, IsWellFormed}
 use Rattle.triple_arena_traits.specs.Insertion.{place_among, place, next_pointer, inserted_among, inserted}
 use Rattle.triple_arena_traits.specs.laws.ItemLaws.{joined, eq_true, item_within, item-with_same, item-push_same, with_item-twice, with_item-push}
@@ -37,7 +37,7 @@ module _ {T : Type 0} where
   -- the pointer of an insertion finds the value
   pub found_inserted : (s new : ArenaState T) (p : Pointer) (v : T) → IsWellFormed s → p ≡ next_pointer s → new ≡ inserted s v → look_up new.slots p ≡ Some v
   found_inserted s new p v well pointer is =
-      rw (pointer, is) (ap (λ o. option_and_then (value_under s.counter) (joined o)) (item-inserted s v well) ∙ ap (λ b. cond b (Some v) None) (eq_true s.counter s.counter refl))
+      rw (pointer, is) (ap (λ o. option_and_then (value_of_generation s.counter) (joined o)) (item-inserted s v well) ∙ ap (λ b. cond b (Some v) None) (eq_true s.counter s.counter refl))
 
   -- what is written under the pointer of an insertion stands as if it was inserted
   pub rewritten : (s new : ArenaState T) (i : ℕ) (v w : T) → IsWellFormed s → i ≡ place s → new ≡ inserted s v → with_value new i w ≡ inserted s w

@@ -43,8 +43,8 @@ writes_two put es es' i j a b a' b' x y at_i at_j left_i left_j is =
 
 module _ {T : Type 0} (slots : List (Option (ℕ × T))) where
   -- the value under a valid pointer is that of the entry at its index
-  pub value_under_pointer : (p : Pointer) (i : ℕ) → i ≡ p.0 → is_some (look_up slots p) ≡ true → value_of (entry_in slots i) ≡ look_up slots p
-  value_under_pointer p i here valid =
+  pub value_at_pointer : (p : Pointer) (i : ℕ) → i ≡ p.0 → is_some (look_up slots p) ≡ true → value_of (entry_in slots i) ≡ look_up slots p
+  value_at_pointer p i here valid =
       let found = entry_of_value slots p.0 p.1 valid in
       ap (λ n. value_of (entry_in slots n)) here ∙ ap value_of found.1 ∙ sym found.2
 

@@ -13,7 +13,7 @@ use Rattle.triple_arena_stack.specs.Disjoint.{IsRefused}
 use Rattle.triple_arena_traits.specs.laws.PointerListLaws.{pointer_is}
 use Rattle.triple_arena_traits.specs.laws.WellFormedLaws.{entry_of_value}
 use Rattle.triple_arena_traits.specs.Disjoint.{DisjointInxAnswer}
-use Rattle.triple_arena_traits.specs.Entries.{entry_in, value_under, look_up, ChangesAt}
+use Rattle.triple_arena_traits.specs.Entries.{entry_in, value_of_generation, look_up, ChangesAt}
 use Rattle.triple_arena_traits.specs.laws.ItemLaws.{eq_false}
 
 -- what `?` makes of an error of its own type
@@ -52,16 +52,16 @@ module _ {T : Type 0} where
   module _ (old new : List (Option (ℕ × T))) (p : Pointer) (live : IsSome (look_up old p)) (change : ChangesAt old p.0 None new) where
     -- a pointer whose entry was taken away finds nothing
     pub gone_found : look_up new p ≡ None
-    gone_found = ap (option_and_then (value_under p.1)) change.there
+    gone_found = ap (option_and_then (value_of_generation p.1)) change.there
 
     -- and every other finds what it found
     pub rest_found : (q : Pointer) → q ≢ p → look_up new q ≡ look_up old q
     rest_found q other =
         elim (cases_eq q.0 p.0) [
           | inl here ↦ let found = entry_of_value old p.0 p.1 live in
-              ap (option_and_then (value_under q.1)) (ap (entry_in new) here ∙ change.there)
-              ∙ sym (ap (option_and_then (value_under q.1)) (ap (entry_in old) here ∙ found.1) ∙ ap (λ b. cond b (Some found.0) None) (eq_false p.1 q.1 (λ same. other (pointer_is _ _ _ _ here (sym same)))))
-          | inr away ↦ ap (option_and_then (value_under q.1)) (change.others q.0 away)
+              ap (option_and_then (value_of_generation q.1)) (ap (entry_in new) here ∙ change.there)
+              ∙ sym (ap (option_and_then (value_of_generation q.1)) (ap (entry_in old) here ∙ found.1) ∙ ap (λ b. cond b (Some found.0) None) (eq_false p.1 q.1 (λ same. other (pointer_is _ _ _ _ here (sym same)))))
+          | inr away ↦ ap (option_and_then (value_of_generation q.1)) (change.others q.0 away)
         ]
 
 pub copied_some : {A : Type 0} (o : Option (Bor A)) → is_some (option_copied o) ≡ is_some o

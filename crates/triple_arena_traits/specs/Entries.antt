@@ -10,12 +10,12 @@ module _ {T : Type 0} where
   entry_in slots i = option_and_then (λ slot. slot) (item slots i)
 
   -- the value of an entry of that generation
-  abbrev pub value_under : ℕ → ℕ × T → Option T
-  value_under generation e = cond (e.0 == generation) (Some e.1) None
+  abbrev pub value_of_generation : ℕ → ℕ × T → Option T
+  value_of_generation generation e = cond (e.0 == generation) (Some e.1) None
 
   -- the value under a pointer: that of the entry at its index, if the generation is the pointer's
   abbrev pub look_up : List (Option (ℕ × T)) → Pointer → Option T
-  look_up slots p = option_and_then (value_under p.1) (entry_in slots p.0)
+  look_up slots p = option_and_then (value_of_generation p.1) (entry_in slots p.0)
 
   -- the number of entries
   abbrev pub entry_count : List (Option (ℕ × T)) → ℕ

@@ -4,7 +4,7 @@ ghost use Rattle.std.specs.Prelude.{◌≡◌, ℕ, Option, Some, None, IsSome, 
 ghost use Rattle.std.specs.Borrow.{sem, Lends, LendsIf};
 ghost use Rattle.std.specs.Option.{option_map, option_and_then, option_copied_mut};
 ghost use Rattle.triple_arena_traits.specs.Disjoint.{value_of};
-ghost use Rattle.triple_arena_traits.specs.Entries.{value_under};
+ghost use Rattle.triple_arena_traits.specs.Entries.{value_of_generation};
 
 use triple_arena_ptr::{Ptr, PtrGen};
 
@@ -85,9 +85,9 @@ pub trait EntrySlot<P: Ptr, T>: Sized {
     }
 
     /// The value of its entry, if that has this generation.
-    final fn value_under(&self, generation: P::Gen) -> Option<&T>
+    final fn look_up(&self, generation: P::Gen) -> Option<&T>
         ensures { option_copied result
-            ≡ option_and_then (value_under (P.Gen.number generation)) (entry self.now) }
+            ≡ option_and_then (value_of_generation (P.Gen.number generation)) (entry self.now) }
     {
         match self.entry() {
             Some((own, value)) if own == generation => Some(value),

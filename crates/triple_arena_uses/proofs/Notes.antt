@@ -3,7 +3,7 @@ use Rattle.std.proofs.Common.{◌≡◌, ◌≢◌, ◌⊎◌, ℕ, List, [], Op
 use Rattle.std.proofs.lemmas.Bool.{cases_eq}
 use Rattle.std.specs.Option.{option_and_then}
 use Rattle.triple_arena_ptr.specs.Pointers.{Pointer}
-use Rattle.triple_arena_traits.specs.Entries.{look_up, value_under}
+use Rattle.triple_arena_traits.specs.Entries.{look_up, value_of_generation}
 use Rattle.triple_arena_traits.specs.laws.ItemLaws.{joined, item_nil}
 use Rattle.triple_arena_traits.specs.laws.PointerListLaws.{pointer_is}
 use Rattle.triple_arena_direct_arena.specs.Mirrors.{IsMirror}

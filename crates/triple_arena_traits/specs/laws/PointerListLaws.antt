@@ -6,7 +6,7 @@ use Rattle.std.specs.Option.{option_and_then}
 use Rattle.triple_arena_ptr.specs.Pointers.{Pointer, is_same}
 use Rattle.triple_arena_traits.specs.Items.{item}
 use Rattle.triple_arena_traits.specs.laws.ItemLaws.{joined, eq_true, eq_false}
-use Rattle.triple_arena_traits.specs.Entries.{value_under}
+use Rattle.triple_arena_traits.specs.Entries.{value_of_generation}
 use Rattle.triple_arena_traits.specs.ArenaState.{ArenaState, entry}
 use Rattle.triple_arena_traits.specs.Walks.{keys_of, entries_from, keys}
 use Rattle.triple_arena_traits.specs.laws.WalkLaws.{found}
@@ -86,7 +86,7 @@ distinct_last (q ∷ ps) p d =
 module _ {T : Type 0} where
   -- whether a slot that holds this has the pointer's generation
   abbrev pub live_in : ℕ → Option (ℕ × T) → Bool
-  live_in h o = is_some (option_and_then (value_under h) o)
+  live_in h o = is_some (option_and_then (value_of_generation h) o)
 
   pub live_in_one : (p : Pointer) (i h : ℕ) (v : T) → p.0 ≡ i → live_in p.1 (Some (h, v)) ≡ is_same p (i, h)
   live_in_one p i h v here =

@@ -3,7 +3,7 @@ use Rattle.std.proofs.Common.{◌≡◌, ℕ, zero, suc, ◌+◌, ◌==◌, Bool
 use Rattle.std.specs.List.{fold}
 use Rattle.std.specs.Option.{option_map, option_and_then}
 use Rattle.triple_arena_traits.specs.Items.{item}
-use Rattle.triple_arena_traits.specs.Entries.{entry_count, value_under}
+use Rattle.triple_arena_traits.specs.Entries.{entry_count, value_of_generation}
 use Rattle.triple_arena_traits.specs.Values.{with_value_of, with_values_in, generations_in, with_values_of, KeepsPointers}
 use Rattle.triple_arena_traits.specs.laws.ItemLaws.{joined}
 use Rattle.triple_arena_traits.specs.ArenaState.{ArenaState, is_free, IsWellFormed}
@@ -43,7 +43,7 @@ module _ {T : Type 0} where
   generations-kept (e ∷ es) [] = refl
   generations-kept (e ∷ es) (w ∷ ws) = rw (generation-kept e w, generations-kept es ws) refl
 
-  pub under-kept : (generation : ℕ) (e w : Option (ℕ × T)) → is_some (option_and_then (value_under generation) (with_value_of e w)) ≡ is_some (option_and_then (value_under generation) e)
+  pub under-kept : (generation : ℕ) (e w : Option (ℕ × T)) → is_some (option_and_then (value_of_generation generation) (with_value_of e w)) ≡ is_some (option_and_then (value_of_generation generation) e)
   under-kept generation None w = refl
   under-kept generation (Some e) None = refl
   under-kept generation (Some e) (Some w) = by_test (e.0 == generation)
@@ -69,7 +69,7 @@ module _ {T : Type 0} where
   pub keeps_pointers : (s : ArenaState T) → KeepsPointers s
   keeps_pointers s w =
       record {
-        pointers = λ q. at-kept (λ o. is_some (option_and_then (value_under q.1) (joined o))) (under-kept q.1) s.slots w.slots q.0;
+        pointers = λ q. at-kept (λ o. is_some (option_and_then (value_of_generation q.1) (joined o))) (under-kept q.1) s.slots w.slots q.0;
         generations = generations-kept s.slots w.slots;
         len = count-kept s.slots w.slots;
         counter = refl;

@@ -7,7 +7,7 @@ use Rattle.std.specs.Option.{option_map, option_and_then}
 use Rattle.triple_arena_ptr.specs.Pointers.{Pointer}
 use Rattle.triple_arena_traits.specs.Items.{item}
 use Rattle.triple_arena_traits.specs.laws.ItemLaws.{joined, item_within, eq_true, eq_false}
-use Rattle.triple_arena_traits.specs.Entries.{entry_in, look_up, value_under, entry_count, ChangesAt, with_value_in, IsFirst, IsLast}
+use Rattle.triple_arena_traits.specs.Entries.{entry_in, look_up, value_of_generation, entry_count, ChangesAt, with_value_in, IsFirst, IsLast}
 use Rattle.triple_arena_traits.specs.laws.EntryLaws.{changes_at}
 use Rattle.triple_arena_traits.specs.FreeList.{IsRising}
 use Rattle.triple_arena_traits.specs.Walks.{Stand, place_of, is_ahead, moved, steps_left, Answers, Steps, IsAtFirst, IsBeforeAll, Walk, put_entry, entries_where, entries_from, entries, entries_ahead, entries_behind, keys_of, keys, keys_ahead}
@@ -247,7 +247,7 @@ module _ {T : Type 0} where
     pub entry : entry_in slots p.0 ≡ Some (p.1, value)
     pub looked_up : look_up slots p ≡ Some value
 
-  found_in : (o : Option (ℕ × T)) (g : ℕ) → IsSome (option_and_then (value_under g) o) → (v : T) × (o ≡ Some (g, v)) × (option_and_then (value_under g) o ≡ Some v)
+  found_in : (o : Option (ℕ × T)) (g : ℕ) → IsSome (option_and_then (value_of_generation g) o) → (v : T) × (o ≡ Some (g, v)) × (option_and_then (value_of_generation g) o ≡ Some v)
   found_in None g live = absurd (true≢false (sym live))
   found_in (Some (h, v)) g live =
       elim (cases_eq h g) [

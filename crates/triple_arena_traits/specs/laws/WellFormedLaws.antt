@@ -7,7 +7,7 @@ use Rattle.triple_arena_ptr.specs.Pointers.{Pointer}
 use Rattle.triple_arena_traits.specs.laws.ItemLaws.{joined, item_nil, eq_true, eq_false, item_within, item_past, length-with_item, item-with_same, item-with_other, item-push_same, item-push_other, split_last}
 use Rattle.std.specs.Option.{option_and_then, option_map}
 use Rattle.triple_arena_traits.specs.Items.{item, with_item}
-use Rattle.triple_arena_traits.specs.Entries.{look_up, entry_in, value_under, with_value_in, with_generation_in}
+use Rattle.triple_arena_traits.specs.Entries.{look_up, entry_in, value_of_generation, with_value_in, with_generation_in}
 use Rattle.triple_arena_traits.specs.ArenaState.{ArenaState, new_arena, capacity, entry, slot_count, arena_len, is_free, IsWellFormed}
 use Rattle.triple_arena_traits.specs.Insertion.{place_among, place, inserted_among, inserted}
 use Rattle.triple_arena_traits.specs.SlotSteps.{steps_among, IsTouched}
@@ -197,7 +197,7 @@ module _ {T : Type 0} where
 
   -- the value under an index and a generation is that of the entry
   pub value_of_entry : (s : ArenaState T) (i h stamp : ℕ) (v : T) → entry s i ≡ Some (h, v) → is_some (look_up s.slots (i, stamp)) ≡ true → look_up s.slots (i, stamp) ≡ Some v
-  value_of_entry s i h stamp v found some = by_test (h == stamp) (ap (option_and_then (value_under stamp)) found) some
+  value_of_entry s i h stamp v found some = by_test (h == stamp) (ap (option_and_then (value_of_generation stamp)) found) some
     where
       by_test : (b : Bool) → look_up s.slots (i, stamp) ≡ cond b (Some v) None → is_some (look_up s.slots (i, stamp)) ≡ true → look_up s.slots (i, stamp) ≡ Some v
       by_test true e some = e
@@ -210,10 +210,10 @@ module _ {T : Type 0} where
       by_test : (e : ℕ × T) (b : Bool) → (e.0 == stamp) ≡ b → entry_in xs i ≡ Some e → is_some (cond b (Some e.1) None) ≡ true → (v : T) × (entry_in xs i ≡ Some (stamp, v)) × (look_up xs (i, stamp) ≡ Some v)
       by_test e true t h some =
           let same : e.0 ≡ stamp = eqb-true e.0 stamp t in
-          (e.1, h ∙ ap (λ n. Some (n, e.1)) same, ap (option_and_then (value_under stamp)) h ∙ ap (λ b. cond b (Some e.1) None) t)
+          (e.1, h ∙ ap (λ n. Some (n, e.1)) same, ap (option_and_then (value_of_generation stamp)) h ∙ ap (λ b. cond b (Some e.1) None) t)
       by_test e false t h some = absurd (cc)
 
-      by_entry : (o : Option (ℕ × T)) → entry_in xs i ≡ o → is_some (option_and_then (value_under stamp) o) ≡ true → (v : T) × (entry_in xs i ≡ Some (stamp, v)) × (look_up xs (i, stamp) ≡ Some v)
+      by_entry : (o : Option (ℕ × T)) → entry_in xs i ≡ o → is_some (option_and_then (value_of_generation stamp) o) ≡ true → (v : T) × (entry_in xs i ≡ Some (stamp, v)) × (look_up xs (i, stamp) ≡ Some v)
       by_entry None h some = absurd (cc)
       by_entry (Some e) h some = by_test e (e.0 == stamp) refl h some
 
@@ -242,7 +242,7 @@ module _ {T : Type 0} where
   pub live_entry : (xs : List (Option (ℕ × T))) (p : Pointer) → is_some (look_up xs p) ≡ true → is_some (entry_in xs p.0) ≡ true
   live_entry xs p live = by_entry (entry_in xs p.0) live
     where
-      by_entry : (o : Option (ℕ × T)) → is_some (option_and_then (value_under p.1) o) ≡ true → is_some o ≡ true
+      by_entry : (o : Option (ℕ × T)) → is_some (option_and_then (value_of_generation p.1) o) ≡ true → is_some o ≡ true
       by_entry None some = some
       by_entry (Some e) some = refl
 
@@ -253,7 +253,7 @@ module _ {T : Type 0} where
       by_test e true some same = same
       by_test e false some same = absurd (true≢false (sym some))
 
-      by_entry : (o : Option (ℕ × T)) → is_some (option_and_then (value_under p.1) o) ≡ true → option_map (λ (e : ℕ × T). e.1) o ≡ Some v → option_and_then (value_under p.1) o ≡ Some v
+      by_entry : (o : Option (ℕ × T)) → is_some (option_and_then (value_of_generation p.1) o) ≡ true → option_map (λ (e : ℕ × T). e.1) o ≡ Some v → option_and_then (value_of_generation p.1) o ≡ Some v
       by_entry None some same = absurd (true≢false (sym some))
       by_entry (Some e) some same = by_test e (e.0 == p.1) some same
 

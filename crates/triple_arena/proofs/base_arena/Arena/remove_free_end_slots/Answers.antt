@@ -1,6 +1,6 @@
 use Rattle.std.proofs.Common.{◌≤◌, ◌∙◌, ◌∷◌, [], ap, refl, arith}
 use Rattle.std.specs.Option.{option_and_then}
-use Rattle.triple_arena_traits.specs.Entries.{value_under}
+use Rattle.triple_arena_traits.specs.Entries.{value_of_generation}
 use Rattle.triple_arena_traits.specs.Items.{item}
 use Rattle.triple_arena_traits.specs.ArenaState.{ArenaState, slot_count, arena_len, entry, is_free}
 use Rattle.triple_arena_traits.specs.FreeList.{without_free_end}
@@ -45,7 +45,7 @@ returns-clause-bounded g c =
 pub returns-clause-kept : goal.returns-clause-kept
 returns-clause-kept g c q =
     let same = slots-without_free_end c.args.self.now (without_free_end c.args.self.now) refl q.0 in
-    ap (option_and_then (value_under q.1)) (ap (λ (t : ArenaState g.row.T.Denot). entry t q.0) (returns-clause-state g c).0 ∙ same)
+    ap (option_and_then (value_of_generation q.1)) (ap (λ (t : ArenaState g.row.T.Denot). entry t q.0) (returns-clause-state g c).0 ∙ same)
 
 pub returns-clause-same_len : goal.returns-clause-same_len
 returns-clause-same_len g c =

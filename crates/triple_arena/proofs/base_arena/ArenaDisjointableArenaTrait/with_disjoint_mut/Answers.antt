@@ -8,7 +8,7 @@ use Rattle.triple_arena_traits.specs.ArenaState.{entry}
 use Rattle.triple_arena_traits.specs.laws.ItemLaws.{eq_true, eq_false}
 use Rattle.triple_arena_traits.specs.laws.WellFormedLaws.{live_entry}
 use Rattle.triple_arena_traits.proofs.SlotEntries.{none_of}
-use Rattle.triple_arena_traits.proofs.Pairs.{value_under_pointer, same_pointer}
+use Rattle.triple_arena_traits.proofs.Pairs.{value_at_pointer, same_pointer}
 use Rattle.triple_arena.proofs.base_arena.ArenaDisjointableArenaTrait.with_disjoint_mut.Goals.{in_default-via-in-Some+in_default, in_default-via-in_default}
 use Rattle.triple_arena.proofs.base_arena.ArenaDisjointableArenaTrait.with_disjoint_mut.Goals as goal
 
@@ -25,8 +25,8 @@ returns-clause-worked g c =
       w.1,
       w.2,
       w.3,
-      sym (value_under_pointer c.args.self.now.slots first _ at_first first_valid) ∙ w.4,
-      sym (value_under_pointer c.args.self.now.slots second _ at_second second_valid) ∙ w.5,
+      sym (value_at_pointer c.args.self.now.slots first _ at_first first_valid) ∙ w.4,
+      sym (value_at_pointer c.args.self.now.slots second _ at_second second_valid) ∙ w.5,
       record { first = w.6.first; second = w.6.second; shows = w.6.shows; left = w.6.left; met = w.6.met; leaves = w.6.leaves },
       rw (at_first, at_second) at w.7,
     )
@@ -60,7 +60,7 @@ work_on_two-requires-clause-callable g c κs within =
     let first_valid : is_some (look_up c.args.self.now.slots first) ≡ true = sym (rw c.in-Some-Some.is-0 at c.find.ensures.live) in
     let second_valid : is_some (look_up c.args.self.now.slots second) ≡ true = sym (rw c.in-Some-Some.is-1 at c.find-2.ensures.live) in
     let apart : first.0 ≢ second.0 = λ same. true≢false (sym (eq_true _ _ (at_first ∙ same ∙ sym at_second)) ∙ sym c.eq.ensures ∙ c.if-eq.false) in
-    λ x y at_x at_y. c.requires apart x y (sym (value_under_pointer c.args.self.now.slots first _ at_first first_valid) ∙ at_x) (sym (value_under_pointer c.args.self.now.slots second _ at_second second_valid) ∙ at_y)
+    λ x y at_x at_y. c.requires apart x y (sym (value_at_pointer c.args.self.now.slots first _ at_first first_valid) ∙ at_x) (sym (value_at_pointer c.args.self.now.slots second _ at_second second_valid) ∙ at_y)
 
 pub returns-in_default-clause-history : goal.returns-in_default-clause-history
 returns-in_default-clause-history g c h fits = fits

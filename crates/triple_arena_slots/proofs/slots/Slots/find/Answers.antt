@@ -1,7 +1,7 @@
 use Rattle.std.proofs.Common.{◌≡◌, ◌∙◌, ℕ, is_some, map, None, sym, ap, subst, arith}
 use Rattle.std.specs.Option.{option_and_then}
 use Rattle.triple_arena_ptr.specs.Pointers.{Pointer}
-use Rattle.triple_arena_traits.specs.Entries.{entry_in, value_under}
+use Rattle.triple_arena_traits.specs.Entries.{entry_in, value_of_generation}
 use Rattle.triple_arena_traits.proofs.SlotEntries.{none_past}
 use Rattle.triple_arena_slots.specs.Slot.{entry_of}
 use Rattle.triple_arena_slots.proofs.slots.Slots.find.Goals as goal
@@ -13,4 +13,4 @@ returns-in_err-inx-clause-live g c =
     let n : ℕ = g.P.Inx.PtrInx.number c.inx.result in
     let none : entry_in (map (entry_of g.P.Gen.PtrGen.number) items) n ≡ None = none_past (entry_of g.P.Gen.PtrGen.number) items n (omega (arith, c.requires, c.in_err-inx.ensures.number)) in
     let here : entry_in (map (entry_of g.P.Gen.PtrGen.number) items) (g.P.Ptr.numbers c.args.p).0 ≡ None = subst (λ k. entry_in (map (entry_of g.P.Gen.PtrGen.number) items) k ≡ None) at none in
-    ap is_some c.from_residual.ensures ∙ sym (ap (λ o. is_some (option_and_then (value_under (g.P.Ptr.numbers c.args.p).1) o)) here)
+    ap is_some c.from_residual.ensures ∙ sym (ap (λ o. is_some (option_and_then (value_of_generation (g.P.Ptr.numbers c.args.p).1) o)) here)

@@ -16,12 +16,12 @@ use Rattle.triple_arena_traits.specs.laws.PointerListLaws.{pointer_is}
 use Rattle.triple_arena_traits.proofs.LookUps.{others_found, new_found}
 use Rattle.triple_arena_traits.specs.laws.WellFormedLaws.{entry_of_value, with_value_is}
 use Rattle.triple_arena_traits.specs.FreeEnd.{extended}
-use Rattle.triple_arena_direct_arena.specs.DirectState.{DirectState, slot_count, direct_capacity, with_value, inserted_at, removed, settled, with_room_for, with_slots}
+use Rattle.triple_arena_direct_arena.specs.DirectState.{DirectState, direct_slot_count, direct_capacity, direct_with_value, inserted_at, direct_removed, direct_shortened, direct_with_room_for, direct_with_slots}
 use Rattle.triple_arena_direct_arena.specs.laws.StepLaws.{len-with_value, len_taken, count-shortened}
 use Rattle.triple_arena_direct_arena.specs.laws.InsertionLaws.{length-extended, slots-inserted_at, len-inserted_at}
-use Rattle.triple_arena_direct_arena.specs.Slot.{slot_entry, with_slot_value}
+use Rattle.triple_arena_direct_arena.specs.Slot.{direct_slot_entry, direct_with_slot_value}
 use Rattle.triple_arena_direct_arena.specs.laws.SlotLaws.{slot_entry-written}
-use Rattle.triple_arena_direct_arena.specs.Layout.{direct_of, entry_at, with_value_at, Counts}
+use Rattle.triple_arena_direct_arena.specs.Layout.{direct_of, direct_entry_at, direct_with_value_at, Counts}
 use Rattle.triple_arena_direct_arena.specs.declared.slot.DirectSlot.{DirectSlot}
 use Rattle.triple_arena_traits.proofs.SlotEntries.{entry_item}
 
@@ -32,7 +32,7 @@ module _ {A : Type 0} where
   length-front (suc n) (x ∷ xs) = omega (arith, length-front n xs)
 
 module _ {T : Type 0} where
-  pub Counts-removed : (len : ℕ) (s : DirectState T) (i : ℕ) → IsSome (entry_in s.slots i) → Counts len s → Counts (len - 1) (removed s i)
+  pub Counts-removed : (len : ℕ) (s : DirectState T) (i : ℕ) → IsSome (entry_in s.slots i) → Counts len s → Counts (len - 1) (direct_removed s i)
   Counts-removed len s i live counts =
       record {
         counted = omega (arith, len_taken s i live, counts.counted);
@@ -76,35 +76,35 @@ module _ {T : Type 0} where
       change = inserted_changes old new p v positive is
 
   -- what is written under the pointer of an insertion stands as if it was inserted
-  pub rewritten_at : (old new : DirectState T) (p : Pointer) (v w : T) → 0 < p.0 → new ≡ inserted_at old p v → with_value new p.0 w ≡ inserted_at old p w
+  pub rewritten_at : (old new : DirectState T) (p : Pointer) (v w : T) → 0 < p.0 → new ≡ inserted_at old p v → direct_with_value new p.0 w ≡ inserted_at old p w
   rewritten_at old new p v w positive is =
       let put = slots-inserted_at old p v positive in
-      ap (λ s. with_value s p.0 w) is
+      ap (λ s. direct_with_value s p.0 w) is
       ∙ ap (λ xs. record old { slots = xs }) (
       with_value_is (inserted_at old p v).slots p.0 p.1 v w put.there
       ∙ with_item-twice (extended old.slots p.0) p.0 (Some (p.1, v)) (Some (p.1, w))
       )
 
-  pub Counts-with_value : (len : ℕ) (s : DirectState T) (i : ℕ) (w : T) → Counts len s → Counts len (with_value s i w)
+  pub Counts-with_value : (len : ℕ) (s : DirectState T) (i : ℕ) (w : T) → Counts len s → Counts len (direct_with_value s i w)
   Counts-with_value len s i w counts =
       record {
         counted = counts.counted ∙ sym (len-with_value s i w);
         fits = omega (arith, length-with_item s.slots i (option_map (λ (e : ℕ × T). (e.0, w)) (entry_in s.slots i)), counts.fits);
       }
 
-  pub Counts-settled : (len : ℕ) (s : DirectState T) (m : ℕ) → Counts len s → Counts len (settled s m)
+  pub Counts-settled : (len : ℕ) (s : DirectState T) (m : ℕ) → Counts len s → Counts len (direct_shortened s m)
   Counts-settled len s m counts =
       record {
         counted = counts.counted ∙ sym (count-shortened m s.slots);
         fits = omega (arith, length-front (max (length (trimmed s.slots)) m) s.slots, counts.fits);
       }
 
-  pub Counts-slots : (len : ℕ) (s : DirectState T) (xs : List (Option (ℕ × T))) → len ≡ entry_count xs → length xs ≤ direct_capacity s → Counts len (with_slots s xs)
+  pub Counts-slots : (len : ℕ) (s : DirectState T) (xs : List (Option (ℕ × T))) → len ≡ entry_count xs → length xs ≤ direct_capacity s → Counts len (direct_with_slots s xs)
   Counts-slots len s xs counted fits = record { counted = counted; fits = fits }
 
-  pub Counts-room : (kind : StackKind) (len : ℕ) (s : DirectState T) (m : ℕ) → Counts len s → Counts len (with_room_for kind s m)
+  pub Counts-room : (kind : StackKind) (len : ℕ) (s : DirectState T) (m : ℕ) → Counts len s → Counts len (direct_with_room_for kind s m)
   Counts-room kind len s m counts =
-      record { counted = counts.counted; fits = within_room kind s.room (slot_count s) m s.greatest s.limit counts.fits }
+      record { counted = counts.counted; fits = within_room kind s.room (direct_slot_count s) m s.greatest s.limit counts.fits }
 
   -- the value that is read at the index of a valid pointer
   pub value_read : (xs ys : List (Option (ℕ × T))) (p : Pointer) (i : ℕ) (v : T) → xs ≡ ys → i ≡ p.0 → is_some (look_up xs p) ≡ true → option_map (λ (e : ℕ × T). e.1) (entry_in xs i) ≡ Some v → look_up ys p ≡ Some v
@@ -124,34 +124,34 @@ module _ {T : Type 0} where
 
 module _ {P T I G : Type 0} (number : G → ℕ) where
   -- slots that are those of a state, with its count, make an arena of that state
-  pub made : (es : List (DirectSlot P T I G)) (len room : ℕ) (limit : Option ℕ) (greatest : ℕ) (s : DirectState T) → map (slot_entry number) es ≡ s.slots → room ≡ s.room → limit ≡ s.limit → greatest ≡ s.greatest → Counts len s → Counts len (direct_of number es room limit greatest) × (direct_of number es room limit greatest ≡ s)
+  pub made : (es : List (DirectSlot P T I G)) (len room : ℕ) (limit : Option ℕ) (greatest : ℕ) (s : DirectState T) → map (direct_slot_entry number) es ≡ s.slots → room ≡ s.room → limit ≡ s.limit → greatest ≡ s.greatest → Counts len s → Counts len (direct_of number es room limit greatest) × (direct_of number es room limit greatest ≡ s)
   made es len room limit greatest s slots r l g counts =
       let is : direct_of number es room limit greatest ≡ s = rw (slots, r, l, g) refl in
       (rw is counts, is)
 
-  written : (es : List (DirectSlot P T I G)) (i : ℕ) (w : T) → map (slot_entry number) (with_value_at es i (item es i) w) ≡ with_value_in (map (slot_entry number) es) i w
+  written : (es : List (DirectSlot P T I G)) (i : ℕ) (w : T) → map (direct_slot_entry number) (direct_with_value_at es i (item es i) w) ≡ with_value_in (map (direct_slot_entry number) es) i w
   written es i w = by_item (item es i) refl
     where
-      by_item : (o : Option (DirectSlot P T I G)) → item es i ≡ o → map (slot_entry number) (with_value_at es i o w) ≡ with_value_in (map (slot_entry number) es) i w
+      by_item : (o : Option (DirectSlot P T I G)) → item es i ≡ o → map (direct_slot_entry number) (direct_with_value_at es i o w) ≡ with_value_in (map (direct_slot_entry number) es) i w
       by_item None none =
-          sym (with_item-past (map (slot_entry number) es) i (option_map (λ (e : ℕ × T). (e.0, w)) (entry_at number es i)) (item-map_none (slot_entry number) es i none))
+          sym (with_item-past (map (direct_slot_entry number) es) i (option_map (λ (e : ℕ × T). (e.0, w)) (direct_entry_at number es i)) (item-map_none (direct_slot_entry number) es i none))
       by_item (Some x) found =
-          map-with_item (slot_entry number) es i (with_slot_value x w)
-          ∙ ap (with_item (map (slot_entry number) es) i) (slot_entry-written number x w ∙ ap (option_map (λ (e : ℕ × T). (e.0, w))) (sym (entry_item (slot_entry number) es i x found)))
+          map-with_item (direct_slot_entry number) es i (direct_with_slot_value x w)
+          ∙ ap (with_item (map (direct_slot_entry number) es) i) (slot_entry-written number x w ∙ ap (option_map (λ (e : ℕ × T). (e.0, w))) (sym (entry_item (direct_slot_entry number) es i x found)))
 
   -- with other values in two slots the entries have them too
-  pub both_written : (es es' : List (DirectSlot P T I G)) (i j : ℕ) (x y : T) → i ≢ j → WritesTwo with_slot_value es es' i j x y → map (slot_entry number) es' ≡ with_value_in (with_value_in (map (slot_entry number) es) i x) j y
+  pub both_written : (es es' : List (DirectSlot P T I G)) (i j : ℕ) (x y : T) → i ≢ j → WritesTwo direct_with_slot_value es es' i j x y → map (direct_slot_entry number) es' ≡ with_value_in (with_value_in (map (direct_slot_entry number) es) i x) j y
   both_written es es' i j x y apart w =
-      let one : List (DirectSlot P T I G) = with_item es i (with_slot_value w.first x) in
-      let there : item one j ≡ Some w.second = item-with_other es i j (with_slot_value w.first x) (λ e. apart (sym e)) ∙ w.at_second in
-      let first : map (slot_entry number) one ≡ with_value_in (map (slot_entry number) es) i x = ap (λ o. map (slot_entry number) (with_value_at es i o x)) (sym w.at_first) ∙ written es i x in
-      let second : map (slot_entry number) (with_item one j (with_slot_value w.second y)) ≡ with_value_in (map (slot_entry number) one) j y = ap (λ o. map (slot_entry number) (with_value_at one j o y)) (sym there) ∙ written one j y in
-      ap (map (slot_entry number)) w.written ∙ second ∙ ap (λ xs. with_value_in xs j y) first
+      let one : List (DirectSlot P T I G) = with_item es i (direct_with_slot_value w.first x) in
+      let there : item one j ≡ Some w.second = item-with_other es i j (direct_with_slot_value w.first x) (λ e. apart (sym e)) ∙ w.at_second in
+      let first : map (direct_slot_entry number) one ≡ with_value_in (map (direct_slot_entry number) es) i x = ap (λ o. map (direct_slot_entry number) (direct_with_value_at es i o x)) (sym w.at_first) ∙ written es i x in
+      let second : map (direct_slot_entry number) (with_item one j (direct_with_slot_value w.second y)) ≡ with_value_in (map (direct_slot_entry number) one) j y = ap (λ o. map (direct_slot_entry number) (direct_with_value_at one j o y)) (sym there) ∙ written one j y in
+      ap (map (direct_slot_entry number)) w.written ∙ second ∙ ap (λ xs. with_value_in xs j y) first
 
   -- the arena after a write through a borrow of a value
-  pub lent : (es es' : List (DirectSlot P T I G)) (len room room' : ℕ) (limit limit' : Option ℕ) (greatest : ℕ) (s : DirectState T) (i : ℕ) (w : T) → Counts len (direct_of number es room limit greatest) → direct_of number es room limit greatest ≡ s → es' ≡ with_value_at es i (item es i) w → room' ≡ room → limit' ≡ limit → Counts len (direct_of number es' room' limit' greatest) × (direct_of number es' room' limit' greatest ≡ with_value s i w)
+  pub lent : (es es' : List (DirectSlot P T I G)) (len room room' : ℕ) (limit limit' : Option ℕ) (greatest : ℕ) (s : DirectState T) (i : ℕ) (w : T) → Counts len (direct_of number es room limit greatest) → direct_of number es room limit greatest ≡ s → es' ≡ direct_with_value_at es i (item es i) w → room' ≡ room → limit' ≡ limit → Counts len (direct_of number es' room' limit' greatest) × (direct_of number es' room' limit' greatest ≡ direct_with_value s i w)
   lent es es' len room room' limit limit' greatest s i w own is put r l =
-      made es' len room' limit' greatest (with_value s i w)
-      (ap (map (slot_entry number)) put ∙ written es i w ∙ ap (λ (t : DirectState T). with_value_in t.slots i w) is)
+      made es' len room' limit' greatest (direct_with_value s i w)
+      (ap (map (direct_slot_entry number)) put ∙ written es i w ∙ ap (λ (t : DirectState T). with_value_in t.slots i w) is)
       (r ∙ ap (λ (t : DirectState T). t.room) is) (l ∙ ap (λ (t : DirectState T). t.limit) is) (ap (λ (t : DirectState T). t.greatest) is)
       (Counts-with_value len s i w (subst (Counts len) is own))

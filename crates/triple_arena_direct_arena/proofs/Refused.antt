@@ -8,13 +8,13 @@ use Rattle.triple_arena_base.specs.declared.errors.GetDisjointMutError.{GetDisjo
 use Rattle.triple_arena_base.specs.declared.errors.GetDisjointMutError.TheVariants.{IndexOutOfBounds}
 use Rattle.triple_arena_stack.specs.Disjoint.{DisjointAnswer}
 use Rattle.triple_arena_traits.proofs.Refused.{err_is}
-use Rattle.triple_arena_direct_arena.specs.DirectState.{DirectState, slot_count}
+use Rattle.triple_arena_direct_arena.specs.DirectState.{DirectState, direct_slot_count}
 use Rattle.triple_arena_direct_arena.specs.Layout.{Counts}
 
 module _ {T : Type 0} where
   -- what is past the greatest index is past the slots
-  pub past_slots : (len : ℕ) (s t : DirectState T) (n : ℕ) → Counts len t → t ≡ s → t.greatest < n → slot_count s < n
-  past_slots len s t n counts is past = omega (arith, counts.fits, past, ap slot_count is)
+  pub past_slots : (len : ℕ) (s t : DirectState T) (n : ℕ) → Counts len t → t ≡ s → t.greatest < n → direct_slot_count s < n
+  past_slots len s t n counts is past = omega (arith, counts.fits, past, ap direct_slot_count is)
 
   -- and no entry stands there
   pub none_past : (len : ℕ) (s t : DirectState T) (n : ℕ) → Counts len t → t ≡ s → t.greatest < n → entry_in s.slots n ≡ None
@@ -23,7 +23,7 @@ module _ {T : Type 0} where
   -- so where one stands, the index is not past it
   pub entry_indexed : (len : ℕ) (s t : DirectState T) (n : ℕ) → Counts len t → t ≡ s → IsSome (entry_in s.slots n) → n ≤ t.greatest
   entry_indexed len s t n counts is live =
-      omega (arith, (live_within s.slots n live).1, counts.fits, ap slot_count is)
+      omega (arith, (live_within s.slots n live).1, counts.fits, ap direct_slot_count is)
 
 pub below_above : (a b : ℕ) → b < a → a ≤ b → ⊥
 below_above a b below above = omega (arith, below, above)

@@ -4,8 +4,8 @@ use Rattle.std.proofs.lemmas.List.{length-map}
 use Rattle.triple_arena_stack.specs.StackKind.{StackKind, reallocated_room, IsOfKind}
 use Rattle.triple_arena_stack.specs.Capacity.{stack_capacity, IsWithin}
 use Rattle.triple_arena_traits.proofs.Growth.{place_made}
-use Rattle.triple_arena_direct_arena.specs.DirectState.{DirectState, slot_count, direct_capacity, with_room_for, with_limit}
-use Rattle.triple_arena_direct_arena.specs.Slot.{slot_entry}
+use Rattle.triple_arena_direct_arena.specs.DirectState.{DirectState, direct_slot_count, direct_capacity, direct_with_room_for, direct_with_limit}
+use Rattle.triple_arena_direct_arena.specs.Slot.{direct_slot_entry}
 use Rattle.triple_arena_direct_arena.specs.Layout.{direct_of, Counts}
 use Rattle.triple_arena_direct_arena.specs.declared.slot.DirectSlot.{DirectSlot}
 use Rattle.triple_arena_direct_arena.proofs.Held.{made, Counts-room}
@@ -26,42 +26,42 @@ capacity_within room (Some most) = omega arith
 module _ {P T I G : Type 0} (number : G → ℕ) {A E : Type 0} where
   -- the arena after a reallocation of its stack
   pub resized : (kind : StackKind) (es es' : List (DirectSlot P T I G)) (len room room' : ℕ) (limit limit' : Option ℕ) (greatest : ℕ) (s : DirectState T) (m : ℕ) (r : Result A E) → Counts len (direct_of number es room limit greatest) → direct_of number es room limit greatest ≡ s → es' ≡ es → limit' ≡ limit → OnOk r (room' ≡ reallocated_room kind room (length es) m) → OnErr r (room' ≡ room)
-      → Counts len (direct_of number es' room' limit' greatest) × OnOk r (direct_of number es' room' limit' greatest ≡ with_room_for kind s m) × OnErr r (direct_of number es' room' limit' greatest ≡ s)
+      → Counts len (direct_of number es' room' limit' greatest) × OnOk r (direct_of number es' room' limit' greatest ≡ direct_with_room_for kind s m) × OnErr r (direct_of number es' room' limit' greatest ≡ s)
   resized kind es es' len room room' limit limit' greatest s m (Ok x) counts is items l ok err =
-      let put : map (slot_entry number) es' ≡ s.slots = ap (map (slot_entry number)) items ∙ ap (λ (t : DirectState T). t.slots) is in
-      let size : length es ≡ slot_count s = sym (length-map es (slot_entry number)) ∙ ap slot_count is in
-      let given : room' ≡ reallocated_room kind s.room (slot_count s) m = ok ∙ ap (λ n. reallocated_room kind n (length es) m) (ap (λ (t : DirectState T). t.room) is) ∙ ap (λ n. reallocated_room kind s.room n m) size in
-      let both = made number es' len room' limit' greatest (with_room_for kind s m) put given (l ∙ ap (λ (t : DirectState T). t.limit) is) (ap (λ (t : DirectState T). t.greatest) is) (Counts-room kind len s m (subst (Counts len) is counts)) in
+      let put : map (direct_slot_entry number) es' ≡ s.slots = ap (map (direct_slot_entry number)) items ∙ ap (λ (t : DirectState T). t.slots) is in
+      let size : length es ≡ direct_slot_count s = sym (length-map es (direct_slot_entry number)) ∙ ap direct_slot_count is in
+      let given : room' ≡ reallocated_room kind s.room (direct_slot_count s) m = ok ∙ ap (λ n. reallocated_room kind n (length es) m) (ap (λ (t : DirectState T). t.room) is) ∙ ap (λ n. reallocated_room kind s.room n m) size in
+      let both = made number es' len room' limit' greatest (direct_with_room_for kind s m) put given (l ∙ ap (λ (t : DirectState T). t.limit) is) (ap (λ (t : DirectState T). t.greatest) is) (Counts-room kind len s m (subst (Counts len) is counts)) in
       (both.0, both.1, tt)
   resized kind es es' len room room' limit limit' greatest s m (Err e) counts is items l ok err =
-      let both = made number es' len room' limit' greatest s (ap (map (slot_entry number)) items ∙ ap (λ (t : DirectState T). t.slots) is) (err ∙ ap (λ (t : DirectState T). t.room) is) (l ∙ ap (λ (t : DirectState T). t.limit) is) (ap (λ (t : DirectState T). t.greatest) is) (subst (Counts len) is counts) in
+      let both = made number es' len room' limit' greatest s (ap (map (direct_slot_entry number)) items ∙ ap (λ (t : DirectState T). t.slots) is) (err ∙ ap (λ (t : DirectState T). t.room) is) (l ∙ ap (λ (t : DirectState T). t.limit) is) (ap (λ (t : DirectState T). t.greatest) is) (subst (Counts len) is counts) in
       (both.0, tt, both.1)
 
   -- the arena after its stack was asked for another limit
-  pub relimited : (es es' : List (DirectSlot P T I G)) (len room room' : ℕ) (limit limit' : Option ℕ) (greatest : ℕ) (s : DirectState T) (m : ℕ) (r : Result A E) → Counts len (direct_of number es room limit greatest) → direct_of number es room limit greatest ≡ s → es' ≡ es → room' ≡ room → OnOk r (limit' ≡ Some m) → OnErr r (limit' ≡ limit) → (IsOk r → slot_count s ≤ m)
-      → Counts len (direct_of number es' room' limit' greatest) × OnOk r (direct_of number es' room' limit' greatest ≡ with_limit s m) × OnErr r (direct_of number es' room' limit' greatest ≡ s)
+  pub relimited : (es es' : List (DirectSlot P T I G)) (len room room' : ℕ) (limit limit' : Option ℕ) (greatest : ℕ) (s : DirectState T) (m : ℕ) (r : Result A E) → Counts len (direct_of number es room limit greatest) → direct_of number es room limit greatest ≡ s → es' ≡ es → room' ≡ room → OnOk r (limit' ≡ Some m) → OnErr r (limit' ≡ limit) → (IsOk r → direct_slot_count s ≤ m)
+      → Counts len (direct_of number es' room' limit' greatest) × OnOk r (direct_of number es' room' limit' greatest ≡ direct_with_limit s m) × OnErr r (direct_of number es' room' limit' greatest ≡ s)
   relimited es es' len room room' limit limit' greatest s m (Ok x) counts is items same ok err few =
       let own = subst (Counts len) is counts in
-      let put : map (slot_entry number) es' ≡ s.slots = ap (map (slot_entry number)) items ∙ ap (λ (t : DirectState T). t.slots) is in
-      let now : Counts len (with_limit s m) = record { counted = own.counted; fits = omega (arith, own.fits, few refl, capacity_within s.room s.limit) } in
-      let both = made number es' len room' limit' greatest (with_limit s m) put (same ∙ ap (λ (t : DirectState T). t.room) is) ok (ap (λ (t : DirectState T). t.greatest) is) now in
+      let put : map (direct_slot_entry number) es' ≡ s.slots = ap (map (direct_slot_entry number)) items ∙ ap (λ (t : DirectState T). t.slots) is in
+      let now : Counts len (direct_with_limit s m) = record { counted = own.counted; fits = omega (arith, own.fits, few refl, capacity_within s.room s.limit) } in
+      let both = made number es' len room' limit' greatest (direct_with_limit s m) put (same ∙ ap (λ (t : DirectState T). t.room) is) ok (ap (λ (t : DirectState T). t.greatest) is) now in
       (both.0, both.1, tt)
   relimited es es' len room room' limit limit' greatest s m (Err e) counts is items same ok err few =
-      let both = made number es' len room' limit' greatest s (ap (map (slot_entry number)) items ∙ ap (λ (t : DirectState T). t.slots) is) (same ∙ ap (λ (t : DirectState T). t.room) is) (err ∙ ap (λ (t : DirectState T). t.limit) is) (ap (λ (t : DirectState T). t.greatest) is) (subst (Counts len) is counts) in
+      let both = made number es' len room' limit' greatest s (ap (map (direct_slot_entry number)) items ∙ ap (λ (t : DirectState T). t.slots) is) (same ∙ ap (λ (t : DirectState T). t.room) is) (err ∙ ap (λ (t : DirectState T). t.limit) is) (ap (λ (t : DirectState T). t.greatest) is) (subst (Counts len) is counts) in
       (both.0, tt, both.1)
 
 module _ {P T I G : Type 0} (number : G → ℕ) where
   -- so many slots are in use
-  pub size_is : (es : List (DirectSlot P T I G)) (room : ℕ) (limit : Option ℕ) (greatest : ℕ) (s : DirectState T) → direct_of number es room limit greatest ≡ s → length es ≡ slot_count s
-  size_is es room limit greatest s is = sym (length-map es (slot_entry number)) ∙ ap slot_count is
+  pub size_is : (es : List (DirectSlot P T I G)) (room : ℕ) (limit : Option ℕ) (greatest : ℕ) (s : DirectState T) → direct_of number es room limit greatest ≡ s → length es ≡ direct_slot_count s
+  size_is es room limit greatest s is = sym (length-map es (direct_slot_entry number)) ∙ ap direct_slot_count is
 
   -- the room that is asked for
-  pub room_asked : (kind : StackKind) (es : List (DirectSlot P T I G)) (room : ℕ) (limit : Option ℕ) (greatest : ℕ) (s : DirectState T) (m : ℕ) → direct_of number es room limit greatest ≡ s → reallocated_room kind room (length es) m ≡ (with_room_for kind s m).room
+  pub room_asked : (kind : StackKind) (es : List (DirectSlot P T I G)) (room : ℕ) (limit : Option ℕ) (greatest : ℕ) (s : DirectState T) (m : ℕ) → direct_of number es room limit greatest ≡ s → reallocated_room kind room (length es) m ≡ (direct_with_room_for kind s m).room
   room_asked kind es room limit greatest s m is =
       ap (λ n. reallocated_room kind n (length es) m) (ap (λ (t : DirectState T). t.room) is) ∙ ap (λ n. reallocated_room kind s.room n m) (size_is es room limit greatest s is)
 
 -- the places that a reallocation makes
-pub places_made : {T A E : Type 0} (kind : StackKind) (s new : DirectState T) (m most : ℕ) (r : Result A E) → most ≡ s.greatest → IsOfKind kind s.room s.limit → OnOk r (new ≡ with_room_for kind s m) → OnOk r (IsWithin s.limit m) → OnOk r (m ≤ most → m ≤ direct_capacity new)
+pub places_made : {T A E : Type 0} (kind : StackKind) (s new : DirectState T) (m most : ℕ) (r : Result A E) → most ≡ s.greatest → IsOfKind kind s.room s.limit → OnOk r (new ≡ direct_with_room_for kind s m) → OnOk r (IsWithin s.limit m) → OnOk r (m ≤ most → m ≤ direct_capacity new)
 places_made kind s new m most (Ok x) top of_kind is within =
-    λ low. rw is (let made_place = place_made kind s.room (slot_count s) m s.limit of_kind within in omega (arith, made_place, low, top))
+    λ low. rw is (let made_place = place_made kind s.room (direct_slot_count s) m s.limit of_kind within in omega (arith, made_place, low, top))
 places_made kind s new m most (Err e) top of_kind is within = tt

@@ -28,8 +28,8 @@ module _ {T : Type 0} where
   new_direct room limit greatest = record { slots = []; room = room; limit = limit; greatest = greatest }
 
   -- the number of slots
-  abbrev pub slot_count : DirectState T → ℕ
-  slot_count s = length s.slots
+  abbrev pub direct_slot_count : DirectState T → ℕ
+  direct_slot_count s = length s.slots
 
   -- the number of entries
   abbrev pub direct_len : DirectState T → ℕ
@@ -41,11 +41,11 @@ module _ {T : Type 0} where
 
   -- the slots are no more than fit
   abbrev pub SlotsFit : DirectState T → Type 0
-  SlotsFit s = slot_count s ≤ direct_capacity s
+  SlotsFit s = direct_slot_count s ≤ direct_capacity s
 
   -- another value in the entry at an index
-  abbrev pub with_value : DirectState T → ℕ → T → DirectState T
-  with_value s i value = record s { slots = with_value_in s.slots i value }
+  abbrev pub direct_with_value : DirectState T → ℕ → T → DirectState T
+  direct_with_value s i value = record s { slots = with_value_in s.slots i value }
 
   -- insertion under a pointer: the value stands at its index, under its generation, and the slots that were missing below
   -- are free
@@ -53,37 +53,37 @@ module _ {T : Type 0} where
   inserted_at s p value = record s { slots = with_item (extended s.slots p.0) p.0 (Some (p.1, value)) }
 
   -- removal at an index: its slot is free, also where it is the last
-  abbrev pub removed : DirectState T → ℕ → DirectState T
-  removed s i = record s { slots = with_item s.slots i None }
+  abbrev pub direct_removed : DirectState T → ℕ → DirectState T
+  direct_removed s i = record s { slots = with_item s.slots i None }
 
   -- clearing: no slot is left
-  abbrev pub cleared : DirectState T → DirectState T
-  cleared s = record s { slots = [] }
+  abbrev pub direct_cleared : DirectState T → DirectState T
+  direct_cleared s = record s { slots = [] }
 
   -- compression: there are entries with these values, from index 1 on, each under its own generation, and no other slot
-  abbrev pub compressed : DirectState T → List T → DirectState T
-  compressed s values = record s { slots = placed (keys s.slots) values }
+  abbrev pub direct_compressed : DirectState T → List T → DirectState T
+  direct_compressed s values = record s { slots = placed (keys s.slots) values }
 
   -- free slots at the end go, but for those up to index m
-  abbrev pub settled : DirectState T → ℕ → DirectState T
-  settled s m = record s { slots = shortened m s.slots }
+  abbrev pub direct_shortened : DirectState T → ℕ → DirectState T
+  direct_shortened s m = record s { slots = shortened m s.slots }
 
   -- there is room for so many
-  abbrev pub with_room_for : StackKind → DirectState T → ℕ → DirectState T
-  with_room_for kind s m = record s { room = reallocated_room kind s.room (slot_count s) m }
+  abbrev pub direct_with_room_for : StackKind → DirectState T → ℕ → DirectState T
+  direct_with_room_for kind s m = record s { room = reallocated_room kind s.room (direct_slot_count s) m }
 
   -- reallocation to so many: free slots past them go first
-  abbrev pub reallocated : StackKind → DirectState T → ℕ → DirectState T
-  reallocated kind s m = with_room_for kind (settled s m) m
+  abbrev pub direct_reallocated : StackKind → DirectState T → ℕ → DirectState T
+  direct_reallocated kind s m = direct_with_room_for kind (direct_shortened s m) m
 
   -- the arena with a place for so many: where they are past the capacity, it is reallocated
-  abbrev pub ready_for : StackKind → DirectState T → ℕ → DirectState T
-  ready_for kind s m = cond (nat_lt (direct_capacity s) m) (reallocated kind s m) s
+  abbrev pub direct_ready_for : StackKind → DirectState T → ℕ → DirectState T
+  direct_ready_for kind s m = cond (nat_lt (direct_capacity s) m) (direct_reallocated kind s m) s
 
   -- the arena with these slots
-  abbrev pub with_slots : DirectState T → List (Option (ℕ × T)) → DirectState T
-  with_slots s slots = record s { slots = slots }
+  abbrev pub direct_with_slots : DirectState T → List (Option (ℕ × T)) → DirectState T
+  direct_with_slots s slots = record s { slots = slots }
 
   -- so many slots are allowed
-  abbrev pub with_limit : DirectState T → ℕ → DirectState T
-  with_limit s x = record s { limit = Some x }
+  abbrev pub direct_with_limit : DirectState T → ℕ → DirectState T
+  direct_with_limit s x = record s { limit = Some x }

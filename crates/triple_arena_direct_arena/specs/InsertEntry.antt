@@ -6,21 +6,21 @@ use Rattle.triple_arena_direct_arena.specs.declared.insert_entry.ArenaDirectInse
 
 module _ {P T S I G : Type 0} where
   -- the pointer that the entry was asked for
-  abbrev pub entry_pointer : ArenaDirectInsertEntry P T S I G → P
-  entry_pointer entry = entry.p
+  abbrev pub direct_entry_pointer : ArenaDirectInsertEntry P T S I G → P
+  direct_entry_pointer entry = entry.p
 
   -- the reference to the arena
-  abbrev pub entry_reference : ArenaDirectInsertEntry P T S I G → MutBor (DirectState T)
-  entry_reference entry = entry.arena
+  abbrev pub direct_entry_reference : ArenaDirectInsertEntry P T S I G → MutBor (DirectState T)
+  direct_entry_reference entry = entry.arena
 
   -- the arena, as the entry holds it
-  abbrev pub entry_arena : ArenaDirectInsertEntry P T S I G → DirectState T
-  entry_arena entry = entry.arena.now
+  abbrev pub direct_entry_arena : ArenaDirectInsertEntry P T S I G → DirectState T
+  direct_entry_arena entry = entry.arena.now
 
   -- the ghost name of the reference to the arena
-  abbrev pub entry_lender : ArenaDirectInsertEntry P T S I G → GName
-  entry_lender entry = entry.arena.ghost_name
+  abbrev pub direct_entry_lender : ArenaDirectInsertEntry P T S I G → GName
+  direct_entry_lender entry = entry.arena.ghost_name
 
   -- refused, the arena stays as it is
-  abbrev pub entry_rests : (arena_row : RattleType) → MutBor arena_row.Denot → {E : Type 0} → Result (ArenaDirectInsertEntry P T S I G) E → Fml
-  entry_rests arena_row arena result = RestsIfErr arena_row arena entry_lender result (λ end. end ≡ arena.now)
+  abbrev pub direct_entry_rests : (arena_row : RattleType) → MutBor arena_row.Denot → {E : Type 0} → Result (ArenaDirectInsertEntry P T S I G) E → Fml
+  direct_entry_rests arena_row arena result = RestsIfErr arena_row arena direct_entry_lender result (λ end. end ≡ arena.now)

@@ -2,7 +2,7 @@
 use Rattle.std.specs.Prelude.{◌≡◌, ℕ, List, Option, Some, None, is_some}
 use Rattle.triple_arena_ptr.specs.Pointers.{Pointer}
 use Rattle.triple_arena_traits.specs.Entries.{look_up, ChangesAt}
-use Rattle.triple_arena_direct_arena.specs.DirectState.{DirectState, inserted_at, removed}
+use Rattle.triple_arena_direct_arena.specs.DirectState.{DirectState, inserted_at, direct_removed}
 
 -- a change of the pointers of an arena: an entry comes under this one, or the entry at an index goes
 pub data Change : Type 0 where
@@ -22,4 +22,4 @@ module _ {T : Type 0} where
   -- the change, as the mirror is given it: an insertion under the pointer, or a removal at the index
   abbrev pub Follows : DirectState T → Change → DirectState T → Type 0
   Follows old (comes p) new = (value : T) × (new ≡ inserted_at old p value)
-  Follows old (goes i) new = new ≡ removed old i
+  Follows old (goes i) new = new ≡ direct_removed old i

@@ -7,8 +7,8 @@ use Rattle.triple_arena_direct_arena.specs.DirectState.{DirectState, direct_len}
 
 module _ {T : Type 0} where
   -- the arena with the values of the other
-  abbrev pub with_values_of : DirectState T → DirectState T → DirectState T
-  with_values_of s w = record s { slots = with_values_in s.slots w.slots }
+  abbrev pub direct_with_values_of : DirectState T → DirectState T → DirectState T
+  direct_with_values_of s w = record s { slots = with_values_in s.slots w.slots }
 
   -- the same pointers are valid, and nothing but values differs
   pub record DiffersInValues (old new : DirectState T) : Type 0 where
@@ -20,5 +20,5 @@ module _ {T : Type 0} where
     pub greatest : new.greatest ≡ old.greatest
 
   -- whatever values are written, the same pointers are valid
-  abbrev pub KeepsPointers : DirectState T → Type 0
-  KeepsPointers s = (w : DirectState T) → DiffersInValues s (with_values_of s w)
+  abbrev pub DirectKeepsPointers : DirectState T → Type 0
+  DirectKeepsPointers s = (w : DirectState T) → DiffersInValues s (direct_with_values_of s w)

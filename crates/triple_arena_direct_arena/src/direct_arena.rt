@@ -12,10 +12,10 @@ ghost use Rattle.triple_arena_traits.specs.DirectInsertion.{IsVacant};
 ghost use Rattle.triple_arena_traits.specs.Disjoint.{value_of};
 ghost use Rattle.triple_arena_traits.specs.FreeList.{last_index};
 ghost use Rattle.triple_arena_stack.specs.Disjoint.{DisjointAnswer, MayWork, Worked};
-ghost use Rattle.triple_arena_direct_arena.specs.DirectState.{DirectState, new_direct, generation_of, slot_count, direct_len, direct_capacity, SlotsFit, with_value, inserted_at, removed, cleared, settled, with_room_for, reallocated, with_limit};
+ghost use Rattle.triple_arena_direct_arena.specs.DirectState.{DirectState, new_direct, generation_of, direct_slot_count, direct_len, direct_capacity, SlotsFit, direct_with_value, inserted_at, direct_removed, direct_cleared, direct_shortened, direct_with_room_for, direct_reallocated, direct_with_limit};
 ghost use Rattle.triple_arena_traits.specs.Lent.{lends_values};
-ghost use Rattle.triple_arena_direct_arena.specs.Values.{with_values_of};
-ghost use Rattle.triple_arena_direct_arena.specs.Slot.{slot_entry};
+ghost use Rattle.triple_arena_direct_arena.specs.Values.{direct_with_values_of};
+ghost use Rattle.triple_arena_direct_arena.specs.Slot.{direct_slot_entry};
 
 mod advancer;
 mod compaction;
@@ -107,7 +107,7 @@ impl<P: Ptr, T, S: NonZeroInxGenericStack<DirectSlot<P, T>>> ArenaTrait<P, T>
     // none, since insertion is told the pointer
     ghost fits = { λ _ _. ⊥ };
 
-    ghost with_value = { with_value };
+    ghost with_value = { direct_with_value };
 
     // nothing is counted
     ghost steps = { λ _. 0 };
@@ -120,27 +120,27 @@ impl<P: Ptr, T, S: NonZeroInxGenericStack<DirectSlot<P, T>>> ArenaTrait<P, T>
     ghost renewed = { λ s i. generation_of (entry_in s.slots i) };
 
     // the slot is free
-    ghost removes = { λ old i new. new ≡ removed old i };
+    ghost removes = { λ old i new. new ≡ direct_removed old i };
 
     // there is no counter
     ghost ending_wraps = { λ _. false };
 
     // no slot is left
-    ghost clears = { λ old new. new ≡ cleared old };
+    ghost clears = { λ old new. new ≡ direct_cleared old };
 
     ghost clearing_wraps = { λ _. false };
 
     // free slots past the new capacity go, and then the room is changed as the stack's kind does it
-    ghost reallocates = { λ old m new. new ≡ reallocated S.kind old m };
+    ghost reallocates = { λ old m new. new ≡ direct_reallocated S.kind old m };
 
     // free slots past the capacity that was asked for go
-    ghost tidies = { λ old m new. new ≡ settled old m };
+    ghost tidies = { λ old m new. new ≡ direct_shortened old m };
 
     // the room that the stack's kind makes of it, once those slots are gone, is the old one
-    ghost keeps_room = { λ s m. (reallocated S.kind s m).room ≡ s.room };
+    ghost keeps_room = { λ s m. (direct_reallocated S.kind s m).room ≡ s.room };
 
     // memory is there for the room that the stack's kind makes of it
-    ghost gets_room = { λ s m. S.has_memory (reallocated S.kind s m).room };
+    ghost gets_room = { λ s m. S.has_memory (direct_reallocated S.kind s m).room };
 
     fn new(alloc: Global) -> Self {
         DirectArena::over(S::new(alloc))
@@ -305,10 +305,10 @@ impl<P: Ptr, T, S: NonZeroInxGenericStack<DirectSlot<P, T>>> ArenaTrait<P, T>
     ghost clearing_wraps_unchanged = { λ _ _ _. refl };
 
     ghost keeps_room_unchanged = { λ _ _ m same.
-        subst (λ s. (reallocated S.kind s m).room ≡ s.room) (sym same) };
+        subst (λ s. (direct_reallocated S.kind s m).room ≡ s.room) (sym same) };
 
     ghost gets_room_unchanged = { λ _ _ m same.
-        subst (λ s. S.has_memory (reallocated S.kind s m).room) (sym same) };
+        subst (λ s. S.has_memory (direct_reallocated S.kind s m).room) (sym same) };
 
     ghost fits_unchanged = { λ _ _ _ _ none. none };
 
@@ -402,7 +402,7 @@ impl<P: Ptr, T, S: NonZeroInxGenericStack<DirectSlot<P, T>>> DisjointableArenaTr
 impl<P: Ptr, T, S: NonZeroInxGenericStack<DirectSlot<P, T>>> DirectArena<P, T, S> {
     /// The stack of the slots.
     pub fn backing(&self) -> &S
-        ensures slots { map (slot_entry P.Gen.number) (S.items result.now) ≡ self.now.slots }
+        ensures slots { map (direct_slot_entry P.Gen.number) (S.items result.now) ≡ self.now.slots }
         ensures room { S.room result.now ≡ self.now.room }
         ensures limit { S.limit result.now ≡ self.now.limit }
     {
@@ -412,8 +412,8 @@ impl<P: Ptr, T, S: NonZeroInxGenericStack<DirectSlot<P, T>>> DirectArena<P, T, S
     /// Pops free slots at the end, at most `num`, and tells how many. It takes no memory, and no
     /// entry moves.
     pub fn pop_free_end_slots(&mut self, num: usize) -> usize
-        ensures state { self.new ≡ settled self.old (slot_count self.old - num) }
-        ensures popped { result ≡ slot_count self.old - slot_count self.new }
+        ensures state { self.new ≡ direct_shortened self.old (direct_slot_count self.old - num) }
+        ensures popped { result ≡ direct_slot_count self.old - direct_slot_count self.new }
     {
         let before = self.slots.stack.len();
         self.shorten(before.saturating_sub(num));
@@ -434,7 +434,7 @@ impl<P: Ptr, T, S: NonZeroInxGenericStack<DirectSlot<P, T>>> DirectArena<P, T, S
 
     // The slot of an index, if there is one.
     fn slot(&self, inx: P::Inx) -> Option<&DirectSlot<P, T>>
-        ensures entry { option_and_then (slot_entry P.Gen.number) (option_copied result)
+        ensures entry { option_and_then (direct_slot_entry P.Gen.number) (option_copied result)
             ≡ entry_in self.now.slots (P.Inx.number inx) }
         ensures within { IsSome (entry_in self.now.slots (P.Inx.number inx))
             → P.Inx.number inx ≤ greatest_index P.Inx.greatest }
@@ -491,7 +491,7 @@ impl<P: Ptr, T, S: NonZeroInxGenericStack<DirectSlot<P, T>>> DirectArena<P, T, S
 
     // How many slots there are.
     pub(crate) fn slot_count(&self) -> usize
-        ensures value { result ≡ slot_count self.now }
+        ensures value { result ≡ direct_slot_count self.now }
         ensures indexed { result ≤ greatest_index P.Inx.greatest }
     {
         self.slots.stack.len()
@@ -501,8 +501,8 @@ impl<P: Ptr, T, S: NonZeroInxGenericStack<DirectSlot<P, T>>> DirectArena<P, T, S
     pub(crate) fn lend_slots(&mut self) -> LentSlots<'_, P, T, DirectSlot<P, T>>
         ensures* writes_back { sem 𝓛 (lends_values
             ⟦<DirectArena<P, T, S> as LendingArena>⟧.arena_row
-            self.entry result.tie (with_values_of self.old)) }
-        ensures slots { map (slot_entry P.Gen.number) result.now ≡ self.old.slots }
+            self.entry result.tie (direct_with_values_of self.old)) }
+        ensures slots { map (direct_slot_entry P.Gen.number) result.now ≡ self.old.slots }
     {
         let slots = self.slots.as_mut_slice();
         LentSlots {
@@ -517,7 +517,7 @@ impl<P: Ptr, T, S: NonZeroInxGenericStack<DirectSlot<P, T>>> DirectArena<P, T, S
         first: P::Inx,
         second: P::Inx,
     ) -> Result<(NonZeroUsize, NonZeroUsize), GetDisjointMutError>
-        ensures variant { DisjointAnswer (slot_count self.now)
+        ensures variant { DisjointAnswer (direct_slot_count self.now)
             (P.Inx.number first) (P.Inx.number second) result }
         ensures numbers { IfOk result (λ both. (non_zero_usize_get both.0 ≡ P.Inx.number first)
             × (non_zero_usize_get both.1 ≡ P.Inx.number second)) }
@@ -545,8 +545,8 @@ impl<P: Ptr, T, S: NonZeroInxGenericStack<DirectSlot<P, T>>> DirectArena<P, T, S
         ensures { Worked C.calls call
             (value_of (entry_in self.old.slots (non_zero_usize_get first)))
             (value_of (entry_in self.old.slots (non_zero_usize_get second)))
-            result (λ x y. self.new ≡ with_value
-            (with_value self.old (non_zero_usize_get first) x) (non_zero_usize_get second) y) }
+            result (λ x y. self.new ≡ direct_with_value
+            (direct_with_value self.old (non_zero_usize_get first) x) (non_zero_usize_get second) y) }
     {
         work_on_two::<P, T, DirectSlot<P, T>, S, R, C>(&mut self.slots.stack, first, second, call)
     }
@@ -566,7 +566,7 @@ impl<P: Ptr, T, S: NonZeroInxGenericStack<DirectSlot<P, T>>> DirectArena<P, T, S
         requires { IsSome (entry_in self.old.slots (non_zero_usize_get inx)) }
         ensures entry { entry_in self.old.slots (non_zero_usize_get inx)
             ≡ Some (P.Gen.number result.0, result.1) }
-        ensures state { self.new ≡ removed self.old (non_zero_usize_get inx) }
+        ensures state { self.new ≡ direct_removed self.old (non_zero_usize_get inx) }
     {
         self.len -= 1;
         self.slots.vacate(inx)
@@ -574,22 +574,22 @@ impl<P: Ptr, T, S: NonZeroInxGenericStack<DirectSlot<P, T>>> DirectArena<P, T, S
 
     // Pops the free slots at the end, as long as there are more slots than `len`.
     fn shorten(&mut self, len: usize)
-        ensures { self.new ≡ settled self.old len }
+        ensures { self.new ≡ direct_shortened self.old len }
     {
         shorten::<P, T, DirectSlot<P, T>, S>(&mut self.slots.stack, len);
     }
 
     // Reallocates the stack, and leaves the slots as they are.
     fn reallocate(&mut self, min_capacity: usize) -> Result<(), ReallocationError>
-        ensures done { OnOk result (self.new ≡ with_room_for S.kind self.old min_capacity) }
+        ensures done { OnOk result (self.new ≡ direct_with_room_for S.kind self.old min_capacity) }
         ensures refused { OnErr result (self.new ≡ self.old) }
         ensures within { OnOk result (IsWithin self.old.limit min_capacity) }
         ensures beyond { (result ≡ Err ReallocationError.BeyondMaxCapacity)
             ↔ IsBeyond self.old.limit min_capacity }
         ensures succeeds { IsWithin self.old.limit min_capacity
-            → (with_room_for S.kind self.old min_capacity).room ≡ self.old.room → IsOk result }
+            → (direct_with_room_for S.kind self.old min_capacity).room ≡ self.old.room → IsOk result }
         ensures with_memory { IsWithin self.old.limit min_capacity
-            → S.has_memory (with_room_for S.kind self.old min_capacity).room → IsOk result }
+            → S.has_memory (direct_with_room_for S.kind self.old min_capacity).room → IsOk result }
         ensures place { OnOk result (min_capacity ≤ greatest_index P.Inx.greatest
             → min_capacity ≤ direct_capacity self.new) }
     {
@@ -608,11 +608,11 @@ impl<P: Ptr, T, S: SetMaxCapacity<DirectSlot<P, T>>> DirectArena<P, T, S> {
     /// exactly where an entry stands past `max_capacity`.
     pub fn set_max_capacity(&mut self, max_capacity: usize) -> Result<(), MaxCapacityReductionError>
         ensures variant { IsOk result
-            ↔ (slot_count (settled self.old max_capacity) ≤ max_capacity) }
+            ↔ (direct_slot_count (direct_shortened self.old max_capacity) ≤ max_capacity) }
         ensures bound { IsOk result ↔ (last_index self.old.slots ≤ max_capacity) }
         ensures done { OnOk result (self.new
-            ≡ with_limit (settled self.old max_capacity) max_capacity) }
-        ensures refused { OnErr result (self.new ≡ settled self.old max_capacity) }
+            ≡ direct_with_limit (direct_shortened self.old max_capacity) max_capacity) }
+        ensures refused { OnErr result (self.new ≡ direct_shortened self.old max_capacity) }
     {
         self.shorten(max_capacity);
         self.set_limit(max_capacity)
@@ -620,8 +620,8 @@ impl<P: Ptr, T, S: SetMaxCapacity<DirectSlot<P, T>>> DirectArena<P, T, S> {
 
     // Sets the limit of the stack, and leaves the slots as they are.
     fn set_limit(&mut self, limit: usize) -> Result<(), MaxCapacityReductionError>
-        ensures variant { IsOk result ↔ (slot_count self.old ≤ limit) }
-        ensures done { OnOk result (self.new ≡ with_limit self.old limit) }
+        ensures variant { IsOk result ↔ (direct_slot_count self.old ≤ limit) }
+        ensures done { OnOk result (self.new ≡ direct_with_limit self.old limit) }
         ensures refused { OnErr result (self.new ≡ self.old) }
     {
         self.slots.stack.set_max_capacity(limit)

@@ -4,7 +4,7 @@ ghost use Rattle.std.specs.Prelude.{◌≡◌, Some, IsSome};
 ghost use Rattle.std.specs.Borrow.{sem, Lends};
 ghost use Rattle.triple_arena_traits.specs.Entries.{entry_in, look_up};
 ghost use Rattle.triple_arena_traits.specs.Disjoint.{value_of};
-ghost use Rattle.triple_arena_direct_arena.specs.DirectState.{with_value};
+ghost use Rattle.triple_arena_direct_arena.specs.DirectState.{direct_with_value};
 
 use crate::direct_arena::DirectArena;
 use crate::slot::DirectSlot;
@@ -33,7 +33,7 @@ impl<P: Ptr, T, S: NonZeroInxGenericStack<DirectSlot<P, T>>> DirectArena<P, T, S
         ensures value { value_of (entry_in self.old.slots (P.Inx.number inx)) ≡ Some result.now }
         ensures* writes_back { sem 𝓛 (Lends
             ⟦<DirectArena<P, T, S> as LendingArena>⟧.arena_row
-            T.row self.entry result (with_value self.old (P.Inx.number inx))) }
+            T.row self.entry result (direct_with_value self.old (P.Inx.number inx))) }
     {
         self.get_inx_mut(inx).unwrap()
     }
@@ -61,7 +61,7 @@ impl<P: Ptr, T, S: NonZeroInxGenericStack<DirectSlot<P, T>>> IndexMut<P> for Dir
         ensures value { look_up self.old.slots (P.numbers p) ≡ Some result.now }
         ensures* writes_back { sem 𝓛 (Lends
             ⟦<DirectArena<P, T, S> as LendingArena>⟧.arena_row
-            T.row self.entry result (with_value self.old (P.numbers p).0)) }
+            T.row self.entry result (direct_with_value self.old (P.numbers p).0)) }
     {
         self.get_mut(p).unwrap()
     }

@@ -4,7 +4,7 @@ ghost use Rattle.std.specs.Prelude.{◌≡◌, IfOk};
 ghost use Rattle.std.specs.Borrow.{sem, Lends};
 ghost use Rattle.triple_arena_traits.specs.DirectInsertion.{IsVacant, DirectInsertAnswer};
 ghost use Rattle.triple_arena_direct_arena.specs.DirectState.{direct_capacity, inserted_at};
-ghost use Rattle.triple_arena_direct_arena.specs.InsertEntry.{entry_pointer, entry_reference, entry_arena, entry_lender, entry_rests};
+ghost use Rattle.triple_arena_direct_arena.specs.InsertEntry.{direct_entry_pointer, direct_entry_reference, direct_entry_arena, direct_entry_lender, direct_entry_rests};
 
 use crate::direct_arena::DirectArena;
 use crate::slot::DirectSlot;
@@ -33,21 +33,21 @@ impl<'a, P: Ptr, T, S: NonZeroInxGenericStack<DirectSlot<P, T>>> ArenaDirectInse
     P,
     T,
 > for ArenaDirectInsertEntry<'a, P, T, S> {
-    ghost has_place = { λ entry. IsVacant (entry_arena entry).slots
-        (direct_capacity (entry_arena entry)) (P.numbers (entry_pointer entry)).0 };
+    ghost has_place = { λ entry. IsVacant (direct_entry_arena entry).slots
+        (direct_capacity (direct_entry_arena entry)) (P.numbers (direct_entry_pointer entry)).0 };
 
     fn has_place(&self) -> bool {
         self.arena.can_direct_insert(self.p)
     }
 
     fn insert(self, t: T) -> &'a mut T
-        requires { IsVacant (entry_arena self).slots
-            (direct_capacity (entry_arena self)) (P.numbers (entry_pointer self)).0 }
+        requires { IsVacant (direct_entry_arena self).slots
+            (direct_capacity (direct_entry_arena self)) (P.numbers (direct_entry_pointer self)).0 }
         ensures value { result.now ≡ t }
         ensures* writes_back { sem 𝓛 (Lends
             ⟦<DirectArena<P, T, S> as LendingArena>⟧.arena_row
-            T.row (entry_reference self.entry) result
-            (inserted_at (entry_arena self.entry) (P.numbers (entry_pointer self.entry)))) }
+            T.row (direct_entry_reference self.entry) result
+            (inserted_at (direct_entry_arena self.entry) (P.numbers (direct_entry_pointer self.entry)))) }
     {
         let ArenaDirectInsertEntry { p, arena } = self;
         arena.direct_insert_reserved(p, t);
@@ -66,10 +66,10 @@ impl<P: Ptr, T, S: NonZeroInxGenericStack<DirectSlot<P, T>>> DirectArena<P, T, S
     ) -> Result<ArenaDirectInsertEntry<'_, P, T, S>, DirectInsertionError>
         ensures variant { DirectInsertAnswer self.old.slots (direct_capacity self.old)
             (P.numbers p).0 result }
-        ensures arena { IfOk result (λ entry. entry_arena entry ≡ self.old) }
-        ensures pointer { IfOk result (λ entry. entry_pointer entry ≡ p) }
-        ensures same_reference { IfOk result (λ entry. entry_lender entry ≡ self.entry.ghost_name) }
-        ensures* refused { sem 𝓛 (entry_rests
+        ensures arena { IfOk result (λ entry. direct_entry_arena entry ≡ self.old) }
+        ensures pointer { IfOk result (λ entry. direct_entry_pointer entry ≡ p) }
+        ensures same_reference { IfOk result (λ entry. direct_entry_lender entry ≡ self.entry.ghost_name) }
+        ensures* refused { sem 𝓛 (direct_entry_rests
             ⟦<DirectArena<P, T, S> as LendingArena>⟧.arena_row self.entry result) }
     {
         self.check_direct_insert(p)?;

@@ -11,7 +11,7 @@ ghost use Rattle.triple_arena_traits.specs.FreeList.{last_index};
 ghost use Rattle.triple_arena_traits.specs.Walks.{entries};
 ghost use Rattle.triple_arena_traits.specs.Copying.{Copies};
 ghost use Rattle.triple_arena_traits.specs.DirectInsertion.{IsVacant};
-ghost use Rattle.triple_arena_direct_arena.specs.DirectState.{DirectState, direct_capacity, SlotsFit, settled, with_limit};
+ghost use Rattle.triple_arena_direct_arena.specs.DirectState.{DirectState, direct_capacity, SlotsFit, direct_shortened, direct_with_limit};
 ghost use Rattle.triple_arena_direct_arena.specs.Mirrors.{Change, IsMirror, Makes, Follows};
 ghost use Rattle.triple_arena_direct_arena.specs.Mirrors.Change.{comes, goes};
 
@@ -21,12 +21,12 @@ use triple_arena_ptr::Ptr;
 /// capacity is there again. All else is as it was, but for the free slots at the end that went.
 pub fn limit_set_back<T>()
     ensures succeeds { (s t : DirectState T) (x most : ℕ) → SlotsFit s → s.limit ≡ Some most
-        → t ≡ with_limit (settled s x) x → last_index t.slots ≤ most }
+        → t ≡ direct_with_limit (direct_shortened s x) x → last_index t.slots ≤ most }
     ensures same_capacity { (s t : DirectState T) (x most : ℕ) → s.limit ≡ Some most
-        → t ≡ with_limit (settled s x) x
-        → direct_capacity (with_limit (settled t most) most) ≡ direct_capacity s }
+        → t ≡ direct_with_limit (direct_shortened s x) x
+        → direct_capacity (direct_with_limit (direct_shortened t most) most) ≡ direct_capacity s }
     ensures state { (s t : DirectState T) (x most : ℕ) → SlotsFit s → s.limit ≡ Some most
-        → t ≡ with_limit (settled s x) x → with_limit (settled t most) most ≡ settled s x }
+        → t ≡ direct_with_limit (direct_shortened s x) x → direct_with_limit (direct_shortened t most) most ≡ direct_shortened s x }
 {}
 
 /// A mirror keeps the pointers: a direct arena that is given each insertion and each removal of

@@ -13,8 +13,8 @@ ghost use Rattle.triple_arena_traits.specs.Walks.{entries};
 ghost use Rattle.triple_arena_traits.specs.Copying.{Copies};
 ghost use Rattle.triple_arena_traits.specs.Transfers.{Transfers};
 ghost use Rattle.triple_arena_traits.specs.FreeEnd.{extended};
-ghost use Rattle.triple_arena_direct_arena.specs.Slot.{slot_entry};
-ghost use Rattle.triple_arena_direct_arena.specs.Layout.{entry_at};
+ghost use Rattle.triple_arena_direct_arena.specs.Slot.{direct_slot_entry};
+ghost use Rattle.triple_arena_direct_arena.specs.Layout.{direct_entry_at};
 
 use crate::slot::DirectSlot;
 use std::marker::PhantomData;
@@ -35,7 +35,7 @@ pub(crate) struct Slots<P: Ptr, T, S: NonZeroInxGenericStack<DirectSlot<P, T>>> 
 }
 
 impl<P: Ptr, T, S: NonZeroInxGenericStack<DirectSlot<P, T>>> Slots<P, T, S> {
-    ghost use Rattle.triple_arena_direct_arena.specs.Lends.{lends_slot_value, lends_slots};
+    ghost use Rattle.triple_arena_direct_arena.specs.Lends.{direct_lends_slot_value, direct_lends_slots};
 
     // The slots of a stack.
     pub(crate) fn over(stack: S) -> Self
@@ -49,7 +49,7 @@ impl<P: Ptr, T, S: NonZeroInxGenericStack<DirectSlot<P, T>>> Slots<P, T, S> {
 
     // The slots, for writing.
     pub(crate) fn as_mut_slice(&mut self) -> &mut [DirectSlot<P, T>]
-        ensures* writes_back { sem 𝓛 (lends_slots P.row T.row S.row P.Inx.row P.Gen.row
+        ensures* writes_back { sem 𝓛 (direct_lends_slots P.row T.row S.row P.Inx.row P.Gen.row
             S.items S.with_items self.entry result) }
         ensures value { result.now ≡ S.items self.old.stack }
     {
@@ -58,12 +58,12 @@ impl<P: Ptr, T, S: NonZeroInxGenericStack<DirectSlot<P, T>>> Slots<P, T, S> {
 
     // The value of the entry at an index, for writing.
     pub(crate) fn value_mut(&mut self, inx: NonZeroUsize) -> &mut T
-        requires { IsSome (entry_at P.Gen.number (S.items self.old.stack)
+        requires { IsSome (direct_entry_at P.Gen.number (S.items self.old.stack)
             (non_zero_usize_get inx)) }
-        ensures* writes_back { sem 𝓛 (lends_slot_value P.row T.row S.row P.Inx.row P.Gen.row
+        ensures* writes_back { sem 𝓛 (direct_lends_slot_value P.row T.row S.row P.Inx.row P.Gen.row
             S.items S.with_items self.entry (non_zero_usize_get inx) result) }
         ensures value { option_map (λ e. e.1)
-            (entry_at P.Gen.number (S.items self.old.stack) (non_zero_usize_get inx))
+            (direct_entry_at P.Gen.number (S.items self.old.stack) (non_zero_usize_get inx))
             ≡ Some result.now }
     {
         let slot = self.stack.get_mut(inx).unwrap();
@@ -74,10 +74,10 @@ impl<P: Ptr, T, S: NonZeroInxGenericStack<DirectSlot<P, T>>> Slots<P, T, S> {
     pub(crate) fn occupy(&mut self, inx: NonZeroUsize, generation: P::Gen, value: T)
         requires within { non_zero_usize_get inx
             ≤ stack_capacity (S.room self.old.stack) (S.limit self.old.stack) }
-        requires free { entry_at P.Gen.number (S.items self.old.stack)
+        requires free { direct_entry_at P.Gen.number (S.items self.old.stack)
             (non_zero_usize_get inx) ≡ None }
-        ensures slots { map (slot_entry P.Gen.number) (S.items self.new.stack) ≡ with_item
-            (extended (map (slot_entry P.Gen.number) (S.items self.old.stack))
+        ensures slots { map (direct_slot_entry P.Gen.number) (S.items self.new.stack) ≡ with_item
+            (extended (map (direct_slot_entry P.Gen.number) (S.items self.old.stack))
             (non_zero_usize_get inx))
             (non_zero_usize_get inx) (Some (P.Gen.number generation, value)) }
         ensures room { S.room self.new.stack ≡ S.room self.old.stack }
@@ -94,12 +94,12 @@ impl<P: Ptr, T, S: NonZeroInxGenericStack<DirectSlot<P, T>>> Slots<P, T, S> {
 
     // Takes out the entry at an index, and leaves its slot free.
     pub(crate) fn vacate(&mut self, inx: NonZeroUsize) -> (P::Gen, T)
-        requires { IsSome (entry_at P.Gen.number (S.items self.old.stack)
+        requires { IsSome (direct_entry_at P.Gen.number (S.items self.old.stack)
             (non_zero_usize_get inx)) }
-        ensures entry { entry_at P.Gen.number (S.items self.old.stack) (non_zero_usize_get inx)
+        ensures entry { direct_entry_at P.Gen.number (S.items self.old.stack) (non_zero_usize_get inx)
             ≡ Some (P.Gen.number result.0, result.1) }
-        ensures slots { map (slot_entry P.Gen.number) (S.items self.new.stack)
-            ≡ with_item (map (slot_entry P.Gen.number) (S.items self.old.stack))
+        ensures slots { map (direct_slot_entry P.Gen.number) (S.items self.new.stack)
+            ≡ with_item (map (direct_slot_entry P.Gen.number) (S.items self.old.stack))
             (non_zero_usize_get inx) None }
         ensures room { S.room self.new.stack ≡ S.room self.old.stack }
         ensures limit { S.limit self.new.stack ≡ S.limit self.old.stack }
@@ -120,10 +120,10 @@ impl<P: Ptr, T, S: NonZeroInxGenericStack<DirectSlot<P, T>>> Slots<P, T, S> {
         requires fits { last_index (A.slots source.now)
             ≤ stack_capacity (S.room self.old.stack) (S.limit self.old.stack) }
         ensures copied { Copies P.numbers M.step f (entries (A.slots source.now)) result.1
-            (map (slot_entry P.Gen.number) (S.items self.new.stack)) }
+            (map (direct_slot_entry P.Gen.number) (S.items self.new.stack)) }
         ensures ends { length (S.items self.new.stack) ≤ last_index (A.slots source.now) }
         ensures count { result.0
-            ≡ entry_count (map (slot_entry P.Gen.number) (S.items self.new.stack)) }
+            ≡ entry_count (map (direct_slot_entry P.Gen.number) (S.items self.new.stack)) }
         ensures room { S.room self.new.stack ≡ S.room self.old.stack }
         ensures limit { S.limit self.new.stack ≡ S.limit self.old.stack }
     {
@@ -152,7 +152,7 @@ impl<P: Ptr, T, S: NonZeroInxGenericStack<DirectSlot<P, T>>> Slots<P, T, S> {
         requires indexed { entry_count (A.slots source.old) ≤ greatest_index P.Inx.greatest }
         ensures transferred { Transfers Q.numbers P.numbers M.step A.slots A.fits A.removes
             A.ending_wraps Q.Gen.counting (P.Gen.number generation) f source.old source.new
-            (map (slot_entry P.Gen.number) (S.items self.new.stack)) }
+            (map (direct_slot_entry P.Gen.number) (S.items self.new.stack)) }
         ensures emptied { entry_count (A.slots source.new) ≡ 0 }
         ensures count { result ≡ entry_count (A.slots source.old) }
         ensures many { length (S.items self.new.stack) ≡ entry_count (A.slots source.old) }

@@ -10,7 +10,7 @@ use Rattle.triple_arena_traits.specs.FreeList.{before, trimmed}
 use Rattle.triple_arena_traits.specs.laws.EntryLaws.{changes_at}
 use Rattle.triple_arena_traits.specs.laws.LengthLaws.{count-with_item}
 use Rattle.triple_arena_traits.specs.FreeEnd.{shortened}
-use Rattle.triple_arena_direct_arena.specs.DirectState.{DirectState, generation_of, direct_len, with_value, removed, cleared, settled, reallocated}
+use Rattle.triple_arena_direct_arena.specs.DirectState.{DirectState, generation_of, direct_len, direct_with_value, direct_removed, direct_cleared, direct_shortened, direct_reallocated}
 
 module _ {T : Type 0} where
   -- an entry with its own generation is the entry
@@ -25,7 +25,7 @@ module _ {T : Type 0} where
         others = λ j other. ap (λ (s : DirectState T). entry_in s.slots j) is;
       }
 
-  pub len-with_value : (s : DirectState T) (i : ℕ) (value : T) → direct_len (with_value s i value) ≡ direct_len s
+  pub len-with_value : (s : DirectState T) (i : ℕ) (value : T) → direct_len (direct_with_value s i value) ≡ direct_len s
   len-with_value s i value = by_item (item s.slots i) refl
     where
       by_item : (o : Option (Option (ℕ × T))) → item s.slots i ≡ o → entry_count (with_item s.slots i (option_map (λ (e : ℕ × T). (e.0, value)) (joined o))) ≡ entry_count s.slots
@@ -33,21 +33,21 @@ module _ {T : Type 0} where
       by_item (Some None) e = omega (arith, count-with_item s.slots i None None e)
       by_item (Some (Some x)) e = omega (arith, count-with_item s.slots i (Some x) (Some (x.0, value)) e)
 
-  pub slots-removed : (old : DirectState T) (i : ℕ) (new : DirectState T) → new ≡ removed old i → ChangesAt old.slots i None new.slots
+  pub slots-removed : (old : DirectState T) (i : ℕ) (new : DirectState T) → new ≡ direct_removed old i → ChangesAt old.slots i None new.slots
   slots-removed old i new is = rw is (changes_at old.slots i None (λ h. refl))
 
-  pub len_taken : (s : DirectState T) (i : ℕ) → IsSome (entry_in s.slots i) → direct_len (removed s i) + 1 ≡ direct_len s
+  pub len_taken : (s : DirectState T) (i : ℕ) → IsSome (entry_in s.slots i) → direct_len (direct_removed s i) + 1 ≡ direct_len s
   len_taken s i live = by_item (item s.slots i) refl live
     where
-      by_item : (o : Option (Option (ℕ × T))) → item s.slots i ≡ o → IsSome (joined o) → direct_len (removed s i) + 1 ≡ direct_len s
+      by_item : (o : Option (Option (ℕ × T))) → item s.slots i ≡ o → IsSome (joined o) → direct_len (direct_removed s i) + 1 ≡ direct_len s
       by_item None is some = absurd (true≢false (sym some))
       by_item (Some None) is some = absurd (true≢false (sym some))
       by_item (Some (Some e)) is some = omega (arith, count-with_item s.slots i (Some e) None is)
 
-  pub len-removed : (old : DirectState T) (i : ℕ) (new : DirectState T) → new ≡ removed old i → IsSome (entry_in old.slots i) → direct_len new + 1 ≡ direct_len old
+  pub len-removed : (old : DirectState T) (i : ℕ) (new : DirectState T) → new ≡ direct_removed old i → IsSome (entry_in old.slots i) → direct_len new + 1 ≡ direct_len old
   len-removed old i new is live = ap (λ s. direct_len s + 1) is ∙ len_taken old i live
 
-  pub slots-cleared : (old new : DirectState T) → new ≡ cleared old → (i : ℕ) → entry_in new.slots i ≡ None
+  pub slots-cleared : (old new : DirectState T) → new ≡ direct_cleared old → (i : ℕ) → entry_in new.slots i ≡ None
   slots-cleared old new is zero = refl
   slots-cleared old new is (suc k) = ap (λ (s : DirectState T). entry_in s.slots (suc k)) is
 
@@ -92,14 +92,14 @@ module _ {T : Type 0} where
   pub count-shortened : (m : ℕ) (xs : List (Option (ℕ × T))) → entry_count (shortened m xs) ≡ entry_count xs
   count-shortened m xs = front_count (max (length (trimmed xs)) m) xs (omega arith)
 
-  pub slots-tidied : (old : DirectState T) (m : ℕ) (new : DirectState T) → new ≡ settled old m → KeepsEntries old.slots new.slots
+  pub slots-tidied : (old : DirectState T) (m : ℕ) (new : DirectState T) → new ≡ direct_shortened old m → KeepsEntries old.slots new.slots
   slots-tidied old m new is i = ap (λ (s : DirectState T). entry_in s.slots i) is ∙ entry-shortened m old.slots i
 
-  pub len-tidied : (old : DirectState T) (m : ℕ) (new : DirectState T) → new ≡ settled old m → direct_len new ≡ direct_len old
+  pub len-tidied : (old : DirectState T) (m : ℕ) (new : DirectState T) → new ≡ direct_shortened old m → direct_len new ≡ direct_len old
   len-tidied old m new is = ap direct_len is ∙ count-shortened m old.slots
 
-  pub slots-reallocated : (kind : StackKind) (old : DirectState T) (m : ℕ) (new : DirectState T) → new ≡ reallocated kind old m → KeepsEntries old.slots new.slots
+  pub slots-reallocated : (kind : StackKind) (old : DirectState T) (m : ℕ) (new : DirectState T) → new ≡ direct_reallocated kind old m → KeepsEntries old.slots new.slots
   slots-reallocated kind old m new is i = ap (λ (s : DirectState T). entry_in s.slots i) is ∙ entry-shortened m old.slots i
 
-  pub len-reallocated : (kind : StackKind) (old : DirectState T) (m : ℕ) (new : DirectState T) → new ≡ reallocated kind old m → direct_len new ≡ direct_len old
+  pub len-reallocated : (kind : StackKind) (old : DirectState T) (m : ℕ) (new : DirectState T) → new ≡ direct_reallocated kind old m → direct_len new ≡ direct_len old
   len-reallocated kind old m new is = ap direct_len is ∙ count-shortened m old.slots

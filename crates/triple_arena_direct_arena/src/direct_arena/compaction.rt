@@ -2,7 +2,7 @@
 
 ghost use Rattle.std.specs.Prelude.{◌≡◌, None, false};
 ghost use Rattle.triple_arena_traits.specs.Compression.{rank_in};
-ghost use Rattle.triple_arena_direct_arena.specs.DirectState.{compressed};
+ghost use Rattle.triple_arena_direct_arena.specs.DirectState.{direct_compressed};
 
 use super::DirectArena;
 use crate::slot::DirectSlot;
@@ -20,7 +20,7 @@ impl<P: Ptr, T, S: NonZeroInxGenericStack<DirectSlot<P, T>>> CompactArenaTrait<P
     ghost use Rattle.triple_arena_direct_arena.specs.laws.CompressionLaws.{keys-compressed, values-compressed, compressed-with_value, with_value-same};
 
     // the entries have these values, in their order, from index 1 on, each under its generation
-    ghost compresses = { λ old _ values new. new ≡ compressed old values };
+    ghost compresses = { λ old _ values new. new ≡ direct_compressed old values };
 
     // the number of the entry, under its generation
     ghost rank = { λ s _. rank_in None s.slots };

@@ -10,7 +10,7 @@ ghost use Rattle.triple_arena_traits.specs.FreeList.{last_index};
 ghost use Rattle.triple_arena_traits.specs.Transfers.{Transfers};
 ghost use Rattle.triple_arena_traits.specs.Drains.{removals, NoneWraps};
 ghost use Rattle.triple_arena_traits.specs.Histories.{Continues};
-ghost use Rattle.triple_arena_direct_arena.specs.DirectState.{direct_len, direct_capacity, SlotsFit, settled, reallocated, ready_for, with_slots};
+ghost use Rattle.triple_arena_direct_arena.specs.DirectState.{direct_len, direct_capacity, SlotsFit, direct_shortened, direct_reallocated, direct_ready_for, direct_with_slots};
 
 use super::DirectArena;
 use crate::slot::DirectSlot;
@@ -25,7 +25,7 @@ impl<P: Ptr, T, S: NonZeroInxGenericStack<DirectSlot<P, T>>> ArenaCloneFromWith<
     ghost use Rattle.triple_arena_direct_arena.specs.laws.CloningLaws.{kept-cloned, limit-cloned, capacity-cloned};
 
     // the slots of the copy stand, in room for the last index; there is no counter
-    ghost clones = { λ old last _ copy new. new ≡ with_slots (ready_for S.kind old last) copy };
+    ghost clones = { λ old last _ copy new. new ≡ direct_with_slots (direct_ready_for S.kind old last) copy };
 
     fn clone_from_with<U, E, A: CompactArenaTrait<P, U>, M: FnMut(P, &U) -> Result<T, E>>(
         &mut self,
@@ -75,14 +75,14 @@ impl<P: Ptr, T, S: NonZeroInxGenericStack<DirectSlot<P, T>>> DirectArena<P, T, S
         ensures done { OnOk result ((put : List (Option (ℕ × T)))
             × Transfers Q.numbers P.numbers M.step A.slots A.fits A.removes A.ending_wraps
             Q.Gen.counting (P.Gen.number new_generation) map source.old source.new put
-            × (self.new ≡ with_slots (ready_for S.kind self.old (length put)) put)) }
+            × (self.new ≡ direct_with_slots (direct_ready_for S.kind self.old (length put)) put)) }
         ensures counted { OnOk result (direct_len self.new ≡ entry_count (A.slots source.old)) }
         ensures emptied { OnOk result (entry_count (A.slots source.new) ≡ 0) }
         ensures history { OnOk result (NoneWraps A.removes A.ending_wraps Q.Gen.counting source.old
             (keys (A.slots source.old)) → Continues A.fits source.old
             (removals (keys (A.slots source.old))) source.new) }
         ensures refused { OnErr result
-            (self.new ≡ settled self.old (entry_count (A.slots source.old))) }
+            (self.new ≡ direct_shortened self.old (entry_count (A.slots source.old))) }
         ensures whole { OnErr result (source.new ≡ source.old) }
         ensures short { OnErr result (direct_capacity self.old < entry_count (A.slots source.old)) }
         ensures indexed { OnOk result (entry_count (A.slots source.old)
@@ -93,7 +93,7 @@ impl<P: Ptr, T, S: NonZeroInxGenericStack<DirectSlot<P, T>>> DirectArena<P, T, S
             × IsBeyond self.old.limit (entry_count (A.slots source.old))) }
         ensures with_memory { entry_count (A.slots source.old) ≤ greatest_index P.Inx.greatest
             → IsWithin self.old.limit (entry_count (A.slots source.old))
-            → S.has_memory (reallocated S.kind self.old (entry_count (A.slots source.old))).room
+            → S.has_memory (direct_reallocated S.kind self.old (entry_count (A.slots source.old))).room
             → IsOk result }
     {
         self.make_room(source.len())?;
@@ -116,7 +116,7 @@ impl<P: Ptr, T, S: NonZeroInxGenericStack<DirectSlot<P, T>>> DirectArena<P, T, S
         ensures transferred { (put : List (Option (ℕ × T)))
             × Transfers Q.numbers P.numbers M.step A.slots A.fits A.removes A.ending_wraps
             Q.Gen.counting (P.Gen.number generation) f source.old source.new put
-            × (self.new ≡ with_slots self.old put)
+            × (self.new ≡ direct_with_slots self.old put)
             × (length put ≡ entry_count (A.slots source.old)) }
         ensures emptied { entry_count (A.slots source.new) ≡ 0 }
         ensures counted { direct_len self.new ≡ entry_count (A.slots source.old) }
@@ -126,8 +126,8 @@ impl<P: Ptr, T, S: NonZeroInxGenericStack<DirectSlot<P, T>>> DirectArena<P, T, S
 
     // Reallocates where so many are past the capacity.
     fn make_room(&mut self, min_capacity: usize) -> Result<(), ReallocationError>
-        ensures done { OnOk result (self.new ≡ ready_for S.kind self.old min_capacity) }
-        ensures refused { OnErr result (self.new ≡ settled self.old min_capacity) }
+        ensures done { OnOk result (self.new ≡ direct_ready_for S.kind self.old min_capacity) }
+        ensures refused { OnErr result (self.new ≡ direct_shortened self.old min_capacity) }
         ensures short { OnErr result (direct_capacity self.old < min_capacity) }
         ensures fits { SlotsFit self.old }
         ensures beyond { (result ≡ Err ReallocationError.BeyondMaxCapacity)
@@ -136,7 +136,7 @@ impl<P: Ptr, T, S: NonZeroInxGenericStack<DirectSlot<P, T>>> DirectArena<P, T, S
             × IsBeyond self.old.limit min_capacity) }
         ensures with_memory { min_capacity ≤ greatest_index P.Inx.greatest
             → IsWithin self.old.limit min_capacity
-            → S.has_memory (reallocated S.kind self.old min_capacity).room → IsOk result }
+            → S.has_memory (direct_reallocated S.kind self.old min_capacity).room → IsOk result }
         ensures place { OnOk result (min_capacity ≤ direct_capacity self.new) }
         ensures indexed { OnOk result (min_capacity ≤ greatest_index P.Inx.greatest) }
     {
@@ -159,7 +159,7 @@ impl<P: Ptr, T, S: NonZeroInxGenericStack<DirectSlot<P, T>>> DirectArena<P, T, S
         requires fits { last_index (A.slots source.now) ≤ direct_capacity self.old }
         ensures { (new : List (Option (ℕ × T)))
             × Copies P.numbers M.step f (entries (A.slots source.now)) result new
-            × (self.new ≡ with_slots self.old new) }
+            × (self.new ≡ direct_with_slots self.old new) }
     {
         let (len, answer) = self.slots.copy(source, f);
         self.len = len;

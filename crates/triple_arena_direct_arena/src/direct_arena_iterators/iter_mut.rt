@@ -6,7 +6,7 @@ ghost use Rattle.std.specs.Iterator.{YieldsFirstBy, item_count};
 ghost use Rattle.triple_arena_direct_arena.specs.DirectState.{direct_len};
 ghost use Rattle.triple_arena_traits.specs.Walks.{entries, values};
 ghost use Rattle.triple_arena_traits.specs.Lent.{lent_rest, lent_name, lends_values};
-ghost use Rattle.triple_arena_direct_arena.specs.Values.{with_values_of, KeepsPointers};
+ghost use Rattle.triple_arena_direct_arena.specs.Values.{direct_with_values_of, DirectKeepsPointers};
 
 use crate::direct_arena::DirectArena;
 use crate::slot::DirectSlot;
@@ -36,13 +36,13 @@ impl<'a, P: Ptr, T> Model for IterMut<'a, P, T> {
     ghost use Rattle.triple_arena_ptr.specs.Numbers.{greatest_index};
     ghost use Rattle.triple_arena_ptr.specs.Pointers.{Pointer};
     ghost use Rattle.triple_arena_traits.specs.Walks.{entries_from};
-    ghost use Rattle.triple_arena_direct_arena.specs.Slot.{slot_entry};
+    ghost use Rattle.triple_arena_direct_arena.specs.Slot.{direct_slot_entry};
 
     ghost Value = { List (Pointer × T) × GName };
 
     ghost view = { λ s. (
       entries_from (non_zero_usize_get s.next)
-          (map (slot_entry P.Gen.number) s.slots.now),
+          (map (direct_slot_entry P.Gen.number) s.slots.now),
       s.slots.tie,
     ) };
 
@@ -121,8 +121,8 @@ impl<P: Ptr, T, S: NonZeroInxGenericStack<DirectSlot<P, T>>> DirectArena<P, T, S
     /// In a loop write `for (p, value) in &mut arena`.
     pub fn iter_mut(&mut self) -> IterMut<'_, P, T>
         ensures* writes_back { sem 𝓛 (lends_values ⟦<DirectArena<P, T, S> as LendingArena>⟧.arena_row
-            self.entry (lent_name result) (with_values_of self.old)) }
-        ensures keeps { KeepsPointers self.old }
+            self.entry (lent_name result) (direct_with_values_of self.old)) }
+        ensures keeps { DirectKeepsPointers self.old }
         ensures rest { lent_rest result ≡ entries self.old.slots }
         ensures len { length (lent_rest result) ≡ direct_len self.old }
         ensures fits { direct_len self.old < 2 ^ 64 }
@@ -139,8 +139,8 @@ impl<P: Ptr, T, S: NonZeroInxGenericStack<DirectSlot<P, T>>> DirectArena<P, T, S
     /// [`Self::iter_mut`].
     pub fn vals_mut(&mut self) -> ValsMut<'_, P, T>
         ensures* writes_back { sem 𝓛 (lends_values ⟦<DirectArena<P, T, S> as LendingArena>⟧.arena_row
-            self.entry (lent_name result) (with_values_of self.old)) }
-        ensures keeps { KeepsPointers self.old }
+            self.entry (lent_name result) (direct_with_values_of self.old)) }
+        ensures keeps { DirectKeepsPointers self.old }
         ensures rest { lent_rest result ≡ values self.old.slots }
         ensures len { length (lent_rest result) ≡ direct_len self.old }
         ensures fits { direct_len self.old < 2 ^ 64 }
@@ -162,8 +162,8 @@ impl<'a, P: Ptr, T, S: NonZeroInxGenericStack<DirectSlot<P, T>>> IntoIterator
     /// As [`DirectArena::iter_mut`].
     fn into_iter(self) -> IterMut<'a, P, T>
         ensures* writes_back { sem 𝓛 (lends_values ⟦<DirectArena<P, T, S> as LendingArena>⟧.arena_row
-            self.entry (lent_name result) (with_values_of self.old)) }
-        ensures keeps { KeepsPointers self.old }
+            self.entry (lent_name result) (direct_with_values_of self.old)) }
+        ensures keeps { DirectKeepsPointers self.old }
         ensures into_iter_gives { lent_rest result ≡ entries self.old.slots }
         ensures len { length (lent_rest result) ≡ direct_len self.old }
         ensures fits { direct_len self.old < 2 ^ 64 }

@@ -65,11 +65,11 @@ use Rattle.std.specs.Borrow.{Array}
 use Rattle.std.specs.List.{refill}
 use Rattle.triple_arena_ptr.specs.Numbers.{greatest_index}
 use Rattle.triple_arena_direct_arena.specs.DirectState.{DirectState}
-use Rattle.triple_arena_direct_arena.specs.Slot.{slot_entry, with_slot_value}
+use Rattle.triple_arena_direct_arena.specs.Slot.{direct_slot_entry, direct_with_slot_value}
 use Rattle.triple_arena_direct_arena.specs.laws.SlotLaws.{with_own_slot_value}
-use Rattle.triple_arena_direct_arena.specs.Values.{with_values_of}
+use Rattle.triple_arena_direct_arena.specs.Values.{direct_with_values_of}
 use Rattle.triple_arena_traits.specs.Kept.{filled_all, Kept}
-use Rattle.triple_arena_direct_arena.specs.Lends.{with_slots}
+use Rattle.triple_arena_direct_arena.specs.Lends.{direct_refilled}
 use Rattle.triple_arena_traits.proofs.KeptSlots.{filled-own, length-filled, refilled}
 use Rattle.triple_arena_direct_arena.proofs.Keeping.{kept_within}
 use Rattle.triple_arena_direct_arena.specs.declared.slot.DirectSlot.{DirectSlot}
@@ -225,11 +225,11 @@ module _ (P T S I G : RattleType) (P-Ptr : gPtr.Ghosts P.Denot I.Denot G.Denot) 
 
   -- these slots in memory, with the values of a state
   abbrev KeptBy : List X → SemTy
-  KeptBy xs = record { rep = St; coded = Ar.coded; size = 0; own_at = λ s b o. (Arr (mem Sr) (length xs)).own_at (filled_all with_slot_value xs s.slots) b o }
+  KeptBy xs = record { rep = St; coded = Ar.coded; size = 0; own_at = λ s b o. (Arr (mem Sr) (length xs)).own_at (filled_all direct_with_slot_value xs s.slots) b o }
 
   -- the slots of the arena once values were written
   abbrev put : D → List X → St → D
-  put t xs s = with_slots rP rT rS rI rG items with_items t (filled_all with_slot_value xs s.slots)
+  put t xs s = direct_refilled rP rT rS rI rG items with_items t (filled_all direct_with_slot_value xs s.slots)
 
   -- three laws of the stack
   pub record StackLaws : Type 0 where
@@ -240,15 +240,15 @@ module _ (P T S I G : RattleType) (P-Ptr : gPtr.Ghosts P.Denot I.Denot G.Denot) 
   module _ (laws : StackLaws) where
     -- the arena's invariant holds then, and it is the arena with those values
     put_keeps : (a : Inside.Denot) (w : St) → good a
-        → good (record a { slots = put a.slots (items a.slots.stack) w }) × (view (record a { slots = put a.slots (items a.slots.stack) w }) ≡ with_values_of (view a) w)
+        → good (record a { slots = put a.slots (items a.slots.stack) w }) × (view (record a { slots = put a.slots (items a.slots.stack) w }) ≡ direct_with_values_of (view a) w)
     put_keeps a w ok =
         let es : List X = items a.slots.stack in
-        let ws : List X = filled_all with_slot_value es w.slots in
+        let ws : List X = filled_all direct_with_slot_value es w.slots in
         kept_within number es (items (with_items a.slots.stack (refill (length es) es ws))) a.len
         (S-NonZeroInxGenericStack.room a.slots.stack) (S-NonZeroInxGenericStack.room (with_items a.slots.stack (refill (length es) es ws)))
         (S-NonZeroInxGenericStack.limit a.slots.stack) (S-NonZeroInxGenericStack.limit (with_items a.slots.stack (refill (length es) es ws)))
         (greatest_index P-Inx-PtrInx.greatest) w
-        (laws.of_items a.slots.stack (refill (length es) es ws) ∙ refilled es ws (length-filled with_slot_value es w.slots))
+        (laws.of_items a.slots.stack (refill (length es) es ws) ∙ refilled es ws (length-filled direct_with_slot_value es w.slots))
         (laws.of_room a.slots.stack (refill (length es) es ws)) (laws.of_limit a.slots.stack (refill (length es) es ws)) ok
 
   module _ (LP : Laws P) (LT : Laws T) (LS : Laws S) (LI : Laws I) (LG : Laws G) (laws : StackLaws) {M : Type 1} {𝓤 : Ura M} (𝓛 : Logic 𝓤) (at : Memory → SProp 𝓤) (run : Routine → Fun 𝓤) where
@@ -322,15 +322,15 @@ module _ (P T S I G : RattleType) (P-Ptr : gPtr.Ghosts P.Denot I.Denot G.Denot) 
         field_of = field_out 𝓛 full_share [] ms ((Slots-laws.the_row_laws rP rT rS rI rG (copied_laws 0 P LP) (param_laws 1 T LT) (param_laws 2 S LS) (copied_laws 3 I LI) (copied_laws 4 G LG)).lawful 𝓛, (uint_Lawful 𝓛 w64, tt)) (t, (a.len, tt)) rb ro 0
 
         -- with slots whose values were written it is an arena again
-        back : view a ≡ d → good a → (w : St) → ent 𝓤 (sep 𝓤 (sem 𝓛 ((mem Slr).own_at (put t (items t.stack) w) rb (ro + off))) Back) (sem 𝓛 ((mem Ar).own_at (with_values_of d w) rb ro))
+        back : view a ≡ d → good a → (w : St) → ent 𝓤 (sep 𝓤 (sem 𝓛 ((mem Slr).own_at (put t (items t.stack) w) rb (ro + off))) Back) (sem 𝓛 ((mem Ar).own_at (direct_with_values_of d w) rb ro))
         unfolding part_of
         back seen ok w =
             let b : Inside.Denot = record a { slots = put t (items t.stack) w } in
             let keeps = put_keeps laws a w ok in
             qed 𝓛 (‵ (part_at Slr full_share (put t (items t.stack) w) rb (ro + off)) ∷ raw Back ∷ []) ∵
             use2 𝓛 (‵ (part_at Inside full_share b rb ro)) (field_back 𝓛 full_share [] ms (put t (items t.stack) w, (a.len, tt)) rb ro 0) $
-            by ! (Plain-in Ar Inside (view_owns Inside St Ar.coded view good) 𝓛 full_share (with_values_of d w) b
-            (view_made Inside St Ar.coded view good 𝓛 (with_values_of d w) b (keeps.1 ∙ ap (λ (s : St). with_values_of s w) seen, keeps.0)) rb ro)
+            by ! (Plain-in Ar Inside (view_owns Inside St Ar.coded view good) 𝓛 full_share (direct_with_values_of d w) b
+            (view_made Inside St Ar.coded view good 𝓛 (direct_with_values_of d w) b (keeps.1 ∙ ap (λ (s : St). direct_with_values_of s w) seen, keeps.0)) rb ro)
 
       abbrev others : Item 𝓤
       others = ‵ (flft κs.1.0 qs.1.0) ⊛ ‵ (flft κs.1.1.0 qs.1.1.0) ⊛ ‵ (flft κs.1.1.1.0 qs.1.1.1.0) ⊛ ‵ (flft κs.1.1.1.1.0 qs.1.1.1.1.0) ⊛ ‵ (flft κs.1.1.1.1.1.0 qs.1.1.1.1.1.0) ⊛ ‵ ftrue
@@ -367,16 +367,16 @@ module _ (P T S I G : RattleType) (P-Ptr : gPtr.Ghosts P.Denot I.Denot G.Denot) 
             use1 𝓛 (raw (Called.pre z)) (id⊢ 𝓤 _) $
             calls_at ! fm Called callee z (and_then ! (get ! refl) (no_more !)) (λ v.
             use1 𝓛 (later (some (λ (r : MutBor (List X)). ((‵ (flft κ (right q)) ⊛ others) ⊛ ‵ ((MutSlice (named 0) κ Sr).own_val r (v ∷ []))) ⊛
-            some (λ (ws : Unit {0} × Unit {0}). ‵ (lasts called_end κs (lent_slots, tt) ws) ⊛ (‵ (follows Slr (Array Sr 0) δ r.ghost_name (with_slots rP rT rS rI rG items with_items t)) ⊛ raw (fact 𝓤 (r.now ≡ es))))))) (id⊢ 𝓤 _) $
+            some (λ (ws : Unit {0} × Unit {0}). ‵ (lasts called_end κs (lent_slots, tt) ws) ⊛ (‵ (follows Slr (Array Sr 0) δ r.ghost_name (direct_refilled rP rT rS rI rG items with_items t)) ⊛ raw (fact 𝓤 (r.now ≡ es))))))) (id⊢ 𝓤 _) $
             await ! tt $ pick ! (λ r. split ! $ split ! $
             let b : ℕ = r.ref_ptr.0 in let o : ℕ = r.ref_ptr.1 in let ρ : GName = r.ghost_name in let xs : List X = r.now in let n' : ℕ = length xs in
             move ! (2 ∷ []) $ pick ! (λ ws. split ! $ drop ! $ split ! $ move ! (1 ∷ []) $ heard ! _ (λ is.
-            let shown : d.slots ≡ map (slot_entry number) xs = ap (λ (s : St). s.slots) (sym x.1.0) ∙ ap (map (slot_entry number)) (sym is) in
-            let own_now : filled_all with_slot_value xs d.slots ≡ xs = ap (filled_all with_slot_value xs) shown ∙ filled-own with_slot_value (slot_entry number) (with_own_slot_value number) xs in
-            let G₂ : St → List X = λ w. filled_all with_slot_value xs w.slots in
-            let H₂ : List X → St = λ zs. record d { slots = map (slot_entry number) zs } in
+            let shown : d.slots ≡ map (direct_slot_entry number) xs = ap (λ (s : St). s.slots) (sym x.1.0) ∙ ap (map (direct_slot_entry number)) (sym is) in
+            let own_now : filled_all direct_with_slot_value xs d.slots ≡ xs = ap (filled_all direct_with_slot_value xs) shown ∙ filled-own direct_with_slot_value (direct_slot_entry number) (with_own_slot_value number) xs in
+            let G₂ : St → List X = λ w. filled_all direct_with_slot_value xs w.slots in
+            let H₂ : List X → St = λ zs. record d { slots = map (direct_slot_entry number) zs } in
             let back₁ : (w : St) → ent 𝓤 (sep 𝓤 (sem 𝓛 ((KeptBy xs).own_at w b o)) (emp 𝓤)) (sem 𝓛 ((Arr (mem Sr) n').own_at (G₂ w) b o)) = λ w. qed 𝓛 (‵ ((KeptBy xs).own_at w b o) ∷ raw (emp 𝓤) ∷ []) ∵ keep ! (0 ∷ []) $ done ! in
-            let back₂ : (zs : List X) → ent 𝓤 (sep 𝓤 (sem 𝓛 ((Kept Sr with_slot_value (slot_entry number) xs).own_at zs b o)) (emp 𝓤)) (sem 𝓛 ((KeptBy xs).own_at (H₂ zs) b o)) = λ zs. qed 𝓛 (‵ ((KeptBy xs).own_at (H₂ zs) b o) ∷ raw (emp 𝓤) ∷ []) ∵ keep ! (0 ∷ []) $ done ! in
+            let back₂ : (zs : List X) → ent 𝓤 (sep 𝓤 (sem 𝓛 ((Kept Sr direct_with_slot_value (direct_slot_entry number) xs).own_at zs b o)) (emp 𝓤)) (sem 𝓛 ((KeptBy xs).own_at (H₂ zs) b o)) = λ zs. qed 𝓛 (‵ ((KeptBy xs).own_at (H₂ zs) b o) ∷ raw (emp 𝓤) ∷ []) ∵ keep ! (0 ∷ []) $ done ! in
             -- [what follows; the tokens; the slice; the right; the aged borrow; what is left; obs; auth]
             move ! (2 ∷ []) $ fsplit ! $ fsplit ! $ feq_l ! (λ spelled. pure_l ! (room Sr n') (λ rm.
             lands_as ! (ap only spelled) refl (tt, (tt, (record { fits = rm.0 }, tt))) $
@@ -392,20 +392,20 @@ module _ (P T S I G : RattleType) (P-Ptr : gPtr.Ghosts P.Denot I.Denot G.Denot) 
             (takes_part 𝓛 (Arr (mem Sr) n') (KeptBy xs) G₂ κ (right q) b o b o ρ (emp 𝓤) back₁ ((coded_list Sr.coded).code xs) ((coded_list Sr.coded).code xs) d) $ await ! tt $ pick ! (λ ν. split3 ! $
             -- [obs; the borrow; half with what follows; the others; what follows; the right; the aged borrow; what is left; obs; auth]
             move ! (2 ∷ []) $ split ! $ move ! (5 ∷ 1 ∷ []) $
-            use2 𝓛 (‵ (follows Slr Ar δ ν (λ w. with_slots rP rT rS rI rG items with_items t (filled_all with_slot_value xs w.slots)))) (follows_then 𝓛 Slr (Array Sr 0) Ar (with_slots rP rT rS rI rG items with_items t) G₂ δ ρ ν) $
-            rewrite ! 0 (λ (zs : List X). ‵ (follows Slr Ar δ ν (λ w. with_slots rP rT rS rI rG items with_items t (filled_all with_slot_value zs w.slots)))) is refl $
+            use2 𝓛 (‵ (follows Slr Ar δ ν (λ w. direct_refilled rP rT rS rI rG items with_items t (filled_all direct_with_slot_value xs w.slots)))) (follows_then 𝓛 Slr (Array Sr 0) Ar (direct_refilled rP rT rS rI rG items with_items t) G₂ δ ρ ν) $
+            rewrite ! 0 (λ (zs : List X). ‵ (follows Slr Ar δ ν (λ w. direct_refilled rP rT rS rI rG items with_items t (filled_all direct_with_slot_value zs w.slots)))) is refl $
             -- [what follows; half; obs; the borrow; the others; the right; the aged borrow; what is left; obs; auth]
             move ! (6 ∷ 8 ∷ 9 ∷ 5 ∷ 0 ∷ 7 ∷ []) $ group ! 6 $
-            use1 𝓛 (later (‵ (flft κ (left q)) ⊛ ‵ (follows Ar Ar γ ν (with_values_of d))))
-            (closes_following 𝓛 (mem Ar) (mem Slr) (mem Ar) (put t es) (with_values_of d) κ (left q) rb ro rb (ro + off) γ δ ν (Back a) (back a x.1.0 x.1.1) n (Ar.coded.code d) (Ar.coded.code d)) $ await ! tt $ split ! $
+            use1 𝓛 (later (‵ (flft κ (left q)) ⊛ ‵ (follows Ar Ar γ ν (direct_with_values_of d))))
+            (closes_following 𝓛 (mem Ar) (mem Slr) (mem Ar) (put t es) (direct_with_values_of d) κ (left q) rb ro rb (ro + off) γ δ ν (Back a) (back a x.1.0 x.1.1) n (Ar.coded.code d) (Ar.coded.code d)) $ await ! tt $ split ! $
             -- [half; what follows; half; obs; the borrow; the others]
             move ! (0 ∷ 2 ∷ []) $ use2 𝓛 (‵ (flft κ q)) (𝓛.lfts.lft_join κ q) $
             -- [the token; what follows; obs; the borrow; the others]
             move ! (2 ∷ 3 ∷ 0 ∷ []) $ open_ref ! tt (KeptBy xs) {x = d} {b = b} {o = o} $
-            rewrite ! 0 (λ (zs : List X). ‵ ((Arr (mem Sr) n').own_at zs b o)) (ap (filled_all with_slot_value xs) shown) refl $
+            rewrite ! 0 (λ (zs : List X). ‵ ((Arr (mem Sr) n').own_at zs b o)) (ap (filled_all direct_with_slot_value xs) shown) refl $
             nothing ! $ move ! (2 ∷ 3 ∷ 4 ∷ 1 ∷ 0 ∷ []) $ group ! 5 $
-            use1 𝓛 (later (some (λ (μ : GName). ‵ (fobs μ ((coded_list Sr.coded).code xs)) ⊛ ‵ (fbor κ (Borrowed (Kept Sr with_slot_value (slot_entry number) xs) b o μ)) ⊛ ‵ (flft κ q) ⊛ ‵ (after (KeptBy xs) (Kept Sr with_slot_value (slot_entry number) xs) ν μ H₂))))
-            (takes_part 𝓛 (KeptBy xs) (Kept Sr with_slot_value (slot_entry number) xs) H₂ κ q b o b o ν (emp 𝓤) back₂ (Ar.coded.code d) (Ar.coded.code d) xs) $ await ! tt $ pick ! (λ μ. split3 ! $
+            use1 𝓛 (later (some (λ (μ : GName). ‵ (fobs μ ((coded_list Sr.coded).code xs)) ⊛ ‵ (fbor κ (Borrowed (Kept Sr direct_with_slot_value (direct_slot_entry number) xs) b o μ)) ⊛ ‵ (flft κ q) ⊛ ‵ (after (KeptBy xs) (Kept Sr direct_with_slot_value (direct_slot_entry number) xs) ν μ H₂))))
+            (takes_part 𝓛 (KeptBy xs) (Kept Sr direct_with_slot_value (direct_slot_entry number) xs) H₂ κ q b o b o ν (emp 𝓤) back₂ (Ar.coded.code d) (Ar.coded.code d) xs) $ await ! tt $ pick ! (λ μ. split3 ! $
             move ! (2 ∷ []) $ split ! $ move ! (1 ∷ []) $ drop ! $
             -- [the token; obs; the borrow; what follows; the others]
             let lent : LentSlots P.Denot T.Denot X I.Denot G.Denot = record { at = block_ptr b o; mark = record {}; name = μ; tie = ν; now = xs } in

@@ -1,13 +1,13 @@
 use Rattle.std.proofs.Common.{◌∙◌, ap, subst}
 use Rattle.triple_arena_traits.specs.FreeEnd.{shortened}
-use Rattle.triple_arena_direct_arena.specs.DirectState.{settled}
+use Rattle.triple_arena_direct_arena.specs.DirectState.{direct_shortened}
 use Rattle.triple_arena_direct_arena.specs.Layout.{Counts}
 use Rattle.triple_arena_direct_arena.proofs.Held.{made, Counts-settled}
 use Rattle.triple_arena_direct_arena.proofs.direct_arena.DirectArena.shorten.Goals as goal
 
 pub invariant_of-self : goal.invariant_of-self
 invariant_of-self g c =
-    (made g.P.Gen.PtrGen.number _ _ _ _ _ (settled c.args.self.now c.args.len)
+    (made g.P.Gen.PtrGen.number _ _ _ _ _ (direct_shortened c.args.self.now c.args.len)
     (c.shorten.ensures.slots ∙ ap (λ s. shortened c.args.len s.slots) c.self.view_is)
     (c.shorten.ensures.room ∙ ap (λ s. s.room) c.self.view_is)
     (c.shorten.ensures.limit ∙ ap (λ s. s.limit) c.self.view_is)
@@ -16,7 +16,7 @@ invariant_of-self g c =
 
 pub returns : goal.returns
 returns g c =
-    (made g.P.Gen.PtrGen.number _ _ _ _ _ (settled c.args.self.now c.args.len)
+    (made g.P.Gen.PtrGen.number _ _ _ _ _ (direct_shortened c.args.self.now c.args.len)
     (c.shorten.ensures.slots ∙ ap (λ s. shortened c.args.len s.slots) c.self.view_is)
     (c.shorten.ensures.room ∙ ap (λ s. s.room) c.self.view_is)
     (c.shorten.ensures.limit ∙ ap (λ s. s.limit) c.self.view_is)

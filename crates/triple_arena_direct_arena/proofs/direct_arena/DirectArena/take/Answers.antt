@@ -1,7 +1,7 @@
 use Rattle.std.proofs.Common.{◌∙◌, None, ap, subst, arith}
 use Rattle.std.specs.Int.NonZero.{non_zero_usize_get}
 use Rattle.triple_arena_traits.specs.Items.{with_item}
-use Rattle.triple_arena_direct_arena.specs.DirectState.{removed, direct_len}
+use Rattle.triple_arena_direct_arena.specs.DirectState.{direct_removed, direct_len}
 use Rattle.triple_arena_direct_arena.specs.laws.StepLaws.{len_taken}
 use Rattle.triple_arena_direct_arena.specs.Layout.{Counts}
 use Rattle.triple_arena_direct_arena.proofs.Held.{made, Counts-removed}
@@ -13,7 +13,7 @@ overflow_sub-self g c =
 
 pub invariant_of-self : goal.invariant_of-self
 invariant_of-self g c =
-    (made g.P.Gen.PtrGen.number _ _ _ _ _ (removed c.args.self.now (non_zero_usize_get c.args.inx))
+    (made g.P.Gen.PtrGen.number _ _ _ _ _ (direct_removed c.args.self.now (non_zero_usize_get c.args.inx))
     (c.vacate.ensures.slots ∙ ap (λ s. with_item s.slots (non_zero_usize_get c.args.inx) None) c.self.view_is)
     (c.vacate.ensures.room ∙ ap (λ s. s.room) c.self.view_is)
     (c.vacate.ensures.limit ∙ ap (λ s. s.limit) c.self.view_is)
@@ -22,7 +22,7 @@ invariant_of-self g c =
 
 pub returns-clause-state : goal.returns-clause-state
 returns-clause-state g c =
-    (made g.P.Gen.PtrGen.number _ _ _ _ _ (removed c.args.self.now (non_zero_usize_get c.args.inx))
+    (made g.P.Gen.PtrGen.number _ _ _ _ _ (direct_removed c.args.self.now (non_zero_usize_get c.args.inx))
     (c.vacate.ensures.slots ∙ ap (λ s. with_item s.slots (non_zero_usize_get c.args.inx) None) c.self.view_is)
     (c.vacate.ensures.room ∙ ap (λ s. s.room) c.self.view_is)
     (c.vacate.ensures.limit ∙ ap (λ s. s.limit) c.self.view_is)

@@ -1,8 +1,8 @@
 use Rattle.std.proofs.Common.{◌∙◌, ◌≤◌, length, map, refl, sym, ap, arith}
 use Rattle.std.proofs.lemmas.List.{length-map}
 use Rattle.triple_arena_traits.proofs.TransferLemmas.{closed_up_slots}
-use Rattle.triple_arena_direct_arena.specs.DirectState.{direct_len, direct_capacity, with_slots}
-use Rattle.triple_arena_direct_arena.specs.Slot.{slot_entry}
+use Rattle.triple_arena_direct_arena.specs.DirectState.{direct_len, direct_capacity, direct_with_slots}
+use Rattle.triple_arena_direct_arena.specs.Slot.{direct_slot_entry}
 use Rattle.triple_arena_direct_arena.proofs.Held.{made, Counts-slots}
 use Rattle.triple_arena_direct_arena.proofs.direct_arena.DirectArena.take_over.Goals as goal
 
@@ -10,11 +10,11 @@ pub invariant_of-self : goal.invariant_of-self
 invariant_of-self g c =
     let taken = c.take_over-self-inside in
     let items = g.S.NonZeroInxGenericStack.items taken.new.self.stack in
-    let xs = map (slot_entry g.P.Gen.PtrGen.number) items in
+    let xs = map (direct_slot_entry g.P.Gen.PtrGen.number) items in
     let full = closed_up_slots (g.P.Gen.PtrGen.number c.args.generation) _ xs taken.ensures.transferred.stands in
-    let size = length-map items (slot_entry g.P.Gen.PtrGen.number) ∙ taken.ensures.many in
+    let size = length-map items (direct_slot_entry g.P.Gen.PtrGen.number) ∙ taken.ensures.many in
     let fits : length xs ≤ direct_capacity c.args.self.now = omega (arith, size, c.requires.fits) in
-    (made g.P.Gen.PtrGen.number _ _ _ _ _ (with_slots c.args.self.now xs) refl
+    (made g.P.Gen.PtrGen.number _ _ _ _ _ (direct_with_slots c.args.self.now xs) refl
     (taken.ensures.room ∙ ap (λ s. s.room) c.self.view_is)
     (taken.ensures.limit ∙ ap (λ s. s.limit) c.self.view_is)
     (ap (λ s. s.greatest) c.self.view_is)
@@ -24,11 +24,11 @@ pub returns : goal.returns
 returns g c =
     let taken = c.take_over-self-inside in
     let items = g.S.NonZeroInxGenericStack.items taken.new.self.stack in
-    let xs = map (slot_entry g.P.Gen.PtrGen.number) items in
+    let xs = map (direct_slot_entry g.P.Gen.PtrGen.number) items in
     let full = closed_up_slots (g.P.Gen.PtrGen.number c.args.generation) _ xs taken.ensures.transferred.stands in
-    let size = length-map items (slot_entry g.P.Gen.PtrGen.number) ∙ taken.ensures.many in
+    let size = length-map items (direct_slot_entry g.P.Gen.PtrGen.number) ∙ taken.ensures.many in
     let fits : length xs ≤ direct_capacity c.args.self.now = omega (arith, size, c.requires.fits) in
-    let both = made g.P.Gen.PtrGen.number _ _ _ _ _ (with_slots c.args.self.now xs) refl
+    let both = made g.P.Gen.PtrGen.number _ _ _ _ _ (direct_with_slots c.args.self.now xs) refl
     (taken.ensures.room ∙ ap (λ s. s.room) c.self.view_is)
     (taken.ensures.limit ∙ ap (λ s. s.limit) c.self.view_is)
     (ap (λ s. s.greatest) c.self.view_is)

@@ -1,5 +1,5 @@
 use Rattle.triple_arena_traits.proofs.Refused.{err_is, ok_not_err, on_ok_err, on_err, same_error}
-use Rattle.triple_arena_direct_arena.specs.DirectState.{direct_capacity, settled, ready_for, with_slots}
+use Rattle.triple_arena_direct_arena.specs.DirectState.{direct_capacity, direct_shortened, direct_ready_for, direct_with_slots}
 use Rattle.triple_arena_traits.proofs.TransferLemmas.{source_goes_on}
 use Rattle.std.proofs.lemmas.Bool.{false≢true}
 use Rattle.std.proofs.Common.{◌≡◌, ◌∙◌, sym, ap, ◌<◌, refl, subst}
@@ -8,8 +8,8 @@ use Rattle.triple_arena_direct_arena.proofs.direct_arena.DirectArena.transfer_re
 pub returns-clause-done : goal.returns-clause-done
 returns-clause-done g c =
     let d = c.take_over.ensures.transferred in
-    let ready = c.in_ok-make_room.ensures.done ∙ ap (ready_for g.S.NonZeroInxGenericStack.kind c.args.self.now) (c.len.ensures.value ∙ sym d.3) in
-    (d.0, d.1, d.2 ∙ ap (λ s. with_slots s d.0) ready)
+    let ready = c.in_ok-make_room.ensures.done ∙ ap (direct_ready_for g.S.NonZeroInxGenericStack.kind c.args.self.now) (c.len.ensures.value ∙ sym d.3) in
+    (d.0, d.1, d.2 ∙ ap (λ s. direct_with_slots s d.0) ready)
 
 pub returns-clause-history : goal.returns-clause-history
 returns-clause-history g c none =
@@ -34,7 +34,7 @@ pub returns-in_err-make_room-clause-emptied : goal.returns-in_err-make_room-clau
 returns-in_err-make_room-clause-emptied g c = on_ok_err c.from_residual.result c.in_err-make_room.field-0.0 (err_is c.from_residual.result c.in_err-make_room.field-0.0 c.from_residual.ensures.1) _
 
 pub returns-in_err-make_room-clause-refused : goal.returns-in_err-make_room-clause-refused
-returns-in_err-make_room-clause-refused g c = on_err c.from_residual.result c.in_err-make_room.field-0.0 (err_is c.from_residual.result c.in_err-make_room.field-0.0 c.from_residual.ensures.1) _ (subst (λ n. c.make_room.new.self ≡ settled c.args.self.now n) c.len.ensures.value c.in_err-make_room.ensures.refused)
+returns-in_err-make_room-clause-refused g c = on_err c.from_residual.result c.in_err-make_room.field-0.0 (err_is c.from_residual.result c.in_err-make_room.field-0.0 c.from_residual.ensures.1) _ (subst (λ n. c.make_room.new.self ≡ direct_shortened c.args.self.now n) c.len.ensures.value c.in_err-make_room.ensures.refused)
 
 pub returns-in_err-make_room-clause-whole : goal.returns-in_err-make_room-clause-whole
 returns-in_err-make_room-clause-whole g c = on_err c.from_residual.result c.in_err-make_room.field-0.0 (err_is c.from_residual.result c.in_err-make_room.field-0.0 c.from_residual.ensures.1) _ refl

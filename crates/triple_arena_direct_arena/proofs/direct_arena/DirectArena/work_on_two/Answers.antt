@@ -1,7 +1,7 @@
 use Rattle.std.proofs.Common.{◌∙◌, refl, ap, subst}
 use Rattle.std.specs.Int.NonZero.{non_zero_usize_get}
 use Rattle.triple_arena_traits.specs.Entries.{with_value_in}
-use Rattle.triple_arena_direct_arena.specs.DirectState.{with_value}
+use Rattle.triple_arena_direct_arena.specs.DirectState.{direct_with_value}
 use Rattle.triple_arena_direct_arena.specs.Layout.{Counts}
 use Rattle.triple_arena_direct_arena.proofs.Held.{made, both_written, Counts-with_value, entry_value_read}
 use Rattle.triple_arena_direct_arena.proofs.direct_arena.DirectArena.work_on_two.Goals as goal
@@ -11,12 +11,12 @@ invariant_of-self g c =
     let i = non_zero_usize_get c.args.first in
     let j = non_zero_usize_get c.args.second in
     let w = c.work_on_two.ensures.worked in
-    (made g.P.Gen.PtrGen.number _ _ _ _ _ (with_value (with_value c.args.self.now i w.2) j w.3)
+    (made g.P.Gen.PtrGen.number _ _ _ _ _ (direct_with_value (direct_with_value c.args.self.now i w.2) j w.3)
     (both_written g.P.Gen.PtrGen.number _ _ i j w.2 w.3 c.requires.apart w.7 ∙ ap (λ s. with_value_in (with_value_in s.slots i w.2) j w.3) c.self.view_is)
     (c.work_on_two.ensures.room ∙ ap (λ s. s.room) c.self.view_is)
     (c.work_on_two.ensures.limit ∙ ap (λ s. s.limit) c.self.view_is)
     (ap (λ s. s.greatest) c.self.view_is)
-    (Counts-with_value _ (with_value c.args.self.now i w.2) j w.3 (Counts-with_value _ c.args.self.now i w.2 (subst (Counts _) c.self.view_is c.self.invariant)))).0
+    (Counts-with_value _ (direct_with_value c.args.self.now i w.2) j w.3 (Counts-with_value _ c.args.self.now i w.2 (subst (Counts _) c.self.view_is c.self.invariant)))).0
 
 pub returns : goal.returns
 returns g c =
@@ -30,10 +30,10 @@ returns g c =
       entry_value_read _ c.args.self.now.slots i i _ (ap (λ s. s.slots) c.self.view_is) refl w.4,
       entry_value_read _ c.args.self.now.slots j j _ (ap (λ s. s.slots) c.self.view_is) refl w.5,
       w.6,
-      (made g.P.Gen.PtrGen.number _ _ _ _ _ (with_value (with_value c.args.self.now i w.2) j w.3)
+      (made g.P.Gen.PtrGen.number _ _ _ _ _ (direct_with_value (direct_with_value c.args.self.now i w.2) j w.3)
           (both_written g.P.Gen.PtrGen.number _ _ i j w.2 w.3 c.requires.apart w.7 ∙ ap (λ s. with_value_in (with_value_in s.slots i w.2) j w.3) c.self.view_is)
           (c.work_on_two.ensures.room ∙ ap (λ s. s.room) c.self.view_is)
           (c.work_on_two.ensures.limit ∙ ap (λ s. s.limit) c.self.view_is)
           (ap (λ s. s.greatest) c.self.view_is)
-          (Counts-with_value _ (with_value c.args.self.now i w.2) j w.3 (Counts-with_value _ c.args.self.now i w.2 (subst (Counts _) c.self.view_is c.self.invariant)))).1,
+          (Counts-with_value _ (direct_with_value c.args.self.now i w.2) j w.3 (Counts-with_value _ c.args.self.now i w.2 (subst (Counts _) c.self.view_is c.self.invariant)))).1,
     )

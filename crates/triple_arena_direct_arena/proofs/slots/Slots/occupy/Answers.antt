@@ -6,13 +6,13 @@ use Rattle.triple_arena_traits.specs.laws.ItemLaws.{item-map, map-with_item}
 use Rattle.triple_arena_traits.proofs.Present.{some_mapped}
 use Rattle.triple_arena_traits.specs.FreeEnd.{extended}
 use Rattle.triple_arena_direct_arena.specs.laws.InsertionLaws.{entry-extended, slot-extended}
-use Rattle.triple_arena_direct_arena.specs.Slot.{slot_entry}
+use Rattle.triple_arena_direct_arena.specs.Slot.{direct_slot_entry}
 use Rattle.triple_arena_traits.proofs.SlotEntries.{entry_item}
 use Rattle.triple_arena_direct_arena.proofs.slots.Slots.occupy.Goals as goal
 
 pub replace-requires : goal.replace-requires
 replace-requires g c =
-    let f = slot_entry g.P.Gen.PtrGen.number in
+    let f = direct_slot_entry g.P.Gen.PtrGen.number in
     let old = map f (g.S.NonZeroInxGenericStack.items c.args.self.now.stack) in
     let es = g.S.NonZeroInxGenericStack.items c.extend.new.stack in
     let i = non_zero_usize_get c.args.inx in
@@ -21,14 +21,14 @@ replace-requires g c =
 
 pub discard-requires-after_bounds : goal.discard-requires-after_bounds
 discard-requires-after_bounds g c κs within =
-    let f = slot_entry g.P.Gen.PtrGen.number in
+    let f = direct_slot_entry g.P.Gen.PtrGen.number in
     let old = map f (g.S.NonZeroInxGenericStack.items c.args.self.now.stack) in
     let i = non_zero_usize_get c.args.inx in
     sym (entry_item f _ i c.replace.result c.replace.ensures.value) ∙ ap (λ xs. entry_in xs i) c.extend.ensures.slots ∙ entry-extended old _ i ∙ c.requires.free
 
 pub returns-clause-slots : goal.returns-clause-slots
 returns-clause-slots g c =
-    let f = slot_entry g.P.Gen.PtrGen.number in
+    let f = direct_slot_entry g.P.Gen.PtrGen.number in
     let old = map f (g.S.NonZeroInxGenericStack.items c.args.self.now.stack) in
     let i = non_zero_usize_get c.args.inx in
     ap (map f) (ap g.S.NonZeroInxGenericStack.items c.replace.ensures.stack ∙ g.met.S.NonZeroInxGenericStack.items_with_items _ _)

@@ -1,6 +1,6 @@
 use Rattle.std.proofs.Common.{◌∙◌, sym, refl}
 use Rattle.std.specs.Int.NonZero.{non_zero_usize_get}
-use Rattle.triple_arena_direct_arena.specs.Slot.{slot_entry, with_slot_value}
+use Rattle.triple_arena_direct_arena.specs.Slot.{direct_slot_entry, direct_with_slot_value}
 use Rattle.triple_arena_traits.specs.laws.ItemLaws.{item_at, with_item_at}
 use Rattle.triple_arena_traits.proofs.SlotEntries.{entry_item, item_live}
 use Rattle.triple_arena_direct_arena.proofs.Reading.{some_lent}
@@ -10,22 +10,22 @@ pub unwrap-slot-requires : goal.unwrap-slot-requires
 unwrap-slot-requires g c =
     let es = g.S.NonZeroInxGenericStack.items c.args.self.now.stack in
     let i = non_zero_usize_get c.args.inx in
-    some_lent c.get_mut.result _ (c.get_mut.ensures.value ∙ sym (item_at es i c.args.inx.ok)) (item_live (slot_entry g.P.Gen.PtrGen.number) es i c.requires)
+    some_lent c.get_mut.result _ (c.get_mut.ensures.value ∙ sym (item_at es i c.args.inx.ok)) (item_live (direct_slot_entry g.P.Gen.PtrGen.number) es i c.requires)
 
 pub value_mut-requires-after_bounds : goal.value_mut-requires-after_bounds
 value_mut-requires-after_bounds g c κs within =
     let found = item_at (g.S.NonZeroInxGenericStack.items c.args.self.now.stack) (non_zero_usize_get c.args.inx) c.args.inx.ok ∙ sym (rw c.unwrap-slot.ensures at c.get_mut.ensures.value) in
-    rw (← entry_item (slot_entry g.P.Gen.PtrGen.number) (g.S.NonZeroInxGenericStack.items c.args.self.now.stack) (non_zero_usize_get c.args.inx) c.unwrap-slot.result.now found) c.requires
+    rw (← entry_item (direct_slot_entry g.P.Gen.PtrGen.number) (g.S.NonZeroInxGenericStack.items c.args.self.now.stack) (non_zero_usize_get c.args.inx) c.unwrap-slot.result.now found) c.requires
 
 pub returns : goal.returns
 returns g c =
     let found = item_at (g.S.NonZeroInxGenericStack.items c.args.self.now.stack) (non_zero_usize_get c.args.inx) c.args.inx.ok ∙ sym (rw c.unwrap-slot.ensures at c.get_mut.ensures.value) in (
       (
         refl,
-        λ w. rw (found, with_item_at (g.S.NonZeroInxGenericStack.items c.args.self.now.stack) (non_zero_usize_get c.args.inx) (with_slot_value c.unwrap-slot.result.now w) c.args.inx.ok) refl,
+        λ w. rw (found, with_item_at (g.S.NonZeroInxGenericStack.items c.args.self.now.stack) (non_zero_usize_get c.args.inx) (direct_with_slot_value c.unwrap-slot.result.now w) c.args.inx.ok) refl,
       ),
       record {
         writes_back = tt;
-        value = rw (entry_item (slot_entry g.P.Gen.PtrGen.number) (g.S.NonZeroInxGenericStack.items c.args.self.now.stack) (non_zero_usize_get c.args.inx) c.unwrap-slot.result.now found) c.value_mut.ensures.value;
+        value = rw (entry_item (direct_slot_entry g.P.Gen.PtrGen.number) (g.S.NonZeroInxGenericStack.items c.args.self.now.stack) (non_zero_usize_get c.args.inx) c.unwrap-slot.result.now found) c.value_mut.ensures.value;
       },
     )

@@ -1,9 +1,9 @@
 use Rattle.std.proofs.Common.{◌∙◌, ap, subst, map, arith}
 use Rattle.std.proofs.lemmas.List.{length-map}
 use Rattle.triple_arena_traits.specs.laws.MoveLaws.{count-moved}
-use Rattle.triple_arena_direct_arena.specs.DirectState.{compressed, direct_capacity}
+use Rattle.triple_arena_direct_arena.specs.DirectState.{direct_compressed, direct_capacity}
 use Rattle.triple_arena_direct_arena.specs.laws.CompressionLaws.{keys-compressed}
-use Rattle.triple_arena_direct_arena.specs.Slot.{slot_entry}
+use Rattle.triple_arena_direct_arena.specs.Slot.{direct_slot_entry}
 use Rattle.triple_arena_direct_arena.specs.Layout.{Counts}
 use Rattle.triple_arena_direct_arena.proofs.Held.{made}
 use Rattle.triple_arena_direct_arena.proofs.Compaction.{closed_state, Counts-compressed, len-compressed}
@@ -11,13 +11,13 @@ use Rattle.triple_arena_direct_arena.proofs.direct_arena.compaction.DirectArenaC
 
 pub close_up-requires-clause-indexed : goal.close_up-requires-clause-indexed
 close_up-requires-clause-indexed g c =
-    omega (arith, c.self.invariant.fits, length-map (g.S.NonZeroInxGenericStack.items c.self.inside.slots.stack) (slot_entry g.P.Gen.PtrGen.number))
+    omega (arith, c.self.invariant.fits, length-map (g.S.NonZeroInxGenericStack.items c.self.inside.slots.stack) (direct_slot_entry g.P.Gen.PtrGen.number))
 
 pub invariant_of-self : goal.invariant_of-self
 invariant_of-self g c =
     let m = c.close_up.ensures.moved in
-    let closed = closed_state g.P.Ptr.numbers (goal.F-step g) c.args.f (map (slot_entry g.P.Gen.PtrGen.number) (g.S.NonZeroInxGenericStack.items c.self.inside.slots.stack)) _ c.args.self.now m.0 (ap (λ s. s.slots) c.self.view_is) m.1 m.2 in
-    (made g.P.Gen.PtrGen.number _ _ _ _ _ (compressed c.args.self.now m.0)
+    let closed = closed_state g.P.Ptr.numbers (goal.F-step g) c.args.f (map (direct_slot_entry g.P.Gen.PtrGen.number) (g.S.NonZeroInxGenericStack.items c.self.inside.slots.stack)) _ c.args.self.now m.0 (ap (λ s. s.slots) c.self.view_is) m.1 m.2 in
+    (made g.P.Gen.PtrGen.number _ _ _ _ _ (direct_compressed c.args.self.now m.0)
     closed.1
     (c.close_up.ensures.room ∙ ap (λ s. s.room) c.self.view_is)
     (c.close_up.ensures.limit ∙ ap (λ s. s.limit) c.self.view_is)
@@ -27,10 +27,10 @@ invariant_of-self g c =
 pub returns-clause-moved : goal.returns-clause-moved
 returns-clause-moved g c =
     let m = c.close_up.ensures.moved in
-    let closed = closed_state g.P.Ptr.numbers (goal.F-step g) c.args.f (map (slot_entry g.P.Gen.PtrGen.number) (g.S.NonZeroInxGenericStack.items c.self.inside.slots.stack)) _ c.args.self.now m.0 (ap (λ s. s.slots) c.self.view_is) m.1 m.2 in (
+    let closed = closed_state g.P.Ptr.numbers (goal.F-step g) c.args.f (map (direct_slot_entry g.P.Gen.PtrGen.number) (g.S.NonZeroInxGenericStack.items c.self.inside.slots.stack)) _ c.args.self.now m.0 (ap (λ s. s.slots) c.self.view_is) m.1 m.2 in (
       m.0,
       closed.0,
-      (made g.P.Gen.PtrGen.number _ _ _ _ _ (compressed c.args.self.now m.0)
+      (made g.P.Gen.PtrGen.number _ _ _ _ _ (direct_compressed c.args.self.now m.0)
           closed.1
           (c.close_up.ensures.room ∙ ap (λ s. s.room) c.self.view_is)
           (c.close_up.ensures.limit ∙ ap (λ s. s.limit) c.self.view_is)

@@ -6,15 +6,15 @@ use Rattle.triple_arena_direct_arena.proofs.Cloned.{on_all_copied, beyond_room, 
 use Rattle.triple_arena_traits.specs.Entries.{entry_in}
 use Rattle.triple_arena_traits.proofs.CopyLemmas.{kept_end, copy_ends, copy_same_end, on_copies, no_answer}
 use Rattle.triple_arena_traits.specs.laws.FreeListLaws.{trimmed_length}
-use Rattle.triple_arena_direct_arena.specs.DirectState.{DirectState, direct_capacity, reallocated, ready_for, settled, with_slots}
+use Rattle.triple_arena_direct_arena.specs.DirectState.{DirectState, direct_capacity, direct_reallocated, direct_ready_for, direct_shortened, direct_with_slots}
 use Rattle.triple_arena_direct_arena.specs.laws.StepLaws.{slots-tidied}
 use Rattle.triple_arena_direct_arena.proofs.direct_arena.copies.DirectArenaArenaCloneFromWith.clone_from_with.Goals as goal
 
 pub returns-in-Err-clause-cloned : goal.returns-in-Err-clause-cloned
 returns-in-Err-clause-cloned g c answer is =
-    let ready = c.in_ok-make_room.ensures.done ∙ ap (ready_for g.S.NonZeroInxGenericStack.kind c.args.self.now) c.last_index.ensures.value in
+    let ready = c.in_ok-make_room.ensures.done ∙ ap (direct_ready_for g.S.NonZeroInxGenericStack.kind c.args.self.now) c.last_index.ensures.value in
     let h = c.in-Err.ensures in
-    (h.0, on_copies _ _ _ _ _ answer _ is h.1, h.2 ∙ ap (λ s. with_slots s h.0) ready)
+    (h.0, on_copies _ _ _ _ _ answer _ is h.1, h.2 ∙ ap (λ s. direct_with_slots s h.0) ready)
 
 pub returns-in_err-make_room-clause-fits : goal.returns-in_err-make_room-clause-fits
 returns-in_err-make_room-clause-fits g c =
@@ -52,7 +52,7 @@ returns-in_err-make_room-clause-cloned g c answer is =
 
 pub returns-in_err-make_room-clause-refused : goal.returns-in_err-make_room-clause-refused
 returns-in_err-make_room-clause-refused g c refused =
-    c.in_err-make_room.ensures.refused ∙ ap (settled c.args.self.now) c.last_index.ensures.value
+    c.in_err-make_room.ensures.refused ∙ ap (direct_shortened c.args.self.now) c.last_index.ensures.value
 
 pub returns-in_err-make_room-clause-short : goal.returns-in_err-make_room-clause-short
 returns-in_err-make_room-clause-short g c refused =
@@ -66,7 +66,7 @@ pub returns-in_err-make_room-clause-with_memory : goal.returns-in_err-make_room-
 returns-in_err-make_room-clause-with_memory g c allowed memory refused =
     let last = sym c.last_index.ensures.value in
     true≢false (sym (c.in_err-make_room.ensures.with_memory c.last_index.ensures.indexed (subst (IsWithin c.args.self.now.limit) last allowed)
-    (subst (λ n. g.S.NonZeroInxGenericStack.has_memory (reallocated g.S.NonZeroInxGenericStack.kind c.args.self.now n).room) last memory)))
+    (subst (λ n. g.S.NonZeroInxGenericStack.has_memory (direct_reallocated g.S.NonZeroInxGenericStack.kind c.args.self.now n).room) last memory)))
 
 pub returns-in_err-make_room-clause-same_end : goal.returns-in_err-make_room-clause-same_end
 returns-in_err-make_room-clause-same_end g c = on_ok_err _ _ (err_is _ _ c.from_residual.ensures.1) _
@@ -77,9 +77,9 @@ returns-in_err-make_room-clause-source_fits g c =
 
 pub returns-in-Ok-clause-cloned : goal.returns-in-Ok-clause-cloned
 returns-in-Ok-clause-cloned g c answer is =
-    let ready = c.in_ok-make_room.ensures.done ∙ ap (ready_for g.S.NonZeroInxGenericStack.kind c.args.self.now) c.last_index.ensures.value in
+    let ready = c.in_ok-make_room.ensures.done ∙ ap (direct_ready_for g.S.NonZeroInxGenericStack.kind c.args.self.now) c.last_index.ensures.value in
     let h = c.in-Ok.ensures in
-    (h.0, on_all_copied _ _ _ _ _ answer _ is h.1, h.2 ∙ ap (λ s. with_slots s h.0) ready)
+    (h.0, on_all_copied _ _ _ _ _ answer _ is h.1, h.2 ∙ ap (λ s. direct_with_slots s h.0) ready)
 
 pub returns-in-Ok-clause-refused : goal.returns-in-Ok-clause-refused
 returns-in-Ok-clause-refused g c refused = absurd refused

@@ -1,7 +1,7 @@
 use Rattle.std.proofs.Common.{◌≡◌, ◌∙◌, ◌+◌, ◌-◌, ◌^◌, length, min, sym, ap, arith}
 use Rattle.std.specs.Int.NonZero.{non_zero_usize_get}
 use Rattle.triple_arena_traits.specs.Lent.{lent_rest}
-use Rattle.triple_arena_direct_arena.specs.Slot.{slot_entry}
+use Rattle.triple_arena_direct_arena.specs.Slot.{direct_slot_entry}
 use Rattle.triple_arena_traits.specs.laws.PointerListLaws.{pointer_is}
 use Rattle.triple_arena_traits.proofs.Lending.{behind_first, generation_there, first_lent, first_passed, none_left}
 use Rattle.triple_arena_direct_arena.proofs.direct_arena_iterators.iter_mut.IterMutIterator.next.Goals as goal
@@ -14,11 +14,11 @@ pub unwrap-requires : goal.unwrap-requires
 unwrap-requires g c =
     let read = c.generation-generation.ensures in
     let lent = c.pass.ensures in
-    generation_there g.P.Gen.PtrGen.number (slot_entry g.P.Gen.PtrGen.number) _ _ _ _ c.slots.self-inside.slots.now _ c.in-Some.value.now read.2 (ap (λ s. s.now) (sym read.3) ∙ lent.1) read.4 (rw c.in-Some.is at lent.2)
+    generation_there g.P.Gen.PtrGen.number (direct_slot_entry g.P.Gen.PtrGen.number) _ _ _ _ c.slots.self-inside.slots.now _ c.in-Some.value.now read.2 (ap (λ s. s.now) (sym read.3) ∙ lent.1) read.4 (rw c.in-Some.is at lent.2)
 
 pub slots-preserved : goal.slots-preserved
 slots-preserved g c =
-    let entry = slot_entry g.P.Gen.PtrGen.number in
+    let entry = direct_slot_entry g.P.Gen.PtrGen.number in
     let s = c.slots.self-inside in
     let lent = c.pass.ensures in
     let at = ap (λ s. s.now) (sym c.generation-generation.ensures.3) ∙ lent.1 in
@@ -33,7 +33,7 @@ slots-preserved g c =
 pub returns-in-Some-clause-steps : goal.returns-in-Some-clause-steps
 returns-in-Some-clause-steps g c =
     let number = g.P.Gen.PtrGen.number in
-    let entry = slot_entry number in
+    let entry = direct_slot_entry number in
     let s = c.slots.self-inside in
     let read = c.generation-generation.ensures in
     let lent = c.pass.ensures in
@@ -54,5 +54,5 @@ returns-in-Some-clause-goes g c =
 
 pub returns-clause-steps : goal.returns-clause-steps
 returns-clause-steps g c =
-    let none = none_left g.P.Gen.PtrGen.number (slot_entry g.P.Gen.PtrGen.number) (non_zero_usize_get c.slots.self-inside.next) c.slots.self-inside.slots.now (omega (arith, c.slots.invariant.counted, c.slots-test.false)) in
+    let none = none_left g.P.Gen.PtrGen.number (direct_slot_entry g.P.Gen.PtrGen.number) (non_zero_usize_get c.slots.self-inside.next) c.slots.self-inside.slots.now (omega (arith, c.slots.invariant.counted, c.slots-test.false)) in
     (sym (ap lent_rest c.self.view_is) ∙ sym c.slots.invariant.rest ∙ none, none)

@@ -17,12 +17,12 @@ raises is_live count command = false
 
 module _ {X : Type 0} where
   -- a reply which tells that such a command succeeded
-  abbrev pub is_success : Reply X → Bool
-  is_success (Given name wrapped) = true
-  is_success (Removed datum link wrapped) = true
-  is_success (Cleared wrapped) = true
-  is_success (Compacted wrapped) = true
-  is_success reply = false
+  abbrev pub tells_success : Reply X → Bool
+  tells_success (Given name wrapped) = true
+  tells_success (Removed datum link wrapped) = true
+  tells_success (Cleared wrapped) = true
+  tells_success (Compacted wrapped) = true
+  tells_success reply = false
 
   abbrev pub tells_exhausted : Reply X → Bool
   tells_exhausted Exhausted = true
@@ -49,7 +49,7 @@ module _ {X : Type 0} where
 
   -- how many raises a command used that was answered so
   abbrev pub used : Store X → Command X → Reply X → ℕ
-  used s command reply = cond (raises_row s command && is_success reply) 1 0
+  used s command reply = cond (raises_row s command && tells_success reply) 1 0
 
   -- whether a command needs a raise, and none is left
   abbrev pub is_spent : StrictStore X → Command X → Bool

@@ -9,7 +9,7 @@ use Rattle.triple_arena_base.specs.declared.errors.ReallocationError.{Reallocati
 use Rattle.triple_arena_base.specs.declared.errors.ReallocationError.TheVariants.{BeyondMaxCapacity, AllocError}
 use Rattle.triple_arena_ptr.specs.Pointers.{Pointer}
 use Rattle.triple_arena_traits.specs.Entries.{look_up, entry_count}
-use Rattle.triple_arena_traits.specs.FreeList.{before, trimmed, last_index}
+use Rattle.triple_arena_traits.specs.FreeList.{put_before, trimmed, last_index}
 use Rattle.triple_arena_traits.specs.FreeEnd.{shortened}
 use Rattle.triple_arena_traits.specs.Walks.{entries, keys_of, values_of, keys, values}
 use Rattle.triple_arena_traits.specs.Copying.{Mapping, MapTurn, Copies, mapped_from, mapped_to}
@@ -58,7 +58,7 @@ last_counts [] some = absurd (omega (arith, some))
 last_counts {T = T} (Some e ∷ xs) some = omega (arith, sum_by-cons (λ (o : Option (ℕ × T)). cond (is_some o) 1 0) (Some e) xs)
 last_counts {T = T} (None ∷ xs) some = by_rest (trimmed xs) some (last_counts xs)
   where
-    by_rest : (ys : List (Option (ℕ × T))) → 0 < length (before None ys) → (0 < length ys → 0 < entry_count xs) → 0 < entry_count (None ∷ xs)
+    by_rest : (ys : List (Option (ℕ × T))) → 0 < length (put_before None ys) → (0 < length ys → 0 < entry_count xs) → 0 < entry_count (None ∷ xs)
     by_rest [] some rest = absurd (omega (arith, some))
     by_rest (y ∷ ys) some rest =
         let later : 0 < entry_count xs = rest (omega arith) in

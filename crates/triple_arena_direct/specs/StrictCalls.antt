@@ -27,8 +27,8 @@ pub data StrictCall (T : Type 0) : Type 0 where
 
 module _ {T : Type 0} where
   -- nothing was done, but that slots may have been touched
-  abbrev pub IsRefused : ArenaState T → List ModelCall → ArenaState T → Type 0
-  IsRefused s calls t = (calls ≡ []) × IsTouched s t
+  abbrev pub IsRefusedCall : ArenaState T → List ModelCall → ArenaState T → Type 0
+  IsRefusedCall s calls t = (calls ≡ []) × IsTouched s t
 
   -- one model call was made, and left this, how many slots were touched aside
   abbrev pub IsDone : ModelCall → ArenaState T → List ModelCall → ArenaState T → Type 0
@@ -36,7 +36,7 @@ module _ {T : Type 0} where
 
   -- the one or the other, as is said
   abbrev pub IsUnless : Bool → ModelCall → ArenaState T → ArenaState T → List ModelCall → ArenaState T → Type 0
-  IsUnless true call after s calls t = IsRefused s calls t
+  IsUnless true call after s calls t = IsRefusedCall s calls t
   IsUnless false call after s calls t = IsDone call after calls t
 
 module _ {T : Type 0} (kind : StackKind) (counting : Bool) (greatest : ℕ) where
@@ -49,7 +49,7 @@ module _ {T : Type 0} (kind : StackKind) (counting : Bool) (greatest : ℕ) wher
   abbrev pub IsStrictStep : ArenaState T → StrictCall T → List ModelCall → ArenaState T → Type 0
   IsStrictStep s (to_insert value) calls t =
       IsWellFormed s
-      × (((capacity s ≤ arena_len s) × IsRefused s calls t)
+      × (((capacity s ≤ arena_len s) × IsRefusedCall s calls t)
       ⊎ IsDone (insertion (next_pointer s)) (inserted (grown kind s) value) calls t)
   IsStrictStep s (to_write p value) calls t = IsTrue (is_live s p) × (calls ≡ []) × (t ≡ with_value s p.0 value)
   IsStrictStep s (to_remove p) calls t = IsUnless (cannot_end s p) (removal p) (removed (raise counting greatest) s p.0) s calls t

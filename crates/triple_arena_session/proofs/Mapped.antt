@@ -11,7 +11,7 @@ use Rattle.triple_arena_traits.specs.Items.{item, with_item}
 use Rattle.triple_arena_traits.specs.Entries.{value_of_generation, entry_count, entry_in, look_up}
 use Rattle.triple_arena_traits.specs.ArenaState.{ArenaState, arena_len, capacity, entry, slot_count, with_value, is_free, IsWellFormed, map_entry, map_values}
 use Rattle.triple_arena_traits.specs.Insertion.{place_among, inserted_among, inserted, next_pointer}
-use Rattle.triple_arena_traits.specs.FreeList.{before, trimmed, gaps, tidied}
+use Rattle.triple_arena_traits.specs.FreeList.{put_before, trimmed, gaps, tidied}
 use Rattle.triple_arena_traits.specs.Capacity.{with_room_for, grown, reallocated}
 use Rattle.triple_arena_traits.specs.Ending.{removed, invalidated}
 use Rattle.triple_arena_traits.specs.Walks.{entries_from, values_of}
@@ -133,14 +133,14 @@ module _ {T U : Type 0} (f : T → U) where
   pub compressed-mapped : (s : ArenaState T) (counter : ℕ) (vs : List T) → map_values f (compressed s counter vs) ≡ compressed (map_values f s) counter (map f vs)
   compressed-mapped s counter vs = ap (λ xs. record (map_values f s) { slots = xs; counter = counter; free = [] }) (closed_up-mapped counter vs)
 
-  before-mapped : (x : Option (ℕ × T)) (rest : List (Option (ℕ × T))) → before (option_map (map_entry f) x) (map (option_map (map_entry f)) rest) ≡ map (option_map (map_entry f)) (before x rest)
+  before-mapped : (x : Option (ℕ × T)) (rest : List (Option (ℕ × T))) → put_before (option_map (map_entry f) x) (map (option_map (map_entry f)) rest) ≡ map (option_map (map_entry f)) (put_before x rest)
   before-mapped (Some e) rest = refl
   before-mapped None [] = refl
   before-mapped None (x ∷ rest) = refl
 
   trimmed-mapped : (xs : List (Option (ℕ × T))) → map (option_map (map_entry f)) (trimmed xs) ≡ trimmed (map (option_map (map_entry f)) xs)
   trimmed-mapped [] = refl
-  trimmed-mapped (x ∷ xs) = sym (before-mapped x (trimmed xs)) ∙ ap (before (option_map (map_entry f) x)) (trimmed-mapped xs)
+  trimmed-mapped (x ∷ xs) = sym (before-mapped x (trimmed xs)) ∙ ap (put_before (option_map (map_entry f) x)) (trimmed-mapped xs)
 
   gaps-mapped : (at : ℕ) (xs : List (Option (ℕ × T))) → gaps at xs ≡ gaps at (map (option_map (map_entry f)) xs)
   gaps-mapped at [] = refl

@@ -15,13 +15,13 @@ use Rattle.triple_arena_commands.specs.ReplyText.{tells_of_wrap}
 use Rattle.triple_arena_commands.specs.Runs.{IsRun, TellsOfNoWrap, RunsToWrap}
 use Rattle.triple_arena_commands.specs.laws.RunLaws.{TellsOfNoWrap-nil, TellsOfNoWrap-first}
 use Rattle.triple_arena_commands.specs.StoreRuns.{is_named, is_no_memory, ample, erase, seen}
-use Rattle.triple_arena_commands.specs.Strict.{is_success, tells_exhausted, UnlessExhausted, raises_row, used, is_spent, IsCountedStep, IsStrictStoreStep}
+use Rattle.triple_arena_commands.specs.Strict.{tells_success, tells_exhausted, UnlessExhausted, raises_row, used, is_spent, IsCountedStep, IsStrictStoreStep}
 use Rattle.triple_arena_commands.specs.laws.StrictLaws.{unless_so, refused_where, made_where, StrictIsUnseen}
 use Rattle.triple_arena_session.specs.SessionState.{SessionState, named}
 use Rattle.triple_arena_session.specs.SessionRun.{IsStep}
 use Rattle.triple_arena_session.specs.SessionCalls.{calls_of, calls_in}
 use Rattle.triple_arena_session.specs.Shown.{as_row, shown, IsArenaOver}
-use Rattle.triple_arena_session.specs.Strict.{raises_counter, is_refused, IsStrictStep, strictly_shown}
+use Rattle.triple_arena_session.specs.Strict.{raises_counter, is_refused, IsStrictSessionStep, strictly_shown}
 use Rattle.triple_arena_session.proofs.Rows.{is_some-map, row_count-shown}
 use Rattle.triple_arena_session.proofs.Continuing.{raised_by_one, GoesOn, goes_same, StepGoesOn, StepsKeepHistories}
 use Rattle.triple_arena_session.proofs.StoreSteps.{row_named}
@@ -62,7 +62,7 @@ module _ {X : Type 0} where
 
 module _ {X : Type 0} (kind : StackKind) (has_memory : ℕ → Type 0) (counting : Bool) (greatest : ℕ) (counts : counting ≡ true) where
   abbrev pub StrictStep : SessionState X → Command X → Reply X → SessionState X → Type 0
-  StrictStep s command reply t = IsStrictStep kind has_memory counting greatest s command reply t
+  StrictStep s command reply t = IsStrictSessionStep kind has_memory counting greatest s command reply t
 
   -- a sound session whose counter is one of its pointers' generations
   pub record StrictlySound (s : SessionState X) : Type 0 where
@@ -91,7 +91,7 @@ module _ {X : Type 0} (kind : StackKind) (has_memory : ℕ → Type 0) (counting
 
     module _ (reply : Reply X) (t : SessionState X) where
       -- the counter after a step that is not refused
-      counted : (b : Bool) → (raises_counter s command && is_success reply) ≡ b → (b ≡ true → wraps counting greatest s.arena.counter ≡ false) → t.arena.counter ≡ cond b (raise counting greatest s.arena.counter) s.arena.counter
+      counted : (b : Bool) → (raises_counter s command && tells_success reply) ≡ b → (b ≡ true → wraps counting greatest s.arena.counter ≡ false) → t.arena.counter ≡ cond b (raise counting greatest s.arena.counter) s.arena.counter
           → (t.arena.counter ≤ greatest) × (greatest - t.arena.counter + cond b 1 0 ≡ greatest - s.arena.counter)
       counted true is quiet after =
           let up : t.arena.counter ≡ s.arena.counter + 1 = after ∙ raised_by_one counting greatest s.arena.counter counts (quiet refl) in
@@ -104,8 +104,8 @@ module _ {X : Type 0} (kind : StackKind) (has_memory : ℕ → Type 0) (counting
           let counting_of = step_counts counting greatest kind has_memory s command reply t step in
           let stores = StepIsStores kind has_memory counting greatest counts s command reply t sound.sound step in
           let quiet : tells_of_wrap reply ≡ false = counting_of.told not_so in
-          let after = counted (raises_counter s command && is_success reply) refl (λ both. not_due (wraps counting greatest s.arena.counter) (raises_counter s command) not_so (and_parts (raises_counter s command) (is_success reply) both).0) counting_of.counter in
-          let uses : used (shown s) command reply ≡ cond (raises_counter s command && is_success reply) 1 0 = ap (λ b. cond (b && is_success reply) 1 0) (raises-shown kind s command sound.sound) in
+          let after = counted (raises_counter s command && tells_success reply) refl (λ both. not_due (wraps counting greatest s.arena.counter) (raises_counter s command) not_so (and_parts (raises_counter s command) (tells_success reply) both).0) counting_of.counter in
+          let uses : used (shown s) command reply ≡ cond (raises_counter s command && tells_success reply) 1 0 = ap (λ b. cond (b && tells_success reply) 1 0) (raises-shown kind s command sound.sound) in
           record {
             quiet = quiet;
             step = made_where (IsCountedStep (strictly_shown greatest s) command reply (strictly_shown greatest t)) reply (strictly_shown greatest s) (strictly_shown greatest t) (is_spent (strictly_shown greatest s) command) (spent ∙ not_so)
@@ -151,12 +151,12 @@ module _ {X : Type 0} (kind : StackKind) (has_memory : ℕ → Type 0) (counting
       StrictIsUnseen (strictly_shown greatest s) (strictly_shown greatest t) commands replies (StrictRunIsStores s commands replies t sound run).stores named enough other
 
 module _ {X : Type 0} (kind : StackKind) (has_memory : ℕ → Type 0) (counting : Bool) (greatest : ℕ) where
-  refused : (s : SessionState X) (command : Command X) (reply : Reply X) (t : SessionState X) → IsStrictStep kind has_memory counting greatest s command reply t → reply ≡ Exhausted → (is_refused counting greatest s command ≡ true) × (t ≡ s)
+  refused : (s : SessionState X) (command : Command X) (reply : Reply X) (t : SessionState X) → IsStrictSessionStep kind has_memory counting greatest s command reply t → reply ≡ Exhausted → (is_refused counting greatest s command ≡ true) × (t ≡ s)
   refused s command reply t step so =
       unless_so (IsStep kind has_memory counting greatest s command reply t) reply s t (is_refused counting greatest s command) step (λ made. (step_counts counting greatest kind has_memory s command reply t made).other) (ap tells_exhausted so)
 
   -- no reply of a strict session tells of a wrap, whatever it shows
-  pub StrictStepIsQuiet : (s : SessionState X) (command : Command X) (reply : Reply X) (t : SessionState X) → IsStrictStep kind has_memory counting greatest s command reply t → tells_of_wrap reply ≡ false
+  pub StrictStepIsQuiet : (s : SessionState X) (command : Command X) (reply : Reply X) (t : SessionState X) → IsStrictSessionStep kind has_memory counting greatest s command reply t → tells_of_wrap reply ≡ false
   StrictStepIsQuiet s command reply t step = by (is_refused counting greatest s command) refl step
     where
       by : (b : Bool) → is_refused counting greatest s command ≡ b → UnlessExhausted b (IsStep kind has_memory counting greatest s command reply t) reply s t → tells_of_wrap reply ≡ false
@@ -164,17 +164,17 @@ module _ {X : Type 0} (kind : StackKind) (has_memory : ℕ → Type 0) (counting
       by false not_so step = (step_counts counting greatest kind has_memory s command reply t step).told not_so
 
   -- a command is refused for want of a raise exactly where the session is to refuse it, and then nothing changes
-  pub ExhaustedWhere : (s : SessionState X) (command : Command X) (reply : Reply X) (t : SessionState X) → IsStrictStep kind has_memory counting greatest s command reply t → (reply ≡ Exhausted) ↔ (is_refused counting greatest s command ≡ true)
+  pub ExhaustedWhere : (s : SessionState X) (command : Command X) (reply : Reply X) (t : SessionState X) → IsStrictSessionStep kind has_memory counting greatest s command reply t → (reply ≡ Exhausted) ↔ (is_refused counting greatest s command ≡ true)
   ExhaustedWhere s command reply t step = (
     (λ so. (refused s command reply t step so).0),
     λ due. (subst (λ b. UnlessExhausted b (IsStep kind has_memory counting greatest s command reply t) reply s t) due step).0,
   )
 
-  pub ExhaustedKeeps : (s : SessionState X) (command : Command X) (reply : Reply X) (t : SessionState X) → IsStrictStep kind has_memory counting greatest s command reply t → reply ≡ Exhausted → t ≡ s
+  pub ExhaustedKeeps : (s : SessionState X) (command : Command X) (reply : Reply X) (t : SessionState X) → IsStrictSessionStep kind has_memory counting greatest s command reply t → reply ≡ Exhausted → t ≡ s
   ExhaustedKeeps s command reply t step so = (refused s command reply t step so).1
 
   -- its arena goes on by the model calls of the command, whatever the table is
-  pub StrictStepGoesOn : (s : SessionState X) (command : Command X) (reply : Reply X) (t : SessionState X) → IsArenaOver kind s.arena → IsStrictStep kind has_memory counting greatest s command reply t → GoesOn kind counting s command (reply, t)
+  pub StrictStepGoesOn : (s : SessionState X) (command : Command X) (reply : Reply X) (t : SessionState X) → IsArenaOver kind s.arena → IsStrictSessionStep kind has_memory counting greatest s command reply t → GoesOn kind counting s command (reply, t)
   StrictStepGoesOn s command reply t over step = by (is_refused counting greatest s command) refl step
     where
       by : (b : Bool) → is_refused counting greatest s command ≡ b → UnlessExhausted b (IsStep kind has_memory counting greatest s command reply t) reply s t → GoesOn kind counting s command (reply, t)
@@ -184,24 +184,24 @@ module _ {X : Type 0} (kind : StackKind) (has_memory : ℕ → Type 0) (counting
           (no_calls s command (and_parts (wraps counting greatest s.arena.counter) (raises_counter s command) so).1))
       by false not_so step = StepGoesOn kind counting greatest has_memory s command reply t over step
 
-  pub StrictRunIsQuiet : (s : SessionState X) (commands : List (Command X)) (replies : List (Reply X)) (t : SessionState X) → IsRun (IsStrictStep kind has_memory counting greatest) s commands replies t → TellsOfNoWrap replies
+  pub StrictRunIsQuiet : (s : SessionState X) (commands : List (Command X)) (replies : List (Reply X)) (t : SessionState X) → IsRun (IsStrictSessionStep kind has_memory counting greatest) s commands replies t → TellsOfNoWrap replies
   StrictRunIsQuiet s [] [] t run = TellsOfNoWrap-nil
   StrictRunIsQuiet s [] (reply ∷ replies) t run = absurd run
   StrictRunIsQuiet s (command ∷ commands) [] t run = absurd run
   StrictRunIsQuiet s (command ∷ commands) (reply ∷ replies) t run = TellsOfNoWrap-first reply replies (StrictStepIsQuiet s command reply run.0 run.1) (StrictRunIsQuiet run.0 commands replies t run.2)
 
   -- so where generations count, its arena goes on by all model calls
-  pub StrictStepKeepsHistory : counting ≡ true → (s : SessionState X) (command : Command X) (reply : Reply X) (t : SessionState X) → IsArenaOver kind s.arena → IsStrictStep kind has_memory counting greatest s command reply t → Continues Fits s.arena (calls_of s command reply) t.arena
+  pub StrictStepKeepsHistory : counting ≡ true → (s : SessionState X) (command : Command X) (reply : Reply X) (t : SessionState X) → IsArenaOver kind s.arena → IsStrictSessionStep kind has_memory counting greatest s command reply t → Continues Fits s.arena (calls_of s command reply) t.arena
   StrictStepKeepsHistory counts s command reply t over step =
       (StrictStepGoesOn s command reply t over step).calls (counts, StrictStepIsQuiet s command reply t step)
 
-  pub StrictRunKeepsHistory : counting ≡ true → (s : SessionState X) (commands : List (Command X)) (replies : List (Reply X)) (t : SessionState X) → IsArenaOver kind s.arena → (run : IsRun (IsStrictStep kind has_memory counting greatest) s commands replies t)
-      → Continues Fits s.arena (calls_in (IsStrictStep kind has_memory counting greatest) s commands replies t run) t.arena
+  pub StrictRunKeepsHistory : counting ≡ true → (s : SessionState X) (commands : List (Command X)) (replies : List (Reply X)) (t : SessionState X) → IsArenaOver kind s.arena → (run : IsRun (IsStrictSessionStep kind has_memory counting greatest) s commands replies t)
+      → Continues Fits s.arena (calls_in (IsStrictSessionStep kind has_memory counting greatest) s commands replies t run) t.arena
   StrictRunKeepsHistory counts s commands replies t over run =
-      StepsKeepHistories kind counting (IsStrictStep kind has_memory counting greatest) StrictStepGoesOn counts s commands replies t over run (StrictRunIsQuiet s commands replies t run)
+      StepsKeepHistories kind counting (IsStrictSessionStep kind has_memory counting greatest) StrictStepGoesOn counts s commands replies t over run (StrictRunIsQuiet s commands replies t run)
 
   -- and it runs all commands
-  pub StrictRunsAll : (s : SessionState X) (commands : List (Command X)) (replies : List (Reply X)) (t : SessionState X) → RunsToWrap (IsStrictStep kind has_memory counting greatest) s commands replies t → IsRun (IsStrictStep kind has_memory counting greatest) s commands replies t
+  pub StrictRunsAll : (s : SessionState X) (commands : List (Command X)) (replies : List (Reply X)) (t : SessionState X) → RunsToWrap (IsStrictSessionStep kind has_memory counting greatest) s commands replies t → IsRun (IsStrictSessionStep kind has_memory counting greatest) s commands replies t
   StrictRunsAll s commands replies t ran =
       let quiet = StrictRunIsQuiet s (take (length replies) commands) replies t ran.0 in
-      subst (λ cs. IsRun (IsStrictStep kind has_memory counting greatest) s cs replies t) (whole_if_quiet commands replies quiet ran.1) ran.0
+      subst (λ cs. IsRun (IsStrictSessionStep kind has_memory counting greatest) s cs replies t) (whole_if_quiet commands replies quiet ran.1) ran.0

@@ -23,7 +23,7 @@ use Rattle.triple_arena_commands.specs.declared.reply.Reply.TheVariants.{Full, B
 use Rattle.triple_arena_commands.specs.Limits.{is_within}
 use Rattle.triple_arena_commands.specs.ReplyText.{tells_of_wrap}
 use Rattle.triple_arena_commands.specs.Runs.{IsRun}
-use Rattle.triple_arena_commands.specs.Strict.{is_success, tells_exhausted}
+use Rattle.triple_arena_commands.specs.Strict.{tells_success, tells_exhausted}
 use Rattle.triple_arena_session.specs.SessionState.{SessionState, named, link_pointer}
 use Rattle.triple_arena_session.specs.Compaction.{any_dangles, compacted}
 use Rattle.triple_arena_session.specs.SessionRun.{refusal, get_reply, show_reply, shown_text, act_under, act_on, set_answer, insert_within_answer, insert_unless, insert_answer, remove_under, invalidate_under, in_order, with_room_for_name, answer, WantsMemory, IsStep}
@@ -52,11 +52,11 @@ module _ {X : Type 0} (counting : Bool) (greatest : ℕ) where
   -- and succeeds, and the refusal for want of a raise is not among the replies
   pub record Counts (s : SessionState X) (command : Command X) (a : Reply X × SessionState X) : Type 0 where
     pub told : (wraps counting greatest s.arena.counter && raises_counter s command) ≡ false → tells_of_wrap a.0 ≡ false
-    pub counter : a.1.arena.counter ≡ cond (raises_counter s command && is_success a.0) (raise counting greatest s.arena.counter) s.arena.counter
+    pub counter : a.1.arena.counter ≡ cond (raises_counter s command && tells_success a.0) (raise counting greatest s.arena.counter) s.arena.counter
     pub other : tells_exhausted a.0 ≡ false
 
   -- nothing is raised
-  kept : (s : SessionState X) (command : Command X) (r : Reply X) (t : SessionState X) → (raises_counter s command && is_success r) ≡ false → tells_of_wrap r ≡ false → tells_exhausted r ≡ false → t.arena.counter ≡ s.arena.counter → Counts s command (r, t)
+  kept : (s : SessionState X) (command : Command X) (r : Reply X) (t : SessionState X) → (raises_counter s command && tells_success r) ≡ false → tells_of_wrap r ≡ false → tells_exhausted r ≡ false → t.arena.counter ≡ s.arena.counter → Counts s command (r, t)
   kept s command r t none quiet other same =
       record {
         told = λ h. quiet;
@@ -65,11 +65,11 @@ module _ {X : Type 0} (counting : Bool) (greatest : ℕ) where
       }
 
   -- the counter is raised
-  raised : (s : SessionState X) (command : Command X) (r : Reply X) (t : SessionState X) → raises_counter s command ≡ true → is_success r ≡ true → tells_of_wrap r ≡ wraps counting greatest s.arena.counter → tells_exhausted r ≡ false → t.arena.counter ≡ raise counting greatest s.arena.counter → Counts s command (r, t)
+  raised : (s : SessionState X) (command : Command X) (r : Reply X) (t : SessionState X) → raises_counter s command ≡ true → tells_success r ≡ true → tells_of_wrap r ≡ wraps counting greatest s.arena.counter → tells_exhausted r ≡ false → t.arena.counter ≡ raise counting greatest s.arena.counter → Counts s command (r, t)
   raised s command r t due success tells other up =
       record {
         told = λ h. tells ∙ first (wraps counting greatest s.arena.counter) (raises_counter s command) due h;
-        counter = up ∙ sym (ap (λ b. cond (b && is_success r) (raise counting greatest s.arena.counter) s.arena.counter) due ∙ ap (λ b. cond b (raise counting greatest s.arena.counter) s.arena.counter) success);
+        counter = up ∙ sym (ap (λ b. cond (b && tells_success r) (raise counting greatest s.arena.counter) s.arena.counter) due ∙ ap (λ b. cond b (raise counting greatest s.arena.counter) s.arena.counter) success);
         other = other;
       }
     where
@@ -77,7 +77,7 @@ module _ {X : Type 0} (counting : Bool) (greatest : ℕ) where
       first true b due h = sym due ∙ h
       first false b due h = refl
 
-  not_success : (b : Bool) (r : Reply X) → is_success r ≡ false → (b && is_success r) ≡ false
+  not_success : (b : Bool) (r : Reply X) → tells_success r ≡ false → (b && tells_success r) ≡ false
   not_success true r refusal = refusal
   not_success false r refusal = refl
 

@@ -21,7 +21,7 @@ use Rattle.triple_arena_session.specs.KindRun.{greatest, first_session, RunsStri
 use Rattle.triple_arena_session.specs.ProgramRun.{RunsProgram}
 use Rattle.triple_arena_session.specs.StoreText.{IsStoreText, first_store, first_strict_store, AnswersProgram}
 use Rattle.triple_arena_session.specs.Shown.{IsSound}
-use Rattle.triple_arena_session.specs.Strict.{IsStrictStep, strictly_shown}
+use Rattle.triple_arena_session.specs.Strict.{IsStrictSessionStep, strictly_shown}
 use Rattle.triple_arena_session.specs.StrictText.{IsWholeTextRun, IsWholeFlushedRun, RunsStrictStore, BringsStrictStore, IsStrictStoreText}
 use Rattle.triple_arena_session.proofs.StoreLaws.{SoundOver-new}
 use Rattle.triple_arena_session.proofs.StoreRunLaws.{quiet_ends}
@@ -30,7 +30,7 @@ use Rattle.triple_arena_session.proofs.StrictLaws.{StrictlySound, StrictRunIsSto
 
 module _ (kind : StackKind) (has_memory : ℕ → Type 0) (counting : Bool) (greatest : ℕ) (s t : SessionState ℕ) (old new : Option (List ℕ)) where
   abbrev TextStep : SessionState ℕ → Command ℕ → Reply ℕ → SessionState ℕ → Type 0
-  TextStep = IsStrictStep kind has_memory counting greatest
+  TextStep = IsStrictSessionStep kind has_memory counting greatest
 
   -- no wrap ends a run
   whole : (lines : List (List ℕ)) → RunsThrough TextStep lines s t old new → AnswersLines TextStep lines s t old new
@@ -120,7 +120,7 @@ RunsKindStrictlyAsStore Array text outcome old new ran = over_kind (array 8) (λ
 -- where there was no memory to begin, nothing ran
 pub RunsStrictly-not_begun : (kind : StackKind) (has_memory : ℕ → Type 0) (first : SessionState ℕ) (known : Option (List ℕ)) (outcome : Result (Unit {0}) TextError) (old new : Option (List ℕ)) → IsFlushed (Err NoMemory) outcome old new → RunsStrictlyOver kind has_memory first known outcome old new
 RunsStrictly-not_begun kind has_memory first known outcome old new flushed =
-    (first, StrictFlushedIsWhole kind has_memory true greatest first first old new known outcome (IsFlushedRun-not_begun (IsStrictStep kind has_memory true greatest) known outcome first old new flushed))
+    (first, StrictFlushedIsWhole kind has_memory true greatest first first old new known outcome (IsFlushedRun-not_begun (IsStrictSessionStep kind has_memory true greatest) known outcome first old new flushed))
 
 -- the program's arguments, input and output
 pub RunsProgramAsStore : {W : Type 0} (contents : W → Option (List ℕ)) (mode : Result (Bool × Kind) Outcome) (text : Option (List ℕ)) (outcome : Outcome) (old : W) (new : Option W) → RunsProgram contents mode text outcome old new → AnswersProgram contents mode text outcome old new

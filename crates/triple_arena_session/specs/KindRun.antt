@@ -9,7 +9,7 @@ use Rattle.triple_arena_commands.specs.declared.arguments.Kind.TheVariants.{Heap
 use Rattle.triple_arena_commands.specs.declared.text_error.TextError.{TextError}
 use Rattle.triple_arena_session.specs.SessionState.{SessionState, new_session}
 use Rattle.triple_arena_session.specs.SessionRun.{IsStep}
-use Rattle.triple_arena_session.specs.Strict.{IsStrictStep}
+use Rattle.triple_arena_session.specs.Strict.{IsStrictSessionStep}
 use Rattle.triple_arena_session.specs.StrictText.{IsWholeFlushedRun}
 
 -- the greatest number of an index of P0, and of a generation
@@ -33,7 +33,7 @@ RunsKind Array = RunsOver (array 8) (λ _. Unit {0}) (first_session 8 (Some 8))
 
 -- the same of a strict session, whose run no wrap ends
 abbrev pub RunsStrictlyOver : StackKind → (ℕ → Type 0) → SessionState ℕ → Option (List ℕ) → Result (Unit {0}) TextError → Option (List ℕ) → Option (List ℕ) → Type 0
-RunsStrictlyOver kind has_memory first text outcome old new = (last : SessionState ℕ) × IsWholeFlushedRun (IsStrictStep kind has_memory true greatest) text outcome first last old new
+RunsStrictlyOver kind has_memory first text outcome old new = (last : SessionState ℕ) × IsWholeFlushedRun (IsStrictSessionStep kind has_memory true greatest) text outcome first last old new
 
 -- the text ran in the strict session over the stack that the program's arguments ask for
 abbrev pub RunsKindStrictly : Kind → Option (List ℕ) → Result (Unit {0}) TextError → Option (List ℕ) → Option (List ℕ) → Type 0

@@ -20,8 +20,8 @@ module _ {X : Type 0} where
   is_refused counting greatest s command = wraps counting greatest s.arena.counter && raises_counter s command
 
   -- a command, its reply and the strict session after it: the refusal, and nothing changes, or a step as of any session
-  abbrev pub IsStrictStep : StackKind → (ℕ → Type 0) → Bool → ℕ → SessionState X → Command X → Reply X → SessionState X → Type 0
-  IsStrictStep kind has_memory counting greatest = IsStrictly (is_refused counting greatest) (IsStep kind has_memory counting greatest)
+  abbrev pub IsStrictSessionStep : StackKind → (ℕ → Type 0) → Bool → ℕ → SessionState X → Command X → Reply X → SessionState X → Type 0
+  IsStrictSessionStep kind has_memory counting greatest = IsStrictly (is_refused counting greatest) (IsStep kind has_memory counting greatest)
 
   -- the strict store that a session shows: its counter has the raises left that lead to the greatest generation
   abbrev pub strictly_shown : ℕ → SessionState X → StrictStore X

@@ -17,7 +17,7 @@ ghost use Rattle.triple_arena_session.specs.SessionState.{SessionState};
 ghost use Rattle.triple_arena_session.specs.SessionRun.{IsStep};
 ghost use Rattle.triple_arena_session.specs.SessionCalls.{calls_of, calls_in, KeepsHistories};
 ghost use Rattle.triple_arena_session.specs.Shown.{shown, IsSound, IsArenaOver};
-ghost use Rattle.triple_arena_session.specs.Strict.{IsStrictStep, strictly_shown};
+ghost use Rattle.triple_arena_session.specs.Strict.{IsStrictSessionStep, strictly_shown};
 ghost use Rattle.triple_arena_session.specs.KindRun.{greatest, first_session};
 ghost use Rattle.triple_arena_session.specs.ElevenCommands.{eleven_commands, eleven_replies, nine_replies, model_replies};
 
@@ -99,18 +99,18 @@ pub fn strict_session_steps_as_store<
 >()
     ensures store { P.Gen.counting ≡ true → (s t : SessionState X) (command : Command X) (reply : Reply X)
         → IsArenaOver S.kind s.arena → s.arena.counter ≤ P.Gen.greatest → IsSound s
-        → IsStrictStep S.kind S.has_memory P.Gen.counting P.Gen.greatest s command reply t
+        → IsStrictSessionStep S.kind S.has_memory P.Gen.counting P.Gen.greatest s command reply t
         → IsStrictStoreStep (strictly_shown P.Gen.greatest s) command reply (strictly_shown P.Gen.greatest t) }
     ensures sound { P.Gen.counting ≡ true → (s t : SessionState X) (command : Command X) (reply : Reply X)
         → IsArenaOver S.kind s.arena → s.arena.counter ≤ P.Gen.greatest → IsSound s
-        → IsStrictStep S.kind S.has_memory P.Gen.counting P.Gen.greatest s command reply t
+        → IsStrictSessionStep S.kind S.has_memory P.Gen.counting P.Gen.greatest s command reply t
         → IsArenaOver S.kind t.arena × (t.arena.counter ≤ P.Gen.greatest) × IsSound t }
     ensures quiet { (s t : SessionState X) (command : Command X) (reply : Reply X)
-        → IsStrictStep S.kind S.has_memory P.Gen.counting P.Gen.greatest s command reply t
+        → IsStrictSessionStep S.kind S.has_memory P.Gen.counting P.Gen.greatest s command reply t
         → tells_of_wrap reply ≡ false }
     ensures history { P.Gen.counting ≡ true → (s t : SessionState X) (command : Command X) (reply : Reply X)
         → IsArenaOver S.kind s.arena
-        → IsStrictStep S.kind S.has_memory P.Gen.counting P.Gen.greatest s command reply t
+        → IsStrictSessionStep S.kind S.has_memory P.Gen.counting P.Gen.greatest s command reply t
         → Continues Fits s.arena (calls_of s command reply) t.arena }
 {}
 
@@ -125,33 +125,33 @@ pub fn strict_session_runs_as_store<
     ensures store { P.Gen.counting ≡ true
         → (s t : SessionState X) (commands : List (Command X)) (replies : List (Reply X))
         → IsArenaOver S.kind s.arena → s.arena.counter ≤ P.Gen.greatest → IsSound s
-        → IsRun (IsStrictStep S.kind S.has_memory P.Gen.counting P.Gen.greatest) s commands replies t
+        → IsRun (IsStrictSessionStep S.kind S.has_memory P.Gen.counting P.Gen.greatest) s commands replies t
         → IsRun IsStrictStoreStep (strictly_shown P.Gen.greatest s) commands replies (strictly_shown P.Gen.greatest t) }
     ensures sound { P.Gen.counting ≡ true
         → (s t : SessionState X) (commands : List (Command X)) (replies : List (Reply X))
         → IsArenaOver S.kind s.arena → s.arena.counter ≤ P.Gen.greatest → IsSound s
-        → IsRun (IsStrictStep S.kind S.has_memory P.Gen.counting P.Gen.greatest) s commands replies t
+        → IsRun (IsStrictSessionStep S.kind S.has_memory P.Gen.counting P.Gen.greatest) s commands replies t
         → IsArenaOver S.kind t.arena × (t.arena.counter ≤ P.Gen.greatest) × IsSound t }
     ensures quiet { (s t : SessionState X) (commands : List (Command X)) (replies : List (Reply X))
-        → IsRun (IsStrictStep S.kind S.has_memory P.Gen.counting P.Gen.greatest) s commands replies t
+        → IsRun (IsStrictSessionStep S.kind S.has_memory P.Gen.counting P.Gen.greatest) s commands replies t
         → TellsOfNoWrap replies }
     ensures history { P.Gen.counting ≡ true
         → (s t : SessionState X) (commands : List (Command X)) (replies : List (Reply X))
         → IsArenaOver S.kind s.arena
-        → (run : IsRun (IsStrictStep S.kind S.has_memory P.Gen.counting P.Gen.greatest) s commands replies t)
-        → Continues Fits s.arena (calls_in (IsStrictStep S.kind S.has_memory P.Gen.counting P.Gen.greatest)
+        → (run : IsRun (IsStrictSessionStep S.kind S.has_memory P.Gen.counting P.Gen.greatest) s commands replies t)
+        → Continues Fits s.arena (calls_in (IsStrictSessionStep S.kind S.has_memory P.Gen.counting P.Gen.greatest)
         s commands replies t run) t.arena }
     ensures given_once { P.Gen.counting ≡ true
         → (s t : SessionState X) (commands : List (Command X)) (replies : List (Reply X))
         → IsArenaOver S.kind s.arena → arena_len s.arena ≡ 0
-        → (run : IsRun (IsStrictStep S.kind S.has_memory P.Gen.counting P.Gen.greatest) s commands replies t)
+        → (run : IsRun (IsStrictSessionStep S.kind S.has_memory P.Gen.counting P.Gen.greatest) s commands replies t)
         → AreDistinct (given (followed_by (begun_with [])
-        (calls_in (IsStrictStep S.kind S.has_memory P.Gen.counting P.Gen.greatest)
+        (calls_in (IsStrictSessionStep S.kind S.has_memory P.Gen.counting P.Gen.greatest)
         s commands replies t run))) }
     ensures unseen { P.Gen.counting ≡ true
         → (s t : SessionState X) (commands : List (Command X)) (replies : List (Reply X))
         → IsArenaOver S.kind s.arena → s.arena.counter ≤ P.Gen.greatest → IsSound s
-        → IsRun (IsStrictStep S.kind S.has_memory P.Gen.counting P.Gen.greatest) s commands replies t
+        → IsRun (IsStrictSessionStep S.kind S.has_memory P.Gen.counting P.Gen.greatest) s commands replies t
         → list_all is_named commands ≡ true → list_any is_no_memory replies ≡ false
         → list_any tells_exhausted replies ≡ false
         → seen commands replies ≡ ample (shown s) (erase commands) }

@@ -15,7 +15,7 @@ ghost use Rattle.triple_arena_commands.specs.Strict.{tells_exhausted, IsStrictSt
 ghost use Rattle.triple_arena_session.specs.SessionState.{node_of, new_session};
 ghost use Rattle.triple_arena_session.specs.SessionCalls.{calls_of, RunsFreshly};
 ghost use Rattle.triple_arena_session.specs.Shown.{shown, IsSound, IsArenaOver};
-ghost use Rattle.triple_arena_session.specs.Strict.{is_refused, IsStrictStep, strictly_shown};
+ghost use Rattle.triple_arena_session.specs.Strict.{is_refused, IsStrictSessionStep, strictly_shown};
 
 use crate::named_arena::NamedArena;
 use crate::node::Node;
@@ -118,7 +118,7 @@ impl<P: Ptr, X: Copy, S: NonZeroInxGenericStack<ArenaSlot<P, Node<X, P>>>> Stric
     pub fn step(&mut self, command: Command<X>) -> Reply<X>
     where
         X: Debug,
-        ensures step { IsStrictStep S.kind S.has_memory P.Gen.counting P.Gen.greatest
+        ensures step { IsStrictSessionStep S.kind S.has_memory P.Gen.counting P.Gen.greatest
             self.old command result self.new }
         ensures exhausted { (result ≡ Exhausted)
             ↔ (is_refused P.Gen.counting P.Gen.greatest self.old command ≡ true) }
@@ -150,7 +150,7 @@ impl<P: Ptr, X: Copy, S: NonZeroInxGenericStack<ArenaSlot<P, Node<X, P>>>> Stric
     where
         X: Debug,
         ensures ran { IfOk result (λ replies.
-            IsRun (IsStrictStep S.kind S.has_memory P.Gen.counting P.Gen.greatest)
+            IsRun (IsStrictSessionStep S.kind S.has_memory P.Gen.counting P.Gen.greatest)
             self.old commands.now replies.items self.new) }
         ensures whole { IfOk result (λ replies. length replies.items ≡ length commands.now) }
         ensures quiet { IfOk result (λ replies. TellsOfNoWrap replies.items) }
@@ -161,7 +161,7 @@ impl<P: Ptr, X: Copy, S: NonZeroInxGenericStack<ArenaSlot<P, Node<X, P>>>> Stric
             replies.items (strictly_shown P.Gen.greatest self.new)) }
         ensures sound { P.Gen.counting ≡ true → IsSound self.old → IsSound self.new }
         ensures history { P.Gen.counting ≡ true → IfOk result (λ replies.
-            RunsFreshly (IsStrictStep S.kind S.has_memory P.Gen.counting P.Gen.greatest)
+            RunsFreshly (IsStrictSessionStep S.kind S.has_memory P.Gen.counting P.Gen.greatest)
             self.old commands.now replies.items self.new) }
         ensures unseen { P.Gen.counting ≡ true → IsSound self.old → IfOk result (λ replies.
             list_all is_named commands.now ≡ true → list_any is_no_memory replies.items ≡ false

@@ -3,7 +3,7 @@
 ghost use Rattle.std.specs.Prelude.{◌≡◌, ◌≤◌, IfSome, true};
 ghost use Rattle.std.specs.Io.Buffered.{writer_contents};
 ghost use Rattle.triple_arena_session.specs.Shown.{IsSound, IsArenaOver};
-ghost use Rattle.triple_arena_session.specs.Strict.{IsStrictStep, strictly_shown};
+ghost use Rattle.triple_arena_session.specs.Strict.{IsStrictSessionStep, strictly_shown};
 ghost use Rattle.triple_arena_session.specs.StrictText.{IsWholeTextRun, IsWholeFlushedRun, IsStrictStoreText};
 
 use crate::node::Node;
@@ -34,7 +34,7 @@ pub fn run_text_strict<
     input: &mut R,
     output: &mut W,
 ) -> Result<(), TextError>
-    ensures run { IsWholeTextRun (IsStrictStep S.kind S.has_memory P.Gen.counting P.Gen.greatest)
+    ensures run { IsWholeTextRun (IsStrictSessionStep S.kind S.has_memory P.Gen.counting P.Gen.greatest)
         (R.remaining input.old) result
         session.old session.new (W.contents output.old) (W.contents output.new) }
     ensures store { P.Gen.counting ≡ true → IsSound session.old
@@ -68,7 +68,7 @@ pub fn run_text_strict_and_flush<
     input: &mut R,
     output: BufWriter<W>,
 ) -> (Result<(), TextError>, W)
-    ensures run { IsWholeFlushedRun (IsStrictStep S.kind S.has_memory P.Gen.counting P.Gen.greatest)
+    ensures run { IsWholeFlushedRun (IsStrictSessionStep S.kind S.has_memory P.Gen.counting P.Gen.greatest)
         (R.remaining input.old) result.0
         session.old session.new (writer_contents W.contents output) (W.contents result.1) }
     ensures store { P.Gen.counting ≡ true → IsSound session.old

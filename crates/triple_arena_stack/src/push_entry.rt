@@ -3,7 +3,7 @@ ghost use Rattle.std.specs.Prelude.{◌≡◌, ◌+◌, ◌↔◌, length, ℕ, 
 ghost use Rattle.std.specs.Borrow.{sem};
 ghost use Rattle.std.specs.Int.NonZero.{non_zero_usize_get};
 ghost use Rattle.triple_arena_stack.specs.Capacity.{stack_capacity, most_places, room_for_one_more, HasPlace, IsFullAtLimit, CanGrow};
-ghost use Rattle.triple_arena_stack.specs.PushEntry.{entry_stack, entry_lender, entry_rests, entry_lends};
+ghost use Rattle.triple_arena_stack.specs.PushEntry.{push_entry_stack, push_entry_lender, push_entry_rests, push_entry_lends};
 
 use crate::growth::grow_if_full;
 use crate::non_zero_inx_stack::NonZeroInxStack;
@@ -57,9 +57,9 @@ impl<T, K: NonZeroInxGenericStack<T>> NonZeroInxStack<T, K> {
     ) -> Result<PushEntry<'_, T, K>, NotWithinCapacityError>
         ensures variant { IsOk result
             ↔ HasPlace (K.room self.old) (K.limit self.old) (length (K.items self.old)) }
-        ensures stack { IfOk result (λ entry. entry_stack entry ≡ self.old) }
-        ensures same_reference { IfOk result (λ entry. entry_lender entry ≡ self.entry.ghost_name) }
-        ensures* refused { sem 𝓛 (entry_rests T.row K.row self.entry result) }
+        ensures stack { IfOk result (λ entry. push_entry_stack entry ≡ self.old) }
+        ensures same_reference { IfOk result (λ entry. push_entry_lender entry ≡ self.entry.ghost_name) }
+        ensures* refused { sem 𝓛 (push_entry_rests T.row K.row self.entry result) }
     {
         if self.len() >= self.capacity() {
             return Err(NotWithinCapacityError);
@@ -71,23 +71,23 @@ impl<T, K: NonZeroInxGenericStack<T>> NonZeroInxStack<T, K> {
     ///
     /// Refused as [`NonZeroInxGenericStack::push_reallocating`] is; then the stack is unchanged.
     pub fn entry_push_reallocating(&mut self) -> Result<PushEntry<'_, T, K>, ReallocationError>
-        ensures items { IfOk result (λ entry. K.items (entry_stack entry) ≡ K.items self.old) }
-        ensures limit { IfOk result (λ entry. K.limit (entry_stack entry) ≡ K.limit self.old) }
-        ensures room { IfOk result (λ entry. K.room (entry_stack entry)
+        ensures items { IfOk result (λ entry. K.items (push_entry_stack entry) ≡ K.items self.old) }
+        ensures limit { IfOk result (λ entry. K.limit (push_entry_stack entry) ≡ K.limit self.old) }
+        ensures room { IfOk result (λ entry. K.room (push_entry_stack entry)
             ≡ room_for_one_more (K.room self.old) (K.limit self.old) (length (K.items self.old))) }
         ensures has_place { IfOk result (λ entry. HasPlace
-            (K.room (entry_stack entry)) (K.limit (entry_stack entry))
-            (length (K.items (entry_stack entry)))) }
+            (K.room (push_entry_stack entry)) (K.limit (push_entry_stack entry))
+            (length (K.items (push_entry_stack entry)))) }
         ensures had_place { HasPlace
             (K.room self.old) (K.limit self.old) (length (K.items self.old))
-            → IsOkAnd result (λ entry. entry_stack entry ≡ self.old) }
+            → IsOkAnd result (λ entry. push_entry_stack entry ≡ self.old) }
         ensures beyond { (result ≡ Err ReallocationError.BeyondMaxCapacity)
             ↔ IsFullAtLimit (stack_capacity (K.room self.old) (K.limit self.old))
             (K.limit self.old) (length (K.items self.old)) }
         ensures with_memory { CanGrow K.has_memory (stack_capacity (K.room self.old) (K.limit self.old))
             (K.limit self.old) most_places → IsOk result }
-        ensures same_reference { IfOk result (λ entry. entry_lender entry ≡ self.entry.ghost_name) }
-        ensures* refused { sem 𝓛 (entry_rests T.row K.row self.entry result) }
+        ensures same_reference { IfOk result (λ entry. push_entry_lender entry ≡ self.entry.ghost_name) }
+        ensures* refused { sem 𝓛 (push_entry_rests T.row K.row self.entry result) }
     {
         grow_if_full(self)?;
         Ok(PushEntry { stack: self })
@@ -95,23 +95,23 @@ impl<T, K: NonZeroInxGenericStack<T>> NonZeroInxStack<T, K> {
 
     /// As [`Self::entry_push_reallocating`].
     pub fn entry_push(&mut self) -> Result<PushEntry<'_, T, K>, ReallocationError>
-        ensures items { IfOk result (λ entry. K.items (entry_stack entry) ≡ K.items self.old) }
-        ensures limit { IfOk result (λ entry. K.limit (entry_stack entry) ≡ K.limit self.old) }
-        ensures room { IfOk result (λ entry. K.room (entry_stack entry)
+        ensures items { IfOk result (λ entry. K.items (push_entry_stack entry) ≡ K.items self.old) }
+        ensures limit { IfOk result (λ entry. K.limit (push_entry_stack entry) ≡ K.limit self.old) }
+        ensures room { IfOk result (λ entry. K.room (push_entry_stack entry)
             ≡ room_for_one_more (K.room self.old) (K.limit self.old) (length (K.items self.old))) }
         ensures has_place { IfOk result (λ entry. HasPlace
-            (K.room (entry_stack entry)) (K.limit (entry_stack entry))
-            (length (K.items (entry_stack entry)))) }
+            (K.room (push_entry_stack entry)) (K.limit (push_entry_stack entry))
+            (length (K.items (push_entry_stack entry)))) }
         ensures had_place { HasPlace
             (K.room self.old) (K.limit self.old) (length (K.items self.old))
-            → IsOkAnd result (λ entry. entry_stack entry ≡ self.old) }
+            → IsOkAnd result (λ entry. push_entry_stack entry ≡ self.old) }
         ensures beyond { (result ≡ Err ReallocationError.BeyondMaxCapacity)
             ↔ IsFullAtLimit (stack_capacity (K.room self.old) (K.limit self.old))
             (K.limit self.old) (length (K.items self.old)) }
         ensures with_memory { CanGrow K.has_memory (stack_capacity (K.room self.old) (K.limit self.old))
             (K.limit self.old) most_places → IsOk result }
-        ensures same_reference { IfOk result (λ entry. entry_lender entry ≡ self.entry.ghost_name) }
-        ensures* refused { sem 𝓛 (entry_rests T.row K.row self.entry result) }
+        ensures same_reference { IfOk result (λ entry. push_entry_lender entry ≡ self.entry.ghost_name) }
+        ensures* refused { sem 𝓛 (push_entry_rests T.row K.row self.entry result) }
     {
         self.entry_push_reallocating()
     }
@@ -120,10 +120,10 @@ impl<T, K: NonZeroInxGenericStack<T>> NonZeroInxStack<T, K> {
 impl<'a, T, K: NonZeroInxGenericStack<T>> NonZeroInxGenericStackPushEntryTrait<'a, T>
     for PushEntry<'a, T, K> {
     ghost has_place = { λ entry. HasPlace
-        (K.room (entry_stack entry)) (K.limit (entry_stack entry))
-        (length (K.items (entry_stack entry))) };
+        (K.room (push_entry_stack entry)) (K.limit (push_entry_stack entry))
+        (length (K.items (push_entry_stack entry))) };
 
-    ghost place = { λ entry. length (K.items (entry_stack entry)) + 1 };
+    ghost place = { λ entry. length (K.items (push_entry_stack entry)) + 1 };
 
     fn has_place(&self) -> bool {
         self.stack.len() < self.stack.capacity()
@@ -137,11 +137,11 @@ impl<'a, T, K: NonZeroInxGenericStack<T>> NonZeroInxGenericStackPushEntryTrait<'
 
     fn push(self, t: T) -> &'a mut T
         requires { HasPlace
-            (K.room (entry_stack self)) (K.limit (entry_stack self))
-            (length (K.items (entry_stack self))) }
+            (K.room (push_entry_stack self)) (K.limit (push_entry_stack self))
+            (length (K.items (push_entry_stack self))) }
         ensures value { result.now ≡ t }
         ensures* writes_back { sem 𝓛
-            (entry_lends T.row K.row K.with_items K.items self.entry result) }
+            (push_entry_lends T.row K.row K.with_items K.items self.entry result) }
     {
         let PushEntry { stack } = self;
         let (_inx, item) = stack.push_reserved(t);

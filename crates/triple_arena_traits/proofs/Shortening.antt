@@ -3,7 +3,7 @@ use Rattle.std.proofs.Common.{◌≡◌, ℕ, zero, suc, ◌-◌, ◌<◌, ◌�
 use Rattle.std.proofs.lemmas.List.{length-take-le}
 use Rattle.triple_arena_traits.specs.Items.{item}
 use Rattle.triple_arena_traits.specs.ArenaState.{is_free}
-use Rattle.triple_arena_traits.specs.FreeList.{before, trimmed}
+use Rattle.triple_arena_traits.specs.FreeList.{put_before, trimmed}
 use Rattle.triple_arena_traits.specs.laws.ItemLaws.{front_popped}
 use Rattle.triple_arena_traits.specs.laws.FreeListLaws.{trimmed_popped, trimmed_done, trimmed_length, trimmed_last}
 use Rattle.triple_arena_traits.specs.FreeEnd.{shortened}
@@ -52,7 +52,7 @@ module _ {T : Type 0} where
       by_count enough (inl few) = omega (arith, enough, few, lengths)
       by_count enough (inr live) = omega (arith, enough, lengths, ap length (trimmed_done now live), ap length pops.same)
 
-  before_front : (x : Option (ℕ × T)) (ys xs : List (Option (ℕ × T))) → ys ≡ take (length ys) xs → before x ys ≡ take (length (before x ys)) (x ∷ xs)
+  before_front : (x : Option (ℕ × T)) (ys xs : List (Option (ℕ × T))) → ys ≡ take (length ys) xs → put_before x ys ≡ take (length (put_before x ys)) (x ∷ xs)
   before_front (Some e) ys xs front = ap (λ l. Some e ∷ l) front
   before_front None [] xs front = refl
   before_front None (y ∷ ys) xs front = ap (λ l. None ∷ l) front

@@ -5,15 +5,15 @@ use Rattle.triple_arena_traits.specs.ArenaState.{ArenaState, entry, is_free, slo
 
 module _ {A : Type 0} where
   -- a slot before others; none where it is free and the last
-  abbrev pub before : Option A → List (Option A) → List (Option A)
-  before (Some e) rest = Some e ∷ rest
-  before None [] = []
-  before None (x ∷ rest) = None ∷ x ∷ rest
+  abbrev pub put_before : Option A → List (Option A) → List (Option A)
+  put_before (Some e) rest = Some e ∷ rest
+  put_before None [] = []
+  put_before None (x ∷ rest) = None ∷ x ∷ rest
 
   -- the slots up to the last one with an entry
   abbrev pub trimmed : List (Option A) → List (Option A)
   trimmed [] = []
-  trimmed (x ∷ rest) = before x (trimmed rest)
+  trimmed (x ∷ rest) = put_before x (trimmed rest)
 
   -- the greatest index of an entry, or 0 where there is none
   abbrev pub last_index : List (Option A) → ℕ

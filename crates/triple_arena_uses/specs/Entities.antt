@@ -5,8 +5,8 @@ use Rattle.triple_arena_ptr.specs.declared.P0.{P0}
 use Rattle.triple_arena_uses.specs.declared.entity_table.Entity.{Entity}
 
 -- the numbers of a pointer's index and of its generation
-abbrev pub numbers : P0 → Pointer
-numbers p = (suc p.0, suc p.1)
+abbrev pub p0_numbers : P0 → Pointer
+p0_numbers p = (suc p.0, suc p.1)
 
 -- an entity as it is spawned
 abbrev pub spawned : Option P0 → Entity

@@ -7,8 +7,8 @@ use Rattle.triple_arena_uses.specs.declared.ticket.Ticket.{Ticket}
 use Rattle.triple_arena_uses.specs.declared.leases.Lease.{Lease}
 
 -- the numbers of a ticket's index and of its generation
-abbrev pub numbers : Ticket → Pointer
-numbers ticket = (suc ticket.0, suc ticket.1)
+abbrev pub ticket_numbers : Ticket → Pointer
+ticket_numbers ticket = (suc ticket.0, suc ticket.1)
 
 -- were a lease revoked, its ticket could be given again
 abbrev pub are_used_up : ArenaState Lease → Bool

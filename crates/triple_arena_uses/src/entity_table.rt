@@ -10,7 +10,7 @@ ghost use Rattle.triple_arena_traits.specs.Entries.{look_up};
 ghost use Rattle.triple_arena_traits.specs.ArenaState.{entry, slot_count, is_free};
 ghost use Rattle.triple_arena_traits.specs.SlotSteps.{RisesByAtMost};
 ghost use Rattle.triple_arena_traits.specs.Values.{SamePointers};
-ghost use Rattle.triple_arena_uses.specs.Entities.{numbers, spawned, damaged, healed};
+ghost use Rattle.triple_arena_uses.specs.Entities.{p0_numbers, spawned, damaged, healed};
 
 use std::alloc::Global;
 use std::marker::Model;
@@ -57,9 +57,9 @@ impl<S: NonZeroInxGenericStack<ArenaSlot<P0, Entity>>> EntityTable<S> {
     ///
     /// Refused as an insertion into an arena is; then nothing changes.
     pub fn spawn(&mut self, parent: Option<P0>) -> Result<P0, ReallocationError>
-        ensures found { IfOk result (λ p. look_up self.new.slots (numbers p) ≡ Some (spawned parent)) }
-        ensures free { IfOk result (λ p. entry self.old (numbers p).0 ≡ None) }
-        ensures others { IfOk result (λ p. (q : Pointer) → q ≢ numbers p
+        ensures found { IfOk result (λ p. look_up self.new.slots (p0_numbers p) ≡ Some (spawned parent)) }
+        ensures free { IfOk result (λ p. entry self.old (p0_numbers p).0 ≡ None) }
+        ensures others { IfOk result (λ p. (q : Pointer) → q ≢ p0_numbers p
             → look_up self.new.slots q ≡ look_up self.old.slots q) }
         ensures refused { OnErr result (self.new ≡ self.old) }
     {
@@ -72,9 +72,9 @@ impl<S: NonZeroInxGenericStack<ArenaSlot<P0, Entity>>> EntityTable<S> {
     /// Takes an entity away, and tells whether there was one. Its children keep its pointer, which
     /// finds nothing then. However many entities there are, at most 6 slots are touched.
     pub fn despawn(&mut self, p: P0) -> bool
-        ensures answer { result ≡ is_some (look_up self.old.slots (numbers p)) }
-        ensures gone { look_up self.new.slots (numbers p) ≡ None }
-        ensures others { (q : Pointer) → q ≢ numbers p → look_up self.new.slots q ≡ look_up self.old.slots q }
+        ensures answer { result ≡ is_some (look_up self.old.slots (p0_numbers p)) }
+        ensures gone { look_up self.new.slots (p0_numbers p) ≡ None }
+        ensures others { (q : Pointer) → q ≢ p0_numbers p → look_up self.new.slots q ≡ look_up self.old.slots q }
         ensures bounded { RisesByAtMost 6 self.old.steps self.new.steps }
     {
         self.entities.remove(p).allow().is_some()
@@ -93,10 +93,10 @@ impl<S: NonZeroInxGenericStack<ArenaSlot<P0, Entity>>> EntityTable<S> {
 
     /// Takes health from an entity, and tells what is left; none where there is no such entity.
     pub fn damage(&mut self, p: P0, by: u32) -> Option<u32>
-        ensures answer { result ≡ option_map (λ e. e.health - by) (look_up self.old.slots (numbers p)) }
-        ensures damaged { look_up self.new.slots (numbers p)
-            ≡ option_map (damaged by) (look_up self.old.slots (numbers p)) }
-        ensures others { (q : Pointer) → q ≢ numbers p → look_up self.new.slots q ≡ look_up self.old.slots q }
+        ensures answer { result ≡ option_map (λ e. e.health - by) (look_up self.old.slots (p0_numbers p)) }
+        ensures damaged { look_up self.new.slots (p0_numbers p)
+            ≡ option_map (damaged by) (look_up self.old.slots (p0_numbers p)) }
+        ensures others { (q : Pointer) → q ≢ p0_numbers p → look_up self.new.slots q ≡ look_up self.old.slots q }
     {
         let entity = self.entities.get_mut(p)?;
         entity.health = entity.health.saturating_sub(by);
@@ -114,24 +114,24 @@ impl<S: NonZeroInxGenericStack<ArenaSlot<P0, Entity>>> EntityTable<S> {
 
     /// Gives an entity back its whole health. There must be such an entity, which `get` tells.
     pub fn heal(&mut self, p: P0)
-        requires { IsSome (look_up self.old.slots (numbers p)) }
-        ensures healed { look_up self.new.slots (numbers p)
-            ≡ option_map healed (look_up self.old.slots (numbers p)) }
-        ensures others { (q : Pointer) → q ≢ numbers p → look_up self.new.slots q ≡ look_up self.old.slots q }
+        requires { IsSome (look_up self.old.slots (p0_numbers p)) }
+        ensures healed { look_up self.new.slots (p0_numbers p)
+            ≡ option_map healed (look_up self.old.slots (p0_numbers p)) }
+        ensures others { (q : Pointer) → q ≢ p0_numbers p → look_up self.new.slots q ≡ look_up self.old.slots q }
     {
         self.entities[p].health = 100;
     }
 
     /// The entity under a pointer.
     pub fn get(&self, p: P0) -> Option<&Entity>
-        ensures { option_copied result ≡ look_up self.now.slots (numbers p) }
+        ensures { option_copied result ≡ look_up self.now.slots (p0_numbers p) }
     {
         self.entities.get(p)
     }
 
     /// The pointer of an entity's parent, which may be gone.
     pub fn parent_of(&self, p: P0) -> Option<P0>
-        ensures { result ≡ option_and_then (λ e. e.parent) (look_up self.now.slots (numbers p)) }
+        ensures { result ≡ option_and_then (λ e. e.parent) (look_up self.now.slots (p0_numbers p)) }
     {
         self.entities.get(p)?.parent
     }

@@ -3,7 +3,7 @@
 ghost use Rattle.std.specs.Prelude.{◌≡◌, ◌++◌, ◌∷◌, ◌&&◌, ◌||◌, [], false, map, None, Some, is_some, IfOk, OnErr, option_copied};
 ghost use Rattle.triple_arena_traits.specs.Entries.{look_up};
 ghost use Rattle.triple_arena_traits.specs.Histories.{has, AreDistinct};
-ghost use Rattle.triple_arena_uses.specs.Entities.{numbers};
+ghost use Rattle.triple_arena_uses.specs.Entities.{p0_numbers};
 ghost use Rattle.triple_arena_uses.specs.Guests.{BookState, is_before_wrap};
 
 use std::alloc::Global;
@@ -26,20 +26,20 @@ pub struct GuestBook {
 
 impl Model for GuestBook {
     ghost use Rattle.std.specs.Prelude.{map};
-    ghost use Rattle.triple_arena_uses.specs.Entities.{numbers};
+    ghost use Rattle.triple_arena_uses.specs.Entities.{p0_numbers};
     ghost use Rattle.triple_arena_uses.specs.Guests.{BookState, ListsAll};
 
     ghost Value = { BookState };
 
     ghost view = { λ book. record {
       guests = book.guests;
-      came = map numbers book.came.items;
+      came = map p0_numbers book.came.items;
       wrapped = book.wrapped;
     } };
 
     ghost invariant = { λ book. ListsAll (record {
       guests = book.guests;
-      came = map numbers book.came.items;
+      came = map p0_numbers book.came.items;
       wrapped = book.wrapped;
     }) };
 }
@@ -62,9 +62,9 @@ impl GuestBook {
     /// Refused where memory is, and as an insertion into an arena is; then nobody came.
     pub fn arrive(&mut self, guest: u32) -> Result<P0, ReallocationError>
         ensures new { self.old.wrapped ≡ false
-            → IfOk result (λ p. has self.old.came (numbers p) ≡ false) }
-        ensures found { IfOk result (λ p. look_up self.new.guests.slots (numbers p) ≡ Some guest) }
-        ensures came { IfOk result (λ p. self.new.came ≡ self.old.came ++ numbers p ∷ []) }
+            → IfOk result (λ p. has self.old.came (p0_numbers p) ≡ false) }
+        ensures found { IfOk result (λ p. look_up self.new.guests.slots (p0_numbers p) ≡ Some guest) }
+        ensures came { IfOk result (λ p. self.new.came ≡ self.old.came ++ p0_numbers p ∷ []) }
         ensures refused { OnErr result (self.new ≡ self.old) }
         ensures wrapped { self.new.wrapped ≡ self.old.wrapped }
     {
@@ -79,8 +79,8 @@ impl GuestBook {
     /// A guest leaves, if there is one of this pointer. The pointer stays in the book. The counter
     /// wraps where it stood at the greatest generation, and only there.
     pub fn leave(&mut self, p: P0) -> Option<u32>
-        ensures guest { result ≡ look_up self.old.guests.slots (numbers p) }
-        ensures gone { look_up self.new.guests.slots (numbers p) ≡ None }
+        ensures guest { result ≡ look_up self.old.guests.slots (p0_numbers p) }
+        ensures gone { look_up self.new.guests.slots (p0_numbers p) ≡ None }
         ensures came { self.new.came ≡ self.old.came }
         ensures wrapped { self.new.wrapped
             ≡ self.old.wrapped || (is_some result && is_before_wrap self.old) }
@@ -97,15 +97,15 @@ impl GuestBook {
 
     /// The guest of a pointer, who is there exactly if he came and has not left.
     pub fn get(&self, p: P0) -> Option<&u32>
-        ensures { option_copied result ≡ look_up self.now.guests.slots (numbers p) }
+        ensures { option_copied result ≡ look_up self.now.guests.slots (p0_numbers p) }
     {
         self.guests.get(p)
     }
 
     /// The pointers of all who came, in their order: each once, unless the counter wrapped.
     pub fn came(&self) -> &[P0]
-        ensures value { map numbers result.now ≡ self.now.came }
-        ensures once { self.now.wrapped ≡ false → AreDistinct (map numbers result.now) }
+        ensures value { map p0_numbers result.now ≡ self.now.came }
+        ensures once { self.now.wrapped ≡ false → AreDistinct (map p0_numbers result.now) }
     {
         &self.came
     }

@@ -7,7 +7,7 @@ ghost use Rattle.triple_arena_traits.specs.ArenaState.{arena_len, capacity};
 ghost use Rattle.triple_arena_traits.specs.SlotSteps.{RisesByAtMost, IsTouched};
 ghost use Rattle.triple_arena_direct.specs.Gone.{IsGoneForGood};
 ghost use Rattle.triple_arena_direct.specs.Strict.{strict_of};
-ghost use Rattle.triple_arena_uses.specs.Tickets.{numbers, are_used_up};
+ghost use Rattle.triple_arena_uses.specs.Tickets.{ticket_numbers, are_used_up};
 
 use crate::ticket::Ticket;
 use std::alloc::Global;
@@ -57,11 +57,11 @@ impl Leases {
     /// nothing changes.
     pub fn issue(&mut self, lease: Lease) -> Result<Ticket, ReallocationError>
         ensures found { IfOk result
-            (λ ticket. look_up self.new.slots (numbers ticket) ≡ Some lease) }
-        ensures free { IfOk result (λ ticket. look_up self.old.slots (numbers ticket) ≡ None) }
+            (λ ticket. look_up self.new.slots (ticket_numbers ticket) ≡ Some lease) }
+        ensures free { IfOk result (λ ticket. look_up self.old.slots (ticket_numbers ticket) ≡ None) }
         ensures new { IfOk result
-            (λ ticket. (q : Pointer) → IsGoneForGood self.old q → numbers ticket ≢ q) }
-        ensures others { IfOk result (λ ticket. (q : Pointer) → q ≢ numbers ticket
+            (λ ticket. (q : Pointer) → IsGoneForGood self.old q → ticket_numbers ticket ≢ q) }
+        ensures others { IfOk result (λ ticket. (q : Pointer) → q ≢ ticket_numbers ticket
             → look_up self.new.slots q ≡ look_up self.old.slots q) }
         ensures stays_gone { (q : Pointer) → IsGoneForGood self.old q → IsGoneForGood self.new q }
         ensures counter { self.new.counter ≡ self.old.counter }
@@ -73,7 +73,7 @@ impl Leases {
 
     /// The lease of a ticket; none exactly where it has ended, or the ticket was never issued.
     pub fn redeem(&self, ticket: Ticket) -> Option<&Lease>
-        ensures { option_copied result ≡ look_up self.now.slots (numbers ticket) }
+        ensures { option_copied result ≡ look_up self.now.slots (ticket_numbers ticket) }
     {
         self.leases.get(ticket)
     }
@@ -85,9 +85,9 @@ impl Leases {
     /// again (`are_used_up`). Then nothing changes but how many slots were touched.
     pub fn revoke(&mut self, ticket: Ticket) -> Result<Lease, StrictError>
         ensures answer { result
-            ≡ strict_of (are_used_up self.old) (look_up self.old.slots (numbers ticket)) }
-        ensures gone_for_good { OnOk result (IsGoneForGood self.new (numbers ticket)) }
-        ensures others { (q : Pointer) → q ≢ numbers ticket
+            ≡ strict_of (are_used_up self.old) (look_up self.old.slots (ticket_numbers ticket)) }
+        ensures gone_for_good { OnOk result (IsGoneForGood self.new (ticket_numbers ticket)) }
+        ensures others { (q : Pointer) → q ≢ ticket_numbers ticket
             → look_up self.new.slots q ≡ look_up self.old.slots q }
         ensures stays_gone { (q : Pointer) → IsGoneForGood self.old q → IsGoneForGood self.new q }
         ensures counter { OnOk result (self.new.counter ≡ self.old.counter + 1) }

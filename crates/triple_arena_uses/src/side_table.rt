@@ -9,7 +9,7 @@ ghost use Rattle.triple_arena_traits.specs.ArenaState.{arena_len, capacity};
 ghost use Rattle.triple_arena_traits.specs.Entries.{look_up};
 ghost use Rattle.triple_arena_traits.specs.Insertion.{next_pointer};
 ghost use Rattle.triple_arena_direct_arena.specs.DirectState.{direct_capacity};
-ghost use Rattle.triple_arena_uses.specs.Entities.{numbers};
+ghost use Rattle.triple_arena_uses.specs.Entities.{p0_numbers};
 ghost use Rattle.triple_arena_uses.specs.Notes.{Noted};
 
 use crate::Entity;
@@ -54,8 +54,8 @@ impl NotedEntities {
     /// Refused only where there is no room for one of the two; then nothing changes.
     pub fn spawn(&mut self, health: u32, note: u64) -> Result<P0, NotWithinCapacityError>
         ensures noted { IfOk result
-            (λ p. look_up self.new.notes.slots (numbers p) ≡ Some note) }
-        ensures others { IfOk result (λ p. (q : Pointer) → q ≢ numbers p
+            (λ p. look_up self.new.notes.slots (p0_numbers p) ≡ Some note) }
+        ensures others { IfOk result (λ p. (q : Pointer) → q ≢ p0_numbers p
             → look_up self.new.notes.slots q ≡ look_up self.old.notes.slots q) }
         ensures refused { OnErr result (self.new ≡ self.old) }
         ensures succeeds { arena_len self.old.entities < capacity self.old.entities
@@ -79,9 +79,9 @@ impl NotedEntities {
 
     /// Takes an entity away, and its note, which it gives; none where there is no such entity.
     pub fn despawn(&mut self, p: P0) -> Option<u64>
-        ensures answer { result ≡ look_up self.old.notes.slots (numbers p) }
-        ensures gone { look_up self.new.notes.slots (numbers p) ≡ None }
-        ensures others { (q : Pointer) → q ≢ numbers p
+        ensures answer { result ≡ look_up self.old.notes.slots (p0_numbers p) }
+        ensures gone { look_up self.new.notes.slots (p0_numbers p) ≡ None }
+        ensures others { (q : Pointer) → q ≢ p0_numbers p
             → look_up self.new.notes.slots q ≡ look_up self.old.notes.slots q }
     {
         drop(self.entities.remove(p));
@@ -90,9 +90,9 @@ impl NotedEntities {
 
     /// The note on an entity; none exactly where there is no such entity.
     pub fn note(&self, p: P0) -> Option<u64>
-        ensures value { result ≡ look_up self.now.notes.slots (numbers p) }
+        ensures value { result ≡ look_up self.now.notes.slots (p0_numbers p) }
         ensures exactly { is_some result
-            ≡ is_some (look_up self.now.entities.slots (numbers p)) }
+            ≡ is_some (look_up self.now.entities.slots (p0_numbers p)) }
     {
         self.notes.get(p).copied()
     }

@@ -6,7 +6,7 @@ use Rattle.triple_arena_stack.specs.StackKind.{StackKind}
 use Rattle.triple_arena_traits.specs.Items.{item, with_item}
 use Rattle.triple_arena_traits.specs.laws.ItemLaws.{joined, with_item-past}
 use Rattle.triple_arena_traits.specs.Entries.{entry_in, entry_count, ChangesAt, KeepsEntries}
-use Rattle.triple_arena_traits.specs.FreeList.{before, trimmed}
+use Rattle.triple_arena_traits.specs.FreeList.{put_before, trimmed}
 use Rattle.triple_arena_traits.specs.laws.EntryLaws.{changes_at}
 use Rattle.triple_arena_traits.specs.laws.LengthLaws.{count-with_item}
 use Rattle.triple_arena_traits.specs.FreeEnd.{shortened}
@@ -52,12 +52,12 @@ module _ {T : Type 0} where
   slots-cleared old new is (suc k) = ap (λ (s : DirectState T). entry_in s.slots (suc k)) is
 
   -- past the last entry there is none
-  front_before : (x : Option (ℕ × T)) (ys zs : List (Option (ℕ × T))) (n k : ℕ) → length (before x ys) ≤ suc n → (length ys ≤ n → joined (slice_get (take n zs) k) ≡ joined (slice_get zs k)) → joined (slice_get (take (suc n) (x ∷ zs)) (suc k)) ≡ joined (slice_get (x ∷ zs) (suc k))
+  front_before : (x : Option (ℕ × T)) (ys zs : List (Option (ℕ × T))) (n k : ℕ) → length (put_before x ys) ≤ suc n → (length ys ≤ n → joined (slice_get (take n zs) k) ≡ joined (slice_get zs k)) → joined (slice_get (take (suc n) (x ∷ zs)) (suc k)) ≡ joined (slice_get (x ∷ zs) (suc k))
   front_before (Some e) ys zs n k h same = same (omega arith)
   front_before None [] zs n k h same = same (omega arith)
   front_before None (y ∷ ys) zs n k h same = same (omega arith)
 
-  nothing_first : (x : Option (ℕ × T)) (ys : List (Option (ℕ × T))) → length (before x ys) ≤ 0 → (x ≡ None) × (length ys ≤ 0)
+  nothing_first : (x : Option (ℕ × T)) (ys : List (Option (ℕ × T))) → length (put_before x ys) ≤ 0 → (x ≡ None) × (length ys ≤ 0)
   nothing_first (Some e) ys h = absurd (omega arith)
   nothing_first None [] h = (refl, omega arith)
   nothing_first None (y ∷ ys) h = absurd (omega arith)
@@ -79,7 +79,7 @@ module _ {T : Type 0} where
   front_count (suc n) (x ∷ xs) h =
       omega (arith, sum_by-cons (λ o. cond (is_some o) 1 0) x xs, sum_by-cons (λ o. cond (is_some o) 1 0) x (take n xs), front_count n xs (shorter x (trimmed xs) h))
     where
-      shorter : (x : Option (ℕ × T)) (ys : List (Option (ℕ × T))) → length (before x ys) ≤ suc n → length ys ≤ n
+      shorter : (x : Option (ℕ × T)) (ys : List (Option (ℕ × T))) → length (put_before x ys) ≤ suc n → length ys ≤ n
       shorter (Some e) ys h = omega arith
       shorter None [] h = omega arith
       shorter None (y ∷ ys) h = omega arith

@@ -13,7 +13,7 @@ use Rattle.triple_arena_traits.specs.Entries.{entry_in, ChangesAt, KeepsEntries}
 use Rattle.triple_arena_traits.specs.ArenaState.{ArenaState, capacity, slot_count, arena_len, is_free, IsWellFormed}
 use Rattle.triple_arena_traits.specs.Insertion.{place_among, place, next_pointer, inserted_among, inserted}
 use Rattle.triple_arena_traits.specs.Ending.{removed, invalidated, cleared}
-use Rattle.triple_arena_traits.specs.FreeList.{before, trimmed, tidied, without_free_end}
+use Rattle.triple_arena_traits.specs.FreeList.{put_before, trimmed, tidied, without_free_end}
 use Rattle.triple_arena_traits.specs.Capacity.{with_room_for, reallocated, grown}
 
 -- the count of an index in a list that begins with it
@@ -112,7 +112,7 @@ module _ {T : Type 0} where
     slots-cleared old new is (suc k) = ap (λ s. entry_in s.slots (suc k)) is
 
   -- the slots up to the last one with an entry have the same entries
-  before_entry : (x : Option (ℕ × T)) (ys zs : List (Option (ℕ × T))) (k : ℕ) → ((j : ℕ) → joined (slice_get ys j) ≡ joined (slice_get zs j)) → joined (slice_get (before x ys) k) ≡ joined (slice_get (x ∷ zs) k)
+  before_entry : (x : Option (ℕ × T)) (ys zs : List (Option (ℕ × T))) (k : ℕ) → ((j : ℕ) → joined (slice_get ys j) ≡ joined (slice_get zs j)) → joined (slice_get (put_before x ys) k) ≡ joined (slice_get (x ∷ zs) k)
   before_entry (Some e) ys zs zero same = refl
   before_entry (Some e) ys zs (suc k) same = same k
   before_entry None [] zs zero same = refl

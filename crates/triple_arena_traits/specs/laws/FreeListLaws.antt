@@ -3,7 +3,7 @@ use Rattle.std.proofs.Common.{◌≡◌, ℕ, zero, suc, ◌+◌, ◌-◌, ◌<�
 use Rattle.std.proofs.lemmas.List.Sums.{sum_by-cons}
 use Rattle.triple_arena_traits.specs.Items.{item}
 use Rattle.triple_arena_traits.specs.ArenaState.{ArenaState, is_free}
-use Rattle.triple_arena_traits.specs.FreeList.{before, trimmed, gaps, tidied, IsRising, IsTidied}
+use Rattle.triple_arena_traits.specs.FreeList.{put_before, trimmed, gaps, tidied, IsRising, IsTidied}
 use Rattle.triple_arena_traits.specs.laws.EntryLaws.{entry-trimmed, count_head}
 use Rattle.triple_arena_traits.specs.laws.ItemLaws.{item_within, split_last}
 use Rattle.triple_arena_traits.specs.laws.WellFormedLaws.{count_tail}
@@ -12,7 +12,7 @@ module _ {T : Type 0} where
   -- a free slot at the end makes no difference
   trimmed_push : (xs : List (Option (ℕ × T))) → trimmed (xs ++ None ∷ []) ≡ trimmed xs
   trimmed_push [] = refl
-  trimmed_push (x ∷ xs) = ap (before x) (trimmed_push xs)
+  trimmed_push (x ∷ xs) = ap (put_before x) (trimmed_push xs)
 
   vacant_is : (o : Option (Option (ℕ × T))) → is_free o ≡ true → o ≡ Some None
   vacant_is None e = absurd (true≢false (sym e))
@@ -31,10 +31,10 @@ module _ {T : Type 0} where
   trimmed_done [] live = refl
   trimmed_done (None ∷ []) live = absurd (true≢false live)
   trimmed_done (Some e ∷ []) live = refl
-  trimmed_done (None ∷ y ∷ ys) live = ap (before None) (trimmed_done (y ∷ ys) live)
-  trimmed_done (Some e ∷ y ∷ ys) live = ap (before (Some e)) (trimmed_done (y ∷ ys) live)
+  trimmed_done (None ∷ y ∷ ys) live = ap (put_before None) (trimmed_done (y ∷ ys) live)
+  trimmed_done (Some e ∷ y ∷ ys) live = ap (put_before (Some e)) (trimmed_done (y ∷ ys) live)
 
-  before_length : (x : Option (ℕ × T)) (ys : List (Option (ℕ × T))) → length (before x ys) ≤ 1 + length ys
+  before_length : (x : Option (ℕ × T)) (ys : List (Option (ℕ × T))) → length (put_before x ys) ≤ 1 + length ys
   before_length (Some e) ys = omega arith
   before_length None [] = omega arith
   before_length None (y ∷ ys) = omega arith
@@ -53,7 +53,7 @@ module _ {T : Type 0} where
   gaps_rising at (None ∷ xs) = (omega arith, gaps_rising (at + 1) xs)
   gaps_rising at (Some e ∷ xs) = IsRising-lower at (at + 1) (gaps (at + 1) xs) (omega arith) (gaps_rising (at + 1) xs)
 
-  before_last : (x : Option (ℕ × T)) (ys : List (Option (ℕ × T))) → is_free (item ys (length ys)) ≡ false → is_free (item (before x ys) (length (before x ys))) ≡ false
+  before_last : (x : Option (ℕ × T)) (ys : List (Option (ℕ × T))) → is_free (item ys (length ys)) ≡ false → is_free (item (put_before x ys) (length (put_before x ys))) ≡ false
   before_last (Some e) [] last = refl
   before_last (Some e) (y ∷ ys) last = last
   before_last None [] last = refl

@@ -11,7 +11,7 @@ use Rattle.triple_arena_traits.specs.Entries.{entry_in, entry_count}
 use Rattle.triple_arena_traits.specs.ArenaState.{ArenaState, arena_len, capacity, slot_count, with_value, IsWellFormed}
 use Rattle.triple_arena_traits.specs.Insertion.{inserted_among, inserted}
 use Rattle.triple_arena_traits.specs.Ending.{removed, invalidated}
-use Rattle.triple_arena_traits.specs.FreeList.{before, trimmed, tidied, without_free_end}
+use Rattle.triple_arena_traits.specs.FreeList.{put_before, trimmed, tidied, without_free_end}
 use Rattle.triple_arena_traits.specs.Capacity.{reallocated, grown}
 use Rattle.triple_arena_traits.specs.laws.EntryLaws.{by_case, first_free}
 
@@ -63,7 +63,7 @@ module _ {T : Type 0} where
       let found = live_slot old.slots i live in
       ap (λ s. arena_len s + 1) is ∙ len_taken raise old i found.0 found.1
 
-  before_live : (x : Option (ℕ × T)) (ys : List (Option (ℕ × T))) → count_by is_some (before x ys) ≡ cond (is_some x) 1 0 + count_by is_some ys
+  before_live : (x : Option (ℕ × T)) (ys : List (Option (ℕ × T))) → count_by is_some (put_before x ys) ≡ cond (is_some x) 1 0 + count_by is_some ys
   before_live (Some e) ys = sum_by-cons (λ o. cond (is_some o) 1 0) (Some e) ys
   before_live None [] = refl
   before_live None (y ∷ ys) = sum_by-cons (λ o. cond (is_some o) 1 0) None (y ∷ ys)

@@ -3,7 +3,7 @@
 ghost use Rattle.std.specs.Prelude.{◌≡◌, ◌+◌, [], ◌∷◌, ◌++◌, length, IfOk, OnOk, OnErr};
 ghost use Rattle.std.specs.Int.NonZero.{non_zero_usize_get};
 ghost use Rattle.triple_arena_stack.specs.Capacity.{room_for_one_more, HasPlace};
-ghost use Rattle.triple_arena_stack.specs.PushEntry.{entry_stack};
+ghost use Rattle.triple_arena_stack.specs.PushEntry.{push_entry_stack};
 
 use super::any_stack::write_over;
 use super::calls::{Call, Told, told_push, told_refusal};
@@ -18,8 +18,8 @@ use triple_arena_stack::{
 pub trait EntryUse<T> {
     /// What it tells of an entry that must have its place.
     fn told<K: NonZeroInxGenericStack<T>>(&self, entry: PushEntry<'_, T, K>) -> Told
-        requires { HasPlace (K.room (entry_stack entry)) (K.limit (entry_stack entry))
-            (length (K.items (entry_stack entry))) };
+        requires { HasPlace (K.room (push_entry_stack entry)) (K.limit (push_entry_stack entry))
+            (length (K.items (push_entry_stack entry))) };
 }
 
 /// It is let go.
@@ -27,8 +27,8 @@ pub struct LetGo;
 
 impl<T> EntryUse<T> for LetGo {
     fn told<K: NonZeroInxGenericStack<T>>(&self, entry: PushEntry<'_, T, K>) -> Told
-        requires { HasPlace (K.room (entry_stack entry)) (K.limit (entry_stack entry))
-            (length (K.items (entry_stack entry))) }
+        requires { HasPlace (K.room (push_entry_stack entry)) (K.limit (push_entry_stack entry))
+            (length (K.items (push_entry_stack entry))) }
     {
         if !entry.has_place() {
             return Told::Nothing;
@@ -60,8 +60,8 @@ pub struct PushThenWrite<'m, M> {
 
 impl<T: Drop, M: Items<T>> EntryUse<T> for PushThenWrite<'_, M> {
     fn told<K: NonZeroInxGenericStack<T>>(&self, entry: PushEntry<'_, T, K>) -> Told
-        requires { HasPlace (K.room (entry_stack entry)) (K.limit (entry_stack entry))
-            (length (K.items (entry_stack entry))) }
+        requires { HasPlace (K.room (push_entry_stack entry)) (K.limit (push_entry_stack entry))
+            (length (K.items (push_entry_stack entry))) }
     {
         let inx = entry.inx().get();
         Told::HoldsAt(

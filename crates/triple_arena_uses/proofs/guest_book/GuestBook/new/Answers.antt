@@ -2,10 +2,10 @@ use Rattle.std.proofs.Common.{◌≡◌, [], map, ap, rules}
 use Rattle.triple_arena_traits.specs.ArenaState.{arena_len}
 use Rattle.triple_arena_traits.specs.Histories.{begun_with}
 use Rattle.triple_arena_traits.specs.laws.HistoryLaws.{Fits-empty}
-use Rattle.triple_arena_uses.specs.Entities.{numbers}
+use Rattle.triple_arena_uses.specs.Entities.{p0_numbers}
 use Rattle.triple_arena_uses.proofs.guest_book.GuestBook.new.Goals as goal
 
 pub invariant_of-result : goal.invariant_of-result
 invariant_of-result c kept =
-    let none : [] ≡ map numbers c.new-2.result.items = search rules in
+    let none : [] ≡ map p0_numbers c.new-2.result.items = search rules in
     (begun_with [], Fits-empty c.new.result (ap arena_len c.new.ensures), none)

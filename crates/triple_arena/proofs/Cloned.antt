@@ -11,7 +11,7 @@ use Rattle.triple_arena_ptr.specs.Pointers.{Pointer}
 use Rattle.triple_arena_stack.specs.Capacity.{IsBeyond}
 use Rattle.triple_arena_stack.specs.StackKind.{StackKind}
 use Rattle.triple_arena_traits.specs.ArenaState.{ArenaState}
-use Rattle.triple_arena_traits.specs.Capacity.{ready_for}
+use Rattle.triple_arena_traits.specs.Reallocation.{ready_for}
 use Rattle.triple_arena_traits.specs.FreeList.{laid_out}
 use Rattle.triple_arena_traits.specs.SlotSteps.{IsTouched}
 use Rattle.triple_arena.proofs.Touched.{touched_through}

@@ -6,7 +6,7 @@ use Rattle.triple_arena_traits.specs.ArenaState.{ArenaState, slot_count, arena_l
 use Rattle.triple_arena_traits.specs.SlotSteps.{IsTouched}
 use Rattle.triple_arena_traits.specs.Ending.{removed}
 use Rattle.triple_arena_traits.specs.FreeList.{tidied}
-use Rattle.triple_arena_traits.specs.Capacity.{reallocated, ready_for_limit, with_limit}
+use Rattle.triple_arena_traits.specs.Reallocation.{reallocated, ready_for_limit, with_limit}
 use Rattle.triple_arena_traits.specs.laws.EntryLaws.{by_case}
 use Rattle.triple_arena_traits.specs.laws.LimitLaws.{refused_ready}
 use Rattle.triple_arena_traits.specs.laws.WellFormedLaws.{steps-removed}

@@ -7,7 +7,7 @@ ghost use Rattle.triple_arena_ptr.specs.Pointers.{Pointer};
 ghost use Rattle.triple_arena_stack.specs.Capacity.{IsFullAtLimit, CanGrow};
 ghost use Rattle.triple_arena_traits.specs.ArenaState.{arena_len, capacity, entry, IsWellFormed};
 ghost use Rattle.triple_arena_traits.specs.Insertion.{next_pointer};
-ghost use Rattle.triple_arena_traits.specs.Capacity.{grown};
+ghost use Rattle.triple_arena_traits.specs.Reallocation.{grown};
 ghost use Rattle.triple_arena_traits.specs.Histories.{insertion, Fits, Continues};
 ghost use Rattle.triple_arena.specs.InsertEntry.{entry_arena, entry_reference, entry_lender, entry_rests};
 

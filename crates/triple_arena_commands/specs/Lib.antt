@@ -12,7 +12,7 @@ pub mod Program
 pub mod Limits
 pub mod NameStore
 pub mod StoreRuns
-pub mod Strict
+pub mod StrictStore
 pub mod PointerNames
 pub mod NameLayout
 pub mod laws

@@ -1,5 +1,5 @@
 -- What follows from the definitions.
 pub mod RunLaws
 pub mod TextLaws
-pub mod StrictLaws
+pub mod StrictStoreLaws
 pub mod UnseenLaws

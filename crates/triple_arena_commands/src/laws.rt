@@ -11,7 +11,7 @@ ghost use Rattle.triple_arena_commands.specs.ReplyText.{tells_of_wrap};
 ghost use Rattle.triple_arena_commands.specs.Runs.{IsRun};
 ghost use Rattle.triple_arena_commands.specs.NameStore.{Store, next_name, row_count, row, is_good_link, HasEnded, row_dangles, IsStoreStep, MayReply};
 ghost use Rattle.triple_arena_commands.specs.StoreRuns.{is_named, is_no_memory, AnswersAsStore, ample, erase, seen};
-ghost use Rattle.triple_arena_commands.specs.Strict.{StrictStore, tells_exhausted, used, is_spent, IsStrictStoreStep};
+ghost use Rattle.triple_arena_commands.specs.StrictStore.{StrictStore, tells_exhausted, used, is_spent, IsStrictStoreStep};
 ghost use Rattle.triple_arena_commands.specs.Forms.{FormsAreExact, LinesAreExact};
 
 /// A line stands for just the command whose form it has, so for one at most.

@@ -14,7 +14,7 @@ use Rattle.triple_arena_traits.specs.Entries.{look_up}
 use Rattle.triple_arena_traits.specs.ArenaState.{ArenaState, arena_len, capacity, IsWellFormed}
 use Rattle.triple_arena_traits.specs.Insertion.{next_pointer, inserted}
 use Rattle.triple_arena_traits.specs.SlotSteps.{RisesByAtMost, IsTouched, touched, insertion_steps}
-use Rattle.triple_arena_traits.specs.Capacity.{grown}
+use Rattle.triple_arena_traits.specs.Reallocation.{grown}
 use Rattle.triple_arena_traits.specs.laws.EntryLaws.{by_case, same-grown}
 use Rattle.triple_arena_traits.specs.laws.WellFormedLaws.{few_steps, kept-inserted}
 use Rattle.triple_arena_traits.specs.Compression.{compressed}
@@ -26,9 +26,9 @@ use Rattle.triple_arena_direct.specs.declared.errors.StrictError.{StrictError}
 use Rattle.triple_arena_direct.specs.declared.errors.StrictError.TheVariants.{InvalidPtr}
 use Rattle.triple_arena_direct.specs.Gone.{IsUpToCounter, IsGoneForGood}
 use Rattle.triple_arena_direct.specs.laws.GoneLaws.{ended-continues}
-use Rattle.triple_arena_direct.specs.Strict.{is_exhausted, strict_of, calls_if_ok}
+use Rattle.triple_arena_direct.specs.StrictAnswers.{is_exhausted, strict_of, calls_if_ok}
 use Rattle.triple_arena_direct.specs.StrictCalls.{IsUnless, IsStrictStep, to_insert, to_remove, to_invalidate}
-use Rattle.triple_arena_direct.specs.laws.StrictLaws.{Continues-strict_counting}
+use Rattle.triple_arena_direct.specs.laws.StrictAnswerLaws.{Continues-strict_counting}
 
 -- where an exhausted counter was tested before, and the pointer with it
 module _ {A : Type 0} where

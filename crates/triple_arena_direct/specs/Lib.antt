@@ -1,6 +1,6 @@
--- Read first: Renaming and Strict.
+-- Read first: Renaming and StrictAnswers.
 pub mod Renaming
-pub mod Strict
+pub mod StrictAnswers
 pub mod StrictCalls
 pub mod Gone
 pub mod laws

@@ -8,11 +8,11 @@ use Rattle.triple_arena_traits.specs.Insertion.{next_pointer, inserted}
 use Rattle.triple_arena_traits.specs.SlotSteps.{IsTouched}
 use Rattle.triple_arena_traits.specs.Ending.{removed, invalidated, cleared}
 use Rattle.triple_arena_traits.specs.FreeList.{tidied}
-use Rattle.triple_arena_traits.specs.Capacity.{reallocated, grown}
+use Rattle.triple_arena_traits.specs.Reallocation.{reallocated, grown}
 use Rattle.triple_arena_traits.specs.Compression.{compressed, raised_if_any, closed_up}
 use Rattle.triple_arena_traits.specs.Walks.{keys}
 use Rattle.triple_arena_traits.specs.Histories.{ModelCall, insertion, removal, invalidation, clearing, compression, resizing, is_live}
-use Rattle.triple_arena_direct.specs.Strict.{is_exhausted, is_exhausted_for_any}
+use Rattle.triple_arena_direct.specs.StrictAnswers.{is_exhausted, is_exhausted_for_any}
 
 -- a call that may change a strict arena: to insert a value; to write one under a pointer; to remove or to invalidate a
 -- pointer; to clear; to compress, after which these values stand; to reallocate to so many

@@ -1,4 +1,4 @@
 -- What follows from the definitions.
 pub mod RenamingLaws
 pub mod GoneLaws
-pub mod StrictLaws
+pub mod StrictAnswerLaws

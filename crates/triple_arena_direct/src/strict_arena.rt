@@ -15,14 +15,14 @@ ghost use Rattle.triple_arena_traits.specs.Insertion.{next_pointer, inserted};
 ghost use Rattle.triple_arena_traits.specs.SlotSteps.{RisesByAtMost, IsTouched};
 ghost use Rattle.triple_arena_traits.specs.Ending.{removed, invalidated, cleared};
 ghost use Rattle.triple_arena_traits.specs.FreeList.{tidied};
-ghost use Rattle.triple_arena_traits.specs.Capacity.{reallocated, KeepsRoom, grown};
+ghost use Rattle.triple_arena_traits.specs.Reallocation.{reallocated, KeepsRoom, grown};
 ghost use Rattle.triple_arena_traits.specs.Compression.{compressed, raised_if_any, rank};
 ghost use Rattle.triple_arena_traits.specs.Moves.{Moves};
 ghost use Rattle.triple_arena_traits.specs.Walks.{entries, keys, values};
 ghost use Rattle.triple_arena_traits.specs.Histories.{History, begun_with, insertion, removal, invalidation, clearing, compression, resizing, remains, Fits, Continues};
 ghost use Rattle.triple_arena_direct.specs.Renaming.{MapsPointers, first_unresolved, AreRenamed};
 ghost use Rattle.triple_arena_direct.specs.Gone.{IsGoneForGood};
-ghost use Rattle.triple_arena_direct.specs.Strict.{is_exhausted, is_exhausted_for_any, strict_of, strict_all, calls_if_ok, RefusesStrictly};
+ghost use Rattle.triple_arena_direct.specs.StrictAnswers.{is_exhausted, is_exhausted_for_any, strict_of, strict_all, calls_if_ok, RefusesStrictly};
 ghost use Rattle.triple_arena_direct.specs.StrictCalls.{IsStrictStep, to_insert, to_write, to_remove, to_invalidate, to_clear, to_compress, to_reallocate};
 
 use crate::compress_recast;

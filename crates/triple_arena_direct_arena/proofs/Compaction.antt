@@ -9,8 +9,8 @@ use Rattle.triple_arena_traits.specs.laws.CompressionLaws.{length-keys}
 use Rattle.triple_arena_traits.specs.Moves.{Moves}
 use Rattle.triple_arena_traits.specs.laws.MoveLaws.{count-moved, count_renamed}
 use Rattle.triple_arena_direct_arena.specs.DirectState.{DirectState, direct_compressed}
-use Rattle.triple_arena_direct_arena.specs.laws.CompressionLaws.{placed_own, keys-compressed}
-use Rattle.triple_arena_direct_arena.specs.Layout.{Counts}
+use Rattle.triple_arena_direct_arena.specs.laws.DirectCompressionLaws.{placed_own, keys-compressed}
+use Rattle.triple_arena_direct_arena.specs.DirectLayout.{Counts}
 
 module _ {T : Type 0} where
   -- each of so many values has a slot, and its entry

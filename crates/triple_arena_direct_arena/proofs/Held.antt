@@ -17,11 +17,11 @@ use Rattle.triple_arena_traits.proofs.LookUps.{others_found, new_found}
 use Rattle.triple_arena_traits.specs.laws.WellFormedLaws.{entry_of_value, with_value_is}
 use Rattle.triple_arena_traits.specs.FreeEnd.{extended}
 use Rattle.triple_arena_direct_arena.specs.DirectState.{DirectState, direct_slot_count, direct_capacity, direct_with_value, inserted_at, direct_removed, direct_shortened, direct_with_room_for, direct_with_slots}
-use Rattle.triple_arena_direct_arena.specs.laws.StepLaws.{len-with_value, len_taken, count-shortened}
-use Rattle.triple_arena_direct_arena.specs.laws.InsertionLaws.{length-extended, slots-inserted_at, len-inserted_at}
-use Rattle.triple_arena_direct_arena.specs.Slot.{direct_slot_entry, direct_with_slot_value}
-use Rattle.triple_arena_direct_arena.specs.laws.SlotLaws.{slot_entry-written}
-use Rattle.triple_arena_direct_arena.specs.Layout.{direct_of, direct_entry_at, direct_with_value_at, Counts}
+use Rattle.triple_arena_direct_arena.specs.laws.DirectStepLaws.{len-with_value, len_taken, count-shortened}
+use Rattle.triple_arena_direct_arena.specs.laws.DirectInsertionLaws.{length-extended, slots-inserted_at, len-inserted_at}
+use Rattle.triple_arena_direct_arena.specs.DirectSlot.{direct_slot_entry, direct_with_slot_value}
+use Rattle.triple_arena_direct_arena.specs.laws.DirectSlotLaws.{slot_entry-written}
+use Rattle.triple_arena_direct_arena.specs.DirectLayout.{direct_of, direct_entry_at, direct_with_value_at, Counts}
 use Rattle.triple_arena_direct_arena.specs.declared.slot.DirectSlot.{DirectSlot}
 use Rattle.triple_arena_traits.proofs.SlotEntries.{entry_item}
 

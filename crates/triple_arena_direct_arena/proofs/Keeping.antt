@@ -7,10 +7,10 @@ use Rattle.triple_arena_traits.specs.Kept.{filled_all}
 use Rattle.triple_arena_traits.proofs.KeptSlots.{entries-filled}
 use Rattle.triple_arena_traits.specs.laws.ValueLaws.{length-kept, count-kept, at-kept, generations-kept, under-kept}
 use Rattle.triple_arena_direct_arena.specs.DirectState.{DirectState}
-use Rattle.triple_arena_direct_arena.specs.Slot.{direct_slot_entry, direct_with_slot_value}
-use Rattle.triple_arena_direct_arena.specs.Layout.{direct_of, Counts}
-use Rattle.triple_arena_direct_arena.specs.laws.SlotLaws.{slot_entry-written}
-use Rattle.triple_arena_direct_arena.specs.Values.{direct_with_values_of, DirectKeepsPointers}
+use Rattle.triple_arena_direct_arena.specs.DirectSlot.{direct_slot_entry, direct_with_slot_value}
+use Rattle.triple_arena_direct_arena.specs.DirectLayout.{direct_of, Counts}
+use Rattle.triple_arena_direct_arena.specs.laws.DirectSlotLaws.{slot_entry-written}
+use Rattle.triple_arena_direct_arena.specs.DirectValues.{direct_with_values_of, DirectKeepsPointers}
 use Rattle.triple_arena_direct_arena.specs.declared.slot.DirectSlot.{DirectSlot}
 use Rattle.triple_arena_direct_arena.proofs.Held.{made}
 

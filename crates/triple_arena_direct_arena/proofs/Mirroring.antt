@@ -14,8 +14,8 @@ use Rattle.triple_arena_traits.specs.DirectInsertion.{IsVacant}
 use Rattle.triple_arena_traits.proofs.LookUps.{others_found}
 use Rattle.triple_arena_traits.proofs.CopyLemmas.{copied_keys}
 use Rattle.triple_arena_direct_arena.specs.DirectState.{DirectState, direct_capacity}
-use Rattle.triple_arena_direct_arena.specs.laws.StepLaws.{slots-removed}
-use Rattle.triple_arena_direct_arena.specs.laws.InsertionLaws.{slots-inserted_at}
+use Rattle.triple_arena_direct_arena.specs.laws.DirectStepLaws.{slots-removed}
+use Rattle.triple_arena_direct_arena.specs.laws.DirectInsertionLaws.{slots-inserted_at}
 use Rattle.triple_arena_direct_arena.specs.Mirrors.{Change, IsMirror, Makes, Follows}
 use Rattle.triple_arena_direct_arena.specs.Mirrors.Change.{comes, goes}
 

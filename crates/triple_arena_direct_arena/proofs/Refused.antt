@@ -9,7 +9,7 @@ use Rattle.triple_arena_base.specs.declared.errors.GetDisjointMutError.TheVarian
 use Rattle.triple_arena_stack.specs.Disjoint.{DisjointAnswer}
 use Rattle.triple_arena_traits.proofs.Refused.{err_is}
 use Rattle.triple_arena_direct_arena.specs.DirectState.{DirectState, direct_slot_count}
-use Rattle.triple_arena_direct_arena.specs.Layout.{Counts}
+use Rattle.triple_arena_direct_arena.specs.DirectLayout.{Counts}
 
 module _ {T : Type 0} where
   -- what is past the greatest index is past the slots

@@ -5,8 +5,8 @@ use Rattle.triple_arena_stack.specs.StackKind.{StackKind, reallocated_room, IsOf
 use Rattle.triple_arena_stack.specs.Capacity.{stack_capacity, IsWithin}
 use Rattle.triple_arena_traits.proofs.Growth.{place_made}
 use Rattle.triple_arena_direct_arena.specs.DirectState.{DirectState, direct_slot_count, direct_capacity, direct_with_room_for, direct_with_limit}
-use Rattle.triple_arena_direct_arena.specs.Slot.{direct_slot_entry}
-use Rattle.triple_arena_direct_arena.specs.Layout.{direct_of, Counts}
+use Rattle.triple_arena_direct_arena.specs.DirectSlot.{direct_slot_entry}
+use Rattle.triple_arena_direct_arena.specs.DirectLayout.{direct_of, Counts}
 use Rattle.triple_arena_direct_arena.specs.declared.slot.DirectSlot.{DirectSlot}
 use Rattle.triple_arena_direct_arena.proofs.Held.{made, Counts-room}
 

@@ -1,9 +1,9 @@
 -- Read first: DirectState.
 pub mod DirectState
-pub mod Slot
-pub mod Layout
-pub mod Lends
-pub mod Values
+pub mod DirectSlot
+pub mod DirectLayout
+pub mod DirectLends
+pub mod DirectValues
 pub mod Mirrors
-pub mod InsertEntry
+pub mod DirectInsertEntry
 pub mod laws

@@ -1,6 +1,6 @@
 -- What follows from the definitions.
-pub mod SlotLaws
-pub mod StepLaws
-pub mod InsertionLaws
-pub mod CloningLaws
-pub mod CompressionLaws
+pub mod DirectSlotLaws
+pub mod DirectStepLaws
+pub mod DirectInsertionLaws
+pub mod DirectCloningLaws
+pub mod DirectCompressionLaws

@@ -9,13 +9,13 @@ ghost use Rattle.triple_arena_stack.specs.Capacity.{IsWithin, IsBeyond};
 ghost use Rattle.triple_arena_stack.specs.StackKind.{IsOfKind};
 ghost use Rattle.triple_arena_traits.specs.Entries.{entry_in, look_up};
 ghost use Rattle.triple_arena_traits.specs.DirectInsertion.{IsVacant};
-ghost use Rattle.triple_arena_traits.specs.Disjoint.{value_of};
+ghost use Rattle.triple_arena_traits.specs.DisjointEntries.{value_of};
 ghost use Rattle.triple_arena_traits.specs.FreeList.{last_index};
 ghost use Rattle.triple_arena_stack.specs.Disjoint.{DisjointAnswer, MayWork, Worked};
 ghost use Rattle.triple_arena_direct_arena.specs.DirectState.{DirectState, new_direct, generation_of, direct_slot_count, direct_len, direct_capacity, SlotsFit, direct_with_value, inserted_at, direct_removed, direct_cleared, direct_shortened, direct_with_room_for, direct_reallocated, direct_with_limit};
 ghost use Rattle.triple_arena_traits.specs.Lent.{lends_values};
-ghost use Rattle.triple_arena_direct_arena.specs.Values.{direct_with_values_of};
-ghost use Rattle.triple_arena_direct_arena.specs.Slot.{direct_slot_entry};
+ghost use Rattle.triple_arena_direct_arena.specs.DirectValues.{direct_with_values_of};
+ghost use Rattle.triple_arena_direct_arena.specs.DirectSlot.{direct_slot_entry};
 
 mod advancer;
 mod compaction;
@@ -63,7 +63,7 @@ impl<P: Ptr, T, S: NonZeroInxGenericStack<DirectSlot<P, T>>> Model for DirectAre
     ghost Value = { DirectState T };
 
     ghost use Rattle.triple_arena_ptr.specs.Numbers.{greatest_index};
-    ghost use Rattle.triple_arena_direct_arena.specs.Layout.{direct_of, Counts};
+    ghost use Rattle.triple_arena_direct_arena.specs.DirectLayout.{direct_of, Counts};
 
     ghost view = { λ a. direct_of P.Gen.number (S.items a.slots.stack) (S.room a.slots.stack) (S.limit a.slots.stack)
         (greatest_index P.Inx.greatest) };
@@ -76,7 +76,7 @@ impl<P: Ptr, T, S: NonZeroInxGenericStack<DirectSlot<P, T>>> ArenaTrait<P, T>
     for DirectArena<P, T, S> {
     ghost use Rattle.std.specs.Prelude.{refl};
     ghost use Rattle.std.proofs.Common.{ap, subst, sym};
-    ghost use Rattle.triple_arena_direct_arena.specs.laws.StepLaws.{len-with_value, slots-removed, len-removed, slots-kept, slots-cleared, slots-tidied, len-tidied, slots-reallocated, len-reallocated};
+    ghost use Rattle.triple_arena_direct_arena.specs.laws.DirectStepLaws.{len-with_value, slots-removed, len-removed, slots-kept, slots-cleared, slots-tidied, len-tidied, slots-reallocated, len-reallocated};
 
     type PtrAdvancer = PtrAdvancer<P>;
 
@@ -346,7 +346,7 @@ impl<P: Ptr, T, S: NonZeroInxGenericStack<DirectSlot<P, T>>> ArenaTrait<P, T>
 impl<P: Ptr, T, S: NonZeroInxGenericStack<DirectSlot<P, T>>> ArenaDirectInsertTrait<P, T>
     for DirectArena<P, T, S> {
     ghost use Rattle.std.specs.Prelude.{refl};
-    ghost use Rattle.triple_arena_direct_arena.specs.laws.InsertionLaws.{slots-inserted_at, len-inserted_at};
+    ghost use Rattle.triple_arena_direct_arena.specs.laws.DirectInsertionLaws.{slots-inserted_at, len-inserted_at};
 
     // the value stands at the index, under the generation, and the slots that were missing below
     // are free

@@ -3,7 +3,7 @@
 ghost use Rattle.std.specs.Prelude.{◌≡◌, Some, IsSome};
 ghost use Rattle.std.specs.Borrow.{sem, Lends};
 ghost use Rattle.triple_arena_traits.specs.Entries.{entry_in, look_up};
-ghost use Rattle.triple_arena_traits.specs.Disjoint.{value_of};
+ghost use Rattle.triple_arena_traits.specs.DisjointEntries.{value_of};
 ghost use Rattle.triple_arena_direct_arena.specs.DirectState.{direct_with_value};
 
 use crate::direct_arena::DirectArena;

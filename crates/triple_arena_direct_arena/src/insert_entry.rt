@@ -4,7 +4,7 @@ ghost use Rattle.std.specs.Prelude.{◌≡◌, IfOk};
 ghost use Rattle.std.specs.Borrow.{sem, Lends};
 ghost use Rattle.triple_arena_traits.specs.DirectInsertion.{IsVacant, DirectInsertAnswer};
 ghost use Rattle.triple_arena_direct_arena.specs.DirectState.{direct_capacity, inserted_at};
-ghost use Rattle.triple_arena_direct_arena.specs.InsertEntry.{direct_entry_pointer, direct_entry_reference, direct_entry_arena, direct_entry_lender, direct_entry_rests};
+ghost use Rattle.triple_arena_direct_arena.specs.DirectInsertEntry.{direct_entry_pointer, direct_entry_reference, direct_entry_arena, direct_entry_lender, direct_entry_rests};
 
 use crate::direct_arena::DirectArena;
 use crate::slot::DirectSlot;

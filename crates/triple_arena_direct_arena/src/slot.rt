@@ -1,7 +1,7 @@
 //! A slot of a direct arena.
 
 ghost use Rattle.std.specs.Prelude.{◌≡◌, None};
-ghost use Rattle.triple_arena_direct_arena.specs.Slot.{direct_slot_entry, direct_with_slot_value};
+ghost use Rattle.triple_arena_direct_arena.specs.DirectSlot.{direct_slot_entry, direct_with_slot_value};
 
 use triple_arena_ptr::{Ptr, PtrGen};
 use triple_arena_traits::EntrySlot;
@@ -25,7 +25,7 @@ impl<P: Ptr, T> Default for DirectSlot<P, T> {
 }
 
 impl<P: Ptr, T> EntrySlot<P, T> for DirectSlot<P, T> {
-    ghost use Rattle.triple_arena_direct_arena.specs.laws.SlotLaws.{slot_entry-written, with_own_slot_value, free-with_slot_value};
+    ghost use Rattle.triple_arena_direct_arena.specs.laws.DirectSlotLaws.{slot_entry-written, with_own_slot_value, free-with_slot_value};
 
     // the entry, as the state of an arena has it
     ghost entry = { direct_slot_entry P.Gen.number };

@@ -13,8 +13,8 @@ ghost use Rattle.triple_arena_traits.specs.Walks.{entries};
 ghost use Rattle.triple_arena_traits.specs.Copying.{Copies};
 ghost use Rattle.triple_arena_traits.specs.Transfers.{Transfers};
 ghost use Rattle.triple_arena_traits.specs.FreeEnd.{extended};
-ghost use Rattle.triple_arena_direct_arena.specs.Slot.{direct_slot_entry};
-ghost use Rattle.triple_arena_direct_arena.specs.Layout.{direct_entry_at};
+ghost use Rattle.triple_arena_direct_arena.specs.DirectSlot.{direct_slot_entry};
+ghost use Rattle.triple_arena_direct_arena.specs.DirectLayout.{direct_entry_at};
 
 use crate::slot::DirectSlot;
 use std::marker::PhantomData;
@@ -35,7 +35,7 @@ pub(crate) struct Slots<P: Ptr, T, S: NonZeroInxGenericStack<DirectSlot<P, T>>> 
 }
 
 impl<P: Ptr, T, S: NonZeroInxGenericStack<DirectSlot<P, T>>> Slots<P, T, S> {
-    ghost use Rattle.triple_arena_direct_arena.specs.Lends.{direct_lends_slot_value, direct_lends_slots};
+    ghost use Rattle.triple_arena_direct_arena.specs.DirectLends.{direct_lends_slot_value, direct_lends_slots};
 
     // The slots of a stack.
     pub(crate) fn over(stack: S) -> Self

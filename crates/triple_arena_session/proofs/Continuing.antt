@@ -17,7 +17,7 @@ use Rattle.triple_arena_traits.specs.Entries.{look_up}
 use Rattle.triple_arena_traits.specs.ArenaState.{ArenaState, entry, arena_len, capacity, slot_count, with_value, IsWellFormed}
 use Rattle.triple_arena_traits.specs.Insertion.{next_pointer, inserted}
 use Rattle.triple_arena_traits.specs.FreeList.{tidied}
-use Rattle.triple_arena_traits.specs.Capacity.{grown, with_room_for, reallocated}
+use Rattle.triple_arena_traits.specs.Reallocation.{grown, with_room_for, reallocated}
 use Rattle.triple_arena_traits.specs.Ending.{removed, invalidated, cleared}
 use Rattle.triple_arena_traits.specs.Walks.{keys, values}
 use Rattle.triple_arena_traits.specs.Compression.{compressed, raised_if_any}

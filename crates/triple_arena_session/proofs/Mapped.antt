@@ -12,7 +12,7 @@ use Rattle.triple_arena_traits.specs.Entries.{value_of_generation, entry_count, 
 use Rattle.triple_arena_traits.specs.ArenaState.{ArenaState, arena_len, capacity, entry, slot_count, with_value, is_free, IsWellFormed, map_entry, map_values}
 use Rattle.triple_arena_traits.specs.Insertion.{place_among, inserted_among, inserted, next_pointer}
 use Rattle.triple_arena_traits.specs.FreeList.{put_before, trimmed, gaps, tidied}
-use Rattle.triple_arena_traits.specs.Capacity.{with_room_for, grown, reallocated}
+use Rattle.triple_arena_traits.specs.Reallocation.{with_room_for, grown, reallocated}
 use Rattle.triple_arena_traits.specs.Ending.{removed, invalidated}
 use Rattle.triple_arena_traits.specs.Walks.{entries_from, values_of}
 use Rattle.triple_arena_traits.specs.Compression.{closed_up, compressed, rank}

@@ -11,7 +11,7 @@ use Rattle.triple_arena_stack.specs.Capacity.{stack_capacity, IsWithin, IsBeyond
 use Rattle.triple_arena_traits.specs.Entries.{value_of_generation, KeepsEntries}
 use Rattle.triple_arena_traits.specs.ArenaState.{ArenaState, arena_len, capacity, slot_count}
 use Rattle.triple_arena_traits.specs.FreeList.{tidied}
-use Rattle.triple_arena_traits.specs.Capacity.{reallocated}
+use Rattle.triple_arena_traits.specs.Reallocation.{reallocated}
 use Rattle.triple_arena_traits.specs.laws.EntryLaws.{slots-tidied}
 use Rattle.triple_arena_traits.specs.Histories.{resizing}
 use Rattle.triple_arena_traits.specs.laws.WellFormedLaws.{len_within}

@@ -19,7 +19,7 @@ use Rattle.triple_arena_traits.specs.Entries.{look_up}
 use Rattle.triple_arena_traits.specs.ArenaState.{ArenaState, arena_len, capacity, with_value, map_values}
 use Rattle.triple_arena_traits.specs.Insertion.{inserted, next_pointer}
 use Rattle.triple_arena_traits.specs.FreeList.{tidied}
-use Rattle.triple_arena_traits.specs.Capacity.{grown, reallocated, KeepsRoom}
+use Rattle.triple_arena_traits.specs.Reallocation.{grown, reallocated, KeepsRoom}
 use Rattle.triple_arena_traits.specs.Ending.{told_of, map_told, removed, invalidated}
 use Rattle.triple_arena_commands.specs.declared.command.Command.TheVariants.{Reserve}
 use Rattle.triple_arena_commands.specs.declared.reply.Reply.{Reply}

@@ -12,7 +12,7 @@ use Rattle.triple_arena_stack.specs.Capacity.{next_capacity}
 use Rattle.triple_arena_traits.specs.Entries.{value_of_generation, ChangesAt, look_up}
 use Rattle.triple_arena_traits.specs.ArenaState.{ArenaState, entry, arena_len, capacity, slot_count, IsWellFormed}
 use Rattle.triple_arena_traits.specs.Insertion.{place, next_pointer, inserted}
-use Rattle.triple_arena_traits.specs.Capacity.{grown, with_room_for}
+use Rattle.triple_arena_traits.specs.Reallocation.{grown, with_room_for}
 use Rattle.triple_arena_traits.specs.laws.EntryLaws.{slots-inserted, capacity-inserted, limit-inserted}
 use Rattle.triple_arena_traits.specs.Histories.{has, insertion}
 use Rattle.triple_arena_traits.specs.laws.WellFormedLaws.{kept-inserted, place_free, len_within}

@@ -15,13 +15,13 @@ use Rattle.triple_arena_commands.specs.ReplyText.{tells_of_wrap}
 use Rattle.triple_arena_commands.specs.Runs.{IsRun, TellsOfNoWrap, RunsToWrap}
 use Rattle.triple_arena_commands.specs.laws.RunLaws.{TellsOfNoWrap-nil, TellsOfNoWrap-first}
 use Rattle.triple_arena_commands.specs.StoreRuns.{is_named, is_no_memory, ample, erase, seen}
-use Rattle.triple_arena_commands.specs.Strict.{tells_success, tells_exhausted, UnlessExhausted, raises_row, used, is_spent, IsCountedStep, IsStrictStoreStep}
-use Rattle.triple_arena_commands.specs.laws.StrictLaws.{unless_so, refused_where, made_where, StrictIsUnseen}
+use Rattle.triple_arena_commands.specs.StrictStore.{tells_success, tells_exhausted, UnlessExhausted, raises_row, used, is_spent, IsCountedStep, IsStrictStoreStep}
+use Rattle.triple_arena_commands.specs.laws.StrictStoreLaws.{unless_so, refused_where, made_where, StrictIsUnseen}
 use Rattle.triple_arena_session.specs.SessionState.{SessionState, named}
 use Rattle.triple_arena_session.specs.SessionRun.{IsStep}
 use Rattle.triple_arena_session.specs.SessionCalls.{calls_of, calls_in}
 use Rattle.triple_arena_session.specs.Shown.{as_row, shown, IsArenaOver}
-use Rattle.triple_arena_session.specs.Strict.{raises_counter, is_refused, IsStrictSessionStep, strictly_shown}
+use Rattle.triple_arena_session.specs.StrictSession.{raises_counter, is_refused, IsStrictSessionStep, strictly_shown}
 use Rattle.triple_arena_session.proofs.Rows.{is_some-map, row_count-shown}
 use Rattle.triple_arena_session.proofs.Continuing.{raised_by_one, GoesOn, goes_same, StepGoesOn, StepsKeepHistories}
 use Rattle.triple_arena_session.proofs.StoreSteps.{row_named}

@@ -14,7 +14,7 @@ use Rattle.triple_arena_traits.specs.Entries.{look_up}
 use Rattle.triple_arena_traits.specs.ArenaState.{ArenaState, arena_len, capacity, with_value}
 use Rattle.triple_arena_traits.specs.Insertion.{inserted, inserted_among}
 use Rattle.triple_arena_stack.specs.Capacity.{next_capacity}
-use Rattle.triple_arena_traits.specs.Capacity.{with_room_for, grown, reallocated}
+use Rattle.triple_arena_traits.specs.Reallocation.{with_room_for, grown, reallocated}
 use Rattle.triple_arena_traits.specs.laws.WellFormedLaws.{counter-removed}
 use Rattle.triple_arena_commands.specs.declared.command.Command.{Command}
 use Rattle.triple_arena_commands.specs.declared.command.Command.TheVariants.{Insert, InsertWithin, Get, Set, Remove, Invalidate, Clear, Compact, Len, Capacity, Reserve, Show}
@@ -23,11 +23,11 @@ use Rattle.triple_arena_commands.specs.declared.reply.Reply.TheVariants.{Full, B
 use Rattle.triple_arena_commands.specs.Limits.{is_within}
 use Rattle.triple_arena_commands.specs.ReplyText.{tells_of_wrap}
 use Rattle.triple_arena_commands.specs.Runs.{IsRun}
-use Rattle.triple_arena_commands.specs.Strict.{tells_success, tells_exhausted}
+use Rattle.triple_arena_commands.specs.StrictStore.{tells_success, tells_exhausted}
 use Rattle.triple_arena_session.specs.SessionState.{SessionState, named, link_pointer}
 use Rattle.triple_arena_session.specs.Compaction.{any_dangles, compacted}
 use Rattle.triple_arena_session.specs.SessionRun.{refusal, get_reply, show_reply, shown_text, act_under, act_on, set_answer, insert_within_answer, insert_unless, insert_answer, remove_under, invalidate_under, in_order, with_room_for_name, answer, WantsMemory, IsStep}
-use Rattle.triple_arena_session.specs.Strict.{raises_counter}
+use Rattle.triple_arena_session.specs.StrictSession.{raises_counter}
 use Rattle.triple_arena_session.proofs.Continuing.{step_cases}
 
 -- the insertion of a value leaves the counter, and so does growth

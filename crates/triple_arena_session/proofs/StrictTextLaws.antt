@@ -13,15 +13,15 @@ use Rattle.triple_arena_commands.specs.declared.text_error.TextError.{TextError}
 use Rattle.triple_arena_commands.specs.declared.text_error.TextError.TheVariants.{Malformed, Read, Write, NoMemory}
 use Rattle.triple_arena_commands.specs.Lines.{lines_of}
 use Rattle.triple_arena_commands.specs.TextRun.{RunsLines, AnswersLines, RunsThrough, IsTextRun, IsFlushedRun, IsFlushed}
-use Rattle.triple_arena_commands.specs.Strict.{StrictStore}
-use Rattle.triple_arena_commands.specs.laws.StrictLaws.{StrictIsUnseen}
+use Rattle.triple_arena_commands.specs.StrictStore.{StrictStore}
+use Rattle.triple_arena_commands.specs.laws.StrictStoreLaws.{StrictIsUnseen}
 use Rattle.triple_arena_commands.specs.laws.TextLaws.{IsFlushedRun-not_begun}
 use Rattle.triple_arena_session.specs.SessionState.{SessionState}
 use Rattle.triple_arena_session.specs.KindRun.{greatest, first_session, RunsStrictlyOver, RunsKindStrictly}
 use Rattle.triple_arena_session.specs.ProgramRun.{RunsProgram}
 use Rattle.triple_arena_session.specs.StoreText.{IsStoreText, first_store, first_strict_store, AnswersProgram}
 use Rattle.triple_arena_session.specs.Shown.{IsSound}
-use Rattle.triple_arena_session.specs.Strict.{IsStrictSessionStep, strictly_shown}
+use Rattle.triple_arena_session.specs.StrictSession.{IsStrictSessionStep, strictly_shown}
 use Rattle.triple_arena_session.specs.StrictText.{IsWholeTextRun, IsWholeFlushedRun, RunsStrictStore, BringsStrictStore, IsStrictStoreText}
 use Rattle.triple_arena_session.proofs.StoreLaws.{SoundOver-new}
 use Rattle.triple_arena_session.proofs.StoreRunLaws.{quiet_ends}

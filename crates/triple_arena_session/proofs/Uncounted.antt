@@ -5,7 +5,7 @@ use Rattle.triple_arena_traits.specs.ArenaState.{ArenaState, slot_count, arena_l
 use Rattle.triple_arena_traits.specs.Insertion.{inserted_among, inserted}
 use Rattle.triple_arena_traits.specs.SlotSteps.{IsTouched, touched}
 use Rattle.triple_arena_traits.specs.Ending.{removed}
-use Rattle.triple_arena_traits.specs.Capacity.{grown}
+use Rattle.triple_arena_traits.specs.Reallocation.{grown}
 use Rattle.triple_arena_traits.specs.Compression.{compressed}
 use Rattle.triple_arena_session.specs.SessionLayout.{uncounted}
 

@@ -9,7 +9,7 @@ use Rattle.triple_arena_commands.specs.declared.arguments.Kind.TheVariants.{Heap
 use Rattle.triple_arena_commands.specs.declared.text_error.TextError.{TextError}
 use Rattle.triple_arena_session.specs.SessionState.{SessionState, new_session}
 use Rattle.triple_arena_session.specs.SessionRun.{IsStep}
-use Rattle.triple_arena_session.specs.Strict.{IsStrictSessionStep}
+use Rattle.triple_arena_session.specs.StrictSession.{IsStrictSessionStep}
 use Rattle.triple_arena_session.specs.StrictText.{IsWholeFlushedRun}
 
 -- the greatest number of an index of P0, and of a generation

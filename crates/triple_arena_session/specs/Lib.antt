@@ -8,7 +8,7 @@ pub mod LineRun
 pub mod KindRun
 pub mod ProgramRun
 pub mod Shown
-pub mod Strict
+pub mod StrictSession
 pub mod StrictText
 pub mod SessionCalls
 pub mod StoreText

@@ -5,11 +5,11 @@ use Rattle.triple_arena_stack.specs.StackKind.{StackKind}
 use Rattle.triple_arena_traits.specs.ArenaState.{ArenaState, map_values}
 use Rattle.triple_arena_commands.specs.declared.command.Command.{Command}
 use Rattle.triple_arena_commands.specs.declared.reply.Reply.{Reply}
-use Rattle.triple_arena_commands.specs.Strict.{IsStrictly}
+use Rattle.triple_arena_commands.specs.StrictStore.{IsStrictly}
 use Rattle.triple_arena_session.specs.declared.node.Node.{Node}
 use Rattle.triple_arena_session.specs.SessionState.{SessionState, node_of}
 use Rattle.triple_arena_session.specs.SessionRun.{IsStep}
-use Rattle.triple_arena_session.specs.Strict.{is_refused}
+use Rattle.triple_arena_session.specs.StrictSession.{is_refused}
 
 -- the same arena, and no slot is counted
 abbrev pub uncounted : {T : Type 0} → ArenaState T → ArenaState T

@@ -12,7 +12,7 @@ use Rattle.triple_arena_traits.specs.Entries.{look_up}
 use Rattle.triple_arena_traits.specs.ArenaState.{ArenaState, arena_len, capacity, with_value}
 use Rattle.triple_arena_traits.specs.Insertion.{inserted, next_pointer}
 use Rattle.triple_arena_traits.specs.FreeList.{tidied}
-use Rattle.triple_arena_traits.specs.Capacity.{grown, reallocated, KeepsRoom}
+use Rattle.triple_arena_traits.specs.Reallocation.{grown, reallocated, KeepsRoom}
 use Rattle.triple_arena_traits.specs.Ending.{removed, invalidated, cleared}
 use Rattle.triple_arena_traits.specs.Compression.{raised_if_any, wraps_after}
 use Rattle.triple_arena_commands.specs.declared.command.Command.{Command}

@@ -16,7 +16,7 @@ use Rattle.triple_arena_commands.specs.Runs.{IsRun, TellsOfNoWrap, EndsInWrap}
 use Rattle.triple_arena_commands.specs.TextRun.{StandFor, IsMalformed, AnswersToWrap}
 use Rattle.triple_arena_commands.specs.NameStore.{Store, new_store, IsStoreStep}
 use Rattle.triple_arena_commands.specs.StoreRuns.{is_named, is_no_memory, AnswersAsStore, ample, erase, seen}
-use Rattle.triple_arena_commands.specs.Strict.{StrictStore}
+use Rattle.triple_arena_commands.specs.StrictStore.{StrictStore}
 use Rattle.triple_arena_session.specs.SessionState.{SessionState}
 use Rattle.triple_arena_session.specs.KindRun.{greatest}
 use Rattle.triple_arena_session.specs.Shown.{shown, IsSound}

@@ -11,7 +11,7 @@ use Rattle.triple_arena_commands.specs.ReplyText.{reply_lines}
 use Rattle.triple_arena_commands.specs.Runs.{IsRun}
 use Rattle.triple_arena_commands.specs.TextRun.{StandFor, IsMalformed, AnswersLines, IsTextRun, IsFlushedRun}
 use Rattle.triple_arena_commands.specs.StoreRuns.{is_named, is_no_memory, ample, erase, seen}
-use Rattle.triple_arena_commands.specs.Strict.{tells_exhausted, StrictStore, IsStrictStoreStep}
+use Rattle.triple_arena_commands.specs.StrictStore.{tells_exhausted, StrictStore, IsStrictStoreStep}
 
 module _ {S : Type 0} (Step : S → Command ℕ → Reply ℕ → S → Type 0) where
   -- a run as of any session, but that where it ended well all lines were answered

@@ -9,7 +9,7 @@ ghost use Rattle.triple_arena_commands.specs.Runs.{RunsToWrap};
 ghost use Rattle.triple_arena_session.specs.SessionState.{new_session, node_of, named, link_name, link_pointer};
 ghost use Rattle.triple_arena_session.specs.SessionRun.{IsStep, refusal};
 ghost use Rattle.triple_arena_session.specs.Shown.{IsSound, IsArenaOver};
-ghost use Rattle.triple_arena_session.specs.Strict.{raises_counter, is_refused};
+ghost use Rattle.triple_arena_session.specs.StrictSession.{raises_counter, is_refused};
 ghost use Rattle.triple_arena_session.specs.SessionLayout.{refuses, IsStepOf};
 
 use crate::node::Node;

@@ -11,7 +11,7 @@ ghost use Rattle.triple_arena_commands.specs.ReplyText.{tells_of_wrap};
 ghost use Rattle.triple_arena_commands.specs.Runs.{IsRun, TellsOfNoWrap, RunsToWrap};
 ghost use Rattle.triple_arena_commands.specs.NameStore.{Store, new_store, IsStoreStep};
 ghost use Rattle.triple_arena_commands.specs.StoreRuns.{is_named, is_no_memory, without_wrap, AnswersAsStore, ample, erase, seen};
-ghost use Rattle.triple_arena_commands.specs.Strict.{tells_exhausted};
+ghost use Rattle.triple_arena_commands.specs.StrictStore.{tells_exhausted};
 ghost use Rattle.triple_arena_session.specs.SessionState.{SessionState, node_of, new_session};
 ghost use Rattle.triple_arena_session.specs.SessionRun.{IsStep};
 ghost use Rattle.triple_arena_session.specs.SessionCalls.{calls_of, KeepsHistories};

@@ -13,7 +13,7 @@ ghost use Rattle.triple_arena_traits.specs.ArenaState.{ArenaState, arena_len, ca
 ghost use Rattle.triple_arena_traits.specs.Insertion.{next_pointer, inserted};
 ghost use Rattle.triple_arena_traits.specs.Ending.{removed, invalidated, cleared, told, told_of, map_told};
 ghost use Rattle.triple_arena_traits.specs.FreeList.{tidied};
-ghost use Rattle.triple_arena_traits.specs.Capacity.{reallocated, KeepsRoom, grown};
+ghost use Rattle.triple_arena_traits.specs.Reallocation.{reallocated, KeepsRoom, grown};
 ghost use Rattle.triple_arena_traits.specs.Compression.{compressed, raised_if_any, wraps_after, rank};
 ghost use Rattle.triple_arena_traits.specs.Walks.{values};
 ghost use Rattle.triple_arena_direct.specs.Renaming.{MapsPointers, first_unresolved, AreRenamed, Refuses};

@@ -11,11 +11,11 @@ ghost use Rattle.triple_arena_commands.specs.ReplyText.{tells_of_wrap};
 ghost use Rattle.triple_arena_commands.specs.Runs.{IsRun, TellsOfNoWrap};
 ghost use Rattle.triple_arena_commands.specs.NameStore.{new_store};
 ghost use Rattle.triple_arena_commands.specs.StoreRuns.{is_named, is_no_memory, ample, erase, seen};
-ghost use Rattle.triple_arena_commands.specs.Strict.{tells_exhausted, IsStrictStoreStep};
+ghost use Rattle.triple_arena_commands.specs.StrictStore.{tells_exhausted, IsStrictStoreStep};
 ghost use Rattle.triple_arena_session.specs.SessionState.{node_of, new_session};
 ghost use Rattle.triple_arena_session.specs.SessionCalls.{calls_of, RunsFreshly};
 ghost use Rattle.triple_arena_session.specs.Shown.{shown, IsSound, IsArenaOver};
-ghost use Rattle.triple_arena_session.specs.Strict.{is_refused, IsStrictSessionStep, strictly_shown};
+ghost use Rattle.triple_arena_session.specs.StrictSession.{is_refused, IsStrictSessionStep, strictly_shown};
 
 use crate::named_arena::NamedArena;
 use crate::node::Node;

@@ -3,7 +3,7 @@
 ghost use Rattle.std.specs.Prelude.{◌≡◌, ◌≤◌, IfSome, true};
 ghost use Rattle.std.specs.Io.Buffered.{writer_contents};
 ghost use Rattle.triple_arena_session.specs.Shown.{IsSound, IsArenaOver};
-ghost use Rattle.triple_arena_session.specs.Strict.{IsStrictSessionStep, strictly_shown};
+ghost use Rattle.triple_arena_session.specs.StrictSession.{IsStrictSessionStep, strictly_shown};
 ghost use Rattle.triple_arena_session.specs.StrictText.{IsWholeTextRun, IsWholeFlushedRun, IsStrictStoreText};
 
 use crate::node::Node;

@@ -7,7 +7,7 @@ ghost use Rattle.triple_arena_commands.specs.declared.reply.Reply.TheVariants.{G
 ghost use Rattle.triple_arena_commands.specs.NameStore.{new_store, IsStoreStep};
 ghost use Rattle.triple_arena_session.specs.KindRun.{greatest};
 ghost use Rattle.triple_arena_session.specs.Shown.{shown, IsSound};
-ghost use Rattle.triple_arena_session.specs.Strict.{strictly_shown};
+ghost use Rattle.triple_arena_session.specs.StrictSession.{strictly_shown};
 
 use std::alloc::Global;
 use triple_arena::{Arena, ArenaSlot};

@@ -8,7 +8,7 @@ use Rattle.triple_arena_slots.specs.Slot.{entry_of}
 use Rattle.triple_arena_slots.specs.Layout.{state_of, Shows}
 use Rattle.triple_arena_traits.specs.ArenaState.{ArenaState, capacity, slot_count, arena_len}
 use Rattle.triple_arena_traits.specs.FreeList.{tidied}
-use Rattle.triple_arena_traits.specs.Capacity.{with_room_for, reallocated}
+use Rattle.triple_arena_traits.specs.Reallocation.{with_room_for, reallocated}
 use Rattle.triple_arena_traits.specs.laws.EntryLaws.{within_room, slots-reallocated}
 use Rattle.triple_arena_traits.specs.Histories.{resizing, Fits, Continues}
 use Rattle.triple_arena_traits.specs.laws.HistoryLaws.{Continues-resized, Continues-tidied}

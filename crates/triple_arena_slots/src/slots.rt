@@ -20,7 +20,7 @@ ghost use Rattle.triple_arena_slots.specs.Slot.{entry_of, touch_if, with_slot_va
 ghost use Rattle.triple_arena_traits.specs.Places.{number_or_zero};
 ghost use Rattle.triple_arena_slots.specs.Layout.{Shows, LeadsOn, LeadsBack, entry_at};
 ghost use Rattle.triple_arena_stack.specs.Disjoint.{MayWork, Worked};
-ghost use Rattle.triple_arena_traits.specs.Disjoint.{value_of};
+ghost use Rattle.triple_arena_traits.specs.DisjointEntries.{value_of};
 ghost use Rattle.triple_arena_traits.specs.SlotPairs.{WritesTwo};
 
 use crate::slot::ArenaSlot;

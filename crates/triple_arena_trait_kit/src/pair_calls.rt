@@ -3,7 +3,7 @@
 
 ghost use Rattle.std.specs.Prelude.{◌≡◌, ℕ, Some, OnOk, OnErr};
 ghost use Rattle.triple_arena_traits.specs.Entries.{entry_in, look_up};
-ghost use Rattle.triple_arena_traits.specs.Disjoint.{DisjointPtrAnswer, DisjointInxAnswer};
+ghost use Rattle.triple_arena_traits.specs.DisjointEntries.{DisjointPtrAnswer, DisjointInxAnswer};
 
 use crate::numbered::Numbered;
 use crate::token::Token;

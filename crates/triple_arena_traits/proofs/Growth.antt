@@ -5,7 +5,7 @@ use Rattle.triple_arena_stack.specs.StackKind.{StackKind, reallocated_room, IsOf
 use Rattle.triple_arena_stack.specs.StackKind.StackKind.{heap, limited, fixed, array}
 use Rattle.triple_arena_stack.specs.Capacity.{stack_capacity, IsAtLimit, IsWithin, IsBeyond, next_capacity}
 use Rattle.triple_arena_traits.specs.ArenaState.{ArenaState, capacity, slot_count}
-use Rattle.triple_arena_traits.specs.Capacity.{with_room_for}
+use Rattle.triple_arena_traits.specs.Reallocation.{with_room_for}
 use Rattle.triple_arena_traits.specs.laws.EntryLaws.{doubled}
 
 pub on_ok : {A E P Q : Type 0} (r : Result A E) → (P → Q) → OnOk r P → OnOk r Q

@@ -3,7 +3,7 @@ use Rattle.std.proofs.Common.{◌≡◌, ℕ, ◌+◌, ◌≤◌, true, List, []
 use Rattle.std.proofs.lemmas.Option.{same_Some}
 use Rattle.std.specs.Option.{option_map}
 use Rattle.triple_arena_ptr.specs.Pointers.{Pointer}
-use Rattle.triple_arena_traits.specs.Disjoint.{value_of}
+use Rattle.triple_arena_traits.specs.DisjointEntries.{value_of}
 use Rattle.triple_arena_traits.specs.Walks.{put_entry, entries_from}
 use Rattle.triple_arena_traits.proofs.Present.{some_mapped}
 

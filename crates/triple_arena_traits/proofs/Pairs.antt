@@ -9,7 +9,7 @@ use Rattle.triple_arena_ptr.specs.Pointers.{Pointer}
 use Rattle.triple_arena_stack.specs.Disjoint.{set_both, MayWork}
 use Rattle.triple_arena_traits.specs.Items.{item, with_item}
 use Rattle.triple_arena_traits.specs.Entries.{entry_in, look_up}
-use Rattle.triple_arena_traits.specs.Disjoint.{PairOnce, value_of}
+use Rattle.triple_arena_traits.specs.DisjointEntries.{PairOnce, value_of}
 use Rattle.triple_arena_traits.specs.SlotPairs.{WritesTwo}
 use Rattle.triple_arena_traits.specs.laws.ItemLaws.{item_at, with_item_at}
 use Rattle.triple_arena_traits.specs.laws.WellFormedLaws.{entry_of_value}

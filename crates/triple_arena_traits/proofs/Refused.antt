@@ -12,7 +12,7 @@ use Rattle.triple_arena_ptr.specs.Pointers.{Pointer}
 use Rattle.triple_arena_stack.specs.Disjoint.{IsRefused}
 use Rattle.triple_arena_traits.specs.laws.PointerListLaws.{pointer_is}
 use Rattle.triple_arena_traits.specs.laws.WellFormedLaws.{entry_of_value}
-use Rattle.triple_arena_traits.specs.Disjoint.{DisjointInxAnswer}
+use Rattle.triple_arena_traits.specs.DisjointEntries.{DisjointInxAnswer}
 use Rattle.triple_arena_traits.specs.Entries.{entry_in, value_of_generation, look_up, ChangesAt}
 use Rattle.triple_arena_traits.specs.laws.ItemLaws.{eq_false}
 

@@ -8,7 +8,7 @@ pub mod DirectInsertion
 pub mod Ending
 pub mod FreeList
 pub mod FreeEnd
-pub mod Capacity
+pub mod Reallocation
 pub mod Walks
 pub mod Visits
 pub mod Places
@@ -23,7 +23,7 @@ pub mod Moves
 pub mod Recasting
 pub mod HeldSlots
 pub mod Cloning
-pub mod Disjoint
+pub mod DisjointEntries
 pub mod SlotPairs
 pub mod Histories
 pub mod laws

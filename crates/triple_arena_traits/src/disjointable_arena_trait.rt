@@ -4,7 +4,7 @@ ghost use Rattle.std.specs.Prelude.{◌≡◌, ◌≢◌, [], IfOk, OnErr};
 ghost use Rattle.triple_arena_stack.specs.Disjoint.{MayWork, Worked};
 ghost use Rattle.triple_arena_traits.specs.Entries.{entry_in, look_up};
 ghost use Rattle.triple_arena_traits.specs.Histories.{Continues};
-ghost use Rattle.triple_arena_traits.specs.Disjoint.{DisjointPtrAnswer, DisjointInxAnswer, MayWorkAtEntries, WorkedAtEntries};
+ghost use Rattle.triple_arena_traits.specs.DisjointEntries.{DisjointPtrAnswer, DisjointInxAnswer, MayWorkAtEntries, WorkedAtEntries};
 
 use crate::arena_trait::ArenaTrait;
 use triple_arena_base::GetDisjointMutError;

@@ -8,7 +8,7 @@ ghost use Rattle.triple_arena_stack.specs.Disjoint.{MayWork, Worked};
 ghost use Rattle.triple_arena_traits.specs.Items.{item, with_item};
 ghost use Rattle.triple_arena_traits.specs.Entries.{entry_in, entry_count};
 ghost use Rattle.triple_arena_traits.specs.ArenaState.{is_free};
-ghost use Rattle.triple_arena_traits.specs.Disjoint.{value_of};
+ghost use Rattle.triple_arena_traits.specs.DisjointEntries.{value_of};
 ghost use Rattle.triple_arena_traits.specs.SlotPairs.{WritesTwo};
 ghost use Rattle.triple_arena_traits.specs.FreeEnd.{shortened, extended};
 

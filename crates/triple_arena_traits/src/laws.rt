@@ -11,7 +11,7 @@ ghost use Rattle.triple_arena_traits.specs.ArenaState.{ArenaState, new_arena, ar
 ghost use Rattle.triple_arena_traits.specs.Insertion.{inserted};
 ghost use Rattle.triple_arena_traits.specs.Ending.{removed, invalidated, cleared};
 ghost use Rattle.triple_arena_traits.specs.FreeList.{IsRising, tidied, without_free_end, laid_out};
-ghost use Rattle.triple_arena_traits.specs.Capacity.{EndsBy, reallocated, with_limit, grown};
+ghost use Rattle.triple_arena_traits.specs.Reallocation.{EndsBy, reallocated, with_limit, grown};
 ghost use Rattle.triple_arena_traits.specs.Values.{with_values_of};
 ghost use Rattle.triple_arena_traits.specs.HeldSlots.{refill_slots};
 ghost use Rattle.triple_arena_traits.specs.Walks.{Stand, Steps, Walk, IsAtFirst, keys, values};

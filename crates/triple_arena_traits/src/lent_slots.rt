@@ -3,7 +3,7 @@
 ghost use Rattle.std.specs.Prelude.{◌≡◌, ◌<◌, List, ◌∷◌, length};
 ghost use Rattle.std.specs.Borrow.{GName};
 ghost use Rattle.std.specs.Option.{option_map, option_copied_mut};
-ghost use Rattle.triple_arena_traits.specs.Disjoint.{value_of};
+ghost use Rattle.triple_arena_traits.specs.DisjointEntries.{value_of};
 ghost use Rattle.triple_arena_traits.specs.Kept.{kept_at};
 
 use crate::entry_slot::EntrySlot;

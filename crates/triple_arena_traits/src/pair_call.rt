@@ -1,7 +1,7 @@
 //! Calls at two values, for arenas that lend two of their values at once.
 
 ghost use Rattle.triple_arena_stack.specs.Disjoint.{FnOnceTakesAtPairMut, FnOnceReturnsAtPairMut};
-ghost use Rattle.triple_arena_traits.specs.Disjoint.{PairOnce, after_generations};
+ghost use Rattle.triple_arena_traits.specs.DisjointEntries.{PairOnce, after_generations};
 
 /// What may be called once, at two values.
 ///

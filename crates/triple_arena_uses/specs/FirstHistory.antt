@@ -4,7 +4,7 @@ use Rattle.triple_arena_stack.specs.StackKind.StackKind.{heap}
 use Rattle.triple_arena_traits.specs.ArenaState.{ArenaState, new_arena}
 use Rattle.triple_arena_traits.specs.Insertion.{next_pointer, inserted}
 use Rattle.triple_arena_traits.specs.Ending.{removed, invalidated, cleared}
-use Rattle.triple_arena_traits.specs.Capacity.{grown}
+use Rattle.triple_arena_traits.specs.Reallocation.{grown}
 use Rattle.triple_arena_traits.specs.Compression.{compressed, raised_if_any}
 use Rattle.triple_arena_traits.specs.Walks.{keys, values}
 use Rattle.triple_arena_traits.specs.Histories.{ModelCall, insertion, removal, invalidation, clearing, compression, resizing}

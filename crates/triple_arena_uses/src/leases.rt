@@ -6,7 +6,7 @@ ghost use Rattle.triple_arena_traits.specs.Entries.{look_up};
 ghost use Rattle.triple_arena_traits.specs.ArenaState.{arena_len, capacity};
 ghost use Rattle.triple_arena_traits.specs.SlotSteps.{RisesByAtMost, IsTouched};
 ghost use Rattle.triple_arena_direct.specs.Gone.{IsGoneForGood};
-ghost use Rattle.triple_arena_direct.specs.Strict.{strict_of};
+ghost use Rattle.triple_arena_direct.specs.StrictAnswers.{strict_of};
 ghost use Rattle.triple_arena_uses.specs.Tickets.{ticket_numbers, are_used_up};
 
 use crate::ticket::Ticket;

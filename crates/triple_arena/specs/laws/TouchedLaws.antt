@@ -9,7 +9,7 @@ use Rattle.triple_arena_traits.specs.ArenaState.{ArenaState, arena_len, capacity
 use Rattle.triple_arena_traits.specs.SlotSteps.{IsTouched}
 use Rattle.triple_arena_traits.specs.Ending.{removed, invalidated}
 use Rattle.triple_arena_traits.specs.FreeList.{tidied, laid_out}
-use Rattle.triple_arena_traits.specs.Capacity.{with_room_for, reallocated, ready_for, grown}
+use Rattle.triple_arena_traits.specs.Reallocation.{with_room_for, reallocated, ready_for, grown}
 use Rattle.triple_arena_traits.specs.Compression.{compressed, rank}
 use Rattle.triple_arena_traits.specs.Walks.{keys, values}
 use Rattle.triple_arena_traits.specs.Cloning.{counter_of}

@@ -7,7 +7,7 @@ ghost use Rattle.triple_arena_traits.specs.ArenaState.{slot_count, capacity, are
 ghost use Rattle.triple_arena_traits.specs.Entries.{entry_count};
 ghost use Rattle.triple_arena_traits.specs.FreeList.{tidied, laid_out, last_index};
 ghost use Rattle.triple_arena_traits.specs.SlotSteps.{IsTouched};
-ghost use Rattle.triple_arena_traits.specs.Capacity.{reallocated, ready_for};
+ghost use Rattle.triple_arena_traits.specs.Reallocation.{reallocated, ready_for};
 ghost use Rattle.triple_arena_traits.specs.Walks.{entries, keys};
 ghost use Rattle.triple_arena_traits.specs.Copying.{Copies};
 ghost use Rattle.triple_arena_traits.specs.Cloning.{counter_of};

@@ -17,7 +17,7 @@ impl<P: Ptr, T, S: NonZeroInxGenericStack<DirectSlot<P, T>>> CompactArenaTrait<P
     ghost use Rattle.std.proofs.Common.{ap};
     ghost use Rattle.triple_arena_traits.specs.laws.CompressionLaws.{ranks};
     ghost use Rattle.triple_arena_direct_arena.specs.DirectState.{direct_capacity};
-    ghost use Rattle.triple_arena_direct_arena.specs.laws.CompressionLaws.{keys-compressed, values-compressed, compressed-with_value, with_value-same};
+    ghost use Rattle.triple_arena_direct_arena.specs.laws.DirectCompressionLaws.{keys-compressed, values-compressed, compressed-with_value, with_value-same};
 
     // the entries have these values, in their order, from index 1 on, each under its generation
     ghost compresses = { λ old _ values new. new ≡ direct_compressed old values };

@@ -22,7 +22,7 @@ use triple_arena_traits::{ArenaCloneFromWith, ArenaTrait, CompactArenaTrait};
 
 impl<P: Ptr, T, S: NonZeroInxGenericStack<DirectSlot<P, T>>> ArenaCloneFromWith<P, T>
     for DirectArena<P, T, S> {
-    ghost use Rattle.triple_arena_direct_arena.specs.laws.CloningLaws.{kept-cloned, limit-cloned, capacity-cloned};
+    ghost use Rattle.triple_arena_direct_arena.specs.laws.DirectCloningLaws.{kept-cloned, limit-cloned, capacity-cloned};
 
     // the slots of the copy stand, in room for the last index; there is no counter
     ghost clones = { λ old last _ copy new. new ≡ direct_with_slots (direct_ready_for S.kind old last) copy };

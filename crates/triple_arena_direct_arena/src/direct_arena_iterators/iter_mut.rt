@@ -6,7 +6,7 @@ ghost use Rattle.std.specs.Iterator.{YieldsFirstBy, item_count};
 ghost use Rattle.triple_arena_direct_arena.specs.DirectState.{direct_len};
 ghost use Rattle.triple_arena_traits.specs.Walks.{entries, values};
 ghost use Rattle.triple_arena_traits.specs.Lent.{lent_rest, lent_name, lends_values};
-ghost use Rattle.triple_arena_direct_arena.specs.Values.{direct_with_values_of, DirectKeepsPointers};
+ghost use Rattle.triple_arena_direct_arena.specs.DirectValues.{direct_with_values_of, DirectKeepsPointers};
 
 use crate::direct_arena::DirectArena;
 use crate::slot::DirectSlot;
@@ -36,7 +36,7 @@ impl<'a, P: Ptr, T> Model for IterMut<'a, P, T> {
     ghost use Rattle.triple_arena_ptr.specs.Numbers.{greatest_index};
     ghost use Rattle.triple_arena_ptr.specs.Pointers.{Pointer};
     ghost use Rattle.triple_arena_traits.specs.Walks.{entries_from};
-    ghost use Rattle.triple_arena_direct_arena.specs.Slot.{direct_slot_entry};
+    ghost use Rattle.triple_arena_direct_arena.specs.DirectSlot.{direct_slot_entry};
 
     ghost Value = { List (Pointer × T) × GName };
 

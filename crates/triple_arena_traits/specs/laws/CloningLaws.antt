@@ -7,7 +7,7 @@ use Rattle.triple_arena_traits.specs.ArenaState.{ArenaState, capacity}
 use Rattle.triple_arena_traits.specs.Entries.{entry_in, KeepsEntries}
 use Rattle.triple_arena_traits.specs.FreeList.{laid_out}
 use Rattle.triple_arena_traits.specs.Cloning.{Clonable, end_of, counter_of, CloneTurn}
-use Rattle.triple_arena_traits.specs.Capacity.{ready_for, reallocated}
+use Rattle.triple_arena_traits.specs.Reallocation.{ready_for, reallocated}
 
 module _ {T : Type 0} (kind : StackKind) where
   -- where there is a place for so many, the arena is ready as it is

@@ -14,7 +14,7 @@ use Rattle.triple_arena_traits.specs.ArenaState.{ArenaState, capacity, slot_coun
 use Rattle.triple_arena_traits.specs.Insertion.{place_among, place, next_pointer, inserted_among, inserted}
 use Rattle.triple_arena_traits.specs.Ending.{removed, invalidated, cleared}
 use Rattle.triple_arena_traits.specs.FreeList.{put_before, trimmed, tidied, without_free_end}
-use Rattle.triple_arena_traits.specs.Capacity.{with_room_for, reallocated, grown}
+use Rattle.triple_arena_traits.specs.Reallocation.{with_room_for, reallocated, grown}
 
 -- the count of an index in a list that begins with it
 pub count_head : (i : ℕ) (rest : List ℕ) → count_by (λ j. j == i) (i ∷ rest) ≡ 1 + count_by (λ j. j == i) rest

@@ -12,7 +12,7 @@ use Rattle.triple_arena_traits.specs.Insertion.{place, next_pointer, inserted}
 use Rattle.triple_arena_traits.specs.SlotSteps.{IsTouched}
 use Rattle.triple_arena_traits.specs.Ending.{removed, invalidated, cleared}
 use Rattle.triple_arena_traits.specs.FreeList.{tidied}
-use Rattle.triple_arena_traits.specs.Capacity.{with_limit, grown}
+use Rattle.triple_arena_traits.specs.Reallocation.{with_limit, grown}
 use Rattle.triple_arena_traits.specs.laws.EntryLaws.{by_case, changes_at, slots-removed, slots-invalidated, slots-cleared, slots-inserted, slots-tidied, slots-grown}
 use Rattle.triple_arena_traits.specs.laws.ValueLaws.{keeps_pointers}
 use Rattle.triple_arena_traits.specs.laws.WellFormedLaws.{kept-inserted, place_free, counter-removed, live_item, live_counted}

@@ -12,7 +12,7 @@ use Rattle.triple_arena_traits.specs.ArenaState.{ArenaState, arena_len, capacity
 use Rattle.triple_arena_traits.specs.Insertion.{inserted_among, inserted}
 use Rattle.triple_arena_traits.specs.Ending.{removed, invalidated}
 use Rattle.triple_arena_traits.specs.FreeList.{put_before, trimmed, tidied, without_free_end}
-use Rattle.triple_arena_traits.specs.Capacity.{reallocated, grown}
+use Rattle.triple_arena_traits.specs.Reallocation.{reallocated, grown}
 use Rattle.triple_arena_traits.specs.laws.EntryLaws.{by_case, first_free}
 
 module _ {T : Type 0} where

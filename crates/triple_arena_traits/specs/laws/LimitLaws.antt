@@ -5,7 +5,7 @@ use Rattle.triple_arena_traits.specs.Items.{item}
 use Rattle.triple_arena_traits.specs.Entries.{entry_in}
 use Rattle.triple_arena_traits.specs.ArenaState.{ArenaState, capacity, slot_count, is_free, IsWellFormed}
 use Rattle.triple_arena_traits.specs.FreeList.{trimmed, tidied}
-use Rattle.triple_arena_traits.specs.Capacity.{EndsBy, ready_for_limit, with_limit}
+use Rattle.triple_arena_traits.specs.Reallocation.{EndsBy, ready_for_limit, with_limit}
 use Rattle.triple_arena_traits.specs.laws.ItemLaws.{joined, item_past}
 use Rattle.triple_arena_traits.specs.laws.FreeListLaws.{trimmed_length, IsTidied-tidied}
 

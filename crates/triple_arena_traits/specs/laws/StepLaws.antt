@@ -10,7 +10,7 @@ use Rattle.triple_arena_traits.specs.Entries.{with_generation_in}
 use Rattle.triple_arena_traits.specs.ArenaState.{ArenaState, slot_count, capacity, entry, with_value, is_free, IsWellFormed}
 use Rattle.triple_arena_traits.specs.Ending.{removed, invalidated, cleared}
 use Rattle.triple_arena_traits.specs.FreeList.{trimmed, tidied, laid_out}
-use Rattle.triple_arena_traits.specs.Capacity.{EndsBy, reallocated, with_limit}
+use Rattle.triple_arena_traits.specs.Reallocation.{EndsBy, reallocated, with_limit}
 use Rattle.triple_arena_traits.specs.laws.EntryLaws.{within_room}
 use Rattle.triple_arena_traits.specs.laws.LengthLaws.{live_slot}
 use Rattle.triple_arena_traits.specs.laws.WellFormedLaws.{IsWellFormed-with_entry, IsWellFormed-counter, IsWellFormed-removed, IsWellFormed-empty}

@@ -1,4 +1,4 @@
-use Rattle.triple_arena_commands.specs.laws.StrictLaws.{ExhaustedExactly, StrictIsStores, StrictCounts, StrictIsQuiet}
+use Rattle.triple_arena_commands.specs.laws.StrictStoreLaws.{ExhaustedExactly, StrictIsStores, StrictCounts, StrictIsQuiet}
 use Rattle.triple_arena_commands.proofs.laws.strict_store_is_exact.Goals as goal
 
 pub returns-clause-exhausted : goal.returns-clause-exhausted

@@ -1,5 +1,5 @@
 use Rattle.triple_arena_direct.specs.laws.GoneLaws.{up_to-fits, gone-continues, gone-below}
-use Rattle.triple_arena_direct.specs.laws.StrictLaws.{Continues-strict_counting, Continues-strict_steps}
+use Rattle.triple_arena_direct.specs.laws.StrictAnswerLaws.{Continues-strict_counting, Continues-strict_steps}
 use Rattle.triple_arena_direct.proofs.strict_laws.strict_calls_are_fresh.Goals as goal
 
 pub returns-clause-call : goal.returns-clause-call

@@ -2,7 +2,7 @@
 
 ghost use Rattle.std.specs.Prelude.{◌≡◌, IfOk, OnOk, OnErr};
 ghost use Rattle.triple_arena_traits.specs.Insertion.{next_pointer};
-ghost use Rattle.triple_arena_traits.specs.Capacity.{grown};
+ghost use Rattle.triple_arena_traits.specs.Reallocation.{grown};
 
 use std::alloc::Global;
 use triple_arena::{Arena, ArenaInsertEntryTrait, ArenaSlot};

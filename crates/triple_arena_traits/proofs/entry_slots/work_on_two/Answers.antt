@@ -1,7 +1,7 @@
 use Rattle.std.proofs.Common.{◌∙◌, length, map, ap, arith}
 use Rattle.std.proofs.lemmas.List.{length-map}
 use Rattle.std.specs.Int.NonZero.{non_zero_usize_get}
-use Rattle.triple_arena_traits.specs.Disjoint.{value_of}
+use Rattle.triple_arena_traits.specs.DisjointEntries.{value_of}
 use Rattle.triple_arena_traits.specs.laws.WalkLaws.{live_within}
 use Rattle.triple_arena_traits.proofs.Pairs.{item_lent, both_lent, writes_two, may_work_at}
 use Rattle.triple_arena_traits.proofs.SlotEntries.{entry_item, live_slot}

@@ -6,7 +6,7 @@ use Rattle.triple_arena_stack.specs.StackKind.{IsOfKind}
 use Rattle.triple_arena_traits.specs.ArenaState.{arena_len, capacity, IsWellFormed}
 use Rattle.triple_arena_traits.specs.laws.ItemLaws.{eq_true}
 use Rattle.triple_arena_slots.specs.Layout.{Shows}
-use Rattle.triple_arena_traits.specs.Capacity.{with_room_for}
+use Rattle.triple_arena_traits.specs.Reallocation.{with_room_for}
 use Rattle.triple_arena_traits.proofs.Growth.{on_ok, grown_more, never_beyond}
 use Rattle.triple_arena.proofs.base_arena.Arena.grow_if_full.Goals as goal
 

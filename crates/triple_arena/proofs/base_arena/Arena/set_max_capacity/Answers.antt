@@ -1,6 +1,6 @@
 use Rattle.std.proofs.Common.{◌↔◌, ◌≤◌, IsOk, Some, refl, subst}
 use Rattle.triple_arena_traits.specs.ArenaState.{ArenaState, slot_count}
-use Rattle.triple_arena_traits.specs.Capacity.{ready_for_limit}
+use Rattle.triple_arena_traits.specs.Reallocation.{ready_for_limit}
 use Rattle.triple_arena_traits.specs.laws.LimitLaws.{ready_ends}
 use Rattle.triple_arena_traits.proofs.Growth.{on_ok}
 use Rattle.triple_arena.proofs.Touched.{touched_same, touched_through, refused_touched, limited_goes_on}

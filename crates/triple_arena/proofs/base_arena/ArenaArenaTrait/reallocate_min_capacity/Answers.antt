@@ -1,6 +1,6 @@
 use Rattle.triple_arena_slots.proofs.Resizing.{below_above}
 use Rattle.triple_arena_traits.proofs.Growth.{on_ok}
-use Rattle.triple_arena_traits.specs.Capacity.{with_room_for}
+use Rattle.triple_arena_traits.specs.Reallocation.{with_room_for}
 use Rattle.triple_arena_traits.specs.ArenaState.{ArenaState}
 use Rattle.triple_arena_traits.specs.FreeList.{tidied}
 use Rattle.triple_arena_traits.specs.SlotSteps.{IsTouched}

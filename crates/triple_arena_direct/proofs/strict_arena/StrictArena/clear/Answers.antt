@@ -1,7 +1,7 @@
 use Rattle.std.proofs.Common.{refl, sym, ap, ◌∙◌}
 use Rattle.triple_arena_traits.specs.Histories.{clearing}
 use Rattle.triple_arena_traits.specs.Walks.{keys}
-use Rattle.triple_arena_direct.specs.Strict.{is_exhausted_for_any}
+use Rattle.triple_arena_direct.specs.StrictAnswers.{is_exhausted_for_any}
 use Rattle.triple_arena_direct.proofs.StrictAnswers.{all_gone}
 use Rattle.triple_arena_direct.proofs.strict_arena.StrictArena.clear.Goals as goal
 

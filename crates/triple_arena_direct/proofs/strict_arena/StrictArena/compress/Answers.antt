@@ -4,7 +4,7 @@ use Rattle.triple_arena_traits.specs.laws.CompressionLaws.{length-values}
 use Rattle.triple_arena_traits.specs.Walks.{keys, values}
 use Rattle.triple_arena_traits.specs.Histories.{compression}
 use Rattle.triple_arena_direct.specs.laws.GoneLaws.{up_to-continues, gone-continues}
-use Rattle.triple_arena_direct.specs.Strict.{is_exhausted_for_any}
+use Rattle.triple_arena_direct.specs.StrictAnswers.{is_exhausted_for_any}
 use Rattle.triple_arena_direct.proofs.StrictAnswers.{step_refused, step_done, all_gone}
 use Rattle.triple_arena_direct.proofs.strict_arena.StrictArena.compress.Goals as goal
 

@@ -1,7 +1,7 @@
-use Rattle.triple_arena_traits.specs.Capacity.{grown}
+use Rattle.triple_arena_traits.specs.Reallocation.{grown}
 use Rattle.triple_arena_traits.specs.Histories.{insertion}
 use Rattle.triple_arena_direct.specs.laws.GoneLaws.{up_to-continues, gone-continues}
-use Rattle.triple_arena_direct.specs.Strict.{calls_if_ok}
+use Rattle.triple_arena_direct.specs.StrictAnswers.{calls_if_ok}
 use Rattle.triple_arena_direct.proofs.StrictAnswers.{counted_inserted, counted_place, few_inserted, inserted_history, step_inserted}
 use Rattle.triple_arena_direct.proofs.strict_arena.StrictArena.insert.Goals as goal
 

@@ -1,6 +1,6 @@
 use Rattle.triple_arena_traits.specs.Histories.{insertion}
 use Rattle.triple_arena_direct.specs.laws.GoneLaws.{up_to-continues, gone-continues}
-use Rattle.triple_arena_direct.specs.Strict.{calls_if_ok}
+use Rattle.triple_arena_direct.specs.StrictAnswers.{calls_if_ok}
 use Rattle.triple_arena_direct.proofs.StrictAnswers.{counted_inserted, inserted_history, step_inserted, grown_inserted}
 use Rattle.triple_arena_direct.proofs.strict_arena.StrictArena.insert_within_capacity.Goals as goal
 

@@ -3,7 +3,7 @@ use Rattle.std.specs.Option.{ok_or}
 use Rattle.triple_arena_traits.specs.Entries.{look_up}
 use Rattle.triple_arena_traits.specs.ArenaState.{ArenaState}
 use Rattle.triple_arena_direct.specs.declared.errors.StrictError.TheVariants.{InvalidPtr}
-use Rattle.triple_arena_direct.specs.Strict.{is_exhausted}
+use Rattle.triple_arena_direct.specs.StrictAnswers.{is_exhausted}
 use Rattle.triple_arena_direct.proofs.StrictAnswers.{removed_history}
 use Rattle.triple_arena_direct.proofs.strict_arena.StrictArena.remove.Goals as goal
 

@@ -1,7 +1,7 @@
 use Rattle.std.proofs.Common.{◌∙◌, ◌≤◌, length, map, refl, ap, arith}
 use Rattle.std.proofs.lemmas.List.{length-map}
 use Rattle.triple_arena_direct_arena.specs.DirectState.{direct_capacity, direct_with_slots}
-use Rattle.triple_arena_direct_arena.specs.Slot.{direct_slot_entry}
+use Rattle.triple_arena_direct_arena.specs.DirectSlot.{direct_slot_entry}
 use Rattle.triple_arena_direct_arena.proofs.Held.{made, Counts-slots}
 use Rattle.triple_arena_direct_arena.proofs.direct_arena.DirectArena.hold_copies.Goals as goal
 

@@ -65,11 +65,11 @@ use Rattle.std.specs.Borrow.{Array}
 use Rattle.std.specs.List.{refill}
 use Rattle.triple_arena_ptr.specs.Numbers.{greatest_index}
 use Rattle.triple_arena_direct_arena.specs.DirectState.{DirectState}
-use Rattle.triple_arena_direct_arena.specs.Slot.{direct_slot_entry, direct_with_slot_value}
-use Rattle.triple_arena_direct_arena.specs.laws.SlotLaws.{with_own_slot_value}
-use Rattle.triple_arena_direct_arena.specs.Values.{direct_with_values_of}
+use Rattle.triple_arena_direct_arena.specs.DirectSlot.{direct_slot_entry, direct_with_slot_value}
+use Rattle.triple_arena_direct_arena.specs.laws.DirectSlotLaws.{with_own_slot_value}
+use Rattle.triple_arena_direct_arena.specs.DirectValues.{direct_with_values_of}
 use Rattle.triple_arena_traits.specs.Kept.{filled_all, Kept}
-use Rattle.triple_arena_direct_arena.specs.Lends.{direct_refilled}
+use Rattle.triple_arena_direct_arena.specs.DirectLends.{direct_refilled}
 use Rattle.triple_arena_traits.proofs.KeptSlots.{filled-own, length-filled, refilled}
 use Rattle.triple_arena_direct_arena.proofs.Keeping.{kept_within}
 use Rattle.triple_arena_direct_arena.specs.declared.slot.DirectSlot.{DirectSlot}

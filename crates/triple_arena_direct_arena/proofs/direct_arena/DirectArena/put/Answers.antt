@@ -3,7 +3,7 @@ use Rattle.std.specs.Int.NonZero.{non_zero_usize_get}
 use Rattle.triple_arena_traits.specs.Items.{with_item}
 use Rattle.triple_arena_traits.specs.FreeEnd.{extended}
 use Rattle.triple_arena_direct_arena.specs.DirectState.{inserted_at}
-use Rattle.triple_arena_direct_arena.specs.Layout.{Counts}
+use Rattle.triple_arena_direct_arena.specs.DirectLayout.{Counts}
 use Rattle.triple_arena_direct_arena.proofs.Held.{made, Counts-inserted_at, counted_within}
 use Rattle.triple_arena_direct_arena.proofs.direct_arena.DirectArena.put.Goals as goal
 

@@ -1,7 +1,7 @@
 use Rattle.std.proofs.Common.{◌∙◌, ap, subst}
 use Rattle.triple_arena_traits.specs.FreeEnd.{shortened}
 use Rattle.triple_arena_direct_arena.specs.DirectState.{direct_shortened}
-use Rattle.triple_arena_direct_arena.specs.Layout.{Counts}
+use Rattle.triple_arena_direct_arena.specs.DirectLayout.{Counts}
 use Rattle.triple_arena_direct_arena.proofs.Held.{made, Counts-settled}
 use Rattle.triple_arena_direct_arena.proofs.direct_arena.DirectArena.shorten.Goals as goal
 

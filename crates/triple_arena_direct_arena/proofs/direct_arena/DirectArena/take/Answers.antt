@@ -2,8 +2,8 @@ use Rattle.std.proofs.Common.{◌∙◌, None, ap, subst, arith}
 use Rattle.std.specs.Int.NonZero.{non_zero_usize_get}
 use Rattle.triple_arena_traits.specs.Items.{with_item}
 use Rattle.triple_arena_direct_arena.specs.DirectState.{direct_removed, direct_len}
-use Rattle.triple_arena_direct_arena.specs.laws.StepLaws.{len_taken}
-use Rattle.triple_arena_direct_arena.specs.Layout.{Counts}
+use Rattle.triple_arena_direct_arena.specs.laws.DirectStepLaws.{len_taken}
+use Rattle.triple_arena_direct_arena.specs.DirectLayout.{Counts}
 use Rattle.triple_arena_direct_arena.proofs.Held.{made, Counts-removed}
 use Rattle.triple_arena_direct_arena.proofs.direct_arena.DirectArena.take.Goals as goal
 

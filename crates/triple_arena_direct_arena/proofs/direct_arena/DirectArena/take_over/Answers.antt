@@ -2,7 +2,7 @@ use Rattle.std.proofs.Common.{◌∙◌, ◌≤◌, length, map, refl, sym, ap, 
 use Rattle.std.proofs.lemmas.List.{length-map}
 use Rattle.triple_arena_traits.proofs.TransferLemmas.{closed_up_slots}
 use Rattle.triple_arena_direct_arena.specs.DirectState.{direct_len, direct_capacity, direct_with_slots}
-use Rattle.triple_arena_direct_arena.specs.Slot.{direct_slot_entry}
+use Rattle.triple_arena_direct_arena.specs.DirectSlot.{direct_slot_entry}
 use Rattle.triple_arena_direct_arena.proofs.Held.{made, Counts-slots}
 use Rattle.triple_arena_direct_arena.proofs.direct_arena.DirectArena.take_over.Goals as goal
 

@@ -2,7 +2,7 @@ use Rattle.std.proofs.Common.{◌∙◌, refl, ap, subst}
 use Rattle.std.specs.Int.NonZero.{non_zero_usize_get}
 use Rattle.triple_arena_traits.specs.Entries.{with_value_in}
 use Rattle.triple_arena_direct_arena.specs.DirectState.{direct_with_value}
-use Rattle.triple_arena_direct_arena.specs.Layout.{Counts}
+use Rattle.triple_arena_direct_arena.specs.DirectLayout.{Counts}
 use Rattle.triple_arena_direct_arena.proofs.Held.{made, both_written, Counts-with_value, entry_value_read}
 use Rattle.triple_arena_direct_arena.proofs.direct_arena.DirectArena.work_on_two.Goals as goal
 

@@ -5,8 +5,8 @@ use Rattle.triple_arena_traits.specs.Entries.{entry_in}
 use Rattle.triple_arena_traits.specs.laws.ItemLaws.{item-map, map-with_item}
 use Rattle.triple_arena_traits.proofs.Present.{some_mapped}
 use Rattle.triple_arena_traits.specs.FreeEnd.{extended}
-use Rattle.triple_arena_direct_arena.specs.laws.InsertionLaws.{entry-extended, slot-extended}
-use Rattle.triple_arena_direct_arena.specs.Slot.{direct_slot_entry}
+use Rattle.triple_arena_direct_arena.specs.laws.DirectInsertionLaws.{entry-extended, slot-extended}
+use Rattle.triple_arena_direct_arena.specs.DirectSlot.{direct_slot_entry}
 use Rattle.triple_arena_traits.proofs.SlotEntries.{entry_item}
 use Rattle.triple_arena_direct_arena.proofs.slots.Slots.occupy.Goals as goal
 

@@ -1,7 +1,7 @@
 use Rattle.std.proofs.Common.{◌∙◌}
 use Rattle.std.specs.Int.NonZero.{non_zero_usize_get}
 use Rattle.triple_arena_traits.specs.laws.ItemLaws.{map-with_item}
-use Rattle.triple_arena_direct_arena.specs.Slot.{direct_slot_entry}
+use Rattle.triple_arena_direct_arena.specs.DirectSlot.{direct_slot_entry}
 use Rattle.triple_arena_direct_arena.specs.declared.slot.DirectSlot.TheVariants.{Free}
 use Rattle.triple_arena_traits.proofs.SlotEntries.{entry_item, item_live}
 use Rattle.triple_arena_direct_arena.proofs.slots.Slots.vacate.Goals as goal

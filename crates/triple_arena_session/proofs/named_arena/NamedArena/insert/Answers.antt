@@ -3,7 +3,7 @@ use Rattle.std.specs.Option.{option_map}
 use Rattle.triple_arena_base.specs.declared.errors.ReallocationError.TheVariants as refused
 use Rattle.triple_arena_traits.specs.ArenaState.{map_values}
 use Rattle.triple_arena_traits.specs.Insertion.{inserted, next_pointer}
-use Rattle.triple_arena_traits.specs.Capacity.{grown}
+use Rattle.triple_arena_traits.specs.Reallocation.{grown}
 use Rattle.triple_arena_session.specs.declared.node.Node.{Node}
 use Rattle.triple_arena_session.specs.SessionState.{node_of, link_pointer}
 use Rattle.triple_arena_session.specs.SessionRun.{refusal, insert_answer, insert_unless}

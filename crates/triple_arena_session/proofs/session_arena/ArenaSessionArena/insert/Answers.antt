@@ -1,6 +1,6 @@
 use Rattle.std.proofs.Common.{ap, ◌∙◌}
 use Rattle.triple_arena_traits.specs.Insertion.{inserted}
-use Rattle.triple_arena_traits.specs.Capacity.{grown}
+use Rattle.triple_arena_traits.specs.Reallocation.{grown}
 use Rattle.triple_arena_session.specs.SessionLayout.{uncounted}
 use Rattle.triple_arena_session.proofs.Uncounted.{uncounted-counted, uncounted-inserted, uncounted-grown_inserted}
 use Rattle.triple_arena_session.proofs.session_arena.ArenaSessionArena.insert.Goals as goal

@@ -1,6 +1,6 @@
 use Rattle.std.proofs.Common.{refl}
 use Rattle.triple_arena_traits.specs.FreeList.{tidied}
-use Rattle.triple_arena_traits.specs.Capacity.{reallocated}
+use Rattle.triple_arena_traits.specs.Reallocation.{reallocated}
 use Rattle.triple_arena_session.proofs.Uncounted.{uncounted-done, uncounted-refused}
 use Rattle.triple_arena_session.proofs.session_arena.ArenaSessionArena.reallocate_min_capacity.Goals as goal
 

@@ -69,7 +69,7 @@ use Rattle.std.proofs.VecSteps.Shapes.{after as after_body}
 use Rattle.std.proofs.Common.{Option, Some, None}
 use Rattle.std.specs.Option.{option_map, option_copied_mut}
 use Rattle.std.specs.contracts.option.Option as O-type
-use Rattle.triple_arena_traits.specs.Disjoint.{value_of}
+use Rattle.triple_arena_traits.specs.DisjointEntries.{value_of}
 use Rattle.triple_arena_traits.specs.Kept.{kept, kept_all, Kept, kept_at}
 use Rattle.triple_arena_traits.proofs.Listing.{first_of}
 use Rattle.triple_arena_traits.proofs.KeptSlots.{kept-self, filled-own, kept-written}

@@ -1,7 +1,7 @@
 use Rattle.std.proofs.Common.{◌≡◌, ◌<◌, ◌≤◌, ap, sym, subst, arith, true≢false}
 use Rattle.triple_arena_stack.specs.Capacity.{IsWithin}
 use Rattle.triple_arena_traits.specs.ArenaState.{ArenaState, capacity}
-use Rattle.triple_arena_traits.specs.Capacity.{reallocated}
+use Rattle.triple_arena_traits.specs.Reallocation.{reallocated}
 use Rattle.triple_arena_traits.specs.Cloning.{IsCloneAnswer}
 use Rattle.triple_arena_traits.specs.Entries.{entry_in}
 use Rattle.triple_arena.specs.laws.TouchedLaws.{tidied_slots}

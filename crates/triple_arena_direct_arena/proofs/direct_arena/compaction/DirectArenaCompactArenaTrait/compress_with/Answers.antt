@@ -2,9 +2,9 @@ use Rattle.std.proofs.Common.{◌∙◌, ap, subst, map, arith}
 use Rattle.std.proofs.lemmas.List.{length-map}
 use Rattle.triple_arena_traits.specs.laws.MoveLaws.{count-moved}
 use Rattle.triple_arena_direct_arena.specs.DirectState.{direct_compressed, direct_capacity}
-use Rattle.triple_arena_direct_arena.specs.laws.CompressionLaws.{keys-compressed}
-use Rattle.triple_arena_direct_arena.specs.Slot.{direct_slot_entry}
-use Rattle.triple_arena_direct_arena.specs.Layout.{Counts}
+use Rattle.triple_arena_direct_arena.specs.laws.DirectCompressionLaws.{keys-compressed}
+use Rattle.triple_arena_direct_arena.specs.DirectSlot.{direct_slot_entry}
+use Rattle.triple_arena_direct_arena.specs.DirectLayout.{Counts}
 use Rattle.triple_arena_direct_arena.proofs.Held.{made}
 use Rattle.triple_arena_direct_arena.proofs.Compaction.{closed_state, Counts-compressed, len-compressed}
 use Rattle.triple_arena_direct_arena.proofs.direct_arena.compaction.DirectArenaCompactArenaTrait.compress_with.Goals as goal

@@ -7,7 +7,7 @@ use Rattle.triple_arena_traits.specs.Entries.{entry_in}
 use Rattle.triple_arena_traits.proofs.CopyLemmas.{kept_end, copy_ends, copy_same_end, on_copies, no_answer}
 use Rattle.triple_arena_traits.specs.laws.FreeListLaws.{trimmed_length}
 use Rattle.triple_arena_direct_arena.specs.DirectState.{DirectState, direct_capacity, direct_reallocated, direct_ready_for, direct_shortened, direct_with_slots}
-use Rattle.triple_arena_direct_arena.specs.laws.StepLaws.{slots-tidied}
+use Rattle.triple_arena_direct_arena.specs.laws.DirectStepLaws.{slots-tidied}
 use Rattle.triple_arena_direct_arena.proofs.direct_arena.copies.DirectArenaArenaCloneFromWith.clone_from_with.Goals as goal
 
 pub returns-in-Err-clause-cloned : goal.returns-in-Err-clause-cloned

@@ -2,7 +2,7 @@ use Rattle.std.proofs.Common.{◌≡◌, length, ◌+◌, ◌≤◌, map}
 use Rattle.std.specs.Int.NonZero.{non_zero_usize_get}
 use Rattle.triple_arena_ptr.specs.Numbers.{greatest_index}
 use Rattle.triple_arena_traits.specs.Walks.{entries_from}
-use Rattle.triple_arena_direct_arena.specs.Slot.{direct_slot_entry}
+use Rattle.triple_arena_direct_arena.specs.DirectSlot.{direct_slot_entry}
 use Rattle.triple_arena_direct_arena.proofs.direct_arena_iterators.iter_mut.IterMutIterator.next.Given as goal
 
 abbrev pub invariant-slots : goal.invariant-slots

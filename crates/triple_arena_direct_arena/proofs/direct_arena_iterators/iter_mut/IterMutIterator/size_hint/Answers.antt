@@ -1,6 +1,6 @@
 use Rattle.std.proofs.Common.{arith}
 use Rattle.std.specs.Int.NonZero.{non_zero_usize_get}
-use Rattle.triple_arena_direct_arena.specs.Slot.{direct_slot_entry}
+use Rattle.triple_arena_direct_arena.specs.DirectSlot.{direct_slot_entry}
 use Rattle.triple_arena_traits.proofs.Listing.{entries_within}
 use Rattle.triple_arena_direct_arena.proofs.direct_arena_iterators.iter_mut.IterMutIterator.size_hint.Goals as goal
 

@@ -4,7 +4,7 @@ use Rattle.std.proofs.lemmas.Option.{same_Some}
 use Rattle.std.specs.Option.{option_map}
 use Rattle.triple_arena_direct_arena.specs.declared.slot.DirectSlot.{DirectSlot}
 use Rattle.triple_arena_direct_arena.specs.declared.slot.DirectSlot.TheVariants.{Free, Allocated}
-use Rattle.triple_arena_direct_arena.specs.Slot.{direct_slot_entry, direct_with_slot_value}
+use Rattle.triple_arena_direct_arena.specs.DirectSlot.{direct_slot_entry, direct_with_slot_value}
 
 module _ {P T I G : Type 0} (number : G → ℕ) where
   pub slot_entry-written : (slot : DirectSlot P T I G) (value : T) → direct_slot_entry number (direct_with_slot_value slot value) ≡ option_map (λ (e : ℕ × T). (e.0, value)) (direct_slot_entry number slot)

@@ -5,11 +5,11 @@ use Rattle.triple_arena_traits.specs.ArenaState.{ArenaState, IsWellFormed}
 use Rattle.triple_arena_traits.specs.Insertion.{next_pointer, inserted}
 use Rattle.triple_arena_traits.specs.SlotSteps.{IsTouched}
 use Rattle.triple_arena_traits.specs.FreeList.{tidied}
-use Rattle.triple_arena_traits.specs.Capacity.{grown, reallocated}
+use Rattle.triple_arena_traits.specs.Reallocation.{grown, reallocated}
 use Rattle.triple_arena_traits.specs.laws.EntryLaws.{slots-reallocated, next-grown, well_formed-grown}
 use Rattle.triple_arena_traits.specs.Histories.{ModelCall, insertion, resizing, is_live, Fits, Continues}
 use Rattle.triple_arena_traits.specs.laws.HistoryLaws.{Continues-touched, Continues-append, Continues-grown, Continues-inserted, Continues-written, Continues-removed, Continues-invalidated, Continues-cleared, Continues-compressed, Continues-resized, Continues-tidied}
-use Rattle.triple_arena_direct.specs.Strict.{is_exhausted, is_exhausted_for_any}
+use Rattle.triple_arena_direct.specs.StrictAnswers.{is_exhausted, is_exhausted_for_any}
 use Rattle.triple_arena_direct.specs.StrictCalls.{StrictCall, to_insert, to_write, to_remove, to_invalidate, to_clear, to_compress, to_reallocate, IsUnless, cannot_end, IsStrictStep, AreStrictSteps}
 
 not_refused : (live exhausted : Bool) → (not live || exhausted) ≡ false → (live ≡ true) × (exhausted ≡ false)

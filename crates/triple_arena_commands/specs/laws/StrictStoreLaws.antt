@@ -12,7 +12,7 @@ use Rattle.triple_arena_commands.specs.laws.RunLaws.{TellsOfNoWrap-nil, TellsOfN
 use Rattle.triple_arena_commands.specs.NameStore.{NameRow, Store, row_count, row, is_good_link, with_row, give_row, grown_store, store_refusal, insert_row_unless, get_row_reply, act_on_row, row_dangles, store_answer, IsStoreStep}
 use Rattle.triple_arena_commands.specs.StoreRuns.{is_named, is_no_memory, AnswersAsStore, ample, erase, seen}
 use Rattle.triple_arena_commands.specs.laws.UnseenLaws.{without_wrap-quiet, CompactionIsUnseen}
-use Rattle.triple_arena_commands.specs.Strict.{tells_exhausted, UnlessExhausted, StrictStore, used, is_spent, IsCountedStep, IsStrictStoreStep}
+use Rattle.triple_arena_commands.specs.StrictStore.{tells_exhausted, UnlessExhausted, StrictStore, used, is_spent, IsCountedStep, IsStrictStoreStep}
 
 module _ {S X : Type 0} (Step : Type 0) (reply : Reply X) (s t : S) where
   -- where the reply is another, the step was made

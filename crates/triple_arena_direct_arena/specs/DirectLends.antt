@@ -4,7 +4,7 @@ use Rattle.std.specs.Prelude.{ℕ, List, length}
 use Rattle.std.specs.Borrow.{Lends, Array, Fml, RattleType, MutBor}
 use Rattle.std.specs.List.{refill}
 use Rattle.triple_arena_traits.specs.Items.{item}
-use Rattle.triple_arena_direct_arena.specs.Layout.{direct_with_value_at}
+use Rattle.triple_arena_direct_arena.specs.DirectLayout.{direct_with_value_at}
 use Rattle.triple_arena_direct_arena.specs.declared.slot.DirectSlot.{DirectSlot}
 use Rattle.triple_arena_direct_arena.specs.declared.slots.Slots.{Slots}
 use Rattle.triple_arena_direct_arena.specs.contracts.slot.DirectSlot.{the_row as slot_row}

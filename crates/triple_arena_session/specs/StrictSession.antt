@@ -5,7 +5,7 @@ use Rattle.triple_arena_stack.specs.StackKind.{StackKind}
 use Rattle.triple_arena_traits.specs.ArenaState.{arena_len}
 use Rattle.triple_arena_commands.specs.declared.command.Command.{Command}
 use Rattle.triple_arena_commands.specs.declared.reply.Reply.{Reply}
-use Rattle.triple_arena_commands.specs.Strict.{raises, IsStrictly, StrictStore}
+use Rattle.triple_arena_commands.specs.StrictStore.{raises, IsStrictly, StrictStore}
 use Rattle.triple_arena_session.specs.SessionState.{SessionState, named}
 use Rattle.triple_arena_session.specs.SessionRun.{IsStep}
 use Rattle.triple_arena_session.specs.Shown.{shown}

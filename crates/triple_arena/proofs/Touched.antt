@@ -45,7 +45,7 @@ module _ {T : Type 0} where
         subst (λ k. IsTouched (removed raise s k) new) at (touched_through (λ t. removed raise t i) (λ t n m. steps-removed raise t n m i) (λ t. steps_of-removed t i) s seen new same is)
 
   module _ {A E : Type 0} where
-    -- a limit that is refused leaves the free list in order
+    -- a limit that is refused leaves the free list tidied
     pub refused_touched : (r : Result A E) (s ready new : ArenaState T) (x : ℕ) → slot_count s ≤ capacity s → (IsOk r ↔ (slot_count (ready_for_limit s x) ≤ x)) → IsTouched (ready_for_limit s x) ready → OnErr r (new ≡ ready) → OnErr r (IsTouched (tidied s) new)
     refused_touched (Ok a) s ready new x fit variant same left = left
     refused_touched (Err e) s ready new x fit variant same left =

@@ -53,8 +53,8 @@ use triple_arena_traits::{
 /// not count, a pointer names whatever stands at its index.
 ///
 /// Insertion takes a free index: the one that was freed last, or the least one where the free list
-/// was put in order since (`canonicalize_freelist`, `reallocate_min_capacity`, cloning). Where none
-/// is free it takes the one past the last slot. A removal in the last slot takes that slot away, and
+/// was tidied since (`canonicalize_freelist`, `reallocate_min_capacity`, cloning). Where none is
+/// free it takes the one past the last slot. A removal in the last slot takes that slot away, and
 /// frees no index.
 ///
 /// Insertion within the capacity, removal and invalidation touch at most 6 slots, `get` and `get_mut`
@@ -160,13 +160,13 @@ impl<P: Ptr, T, S: NonZeroInxGenericStack<ArenaSlot<P, T>>> ArenaTrait<P, T> for
     ghost clearing_wraps = { λ s. cond (arena_len s == 0) false
         (wraps P.Gen.counting P.Gen.greatest s.counter) };
 
-    // the free list is put in order, and then the room is changed as the stack's kind does it
+    // the free list is tidied, and then the room is changed as the stack's kind does it
     ghost reallocates = { λ old m new. IsTouched (reallocated S.kind old m) new };
 
-    // the free list is put in order
+    // the free list is tidied
     ghost tidies = { λ old _ new. IsTouched (tidied old) new };
 
-    // the room that the stack's kind makes of it, once the free list is in order, is the old one
+    // the room that the stack's kind makes of it, once the free list is tidied, is the old one
     ghost keeps_room = { KeepsRoom S.kind };
 
     // memory is there for the room that the stack's kind makes of it
@@ -509,8 +509,8 @@ impl<P: Ptr, T, S: NonZeroInxGenericStack<ArenaSlot<P, T>>> Arena<P, T, S> {
         told(wrapped, ())
     }
 
-    /// Gives up the free slots past the last entry, and puts the other free indexes in rising
-    /// order.
+    /// Tidies the free list: gives up the free slots past the last entry, and puts the other free
+    /// indexes in rising order.
     pub fn canonicalize_freelist(&mut self)
         ensures state { IsTouched (tidied self.old) self.new }
         ensures tidied { IsTidied self.old self.new }
@@ -770,11 +770,11 @@ impl<P: Ptr, T, S: SetMaxCapacity<ArenaSlot<P, T>>> Arena<P, T, S> {
     /// Sets the limit to `max_capacity`, a number of slots. It takes no memory, and the room stays:
     /// the capacity is then the smallest of room, limit and greatest index.
     ///
-    /// Where the new limit is below the old one and the capacity, first the free list is put in
-    /// order, as by `canonicalize_freelist`; that stays done where the limit is refused.
+    /// Where the new limit is below the old one and the capacity, first the free list is
+    /// tidied, as by `canonicalize_freelist`; that stays done where the limit is refused.
     ///
     /// Refused exactly where an entry stands at an index past `max_capacity`; then all stays but the
-    /// free list, which is in order, without the free slots past the last entry.
+    /// free list, which is tidied.
     pub fn set_max_capacity(&mut self, max_capacity: usize) -> Result<(), MaxCapacityReductionError>
         ensures variant { IsOk result ↔ EndsBy self.old max_capacity }
         ensures done { OnOk result (IsTouched (with_limit self.old max_capacity) self.new) }
@@ -785,7 +785,7 @@ impl<P: Ptr, T, S: SetMaxCapacity<ArenaSlot<P, T>>> Arena<P, T, S> {
         self.set_limit(max_capacity)
     }
 
-    // Puts the free list in order where the limit to come is below the capacity.
+    // Tidies the free list where the limit to come is below the capacity.
     fn make_ready_for_limit(&mut self, limit: usize)
         ensures state { IsTouched (ready_for_limit self.old limit) self.new }
         ensures fits { slot_count self.old ≤ capacity self.old }

@@ -14,7 +14,7 @@ pub enum Reply<X> {
     /// As many entries as the capacity are there, and nothing has changed.
     Full,
     /// The arena's limit is reached or would be passed, and nothing has changed, but that a
-    /// reservation has put the free list in order.
+    /// reservation has tidied the free list.
     BeyondMaxCapacity,
     /// There was no memory, or no index; entries, names, counter and capacity are as they were.
     NoMemory,

@@ -124,7 +124,7 @@ impl<P: Ptr, T, S: NonZeroInxGenericStack<ArenaSlot<P, T>>> StrictArena<P, T, S>
     }
 
     /// Changes the room so that there is place for `min_capacity` entries, and for the slots that are
-    /// in use. First the free list is put in order, and that stays done where the rest is refused.
+    /// in use. First the free list is tidied, and that stays done where the rest is refused.
     ///
     /// `AllocError` where `min_capacity` is past the greatest index; else `BeyondMaxCapacity` exactly
     /// where the limit is below it; else `AllocError` where memory is refused. Where the room stays the

@@ -31,17 +31,17 @@ pub const ALL_INSERTIONS: &[Named] = &[
     ),
 ];
 
-/// This state with the free list in order. A direct arena, which tells its counter as 0, has none.
+/// This state with the free list tidied. A direct arena, which tells its counter as 0, has none.
 pub fn tidied(state: State) -> State {
     if state.counter == 0 {
         state
     } else {
-        state.in_order()
+        state.tidied()
     }
 }
 
 // Makes a call, and once more where memory is refused, which leaves all as it was; of a
-// reallocation the free list is in order.
+// reallocation the free list is tidied.
 fn call_twice<A: TestedArena>(arena: &mut A, call: Call, expected: Told) -> Result<End, Wrong> {
     let before = arena.state();
     let told = arena.answer(call);
@@ -141,7 +141,7 @@ const IN_ORDER: &[(Call, Told)] = &[
     (Call::FirstFree, Told::Free([1, 3, 0])),
 ];
 
-/// Reallocations of an arena of seven places, whose free list is put in order.
+/// Reallocations of an arena of seven places, whose free list is tidied.
 pub fn reallocates<A: TestedArena>(arena: &mut A, limit: Option<usize>) -> Result<End, Wrong> {
     fill(arena, 7, &[1, 3, 7, 6, 5])?;
     let end = goes_up_and_down(arena, limit, IN_ORDER)?;
@@ -169,7 +169,7 @@ pub fn reallocates_direct<A: TestedArena>(arena: &mut A) -> Result<End, Wrong> {
 }
 
 /// Of five entries the first and then the third are removed, and a reallocation is refused: the
-/// capacity is still 8, and the free list is in order, so that the next insertion takes the first
+/// capacity is still 8, and the free list is tidied, so that the next insertion takes the first
 /// index. All else is as it was.
 pub fn worked<A: TestedArena>(arena: &mut A) -> Result<End, Wrong> {
     fill(arena, 5, &[1, 3])?;

@@ -120,7 +120,7 @@ fn cloned(before: State, count: usize, capacity: usize) -> State {
         entries,
         ..before
     }
-    .in_order()
+    .tidied()
 }
 
 // A direct arena has neither a counter nor a free list, and may keep free slots at its end.
@@ -205,7 +205,7 @@ fn end_of(refusal: Refusal) -> End {
 }
 
 // A clone, and once more where it is refused. It is as its original, which stays as it was, but
-// that the free list is in order.
+// that the free list is tidied.
 fn clones<A: ArenaCloneFromWith<P0, Costly> + CompactArenaTrait<P0, Costly> + Goal + Drop>(
     alloc: Global,
     source: &A,

@@ -183,8 +183,8 @@ pub fn seen<T: Asked>(session: &mut T) -> View {
     }
 }
 
-// A view once its free list is in order: rising, and without those past the last entry.
-fn in_order(before: View, last_index: usize) -> View {
+// A view once its free list is tidied: rising, and without those past the last entry.
+fn tidied(before: View, last_index: usize) -> View {
     let mut free = [0; SLOTS];
     let mut place = 0;
     for index in 1..=last_index {
@@ -217,14 +217,14 @@ fn word_of(line: &'static str) -> &'static str {
 }
 
 // A line and the text of its reply. Memory may be refused first, and then names, entries, length,
-// capacity, counter and free list are as they were; a reservation has put the last in order.
+// capacity, counter and free list are as they were; a reservation has tidied the last.
 pub fn answers<T: Asked>(session: &mut T, line: &'static str, text: &str) -> Result<End, Wrong> {
     let Some(command) = parse_command(line.as_bytes()) else {
         return Err(Wrong::Text(line));
     };
     let before = seen(session);
     let left = match command {
-        Command::Reserve(_) => in_order(before, session.last_index()),
+        Command::Reserve(_) => tidied(before, session.last_index()),
         _ => before,
     };
     let mut reply = session.answer(command);

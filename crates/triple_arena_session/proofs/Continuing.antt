@@ -36,7 +36,7 @@ use Rattle.triple_arena_commands.specs.ReplyText.{tells_of_wrap}
 use Rattle.triple_arena_commands.specs.Runs.{IsRun}
 use Rattle.triple_arena_session.specs.SessionState.{SessionState, named, link_pointer}
 use Rattle.triple_arena_session.specs.Compaction.{relinked, any_dangles, compacted}
-use Rattle.triple_arena_session.specs.SessionRun.{refusal, get_reply, show_reply, shown_text, act_under, act_on, set_answer, insert_within_answer, insert_unless, insert_answer, remove_under, invalidate_under, wraps_if_any, give, in_order, with_room_for_name, answer, WantsMemory, IsStep}
+use Rattle.triple_arena_session.specs.SessionRun.{refusal, get_reply, show_reply, shown_text, act_under, act_on, set_answer, insert_within_answer, insert_unless, insert_answer, remove_under, invalidate_under, wraps_if_any, give, with_tidied_arena, with_room_for_name, answer, WantsMemory, IsStep}
 use Rattle.triple_arena_session.specs.SessionCalls.{call_at, calls_of, calls_in, KeepsHistories}
 use Rattle.triple_arena_session.specs.Shown.{IsArenaOver}
 use Rattle.triple_arena_session.proofs.Rows.{entry_found}
@@ -198,9 +198,9 @@ module _ {X : Type 0} (kind : StackKind) (counting : Bool) (greatest : ℕ) wher
   same : (s : SessionState X) (command : Command X) (reply : Reply X) → IsArenaOver kind s.arena → calls_of s command reply ≡ [] → Goes s command (reply, s)
   same s command reply over none = goes_same kind counting s command reply s over refl none
 
-  -- the free list in order
-  in_order_goes : (s : SessionState X) (m : ℕ) (reply : Reply X) → IsArenaOver kind s.arena → Goes s (Reserve m) (reply, in_order s)
-  in_order_goes s m reply over =
+  -- the free list, tidied
+  tidied_goes : (s : SessionState X) (m : ℕ) (reply : Reply X) → IsArenaOver kind s.arena → Goes s (Reserve m) (reply, with_tidied_arena s)
+  tidied_goes s m reply over =
       record {
         over = over_tidied kind s.arena over;
         calls = λ up. Continues-resized s.arena (tidied s.arena) (slots-tidied s.arena (tidied s.arena) refl) refl;
@@ -287,14 +287,14 @@ module _ {X : Type 0} (kind : StackKind) (counting : Bool) (greatest : ℕ) wher
   goes text s Capacity over = same s Capacity (Count (capacity s.arena)) over refl
   goes text s (Reserve m) over = by (nat_le m s.arena.greatest) (is_within s.arena.limit m)
     where
-      by : (range within : Bool) → Goes s (Reserve m) (cond range (cond within (Done, record s { arena = reallocated kind s.arena m }) (BeyondMaxCapacity, in_order s)) (NoMemory, in_order s))
+      by : (range within : Bool) → Goes s (Reserve m) (cond range (cond within (Done, record s { arena = reallocated kind s.arena m }) (BeyondMaxCapacity, with_tidied_arena s)) (NoMemory, with_tidied_arena s))
       by true true =
           record {
             over = over_reallocated kind s.arena over m;
             calls = λ up. Continues-resized s.arena (reallocated kind s.arena m) (slots-tidied s.arena (tidied s.arena) refl) refl;
           }
-      by true false = in_order_goes s m BeyondMaxCapacity over
-      by false within = in_order_goes s m NoMemory over
+      by true false = tidied_goes s m BeyondMaxCapacity over
+      by false within = tidied_goes s m NoMemory over
   goes text s Show over = by text
     where
       by : (o : Option (String Global)) → Goes s Show (show_reply o, s)
@@ -312,7 +312,7 @@ module _ {X : Type 0} (kind : StackKind) (counting : Bool) (greatest : ℕ) wher
     goes_wanting s (InsertWithin datum link) t over wants = goes_same kind counting s (InsertWithin datum link) NoMemory t over (ap (λ u. u.arena) wants.2.1) refl
     goes_wanting s (Invalidate name) t over wants = goes_same kind counting s (Invalidate name) NoMemory t over (ap (λ u. u.arena) wants.1.1) refl
     goes_wanting s Compact t over wants = goes_same kind counting s Compact NoMemory t over (ap (λ u. u.arena) wants.1) refl
-    goes_wanting s (Reserve m) t over wants = subst (λ u. Goes s (Reserve m) (NoMemory, u)) (sym wants.1) (in_order_goes s m NoMemory over)
+    goes_wanting s (Reserve m) t over wants = subst (λ u. Goes s (Reserve m) (NoMemory, u)) (sym wants.1) (tidied_goes s m NoMemory over)
     goes_wanting s command t over wants = absurd wants
 
     -- a step is the answer, or a refusal for want of memory

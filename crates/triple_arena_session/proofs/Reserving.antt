@@ -21,7 +21,7 @@ use Rattle.triple_arena_commands.specs.declared.reply.Reply.TheVariants.{BeyondM
 use Rattle.triple_arena_commands.specs.Limits.{is_within}
 use Rattle.triple_arena_commands.specs.NameStore.{row_count, ReservesRows}
 use Rattle.triple_arena_session.specs.SessionState.{SessionState}
-use Rattle.triple_arena_session.specs.SessionRun.{in_order, reserve_answer, RoomWantsMemory}
+use Rattle.triple_arena_session.specs.SessionRun.{with_tidied_arena, reserve_answer, RoomWantsMemory}
 use Rattle.triple_arena_session.specs.Shown.{row_of, shown, IsArenaOver}
 use Rattle.triple_arena_session.proofs.TableNames.{map_same}
 use Rattle.triple_arena_session.proofs.Rows.{row_kept, row_count-shown}
@@ -63,8 +63,8 @@ module _ {X : Type 0} (kind : StackKind) (s : SessionState X) (sound : SoundOver
   abbrev pub Reserved : ℕ → Reply X × SessionState X → Type 0
   Reserved m a = ReservesRows (shown s) m a.0 (shown a.1) × SoundOver kind a.1
 
-  in_order_shows : (shown (in_order s) ≡ shown s) × SoundOver kind (in_order s)
-  in_order_shows =
+  tidied_shows : (shown (with_tidied_arena s) ≡ shown s) × SoundOver kind (with_tidied_arena s)
+  tidied_shows =
       let entries = slots-tidied s.arena (tidied s.arena) refl in (
         ap (λ rows. record (shown s) { rows = rows }) (same_rows (tidied s.arena) entries),
         same_sound (tidied s.arena) entries refl (over_tidied kind s.arena (over_of kind s sound)),
@@ -94,16 +94,16 @@ module _ {X : Type 0} (kind : StackKind) (s : SessionState X) (sound : SoundOver
     pub reserved_answer : (m : ℕ) → Reserved m (reserve_answer kind counting greatest s m)
     reserved_answer m =
         elim (leb_tells m s.arena.greatest) [
-          | inl fits ↦ subst (λ b. Reserved m (cond b (cond (is_within s.arena.limit m) (Done, record s { arena = reallocated kind s.arena m }) (BeyondMaxCapacity, in_order s)) (NoMemory, in_order s))) (sym fits.0)
+          | inl fits ↦ subst (λ b. Reserved m (cond b (cond (is_within s.arena.limit m) (Done, record s { arena = reallocated kind s.arena m }) (BeyondMaxCapacity, with_tidied_arena s)) (NoMemory, with_tidied_arena s))) (sym fits.0)
               (elim (within_tells s.arena.limit m) [
-                | inl allowed ↦ subst (λ b. Reserved m (cond b (Done, record s { arena = reallocated kind s.arena m }) (BeyondMaxCapacity, in_order s))) (sym allowed.0) (reallocated_shows m fits.1 allowed.1)
-                | inr beyond ↦ subst (λ b. Reserved m (cond b (Done, record s { arena = reallocated kind s.arena m }) (BeyondMaxCapacity, in_order s))) (sym beyond.0) ((fits.1, beyond.1, in_order_shows.0), in_order_shows.1)
+                | inl allowed ↦ subst (λ b. Reserved m (cond b (Done, record s { arena = reallocated kind s.arena m }) (BeyondMaxCapacity, with_tidied_arena s))) (sym allowed.0) (reallocated_shows m fits.1 allowed.1)
+                | inr beyond ↦ subst (λ b. Reserved m (cond b (Done, record s { arena = reallocated kind s.arena m }) (BeyondMaxCapacity, with_tidied_arena s))) (sym beyond.0) ((fits.1, beyond.1, tidied_shows.0), tidied_shows.1)
               ])
-          | inr past ↦ subst (λ b. Reserved m (cond b (cond (is_within s.arena.limit m) (Done, record s { arena = reallocated kind s.arena m }) (BeyondMaxCapacity, in_order s)) (NoMemory, in_order s))) (sym past.0)
-              (((λ fits. absurd (omega (arith, past.1, fits))), in_order_shows.0), in_order_shows.1)
+          | inr past ↦ subst (λ b. Reserved m (cond b (cond (is_within s.arena.limit m) (Done, record s { arena = reallocated kind s.arena m }) (BeyondMaxCapacity, with_tidied_arena s)) (NoMemory, with_tidied_arena s))) (sym past.0)
+              (((λ fits. absurd (omega (arith, past.1, fits))), tidied_shows.0), tidied_shows.1)
         ]
 
   -- and where it is
-  pub reserved_wanting : (has_memory : ℕ → Type 0) (m : ℕ) (t : SessionState X) → RoomWantsMemory kind has_memory s.arena m → t ≡ in_order s → Reserved m (NoMemory, t)
+  pub reserved_wanting : (has_memory : ℕ → Type 0) (m : ℕ) (t : SessionState X) → RoomWantsMemory kind has_memory s.arena m → t ≡ with_tidied_arena s → Reserved m (NoMemory, t)
   reserved_wanting has_memory m t wants is =
-      subst (λ u. Reserved m (NoMemory, u)) (sym is) (((λ below. wants.1), in_order_shows.0), in_order_shows.1)
+      subst (λ u. Reserved m (NoMemory, u)) (sym is) (((λ below. wants.1), tidied_shows.0), tidied_shows.1)

@@ -28,7 +28,7 @@ use Rattle.triple_arena_commands.specs.Limits.{is_at_limit, is_within}
 use Rattle.triple_arena_session.specs.declared.node.Node.{Node}
 use Rattle.triple_arena_session.specs.SessionState.{SessionState, node_of, link_name, named}
 use Rattle.triple_arena_session.specs.SessionLayout.{session_of}
-use Rattle.triple_arena_session.specs.SessionRun.{with_room_for_name, give, act_on, act_under, refusal, in_order, remove_under, invalidate_under, insert_within_answer, reserve_answer, TableWantsMemory, ArenaWantsMemory, RoomWantsMemory, IsStep}
+use Rattle.triple_arena_session.specs.SessionRun.{with_room_for_name, give, act_on, act_under, refusal, with_tidied_arena, remove_under, invalidate_under, insert_within_answer, reserve_answer, TableWantsMemory, ArenaWantsMemory, RoomWantsMemory, IsStep}
 use Rattle.triple_arena_session.proofs.Mapped.{len-mapped, look_up-mapped, next_pointer-mapped, inserted-mapped, grown-mapped, with_value-mapped, removed-mapped, invalidated-mapped, tidied-mapped, reallocated-mapped}
 
 none_some : {A : Type 0} {x : A} → None ≡ Some x → ⊥
@@ -153,10 +153,10 @@ module _ {X : Type 0} (kind : StackKind) (counting : Bool) (greatest : ℕ) (s :
   chosen_done : nat_le m s.arena.greatest ≡ true → is_within s.arena.limit m ≡ true → reserve_answer kind counting greatest s m ≡ (Done, record s { arena = reallocated kind s.arena m })
   chosen_done le within = rw (le, within) refl
 
-  chosen_beyond : nat_le m s.arena.greatest ≡ true → is_within s.arena.limit m ≡ false → reserve_answer kind counting greatest s m ≡ (BeyondMaxCapacity, in_order s)
+  chosen_beyond : nat_le m s.arena.greatest ≡ true → is_within s.arena.limit m ≡ false → reserve_answer kind counting greatest s m ≡ (BeyondMaxCapacity, with_tidied_arena s)
   chosen_beyond le beyond = rw (le, beyond) refl
 
-  chosen_past : nat_le m s.arena.greatest ≡ false → reserve_answer kind counting greatest s m ≡ (NoMemory, in_order s)
+  chosen_past : nat_le m s.arena.greatest ≡ false → reserve_answer kind counting greatest s m ≡ (NoMemory, with_tidied_arena s)
   chosen_past past = rw past refl
 
 -- why an arena of so many entries, and of this capacity, can take no more
@@ -311,7 +311,7 @@ module _ {X P : Type 0} (pointer : P → Pointer) (arena : ArenaState (Node X P)
       in_range : m ≤ arena.greatest → nat_le m s.arena.greatest ≡ true
       in_range le = le_true m s.arena.greatest (subst (λ n. m ≤ n) greatest-shown le)
 
-      ordered : new_arena ≡ tidied arena → session_of pointer new_arena table room ≡ in_order s
+      ordered : new_arena ≡ tidied arena → session_of pointer new_arena table room ≡ with_tidied_arena s
       ordered is = arena_changed tidied new_arena (ap (map_values (node_of pointer)) is ∙ tidied-mapped (node_of pointer) arena)
 
       pub reserved_done : reply ≡ Done → m ≤ arena.greatest → IsWithin arena.limit m → new_arena ≡ reallocated kind arena m → Reserved

@@ -26,7 +26,7 @@ use Rattle.triple_arena_commands.specs.Runs.{IsRun}
 use Rattle.triple_arena_commands.specs.StrictStore.{tells_success, tells_exhausted}
 use Rattle.triple_arena_session.specs.SessionState.{SessionState, named, link_pointer}
 use Rattle.triple_arena_session.specs.Compaction.{any_dangles, compacted}
-use Rattle.triple_arena_session.specs.SessionRun.{refusal, get_reply, show_reply, shown_text, act_under, act_on, set_answer, insert_within_answer, insert_unless, insert_answer, remove_under, invalidate_under, in_order, with_room_for_name, answer, WantsMemory, IsStep}
+use Rattle.triple_arena_session.specs.SessionRun.{refusal, get_reply, show_reply, shown_text, act_under, act_on, set_answer, insert_within_answer, insert_unless, insert_answer, remove_under, invalidate_under, with_tidied_arena, with_room_for_name, answer, WantsMemory, IsStep}
 use Rattle.triple_arena_session.specs.StrictSession.{raises_counter}
 use Rattle.triple_arena_session.proofs.Continuing.{step_cases}
 
@@ -152,10 +152,10 @@ module _ {X : Type 0} (counting : Bool) (greatest : ℕ) where
     counts s Capacity = kept s Capacity (Count (capacity s.arena)) s refl refl refl refl
     counts s (Reserve m) = by (nat_le m s.arena.greatest) (is_within s.arena.limit m)
       where
-        by : (range within : Bool) → Counts s (Reserve m) (cond range (cond within (Done, record s { arena = reallocated kind s.arena m }) (BeyondMaxCapacity, in_order s)) (NoMemory, in_order s))
+        by : (range within : Bool) → Counts s (Reserve m) (cond range (cond within (Done, record s { arena = reallocated kind s.arena m }) (BeyondMaxCapacity, with_tidied_arena s)) (NoMemory, with_tidied_arena s))
         by true true = kept s (Reserve m) Done (record s { arena = reallocated kind s.arena m }) refl refl refl refl
-        by true false = kept s (Reserve m) BeyondMaxCapacity (in_order s) refl refl refl refl
-        by false within = kept s (Reserve m) NoMemory (in_order s) refl refl refl refl
+        by true false = kept s (Reserve m) BeyondMaxCapacity (with_tidied_arena s) refl refl refl refl
+        by false within = kept s (Reserve m) NoMemory (with_tidied_arena s) refl refl refl refl
     counts s Show = by text
       where
         by : (o : Option (String Global)) → Counts s Show (show_reply o, s)

@@ -21,7 +21,7 @@ call_at call (Some p) = call p ∷ []
 
 module _ {X : Type 0} where
   -- the model calls of a command that was answered so, and did not wrap the counter. A look-up and a write to an entry are
-  -- none, nor is what was refused; a reservation puts the free list in order also where it is refused
+  -- none, nor is what was refused; a reservation tidies the free list also where it is refused
   abbrev pub calls_of : SessionState X → Command X → Reply X → List ModelCall
   calls_of s (Insert datum link) (Given name wrapped) = insertion (next_pointer s.arena) ∷ []
   calls_of s (InsertWithin datum link) (Given name wrapped) = insertion (next_pointer s.arena) ∷ []

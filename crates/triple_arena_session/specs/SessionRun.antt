@@ -80,9 +80,9 @@ module _ {X : Type 0} where
       cond (arena_len s.arena == capacity s.arena) (Full, s) (give s (next_pointer s.arena) false (inserted s.arena (datum, link)))
   insert_within_answer s datum None = (BadName, s)
 
-  -- the session with the free list of its arena in order
-  abbrev pub in_order : SessionState X → SessionState X
-  in_order s = record s { arena = tidied s.arena }
+  -- the session with the free list of its arena tidied
+  abbrev pub with_tidied_arena : SessionState X → SessionState X
+  with_tidied_arena s = record s { arena = tidied s.arena }
 
   -- the table was full and could not grow: all stays
   abbrev pub TableWantsMemory : SessionState X → SessionState X → Type 0
@@ -135,12 +135,12 @@ module _ {X : Type 0} (kind : StackKind) (counting : Bool) (greatest : ℕ) wher
       cond (any_dangles s.arena) (Unresolved, s)
       (Compacted (wraps_if_any s), compacted s (raised_if_any (raise counting greatest) s.arena))
 
-  -- reallocation, which puts the free list in order first, also where it is refused
+  -- reallocation, which tidies the free list first, also where it is refused
   abbrev pub reserve_answer : SessionState X → ℕ → Reply X × SessionState X
   reserve_answer s m =
       cond (nat_le m s.arena.greatest)
-      (cond (is_within s.arena.limit m) (Done, record s { arena = reallocated kind s.arena m }) (BeyondMaxCapacity, in_order s))
-      (NoMemory, in_order s)
+      (cond (is_within s.arena.limit m) (Done, record s { arena = reallocated kind s.arena m }) (BeyondMaxCapacity, with_tidied_arena s))
+      (NoMemory, with_tidied_arena s)
 
   -- the reply to a command, and the session after it, where no memory is refused; and the text that Show tells, if there
   -- was memory for one
@@ -170,7 +170,7 @@ module _ {X : Type 0} (kind : StackKind) (has_memory : ℕ → Type 0) where
   WantsMemory s (InsertWithin datum link) t = IsSome (link_pointer s.table link) × (arena_len s.arena < capacity s.arena) × TableWantsMemory s t
   WantsMemory s (Invalidate name) t = IsSome (named s name) × TableWantsMemory s t
   WantsMemory s Compact t = (0 < arena_len s.arena) × (t ≡ s)
-  WantsMemory s (Reserve m) t = RoomWantsMemory s.arena m × (t ≡ in_order s)
+  WantsMemory s (Reserve m) t = RoomWantsMemory s.arena m × (t ≡ with_tidied_arena s)
   WantsMemory s command t = ⊥
 
 module _ {X : Type 0} (kind : StackKind) (has_memory : ℕ → Type 0) (counting : Bool) (greatest : ℕ) where

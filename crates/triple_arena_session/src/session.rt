@@ -113,7 +113,7 @@ impl<P: Ptr, X: Copy, S: NonZeroInxGenericStack<ArenaSlot<P, Node<X, P>>>> Sessi
     /// - `Show`: `NoMemory`; `Line`.
     ///
     /// All else stays, but that after a `NoMemory` the table of names may have grown, and that a
-    /// reservation, refused or not, puts the free list of the arena in order. `Compact`, `Reserve` and
+    /// reservation, refused or not, tidies the free list of the arena. `Compact`, `Reserve` and
     /// `Show` touch each slot, and `Compact` each name; a look-up of an entry with a link may have to
     /// search the names. Which of the two refusals of `Compact` comes first is the body's, and said
     /// by no clause. No reply is `Exhausted`, which strict sessions alone answer.

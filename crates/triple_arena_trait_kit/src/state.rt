@@ -49,7 +49,7 @@ impl State {
 
     /// This state without free slots past the last entry, and with the other free indexes in rising
     /// order.
-    pub fn in_order(self) -> Self {
+    pub fn tidied(self) -> Self {
         let mut slots = 0;
         for at in 0..SLOTS {
             if self.entries[at].is_some() {

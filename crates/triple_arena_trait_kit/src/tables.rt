@@ -62,8 +62,8 @@ pub fn follow_unchanged<A: TestedArena>(
 }
 
 /// Makes each call, and expects its answer. Each leaves the whole state as it was, but for the free
-/// list, which is in order.
+/// list, which is tidied.
 pub fn follow_tidied<A: TestedArena>(arena: &mut A, steps: &[(Call, Told)]) -> Result<(), Wrong> {
     let before = arena.state();
-    follow_to(arena, steps, &before.in_order())
+    follow_to(arena, steps, &before.tidied())
 }

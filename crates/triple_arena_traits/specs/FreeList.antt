@@ -1,4 +1,4 @@
--- The order that the free list of an arena is put into.
+-- The free list of an arena, tidied: in rising order, and without the slots past the last entry.
 use Rattle.std.specs.Prelude.{◌≡◌, ◌≤◌, nat_le, false, ℕ, ◌+◌, List, [], ◌∷◌, length, filter, Option, Some, None}
 use Rattle.triple_arena_traits.specs.Items.{item}
 use Rattle.triple_arena_traits.specs.ArenaState.{ArenaState, entry, is_free, slot_count}

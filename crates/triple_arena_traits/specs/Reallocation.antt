@@ -10,7 +10,7 @@ module _ {T : Type 0} where
   abbrev pub with_room_for : StackKind → ArenaState T → ℕ → ArenaState T
   with_room_for kind s m = record s { room = reallocated_room kind s.room (slot_count s) m }
 
-  -- reallocation to so many: the free list is put in order first
+  -- reallocation to so many: the free list is tidied first
   abbrev pub reallocated : StackKind → ArenaState T → ℕ → ArenaState T
   reallocated kind s m = with_room_for kind (tidied s) m
 
@@ -26,7 +26,7 @@ module _ {T : Type 0} where
   abbrev pub EndsBy : ArenaState T → ℕ → Type 0
   EndsBy s x = (i : ℕ) → x < i → entry s i ≡ None
 
-  -- the arena that a limit of x is set on: below the capacity, and so below the old limit, the free list is put in order
+  -- the arena that a limit of x is set on: below the capacity, and so below the old limit, the free list is tidied
   -- first
   abbrev pub ready_for_limit : ArenaState T → ℕ → ArenaState T
   ready_for_limit s x = cond (nat_lt x (capacity s)) (tidied s) s

@@ -66,7 +66,7 @@ pub fn clones_keep_capacity<P: Ptr, T, U, A: ArenaCloneFromWith<P, T>, B: ArenaC
 {}
 
 /// A limit that is set back: once a limit is set, the old one can be set again, and then the old
-/// capacity is there again. All else is as it was, or as it was with the free list in order.
+/// capacity is there again. All else is as it was, or as it was with the free list tidied.
 pub fn limit_set_back<T>()
     ensures succeeds { (s : ArenaState T) (x most : ℕ) → IsWellFormed s → s.limit ≡ Some most
         → EndsBy (with_limit s x) most }

@@ -1,4 +1,4 @@
--- Laws of the free list in order: the slots without the free ones at their end, and the gaps that are left.
+-- Laws of the tidied free list: the slots without the free ones at their end, and the gaps that are left.
 use Rattle.std.proofs.Common.{◌≡◌, ℕ, zero, suc, ◌+◌, ◌-◌, ◌<◌, ◌≤◌, ◌==◌, true, false, List, [], ◌∷◌, ◌++◌, length, take, Option, Some, None, is_some, count_by, cond, slice_get, refl, sym, ap, ◌∙◌, arith, true≢false}
 use Rattle.std.proofs.lemmas.List.Sums.{sum_by-cons}
 use Rattle.triple_arena_traits.specs.Items.{item}

@@ -40,7 +40,7 @@ module _ {T : Type 0} where
           let fits : slot_count s ≤ x = omega (arith, fit, ltb-false x (capacity s) above) in
           ((λ h. none_past s x fits), (λ h. fits))
 
-  -- where they are more, the free list is in order
+  -- where they are more, the free list is tidied
   ready_beyond : (s : ArenaState T) (x : ℕ) → slot_count s ≤ capacity s → (slot_count (ready_for_limit s x) ≤ x → ⊥) → ready_for_limit s x ≡ tidied s
   ready_beyond s x fit = by_order (nat_lt x (capacity s)) refl
     where
@@ -66,7 +66,7 @@ module _ {T : Type 0} where
   capacity_within_limit : (s : ArenaState T) (most : ℕ) → s.limit ≡ Some most → capacity s ≤ most
   capacity_within_limit s most e = rw e (omega arith)
 
-  -- a limit that is set back leaves the arena as it was, or in order
+  -- a limit that is set back leaves the arena as it was, or tidied
   pub set_back : (s : ArenaState T) (x most : ℕ) → s.limit ≡ Some most → (with_limit (with_limit s x) most ≡ s) ⊎ (with_limit (with_limit s x) most ≡ tidied s)
   set_back s x most e = by_order (nat_lt x (capacity s)) refl
     where

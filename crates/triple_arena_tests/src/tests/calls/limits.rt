@@ -32,7 +32,7 @@ fn a_limit_below_the_last_entry_is_refused(rt: HostRuntime) -> Result<(), Wrong>
 }
 
 #[test]
-fn a_refused_limit_has_put_the_free_list_in_order(rt: HostRuntime) -> Result<(), Wrong> {
+fn a_refused_limit_has_tidied_the_free_list(rt: HostRuntime) -> Result<(), Wrong> {
     under_limit(
         rt.alloc(),
         Some(8),

@@ -98,7 +98,7 @@ impl Plain {
         }
     }
 
-    fn put_in_order(&mut self) {
+    fn tidy(&mut self) {
         self.remove_free_end();
         self.free = [0; SLOTS];
         for at in 0..SLOTS {
@@ -123,7 +123,7 @@ impl Plain {
             Call::Insert(_) => self.insert(),
             Call::RemoveInx(index) => self.remove(index),
             Call::RemoveFreeEnd => self.remove_free_end(),
-            Call::Canonicalize | Call::Reallocate(_) => self.put_in_order(),
+            Call::Canonicalize | Call::Reallocate(_) => self.tidy(),
             Call::Compress(_) => self.close_up(),
             Call::Clear => *self = Plain::new(),
             _ => (),

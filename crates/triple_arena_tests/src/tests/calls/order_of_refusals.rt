@@ -4,7 +4,7 @@ use super::arenas::{Pointers, Stack, on, on_each};
 use super::parts::{BEYOND, NO_MEMORY, Part, TOO_MANY};
 use triple_arena_test_kit::{Call, TestedArena, Told, Wrong, follow, follow_tidied};
 
-/// Each reallocation that is asked for is refused so, and puts the free list in order all the same.
+/// Each reallocation that is asked for is refused so, and tidies the free list all the same.
 pub fn refuses_reallocations<A: TestedArena>(
     arena: &mut A,
     asked: &[(usize, Told)],

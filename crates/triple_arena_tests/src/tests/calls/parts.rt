@@ -34,7 +34,7 @@ pub enum Part {
     /// Calls and their answers, where each call leaves the whole state as it was.
     Unchanged(&'static [(Call, Told)]),
     /// Calls and their answers, where each call leaves the whole state as it was, but for the free
-    /// list, which is in order.
+    /// list, which is tidied.
     Tidied(&'static [(Call, Told)]),
     /// So many times this insertion, in an arena without slots whose counter is 2.
     Filled(usize, Call),

@@ -36,7 +36,7 @@ fn a_constructor_tells_of_no_memory(rt: HostRuntime) -> Result<(), Wrong> {
 }
 
 // Two reallocations of an arena that is allowed any number of slots once these calls are made. Each is
-// refused, and puts the free list in order.
+// refused, and tidies the free list.
 fn refused_twice(
     alloc: Global,
     stack: Stack,
@@ -89,7 +89,7 @@ fn refused_twice(
 }
 
 #[test]
-fn a_refused_reallocation_has_put_the_free_list_in_order(rt: HostRuntime) -> Result<(), Wrong> {
+fn a_refused_reallocation_has_tidied_the_free_list(rt: HostRuntime) -> Result<(), Wrong> {
     refused_twice(rt.alloc(), Stack::Heap(None), &[])?;
     refused_twice(
         rt.alloc(),
@@ -230,9 +230,9 @@ fn insert_next<A: TestedArena>(arena: &mut A, number: u64) -> Result<(), Wrong> 
     has_state(arena, 0, &before)
 }
 
-// Reallocates, which puts the free list in order, refused or not.
+// Reallocates, which tidies the free list, refused or not.
 fn reallocate<A: TestedArena>(arena: &mut A, asked: usize) -> Result<(), Wrong> {
-    let before = arena.state().in_order();
+    let before = arena.state().tidied();
     let told = arena.answer(Call::Reallocate(asked));
     if told == Told::Done {
         let capacity = arena.state().capacity;

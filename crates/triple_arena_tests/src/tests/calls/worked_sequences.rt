@@ -125,7 +125,7 @@ fn insertion_takes_the_index_that_was_freed_last(rt: HostRuntime) -> Result<(), 
 }
 
 #[test]
-fn in_order_the_least_free_index_comes_first(rt: HostRuntime) -> Result<(), Wrong> {
+fn once_tidied_the_least_free_index_comes_first(rt: HostRuntime) -> Result<(), Wrong> {
     on_heap_of_p0(
         rt.alloc(),
         &[

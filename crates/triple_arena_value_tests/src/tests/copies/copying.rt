@@ -211,7 +211,7 @@ impl<S: NonZeroInxGenericStack<ArenaSlot<P0, Token>> + Drop> Target for Tested<P
     }
 
     fn refused(before: State) -> State {
-        before.in_order()
+        before.tidied()
     }
 }
 
@@ -229,7 +229,7 @@ impl<S: NonZeroInxGenericStack<ArenaSlot<Q2, Token>>> Target for Tested<Q2, S> {
     }
 
     fn refused(before: State) -> State {
-        before.in_order()
+        before.tidied()
     }
 }
 
@@ -246,7 +246,7 @@ impl<S: NonZeroInxGenericStack<ArenaSlot<P5, Token>>> Target for Tested<P5, S> {
     }
 
     fn refused(before: State) -> State {
-        before.in_order()
+        before.tidied()
     }
 }
 

@@ -24,7 +24,7 @@ pub record Store (X : Type 0) : Type 0 where
 
 module _ {X : Type 0} where
   -- a store that has given no name, over so much room: the room counts as far as limit and greatest number allow
-  abbrev pub new_store : ℕ → Option ℕ → ℕ → Store X
+  abbrev pub new_store : (room : ℕ) (limit : Option ℕ) (greatest : ℕ) → Store X
   new_store room limit greatest = record { rows = []; capacity = min (stack_capacity room limit) greatest; limit = limit; greatest = greatest }
 
   -- the number that the next name will be

@@ -32,11 +32,11 @@ module _ {P T : Type 0} (numbers : P → Pointer) (rename : Pointer → Pointer)
   AreRenamed olds news = AllZip IsRenamed olds news
 
 -- memory was refused, which comes only where there is an entry
-abbrev pub RefusesMemory : ℕ → ReallocationError → Type 0
+abbrev pub RefusesMemory : (count : ℕ) → ReallocationError → Type 0
 RefusesMemory count refusal = (refusal ≡ AllocError) × (0 < count)
 
 -- why nothing was compacted, where there are so many entries, and this is the first stored pointer that finds nothing
-abbrev pub Refuses : {P : Type 0} → ℕ → Option P → CompactError P → Type 0
+abbrev pub Refuses : {P : Type 0} (count : ℕ) (first : Option P) → CompactError P → Type 0
 Refuses count first (Unresolved p) = first ≡ Some p
 Refuses count first (Reallocation refusal) = RefusesMemory count refusal
 

@@ -33,6 +33,6 @@ calls_if_ok (Ok x) call = call x ∷ []
 calls_if_ok (Err e) call = []
 
 -- why nothing was compacted, beside an exhausted counter: as a compaction with recasting of any arena is refused
-abbrev pub RefusesStrictly : {P : Type 0} → ℕ → Option P → StrictCompactError P → Type 0
+abbrev pub RefusesStrictly : {P : Type 0} (count : ℕ) (first : Option P) → StrictCompactError P → Type 0
 RefusesStrictly count first compact.Exhausted = ⊤
 RefusesStrictly count first (compact.Compact refusal) = Refuses count first refusal

@@ -8,7 +8,7 @@ use Rattle.triple_arena_direct_arena.specs.declared.slot.DirectSlot.{DirectSlot}
 
 module _ {P T I G : Type 0} where
   -- the state that these slots stand for, with room, limit and greatest index
-  abbrev pub direct_of : (G → ℕ) → List (DirectSlot P T I G) → ℕ → Option ℕ → ℕ → DirectState T
+  abbrev pub direct_of : (number : G → ℕ) (es : List (DirectSlot P T I G)) (room : ℕ) (limit : Option ℕ) (greatest : ℕ) → DirectState T
   direct_of number es room limit greatest =
       record { slots = map (direct_slot_entry number) es; room = room; limit = limit; greatest = greatest }
 

@@ -24,7 +24,7 @@ module _ {T : Type 0} where
   generation_of (Some e) = e.0
 
   -- an arena without slots
-  abbrev pub new_direct : ℕ → Option ℕ → ℕ → DirectState T
+  abbrev pub new_direct : (room : ℕ) (limit : Option ℕ) (greatest : ℕ) → DirectState T
   new_direct room limit greatest = record { slots = []; room = room; limit = limit; greatest = greatest }
 
   -- the number of slots

@@ -17,5 +17,5 @@ generation_text true n = codes "(" ++ (hex n ++ codes ")")
 generation_text false n = []
 
 -- the name, the index i in square brackets, and the generation g
-abbrev pub pointer_text : List ℕ → ℕ → Bool → ℕ → List ℕ
+abbrev pub pointer_text : (name : List ℕ) (i : ℕ) (counting : Bool) (g : ℕ) → List ℕ
 pointer_text name i counting g = name ++ (codes "[" ++ (hex i ++ (codes "]" ++ generation_text counting g)))

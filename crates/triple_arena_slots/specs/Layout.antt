@@ -29,7 +29,7 @@ module _ {P T I G : Type 0} where
   chain es (suc fuel) (Some i) = i ∷ chain es fuel (after es i)
 
   -- the state that these slots and this first free index stand for, with counter, room, limit, greatest index and count of steps
-  abbrev pub state_of : (G → ℕ) → List (ArenaSlot P T I G) → Option ℕ → ℕ → ℕ → Option ℕ → ℕ → ℕ → ArenaState T
+  abbrev pub state_of : (number : G → ℕ) (es : List (ArenaSlot P T I G)) (root : Option ℕ) (counter room : ℕ) (limit : Option ℕ) (greatest steps : ℕ) → ArenaState T
   state_of number es root counter room limit greatest steps =
       record {
         slots = map (entry_of number) es;

@@ -6,21 +6,21 @@ use Rattle.triple_arena_base.specs.declared.errors.GetDisjointMutError.{GetDisjo
 use Rattle.triple_arena_base.specs.declared.errors.GetDisjointMutError.TheVariants.{IndexOutOfBounds, OverlappingIndices}
 
 -- two indices, counted from 1, name two of so many items
-abbrev pub AreTwo : ℕ → ℕ → ℕ → Type 0
+abbrev pub AreTwo : (len first second : ℕ) → Type 0
 AreTwo len first second = (first ≤ len) × (second ≤ len) × (first ≢ second)
 
 -- why two indices, counted from 1, are refused at so many items
-abbrev pub IsRefused : ℕ → ℕ → ℕ → GetDisjointMutError → Type 0
+abbrev pub IsRefused : (len first second : ℕ) → GetDisjointMutError → Type 0
 IsRefused len first second IndexOutOfBounds = (len < first) ⊎ (len < second)
 IsRefused len first second OverlappingIndices = (first ≤ len) × (second ≤ len) × (first ≡ second)
 
 -- the answer on two indices, counted from 1, at so many items
-abbrev pub DisjointAnswer : ℕ → ℕ → ℕ → {A : Type 0} → Result A GetDisjointMutError → Type 0
+abbrev pub DisjointAnswer : (len first second : ℕ) {A : Type 0} → Result A GetDisjointMutError → Type 0
 DisjointAnswer len first second (Ok done) = AreTwo len first second
 DisjointAnswer len first second (Err e) = IsRefused len first second e
 
 -- the list with two other items
-abbrev pub set_both : {A : Type 0} → List A → ℕ → ℕ → A → A → List A
+abbrev pub set_both : {A : Type 0} (xs : List A) (i j : ℕ) (x y : A) → List A
 set_both xs i j x y = slice_set (slice_set xs i x) j y
 
 module _ {F A R : Type 0} (g : Once F (MutBor A × (MutBor A × Unit {0})) (R × (MutBor A × (MutBor A × Unit {0})))) (f : F) where

@@ -20,7 +20,7 @@ pub record ArenaState (T : Type 0) : Type 0 where
 
 module _ {T : Type 0} where
   -- an arena without slots
-  abbrev pub new_arena : ℕ → Option ℕ → ℕ → ℕ → ArenaState T
+  abbrev pub new_arena : (room : ℕ) (limit : Option ℕ) (greatest counter : ℕ) → ArenaState T
   new_arena room limit greatest counter = record { slots = []; counter = counter; free = []; room = room; limit = limit; greatest = greatest; steps = 0 }
 
   -- the number of slots

@@ -18,7 +18,7 @@ module _ {T : Type 0} where
   raised_if_any raise s = cond (arena_len s == 0) s.counter (raise s.counter)
 
   -- the counter after a compression: the first one with a reset, else raised if there is an entry
-  abbrev pub counter_after : ℕ → (ℕ → ℕ) → Bool → ArenaState T → ℕ
+  abbrev pub counter_after : (first : ℕ) (raise : ℕ → ℕ) (reset : Bool) → ArenaState T → ℕ
   counter_after first raise reset s = cond reset first (raised_if_any raise s)
 
   -- whether a compression wraps the counter: never with a reset, nor without entries

@@ -11,7 +11,7 @@ module _ {T : Type 0} where
     pub free : entry_in slots i ≡ None
 
   -- the answer on an index: an entry can be put there; it is above the capacity; or an entry stands there
-  abbrev pub DirectInsertAnswer : List (Option (ℕ × T)) → ℕ → ℕ → {A : Type 0} → Result A DirectInsertionError → Type 0
+  abbrev pub DirectInsertAnswer : (slots : List (Option (ℕ × T))) (capacity i : ℕ) {A : Type 0} → Result A DirectInsertionError → Type 0
   DirectInsertAnswer slots capacity i (Ok place) = IsVacant slots capacity i
   DirectInsertAnswer slots capacity i (Err NotWithinCapacity) = capacity < i
   DirectInsertAnswer slots capacity i (Err ExistingElementAtIndex) = (i ≤ capacity) × IsSome (entry_in slots i)

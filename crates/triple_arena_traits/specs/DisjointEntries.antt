@@ -22,7 +22,7 @@ module _ {T : Type 0} where
 
   -- the answer on two indexes: both name entries, and two of them; or they are refused as on a stack of so many slots; or
   -- they are two of the slots, and one of these is free
-  abbrev pub DisjointInxAnswer : List (Option (ℕ × T)) → ℕ → ℕ → {A : Type 0} → Result A GetDisjointMutError → Type 0
+  abbrev pub DisjointInxAnswer : (slots : List (Option (ℕ × T))) (i j : ℕ) {A : Type 0} → Result A GetDisjointMutError → Type 0
   DisjointInxAnswer slots i j (Ok done) = IsSome (entry_in slots i) × IsSome (entry_in slots j) × (i ≢ j)
   DisjointInxAnswer slots i j (Err IndexOutOfBounds) =
       IsRefused (length slots) i j IndexOutOfBounds

@@ -3,7 +3,7 @@ use Rattle.std.specs.Prelude.{◌≡◌, ℕ, ◌+◌, ◌≤◌, List, [], ◌�
 use Rattle.triple_arena_traits.specs.ArenaState.{ArenaState}
 
 -- the count never falls, and rises by so many at most
-abbrev pub RisesByAtMost : ℕ → ℕ → ℕ → Type 0
+abbrev pub RisesByAtMost : (most before after : ℕ) → Type 0
 RisesByAtMost most before after = (before ≤ after) × (after ≤ before + most)
 
 -- so many slots an insertion touches that takes the first of these free indexes

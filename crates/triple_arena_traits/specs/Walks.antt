@@ -9,11 +9,11 @@ pub record Stand : Type 0 where
   pub reverse : Bool
 
 -- an index as a place; nowhere where it is past the greatest
-abbrev pub place_of : ℕ → ℕ → ℕ
+abbrev pub place_of : (greatest i : ℕ) → ℕ
 place_of greatest i = cond (nat_le i greatest) i 0
 
 -- where the advancer of an index stands: past the greatest index, a reverse one stands at the greatest
-abbrev pub standing_at : ℕ → ℕ → Bool → Stand
+abbrev pub standing_at : (greatest i : ℕ) (reverse : Bool) → Stand
 standing_at greatest i reverse = record { place = cond reverse (min i greatest) (place_of greatest i); reverse = reverse }
 
 -- an index is ahead of a stand: a forward one is at or below it, a reverse one at or above it; nothing is ahead of nowhere
@@ -21,18 +21,18 @@ abbrev pub is_ahead : Stand → ℕ → Bool
 is_ahead s i = nat_lt 0 s.place && cond s.reverse (nat_le i s.place) (nat_le s.place i)
 
 -- the first index is met before the second
-abbrev pub is_before : Stand → ℕ → ℕ → Bool
+abbrev pub is_before : (s : Stand) (i j : ℕ) → Bool
 is_before s i j = cond s.reverse (nat_lt j i) (nat_lt i j)
 
 -- where a stand is after an answer, over so many slots: past the index that was answered; where there was none, a forward
 -- one is past the slots and a reverse one nowhere
-abbrev pub moved : ℕ → ℕ → Stand → Option Pointer → Stand
+abbrev pub moved : (greatest n : ℕ) (s : Stand) (answer : Option Pointer) → Stand
 moved greatest n s (Some p) = record s { place = cond s.reverse (p.0 - 1) (place_of greatest (p.0 + 1)) }
 moved greatest n s None =
     record s { place = cond s.reverse 0 (cond (nat_lt 0 s.place) (place_of greatest (max s.place (n + 1) + 1)) 0) }
 
 -- how many more steps answer a pointer at most, however the arena changes between them
-abbrev pub steps_left : ℕ → Stand → ℕ
+abbrev pub steps_left : (greatest : ℕ) (s : Stand) → ℕ
 steps_left greatest s = cond s.reverse s.place (cond (nat_lt 0 s.place) (greatest + 1 - s.place) 0)
 
 module _ {T : Type 0} where

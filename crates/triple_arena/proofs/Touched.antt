@@ -1,6 +1,6 @@
 -- What stands where more slots may have been touched.
 use Rattle.std.proofs.Common.{◌≡◌, ℕ, ◌≤◌, ◌==◌, ◌↔◌, Bool, false, List, [], ◌∷◌, length, Result, Ok, Err, IsOk, OnOk, OnErr, sym, ap, subst, refl, ◌∙◌, arith}
-use Rattle.triple_arena_ptr.specs.Numbers.{raise, wraps}
+use Rattle.triple_arena_ptr.specs.Numbers.{Generations, raise, wraps}
 use Rattle.triple_arena_stack.specs.StackKind.{StackKind}
 use Rattle.triple_arena_traits.specs.ArenaState.{ArenaState, slot_count, arena_len, capacity}
 use Rattle.triple_arena_traits.specs.SlotSteps.{IsTouched}
@@ -66,10 +66,10 @@ module _ {T : Type 0} where
         Continues-resized s new (tidied_slots s new refused) (ap (λ (t : ArenaState T). t.counter) refused.0)
 
   -- so it does after a compression, and one begins with the pointers that stand then
-  pub compressed_goes_on : (counting : Bool) (greatest : ℕ) (s new : ArenaState T) (first : ℕ) (reset : Bool) (values : List T) → reset ≡ false → CountsUp counting (wraps_after (wraps counting greatest) reset s) → length values ≡ arena_len s → IsTouched (compressed s (counter_after first (raise counting greatest) reset s) values) new → Continues Fits s (compression (keys s.slots) (keys new.slots) ∷ []) new
-  compressed_goes_on counting greatest s new first reset values kept counts len same =
-      let left : ArenaState T = compressed s (counter_after first (raise counting greatest) reset s) values in
-      let goes = Continues-compressed counting greatest s left first reset values kept counts len refl in
+  pub compressed_goes_on : (generations : Generations) (s new : ArenaState T) (first : ℕ) (reset : Bool) (values : List T) → reset ≡ false → CountsUp generations (wraps_after (wraps generations) reset s) → length values ≡ arena_len s → IsTouched (compressed s (counter_after first (raise generations) reset s) values) new → Continues Fits s (compression (keys s.slots) (keys new.slots) ∷ []) new
+  compressed_goes_on generations s new first reset values kept counts len same =
+      let left : ArenaState T = compressed s (counter_after first (raise generations) reset s) values in
+      let goes = Continues-compressed generations s left first reset values kept counts len refl in
       subst (λ ps. Continues Fits s (compression (keys s.slots) ps ∷ []) new) (sym (ap (λ (t : ArenaState T). keys t.slots) same.0)) (Continues-touched s left new (compression (keys s.slots) (keys left.slots) ∷ []) same goes)
 
   pub compressed_begins : (s new : ArenaState T) (counter : ℕ) (values : List T) → IsTouched (compressed s counter values) new → Fits (begun_with (keys new.slots)) new

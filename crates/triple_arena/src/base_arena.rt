@@ -123,7 +123,7 @@ impl<P: Ptr, T, S: NonZeroInxGenericStack<ArenaSlot<P, T>>> ArenaTrait<P, T> for
 
     // no slot, and the first generation as the counter
     ghost empty = { λ room limit. new_arena room limit (greatest_index P.Inx.greatest)
-        (first_generation P.Gen.counting) };
+        (first_generation P.Gen.generations) };
 
     // the counter
     ghost next_generation = { λ s. Some s.counter };
@@ -141,24 +141,24 @@ impl<P: Ptr, T, S: NonZeroInxGenericStack<ArenaSlot<P, T>>> ArenaTrait<P, T> for
 
     // the counter is raised, and the entry has it as its generation
     ghost invalidates = { λ old i new.
-        IsTouched (invalidated (raise P.Gen.counting P.Gen.greatest) old i) new };
+        IsTouched (invalidated (raise P.Gen.generations) old i) new };
 
     // the raised counter
-    ghost renewed = { λ s _. raise P.Gen.counting P.Gen.greatest s.counter };
+    ghost renewed = { λ s _. raise P.Gen.generations s.counter };
 
     // the counter is raised; the last slot goes, and any other becomes the first free one
     ghost removes = { λ old i new.
-        IsTouched (removed (raise P.Gen.counting P.Gen.greatest) old i) new };
+        IsTouched (removed (raise P.Gen.generations) old i) new };
 
     // the counter is the greatest generation
-    ghost ending_wraps = { λ s. wraps P.Gen.counting P.Gen.greatest s.counter };
+    ghost ending_wraps = { λ s. wraps P.Gen.generations s.counter };
 
     // no slot is left; the counter is raised once if there was an entry
-    ghost clears = { λ old new. new ≡ cleared (raise P.Gen.counting P.Gen.greatest) old };
+    ghost clears = { λ old new. new ≡ cleared (raise P.Gen.generations) old };
 
     // there was an entry, and the counter is the greatest generation
     ghost clearing_wraps = { λ s. cond (arena_len s == 0) false
-        (wraps P.Gen.counting P.Gen.greatest s.counter) };
+        (wraps P.Gen.generations s.counter) };
 
     // the free list is tidied, and then the room is changed as the stack's kind does it
     ghost reallocates = { λ old m new. IsTouched (reallocated S.kind old m) new };
@@ -315,13 +315,13 @@ impl<P: Ptr, T, S: NonZeroInxGenericStack<ArenaSlot<P, T>>> ArenaTrait<P, T> for
 
     ghost capacity_with_value = { λ _ _ _. refl };
 
-    ghost slots_removed = { removed_slots (raise P.Gen.counting P.Gen.greatest) };
+    ghost slots_removed = { removed_slots (raise P.Gen.generations) };
 
-    ghost len_removed = { removed_len (raise P.Gen.counting P.Gen.greatest) };
+    ghost len_removed = { removed_len (raise P.Gen.generations) };
 
-    ghost limit_removed = { removed_limit (raise P.Gen.counting P.Gen.greatest) };
+    ghost limit_removed = { removed_limit (raise P.Gen.generations) };
 
-    ghost capacity_removed = { removed_capacity (raise P.Gen.counting P.Gen.greatest) };
+    ghost capacity_removed = { removed_capacity (raise P.Gen.generations) };
 
     ghost slots_unchanged = { λ _ _ same. ap (λ s. s.slots) same.0 };
 
@@ -334,13 +334,13 @@ impl<P: Ptr, T, S: NonZeroInxGenericStack<ArenaSlot<P, T>>> ArenaTrait<P, T> for
     ghost generation_unchanged = { λ _ _ same. ap (λ s. Some s.counter) same.0 };
 
     ghost renewed_unchanged = { λ _ _ _ same.
-        ap (λ s. raise P.Gen.counting P.Gen.greatest s.counter) same.0 };
+        ap (λ s. raise P.Gen.generations s.counter) same.0 };
 
     ghost ending_wraps_unchanged = { λ _ _ same.
-        ap (λ s. wraps P.Gen.counting P.Gen.greatest s.counter) same.0 };
+        ap (λ s. wraps P.Gen.generations s.counter) same.0 };
 
     ghost clearing_wraps_unchanged = { λ _ _ same.
-        ap (λ s. cond (arena_len s == 0) false (wraps P.Gen.counting P.Gen.greatest s.counter))
+        ap (λ s. cond (arena_len s == 0) false (wraps P.Gen.generations s.counter))
         same.0 };
 
     ghost keeps_room_unchanged = { λ _ _ m same. subst (λ s. KeepsRoom S.kind s m) (sym same.0) };
@@ -350,15 +350,15 @@ impl<P: Ptr, T, S: NonZeroInxGenericStack<ArenaSlot<P, T>>> ArenaTrait<P, T> for
 
     ghost fits_unchanged = { Continues-unchanged };
 
-    ghost slots_invalidated = { invalidated_slots (raise P.Gen.counting P.Gen.greatest) };
+    ghost slots_invalidated = { invalidated_slots (raise P.Gen.generations) };
 
-    ghost len_invalidated = { invalidated_len (raise P.Gen.counting P.Gen.greatest) };
+    ghost len_invalidated = { invalidated_len (raise P.Gen.generations) };
 
     ghost limit_invalidated = { λ _ _ _ same. ap (λ s. s.limit) same.0 };
 
     ghost capacity_invalidated = { λ _ _ _ same. ap capacity same.0 };
 
-    ghost slots_cleared = { slots-cleared (raise P.Gen.counting P.Gen.greatest) };
+    ghost slots_cleared = { slots-cleared (raise P.Gen.generations) };
 
     ghost len_cleared = { λ _ _. ap arena_len };
 
@@ -497,11 +497,11 @@ impl<P: Ptr, T, S: NonZeroInxGenericStack<ArenaSlot<P, T>>> Arena<P, T, S> {
     /// Raises the counter, as `generational_inc` of its type does: past the greatest generation it
     /// begins anew at 2, and the answer tells of that wrap.
     pub fn inc_generation(&mut self) -> InvalidationOption<()>
-        ensures answer { result ≡ told (wraps P.Gen.counting P.Gen.greatest self.old.counter) tt }
+        ensures answer { result ≡ told (wraps P.Gen.generations self.old.counter) tt }
         ensures state { self.new ≡ record self.old {
-          counter = raise P.Gen.counting P.Gen.greatest self.old.counter;
+          counter = raise P.Gen.generations self.old.counter;
         } }
-        ensures history { CountsUp P.Gen.counting (wraps P.Gen.counting P.Gen.greatest
+        ensures history { CountsUp P.Gen.generations (wraps P.Gen.generations
             self.old.counter) → Continues Fits self.old [] self.new }
     {
         let (counter, wrapped) = P::Gen::generational_inc(self.counter);
@@ -558,7 +558,7 @@ impl<P: Ptr, T, S: NonZeroInxGenericStack<ArenaSlot<P, T>>> Arena<P, T, S> {
     fn over(stack: S) -> Self
         requires { S.items stack ≡ [] }
         ensures { result ≡ new_arena (S.room stack) (S.limit stack) (greatest_index P.Inx.greatest)
-            (first_generation P.Gen.counting) }
+            (first_generation P.Gen.generations) }
     {
         Arena {
             slots: Slots::over(stack),
@@ -695,8 +695,8 @@ impl<P: Ptr, T, S: NonZeroInxGenericStack<ArenaSlot<P, T>>> Arena<P, T, S> {
         requires { IsSome (entry self.old (non_zero_usize_get inx)) }
         ensures entry { entry self.old (non_zero_usize_get inx)
             ≡ Some (P.Gen.number result.0.0, result.0.1) }
-        ensures wrapped { result.1 ≡ wraps P.Gen.counting P.Gen.greatest self.old.counter }
-        ensures state { IsTouched (removed (raise P.Gen.counting P.Gen.greatest) self.old
+        ensures wrapped { result.1 ≡ wraps P.Gen.generations self.old.counter }
+        ensures state { IsTouched (removed (raise P.Gen.generations) self.old
             (non_zero_usize_get inx)) self.new }
         ensures steps { self.new.steps ≤ self.old.steps + 2 }
     {

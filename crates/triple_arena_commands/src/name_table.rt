@@ -235,7 +235,8 @@ fn make_place<T, K: NonZeroInxGenericStack<T>>(
         ≡ room_for_one_more (K.room stack.old) (K.limit stack.old) (length (K.items stack.old))) }
     ensures place { OnOk result
         (HasPlace (K.room stack.new) (K.limit stack.new) (length (K.items stack.new))) }
-    ensures with_memory { CanGrow K.has_memory (stack_capacity (K.room stack.old) (K.limit stack.old))
+    ensures with_memory { CanGrow K.has_memory
+        (stack_capacity (K.room stack.old) (K.limit stack.old))
         (K.limit stack.old) most_places → IsOk result }
     ensures refused { OnErr result (stack.new ≡ stack.old) }
 {

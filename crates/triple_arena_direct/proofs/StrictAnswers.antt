@@ -6,7 +6,7 @@ use Rattle.std.specs.Result.{result_map_both}
 use Rattle.triple_arena_base.specs.Invalidation.{allowed}
 use Rattle.triple_arena_base.specs.declared.invalidation.InvalidationResult.{InvalidationResult}
 use Rattle.triple_arena_base.specs.declared.invalidation.InvalidationResult.TheVariants.{Success, GenerationOverflow, InvalidPtr as invalid_ptr}
-use Rattle.triple_arena_ptr.specs.Numbers.{raise}
+use Rattle.triple_arena_ptr.specs.Numbers.{Generations, raise}
 use Rattle.triple_arena_ptr.specs.Pointers.{Pointer}
 use Rattle.triple_arena_stack.specs.StackKind.{StackKind}
 use Rattle.triple_arena_traits.specs.Ending.{told_of, map_told, removed, invalidated}
@@ -28,7 +28,7 @@ use Rattle.triple_arena_direct.specs.Gone.{IsUpToCounter, IsGoneForGood}
 use Rattle.triple_arena_direct.specs.laws.GoneLaws.{ended-continues}
 use Rattle.triple_arena_direct.specs.StrictAnswers.{is_exhausted, strict_of, calls_if_ok}
 use Rattle.triple_arena_direct.specs.StrictCalls.{IsUnless, IsStrictStep, to_insert, to_remove, to_invalidate}
-use Rattle.triple_arena_direct.specs.laws.StrictAnswerLaws.{Continues-strict_counting}
+use Rattle.triple_arena_direct.specs.laws.StrictAnswerLaws.{Continues-strict}
 
 -- where an exhausted counter was tested before, and the pointer with it
 module _ {A : Type 0} where
@@ -120,33 +120,33 @@ mapped_test q exhausted None tested = tested
 mapped_test q exhausted (Some x) tested = tested
 
 -- the history of a call that ends the entry of a pointer, where an exhausted counter was tested before
-module _ {T : Type 0} (kind : StackKind) (counting : Bool) (greatest : ℕ) (s t : ArenaState T) (p : Pointer) where
-  pub removed_history : (told : InvalidationResult T) (r : Result T StrictError) → r ≡ ok_or (allowed told) InvalidPtr → told ≡ told_of (is_exhausted counting greatest s) (look_up s.slots p) → (is_exhausted counting greatest s && is_some (look_up s.slots p)) ≡ false → (IsSome (look_up s.slots p) → IsTouched (removed (raise counting greatest) s p.0) t) → (look_up s.slots p ≡ None → IsTouched s t) → counting ≡ true → Continues Fits s (calls_if_ok r (λ _. removal p)) t
+module _ {T : Type 0} (kind : StackKind) (generations : Generations) (s t : ArenaState T) (p : Pointer) where
+  pub removed_history : (told : InvalidationResult T) (r : Result T StrictError) → r ≡ ok_or (allowed told) InvalidPtr → told ≡ told_of (is_exhausted generations s) (look_up s.slots p) → (is_exhausted generations s && is_some (look_up s.slots p)) ≡ false → (IsSome (look_up s.slots p) → IsTouched (removed (raise generations) s p.0) t) → (look_up s.slots p ≡ None → IsTouched s t) → generations.counting ≡ true → Continues Fits s (calls_if_ok r (λ _. removal p)) t
   removed_history told r is answer tested done kept counts =
-      let exhausted = is_exhausted counting greatest s in
+      let exhausted = is_exhausted generations s in
       let found = look_up s.slots p in
       let strict : r ≡ strict_of exhausted found = is ∙ answered exhausted found told answer tested in
-      Continues-strict_counting kind greatest counting counts s (to_remove p) (calls_if_ok r (λ _. removal p)) t
-      (step_of s t exhausted found r (removal p) (removed (raise counting greatest) s p.0) strict
-      (if_found exhausted found r (IsTouched (removed (raise counting greatest) s p.0) t) strict done)
+      Continues-strict kind generations counts s (to_remove p) (calls_if_ok r (λ _. removal p)) t
+      (step_of s t exhausted found r (removal p) (removed (raise generations) s p.0) strict
+      (if_found exhausted found r (IsTouched (removed (raise generations) s p.0) t) strict done)
       (kept_of s t exhausted found r strict tested kept))
 
-  pub invalidated_history : {P : Type 0} (numbers : P → Pointer) (told : InvalidationResult P) (r : Result P StrictError) → r ≡ ok_or (allowed told) InvalidPtr → map_told numbers told ≡ told_of (is_exhausted counting greatest s) (option_map (λ _. (p.0, raise counting greatest s.counter)) (look_up s.slots p)) → (is_exhausted counting greatest s && is_some (look_up s.slots p)) ≡ false → (IsSome (look_up s.slots p) → IsTouched (invalidated (raise counting greatest) s p.0) t) → (look_up s.slots p ≡ None → IsTouched s t) → counting ≡ true → Continues Fits s (calls_if_ok r (λ q. invalidation p (numbers q))) t
+  pub invalidated_history : {P : Type 0} (numbers : P → Pointer) (told : InvalidationResult P) (r : Result P StrictError) → r ≡ ok_or (allowed told) InvalidPtr → map_told numbers told ≡ told_of (is_exhausted generations s) (option_map (λ _. (p.0, raise generations s.counter)) (look_up s.slots p)) → (is_exhausted generations s && is_some (look_up s.slots p)) ≡ false → (IsSome (look_up s.slots p) → IsTouched (invalidated (raise generations) s p.0) t) → (look_up s.slots p ≡ None → IsTouched s t) → generations.counting ≡ true → Continues Fits s (calls_if_ok r (λ q. invalidation p (numbers q))) t
   invalidated_history numbers told r is answer tested done kept counts =
-      let exhausted = is_exhausted counting greatest s in
+      let exhausted = is_exhausted generations s in
       let found = look_up s.slots p in
-      let q : Pointer = (p.0, raise counting greatest s.counter) in
+      let q : Pointer = (p.0, raise generations s.counter) in
       let strict : result_map_both numbers (λ e. e) r ≡ strict_of exhausted (option_map (λ _. q) found) =
       ap (result_map_both numbers (λ e. e)) is ∙ mapped_answer numbers exhausted (option_map (λ _. q) found) told answer (mapped_test q exhausted found tested) in
-      Continues-strict_counting kind greatest counting counts s (to_invalidate p) (calls_if_ok r (λ x. invalidation p (numbers x))) t
-      (step_renewed numbers q s t exhausted found r (λ x. invalidation p x) (invalidated (raise counting greatest) s p.0) strict
-      (on_renewed numbers q exhausted found r (IsTouched (invalidated (raise counting greatest) s p.0) t) strict done)
+      Continues-strict kind generations counts s (to_invalidate p) (calls_if_ok r (λ x. invalidation p (numbers x))) t
+      (step_renewed numbers q s t exhausted found r (λ x. invalidation p x) (invalidated (raise generations) s p.0) strict
+      (on_renewed numbers q exhausted found r (IsTouched (invalidated (raise generations) s p.0) t) strict done)
       (kept_renewed numbers q s t exhausted found r strict tested kept))
 
 -- an insertion is a step, which only a full arena refuses
-pub step_inserted : {P E T : Type 0} (numbers : P → Pointer) (kind : StackKind) (counting : Bool) (greatest : ℕ) (s t : ArenaState T) (value : T) (r : Result P E) → IsWellFormed s → (arena_len s < capacity s → IsOk r) → IfOk r (λ p. numbers p ≡ next_pointer s) → OnOk r (IsTouched (inserted (grown kind s) value) t) → OnErr r (t ≡ s) → IsStrictStep kind counting greatest s (to_insert value) (calls_if_ok r (λ p. insertion (numbers p))) t
-step_inserted numbers kind counting greatest s t value (Ok p) well has_place pointer done refused = (well, inr (ap (λ q. insertion q ∷ []) pointer, done))
-step_inserted numbers kind counting greatest s t value (Err e) well has_place pointer done refused = (well, inl (no_less (arena_len s) (capacity s) (λ less. true≢false (sym (has_place less))), (refl, rw refused (refl, omega arith))))
+pub step_inserted : {P E T : Type 0} (numbers : P → Pointer) (kind : StackKind) (generations : Generations) (s t : ArenaState T) (value : T) (r : Result P E) → IsWellFormed s → (arena_len s < capacity s → IsOk r) → IfOk r (λ p. numbers p ≡ next_pointer s) → OnOk r (IsTouched (inserted (grown kind s) value) t) → OnErr r (t ≡ s) → IsStrictStep kind generations s (to_insert value) (calls_if_ok r (λ p. insertion (numbers p))) t
+step_inserted numbers kind generations s t value (Ok p) well has_place pointer done refused = (well, inr (ap (λ q. insertion q ∷ []) pointer, done))
+step_inserted numbers kind generations s t value (Err e) well has_place pointer done refused = (well, inl (no_less (arena_len s) (capacity s) (λ less. true≢false (sym (has_place less))), (refl, rw refused (refl, omega arith))))
   where
     no_less : (m n : ℕ) → (m < n → ⊥) → n ≤ m
     no_less m n not = elim (cases_lt m n) [

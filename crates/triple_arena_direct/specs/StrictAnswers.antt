@@ -1,6 +1,6 @@
 -- What the calls of a strict arena answer, which never wraps its counter.
 use Rattle.std.specs.Prelude.{ℕ, ◌==◌, Bool, false, cond, List, [], ◌∷◌, Option, Some, None, Result, Ok, Err, ⊤}
-use Rattle.triple_arena_ptr.specs.Numbers.{wraps}
+use Rattle.triple_arena_ptr.specs.Numbers.{Generations, wraps}
 use Rattle.triple_arena_traits.specs.ArenaState.{ArenaState, arena_len}
 use Rattle.triple_arena_traits.specs.Histories.{ModelCall}
 use Rattle.triple_arena_direct.specs.Renaming.{Refuses}
@@ -9,10 +9,10 @@ use Rattle.triple_arena_direct.specs.declared.errors.StrictError.TheVariants.{In
 use Rattle.triple_arena_direct.specs.declared.errors.StrictCompactError.{StrictCompactError}
 use Rattle.triple_arena_direct.specs.declared.errors.StrictCompactError.TheVariants as compact
 
-module _ {T : Type 0} (counting : Bool) (greatest : ℕ) where
+module _ {T : Type 0} (generations : Generations) where
   -- a raise of the counter would wrap it
   abbrev pub is_exhausted : ArenaState T → Bool
-  is_exhausted s = wraps counting greatest s.counter
+  is_exhausted s = wraps generations s.counter
 
   -- there is an entry, and a raise of the counter would wrap it
   abbrev pub is_exhausted_for_any : ArenaState T → Bool

@@ -1,6 +1,6 @@
 -- Calls of a strict arena, one after another, as they change its state.
 use Rattle.std.specs.Prelude.{◌≡◌, ◌≤◌, ◌⊎◌, ℕ, ◌||◌, not, IsTrue, Bool, true, false, List, [], ◌∷◌, ◌++◌, length}
-use Rattle.triple_arena_ptr.specs.Numbers.{raise}
+use Rattle.triple_arena_ptr.specs.Numbers.{Generations, raise}
 use Rattle.triple_arena_ptr.specs.Pointers.{Pointer}
 use Rattle.triple_arena_stack.specs.StackKind.{StackKind}
 use Rattle.triple_arena_traits.specs.ArenaState.{ArenaState, arena_len, capacity, with_value, IsWellFormed}
@@ -39,10 +39,10 @@ module _ {T : Type 0} where
   IsUnless true call after s calls t = IsRefusedCall s calls t
   IsUnless false call after s calls t = IsDone call after calls t
 
-module _ {T : Type 0} (kind : StackKind) (counting : Bool) (greatest : ℕ) where
+module _ {T : Type 0} (kind : StackKind) (generations : Generations) where
   -- no entry can be ended under this pointer: there is none, or the counter is exhausted
   abbrev pub cannot_end : ArenaState T → Pointer → Bool
-  cannot_end s p = not (is_live s p) || is_exhausted counting greatest s
+  cannot_end s p = not (is_live s p) || is_exhausted generations s
 
   -- a call, the model calls that it is, and the state after it. Whether a full arena grows for an insertion, and whether a
   -- reallocation is done, isn't said, since memory may be refused
@@ -52,16 +52,16 @@ module _ {T : Type 0} (kind : StackKind) (counting : Bool) (greatest : ℕ) wher
       × (((capacity s ≤ arena_len s) × IsRefusedCall s calls t)
       ⊎ IsDone (insertion (next_pointer s)) (inserted (grown kind s) value) calls t)
   IsStrictStep s (to_write p value) calls t = IsTrue (is_live s p) × (calls ≡ []) × (t ≡ with_value s p.0 value)
-  IsStrictStep s (to_remove p) calls t = IsUnless (cannot_end s p) (removal p) (removed (raise counting greatest) s p.0) s calls t
+  IsStrictStep s (to_remove p) calls t = IsUnless (cannot_end s p) (removal p) (removed (raise generations) s p.0) s calls t
   IsStrictStep s (to_invalidate p) calls t =
-      IsUnless (cannot_end s p) (invalidation p (p.0, raise counting greatest s.counter)) (invalidated (raise counting greatest) s p.0) s calls t
+      IsUnless (cannot_end s p) (invalidation p (p.0, raise generations s.counter)) (invalidated (raise generations) s p.0) s calls t
   IsStrictStep s to_clear calls t =
-      IsUnless (is_exhausted_for_any counting greatest s) (clearing (keys s.slots)) (cleared (raise counting greatest) s) s calls t
+      IsUnless (is_exhausted_for_any generations s) (clearing (keys s.slots)) (cleared (raise generations) s) s calls t
   IsStrictStep s (to_compress values) calls t =
       (length values ≡ arena_len s)
-      × IsUnless (is_exhausted_for_any counting greatest s)
-      (compression (keys s.slots) (keys (closed_up (raised_if_any (raise counting greatest) s) values)))
-      (compressed s (raised_if_any (raise counting greatest) s) values) s calls t
+      × IsUnless (is_exhausted_for_any generations s)
+      (compression (keys s.slots) (keys (closed_up (raised_if_any (raise generations) s) values)))
+      (compressed s (raised_if_any (raise generations) s) values) s calls t
   IsStrictStep s (to_reallocate m) calls t = (calls ≡ resizing ∷ []) × (IsTouched (reallocated kind s m) t ⊎ IsTouched (tidied s) t)
 
   -- calls one after another, and the model calls that they are

@@ -52,7 +52,7 @@ pub fn compress_recaster<P: Ptr, T, A: CompactArenaTrait<P, T>>(
     ensures limit { A.limit this.new ≡ A.limit this.old }
     ensures capacity { A.capacity this.new ≡ A.capacity this.old }
     ensures history { OnOk result (reset_generation ≡ false
-        → CountsUp P.Gen.counting (A.compression_wraps this.old reset_generation)
+        → CountsUp P.Gen.generations (A.compression_wraps this.old reset_generation)
         → Continues A.fits this.old
         (compression (keys (A.slots this.old)) (keys (A.slots this.new)) ∷ []) this.new) }
     ensures begun { OnOk result ((h : History) → A.fits h this.old
@@ -95,7 +95,7 @@ pub fn compress_recast<P: Ptr, T: Recast<P>, A: CompactArenaTrait<P, T>>(
     ensures limit { A.limit this.new ≡ A.limit this.old }
     ensures capacity { A.capacity this.new ≡ A.capacity this.old }
     ensures history { OnOk result (reset_generation ≡ false
-        → CountsUp P.Gen.counting (A.compression_wraps this.old reset_generation)
+        → CountsUp P.Gen.generations (A.compression_wraps this.old reset_generation)
         → Continues A.fits this.old
         (compression (keys (A.slots this.old)) (keys (A.slots this.new)) ∷ []) this.new) }
     ensures begun { OnOk result ((h : History) → A.fits h this.old

@@ -69,7 +69,7 @@ impl<P: Ptr, T, S: NonZeroInxGenericStack<ArenaSlot<P, T>>> Model for StrictAren
     ghost view = { λ s. s.arena };
 
     // no call sets the counter back, so that no entry is of a generation above it
-    ghost invariant = { λ s. P.Gen.counting ≡ true → IsUpToCounter s.arena };
+    ghost invariant = { λ s. P.Gen.generations.counting ≡ true → IsUpToCounter s.arena };
 
     ghost inverse = { λ s. record { arena = s } };
 }
@@ -78,7 +78,7 @@ impl<P: Ptr, T, S: NonZeroInxGenericStack<ArenaSlot<P, T>>> StrictArena<P, T, S>
     /// An arena without slots, with the room and the limit of a new stack. It takes no memory.
     pub fn new(alloc: Global) -> Self
         ensures { result ≡ new_arena (new_room S.kind) (new_limit S.kind)
-            (greatest_index P.Inx.greatest) (first_generation P.Gen.counting) }
+            (greatest_index P.Inx.greatest) (first_generation P.Gen.generations) }
     {
         StrictArena {
             arena: Arena::new(alloc),
@@ -92,7 +92,7 @@ impl<P: Ptr, T, S: NonZeroInxGenericStack<ArenaSlot<P, T>>> StrictArena<P, T, S>
     pub fn with_min_capacity(alloc: Global, min_capacity: usize) -> Result<Self, AllocError>
         ensures made { IfOk result (λ arena. arena ≡ new_arena (made_room S.kind min_capacity)
             (made_limit S.kind min_capacity) (greatest_index P.Inx.greatest)
-            (first_generation P.Gen.counting)) }
+            (first_generation P.Gen.generations)) }
         ensures holds { OnOk result
             ((min_capacity ≤ greatest_index P.Inx.greatest) × CanHold S.kind min_capacity) }
         ensures succeeds { min_capacity ≤ greatest_index P.Inx.greatest
@@ -146,10 +146,10 @@ impl<P: Ptr, T, S: NonZeroInxGenericStack<ArenaSlot<P, T>>> StrictArena<P, T, S>
             → IsWithin self.old.limit min_capacity
             → S.has_memory (reallocated S.kind self.old min_capacity).room → IsOk result }
         ensures place { OnOk result (min_capacity ≤ capacity self.new) }
-        ensures step { IsStrictStep S.kind P.Gen.counting P.Gen.greatest
+        ensures step { IsStrictStep S.kind P.Gen.generations
             self.old (to_reallocate min_capacity) (resizing ∷ []) self.new }
         ensures history { Continues Fits self.old (resizing ∷ []) self.new }
-        ensures stays_gone { P.Gen.counting ≡ true
+        ensures stays_gone { P.Gen.generations.counting ≡ true
             → (q : Pointer) → IsGoneForGood self.old q → IsGoneForGood self.new q }
     {
         self.arena.reallocate_min_capacity(min_capacity)
@@ -176,7 +176,7 @@ impl<P: Ptr, T, S: NonZeroInxGenericStack<ArenaSlot<P, T>>> StrictArena<P, T, S>
     /// before; and the calls that end entries are refused exactly where `PtrGen::is_max` holds of it.
     pub fn generation(&self) -> P::Gen
         ensures number { P.Gen.number result ≡ self.now.counter }
-        ensures history { P.Gen.counting ≡ true
+        ensures history { P.Gen.generations.counting ≡ true
             → Fits (begun_with (keys self.now.slots)) self.now }
     {
         self.arena.generation()
@@ -207,11 +207,11 @@ impl<P: Ptr, T, S: NonZeroInxGenericStack<ArenaSlot<P, T>>> StrictArena<P, T, S>
         ensures history { (h : History) → Fits h self.old
             → is_some result ≡ remains h (P.numbers p) }
         ensures step { IsSome (look_up self.old.slots (P.numbers p)) → (value : T)
-            → IsStrictStep S.kind P.Gen.counting P.Gen.greatest self.old
+            → IsStrictStep S.kind P.Gen.generations self.old
             (to_write (P.numbers p) value) [] (with_value self.old (P.numbers p).0 value) }
         ensures written { (value : T) → Continues Fits self.old []
             (with_value self.old (P.numbers p).0 value) }
-        ensures stays_gone { P.Gen.counting ≡ true → (value : T) (q : Pointer)
+        ensures stays_gone { P.Gen.generations.counting ≡ true → (value : T) (q : Pointer)
             → IsGoneForGood self.old q → IsGoneForGood (with_value self.old (P.numbers p).0 value) q }
     {
         self.arena.get_mut(p)
@@ -262,12 +262,12 @@ impl<P: Ptr, T, S: NonZeroInxGenericStack<ArenaSlot<P, T>>> StrictArena<P, T, S>
         ensures refused { OnErr result (self.new ≡ self.old) }
         ensures bounded { RisesByAtMost 6 self.old.steps self.new.steps }
         ensures well_formed { IsWellFormed self.old }
-        ensures step { IsStrictStep S.kind P.Gen.counting P.Gen.greatest
+        ensures step { IsStrictStep S.kind P.Gen.generations
             self.old (to_insert t) (calls_if_ok result (λ p. insertion (P.numbers p))) self.new }
         ensures history { Continues Fits self.old
             (calls_if_ok result (λ p. insertion (P.numbers p))) self.new }
         ensures new { IfOk result (λ p. (q : Pointer) → IsGoneForGood self.old q → P.numbers p ≢ q) }
-        ensures stays_gone { P.Gen.counting ≡ true
+        ensures stays_gone { P.Gen.generations.counting ≡ true
             → (q : Pointer) → IsGoneForGood self.old q → IsGoneForGood self.new q }
     {
         self.arena.insert_within_capacity(t)
@@ -298,12 +298,12 @@ impl<P: Ptr, T, S: NonZeroInxGenericStack<ArenaSlot<P, T>>> StrictArena<P, T, S>
         ensures place { OnOk result (arena_len (grown S.kind self.old)
             < capacity (grown S.kind self.old)) }
         ensures well_formed { IsWellFormed self.old }
-        ensures step { IsStrictStep S.kind P.Gen.counting P.Gen.greatest
+        ensures step { IsStrictStep S.kind P.Gen.generations
             self.old (to_insert t) (calls_if_ok result (λ p. insertion (P.numbers p))) self.new }
         ensures history { Continues Fits self.old
             (calls_if_ok result (λ p. insertion (P.numbers p))) self.new }
         ensures new { IfOk result (λ p. (q : Pointer) → IsGoneForGood self.old q → P.numbers p ≢ q) }
-        ensures stays_gone { P.Gen.counting ≡ true
+        ensures stays_gone { P.Gen.generations.counting ≡ true
             → (q : Pointer) → IsGoneForGood self.old q → IsGoneForGood self.new q }
     {
         self.arena.insert_reallocating(t)
@@ -333,12 +333,12 @@ impl<P: Ptr, T, S: NonZeroInxGenericStack<ArenaSlot<P, T>>> StrictArena<P, T, S>
         ensures place { OnOk result (arena_len (grown S.kind self.old)
             < capacity (grown S.kind self.old)) }
         ensures well_formed { IsWellFormed self.old }
-        ensures step { IsStrictStep S.kind P.Gen.counting P.Gen.greatest
+        ensures step { IsStrictStep S.kind P.Gen.generations
             self.old (to_insert t) (calls_if_ok result (λ p. insertion (P.numbers p))) self.new }
         ensures history { Continues Fits self.old
             (calls_if_ok result (λ p. insertion (P.numbers p))) self.new }
         ensures new { IfOk result (λ p. (q : Pointer) → IsGoneForGood self.old q → P.numbers p ≢ q) }
-        ensures stays_gone { P.Gen.counting ≡ true
+        ensures stays_gone { P.Gen.generations.counting ≡ true
             → (q : Pointer) → IsGoneForGood self.old q → IsGoneForGood self.new q }
     {
         self.arena.insert(t)
@@ -350,21 +350,22 @@ impl<P: Ptr, T, S: NonZeroInxGenericStack<ArenaSlot<P, T>>> StrictArena<P, T, S>
     /// `InvalidPtr` exactly where `p` is invalid; else `Exhausted` exactly where the counter is at its
     /// greatest value. Then nothing changes but how many slots were touched.
     pub fn remove(&mut self, p: P) -> Result<T, StrictError>
-        ensures answer { result ≡ strict_of (is_exhausted P.Gen.counting P.Gen.greatest self.old)
+        ensures answer { result ≡ strict_of (is_exhausted P.Gen.generations self.old)
             (look_up self.old.slots (P.numbers p)) }
         ensures done { OnOk result (IsTouched
-            (removed (raise P.Gen.counting P.Gen.greatest) self.old (P.numbers p).0) self.new) }
+            (removed (raise P.Gen.generations) self.old (P.numbers p).0) self.new) }
         ensures refused { OnErr result (IsTouched self.old self.new) }
         ensures bounded { RisesByAtMost 6 self.old.steps self.new.steps }
         ensures gone { OnOk result (look_up self.new.slots (P.numbers p) ≡ None) }
         ensures others { (q : Pointer) → q ≢ P.numbers p
             → look_up self.new.slots q ≡ look_up self.old.slots q }
-        ensures step { IsStrictStep S.kind P.Gen.counting P.Gen.greatest
+        ensures step { IsStrictStep S.kind P.Gen.generations
             self.old (to_remove (P.numbers p)) (calls_if_ok result (λ _. removal (P.numbers p))) self.new }
-        ensures history { P.Gen.counting ≡ true → Continues Fits self.old
+        ensures history { P.Gen.generations.counting ≡ true → Continues Fits self.old
             (calls_if_ok result (λ _. removal (P.numbers p))) self.new }
-        ensures gone_for_good { P.Gen.counting ≡ true → OnOk result (IsGoneForGood self.new (P.numbers p)) }
-        ensures stays_gone { P.Gen.counting ≡ true
+        ensures gone_for_good { P.Gen.generations.counting ≡ true
+            → OnOk result (IsGoneForGood self.new (P.numbers p)) }
+        ensures stays_gone { P.Gen.generations.counting ≡ true
             → (q : Pointer) → IsGoneForGood self.old q → IsGoneForGood self.new q }
     {
         if self.is_exhausted_for(p) {
@@ -380,26 +381,27 @@ impl<P: Ptr, T, S: NonZeroInxGenericStack<ArenaSlot<P, T>>> StrictArena<P, T, S>
     /// greatest value. Then nothing changes but how many slots were touched.
     pub fn invalidate(&mut self, p: P) -> Result<P, StrictError>
         ensures answer { result_map_both P.numbers (λ e. e) result
-            ≡ strict_of (is_exhausted P.Gen.counting P.Gen.greatest self.old) (option_map
-            (λ _. ((P.numbers p).0, raise P.Gen.counting P.Gen.greatest self.old.counter))
+            ≡ strict_of (is_exhausted P.Gen.generations self.old) (option_map
+            (λ _. ((P.numbers p).0, raise P.Gen.generations self.old.counter))
             (look_up self.old.slots (P.numbers p))) }
         ensures done { OnOk result (IsTouched
-            (invalidated (raise P.Gen.counting P.Gen.greatest) self.old (P.numbers p).0) self.new) }
+            (invalidated (raise P.Gen.generations) self.old (P.numbers p).0) self.new) }
         ensures refused { OnErr result (IsTouched self.old self.new) }
         ensures bounded { RisesByAtMost 6 self.old.steps self.new.steps }
         ensures found { IfOk result (λ q. look_up self.new.slots (P.numbers q)
             ≡ look_up self.old.slots (P.numbers p)) }
-        ensures gone { P.Gen.counting ≡ true
+        ensures gone { P.Gen.generations.counting ≡ true
             → OnOk result (look_up self.new.slots (P.numbers p) ≡ None) }
         ensures others { (q : Pointer) → q.0 ≢ (P.numbers p).0
             → look_up self.new.slots q ≡ look_up self.old.slots q }
-        ensures step { IsStrictStep S.kind P.Gen.counting P.Gen.greatest
+        ensures step { IsStrictStep S.kind P.Gen.generations
             self.old (to_invalidate (P.numbers p))
             (calls_if_ok result (λ q. invalidation (P.numbers p) (P.numbers q))) self.new }
-        ensures history { P.Gen.counting ≡ true → Continues Fits self.old
+        ensures history { P.Gen.generations.counting ≡ true → Continues Fits self.old
             (calls_if_ok result (λ q. invalidation (P.numbers p) (P.numbers q))) self.new }
-        ensures gone_for_good { P.Gen.counting ≡ true → OnOk result (IsGoneForGood self.new (P.numbers p)) }
-        ensures stays_gone { P.Gen.counting ≡ true
+        ensures gone_for_good { P.Gen.generations.counting ≡ true
+            → OnOk result (IsGoneForGood self.new (P.numbers p)) }
+        ensures stays_gone { P.Gen.generations.counting ≡ true
             → (q : Pointer) → IsGoneForGood self.old q → IsGoneForGood self.new q }
     {
         if self.is_exhausted_for(p) {
@@ -417,18 +419,18 @@ impl<P: Ptr, T, S: NonZeroInxGenericStack<ArenaSlot<P, T>>> StrictArena<P, T, S>
     where
         T: Drop,
         ensures answer { result
-            ≡ strict_all (is_exhausted_for_any P.Gen.counting P.Gen.greatest self.old) }
+            ≡ strict_all (is_exhausted_for_any P.Gen.generations self.old) }
         ensures done { OnOk result (self.new
-            ≡ cleared (raise P.Gen.counting P.Gen.greatest) self.old) }
+            ≡ cleared (raise P.Gen.generations) self.old) }
         ensures refused { OnErr result (self.new ≡ self.old) }
         ensures gone { OnOk result ((q : Pointer) → look_up self.new.slots q ≡ None) }
-        ensures step { IsStrictStep S.kind P.Gen.counting P.Gen.greatest
+        ensures step { IsStrictStep S.kind P.Gen.generations
             self.old to_clear (calls_if_ok result (λ _. clearing (keys self.old.slots))) self.new }
-        ensures history { P.Gen.counting ≡ true → Continues Fits self.old
+        ensures history { P.Gen.generations.counting ≡ true → Continues Fits self.old
             (calls_if_ok result (λ _. clearing (keys self.old.slots))) self.new }
-        ensures gone_for_good { P.Gen.counting ≡ true → OnOk result
+        ensures gone_for_good { P.Gen.generations.counting ≡ true → OnOk result
             ((q : Pointer) → IsSome (look_up self.old.slots q) → IsGoneForGood self.new q) }
-        ensures stays_gone { P.Gen.counting ≡ true
+        ensures stays_gone { P.Gen.generations.counting ≡ true
             → (q : Pointer) → IsGoneForGood self.old q → IsGoneForGood self.new q }
     {
         if self.is_exhausted_for_any() {
@@ -447,28 +449,28 @@ impl<P: Ptr, T, S: NonZeroInxGenericStack<ArenaSlot<P, T>>> StrictArena<P, T, S>
     pub fn compress_with<F: FnMut(P, T, P) -> T>(&mut self, f: F) -> Result<(), StrictError>
         requires callable { F.IsAlwaysCallable f }
         ensures answer { result
-            ≡ strict_all (is_exhausted_for_any P.Gen.counting P.Gen.greatest self.old) }
+            ≡ strict_all (is_exhausted_for_any P.Gen.generations self.old) }
         ensures moved { OnOk result ((new : List T)
             × Moves P.numbers F.step
-            (rank self.old (raised_if_any (raise P.Gen.counting P.Gen.greatest) self.old)) f
+            (rank self.old (raised_if_any (raise P.Gen.generations) self.old)) f
             (entries self.old.slots) new
             × IsTouched (compressed self.old
-            (raised_if_any (raise P.Gen.counting P.Gen.greatest) self.old) new) self.new) }
+            (raised_if_any (raise P.Gen.generations) self.old) new) self.new) }
         ensures keys { OnOk result (keys self.new.slots ≡ map
-            (rank self.old (raised_if_any (raise P.Gen.counting P.Gen.greatest) self.old))
+            (rank self.old (raised_if_any (raise P.Gen.generations) self.old))
             (keys self.old.slots)) }
         ensures refused { OnErr result (self.new ≡ self.old) }
         ensures len { arena_len self.new ≡ arena_len self.old }
-        ensures step { (new : List T) × IsStrictStep S.kind P.Gen.counting P.Gen.greatest
+        ensures step { (new : List T) × IsStrictStep S.kind P.Gen.generations
             self.old (to_compress new)
             (calls_if_ok result (λ _. compression (keys self.old.slots) (keys self.new.slots)))
             self.new }
-        ensures history { P.Gen.counting ≡ true → Continues Fits self.old
+        ensures history { P.Gen.generations.counting ≡ true → Continues Fits self.old
             (calls_if_ok result (λ _. compression (keys self.old.slots) (keys self.new.slots)))
             self.new }
-        ensures gone_for_good { P.Gen.counting ≡ true → OnOk result
+        ensures gone_for_good { P.Gen.generations.counting ≡ true → OnOk result
             ((q : Pointer) → IsSome (look_up self.old.slots q) → IsGoneForGood self.new q) }
-        ensures stays_gone { P.Gen.counting ≡ true
+        ensures stays_gone { P.Gen.generations.counting ≡ true
             → (q : Pointer) → IsGoneForGood self.old q → IsGoneForGood self.new q }
     {
         if self.is_exhausted_for_any() {
@@ -481,30 +483,30 @@ impl<P: Ptr, T, S: NonZeroInxGenericStack<ArenaSlot<P, T>>> StrictArena<P, T, S>
     /// As [`Self::compress_with`], and no value changes.
     pub fn compress(&mut self) -> Result<(), StrictError>
         ensures answer { result
-            ≡ strict_all (is_exhausted_for_any P.Gen.counting P.Gen.greatest self.old) }
+            ≡ strict_all (is_exhausted_for_any P.Gen.generations self.old) }
         ensures done { OnOk result (IsTouched (compressed self.old
-            (raised_if_any (raise P.Gen.counting P.Gen.greatest) self.old)
+            (raised_if_any (raise P.Gen.generations) self.old)
             (values self.old.slots)) self.new) }
         ensures keys { OnOk result (keys self.new.slots ≡ map
-            (rank self.old (raised_if_any (raise P.Gen.counting P.Gen.greatest) self.old))
+            (rank self.old (raised_if_any (raise P.Gen.generations) self.old))
             (keys self.old.slots)) }
         ensures values { values self.new.slots ≡ values self.old.slots }
         ensures found { OnOk result ((q : Pointer) → IsSome (look_up self.old.slots q)
             → look_up self.new.slots (rank self.old
-            (raised_if_any (raise P.Gen.counting P.Gen.greatest) self.old) q)
+            (raised_if_any (raise P.Gen.generations) self.old) q)
             ≡ look_up self.old.slots q) }
         ensures refused { OnErr result (self.new ≡ self.old) }
         ensures len { arena_len self.new ≡ arena_len self.old }
-        ensures step { (new : List T) × IsStrictStep S.kind P.Gen.counting P.Gen.greatest
+        ensures step { (new : List T) × IsStrictStep S.kind P.Gen.generations
             self.old (to_compress new)
             (calls_if_ok result (λ _. compression (keys self.old.slots) (keys self.new.slots)))
             self.new }
-        ensures history { P.Gen.counting ≡ true → Continues Fits self.old
+        ensures history { P.Gen.generations.counting ≡ true → Continues Fits self.old
             (calls_if_ok result (λ _. compression (keys self.old.slots) (keys self.new.slots)))
             self.new }
-        ensures gone_for_good { P.Gen.counting ≡ true → OnOk result
+        ensures gone_for_good { P.Gen.generations.counting ≡ true → OnOk result
             ((q : Pointer) → IsSome (look_up self.old.slots q) → IsGoneForGood self.new q) }
-        ensures stays_gone { P.Gen.counting ≡ true
+        ensures stays_gone { P.Gen.generations.counting ≡ true
             → (q : Pointer) → IsGoneForGood self.old q → IsGoneForGood self.new q }
     {
         if self.is_exhausted_for_any() {
@@ -529,37 +531,37 @@ impl<P: Ptr, T, S: NonZeroInxGenericStack<ArenaSlot<P, T>>> StrictArena<P, T, S>
     where
         T: Recast<P>,
         ensures maps { IfOk result (λ images. MapsPointers P.numbers
-            (rank self.old (raised_if_any (raise P.Gen.counting P.Gen.greatest) self.old))
+            (rank self.old (raised_if_any (raise P.Gen.generations) self.old))
             self.old.slots images.slots) }
         ensures done { OnOk result ((new : List T)
             × AreRenamed P.numbers
-            (rank self.old (raised_if_any (raise P.Gen.counting P.Gen.greatest) self.old))
+            (rank self.old (raised_if_any (raise P.Gen.generations) self.old))
             T.held T.refill (values self.old.slots) new
             × IsTouched (compressed self.old
-            (raised_if_any (raise P.Gen.counting P.Gen.greatest) self.old) new) self.new) }
+            (raised_if_any (raise P.Gen.generations) self.old) new) self.new) }
         ensures keys { OnOk result (keys self.new.slots ≡ map
-            (rank self.old (raised_if_any (raise P.Gen.counting P.Gen.greatest) self.old))
+            (rank self.old (raised_if_any (raise P.Gen.generations) self.old))
             (keys self.old.slots)) }
         ensures values { OnOk result (AreRenamed P.numbers
-            (rank self.old (raised_if_any (raise P.Gen.counting P.Gen.greatest) self.old))
+            (rank self.old (raised_if_any (raise P.Gen.generations) self.old))
             T.held T.refill (values self.old.slots) (values self.new.slots)) }
         ensures resolved { OnOk result (first_unresolved P.numbers self.old.slots
             (held_all T.held (values self.old.slots)) ≡ None) }
         ensures exhausted { (result ≡ Err StrictCompactError.Exhausted)
-            ↔ (is_exhausted_for_any P.Gen.counting P.Gen.greatest self.old ≡ true) }
+            ↔ (is_exhausted_for_any P.Gen.generations self.old ≡ true) }
         ensures refusal { IfErr result (RefusesStrictly (arena_len self.old)
             (first_unresolved P.numbers self.old.slots (held_all T.held (values self.old.slots)))) }
         ensures refused { OnErr result (self.new ≡ self.old) }
         ensures len { arena_len self.new ≡ arena_len self.old }
-        ensures step { OnOk result ((new : List T) × IsStrictStep S.kind P.Gen.counting P.Gen.greatest
+        ensures step { OnOk result ((new : List T) × IsStrictStep S.kind P.Gen.generations
             self.old (to_compress new)
             (compression (keys self.old.slots) (keys self.new.slots) ∷ []) self.new) }
-        ensures history { P.Gen.counting ≡ true → Continues Fits self.old
+        ensures history { P.Gen.generations.counting ≡ true → Continues Fits self.old
             (calls_if_ok result (λ _. compression (keys self.old.slots) (keys self.new.slots)))
             self.new }
-        ensures gone_for_good { P.Gen.counting ≡ true → OnOk result
+        ensures gone_for_good { P.Gen.generations.counting ≡ true → OnOk result
             ((q : Pointer) → IsSome (look_up self.old.slots q) → IsGoneForGood self.new q) }
-        ensures stays_gone { P.Gen.counting ≡ true
+        ensures stays_gone { P.Gen.generations.counting ≡ true
             → (q : Pointer) → IsGoneForGood self.old q → IsGoneForGood self.new q }
     {
         if self.is_exhausted_for_any() {
@@ -571,14 +573,14 @@ impl<P: Ptr, T, S: NonZeroInxGenericStack<ArenaSlot<P, T>>> StrictArena<P, T, S>
 
     // Whether a raise of the counter would wrap it.
     fn is_exhausted(&self) -> bool
-        ensures { result ≡ is_exhausted P.Gen.counting P.Gen.greatest self.now }
+        ensures { result ≡ is_exhausted P.Gen.generations self.now }
     {
         P::Gen::is_max(self.arena.generation())
     }
 
     // Whether a raise of the counter would wrap it, and the pointer is valid.
     fn is_exhausted_for(&self, p: P) -> bool
-        ensures { result ≡ is_exhausted P.Gen.counting P.Gen.greatest self.now
+        ensures { result ≡ is_exhausted P.Gen.generations self.now
             && is_some (look_up self.now.slots (P.numbers p)) }
     {
         self.is_exhausted() && self.contains(p)
@@ -586,7 +588,7 @@ impl<P: Ptr, T, S: NonZeroInxGenericStack<ArenaSlot<P, T>>> StrictArena<P, T, S>
 
     // Whether a raise of the counter would wrap it, and there is an entry.
     fn is_exhausted_for_any(&self) -> bool
-        ensures { result ≡ is_exhausted_for_any P.Gen.counting P.Gen.greatest self.now }
+        ensures { result ≡ is_exhausted_for_any P.Gen.generations self.now }
     {
         !self.arena.is_empty() && self.is_exhausted()
     }

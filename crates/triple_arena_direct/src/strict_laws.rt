@@ -1,6 +1,7 @@
 //! Laws over lists of calls of a strict arena.
 
-ghost use Rattle.std.specs.Prelude.{◌≡◌, ◌<◌, ℕ, Bool, List, true};
+ghost use Rattle.std.specs.Prelude.{◌≡◌, ◌<◌, List, true};
+ghost use Rattle.triple_arena_ptr.specs.Numbers.{Generations};
 ghost use Rattle.triple_arena_ptr.specs.Pointers.{Pointer};
 ghost use Rattle.triple_arena_stack.specs.StackKind.{StackKind};
 ghost use Rattle.triple_arena_traits.specs.ArenaState.{ArenaState, arena_len};
@@ -17,23 +18,25 @@ ghost use Rattle.triple_arena_direct.specs.StrictCalls.{StrictCall, IsStrictStep
 /// (`live`), and what is gone for good stays so (`stays_gone`). Gone in an arena without entries is
 /// each pointer of a generation below the counter (`below`), as that of `Ptr::invalid`.
 pub fn strict_calls_are_fresh<T>()
-    ensures call { (kind : StackKind) (counting : Bool) (greatest : ℕ) (s : ArenaState T)
-        (call : StrictCall T) (calls : List ModelCall) (t : ArenaState T) → counting ≡ true
-        → IsStrictStep kind counting greatest s call calls t → Continues Fits s calls t }
-    ensures calls { (kind : StackKind) (counting : Bool) (greatest : ℕ) (s : ArenaState T)
-        (steps : List (StrictCall T)) (calls : List ModelCall) (t : ArenaState T) → counting ≡ true
-        → AreStrictSteps kind counting greatest s steps calls t → Continues Fits s calls t }
-    ensures given_once { (kind : StackKind) (counting : Bool) (greatest : ℕ) (s : ArenaState T)
+    ensures call { (kind : StackKind) (generations : Generations) (s : ArenaState T)
+        (call : StrictCall T) (calls : List ModelCall) (t : ArenaState T)
+        → generations.counting ≡ true
+        → IsStrictStep kind generations s call calls t → Continues Fits s calls t }
+    ensures calls { (kind : StackKind) (generations : Generations) (s : ArenaState T)
+        (steps : List (StrictCall T)) (calls : List ModelCall) (t : ArenaState T)
+        → generations.counting ≡ true
+        → AreStrictSteps kind generations s steps calls t → Continues Fits s calls t }
+    ensures given_once { (kind : StackKind) (generations : Generations) (s : ArenaState T)
         (steps : List (StrictCall T)) (calls : List ModelCall) (t : ArenaState T) (h : History)
-        → counting ≡ true → Fits h s → AreStrictSteps kind counting greatest s steps calls t
+        → generations.counting ≡ true → Fits h s → AreStrictSteps kind generations s steps calls t
         → AreDistinct (given (followed_by h calls)) }
-    ensures live { (kind : StackKind) (counting : Bool) (greatest : ℕ) (s : ArenaState T)
+    ensures live { (kind : StackKind) (generations : Generations) (s : ArenaState T)
         (steps : List (StrictCall T)) (calls : List ModelCall) (t : ArenaState T) (h : History)
-        → counting ≡ true → Fits h s → AreStrictSteps kind counting greatest s steps calls t
+        → generations.counting ≡ true → Fits h s → AreStrictSteps kind generations s steps calls t
         → (p : Pointer) → is_live t p ≡ remains (followed_by h calls) p }
-    ensures stays_gone { (kind : StackKind) (counting : Bool) (greatest : ℕ) (s : ArenaState T)
+    ensures stays_gone { (kind : StackKind) (generations : Generations) (s : ArenaState T)
         (steps : List (StrictCall T)) (calls : List ModelCall) (t : ArenaState T) (h : History)
-        → counting ≡ true → Fits h s → AreStrictSteps kind counting greatest s steps calls t
+        → generations.counting ≡ true → Fits h s → AreStrictSteps kind generations s steps calls t
         → (p : Pointer) → IsGoneForGood s p → IsGoneForGood t p }
     ensures below { (s : ArenaState T) (p : Pointer) → arena_len s ≡ 0 → p.1 < s.counter
         → IsGoneForGood s p }

@@ -546,7 +546,8 @@ impl<P: Ptr, T, S: NonZeroInxGenericStack<DirectSlot<P, T>>> DirectArena<P, T, S
             (value_of (entry_in self.old.slots (non_zero_usize_get first)))
             (value_of (entry_in self.old.slots (non_zero_usize_get second)))
             result (λ x y. self.new ≡ direct_with_value
-            (direct_with_value self.old (non_zero_usize_get first) x) (non_zero_usize_get second) y) }
+            (direct_with_value self.old (non_zero_usize_get first) x)
+            (non_zero_usize_get second) y) }
     {
         work_on_two::<P, T, DirectSlot<P, T>, S, R, C>(&mut self.slots.stack, first, second, call)
     }
@@ -587,7 +588,8 @@ impl<P: Ptr, T, S: NonZeroInxGenericStack<DirectSlot<P, T>>> DirectArena<P, T, S
         ensures beyond { (result ≡ Err ReallocationError.BeyondMaxCapacity)
             ↔ IsBeyond self.old.limit min_capacity }
         ensures succeeds { IsWithin self.old.limit min_capacity
-            → (direct_with_room_for S.kind self.old min_capacity).room ≡ self.old.room → IsOk result }
+            → (direct_with_room_for S.kind self.old min_capacity).room ≡ self.old.room
+            → IsOk result }
         ensures with_memory { IsWithin self.old.limit min_capacity
             → S.has_memory (direct_with_room_for S.kind self.old min_capacity).room → IsOk result }
         ensures place { OnOk result (min_capacity ≤ greatest_index P.Inx.greatest

@@ -47,7 +47,8 @@ impl<'a, P: Ptr, T, S: NonZeroInxGenericStack<DirectSlot<P, T>>> ArenaDirectInse
         ensures* writes_back { sem 𝓛 (Lends
             ⟦<DirectArena<P, T, S> as LendingArena>⟧.arena_row
             T.row (direct_entry_reference self.entry) result
-            (inserted_at (direct_entry_arena self.entry) (P.numbers (direct_entry_pointer self.entry)))) }
+            (inserted_at (direct_entry_arena self.entry)
+            (P.numbers (direct_entry_pointer self.entry)))) }
     {
         let ArenaDirectInsertEntry { p, arena } = self;
         arena.direct_insert_reserved(p, t);
@@ -68,7 +69,8 @@ impl<P: Ptr, T, S: NonZeroInxGenericStack<DirectSlot<P, T>>> DirectArena<P, T, S
             (P.numbers p).0 result }
         ensures arena { IfOk result (λ entry. direct_entry_arena entry ≡ self.old) }
         ensures pointer { IfOk result (λ entry. direct_entry_pointer entry ≡ p) }
-        ensures same_reference { IfOk result (λ entry. direct_entry_lender entry ≡ self.entry.ghost_name) }
+        ensures same_reference { IfOk result (λ entry. direct_entry_lender entry
+            ≡ self.entry.ghost_name) }
         ensures* refused { sem 𝓛 (direct_entry_rests
             ⟦<DirectArena<P, T, S> as LendingArena>⟧.arena_row self.entry result) }
     {

@@ -26,7 +26,8 @@ pub fn limit_set_back<T>()
         → t ≡ direct_with_limit (direct_shortened s x) x
         → direct_capacity (direct_with_limit (direct_shortened t most) most) ≡ direct_capacity s }
     ensures state { (s t : DirectState T) (x most : ℕ) → SlotsFit s → s.limit ≡ Some most
-        → t ≡ direct_with_limit (direct_shortened s x) x → direct_with_limit (direct_shortened t most) most ≡ direct_shortened s x }
+        → t ≡ direct_with_limit (direct_shortened s x) x
+        → direct_with_limit (direct_shortened t most) most ≡ direct_shortened s x }
 {}
 
 /// A mirror keeps the pointers: a direct arena that is given each insertion and each removal of

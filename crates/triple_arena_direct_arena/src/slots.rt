@@ -96,8 +96,8 @@ impl<P: Ptr, T, S: NonZeroInxGenericStack<DirectSlot<P, T>>> Slots<P, T, S> {
     pub(crate) fn vacate(&mut self, inx: NonZeroUsize) -> (P::Gen, T)
         requires { IsSome (direct_entry_at P.Gen.number (S.items self.old.stack)
             (non_zero_usize_get inx)) }
-        ensures entry { direct_entry_at P.Gen.number (S.items self.old.stack) (non_zero_usize_get inx)
-            ≡ Some (P.Gen.number result.0, result.1) }
+        ensures entry { direct_entry_at P.Gen.number (S.items self.old.stack)
+            (non_zero_usize_get inx) ≡ Some (P.Gen.number result.0, result.1) }
         ensures slots { map (direct_slot_entry P.Gen.number) (S.items self.new.stack)
             ≡ with_item (map (direct_slot_entry P.Gen.number) (S.items self.old.stack))
             (non_zero_usize_get inx) None }
@@ -151,7 +151,7 @@ impl<P: Ptr, T, S: NonZeroInxGenericStack<DirectSlot<P, T>>> Slots<P, T, S> {
             ≤ stack_capacity (S.room self.old.stack) (S.limit self.old.stack) }
         requires indexed { entry_count (A.slots source.old) ≤ greatest_index P.Inx.greatest }
         ensures transferred { Transfers Q.numbers P.numbers M.step A.slots A.fits A.removes
-            A.ending_wraps Q.Gen.counting (P.Gen.number generation) f source.old source.new
+            A.ending_wraps Q.Gen.generations (P.Gen.number generation) f source.old source.new
             (map (direct_slot_entry P.Gen.number) (S.items self.new.stack)) }
         ensures emptied { entry_count (A.slots source.new) ≡ 0 }
         ensures count { result ≡ entry_count (A.slots source.old) }

@@ -5,7 +5,7 @@ ghost use Rattle.std.specs.Fmt.{WritesOnOk};
 ghost use Rattle.std.specs.Ordering.{nat_cmp};
 ghost use Rattle.std.specs.Int.NonZero.{non_zero_u8_get, non_zero_u16_get, non_zero_u32_get, non_zero_u64_get, non_zero_u128_get};
 ghost use Rattle.std.proofs.Common.{refl, arith, true≢false};
-ghost use Rattle.triple_arena_ptr.specs.Numbers.{raise, wraps, first_generation};
+ghost use Rattle.triple_arena_ptr.specs.Numbers.{Generations, counting_to, raise, wraps, first_generation};
 ghost use Rattle.triple_arena_ptr.specs.PointerText.{generation_hex};
 ghost use Rattle.triple_arena_ptr.specs.NonZeroValues.{u8_distinct, u16_distinct, u32_distinct, u64_distinct, u128_distinct, unit_distinct};
 
@@ -18,21 +18,18 @@ use std::num::{NonZeroU8, NonZeroU16, NonZeroU32, NonZeroU64, NonZeroU128};
 /// A generation: a number from 1 to the greatest of its type, or `()` where generations do not
 /// count.
 ///
-/// Contracts speak of its `number`, and of two facts of the type: the `greatest` number, and
-/// whether the type is `counting`. Generations are equal, and ordered, as their numbers are.
+/// Contracts speak of its `number`, and of the `generations` of the type: whether they are
+/// `counting`, and the `greatest`. Generations are equal, and ordered, as their numbers are.
 pub trait PtrGen: Debug + Hash + Clone + Copy + PartialEq + Eq + PartialOrd + Ord + 'static {
     /// The number of a generation, 1 for `()`.
     ghost number: { Self → ℕ };
 
-    /// The greatest number of the type, 1 for `()`.
-    ghost greatest: { ℕ };
-
-    /// Whether the type tells generations apart.
-    ghost counting: { Bool };
+    /// Whether the type tells generations apart, and its greatest number, 1 for `()`.
+    ghost generations: { Generations };
 
     /// Whether the type tells generations apart: false for `()` alone.
     fn counts() -> bool
-        ensures { result ≡ counting };
+        ensures { result ≡ generations.counting };
 
     /// The generation 1. Where generations count, no counter begins with it or comes to it by itself:
     /// an entry has it only where its counter was set to 1, or its pointer was given.
@@ -41,28 +38,28 @@ pub trait PtrGen: Debug + Hash + Clone + Copy + PartialEq + Eq + PartialOrd + Or
 
     /// The counter of a new arena: 2, or `()`.
     fn two() -> Self
-        ensures { number result ≡ first_generation counting };
+        ensures { number result ≡ first_generation generations };
 
     /// The next generation, and whether the count began anew: one more and false below the
     /// greatest, 2 and true at the greatest, and `()` and false of `()`.
     fn generational_inc(this: Self) -> (Self, bool)
-        ensures within { number this ≤ greatest }
-        ensures raised { number result.0 ≡ raise counting greatest (number this) }
-        ensures wrapped { result.1 ≡ wraps counting greatest (number this) };
+        ensures within { number this ≤ generations.greatest }
+        ensures raised { number result.0 ≡ raise generations (number this) }
+        ensures wrapped { result.1 ≡ wraps generations (number this) };
 
     /// Writes the number in lower-case hexadecimal without prefix, and `()` of `()`.
     fn fmt_hex<W: fmt::Write>(this: Self, f: &mut fmt::Formatter<W>) -> fmt::Result
         ensures { WritesOnOk W.write_str_gives f.old result
-            (generation_hex counting (number this)) f.new };
+            (generation_hex generations.counting (number this)) f.new };
 
     /// Numbers begin at 1.
     ghost positive: { (g : Self) → 1 ≤ number g };
 
     /// A type that does not tell generations apart has one value.
-    ghost alone: { (g : Self) → counting ≡ false → number g ≡ 1 };
+    ghost alone: { (g : Self) → generations.counting ≡ false → number g ≡ 1 };
 
     /// The counter of a new arena is a number of the type.
-    ghost first_within: { first_generation counting ≤ greatest };
+    ghost first_within: { first_generation generations ≤ generations.greatest };
 
     /// Different generations have different numbers.
     ghost distinct: { (g h : Self) → number g ≡ number h → g ≡ h };
@@ -76,8 +73,8 @@ pub trait PtrGen: Debug + Hash + Clone + Copy + PartialEq + Eq + PartialOrd + Or
     /// Whether this is the greatest generation of its type, where generations count: exactly there
     /// [`Self::generational_inc`] tells of a wrap. Never of `()`.
     final fn is_max(this: Self) -> bool
-        ensures value { result ≡ wraps counting greatest (number this) }
-        ensures within { number this ≤ greatest }
+        ensures value { result ≡ wraps generations (number this) }
+        ensures within { number this ≤ generations.greatest }
     {
         let (_next, wrapped) = Self::generational_inc(this);
         wrapped
@@ -97,9 +94,7 @@ macro_rules! next_generation {
 impl PtrGen for NonZeroU8 {
     ghost number = { non_zero_u8_get };
 
-    ghost greatest = { 2 ^ 8 - 1 };
-
-    ghost counting = { true };
+    ghost generations = { counting_to (2 ^ 8 - 1) };
 
     fn counts() -> bool {
         true
@@ -137,9 +132,7 @@ impl PtrGen for NonZeroU8 {
 impl PtrGen for NonZeroU16 {
     ghost number = { non_zero_u16_get };
 
-    ghost greatest = { 2 ^ 16 - 1 };
-
-    ghost counting = { true };
+    ghost generations = { counting_to (2 ^ 16 - 1) };
 
     fn counts() -> bool {
         true
@@ -177,9 +170,7 @@ impl PtrGen for NonZeroU16 {
 impl PtrGen for NonZeroU32 {
     ghost number = { non_zero_u32_get };
 
-    ghost greatest = { 2 ^ 32 - 1 };
-
-    ghost counting = { true };
+    ghost generations = { counting_to (2 ^ 32 - 1) };
 
     fn counts() -> bool {
         true
@@ -217,9 +208,7 @@ impl PtrGen for NonZeroU32 {
 impl PtrGen for NonZeroU64 {
     ghost number = { non_zero_u64_get };
 
-    ghost greatest = { 2 ^ 64 - 1 };
-
-    ghost counting = { true };
+    ghost generations = { counting_to (2 ^ 64 - 1) };
 
     fn counts() -> bool {
         true
@@ -257,9 +246,7 @@ impl PtrGen for NonZeroU64 {
 impl PtrGen for NonZeroU128 {
     ghost number = { non_zero_u128_get };
 
-    ghost greatest = { 2 ^ 128 - 1 };
-
-    ghost counting = { true };
+    ghost generations = { counting_to (2 ^ 128 - 1) };
 
     fn counts() -> bool {
         true
@@ -298,9 +285,7 @@ impl PtrGen for NonZeroU128 {
 impl PtrGen for () {
     ghost number = { λ _. 1 };
 
-    ghost greatest = { 1 };
-
-    ghost counting = { false };
+    ghost generations = { record { counting = false; greatest = 1 } };
 
     fn counts() -> bool {
         false

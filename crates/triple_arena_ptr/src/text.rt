@@ -21,7 +21,7 @@ pub fn fmt_pointer<I: PtrInx, G: PtrGen, W: fmt::Write>(
     f: &mut fmt::Formatter<W>,
 ) -> fmt::Result
     ensures { WritesOnOk W.write_str_gives f.old result
-        (pointer_text name.now (I.number inx) G.counting (G.number generation)) f.new }
+        (pointer_text name.now (I.number inx) G.generations.counting (G.number generation)) f.new }
 {
     let inx = InxHex(inx);
     if G::counts() {
@@ -49,7 +49,7 @@ impl<I: PtrInx> fmt::Display for InxHex<I> {
 struct GenerationHex<G>(G);
 
 impl<G: PtrGen> fmt::Display for GenerationHex<G> {
-    ghost output = { λ x. Some (generation_hex G.counting (G.number x.0)) };
+    ghost output = { λ x. Some (generation_hex G.generations.counting (G.number x.0)) };
 
     fn fmt<W: fmt::Write>(&self, f: &mut fmt::Formatter<W>) -> fmt::Result {
         G::fmt_hex(self.0, f)

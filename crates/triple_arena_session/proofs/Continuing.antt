@@ -1,5 +1,5 @@
 -- The arena of a session goes on by the model calls of its commands, whatever the table of the session is.
-use Rattle.std.proofs.Common.{◌≡◌, ◌≢◌, ◌⊎◌, ℕ, ◌+◌, ◌*◌, ◌<◌, ◌≤◌, ◌==◌, nat_le, Bool, true, false, List, [], ◌∷◌, map, min, Option, Some, None, is_some, if◌then◌else◌, cond, refl, sym, ap, subst, ◌∙◌, inl, inr, arith, true≢false, String}
+use Rattle.std.proofs.Common.{◌≡◌, ◌≢◌, ◌⊎◌, ℕ, ◌+◌, ◌*◌, ◌<◌, ◌≤◌, ◌==◌, ◌&&◌, nat_le, Bool, true, false, List, [], ◌∷◌, map, min, Option, Some, None, is_some, if◌then◌else◌, cond, refl, sym, ap, subst, ◌∙◌, inl, inr, arith, true≢false, String}
 use Rattle.std.specs.declared.alloc.Global.{Global}
 use Rattle.std.proofs.lemmas.Bool.{leb-false, eqb-true, eqb-false}
 use Rattle.std.proofs.lemmas.List.{length-map}
@@ -7,7 +7,7 @@ use Rattle.std.proofs.lemmas.List.Elements.{All-head, All-tail}
 use Rattle.std.proofs.lemmas.Option.{same_Some}
 use Rattle.triple_arena_base.specs.declared.errors.ReallocationError.{ReallocationError}
 use Rattle.triple_arena_base.specs.declared.errors.ReallocationError.TheVariants as refused
-use Rattle.triple_arena_ptr.specs.Numbers.{raise, wraps, first_generation}
+use Rattle.triple_arena_ptr.specs.Numbers.{Generations, raise, wraps, first_generation}
 use Rattle.triple_arena_ptr.specs.Pointers.{Pointer}
 use Rattle.triple_arena_stack.specs.StackKind.{StackKind, IsOfKind, reallocated_room}
 use Rattle.triple_arena_stack.specs.StackKind.StackKind.{heap, limited, fixed, array}
@@ -76,9 +76,12 @@ not_refused false true e = absurd (cc)
 not_refused false false e = (refl, refl)
 
 -- where the count does not begin anew, the raised counter is the next number
-pub raised_by_one : (counting : Bool) (greatest n : ℕ) → counting ≡ true → wraps counting greatest n ≡ false → raise counting greatest n ≡ n + 1
-raised_by_one true greatest n counts quiet = ap {B = ℕ} (λ b. if b then 2 else n + 1) quiet
-raised_by_one false greatest n counts quiet = absurd (true≢false (sym counts))
+pub raised_by_one : (generations : Generations) (n : ℕ) → generations.counting ≡ true → wraps generations n ≡ false → raise generations n ≡ n + 1
+raised_by_one generations n counts quiet = by generations.counting counts quiet
+  where
+    by : (counting : Bool) → counting ≡ true → (counting && (n == generations.greatest)) ≡ false → cond counting (if n == generations.greatest then 2 else n + 1) n ≡ n + 1
+    by true counts quiet = ap {B = ℕ} (λ b. if b then 2 else n + 1) quiet
+    by false counts quiet = absurd (true≢false (sym counts))
 
 -- what a command leaves of an arena over a stack is as every such arena is
 module _ {T : Type 0} (kind : StackKind) (s : ArenaState T) (over : IsArenaOver kind s) where
@@ -162,12 +165,12 @@ module _ {T : Type 0} (kind : StackKind) (s : ArenaState T) (over : IsArenaOver 
 pub unmoved : {T : Type 0} (s : ArenaState T) → Continues Fits s [] s
 unmoved s = Continues-none s s (λ p. refl) (omega arith)
 
-module _ {X : Type 0} (kind : StackKind) (counting : Bool) where
+module _ {X : Type 0} (kind : StackKind) (generations : Generations) where
   -- the arena after a command is as every arena over the stack is; and where generations count, and the reply tells of no
   -- wrap, it has gone on by the model calls of the command
   pub record GoesOn (s : SessionState X) (command : Command X) (a : Reply X × SessionState X) : Type 0 where
     pub over : IsArenaOver kind a.1.arena
-    pub calls : CountsUp counting (tells_of_wrap a.0) → Continues Fits s.arena (calls_of s command a.0) a.1.arena
+    pub calls : CountsUp generations (tells_of_wrap a.0) → Continues Fits s.arena (calls_of s command a.0) a.1.arena
 
   -- the arena has not changed
   pub goes_same : (s : SessionState X) (command : Command X) (reply : Reply X) (t : SessionState X) → IsArenaOver kind s.arena → t.arena ≡ s.arena → calls_of s command reply ≡ [] → GoesOn s command (reply, t)
@@ -191,12 +194,12 @@ module _ {X : Type 0} (kind : StackKind) (counting : Bool) where
       by None at = goes_same s command Invalid s over refl none
       by (Some p) at = under p (look_up s.arena.slots p) at refl
 
-module _ {X : Type 0} (kind : StackKind) (counting : Bool) (greatest : ℕ) where
+module _ {X : Type 0} (kind : StackKind) (generations : Generations) where
   abbrev Goes : SessionState X → Command X → Reply X × SessionState X → Type 0
-  Goes s command a = GoesOn kind counting s command a
+  Goes s command a = GoesOn kind generations s command a
 
   same : (s : SessionState X) (command : Command X) (reply : Reply X) → IsArenaOver kind s.arena → calls_of s command reply ≡ [] → Goes s command (reply, s)
-  same s command reply over none = goes_same kind counting s command reply s over refl none
+  same s command reply over none = goes_same kind generations s command reply s over refl none
 
   -- the free list, tidied
   tidied_goes : (s : SessionState X) (m : ℕ) (reply : Reply X) → IsArenaOver kind s.arena → Goes s (Reserve m) (reply, with_tidied_arena s)
@@ -206,32 +209,32 @@ module _ {X : Type 0} (kind : StackKind) (counting : Bool) (greatest : ℕ) wher
         calls = λ up. Continues-resized s.arena (tidied s.arena) (slots-tidied s.arena (tidied s.arena) refl) refl;
       }
 
-  compacts : (s : SessionState X) → IsArenaOver kind s.arena → Goes s Compact (Compacted (wraps_if_any kind counting greatest s), compacted s (raised_if_any (raise counting greatest) s.arena))
+  compacts : (s : SessionState X) → IsArenaOver kind s.arena → Goes s Compact (Compacted (wraps_if_any kind generations s), compacted s (raised_if_any (raise generations) s.arena))
   compacts s over =
       record {
         over = over_compressed kind s.arena over n (relinked s.arena n);
         calls = λ up. subst (λ m. Continues Fits s.arena (compression (keys s.arena.slots) (keys (compacted s m).arena.slots) ∷ []) (compacted s n).arena) (at_one up (arena_len s.arena == 0) up.1)
-            (Continues-compressed counting greatest s.arena (compacted s n).arena (first_generation counting) false (map (relinked s.arena n) (values s.arena.slots)) refl up
+            (Continues-compressed generations s.arena (compacted s n).arena (first_generation generations) false (map (relinked s.arena n) (values s.arena.slots)) refl up
             (length-map (values s.arena.slots) (relinked s.arena n) ∙ length-values s.arena.slots) refl);
       }
     where
       n : ℕ
-      n = raised_if_any (raise counting greatest) s.arena
+      n = raised_if_any (raise generations) s.arena
 
-      at_one : CountsUp counting (wraps_if_any kind counting greatest s) → (b : Bool) → cond b false (wraps counting greatest s.arena.counter) ≡ false → cond b s.arena.counter (raise counting greatest s.arena.counter) ≡ cond b s.arena.counter (s.arena.counter + 1)
+      at_one : CountsUp generations (wraps_if_any kind generations s) → (b : Bool) → cond b false (wraps generations s.arena.counter) ≡ false → cond b s.arena.counter (raise generations s.arena.counter) ≡ cond b s.arena.counter (s.arena.counter + 1)
       at_one up true quiet = refl
-      at_one up false quiet = raised_by_one counting greatest s.arena.counter up.0 quiet
+      at_one up false quiet = raised_by_one generations s.arena.counter up.0 quiet
 
   -- where no memory is refused
-  goes : (text : Option (String Global)) (s : SessionState X) (command : Command X) → IsArenaOver kind s.arena → Goes s command (answer kind counting greatest text s command)
+  goes : (text : Option (String Global)) (s : SessionState X) (command : Command X) → IsArenaOver kind s.arena → Goes s command (answer kind generations text s command)
   goes text s (Insert datum link) over = by (link_pointer s.table link)
     where
-      unless : (why : Option ReallocationError) (l : Option Pointer) → refusal s.arena ≡ why → Goes s (Insert datum link) (insert_unless kind counting greatest why s datum l)
+      unless : (why : Option ReallocationError) (l : Option Pointer) → refusal s.arena ≡ why → Goes s (Insert datum link) (insert_unless kind generations why s datum l)
       unless (Some refused.BeyondMaxCapacity) l is = same s (Insert datum link) BeyondMaxCapacity over refl
       unless (Some refused.AllocError) l is = same s (Insert datum link) NoMemory over refl
       unless None l is = let t = inserts_grown kind s.arena over (datum, l) is in record { over = t.0; calls = λ up. t.1 }
 
-      by : (o : Option (Option Pointer)) → Goes s (Insert datum link) (insert_answer kind counting greatest s datum o)
+      by : (o : Option (Option Pointer)) → Goes s (Insert datum link) (insert_answer kind generations s datum o)
       by None = same s (Insert datum link) BadName over refl
       by (Some l) = unless (refusal s.arena) l refl
   goes text s (InsertWithin datum link) over = by (link_pointer s.table link)
@@ -253,34 +256,34 @@ module _ {X : Type 0} (kind : StackKind) (counting : Bool) (greatest : ℕ) wher
       by : (o : Option (Option Pointer)) → Goes s (Set name datum link) (set_answer s name datum o)
       by None = same s (Set name datum link) BadName over refl
       by (Some l) =
-          goes_at kind counting s (Set name datum link) name (λ p node. (Done, record s { arena = with_value s.arena p.0 (datum, l) })) over refl
+          goes_at kind generations s (Set name datum link) name (λ p node. (Done, record s { arena = with_value s.arena p.0 (datum, l) })) over refl
           (λ p node at found. record { over = over_written kind s.arena over p.0 (datum, l); calls = λ up. Continues-written s.arena p.0 (datum, l) })
   goes text s (Remove name) over =
-      goes_at kind counting s (Remove name) name (remove_under kind counting greatest s) over refl
+      goes_at kind generations s (Remove name) name (remove_under kind generations s) over refl
       (λ p node at found.
-      let t : ArenaState (X × Option Pointer) = removed (raise counting greatest) s.arena p.0 in
+      let t : ArenaState (X × Option Pointer) = removed (raise generations) s.arena p.0 in
       record {
-        over = over_removed kind s.arena over (raise counting greatest) p.0 (p.1, node) (entry_found s.arena p node found);
-        calls = λ up. subst (λ o. Continues Fits s.arena (call_at removal o) t) (sym at) (Continues-removed counting greatest s.arena t p up (ap is_some found) refl);
+        over = over_removed kind s.arena over (raise generations) p.0 (p.1, node) (entry_found s.arena p node found);
+        calls = λ up. subst (λ o. Continues Fits s.arena (call_at removal o) t) (sym at) (Continues-removed generations s.arena t p up (ap is_some found) refl);
       })
   goes text s (Invalidate name) over =
-      goes_at kind counting s (Invalidate name) name (invalidate_under kind counting greatest s) over refl
+      goes_at kind generations s (Invalidate name) name (invalidate_under kind generations s) over refl
       (λ p node at found.
-      let t : ArenaState (X × Option Pointer) = invalidated (raise counting greatest) s.arena p.0 in
+      let t : ArenaState (X × Option Pointer) = invalidated (raise generations) s.arena p.0 in
       record {
-        over = over_invalidated kind s.arena over (raise counting greatest) p.0;
+        over = over_invalidated kind s.arena over (raise generations) p.0;
         calls = λ up. subst (λ o. Continues Fits s.arena (call_at (λ q. invalidation q (q.0, s.arena.counter + 1)) o) t) (sym at)
-            (subst (λ n. Continues Fits s.arena (invalidation p (p.0, n) ∷ []) t) (raised_by_one counting greatest s.arena.counter up.0 up.1)
-            (Continues-invalidated counting greatest s.arena t p up (ap is_some found) refl));
+            (subst (λ n. Continues Fits s.arena (invalidation p (p.0, n) ∷ []) t) (raised_by_one generations s.arena.counter up.0 up.1)
+            (Continues-invalidated generations s.arena t p up (ap is_some found) refl));
       })
   goes text s Clear over =
       record {
-        over = over_cleared kind s.arena over (raise counting greatest);
-        calls = λ up. Continues-cleared counting greatest s.arena (cleared (raise counting greatest) s.arena) up refl;
+        over = over_cleared kind s.arena over (raise generations);
+        calls = λ up. Continues-cleared generations s.arena (cleared (raise generations) s.arena) up refl;
       }
   goes text s Compact over = by (any_dangles s.arena)
     where
-      by : (b : Bool) → Goes s Compact (cond b (Unresolved, s) (Compacted (wraps_if_any kind counting greatest s), compacted s (raised_if_any (raise counting greatest) s.arena)))
+      by : (b : Bool) → Goes s Compact (cond b (Unresolved, s) (Compacted (wraps_if_any kind generations s), compacted s (raised_if_any (raise generations) s.arena)))
       by true = same s Compact Unresolved over refl
       by false = compacts s over
   goes text s Len over = same s Len (Count (arena_len s.arena)) over refl
@@ -304,26 +307,26 @@ module _ {X : Type 0} (kind : StackKind) (counting : Bool) (greatest : ℕ) wher
   module _ (has_memory : ℕ → Type 0) where
     -- and where it is
     goes_wanting : (s : SessionState X) (command : Command X) (t : SessionState X) → IsArenaOver kind s.arena → WantsMemory kind has_memory s command t → Goes s command (NoMemory, t)
-    goes_wanting s (Insert datum link) t over wants = goes_same kind counting s (Insert datum link) NoMemory t over (either wants.2) refl
+    goes_wanting s (Insert datum link) t over wants = goes_same kind generations s (Insert datum link) NoMemory t over (either wants.2) refl
       where
         either : {P Q R : Type 0} → (P × (t ≡ s)) ⊎ (Q × R × (t ≡ with_room_for_name s)) → t.arena ≡ s.arena
         either (inl table) = ap (λ u. u.arena) table.1
         either (inr arena) = ap (λ u. u.arena) arena.2
-    goes_wanting s (InsertWithin datum link) t over wants = goes_same kind counting s (InsertWithin datum link) NoMemory t over (ap (λ u. u.arena) wants.2.1) refl
-    goes_wanting s (Invalidate name) t over wants = goes_same kind counting s (Invalidate name) NoMemory t over (ap (λ u. u.arena) wants.1.1) refl
-    goes_wanting s Compact t over wants = goes_same kind counting s Compact NoMemory t over (ap (λ u. u.arena) wants.1) refl
+    goes_wanting s (InsertWithin datum link) t over wants = goes_same kind generations s (InsertWithin datum link) NoMemory t over (ap (λ u. u.arena) wants.2.1) refl
+    goes_wanting s (Invalidate name) t over wants = goes_same kind generations s (Invalidate name) NoMemory t over (ap (λ u. u.arena) wants.1.1) refl
+    goes_wanting s Compact t over wants = goes_same kind generations s Compact NoMemory t over (ap (λ u. u.arena) wants.1) refl
     goes_wanting s (Reserve m) t over wants = subst (λ u. Goes s (Reserve m) (NoMemory, u)) (sym wants.1) (tidied_goes s m NoMemory over)
     goes_wanting s command t over wants = absurd wants
 
     -- a step is the answer, or a refusal for want of memory
-    pub step_cases : (s : SessionState X) (command : Command X) (reply : Reply X) (t : SessionState X) → IsStep kind has_memory counting greatest s command reply t
-        → ((reply, t) ≡ answer kind counting greatest (shown_text reply) s command) ⊎ ((reply ≡ NoMemory) × WantsMemory kind has_memory s command t)
+    pub step_cases : (s : SessionState X) (command : Command X) (reply : Reply X) (t : SessionState X) → IsStep kind has_memory generations s command reply t
+        → ((reply, t) ≡ answer kind generations (shown_text reply) s command) ⊎ ((reply ≡ NoMemory) × WantsMemory kind has_memory s command t)
     step_cases s command NoMemory t (inl is) = inl is
     step_cases s command NoMemory t (inr wants) = inr (refl, wants)
     step_cases s command reply t is = inl is
 
     -- so goes the arena of each step
-    pub StepGoesOn : (s : SessionState X) (command : Command X) (reply : Reply X) (t : SessionState X) → IsArenaOver kind s.arena → IsStep kind has_memory counting greatest s command reply t → GoesOn kind counting s command (reply, t)
+    pub StepGoesOn : (s : SessionState X) (command : Command X) (reply : Reply X) (t : SessionState X) → IsArenaOver kind s.arena → IsStep kind has_memory generations s command reply t → GoesOn kind generations s command (reply, t)
     StepGoesOn s command reply t over step =
         elim (step_cases s command reply t step) [
           | inl is ↦ subst (Goes s command) (sym is) (goes (shown_text reply) s command over)
@@ -331,7 +334,7 @@ module _ {X : Type 0} (kind : StackKind) (counting : Bool) (greatest : ℕ) wher
         ]
 
 -- where the arena goes on by each step, it does so by each list of steps
-module _ {X : Type 0} (kind : StackKind) (counting : Bool) (Step : SessionState X → Command X → Reply X → SessionState X → Type 0) (goes : (s : SessionState X) (command : Command X) (reply : Reply X) (t : SessionState X) → IsArenaOver kind s.arena → Step s command reply t → GoesOn kind counting s command (reply, t)) where
+module _ {X : Type 0} (kind : StackKind) (generations : Generations) (Step : SessionState X → Command X → Reply X → SessionState X → Type 0) (goes : (s : SessionState X) (command : Command X) (reply : Reply X) (t : SessionState X) → IsArenaOver kind s.arena → Step s command reply t → GoesOn kind generations s command (reply, t)) where
   pub OverAfterRun : (s : SessionState X) (commands : List (Command X)) (replies : List (Reply X)) (t : SessionState X) → IsArenaOver kind s.arena → IsRun Step s commands replies t → IsArenaOver kind t.arena
   OverAfterRun s [] [] t over run = subst (λ (u : SessionState X). IsArenaOver kind u.arena) (sym run) over
   OverAfterRun s [] (reply ∷ replies) t over run = absurd run
@@ -339,7 +342,7 @@ module _ {X : Type 0} (kind : StackKind) (counting : Bool) (Step : SessionState 
   OverAfterRun s (command ∷ commands) (reply ∷ replies) t over run =
       OverAfterRun run.0 commands replies t (goes s command reply run.0 over run.1).over run.2
 
-  pub StepsKeepHistories : counting ≡ true → (s : SessionState X) (commands : List (Command X)) (replies : List (Reply X)) (t : SessionState X) → IsArenaOver kind s.arena → KeepsHistories Step s commands replies t
+  pub StepsKeepHistories : generations.counting ≡ true → (s : SessionState X) (commands : List (Command X)) (replies : List (Reply X)) (t : SessionState X) → IsArenaOver kind s.arena → KeepsHistories Step s commands replies t
   StepsKeepHistories counts s [] [] t over run quiet = subst (λ (u : SessionState X). Continues Fits s.arena [] u.arena) (sym run) (unmoved s.arena)
   StepsKeepHistories counts s [] (reply ∷ replies) t over run quiet = absurd run
   StepsKeepHistories counts s (command ∷ commands) [] t over run quiet = absurd run

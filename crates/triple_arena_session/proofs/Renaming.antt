@@ -7,7 +7,7 @@ use Rattle.std.specs.Option.{option_map}
 use Rattle.triple_arena_base.specs.Held.{recast_item, held_option, refill_option, held_all}
 use Rattle.triple_arena_base.specs.declared.invalidation.InvalidationOption.{InvalidationOption}
 use Rattle.triple_arena_base.specs.Invalidation.{allowed_option, overflowing_option}
-use Rattle.triple_arena_ptr.specs.Numbers.{raise, wraps}
+use Rattle.triple_arena_ptr.specs.Numbers.{Generations, raise, wraps}
 use Rattle.triple_arena_ptr.specs.Pointers.{Pointer}
 use Rattle.triple_arena_stack.specs.StackKind.{StackKind}
 use Rattle.triple_arena_traits.specs.Entries.{look_up}
@@ -144,24 +144,24 @@ module _ {X P : Type 0} (pointer : P → Pointer) (held : P → List P) (refill 
           rw (arena_renamed news new_arena none each arena_is, ap (map pointer) table_is ∙ names_renamed table, room_is) refl
 
   -- what the session answers to a compaction
-  module _ (kind : StackKind) (counting : Bool) (greatest : ℕ) (table : List P) (room : ℕ) (s : SessionState X) (shows : session_of pointer arena table room ≡ s) where
+  module _ (kind : StackKind) (generations : Generations) (table : List P) (room : ℕ) (s : SessionState X) (shows : session_of pointer arena table room ≡ s) where
     abbrev raised : ℕ
-    raised = raised_if_any (raise counting greatest) arena
+    raised = raised_if_any (raise generations) arena
 
-    pub compacts : (images : List (Option (ℕ × P))) → MapsPointers pointer (rank arena raised) arena.slots images → (news : List (Node X P)) (new_arena : ArenaState (Node X P)) (new_table : List P) (new_room : ℕ) (wrapped : Bool) → first_unresolved pointer arena.slots (held_all held_node (values arena.slots)) ≡ None → AreRenamed pointer (rank arena raised) held_node refill_node (values arena.slots) news → new_arena ≡ compressed arena raised news → new_table ≡ map (λ p. recast_item (look_up images (pointer p)) p) table → new_room ≡ room → wrapped ≡ wraps_after (wraps counting greatest) false arena → ◌≡◌ {A = Reply X × SessionState X} (Compacted wrapped, session_of pointer new_arena new_table new_room) (compact_answer kind counting greatest s)
+    pub compacts : (images : List (Option (ℕ × P))) → MapsPointers pointer (rank arena raised) arena.slots images → (news : List (Node X P)) (new_arena : ArenaState (Node X P)) (new_table : List P) (new_room : ℕ) (wrapped : Bool) → first_unresolved pointer arena.slots (held_all held_node (values arena.slots)) ≡ None → AreRenamed pointer (rank arena raised) held_node refill_node (values arena.slots) news → new_arena ≡ compressed arena raised news → new_table ≡ map (λ p. recast_item (look_up images (pointer p)) p) table → new_room ≡ room → wrapped ≡ wraps_after (wraps generations) false arena → ◌≡◌ {A = Reply X × SessionState X} (Compacted wrapped, session_of pointer new_arena new_table new_room) (compact_answer kind generations s)
     compacts images maps news new_arena new_table new_room wrapped none each arena_is table_is room_is wrapped_is =
         answers (ap Compacted wrapped_is) (session_renamed raised images maps table room news new_arena new_table new_room none each arena_is table_is room_is)
         ∙ sym chosen
-        ∙ ap (compact_answer kind counting greatest) shows
+        ∙ ap (compact_answer kind generations) shows
       where
-        chosen : compact_answer kind counting greatest (session_of pointer arena table room) ≡ (Compacted (wraps_after (wraps counting greatest) false arena), compacted (session_of pointer arena table room) raised)
+        chosen : compact_answer kind generations (session_of pointer arena table room) ≡ (Compacted (wraps_after (wraps generations) false arena), compacted (session_of pointer arena table room) raised)
         chosen = rw (resolved none, len-mapped (node_of pointer) arena) refl
 
-    pub compacts_not : (w : P) (new_arena : ArenaState (Node X P)) → first_unresolved pointer arena.slots (held_all held_node (values arena.slots)) ≡ Some w → new_arena ≡ arena → ◌≡◌ {A = Reply X × SessionState X} (Unresolved, session_of pointer new_arena table room) (compact_answer kind counting greatest s)
+    pub compacts_not : (w : P) (new_arena : ArenaState (Node X P)) → first_unresolved pointer arena.slots (held_all held_node (values arena.slots)) ≡ Some w → new_arena ≡ arena → ◌≡◌ {A = Reply X × SessionState X} (Unresolved, session_of pointer new_arena table room) (compact_answer kind generations s)
     compacts_not w new_arena lost same =
-        ap (λ a. (Unresolved, session_of pointer a table room)) same ∙ sym chosen ∙ ap (compact_answer kind counting greatest) shows
+        ap (λ a. (Unresolved, session_of pointer a table room)) same ∙ sym chosen ∙ ap (compact_answer kind generations) shows
       where
-        chosen : compact_answer kind counting greatest (session_of pointer arena table room) ≡ (Unresolved, session_of pointer arena table room)
+        chosen : compact_answer kind generations (session_of pointer arena table room) ≡ (Unresolved, session_of pointer arena table room)
         chosen = rw (unresolved w lost) refl
 
 -- the value and the wrap of an answer

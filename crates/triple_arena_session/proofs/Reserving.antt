@@ -4,6 +4,7 @@ use Rattle.std.proofs.lemmas.Bool.Decides.{leb_tells}
 use Rattle.std.proofs.lemmas.List.{append-nil}
 use Rattle.std.proofs.lemmas.Option.{same_Some}
 use Rattle.std.specs.Option.{option_and_then}
+use Rattle.triple_arena_ptr.specs.Numbers.{Generations}
 use Rattle.triple_arena_ptr.specs.Pointers.{Pointer}
 use Rattle.triple_arena_stack.specs.StackKind.{StackKind, IsOfKind, reallocated_room}
 use Rattle.triple_arena_stack.specs.StackKind.StackKind.{heap, limited, fixed, array}
@@ -89,9 +90,9 @@ module _ {X : Type 0} (kind : StackKind) (s : SessionState X) (sound : SoundOver
         after,
       )
 
-  module _ (counting : Bool) (greatest : ℕ) where
+  module _ (generations : Generations) where
     -- where no memory is refused
-    pub reserved_answer : (m : ℕ) → Reserved m (reserve_answer kind counting greatest s m)
+    pub reserved_answer : (m : ℕ) → Reserved m (reserve_answer kind generations s m)
     reserved_answer m =
         elim (leb_tells m s.arena.greatest) [
           | inl fits ↦ subst (λ b. Reserved m (cond b (cond (is_within s.arena.limit m) (Done, record s { arena = reallocated kind s.arena m }) (BeyondMaxCapacity, with_tidied_arena s)) (NoMemory, with_tidied_arena s))) (sym fits.0)

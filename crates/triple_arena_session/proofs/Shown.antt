@@ -10,7 +10,7 @@ use Rattle.std.proofs.lemmas.List.{map-append, length-map}
 use Rattle.triple_arena_base.specs.declared.invalidation.InvalidationResult.{InvalidationResult}
 use Rattle.triple_arena_base.specs.declared.invalidation.InvalidationResult.TheVariants.{Success, GenerationOverflow, InvalidPtr}
 use Rattle.triple_arena_base.specs.Invalidation.{overflowing}
-use Rattle.triple_arena_ptr.specs.Numbers.{raise, wraps}
+use Rattle.triple_arena_ptr.specs.Numbers.{Generations, raise, wraps}
 use Rattle.triple_arena_ptr.specs.Pointers.{Pointer}
 use Rattle.triple_arena_stack.specs.StackKind.{StackKind}
 use Rattle.triple_arena_stack.specs.Capacity.{IsWithin, IsBeyond, room_for_one_more, CanGrow}
@@ -149,14 +149,14 @@ pub below : (m n : ℕ) → m ≤ n → (m == n) ≡ false → m < n
 below m n le other = grind (arith, nat_tests, le, other)
 
 -- what the session answers to a reservation
-module _ {X : Type 0} (kind : StackKind) (counting : Bool) (greatest : ℕ) (s : SessionState X) (m : ℕ) where
-  chosen_done : nat_le m s.arena.greatest ≡ true → is_within s.arena.limit m ≡ true → reserve_answer kind counting greatest s m ≡ (Done, record s { arena = reallocated kind s.arena m })
+module _ {X : Type 0} (kind : StackKind) (generations : Generations) (s : SessionState X) (m : ℕ) where
+  chosen_done : nat_le m s.arena.greatest ≡ true → is_within s.arena.limit m ≡ true → reserve_answer kind generations s m ≡ (Done, record s { arena = reallocated kind s.arena m })
   chosen_done le within = rw (le, within) refl
 
-  chosen_beyond : nat_le m s.arena.greatest ≡ true → is_within s.arena.limit m ≡ false → reserve_answer kind counting greatest s m ≡ (BeyondMaxCapacity, with_tidied_arena s)
+  chosen_beyond : nat_le m s.arena.greatest ≡ true → is_within s.arena.limit m ≡ false → reserve_answer kind generations s m ≡ (BeyondMaxCapacity, with_tidied_arena s)
   chosen_beyond le beyond = rw (le, beyond) refl
 
-  chosen_past : nat_le m s.arena.greatest ≡ false → reserve_answer kind counting greatest s m ≡ (NoMemory, with_tidied_arena s)
+  chosen_past : nat_le m s.arena.greatest ≡ false → reserve_answer kind generations s m ≡ (NoMemory, with_tidied_arena s)
   chosen_past past = rw past refl
 
 -- why an arena of so many entries, and of this capacity, can take no more
@@ -275,35 +275,35 @@ module _ {X P : Type 0} (pointer : P → Pointer) (arena : ArenaState (Node X P)
   value_set i node new_arena new_table new_room arena_is table_is room_is =
       rw (table_is, room_is) (with_state Done (arena_changed (λ a. with_value a i (node_of pointer node)) new_arena (ap (map_values (node_of pointer)) arena_is ∙ with_value-mapped (node_of pointer) arena i node)))
 
-  module _ (kind : StackKind) (counting : Bool) (greatest : ℕ) where
+  module _ (kind : StackKind) (generations : Generations) where
     counter-shown : arena.counter ≡ s.arena.counter
     counter-shown = ap (λ t. t.arena.counter) shows
 
     -- the removal of what stands under a pointer
-    pub entry_removed : (p : Pointer) (node : Node X P) (name : Option ℕ) (wrapped : Bool) (new_arena : ArenaState (Node X P)) → name ≡ link_name (map pointer table) (option_map pointer node.link) → wrapped ≡ wraps counting greatest arena.counter → new_arena ≡ removed (raise counting greatest) arena p.0 → ◌≡◌ {A = Reply X × SessionState X} (Removed node.datum name wrapped, session_of pointer new_arena table room) (remove_under kind counting greatest s p (node_of pointer node))
+    pub entry_removed : (p : Pointer) (node : Node X P) (name : Option ℕ) (wrapped : Bool) (new_arena : ArenaState (Node X P)) → name ≡ link_name (map pointer table) (option_map pointer node.link) → wrapped ≡ wraps generations arena.counter → new_arena ≡ removed (raise generations) arena p.0 → ◌≡◌ {A = Reply X × SessionState X} (Removed node.datum name wrapped, session_of pointer new_arena table room) (remove_under kind generations s p (node_of pointer node))
     entry_removed p node name wrapped new_arena name_is wrapped_is arena_is =
         let name_shown : name ≡ link_name s.table (option_map pointer node.link) = name_is ∙ ap (λ (t : SessionState X). link_name t.table (option_map pointer node.link)) shows in
-        let wrapped_shown : wrapped ≡ wraps counting greatest s.arena.counter = wrapped_is ∙ ap (wraps counting greatest) counter-shown in
-        let reply : Removed node.datum name wrapped ≡ Removed node.datum (link_name s.table (option_map pointer node.link)) (wraps counting greatest s.arena.counter) = rw (name_shown, wrapped_shown) refl in
-        let state : session_of pointer new_arena table room ≡ record s { arena = removed (raise counting greatest) s.arena p.0 } = arena_changed (λ a. removed (raise counting greatest) a p.0) new_arena (ap (map_values (node_of pointer)) arena_is ∙ removed-mapped (node_of pointer) (raise counting greatest) arena p.0) in
+        let wrapped_shown : wrapped ≡ wraps generations s.arena.counter = wrapped_is ∙ ap (wraps generations) counter-shown in
+        let reply : Removed node.datum name wrapped ≡ Removed node.datum (link_name s.table (option_map pointer node.link)) (wraps generations s.arena.counter) = rw (name_shown, wrapped_shown) refl in
+        let state : session_of pointer new_arena table room ≡ record s { arena = removed (raise generations) s.arena p.0 } = arena_changed (λ a. removed (raise generations) a p.0) new_arena (ap (map_values (node_of pointer)) arena_is ∙ removed-mapped (node_of pointer) (raise generations) arena p.0) in
         answers reply state
 
     -- an entry's new pointer gets a name
-    pub entry_renewed : (p : Pointer) (q : P) (wrapped : Bool) (name : ℕ) (new_arena : ArenaState (Node X P)) (new_table : List P) (new_room : ℕ) (node : X × Option Pointer) → pointer q ≡ (p.0, raise counting greatest arena.counter) → wrapped ≡ wraps counting greatest arena.counter → new_arena ≡ invalidated (raise counting greatest) arena p.0 → name ≡ length table + 1 → new_table ≡ table ++ q ∷ [] → new_room ≡ room_for_one_more room None (length table) → ◌≡◌ {A = Reply X × SessionState X} (Given name wrapped, session_of pointer new_arena new_table new_room) (invalidate_under kind counting greatest s p node)
+    pub entry_renewed : (p : Pointer) (q : P) (wrapped : Bool) (name : ℕ) (new_arena : ArenaState (Node X P)) (new_table : List P) (new_room : ℕ) (node : X × Option Pointer) → pointer q ≡ (p.0, raise generations arena.counter) → wrapped ≡ wraps generations arena.counter → new_arena ≡ invalidated (raise generations) arena p.0 → name ≡ length table + 1 → new_table ≡ table ++ q ∷ [] → new_room ≡ room_for_one_more room None (length table) → ◌≡◌ {A = Reply X × SessionState X} (Given name wrapped, session_of pointer new_arena new_table new_room) (invalidate_under kind generations s p node)
     entry_renewed p q wrapped name new_arena new_table new_room node at wrapped_is arena_is name_is table_is room_is =
-        given q (p.0, raise counting greatest s.arena.counter) wrapped (invalidated (raise counting greatest) s.arena p.0) name new_arena new_table new_room
-        (at ∙ ap (λ n. (p.0, raise counting greatest n)) counter-shown)
-        (ap (map_values (node_of pointer)) arena_is ∙ invalidated-mapped (node_of pointer) (raise counting greatest) arena p.0 ∙ ap (λ a. invalidated (raise counting greatest) a p.0) arena-shown)
+        given q (p.0, raise generations s.arena.counter) wrapped (invalidated (raise generations) s.arena p.0) name new_arena new_table new_room
+        (at ∙ ap (λ n. (p.0, raise generations n)) counter-shown)
+        (ap (map_values (node_of pointer)) arena_is ∙ invalidated-mapped (node_of pointer) (raise generations) arena p.0 ∙ ap (λ a. invalidated (raise generations) a p.0) arena-shown)
         name_is table_is room_is
-        ∙ ap (λ b. give s (p.0, raise counting greatest s.arena.counter) b (invalidated (raise counting greatest) s.arena p.0)) (wrapped_is ∙ ap (wraps counting greatest) counter-shown)
+        ∙ ap (λ b. give s (p.0, raise generations s.arena.counter) b (invalidated (raise generations) s.arena p.0)) (wrapped_is ∙ ap (wraps generations) counter-shown)
 
     -- what a reallocation answers, and leaves
     module _ (has_memory : ℕ → Type 0) (m : ℕ) (reply : Reply X) (new_arena : ArenaState (Node X P)) where
       abbrev Reserved : Type 0
-      Reserved = IsStep kind has_memory counting greatest s (Reserve m) reply (session_of pointer new_arena table room)
+      Reserved = IsStep kind has_memory generations s (Reserve m) reply (session_of pointer new_arena table room)
 
-      as_answer : (r : Reply X) → reply ≡ r → IsStep kind has_memory counting greatest s (Reserve m) r (session_of pointer new_arena table room) → Reserved
-      as_answer r is step = subst (λ q. IsStep kind has_memory counting greatest s (Reserve m) q (session_of pointer new_arena table room)) (sym is) step
+      as_answer : (r : Reply X) → reply ≡ r → IsStep kind has_memory generations s (Reserve m) r (session_of pointer new_arena table room) → Reserved
+      as_answer r is step = subst (λ q. IsStep kind has_memory generations s (Reserve m) q (session_of pointer new_arena table room)) (sym is) step
 
       limit-shown : arena.limit ≡ s.arena.limit
       limit-shown = ap (λ t. t.arena.limit) shows
@@ -317,11 +317,11 @@ module _ {X P : Type 0} (pointer : P → Pointer) (arena : ArenaState (Node X P)
       pub reserved_done : reply ≡ Done → m ≤ arena.greatest → IsWithin arena.limit m → new_arena ≡ reallocated kind arena m → Reserved
       reserved_done is le within arena_is =
           let state = arena_changed (λ a. reallocated kind a m) new_arena (ap (map_values (node_of pointer)) arena_is ∙ reallocated-mapped (node_of pointer) kind arena m) in
-          as_answer Done is (with_state Done state ∙ sym (chosen_done kind counting greatest s m (in_range le) (is_within_true s.arena.limit m (subst (λ l. IsWithin l m) limit-shown within))))
+          as_answer Done is (with_state Done state ∙ sym (chosen_done kind generations s m (in_range le) (is_within_true s.arena.limit m (subst (λ l. IsWithin l m) limit-shown within))))
 
       pub reserved_beyond : reply ≡ BeyondMaxCapacity → m ≤ arena.greatest → IsBeyond arena.limit m → new_arena ≡ tidied arena → Reserved
       reserved_beyond is le beyond arena_is =
-          as_answer BeyondMaxCapacity is (with_state BeyondMaxCapacity (ordered arena_is) ∙ sym (chosen_beyond kind counting greatest s m (in_range le) (is_within_false s.arena.limit m (subst (λ l. IsBeyond l m) limit-shown beyond))))
+          as_answer BeyondMaxCapacity is (with_state BeyondMaxCapacity (ordered arena_is) ∙ sym (chosen_beyond kind generations s m (in_range le) (is_within_false s.arena.limit m (subst (λ l. IsBeyond l m) limit-shown beyond))))
 
       pub reserved_not : reply ≡ NoMemory → (m ≤ arena.greatest → IsBeyond arena.limit m → ⊥) → (m ≤ arena.greatest → IsWithin arena.limit m → KeepsRoom kind arena m → ⊥) → (m ≤ arena.greatest → IsWithin arena.limit m → has_memory (reallocated kind arena m).room → ⊥) → new_arena ≡ tidied arena → Reserved
       reserved_not is beyond keeps gets arena_is = as_answer NoMemory is (by_range (nat_le m s.arena.greatest) refl)
@@ -338,6 +338,6 @@ module _ {X P : Type 0} (pointer : P → Pointer) (arena : ArenaState (Node X P)
           )
           by_limit le (inr past) = absurd (beyond le past)
 
-          by_range : (b : Bool) → nat_le m s.arena.greatest ≡ b → IsStep kind has_memory counting greatest s (Reserve m) NoMemory (session_of pointer new_arena table room)
-          by_range false past = inl (with_state NoMemory (ordered arena_is) ∙ sym (chosen_past kind counting greatest s m past))
+          by_range : (b : Bool) → nat_le m s.arena.greatest ≡ b → IsStep kind has_memory generations s (Reserve m) NoMemory (session_of pointer new_arena table room)
+          by_range false past = inl (with_state NoMemory (ordered arena_is) ∙ sym (chosen_past kind generations s m past))
           by_range true le = inr (by_limit (subst (λ n. m ≤ n) (sym greatest-shown) (true_le m s.arena.greatest le)) (within_or_beyond arena.limit m), ordered arena_is)

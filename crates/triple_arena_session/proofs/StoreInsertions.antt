@@ -6,6 +6,7 @@ use Rattle.std.proofs.lemmas.Bool.{eqb-false}
 use Rattle.std.proofs.lemmas.List.{map-append, length-map}
 use Rattle.triple_arena_base.specs.declared.errors.ReallocationError.{ReallocationError}
 use Rattle.triple_arena_base.specs.declared.errors.ReallocationError.TheVariants as refused
+use Rattle.triple_arena_ptr.specs.Numbers.{Generations}
 use Rattle.triple_arena_ptr.specs.Pointers.{Pointer}
 use Rattle.triple_arena_stack.specs.StackKind.{StackKind, IsOfKind, reallocated_room}
 use Rattle.triple_arena_stack.specs.Capacity.{next_capacity}
@@ -134,17 +135,17 @@ module _ {X : Type 0} (kind : StackKind) (s : SessionState X) (sound : SoundOver
             more.1,
           )
 
-module _ {X : Type 0} (kind : StackKind) (counting : Bool) (greatest : ℕ) (text : Option (String Global)) where
-  pub agrees_insert : (s : SessionState X) (datum : X) (link : Option ℕ) → SoundOver kind s → Agrees kind s (Insert datum link) (answer kind counting greatest text s (Insert datum link))
+module _ {X : Type 0} (kind : StackKind) (generations : Generations) (text : Option (String Global)) where
+  pub agrees_insert : (s : SessionState X) (datum : X) (link : Option ℕ) → SoundOver kind s → Agrees kind s (Insert datum link) (answer kind generations text s (Insert datum link))
   agrees_insert s datum link sound =
-      agrees_linked kind s (Insert datum link) link (insert_answer kind counting greatest s datum) (insert_row_unless (store_refusal (shown s)) (shown s) (datum, link)) sound refl refl
+      agrees_linked kind s (Insert datum link) link (insert_answer kind generations s datum) (insert_row_unless (store_refusal (shown s)) (shown s) (datum, link)) sound refl refl
       (λ l good is. by l good (refusal s.arena) refl (is ∙ ap (λ o. insert_row_unless o (shown s) (datum, link)) (refusal-shown kind s sound)))
     where
       plain : (why : ReallocationError) → without_wrap {X = X} (refused_reply why) ≡ refused_reply why
       plain refused.BeyondMaxCapacity = refl
       plain refused.AllocError = refl
 
-      by : (l : Option Pointer) → link_pointer s.table link ≡ Some l → (why : Option ReallocationError) → refusal s.arena ≡ why → store_answer (shown s) (Insert datum link) ≡ insert_row_unless (option_map refused_reply (refusal s.arena)) (shown s) (datum, link) → Agrees kind s (Insert datum link) (insert_unless kind counting greatest why s datum l)
+      by : (l : Option Pointer) → link_pointer s.table link ≡ Some l → (why : Option ReallocationError) → refusal s.arena ≡ why → store_answer (shown s) (Insert datum link) ≡ insert_row_unless (option_map refused_reply (refusal s.arena)) (shown s) (datum, link) → Agrees kind s (Insert datum link) (insert_unless kind generations why s datum l)
       by l good (Some why) free is =
           agrees_same kind s (Insert datum link) (refused_reply why) sound (is ∙ ap (λ o. insert_row_unless (option_map refused_reply o) (shown s) (datum, link)) free) (plain why)
       by l good None free is =
@@ -153,7 +154,7 @@ module _ {X : Type 0} (kind : StackKind) (counting : Bool) (greatest : ℕ) (tex
           agrees kind s (Insert datum link) (Given (length s.table + 1) false) t (Given (length s.table + 1) false) (shown t)
           (more.0 (is ∙ ap (λ o. insert_row_unless (option_map refused_reply o) (shown s) (datum, link)) free)) refl (λ quiet. (refl, more.1))
 
-  pub agrees_within : (s : SessionState X) (datum : X) (link : Option ℕ) → SoundOver kind s → Agrees kind s (InsertWithin datum link) (answer kind counting greatest text s (InsertWithin datum link))
+  pub agrees_within : (s : SessionState X) (datum : X) (link : Option ℕ) → SoundOver kind s → Agrees kind s (InsertWithin datum link) (answer kind generations text s (InsertWithin datum link))
   agrees_within s datum link sound =
       agrees_linked kind s (InsertWithin datum link) link (insert_within_answer s datum) (if row_count (shown s) == capacity s.arena then (Full, shown s) else give_row (shown s) (datum, link)) sound refl refl
       (λ l good is. by l good (arena_len s.arena == capacity s.arena) refl (is ∙ ap (λ n. if n == capacity s.arena then (Full, shown s) else give_row (shown s) (datum, link)) (row_count-shown kind s sound)))

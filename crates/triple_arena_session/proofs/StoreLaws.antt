@@ -3,7 +3,7 @@ use Rattle.std.proofs.Common.{◌≡◌, ◌⊎◌, ℕ, ◌+◌, ◌<◌, ◌�
 use Rattle.std.specs.declared.alloc.Global.{Global}
 use Rattle.std.specs.List.{list_any}
 use Rattle.std.specs.Option.{option_map}
-use Rattle.triple_arena_ptr.specs.Numbers.{raise, wraps}
+use Rattle.triple_arena_ptr.specs.Numbers.{Generations, raise, wraps}
 use Rattle.triple_arena_ptr.specs.Pointers.{Pointer}
 use Rattle.triple_arena_stack.specs.StackKind.{StackKind, IsOfKind}
 use Rattle.triple_arena_traits.specs.ArenaState.{arena_len, capacity, new_arena}
@@ -129,19 +129,19 @@ module _ {X : Type 0} (kind : StackKind) where
     wanting_steps s (Reserve m) t sound wants = from_reserved s sound m (NoMemory, t) (reserved_wanting kind s sound has_memory m t wants.0 wants.1)
     wanting_steps s command t sound wants = absurd wants
 
-module _ {X : Type 0} (kind : StackKind) (counting : Bool) (greatest : ℕ) (counts : counting ≡ true) (text : Option (String Global)) where
-  agrees_compact : (s : SessionState X) → SoundOver kind s → Agrees kind s Compact (answer kind counting greatest text s Compact)
+module _ {X : Type 0} (kind : StackKind) (generations : Generations) (counts : generations.counting ≡ true) (text : Option (String Global)) where
+  agrees_compact : (s : SessionState X) → SoundOver kind s → Agrees kind s Compact (answer kind generations text s Compact)
   agrees_compact s sound = by (any_dangles s.arena) (dangling kind s sound)
     where
       wrapped : Bool
-      wrapped = wraps_if_any kind counting greatest s
+      wrapped = wraps_if_any kind generations s
 
       n : ℕ
-      n = raised_if_any (raise counting greatest) s.arena
+      n = raised_if_any (raise generations) s.arena
 
-      at_one : (b : Bool) → cond b false (wraps counting greatest s.arena.counter) ≡ false → cond b s.arena.counter (raise counting greatest s.arena.counter) ≡ cond b s.arena.counter (s.arena.counter + 1)
+      at_one : (b : Bool) → cond b false (wraps generations s.arena.counter) ≡ false → cond b s.arena.counter (raise generations s.arena.counter) ≡ cond b s.arena.counter (s.arena.counter + 1)
       at_one true quiet = refl
-      at_one false quiet = raised_by_one counting greatest s.arena.counter counts quiet
+      at_one false quiet = raised_by_one generations s.arena.counter counts quiet
 
       no_lower : (b : Bool) → s.arena.counter ≤ cond b s.arena.counter (s.arena.counter + 1)
       no_lower true = omega arith
@@ -158,38 +158,38 @@ module _ {X : Type 0} (kind : StackKind) (counting : Bool) (greatest : ℕ) (cou
             SoundOver-compacted kind s n sound (rises quiet),
           ))
 
-  agree : (s : SessionState X) (command : Command X) → SoundOver kind s → has_answer command ≡ true → Agrees kind s command (answer kind counting greatest text s command)
-  agree s (Insert datum link) sound has = agrees_insert kind counting greatest text s datum link sound
-  agree s (InsertWithin datum link) sound has = agrees_within kind counting greatest text s datum link sound
-  agree s (Get name) sound has = agrees_get kind counting greatest counts text s name sound
-  agree s (Set name datum link) sound has = agrees_set kind counting greatest counts text s name datum link sound
-  agree s (Remove name) sound has = agrees_remove kind counting greatest counts text s name sound
-  agree s (Invalidate name) sound has = agrees_invalidate kind counting greatest counts text s name sound
-  agree s Clear sound has = agrees_clear kind counting greatest counts text s sound
+  agree : (s : SessionState X) (command : Command X) → SoundOver kind s → has_answer command ≡ true → Agrees kind s command (answer kind generations text s command)
+  agree s (Insert datum link) sound has = agrees_insert kind generations text s datum link sound
+  agree s (InsertWithin datum link) sound has = agrees_within kind generations text s datum link sound
+  agree s (Get name) sound has = agrees_get kind generations counts text s name sound
+  agree s (Set name datum link) sound has = agrees_set kind generations counts text s name datum link sound
+  agree s (Remove name) sound has = agrees_remove kind generations counts text s name sound
+  agree s (Invalidate name) sound has = agrees_invalidate kind generations counts text s name sound
+  agree s Clear sound has = agrees_clear kind generations counts text s sound
   agree s Compact sound has = agrees_compact s sound
-  agree s Len sound has = agrees_len kind counting greatest counts text s sound
-  agree s Capacity sound has = agrees_capacity kind counting greatest counts text s sound
+  agree s Len sound has = agrees_len kind generations counts text s sound
+  agree s Capacity sound has = agrees_capacity kind generations counts text s sound
   agree s (Reserve m) sound has = absurd (true≢false (sym has))
   agree s Show sound has = absurd (true≢false (sym has))
 
   -- where no memory is refused
-  answer_steps : (s : SessionState X) (command : Command X) → SoundOver kind s → StepsAsStore kind s command (answer kind counting greatest text s command).0 (answer kind counting greatest text s command).1
-  answer_steps s (Reserve m) sound = from_reserved kind s sound m (reserve_answer kind counting greatest s m) (reserved_answer kind s sound counting greatest m)
+  answer_steps : (s : SessionState X) (command : Command X) → SoundOver kind s → StepsAsStore kind s command (answer kind generations text s command).0 (answer kind generations text s command).1
+  answer_steps s (Reserve m) sound = from_reserved kind s sound m (reserve_answer kind generations s m) (reserved_answer kind s sound generations m)
   answer_steps s Show sound = by text
     where
       by : (o : Option (String Global)) → StepsAsStore kind s Show (show_reply o) s
       by None = quiet_step kind s Show NoMemory s refl (tt, refl) sound
       by (Some t) = quiet_step kind s Show (show_reply (Some t)) s refl (tt, refl) sound
-  answer_steps s command sound = from_agreement kind s command (answer kind counting greatest text s command) refl (agree s command sound refl)
+  answer_steps s command sound = from_agreement kind s command (answer kind generations text s command) refl (agree s command sound refl)
 
-module _ {X : Type 0} (kind : StackKind) (has_memory : ℕ → Type 0) (counting : Bool) (greatest : ℕ) (counts : counting ≡ true) where
+module _ {X : Type 0} (kind : StackKind) (has_memory : ℕ → Type 0) (generations : Generations) (counts : generations.counting ≡ true) where
   -- each step of a sound session is one of the store that it shows
-  pub StepIsStores : (s : SessionState X) (command : Command X) (reply : Reply X) (t : SessionState X) → SoundOver kind s → IsStep kind has_memory counting greatest s command reply t → StepsAsStore kind s command reply t
+  pub StepIsStores : (s : SessionState X) (command : Command X) (reply : Reply X) (t : SessionState X) → SoundOver kind s → IsStep kind has_memory generations s command reply t → StepsAsStore kind s command reply t
   StepIsStores s command reply t sound step =
-      elim (step_cases kind counting greatest has_memory s command reply t step) [
+      elim (step_cases kind generations has_memory s command reply t step) [
         | inl is ↦
             let text = shown_text reply in
-            subst (λ (a : Reply X × SessionState X). StepsAsStore kind s command a.0 a.1) (sym is) (answer_steps kind counting greatest counts text s command sound)
+            subst (λ (a : Reply X × SessionState X). StepsAsStore kind s command a.0 a.1) (sym is) (answer_steps kind generations counts text s command sound)
         | inr wants ↦
             subst (λ r. StepsAsStore kind s command r t) (sym wants.0) (wanting_steps kind has_memory s command t sound wants.1)
       ]

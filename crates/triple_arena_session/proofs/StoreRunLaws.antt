@@ -3,6 +3,7 @@ use Rattle.std.proofs.Common.{◌≡◌, ◌⊎◌, ℕ, Bool, true, false, List
 use Rattle.std.specs.List.{list_any, list_all}
 use Rattle.std.proofs.lemmas.List.{take_all}
 use Rattle.std.proofs.lemmas.List.Elements.{All-head, All-tail}
+use Rattle.triple_arena_ptr.specs.Numbers.{Generations}
 use Rattle.triple_arena_stack.specs.StackKind.{StackKind}
 use Rattle.triple_arena_commands.specs.declared.command.Command.{Command}
 use Rattle.triple_arena_commands.specs.declared.reply.Reply.{Reply}
@@ -33,9 +34,9 @@ module _ {X : Type 0} where
   pub whole_if_quiet : {C : Type 0} (commands : List C) (replies : List (Reply X)) → TellsOfNoWrap replies → (TellsOfNoWrap replies × (length replies ≡ length commands)) ⊎ EndsInWrap replies → take (length replies) commands ≡ commands
   whole_if_quiet commands replies quiet ran = take_all (length replies) commands (omega (arith, count_if_quiet commands replies quiet ran))
 
-module _ {X : Type 0} (kind : StackKind) (has_memory : ℕ → Type 0) (counting : Bool) (greatest : ℕ) (counts : counting ≡ true) where
+module _ {X : Type 0} (kind : StackKind) (has_memory : ℕ → Type 0) (generations : Generations) (counts : generations.counting ≡ true) where
   abbrev pub Step : SessionState X → Command X → Reply X → SessionState X → Type 0
-  Step s command reply t = IsStep kind has_memory counting greatest s command reply t
+  Step s command reply t = IsStep kind has_memory generations s command reply t
 
   -- a run that tells of no wrap is a run of the store, and the session stays sound
   pub QuietRunIsStores : (s : SessionState X) (commands : List (Command X)) (replies : List (Reply X)) (t : SessionState X) → SoundOver kind s → IsRun Step s commands replies t → TellsOfNoWrap replies
@@ -44,7 +45,7 @@ module _ {X : Type 0} (kind : StackKind) (has_memory : ℕ → Type 0) (counting
   QuietRunIsStores s [] (reply ∷ replies) t sound run quiet = absurd run
   QuietRunIsStores s (command ∷ commands) [] t sound run quiet = absurd run
   QuietRunIsStores s (command ∷ commands) (reply ∷ replies) t sound run quiet =
-      let first = StepIsStores kind has_memory counting greatest counts s command reply run.0 sound run.1 in
+      let first = StepIsStores kind has_memory generations counts s command reply run.0 sound run.1 in
       let told = All-head (λ r. tells_of_wrap r ≡ false) reply replies quiet in
       let later = QuietRunIsStores run.0 commands replies t (first.sound told) run.2 (All-tail (λ r. tells_of_wrap r ≡ false) reply replies quiet) in
       ((shown run.0, first.step told, later.0), later.1)
@@ -67,10 +68,10 @@ module _ {X : Type 0} (kind : StackKind) (has_memory : ℕ → Type 0) (counting
   answers s (command ∷ commands) [] t sound run ends = absurd run
   answers s (command ∷ commands) (reply ∷ replies) t sound run (inl quiet) =
       let told = All-head (λ r. tells_of_wrap r ≡ false) reply replies quiet in
-      let first = StepIsStores kind has_memory counting greatest counts s command reply run.0 sound run.1 in
+      let first = StepIsStores kind has_memory generations counts s command reply run.0 sound run.1 in
       (shown run.0, subst (λ r. IsStoreStep (shown s) command r (shown run.0)) (sym (without_wrap-quiet reply told)) (first.step told), answers run.0 commands replies t (first.sound told) run.2 (inl (All-tail (λ r. tells_of_wrap r ≡ false) reply replies quiet)))
   answers s (command ∷ commands) (reply ∷ replies) t sound run (inr ends) =
-      let first = StepIsStores kind has_memory counting greatest counts s command reply run.0 sound run.1 in
+      let first = StepIsStores kind has_memory generations counts s command reply run.0 sound run.1 in
       elim (ends_tail reply replies ends) [
         | inl none ↦ (first.answers.0, first.answers.1, last commands replies run.0 first.answers.0 none run.2)
         | inr more ↦ (shown run.0, subst (λ r. IsStoreStep (shown s) command r (shown run.0)) (sym (without_wrap-quiet reply more.0)) (first.step more.0), answers run.0 commands replies t (first.sound more.0) run.2 (inr more.1))

@@ -4,7 +4,7 @@ use Rattle.std.specs.declared.alloc.Global.{Global}
 use Rattle.std.specs.Option.{option_map, option_and_then}
 use Rattle.std.proofs.lemmas.Option.{same_Some}
 use Rattle.std.proofs.lemmas.List.{map-append, append-nil, length-map}
-use Rattle.triple_arena_ptr.specs.Numbers.{raise, wraps}
+use Rattle.triple_arena_ptr.specs.Numbers.{Generations, raise, wraps}
 use Rattle.triple_arena_ptr.specs.Pointers.{Pointer}
 use Rattle.triple_arena_stack.specs.StackKind.{StackKind}
 use Rattle.triple_arena_traits.specs.Items.{item, with_item}
@@ -138,8 +138,8 @@ module _ {X : Type 0} (kind : StackKind) where
           (agrees_same s command BadName sound (is ∙ ap (λ t. if t then b else (BadName, shown s)) (good_link s link ∙ ap is_some e)) refl)
       by (Some l) e = good l e (is ∙ ap (λ t. if t then b else (BadName, shown s)) (good_link s link ∙ ap is_some e))
 
-module _ {X : Type 0} (kind : StackKind) (counting : Bool) (greatest : ℕ) (counts : counting ≡ true) (text : Option (String Global)) where
-  pub agrees_get : (s : SessionState X) (name : ℕ) → SoundOver kind s → Agrees kind s (Get name) (answer kind counting greatest text s (Get name))
+module _ {X : Type 0} (kind : StackKind) (generations : Generations) (counts : generations.counting ≡ true) (text : Option (String Global)) where
+  pub agrees_get : (s : SessionState X) (name : ℕ) → SoundOver kind s → Agrees kind s (Get name) (answer kind generations text s (Get name))
   agrees_get s name sound = agrees_same kind s (Get name) (get_reply s (named s name)) sound (ap (λ r. (r, shown s)) (ap get_row_reply (row_named s name) ∙ by (named s name))) (plain (named s name))
     where
       by : (o : Option (X × Option Pointer)) → get_row_reply (option_map (as_row s.table) o) ≡ get_reply s o
@@ -150,13 +150,13 @@ module _ {X : Type 0} (kind : StackKind) (counting : Bool) (greatest : ℕ) (cou
       plain None = refl
       plain (Some node) = refl
 
-  pub agrees_len : (s : SessionState X) → SoundOver kind s → Agrees kind s Len (answer kind counting greatest text s Len)
+  pub agrees_len : (s : SessionState X) → SoundOver kind s → Agrees kind s Len (answer kind generations text s Len)
   agrees_len s sound = agrees_same kind s Len (Count (arena_len s.arena)) sound (ap (λ n. (Count n, shown s)) (row_count-shown kind s sound)) refl
 
-  pub agrees_capacity : (s : SessionState X) → SoundOver kind s → Agrees kind s Capacity (answer kind counting greatest text s Capacity)
+  pub agrees_capacity : (s : SessionState X) → SoundOver kind s → Agrees kind s Capacity (answer kind generations text s Capacity)
   agrees_capacity s sound = agrees_same kind s Capacity (Count (capacity s.arena)) sound refl refl
 
-  pub agrees_set : (s : SessionState X) (name : ℕ) (datum : X) (link : Option ℕ) → SoundOver kind s → Agrees kind s (Set name datum link) (answer kind counting greatest text s (Set name datum link))
+  pub agrees_set : (s : SessionState X) (name : ℕ) (datum : X) (link : Option ℕ) → SoundOver kind s → Agrees kind s (Set name datum link) (answer kind generations text s (Set name datum link))
   agrees_set s name datum link sound =
       agrees_linked kind s (Set name datum link) link (set_answer s name datum) (act_on_row (shown s) (row (shown s) name) (λ r. (Done, with_row (shown s) name (Some (datum, link))))) sound refl refl
       (λ l good is. agrees_at kind s (Set name datum link) name (λ p node. (Done, record s { arena = with_value s.arena p.0 (datum, l) })) (λ r. (Done, with_row (shown s) name (Some (datum, link)))) sound is (under l good))
@@ -185,19 +185,19 @@ module _ {X : Type 0} (kind : StackKind) (counting : Bool) (greatest : ℕ) (cou
                 (over_written kind s.arena (over_of kind s sound) p.0 (datum, l)),
           ))
 
-  pub agrees_remove : (s : SessionState X) (name : ℕ) → SoundOver kind s → Agrees kind s (Remove name) (answer kind counting greatest text s (Remove name))
+  pub agrees_remove : (s : SessionState X) (name : ℕ) → SoundOver kind s → Agrees kind s (Remove name) (answer kind generations text s (Remove name))
   agrees_remove s name sound =
-      agrees_at kind s (Remove name) name (remove_under kind counting greatest s) (λ r. (Removed r.0 r.1 false, with_row (shown s) name None)) sound refl under
+      agrees_at kind s (Remove name) name (remove_under kind generations s) (λ r. (Removed r.0 r.1 false, with_row (shown s) name None)) sound refl under
     where
       under : (p : Pointer) (node : X × Option Pointer) → item s.table name ≡ Some p → look_up s.arena.slots p ≡ Some node
           → store_answer (shown s) (Remove name) ≡ (Removed node.0 (link_name s.table node.1) false, with_row (shown s) name None)
-          → Agrees kind s (Remove name) (remove_under kind counting greatest s p node)
+          → Agrees kind s (Remove name) (remove_under kind generations s p node)
       under p node at found is =
-          let raised : ℕ → ℕ = raise counting greatest in
+          let raised : ℕ → ℕ = raise generations in
           let t : ArenaState (X × Option Pointer) = removed raised s.arena p.0 in
           let changes = slots-removed raised s.arena p.0 t refl in
-          agrees kind s (Remove name) (Removed node.0 (link_name s.table node.1) (wraps counting greatest s.arena.counter)) (record s { arena = t }) (Removed node.0 (link_name s.table node.1) false) (with_row (shown s) name None) is refl (λ quiet.
-          let continues = Continues-removed counting greatest s.arena t p (counts, quiet) (ap is_some found) refl in (
+          agrees kind s (Remove name) (Removed node.0 (link_name s.table node.1) (wraps generations s.arena.counter)) (record s { arena = t }) (Removed node.0 (link_name s.table node.1) false) (with_row (shown s) name None) is refl (λ quiet.
+          let continues = Continues-removed generations s.arena t p (counts, quiet) (ap is_some found) refl in (
             Store-is _ _ _ _ _ _ _ _
                 (rows_changed kind s t s.table name p node None None sound (λ l h. refl) at found changes (λ q h other. refl) (ap (option_map (as_row s.table)) (ap (option_and_then (value_of_generation p.1)) changes.there)))
                 (capacity-removed raised s.arena p.0 t refl) (limit-removed raised s.arena p.0) (greatest-removed raised s.arena p.0),
@@ -207,23 +207,23 @@ module _ {X : Type 0} (kind : StackKind) (counting : Bool) (greatest : ℕ) (cou
                 (over_removed kind s.arena (over_of kind s sound) raised p.0 (p.1, node) (entry_found s.arena p node found)),
           ))
 
-  pub agrees_invalidate : (s : SessionState X) (name : ℕ) → SoundOver kind s → Agrees kind s (Invalidate name) (answer kind counting greatest text s (Invalidate name))
+  pub agrees_invalidate : (s : SessionState X) (name : ℕ) → SoundOver kind s → Agrees kind s (Invalidate name) (answer kind generations text s (Invalidate name))
   agrees_invalidate s name sound =
-      agrees_at kind s (Invalidate name) name (invalidate_under kind counting greatest s) (λ r. give_row (with_row (shown s) name None) r) sound refl under
+      agrees_at kind s (Invalidate name) name (invalidate_under kind generations s) (λ r. give_row (with_row (shown s) name None) r) sound refl under
     where
       under : (p : Pointer) (node : X × Option Pointer) → item s.table name ≡ Some p → look_up s.arena.slots p ≡ Some node
           → store_answer (shown s) (Invalidate name) ≡ give_row (with_row (shown s) name None) (as_row s.table node)
-          → Agrees kind s (Invalidate name) (invalidate_under kind counting greatest s p node)
+          → Agrees kind s (Invalidate name) (invalidate_under kind generations s p node)
       under p node at found is =
           let rows : List (Option (NameRow X)) = map (row_of s.arena s.table) s.table in
           let size : length (with_item rows name None) ≡ length s.table = length-with_item rows name None ∙ length-map s.table (row_of s.arena s.table) in
-          agrees kind s (Invalidate name) (Given (length s.table + 1) (wraps counting greatest s.arena.counter)) (invalidate_under kind counting greatest s p node).1
+          agrees kind s (Invalidate name) (Given (length s.table + 1) (wraps generations s.arena.counter)) (invalidate_under kind generations s p node).1
           (Given (length s.table + 1) false) (record (shown s) { rows = with_item rows name None ++ Some (as_row s.table node) ∷ [] })
           (is ∙ ap (λ n. (Given (n + 1) false, record (shown s) { rows = with_item rows name None ++ Some (as_row s.table node) ∷ [] })) size) refl
           (λ quiet. after quiet)
         where
           raised : ℕ → ℕ
-          raised = raise counting greatest
+          raised = raise generations
 
           c : ℕ
           c = raised s.arena.counter
@@ -234,16 +234,16 @@ module _ {X : Type 0} (kind : StackKind) (counting : Bool) (greatest : ℕ) (cou
           new : Pointer
           new = (p.0, c)
 
-          after : wraps counting greatest s.arena.counter ≡ false
-              → (shown (invalidate_under kind counting greatest s p node).1 ≡ record (shown s) { rows = with_item (map (row_of s.arena s.table) s.table) name None ++ Some (as_row s.table node) ∷ [] })
-              × SoundOver kind (invalidate_under kind counting greatest s p node).1
+          after : wraps generations s.arena.counter ≡ false
+              → (shown (invalidate_under kind generations s p node).1 ≡ record (shown s) { rows = with_item (map (row_of s.arena s.table) s.table) name None ++ Some (as_row s.table node) ∷ [] })
+              × SoundOver kind (invalidate_under kind generations s p node).1
           after quiet =
-              let one : c ≡ s.arena.counter + 1 = raised_by_one counting greatest s.arena.counter counts quiet in
+              let one : c ≡ s.arena.counter + 1 = raised_by_one generations s.arena.counter counts quiet in
               let stands = entry_found s.arena p node found in
               let changes : ChangesAt s.arena.slots p.0 (Some (c, node)) t.slots = subst (λ o. ChangesAt s.arena.slots p.0 o t.slots) (ap (option_map (λ (e : ℕ × (X × Option Pointer)). (c, e.1))) stands) (slots-invalidated raised s.arena p.0 t refl) in
               let past : (q : Pointer) → has s.table q ≡ true → option_and_then (value_of_generation q.1) (Some (c, node)) ≡ None = λ q h. value_miss (Some (c, node)) q.1 c node refl (λ same. omega (arith, sound.table.by_now q h, one, same)) in
               let there : has s.table p ≡ true = has_from_item s.table name p at in
-              let continues = Continues-invalidated counting greatest s.arena t p (counts, quiet) (ap is_some found) refl in (
+              let continues = Continues-invalidated generations s.arena t p (counts, quiet) (ap is_some found) refl in (
                 Store-is _ _ _ _ _ _ _ _
                     (map-append (row_of t (s.table ++ new ∷ [])) s.table (new ∷ [])
                     ∙ ap (λ l. l ++ row_of t (s.table ++ new ∷ []) new ∷ [])
@@ -251,7 +251,7 @@ module _ {X : Type 0} (kind : StackKind) (counting : Bool) (greatest : ℕ) (cou
                     (ap (option_map (as_row (s.table ++ new ∷ []))) (ap (option_and_then (value_of_generation p.1)) changes.there ∙ past p there)))
                     ∙ ap (λ r. with_item (map (row_of s.arena s.table) s.table) name None ++ r ∷ []) (row_last s t new node (λ l h. sound.table.has_links p l node.0 (found ∙ ap (λ x. Some (node.0, x)) h)) (value_hit (entry t p.0) c node changes.there)))
                     refl refl refl,
-                SoundOver-from kind (invalidate_under kind counting greatest s p node).1
+                SoundOver-from kind (invalidate_under kind generations s p node).1
                     (TableSound-given kind s sound (invalidation p new) t continues)
                     (λ q l datum holds. has_longer s.table (new ∷ []) l (elim (found_before s.arena t p.0 (Some (c, node)) q (datum, Some l) changes holds) [
                       | inl here ↦ sound.table.has_links p l node.0 (found ∙ ap (λ x. Some (node.0, x)) (new_link c q.1 node datum l here))
@@ -260,18 +260,18 @@ module _ {X : Type 0} (kind : StackKind) (counting : Bool) (greatest : ℕ) (cou
                     (over_invalidated kind s.arena (over_of kind s sound) raised p.0),
               )
 
-  pub agrees_clear : (s : SessionState X) → SoundOver kind s → Agrees kind s Clear (answer kind counting greatest text s Clear)
+  pub agrees_clear : (s : SessionState X) → SoundOver kind s → Agrees kind s Clear (answer kind generations text s Clear)
   agrees_clear s sound =
-      let t : ArenaState (X × Option Pointer) = cleared (raise counting greatest) s.arena in
-      let wrapped : Bool = cond (arena_len s.arena == 0) false (wraps counting greatest s.arena.counter) in
+      let t : ArenaState (X × Option Pointer) = cleared (raise generations) s.arena in
+      let wrapped : Bool = cond (arena_len s.arena == 0) false (wraps generations s.arena.counter) in
       agrees kind s Clear (Cleared wrapped) (record s { arena = t }) (Cleared false) (record (shown s) { rows = map (λ r. None) (map (row_of s.arena s.table) s.table) }) refl refl (λ quiet.
-      let continues = Continues-cleared counting greatest s.arena t (counts, quiet) refl in (
+      let continues = Continues-cleared generations s.arena t (counts, quiet) refl in (
         Store-is _ _ _ _ _ _ _ _ (map_none (row_of s.arena s.table) (row_of t s.table) s.table (λ q. ap (option_map (as_row s.table)) (gone q))) refl refl refl,
         SoundOver-from kind (record s { arena = t })
             (subst (TableSound t) (append-nil s.table) (TableSound-given kind s sound (clearing (keys s.arena.slots)) t continues))
             (λ q l datum holds. absurd (let none = gone q in cc))
-            (over_cleared kind s.arena (over_of kind s sound) (raise counting greatest)),
+            (over_cleared kind s.arena (over_of kind s sound) (raise generations)),
       ))
     where
-      gone : (q : Pointer) → look_up (cleared (raise counting greatest) s.arena).slots q ≡ None
-      gone q = ap (option_and_then (value_of_generation q.1)) (slots-cleared (raise counting greatest) s.arena (cleared (raise counting greatest) s.arena) refl q.0)
+      gone : (q : Pointer) → look_up (cleared (raise generations) s.arena).slots q ≡ None
+      gone q = ap (option_and_then (value_of_generation q.1)) (slots-cleared (raise generations) s.arena (cleared (raise generations) s.arena) refl q.0)

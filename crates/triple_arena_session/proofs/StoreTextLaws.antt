@@ -1,7 +1,7 @@
 -- What the program writes is what the store of names answers that its session shows.
 use Rattle.std.proofs.Common.{◌≡◌, ◌⊎◌, ℕ, ◌-◌, Bool, true, List, Option, Some, None, Result, Ok, Err, take, refl, sym, ap, subst, inl, inr}
 use Rattle.std.specs.Io.KnownBytes.{Appends}
-use Rattle.triple_arena_ptr.specs.Numbers.{greatest_index, first_generation}
+use Rattle.triple_arena_ptr.specs.Numbers.{counting_to, Generations, greatest_index, first_generation}
 use Rattle.triple_arena_stack.specs.StackKind.{StackKind, IsOfKind}
 use Rattle.triple_arena_stack.specs.StackKind.StackKind.{heap, limited, fixed, array}
 use Rattle.triple_arena_commands.specs.declared.command.Command.{Command}
@@ -25,14 +25,14 @@ use Rattle.triple_arena_session.proofs.StoreLaws.{SoundOver-new}
 use Rattle.triple_arena_session.proofs.StoreRunLaws.{QuietRunIsStores, answers}
 use Rattle.triple_arena_session.proofs.Soundness.{SoundOver}
 
-module _ (kind : StackKind) (has_memory : ℕ → Type 0) (counting : Bool) (greatest : ℕ) (counts : counting ≡ true) (s t : SessionState ℕ) (sound : SoundOver kind s) (old new : Option (List ℕ)) where
+module _ (kind : StackKind) (has_memory : ℕ → Type 0) (generations : Generations) (counts : generations.counting ≡ true) (s t : SessionState ℕ) (sound : SoundOver kind s) (old new : Option (List ℕ)) where
   abbrev TextStep : SessionState ℕ → Command ℕ → Reply ℕ → SessionState ℕ → Type 0
-  TextStep = IsStep kind has_memory counting greatest
+  TextStep = IsStep kind has_memory generations
 
   written : (Ends : List (Reply ℕ) → Type 0) (lines : List (List ℕ)) (replies : List (Reply ℕ)) → (Ends replies → TellsOfNoWrap replies ⊎ EndsInWrap replies) → RunsLines TextStep lines replies s t → Ends replies → Appends old new (reply_lines replies)
       → WritesAsStore (shown s) Ends lines old new
   written Ends lines replies ends ran told out =
-      let as_store = answers kind has_memory counting greatest counts s ran.0 replies t sound ran.2 (ends told) in
+      let as_store = answers kind has_memory generations counts s ran.0 replies t sound ran.2 (ends told) in
       (ran.0, replies, ran.1, told, out, as_store, CompactionIsUnseen (shown s) ran.0 replies as_store)
 
   all_lines : (lines : List (List ℕ)) → AnswersLines TextStep lines s t old new → WritesAsStore (shown s) TellsOfNoWrap lines old new
@@ -61,7 +61,7 @@ module _ (kind : StackKind) (has_memory : ℕ → Type 0) (counting : Bool) (gre
 
   brings : (lines : List (List ℕ)) → AnswersLines TextStep lines s t old new → IsSound t × BringsStore (shown s) (shown t) lines old new
   brings lines a =
-      let stores = QuietRunIsStores kind has_memory counting greatest counts s a.1.0 a.0 t sound a.1.2 a.2 in
+      let stores = QuietRunIsStores kind has_memory generations counts s a.1.0 a.0 t sound a.1.2 a.2 in
       (stores.1.table, (a.1.0, a.0, a.1.1, stores.0, a.2, a.3))
 
   stays : t ≡ s → IsSound t × (shown t ≡ shown s)
@@ -89,7 +89,7 @@ module _ (kind : StackKind) (has_memory : ℕ → Type 0) (counting : Bool) (gre
 over_kind : (kind : StackKind) (has_memory : ℕ → Type 0) (room : ℕ) (limit : Option ℕ) (text : Option (List ℕ)) (outcome : Result (Unit {0}) TextError) (old new : Option (List ℕ)) → IsOfKind kind room limit
     → RunsOver kind has_memory (first_session room limit) text outcome old new → IsStoreText (new_store room limit greatest) text outcome old new
 over_kind kind has_memory room limit text outcome old new of_kind ran =
-    FlushedIsStores kind has_memory true greatest refl (first_session room limit) ran.0 (SoundOver-new kind room limit (greatest_index greatest) (first_generation true) of_kind) old new text outcome ran.1
+    FlushedIsStores kind has_memory (counting_to greatest) refl (first_session room limit) ran.0 (SoundOver-new kind room limit (greatest_index greatest) (first_generation (counting_to greatest)) of_kind) old new text outcome ran.1
 
 -- the program's run, over each kind of stack
 pub RunsKindAsStore : (kind : Kind) (text : Option (List ℕ)) (outcome : Result (Unit {0}) TextError) (old new : Option (List ℕ)) → RunsKind kind text outcome old new → IsStoreText (first_store kind) text outcome old new

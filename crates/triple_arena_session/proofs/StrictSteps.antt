@@ -6,7 +6,7 @@ use Rattle.std.specs.List.{list_any}
 use Rattle.std.proofs.lemmas.Bool.Decides.{nat_tests}
 use Rattle.triple_arena_base.specs.declared.errors.ReallocationError.{ReallocationError}
 use Rattle.triple_arena_base.specs.declared.errors.ReallocationError.TheVariants as refused
-use Rattle.triple_arena_ptr.specs.Numbers.{raise, wraps}
+use Rattle.triple_arena_ptr.specs.Numbers.{Generations, raise, wraps}
 use Rattle.triple_arena_ptr.specs.Pointers.{Pointer}
 use Rattle.triple_arena_stack.specs.StackKind.{StackKind}
 use Rattle.triple_arena_traits.specs.Items.{item}
@@ -47,12 +47,12 @@ some_by : (n : ℕ) (b : Bool) → (n == 0) ≡ b → nat_lt 0 n ≡ not b
 some_by n true e = grind (arith, nat_tests, e)
 some_by n false e = grind (arith, nat_tests, e)
 
-module _ {X : Type 0} (counting : Bool) (greatest : ℕ) where
+module _ {X : Type 0} (generations : Generations) where
   -- a reply and the session after it: a wrap is told only where one is due, the counter is raised where the command raises it
   -- and succeeds, and the refusal for want of a raise is not among the replies
   pub record Counts (s : SessionState X) (command : Command X) (a : Reply X × SessionState X) : Type 0 where
-    pub told : (wraps counting greatest s.arena.counter && raises_counter s command) ≡ false → tells_of_wrap a.0 ≡ false
-    pub counter : a.1.arena.counter ≡ cond (raises_counter s command && tells_success a.0) (raise counting greatest s.arena.counter) s.arena.counter
+    pub told : (wraps generations s.arena.counter && raises_counter s command) ≡ false → tells_of_wrap a.0 ≡ false
+    pub counter : a.1.arena.counter ≡ cond (raises_counter s command && tells_success a.0) (raise generations s.arena.counter) s.arena.counter
     pub other : tells_exhausted a.0 ≡ false
 
   -- nothing is raised
@@ -60,16 +60,16 @@ module _ {X : Type 0} (counting : Bool) (greatest : ℕ) where
   kept s command r t none quiet other same =
       record {
         told = λ h. quiet;
-        counter = same ∙ sym (ap (λ b. cond b (raise counting greatest s.arena.counter) s.arena.counter) none);
+        counter = same ∙ sym (ap (λ b. cond b (raise generations s.arena.counter) s.arena.counter) none);
         other = other;
       }
 
   -- the counter is raised
-  raised : (s : SessionState X) (command : Command X) (r : Reply X) (t : SessionState X) → raises_counter s command ≡ true → tells_success r ≡ true → tells_of_wrap r ≡ wraps counting greatest s.arena.counter → tells_exhausted r ≡ false → t.arena.counter ≡ raise counting greatest s.arena.counter → Counts s command (r, t)
+  raised : (s : SessionState X) (command : Command X) (r : Reply X) (t : SessionState X) → raises_counter s command ≡ true → tells_success r ≡ true → tells_of_wrap r ≡ wraps generations s.arena.counter → tells_exhausted r ≡ false → t.arena.counter ≡ raise generations s.arena.counter → Counts s command (r, t)
   raised s command r t due success tells other up =
       record {
-        told = λ h. tells ∙ first (wraps counting greatest s.arena.counter) (raises_counter s command) due h;
-        counter = up ∙ sym (ap (λ b. cond (b && tells_success r) (raise counting greatest s.arena.counter) s.arena.counter) due ∙ ap (λ b. cond b (raise counting greatest s.arena.counter) s.arena.counter) success);
+        told = λ h. tells ∙ first (wraps generations s.arena.counter) (raises_counter s command) due h;
+        counter = up ∙ sym (ap (λ b. cond (b && tells_success r) (raise generations s.arena.counter) s.arena.counter) due ∙ ap (λ b. cond b (raise generations s.arena.counter) s.arena.counter) success);
         other = other;
       }
     where
@@ -98,15 +98,15 @@ module _ {X : Type 0} (counting : Bool) (greatest : ℕ) where
         by (Some p) at = under p (look_up s.arena.slots p) at refl
 
   module _ (kind : StackKind) (text : Option (String Global)) where
-    counts : (s : SessionState X) (command : Command X) → Counts s command (answer kind counting greatest text s command)
+    counts : (s : SessionState X) (command : Command X) → Counts s command (answer kind generations text s command)
     counts s (Insert datum link) = by (link_pointer s.table link)
       where
-        unless : (why : Option ReallocationError) (l : Option Pointer) → Counts s (Insert datum link) (insert_unless kind counting greatest why s datum l)
+        unless : (why : Option ReallocationError) (l : Option Pointer) → Counts s (Insert datum link) (insert_unless kind generations why s datum l)
         unless (Some refused.BeyondMaxCapacity) l = kept s (Insert datum link) BeyondMaxCapacity s refl refl refl refl
         unless (Some refused.AllocError) l = kept s (Insert datum link) NoMemory s refl refl refl refl
-        unless None l = kept s (Insert datum link) (insert_unless kind counting greatest None s datum l).0 (insert_unless kind counting greatest None s datum l).1 refl refl refl (counter-grown kind s.arena (datum, l))
+        unless None l = kept s (Insert datum link) (insert_unless kind generations None s datum l).0 (insert_unless kind generations None s datum l).1 refl refl refl (counter-grown kind s.arena (datum, l))
 
-        by : (o : Option (Option Pointer)) → Counts s (Insert datum link) (insert_answer kind counting greatest s datum o)
+        by : (o : Option (Option Pointer)) → Counts s (Insert datum link) (insert_answer kind generations s datum o)
         by None = kept s (Insert datum link) BadName s refl refl refl refl
         by (Some l) = unless (refusal s.arena) l
     counts s (InsertWithin datum link) = by (link_pointer s.table link)
@@ -129,23 +129,23 @@ module _ {X : Type 0} (counting : Bool) (greatest : ℕ) where
         by None = kept s (Set name datum link) BadName s refl refl refl refl
         by (Some l) = counts_at s (Set name datum link) (λ p node. (Done, record s { arena = with_value s.arena p.0 (datum, l) })) name (λ p node live. kept s (Set name datum link) Done (record s { arena = with_value s.arena p.0 (datum, l) }) refl refl refl refl)
     counts s (Remove name) =
-        counts_at s (Remove name) (remove_under kind counting greatest s) name
-        (λ p node live. raised s (Remove name) (remove_under kind counting greatest s p node).0 (remove_under kind counting greatest s p node).1 (ap is_some live) refl refl refl (counter-removed (raise counting greatest) s.arena p.0))
+        counts_at s (Remove name) (remove_under kind generations s) name
+        (λ p node live. raised s (Remove name) (remove_under kind generations s p node).0 (remove_under kind generations s p node).1 (ap is_some live) refl refl refl (counter-removed (raise generations) s.arena p.0))
     counts s (Invalidate name) =
-        counts_at s (Invalidate name) (invalidate_under kind counting greatest s) name
-        (λ p node live. raised s (Invalidate name) (invalidate_under kind counting greatest s p node).0 (invalidate_under kind counting greatest s p node).1 (ap is_some live) refl refl refl refl)
+        counts_at s (Invalidate name) (invalidate_under kind generations s) name
+        (λ p node live. raised s (Invalidate name) (invalidate_under kind generations s p node).0 (invalidate_under kind generations s p node).1 (ap is_some live) refl refl refl refl)
     counts s Clear = by (arena_len s.arena == 0) refl
       where
-        by : (b : Bool) → (arena_len s.arena == 0) ≡ b → Counts s Clear (Cleared (cond b false (wraps counting greatest s.arena.counter)), record s { arena = record s.arena { slots = []; counter = cond b s.arena.counter (raise counting greatest s.arena.counter); free = [] } })
+        by : (b : Bool) → (arena_len s.arena == 0) ≡ b → Counts s Clear (Cleared (cond b false (wraps generations s.arena.counter)), record s { arena = record s.arena { slots = []; counter = cond b s.arena.counter (raise generations s.arena.counter); free = [] } })
         by true none = kept s Clear (Cleared false) (record s { arena = record s.arena { slots = []; counter = s.arena.counter; free = [] } }) (ap (λ b. b && true) (some_by (arena_len s.arena) true none)) refl refl refl
-        by false some = raised s Clear (Cleared (wraps counting greatest s.arena.counter)) (record s { arena = record s.arena { slots = []; counter = raise counting greatest s.arena.counter; free = [] } }) (some_by (arena_len s.arena) false some) refl refl refl refl
+        by false some = raised s Clear (Cleared (wraps generations s.arena.counter)) (record s { arena = record s.arena { slots = []; counter = raise generations s.arena.counter; free = [] } }) (some_by (arena_len s.arena) false some) refl refl refl refl
     counts s Compact = dangling (any_dangles s.arena)
       where
-        by : (b : Bool) → (arena_len s.arena == 0) ≡ b → Counts s Compact (Compacted (cond b false (wraps counting greatest s.arena.counter)), compacted s (cond b s.arena.counter (raise counting greatest s.arena.counter)))
+        by : (b : Bool) → (arena_len s.arena == 0) ≡ b → Counts s Compact (Compacted (cond b false (wraps generations s.arena.counter)), compacted s (cond b s.arena.counter (raise generations s.arena.counter)))
         by true none = kept s Compact (Compacted false) (compacted s s.arena.counter) (ap (λ b. b && true) (some_by (arena_len s.arena) true none)) refl refl refl
-        by false some = raised s Compact (Compacted (wraps counting greatest s.arena.counter)) (compacted s (raise counting greatest s.arena.counter)) (some_by (arena_len s.arena) false some) refl refl refl refl
+        by false some = raised s Compact (Compacted (wraps generations s.arena.counter)) (compacted s (raise generations s.arena.counter)) (some_by (arena_len s.arena) false some) refl refl refl refl
 
-        dangling : (b : Bool) → Counts s Compact (cond b (Unresolved, s) (Compacted (cond (arena_len s.arena == 0) false (wraps counting greatest s.arena.counter)), compacted s (cond (arena_len s.arena == 0) s.arena.counter (raise counting greatest s.arena.counter))))
+        dangling : (b : Bool) → Counts s Compact (cond b (Unresolved, s) (Compacted (cond (arena_len s.arena == 0) false (wraps generations s.arena.counter)), compacted s (cond (arena_len s.arena == 0) s.arena.counter (raise generations s.arena.counter))))
         dangling true = kept s Compact Unresolved s (not_success (raises_counter s Compact) Unresolved refl) refl refl refl
         dangling false = by (arena_len s.arena == 0) refl
     counts s Len = kept s Len (Count (arena_len s.arena)) s refl refl refl refl
@@ -177,18 +177,18 @@ module _ {X : Type 0} (counting : Bool) (greatest : ℕ) where
     wanting s command t wants = absurd wants
 
     -- the same of each step
-    pub step_counts : (s : SessionState X) (command : Command X) (reply : Reply X) (t : SessionState X) → IsStep kind has_memory counting greatest s command reply t → Counts s command (reply, t)
+    pub step_counts : (s : SessionState X) (command : Command X) (reply : Reply X) (t : SessionState X) → IsStep kind has_memory generations s command reply t → Counts s command (reply, t)
     step_counts s command reply t step =
-        elim (step_cases kind counting greatest has_memory s command reply t step) [
+        elim (step_cases kind generations has_memory s command reply t step) [
           | inl is ↦ subst (Counts s command) (sym is) (counts kind (shown_text reply) s command)
           | inr wants ↦ subst (λ r. Counts s command (r, t)) (sym wants.0) (kept s command NoMemory t (not_success (raises_counter s command) NoMemory refl) refl refl (wanting s command t wants.1))
         ]
 
     -- no step refuses for want of a raise, and no run of steps
-    pub NeverExhausted : (s t : SessionState X) (command : Command X) → IsStep kind has_memory counting greatest s command Exhausted t → ⊥
+    pub NeverExhausted : (s t : SessionState X) (command : Command X) → IsStep kind has_memory generations s command Exhausted t → ⊥
     NeverExhausted s t command step = true≢false (step_counts s command Exhausted t step).other
 
-    pub RunNeverExhausted : (s t : SessionState X) (commands : List (Command X)) (replies : List (Reply X)) → IsRun (IsStep kind has_memory counting greatest) s commands replies t → list_any tells_exhausted replies ≡ false
+    pub RunNeverExhausted : (s t : SessionState X) (commands : List (Command X)) (replies : List (Reply X)) → IsRun (IsStep kind has_memory generations) s commands replies t → list_any tells_exhausted replies ≡ false
     RunNeverExhausted s t [] [] run = refl
     RunNeverExhausted s t [] (reply ∷ replies) run = absurd run
     RunNeverExhausted s t (command ∷ commands) [] run = absurd run

@@ -1,6 +1,6 @@
 -- What a text writes in a strict session is what the strict store of names answers that the session shows.
 use Rattle.std.proofs.Common.{◌≡◌, ℕ, ◌-◌, Bool, true, false, List, [], ◌∷◌, ◌++◌, Option, Some, None, IfSome, Result, Ok, Err, take, refl, sym, ap, subst, inl, inr, arith}
-use Rattle.triple_arena_ptr.specs.Numbers.{greatest_index, first_generation}
+use Rattle.triple_arena_ptr.specs.Numbers.{counting_to, Generations, greatest_index, first_generation}
 use Rattle.triple_arena_stack.specs.StackKind.{StackKind, IsOfKind}
 use Rattle.triple_arena_stack.specs.StackKind.StackKind.{heap, limited, fixed, array}
 use Rattle.triple_arena_commands.specs.declared.command.Command.{Command}
@@ -28,16 +28,16 @@ use Rattle.triple_arena_session.proofs.StoreRunLaws.{quiet_ends}
 use Rattle.triple_arena_session.proofs.StoreTextLaws.{RunsKindAsStore}
 use Rattle.triple_arena_session.proofs.StrictLaws.{StrictlySound, StrictRunIsStores, StrictRunIsQuiet}
 
-module _ (kind : StackKind) (has_memory : ℕ → Type 0) (counting : Bool) (greatest : ℕ) (s t : SessionState ℕ) (old new : Option (List ℕ)) where
+module _ (kind : StackKind) (has_memory : ℕ → Type 0) (generations : Generations) (s t : SessionState ℕ) (old new : Option (List ℕ)) where
   abbrev TextStep : SessionState ℕ → Command ℕ → Reply ℕ → SessionState ℕ → Type 0
-  TextStep = IsStrictSessionStep kind has_memory counting greatest
+  TextStep = IsStrictSessionStep kind has_memory generations
 
   -- no wrap ends a run
   whole : (lines : List (List ℕ)) → RunsThrough TextStep lines s t old new → AnswersLines TextStep lines s t old new
   whole lines (inl all) = all
   whole lines (inr first) =
       let ran = first.1 in
-      absurd (quiet_ends ran.0 (StrictRunIsQuiet kind has_memory counting greatest s ran.1.0 ran.0 t ran.1.2) ran.2)
+      absurd (quiet_ends ran.0 (StrictRunIsQuiet kind has_memory generations s ran.1.0 ran.0 t ran.1.2) ran.2)
 
   pub StrictTextIsWhole : (text : Option (List ℕ)) (outcome : Result (Unit {0}) TextError) → IsTextRun TextStep text outcome s t old new → IsWholeTextRun TextStep text outcome s t old new
   StrictTextIsWhole None (Ok done) ran = ran
@@ -49,21 +49,21 @@ module _ (kind : StackKind) (has_memory : ℕ → Type 0) (counting : Bool) (gre
   StrictFlushedIsWhole (Some bytes) (Ok done) ran = whole (lines_of bytes) ran
   StrictFlushedIsWhole text (Err e) ran = ran
 
-  module _ (counts : counting ≡ true) (sound : StrictlySound kind has_memory counting greatest counts s) where
+  module _ (counts : generations.counting ≡ true) (sound : StrictlySound kind has_memory generations counts s) where
     -- the store that the lines of a run bring about
-    runs : (lines : List (List ℕ)) (replies : List (Reply ℕ)) → RunsLines TextStep lines replies s t → IsSound t × RunsStrictStore (strictly_shown greatest s) (strictly_shown greatest t) lines replies
+    runs : (lines : List (List ℕ)) (replies : List (Reply ℕ)) → RunsLines TextStep lines replies s t → IsSound t × RunsStrictStore (strictly_shown generations.greatest s) (strictly_shown generations.greatest t) lines replies
     runs lines replies ran =
-        let stores = StrictRunIsStores kind has_memory counting greatest counts s ran.0 replies t sound ran.2 in
-        (stores.sound.sound.table, (ran.0, ran.1, stores.stores, StrictIsUnseen (strictly_shown greatest s) (strictly_shown greatest t) ran.0 replies stores.stores))
+        let stores = StrictRunIsStores kind has_memory generations counts s ran.0 replies t sound ran.2 in
+        (stores.sound.sound.table, (ran.0, ran.1, stores.stores, StrictIsUnseen (strictly_shown generations.greatest s) (strictly_shown generations.greatest t) ran.0 replies stores.stores))
 
-    brings : (lines : List (List ℕ)) → AnswersLines TextStep lines s t old new → IsSound t × BringsStrictStore (strictly_shown greatest s) (strictly_shown greatest t) lines old new
+    brings : (lines : List (List ℕ)) → AnswersLines TextStep lines s t old new → IsSound t × BringsStrictStore (strictly_shown generations.greatest s) (strictly_shown generations.greatest t) lines old new
     brings lines a =
         let ran = runs lines a.0 a.1 in
         (ran.0, (a.0, ran.1, a.3))
 
     -- the session is sound, where the text is known, and the store is that of the text
     abbrev pub LeavesStrictStore : Option (List ℕ) → Result (Unit {0}) TextError → Type 0
-    LeavesStrictStore text outcome = IfSome text (λ bytes. IsSound t) × IsStrictStoreText (strictly_shown greatest s) (strictly_shown greatest t) text outcome old new
+    LeavesStrictStore text outcome = IfSome text (λ bytes. IsSound t) × IsStrictStoreText (strictly_shown generations.greatest s) (strictly_shown generations.greatest t) text outcome old new
 
     -- where the writer failed
     partly : (bytes : List ℕ) (count : ℕ) (replies : List (Reply ℕ)) → RunsLines TextStep (take count (lines_of bytes)) replies s t → LeavesStrictStore (Some bytes) (Err Write)
@@ -72,9 +72,9 @@ module _ (kind : StackKind) (has_memory : ℕ → Type 0) (counting : Bool) (gre
         (stores.0, (count, replies, stores.1))
 
     -- where nothing ran
-    stays : (text : Option (List ℕ)) → t ≡ s → IfSome text (λ bytes. IsSound t) × (strictly_shown greatest t ≡ strictly_shown greatest s)
-    stays None same = (tt, ap (strictly_shown greatest) same)
-    stays (Some bytes) same = (subst IsSound (sym same) sound.sound.table, ap (strictly_shown greatest) same)
+    stays : (text : Option (List ℕ)) → t ≡ s → IfSome text (λ bytes. IsSound t) × (strictly_shown generations.greatest t ≡ strictly_shown generations.greatest s)
+    stays None same = (tt, ap (strictly_shown generations.greatest) same)
+    stays (Some bytes) same = (subst IsSound (sym same) sound.sound.table, ap (strictly_shown generations.greatest) same)
 
     pub StrictTextIsStores : (text : Option (List ℕ)) (outcome : Result (Unit {0}) TextError) → IsTextRun TextStep text outcome s t old new → LeavesStrictStore text outcome
     StrictTextIsStores None (Ok done) ran = (ran, ran)
@@ -106,8 +106,8 @@ over_kind : (kind : StackKind) (has_memory : ℕ → Type 0) (room : ℕ) (limit
     → (after : StrictStore ℕ) × IsStrictStoreText (strictly_shown greatest (first_session room limit)) after text outcome old new
 over_kind kind has_memory room limit text outcome old new of_kind ran = (
   strictly_shown greatest ran.0,
-  (StrictWholeIsStores kind has_memory true greatest (first_session room limit) ran.0 old new refl
-      (record { sound = SoundOver-new kind room limit (greatest_index greatest) (first_generation true) of_kind; within = omega arith }) text outcome ran.1).1,
+  (StrictWholeIsStores kind has_memory (counting_to greatest) (first_session room limit) ran.0 old new refl
+      (record { sound = SoundOver-new kind room limit (greatest_index greatest) (first_generation (counting_to greatest)) of_kind; within = omega arith }) text outcome ran.1).1,
 )
 
 -- the program's run, over each kind of stack
@@ -120,7 +120,7 @@ RunsKindStrictlyAsStore Array text outcome old new ran = over_kind (array 8) (λ
 -- where there was no memory to begin, nothing ran
 pub RunsStrictly-not_begun : (kind : StackKind) (has_memory : ℕ → Type 0) (first : SessionState ℕ) (known : Option (List ℕ)) (outcome : Result (Unit {0}) TextError) (old new : Option (List ℕ)) → IsFlushed (Err NoMemory) outcome old new → RunsStrictlyOver kind has_memory first known outcome old new
 RunsStrictly-not_begun kind has_memory first known outcome old new flushed =
-    (first, StrictFlushedIsWhole kind has_memory true greatest first first old new known outcome (IsFlushedRun-not_begun (IsStrictSessionStep kind has_memory true greatest) known outcome first old new flushed))
+    (first, StrictFlushedIsWhole kind has_memory (counting_to greatest) first first old new known outcome (IsFlushedRun-not_begun (IsStrictSessionStep kind has_memory (counting_to greatest)) known outcome first old new flushed))
 
 -- the program's arguments, input and output
 pub RunsProgramAsStore : {W : Type 0} (contents : W → Option (List ℕ)) (mode : Result (Bool × Kind) Outcome) (text : Option (List ℕ)) (outcome : Outcome) (old : W) (new : Option W) → RunsProgram contents mode text outcome old new → AnswersProgram contents mode text outcome old new

@@ -1,5 +1,6 @@
 -- Eleven commands, two of them compactions, and the replies to them.
 use Rattle.std.specs.Prelude.{ℕ, true, false, List, [], ◌∷◌, Some, None}
+use Rattle.triple_arena_ptr.specs.Numbers.{counting_to}
 use Rattle.triple_arena_stack.specs.StackKind.StackKind.{heap}
 use Rattle.triple_arena_commands.specs.declared.command.Command.{Command}
 use Rattle.triple_arena_commands.specs.declared.command.Command.TheVariants.{Insert, InsertWithin, Get, Set, Remove, Compact, Len}
@@ -26,4 +27,4 @@ nine_replies =
 abbrev pub model_replies : SessionState ℕ → List (Command ℕ) → List (Reply ℕ)
 model_replies s [] = []
 model_replies s (command ∷ commands) =
-    (answer heap true greatest None s command).0 ∷ model_replies (answer heap true greatest None s command).1 commands
+    (answer heap (counting_to greatest) None s command).0 ∷ model_replies (answer heap (counting_to greatest) None s command).1 commands

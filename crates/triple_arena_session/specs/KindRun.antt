@@ -1,6 +1,6 @@
 -- What the program runs: a text, in a new session over the stack that was asked for.
 use Rattle.std.specs.Prelude.{ℕ, ◌^◌, ◌-◌, Bool, true, false, List, Option, None, Some, Result}
-use Rattle.triple_arena_ptr.specs.Numbers.{greatest_index, first_generation}
+use Rattle.triple_arena_ptr.specs.Numbers.{counting_to, greatest_index, first_generation}
 use Rattle.triple_arena_stack.specs.StackKind.{StackKind, heap, limited, fixed, array}
 use Rattle.triple_arena_traits.specs.ArenaState.{new_arena}
 use Rattle.triple_arena_commands.specs.TextRun.{IsFlushedRun}
@@ -18,11 +18,11 @@ greatest = 2 ^ 64 - 1
 
 -- a session of P0 over an arena of this room and this limit, that has given no name
 abbrev pub first_session : ℕ → Option ℕ → SessionState ℕ
-first_session room limit = new_session (new_arena room limit (greatest_index greatest) (first_generation true))
+first_session room limit = new_session (new_arena room limit (greatest_index greatest) (first_generation (counting_to greatest)))
 
 -- the text ran over a stack of this kind, where memory is there for such requests, from this session
 abbrev pub RunsOver : StackKind → (ℕ → Type 0) → SessionState ℕ → Option (List ℕ) → Result (Unit {0}) TextError → Option (List ℕ) → Option (List ℕ) → Type 0
-RunsOver kind has_memory first text outcome old new = (last : SessionState ℕ) × IsFlushedRun (IsStep kind has_memory true greatest) text outcome first last old new
+RunsOver kind has_memory first text outcome old new = (last : SessionState ℕ) × IsFlushedRun (IsStep kind has_memory (counting_to greatest)) text outcome first last old new
 
 -- the text ran in the session over the stack that the program's arguments ask for
 abbrev pub RunsKind : Kind → Option (List ℕ) → Result (Unit {0}) TextError → Option (List ℕ) → Option (List ℕ) → Type 0
@@ -33,7 +33,7 @@ RunsKind Array = RunsOver (array 8) (λ _. Unit {0}) (first_session 8 (Some 8))
 
 -- the same of a strict session, whose run no wrap ends
 abbrev pub RunsStrictlyOver : StackKind → (ℕ → Type 0) → SessionState ℕ → Option (List ℕ) → Result (Unit {0}) TextError → Option (List ℕ) → Option (List ℕ) → Type 0
-RunsStrictlyOver kind has_memory first text outcome old new = (last : SessionState ℕ) × IsWholeFlushedRun (IsStrictSessionStep kind has_memory true greatest) text outcome first last old new
+RunsStrictlyOver kind has_memory first text outcome old new = (last : SessionState ℕ) × IsWholeFlushedRun (IsStrictSessionStep kind has_memory (counting_to greatest)) text outcome first last old new
 
 -- the text ran in the strict session over the stack that the program's arguments ask for
 abbrev pub RunsKindStrictly : Kind → Option (List ℕ) → Result (Unit {0}) TextError → Option (List ℕ) → Option (List ℕ) → Type 0

@@ -22,8 +22,8 @@ session_of pointer arena table room = record { arena = map_values (node_of point
 module _ {X : Type 0} where
   -- whether a session refuses a command for want of a raise, which a strict one alone does
   abbrev pub refuses : Bool → Bool → ℕ → SessionState X → Command X → Bool
-  refuses strict counting greatest s command = strict && is_refused counting greatest s command
+  refuses strict generations s command = strict && is_refused generations s command
 
   -- a step of a session that is strict, or is not
   abbrev pub IsStepOf : Bool → StackKind → (ℕ → Type 0) → Bool → ℕ → SessionState X → Command X → Reply X → SessionState X → Type 0
-  IsStepOf strict kind has_memory counting greatest = IsStrictly (refuses strict counting greatest) (IsStep kind has_memory counting greatest)
+  IsStepOf strict kind has_memory generations = IsStrictly (refuses strict generations) (IsStep kind has_memory generations)

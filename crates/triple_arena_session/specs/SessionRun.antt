@@ -3,7 +3,7 @@ use Rattle.std.specs.Prelude.{◌≡◌, ℕ, ◌+◌, ◌<◌, ◌≤◌, ◌==
 use Rattle.std.specs.declared.alloc.Global.{Global}
 use Rattle.triple_arena_base.specs.declared.errors.ReallocationError.{ReallocationError}
 use Rattle.triple_arena_base.specs.declared.errors.ReallocationError.TheVariants as refused
-use Rattle.triple_arena_ptr.specs.Numbers.{raise, wraps}
+use Rattle.triple_arena_ptr.specs.Numbers.{Generations, raise, wraps}
 use Rattle.triple_arena_ptr.specs.Pointers.{Pointer}
 use Rattle.triple_arena_stack.specs.StackKind.{StackKind}
 use Rattle.triple_arena_stack.specs.Capacity.{IsWithin, room_for_one_more, CanGrow}
@@ -96,7 +96,7 @@ module _ {X : Type 0} where
       × (CanGrow has_memory (capacity s.arena) s.arena.limit s.arena.greatest → ⊥)
       × (t ≡ with_room_for_name s)
 
-module _ {X : Type 0} (kind : StackKind) (counting : Bool) (greatest : ℕ) where
+module _ {X : Type 0} (kind : StackKind) (generations : Generations) where
   -- insertion with a good link, where nothing or something stands against it; a full arena grows first
   abbrev pub insert_unless : Option ReallocationError → SessionState X → X → Option Pointer → Reply X × SessionState X
   insert_unless (Some why) s datum link = (refused_reply why, s)
@@ -109,31 +109,31 @@ module _ {X : Type 0} (kind : StackKind) (counting : Bool) (greatest : ℕ) wher
 
   -- whether the counter of the session wraps where it is raised, and what it is then
   abbrev pub wraps_next : SessionState X → Bool
-  wraps_next s = wraps counting greatest s.arena.counter
+  wraps_next s = wraps generations s.arena.counter
 
   abbrev pub next_counter : SessionState X → ℕ
-  next_counter s = raise counting greatest s.arena.counter
+  next_counter s = raise generations s.arena.counter
 
   -- removal of what stands under a pointer; the reply tells whether the counter wraps
   abbrev pub remove_under : SessionState X → Pointer → X × Option Pointer → Reply X × SessionState X
   remove_under s p node = (
     Removed node.0 (link_name s.table node.1) (wraps_next s),
-    record s { arena = removed (raise counting greatest) s.arena p.0 },
+    record s { arena = removed (raise generations) s.arena p.0 },
   )
 
   -- the entry of a pointer gets the raised counter, and the pointer that it has then a new name
   abbrev pub invalidate_under : SessionState X → Pointer → X × Option Pointer → Reply X × SessionState X
-  invalidate_under s p node = give s (p.0, next_counter s) (wraps_next s) (invalidated (raise counting greatest) s.arena p.0)
+  invalidate_under s p node = give s (p.0, next_counter s) (wraps_next s) (invalidated (raise generations) s.arena p.0)
 
   -- whether the counter wraps where it is raised if there is an entry
   abbrev pub wraps_if_any : SessionState X → Bool
-  wraps_if_any s = wraps_after (wraps counting greatest) false s.arena
+  wraps_if_any s = wraps_after (wraps generations) false s.arena
 
   -- compaction, unless a link dangles
   abbrev pub compact_answer : SessionState X → Reply X × SessionState X
   compact_answer s =
       cond (any_dangles s.arena) (Unresolved, s)
-      (Compacted (wraps_if_any s), compacted s (raised_if_any (raise counting greatest) s.arena))
+      (Compacted (wraps_if_any s), compacted s (raised_if_any (raise generations) s.arena))
 
   -- reallocation, which tidies the free list first, also where it is refused
   abbrev pub reserve_answer : SessionState X → ℕ → Reply X × SessionState X
@@ -151,7 +151,7 @@ module _ {X : Type 0} (kind : StackKind) (counting : Bool) (greatest : ℕ) wher
   answer text s (Set name datum link) = set_answer s name datum (link_pointer s.table link)
   answer text s (Remove name) = act_on s (remove_under s) (item s.table name)
   answer text s (Invalidate name) = act_on s (invalidate_under s) (item s.table name)
-  answer text s Clear = (Cleared (wraps_if_any s), record s { arena = cleared (raise counting greatest) s.arena })
+  answer text s Clear = (Cleared (wraps_if_any s), record s { arena = cleared (raise generations) s.arena })
   answer text s Compact = compact_answer s
   answer text s Len = (Count (arena_len s.arena), s)
   answer text s Capacity = (Count (capacity s.arena), s)
@@ -173,9 +173,9 @@ module _ {X : Type 0} (kind : StackKind) (has_memory : ℕ → Type 0) where
   WantsMemory s (Reserve m) t = RoomWantsMemory s.arena m × (t ≡ with_tidied_arena s)
   WantsMemory s command t = ⊥
 
-module _ {X : Type 0} (kind : StackKind) (has_memory : ℕ → Type 0) (counting : Bool) (greatest : ℕ) where
+module _ {X : Type 0} (kind : StackKind) (has_memory : ℕ → Type 0) (generations : Generations) where
   -- a command, its reply and the session after it: the answer, or a refusal for want of memory
   abbrev pub IsStep : SessionState X → Command X → Reply X → SessionState X → Type 0
   IsStep s command NoMemory t =
-      ((NoMemory, t) ≡ answer kind counting greatest None s command) ⊎ WantsMemory kind has_memory s command t
-  IsStep s command reply t = (reply, t) ≡ answer kind counting greatest (shown_text reply) s command
+      ((NoMemory, t) ≡ answer kind generations None s command) ⊎ WantsMemory kind has_memory s command t
+  IsStep s command reply t = (reply, t) ≡ answer kind generations (shown_text reply) s command

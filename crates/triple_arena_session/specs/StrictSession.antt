@@ -17,11 +17,11 @@ module _ {X : Type 0} where
 
   -- whether a strict session refuses a command: it would raise a counter that stands at the greatest generation
   abbrev pub is_refused : Bool → ℕ → SessionState X → Command X → Bool
-  is_refused counting greatest s command = wraps counting greatest s.arena.counter && raises_counter s command
+  is_refused generations s command = wraps generations s.arena.counter && raises_counter s command
 
   -- a command, its reply and the strict session after it: the refusal, and nothing changes, or a step as of any session
   abbrev pub IsStrictSessionStep : StackKind → (ℕ → Type 0) → Bool → ℕ → SessionState X → Command X → Reply X → SessionState X → Type 0
-  IsStrictSessionStep kind has_memory counting greatest = IsStrictly (is_refused counting greatest) (IsStep kind has_memory counting greatest)
+  IsStrictSessionStep kind has_memory generations = IsStrictly (is_refused generations) (IsStep kind has_memory generations)
 
   -- the strict store that a session shows: its counter has the raises left that lead to the greatest generation
   abbrev pub strictly_shown : ℕ → SessionState X → StrictStore X

@@ -49,7 +49,7 @@ pub trait BeginsOver<P: Ptr, X, A>: Sized {
     ///
     /// It is sound, and shows an empty store of names.
     fn new(arena: A, alloc: Global) -> Self
-        requires counts { P.Gen.counting ≡ true }
+        requires counts { P.Gen.generations.counting ≡ true }
         requires empty { entries arena ≡ 0 }
         ensures made { session result ≡ new_session (over arena) }
         ensures sound { IsSound (session result) }

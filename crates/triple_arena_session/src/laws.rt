@@ -39,29 +39,33 @@ use triple_arena_stack::NonZeroInxGenericStack;
 /// generation counts and the reply tells of no wrap, the calls on the arena take each history that fits
 /// it to one that fits.
 pub fn session_steps_as_store<P: Ptr, X, S: NonZeroInxGenericStack<ArenaSlot<P, Node<X, P>>>>()
-    ensures store { P.Gen.counting ≡ true → (s t : SessionState X) (command : Command X) (reply : Reply X)
+    ensures store { P.Gen.generations.counting ≡ true
+        → (s t : SessionState X) (command : Command X) (reply : Reply X)
         → IsArenaOver S.kind s.arena → IsSound s
-        → IsStep S.kind S.has_memory P.Gen.counting P.Gen.greatest s command reply t
+        → IsStep S.kind S.has_memory P.Gen.generations s command reply t
         → tells_of_wrap reply ≡ false → IsStoreStep (shown s) command reply (shown t) }
-    ensures sound { P.Gen.counting ≡ true → (s t : SessionState X) (command : Command X) (reply : Reply X)
+    ensures sound { P.Gen.generations.counting ≡ true
+        → (s t : SessionState X) (command : Command X) (reply : Reply X)
         → IsArenaOver S.kind s.arena → IsSound s
-        → IsStep S.kind S.has_memory P.Gen.counting P.Gen.greatest s command reply t
+        → IsStep S.kind S.has_memory P.Gen.generations s command reply t
         → tells_of_wrap reply ≡ false → IsArenaOver S.kind t.arena × IsSound t }
-    ensures calls { P.Gen.counting ≡ true → (s t : SessionState X) (command : Command X) (reply : Reply X)
+    ensures calls { P.Gen.generations.counting ≡ true
+        → (s t : SessionState X) (command : Command X) (reply : Reply X)
         → IsArenaOver S.kind s.arena
-        → IsStep S.kind S.has_memory P.Gen.counting P.Gen.greatest s command reply t
+        → IsStep S.kind S.has_memory P.Gen.generations s command reply t
         → tells_of_wrap reply ≡ false
         → Continues Fits s.arena (calls_of s command reply) t.arena }
     ensures arena { (s t : SessionState X) (command : Command X) (reply : Reply X)
         → IsArenaOver S.kind s.arena
-        → IsStep S.kind S.has_memory P.Gen.counting P.Gen.greatest s command reply t
+        → IsStep S.kind S.has_memory P.Gen.generations s command reply t
         → IsArenaOver S.kind t.arena }
-    ensures at_wrap { P.Gen.counting ≡ true → (s t : SessionState X) (command : Command X) (reply : Reply X)
+    ensures at_wrap { P.Gen.generations.counting ≡ true
+        → (s t : SessionState X) (command : Command X) (reply : Reply X)
         → IsArenaOver S.kind s.arena → IsSound s
-        → IsStep S.kind S.has_memory P.Gen.counting P.Gen.greatest s command reply t
+        → IsStep S.kind S.has_memory P.Gen.generations s command reply t
         → (after : Store X) × IsStoreStep (shown s) command (without_wrap reply) after }
     ensures never { (s t : SessionState X) (command : Command X)
-        → IsStep S.kind S.has_memory P.Gen.counting P.Gen.greatest s command Exhausted t → ⊥ }
+        → IsStep S.kind S.has_memory P.Gen.generations s command Exhausted t → ⊥ }
 {}
 
 /// A list of steps of any session, sound or not, takes each history that fits its arena to one that
@@ -69,21 +73,21 @@ pub fn session_steps_as_store<P: Ptr, X, S: NonZeroInxGenericStack<ArenaSlot<P, 
 /// no reply tells of a wrap. So from a session without entries, as a new one is, and any one that was
 /// cleared, no pointer is given twice by all of them.
 pub fn session_runs_keep_histories<P: Ptr, X, S: NonZeroInxGenericStack<ArenaSlot<P, Node<X, P>>>>()
-    ensures calls { P.Gen.counting ≡ true
+    ensures calls { P.Gen.generations.counting ≡ true
         → (s t : SessionState X) (commands : List (Command X)) (replies : List (Reply X))
         → IsArenaOver S.kind s.arena
-        → KeepsHistories (IsStep S.kind S.has_memory P.Gen.counting P.Gen.greatest) s commands replies t }
+        → KeepsHistories (IsStep S.kind S.has_memory P.Gen.generations) s commands replies t }
     ensures arena { (s t : SessionState X) (commands : List (Command X)) (replies : List (Reply X))
         → IsArenaOver S.kind s.arena
-        → IsRun (IsStep S.kind S.has_memory P.Gen.counting P.Gen.greatest) s commands replies t
+        → IsRun (IsStep S.kind S.has_memory P.Gen.generations) s commands replies t
         → IsArenaOver S.kind t.arena }
-    ensures given_once { P.Gen.counting ≡ true
+    ensures given_once { P.Gen.generations.counting ≡ true
         → (s t : SessionState X) (commands : List (Command X)) (replies : List (Reply X))
         → IsArenaOver S.kind s.arena → arena_len s.arena ≡ 0
-        → (run : IsRun (IsStep S.kind S.has_memory P.Gen.counting P.Gen.greatest) s commands replies t)
+        → (run : IsRun (IsStep S.kind S.has_memory P.Gen.generations) s commands replies t)
         → TellsOfNoWrap replies
         → AreDistinct (given (followed_by (begun_with [])
-        (calls_in (IsStep S.kind S.has_memory P.Gen.counting P.Gen.greatest)
+        (calls_in (IsStep S.kind S.has_memory P.Gen.generations)
         s commands replies t run))) }
 {}
 
@@ -97,20 +101,24 @@ pub fn strict_session_steps_as_store<
     X,
     S: NonZeroInxGenericStack<ArenaSlot<P, Node<X, P>>>,
 >()
-    ensures store { P.Gen.counting ≡ true → (s t : SessionState X) (command : Command X) (reply : Reply X)
-        → IsArenaOver S.kind s.arena → s.arena.counter ≤ P.Gen.greatest → IsSound s
-        → IsStrictSessionStep S.kind S.has_memory P.Gen.counting P.Gen.greatest s command reply t
-        → IsStrictStoreStep (strictly_shown P.Gen.greatest s) command reply (strictly_shown P.Gen.greatest t) }
-    ensures sound { P.Gen.counting ≡ true → (s t : SessionState X) (command : Command X) (reply : Reply X)
-        → IsArenaOver S.kind s.arena → s.arena.counter ≤ P.Gen.greatest → IsSound s
-        → IsStrictSessionStep S.kind S.has_memory P.Gen.counting P.Gen.greatest s command reply t
-        → IsArenaOver S.kind t.arena × (t.arena.counter ≤ P.Gen.greatest) × IsSound t }
+    ensures store { P.Gen.generations.counting ≡ true
+        → (s t : SessionState X) (command : Command X) (reply : Reply X)
+        → IsArenaOver S.kind s.arena → s.arena.counter ≤ P.Gen.generations.greatest → IsSound s
+        → IsStrictSessionStep S.kind S.has_memory P.Gen.generations s command reply t
+        → IsStrictStoreStep (strictly_shown P.Gen.generations.greatest s) command reply
+        (strictly_shown P.Gen.generations.greatest t) }
+    ensures sound { P.Gen.generations.counting ≡ true
+        → (s t : SessionState X) (command : Command X) (reply : Reply X)
+        → IsArenaOver S.kind s.arena → s.arena.counter ≤ P.Gen.generations.greatest → IsSound s
+        → IsStrictSessionStep S.kind S.has_memory P.Gen.generations s command reply t
+        → IsArenaOver S.kind t.arena × (t.arena.counter ≤ P.Gen.generations.greatest) × IsSound t }
     ensures quiet { (s t : SessionState X) (command : Command X) (reply : Reply X)
-        → IsStrictSessionStep S.kind S.has_memory P.Gen.counting P.Gen.greatest s command reply t
+        → IsStrictSessionStep S.kind S.has_memory P.Gen.generations s command reply t
         → tells_of_wrap reply ≡ false }
-    ensures history { P.Gen.counting ≡ true → (s t : SessionState X) (command : Command X) (reply : Reply X)
+    ensures history { P.Gen.generations.counting ≡ true
+        → (s t : SessionState X) (command : Command X) (reply : Reply X)
         → IsArenaOver S.kind s.arena
-        → IsStrictSessionStep S.kind S.has_memory P.Gen.counting P.Gen.greatest s command reply t
+        → IsStrictSessionStep S.kind S.has_memory P.Gen.generations s command reply t
         → Continues Fits s.arena (calls_of s command reply) t.arena }
 {}
 
@@ -122,36 +130,40 @@ pub fn strict_session_runs_as_store<
     X,
     S: NonZeroInxGenericStack<ArenaSlot<P, Node<X, P>>>,
 >()
-    ensures store { P.Gen.counting ≡ true
+    ensures store { P.Gen.generations.counting ≡ true
         → (s t : SessionState X) (commands : List (Command X)) (replies : List (Reply X))
-        → IsArenaOver S.kind s.arena → s.arena.counter ≤ P.Gen.greatest → IsSound s
-        → IsRun (IsStrictSessionStep S.kind S.has_memory P.Gen.counting P.Gen.greatest) s commands replies t
-        → IsRun IsStrictStoreStep (strictly_shown P.Gen.greatest s) commands replies (strictly_shown P.Gen.greatest t) }
-    ensures sound { P.Gen.counting ≡ true
+        → IsArenaOver S.kind s.arena → s.arena.counter ≤ P.Gen.generations.greatest → IsSound s
+        → IsRun (IsStrictSessionStep S.kind S.has_memory P.Gen.generations) s commands replies t
+        → IsRun IsStrictStoreStep (strictly_shown P.Gen.generations.greatest s) commands replies
+        (strictly_shown P.Gen.generations.greatest t) }
+    ensures sound { P.Gen.generations.counting ≡ true
         → (s t : SessionState X) (commands : List (Command X)) (replies : List (Reply X))
-        → IsArenaOver S.kind s.arena → s.arena.counter ≤ P.Gen.greatest → IsSound s
-        → IsRun (IsStrictSessionStep S.kind S.has_memory P.Gen.counting P.Gen.greatest) s commands replies t
-        → IsArenaOver S.kind t.arena × (t.arena.counter ≤ P.Gen.greatest) × IsSound t }
+        → IsArenaOver S.kind s.arena → s.arena.counter ≤ P.Gen.generations.greatest → IsSound s
+        → IsRun (IsStrictSessionStep S.kind S.has_memory P.Gen.generations) s commands replies t
+        → IsArenaOver S.kind t.arena × (t.arena.counter ≤ P.Gen.generations.greatest) × IsSound t }
     ensures quiet { (s t : SessionState X) (commands : List (Command X)) (replies : List (Reply X))
-        → IsRun (IsStrictSessionStep S.kind S.has_memory P.Gen.counting P.Gen.greatest) s commands replies t
+        → IsRun (IsStrictSessionStep S.kind S.has_memory P.Gen.generations) s commands replies t
         → TellsOfNoWrap replies }
-    ensures history { P.Gen.counting ≡ true
+    ensures history { P.Gen.generations.counting ≡ true
         → (s t : SessionState X) (commands : List (Command X)) (replies : List (Reply X))
         → IsArenaOver S.kind s.arena
-        → (run : IsRun (IsStrictSessionStep S.kind S.has_memory P.Gen.counting P.Gen.greatest) s commands replies t)
-        → Continues Fits s.arena (calls_in (IsStrictSessionStep S.kind S.has_memory P.Gen.counting P.Gen.greatest)
+        → (run : IsRun (IsStrictSessionStep S.kind S.has_memory P.Gen.generations)
+        s commands replies t)
+        → Continues Fits s.arena
+        (calls_in (IsStrictSessionStep S.kind S.has_memory P.Gen.generations)
         s commands replies t run) t.arena }
-    ensures given_once { P.Gen.counting ≡ true
+    ensures given_once { P.Gen.generations.counting ≡ true
         → (s t : SessionState X) (commands : List (Command X)) (replies : List (Reply X))
         → IsArenaOver S.kind s.arena → arena_len s.arena ≡ 0
-        → (run : IsRun (IsStrictSessionStep S.kind S.has_memory P.Gen.counting P.Gen.greatest) s commands replies t)
+        → (run : IsRun (IsStrictSessionStep S.kind S.has_memory P.Gen.generations)
+        s commands replies t)
         → AreDistinct (given (followed_by (begun_with [])
-        (calls_in (IsStrictSessionStep S.kind S.has_memory P.Gen.counting P.Gen.greatest)
+        (calls_in (IsStrictSessionStep S.kind S.has_memory P.Gen.generations)
         s commands replies t run))) }
-    ensures unseen { P.Gen.counting ≡ true
+    ensures unseen { P.Gen.generations.counting ≡ true
         → (s t : SessionState X) (commands : List (Command X)) (replies : List (Reply X))
-        → IsArenaOver S.kind s.arena → s.arena.counter ≤ P.Gen.greatest → IsSound s
-        → IsRun (IsStrictSessionStep S.kind S.has_memory P.Gen.counting P.Gen.greatest) s commands replies t
+        → IsArenaOver S.kind s.arena → s.arena.counter ≤ P.Gen.generations.greatest → IsSound s
+        → IsRun (IsStrictSessionStep S.kind S.has_memory P.Gen.generations) s commands replies t
         → list_all is_named commands ≡ true → list_any is_no_memory replies ≡ false
         → list_any tells_exhausted replies ≡ false
         → seen commands replies ≡ ample (shown s) (erase commands) }

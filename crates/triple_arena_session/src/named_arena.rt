@@ -77,7 +77,7 @@ impl<
     pub(crate) fn answer(&mut self, command: Command<X>) -> Reply<X>
     where
         X: Debug,
-        ensures { IsStepOf A.strict S.kind S.has_memory P.Gen.counting P.Gen.greatest
+        ensures { IsStepOf A.strict S.kind S.has_memory P.Gen.generations
             self.old command result self.new }
     {
         if A::is_strict() && self.is_refused(command) {
@@ -88,7 +88,7 @@ impl<
 
     // Whether a command would raise a counter that stands at the greatest generation.
     fn is_refused(&self, command: Command<X>) -> bool
-        ensures { result ≡ is_refused P.Gen.counting P.Gen.greatest self.now command }
+        ensures { result ≡ is_refused P.Gen.generations self.now command }
     {
         self.arena.is_at_greatest() && self.raises(command)
     }
@@ -118,8 +118,8 @@ impl<
     fn reply(&mut self, command: Command<X>) -> Reply<X>
     where
         X: Debug,
-        requires { refuses A.strict P.Gen.counting P.Gen.greatest self.old command ≡ false }
-        ensures { IsStep S.kind S.has_memory P.Gen.counting P.Gen.greatest self.old command result self.new }
+        requires { refuses A.strict P.Gen.generations self.old command ≡ false }
+        ensures { IsStep S.kind S.has_memory P.Gen.generations self.old command result self.new }
     {
         match command {
             Command::Insert(datum, link) => self.insert(datum, link),
@@ -140,7 +140,7 @@ impl<
     // Tells what is true of the arena of any session, and does nothing.
     pub(crate) fn tell_arena(&self)
         ensures over { IsArenaOver S.kind self.now.arena }
-        ensures within { self.now.arena.counter ≤ P.Gen.greatest }
+        ensures within { self.now.arena.counter ≤ P.Gen.generations.greatest }
     {
         // By their clauses, together.
         let _len = self.arena.len();
@@ -156,7 +156,7 @@ impl<
     where
         X: Debug,
         ensures ran { IfOk result (λ replies.
-            RunsToWrap (IsStepOf A.strict S.kind S.has_memory P.Gen.counting P.Gen.greatest)
+            RunsToWrap (IsStepOf A.strict S.kind S.has_memory P.Gen.generations)
             self.old commands.now replies.items self.new) }
         ensures refused { OnErr result (self.new ≡ self.old) }
         ensures succeeds { commands.now ≡ [] → IsOk result }
@@ -174,7 +174,7 @@ impl<
     }
 
     fn insert(&mut self, datum: X, link: Option<usize>) -> Reply<X>
-        ensures { IsStep S.kind S.has_memory P.Gen.counting P.Gen.greatest
+        ensures { IsStep S.kind S.has_memory P.Gen.generations
             self.old (Command.Insert datum link) result self.new }
     {
         let Some(target) = self.link_pointer(link) else {
@@ -199,7 +199,7 @@ impl<
     }
 
     fn insert_within(&mut self, datum: X, link: Option<usize>) -> Reply<X>
-        ensures { IsStep S.kind S.has_memory P.Gen.counting P.Gen.greatest
+        ensures { IsStep S.kind S.has_memory P.Gen.generations
             self.old (Command.InsertWithin datum link) result self.new }
     {
         let Some(target) = self.link_pointer(link) else {
@@ -219,7 +219,7 @@ impl<
     }
 
     fn get(&self, name: usize) -> Reply<X>
-        ensures { IsStep S.kind S.has_memory P.Gen.counting P.Gen.greatest
+        ensures { IsStep S.kind S.has_memory P.Gen.generations
             self.now (Command.Get name) result self.now }
     {
         let Some(p) = self.pointer(name) else {
@@ -232,7 +232,7 @@ impl<
     }
 
     fn set(&mut self, name: usize, datum: X, link: Option<usize>) -> Reply<X>
-        ensures { IsStep S.kind S.has_memory P.Gen.counting P.Gen.greatest
+        ensures { IsStep S.kind S.has_memory P.Gen.generations
             self.old (Command.Set name datum link) result self.new }
     {
         let Some(target) = self.link_pointer(link) else {
@@ -253,9 +253,9 @@ impl<
     }
 
     fn remove(&mut self, name: usize) -> Reply<X>
-        requires { refuses A.strict P.Gen.counting P.Gen.greatest
+        requires { refuses A.strict P.Gen.generations
             self.old (Command.Remove name) ≡ false }
-        ensures { IsStep S.kind S.has_memory P.Gen.counting P.Gen.greatest
+        ensures { IsStep S.kind S.has_memory P.Gen.generations
             self.old (Command.Remove name) result self.new }
     {
         let Some(p) = self.pointer(name) else {
@@ -269,9 +269,9 @@ impl<
     }
 
     fn invalidate(&mut self, name: usize) -> Reply<X>
-        requires { refuses A.strict P.Gen.counting P.Gen.greatest
+        requires { refuses A.strict P.Gen.generations
             self.old (Command.Invalidate name) ≡ false }
-        ensures { IsStep S.kind S.has_memory P.Gen.counting P.Gen.greatest
+        ensures { IsStep S.kind S.has_memory P.Gen.generations
             self.old (Command.Invalidate name) result self.new }
     {
         let Some(p) = self.pointer(name) else {
@@ -292,8 +292,8 @@ impl<
     }
 
     fn clear(&mut self) -> Reply<X>
-        requires { refuses A.strict P.Gen.counting P.Gen.greatest self.old Command.Clear ≡ false }
-        ensures { IsStep S.kind S.has_memory P.Gen.counting P.Gen.greatest
+        requires { refuses A.strict P.Gen.generations self.old Command.Clear ≡ false }
+        ensures { IsStep S.kind S.has_memory P.Gen.generations
             self.old Command.Clear result self.new }
     {
         let ((), wrapped) = self.arena.clear().overflowing();
@@ -301,8 +301,8 @@ impl<
     }
 
     fn compact(&mut self) -> Reply<X>
-        requires { refuses A.strict P.Gen.counting P.Gen.greatest self.old Command.Compact ≡ false }
-        ensures { IsStep S.kind S.has_memory P.Gen.counting P.Gen.greatest
+        requires { refuses A.strict P.Gen.generations self.old Command.Compact ≡ false }
+        ensures { IsStep S.kind S.has_memory P.Gen.generations
             self.old Command.Compact result self.new }
     {
         match self.arena.compress_recast(self.alloc) {
@@ -317,7 +317,7 @@ impl<
     }
 
     fn reserve(&mut self, count: usize) -> Reply<X>
-        ensures { IsStep S.kind S.has_memory P.Gen.counting P.Gen.greatest
+        ensures { IsStep S.kind S.has_memory P.Gen.generations
             self.old (Command.Reserve count) result self.new }
     {
         // By its clause, the greatest index of the arena is that of its pointers.
@@ -332,7 +332,7 @@ impl<
     fn show(&self) -> Reply<X>
     where
         X: Debug,
-        ensures { IsStep S.kind S.has_memory P.Gen.counting P.Gen.greatest
+        ensures { IsStep S.kind S.has_memory P.Gen.generations
             self.now Command.Show result self.now }
     {
         match format!(in self.alloc; "{:?}", self.arena.arena()) {

@@ -53,9 +53,9 @@ impl<P: Ptr, X: Copy, S: NonZeroInxGenericStack<ArenaSlot<P, Node<X, P>>>> Sessi
     ///
     /// It is sound, and shows an empty store of names.
     pub fn with_new_arena(alloc: Global) -> Self
-        requires { P.Gen.counting ≡ true }
+        requires { P.Gen.generations.counting ≡ true }
         ensures made { result ≡ new_session (new_arena (new_room S.kind) (new_limit S.kind)
-            (greatest_index P.Inx.greatest) (first_generation P.Gen.counting)) }
+            (greatest_index P.Inx.greatest) (first_generation P.Gen.generations)) }
         ensures sound { IsSound result }
         ensures store { shown result ≡ new_store (new_room S.kind) (new_limit S.kind) (greatest_index P.Inx.greatest) }
     {
@@ -69,10 +69,10 @@ impl<P: Ptr, X: Copy, S: NonZeroInxGenericStack<ArenaSlot<P, Node<X, P>>>> Sessi
     /// Refused where the arena is: where `min_capacity` is past the greatest index or the places of
     /// an array, and where memory is refused. The session is sound, and shows an empty store of names.
     pub fn with_min_capacity(alloc: Global, min_capacity: usize) -> Result<Self, AllocError>
-        requires { P.Gen.counting ≡ true }
+        requires { P.Gen.generations.counting ≡ true }
         ensures made { IfOk result (λ session. session ≡ new_session (new_arena
             (made_room S.kind min_capacity) (made_limit S.kind min_capacity)
-            (greatest_index P.Inx.greatest) (first_generation P.Gen.counting))) }
+            (greatest_index P.Inx.greatest) (first_generation P.Gen.generations))) }
         ensures sound { IfOk result (λ session. IsSound session) }
         ensures store { IfOk result (λ session. shown session ≡ new_store
             (made_room S.kind min_capacity) (made_limit S.kind min_capacity) (greatest_index P.Inx.greatest)) }
@@ -127,14 +127,17 @@ impl<P: Ptr, X: Copy, S: NonZeroInxGenericStack<ArenaSlot<P, Node<X, P>>>> Sessi
     pub fn step(&mut self, command: Command<X>) -> Reply<X>
     where
         X: Debug,
-        ensures step { IsStep S.kind S.has_memory P.Gen.counting P.Gen.greatest self.old command result self.new }
-        ensures store { P.Gen.counting ≡ true → IsSound self.old → tells_of_wrap result ≡ false
+        ensures step { IsStep S.kind S.has_memory P.Gen.generations
+            self.old command result self.new }
+        ensures store { P.Gen.generations.counting ≡ true → IsSound self.old
+            → tells_of_wrap result ≡ false
             → IsStoreStep (shown self.old) command result (shown self.new) }
-        ensures sound { P.Gen.counting ≡ true → IsSound self.old → tells_of_wrap result ≡ false
+        ensures sound { P.Gen.generations.counting ≡ true → IsSound self.old
+            → tells_of_wrap result ≡ false
             → IsSound self.new }
-        ensures calls { P.Gen.counting ≡ true → tells_of_wrap result ≡ false
+        ensures calls { P.Gen.generations.counting ≡ true → tells_of_wrap result ≡ false
             → Continues Fits self.old.arena (calls_of self.old command result) self.new.arena }
-        ensures at_wrap { P.Gen.counting ≡ true → IsSound self.old
+        ensures at_wrap { P.Gen.generations.counting ≡ true → IsSound self.old
             → (after : Store X) × IsStoreStep (shown self.old) command (without_wrap result) after }
         ensures never { result ≢ Exhausted }
         ensures arena { IsArenaOver S.kind self.old.arena }
@@ -160,27 +163,31 @@ impl<P: Ptr, X: Copy, S: NonZeroInxGenericStack<ArenaSlot<P, Node<X, P>>>> Sessi
     where
         X: Debug,
         ensures ran { IfOk result (λ replies.
-            RunsToWrap (IsStep S.kind S.has_memory P.Gen.counting P.Gen.greatest)
+            RunsToWrap (IsStep S.kind S.has_memory P.Gen.generations)
             self.old commands.now replies.items self.new) }
         ensures refused { OnErr result (self.new ≡ self.old) }
         ensures succeeds { commands.now ≡ [] → IsOk result }
-        ensures store { P.Gen.counting ≡ true → IsSound self.old → IfOk result (λ replies.
+        ensures store { P.Gen.generations.counting ≡ true → IsSound self.old
+            → IfOk result (λ replies.
             AnswersAsStore (shown self.old) (take (length replies.items) commands.now) replies.items) }
-        ensures shows { P.Gen.counting ≡ true → IsSound self.old → IfOk result (λ replies.
+        ensures shows { P.Gen.generations.counting ≡ true → IsSound self.old
+            → IfOk result (λ replies.
             TellsOfNoWrap replies.items
             → IsRun IsStoreStep (shown self.old) commands.now replies.items (shown self.new)) }
-        ensures sound { P.Gen.counting ≡ true → IsSound self.old → IfOk result (λ replies.
+        ensures sound { P.Gen.generations.counting ≡ true → IsSound self.old
+            → IfOk result (λ replies.
             TellsOfNoWrap replies.items → IsSound self.new) }
-        ensures calls { P.Gen.counting ≡ true → IfOk result (λ replies.
-            KeepsHistories (IsStep S.kind S.has_memory P.Gen.counting P.Gen.greatest)
+        ensures calls { P.Gen.generations.counting ≡ true → IfOk result (λ replies.
+            KeepsHistories (IsStep S.kind S.has_memory P.Gen.generations)
             self.old (take (length replies.items) commands.now) replies.items self.new) }
-        ensures fronts { P.Gen.counting ≡ true → IfOk result (λ replies.
+        ensures fronts { P.Gen.generations.counting ≡ true → IfOk result (λ replies.
             (count : ℕ) → (after : SessionState X)
-            × IsRun (IsStep S.kind S.has_memory P.Gen.counting P.Gen.greatest)
+            × IsRun (IsStep S.kind S.has_memory P.Gen.generations)
             self.old (take count (take (length replies.items) commands.now)) (take count replies.items) after
-            × KeepsHistories (IsStep S.kind S.has_memory P.Gen.counting P.Gen.greatest)
+            × KeepsHistories (IsStep S.kind S.has_memory P.Gen.generations)
             self.old (take count (take (length replies.items) commands.now)) (take count replies.items) after) }
-        ensures unseen { P.Gen.counting ≡ true → IsSound self.old → IfOk result (λ replies.
+        ensures unseen { P.Gen.generations.counting ≡ true → IsSound self.old
+            → IfOk result (λ replies.
             let ran = take (length replies.items) commands.now in
             list_all is_named ran ≡ true → list_any is_no_memory replies.items ≡ false
             → seen ran replies.items ≡ ample (shown self.old) (erase ran)) }

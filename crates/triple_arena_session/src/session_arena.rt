@@ -88,42 +88,42 @@ pub(crate) trait SessionArena<P: Ptr, T, S: NonZeroInxGenericStack<ArenaSlot<P, 
         ensures pointer { IfOk result (λ p. P.numbers p ≡ next_pointer (state self.old)) }
         ensures inserted { OnOk result (state self.new ≡ inserted (grown S.kind (state self.old)) t) }
         ensures refused { OnErr result (state self.new ≡ state self.old) }
-        ensures with_memory { CanGrow S.has_memory (capacity (state self.old)) (state self.old).limit
-            (greatest_index P.Inx.greatest) → IsOk result }
+        ensures with_memory { CanGrow S.has_memory (capacity (state self.old))
+            (state self.old).limit (greatest_index P.Inx.greatest) → IsOk result }
         ensures had_place { arena_len (state self.old) < capacity (state self.old)
             → IsOk result × (state self.new ≡ inserted (state self.old) t) };
 
     fn remove(&mut self, p: P) -> InvalidationResult<T>
         requires { IsSome (look_up (state self.old).slots (P.numbers p))
-            → (strict && wraps P.Gen.counting P.Gen.greatest (state self.old).counter) ≡ false }
-        ensures answer { result ≡ told_of (wraps P.Gen.counting P.Gen.greatest
+            → (strict && wraps P.Gen.generations (state self.old).counter) ≡ false }
+        ensures answer { result ≡ told_of (wraps P.Gen.generations
             (state self.old).counter) (look_up (state self.old).slots (P.numbers p)) }
         ensures done { IsSome (look_up (state self.old).slots (P.numbers p)) → state self.new
-            ≡ removed (raise P.Gen.counting P.Gen.greatest) (state self.old) (P.numbers p).0 }
+            ≡ removed (raise P.Gen.generations) (state self.old) (P.numbers p).0 }
         ensures unchanged { look_up (state self.old).slots (P.numbers p) ≡ None
             → state self.new ≡ state self.old };
 
     fn invalidate(&mut self, p: P) -> InvalidationResult<P>
         requires { IsSome (look_up (state self.old).slots (P.numbers p))
-            → (strict && wraps P.Gen.counting P.Gen.greatest (state self.old).counter) ≡ false }
-        ensures answer { map_told P.numbers result ≡ told_of (wraps P.Gen.counting P.Gen.greatest
+            → (strict && wraps P.Gen.generations (state self.old).counter) ≡ false }
+        ensures answer { map_told P.numbers result ≡ told_of (wraps P.Gen.generations
             (state self.old).counter) (option_map (λ _. (
               (P.numbers p).0,
-              raise P.Gen.counting P.Gen.greatest (state self.old).counter,
+              raise P.Gen.generations (state self.old).counter,
             ))
             (look_up (state self.old).slots (P.numbers p))) }
         ensures done { IsSome (look_up (state self.old).slots (P.numbers p)) → state self.new
-            ≡ invalidated (raise P.Gen.counting P.Gen.greatest) (state self.old) (P.numbers p).0 };
+            ≡ invalidated (raise P.Gen.generations) (state self.old) (P.numbers p).0 };
 
     fn clear(&mut self) -> InvalidationOption<()>
     where
         T: Drop,
-        requires { (strict && wraps_after (wraps P.Gen.counting P.Gen.greatest) false
+        requires { (strict && wraps_after (wraps P.Gen.generations) false
             (state self.old)) ≡ false }
-        ensures answer { result ≡ told (wraps_after (wraps P.Gen.counting P.Gen.greatest) false
+        ensures answer { result ≡ told (wraps_after (wraps P.Gen.generations) false
             (state self.old)) tt }
         ensures done { state self.new
-            ≡ cleared (raise P.Gen.counting P.Gen.greatest) (state self.old) };
+            ≡ cleared (raise P.Gen.generations) (state self.old) };
 
     fn compress_recast(
         &mut self,
@@ -131,19 +131,19 @@ pub(crate) trait SessionArena<P: Ptr, T, S: NonZeroInxGenericStack<ArenaSlot<P, 
     ) -> Result<InvalidationOption<DirectArena<P, P>>, CompactError<P>>
     where
         T: Recast<P>,
-        requires { (strict && wraps_after (wraps P.Gen.counting P.Gen.greatest) false
+        requires { (strict && wraps_after (wraps P.Gen.generations) false
             (state self.old)) ≡ false }
         ensures answer { IfOk result (λ answer. answer
-            ≡ told (wraps_after (wraps P.Gen.counting P.Gen.greatest) false (state self.old))
+            ≡ told (wraps_after (wraps P.Gen.generations) false (state self.old))
             (allowed_option answer)) }
         ensures maps { IfOk result (λ answer. MapsPointers P.numbers (rank (state self.old)
-            (raised_if_any (raise P.Gen.counting P.Gen.greatest) (state self.old)))
+            (raised_if_any (raise P.Gen.generations) (state self.old)))
             (state self.old).slots (allowed_option answer).slots) }
         ensures done { OnOk result ((new : List T) × AreRenamed P.numbers (rank (state self.old)
-            (raised_if_any (raise P.Gen.counting P.Gen.greatest) (state self.old)))
+            (raised_if_any (raise P.Gen.generations) (state self.old)))
             T.held T.refill (values (state self.old).slots) new
             × (state self.new ≡ compressed (state self.old)
-            (raised_if_any (raise P.Gen.counting P.Gen.greatest) (state self.old)) new)) }
+            (raised_if_any (raise P.Gen.generations) (state self.old)) new)) }
         ensures resolved { OnOk result (first_unresolved P.numbers (state self.old).slots
             (held_all T.held (values (state self.old).slots)) ≡ None) }
         ensures refusal { IfErr result (Refuses (arena_len (state self.old))
@@ -175,8 +175,8 @@ pub(crate) trait SessionArena<P: Ptr, T, S: NonZeroInxGenericStack<ArenaSlot<P, 
 
     /// Whether the next raise of the counter wraps it, and that the counter is one of the generations.
     final fn is_at_greatest(&self) -> bool
-        ensures wraps { result ≡ wraps P.Gen.counting P.Gen.greatest (state self.now).counter }
-        ensures within { (state self.now).counter ≤ P.Gen.greatest }
+        ensures wraps { result ≡ wraps P.Gen.generations (state self.now).counter }
+        ensures within { (state self.now).counter ≤ P.Gen.generations.greatest }
     {
         P::Gen::is_max(self.arena().generation())
     }

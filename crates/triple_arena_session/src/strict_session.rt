@@ -57,13 +57,13 @@ impl<P: Ptr, X: Copy, S: NonZeroInxGenericStack<ArenaSlot<P, Node<X, P>>>> Stric
     /// It is sound, and shows an empty store of names, to whose counter the raises are left that lead
     /// from the first generation to the greatest.
     pub fn with_new_arena(alloc: Global) -> Self
-        requires { P.Gen.counting ≡ true }
+        requires { P.Gen.generations.counting ≡ true }
         ensures made { result ≡ new_session (new_arena (new_room S.kind) (new_limit S.kind)
-            (greatest_index P.Inx.greatest) (first_generation P.Gen.counting)) }
+            (greatest_index P.Inx.greatest) (first_generation P.Gen.generations)) }
         ensures sound { IsSound result }
         ensures store { shown result ≡ new_store (new_room S.kind) (new_limit S.kind) (greatest_index P.Inx.greatest) }
-        ensures left { (strictly_shown P.Gen.greatest result).left
-            ≡ P.Gen.greatest - first_generation P.Gen.counting }
+        ensures left { (strictly_shown P.Gen.generations.greatest result).left
+            ≡ P.Gen.generations.greatest - first_generation P.Gen.generations }
     {
         StrictSession {
             inside: NamedArena::over(StrictArena::new(alloc), alloc),
@@ -76,15 +76,16 @@ impl<P: Ptr, X: Copy, S: NonZeroInxGenericStack<ArenaSlot<P, Node<X, P>>>> Stric
     /// an array, and where memory is refused. The session is sound, and shows an empty store of names
     /// with the same raises left.
     pub fn with_min_capacity(alloc: Global, min_capacity: usize) -> Result<Self, AllocError>
-        requires { P.Gen.counting ≡ true }
+        requires { P.Gen.generations.counting ≡ true }
         ensures made { IfOk result (λ session. session ≡ new_session (new_arena
             (made_room S.kind min_capacity) (made_limit S.kind min_capacity)
-            (greatest_index P.Inx.greatest) (first_generation P.Gen.counting))) }
+            (greatest_index P.Inx.greatest) (first_generation P.Gen.generations))) }
         ensures sound { IfOk result (λ session. IsSound session) }
         ensures store { IfOk result (λ session. shown session ≡ new_store
             (made_room S.kind min_capacity) (made_limit S.kind min_capacity) (greatest_index P.Inx.greatest)) }
-        ensures left { IfOk result (λ session. (strictly_shown P.Gen.greatest session).left
-            ≡ P.Gen.greatest - first_generation P.Gen.counting) }
+        ensures left { IfOk result (λ session.
+            (strictly_shown P.Gen.generations.greatest session).left
+            ≡ P.Gen.generations.greatest - first_generation P.Gen.generations) }
         ensures holds { OnOk result
             ((min_capacity ≤ greatest_index P.Inx.greatest) × CanHold S.kind min_capacity) }
         ensures succeeds { min_capacity ≤ greatest_index P.Inx.greatest
@@ -118,20 +119,20 @@ impl<P: Ptr, X: Copy, S: NonZeroInxGenericStack<ArenaSlot<P, Node<X, P>>>> Stric
     pub fn step(&mut self, command: Command<X>) -> Reply<X>
     where
         X: Debug,
-        ensures step { IsStrictSessionStep S.kind S.has_memory P.Gen.counting P.Gen.greatest
+        ensures step { IsStrictSessionStep S.kind S.has_memory P.Gen.generations
             self.old command result self.new }
         ensures exhausted { (result ≡ Exhausted)
-            ↔ (is_refused P.Gen.counting P.Gen.greatest self.old command ≡ true) }
+            ↔ (is_refused P.Gen.generations self.old command ≡ true) }
         ensures unchanged { result ≡ Exhausted → self.new ≡ self.old }
         ensures quiet { tells_of_wrap result ≡ false }
-        ensures store { P.Gen.counting ≡ true → IsSound self.old → IsStrictStoreStep
-            (strictly_shown P.Gen.greatest self.old) command result
-            (strictly_shown P.Gen.greatest self.new) }
-        ensures sound { P.Gen.counting ≡ true → IsSound self.old → IsSound self.new }
-        ensures history { P.Gen.counting ≡ true
+        ensures store { P.Gen.generations.counting ≡ true → IsSound self.old → IsStrictStoreStep
+            (strictly_shown P.Gen.generations.greatest self.old) command result
+            (strictly_shown P.Gen.generations.greatest self.new) }
+        ensures sound { P.Gen.generations.counting ≡ true → IsSound self.old → IsSound self.new }
+        ensures history { P.Gen.generations.counting ≡ true
             → Continues Fits self.old.arena (calls_of self.old command result) self.new.arena }
         ensures arena { IsArenaOver S.kind self.old.arena }
-        ensures within { self.old.arena.counter ≤ P.Gen.greatest }
+        ensures within { self.old.arena.counter ≤ P.Gen.generations.greatest }
     {
         self.inside.tell_arena();
         self.inside.answer(command)
@@ -150,25 +151,27 @@ impl<P: Ptr, X: Copy, S: NonZeroInxGenericStack<ArenaSlot<P, Node<X, P>>>> Stric
     where
         X: Debug,
         ensures ran { IfOk result (λ replies.
-            IsRun (IsStrictSessionStep S.kind S.has_memory P.Gen.counting P.Gen.greatest)
+            IsRun (IsStrictSessionStep S.kind S.has_memory P.Gen.generations)
             self.old commands.now replies.items self.new) }
         ensures whole { IfOk result (λ replies. length replies.items ≡ length commands.now) }
         ensures quiet { IfOk result (λ replies. TellsOfNoWrap replies.items) }
         ensures refused { OnErr result (self.new ≡ self.old) }
         ensures succeeds { commands.now ≡ [] → IsOk result }
-        ensures store { P.Gen.counting ≡ true → IsSound self.old → IfOk result (λ replies.
-            IsRun IsStrictStoreStep (strictly_shown P.Gen.greatest self.old) commands.now
-            replies.items (strictly_shown P.Gen.greatest self.new)) }
-        ensures sound { P.Gen.counting ≡ true → IsSound self.old → IsSound self.new }
-        ensures history { P.Gen.counting ≡ true → IfOk result (λ replies.
-            RunsFreshly (IsStrictSessionStep S.kind S.has_memory P.Gen.counting P.Gen.greatest)
+        ensures store { P.Gen.generations.counting ≡ true → IsSound self.old
+            → IfOk result (λ replies.
+            IsRun IsStrictStoreStep (strictly_shown P.Gen.generations.greatest self.old)
+            commands.now replies.items (strictly_shown P.Gen.generations.greatest self.new)) }
+        ensures sound { P.Gen.generations.counting ≡ true → IsSound self.old → IsSound self.new }
+        ensures history { P.Gen.generations.counting ≡ true → IfOk result (λ replies.
+            RunsFreshly (IsStrictSessionStep S.kind S.has_memory P.Gen.generations)
             self.old commands.now replies.items self.new) }
-        ensures unseen { P.Gen.counting ≡ true → IsSound self.old → IfOk result (λ replies.
+        ensures unseen { P.Gen.generations.counting ≡ true → IsSound self.old
+            → IfOk result (λ replies.
             list_all is_named commands.now ≡ true → list_any is_no_memory replies.items ≡ false
             → list_any tells_exhausted replies.items ≡ false
             → seen commands.now replies.items ≡ ample (shown self.old) (erase commands.now)) }
         ensures arena { IsArenaOver S.kind self.old.arena }
-        ensures within { self.old.arena.counter ≤ P.Gen.greatest }
+        ensures within { self.old.arena.counter ≤ P.Gen.generations.greatest }
     {
         self.inside.tell_arena();
         self.inside.run_commands(commands)

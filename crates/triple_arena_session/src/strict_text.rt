@@ -34,17 +34,17 @@ pub fn run_text_strict<
     input: &mut R,
     output: &mut W,
 ) -> Result<(), TextError>
-    ensures run { IsWholeTextRun (IsStrictSessionStep S.kind S.has_memory P.Gen.counting P.Gen.greatest)
+    ensures run { IsWholeTextRun (IsStrictSessionStep S.kind S.has_memory P.Gen.generations)
         (R.remaining input.old) result
         session.old session.new (W.contents output.old) (W.contents output.new) }
-    ensures store { P.Gen.counting ≡ true → IsSound session.old
-        → IsStrictStoreText (strictly_shown P.Gen.greatest session.old)
-        (strictly_shown P.Gen.greatest session.new)
+    ensures store { P.Gen.generations.counting ≡ true → IsSound session.old
+        → IsStrictStoreText (strictly_shown P.Gen.generations.greatest session.old)
+        (strictly_shown P.Gen.generations.greatest session.new)
         (R.remaining input.old) result (W.contents output.old) (W.contents output.new) }
-    ensures sound { P.Gen.counting ≡ true → IsSound session.old
+    ensures sound { P.Gen.generations.counting ≡ true → IsSound session.old
         → IfSome (R.remaining input.old) (λ _. IsSound session.new) }
     ensures arena { IsArenaOver S.kind session.old.arena }
-    ensures within { session.old.arena.counter ≤ P.Gen.greatest }
+    ensures within { session.old.arena.counter ≤ P.Gen.generations.greatest }
 {
     session.inside.tell_arena();
     read_and_run(&mut session.inside, alloc, input, output)
@@ -68,17 +68,17 @@ pub fn run_text_strict_and_flush<
     input: &mut R,
     output: BufWriter<W>,
 ) -> (Result<(), TextError>, W)
-    ensures run { IsWholeFlushedRun (IsStrictSessionStep S.kind S.has_memory P.Gen.counting P.Gen.greatest)
+    ensures run { IsWholeFlushedRun (IsStrictSessionStep S.kind S.has_memory P.Gen.generations)
         (R.remaining input.old) result.0
         session.old session.new (writer_contents W.contents output) (W.contents result.1) }
-    ensures store { P.Gen.counting ≡ true → IsSound session.old
-        → IsStrictStoreText (strictly_shown P.Gen.greatest session.old)
-        (strictly_shown P.Gen.greatest session.new)
+    ensures store { P.Gen.generations.counting ≡ true → IsSound session.old
+        → IsStrictStoreText (strictly_shown P.Gen.generations.greatest session.old)
+        (strictly_shown P.Gen.generations.greatest session.new)
         (R.remaining input.old) result.0 (writer_contents W.contents output) (W.contents result.1) }
-    ensures sound { P.Gen.counting ≡ true → IsSound session.old
+    ensures sound { P.Gen.generations.counting ≡ true → IsSound session.old
         → IfSome (R.remaining input.old) (λ _. IsSound session.new) }
     ensures arena { IsArenaOver S.kind session.old.arena }
-    ensures within { session.old.arena.counter ≤ P.Gen.greatest }
+    ensures within { session.old.arena.counter ≤ P.Gen.generations.greatest }
 {
     session.inside.tell_arena();
     run_and_flush(&mut session.inside, alloc, input, output)

@@ -40,14 +40,14 @@ pub fn run_text<P: Ptr, S: NonZeroInxGenericStack<ArenaSlot<P, Node<u64, P>>>, R
     input: &mut R,
     output: &mut W,
 ) -> Result<(), TextError>
-    ensures run { IsTextRun (IsStep S.kind S.has_memory P.Gen.counting P.Gen.greatest)
+    ensures run { IsTextRun (IsStep S.kind S.has_memory P.Gen.generations)
         (R.remaining input.old) result
         session.old session.new (W.contents output.old) (W.contents output.new) }
-    ensures store { P.Gen.counting ≡ true → IsSound session.old
+    ensures store { P.Gen.generations.counting ≡ true → IsSound session.old
         → IsStoreText (shown session.old) (R.remaining input.old) result
         (W.contents output.old) (W.contents output.new) }
-    ensures leaves { P.Gen.counting ≡ true → IsSound session.old
-        → LeavesStore (IsStep S.kind S.has_memory P.Gen.counting P.Gen.greatest) (R.remaining input.old) result
+    ensures leaves { P.Gen.generations.counting ≡ true → IsSound session.old
+        → LeavesStore (IsStep S.kind S.has_memory P.Gen.generations) (R.remaining input.old) result
         session.old session.new (W.contents output.old) (W.contents output.new) }
     ensures arena { IsArenaOver S.kind session.old.arena }
 {
@@ -68,7 +68,7 @@ pub(crate) fn read_and_run<
     input: &mut R,
     output: &mut W,
 ) -> Result<(), TextError>
-    ensures { IsTextRun (IsStepOf A.strict S.kind S.has_memory P.Gen.counting P.Gen.greatest)
+    ensures { IsTextRun (IsStepOf A.strict S.kind S.has_memory P.Gen.generations)
         (R.remaining input.old) result
         session.old session.new (W.contents output.old) (W.contents output.new) }
 {
@@ -94,13 +94,13 @@ pub fn run_text_and_flush<
     input: &mut R,
     output: BufWriter<W>,
 ) -> (Result<(), TextError>, W)
-    ensures run { IsFlushedRun (IsStep S.kind S.has_memory P.Gen.counting P.Gen.greatest) (R.remaining input.old)
-        result.0 session.old session.new (writer_contents W.contents output) (W.contents result.1) }
-    ensures store { P.Gen.counting ≡ true → IsSound session.old
+    ensures run { IsFlushedRun (IsStep S.kind S.has_memory P.Gen.generations)
+        (R.remaining input.old) result.0 session.old session.new (writer_contents W.contents output) (W.contents result.1) }
+    ensures store { P.Gen.generations.counting ≡ true → IsSound session.old
         → IsStoreText (shown session.old) (R.remaining input.old) result.0
         (writer_contents W.contents output) (W.contents result.1) }
-    ensures leaves { P.Gen.counting ≡ true → IsSound session.old
-        → LeavesStore (IsStep S.kind S.has_memory P.Gen.counting P.Gen.greatest) (R.remaining input.old)
+    ensures leaves { P.Gen.generations.counting ≡ true → IsSound session.old
+        → LeavesStore (IsStep S.kind S.has_memory P.Gen.generations) (R.remaining input.old)
         result.0 session.old session.new (writer_contents W.contents output) (W.contents result.1) }
     ensures arena { IsArenaOver S.kind session.old.arena }
 {
@@ -122,7 +122,7 @@ pub(crate) fn run_and_flush<
     input: &mut R,
     mut output: BufWriter<W>,
 ) -> (Result<(), TextError>, W)
-    ensures { IsFlushedRun (IsStepOf A.strict S.kind S.has_memory P.Gen.counting P.Gen.greatest)
+    ensures { IsFlushedRun (IsStepOf A.strict S.kind S.has_memory P.Gen.generations)
         (R.remaining input.old) result.0
         session.old session.new (writer_contents W.contents output) (W.contents result.1) }
 {
@@ -137,7 +137,7 @@ fn run_lines<
     A: SessionArena<P, Node<u64, P>, S>,
     W: Write,
 >(session: &mut NamedArena<P, u64, S, A>, text: &[u8], output: &mut W) -> Result<(), TextError>
-    ensures { IsTextRun (IsStepOf A.strict S.kind S.has_memory P.Gen.counting P.Gen.greatest)
+    ensures { IsTextRun (IsStepOf A.strict S.kind S.has_memory P.Gen.generations)
         (Some text.now) result
         session.old session.new (W.contents output.old) (W.contents output.new) }
 {
@@ -177,7 +177,7 @@ fn run_line<
     A: SessionArena<P, Node<u64, P>, S>,
     W: Write,
 >(session: &mut NamedArena<P, u64, S, A>, line: &[u8], output: &mut W) -> LineEnd
-    ensures { LineEnds (IsStepOf A.strict S.kind S.has_memory P.Gen.counting P.Gen.greatest) result line.now
+    ensures { LineEnds (IsStepOf A.strict S.kind S.has_memory P.Gen.generations) result line.now
         session.old session.new (W.contents output.old) (W.contents output.new) }
 {
     if line.is_empty() {
@@ -194,7 +194,7 @@ fn run_command<
     A: SessionArena<P, Node<u64, P>, S>,
     W: Write,
 >(session: &mut NamedArena<P, u64, S, A>, line: &[u8], output: &mut W) -> LineEnd
-    ensures { CommandEnds (IsStepOf A.strict S.kind S.has_memory P.Gen.counting P.Gen.greatest) result line.now
+    ensures { CommandEnds (IsStepOf A.strict S.kind S.has_memory P.Gen.generations) result line.now
         session.old session.new (W.contents output.old) (W.contents output.new) }
 {
     let Some(command) = parse_command(line) else {

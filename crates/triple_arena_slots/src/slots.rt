@@ -275,7 +275,7 @@ impl<P: Ptr, T, S: NonZeroInxGenericStack<ArenaSlot<P, T>>> Slots<P, T, S> {
             ≤ stack_capacity (S.room self.old.stack) (S.limit self.old.stack) }
         requires indexed { entry_count (A.slots source.old) ≤ greatest_index P.Inx.greatest }
         ensures transferred { Transfers Q.numbers P.numbers M.step A.slots A.fits A.removes
-            A.ending_wraps Q.Gen.counting (P.Gen.number generation) f source.old source.new
+            A.ending_wraps Q.Gen.generations (P.Gen.number generation) f source.old source.new
             (map (entry_of P.Gen.number) (S.items self.new.stack)) }
         ensures emptied { entry_count (A.slots source.new) ≡ 0 }
         ensures count { result ≡ entry_count (A.slots source.old) }

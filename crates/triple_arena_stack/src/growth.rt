@@ -22,7 +22,8 @@ pub fn grow_if_full<T, S: NonZeroInxGenericStack<T>>(stack: &mut S) -> Result<()
     ensures beyond { (result ≡ Err ReallocationError.BeyondMaxCapacity)
         ↔ IsFullAtLimit (stack_capacity (S.room stack.old) (S.limit stack.old))
         (S.limit stack.old) (length (S.items stack.old)) }
-    ensures with_memory { CanGrow S.has_memory (stack_capacity (S.room stack.old) (S.limit stack.old))
+    ensures with_memory { CanGrow S.has_memory
+        (stack_capacity (S.room stack.old) (S.limit stack.old))
         (S.limit stack.old) most_places → IsOk result }
 {
     let capacity = stack.capacity();

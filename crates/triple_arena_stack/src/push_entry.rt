@@ -58,7 +58,8 @@ impl<T, K: NonZeroInxGenericStack<T>> NonZeroInxStack<T, K> {
         ensures variant { IsOk result
             ↔ HasPlace (K.room self.old) (K.limit self.old) (length (K.items self.old)) }
         ensures stack { IfOk result (λ entry. push_entry_stack entry ≡ self.old) }
-        ensures same_reference { IfOk result (λ entry. push_entry_lender entry ≡ self.entry.ghost_name) }
+        ensures same_reference { IfOk result (λ entry. push_entry_lender entry
+            ≡ self.entry.ghost_name) }
         ensures* refused { sem 𝓛 (push_entry_rests T.row K.row self.entry result) }
     {
         if self.len() >= self.capacity() {
@@ -84,9 +85,11 @@ impl<T, K: NonZeroInxGenericStack<T>> NonZeroInxStack<T, K> {
         ensures beyond { (result ≡ Err ReallocationError.BeyondMaxCapacity)
             ↔ IsFullAtLimit (stack_capacity (K.room self.old) (K.limit self.old))
             (K.limit self.old) (length (K.items self.old)) }
-        ensures with_memory { CanGrow K.has_memory (stack_capacity (K.room self.old) (K.limit self.old))
+        ensures with_memory { CanGrow K.has_memory
+            (stack_capacity (K.room self.old) (K.limit self.old))
             (K.limit self.old) most_places → IsOk result }
-        ensures same_reference { IfOk result (λ entry. push_entry_lender entry ≡ self.entry.ghost_name) }
+        ensures same_reference { IfOk result (λ entry. push_entry_lender entry
+            ≡ self.entry.ghost_name) }
         ensures* refused { sem 𝓛 (push_entry_rests T.row K.row self.entry result) }
     {
         grow_if_full(self)?;
@@ -108,9 +111,11 @@ impl<T, K: NonZeroInxGenericStack<T>> NonZeroInxStack<T, K> {
         ensures beyond { (result ≡ Err ReallocationError.BeyondMaxCapacity)
             ↔ IsFullAtLimit (stack_capacity (K.room self.old) (K.limit self.old))
             (K.limit self.old) (length (K.items self.old)) }
-        ensures with_memory { CanGrow K.has_memory (stack_capacity (K.room self.old) (K.limit self.old))
+        ensures with_memory { CanGrow K.has_memory
+            (stack_capacity (K.room self.old) (K.limit self.old))
             (K.limit self.old) most_places → IsOk result }
-        ensures same_reference { IfOk result (λ entry. push_entry_lender entry ≡ self.entry.ghost_name) }
+        ensures same_reference { IfOk result (λ entry. push_entry_lender entry
+            ≡ self.entry.ghost_name) }
         ensures* refused { sem 𝓛 (push_entry_rests T.row K.row self.entry result) }
     {
         self.entry_push_reallocating()

@@ -5,6 +5,7 @@ use Rattle.std.proofs.lemmas.Fn.{FoldsTo-push}
 use Rattle.std.proofs.lemmas.List.Sums.{sum_by-cons}
 use Rattle.std.proofs.lemmas.List.{map_push, append-nil, length-append, length-map}
 use Rattle.triple_arena_base.specs.declared.invalidation.InvalidationOption.{InvalidationOption}
+use Rattle.triple_arena_ptr.specs.Numbers.{Generations}
 use Rattle.triple_arena_ptr.specs.Pointers.{Pointer}
 use Rattle.triple_arena_traits.specs.Entries.{look_up, entry_count, ChangesAt}
 use Rattle.triple_arena_traits.specs.Ending.{told}
@@ -35,14 +36,14 @@ closed_up_slots {T = T} generation values put is =
     )
 
 module _ {Q U P T A M : Type 0} (source : Q → Pointer) (target : P → Pointer) (step : M → Q → InvalidationOption U → P → T → M → Type 0)
-    (slots : A → List (Option (ℕ × U))) (fits : History → A → Type 0) (removes : A → ℕ → A → Type 0) (wraps : A → Bool) (counting : Bool) (changes : (old : A) (i : ℕ) (new : A) → removes old i new → ChangesAt (slots old) i None (slots new))
+    (slots : A → List (Option (ℕ × U))) (fits : History → A → Type 0) (removes : A → ℕ → A → Type 0) (wraps : A → Bool) (generations : Generations) (changes : (old : A) (i : ℕ) (new : A) → removes old i new → ChangesAt (slots old) i None (slots new))
     (greatest generation : ℕ) where
   abbrev pub Turn : M × A → Transfer Q U P T → M × A → Type 0
-  Turn = TransferTurn source target step slots fits removes wraps counting
+  Turn = TransferTurn source target step slots fits removes wraps generations
 
   -- one removal is made, and each history that fits goes on with it
   abbrev Taken : A → Q → A → Type 0
-  Taken now q new = TakesOut fits removes wraps counting now (source q) new
+  Taken now q new = TakesOut fits removes wraps generations now (source q) new
 
   -- the transfer so far: the calls that were made, and the entries that are left
   pub record Transferred (f : M) (start : A) (g : M) (now : A) (s : Stand) (put : List (Option (ℕ × T))) : Type 0 where
@@ -112,7 +113,7 @@ module _ {Q U P T A M : Type 0} (source : Q → Pointer) (target : P → Pointer
       })
 
   -- at the end every entry was taken, and none is left
-  pub transfer_end : (f : M) (start : A) (g : M) (now : A) (b a : Stand) (put : List (Option (ℕ × T))) → Transferred f start g now b put → Steps greatest (slots now) b None a → Transfers source target step slots fits removes wraps counting generation f start now put × (entry_count (slots now) ≡ 0) × (length put ≡ entry_count (slots start))
+  pub transfer_end : (f : M) (start : A) (g : M) (now : A) (b a : Stand) (put : List (Option (ℕ × T))) → Transferred f start g now b put → Steps greatest (slots now) b None a → Transfers source target step slots fits removes wraps generations generation f start now put × (entry_count (slots now) ≡ 0) × (length put ≡ entry_count (slots start))
   transfer_end f start g now b a put w steps =
       let none = ahead_none greatest (slots now) b a steps in (
         record {
@@ -128,14 +129,14 @@ module _ {Q U P T A M : Type 0} (source : Q → Pointer) (target : P → Pointer
       )
 
 module _ {Q U P T A M : Type 0} (source : Q → Pointer) (target : P → Pointer) (step : M → Q → InvalidationOption U → P → T → M → Type 0)
-    (slots : A → List (Option (ℕ × U))) (fits : History → A → Type 0) (removes : A → ℕ → A → Type 0) (wraps : A → Bool) (counting : Bool) where
-  run_goes_on : (ts : List (Transfer Q U P T)) (f g : M) (old new : A) → FoldsTo (TransferTurn source target step slots fits removes wraps counting) (f, old) ts (g, new) → NoneWraps removes wraps counting old (keys_of (taken_out source ts)) → Continues fits old (removals (keys_of (taken_out source ts))) new
+    (slots : A → List (Option (ℕ × U))) (fits : History → A → Type 0) (removes : A → ℕ → A → Type 0) (wraps : A → Bool) (generations : Generations) where
+  run_goes_on : (ts : List (Transfer Q U P T)) (f g : M) (old new : A) → FoldsTo (TransferTurn source target step slots fits removes wraps generations) (f, old) ts (g, new) → NoneWraps removes wraps generations old (keys_of (taken_out source ts)) → Continues fits old (removals (keys_of (taken_out source ts))) new
   run_goes_on [] f g old new same none h fit = subst (fits h) (ap (λ (x : M × A). x.1) same) fit
   run_goes_on (t ∷ ts) f g old new (next, here, there) none h fit =
       run_goes_on ts next.0 g next.1 new there (none.1 next.1 here.0.0) (and_then h (removal (source t.from))) (here.0.1 none.0 h fit)
 
   -- where no removal wraps the counter, a source goes on by the removals of its entries
-  pub source_goes_on : (generation : ℕ) (f : M) (old new : A) (put : List (Option (ℕ × T))) → Transfers source target step slots fits removes wraps counting generation f old new put → NoneWraps removes wraps counting old (keys (slots old)) → Continues fits old (removals (keys (slots old))) new
+  pub source_goes_on : (generation : ℕ) (f : M) (old new : A) (put : List (Option (ℕ × T))) → Transfers source target step slots fits removes wraps generations generation f old new put → NoneWraps removes wraps generations old (keys (slots old)) → Continues fits old (removals (keys (slots old))) new
   source_goes_on generation f old new put t none =
       subst (λ es. Continues fits old (removals (keys_of es)) new) t.came
-      (run_goes_on t.moved f t.last old new t.ran (subst (λ es. NoneWraps removes wraps counting old (keys_of es)) (sym t.came) none))
+      (run_goes_on t.moved f t.last old new t.ran (subst (λ es. NoneWraps removes wraps generations old (keys_of es)) (sym t.came) none))

@@ -2,6 +2,7 @@
 use Rattle.std.specs.Prelude.{◌≡◌, ℕ, ◌∷◌, [], Bool, List, map, Option, Some, None, MatchOption}
 use Rattle.std.specs.Borrow.{GName}
 use Rattle.triple_arena_base.specs.declared.invalidation.InvalidationOption.{InvalidationOption}
+use Rattle.triple_arena_ptr.specs.Numbers.{Generations}
 use Rattle.triple_arena_ptr.specs.Pointers.{Pointer}
 use Rattle.triple_arena_traits.specs.Entries.{look_up, entry_count, IsFirst}
 use Rattle.triple_arena_traits.specs.Ending.{told}
@@ -26,22 +27,22 @@ module _ {P T A I G Q : Type 0} where
   abbrev pub IsDraining : (A → List (Option (ℕ × T))) → (Q → Stand) → Drain P T A I G Q → Type 0
   IsDraining slots stand drain = IsBeforeAll (slots (drain_arena drain)) (drain_stand stand drain)
 
-module _ {A : Type 0} (fits : History → A → Type 0) (removes : A → ℕ → A → Type 0) (wraps : A → Bool) (counting : Bool) where
+module _ {A : Type 0} (fits : History → A → Type 0) (removes : A → ℕ → A → Type 0) (wraps : A → Bool) (generations : Generations) where
   -- the entry of a pointer is removed, and where that does not wrap the counter, each history that fits goes on with it
   abbrev pub TakesOut : A → Pointer → A → Type 0
-  TakesOut old p new = removes old p.0 new × (CountsUp counting (wraps old) → Continues fits old (removal p ∷ []) new)
+  TakesOut old p new = removes old p.0 new × (CountsUp generations (wraps old) → Continues fits old (removal p ∷ []) new)
 
 -- the removals of these pointers, one after another
 abbrev pub removals : List Pointer → List ModelCall
 removals ps = map removal ps
 
-module _ {A : Type 0} (removes : A → ℕ → A → Type 0) (wraps : A → Bool) (counting : Bool) where
+module _ {A : Type 0} (removes : A → ℕ → A → Type 0) (wraps : A → Bool) (generations : Generations) where
   -- of the removals of these pointers, one after another, none wraps the counter
   abbrev pub NoneWraps : A → List Pointer → Type 0
   NoneWraps old [] = Unit {0}
-  NoneWraps old (p ∷ ps) = CountsUp counting (wraps old) × ((new : A) → removes old p.0 new → NoneWraps new ps)
+  NoneWraps old (p ∷ ps) = CountsUp generations (wraps old) × ((new : A) → removes old p.0 new → NoneWraps new ps)
 
-module _ {P T A : Type 0} (slots : A → List (Option (ℕ × T))) (fits : History → A → Type 0) (removes : A → ℕ → A → Type 0) (wraps : A → Bool) (counting : Bool) (numbers : P → Pointer) where
+module _ {P T A : Type 0} (slots : A → List (Option (ℕ × T))) (fits : History → A → Type 0) (removes : A → ℕ → A → Type 0) (wraps : A → Bool) (generations : Generations) (numbers : P → Pointer) where
   -- a step takes out the entry of least index, and tells of a wrap as its removal does; it takes out none exactly where
   -- there is no entry, and then nothing changes
   abbrev pub DrainStep : A → Option (InvalidationOption (P × T)) → A → Type 0
@@ -49,7 +50,7 @@ module _ {P T A : Type 0} (slots : A → List (Option (ℕ × T))) (fits : Histo
       MatchOption item
       ((entry_count (slots old) ≡ 0) × (new ≡ old))
       (λ taken. (p : P) × (value : T) × (taken ≡ told (wraps old) (p, value)) × IsFirst (slots old) (numbers p)
-      × (look_up (slots old) (numbers p) ≡ Some value) × TakesOut fits removes wraps counting old (numbers p) new)
+      × (look_up (slots old) (numbers p) ≡ Some value) × TakesOut fits removes wraps generations old (numbers p) new)
 
   -- an advancer goes on, and the entry that it answers is removed
   abbrev pub TakeStep : ℕ → A → Stand → Option (P × InvalidationOption T) → A → Stand → Type 0
@@ -57,4 +58,4 @@ module _ {P T A : Type 0} (slots : A → List (Option (ℕ × T))) (fits : Histo
       MatchOption taken
       (Steps greatest (slots old) before None after × (new ≡ old))
       (λ item. (value : T) × (item.1 ≡ told (wraps old) value) × Steps greatest (slots old) before (Some (numbers item.0)) after
-      × (look_up (slots old) (numbers item.0) ≡ Some value) × TakesOut fits removes wraps counting old (numbers item.0) new)
+      × (look_up (slots old) (numbers item.0) ≡ Some value) × TakesOut fits removes wraps generations old (numbers item.0) new)

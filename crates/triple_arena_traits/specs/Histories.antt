@@ -1,6 +1,7 @@
 -- Which pointers an arena gave, and which of them have ended.
 use Rattle.std.specs.Prelude.{◌≡◌, ◌+◌, ◌<◌, ◌≤◌, ◌&&◌, not, IsTrue, Bool, true, false, List, [], ◌∷◌, ◌++◌, length, is_some}
 use Rattle.std.specs.List.{list_any}
+use Rattle.triple_arena_ptr.specs.Numbers.{Generations}
 use Rattle.triple_arena_ptr.specs.Pointers.{Pointer, is_same}
 use Rattle.triple_arena_traits.specs.Entries.{KeepsEntries, look_up}
 use Rattle.triple_arena_traits.specs.ArenaState.{ArenaState, arena_len, IsWellFormed}
@@ -72,8 +73,8 @@ followed_by h [] = h
 followed_by h (call ∷ calls) = followed_by (and_then h call) calls
 
 -- a raise of the counter gives a greater generation: generations count, and it does not wrap
-abbrev pub CountsUp : Bool → Bool → Type 0
-CountsUp counting wraps = (counting ≡ true) × (wraps ≡ false)
+abbrev pub CountsUp : Generations → (wraps : Bool) → Type 0
+CountsUp generations wraps = (generations.counting ≡ true) × (wraps ≡ false)
 
 -- an arena goes on from another by these model calls: whatever history fits it, then fits followed by them
 abbrev pub Continues : {A : Type 0} → (History → A → Type 0) → A → List ModelCall → A → Type 0

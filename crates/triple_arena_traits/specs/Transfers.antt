@@ -2,6 +2,7 @@
 use Rattle.std.specs.Prelude.{◌≡◌, ℕ, Bool, List, map, Option}
 use Rattle.std.specs.List.{FoldsTo}
 use Rattle.triple_arena_base.specs.declared.invalidation.InvalidationOption.{InvalidationOption}
+use Rattle.triple_arena_ptr.specs.Numbers.{Generations}
 use Rattle.triple_arena_ptr.specs.Pointers.{Pointer}
 use Rattle.triple_arena_traits.specs.Ending.{told}
 use Rattle.triple_arena_traits.specs.Walks.{entries}
@@ -27,11 +28,11 @@ module _ {Q U P T : Type 0} where
   put_down numbers moved = map (λ t. (numbers t.to, t.new)) moved
 
 module _ {Q U P T A M : Type 0} (source : Q → Pointer) (target : P → Pointer) (step : M → Q → InvalidationOption U → P → T → M → Type 0)
-    (slots : A → List (Option (ℕ × U))) (fits : History → A → Type 0) (removes : A → ℕ → A → Type 0) (wraps : A → Bool) (counting : Bool) where
+    (slots : A → List (Option (ℕ × U))) (fits : History → A → Type 0) (removes : A → ℕ → A → Type 0) (wraps : A → Bool) (generations : Generations) where
   -- the entry was taken out, and the closure was called with what its removal told
   abbrev pub TransferTurn : M × A → Transfer Q U P T → M × A → Type 0
   TransferTurn before t after =
-      TakesOut fits removes wraps counting before.1 (source t.from) after.1
+      TakesOut fits removes wraps generations before.1 (source t.from) after.1
       × step before.0 t.from (told (wraps before.1) t.old) t.to t.new after.0
 
   -- the entries of a source were removed one by one, in the order of their indexes, and the closure was called with each;

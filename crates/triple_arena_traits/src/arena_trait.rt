@@ -243,7 +243,7 @@ pub trait ArenaTrait<P: Ptr, T>: Sized {
             → unchanged self.old self.new }
         ensures bounded { RisesByAtMost 6 (steps self.old) (steps self.new) }
         ensures history { IsSome (look_up (slots self.old) (P.numbers p))
-            → CountsUp P.Gen.counting (ending_wraps self.old) → Continues fits self.old
+            → CountsUp P.Gen.generations (ending_wraps self.old) → Continues fits self.old
             (invalidation (P.numbers p) ((P.numbers p).0, renewed self.old (P.numbers p).0) ∷ [])
             self.new };
 
@@ -263,7 +263,7 @@ pub trait ArenaTrait<P: Ptr, T>: Sized {
             → unchanged self.old self.new }
         ensures bounded { RisesByAtMost 6 (steps self.old) (steps self.new) }
         ensures history { IsSome (look_up (slots self.old) (P.numbers p))
-            → CountsUp P.Gen.counting (ending_wraps self.old)
+            → CountsUp P.Gen.generations (ending_wraps self.old)
             → Continues fits self.old (removal (P.numbers p) ∷ []) self.new };
 
     /// Takes out the entry at `inx`, and gives its generation and its value.
@@ -283,7 +283,7 @@ pub trait ArenaTrait<P: Ptr, T>: Sized {
         ensures bounded { RisesByAtMost 6 (steps self.old) (steps self.new) }
         ensures history { (generation : ℕ) (value : T)
             → entry_in (slots self.old) (P.Inx.number inx) ≡ Some (generation, value)
-            → CountsUp P.Gen.counting (ending_wraps self.old)
+            → CountsUp P.Gen.generations (ending_wraps self.old)
             → Continues fits self.old (removal (P.Inx.number inx, generation) ∷ []) self.new };
 
     /// Drops all entries; where the arena has a counter, raises it once if there was an entry, and
@@ -294,7 +294,7 @@ pub trait ArenaTrait<P: Ptr, T>: Sized {
         ensures answer { result ≡ told (clearing_wraps self.old) tt }
         ensures done { clears self.old self.new }
         ensures gone { (q : Pointer) → look_up (slots self.new) q ≡ None }
-        ensures history { CountsUp P.Gen.counting (clearing_wraps self.old)
+        ensures history { CountsUp P.Gen.generations (clearing_wraps self.old)
             → Continues fits self.old (clearing (keys (slots self.old)) ∷ []) self.new };
 
     // an arena without slots has none, and its limit and capacity are those asked for

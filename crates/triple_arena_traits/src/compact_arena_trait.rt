@@ -66,7 +66,7 @@ pub trait CompactArenaTrait<P: Ptr, T>: ArenaTrait<P, T> {
         ensures limit { Self.limit self.new ≡ Self.limit self.old }
         ensures capacity { Self.capacity self.new ≡ Self.capacity self.old }
         ensures history { reset_generation ≡ false
-            → CountsUp P.Gen.counting (compression_wraps self.old reset_generation)
+            → CountsUp P.Gen.generations (compression_wraps self.old reset_generation)
             → Continues Self.fits self.old
             (compression (keys (Self.slots self.old)) (keys (Self.slots self.new)) ∷ []) self.new }
         ensures begun { (h : History) → Self.fits h self.old
@@ -132,7 +132,7 @@ pub trait CompactArenaTrait<P: Ptr, T>: ArenaTrait<P, T> {
         ensures limit { Self.limit self.new ≡ Self.limit self.old }
         ensures capacity { Self.capacity self.new ≡ Self.capacity self.old }
         ensures history { reset_generation ≡ false
-            → CountsUp P.Gen.counting (compression_wraps self.old reset_generation)
+            → CountsUp P.Gen.generations (compression_wraps self.old reset_generation)
             → Continues Self.fits self.old
             (compression (keys (Self.slots self.old)) (keys (Self.slots self.new)) ∷ []) self.new }
         ensures begun { (h : History) → Self.fits h self.old

@@ -3,7 +3,7 @@
 
 ghost use Rattle.std.specs.Prelude.{◌≡◌, ◌⊎◌, ◌↔◌, ◌+◌, ◌<◌, ◌≤◌, ℕ, Bool, List, [], ◌∷◌, ◌++◌, map, All, Contains, Option, Some, None, IsSome, IsTrue, true, false, length, min};
 ghost use Rattle.std.specs.List.{FoldsTo, range_with_len};
-ghost use Rattle.triple_arena_ptr.specs.Numbers.{raise, wraps};
+ghost use Rattle.triple_arena_ptr.specs.Numbers.{counting_to, raise, wraps};
 ghost use Rattle.triple_arena_ptr.specs.Pointers.{Pointer};
 ghost use Rattle.triple_arena_stack.specs.StackKind.{StackKind};
 ghost use Rattle.triple_arena_traits.specs.Entries.{entry_in, look_up, IsLast};
@@ -52,7 +52,13 @@ pub fn forward_walk<T>()
 /// Clones keep their capacity. Cloning leaves the capacity where the source's last index is not
 /// above it; so of two arenas that are cloned into each other by turns, with no refusal and no
 /// other call between, at most the target of the first clone is reallocated.
-pub fn clones_keep_capacity<P: Ptr, T, U, A: ArenaCloneFromWith<P, T>, B: ArenaCloneFromWith<P, U>>()
+pub fn clones_keep_capacity<
+    P: Ptr,
+    T,
+    U,
+    A: ArenaCloneFromWith<P, T>,
+    B: ArenaCloneFromWith<P, U>,
+>()
     ensures fits { (old : A) (last : ℕ) (next : Option ℕ) (copy : List (Option (ℕ × T))) (new : A)
         → A.clones old last next copy new → last ≤ A.capacity old
         → A.capacity new ≡ A.capacity old }
@@ -143,8 +149,8 @@ pub fn pointers_are_fresh<T>()
         → is_live t p ≡ false }
     ensures none_wraps { (greatest : ℕ) (s : ArenaState T) (ps : List Pointer)
         → s.counter + length ps ≤ greatest
-        → NoneWraps (λ old i new. new ≡ removed (raise true greatest) old i)
-        (λ a. wraps true greatest a.counter) true s ps }
+        → NoneWraps (λ old i new. new ≡ removed (raise (counting_to greatest)) old i)
+        (λ a. wraps (counting_to greatest) a.counter) (counting_to greatest) s ps }
 {}
 
 /// A recast gives and ends no pointer, whatever images the held items have, and leaves a well-formed

@@ -35,7 +35,7 @@ pub fn transfer_entries<
         ≤ stack_capacity (S.room stack.old) (S.limit stack.old) }
     requires indexed { entry_count (A.slots source.old) ≤ greatest_index P.Inx.greatest }
     ensures transferred { Transfers Q.numbers P.numbers M.step A.slots A.fits A.removes
-        A.ending_wraps Q.Gen.counting (P.Gen.number generation) f source.old source.new
+        A.ending_wraps Q.Gen.generations (P.Gen.number generation) f source.old source.new
         (map X.entry (S.items stack.new)) }
     ensures emptied { entry_count (A.slots source.new) ≡ 0 }
     ensures count { length (S.items stack.new) ≡ entry_count (A.slots source.old) }

@@ -1,6 +1,6 @@
 -- A book of guests: who is there, who came, and whether pointers may come again.
 use Rattle.std.specs.Prelude.{◌≡◌, ◌-◌, ◌^◌, ℕ, Bool, true, false, List}
-use Rattle.triple_arena_ptr.specs.Numbers.{wraps}
+use Rattle.triple_arena_ptr.specs.Numbers.{counting_to, wraps}
 use Rattle.triple_arena_ptr.specs.Pointers.{Pointer}
 use Rattle.triple_arena_traits.specs.ArenaState.{ArenaState}
 use Rattle.triple_arena_traits.specs.Histories.{History, given, Fits}
@@ -13,7 +13,7 @@ pub record BookState : Type 0 where
 
 -- the counter stands at the greatest generation, so that it wraps when the next guest leaves
 abbrev pub is_before_wrap : BookState → Bool
-is_before_wrap book = wraps true (2 ^ 64 - 1) book.guests.counter
+is_before_wrap book = wraps (counting_to (2 ^ 64 - 1)) book.guests.counter
 
 -- as long as no counter wrapped, the pointers of those who came are those that the arena gave
 abbrev pub ListsAll : BookState → Type 0

@@ -1,5 +1,6 @@
 -- The tickets of leases.
 use Rattle.std.specs.Prelude.{suc, ◌-◌, ◌^◌, Bool, true}
+use Rattle.triple_arena_ptr.specs.Numbers.{counting_to}
 use Rattle.triple_arena_ptr.specs.Pointers.{Pointer}
 use Rattle.triple_arena_traits.specs.ArenaState.{ArenaState}
 use Rattle.triple_arena_direct.specs.StrictAnswers.{is_exhausted}
@@ -12,4 +13,4 @@ ticket_numbers ticket = (suc ticket.0, suc ticket.1)
 
 -- were a lease revoked, its ticket could be given again
 abbrev pub are_used_up : ArenaState Lease → Bool
-are_used_up leases = is_exhausted true (2 ^ 8 - 1) leases
+are_used_up leases = is_exhausted (counting_to (2 ^ 8 - 1)) leases

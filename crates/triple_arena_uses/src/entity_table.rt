@@ -57,7 +57,8 @@ impl<S: NonZeroInxGenericStack<ArenaSlot<P0, Entity>>> EntityTable<S> {
     ///
     /// Refused as an insertion into an arena is; then nothing changes.
     pub fn spawn(&mut self, parent: Option<P0>) -> Result<P0, ReallocationError>
-        ensures found { IfOk result (λ p. look_up self.new.slots (p0_numbers p) ≡ Some (spawned parent)) }
+        ensures found { IfOk result (λ p. look_up self.new.slots (p0_numbers p)
+            ≡ Some (spawned parent)) }
         ensures free { IfOk result (λ p. entry self.old (p0_numbers p).0 ≡ None) }
         ensures others { IfOk result (λ p. (q : Pointer) → q ≢ p0_numbers p
             → look_up self.new.slots q ≡ look_up self.old.slots q) }
@@ -74,7 +75,8 @@ impl<S: NonZeroInxGenericStack<ArenaSlot<P0, Entity>>> EntityTable<S> {
     pub fn despawn(&mut self, p: P0) -> bool
         ensures answer { result ≡ is_some (look_up self.old.slots (p0_numbers p)) }
         ensures gone { look_up self.new.slots (p0_numbers p) ≡ None }
-        ensures others { (q : Pointer) → q ≢ p0_numbers p → look_up self.new.slots q ≡ look_up self.old.slots q }
+        ensures others { (q : Pointer) → q ≢ p0_numbers p
+            → look_up self.new.slots q ≡ look_up self.old.slots q }
         ensures bounded { RisesByAtMost 6 self.old.steps self.new.steps }
     {
         self.entities.remove(p).allow().is_some()
@@ -93,10 +95,12 @@ impl<S: NonZeroInxGenericStack<ArenaSlot<P0, Entity>>> EntityTable<S> {
 
     /// Takes health from an entity, and tells what is left; none where there is no such entity.
     pub fn damage(&mut self, p: P0, by: u32) -> Option<u32>
-        ensures answer { result ≡ option_map (λ e. e.health - by) (look_up self.old.slots (p0_numbers p)) }
+        ensures answer { result
+            ≡ option_map (λ e. e.health - by) (look_up self.old.slots (p0_numbers p)) }
         ensures damaged { look_up self.new.slots (p0_numbers p)
             ≡ option_map (damaged by) (look_up self.old.slots (p0_numbers p)) }
-        ensures others { (q : Pointer) → q ≢ p0_numbers p → look_up self.new.slots q ≡ look_up self.old.slots q }
+        ensures others { (q : Pointer) → q ≢ p0_numbers p
+            → look_up self.new.slots q ≡ look_up self.old.slots q }
     {
         let entity = self.entities.get_mut(p)?;
         entity.health = entity.health.saturating_sub(by);
@@ -117,7 +121,8 @@ impl<S: NonZeroInxGenericStack<ArenaSlot<P0, Entity>>> EntityTable<S> {
         requires { IsSome (look_up self.old.slots (p0_numbers p)) }
         ensures healed { look_up self.new.slots (p0_numbers p)
             ≡ option_map healed (look_up self.old.slots (p0_numbers p)) }
-        ensures others { (q : Pointer) → q ≢ p0_numbers p → look_up self.new.slots q ≡ look_up self.old.slots q }
+        ensures others { (q : Pointer) → q ≢ p0_numbers p
+            → look_up self.new.slots q ≡ look_up self.old.slots q }
     {
         self.entities[p].health = 100;
     }

@@ -63,7 +63,8 @@ impl GuestBook {
     pub fn arrive(&mut self, guest: u32) -> Result<P0, ReallocationError>
         ensures new { self.old.wrapped ≡ false
             → IfOk result (λ p. has self.old.came (p0_numbers p) ≡ false) }
-        ensures found { IfOk result (λ p. look_up self.new.guests.slots (p0_numbers p) ≡ Some guest) }
+        ensures found { IfOk result (λ p. look_up self.new.guests.slots (p0_numbers p)
+            ≡ Some guest) }
         ensures came { IfOk result (λ p. self.new.came ≡ self.old.came ++ p0_numbers p ∷ []) }
         ensures refused { OnErr result (self.new ≡ self.old) }
         ensures wrapped { self.new.wrapped ≡ self.old.wrapped }

@@ -58,7 +58,8 @@ impl Leases {
     pub fn issue(&mut self, lease: Lease) -> Result<Ticket, ReallocationError>
         ensures found { IfOk result
             (λ ticket. look_up self.new.slots (ticket_numbers ticket) ≡ Some lease) }
-        ensures free { IfOk result (λ ticket. look_up self.old.slots (ticket_numbers ticket) ≡ None) }
+        ensures free { IfOk result (λ ticket. look_up self.old.slots (ticket_numbers ticket)
+            ≡ None) }
         ensures new { IfOk result
             (λ ticket. (q : Pointer) → IsGoneForGood self.old q → ticket_numbers ticket ≢ q) }
         ensures others { IfOk result (λ ticket. (q : Pointer) → q ≢ ticket_numbers ticket

@@ -26,16 +26,16 @@ impl<P: Ptr, T, S: NonZeroInxGenericStack<ArenaSlot<P, T>>> CompactArenaTrait<P,
 
     // the entries have these values, in their order, from index 1 on, under the counter
     ghost compresses = { λ old reset values new. IsTouched (compressed old
-        (counter_after (first_generation P.Gen.counting) (raise P.Gen.counting P.Gen.greatest)
+        (counter_after (first_generation P.Gen.generations) (raise P.Gen.generations)
         reset old) values) new };
 
     // the number of the entry, under the counter
-    ghost rank = { λ s reset. rank s (counter_after (first_generation P.Gen.counting)
-        (raise P.Gen.counting P.Gen.greatest) reset s) };
+    ghost rank = { λ s reset. rank s (counter_after (first_generation P.Gen.generations)
+        (raise P.Gen.generations) reset s) };
 
     // there is no reset, there is an entry, and the counter is the greatest generation
     ghost compression_wraps = { λ s reset.
-        wraps_after (wraps P.Gen.counting P.Gen.greatest) reset s };
+        wraps_after (wraps P.Gen.generations) reset s };
 
     fn compress_with<F: FnMut(P, T, P) -> T>(
         &mut self,
@@ -50,24 +50,24 @@ impl<P: Ptr, T, S: NonZeroInxGenericStack<ArenaSlot<P, T>>> CompactArenaTrait<P,
     ghost with_value_same = { with_value-same };
 
     ghost keys_compressed = { λ old reset values new. compressed_keys old new (counter_after
-        (first_generation P.Gen.counting) (raise P.Gen.counting P.Gen.greatest) reset old) values };
+        (first_generation P.Gen.generations) (raise P.Gen.generations) reset old) values };
 
     ghost values_compressed = { λ old reset values new. compressed_values old new (counter_after
-        (first_generation P.Gen.counting) (raise P.Gen.counting P.Gen.greatest) reset old) values };
+        (first_generation P.Gen.generations) (raise P.Gen.generations) reset old) values };
 
     ghost ranked = { λ old reset. ranks (Some (counter_after
-        (first_generation P.Gen.counting) (raise P.Gen.counting P.Gen.greatest) reset old))
+        (first_generation P.Gen.generations) (raise P.Gen.generations) reset old))
         old.slots };
 
     ghost compresses_with_value = { λ old reset values new. compressed_with_value old new
-        (counter_after (first_generation P.Gen.counting) (raise P.Gen.counting P.Gen.greatest)
+        (counter_after (first_generation P.Gen.generations) (raise P.Gen.generations)
         reset old) values };
 
     ghost rank_unchanged = { λ _ _ reset same. ap (λ s. rank s (counter_after
-        (first_generation P.Gen.counting) (raise P.Gen.counting P.Gen.greatest) reset s)) same.0 };
+        (first_generation P.Gen.generations) (raise P.Gen.generations) reset s)) same.0 };
 
     ghost compression_wraps_unchanged = { λ _ _ reset same.
-        ap (wraps_after (wraps P.Gen.counting P.Gen.greatest) reset) same.0 };
+        ap (wraps_after (wraps P.Gen.generations) reset) same.0 };
 
     ghost limit_compressed = { λ _ _ _ _ same. ap (λ s. s.limit) same.0 };
 
@@ -77,11 +77,11 @@ impl<P: Ptr, T, S: NonZeroInxGenericStack<ArenaSlot<P, T>>> CompactArenaTrait<P,
 impl<P: Ptr, T, S: NonZeroInxGenericStack<ArenaSlot<P, T>>> Arena<P, T, S> {
     // Raises the counter if there is an entry, or resets it, and tells of a wrap.
     fn renew_counter(&mut self, reset_generation: bool) -> InvalidationOption<()>
-        ensures answer { result ≡ told (wraps_after (wraps P.Gen.counting P.Gen.greatest)
+        ensures answer { result ≡ told (wraps_after (wraps P.Gen.generations)
             reset_generation self.old) tt }
         ensures state { self.new ≡ record self.old {
-          counter = counter_after (first_generation P.Gen.counting)
-              (raise P.Gen.counting P.Gen.greatest) reset_generation self.old;
+          counter = counter_after (first_generation P.Gen.generations)
+              (raise P.Gen.generations) reset_generation self.old;
         } }
     {
         if reset_generation {

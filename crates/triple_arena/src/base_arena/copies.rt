@@ -30,7 +30,7 @@ impl<P: Ptr, T, S: NonZeroInxGenericStack<ArenaSlot<P, T>>> ArenaCloneFromWith<P
     // the slots of the copy stand, in room for the last index; the free indexes are the gaps in
     // rising order, and the counter is the source's, or the first generation
     ghost clones = { λ old last next copy new. IsTouched (laid_out (ready_for S.kind old last) copy
-        (counter_of (first_generation P.Gen.counting) next)) new };
+        (counter_of (first_generation P.Gen.generations) next)) new };
 
     fn clone_from_with<U, E, A: CompactArenaTrait<P, U>, M: FnMut(P, &U) -> Result<T, E>>(
         &mut self,
@@ -46,11 +46,11 @@ impl<P: Ptr, T, S: NonZeroInxGenericStack<ArenaSlot<P, T>>> ArenaCloneFromWith<P
             .map_err(CloneFromError::Map)
     }
 
-    ghost slots_cloned = { cloned_slots S.kind (first_generation P.Gen.counting) };
+    ghost slots_cloned = { cloned_slots S.kind (first_generation P.Gen.generations) };
 
-    ghost limit_cloned = { cloned_limit S.kind (first_generation P.Gen.counting) };
+    ghost limit_cloned = { cloned_limit S.kind (first_generation P.Gen.generations) };
 
-    ghost capacity_cloned = { cloned_capacity S.kind (first_generation P.Gen.counting) };
+    ghost capacity_cloned = { cloned_capacity S.kind (first_generation P.Gen.generations) };
 }
 
 impl<P: Ptr, T, S: NonZeroInxGenericStack<ArenaSlot<P, T>>> Arena<P, T, S> {
@@ -78,13 +78,13 @@ impl<P: Ptr, T, S: NonZeroInxGenericStack<ArenaSlot<P, T>>> Arena<P, T, S> {
         requires callable { M.IsAlwaysCallable map }
         ensures done { OnOk result ((put : List (Option (ℕ × T)))
             × Transfers Q.numbers P.numbers M.step A.slots A.fits A.removes A.ending_wraps
-            Q.Gen.counting (P.Gen.number new_generation) map source.old source.new put
+            Q.Gen.generations (P.Gen.number new_generation) map source.old source.new put
             × IsTouched (laid_out (ready_for S.kind self.old (length put)) put
             (P.Gen.number new_generation)) self.new) }
         ensures counted { OnOk result (arena_len self.new ≡ entry_count (A.slots source.old)) }
         ensures emptied { OnOk result (entry_count (A.slots source.new) ≡ 0) }
-        ensures history { OnOk result (NoneWraps A.removes A.ending_wraps Q.Gen.counting source.old
-            (keys (A.slots source.old)) → Continues A.fits source.old
+        ensures history { OnOk result (NoneWraps A.removes A.ending_wraps Q.Gen.generations
+            source.old (keys (A.slots source.old)) → Continues A.fits source.old
             (removals (keys (A.slots source.old))) source.new) }
         ensures refused { OnErr result (IsTouched (tidied self.old) self.new) }
         ensures whole { OnErr result (source.new ≡ source.old) }
@@ -162,7 +162,7 @@ impl<P: Ptr, T, S: NonZeroInxGenericStack<ArenaSlot<P, T>>> Arena<P, T, S> {
         requires fits { entry_count (A.slots source.old) ≤ capacity self.old }
         ensures transferred { (put : List (Option (ℕ × T)))
             × Transfers Q.numbers P.numbers M.step A.slots A.fits A.removes A.ending_wraps
-            Q.Gen.counting (P.Gen.number generation) f source.old source.new put
+            Q.Gen.generations (P.Gen.number generation) f source.old source.new put
             × IsTouched (laid_out self.old put (P.Gen.number generation)) self.new
             × (length put ≡ entry_count (A.slots source.old)) }
         ensures emptied { entry_count (A.slots source.new) ≡ 0 }

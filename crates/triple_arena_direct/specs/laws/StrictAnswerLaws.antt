@@ -1,5 +1,6 @@
 -- Laws of strict calls: each takes every history that fits to one that fits, where generations count.
 use Rattle.std.proofs.Common.{◌≡◌, ℕ, ◌||◌, Bool, true, false, not, List, [], ◌∷◌, refl, sym, subst, inl, inr, true≢false}
+use Rattle.triple_arena_ptr.specs.Numbers.{Generations}
 use Rattle.triple_arena_stack.specs.StackKind.{StackKind}
 use Rattle.triple_arena_traits.specs.ArenaState.{ArenaState, IsWellFormed}
 use Rattle.triple_arena_traits.specs.Insertion.{next_pointer, inserted}
@@ -32,28 +33,28 @@ module _ {T : Type 0} where
         (Continues-grown kind s (grown kind s) refl)
         (Continues-inserted (grown kind s) after (next_pointer s) value (well_formed-grown kind s well) (sym (next-grown kind s)) refl))
 
-    module _ (greatest : ℕ) where
+    module _ (generations : Generations) (counts : generations.counting ≡ true) where
       -- a call takes every history that fits to one that fits
-      Continues-strict : (s : ArenaState T) (call : StrictCall T) (calls : List ModelCall) (t : ArenaState T) → IsStrictStep kind true greatest s call calls t → Continues Fits s calls t
+      pub Continues-strict : (s : ArenaState T) (call : StrictCall T) (calls : List ModelCall) (t : ArenaState T) → IsStrictStep kind generations s call calls t → Continues Fits s calls t
       Continues-strict s (to_insert value) calls t (well, inl is) = rw is.1.0 (Continues-touched s s t [] is.1.1 (λ h fits. fits))
       Continues-strict s (to_insert value) calls t (well, inr is) = rw is.0 (Continues-grown_inserted s t value well is.1)
       Continues-strict s (to_write p value) calls t is = rw (is.1, is.2) (Continues-written s p.0 value)
       Continues-strict s (to_remove p) calls t is =
-          Continues-unless (cannot_end kind true greatest s p) _ _ s calls t is
+          Continues-unless (cannot_end kind generations s p) _ _ s calls t is
           (λ allowed.
-          let both = not_refused (is_live s p) (is_exhausted true greatest s) allowed in
-          Continues-removed true greatest s _ p (refl, both.1) both.0 refl)
+          let both = not_refused (is_live s p) (is_exhausted generations s) allowed in
+          Continues-removed generations s _ p (counts, both.1) both.0 refl)
       Continues-strict s (to_invalidate p) calls t is =
-          Continues-unless (cannot_end kind true greatest s p) _ _ s calls t is
+          Continues-unless (cannot_end kind generations s p) _ _ s calls t is
           (λ allowed.
-          let both = not_refused (is_live s p) (is_exhausted true greatest s) allowed in
-          Continues-invalidated true greatest s _ p (refl, both.1) both.0 refl)
+          let both = not_refused (is_live s p) (is_exhausted generations s) allowed in
+          Continues-invalidated generations s _ p (counts, both.1) both.0 refl)
       Continues-strict s to_clear calls t is =
-          Continues-unless (is_exhausted_for_any true greatest s) _ _ s calls t is
-          (λ allowed. Continues-cleared true greatest s _ (refl, allowed) refl)
+          Continues-unless (is_exhausted_for_any generations s) _ _ s calls t is
+          (λ allowed. Continues-cleared generations s _ (counts, allowed) refl)
       Continues-strict s (to_compress values) calls t (len, is) =
-          Continues-unless (is_exhausted_for_any true greatest s) _ _ s calls t is
-          (λ allowed. Continues-compressed true greatest s _ 2 false values refl (refl, allowed) len refl)
+          Continues-unless (is_exhausted_for_any generations s) _ _ s calls t is
+          (λ allowed. Continues-compressed generations s _ 2 false values refl (counts, allowed) len refl)
       Continues-strict s (to_reallocate m) calls t (one, inl is) =
           let after = reallocated kind s m in
           rw one (Continues-touched s after t (resizing ∷ []) is (Continues-resized s after (slots-reallocated kind s m after refl) refl))
@@ -61,15 +62,7 @@ module _ {T : Type 0} where
           rw one (Continues-touched s (tidied s) t (resizing ∷ []) is (Continues-tidied s (tidied s) refl))
 
       -- and so do calls one after another
-      Continues-steps : (s : ArenaState T) (steps : List (StrictCall T)) (calls : List ModelCall) (t : ArenaState T) → AreStrictSteps kind true greatest s steps calls t → Continues Fits s calls t
+      pub Continues-steps : (s : ArenaState T) (steps : List (StrictCall T)) (calls : List ModelCall) (t : ArenaState T) → AreStrictSteps kind generations s steps calls t → Continues Fits s calls t
       Continues-steps s [] calls t ran = rw (ran.0, ran.1) (λ h fits. fits)
       Continues-steps s (step ∷ steps) calls t (m, first, second, step_ran, ran, both) =
           rw both (Continues-append s m t first second (Continues-strict s step first m step_ran) (Continues-steps m steps second t ran))
-
-      -- the same where generations are said to count
-      module _ (counting : Bool) (counts : counting ≡ true) where
-        pub Continues-strict_counting : (s : ArenaState T) (call : StrictCall T) (calls : List ModelCall) (t : ArenaState T) → IsStrictStep kind counting greatest s call calls t → Continues Fits s calls t
-        Continues-strict_counting s call calls t step = Continues-strict s call calls t (subst (λ c. IsStrictStep kind c greatest s call calls t) counts step)
-
-        pub Continues-strict_steps : (s : ArenaState T) (steps : List (StrictCall T)) (calls : List ModelCall) (t : ArenaState T) → AreStrictSteps kind counting greatest s steps calls t → Continues Fits s calls t
-        Continues-strict_steps s steps calls t ran = Continues-steps s steps calls t (subst (λ c. AreStrictSteps kind c greatest s steps calls t) counts ran)

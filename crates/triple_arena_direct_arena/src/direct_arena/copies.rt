@@ -25,7 +25,8 @@ impl<P: Ptr, T, S: NonZeroInxGenericStack<DirectSlot<P, T>>> ArenaCloneFromWith<
     ghost use Rattle.triple_arena_direct_arena.specs.laws.DirectCloningLaws.{kept-cloned, limit-cloned, capacity-cloned};
 
     // the slots of the copy stand, in room for the last index; there is no counter
-    ghost clones = { λ old last _ copy new. new ≡ direct_with_slots (direct_ready_for S.kind old last) copy };
+    ghost clones = { λ old last _ copy new. new
+        ≡ direct_with_slots (direct_ready_for S.kind old last) copy };
 
     fn clone_from_with<U, E, A: CompactArenaTrait<P, U>, M: FnMut(P, &U) -> Result<T, E>>(
         &mut self,
@@ -74,12 +75,12 @@ impl<P: Ptr, T, S: NonZeroInxGenericStack<DirectSlot<P, T>>> DirectArena<P, T, S
         requires callable { M.IsAlwaysCallable map }
         ensures done { OnOk result ((put : List (Option (ℕ × T)))
             × Transfers Q.numbers P.numbers M.step A.slots A.fits A.removes A.ending_wraps
-            Q.Gen.counting (P.Gen.number new_generation) map source.old source.new put
+            Q.Gen.generations (P.Gen.number new_generation) map source.old source.new put
             × (self.new ≡ direct_with_slots (direct_ready_for S.kind self.old (length put)) put)) }
         ensures counted { OnOk result (direct_len self.new ≡ entry_count (A.slots source.old)) }
         ensures emptied { OnOk result (entry_count (A.slots source.new) ≡ 0) }
-        ensures history { OnOk result (NoneWraps A.removes A.ending_wraps Q.Gen.counting source.old
-            (keys (A.slots source.old)) → Continues A.fits source.old
+        ensures history { OnOk result (NoneWraps A.removes A.ending_wraps Q.Gen.generations
+            source.old (keys (A.slots source.old)) → Continues A.fits source.old
             (removals (keys (A.slots source.old))) source.new) }
         ensures refused { OnErr result
             (self.new ≡ direct_shortened self.old (entry_count (A.slots source.old))) }
@@ -93,7 +94,8 @@ impl<P: Ptr, T, S: NonZeroInxGenericStack<DirectSlot<P, T>>> DirectArena<P, T, S
             × IsBeyond self.old.limit (entry_count (A.slots source.old))) }
         ensures with_memory { entry_count (A.slots source.old) ≤ greatest_index P.Inx.greatest
             → IsWithin self.old.limit (entry_count (A.slots source.old))
-            → S.has_memory (direct_reallocated S.kind self.old (entry_count (A.slots source.old))).room
+            → S.has_memory
+            (direct_reallocated S.kind self.old (entry_count (A.slots source.old))).room
             → IsOk result }
     {
         self.make_room(source.len())?;
@@ -115,7 +117,7 @@ impl<P: Ptr, T, S: NonZeroInxGenericStack<DirectSlot<P, T>>> DirectArena<P, T, S
         requires fits { entry_count (A.slots source.old) ≤ direct_capacity self.old }
         ensures transferred { (put : List (Option (ℕ × T)))
             × Transfers Q.numbers P.numbers M.step A.slots A.fits A.removes A.ending_wraps
-            Q.Gen.counting (P.Gen.number generation) f source.old source.new put
+            Q.Gen.generations (P.Gen.number generation) f source.old source.new put
             × (self.new ≡ direct_with_slots self.old put)
             × (length put ≡ entry_count (A.slots source.old)) }
         ensures emptied { entry_count (A.slots source.new) ≡ 0 }

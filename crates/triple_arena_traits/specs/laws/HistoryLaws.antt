@@ -1,8 +1,8 @@
 -- Laws of histories: each model call takes every history that fits to one that fits.
-use Rattle.std.proofs.Common.{◌≡◌, ◌≢◌, ◌⊎◌, ℕ, zero, suc, ◌+◌, ◌<◌, ◌≤◌, ◌==◌, ◌&&◌, ◌||◌, Bool, true, false, not, List, [], ◌∷◌, ◌++◌, length, Option, Some, None, is_some, IsSome, IsTrue, Result, Ok, Err, OnOk, OnErr, nat_lt, slice_get, take, drop, cond, refl, sym, ap, subst, ◌∙◌, inl, inr, arith, true≢false}
+use Rattle.std.proofs.Common.{◌≡◌, ◌≢◌, ◌⊎◌, ℕ, zero, suc, ◌+◌, ◌<◌, ◌≤◌, ◌==◌, ◌&&◌, ◌||◌, Bool, true, false, not, List, [], ◌∷◌, ◌++◌, length, Option, Some, None, is_some, IsSome, IsTrue, Result, Ok, Err, OnOk, OnErr, nat_lt, slice_get, take, drop, cond, if◌then◌else◌, refl, sym, ap, subst, ◌∙◌, inl, inr, arith, true≢false}
 use Rattle.std.proofs.lemmas.Bool.{cases_eq, cases_Bool, and_parts, or_cases}
 use Rattle.std.specs.Option.{option_map}
-use Rattle.triple_arena_ptr.specs.Numbers.{raise, wraps}
+use Rattle.triple_arena_ptr.specs.Numbers.{Generations, raise, wraps}
 use Rattle.triple_arena_ptr.specs.Pointers.{Pointer, is_same}
 use Rattle.triple_arena_stack.specs.StackKind.{StackKind}
 use Rattle.triple_arena_traits.specs.laws.ItemLaws.{joined, eq_true, eq_false}
@@ -425,34 +425,37 @@ module _ {T : Type 0} where
       given_and_ended false = refl
 
 -- where generations count and a raise does not wrap, it gives a greater one
-up : (counting : Bool) (greatest n : ℕ) → CountsUp counting (wraps counting greatest n) → n < raise counting greatest n
-up true greatest n counts = rw counts.1 (omega arith)
-up false greatest n counts = absurd (true≢false (sym counts.0))
+up : (generations : Generations) (n : ℕ) → CountsUp generations (wraps generations n) → n < raise generations n
+up generations n counts = by generations.counting counts.0 counts.1
+  where
+    by : (counting : Bool) → counting ≡ true → (counting && (n == generations.greatest)) ≡ false → n < cond counting (if n == generations.greatest then 2 else n + 1) n
+    by true counts quiet = rw quiet (omega arith)
+    by false counts quiet = absurd (true≢false (sym counts))
 
-module _ {T : Type 0} (counting : Bool) (greatest : ℕ) (s t : ArenaState T) where
+module _ {T : Type 0} (generations : Generations) (s t : ArenaState T) where
   -- the same as the calls state it
-  pub Continues-removed : (p : Pointer) → CountsUp counting (wraps counting greatest s.counter) → IsSome (look_up s.slots p) → t ≡ removed (raise counting greatest) s p.0 → Continues Fits s (removal p ∷ []) t
+  pub Continues-removed : (p : Pointer) → CountsUp generations (wraps generations s.counter) → IsSome (look_up s.slots p) → t ≡ removed (raise generations) s p.0 → Continues Fits s (removal p ∷ []) t
   Continues-removed p counts live is =
-      Continues-moved s t (removal p) (rw is (moves-removed (raise counting greatest) s p (up counting greatest s.counter counts) live))
+      Continues-moved s t (removal p) (rw is (moves-removed (raise generations) s p (up generations s.counter counts) live))
 
-  pub Continues-removed_inx : (i generation : ℕ) (value : T) → entry s i ≡ Some (generation, value) → CountsUp counting (wraps counting greatest s.counter) → (IsSome (entry s i) → t ≡ removed (raise counting greatest) s i) → Continues Fits s (removal (i, generation) ∷ []) t
+  pub Continues-removed_inx : (i generation : ℕ) (value : T) → entry s i ≡ Some (generation, value) → CountsUp generations (wraps generations s.counter) → (IsSome (entry s i) → t ≡ removed (raise generations) s i) → Continues Fits s (removal (i, generation) ∷ []) t
   Continues-removed_inx i generation value here counts is =
       Continues-removed (i, generation) counts (rw (here, eq_true generation generation refl) refl) (is (rw here refl))
 
-  pub Continues-invalidated : (p : Pointer) → CountsUp counting (wraps counting greatest s.counter) → IsSome (look_up s.slots p) → t ≡ invalidated (raise counting greatest) s p.0 → Continues Fits s (invalidation p (p.0, raise counting greatest s.counter) ∷ []) t
+  pub Continues-invalidated : (p : Pointer) → CountsUp generations (wraps generations s.counter) → IsSome (look_up s.slots p) → t ≡ invalidated (raise generations) s p.0 → Continues Fits s (invalidation p (p.0, raise generations s.counter) ∷ []) t
   Continues-invalidated p counts live is =
-      Continues-moved s t (invalidation p (p.0, raise counting greatest s.counter)) (rw is (moves-invalidated (raise counting greatest) s p (up counting greatest s.counter counts) live))
+      Continues-moved s t (invalidation p (p.0, raise generations s.counter)) (rw is (moves-invalidated (raise generations) s p (up generations s.counter counts) live))
 
   -- where a raise for the entries does not wrap
-  up_for : CountsUp counting (cond (arena_len s == 0) false (wraps counting greatest s.counter)) → arena_len s ≢ 0 → s.counter < raise counting greatest s.counter
+  up_for : CountsUp generations (cond (arena_len s == 0) false (wraps generations s.counter)) → arena_len s ≢ 0 → s.counter < raise generations s.counter
   up_for counts some =
-      up counting greatest s.counter (counts.0, sym (ap (λ b. cond b false (wraps counting greatest s.counter)) (eq_false (arena_len s) 0 some)) ∙ counts.1)
+      up generations s.counter (counts.0, sym (ap (λ b. cond b false (wraps generations s.counter)) (eq_false (arena_len s) 0 some)) ∙ counts.1)
 
-  pub Continues-cleared : CountsUp counting (cond (arena_len s == 0) false (wraps counting greatest s.counter)) → t ≡ cleared (raise counting greatest) s → Continues Fits s (clearing (keys s.slots) ∷ []) t
+  pub Continues-cleared : CountsUp generations (cond (arena_len s == 0) false (wraps generations s.counter)) → t ≡ cleared (raise generations) s → Continues Fits s (clearing (keys s.slots) ∷ []) t
   Continues-cleared counts is =
-      Continues-moved s t (clearing (keys s.slots)) (rw is (moves-cleared (raise counting greatest) s (up_for counts)))
+      Continues-moved s t (clearing (keys s.slots)) (rw is (moves-cleared (raise generations) s (up_for counts)))
 
-  pub Continues-compressed : (first : ℕ) (reset : Bool) (values : List T) → reset ≡ false → CountsUp counting (wraps_after (wraps counting greatest) reset s) → length values ≡ arena_len s → t ≡ compressed s (counter_after first (raise counting greatest) reset s) values → Continues Fits s (compression (keys s.slots) (keys t.slots) ∷ []) t
+  pub Continues-compressed : (first : ℕ) (reset : Bool) (values : List T) → reset ≡ false → CountsUp generations (wraps_after (wraps generations) reset s) → length values ≡ arena_len s → t ≡ compressed s (counter_after first (raise generations) reset s) values → Continues Fits s (compression (keys s.slots) (keys t.slots) ∷ []) t
   Continues-compressed first true values kept counts len is = absurd (true≢false kept)
   Continues-compressed first false values kept counts len is =
-      Continues-moved s t (compression (keys s.slots) (keys t.slots)) (rw is (moves-compressed (raise counting greatest) s values len (up_for counts)))
+      Continues-moved s t (compression (keys s.slots) (keys t.slots)) (rw is (moves-compressed (raise generations) s values len (up_for counts)))

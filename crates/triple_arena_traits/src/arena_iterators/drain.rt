@@ -27,7 +27,7 @@ pub struct Drain<'a, P: Ptr, T: Drop, A: CompactArenaTrait<P, T>> {
 impl<'a, P: Ptr, T: Drop, A: CompactArenaTrait<P, T>> Drop for Drain<'a, P, T, A> {
     fn drop(self)
         ensures cleared { A.clears (drain_arena self.entry) self.exit.0.now }
-        ensures history { CountsUp P.Gen.counting (A.clearing_wraps (drain_arena self.entry))
+        ensures history { CountsUp P.Gen.generations (A.clearing_wraps (drain_arena self.entry))
             → Continues A.fits (drain_arena self.entry)
             (clearing (keys (A.slots (drain_arena self.entry))) ∷ []) self.exit.0.now }
     {
@@ -60,7 +60,7 @@ impl<'a, P: Ptr, T: Drop, A: CompactArenaTrait<P, T>> Iterator for Drain<'a, P, 
 
     ghost next_gives = { λ before item after. (drain_lender after ≡ drain_lender before)
         × (IsDraining A.slots A.stand before
-        → DrainStep A.slots A.fits A.removes A.ending_wraps P.Gen.counting P.numbers
+        → DrainStep A.slots A.fits A.removes A.ending_wraps P.Gen.generations P.numbers
         (drain_arena before) item (drain_arena after) × IsDraining A.slots A.stand after) };
 
     ghost remaining = { λ drain.
@@ -135,7 +135,7 @@ pub(crate) fn take_next<P: Ptr, T, A: CompactArenaTrait<P, T>>(
     arena: &mut A,
     advancer: &mut A::PtrAdvancer,
 ) -> Option<(P, InvalidationOption<T>)>
-    ensures step { TakeStep A.slots A.fits A.removes A.ending_wraps P.Gen.counting P.numbers
+    ensures step { TakeStep A.slots A.fits A.removes A.ending_wraps P.Gen.generations P.numbers
         (greatest_index P.Inx.greatest) arena.old (A.stand advancer.old) result
         arena.new (A.stand advancer.new) }
 {

@@ -6,7 +6,7 @@ use Rattle.triple_arena_session.proofs.text.run_lines.Given as goal
 
 abbrev pub invariant-lines : goal.invariant-lines
 invariant-lines g l = record {
-  ran : AnswersLines (IsStepOf g.A.SessionArena.strict g.S.NonZeroInxGenericStack.kind g.S.NonZeroInxGenericStack.has_memory g.P.Gen.PtrGen.counting g.P.Gen.PtrGen.greatest) (take l.before (lines_of l.text)) l.initial.session l.session (g.W.Write.contents l.initial.output) (g.W.Write.contents l.output);
+  ran : AnswersLines (IsStepOf g.A.SessionArena.strict g.S.NonZeroInxGenericStack.kind g.S.NonZeroInxGenericStack.has_memory g.P.Gen.PtrGen.generations) (take l.before (lines_of l.text)) l.initial.session l.session (g.W.Write.contents l.initial.output) (g.W.Write.contents l.output);
   left : lines_of l.rest ≡ drop l.before (lines_of l.text);
   room : l.before + length l.rest ≤ length l.text;
 }

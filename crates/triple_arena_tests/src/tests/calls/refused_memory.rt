@@ -80,9 +80,7 @@ fn a_constructor_past_the_memory(rt: HostRuntime) -> Result<(), Wrong> {
 
 // Removals from eight entries, and reallocations that are refused.
 #[test]
-fn a_reallocation_past_the_memory_tidies_the_free_list(
-    rt: HostRuntime,
-) -> Result<(), Wrong> {
+fn a_reallocation_past_the_memory_tidies_the_free_list(rt: HostRuntime) -> Result<(), Wrong> {
     on(
         rt.alloc(),
         Pointers::P0,

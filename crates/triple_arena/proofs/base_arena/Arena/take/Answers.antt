@@ -17,22 +17,22 @@ overflow_sub-self g c =
 
 pub invariant_of-self : goal.invariant_of-self
 invariant_of-self g c =
-    (carried g.P.Gen.PtrGen.number _ _ _ _ _ _ _ _ _ _ _ _ _ _ _ c.args.self.now (record (removed (raise g.P.Gen.PtrGen.counting g.P.Gen.PtrGen.greatest) c.args.self.now (non_zero_usize_get c.args.inx)) { steps = c.vacate-taken.new.self.steps.count }) c.self.invariant c.self.view_is
-    (λ shows. Shows-steps g.P.Gen.PtrGen.number _ _ _ c.vacate-taken.new.self.steps.count _ (c.vacate-taken.ensures.shows (raise g.P.Gen.PtrGen.counting g.P.Gen.PtrGen.greatest) c.args.self.now c.self.inside.len shows))
-    (c.generational_inc-counter.ensures.raised ∙ ap (λ s. raise g.P.Gen.PtrGen.counting g.P.Gen.PtrGen.greatest s.counter) c.self.view_is ∙ sym (counter-removed (raise g.P.Gen.PtrGen.counting g.P.Gen.PtrGen.greatest) c.args.self.now (non_zero_usize_get c.args.inx)))
-    (c.vacate-taken.ensures.room ∙ ap (λ s. s.room) c.self.view_is ∙ sym (room-removed (raise g.P.Gen.PtrGen.counting g.P.Gen.PtrGen.greatest) c.args.self.now (non_zero_usize_get c.args.inx)))
-    (c.vacate-taken.ensures.limit ∙ ap (λ s. s.limit) c.self.view_is ∙ sym (limit-removed (raise g.P.Gen.PtrGen.counting g.P.Gen.PtrGen.greatest) c.args.self.now (non_zero_usize_get c.args.inx)))
-    (ap (λ s. s.greatest) c.self.view_is ∙ sym (greatest-removed (raise g.P.Gen.PtrGen.counting g.P.Gen.PtrGen.greatest) c.args.self.now (non_zero_usize_get c.args.inx))) refl).0
+    (carried g.P.Gen.PtrGen.number _ _ _ _ _ _ _ _ _ _ _ _ _ _ _ c.args.self.now (record (removed (raise g.P.Gen.PtrGen.generations) c.args.self.now (non_zero_usize_get c.args.inx)) { steps = c.vacate-taken.new.self.steps.count }) c.self.invariant c.self.view_is
+    (λ shows. Shows-steps g.P.Gen.PtrGen.number _ _ _ c.vacate-taken.new.self.steps.count _ (c.vacate-taken.ensures.shows (raise g.P.Gen.PtrGen.generations) c.args.self.now c.self.inside.len shows))
+    (c.generational_inc-counter.ensures.raised ∙ ap (λ s. raise g.P.Gen.PtrGen.generations s.counter) c.self.view_is ∙ sym (counter-removed (raise g.P.Gen.PtrGen.generations) c.args.self.now (non_zero_usize_get c.args.inx)))
+    (c.vacate-taken.ensures.room ∙ ap (λ s. s.room) c.self.view_is ∙ sym (room-removed (raise g.P.Gen.PtrGen.generations) c.args.self.now (non_zero_usize_get c.args.inx)))
+    (c.vacate-taken.ensures.limit ∙ ap (λ s. s.limit) c.self.view_is ∙ sym (limit-removed (raise g.P.Gen.PtrGen.generations) c.args.self.now (non_zero_usize_get c.args.inx)))
+    (ap (λ s. s.greatest) c.self.view_is ∙ sym (greatest-removed (raise g.P.Gen.PtrGen.generations) c.args.self.now (non_zero_usize_get c.args.inx))) refl).0
 
 pub returns-clause-state : goal.returns-clause-state
 returns-clause-state g c = (
-  (carried g.P.Gen.PtrGen.number _ _ _ _ _ _ _ _ _ _ _ _ _ _ _ c.args.self.now (record (removed (raise g.P.Gen.PtrGen.counting g.P.Gen.PtrGen.greatest) c.args.self.now (non_zero_usize_get c.args.inx)) { steps = c.vacate-taken.new.self.steps.count }) c.self.invariant c.self.view_is
-      (λ shows. Shows-steps g.P.Gen.PtrGen.number _ _ _ c.vacate-taken.new.self.steps.count _ (c.vacate-taken.ensures.shows (raise g.P.Gen.PtrGen.counting g.P.Gen.PtrGen.greatest) c.args.self.now c.self.inside.len shows))
-      (c.generational_inc-counter.ensures.raised ∙ ap (λ s. raise g.P.Gen.PtrGen.counting g.P.Gen.PtrGen.greatest s.counter) c.self.view_is ∙ sym (counter-removed (raise g.P.Gen.PtrGen.counting g.P.Gen.PtrGen.greatest) c.args.self.now (non_zero_usize_get c.args.inx)))
-      (c.vacate-taken.ensures.room ∙ ap (λ s. s.room) c.self.view_is ∙ sym (room-removed (raise g.P.Gen.PtrGen.counting g.P.Gen.PtrGen.greatest) c.args.self.now (non_zero_usize_get c.args.inx)))
-      (c.vacate-taken.ensures.limit ∙ ap (λ s. s.limit) c.self.view_is ∙ sym (limit-removed (raise g.P.Gen.PtrGen.counting g.P.Gen.PtrGen.greatest) c.args.self.now (non_zero_usize_get c.args.inx)))
-      (ap (λ s. s.greatest) c.self.view_is ∙ sym (greatest-removed (raise g.P.Gen.PtrGen.counting g.P.Gen.PtrGen.greatest) c.args.self.now (non_zero_usize_get c.args.inx))) refl).1,
-  omega (arith, c.vacate-taken.ensures.steps, ap (λ s. s.steps) c.self.view_is, steps_of-removed (raise g.P.Gen.PtrGen.counting g.P.Gen.PtrGen.greatest) c.args.self.now (non_zero_usize_get c.args.inx)),
+  (carried g.P.Gen.PtrGen.number _ _ _ _ _ _ _ _ _ _ _ _ _ _ _ c.args.self.now (record (removed (raise g.P.Gen.PtrGen.generations) c.args.self.now (non_zero_usize_get c.args.inx)) { steps = c.vacate-taken.new.self.steps.count }) c.self.invariant c.self.view_is
+      (λ shows. Shows-steps g.P.Gen.PtrGen.number _ _ _ c.vacate-taken.new.self.steps.count _ (c.vacate-taken.ensures.shows (raise g.P.Gen.PtrGen.generations) c.args.self.now c.self.inside.len shows))
+      (c.generational_inc-counter.ensures.raised ∙ ap (λ s. raise g.P.Gen.PtrGen.generations s.counter) c.self.view_is ∙ sym (counter-removed (raise g.P.Gen.PtrGen.generations) c.args.self.now (non_zero_usize_get c.args.inx)))
+      (c.vacate-taken.ensures.room ∙ ap (λ s. s.room) c.self.view_is ∙ sym (room-removed (raise g.P.Gen.PtrGen.generations) c.args.self.now (non_zero_usize_get c.args.inx)))
+      (c.vacate-taken.ensures.limit ∙ ap (λ s. s.limit) c.self.view_is ∙ sym (limit-removed (raise g.P.Gen.PtrGen.generations) c.args.self.now (non_zero_usize_get c.args.inx)))
+      (ap (λ s. s.greatest) c.self.view_is ∙ sym (greatest-removed (raise g.P.Gen.PtrGen.generations) c.args.self.now (non_zero_usize_get c.args.inx))) refl).1,
+  omega (arith, c.vacate-taken.ensures.steps, ap (λ s. s.steps) c.self.view_is, steps_of-removed (raise g.P.Gen.PtrGen.generations) c.args.self.now (non_zero_usize_get c.args.inx)),
 )
 
 pub returns-clause-steps : goal.returns-clause-steps

@@ -7,11 +7,11 @@ returns-then-is_empty-clause-done g c = search rules
 
 pub returns-then-is_empty-clause-history : goal.returns-then-is_empty-clause-history
 returns-then-is_empty-clause-history g c counts =
-    Continues-cleared g.P.Gen.PtrGen.counting g.P.Gen.PtrGen.greatest c.args.self.now _ counts (returns-then-is_empty-clause-done g c)
+    Continues-cleared g.P.Gen.PtrGen.generations c.args.self.now _ counts (returns-then-is_empty-clause-done g c)
 
 pub returns-clause-done : goal.returns-clause-done
 returns-clause-done g c = search rules
 
 pub returns-clause-history : goal.returns-clause-history
 returns-clause-history g c counts =
-    Continues-cleared g.P.Gen.PtrGen.counting g.P.Gen.PtrGen.greatest c.args.self.now _ counts (returns-clause-done g c)
+    Continues-cleared g.P.Gen.PtrGen.generations c.args.self.now _ counts (returns-clause-done g c)

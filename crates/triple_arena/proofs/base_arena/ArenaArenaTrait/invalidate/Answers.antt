@@ -38,20 +38,20 @@ returns-clause-done g c live =
           (c.restamp.ensures.limit ∙ ap (λ s. s.limit) c.self.view_is)
           (ap (λ s. s.greatest) c.self.view_is) refl).1
           ∙ ap (λ (s : ArenaState g.row.T.Denot). record s { slots = with_generation_in s.slots i n; counter = n; steps = k }) c.look_for.ensures.unchanged.0
-          ∙ ap (λ (s : ArenaState g.row.T.Denot). record s { steps = k }) (invalidated_is (raise g.P.Gen.PtrGen.counting g.P.Gen.PtrGen.greatest) c.args.self.now _ _ _ (rw c.in-Some.is at c.look_for.ensures.index) (c.generational_inc-counter.ensures.raised ∙ ap (λ (s : ArenaState g.row.T.Denot). raise g.P.Gen.PtrGen.counting g.P.Gen.PtrGen.greatest s.counter) (c.self.view_is ∙ c.look_for.ensures.unchanged.0))),
+          ∙ ap (λ (s : ArenaState g.row.T.Denot). record s { steps = k }) (invalidated_is (raise g.P.Gen.PtrGen.generations) c.args.self.now _ _ _ (rw c.in-Some.is at c.look_for.ensures.index) (c.generational_inc-counter.ensures.raised ∙ ap (λ (s : ArenaState g.row.T.Denot). raise g.P.Gen.PtrGen.generations s.counter) (c.self.view_is ∙ c.look_for.ensures.unchanged.0))),
       omega (arith, c.restamp.ensures.steps, c.look_for.ensures.unchanged.1, ap (λ (s : ArenaState g.row.T.Denot). s.steps) c.self.view_is),
     )
 
 pub returns-clause-found : goal.returns-clause-found
 returns-clause-found g c live =
     let p = g.P.Ptr.numbers c.args.p in
-    renewed_found c.args.self.now.slots _ p (raise g.P.Gen.PtrGen.counting g.P.Gen.PtrGen.greatest c.args.self.now.counter) live (invalidated_slots (raise g.P.Gen.PtrGen.counting g.P.Gen.PtrGen.greatest) c.args.self.now p.0 _ (returns-clause-done g c live))
+    renewed_found c.args.self.now.slots _ p (raise g.P.Gen.PtrGen.generations c.args.self.now.counter) live (invalidated_slots (raise g.P.Gen.PtrGen.generations) c.args.self.now p.0 _ (returns-clause-done g c live))
 
 pub returns-clause-gone : goal.returns-clause-gone
 returns-clause-gone g c other =
     let p = g.P.Ptr.numbers c.args.p in
     let live : IsSome (look_up c.args.self.now.slots p) = sym (rw c.in-Some.is at c.look_for.ensures.live) in
-    renewed_gone c.args.self.now.slots _ p (raise g.P.Gen.PtrGen.counting g.P.Gen.PtrGen.greatest c.args.self.now.counter) live (invalidated_slots (raise g.P.Gen.PtrGen.counting g.P.Gen.PtrGen.greatest) c.args.self.now p.0 _ (returns-clause-done g c live)) other
+    renewed_gone c.args.self.now.slots _ p (raise g.P.Gen.PtrGen.generations c.args.self.now.counter) live (invalidated_slots (raise g.P.Gen.PtrGen.generations) c.args.self.now p.0 _ (returns-clause-done g c live)) other
 
 pub returns-in_default-clause-gone : goal.returns-in_default-clause-gone
 returns-in_default-clause-gone g c other =
@@ -61,18 +61,18 @@ pub returns-clause-others : goal.returns-clause-others
 returns-clause-others g c q away =
     let p = g.P.Ptr.numbers c.args.p in
     let live : IsSome (look_up c.args.self.now.slots p) = sym (rw c.in-Some.is at c.look_for.ensures.live) in
-    others_found c.args.self.now.slots _ p.0 _ (invalidated_slots (raise g.P.Gen.PtrGen.counting g.P.Gen.PtrGen.greatest) c.args.self.now p.0 _ (returns-clause-done g c live)) q away
+    others_found c.args.self.now.slots _ p.0 _ (invalidated_slots (raise g.P.Gen.PtrGen.generations) c.args.self.now p.0 _ (returns-clause-done g c live)) q away
 
 pub returns-clause-history : goal.returns-clause-history
 returns-clause-history g c live counts =
     let p = g.P.Ptr.numbers c.args.p in
-    let left = invalidated (raise g.P.Gen.PtrGen.counting g.P.Gen.PtrGen.greatest) c.args.self.now p.0 in
-    Continues-touched c.args.self.now left _ (invalidation p (p.0, raise g.P.Gen.PtrGen.counting g.P.Gen.PtrGen.greatest c.args.self.now.counter) ∷ []) (returns-clause-done g c live)
-    (Continues-invalidated g.P.Gen.PtrGen.counting g.P.Gen.PtrGen.greatest c.args.self.now left p counts live refl)
+    let left = invalidated (raise g.P.Gen.PtrGen.generations) c.args.self.now p.0 in
+    Continues-touched c.args.self.now left _ (invalidation p (p.0, raise g.P.Gen.PtrGen.generations c.args.self.now.counter) ∷ []) (returns-clause-done g c live)
+    (Continues-invalidated g.P.Gen.PtrGen.generations c.args.self.now left p counts live refl)
 
 pub returns-in_default-clause-answer : goal.returns-in_default-clause-answer
 returns-in_default-clause-answer g c =
-    none_told (wraps g.P.Gen.PtrGen.counting g.P.Gen.PtrGen.greatest c.args.self.now.counter) (λ (v : g.row.T.Denot). ((g.P.Ptr.numbers c.args.p).0, raise g.P.Gen.PtrGen.counting g.P.Gen.PtrGen.greatest c.args.self.now.counter)) (look_up c.args.self.now.slots (g.P.Ptr.numbers c.args.p)) (none_of _ (sym c.in_default.ensures.live))
+    none_told (wraps g.P.Gen.PtrGen.generations c.args.self.now.counter) (λ (v : g.row.T.Denot). ((g.P.Ptr.numbers c.args.p).0, raise g.P.Gen.PtrGen.generations c.args.self.now.counter)) (look_up c.args.self.now.slots (g.P.Ptr.numbers c.args.p)) (none_of _ (sym c.in_default.ensures.live))
 
 pub returns-in_default-clause-done : goal.returns-in_default-clause-done
 returns-in_default-clause-done g c live = absurd (true≢false (sym (c.in_default.ensures.live ∙ live)))
@@ -91,12 +91,12 @@ restamp-requires-after_bounds g c κs within =
 pub returns-clause-answer : goal.returns-clause-answer
 returns-clause-answer g c =
     let p : Pointer = g.P.Ptr.numbers c.args.p in
-    let n = raise g.P.Gen.PtrGen.counting g.P.Gen.PtrGen.greatest c.args.self.now.counter in
+    let n = raise g.P.Gen.PtrGen.generations c.args.self.now.counter in
     let found = entry_of_value c.args.self.now.slots p.0 p.1 (sym c.in-Some.ensures.live) in
     let at = g.met.P.Ptr.numbers_of c._from_raw.result
-    ∙ pointer_is _ _ p.0 n (ap g.P.Inx.PtrInx.number (c._from_raw.ensures.index ∙ c.inx.ensures) ∙ sym (ap (λ (q : Pointer). q.0) (g.met.P.Ptr.numbers_of c.args.p))) (ap g.P.Gen.PtrGen.number c._from_raw.ensures.generation ∙ c.generational_inc-counter.ensures.raised ∙ ap (λ (s : ArenaState g.row.T.Denot). raise g.P.Gen.PtrGen.counting g.P.Gen.PtrGen.greatest s.counter) (c.self.view_is ∙ c.in-Some.ensures.unchanged.0)) in
-    told_mapped g.P.Ptr.numbers c.told_valid.result _ (wraps g.P.Gen.PtrGen.counting g.P.Gen.PtrGen.greatest c.args.self.now.counter) (option_map (λ (v : g.row.T.Denot). (p.0, n)) (look_up c.args.self.now.slots p)) c._from_raw.result c.told_valid.ensures
-    (c.generational_inc-counter.ensures.wrapped ∙ ap (λ (s : ArenaState g.row.T.Denot). wraps g.P.Gen.PtrGen.counting g.P.Gen.PtrGen.greatest s.counter) (c.self.view_is ∙ c.in-Some.ensures.unchanged.0))
+    ∙ pointer_is _ _ p.0 n (ap g.P.Inx.PtrInx.number (c._from_raw.ensures.index ∙ c.inx.ensures) ∙ sym (ap (λ (q : Pointer). q.0) (g.met.P.Ptr.numbers_of c.args.p))) (ap g.P.Gen.PtrGen.number c._from_raw.ensures.generation ∙ c.generational_inc-counter.ensures.raised ∙ ap (λ (s : ArenaState g.row.T.Denot). raise g.P.Gen.PtrGen.generations s.counter) (c.self.view_is ∙ c.in-Some.ensures.unchanged.0)) in
+    told_mapped g.P.Ptr.numbers c.told_valid.result _ (wraps g.P.Gen.PtrGen.generations c.args.self.now.counter) (option_map (λ (v : g.row.T.Denot). (p.0, n)) (look_up c.args.self.now.slots p)) c._from_raw.result c.told_valid.ensures
+    (c.generational_inc-counter.ensures.wrapped ∙ ap (λ (s : ArenaState g.row.T.Denot). wraps g.P.Gen.PtrGen.generations s.counter) (c.self.view_is ∙ c.in-Some.ensures.unchanged.0))
     (ap (option_map (λ (v : g.row.T.Denot). (p.0, n))) found.2 ∙ ap Some (sym at))
 
 pub returns-clause-unchanged : goal.returns-clause-unchanged

@@ -15,17 +15,17 @@ use Rattle.triple_arena_traits.specs.laws.HistoryLaws.{Continues-removed, Contin
 use Rattle.triple_arena.proofs.base_arena.ArenaArenaTrait.remove.Goals as goal
 
 pub returns-clause-done : goal.returns-clause-done
-returns-clause-done g c live = removed_after (raise g.P.Gen.PtrGen.counting g.P.Gen.PtrGen.greatest) c.args.self.now c.look_for.new.self c.take-generation.new.self _ _ c.in-Some.ensures.unchanged c.take-generation.ensures.state c.in-Some.ensures.index
+returns-clause-done g c live = removed_after (raise g.P.Gen.PtrGen.generations) c.args.self.now c.look_for.new.self c.take-generation.new.self _ _ c.in-Some.ensures.unchanged c.take-generation.ensures.state c.in-Some.ensures.index
 
 pub returns-clause-history : goal.returns-clause-history
 returns-clause-history g c live counts =
     let p = g.P.Ptr.numbers c.args.p in
-    let left = removed (raise g.P.Gen.PtrGen.counting g.P.Gen.PtrGen.greatest) c.args.self.now p.0 in
+    let left = removed (raise g.P.Gen.PtrGen.generations) c.args.self.now p.0 in
     Continues-touched c.args.self.now left _ (removal p ∷ []) (returns-clause-done g c live)
-    (Continues-removed g.P.Gen.PtrGen.counting g.P.Gen.PtrGen.greatest c.args.self.now left p counts live refl)
+    (Continues-removed g.P.Gen.PtrGen.generations c.args.self.now left p counts live refl)
 
 pub returns-in_default-clause-answer : goal.returns-in_default-clause-answer
-returns-in_default-clause-answer g c = ap (told_of (wraps g.P.Gen.PtrGen.counting g.P.Gen.PtrGen.greatest c.args.self.now.counter)) (sym (none_of _ (sym c.in_default.ensures.live)))
+returns-in_default-clause-answer g c = ap (told_of (wraps g.P.Gen.PtrGen.generations c.args.self.now.counter)) (sym (none_of _ (sym c.in_default.ensures.live)))
 
 pub returns-in_default-clause-done : goal.returns-in_default-clause-done
 returns-in_default-clause-done g c live = absurd (true≢false (sym (c.in_default.ensures.live ∙ live)))
@@ -48,25 +48,25 @@ take-generation-requires-after_bounds g c κs within =
 pub returns-clause-answer : goal.returns-clause-answer
 returns-clause-answer g c =
     let p = g.P.Ptr.numbers c.args.p in
-    told_found _ _ (wraps g.P.Gen.PtrGen.counting g.P.Gen.PtrGen.greatest c.args.self.now.counter) (look_up c.args.self.now.slots p) _ c.told_valid.ensures (c.take-generation.ensures.wrapped ∙ ap (λ (s : ArenaState g.row.T.Denot). wraps g.P.Gen.PtrGen.counting g.P.Gen.PtrGen.greatest s.counter) c.in-Some.ensures.unchanged.0)
+    told_found _ _ (wraps g.P.Gen.PtrGen.generations c.args.self.now.counter) (look_up c.args.self.now.slots p) _ c.told_valid.ensures (c.take-generation.ensures.wrapped ∙ ap (λ (s : ArenaState g.row.T.Denot). wraps g.P.Gen.PtrGen.generations s.counter) c.in-Some.ensures.unchanged.0)
     (value_of_entry c.args.self.now p.0 _ p.1 _ (ap (entry c.args.self.now) (sym c.in-Some.ensures.index) ∙ sym (ap (λ (s : ArenaState g.row.T.Denot). entry s (non_zero_usize_get c.in-Some.inx)) c.in-Some.ensures.unchanged.0) ∙ c.take-generation.ensures.entry) (sym c.in-Some.ensures.live))
 
 pub returns-clause-gone : goal.returns-clause-gone
 returns-clause-gone g c =
     let p = g.P.Ptr.numbers c.args.p in
-    gone_found c.args.self.now.slots _ p (sym c.in-Some.ensures.live) (removed_slots (raise g.P.Gen.PtrGen.counting g.P.Gen.PtrGen.greatest) c.args.self.now p.0 c.take-generation.new.self (returns-clause-done g c (sym c.in-Some.ensures.live)))
+    gone_found c.args.self.now.slots _ p (sym c.in-Some.ensures.live) (removed_slots (raise g.P.Gen.PtrGen.generations) c.args.self.now p.0 c.take-generation.new.self (returns-clause-done g c (sym c.in-Some.ensures.live)))
 
 pub returns-clause-others : goal.returns-clause-others
 returns-clause-others g c =
     let p = g.P.Ptr.numbers c.args.p in
-    rest_found c.args.self.now.slots _ p (sym c.in-Some.ensures.live) (removed_slots (raise g.P.Gen.PtrGen.counting g.P.Gen.PtrGen.greatest) c.args.self.now p.0 c.take-generation.new.self (returns-clause-done g c (sym c.in-Some.ensures.live)))
+    rest_found c.args.self.now.slots _ p (sym c.in-Some.ensures.live) (removed_slots (raise g.P.Gen.PtrGen.generations) c.args.self.now p.0 c.take-generation.new.self (returns-clause-done g c (sym c.in-Some.ensures.live)))
 
 pub returns-clause-unchanged : goal.returns-clause-unchanged
 returns-clause-unchanged g c none = absurd (true≢false (c.in-Some.ensures.live ∙ ap is_some none))
 
 pub returns-clause-bounded : goal.returns-clause-bounded
 returns-clause-bounded g c =
-    omega (arith, c.take-generation.ensures.steps, c.take-generation.ensures.state.1, c.in-Some.ensures.steps, c.in-Some.ensures.unchanged.1, steps_of-removed (raise g.P.Gen.PtrGen.counting g.P.Gen.PtrGen.greatest) c.look_for.new.self (non_zero_usize_get c.in-Some.inx))
+    omega (arith, c.take-generation.ensures.steps, c.take-generation.ensures.state.1, c.in-Some.ensures.steps, c.in-Some.ensures.unchanged.1, steps_of-removed (raise g.P.Gen.PtrGen.generations) c.look_for.new.self (non_zero_usize_get c.in-Some.inx))
 
 pub returns-in_default-clause-bounded : goal.returns-in_default-clause-bounded
 returns-in_default-clause-bounded g c = omega (arith, c.in_default.ensures.steps)

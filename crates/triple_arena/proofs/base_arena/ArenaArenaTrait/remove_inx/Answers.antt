@@ -14,17 +14,17 @@ use Rattle.triple_arena_traits.specs.laws.HistoryLaws.{Continues-removed_inx, Co
 use Rattle.triple_arena.proofs.base_arena.ArenaArenaTrait.remove_inx.Goals as goal
 
 pub returns-clause-done : goal.returns-clause-done
-returns-clause-done g c live = removed_after (raise g.P.Gen.PtrGen.counting g.P.Gen.PtrGen.greatest) c.args.self.now c.look_at.new.self c.take-taken.new.self _ _ c.in-Some.ensures.unchanged c.take-taken.ensures.state c.in-Some.ensures.index
+returns-clause-done g c live = removed_after (raise g.P.Gen.PtrGen.generations) c.args.self.now c.look_at.new.self c.take-taken.new.self _ _ c.in-Some.ensures.unchanged c.take-taken.ensures.state c.in-Some.ensures.index
 
 pub returns-clause-history : goal.returns-clause-history
 returns-clause-history g c generation value here counts =
     let i = g.P.Inx.PtrInx.number c.args.inx in
-    let left = removed (raise g.P.Gen.PtrGen.counting g.P.Gen.PtrGen.greatest) c.args.self.now i in
+    let left = removed (raise g.P.Gen.PtrGen.generations) c.args.self.now i in
     Continues-touched c.args.self.now left _ (removal (i, generation) ∷ []) (returns-clause-done g c (ap is_some here))
-    (Continues-removed_inx g.P.Gen.PtrGen.counting g.P.Gen.PtrGen.greatest c.args.self.now left i generation value here counts (λ some. refl))
+    (Continues-removed_inx g.P.Gen.PtrGen.generations c.args.self.now left i generation value here counts (λ some. refl))
 
 pub returns-in_default-clause-answer : goal.returns-in_default-clause-answer
-returns-in_default-clause-answer g c = ap (told_of (wraps g.P.Gen.PtrGen.counting g.P.Gen.PtrGen.greatest c.args.self.now.counter)) (sym (none_of _ (sym c.in_default.ensures.live)))
+returns-in_default-clause-answer g c = ap (told_of (wraps g.P.Gen.PtrGen.generations c.args.self.now.counter)) (sym (none_of _ (sym c.in_default.ensures.live)))
 
 pub returns-in_default-clause-done : goal.returns-in_default-clause-done
 returns-in_default-clause-done g c live = absurd (true≢false (sym (c.in_default.ensures.live ∙ live)))
@@ -46,23 +46,23 @@ take-taken-requires-after_bounds g c κs within =
 
 pub returns-clause-answer : goal.returns-clause-answer
 returns-clause-answer g c =
-    told_mapped (λ (e : g.row.P-Gen.Denot × g.row.T.Denot). (g.P.Gen.PtrGen.number e.0, e.1)) c.told_valid.result _ (wraps g.P.Gen.PtrGen.counting g.P.Gen.PtrGen.greatest c.args.self.now.counter) (entry c.args.self.now (g.P.Inx.PtrInx.number c.args.inx)) c.take-taken.result.0 c.told_valid.ensures (c.take-taken.ensures.wrapped ∙ ap (λ (s : ArenaState g.row.T.Denot). wraps g.P.Gen.PtrGen.counting g.P.Gen.PtrGen.greatest s.counter) c.in-Some.ensures.unchanged.0)
+    told_mapped (λ (e : g.row.P-Gen.Denot × g.row.T.Denot). (g.P.Gen.PtrGen.number e.0, e.1)) c.told_valid.result _ (wraps g.P.Gen.PtrGen.generations c.args.self.now.counter) (entry c.args.self.now (g.P.Inx.PtrInx.number c.args.inx)) c.take-taken.result.0 c.told_valid.ensures (c.take-taken.ensures.wrapped ∙ ap (λ (s : ArenaState g.row.T.Denot). wraps g.P.Gen.PtrGen.generations s.counter) c.in-Some.ensures.unchanged.0)
     (ap (entry c.args.self.now) (sym c.in-Some.ensures.index) ∙ sym (ap (λ (s : ArenaState g.row.T.Denot). entry s (non_zero_usize_get c.in-Some.inx)) c.in-Some.ensures.unchanged.0) ∙ c.take-taken.ensures.entry)
 
 pub returns-clause-gone : goal.returns-clause-gone
-returns-clause-gone g c = (removed_slots (raise g.P.Gen.PtrGen.counting g.P.Gen.PtrGen.greatest) c.args.self.now (g.P.Inx.PtrInx.number c.args.inx) c.take-taken.new.self (returns-clause-done g c (sym c.in-Some.ensures.live))).there
+returns-clause-gone g c = (removed_slots (raise g.P.Gen.PtrGen.generations) c.args.self.now (g.P.Inx.PtrInx.number c.args.inx) c.take-taken.new.self (returns-clause-done g c (sym c.in-Some.ensures.live))).there
 
 pub returns-clause-others : goal.returns-clause-others
 returns-clause-others g c =
     let inx = g.P.Inx.PtrInx.number c.args.inx in
-    others_found c.args.self.now.slots _ inx None (removed_slots (raise g.P.Gen.PtrGen.counting g.P.Gen.PtrGen.greatest) c.args.self.now inx c.take-taken.new.self (returns-clause-done g c (sym c.in-Some.ensures.live)))
+    others_found c.args.self.now.slots _ inx None (removed_slots (raise g.P.Gen.PtrGen.generations) c.args.self.now inx c.take-taken.new.self (returns-clause-done g c (sym c.in-Some.ensures.live)))
 
 pub returns-clause-unchanged : goal.returns-clause-unchanged
 returns-clause-unchanged g c none = absurd (true≢false (c.in-Some.ensures.live ∙ ap is_some none))
 
 pub returns-clause-bounded : goal.returns-clause-bounded
 returns-clause-bounded g c =
-    omega (arith, c.take-taken.ensures.steps, c.take-taken.ensures.state.1, c.in-Some.ensures.steps, c.in-Some.ensures.unchanged.1, steps_of-removed (raise g.P.Gen.PtrGen.counting g.P.Gen.PtrGen.greatest) c.look_at.new.self (non_zero_usize_get c.in-Some.inx))
+    omega (arith, c.take-taken.ensures.steps, c.take-taken.ensures.state.1, c.in-Some.ensures.steps, c.in-Some.ensures.unchanged.1, steps_of-removed (raise g.P.Gen.PtrGen.generations) c.look_at.new.self (non_zero_usize_get c.in-Some.inx))
 
 pub returns-in_default-clause-bounded : goal.returns-in_default-clause-bounded
 returns-in_default-clause-bounded g c = omega (arith, c.in_default.ensures.steps)

@@ -10,7 +10,7 @@ use Rattle.triple_arena_direct.proofs.strict_arena.StrictArena.compress_recast.G
 pub returns-clause-step : goal.returns-clause-step
 returns-clause-step g c =
     let s : ArenaState g.row.T.Denot = c.self.inside.arena in
-    let allowed = ap (is_exhausted_for_any g.P.Gen.PtrGen.counting g.P.Gen.PtrGen.greatest) c.self.view_is ∙ sym c.is_exhausted_for_any.ensures ∙ c.if-is_exhausted_for_any.false in
+    let allowed = ap (is_exhausted_for_any g.P.Gen.PtrGen.generations) c.self.view_is ∙ sym c.is_exhausted_for_any.ensures ∙ c.if-is_exhausted_for_any.false in
     let done = c.in_ok-answer.ensures.done in
     rw (← c.self.view_is) (done.0, (moved_len s _ _ done.0 done.2 c.in_ok-answer.ensures.len, step_done s _ _ _ _ _ allowed (ap (λ (t : ArenaState g.row.T.Denot). compression (keys s.slots) (keys t.slots) ∷ []) done.2.0) done.2))
 
@@ -19,20 +19,20 @@ returns-clause-maps g c = rw c.allow.ensures (rw (← c.self.view_is) c.in_ok-an
 
 pub returns-clause-history : goal.returns-clause-history
 returns-clause-history g c counts =
-    let allowed = ap (is_exhausted_for_any g.P.Gen.PtrGen.counting g.P.Gen.PtrGen.greatest) c.self.view_is ∙ sym c.is_exhausted_for_any.ensures ∙ c.if-is_exhausted_for_any.false in
+    let allowed = ap (is_exhausted_for_any g.P.Gen.PtrGen.generations) c.self.view_is ∙ sym c.is_exhausted_for_any.ensures ∙ c.if-is_exhausted_for_any.false in
     rw (← c.self.view_is) (c.in_ok-answer.ensures.history refl (counts, allowed))
 
 pub invariant_of-self-2 : goal.invariant_of-self-2
 invariant_of-self-2 g c counts =
-    let allowed = ap (is_exhausted_for_any g.P.Gen.PtrGen.counting g.P.Gen.PtrGen.greatest) c.self.view_is ∙ sym c.is_exhausted_for_any.ensures ∙ c.if-is_exhausted_for_any.false in
+    let allowed = ap (is_exhausted_for_any g.P.Gen.PtrGen.generations) c.self.view_is ∙ sym c.is_exhausted_for_any.ensures ∙ c.if-is_exhausted_for_any.false in
     up_to-continues c.self.inside.arena c.compress_recast.new.this (c.self.invariant counts) (compression (keys c.self.inside.arena.slots) (keys c.compress_recast.new.this.slots) ∷ []) (c.in_ok-answer.ensures.history refl (counts, allowed))
 
 pub returns-clause-gone_for_good : goal.returns-clause-gone_for_good
 returns-clause-gone_for_good g c =
-    let allowed = ap (is_exhausted_for_any g.P.Gen.PtrGen.counting g.P.Gen.PtrGen.greatest) c.self.view_is ∙ sym c.is_exhausted_for_any.ensures ∙ c.if-is_exhausted_for_any.false in
+    let allowed = ap (is_exhausted_for_any g.P.Gen.PtrGen.generations) c.self.view_is ∙ sym c.is_exhausted_for_any.ensures ∙ c.if-is_exhausted_for_any.false in
     rw (← c.self.view_is) (λ counts. all_gone c.self.inside.arena c.compress_recast.new.this (compression (keys c.self.inside.arena.slots) (keys c.compress_recast.new.this.slots)) (c.self.invariant counts) (c.in_ok-answer.ensures.history refl (counts, allowed)) refl)
 
 pub returns-clause-stays_gone : goal.returns-clause-stays_gone
 returns-clause-stays_gone g c =
-    let allowed = ap (is_exhausted_for_any g.P.Gen.PtrGen.counting g.P.Gen.PtrGen.greatest) c.self.view_is ∙ sym c.is_exhausted_for_any.ensures ∙ c.if-is_exhausted_for_any.false in
+    let allowed = ap (is_exhausted_for_any g.P.Gen.PtrGen.generations) c.self.view_is ∙ sym c.is_exhausted_for_any.ensures ∙ c.if-is_exhausted_for_any.false in
     rw (← c.self.view_is) (λ counts. gone-continues c.self.inside.arena c.compress_recast.new.this (c.self.invariant counts) (compression (keys c.self.inside.arena.slots) (keys c.compress_recast.new.this.slots) ∷ []) (c.in_ok-answer.ensures.history refl (counts, allowed)))

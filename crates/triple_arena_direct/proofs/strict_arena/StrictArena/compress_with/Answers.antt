@@ -16,21 +16,21 @@ returns-then-is_exhausted_for_any-clause-step g c =
 pub returns-clause-step : goal.returns-clause-step
 returns-clause-step g c =
     let s : ArenaState g.row.T.Denot = c.self.inside.arena in
-    let allowed = ap (is_exhausted_for_any g.P.Gen.PtrGen.counting g.P.Gen.PtrGen.greatest) c.self.view_is ∙ sym c.is_exhausted_for_any.ensures ∙ c.if-is_exhausted_for_any.false in
+    let allowed = ap (is_exhausted_for_any g.P.Gen.PtrGen.generations) c.self.view_is ∙ sym c.is_exhausted_for_any.ensures ∙ c.if-is_exhausted_for_any.false in
     let moved = c.compress_with-answer.ensures.moved in
     rw (← c.self.view_is) (moved.0, (moved_len s _ _ moved.0 moved.2 c.compress_with-answer.ensures.len, step_done s _ _ _ _ _ allowed (ap (λ (t : ArenaState g.row.T.Denot). compression (keys s.slots) (keys t.slots) ∷ []) moved.2.0) moved.2))
 
 pub invariant_of-self : goal.invariant_of-self
 invariant_of-self g c counts =
-    let allowed = ap (is_exhausted_for_any g.P.Gen.PtrGen.counting g.P.Gen.PtrGen.greatest) c.self.view_is ∙ sym c.is_exhausted_for_any.ensures ∙ c.if-is_exhausted_for_any.false in
+    let allowed = ap (is_exhausted_for_any g.P.Gen.PtrGen.generations) c.self.view_is ∙ sym c.is_exhausted_for_any.ensures ∙ c.if-is_exhausted_for_any.false in
     up_to-continues c.self.inside.arena c.compress_with-answer.new.self (c.self.invariant counts) (compression (keys c.self.inside.arena.slots) (keys c.compress_with-answer.new.self.slots) ∷ []) (c.compress_with-answer.ensures.history refl (counts, allowed))
 
 pub returns-clause-gone_for_good : goal.returns-clause-gone_for_good
 returns-clause-gone_for_good g c =
-    let allowed = ap (is_exhausted_for_any g.P.Gen.PtrGen.counting g.P.Gen.PtrGen.greatest) c.self.view_is ∙ sym c.is_exhausted_for_any.ensures ∙ c.if-is_exhausted_for_any.false in
+    let allowed = ap (is_exhausted_for_any g.P.Gen.PtrGen.generations) c.self.view_is ∙ sym c.is_exhausted_for_any.ensures ∙ c.if-is_exhausted_for_any.false in
     rw (← c.self.view_is) (λ counts. all_gone c.self.inside.arena c.compress_with-answer.new.self (compression (keys c.self.inside.arena.slots) (keys c.compress_with-answer.new.self.slots)) (c.self.invariant counts) (c.compress_with-answer.ensures.history refl (counts, allowed)) refl)
 
 pub returns-clause-stays_gone : goal.returns-clause-stays_gone
 returns-clause-stays_gone g c =
-    let allowed = ap (is_exhausted_for_any g.P.Gen.PtrGen.counting g.P.Gen.PtrGen.greatest) c.self.view_is ∙ sym c.is_exhausted_for_any.ensures ∙ c.if-is_exhausted_for_any.false in
+    let allowed = ap (is_exhausted_for_any g.P.Gen.PtrGen.generations) c.self.view_is ∙ sym c.is_exhausted_for_any.ensures ∙ c.if-is_exhausted_for_any.false in
     rw (← c.self.view_is) (λ counts. gone-continues c.self.inside.arena c.compress_with-answer.new.self (c.self.invariant counts) (compression (keys c.self.inside.arena.slots) (keys c.compress_with-answer.new.self.slots) ∷ []) (c.compress_with-answer.ensures.history refl (counts, allowed)))

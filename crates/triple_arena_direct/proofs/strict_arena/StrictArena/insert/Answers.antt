@@ -13,7 +13,7 @@ invariant_of-self g c counts =
 
 pub returns-clause-step : goal.returns-clause-step
 returns-clause-step g c =
-    rw (← c.self.view_is) (step_inserted g.P.Ptr.numbers g.S.NonZeroInxGenericStack.kind g.P.Gen.PtrGen.counting g.P.Gen.PtrGen.greatest
+    rw (← c.self.view_is) (step_inserted g.P.Ptr.numbers g.S.NonZeroInxGenericStack.kind g.P.Gen.PtrGen.generations
     c.self.inside.arena c.insert.new.self c.args.t c.insert.result c.insert.ensures.valid (λ less. (c.insert.ensures.had_place less).0)
     c.insert.ensures.pointer (counted_inserted (grown g.S.NonZeroInxGenericStack.kind c.self.inside.arena) c.insert.new.self c.args.t c.insert.result c.insert.ensures.inserted) c.insert.ensures.refused)
 

@@ -13,7 +13,7 @@ invariant_of-self g c counts =
 
 pub returns-clause-step : goal.returns-clause-step
 returns-clause-step g c =
-    rw (← c.self.view_is) (step_inserted g.P.Ptr.numbers g.S.NonZeroInxGenericStack.kind g.P.Gen.PtrGen.counting g.P.Gen.PtrGen.greatest
+    rw (← c.self.view_is) (step_inserted g.P.Ptr.numbers g.S.NonZeroInxGenericStack.kind g.P.Gen.PtrGen.generations
     c.self.inside.arena c.insert_reallocating.new.self c.args.t c.insert_reallocating.result c.insert_reallocating.ensures.valid (λ less. (c.insert_reallocating.ensures.had_place less).0)
     c.insert_reallocating.ensures.pointer (counted_inserted (grown g.S.NonZeroInxGenericStack.kind c.self.inside.arena) c.insert_reallocating.new.self c.args.t c.insert_reallocating.result c.insert_reallocating.ensures.inserted) c.insert_reallocating.ensures.refused)
 

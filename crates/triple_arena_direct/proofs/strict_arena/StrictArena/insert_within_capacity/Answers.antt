@@ -12,7 +12,7 @@ invariant_of-self g c counts =
 
 pub returns-clause-step : goal.returns-clause-step
 returns-clause-step g c =
-    rw (← c.self.view_is) (step_inserted g.P.Ptr.numbers g.S.NonZeroInxGenericStack.kind g.P.Gen.PtrGen.counting g.P.Gen.PtrGen.greatest
+    rw (← c.self.view_is) (step_inserted g.P.Ptr.numbers g.S.NonZeroInxGenericStack.kind g.P.Gen.PtrGen.generations
     c.self.inside.arena c.insert_within_capacity.new.self c.args.t c.insert_within_capacity.result c.insert_within_capacity.ensures.valid c.insert_within_capacity.ensures.variant.1
     c.insert_within_capacity.ensures.pointer (grown_inserted g.S.NonZeroInxGenericStack.kind c.self.inside.arena c.insert_within_capacity.new.self c.args.t c.insert_within_capacity.result c.insert_within_capacity.ensures.variant.0
     (counted_inserted c.self.inside.arena c.insert_within_capacity.new.self c.args.t c.insert_within_capacity.result c.insert_within_capacity.ensures.inserted)) c.insert_within_capacity.ensures.refused)

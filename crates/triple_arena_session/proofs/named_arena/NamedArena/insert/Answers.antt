@@ -23,7 +23,7 @@ returns-in-Ok-insert g c =
     (c.push.ensures.number ∙ ap (λ (l : List g.row.P.Denot). length l + 1) c.in-Ok.ensures.items)
     (c.push.ensures.items ∙ ap (λ (l : List g.row.P.Denot). l ++ c.in-Ok-insert.p ∷ []) c.in-Ok.ensures.items)
     (c.push.ensures.room ∙ c.in-Ok.ensures.grown)
-    ∙ sym (ap (insert_answer kind g.P.Gen.PtrGen.counting g.P.Gen.PtrGen.greatest s c.args.datum) link ∙ ap (λ w. insert_unless kind g.P.Gen.PtrGen.counting g.P.Gen.PtrGen.greatest w s c.args.datum (option_map g.P.Ptr.numbers c.in-Some.target)) clear)
+    ∙ sym (ap (insert_answer kind g.P.Gen.PtrGen.generations s c.args.datum) link ∙ ap (λ w. insert_unless kind g.P.Gen.PtrGen.generations w s c.args.datum (option_map g.P.Ptr.numbers c.in-Some.target)) clear)
 
 pub returns-in-Err : goal.returns-in-Err
 returns-in-Err g c =
@@ -34,19 +34,19 @@ returns-in-Err g c =
 pub returns-in_default : goal.returns-in_default
 returns-in_default g c =
     let link : link_pointer c.args.self.now.table c.args.link ≡ None = sym c.link_pointer.ensures ∙ ap (option_map (option_map g.P.Ptr.numbers)) c.in_default.is in
-    sym (ap (insert_answer g.S.NonZeroInxGenericStack.kind g.P.Gen.PtrGen.counting g.P.Gen.PtrGen.greatest c.args.self.now c.args.datum) link)
+    sym (ap (insert_answer g.S.NonZeroInxGenericStack.kind g.P.Gen.PtrGen.generations c.args.self.now c.args.datum) link)
 
 pub returns-in-Some-BeyondMaxCapacity : goal.returns-in-Some-BeyondMaxCapacity
 returns-in-Some-BeyondMaxCapacity g c =
     let link : link_pointer c.args.self.now.table c.args.link ≡ Some (option_map g.P.Ptr.numbers c.in-Some.target) = sym c.link_pointer.ensures ∙ ap (option_map (option_map g.P.Ptr.numbers)) c.in-Some.is in
     let why : refusal c.args.self.now.arena ≡ Some refused.BeyondMaxCapacity = sym c.in-Some-BeyondMaxCapacity.ensures.why ∙ ap Some c.in-Some-BeyondMaxCapacity.field-0-is in
-    sym (ap (insert_answer g.S.NonZeroInxGenericStack.kind g.P.Gen.PtrGen.counting g.P.Gen.PtrGen.greatest c.args.self.now c.args.datum) link ∙ ap (λ w. insert_unless g.S.NonZeroInxGenericStack.kind g.P.Gen.PtrGen.counting g.P.Gen.PtrGen.greatest w c.args.self.now c.args.datum (option_map g.P.Ptr.numbers c.in-Some.target)) why)
+    sym (ap (insert_answer g.S.NonZeroInxGenericStack.kind g.P.Gen.PtrGen.generations c.args.self.now c.args.datum) link ∙ ap (λ w. insert_unless g.S.NonZeroInxGenericStack.kind g.P.Gen.PtrGen.generations w c.args.self.now c.args.datum (option_map g.P.Ptr.numbers c.in-Some.target)) why)
 
 pub returns-in-Some-AllocError : goal.returns-in-Some-AllocError
 returns-in-Some-AllocError g c =
     let link : link_pointer c.args.self.now.table c.args.link ≡ Some (option_map g.P.Ptr.numbers c.in-Some.target) = sym c.link_pointer.ensures ∙ ap (option_map (option_map g.P.Ptr.numbers)) c.in-Some.is in
     let why : refusal c.args.self.now.arena ≡ Some refused.AllocError = sym c.in-Some-AllocError.ensures.why ∙ ap Some c.in-Some-AllocError.field-0-is in
-    inl (sym (ap (insert_answer g.S.NonZeroInxGenericStack.kind g.P.Gen.PtrGen.counting g.P.Gen.PtrGen.greatest c.args.self.now c.args.datum) link ∙ ap (λ w. insert_unless g.S.NonZeroInxGenericStack.kind g.P.Gen.PtrGen.counting g.P.Gen.PtrGen.greatest w c.args.self.now c.args.datum (option_map g.P.Ptr.numbers c.in-Some.target)) why))
+    inl (sym (ap (insert_answer g.S.NonZeroInxGenericStack.kind g.P.Gen.PtrGen.generations c.args.self.now c.args.datum) link ∙ ap (λ w. insert_unless g.S.NonZeroInxGenericStack.kind g.P.Gen.PtrGen.generations w c.args.self.now c.args.datum (option_map g.P.Ptr.numbers c.in-Some.target)) why))
 
 pub returns-in_default-make_room : goal.returns-in_default-make_room
 returns-in_default-make_room g c =

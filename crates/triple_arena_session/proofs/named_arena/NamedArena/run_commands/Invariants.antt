@@ -5,7 +5,7 @@ use Rattle.triple_arena_session.proofs.named_arena.NamedArena.run_commands.Given
 
 abbrev pub invariant-commands : goal.invariant-commands
 invariant-commands g l = record {
-  ran : IsRun (IsStepOf g.A.SessionArena.strict g.S.NonZeroInxGenericStack.kind g.S.NonZeroInxGenericStack.has_memory g.P.Gen.PtrGen.counting g.P.Gen.PtrGen.greatest) l.initial.self (take l.command-index l.commands) l.replies.items l.self;
+  ran : IsRun (IsStepOf g.A.SessionArena.strict g.S.NonZeroInxGenericStack.kind g.S.NonZeroInxGenericStack.has_memory g.P.Gen.PtrGen.generations) l.initial.self (take l.command-index l.commands) l.replies.items l.self;
   told : TellsOfNoWrap l.replies.items;
   count : length l.replies.items ≡ l.command-index;
   room : length l.commands ≤ vec_capacity l.replies;

@@ -11,4 +11,4 @@ returns-clause-over g c =
 
 pub returns-clause-within : goal.returns-clause-within
 returns-clause-within g c =
-    subst (λ s. s.arena.counter ≤ g.P.Gen.PtrGen.greatest) c.self.view_is c.is_at_greatest-is_at_greatest.ensures.within
+    subst (λ s. s.arena.counter ≤ g.P.Gen.PtrGen.generations.greatest) c.self.view_is c.is_at_greatest-is_at_greatest.ensures.within

@@ -5,4 +5,4 @@ use Rattle.triple_arena_session.proofs.session_arena.ArenaSessionArena.compress_
 
 pub returns-clause-done : goal.returns-clause-done
 returns-clause-done g c =
-    uncounted-compressed c.compress_recast.result c.args.self.now c.compress_recast.new.this (raised_if_any (raise g.P.Gen.PtrGen.counting g.P.Gen.PtrGen.greatest) c.args.self.now) _ c.compress_recast.ensures.done
+    uncounted-compressed c.compress_recast.result c.args.self.now c.compress_recast.new.this (raised_if_any (raise g.P.Gen.PtrGen.generations) c.args.self.now) _ c.compress_recast.ensures.done

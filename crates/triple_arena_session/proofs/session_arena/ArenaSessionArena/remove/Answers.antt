@@ -5,7 +5,7 @@ use Rattle.triple_arena_session.proofs.Uncounted.{uncounted-removed}
 use Rattle.triple_arena_session.proofs.session_arena.ArenaSessionArena.remove.Goals as goal
 
 pub returns-clause-done : goal.returns-clause-done
-returns-clause-done g c live = ap uncounted (c.remove.ensures.done live).0 ∙ uncounted-removed (raise g.P.Gen.PtrGen.counting g.P.Gen.PtrGen.greatest) c.args.self.now (g.P.Ptr.numbers c.args.p).0
+returns-clause-done g c live = ap uncounted (c.remove.ensures.done live).0 ∙ uncounted-removed (raise g.P.Gen.PtrGen.generations) c.args.self.now (g.P.Ptr.numbers c.args.p).0
 
 pub returns-clause-unchanged : goal.returns-clause-unchanged
 returns-clause-unchanged g c none = ap uncounted (c.remove.ensures.unchanged none).0

@@ -13,7 +13,7 @@ returns-clause-moved g c = rw c.renew_counter-answer.ensures.state at c.close_up
 pub returns-clause-keys : goal.returns-clause-keys
 returns-clause-keys g c =
     let m = returns-clause-moved g c in
-    compressed_keys c.args.self.now c.close_up.new.self (counter_after (first_generation g.P.Gen.PtrGen.counting) (raise g.P.Gen.PtrGen.counting g.P.Gen.PtrGen.greatest) c.args.reset_generation c.args.self.now) m.0 m.2
+    compressed_keys c.args.self.now c.close_up.new.self (counter_after (first_generation g.P.Gen.PtrGen.generations) (raise g.P.Gen.PtrGen.generations) c.args.reset_generation c.args.self.now) m.0 m.2
     (count-moved g.P.Ptr.numbers (goal.F-step g) _ c.args.f c.args.self.now.slots m.0 m.1)
 
 pub returns-clause-len : goal.returns-clause-len
@@ -28,7 +28,7 @@ returns-clause-capacity g c = ap capacity (returns-clause-moved g c).2.0
 pub returns-clause-history : goal.returns-clause-history
 returns-clause-history g c kept counts =
     let m = returns-clause-moved g c in
-    compressed_goes_on g.P.Gen.PtrGen.counting g.P.Gen.PtrGen.greatest c.args.self.now c.close_up.new.self (first_generation g.P.Gen.PtrGen.counting) c.args.reset_generation m.0 kept counts
+    compressed_goes_on g.P.Gen.PtrGen.generations c.args.self.now c.close_up.new.self (first_generation g.P.Gen.PtrGen.generations) c.args.reset_generation m.0 kept counts
     (count-moved g.P.Ptr.numbers (goal.F-step g) _ c.args.f c.args.self.now.slots m.0 m.1) m.2
 
 pub returns-clause-begun : goal.returns-clause-begun

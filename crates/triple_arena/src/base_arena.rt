@@ -140,15 +140,13 @@ impl<P: Ptr, T, S: NonZeroInxGenericStack<ArenaSlot<P, T>>> ArenaTrait<P, T> for
     ghost unchanged = { IsTouched };
 
     // the counter is raised, and the entry has it as its generation
-    ghost invalidates = { λ old i new.
-        IsTouched (invalidated (raise P.Gen.generations) old i) new };
+    ghost invalidates = { λ old i new. IsTouched (invalidated (raise P.Gen.generations) old i) new };
 
     // the raised counter
     ghost renewed = { λ s _. raise P.Gen.generations s.counter };
 
     // the counter is raised; the last slot goes, and any other becomes the first free one
-    ghost removes = { λ old i new.
-        IsTouched (removed (raise P.Gen.generations) old i) new };
+    ghost removes = { λ old i new. IsTouched (removed (raise P.Gen.generations) old i) new };
 
     // the counter is the greatest generation
     ghost ending_wraps = { λ s. wraps P.Gen.generations s.counter };
@@ -157,8 +155,7 @@ impl<P: Ptr, T, S: NonZeroInxGenericStack<ArenaSlot<P, T>>> ArenaTrait<P, T> for
     ghost clears = { λ old new. new ≡ cleared (raise P.Gen.generations) old };
 
     // there was an entry, and the counter is the greatest generation
-    ghost clearing_wraps = { λ s. cond (arena_len s == 0) false
-        (wraps P.Gen.generations s.counter) };
+    ghost clearing_wraps = { λ s. cond (arena_len s == 0) false (wraps P.Gen.generations s.counter) };
 
     // the free list is tidied, and then the room is changed as the stack's kind does it
     ghost reallocates = { λ old m new. IsTouched (reallocated S.kind old m) new };
@@ -333,15 +330,12 @@ impl<P: Ptr, T, S: NonZeroInxGenericStack<ArenaSlot<P, T>>> ArenaTrait<P, T> for
 
     ghost generation_unchanged = { λ _ _ same. ap (λ s. Some s.counter) same.0 };
 
-    ghost renewed_unchanged = { λ _ _ _ same.
-        ap (λ s. raise P.Gen.generations s.counter) same.0 };
+    ghost renewed_unchanged = { λ _ _ _ same. ap (λ s. raise P.Gen.generations s.counter) same.0 };
 
-    ghost ending_wraps_unchanged = { λ _ _ same.
-        ap (λ s. wraps P.Gen.generations s.counter) same.0 };
+    ghost ending_wraps_unchanged = { λ _ _ same. ap (λ s. wraps P.Gen.generations s.counter) same.0 };
 
     ghost clearing_wraps_unchanged = { λ _ _ same.
-        ap (λ s. cond (arena_len s == 0) false (wraps P.Gen.generations s.counter))
-        same.0 };
+        ap (λ s. cond (arena_len s == 0) false (wraps P.Gen.generations s.counter)) same.0 };
 
     ghost keeps_room_unchanged = { λ _ _ m same. subst (λ s. KeepsRoom S.kind s m) (sym same.0) };
 
@@ -498,9 +492,8 @@ impl<P: Ptr, T, S: NonZeroInxGenericStack<ArenaSlot<P, T>>> Arena<P, T, S> {
     /// begins anew at 2, and the answer tells of that wrap.
     pub fn inc_generation(&mut self) -> InvalidationOption<()>
         ensures answer { result ≡ told (wraps P.Gen.generations self.old.counter) tt }
-        ensures state { self.new ≡ record self.old {
-          counter = raise P.Gen.generations self.old.counter;
-        } }
+        ensures state { self.new
+            ≡ record self.old { counter = raise P.Gen.generations self.old.counter } }
         ensures history { CountsUp P.Gen.generations (wraps P.Gen.generations
             self.old.counter) → Continues Fits self.old [] self.new }
     {

@@ -134,7 +134,7 @@ module _ {X : Type 0} where
 
   -- a step: a command, its reply and the store after it. It is the answer, or a refusal for want of memory, which changes
   -- nothing
-  abbrev pub IsStoreStep : Store X → Command X → Reply X → Store X → Type 0
+  abbrev pub IsStoreStep : (before : Store X) (command : Command X) (reply : Reply X) (after : Store X) → Type 0
   IsStoreStep s (Reserve m) reply t = ReservesRows s m reply t
   IsStoreStep s Show reply t = IsShown reply × (t ≡ s)
   IsStoreStep s command NoMemory t = ((NoMemory, t) ≡ store_answer s command) ⊎ (RowWantsMemory s command × (t ≡ s))

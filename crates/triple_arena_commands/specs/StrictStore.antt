@@ -60,5 +60,5 @@ module _ {X : Type 0} where
   IsCountedStep s command reply t = IsStoreStep s.store command reply t.store × (t.left + used s.store command reply ≡ s.left)
 
   -- a step of the strict store: refused exactly where the command needs a raise and none is left
-  abbrev pub IsStrictStoreStep : StrictStore X → Command X → Reply X → StrictStore X → Type 0
+  abbrev pub IsStrictStoreStep : (before : StrictStore X) (command : Command X) (reply : Reply X) (after : StrictStore X) → Type 0
   IsStrictStoreStep = IsStrictly is_spent IsCountedStep

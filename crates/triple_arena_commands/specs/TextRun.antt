@@ -34,28 +34,28 @@ module _ {S : Type 0} (Step : S → Command ℕ → Reply ℕ → S → Type 0) 
   RunsLines lines replies s t = (commands : List (Command ℕ)) × StandFor lines commands × IsRun Step s commands replies t
 
   -- they ran, no reply told of a wrap, and the reply lines were written.
-  abbrev pub AnswersLines : List (List ℕ) → S → S → Option (List ℕ) → Option (List ℕ) → Type 0
+  abbrev pub AnswersLines : (lines : List (List ℕ)) (before after : S) (old new : Option (List ℕ)) → Type 0
   AnswersLines lines s t old new = (replies : List (Reply ℕ)) × RunsLines lines replies s t × TellsOfNoWrap replies × Appends old new (reply_lines replies)
 
   -- they ran, the last reply, and no other, told of a wrap, and the reply lines were written.
-  abbrev pub AnswersToWrap : List (List ℕ) → S → S → Option (List ℕ) → Option (List ℕ) → Type 0
+  abbrev pub AnswersToWrap : (lines : List (List ℕ)) (before after : S) (old new : Option (List ℕ)) → Type 0
   AnswersToWrap lines s t old new = (replies : List (Reply ℕ)) × RunsLines lines replies s t × EndsInWrap replies × Appends old new (reply_lines replies)
 
   -- all lines were answered, or those up to the first reply that told of a wrap.
-  abbrev pub RunsThrough : List (List ℕ) → S → S → Option (List ℕ) → Option (List ℕ) → Type 0
+  abbrev pub RunsThrough : (lines : List (List ℕ)) (before after : S) (old new : Option (List ℕ)) → Type 0
   RunsThrough lines s t old new = AnswersLines lines s t old new ⊎ ((count : ℕ) × AnswersToWrap (take count lines) s t old new)
 
   -- the lines before line n were answered, and line n stands for no command.
-  abbrev pub StopsAtLine : ℕ → List (List ℕ) → S → S → Option (List ℕ) → Option (List ℕ) → Type 0
+  abbrev pub StopsAtLine : (n : ℕ) (lines : List (List ℕ)) (before after : S) (old new : Option (List ℕ)) → Type 0
   StopsAtLine n lines s t old new = IsMalformed lines n × AnswersLines (take (n - 1) lines) s t old new
 
   -- the first lines ran, at least one command among them, and no reply but the last told of a wrap. Of the reply lines all
   -- were written but the last, of which a front was, and not all.
-  abbrev pub StopsAtReply : List (List ℕ) → S → S → Option (List ℕ) → Option (List ℕ) → Type 0
+  abbrev pub StopsAtReply : (lines : List (List ℕ)) (before after : S) (old new : Option (List ℕ)) → Type 0
   StopsAtReply lines s t old new = (count : ℕ) × (before : List (Reply ℕ)) × (last : Reply ℕ) × RunsLines (take count lines) (before ++ last ∷ []) s t × TellsOfNoWrap before × AppendsCut old new (reply_lines before) (reply_line last)
 
   -- what a run did, by its outcome. The text is what the reader had left, where the reader tells it.
-  abbrev pub IsTextRun : Option (List ℕ) → Result (Unit {0}) TextError → S → S → Option (List ℕ) → Option (List ℕ) → Type 0
+  abbrev pub IsTextRun : (text : Option (List ℕ)) (outcome : Result (Unit {0}) TextError) (before after : S) (old new : Option (List ℕ)) → Type 0
   IsTextRun text (Ok done) s t old new = IfSome text (λ bytes. RunsThrough (lines_of bytes) s t old new)
   IsTextRun text (Err (Malformed n)) s t old new = IfSome text (λ bytes. StopsAtLine n (lines_of bytes) s t old new)
   IsTextRun text (Err Write) s t old new = IfSome text (λ bytes. StopsAtReply (lines_of bytes) s t old new)
@@ -64,12 +64,12 @@ module _ {S : Type 0} (Step : S → Command ℕ → Reply ℕ → S → Type 0) 
 
   -- the commands of the first lines ran, or none did, and no reply but the last told of a wrap. A front of their reply
   -- lines was written.
-  abbrev pub RunsSome : List (List ℕ) → S → S → Option (List ℕ) → Option (List ℕ) → Type 0
+  abbrev pub RunsSome : (lines : List (List ℕ)) (before after : S) (old new : Option (List ℕ)) → Type 0
   RunsSome lines s t old new = (count : ℕ) × (replies : List (Reply ℕ)) × RunsLines (take count lines) replies s t × (TellsOfNoWrap replies ⊎ EndsInWrap replies) × AppendsFront old new (reply_lines replies)
 
   -- the same of a run whose writer was flushed after it: where a write or the flush failed, replies that were gathered may
   -- not have gone out.
-  abbrev pub IsFlushedRun : Option (List ℕ) → Result (Unit {0}) TextError → S → S → Option (List ℕ) → Option (List ℕ) → Type 0
+  abbrev pub IsFlushedRun : (text : Option (List ℕ)) (outcome : Result (Unit {0}) TextError) (before after : S) (old new : Option (List ℕ)) → Type 0
   IsFlushedRun text (Err Write) s t old new = IfSome text (λ bytes. RunsSome (lines_of bytes) s t old new)
   IsFlushedRun text outcome s t old new = IsTextRun text outcome s t old new
 

@@ -21,28 +21,28 @@ abbrev pub first_session : ℕ → Option ℕ → SessionState ℕ
 first_session room limit = new_session (new_arena room limit (greatest_index greatest) (first_generation (counting_to greatest)))
 
 -- the text ran over a stack of this kind, where memory is there for such requests, from this session
-abbrev pub RunsOver : StackKind → (ℕ → Type 0) → SessionState ℕ → Option (List ℕ) → Result (Unit {0}) TextError → Option (List ℕ) → Option (List ℕ) → Type 0
+abbrev pub RunsOver : (kind : StackKind) (has_memory : ℕ → Type 0) (first : SessionState ℕ) (text : Option (List ℕ)) (outcome : Result (Unit {0}) TextError) (old new : Option (List ℕ)) → Type 0
 RunsOver kind has_memory first text outcome old new = (last : SessionState ℕ) × IsFlushedRun (IsStep kind has_memory (counting_to greatest)) text outcome first last old new
 
 -- the text ran in the session over the stack that the program's arguments ask for
-abbrev pub RunsKind : Kind → Option (List ℕ) → Result (Unit {0}) TextError → Option (List ℕ) → Option (List ℕ) → Type 0
+abbrev pub RunsKind : Kind → (text : Option (List ℕ)) (outcome : Result (Unit {0}) TextError) (old new : Option (List ℕ)) → Type 0
 RunsKind Heap = RunsOver heap (λ _. ⊥) (first_session 0 None)
 RunsKind (Limited n) = RunsOver limited (λ _. ⊥) (first_session n (Some n))
 RunsKind (Fixed n) = RunsOver fixed (λ _. ⊥) (first_session n (Some n))
 RunsKind Array = RunsOver (array 8) (λ _. Unit {0}) (first_session 8 (Some 8))
 
 -- the same of a strict session, whose run no wrap ends
-abbrev pub RunsStrictlyOver : StackKind → (ℕ → Type 0) → SessionState ℕ → Option (List ℕ) → Result (Unit {0}) TextError → Option (List ℕ) → Option (List ℕ) → Type 0
+abbrev pub RunsStrictlyOver : (kind : StackKind) (has_memory : ℕ → Type 0) (first : SessionState ℕ) (text : Option (List ℕ)) (outcome : Result (Unit {0}) TextError) (old new : Option (List ℕ)) → Type 0
 RunsStrictlyOver kind has_memory first text outcome old new = (last : SessionState ℕ) × IsWholeFlushedRun (IsStrictSessionStep kind has_memory (counting_to greatest)) text outcome first last old new
 
 -- the text ran in the strict session over the stack that the program's arguments ask for
-abbrev pub RunsKindStrictly : Kind → Option (List ℕ) → Result (Unit {0}) TextError → Option (List ℕ) → Option (List ℕ) → Type 0
+abbrev pub RunsKindStrictly : Kind → (text : Option (List ℕ)) (outcome : Result (Unit {0}) TextError) (old new : Option (List ℕ)) → Type 0
 RunsKindStrictly Heap = RunsStrictlyOver heap (λ _. ⊥) (first_session 0 None)
 RunsKindStrictly (Limited n) = RunsStrictlyOver limited (λ _. ⊥) (first_session n (Some n))
 RunsKindStrictly (Fixed n) = RunsStrictlyOver fixed (λ _. ⊥) (first_session n (Some n))
 RunsKindStrictly Array = RunsStrictlyOver (array 8) (λ _. Unit {0}) (first_session 8 (Some 8))
 
 -- the text ran in the session that the program's arguments ask for, a strict one or not
-abbrev pub RunsMode : Bool × Kind → Option (List ℕ) → Result (Unit {0}) TextError → Option (List ℕ) → Option (List ℕ) → Type 0
+abbrev pub RunsMode : Bool × Kind → (text : Option (List ℕ)) (outcome : Result (Unit {0}) TextError) (old new : Option (List ℕ)) → Type 0
 RunsMode (false, kind) = RunsKind kind
 RunsMode (true, kind) = RunsKindStrictly kind

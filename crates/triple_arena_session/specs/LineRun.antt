@@ -16,14 +16,14 @@ module _ {S : Type 0} (Step : S → Command ℕ → Reply ℕ → S → Type 0) 
   RunsCommand line reply s t = (command : Command ℕ) × (command_of line ≡ Some command) × Step s command reply t
 
   -- a line that has bytes.
-  abbrev pub CommandEnds : LineEnd → List ℕ → S → S → Option (List ℕ) → Option (List ℕ) → Type 0
+  abbrev pub CommandEnds : (end : LineEnd) (line : List ℕ) (before after : S) (old new : Option (List ℕ)) → Type 0
   CommandEnds Answered line s t old new = (reply : Reply ℕ) × RunsCommand line reply s t × (tells_of_wrap reply ≡ false) × Appends old new (reply_line reply)
   CommandEnds Wrapped line s t old new = (reply : Reply ℕ) × RunsCommand line reply s t × (tells_of_wrap reply ≡ true) × Appends old new (reply_line reply)
   CommandEnds Malformed line s t old new = (command_of line ≡ None) × (t ≡ s) × (new ≡ old)
   CommandEnds Unwritten line s t old new = (reply : Reply ℕ) × RunsCommand line reply s t × AppendsCut old new [] (reply_line reply)
 
   -- any line.
-  abbrev pub LineEnds : LineEnd → List ℕ → S → S → Option (List ℕ) → Option (List ℕ) → Type 0
+  abbrev pub LineEnds : (end : LineEnd) (line : List ℕ) (before after : S) (old new : Option (List ℕ)) → Type 0
   LineEnds Answered line s t old new = AnswersLines Step (line ∷ []) s t old new
   LineEnds Wrapped line s t old new = AnswersToWrap Step (line ∷ []) s t old new
   LineEnds Malformed line s t old new = (has_bytes line ≡ true) × (command_of line ≡ None) × (t ≡ s) × (new ≡ old)

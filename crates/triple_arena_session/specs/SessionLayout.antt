@@ -1,5 +1,6 @@
 -- What the fields of a session hold, and a step of its body, strict or not. No public clause cites this module.
 use Rattle.std.specs.Prelude.{ℕ, ◌&&◌, Bool, List, map}
+use Rattle.triple_arena_ptr.specs.Numbers.{Generations}
 use Rattle.triple_arena_ptr.specs.Pointers.{Pointer}
 use Rattle.triple_arena_stack.specs.StackKind.{StackKind}
 use Rattle.triple_arena_traits.specs.ArenaState.{ArenaState, map_values}
@@ -21,9 +22,9 @@ session_of pointer arena table room = record { arena = map_values (node_of point
 
 module _ {X : Type 0} where
   -- whether a session refuses a command for want of a raise, which a strict one alone does
-  abbrev pub refuses : Bool → Bool → ℕ → SessionState X → Command X → Bool
+  abbrev pub refuses : (strict : Bool) (generations : Generations) → SessionState X → Command X → Bool
   refuses strict generations s command = strict && is_refused generations s command
 
   -- a step of a session that is strict, or is not
-  abbrev pub IsStepOf : Bool → StackKind → (ℕ → Type 0) → Bool → ℕ → SessionState X → Command X → Reply X → SessionState X → Type 0
+  abbrev pub IsStepOf : (strict : Bool) (kind : StackKind) (has_memory : ℕ → Type 0) (generations : Generations) (before : SessionState X) (command : Command X) (reply : Reply X) (after : SessionState X) → Type 0
   IsStepOf strict kind has_memory generations = IsStrictly (refuses strict generations) (IsStep kind has_memory generations)

@@ -175,7 +175,7 @@ module _ {X : Type 0} (kind : StackKind) (has_memory : ℕ → Type 0) where
 
 module _ {X : Type 0} (kind : StackKind) (has_memory : ℕ → Type 0) (generations : Generations) where
   -- a command, its reply and the session after it: the answer, or a refusal for want of memory
-  abbrev pub IsStep : SessionState X → Command X → Reply X → SessionState X → Type 0
+  abbrev pub IsStep : (before : SessionState X) (command : Command X) (reply : Reply X) (after : SessionState X) → Type 0
   IsStep s command NoMemory t =
       ((NoMemory, t) ≡ answer kind generations None s command) ⊎ WantsMemory kind has_memory s command t
   IsStep s command reply t = (reply, t) ≡ answer kind generations (shown_text reply) s command

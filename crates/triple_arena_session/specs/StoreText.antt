@@ -33,7 +33,7 @@ WritesAsStore s Ends lines old new =
 
 -- so it was with all lines of the text, or those up to the first reply that told of a wrap; or with the lines before the
 -- first malformed one
-abbrev pub IsStoreText : Store ℕ → Option (List ℕ) → Result (Unit {0}) TextError → Option (List ℕ) → Option (List ℕ) → Type 0
+abbrev pub IsStoreText : (store : Store ℕ) (text : Option (List ℕ)) (outcome : Result (Unit {0}) TextError) (old new : Option (List ℕ)) → Type 0
 IsStoreText s text (Ok done) old new =
     IfSome text (λ bytes.
     WritesAsStore s TellsOfNoWrap (lines_of bytes) old new ⊎ ((count : ℕ) × WritesAsStore s EndsInWrap (take count (lines_of bytes)) old new))
@@ -43,7 +43,7 @@ IsStoreText s text outcome old new = Unit {0}
 
 -- the commands that these lines stand for took the store from s to t, no reply told of a wrap, and the reply lines were
 -- written
-abbrev pub BringsStore : Store ℕ → Store ℕ → List (List ℕ) → Option (List ℕ) → Option (List ℕ) → Type 0
+abbrev pub BringsStore : (before after : Store ℕ) (lines : List (List ℕ)) (old new : Option (List ℕ)) → Type 0
 BringsStore s t lines old new =
     (commands : List (Command ℕ)) × (replies : List (Reply ℕ)) × StandFor lines commands × IsRun IsStoreStep s commands replies t × TellsOfNoWrap replies
     × Appends old new (reply_lines replies)
@@ -52,7 +52,7 @@ module _ (Step : SessionState ℕ → Command ℕ → Reply ℕ → SessionState
   -- what a run leaves of a sound session: it is sound, and shows what the lines that ran made of the store. Where the text's
   -- own commands, up to some line, were answered so that the last reply told of a wrap, no more is said, nor where the writer
   -- failed
-  abbrev pub LeavesStore : Option (List ℕ) → Result (Unit {0}) TextError → SessionState ℕ → SessionState ℕ → Option (List ℕ) → Option (List ℕ) → Type 0
+  abbrev pub LeavesStore : (text : Option (List ℕ)) (outcome : Result (Unit {0}) TextError) (before after : SessionState ℕ) (old new : Option (List ℕ)) → Type 0
   LeavesStore text (Ok done) s t old new =
       IfSome text (λ bytes.
       (IsSound t × BringsStore (shown s) (shown t) (lines_of bytes) old new) ⊎ ((count : ℕ) × AnswersToWrap Step (take count (lines_of bytes)) s t old new))

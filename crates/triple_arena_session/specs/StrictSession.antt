@@ -1,6 +1,6 @@
 -- What each command makes of a strict session, and the strict store that it shows.
 use Rattle.std.specs.Prelude.{ℕ, ◌-◌, ◌&&◌, Bool, is_some}
-use Rattle.triple_arena_ptr.specs.Numbers.{wraps}
+use Rattle.triple_arena_ptr.specs.Numbers.{Generations, wraps}
 use Rattle.triple_arena_stack.specs.StackKind.{StackKind}
 use Rattle.triple_arena_traits.specs.ArenaState.{arena_len}
 use Rattle.triple_arena_commands.specs.declared.command.Command.{Command}
@@ -16,13 +16,13 @@ module _ {X : Type 0} where
   raises_counter s command = raises (λ name. is_some (named s name)) (arena_len s.arena) command
 
   -- whether a strict session refuses a command: it would raise a counter that stands at the greatest generation
-  abbrev pub is_refused : Bool → ℕ → SessionState X → Command X → Bool
+  abbrev pub is_refused : Generations → SessionState X → Command X → Bool
   is_refused generations s command = wraps generations s.arena.counter && raises_counter s command
 
   -- a command, its reply and the strict session after it: the refusal, and nothing changes, or a step as of any session
-  abbrev pub IsStrictSessionStep : StackKind → (ℕ → Type 0) → Bool → ℕ → SessionState X → Command X → Reply X → SessionState X → Type 0
+  abbrev pub IsStrictSessionStep : (kind : StackKind) (has_memory : ℕ → Type 0) (generations : Generations) (before : SessionState X) (command : Command X) (reply : Reply X) (after : SessionState X) → Type 0
   IsStrictSessionStep kind has_memory generations = IsStrictly (is_refused generations) (IsStep kind has_memory generations)
 
   -- the strict store that a session shows: its counter has the raises left that lead to the greatest generation
-  abbrev pub strictly_shown : ℕ → SessionState X → StrictStore X
+  abbrev pub strictly_shown : (greatest : ℕ) → SessionState X → StrictStore X
   strictly_shown greatest s = record { store = shown s; left = greatest - s.arena.counter }

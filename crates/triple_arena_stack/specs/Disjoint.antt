@@ -41,8 +41,13 @@ module _ {F A R : Type 0} (g : Once F (MutBor A × (MutBor A × Unit {0})) (R ×
   abbrev pub MayWork : Option A → Option A → Type 0
   MayWork first second = (x y : A) → first ≡ Some x → second ≡ Some y → FnOnceTakesAtPairMut x y
 
-  -- a call of f at two values gave r, and this holds of what it left there
-  abbrev pub Worked : Option A → Option A → R → (A → A → Type 0) → Type 0
-  Worked first second r Left =
-      (x y x' y' : A) × (first ≡ Some x) × (second ≡ Some y)
-      × FnOnceReturnsAtPairMut x y r x' y' × Left x' y'
+  -- a call of f at two values, and what it gave; this holds of what it left there
+  pub record Worked (first second : Option A) (gave : R) (Left : A → A → Type 0) : Type 0 where
+    pub first_value : A
+    pub second_value : A
+    pub first_left : A
+    pub second_left : A
+    pub first_is : first ≡ Some first_value
+    pub second_is : second ≡ Some second_value
+    pub called : FnOnceReturnsAtPairMut first_value second_value gave first_left second_left
+    pub left : Left first_left second_left

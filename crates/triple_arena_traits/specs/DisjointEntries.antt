@@ -49,8 +49,16 @@ module _ {F G T R : Type 0} (number : G → ℕ) (c : Once F (G × (MutBor T × 
       (a b : G) (x y : T) → first ≡ Some (number a, x) → second ≡ Some (number b, y)
       → FnOnceTakesAtPairMut (after_generations c a b) f x y
 
-  -- a call of f at the generations and the values of two entries gave r, and this holds of the values that it left there
-  abbrev pub WorkedAtEntries : Option (ℕ × T) → Option (ℕ × T) → R → (T → T → Type 0) → Type 0
-  WorkedAtEntries first second r Left =
-      (a b : G) × (x y x' y' : T) × (first ≡ Some (number a, x)) × (second ≡ Some (number b, y))
-      × FnOnceReturnsAtPairMut (after_generations c a b) f x y r x' y' × Left x' y'
+  -- a call of f at the generations and the values of two entries, and what it gave; this holds of the values that it left
+  -- there
+  pub record WorkedAtEntries (first second : Option (ℕ × T)) (gave : R) (Left : T → T → Type 0) : Type 0 where
+    pub first_under : G
+    pub second_under : G
+    pub first_value : T
+    pub second_value : T
+    pub first_left : T
+    pub second_left : T
+    pub first_is : first ≡ Some (number first_under, first_value)
+    pub second_is : second ≡ Some (number second_under, second_value)
+    pub called : FnOnceReturnsAtPairMut (after_generations c first_under second_under) f first_value second_value gave first_left second_left
+    pub left : Left first_left second_left

@@ -51,17 +51,18 @@ returns-clause-worked g c =
     let j = non_zero_usize_get c.args.second in
     let first = item_lent _ _ all _ _ _ c.get.ensures.value c.args.first.ok c.pair_of-a.ensures.first in
     let second = item_lent _ _ all _ _ _ c.get-2.ensures.value c.args.second.ok c.pair_of-a.ensures.second in
-    let w = c.work_in_two.ensures in (
-      w.0,
-      w.1,
-      w.2,
-      w.3,
-      ap value_of (entry_item g.X.EntrySlot.entry es i _ first) ∙ w.4,
-      ap value_of (entry_item g.X.EntrySlot.entry es j _ second) ∙ w.5,
-      w.6,
-      writes_two g.X.EntrySlot.with_value es _ i j _ _ _ _ w.2 w.3 first second w.7.0 w.7.1
-          (g.met.S.NonZeroInxGenericStack.items_with_items _ _ ∙ both_lent es _ all _ _ i j _ _ c.get.ensures.value c.get-2.ensures.value c.args.first.ok c.args.second.ok),
-    )
+    let w = c.work_in_two.ensures in
+    record {
+      first_value = w.first_value;
+      second_value = w.second_value;
+      first_left = w.first_left;
+      second_left = w.second_left;
+      first_is = ap value_of (entry_item g.X.EntrySlot.entry es i _ first) ∙ w.first_is;
+      second_is = ap value_of (entry_item g.X.EntrySlot.entry es j _ second) ∙ w.second_is;
+      called = w.called;
+      left = writes_two g.X.EntrySlot.with_value es _ i j _ _ _ _ w.first_left w.second_left first second w.left.0 w.left.1
+          (g.met.S.NonZeroInxGenericStack.items_with_items _ _ ∙ both_lent es _ all _ _ i j _ _ c.get.ensures.value c.get-2.ensures.value c.args.first.ok c.args.second.ok);
+    }
 
 pub returns-clause-room : goal.returns-clause-room
 returns-clause-room g c = g.met.S.NonZeroInxGenericStack.room_with_items _ _

@@ -12,18 +12,19 @@ pub returns-clause-worked : goal.returns-clause-worked
 returns-clause-worked g c =
     let at_first : non_zero_usize_get c.in_ok-i.i ≡ g.P.Inx.PtrInx.number c.args.first = c.in_ok-i.ensures.numbers.0 in
     let at_second : non_zero_usize_get c.in_ok-i.j ≡ g.P.Inx.PtrInx.number c.args.second = c.in_ok-i.ensures.numbers.1 in
-    let w = c.work_on_two.ensures in (
-      c.in-Some-Some.a,
-      c.in-Some-Some.b,
-      w.0,
-      w.1,
-      w.2,
-      w.3,
-      entry_by_parts c.args.self.now.slots _ _ _ _ at_first (rw c.in-Some-Some.is-0 at c.generation_at.ensures) w.4,
-      entry_by_parts c.args.self.now.slots _ _ _ _ at_second (rw c.in-Some-Some.is-1 at c.generation_at-2.ensures) w.5,
-      record { first = w.6.first; second = w.6.second; shows = w.6.shows; left = w.6.left; met = w.6.met; leaves = w.6.leaves },
-      rw (at_first, at_second) at w.7,
-    )
+    let w = c.work_on_two.ensures in
+    record {
+      first_under = c.in-Some-Some.a;
+      second_under = c.in-Some-Some.b;
+      first_value = w.first_value;
+      second_value = w.second_value;
+      first_left = w.first_left;
+      second_left = w.second_left;
+      first_is = entry_by_parts c.args.self.now.slots _ _ _ _ at_first (rw c.in-Some-Some.is-0 at c.generation_at.ensures) w.first_is;
+      second_is = entry_by_parts c.args.self.now.slots _ _ _ _ at_second (rw c.in-Some-Some.is-1 at c.generation_at-2.ensures) w.second_is;
+      called = record { first = w.called.first; second = w.called.second; shows = w.called.shows; left = w.called.left; met = w.called.met; leaves = w.called.leaves };
+      left = rw (at_first, at_second) at w.left;
+    }
 
 pub returns-in_default-clause-variant : goal.returns-in_default-clause-variant
 returns-in_default-clause-variant g c =
@@ -82,7 +83,7 @@ work_on_two-requires-clause-apart g c κs within same = c.in_ok-i.ensures.varian
 pub returns-clause-history : goal.returns-clause-history
 returns-clause-history g c =
     let w = c.work_on_two.ensures in
-    Continues-two_written c.args.self.now _ (non_zero_usize_get c.in_ok-i.i) (non_zero_usize_get c.in_ok-i.j) w.2 w.3 w.7
+    Continues-two_written c.args.self.now _ (non_zero_usize_get c.in_ok-i.i) (non_zero_usize_get c.in_ok-i.j) w.first_left w.second_left w.left
 
 pub returns-in_default-clause-refused : goal.returns-in_default-clause-refused
 returns-in_default-clause-refused g c = refl

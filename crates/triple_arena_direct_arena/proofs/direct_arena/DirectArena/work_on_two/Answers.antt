@@ -11,29 +11,30 @@ invariant_of-self g c =
     let i = non_zero_usize_get c.args.first in
     let j = non_zero_usize_get c.args.second in
     let w = c.work_on_two.ensures.worked in
-    (made g.P.Gen.PtrGen.number _ _ _ _ _ (direct_with_value (direct_with_value c.args.self.now i w.2) j w.3)
-    (both_written g.P.Gen.PtrGen.number _ _ i j w.2 w.3 c.requires.apart w.7 ∙ ap (λ s. with_value_in (with_value_in s.slots i w.2) j w.3) c.self.view_is)
+    (made g.P.Gen.PtrGen.number _ _ _ _ _ (direct_with_value (direct_with_value c.args.self.now i w.first_left) j w.second_left)
+    (both_written g.P.Gen.PtrGen.number _ _ i j w.first_left w.second_left c.requires.apart w.left ∙ ap (λ s. with_value_in (with_value_in s.slots i w.first_left) j w.second_left) c.self.view_is)
     (c.work_on_two.ensures.room ∙ ap (λ s. s.room) c.self.view_is)
     (c.work_on_two.ensures.limit ∙ ap (λ s. s.limit) c.self.view_is)
     (ap (λ s. s.greatest) c.self.view_is)
-    (Counts-with_value _ (direct_with_value c.args.self.now i w.2) j w.3 (Counts-with_value _ c.args.self.now i w.2 (subst (Counts _) c.self.view_is c.self.invariant)))).0
+    (Counts-with_value _ (direct_with_value c.args.self.now i w.first_left) j w.second_left (Counts-with_value _ c.args.self.now i w.first_left (subst (Counts _) c.self.view_is c.self.invariant)))).0
 
 pub returns : goal.returns
 returns g c =
     let i = non_zero_usize_get c.args.first in
     let j = non_zero_usize_get c.args.second in
-    let w = c.work_on_two.ensures.worked in (
-      w.0,
-      w.1,
-      w.2,
-      w.3,
-      entry_value_read _ c.args.self.now.slots i i _ (ap (λ s. s.slots) c.self.view_is) refl w.4,
-      entry_value_read _ c.args.self.now.slots j j _ (ap (λ s. s.slots) c.self.view_is) refl w.5,
-      w.6,
-      (made g.P.Gen.PtrGen.number _ _ _ _ _ (direct_with_value (direct_with_value c.args.self.now i w.2) j w.3)
-          (both_written g.P.Gen.PtrGen.number _ _ i j w.2 w.3 c.requires.apart w.7 ∙ ap (λ s. with_value_in (with_value_in s.slots i w.2) j w.3) c.self.view_is)
+    let w = c.work_on_two.ensures.worked in
+    record {
+      first_value = w.first_value;
+      second_value = w.second_value;
+      first_left = w.first_left;
+      second_left = w.second_left;
+      first_is = entry_value_read _ c.args.self.now.slots i i _ (ap (λ s. s.slots) c.self.view_is) refl w.first_is;
+      second_is = entry_value_read _ c.args.self.now.slots j j _ (ap (λ s. s.slots) c.self.view_is) refl w.second_is;
+      called = w.called;
+      left = (made g.P.Gen.PtrGen.number _ _ _ _ _ (direct_with_value (direct_with_value c.args.self.now i w.first_left) j w.second_left)
+          (both_written g.P.Gen.PtrGen.number _ _ i j w.first_left w.second_left c.requires.apart w.left ∙ ap (λ s. with_value_in (with_value_in s.slots i w.first_left) j w.second_left) c.self.view_is)
           (c.work_on_two.ensures.room ∙ ap (λ s. s.room) c.self.view_is)
           (c.work_on_two.ensures.limit ∙ ap (λ s. s.limit) c.self.view_is)
           (ap (λ s. s.greatest) c.self.view_is)
-          (Counts-with_value _ (direct_with_value c.args.self.now i w.2) j w.3 (Counts-with_value _ c.args.self.now i w.2 (subst (Counts _) c.self.view_is c.self.invariant)))).1,
-    )
+          (Counts-with_value _ (direct_with_value c.args.self.now i w.first_left) j w.second_left (Counts-with_value _ c.args.self.now i w.first_left (subst (Counts _) c.self.view_is c.self.invariant)))).1;
+    }

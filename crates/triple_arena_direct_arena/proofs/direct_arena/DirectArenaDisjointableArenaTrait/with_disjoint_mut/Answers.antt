@@ -18,16 +18,17 @@ returns-clause-worked g c =
     let at_second : non_zero_usize_get c.in-Some-Some.second ≡ second.0 = rw c.in-Some-Some.is-1 at c.find-2.ensures.index in
     let first_valid : is_some (look_up c.args.self.now.slots first) ≡ true = sym (rw c.in-Some-Some.is-0 at c.find.ensures.live) in
     let second_valid : is_some (look_up c.args.self.now.slots second) ≡ true = sym (rw c.in-Some-Some.is-1 at c.find-2.ensures.live) in
-    let w = c.work_on_two.ensures in (
-      w.0,
-      w.1,
-      w.2,
-      w.3,
-      sym (value_at_pointer c.args.self.now.slots first _ at_first first_valid) ∙ w.4,
-      sym (value_at_pointer c.args.self.now.slots second _ at_second second_valid) ∙ w.5,
-      record { first = w.6.first; second = w.6.second; shows = w.6.shows; left = w.6.left; met = w.6.met; leaves = w.6.leaves },
-      rw (at_first, at_second) at w.7,
-    )
+    let w = c.work_on_two.ensures in
+    record {
+      first_value = w.first_value;
+      second_value = w.second_value;
+      first_left = w.first_left;
+      second_left = w.second_left;
+      first_is = sym (value_at_pointer c.args.self.now.slots first _ at_first first_valid) ∙ w.first_is;
+      second_is = sym (value_at_pointer c.args.self.now.slots second _ at_second second_valid) ∙ w.second_is;
+      called = record { first = w.called.first; second = w.called.second; shows = w.called.shows; left = w.called.left; met = w.called.met; leaves = w.called.leaves };
+      left = rw (at_first, at_second) at w.left;
+    }
 
 pub returns-in_default-clause-variant : goal.returns-in_default-clause-variant
 returns-in_default-clause-variant g c =

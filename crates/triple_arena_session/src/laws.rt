@@ -105,8 +105,8 @@ pub fn strict_session_steps_as_store<
         → (s t : SessionState X) (command : Command X) (reply : Reply X)
         → IsArenaOver S.kind s.arena → s.arena.counter ≤ P.Gen.generations.greatest → IsSound s
         → IsStrictSessionStep S.kind S.has_memory P.Gen.generations s command reply t
-        → IsStrictStoreStep (strictly_shown P.Gen.generations.greatest s) command reply
-        (strictly_shown P.Gen.generations.greatest t) }
+        → IsStrictStoreStep (strictly_shown P.Gen.generations.greatest s)
+        command reply (strictly_shown P.Gen.generations.greatest t) }
     ensures sound { P.Gen.generations.counting ≡ true
         → (s t : SessionState X) (command : Command X) (reply : Reply X)
         → IsArenaOver S.kind s.arena → s.arena.counter ≤ P.Gen.generations.greatest → IsSound s

@@ -92,8 +92,8 @@ module _ {T : Type 0} where
         fits = omega (arith, length-with_item s.slots i (option_map (λ (e : ℕ × T). (e.0, w)) (entry_in s.slots i)), counts.fits);
       }
 
-  pub Counts-settled : (len : ℕ) (s : DirectState T) (m : ℕ) → Counts len s → Counts len (direct_shortened s m)
-  Counts-settled len s m counts =
+  pub Counts-shortened : (len : ℕ) (s : DirectState T) (m : ℕ) → Counts len s → Counts len (direct_shortened s m)
+  Counts-shortened len s m counts =
       record {
         counted = counts.counted ∙ sym (count-shortened m s.slots);
         fits = omega (arith, length-front (max (length (trimmed s.slots)) m) s.slots, counts.fits);

@@ -168,7 +168,7 @@ pub fn recasts_are_fresh<I, T: Recast<I>>()
 pub fn compression_moves<T>()
     ensures onto { (s : ArenaState T) (counter : ℕ)
         → map (λ p. p.0) (map (rank s counter) (keys s.slots)) ≡ range_with_len 1 (arena_len s) }
-    ensures in_order { (s : ArenaState T) (counter : ℕ) (p q : Pointer) → IsSome (look_up s.slots q)
+    ensures rises { (s : ArenaState T) (counter : ℕ) (p q : Pointer) → IsSome (look_up s.slots q)
         → p.0 < q.0 → (rank s counter p).0 < (rank s counter q).0 }
     ensures one_to_one { (s : ArenaState T) (counter : ℕ) (p q : Pointer) → IsSome (look_up s.slots p)
         → IsSome (look_up s.slots q) → rank s counter p ≡ rank s counter q → p ≡ q }

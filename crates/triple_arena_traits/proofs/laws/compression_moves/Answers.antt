@@ -7,8 +7,8 @@ use Rattle.triple_arena_traits.proofs.laws.compression_moves.Goals as goal
 pub returns-clause-onto : goal.returns-clause-onto
 returns-clause-onto g c = λ s counter. ranks (Some counter) s.slots
 
-pub returns-clause-in_order : goal.returns-clause-in_order
-returns-clause-in_order g c = λ s counter p q live below.
+pub returns-clause-rises : goal.returns-clause-rises
+returns-clause-rises g c = λ s counter p q live below.
     let f = found s.slots q live in
     rank_below s.slots p.0 q.0 below (rw f.entry refl)
 

@@ -2,7 +2,7 @@ use Rattle.std.proofs.Common.{◌∙◌, ap, subst}
 use Rattle.triple_arena_traits.specs.FreeEnd.{shortened}
 use Rattle.triple_arena_direct_arena.specs.DirectState.{direct_shortened}
 use Rattle.triple_arena_direct_arena.specs.DirectLayout.{Counts}
-use Rattle.triple_arena_direct_arena.proofs.Held.{made, Counts-settled}
+use Rattle.triple_arena_direct_arena.proofs.Held.{made, Counts-shortened}
 use Rattle.triple_arena_direct_arena.proofs.direct_arena.DirectArena.shorten.Goals as goal
 
 pub invariant_of-self : goal.invariant_of-self
@@ -12,7 +12,7 @@ invariant_of-self g c =
     (c.shorten.ensures.room ∙ ap (λ s. s.room) c.self.view_is)
     (c.shorten.ensures.limit ∙ ap (λ s. s.limit) c.self.view_is)
     (ap (λ s. s.greatest) c.self.view_is)
-    (Counts-settled _ c.args.self.now c.args.len (subst (Counts _) c.self.view_is c.self.invariant))).0
+    (Counts-shortened _ c.args.self.now c.args.len (subst (Counts _) c.self.view_is c.self.invariant))).0
 
 pub returns : goal.returns
 returns g c =
@@ -21,4 +21,4 @@ returns g c =
     (c.shorten.ensures.room ∙ ap (λ s. s.room) c.self.view_is)
     (c.shorten.ensures.limit ∙ ap (λ s. s.limit) c.self.view_is)
     (ap (λ s. s.greatest) c.self.view_is)
-    (Counts-settled _ c.args.self.now c.args.len (subst (Counts _) c.self.view_is c.self.invariant))).1
+    (Counts-shortened _ c.args.self.now c.args.len (subst (Counts _) c.self.view_is c.self.invariant))).1

@@ -1,6 +1,6 @@
 //! Walks over arenas: advancers, iterators and drains.
 
-use super::removals::after_removals;
+use super::after_removals::after_removals;
 use std::alloc::Global;
 use std::num::NonZeroU128;
 use triple_arena::arena_iterators::CapacityDrain;

@@ -27,6 +27,6 @@ pub returns-in-Err-Reallocation-clause-with_memory : goal.returns-in-Err-Realloc
 returns-in-Err-Reallocation-clause-with_memory g c there =
     let e = c.in-Err-Reallocation.ensures in
     elim c.empty_map-all.ensures.room [
-      | inl same ↦ absurd (e.given (rw c.empty_map-all.ensures.limit there.0) (rw (c.empty_map-all.ensures.slots, same, none_shortened {A = ℕ × g.row.P.Denot} (last_index (g.A.ArenaTrait.slots c.args.this.now))) there.1) (rw c.in-Err-Reallocation.field-0-is tt))
+      | inl same ↦ absurd (e.with_memory (rw c.empty_map-all.ensures.limit there.0) (rw (c.empty_map-all.ensures.slots, same, none_shortened {A = ℕ × g.row.P.Denot} (last_index (g.A.ArenaTrait.slots c.args.this.now))) there.1) (rw c.in-Err-Reallocation.field-0-is tt))
       | inr fits ↦ absurd (omega (arith, fits, e.short (rw c.in-Err-Reallocation.field-0-is tt)))
     ]

@@ -11,8 +11,7 @@ use Rattle.triple_arena_session.proofs.named_arena.NamedArena.invalidate.Goals a
 pub returns-in-Some-answer : goal.returns-in-Some-answer
 returns-in-Some-answer g c =
     let kind = g.S.NonZeroInxGenericStack.kind in
-    let counting = g.P.Gen.PtrGen.generations.counting in
-    let greatest = g.P.Gen.PtrGen.generations.greatest in
+    let generations = g.P.Gen.PtrGen.generations in
     let p = g.P.Ptr.numbers c.in-Some.p in
     let has : item c.args.self.now.table c.args.name ≡ Some p = sym c.pointer.ensures ∙ ap (option_map g.P.Ptr.numbers) c.in-Some.is in
     let told = told_renewed g.P.Ptr.numbers (p.0, raise generations (g.A.SessionArena.state c.self.inside.arena).counter) (wraps generations (g.A.SessionArena.state c.self.inside.arena).counter) (look_up (g.A.SessionArena.state c.self.inside.arena).slots p) c.invalidate.result c.overflowing-answer.result c.in-Some-answer.renewed c.invalidate.ensures.answer c.overflowing-answer.ensures c.in-Some-answer.is in

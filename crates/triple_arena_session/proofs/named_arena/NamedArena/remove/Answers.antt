@@ -10,8 +10,7 @@ use Rattle.triple_arena_session.proofs.named_arena.NamedArena.remove.Goals as go
 pub returns-in-Some-taken : goal.returns-in-Some-taken
 returns-in-Some-taken g c =
     let kind = g.S.NonZeroInxGenericStack.kind in
-    let counting = g.P.Gen.PtrGen.generations.counting in
-    let greatest = g.P.Gen.PtrGen.generations.greatest in
+    let generations = g.P.Gen.PtrGen.generations in
     let p = g.P.Ptr.numbers c.in-Some.p in
     let has : item c.args.self.now.table c.args.name ≡ Some p = sym c.pointer.ensures ∙ ap (option_map g.P.Ptr.numbers) c.in-Some.is in
     let told = told_some (wraps generations (g.A.SessionArena.state c.self.inside.arena).counter) (look_up (g.A.SessionArena.state c.self.inside.arena).slots p) c.remove.result c.overflowing-taken.result c.in-Some-taken.node c.remove.ensures.answer c.overflowing-taken.ensures c.in-Some-taken.is in
@@ -21,8 +20,7 @@ returns-in-Some-taken g c =
 pub returns-in-None : goal.returns-in-None
 returns-in-None g c =
     let kind = g.S.NonZeroInxGenericStack.kind in
-    let counting = g.P.Gen.PtrGen.generations.counting in
-    let greatest = g.P.Gen.PtrGen.generations.greatest in
+    let generations = g.P.Gen.PtrGen.generations in
     let p = g.P.Ptr.numbers c.in-Some.p in
     let has : item c.args.self.now.table c.args.name ≡ Some p = sym c.pointer.ensures ∙ ap (option_map g.P.Ptr.numbers) c.in-Some.is in
     let ended = told_none (wraps generations (g.A.SessionArena.state c.self.inside.arena).counter) (look_up (g.A.SessionArena.state c.self.inside.arena).slots p) c.remove.result c.overflowing-taken.result c.remove.ensures.answer c.overflowing-taken.ensures c.in-None.is in

@@ -22,7 +22,7 @@ returns-clause-sound g c =
 
 pub returns-clause-calls : goal.returns-clause-calls
 returns-clause-calls g c =
-    rw (← c.self.view_is) (λ counts. IfOk-weaker c.run_commands.result _ _ (λ replies ran. StepsKeepHistories g.S.NonZeroInxGenericStack.kind g.P.Gen.PtrGen.generations.counting (IsStep g.S.NonZeroInxGenericStack.kind g.S.NonZeroInxGenericStack.has_memory g.P.Gen.PtrGen.generations) (StepGoesOn g.S.NonZeroInxGenericStack.kind g.P.Gen.PtrGen.generations g.S.NonZeroInxGenericStack.has_memory) counts c.self.inside.inside (take (length replies.items) c.args.commands.now) replies.items c.run_commands.new.self c.tell_arena.ensures.over) c.run_commands.ensures.ran)
+    rw (← c.self.view_is) (λ counts. IfOk-weaker c.run_commands.result _ _ (λ replies ran. StepsKeepHistories g.S.NonZeroInxGenericStack.kind g.P.Gen.PtrGen.generations (IsStep g.S.NonZeroInxGenericStack.kind g.S.NonZeroInxGenericStack.has_memory g.P.Gen.PtrGen.generations) (StepGoesOn g.S.NonZeroInxGenericStack.kind g.P.Gen.PtrGen.generations g.S.NonZeroInxGenericStack.has_memory) counts c.self.inside.inside (take (length replies.items) c.args.commands.now) replies.items c.run_commands.new.self c.tell_arena.ensures.over) c.run_commands.ensures.ran)
 
 pub returns-clause-fronts : goal.returns-clause-fronts
 returns-clause-fronts g c =
@@ -30,7 +30,7 @@ returns-clause-fronts g c =
     let Step = IsStep g.S.NonZeroInxGenericStack.kind g.S.NonZeroInxGenericStack.has_memory g.P.Gen.PtrGen.generations in
     let answered = take (length replies.items) c.args.commands.now in
     let front = IsRun-front Step c.self.inside.inside c.run_commands.new.self answered replies.items count ran.0 in
-    (front.0, front.1, StepsKeepHistories g.S.NonZeroInxGenericStack.kind g.P.Gen.PtrGen.generations.counting (IsStep g.S.NonZeroInxGenericStack.kind g.S.NonZeroInxGenericStack.has_memory g.P.Gen.PtrGen.generations) (StepGoesOn g.S.NonZeroInxGenericStack.kind g.P.Gen.PtrGen.generations g.S.NonZeroInxGenericStack.has_memory) counts c.self.inside.inside (take count answered) (take count replies.items) front.0 c.tell_arena.ensures.over)) c.run_commands.ensures.ran)
+    (front.0, front.1, StepsKeepHistories g.S.NonZeroInxGenericStack.kind g.P.Gen.PtrGen.generations (IsStep g.S.NonZeroInxGenericStack.kind g.S.NonZeroInxGenericStack.has_memory g.P.Gen.PtrGen.generations) (StepGoesOn g.S.NonZeroInxGenericStack.kind g.P.Gen.PtrGen.generations g.S.NonZeroInxGenericStack.has_memory) counts c.self.inside.inside (take count answered) (take count replies.items) front.0 c.tell_arena.ensures.over)) c.run_commands.ensures.ran)
 
 pub returns-clause-unseen : goal.returns-clause-unseen
 returns-clause-unseen g c =

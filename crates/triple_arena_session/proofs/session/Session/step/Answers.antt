@@ -26,8 +26,7 @@ pub returns-clause-never : goal.returns-clause-never
 returns-clause-never g c is =
     let kind = g.S.NonZeroInxGenericStack.kind in
     let has_memory = g.S.NonZeroInxGenericStack.has_memory in
-    let counting = g.P.Gen.PtrGen.generations.counting in
-    let greatest = g.P.Gen.PtrGen.generations.greatest in
+    let generations = g.P.Gen.PtrGen.generations in
     let s = c.self.inside.inside in
     let t = c.answer.new.self in
     NeverExhausted generations kind has_memory s t c.args.command (subst (λ r. IsStep kind has_memory generations s c.args.command r t) is c.answer.ensures)

@@ -1,6 +1,7 @@
 //! An auditor of the pointers that a run gives.
 
-ghost use Rattle.std.specs.Prelude.{◌≡◌, ℕ, [], IfOk, true, length, take};
+ghost use Rattle.std.specs.Prelude.{◌≡◌, ℕ, [], IfOk, length, take};
+ghost use Rattle.triple_arena_ptr.specs.Numbers.{counting_to};
 ghost use Rattle.triple_arena_stack.specs.StackKind.StackKind.{heap};
 ghost use Rattle.triple_arena_traits.specs.ArenaState.{arena_len};
 ghost use Rattle.triple_arena_traits.specs.Histories.{AreDistinct, begun_with, given, followed_by};
@@ -22,7 +23,7 @@ pub fn audited(
 ) -> Result<Vec<Reply<u64>>, AllocError>
     requires empty { arena_len session.old.arena ≡ 0 }
     ensures once { IfOk result (λ replies. (count : ℕ) → TellsOfNoWrap (take count replies.items)
-        → let step = IsStep heap (λ _. ⊥) true greatest in
+        → let step = IsStep heap (λ _. ⊥) (counting_to greatest) in
         let ran = take count (take (length replies.items) commands.now) in
         (after : SessionState ℕ) × (run : IsRun step session.old ran (take count replies.items) after)
         × AreDistinct (given (followed_by (begun_with [])

@@ -58,6 +58,7 @@ pub record Clonable (A T : Type 0) : Type 1 where
   pub clones : A → ℕ → Option ℕ → List (Option (ℕ × T)) → A → Type 0
 
 module _ {A T : Type 0} where
+  -- a kind of arena as cloning sees it, of its three parts
   abbrev pub clonable : (slots : A → List (Option (ℕ × T))) (capacity : A → ℕ) (clones : A → ℕ → Option ℕ → List (Option (ℕ × T)) → A → Type 0) → Clonable A T
   clonable slots capacity clones = record { slots = slots; capacity = capacity; clones = clones }
 

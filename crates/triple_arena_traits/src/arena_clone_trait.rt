@@ -33,8 +33,8 @@ pub trait ArenaCloneFromWith<P: Ptr, T>: ArenaTrait<P, T> {
     /// memory is taken elsewhere.
     ///
     /// Without a refusal both arenas end with the same index (`same_end`); the capacity of each reaches
-    /// its last index (`source_fits`, `fits`). So what `laws::clones_keep_capacity` asks of a clone, this call
-    /// tells.
+    /// its last index (`source_fits`, `fits`). So what `laws::clones_keep_capacity` asks of a clone,
+    /// this call tells.
     fn clone_from_with<U, E, A: CompactArenaTrait<P, U>, M: FnMut(P, &U) -> Result<T, E>>(
         &mut self,
         source: &A,

@@ -23,8 +23,8 @@ pub fn keep<P: Ptr, A: CompactArenaTrait<P, u64>, B: ArenaCloneFromWith<P, u64>>
 }
 
 /// Keeps a table as it is, and comes back to it: the entries of the table stay, under their pointers,
-/// and so does its capacity. `clones_keep_capacity` says the latter of any turns of clones; what it asks of
-/// each, the clauses of the calls tell. Refused as `clone_from` is.
+/// and so does its capacity. `clones_keep_capacity` says the latter of any turns of clones; what it
+/// asks of each, the clauses of the calls tell. Refused as `clone_from` is.
 pub fn keep_and_come_back<
     P: Ptr,
     A: CompactArenaTrait<P, u64> + ArenaCloneFromWith<P, u64>,

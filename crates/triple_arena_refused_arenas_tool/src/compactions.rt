@@ -13,11 +13,12 @@ use triple_arena_test_kit::state_of;
 use triple_arena_trait_kit::refused::{End, Report};
 use triple_arena_trait_kit::{State, Told, Wrong, index_number, is_told, pointer};
 
-type Node = (u64, Option<P0>);
+/// A number and a link.
+pub type Node = (u64, Option<P0>);
 
 /// A compaction.
 #[derive(Clone, Copy)]
-enum Compaction {
+pub enum Compaction {
     /// By `compress_recaster`.
     Mapped,
     /// By `compress_recast`.
@@ -25,10 +26,11 @@ enum Compaction {
 }
 
 /// An arena of nodes that is compacted.
-trait Compacted {
+pub trait Compacted {
     /// What a compaction tells; of a link to no entry its numbers.
     fn compact(&mut self, alloc: Global, call: Compaction) -> Told;
 
+    /// Its whole state.
     fn seen(&self) -> State;
 
     /// The node under a pointer.

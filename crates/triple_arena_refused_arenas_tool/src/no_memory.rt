@@ -1,14 +1,13 @@
 //! Calls of stacks and arenas that take no memory: whichever request is refused, none of them is.
 
 use crate::asking::insert_each;
+use crate::compactions::{Compacted, Compaction, Node};
 use crate::strict::Strict;
 use std::alloc::Global;
 use std::mem;
 use triple_arena::{Arena, ArenaCloneFromWith, ArenaSlot, ArenaTrait, CompactArenaTrait};
 use triple_arena_base::Recast;
-use triple_arena_direct::{
-    DirectArena, DirectSlot, StrictArena, compress_recast, compress_recaster,
-};
+use triple_arena_direct::{DirectArena, DirectSlot, StrictArena};
 use triple_arena_ptr::{P0, Ptr, PtrGen};
 use triple_arena_stack::{
     ArrayStack, FixedStack, HeapStack, LimitedStack, NonZeroInxArray, NonZeroInxBoxedSlice,
@@ -20,7 +19,9 @@ use triple_arena_test_kit::direct::{
 };
 use triple_arena_test_kit::{Fixed, Heap, Limited, Places, WithLimit, with_room};
 use triple_arena_trait_kit::refused::{End, Report};
-use triple_arena_trait_kit::{Call, NOT_DRAINED, TestedArena, Token, Told, Wrong, follow, inx};
+use triple_arena_trait_kit::{
+    Call, NOT_DRAINED, TestedArena, Token, Told, Wrong, follow, inx, is_told,
+};
 
 // That this holds, at the row of a table.
 fn holds(row: usize, holds: bool) -> Result<(), Wrong> {
@@ -274,22 +275,38 @@ fn copies_on<S: NonZeroInxGenericStack<ArenaSlot<P0, u64>> + Drop>(
     Ok(End::Ample)
 }
 
-type Node = (u64, Option<P0>);
-
-// Of no entry no map is made.
-fn compactions(alloc: Global) -> Result<End, Wrong> {
-    let mut arena: Arena<P0, Node> = Arena::new(alloc);
-    let mut direct: DirectArena<P0, Node> = DirectArena::new(alloc);
-    let mut strict: StrictArena<P0, Node> = StrictArena::new(alloc);
-    holds(0, compress_recast(&mut arena, alloc, false).is_ok())?;
-    holds(1, compress_recaster(&mut arena, alloc, false).is_ok())?;
-    holds(2, compress_recast(&mut direct, alloc, false).is_ok())?;
-    holds(3, compress_recaster(&mut direct, alloc, false).is_ok())?;
-    holds(4, strict.compress_recast(alloc).is_ok())?;
-    let map: DirectArena<P0, P0> = DirectArena::new(alloc);
-    holds(5, arena.recast(&map).is_ok())?;
-    holds(6, direct.recast(&map).is_ok())?;
+// Compactions of an arena without entries, for which no map is made.
+fn compacts<A: Compacted>(alloc: Global, arena: &mut A) -> Result<End, Wrong> {
+    is_told(0, arena.compact(alloc, Compaction::Renamed), Told::Done)?;
+    is_told(1, arena.compact(alloc, Compaction::Mapped), Told::Done)?;
     Ok(End::Ample)
+}
+
+fn compaction(alloc: Global) -> Result<End, Wrong> {
+    compacts(alloc, &mut Arena::<P0, Node>::new(alloc))
+}
+
+fn direct_compaction(alloc: Global) -> Result<End, Wrong> {
+    compacts(alloc, &mut DirectArena::<P0, Node>::new(alloc))
+}
+
+fn strict_compaction(alloc: Global) -> Result<End, Wrong> {
+    compacts(alloc, &mut StrictArena::<P0, Node>::new(alloc))
+}
+
+// Links that go by a map without entries, where there are none.
+fn recasts<R: Recast<P0>>(alloc: Global, links: &mut R) -> Result<End, Wrong> {
+    let map: DirectArena<P0, P0> = DirectArena::new(alloc);
+    holds(0, links.recast(&map).is_ok())?;
+    Ok(End::Ample)
+}
+
+fn recasting(alloc: Global) -> Result<End, Wrong> {
+    recasts(alloc, &mut Arena::<P0, Node>::new(alloc))
+}
+
+fn direct_recasting(alloc: Global) -> Result<End, Wrong> {
+    recasts(alloc, &mut DirectArena::<P0, Node>::new(alloc))
 }
 
 // Calls of a strict arena with room for eight and no entry.
@@ -389,5 +406,17 @@ pub fn try_each(alloc: Global, report: &mut Report) {
         "a copy in an array",
         copies_on::<NonZeroInxArray<ArenaSlot<P0, u64>, 8>>(alloc),
     );
-    report.note(call, "a compaction", compactions(alloc));
+    report.note(call, "a compaction", compaction(alloc));
+    report.note(
+        call,
+        "a compaction of a direct arena",
+        direct_compaction(alloc),
+    );
+    report.note(
+        call,
+        "a compaction of a strict arena",
+        strict_compaction(alloc),
+    );
+    report.note(call, "recasting", recasting(alloc));
+    report.note(call, "recasting of a direct arena", direct_recasting(alloc));
 }

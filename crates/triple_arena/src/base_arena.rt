@@ -40,7 +40,7 @@ use triple_arena_ptr::{Ptr, PtrGen, PtrInx};
 use triple_arena_slots::{ArenaSlot, Slots};
 use triple_arena_stack::{NonZeroInxGenericStack, NonZeroInxVec, SetMaxCapacity, grown_capacity};
 use triple_arena_traits::answers::{told, told_valid};
-use triple_arena_traits::entry_slots::{first_live, last_live, ptr_at, slot_at};
+use triple_arena_traits::entry_slots::{first_live, last_live, ptr_at};
 use triple_arena_traits::pair_call::{AtEntries, AtValues, PairCall};
 use triple_arena_traits::{
     ArenaInsertTrait, ArenaTrait, DisjointableArenaTrait, EntrySlot, LendingArena, LentSlots,
@@ -57,8 +57,8 @@ use triple_arena_traits::{
 /// free it takes the one past the last slot. A removal in the last slot takes that slot away, and
 /// frees no index.
 ///
-/// Insertion within the capacity, removal and invalidation touch at most 6 slots, `get` and `get_mut`
-/// one or two. They take no memory.
+/// Insertion within the capacity, removal, invalidation and look-ups take no memory. The first three
+/// touch at most 6 slots, however many there are.
 #[derive(Drop)]
 pub struct Arena<
     P: Ptr,
@@ -82,15 +82,15 @@ impl<P: Ptr, T, S: NonZeroInxGenericStack<ArenaSlot<P, T>>> Model for Arena<P, T
     ghost use Rattle.triple_arena_ptr.specs.Numbers.{greatest_index};
     ghost use Rattle.triple_arena_slots.specs.Layout.{state_of, Shows};
 
-    ghost view = { λ a. state_of P.Gen.number (S.items a.slots.stack)
-        (option_map non_zero_usize_get a.slots.root) (P.Gen.number a.counter) (S.room a.slots.stack)
-        (S.limit a.slots.stack) (greatest_index P.Inx.greatest) a.slots.steps.count };
+    ghost view = { λ a. state_of P.Gen.number (S.items a.slots.slots.stack)
+        (option_map non_zero_usize_get a.slots.root) (P.Gen.number a.counter) (S.room a.slots.slots.stack)
+        (S.limit a.slots.slots.stack) (greatest_index P.Inx.greatest) a.slots.slots.steps.count };
 
-    ghost invariant = { λ a. Shows P.Gen.number (S.items a.slots.stack)
+    ghost invariant = { λ a. Shows P.Gen.number (S.items a.slots.slots.stack)
         (option_map non_zero_usize_get a.slots.root) a.len
-        (state_of P.Gen.number (S.items a.slots.stack) (option_map non_zero_usize_get a.slots.root)
-        (P.Gen.number a.counter) (S.room a.slots.stack) (S.limit a.slots.stack)
-        (greatest_index P.Inx.greatest) a.slots.steps.count) };
+        (state_of P.Gen.number (S.items a.slots.slots.stack) (option_map non_zero_usize_get a.slots.root)
+        (P.Gen.number a.counter) (S.room a.slots.slots.stack) (S.limit a.slots.slots.stack)
+        (greatest_index P.Inx.greatest) a.slots.slots.steps.count) };
 }
 
 impl<P: Ptr, T, S: NonZeroInxGenericStack<ArenaSlot<P, T>>> ArenaTrait<P, T> for Arena<P, T, S> {
@@ -567,7 +567,7 @@ impl<P: Ptr, T, S: NonZeroInxGenericStack<ArenaSlot<P, T>>> Arena<P, T, S> {
         ensures within { IsSome (entry self.now (P.Inx.number inx))
             → P.Inx.number inx ≤ greatest_index P.Inx.greatest }
     {
-        slot_at(self.slots.stack(), P::Inx::try_into_usize(inx)?)
+        self.slots.peek(P::Inx::try_into_usize(inx)?)
     }
 
     // The index of a pointer, if the pointer is valid.

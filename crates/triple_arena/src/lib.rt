@@ -15,6 +15,5 @@ pub use insert_entry::{ArenaInsertEntry, ArenaInsertEntryTrait};
 pub use triple_arena_slots::{ArenaSlot, FreeLink};
 pub use triple_arena_traits::{
     ArenaCloneFromWith, ArenaDirectInsertEntryTrait, ArenaDirectInsertTrait, ArenaInsertTrait,
-    ArenaTrait, CompactArenaTrait, DisjointableArenaTrait, EntrySlot, LendingArena, LentSlots,
-    answers, close_up, copying, ends, entry_slots, laws, pair_call, recast_entries, transferring,
+    ArenaTrait, CompactArenaTrait, DisjointableArenaTrait, LendingArena, laws, recast_entries,
 };

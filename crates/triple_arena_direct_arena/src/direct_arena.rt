@@ -44,8 +44,7 @@ use triple_arena_traits::{
 /// An arena over a stack of slots, whose entries are put under pointers of the caller's choice: it
 /// has no counter and no free list.
 ///
-/// A removal leaves a free slot, also at the end. `get`, `get_mut` and removal touch a constant
-/// number of slots and take no memory.
+/// A removal leaves a free slot, also at the end. `get`, `get_mut` and removal take no memory.
 #[derive(Drop)]
 pub struct DirectArena<
     P: Ptr,

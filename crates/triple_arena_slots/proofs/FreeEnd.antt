@@ -1,5 +1,5 @@
 -- How the free slots at the end go, and leave the free list.
-use Rattle.std.proofs.Common.{◌≡◌, ◌≢◌, ℕ, ◌+◌, ◌-◌, ◌<◌, ◌≤◌, true, false, List, [], ◌∷◌, ◌++◌, map, length, take, Option, Some, None, count_by, cond, is_some, refl, sym, ap, subst, ◌∙◌, inl, inr, not, true≢false, arith}
+use Rattle.std.proofs.Common.{◌≡◌, ◌≢◌, ℕ, ◌+◌, ◌-◌, ◌<◌, ◌≤◌, Bool, true, false, List, [], ◌∷◌, ◌++◌, map, length, take, Option, Some, None, count_by, cond, is_some, refl, sym, ap, subst, ◌∙◌, inl, inr, not, arith}
 use Rattle.std.proofs.lemmas.Bool.{cases_lt}
 use Rattle.std.proofs.lemmas.List.{length-map, length-take-le}
 use Rattle.std.proofs.lemmas.List.Sums.{sum_by_push}
@@ -7,7 +7,7 @@ use Rattle.triple_arena_traits.specs.Items.{item}
 use Rattle.triple_arena_traits.specs.ArenaState.{ArenaState, slot_count, is_free, IsWellFormed}
 use Rattle.triple_arena_traits.specs.FreeList.{trimmed, up_to, without_free_end}
 use Rattle.triple_arena_slots.specs.Slot.{entry_of, next_free, previous_free}
-use Rattle.triple_arena_slots.specs.Layout.{IsLinked, Leaves, Shows, without_last}
+use Rattle.triple_arena_slots.specs.Layout.{IsLinked, Leaves, Shows, without_last, entry_at}
 use Rattle.triple_arena_slots.specs.Link.{Link}
 use Rattle.triple_arena_slots.specs.declared.slot.ArenaSlot.{ArenaSlot}
 use Rattle.triple_arena_slots.specs.declared.slot.ArenaSlot.TheVariants.{Free}
@@ -16,7 +16,9 @@ use Rattle.triple_arena_traits.specs.laws.FreeListLaws.{trimmed_popped, trimmed_
 use Rattle.triple_arena_traits.proofs.FreeEnd.{without_none}
 use Rattle.triple_arena_traits.proofs.UpTo.{up_to-cons, up_to-past, up_to_all, count-up_to, count-past, length_more}
 use Rattle.triple_arena_slots.proofs.TwoWay.{times, up_to-split}
+use Rattle.triple_arena_traits.specs.laws.LengthLaws.{live_slot}
 use Rattle.triple_arena_slots.proofs.Links.{free_at, left_linked}
+use Rattle.triple_arena_slots.proofs.Tidying.{vacant_within}
 
 -- of the indexes up to a number those up to a lower one are left
 up_to-less : (n m : ℕ) (xs : List ℕ) → n ≤ m → up_to n (up_to m xs) ≡ up_to n xs
@@ -72,19 +74,14 @@ item-popped xs i last j other =
       | inr within ↦ item-take (length xs - 1) xs j (omega (arith, within, other, last))
     ]
 
-module _ {T : Type 0} where
-  pub vacant_is : (o : Option (Option (ℕ × T))) → is_free o ≡ true → o ≡ Some None
-  vacant_is None e = absurd (true≢false (sym e))
-  vacant_is (Some None) e = refl
-  vacant_is (Some (Some x)) e = absurd (true≢false (sym e))
-
 module _ {P T I G : Type 0} (number : G → ℕ) where
-  pub free_or_live : (es : List (ArenaSlot P T I G)) (i : ℕ) (slot : ArenaSlot P T I G) → item es i ≡ Some slot → not (is_some (entry_of number slot)) ≡ is_free (item (map (entry_of number) es) i)
-  free_or_live es i slot found = by_entry (entry_of number slot) (item-map_some (entry_of number) es i slot found)
+  -- of a slot that is there, whether it is free
+  pub free_or_live : (es : List (ArenaSlot P T I G)) (i : ℕ) → 0 < i → i ≤ length es → not (is_some (entry_at number es i)) ≡ is_free (item (map (entry_of number) es) i)
+  free_or_live es i positive within = by_test (is_some (entry_at number es i)) refl
     where
-      by_entry : (o : Option (ℕ × T)) → item (map (entry_of number) es) i ≡ Some o → not (is_some o) ≡ is_free (item (map (entry_of number) es) i)
-      by_entry None h = sym (ap is_free h)
-      by_entry (Some e) h = sym (ap is_free h)
+      by_test : (b : Bool) → is_some (entry_at number es i) ≡ b → not b ≡ is_free (item (map (entry_of number) es) i)
+      by_test true live = sym (ap is_free (live_slot (map (entry_of number) es) i live).1)
+      by_test false none = sym (ap is_free (vacant_within (map (entry_of number) es) i positive (omega (arith, within, length-map es (entry_of number))) none))
 
   -- the last slot of the state is free where that of the slots is
   pub last_vacant : (es : List (ArenaSlot P T I G)) (root : Option ℕ) (len : ℕ) (s : ArenaState T) → item (map (entry_of number) es) (length es) ≡ Some None → Shows number es root len s → item s.slots (slot_count s) ≡ Some None

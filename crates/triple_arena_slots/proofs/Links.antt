@@ -11,7 +11,7 @@ use Rattle.triple_arena_traits.specs.Insertion.{place_among, place, inserted_amo
 use Rattle.triple_arena_traits.specs.SlotSteps.{steps_among, insertion_steps}
 use Rattle.triple_arena_traits.specs.Ending.{removed}
 use Rattle.triple_arena_slots.specs.Slot.{entry_of, touch_if, next_free, previous_free, next_in, previous_in, with_slot_generation}
-use Rattle.triple_arena_slots.specs.Layout.{entry_at, Linked, after, before, chain, state_of, IsLinked, Begins, CanLeave, Leaves, Shows, with_value_at}
+use Rattle.triple_arena_slots.specs.Layout.{entry_at, Linked, led_to, after, before, chain, state_of, IsLinked, Begins, CanLeave, Leaves, Shows, with_value_at}
 use Rattle.triple_arena_slots.specs.Link.{Link}
 use Rattle.triple_arena_slots.specs.declared.slot.ArenaSlot.{ArenaSlot}
 use Rattle.triple_arena_slots.specs.declared.slot.ArenaSlot.TheVariants.{Free, Allocated}
@@ -63,22 +63,16 @@ module _ {P T I G : Type 0} where
   chain_from es (suc fuel) last from (i ∷ rest) fits linked =
       rw linked.0 (ap (λ l. i ∷ l) (chain_from es fuel (Some i) (after es i) rest (omega arith) linked.2))
 
-  pub chain_is : (es : List (ArenaSlot P T I G)) (fuel : ℕ) (from : Option ℕ) (free : List ℕ) → length free ≤ fuel → IsLinked es from free → chain es fuel from ≡ free
-  chain_is es fuel from free fits linked = chain_from es fuel None from free fits linked
-
   -- the links of a slot that stays
-  pub after_same : (old new : List (ArenaSlot P T I G)) (j : ℕ) → item new j ≡ item old j → after new j ≡ after old j
-  after_same old new j same = ap (option_and_then (λ slot. next_in slot j)) same
-
-  pub before_same : (old new : List (ArenaSlot P T I G)) (j : ℕ) → item new j ≡ item old j → before new j ≡ before old j
-  before_same old new j same = ap (option_and_then (λ slot. previous_in slot j)) same
+  pub led_same : (read : ArenaSlot P T I G → ℕ → Option ℕ) (old new : List (ArenaSlot P T I G)) (j : ℕ) → item new j ≡ item old j → led_to read new j ≡ led_to read old j
+  led_same read old new j same = ap (option_and_then (λ slot. read slot j)) same
 
   -- what changes under an index that is not on the list keeps the list
   pub IsLinked-off : (old new : List (ArenaSlot P T I G)) (k : ℕ) (from : Option ℕ) (free : List ℕ) → ((j : ℕ) → j ≢ k → item new j ≡ item old j) → count_by (λ j. j == k) free ≡ 0 → IsLinked old from free → IsLinked new from free
   IsLinked-off old new k from free same off linked =
       Linked-same (after old) (before old) (after new) (before new) None from free (λ j there.
       let other : j ≢ k = λ e. omega (arith, off, subst (λ m. 1 ≤ times m free) e there) in
-      (after_same old new j (same j other), before_same old new j (same j other))) linked
+      (led_same next_in old new j (same j other), led_same previous_in old new j (same j other))) linked
 
   -- the links go from the first free index on
   pub linked_from_first : (es : List (ArenaSlot P T I G)) (root : Option ℕ) (free : List ℕ) → IsLinked es root free → IsLinked es (slice_get free 0) free
@@ -86,21 +80,12 @@ module _ {P T I G : Type 0} where
   linked_from_first es root (i ∷ rest) linked = (refl, linked.1, linked.2)
 
   module _ (number : G → ℕ) where
-    -- the view is the state that the slots show
-    state_is : (es : List (ArenaSlot P T I G)) (root : Option ℕ) (len : ℕ) (s : ArenaState T) → Shows number es root len s → state_of number es root s.counter s.room s.limit s.greatest s.steps ≡ s
-    state_is es root len s shows =
-        let size : length es ≡ length s.slots = sym (length-map es (entry_of number)) ∙ ap length shows.slots in
-        let free : chain es (length es) root ≡ s.free = chain_is es (length es) root s.free (omega (arith, shows.well.total)) shows.linked in
-        rw (shows.slots, free) refl
-
-    -- the same for the fields that the arena has
-    view_is : (es : List (ArenaSlot P T I G)) (root : Option ℕ) (len counter room : ℕ) (limit : Option ℕ) (greatest steps : ℕ) (s : ArenaState T) → Shows number es root len s → counter ≡ s.counter → room ≡ s.room → limit ≡ s.limit → greatest ≡ s.greatest → steps ≡ s.steps → state_of number es root counter room limit greatest steps ≡ s
-    view_is es root len counter room limit greatest steps s shows c r l g n = rw (c, r, l, g, n) (state_is es root len s shows)
-
     -- slots that show a state make an arena of that state
     pub shows_state : (es : List (ArenaSlot P T I G)) (root : Option ℕ) (len counter room : ℕ) (limit : Option ℕ) (greatest steps : ℕ) (s : ArenaState T) → Shows number es root len s → counter ≡ s.counter → room ≡ s.room → limit ≡ s.limit → greatest ≡ s.greatest → steps ≡ s.steps → Shows number es root len (state_of number es root counter room limit greatest steps) × (state_of number es root counter room limit greatest steps ≡ s)
     shows_state es root len counter room limit greatest steps s shows c r l g n =
-        let is = view_is es root len counter room limit greatest steps s shows c r l g n in
+        let size : length es ≡ length s.slots = sym (length-map es (entry_of number)) ∙ ap length shows.slots in
+        let free : chain es (length es) root ≡ s.free = chain_from es (length es) None root s.free (omega (arith, shows.well.total)) shows.linked in
+        let is : state_of number es root counter room limit greatest steps ≡ s = rw (c, r, l, g, n, shows.slots, free) refl in
         (rw is shows, is)
 
     -- an index of slots of which one is free, with this link
@@ -146,42 +131,12 @@ module _ {P T I G : Type 0} where
         let back : before es i ≡ previous_free link i = ap (option_and_then (λ slot. previous_in slot i)) at.found in
         let skips : Skips (after es) (before es) (after es2) (before es2) i = record {
           next = λ j other e. leaves.next j (sym back ∙ e) ∙ sym on;
-          kept = λ j other ne. leaves.kept_next j (λ e. ne (back ∙ e)) ∙ after_same es es1 j (same j other);
+          kept = λ j other ne. leaves.kept_next j (λ e. ne (back ∙ e)) ∙ led_same next_in es es1 j (same j other);
           previous = λ j other e. leaves.previous j (sym on ∙ e) ∙ sym back;
-          kept_back = λ j other ne. leaves.kept_previous j (λ e. ne (on ∙ e)) ∙ before_same es es1 j (same j other);
+          kept_back = λ j other ne. leaves.kept_previous j (λ e. ne (on ∙ e)) ∙ led_same previous_in es es1 j (same j other);
         } in
         let begins = root_skipped (after es) (before es) root at.in_front i at.behind root2 at.linked (λ e. when_none _ _ _ leaves.begins (sym back ∙ e) ∙ sym on) (λ j e. when_some _ _ _ j leaves.begins (sym back ∙ e)) in
         rw begins (Linked-skipped (after es) (before es) (after es2) (before es2) None root at.in_front i at.behind skips at.once (λ j e. absurd (cc)) at.linked)
-
-    -- insertion under the first free index
-    pub Shows-filled : (es es2 : List (ArenaSlot P T I G)) (root2 : Option ℕ) (i len : ℕ) (link : Link) (g : G) (v : T) (s : ArenaState T) → arena_len s < capacity s → number g ≡ s.counter → item es i ≡ Some (Free link) → Leaves number (with_item es i (Allocated g v)) es2 (Some i) root2 (next_free link i) (previous_free link i) → Shows number es (Some i) len s → (place s ≡ i) × Shows number es2 root2 (len + 1) (inserted s v)
-    Shows-filled es es2 root2 i len link g v s room stamped found leaves shows = by_free s.free refl
-      where
-        filled : (rest : List ℕ) → s.free ≡ i ∷ rest → Shows number es2 root2 (len + 1) (inserted_among (i ∷ rest) s v)
-        filled rest e =
-            let first = first_free s i rest shows.well e in
-            let slot : Option (ℕ × T) = Some (s.counter, v) in
-            let at : IsFreeAt es (Some i) i link s = record {
-              found = found;
-              in_front = [];
-              behind = rest;
-              split = e;
-              linked = subst (IsLinked es (Some i)) e shows.linked;
-              once = subst Once e (Once-free s shows.well);
-            } in
-            record {
-              slots = leaves.entries ∙ rw (map-with_item (entry_of number) es i (Allocated g v), shows.slots, stamped) refl;
-              linked = left_linked es (with_item es i (Allocated g v)) es2 (Some i) root2 i link s at (λ j other. item-with_other es i j (Allocated g v) other) leaves;
-              counted = omega (arith, count-with_item s.slots i None slot first.0, shows.counted);
-              well = subst (λ f. IsWellFormed (inserted_among f s v)) e (IsWellFormed-inserted s v shows.well room);
-            }
-
-        by_free : (f : List ℕ) → s.free ≡ f → (place_among f (slot_count s) ≡ i) × Shows number es2 root2 (len + 1) (inserted_among f s v)
-        by_free [] e = absurd (let h = subst (IsLinked es (Some i)) e shows.linked in cc)
-        by_free (j ∷ rest) e =
-            let linked = subst (IsLinked es (Some i)) e shows.linked in
-            let same : i ≡ j = same_Some _ _ linked.0 in
-            (sym same, subst (λ m. Shows number es2 root2 (len + 1) (inserted_among (m ∷ rest) s v)) same (filled rest (e ∙ ap (λ m. m ∷ rest) (sym same))))
 
     -- the link of the first free slot leads back to none
     pub first_link : (es : List (ArenaSlot P T I G)) (i len : ℕ) (link : Link) (s : ArenaState T) → item es i ≡ Some (Free link) → Shows number es (Some i) len s → previous_free link i ≡ None
@@ -195,14 +150,45 @@ module _ {P T I G : Type 0} where
         by_free (j ∷ []) linked = subst (λ m. before es m ≡ None) (sym (same_Some _ _ linked.0)) linked.1
         by_free (j ∷ k ∷ rest) linked = subst (λ m. before es m ≡ None) (sym (same_Some _ _ linked.0)) linked.1
 
+    -- insertion under the first free index
+    pub Shows-filled : (es es2 : List (ArenaSlot P T I G)) (root2 : Option ℕ) (i len : ℕ) (link : Link) (g : G) (v : T) (s : ArenaState T) → arena_len s < capacity s → number g ≡ s.counter → item es i ≡ Some (Free link) → Leaves number (with_item es i (Allocated g v)) es2 (Some i) root2 (next_free link i) None → Shows number es (Some i) len s → (place s ≡ i) × Shows number es2 root2 (len + 1) (inserted s v)
+    Shows-filled es es2 root2 i len link g v s room stamped found leaves shows = by_free s.free refl
+      where
+        filled : (rest : List ℕ) → s.free ≡ i ∷ rest → Shows number es2 root2 (len + 1) (inserted_among (i ∷ rest) s v)
+        filled rest e =
+            let first = first_free s i rest shows.well e in
+            let slot : Option (ℕ × T) = Some (s.counter, v) in
+            let leaves_so = subst (Leaves number (with_item es i (Allocated g v)) es2 (Some i) root2 (next_free link i)) (sym (first_link es i len link s found shows)) leaves in
+            let at : IsFreeAt es (Some i) i link s = record {
+              found = found;
+              in_front = [];
+              behind = rest;
+              split = e;
+              linked = subst (IsLinked es (Some i)) e shows.linked;
+              once = subst Once e (Once-free s shows.well);
+            } in
+            record {
+              slots = leaves.entries ∙ rw (map-with_item (entry_of number) es i (Allocated g v), shows.slots, stamped) refl;
+              linked = left_linked es (with_item es i (Allocated g v)) es2 (Some i) root2 i link s at (λ j other. item-with_other es i j (Allocated g v) other) leaves_so;
+              counted = omega (arith, count-with_item s.slots i None slot first.0, shows.counted);
+              well = subst (λ f. IsWellFormed (inserted_among f s v)) e (IsWellFormed-inserted s v shows.well room);
+            }
+
+        by_free : (f : List ℕ) → s.free ≡ f → (place_among f (slot_count s) ≡ i) × Shows number es2 root2 (len + 1) (inserted_among f s v)
+        by_free [] e = absurd (let h = subst (IsLinked es (Some i)) e shows.linked in cc)
+        by_free (j ∷ rest) e =
+            let linked = subst (IsLinked es (Some i)) e shows.linked in
+            let same : i ≡ j = same_Some _ _ linked.0 in
+            (sym same, subst (λ m. Shows number es2 root2 (len + 1) (inserted_among (m ∷ rest) s v)) same (filled rest (e ∙ ap (λ m. m ∷ rest) (sym same))))
+
     -- so many slots are touched where an insertion takes it
-    pub steps-filled : (es : List (ArenaSlot P T I G)) (i len : ℕ) (link : Link) (s : ArenaState T) → item es i ≡ Some (Free link) → Shows number es (Some i) len s → 1 + (touch_if (previous_free link i) + touch_if (next_free link i)) ≡ insertion_steps s
-    steps-filled es i len link s found shows = rw (first_link es i len link s found shows) (by_free s.free (subst (λ f. IsLinked es (Some i) f) refl shows.linked))
+    pub steps-filled : (es : List (ArenaSlot P T I G)) (i len : ℕ) (link : Link) (s : ArenaState T) → item es i ≡ Some (Free link) → Shows number es (Some i) len s → 1 + touch_if (next_free link i) ≡ insertion_steps s
+    steps-filled es i len link s found shows = by_free s.free (subst (λ f. IsLinked es (Some i) f) refl shows.linked)
       where
         on : after es i ≡ next_free link i
         on = ap (option_and_then (λ slot. next_in slot i)) found
 
-        by_free : (f : List ℕ) → IsLinked es (Some i) f → 1 + (0 + touch_if (next_free link i)) ≡ steps_among f
+        by_free : (f : List ℕ) → IsLinked es (Some i) f → 1 + touch_if (next_free link i) ≡ steps_among f
         by_free [] linked = absurd (cc)
         by_free (j ∷ []) linked =
             let last : next_free link i ≡ None = sym on ∙ subst (λ m. after es m ≡ None) (sym (same_Some _ _ linked.0)) linked.2 in
@@ -388,12 +374,6 @@ module _ {P T I G : Type 0} where
         let found = live_in es root i len s live shows in
         Shows-with_entry number es root i len g v found.0 s found.1 shows
 
-    -- another generation of the entry at an index
-    pub Shows-restamped : (es : List (ArenaSlot P T I G)) (root : Option ℕ) (i len h : ℕ) (g : G) (v : T) (s : ArenaState T) → entry_at number es i ≡ Some (h, v) → Shows number es root len s → Shows number (with_item es i (Allocated g v)) root len (record s { slots = with_generation_in s.slots i (number g) })
-    Shows-restamped es root i len h g v s there shows =
-        let here : joined (item s.slots i) ≡ Some (h, v) = ap (λ xs. joined (item xs i)) (sym shows.slots) ∙ there in
-        rw (with_generation_is s.slots i h (number g) v here) (Shows-rewritten es root i len g v s (ap is_some there) shows)
-
     -- another value in the entry at an index
     pub Shows-with_value : (es : List (ArenaSlot P T I G)) (root : Option ℕ) (i len : ℕ) (w : T) (s : ArenaState T) → IsSome (entry_at number es i) → Shows number es root len s → Shows number (with_value_at es i (item es i) w) root len (with_value s i w)
     Shows-with_value es root i len w s live shows = by_item (item es i) refl
@@ -408,7 +388,9 @@ module _ {P T I G : Type 0} where
     -- another generation on the slot at an index
     pub Shows-stamped : (es : List (ArenaSlot P T I G)) (root : Option ℕ) (i len : ℕ) (g : G) (e : ArenaSlot P T I G) (s : ArenaState T) → item es i ≡ Some e → IsSome (entry_at number es i) → Shows number es root len s → Shows number (with_item es i (with_slot_generation e g)) root len (record s { slots = with_generation_in s.slots i (number g) })
     Shows-stamped es root i len g (Free link) s found live shows = absurd (true≢false (sym (rw (entry_item (entry_of number) es i (Free link) found) at live)))
-    Shows-stamped es root i len g (Allocated h v) s found live shows = Shows-restamped es root i len (number h) g v s (entry_item (entry_of number) es i (Allocated h v) found) shows
+    Shows-stamped es root i len g (Allocated h v) s found live shows =
+        let here : joined (item s.slots i) ≡ Some (number h, v) = ap (λ xs. joined (item xs i)) (sym shows.slots) ∙ entry_item (entry_of number) es i (Allocated h v) found in
+        rw (with_generation_is s.slots i (number h) (number g) v here) (Shows-rewritten es root i len g v s live shows)
 
     -- the root is the first free index
     pub root_head : (es : List (ArenaSlot P T I G)) (root : Option ℕ) (i len : ℕ) (s : ArenaState T) → root ≡ Some i → Shows number es root len s → slice_get s.free 0 ≡ Some i

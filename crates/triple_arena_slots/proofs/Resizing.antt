@@ -13,6 +13,10 @@ use Rattle.triple_arena_traits.specs.laws.EntryLaws.{within_room, slots-realloca
 use Rattle.triple_arena_traits.specs.Histories.{resizing, Fits, Continues}
 use Rattle.triple_arena_traits.specs.laws.HistoryLaws.{Continues-resized, Continues-tidied}
 
+pub on_err : {A E P Q : Type 0} (r : Result A E) → (P → Q) → OnErr r P → OnErr r Q
+on_err (Ok x) f h = h
+on_err (Err e) f h = f h
+
 limit_fits : (n room x greatest : ℕ) (limit : Option ℕ) → n ≤ min (stack_capacity room limit) greatest → n ≤ x → n ≤ min (stack_capacity room (Some x)) greatest
 limit_fits n room x greatest None fits below = omega arith
 limit_fits n room x greatest (Some most) fits below = omega arith

@@ -14,13 +14,17 @@ Linked on back last from [] = from ≡ None
 Linked on back last from (i ∷ rest) = (from ≡ Some i) × (back i ≡ last) × Linked on back (Some i) (on i) rest
 
 module _ {P T I G : Type 0} where
+  -- the free index that the slot of an index leads to by one of its links, if there is one
+  abbrev pub led_to : (ArenaSlot P T I G → ℕ → Option ℕ) → List (ArenaSlot P T I G) → ℕ → Option ℕ
+  led_to read es i = option_and_then (λ slot. read slot i) (item es i)
+
   -- the free index after i, if there is one
   abbrev pub after : List (ArenaSlot P T I G) → ℕ → Option ℕ
-  after es i = option_and_then (λ slot. next_in slot i) (item es i)
+  after es i = led_to next_in es i
 
   -- the free index before i, if there is one
   abbrev pub before : List (ArenaSlot P T I G) → ℕ → Option ℕ
-  before es i = option_and_then (λ slot. previous_in slot i) (item es i)
+  before es i = led_to previous_in es i
 
   -- the indexes from a link on, at most so many
   abbrev pub chain : List (ArenaSlot P T I G) → ℕ → Option ℕ → List ℕ
@@ -45,19 +49,12 @@ module _ {P T I G : Type 0} where
   abbrev pub IsLinked : List (ArenaSlot P T I G) → Option ℕ → List ℕ → Type 0
   IsLinked es from free = Linked (after es) (before es) None from free
 
-  -- of the slots one that is free, if any, leads on to this index, and no other link changes
-  pub record LeadsOn (number : G → ℕ) (old new : List (ArenaSlot P T I G)) (from to : Option ℕ) : Type 0 where
+  -- of the slots one that is free, if any, leads to this index by the one of its links, and no other link changes
+  pub record LeadsTo (read other : ArenaSlot P T I G → ℕ → Option ℕ) (number : G → ℕ) (old new : List (ArenaSlot P T I G)) (from to : Option ℕ) : Type 0 where
     pub entries : map (entry_of number) new ≡ map (entry_of number) old
-    pub next : (j : ℕ) → from ≡ Some j → after new j ≡ to
-    pub kept : (j : ℕ) → from ≢ Some j → after new j ≡ after old j
-    pub back : (j : ℕ) → before new j ≡ before old j
-
-  -- of the slots one that is free, if any, leads back to this index, and no other link changes
-  pub record LeadsBack (number : G → ℕ) (old new : List (ArenaSlot P T I G)) (from to : Option ℕ) : Type 0 where
-    pub entries : map (entry_of number) new ≡ map (entry_of number) old
-    pub previous : (j : ℕ) → from ≡ Some j → before new j ≡ to
-    pub kept : (j : ℕ) → from ≢ Some j → before new j ≡ before old j
-    pub on : (j : ℕ) → after new j ≡ after old j
+    pub leads : (j : ℕ) → from ≡ Some j → led_to read new j ≡ to
+    pub kept : (j : ℕ) → from ≢ Some j → led_to read new j ≡ led_to read old j
+    pub rest : (j : ℕ) → led_to other new j ≡ led_to other old j
 
   -- the slot at the index is free, leads to what was first, and back to none, and no link of another changes but that
   -- what was first leads back to it

@@ -43,14 +43,8 @@ module _ {P T I G : Type 0} where
   previous_in (Free link) i = previous_free link i
   previous_in (Allocated generation v) i = None
 
-  -- a free slot stays so, and leads on to this index alone
-  pub record LinksOn (old new : ArenaSlot P T I G) (i : ℕ) (to : Option ℕ) : Type 0 where
+  -- a free slot stays so, and leads to this index by the one of its links, and by the other as before
+  pub record LinksTo (read other : ArenaSlot P T I G → ℕ → Option ℕ) (old new : ArenaSlot P T I G) (i : ℕ) (to : Option ℕ) : Type 0 where
     pub free : (link : Link) × (new ≡ Free link)
-    pub next : next_in new i ≡ to
-    pub previous : previous_in new i ≡ previous_in old i
-
-  -- a free slot stays so, and leads back to this index alone
-  pub record LinksBack (old new : ArenaSlot P T I G) (i : ℕ) (to : Option ℕ) : Type 0 where
-    pub free : (link : Link) × (new ≡ Free link)
-    pub next : next_in new i ≡ next_in old i
-    pub previous : previous_in new i ≡ to
+    pub leads : read new i ≡ to
+    pub kept : other new i ≡ other old i

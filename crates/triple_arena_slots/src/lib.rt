@@ -4,6 +4,7 @@
 
 mod arena_steps;
 mod slot;
+mod slot_stack;
 mod slot_steps;
 mod slots;
 

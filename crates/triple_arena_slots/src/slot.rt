@@ -4,7 +4,7 @@ ghost use Rattle.std.specs.Prelude.{◌≡◌, ◌≢◌, ◌≤◌, ℕ, None, 
 ghost use Rattle.triple_arena_ptr.specs.Numbers.{greatest_index};
 ghost use Rattle.std.specs.Int.NonZero.{non_zero_usize_get};
 ghost use Rattle.std.specs.Option.{option_map};
-ghost use Rattle.triple_arena_slots.specs.Slot.{entry_of, next_free, previous_free, LinksOn, LinksBack, with_slot_value, with_slot_generation};
+ghost use Rattle.triple_arena_slots.specs.Slot.{entry_of, next_free, previous_free, next_in, previous_in, LinksTo, with_slot_value, with_slot_generation};
 
 use std::marker::Model;
 use std::num::NonZeroUsize;
@@ -153,7 +153,7 @@ impl<P: Ptr, T> ArenaSlot<P, T> {
         requires indexed { non_zero_usize_get inx ≤ greatest_index P.Inx.greatest }
         requires next_indexed { (j : ℕ) → option_map non_zero_usize_get next ≡ Some j
             → j ≤ greatest_index P.Inx.greatest }
-        ensures { LinksOn self.old self.new (non_zero_usize_get inx)
+        ensures { LinksTo next_in previous_in self.old self.new (non_zero_usize_get inx)
             (option_map non_zero_usize_get next) }
     {
         match self {
@@ -169,7 +169,7 @@ impl<P: Ptr, T> ArenaSlot<P, T> {
         requires indexed { non_zero_usize_get inx ≤ greatest_index P.Inx.greatest }
         requires previous_indexed { (j : ℕ) → option_map non_zero_usize_get previous ≡ Some j
             → j ≤ greatest_index P.Inx.greatest }
-        ensures { LinksBack self.old self.new (non_zero_usize_get inx)
+        ensures { LinksTo previous_in next_in self.old self.new (non_zero_usize_get inx)
             (option_map non_zero_usize_get previous) }
     {
         match self {

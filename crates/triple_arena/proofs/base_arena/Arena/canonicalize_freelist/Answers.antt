@@ -2,7 +2,6 @@ use Rattle.std.proofs.Common.{◌∙◌, ap, refl, subst, sym, arith}
 use Rattle.triple_arena_traits.specs.ArenaState.{ArenaState}
 use Rattle.triple_arena_traits.specs.FreeList.{tidied, IsTidied}
 use Rattle.triple_arena_slots.proofs.Links.{carried, Shows-steps}
-use Rattle.triple_arena_slots.proofs.Tidying.{Shows-tidied}
 use Rattle.triple_arena_traits.specs.laws.FreeListLaws.{IsTidied-tidied}
 use Rattle.triple_arena_traits.specs.laws.HistoryLaws.{Continues-resized}
 use Rattle.triple_arena.specs.laws.TouchedLaws.{tidied_slots}
@@ -12,8 +11,8 @@ use Rattle.triple_arena.proofs.base_arena.Arena.canonicalize_freelist.Goals as g
 
 pub invariant_of-self : goal.invariant_of-self
 invariant_of-self g c =
-    (carried g.P.Gen.PtrGen.number _ _ _ _ _ _ _ _ _ _ _ _ _ _ _ c.args.self.now (record (tidied c.args.self.now) { steps = c.tidy.new.self.steps.count }) c.self.invariant c.self.view_is
-    (λ shows. Shows-steps g.P.Gen.PtrGen.number _ _ _ c.tidy.new.self.steps.count _ (Shows-tidied g.P.Gen.PtrGen.number _ _ _ _ _ c.args.self.now c.tidy.ensures.slots c.tidy.ensures.linked shows))
+    (carried g.P.Gen.PtrGen.number _ _ _ _ _ _ _ _ _ _ _ _ _ _ _ c.args.self.now (record (tidied c.args.self.now) { steps = c.tidy.new.self.slots.steps.count }) c.self.invariant c.self.view_is
+    (λ shows. Shows-steps g.P.Gen.PtrGen.number _ _ _ c.tidy.new.self.slots.steps.count _ (c.tidy.ensures.shows c.args.self.now c.self.inside.len shows))
     (ap (λ s. s.counter) c.self.view_is)
     (c.tidy.ensures.room ∙ ap (λ s. s.room) c.self.view_is)
     (c.tidy.ensures.limit ∙ ap (λ s. s.limit) c.self.view_is)
@@ -21,8 +20,8 @@ invariant_of-self g c =
 
 pub returns-clause-state : goal.returns-clause-state
 returns-clause-state g c = (
-  (carried g.P.Gen.PtrGen.number _ _ _ _ _ _ _ _ _ _ _ _ _ _ _ c.args.self.now (record (tidied c.args.self.now) { steps = c.tidy.new.self.steps.count }) c.self.invariant c.self.view_is
-      (λ shows. Shows-steps g.P.Gen.PtrGen.number _ _ _ c.tidy.new.self.steps.count _ (Shows-tidied g.P.Gen.PtrGen.number _ _ _ _ _ c.args.self.now c.tidy.ensures.slots c.tidy.ensures.linked shows))
+  (carried g.P.Gen.PtrGen.number _ _ _ _ _ _ _ _ _ _ _ _ _ _ _ c.args.self.now (record (tidied c.args.self.now) { steps = c.tidy.new.self.slots.steps.count }) c.self.invariant c.self.view_is
+      (λ shows. Shows-steps g.P.Gen.PtrGen.number _ _ _ c.tidy.new.self.slots.steps.count _ (c.tidy.ensures.shows c.args.self.now c.self.inside.len shows))
       (ap (λ s. s.counter) c.self.view_is)
       (c.tidy.ensures.room ∙ ap (λ s. s.room) c.self.view_is)
       (c.tidy.ensures.limit ∙ ap (λ s. s.limit) c.self.view_is)
@@ -33,7 +32,7 @@ returns-clause-state g c = (
 pub returns-clause-tidied : goal.returns-clause-tidied
 returns-clause-tidied g c =
     let order = IsTidied-tidied c.args.self.now in
-    let counted : IsTidied c.args.self.now (record (tidied c.args.self.now) { steps = c.tidy.new.self.steps.count }) = record { entries = order.entries; ends_live = order.ends_live; rising = order.rising } in
+    let counted : IsTidied c.args.self.now (record (tidied c.args.self.now) { steps = c.tidy.new.self.slots.steps.count }) = record { entries = order.entries; ends_live = order.ends_live; rising = order.rising } in
     subst (IsTidied c.args.self.now) (sym (returns-clause-state g c).0) counted
 
 pub returns-clause-history : goal.returns-clause-history
@@ -43,4 +42,4 @@ returns-clause-history g c =
 
 pub tidy-requires-after_bounds : goal.tidy-requires-after_bounds
 tidy-requires-after_bounds g c κs within =
-    omega (arith, c.self.invariant.well.fits, length-map (g.S.NonZeroInxGenericStack.items c.self.inside.slots.stack) (entry_of g.P.Gen.PtrGen.number))
+    omega (arith, c.self.invariant.well.fits, length-map (g.S.NonZeroInxGenericStack.items c.self.inside.slots.slots.stack) (entry_of g.P.Gen.PtrGen.number))

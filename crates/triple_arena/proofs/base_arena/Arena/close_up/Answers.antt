@@ -11,12 +11,12 @@ use Rattle.triple_arena.proofs.base_arena.Arena.close_up.Goals as goal
 
 pub close_up-requires-clause-indexed : goal.close_up-requires-clause-indexed
 close_up-requires-clause-indexed g c =
-    omega (arith, c.self.invariant.well.fits, length-map (g.S.NonZeroInxGenericStack.items c.self.inside.slots.stack) (entry_of g.P.Gen.PtrGen.number))
+    omega (arith, c.self.invariant.well.fits, length-map (g.S.NonZeroInxGenericStack.items c.self.inside.slots.slots.stack) (entry_of g.P.Gen.PtrGen.number))
 
 pub invariant_of-self : goal.invariant_of-self
 invariant_of-self g c =
     let n = g.P.Gen.PtrGen.number c.self.inside.counter in
-    let shows = subst (Shows g.P.Gen.PtrGen.number (g.S.NonZeroInxGenericStack.items c.self.inside.slots.stack) _ c.self.inside.len) c.self.view_is c.self.invariant in
+    let shows = subst (Shows g.P.Gen.PtrGen.number (g.S.NonZeroInxGenericStack.items c.self.inside.slots.slots.stack) _ c.self.inside.len) c.self.view_is c.self.invariant in
     let closed = c.close_up.ensures.moved c.args.self.now c.self.inside.len shows in
     (carried g.P.Gen.PtrGen.number _ _ _ _ _ _ _ n _ _ _ _ _ _ _ c.args.self.now (compressed c.args.self.now n closed.0) c.self.invariant c.self.view_is
     (λ _. closed.2)
@@ -28,7 +28,7 @@ invariant_of-self g c =
 pub returns : goal.returns
 returns g c =
     let n = g.P.Gen.PtrGen.number c.self.inside.counter in
-    let shows = subst (Shows g.P.Gen.PtrGen.number (g.S.NonZeroInxGenericStack.items c.self.inside.slots.stack) _ c.self.inside.len) c.self.view_is c.self.invariant in
+    let shows = subst (Shows g.P.Gen.PtrGen.number (g.S.NonZeroInxGenericStack.items c.self.inside.slots.slots.stack) _ c.self.inside.len) c.self.view_is c.self.invariant in
     let closed = c.close_up.ensures.moved c.args.self.now c.self.inside.len shows in
     let is = (carried g.P.Gen.PtrGen.number _ _ _ _ _ _ _ n _ _ _ _ _ _ _ c.args.self.now (compressed c.args.self.now n closed.0) c.self.invariant c.self.view_is
     (λ _. closed.2)

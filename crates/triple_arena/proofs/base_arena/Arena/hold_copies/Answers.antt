@@ -9,12 +9,12 @@ use Rattle.triple_arena.proofs.base_arena.Arena.hold_copies.Goals as goal
 
 pub invariant_of-self : goal.invariant_of-self
 invariant_of-self g c =
-    let items = g.S.NonZeroInxGenericStack.items c.copy-len.new.self.stack in
+    let items = g.S.NonZeroInxGenericStack.items c.copy-len.new.self.slots.stack in
     let xs = map (entry_of g.P.Gen.PtrGen.number) items in
     let n = g.P.Gen.PtrGen.number c.args.counter in
     let fits : length xs ≤ capacity c.args.self.now = omega (arith, c.copy-len.ensures.ends, c.requires.fits, length-map items (entry_of g.P.Gen.PtrGen.number)) in
-    (carried g.P.Gen.PtrGen.number _ items _ _ _ c.copy-len.result.0 _ n _ _ _ _ _ _ _ c.args.self.now (record (laid_out c.args.self.now xs n) { steps = c.copy-len.new.self.steps.count }) c.self.invariant c.self.view_is
-    (λ _. Shows-steps g.P.Gen.PtrGen.number _ _ _ c.copy-len.new.self.steps.count _ (Shows-laid_out g.P.Gen.PtrGen.number items _ c.copy-len.result.0 c.args.self.now xs n refl c.copy-len.ensures.linked c.copy-len.ensures.count fits))
+    (carried g.P.Gen.PtrGen.number _ items _ _ _ c.copy-len.result.0 _ n _ _ _ _ _ _ _ c.args.self.now (record (laid_out c.args.self.now xs n) { steps = c.copy-len.new.self.slots.steps.count }) c.self.invariant c.self.view_is
+    (λ _. Shows-steps g.P.Gen.PtrGen.number _ _ _ c.copy-len.new.self.slots.steps.count _ (Shows-laid_out g.P.Gen.PtrGen.number items _ c.copy-len.result.0 c.args.self.now xs n refl c.copy-len.ensures.linked c.copy-len.ensures.count fits))
     refl
     (c.copy-len.ensures.room ∙ ap (λ s. s.room) c.self.view_is)
     (c.copy-len.ensures.limit ∙ ap (λ s. s.limit) c.self.view_is)
@@ -22,12 +22,12 @@ invariant_of-self g c =
 
 pub returns : goal.returns
 returns g c =
-    let items = g.S.NonZeroInxGenericStack.items c.copy-len.new.self.stack in
+    let items = g.S.NonZeroInxGenericStack.items c.copy-len.new.self.slots.stack in
     let xs = map (entry_of g.P.Gen.PtrGen.number) items in
     let n = g.P.Gen.PtrGen.number c.args.counter in
     let fits : length xs ≤ capacity c.args.self.now = omega (arith, c.copy-len.ensures.ends, c.requires.fits, length-map items (entry_of g.P.Gen.PtrGen.number)) in
-    let both = carried g.P.Gen.PtrGen.number _ items _ _ _ c.copy-len.result.0 _ n _ _ _ _ _ _ _ c.args.self.now (record (laid_out c.args.self.now xs n) { steps = c.copy-len.new.self.steps.count }) c.self.invariant c.self.view_is
-    (λ _. Shows-steps g.P.Gen.PtrGen.number _ _ _ c.copy-len.new.self.steps.count _ (Shows-laid_out g.P.Gen.PtrGen.number items _ c.copy-len.result.0 c.args.self.now xs n refl c.copy-len.ensures.linked c.copy-len.ensures.count fits))
+    let both = carried g.P.Gen.PtrGen.number _ items _ _ _ c.copy-len.result.0 _ n _ _ _ _ _ _ _ c.args.self.now (record (laid_out c.args.self.now xs n) { steps = c.copy-len.new.self.slots.steps.count }) c.self.invariant c.self.view_is
+    (λ _. Shows-steps g.P.Gen.PtrGen.number _ _ _ c.copy-len.new.self.slots.steps.count _ (Shows-laid_out g.P.Gen.PtrGen.number items _ c.copy-len.result.0 c.args.self.now xs n refl c.copy-len.ensures.linked c.copy-len.ensures.count fits))
     refl
     (c.copy-len.ensures.room ∙ ap (λ s. s.room) c.self.view_is)
     (c.copy-len.ensures.limit ∙ ap (λ s. s.limit) c.self.view_is)

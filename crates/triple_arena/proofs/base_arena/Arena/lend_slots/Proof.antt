@@ -242,16 +242,16 @@ module _ (P T S I G : RattleType) (P-Ptr : gPtr.Ghosts P.Denot I.Denot G.Denot) 
   module _ (laws : StackLaws) where
     -- the arena's invariant holds then, and it is the arena with those values
     put_keeps : (a : Inside.Denot) (w : St) → good a
-        → good (record a { slots = put a.slots (items a.slots.stack) w }) × (view (record a { slots = put a.slots (items a.slots.stack) w }) ≡ with_values_of (view a) w)
+        → good (record a { slots = put a.slots (items a.slots.slots.stack) w }) × (view (record a { slots = put a.slots (items a.slots.slots.stack) w }) ≡ with_values_of (view a) w)
     put_keeps a w ok =
-        let es : List X = items a.slots.stack in
+        let es : List X = items a.slots.slots.stack in
         let ws : List X = filled_all with_slot_value es w.slots in
-        kept_within number es (items (with_items a.slots.stack (refill (length es) es ws))) (option_map non_zero_usize_get a.slots.root) a.len (number a.counter)
-        (S-NonZeroInxGenericStack.room a.slots.stack) (S-NonZeroInxGenericStack.room (with_items a.slots.stack (refill (length es) es ws)))
-        (S-NonZeroInxGenericStack.limit a.slots.stack) (S-NonZeroInxGenericStack.limit (with_items a.slots.stack (refill (length es) es ws)))
-        (greatest_index P-Inx-PtrInx.greatest) a.slots.steps.count w
-        (laws.of_items a.slots.stack (refill (length es) es ws) ∙ refilled es ws (length-filled with_slot_value es w.slots))
-        (laws.of_room a.slots.stack (refill (length es) es ws)) (laws.of_limit a.slots.stack (refill (length es) es ws)) ok
+        kept_within number es (items (with_items a.slots.slots.stack (refill (length es) es ws))) (option_map non_zero_usize_get a.slots.root) a.len (number a.counter)
+        (S-NonZeroInxGenericStack.room a.slots.slots.stack) (S-NonZeroInxGenericStack.room (with_items a.slots.slots.stack (refill (length es) es ws)))
+        (S-NonZeroInxGenericStack.limit a.slots.slots.stack) (S-NonZeroInxGenericStack.limit (with_items a.slots.slots.stack (refill (length es) es ws)))
+        (greatest_index P-Inx-PtrInx.greatest) a.slots.slots.steps.count w
+        (laws.of_items a.slots.slots.stack (refill (length es) es ws) ∙ refilled es ws (length-filled with_slot_value es w.slots))
+        (laws.of_room a.slots.slots.stack (refill (length es) es ws)) (laws.of_limit a.slots.slots.stack (refill (length es) es ws)) ok
 
   module _ (LP : Laws P) (LT : Laws T) (LS : Laws S) (LI : Laws I) (LG : Laws G) (laws : StackLaws) {M : Type 1} {𝓤 : Ura M} (𝓛 : Logic 𝓤) (at : Memory → SProp 𝓤) (run : Routine → Fun 𝓤) where
     open 𝓛 use {H, A}
@@ -324,13 +324,13 @@ module _ (P T S I G : RattleType) (P-Ptr : gPtr.Ghosts P.Denot I.Denot G.Denot) 
         field_of = field_out 𝓛 full_share [] ms ((Slots-laws.the_row_laws rP rT rS rI rG P-Inx-PtrInx P-Inx-Debug P-Inx-Hash P-Inx-PartialEq P-Inx-PartialOrd P-Inx-Ord (copied_laws 0 P LP) (param_laws 1 T LT) (param_laws 2 S LS) (copied_laws 3 I LI) (copied_laws 4 G LG)).lawful 𝓛, (uint_Lawful 𝓛 w64, ((copied_laws 4 G LG).lawful 𝓛, tt))) (t, (a.len, (a.counter, tt))) rb ro 0
 
         -- with slots whose values were written it is an arena again
-        back : view a ≡ d → good a → (w : St) → ent 𝓤 (sep 𝓤 (sem 𝓛 ((mem Slr).own_at (put t (items t.stack) w) rb (ro + off))) Back) (sem 𝓛 ((mem Ar).own_at (with_values_of d w) rb ro))
+        back : view a ≡ d → good a → (w : St) → ent 𝓤 (sep 𝓤 (sem 𝓛 ((mem Slr).own_at (put t (items t.slots.stack) w) rb (ro + off))) Back) (sem 𝓛 ((mem Ar).own_at (with_values_of d w) rb ro))
         unfolding part_of
         back seen ok w =
-            let b : Inside.Denot = record a { slots = put t (items t.stack) w } in
+            let b : Inside.Denot = record a { slots = put t (items t.slots.stack) w } in
             let keeps = put_keeps laws a w ok in
-            qed 𝓛 (‵ (part_at Slr full_share (put t (items t.stack) w) rb (ro + off)) ∷ raw Back ∷ []) ∵
-            use2 𝓛 (‵ (part_at Inside full_share b rb ro)) (field_back 𝓛 full_share [] ms (put t (items t.stack) w, (a.len, (a.counter, tt))) rb ro 0) $
+            qed 𝓛 (‵ (part_at Slr full_share (put t (items t.slots.stack) w) rb (ro + off)) ∷ raw Back ∷ []) ∵
+            use2 𝓛 (‵ (part_at Inside full_share b rb ro)) (field_back 𝓛 full_share [] ms (put t (items t.slots.stack) w, (a.len, (a.counter, tt))) rb ro 0) $
             by ! (Plain-in Ar Inside (view_owns Inside St Ar.coded view good) 𝓛 full_share (with_values_of d w) b
             (view_made Inside St Ar.coded view good 𝓛 (with_values_of d w) b (keeps.1 ∙ ap (λ (s : St). with_values_of s w) seen, keeps.0)) rb ro)
 
@@ -355,7 +355,7 @@ module _ (P T S I G : RattleType) (P-Ptr : gPtr.Ghosts P.Denot I.Denot G.Denot) 
             (plain_out Ar Inside (view_owns Inside St Ar.coded view good) 𝓛 full_share d rb ro) $ pick ! (λ x.
             let a : Inside.Denot = x.0 in
             let t : D = a.slots in
-            let es : List X = items t.stack in
+            let es : List X = items t.slots.stack in
             use1 𝓛 (‵ (part_at Slr full_share t rb (ro + off)) ⊛ raw (Back a)) (field_of a) $ split ! $
             name_new ! tt (Slr.coded.code t) (λ δ.
             let lent_slots : MutBor D = record { ref_ptr = (rb, ro + off); ghost_name = δ; now = t } in

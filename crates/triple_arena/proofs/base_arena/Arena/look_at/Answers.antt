@@ -9,12 +9,12 @@ use Rattle.triple_arena.proofs.base_arena.Arena.look_at.Goals as goal
 
 pub find_inx-requires-after_bounds : goal.find_inx-requires-after_bounds
 find_inx-requires-after_bounds g c κs within =
-    omega (arith, c.self.invariant.well.fits, length-map (g.S.NonZeroInxGenericStack.items c.self.inside.slots.stack) (entry_of g.P.Gen.PtrGen.number))
+    omega (arith, c.self.invariant.well.fits, length-map (g.S.NonZeroInxGenericStack.items c.self.inside.slots.slots.stack) (entry_of g.P.Gen.PtrGen.number))
 
 pub invariant_of-self : goal.invariant_of-self
 invariant_of-self g c =
-    (carried g.P.Gen.PtrGen.number _ (g.S.NonZeroInxGenericStack.items c.find_inx.new.self.stack) _ (option_map non_zero_usize_get c.find_inx.new.self.root) c.self.inside.len c.self.inside.len _ _ _ _ _ _ _ _ _ c.args.self.now (record c.args.self.now { steps = c.find_inx.new.self.steps.count }) c.self.invariant c.self.view_is
-    (λ shows. rw (c.find_inx.ensures.stack, c.find_inx.ensures.root) (Shows-steps g.P.Gen.PtrGen.number _ _ _ c.find_inx.new.self.steps.count _ shows))
+    (carried g.P.Gen.PtrGen.number _ (g.S.NonZeroInxGenericStack.items c.find_inx.new.self.slots.stack) _ (option_map non_zero_usize_get c.find_inx.new.self.root) c.self.inside.len c.self.inside.len _ _ _ _ _ _ _ _ _ c.args.self.now (record c.args.self.now { steps = c.find_inx.new.self.slots.steps.count }) c.self.invariant c.self.view_is
+    (λ shows. rw (c.find_inx.ensures.stack, c.find_inx.ensures.root) (Shows-steps g.P.Gen.PtrGen.number _ _ _ c.find_inx.new.self.slots.steps.count _ shows))
     (ap (λ s. s.counter) c.self.view_is)
     (ap g.S.NonZeroInxGenericStack.room c.find_inx.ensures.stack ∙ ap (λ s. s.room) c.self.view_is)
     (ap g.S.NonZeroInxGenericStack.limit c.find_inx.ensures.stack ∙ ap (λ s. s.limit) c.self.view_is)
@@ -25,14 +25,14 @@ returns-clause-live g c = c.find_inx.ensures.live ∙ ap (λ (s : ArenaState g.r
 
 pub returns-clause-unchanged : goal.returns-clause-unchanged
 returns-clause-unchanged g c = (
-  (carried g.P.Gen.PtrGen.number _ (g.S.NonZeroInxGenericStack.items c.find_inx.new.self.stack) _ (option_map non_zero_usize_get c.find_inx.new.self.root) c.self.inside.len c.self.inside.len _ _ _ _ _ _ _ _ _ c.args.self.now (record c.args.self.now { steps = c.find_inx.new.self.steps.count }) c.self.invariant c.self.view_is
-      (λ shows. rw (c.find_inx.ensures.stack, c.find_inx.ensures.root) (Shows-steps g.P.Gen.PtrGen.number _ _ _ c.find_inx.new.self.steps.count _ shows))
+  (carried g.P.Gen.PtrGen.number _ (g.S.NonZeroInxGenericStack.items c.find_inx.new.self.slots.stack) _ (option_map non_zero_usize_get c.find_inx.new.self.root) c.self.inside.len c.self.inside.len _ _ _ _ _ _ _ _ _ c.args.self.now (record c.args.self.now { steps = c.find_inx.new.self.slots.steps.count }) c.self.invariant c.self.view_is
+      (λ shows. rw (c.find_inx.ensures.stack, c.find_inx.ensures.root) (Shows-steps g.P.Gen.PtrGen.number _ _ _ c.find_inx.new.self.slots.steps.count _ shows))
       (ap (λ s. s.counter) c.self.view_is)
       (ap g.S.NonZeroInxGenericStack.room c.find_inx.ensures.stack ∙ ap (λ s. s.room) c.self.view_is)
       (ap g.S.NonZeroInxGenericStack.limit c.find_inx.ensures.stack ∙ ap (λ s. s.limit) c.self.view_is)
       (ap (λ s. s.greatest) c.self.view_is) refl).1,
-  omega (arith, c.find_inx.ensures.steps, ap (λ s. s.steps) c.self.view_is),
+  omega (arith, c.find_inx.ensures.bounded, ap (λ s. s.steps) c.self.view_is),
 )
 
 pub returns-clause-steps : goal.returns-clause-steps
-returns-clause-steps g c = omega (arith, c.find_inx.ensures.steps, ap (λ s. s.steps) c.self.view_is)
+returns-clause-steps g c = omega (arith, c.find_inx.ensures.bounded, ap (λ s. s.steps) c.self.view_is)

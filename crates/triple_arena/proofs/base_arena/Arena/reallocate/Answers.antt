@@ -30,4 +30,4 @@ pub returns-clause-with_memory : goal.returns-clause-with_memory
 returns-clause-with_memory g c = as_shown g.P.Gen.PtrGen.number _ _ _ _ _ _ _ _ c.args.self.now (λ room limit n. IsWithin limit c.args.min_capacity → g.S.NonZeroInxGenericStack.has_memory (reallocated_room g.S.NonZeroInxGenericStack.kind room n c.args.min_capacity) → IsOk c.reallocate.result) c.self.invariant c.self.view_is c.reallocate.ensures.with_memory
 
 pub returns-clause-place : goal.returns-clause-place
-returns-clause-place g c = placed c.reallocate.result c.args.min_capacity (stack_capacity (g.S.NonZeroInxGenericStack.room c.reallocate.new.self.stack) (g.S.NonZeroInxGenericStack.limit c.reallocate.new.self.stack)) (greatest_index g.P.Inx.PtrInx.greatest) c.reallocate.ensures.place
+returns-clause-place g c = placed c.reallocate.result c.args.min_capacity (stack_capacity (g.S.NonZeroInxGenericStack.room c.reallocate.new.self.slots.stack) (g.S.NonZeroInxGenericStack.limit c.reallocate.new.self.slots.stack)) (greatest_index g.P.Inx.PtrInx.greatest) c.reallocate.ensures.place

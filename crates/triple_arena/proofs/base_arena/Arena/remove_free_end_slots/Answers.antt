@@ -16,8 +16,8 @@ use Rattle.triple_arena.proofs.base_arena.Arena.remove_free_end_slots.Goals as g
 
 pub invariant_of-self : goal.invariant_of-self
 invariant_of-self g c =
-    (carried g.P.Gen.PtrGen.number _ _ _ _ _ _ _ _ _ _ _ _ _ _ _ c.args.self.now (record (without_free_end c.args.self.now) { steps = c.remove_free_end.new.self.steps.count }) c.self.invariant c.self.view_is
-    (λ shows. Shows-steps g.P.Gen.PtrGen.number _ _ _ c.remove_free_end.new.self.steps.count _ (c.remove_free_end.ensures.shows c.args.self.now c.self.inside.len shows))
+    (carried g.P.Gen.PtrGen.number _ _ _ _ _ _ _ _ _ _ _ _ _ _ _ c.args.self.now (record (without_free_end c.args.self.now) { steps = c.remove_free_end.new.self.slots.steps.count }) c.self.invariant c.self.view_is
+    (λ shows. Shows-steps g.P.Gen.PtrGen.number _ _ _ c.remove_free_end.new.self.slots.steps.count _ (c.remove_free_end.ensures.shows c.args.self.now c.self.inside.len shows))
     (ap (λ s. s.counter) c.self.view_is)
     (c.remove_free_end.ensures.room ∙ ap (λ s. s.room) c.self.view_is)
     (c.remove_free_end.ensures.limit ∙ ap (λ s. s.limit) c.self.view_is)
@@ -25,22 +25,22 @@ invariant_of-self g c =
 
 pub returns-clause-state : goal.returns-clause-state
 returns-clause-state g c = (
-  (carried g.P.Gen.PtrGen.number _ _ _ _ _ _ _ _ _ _ _ _ _ _ _ c.args.self.now (record (without_free_end c.args.self.now) { steps = c.remove_free_end.new.self.steps.count }) c.self.invariant c.self.view_is
-      (λ shows. Shows-steps g.P.Gen.PtrGen.number _ _ _ c.remove_free_end.new.self.steps.count _ (c.remove_free_end.ensures.shows c.args.self.now c.self.inside.len shows))
+  (carried g.P.Gen.PtrGen.number _ _ _ _ _ _ _ _ _ _ _ _ _ _ _ c.args.self.now (record (without_free_end c.args.self.now) { steps = c.remove_free_end.new.self.slots.steps.count }) c.self.invariant c.self.view_is
+      (λ shows. Shows-steps g.P.Gen.PtrGen.number _ _ _ c.remove_free_end.new.self.slots.steps.count _ (c.remove_free_end.ensures.shows c.args.self.now c.self.inside.len shows))
       (ap (λ s. s.counter) c.self.view_is)
       (c.remove_free_end.ensures.room ∙ ap (λ s. s.room) c.self.view_is)
       (c.remove_free_end.ensures.limit ∙ ap (λ s. s.limit) c.self.view_is)
       (ap (λ s. s.greatest) c.self.view_is) refl).1,
-  omega (arith, c.remove_free_end.ensures.steps, ap (λ s. s.steps) c.self.view_is),
+  omega (arith, c.remove_free_end.ensures.bounded, ap (λ s. s.steps) c.self.view_is),
 )
 
 pub returns-clause-bounded : goal.returns-clause-bounded
 returns-clause-bounded g c =
     let f = entry_of g.P.Gen.PtrGen.number in
-    let old = g.S.NonZeroInxGenericStack.items c.self.inside.slots.stack in
-    let new = g.S.NonZeroInxGenericStack.items c.remove_free_end.new.self.stack in
+    let old = g.S.NonZeroInxGenericStack.items c.self.inside.slots.slots.stack in
+    let new = g.S.NonZeroInxGenericStack.items c.remove_free_end.new.self.slots.stack in
     let less : slot_count (without_free_end c.args.self.now) ≤ slot_count c.args.self.now = trimmed_length c.args.self.now.slots in
-    omega (arith, c.remove_free_end.ensures.steps, ap (λ s. s.steps) c.self.view_is, length-map old f, length-map new f, ap slot_count c.self.view_is, c.remove_free_end.ensures.fewer, ap slot_count (returns-clause-state g c).0, less)
+    omega (arith, c.remove_free_end.ensures.bounded, ap (λ s. s.steps) c.self.view_is, length-map old f, length-map new f, ap slot_count c.self.view_is, c.remove_free_end.ensures.fewer, ap slot_count (returns-clause-state g c).0, less)
 
 pub returns-clause-kept : goal.returns-clause-kept
 returns-clause-kept g c q =
@@ -62,4 +62,4 @@ returns-clause-history g c =
 
 pub remove_free_end-requires-clause-indexed : goal.remove_free_end-requires-clause-indexed
 remove_free_end-requires-clause-indexed g c κs within =
-    omega (arith, c.self.invariant.well.fits, length-map (g.S.NonZeroInxGenericStack.items c.self.inside.slots.stack) (entry_of g.P.Gen.PtrGen.number))
+    omega (arith, c.self.invariant.well.fits, length-map (g.S.NonZeroInxGenericStack.items c.self.inside.slots.slots.stack) (entry_of g.P.Gen.PtrGen.number))

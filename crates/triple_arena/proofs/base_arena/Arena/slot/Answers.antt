@@ -3,12 +3,12 @@ use Rattle.std.specs.Option.{option_and_then}
 use Rattle.triple_arena_slots.specs.Slot.{entry_of}
 use Rattle.triple_arena_traits.specs.ArenaState.{entry}
 use Rattle.triple_arena_traits.specs.laws.WellFormedLaws.{entry_past, entry_within}
-use Rattle.triple_arena_slots.proofs.Refused.{slot_read}
+use Rattle.triple_arena_traits.specs.laws.EntryLaws.{slot_read}
 use Rattle.triple_arena.proofs.base_arena.Arena.slot.Goals as goal
 
 pub returns-clause-entry : goal.returns-clause-entry
 returns-clause-entry g c =
-    slot_read (entry_of g.P.Gen.PtrGen.number) (g.S.NonZeroInxGenericStack.items c.self.inside.slots.stack) _ _ _ _ (rw c.stack.ensures at c.slot_at.ensures) (ap (λ s. s.slots) c.self.view_is) c.in_ok-try_into_usize.ensures.number
+    slot_read (entry_of g.P.Gen.PtrGen.number) (g.S.NonZeroInxGenericStack.items c.self.inside.slots.slots.stack) _ _ _ _ c.peek.ensures (ap (λ s. s.slots) c.self.view_is) c.in_ok-try_into_usize.ensures.number
 
 pub returns-clause-within : goal.returns-clause-within
 returns-clause-within g c live =

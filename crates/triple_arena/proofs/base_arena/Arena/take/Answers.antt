@@ -13,12 +13,12 @@ use Rattle.triple_arena.proofs.base_arena.Arena.take.Goals as goal
 pub overflow_sub-self : goal.overflow_sub-self
 overflow_sub-self g c =
     let live = subst (λ s. IsSome (entry s (non_zero_usize_get c.args.inx))) (sym c.self.view_is) c.requires in
-    live_len g.P.Gen.PtrGen.number (g.S.NonZeroInxGenericStack.items c.self.inside.slots.stack) _ (non_zero_usize_get c.args.inx) _ _ live c.self.invariant
+    live_len g.P.Gen.PtrGen.number (g.S.NonZeroInxGenericStack.items c.self.inside.slots.slots.stack) _ (non_zero_usize_get c.args.inx) _ _ live c.self.invariant
 
 pub invariant_of-self : goal.invariant_of-self
 invariant_of-self g c =
-    (carried g.P.Gen.PtrGen.number _ _ _ _ _ _ _ _ _ _ _ _ _ _ _ c.args.self.now (record (removed (raise g.P.Gen.PtrGen.generations) c.args.self.now (non_zero_usize_get c.args.inx)) { steps = c.vacate-taken.new.self.steps.count }) c.self.invariant c.self.view_is
-    (λ shows. Shows-steps g.P.Gen.PtrGen.number _ _ _ c.vacate-taken.new.self.steps.count _ (c.vacate-taken.ensures.shows (raise g.P.Gen.PtrGen.generations) c.args.self.now c.self.inside.len shows))
+    (carried g.P.Gen.PtrGen.number _ _ _ _ _ _ _ _ _ _ _ _ _ _ _ c.args.self.now (record (removed (raise g.P.Gen.PtrGen.generations) c.args.self.now (non_zero_usize_get c.args.inx)) { steps = c.vacate-taken.new.self.slots.steps.count }) c.self.invariant c.self.view_is
+    (λ shows. Shows-steps g.P.Gen.PtrGen.number _ _ _ c.vacate-taken.new.self.slots.steps.count _ (c.vacate-taken.ensures.shows (raise g.P.Gen.PtrGen.generations) c.args.self.now c.self.inside.len shows))
     (c.generational_inc-counter.ensures.raised ∙ ap (λ s. raise g.P.Gen.PtrGen.generations s.counter) c.self.view_is ∙ sym (counter-removed (raise g.P.Gen.PtrGen.generations) c.args.self.now (non_zero_usize_get c.args.inx)))
     (c.vacate-taken.ensures.room ∙ ap (λ s. s.room) c.self.view_is ∙ sym (room-removed (raise g.P.Gen.PtrGen.generations) c.args.self.now (non_zero_usize_get c.args.inx)))
     (c.vacate-taken.ensures.limit ∙ ap (λ s. s.limit) c.self.view_is ∙ sym (limit-removed (raise g.P.Gen.PtrGen.generations) c.args.self.now (non_zero_usize_get c.args.inx)))
@@ -26,18 +26,18 @@ invariant_of-self g c =
 
 pub returns-clause-state : goal.returns-clause-state
 returns-clause-state g c = (
-  (carried g.P.Gen.PtrGen.number _ _ _ _ _ _ _ _ _ _ _ _ _ _ _ c.args.self.now (record (removed (raise g.P.Gen.PtrGen.generations) c.args.self.now (non_zero_usize_get c.args.inx)) { steps = c.vacate-taken.new.self.steps.count }) c.self.invariant c.self.view_is
-      (λ shows. Shows-steps g.P.Gen.PtrGen.number _ _ _ c.vacate-taken.new.self.steps.count _ (c.vacate-taken.ensures.shows (raise g.P.Gen.PtrGen.generations) c.args.self.now c.self.inside.len shows))
+  (carried g.P.Gen.PtrGen.number _ _ _ _ _ _ _ _ _ _ _ _ _ _ _ c.args.self.now (record (removed (raise g.P.Gen.PtrGen.generations) c.args.self.now (non_zero_usize_get c.args.inx)) { steps = c.vacate-taken.new.self.slots.steps.count }) c.self.invariant c.self.view_is
+      (λ shows. Shows-steps g.P.Gen.PtrGen.number _ _ _ c.vacate-taken.new.self.slots.steps.count _ (c.vacate-taken.ensures.shows (raise g.P.Gen.PtrGen.generations) c.args.self.now c.self.inside.len shows))
       (c.generational_inc-counter.ensures.raised ∙ ap (λ s. raise g.P.Gen.PtrGen.generations s.counter) c.self.view_is ∙ sym (counter-removed (raise g.P.Gen.PtrGen.generations) c.args.self.now (non_zero_usize_get c.args.inx)))
       (c.vacate-taken.ensures.room ∙ ap (λ s. s.room) c.self.view_is ∙ sym (room-removed (raise g.P.Gen.PtrGen.generations) c.args.self.now (non_zero_usize_get c.args.inx)))
       (c.vacate-taken.ensures.limit ∙ ap (λ s. s.limit) c.self.view_is ∙ sym (limit-removed (raise g.P.Gen.PtrGen.generations) c.args.self.now (non_zero_usize_get c.args.inx)))
       (ap (λ s. s.greatest) c.self.view_is ∙ sym (greatest-removed (raise g.P.Gen.PtrGen.generations) c.args.self.now (non_zero_usize_get c.args.inx))) refl).1,
-  omega (arith, c.vacate-taken.ensures.steps, ap (λ s. s.steps) c.self.view_is, steps_of-removed (raise g.P.Gen.PtrGen.generations) c.args.self.now (non_zero_usize_get c.args.inx)),
+  omega (arith, c.vacate-taken.ensures.bounded, ap (λ s. s.steps) c.self.view_is, steps_of-removed (raise g.P.Gen.PtrGen.generations) c.args.self.now (non_zero_usize_get c.args.inx)),
 )
 
 pub returns-clause-steps : goal.returns-clause-steps
-returns-clause-steps g c = omega (arith, c.vacate-taken.ensures.steps, ap (λ s. s.steps) c.self.view_is)
+returns-clause-steps g c = omega (arith, c.vacate-taken.ensures.bounded, ap (λ s. s.steps) c.self.view_is)
 
 pub vacate-taken-requires-clause-indexed : goal.vacate-taken-requires-clause-indexed
 vacate-taken-requires-clause-indexed g c κs within =
-    omega (arith, c.self.invariant.well.fits, length-map (g.S.NonZeroInxGenericStack.items c.self.inside.slots.stack) (entry_of g.P.Gen.PtrGen.number))
+    omega (arith, c.self.invariant.well.fits, length-map (g.S.NonZeroInxGenericStack.items c.self.inside.slots.slots.stack) (entry_of g.P.Gen.PtrGen.number))

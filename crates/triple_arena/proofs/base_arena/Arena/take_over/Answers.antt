@@ -12,7 +12,7 @@ use Rattle.triple_arena.proofs.base_arena.Arena.take_over.Goals as goal
 pub invariant_of-self : goal.invariant_of-self
 invariant_of-self g c =
     let taken = c.take_over-self-inside in
-    let items = g.S.NonZeroInxGenericStack.items taken.new.self.stack in
+    let items = g.S.NonZeroInxGenericStack.items taken.new.self.slots.stack in
     let xs = map (entry_of g.P.Gen.PtrGen.number) items in
     let n = g.P.Gen.PtrGen.number c.args.generation in
     let full = closed_up_slots n _ xs taken.ensures.transferred.stands in
@@ -27,7 +27,7 @@ invariant_of-self g c =
 pub returns : goal.returns
 returns g c =
     let taken = c.take_over-self-inside in
-    let items = g.S.NonZeroInxGenericStack.items taken.new.self.stack in
+    let items = g.S.NonZeroInxGenericStack.items taken.new.self.slots.stack in
     let xs = map (entry_of g.P.Gen.PtrGen.number) items in
     let n = g.P.Gen.PtrGen.number c.args.generation in
     let full = closed_up_slots n _ xs taken.ensures.transferred.stands in

@@ -70,4 +70,4 @@ returns-clause-free g c = c.next_ptr-p.ensures.free
 
 pub occupy-requires-clause-indexed : goal.occupy-requires-clause-indexed
 occupy-requires-clause-indexed g c κs within =
-    omega (arith, c.self.invariant.well.fits, length-map (g.S.NonZeroInxGenericStack.items c.self.inside.slots.stack) (entry_of g.P.Gen.PtrGen.number))
+    omega (arith, c.self.invariant.well.fits, length-map (g.S.NonZeroInxGenericStack.items c.self.inside.slots.slots.stack) (entry_of g.P.Gen.PtrGen.number))

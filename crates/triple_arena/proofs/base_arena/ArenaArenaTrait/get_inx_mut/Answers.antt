@@ -12,13 +12,13 @@ use Rattle.triple_arena.proofs.base_arena.ArenaArenaTrait.get_inx_mut.Goals as g
 
 pub invariant_of-self-lent : goal.invariant_of-self-lent
 invariant_of-self-lent g c w =
-    let live = subst (λ n. IsSome (entry_at g.P.Gen.PtrGen.number (g.S.NonZeroInxGenericStack.items c.self.inside.slots.stack) n)) (sym c.in_ok-inx.ensures.index) (sym c.in_ok-inx.ensures.live) in
+    let live = subst (λ n. IsSome (entry_at g.P.Gen.PtrGen.number (g.S.NonZeroInxGenericStack.items c.self.inside.slots.slots.stack) n)) (sym c.in_ok-inx.ensures.index) (sym c.in_ok-inx.ensures.live) in
     (lent g.P.Gen.PtrGen.number _ _ _ _ _ _ _ _ _ _ _ c.args.self.now (non_zero_usize_get c.in_ok-inx.inx) w c.self.invariant c.self.view_is live
     (g.met.S.NonZeroInxGenericStack.items_with_items _ _) (g.met.S.NonZeroInxGenericStack.room_with_items _ _) (g.met.S.NonZeroInxGenericStack.limit_with_items _ _)).0
 
 pub returns : goal.returns
 returns g c =
-    let live = subst (λ n. IsSome (entry_at g.P.Gen.PtrGen.number (g.S.NonZeroInxGenericStack.items c.self.inside.slots.stack) n)) (sym c.in_ok-inx.ensures.index) (sym c.in_ok-inx.ensures.live) in (
+    let live = subst (λ n. IsSome (entry_at g.P.Gen.PtrGen.number (g.S.NonZeroInxGenericStack.items c.self.inside.slots.slots.stack) n)) (sym c.in_ok-inx.ensures.index) (sym c.in_ok-inx.ensures.live) in (
       ap (λ (F : g.row.T.Denot → ArenaState g.row.T.Denot). inl (c.value_mut.result.ghost_name, F)) (fun_ext (λ w.
           (lent g.P.Gen.PtrGen.number _ _ _ _ _ _ _ _ _ _ _ c.args.self.now (non_zero_usize_get c.in_ok-inx.inx) w c.self.invariant c.self.view_is live
           (g.met.S.NonZeroInxGenericStack.items_with_items _ _) (g.met.S.NonZeroInxGenericStack.room_with_items _ _) (g.met.S.NonZeroInxGenericStack.limit_with_items _ _)).1
@@ -35,7 +35,7 @@ invariant_of-self g c = c.self.invariant
 
 pub value_mut-requires-after_bounds : goal.value_mut-requires-after_bounds
 value_mut-requires-after_bounds g c κs within =
-    subst (λ n. IsSome (entry_at g.P.Gen.PtrGen.number (g.S.NonZeroInxGenericStack.items c.self.inside.slots.stack) n)) (sym c.in_ok-inx.ensures.index) (sym c.in_ok-inx.ensures.live)
+    subst (λ n. IsSome (entry_at g.P.Gen.PtrGen.number (g.S.NonZeroInxGenericStack.items c.self.inside.slots.slots.stack) n)) (sym c.in_ok-inx.ensures.index) (sym c.in_ok-inx.ensures.live)
 
 pub returns-in_err-inx : goal.returns-in_err-inx
 returns-in_err-inx g c =

@@ -19,8 +19,8 @@ use Rattle.triple_arena.proofs.base_arena.ArenaArenaTrait.invalidate.Goals as go
 
 pub invariant_of-self : goal.invariant_of-self
 invariant_of-self g c =
-    (carried g.P.Gen.PtrGen.number _ _ _ _ _ _ _ _ _ _ _ _ _ _ _ c.look_for.new.self (record c.look_for.new.self { slots = with_generation_in c.look_for.new.self.slots (non_zero_usize_get c.in-Some.inx) (g.P.Gen.PtrGen.number c.generational_inc-counter.result.0); counter = (g.P.Gen.PtrGen.number c.generational_inc-counter.result.0); steps = c.restamp.new.self.steps.count }) c.self.invariant c.self.view_is
-    (λ shows. Shows-steps g.P.Gen.PtrGen.number _ _ _ c.restamp.new.self.steps.count _ (Shows-counter g.P.Gen.PtrGen.number _ _ _ (g.P.Gen.PtrGen.number c.generational_inc-counter.result.0) _ (c.restamp.ensures.shows c.look_for.new.self c.self.inside.len shows)))
+    (carried g.P.Gen.PtrGen.number _ _ _ _ _ _ _ _ _ _ _ _ _ _ _ c.look_for.new.self (record c.look_for.new.self { slots = with_generation_in c.look_for.new.self.slots (non_zero_usize_get c.in-Some.inx) (g.P.Gen.PtrGen.number c.generational_inc-counter.result.0); counter = (g.P.Gen.PtrGen.number c.generational_inc-counter.result.0); steps = c.restamp.new.self.slots.steps.count }) c.self.invariant c.self.view_is
+    (λ shows. Shows-steps g.P.Gen.PtrGen.number _ _ _ c.restamp.new.self.slots.steps.count _ (Shows-counter g.P.Gen.PtrGen.number _ _ _ (g.P.Gen.PtrGen.number c.generational_inc-counter.result.0) _ (c.restamp.ensures.shows c.look_for.new.self c.self.inside.len shows)))
     refl
     (c.restamp.ensures.room ∙ ap (λ s. s.room) c.self.view_is)
     (c.restamp.ensures.limit ∙ ap (λ s. s.limit) c.self.view_is)
@@ -28,11 +28,11 @@ invariant_of-self g c =
 
 pub returns-clause-done : goal.returns-clause-done
 returns-clause-done g c live =
-    let k = c.restamp.new.self.steps.count in
+    let k = c.restamp.new.self.slots.steps.count in
     let i = non_zero_usize_get c.in-Some.inx in
     let n = (g.P.Gen.PtrGen.number c.generational_inc-counter.result.0) in (
-      (carried g.P.Gen.PtrGen.number _ _ _ _ _ _ _ _ _ _ _ _ _ _ _ c.look_for.new.self (record c.look_for.new.self { slots = with_generation_in c.look_for.new.self.slots (non_zero_usize_get c.in-Some.inx) (g.P.Gen.PtrGen.number c.generational_inc-counter.result.0); counter = (g.P.Gen.PtrGen.number c.generational_inc-counter.result.0); steps = c.restamp.new.self.steps.count }) c.self.invariant c.self.view_is
-          (λ shows. Shows-steps g.P.Gen.PtrGen.number _ _ _ c.restamp.new.self.steps.count _ (Shows-counter g.P.Gen.PtrGen.number _ _ _ (g.P.Gen.PtrGen.number c.generational_inc-counter.result.0) _ (c.restamp.ensures.shows c.look_for.new.self c.self.inside.len shows)))
+      (carried g.P.Gen.PtrGen.number _ _ _ _ _ _ _ _ _ _ _ _ _ _ _ c.look_for.new.self (record c.look_for.new.self { slots = with_generation_in c.look_for.new.self.slots (non_zero_usize_get c.in-Some.inx) (g.P.Gen.PtrGen.number c.generational_inc-counter.result.0); counter = (g.P.Gen.PtrGen.number c.generational_inc-counter.result.0); steps = c.restamp.new.self.slots.steps.count }) c.self.invariant c.self.view_is
+          (λ shows. Shows-steps g.P.Gen.PtrGen.number _ _ _ c.restamp.new.self.slots.steps.count _ (Shows-counter g.P.Gen.PtrGen.number _ _ _ (g.P.Gen.PtrGen.number c.generational_inc-counter.result.0) _ (c.restamp.ensures.shows c.look_for.new.self c.self.inside.len shows)))
           refl
           (c.restamp.ensures.room ∙ ap (λ s. s.room) c.self.view_is)
           (c.restamp.ensures.limit ∙ ap (λ s. s.limit) c.self.view_is)

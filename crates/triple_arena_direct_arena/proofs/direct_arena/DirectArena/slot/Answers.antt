@@ -1,7 +1,7 @@
 use Rattle.std.proofs.Common.{◌∙◌, sym, ap, option_copied}
 use Rattle.std.specs.Option.{option_and_then}
 use Rattle.triple_arena_direct_arena.specs.DirectSlot.{direct_slot_entry}
-use Rattle.triple_arena_direct_arena.proofs.Reading.{slot_read}
+use Rattle.triple_arena_traits.specs.laws.EntryLaws.{slot_read}
 use Rattle.triple_arena_direct_arena.proofs.Refused.{none_past, entry_indexed}
 use Rattle.triple_arena_direct_arena.proofs.direct_arena.DirectArena.slot.Goals as goal
 

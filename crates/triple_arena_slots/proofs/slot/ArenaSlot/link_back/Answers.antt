@@ -7,6 +7,6 @@ pub returns : goal.returns
 returns g c =
     record {
       free = (_, refl);
-      next = ap (λ (i : ℕ). cond (i == non_zero_usize_get c.args.inx) None (Some i)) c.set_previous.ensures.next ∙ sym (ap (λ slot. next_in slot (non_zero_usize_get c.args.inx)) c.in-Free.is);
-      previous = c.set_previous.ensures.previous;
+      leads = c.set_previous.ensures.previous;
+      kept = ap (λ (i : ℕ). cond (i == non_zero_usize_get c.args.inx) None (Some i)) c.set_previous.ensures.next ∙ sym (ap (λ slot. next_in slot (non_zero_usize_get c.args.inx)) c.in-Free.is);
     }

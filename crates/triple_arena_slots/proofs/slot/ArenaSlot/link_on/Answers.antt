@@ -7,6 +7,6 @@ pub returns : goal.returns
 returns g c =
     record {
       free = (_, refl);
-      next = c.set_next.ensures.next;
-      previous = ap (λ (i : ℕ). cond (i == non_zero_usize_get c.args.inx) None (Some i)) c.set_next.ensures.previous ∙ sym (ap (λ slot. previous_in slot (non_zero_usize_get c.args.inx)) c.in-Free.is);
+      leads = c.set_next.ensures.next;
+      kept = ap (λ (i : ℕ). cond (i == non_zero_usize_get c.args.inx) None (Some i)) c.set_next.ensures.previous ∙ sym (ap (λ slot. previous_in slot (non_zero_usize_get c.args.inx)) c.in-Free.is);
     }

@@ -8,7 +8,7 @@ use Rattle.triple_arena_slots.proofs.slots.Slots.find.Goals as goal
 
 pub returns-in_err-inx-clause-live : goal.returns-in_err-inx-clause-live
 returns-in_err-inx-clause-live g c =
-    let items = g.S.NonZeroInxGenericStack.items c.args.self.now.stack in
+    let items = g.S.NonZeroInxGenericStack.items c.args.self.now.slots.stack in
     let at = ap g.P.Inx.PtrInx.number c.inx.ensures ∙ sym (ap (λ (q : Pointer). q.0) (g.met.P.Ptr.numbers_of c.args.p)) in
     let n : ℕ = g.P.Inx.PtrInx.number c.inx.result in
     let none : entry_in (map (entry_of g.P.Gen.PtrGen.number) items) n ≡ None = none_past (entry_of g.P.Gen.PtrGen.number) items n (omega (arith, c.requires, c.in_err-inx.ensures.number)) in

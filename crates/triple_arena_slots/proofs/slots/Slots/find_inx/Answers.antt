@@ -6,6 +6,6 @@ use Rattle.triple_arena_slots.proofs.slots.Slots.find_inx.Goals as goal
 
 pub returns-in_err-inx-clause-live : goal.returns-in_err-inx-clause-live
 returns-in_err-inx-clause-live g c =
-    let items = g.S.NonZeroInxGenericStack.items c.args.self.now.stack in
+    let items = g.S.NonZeroInxGenericStack.items c.args.self.now.slots.stack in
     let none : entry_in (map (entry_of g.P.Gen.PtrGen.number) items) (g.P.Inx.PtrInx.number c.args.inx) ≡ None = none_past (entry_of g.P.Gen.PtrGen.number) items (g.P.Inx.PtrInx.number c.args.inx) (omega (arith, c.requires, c.in_err-inx.ensures.number)) in
     ap is_some c.from_residual.ensures ∙ sym (ap is_some none)

@@ -15,7 +15,7 @@ free-requires-clause-indexed g c κs within =
 
 pub free-requires-clause-there : goal.free-requires-clause-there
 free-requires-clause-there g c κs within =
-    let items = g.S.NonZeroInxGenericStack.items c.links.self.stack in
+    let items = g.S.NonZeroInxGenericStack.items c.links.self.slots.stack in
     let inx = non_zero_usize_get c.in-Some.inx in
     let below = rw c.in-Some.is at c.links.invariant.4 in
     let vacant : item (map (entry_of g.P.Gen.PtrGen.number) items) inx ≡ Some None = vacant_within (map (entry_of g.P.Gen.PtrGen.number) items) inx c.in-Some.inx.ok (omega (arith, below, length-map items (entry_of g.P.Gen.PtrGen.number))) (sym c.has_entry.ensures.value ∙ c.if-not-has_entry.true) in
@@ -31,7 +31,7 @@ free-requires-clause-root_free g c κs within =
 
 pub links-preserved : goal.links-preserved
 links-preserved g c =
-    let items = g.S.NonZeroInxGenericStack.items c.links.self.stack in
+    let items = g.S.NonZeroInxGenericStack.items c.links.self.slots.stack in
     let inx = non_zero_usize_get c.in-Some.inx in
     let here : inx ≡ inx - 1 + 1 = omega (arith, c.in-Some.inx.ok) in
     let linked = rw c.in-Some.is at c.links.invariant.5 in
@@ -46,7 +46,7 @@ links-preserved g c =
             w.free.ensures.room ∙ ap g.S.NonZeroInxGenericStack.room c.has_entry.ensures.stack ∙ c.links.invariant.0,
             w.free.ensures.limit ∙ ap g.S.NonZeroInxGenericStack.limit c.has_entry.ensures.stack ∙ c.links.invariant.1,
             size ∙ c.links.invariant.2,
-            omega (arith, w.free.ensures.steps, c.has_entry.ensures.steps, c.links.invariant.3),
+            omega (arith, w.free.ensures.bounded, c.has_entry.ensures.steps, c.links.invariant.3),
             omega (arith, size, below),
             rw w.free.ensures.root (LinkedFrom-free g.P.Gen.PtrGen.number _ items _ inx _ _ here linked vacant begins),
           )

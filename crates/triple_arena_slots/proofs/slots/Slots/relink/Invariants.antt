@@ -7,12 +7,12 @@ use Rattle.triple_arena_slots.proofs.slots.Slots.relink.Given as goal
 
 abbrev pub invariant-links : goal.invariant-links
 invariant-links g l =
-    (g.S.NonZeroInxGenericStack.room l.self.stack ≡ g.S.NonZeroInxGenericStack.room l.fn.self.stack)
-    × (g.S.NonZeroInxGenericStack.limit l.self.stack ≡ g.S.NonZeroInxGenericStack.limit l.fn.self.stack)
-    × (length (g.S.NonZeroInxGenericStack.items l.self.stack) ≡ length (g.S.NonZeroInxGenericStack.items l.fn.self.stack))
-    × (l.fn.self.steps.count ≤ l.self.steps.count)
-    × (number_or_zero l.next ≤ length (g.S.NonZeroInxGenericStack.items l.self.stack))
-    × LinkedFrom g.P.Gen.PtrGen.number (g.S.NonZeroInxGenericStack.items l.fn.self.stack) (g.S.NonZeroInxGenericStack.items l.self.stack) (number_or_zero l.next) (option_map non_zero_usize_get l.self.root)
+    (g.S.NonZeroInxGenericStack.room l.self.slots.stack ≡ g.S.NonZeroInxGenericStack.room l.fn.self.slots.stack)
+    × (g.S.NonZeroInxGenericStack.limit l.self.slots.stack ≡ g.S.NonZeroInxGenericStack.limit l.fn.self.slots.stack)
+    × (length (g.S.NonZeroInxGenericStack.items l.self.slots.stack) ≡ length (g.S.NonZeroInxGenericStack.items l.fn.self.slots.stack))
+    × (l.fn.self.slots.steps.count ≤ l.self.slots.steps.count)
+    × (number_or_zero l.next ≤ length (g.S.NonZeroInxGenericStack.items l.self.slots.stack))
+    × LinkedFrom g.P.Gen.PtrGen.number (g.S.NonZeroInxGenericStack.items l.fn.self.slots.stack) (g.S.NonZeroInxGenericStack.items l.self.slots.stack) (number_or_zero l.next) (option_map non_zero_usize_get l.self.root)
 
 abbrev pub decreases-links : goal.decreases-links
 decreases-links g l = number_or_zero l.next

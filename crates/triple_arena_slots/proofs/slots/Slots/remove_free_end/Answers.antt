@@ -1,5 +1,6 @@
 use Rattle.std.proofs.Common.{◌∙◌, refl, sym, ap, length, arith}
-use Rattle.triple_arena_slots.proofs.FreeEnd.{vacant_is, Shows-ended, Shows-fewer}
+use Rattle.triple_arena_traits.specs.laws.FreeListLaws.{vacant_is}
+use Rattle.triple_arena_slots.proofs.FreeEnd.{Shows-ended, Shows-fewer}
 use Rattle.triple_arena_slots.proofs.slots.Slots.remove_free_end.Goals as goal
 
 pub pops-init : goal.pops-init
@@ -26,8 +27,8 @@ pub pops-preserved : goal.pops-preserved
 pops-preserved g c = (
   c.pop_free.ensures.room ∙ ap g.S.NonZeroInxGenericStack.room c.ends_free.ensures.stack ∙ c.pops.invariant.0,
   c.pop_free.ensures.limit ∙ ap g.S.NonZeroInxGenericStack.limit c.ends_free.ensures.stack ∙ c.pops.invariant.1,
-  omega (arith, c.pops.invariant.2, c.pop_free.ensures.steps, c.ends_free.ensures.steps, c.pop_free.ensures.popped, ap (λ stack. length (g.S.NonZeroInxGenericStack.items stack)) c.ends_free.ensures.stack),
-  omega (arith, c.pops.invariant.3, c.pop_free.ensures.steps, c.ends_free.ensures.steps),
+  omega (arith, c.pops.invariant.2, c.pop_free.ensures.bounded, c.ends_free.ensures.bounded, c.pop_free.ensures.popped, ap (λ stack. length (g.S.NonZeroInxGenericStack.items stack)) c.ends_free.ensures.stack),
+  omega (arith, c.pops.invariant.3, c.pop_free.ensures.bounded, c.ends_free.ensures.bounded),
   omega (arith, c.pops.invariant.4, c.pop_free.ensures.popped, ap (λ stack. length (g.S.NonZeroInxGenericStack.items stack)) c.ends_free.ensures.stack),
   λ s len shows.
       let now = c.pops.invariant.5 s len shows in

@@ -1,8 +1,14 @@
--- One step of recasting the elements of a slice.
+-- One step of recasting the elements of a slice, and what `?` makes of a refusal.
+use Rattle.std.specs.Prelude.{IsErrAnd}
 use Rattle.std.proofs.Common.{◌≡◌, ℕ, suc, ◌+◌, ◌<◌, Option, Result, Ok, Err, List, [], ◌∷◌, ◌++◌, length, take, drop, set, get_or, sym, ap, ◌∙◌, arith, add-one, append_assoc, take-append-drop, drop-cons, drop-set-lt}
 use Rattle.std.proofs.Math.Seq.{take-suc-set}
 use Rattle.triple_arena_base.specs.Held.{KeepsHeld, recast_items, recast_answer, held_all, refill_all}
 use Rattle.triple_arena_base.specs.HeldLists.{refill_ok, refill_err}
+
+-- an error of its own type, which `?` hands on
+pub err_is : {A E : Type 0} (r : Result A E) (w : E) → IsErrAnd r (λ v. v ≡ w) → r ≡ Err w
+err_is (Ok x) w h = absurd h
+err_is (Err v) w h = ap Err h
 
 module _ {I T : Type 0} (held : T → List I) (refill : T → List I → T) (law : KeepsHeld held refill) (image : I → Option I) where
   -- the elements recast, and the answer

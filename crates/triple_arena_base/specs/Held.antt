@@ -40,6 +40,13 @@ abbrev pub refill_itself : {I : Type 0} → I → List I → I
 refill_itself x [] = x
 refill_itself x (y ∷ l) = y
 
+-- a value of a type that holds no item
+abbrev pub held_nothing : {I T : Type 0} → T → List I
+held_nothing v = []
+
+abbrev pub refill_nothing : {I T : Type 0} → T → List I → T
+refill_nothing v l = v
+
 -- an `Option` holds what its `Some` holds
 abbrev pub held_option : {I T : Type 0} → (T → List I) → Option T → List I
 held_option held None = []

@@ -1,6 +1,6 @@
 -- The laws of holding, of the elements of a list, and how recasting them splits.
 use Rattle.std.proofs.Common.{◌≡◌, suc, ◌≤◌, Option, Some, None, Result, Ok, Err, List, [], ◌∷◌, ◌++◌, length, take, drop, refl, sym, ap, ◌∙◌, arith, length-append, length-drop, length-take-le, take-append-drop}
-use Rattle.triple_arena_base.specs.Held.{HoldsRefill, KeepsHeld, LastRefills, recast_from, recast_items, answer_from, recast_answer, held_all, refill_all}
+use Rattle.triple_arena_base.specs.Held.{HoldsRefill, KeepsHeld, LastRefills, recast_from, recast_items, answer_from, recast_answer, held_nothing, held_all, refill_all}
 
 module _ {A : Type 0} where
   pub take_length : (a b : List A) → take (length a) (a ++ b) ≡ a
@@ -124,3 +124,8 @@ module _ {I T : Type 0} (held : T → List I) (refill : T → List I → T) wher
           ap (λ n. refill (refill x (take k l)) (take n m) ∷ refill_all held refill (refill_all held refill xs (drop k l)) (drop n m)) same
           ∙ ap (λ y. y ∷ refill_all held refill (refill_all held refill xs (drop k l)) (drop k m)) (last x (take k l) (take k m) first first_m)
           ∙ ap (λ ys. refill x (take k m) ∷ ys) (refill_refill_all xs (drop k l) (drop k m) others others_m)
+
+-- values that hold nothing hold nothing together
+pub nothing_in_all : {I T : Type 0} (vs : List T) → held_all (held_nothing {I = I}) vs ≡ []
+nothing_in_all [] = refl
+nothing_in_all (v ∷ vs) = nothing_in_all vs

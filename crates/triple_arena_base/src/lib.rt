@@ -16,4 +16,4 @@ pub use errors::{
 };
 pub use invalidation::{InvalidationOption, InvalidationResult};
 pub use nonzero_range::{IntoNonZeroUsizeIterator, NonZeroUsizeIterator, nzusize_iter};
-pub use recast::{Recast, Recaster};
+pub use recast::{Recast, Recaster, recast_both};

@@ -2,6 +2,7 @@
 
 ghost use Rattle.std.specs.Prelude.{◌≡◌, List, Option, length};
 ghost use Rattle.triple_arena_base.specs.Held.{recast_item, item_answer, recast_items, recast_answer};
+ghost use Rattle.triple_arena_base.specs.HeldPairs.{held_both, refill_both};
 
 /// A map of items, which need not have an image for each.
 pub trait Recaster {
@@ -22,6 +23,10 @@ pub trait Recaster {
 ///
 /// The list `held` is what it holds, and `refill` is the value with other items in their places.
 /// Both are tied by three laws, so that generic code knows what stands after `recast`.
+///
+/// What the value holds is what `held` names, and nothing else: a pointer that it leaves out keeps
+/// its old name where entries are renamed, and no clause can find that. A type that holds none
+/// says so (`held_nothing`, `refill_nothing`).
 pub trait Recast<I> {
     /// The items that the value holds, in its order.
     ghost held: { Self → List I };
@@ -47,4 +52,25 @@ pub trait Recast<I> {
     ghost refill_refill: { (v : Self) (l m : List I) → length l ≡ length (held v)
         → length m ≡ length (held v)
         → refill (refill v l) m ≡ refill v m };
+}
+
+/// Recasts two parts of a value, such as the fields of a struct, in order: as one value that holds
+/// what the first holds, and then what the second holds. Refuses with the first item that has no
+/// image: what stands before it is replaced then, and the rest stays.
+pub fn recast_both<I, A: Recast<I>, B: Recast<I>, R: Recaster<Item = I>>(
+    first: &mut A,
+    second: &mut B,
+    recaster: &R,
+) -> Result<(), I>
+    ensures first { first.new ≡ (refill_both A.held A.refill B.held B.refill
+        (first.old, second.old) (recast_items (R.image recaster.now)
+        (held_both A.held A.refill B.held B.refill (first.old, second.old)))).0 }
+    ensures second { second.new ≡ (refill_both A.held A.refill B.held B.refill
+        (first.old, second.old) (recast_items (R.image recaster.now)
+        (held_both A.held A.refill B.held B.refill (first.old, second.old)))).1 }
+    ensures answer { result ≡ recast_answer (R.image recaster.now)
+        (held_both A.held A.refill B.held B.refill (first.old, second.old)) }
+{
+    first.recast(recaster)?;
+    second.recast(recaster)
 }

@@ -5,4 +5,5 @@ mod Resolving
 mod WrittenValues
 mod MappedAnswers
 mod Followed
+mod FollowedBoth
 pub mod StrictAnswers

@@ -1,11 +1,14 @@
 -- Pointers that values hold, as recasting by a map of live pointers finds and replaces them.
-use Rattle.std.proofs.Common.{◌≡◌, ℕ, not, cond, List, [], ◌∷◌, ◌++◌, map, Option, Some, None, is_some, Result, Ok, Err, refl, sym, ap, subst, ◌∙◌}
+use Rattle.std.proofs.Common.{◌≡◌, ℕ, not, cond, List, [], ◌∷◌, Option, Some, None, is_some, Result, Ok, Err, refl, sym, ap, ◌∙◌}
 use Rattle.std.specs.Option.{option_map}
-use Rattle.triple_arena_base.specs.Held.{KeepsHeld, recast_from, recast_items, answer_from, recast_answer, held_all, refill_all}
-use Rattle.triple_arena_base.specs.HeldLists.{refill_ok}
+use Rattle.std.specs.Result.{IfErr, result_err}
+use Rattle.triple_arena_base.specs.Held.{HoldsRefill, KeepsHeld, recast_from, recast_items, answer_from, recast_answer, held_all, refill_all}
+use Rattle.triple_arena_base.specs.declared.errors.CompactError.{CompactError}
+use Rattle.triple_arena_base.specs.declared.errors.CompactError.TheVariants.{Unresolved, Reallocation}
 use Rattle.triple_arena_ptr.specs.Pointers.{Pointer}
 use Rattle.triple_arena_traits.specs.Entries.{look_up}
-use Rattle.triple_arena_direct.specs.Renaming.{first_unresolved, AreRenamed}
+use Rattle.triple_arena_direct.specs.Renaming.{MapsPointers, first_unresolved, AreRenamed, Refuses}
+use Rattle.triple_arena_direct.specs.laws.RenamingLaws.{items_renamed, all_renamed}
 
 module _ {P T : Type 0} (numbers : P → Pointer) (slots : List (Option (ℕ × T))) where
   abbrev live : P → Option T
@@ -54,41 +57,27 @@ module _ {P T : Type 0} (numbers : P → Pointer) (slots : List (Option (ℕ × 
   pub one_unresolved : (image : P → Option P) → ((p : P) → image p ≡ option_map (λ _. p) (live p)) → (ps : List P) (p : P) → recast_answer image ps ≡ Err p → first_unresolved numbers slots ps ≡ Some p
   one_unresolved image own ps p e = unresolved_one (first_unresolved numbers slots ps) p (sym (answer_first image own ps) ∙ e)
 
-  -- of pointers of which each is live, each front and the rest are so
-  front_resolved : (ps qs : List P) → first_unresolved numbers slots (ps ++ qs) ≡ None → (first_unresolved numbers slots ps ≡ None) × (first_unresolved numbers slots qs ≡ None)
-  front_resolved [] qs none = (refl, none)
-  front_resolved (p ∷ ps) qs none = by_live (live p) none (front_resolved ps qs)
+  -- what recasting by the map answers, as a look for the first
+  pub answer_error : (image : P → Option P) → ((p : P) → image p ≡ option_map (λ _. p) (live p)) → (ps : List P) → result_err (recast_answer image ps) ≡ first_unresolved numbers slots ps
+  answer_error image own ps = ap result_err (answer_first image own ps) ∙ error_of (first_unresolved numbers slots ps)
     where
-      by_live : (o : Option T) → cond (not (is_some o)) (Some p) (first_unresolved numbers slots (ps ++ qs)) ≡ None
-          → (first_unresolved numbers slots (ps ++ qs) ≡ None → (first_unresolved numbers slots ps ≡ None) × (first_unresolved numbers slots qs ≡ None))
-          → (cond (not (is_some o)) (Some p) (first_unresolved numbers slots ps) ≡ None) × (first_unresolved numbers slots qs ≡ None)
-      by_live None e rest = absurd (cc)
-      by_live (Some v) e rest = rest e
+      error_of : (o : Option P) → result_err (answer_of o) ≡ o
+      error_of None = refl
+      error_of (Some p) = refl
 
-  module _ (rename : Pointer → Pointer) (image : P → Option P) (maps : (p : P) → option_map numbers (image p) ≡ option_map (λ _. rename (numbers p)) (live p)) where
-    -- where each is live, each has an image, and that is its new pointer
-    items_renamed : (ps : List P) → first_unresolved numbers slots ps ≡ None → (recast_answer image ps ≡ Ok tt) × (map numbers (recast_items image ps) ≡ map (λ p. rename (numbers p)) ps)
-    items_renamed [] none = (refl, refl)
-    items_renamed (p ∷ ps) none = by_live (live p) (image p) (maps p) none (items_renamed ps)
-      where
-        by_live : (o : Option T) (i : Option P) → option_map numbers i ≡ option_map (λ _. rename (numbers p)) o → cond (not (is_some o)) (Some p) (first_unresolved numbers slots ps) ≡ None
-            → (first_unresolved numbers slots ps ≡ None → (recast_answer image ps ≡ Ok tt) × (map numbers (recast_items image ps) ≡ map (λ p. rename (numbers p)) ps))
-            → (answer_from i p (recast_answer image ps) ≡ Ok tt) × (map numbers (recast_from i p ps (recast_items image ps)) ≡ map (λ p. rename (numbers p)) (p ∷ ps))
-        by_live None i is e others = absurd (cc)
-        by_live (Some v) None is e others = absurd (cc)
-        by_live (Some v) (Some q) is e others =
-            let rest = others e in
-            let here : numbers q ≡ rename (numbers p) = cc in
-            (rest.0, ap (λ k. k ∷ map numbers (recast_items image ps)) here ∙ ap (λ ks. rename (numbers p) ∷ ks) rest.1)
+  -- so a holder stays as it was
+  pub holder_stays : {H : Type 0} (held : H → List P) (refill : H → List P → H) → KeepsHeld held refill → (image : P → Option P) → ((p : P) → image p ≡ option_map (λ _. p) (live p)) → (old new : H) → new ≡ refill old (recast_items image (held old)) → new ≡ old
+  holder_stays held refill law image own old new is = is ∙ ap (refill old) (items_stay image own (held old)) ∙ law old
 
-    -- where each held pointer is live, recasting renames each of them once
-    pub values_renamed : {V : Type 0} (held : V → List P) (refill : V → List P → V) (law : KeepsHeld held refill) (vs : List V) → first_unresolved numbers slots (held_all held vs) ≡ None
-        → AreRenamed numbers rename held refill vs (refill_all held refill vs (recast_items image (held_all held vs)))
-    values_renamed held refill law [] none = tt
-    values_renamed {V = V} held refill law (v ∷ vs) none =
-        let both = front_resolved (held v) (held_all held vs) none in
-        let here = items_renamed (held v) both.0 in
-        subst (AreRenamed numbers rename held refill (v ∷ vs)) (sym (refill_ok held refill law image v vs here.0).0) (
-          record { pointers = recast_items image (held v); renamed = here.1; filled = refl },
-          values_renamed held refill law vs both.1,
-        )
+  -- where each held pointer is live, recasting by the map of a compaction renames each of them once
+  module _ (rename : Pointer → Pointer) (images : List (Option (ℕ × P))) (maps : MapsPointers numbers rename slots images)
+      {V : Type 0} (held : V → List P) (refill : V → List P → V) (holds : HoldsRefill held refill) where
+    pub values_renamed : (vs : List V) → first_unresolved numbers slots (held_all held vs) ≡ None
+        → AreRenamed numbers rename held refill vs (refill_all held refill vs (recast_items (λ p. look_up images (numbers p)) (held_all held vs)))
+    values_renamed vs none = all_renamed numbers rename held refill holds vs _ (items_renamed numbers slots rename images maps (held_all held vs) none).1
+
+-- a refusal for the first of some pointers is one for the first of these and more
+pub refuses_more : {P R : Type 0} (count : ℕ) (own both : Option P) → ((p : P) → own ≡ Some p → both ≡ Some p) → (r : Result R (CompactError P)) → IfErr r (Refuses count own) → IfErr r (Refuses count both)
+refuses_more count own both more (Ok x) is = tt
+refuses_more count own both more (Err (Unresolved p)) is = more p is
+refuses_more count own both more (Err (Reallocation refusal)) is = is

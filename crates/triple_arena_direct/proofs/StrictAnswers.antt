@@ -13,10 +13,9 @@ use Rattle.triple_arena_traits.specs.Ending.{told_of, map_told, removed, invalid
 use Rattle.triple_arena_traits.specs.Entries.{look_up}
 use Rattle.triple_arena_traits.specs.ArenaState.{ArenaState, arena_len, capacity, IsWellFormed}
 use Rattle.triple_arena_traits.specs.Insertion.{next_pointer, inserted}
-use Rattle.triple_arena_traits.specs.SlotSteps.{RisesByAtMost, IsTouched, touched, insertion_steps}
+use Rattle.triple_arena_traits.specs.SlotSteps.{IsTouched, touched, insertion_steps}
 use Rattle.triple_arena_traits.specs.Reallocation.{grown}
-use Rattle.triple_arena_traits.specs.laws.EntryLaws.{by_case, same-grown}
-use Rattle.triple_arena_traits.specs.laws.WellFormedLaws.{few_steps, kept-inserted}
+use Rattle.triple_arena_traits.specs.laws.EntryLaws.{same-grown}
 use Rattle.triple_arena_traits.specs.Compression.{compressed}
 use Rattle.triple_arena_traits.specs.laws.CompressionLaws.{count-closed_up}
 use Rattle.triple_arena_traits.specs.Histories.{has, ModelCall, insertion, removal, invalidation, ended_by, Fits, Continues}
@@ -161,18 +160,6 @@ counted_inserted s t value (Err e) done = tt
 
 pub counted_place : {P E T : Type 0} (s t : ArenaState T) (value : T) (r : Result P E) → IsOk r × (t ≡ touched (insertion_steps s) (inserted s value)) → IsOk r × IsTouched (inserted s value) t
 counted_place s t value r done = (done.0, rw done.1 (refl, omega arith))
-
--- and these are few
-pub few_inserted : {P E T : Type 0} (kind : StackKind) (s t : ArenaState T) (value : T) (r : Result P E) → OnOk r (t ≡ touched (insertion_steps (grown kind s)) (inserted (grown kind s) value)) → OnErr r (t ≡ s) → RisesByAtMost 6 s.steps t.steps
-few_inserted kind s t value (Ok p) done refused =
-    let roomy = grown kind s in
-    let kept : (inserted roomy value).steps ≡ roomy.steps = (kept-inserted roomy value).4 in
-    let same : roomy.steps ≡ s.steps = by_case (λ u. u.steps) (arena_len s == capacity s) _ s s.steps refl refl in
-    let rises : t.steps ≡ (inserted roomy value).steps + insertion_steps roomy = ap (λ (u : ArenaState _). u.steps) done in
-    (omega (arith, rises, kept, same), omega (arith, rises, kept, same, few_steps roomy.free))
-few_inserted kind s t value (Err e) done refused =
-    let rises : t.steps ≡ s.steps = ap (λ (u : ArenaState _). u.steps) refused in
-    (omega (arith, rises), omega (arith, rises))
 
 -- where an arena has a place, growth leaves it as it is
 pub grown_inserted : {P E T : Type 0} (kind : StackKind) (s t : ArenaState T) (value : T) (r : Result P E) → (IsOk r → arena_len s < capacity s) → OnOk r (IsTouched (inserted s value) t) → OnOk r (IsTouched (inserted (grown kind s) value) t)

@@ -1,5 +1,6 @@
 -- Read first: Renaming and StrictAnswers.
 pub mod Renaming
+pub mod RenamingBoth
 pub mod StrictAnswers
 pub mod StrictCalls
 pub mod Gone

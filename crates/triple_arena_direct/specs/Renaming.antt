@@ -1,5 +1,5 @@
 -- Compaction that renames: the map from old pointers to new ones, and what becomes of the pointers that values hold.
-use Rattle.std.specs.Prelude.{◌≡◌, ◌<◌, not, ℕ, List, map, Option, Some, is_some}
+use Rattle.std.specs.Prelude.{◌≡◌, ◌<◌, not, ℕ, List, map, Option, Some, None, is_some}
 use Rattle.std.specs.Option.{option_map}
 use Rattle.std.specs.List.{find, AllZip}
 use Rattle.triple_arena_base.specs.declared.errors.ReallocationError.{ReallocationError}
@@ -20,16 +20,24 @@ module _ {P T : Type 0} (numbers : P → Pointer) where
   abbrev pub first_unresolved : List (Option (ℕ × T)) → List P → Option P
   first_unresolved slots ps = find (λ p. not (is_some (look_up slots (numbers p)))) ps
 
+-- what is renamed, of which these are the pointers that values hold, as numbers
 module _ {P T : Type 0} (numbers : P → Pointer) (rename : Pointer → Pointer) (held : T → List P) (refill : T → List P → T) where
-  -- a value, and the same with each pointer that it holds renamed once
+  -- a value, and the same with each pointer that it holds renamed once: it holds the new pointers, in their order, and is the
+  -- old value with these in it
   pub record IsRenamed (old new : T) : Type 0 where
-    pub pointers : List P
-    pub renamed : map numbers pointers ≡ map (λ p. rename (numbers p)) (held old)
-    pub filled : new ≡ refill old pointers
+    pub holds : map numbers (held new) ≡ map rename (map numbers (held old))
+    pub filled : new ≡ refill old (held new)
 
   -- values, and the same, in their order, with each pointer that they hold renamed once
   abbrev pub AreRenamed : List T → List T → Type 0
   AreRenamed olds news = AllZip IsRenamed olds news
+
+  -- what is found, and what is found after: nothing, or a value, and the same with each pointer that it holds renamed once
+  pub record IsFoundRenamed (before after : Option T) : Type 0 where
+    pub holds : option_map (λ v. map numbers (held v)) after ≡ option_map (map rename) (option_map (λ v. map numbers (held v)) before)
+    pub pointers : List P
+    pub pointers_held : option_map held after ≡ option_map (λ _. pointers) before
+    pub filled : after ≡ option_map (λ v. refill v pointers) before
 
 -- memory was refused, which comes only where there is an entry
 abbrev pub RefusesMemory : (count : ℕ) → ReallocationError → Type 0

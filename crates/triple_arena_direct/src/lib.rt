@@ -5,12 +5,15 @@ mod errors;
 mod indexing;
 mod lending_arena;
 mod renaming;
+mod renaming_both;
+pub mod renaming_laws;
 mod strict_arena;
 pub mod strict_laws;
 mod text;
 
-pub use errors::{StrictCompactError, StrictError};
-pub use renaming::{compress_recast, compress_recaster};
+pub use errors::{CompactBothError, StrictCompactError, StrictError};
+pub use renaming::{compress_recast, compress_recast_with, compress_recaster, unresolved};
+pub use renaming_both::compress_recast_both;
 pub use strict_arena::StrictArena;
 pub use triple_arena_direct_arena::{
     ArenaDirectInsertEntry, DirectArena, DirectSlot, direct_arena_iterators, laws,

@@ -1,6 +1,6 @@
 //! The strict arena.
 
-ghost use Rattle.std.specs.Prelude.{◌≡◌, ◌≢◌, ℕ, ◌≤◌, ◌<◌, ◌==◌, ◌&&◌, ◌↔◌, ◌∷◌, [], List, map, false, true, not, cond, is_some, IsSome, IsOk, IfOk, OnOk, OnErr, Some, None, Err, length, option_copied};
+ghost use Rattle.std.specs.Prelude.{◌≡◌, ◌≢◌, ℕ, ◌≤◌, ◌<◌, ◌==◌, ◌&&◌, ◌↔◌, ◌∷◌, ◌++◌, [], List, map, false, true, not, cond, is_some, IsSome, IsOk, IfOk, OnOk, OnErr, Some, None, Err, length, option_copied};
 ghost use Rattle.std.specs.Borrow.{sem, LendsIf};
 ghost use Rattle.std.specs.Option.{option_map, option_copied_mut};
 ghost use Rattle.std.specs.Result.{IfErr, result_map_both};
@@ -20,20 +20,20 @@ ghost use Rattle.triple_arena_traits.specs.Compression.{compressed, raised_if_an
 ghost use Rattle.triple_arena_traits.specs.Moves.{Moves};
 ghost use Rattle.triple_arena_traits.specs.Walks.{entries, keys, values};
 ghost use Rattle.triple_arena_traits.specs.Histories.{History, begun_with, insertion, removal, invalidation, clearing, compression, resizing, remains, Fits, Continues};
-ghost use Rattle.triple_arena_direct.specs.Renaming.{MapsPointers, first_unresolved, AreRenamed};
+ghost use Rattle.triple_arena_direct.specs.Renaming.{MapsPointers, first_unresolved, IsRenamed, AreRenamed, IsFoundRenamed};
 ghost use Rattle.triple_arena_direct.specs.Gone.{IsGoneForGood};
 ghost use Rattle.triple_arena_direct.specs.StrictAnswers.{is_exhausted, is_exhausted_for_any, strict_of, strict_all, calls_if_ok, RefusesStrictly};
 ghost use Rattle.triple_arena_direct.specs.StrictCalls.{IsStrictStep, to_insert, to_write, to_remove, to_invalidate, to_clear, to_compress, to_reallocate};
 
-use crate::compress_recast;
 use crate::errors::{StrictCompactError, StrictError};
+use crate::{compress_recast, compress_recast_with};
 use std::alloc::Global;
 use std::marker::Model;
 use triple_arena::arena_iterators::{Iter, Ptrs, Vals};
 use triple_arena::{
     Arena, ArenaInsertTrait, ArenaSlot, ArenaTrait, CompactArenaTrait, LendingArena,
 };
-use triple_arena_base::{AllocError, NotWithinCapacityError, ReallocationError, Recast};
+use triple_arena_base::{AllocError, NotWithinCapacityError, ReallocationError, Recast, Recaster};
 use triple_arena_direct_arena::DirectArena;
 use triple_arena_ptr::{Ptr, PtrGen, PtrInx};
 use triple_arena_stack::{NonZeroInxGenericStack, NonZeroInxVec};
@@ -286,7 +286,6 @@ impl<P: Ptr, T, S: NonZeroInxGenericStack<ArenaSlot<P, T>>> StrictArena<P, T, S>
         ensures inserted { OnOk result
             (IsTouched (inserted (grown S.kind self.old) t) self.new) }
         ensures refused { OnErr result (self.new ≡ self.old) }
-        ensures bounded { RisesByAtMost 6 self.old.steps self.new.steps }
         ensures beyond { (result ≡ Err ReallocationError.BeyondMaxCapacity)
             ↔ IsFullAtLimit (capacity self.old) self.old.limit (arena_len self.old) }
         ensures with_memory { CanGrow S.has_memory (capacity self.old) self.old.limit
@@ -321,7 +320,6 @@ impl<P: Ptr, T, S: NonZeroInxGenericStack<ArenaSlot<P, T>>> StrictArena<P, T, S>
         ensures inserted { OnOk result
             (IsTouched (inserted (grown S.kind self.old) t) self.new) }
         ensures refused { OnErr result (self.new ≡ self.old) }
-        ensures bounded { RisesByAtMost 6 self.old.steps self.new.steps }
         ensures beyond { (result ≡ Err ReallocationError.BeyondMaxCapacity)
             ↔ IsFullAtLimit (capacity self.old) self.old.limit (arena_len self.old) }
         ensures with_memory { CanGrow S.has_memory (capacity self.old) self.old.limit
@@ -345,7 +343,8 @@ impl<P: Ptr, T, S: NonZeroInxGenericStack<ArenaSlot<P, T>>> StrictArena<P, T, S>
     }
 
     /// Takes out the entry under `p`, and gives its value. The counter is raised, and where generations
-    /// count, `p` is gone for good (`IsGoneForGood`). It touches at most 6 slots.
+    /// count, `p` is gone for good (`IsGoneForGood`). It touches at most 6 slots, and where the counter is
+    /// at its greatest value looks at one more.
     ///
     /// `InvalidPtr` exactly where `p` is invalid; else `Exhausted` exactly where the counter is at its
     /// greatest value. Then nothing changes but how many slots were touched.
@@ -375,7 +374,8 @@ impl<P: Ptr, T, S: NonZeroInxGenericStack<ArenaSlot<P, T>>> StrictArena<P, T, S>
     }
 
     /// Gives the entry under `p` a new pointer, under the raised counter. Where generations count, `p`
-    /// is gone for good; where they don't, the pointer stays as it is. It touches at most 6 slots.
+    /// is gone for good; where they don't, the pointer stays as it is. It touches at most 6 slots, and
+    /// where the counter is at its greatest value looks at one more.
     ///
     /// `InvalidPtr` exactly where `p` is invalid; else `Exhausted` exactly where the counter is at its
     /// greatest value. Then nothing changes but how many slots were touched.
@@ -545,6 +545,11 @@ impl<P: Ptr, T, S: NonZeroInxGenericStack<ArenaSlot<P, T>>> StrictArena<P, T, S>
         ensures values { OnOk result (AreRenamed P.numbers
             (rank self.old (raised_if_any (raise P.Gen.generations) self.old))
             T.held T.refill (values self.old.slots) (values self.new.slots)) }
+        ensures found { OnOk result ((q : Pointer) → IsSome (look_up self.old.slots q)
+            → IsFoundRenamed P.numbers
+            (rank self.old (raised_if_any (raise P.Gen.generations) self.old))
+            T.held T.refill (look_up self.old.slots q) (look_up self.new.slots
+            (rank self.old (raised_if_any (raise P.Gen.generations) self.old) q))) }
         ensures resolved { OnOk result (first_unresolved P.numbers self.old.slots
             (held_all T.held (values self.old.slots)) ≡ None) }
         ensures exhausted { (result ≡ Err StrictCompactError.Exhausted)
@@ -571,6 +576,72 @@ impl<P: Ptr, T, S: NonZeroInxGenericStack<ArenaSlot<P, T>>> StrictArena<P, T, S>
         Ok(answer.allow())
     }
 
+    /// As [`Self::compress_recast`], and renames each pointer that `holder` holds, too, as
+    /// [`crate::compress_recast_with`] of an `Arena` without a reset.
+    ///
+    /// `Exhausted` as of [`Self::compress_recast`], and first: then neither memory nor the holder is
+    /// asked. Else `Compact` with its refusal: `Reallocation` as there, and then `Unresolved` exactly
+    /// where a value or the holder holds a pointer that finds no entry, with the first one, those of
+    /// the values first. In each case nothing has changed, in the arena or in the holder.
+    pub fn compress_recast_with<H: Recast<P>>(
+        &mut self,
+        holder: &mut H,
+        alloc: Global,
+    ) -> Result<DirectArena<P, P>, StrictCompactError<P>>
+    where
+        T: Recast<P>,
+        ensures maps { IfOk result (λ images. MapsPointers P.numbers
+            (rank self.old (raised_if_any (raise P.Gen.generations) self.old))
+            self.old.slots images.slots) }
+        ensures done { OnOk result ((new : List T)
+            × AreRenamed P.numbers
+            (rank self.old (raised_if_any (raise P.Gen.generations) self.old))
+            T.held T.refill (values self.old.slots) new
+            × IsTouched (compressed self.old
+            (raised_if_any (raise P.Gen.generations) self.old) new) self.new) }
+        ensures keys { OnOk result (keys self.new.slots ≡ map
+            (rank self.old (raised_if_any (raise P.Gen.generations) self.old))
+            (keys self.old.slots)) }
+        ensures values { OnOk result (AreRenamed P.numbers
+            (rank self.old (raised_if_any (raise P.Gen.generations) self.old))
+            T.held T.refill (values self.old.slots) (values self.new.slots)) }
+        ensures found { OnOk result ((q : Pointer) → IsSome (look_up self.old.slots q)
+            → IsFoundRenamed P.numbers
+            (rank self.old (raised_if_any (raise P.Gen.generations) self.old))
+            T.held T.refill (look_up self.old.slots q) (look_up self.new.slots
+            (rank self.old (raised_if_any (raise P.Gen.generations) self.old) q))) }
+        ensures renamed { OnOk result (IsRenamed P.numbers
+            (rank self.old (raised_if_any (raise P.Gen.generations) self.old))
+            H.held H.refill holder.old holder.new) }
+        ensures resolved { OnOk result (first_unresolved P.numbers self.old.slots
+            (held_all T.held (values self.old.slots) ++ H.held holder.old) ≡ None) }
+        ensures exhausted { (result ≡ Err StrictCompactError.Exhausted)
+            ↔ (is_exhausted_for_any P.Gen.generations self.old ≡ true) }
+        ensures refusal { IfErr result (RefusesStrictly (arena_len self.old)
+            (first_unresolved P.numbers self.old.slots
+            (held_all T.held (values self.old.slots) ++ H.held holder.old))) }
+        ensures refused { OnErr result (self.new ≡ self.old) }
+        ensures holder_refused { OnErr result (holder.new ≡ holder.old) }
+        ensures len { arena_len self.new ≡ arena_len self.old }
+        ensures step { OnOk result ((new : List T) × IsStrictStep S.kind P.Gen.generations
+            self.old (to_compress new)
+            (compression (keys self.old.slots) (keys self.new.slots) ∷ []) self.new) }
+        ensures history { P.Gen.generations.counting ≡ true → Continues Fits self.old
+            (calls_if_ok result (λ _. compression (keys self.old.slots) (keys self.new.slots)))
+            self.new }
+        ensures gone_for_good { P.Gen.generations.counting ≡ true → OnOk result
+            ((q : Pointer) → IsSome (look_up self.old.slots q) → IsGoneForGood self.new q) }
+        ensures stays_gone { P.Gen.generations.counting ≡ true
+            → (q : Pointer) → IsGoneForGood self.old q → IsGoneForGood self.new q }
+    {
+        if self.is_exhausted_for_any() {
+            Err(StrictCompactError::Exhausted)
+        } else {
+            let answer = compress_recast_with(&mut self.arena, holder, alloc, false)?;
+            Ok(answer.allow())
+        }
+    }
+
     // Whether a raise of the counter would wrap it.
     fn is_exhausted(&self) -> bool
         ensures { result ≡ is_exhausted P.Gen.generations self.now }
@@ -592,4 +663,28 @@ impl<P: Ptr, T, S: NonZeroInxGenericStack<ArenaSlot<P, T>>> StrictArena<P, T, S>
     {
         !self.arena.is_empty() && self.is_exhausted()
     }
+}
+
+/// Holds what its values hold, in the order of the indexes of the entries, as an `Arena` does.
+impl<I, P: Ptr, T: Recast<I>, S: NonZeroInxGenericStack<ArenaSlot<P, T>>> Recast<I>
+    for StrictArena<P, T, S> {
+    ghost use Rattle.std.proofs.Common.{ap};
+    ghost use Rattle.triple_arena_traits.specs.HeldSlots.{held_slots, refill_slots, slots_held_refill, slots_refill_held, slots_refill_refill};
+
+    ghost held = { λ s. held_slots T.held T.refill s.slots };
+
+    // nothing but the held items changes
+    ghost refill = { λ s l. record s { slots = refill_slots T.held T.refill s.slots l } };
+
+    fn recast<R: Recaster<Item = I>>(&mut self, recaster: &R) -> Result<(), I> {
+        self.arena.recast(recaster)
+    }
+
+    ghost held_refill = { λ s l h. slots_held_refill T.held T.refill T.held_refill s.slots l h };
+
+    ghost refill_held = { λ s. ap (λ slots. record s { slots = slots })
+        (slots_refill_held T.held T.refill T.refill_held s.slots) };
+
+    ghost refill_refill = { λ s l m h k. ap (λ slots. record s { slots = slots })
+        (slots_refill_refill T.held T.refill T.held_refill T.refill_refill s.slots l m h k) };
 }

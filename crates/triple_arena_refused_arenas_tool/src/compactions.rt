@@ -41,7 +41,7 @@ fn told_link(p: P0) -> Told {
     Told::At(index_number(p.inx()), p.generation().get())
 }
 
-fn told_compaction(refusal: CompactError<P0>) -> Told {
+pub fn told_compaction(refusal: CompactError<P0>) -> Told {
     match refusal {
         CompactError::Unresolved(p) => told_link(p),
         CompactError::Reallocation(refused) => Told::Refused(refused),
@@ -152,13 +152,13 @@ fn compacts<A: Compacted>(
 }
 
 // The link of the last of three nodes: to the first, or to no entry.
-const LINKED: (usize, u64) = (1, 2);
+pub const LINKED: (usize, u64) = (1, 2);
 
 // The invalid pointer.
-const DANGLING: (usize, u64) = (usize::MAX, 1);
+pub const DANGLING: (usize, u64) = (usize::MAX, 1);
 
 // What a compaction tells of a node with this link.
-fn told_with(link: (usize, u64)) -> Told {
+pub fn told_with(link: (usize, u64)) -> Told {
     if link == LINKED {
         Told::Done
     } else {
@@ -176,7 +176,7 @@ fn node_of(number: u64, link: (usize, u64)) -> Node {
 }
 
 // Three nodes, of which the second is removed where the third leads to an entry.
-fn arena(alloc: Global, link: (usize, u64)) -> Result<Arena<P0, Node>, Wrong> {
+pub fn arena(alloc: Global, link: (usize, u64)) -> Result<Arena<P0, Node>, Wrong> {
     let removed: &[usize] = if link == LINKED { &[2] } else { &[] };
     let mut arena: Arena<P0, Node> = Arena::with_min_capacity(alloc, 3)?;
     insert_each(&mut arena, 3, removed, |number| node_of(number, link))?;
@@ -195,7 +195,7 @@ fn direct(alloc: Global, link: (usize, u64)) -> Result<DirectArena<P0, Node>, Wr
     Ok(arena)
 }
 
-fn strict(alloc: Global, link: (usize, u64)) -> Result<StrictArena<P0, Node>, Wrong> {
+pub fn strict(alloc: Global, link: (usize, u64)) -> Result<StrictArena<P0, Node>, Wrong> {
     let mut arena: StrictArena<P0, Node> = StrictArena::with_min_capacity(alloc, 3)?;
     for number in [1, 2, 3] {
         if arena.insert_within_capacity(node_of(number, link)).is_err() {

@@ -13,6 +13,7 @@ mod copies;
 mod costly;
 mod counted;
 mod counted_copies;
+mod holders;
 mod no_memory;
 mod stacks;
 mod strict;
@@ -31,6 +32,7 @@ impl Calls for OfArenas {
             "copies",
             "counted",
             "compactions",
+            "holders",
             "none",
         ]
     }
@@ -42,6 +44,7 @@ impl Calls for OfArenas {
             "copies" => copies::try_each(alloc, report),
             "counted" => counted_copies::try_each(alloc, report),
             "compactions" => compactions::try_each(alloc, report),
+            "holders" => holders::try_each(alloc, report),
             _ => no_memory::try_each(alloc, report),
         }
     }

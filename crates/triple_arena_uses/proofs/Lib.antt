@@ -2,3 +2,5 @@ pub mod Mapping
 pub mod Renewing
 pub mod Notes
 pub mod Rewiring
+pub mod Reading
+pub mod Circuits

@@ -2,21 +2,19 @@
 use Rattle.std.proofs.Common.{◌≡◌, List, [], ◌∷◌, ◌++◌, map, Result, Ok, Err, refl, sym, ap, ◌∙◌}
 use Rattle.std.specs.Prelude.{IfOk, OnOk}
 use Rattle.std.proofs.lemmas.List.{map-append}
-use Rattle.triple_arena_base.specs.Held.{HoldsRefill}
 use Rattle.triple_arena_ptr.specs.Pointers.{Pointer}
 use Rattle.triple_arena_direct.specs.Renaming.{AreRenamed}
-use Rattle.triple_arena_direct.specs.laws.RenamingLaws.{held_renamed}
 use Rattle.triple_arena_uses.specs.Netlist.{wires_of, rewired}
 
-module _ {P T : Type 0} (numbers : P → Pointer) (rename : Pointer → Pointer) (held : T → List P) (refill : T → List P → T) (law : HoldsRefill held refill) where
+module _ {P T : Type 0} (numbers : P → Pointer) (rename : Pointer → Pointer) (held : T → List P) (refill : T → List P → T) where
   -- the wires of one gate
-  ends_of : (k : Pointer) (ps qs : List P) → map numbers qs ≡ map (λ p. rename (numbers p)) ps → map (λ p. (rename k, numbers p)) qs ≡ map (rewired rename) (map (λ p. (k, numbers p)) ps)
+  ends_of : (k : Pointer) (ps qs : List P) → map numbers qs ≡ map rename (map numbers ps) → map (λ p. (rename k, numbers p)) qs ≡ map (rewired rename) (map (λ p. (k, numbers p)) ps)
   ends_of k [] [] same = refl
   ends_of k [] (q ∷ qs) same = absurd (cc)
   ends_of k (p ∷ ps) [] same = absurd (cc)
   ends_of k (p ∷ ps) (q ∷ qs) same =
       let here : numbers q ≡ rename (numbers p) = cc in
-      let rest : map numbers qs ≡ map (λ p. rename (numbers p)) ps = cc in
+      let rest : map numbers qs ≡ map rename (map numbers ps) = cc in
       ap (λ (n : Pointer). (rename k, n) ∷ map (λ p. (rename k, numbers p)) qs) here ∙ ap (λ ws. (rename k, rename (numbers p)) ∷ ws) (ends_of k ps qs rest)
 
   -- the wires are those of the old gates, with both ends renamed
@@ -26,7 +24,7 @@ module _ {P T : Type 0} (numbers : P → Pointer) (rename : Pointer → Pointer)
   wires_renamed (k ∷ ks) [] (w ∷ ws) same = absurd same
   wires_renamed (k ∷ ks) (v ∷ vs) [] same = absurd same
   wires_renamed (k ∷ ks) (v ∷ vs) (w ∷ ws) same =
-      ap (λ ends. ends ++ wires_of numbers held (map rename ks) ws) (ends_of k (held v) (held w) (held_renamed numbers rename held refill law v w same.0))
+      ap (λ ends. ends ++ wires_of numbers held (map rename ks) ws) (ends_of k (held v) (held w) same.0.holds)
       ∙ ap (λ rest. map (rewired rename) (map (λ p. (k, numbers p)) (held v)) ++ rest) (wires_renamed ks vs ws same.1)
       ∙ sym (map-append (rewired rename) (map (λ p. (k, numbers p)) (held v)) (wires_of numbers held ks vs))
 

@@ -7,7 +7,7 @@ ghost use Rattle.triple_arena_base.specs.laws.HeldLaws.{option_held_refill, opti
 ghost use Rattle.triple_arena_base.specs.HeldVecs.{held_vec, refill_vec, vec_held_refill, vec_refill_held, vec_refill_refill};
 ghost use Rattle.triple_arena_base.specs.HeldPairs.{held_both, refill_both, both_held_refill, both_refill_held, both_refill_refill};
 
-use triple_arena_base::{Recast, Recaster};
+use triple_arena_base::{Recast, Recaster, recast_both};
 
 /// A gate: those that feed it, and the one that it drives, if it drives one.
 #[derive(Drop)]
@@ -27,8 +27,7 @@ impl<I, P: Recast<I>> Recast<I> for Gate<P> {
         record gate { inputs = parts.0; output = parts.1 } };
 
     fn recast<R: Recaster<Item = I>>(&mut self, recaster: &R) -> Result<(), I> {
-        self.inputs.recast(recaster)?;
-        self.output.recast(recaster)
+        recast_both(&mut self.inputs, &mut self.output, recaster)
     }
 
     ghost held_refill = { λ gate. both_held_refill

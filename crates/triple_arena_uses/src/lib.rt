@@ -2,6 +2,7 @@
 #![tactic(auto)]
 
 pub mod beside;
+pub mod circuit;
 pub mod counting_stack;
 pub mod entity_table;
 pub mod first_arena;
@@ -9,11 +10,13 @@ pub mod first_history;
 pub mod gates;
 pub mod graph;
 pub mod guest_book;
+pub mod holders;
 pub mod into_values;
 pub mod leases;
 pub mod links;
 pub mod moving;
 pub mod netlist;
+pub mod ports;
 pub mod side_table;
 pub mod small_ptr;
 pub mod snapshots;
@@ -22,6 +25,7 @@ pub mod undo;
 pub mod walks;
 pub mod wrong_steps;
 
+pub use circuit::Circuit;
 pub use counting_stack::CountingStack;
 pub use entity_table::{Entity, EntityTable};
 pub use graph::{Graph, Node};
@@ -29,6 +33,7 @@ pub use guest_book::GuestBook;
 pub use leases::{Lease, Leases};
 pub use links::Link;
 pub use netlist::Netlist;
+pub use ports::Port;
 pub use side_table::NotedEntities;
 pub use small_ptr::SmallPtr;
 pub use ticket::Ticket;

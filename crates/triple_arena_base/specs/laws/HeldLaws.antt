@@ -1,7 +1,7 @@
--- The laws of holding, of an item itself and of an `Option`.
+-- The laws of holding, of an item itself, of a value that holds none, and of an `Option`.
 use Rattle.std.specs.Prelude.{Some, None, List, [], ◌∷◌, refl}
 use Rattle.std.proofs.Common.{ap, arith}
-use Rattle.triple_arena_base.specs.Held.{HoldsRefill, KeepsHeld, LastRefills, held_itself, refill_itself, held_option, refill_option}
+use Rattle.triple_arena_base.specs.Held.{HoldsRefill, KeepsHeld, LastRefills, held_itself, refill_itself, held_nothing, refill_nothing, held_option, refill_option}
 
 module _ {I : Type 0} where
   pub itself_held_refill : HoldsRefill (held_itself {I = I}) refill_itself
@@ -15,6 +15,12 @@ module _ {I : Type 0} where
   pub itself_refill_refill : LastRefills (held_itself {I = I}) refill_itself
   itself_refill_refill v l [] h k = absurd (omega arith)
   itself_refill_refill v l (x ∷ m) h k = refl
+
+module _ {I T : Type 0} where
+  -- the other two laws hold by `refl` of a value that holds none
+  pub nothing_held_refill : HoldsRefill (held_nothing {I = I} {T = T}) refill_nothing
+  nothing_held_refill v [] h = refl
+  nothing_held_refill v (x ∷ l) h = absurd (omega arith)
 
 module _ {I T : Type 0} (held : T → List I) (refill : T → List I → T) where
   pub option_held_refill : HoldsRefill held refill → HoldsRefill (held_option held) (refill_option refill)

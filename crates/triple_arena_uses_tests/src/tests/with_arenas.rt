@@ -2,15 +2,18 @@
 
 mod audit;
 mod begun_sessions;
+mod circuit;
 mod entity_table;
 mod first_arena;
 mod gates;
 mod graph;
 mod guest_book;
+mod holders;
 mod into_values;
 mod leases;
 mod named_entries;
 mod netlist;
+mod ports;
 mod side_table;
 mod whole_program;
 

@@ -1,12 +1,6 @@
-use Rattle.std.specs.Prelude.{IsErrAnd}
-use Rattle.std.proofs.Common.{◌≡◌, Result, Ok, Err, get_or, ap, sym, ◌∙◌, arith}
-use Rattle.triple_arena_base.proofs.RecastSteps.{step_ok, step_err}
+use Rattle.std.proofs.Common.{get_or, ap, sym, ◌∙◌, arith}
+use Rattle.triple_arena_base.proofs.RecastSteps.{err_is, step_ok, step_err}
 use Rattle.triple_arena_base.proofs.recast_impls.recast_slice.Goals as goal
-
--- what `?` makes of an error of its own type
-err_is : {A E : Type 0} (r : Result A E) (w : E) → IsErrAnd r (λ v. v ≡ w) → r ≡ Err w
-err_is (Ok x) w h = absurd h
-err_is (Err v) w h = ap Err h
 
 pub returns-in_err-recast-clause-after : goal.returns-in_err-recast-clause-after
 returns-in_err-recast-clause-after g c =

@@ -5,9 +5,9 @@ use std::alloc::Global;
 use std::fmt::Display;
 use std::process::Abort;
 use triple_arena_base::CompactError;
-use triple_arena_direct::{StrictArena, StrictCompactError, StrictError};
+use triple_arena_direct::{CompactBothError, StrictArena, StrictCompactError, StrictError};
 use triple_arena_ptr::{P0, P4, Ptr};
-use triple_arena_trait_kit::{Wrong, is_text};
+use triple_arena_trait_kit::{B, Wrong, is_text, pointer};
 
 // Makes these calls on a strict arena whose counter was raised to this.
 fn on(alloc: Global, counter: u64, rows: &[(Call, Answer)]) -> Result<(), Wrong> {
@@ -74,6 +74,37 @@ const DANGLING_BEFORE_IT: &[(Call, Answer)] = &[
 fn the_counter_comes_before_a_dangling_link(rt: HostRuntime) -> Result<(), Wrong> {
     on(rt.alloc(), 255, DANGLING_AT_THE_END)?;
     on(rt.alloc(), 254, DANGLING_BEFORE_IT)
+}
+
+#[test]
+fn the_counter_comes_before_a_holder(rt: HostRuntime) -> Result<(), Wrong> {
+    let mut nodes = raised_to(rt.alloc(), 255)?;
+    follow(
+        &mut nodes,
+        rt.alloc(),
+        &[(Call::Insert(1), Answer::At(1, 255))],
+    )?;
+    let mut holder: Option<B> = Some(pointer(9, 9));
+    let answer = nodes.compress_recast_with(&mut holder, rt.alloc());
+    let text = format!(in rt.alloc(); "{answer:?} {nodes:?} {holder:?}")?;
+    is_text(
+        text.as_str(),
+        "Err(Exhausted) {B[1](ff): (1, None)} Some(B[9](9))",
+    )
+}
+
+#[test]
+fn a_holder_follows_a_strict_arena(rt: HostRuntime) -> Result<(), Wrong> {
+    let mut nodes = Nodes::new(rt.alloc());
+    follow(&mut nodes, rt.alloc(), LINKED)?;
+    let mut holder: Option<B> = Some(pointer(3, 2));
+    let answer = nodes.compress_recast_with(&mut holder, rt.alloc());
+    let text = format!(in rt.alloc(); "{answer:?} {nodes:?} {holder:?}")?;
+    is_text(
+        text.as_str(),
+        "Ok({B[2](2): B[1](4), B[3](2): B[2](4)}) \
+            {B[1](4): (2, None), B[2](4): (3, Some(B[1](4)))} Some(B[2](4))",
+    )
 }
 
 const LAST_COMPRESSION: &[(Call, Answer)] = &[
@@ -245,5 +276,17 @@ fn refusals_have_their_texts(rt: HostRuntime) -> Result<(), Wrong> {
     displays(rt.alloc(), StrictError::Exhausted, EXHAUSTED)?;
     displays(rt.alloc(), StrictCompactError::<P0>::Exhausted, EXHAUSTED)?;
     let unresolved = StrictCompactError::Compact(CompactError::Unresolved(P0::invalid()));
-    displays(rt.alloc(), unresolved, "the compaction was refused")
+    displays(rt.alloc(), unresolved, "the compaction was refused")?;
+    let first = CompactBothError::<P0, P0>::First(CompactError::Unresolved(P0::invalid()));
+    displays(
+        rt.alloc(),
+        first,
+        "the compaction of the first arena was refused",
+    )?;
+    let second = CompactBothError::<P0, P0>::Second(CompactError::Unresolved(P0::invalid()));
+    displays(
+        rt.alloc(),
+        second,
+        "the compaction of the second arena was refused",
+    )
 }

@@ -17,6 +17,9 @@ returns-clause-step g c =
 pub returns-clause-maps : goal.returns-clause-maps
 returns-clause-maps g c = rw c.allow.ensures (rw (← c.self.view_is) c.in_ok-answer.ensures.maps)
 
+pub returns-clause-found : goal.returns-clause-found
+returns-clause-found g c = rw (← c.self.view_is) c.in_ok-answer.ensures.found
+
 pub returns-clause-history : goal.returns-clause-history
 returns-clause-history g c counts =
     let allowed = ap (is_exhausted_for_any g.P.Gen.PtrGen.generations) c.self.view_is ∙ sym c.is_exhausted_for_any.ensures ∙ c.if-is_exhausted_for_any.false in

@@ -2,7 +2,7 @@ use Rattle.triple_arena_traits.specs.Reallocation.{grown}
 use Rattle.triple_arena_traits.specs.Histories.{insertion}
 use Rattle.triple_arena_direct.specs.laws.GoneLaws.{up_to-continues, gone-continues}
 use Rattle.triple_arena_direct.specs.StrictAnswers.{calls_if_ok}
-use Rattle.triple_arena_direct.proofs.StrictAnswers.{counted_inserted, counted_place, few_inserted, inserted_history, step_inserted}
+use Rattle.triple_arena_direct.proofs.StrictAnswers.{counted_inserted, counted_place, inserted_history, step_inserted}
 use Rattle.triple_arena_direct.proofs.strict_arena.StrictArena.insert_reallocating.Goals as goal
 
 pub invariant_of-self : goal.invariant_of-self
@@ -30,7 +30,3 @@ returns-clause-inserted g c =
 pub returns-clause-had_place : goal.returns-clause-had_place
 returns-clause-had_place g c =
     rw (← c.self.view_is) (λ less. counted_place c.self.inside.arena c.insert_reallocating.new.self c.args.t c.insert_reallocating.result (c.insert_reallocating.ensures.had_place less))
-
-pub returns-clause-bounded : goal.returns-clause-bounded
-returns-clause-bounded g c =
-    rw (← c.self.view_is) (few_inserted g.S.NonZeroInxGenericStack.kind c.self.inside.arena c.insert_reallocating.new.self c.args.t c.insert_reallocating.result c.insert_reallocating.ensures.inserted c.insert_reallocating.ensures.refused)

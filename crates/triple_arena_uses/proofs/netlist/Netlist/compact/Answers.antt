@@ -18,4 +18,4 @@ returns-clause-renamed g c =
     (λ (rename : Pointer → Pointer). wires g.P.Ptr.numbers g.G.Recast.held new ≡ map (rewired rename) (wires g.P.Ptr.numbers g.G.Recast.held old))
     _ c.compress_recast.result e.maps e.keys e.values
     (λ ks vs. ap (λ ps. wires_of g.P.Ptr.numbers g.G.Recast.held ps (values new)) ks
-    ∙ wires_renamed g.P.Ptr.numbers _ g.G.Recast.held g.G.Recast.refill g.met.G.Recast.held_refill (keys old) (values old) (values new) vs))
+    ∙ wires_renamed g.P.Ptr.numbers _ g.G.Recast.held g.G.Recast.refill (keys old) (values old) (values new) vs))

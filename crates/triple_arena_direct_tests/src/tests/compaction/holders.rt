@@ -1,0 +1,139 @@
+//! Compaction that renames what a holder beside the arena holds, and the look for a dangling pointer of
+//! it.
+
+use super::tested_nodes::Node;
+use std::alloc::{AllocError, Global};
+use std::fmt::Debug;
+use std::process::Abort;
+use triple_arena::{Arena, ArenaInsertTrait, ArenaTrait};
+use triple_arena_base::Recast;
+use triple_arena_direct::{compress_recast_with, unresolved};
+use triple_arena_ptr::{P0, Q2};
+use triple_arena_trait_kit::pointer;
+
+// Nodes under the pointers (2, 2) and (3, 2), the second with this link, behind a gap.
+fn nodes(alloc: Global, link: P0) -> Option<Arena<P0, Node<P0>>> {
+    let mut nodes = Arena::new(alloc);
+    for node in [(10, None), (20, None), (30, Some(link))] {
+        nodes.insert(node).ok()?;
+    }
+    drop(nodes.remove(pointer(1, 2)));
+    Some(nodes)
+}
+
+// An arena of pointers, the second under (2, 2).
+fn holder(alloc: Global, held: [P0; 2]) -> Option<Arena<Q2, P0>> {
+    let mut holder = Arena::new(alloc);
+    for p in Vec::from_array(alloc, held).ok()? {
+        holder.insert(p).ok()?;
+    }
+    Some(holder)
+}
+
+// What the look for a dangling pointer and the compaction answer, and both arenas then.
+fn compacted(alloc: Global, link: P0, held: [P0; 2]) -> Option<[Result<String, AllocError>; 4]> {
+    let mut nodes = nodes(alloc, link)?;
+    let mut holder = holder(alloc, held)?;
+    told_with(alloc, &mut nodes, &mut holder)
+}
+
+fn told_with<H: Recast<P0> + Debug>(
+    alloc: Global,
+    nodes: &mut Arena<P0, Node<P0>>,
+    holder: &mut H,
+) -> Option<[Result<String, AllocError>; 4]> {
+    let dangling = unresolved(nodes, holder);
+    let answer = compress_recast_with(nodes, holder, alloc, false);
+    Some([
+        format!(in alloc; "{dangling:?}"),
+        format!(in alloc; "{answer:?}"),
+        format!(in alloc; "{nodes:?}"),
+        format!(in alloc; "{holder:?}"),
+    ])
+}
+
+// So of a vector of pointers.
+fn told_vector(alloc: Global, link: P0, held: [P0; 3]) -> Option<[Result<String, AllocError>; 4]> {
+    let mut nodes = nodes(alloc, link)?;
+    let mut holder = Vec::from_array(alloc, held).ok()?;
+    told_with(alloc, &mut nodes, &mut holder)
+}
+
+fn is_told(told: Option<[Result<String, AllocError>; 4]>, wanted: [&str; 4]) -> bool {
+    match &told {
+        Some([Ok(dangling), Ok(answer), Ok(nodes), Ok(holder)]) => {
+            [
+                dangling.as_str(),
+                answer.as_str(),
+                nodes.as_str(),
+                holder.as_str(),
+            ] == wanted
+        }
+        _ => false,
+    }
+}
+
+#[test]
+fn a_holder_follows(rt: HostRuntime) {
+    let told = compacted(rt.alloc(), pointer(2, 2), [pointer(3, 2), pointer(2, 2)]);
+    assert!(rt;
+        is_told(
+            told,
+            [
+                "None",
+                "Ok(Success({P0[2](2): P0[1](4), P0[3](2): P0[2](4)}))",
+                "{P0[1](4): (20, None), P0[2](4): (30, Some(P0[1](4)))}",
+                "{Q2[1](2): P0[2](4), Q2[2](2): P0[1](4)}",
+            ]
+        )
+    );
+}
+
+#[test]
+fn a_dangling_pointer_of_a_holder_refuses_and_nothing_changes(rt: HostRuntime) {
+    let told = compacted(rt.alloc(), pointer(2, 2), [pointer(3, 2), pointer(1, 2)]);
+    assert!(rt;
+        is_told(
+            told,
+            [
+                "Some(P0[1](2))",
+                "Err(Unresolved(P0[1](2)))",
+                "{P0[2](2): (20, None), P0[3](2): (30, Some(P0[2](2)))}",
+                "{Q2[1](2): P0[3](2), Q2[2](2): P0[1](2)}",
+            ]
+        )
+    );
+}
+
+#[test]
+fn a_dangling_link_of_the_arena_comes_first(rt: HostRuntime) {
+    let told = compacted(rt.alloc(), pointer(3, 3), [pointer(1, 2), pointer(2, 2)]);
+    assert!(rt;
+        is_told(
+            told,
+            [
+                "Some(P0[1](2))",
+                "Err(Unresolved(P0[3](3)))",
+                "{P0[2](2): (20, None), P0[3](2): (30, Some(P0[3](3)))}",
+                "{Q2[1](2): P0[1](2), Q2[2](2): P0[2](2)}",
+            ]
+        )
+    );
+}
+
+#[test]
+fn a_vectors_second_pointer_refuses_and_nothing_changes(rt: HostRuntime) {
+    let held = [pointer(3, 2), pointer(2, 3), pointer(9, 9)];
+    let told = told_vector(rt.alloc(), pointer(2, 2), held);
+    assert!(rt;
+        is_told(
+            told,
+            [
+                "Some(P0[2](3))",
+                "Err(Unresolved(P0[2](3)))",
+                "{P0[2](2): (20, None), P0[3](2): (30, Some(P0[2](2)))}",
+                "[P0[3](2), P0[2](3), P0[9](9)]",
+            ]
+        )
+    );
+}

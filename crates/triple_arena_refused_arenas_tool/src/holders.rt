@@ -1,0 +1,321 @@
+//! Compactions in which an arena isn't all that holds pointers: memory for each map is asked for before
+//! anything changes.
+
+ghost use Rattle.std.proofs.Common.{ap, refl};
+ghost use Rattle.triple_arena_base.specs.Held.{held_itself, refill_itself, held_nothing, refill_nothing};
+ghost use Rattle.triple_arena_base.specs.laws.HeldLaws.{itself_held_refill, itself_refill_held, itself_refill_refill, nothing_held_refill};
+
+use crate::asking::NO_MEMORY;
+use crate::compactions::{DANGLING, LINKED, Node, arena, strict, told_compaction, told_with};
+use std::alloc::Global;
+use triple_arena::{Arena, ArenaInsertTrait, ArenaTrait};
+use triple_arena_base::{CompactError, InvalidationOption, Recast, Recaster};
+use triple_arena_direct::{
+    CompactBothError, StrictArena, StrictCompactError, compress_recast_both, compress_recast_with,
+};
+use triple_arena_ptr::{P0, Ptr, Q2};
+use triple_arena_test_kit::state_of;
+use triple_arena_trait_kit::refused::{End, Report};
+use triple_arena_trait_kit::{Shown, State, Told, Wrong, index_number, is_told, pointer};
+
+// A cell, with the net that it reads.
+#[derive(Drop)]
+struct Cell {
+    reads: Q2,
+}
+
+impl Recast<Q2> for Cell {
+    ghost held = { λ cell. held_itself cell.reads };
+
+    ghost refill = { λ cell l. record cell { reads = refill_itself cell.reads l } };
+
+    fn recast<R: Recaster<Item = Q2>>(&mut self, recaster: &R) -> Result<(), Q2> {
+        self.reads.recast(recaster)
+    }
+
+    ghost held_refill = { λ cell. itself_held_refill cell.reads };
+
+    ghost refill_held = { λ cell. ap (λ reads. record cell { reads = reads })
+        (itself_refill_held cell.reads) };
+
+    ghost refill_refill = { λ cell l m h k. ap (λ reads. record cell { reads = reads })
+        (itself_refill_refill cell.reads l m h k) };
+}
+
+impl Recast<P0> for Cell {
+    ghost held = { held_nothing };
+
+    ghost refill = { refill_nothing };
+
+    fn recast<R: Recaster<Item = P0>>(&mut self, _recaster: &R) -> Result<(), P0> {
+        Ok(())
+    }
+
+    ghost held_refill = { nothing_held_refill };
+
+    ghost refill_held = { λ _. refl };
+
+    ghost refill_refill = { λ _ _ _ _ _. refl };
+}
+
+impl Shown for Cell {
+    fn shown(&self) -> u64 {
+        index_number(self.reads.inx()) as u64
+    }
+
+    fn received(taken: InvalidationOption<Cell>) -> Cell {
+        taken.allow()
+    }
+}
+
+// A net, with the cell that drives it.
+#[derive(Drop)]
+struct Net {
+    driver: P0,
+}
+
+impl Recast<P0> for Net {
+    ghost held = { λ net. held_itself net.driver };
+
+    ghost refill = { λ net l. record net { driver = refill_itself net.driver l } };
+
+    fn recast<R: Recaster<Item = P0>>(&mut self, recaster: &R) -> Result<(), P0> {
+        self.driver.recast(recaster)
+    }
+
+    ghost held_refill = { λ net. itself_held_refill net.driver };
+
+    ghost refill_held = { λ net. ap (λ driver. record net { driver = driver })
+        (itself_refill_held net.driver) };
+
+    ghost refill_refill = { λ net l m h k. ap (λ driver. record net { driver = driver })
+        (itself_refill_refill net.driver l m h k) };
+}
+
+impl Recast<Q2> for Net {
+    ghost held = { held_nothing };
+
+    ghost refill = { refill_nothing };
+
+    fn recast<R: Recaster<Item = Q2>>(&mut self, _recaster: &R) -> Result<(), Q2> {
+        Ok(())
+    }
+
+    ghost held_refill = { nothing_held_refill };
+
+    ghost refill_held = { λ _. refl };
+
+    ghost refill_refill = { λ _ _ _ _ _. refl };
+}
+
+impl Shown for Net {
+    fn shown(&self) -> u64 {
+        index_number(self.driver.inx()) as u64
+    }
+
+    fn received(taken: InvalidationOption<Net>) -> Net {
+        taken.allow()
+    }
+}
+
+// What is seen of an arena and of who points into it.
+type Seen = (State, Option<State>, Option<P0>);
+
+// An arena, and who points into it.
+trait Relations {
+    // What the compaction of all tells; of a pointer to no entry its numbers.
+    fn compact(&mut self, alloc: Global) -> Told;
+
+    // All of it.
+    fn seen(&self) -> Seen;
+
+    // Whether each pointer leads where it led, as the entries moved.
+    fn is_renamed(&self) -> bool;
+}
+
+// An arena, and a pointer beside it.
+#[derive(Drop)]
+struct Beside {
+    arena: Arena<P0, Node>,
+    holder: Option<P0>,
+}
+
+impl Relations for Beside {
+    fn compact(&mut self, alloc: Global) -> Told {
+        match compress_recast_with(&mut self.arena, &mut self.holder, alloc, false) {
+            Ok(_map) => Told::Done,
+            Err(refusal) => told_compaction(refusal),
+        }
+    }
+
+    fn seen(&self) -> Seen {
+        (state_of(&self.arena), None, self.holder)
+    }
+
+    fn is_renamed(&self) -> bool {
+        self.holder == Some(pointer(2, 4))
+            && self.arena.get(pointer(2, 4)) == Some(&(3, Some(pointer(1, 4))))
+    }
+}
+
+// A strict arena, and a pointer beside it.
+#[derive(Drop)]
+struct StrictlyBeside {
+    arena: StrictArena<P0, Node>,
+    holder: Option<P0>,
+}
+
+impl Relations for StrictlyBeside {
+    fn compact(&mut self, alloc: Global) -> Told {
+        match self.arena.compress_recast_with(&mut self.holder, alloc) {
+            Ok(_map) => Told::Done,
+            Err(StrictCompactError::Exhausted) => Told::Nothing,
+            Err(StrictCompactError::Compact(refusal)) => told_compaction(refusal),
+        }
+    }
+
+    fn seen(&self) -> Seen {
+        (state_of(self.arena.arena()), None, self.holder)
+    }
+
+    fn is_renamed(&self) -> bool {
+        self.holder == Some(pointer(2, 4))
+            && self.arena.get(pointer(2, 4)) == Some(&(3, Some(pointer(1, 4))))
+    }
+}
+
+// Two arenas that point at each other.
+#[derive(Drop)]
+struct Circuit {
+    cells: Arena<P0, Cell>,
+    nets: Arena<Q2, Net>,
+}
+
+fn told_nets(refusal: CompactError<Q2>) -> Told {
+    match refusal {
+        CompactError::Unresolved(p) => Told::At(index_number(p.inx()), p.generation().get()),
+        CompactError::Reallocation(refused) => Told::Refused(refused),
+    }
+}
+
+impl Relations for Circuit {
+    fn compact(&mut self, alloc: Global) -> Told {
+        match compress_recast_both(&mut self.cells, &mut self.nets, alloc, false) {
+            Ok(_maps) => Told::Done,
+            Err(CompactBothError::First(refusal)) => told_compaction(refusal),
+            Err(CompactBothError::Second(refusal)) => told_nets(refusal),
+        }
+    }
+
+    fn seen(&self) -> Seen {
+        (state_of(&self.cells), Some(state_of(&self.nets)), None)
+    }
+
+    fn is_renamed(&self) -> bool {
+        matches!(
+            (self.cells.get(pointer(1, 4)), self.nets.get(pointer(1, 4))),
+            (Some(cell), Some(net))
+                if cell.reads == pointer(1, 4) && net.driver == pointer(1, 4)
+        )
+    }
+}
+
+// A compaction, and once more where memory is refused, which changes nothing. A dangling pointer refuses
+// it too, and changes nothing; else each pointer leads where it led.
+fn follows<F: Relations>(alloc: Global, all: &mut F, expected: Told) -> Result<End, Wrong> {
+    let before = all.seen();
+    let mut told = all.compact(alloc);
+    let mut end = End::Ample;
+    // of two arenas each has a map
+    for _map in 0..2 {
+        if told == NO_MEMORY {
+            if all.seen() != before {
+                return Err(Wrong::State(0));
+            }
+            told = all.compact(alloc);
+            end = End::Refused;
+        }
+    }
+    is_told(1, told, expected)?;
+    let stands = if expected == Told::Done {
+        all.is_renamed()
+    } else {
+        all.seen() == before
+    };
+    if stands {
+        Ok(end)
+    } else {
+        Err(Wrong::State(1))
+    }
+}
+
+// The third of three nodes, of which the second is removed, or no entry.
+fn held(link: (usize, u64)) -> Option<P0> {
+    Some(if link == LINKED {
+        pointer(3, 2)
+    } else {
+        pointer(DANGLING.0, DANGLING.1)
+    })
+}
+
+fn on_arena(alloc: Global, link: (usize, u64)) -> Result<End, Wrong> {
+    let mut all = Beside {
+        arena: arena(alloc, LINKED)?,
+        holder: held(link),
+    };
+    follows(alloc, &mut all, told_with(link))
+}
+
+fn on_strict(alloc: Global, link: (usize, u64)) -> Result<End, Wrong> {
+    let mut all = StrictlyBeside {
+        arena: strict(alloc, LINKED)?,
+        holder: held(link),
+    };
+    follows(alloc, &mut all, told_with(link))
+}
+
+// A cell and a net behind a gap each. The cell reads the net, which the cell drives, or no entry does.
+fn small_circuit(alloc: Global, link: (usize, u64)) -> Result<Circuit, Wrong> {
+    let mut cells: Arena<P0, Cell> = Arena::with_min_capacity(alloc, 2)?;
+    let mut nets: Arena<Q2, Net> = Arena::with_min_capacity(alloc, 2)?;
+    let driver = if link == LINKED {
+        pointer(2, 2)
+    } else {
+        pointer(DANGLING.0, DANGLING.1)
+    };
+    for _place in 0..2 {
+        let cell = Cell {
+            reads: pointer(2, 2),
+        };
+        let net = Net { driver };
+        if cells.insert_within_capacity(cell).is_err()
+            || nets.insert_within_capacity(net).is_err()
+        {
+            return Err(Wrong::Answer(0));
+        }
+    }
+    drop(cells.remove(pointer(1, 2)));
+    drop(nets.remove(pointer(1, 2)));
+    Ok(Circuit { cells, nets })
+}
+
+fn on_both(alloc: Global, link: (usize, u64)) -> Result<End, Wrong> {
+    follows(alloc, &mut small_circuit(alloc, link)?, told_with(link))
+}
+
+pub fn try_each(alloc: Global, report: &mut Report) {
+    let (with, dangling) = (
+        "compress_recast_with",
+        "compress_recast_with and a dangling holder",
+    );
+    report.note(with, "an arena", on_arena(alloc, LINKED));
+    report.note(dangling, "an arena", on_arena(alloc, DANGLING));
+    report.note(with, "a strict arena", on_strict(alloc, LINKED));
+    report.note(dangling, "a strict arena", on_strict(alloc, DANGLING));
+    report.note("compress_recast_both", "two arenas", on_both(alloc, LINKED));
+    report.note(
+        "compress_recast_both and a dangling net",
+        "two arenas",
+        on_both(alloc, DANGLING),
+    );
+}

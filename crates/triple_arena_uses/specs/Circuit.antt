@@ -1,0 +1,140 @@
+-- A circuit: what is read of its cells and nets, and what its calls make of them.
+use Rattle.std.specs.Prelude.{◌≡◌, ◌-◌, ◌^◌, ℕ, suc, not, cond, ◌||◌, Bool, true, false, List, [], ◌∷◌, ◌++◌, map, Option, Some, None, IsSome}
+use Rattle.std.specs.List.{filter, list_any}
+use Rattle.std.specs.Option.{option_map, option_map_or, option_and_then}
+use Rattle.triple_arena_base.specs.Held.{held_itself, refill_itself, held_option, refill_option}
+use Rattle.triple_arena_base.specs.HeldVecs.{held_vec, refill_vec}
+use Rattle.triple_arena_base.specs.HeldPairs.{held_both, refill_both}
+use Rattle.triple_arena_ptr.specs.Numbers.{counting_to, raise}
+use Rattle.triple_arena_ptr.specs.Pointers.{Pointer, is_same}
+use Rattle.triple_arena_ptr.specs.declared.P0.{P0}
+use Rattle.triple_arena_ptr.specs.declared.Q2.{Q2}
+use Rattle.triple_arena_traits.specs.Entries.{look_up}
+use Rattle.triple_arena_traits.specs.ArenaState.{ArenaState}
+use Rattle.triple_arena_traits.specs.Compression.{rank, raised_if_any}
+use Rattle.triple_arena_uses.specs.Entities.{p0_numbers}
+use Rattle.triple_arena_uses.specs.declared.circuit.Cell.{Cell}
+use Rattle.triple_arena_uses.specs.declared.circuit.Net.{Net}
+use Rattle.triple_arena_uses.specs.declared.circuit.CircuitError.{CircuitError}
+use Rattle.triple_arena_uses.specs.declared.circuit.CircuitError.TheVariants.{NoCell, NoNet, InUse, Memory}
+
+-- the numbers of a net's pointer
+abbrev pub q2_numbers : Q2 → Pointer
+q2_numbers p = (suc p.0, suc p.1)
+
+-- a cell as it is read: its kind, and the nets that it reads
+pub record CellRead : Type 0 where
+  pub kind : ℕ
+  pub reads : List Pointer
+
+-- a net as it is read: its label, the cell that drives it, if one does, and the cells that read it
+pub record NetRead : Type 0 where
+  pub label : ℕ
+  pub driver : Option Pointer
+  pub sinks : List Pointer
+
+abbrev pub cell_read : Cell → CellRead
+cell_read cell = record { kind = cell.kind; reads = map q2_numbers cell.reads.items }
+
+abbrev pub net_read : Net → NetRead
+net_read net = record { label = net.label; driver = option_map p0_numbers net.driver; sinks = map p0_numbers net.sinks.items }
+
+-- the cells and the nets
+pub record Wiring : Type 0 where
+  pub cells : ArenaState Cell
+  pub nets : ArenaState Net
+
+-- the cell under a pointer, and the net under a pointer
+abbrev pub cell_at : Wiring → Pointer → Option CellRead
+cell_at wiring c = option_map cell_read (look_up wiring.cells.slots c)
+
+abbrev pub net_at : Wiring → Pointer → Option NetRead
+net_at wiring n = option_map net_read (look_up wiring.nets.slots n)
+
+-- a net leads to a cell: the cell drives it or reads it
+abbrev pub leads_to : Pointer → NetRead → Bool
+leads_to c net = option_map_or (λ p. is_same p c) net.driver false || list_any (λ p. is_same p c) net.sinks
+
+-- a cell reads a net
+abbrev pub reads_net : Pointer → CellRead → Bool
+reads_net n cell = list_any (λ p. is_same p n) cell.reads
+
+-- some net leads to the cell, and some cell reads the net
+abbrev pub IsLedTo : Wiring → Pointer → Type 0
+IsLedTo wiring c = (n : Pointer) × (net : NetRead) × (net_at wiring n ≡ Some net) × (leads_to c net ≡ true)
+
+abbrev pub IsReadByCell : Wiring → Pointer → Type 0
+IsReadByCell wiring n = (c : Pointer) × (cell : CellRead) × (cell_at wiring c ≡ Some cell) × (reads_net n cell ≡ true)
+
+-- a net with another driver, and with one more sink; a cell that reads one more net
+abbrev pub with_driver : Pointer → NetRead → NetRead
+with_driver c net = record net { driver = Some c }
+
+abbrev pub with_sink : Pointer → NetRead → NetRead
+with_sink c net = record net { sinks = net.sinks ++ c ∷ [] }
+
+abbrev pub with_read : Pointer → CellRead → CellRead
+with_read n cell = record cell { reads = cell.reads ++ n ∷ [] }
+
+-- a net that no longer leads to a cell as a sink, and that no longer leads to it at all
+abbrev pub without_sink : Pointer → NetRead → NetRead
+without_sink c net = record net { sinks = filter (λ p. not (is_same p c)) net.sinks }
+
+abbrev pub without_cell : Pointer → NetRead → NetRead
+without_cell c net = without_sink c (record net { driver = option_and_then (λ p. cond (is_same p c) None (Some p)) net.driver })
+
+-- a cell that no longer reads a net
+abbrev pub without_net : Pointer → CellRead → CellRead
+without_net n cell = record cell { reads = filter (λ p. not (is_same p n)) cell.reads }
+
+-- why a call on a net and a cell was refused
+abbrev pub RefusesEnds : Wiring → (n c : Pointer) → CircuitError → Type 0
+RefusesEnds wiring n c NoNet = net_at wiring n ≡ None
+RefusesEnds wiring n c NoCell = IsSome (net_at wiring n) × (cell_at wiring c ≡ None)
+RefusesEnds wiring n c InUse = ⊥
+RefusesEnds wiring n c (Memory e) = IsSome (net_at wiring n) × IsSome (cell_at wiring c)
+
+-- why a cell stays, and why a net stays
+abbrev pub KeepsCell : Wiring → Pointer → CircuitError → Type 0
+KeepsCell wiring c NoCell = cell_at wiring c ≡ None
+KeepsCell wiring c InUse = IsSome (cell_at wiring c) × IsLedTo wiring c
+KeepsCell wiring c NoNet = ⊥
+KeepsCell wiring c (Memory e) = ⊥
+
+abbrev pub KeepsNet : Wiring → Pointer → CircuitError → Type 0
+KeepsNet wiring n NoNet = net_at wiring n ≡ None
+KeepsNet wiring n InUse = IsSome (net_at wiring n) × IsReadByCell wiring n
+KeepsNet wiring n NoCell = ⊥
+KeepsNet wiring n (Memory e) = ⊥
+
+-- each look-up is as before
+pub record IsReadAsBefore (old new : Wiring) : Type 0 where
+  pub cells : (c : Pointer) → cell_at new c ≡ cell_at old c
+  pub nets : (n : Pointer) → net_at new n ≡ net_at old n
+
+-- what recasting goes through: the pointers of a net's cells, and the net with others in their places
+abbrev pub cells_held : Net → List P0
+cells_held net = held_both (held_option held_itself) (refill_option refill_itself) (held_vec held_itself refill_itself) (refill_vec held_itself refill_itself) (net.driver, net.sinks)
+
+abbrev pub cells_refilled : Net → List P0 → Net
+cells_refilled net l =
+    let parts = refill_both (held_option held_itself) (refill_option refill_itself) (held_vec held_itself refill_itself) (refill_vec held_itself refill_itself) (net.driver, net.sinks) l in
+    record net { driver = parts.0; sinks = parts.1 }
+
+-- and those of a cell's nets
+abbrev pub nets_held : Cell → List Q2
+nets_held cell = held_vec held_itself refill_itself cell.reads
+
+abbrev pub nets_refilled : Cell → List Q2 → Cell
+nets_refilled cell l = record cell { reads = refill_vec held_itself refill_itself cell.reads l }
+
+-- a net whose cells were renamed, and a cell whose nets were
+abbrev pub cells_renamed : (Pointer → Pointer) → NetRead → NetRead
+cells_renamed rename net = record net { driver = option_map rename net.driver; sinks = map rename net.sinks }
+
+abbrev pub nets_renamed : (Pointer → Pointer) → CellRead → CellRead
+nets_renamed rename cell = record cell { reads = map rename cell.reads }
+
+-- where a compaction moves the entry of a pointer: all come to stand under the raised counter
+abbrev pub moved : {T : Type 0} → ArenaState T → Pointer → Pointer
+moved s p = rank s (raised_if_any (raise (counting_to (2 ^ 64 - 1))) s) p

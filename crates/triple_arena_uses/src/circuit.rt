@@ -1,0 +1,227 @@
+//! A circuit: cells in one arena and nets in another, which point at each other.
+//!
+//! Its clauses say what is read under each pointer before a call, and after it. A call that ties or
+//! unties a cell and a net does so on both sides, or on neither (`ends.rt`), and compaction keeps
+//! each tie, or changes nothing (`compaction.rt`).
+
+ghost use Rattle.std.specs.Prelude.{◌≡◌, ◌≢◌, [], None, Some, IfOk, OnErr, option_copied};
+ghost use Rattle.std.proofs.Common.{refl, ap};
+ghost use Rattle.triple_arena_base.specs.Held.{held_itself, refill_itself, held_nothing, refill_nothing, held_option, refill_option};
+ghost use Rattle.triple_arena_base.specs.laws.HeldLaws.{itself_held_refill, itself_refill_held, itself_refill_refill, nothing_held_refill, option_held_refill, option_refill_held, option_refill_refill};
+ghost use Rattle.triple_arena_base.specs.HeldVecs.{held_vec, refill_vec, vec_held_refill, vec_refill_held, vec_refill_refill};
+ghost use Rattle.triple_arena_base.specs.HeldPairs.{both_held_refill, both_refill_held, both_refill_refill};
+ghost use Rattle.triple_arena_ptr.specs.Pointers.{Pointer};
+ghost use Rattle.triple_arena_traits.specs.Entries.{look_up};
+ghost use Rattle.triple_arena_uses.specs.Entities.{p0_numbers};
+ghost use Rattle.triple_arena_uses.specs.Circuit.{q2_numbers, cell_at, net_at, cells_held, cells_refilled, nets_held, nets_refilled};
+
+mod compaction;
+mod ends;
+
+use std::alloc::{AllocError, Global};
+use std::marker::Model;
+use thiserror::Error;
+use triple_arena::{Arena, ArenaInsertTrait, ArenaTrait};
+use triple_arena_base::{ReallocationError, Recast, Recaster, recast_both};
+use triple_arena_ptr::{P0, Q2};
+
+/// A cell: its kind, and the nets that it reads.
+#[derive(Drop)]
+pub struct Cell {
+    pub kind: u32,
+    pub reads: Vec<Q2>,
+}
+
+/// A net: its label, the cell that drives it, if one does, and those that read it.
+#[derive(Drop)]
+pub struct Net {
+    pub label: u64,
+    pub driver: Option<P0>,
+    pub sinks: Vec<P0>,
+}
+
+/// A call on a circuit was refused, and what is read of it stays the same.
+#[derive(Clone, Copy, Debug, PartialEq, Eq, Error)]
+pub enum CircuitError {
+    /// There is no such cell.
+    #[error("there is no such cell")]
+    NoCell,
+    /// There is no such net.
+    #[error("there is no such net")]
+    NoNet,
+    /// A net leads to the cell, or a cell reads the net.
+    #[error("it is still in use")]
+    InUse,
+    /// Memory was refused.
+    #[error("memory was refused")]
+    Memory(AllocError),
+}
+
+/// Holds the nets that it reads.
+impl Recast<Q2> for Cell {
+    ghost held = { nets_held };
+
+    ghost refill = { nets_refilled };
+
+    fn recast<R: Recaster<Item = Q2>>(&mut self, recaster: &R) -> Result<(), Q2> {
+        self.reads.recast(recaster)
+    }
+
+    ghost held_refill = { λ cell. vec_held_refill held_itself refill_itself
+        itself_held_refill cell.reads };
+
+    ghost refill_held = { λ cell. ap (λ reads. record cell { reads = reads })
+        (vec_refill_held held_itself refill_itself itself_refill_held cell.reads) };
+
+    ghost refill_refill = { λ cell l m h k. ap (λ reads. record cell { reads = reads })
+        (vec_refill_refill held_itself refill_itself itself_held_refill itself_refill_refill
+        cell.reads l m h k) };
+}
+
+/// Holds no cell.
+impl Recast<P0> for Cell {
+    ghost held = { held_nothing };
+
+    ghost refill = { refill_nothing };
+
+    fn recast<R: Recaster<Item = P0>>(&mut self, _recaster: &R) -> Result<(), P0> {
+        Ok(())
+    }
+
+    ghost held_refill = { nothing_held_refill };
+
+    ghost refill_held = { λ _. refl };
+
+    ghost refill_refill = { λ _ _ _ _ _. refl };
+}
+
+/// Holds the cell that drives it, if one does, and then those that read it.
+impl Recast<P0> for Net {
+    ghost held = { cells_held };
+
+    ghost refill = { cells_refilled };
+
+    fn recast<R: Recaster<Item = P0>>(&mut self, recaster: &R) -> Result<(), P0> {
+        recast_both(&mut self.driver, &mut self.sinks, recaster)
+    }
+
+    ghost held_refill = { λ net. both_held_refill
+        (held_option held_itself) (refill_option refill_itself)
+        (held_vec held_itself refill_itself) (refill_vec held_itself refill_itself)
+        (option_held_refill held_itself refill_itself itself_held_refill)
+        (vec_held_refill held_itself refill_itself itself_held_refill) (net.driver, net.sinks) };
+
+    ghost refill_held = { λ net. ap (λ parts. record net { driver = parts.0; sinks = parts.1 })
+        (both_refill_held (held_option held_itself) (refill_option refill_itself)
+        (held_vec held_itself refill_itself) (refill_vec held_itself refill_itself)
+        (option_refill_held held_itself refill_itself itself_refill_held)
+        (vec_refill_held held_itself refill_itself itself_refill_held) (net.driver, net.sinks)) };
+
+    ghost refill_refill = { λ net l m h k. ap (λ parts.
+        record net { driver = parts.0; sinks = parts.1 })
+        (both_refill_refill (held_option held_itself) (refill_option refill_itself)
+        (held_vec held_itself refill_itself) (refill_vec held_itself refill_itself)
+        (option_held_refill held_itself refill_itself itself_held_refill)
+        (option_refill_refill held_itself refill_itself itself_refill_refill)
+        (vec_refill_refill held_itself refill_itself itself_held_refill itself_refill_refill)
+        (net.driver, net.sinks) l m h k) };
+}
+
+/// Holds no net.
+impl Recast<Q2> for Net {
+    ghost held = { held_nothing };
+
+    ghost refill = { refill_nothing };
+
+    fn recast<R: Recaster<Item = Q2>>(&mut self, _recaster: &R) -> Result<(), Q2> {
+        Ok(())
+    }
+
+    ghost held_refill = { nothing_held_refill };
+
+    ghost refill_held = { λ _. refl };
+
+    ghost refill_refill = { λ _ _ _ _ _. refl };
+}
+
+/// A circuit of cells and nets, each named by the pointer that its insertion gave. The pointers of
+/// cells and those of nets are of two types, so that neither is taken for the other.
+#[derive(Drop)]
+pub struct Circuit {
+    cells: Arena<P0, Cell>,
+    nets: Arena<Q2, Net>,
+}
+
+impl Model for Circuit {
+    ghost use Rattle.triple_arena_uses.specs.Circuit.{Wiring};
+
+    ghost Value = { Wiring };
+
+    ghost view = { λ circuit. record { cells = circuit.cells; nets = circuit.nets } };
+
+    ghost inverse = { λ wiring. record { cells = wiring.cells; nets = wiring.nets } };
+}
+
+impl Circuit {
+    /// A circuit without cells and nets.
+    pub fn new(alloc: Global) -> Self
+        ensures cells { (c : Pointer) → cell_at result c ≡ None }
+        ensures nets { (n : Pointer) → net_at result n ≡ None }
+    {
+        Circuit {
+            cells: Arena::new(alloc),
+            nets: Arena::new(alloc),
+        }
+    }
+
+    /// A new cell, which reads no net.
+    ///
+    /// Refused as an insertion into an arena is; then nothing changes.
+    pub fn add_cell(&mut self, kind: u32, alloc: Global) -> Result<P0, ReallocationError>
+        ensures found { IfOk result (λ c. cell_at self.new (p0_numbers c)
+            ≡ Some record { kind = kind; reads = [] }) }
+        ensures free { IfOk result (λ c. cell_at self.old (p0_numbers c) ≡ None) }
+        ensures others { IfOk result (λ c. (q : Pointer) → q ≢ p0_numbers c
+            → cell_at self.new q ≡ cell_at self.old q) }
+        ensures nets { self.new.nets ≡ self.old.nets }
+        ensures refused { OnErr result (self.new ≡ self.old) }
+    {
+        self.cells.insert(Cell {
+            kind,
+            reads: Vec::new(alloc),
+        })
+    }
+
+    /// A new net, which no cell drives, and none reads.
+    ///
+    /// Refused as an insertion into an arena is; then nothing changes.
+    pub fn add_net(&mut self, label: u64, alloc: Global) -> Result<Q2, ReallocationError>
+        ensures found { IfOk result (λ n. net_at self.new (q2_numbers n)
+            ≡ Some record { label = label; driver = None; sinks = [] }) }
+        ensures free { IfOk result (λ n. net_at self.old (q2_numbers n) ≡ None) }
+        ensures others { IfOk result (λ n. (q : Pointer) → q ≢ q2_numbers n
+            → net_at self.new q ≡ net_at self.old q) }
+        ensures cells { self.new.cells ≡ self.old.cells }
+        ensures refused { OnErr result (self.new ≡ self.old) }
+    {
+        self.nets.insert(Net {
+            label,
+            driver: None,
+            sinks: Vec::new(alloc),
+        })
+    }
+
+    /// The cell under a pointer.
+    pub fn cell(&self, c: P0) -> Option<&Cell>
+        ensures { option_copied result ≡ look_up self.now.cells.slots (p0_numbers c) }
+    {
+        self.cells.get(c)
+    }
+
+    /// The net under a pointer.
+    pub fn net(&self, n: Q2) -> Option<&Net>
+        ensures { option_copied result ≡ look_up self.now.nets.slots (q2_numbers n) }
+    {
+        self.nets.get(n)
+    }
+}

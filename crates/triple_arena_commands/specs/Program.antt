@@ -58,6 +58,6 @@ status_of (Ran (Err e)) = 1
 
 -- what is written to standard error: a line, or nothing.
 abbrev pub message_of : Outcome → List ℕ
-message_of WrongArguments = codes "usage: triple_arena_run [strict] [heap | limited N | fixed N | array]" ++ 10 ∷ []
+message_of WrongArguments = codes "usage: triple_arena_run [heap | limited N | fixed N | array]" ++ 10 ∷ []
 message_of (Ran (Ok done)) = []
 message_of (Ran (Err e)) = error_text e ++ 10 ∷ []

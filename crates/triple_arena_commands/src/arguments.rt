@@ -118,7 +118,7 @@ impl fmt::Display for Outcome {
             Outcome::WrongArguments => {
                 writeln!(
                     f,
-                    "usage: triple_arena_run [strict] [heap | limited N | fixed N | array]"
+                    "usage: triple_arena_run [heap | limited N | fixed N | array]"
                 )
             }
             Outcome::Ran(Ok(())) => Ok(()),

@@ -5,8 +5,10 @@ mod Shown
 mod Uncounted
 mod TableNames
 mod Rows
+mod Begun
 mod Soundness
 mod Continuing
+mod GivenOnce
 mod StoreSteps
 mod Reserving
 mod StoreInsertions
@@ -14,6 +16,7 @@ mod Compacting
 mod Dangling
 mod StoreLaws
 mod StoreRunLaws
+mod LastSteps
 mod StoreTextLaws
 mod StrictSteps
 mod StrictLaws

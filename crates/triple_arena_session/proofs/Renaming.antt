@@ -99,7 +99,7 @@ module _ {X P : Type 0} (pointer : P → Pointer) (held : P → List P) (refill 
     -- a node whose link is renamed
     link_renamed : (datum : X) (link : Option P) (new : Node X P) → list_any is_lost (held_option held link) ≡ false → IsRenamed pointer (rank arena n) held_node refill_node (record { datum = datum; link = link }) new → node_of pointer new ≡ relinked shown n (datum, option_map pointer link)
     link_renamed datum None new live is = ap (node_of pointer) is.filled
-    link_renamed datum (Some p) new live is = ap (node_of pointer) is.filled ∙ ap (λ (l : Option Pointer). (datum, l)) (ap Some (by_pointers is.pointers (is.renamed ∙ ap (map (λ q. rank arena n (pointer q))) (holds_itself p))))
+    link_renamed datum (Some p) new live is = ap (node_of pointer) is.filled ∙ ap (λ (l : Option Pointer). (datum, l)) (ap Some (by_pointers (held_node new) (is.holds ∙ ap (λ ps. map (rank arena n) (map pointer ps)) (holds_itself p))))
       where
         by_pointers : (l : List P) → map pointer l ≡ rank arena n (pointer p) ∷ [] → pointer (refill p l) ≡ renamed shown n (pointer p)
         by_pointers [] e = absurd (cc)

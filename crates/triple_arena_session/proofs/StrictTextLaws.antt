@@ -19,13 +19,13 @@ use Rattle.triple_arena_commands.specs.laws.TextLaws.{IsFlushedRun-not_begun}
 use Rattle.triple_arena_session.specs.SessionState.{SessionState}
 use Rattle.triple_arena_session.specs.KindRun.{greatest, first_session, RunsStrictlyOver, RunsKindStrictly}
 use Rattle.triple_arena_session.specs.ProgramRun.{RunsProgram}
-use Rattle.triple_arena_session.specs.StoreText.{IsStoreText, first_store, first_strict_store, AnswersProgram}
+use Rattle.triple_arena_session.specs.StoreText.{IsAnsweredText, first_strict_store, AnswersFreshly, AnswersProgram}
 use Rattle.triple_arena_session.specs.Shown.{IsSound}
 use Rattle.triple_arena_session.specs.StrictSession.{IsStrictSessionStep, strictly_shown}
 use Rattle.triple_arena_session.specs.StrictText.{IsWholeTextRun, IsWholeFlushedRun, RunsStrictStore, BringsStrictStore, IsStrictStoreText}
 use Rattle.triple_arena_session.proofs.StoreLaws.{SoundOver-new}
 use Rattle.triple_arena_session.proofs.StoreRunLaws.{quiet_ends}
-use Rattle.triple_arena_session.proofs.StoreTextLaws.{RunsKindAsStore}
+use Rattle.triple_arena_session.proofs.StoreTextLaws.{RunsKindFreshly}
 use Rattle.triple_arena_session.proofs.StrictLaws.{StrictlySound, StrictRunIsStores, StrictRunIsQuiet}
 
 module _ (kind : StackKind) (has_memory : ℕ → Type 0) (generations : Generations) (s t : SessionState ℕ) (old new : Option (List ℕ)) where
@@ -126,7 +126,7 @@ RunsStrictly-not_begun kind has_memory first known outcome old new flushed =
 pub RunsProgramAsStore : {W : Type 0} (contents : W → Option (List ℕ)) (mode : Result (Bool × Kind) Outcome) (text : Option (List ℕ)) (outcome : Outcome) (old : W) (new : Option W) → RunsProgram contents mode text outcome old new → AnswersProgram contents mode text outcome old new
 RunsProgramAsStore contents (Ok (false, kind)) text (Ran answer) old (Some new) ran =
     let same : answer ≡ ran.0 = cc in
-    subst (λ a. IsStoreText (first_store kind) text a (contents old) (contents new)) (sym same) (RunsKindAsStore kind text ran.0 (contents old) (contents new) ran.2)
+    subst (λ a. IsAnsweredText (AnswersFreshly kind) text a (contents old) (contents new)) (sym same) (RunsKindFreshly kind text ran.0 (contents old) (contents new) ran.2)
 RunsProgramAsStore contents (Ok (true, kind)) text (Ran answer) old (Some new) ran =
     let same : answer ≡ ran.0 = cc in
     subst (λ a. (after : StrictStore ℕ) × IsStrictStoreText (first_strict_store kind) after text a (contents old) (contents new)) (sym same) (RunsKindStrictlyAsStore kind text ran.0 (contents old) (contents new) ran.2)

@@ -4,6 +4,8 @@ use Rattle.triple_arena_ptr.specs.Numbers.{counting_to, greatest_index, first_ge
 use Rattle.triple_arena_stack.specs.StackKind.{StackKind, heap, limited, fixed, array}
 use Rattle.triple_arena_traits.specs.ArenaState.{new_arena}
 use Rattle.triple_arena_commands.specs.TextRun.{IsFlushedRun}
+use Rattle.triple_arena_commands.specs.declared.command.Command.{Command}
+use Rattle.triple_arena_commands.specs.declared.reply.Reply.{Reply}
 use Rattle.triple_arena_commands.specs.declared.arguments.Kind.{Kind}
 use Rattle.triple_arena_commands.specs.declared.arguments.Kind.TheVariants.{Heap, Limited, Fixed, Array}
 use Rattle.triple_arena_commands.specs.declared.text_error.TextError.{TextError}
@@ -19,6 +21,20 @@ greatest = 2 ^ 64 - 1
 -- a session of P0 over an arena of this room and this limit, that has given no name
 abbrev pub first_session : ℕ → Option ℕ → SessionState ℕ
 first_session room limit = new_session (new_arena room limit (greatest_index greatest) (first_generation (counting_to greatest)))
+
+-- the session that the program begins with, over the stack that its arguments ask for
+abbrev pub first_of_kind : Kind → SessionState ℕ
+first_of_kind Heap = first_session 0 None
+first_of_kind (Limited n) = first_session n (Some n)
+first_of_kind (Fixed n) = first_session n (Some n)
+first_of_kind Array = first_session 8 (Some 8)
+
+-- a step of a session of P0 over that stack
+abbrev pub IsStepOfKind : Kind → (before : SessionState ℕ) (command : Command ℕ) (reply : Reply ℕ) (after : SessionState ℕ) → Type 0
+IsStepOfKind Heap = IsStep heap (λ _. ⊥) (counting_to greatest)
+IsStepOfKind (Limited n) = IsStep limited (λ _. ⊥) (counting_to greatest)
+IsStepOfKind (Fixed n) = IsStep fixed (λ _. ⊥) (counting_to greatest)
+IsStepOfKind Array = IsStep (array 8) (λ _. Unit {0}) (counting_to greatest)
 
 -- the text ran over a stack of this kind, where memory is there for such requests, from this session
 abbrev pub RunsOver : (kind : StackKind) (has_memory : ℕ → Type 0) (first : SessionState ℕ) (text : Option (List ℕ)) (outcome : Result (Unit {0}) TextError) (old new : Option (List ℕ)) → Type 0

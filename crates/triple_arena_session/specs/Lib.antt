@@ -11,5 +11,6 @@ pub mod Shown
 pub mod StrictSession
 pub mod StrictText
 pub mod SessionCalls
+pub mod StoreRun
 pub mod StoreText
 pub mod ElevenCommands

@@ -1,11 +1,11 @@
 -- The model calls on the arena of a session that a command is, and those of commands one after another.
-use Rattle.std.specs.Prelude.{◌+◌, List, [], ◌∷◌, ◌++◌, Option, Some, None}
+use Rattle.std.specs.Prelude.{ℕ, ◌+◌, List, [], ◌∷◌, ◌++◌, take, Option, Some, None}
 use Rattle.triple_arena_ptr.specs.Pointers.{Pointer}
 use Rattle.triple_arena_traits.specs.Items.{item}
 use Rattle.triple_arena_traits.specs.Insertion.{next_pointer}
 use Rattle.triple_arena_traits.specs.Walks.{keys}
 use Rattle.triple_arena_traits.specs.Compression.{raised_if_any}
-use Rattle.triple_arena_traits.specs.Histories.{ModelCall, insertion, removal, invalidation, clearing, compression, resizing, Fits, Continues}
+use Rattle.triple_arena_traits.specs.Histories.{ModelCall, insertion, removal, invalidation, clearing, compression, resizing, AreDistinct, begun_with, given, followed_by, Fits, Continues}
 use Rattle.triple_arena_commands.specs.declared.command.Command.{Command}
 use Rattle.triple_arena_commands.specs.declared.command.Command.TheVariants.{Insert, InsertWithin, Remove, Invalidate, Clear, Compact, Reserve}
 use Rattle.triple_arena_commands.specs.declared.reply.Reply.{Reply}
@@ -49,3 +49,14 @@ module _ {X : Type 0} where
   -- commands ran with these replies, and the model calls take each history that fits the arena to one that fits
   abbrev pub RunsFreshly : (Step : SessionState X → Command X → Reply X → SessionState X → Type 0) → SessionState X → List (Command X) → List (Reply X) → SessionState X → Type 0
   RunsFreshly Step s commands replies t = (ran : IsRun Step s commands replies t) × Continues Fits s.arena (calls_in Step s commands replies t ran) t.arena
+
+  -- commands ran with these replies, and the pointers that were there first and those that the model calls gave are all
+  -- different
+  abbrev pub GivesNew : (Step : SessionState X → Command X → Reply X → SessionState X → Type 0) → List Pointer → SessionState X → List (Command X) → List (Reply X) → SessionState X → Type 0
+  GivesNew Step first s commands replies t =
+      (ran : IsRun Step s commands replies t) × AreDistinct (given (followed_by (begun_with first) (calls_in Step s commands replies t ran)))
+
+  -- so did the first of them, however many, as long as no reply told of a wrap, from a session without entries
+  abbrev pub GivesOnceToWrap : (Step : SessionState X → Command X → Reply X → SessionState X → Type 0) → SessionState X → List (Command X) → List (Reply X) → Type 0
+  GivesOnceToWrap Step s commands replies =
+      (count : ℕ) → TellsOfNoWrap (take count replies) → (t : SessionState X) × GivesNew Step [] s (take count commands) (take count replies) t

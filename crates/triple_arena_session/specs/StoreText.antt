@@ -18,28 +18,38 @@ use Rattle.triple_arena_commands.specs.NameStore.{Store, new_store, IsStoreStep}
 use Rattle.triple_arena_commands.specs.StoreRuns.{is_named, is_no_memory, AnswersAsStore, ample, erase, seen}
 use Rattle.triple_arena_commands.specs.StrictStore.{StrictStore}
 use Rattle.triple_arena_session.specs.SessionState.{SessionState}
-use Rattle.triple_arena_session.specs.KindRun.{greatest}
+use Rattle.triple_arena_session.specs.SessionCalls.{GivesOnceToWrap}
+use Rattle.triple_arena_session.specs.KindRun.{greatest, first_of_kind, IsStepOfKind}
 use Rattle.triple_arena_session.specs.Shown.{shown, IsSound}
 use Rattle.triple_arena_session.specs.StrictText.{IsStrictStoreText}
 
--- these lines stand for commands that were answered as by the store, and the reply lines were written. If all of them are
--- named commands, and no reply is NoMemory, then the replies, but for those to compactions and with their bools read as
--- false, are those of the store to the commands without compactions, where no memory is refused
-abbrev pub WritesAsStore : Store ℕ → (List (Reply ℕ) → Type 0) → List (List ℕ) → Option (List ℕ) → Option (List ℕ) → Type 0
-WritesAsStore s Ends lines old new =
+-- these lines stand for commands that were answered so, their replies ended so, and the reply lines were written
+abbrev pub WritesAnswers : (Answers : List (Command ℕ) → List (Reply ℕ) → Type 0) (Ends : List (Reply ℕ) → Type 0) (lines : List (List ℕ)) (old new : Option (List ℕ)) → Type 0
+WritesAnswers Answers Ends lines old new =
     (commands : List (Command ℕ)) × (replies : List (Reply ℕ)) × StandFor lines commands × Ends replies × Appends old new (reply_lines replies)
-    × AnswersAsStore s commands replies
-    × (list_all is_named commands ≡ true → list_any is_no_memory replies ≡ false → seen commands replies ≡ ample s (erase commands))
+    × Answers commands replies
 
 -- so it was with all lines of the text, or those up to the first reply that told of a wrap; or with the lines before the
 -- first malformed one
-abbrev pub IsStoreText : (store : Store ℕ) (text : Option (List ℕ)) (outcome : Result (Unit {0}) TextError) (old new : Option (List ℕ)) → Type 0
-IsStoreText s text (Ok done) old new =
+abbrev pub IsAnsweredText : (Answers : List (Command ℕ) → List (Reply ℕ) → Type 0) (text : Option (List ℕ)) (outcome : Result (Unit {0}) TextError) (old new : Option (List ℕ)) → Type 0
+IsAnsweredText Answers text (Ok done) old new =
     IfSome text (λ bytes.
-    WritesAsStore s TellsOfNoWrap (lines_of bytes) old new ⊎ ((count : ℕ) × WritesAsStore s EndsInWrap (take count (lines_of bytes)) old new))
-IsStoreText s text (Err (Malformed n)) old new =
-    IfSome text (λ bytes. IsMalformed (lines_of bytes) n × WritesAsStore s TellsOfNoWrap (take (n - 1) (lines_of bytes)) old new)
-IsStoreText s text outcome old new = Unit {0}
+    WritesAnswers Answers TellsOfNoWrap (lines_of bytes) old new ⊎ ((count : ℕ) × WritesAnswers Answers EndsInWrap (take count (lines_of bytes)) old new))
+IsAnsweredText Answers text (Err (Malformed n)) old new =
+    IfSome text (λ bytes. IsMalformed (lines_of bytes) n × WritesAnswers Answers TellsOfNoWrap (take (n - 1) (lines_of bytes)) old new)
+IsAnsweredText Answers text outcome old new = Unit {0}
+
+-- the replies, bools aside, are those of the store. If all of the commands are named, and no reply is NoMemory, then the
+-- replies, but for those to compactions, are those of the store to the commands without compactions, where no memory is
+-- refused
+abbrev pub AnswersUnseen : Store ℕ → List (Command ℕ) → List (Reply ℕ) → Type 0
+AnswersUnseen s commands replies =
+    AnswersAsStore s commands replies
+    × (list_all is_named commands ≡ true → list_any is_no_memory replies ≡ false → seen commands replies ≡ ample s (erase commands))
+
+-- the text was answered as by the store
+abbrev pub IsStoreText : (store : Store ℕ) (text : Option (List ℕ)) (outcome : Result (Unit {0}) TextError) (old new : Option (List ℕ)) → Type 0
+IsStoreText s = IsAnsweredText (AnswersUnseen s)
 
 -- the commands that these lines stand for took the store from s to t, no reply told of a wrap, and the reply lines were
 -- written
@@ -72,11 +82,17 @@ first_store Array = new_store 8 (Some 8) greatest
 abbrev pub first_strict_store : Kind → StrictStore ℕ
 first_strict_store kind = record { store = first_store kind; left = greatest - 2 }
 
+-- the replies are those of a new store, and the commands ran in a new session of the kind, whose pointers are all different,
+-- up to a reply that tells of a wrap
+abbrev pub AnswersFreshly : Kind → List (Command ℕ) → List (Reply ℕ) → Type 0
+AnswersFreshly kind commands replies =
+    AnswersUnseen (first_store kind) commands replies × GivesOnceToWrap (IsStepOfKind kind) (first_of_kind kind) commands replies
+
 -- of what the program's arguments ask for, whether a session is to be strict and its kind, and of its writer before and
--- after: where a session was asked for and the writer is given back, the text was answered as by the store of this kind, or
--- by the strict one
+-- after: where a session was asked for and the writer is given back, the text was answered as by the store of this kind,
+-- under pointers that are all different, or by the strict one
 abbrev pub AnswersProgram : {W : Type 0} → (W → Option (List ℕ)) → Result (Bool × Kind) Outcome → Option (List ℕ) → Outcome → W → Option W → Type 0
-AnswersProgram contents (Ok (false, kind)) text (Ran answer) old (Some new) = IsStoreText (first_store kind) text answer (contents old) (contents new)
+AnswersProgram contents (Ok (false, kind)) text (Ran answer) old (Some new) = IsAnsweredText (AnswersFreshly kind) text answer (contents old) (contents new)
 AnswersProgram contents (Ok (true, kind)) text (Ran answer) old (Some new) =
     (after : StrictStore ℕ) × IsStrictStoreText (first_strict_store kind) after text answer (contents old) (contents new)
 AnswersProgram contents mode text outcome old new = Unit {0}

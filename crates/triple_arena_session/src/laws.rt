@@ -1,7 +1,7 @@
 //! What holds of sessions, with the laws of lines, commands and stores of names. Each law is the contract
 //! of a function with an empty body.
 
-ghost use Rattle.std.specs.Prelude.{◌≡◌, ◌≤◌, List, [], None, true, false};
+ghost use Rattle.std.specs.Prelude.{◌≡◌, ◌≤◌, List, [], ◌∷◌, ◌++◌, None, true, false};
 ghost use Rattle.std.specs.List.{list_all, list_any};
 ghost use Rattle.triple_arena_traits.specs.ArenaState.{arena_len};
 ghost use Rattle.triple_arena_traits.specs.Histories.{AreDistinct, begun_with, given, followed_by, Continues, Fits};
@@ -17,6 +17,7 @@ ghost use Rattle.triple_arena_session.specs.SessionState.{SessionState};
 ghost use Rattle.triple_arena_session.specs.SessionRun.{IsStep};
 ghost use Rattle.triple_arena_session.specs.SessionCalls.{calls_of, calls_in, KeepsHistories};
 ghost use Rattle.triple_arena_session.specs.Shown.{shown, IsSound, IsArenaOver};
+ghost use Rattle.triple_arena_session.specs.StoreRun.{EndsAsStore};
 ghost use Rattle.triple_arena_session.specs.StrictSession.{IsStrictSessionStep, strictly_shown};
 ghost use Rattle.triple_arena_session.specs.KindRun.{greatest, first_session};
 ghost use Rattle.triple_arena_session.specs.ElevenCommands.{eleven_commands, eleven_replies, nine_replies, model_replies};
@@ -68,6 +69,28 @@ pub fn session_steps_as_store<P: Ptr, X, S: NonZeroInxGenericStack<ArenaSlot<P, 
         → IsStep S.kind S.has_memory P.Gen.generations s command Exhausted t → ⊥ }
 {}
 
+/// So it is with any list of steps, one after another: where no reply tells of a wrap, they are steps of
+/// the store that the session shows, and it is sound after them. Where the last reply alone tells of one,
+/// the others are, and the last is the store's, its bool aside.
+pub fn session_runs_as_store<P: Ptr, X, S: NonZeroInxGenericStack<ArenaSlot<P, Node<X, P>>>>()
+    ensures store { P.Gen.generations.counting ≡ true
+        → (s t : SessionState X) (commands : List (Command X)) (replies : List (Reply X))
+        → IsArenaOver S.kind s.arena → IsSound s
+        → IsRun (IsStep S.kind S.has_memory P.Gen.generations) s commands replies t
+        → TellsOfNoWrap replies → IsRun IsStoreStep (shown s) commands replies (shown t) }
+    ensures sound { P.Gen.generations.counting ≡ true
+        → (s t : SessionState X) (commands : List (Command X)) (replies : List (Reply X))
+        → IsArenaOver S.kind s.arena → IsSound s
+        → IsRun (IsStep S.kind S.has_memory P.Gen.generations) s commands replies t
+        → TellsOfNoWrap replies → IsArenaOver S.kind t.arena × IsSound t }
+    ensures at_wrap { P.Gen.generations.counting ≡ true
+        → (s t : SessionState X) (commands : List (Command X)) (before : List (Reply X)) (last : Reply X)
+        → IsArenaOver S.kind s.arena → IsSound s
+        → IsRun (IsStep S.kind S.has_memory P.Gen.generations) s commands (before ++ last ∷ []) t
+        → TellsOfNoWrap before
+        → EndsAsStore (IsStep S.kind S.has_memory P.Gen.generations) s commands before last t }
+{}
+
 /// A list of steps of any session, sound or not, takes each history that fits its arena to one that
 /// fits, where the generation counts, the arena is as every arena over the stack is, which it stays, and
 /// no reply tells of a wrap. So from a session without entries, as a new one is, and any one that was
@@ -95,7 +118,8 @@ pub fn session_runs_keep_histories<P: Ptr, X, S: NonZeroInxGenericStack<ArenaSlo
 /// the session is sound, its arena is as every arena over the stack is, and its counter is at most the
 /// greatest generation, as each is. All this holds after it too, and no reply tells of a wrap. Of any
 /// session, sound or not, whose counter may be any number, the calls on the arena take each history that
-/// fits it to one that fits, so that every pointer that was given is new.
+/// fits it to one that fits, so that no pointer is given that such a history has. One fits every strict
+/// session, as the clauses `begun` of its calls say.
 pub fn strict_session_steps_as_store<
     P: Ptr,
     X,

@@ -6,7 +6,7 @@ ghost use Rattle.triple_arena_stack.specs.StackKind.{new_room, new_limit, made_r
 ghost use Rattle.triple_arena_commands.specs.Program.{asked_mode};
 ghost use Rattle.triple_arena_session.specs.KindRun.{RunsKind, RunsOver, RunsKindStrictly, RunsStrictlyOver, RunsMode, first_session};
 ghost use Rattle.triple_arena_session.specs.ProgramRun.{RunsProgram};
-ghost use Rattle.triple_arena_session.specs.StoreText.{IsStoreText, first_store, AnswersProgram};
+ghost use Rattle.triple_arena_session.specs.StoreText.{IsAnsweredText, AnswersFreshly, AnswersProgram};
 
 use crate::node::Node;
 use crate::session::Session;
@@ -112,8 +112,8 @@ fn run_mode<R: Read, W: Write + Drop>(
 /// fails: nothing has run, and what the buffer held before goes out.
 ///
 /// Up to the first reply that tells of a wrap, and but where the writer failed, what is written is
-/// what a new store of names answers, and compactions change no other line, as `Session::run` says.
-/// This is said of readers and writers that tell their bytes.
+/// what a new store of names answers, each pointer that was given is new, and compactions change no
+/// other line, as `Session::run` says. This is said of readers and writers that tell their bytes.
 pub fn run_kind<R: Read, W: Write + Drop>(
     kind: Kind,
     alloc: Global,
@@ -122,7 +122,7 @@ pub fn run_kind<R: Read, W: Write + Drop>(
 ) -> (Result<(), TextError>, W)
     ensures run { RunsKind kind (R.remaining input.old) result.0
         (writer_contents W.contents output) (W.contents result.1) }
-    ensures store { IsStoreText (first_store kind) (R.remaining input.old) result.0
+    ensures store { IsAnsweredText (AnswersFreshly kind) (R.remaining input.old) result.0
         (writer_contents W.contents output) (W.contents result.1) }
 {
     run_over(kind, alloc, input, output)

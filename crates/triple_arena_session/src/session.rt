@@ -1,6 +1,6 @@
 //! Sessions: commands that speak of entries by name.
 
-ghost use Rattle.std.specs.Prelude.{◌≡◌, ◌≢◌, ℕ, ◌≤◌, [], IfOk, OnOk, OnErr, IsOk, true, false, length, take};
+ghost use Rattle.std.specs.Prelude.{◌≡◌, ◌≢◌, ℕ, ◌≤◌, List, [], ◌∷◌, ◌++◌, IfOk, OnOk, OnErr, IsOk, true, false, length, take};
 ghost use Rattle.std.specs.List.{list_all, list_any};
 ghost use Rattle.triple_arena_ptr.specs.Numbers.{greatest_index, first_generation};
 ghost use Rattle.triple_arena_stack.specs.StackKind.{new_room, new_limit, made_room, made_limit, CanHold, TakesNoMemory};
@@ -16,6 +16,7 @@ ghost use Rattle.triple_arena_session.specs.SessionState.{SessionState, node_of,
 ghost use Rattle.triple_arena_session.specs.SessionRun.{IsStep};
 ghost use Rattle.triple_arena_session.specs.SessionCalls.{calls_of, KeepsHistories};
 ghost use Rattle.triple_arena_session.specs.Shown.{shown, IsSound, IsArenaOver};
+ghost use Rattle.triple_arena_session.specs.StoreRun.{EndsAsStore};
 
 use crate::named_arena::NamedArena;
 use crate::node::Node;
@@ -153,12 +154,13 @@ impl<P: Ptr, X: Copy, S: NonZeroInxGenericStack<ArenaSlot<P, Node<X, P>>>> Sessi
     /// commands none is asked for.
     ///
     /// A sound session answers as the store of names that it shows. Where no reply tells of a wrap,
-    /// it shows what the store becomes, and is sound. Of each front of the commands and replies there
-    /// is what stood after it (`fronts`), and as long as it tells of no wrap each history that fits the
-    /// arena goes on, sound or not, as the law `session_runs_keep_histories` says of every list of steps:
-    /// from an arena without entries no pointer was given twice by then. Of named commands, which are all
-    /// but `Capacity`, `Reserve` and `Show`, and with no `NoMemory` among the replies, compactions change
-    /// no other reply.
+    /// it shows what the store becomes, and is sound. Where the last one does, so it was before that
+    /// step, and its reply is the store's too, its bool aside (`at_wrap`). Of each front of the commands
+    /// and replies there is what stood after it (`fronts`), and as long as it tells of no wrap each
+    /// history that fits the arena goes on, sound or not, as the law `session_runs_keep_histories` says
+    /// of every list of steps: from an arena without entries no pointer was given twice by then. Of
+    /// named commands, which are all but `Capacity`, `Reserve` and `Show`, and with no `NoMemory` among
+    /// the replies, compactions change no other reply.
     pub fn run(&mut self, commands: &[Command<X>]) -> Result<Vec<Reply<X>>, AllocError>
     where
         X: Debug,
@@ -177,6 +179,12 @@ impl<P: Ptr, X: Copy, S: NonZeroInxGenericStack<ArenaSlot<P, Node<X, P>>>> Sessi
         ensures sound { P.Gen.generations.counting ≡ true → IsSound self.old
             → IfOk result (λ replies.
             TellsOfNoWrap replies.items → IsSound self.new) }
+        ensures at_wrap { P.Gen.generations.counting ≡ true → IsSound self.old
+            → IfOk result (λ replies.
+            (before : List (Reply X)) (last : Reply X) → replies.items ≡ before ++ last ∷ []
+            → TellsOfNoWrap before
+            → EndsAsStore (IsStep S.kind S.has_memory P.Gen.generations)
+            self.old (take (length replies.items) commands.now) before last self.new) }
         ensures calls { P.Gen.generations.counting ≡ true → IfOk result (λ replies.
             KeepsHistories (IsStep S.kind S.has_memory P.Gen.generations)
             self.old (take (length replies.items) commands.now) replies.items self.new) }

@@ -5,7 +5,8 @@ ghost use Rattle.std.specs.List.{list_all, list_any};
 ghost use Rattle.triple_arena_ptr.specs.Numbers.{greatest_index, first_generation};
 ghost use Rattle.triple_arena_stack.specs.StackKind.{new_room, new_limit, made_room, made_limit, CanHold, TakesNoMemory};
 ghost use Rattle.triple_arena_traits.specs.ArenaState.{new_arena, map_values};
-ghost use Rattle.triple_arena_traits.specs.Histories.{Fits, Continues};
+ghost use Rattle.triple_arena_traits.specs.Walks.{keys};
+ghost use Rattle.triple_arena_traits.specs.Histories.{begun_with, Fits, Continues};
 ghost use Rattle.triple_arena_commands.specs.declared.reply.Reply.TheVariants.{Exhausted};
 ghost use Rattle.triple_arena_commands.specs.ReplyText.{tells_of_wrap};
 ghost use Rattle.triple_arena_commands.specs.Runs.{IsRun, TellsOfNoWrap};
@@ -112,10 +113,10 @@ impl<P: Ptr, X: Copy, S: NonZeroInxGenericStack<ArenaSlot<P, Node<X, P>>>> Stric
     /// where there is an entry, before all else. Then nothing changes. No reply tells of a wrap.
     ///
     /// A sound session answers as the strict store of names that it shows, shows what the store
-    /// becomes, and is sound. The calls on its arena take each history that fits it to one that fits,
-    /// so that every pointer that was given is new: of any session, sound or not (`history`). Of the
-    /// session before it tells what is true of each (`arena`, `within`), so that the law
-    /// `strict_session_steps_as_store` can be used of its steps.
+    /// becomes, and is sound. Of any session, sound or not, the pointers of the entries begin a history
+    /// (`begun`), and the calls on its arena take each history that fits it to one that fits (`history`):
+    /// so every pointer that was given is new. Of the session before it tells what is true of each
+    /// (`arena`, `within`), so that the law `strict_session_steps_as_store` can be used of its steps.
     pub fn step(&mut self, command: Command<X>) -> Reply<X>
     where
         X: Debug,
@@ -131,9 +132,12 @@ impl<P: Ptr, X: Copy, S: NonZeroInxGenericStack<ArenaSlot<P, Node<X, P>>>> Stric
         ensures sound { P.Gen.generations.counting ≡ true → IsSound self.old → IsSound self.new }
         ensures history { P.Gen.generations.counting ≡ true
             → Continues Fits self.old.arena (calls_of self.old command result) self.new.arena }
+        ensures begun { P.Gen.generations.counting ≡ true
+            → Fits (begun_with (keys self.old.arena.slots)) self.old.arena }
         ensures arena { IsArenaOver S.kind self.old.arena }
         ensures within { self.old.arena.counter ≤ P.Gen.generations.greatest }
     {
+        self.tell_begun();
         self.inside.tell_arena();
         self.inside.answer(command)
     }
@@ -144,7 +148,8 @@ impl<P: Ptr, X: Copy, S: NonZeroInxGenericStack<ArenaSlot<P, Node<X, P>>>> Stric
     /// commands none is asked for.
     ///
     /// A sound session answers as the strict store of names that it shows, shows what the store
-    /// becomes, and is sound. Every pointer that was given is new, of any session, sound or not. Of
+    /// becomes, and is sound. Every pointer that was given is new, of any session, sound or not, as the
+    /// pointers of its entries begin a history (`begun`), and each that fits goes on (`history`). Of
     /// named commands, which are all but `Capacity`, `Reserve` and `Show`, and with neither `NoMemory`
     /// nor `Exhausted` among the replies, compactions change no other reply.
     pub fn run(&mut self, commands: &[Command<X>]) -> Result<Vec<Reply<X>>, AllocError>
@@ -170,10 +175,22 @@ impl<P: Ptr, X: Copy, S: NonZeroInxGenericStack<ArenaSlot<P, Node<X, P>>>> Stric
             list_all is_named commands.now ≡ true → list_any is_no_memory replies.items ≡ false
             → list_any tells_exhausted replies.items ≡ false
             → seen commands.now replies.items ≡ ample (shown self.old) (erase commands.now)) }
+        ensures begun { P.Gen.generations.counting ≡ true
+            → Fits (begun_with (keys self.old.arena.slots)) self.old.arena }
         ensures arena { IsArenaOver S.kind self.old.arena }
         ensures within { self.old.arena.counter ≤ P.Gen.generations.greatest }
     {
+        self.tell_begun();
         self.inside.tell_arena();
         self.inside.run_commands(commands)
+    }
+    // Tells that the pointers of the entries of any strict session begin a history, and does nothing.
+    pub(crate) fn tell_begun(&self)
+        ensures { P.Gen.generations.counting ≡ true
+            → Fits (begun_with (keys self.now.arena.slots)) self.now.arena }
+    {
+        let arena = self.arena();
+        // By its clause.
+        let _generation = arena.generation();
     }
 }

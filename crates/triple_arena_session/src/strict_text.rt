@@ -2,6 +2,8 @@
 
 ghost use Rattle.std.specs.Prelude.{◌≡◌, ◌≤◌, IfSome, true};
 ghost use Rattle.std.specs.Io.Buffered.{writer_contents};
+ghost use Rattle.triple_arena_traits.specs.Walks.{keys};
+ghost use Rattle.triple_arena_traits.specs.Histories.{begun_with, Fits};
 ghost use Rattle.triple_arena_session.specs.Shown.{IsSound, IsArenaOver};
 ghost use Rattle.triple_arena_session.specs.StrictSession.{IsStrictSessionStep, strictly_shown};
 ghost use Rattle.triple_arena_session.specs.StrictText.{IsWholeTextRun, IsWholeFlushedRun, IsStrictStoreText};
@@ -22,7 +24,8 @@ use triple_arena_stack::NonZeroInxGenericStack;
 /// In a sound session the lines are answered as by the strict store of names that it shows, and
 /// compactions change no other line, as `StrictSession::run` says. It shows what the store became, where
 /// the writer failed by the first lines, and is sound after the run, however it ended: so one text may
-/// follow another. All this is said of readers and writers that tell their bytes.
+/// follow another. All this is said of readers and writers that tell their bytes. Of any session, sound
+/// or not, the pointers of the entries begin a history (`begun`), as `StrictSession::step` says.
 pub fn run_text_strict<
     P: Ptr,
     S: NonZeroInxGenericStack<ArenaSlot<P, Node<u64, P>>>,
@@ -43,9 +46,12 @@ pub fn run_text_strict<
         (R.remaining input.old) result (W.contents output.old) (W.contents output.new) }
     ensures sound { P.Gen.generations.counting ≡ true → IsSound session.old
         → IfSome (R.remaining input.old) (λ _. IsSound session.new) }
+    ensures begun { P.Gen.generations.counting ≡ true
+        → Fits (begun_with (keys session.old.arena.slots)) session.old.arena }
     ensures arena { IsArenaOver S.kind session.old.arena }
     ensures within { session.old.arena.counter ≤ P.Gen.generations.greatest }
 {
+    session.tell_begun();
     session.inside.tell_arena();
     read_and_run(&mut session.inside, alloc, input, output)
 }
@@ -77,9 +83,12 @@ pub fn run_text_strict_and_flush<
         (R.remaining input.old) result.0 (writer_contents W.contents output) (W.contents result.1) }
     ensures sound { P.Gen.generations.counting ≡ true → IsSound session.old
         → IfSome (R.remaining input.old) (λ _. IsSound session.new) }
+    ensures begun { P.Gen.generations.counting ≡ true
+        → Fits (begun_with (keys session.old.arena.slots)) session.old.arena }
     ensures arena { IsArenaOver S.kind session.old.arena }
     ensures within { session.old.arena.counter ≤ P.Gen.generations.greatest }
 {
+    session.tell_begun();
     session.inside.tell_arena();
     run_and_flush(&mut session.inside, alloc, input, output)
 }

@@ -1,15 +1,10 @@
 //! An auditor of the pointers that a run gives.
 
-ghost use Rattle.std.specs.Prelude.{◌≡◌, ℕ, [], IfOk, length, take};
-ghost use Rattle.triple_arena_ptr.specs.Numbers.{counting_to};
-ghost use Rattle.triple_arena_stack.specs.StackKind.StackKind.{heap};
+ghost use Rattle.std.specs.Prelude.{◌≡◌, IfOk, length, take};
 ghost use Rattle.triple_arena_traits.specs.ArenaState.{arena_len};
-ghost use Rattle.triple_arena_traits.specs.Histories.{AreDistinct, begun_with, given, followed_by};
-ghost use Rattle.triple_arena_commands.specs.Runs.{IsRun, TellsOfNoWrap};
-ghost use Rattle.triple_arena_session.specs.KindRun.{greatest};
-ghost use Rattle.triple_arena_session.specs.SessionState.{SessionState};
-ghost use Rattle.triple_arena_session.specs.SessionRun.{IsStep};
-ghost use Rattle.triple_arena_session.specs.SessionCalls.{calls_in};
+ghost use Rattle.triple_arena_commands.specs.declared.arguments.Kind.TheVariants.{Heap};
+ghost use Rattle.triple_arena_session.specs.KindRun.{IsStepOfKind};
+ghost use Rattle.triple_arena_session.specs.SessionCalls.{GivesOnceToWrap};
 
 use triple_arena_base::AllocError;
 use triple_arena_ptr::P0;
@@ -22,12 +17,8 @@ pub fn audited(
     commands: &[Command<u64>],
 ) -> Result<Vec<Reply<u64>>, AllocError>
     requires empty { arena_len session.old.arena ≡ 0 }
-    ensures once { IfOk result (λ replies. (count : ℕ) → TellsOfNoWrap (take count replies.items)
-        → let step = IsStep heap (λ _. ⊥) (counting_to greatest) in
-        let ran = take count (take (length replies.items) commands.now) in
-        (after : SessionState ℕ) × (run : IsRun step session.old ran (take count replies.items) after)
-        × AreDistinct (given (followed_by (begun_with [])
-        (calls_in step session.old ran (take count replies.items) after run)))) }
+    ensures once { IfOk result (λ replies. GivesOnceToWrap (IsStepOfKind Heap)
+        session.old (take (length replies.items) commands.now) replies.items) }
 {
     session.run(commands)
 }

@@ -4,4 +4,5 @@
 pub mod audit;
 pub mod begun_sessions;
 pub mod named_entries;
+pub mod strict_audit;
 pub mod whole_program;

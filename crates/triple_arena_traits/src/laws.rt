@@ -6,7 +6,7 @@ ghost use Rattle.std.specs.List.{FoldsTo, range_with_len};
 ghost use Rattle.triple_arena_ptr.specs.Numbers.{counting_to, raise, wraps};
 ghost use Rattle.triple_arena_ptr.specs.Pointers.{Pointer};
 ghost use Rattle.triple_arena_stack.specs.StackKind.{StackKind};
-ghost use Rattle.triple_arena_traits.specs.Entries.{entry_in, look_up, IsLast};
+ghost use Rattle.triple_arena_traits.specs.Entries.{entry_in, look_up, entry_count, IsLast};
 ghost use Rattle.triple_arena_traits.specs.ArenaState.{ArenaState, new_arena, arena_len, capacity, entry, with_value, IsWellFormed};
 ghost use Rattle.triple_arena_traits.specs.Insertion.{inserted};
 ghost use Rattle.triple_arena_traits.specs.Ending.{removed, invalidated, cleared};
@@ -16,11 +16,12 @@ ghost use Rattle.triple_arena_traits.specs.Values.{with_values_of};
 ghost use Rattle.triple_arena_traits.specs.HeldSlots.{refill_slots};
 ghost use Rattle.triple_arena_traits.specs.Walks.{Stand, Steps, Walk, IsAtFirst, keys, values};
 ghost use Rattle.triple_arena_traits.specs.Cloning.{clonable, CloneTurn};
-ghost use Rattle.triple_arena_traits.specs.Compression.{closed_up, compressed, rank};
+ghost use Rattle.triple_arena_traits.specs.Compression.{closed_up, compressed, rank, rank_among};
 ghost use Rattle.triple_arena_traits.specs.Drains.{NoneWraps};
 ghost use Rattle.triple_arena_traits.specs.Histories.{has, ModelCall, insertion, History, begun_with, and_then, given, ended, followed_by, is_live, Fits, Continues, IsModelCall, AreModelCalls};
 
 use crate::arena_clone_trait::ArenaCloneFromWith;
+use crate::compact_arena_trait::CompactArenaTrait;
 use triple_arena_base::Recast;
 use triple_arena_ptr::Ptr;
 
@@ -178,4 +179,21 @@ pub fn compression_moves<T>()
         → values (compressed s counter new).slots ≡ new }
     ensures well_formed { (s : ArenaState T) (counter : ℕ) (new : List T) → IsWellFormed s
         → length new ≡ arena_len s → IsWellFormed (compressed s counter new) }
+{}
+
+/// The order that compressions of any compact arena keep. Each moves the entry of a pointer to the
+/// index that tells how many entries there are up to it (`rank_among`): so no two entries come to one
+/// index, one behind another stays behind it, and no index is left out.
+pub fn compression_keeps_order<P: Ptr, T, A: CompactArenaTrait<P, T>>()
+    ensures index { (arena : A) (reset : Bool) (p : Pointer) → IsSome (look_up (A.slots arena) p)
+        → (A.rank arena reset p).0 ≡ rank_among (A.slots arena) p.0 }
+    ensures rises { (arena : A) (reset : Bool) (p q : Pointer) → IsSome (look_up (A.slots arena) p)
+        → IsSome (look_up (A.slots arena) q) → p.0 < q.0
+        → (A.rank arena reset p).0 < (A.rank arena reset q).0 }
+    ensures one_to_one { (arena : A) (reset : Bool) (p q : Pointer)
+        → IsSome (look_up (A.slots arena) p) → IsSome (look_up (A.slots arena) q)
+        → (A.rank arena reset p).0 ≡ (A.rank arena reset q).0 → p ≡ q }
+    ensures onto { (arena : A) (reset : Bool)
+        → map (λ p. p.0) (map (A.rank arena reset) (keys (A.slots arena)))
+        ≡ range_with_len 1 (entry_count (A.slots arena)) }
 {}

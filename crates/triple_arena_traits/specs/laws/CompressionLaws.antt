@@ -1,5 +1,5 @@
 -- What a compression leaves of the entries, by their pointers.
-use Rattle.std.proofs.Common.{◌≡◌, ℕ, zero, suc, ◌+◌, ◌<◌, List, [], ◌∷◌, ◌++◌, length, map, set, take, slice_get, Option, Some, None, cond, is_some, IsSome, refl, sym, ap, ◌∙◌, inl, inr, arith, append_assoc, true≢false}
+use Rattle.std.proofs.Common.{◌≡◌, ℕ, zero, suc, ◌+◌, ◌<◌, List, [], ◌∷◌, ◌++◌, length, map, set, take, slice_get, Option, Some, None, cond, is_some, IsSome, slice_index_or, refl, sym, ap, subst, ◌∙◌, inl, inr, arith, append_assoc, true≢false}
 use Rattle.std.proofs.lemmas.Bool.{cases_lt}
 use Rattle.std.proofs.lemmas.Option.{some_pair_parts}
 use Rattle.std.proofs.lemmas.List.{length_push, length-map}
@@ -12,7 +12,7 @@ use Rattle.triple_arena_traits.specs.laws.ItemLaws.{joined}
 use Rattle.triple_arena_traits.specs.Entries.{entry_in, look_up, entry_count, with_value_in}
 use Rattle.triple_arena_traits.specs.ArenaState.{ArenaState, with_value}
 use Rattle.triple_arena_traits.specs.Walks.{entries_from, keys_of, values_of, entries, keys, values}
-use Rattle.triple_arena_traits.specs.laws.WalkLaws.{length-entries, found}
+use Rattle.triple_arena_traits.specs.laws.WalkLaws.{length-entries, found, live_key}
 use Rattle.triple_arena_traits.specs.Compression.{closed_up, compressed, rank, rank_among, rank_in, placed}
 
 pub length-keys : {T : Type 0} (slots : List (Option (ℕ × T))) → length (keys slots) ≡ entry_count slots
@@ -156,6 +156,34 @@ module _ {T : Type 0} where
               ap (λ n. (n, p.1)) index ∙ ap (λ n. (q.0, n)) generation
         ]
       ]
+
+at_place : {A : Type 0} (f g : A → Pointer) (xs : List A) (k : ℕ) (x : A) → map (λ p. p.0) (map f xs) ≡ map (λ p. p.0) (map g xs) → k < length xs → slice_index_or xs k x ≡ x → (f x).0 ≡ (g x).0
+at_place f g [] k x same within is = absurd (omega (arith, within))
+at_place f g (y ∷ xs) zero x same within is =
+    let first : (f y).0 ≡ (g y).0 = cc in
+    subst (λ z. (f z).0 ≡ (g z).0) is first
+at_place f g (y ∷ xs) (suc k) x same within is =
+    let rest : map (λ p. p.0) (map f xs) ≡ map (λ p. p.0) (map g xs) = cc in
+    at_place f g xs k x rest (omega (arith, within)) is
+
+module _ {T : Type 0} (slots : List (Option (ℕ × T))) (moved : Pointer → Pointer) (ranked : map (λ p. p.0) (map moved (keys slots)) ≡ range_with_len 1 (entry_count slots)) where
+  -- what moves the entries to the numbers from 1 on, in index order, moves each to its own
+  pub moved_to_rank : (p : Pointer) → IsSome (look_up slots p) → (moved p).0 ≡ rank_among slots p.0
+  moved_to_rank p live =
+      let key = live_key slots p live in
+      at_place moved (rank_in None slots) (keys slots) key.0 p (ranked ∙ sym (ranks None slots)) key.1 key.2
+
+  -- so it keeps their order
+  pub moved_below : (p q : Pointer) → IsSome (look_up slots p) → IsSome (look_up slots q) → p.0 < q.0 → (moved p).0 < (moved q).0
+  moved_below p q live live' below =
+      let f = found slots q live' in
+      let less = rank_below slots p.0 q.0 below (rw f.entry refl) in
+      omega (arith, less, moved_to_rank p live, moved_to_rank q live')
+
+  -- and no two come to one index
+  pub moved_apart : (p q : Pointer) → IsSome (look_up slots p) → IsSome (look_up slots q) → (moved p).0 ≡ (moved q).0 → p ≡ q
+  moved_apart p q live live' same =
+      rank_apart slots p q live live' (sym (moved_to_rank p live) ∙ same ∙ moved_to_rank q live')
 
 module _ {T : Type 0} where
   pub count-closed_up : (counter : ℕ) (vs : List T) → entry_count (closed_up counter vs) ≡ length vs

@@ -1,14 +1,14 @@
 -- What each change of an arena leaves of its entries, by their indexes, and of its limit and capacity.
-use Rattle.std.proofs.Common.{◌≡◌, ◌≢◌, ℕ, zero, suc, ◌+◌, ◌-◌, ◌*◌, ◌<◌, ◌≤◌, ◌==◌, Bool, true, false, List, [], ◌∷◌, length, set, take, Option, Some, None, cond, count_by, min, slice_get, refl, sym, ap, subst, ◌∙◌, inl, inr, arith}
+use Rattle.std.proofs.Common.{◌≡◌, ◌≢◌, ℕ, zero, suc, ◌+◌, ◌-◌, ◌*◌, ◌<◌, ◌≤◌, ◌==◌, Bool, true, false, List, [], ◌∷◌, map, length, set, take, Option, Some, None, cond, count_by, min, slice_get, refl, sym, ap, subst, ◌∙◌, inl, inr, arith}
 use Rattle.std.proofs.lemmas.Bool.{cases_eq}
 use Rattle.std.proofs.lemmas.List.{length-take-le}
 use Rattle.std.proofs.lemmas.List.Sums.{sum_by-cons}
-use Rattle.std.specs.Option.{option_map}
+use Rattle.std.specs.Option.{option_map, option_and_then}
 use Rattle.triple_arena_stack.specs.StackKind.{StackKind, reallocated_room}
 use Rattle.triple_arena_stack.specs.StackKind.StackKind.{heap, limited, fixed, array}
 use Rattle.triple_arena_stack.specs.Capacity.{stack_capacity, next_capacity}
 use Rattle.triple_arena_traits.specs.Items.{item, with_item}
-use Rattle.triple_arena_traits.specs.laws.ItemLaws.{joined, eq_true, eq_false, item_past, item-with_other, item-push_same, item-push_other}
+use Rattle.triple_arena_traits.specs.laws.ItemLaws.{joined, joined_mapped, item-map, eq_true, eq_false, item_past, item-with_other, item-push_same, item-push_other}
 use Rattle.triple_arena_traits.specs.Entries.{entry_in, ChangesAt, KeepsEntries}
 use Rattle.triple_arena_traits.specs.ArenaState.{ArenaState, capacity, slot_count, arena_len, is_free, IsWellFormed}
 use Rattle.triple_arena_traits.specs.Insertion.{place_among, place, next_pointer, inserted_among, inserted}
@@ -42,6 +42,16 @@ kept_room limited room len m greatest None more = omega arith
 kept_room limited room len m greatest (Some most) more = omega arith
 kept_room fixed room len m greatest limit more = omega arith
 kept_room (array places) room len m greatest limit more = omega arith
+
+module _ {X T : Type 0} (entry : X → Option (ℕ × T)) where
+  -- the entry of a slot that was read
+  pub slot_entry : (es : List X) (i : ℕ) → option_and_then entry (item es i) ≡ entry_in (map entry es) i
+  slot_entry es i = joined_mapped entry (item es i) ∙ sym (ap joined (item-map entry es i))
+
+  -- the same, by the slots that a state has, and under a number that the index has
+  pub slot_read : (es : List X) (slots : List (Option (ℕ × T))) (i n : ℕ) (o : Option X) → o ≡ item es i → map entry es ≡ slots → i ≡ n → option_and_then entry o ≡ entry_in slots n
+  slot_read es slots i n o read shown here =
+      ap (option_and_then entry) read ∙ slot_entry es i ∙ ap (λ xs. entry_in xs i) shown ∙ ap (entry_in slots) here
 
 module _ {T : Type 0} where
   set_entry : (xs : List (Option (ℕ × T))) (k : ℕ) (e : Option (ℕ × T)) → (slice_get xs k ≡ None → e ≡ None) → joined (slice_get (set xs k e) k) ≡ e

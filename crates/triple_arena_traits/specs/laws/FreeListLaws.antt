@@ -14,7 +14,7 @@ module _ {T : Type 0} where
   trimmed_push [] = refl
   trimmed_push (x ∷ xs) = ap (put_before x) (trimmed_push xs)
 
-  vacant_is : (o : Option (Option (ℕ × T))) → is_free o ≡ true → o ≡ Some None
+  pub vacant_is : (o : Option (Option (ℕ × T))) → is_free o ≡ true → o ≡ Some None
   vacant_is None e = absurd (true≢false (sym e))
   vacant_is (Some None) e = refl
   vacant_is (Some (Some x)) e = absurd (true≢false (sym e))

@@ -10,6 +10,10 @@ use Rattle.triple_arena_traits.specs.Items.{item, with_item}
 abbrev pub joined : {A : Type 0} → Option (Option A) → Option A
 joined o = option_and_then (λ slot. slot) o
 
+pub joined_mapped : {A B : Type 0} (f : A → Option B) (o : Option A) → option_and_then f o ≡ joined (option_map f o)
+joined_mapped f None = refl
+joined_mapped f (Some x) = refl
+
 pub eq_true : (j i : ℕ) → j ≡ i → (j == i) ≡ true
 eq_true j i e = grind (arith, nat_tests)
 

@@ -72,7 +72,7 @@ fn takes_strict_as_the_first_word_alone(rt: HostRuntime) {
     }
 }
 
-const USAGE: &str = "usage: triple_arena_run [strict] [heap | limited N | fixed N | array]\n";
+const USAGE: &str = "usage: triple_arena_run [heap | limited N | fixed N | array]\n";
 
 #[test]
 fn says_why_it_stopped(rt: HostRuntime) {

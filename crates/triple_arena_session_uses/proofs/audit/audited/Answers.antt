@@ -9,5 +9,5 @@ returns c =
     record {
       once = IfOk-weaker c.run.result _ _ (λ replies fronts. λ count quiet.
           let front = fronts count in
-          (front.0, front.1, (front.2 front.1 quiet (begun_with []) (Fits-empty c.args.session.now.arena c.requires.empty)).given_once)) (c.run.ensures.fronts refl);
+          (front.0, (front.1, (front.2 front.1 quiet (begun_with []) (Fits-empty c.args.session.now.arena c.requires.empty)).given_once))) (c.run.ensures.fronts refl);
     }

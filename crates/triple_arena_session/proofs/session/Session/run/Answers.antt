@@ -1,10 +1,12 @@
-use Rattle.std.proofs.Common.{length, take}
+use Rattle.std.proofs.Common.{length, take, subst}
 use Rattle.std.proofs.lemmas.Result.{IfOk-weaker}
 use Rattle.triple_arena_commands.specs.laws.RunLaws.{IsRun-front}
+use Rattle.triple_arena_commands.specs.Runs.{IsRun}
 use Rattle.triple_arena_session.specs.SessionRun.{IsStep}
 use Rattle.triple_arena_session.proofs.Soundness.{sound_over}
 use Rattle.triple_arena_session.proofs.Continuing.{StepGoesOn, StepsKeepHistories}
 use Rattle.triple_arena_session.proofs.StoreRunLaws.{RunAnswersAsStore, RunIsStores, RunIsUnseen}
+use Rattle.triple_arena_session.proofs.LastSteps.{RunEndsAsStore}
 use Rattle.triple_arena_session.proofs.StrictSteps.{RunNeverExhausted}
 use Rattle.triple_arena_session.proofs.session.Session.run.Goals as goal
 
@@ -19,6 +21,14 @@ returns-clause-shows g c =
 pub returns-clause-sound : goal.returns-clause-sound
 returns-clause-sound g c =
     rw (← c.self.view_is) (λ counts sound. IfOk-weaker c.run_commands.result _ _ (λ replies ran. λ quiet. (RunIsStores g.S.NonZeroInxGenericStack.kind g.S.NonZeroInxGenericStack.has_memory g.P.Gen.PtrGen.generations counts c.self.inside.inside c.args.commands.now replies.items c.run_commands.new.self (sound_over g.S.NonZeroInxGenericStack.kind c.self.inside.inside sound c.tell_arena.ensures.over) ran quiet).1.table) c.run_commands.ensures.ran)
+
+pub returns-clause-at_wrap : goal.returns-clause-at_wrap
+returns-clause-at_wrap g c =
+    rw (← c.self.view_is) (λ counts sound. IfOk-weaker c.run_commands.result _ _ (λ replies ran. λ before last is quiet.
+    let Step = IsStep g.S.NonZeroInxGenericStack.kind g.S.NonZeroInxGenericStack.has_memory g.P.Gen.PtrGen.generations in
+    let answered = take (length replies.items) c.args.commands.now in
+    RunEndsAsStore g.S.NonZeroInxGenericStack.kind g.S.NonZeroInxGenericStack.has_memory g.P.Gen.PtrGen.generations counts c.self.inside.inside answered before last c.run_commands.new.self (sound_over g.S.NonZeroInxGenericStack.kind c.self.inside.inside sound c.tell_arena.ensures.over)
+    (subst (λ rs. IsRun Step c.self.inside.inside answered rs c.run_commands.new.self) is ran.0) quiet) c.run_commands.ensures.ran)
 
 pub returns-clause-calls : goal.returns-clause-calls
 returns-clause-calls g c =

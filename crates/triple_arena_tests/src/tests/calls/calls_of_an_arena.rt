@@ -3,7 +3,10 @@
 
 use super::arenas::{Pointers, Stack, on, on_each};
 use super::parts::{BEYOND, Part};
-use triple_arena_test_kit::{Call, Told, Wrong};
+use std::process::Abort;
+use triple_arena::ArenaSlot;
+use triple_arena_ptr::P0;
+use triple_arena_test_kit::{Call, Token, Told, Wrong};
 
 // Each call, on an arena with place for six and no entry.
 const EACH_OWN_CALL: Part = Part::Steps(&[
@@ -140,4 +143,10 @@ fn each_limit_call_on_pointers_of_each_kind(rt: HostRuntime) -> Result<(), Wrong
         Stack::Little(2, None),
         &[EACH_LIMIT_CALL],
     )
+}
+
+#[test]
+fn a_default_slot_is_free(rt: HostRuntime) {
+    let slot: ArenaSlot<P0, Token> = ArenaSlot::default();
+    assert!(rt; matches!(slot, ArenaSlot::Free(_)));
 }

@@ -27,7 +27,7 @@ module _ {I T Z : Type 0} (held : T → List I) (refill : T → List I → T) wh
   abbrev pub refill_vec : Vec T Z → List I → Vec T Z
   refill_vec v l = with_items v (refill_all held refill v.items l)
 
-  items_refilled : (v : Vec T Z) (l : List I) → (refill_vec v l).items ≡ refill_all held refill v.items l
+  pub items_refilled : (v : Vec T Z) (l : List I) → (refill_vec v l).items ≡ refill_all held refill v.items l
   items_refilled v l = with_items_is v (refill_all held refill v.items l) (length_refill_all held refill v.items l ∙ sym v.ok.0)
 
   pub vec_held_refill : HoldsRefill held refill → HoldsRefill held_vec refill_vec

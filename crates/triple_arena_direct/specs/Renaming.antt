@@ -1,5 +1,5 @@
 -- Compaction that renames: the map from old pointers to new ones, and what becomes of the pointers that values hold.
-use Rattle.std.specs.Prelude.{◌≡◌, ◌<◌, not, ℕ, List, map, Option, Some, None, is_some}
+use Rattle.std.specs.Prelude.{◌≡◌, ◌<◌, not, ℕ, List, map, Option, Some, None, is_some, IsSome, Contains}
 use Rattle.std.specs.Option.{option_map}
 use Rattle.std.specs.List.{find, AllZip}
 use Rattle.triple_arena_base.specs.declared.errors.ReallocationError.{ReallocationError}
@@ -19,6 +19,20 @@ module _ {P T : Type 0} (numbers : P → Pointer) where
   -- the first of these pointers that finds nothing in the slots, if there is one
   abbrev pub first_unresolved : List (Option (ℕ × T)) → List P → Option P
   first_unresolved slots ps = find (λ p. not (is_some (look_up slots (numbers p)))) ps
+
+-- what values lead to, that are found in the one slots, and hold pointers to the entries of the other
+module _ {P T U : Type 0} (numbers : P → Pointer) (slots : List (Option (ℕ × T))) (held : U → List P) (holders : List (Option (ℕ × U))) where
+  -- each pointer that one of them holds finds an entry
+  abbrev pub AllResolve : Type 0
+  AllResolve = (q : Pointer) (v : U) (p : P) → look_up holders q ≡ Some v → Contains (held v) p → IsSome (look_up slots (numbers p))
+
+  -- one of them holds this pointer, which finds nothing
+  pub record IsStray (p : P) : Type 0 where
+    pub dead : look_up slots (numbers p) ≡ None
+    pub holder : Pointer
+    pub value : U
+    pub found : look_up holders holder ≡ Some value
+    pub holds : Contains (held value) p
 
 -- what is renamed, of which these are the pointers that values hold, as numbers
 module _ {P T : Type 0} (numbers : P → Pointer) (rename : Pointer → Pointer) (held : T → List P) (refill : T → List P → T) where

@@ -302,8 +302,8 @@ pub(crate) fn resolved_map<
     K: NonZeroInxGenericStack<DirectSlot<P, P>> + Drop,
 >(this: &mut A, alloc: Global) -> Result<DirectArena<P, P, K>, CompactError<P>>
     ensures keys { IfOk result (λ all. keys all.slots ≡ keys (A.slots this.old)) }
-    ensures values { IfOk result (λ all. map P.numbers (values all.slots)
-        ≡ keys (A.slots this.old)) }
+    ensures own { IfOk result (λ all. (p : P) → look_up all.slots (P.numbers p)
+        ≡ option_map (λ _. p) (look_up (A.slots this.old) (P.numbers p))) }
     ensures resolved { OnOk result (first_unresolved P.numbers (A.slots this.old)
         (held_all T.held (values (A.slots this.old))) ≡ None) }
     ensures refusal { new_limit K.kind ≡ None
@@ -330,8 +330,8 @@ fn own_map<
     K: NonZeroInxGenericStack<DirectSlot<P, P>> + Drop,
 >(this: &A, alloc: Global) -> Result<DirectArena<P, P, K>, ReallocationError>
     ensures keys { IfOk result (λ all. keys all.slots ≡ keys (A.slots this.now)) }
-    ensures values { IfOk result (λ all. map P.numbers (values all.slots)
-        ≡ keys (A.slots this.now)) }
+    ensures own { IfOk result (λ all. (p : P) → look_up all.slots (P.numbers p)
+        ≡ option_map (λ _. p) (look_up (A.slots this.now) (P.numbers p))) }
     ensures refusal { new_limit K.kind ≡ None
         → IfErr result (RefusesMemory (entry_count (A.slots this.now))) }
     ensures with_memory { MapHasMemory K.kind K.has_memory (last_index (A.slots this.now))

@@ -6,18 +6,21 @@ ghost use Rattle.triple_arena_base.specs.Held.{held_all};
 ghost use Rattle.triple_arena_base.specs.Invalidation.{allowed_option};
 ghost use Rattle.triple_arena_ptr.specs.Pointers.{Pointer};
 ghost use Rattle.triple_arena_traits.specs.Entries.{look_up, entry_count};
+ghost use Rattle.triple_arena_stack.specs.StackKind.{new_limit};
 ghost use Rattle.triple_arena_traits.specs.Ending.{told};
+ghost use Rattle.triple_arena_traits.specs.FreeList.{last_index};
 ghost use Rattle.triple_arena_traits.specs.Histories.{History, compression, begun_with, CountsUp, Continues};
 ghost use Rattle.triple_arena_traits.specs.Walks.{keys, values};
-ghost use Rattle.triple_arena_direct.specs.Renaming.{MapsPointers, first_unresolved, Refuses};
+ghost use Rattle.triple_arena_direct.specs.Renaming.{MapsPointers, first_unresolved, Refuses, IsUnresolved, MapHasMemory};
 ghost use Rattle.triple_arena_direct.specs.RenamingBoth.{StandApart, AreRenamedBoth, IsFoundRenamedBoth, RefusesBoth};
 
 use crate::errors::CompactBothError;
 use crate::renaming::{compress_renaming, resolved_map};
 use std::alloc::Global;
 use triple_arena_base::{CompactError, InvalidationOption, Recast};
-use triple_arena_direct_arena::DirectArena;
+use triple_arena_direct_arena::{DirectArena, DirectSlot};
 use triple_arena_ptr::{Ptr, PtrGen};
+use triple_arena_stack::NonZeroInxGenericStack;
 use triple_arena_traits::{ArenaTrait, CompactArenaTrait, recast_entries};
 
 /// Compresses two arenas, renames each pointer to either that a value of the one or the other holds,
@@ -162,7 +165,7 @@ pub fn compress_recast_both<
 }
 
 // The map of each pointer of an arena to itself, if each that its values or those of the arena beside
-// it hold finds an entry.
+// it hold finds an entry. Memory is not refused where it is there.
 fn resolved_beside<
     P: Ptr,
     Q: Ptr,
@@ -170,15 +173,19 @@ fn resolved_beside<
     U: Recast<P>,
     A: CompactArenaTrait<P, T>,
     B: CompactArenaTrait<Q, U>,
->(this: &mut A, beside: &mut B, alloc: Global) -> Result<DirectArena<P, P>, CompactError<P>>
+    K: NonZeroInxGenericStack<DirectSlot<P, P>> + Drop,
+>(this: &mut A, beside: &mut B, alloc: Global) -> Result<DirectArena<P, P, K>, CompactError<P>>
     ensures keys { IfOk result (λ all. keys all.slots ≡ keys (A.slots this.old)) }
     ensures resolved { OnOk result (first_unresolved P.numbers (A.slots this.old)
         (held_all T.held (values (A.slots this.old))
         ++ held_all U.held (values (B.slots beside.old))) ≡ None) }
-    ensures refusal { IfErr result (Refuses (entry_count (A.slots this.old))
+    ensures refusal { new_limit K.kind ≡ None
+        → IfErr result (Refuses (entry_count (A.slots this.old))
         (first_unresolved P.numbers (A.slots this.old)
         (held_all T.held (values (A.slots this.old))
         ++ held_all U.held (values (B.slots beside.old))))) }
+    ensures with_memory { MapHasMemory K.kind K.has_memory (last_index (A.slots this.old))
+        → IfErr result IsUnresolved }
     ensures unchanged { this.new ≡ this.old }
     ensures beside_unchanged { beside.new ≡ beside.old }
 {

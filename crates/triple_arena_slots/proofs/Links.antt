@@ -63,7 +63,10 @@ module _ {P T I G : Type 0} where
   chain_from es (suc fuel) last from (i ∷ rest) fits linked =
       rw linked.0 (ap (λ l. i ∷ l) (chain_from es fuel (Some i) (after es i) rest (omega arith) linked.2))
 
-  -- the links of a slot that stays
+  -- where a slot leads, and that it leads there still where it stays
+  pub led_at : (read : ArenaSlot P T I G → ℕ → Option ℕ) (es : List (ArenaSlot P T I G)) (i : ℕ) (slot : ArenaSlot P T I G) → item es i ≡ Some slot → led_to read es i ≡ read slot i
+  led_at read es i slot found = ap (option_and_then (λ (s : ArenaSlot P T I G). read s i)) found
+
   pub led_same : (read : ArenaSlot P T I G → ℕ → Option ℕ) (old new : List (ArenaSlot P T I G)) (j : ℕ) → item new j ≡ item old j → led_to read new j ≡ led_to read old j
   led_same read old new j same = ap (option_and_then (λ slot. read slot j)) same
 
@@ -114,8 +117,8 @@ module _ {P T I G : Type 0} where
     pub can_leave : (es es1 : List (ArenaSlot P T I G)) (root : Option ℕ) (i len : ℕ) (link : Link) (s : ArenaState T) → ((j : ℕ) → j ≢ i → item es1 j ≡ item es j) → item es i ≡ Some (Free link) → Shows number es root len s → CanLeave number es1 (next_free link i) (previous_free link i)
     can_leave es es1 root i len link s same found shows =
         let at = free_at es root i len link s found shows in
-        let on : after es i ≡ next_free link i = ap (option_and_then (λ slot. next_in slot i)) found in
-        let back : before es i ≡ previous_free link i = ap (option_and_then (λ slot. previous_in slot i)) found in
+        let on : after es i ≡ next_free link i = led_at next_in es i (Free link) found in
+        let back : before es i ≡ previous_free link i = led_at previous_in es i (Free link) found in
         let entry : (j : ℕ) → j ≢ i → 1 ≤ times j (at.in_front ++ i ∷ at.behind) → item (map (entry_of number) es1) j ≡ Some None =
         λ j other there. item-map (entry_of number) es1 j ∙ ap (option_map (entry_of number)) (same j other) ∙ sym (item-map (entry_of number) es j) ∙ ap (λ xs. item xs j) shows.slots ∙ vacant_there s j shows.well (subst (λ xs. 1 ≤ times j xs) (sym at.split) there) in
         record {
@@ -127,8 +130,8 @@ module _ {P T I G : Type 0} where
     -- once it left, the rest of the list is linked
     pub left_linked : (es es1 es2 : List (ArenaSlot P T I G)) (root root2 : Option ℕ) (i : ℕ) (link : Link) (s : ArenaState T) (at : IsFreeAt es root i link s) → ((j : ℕ) → j ≢ i → item es1 j ≡ item es j) → Leaves number es1 es2 root root2 (next_free link i) (previous_free link i) → IsLinked es2 root2 (at.in_front ++ at.behind)
     left_linked es es1 es2 root root2 i link s at same leaves =
-        let on : after es i ≡ next_free link i = ap (option_and_then (λ slot. next_in slot i)) at.found in
-        let back : before es i ≡ previous_free link i = ap (option_and_then (λ slot. previous_in slot i)) at.found in
+        let on : after es i ≡ next_free link i = led_at next_in es i (Free link) at.found in
+        let back : before es i ≡ previous_free link i = led_at previous_in es i (Free link) at.found in
         let skips : Skips (after es) (before es) (after es2) (before es2) i = record {
           next = λ j other e. leaves.next j (sym back ∙ e) ∙ sym on;
           kept = λ j other ne. leaves.kept_next j (λ e. ne (back ∙ e)) ∙ led_same next_in es es1 j (same j other);
@@ -143,7 +146,7 @@ module _ {P T I G : Type 0} where
     first_link es i len link s found shows = sym back ∙ by_free s.free (subst (λ f. IsLinked es (Some i) f) refl shows.linked)
       where
         back : before es i ≡ previous_free link i
-        back = ap (option_and_then (λ slot. previous_in slot i)) found
+        back = led_at previous_in es i (Free link) found
 
         by_free : (f : List ℕ) → IsLinked es (Some i) f → before es i ≡ None
         by_free [] linked = absurd (cc)
@@ -186,7 +189,7 @@ module _ {P T I G : Type 0} where
     steps-filled es i len link s found shows = by_free s.free (subst (λ f. IsLinked es (Some i) f) refl shows.linked)
       where
         on : after es i ≡ next_free link i
-        on = ap (option_and_then (λ slot. next_in slot i)) found
+        on = led_at next_in es i (Free link) found
 
         by_free : (f : List ℕ) → IsLinked es (Some i) f → 1 + touch_if (next_free link i) ≡ steps_among f
         by_free [] linked = absurd (cc)

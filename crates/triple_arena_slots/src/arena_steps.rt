@@ -35,7 +35,8 @@ impl<P: Ptr, T, S: NonZeroInxGenericStack<ArenaSlot<P, T>>> Slots<P, T, S> {
         self.root
     }
 
-    /// The index of a pointer, if the entry there has the generation of the pointer.
+    /// The index of a pointer, if the entry there has the generation of the pointer. It touches at
+    /// most one slot.
     pub fn find(&mut self, p: P) -> Option<NonZeroUsize>
         requires { length (S.items self.old.slots.stack) ≤ greatest_index P.Inx.greatest }
         ensures index { IfSome result (λ inx. non_zero_usize_get inx ≡ (P.numbers p).0) }
@@ -54,7 +55,7 @@ impl<P: Ptr, T, S: NonZeroInxGenericStack<ArenaSlot<P, T>>> Slots<P, T, S> {
         }
     }
 
-    /// The number of an index, if an entry stands there.
+    /// The number of an index, if an entry stands there. It touches at most one slot.
     pub fn find_inx(&mut self, inx: P::Inx) -> Option<NonZeroUsize>
         requires { length (S.items self.old.slots.stack) ≤ greatest_index P.Inx.greatest }
         ensures index { IfSome result (λ i. non_zero_usize_get i ≡ P.Inx.number inx) }
@@ -81,7 +82,8 @@ impl<P: Ptr, T, S: NonZeroInxGenericStack<ArenaSlot<P, T>>> Slots<P, T, S> {
         }
     }
 
-    /// Puts an entry at the place of an insertion.
+    /// Puts an entry at the place of an insertion, where there is one. It touches one slot, or two
+    /// where two are free.
     pub fn occupy(&mut self, generation: P::Gen, value: T)
         requires indexed { length (S.items self.old.slots.stack) ≤ greatest_index P.Inx.greatest }
         requires shown { (s : ArenaState T) × (len : ℕ)
@@ -110,7 +112,7 @@ impl<P: Ptr, T, S: NonZeroInxGenericStack<ArenaSlot<P, T>>> Slots<P, T, S> {
     }
 
     /// Takes out the entry at an index: the last slot goes, and any other becomes the first free
-    /// one.
+    /// one. It touches at most two slots.
     pub fn vacate(&mut self, inx: NonZeroUsize) -> (P::Gen, T)
         requires indexed { length (S.items self.old.slots.stack) ≤ greatest_index P.Inx.greatest }
         requires live { IsSome (entry_at P.Gen.number (S.items self.old.slots.stack)
@@ -133,7 +135,7 @@ impl<P: Ptr, T, S: NonZeroInxGenericStack<ArenaSlot<P, T>>> Slots<P, T, S> {
         self.free(inx).into_entry()
     }
 
-    /// Puts another generation on the entry at an index.
+    /// Puts another generation on the entry at an index. It touches one slot.
     pub fn restamp(&mut self, inx: NonZeroUsize, generation: P::Gen)
         requires { IsSome (entry_at P.Gen.number (S.items self.old.slots.stack)
             (non_zero_usize_get inx)) }
@@ -166,7 +168,7 @@ impl<P: Ptr, T, S: NonZeroInxGenericStack<ArenaSlot<P, T>>> Slots<P, T, S> {
     }
 
     /// Pops the free slots at the end, and takes them out of the free list. The rest of it keeps its
-    /// order.
+    /// order. It touches at most 4 slots for each that goes, and one more.
     pub fn remove_free_end(&mut self)
         requires indexed { length (S.items self.old.slots.stack) ≤ greatest_index P.Inx.greatest }
         requires shown { IsShown P.Gen.number S.items self.old }

@@ -37,8 +37,8 @@ use triple_arena_traits::{CompactArenaTrait, EntrySlot, close_up};
 /// The slots of an arena. Each free one links to the next and to the one before, beginning at the
 /// root.
 ///
-/// Only through `SlotStack` does it reach a slot. What it lends, and what changes many slots at once, is
-/// uncounted.
+/// Only through `SlotStack` does it reach a slot. What it lends isn't counted, nor what this file
+/// changes of many slots at once, but for the links that `copy` sets; `tidy` pops uncounted.
 ///
 /// The clauses speak of the arena states that the slots show, together with the number of entries,
 /// which the arena counts.

@@ -10,6 +10,7 @@ pub mod VisitLaws
 pub mod ValueLaws
 pub mod CompressionLaws
 pub mod MoveLaws
+pub mod ReadLaws
 pub mod CloningLaws
 pub mod CopyLaws
 pub mod StepLaws

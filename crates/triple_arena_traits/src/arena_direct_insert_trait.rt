@@ -18,8 +18,8 @@ pub trait ArenaDirectInsertTrait<P: Ptr, T>: ArenaTrait<P, T> {
     ghost inserted_at: { Self → Pointer → T → Self };
 
     /// Inserts `t` under `p`, on the condition that `p` has a place, which
-    /// [`Self::can_direct_insert`] tells. It takes no memory. It touches the slot at the index, and
-    /// each that is missing below it.
+    /// [`Self::can_direct_insert`] tells. It takes no memory, and pushes the slots that are missing
+    /// below the index.
     fn direct_insert_reserved(&mut self, p: P, t: T)
         requires { IsVacant (Self.slots self.old) (Self.capacity self.old) (P.numbers p).0 }
         ensures inserted { self.new ≡ inserted_at self.old (P.numbers p) t }

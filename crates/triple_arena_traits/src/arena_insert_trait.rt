@@ -31,7 +31,8 @@ pub trait ArenaInsertTrait<P: Ptr, T>: ArenaTrait<P, T> {
         ensures free { entry_in (Self.slots self.now) (P.numbers result).0 ≡ None };
 
     /// Inserts `t` where no entry stood, and gives its pointer, on the condition that there is a
-    /// place without growth, which `len` and `capacity` tell. It takes no memory.
+    /// place without growth, which `len` and `capacity` tell. It takes no memory, and touches at most
+    /// 6 slots, where the arena counts them.
     fn insert_reserved(&mut self, t: T) -> P
         requires { entry_count (Self.slots self.old) < Self.capacity self.old }
         ensures pointer { P.numbers result ≡ next self.old }
@@ -117,7 +118,8 @@ pub trait ArenaInsertTrait<P: Ptr, T>: ArenaTrait<P, T> {
 
     ghost valid_grown: { (arena : Self) → Self.valid arena → Self.valid (grown arena) };
 
-    /// Inserts `t`, and gives its pointer. It takes no memory.
+    /// Inserts `t`, and gives its pointer. It takes no memory, and touches at most 6 slots, where the
+    /// arena counts them.
     ///
     /// Refused exactly where there are as many entries as the capacity; then the arena is
     /// unchanged, and `t` is dropped.

@@ -222,7 +222,8 @@ pub trait ArenaTrait<P: Ptr, T>: Sized {
             ≡ standing_at (greatest_index P.Inx.greatest) (P.Inx.number inx) reverse };
 
     /// Gives the entry under `p` a new pointer, where the arena counts generations; `p` is invalid
-    /// from then on, unless the new generation is its own, as it may be once the counter wrapped.
+    /// from then on, unless the new generation is its own, as it may be once the counter wrapped. It
+    /// touches at most 6 slots, where the arena counts them.
     ///
     /// `InvalidPtr` exactly where `p` is invalid; then nothing changes but how many slots were touched.
     /// `GenerationOverflow` exactly where it is valid and the counter wraps.
@@ -247,7 +248,8 @@ pub trait ArenaTrait<P: Ptr, T>: Sized {
             (invalidation (P.numbers p) ((P.numbers p).0, renewed self.old (P.numbers p).0) ∷ [])
             self.new };
 
-    /// Takes out the entry under `p`, and gives its value.
+    /// Takes out the entry under `p`, and gives its value. It touches at most 6 slots, where the arena
+    /// counts them.
     ///
     /// `InvalidPtr` exactly where `p` is invalid; then nothing changes but how many slots were touched.
     /// `GenerationOverflow` exactly where it is valid and the counter wraps.
@@ -266,7 +268,8 @@ pub trait ArenaTrait<P: Ptr, T>: Sized {
             → CountsUp P.Gen.generations (ending_wraps self.old)
             → Continues fits self.old (removal (P.numbers p) ∷ []) self.new };
 
-    /// Takes out the entry at `inx`, and gives its generation and its value.
+    /// Takes out the entry at `inx`, and gives its generation and its value. It touches at most 6
+    /// slots, where the arena counts them.
     ///
     /// `InvalidPtr` exactly where there is no entry; then nothing changes but how many slots were
     /// touched. `GenerationOverflow` exactly where there is one and the counter wraps.

@@ -1,6 +1,9 @@
 -- What follows where pointers of two kinds are renamed, one kind after the other.
-use Rattle.std.proofs.Common.{◌≡◌, ℕ, List, [], ◌∷◌, ◌++◌, map, Option, Some, IsSome, refl, sym, ap, ◌∙◌}
+use Rattle.std.proofs.Common.{◌≡◌, ℕ, List, [], ◌∷◌, ◌++◌, map, Option, Some, None, IsSome, refl, sym, ap, ◌∙◌}
+use Rattle.std.proofs.lemmas.Option.{same_Some}
+use Rattle.std.specs.Option.{option_map}
 use Rattle.triple_arena_base.specs.Held.{held_all}
+use Rattle.triple_arena_base.specs.Readings.{FollowsNames}
 use Rattle.triple_arena_ptr.specs.Pointers.{Pointer}
 use Rattle.triple_arena_traits.specs.Entries.{look_up}
 use Rattle.triple_arena_traits.specs.Walks.{keys, values}
@@ -58,3 +61,21 @@ module _ {P Q T : Type 0}
   found_both move old new ks all p live =
       let found = found_moved (IsRenamedBoth numbers rename held refill numbers_too rename_too held_too refill_too) move old new ks all p live in
       some_both (look_up old p) (look_up new (move p)) found.0 found.1 found.2 found.3 found.4
+
+  -- what is read of what is found is renamed in both ways, where reading follows the names of both kinds, which stand apart
+  module _ {R : Type 0} (read : T → R) (renamed renamed_too : (Pointer → Pointer) → R → R) (apart : StandApart held refill held_too refill_too)
+      (follows : FollowsNames numbers held refill read renamed) (follows_too : FollowsNames numbers_too held_too refill_too read renamed_too) where
+    pub found_read_both : (before after : Option T) → IsFoundRenamedBoth numbers rename held refill numbers_too rename_too held_too refill_too before after
+        → option_map read after ≡ option_map (λ r. renamed_too rename_too (renamed rename r)) (option_map read before)
+    found_read_both None after is = ap (option_map read) is.filled
+    found_read_both (Some v) after is =
+        let ps = is.pointers in
+        let qs = is.pointers_too in
+        let filled = refill_too (refill v ps) qs in
+        let holds : held filled ≡ ps = same_Some _ _ (ap (option_map held) (sym is.filled) ∙ is.pointers_held) in
+        let holds_too : held_too filled ≡ qs = same_Some _ _ (ap (option_map held_too) (sym is.filled) ∙ is.pointers_too_held) in
+        let names : map numbers ps ≡ map rename (map numbers (held v)) = ap (map numbers) (sym holds) ∙ same_Some _ _ (ap (option_map (λ w. map numbers (held w))) (sym is.filled) ∙ is.holds) in
+        let names_too : map numbers_too qs ≡ map rename_too (map numbers_too (held_too v)) = ap (map numbers_too) (sym holds_too) ∙ same_Some _ _ (ap (option_map (λ w. map numbers_too (held_too w))) (sym is.filled) ∙ is.holds_too) in
+        let stay : held_too (refill v ps) ≡ held_too v = apart.0 v ps (many_renamed numbers rename (held v) ps names) in
+        ap (option_map read) is.filled
+        ∙ ap Some (follows_too rename_too (refill v ps) qs (names_too ∙ ap (λ xs. map rename_too (map numbers_too xs)) (sym stay)) ∙ ap (renamed_too rename_too) (follows rename v ps names))

@@ -1,11 +1,13 @@
 -- What follows from a renaming: of values, of what is looked up, of holders that a map renames, and of arenas that hold.
-use Rattle.std.proofs.Common.{◌≡◌, ℕ, zero, suc, ◌+◌, Bool, true, false, not, cond, List, [], ◌∷◌, ◌++◌, map, length, take, drop, slice_get, Option, Some, None, is_some, IsSome, Ok, refl, sym, ap, subst, ◌∙◌, true≢false, map-id, arith}
-use Rattle.std.proofs.lemmas.List.{length-map}
-use Rattle.std.proofs.lemmas.Option.{slice_get-map}
+use Rattle.std.proofs.Common.{◌≡◌, ℕ, zero, suc, ◌+◌, Bool, true, false, not, cond, List, [], ◌∷◌, ◌++◌, map, length, take, drop, slice_get, Option, Some, None, is_some, IsSome, Ok, refl, sym, ap, subst, ◌∙◌, true≢false, map-id, inl, inr, arith}
+use Rattle.std.proofs.lemmas.List.{length-map, Contains-append_left, Contains-append_right, Contains-append_cases}
+use Rattle.std.proofs.lemmas.Option.{slice_get-map, same_Some}
 use Rattle.std.specs.Prelude.{Contains}
 use Rattle.std.specs.List.{AllZip}
 use Rattle.std.specs.Option.{option_map}
 use Rattle.triple_arena_base.specs.Held.{HoldsRefill, recast_from, recast_items, answer_from, recast_answer, held_all, refill_all}
+use Rattle.triple_arena_base.specs.Readings.{FollowsNames}
+use Rattle.triple_arena_base.specs.laws.ReadingLaws.{names_split}
 use Rattle.triple_arena_ptr.specs.Pointers.{Pointer}
 use Rattle.triple_arena_traits.specs.Entries.{look_up}
 use Rattle.triple_arena_traits.specs.ArenaState.{ArenaState}
@@ -13,8 +15,9 @@ use Rattle.triple_arena_traits.specs.Walks.{entries_from, keys_of, values_of, ke
 use Rattle.triple_arena_traits.specs.HeldSlots.{held_slots, refill_slots}
 use Rattle.triple_arena_traits.specs.laws.WalkLaws.{live_key, key_live}
 use Rattle.triple_arena_traits.specs.laws.MoveLaws.{nth_found, found_nth}
+use Rattle.triple_arena_traits.specs.laws.ReadLaws.{value_found}
 use Rattle.triple_arena_direct_arena.specs.DirectState.{DirectState}
-use Rattle.triple_arena_direct.specs.Renaming.{MapsPointers, first_unresolved, IsRenamed, AreRenamed, IsFoundRenamed}
+use Rattle.triple_arena_direct.specs.Renaming.{MapsPointers, first_unresolved, AllResolve, IsStray, IsRenamed, AreRenamed, IsFoundRenamed}
 
 -- the first of pointers in two parts that finds nothing
 module _ {P T : Type 0} (numbers : P → Pointer) (slots : List (Option (ℕ × T))) where
@@ -93,6 +96,49 @@ resolved_live numbers slots (q ∷ ps) p none among = by_live (is_some (look_up 
     by_live true live e others (zero, within, is) = subst (λ r. IsSome (look_up slots (numbers r))) is live
     by_live true live e others (suc k, within, is) = others e (k, omega (arith, within), is)
 
+-- the first of pointers that finds nothing is one of them, and finds nothing
+stray_among : {P T : Type 0} (numbers : P → Pointer) (slots : List (Option (ℕ × T))) (ps : List P) (p : P) → first_unresolved numbers slots ps ≡ Some p → Contains ps p × (look_up slots (numbers p) ≡ None)
+stray_among numbers slots [] p some = absurd (cc)
+stray_among numbers slots (q ∷ ps) p some = by_live (look_up slots (numbers q)) refl some (stray_among numbers slots ps p)
+  where
+    by_live : (o : Option _) → look_up slots (numbers q) ≡ o → cond (not (is_some o)) (Some q) (first_unresolved numbers slots ps) ≡ Some p
+        → (first_unresolved numbers slots ps ≡ Some p → Contains ps p × (look_up slots (numbers p) ≡ None)) → Contains (q ∷ ps) p × (look_up slots (numbers p) ≡ None)
+    by_live None dead e others = let here : q ≡ p = cc in ((zero, omega arith, here), subst (λ r. look_up slots (numbers r) ≡ None) here dead)
+    by_live (Some v) live e others = let later = others e in ((suc later.0.0, omega (arith, later.0.1), later.0.2), later.1)
+
+-- what values that are found hold
+module _ {P U : Type 0} (held : U → List P) where
+  all_hold : (vs : List U) (k : ℕ) (v : U) (p : P) → slice_get vs k ≡ Some v → Contains (held v) p → Contains (held_all held vs) p
+  all_hold [] k v p e holds = absurd (cc)
+  all_hold (x ∷ vs) zero v p e holds =
+      let here : x ≡ v = cc in
+      Contains-append_left (held x) (held_all held vs) p (subst (λ y. Contains (held y) p) (sym here) holds)
+  all_hold (x ∷ vs) (suc k) v p e holds = Contains-append_right (held x) (held_all held vs) p (all_hold vs k v p e holds)
+
+  one_holds : (vs : List U) (p : P) → Contains (held_all held vs) p → (k : ℕ) × (v : U) × (slice_get vs k ≡ Some v) × Contains (held v) p
+  one_holds [] p (k, within, is) = absurd (omega (arith, within))
+  one_holds (x ∷ vs) p among =
+      elim (Contains-append_cases (held x) (held_all held vs) p among) [
+        | inl here ↦ (zero, x, refl, here)
+        | inr there ↦ let later = one_holds vs p there in (suc later.0, later.1, later.2, later.3)
+      ]
+
+  module _ {T : Type 0} (numbers : P → Pointer) (slots : List (Option (ℕ × T))) (holders : List (Option (ℕ × U))) where
+    -- where the first that finds nothing is none, each of it finds an entry
+    pub held_resolve : first_unresolved numbers slots (held_all held (values holders)) ≡ None → AllResolve numbers slots held holders
+    held_resolve none q v p found holds =
+        let nth = nth_found holders q (rw found refl) in
+        let this : nth.0 ≡ v = cc in
+        resolved_live numbers slots (held_all held (values holders)) p none (all_hold (values holders) nth.1 v p (nth.4 ∙ ap Some this) holds)
+
+    -- and else one of them holds it
+    pub held_stray : (p : P) → first_unresolved numbers slots (held_all held (values holders)) ≡ Some p → IsStray numbers slots held holders p
+    held_stray p some =
+        let among = stray_among numbers slots (held_all held (values holders)) p some in
+        let one = one_holds (values holders) p among.0 in
+        let at = value_found holders one.0 one.1 one.2 in
+        record { dead = among.1; holder = at.0; value = one.1; found = at.1; holds = one.3 }
+
 -- there are as many new pointers as there were
 pub many_renamed : {P : Type 0} (numbers : P → Pointer) (rename : Pointer → Pointer) (old new : List P) → map numbers new ≡ map rename (map numbers old) → length new ≡ length old
 many_renamed numbers rename old new same =
@@ -111,23 +157,11 @@ module _ {P T : Type 0} (numbers : P → Pointer) (rename : Pointer → Pointer)
   followed slots images maps old new none is =
       refilled_renamed old new (recast_items (λ p. look_up images (numbers p)) (held old)) (items_renamed numbers slots rename images maps (held old) none).1 is
 
-  -- what has the new pointers of two lists has in its parts those of each
-  parts_renamed : (a b l : List P) → map numbers l ≡ map rename (map numbers (a ++ b))
-      → (map numbers (take (length a) l) ≡ map rename (map numbers a)) × (map numbers (drop (length a) l) ≡ map rename (map numbers b))
-  parts_renamed [] b [] same = (refl, same)
-  parts_renamed [] b (y ∷ l) same = (refl, same)
-  parts_renamed (x ∷ a) b [] same = absurd (cc)
-  parts_renamed (x ∷ a) b (y ∷ l) same =
-      let here : numbers y ≡ rename (numbers x) = cc in
-      let rest : map numbers l ≡ map rename (map numbers (a ++ b)) = cc in
-      let later = parts_renamed a b l rest in
-      (ap (λ k. k ∷ map numbers (take (length a) l)) here ∙ ap (λ ks. rename (numbers x) ∷ ks) later.0, later.1)
-
   -- values that are filled with new pointers are renamed one by one
   pub all_renamed : (vs : List T) (l : List P) → map numbers l ≡ map rename (map numbers (held_all held vs)) → AreRenamed numbers rename held refill vs (refill_all held refill vs l)
   all_renamed [] l same = tt
   all_renamed (v ∷ vs) l same =
-      let both = parts_renamed (held v) (held_all held vs) l same in
+      let both = names_split numbers rename (held v) (held_all held vs) l same in
       (refilled_renamed v (refill v (take (length (held v)) l)) (take (length (held v)) l) both.0 refl, all_renamed vs (drop (length (held v)) l) both.1)
 
   -- slots hold what the values of their entries hold
@@ -203,6 +237,17 @@ module _ {P T : Type 0} (numbers : P → Pointer) (rename : Pointer → Pointer)
       by_old : (o : Option T) → look_up old q ≡ o → IsFoundRenamed numbers rename held refill (look_up old q) (look_up new q)
       by_old None e = rw (e, by_new e (look_up new q) refl) (record { holds = refl; pointers = []; pointers_held = refl; filled = refl })
       by_old (Some v) e = found_renamed (λ p. p) old new (ks ∙ sym (map-id (keys old))) all q (rw e refl)
+
+-- what is read of what is found, where reading follows names
+module _ {P T R : Type 0} (numbers : P → Pointer) (held : T → List P) (refill : T → List P → T) (read : T → R) (renamed : (Pointer → Pointer) → R → R) (follows : FollowsNames numbers held refill read renamed) where
+  -- is renamed, where what is found is
+  pub found_read : (rename : Pointer → Pointer) (before after : Option T) → IsFoundRenamed numbers rename held refill before after
+      → option_map read after ≡ option_map (renamed rename) (option_map read before)
+  found_read rename None after is = ap (option_map read) is.filled
+  found_read rename (Some v) after is =
+      let holds : held (refill v is.pointers) ≡ is.pointers = same_Some _ _ (ap (option_map held) (sym is.filled) ∙ is.pointers_held) in
+      let names : map numbers (held (refill v is.pointers)) ≡ map rename (map numbers (held v)) = same_Some _ _ (ap (option_map (λ w. map numbers (held w))) (sym is.filled) ∙ is.holds) in
+      ap (option_map read) is.filled ∙ ap Some (follows rename v is.pointers (ap (map numbers) (sym holds) ∙ names))
 
 -- an arena that is a holder, and whose pointers were renamed
 module _ {P T : Type 0} (numbers : P → Pointer) (rename : Pointer → Pointer) (held : T → List P) (refill : T → List P → T) where

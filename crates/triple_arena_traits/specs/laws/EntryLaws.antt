@@ -44,14 +44,10 @@ kept_room fixed room len m greatest limit more = omega arith
 kept_room (array places) room len m greatest limit more = omega arith
 
 module _ {X T : Type 0} (entry : X → Option (ℕ × T)) where
-  -- the entry of a slot that was read
-  pub slot_entry : (es : List X) (i : ℕ) → option_and_then entry (item es i) ≡ entry_in (map entry es) i
-  slot_entry es i = joined_mapped entry (item es i) ∙ sym (ap joined (item-map entry es i))
-
-  -- the same, by the slots that a state has, and under a number that the index has
+  -- the entry of a slot that was read, by the slots that a state has, and under a number that the index has
   pub slot_read : (es : List X) (slots : List (Option (ℕ × T))) (i n : ℕ) (o : Option X) → o ≡ item es i → map entry es ≡ slots → i ≡ n → option_and_then entry o ≡ entry_in slots n
   slot_read es slots i n o read shown here =
-      ap (option_and_then entry) read ∙ slot_entry es i ∙ ap (λ xs. entry_in xs i) shown ∙ ap (entry_in slots) here
+      ap (option_and_then entry) read ∙ joined_mapped entry (item es i) ∙ sym (ap joined (item-map entry es i)) ∙ ap (λ xs. entry_in xs i) shown ∙ ap (entry_in slots) here
 
 module _ {T : Type 0} where
   set_entry : (xs : List (Option (ℕ × T))) (k : ℕ) (e : Option (ℕ × T)) → (slice_get xs k ≡ None → e ≡ None) → joined (slice_get (set xs k e) k) ≡ e

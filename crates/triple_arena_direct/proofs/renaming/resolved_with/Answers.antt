@@ -5,7 +5,6 @@ use Rattle.triple_arena_traits.specs.Entries.{look_up, entry_count}
 use Rattle.triple_arena_traits.specs.Walks.{values}
 use Rattle.triple_arena_direct.specs.Renaming.{first_unresolved, Refuses}
 use Rattle.triple_arena_direct.specs.laws.RenamingLaws.{first_before, first_behind}
-use Rattle.triple_arena_direct.proofs.OwnMaps.{own_image, same_pointer}
 use Rattle.triple_arena_direct.proofs.Resolving.{all_resolved, one_unresolved, holder_stays, refuses_more}
 use Rattle.triple_arena_direct.proofs.renaming.resolved_with.Goals as goal
 
@@ -21,30 +20,22 @@ pub returns-in-Err-clause-refusal : goal.returns-in-Err-clause-refusal
 returns-in-Err-clause-refusal g c unlimited =
     let slots = g.A.ArenaTrait.slots c.args.this.now in
     let held = g.H.Recast.held c.args.holder.now in
-    let apart = same_pointer g.P.Ptr.numbers g.P.Ptr.index_of g.P.Ptr.generation_of g.P.Inx.PtrInx.number g.P.Gen.PtrGen.number g.met.P.Ptr.numbers_of g.met.P.Inx.PtrInx.distinct g.met.P.Gen.PtrGen.distinct g.met.P.Ptr.distinct in
-    let own = own_image g.P.Ptr.numbers apart slots c.in_ok-all.all.slots c.in_ok-all.ensures.keys c.in_ok-all.ensures.values in
     first_behind g.P.Ptr.numbers slots (held_all g.T.Recast.held (values slots)) held c.in_ok-all.ensures.resolved
-    ∙ one_unresolved g.P.Ptr.numbers slots (λ p. look_up c.in_ok-all.all.slots (g.P.Ptr.numbers p)) own held c.in-Err.p (sym c.in-Err.ensures.answer)
+    ∙ one_unresolved g.P.Ptr.numbers slots (λ p. look_up c.in_ok-all.all.slots (g.P.Ptr.numbers p)) c.in_ok-all.ensures.own held c.in-Err.p (sym c.in-Err.ensures.answer)
 
 pub returns-in-Err-clause-holder_unchanged : goal.returns-in-Err-clause-holder_unchanged
 returns-in-Err-clause-holder_unchanged g c =
     let slots = g.A.ArenaTrait.slots c.args.this.now in
-    let apart = same_pointer g.P.Ptr.numbers g.P.Ptr.index_of g.P.Ptr.generation_of g.P.Inx.PtrInx.number g.P.Gen.PtrGen.number g.met.P.Ptr.numbers_of g.met.P.Inx.PtrInx.distinct g.met.P.Gen.PtrGen.distinct g.met.P.Ptr.distinct in
-    let own = own_image g.P.Ptr.numbers apart slots c.in_ok-all.all.slots c.in_ok-all.ensures.keys c.in_ok-all.ensures.values in
-    holder_stays g.P.Ptr.numbers slots g.H.Recast.held g.H.Recast.refill g.met.H.Recast.refill_held (λ p. look_up c.in_ok-all.all.slots (g.P.Ptr.numbers p)) own c.args.holder.now c.recast.new.self c.recast.ensures.after
+    holder_stays g.P.Ptr.numbers slots g.H.Recast.held g.H.Recast.refill g.met.H.Recast.refill_held (λ p. look_up c.in_ok-all.all.slots (g.P.Ptr.numbers p)) c.in_ok-all.ensures.own c.args.holder.now c.recast.new.self c.recast.ensures.after
 
 pub returns-in-Ok-clause-holder_unchanged : goal.returns-in-Ok-clause-holder_unchanged
 returns-in-Ok-clause-holder_unchanged g c =
     let slots = g.A.ArenaTrait.slots c.args.this.now in
-    let apart = same_pointer g.P.Ptr.numbers g.P.Ptr.index_of g.P.Ptr.generation_of g.P.Inx.PtrInx.number g.P.Gen.PtrGen.number g.met.P.Ptr.numbers_of g.met.P.Inx.PtrInx.distinct g.met.P.Gen.PtrGen.distinct g.met.P.Ptr.distinct in
-    let own = own_image g.P.Ptr.numbers apart slots c.in_ok-all.all.slots c.in_ok-all.ensures.keys c.in_ok-all.ensures.values in
-    holder_stays g.P.Ptr.numbers slots g.H.Recast.held g.H.Recast.refill g.met.H.Recast.refill_held (λ p. look_up c.in_ok-all.all.slots (g.P.Ptr.numbers p)) own c.args.holder.now c.recast.new.self c.recast.ensures.after
+    holder_stays g.P.Ptr.numbers slots g.H.Recast.held g.H.Recast.refill g.met.H.Recast.refill_held (λ p. look_up c.in_ok-all.all.slots (g.P.Ptr.numbers p)) c.in_ok-all.ensures.own c.args.holder.now c.recast.new.self c.recast.ensures.after
 
 pub returns-in-Ok-clause-resolved : goal.returns-in-Ok-clause-resolved
 returns-in-Ok-clause-resolved g c =
     let slots = g.A.ArenaTrait.slots c.args.this.now in
     let held = g.H.Recast.held c.args.holder.now in
-    let apart = same_pointer g.P.Ptr.numbers g.P.Ptr.index_of g.P.Ptr.generation_of g.P.Inx.PtrInx.number g.P.Gen.PtrGen.number g.met.P.Ptr.numbers_of g.met.P.Inx.PtrInx.distinct g.met.P.Gen.PtrGen.distinct g.met.P.Ptr.distinct in
-    let own = own_image g.P.Ptr.numbers apart slots c.in_ok-all.all.slots c.in_ok-all.ensures.keys c.in_ok-all.ensures.values in
     first_behind g.P.Ptr.numbers slots (held_all g.T.Recast.held (values slots)) held c.in_ok-all.ensures.resolved
-    ∙ all_resolved g.P.Ptr.numbers slots (λ p. look_up c.in_ok-all.all.slots (g.P.Ptr.numbers p)) own held (sym c.in-Ok.ensures.answer)
+    ∙ all_resolved g.P.Ptr.numbers slots (λ p. look_up c.in_ok-all.all.slots (g.P.Ptr.numbers p)) c.in_ok-all.ensures.own held (sym c.in-Ok.ensures.answer)

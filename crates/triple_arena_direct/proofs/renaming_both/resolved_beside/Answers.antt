@@ -5,48 +5,40 @@ use Rattle.triple_arena_traits.specs.Entries.{look_up, entry_count}
 use Rattle.triple_arena_traits.specs.Walks.{values}
 use Rattle.triple_arena_direct.specs.Renaming.{first_unresolved, Refuses}
 use Rattle.triple_arena_direct.specs.laws.RenamingLaws.{first_before, first_behind}
-use Rattle.triple_arena_direct.proofs.OwnMaps.{own_image, same_pointer}
 use Rattle.triple_arena_direct.proofs.Resolving.{all_resolved, one_unresolved, refuses_more}
 use Rattle.triple_arena_direct.proofs.Followed.{unchanged}
 use Rattle.triple_arena_direct.proofs.renaming_both.resolved_beside.Goals as goal
 
 pub returns-in_err-all-clause-refusal : goal.returns-in_err-all-clause-refusal
-returns-in_err-all-clause-refusal g c =
+returns-in_err-all-clause-refusal g c unlimited =
+    let refused = c.in_err-all.ensures.refusal unlimited in
     let slots = g.A.ArenaTrait.slots c.args.this.now in
     let first = first_unresolved g.P.Ptr.numbers slots (held_all g.T.Recast.held (values slots)) in
     let refuses : IfErr c.from_residual.result (Refuses (entry_count slots) first) = search rules in
     refuses_more (entry_count slots) first _ (first_before g.P.Ptr.numbers slots (held_all g.T.Recast.held (values slots)) (held_all g.U.Recast.held (values (g.B.ArenaTrait.slots c.args.beside.now)))) c.from_residual.result refuses
 
 pub returns-in-Err-clause-refusal : goal.returns-in-Err-clause-refusal
-returns-in-Err-clause-refusal g c =
+returns-in-Err-clause-refusal g c unlimited =
     let slots = g.A.ArenaTrait.slots c.args.this.now in
-    let apart = same_pointer g.P.Ptr.numbers g.P.Ptr.index_of g.P.Ptr.generation_of g.P.Inx.PtrInx.number g.P.Gen.PtrGen.number g.met.P.Ptr.numbers_of g.met.P.Inx.PtrInx.distinct g.met.P.Gen.PtrGen.distinct g.met.P.Ptr.distinct in
-    let own = own_image g.P.Ptr.numbers apart slots c.in_ok-all.all.slots c.in_ok-all.ensures.keys c.in_ok-all.ensures.values in
     let held = held_all g.U.Recast.held (values (g.B.ArenaTrait.slots c.args.beside.now)) in
     first_behind g.P.Ptr.numbers slots (held_all g.T.Recast.held (values slots)) held c.in_ok-all.ensures.resolved
-    ∙ one_unresolved g.P.Ptr.numbers slots (λ p. look_up c.in_ok-all.all.slots (g.P.Ptr.numbers p)) own held c.in-Err.p (sym c.in-Err.ensures.answer)
+    ∙ one_unresolved g.P.Ptr.numbers slots (λ p. look_up c.in_ok-all.all.slots (g.P.Ptr.numbers p)) c.in_ok-all.ensures.own held c.in-Err.p (sym c.in-Err.ensures.answer)
 
 pub returns-in-Err-clause-beside_unchanged : goal.returns-in-Err-clause-beside_unchanged
 returns-in-Err-clause-beside_unchanged g c =
     let slots = g.A.ArenaTrait.slots c.args.this.now in
-    let apart = same_pointer g.P.Ptr.numbers g.P.Ptr.index_of g.P.Ptr.generation_of g.P.Inx.PtrInx.number g.P.Gen.PtrGen.number g.met.P.Ptr.numbers_of g.met.P.Inx.PtrInx.distinct g.met.P.Gen.PtrGen.distinct g.met.P.Ptr.distinct in
-    let own = own_image g.P.Ptr.numbers apart slots c.in_ok-all.all.slots c.in_ok-all.ensures.keys c.in_ok-all.ensures.values in
     unchanged g.P.Ptr.numbers slots g.U.Recast.held g.U.Recast.refill g.met.U.Recast.refill_held g.B.ArenaTrait.slots g.B.ArenaTrait.with_value g.met.B.CompactArenaTrait.with_value_same g.met.B.ArenaTrait.slots_with_value
-    (λ p. look_up c.in_ok-all.all.slots (g.P.Ptr.numbers p)) c.args.beside.now c.recast_entries.new.arena own c.recast_entries.ensures.after
+    (λ p. look_up c.in_ok-all.all.slots (g.P.Ptr.numbers p)) c.args.beside.now c.recast_entries.new.arena c.in_ok-all.ensures.own c.recast_entries.ensures.after
 
 pub returns-in-Ok-clause-beside_unchanged : goal.returns-in-Ok-clause-beside_unchanged
 returns-in-Ok-clause-beside_unchanged g c =
     let slots = g.A.ArenaTrait.slots c.args.this.now in
-    let apart = same_pointer g.P.Ptr.numbers g.P.Ptr.index_of g.P.Ptr.generation_of g.P.Inx.PtrInx.number g.P.Gen.PtrGen.number g.met.P.Ptr.numbers_of g.met.P.Inx.PtrInx.distinct g.met.P.Gen.PtrGen.distinct g.met.P.Ptr.distinct in
-    let own = own_image g.P.Ptr.numbers apart slots c.in_ok-all.all.slots c.in_ok-all.ensures.keys c.in_ok-all.ensures.values in
     unchanged g.P.Ptr.numbers slots g.U.Recast.held g.U.Recast.refill g.met.U.Recast.refill_held g.B.ArenaTrait.slots g.B.ArenaTrait.with_value g.met.B.CompactArenaTrait.with_value_same g.met.B.ArenaTrait.slots_with_value
-    (λ p. look_up c.in_ok-all.all.slots (g.P.Ptr.numbers p)) c.args.beside.now c.recast_entries.new.arena own c.recast_entries.ensures.after
+    (λ p. look_up c.in_ok-all.all.slots (g.P.Ptr.numbers p)) c.args.beside.now c.recast_entries.new.arena c.in_ok-all.ensures.own c.recast_entries.ensures.after
 
 pub returns-in-Ok-clause-resolved : goal.returns-in-Ok-clause-resolved
 returns-in-Ok-clause-resolved g c =
     let slots = g.A.ArenaTrait.slots c.args.this.now in
-    let apart = same_pointer g.P.Ptr.numbers g.P.Ptr.index_of g.P.Ptr.generation_of g.P.Inx.PtrInx.number g.P.Gen.PtrGen.number g.met.P.Ptr.numbers_of g.met.P.Inx.PtrInx.distinct g.met.P.Gen.PtrGen.distinct g.met.P.Ptr.distinct in
-    let own = own_image g.P.Ptr.numbers apart slots c.in_ok-all.all.slots c.in_ok-all.ensures.keys c.in_ok-all.ensures.values in
     let held = held_all g.U.Recast.held (values (g.B.ArenaTrait.slots c.args.beside.now)) in
     first_behind g.P.Ptr.numbers slots (held_all g.T.Recast.held (values slots)) held c.in_ok-all.ensures.resolved
-    ∙ all_resolved g.P.Ptr.numbers slots (λ p. look_up c.in_ok-all.all.slots (g.P.Ptr.numbers p)) own held (sym c.in-Ok.ensures.answer)
+    ∙ all_resolved g.P.Ptr.numbers slots (λ p. look_up c.in_ok-all.all.slots (g.P.Ptr.numbers p)) c.in_ok-all.ensures.own held (sym c.in-Ok.ensures.answer)

@@ -9,7 +9,7 @@ use Rattle.triple_arena_base.specs.declared.errors.CompactError.TheVariants.{Unr
 use Rattle.triple_arena_ptr.specs.Pointers.{Pointer}
 use Rattle.triple_arena_stack.specs.Capacity.{IsWithin}
 use Rattle.triple_arena_stack.specs.StackKind.{StackKind, new_room, new_limit, reallocated_room}
-use Rattle.triple_arena_traits.specs.Entries.{look_up}
+use Rattle.triple_arena_traits.specs.Entries.{look_up, entry_count}
 
 module _ {P T : Type 0} (numbers : P → Pointer) where
   -- the map has, for each pointer of these slots, its new pointer, and none for any other
@@ -61,6 +61,11 @@ RefusesMemory count refusal = (refusal ≡ AllocError) × (0 < count)
 abbrev pub Refuses : {P : Type 0} (count : ℕ) (first : Option P) → CompactError P → Type 0
 Refuses count first (Unresolved p) = first ≡ Some p
 Refuses count first (Reallocation refusal) = RefusesMemory count refusal
+
+-- the same in look-ups, where all pointers are held by values that are found in the holders
+abbrev pub RefusesStray : {P T U : Type 0} (numbers : P → Pointer) (slots : List (Option (ℕ × T))) (held : U → List P) (holders : List (Option (ℕ × U))) → CompactError P → Type 0
+RefusesStray numbers slots held holders (Unresolved p) = IsStray numbers slots held holders p
+RefusesStray numbers slots held holders (Reallocation refusal) = RefusesMemory (entry_count slots) refusal
 
 -- a stored pointer finds nothing, and no memory was refused
 abbrev pub IsUnresolved : {P : Type 0} → CompactError P → Type 0

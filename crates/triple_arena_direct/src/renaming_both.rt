@@ -38,6 +38,7 @@ use triple_arena_traits::{ArenaTrait, CompactArenaTrait, recast_entries};
 /// by `held_nothing`. So no relation is forgotten, but for a pointer that a `held` leaves out.
 /// The two kinds have to stand apart in a value (`StandApart`), so that to replace those of one kind
 /// leaves those of the other: where they are in fields of their own, a caller proves it with no file.
+/// Two arenas of one pointer type have no such call: their kinds don't stand apart.
 pub fn compress_recast_both<
     P: Ptr,
     Q: Ptr,

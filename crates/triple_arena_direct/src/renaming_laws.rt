@@ -1,16 +1,16 @@
 //! Laws of renaming: how holders follow a compaction, arenas among them.
 
 ghost use Rattle.std.specs.Prelude.{◌≡◌, ℕ, List, Contains, Option, None, IsSome, Ok};
-ghost use Rattle.triple_arena_base.specs.Held.{recast_items, recast_answer};
+ghost use Rattle.triple_arena_base.specs.Held.{held_all, recast_items, recast_answer};
 ghost use Rattle.triple_arena_ptr.specs.Pointers.{Pointer};
-ghost use Rattle.triple_arena_traits.specs.Entries.{look_up};
+ghost use Rattle.triple_arena_traits.specs.Entries.{look_up, entry_count};
 ghost use Rattle.triple_arena_traits.specs.ArenaState.{ArenaState};
 ghost use Rattle.triple_arena_traits.specs.HeldSlots.{held_slots, refill_slots};
 ghost use Rattle.triple_arena_traits.specs.Walks.{keys, values};
 ghost use Rattle.triple_arena_direct_arena.specs.DirectState.{DirectState};
-ghost use Rattle.triple_arena_direct.specs.Renaming.{MapsPointers, first_unresolved, IsRenamed, AreRenamed, IsFoundRenamed};
+ghost use Rattle.triple_arena_direct.specs.Renaming.{MapsPointers, first_unresolved, Refuses, AllResolve, RefusesStray, IsRenamed, AreRenamed, IsFoundRenamed};
 
-use triple_arena_base::Recast;
+use triple_arena_base::{CompactError, Recast};
 use triple_arena_ptr::Ptr;
 
 /// Holders follow by the map of a compaction: where each pointer of a value found an entry before it,
@@ -66,4 +66,20 @@ pub fn arenas_follow<P: Ptr, U: Recast<P>>()
         × ((q : Pointer) → IsFoundRenamed P.numbers rename U.held U.refill
         (look_up old.slots q) (look_up new.slots q))
         × (new ≡ record old { slots = new.slots }) }
+{}
+
+/// What the values of an arena lead to, that hold the pointers to another. Where the first of these
+/// that finds nothing is none, each pointer that a value holds finds an entry (`all`). A refusal with
+/// the first tells of a pointer that a value holds, and that finds nothing (`stray`). An arena holds
+/// what its values hold, in their order (`same`).
+pub fn arenas_resolve<P: Ptr, T, U: Recast<P>>()
+    ensures all { (slots : List (Option (ℕ × T))) (holders : List (Option (ℕ × U)))
+        → first_unresolved P.numbers slots (held_all U.held (values holders)) ≡ None
+        → AllResolve P.numbers slots U.held holders }
+    ensures stray { (slots : List (Option (ℕ × T))) (holders : List (Option (ℕ × U)))
+        (refusal : CompactError P) → Refuses (entry_count slots)
+        (first_unresolved P.numbers slots (held_all U.held (values holders))) refusal
+        → RefusesStray P.numbers slots U.held holders refusal }
+    ensures same { (holders : List (Option (ℕ × U)))
+        → held_slots U.held U.refill holders ≡ held_all U.held (values holders) }
 {}

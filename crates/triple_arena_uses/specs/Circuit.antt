@@ -5,13 +5,17 @@ use Rattle.std.specs.Option.{option_map, option_map_or, option_and_then}
 use Rattle.triple_arena_base.specs.Held.{held_itself, refill_itself, held_option, refill_option}
 use Rattle.triple_arena_base.specs.HeldVecs.{held_vec, refill_vec}
 use Rattle.triple_arena_base.specs.HeldPairs.{held_both, refill_both}
-use Rattle.triple_arena_ptr.specs.Numbers.{counting_to, raise}
+use Rattle.triple_arena_base.specs.declared.errors.CompactError.{CompactError}
+use Rattle.triple_arena_ptr.specs.Numbers.{counting_to, raise, wraps}
 use Rattle.triple_arena_ptr.specs.Pointers.{Pointer, is_same}
 use Rattle.triple_arena_ptr.specs.declared.P0.{P0}
 use Rattle.triple_arena_ptr.specs.declared.Q2.{Q2}
 use Rattle.triple_arena_traits.specs.Entries.{look_up}
 use Rattle.triple_arena_traits.specs.ArenaState.{ArenaState}
-use Rattle.triple_arena_traits.specs.Compression.{rank, raised_if_any}
+use Rattle.triple_arena_traits.specs.Compression.{rank, raised_if_any, wraps_after}
+use Rattle.triple_arena_direct.specs.Renaming.{AllResolve, RefusesStray}
+use Rattle.triple_arena_direct.specs.declared.errors.CompactBothError.{CompactBothError}
+use Rattle.triple_arena_direct.specs.declared.errors.CompactBothError.TheVariants.{First, Second}
 use Rattle.triple_arena_uses.specs.Entities.{p0_numbers}
 use Rattle.triple_arena_uses.specs.declared.circuit.Cell.{Cell}
 use Rattle.triple_arena_uses.specs.declared.circuit.Net.{Net}
@@ -87,12 +91,22 @@ without_cell c net = without_sink c (record net { driver = option_and_then (λ p
 abbrev pub without_net : Pointer → CellRead → CellRead
 without_net n cell = record cell { reads = filter (λ p. not (is_same p n)) cell.reads }
 
--- why a call on a net and a cell was refused
+-- both a net and a cell are there
+abbrev pub AreThere : Wiring → (n c : Pointer) → Type 0
+AreThere wiring n c = IsSome (net_at wiring n) × IsSome (cell_at wiring c)
+
+-- why a call on a net and a cell was refused, and why one that takes memory was
 abbrev pub RefusesEnds : Wiring → (n c : Pointer) → CircuitError → Type 0
 RefusesEnds wiring n c NoNet = net_at wiring n ≡ None
 RefusesEnds wiring n c NoCell = IsSome (net_at wiring n) × (cell_at wiring c ≡ None)
 RefusesEnds wiring n c InUse = ⊥
-RefusesEnds wiring n c (Memory e) = IsSome (net_at wiring n) × IsSome (cell_at wiring c)
+RefusesEnds wiring n c (Memory e) = ⊥
+
+abbrev pub RefusesMore : Wiring → (n c : Pointer) → CircuitError → Type 0
+RefusesMore wiring n c NoNet = net_at wiring n ≡ None
+RefusesMore wiring n c NoCell = IsSome (net_at wiring n) × (cell_at wiring c ≡ None)
+RefusesMore wiring n c InUse = ⊥
+RefusesMore wiring n c (Memory e) = AreThere wiring n c
 
 -- why a cell stays, and why a net stays
 abbrev pub KeepsCell : Wiring → Pointer → CircuitError → Type 0
@@ -135,6 +149,28 @@ cells_renamed rename net = record net { driver = option_map rename net.driver; s
 abbrev pub nets_renamed : (Pointer → Pointer) → CellRead → CellRead
 nets_renamed rename cell = record cell { reads = map rename cell.reads }
 
--- where a compaction moves the entry of a pointer: all come to stand under the raised counter
+-- where a compaction moves the entry of a pointer: all come to stand under the raised counter; and whether that wraps it
 abbrev pub moved : {T : Type 0} → ArenaState T → Pointer → Pointer
 moved s p = rank s (raised_if_any (raise (counting_to (2 ^ 64 - 1))) s) p
+
+abbrev pub moving_wraps : {T : Type 0} → ArenaState T → Bool
+moving_wraps s = wraps_after (wraps (counting_to (2 ^ 64 - 1))) false s
+
+-- each cell to which a net leads is there, and each net that a cell reads
+abbrev pub CellsAreThere : Wiring → Type 0
+CellsAreThere wiring = AllResolve p0_numbers wiring.cells.slots cells_held wiring.nets.slots
+
+abbrev pub NetsAreThere : Wiring → Type 0
+NetsAreThere wiring = AllResolve q2_numbers wiring.nets.slots nets_held wiring.cells.slots
+
+-- why the cells stay where they are: a net leads to one that isn't there, or memory was refused, and there is one; why the
+-- nets do; and why both do
+abbrev pub CellsStay : Wiring → CompactError P0 → Type 0
+CellsStay wiring = RefusesStray p0_numbers wiring.cells.slots cells_held wiring.nets.slots
+
+abbrev pub NetsStay : Wiring → CompactError Q2 → Type 0
+NetsStay wiring = RefusesStray q2_numbers wiring.nets.slots nets_held wiring.cells.slots
+
+abbrev pub BothStay : Wiring → CompactBothError P0 Q2 → Type 0
+BothStay wiring (First refusal) = CellsStay wiring refusal
+BothStay wiring (Second refusal) = CellsAreThere wiring × NetsStay wiring refusal

@@ -1,8 +1,8 @@
 //! A circuit: cells in one arena and nets in another, which point at each other.
 //!
-//! Its clauses say what is read under each pointer before a call, and after it. A call that ties or
-//! unties a cell and a net does so on both sides, or on neither (`ends.rt`), and compaction keeps
-//! each tie, or changes nothing (`compaction.rt`).
+//! Its clauses say what is read under each pointer before a call, and after it. A call that has a
+//! cell read a net, or read it no more, does so on both sides, or on neither; who drives a net, the net
+//! alone knows (`ends.rt`). Compaction keeps each tie, or changes nothing (`compaction.rt`).
 
 ghost use Rattle.std.specs.Prelude.{◌≡◌, ◌≢◌, [], None, Some, IfOk, OnErr, option_copied};
 ghost use Rattle.std.proofs.Common.{refl, ap};
@@ -176,7 +176,7 @@ impl Circuit {
 
     /// A new cell, which reads no net.
     ///
-    /// Refused as an insertion into an arena is; then nothing changes.
+    /// Where room or memory for it is refused, nothing changes.
     pub fn add_cell(&mut self, kind: u32, alloc: Global) -> Result<P0, ReallocationError>
         ensures found { IfOk result (λ c. cell_at self.new (p0_numbers c)
             ≡ Some record { kind = kind; reads = [] }) }
@@ -194,7 +194,7 @@ impl Circuit {
 
     /// A new net, which no cell drives, and none reads.
     ///
-    /// Refused as an insertion into an arena is; then nothing changes.
+    /// Where room or memory for it is refused, nothing changes.
     pub fn add_net(&mut self, label: u64, alloc: Global) -> Result<Q2, ReallocationError>
         ensures found { IfOk result (λ n. net_at self.new (q2_numbers n)
             ≡ Some record { label = label; driver = None; sinks = [] }) }

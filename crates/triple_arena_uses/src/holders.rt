@@ -1,14 +1,21 @@
 //! Holders that are no arenas, beside an arena of links: they follow its compaction, or nothing
 //! changes.
 
-ghost use Rattle.std.specs.Prelude.{◌≡◌, IfOk, OnOk, OnErr};
+ghost use Rattle.std.specs.Prelude.{◌≡◌, ◌++◌, None, IsSome, IfOk, OnOk, OnErr};
+ghost use Rattle.std.specs.Result.{IfErr};
 ghost use Rattle.std.proofs.Common.{ap};
+ghost use Rattle.triple_arena_base.specs.Held.{held_all};
 ghost use Rattle.triple_arena_base.specs.HeldVecs.{held_vec, refill_vec, vec_held_refill, vec_refill_held, vec_refill_refill};
 ghost use Rattle.triple_arena_base.specs.HeldPairs.{held_both, refill_both, both_held_refill, both_refill_held, both_refill_refill};
 ghost use Rattle.triple_arena_base.specs.Invalidation.{allowed_option};
-ghost use Rattle.triple_arena_direct.specs.Renaming.{MapsPointers, IsRenamed};
+ghost use Rattle.triple_arena_ptr.specs.Pointers.{Pointer};
+ghost use Rattle.triple_arena_traits.specs.ArenaState.{arena_len};
+ghost use Rattle.triple_arena_traits.specs.Ending.{told};
+ghost use Rattle.triple_arena_traits.specs.Entries.{look_up};
+ghost use Rattle.triple_arena_traits.specs.Walks.{values};
+ghost use Rattle.triple_arena_direct.specs.Renaming.{MapsPointers, first_unresolved, Refuses, IsRenamed, IsFoundRenamed};
 ghost use Rattle.triple_arena_uses.specs.Entities.{p0_numbers};
-ghost use Rattle.triple_arena_uses.specs.Circuit.{moved};
+ghost use Rattle.triple_arena_uses.specs.Circuit.{moved, moving_wraps};
 ghost use Rattle.triple_arena_uses.specs.Holders.{named_held, named_refill, named_held_refill, named_refill_held, named_refill_refill};
 
 use crate::links::Link;
@@ -17,7 +24,7 @@ use std::alloc::Global;
 use triple_arena::Arena;
 use triple_arena_base::{CompactError, InvalidationOption, Recast, Recaster, recast_both};
 use triple_arena_direct::renaming_laws::holders_follow;
-use triple_arena_direct::{DirectArena, compress_recast_with, compress_recaster, unresolved};
+use triple_arena_direct::{DirectArena, compress_recast, compress_recast_with, unresolved};
 use triple_arena_ptr::P0;
 
 /// A name, and the link that it names.
@@ -114,27 +121,40 @@ impl<I, A: Recast<I>, B: Recast<I>> Recast<I> for Border<A, B> {
 /// Moves the links to the indexes from 1 on, and renames each pointer that they or the border hold.
 /// The map tells the new pointer of each link.
 ///
-/// Refused with the first pointer that finds no link, of the links and then of the border, or where
-/// there is a link and memory is refused; then nothing changes.
+/// Where there is a link and memory is refused, and else exactly where a pointer finds no link, with
+/// the first one, of the links and then of the border, nothing changes (`Refuses`).
 pub fn compact_with_border(
     links: &mut Arena<P0, Link>,
     border: &mut LinkBorder,
     alloc: Global,
 ) -> Result<InvalidationOption<DirectArena<P0, P0>>, CompactError<P0>>
+    ensures answer { IfOk result (λ answer. answer
+        ≡ told (moving_wraps links.old) (allowed_option answer)) }
     ensures maps { IfOk result (λ answer. MapsPointers p0_numbers (moved links.old)
         links.old.slots (allowed_option answer).slots) }
+    ensures links { OnOk result ((p : Pointer) → IsSome (look_up links.old.slots p)
+        → IsFoundRenamed p0_numbers (moved links.old)
+        ⟦<Link as Recast<P0>>⟧.held ⟦<Link as Recast<P0>>⟧.refill
+        (look_up links.old.slots p) (look_up links.new.slots (moved links.old p))) }
     ensures border { OnOk result (IsRenamed p0_numbers (moved links.old)
         ⟦<Border<Vec<Port<P0>>, Names> as Recast<P0>>⟧.held
         ⟦<Border<Vec<Port<P0>>, Names> as Recast<P0>>⟧.refill border.old border.new) }
+    ensures resolved { OnOk result (first_unresolved p0_numbers links.old.slots
+        (held_all ⟦<Link as Recast<P0>>⟧.held (values links.old.slots)
+        ++ ⟦<Border<Vec<Port<P0>>, Names> as Recast<P0>>⟧.held border.old) ≡ None) }
+    ensures refusal { IfErr result (Refuses (arena_len links.old)
+        (first_unresolved p0_numbers links.old.slots
+        (held_all ⟦<Link as Recast<P0>>⟧.held (values links.old.slots)
+        ++ ⟦<Border<Vec<Port<P0>>, Names> as Recast<P0>>⟧.held border.old))) }
     ensures links_refused { OnErr result (links.new ≡ links.old) }
     ensures border_refused { OnErr result (border.new ≡ border.old) }
 {
     compress_recast_with(links, border, alloc, false)
 }
 
-/// As [`compact_with_border`], of two holders that are in no struct together, over links that lead
-/// nowhere themselves: each is asked first, and then follows by the map.
-pub fn compact_with_two<T, H: Recast<P0>, K: Recast<P0>>(
+/// As [`compact_with_border`], of two holders that are in no struct together: each is asked first, and
+/// then follows by the map.
+pub fn compact_with_two<T: Recast<P0>, H: Recast<P0>, K: Recast<P0>>(
     arena: &mut Arena<P0, T>,
     first: &mut H,
     second: &mut K,
@@ -142,10 +162,17 @@ pub fn compact_with_two<T, H: Recast<P0>, K: Recast<P0>>(
 ) -> Result<DirectArena<P0, P0>, CompactError<P0>>
     ensures maps { IfOk result (λ map. MapsPointers p0_numbers (moved arena.old)
         arena.old.slots map.slots) }
+    ensures found { OnOk result ((p : Pointer) → IsSome (look_up arena.old.slots p)
+        → IsFoundRenamed p0_numbers (moved arena.old) T.held T.refill
+        (look_up arena.old.slots p) (look_up arena.new.slots (moved arena.old p))) }
     ensures first { OnOk result (IsRenamed p0_numbers (moved arena.old)
         H.held H.refill first.old first.new) }
     ensures second { OnOk result (IsRenamed p0_numbers (moved arena.old)
         K.held K.refill second.old second.new) }
+    ensures first_resolved { OnOk result
+        (first_unresolved p0_numbers arena.old.slots (H.held first.old) ≡ None) }
+    ensures second_resolved { OnOk result
+        (first_unresolved p0_numbers arena.old.slots (K.held second.old) ≡ None) }
     ensures refused { OnErr result (arena.new ≡ arena.old) }
     ensures first_refused { OnErr result (first.new ≡ first.old) }
     ensures second_refused { OnErr result (second.new ≡ second.old) }
@@ -156,7 +183,7 @@ pub fn compact_with_two<T, H: Recast<P0>, K: Recast<P0>>(
     if let Some(p) = unresolved(arena, second) {
         return Err(CompactError::Unresolved(p));
     }
-    let map = compress_recaster(arena, alloc, false)?.allow();
+    let map = compress_recast(arena, alloc, false)?.allow();
     // By their clauses, neither recast is refused, and both rename.
     holders_follow::<P0, T, H>();
     holders_follow::<P0, T, K>();

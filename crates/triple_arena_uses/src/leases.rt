@@ -80,7 +80,7 @@ impl Leases {
     }
 
     /// Ends the lease of a ticket, and gives it. No lease is found under the ticket any more. However
-    /// many leases there are, at most 6 slots are touched, and one more is looked at.
+    /// many leases there are, at most 6 slots are touched, and at the counter's end one more is looked at.
     ///
     /// `InvalidPtr` exactly where there is none; else `Exhausted` exactly where its ticket could be given
     /// again (`are_used_up`). Then nothing changes but how many slots were touched.

@@ -7,9 +7,11 @@ use Rattle.std.specs.List.{AllZip}
 use Rattle.std.specs.Option.{option_map}
 use Rattle.triple_arena_base.specs.Held.{HoldsRefill, recast_from, recast_items, answer_from, recast_answer, held_all, refill_all}
 use Rattle.triple_arena_base.specs.Readings.{FollowsNames}
+use Rattle.triple_arena_base.specs.declared.errors.CompactError.{CompactError}
+use Rattle.triple_arena_base.specs.declared.errors.CompactError.TheVariants.{Unresolved, Reallocation}
 use Rattle.triple_arena_base.specs.laws.ReadingLaws.{names_split}
 use Rattle.triple_arena_ptr.specs.Pointers.{Pointer}
-use Rattle.triple_arena_traits.specs.Entries.{look_up}
+use Rattle.triple_arena_traits.specs.Entries.{look_up, entry_count}
 use Rattle.triple_arena_traits.specs.ArenaState.{ArenaState}
 use Rattle.triple_arena_traits.specs.Walks.{entries_from, keys_of, values_of, keys, values}
 use Rattle.triple_arena_traits.specs.HeldSlots.{held_slots, refill_slots}
@@ -17,7 +19,7 @@ use Rattle.triple_arena_traits.specs.laws.WalkLaws.{live_key, key_live}
 use Rattle.triple_arena_traits.specs.laws.MoveLaws.{nth_found, found_nth}
 use Rattle.triple_arena_traits.specs.laws.ReadLaws.{value_found}
 use Rattle.triple_arena_direct_arena.specs.DirectState.{DirectState}
-use Rattle.triple_arena_direct.specs.Renaming.{MapsPointers, first_unresolved, AllResolve, IsStray, IsRenamed, AreRenamed, IsFoundRenamed}
+use Rattle.triple_arena_direct.specs.Renaming.{MapsPointers, first_unresolved, Refuses, AllResolve, IsStray, RefusesStray, IsRenamed, AreRenamed, IsFoundRenamed}
 
 -- the first of pointers in two parts that finds nothing
 module _ {P T : Type 0} (numbers : P → Pointer) (slots : List (Option (ℕ × T))) where
@@ -139,6 +141,10 @@ module _ {P U : Type 0} (held : U → List P) where
         let at = value_found holders one.0 one.1 one.2 in
         record { dead = among.1; holder = at.0; value = one.1; found = at.1; holds = one.3 }
 
+    pub refuses_stray : (refusal : CompactError P) → Refuses (entry_count slots) (first_unresolved numbers slots (held_all held (values holders))) refusal → RefusesStray numbers slots held holders refusal
+    refuses_stray (Unresolved p) some = held_stray p some
+    refuses_stray (Reallocation refusal) memory = memory
+
 -- there are as many new pointers as there were
 pub many_renamed : {P : Type 0} (numbers : P → Pointer) (rename : Pointer → Pointer) (old new : List P) → map numbers new ≡ map rename (map numbers old) → length new ≡ length old
 many_renamed numbers rename old new same =
@@ -165,7 +171,7 @@ module _ {P T : Type 0} (numbers : P → Pointer) (rename : Pointer → Pointer)
       (refilled_renamed v (refill v (take (length (held v)) l)) (take (length (held v)) l) both.0 refl, all_renamed vs (drop (length (held v)) l) both.1)
 
   -- slots hold what the values of their entries hold
-  held_values : (at : ℕ) (xs : List (Option (ℕ × T))) → held_slots held refill xs ≡ held_all held (values_of (entries_from at xs))
+  pub held_values : (at : ℕ) (xs : List (Option (ℕ × T))) → held_slots held refill xs ≡ held_all held (values_of (entries_from at xs))
   held_values at [] = refl
   held_values at (None ∷ xs) = held_values (at + 1) xs
   held_values at (Some e ∷ xs) = ap (λ l. held e.1 ++ l) (held_values (at + 1) xs)

@@ -1,28 +1,29 @@
 //! The ends of nets at cells: tied and untied on both sides, and looked for before a cell or a net
 //! goes.
 
-ghost use Rattle.std.specs.Prelude.{◌≡◌, ◌≢◌, ◌+◌, ◌≤◌, true, false, None, Some, IsSome, IsOk, IfOk, OnOk, OnErr, OnSome, IfNone};
+ghost use Rattle.std.specs.Prelude.{◌≡◌, ◌≢◌, ◌+◌, ◌≤◌, true, false, None, Some, IsSome, IfOk, OnOk, OnErr, OnSome, IfNone};
 ghost use Rattle.std.specs.Option.{option_map};
 ghost use Rattle.std.specs.Result.{IfErr};
 ghost use Rattle.std.specs.Vec.{vec_len, vec_capacity};
 ghost use Rattle.triple_arena_ptr.specs.Pointers.{Pointer};
 ghost use Rattle.triple_arena_traits.specs.Entries.{look_up};
 ghost use Rattle.triple_arena_uses.specs.Entities.{p0_numbers};
-ghost use Rattle.triple_arena_uses.specs.Circuit.{q2_numbers, CellRead, NetRead, cell_read, net_read, cell_at, net_at, leads_to, reads_net, IsLedTo, IsReadByCell, with_driver, with_sink, with_read, without_sink, without_cell, without_net, RefusesEnds, KeepsCell, KeepsNet, IsReadAsBefore};
+ghost use Rattle.triple_arena_uses.specs.Circuit.{q2_numbers, CellRead, NetRead, cell_read, net_read, cell_at, net_at, leads_to, reads_net, IsLedTo, IsReadByCell, with_driver, with_sink, with_read, without_sink, without_cell, without_net, AreThere, RefusesEnds, RefusesMore, KeepsCell, KeepsNet, IsReadAsBefore};
 
 use super::{Cell, Circuit, CircuitError, Net};
 use triple_arena::{Arena, ArenaTrait, CompactArenaTrait};
 use triple_arena_ptr::{P0, Q2};
 
 impl Circuit {
-    /// Has a cell drive a net, in place of the one that drove it.
+    /// Has a cell drive a net, in place of the one that drove it. The cell stays as it is: who drives a
+    /// net, the net alone knows.
     ///
     /// `NoNet`, then `NoCell`, where there is none.
     pub fn drive(&mut self, net: Q2, cell: P0) -> Result<(), CircuitError>
         ensures net { OnOk result (net_at self.new (q2_numbers net)
             ≡ option_map (with_driver (p0_numbers cell)) (net_at self.old (q2_numbers net))) }
-        ensures succeeds { IsSome (net_at self.old (q2_numbers net))
-            → IsSome (cell_at self.old (p0_numbers cell)) → IsOk result }
+        ensures there { OnOk result
+            (AreThere self.old (q2_numbers net) (p0_numbers cell)) }
         ensures other_nets { (n : Pointer) → n ≢ q2_numbers net
             → net_at self.new n ≡ net_at self.old n }
         ensures cells { self.new.cells ≡ self.old.cells }
@@ -50,15 +51,15 @@ impl Circuit {
             ≡ option_map (with_sink (p0_numbers cell)) (net_at self.old (q2_numbers net))) }
         ensures cell { OnOk result (cell_at self.new (p0_numbers cell)
             ≡ option_map (with_read (q2_numbers net)) (cell_at self.old (p0_numbers cell))) }
-        ensures there { OnOk result (IsSome (net_at self.old (q2_numbers net))
-            × IsSome (cell_at self.old (p0_numbers cell))) }
+        ensures there { OnOk result
+            (AreThere self.old (q2_numbers net) (p0_numbers cell)) }
         ensures other_nets { (n : Pointer) → n ≢ q2_numbers net
             → net_at self.new n ≡ net_at self.old n }
         ensures other_cells { (c : Pointer) → c ≢ p0_numbers cell
             → cell_at self.new c ≡ cell_at self.old c }
         ensures refused { OnErr result (IsReadAsBefore self.old self.new) }
         ensures refusal { IfErr result
-            (RefusesEnds self.old (q2_numbers net) (p0_numbers cell)) }
+            (RefusesMore self.old (q2_numbers net) (p0_numbers cell)) }
     {
         let Some(joined) = self.nets.get_mut(net) else {
             return Err(CircuitError::NoNet);
@@ -82,8 +83,8 @@ impl Circuit {
             ≡ option_map (without_sink (p0_numbers cell)) (net_at self.old (q2_numbers net))) }
         ensures cell { OnOk result (cell_at self.new (p0_numbers cell)
             ≡ option_map (without_net (q2_numbers net)) (cell_at self.old (p0_numbers cell))) }
-        ensures succeeds { IsSome (net_at self.old (q2_numbers net))
-            → IsSome (cell_at self.old (p0_numbers cell)) → IsOk result }
+        ensures there { OnOk result
+            (AreThere self.old (q2_numbers net) (p0_numbers cell)) }
         ensures other_nets { (n : Pointer) → n ≢ q2_numbers net
             → net_at self.new n ≡ net_at self.old n }
         ensures other_cells { (c : Pointer) → c ≢ p0_numbers cell

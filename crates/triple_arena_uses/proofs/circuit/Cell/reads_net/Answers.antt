@@ -1,4 +1,4 @@
-use Rattle.std.proofs.Common.{rules, ◌≡◌, refl, ◌∙◌}
+use Rattle.std.proofs.Common.{rules, ◌≡◌, ◌∙◌}
 use Rattle.std.specs.List.{list_any}
 use Rattle.triple_arena_ptr.specs.Pointers.{is_same}
 use Rattle.triple_arena_uses.specs.Circuit.{q2_numbers}
@@ -8,4 +8,4 @@ use Rattle.triple_arena_uses.proofs.circuit.Cell.reads_net.Goals as goal
 pub returns : goal.returns
 returns c =
     let told : c.contains.result ≡ list_any (λ p. is_same (q2_numbers p) (q2_numbers c.args.net)) c.args.self.now.reads.items = search rules in
-    told ∙ any_numbers q2_numbers (λ p. is_same (q2_numbers p) (q2_numbers c.args.net)) (λ p. is_same p (q2_numbers c.args.net)) (λ p. refl) c.args.self.now.reads.items
+    told ∙ any_numbers q2_numbers (λ p. is_same p (q2_numbers c.args.net)) c.args.self.now.reads.items

@@ -1,7 +1,7 @@
 use Rattle.std.proofs.Common.{rules}
+use Rattle.triple_arena_traits.specs.laws.ReadLaws.{any_found, none_found}
 use Rattle.triple_arena_uses.specs.Entities.{p0_numbers}
 use Rattle.triple_arena_uses.specs.Circuit.{net_read, leads_to}
-use Rattle.triple_arena_uses.proofs.Reading.{any_found, none_found}
 use Rattle.triple_arena_uses.proofs.circuit.ends.is_led_to.Goals as goal
 
 pub returns-then-leads_to-clause-led : goal.returns-then-leads_to-clause-led

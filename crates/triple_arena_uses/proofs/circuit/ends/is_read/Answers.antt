@@ -1,6 +1,6 @@
 use Rattle.std.proofs.Common.{rules}
+use Rattle.triple_arena_traits.specs.laws.ReadLaws.{any_found, none_found}
 use Rattle.triple_arena_uses.specs.Circuit.{q2_numbers, cell_read, reads_net}
-use Rattle.triple_arena_uses.proofs.Reading.{any_found, none_found}
 use Rattle.triple_arena_uses.proofs.circuit.ends.is_read.Goals as goal
 
 pub returns-then-reads_net-clause-read : goal.returns-then-reads_net-clause-read

@@ -475,6 +475,20 @@ impl<P: Ptr, T, S: NonZeroInxGenericStack<ArenaSlot<P, T>>> DisjointableArenaTra
 }
 
 impl<P: Ptr, T, S: NonZeroInxGenericStack<ArenaSlot<P, T>>> Arena<P, T, S> {
+    /// An arena without slots, over a stack that the caller has made, and that has no item: with its
+    /// room and its limit. It takes no memory.
+    pub fn over(stack: S) -> Self
+        requires { S.items stack ≡ [] }
+        ensures { result ≡ new_arena (S.room stack) (S.limit stack) (greatest_index P.Inx.greatest)
+            (first_generation P.Gen.generations) }
+    {
+        Arena {
+            slots: Slots::over(stack),
+            len: 0,
+            counter: P::Gen::two(),
+        }
+    }
+
     /// The counter: the generation of the next entry.
     pub fn generation(&self) -> P::Gen
         ensures { P.Gen.number result ≡ self.now.counter }
@@ -546,19 +560,6 @@ impl<P: Ptr, T, S: NonZeroInxGenericStack<ArenaSlot<P, T>>> Arena<P, T, S> {
         ensures links { IsLinked (S.items result.now) (slice_get self.now.free 0) self.now.free }
     {
         self.slots.stack()
-    }
-
-    // An arena over a stack that has no item.
-    fn over(stack: S) -> Self
-        requires { S.items stack ≡ [] }
-        ensures { result ≡ new_arena (S.room stack) (S.limit stack) (greatest_index P.Inx.greatest)
-            (first_generation P.Gen.generations) }
-    {
-        Arena {
-            slots: Slots::over(stack),
-            len: 0,
-            counter: P::Gen::two(),
-        }
     }
 
     // The slot of an index, if there is one.

@@ -85,6 +85,18 @@ impl<P: Ptr, T, S: NonZeroInxGenericStack<ArenaSlot<P, T>>> StrictArena<P, T, S>
         }
     }
 
+    /// An arena without slots, over a stack that the caller has made, and that has no item: with its
+    /// room and its limit. It takes no memory.
+    pub fn over(stack: S) -> Self
+        requires { S.items stack ≡ [] }
+        ensures { result ≡ new_arena (S.room stack) (S.limit stack) (greatest_index P.Inx.greatest)
+            (first_generation P.Gen.generations) }
+    {
+        StrictArena {
+            arena: Arena::over(stack),
+        }
+    }
+
     /// An arena without slots, over a stack with room for `min_capacity`.
     ///
     /// Refused where `min_capacity` is past the greatest index, and where the stack refuses it: an

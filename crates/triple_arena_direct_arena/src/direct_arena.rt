@@ -399,6 +399,19 @@ impl<P: Ptr, T, S: NonZeroInxGenericStack<DirectSlot<P, T>>> DisjointableArenaTr
 }
 
 impl<P: Ptr, T, S: NonZeroInxGenericStack<DirectSlot<P, T>>> DirectArena<P, T, S> {
+    /// An arena without slots, over a stack that the caller has made, and that has no item: with its
+    /// room and its limit. It takes no memory.
+    pub fn over(stack: S) -> Self
+        requires { S.items stack ≡ [] }
+        ensures { result ≡ new_direct (S.room stack) (S.limit stack)
+            (greatest_index P.Inx.greatest) }
+    {
+        DirectArena {
+            slots: Slots::over(stack),
+            len: 0,
+        }
+    }
+
     /// The stack of the slots.
     pub fn backing(&self) -> &S
         ensures slots { map (direct_slot_entry P.Gen.number) (S.items result.now) ≡ self.now.slots }
@@ -417,18 +430,6 @@ impl<P: Ptr, T, S: NonZeroInxGenericStack<DirectSlot<P, T>>> DirectArena<P, T, S
         let before = self.slots.stack.len();
         self.shorten(before.saturating_sub(num));
         before.saturating_sub(self.slots.stack.len())
-    }
-
-    // An arena over a stack that has no item.
-    fn over(stack: S) -> Self
-        requires { S.items stack ≡ [] }
-        ensures { result ≡ new_direct (S.room stack) (S.limit stack)
-            (greatest_index P.Inx.greatest) }
-    {
-        DirectArena {
-            slots: Slots::over(stack),
-            len: 0,
-        }
     }
 
     // The slot of an index, if there is one.

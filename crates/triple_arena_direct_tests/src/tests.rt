@@ -2,4 +2,5 @@
 
 mod compaction;
 mod direct;
+mod over_a_stack;
 mod strict_arenas;

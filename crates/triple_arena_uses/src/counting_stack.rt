@@ -1,10 +1,14 @@
 //! An own stack: one that counts its pushes, round any other.
 
+ghost use Rattle.std.specs.Prelude.{◌≡◌, []};
+
 use std::alloc::Global;
 use std::marker::{Model, PhantomData};
 use std::num::NonZeroUsize;
+use triple_arena::{Arena, ArenaSlot};
 use triple_arena_base::{AllocError, ReallocationError};
-use triple_arena_stack::NonZeroInxGenericStack;
+use triple_arena_ptr::Ptr;
+use triple_arena_stack::{NonZeroInxGenericStack, NonZeroInxVec};
 
 /// A stack that counts its pushes, and is as the one inside it for the rest.
 #[derive(Drop)]
@@ -12,6 +16,16 @@ pub struct CountingStack<T, S: NonZeroInxGenericStack<T>> {
     inner: S,
     pushes: u64,
     items: PhantomData<T>,
+}
+
+/// An arena without slots, over such a stack, which goes on from so many pushes.
+pub fn counting_on<P: Ptr, T>(
+    alloc: Global,
+    pushes: u64,
+) -> Arena<P, T, CountingStack<ArenaSlot<P, T>, NonZeroInxVec<ArenaSlot<P, T>>>>
+    ensures { result.slots ≡ [] }
+{
+    Arena::over(CountingStack::over(NonZeroInxVec::new(alloc), pushes))
 }
 
 // The count is no part of the value: a push leaves all but the items as they were.
@@ -24,6 +38,17 @@ impl<T, S: NonZeroInxGenericStack<T>> Model for CountingStack<T, S> {
 }
 
 impl<T, S: NonZeroInxGenericStack<T>> CountingStack<T, S> {
+    /// A stack round one that the caller has made, which goes on from so many pushes.
+    pub fn over(inner: S, pushes: u64) -> Self
+        ensures { result ≡ inner }
+    {
+        CountingStack {
+            inner,
+            pushes,
+            items: PhantomData,
+        }
+    }
+
     /// How many pushes there were, up to the greatest number.
     pub fn pushes(&self) -> u64 {
         self.pushes

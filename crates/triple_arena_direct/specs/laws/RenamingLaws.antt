@@ -1,6 +1,7 @@
 -- What follows from a renaming: of values, of what is looked up, of holders that a map renames, and of arenas that hold.
 use Rattle.std.proofs.Common.{◌≡◌, ℕ, zero, suc, ◌+◌, Bool, true, false, not, cond, List, [], ◌∷◌, ◌++◌, map, length, take, drop, slice_get, Option, Some, None, is_some, IsSome, Ok, refl, sym, ap, subst, ◌∙◌, true≢false, map-id, inl, inr, arith}
-use Rattle.std.proofs.lemmas.List.{length-map, Contains-append_left, Contains-append_right, Contains-append_cases}
+use Rattle.std.proofs.lemmas.List.{length-map}
+use Rattle.std.proofs.lemmas.List.Elements.{Contains-append_left, Contains-append_right, Contains-append_cases}
 use Rattle.std.proofs.lemmas.Option.{slice_get-map, same_Some}
 use Rattle.std.specs.Prelude.{Contains}
 use Rattle.std.specs.List.{AllZip}

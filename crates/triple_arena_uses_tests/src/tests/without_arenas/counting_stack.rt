@@ -5,7 +5,7 @@ use triple_arena::arena_iterators::CapacityDrain;
 use triple_arena::{Arena, ArenaInsertTrait, ArenaSlot, ArenaTrait};
 use triple_arena_ptr::P0;
 use triple_arena_stack::{NonZeroInxGenericStack, NonZeroInxVec};
-use triple_arena_uses::counting_stack::CountingStack;
+use triple_arena_uses::counting_stack::{CountingStack, counting_on};
 
 type Slot = ArenaSlot<P0, u64>;
 
@@ -36,6 +36,18 @@ fn sum_taken<S: NonZeroInxGenericStack<Slot> + Drop>(alloc: Global) -> Option<u6
 #[test]
 fn a_loop_takes_each_value_out_of_an_arena_over_an_own_stack(rt: HostRuntime) {
     assert_eq!(rt; sum_taken::<NonZeroInxVec<Slot>>(rt.alloc()), Some(321));
+}
+
+// How many pushes were counted where an arena is begun after so many, and has one entry.
+fn counted_on(alloc: Global, pushes: u64) -> Option<u64> {
+    let mut arena = counting_on::<P0, u64>(alloc, pushes);
+    arena.insert(7).ok()?;
+    Some(arena.backing().pushes())
+}
+
+#[test]
+fn an_arena_over_a_stack_that_was_made_before_counts_on(rt: HostRuntime) {
+    assert_eq!(rt; counted_on(rt.alloc(), 40), Some(41));
 }
 
 #[test]

@@ -153,7 +153,7 @@ pub fn compact_with_border(
 }
 
 /// As [`compact_with_border`], of two holders that are in no struct together: each is asked first, and
-/// then follows by the map.
+/// then follows by the map. So their pointers that find no entry come before those of the arena.
 pub fn compact_with_two<T: Recast<P0>, H: Recast<P0>, K: Recast<P0>>(
     arena: &mut Arena<P0, T>,
     first: &mut H,
@@ -173,6 +173,9 @@ pub fn compact_with_two<T: Recast<P0>, H: Recast<P0>, K: Recast<P0>>(
         (first_unresolved p0_numbers arena.old.slots (H.held first.old) ≡ None) }
     ensures second_resolved { OnOk result
         (first_unresolved p0_numbers arena.old.slots (K.held second.old) ≡ None) }
+    ensures refusal { IfErr result (Refuses (arena_len arena.old)
+        (first_unresolved p0_numbers arena.old.slots (H.held first.old
+        ++ (K.held second.old ++ held_all T.held (values arena.old.slots))))) }
     ensures refused { OnErr result (arena.new ≡ arena.old) }
     ensures first_refused { OnErr result (first.new ≡ first.old) }
     ensures second_refused { OnErr result (second.new ≡ second.old) }

@@ -1,6 +1,9 @@
 use Rattle.std.proofs.Common.{refl}
 use Rattle.std.proofs.lemmas.Result.{on_ok_weaker, MatchResult-weaker}
 use Rattle.triple_arena_base.specs.HeldLists.{nothing_in_all}
+use Rattle.triple_arena_ptr.specs.declared.P0.{P0}
+use Rattle.triple_arena_ptr.specs.declared.Q2.{Q2}
+use Rattle.triple_arena_traits.specs.Walks.{values}
 use Rattle.triple_arena_direct.specs.laws.RenamingBothLaws.{found_read_both}
 use Rattle.triple_arena_uses.specs.Circuit.{cell_read, net_read, cells_renamed, nets_renamed}
 use Rattle.triple_arena_uses.proofs.Circuits.{net_follows, cell_follows, both_stay}
@@ -28,5 +31,7 @@ returns-clause-nets_there c =
 
 pub returns-clause-refusal : goal.returns-clause-refusal
 returns-clause-refusal c =
-    rw (← c.self.view_is) (MatchResult-weaker c.compress_recast_both.result (rw nothing_in_all at c.compress_recast_both.ensures.refusal) (λ answer t. t)
-    (both_stay _ (c.arenas_resolve.ensures.all _ _) (c.arenas_resolve.ensures.stray _ _) (c.arenas_resolve-2.ensures.stray _ _)))
+    let no_cell = nothing_in_all {I = P0} (values c.self.inside.cells.slots) in
+    let no_net = nothing_in_all {I = Q2} (values c.self.inside.nets.slots) in
+    rw (← c.self.view_is) (MatchResult-weaker c.compress_recast_both.result (rw (no_cell, no_net) at c.compress_recast_both.ensures.refusal) (λ answer t. t)
+    (both_stay (record { cells = c.self.inside.cells; nets = c.self.inside.nets }) (c.arenas_resolve.ensures.all _ _) (c.arenas_resolve.ensures.stray _ _) (c.arenas_resolve-2.ensures.stray _ _)))

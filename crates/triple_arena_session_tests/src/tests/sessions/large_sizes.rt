@@ -1,30 +1,65 @@
 //! Sizes at which a session that gives up late would show.
 
 use super::program::{WELL, args_of};
-use super::steps::{Asked, Kind, Trial, replies, try_new};
+use super::steps::{Asked, Kind, Trial, replies, try_new, try_strict};
+use super::texts::answers_text;
 use std::alloc::Global;
 use std::fmt;
 use std::fmt::Write as _;
 use std::process::Abort;
+use triple_arena_ptr::P0;
 use triple_arena_session::{Command, Reply, run_program};
 
 // So many commands that take no memory are answered by as many replies.
-struct RunsMany;
+#[derive(Drop)]
+struct RunsMany {
+    commands: usize,
+}
 
 impl Trial for RunsMany {
-    fn pass(&self, rt: &impl Abort, _alloc: Global, session: &mut impl Asked) {
-        let commands = [Command::Len; 5000];
-        let Some(told) = session.answers(&commands) else {
+    fn pass(&self, rt: &impl Abort, alloc: Global, session: &mut impl Asked) {
+        let mut commands = Vec::new(alloc);
+        for _ in 0..self.commands {
+            assert!(rt; commands.push(Command::Len).is_ok());
+        }
+        let Some(told) = session.answers(commands.as_slice()) else {
             panic!(rt; "there is memory");
         };
-        assert!(rt; told.len() == 5000);
+        assert!(rt; told.len() == self.commands);
         assert!(rt; told.iter().all(|reply| *reply == Reply::Count(0)));
     }
 }
 
 #[test]
-fn a_run_of_thousands_of_commands_is_answered(rt: HostRuntime) {
-    try_new(&rt, rt.alloc(), Kind::General, None, &RunsMany);
+fn a_run_of_tens_of_thousands_of_commands_is_answered(rt: HostRuntime) {
+    let trial = RunsMany { commands: 70_000 };
+    try_new(&rt, rt.alloc(), Kind::General, None, &trial);
+}
+
+#[test]
+fn a_strict_run_of_tens_of_thousands_of_commands_is_answered(rt: HostRuntime) {
+    let trial = RunsMany { commands: 70_000 };
+    try_strict::<P0>(&rt, rt.alloc(), &trial);
+}
+
+// A text of 70,000 insertions is answered by as many names, and the next one counts their entries.
+struct RunsLines;
+
+impl Trial for RunsLines {
+    fn pass(&self, rt: &impl Abort, alloc: Global, session: &mut impl Asked) {
+        let (mut text, mut given) = (String::new(alloc), String::new(alloc));
+        for name in 1..=70_000 {
+            assert!(rt; text.push_str("insert 7 -\n").is_ok());
+            assert!(rt; writeln!(given, "given {name}").is_ok());
+        }
+        answers_text(rt, alloc, session, text.as_bytes(), given.as_bytes());
+        answers_text(rt, alloc, session, b"len\n", b"count 70000\n");
+    }
+}
+
+#[test]
+fn a_strict_text_of_tens_of_thousands_of_lines_is_answered(rt: HostRuntime) {
+    try_strict::<P0>(&rt, rt.alloc(), &RunsLines);
 }
 
 // So many insertions give as many names, each of which finds its entry.

@@ -7,7 +7,7 @@ use std::fmt::Debug;
 use std::process::Abort;
 use triple_arena::{Arena, ArenaInsertTrait, ArenaTrait};
 use triple_arena_base::Recast;
-use triple_arena_direct::{compress_recast_with, unresolved};
+use triple_arena_direct::{StrictArena, compress_recast_with, unresolved};
 use triple_arena_ptr::{P0, Q2};
 use triple_arena_trait_kit::pointer;
 
@@ -136,4 +136,71 @@ fn a_vectors_second_pointer_refuses_and_nothing_changes(rt: HostRuntime) {
             ]
         )
     );
+}
+
+// How many nodes are compacted beside a vector of the pointers to them.
+const MANY: usize = 5000;
+
+// The node of a number, with a link to the next one, which the last has not: the indexes are by so many
+// above the numbers.
+fn numbered(number: usize, above: usize, generation: u64) -> Node<P0> {
+    let next = number.saturating_add(1).saturating_add(above);
+    let link = if number == MANY {
+        None
+    } else {
+        Some(pointer(next, generation))
+    };
+    (number as u64, link)
+}
+
+// Whether each pointer to the nodes, and each link from one to the next, is that of its number.
+fn are_renamed(nodes: &Arena<P0, Node<P0>>, holder: &[P0]) -> bool {
+    let mut number = 0usize;
+    for p in holder {
+        number = number.saturating_add(1);
+        let node = nodes.get(*p).copied();
+        if *p != pointer(number, 4) || node != Some(numbered(number, 0, 4)) {
+            return false;
+        }
+    }
+    number == MANY && nodes.len() == MANY
+}
+
+// Whether all is renamed of a compaction of that many nodes, behind one that was removed, and of a vector
+// of their pointers.
+fn thousands_renamed(alloc: Global) -> Option<bool> {
+    let mut nodes: Arena<P0, Node<P0>> = Arena::new(alloc);
+    let mut holder: Vec<P0> = Vec::new(alloc);
+    nodes.insert((0, None)).ok()?;
+    for number in 1..=MANY {
+        let p = nodes.insert(numbered(number, 1, 2)).ok()?;
+        holder.push(p).ok()?;
+    }
+    drop(nodes.remove(pointer(1, 2)));
+    drop(compress_recast_with(&mut nodes, &mut holder, alloc, false).ok()?);
+    Some(are_renamed(&nodes, holder.as_slice()))
+}
+
+#[test]
+fn thousands_of_pointers_follow_an_arena(rt: HostRuntime) {
+    assert_eq!(rt; thousands_renamed(rt.alloc()), Some(true));
+}
+
+// So of a strict arena.
+fn thousands_renamed_strictly(alloc: Global) -> Option<bool> {
+    let mut nodes: StrictArena<P0, Node<P0>> = StrictArena::new(alloc);
+    let mut holder: Vec<P0> = Vec::new(alloc);
+    nodes.insert((0, None)).ok()?;
+    for number in 1..=MANY {
+        let p = nodes.insert(numbered(number, 1, 2)).ok()?;
+        holder.push(p).ok()?;
+    }
+    nodes.remove(pointer(1, 2)).ok()?;
+    drop(nodes.compress_recast_with(&mut holder, alloc).ok()?);
+    Some(are_renamed(nodes.arena(), holder.as_slice()))
+}
+
+#[test]
+fn thousands_of_pointers_follow_a_strict_arena(rt: HostRuntime) {
+    assert_eq!(rt; thousands_renamed_strictly(rt.alloc()), Some(true));
 }

@@ -207,6 +207,38 @@ fn room_is_as_that_of_an_arena(rt: HostRuntime) -> Result<(), Wrong> {
     Ok(())
 }
 
+// Puts the numbers from 1 to 10,000 into a new arena, by either insertion, and looks each up then. The
+// room doubled from 4 on.
+fn keeps_thousands(alloc: Global, reallocating: bool) -> Result<(), Wrong> {
+    let mut arena: StrictArena<P0, usize> = StrictArena::new(alloc);
+    for number in 1..=10_000 {
+        let given = if reallocating {
+            arena.insert_reallocating(number).ok()
+        } else {
+            arena.insert(number).ok()
+        };
+        if given != Some(pointer(number, 2)) {
+            return Err(Wrong::Answer(number));
+        }
+    }
+    for number in 1..=10_000 {
+        if arena.get(pointer(number, 2)).copied() != Some(number) {
+            return Err(Wrong::State(number));
+        }
+    }
+    if (arena.len(), arena.capacity()) == (10_000, 16_384) {
+        Ok(())
+    } else {
+        Err(Wrong::State(0))
+    }
+}
+
+#[test]
+fn thousands_of_entries_in_a_strict_arena(rt: HostRuntime) -> Result<(), Wrong> {
+    keeps_thousands(rt.alloc(), false)?;
+    keeps_thousands(rt.alloc(), true)
+}
+
 // The sums of the values that two walks meet, and how many pointers a third meets that are valid.
 fn met(arena: &StrictArena<P0, u64>) -> (u64, u64, u64) {
     let mut met = (0u64, 0u64, 0u64);

@@ -72,11 +72,7 @@ fn changes_nothing_where_a_read_fails(rt: HostRuntime) {
         (b"insert 1 -\nremove 1\n", ErrorKind::Other, 1),
         (b"insert 1 -\nremove 1\n", ErrorKind::Other, usize::MAX),
         (b"what\ninsert 1 -\nlen\n", ErrorKind::UnexpectedEof, 1),
-        (
-            b"insert 1 -\nwhat\nlen\n",
-            ErrorKind::WouldBlock,
-            usize::MAX,
-        ),
+        (b"insert 1 -\nwhat\nlen\n", ErrorKind::WouldBlock, 1),
     ];
     for (text, failure, times) in rows {
         for reads_before in 0..21 {
@@ -227,10 +223,11 @@ const INSERTIONS: &[u8] = b"insert 1 -\ninsert 1 -\ninsert 1 -\n";
 const GIVEN: &[u8] = b"given 1\ngiven 2\ngiven 3\n";
 
 // How a write fails.
-const FAILURES: [WriteFailure; 4] = [
+const FAILURES: [WriteFailure; 5] = [
     WriteFailure::Error(ErrorKind::Other),
     WriteFailure::Error(ErrorKind::BrokenPipe),
     WriteFailure::Once(ErrorKind::Other),
+    WriteFailure::Once(ErrorKind::WouldBlock),
     WriteFailure::TakesNone,
 ];
 

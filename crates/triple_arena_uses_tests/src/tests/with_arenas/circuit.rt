@@ -6,6 +6,7 @@ use triple_arena_ptr::{P0, Ptr, Q2};
 use triple_arena_uses::circuit::{Circuit, CircuitError};
 
 mod large;
+mod refusals;
 
 type Numbers = (usize, u64);
 

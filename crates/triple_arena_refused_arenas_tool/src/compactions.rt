@@ -158,7 +158,7 @@ pub const LINKED: (usize, u64) = (1, 2);
 pub const DANGLING: (usize, u64) = (usize::MAX, 1);
 
 // What a compaction tells of a node with this link.
-pub fn told_with(link: (usize, u64)) -> Told {
+fn told_with(link: (usize, u64)) -> Told {
     if link == LINKED {
         Told::Done
     } else {

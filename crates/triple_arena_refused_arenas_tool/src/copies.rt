@@ -123,12 +123,12 @@ fn cloned(before: State, count: usize, capacity: usize) -> State {
     .tidied()
 }
 
-// A direct arena has neither a counter nor a free list, and may keep free slots at its end.
-fn as_seen(before: State, state: State, seen: State) -> State {
+// This state as one like that before shows it: a direct arena, which tells its counter as 0, has no free
+// list.
+fn as_seen(before: State, state: State) -> State {
     if before.counter == 0 {
         State {
             free: [0; SLOTS],
-            slots: seen.slots,
             ..state
         }
     } else {
@@ -159,8 +159,7 @@ const VALUES: [&str; 3] = ["the first value", "the second value", "the third val
 fn end_at(refusal: Refusal, before: State, seen: State) -> Result<End, Wrong> {
     match (refusal, VALUES.get(seen.len)) {
         (Refusal::Room, _) if seen == tidied(before) => Ok(End::Refused),
-        (Refusal::Value, Some(value))
-            if seen == as_seen(before, cloned(before, seen.len, 5), seen) => {
+        (Refusal::Value, Some(value)) if seen == as_seen(before, cloned(before, seen.len, 5)) => {
             Ok(End::PartRefused(*value))
         }
         _ => Err(Wrong::State(1)),
@@ -181,7 +180,7 @@ fn clones_into<A: ArenaCloneFromWith<P0, Costly> + Goal>(
         }
     }
     let seen = target.seen();
-    if seen == as_seen(before, cloned(before, 3, 5), seen) && state_of(source) == of_source {
+    if seen == as_seen(before, cloned(before, 3, 5)) && state_of(source) == of_source {
         Ok(end)
     } else {
         Err(Wrong::State(3))
@@ -278,7 +277,7 @@ fn clones_with<A: ArenaCloneFromWith<P0, Costly> + Goal>(
         }
     }
     let seen = target.seen();
-    if calls == 3 && seen == as_seen(before, cloned(before, 3, 5), seen) {
+    if calls == 3 && seen == as_seen(before, cloned(before, 3, 5)) {
         Ok(end)
     } else {
         Err(Wrong::State(3))
@@ -328,7 +327,7 @@ fn goes_over_to<A: Goal>(alloc: Global, target: &mut A) -> Result<End, Wrong> {
         Err(ReallocationError::BeyondMaxCapacity) => return Err(Wrong::Answer(1)),
     };
     let seen = target.seen();
-    if source.is_empty() && seen == as_seen(before, gone_over(before), seen) {
+    if source.is_empty() && seen == as_seen(before, gone_over(before)) {
         Ok(end)
     } else {
         Err(Wrong::State(3))

@@ -6,7 +6,7 @@ ghost use Rattle.triple_arena_base.specs.Held.{held_itself, refill_itself, held_
 ghost use Rattle.triple_arena_base.specs.laws.HeldLaws.{itself_held_refill, itself_refill_held, itself_refill_refill, nothing_held_refill};
 
 use crate::asking::NO_MEMORY;
-use crate::compactions::{DANGLING, LINKED, Node, arena, strict, told_compaction, told_with};
+use crate::compactions::{DANGLING, LINKED, Node, arena, strict, told_compaction};
 use std::alloc::Global;
 use triple_arena::{Arena, ArenaInsertTrait, ArenaTrait};
 use triple_arena_base::{CompactError, InvalidationOption, Recast, Recaster};
@@ -16,7 +16,12 @@ use triple_arena_direct::{
 use triple_arena_ptr::{P0, Ptr, Q2};
 use triple_arena_test_kit::state_of;
 use triple_arena_trait_kit::refused::{End, Report};
-use triple_arena_trait_kit::{Shown, State, Told, Wrong, index_number, is_told, pointer};
+use triple_arena_trait_kit::{Shown, State, Told, Wrong, index_number, pointer};
+
+// The number of which a pointer is shown: 100 times its index, and its generation.
+fn shown_pointer(index: usize, generation: u64) -> u64 {
+    (index as u64).wrapping_mul(100).wrapping_add(generation)
+}
 
 // A cell, with the net that it reads.
 #[derive(Drop)]
@@ -60,7 +65,8 @@ impl Recast<P0> for Cell {
 
 impl Shown for Cell {
     fn shown(&self) -> u64 {
-        index_number(self.reads.inx()) as u64
+        let (inx, generation) = (self.reads.inx(), self.reads.generation());
+        shown_pointer(index_number(inx), generation.get())
     }
 
     fn received(taken: InvalidationOption<Cell>) -> Cell {
@@ -110,7 +116,8 @@ impl Recast<Q2> for Net {
 
 impl Shown for Net {
     fn shown(&self) -> u64 {
-        index_number(self.driver.inx()) as u64
+        let (inx, generation) = (self.driver.inx(), self.driver.generation());
+        shown_pointer(index_number(inx), generation.get())
     }
 
     fn received(taken: InvalidationOption<Net>) -> Net {
@@ -121,10 +128,21 @@ impl Shown for Net {
 // What is seen of an arena and of who points into it.
 type Seen = (State, Option<State>, Option<P0>);
 
+// What a compaction of all tells. A pointer to no entry is told by its numbers.
+#[derive(Clone, Copy, PartialEq)]
+enum Answer {
+    Done,
+    // what refuses that of one arena
+    Refused(Told),
+    // what refuses that of two, of the first and of the second
+    First(Told),
+    Second(Told),
+}
+
 // An arena, and who points into it.
 trait Relations {
-    // What the compaction of all tells; of a pointer to no entry its numbers.
-    fn compact(&mut self, alloc: Global) -> Told;
+    // What the compaction of all tells.
+    fn compact(&mut self, alloc: Global) -> Answer;
 
     // All of it.
     fn seen(&self) -> Seen;
@@ -141,10 +159,10 @@ struct Beside {
 }
 
 impl Relations for Beside {
-    fn compact(&mut self, alloc: Global) -> Told {
+    fn compact(&mut self, alloc: Global) -> Answer {
         match compress_recast_with(&mut self.arena, &mut self.holder, alloc, false) {
-            Ok(_map) => Told::Done,
-            Err(refusal) => told_compaction(refusal),
+            Ok(_map) => Answer::Done,
+            Err(refusal) => Answer::Refused(told_compaction(refusal)),
         }
     }
 
@@ -166,11 +184,11 @@ struct StrictlyBeside {
 }
 
 impl Relations for StrictlyBeside {
-    fn compact(&mut self, alloc: Global) -> Told {
+    fn compact(&mut self, alloc: Global) -> Answer {
         match self.arena.compress_recast_with(&mut self.holder, alloc) {
-            Ok(_map) => Told::Done,
-            Err(StrictCompactError::Exhausted) => Told::Nothing,
-            Err(StrictCompactError::Compact(refusal)) => told_compaction(refusal),
+            Ok(_map) => Answer::Done,
+            Err(StrictCompactError::Exhausted) => Answer::Refused(Told::Nothing),
+            Err(StrictCompactError::Compact(refusal)) => Answer::Refused(told_compaction(refusal)),
         }
     }
 
@@ -199,11 +217,11 @@ fn told_nets(refusal: CompactError<Q2>) -> Told {
 }
 
 impl Relations for Circuit {
-    fn compact(&mut self, alloc: Global) -> Told {
+    fn compact(&mut self, alloc: Global) -> Answer {
         match compress_recast_both(&mut self.cells, &mut self.nets, alloc, false) {
-            Ok(_maps) => Told::Done,
-            Err(CompactBothError::First(refusal)) => told_compaction(refusal),
-            Err(CompactBothError::Second(refusal)) => told_nets(refusal),
+            Ok(_maps) => Answer::Done,
+            Err(CompactBothError::First(refusal)) => Answer::First(told_compaction(refusal)),
+            Err(CompactBothError::Second(refusal)) => Answer::Second(told_nets(refusal)),
         }
     }
 
@@ -220,24 +238,33 @@ impl Relations for Circuit {
     }
 }
 
+// How a compaction ended for want of memory, of two arenas for which map.
+fn end_at(answer: Answer) -> Option<End> {
+    match answer {
+        Answer::Refused(told) if told == NO_MEMORY => Some(End::Refused),
+        Answer::First(told) if told == NO_MEMORY => Some(End::PartRefused("the first map")),
+        Answer::Second(told) if told == NO_MEMORY => Some(End::PartRefused("the second map")),
+        _ => None,
+    }
+}
+
 // A compaction, and once more where memory is refused, which changes nothing. A dangling pointer refuses
 // it too, and changes nothing; else each pointer leads where it led.
-fn follows<F: Relations>(alloc: Global, all: &mut F, expected: Told) -> Result<End, Wrong> {
+fn follows<F: Relations>(alloc: Global, all: &mut F, expected: Answer) -> Result<End, Wrong> {
     let before = all.seen();
-    let mut told = all.compact(alloc);
+    let mut answer = all.compact(alloc);
     let mut end = End::Ample;
-    // of two arenas each has a map
-    for _map in 0..2 {
-        if told == NO_MEMORY {
-            if all.seen() != before {
-                return Err(Wrong::State(0));
-            }
-            told = all.compact(alloc);
-            end = End::Refused;
+    if let Some(refused) = end_at(answer) {
+        if all.seen() != before {
+            return Err(Wrong::State(0));
         }
+        answer = all.compact(alloc);
+        end = refused;
     }
-    is_told(1, told, expected)?;
-    let stands = if expected == Told::Done {
+    if answer != expected {
+        return Err(Wrong::Answer(1));
+    }
+    let stands = if expected == Answer::Done {
         all.is_renamed()
     } else {
         all.seen() == before
@@ -246,6 +273,18 @@ fn follows<F: Relations>(alloc: Global, all: &mut F, expected: Told) -> Result<E
         Ok(end)
     } else {
         Err(Wrong::State(1))
+    }
+}
+
+// What refuses a compaction for a dangling pointer.
+const DANGLES: Told = Told::At(DANGLING.0, DANGLING.1);
+
+// What a compaction tells beside a pointer to the third node, or to no entry.
+fn answer_with(link: (usize, u64)) -> Answer {
+    if link == LINKED {
+        Answer::Done
+    } else {
+        Answer::Refused(DANGLES)
     }
 }
 
@@ -263,7 +302,7 @@ fn on_arena(alloc: Global, link: (usize, u64)) -> Result<End, Wrong> {
         arena: arena(alloc, LINKED)?,
         holder: held(link),
     };
-    follows(alloc, &mut all, told_with(link))
+    follows(alloc, &mut all, answer_with(link))
 }
 
 fn on_strict(alloc: Global, link: (usize, u64)) -> Result<End, Wrong> {
@@ -271,22 +310,19 @@ fn on_strict(alloc: Global, link: (usize, u64)) -> Result<End, Wrong> {
         arena: strict(alloc, LINKED)?,
         holder: held(link),
     };
-    follows(alloc, &mut all, told_with(link))
+    follows(alloc, &mut all, answer_with(link))
 }
 
-// A cell and a net behind a gap each. The cell reads the net, which the cell drives, or no entry does.
-fn small_circuit(alloc: Global, link: (usize, u64)) -> Result<Circuit, Wrong> {
+// The cell and the net behind a gap each.
+const BEHIND: (usize, u64) = (2, 2);
+
+// A cell that reads this net, and a net that this cell drives, behind a gap each.
+fn small_circuit(alloc: Global, net: (usize, u64), cell: (usize, u64)) -> Result<Circuit, Wrong> {
     let mut cells: Arena<P0, Cell> = Arena::with_min_capacity(alloc, 2)?;
     let mut nets: Arena<Q2, Net> = Arena::with_min_capacity(alloc, 2)?;
-    let driver = if link == LINKED {
-        pointer(2, 2)
-    } else {
-        pointer(DANGLING.0, DANGLING.1)
-    };
+    let (reads, driver) = (pointer(net.0, net.1), pointer(cell.0, cell.1));
     for _place in 0..2 {
-        let cell = Cell {
-            reads: pointer(2, 2),
-        };
+        let cell = Cell { reads };
         let net = Net { driver };
         if cells.insert_within_capacity(cell).is_err()
             || nets.insert_within_capacity(net).is_err()
@@ -299,8 +335,19 @@ fn small_circuit(alloc: Global, link: (usize, u64)) -> Result<Circuit, Wrong> {
     Ok(Circuit { cells, nets })
 }
 
-fn on_both(alloc: Global, link: (usize, u64)) -> Result<End, Wrong> {
-    follows(alloc, &mut small_circuit(alloc, link)?, told_with(link))
+fn on_both(alloc: Global) -> Result<End, Wrong> {
+    let mut all = small_circuit(alloc, BEHIND, BEHIND)?;
+    follows(alloc, &mut all, Answer::Done)
+}
+
+fn without_cell(alloc: Global) -> Result<End, Wrong> {
+    let mut all = small_circuit(alloc, BEHIND, DANGLING)?;
+    follows(alloc, &mut all, Answer::First(DANGLES))
+}
+
+fn without_net(alloc: Global) -> Result<End, Wrong> {
+    let mut all = small_circuit(alloc, DANGLING, BEHIND)?;
+    follows(alloc, &mut all, Answer::Second(DANGLES))
 }
 
 pub fn try_each(alloc: Global, report: &mut Report) {
@@ -312,10 +359,15 @@ pub fn try_each(alloc: Global, report: &mut Report) {
     report.note(dangling, "an arena", on_arena(alloc, DANGLING));
     report.note(with, "a strict arena", on_strict(alloc, LINKED));
     report.note(dangling, "a strict arena", on_strict(alloc, DANGLING));
-    report.note("compress_recast_both", "two arenas", on_both(alloc, LINKED));
+    report.note("compress_recast_both", "two arenas", on_both(alloc));
     report.note(
-        "compress_recast_both and a dangling net",
+        "compress_recast_both and a net without its cell",
         "two arenas",
-        on_both(alloc, DANGLING),
+        without_cell(alloc),
+    );
+    report.note(
+        "compress_recast_both and a cell without its net",
+        "two arenas",
+        without_net(alloc),
     );
 }

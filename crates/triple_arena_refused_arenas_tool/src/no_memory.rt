@@ -5,7 +5,9 @@ use crate::compactions::{Compacted, Compaction, Node};
 use crate::strict::Strict;
 use std::alloc::Global;
 use std::mem;
-use triple_arena::{Arena, ArenaCloneFromWith, ArenaSlot, ArenaTrait, CompactArenaTrait};
+use triple_arena::{
+    Arena, ArenaCloneFromWith, ArenaDirectInsertTrait, ArenaSlot, ArenaTrait, CompactArenaTrait,
+};
 use triple_arena_base::Recast;
 use triple_arena_direct::{DirectArena, DirectSlot, StrictArena};
 use triple_arena_ptr::{P0, Ptr, PtrGen};
@@ -20,7 +22,7 @@ use triple_arena_test_kit::direct::{
 use triple_arena_test_kit::{Fixed, Heap, Limited, Places, WithLimit, with_room};
 use triple_arena_trait_kit::refused::{End, Report};
 use triple_arena_trait_kit::{
-    Call, NOT_DRAINED, TestedArena, Token, Told, Wrong, follow, inx, is_told,
+    Call, NOT_DRAINED, TestedArena, Token, Told, Wrong, follow, inx, is_told, pointer,
 };
 
 // That this holds, at the row of a table.
@@ -294,19 +296,55 @@ fn strict_compaction(alloc: Global) -> Result<End, Wrong> {
     compacts(alloc, &mut StrictArena::<P0, Node>::new(alloc))
 }
 
-// Links that go by a map without entries, where there are none.
-fn recasts<R: Recast<P0>>(alloc: Global, links: &mut R) -> Result<End, Wrong> {
-    let map: DirectArena<P0, P0> = DirectArena::new(alloc);
-    holds(0, links.recast(&map).is_ok())?;
+// Puts a value at this index of a direct arena, under the generation 2.
+fn place<T: Drop>(arena: &mut DirectArena<P0, T>, index: usize, value: T) -> Result<(), Wrong> {
+    let p: P0 = pointer(index, 2);
+    if !arena.can_direct_insert(p) {
+        return Err(Wrong::Answer(0));
+    }
+    arena.direct_insert_reserved(p, value);
+    Ok(())
+}
+
+// A direct arena of this room, with values at its first two indexes.
+fn direct_pair<T: Drop>(
+    alloc: Global,
+    room: usize,
+    first: T,
+    second: T,
+) -> Result<DirectArena<P0, T>, Wrong> {
+    let mut arena: DirectArena<P0, T> = DirectArena::with_min_capacity(alloc, room)?;
+    place(&mut arena, 1, first)?;
+    place(&mut arena, 2, second)?;
+    Ok(arena)
+}
+
+// The node of a number that is 1 or 2, with a link to the other.
+fn to_the_other(number: u64) -> Node {
+    (number, Some(pointer(if number == 1 { 2 } else { 1 }, 2)))
+}
+
+// Two nodes with links to each other, and a map that exchanges their pointers: each then has a link to
+// itself.
+fn recasts<A: Compacted + Recast<P0>>(alloc: Global, nodes: &mut A) -> Result<End, Wrong> {
+    let map: DirectArena<P0, P0> = direct_pair(alloc, 2, pointer(2, 2), pointer(1, 2))?;
+    holds(1, nodes.recast(&map).is_ok())?;
+    for index in [1, 2] {
+        let to_itself: Node = (index as u64, Some(pointer(index, 2)));
+        holds(2, nodes.node(index, 2) == Some(to_itself))?;
+    }
     Ok(End::Ample)
 }
 
 fn recasting(alloc: Global) -> Result<End, Wrong> {
-    recasts(alloc, &mut Arena::<P0, Node>::new(alloc))
+    let mut nodes: Arena<P0, Node> = Arena::with_min_capacity(alloc, 4)?;
+    insert_each(&mut nodes, 2, &[], |number| to_the_other(number))?;
+    recasts(alloc, &mut nodes)
 }
 
 fn direct_recasting(alloc: Global) -> Result<End, Wrong> {
-    recasts(alloc, &mut DirectArena::<P0, Node>::new(alloc))
+    let mut nodes: DirectArena<P0, Node> = direct_pair(alloc, 4, to_the_other(1), to_the_other(2))?;
+    recasts(alloc, &mut nodes)
 }
 
 // Calls of a strict arena with room for eight and no entry.

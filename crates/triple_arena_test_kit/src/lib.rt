@@ -20,5 +20,5 @@ pub use triple_arena_trait_kit::{
     SLOTS, Scarce, State, Steps, TestedArena, Token, Told, Trial, Unchanged, Wide, Wrong,
     answer_by_traits, answer_of_any, answer_of_two, answer_to_insert, answer_to_read,
     answer_to_walk, follow, follow_tidied, follow_to, follow_unchanged, has_state, index_number,
-    inx, is_text, is_told, named_index, next_steps, pointer, step, step_at, where_there_is_memory,
+    inx, is_text, is_told, named_index, next_steps, pointer, step, step_at,
 };

@@ -40,4 +40,4 @@ pub use told::{
 };
 pub use trial::{Removed, Steps, Trial, Unchanged};
 pub use walk_calls::{entry_numbers, next_steps};
-pub use wrong::{Wrong, is_text, is_told, where_there_is_memory};
+pub use wrong::{Wrong, is_text, is_told};

@@ -29,14 +29,6 @@ impl From<alloc::AllocError> for Wrong {
     }
 }
 
-/// What was tried, where memory for the arena may be refused, and then nothing is wrong.
-pub fn where_there_is_memory(tried: Result<(), Wrong>) -> Result<(), Wrong> {
-    match tried {
-        Err(Wrong::NoMemory) => Ok(()),
-        tried => tried,
-    }
-}
-
 /// That the call of this row told what was expected.
 pub fn is_told(row: usize, told: Told, expected: Told) -> Result<(), Wrong> {
     if told == expected {

@@ -170,19 +170,12 @@ pub fn is_told(row: usize, told: Told, expected: Told) -> Result<(), Wrong> {
     }
 }
 
-/// What was tried, where memory for the stack may be refused, and then nothing is wrong.
-pub fn where_there_is_memory(tried: Result<(), Wrong>) -> Result<(), Wrong> {
-    match tried {
-        Err(Wrong::NoMemory) => Ok(()),
-        tried => tried,
-    }
-}
-
 /// That there was no memory for the stack.
 pub fn without_memory(tried: Result<(), Wrong>) -> Result<(), Wrong> {
     match tried {
         Ok(()) => Err(Wrong::NotRefused),
-        tried => where_there_is_memory(tried),
+        Err(Wrong::NoMemory) => Ok(()),
+        tried => tried,
     }
 }
 

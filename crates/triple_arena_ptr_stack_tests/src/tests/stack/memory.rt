@@ -2,9 +2,7 @@
 //! the tests run as `rt try --test --fail-alloc N`.
 
 use super::any_stack::{answer_without_items, set_max_capacity};
-use super::calls::{
-    Call, Tested, Told, Wrong, both, follow, is_told, where_there_is_memory, without_memory,
-};
+use super::calls::{Call, Tested, Told, Wrong, both, follow, is_told, without_memory};
 use super::entry_calls::{LetGo, answer_of_entry};
 use super::stacks::{in_four_places, in_three_places, on_fixed, on_heap, on_limited};
 use std::alloc::Global;
@@ -198,15 +196,23 @@ const WHATEVER_UNDER_15: &[(Call, Told)] = &[
     (Call::Whatever(20), Told::Is(true)),
 ];
 
+// So of fixed room for four, which is asked for once more where the machine refused it.
+fn whatever_on_fixed(alloc: Global) -> Result<(), Wrong> {
+    match on_fixed(alloc, Some(4), WHATEVER) {
+        Err(Wrong::NoMemory) => on_fixed(alloc, Some(4), WHATEVER),
+        tried => tried,
+    }
+}
+
 #[test]
-fn each_refusal_leaves_a_stack_as_it_was(rt: HostRuntime) -> Result<(), Wrong> {
+fn pushes_and_reallocations_of_each_stack(rt: HostRuntime) -> Result<(), Wrong> {
     both(
         both(
             on_heap(rt.alloc(), None, WHATEVER),
             on_limited(rt.alloc(), None, WHATEVER_UNDER_15),
         ),
         both(
-            where_there_is_memory(on_fixed(rt.alloc(), Some(4), WHATEVER)),
+            whatever_on_fixed(rt.alloc()),
             in_four_places(rt.alloc(), None, WHATEVER),
         ),
     )
@@ -279,6 +285,14 @@ const WITHIN_CAPACITY: &[(Call, Told)] = &[
     (Call::Enter, Told::At(1)),
 ];
 
+// They are made once more where the machine refused room for the three.
+fn within_capacity(alloc: Global) -> Result<(), Wrong> {
+    match on_heap(alloc, Some(3), WITHIN_CAPACITY) {
+        Err(Wrong::NoMemory) => on_heap(alloc, Some(3), WITHIN_CAPACITY),
+        tried => tried,
+    }
+}
+
 // The bounds of an array of three places.
 const THREE_PLACES: &[(Call, Told)] = &[(Call::Bounds, Told::Bounds(0, 3, Some(3)))];
 
@@ -289,7 +303,7 @@ const NO_PLACE: &[(Call, Told)] = &[(Call::Bounds, Told::Bounds(0, 0, Some(0)))]
 
 #[test]
 fn calls_that_take_no_memory(rt: HostRuntime) -> Result<(), Wrong> {
-    let tried = where_there_is_memory(on_heap(rt.alloc(), Some(3), WITHIN_CAPACITY));
+    let tried = within_capacity(rt.alloc());
     let in_array = in_three_places(rt.alloc(), Some(3), THREE_PLACES);
     let without_limit = on_heap(rt.alloc(), Some(0), NO_ROOM_YET);
     let under_limit = both(

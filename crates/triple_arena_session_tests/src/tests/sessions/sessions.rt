@@ -164,11 +164,11 @@ impl Expected {
     }
 }
 
-/// Insertions with links and removals, each name looked up after each of them. Holds with ample
-/// memory, and also where any one request for memory is refused (`rt try --test --fail-alloc N`):
-/// then one insertion answers so, and names, entries, capacity and counter are as they were.
+/// Insertions with links and removals, each name looked up after each of them. In the gate no memory is
+/// refused. Where any one request is (`rt try --test --fail-alloc N`), one insertion answers so, and
+/// names, entries, capacity and counter are as they were.
 #[test]
-fn a_refused_insertion_changes_nothing(rt: HostRuntime) {
+fn each_name_is_found_after_each_insertion(rt: HostRuntime) {
     try_new(&rt, rt.alloc(), Kind::General, None, &RefusesOnce);
 }
 

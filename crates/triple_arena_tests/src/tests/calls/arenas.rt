@@ -119,6 +119,7 @@ fn of_little<T: Trial>(
         (Pointers::P0, 4) => on_little::<P0, 4, T>(alloc, room, trial),
         (Pointers::P0, 6) => on_little::<P0, 6, T>(alloc, room, trial),
         (Pointers::P0, 8) => on_little::<P0, 8, T>(alloc, room, trial),
+        (Pointers::P0, 9) => on_little::<P0, 9, T>(alloc, room, trial),
         (Pointers::P0, 16) => on_little::<P0, 16, T>(alloc, room, trial),
         (Pointers::P0, 32) => on_little::<P0, 32, T>(alloc, room, trial),
         (Pointers::P4, 0) => on_little::<P4, 0, T>(alloc, room, trial),

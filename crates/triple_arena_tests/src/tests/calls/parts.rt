@@ -46,8 +46,9 @@ pub enum Part {
     RefusedPast(usize),
     /// Calls that name no entry: `nothing_is_named`.
     NothingIsNamed,
-    /// Calls of which the machine may refuse any: `whatever_is_refused`.
-    WhateverIsRefused,
+    /// Calls of which the machine may refuse any, of an arena that keeps its room or not:
+    /// `whatever_is_refused`.
+    WhateverIsRefused(bool),
 }
 
 // So many insertions, each of which takes the next index.
@@ -73,7 +74,7 @@ fn try_part<A: TestedArena>(arena: &mut A, part: Part) -> Result<(), Wrong> {
         Part::Grown(places) => grown(arena, places),
         Part::RefusedPast(places) => refused_past(arena, places),
         Part::NothingIsNamed => nothing_is_named(arena),
-        Part::WhateverIsRefused => whatever_is_refused(arena),
+        Part::WhateverIsRefused(keeps_room) => whatever_is_refused(arena, keeps_room),
     }
 }
 

@@ -10,7 +10,7 @@ use triple_arena_ptr::P0;
 use triple_arena_stack::{NonZeroInxGenericStack, NonZeroInxVec};
 use triple_arena_test_kit::{
     Call, Places, State, TestedArena, Told, Wrong, capacity_made, follow_unchanged, has_state,
-    is_told, step, where_there_is_memory,
+    is_told, step,
 };
 
 // So long that two of them are more than a vector may hold. There is none.
@@ -230,15 +230,18 @@ fn insert_next<A: TestedArena>(arena: &mut A, number: u64) -> Result<(), Wrong> 
     has_state(arena, 0, &before)
 }
 
-// Reallocates, which tidies the free list, refused or not.
-fn reallocate<A: TestedArena>(arena: &mut A, asked: usize) -> Result<(), Wrong> {
+// Reallocates, which tidies the free list, refused or not. The capacity is then what was asked for, or
+// what the slots take; an arena of fixed room keeps its own.
+fn reallocate<A: TestedArena>(arena: &mut A, asked: usize, keeps_room: bool) -> Result<(), Wrong> {
     let before = arena.state().tidied();
     let told = arena.answer(Call::Reallocate(asked));
     if told == Told::Done {
-        let capacity = arena.state().capacity;
-        let expected = State { capacity, ..before };
-        has_state(arena, asked, &expected)?;
-        is_told(asked, Told::Is(capacity >= asked), Told::Is(true))
+        let capacity = if keeps_room {
+            before.capacity
+        } else {
+            before.slots.max(asked)
+        };
+        has_state(arena, asked, &State { capacity, ..before })
     } else {
         is_told(asked, told, refusal_under(before.limit, asked))?;
         has_state(arena, asked, &before)
@@ -266,10 +269,11 @@ fn end_first_and_renew_last<A: TestedArena>(arena: &mut A) -> Result<(), Wrong> 
     Ok(())
 }
 
-/// Insertions, removals and reallocations, of which the machine may refuse any.
-pub fn whatever_is_refused<A: TestedArena>(arena: &mut A) -> Result<(), Wrong> {
+/// Insertions, removals and reallocations, of which the machine may refuse any, of an arena that keeps its
+/// room or not.
+pub fn whatever_is_refused<A: TestedArena>(arena: &mut A, keeps_room: bool) -> Result<(), Wrong> {
     for asked in [0, 3, 1, 9, 2, 20] {
-        reallocate(arena, asked)?;
+        reallocate(arena, asked, keeps_room)?;
         for number in 0..9 {
             insert_next(arena, number)?;
         }
@@ -280,8 +284,23 @@ pub fn whatever_is_refused<A: TestedArena>(arena: &mut A) -> Result<(), Wrong> {
 }
 
 #[test]
-fn each_refusal_over_the_heap_leaves_the_arena_as_it_was(rt: HostRuntime) -> Result<(), Wrong> {
-    on_heap_of_p0(rt.alloc(), &[Part::WhateverIsRefused])
+fn insertions_and_reallocations_over_the_heap(rt: HostRuntime) -> Result<(), Wrong> {
+    on_heap_of_p0(rt.alloc(), &[Part::WhateverIsRefused(false)])
+}
+
+/// There is memory for nine places: growth from eight, which would double them, is refused, and room for
+/// twenty.
+#[test]
+fn each_refusal_past_the_memory_leaves_the_arena_as_it_was(rt: HostRuntime) -> Result<(), Wrong> {
+    on(
+        rt.alloc(),
+        Pointers::P0,
+        Stack::Little(9, None),
+        &[
+            Part::Step(Call::SetLimit(usize::MAX), Told::Done),
+            Part::WhateverIsRefused(false),
+        ],
+    )
 }
 
 #[test]
@@ -292,11 +311,22 @@ fn each_refusal_under_a_limit_leaves_the_arena_as_it_was(rt: HostRuntime) -> Res
         Stack::Limited(None),
         &[
             Part::Step(Call::SetLimit(15), Told::Done),
-            Part::WhateverIsRefused,
+            Part::WhateverIsRefused(false),
         ],
     )
 }
 
+// Whatever is refused of fixed room for five.
+fn on_five_places(alloc: Global) -> Result<(), Wrong> {
+    on(
+        alloc,
+        Pointers::P0,
+        Stack::Fixed(Some(5)),
+        &[Part::WhateverIsRefused(true)],
+    )
+}
+
+/// Fixed room is asked for once more where the machine refused it.
 #[test]
 fn each_refusal_of_fixed_room_and_arrays_leaves_the_arena_as_it_was(
     rt: HostRuntime,
@@ -305,14 +335,12 @@ fn each_refusal_of_fixed_room_and_arrays_leaves_the_arena_as_it_was(
         rt.alloc(),
         Pointers::P0,
         Stack::Array(8),
-        &[Part::WhateverIsRefused],
+        &[Part::WhateverIsRefused(true)],
     )?;
-    where_there_is_memory(on(
-        rt.alloc(),
-        Pointers::P0,
-        Stack::Fixed(Some(5)),
-        &[Part::WhateverIsRefused],
-    ))
+    match on_five_places(rt.alloc()) {
+        Err(Wrong::NoMemory) => on_five_places(rt.alloc()),
+        tried => tried,
+    }
 }
 
 #[test]

@@ -2,7 +2,7 @@
 
 use std::alloc::Global;
 use std::process::Abort;
-use triple_arena::{ArenaDirectInsertTrait, ArenaSlot, ArenaTrait};
+use triple_arena::{ArenaDirectInsertEntryTrait, ArenaDirectInsertTrait, ArenaSlot, ArenaTrait};
 use triple_arena_direct::{DirectArena, DirectSlot, StrictArena};
 use triple_arena_ptr::P0;
 use triple_arena_stack::{NonZeroInxGenericStack, NonZeroInxLimitedVec, NonZeroInxVec};

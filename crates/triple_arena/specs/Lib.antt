@@ -1,3 +1,34 @@
--- Read first: InsertEntry.
+-- Read first: InsertEntry; of what is handed on ArenaState, Insertion, Ending and Histories.
 pub mod InsertEntry
 pub mod laws
+-- What clauses of callers name of the rooms behind this door: what an arena is, and its slots.
+pub use Rattle.triple_arena_traits.specs.Items
+pub use Rattle.triple_arena_traits.specs.Entries
+pub use Rattle.triple_arena_traits.specs.ArenaState
+pub use Rattle.triple_arena_traits.specs.Insertion
+pub use Rattle.triple_arena_traits.specs.SlotSteps
+pub use Rattle.triple_arena_traits.specs.DirectInsertion
+pub use Rattle.triple_arena_traits.specs.Ending
+pub use Rattle.triple_arena_traits.specs.FreeList
+pub use Rattle.triple_arena_traits.specs.FreeEnd
+pub use Rattle.triple_arena_traits.specs.Reallocation
+pub use Rattle.triple_arena_traits.specs.Walks
+pub use Rattle.triple_arena_traits.specs.Visits
+pub use Rattle.triple_arena_traits.specs.Places
+pub use Rattle.triple_arena_traits.specs.Values
+pub use Rattle.triple_arena_traits.specs.Lent
+pub use Rattle.triple_arena_traits.specs.Kept
+pub use Rattle.triple_arena_traits.specs.Drains
+pub use Rattle.triple_arena_traits.specs.Transfers
+pub use Rattle.triple_arena_traits.specs.Copying
+pub use Rattle.triple_arena_traits.specs.Compression
+pub use Rattle.triple_arena_traits.specs.Moves
+pub use Rattle.triple_arena_traits.specs.Recasting
+pub use Rattle.triple_arena_traits.specs.HeldSlots
+pub use Rattle.triple_arena_traits.specs.Cloning
+pub use Rattle.triple_arena_traits.specs.DisjointEntries
+pub use Rattle.triple_arena_traits.specs.SlotPairs
+pub use Rattle.triple_arena_traits.specs.Histories
+pub use Rattle.triple_arena_slots.specs.Link
+pub use Rattle.triple_arena_slots.specs.Slot
+pub use Rattle.triple_arena_slots.specs.Layout

@@ -57,9 +57,8 @@ use triple_arena_traits::{
 /// free it takes the one past the last slot. A removal in the last slot takes that slot away, and
 /// frees no index.
 ///
-/// Insertion within the capacity, removal, invalidation and look-ups take no memory.
-/// `insert_within_capacity`, `insert_reserved`, removal and invalidation touch at most 6 slots,
-/// however many there are.
+/// Insertion within the capacity, removal, invalidation and look-ups take no memory. `insert_within_capacity`,
+/// `insert_reserved`, removal and invalidation touch at most 6 slots, however many there are.
 #[derive(Drop)]
 pub struct Arena<
     P: Ptr,

@@ -1,7 +1,15 @@
--- Read first: Renaming and StrictAnswers.
+-- Read first: Renaming and StrictAnswers; of what is handed on DirectState.
 pub mod Renaming
 pub mod RenamingBoth
 pub mod StrictAnswers
 pub mod StrictCalls
 pub mod Gone
 pub mod laws
+-- What clauses of callers name of the room behind this door: direct arenas.
+pub use Rattle.triple_arena_direct_arena.specs.DirectState
+pub use Rattle.triple_arena_direct_arena.specs.DirectSlot
+pub use Rattle.triple_arena_direct_arena.specs.DirectLayout
+pub use Rattle.triple_arena_direct_arena.specs.DirectLends
+pub use Rattle.triple_arena_direct_arena.specs.DirectValues
+pub use Rattle.triple_arena_direct_arena.specs.Mirrors
+pub use Rattle.triple_arena_direct_arena.specs.DirectInsertEntry

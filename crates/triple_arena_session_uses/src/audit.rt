@@ -1,8 +1,8 @@
 //! An auditor of the pointers that a run gives.
 
 ghost use Rattle.std.specs.Prelude.{◌≡◌, IfOk, length, take};
-ghost use Rattle.triple_arena_traits.specs.ArenaState.{arena_len};
-ghost use Rattle.triple_arena_commands.specs.declared.arguments.Kind.TheVariants.{Heap};
+ghost use Rattle.triple_arena.specs.ArenaState.{arena_len};
+ghost use Rattle.triple_arena_session.specs.Kind.TheVariants.{Heap};
 ghost use Rattle.triple_arena_session.specs.KindRun.{IsStepOfKind};
 ghost use Rattle.triple_arena_session.specs.SessionCalls.{GivesOnceToWrap};
 

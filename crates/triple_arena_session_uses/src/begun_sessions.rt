@@ -1,10 +1,10 @@
 //! Sessions over arenas that are there already, whose limit and counter are as their callers set them.
 
 ghost use Rattle.std.specs.Prelude.{◌≡◌, ◌-◌, IfSome, None, false};
-ghost use Rattle.triple_arena_traits.specs.ArenaState.{arena_len};
-ghost use Rattle.triple_arena_commands.specs.declared.command.Command.TheVariants.{Insert};
-ghost use Rattle.triple_arena_commands.specs.declared.reply.Reply.TheVariants.{Given};
-ghost use Rattle.triple_arena_commands.specs.NameStore.{new_store, IsStoreStep};
+ghost use Rattle.triple_arena.specs.ArenaState.{arena_len};
+ghost use Rattle.triple_arena_session.specs.Command.TheVariants.{Insert};
+ghost use Rattle.triple_arena_session.specs.Reply.TheVariants.{Given};
+ghost use Rattle.triple_arena_session.specs.NameStore.{new_store, IsStoreStep};
 ghost use Rattle.triple_arena_session.specs.KindRun.{greatest};
 ghost use Rattle.triple_arena_session.specs.Shown.{shown, IsSound};
 ghost use Rattle.triple_arena_session.specs.StrictSession.{strictly_shown};

@@ -2,11 +2,11 @@
 
 ghost use Rattle.std.specs.Prelude.{◌≡◌, ◌+◌, ◌⊎◌, ℕ, true, false, IfOk, IfSome, take, length};
 ghost use Rattle.std.specs.List.{list_all, list_any};
-ghost use Rattle.triple_arena_commands.specs.NameStore.{next_name};
-ghost use Rattle.triple_arena_commands.specs.Runs.{IsRun, TellsOfNoWrap, EndsInWrap};
-ghost use Rattle.triple_arena_commands.specs.StoreRuns.{AnswersAsStore, is_named, is_no_memory, seen, ample, erase};
-ghost use Rattle.triple_arena_commands.specs.declared.arguments.Kind.TheVariants.{Heap};
-ghost use Rattle.triple_arena_commands.specs.StrictStore.{tells_exhausted, StrictStore, IsStrictStoreStep};
+ghost use Rattle.triple_arena_session.specs.NameStore.{next_name};
+ghost use Rattle.triple_arena_session.specs.Runs.{IsRun, TellsOfNoWrap, EndsInWrap};
+ghost use Rattle.triple_arena_session.specs.StoreRuns.{AnswersAsStore, is_named, is_no_memory, seen, ample, erase};
+ghost use Rattle.triple_arena_session.specs.Kind.TheVariants.{Heap};
+ghost use Rattle.triple_arena_session.specs.StrictStore.{tells_exhausted, StrictStore, IsStrictStoreStep};
 ghost use Rattle.triple_arena_session.specs.Shown.{shown, IsSound};
 ghost use Rattle.triple_arena_session.specs.StoreText.{first_store, first_strict_store};
 

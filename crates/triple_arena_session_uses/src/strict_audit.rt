@@ -3,7 +3,7 @@
 ghost use Rattle.std.specs.Prelude.{◌≡◌, IfOk, length};
 ghost use Rattle.triple_arena_ptr.specs.Numbers.{counting_to};
 ghost use Rattle.triple_arena_stack.specs.StackKind.StackKind.{heap};
-ghost use Rattle.triple_arena_traits.specs.Walks.{keys};
+ghost use Rattle.triple_arena.specs.Walks.{keys};
 ghost use Rattle.triple_arena_session.specs.KindRun.{greatest};
 ghost use Rattle.triple_arena_session.specs.SessionCalls.{GivesNew};
 ghost use Rattle.triple_arena_session.specs.StrictSession.{IsStrictSessionStep};

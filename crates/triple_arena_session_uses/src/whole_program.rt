@@ -1,8 +1,8 @@
 //! The whole program, from its arguments and a text to a vector of bytes.
 
 ghost use Rattle.std.specs.Prelude.{◌≡◌, [], IfSome, Some, Ok, false};
-ghost use Rattle.triple_arena_commands.specs.Program.{asked_mode};
-ghost use Rattle.triple_arena_commands.specs.declared.arguments.Kind.TheVariants.{Heap};
+ghost use Rattle.triple_arena_session.specs.Program.{asked_mode};
+ghost use Rattle.triple_arena_session.specs.Kind.TheVariants.{Heap};
 ghost use Rattle.triple_arena_session.specs.StoreText.{IsAnsweredText, AnswersFreshly};
 
 use std::alloc::Global;

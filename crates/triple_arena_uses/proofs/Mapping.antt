@@ -1,9 +1,9 @@
 -- Walks that write to each entry.
 use Rattle.std.proofs.Common.{◌≡◌, ℕ, List, [], ◌∷◌, ◌++◌, map, Option, Some, None, false, refl, sym, ap, ◌∙◌, append_assoc, append-nil}
 use Rattle.triple_arena_ptr.specs.Pointers.{Pointer}
-use Rattle.triple_arena_traits.specs.Entries.{look_up, with_value_in}
-use Rattle.triple_arena_traits.specs.Walks.{Stand, Steps, IsAtFirst, entries, entries_ahead, entries_behind}
-use Rattle.triple_arena_traits.specs.laws.WalkLaws.{ahead_taken, ahead_written, ahead_none, ahead_first, behind_written, none_behind, all_behind}
+use Rattle.triple_arena.specs.Entries.{look_up, with_value_in}
+use Rattle.triple_arena.specs.Walks.{Stand, Steps, IsAtFirst, entries, entries_ahead, entries_behind}
+use Rattle.triple_arena.specs.laws.WalkLaws.{ahead_taken, ahead_written, ahead_none, ahead_first, behind_written, none_behind, all_behind}
 
 module _ {T : Type 0} (made : Pointer × T → Pointer × T) where
   -- those behind are made anew, and those ahead are still to be

@@ -3,10 +3,10 @@ use Rattle.std.proofs.Common.{◌≡◌, ◌≢◌, ◌⊎◌, ℕ, List, [], Op
 use Rattle.std.proofs.lemmas.Bool.{cases_eq}
 use Rattle.std.specs.Option.{option_and_then}
 use Rattle.triple_arena_ptr.specs.Pointers.{Pointer}
-use Rattle.triple_arena_traits.specs.Entries.{look_up, value_of_generation}
-use Rattle.triple_arena_traits.specs.laws.ItemLaws.{joined, item_nil}
-use Rattle.triple_arena_traits.specs.laws.PointerListLaws.{pointer_is}
-use Rattle.triple_arena_direct_arena.specs.Mirrors.{IsMirror}
+use Rattle.triple_arena.specs.Entries.{look_up, value_of_generation}
+use Rattle.triple_arena.specs.laws.ItemLaws.{joined, item_nil}
+use Rattle.triple_arena.specs.laws.PointerListLaws.{pointer_is}
+use Rattle.triple_arena_direct.specs.Mirrors.{IsMirror}
 
 same_or_other : (q p : Pointer) → (q ≡ p) ⊎ (q ≢ p)
 same_or_other q p =

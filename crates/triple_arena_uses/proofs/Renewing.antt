@@ -9,11 +9,11 @@ use Rattle.triple_arena_base.specs.declared.invalidation.InvalidationResult.{Inv
 use Rattle.triple_arena_base.specs.declared.invalidation.InvalidationResult.TheVariants.{Success, GenerationOverflow, InvalidPtr}
 use Rattle.triple_arena_base.specs.Invalidation.{as_option, allowed_option}
 use Rattle.triple_arena_ptr.specs.Pointers.{Pointer}
-use Rattle.triple_arena_traits.specs.Entries.{entry_in, look_up, ChangesAt}
-use Rattle.triple_arena_traits.specs.Ending.{told_of, map_told}
-use Rattle.triple_arena_traits.specs.FreeList.{IsRising}
-use Rattle.triple_arena_traits.specs.Walks.{Stand, Steps, Walk, IsAtFirst}
-use Rattle.triple_arena_traits.specs.laws.WalkLaws.{walk_more, rises_from, walk_sees}
+use Rattle.triple_arena.specs.Entries.{entry_in, look_up, ChangesAt}
+use Rattle.triple_arena.specs.Ending.{told_of, map_told}
+use Rattle.triple_arena.specs.FreeList.{IsRising}
+use Rattle.triple_arena.specs.Walks.{Stand, Steps, Walk, IsAtFirst}
+use Rattle.triple_arena.specs.laws.WalkLaws.{walk_more, rises_from, walk_sees}
 
 some_same : {A : Type 0} {x y : A} → Some x ≡ Some y → x ≡ y
 some_same e = cc

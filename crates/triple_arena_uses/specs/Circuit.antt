@@ -10,9 +10,9 @@ use Rattle.triple_arena_ptr.specs.Numbers.{counting_to, raise, wraps}
 use Rattle.triple_arena_ptr.specs.Pointers.{Pointer, is_same}
 use Rattle.triple_arena_ptr.specs.declared.P0.{P0}
 use Rattle.triple_arena_ptr.specs.declared.Q2.{Q2}
-use Rattle.triple_arena_traits.specs.Entries.{look_up}
-use Rattle.triple_arena_traits.specs.ArenaState.{ArenaState}
-use Rattle.triple_arena_traits.specs.Compression.{rank, raised_if_any, wraps_after}
+use Rattle.triple_arena.specs.Entries.{look_up}
+use Rattle.triple_arena.specs.ArenaState.{ArenaState}
+use Rattle.triple_arena.specs.Compression.{rank, raised_if_any, wraps_after}
 use Rattle.triple_arena_direct.specs.Renaming.{AllResolve, RefusesStray}
 use Rattle.triple_arena_direct.specs.declared.errors.CompactBothError.{CompactBothError}
 use Rattle.triple_arena_direct.specs.declared.errors.CompactBothError.TheVariants.{First, Second}

@@ -1,13 +1,13 @@
 -- Two histories that are computed call by call: of a new arena, and of one that was just compressed with a reset.
 use Rattle.std.specs.Prelude.{ℕ, ◌+◌, List, [], ◌∷◌, None}
 use Rattle.triple_arena_stack.specs.StackKind.StackKind.{heap}
-use Rattle.triple_arena_traits.specs.ArenaState.{ArenaState, new_arena}
-use Rattle.triple_arena_traits.specs.Insertion.{next_pointer, inserted}
-use Rattle.triple_arena_traits.specs.Ending.{removed, invalidated, cleared}
-use Rattle.triple_arena_traits.specs.Reallocation.{grown}
-use Rattle.triple_arena_traits.specs.Compression.{compressed, raised_if_any}
-use Rattle.triple_arena_traits.specs.Walks.{keys, values}
-use Rattle.triple_arena_traits.specs.Histories.{ModelCall, insertion, removal, invalidation, clearing, compression, resizing}
+use Rattle.triple_arena.specs.ArenaState.{ArenaState, new_arena}
+use Rattle.triple_arena.specs.Insertion.{next_pointer, inserted}
+use Rattle.triple_arena.specs.Ending.{removed, invalidated, cleared}
+use Rattle.triple_arena.specs.Reallocation.{grown}
+use Rattle.triple_arena.specs.Compression.{compressed, raised_if_any}
+use Rattle.triple_arena.specs.Walks.{keys, values}
+use Rattle.triple_arena.specs.Histories.{ModelCall, insertion, removal, invalidation, clearing, compression, resizing}
 
 abbrev pub one_more : ℕ → ℕ
 one_more n = n + 1

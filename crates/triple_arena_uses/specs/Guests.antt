@@ -2,8 +2,8 @@
 use Rattle.std.specs.Prelude.{◌≡◌, ◌-◌, ◌^◌, ℕ, Bool, true, false, List}
 use Rattle.triple_arena_ptr.specs.Numbers.{counting_to, wraps}
 use Rattle.triple_arena_ptr.specs.Pointers.{Pointer}
-use Rattle.triple_arena_traits.specs.ArenaState.{ArenaState}
-use Rattle.triple_arena_traits.specs.Histories.{History, given, Fits}
+use Rattle.triple_arena.specs.ArenaState.{ArenaState}
+use Rattle.triple_arena.specs.Histories.{History, given, Fits}
 
 -- the guests who are there; the pointer of each who came, in their order; and whether the counter of generations wrapped
 pub record BookState : Type 0 where

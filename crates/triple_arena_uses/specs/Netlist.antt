@@ -1,7 +1,7 @@
 -- The wires of a netlist.
 use Rattle.std.specs.Prelude.{ℕ, List, [], ◌∷◌, ◌++◌, map, Option}
 use Rattle.triple_arena_ptr.specs.Pointers.{Pointer}
-use Rattle.triple_arena_traits.specs.Walks.{keys, values}
+use Rattle.triple_arena.specs.Walks.{keys, values}
 
 module _ {P G : Type 0} (numbers : P → Pointer) (held : G → List P) where
   -- the wires of these gates: each leads from the pointer of its gate to one that the gate holds

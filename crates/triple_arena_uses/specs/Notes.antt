@@ -1,7 +1,7 @@
 -- A table with a side table beside it.
 use Rattle.std.specs.Prelude.{ℕ}
-use Rattle.triple_arena_traits.specs.ArenaState.{ArenaState}
-use Rattle.triple_arena_direct_arena.specs.DirectState.{DirectState}
+use Rattle.triple_arena.specs.ArenaState.{ArenaState}
+use Rattle.triple_arena_direct.specs.DirectState.{DirectState}
 use Rattle.triple_arena_uses.specs.declared.entity_table.Entity.{Entity}
 
 -- the entities, and the notes beside them

@@ -2,7 +2,7 @@
 use Rattle.std.specs.Prelude.{suc, ◌-◌, ◌^◌, Bool, true}
 use Rattle.triple_arena_ptr.specs.Numbers.{counting_to}
 use Rattle.triple_arena_ptr.specs.Pointers.{Pointer}
-use Rattle.triple_arena_traits.specs.ArenaState.{ArenaState}
+use Rattle.triple_arena.specs.ArenaState.{ArenaState}
 use Rattle.triple_arena_direct.specs.StrictAnswers.{is_exhausted}
 use Rattle.triple_arena_uses.specs.declared.ticket.Ticket.{Ticket}
 use Rattle.triple_arena_uses.specs.declared.leases.Lease.{Lease}

@@ -11,7 +11,7 @@ ghost use Rattle.triple_arena_base.specs.laws.HeldLaws.{itself_held_refill, itse
 ghost use Rattle.triple_arena_base.specs.HeldVecs.{held_vec, refill_vec, vec_held_refill, vec_refill_held, vec_refill_refill};
 ghost use Rattle.triple_arena_base.specs.HeldPairs.{both_held_refill, both_refill_held, both_refill_refill};
 ghost use Rattle.triple_arena_ptr.specs.Pointers.{Pointer};
-ghost use Rattle.triple_arena_traits.specs.Entries.{look_up};
+ghost use Rattle.triple_arena.specs.Entries.{look_up};
 ghost use Rattle.triple_arena_uses.specs.Entities.{p0_numbers};
 ghost use Rattle.triple_arena_uses.specs.Circuit.{q2_numbers, cell_at, net_at, cells_held, cells_refilled, nets_held, nets_refilled};
 

@@ -5,11 +5,11 @@
 ghost use Rattle.std.specs.Prelude.{◌≡◌, ◌≢◌, ◌+◌, ◌*◌, ◌-◌, None, Some, IfOk, OnErr, IsSome, is_some, false, option_copied};
 ghost use Rattle.std.specs.Option.{option_map, option_and_then};
 ghost use Rattle.triple_arena_ptr.specs.Pointers.{Pointer};
-ghost use Rattle.triple_arena_traits.specs.Items.{item};
-ghost use Rattle.triple_arena_traits.specs.Entries.{look_up};
-ghost use Rattle.triple_arena_traits.specs.ArenaState.{entry, slot_count, is_free};
-ghost use Rattle.triple_arena_traits.specs.SlotSteps.{RisesByAtMost};
-ghost use Rattle.triple_arena_traits.specs.Values.{SamePointers};
+ghost use Rattle.triple_arena.specs.Items.{item};
+ghost use Rattle.triple_arena.specs.Entries.{look_up};
+ghost use Rattle.triple_arena.specs.ArenaState.{entry, slot_count, is_free};
+ghost use Rattle.triple_arena.specs.SlotSteps.{RisesByAtMost};
+ghost use Rattle.triple_arena.specs.Values.{SamePointers};
 ghost use Rattle.triple_arena_uses.specs.Entities.{p0_numbers, spawned, damaged, healed};
 
 use std::alloc::Global;
@@ -35,7 +35,7 @@ pub struct EntityTable<
 }
 
 impl<S: NonZeroInxGenericStack<ArenaSlot<P0, Entity>>> Model for EntityTable<S> {
-    ghost use Rattle.triple_arena_traits.specs.ArenaState.{ArenaState};
+    ghost use Rattle.triple_arena.specs.ArenaState.{ArenaState};
     ghost use Rattle.triple_arena_uses.specs.declared.entity_table.Entity.{Entity};
 
     ghost Value = { ArenaState Entity };

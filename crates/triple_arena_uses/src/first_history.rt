@@ -1,9 +1,9 @@
 //! Two histories, computed: which pointers eight calls give, and which of them have ended.
 
 ghost use Rattle.std.specs.Prelude.{◌≡◌, [], ◌∷◌};
-ghost use Rattle.triple_arena_traits.specs.Walks.{keys};
-ghost use Rattle.triple_arena_traits.specs.Insertion.{inserted};
-ghost use Rattle.triple_arena_traits.specs.Histories.{begun_with, followed_by, given, ended, Fits, AreModelCalls};
+ghost use Rattle.triple_arena.specs.Walks.{keys};
+ghost use Rattle.triple_arena.specs.Insertion.{inserted};
+ghost use Rattle.triple_arena.specs.Histories.{begun_with, followed_by, given, ended, Fits, AreModelCalls};
 ghost use Rattle.triple_arena_uses.specs.FirstHistory.{new_one, closed, first_calls, reset, without_e, later_calls};
 
 /// In a new arena a and b are inserted, a is removed, c is inserted, b is invalidated, all is

@@ -1,8 +1,8 @@
 //! A book of guests, which names each by a pointer that it never gave before.
 
 ghost use Rattle.std.specs.Prelude.{◌≡◌, ◌++◌, ◌∷◌, ◌&&◌, ◌||◌, [], false, map, None, Some, is_some, IfOk, OnErr, option_copied};
-ghost use Rattle.triple_arena_traits.specs.Entries.{look_up};
-ghost use Rattle.triple_arena_traits.specs.Histories.{has, AreDistinct};
+ghost use Rattle.triple_arena.specs.Entries.{look_up};
+ghost use Rattle.triple_arena.specs.Histories.{has, AreDistinct};
 ghost use Rattle.triple_arena_uses.specs.Entities.{p0_numbers};
 ghost use Rattle.triple_arena_uses.specs.Guests.{BookState, is_before_wrap};
 

@@ -1,7 +1,7 @@
 //! An arena that is taken apart.
 
 ghost use Rattle.std.specs.Prelude.{◌≡◌, IfOk};
-ghost use Rattle.triple_arena_traits.specs.Walks.{values};
+ghost use Rattle.triple_arena.specs.Walks.{values};
 
 use std::alloc::{AllocError, Global};
 use triple_arena::{Arena, ArenaTrait};

@@ -2,9 +2,9 @@
 
 ghost use Rattle.std.specs.Prelude.{◌≡◌, ◌≢◌, ◌<◌, ◌+◌, None, Some, IsOk, IfOk, OnOk, OnErr, option_copied};
 ghost use Rattle.triple_arena_ptr.specs.Pointers.{Pointer};
-ghost use Rattle.triple_arena_traits.specs.Entries.{look_up};
-ghost use Rattle.triple_arena_traits.specs.ArenaState.{arena_len, capacity};
-ghost use Rattle.triple_arena_traits.specs.SlotSteps.{RisesByAtMost, IsTouched};
+ghost use Rattle.triple_arena.specs.Entries.{look_up};
+ghost use Rattle.triple_arena.specs.ArenaState.{arena_len, capacity};
+ghost use Rattle.triple_arena.specs.SlotSteps.{RisesByAtMost, IsTouched};
 ghost use Rattle.triple_arena_direct.specs.Gone.{IsGoneForGood};
 ghost use Rattle.triple_arena_direct.specs.StrictAnswers.{strict_of};
 ghost use Rattle.triple_arena_uses.specs.Tickets.{ticket_numbers, are_used_up};
@@ -30,7 +30,7 @@ pub struct Leases {
 }
 
 impl Model for Leases {
-    ghost use Rattle.triple_arena_traits.specs.ArenaState.{ArenaState};
+    ghost use Rattle.triple_arena.specs.ArenaState.{ArenaState};
     ghost use Rattle.triple_arena_uses.specs.declared.leases.Lease.{Lease};
 
     ghost Value = { ArenaState Lease };

@@ -1,8 +1,8 @@
 //! Tables that take others over.
 
 ghost use Rattle.std.specs.Prelude.{◌≡◌, ◌≤◌, OnOk, OnErr, IsOk};
-ghost use Rattle.triple_arena_traits.specs.ArenaState.{arena_len, capacity};
-ghost use Rattle.triple_arena_traits.specs.Entries.{entry_count};
+ghost use Rattle.triple_arena.specs.ArenaState.{arena_len, capacity};
+ghost use Rattle.triple_arena.specs.Entries.{entry_count};
 
 use triple_arena::{Arena, ArenaSlot, CompactArenaTrait};
 use triple_arena_base::ReallocationError;

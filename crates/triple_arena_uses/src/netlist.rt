@@ -8,9 +8,9 @@ ghost use Rattle.std.specs.Result.{IfErr};
 ghost use Rattle.triple_arena_base.specs.Held.{held_all};
 ghost use Rattle.triple_arena_base.specs.Invalidation.{allowed_option};
 ghost use Rattle.triple_arena_ptr.specs.Pointers.{Pointer};
-ghost use Rattle.triple_arena_traits.specs.Entries.{look_up};
-ghost use Rattle.triple_arena_traits.specs.ArenaState.{arena_len};
-ghost use Rattle.triple_arena_traits.specs.Walks.{values};
+ghost use Rattle.triple_arena.specs.Entries.{look_up};
+ghost use Rattle.triple_arena.specs.ArenaState.{arena_len};
+ghost use Rattle.triple_arena.specs.Walks.{values};
 ghost use Rattle.triple_arena_direct.specs.Renaming.{MapsPointers, first_unresolved, Refuses};
 ghost use Rattle.triple_arena_uses.specs.Netlist.{wires, rewired};
 
@@ -29,7 +29,7 @@ pub struct Netlist<P: Ptr, G: Recast<P>> {
 }
 
 impl<P: Ptr, G: Recast<P>> Model for Netlist<P, G> {
-    ghost use Rattle.triple_arena_traits.specs.ArenaState.{ArenaState};
+    ghost use Rattle.triple_arena.specs.ArenaState.{ArenaState};
 
     ghost Value = { ArenaState G };
 

@@ -5,10 +5,10 @@
 
 ghost use Rattle.std.specs.Prelude.{◌≡◌, ◌≢◌, ◌<◌, ◌≤◌, None, Some, IsOk, IfOk, OnErr, is_some};
 ghost use Rattle.triple_arena_ptr.specs.Pointers.{Pointer};
-ghost use Rattle.triple_arena_traits.specs.ArenaState.{arena_len, capacity};
-ghost use Rattle.triple_arena_traits.specs.Entries.{look_up};
-ghost use Rattle.triple_arena_traits.specs.Insertion.{next_pointer};
-ghost use Rattle.triple_arena_direct_arena.specs.DirectState.{direct_capacity};
+ghost use Rattle.triple_arena.specs.ArenaState.{arena_len, capacity};
+ghost use Rattle.triple_arena.specs.Entries.{look_up};
+ghost use Rattle.triple_arena.specs.Insertion.{next_pointer};
+ghost use Rattle.triple_arena_direct.specs.DirectState.{direct_capacity};
 ghost use Rattle.triple_arena_uses.specs.Entities.{p0_numbers};
 ghost use Rattle.triple_arena_uses.specs.Notes.{Noted};
 
@@ -28,7 +28,7 @@ pub struct NotedEntities {
 }
 
 impl Model for NotedEntities {
-    ghost use Rattle.triple_arena_direct_arena.specs.Mirrors.{IsMirror};
+    ghost use Rattle.triple_arena_direct.specs.Mirrors.{IsMirror};
     ghost use Rattle.triple_arena_uses.specs.Notes.{Noted};
 
     ghost Value = { Noted };

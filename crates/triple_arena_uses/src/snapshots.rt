@@ -1,8 +1,8 @@
 //! Tables that are kept as they are.
 
 ghost use Rattle.std.specs.Prelude.{◌≡◌, ◌≤◌, OnOk, IsOk};
-ghost use Rattle.triple_arena_traits.specs.Entries.{KeepsEntries};
-ghost use Rattle.triple_arena_traits.specs.FreeList.{last_index};
+ghost use Rattle.triple_arena.specs.Entries.{KeepsEntries};
+ghost use Rattle.triple_arena.specs.FreeList.{last_index};
 
 use triple_arena::{ArenaCloneFromWith, CompactArenaTrait, laws};
 use triple_arena_base::{AllocError, CloneFromError};

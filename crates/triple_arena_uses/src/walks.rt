@@ -1,9 +1,9 @@
 //! Walks over any compact arena: its entries counted, collected, changed, renewed and taken out.
 
 ghost use Rattle.std.specs.Prelude.{◌≡◌, ◌+◌, ◌%◌, ◌^◌, ℕ, All, Contains, IfOk, IsSome, map};
-ghost use Rattle.triple_arena_traits.specs.Entries.{entry_in, look_up, entry_count};
-ghost use Rattle.triple_arena_traits.specs.FreeList.{IsRising};
-ghost use Rattle.triple_arena_traits.specs.Walks.{entries, keys};
+ghost use Rattle.triple_arena.specs.Entries.{entry_in, look_up, entry_count};
+ghost use Rattle.triple_arena.specs.FreeList.{IsRising};
+ghost use Rattle.triple_arena.specs.Walks.{entries, keys};
 
 use std::alloc::{AllocError, Global};
 use triple_arena::CompactArenaTrait;

@@ -2,9 +2,9 @@
 
 ghost use Rattle.std.specs.Prelude.{◌≡◌, IsTrue, IsSome, [], ◌∷◌, false};
 ghost use Rattle.triple_arena_ptr.specs.Pointers.{Pointer};
-ghost use Rattle.triple_arena_traits.specs.Entries.{look_up};
-ghost use Rattle.triple_arena_traits.specs.ArenaState.{ArenaState};
-ghost use Rattle.triple_arena_traits.specs.Histories.{History, has, ended, remains, removal, invalidation, Fits, Continues};
+ghost use Rattle.triple_arena.specs.Entries.{look_up};
+ghost use Rattle.triple_arena.specs.ArenaState.{ArenaState};
+ghost use Rattle.triple_arena.specs.Histories.{History, has, ended, remains, removal, invalidation, Fits, Continues};
 
 /// An arena may be made to leave anything, and its own clauses to say so: the clause `history` can't
 /// be proved of a removal that ends a pointer of the counter's generation and leaves the counter

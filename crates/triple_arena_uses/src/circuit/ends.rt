@@ -6,7 +6,7 @@ ghost use Rattle.std.specs.Option.{option_map};
 ghost use Rattle.std.specs.Result.{IfErr};
 ghost use Rattle.std.specs.Vec.{vec_len, vec_capacity};
 ghost use Rattle.triple_arena_ptr.specs.Pointers.{Pointer};
-ghost use Rattle.triple_arena_traits.specs.Entries.{look_up};
+ghost use Rattle.triple_arena.specs.Entries.{look_up};
 ghost use Rattle.triple_arena_uses.specs.Entities.{p0_numbers};
 ghost use Rattle.triple_arena_uses.specs.Circuit.{q2_numbers, CellRead, NetRead, cell_read, net_read, cell_at, net_at, leads_to, reads_net, IsLedTo, IsReadByCell, with_driver, with_sink, with_read, without_sink, without_cell, without_net, AreThere, RefusesEnds, RefusesMore, KeepsCell, KeepsNet, IsReadAsBefore};
 

@@ -1,7 +1,7 @@
 use Rattle.std.proofs.Common.{[], refl}
 use Rattle.std.proofs.lemmas.Result.{IfOk-weaker}
-use Rattle.triple_arena_traits.specs.Histories.{begun_with}
-use Rattle.triple_arena_traits.specs.laws.HistoryLaws.{Fits-empty}
+use Rattle.triple_arena.specs.Histories.{begun_with}
+use Rattle.triple_arena.specs.laws.HistoryLaws.{Fits-empty}
 use Rattle.triple_arena_session_uses.proofs.audit.audited.Goals as goal
 
 pub returns : goal.returns

@@ -1,7 +1,7 @@
 use Rattle.std.proofs.Common.{refl}
 use Rattle.std.proofs.lemmas.Result.{IfOk-weaker}
-use Rattle.triple_arena_traits.specs.Walks.{keys}
-use Rattle.triple_arena_traits.specs.Histories.{begun_with}
+use Rattle.triple_arena.specs.Walks.{keys}
+use Rattle.triple_arena.specs.Histories.{begun_with}
 use Rattle.triple_arena_session_uses.proofs.strict_audit.audited_strictly.Goals as goal
 
 pub returns-clause-new : goal.returns-clause-new

@@ -1,9 +1,9 @@
 use Rattle.std.proofs.Common.{None, [], ◌∷◌, refl, arith}
 use Rattle.triple_arena_stack.specs.StackKind.StackKind.{heap}
-use Rattle.triple_arena_traits.specs.ArenaState.{IsWellFormed}
-use Rattle.triple_arena_traits.specs.laws.EntryLaws.{well_formed-grown}
-use Rattle.triple_arena_traits.specs.laws.WellFormedLaws.{IsWellFormed-empty, IsWellFormed-inserted, IsWellFormed-removed}
-use Rattle.triple_arena_traits.specs.laws.HistoryLaws.{Fits-empty, Continues-calls}
+use Rattle.triple_arena.specs.ArenaState.{IsWellFormed}
+use Rattle.triple_arena.specs.laws.EntryLaws.{well_formed-grown}
+use Rattle.triple_arena.specs.laws.WellFormedLaws.{IsWellFormed-empty, IsWellFormed-inserted, IsWellFormed-removed}
+use Rattle.triple_arena.specs.laws.HistoryLaws.{Fits-empty, Continues-calls}
 use Rattle.triple_arena_uses.specs.FirstHistory.{one_more, new_one, with_room, with_a, with_b, without_a, with_c, with_b_renewed, all_gone, with_d, closed, first_calls}
 use Rattle.triple_arena_uses.proofs.first_history.first_history.Goals as goal
 

@@ -1,9 +1,9 @@
 use Rattle.std.proofs.Common.{None, [], refl, arith}
-use Rattle.triple_arena_traits.specs.ArenaState.{IsWellFormed}
-use Rattle.triple_arena_traits.specs.Insertion.{inserted}
-use Rattle.triple_arena_traits.specs.Walks.{values}
-use Rattle.triple_arena_traits.specs.laws.WellFormedLaws.{IsWellFormed-empty, IsWellFormed-inserted, IsWellFormed-removed}
-use Rattle.triple_arena_traits.specs.laws.HistoryLaws.{Fits-compressed, Continues-calls}
+use Rattle.triple_arena.specs.ArenaState.{IsWellFormed}
+use Rattle.triple_arena.specs.Insertion.{inserted}
+use Rattle.triple_arena.specs.Walks.{values}
+use Rattle.triple_arena.specs.laws.WellFormedLaws.{IsWellFormed-empty, IsWellFormed-inserted, IsWellFormed-removed}
+use Rattle.triple_arena.specs.laws.HistoryLaws.{Fits-compressed, Continues-calls}
 use Rattle.triple_arena_uses.specs.FirstHistory.{one_more, with_b, reset, with_e, without_e, later_calls}
 use Rattle.triple_arena_uses.proofs.first_history.history_after_a_reset.Goals as goal
 

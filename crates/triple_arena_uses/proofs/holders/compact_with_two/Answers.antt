@@ -1,8 +1,8 @@
 use Rattle.std.proofs.Common.{rules, sym, ◌∙◌}
 use Rattle.std.specs.Result.{IfErr}
 use Rattle.triple_arena_base.specs.Held.{held_all}
-use Rattle.triple_arena_traits.specs.ArenaState.{arena_len}
-use Rattle.triple_arena_traits.specs.Walks.{values}
+use Rattle.triple_arena.specs.ArenaState.{arena_len}
+use Rattle.triple_arena.specs.Walks.{values}
 use Rattle.triple_arena_direct.specs.Renaming.{first_unresolved, Refuses}
 use Rattle.triple_arena_direct.specs.laws.RenamingLaws.{first_before, first_behind}
 use Rattle.triple_arena_uses.specs.Entities.{p0_numbers}

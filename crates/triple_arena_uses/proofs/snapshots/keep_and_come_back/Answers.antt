@@ -1,6 +1,6 @@
 use Rattle.std.proofs.Common.{true, false, [], ◌∷◌, ◌∙◌, Ok, refl}
-use Rattle.triple_arena_traits.specs.Cloning.{clonable, ClonesInto}
-use Rattle.triple_arena_traits.specs.laws.CopyLaws.{on_ok}
+use Rattle.triple_arena.specs.Cloning.{clonable, ClonesInto}
+use Rattle.triple_arena.specs.laws.CopyLaws.{on_ok}
 use Rattle.triple_arena_uses.proofs.snapshots.keep_and_come_back.Goals as goal
 
 pub returns : goal.returns

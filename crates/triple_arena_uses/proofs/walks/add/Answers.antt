@@ -1,5 +1,5 @@
 use Rattle.std.proofs.Common.{◌+◌, ◌%◌, ◌^◌, rules}
-use Rattle.triple_arena_traits.specs.laws.VisitLaws.{visits_same}
+use Rattle.triple_arena.specs.laws.VisitLaws.{visits_same}
 use Rattle.triple_arena_uses.proofs.walks.add.Goals as goal
 
 pub returns : goal.returns

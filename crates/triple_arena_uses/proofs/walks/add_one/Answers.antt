@@ -1,5 +1,5 @@
 use Rattle.std.proofs.Common.{◌∙◌, sym, refl}
-use Rattle.triple_arena_traits.specs.laws.WalkLaws.{taken, forward_stays}
+use Rattle.triple_arena.specs.laws.WalkLaws.{taken, forward_stays}
 use Rattle.triple_arena_uses.proofs.Mapping.{made_first, made_more, made_all}
 use Rattle.triple_arena_uses.proofs.walks.add_one.Goals as goal
 

@@ -1,6 +1,6 @@
 use Rattle.std.proofs.Common.{◌≡◌, ◌+◌, ◌%◌, ◌^◌, false}
 use Rattle.triple_arena_ptr.specs.Numbers.{greatest_index}
-use Rattle.triple_arena_traits.specs.Walks.{entries, steps_left}
+use Rattle.triple_arena.specs.Walks.{entries, steps_left}
 use Rattle.triple_arena_uses.proofs.Mapping.{IsMadeSoFar}
 use Rattle.triple_arena_uses.proofs.walks.add_one.Given as goal
 

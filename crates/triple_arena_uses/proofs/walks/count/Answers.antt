@@ -1,5 +1,5 @@
 use Rattle.std.proofs.Common.{◌∙◌, length, ap, arith}
-use Rattle.triple_arena_traits.specs.laws.WalkLaws.{one_less, ahead_none, ahead_first, length-entries, forward_stays}
+use Rattle.triple_arena.specs.laws.WalkLaws.{one_less, ahead_none, ahead_first, length-entries, forward_stays}
 use Rattle.triple_arena_uses.proofs.walks.count.Goals as goal
 
 pub walk-init : goal.walk-init

@@ -1,6 +1,6 @@
 use Rattle.std.proofs.Common.{◌≡◌, ◌+◌, length, false}
-use Rattle.triple_arena_traits.specs.Entries.{entry_count}
-use Rattle.triple_arena_traits.specs.Walks.{entries_ahead}
+use Rattle.triple_arena.specs.Entries.{entry_count}
+use Rattle.triple_arena.specs.Walks.{entries_ahead}
 use Rattle.triple_arena_uses.proofs.walks.count.Given as goal
 
 abbrev pub invariant-walk : goal.invariant-walk

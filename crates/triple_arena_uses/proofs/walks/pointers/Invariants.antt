@@ -1,5 +1,5 @@
 use Rattle.std.proofs.Common.{◌≡◌, ◌++◌, map}
-use Rattle.triple_arena_traits.specs.Walks.{keys}
+use Rattle.triple_arena.specs.Walks.{keys}
 use Rattle.triple_arena_uses.proofs.walks.pointers.Given as goal
 
 abbrev pub invariant-walk : goal.invariant-walk

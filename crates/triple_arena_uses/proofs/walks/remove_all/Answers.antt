@@ -1,4 +1,4 @@
-use Rattle.triple_arena_traits.specs.laws.WalkLaws.{taken, others_ahead, none_left}
+use Rattle.triple_arena.specs.laws.WalkLaws.{taken, others_ahead, none_left}
 use Rattle.triple_arena_uses.proofs.walks.remove_all.Goals as goal
 
 pub walk-smaller : goal.walk-smaller

@@ -1,5 +1,5 @@
 use Rattle.triple_arena_ptr.specs.Numbers.{greatest_index}
-use Rattle.triple_arena_traits.specs.Walks.{IsBeforeAll, steps_left}
+use Rattle.triple_arena.specs.Walks.{IsBeforeAll, steps_left}
 use Rattle.triple_arena_uses.proofs.walks.remove_all.Given as goal
 
 abbrev pub invariant-walk : goal.invariant-walk

@@ -2,7 +2,7 @@ use Rattle.std.proofs.Common.{ap}
 use Rattle.std.proofs.lemmas.List.{map_push}
 use Rattle.std.proofs.lemmas.List.Elements.{All-nil}
 use Rattle.triple_arena_ptr.specs.Pointers.{Pointer}
-use Rattle.triple_arena_traits.specs.laws.WalkLaws.{taken}
+use Rattle.triple_arena.specs.laws.WalkLaws.{taken}
 use Rattle.triple_arena_uses.proofs.Renewing.{none_answered, one_answered, answers_rise, all_answered, still_valid, stays, renewed_is}
 use Rattle.triple_arena_uses.proofs.walks.renew_all.Goals as goal
 

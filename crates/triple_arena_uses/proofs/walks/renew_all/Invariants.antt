@@ -1,7 +1,7 @@
 use Rattle.std.proofs.Common.{All, IsSome, map}
 use Rattle.triple_arena_ptr.specs.Numbers.{greatest_index}
-use Rattle.triple_arena_traits.specs.Entries.{look_up}
-use Rattle.triple_arena_traits.specs.Walks.{steps_left}
+use Rattle.triple_arena.specs.Entries.{look_up}
+use Rattle.triple_arena.specs.Walks.{steps_left}
 use Rattle.triple_arena_uses.proofs.Renewing.{HasAnswered}
 use Rattle.triple_arena_uses.proofs.walks.renew_all.Given as goal
 

@@ -1,5 +1,5 @@
 use Rattle.std.proofs.Common.{◌≡◌}
-use Rattle.triple_arena_traits.specs.Drains.{drain_lender}
+use Rattle.triple_arena.specs.Drains.{drain_lender}
 use Rattle.triple_arena_uses.proofs.walks.take_all.Given as goal
 
 abbrev pub invariant-walk : goal.invariant-walk

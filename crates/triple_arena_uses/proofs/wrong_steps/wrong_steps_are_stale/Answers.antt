@@ -1,8 +1,8 @@
 use Rattle.std.proofs.Common.{◌≡◌, ◌&&◌, ◌||◌, ◌∷◌, ◌++◌, [], Bool, true, false, not, List, refl, sym, ap, ◌∙◌, arith, true≢false}
 use Rattle.std.proofs.lemmas.Bool.{and_parts}
 use Rattle.triple_arena_ptr.specs.Pointers.{Pointer}
-use Rattle.triple_arena_traits.specs.Histories.{has, given, ended}
-use Rattle.triple_arena_traits.specs.laws.PointerListLaws.{has-append, has_head, distinct_last}
+use Rattle.triple_arena.specs.Histories.{has, given, ended}
+use Rattle.triple_arena.specs.laws.PointerListLaws.{has-append, has_head, distinct_last}
 use Rattle.triple_arena_uses.proofs.wrong_steps.wrong_steps_are_stale.Goals as goal
 
 or_true : (a : Bool) → (a || true) ≡ true

@@ -3,7 +3,7 @@ use Rattle.std.proofs.lemmas.Result.{on_ok_weaker, MatchResult-weaker}
 use Rattle.triple_arena_base.specs.HeldLists.{nothing_in_all}
 use Rattle.triple_arena_ptr.specs.declared.P0.{P0}
 use Rattle.triple_arena_ptr.specs.declared.Q2.{Q2}
-use Rattle.triple_arena_traits.specs.Walks.{values}
+use Rattle.triple_arena.specs.Walks.{values}
 use Rattle.triple_arena_direct.specs.laws.RenamingBothLaws.{found_read_both}
 use Rattle.triple_arena_uses.specs.Circuit.{cell_read, net_read, cells_renamed, nets_renamed}
 use Rattle.triple_arena_uses.proofs.Circuits.{net_follows, cell_follows, both_stay}

@@ -1,5 +1,5 @@
 use Rattle.std.proofs.Common.{rules}
-use Rattle.triple_arena_traits.specs.laws.ReadLaws.{any_found, none_found}
+use Rattle.triple_arena.specs.laws.ReadLaws.{any_found, none_found}
 use Rattle.triple_arena_uses.specs.Entities.{p0_numbers}
 use Rattle.triple_arena_uses.specs.Circuit.{net_read, leads_to}
 use Rattle.triple_arena_uses.proofs.circuit.ends.is_led_to.Goals as goal

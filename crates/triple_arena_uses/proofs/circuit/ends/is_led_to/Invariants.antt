@@ -1,6 +1,6 @@
 use Rattle.std.proofs.Common.{◌≡◌}
 use Rattle.std.specs.List.{list_any}
-use Rattle.triple_arena_traits.specs.Walks.{values}
+use Rattle.triple_arena.specs.Walks.{values}
 use Rattle.triple_arena_uses.specs.Entities.{p0_numbers}
 use Rattle.triple_arena_uses.specs.Circuit.{net_read, leads_to}
 use Rattle.triple_arena_uses.proofs.circuit.ends.is_led_to.Given as goal

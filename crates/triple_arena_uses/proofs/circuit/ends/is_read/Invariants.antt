@@ -1,6 +1,6 @@
 use Rattle.std.proofs.Common.{◌≡◌}
 use Rattle.std.specs.List.{list_any}
-use Rattle.triple_arena_traits.specs.Walks.{values}
+use Rattle.triple_arena.specs.Walks.{values}
 use Rattle.triple_arena_uses.specs.Circuit.{q2_numbers, cell_read, reads_net}
 use Rattle.triple_arena_uses.proofs.circuit.ends.is_read.Given as goal
 

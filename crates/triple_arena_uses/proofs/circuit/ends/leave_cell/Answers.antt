@@ -1,5 +1,5 @@
 use Rattle.std.proofs.Common.{rules}
-use Rattle.triple_arena_traits.specs.laws.ReadLaws.{visits_found}
+use Rattle.triple_arena.specs.laws.ReadLaws.{visits_found}
 use Rattle.triple_arena_uses.specs.Entities.{p0_numbers}
 use Rattle.triple_arena_uses.specs.Circuit.{net_read, without_cell}
 use Rattle.triple_arena_uses.proofs.circuit.ends.leave_cell.Goals as goal

@@ -1,5 +1,5 @@
 use Rattle.std.proofs.Common.{rules}
-use Rattle.triple_arena_traits.specs.laws.ReadLaws.{visits_found}
+use Rattle.triple_arena.specs.laws.ReadLaws.{visits_found}
 use Rattle.triple_arena_uses.specs.Circuit.{q2_numbers, cell_read, without_net}
 use Rattle.triple_arena_uses.proofs.circuit.ends.leave_net.Goals as goal
 

@@ -1,7 +1,7 @@
 use Rattle.std.proofs.Common.{◌≡◌, [], map, ap, rules}
-use Rattle.triple_arena_traits.specs.ArenaState.{arena_len}
-use Rattle.triple_arena_traits.specs.Histories.{begun_with}
-use Rattle.triple_arena_traits.specs.laws.HistoryLaws.{Fits-empty}
+use Rattle.triple_arena.specs.ArenaState.{arena_len}
+use Rattle.triple_arena.specs.Histories.{begun_with}
+use Rattle.triple_arena.specs.laws.HistoryLaws.{Fits-empty}
 use Rattle.triple_arena_uses.specs.Entities.{p0_numbers}
 use Rattle.triple_arena_uses.proofs.guest_book.GuestBook.new.Goals as goal
 

@@ -2,8 +2,8 @@ use Rattle.std.proofs.Common.{◌≡◌, map, ap, ◌∙◌}
 use Rattle.triple_arena_base.specs.Invalidation.{allowed_option}
 use Rattle.triple_arena_base.specs.declared.invalidation.InvalidationOption.{InvalidationOption}
 use Rattle.triple_arena_ptr.specs.Pointers.{Pointer}
-use Rattle.triple_arena_traits.specs.Walks.{keys, values}
-use Rattle.triple_arena_direct_arena.specs.DirectState.{DirectState}
+use Rattle.triple_arena.specs.Walks.{keys, values}
+use Rattle.triple_arena_direct.specs.DirectState.{DirectState}
 use Rattle.triple_arena_direct.specs.Renaming.{MapsPointers}
 use Rattle.triple_arena_uses.specs.Netlist.{wires_of, wires, rewired}
 use Rattle.triple_arena_uses.proofs.Rewiring.{wires_renamed, told_if_ok}

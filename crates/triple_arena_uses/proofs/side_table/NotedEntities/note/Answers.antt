@@ -1,5 +1,5 @@
 use Rattle.std.proofs.Common.{◌∙◌, is_some, ap}
-use Rattle.triple_arena_traits.specs.Entries.{look_up}
+use Rattle.triple_arena.specs.Entries.{look_up}
 use Rattle.triple_arena_uses.specs.Entities.{p0_numbers}
 use Rattle.triple_arena_uses.specs.Notes.{Noted}
 use Rattle.triple_arena_uses.proofs.side_table.NotedEntities.note.Goals as goal

@@ -1,10 +1,10 @@
 use Rattle.std.proofs.Common.{◌≤◌, ◌∙◌, [], ◌∷◌, None, refl, sym, ap, subst}
 use Rattle.triple_arena_ptr.specs.Pointers.{Pointer}
-use Rattle.triple_arena_traits.specs.ArenaState.{ArenaState}
-use Rattle.triple_arena_traits.specs.Insertion.{next_pointer}
-use Rattle.triple_arena_direct_arena.specs.DirectState.{direct_capacity, inserted_at}
-use Rattle.triple_arena_direct_arena.specs.Mirrors.{Makes}
-use Rattle.triple_arena_direct_arena.specs.Mirrors.Change.{comes}
+use Rattle.triple_arena.specs.ArenaState.{ArenaState}
+use Rattle.triple_arena.specs.Insertion.{next_pointer}
+use Rattle.triple_arena_direct.specs.DirectState.{direct_capacity, inserted_at}
+use Rattle.triple_arena_direct.specs.Mirrors.{Makes}
+use Rattle.triple_arena_direct.specs.Mirrors.Change.{comes}
 use Rattle.triple_arena_uses.specs.declared.entity_table.Entity.{Entity}
 use Rattle.triple_arena_uses.proofs.side_table.NotedEntities.spawn.Goals as goal
 

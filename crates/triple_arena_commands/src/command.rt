@@ -45,6 +45,7 @@ pub enum Command<X> {
 ///
 /// A number `N` is one or more decimal digits, of a value of at most `u64::MAX`, and a link `L`
 /// is a dash or a number. `None` exactly where the line has none of these forms.
+#[inline(always)]
 pub fn parse_command(line: &[u8]) -> Option<Command<u64>>
     ensures { result ≡ command_of line.now }
 {
@@ -56,6 +57,7 @@ pub fn parse_command(line: &[u8]) -> Option<Command<u64>>
 }
 
 // The command of a verb and the words after it.
+#[inline(always)]
 fn parse_arguments(verb: &[u8], rest: &[u8]) -> Option<Command<u64>>
     ensures { result ≡ command_of_words (verb.now ∷ words_of rest.now) }
 {

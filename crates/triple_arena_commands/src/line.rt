@@ -12,6 +12,7 @@ use itoa::write_digits;
 pub(crate) const LINE_ROOM: usize = 70;
 
 /// Puts a line of these parts at the end of the room, and gives its start.
+#[inline(always)]
 pub(crate) fn put_line(parts: Parts, room: &mut [u8; LINE_ROOM]) -> usize
     requires { length parts.0.now ≤ 20 }
     ensures within { result ≤ 70 }
@@ -27,6 +28,7 @@ pub(crate) fn put_line(parts: Parts, room: &mut [u8; LINE_ROOM]) -> usize
 }
 
 // Each of these puts a text before the place `end`, and gives the place where it begins.
+#[inline(always)]
 fn put(text: &str, room: &mut [u8; LINE_ROOM], end: usize) -> usize
     requires { (length text.now ≤ end) × (end ≤ 70) }
     ensures start { result + length text.now ≡ end }
@@ -37,6 +39,7 @@ fn put(text: &str, room: &mut [u8; LINE_ROOM], end: usize) -> usize
     start
 }
 
+#[inline(always)]
 fn put_wrapped(wrapped: bool, room: &mut [u8; LINE_ROOM], end: usize) -> usize
     requires { (8 ≤ end) × (end ≤ 70) }
     ensures start { (end ≤ result + 8) × (result ≤ end) }
@@ -49,6 +52,7 @@ fn put_wrapped(wrapped: bool, room: &mut [u8; LINE_ROOM], end: usize) -> usize
     }
 }
 
+#[inline(always)]
 fn put_numbers(numbers: Numbers, room: &mut [u8; LINE_ROOM], end: usize) -> usize
     requires { (41 ≤ end) × (end ≤ 70) }
     ensures start { (end ≤ result + 41) × (result ≤ end) }
@@ -65,6 +69,7 @@ fn put_numbers(numbers: Numbers, room: &mut [u8; LINE_ROOM], end: usize) -> usiz
     }
 }
 
+#[inline(always)]
 fn put_link(link: Option<usize>, room: &mut [u8; LINE_ROOM], end: usize) -> usize
     requires { (20 ≤ end) × (end ≤ 70) }
     ensures start { (end ≤ result + 20) × (result ≤ end) }
@@ -76,6 +81,7 @@ fn put_link(link: Option<usize>, room: &mut [u8; LINE_ROOM], end: usize) -> usiz
     }
 }
 
+#[inline(always)]
 fn put_number(number: u64, room: &mut [u8; LINE_ROOM], end: usize) -> usize
     requires { (20 ≤ end) × (end ≤ 70) }
     ensures start { (end ≤ result + 20) × (result ≤ end) }

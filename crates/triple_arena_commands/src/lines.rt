@@ -7,6 +7,7 @@ ghost use Rattle.triple_arena_commands.specs.Lines.{parts_of, parts_after, lengt
 use memchr::memchr;
 
 /// The part before the first byte `at`, and what follows that byte, where there is one.
+#[inline(always)]
 pub fn split_first(bytes: &[u8], at: u8) -> (&[u8], Option<&[u8]>)
     ensures parts { parts_of at bytes.now ≡ result.0.now ∷ parts_after at (option_copied result.1) }
     ensures length { length result.0.now + length_after (option_copied result.1) ≡ length bytes.now }

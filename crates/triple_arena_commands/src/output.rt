@@ -19,6 +19,7 @@ const MOST_TRIES: u64 = 4294967296;
 ///
 /// The error is `Write`, where a write failed, took no byte, or was interrupted so often; then a front of
 /// the line was written, but not all of it. What was written is said of a writer that tells its bytes.
+#[inline(always)]
 pub fn write_reply<W: Write>(output: &mut W, reply: &Reply<u64>) -> Result<(), TextError>
     ensures ok { OnOk result
         (Appends (W.contents output.old) (W.contents output.new) (reply_line reply.now)) }
@@ -50,6 +51,7 @@ fn write_shown<W: Write>(output: &mut W, text: &str) -> Result<(), TextError>
 }
 
 // Writes all of these bytes.
+#[inline(always)]
 fn write_all<W: Write>(output: &mut W, bytes: &[u8]) -> Result<(), TextError>
     ensures ok { OnOk result
         (Appends (W.contents output.old) (W.contents output.new) bytes.now) }
@@ -69,6 +71,7 @@ fn write_all<W: Write>(output: &mut W, bytes: &[u8]) -> Result<(), TextError>
 
 // How many of these bytes a write took. `None` where it failed, took none, or was interrupted so often
 // that it isn't tried again.
+#[inline(always)]
 fn write_some<W: Write>(output: &mut W, bytes: &[u8]) -> Option<usize>
     ensures some { IfSome result (λ count. 0 < count) }
     ensures within { IfSome result (λ count. count ≤ length bytes.now) }

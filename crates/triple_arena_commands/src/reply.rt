@@ -73,6 +73,7 @@ pub(crate) enum Numbers {
 }
 
 /// The parts of a reply's text, or `Err`, the text of a `Line`, which may have any length.
+#[inline(always)]
 pub(crate) fn parts_of(reply: &Reply<u64>) -> Result<Parts, &str>
     ensures text { IfOk result (λ parts. parts.0.now ++ numbers_text parts.1
         ++ wrapped_text parts.2 ≡ reply_text reply.now) }

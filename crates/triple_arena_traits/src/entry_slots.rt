@@ -68,6 +68,7 @@ pub fn extend<P: Ptr, T, X: EntrySlot<P, T>, S: NonZeroInxGenericStack<X>>(
 }
 
 /// The least index of an entry at or above this one, if there is one.
+#[inline(always)]
 pub fn live_from<P: Ptr, T, X: EntrySlot<P, T>, S: NonZeroInxGenericStack<X>>(
     stack: &S,
     from: NonZeroUsize,

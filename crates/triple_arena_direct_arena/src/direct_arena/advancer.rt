@@ -22,6 +22,7 @@ impl<P: Ptr, T, S: NonZeroInxGenericStack<DirectSlot<P, T>>> Advancer<DirectAren
     ghost left = { λ s _. steps_left (greatest_index P.Inx.greatest) s };
 
     #[tactic(auto, using(triple_arena_traits::specs::laws::WalkLaws::fewer_left))]
+    #[inline(always)]
     fn advance(&mut self, arena: &DirectArena<P, T, S>) -> Option<P> {
         // By its clauses, no slot is past the greatest index.
         let _capacity = arena.capacity();

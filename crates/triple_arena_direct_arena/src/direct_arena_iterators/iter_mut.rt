@@ -62,6 +62,7 @@ impl<'a, P: Ptr, T: 'a> Iterator for IterMut<'a, P, T> {
         (0, Some(self.left))
     }
 
+    #[inline(always)]
     fn next(&mut self) -> Option<(P, &'a mut T)> {
         'slots: while self.left > 0 {
             let inx = self.next;
@@ -105,6 +106,7 @@ impl<'a, P: Ptr, T: 'a> Iterator for ValsMut<'a, P, T> {
         self.entries.size_hint()
     }
 
+    #[inline(always)]
     fn next(&mut self) -> Option<&'a mut T> {
         let (_p, value) = self.entries.next()?;
         Some(value)

@@ -50,6 +50,9 @@ impl<'a, P: Ptr, T: 'a, A: CompactArenaTrait<P, T>> Iterator for Iter<'a, P, T, 
 
     ghost remaining = { λ rest. at_most (length rest) };
 
+    // Where this is inlined, as all below it, the compiler sees that the look-up finds what the step found, and each slot
+    // is looked at once.
+    #[inline(always)]
     fn next(&mut self) -> Option<(P, &'a T)> {
         let arena = self.arena;
         let p = self.advancer.advance(arena)?;
@@ -101,6 +104,7 @@ impl<'a, P: Ptr, T, A: CompactArenaTrait<P, T>> Iterator for Ptrs<'a, P, T, A> {
 
     ghost remaining = { λ rest. at_most (length rest) };
 
+    #[inline(always)]
     fn next(&mut self) -> Option<P> {
         self.advancer.advance(self.arena)
     }
@@ -143,6 +147,7 @@ impl<'a, P: Ptr, T: 'a, A: CompactArenaTrait<P, T>> Iterator for Vals<'a, P, T, 
 
     ghost remaining = { λ rest. at_most (length rest) };
 
+    #[inline(always)]
     fn next(&mut self) -> Option<&'a T> {
         let (_p, value) = self.entries.next()?;
         Some(value)

@@ -72,6 +72,7 @@ impl<P: Ptr> PtrAdvancer<P> {
 
     /// A step over these slots (`Steps`), which are no more than there are indexes: the pointer of
     /// the next live index in its direction, if there is one.
+    #[inline(always)]
     pub fn step<T, X: EntrySlot<P, T>, S: NonZeroInxGenericStack<X>>(
         &mut self,
         stack: &S,

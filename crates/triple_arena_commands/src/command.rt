@@ -69,6 +69,7 @@ fn parse_arguments(verb: &[u8], rest: &[u8]) -> Option<Command<u64>>
 }
 
 // The command of a verb, a word that writes this number, and the words after it.
+#[inline(always)]
 fn parse_after_first(verb: &[u8], first: u64, rest: &[u8]) -> Option<Command<u64>>
     ensures { (word : List ℕ) → number_of word ≡ Some first
         → result ≡ command_of_words (verb.now ∷ word ∷ words_of rest.now) }
@@ -82,6 +83,7 @@ fn parse_after_first(verb: &[u8], first: u64, rest: &[u8]) -> Option<Command<u64
 
 // The command of a verb, two words that write this name and this link, and the words after them. A link
 // that is there writes a datum, too.
+#[inline(always)]
 fn parse_after_second(
     verb: &[u8],
     name: usize,
@@ -100,6 +102,7 @@ fn parse_after_second(
 }
 
 // The command of a verb that stands alone.
+#[inline(always)]
 fn parse_bare(verb: &[u8]) -> Option<Command<u64>>
     ensures { result ≡ bare_of verb.now }
 {
@@ -119,6 +122,7 @@ fn parse_bare(verb: &[u8]) -> Option<Command<u64>>
 }
 
 // The command of a verb before a number.
+#[inline(always)]
 fn parse_numbered(verb: &[u8], number: usize) -> Option<Command<u64>>
     ensures { result ≡ numbered verb.now number }
 {
@@ -136,6 +140,7 @@ fn parse_numbered(verb: &[u8], number: usize) -> Option<Command<u64>>
 }
 
 // The command of a verb before a datum and a link.
+#[inline(always)]
 fn parse_insert(verb: &[u8], datum: u64, link: Option<usize>) -> Option<Command<u64>>
     ensures { result ≡ linked verb.now datum link }
 {
@@ -149,6 +154,7 @@ fn parse_insert(verb: &[u8], datum: u64, link: Option<usize>) -> Option<Command<
 }
 
 // The command of a verb before a name, a datum and a link.
+#[inline(always)]
 fn parse_set(verb: &[u8], name: usize, datum: u64, link: Option<usize>) -> Option<Command<u64>>
     ensures { result ≡ set_of verb.now (Some name) (Some datum) (Some link) }
 {

@@ -1,5 +1,5 @@
 -- A strict session answers as the strict store that it shows, and its counter never wraps.
-use Rattle.std.proofs.Common.{◌≡◌, ◌↔◌, ℕ, ◌+◌, ◌-◌, ◌≤◌, ◌==◌, nat_lt, ◌&&◌, Bool, true, false, List, [], ◌∷◌, length, take, is_some, cond, refl, sym, ap, subst, ◌∙◌, arith, true≢false}
+use Rattle.std.proofs.Common.{◌≡◌, ◌↔◌, ℕ, ◌+◌, ◌-◌, ◌≤◌, ◌==◌, nat_lt, ◌&&◌, Bool, true, false, List, [], ◌∷◌, length, take, is_some, cond, Result, Ok, Err, IfOk, OnErr, refl, sym, ap, subst, ◌∙◌, arith, true≢false}
 use Rattle.std.specs.Option.{option_map}
 use Rattle.std.specs.List.{list_all, list_any}
 use Rattle.std.proofs.lemmas.Bool.{and_parts}
@@ -20,14 +20,14 @@ use Rattle.triple_arena_commands.specs.laws.StrictStoreLaws.{unless_so, refused_
 use Rattle.triple_arena_session.specs.SessionState.{SessionState, named}
 use Rattle.triple_arena_session.specs.SessionRun.{IsStep}
 use Rattle.triple_arena_session.specs.SessionCalls.{calls_of, calls_in}
-use Rattle.triple_arena_session.specs.Shown.{as_row, shown, IsArenaOver}
+use Rattle.triple_arena_session.specs.Shown.{as_row, shown, IsSound, IsArenaOver}
 use Rattle.triple_arena_session.specs.StrictSession.{raises_counter, is_refused, IsStrictSessionStep, strictly_shown}
 use Rattle.triple_arena_session.proofs.Rows.{is_some-map, row_count-shown}
 use Rattle.triple_arena_session.proofs.Continuing.{raised_by_one, GoesOn, goes_same, StepGoesOn, StepsKeepHistories}
 use Rattle.triple_arena_session.proofs.StoreSteps.{row_named}
 use Rattle.triple_arena_session.proofs.StoreLaws.{StepIsStores}
 use Rattle.triple_arena_session.proofs.StoreRunLaws.{whole_if_quiet}
-use Rattle.triple_arena_session.proofs.Soundness.{SoundOver}
+use Rattle.triple_arena_session.proofs.Soundness.{SoundOver, sound_over}
 use Rattle.triple_arena_session.proofs.StrictSteps.{step_counts}
 
 -- no raise is left exactly where the next one wraps
@@ -211,3 +211,16 @@ module _ {X : Type 0} (kind : StackKind) (has_memory : ℕ → Type 0) (generati
   StrictRunsAll s commands replies t ran =
       let quiet = StrictRunIsQuiet s (take (length replies) commands) replies t ran.0 in
       subst (λ cs. IsRun (IsStrictSessionStep kind has_memory generations) s cs replies t) (whole_if_quiet commands replies quiet ran.1) ran.0
+
+  -- where generations count, each step leaves the session sound, and so does a run, also one that was refused and did not begin
+  module _ (counts : generations.counting ≡ true) (s : SessionState X) (over : IsArenaOver kind s.arena) (within : s.arena.counter ≤ generations.greatest) (sound : IsSound s) where
+    strictly : StrictlySound kind has_memory generations counts s
+    strictly = record { sound = sound_over kind s sound over; within = within }
+
+    pub StrictStepKeepsSound : (command : Command X) (reply : Reply X) (t : SessionState X) → IsStrictSessionStep kind has_memory generations s command reply t → IsSound t
+    StrictStepKeepsSound command reply t step = (StrictStepIsStores kind has_memory generations counts s command reply t strictly step).sound.sound.table
+
+    pub StrictRunKeepsSound : {A E : Type 0} (commands : List (Command X)) (result : Result A E) (replies : A → List (Reply X)) (t : SessionState X) → IfOk result (λ a. RunsToWrap (IsStrictSessionStep kind has_memory generations) s commands (replies a) t) → OnErr result (t ≡ s) → IsSound t
+    StrictRunKeepsSound commands (Ok a) replies t ran kept =
+        (StrictRunIsStores kind has_memory generations counts s commands (replies a) t strictly (StrictRunsAll s commands (replies a) t ran)).sound.sound.table
+    StrictRunKeepsSound commands (Err e) replies t ran kept = subst IsSound (sym kept) sound

@@ -116,10 +116,10 @@ pub fn session_runs_keep_histories<P: Ptr, X, S: NonZeroInxGenericStack<ArenaSlo
 
 /// A step of a strict session is one of the strict store that it shows, where the generation counts,
 /// the session is sound, its arena is as every arena over the stack is, and its counter is at most the
-/// greatest generation, as each is. All this holds after it too, and no reply tells of a wrap. Of any
-/// session, sound or not, whose counter may be any number, the calls on the arena take each history that
-/// fits it to one that fits, so that no pointer is given that such a history has. One fits every strict
-/// session, as the clauses `begun` of its calls say.
+/// greatest generation: so it is of every strict session, as the clauses `was_sound`, `arena` and `within`
+/// of its calls say. All this holds after it too, and no reply tells of a wrap. Whether it is sound or not,
+/// and with any counter, the calls on the arena take each history that fits it to one that fits, so that no
+/// pointer is given that such a history has. One fits every strict session, as the clauses `begun` say.
 pub fn strict_session_steps_as_store<
     P: Ptr,
     X,

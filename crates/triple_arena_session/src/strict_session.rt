@@ -32,7 +32,8 @@ use triple_arena_stack::{NonZeroInxGenericStack, NonZeroInxVec};
 
 /// A session over a strict arena: a command that would raise the counter past the greatest generation is
 /// answered `Exhausted`, and changes nothing. So no reply tells of a wrap, and no pointer is ever given
-/// twice, however long the session is used.
+/// twice, however long the session is used. Where generations count it is sound at any time, whatever was
+/// done before.
 #[derive(Drop)]
 pub struct StrictSession<
     P: Ptr,
@@ -44,11 +45,16 @@ pub struct StrictSession<
 
 impl<P: Ptr, X, S: NonZeroInxGenericStack<ArenaSlot<P, Node<X, P>>>> Model
     for StrictSession<P, X, S> {
+    ghost use Rattle.std.specs.Prelude.{◌≡◌, true};
     ghost use Rattle.triple_arena_session.specs.SessionState.{SessionState};
+    ghost use Rattle.triple_arena_session.specs.Shown.{IsSound};
 
     ghost Value = { SessionState X };
 
     ghost view = { λ s. s.inside };
+
+    // no step wraps the counter, and a session may be unsound after a wrap alone
+    ghost invariant = { λ s. P.Gen.generations.counting ≡ true → IsSound s.inside };
 }
 
 impl<P: Ptr, X: Copy, S: NonZeroInxGenericStack<ArenaSlot<P, Node<X, P>>>> StrictSession<P, X, S> {
@@ -112,11 +118,11 @@ impl<P: Ptr, X: Copy, S: NonZeroInxGenericStack<ArenaSlot<P, Node<X, P>>>> Stric
     /// `Invalidate` of a live name, after `Invalid` and before `NoMemory`, and `Clear` and `Compact`
     /// where there is an entry, before all else. Then nothing changes. No reply tells of a wrap.
     ///
-    /// A sound session answers as the strict store of names that it shows, shows what the store
-    /// becomes, and is sound. Of any session, sound or not, the pointers of the entries begin a history
-    /// (`begun`), and the calls on its arena take each history that fits it to one that fits (`history`):
-    /// so every pointer that was given is new. Of the session before it tells what is true of each
-    /// (`arena`, `within`), so that the law `strict_session_steps_as_store` can be used of its steps.
+    /// It answers as the strict store of names that the session shows, which then shows what the store
+    /// becomes. The pointers of the entries begin a history (`begun`), and the calls on the arena take each
+    /// history that fits it to one that fits (`history`): so every pointer that was given is new. Of the
+    /// session before it tells what is true of each (`arena`, `within`, `was_sound`), so that the law
+    /// `strict_session_steps_as_store` can be used of its steps.
     pub fn step(&mut self, command: Command<X>) -> Reply<X>
     where
         X: Debug,
@@ -126,10 +132,11 @@ impl<P: Ptr, X: Copy, S: NonZeroInxGenericStack<ArenaSlot<P, Node<X, P>>>> Stric
             ↔ (is_refused P.Gen.generations self.old command ≡ true) }
         ensures unchanged { result ≡ Exhausted → self.new ≡ self.old }
         ensures quiet { tells_of_wrap result ≡ false }
-        ensures store { P.Gen.generations.counting ≡ true → IsSound self.old → IsStrictStoreStep
+        ensures store { P.Gen.generations.counting ≡ true → IsStrictStoreStep
             (strictly_shown P.Gen.generations.greatest self.old) command result
             (strictly_shown P.Gen.generations.greatest self.new) }
-        ensures sound { P.Gen.generations.counting ≡ true → IsSound self.old → IsSound self.new }
+        ensures was_sound { P.Gen.generations.counting ≡ true → IsSound self.old }
+        ensures sound { P.Gen.generations.counting ≡ true → IsSound self.new }
         ensures history { P.Gen.generations.counting ≡ true
             → Continues Fits self.old.arena (calls_of self.old command result) self.new.arena }
         ensures begun { P.Gen.generations.counting ≡ true
@@ -147,11 +154,11 @@ impl<P: Ptr, X: Copy, S: NonZeroInxGenericStack<ArenaSlot<P, Node<X, P>>>> Stric
     /// There is room for all replies first: where memory for it is refused, nothing is done. For no
     /// commands none is asked for.
     ///
-    /// A sound session answers as the strict store of names that it shows, shows what the store
-    /// becomes, and is sound. Every pointer that was given is new, of any session, sound or not, as the
-    /// pointers of its entries begin a history (`begun`), and each that fits goes on (`history`). Of
-    /// named commands, which are all but `Capacity`, `Reserve` and `Show`, and with neither `NoMemory`
-    /// nor `Exhausted` among the replies, compactions change no other reply.
+    /// They are answered as by the strict store of names that the session shows, which then shows what the
+    /// store becomes. Every pointer that was given is new, as the pointers of the entries begin a history
+    /// (`begun`), and each that fits goes on (`history`). Of named commands, which are all but `Capacity`,
+    /// `Reserve` and `Show`, and with neither `NoMemory` nor `Exhausted` among the replies, compactions
+    /// change no other reply.
     pub fn run(&mut self, commands: &[Command<X>]) -> Result<Vec<Reply<X>>, AllocError>
     where
         X: Debug,
@@ -162,16 +169,15 @@ impl<P: Ptr, X: Copy, S: NonZeroInxGenericStack<ArenaSlot<P, Node<X, P>>>> Stric
         ensures quiet { IfOk result (λ replies. TellsOfNoWrap replies.items) }
         ensures refused { OnErr result (self.new ≡ self.old) }
         ensures succeeds { commands.now ≡ [] → IsOk result }
-        ensures store { P.Gen.generations.counting ≡ true → IsSound self.old
-            → IfOk result (λ replies.
+        ensures store { P.Gen.generations.counting ≡ true → IfOk result (λ replies.
             IsRun IsStrictStoreStep (strictly_shown P.Gen.generations.greatest self.old)
             commands.now replies.items (strictly_shown P.Gen.generations.greatest self.new)) }
-        ensures sound { P.Gen.generations.counting ≡ true → IsSound self.old → IsSound self.new }
+        ensures was_sound { P.Gen.generations.counting ≡ true → IsSound self.old }
+        ensures sound { P.Gen.generations.counting ≡ true → IsSound self.new }
         ensures history { P.Gen.generations.counting ≡ true → IfOk result (λ replies.
             RunsFreshly (IsStrictSessionStep S.kind S.has_memory P.Gen.generations)
             self.old commands.now replies.items self.new) }
-        ensures unseen { P.Gen.generations.counting ≡ true → IsSound self.old
-            → IfOk result (λ replies.
+        ensures unseen { P.Gen.generations.counting ≡ true → IfOk result (λ replies.
             list_all is_named commands.now ≡ true → list_any is_no_memory replies.items ≡ false
             → list_any tells_exhausted replies.items ≡ false
             → seen commands.now replies.items ≡ ample (shown self.old) (erase commands.now)) }

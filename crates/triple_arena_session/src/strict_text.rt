@@ -1,6 +1,6 @@
 //! The run of a text in a strict session.
 
-ghost use Rattle.std.specs.Prelude.{◌≡◌, ◌≤◌, IfSome, true};
+ghost use Rattle.std.specs.Prelude.{◌≡◌, ◌≤◌, true};
 ghost use Rattle.std.specs.Io.Buffered.{writer_contents};
 ghost use Rattle.triple_arena_traits.specs.Walks.{keys};
 ghost use Rattle.triple_arena_traits.specs.Histories.{begun_with, Fits};
@@ -21,11 +21,11 @@ use triple_arena_stack::NonZeroInxGenericStack;
 /// Runs the commands of a text in a strict session, as `run_text` does in another. No reply tells of a
 /// wrap, so none ends the run: where the outcome is `Ok`, all lines were answered.
 ///
-/// In a sound session the lines are answered as by the strict store of names that it shows, and
-/// compactions change no other line, as `StrictSession::run` says. It shows what the store became, where
-/// the writer failed by the first lines, and is sound after the run, however it ended: so one text may
-/// follow another. All this is said of readers and writers that tell their bytes. Of any session, sound
-/// or not, the pointers of the entries begin a history (`begun`), as `StrictSession::step` says.
+/// The lines are answered as by the strict store of names that the session shows, and compactions change
+/// no other line, as `StrictSession::run` says. It shows what the store became, where the writer failed by
+/// the first lines. This is said of readers and writers that tell their bytes. Whatever they tell, the session
+/// is sound after the run, however it ended (`sound`): so one text may follow another. The pointers of the
+/// entries begin a history (`begun`), as `StrictSession::step` says.
 pub fn run_text_strict<
     P: Ptr,
     S: NonZeroInxGenericStack<ArenaSlot<P, Node<u64, P>>>,
@@ -40,12 +40,12 @@ pub fn run_text_strict<
     ensures run { IsWholeTextRun (IsStrictSessionStep S.kind S.has_memory P.Gen.generations)
         (R.remaining input.old) result
         session.old session.new (W.contents output.old) (W.contents output.new) }
-    ensures store { P.Gen.generations.counting ≡ true → IsSound session.old
+    ensures store { P.Gen.generations.counting ≡ true
         → IsStrictStoreText (strictly_shown P.Gen.generations.greatest session.old)
         (strictly_shown P.Gen.generations.greatest session.new)
         (R.remaining input.old) result (W.contents output.old) (W.contents output.new) }
-    ensures sound { P.Gen.generations.counting ≡ true → IsSound session.old
-        → IfSome (R.remaining input.old) (λ _. IsSound session.new) }
+    ensures was_sound { P.Gen.generations.counting ≡ true → IsSound session.old }
+    ensures sound { P.Gen.generations.counting ≡ true → IsSound session.new }
     ensures begun { P.Gen.generations.counting ≡ true
         → Fits (begun_with (keys session.old.arena.slots)) session.old.arena }
     ensures arena { IsArenaOver S.kind session.old.arena }
@@ -61,8 +61,8 @@ pub fn run_text_strict<
 ///
 /// Of a run that failed by reading or for want of memory nothing was written, and at the other
 /// outcomes but `Write` the writer below holds each reply line. At `Write` it holds a front of the
-/// reply lines of the commands that ran. A failed flush is `Write`. In a sound session the lines
-/// are those of a strict store of names, and it is left, as `run_text_strict` says.
+/// reply lines of the commands that ran. A failed flush is `Write`. The lines are those of a strict store of
+/// names, and the session is left, as `run_text_strict` says.
 pub fn run_text_strict_and_flush<
     P: Ptr,
     S: NonZeroInxGenericStack<ArenaSlot<P, Node<u64, P>>>,
@@ -77,12 +77,12 @@ pub fn run_text_strict_and_flush<
     ensures run { IsWholeFlushedRun (IsStrictSessionStep S.kind S.has_memory P.Gen.generations)
         (R.remaining input.old) result.0
         session.old session.new (writer_contents W.contents output) (W.contents result.1) }
-    ensures store { P.Gen.generations.counting ≡ true → IsSound session.old
+    ensures store { P.Gen.generations.counting ≡ true
         → IsStrictStoreText (strictly_shown P.Gen.generations.greatest session.old)
         (strictly_shown P.Gen.generations.greatest session.new)
         (R.remaining input.old) result.0 (writer_contents W.contents output) (W.contents result.1) }
-    ensures sound { P.Gen.generations.counting ≡ true → IsSound session.old
-        → IfSome (R.remaining input.old) (λ _. IsSound session.new) }
+    ensures was_sound { P.Gen.generations.counting ≡ true → IsSound session.old }
+    ensures sound { P.Gen.generations.counting ≡ true → IsSound session.new }
     ensures begun { P.Gen.generations.counting ≡ true
         → Fits (begun_with (keys session.old.arena.slots)) session.old.arena }
     ensures arena { IsArenaOver S.kind session.old.arena }

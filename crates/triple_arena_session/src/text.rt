@@ -55,7 +55,8 @@ pub fn run_text<P: Ptr, S: NonZeroInxGenericStack<ArenaSlot<P, Node<u64, P>>>, R
     read_and_run(&mut session.inside, alloc, input, output)
 }
 
-/// The body of `run_text`, of a session of any arena: reads a text to its end and runs its lines.
+/// The body of `run_text`, of a session of any arena: reads a text to its end and runs its lines. One over a
+/// strict arena stays sound (`kept`), also where the reader doesn't tell its bytes.
 pub(crate) fn read_and_run<
     P: Ptr,
     S: NonZeroInxGenericStack<ArenaSlot<P, Node<u64, P>>>,
@@ -68,10 +69,13 @@ pub(crate) fn read_and_run<
     input: &mut R,
     output: &mut W,
 ) -> Result<(), TextError>
-    ensures { IsTextRun (IsStepOf A.strict S.kind S.has_memory P.Gen.generations)
+    ensures run { IsTextRun (IsStepOf A.strict S.kind S.has_memory P.Gen.generations)
         (R.remaining input.old) result
         session.old session.new (W.contents output.old) (W.contents output.new) }
+    ensures kept { A.strict ≡ true → P.Gen.generations.counting ≡ true
+        → IsSound session.old → IsSound session.new }
 {
+    session.tell_arena();
     let text = read_text(alloc, input)?;
     run_lines(session, text.as_slice(), output)
 }
@@ -122,9 +126,11 @@ pub(crate) fn run_and_flush<
     input: &mut R,
     mut output: BufWriter<W>,
 ) -> (Result<(), TextError>, W)
-    ensures { IsFlushedRun (IsStepOf A.strict S.kind S.has_memory P.Gen.generations)
+    ensures run { IsFlushedRun (IsStepOf A.strict S.kind S.has_memory P.Gen.generations)
         (R.remaining input.old) result.0
         session.old session.new (writer_contents W.contents output) (W.contents result.1) }
+    ensures kept { A.strict ≡ true → P.Gen.generations.counting ≡ true
+        → IsSound session.old → IsSound session.new }
 {
     let outcome = read_and_run(session, alloc, input, &mut output);
     flush_after(outcome, output)

@@ -11,6 +11,7 @@ ghost use Rattle.triple_arena_session.specs.Shown.{shown, IsSound};
 ghost use Rattle.triple_arena_session.specs.StoreText.{first_store, first_strict_store};
 
 use std::alloc::Global;
+use std::io::Read;
 use triple_arena_base::AllocError;
 use triple_arena_ptr::P0;
 use triple_arena_session::laws::names_are_new;
@@ -90,17 +91,32 @@ pub fn strict_answers(
     session.run(commands)
 }
 
-/// Runs a text in a sound strict session, and tells whether it ran to its end. The session is sound after
-/// it, however it ended, and another text may follow.
+/// Runs a text in a strict session, and tells whether it ran to its end. The session is sound after it,
+/// however it ended, and another text may follow.
 pub fn runs_to_its_end(
     session: &mut StrictSession<P0, u64>,
     alloc: Global,
     text: &[u8],
     output: &mut Vec<u8>,
 ) -> bool
-    requires sound { IsSound session.old }
     ensures sound { IsSound session.new }
 {
     let mut input = text;
     run_text_strict(session, alloc, &mut input, output).is_ok()
+}
+
+/// Runs what a reader gives in a strict session, known or not, and then these commands, however that ended.
+/// Their replies are those of a strict store of names.
+pub fn answers_after_a_text<R: Read>(
+    session: &mut StrictSession<P0, u64>,
+    alloc: Global,
+    input: &mut R,
+    output: &mut Vec<u8>,
+    commands: &[Command<u64>],
+) -> Result<Vec<Reply<u64>>, AllocError>
+    ensures store { IfOk result (λ replies. (before after : StrictStore ℕ)
+        × IsRun IsStrictStoreStep before commands.now replies.items after) }
+{
+    let _outcome = run_text_strict(session, alloc, input, output);
+    session.run(commands)
 }

@@ -1,15 +1,9 @@
-use Rattle.std.proofs.Common.{◌≡◌, Result, Ok, Err, IfOk, OnErr, length, take, subst, sym}
+use Rattle.std.proofs.Common.{length, take}
 use Rattle.std.proofs.lemmas.Result.{IfOk-weaker}
-use Rattle.triple_arena_session.specs.Shown.{IsSound}
 use Rattle.triple_arena_session.proofs.Soundness.{sound_over}
 use Rattle.triple_arena_session.proofs.StoreRunLaws.{count_if_quiet}
-use Rattle.triple_arena_session.proofs.StrictLaws.{StrictRunsAll, StrictRunIsStores, StrictRunIsQuiet, StrictRunKeepsHistory, StrictRunIsUnseen}
+use Rattle.triple_arena_session.proofs.StrictLaws.{StrictRunsAll, StrictRunIsStores, StrictRunIsQuiet, StrictRunKeepsHistory, StrictRunKeepsSound, StrictRunIsUnseen}
 use Rattle.triple_arena_session.proofs.strict_session.StrictSession.run.Goals as goal
-
--- what holds after a run, and where nothing was done
-after : {A E S : Type 0} (r : Result A E) (s t : S) (Ran : A → Type 0) (Q : S → Type 0) → IfOk r Ran → OnErr r (t ≡ s) → Q s → ((x : A) → Ran x → Q t) → Q t
-after (Ok x) s t Ran Q ran kept before all = all x ran
-after (Err e) s t Ran Q ran kept before all = subst Q (sym kept) before
 
 pub returns-clause-ran : goal.returns-clause-ran
 returns-clause-ran g c =
@@ -27,15 +21,17 @@ returns-clause-quiet g c =
 
 pub returns-clause-store : goal.returns-clause-store
 returns-clause-store g c =
-    rw (← c.self.view_is) (λ counts sound. IfOk-weaker c.run_commands.result _ _ (λ replies ran.
-    (StrictRunIsStores g.S.NonZeroInxGenericStack.kind g.S.NonZeroInxGenericStack.has_memory g.P.Gen.PtrGen.generations counts c.self.inside.inside c.args.commands.now replies.items c.run_commands.new.self (record { sound = sound_over g.S.NonZeroInxGenericStack.kind c.self.inside.inside sound c.tell_arena.ensures.over; within = c.tell_arena.ensures.within })
+    rw (← c.self.view_is) (λ counts. IfOk-weaker c.run_commands.result _ _ (λ replies ran.
+    (StrictRunIsStores g.S.NonZeroInxGenericStack.kind g.S.NonZeroInxGenericStack.has_memory g.P.Gen.PtrGen.generations counts c.self.inside.inside c.args.commands.now replies.items c.run_commands.new.self (record { sound = sound_over g.S.NonZeroInxGenericStack.kind c.self.inside.inside (c.self.invariant counts) c.tell_arena.ensures.over; within = c.tell_arena.ensures.within })
     (StrictRunsAll g.S.NonZeroInxGenericStack.kind g.S.NonZeroInxGenericStack.has_memory g.P.Gen.PtrGen.generations c.self.inside.inside c.args.commands.now replies.items c.run_commands.new.self ran)).stores) c.run_commands.ensures.ran)
 
+pub invariant_of-self : goal.invariant_of-self
+invariant_of-self g c counts =
+    StrictRunKeepsSound g.S.NonZeroInxGenericStack.kind g.S.NonZeroInxGenericStack.has_memory g.P.Gen.PtrGen.generations counts c.self.inside.inside c.tell_arena.ensures.over c.tell_arena.ensures.within (c.self.invariant counts) c.args.commands.now c.run_commands.result (λ replies. replies.items) c.run_commands.new.self c.run_commands.ensures.ran c.run_commands.ensures.refused
+
 pub returns-clause-sound : goal.returns-clause-sound
-returns-clause-sound g c =
-    rw (← c.self.view_is) (λ counts sound. after c.run_commands.result c.self.inside.inside c.run_commands.new.self _ (λ u. IsSound u) c.run_commands.ensures.ran c.run_commands.ensures.refused sound (λ replies ran.
-    (StrictRunIsStores g.S.NonZeroInxGenericStack.kind g.S.NonZeroInxGenericStack.has_memory g.P.Gen.PtrGen.generations counts c.self.inside.inside c.args.commands.now replies.items c.run_commands.new.self (record { sound = sound_over g.S.NonZeroInxGenericStack.kind c.self.inside.inside sound c.tell_arena.ensures.over; within = c.tell_arena.ensures.within })
-    (StrictRunsAll g.S.NonZeroInxGenericStack.kind g.S.NonZeroInxGenericStack.has_memory g.P.Gen.PtrGen.generations c.self.inside.inside c.args.commands.now replies.items c.run_commands.new.self ran)).sound.sound.table))
+returns-clause-sound g c counts =
+    StrictRunKeepsSound g.S.NonZeroInxGenericStack.kind g.S.NonZeroInxGenericStack.has_memory g.P.Gen.PtrGen.generations counts c.self.inside.inside c.tell_arena.ensures.over c.tell_arena.ensures.within (c.self.invariant counts) c.args.commands.now c.run_commands.result (λ replies. replies.items) c.run_commands.new.self c.run_commands.ensures.ran c.run_commands.ensures.refused
 
 pub returns-clause-history : goal.returns-clause-history
 returns-clause-history g c =
@@ -45,6 +41,6 @@ returns-clause-history g c =
 
 pub returns-clause-unseen : goal.returns-clause-unseen
 returns-clause-unseen g c =
-    rw (← c.self.view_is) (λ counts sound. IfOk-weaker c.run_commands.result _ _ (λ replies ran. λ named enough other.
-    StrictRunIsUnseen g.S.NonZeroInxGenericStack.kind g.S.NonZeroInxGenericStack.has_memory g.P.Gen.PtrGen.generations counts c.self.inside.inside c.args.commands.now replies.items c.run_commands.new.self (record { sound = sound_over g.S.NonZeroInxGenericStack.kind c.self.inside.inside sound c.tell_arena.ensures.over; within = c.tell_arena.ensures.within })
+    rw (← c.self.view_is) (λ counts. IfOk-weaker c.run_commands.result _ _ (λ replies ran. λ named enough other.
+    StrictRunIsUnseen g.S.NonZeroInxGenericStack.kind g.S.NonZeroInxGenericStack.has_memory g.P.Gen.PtrGen.generations counts c.self.inside.inside c.args.commands.now replies.items c.run_commands.new.self (record { sound = sound_over g.S.NonZeroInxGenericStack.kind c.self.inside.inside (c.self.invariant counts) c.tell_arena.ensures.over; within = c.tell_arena.ensures.within })
     (StrictRunsAll g.S.NonZeroInxGenericStack.kind g.S.NonZeroInxGenericStack.has_memory g.P.Gen.PtrGen.generations c.self.inside.inside c.args.commands.now replies.items c.run_commands.new.self ran) named enough other) c.run_commands.ensures.ran)

@@ -1,5 +1,5 @@
 use Rattle.triple_arena_session.proofs.Soundness.{sound_over}
-use Rattle.triple_arena_session.proofs.StrictLaws.{StrictStepIsStores, StrictStepIsQuiet, StrictStepKeepsHistory, ExhaustedWhere, ExhaustedKeeps}
+use Rattle.triple_arena_session.proofs.StrictLaws.{StrictStepIsStores, StrictStepIsQuiet, StrictStepKeepsHistory, StrictStepKeepsSound, ExhaustedWhere, ExhaustedKeeps}
 use Rattle.triple_arena_session.proofs.strict_session.StrictSession.step.Goals as goal
 
 pub returns-clause-exhausted : goal.returns-clause-exhausted
@@ -14,11 +14,15 @@ returns-clause-quiet g c =
 
 pub returns-clause-store : goal.returns-clause-store
 returns-clause-store g c =
-    rw (← c.self.view_is) (λ counts sound. (StrictStepIsStores g.S.NonZeroInxGenericStack.kind g.S.NonZeroInxGenericStack.has_memory g.P.Gen.PtrGen.generations counts c.self.inside.inside c.args.command c.answer.result c.answer.new.self (record { sound = sound_over g.S.NonZeroInxGenericStack.kind c.self.inside.inside sound c.tell_arena.ensures.over; within = c.tell_arena.ensures.within }) c.answer.ensures).step)
+    rw (← c.self.view_is) (λ counts. (StrictStepIsStores g.S.NonZeroInxGenericStack.kind g.S.NonZeroInxGenericStack.has_memory g.P.Gen.PtrGen.generations counts c.self.inside.inside c.args.command c.answer.result c.answer.new.self (record { sound = sound_over g.S.NonZeroInxGenericStack.kind c.self.inside.inside (c.self.invariant counts) c.tell_arena.ensures.over; within = c.tell_arena.ensures.within }) c.answer.ensures).step)
+
+pub invariant_of-self : goal.invariant_of-self
+invariant_of-self g c counts =
+    StrictStepKeepsSound g.S.NonZeroInxGenericStack.kind g.S.NonZeroInxGenericStack.has_memory g.P.Gen.PtrGen.generations counts c.self.inside.inside c.tell_arena.ensures.over c.tell_arena.ensures.within (c.self.invariant counts) c.args.command c.answer.result c.answer.new.self c.answer.ensures
 
 pub returns-clause-sound : goal.returns-clause-sound
-returns-clause-sound g c =
-    rw (← c.self.view_is) (λ counts sound. (StrictStepIsStores g.S.NonZeroInxGenericStack.kind g.S.NonZeroInxGenericStack.has_memory g.P.Gen.PtrGen.generations counts c.self.inside.inside c.args.command c.answer.result c.answer.new.self (record { sound = sound_over g.S.NonZeroInxGenericStack.kind c.self.inside.inside sound c.tell_arena.ensures.over; within = c.tell_arena.ensures.within }) c.answer.ensures).sound.sound.table)
+returns-clause-sound g c counts =
+    StrictStepKeepsSound g.S.NonZeroInxGenericStack.kind g.S.NonZeroInxGenericStack.has_memory g.P.Gen.PtrGen.generations counts c.self.inside.inside c.tell_arena.ensures.over c.tell_arena.ensures.within (c.self.invariant counts) c.args.command c.answer.result c.answer.new.self c.answer.ensures
 
 pub returns-clause-history : goal.returns-clause-history
 returns-clause-history g c =

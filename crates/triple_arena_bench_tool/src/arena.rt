@@ -1,5 +1,6 @@
 //! Insertion, reading, churn, a walk and clearing of an arena, with the pointer of general use and with
-//! the small one, and of a plain vector with free indexes.
+//! the small one, and of a plain vector with free indexes. What is timed isn't inlined, so that each table's loop is
+//! compiled alike.
 
 mod plain;
 mod table;
@@ -16,13 +17,13 @@ use triple_arena::{ArenaInsertTrait, CompactArenaTrait};
 use triple_arena_ptr::{P0, Ptr};
 use triple_arena_uses::SmallPtr;
 
-// A source of random numbers, which are the same in each run.
-fn new_random() -> Pcg64Mcg {
+/// A source of random numbers, which are the same in each run.
+pub fn new_random() -> Pcg64Mcg {
     Pcg64Mcg::new(0xcafe_f00d_d15e_a5e5)
 }
 
-// A number below `bound`, or 0, from the upper bits of the next one.
-fn below(random: &mut Pcg64Mcg, bound: u32) -> usize {
+/// A number below `bound`, or 0, from the upper bits of the next one.
+pub fn below(random: &mut Pcg64Mcg, bound: u32) -> usize {
     let upper = random.next_u64() >> 32;
     (upper.wrapping_mul(bound as u64) >> 32) as usize
 }
@@ -121,6 +122,7 @@ fn time_once<C: Clock, T: Table>(
 }
 
 // Nothing is read while it is timed: the sum is of all numbers afterwards.
+#[inline(never)]
 fn time_insert<T: Table>(
     rt: &impl Clock,
     size: u32,
@@ -137,6 +139,7 @@ fn time_insert<T: Table>(
     Ok(Timing { time, sum })
 }
 
+#[inline(never)]
 fn time_get<T: Table>(
     rt: &impl Clock,
     size: u32,
@@ -155,6 +158,7 @@ fn time_get<T: Table>(
     Ok(Timing { time, sum })
 }
 
+#[inline(never)]
 fn time_churn<T: Table>(
     rt: &impl Clock,
     size: u32,
@@ -175,6 +179,7 @@ fn time_churn<T: Table>(
 }
 
 // The numbers lie as the churn left them.
+#[inline(never)]
 fn time_iterate<T: Table>(rt: &impl Clock, table: &T) -> anyhow::Result<Timing> {
     let start = Instant::now(rt)?;
     let sum = table.sum_all();
@@ -183,6 +188,7 @@ fn time_iterate<T: Table>(rt: &impl Clock, table: &T) -> anyhow::Result<Timing> 
 }
 
 // The sum is of what is still there afterwards.
+#[inline(never)]
 fn time_clear<T: Table>(rt: &impl Clock, table: &mut T) -> anyhow::Result<Timing> {
     let start = Instant::now(rt)?;
     table.take_out_all();

@@ -1,13 +1,15 @@
-//! A clone of numbers, and insertion under pointers that are given: of arenas, with the pointer of general
-//! use and with the small one, and of a plain vector.
+//! A clone of numbers, and insertion under pointers that are given, with look-ups of these: of arenas, with the pointer
+//! of general use and with the small one, and of a plain vector.
 
-use crate::entry::{sum_of, sum_of_places};
+use crate::arena::{below, new_random};
+use crate::entry::{insert_each, sum_of, sum_of_places};
 use crate::timing::{RUNS, Timing, print};
 use std::alloc::Global;
 use std::io::Print;
 use std::time::{Clock, Instant};
 use triple_arena::{
-    Arena, ArenaCloneFromWith, ArenaDirectInsertTrait, ArenaInsertTrait, CompactArenaTrait,
+    Arena, ArenaCloneFromWith, ArenaDirectInsertTrait, ArenaInsertTrait, ArenaTrait,
+    CompactArenaTrait,
 };
 use triple_arena_direct::DirectArena;
 use triple_arena_ptr::{P0, Ptr};
@@ -32,29 +34,21 @@ fn time<
 >(rt: &R, alloc: Global, name: &str, size: u32) -> anyhow::Result<()> {
     let mut arena = A::new(alloc);
     let pointers = insert_each::<P, A>(alloc, &mut arena, size)?;
-    let (mut clone, mut direct) = (Timing::LONGEST, Timing::LONGEST);
+    let mut clone = Timing::LONGEST;
+    let (mut direct, mut get) = (Timing::LONGEST, Timing::LONGEST);
     for _ in 0..RUNS {
         clone = clone.least(time_clone::<R, P, A>(rt, alloc, &arena)?);
-        direct = direct.least(time_direct::<R, P, D>(rt, alloc, &pointers)?);
+        let mut filled = D::with_min_capacity(alloc, pointers.len())?;
+        direct = direct.least(time_direct::<R, P, D>(rt, &mut filled, &pointers)?);
+        get = get.least(time_direct_get::<R, P, D>(rt, size, &filled, &pointers)?);
     }
     print(rt, name, size, "clone", size, clone)?;
     print(rt, name, size, "direct", size, direct)?;
+    print(rt, name, size, "direct get", size, get)?;
     Ok(())
 }
 
-// Inserts the numbers below `size`.
-fn insert_each<P: Ptr, A: ArenaInsertTrait<P, u64>>(
-    alloc: Global,
-    arena: &mut A,
-    size: u32,
-) -> anyhow::Result<Vec<P>> {
-    let mut pointers = Vec::with_capacity(alloc, size as usize)?;
-    for number in 0..size {
-        pointers.push(arena.insert(number as u64)?)?;
-    }
-    Ok(pointers)
-}
-
+#[inline(never)]
 fn time_clone<C: Clock, P: Ptr, A: ArenaCloneFromWith<P, u64> + CompactArenaTrait<P, u64> + Drop>(
     rt: &C,
     alloc: Global,
@@ -67,13 +61,13 @@ fn time_clone<C: Clock, P: Ptr, A: ArenaCloneFromWith<P, u64> + CompactArenaTrai
     Ok(Timing { time, sum })
 }
 
-// The arena is made with the room.
-fn time_direct<
-    C: Clock,
-    P: Ptr,
-    D: ArenaDirectInsertTrait<P, u64> + CompactArenaTrait<P, u64> + Drop,
->(rt: &C, alloc: Global, pointers: &[P]) -> anyhow::Result<Timing> {
-    let mut arena = D::with_min_capacity(alloc, pointers.len())?;
+// The arena was made with the room.
+#[inline(never)]
+fn time_direct<C: Clock, P: Ptr, D: ArenaDirectInsertTrait<P, u64> + CompactArenaTrait<P, u64>>(
+    rt: &C,
+    arena: &mut D,
+    pointers: &[P],
+) -> anyhow::Result<Timing> {
     let start = Instant::now(rt)?;
     for (number, p) in pointers.iter().enumerate() {
         if arena.can_direct_insert(*p) {
@@ -81,7 +75,26 @@ fn time_direct<
         }
     }
     let time = start.elapsed(rt)?;
-    let sum = sum_of(&arena);
+    let sum = sum_of(&*arena);
+    Ok(Timing { time, sum })
+}
+
+#[inline(never)]
+fn time_direct_get<C: Clock, P: Ptr, D: ArenaTrait<P, u64>>(
+    rt: &C,
+    size: u32,
+    arena: &D,
+    pointers: &[P],
+) -> anyhow::Result<Timing> {
+    let mut random = new_random();
+    let mut sum = 0u64;
+    let start = Instant::now(rt)?;
+    for _ in 0..size {
+        if let Some(p) = pointers.get(below(&mut random, size)) {
+            sum = sum.wrapping_add(arena.get(*p).copied().unwrap_or(0));
+        }
+    }
+    let time = start.elapsed(rt)?;
     Ok(Timing { time, sum })
 }
 
@@ -101,6 +114,7 @@ fn time_vector<R: Print + Clock>(rt: &R, alloc: Global, size: u32) -> anyhow::Re
     Ok(())
 }
 
+#[inline(never)]
 fn time_vector_clone<C: Clock>(
     rt: &C,
     alloc: Global,
@@ -115,6 +129,7 @@ fn time_vector_clone<C: Clock>(
 }
 
 // Each place of a vector that has none is pushed with its number.
+#[inline(never)]
 fn time_vector_writes<C: Clock>(rt: &C, alloc: Global, size: usize) -> anyhow::Result<Timing> {
     let mut numbers = Vec::with_capacity(alloc, size)?;
     let start = Instant::now(rt)?;

@@ -1,6 +1,7 @@
 //! What the arenas and the vectors that are timed hold.
 
-use triple_arena::CompactArenaTrait;
+use std::alloc::Global;
+use triple_arena::{ArenaInsertTrait, CompactArenaTrait};
 use triple_arena_ptr::{P0, Ptr};
 
 /// A number, and the pointer of the node before it that stays.
@@ -32,6 +33,19 @@ impl Entry for Node {
     fn number(&self) -> u64 {
         self.0
     }
+}
+
+/// Inserts the numbers below `size`.
+pub fn insert_each<P: Ptr, A: ArenaInsertTrait<P, u64>>(
+    alloc: Global,
+    arena: &mut A,
+    size: u32,
+) -> anyhow::Result<Vec<P>> {
+    let mut pointers = Vec::with_capacity(alloc, size as usize)?;
+    for number in 0..size {
+        pointers.push(arena.insert(number as u64)?)?;
+    }
+    Ok(pointers)
 }
 
 /// The sum of all numbers, modulo 2^64, in the order in which they lie. It is inlined where it is timed, as a walk is

@@ -8,6 +8,7 @@ mod end_slots;
 mod entry;
 mod stack;
 mod timing;
+mod walks;
 
 use std::alloc::Global;
 use std::env;
@@ -15,12 +16,13 @@ use std::io::Print;
 use std::time::Clock;
 
 const USAGE: &str =
-    "usage: triple_arena_bench_tool stack | arena SIZES... | compact SIZES... | copy SIZES... | ends SIZES...";
+    "usage: triple_arena_bench_tool stack | arena SIZES... | walk SIZES... | compact SIZES... | copy SIZES... | ends SIZES...";
 
 // Times what a word names, at a size.
 fn run(rt: &(impl Print + Clock), alloc: Global, what: &str, size: u32) -> anyhow::Result<()> {
     match what {
         "arena" => arena::run(rt, alloc, size),
+        "walk" => walks::run(rt, alloc, size),
         "compact" => compaction::run(rt, alloc, size),
         "copy" => copies::run(rt, alloc, size),
         "ends" => end_slots::run(rt, alloc, size),

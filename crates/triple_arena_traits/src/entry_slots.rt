@@ -83,6 +83,10 @@ pub fn live_from<P: Ptr, T, X: EntrySlot<P, T>, S: NonZeroInxGenericStack<X>>(
 {
     let slots = stack.as_slice();
     let mut at = from.get() - 1;
+    // Mostly an entry stands right here, and then no loop begins.
+    if at < slots.len() && slots[at].is_live() {
+        return Some(from);
+    }
     'up: while at < slots.len() {
         if slots[at].is_live() {
             return Some(NonZeroUsize::MIN.saturating_add(at));

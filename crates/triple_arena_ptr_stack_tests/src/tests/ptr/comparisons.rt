@@ -8,8 +8,6 @@ use std::alloc::Global;
 use std::cmp::Ordering;
 use std::fmt;
 use std::hash::{DefaultHasher, Hash, Hasher};
-use std::num::NonZeroU8;
-use triple_arena_ptr::laws::pointers_agree;
 use triple_arena_ptr::{P0, P1, P2, P3, P4, P5, Ptr, PtrGen, PtrInx, PtrNoGen, Q2};
 
 // The hash of a value.
@@ -103,46 +101,4 @@ fn every_pointer_type_is_whole(rt: HostRuntime) {
     assert!(rt; is_whole::<Q2>(alloc, "Q2", true, "Q2[1a](2)"));
     assert!(rt; is_whole::<PtrNoGen<P2>>(alloc, "P2", false, "P2[1a]"));
     assert!(rt; is_whole::<B>(alloc, "B", true, "B[1a](2)"));
-}
-
-// How the pointer of the index 5 and the generation 2 stands to that of these numbers.
-fn order_to<P: Ptr<Inx = NonZeroU8, Gen = NonZeroU8>>(inx: u8, generation: u8) -> Option<Ordering> {
-    let q = P::_from_raw(NonZeroU8::new(inx)?, NonZeroU8::new(generation)?);
-    pointers_agree::<P>();
-    Some(at::<P>(5)?.cmp(&q))
-}
-
-// Whether the first pointer of a type is before its second.
-fn is_first_before_second<P: Ptr>() -> bool {
-    match (at::<P>(1), at::<P>(2)) {
-        (Some(first), Some(second)) => first < second && first != second,
-        _ => false,
-    }
-}
-
-// That the pointer of the index 5 and the generation 2 stands so to each of these; the first row,
-// counted from 0, to which it doesn't.
-fn orders_to<P: Ptr<Inx = NonZeroU8, Gen = NonZeroU8>>(
-    others: &[(u8, u8, Ordering)],
-) -> Result<(), usize> {
-    for (row, (inx, generation, wanted)) in others.iter().enumerate() {
-        if order_to::<P>(*inx, *generation) != Some(*wanted) {
-            return Err(row);
-        }
-    }
-    Ok(())
-}
-
-const BY_INDEX_FIRST: &[(u8, u8, Ordering)] = &[
-    (4, 9, Ordering::Greater),
-    (5, 1, Ordering::Greater),
-    (5, 2, Ordering::Equal),
-    (5, 3, Ordering::Less),
-    (6, 1, Ordering::Less),
-];
-
-#[test]
-fn pointers_go_by_index_first(rt: HostRuntime) -> Result<(), usize> {
-    assert!(rt; is_first_before_second::<P0>());
-    orders_to::<B>(BY_INDEX_FIRST)
 }

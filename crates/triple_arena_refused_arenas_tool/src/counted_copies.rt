@@ -1,7 +1,6 @@
 //! Clones, transfers, compactions and pushes of values that are counted: as many are there as the arenas
 //! and the stack hold, also where memory is refused.
 
-use crate::counted::Counted;
 use std::alloc::Global;
 use std::cell::Cell;
 use triple_arena::{Arena, ArenaCloneFromWith, ArenaInsertTrait, ArenaTrait, CompactArenaTrait};
@@ -9,7 +8,7 @@ use triple_arena_base::CompactError;
 use triple_arena_direct::compress_recast;
 use triple_arena_ptr::{P0, Ptr, PtrGen};
 use triple_arena_stack::{HeapStack, NonZeroInxGenericStack, NonZeroInxStack};
-use triple_arena_trait_kit::Wrong;
+use triple_arena_trait_kit::{Counted, Wrong};
 use triple_arena_trait_kit::refused::{End, Report};
 
 type Value<'a> = Counted<'a, P0>;

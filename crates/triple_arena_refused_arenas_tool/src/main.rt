@@ -11,7 +11,6 @@ mod asking;
 mod compactions;
 mod copies;
 mod costly;
-mod counted;
 mod counted_copies;
 mod holders;
 mod no_memory;

@@ -1,4 +1,5 @@
-//! Tests of arenas by public calls, as tables of calls and answers.
+//! Tests of arenas and of their values, also as they are copied from one arena to another, by public
+//! calls.
 #![tactic(auto)]
 
 #[cfg(test)]

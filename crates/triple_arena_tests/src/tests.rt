@@ -1,4 +1,14 @@
-//! What no clause of the arenas says: that their calls succeed, worked examples, and refusals of memory.
+//! What no clause of the arenas says, and no transcript of the shell: that their calls succeed, also at
+//! large sizes and where there is little memory, callers with clauses, loops, texts, drops, and worked
+//! copies.
 
 mod calls;
-mod walks;
+mod copies;
+mod drops;
+mod entries;
+mod generic_callers;
+mod little_memory;
+mod loops;
+mod pointer_types;
+mod sizes;
+mod texts;

@@ -5,6 +5,7 @@
 mod answers;
 mod b;
 mod call;
+mod counted;
 mod numbered;
 mod pair_calls;
 mod pointers;
@@ -16,6 +17,7 @@ mod state;
 mod tables;
 mod tested_arena;
 mod token;
+mod texts;
 mod told;
 mod trial;
 mod walk_calls;
@@ -26,6 +28,7 @@ pub use answers::{
 };
 pub use b::B;
 pub use call::{Call, Kind};
+pub use counted::Counted;
 pub use numbered::{Numbered, index_number, inx, named_index, pointer};
 pub use pointers::{Narrow, PtrOf, Wide};
 pub use scarce_stack::Scarce;
@@ -34,6 +37,7 @@ pub use shown::Shown;
 pub use state::{SLOTS, State};
 pub use tables::{follow, follow_tidied, follow_to, follow_unchanged, has_state, step, step_at};
 pub use tested_arena::TestedArena;
+pub use texts::is_shown;
 pub use token::Token;
 pub use told::{
     NO_ENTRY, NO_POINTER, NO_VALUE, NOT_DRAINED, Told, told_placed, told_pointer, told_raise,

@@ -7,7 +7,7 @@ ghost use Rattle.triple_arena_base.specs.laws.HeldLaws.{option_held_refill, opti
 use std::alloc::{AllocError, Global};
 use std::cell::Cell;
 use triple_arena_base::{Recast, Recaster};
-use triple_arena_trait_kit::refused::ask;
+use crate::refused::ask;
 
 /// A number and a link. Its clone makes a request for memory.
 pub struct Counted<'a, P: Copy> {

@@ -1,5 +1,4 @@
-//! Tests of direct arenas, of compaction with recasting and of strict arenas, by public calls, as tables of calls and
-//! answers.
+//! Tests of direct arenas, of compaction with recasting and of strict arenas, by public calls.
 #![tactic(auto)]
 
 #[cfg(test)]

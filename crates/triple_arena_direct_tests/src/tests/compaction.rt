@@ -1,8 +1,5 @@
-//! What no clause of compaction with recasting says: that its calls succeed, worked examples, and
-//! refusals of memory.
+//! Compaction with recasting: of one arena, with a holder beside it, and of two arenas.
 
 mod both_arenas;
 mod holders;
 mod renaming;
-mod tested_nodes;
-mod trials;

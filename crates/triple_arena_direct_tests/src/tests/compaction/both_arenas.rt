@@ -131,37 +131,3 @@ fn both_arenas_follow_each_other(rt: HostRuntime) {
         )
     );
 }
-
-#[test]
-fn a_cell_without_its_net_refuses_both(rt: HostRuntime) {
-    let told = compacted(rt.alloc(), [at(3, 2), at(0, 1)], [at(2, 3), at(3, 0)]);
-    assert!(rt;
-        is_told(
-            told,
-            [
-                "Err(Second(Unresolved(Q2[1](2))))",
-                "{P0[2](2): Ends { cell: Some(P0[3](2)), net: Some(Q2[2](2)) }, \
-                    P0[3](2): Ends { cell: None, net: Some(Q2[1](2)) }}",
-                "{Q2[2](2): Ends { cell: Some(P0[2](2)), net: Some(Q2[3](2)) }, \
-                    Q2[3](2): Ends { cell: Some(P0[3](2)), net: None }}",
-            ]
-        )
-    );
-}
-
-#[test]
-fn a_net_without_its_cell_comes_before_one_without_its_net(rt: HostRuntime) {
-    let told = compacted(rt.alloc(), [at(3, 2), at(0, 3)], [at(2, 1), at(1, 0)]);
-    assert!(rt;
-        is_told(
-            told,
-            [
-                "Err(First(Unresolved(P0[1](2))))",
-                "{P0[2](2): Ends { cell: Some(P0[3](2)), net: Some(Q2[2](2)) }, \
-                    P0[3](2): Ends { cell: None, net: Some(Q2[3](2)) }}",
-                "{Q2[2](2): Ends { cell: Some(P0[2](2)), net: Some(Q2[1](2)) }, \
-                    Q2[3](2): Ends { cell: Some(P0[1](2)), net: None }}",
-            ]
-        )
-    );
-}

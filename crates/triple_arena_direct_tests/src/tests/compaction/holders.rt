@@ -1,7 +1,6 @@
 //! Compaction that renames what a holder beside the arena holds, and the look for a dangling pointer of
 //! it.
 
-use super::tested_nodes::Node;
 use std::alloc::{AllocError, Global};
 use std::fmt::Debug;
 use std::process::Abort;
@@ -11,8 +10,11 @@ use triple_arena_direct::{StrictArena, compress_recast_with, unresolved};
 use triple_arena_ptr::{P0, Q2};
 use triple_arena_trait_kit::pointer;
 
+// A number, and a link.
+type Node = (u64, Option<P0>);
+
 // Nodes under the pointers (2, 2) and (3, 2), the second with this link, behind a gap.
-fn nodes(alloc: Global, link: P0) -> Option<Arena<P0, Node<P0>>> {
+fn nodes(alloc: Global, link: P0) -> Option<Arena<P0, Node>> {
     let mut nodes = Arena::new(alloc);
     for node in [(10, None), (20, None), (30, Some(link))] {
         nodes.insert(node).ok()?;
@@ -39,7 +41,7 @@ fn compacted(alloc: Global, link: P0, held: [P0; 2]) -> Option<[Result<String, A
 
 fn told_with<H: Recast<P0> + Debug>(
     alloc: Global,
-    nodes: &mut Arena<P0, Node<P0>>,
+    nodes: &mut Arena<P0, Node>,
     holder: &mut H,
 ) -> Option<[Result<String, AllocError>; 4]> {
     let dangling = unresolved(nodes, holder);
@@ -50,13 +52,6 @@ fn told_with<H: Recast<P0> + Debug>(
         format!(in alloc; "{nodes:?}"),
         format!(in alloc; "{holder:?}"),
     ])
-}
-
-// So of a vector of pointers.
-fn told_vector(alloc: Global, link: P0, held: [P0; 3]) -> Option<[Result<String, AllocError>; 4]> {
-    let mut nodes = nodes(alloc, link)?;
-    let mut holder = Vec::from_array(alloc, held).ok()?;
-    told_with(alloc, &mut nodes, &mut holder)
 }
 
 fn is_told(told: Option<[Result<String, AllocError>; 4]>, wanted: [&str; 4]) -> bool {
@@ -89,61 +84,12 @@ fn a_holder_follows(rt: HostRuntime) {
     );
 }
 
-#[test]
-fn a_dangling_pointer_of_a_holder_refuses_and_nothing_changes(rt: HostRuntime) {
-    let told = compacted(rt.alloc(), pointer(2, 2), [pointer(3, 2), pointer(1, 2)]);
-    assert!(rt;
-        is_told(
-            told,
-            [
-                "Some(P0[1](2))",
-                "Err(Unresolved(P0[1](2)))",
-                "{P0[2](2): (20, None), P0[3](2): (30, Some(P0[2](2)))}",
-                "{Q2[1](2): P0[3](2), Q2[2](2): P0[1](2)}",
-            ]
-        )
-    );
-}
-
-#[test]
-fn a_dangling_link_of_the_arena_comes_first(rt: HostRuntime) {
-    let told = compacted(rt.alloc(), pointer(3, 3), [pointer(1, 2), pointer(2, 2)]);
-    assert!(rt;
-        is_told(
-            told,
-            [
-                "Some(P0[1](2))",
-                "Err(Unresolved(P0[3](3)))",
-                "{P0[2](2): (20, None), P0[3](2): (30, Some(P0[3](3)))}",
-                "{Q2[1](2): P0[1](2), Q2[2](2): P0[2](2)}",
-            ]
-        )
-    );
-}
-
-#[test]
-fn a_vectors_second_pointer_refuses_and_nothing_changes(rt: HostRuntime) {
-    let held = [pointer(3, 2), pointer(2, 3), pointer(9, 9)];
-    let told = told_vector(rt.alloc(), pointer(2, 2), held);
-    assert!(rt;
-        is_told(
-            told,
-            [
-                "Some(P0[2](3))",
-                "Err(Unresolved(P0[2](3)))",
-                "{P0[2](2): (20, None), P0[3](2): (30, Some(P0[2](2)))}",
-                "[P0[3](2), P0[2](3), P0[9](9)]",
-            ]
-        )
-    );
-}
-
 // How many nodes are compacted beside a vector of the pointers to them.
 const MANY: usize = 5000;
 
 // The node of a number, with a link to the next one, which the last has not: the indexes are by so many
 // above the numbers.
-fn numbered(number: usize, above: usize, generation: u64) -> Node<P0> {
+fn numbered(number: usize, above: usize, generation: u64) -> Node {
     let next = number.saturating_add(1).saturating_add(above);
     let link = if number == MANY {
         None
@@ -154,7 +100,7 @@ fn numbered(number: usize, above: usize, generation: u64) -> Node<P0> {
 }
 
 // Whether each pointer to the nodes, and each link from one to the next, is that of its number.
-fn are_renamed(nodes: &Arena<P0, Node<P0>>, holder: &[P0]) -> bool {
+fn are_renamed(nodes: &Arena<P0, Node>, holder: &[P0]) -> bool {
     let mut number = 0usize;
     for p in holder {
         number = number.saturating_add(1);
@@ -169,7 +115,7 @@ fn are_renamed(nodes: &Arena<P0, Node<P0>>, holder: &[P0]) -> bool {
 // Whether all is renamed of a compaction of that many nodes, behind one that was removed, and of a vector
 // of their pointers.
 fn thousands_renamed(alloc: Global) -> Option<bool> {
-    let mut nodes: Arena<P0, Node<P0>> = Arena::new(alloc);
+    let mut nodes: Arena<P0, Node> = Arena::new(alloc);
     let mut holder: Vec<P0> = Vec::new(alloc);
     nodes.insert((0, None)).ok()?;
     for number in 1..=MANY {
@@ -188,7 +134,7 @@ fn thousands_of_pointers_follow_an_arena(rt: HostRuntime) {
 
 // So of a strict arena.
 fn thousands_renamed_strictly(alloc: Global) -> Option<bool> {
-    let mut nodes: StrictArena<P0, Node<P0>> = StrictArena::new(alloc);
+    let mut nodes: StrictArena<P0, Node> = StrictArena::new(alloc);
     let mut holder: Vec<P0> = Vec::new(alloc);
     nodes.insert((0, None)).ok()?;
     for number in 1..=MANY {

@@ -1,145 +1,152 @@
 //! Compaction that tells the new pointers, and that renames those which the values hold.
 
-use super::tested_nodes::{Compaction, Named};
-use super::trials::{Nodes, Part, Texts, on};
 use std::alloc::Global;
 use std::error::Error;
 use std::process::Abort;
-use triple_arena::{Arena, ArenaInsertTrait, ArenaTrait};
-use triple_arena_base::{CompactError, ReallocationError};
-use triple_arena_direct::compress_recaster;
+use std::test::Fail;
+use triple_arena::{Arena, ArenaDirectInsertEntryTrait, ArenaInsertTrait, ArenaTrait};
+use triple_arena_base::{CompactError, ReallocationError, Recast};
+use triple_arena_direct::{DirectArena, compress_recast, compress_recaster};
 use triple_arena_ptr::{P0, Ptr};
-use triple_arena_trait_kit::{NO_POINTER, Narrow, Told, Wrong, pointer};
+use triple_arena_trait_kit::{B, Narrow, inx, is_shown, pointer};
+
+// A number, and a link.
+type Node = (u64, Option<P0>);
+
+// An arena of these nodes, of which those at these indexes are removed.
+fn arena_of(
+    alloc: Global,
+    nodes: &[(u64, Option<P0>)],
+    removed: &[usize],
+) -> Result<Arena<P0, Node>, Fail> {
+    let mut arena: Arena<P0, Node> = Arena::new(alloc);
+    for node in nodes {
+        arena.insert(*node)?;
+    }
+    for index in removed {
+        drop(arena.remove_inx(inx(*index)));
+    }
+    Ok(arena)
+}
+
+#[test]
+fn a_map_tells_the_new_pointers(rt: HostRuntime) -> Result<(), Fail> {
+    let nodes = [
+        (0, None),
+        (42, None),
+        (1, None),
+        (1337, Some(pointer(2, 2))),
+    ];
+    let mut arena = arena_of(rt.alloc(), &nodes, &[1, 3])?;
+    let map = compress_recaster(&mut arena, rt.alloc(), false)?.allow();
+    is_shown(
+        &rt,
+        rt.alloc(),
+        &map,
+        "{P0[2](2): P0[1](5), P0[4](2): P0[2](5)}",
+    )?;
+    arena.recast(&map)?;
+    let text = "{P0[1](5): (42, None), P0[2](5): (1337, Some(P0[1](5)))}";
+    is_shown(&rt, rt.alloc(), &arena, text)?;
+    let map = compress_recaster(&mut arena, rt.alloc(), true)?.allow();
+    is_shown(
+        &rt,
+        rt.alloc(),
+        &map,
+        "{P0[1](5): P0[1](2), P0[2](5): P0[2](2)}",
+    )?;
+    arena.recast(&map)?;
+    let text = "{P0[1](2): (42, None), P0[2](2): (1337, Some(P0[1](2)))}";
+    is_shown(&rt, rt.alloc(), &arena, text)
+}
 
 // The last of three nodes has a link that never was a node's pointer.
-const DANGLING: [Named; 3] = [(1, NO_POINTER), (2, (1, 2)), (3, (usize::MAX, 1))];
-
-#[test]
-fn a_map_tells_the_new_pointers(rt: HostRuntime) -> Result<(), Wrong> {
-    let first = Part::Texts(Texts {
-        call: Compaction::Mapped(false),
-        told: Told::Done,
-        answer: "Ok(Success({P0[2](2): P0[1](5), P0[4](2): P0[2](5)}))",
-        arena: "{P0[1](5): (42, None), P0[2](5): (1337, Some(P0[1](5)))}",
-    });
-    let second = Part::Texts(Texts {
-        call: Compaction::Mapped(true),
-        told: Told::Done,
-        answer: "Ok(Success({P0[1](5): P0[1](2), P0[2](5): P0[2](2)}))",
-        arena: "{P0[1](2): (42, None), P0[2](2): (1337, Some(P0[1](2)))}",
-    });
+fn dangling(alloc: Global) -> Result<Arena<P0, Node>, Fail> {
     let nodes = [
-        (0, NO_POINTER),
-        (42, NO_POINTER),
-        (1, NO_POINTER),
-        (1337, (2, 2)),
+        (1, None),
+        (2, Some(pointer(1, 2))),
+        (3, Some(P0::invalid())),
     ];
-    on(rt.alloc(), Nodes::Heap(&nodes, &[1, 3]), &[first, second])
+    arena_of(alloc, &nodes, &[])
 }
 
 #[test]
-fn recasting_by_a_map_ends_at_a_dangling_link(rt: HostRuntime) -> Result<(), Wrong> {
-    let recast = Part::Texts(Texts {
-        call: Compaction::Mapped(false),
-        told: Told::At(usize::MAX, 1),
-        answer: "Ok(Success({P0[1](2): P0[1](3), P0[2](2): P0[2](3), P0[3](2): P0[3](3)}))",
-        arena: "{P0[1](3): (1, None), P0[2](3): (2, Some(P0[1](3))), \
-            P0[3](3): (3, Some(P0[ffffffffffffffff](1)))}",
-    });
-    on(rt.alloc(), Nodes::Heap(&DANGLING, &[]), &[recast])
-}
-
-// Two nodes, the first of which has a link to the second, behind a gap: the new pointer of the
-// second is the old one of the first.
-#[test]
-fn each_link_is_renamed_once(rt: HostRuntime) -> Result<(), Wrong> {
-    let renamed = Part::Texts(Texts {
-        call: Compaction::Renamed(true),
-        told: Told::Done,
-        answer: "Ok(Success({P0[2](2): P0[1](2), P0[3](2): P0[2](2)}))",
-        arena: "{P0[1](2): (20, Some(P0[2](2))), P0[2](2): (30, None)}",
-    });
-    let nodes = [(10, NO_POINTER), (20, (3, 2)), (30, NO_POINTER)];
-    on(rt.alloc(), Nodes::Heap(&nodes, &[1]), &[renamed])
+fn recasting_by_a_map_ends_at_a_dangling_link(rt: HostRuntime) -> Result<(), Fail> {
+    let mut arena = dangling(rt.alloc())?;
+    let map = compress_recaster(&mut arena, rt.alloc(), false)?.allow();
+    assert!(rt; arena.recast(&map) == Err(P0::invalid()));
+    let text = "{P0[1](3): (1, None), P0[2](3): (2, Some(P0[1](3))), \
+        P0[3](3): (3, Some(P0[ffffffffffffffff](1)))}";
+    is_shown(&rt, rt.alloc(), &arena, text)
 }
 
 #[test]
-fn a_direct_arena_keeps_its_generations(rt: HostRuntime) -> Result<(), Wrong> {
-    let renamed = Part::Texts(Texts {
-        call: Compaction::Renamed(false),
-        told: Told::Done,
-        answer: "Ok(Success({P0[2](9): P0[1](9), P0[4](7): P0[2](7)}))",
-        arena: "{P0[1](9): (2, None), P0[2](7): (1, Some(P0[1](9)))}",
-    });
-    let nodes = [((4, 7), (1, (2, 9))), ((2, 9), (2, NO_POINTER))];
-    on(rt.alloc(), Nodes::Direct(&nodes), &[renamed])?;
-    let compressed = Part::Texts(Texts {
-        call: Compaction::Alone(true),
-        told: Told::Done,
-        answer: "Success(())",
-        arena: "{P0[1](9): (5, None)}",
-    });
-    let nodes = [((3, 9), (5, NO_POINTER))];
-    on(rt.alloc(), Nodes::Direct(&nodes), &[compressed])
+fn a_dangling_link_refuses_and_nothing_changes(rt: HostRuntime) -> Result<(), Fail> {
+    let mut arena = dangling(rt.alloc())?;
+    let answer = compress_recast(&mut arena, rt.alloc(), false);
+    is_shown(
+        &rt,
+        rt.alloc(),
+        &answer,
+        "Err(Unresolved(P0[ffffffffffffffff](1)))",
+    )?;
+    let text = "{P0[1](2): (1, None), P0[2](2): (2, Some(P0[1](2))), \
+        P0[3](2): (3, Some(P0[ffffffffffffffff](1)))}";
+    is_shown(&rt, rt.alloc(), &arena, text)?;
+    assert_eq!(rt; arena.generation().get(), 2);
+    Ok(())
+}
+
+// The new pointer of the second of two nodes behind a gap is the old one of the first.
+#[test]
+fn each_link_is_renamed_once(rt: HostRuntime) -> Result<(), Fail> {
+    let nodes = [(10, None), (20, Some(pointer(3, 2))), (30, None)];
+    let mut arena = arena_of(rt.alloc(), &nodes, &[1])?;
+    let answer = compress_recast(&mut arena, rt.alloc(), true);
+    is_shown(
+        &rt,
+        rt.alloc(),
+        &answer,
+        "Ok(Success({P0[2](2): P0[1](2), P0[3](2): P0[2](2)}))",
+    )?;
+    let text = "{P0[1](2): (20, Some(P0[2](2))), P0[2](2): (30, None)}";
+    is_shown(&rt, rt.alloc(), &arena, text)
 }
 
 #[test]
-fn a_dangling_link_refuses_and_nothing_changes(rt: HostRuntime) -> Result<(), Wrong> {
-    let refused = Part::Refused(Texts {
-        call: Compaction::Renamed(false),
-        told: Told::At(usize::MAX, 1),
-        answer: "Err(Unresolved(P0[ffffffffffffffff](1)))",
-        arena: "{P0[1](2): (1, None), P0[2](2): (2, Some(P0[1](2))), \
-            P0[3](2): (3, Some(P0[ffffffffffffffff](1)))}",
-    });
-    on(rt.alloc(), Nodes::Heap(&DANGLING, &[]), &[refused])
-}
-
-// The entry of the greatest generation, after so many that came and went.
-fn at_the_end_of_the_counter(alloc: Global, texts: Texts) -> Result<(), Wrong> {
-    on(alloc, Nodes::Last(253, 255), &[Part::Texts(texts)])
-}
-
-#[test]
-fn a_compaction_tells_of_a_wrap(rt: HostRuntime) -> Result<(), Wrong> {
-    let renamed = Texts {
-        call: Compaction::Renamed(false),
-        told: Told::Wrapped,
-        answer: "Ok(GenerationOverflow({B[1](ff): B[1](2)}))",
-        arena: "{B[1](2): (253, Some(B[1](2)))}",
-    };
-    at_the_end_of_the_counter(rt.alloc(), renamed)?;
-    let mapped = Texts {
-        call: Compaction::Mapped(false),
-        told: Told::Done,
-        ..renamed
-    };
-    at_the_end_of_the_counter(rt.alloc(), mapped)?;
-    // without a renaming the link stays
-    let compressed = Texts {
-        call: Compaction::Alone(false),
-        told: Told::Wrapped,
-        answer: "GenerationOverflow(())",
-        arena: "{B[1](2): (253, Some(B[1](ff)))}",
-    };
-    at_the_end_of_the_counter(rt.alloc(), compressed)
+fn a_direct_arena_keeps_its_generations(rt: HostRuntime) -> Result<(), Fail> {
+    let mut arena: DirectArena<P0, Node> = DirectArena::with_min_capacity(rt.alloc(), 4)?;
+    arena
+        .direct_insert_within_capacity(pointer(4, 7))?
+        .insert((1, Some(pointer(2, 9))));
+    arena
+        .direct_insert_within_capacity(pointer(2, 9))?
+        .insert((2, None));
+    let answer = compress_recast(&mut arena, rt.alloc(), false);
+    is_shown(
+        &rt,
+        rt.alloc(),
+        &answer,
+        "Ok(Success({P0[2](9): P0[1](9), P0[4](7): P0[2](7)}))",
+    )?;
+    let text = "{P0[1](9): (2, None), P0[2](7): (1, Some(P0[1](9)))}";
+    is_shown(&rt, rt.alloc(), &arena, text)
 }
 
 #[test]
-fn without_entries_the_map_is_empty(rt: HostRuntime) -> Result<(), Wrong> {
-    let first = Texts {
-        call: Compaction::Mapped(false),
-        told: Told::Done,
-        answer: "Ok(Success({}))",
-        arena: "{}",
-    };
-    let second = Texts {
-        call: Compaction::Renamed(false),
-        ..first
-    };
-    let both = [Part::Texts(first), Part::Texts(second)];
-    on(rt.alloc(), Nodes::Heap(&[], &[]), &both)?;
-    on(rt.alloc(), Nodes::Direct(&[]), &both)
+fn a_compaction_tells_of_a_wrap(rt: HostRuntime) -> Result<(), Fail> {
+    let mut arena: Arena<B, (u64, Option<B>)> = Arena::new(rt.alloc());
+    arena.set_generation(pointer::<B>(1, 255).generation());
+    let p = arena.insert((7, Some(pointer(1, 255))))?;
+    assert_eq!(rt; p, pointer(1, 255));
+    let answer = compress_recast(&mut arena, rt.alloc(), false);
+    is_shown(
+        &rt,
+        rt.alloc(),
+        &answer,
+        "Ok(GenerationOverflow({B[1](ff): B[1](2)}))",
+    )?;
+    is_shown(&rt, rt.alloc(), &arena, "{B[1](2): (7, Some(B[1](2)))}")
 }
 
 // The new pointers of the first and the last of five thousand entries, behind one that was removed,
@@ -190,8 +197,5 @@ fn equals_its_copy<E: Error + Copy + Eq>(error: E) -> bool {
 #[test]
 fn a_refused_compaction_is_an_error(rt: HostRuntime) {
     let unresolved: CompactError<P0> = CompactError::Unresolved(P0::invalid());
-    let reallocation: CompactError<P0> = CompactError::Reallocation(ReallocationError::AllocError);
     assert!(rt; equals_its_copy(unresolved));
-    assert!(rt; equals_its_copy(reallocation));
-    assert!(rt; unresolved != reallocation);
 }

@@ -1,4 +1,0 @@
-//! What no clause of strict arenas says: worked examples, that calls succeed, and texts.
-
-mod strict;
-mod tested_strict;

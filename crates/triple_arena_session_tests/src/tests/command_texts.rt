@@ -1,7 +1,5 @@
-//! The texts of commands and replies, and the arguments and the words of the program.
+//! The texts of replies.
 
-mod forms;
-mod program;
 mod replies;
 
 use std::alloc::Global;

@@ -1,13 +1,13 @@
-//! Sessions that begin over an arena without entries, over each kind of stack: its limit, its counter and
-//! its free indexes are as they were.
+//! Sessions that begin over an arena without entries, over each kind of stack: its limit and its counter are
+//! as they were.
 
-use super::steps::{Asked, follow, replies, says};
+use super::steps::{Asked, follow};
 use std::alloc::Global;
 use std::process::Abort;
 use std::test::Fail;
-use triple_arena::{Arena, ArenaInsertTrait, ArenaSlot, ArenaTrait};
+use triple_arena::{Arena, ArenaSlot, ArenaTrait};
 use triple_arena_direct::StrictArena;
-use triple_arena_ptr::{P0, P3, Ptr, PtrGen};
+use triple_arena_ptr::{P0, P3, Ptr};
 use triple_arena_session::{BeginsOver, Command, Node, Reply, Session, StrictSession};
 use triple_arena_stack::{NonZeroInxArray, NonZeroInxBoxedSlice, NonZeroInxLimitedVec};
 use triple_arena_trait_kit::{B, Numbered};
@@ -49,27 +49,6 @@ fn a_session_has_the_counter_of_its_arena(rt: HostRuntime) {
             (Command::Remove(1), Reply::Removed(7, None, true)),
         ],
     );
-}
-
-/// Two entries came and went, the last first. The first index is free, and the counter was raised twice.
-#[test]
-fn a_session_has_the_free_indexes_of_its_arena(rt: HostRuntime) -> Result<(), Fail> {
-    let mut arena: Arena<P0, Node<u64, P0>> = Arena::new(rt.alloc());
-    let first = arena.insert(node(1))?;
-    let second = arena.insert(node(2))?;
-    assert!(rt; arena.remove(first).is_success());
-    assert!(rt; arena.remove(second).is_success());
-    assert!(rt; arena.is_empty());
-    let mut session: Session<P0, u64> = Session::new(arena, rt.alloc());
-    assert!(rt;
-        replies(
-            &mut session,
-            Command::Insert(7, None),
-            &Reply::Given(1, false)
-        )
-    );
-    assert!(rt; says(&session.step(Command::Show), "{P0[1](4): (7, None)}"));
-    Ok(())
 }
 
 #[test]

@@ -11,7 +11,7 @@ type Row<'a> = (&'a [u8], &'a [u8]);
 /// There are 255 indexes of a byte, and room for no more.
 #[test]
 fn a_byte_index_has_its_greatest_capacity(rt: HostRuntime) {
-    try_new(&rt, rt.alloc(), Kind::ByteIndexes, None, &NoMoreRoom);
+    try_new(&rt, rt.alloc(), Kind::ByteIndexes, &NoMoreRoom);
 }
 
 // There is room for 255 entries, and for no more.
@@ -28,31 +28,6 @@ impl Trial for NoMoreRoom {
             b"no memory\nfull\ncount 255\nno memory\ncount 255\n",
         );
     }
-}
-
-// A text that a new session answers so.
-#[derive(Drop)]
-struct Answered<'a> {
-    text: &'a [u8],
-    lines: &'a [u8],
-}
-
-impl Trial for Answered<'_> {
-    fn pass(&self, rt: &impl Abort, alloc: Global, session: &mut impl Asked) {
-        answers_text(rt, alloc, session, self.text, self.lines);
-    }
-}
-
-/// An index of 128 bits is there for more entries than any machine has memory for.
-#[test]
-fn a_session_of_wide_indexes_answers_as_others(rt: HostRuntime) {
-    let trial = Answered {
-        text: b"insert 1 -\ninsert 2 1\ninsert 3 2\nreserve 18446744073709551615\nremove 1\n\
-            set 2 2 3\ncompact\nget 2\nget 3\ncapacity\n",
-        lines: b"given 1\ngiven 2\ngiven 3\nno memory\nremoved 1 -\n\
-            done\ncompacted\nfound 2 3\nfound 3 2\ncount 4\n",
-    };
-    try_new(&rt, rt.alloc(), Kind::WideIndexes, None, &trial);
 }
 
 // Inserts so many.
@@ -128,6 +103,6 @@ fn each_command_that_raises_the_counter_tells_of_a_wrap(rt: HostRuntime) {
     ];
     for (text, lines) in rows {
         let trial = AtTheEnd { text, lines };
-        try_new(&rt, rt.alloc(), Kind::ByteGenerations, None, &trial);
+        try_new(&rt, rt.alloc(), Kind::ByteGenerations, &trial);
     }
 }

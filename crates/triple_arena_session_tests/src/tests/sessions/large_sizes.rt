@@ -33,7 +33,7 @@ impl Trial for RunsMany {
 #[test]
 fn a_run_of_tens_of_thousands_of_commands_is_answered(rt: HostRuntime) {
     let trial = RunsMany { commands: 70_000 };
-    try_new(&rt, rt.alloc(), Kind::General, None, &trial);
+    try_new(&rt, rt.alloc(), Kind::General, &trial);
 }
 
 #[test]
@@ -81,7 +81,7 @@ impl Trial for GivesMany {
 
 #[test]
 fn tens_of_thousands_of_names_are_given(rt: HostRuntime) {
-    try_new(&rt, rt.alloc(), Kind::General, None, &GivesMany);
+    try_new(&rt, rt.alloc(), Kind::General, &GivesMany);
 }
 
 // Writes what is shown of so many entries of 7, inserted into a new arena.
@@ -114,7 +114,7 @@ impl Trial for ShowsMany {
 
 #[test]
 fn a_thousand_entries_are_shown(rt: HostRuntime) {
-    try_new(&rt, rt.alloc(), Kind::General, None, &ShowsMany);
+    try_new(&rt, rt.alloc(), Kind::General, &ShowsMany);
 }
 
 #[test]

@@ -10,7 +10,7 @@ use triple_arena_session::{Command, Reply, TextError};
 
 // Tries a session of general use.
 fn tries(rt: &impl Abort, alloc: Global, trial: &impl Trial) {
-    try_new(rt, alloc, Kind::General, None, trial);
+    try_new(rt, alloc, Kind::General, trial);
 }
 
 /// A text up to its malformed line, and one after it.
@@ -368,6 +368,17 @@ fn a_malformed_line_ends_the_run(rt: HostRuntime) {
         };
         tries(&rt, rt.alloc(), &trial);
     }
+}
+
+/// A number may have zeros in front, and be the greatest.
+#[test]
+fn a_number_is_read_up_to_the_greatest(rt: HostRuntime) {
+    let trial = Ends {
+        text: b"insert 18446744073709551615 -\nget 007\nget 001\n",
+        outcome: Ok(()),
+        lines: b"given 1\nnothing\nfound 18446744073709551615 -\n",
+    };
+    tries(&rt, rt.alloc(), &trial);
 }
 
 // A text run over a buffer above a writer, and what that then holds.

@@ -1,21 +1,16 @@
 //! What the tests ask of a session, and its steps as values, so that a test is a table of them.
 
-use arrayvec::ArrayString;
 use std::alloc::Global;
-use std::fmt::Write as _;
 use std::io::{BufWriter, Read, Write};
 use std::process::Abort;
 use triple_arena::{Arena, ArenaSlot, ArenaTrait};
-use triple_arena_base::AllocError;
-use triple_arena_ptr::{P0, P3, Ptr, PtrGen};
+use triple_arena_ptr::{P0, Ptr, PtrGen};
 use triple_arena_session::{
     Command, Node, Reply, Session, StrictSession, TextError, run_text, run_text_and_flush,
     run_text_strict, run_text_strict_and_flush,
 };
-use triple_arena_stack::{
-    NonZeroInxArray, NonZeroInxGenericStack, NonZeroInxLimitedVec, NonZeroInxVec,
-};
-use triple_arena_trait_kit::{B, Narrow, Numbered, Wide};
+use triple_arena_stack::{NonZeroInxGenericStack, NonZeroInxVec};
+use triple_arena_trait_kit::{B, Narrow, Numbered};
 
 /// How many entries an arena holds, for how many it has room, and the generation of its counter.
 pub type Extent = (usize, usize, u64);
@@ -138,30 +133,10 @@ pub fn replies(session: &mut impl Asked, command: Command<u64>, reply: &Reply<u6
     session.answer(command) == *reply
 }
 
-/// Whether this, which has 64 bytes at most, is the text of a reply. It takes no memory.
-pub fn says(reply: &Reply<u64>, text: &str) -> bool {
-    let mut written: ArrayString<64> = ArrayString::new();
-    written.write(reply).is_ok() && written.as_str() == text
-}
-
 /// Makes each step, and expects its reply.
 pub fn follow(rt: &impl Abort, session: &mut impl Asked, steps: &[(Command<u64>, Reply<u64>)]) {
     for (command, reply) in steps {
         assert!(rt; replies(session, *command, reply), "at {command:?}");
-    }
-}
-
-/// What stands under a name.
-pub type Row = Option<(u64, Option<usize>)>;
-
-/// Expects each name to be answered as its row says; the first row is that of 0.
-pub fn holds(rt: &impl Abort, session: &mut impl Asked, rows: &[Row]) {
-    for (name, row) in rows.iter().enumerate() {
-        let reply = match *row {
-            Some((datum, link)) => Reply::Found(datum, link),
-            None => Reply::Nothing,
-        };
-        assert!(rt; replies(session, Command::Get(name), &reply), "at {name}");
     }
 }
 
@@ -176,64 +151,36 @@ pub trait Trial {
 pub enum Kind {
     /// The pointer of general use, over the heap.
     General,
-    Limited,
-    /// An array of two places.
-    Two,
-    /// Generations of 16 bits.
-    Small,
     /// Generations of a byte.
     ByteGenerations,
     /// Indexes of a byte.
     ByteIndexes,
-    LimitedByteIndexes,
-    /// Indexes of 128 bits.
-    WideIndexes,
 }
 
 type Slot<P> = ArenaSlot<P, Node<u64, P>>;
 
-/// Tries a new session of a kind, made with room for so many where that is given. The one body that
-/// names the types of the kinds, since each such name is slow to prove.
-pub fn try_new(
-    rt: &impl Abort,
-    alloc: Global,
-    kind: Kind,
-    room: Option<usize>,
-    trial: &impl Trial,
-) {
+/// Tries a new session of a kind. The one body that names the types of the kinds, since each such name is
+/// slow to prove.
+pub fn try_new(rt: &impl Abort, alloc: Global, kind: Kind, trial: &impl Trial) {
     match kind {
-        Kind::General => try_at::<P0, NonZeroInxVec<Slot<P0>>>(rt, alloc, room, trial),
-        Kind::Limited => try_at::<P0, NonZeroInxLimitedVec<Slot<P0>>>(rt, alloc, room, trial),
-        Kind::Two => try_at::<P0, NonZeroInxArray<Slot<P0>, 2>>(rt, alloc, room, trial),
-        Kind::Small => try_at::<P3, NonZeroInxVec<Slot<P3>>>(rt, alloc, room, trial),
-        Kind::ByteGenerations => try_at::<B, NonZeroInxVec<Slot<B>>>(rt, alloc, room, trial),
-        Kind::ByteIndexes => try_at::<Narrow, NonZeroInxVec<Slot<Narrow>>>(rt, alloc, room, trial),
-        Kind::LimitedByteIndexes => {
-            try_at::<Narrow, NonZeroInxLimitedVec<Slot<Narrow>>>(rt, alloc, room, trial)
-        }
-        Kind::WideIndexes => try_at::<Wide, NonZeroInxVec<Slot<Wide>>>(rt, alloc, room, trial),
+        Kind::General => try_at::<P0, NonZeroInxVec<Slot<P0>>>(rt, alloc, trial),
+        Kind::ByteGenerations => try_at::<B, NonZeroInxVec<Slot<B>>>(rt, alloc, trial),
+        Kind::ByteIndexes => try_at::<Narrow, NonZeroInxVec<Slot<Narrow>>>(rt, alloc, trial),
     }
 }
 
-// Tries a new session at a pointer and a stack, made with room for so many where that is given.
+// Tries a new session at a pointer and a stack.
 fn try_at<P: Ptr, S: NonZeroInxGenericStack<Slot<P>> + Drop>(
     rt: &impl Abort,
     alloc: Global,
-    room: Option<usize>,
     trial: &impl Trial,
 )
 where
     P::Gen: Numbered,
 {
     assert!(rt; P::Gen::counts());
-    let made: Result<Session<P, u64, S>, AllocError> = match room {
-        Some(room) => Session::with_min_capacity(alloc, room),
-        None => Ok(Session::with_new_arena(alloc)),
-    };
-    match made {
-        Ok(mut session) => trial.pass(rt, alloc, &mut session),
-        Err(_) => panic!(rt; "there is memory"),
-    }
+    let mut session: Session<P, u64, S> = Session::with_new_arena(alloc);
+    trial.pass(rt, alloc, &mut session);
 }
 
 /// Tries a new strict session over the heap, at a pointer.

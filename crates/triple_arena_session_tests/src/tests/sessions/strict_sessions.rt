@@ -2,14 +2,12 @@
 
 use super::commands::AtTheEnd;
 use super::runs::{Flushes, GoesOn};
-use super::sessions::{command_at, reply_at};
-use super::steps::{Asked, Trial, follow, try_strict};
+use super::steps::try_strict;
 use std::alloc::Global;
-use std::array;
 use std::process::Abort;
 use triple_arena::ArenaSlot;
 use triple_arena_ptr::P0;
-use triple_arena_session::{Command, Node, Reply, StrictSession, TextError};
+use triple_arena_session::{Node, Reply, StrictSession, TextError};
 use triple_arena_stack::NonZeroInxArray;
 use triple_arena_trait_kit::B;
 
@@ -32,40 +30,6 @@ fn clears_and_compacts_without_an_entry(rt: HostRuntime) {
         lines: b"cleared\ncompacted\ninvalid\n",
     };
     try_strict::<B>(&rt, rt.alloc(), &trial);
-}
-
-// A run has 509 replies, of which that at 507 is a refusal.
-struct RunsOnPastARefusal;
-
-impl Trial for RunsOnPastARefusal {
-    fn pass(&self, rt: &impl Abort, _alloc: Global, session: &mut impl Asked) {
-        let commands: [Command<u64>; 509] = array::from_fn(command_at);
-        is_refused_once(rt, session.answers(&commands));
-        follow(rt, session, &[(Command::Get(254), Reply::Found(1, None))]);
-        assert!(rt; session.extent().0 == 1);
-    }
-}
-
-// Expects a run to have been refused the removal at 507, and to have gone on.
-fn is_refused_once(rt: &impl Abort, told: Option<Vec<Reply<u64>>>) {
-    let Some(told) = told else {
-        panic!(rt; "there is memory");
-    };
-    assert!(rt; told.len() == 509);
-    for (position, reply) in told.iter().enumerate() {
-        let wanted = match position {
-            507 => Reply::Exhausted,
-            508 => Reply::Count(1),
-            _ => reply_at(position),
-        };
-        assert!(rt; *reply == wanted, "at {position}");
-    }
-}
-
-/// The 254th removal would wrap the byte counter, and is refused; what follows runs.
-#[test]
-fn a_run_goes_on_past_a_refusal(rt: HostRuntime) {
-    try_strict::<B>(&rt, rt.alloc(), &RunsOnPastARefusal);
 }
 
 #[test]

@@ -3,7 +3,6 @@
 mod beside;
 mod counting_stack;
 mod insertions;
-mod links;
 mod small_ptr;
 mod undo;
 mod walks;

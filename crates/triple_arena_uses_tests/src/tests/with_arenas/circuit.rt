@@ -3,10 +3,9 @@ use std::alloc::Global;
 use std::process::Abort;
 use triple_arena::ArenaTrait;
 use triple_arena_ptr::{P0, Ptr, Q2};
-use triple_arena_uses::circuit::{Circuit, CircuitError};
+use triple_arena_uses::circuit::Circuit;
 
 mod large;
-mod refusals;
 
 type Numbers = (usize, u64);
 
@@ -83,45 +82,4 @@ fn each_end_follows(rt: HostRuntime) {
     let wanted = Some((Some(moved), Some((3, Some((1, 4))))));
     assert_eq!(rt; after_compaction(rt.alloc(), true), wanted);
     assert_eq!(rt; after_compaction(rt.alloc(), false), wanted);
-}
-
-// What stands once the reader was untied.
-fn after_disconnection(alloc: Global) -> Option<(Option<Numbers>, Option<Numbers>)> {
-    let mut circuit = Circuit::new(alloc);
-    let (cells, nets) = three_cells(&mut circuit, alloc)?;
-    circuit.disconnect(nets[1], cells[2]).ok()?;
-    Some((net(&circuit, nets[1])?.2, cell(&circuit, cells[2])?.1))
-}
-
-#[test]
-fn both_sides_are_untied(rt: HostRuntime) {
-    assert_eq!(rt; after_disconnection(rt.alloc()), Some((None, None)));
-}
-
-fn refused<T: Drop>(answer: Result<T, CircuitError>) -> Option<CircuitError> {
-    answer.err()
-}
-
-// What is answered while a cell and a net are in use, and what is left once both are taken with
-// their ends.
-fn taken(alloc: Global) -> Option<([Option<CircuitError>; 3], Option<Numbers>, bool)> {
-    let mut circuit = Circuit::new(alloc);
-    let (cells, nets) = three_cells(&mut circuit, alloc)?;
-    let answers = [
-        refused(circuit.remove_cell(cells[1])),
-        refused(circuit.remove_cell(cells[2])),
-        refused(circuit.remove_net(nets[1])),
-    ];
-    circuit.remove_cell_with_ends(cells[1])?;
-    let driver = net(&circuit, nets[1])?.1;
-    circuit.remove_net_with_ends(nets[1])?;
-    let is_free = circuit.remove_cell(cells[2]).is_ok();
-    Some((answers, driver, is_free))
-}
-
-#[test]
-fn ends_go_with_what_has_them(rt: HostRuntime) {
-    let in_use = Some(CircuitError::InUse);
-    let wanted = Some(([in_use, in_use, in_use], None, true));
-    assert_eq!(rt; taken(rt.alloc()), wanted);
 }

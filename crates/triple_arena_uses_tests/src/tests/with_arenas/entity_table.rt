@@ -1,10 +1,9 @@
 use std::alloc::Global;
-use std::num::{NonZeroU64, NonZeroUsize};
+use std::num::NonZeroUsize;
 use std::process::Abort;
 use triple_arena::ArenaSlot;
-use triple_arena_base::ReallocationError;
 use triple_arena_ptr::{P0, Ptr, PtrGen};
-use triple_arena_stack::{NonZeroInxArray, NonZeroInxGenericStack, NonZeroInxVec};
+use triple_arena_stack::{NonZeroInxGenericStack, NonZeroInxVec};
 use triple_arena_uses::{Entity, EntityTable};
 
 type Slot = ArenaSlot<P0, Entity>;
@@ -98,53 +97,4 @@ fn after_damage<S: NonZeroInxGenericStack<Slot> + Drop>(alloc: Global) -> Option
 fn each_entity_is_damaged(rt: HostRuntime) {
     let wanted = Some([Some(20), Some(70), None, Some(0)]);
     assert_eq!(rt; after_damage::<NonZeroInxVec<Slot>>(rt.alloc()), wanted);
-}
-
-// Of five entities all but the first go, in their order, and the table is trimmed: the pointer of the
-// next one, and whether the first is still there.
-fn after_trim<S: NonZeroInxGenericStack<Slot> + Drop>(alloc: Global) -> Option<(P0, bool)> {
-    let mut table: EntityTable<S> = EntityTable::new(alloc);
-    let first = spawned(&mut table, None)?;
-    let others = [
-        spawned(&mut table, None)?,
-        spawned(&mut table, None)?,
-        spawned(&mut table, None)?,
-        spawned(&mut table, None)?,
-    ];
-    for p in others {
-        despawned(&mut table, p);
-    }
-    table.trim();
-    let next = spawned(&mut table, None)?;
-    Some((next, entity(&table, first).is_some()))
-}
-
-#[test]
-fn a_trimmed_table_takes_the_next_index(rt: HostRuntime) {
-    let next = P0::_from_raw(
-        NonZeroUsize::MIN.saturating_add(1),
-        NonZeroU64::MIN.saturating_add(5),
-    );
-    assert_eq!(rt;
-        after_trim::<NonZeroInxVec<Slot>>(rt.alloc()),
-        Some((next, true))
-    );
-}
-
-// Whether two places of three are given, and one again after a despawn.
-fn places<S: NonZeroInxGenericStack<Slot> + Drop>(alloc: Global) -> Option<[bool; 3]> {
-    let mut table: EntityTable<S> = EntityTable::new(alloc);
-    let first = spawned(&mut table, None)?;
-    let second = spawned(&mut table, None).is_some();
-    let is_full = table.spawn(None) == Err(ReallocationError::BeyondMaxCapacity);
-    despawned(&mut table, first);
-    Some([second, is_full, spawned(&mut table, None).is_some()])
-}
-
-#[test]
-fn a_table_in_an_array_is_full_at_last(rt: HostRuntime) {
-    assert_eq!(rt;
-        places::<NonZeroInxArray<Slot, 2>>(rt.alloc()),
-        Some([true; 3])
-    );
 }

@@ -68,25 +68,3 @@ fn each_pin_follows_its_gate(rt: HostRuntime) {
     let wanted = Some(([(2, 4), (1, 4)], Some((2, 4))));
     assert_eq!(rt; after_compaction(rt.alloc()), wanted);
 }
-
-// Which pointer refuses a compaction where an input that isn't the first leads nowhere, and what the gate
-// holds then.
-fn after_refusal(alloc: Global) -> Option<(Option<Numbers>, Option<Held>)> {
-    let mut gates = Gates::new(alloc);
-    let first = lone(&mut gates, alloc)?;
-    let gone = lone(&mut gates, alloc)?;
-    let last = fed(&mut gates, [first, gone], Some(first), alloc)?;
-    removed(&mut gates, gone);
-    let refused = match compacted(&mut gates, alloc) {
-        Err(CompactError::Unresolved(p)) => Some(numbers(p)),
-        _ => None,
-    };
-    Some((refused, held(&gates, last)))
-}
-
-#[test]
-fn a_loose_pin_is_no_compaction(rt: HostRuntime) {
-    let kept = Some(([(1, 2), (2, 2)], Some((1, 2))));
-    let wanted = Some((Some((2, 2)), kept));
-    assert_eq!(rt; after_refusal(rt.alloc()), wanted);
-}

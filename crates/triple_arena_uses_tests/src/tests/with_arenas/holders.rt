@@ -25,13 +25,13 @@ fn links(alloc: Global) -> Option<(Arena<P0, Link>, P0)> {
 }
 
 // Two ports, and a row of the table of names.
-fn border(alloc: Global, port: P0, named: P0) -> Option<LinkBorder> {
+fn border(alloc: Global, link: P0) -> Option<LinkBorder> {
     let mut ports = Vec::new(alloc);
     ports.push(Port::Open).ok()?;
-    ports.push(Port::Input(port)).ok()?;
+    ports.push(Port::Input(link)).ok()?;
     let mut rows = Vec::new(alloc);
     let name = String::from_str(alloc, "clock").ok()?;
-    rows.push(Named { name, link: named }).ok()?;
+    rows.push(Named { name, link }).ok()?;
     Some(LinkBorder {
         ports,
         names: Names { rows },
@@ -50,42 +50,28 @@ fn seen(border: &LinkBorder) -> Option<(Numbers, Numbers)> {
     Some((numbers(*port), numbers(row.link)))
 }
 
-// Whether a compaction is done, where a name leads to the link or nowhere, and the border then.
-fn with_border(alloc: Global, named: Option<P0>) -> Option<(bool, (Numbers, Numbers))> {
+// What the border of the link leads to once that is compacted.
+fn with_border(alloc: Global) -> Option<(Numbers, Numbers)> {
     let (mut links, kept) = links(alloc)?;
-    let mut border = border(alloc, kept, named.unwrap_or(kept))?;
-    let is_done = compact_with_border(&mut links, &mut border, alloc).is_ok();
-    Some((is_done, seen(&border)?))
+    let mut border = border(alloc, kept)?;
+    drop(compact_with_border(&mut links, &mut border, alloc).ok()?);
+    seen(&border)
 }
 
 #[test]
 fn ports_and_names_follow(rt: HostRuntime) {
-    let wanted = Some((true, ((1, 4), (1, 4))));
-    assert_eq!(rt; with_border(rt.alloc(), None), wanted);
-}
-
-#[test]
-fn no_port_follows_where_a_name_leads_nowhere(rt: HostRuntime) {
-    let wanted = Some((false, ((2, 2), (usize::MAX, 1))));
-    assert_eq!(rt; with_border(rt.alloc(), Some(P0::invalid())), wanted);
+    assert_eq!(rt; with_border(rt.alloc()), Some(((1, 4), (1, 4))));
 }
 
 // The same of two holders that are in no struct together.
-fn with_two(alloc: Global, second: Option<P0>) -> Option<(bool, Numbers, Numbers)> {
+fn with_two(alloc: Global) -> Option<(Numbers, Numbers)> {
     let (mut links, kept) = links(alloc)?;
-    let (mut first, mut second) = (kept, Some(second.unwrap_or(kept)));
-    let is_done = compact_with_two(&mut links, &mut first, &mut second, alloc).is_ok();
-    Some((is_done, numbers(first), numbers(second?)))
+    let (mut first, mut second) = (kept, Some(kept));
+    drop(compact_with_two(&mut links, &mut first, &mut second, alloc).ok()?);
+    Some((numbers(first), numbers(second?)))
 }
 
 #[test]
 fn two_holders_follow(rt: HostRuntime) {
-    let wanted = Some((true, (1, 4), (1, 4)));
-    assert_eq!(rt; with_two(rt.alloc(), None), wanted);
-}
-
-#[test]
-fn no_holder_follows_where_one_leads_nowhere(rt: HostRuntime) {
-    let wanted = Some((false, (2, 2), (usize::MAX, 1)));
-    assert_eq!(rt; with_two(rt.alloc(), Some(P0::invalid())), wanted);
+    assert_eq!(rt; with_two(rt.alloc()), Some(((1, 4), (1, 4))));
 }

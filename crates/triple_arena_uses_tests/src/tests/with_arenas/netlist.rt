@@ -61,17 +61,3 @@ fn a_wire_follows_its_gate(rt: HostRuntime) {
     let wanted = Some([None, Some((10, None)), Some((30, Some((1, 4))))]);
     assert_eq!(rt; a_wire_after_compaction(rt.alloc()), wanted);
 }
-
-fn a_wire_after_refusal(alloc: Global) -> Option<(bool, Option<(u32, Option<Numbers>)>)> {
-    let mut wired = Netlist::new(alloc);
-    let (first, second) = two_gates(&mut wired)?;
-    removed(&mut wired, first)?;
-    let is_refused = compacted(&mut wired, alloc).is_none();
-    Some((is_refused, gate(&wired, second)))
-}
-
-#[test]
-fn a_wire_to_a_removed_gate_is_no_compaction(rt: HostRuntime) {
-    let wanted = Some((true, Some((30, Some((1, 2))))));
-    assert_eq!(rt; a_wire_after_refusal(rt.alloc()), wanted);
-}

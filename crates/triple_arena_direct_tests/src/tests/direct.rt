@@ -79,9 +79,9 @@ fn three<S: NonZeroInxGenericStack<Slot> + Drop>(
     alloc: Global,
 ) -> Result<DirectArena<P0, u64, S>, Fail> {
     let mut arena = of_four::<S>(alloc)?;
-    *arena
+    arena
         .direct_insert_within_capacity(pointer(4, 3))?
-        .insert(0) = 400;
+        .insert(400);
     for (p, value) in [(pointer(1, 2), 1), (pointer(2, 5), 20)] {
         if arena.can_direct_insert(p) {
             arena.direct_insert_reserved(p, value);

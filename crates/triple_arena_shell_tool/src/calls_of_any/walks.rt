@@ -106,15 +106,16 @@ fn drain<R: Print, P: Ptr, A: CompactArenaTrait<P, Value>>(
     line.answer(&drained(line.alloc, arena, size(n)?)?)
 }
 
-// What so many steps of a drain take out, which is let go then.
+// What so many steps of a drain take out, which is let go then: it has no more than there are entries.
 fn drained<P: Ptr, A: CompactArenaTrait<P, Value>>(
     alloc: Global,
     arena: &mut A,
     steps: usize,
 ) -> Result<Vec<InvalidationOption<(P, Value)>>, Stop> {
     let mut taken = Vec::new(alloc);
+    let most = steps.min(arena.len());
     let mut drain = arena.drain();
-    for _ in 0..steps {
+    for _ in 0..most {
         if let Some(entry) = drain.next() {
             taken.push(entry)?;
         }

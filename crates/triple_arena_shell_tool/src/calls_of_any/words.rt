@@ -68,7 +68,8 @@ fn generation_in_brackets<G: Numbered>(word: &str) -> Result<G, Stop> {
             let digits = rest.strip_suffix(')').ok_or(Stop::Malformed)?;
             G::of_number(hexadecimal(digits)?).ok_or(Stop::Malformed)
         }
-        None => G::of_number(0).ok_or(Stop::Malformed),
+        None if word.is_empty() => G::of_number(0).ok_or(Stop::Malformed),
+        None => Err(Stop::Malformed),
     }
 }
 

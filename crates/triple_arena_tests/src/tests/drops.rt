@@ -60,6 +60,21 @@ fn each_ending<'a, A: CompactArenaTrait<P0, Value<'a>>>(
     Ok(())
 }
 
+// Inserts by an entry, and writes another value over it: whether there was an entry.
+fn writes_over_entry<T: Drop, S: NonZeroInxGenericStack<ArenaSlot<P0, T>>>(
+    arena: &mut Arena<P0, T, S>,
+    first: T,
+    second: T,
+) -> bool {
+    match arena.entry_insert() {
+        Ok(entry) => {
+            *entry.insert(first) = second;
+            true
+        }
+        Err(_) => false,
+    }
+}
+
 // Each insertion into a new arena of four places, the endings, and values that are cleared and dropped.
 fn each_drop<'a, S: NonZeroInxGenericStack<Slot<'a>> + Drop>(
     rt: &impl Abort,
@@ -71,7 +86,7 @@ fn each_drop<'a, S: NonZeroInxGenericStack<Slot<'a>> + Drop>(
     arena.insert_reallocating(value(alloc, live))?;
     assert!(rt; arena.insert_within_capacity(value(alloc, live)).is_ok());
     drop(arena.entry_insert());
-    *arena.entry_insert()?.insert(value(alloc, live)) = value(alloc, live);
+    assert!(rt; writes_over_entry(&mut arena, value(alloc, live), value(alloc, live)));
     // a value that the capacity refuses
     assert!(rt; arena.insert_within_capacity(value(alloc, live)).is_err());
     each_ending(rt, alloc, &mut arena, live)?;
@@ -102,6 +117,26 @@ fn a_value_that_growth_refuses_is_dropped_once(rt: HostRuntime) {
     assert!(rt; arena.insert_reallocating(value(alloc, &live)).is_err() && live.get() == 0);
 }
 
+// Inserts by the entry under a pointer of the generation 2, and writes another value over it, if there is
+// one: whether there was an entry.
+fn is_placed<T: Drop, S: NonZeroInxGenericStack<DirectSlot<P0, T>>>(
+    arena: &mut DirectArena<P0, T, S>,
+    index: usize,
+    first: T,
+    second: Option<T>,
+) -> bool {
+    match arena.direct_insert_within_capacity(pointer(index, 2)) {
+        Ok(entry) => {
+            let held = entry.insert(first);
+            if let Some(second) = second {
+                *held = second;
+            }
+            true
+        }
+        Err(_) => false,
+    }
+}
+
 // So of a direct arena.
 fn each_direct_drop<'a, S: NonZeroInxGenericStack<DirectSlot<P0, Value<'a>>> + Drop>(
     rt: &impl Abort,
@@ -109,12 +144,8 @@ fn each_direct_drop<'a, S: NonZeroInxGenericStack<DirectSlot<P0, Value<'a>>> + D
     live: &'a Cell<u64>,
 ) -> Result<(), Fail> {
     let mut arena: DirectArena<P0, Value<'a>, S> = DirectArena::with_min_capacity(alloc, 4)?;
-    arena
-        .direct_insert_within_capacity(pointer(4, 2))?
-        .insert(value(alloc, live));
-    *arena
-        .direct_insert_within_capacity(pointer(1, 2))?
-        .insert(value(alloc, live)) = value(alloc, live);
+    assert!(rt; is_placed(&mut arena, 4, value(alloc, live), None));
+    assert!(rt; is_placed(&mut arena, 1, value(alloc, live), Some(value(alloc, live))));
     drop(arena.direct_insert_within_capacity(pointer(2, 2)));
     for index in [2, 3] {
         if arena.can_direct_insert(pointer(index, 2)) {
@@ -122,18 +153,13 @@ fn each_direct_drop<'a, S: NonZeroInxGenericStack<DirectSlot<P0, Value<'a>>> + D
         }
     }
     each_ending(rt, alloc, &mut arena, live)?;
-    for index in [4, 2] {
-        arena
-            .direct_insert_within_capacity(pointer(index, 2))?
-            .insert(value(alloc, live));
-    }
+    assert!(rt; is_placed(&mut arena, 4, value(alloc, live), None));
+    assert!(rt; is_placed(&mut arena, 2, value(alloc, live), None));
     drop(arena.remove(pointer(4, 2)));
     assert!(rt; arena.pop_free_end_slots(2) == 2 && live.get() == 1);
     drop(arena.clear());
     assert_eq!(rt; live.get(), 0);
-    arena
-        .direct_insert_within_capacity(pointer(3, 2))?
-        .insert(value(alloc, live));
+    assert!(rt; is_placed(&mut arena, 3, value(alloc, live), None));
     drop(arena);
     assert_eq!(rt; live.get(), 0);
     Ok(())
@@ -224,9 +250,7 @@ fn a_value_that_is_copied_is_dropped_once(rt: HostRuntime) -> Result<(), Fail> {
     each_clone(&rt, alloc, &source, &mut target, &live);
     assert!(rt; goes_over(&mut target, &mut source) && live.get() == 2);
     let mut direct: DirectArena<P0, Value<'_>> = DirectArena::with_min_capacity(alloc, 1)?;
-    direct
-        .direct_insert_within_capacity(pointer(1, 2))?
-        .insert(value(alloc, &live));
+    assert!(rt; is_placed(&mut direct, 1, value(alloc, &live), None));
     let mut other: DirectArena<P0, Value<'_>> = DirectArena::new(alloc);
     assert!(rt; goes_over_to_direct(&mut other, &mut target) && live.get() == 3);
     each_clone(&rt, alloc, &other, &mut direct, &live);

@@ -46,7 +46,7 @@ fn call_twice<A: TestedArena>(arena: &mut A, call: Call, expected: Told) -> Resu
     let before = arena.state();
     let told = arena.answer(call);
     if told != NO_MEMORY {
-        is_told(0, told, A::expected(expected))?;
+        is_told(0, told, expected)?;
         return Ok(End::Ample);
     }
     let left = match call {

@@ -1,7 +1,6 @@
 //! A value whose clone asks for memory.
 
 use std::alloc::{AllocError, Global};
-use triple_arena_base::InvalidationOption;
 use triple_arena_trait_kit::Shown;
 use triple_arena_trait_kit::refused::ask;
 
@@ -31,9 +30,5 @@ impl Clone for Costly {
 impl Shown for Costly {
     fn shown(&self) -> u64 {
         self.number
-    }
-
-    fn received(taken: InvalidationOption<Costly>) -> Costly {
-        taken.allow()
     }
 }

@@ -8,8 +8,8 @@ use triple_arena_base::CompactError;
 use triple_arena_direct::compress_recast;
 use triple_arena_ptr::{P0, Ptr, PtrGen};
 use triple_arena_stack::{HeapStack, NonZeroInxGenericStack, NonZeroInxStack};
-use triple_arena_trait_kit::{Counted, Wrong};
 use triple_arena_trait_kit::refused::{End, Report};
+use triple_arena_trait_kit::{Counted, Wrong};
 
 type Value<'a> = Counted<'a, P0>;
 

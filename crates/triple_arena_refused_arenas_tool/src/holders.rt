@@ -9,7 +9,7 @@ use crate::asking::NO_MEMORY;
 use crate::compactions::{DANGLING, LINKED, Node, arena, strict, told_compaction};
 use std::alloc::Global;
 use triple_arena::{Arena, ArenaInsertTrait, ArenaTrait};
-use triple_arena_base::{CompactError, InvalidationOption, Recast, Recaster};
+use triple_arena_base::{CompactError, Recast, Recaster};
 use triple_arena_direct::{
     CompactBothError, StrictArena, StrictCompactError, compress_recast_both, compress_recast_with,
 };
@@ -68,10 +68,6 @@ impl Shown for Cell {
         let (inx, generation) = (self.reads.inx(), self.reads.generation());
         shown_pointer(index_number(inx), generation.get())
     }
-
-    fn received(taken: InvalidationOption<Cell>) -> Cell {
-        taken.allow()
-    }
 }
 
 // A net, with the cell that drives it.
@@ -118,10 +114,6 @@ impl Shown for Net {
     fn shown(&self) -> u64 {
         let (inx, generation) = (self.driver.inx(), self.driver.generation());
         shown_pointer(index_number(inx), generation.get())
-    }
-
-    fn received(taken: InvalidationOption<Net>) -> Net {
-        taken.allow()
     }
 }
 

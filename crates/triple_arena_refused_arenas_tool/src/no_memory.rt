@@ -230,9 +230,9 @@ fn numbers(alloc: Global) -> Result<Arena<P0, u64>, Wrong> {
 }
 
 // Clones into an arena that has the room.
-fn clones_into<A: ArenaCloneFromWith<P0, u64>>(
+fn clones_into<A: ArenaCloneFromWith<P0, u64>, S: NonZeroInxGenericStack<ArenaSlot<P0, u64>>>(
     target: &mut A,
-    source: &Arena<P0, u64>,
+    source: &Arena<P0, u64, S>,
 ) -> Result<(), Wrong> {
     holds(1, target.clone_from(source).is_ok())?;
     let mapped = target.clone_from_with(source, |_p, number: &u64| -> Result<u64, u64> {
@@ -251,30 +251,48 @@ fn loops(alloc: Global) -> Result<End, Wrong> {
     Ok(End::Ample)
 }
 
-// Copies into arenas that have the room, one of them over this stack.
+// An arena over this stack that has the room, into which another was cloned.
+fn cloned_on<S: NonZeroInxGenericStack<ArenaSlot<P0, u64>> + Drop>(
+    alloc: Global,
+    source: &Arena<P0, u64>,
+) -> Result<Arena<P0, u64, S>, Wrong> {
+    let mut target: Arena<P0, u64, S> = Arena::with_min_capacity(alloc, 8)?;
+    insert_each(&mut target, 5, &[2, 4], |number| number)?;
+    clones_into(&mut target, source)?;
+    Ok(target)
+}
+
+// The values of an arena go over to one that has the room.
+fn goes_over<S: NonZeroInxGenericStack<ArenaSlot<P0, u64>>>(
+    target: &mut Arena<P0, u64, S>,
+    source: &mut Arena<P0, u64>,
+) -> Result<(), Wrong> {
+    let generation = <P0 as Ptr>::Gen::two();
+    let moved = target.transfer_reallocating(generation, source, |_old, taken, _new| taken.allow());
+    holds(3, moved.is_ok() && source.is_empty() && target.len() == 3)
+}
+
+// A clone into a direct arena that has the room, and the values go over to it.
+fn copies_to_direct<S: NonZeroInxGenericStack<ArenaSlot<P0, u64>>>(
+    alloc: Global,
+    source: &mut Arena<P0, u64, S>,
+) -> Result<End, Wrong> {
+    let mut direct: DirectArena<P0, u64> = DirectArena::with_min_capacity(alloc, 8)?;
+    clones_into(&mut direct, source)?;
+    let generation = <P0 as Ptr>::Gen::two();
+    let moved = direct.transfer_reallocating(generation, source, |_old, taken, _new| taken.allow());
+    holds(4, moved.is_ok() && source.is_empty() && direct.len() == 3)?;
+    Ok(End::Ample)
+}
+
+// Copies into an arena over this stack, and from it into a direct arena, which have the room.
 fn copies_on<S: NonZeroInxGenericStack<ArenaSlot<P0, u64>> + Drop>(
     alloc: Global,
 ) -> Result<End, Wrong> {
     let mut source = numbers(alloc)?;
-    let mut target: Arena<P0, u64, S> = Arena::with_min_capacity(alloc, 8)?;
-    insert_each(&mut target, 5, &[2, 4], |number| number)?;
-    let mut direct: DirectArena<P0, u64> = DirectArena::with_min_capacity(alloc, 8)?;
-    clones_into(&mut target, &source)?;
-    clones_into(&mut direct, &source)?;
-    let generation = <P0 as Ptr>::Gen::two();
-    let moved = target.transfer_reallocating(
-        generation,
-        &mut source,
-        |_old, taken, _new| taken.allow(),
-    );
-    holds(3, moved.is_ok() && source.is_empty() && target.len() == 3)?;
-    let moved = direct.transfer_reallocating(
-        generation,
-        &mut target,
-        |_old, taken, _new| taken.allow(),
-    );
-    holds(4, moved.is_ok() && target.is_empty() && direct.len() == 3)?;
-    Ok(End::Ample)
+    let mut target = cloned_on::<S>(alloc, &source)?;
+    goes_over(&mut target, &mut source)?;
+    copies_to_direct(alloc, &mut target)
 }
 
 // Compactions of an arena without entries, for which no map is made.

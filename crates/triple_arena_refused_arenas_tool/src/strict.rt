@@ -79,10 +79,6 @@ impl<S: NonZeroInxGenericStack<ArenaSlot<P0, Token>>> TestedArena for Strict<S> 
         }
     }
 
-    fn expected(told: Told) -> Told {
-        told
-    }
-
     fn state(&self) -> State {
         state_of(self.arena.arena())
     }

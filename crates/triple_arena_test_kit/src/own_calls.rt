@@ -1,10 +1,8 @@
 //! The calls of an `Arena` by its entries and on its limit, each alone, and what it answers.
 
-ghost use Rattle.std.specs.Prelude.{◌≡◌, ◌<◌, OnOk, OnErr};
+ghost use Rattle.std.specs.Prelude.{◌<◌};
 ghost use Rattle.triple_arena_traits.specs.ArenaState.{arena_len, capacity};
 ghost use Rattle.triple_arena.specs.InsertEntry.{entry_arena};
-ghost use Rattle.triple_arena_traits.specs.Insertion.{inserted};
-ghost use Rattle.triple_arena_traits.specs.SlotSteps.{touched, insertion_steps};
 
 use triple_arena::{Arena, ArenaInsertEntry, ArenaInsertEntryTrait, ArenaSlot};
 use triple_arena_base::{MaxCapacityReductionError, NotWithinCapacityError};
@@ -87,21 +85,6 @@ where
         Ok(entry) => told_by(entry, number),
         Err(NotWithinCapacityError) => Told::Full,
     }
-}
-
-/// Inserts `first` within the capacity by an entry, and writes `second` over it.
-pub fn insert_and_write<P: Ptr, T: Drop, S: NonZeroInxGenericStack<ArenaSlot<P, T>>>(
-    arena: &mut Arena<P, T, S>,
-    first: T,
-    second: T,
-) -> Result<(), NotWithinCapacityError>
-    ensures inserted { OnOk result
-        (arena.new ≡ touched (insertion_steps arena.old) (inserted arena.old second)) }
-    ensures refused { OnErr result (arena.new ≡ arena.old) }
-{
-    let entry = arena.entry_insert_within_capacity()?;
-    *entry.insert(first) = second;
-    Ok(())
 }
 
 pub fn set_limit<P: Ptr, T, S: SetMaxCapacity<ArenaSlot<P, T>>>(

@@ -2,26 +2,17 @@
 
 use crate::state::state_of;
 use crate::{index_calls, own_calls, writing_calls};
-use std::fmt;
-use std::fmt::{Debug, Formatter, Write};
 use triple_arena::{Arena, ArenaInsertTrait, ArenaSlot, CompactArenaTrait, DisjointableArenaTrait};
 use triple_arena_ptr::Ptr;
 use triple_arena_stack::{NonZeroInxGenericStack, SetMaxCapacity};
 use triple_arena_trait_kit::{
-    Call, Numbered, State, TestedArena, Token, Told, answer_by_traits, told_placed, told_raise,
+    Call, Numbered, State, TestedArena, Token, Told, answer_by_traits, told_raise,
 };
 
 /// An `Arena` that tables of calls are tried on.
 #[derive(Drop)]
 pub struct Tested<P: Ptr, S: NonZeroInxGenericStack<ArenaSlot<P, Token>>> {
     pub arena: Arena<P, Token, S>,
-}
-
-/// Its text is the arena's.
-impl<P: Ptr, S: NonZeroInxGenericStack<ArenaSlot<P, Token>>> Debug for Tested<P, S> {
-    fn fmt<W: Write>(&self, f: &mut Formatter<W>) -> fmt::Result {
-        self.arena.fmt(f)
-    }
 }
 
 /// An `Arena` over a stack whose limit can be set, that tables of calls are tried on.
@@ -74,12 +65,9 @@ where
     let p: P = call.first();
     let number = call.number();
     match call {
-        Call::Bounds
-        | Call::Generation
-        | Call::Slots
-        | Call::Root
-        | Call::FirstFree
-        | Call::SlotAt(_) => state_of(arena).told(call),
+        Call::Bounds | Call::Slots | Call::Root | Call::FirstFree | Call::SlotAt(_) => {
+            state_of(arena).told(call)
+        }
         Call::SetGeneration(_) => {
             arena.set_generation(p.generation());
             Told::Done
@@ -100,15 +88,8 @@ where
             index_calls::under_pointer(arena, p, number)
         }
         Call::EntryPtr | Call::EntryInsert(_) => own_calls::entry(arena, number),
-        Call::EntryPtrReallocating | Call::EntryInsertReallocating(_) => {
-            own_calls::entry_reallocating(arena, number)
-        }
-        Call::EntryPtrWithin | Call::EntryInsertWithin(_) => own_calls::entry_within(arena, number),
-        Call::EntryWrite(first, second) => told_placed(own_calls::insert_and_write(
-            arena,
-            Token { number: first },
-            Token { number: second },
-        )),
+        Call::EntryInsertReallocating(_) => { own_calls::entry_reallocating(arena, number) }
+        Call::EntryInsertWithin(_) => own_calls::entry_within(arena, number),
         Call::AddToEach(added) => writing_calls::add_to_each(arena, added),
         Call::AddToEachEntry(added) => writing_calls::add_to_each_entry(arena, added),
         Call::AddToEachValue(added) => writing_calls::add_to_each_value(arena, added),
@@ -122,10 +103,6 @@ where
 {
     fn answer(&mut self, call: Call) -> Told {
         arena_answer(&mut self.arena, call)
-    }
-
-    fn expected(told: Told) -> Told {
-        told.at_type::<P::Gen>()
     }
 
     fn state(&self) -> State {
@@ -142,10 +119,6 @@ where
             Call::SetLimit(limit) => own_calls::set_limit(&mut self.tested.arena, limit),
             _ => self.tested.answer(call),
         }
-    }
-
-    fn expected(told: Told) -> Told {
-        told.at_type::<P::Gen>()
     }
 
     fn state(&self) -> State {

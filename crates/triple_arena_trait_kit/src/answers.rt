@@ -22,7 +22,7 @@ where
     let p: P = call.first();
     let number = call.number();
     match call {
-        Call::GetMut(_, _) | Call::Write(_, _, _) => told_written(arena.get_mut(p), number),
+        Call::GetMut(_, _) => told_written(arena.get_mut(p), number),
         Call::GetInxMut(_) | Call::WriteInx(_, _) => {
             told_written(arena.get_inx_mut(p.inx()), number)
         }

@@ -10,12 +10,10 @@ pub enum Call {
     // of every arena, to read
     IsEmpty,
     Bounds,
-    SingularGeneration,
     NextPtr,
     Get(usize, u64),
     GetInx(usize),
     Contains(usize, u64),
-    GenerationAt(usize),
     First,
     Last,
     // of every arena, to change it
@@ -25,7 +23,6 @@ pub enum Call {
     InsertReserved(u64),
     GetMut(usize, u64),
     GetInxMut(usize),
-    Write(usize, u64, u64),
     WriteInx(usize, u64),
     Invalidate(usize, u64),
     Remove(usize, u64),
@@ -38,7 +35,6 @@ pub enum Call {
     Entries,
     StepsFromFirst,
     StepsFrom(usize, bool),
-    NoSteps,
     AddToAll(u64),
     Drain(usize),
     Compress(bool),
@@ -50,7 +46,6 @@ pub enum Call {
     Lend((usize, u64), (usize, u64), u64),
     LendInx(usize, usize, u64),
     // of an `Arena`
-    Generation,
     SetGeneration(u64),
     IncGeneration,
     Canonicalize,
@@ -64,12 +59,9 @@ pub enum Call {
     Index(usize, u64),
     WriteIndex(usize, u64, u64),
     EntryPtr,
-    EntryPtrReallocating,
-    EntryPtrWithin,
     EntryInsert(u64),
     EntryInsertReallocating(u64),
     EntryInsertWithin(u64),
-    EntryWrite(u64, u64),
     AddToEach(u64),
     AddToEachEntry(u64),
     AddToEachValue(u64),
@@ -78,9 +70,6 @@ pub enum Call {
     DirectInsertReserved(usize, u64, u64),
     /// Of the first value, in whose place the second is written at once.
     DirectInsertAndWrite(usize, u64, u64, u64),
-    /// A place that is asked for and let go.
-    DirectAsk(usize, u64),
-    CanDirectInsert(usize, u64),
     PopFreeEnd(usize),
     // of an arena over a stack whose limit can be set
     SetLimit(usize),
@@ -111,19 +100,15 @@ impl Call {
             Call::Get(index, number)
             | Call::Contains(index, number)
             | Call::GetMut(index, number)
-            | Call::Write(index, number, _)
             | Call::Invalidate(index, number)
             | Call::Remove(index, number)
             | Call::Index(index, number)
             | Call::WriteIndex(index, number, _)
             | Call::DirectInsert(index, number, _)
             | Call::DirectInsertReserved(index, number, _)
-            | Call::DirectInsertAndWrite(index, number, _, _)
-            | Call::DirectAsk(index, number)
-            | Call::CanDirectInsert(index, number) => (index, number),
+            | Call::DirectInsertAndWrite(index, number, _, _) => (index, number),
             Call::Swap(place, _) | Call::Lend(place, _, _) => place,
             Call::GetInx(index)
-            | Call::GenerationAt(index)
             | Call::GetInxMut(index)
             | Call::WriteInx(index, _)
             | Call::RemoveInx(index)
@@ -181,8 +166,7 @@ impl Call {
     /// The number that the call inserts or writes, if it has one.
     pub fn number(self) -> Option<u64> {
         match self {
-            Call::Write(_, _, number)
-            | Call::WriteInx(_, number)
+            Call::WriteInx(_, number)
             | Call::WriteInxUnwrap(_, number)
             | Call::WriteIndex(_, _, number)
             | Call::EntryInsert(number)
@@ -196,11 +180,9 @@ impl Call {
     pub fn kind(self) -> Kind {
         match self {
             Call::IsEmpty
-            | Call::SingularGeneration
             | Call::Get(_, _)
             | Call::GetInx(_)
             | Call::Contains(_, _)
-            | Call::GenerationAt(_)
             | Call::First
             | Call::Last => Kind::Reading,
             Call::NextPtr
@@ -213,7 +195,6 @@ impl Call {
             | Call::Entries
             | Call::StepsFromFirst
             | Call::StepsFrom(_, _)
-            | Call::NoSteps
             | Call::AddToAll(_)
             | Call::Drain(_)
             | Call::Compress(_)

@@ -1,5 +1,5 @@
-//! What tests of arenas share of calls and their answers as values: pointers of each kind, a stack
-//! whose memory ends, what any arena answers that has the traits, and tables that are tried on it.
+//! What tests and tools share: pointers of each kind, a stack whose memory ends, values that are counted,
+//! and for tools calls and their answers as values, what any arena answers, and tables that are tried on it.
 #![tactic(auto)]
 
 mod answers;
@@ -16,10 +16,9 @@ mod shown;
 mod state;
 mod tables;
 mod tested_arena;
-mod token;
 mod texts;
+mod token;
 mod told;
-mod trial;
 mod walk_calls;
 mod wrong;
 
@@ -35,13 +34,10 @@ pub use scarce_stack::Scarce;
 pub use seen::answer_to_read;
 pub use shown::Shown;
 pub use state::{SLOTS, State};
-pub use tables::{follow, follow_tidied, follow_to, follow_unchanged, has_state, step, step_at};
+pub use tables::{follow, has_state, step};
 pub use tested_arena::TestedArena;
 pub use texts::is_shown;
 pub use token::Token;
-pub use told::{
-    NO_ENTRY, NO_POINTER, NO_VALUE, NOT_DRAINED, Told, told_placed, told_pointer, told_raise,
-};
-pub use trial::{Removed, Steps, Trial, Unchanged};
-pub use walk_calls::{entry_numbers, next_steps};
-pub use wrong::{Wrong, is_text, is_told};
+pub use told::{NO_ENTRY, NO_VALUE, NOT_DRAINED, Told, told_pointer, told_raise};
+pub use walk_calls::entry_numbers;
+pub use wrong::{Wrong, is_told};

@@ -3,7 +3,7 @@
 use crate::call::Call;
 use crate::numbered::Numbered;
 use crate::token::Token;
-use crate::told::{Told, told_found, told_generation, told_held, told_value};
+use crate::told::{Told, told_found, told_held, told_value};
 use triple_arena_ptr::Ptr;
 use triple_arena_traits::ArenaTrait;
 
@@ -15,10 +15,8 @@ struct Seen {
     contains: bool,
     value: Told,
     entry: Told,
-    generation: Told,
     first: Told,
     last: Told,
-    singular: Told,
 }
 
 impl Seen {
@@ -26,11 +24,9 @@ impl Seen {
     fn told(self, call: Call) -> Told {
         match call {
             Call::IsEmpty => Told::Is(self.is_empty),
-            Call::SingularGeneration => self.singular,
             Call::Get(_, _) => self.value,
             Call::GetInx(_) => self.entry,
             Call::Contains(_, _) => Told::Is(self.contains),
-            Call::GenerationAt(_) => self.generation,
             Call::First => self.first,
             Call::Last => self.last,
             _ => Told::NoSuchCall,
@@ -49,10 +45,8 @@ where
         contains: arena.contains(p),
         value: told_value(arena.get(p)),
         entry: told_held(arena.get_inx(p.inx())),
-        generation: told_generation(arena.generation_at(p.inx())),
         first: told_found(arena.find_first_inx_ptr()),
         last: told_found(arena.find_last_inx_ptr()),
-        singular: told_generation(arena.singular_generation()),
     };
     seen.told(call)
 }

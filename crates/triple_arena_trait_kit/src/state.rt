@@ -37,12 +37,11 @@ impl State {
     pub fn told(&self, call: Call) -> Told {
         match call {
             Call::Bounds => Told::Bounds(self.len, self.capacity, self.limit),
-            Call::Generation => Told::Generation(self.counter),
             Call::Slots => Told::Size(self.slots),
             Call::Root if self.free[0] == 0 => Told::Nothing,
             Call::Root => Told::Size(self.free[0]),
-            Call::FirstFree => Told::Free([self.free[0], self.free[1], self.free[2]]),
             Call::SlotAt(index) => told_slot(self, index),
+            Call::FirstFree => Told::Free([self.free[0], self.free[1], self.free[2]]),
             _ => Told::NoSuchCall,
         }
     }

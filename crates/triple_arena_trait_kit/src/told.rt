@@ -35,7 +35,6 @@ pub enum Told {
     Size(usize),
     /// Length, capacity and limit.
     Bounds(usize, usize, Option<usize>),
-    Generation(u64),
     /// A pointer.
     At(usize, u64),
     /// A value.
@@ -46,8 +45,6 @@ pub enum Told {
     Both(u64, u64),
     /// Two generations, each before its value.
     BothHeld(u64, u64, u64, u64),
-    /// A value that is given back.
-    GivenBack(u64),
     // `Done`, `At`, `Holds` and `Held`, where the counter wrapped.
     Wrapped,
     WrappedAt(usize, u64),
@@ -76,52 +73,6 @@ pub enum Told {
     NoSuchCall,
 }
 
-// The number under which a type of generations tells the generation of this number, and 0 where
-// there is none.
-fn told_as<G: Numbered>(number: u64) -> u64 {
-    match G::of_number(number) {
-        Some(generation) if number > 0 => generation.told_number(),
-        _ => number,
-    }
-}
-
-// A pointer by its numbers, as it is told where generations are of the type `G`.
-fn pointer_as<G: Numbered>(met: (usize, u64)) -> (usize, u64) {
-    (met.0, told_as::<G>(met.1))
-}
-
-// An entry by its numbers, as it is told where generations are of the type `G`.
-fn entry_as<G: Numbered>(met: (usize, u64, u64)) -> (usize, u64, u64) {
-    (met.0, told_as::<G>(met.1), met.2)
-}
-
-// An entry that a drain took out, as it is told where generations are of the type `G`.
-fn drained_as<G: Numbered>(met: (usize, u64, u64, bool)) -> (usize, u64, u64, bool) {
-    (met.0, told_as::<G>(met.1), met.2, met.3)
-}
-
-impl Told {
-    /// This answer, as it is told on pointers whose generations are of the type `G`.
-    pub fn at_type<G: Numbered>(self) -> Told {
-        match self {
-            Told::Generation(g) => Told::Generation(told_as::<G>(g)),
-            Told::At(index, g) => Told::At(index, told_as::<G>(g)),
-            Told::Held(g, number) => Told::Held(told_as::<G>(g), number),
-            Told::BothHeld(g, a, h, b) => Told::BothHeld(told_as::<G>(g), a, told_as::<G>(h), b),
-            Told::WrappedAt(index, g) => Told::WrappedAt(index, told_as::<G>(g)),
-            Told::WrappedHeld(g, number) => Told::WrappedHeld(told_as::<G>(g), number),
-            Told::Met(a, b, c) => Told::Met(entry_as::<G>(a), entry_as::<G>(b), entry_as::<G>(c)),
-            Told::MetPointers(p, q, r) => {
-                Told::MetPointers(pointer_as::<G>(p), pointer_as::<G>(q), pointer_as::<G>(r))
-            }
-            Told::Drained(a, b, c) => {
-                Told::Drained(drained_as::<G>(a), drained_as::<G>(b), drained_as::<G>(c))
-            }
-            told => told,
-        }
-    }
-}
-
 /// A pointer.
 pub fn told_pointer<P: Ptr>(p: P) -> Told
 where
@@ -147,14 +98,6 @@ pub fn told_done(done: Result<(), ReallocationError>) -> Told {
     match done {
         Ok(()) => Told::Done,
         Err(refused) => Told::Refused(refused),
-    }
-}
-
-/// That it was done, or that there was no place.
-pub fn told_placed(placed: Result<(), NotWithinCapacityError>) -> Told {
-    match placed {
-        Ok(()) => Told::Done,
-        Err(NotWithinCapacityError) => Told::Full,
     }
 }
 
@@ -238,14 +181,6 @@ pub fn told_raise(raised: InvalidationOption<()>) -> Told {
     match raised {
         InvalidationOption::Success(()) => Told::Done,
         InvalidationOption::GenerationOverflow(()) => Told::Wrapped,
-    }
-}
-
-/// A generation, if there is one.
-pub fn told_generation<G: Numbered>(generation: Option<G>) -> Told {
-    match generation {
-        Some(generation) => Told::Generation(generation.told_number()),
-        None => Told::Nothing,
     }
 }
 

@@ -61,23 +61,7 @@ where
     (index, generation, number, wrapped)
 }
 
-/// What an advancer answers in its next steps.
-pub fn next_steps<P: Ptr, A: CompactArenaTrait<P, Token>>(
-    arena: &A,
-    advancer: &mut A::PtrAdvancer,
-) -> Told
-where
-    P::Gen: Numbered,
-{
-    Told::MetPointers(
-        met_pointer(advancer.advance(arena)),
-        met_pointer(advancer.advance(arena)),
-        met_pointer(advancer.advance(arena)),
-    )
-}
-
-/// What an advancer answers in its first steps: one from the first entry, from an index, or one that
-/// is at its end.
+/// What an advancer answers in its first steps: one from the first entry, or from an index.
 pub fn steps<P: Ptr, A: CompactArenaTrait<P, Token>>(arena: &A, call: Call) -> Told
 where
     P::Gen: Numbered,
@@ -85,10 +69,13 @@ where
     let mut advancer = match call {
         Call::StepsFromFirst => arena.advancer(),
         Call::StepsFrom(_, reverse) => arena.advancer_inx(call.first::<P>().inx(), reverse),
-        Call::NoSteps => Advancer::<A>::empty(),
         _ => return Told::NoSuchCall,
     };
-    next_steps(arena, &mut advancer)
+    Told::MetPointers(
+        met_pointer(advancer.advance(arena)),
+        met_pointer(advancer.advance(arena)),
+        met_pointer(advancer.advance(arena)),
+    )
 }
 
 /// The first pointers that `ptrs` gives.

@@ -1,17 +1,17 @@
-//! What a test found to be wrong.
+//! What a tool found to be wrong.
 
 use crate::told::Told;
 use std::alloc;
 use triple_arena_base::AllocError;
 
-/// The first thing that a test found to be wrong, at this row of its table, counted from 0.
+/// The first thing that a tool found to be wrong, at this row of its table, counted from 0.
 #[derive(Clone, Copy, Debug)]
 pub enum Wrong {
     /// A call told another answer than was expected.
     Answer(usize),
     /// After a call the arena was in another state than was expected.
     State(usize),
-    /// The text of an arena was another one than this.
+    /// A text was another one than this.
     Text(&'static str),
     /// There was no memory for the arena.
     NoMemory,
@@ -35,14 +35,5 @@ pub fn is_told(row: usize, told: Told, expected: Told) -> Result<(), Wrong> {
         Ok(())
     } else {
         Err(Wrong::Answer(row))
-    }
-}
-
-/// That the text of an arena is this one.
-pub fn is_text(text: &str, expected: &'static str) -> Result<(), Wrong> {
-    if text == expected {
-        Ok(())
-    } else {
-        Err(Wrong::Text(expected))
     }
 }

@@ -1,15 +1,14 @@
-//! New direct arenas over each stack, and their text.
+//! New direct arenas over each stack.
 
 use crate::direct::tested_direct::Direct;
 use std::alloc::Global;
-use std::fmt::Debug;
 use triple_arena_direct_arena::{DirectArena, DirectSlot};
 use triple_arena_ptr::Ptr;
 use triple_arena_stack::{
     NonZeroInxArray, NonZeroInxBoxedSlice, NonZeroInxGenericStack, NonZeroInxLimitedVec,
     NonZeroInxVec,
 };
-use triple_arena_trait_kit::{Scarce, Token, Wrong, is_text};
+use triple_arena_trait_kit::{Token, Wrong};
 use triple_arena_traits::ArenaTrait;
 
 pub type Heap<P> = NonZeroInxVec<DirectSlot<P, Token>>;
@@ -20,8 +19,6 @@ pub type Fixed<P> = NonZeroInxBoxedSlice<DirectSlot<P, Token>>;
 
 pub type InArray<P, const N: usize> = NonZeroInxArray<DirectSlot<P, Token>, N>;
 
-pub type Little<P, const N: usize> = Scarce<DirectSlot<P, Token>, N>;
-
 /// A direct arena with this room, where there is memory for it.
 pub fn with_room<P: Ptr, S: NonZeroInxGenericStack<DirectSlot<P, Token>>>(
     alloc: Global,
@@ -31,9 +28,4 @@ pub fn with_room<P: Ptr, S: NonZeroInxGenericStack<DirectSlot<P, Token>>>(
         Ok(arena) => Ok(Direct { arena }),
         Err(_refused) => Err(Wrong::NoMemory),
     }
-}
-
-/// That the text of a direct arena is this one.
-pub fn has_text<D: Debug>(alloc: Global, arena: &D, expected: &'static str) -> Result<(), Wrong> {
-    is_text(format!(in alloc; "{arena:?}")?.as_str(), expected)
 }

@@ -2,28 +2,17 @@
 
 use crate::direct::placing::Placing;
 use triple_arena_direct_arena::{DirectArena, DirectSlot};
-use triple_arena_ptr::{P0, Ptr};
+use triple_arena_ptr::Ptr;
 use triple_arena_stack::NonZeroInxGenericStack;
 use triple_arena_trait_kit::{Shown, Told};
 use triple_arena_traits::{
-    ArenaCloneFromWith, ArenaDirectInsertEntryTrait, ArenaDirectInsertTrait, CompactArenaTrait,
-    DisjointableArenaTrait,
+    ArenaDirectInsertEntryTrait, ArenaDirectInsertTrait, CompactArenaTrait, DisjointableArenaTrait,
 };
 
 /// What any arena is asked that has the traits of a direct one, beside another value.
 pub trait Asked<P: Ptr, T, B> {
     /// What it answers.
     fn of<A: ArenaDirectInsertTrait<P, T> + CompactArenaTrait<P, T> + DisjointableArenaTrait<P, T>>(
-        &self,
-        arena: &mut A,
-        other: &mut B,
-    ) -> Told;
-}
-
-/// What any arena is asked that can be cloned into, beside another value.
-pub trait AskedToClone<P: Ptr, T, B> {
-    /// What it answers.
-    fn of<A: ArenaCloneFromWith<P, T> + CompactArenaTrait<P, T> + Drop>(
         &self,
         arena: &mut A,
         other: &mut B,
@@ -38,18 +27,8 @@ pub trait AnyDirect<P: Ptr, T> {
     /// How many of so many free slots at the end are popped.
     fn pop_free_end(&mut self, num: usize) -> usize;
 
-    /// Takes over the entries of an arena of `P0`, under this generation.
-    fn take_over<A: CompactArenaTrait<P0, T>>(
-        &mut self,
-        generation: P::Gen,
-        source: &mut A,
-    ) -> Told;
-
     /// What it answers by the traits of arenas: the one body that takes it as those.
     fn ask<B, Q: Asked<P, T, B>>(&mut self, other: &mut B, asked: &Q) -> Told;
-
-    /// What it answers by the traits that clone.
-    fn ask_to_clone<B, Q: AskedToClone<P, T, B>>(&mut self, other: &mut B, asked: &Q) -> Told;
 }
 
 impl<P: Ptr, T: Shown + Drop, S: NonZeroInxGenericStack<DirectSlot<P, T>> + Drop> AnyDirect<P, T>
@@ -62,7 +41,6 @@ impl<P: Ptr, T: Shown + Drop, S: NonZeroInxGenericStack<DirectSlot<P, T>> + Drop
                 *value = second;
                 Told::Done
             }
-            (Ok(entry), Placing::Ask) => Told::Is(entry.has_place()),
             (Err(refused), _) => Told::NotInserted(refused),
         }
     }
@@ -71,27 +49,7 @@ impl<P: Ptr, T: Shown + Drop, S: NonZeroInxGenericStack<DirectSlot<P, T>> + Drop
         self.pop_free_end_slots(num)
     }
 
-    fn take_over<A: CompactArenaTrait<P0, T>>(
-        &mut self,
-        generation: P::Gen,
-        source: &mut A,
-    ) -> Told {
-        let done = self.transfer_reallocating(
-            generation,
-            source,
-            |_old, taken, _new| T::received(taken),
-        );
-        match done {
-            Ok(()) => Told::Done,
-            Err(refused) => Told::Refused(refused),
-        }
-    }
-
     fn ask<B, Q: Asked<P, T, B>>(&mut self, other: &mut B, asked: &Q) -> Told {
-        asked.of(self, other)
-    }
-
-    fn ask_to_clone<B, Q: AskedToClone<P, T, B>>(&mut self, other: &mut B, asked: &Q) -> Told {
         asked.of(self, other)
     }
 }

@@ -3,8 +3,6 @@
 /// What an arena is asked under a pointer.
 #[derive(Drop)]
 pub enum Placing<T> {
-    /// Whether the entry has its place, which is let go.
-    Ask,
     /// A value is inserted.
     Insert(T),
     /// The first is inserted, and the second written over it.

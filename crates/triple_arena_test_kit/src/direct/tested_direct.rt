@@ -49,7 +49,6 @@ where
 {
     match call {
         Call::DirectInsertReserved(_, _, number) => insert_reserved(arena, call.first(), number),
-        Call::CanDirectInsert(_, _) => Told::Is(arena.can_direct_insert(call.first())),
         _ => match call.kind() {
             Kind::Walk => answer_to_walk(arena, call),
             Kind::OfTwo => answer_of_two(arena, call),
@@ -147,7 +146,6 @@ impl<P: Ptr, S: NonZeroInxGenericStack<DirectSlot<P, Token>>> OfTokens<P>
 fn placing_of(call: Call) -> Option<Placing<Token>> {
     match call {
         Call::DirectInsert(_, _, number) => Some(Placing::Insert(Token { number })),
-        Call::DirectAsk(_, _) => Some(Placing::Ask),
         Call::DirectInsertAndWrite(_, _, first, second) => Some(Placing::InsertAndWrite(
             Token { number: first },
             Token { number: second },
@@ -247,10 +245,6 @@ where
         direct_answer(&mut self.arena, call)
     }
 
-    fn expected(told: Told) -> Told {
-        told.at_type::<P::Gen>()
-    }
-
     fn state(&self) -> State {
         direct_state_of(&self.arena)
     }
@@ -275,10 +269,6 @@ where
             Call::SetLimit(limit) => set_limit(&mut self.direct.arena, limit),
             _ => direct_answer(&mut self.direct.arena, call),
         }
-    }
-
-    fn expected(told: Told) -> Told {
-        told.at_type::<P::Gen>()
     }
 
     fn state(&self) -> State {

@@ -1,0 +1,7 @@
+pub mod Reading
+pub mod Linking
+pub mod Tying
+pub mod Results
+pub mod Moving
+pub mod Cutting
+pub mod Lists

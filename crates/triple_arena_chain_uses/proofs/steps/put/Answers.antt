@@ -1,0 +1,8 @@
+use Rattle.triple_arena_chain_uses.proofs.Reading.{others_stay}
+use Rattle.triple_arena_chain_uses.proofs.Results.{if_ok_3}
+use Rattle.triple_arena_chain_uses.proofs.steps.put.Goals as goal
+
+pub returns-clause-others : goal.returns-clause-others
+returns-clause-others g c =
+    if_ok_3 _ _ _ _ c.insert.result c.insert.ensures.free c.insert.ensures.found c.insert.ensures.others
+    (λ q free found others. others_stay g.P.Ptr.numbers (g.A.ArenaTrait.slots c.args.arena.now) (g.A.ArenaTrait.slots c.insert.new.self) (g.P.Ptr.numbers q) _ free found others)

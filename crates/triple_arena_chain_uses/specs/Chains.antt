@@ -1,0 +1,162 @@
+-- Chains: what is read under each pointer, how neighbours lead to each other, and what the calls make of them.
+use Rattle.std.specs.Prelude.{◌≡◌, ◌≢◌, ◌↔◌, ◌⊎◌, ℕ, cond, List, [], ◌∷◌, map, Option, Some, None, IsSome}
+use Rattle.std.specs.Option.{option_map, option_and_then}
+use Rattle.triple_arena_ptr.specs.Pointers.{Pointer, is_same}
+use Rattle.triple_arena.specs.Entries.{look_up, entry_count}
+use Rattle.triple_arena.specs.ArenaState.{map_entry}
+use Rattle.triple_arena_chain_uses.specs.declared.link.Link.{Link}
+use Rattle.triple_arena_chain_uses.specs.declared.place.Place.{Place}
+use Rattle.triple_arena_chain_uses.specs.declared.place.Place.TheVariants.{After, Before}
+use Rattle.triple_arena_chain_uses.specs.declared.place.ChainError.{ChainError}
+use Rattle.triple_arena_chain_uses.specs.declared.place.ChainError.TheVariants.{NoEntry, Taken, NoRoom, NoMemory}
+
+-- what is found under a pointer: a value, and the pointers of its neighbours in its chain
+pub record Node (T : Type 0) : Type 0 where
+  pub value : T
+  pub before : Option Pointer
+  pub after : Option Pointer
+
+-- the chains of an arena: by index, the generation and the node of the entry that stands there, or nothing; and of the arena
+-- how many entries there are, how many fit without growth, and how many are allowed, if there is a limit
+pub record ChainState (T : Type 0) : Type 0 where
+  pub slots : List (Option (ℕ × Node T))
+  pub len : ℕ
+  pub capacity : ℕ
+  pub limit : Option ℕ
+
+-- what comes first in a list of pointers, or after it where it is empty
+abbrev pub first_of : List Pointer → Option Pointer → Option Pointer
+first_of [] rest = rest
+first_of (p ∷ ps) rest = Some p
+
+module _ {T : Type 0} where
+  -- what is found under each pointer
+  abbrev pub nodes : ChainState T → Pointer → Option (Node T)
+  nodes s p = look_up s.slots p
+
+  -- the value under a pointer, and the pointers before it and after it, if there are any
+  abbrev pub value_at : (Pointer → Option (Node T)) → Pointer → Option T
+  value_at nodes p = option_map (λ node. node.value) (nodes p)
+
+  abbrev pub before_at : (Pointer → Option (Node T)) → Pointer → Option Pointer
+  before_at nodes p = option_and_then (λ node. node.before) (nodes p)
+
+  abbrev pub after_at : (Pointer → Option (Node T)) → Pointer → Option Pointer
+  after_at nodes p = option_and_then (λ node. node.after) (nodes p)
+
+  -- neighbours lead to each other: one stands after the other exactly where that stands before it, so that both are there
+  abbrev pub IsLinked : (Pointer → Option (Node T)) → Type 0
+  IsLinked nodes = (p q : Pointer) → (after_at nodes p ≡ Some q) ↔ (before_at nodes q ≡ Some p)
+
+  -- two places are neighbours, where both are there: a new entry fits between them
+  pub record IsBetween (nodes : Pointer → Option (Node T)) (prev next : Option Pointer) : Type 0 where
+    pub after_prev : (p : Pointer) → prev ≡ Some p → after_at nodes p ≡ next
+    pub before_next : (n : Pointer) → next ≡ Some n → before_at nodes n ≡ prev
+
+  -- a value stands under a pointer that found nothing before, between these neighbours, if there are any; they lead to it, and
+  -- all else is as before
+  pub record IsInserted (old : Pointer → Option (Node T)) (prev next : Option Pointer) (q : Pointer) (value : T) (new : Pointer → Option (Node T)) : Type 0 where
+    pub free : old q ≡ None
+    pub found : new q ≡ Some (record { value = value; before = prev; after = next })
+    pub values : (r : Pointer) → r ≢ q → value_at new r ≡ value_at old r
+    pub after_prev : (p : Pointer) → prev ≡ Some p → after_at new p ≡ Some q
+    pub afters : (r : Pointer) → r ≢ q → prev ≢ Some r → after_at new r ≡ after_at old r
+    pub before_next : (n : Pointer) → next ≡ Some n → before_at new n ≡ Some q
+    pub befores : (r : Pointer) → r ≢ q → next ≢ Some r → before_at new r ≡ before_at old r
+
+  -- what stood under a pointer is gone, and its neighbours lead to each other; all else is as before
+  pub record IsRemoved (old : Pointer → Option (Node T)) (p : Pointer) (new : Pointer → Option (Node T)) : Type 0 where
+    pub gone : new p ≡ None
+    pub values : (r : Pointer) → r ≢ p → value_at new r ≡ value_at old r
+    pub after_prev : (a : Pointer) → a ≢ p → before_at old p ≡ Some a → after_at new a ≡ after_at old p
+    pub afters : (r : Pointer) → r ≢ p → before_at old p ≢ Some r → after_at new r ≡ after_at old r
+    pub before_next : (b : Pointer) → b ≢ p → after_at old p ≡ Some b → before_at new b ≡ before_at old p
+    pub befores : (r : Pointer) → r ≢ p → after_at old p ≢ Some r → before_at new r ≡ before_at old r
+
+  -- these two lead to others, or to none, one on and one back; all else is as before
+  pub record IsTied (old : Pointer → Option (Node T)) (prev next after before : Option Pointer) (new : Pointer → Option (Node T)) : Type 0 where
+    pub values : (r : Pointer) → value_at new r ≡ value_at old r
+    pub after_prev : (p : Pointer) → prev ≡ Some p → after_at new p ≡ after
+    pub afters : (r : Pointer) → prev ≢ Some r → after_at new r ≡ after_at old r
+    pub before_next : (n : Pointer) → next ≡ Some n → before_at new n ≡ before
+    pub befores : (r : Pointer) → next ≢ Some r → before_at new r ≡ before_at old r
+
+  -- the chain of the one goes on with the chain of the other
+  abbrev pub IsJoined : (old : Pointer → Option (Node T)) (last first : Pointer) (new : Pointer → Option (Node T)) → Type 0
+  IsJoined old last first new = IsTied old (Some last) (Some first) (Some first) (Some last) new
+
+  -- a chain is cut between two neighbours
+  abbrev pub IsCut : (old : Pointer → Option (Node T)) (prev next : Option Pointer) (new : Pointer → Option (Node T)) → Type 0
+  IsCut old prev next new = IsTied old prev next None None new
+
+  -- a node whose neighbours have other names
+  abbrev pub renamed : (Pointer → Pointer) → Node T → Node T
+  renamed rename node = record node { before = option_map rename node.before; after = option_map rename node.after }
+
+  -- each node stands under the new name of its pointer, with its neighbours so renamed, and no other does
+  pub record IsMoved (old : Pointer → Option (Node T)) (rename : Pointer → Pointer) (new : Pointer → Option (Node T)) : Type 0 where
+    pub moved : (p : Pointer) → IsSome (old p) → new (rename p) ≡ option_map (renamed rename) (old p)
+    pub all : (q : Pointer) → IsSome (new q) → (p : Pointer) × IsSome (old p) × (rename p ≡ q)
+
+  -- these pointers stand one after another in a chain, and after the last of them comes the given one, or none
+  abbrev pub IsRun : (Pointer → Option (Node T)) → List Pointer → Option Pointer → Type 0
+  IsRun found [] rest = Unit {0}
+  IsRun found (p ∷ ps) rest = IsSome (found p) × (after_at found p ≡ first_of ps rest) × IsRun found ps rest
+
+  -- the values under pointers, in their order
+  abbrev pub values_at : (Pointer → Option (Node T)) → List Pointer → List (Option T)
+  values_at nodes ps = map (value_at nodes) ps
+
+  -- where a pointer is given, it is found
+  abbrev pub IsThere : (Pointer → Option (Node T)) → Option Pointer → Type 0
+  IsThere nodes at = (p : Pointer) → at ≡ Some p → IsSome (nodes p)
+
+  -- what is found under a pointer, after a change of the node of one, if one is given
+  abbrev pub changed : Option Pointer → (Node T → Node T) → Pointer → Option (Node T) → Option (Node T)
+  changed None change q node = node
+  changed (Some p) change q node = cond (is_same q p) (option_map change node) node
+
+  abbrev pub with_after : Option Pointer → Node T → Node T
+  with_after p node = record node { after = p }
+
+  abbrev pub with_before : Option Pointer → Node T → Node T
+  with_before p node = record node { before = p }
+
+-- the pointer that a place is at
+abbrev pub place_at : {P : Type 0} → (P → Pointer) → Place P → Pointer
+place_at numbers (After p) = numbers p
+place_at numbers (Before p) = numbers p
+
+-- room or memory was refused
+abbrev pub IsRefusedRoom : ChainError → Type 0
+IsRefusedRoom NoEntry = ⊥
+IsRefusedRoom Taken = ⊥
+IsRefusedRoom NoRoom = Unit {0}
+IsRefusedRoom NoMemory = Unit {0}
+
+-- why two chains were not joined
+abbrev pub KeepsApart : {T : Type 0} → (Pointer → Option (Node T)) → (last first : Pointer) → ChainError → Type 0
+KeepsApart nodes last first NoEntry = (nodes last ≡ None) ⊎ (nodes first ≡ None)
+KeepsApart nodes last first Taken = IsSome (after_at nodes last) ⊎ IsSome (before_at nodes first)
+KeepsApart nodes last first NoRoom = ⊥
+KeepsApart nodes last first NoMemory = ⊥
+
+module _ {P T : Type 0} (numbers : P → Pointer) where
+  -- a link as it is read
+  abbrev pub node_of : Link P T → Node T
+  node_of link = record { value = link.value; before = option_map numbers link.before; after = option_map numbers link.after }
+
+  -- the slots of an arena with their links so, and the chains in it
+  abbrev pub node_slots : List (Option (ℕ × Link P T)) → List (Option (ℕ × Node T))
+  node_slots slots = map (option_map (map_entry node_of)) slots
+
+  abbrev pub place_before : (Pointer → Option (Node T)) → Place P → Option Pointer
+  place_before found (After p) = Some (numbers p)
+  place_before found (Before p) = before_at found (numbers p)
+
+  abbrev pub place_after : (Pointer → Option (Node T)) → Place P → Option Pointer
+  place_after found (After p) = after_at found (numbers p)
+  place_after found (Before p) = Some (numbers p)
+
+  abbrev pub state_of : List (Option (ℕ × Link P T)) → (capacity : ℕ) (limit : Option ℕ) → ChainState T
+  state_of slots capacity limit = record { slots = node_slots slots; len = entry_count slots; capacity = capacity; limit = limit }

@@ -1,0 +1,3 @@
+-- Read first: Chains.
+pub mod Links
+pub mod Chains

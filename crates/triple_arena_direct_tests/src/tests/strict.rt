@@ -182,17 +182,16 @@ fn refusals_have_their_texts(rt: HostRuntime) -> Result<(), Fail> {
     let at_its_end = "the generation counter is at its greatest value";
     displays(&rt, alloc, EXHAUSTED, at_its_end)?;
     displays(&rt, alloc, StrictCompactError::<P0>::Exhausted, at_its_end)?;
-    let unresolved = CompactError::Unresolved(P0::invalid());
-    let refused = StrictCompactError::Compact(unresolved);
+    let refused = StrictCompactError::Compact(CompactError::Unresolved(P0::invalid()));
     displays(&rt, alloc, refused, "the compaction was refused")?;
-    let first = CompactBothError::<P0, P0>::First(unresolved);
+    let first = CompactBothError::<P0, P0>::First(CompactError::Unresolved(P0::invalid()));
     displays(
         &rt,
         alloc,
         first,
         "the compaction of the first arena was refused",
     )?;
-    let second = CompactBothError::<P0, P0>::Second(unresolved);
+    let second = CompactBothError::<P0, P0>::Second(CompactError::Unresolved(P0::invalid()));
     displays(
         &rt,
         alloc,

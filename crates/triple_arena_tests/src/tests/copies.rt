@@ -65,18 +65,22 @@ fn a_stack_without_room_refuses_a_clone(rt: HostRuntime) -> Result<(), Fail> {
     Ok(())
 }
 
+// Which number is refused, what the target holds then, and the index of its next pointer.
+const REFUSED: &[(u64, &str, usize)] = &[
+    (1, "{}", 1),
+    (3, "{P0[1](2): 1}", 2),
+    (5, "{P0[1](2): 1, P0[3](2): 3}", 2),
+];
+
 #[test]
 fn a_map_that_refuses_leaves_those_before(rt: HostRuntime) -> Result<(), Fail> {
     let source = numbers(rt.alloc(), 5, &[2, 4])?;
-    for (refused, text, next) in [
-        (1, "{}", pointer(1, 4)),
-        (3, "{P0[1](2): 1}", pointer(2, 4)),
-        (5, "{P0[1](2): 1, P0[3](2): 3}", pointer(2, 4)),
-    ] {
+    for (refused, text, next) in REFUSED {
         let mut target = numbers(rt.alloc(), 7, &[])?;
-        assert!(rt; clone_but(&mut target, &source, refused) == Err(CloneFromError::Map(refused)));
-        is_shown(&rt, rt.alloc(), &target, text)?;
-        assert_eq!(rt; target.insert(0)?, next);
+        let told = clone_but(&mut target, &source, *refused);
+        assert!(rt; told == Err(CloneFromError::Map(*refused)));
+        is_shown(&rt, rt.alloc(), &target, *text)?;
+        assert_eq!(rt; target.insert(0)?, pointer(*next, 4));
     }
     let mut direct: DirectArena<P0, u64> = DirectArena::new(rt.alloc());
     assert!(rt; clone_but(&mut direct, &source, 5) == Err(CloneFromError::Map(5)));

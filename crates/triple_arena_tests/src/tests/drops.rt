@@ -1,8 +1,12 @@
 //! Values that are counted: each is dropped once, so that there are always as many as arenas hold.
 
+ghost use Rattle.std.specs.Prelude.{◌≡◌, ⊤};
+
 use std::alloc::{AllocError, Global};
 use std::cell::Cell;
+use std::marker::Model;
 use std::process::Abort;
+use std::rc::Rc;
 use std::test::Fail;
 use triple_arena::{
     Arena, ArenaCloneFromWith, ArenaDirectInsertEntryTrait, ArenaDirectInsertTrait,
@@ -14,28 +18,75 @@ use triple_arena_stack::{
     NonZeroInxArray, NonZeroInxBoxedSlice, NonZeroInxGenericStack, NonZeroInxLimitedVec,
     NonZeroInxVec,
 };
-use triple_arena_trait_kit::{Counted, inx, pointer};
+use triple_arena_trait_kit::{inx, pointer};
 
-type Value<'a> = Counted<'a, P0>;
+// How many values there are.
+type Live = Rc<Cell<u64>>;
 
-type Slot<'a> = ArenaSlot<P0, Value<'a>>;
+// A value that is counted; where a clone has no count it is missed in the numbers.
+struct Value {
+    live: Option<Live>,
+}
+
+// Clauses see nothing of a value, so that a clone equals its original.
+impl Model for Value {
+    ghost Value = { ⊤ };
+
+    ghost view = { λ _. tt };
+}
+
+impl Drop for Value {
+    fn drop(self) {
+        let Value { live } = self;
+        if let Some(live) = live {
+            live.set(live.get().wrapping_sub(1));
+        }
+    }
+}
+
+impl Clone for Value {
+    ghost is_clone = { λ t u. u ≡ t };
+
+    fn clone(&self) -> Result<Value, AllocError> {
+        let live = self.live.clone()?;
+        if let Some(live) = &live {
+            live.set(live.get().wrapping_add(1));
+        }
+        Ok(Value { live })
+    }
+}
+
+type Slot = ArenaSlot<P0, Value>;
 
 // A new value, which is counted.
-fn value(alloc: Global, live: &Cell<u64>) -> Value<'_> {
-    Counted::new(7, None, alloc, live)
+fn new_value(live: &Live) -> Value {
+    live.set(live.get().wrapping_add(1));
+    Value {
+        live: live.clone().ok(),
+    }
+}
+
+// Takes one value out by a drain, which is let go then: whether that one wasn't dropped before.
+fn takes_one<A: CompactArenaTrait<P0, Value>>(arena: &mut A, live: &Live) -> bool {
+    let before = live.get();
+    let mut drain = arena.drain();
+    let taken = drain.next();
+    let is_held = taken.is_some() && live.get() == before;
+    drop(taken);
+    is_held && live.get() == before.wrapping_sub(1)
 }
 
 // Each call that ends or replaces a value, of an arena with values at its first four indexes under the
 // generation 2, which is without values then.
-fn each_ending<'a, A: CompactArenaTrait<P0, Value<'a>>>(
+fn each_ending<A: CompactArenaTrait<P0, Value>>(
     rt: &impl Abort,
     alloc: Global,
     arena: &mut A,
-    live: &'a Cell<u64>,
+    live: &Live,
 ) -> Result<(), Fail> {
     assert!(rt; live.get() == 4 && arena.len() == 4);
     match arena.get_mut(pointer(1, 2)) {
-        Some(held) => *held = value(alloc, live),
+        Some(held) => *held = new_value(live),
         None => assert!(rt; false),
     }
     assert!(rt; arena.remove(pointer(1, 1)).is_invalid());
@@ -50,12 +101,7 @@ fn each_ending<'a, A: CompactArenaTrait<P0, Value<'a>>>(
     assert_eq!(rt; live.get(), 2);
     drop(arena.compress(false));
     assert_eq!(rt; live.get(), 2);
-    let mut drain = arena.drain();
-    let taken = drain.next();
-    assert!(rt; taken.is_some() && live.get() == 2);
-    drop(taken);
-    assert_eq!(rt; live.get(), 1);
-    drop(drain);
+    assert!(rt; takes_one(arena, live));
     assert_eq!(rt; live.get(), 0);
     Ok(())
 }
@@ -76,24 +122,24 @@ fn writes_over_entry<T: Drop, S: NonZeroInxGenericStack<ArenaSlot<P0, T>>>(
 }
 
 // Each insertion into a new arena of four places, the endings, and values that are cleared and dropped.
-fn each_drop<'a, S: NonZeroInxGenericStack<Slot<'a>> + Drop>(
+fn each_drop<S: NonZeroInxGenericStack<Slot> + Drop>(
     rt: &impl Abort,
     alloc: Global,
-    live: &'a Cell<u64>,
+    live: &Live,
 ) -> Result<(), Fail> {
-    let mut arena: Arena<P0, Value<'a>, S> = Arena::with_min_capacity(alloc, 4)?;
-    arena.insert(value(alloc, live))?;
-    arena.insert_reallocating(value(alloc, live))?;
-    assert!(rt; arena.insert_within_capacity(value(alloc, live)).is_ok());
-    drop(arena.entry_insert());
-    assert!(rt; writes_over_entry(&mut arena, value(alloc, live), value(alloc, live)));
+    let mut arena: Arena<P0, Value, S> = Arena::with_min_capacity(alloc, 4)?;
+    arena.insert(new_value(live))?;
+    arena.insert_reallocating(new_value(live))?;
+    assert!(rt; arena.insert_within_capacity(new_value(live)).is_ok());
+    assert!(rt; arena.entry_insert().is_ok());
+    assert!(rt; writes_over_entry(&mut arena, new_value(live), new_value(live)));
     // a value that the capacity refuses
-    assert!(rt; arena.insert_within_capacity(value(alloc, live)).is_err());
+    assert!(rt; arena.insert_within_capacity(new_value(live)).is_err());
     each_ending(rt, alloc, &mut arena, live)?;
-    arena.insert(value(alloc, live))?;
+    arena.insert(new_value(live))?;
     drop(arena.clear());
     assert_eq!(rt; live.get(), 0);
-    arena.insert(value(alloc, live))?;
+    arena.insert(new_value(live))?;
     drop(arena);
     assert_eq!(rt; live.get(), 0);
     Ok(())
@@ -101,20 +147,21 @@ fn each_drop<'a, S: NonZeroInxGenericStack<Slot<'a>> + Drop>(
 
 #[test]
 fn each_value_of_an_arena_is_dropped_once(rt: HostRuntime) -> Result<(), Fail> {
-    let (alloc, live) = (rt.alloc(), Cell::new(0));
-    each_drop::<NonZeroInxVec<Slot<'_>>>(&rt, alloc, &live)?;
-    each_drop::<NonZeroInxLimitedVec<Slot<'_>>>(&rt, alloc, &live)?;
-    each_drop::<NonZeroInxBoxedSlice<Slot<'_>>>(&rt, alloc, &live)?;
-    each_drop::<NonZeroInxArray<Slot<'_>, 4>>(&rt, alloc, &live)
+    let (alloc, live) = (rt.alloc(), Rc::new(rt.alloc(), Cell::new(0))?);
+    each_drop::<NonZeroInxVec<Slot>>(&rt, alloc, &live)?;
+    each_drop::<NonZeroInxLimitedVec<Slot>>(&rt, alloc, &live)?;
+    each_drop::<NonZeroInxBoxedSlice<Slot>>(&rt, alloc, &live)?;
+    each_drop::<NonZeroInxArray<Slot, 4>>(&rt, alloc, &live)
 }
 
 // Each insertion into a full arena that has no way to grow.
 #[test]
-fn a_value_that_growth_refuses_is_dropped_once(rt: HostRuntime) {
-    let (alloc, live) = (rt.alloc(), Cell::new(0));
-    let mut arena: Arena<P0, Value<'_>, NonZeroInxLimitedVec<Slot<'_>>> = Arena::new(alloc);
-    assert!(rt; arena.insert(value(alloc, &live)).is_err() && live.get() == 0);
-    assert!(rt; arena.insert_reallocating(value(alloc, &live)).is_err() && live.get() == 0);
+fn a_value_that_growth_refuses_is_dropped_once(rt: HostRuntime) -> Result<(), Fail> {
+    let (alloc, live) = (rt.alloc(), Rc::new(rt.alloc(), Cell::new(0))?);
+    let mut arena: Arena<P0, Value, NonZeroInxLimitedVec<Slot>> = Arena::new(alloc);
+    assert!(rt; arena.insert(new_value(&live)).is_err() && live.get() == 0);
+    assert!(rt; arena.insert_reallocating(new_value(&live)).is_err() && live.get() == 0);
+    Ok(())
 }
 
 // Inserts by the entry under a pointer of the generation 2, and writes another value over it, if there is
@@ -138,28 +185,28 @@ fn is_placed<T: Drop, S: NonZeroInxGenericStack<DirectSlot<P0, T>>>(
 }
 
 // So of a direct arena.
-fn each_direct_drop<'a, S: NonZeroInxGenericStack<DirectSlot<P0, Value<'a>>> + Drop>(
+fn each_direct_drop<S: NonZeroInxGenericStack<DirectSlot<P0, Value>> + Drop>(
     rt: &impl Abort,
     alloc: Global,
-    live: &'a Cell<u64>,
+    live: &Live,
 ) -> Result<(), Fail> {
-    let mut arena: DirectArena<P0, Value<'a>, S> = DirectArena::with_min_capacity(alloc, 4)?;
-    assert!(rt; is_placed(&mut arena, 4, value(alloc, live), None));
-    assert!(rt; is_placed(&mut arena, 1, value(alloc, live), Some(value(alloc, live))));
-    drop(arena.direct_insert_within_capacity(pointer(2, 2)));
+    let mut arena: DirectArena<P0, Value, S> = DirectArena::with_min_capacity(alloc, 4)?;
+    assert!(rt; is_placed(&mut arena, 4, new_value(live), None));
+    assert!(rt; is_placed(&mut arena, 1, new_value(live), Some(new_value(live))));
+    assert!(rt; arena.direct_insert_within_capacity(pointer(2, 2)).is_ok());
     for index in [2, 3] {
         if arena.can_direct_insert(pointer(index, 2)) {
-            arena.direct_insert_reserved(pointer(index, 2), value(alloc, live));
+            arena.direct_insert_reserved(pointer(index, 2), new_value(live));
         }
     }
     each_ending(rt, alloc, &mut arena, live)?;
-    assert!(rt; is_placed(&mut arena, 4, value(alloc, live), None));
-    assert!(rt; is_placed(&mut arena, 2, value(alloc, live), None));
+    assert!(rt; is_placed(&mut arena, 4, new_value(live), None));
+    assert!(rt; is_placed(&mut arena, 2, new_value(live), None));
     drop(arena.remove(pointer(4, 2)));
     assert!(rt; arena.pop_free_end_slots(2) == 2 && live.get() == 1);
     drop(arena.clear());
     assert_eq!(rt; live.get(), 0);
-    assert!(rt; is_placed(&mut arena, 3, value(alloc, live), None));
+    assert!(rt; is_placed(&mut arena, 3, new_value(live), None));
     drop(arena);
     assert_eq!(rt; live.get(), 0);
     Ok(())
@@ -167,9 +214,9 @@ fn each_direct_drop<'a, S: NonZeroInxGenericStack<DirectSlot<P0, Value<'a>>> + D
 
 #[test]
 fn each_value_of_a_direct_arena_is_dropped_once(rt: HostRuntime) -> Result<(), Fail> {
-    let (alloc, live) = (rt.alloc(), Cell::new(0));
-    each_direct_drop::<NonZeroInxVec<DirectSlot<P0, Value<'_>>>>(&rt, alloc, &live)?;
-    each_direct_drop::<NonZeroInxArray<DirectSlot<P0, Value<'_>>, 4>>(&rt, alloc, &live)
+    let (alloc, live) = (rt.alloc(), Rc::new(rt.alloc(), Cell::new(0))?);
+    each_direct_drop::<NonZeroInxVec<DirectSlot<P0, Value>>>(&rt, alloc, &live)?;
+    each_direct_drop::<NonZeroInxArray<DirectSlot<P0, Value>, 4>>(&rt, alloc, &live)
 }
 
 // Clones by a closure that refuses the second value: whether none was refused. It is of any values: a
@@ -192,12 +239,12 @@ fn clones_but_second<T: Clone + Drop, A: ArenaCloneFromWith<P0, T>, B: CompactAr
 
 // Clones of two values into an arena of one: by clones, by a closure that refuses the second, and as a new
 // arena.
-fn each_clone<'a, A: ArenaCloneFromWith<P0, Value<'a>> + CompactArenaTrait<P0, Value<'a>> + Drop>(
+fn each_clone<A: ArenaCloneFromWith<P0, Value> + CompactArenaTrait<P0, Value> + Drop>(
     rt: &impl Abort,
     alloc: Global,
     source: &A,
     target: &mut A,
-    live: &'a Cell<u64>,
+    live: &Live,
 ) {
     assert!(rt; live.get() == 3 && target.len() == 1);
     assert!(rt; target.clone_from(source).is_ok() && live.get() == 4);
@@ -234,24 +281,24 @@ fn goes_over_to_direct<T: Drop>(
 }
 
 // An arena of so many values.
-fn values(alloc: Global, live: &Cell<u64>, count: u64) -> Result<Arena<P0, Value<'_>>, Fail> {
-    let mut arena: Arena<P0, Value<'_>> = Arena::new(alloc);
+fn values(alloc: Global, live: &Live, count: u64) -> Result<Arena<P0, Value>, Fail> {
+    let mut arena: Arena<P0, Value> = Arena::new(alloc);
     for _ in 0..count {
-        arena.insert(value(alloc, live))?;
+        arena.insert(new_value(live))?;
     }
     Ok(arena)
 }
 
 #[test]
 fn a_value_that_is_copied_is_dropped_once(rt: HostRuntime) -> Result<(), Fail> {
-    let (alloc, live) = (rt.alloc(), Cell::new(0));
+    let (alloc, live) = (rt.alloc(), Rc::new(rt.alloc(), Cell::new(0))?);
     let mut source = values(alloc, &live, 2)?;
     let mut target = values(alloc, &live, 1)?;
     each_clone(&rt, alloc, &source, &mut target, &live);
     assert!(rt; goes_over(&mut target, &mut source) && live.get() == 2);
-    let mut direct: DirectArena<P0, Value<'_>> = DirectArena::with_min_capacity(alloc, 1)?;
-    assert!(rt; is_placed(&mut direct, 1, value(alloc, &live), None));
-    let mut other: DirectArena<P0, Value<'_>> = DirectArena::new(alloc);
+    let mut direct: DirectArena<P0, Value> = DirectArena::with_min_capacity(alloc, 1)?;
+    assert!(rt; is_placed(&mut direct, 1, new_value(&live), None));
+    let mut other: DirectArena<P0, Value> = DirectArena::new(alloc);
     assert!(rt; goes_over_to_direct(&mut other, &mut target) && live.get() == 3);
     each_clone(&rt, alloc, &other, &mut direct, &live);
     Ok(())

@@ -5,3 +5,4 @@ pub mod Results
 pub mod Moving
 pub mod Cutting
 pub mod Lists
+pub mod Written

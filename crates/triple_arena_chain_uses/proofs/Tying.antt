@@ -17,7 +17,7 @@ module _ {T : Type 0} where
   before_in o = option_and_then (λ node. node.before) o
 
   -- what a change leaves of a node that it keeps
-  kept : {A : Type 0} (read : Option (Node T) → A) (change : Node T → Node T) → ((node : Node T) → read (Some (change node)) ≡ read (Some node)) → (at : Option Pointer) (q : Pointer) (o : Option (Node T)) → read (changed at change q o) ≡ read o
+  pub kept : {A : Type 0} (read : Option (Node T) → A) (change : Node T → Node T) → ((node : Node T) → read (Some (change node)) ≡ read (Some node)) → (at : Option Pointer) (q : Pointer) (o : Option (Node T)) → read (changed at change q o) ≡ read o
   kept read change keeps None q o = refl
   kept read change keeps (Some p) q o = by_same (is_same q p) o
     where

@@ -89,6 +89,16 @@ module _ {T : Type 0} where
   abbrev pub IsCut : (old : Pointer → Option (Node T)) (prev next : Option Pointer) (new : Pointer → Option (Node T)) → Type 0
   IsCut old prev next new = IsTied old prev next None None new
 
+  -- another value stands under a pointer; all else is as before
+  pub record IsWritten (old : Pointer → Option (Node T)) (p : Pointer) (value : T) (new : Pointer → Option (Node T)) : Type 0 where
+    pub found : value_at new p ≡ Some value
+    pub values : (r : Pointer) → r ≢ p → value_at new r ≡ value_at old r
+    pub afters : (r : Pointer) → after_at new r ≡ after_at old r
+    pub befores : (r : Pointer) → before_at new r ≡ before_at old r
+
+  abbrev pub with_value : T → Node T → Node T
+  with_value value node = record node { value = value }
+
   -- a node whose neighbours have other names
   abbrev pub renamed : (Pointer → Pointer) → Node T → Node T
   renamed rename node = record node { before = option_map rename node.before; after = option_map rename node.after }

@@ -8,6 +8,7 @@ pub mod laws;
 pub mod link;
 pub mod place;
 mod steps;
+mod writing;
 
 pub use chains::Chains;
 pub use link::Link;

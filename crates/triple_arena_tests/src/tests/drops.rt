@@ -184,6 +184,20 @@ fn is_placed<T: Drop, S: NonZeroInxGenericStack<DirectSlot<P0, T>>>(
     }
 }
 
+// Inserts under a pointer of the generation 2, if there is a place: whether there was.
+fn is_put<T: Drop, A: ArenaDirectInsertTrait<P0, T>>(
+    arena: &mut A,
+    index: usize,
+    value: T,
+) -> bool {
+    let p = pointer(index, 2);
+    if !arena.can_direct_insert(p) {
+        return false;
+    }
+    arena.direct_insert_reserved(p, value);
+    true
+}
+
 // So of a direct arena.
 fn each_direct_drop<S: NonZeroInxGenericStack<DirectSlot<P0, Value>> + Drop>(
     rt: &impl Abort,
@@ -194,11 +208,8 @@ fn each_direct_drop<S: NonZeroInxGenericStack<DirectSlot<P0, Value>> + Drop>(
     assert!(rt; is_placed(&mut arena, 4, new_value(live), None));
     assert!(rt; is_placed(&mut arena, 1, new_value(live), Some(new_value(live))));
     assert!(rt; arena.direct_insert_within_capacity(pointer(2, 2)).is_ok());
-    for index in [2, 3] {
-        if arena.can_direct_insert(pointer(index, 2)) {
-            arena.direct_insert_reserved(pointer(index, 2), new_value(live));
-        }
-    }
+    assert!(rt; is_put(&mut arena, 2, new_value(live)));
+    assert!(rt; is_put(&mut arena, 3, new_value(live)));
     each_ending(rt, alloc, &mut arena, live)?;
     assert!(rt; is_placed(&mut arena, 4, new_value(live), None));
     assert!(rt; is_placed(&mut arena, 2, new_value(live), None));

@@ -27,6 +27,7 @@ fn takes_two(rt: &impl Abort, session: &mut impl Asked) {
             (Command::Insert(7, None), Reply::Given(1, false)),
             (Command::Insert(8, Some(1)), Reply::Given(2, false)),
             (Command::Insert(9, None), Reply::BeyondMaxCapacity),
+            (Command::Compact, Reply::Compacted(false)),
             (Command::Get(2), Reply::Found(8, Some(1))),
         ],
     );

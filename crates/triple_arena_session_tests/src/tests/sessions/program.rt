@@ -55,6 +55,23 @@ fn says_that_there_is_no_memory_to_begin(rt: HostRuntime) -> Result<(), Fail> {
     Ok(())
 }
 
+/// What was gathered before goes out first.
+#[test]
+fn runs_in_a_session_of_a_kind(rt: HostRuntime) -> Result<(), Fail> {
+    let mut input = b"insert 1 -\n".as_slice();
+    let mut output = BufWriter::new(rt.alloc(), Vec::new(rt.alloc()))?;
+    output.write_all(b"before\n")?;
+    let (outcome, written) = run_kind(Kind::Limited(2), rt.alloc(), &mut input, output);
+    expect(
+        &rt,
+        outcome,
+        written.as_slice(),
+        Ok(()),
+        b"before\ngiven 1\n",
+    );
+    Ok(())
+}
+
 /// Holds with ample memory, and also where any one request for memory is refused
 /// (`rt try --test --fail-alloc N`): then nothing is written, or one insertion answers so.
 #[test]

@@ -60,7 +60,7 @@ fn insertion_under_any_pointer(rt: HostRuntime) -> Result<(), Fail> {
     );
     assert_eq!(rt; arena.pop_free_end_slots(5), 0);
     assert!(rt; arena.compress(true).is_success());
-    is_shown(&rt, rt.alloc(), &arena, "{P0[1](9): 1}")
+    is_shown(rt.alloc(), &arena, "{P0[1](9): 1}")
 }
 
 #[test]
@@ -94,7 +94,6 @@ fn three<S: NonZeroInxGenericStack<Slot> + Drop>(
 fn the_text_of_a_direct_arena(rt: HostRuntime) -> Result<(), Fail> {
     let arena = three::<NonZeroInxVec<Slot>>(rt.alloc())?;
     is_shown(
-        &rt,
         rt.alloc(),
         &arena,
         "{P0[1](2): 1, P0[2](5): 20, P0[4](3): 400}",

@@ -34,13 +34,13 @@ fn nothing_ends_at_the_end_of_the_counter(rt: HostRuntime) -> Result<(), Fail> {
     assert!(rt; nodes.clear() == Err(EXHAUSTED) && nodes.compress() == Err(EXHAUSTED));
     assert!(rt; nodes.compress_with(|_old, node, _new| node) == Err(EXHAUSTED));
     let answer = nodes.compress_recast(rt.alloc());
-    is_shown(&rt, rt.alloc(), &answer, "Err(Exhausted)")?;
+    is_shown(rt.alloc(), &answer, "Err(Exhausted)")?;
     assert!(rt; nodes.get(p).copied() == Some((1, None)));
     assert!(rt; nodes.remove(pointer(1, 2)) == Err(StrictError::InvalidPtr));
     nodes.insert((2, Some(p)))?;
     nodes.insert_within_capacity((3, None))?;
     let text = "{B[1](ff): (1, None), B[2](ff): (2, Some(B[1](ff))), B[3](ff): (3, None)}";
-    is_shown(&rt, rt.alloc(), &nodes, text)
+    is_shown(rt.alloc(), &nodes, text)
 }
 
 #[test]
@@ -49,7 +49,7 @@ fn without_entries_nothing_is_refused(rt: HostRuntime) -> Result<(), Fail> {
     nodes.clear()?;
     nodes.compress()?;
     let answer = nodes.compress_recast(rt.alloc());
-    is_shown(&rt, rt.alloc(), &answer, "Ok({})")?;
+    is_shown(rt.alloc(), &answer, "Ok({})")?;
     assert_eq!(rt; nodes.generation().get(), 255);
     Ok(())
 }
@@ -63,7 +63,7 @@ fn the_counter_comes_before_a_dangling_link(rt: HostRuntime) -> Result<(), Fail>
         let mut nodes = raised_to(rt.alloc(), counter)?;
         nodes.insert((1, Some(pointer(9, 9))))?;
         let answer = nodes.compress_recast(rt.alloc());
-        is_shown(&rt, rt.alloc(), &answer, text)?;
+        is_shown(rt.alloc(), &answer, text)?;
         assert_eq!(rt; nodes.generation().get(), counter);
     }
     Ok(())
@@ -74,7 +74,7 @@ fn the_last_raise_is_done(rt: HostRuntime) -> Result<(), Fail> {
     let mut nodes = raised_to(rt.alloc(), 254)?;
     nodes.insert((5, None))?;
     nodes.compress()?;
-    is_shown(&rt, rt.alloc(), &nodes, "{B[1](ff): (5, None)}")?;
+    is_shown(rt.alloc(), &nodes, "{B[1](ff): (5, None)}")?;
     assert!(rt; nodes.compress() == Err(EXHAUSTED));
     Ok(())
 }
@@ -86,14 +86,9 @@ fn links_follow_a_compaction(rt: HostRuntime) -> Result<(), Fail> {
     nodes.insert((3, Some(second)))?;
     nodes.remove(first)?;
     let map = nodes.compress_recast(rt.alloc());
-    is_shown(
-        &rt,
-        rt.alloc(),
-        &map,
-        "Ok({B[2](2): B[1](4), B[3](2): B[2](4)})",
-    )?;
+    is_shown(rt.alloc(), &map, "Ok({B[2](2): B[1](4), B[3](2): B[2](4)})")?;
     let text = "{B[1](4): (2, None), B[2](4): (3, Some(B[1](4)))}";
-    is_shown(&rt, rt.alloc(), nodes.arena(), text)
+    is_shown(rt.alloc(), nodes.arena(), text)
 }
 
 #[test]

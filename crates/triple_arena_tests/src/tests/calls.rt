@@ -37,7 +37,6 @@ fn inserted(alloc: Global) -> Result<Arena<P0, u64>, ReallocationError> {
 fn each_insertion_without_a_word(rt: HostRuntime) -> Result<(), Fail> {
     let mut arena = inserted(rt.alloc())?;
     is_shown(
-        &rt,
         rt.alloc(),
         &arena,
         "{P0[1](2): 1, P0[2](2): 2, P0[3](2): 3}",
@@ -73,7 +72,6 @@ fn each_way_to_write_to_the_values(rt: HostRuntime) -> Result<(), Fail> {
         arena[third] = 8;
     }
     is_shown(
-        &rt,
         rt.alloc(),
         &arena,
         "{P0[1](2): 11111, P0[2](2): 11112, P0[3](2): 8}",
@@ -90,7 +88,7 @@ fn a_compression_tells_a_closure_each_move(rt: HostRuntime) -> Result<(), Fail> 
         value.wrapping_add(indexes).wrapping_add(moved)
     });
     assert!(rt; done.is_success());
-    is_shown(&rt, rt.alloc(), &arena, "{P0[1](4): 111, P0[2](4): 233}")
+    is_shown(rt.alloc(), &arena, "{P0[1](4): 111, P0[2](4): 233}")
 }
 
 /// Five entries, of which the second and then the fourth are removed; four are inserted while an advancer

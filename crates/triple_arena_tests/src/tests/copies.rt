@@ -79,12 +79,12 @@ fn a_map_that_refuses_leaves_those_before(rt: HostRuntime) -> Result<(), Fail> {
         let mut target = numbers(rt.alloc(), 7, &[])?;
         let told = clone_but(&mut target, &source, *refused);
         assert!(rt; told == Err(CloneFromError::Map(*refused)));
-        is_shown(&rt, rt.alloc(), &target, *text)?;
+        is_shown(rt.alloc(), &target, *text)?;
         assert_eq!(rt; target.insert(0)?, pointer(*next, 4));
     }
     let mut direct: DirectArena<P0, u64> = DirectArena::new(rt.alloc());
     assert!(rt; clone_but(&mut direct, &source, 5) == Err(CloneFromError::Map(5)));
-    is_shown(&rt, rt.alloc(), &direct, "{P0[1](2): 1, P0[3](2): 3}")?;
+    is_shown(rt.alloc(), &direct, "{P0[1](2): 1, P0[3](2): 3}")?;
     assert!(rt; direct.pop_free_end_slots(9) == 0 && direct.backing().len() == 3);
     Ok(())
 }
@@ -97,11 +97,11 @@ fn an_arena_that_is_cloned_from_a_direct_one_begins_at_two(rt: HostRuntime) -> R
         .insert(9);
     let mut arena: Arena<P0, u64> = Arena::new(rt.alloc());
     arena.clone_from(&direct)?;
-    is_shown(&rt, rt.alloc(), &arena, "{P0[1](9): 9}")?;
+    is_shown(rt.alloc(), &arena, "{P0[1](9): 9}")?;
     assert!(rt; arena.capacity() == 1 && arena.generation().get() == 2);
     assert_eq!(rt; arena.insert(7)?, pointer(2, 2));
     let copy = direct.clone(rt.alloc())?;
-    is_shown(&rt, rt.alloc(), &copy, "{P0[1](9): 9}")
+    is_shown(rt.alloc(), &copy, "{P0[1](9): 9}")
 }
 
 // The texts of numbers, under their pointers.
@@ -121,18 +121,13 @@ fn a_mirror_of_texts_keeps_the_pointers(rt: HostRuntime) -> Result<(), Fail> {
     numbers.insert(1337)?;
     drop(numbers.remove(first));
     let mut mirror = mirror_of(rt.alloc(), &numbers)?;
-    is_shown(&rt, rt.alloc(), &mirror, r#"{P0[2](2): "1337"}"#)?;
+    is_shown(rt.alloc(), &mirror, r#"{P0[2](2): "1337"}"#)?;
     assert_eq!(rt; mirror.capacity(), 2);
     let p = numbers.insert(7)?;
     mirror
         .direct_insert_within_capacity(p)?
         .insert(String::from_str(rt.alloc(), "7")?);
-    is_shown(
-        &rt,
-        rt.alloc(),
-        &mirror,
-        r#"{P0[1](3): "7", P0[2](2): "1337"}"#,
-    )?;
+    is_shown(rt.alloc(), &mirror, r#"{P0[1](3): "7", P0[2](2): "1337"}"#)?;
     // another pointer of a free index is as good
     drop(mirror.remove_inx(p.inx()));
     assert!(rt; mirror.can_direct_insert(pointer(1, 1)));
@@ -156,7 +151,7 @@ fn a_transfer_renumbers_and_empties_its_source(rt: HostRuntime) -> Result<(), Fa
         &mut source,
         |_old, taken, _new| taken.allow(),
     )?;
-    is_shown(&rt, rt.alloc(), &target, "{Q2[1](7): 2, Q2[2](7): 3}")?;
+    is_shown(rt.alloc(), &target, "{Q2[1](7): 2, Q2[2](7): 3}")?;
     assert!(rt; target.capacity() == 2 && source.is_empty() && source.generation().get() == 5);
     assert_eq!(rt; source.insert(4)?, pointer(2, 5));
     source.insert(5)?;
@@ -166,7 +161,7 @@ fn a_transfer_renumbers_and_empties_its_source(rt: HostRuntime) -> Result<(), Fa
         &mut source,
         |_old, taken, _new| taken.allow(),
     )?;
-    is_shown(&rt, rt.alloc(), &direct, "{PtrOf[1](7): 5, PtrOf[2](7): 4}")
+    is_shown(rt.alloc(), &direct, "{PtrOf[1](7): 5, PtrOf[2](7): 4}")
 }
 
 #[test]

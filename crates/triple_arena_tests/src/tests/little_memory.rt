@@ -34,7 +34,7 @@ fn growth_past_the_memory_leaves_the_arena_as_it_was(rt: HostRuntime) -> Result<
     for number in 1..=7 {
         drop(arena.remove(pointer(number, 2)));
     }
-    is_shown(&rt, rt.alloc(), &arena, "{P0[8](2): 8}")?;
+    is_shown(rt.alloc(), &arena, "{P0[8](2): 8}")?;
     arena.reallocate_min_capacity(9)?;
     for _ in 0..8 {
         arena.insert(9)?;

@@ -15,7 +15,7 @@ fn is_used<P: Ptr>(rt: &impl Abort, alloc: Global, text: &str) -> Result<(), Fai
     arena.insert(3)?;
     arena.reallocate_min_capacity(9)?;
     assert!(rt; arena.len() == 2 && arena.capacity() == 9);
-    is_shown(rt, alloc, &arena, text)?;
+    is_shown(alloc, &arena, text)?;
     let mut copy = arena.clone(alloc)?;
     drop(copy.compress(true));
     assert!(rt; copy.len() == 2 && copy.contains(second) && copy.clear().is_success());
@@ -46,7 +46,6 @@ fn a_value_holds_pointers_of_two_types(rt: HostRuntime) -> Result<(), Fail> {
     let first = pairs.insert((hello, Q2::invalid()))?;
     pairs.insert((hello, first))?;
     is_shown(
-        &rt,
         rt.alloc(),
         &pairs,
         "{Q2[1](2): (P0[2](2), Q2[ffffffffffffffff](1)), \
@@ -57,5 +56,5 @@ fn a_value_holds_pointers_of_two_types(rt: HostRuntime) -> Result<(), Fail> {
     assert!(rt; taken == Some("hello"));
     let mut others: Arena<Q2, &'static str> = Arena::new(rt.alloc());
     others.insert("hello")?;
-    is_shown(&rt, rt.alloc(), &others, r#"{Q2[1](2): "hello"}"#)
+    is_shown(rt.alloc(), &others, r#"{Q2[1](2): "hello"}"#)
 }

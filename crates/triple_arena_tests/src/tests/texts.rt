@@ -30,23 +30,22 @@ fn two_left<P: Ptr, S: NonZeroInxGenericStack<ArenaSlot<P, u64>> + Drop>(
 fn entries_stand_by_index_over_each_stack(rt: HostRuntime) -> Result<(), Fail> {
     let alloc = rt.alloc();
     let heap = two_left::<P0, NonZeroInxVec<ArenaSlot<P0, u64>>>(alloc)?;
-    is_shown(&rt, alloc, &heap, "{P0[1](2): 7, P0[3](4): 8}")?;
+    is_shown(alloc, &heap, "{P0[1](2): 7, P0[3](4): 8}")?;
     let limited = two_left::<Q2, NonZeroInxLimitedVec<ArenaSlot<Q2, u64>>>(alloc)?;
-    is_shown(&rt, alloc, &limited, "{Q2[1](2): 7, Q2[3](4): 8}")?;
+    is_shown(alloc, &limited, "{Q2[1](2): 7, Q2[3](4): 8}")?;
     let fixed = two_left::<P4, NonZeroInxBoxedSlice<ArenaSlot<P4, u64>>>(alloc)?;
-    is_shown(&rt, alloc, &fixed, "{P4[1]: 7, P4[3]: 8}")?;
+    is_shown(alloc, &fixed, "{P4[1]: 7, P4[3]: 8}")?;
     let array = two_left::<Narrow, NonZeroInxArray<ArenaSlot<Narrow, u64>, 3>>(alloc)?;
-    is_shown(&rt, alloc, &array, "{PtrOf[1](2): 7, PtrOf[3](4): 8}")
+    is_shown(alloc, &array, "{PtrOf[1](2): 7, PtrOf[3](4): 8}")
 }
 
 #[test]
 fn a_value_has_its_own_text(rt: HostRuntime) -> Result<(), Fail> {
     let mut texts: Arena<P0, &'static str> = Arena::new(rt.alloc());
-    is_shown(&rt, rt.alloc(), &texts, "{}")?;
+    is_shown(rt.alloc(), &texts, "{}")?;
     texts.insert("test")?;
     texts.insert("hello")?;
     is_shown(
-        &rt,
         rt.alloc(),
         &texts,
         r#"{P0[1](2): "test", P0[2](2): "hello"}"#,
@@ -55,7 +54,7 @@ fn a_value_has_its_own_text(rt: HostRuntime) -> Result<(), Fail> {
     let first = links.insert((42, None))?;
     links.insert((1337, Some(first)))?;
     let text = "{P0[1](2): (42, None), P0[2](2): (1337, Some(P0[1](2)))}";
-    is_shown(&rt, rt.alloc(), &links, text)
+    is_shown(rt.alloc(), &links, text)
 }
 
 // Takes so many pieces of a text, and refuses each one behind them.

@@ -39,25 +39,15 @@ fn a_map_tells_the_new_pointers(rt: HostRuntime) -> Result<(), Fail> {
     ];
     let mut arena = arena_of(rt.alloc(), &nodes, &[1, 3])?;
     let map = compress_recaster(&mut arena, rt.alloc(), false)?.allow();
-    is_shown(
-        &rt,
-        rt.alloc(),
-        &map,
-        "{P0[2](2): P0[1](5), P0[4](2): P0[2](5)}",
-    )?;
+    is_shown(rt.alloc(), &map, "{P0[2](2): P0[1](5), P0[4](2): P0[2](5)}")?;
     arena.recast(&map)?;
     let text = "{P0[1](5): (42, None), P0[2](5): (1337, Some(P0[1](5)))}";
-    is_shown(&rt, rt.alloc(), &arena, text)?;
+    is_shown(rt.alloc(), &arena, text)?;
     let map = compress_recaster(&mut arena, rt.alloc(), true)?.allow();
-    is_shown(
-        &rt,
-        rt.alloc(),
-        &map,
-        "{P0[1](5): P0[1](2), P0[2](5): P0[2](2)}",
-    )?;
+    is_shown(rt.alloc(), &map, "{P0[1](5): P0[1](2), P0[2](5): P0[2](2)}")?;
     arena.recast(&map)?;
     let text = "{P0[1](2): (42, None), P0[2](2): (1337, Some(P0[1](2)))}";
-    is_shown(&rt, rt.alloc(), &arena, text)
+    is_shown(rt.alloc(), &arena, text)
 }
 
 // The last of three nodes has a link that never was a node's pointer.
@@ -77,7 +67,7 @@ fn recasting_by_a_map_ends_at_a_dangling_link(rt: HostRuntime) -> Result<(), Fai
     assert!(rt; arena.recast(&map) == Err(P0::invalid()));
     let text = "{P0[1](3): (1, None), P0[2](3): (2, Some(P0[1](3))), \
         P0[3](3): (3, Some(P0[ffffffffffffffff](1)))}";
-    is_shown(&rt, rt.alloc(), &arena, text)
+    is_shown(rt.alloc(), &arena, text)
 }
 
 #[test]
@@ -85,14 +75,13 @@ fn a_dangling_link_refuses_and_nothing_changes(rt: HostRuntime) -> Result<(), Fa
     let mut arena = dangling(rt.alloc())?;
     let answer = compress_recast(&mut arena, rt.alloc(), false);
     is_shown(
-        &rt,
         rt.alloc(),
         &answer,
         "Err(Unresolved(P0[ffffffffffffffff](1)))",
     )?;
     let text = "{P0[1](2): (1, None), P0[2](2): (2, Some(P0[1](2))), \
         P0[3](2): (3, Some(P0[ffffffffffffffff](1)))}";
-    is_shown(&rt, rt.alloc(), &arena, text)?;
+    is_shown(rt.alloc(), &arena, text)?;
     assert_eq!(rt; arena.generation().get(), 2);
     Ok(())
 }
@@ -104,13 +93,12 @@ fn each_link_is_renamed_once(rt: HostRuntime) -> Result<(), Fail> {
     let mut arena = arena_of(rt.alloc(), &nodes, &[1])?;
     let answer = compress_recast(&mut arena, rt.alloc(), true);
     is_shown(
-        &rt,
         rt.alloc(),
         &answer,
         "Ok(Success({P0[2](2): P0[1](2), P0[3](2): P0[2](2)}))",
     )?;
     let text = "{P0[1](2): (20, Some(P0[2](2))), P0[2](2): (30, None)}";
-    is_shown(&rt, rt.alloc(), &arena, text)
+    is_shown(rt.alloc(), &arena, text)
 }
 
 #[test]
@@ -124,13 +112,12 @@ fn a_direct_arena_keeps_its_generations(rt: HostRuntime) -> Result<(), Fail> {
         .insert((2, None));
     let answer = compress_recast(&mut arena, rt.alloc(), false);
     is_shown(
-        &rt,
         rt.alloc(),
         &answer,
         "Ok(Success({P0[2](9): P0[1](9), P0[4](7): P0[2](7)}))",
     )?;
     let text = "{P0[1](9): (2, None), P0[2](7): (1, Some(P0[1](9)))}";
-    is_shown(&rt, rt.alloc(), &arena, text)
+    is_shown(rt.alloc(), &arena, text)
 }
 
 #[test]
@@ -141,12 +128,11 @@ fn a_compaction_tells_of_a_wrap(rt: HostRuntime) -> Result<(), Fail> {
     assert_eq!(rt; p, pointer(1, 255));
     let answer = compress_recast(&mut arena, rt.alloc(), false);
     is_shown(
-        &rt,
         rt.alloc(),
         &answer,
         "Ok(GenerationOverflow({B[1](ff): B[1](2)}))",
     )?;
-    is_shown(&rt, rt.alloc(), &arena, "{B[1](2): (7, Some(B[1](2)))}")
+    is_shown(rt.alloc(), &arena, "{B[1](2): (7, Some(B[1](2)))}")
 }
 
 // The new pointers of the first and the last of five thousand entries, behind one that was removed,

@@ -14,8 +14,7 @@ use std::io::{self, Print};
 use std::time::{Clock, Instant};
 use table::{InArena, Table};
 use triple_arena::{ArenaInsertTrait, CompactArenaTrait};
-use triple_arena_ptr::{P0, Ptr};
-use triple_arena_uses::SmallPtr;
+use triple_arena_ptr::{P0, Ptr, SmallPtr};
 
 /// A source of random numbers, which are the same in each run.
 pub fn new_random() -> Pcg64Mcg {

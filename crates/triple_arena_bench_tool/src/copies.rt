@@ -12,8 +12,7 @@ use triple_arena::{
     CompactArenaTrait,
 };
 use triple_arena_direct::DirectArena;
-use triple_arena_ptr::{P0, Ptr};
-use triple_arena_uses::SmallPtr;
+use triple_arena_ptr::{P0, Ptr, SmallPtr};
 
 /// Prints the least times of some clones of so many numbers, and of some insertions of as many under the
 /// pointers that they have, in nanoseconds for each number.

@@ -7,8 +7,7 @@ use std::alloc::Global;
 use std::io::Print;
 use std::time::{Clock, Instant};
 use triple_arena::{Arena, ArenaTrait, CompactArenaTrait};
-use triple_arena_ptr::{P0, Ptr};
-use triple_arena_uses::SmallPtr;
+use triple_arena_ptr::{P0, Ptr, SmallPtr};
 
 /// Prints the least times of some walks that write so many numbers, and of some drains of as many, in
 /// nanoseconds for each number.

@@ -16,6 +16,7 @@ mod p5;
 mod ptr;
 mod ptr_no_gen;
 mod q2;
+mod small_ptr;
 mod text;
 
 pub use generation::PtrGen;
@@ -32,4 +33,5 @@ pub use p5::P5;
 pub use ptr::Ptr;
 pub use ptr_no_gen::PtrNoGen;
 pub use q2::Q2;
+pub use small_ptr::SmallPtr;
 pub use text::fmt_pointer;

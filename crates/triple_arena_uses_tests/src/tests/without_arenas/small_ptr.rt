@@ -4,9 +4,8 @@ use std::num::NonZeroU32;
 use std::process::Abort;
 use std::test::Fail;
 use triple_arena::{Arena, ArenaSlot, ArenaTrait};
-use triple_arena_ptr::{P0, Ptr, PtrGen};
+use triple_arena_ptr::{P0, Ptr, PtrGen, SmallPtr};
 use triple_arena_stack::{NonZeroInxGenericStack, NonZeroInxVec};
-use triple_arena_uses::small_ptr::SmallPtr;
 
 type Slot = ArenaSlot<SmallPtr, u64>;
 

@@ -1,4 +1,4 @@
-//! An own pointer: the small one, of a 32-bit index and a 32-bit generation.
+//! The small pointer, of a 32-bit index and a 32-bit generation.
 
 ghost use Rattle.std.specs.Prelude.{◌≡◌, ◌^◌, ◌-◌, Some, true, suc, codes};
 ghost use Rattle.std.proofs.Common.{refl};
@@ -7,11 +7,15 @@ ghost use Rattle.triple_arena_base.specs.laws.HeldLaws.{itself_held_refill, itse
 ghost use Rattle.triple_arena_ptr.specs.NonZeroValues.{same_pair, u32_after, u32_after_cancels};
 ghost use Rattle.triple_arena_ptr.specs.PointerText.{pointer_text};
 
+use crate::generation::PtrGen;
+use crate::inx::PtrInx;
+use crate::non_zero::non_zero_u32;
+use crate::ptr::Ptr;
+use crate::text::fmt_pointer;
 use std::fmt;
 use std::marker::Model;
 use std::num::NonZeroU32;
 use triple_arena_base::{Recast, Recaster};
-use triple_arena_ptr::{Ptr, PtrGen, PtrInx, fmt_pointer, non_zero_u32};
 
 /// The small pointer: a 32-bit index and a 32-bit generation, in 8 bytes where `P0` has 16.
 ///
@@ -61,17 +65,17 @@ impl Ptr for SmallPtr {
         SmallPtr::_from_raw(PtrInx::best_effort_invalid(), PtrGen::one())
     }
 
-    #[tactic(auto, using(triple_arena_ptr::specs::NonZeroValues::u32_is_after))]
+    #[tactic(auto, using(crate::specs::NonZeroValues::u32_is_after))]
     fn inx(self) -> NonZeroU32 {
         non_zero_u32(self._internal_inx)
     }
 
-    #[tactic(auto, using(triple_arena_ptr::specs::NonZeroValues::u32_is_after))]
+    #[tactic(auto, using(crate::specs::NonZeroValues::u32_is_after))]
     fn generation(self) -> NonZeroU32 {
         non_zero_u32(self._internal_gen)
     }
 
-    #[tactic(auto, using(triple_arena_ptr::specs::NonZeroValues::u32_after_before))]
+    #[tactic(auto, using(crate::specs::NonZeroValues::u32_after_before))]
     fn _from_raw(inx: NonZeroU32, generation: NonZeroU32) -> Self {
         SmallPtr {
             _internal_inx: inx.get(),

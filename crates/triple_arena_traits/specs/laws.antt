@@ -11,6 +11,7 @@ pub mod ValueLaws
 pub mod CompressionLaws
 pub mod MoveLaws
 pub mod ReadLaws
+pub mod LookUpLaws
 pub mod CloningLaws
 pub mod CopyLaws
 pub mod StepLaws

@@ -9,7 +9,7 @@ use Rattle.triple_arena_stack.specs.StackKind.StackKind.{heap, limited, fixed, a
 use Rattle.triple_arena_stack.specs.Capacity.{stack_capacity, next_capacity}
 use Rattle.triple_arena_traits.specs.Items.{item, with_item}
 use Rattle.triple_arena_traits.specs.laws.ItemLaws.{joined, joined_mapped, item-map, eq_true, eq_false, item_past, item-with_other, item-push_same, item-push_other}
-use Rattle.triple_arena_traits.specs.Entries.{entry_in, ChangesAt, KeepsEntries}
+use Rattle.triple_arena_traits.specs.Entries.{entry_in, with_value_in, ChangesAt, KeepsEntries}
 use Rattle.triple_arena_traits.specs.ArenaState.{ArenaState, capacity, slot_count, arena_len, is_free, IsWellFormed}
 use Rattle.triple_arena_traits.specs.Insertion.{place_among, place, next_pointer, inserted_among, inserted}
 use Rattle.triple_arena_traits.specs.Ending.{removed, invalidated, cleared}
@@ -63,6 +63,11 @@ module _ {T : Type 0} where
   pub changes_at : (xs : List (Option (ℕ × T))) (i : ℕ) (e : Option (ℕ × T)) → (item xs i ≡ None → e ≡ None) → ChangesAt xs i e (with_item xs i e)
   changes_at xs i e none =
       record { there = entry_set xs i e none; others = λ j other. ap joined (item-with_other xs i j e other) }
+
+  -- another value in the entry at an index
+  pub written : (slots : List (Option (ℕ × T))) (i : ℕ) (w : T) → ChangesAt slots i (option_map (λ e. (e.0, w)) (entry_in slots i)) (with_value_in slots i w)
+  written slots i w =
+      changes_at slots i (option_map (λ e. (e.0, w)) (entry_in slots i)) (λ none. ap (λ slot. option_map (λ (x : ℕ × T). (x.0, w)) (joined slot)) none)
 
   -- the slots without the last one
   shorter_get : (xs : List (Option (ℕ × T))) (k : ℕ) → suc k ≢ length xs → slice_get (take (length xs - 1) xs) k ≡ slice_get xs k

@@ -8,7 +8,7 @@ use Rattle.triple_arena_ptr.specs.Pointers.{Pointer}
 use Rattle.triple_arena_traits.specs.Items.{item}
 use Rattle.triple_arena_traits.specs.laws.ItemLaws.{joined, item_within, eq_true, eq_false}
 use Rattle.triple_arena_traits.specs.Entries.{entry_in, look_up, value_of_generation, entry_count, ChangesAt, with_value_in, IsFirst, IsLast}
-use Rattle.triple_arena_traits.specs.laws.EntryLaws.{changes_at}
+use Rattle.triple_arena_traits.specs.laws.EntryLaws.{written}
 use Rattle.triple_arena_traits.specs.FreeList.{IsRising}
 use Rattle.triple_arena_traits.specs.Walks.{Stand, place_of, is_ahead, moved, steps_left, Answers, Steps, IsAtFirst, IsBeforeAll, Walk, put_entry, entries_where, entries_from, entries, entries_ahead, entries_behind, keys_of, keys, keys_ahead}
 
@@ -416,10 +416,6 @@ module _ {T : Type 0} where
       let gone = (taken greatest slots b p a s).gone in
       let other : (j : ℕ) → is_ahead a j ≡ true → j ≢ p.0 = λ j yes e. true≢false (sym yes ∙ ap (is_ahead a) e ∙ gone) in
       entries_same (is_ahead a) 1 new slots (λ j k at yes. sym (slot_of new j k at) ∙ change.others j (other j yes) ∙ slot_of slots j k at)
-
-  written : (slots : List (Option (ℕ × T))) (i : ℕ) (w : T) → ChangesAt slots i (option_map (λ e. (e.0, w)) (entry_in slots i)) (with_value_in slots i w)
-  written slots i w =
-      changes_at slots i (option_map (λ e. (e.0, w)) (entry_in slots i)) (λ none. ap (λ slot. option_map (λ (x : ℕ × T). (x.0, w)) (joined slot)) none)
 
   pub ahead_written : (greatest : ℕ) (slots : List (Option (ℕ × T))) (b : Stand) (p : Pointer) (a : Stand) (w : T) → Steps greatest slots b (Some p) a → entries_ahead a (with_value_in slots p.0 w) ≡ entries_ahead a slots
   ahead_written greatest slots b p a w s =

@@ -13,6 +13,7 @@ pub use Rattle.triple_arena_traits.specs.laws.ValueLaws
 pub use Rattle.triple_arena_traits.specs.laws.CompressionLaws
 pub use Rattle.triple_arena_traits.specs.laws.MoveLaws
 pub use Rattle.triple_arena_traits.specs.laws.ReadLaws
+pub use Rattle.triple_arena_traits.specs.laws.LookUpLaws
 pub use Rattle.triple_arena_traits.specs.laws.CloningLaws
 pub use Rattle.triple_arena_traits.specs.laws.CopyLaws
 pub use Rattle.triple_arena_traits.specs.laws.StepLaws

@@ -8,6 +8,7 @@
 #![tactic(auto)]
 
 mod no_memory;
+mod programs;
 mod runs;
 mod sessions;
 
@@ -19,13 +20,14 @@ struct OfSessions;
 
 impl Calls for OfSessions {
     fn words(&self) -> &'static [&'static str] {
-        &["sessions", "runs", "none"]
+        &["sessions", "runs", "programs", "none"]
     }
 
     fn make(&self, alloc: Global, word: &str, report: &mut Report) {
         match word {
             "sessions" => sessions::try_each(alloc, report),
             "runs" => runs::try_each(alloc, report),
+            "programs" => programs::try_each(alloc, report),
             _ => no_memory::try_each(alloc, report),
         }
     }

@@ -144,7 +144,7 @@ fn refused_lines(written: &[u8], wanted: &[u8]) -> Option<usize> {
 
 /// How a text ended.
 #[derive(Clone, Copy)]
-enum Ended {
+pub enum Ended {
     /// So many of its lines tell of refused memory.
     Whole(usize),
     /// Memory was refused, and nothing was written.

@@ -1,13 +1,17 @@
 //! Entries by name: commands to a new session, answered as by a store of names.
 
-ghost use Rattle.std.specs.Prelude.{◌≡◌, ◌+◌, ◌⊎◌, ℕ, true, false, IfOk, IfSome, take, length};
+ghost use Rattle.std.specs.Prelude.{◌≡◌, ◌+◌, ◌⊎◌, ℕ, true, false, Some, Result, IfOk, IfSome, OnErr, take, length};
 ghost use Rattle.std.specs.List.{list_all, list_any};
 ghost use Rattle.triple_arena_session.specs.NameStore.{next_name};
 ghost use Rattle.triple_arena_session.specs.Runs.{IsRun, TellsOfNoWrap, EndsInWrap};
 ghost use Rattle.triple_arena_session.specs.StoreRuns.{AnswersAsStore, is_named, is_no_memory, seen, ample, erase};
 ghost use Rattle.triple_arena_session.specs.Kind.TheVariants.{Heap};
 ghost use Rattle.triple_arena_session.specs.StrictStore.{tells_exhausted, StrictStore, IsStrictStoreStep};
+ghost use Rattle.triple_arena_session.specs.SessionState.{SessionState};
 ghost use Rattle.triple_arena_session.specs.Shown.{shown, IsSound};
+ghost use Rattle.triple_arena_session.specs.KindRun.{greatest};
+ghost use Rattle.triple_arena_session.specs.StrictSession.{strictly_shown};
+ghost use Rattle.triple_arena_session.specs.StrictText.{IsStrictStoreText};
 ghost use Rattle.triple_arena_session.specs.StoreText.{first_store, first_strict_store};
 
 use std::alloc::Global;
@@ -106,7 +110,10 @@ pub fn runs_to_its_end(
 }
 
 /// Runs what a reader gives in a strict session, known or not, and then these commands, however that ended.
-/// Their replies are those of a strict store of names.
+///
+/// So far as the reader tells its bytes, the lines are answered as by the strict store of names that the
+/// session shows; the commands are, by the store that it shows in between, and it shows what they made of
+/// that. Refused only where there is no memory for the list of replies; then no command has run.
 pub fn answers_after_a_text<R: Read>(
     session: &mut StrictSession<P0, u64>,
     alloc: Global,
@@ -114,8 +121,15 @@ pub fn answers_after_a_text<R: Read>(
     output: &mut Vec<u8>,
     commands: &[Command<u64>],
 ) -> Result<Vec<Reply<u64>>, AllocError>
-    ensures store { IfOk result (λ replies. (before after : StrictStore ℕ)
-        × IsRun IsStrictStoreStep before commands.now replies.items after) }
+    ensures store { (outcome : Result (Unit {0}) TextError) × (between : SessionState ℕ) × IsSound between
+        × IsStrictStoreText
+        (strictly_shown greatest session.old) (strictly_shown greatest between)
+        (R.remaining input.old) outcome (Some output.old.items) (Some output.new.items)
+        × IfOk result (λ replies. IsRun IsStrictStoreStep
+        (strictly_shown greatest between) commands.now replies.items
+        (strictly_shown greatest session.new))
+        × OnErr result (session.new ≡ between) }
+    ensures sound { IsSound session.new }
 {
     let _outcome = run_text_strict(session, alloc, input, output);
     session.run(commands)

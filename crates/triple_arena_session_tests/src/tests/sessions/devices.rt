@@ -121,14 +121,6 @@ impl ShortWriter {
     pub fn lines_ended(&self) -> usize {
         self.bytes.iter().filter(|byte| **byte == b'\n').count()
     }
-
-    /// How many of its lines are this text.
-    pub fn lines_of(&self, text: &[u8]) -> usize {
-        self.bytes
-            .split(|byte| *byte == b'\n')
-            .filter(|line| *line == text)
-            .count()
-    }
 }
 
 impl Write for ShortWriter {

@@ -1,6 +1,5 @@
 //! Whole runs of the program, from its arguments to what is written.
 
-use super::devices::ShortWriter;
 use super::texts::expect;
 use std::alloc::Global;
 use std::io;
@@ -72,10 +71,9 @@ fn runs_in_a_session_of_a_kind(rt: HostRuntime) -> Result<(), Fail> {
     Ok(())
 }
 
-/// Holds with ample memory, and also where any one request for memory is refused
-/// (`rt try --test --fail-alloc N`): then nothing is written, or one insertion answers so.
+/// In each mode.
 #[test]
-fn runs_or_says_that_memory_was_refused(rt: HostRuntime) {
+fn runs_a_text(rt: HostRuntime) {
     let rows: [&[&str]; 8] = [
         &["heap"],
         &["limited", "2"],
@@ -89,18 +87,9 @@ fn runs_or_says_that_memory_was_refused(rt: HostRuntime) {
     for words in rows {
         let args = args_of(rt.alloc(), words);
         let mut input = b"insert 1 -\ninsert 1 -\n".as_slice();
-        let (outcome, output) = run_program(args, rt.alloc(), &mut input, ShortWriter::new(256));
-        match output {
-            Some(written) => {
-                if outcome == WELL {
-                    assert_eq!(rt; written.lines_ended(), 2);
-                    assert!(rt; written.lines_of(b"no memory") < 2);
-                } else {
-                    assert!(rt; outcome == Outcome::Ran(Err(TextError::NoMemory)));
-                    assert_eq!(rt; written.len, 0);
-                }
-            }
-            None => assert!(rt; outcome == Outcome::Ran(Err(TextError::NoMemory))),
-        }
+        let (outcome, output) = run_program(args, rt.alloc(), &mut input, Vec::new(rt.alloc()));
+        let written = b"given 1\ngiven 2\n".as_slice();
+        assert!(rt; outcome == WELL);
+        assert!(rt; output.is_some_and(|output| output.as_slice() == written));
     }
 }

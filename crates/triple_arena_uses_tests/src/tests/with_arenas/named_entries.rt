@@ -1,7 +1,7 @@
 use std::alloc::Global;
 use triple_arena_session::{Command, Reply, Session, StrictSession};
 use triple_arena_session_uses::named_entries::{
-    answers, enter, run_to_malformed, runs_to_its_end, strict_answers,
+    answers, answers_after_a_text, enter, run_to_malformed, runs_to_its_end, strict_answers,
 };
 
 #[test]
@@ -78,4 +78,20 @@ fn a_text_follows_another_in_a_strict_session(rt: HostRuntime) {
     let ends = runs_to_its_end(&mut session, rt.alloc(), b"get 1\n", &mut output);
     assert!(rt; (stops, ends) == (false, true));
     assert_eq!(rt; output.as_slice(), b"given 1\nfound 1 -\n".as_slice());
+}
+
+#[test]
+fn commands_follow_a_text_in_a_strict_session(rt: HostRuntime) {
+    let mut session = StrictSession::with_new_arena(rt.alloc());
+    let mut output = Vec::new(rt.alloc());
+    let replies = answers_after_a_text(
+        &mut session,
+        rt.alloc(),
+        &mut b"insert 1 -\ninsert 2\n".as_slice(),
+        &mut output,
+        &[Command::Insert(3, Some(1)), Command::Get(2)],
+    );
+    let wanted = [Reply::Given(2, false), Reply::Found(3, Some(1))];
+    assert!(rt; replies.is_ok_and(|replies| replies.as_slice() == wanted.as_slice()));
+    assert_eq!(rt; output.as_slice(), b"given 1\n".as_slice());
 }

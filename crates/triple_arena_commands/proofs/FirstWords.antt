@@ -4,21 +4,24 @@ use Rattle.std.specs.Prelude.{codes, ◌||◌}
 use Rattle.std.specs.Option.{option_map, option_and_then}
 use Rattle.std.specs.Char.{is_ascii_digit, digit_value}
 use Rattle.std.specs.Int.{IsInRange}
-use Rattle.std.specs.List.{list_any, onto_first}
+use Rattle.std.specs.List.{list_any, onto_first, join_with_byte}
 use Rattle.std.specs.Str.{bytes_eq}
 use Rattle.std.specs.Str.Parse.{AllDigits, digits_value}
+use Rattle.std.proofs.Math.Nat.{pow-le-pow_right}
 use Rattle.std.proofs.Math.Seq.{split_at, take-append_seam}
 use Rattle.std.proofs.lemmas.Bool.Decides.{nat_tests}
-use Rattle.std.proofs.lemmas.Int.Digits.{digits_more, digits_value_more}
-use Rattle.std.proofs.lemmas.List.Splits.{slice_split-cons_no}
+use Rattle.std.proofs.lemmas.Int.Digits.{digits_more, digits_value_more, digits_value-lt}
+use Rattle.std.proofs.lemmas.List.Splits.{slice_split-cons_no, join_with_byte-slice_split}
 use Rattle.std.proofs.lemmas.Slice.Eq.{bytes_eq-Decides}
 use Rattle.std.proofs.lemmas.Str.{digit_value_digit}
 use Rattle.std.proofs.lemmas.Str.Parse.{tells_digits, digits_value-take-le}
+use Rattle.triple_arena_commands.specs.declared.command.Command.{Command}
+use Rattle.triple_arena_commands.specs.declared.command.Command.TheVariants.{Insert, Get, Set, Remove}
 use Rattle.triple_arena_commands.specs.Lines.{words_of}
-use Rattle.triple_arena_commands.specs.CommandText.{number_of, link_of, set_of, command_of_words}
+use Rattle.triple_arena_commands.specs.CommandText.{number_of, link_of, linked, numbered, numbered_of, insert_of, set_of, command_of_words, command_of}
 use Rattle.triple_arena_commands.specs.Forms.{WritesNumber}
 use Rattle.triple_arena_commands.specs.Words.{FirstIsNone}
-use Rattle.triple_arena_commands.proofs.FormLaws.{number_of-is, number_of-from}
+use Rattle.triple_arena_commands.proofs.FormLaws.{number_of-is, number_of-from, link_of-is, words_of-number, words_of-link}
 use Rattle.triple_arena_commands.proofs.Splits.{parts-some}
 
 abbrev is_space : ℕ → Bool
@@ -103,6 +106,14 @@ one_more text count number within digit all value =
     let is = digit_value_digit b range in
     let below : digit_value b < 10 = omega (arith, is, range.1) in
     (digits_more 10 text count within all below, omega (arith, digits_value_more 10 text count within, value, is))
+
+-- so few write a number that fits, with one digit more
+pub nineteen_fit : (text : List ℕ) (count number : ℕ) → count ≤ length text → count < 19 → AllDigits 10 (take count text) → digits_value 10 (take count text) ≡ number → number * 10 + 9 < 2 ^ 64
+nineteen_fit text count number within few all value =
+    let below = digits_value-lt 10 (take count text) all in
+    let long : length (take count text) ≡ count = length-take-le count text within in
+    let most : 10 ^ length (take count text) ≤ 10 ^ 18 = pow-le-pow_right {n = 10} (omega arith) {j = 18} (omega (arith, long, few)) in
+    omega (arith, below, most, value)
 
 writes_none : (word : List ℕ) → ((n : ℕ) → WritesNumber word n → ⊥) → number_of word ≡ None
 writes_none word isnt = by (number_of word) refl
@@ -205,3 +216,66 @@ pub five_none : (verb first word last rest after : List ℕ) → words_of rest �
 five_none verb first word last rest after e =
     let some = parts-some is_space after in
     sym (ap (λ words. command_of_words (verb ∷ first ∷ word ∷ words)) (e ∙ ap (λ words. last ∷ words) some.2))
+
+-- ---- a verb, and a text that is its one word, or its last
+
+alone : (text word : List ℕ) → words_of text ≡ word ∷ [] → text ≡ word
+alone text word e = sym (join_with_byte-slice_split 32 text) ∙ ap (join_with_byte 32) e
+
+-- a text of more words writes neither number nor link
+more_no_number : (text first second : List ℕ) (words : List (List ℕ)) → words_of text ≡ first ∷ second ∷ words → number_of text ≡ None
+more_no_number text first second words e = writes_none text (λ n is. let one = sym (words_of-number text n is) ∙ e in cc)
+
+more_no_link : (text first second : List ℕ) (words : List (List ℕ)) → words_of text ≡ first ∷ second ∷ words → link_of text ≡ None
+more_no_link text first second words e = by (link_of text) refl
+  where
+    by : (o : Option (Option ℕ)) → link_of text ≡ o → o ≡ None
+    by None is = refl
+    by (Some link) is = let one = sym (words_of-link text link (link_of-is text link is)) ∙ e in absurd (cc)
+
+-- what another verb than `set` makes of three words, and one that takes no link of two
+no_set : (verb : List ℕ) → bytes_eq verb (codes "set") ≡ false → (k d : Option ℕ) (l : Option (Option ℕ)) → None ≡ set_of verb k d l
+no_set verb other None d l = refl
+no_set verb other (Some k) None l = refl
+no_set verb other (Some k) (Some d) None = refl
+no_set verb other (Some k) (Some d) (Some l) = sym (ap (λ is. cond is (Some (Set k d l)) None) other)
+
+no_insert : (verb : List ℕ) → ((d : ℕ) (l : Option ℕ) → linked verb d l ≡ None) → (d : Option ℕ) (l : Option (Option ℕ)) → None ≡ insert_of verb d l
+no_insert verb none None l = refl
+no_insert verb none (Some d) None = refl
+no_insert verb none (Some d) (Some l) = sym (none d l)
+
+-- a verb that takes a number alone
+module _ (verb : List ℕ) (made : ℕ → Command ℕ) (takes : (n : ℕ) → numbered verb n ≡ Some (made n)) (none : (d : ℕ) (l : Option ℕ) → linked verb d l ≡ None) (other : bytes_eq verb (codes "set") ≡ false) where
+  takes_number : (o : Option ℕ) → option_map made o ≡ numbered_of verb o
+  takes_number None = refl
+  takes_number (Some n) = sym (takes n)
+
+  by_words : (text word : List ℕ) (words : List (List ℕ)) → words_of text ≡ word ∷ words → option_map made (number_of text) ≡ command_of_words (verb ∷ word ∷ words)
+  by_words text word [] e = takes_number (number_of text) ∙ ap (λ w. numbered_of verb (number_of w)) (alone text word e)
+  by_words text word (second ∷ []) e = ap (option_map made) (more_no_number text word second [] e) ∙ no_insert verb none (number_of word) (link_of second)
+  by_words text word (second ∷ third ∷ []) e = ap (option_map made) (more_no_number text word second (third ∷ []) e) ∙ no_set verb other (number_of word) (number_of second) (link_of third)
+  by_words text word (second ∷ third ∷ fourth ∷ words) e = ap (option_map made) (more_no_number text word second (third ∷ fourth ∷ words) e)
+
+  number_after : (text : List ℕ) → option_map made (number_of text) ≡ command_of_words (verb ∷ words_of text)
+  number_after text = let some = parts-some is_space text in by_words text some.0 some.1 some.2 ∙ sym (ap (λ words. command_of_words (verb ∷ words)) some.2)
+
+pub get_line : (line text : List ℕ) → line ≡ codes "get " ++ text → option_map Get (number_of text) ≡ command_of line
+get_line line text e = number_after (codes "get") Get (λ n. refl) (λ d l. refl) refl text ∙ sym (ap command_of e ∙ ap command_of_words (front_of (codes "get") text refl))
+
+pub remove_line : (line text : List ℕ) → line ≡ codes "remove " ++ text → option_map Remove (number_of text) ≡ command_of line
+remove_line line text e = number_after (codes "remove") Remove (λ n. refl) (λ d l. refl) refl text ∙ sym (ap command_of e ∙ ap command_of_words (front_of (codes "remove") text refl))
+
+-- the datum of an insertion, and the text after it
+pub link_after : (word text : List ℕ) (d : ℕ) → number_of word ≡ Some d → option_map (Insert d) (link_of text) ≡ command_of_words (codes "insert" ∷ word ∷ words_of text)
+link_after word text d is =
+    let some = parts-some is_space text in by some.0 some.1 some.2 ∙ sym (ap (λ words. command_of_words (codes "insert" ∷ word ∷ words)) some.2)
+  where
+    takes_link : (o : Option (Option ℕ)) → option_map (Insert d) o ≡ insert_of (codes "insert") (Some d) o
+    takes_link None = refl
+    takes_link (Some l) = refl
+
+    by : (link : List ℕ) (words : List (List ℕ)) → words_of text ≡ link ∷ words → option_map (Insert d) (link_of text) ≡ command_of_words (codes "insert" ∷ word ∷ link ∷ words)
+    by link [] e = takes_link (link_of text) ∙ ap (λ w. insert_of (codes "insert") (Some d) (link_of w)) (alone text link e) ∙ sym (ap (λ o. insert_of (codes "insert") o (link_of link)) is)
+    by link (second ∷ []) e = ap (option_map (Insert d)) (more_no_link text link second [] e) ∙ no_set (codes "insert") refl (number_of word) (number_of link) (link_of second)
+    by link (second ∷ third ∷ words) e = ap (option_map (Insert d)) (more_no_link text link second (third ∷ words) e)

@@ -55,7 +55,7 @@ link-cases true number link e = inl (refl, cc)
 link-cases false None link e = cc
 link-cases false (Some n) link e = inr (n, refl, cc)
 
-link_of-is : (word : List ℕ) (link : Option ℕ) → link_of word ≡ Some link → WritesLink word link
+pub link_of-is : (word : List ℕ) (link : Option ℕ) → link_of word ≡ Some link → WritesLink word link
 link_of-is word link e =
     elim (link-cases (bytes_eq word (codes "-")) (number_of word) link e) [
       | inl none ↦ subst (WritesLink word) none.1 (is_text word (codes "-") none.0)
@@ -93,10 +93,10 @@ verb_no_space (b ∷ bs) all =
     let parts : ((b == 32) ≡ false) × (is_verb bs ≡ true) = grind (arith, nat_tests, all) in
     All-cons (λ b. (b == 32) ≡ false) b bs parts.0 (verb_no_space bs parts.1)
 
-words_of-number : (word : List ℕ) (n : ℕ) → WritesNumber word n → words_of word ≡ word ∷ []
+pub words_of-number : (word : List ℕ) (n : ℕ) → WritesNumber word n → words_of word ≡ word ∷ []
 words_of-number word n is = slice_split_none (λ b. b == 32) word (digits_no_space word is.0.1)
 
-words_of-link : (word : List ℕ) (link : Option ℕ) → WritesLink word link → words_of word ≡ word ∷ []
+pub words_of-link : (word : List ℕ) (link : Option ℕ) → WritesLink word link → words_of word ≡ word ∷ []
 words_of-link word None is = rw is refl
 words_of-link word (Some name) is = words_of-number word name is
 

@@ -13,7 +13,7 @@ use Rattle.triple_arena_traits.specs.Items.{item, with_item}
 use Rattle.triple_arena_ptr.specs.Pointers.{Pointer, is_same}
 use Rattle.triple_arena_commands.specs.declared.name_table.Row.{Row}
 use Rattle.triple_arena_commands.specs.PointerNames.{name_of}
-use Rattle.triple_arena_commands.specs.NameLayout.{noted_number, pointers_of, notes_of, note_at, IsDistinct, IsNoted, Knows, Notes, RecastsAt}
+use Rattle.triple_arena_commands.specs.NameLayout.{pointers_of, notes_of, note_at, IsDistinct, IsNoted, Knows, Notes, RecastsAt}
 
 -- a write that a map doesn't see
 pub unseen_write : {A B : Type 0} (f : A → B) (xs : List A) (k : ℕ) (x y : A) → Some x ≡ slice_get xs k → f y ≡ f x → map f (slice_set xs k y) ≡ map f xs
@@ -70,15 +70,15 @@ written_item (a ∷ rest) (suc k) x y (suc j) e =
       | inr other ↦ inr other
     ]
 
--- a row that notes nothing
-empty_note : (notes : List ℕ) (m : ℕ) → unwrap_or (slice_get notes m) 0 ≤ unwrap_or (slice_get (notes ++ 0 ∷ []) m) 0
-empty_note [] m = omega arith
-empty_note (n ∷ ns) zero = omega arith
-empty_note (n ∷ ns) (suc m) = empty_note ns m
+-- one more note, whatever it is
+last_note : (notes : List ℕ) (last m : ℕ) → unwrap_or (slice_get notes m) 0 ≤ unwrap_or (slice_get (notes ++ last ∷ []) m) 0
+last_note [] last m = omega arith
+last_note (n ∷ ns) last zero = omega arith
+last_note (n ∷ ns) last (suc m) = last_note ns last m
 
-more_notes : (notes : List ℕ) (i : ℕ) → note_at notes i ≤ note_at (notes ++ 0 ∷ []) i
-more_notes notes zero = omega arith
-more_notes notes (suc m) = empty_note notes m
+more_notes : (notes : List ℕ) (last i : ℕ) → note_at notes i ≤ note_at (notes ++ last ∷ []) i
+more_notes notes last zero = omega arith
+more_notes notes last (suc m) = last_note notes last m
 
 -- a pointer above what was noted enters a table at place m, where all else was there before
 module _ (old new : List Pointer) (m : ℕ) (p : Pointer) (notes after : List ℕ) (from : (j : ℕ) (q : Pointer) → slice_get new j ≡ Some q → ((j ≡ m) × (q ≡ p)) ⊎ (slice_get old j ≡ Some q)) (distinct : IsDistinct old) (noted : IsNoted old notes) (enters : Notes p notes after) where
@@ -106,13 +106,13 @@ module _ (old new : List Pointer) (m : ℕ) (p : Pointer) (notes after : List �
       ]
 
 -- what is known stays known, where it is known of the pointer that comes
-pub knows_pushed : (before newer : Bool) (table : List Pointer) (p : Pointer) (notes noted : List ℕ) → Knows before table notes → (newer ≡ true → Notes p (notes ++ 0 ∷ []) noted) → Knows (before && newer) (table ++ p ∷ []) noted
-knows_pushed false newer table p notes noted known entered = tt
-knows_pushed true false table p notes noted known entered = tt
-knows_pushed true true table p notes noted known entered =
-    let low : IsNoted table (notes ++ 0 ∷ []) = λ k q e. (let a = known.1 k q e in let b = more_notes notes q.0 in omega (arith, a, b)) in (
-      still_distinct table (table ++ p ∷ []) (length table) p (notes ++ 0 ∷ []) noted (λ j q e. pushed_item table p q j e) known.0 low (entered refl),
-      still_noted table (table ++ p ∷ []) (length table) p (notes ++ 0 ∷ []) noted (λ j q e. pushed_item table p q j e) known.0 low (entered refl),
+pub knows_pushed : (before newer : Bool) (table : List Pointer) (p : Pointer) (notes noted : List ℕ) (last : ℕ) → Knows before table notes → (newer ≡ true → Notes p (notes ++ last ∷ []) noted) → Knows (before && newer) (table ++ p ∷ []) noted
+knows_pushed false newer table p notes noted last known entered = tt
+knows_pushed true false table p notes noted last known entered = tt
+knows_pushed true true table p notes noted last known entered =
+    let low : IsNoted table (notes ++ last ∷ []) = λ k q e. (let a = known.1 k q e in let b = more_notes notes last q.0 in omega (arith, a, b)) in (
+      still_distinct table (table ++ p ∷ []) (length table) p (notes ++ last ∷ []) noted (λ j q e. pushed_item table p q j e) known.0 low (entered refl),
+      still_noted table (table ++ p ∷ []) (length table) p (notes ++ last ∷ []) noted (λ j q e. pushed_item table p q j e) known.0 low (entered refl),
     )
 
 pub knows_written : (before newer : Bool) (table : List Pointer) (k : ℕ) (p : Pointer) (notes noted : List ℕ) → Knows before table notes → (newer ≡ true → Notes p notes noted) → Knows (before && newer) (slice_set table k p) noted
@@ -210,23 +210,23 @@ module _ {P G : Type 0} where
 
   module _ (number : G → ℕ) where
     -- a generation above what its row notes is noted there
-    pub row_noted : (rows : List (Row P G)) (p : Pointer) (i n : ℕ) (g h : G) (row : Row P G) → p ≡ (i, number g) → n ≡ i → 0 < n → h ≡ g → Some row ≡ slice_get rows (n - 1) → nat_lt (noted_number number row.newest) (number g) ≡ true → Notes p (notes_of number rows) (notes_of number (slice_set rows (n - 1) (record row { newest = Some h })))
+    pub row_noted : (rows : List (Row P G)) (p : Pointer) (i n : ℕ) (g h : G) (row : Row P G) → p ≡ (i, number g) → n ≡ i → 0 < n → h ≡ g → Some row ≡ slice_get rows (n - 1) → nat_lt (number row.newest) (number g) ≡ true → Notes p (notes_of number rows) (notes_of number (slice_set rows (n - 1) (record row { newest = h })))
     row_noted rows p i n g h row numbers is positive same at above =
-        let stands : slice_get (notes_of number rows) (n - 1) ≡ Some (noted_number number row.newest) = slice_get-map (λ r. noted_number number r.newest) rows (n - 1) ∙ ap (option_map (λ r. noted_number number r.newest)) (sym at) in
-        let below : noted_number number row.newest < number g = grind (arith, nat_tests, above) in
-        let notes = raised (notes_of number rows) n (number g) (noted_number number row.newest) positive stands below in
-        rw (numbers, map-set (λ r. noted_number number r.newest) rows (n - 1) (record row { newest = Some h }), same, ← is) notes
+        let stands : slice_get (notes_of number rows) (n - 1) ≡ Some (number row.newest) = slice_get-map (λ r. number r.newest) rows (n - 1) ∙ ap (option_map (λ r. number r.newest)) (sym at) in
+        let below : number row.newest < number g = grind (arith, nat_tests, above) in
+        let notes = raised (notes_of number rows) n (number g) (number row.newest) positive stands below in
+        rw (numbers, map-set (λ r. number r.newest) rows (n - 1) (record row { newest = h }), same, ← is) notes
 
     module _ (pointer : P → Pointer) (before newer : Bool) (rows after : List (Row P G)) (known : Knows before (map pointer (pointers_of rows)) (notes_of number rows)) where
-      pub knows_row_pushed : (row pushed : Row P G) → row.newest ≡ None → pushed ≡ row → pointers_of after ≡ pointers_of (rows ++ pushed ∷ []) → (newer ≡ true → Notes (pointer row.pointer) (notes_of number (rows ++ pushed ∷ [])) (notes_of number after)) → Knows (before && newer) (map pointer (pointers_of after)) (notes_of number after)
-      knows_row_pushed row pushed none is shown entered =
-          let notes : notes_of number (rows ++ pushed ∷ []) ≡ notes_of number rows ++ 0 ∷ [] = ap (λ r. notes_of number (rows ++ r ∷ [])) is ∙ map-append (λ r. noted_number number r.newest) rows (row ∷ []) ∙ ap (λ o. notes_of number rows ++ noted_number number o ∷ []) none in
+      pub knows_row_pushed : (row pushed : Row P G) → pushed ≡ row → pointers_of after ≡ pointers_of (rows ++ pushed ∷ []) → (newer ≡ true → Notes (pointer row.pointer) (notes_of number (rows ++ pushed ∷ [])) (notes_of number after)) → Knows (before && newer) (map pointer (pointers_of after)) (notes_of number after)
+      knows_row_pushed row pushed is shown entered =
+          let notes : notes_of number (rows ++ pushed ∷ []) ≡ notes_of number rows ++ number row.newest ∷ [] = ap (λ r. notes_of number (rows ++ r ∷ [])) is ∙ map-append (λ r. number r.newest) rows (row ∷ []) in
           let table : map pointer (pointers_of after) ≡ map pointer (pointers_of rows) ++ pointer row.pointer ∷ [] = ap (map pointer) (shown ∙ ap (λ r. pointers_of (rows ++ r ∷ [])) is ∙ map-append (λ r. r.pointer) rows (row ∷ [])) ∙ map-append pointer (pointers_of rows) (row.pointer ∷ []) in
-          rw table (knows_pushed before newer (map pointer (pointers_of rows)) (pointer row.pointer) (notes_of number rows) (notes_of number after) known (λ new. subst (λ ns. Notes (pointer row.pointer) ns (notes_of number after)) notes (entered new)))
+          rw table (knows_pushed before newer (map pointer (pointers_of rows)) (pointer row.pointer) (notes_of number rows) (notes_of number after) (number row.newest) known (λ new. subst (λ ns. Notes (pointer row.pointer) ns (notes_of number after)) notes (entered new)))
 
       pub knows_row_written : (k : ℕ) (row old : Row P G) → Some old ≡ slice_get rows k → row.newest ≡ old.newest → pointers_of after ≡ pointers_of (slice_set rows k row) → (newer ≡ true → Notes (pointer row.pointer) (notes_of number (slice_set rows k row)) (notes_of number after)) → Knows (before && newer) (map pointer (pointers_of after)) (notes_of number after)
       knows_row_written k row old at same shown entered =
-          let notes : notes_of number (slice_set rows k row) ≡ notes_of number rows = unseen_write (λ r. noted_number number r.newest) rows k old row at (ap (noted_number number) same) in
+          let notes : notes_of number (slice_set rows k row) ≡ notes_of number rows = unseen_write (λ r. number r.newest) rows k old row at (ap number same) in
           let table : map pointer (pointers_of after) ≡ slice_set (map pointer (pointers_of rows)) k (pointer row.pointer) = ap (map pointer) (shown ∙ map-set (λ r. r.pointer) rows k row) ∙ map-set pointer (pointers_of rows) k row.pointer in
           rw table (knows_written before newer (map pointer (pointers_of rows)) k (pointer row.pointer) (notes_of number rows) (notes_of number after) known (λ new. subst (λ ns. Notes (pointer row.pointer) ns (notes_of number after)) notes (entered new)))
 
@@ -241,7 +241,7 @@ known_name number pointer knows rows table (suc k) p q shown known is at same =
 -- a link that is noted changes neither pointers nor notes
 pub knows_same : {P G : Type 0} (number : G → ℕ) (pointer : P → Pointer) (knows : Bool) (rows : List (Row P G)) (k : ℕ) (row other : Row P G) → Some row ≡ slice_get rows k → other.pointer ≡ row.pointer → other.newest ≡ row.newest → Knows knows (map pointer (pointers_of rows)) (notes_of number rows) → Knows knows (map pointer (pointers_of (slice_set rows k other))) (notes_of number (slice_set rows k other))
 knows_same number pointer knows rows k row other at pointers notes known =
-    rw (unseen_write (λ r. r.pointer) rows k row other at pointers, unseen_write (λ r. noted_number number r.newest) rows k row other at (ap (noted_number number) notes)) known
+    rw (unseen_write (λ r. r.pointer) rows k row other at pointers, unseen_write (λ r. number r.newest) rows k row other at (ap number notes)) known
 
 -- a list whose first items have been mapped
 module _ {A : Type 0} (f : A → A) where

@@ -1,7 +1,7 @@
 -- Writes of a list's parts, one after another.
-use Rattle.std.proofs.Common.{ℕ, ◌+◌, ◌-◌, ◌<◌, ◌≤◌, List, [], ◌++◌, Option, None, Some, length, take, drop, sym, ap, ◌∙◌, subst, arith, append-nil, take-add, take-take, take-append-drop, length-drop, length-append, append_assoc}
+use Rattle.std.proofs.Common.{◌≡◌, ℕ, ◌+◌, ◌-◌, ◌<◌, ◌≤◌, List, [], ◌++◌, Option, None, Some, length, take, drop, refl, sym, ap, ◌∙◌, subst, arith, append-nil, take-add, take-take, take_all, take-append-drop, length-drop, length-append, append_assoc}
 use Rattle.std.specs.Io.KnownBytes.{Appends, Keeps}
-use Rattle.std.proofs.KnownBytes.{Appends-trans, Appends-kept}
+use Rattle.std.proofs.KnownBytes.{Appends-nil, Appends-trans, Appends-kept}
 use Rattle.triple_arena_commands.specs.TextRun.{AppendsCut}
 
 -- what a writer took of the bytes from `done` on
@@ -34,3 +34,12 @@ cut_more a b xs ys (front, rest, whole, some, wrote) =
 pub cut_later : (a b c : Option (List ℕ)) (xs ys : List ℕ) → Appends a b xs → AppendsCut b c [] ys → AppendsCut a c [] (xs ++ ys)
 cut_later a b c xs ys first (front, rest, whole, some, wrote) =
     (xs ++ front, rest, ap (λ l. xs ++ l) whole ∙ sym (append_assoc xs front rest), some, Appends-trans a b c xs front first wrote)
+
+-- the first bytes were taken, and then a part of the others, or nothing
+pub cut_behind : (a b c : Option (List ℕ)) (xs : List ℕ) (done : ℕ) → Appends a b (take done xs) → AppendsCut b c [] (take (length xs - done) (drop done xs)) → AppendsCut a c [] xs
+cut_behind a b c xs done first others =
+    let left : take (length xs - done) (drop done xs) ≡ drop done xs = (let long = length-drop done xs in take_all (length xs - done) (drop done xs) (omega (arith, long))) in
+    subst (AppendsCut a c []) (take-append-drop done xs) (cut_later a b c (take done xs) (drop done xs) first (subst (AppendsCut b c []) left others))
+
+pub cut_at_once : (a b : Option (List ℕ)) (xs : List ℕ) → 0 < length xs → Keeps a b → AppendsCut a b [] xs
+cut_at_once a b xs some kept = ([], xs, refl, some, Appends-kept a a b [] (Appends-nil a) kept)

@@ -1,14 +1,9 @@
 -- What the fields of a table of names hold. No public clause cites this module.
-use Rattle.std.specs.Prelude.{◌≡◌, ℕ, ◌≤◌, ◌<◌, Bool, true, false, List, Option, Some, None, map, slice_get, unwrap_or, MatchOption}
+use Rattle.std.specs.Prelude.{◌≡◌, ℕ, ◌≤◌, ◌<◌, Bool, true, false, List, Option, Some, map, slice_get, unwrap_or, MatchOption}
 use Rattle.triple_arena_base.specs.Held.{recast_item}
 use Rattle.triple_arena_traits.specs.Items.{item, with_item}
 use Rattle.triple_arena_ptr.specs.Pointers.{Pointer}
 use Rattle.triple_arena_commands.specs.declared.name_table.Row.{Row}
-
--- the number of the generation that a row notes, or 0
-abbrev pub noted_number : {G : Type 0} → (G → ℕ) → Option G → ℕ
-noted_number number None = 0
-noted_number number (Some g) = number g
 
 module _ {P G : Type 0} where
   -- the pointers of rows
@@ -17,7 +12,7 @@ module _ {P G : Type 0} where
 
   -- what each row notes
   abbrev pub notes_of : (G → ℕ) → List (Row P G) → List ℕ
-  notes_of number rows = map (λ row. noted_number number row.newest) rows
+  notes_of number rows = map (λ row. number row.newest) rows
 
 -- what is noted at an index, or 0
 abbrev pub note_at : List ℕ → ℕ → ℕ

@@ -1,11 +1,11 @@
 //! Commands, and the lines that stand for them.
 
-ghost use Rattle.std.specs.Prelude.{◌≡◌, ◌∷◌, ℕ, List, Some};
+ghost use Rattle.std.specs.Prelude.{◌≡◌, ◌∷◌, ◌++◌, ℕ, List, Some, IfSome, codes};
 ghost use Rattle.triple_arena_commands.specs.Lines.{words_of};
 ghost use Rattle.triple_arena_commands.specs.CommandText.{number_of, link_of, bare_of, numbered, linked, set_of, command_of_words, command_of};
 
 use crate::lines::split_first;
-use crate::words::{read_link, read_number};
+use crate::words::{parse_link, parse_number, read_link, read_number};
 
 /// One command of a session. Names are numbers from 1, in the order of giving.
 #[derive(Clone, Copy, Debug, PartialEq, Eq)]
@@ -47,6 +47,62 @@ pub enum Command<X> {
 /// is a dash or a number. `None` exactly where the line has none of these forms.
 #[inline(always)]
 pub fn parse_command(line: &[u8]) -> Option<Command<u64>>
+    ensures { result ≡ command_of line.now }
+{
+    if let Some(rest) = after_get(line) {
+        Some(Command::Get(parse_number(rest)? as usize))
+    } else if let Some(rest) = after_insert(line) {
+        parse_insertion(rest)
+    } else if let Some(rest) = after_remove(line) {
+        Some(Command::Remove(parse_number(rest)? as usize))
+    } else {
+        parse_any(line)
+    }
+}
+
+// Each of these gives what follows a verb and a space, where a line begins so.
+#[inline(always)]
+fn after_get(line: &[u8]) -> Option<&[u8]>
+    ensures { IfSome result (λ rest. line.now ≡ codes "get " ++ rest.now) }
+{
+    match line {
+        [b'g', b'e', b't', b' ', rest @ ..] => Some(rest),
+        _ => None,
+    }
+}
+
+#[inline(always)]
+fn after_insert(line: &[u8]) -> Option<&[u8]>
+    ensures { IfSome result (λ rest. line.now ≡ codes "insert " ++ rest.now) }
+{
+    match line {
+        [b'i', b'n', b's', b'e', b'r', b't', b' ', rest @ ..] => Some(rest),
+        _ => None,
+    }
+}
+
+#[inline(always)]
+fn after_remove(line: &[u8]) -> Option<&[u8]>
+    ensures { IfSome result (λ rest. line.now ≡ codes "remove " ++ rest.now) }
+{
+    match line {
+        [b'r', b'e', b'm', b'o', b'v', b'e', b' ', rest @ ..] => Some(rest),
+        _ => None,
+    }
+}
+
+// The command of the words after the verb `insert`.
+#[inline(always)]
+fn parse_insertion(rest: &[u8]) -> Option<Command<u64>>
+    ensures { result ≡ command_of_words (codes "insert" ∷ words_of rest.now) }
+{
+    let (datum, after_datum) = read_number(rest)?;
+    let link = parse_link(after_datum?)?;
+    Some(Command::Insert(datum, link))
+}
+
+// The command of a line with any verb.
+fn parse_any(line: &[u8]) -> Option<Command<u64>>
     ensures { result ≡ command_of line.now }
 {
     let (verb, after_verb) = split_first(line, b' ');

@@ -8,8 +8,9 @@ ghost use Rattle.triple_arena_commands.specs.ReplyParts.{numbers_text};
 use crate::reply::{Numbers, Parts};
 use itoa::write_digits;
 
-/// Room for a word of at most 20 bytes, a number, a space and a link, ` wrapped` and a line break.
-pub(crate) const LINE_ROOM: usize = 70;
+/// How many bytes the line of a reply may have, but for that of a text: a word of at most 20, a number, a space
+/// and a link, ` wrapped` and a line break.
+pub const LINE_ROOM: usize = 70;
 
 /// Puts a line of these parts at the end of the room, and gives its start.
 #[inline(always)]

@@ -7,7 +7,7 @@ ghost use Rattle.triple_arena_stack.specs.Capacity.{stack_capacity, most_places,
 ghost use Rattle.triple_arena_traits.specs.Items.{item, with_item};
 ghost use Rattle.triple_arena_ptr.specs.Pointers.{is_same};
 ghost use Rattle.triple_arena_commands.specs.PointerNames.{name_of};
-ghost use Rattle.triple_arena_commands.specs.NameLayout.{pointers_of, noted_number, notes_of, Notes, RecastsAt};
+ghost use Rattle.triple_arena_commands.specs.NameLayout.{pointers_of, notes_of, Notes, RecastsAt};
 
 use std::alloc::Global;
 use std::marker::Model;
@@ -21,11 +21,11 @@ use triple_arena_stack::{NonZeroInxGenericStack, NonZeroInxStack, NonZeroInxVec}
 struct Row<P, G> {
     // The pointer of the name of this number.
     pointer: P,
-    // The name that its entry is said to link to. A hint: what it tells is tried before it is used.
-    link: Option<usize>,
-    // A generation at or above those of all pointers to the index of this number; none where there
-    // is no such pointer.
-    newest: Option<G>,
+    // The name that its entry is said to link to, or 0. A hint: what it tells is tried before it is used.
+    link: usize,
+    // A generation at or above those of all pointers to the index of this number; 1 where there is no
+    // such pointer.
+    newest: G,
 }
 
 /// The pointers that were given, that of name 1 first, with room for so many of them.
@@ -35,7 +35,8 @@ struct Row<P, G> {
 pub struct NameTable<P: Ptr> {
     rows: NonZeroInxVec<Row<P, P::Gen>>,
     // Whether it is known that no pointer stands twice, and that each generation is noted. It is
-    // until a pointer comes that is no newer than all others of its index, as after a wrap.
+    // until a pointer comes that is no newer than all others of its index, as after a wrap, or has the
+    // generation 1, as where generations don't count.
     distinct: bool,
 }
 
@@ -100,8 +101,8 @@ impl<P: Ptr> NameTable<P> {
     {
         let row = Row {
             pointer: p,
-            link,
-            newest: None,
+            link: link.unwrap_or(0),
+            newest: P::Gen::one(),
         };
         let (inx, _row) = self.rows.push_reserved(row);
         let newer = note(&mut self.rows, p);
@@ -170,7 +171,7 @@ impl<P: Ptr> NameTable<P> {
         let Some(row) = self.rows.get_mut(inx) else {
             return;
         };
-        row.link = link;
+        row.link = link.unwrap_or(0);
     }
 
     /// The pointer of a name; none exactly where the name is 0 or was never given.
@@ -210,7 +211,8 @@ impl<P: Ptr> NameTable<P> {
     /// The name that the entry of a name is said to link to, as [`Self::push`] or
     /// [`Self::note_link`] noted it last. A hint, of which no clause says that it is right.
     pub fn hint(&self, holder: usize) -> Option<usize> {
-        self.rows.get(NonZeroUsize::new(holder)?)?.link
+        let row = self.rows.get(NonZeroUsize::new(holder)?)?;
+        if row.link == 0 { None } else { Some(row.link) }
     }
 
     // The name of a pointer, by looking through the table.
@@ -263,19 +265,16 @@ fn note<P: Ptr>(rows: &mut NonZeroInxVec<Row<P, P::Gen>>, p: P) -> bool
     };
     let newer = is_above(p.generation(), row.newest);
     if newer {
-        row.newest = Some(p.generation());
+        row.newest = p.generation();
     }
     newer
 }
 
-// Whether a generation is above that which is noted, or none is.
-fn is_above<G: PtrGen>(generation: G, noted: Option<G>) -> bool
-    ensures { result ≡ nat_lt (noted_number G.number noted) (G.number generation) }
+// Whether a generation is above that which is noted.
+fn is_above<G: PtrGen>(generation: G, noted: G) -> bool
+    ensures { result ≡ nat_lt (G.number noted) (G.number generation) }
 {
-    match noted {
-        Some(noted) => noted < generation,
-        None => true,
-    }
+    noted < generation
 }
 
 // Whether two pointers are one.

@@ -19,8 +19,25 @@ const MOST_TRIES: u64 = 4294967296;
 ///
 /// The error is `Write`, where a write failed, took no byte, or was interrupted so often; then a front of
 /// the line was written, but not all of it. What was written is said of a writer that tells its bytes.
-#[inline(always)]
 pub fn write_reply<W: Write>(output: &mut W, reply: &Reply<u64>) -> Result<(), TextError>
+    ensures ok { OnOk result
+        (Appends (W.contents output.old) (W.contents output.new) (reply_line reply.now)) }
+    ensures err { OnErr result
+        (AppendsCut (W.contents output.old) (W.contents output.new) [] (reply_line reply.now)) }
+    ensures write { IfErr result (λ e. e ≡ TextError.Write) }
+{
+    let mut room = [0; LINE_ROOM];
+    write_reply_in(output, reply, &mut room)
+}
+
+/// Writes the line of a reply as [`write_reply`] does. The line is made in this room, whatever it held, so one
+/// room serves many replies.
+#[inline(always)]
+pub fn write_reply_in<W: Write>(
+    output: &mut W,
+    reply: &Reply<u64>,
+    room: &mut [u8; LINE_ROOM],
+) -> Result<(), TextError>
     ensures ok { OnOk result
         (Appends (W.contents output.old) (W.contents output.new) (reply_line reply.now)) }
     ensures err { OnErr result
@@ -29,11 +46,29 @@ pub fn write_reply<W: Write>(output: &mut W, reply: &Reply<u64>) -> Result<(), T
 {
     match parts_of(reply) {
         Ok(parts) => {
-            let mut room = [0; LINE_ROOM];
-            let start = put_line(parts, &mut room);
-            write_all(output, &room[start..])
+            let start = put_line(parts, room);
+            write_line(output, &room[start..])
         }
         Err(text) => write_shown(output, text),
+    }
+}
+
+// Writes all of these bytes, mostly by the one write that stands apart from the loop.
+#[inline(always)]
+fn write_line<W: Write>(output: &mut W, bytes: &[u8]) -> Result<(), TextError>
+    requires { 0 < length bytes.now }
+    ensures ok { OnOk result
+        (Appends (W.contents output.old) (W.contents output.new) bytes.now) }
+    ensures err { OnErr result
+        (AppendsCut (W.contents output.old) (W.contents output.new) [] bytes.now) }
+    ensures write { IfErr result (λ e. e ≡ TextError.Write) }
+{
+    match output.write(bytes) {
+        Ok(count) if count == bytes.len() => Ok(()),
+        Ok(0) => Err(TextError::Write),
+        Ok(count) => write_all(output, &bytes[count..]),
+        Err(e) if e.kind() == ErrorKind::Interrupted => write_all(output, bytes),
+        Err(_) => Err(TextError::Write),
     }
 }
 
@@ -51,7 +86,6 @@ fn write_shown<W: Write>(output: &mut W, text: &str) -> Result<(), TextError>
 }
 
 // Writes all of these bytes.
-#[inline(always)]
 fn write_all<W: Write>(output: &mut W, bytes: &[u8]) -> Result<(), TextError>
     ensures ok { OnOk result
         (Appends (W.contents output.old) (W.contents output.new) bytes.now) }

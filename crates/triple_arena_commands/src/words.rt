@@ -35,6 +35,16 @@ pub(crate) fn read_number(line: &[u8]) -> Option<(u64, Option<&[u8]>)>
     Some((number, rest))
 }
 
+/// The link that a word writes, a dash for none.
+pub(crate) fn parse_link(word: &[u8]) -> Option<Option<usize>>
+    ensures { result ≡ link_of word.now }
+{
+    if word == b"-".as_slice() {
+        return Some(None);
+    }
+    Some(Some(parse_number(word)? as usize))
+}
+
 /// The number that a word writes.
 pub(crate) fn parse_number(word: &[u8]) -> Option<u64>
     ensures { result ≡ number_of word.now }
@@ -66,8 +76,8 @@ fn read_digits(text: &[u8]) -> Option<(u64, usize)>
     Some((number, count))
 }
 
-// The number of as many digits at the front as are read without a test for one that is too large: of all, but of
-// very large numbers. And how many they are.
+// The number of the digits at the front, or of the first 19 where there are more, and how many it was made of.
+// So many write a number below 10 ^ 19, which needs no test for one that is too large.
 fn read_front(text: &[u8]) -> (u64, usize)
     ensures within { result.1 ≤ length text.now }
     ensures digits { AllDigits 10 (take result.1 text.now) }
@@ -75,7 +85,8 @@ fn read_front(text: &[u8]) -> (u64, usize)
 {
     let mut number = 0u64;
     let mut count = 0;
-    'digits: while count < text.len() && text[count].is_ascii_digit() && number < u64::MAX / 10 {
+    let most = text.len().min(19);
+    'digits: while count < most && text[count].is_ascii_digit() {
         number = number * 10 + (text[count] - b'0') as u64;
         count += 1;
     }

@@ -17,7 +17,7 @@ use std::alloc::Global;
 use std::io::{BufWriter, Read, Write};
 use triple_arena::ArenaSlot;
 use triple_arena_commands::{
-    TextError, flush_after, parse_command, read_text, split_first, write_reply,
+    LINE_ROOM, TextError, flush_after, parse_command, read_text, split_first, write_reply_in,
 };
 use triple_arena_ptr::Ptr;
 use triple_arena_stack::NonZeroInxGenericStack;
@@ -149,9 +149,10 @@ fn run_lines<
 {
     let mut rest = text;
     let mut before = 0usize;
+    let mut room = [0; LINE_ROOM];
     'lines: loop {
         let (line, after) = split_first(rest, b'\n');
-        match run_line(session, line, output) {
+        match run_line(session, line, output, &mut room) {
             LineEnd::Answered => {}
             LineEnd::Wrapped => return Ok(()),
             LineEnd::Malformed => return Err(TextError::Malformed(before + 1)),
@@ -176,20 +177,25 @@ enum LineEnd {
     Unwritten,
 }
 
-// Runs a line, which may have no bytes.
+// Runs a line, which may have no bytes. The room is for the line of the reply.
 fn run_line<
     P: Ptr,
     S: NonZeroInxGenericStack<ArenaSlot<P, Node<u64, P>>>,
     A: SessionArena<P, Node<u64, P>, S>,
     W: Write,
->(session: &mut NamedArena<P, u64, S, A>, line: &[u8], output: &mut W) -> LineEnd
+>(
+    session: &mut NamedArena<P, u64, S, A>,
+    line: &[u8],
+    output: &mut W,
+    room: &mut [u8; LINE_ROOM],
+) -> LineEnd
     ensures { LineEnds (IsStepOf A.strict S.kind S.has_memory P.Gen.generations) result line.now
         session.old session.new (W.contents output.old) (W.contents output.new) }
 {
     if line.is_empty() {
         LineEnd::Answered
     } else {
-        run_command(session, line, output)
+        run_command(session, line, output, room)
     }
 }
 
@@ -199,7 +205,12 @@ fn run_command<
     S: NonZeroInxGenericStack<ArenaSlot<P, Node<u64, P>>>,
     A: SessionArena<P, Node<u64, P>, S>,
     W: Write,
->(session: &mut NamedArena<P, u64, S, A>, line: &[u8], output: &mut W) -> LineEnd
+>(
+    session: &mut NamedArena<P, u64, S, A>,
+    line: &[u8],
+    output: &mut W,
+    room: &mut [u8; LINE_ROOM],
+) -> LineEnd
     ensures { CommandEnds (IsStepOf A.strict S.kind S.has_memory P.Gen.generations) result line.now
         session.old session.new (W.contents output.old) (W.contents output.new) }
 {
@@ -208,7 +219,7 @@ fn run_command<
     };
     let reply = session.answer(command);
     let wrapped = reply.tells_of_wrap();
-    match write_reply(output, &reply) {
+    match write_reply_in(output, &reply, room) {
         Ok(()) if wrapped => LineEnd::Wrapped,
         Ok(()) => LineEnd::Answered,
         Err(_) => LineEnd::Unwritten,

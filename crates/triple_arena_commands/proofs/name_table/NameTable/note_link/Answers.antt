@@ -6,9 +6,9 @@ use Rattle.triple_arena_commands.proofs.name_table.NameTable.note_link.Goals as 
 
 pub invariant_of-self-2 : goal.invariant_of-self-2
 invariant_of-self-2 g c =
-    knows_same g.P.Gen.PtrGen.number g.P.Ptr.numbers c.self.inside.distinct c.self.inside.rows.items (non_zero_usize_get c.in-Some.inx - 1) c.in-Some-get_mut.row.now (record c.in-Some-get_mut.row.now { link = c.args.link }) c.in-Some-get_mut.ensures.value refl refl c.self.invariant
+    knows_same g.P.Gen.PtrGen.number g.P.Ptr.numbers c.self.inside.distinct c.self.inside.rows.items (non_zero_usize_get c.in-Some.inx - 1) c.in-Some-get_mut.row.now (record c.in-Some-get_mut.row.now { link = c.unwrap_or-row.result }) c.in-Some-get_mut.ensures.value refl refl c.self.invariant
 
 pub returns : goal.returns
 returns g c =
-    let same = unseen_write (λ row. row.pointer) c.self.inside.rows.items (non_zero_usize_get c.in-Some.inx - 1) c.in-Some-get_mut.row.now (record c.in-Some-get_mut.row.now { link = c.args.link }) c.in-Some-get_mut.ensures.value refl in
+    let same = unseen_write (λ row. row.pointer) c.self.inside.rows.items (non_zero_usize_get c.in-Some.inx - 1) c.in-Some-get_mut.row.now (record c.in-Some-get_mut.row.now { link = c.unwrap_or-row.result }) c.in-Some-get_mut.ensures.value refl in
     subst (λ ps. ◌≡◌ {A = Roomed g.row.P.Denot} (record { items = ps; room = c.self.inside.rows.room }) c.args.self.now) (sym same) c.self.view_is

@@ -1,5 +1,5 @@
 //! Commands that speak of entries by name, their replies, the text of both, and the store of names that
-//! they mean. It is a room behind `triple_arena_session`, apart so that it is proved beside the arenas.
+//! they mean. It is an inner crate behind `triple_arena_session`, apart so that it is proved beside the arenas.
 #![tactic(auto)]
 
 mod arguments;

@@ -14,8 +14,8 @@ pub mod SessionCalls
 pub mod StoreRun
 pub mod StoreText
 pub mod ElevenCommands
--- What clauses of callers name of the room behind this door: commands, their texts and the store of names, and the types
--- whose variants they name.
+-- What clauses of callers name of the inner crate behind this door: commands, their texts, the store of names, and the
+-- types whose variants they name.
 pub use Rattle.triple_arena_commands.specs.Lines
 pub use Rattle.triple_arena_commands.specs.Words
 pub use Rattle.triple_arena_commands.specs.CommandText

@@ -86,9 +86,11 @@ fn walks_and_removes<
     chains.join(four, one)?;
     let mut sum: u64 = 0;
     let mut advancer = chains.walk(three);
-    while let Some(p) = advancer.advance(&chains) {
-        let value = chains.get(p).copied().unwrap_or(0);
-        sum = sum.wrapping_add(value);
+    for _step in 0..9 {
+        if let Some(p) = advancer.advance(&chains) {
+            let value = chains.get(p).copied().unwrap_or(0);
+            sum = sum.wrapping_add(value);
+        }
     }
     let removed = chains.remove_chain(three)?;
     Ok((sum, removed, chains.len()))

@@ -1,27 +1,28 @@
 -- Chains as lists of pointers, after each call.
 use Rattle.std.specs.Prelude.{List, [], ◌∷◌, ◌++◌, map, Option, Some, None, IsSome, Contains}
-use Rattle.std.proofs.Common.{◌≡◌, ◌≢◌, ◌⊎◌, inl, inr, ℕ, zero, suc, refl, sym, ap, ◌∙◌, subst, arith}
+use Rattle.std.proofs.Common.{◌≡◌, ◌≢◌, ◌⊎◌, inl, inr, zero, suc, refl, sym, ap, ◌∙◌, subst, arith}
 use Rattle.std.specs.Option.{option_map, option_and_then}
 use Rattle.triple_arena_ptr.specs.Pointers.{Pointer}
 use Rattle.triple_arena_chain_uses.specs.Chains.{Node, value_at, after_at, before_at, IsLinked, IsInserted, IsRemoved, IsMoved, renamed, first_of, IsRun, values_at}
+use Rattle.triple_arena_chain_uses.proofs.Nodes.{valued}
 
-in_head : (p : Pointer) (ps : List Pointer) → Contains (p ∷ ps) p
+pub in_head : (p : Pointer) (ps : List Pointer) → Contains (p ∷ ps) p
 in_head p ps = (zero, omega arith, refl)
 
-in_tail : (p q : Pointer) (ps : List Pointer) → Contains ps q → Contains (p ∷ ps) q
+pub in_tail : (p q : Pointer) (ps : List Pointer) → Contains ps q → Contains (p ∷ ps) q
 in_tail p q ps (k, within, is) = (suc k, omega (arith, within), is)
 
 in_back : (xs : List Pointer) (p q : Pointer) (ys : List Pointer) → Contains ys q → Contains (xs ++ p ∷ ys) q
 in_back [] p q ys within = in_tail p q ys within
 in_back (x ∷ xs) p q ys within = in_tail x q (xs ++ p ∷ ys) (in_back xs p q ys within)
 
-first_before : (xs : List Pointer) (p : Pointer) (ys zs : List Pointer) (rest : Option Pointer) → first_of (xs ++ p ∷ ys) rest ≡ first_of (xs ++ p ∷ zs) rest
+pub first_before : (xs : List Pointer) (p : Pointer) (ys zs : List Pointer) (rest : Option Pointer) → first_of (xs ++ p ∷ ys) rest ≡ first_of (xs ++ p ∷ zs) rest
 first_before [] p ys zs rest = refl
 first_before (x ∷ xs) p ys zs rest = refl
 
 module _ {T : Type 0} where
   -- a run whose pointers lead on as before is a run, of the same values
-  stays : (old new : Pointer → Option (Node T)) (ps : List Pointer) (rest : Option Pointer) → IsRun old ps rest
+  pub stays : (old new : Pointer → Option (Node T)) (ps : List Pointer) (rest : Option Pointer) → IsRun old ps rest
       → ((p : Pointer) → Contains ps p → IsSome (old p) → (value_at new p ≡ value_at old p) × (after_at new p ≡ after_at old p))
       → IsRun new ps rest × (values_at new ps ≡ values_at old ps)
   stays old new [] rest run same = (tt, refl)
@@ -31,13 +32,8 @@ module _ {T : Type 0} where
         (valued (old p) (new p) run.0 here.0, here.1 ∙ run.1, later.0),
         ap (λ v. v ∷ values_at new ps) here.0 ∙ ap (λ vs. value_at old p ∷ vs) later.1,
       )
-    where
-      valued : (o n : Option (Node T)) → IsSome o → option_map (λ node. node.value) n ≡ option_map (λ node. node.value) o → IsSome n
-      valued None n some e = absurd (cc)
-      valued (Some node) None some e = absurd (cc)
-      valued (Some node) (Some other) some e = refl
 
-  not_free : (old : Pointer → Option (Node T)) (p q : Pointer) → IsSome (old p) → old q ≡ None → p ≢ q
+  pub not_free : (old : Pointer → Option (Node T)) (p q : Pointer) → IsSome (old p) → old q ≡ None → p ≢ q
   not_free old p q some none same = by_none (old p) some (ap old same ∙ none)
     where
       by_none : (o : Option (Node T)) → IsSome o → o ≡ None → ⊥
@@ -125,7 +121,7 @@ module _ {T : Type 0} where
       stays old new ps rest run (λ r within there. let other : r ≢ p = λ e. away r within (sym e) in (done.values r other, done.afters r other (apart r within)))
 
   -- what one of a run leads on to is of the run, or comes after it
-  next_in : (nodes : Pointer → Option (Node T)) (ps : List Pointer) (rest : Option Pointer) (r p : Pointer) → IsRun nodes ps rest → Contains ps r → after_at nodes r ≡ Some p → Contains ps p ⊎ (rest ≡ Some p)
+  pub next_in : (nodes : Pointer → Option (Node T)) (ps : List Pointer) (rest : Option Pointer) (r p : Pointer) → IsRun nodes ps rest → Contains ps r → after_at nodes r ≡ Some p → Contains ps p ⊎ (rest ≡ Some p)
   next_in nodes [] rest r p run (k, within, is) leads = absurd (omega arith)
   next_in nodes (x ∷ ps) rest r p run (zero, within, is) leads = by_next ps (sym run.1 ∙ ap (after_at nodes) is ∙ leads)
     where
@@ -159,11 +155,6 @@ module _ {T : Type 0} where
     where
       none_in : (r : Pointer) → Contains [] r → ⊥
       none_in r (k, within, is) = absurd (omega arith)
-
-      valued : (o n : Option (Node T)) → IsSome o → option_map (λ node. node.value) n ≡ option_map (λ node. node.value) o → IsSome n
-      valued None n some e = absurd (cc)
-      valued (Some node) None some e = absurd (cc)
-      valued (Some node) (Some other) some e = refl
   removed_run old p new (x ∷ y ∷ xs) ys rest linked done run before behind apart_from =
       let later = removed_run old p new (y ∷ xs) ys rest linked done run.2 (λ r within. before r (in_tail x r (y ∷ xs) within)) behind apart_from in
       let other : x ≢ p = λ e. before x (in_head x (y ∷ xs)) (sym e) in
@@ -173,8 +164,3 @@ module _ {T : Type 0} where
     where
       same_of : (a b : Pointer) → Some a ≡ Some b → a ≡ b
       same_of a b e = cc
-
-      valued : (o n : Option (Node T)) → IsSome o → option_map (λ node. node.value) n ≡ option_map (λ node. node.value) o → IsSome n
-      valued None n some e = absurd (cc)
-      valued (Some node) None some e = absurd (cc)
-      valued (Some node) (Some other) some e = refl

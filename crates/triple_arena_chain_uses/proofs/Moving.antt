@@ -11,6 +11,7 @@ use Rattle.triple_arena_base.specs.laws.ReadingLaws.{option_follows, both_follow
 use Rattle.triple_arena_ptr.specs.Pointers.{Pointer}
 use Rattle.triple_arena.specs.Entries.{look_up, entry_count}
 use Rattle.triple_arena.specs.Walks.{keys}
+use Rattle.triple_arena.specs.laws.LookUpLaws.{pointer_follows}
 use Rattle.triple_arena.specs.laws.WalkLaws.{live_key, key_live}
 use Rattle.triple_arena_direct.specs.Renaming.{MapsPointers, IsStray, IsFoundRenamed, RefusesStray}
 use Rattle.triple_arena_direct.specs.laws.RenamingLaws.{found_read}
@@ -18,7 +19,8 @@ use Rattle.triple_arena_chain_uses.specs.declared.link.Link.{Link}
 use Rattle.triple_arena_chain_uses.specs.Links.{link_held, link_refill}
 use Rattle.triple_arena_chain_uses.specs.Chains.{Node, node_of, node_slots, renamed, after_at, before_at, IsLinked, IsMoved}
 use Rattle.triple_arena_chain_uses.proofs.Linking.{leads_on_there, leads_back_there, same_pointer}
-use Rattle.triple_arena_chain_uses.proofs.Reading.{read_link, not_there}
+use Rattle.triple_arena_chain_uses.proofs.Nodes.{not_there}
+use Rattle.triple_arena_chain_uses.proofs.Reading.{read_link}
 
 -- one direction: what leads on is led back to
 moved_back : (f g f' g' : Pointer → Option Pointer) (rename : Pointer → Pointer) (There : Pointer → Type 0) → ((a b : Pointer) → f a ≡ Some b → g b ≡ Some a)
@@ -65,14 +67,6 @@ from_mapped f (p ∷ ks) q (suc k, within, is) =
     (rest.0, (suc rest.1.0, omega (arith, rest.1.1), rest.1.2), rest.2)
 
 module _ {P : Type 0} (numbers : P → Pointer) (held : P → List P) (refill : P → List P → P) (holds_itself : (p : P) → held p ≡ p ∷ []) (refills : (p q : P) → refill p (q ∷ []) ≡ q) where
-  pointer_follows : FollowsNames numbers held refill numbers (λ rename. rename)
-  pointer_follows rename p l names = by_list l (names ∙ ap (λ ps. map rename (map numbers ps)) (holds_itself p))
-    where
-      by_list : (l : List P) → map numbers l ≡ rename (numbers p) ∷ [] → numbers (refill p l) ≡ rename (numbers p)
-      by_list [] e = absurd (cc)
-      by_list (q ∷ []) e = let here : numbers q ≡ rename (numbers p) = cc in ap numbers (refills p q) ∙ here
-      by_list (q ∷ r ∷ l) e = absurd (cc)
-
   -- an end that holds a pointer is that pointer
   end_holds : (end : Option P) (p : P) → Contains (held_option held end) p → end ≡ Some p
   end_holds None p (k, within, is) = absurd (omega arith)
@@ -89,8 +83,8 @@ module _ {P : Type 0} (numbers : P → Pointer) (held : P → List P) (refill : 
         ap (λ ends. record { value = link.value; before = ends.0; after = ends.1 })
         (both_follows numbers (held_option held) (refill_option refill) (option_map numbers) (λ f. option_map f)
         (held_option held) (refill_option refill) (option_map numbers) (λ f. option_map f)
-        (option_follows numbers held refill numbers (λ f. f) pointer_follows)
-        (option_follows numbers held refill numbers (λ f. f) pointer_follows)
+        (option_follows numbers held refill numbers (λ f. f) (pointer_follows numbers held refill holds_itself refills))
+        (option_follows numbers held refill numbers (λ f. f) (pointer_follows numbers held refill holds_itself refills))
         rename (link.before, link.after) l names)
 
     module _ (slots : List (Option (ℕ × Link P T))) (linked : IsLinked (look_up (node_slots numbers slots))) where

@@ -1,7 +1,9 @@
 -- What is told of a result that is no refusal.
-use Rattle.std.proofs.Common.{◌≡◌, refl, Result, Ok, Err}
+use Rattle.std.proofs.Common.{◌≡◌, ◌↔◌, refl, ap, Result, Ok, Err}
 use Rattle.std.specs.Prelude.{IfOk, OnOk, OnErr}
 use Rattle.std.specs.Result.{IfErr}
+use Rattle.triple_arena_chain_uses.specs.declared.place.ChainError.{ChainError}
+use Rattle.triple_arena_chain_uses.specs.declared.place.ChainError.TheVariants.{NoEntry}
 
 pub if_ok_3 : {A E : Type 0} (F G H K : A → Type 0) (r : Result A E) → IfOk r F → IfOk r G → IfOk r H → ((x : A) → F x → G x → H x → K x) → IfOk r K
 if_ok_3 F G H K (Ok x) f g h gives = gives x f g h
@@ -20,3 +22,8 @@ either_way_2 F G H K (Err e) f g h ok err = err h
 pub if_refused : {A E : Type 0} (F : E → Type 0) (K : Type 0) (r : Result A E) → IfErr r F → ((x : A) → r ≡ Ok x → ⊥) → ((e : E) → F e → K) → K
 if_refused F K (Ok x) f refused gives = absurd (refused x refl)
 if_refused F K (Err e) f refused gives = gives e f
+
+-- where the one refusal says what doesn't hold, there is none
+pub surely : {A : Type 0} (F Q : Type 0) (r : Result A ChainError) → OnOk r F → IfErr r (λ refusal. refusal ≡ NoEntry) → ((r ≡ Err NoEntry) ↔ Q) → (Q → ⊥) → F
+surely F Q (Ok x) ok refusal when never = ok
+surely F Q (Err e) ok refusal when never = absurd (never (when.0 (ap Err refusal)))

@@ -1,7 +1,7 @@
 -- Chains in which a value is written.
-use Rattle.std.proofs.Common.{◌≡◌, ◌≢◌, Bool, true, false, cond, Option, Some, None, IsSome, refl, sym, ap, ◌∙◌}
+use Rattle.std.proofs.Common.{◌≡◌, Option, Some, None, refl, sym, ap, ◌∙◌}
 use Rattle.std.specs.Option.{option_map, option_and_then}
-use Rattle.triple_arena_ptr.specs.Pointers.{Pointer, is_same}
+use Rattle.triple_arena_ptr.specs.Pointers.{Pointer}
 use Rattle.triple_arena_chain_uses.specs.Chains.{Node, value_at, after_at, before_at, changed, with_value, IsLinked, IsWritten}
 use Rattle.triple_arena_chain_uses.proofs.Linking.{same_pointer}
 use Rattle.triple_arena_chain_uses.proofs.Tying.{kept, there, elsewhere}

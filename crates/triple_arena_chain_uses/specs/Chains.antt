@@ -1,6 +1,6 @@
 -- Chains: what is read under each pointer, how neighbours lead to each other, and what the calls make of them.
-use Rattle.std.specs.Prelude.{◌≡◌, ◌≢◌, ◌↔◌, ◌⊎◌, ℕ, cond, List, [], ◌∷◌, map, Option, Some, None, IsSome}
-use Rattle.std.specs.Option.{option_map, option_and_then}
+use Rattle.std.specs.Prelude.{◌≡◌, ◌≢◌, ◌↔◌, ◌⊎◌, ℕ, ◌-◌, ◌==◌, ◌||◌, cond, List, [], ◌∷◌, map, Option, Some, None, IsSome, Contains}
+use Rattle.std.specs.Option.{option_map, option_and_then, option_eq}
 use Rattle.triple_arena_ptr.specs.Pointers.{Pointer, is_same}
 use Rattle.triple_arena.specs.Entries.{look_up, entry_count}
 use Rattle.triple_arena.specs.ArenaState.{map_entry}
@@ -23,6 +23,27 @@ pub record ChainState (T : Type 0) : Type 0 where
   pub len : ℕ
   pub capacity : ℕ
   pub limit : Option ℕ
+
+-- where an advancer stands: the pointer that it answers next, the one that it began at, and how many it may answer after the
+-- next
+pub record ChainStand : Type 0 where
+  pub next : Option Pointer
+  pub first : Option Pointer
+  pub left : ℕ
+
+-- where one stands that begins at a pointer
+abbrev pub begun_at : Pointer → (left : ℕ) → ChainStand
+begun_at p left = record { next = Some p; first = Some p; left = left }
+
+-- where one stands past an entry after which this pointer comes: at that, but not where it began, nor where it may answer no
+-- more
+abbrev pub passed : ChainStand → (after : Option Pointer) → ChainStand
+passed s after = record s { next = cond (s.left == 0 || option_eq is_same s.first after) None after; left = s.left - 1 }
+
+-- no pointer stands twice among these
+abbrev pub AreOnce : List Pointer → Type 0
+AreOnce [] = Unit {0}
+AreOnce (p ∷ ps) = ((q : Pointer) → Contains ps q → p ≢ q) × AreOnce ps
 
 -- what comes first in a list of pointers, or after it where it is empty
 abbrev pub first_of : List Pointer → Option Pointer → Option Pointer
@@ -116,6 +137,46 @@ module _ {T : Type 0} where
   -- the values under pointers, in their order
   abbrev pub values_at : (Pointer → Option (Node T)) → List Pointer → List (Option T)
   values_at nodes ps = map (value_at nodes) ps
+
+  -- a step of an advancer: it answers the pointer at which it stands, if that is found, and passes it; else it stays
+  abbrev pub Passes : (Pointer → Option (Node T)) → ChainStand → (answer : Option Pointer) → ChainStand → Type 0
+  Passes nodes s None t = ((p : Pointer) → s.next ≡ Some p → nodes p ≡ None) × (t ≡ s)
+  Passes nodes s (Some p) t = (s.next ≡ Some p) × IsSome (nodes p) × (t ≡ passed s (after_at nodes p))
+
+  -- the answers of an advancer over chains that stay, up to the first none
+  abbrev pub Answers : (Pointer → Option (Node T)) → ChainStand → List Pointer → Type 0
+  Answers nodes s [] = Passes nodes s None s
+  Answers nodes s (p ∷ ps) = (t : ChainStand) × Passes nodes s (Some p) t × Answers nodes t ps
+
+  -- these are the pointers of a chain from one on, each once, to its end, or once round a ring
+  pub record IsRest (nodes : Pointer → Option (Node T)) (p : Pointer) (ps : List Pointer) : Type 0 where
+    pub then : Option Pointer
+    pub run : IsRun nodes ps then
+    pub first : first_of ps then ≡ Some p
+    pub once : AreOnce ps
+    pub whole : (then ≡ None) ⊎ (then ≡ Some p)
+
+  -- neighbours lead on from the one pointer to the other, over some between or over none
+  abbrev pub LeadsTo : (Pointer → Option (Node T)) → Pointer → Pointer → Type 0
+  LeadsTo nodes p q = (between : List Pointer) × IsRun nodes (p ∷ between) (Some q)
+
+  -- two pointers are of one chain
+  abbrev pub IsOfChain : (Pointer → Option (Node T)) → Pointer → Pointer → Type 0
+  IsOfChain nodes p q = (p ≡ q) ⊎ (LeadsTo nodes p q ⊎ LeadsTo nodes q p)
+
+  -- the chain of a pointer is gone; every pointer that is not of it finds what it found
+  pub record IsChainRemoved (old : Pointer → Option (Node T)) (p : Pointer) (new : Pointer → Option (Node T)) : Type 0 where
+    pub gone : (q : Pointer) → IsOfChain old p q → new q ≡ None
+    pub others : (q : Pointer) → ¬ IsOfChain old p q → new q ≡ old q
+
+  -- no other stands beside a pointer: it is alone in its chain, open or a ring
+  pub record IsAlone (nodes : Pointer → Option (Node T)) (p : Pointer) : Type 0 where
+    pub last : (q : Pointer) → after_at nodes p ≡ Some q → q ≡ p
+    pub first : (q : Pointer) → before_at nodes p ≡ Some q → q ≡ p
+
+  -- one stands beside another
+  abbrev pub IsBeside : (Pointer → Option (Node T)) → Pointer → Pointer → Type 0
+  IsBeside nodes p q = (q ≢ p) × ((after_at nodes p ≡ Some q) ⊎ (before_at nodes p ≡ Some q))
 
   -- where a pointer is given, it is found
   abbrev pub IsThere : (Pointer → Option (Node T)) → Option Pointer → Type 0

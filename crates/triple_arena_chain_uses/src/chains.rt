@@ -1,11 +1,13 @@
 //! Chains over any compact arena.
 
-ghost use Rattle.std.specs.Prelude.{◌≡◌, ◌≢◌, ◌≤◌, ◌<◌, ◌↔◌, ◌+◌, None, Some, Err, IsOk, IsSome, IfSome, IfOk, OnOk, OnErr, option_copied};
+ghost use Rattle.std.specs.Prelude.{◌≡◌, ◌≢◌, ◌≤◌, ◌<◌, ◌↔◌, ◌+◌, None, Some, Err, IsOk, IsSome, IfSome, IfOk, OnOk, OnErr, option_copied, min};
 ghost use Rattle.std.specs.Option.{option_map};
 ghost use Rattle.std.specs.Result.{IfErr};
 ghost use Rattle.triple_arena_ptr.specs.Pointers.{Pointer};
 ghost use Rattle.triple_arena_ptr.specs.Numbers.{greatest_index};
-ghost use Rattle.triple_arena_stack.specs.Capacity.{IsFullAtLimit, CanGrow};
+ghost use Rattle.triple_arena_stack.specs.Capacity.{stack_capacity, IsFullAtLimit, CanGrow};
+ghost use Rattle.triple_arena_stack.specs.StackKind.{new_room, new_limit};
+ghost use Rattle.triple_arena.specs.Entries.{entry_count};
 ghost use Rattle.triple_arena_chain_uses.specs.Chains.{Node, nodes, value_at, before_at, after_at, IsLinked, place_at, place_before, place_after, IsInserted, IsRemoved, IsRefusedRoom};
 
 use crate::link::Link;
@@ -48,10 +50,13 @@ impl<P: Ptr, T, A: CompactArenaTrait<P, Link<P, T>> + ArenaInsertTrait<P, Link<P
     T,
     A,
 > {
-    /// Chains without entries.
+    /// Chains without entries, with the room and the limit of a new stack. It takes no memory.
     pub fn new(alloc: Global) -> Self
         ensures none { (q : Pointer) → nodes result q ≡ None }
         ensures len { result.len ≡ 0 }
+        ensures capacity { result.capacity ≡ min (stack_capacity (new_room A.kind)
+            (new_limit A.kind)) (greatest_index P.Inx.greatest) }
+        ensures limit { result.limit ≡ new_limit A.kind }
     {
         Chains {
             arena: A::new(alloc),
@@ -59,9 +64,11 @@ impl<P: Ptr, T, A: CompactArenaTrait<P, Link<P, T>> + ArenaInsertTrait<P, Link<P
         }
     }
 
-    /// How many entries there are, in all chains.
+    /// How many entries there are, in all chains: never more than fit.
     pub fn len(&self) -> usize
         ensures value { result ≡ self.now.len }
+        ensures fits { self.now.len ≤ self.now.capacity }
+        ensures counted { entry_count self.now.slots ≡ self.now.len }
         ensures linked { IsLinked (nodes self.now) }
     {
         self.arena.len()

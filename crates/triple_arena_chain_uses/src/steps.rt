@@ -3,7 +3,7 @@
 ghost use Rattle.std.specs.Prelude.{◌≡◌, ◌≢◌, ◌≤◌, ◌<◌, ◌↔◌, ◌+◌, None, Some, Err, IsOk, IsSome, IfOk, OnOk, OnErr};
 ghost use Rattle.std.specs.Option.{option_map};
 ghost use Rattle.std.specs.Result.{IfErr};
-ghost use Rattle.triple_arena_ptr.specs.Pointers.{Pointer};
+ghost use Rattle.triple_arena_ptr.specs.Pointers.{Pointer, is_same};
 ghost use Rattle.triple_arena_ptr.specs.Numbers.{greatest_index};
 ghost use Rattle.triple_arena_stack.specs.Capacity.{IsFullAtLimit, CanGrow};
 ghost use Rattle.triple_arena.specs.Entries.{look_up, entry_count};
@@ -15,6 +15,13 @@ use std::mem;
 use triple_arena::{ArenaInsertTrait, ArenaTrait};
 use triple_arena_base::ReallocationError;
 use triple_arena_ptr::{Ptr, PtrInx};
+
+// Whether two pointers are one.
+pub(crate) fn are_same<P: Ptr>(p: P, q: P) -> bool
+    ensures { result ≡ is_same (P.numbers p) (P.numbers q) }
+{
+    p == q
+}
 
 // Has the entry of a pointer lead on to another; nothing changes where no pointer is given, or it
 // finds nothing.

@@ -1,7 +1,6 @@
-use Rattle.std.proofs.Common.{rules, ◌≡◌, Some, ap, sym, ◌∙◌, refl}
-use Rattle.std.specs.Option.{option_map}
+use Rattle.std.proofs.Common.{rules, ◌≡◌, Some, ap, ◌∙◌, refl}
 use Rattle.triple_arena.specs.Entries.{look_up}
-use Rattle.triple_arena_chain_uses.specs.Chains.{node_of, node_slots, with_value}
+use Rattle.triple_arena_chain_uses.specs.Chains.{node_slots, with_value}
 use Rattle.triple_arena_chain_uses.proofs.Reading.{changed_link}
 use Rattle.triple_arena_chain_uses.proofs.steps.write.Goals as goal
 

@@ -1,7 +1,8 @@
-use crate::{ChainError, Chains, Link, Place};
 use std::alloc::Global;
 use std::process::Abort;
 use triple_arena::{Arena, ArenaInsertTrait, ArenaTrait, CompactArenaTrait};
+use triple_arena_base::Advancer;
+use triple_arena_chain_uses::{ChainError, Chains, Link, Place};
 use triple_arena_ptr::{P0, Ptr};
 
 // The first four values from a pointer on, with 0 for each that is missing.
@@ -73,6 +74,28 @@ fn compresses<
     })
 }
 
+// A ring of the numbers from 1 to 4 beside a chain of 5 alone: the sum of a walk round it from 3 on, how
+// many are taken out with it, and how many are left.
+fn walks_and_removes<
+    P: Ptr,
+    A: CompactArenaTrait<P, Link<P, u64>> + ArenaInsertTrait<P, Link<P, u64>> + Drop,
+>(alloc: Global) -> Result<(u64, usize, usize), ChainError> {
+    let mut chains: Chains<P, u64, A> = Chains::new(alloc);
+    let (one, _two, three, four) = one_to_four(&mut chains)?;
+    let _five = chains.insert_new(5)?;
+    chains.join(four, one)?;
+    let mut sum: u64 = 0;
+    let mut advancer = chains.walk(three);
+    for _step in 0..9 {
+        if let Some(p) = advancer.advance(&chains) {
+            let value = chains.get(p).copied().unwrap_or(0);
+            sum = sum.wrapping_add(value);
+        }
+    }
+    let removed = chains.remove_chain(three)?;
+    Ok((sum, removed, chains.len()))
+}
+
 #[test]
 fn each_call_over_an_arena(rt: HostRuntime) {
     assert_eq!(rt;
@@ -86,5 +109,9 @@ fn each_call_over_an_arena(rt: HostRuntime) {
     assert_eq!(rt;
         compresses::<P0, Arena<P0, Link<P0, u64>>>(rt.alloc()),
         Ok(Some([3, 4, 1, 3]))
+    );
+    assert_eq!(rt;
+        walks_and_removes::<P0, Arena<P0, Link<P0, u64>>>(rt.alloc()),
+        Ok((10, 4, 1))
     );
 }

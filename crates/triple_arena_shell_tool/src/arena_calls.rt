@@ -1,7 +1,7 @@
 //! The calls of an `Arena`.
 
 use crate::calls_of_any::{Line, Numbered, Stop, Value, call_by_traits, generation, size};
-use crate::entries::entry_insert;
+use crate::entries::{entry_insert, entry_insert_reallocating, entry_insert_within_capacity};
 use crate::state::{free, show_state, slots};
 use triple_arena::{Arena, ArenaSlot};
 use triple_arena_ptr::Ptr;
@@ -28,6 +28,12 @@ where
         ["set_generation", g] => set_generation(line, arena, g),
         ["inc_generation"] => line.answer(&arena.inc_generation()),
         ["entry_insert", ref value @ ..] => entry_insert(line, arena, value),
+        ["entry_insert_reallocating", ref value @ ..] => {
+            entry_insert_reallocating(line, arena, value)
+        }
+        ["entry_insert_within_capacity", ref value @ ..] => {
+            entry_insert_within_capacity(line, arena, value)
+        }
         _ => call_by_traits(line, arena, call),
     }
 }

@@ -18,8 +18,11 @@ type Fixed<P> = Over<Arena<P, Value, NonZeroInxBoxedSlice<ArenaSlot<P, Value>>>>
 
 type InArray<P> = Over<Arena<P, Value, NonZeroInxArray<ArenaSlot<P, Value>, 8>>>;
 
+// An arena over the heap, with a limit or without.
+type OverTwo<P> = Either<OnHeap<P>, UpToLimit<P>>;
+
 // An arena over any of the four stacks.
-type OverAny<P> = Either<Either<OnHeap<P>, UpToLimit<P>>, Either<Fixed<P>, InArray<P>>>;
+type OverAny<P> = Either<OverTwo<P>, Either<Fixed<P>, InArray<P>>>;
 
 /// Arenas whose pointers are of one type.
 #[derive(Clone, Copy)]
@@ -69,7 +72,7 @@ fn follow_p4<R: Print + Input>(
     alloc: Global,
     number: &mut u64,
 ) -> Result<Option<Family>, Stop> {
-    follow_family::<R, OverAny<P4>>(rt, alloc, number)
+    follow_family::<R, OverTwo<P4>>(rt, alloc, number)
 }
 
 fn follow_p5<R: Print + Input>(
@@ -77,7 +80,7 @@ fn follow_p5<R: Print + Input>(
     alloc: Global,
     number: &mut u64,
 ) -> Result<Option<Family>, Stop> {
-    follow_family::<R, OverAny<P5>>(rt, alloc, number)
+    follow_family::<R, OverTwo<P5>>(rt, alloc, number)
 }
 
 fn follow_b<R: Print + Input>(

@@ -6,10 +6,13 @@ pub const HELP: &str = "\
 #   P is a pointer as it is shown, such as P0[a](2), in hexadecimal, or `invalid`; an index I, a generation G, a size N
 #   and a value V are in decimal; BOOL is true or false. What stands in brackets may be left out.
 # pointers P0 | P4 | P5 | B                              all arenas end; those that come have these pointers
-# new NAME heap | limited | fixed | array [N]            an arena under a name, with room for N
+# new NAME heap | limited | fixed | array [N]            an arena under a name, with room for N; of P4 and P5 none is
+#                                                        `fixed` or `array`
 # drop NAME                                              ends it
 # NAME insert V                                          also insert_reallocating, insert_within_capacity
-# NAME entry_insert [V]                                  the pointer that an entry tells; V is inserted by it
+# NAME next_ptr                                          where there is a place; so too insert_reserved V
+# NAME entry_insert [V]                                  the pointer that an entry tells; V is inserted by it; also
+#                                                        entry_insert_reallocating, entry_insert_within_capacity
 # NAME get P                                             also contains, get_mut P [V]
 # NAME get_inx I                                         also generation_at, get_inx_mut I [V]
 # NAME remove P                                          also invalidate, remove_inx I

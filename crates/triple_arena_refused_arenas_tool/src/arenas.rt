@@ -6,8 +6,8 @@ use crate::asking::{
 use crate::strict::Strict;
 use std::alloc::Global;
 use triple_arena_ptr::P0;
-use triple_arena_test_kit::direct::{Direct, Heap as DirectHeap, with_room as direct_with_room};
-use triple_arena_test_kit::{Heap, Limited, Tested, WithLimit, with_room};
+use triple_arena_trait_kit::arena::{Heap, Limited, Tested, WithLimit, with_room};
+use triple_arena_trait_kit::direct::{Direct, Heap as DirectHeap, with_room as direct_with_room};
 use triple_arena_trait_kit::refused::{End, Report};
 use triple_arena_trait_kit::{Call, Told, Wrong, step};
 

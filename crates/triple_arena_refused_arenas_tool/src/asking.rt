@@ -5,7 +5,7 @@ use triple_arena_base::ReallocationError;
 use triple_arena_ptr::P0;
 use triple_arena_trait_kit::refused::{End, Report};
 use triple_arena_trait_kit::{
-    Call, State, TestedArena, Told, Wrong, follow, has_state, inx, is_told, step,
+    Call, FreeList, State, TestedArena, Told, Wrong, follow, has_state, inx, is_told, step,
 };
 
 /// What a call tells that is refused memory.
@@ -31,12 +31,11 @@ pub const ALL_INSERTIONS: &[Named] = &[
     ),
 ];
 
-/// This state with the free list tidied. A direct arena, which tells its counter as 0, has none.
+/// This state with the free list tidied, where there is one.
 pub fn tidied(state: State) -> State {
-    if state.counter == 0 {
-        state
-    } else {
-        state.tidied()
+    match state.free {
+        FreeList::Missing => state,
+        _ => state.tidied(),
     }
 }
 

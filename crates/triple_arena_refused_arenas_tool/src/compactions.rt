@@ -8,8 +8,8 @@ use triple_arena_direct::{
     DirectArena, StrictArena, StrictCompactError, compress_recast, compress_recaster,
 };
 use triple_arena_ptr::{P0, Ptr};
-use triple_arena_test_kit::direct::direct_state_of;
-use triple_arena_test_kit::state_of;
+use triple_arena_trait_kit::arena::state_of;
+use triple_arena_trait_kit::direct::direct_state_of;
 use triple_arena_trait_kit::refused::{End, Report};
 use triple_arena_trait_kit::{State, Told, Wrong, index_number, is_told, pointer};
 

@@ -10,8 +10,8 @@ use triple_arena::{
 use triple_arena_base::{AllocError, CloneFromError, ReallocationError};
 use triple_arena_direct::DirectArena;
 use triple_arena_ptr::{P0, Ptr, PtrGen};
-use triple_arena_test_kit::direct::direct_state_of;
-use triple_arena_test_kit::state_of;
+use triple_arena_trait_kit::arena::state_of;
+use triple_arena_trait_kit::direct::direct_state_of;
 use triple_arena_trait_kit::refused::{End, Report, ask};
 use triple_arena_trait_kit::{Numbered, SLOTS, State, Wrong, inx, pointer};
 
@@ -116,24 +116,11 @@ fn cloned(before: State, count: usize, capacity: usize) -> State {
     State {
         len: count,
         capacity,
-        counter: if before.counter == 0 { 0 } else { 4 },
+        counter: before.counter.and(Some(4)),
         entries,
         ..before
     }
     .tidied()
-}
-
-// This state as one like that before shows it: a direct arena, which tells its counter as 0, has no free
-// list.
-fn as_seen(before: State, state: State) -> State {
-    if before.counter == 0 {
-        State {
-            free: [0; SLOTS],
-            ..state
-        }
-    } else {
-        state
-    }
 }
 
 // What refused a clone.
@@ -159,7 +146,7 @@ const VALUES: [&str; 3] = ["the first value", "the second value", "the third val
 fn end_at(refusal: Refusal, before: State, seen: State) -> Result<End, Wrong> {
     match (refusal, VALUES.get(seen.len)) {
         (Refusal::Room, _) if seen == tidied(before) => Ok(End::Refused),
-        (Refusal::Value, Some(value)) if seen == as_seen(before, cloned(before, seen.len, 5)) => {
+        (Refusal::Value, Some(value)) if seen == cloned(before, seen.len, 5) => {
             Ok(End::PartRefused(*value))
         }
         _ => Err(Wrong::State(1)),
@@ -180,7 +167,7 @@ fn clones_into<A: ArenaCloneFromWith<P0, Costly> + Goal>(
         }
     }
     let seen = target.seen();
-    if seen == as_seen(before, cloned(before, 3, 5)) && state_of(source) == of_source {
+    if seen == cloned(before, 3, 5) && state_of(source) == of_source {
         Ok(end)
     } else {
         Err(Wrong::State(3))
@@ -277,7 +264,7 @@ fn clones_with<A: ArenaCloneFromWith<P0, Costly> + Goal>(
         }
     }
     let seen = target.seen();
-    if calls == 3 && seen == as_seen(before, cloned(before, 3, 5)) {
+    if calls == 3 && seen == cloned(before, 3, 5) {
         Ok(end)
     } else {
         Err(Wrong::State(3))
@@ -302,11 +289,11 @@ fn gone_over(before: State) -> State {
         len: 5,
         capacity: 5,
         slots: 5,
-        counter: if before.counter == 0 { 0 } else { 2 },
-        free: [0; SLOTS],
+        counter: before.counter.and(Some(2)),
         entries,
         ..before
     }
+    .tidied()
 }
 
 // Five entries go over to an arena with room for four, and once more where that is refused.
@@ -327,7 +314,7 @@ fn goes_over_to<A: Goal>(alloc: Global, target: &mut A) -> Result<End, Wrong> {
         Err(ReallocationError::BeyondMaxCapacity) => return Err(Wrong::Answer(1)),
     };
     let seen = target.seen();
-    if source.is_empty() && seen == as_seen(before, gone_over(before)) {
+    if source.is_empty() && seen == gone_over(before) {
         Ok(end)
     } else {
         Err(Wrong::State(3))

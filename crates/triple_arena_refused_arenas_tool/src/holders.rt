@@ -14,7 +14,7 @@ use triple_arena_direct::{
     CompactBothError, StrictArena, StrictCompactError, compress_recast_both, compress_recast_with,
 };
 use triple_arena_ptr::{P0, Ptr, Q2};
-use triple_arena_test_kit::state_of;
+use triple_arena_trait_kit::arena::state_of;
 use triple_arena_trait_kit::refused::{End, Report};
 use triple_arena_trait_kit::{Shown, State, Told, Wrong, index_number, pointer};
 

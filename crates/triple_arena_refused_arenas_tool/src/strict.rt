@@ -5,7 +5,7 @@ use triple_arena::{ArenaSlot, ArenaTrait};
 use triple_arena_direct::{StrictArena, StrictError};
 use triple_arena_ptr::{P0, Ptr};
 use triple_arena_stack::NonZeroInxGenericStack;
-use triple_arena_test_kit::state_of;
+use triple_arena_trait_kit::arena::state_of;
 use triple_arena_trait_kit::{Call, State, TestedArena, Token, Told, Wrong, told_pointer};
 
 // What a call tells that may raise the counter.

@@ -8,7 +8,7 @@ use std::io::{Cursor, Read};
 use triple_arena_ptr::P0;
 use triple_arena_session::{Command, Reply, Session, StrictSession, TextError};
 use triple_arena_trait_kit::refused::{End, Report};
-use triple_arena_trait_kit::{SLOTS, Wrong};
+use triple_arena_trait_kit::{FreeList, SLOTS, Wrong};
 
 // What was refused where nothing has run.
 const WHOLE: &str = "all";
@@ -55,7 +55,9 @@ fn has_run<T: Asked>(session: &mut T, before: &View, replies: &[Reply<u64>]) -> 
     }
     let len = given.saturating_sub(1);
     let left = seen(session);
-    let is_left = left.names == names && left.extent == (len, 8, 3) && left.free == [0; SLOTS];
+    let is_left = left.names == names
+        && left.extent == (len, 8, 3)
+        && left.free == FreeList::Indexes([0; SLOTS]);
     let is_counted = replies.len() == 5 && replies.get(4) == Some(&Reply::Count(len));
     match given {
         7 if is_counted && is_left => Ok(End::Ample),

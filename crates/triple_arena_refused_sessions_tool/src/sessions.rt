@@ -13,9 +13,9 @@ use triple_arena_session::{
 use triple_arena_stack::{
     NonZeroInxArray, NonZeroInxBoxedSlice, NonZeroInxGenericStack, NonZeroInxLimitedVec,
 };
-use triple_arena_test_kit::free_of;
+use triple_arena_trait_kit::arena::free_of;
 use triple_arena_trait_kit::refused::{End, Report};
-use triple_arena_trait_kit::{SLOTS, Wrong, index_number, inx};
+use triple_arena_trait_kit::{FreeList, SLOTS, Wrong, index_number, inx};
 
 pub type Slot = ArenaSlot<P0, Node<u64, P0>>;
 
@@ -50,8 +50,8 @@ pub trait Asked {
     /// How many entries there are, for how many there is room, and the generation of the counter.
     fn extent(&self) -> (usize, usize, u64);
 
-    /// The free indexes, in the order in which insertion takes them, and then 0.
-    fn free(&self) -> [usize; SLOTS];
+    /// The free list.
+    fn free(&self) -> FreeList;
 
     /// The index of the last entry, and 0 where there is none.
     fn last_index(&self) -> usize;
@@ -86,7 +86,7 @@ impl<S: NonZeroInxGenericStack<Slot>> Asked for Session<P0, u64, S> {
         extent_of(self.arena())
     }
 
-    fn free(&self) -> [usize; SLOTS] {
+    fn free(&self) -> FreeList {
         free_of(self.arena())
     }
 
@@ -121,7 +121,7 @@ impl<S: NonZeroInxGenericStack<Slot>> Asked for StrictSession<P0, u64, S> {
         extent_of(self.arena().arena())
     }
 
-    fn free(&self) -> [usize; SLOTS] {
+    fn free(&self) -> FreeList {
         free_of(self.arena().arena())
     }
 
@@ -164,7 +164,7 @@ fn layout_of<S: NonZeroInxGenericStack<Slot>>(arena: &Entries<S>) -> Layout {
 pub struct View {
     pub names: [Row; 13],
     pub extent: (usize, usize, u64),
-    pub free: [usize; SLOTS],
+    pub free: FreeList,
     layout: Layout,
 }
 
@@ -188,7 +188,7 @@ fn tidied(before: View, last_index: usize) -> View {
     let mut free = [0; SLOTS];
     let mut place = 0;
     for index in 1..=last_index {
-        if before.free.contains(&index) && place < SLOTS {
+        if before.free.contains(index) && place < SLOTS {
             free[place] = index;
             place += 1;
         }
@@ -196,7 +196,7 @@ fn tidied(before: View, last_index: usize) -> View {
     let (limit, _slots, entries) = before.layout;
     let layout = (limit, last_index, entries);
     View {
-        free,
+        free: FreeList::Indexes(free),
         layout,
         ..before
     }

@@ -1,6 +1,7 @@
 //! All that an arena shows of itself, to compare before and after a call.
 
 use crate::call::Call;
+use crate::free_list::FreeList;
 use crate::told::Told;
 
 /// How many slots of an arena are shown: as many as byte indexes name, and one.
@@ -12,12 +13,12 @@ pub struct State {
     pub len: usize,
     pub capacity: usize,
     pub limit: Option<usize>,
-    pub counter: u64,
+    // a direct arena has none
+    pub counter: Option<u64>,
     pub slots: usize,
     // by index from 1, the numbers of the generation and of the value of the entry
     pub entries: [Option<(u64, u64)>; SLOTS],
-    // the free indexes in the order in which insertion takes them, and then 0
-    pub free: [usize; SLOTS],
+    pub free: FreeList,
 }
 
 // What stands in the slot of this index.
@@ -38,16 +39,13 @@ impl State {
         match call {
             Call::Bounds => Told::Bounds(self.len, self.capacity, self.limit),
             Call::Slots => Told::Size(self.slots),
-            Call::Root if self.free[0] == 0 => Told::Nothing,
-            Call::Root => Told::Size(self.free[0]),
             Call::SlotAt(index) => told_slot(self, index),
-            Call::FirstFree => Told::Free([self.free[0], self.free[1], self.free[2]]),
-            _ => Told::NoSuchCall,
+            _ => self.free.told(call),
         }
     }
 
-    /// This state without free slots past the last entry, and with the other free indexes in rising
-    /// order.
+    /// This state without free slots past the last entry, and with the other free indexes, where there is
+    /// a free list, in rising order.
     pub fn tidied(self) -> Self {
         let mut slots = 0;
         for at in 0..SLOTS {
@@ -63,6 +61,10 @@ impl State {
                 place += 1;
             }
         }
+        let free = match self.free {
+            FreeList::Missing => FreeList::Missing,
+            _ => FreeList::Indexes(free),
+        };
         State {
             slots,
             free,

@@ -7,5 +7,6 @@ mod client_calls;
 mod drops;
 mod entries;
 mod memory;
+mod numbers;
 mod rows;
 mod sizes;

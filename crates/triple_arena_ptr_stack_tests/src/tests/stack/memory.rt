@@ -1,13 +1,13 @@
 //! Requests for more memory than a vector may hold, which are refused.
 
+use super::numbers::{Fixed, InArray, Numbers, OnHeap, UpToLimit, WithLimit};
 use std::alloc::Global;
 use std::mem;
 use std::process::Abort;
 use std::test::Fail;
 use triple_arena_base::ReallocationError;
 use triple_arena_stack::{
-    ArrayStack, FixedStack, HeapStack, LimitedStack, NonZeroInxGenericStack, NonZeroInxStack,
-    SetMaxCapacity,
+    HeapStack, LimitedStack, NonZeroInxGenericStack, NonZeroInxStack, SetMaxCapacity,
 };
 
 // More numbers than a vector may hold.
@@ -16,19 +16,19 @@ const TOO_MANY: usize = 1 << 61;
 const NO_MEMORY: Result<(), ReallocationError> = Err(ReallocationError::AllocError);
 
 // Whether a stack of so many numbers isn't made.
-fn is_refused<K: NonZeroInxGenericStack<u64> + Drop>(alloc: Global, room: usize) -> bool {
-    NonZeroInxStack::<u64, K>::with_min_capacity(alloc, room).is_err()
+fn is_refused<S: Numbers + Drop>(alloc: Global, room: usize) -> bool {
+    S::made(alloc, room).is_err()
 }
 
 #[test]
 fn a_constructor_tells_of_no_memory(rt: HostRuntime) {
     let alloc = rt.alloc();
     for room in [TOO_MANY, usize::MAX] {
-        assert!(rt; is_refused::<HeapStack<u64>>(alloc, room));
-        assert!(rt; is_refused::<LimitedStack<u64>>(alloc, room));
-        assert!(rt; is_refused::<FixedStack<u64>>(alloc, room));
+        assert!(rt; is_refused::<OnHeap>(alloc, room));
+        assert!(rt; is_refused::<UpToLimit>(alloc, room));
+        assert!(rt; is_refused::<Fixed>(alloc, room));
     }
-    assert!(rt; is_refused::<ArrayStack<u64, 3>>(alloc, 4));
+    assert!(rt; is_refused::<InArray<3>>(alloc, 4));
 }
 
 // They take no memory, and a vector of the toolchain holds fewer than 2^63 of them.
@@ -43,26 +43,23 @@ fn items_of_no_size_have_their_greatest_number(rt: HostRuntime) -> Result<(), Fa
 }
 
 // Reallocations of a stack of one number in four places, which are refused.
-fn refuses_reallocation<K: NonZeroInxGenericStack<u64>>(
-    rt: &impl Abort,
-    stack: &mut NonZeroInxStack<u64, K>,
-) {
+fn refuses_reallocation<S: Numbers>(rt: &impl Abort, stack: &mut S) {
     for asked in [TOO_MANY, usize::MAX] {
-        assert!(rt; stack.reallocate_min_capacity(asked) == NO_MEMORY);
-        assert!(rt; stack.as_slice() == [1].as_slice() && stack.capacity() == 4);
+        assert!(rt; stack.reserve(asked) == NO_MEMORY);
+        assert!(rt; stack.numbers() == [1].as_slice() && stack.bounds().0 == 4);
     }
 }
 
 #[test]
 fn a_refused_reallocation_changes_nothing(rt: HostRuntime) -> Result<(), Fail> {
-    let mut on_heap: NonZeroInxStack<u64, HeapStack<u64>> = NonZeroInxStack::new(rt.alloc());
-    on_heap.push(1)?;
+    let mut on_heap = OnHeap::empty(rt.alloc());
+    on_heap.put(1)?;
     refuses_reallocation(&rt, &mut on_heap);
-    let mut limited: NonZeroInxStack<u64, LimitedStack<u64>> = NonZeroInxStack::new(rt.alloc());
-    limited.set_max_capacity(usize::MAX)?;
-    limited.push(1)?;
+    let mut limited = UpToLimit::empty(rt.alloc());
+    limited.set_limit(usize::MAX)?;
+    limited.put(1)?;
     refuses_reallocation(&rt, &mut limited);
-    assert_eq!(rt; limited.max_capacity(), Some(usize::MAX));
+    assert!(rt; limited.bounds() == (4, Some(usize::MAX)));
     Ok(())
 }
 

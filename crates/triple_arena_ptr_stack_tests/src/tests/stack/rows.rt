@@ -1,99 +1,80 @@
 //! Worked examples: how stacks grow, keep their room and heed their limit.
 
+use super::numbers::{Fixed, InArray, Numbers, OnHeap, UpToLimit, WithLimit};
 use std::num::NonZeroUsize;
 use std::process::Abort;
 use std::test::Fail;
 use triple_arena_base::{GetDisjointMutError, NotWithinCapacityError, ReallocationError};
-use triple_arena_stack::{
-    ArrayStack, FixedStack, HeapStack, LimitedStack, NonZeroInxGenericStack, NonZeroInxStack,
-    SetMaxCapacity,
-};
+use triple_arena_stack::NonZeroInxGenericStack;
 
 const BEYOND: ReallocationError = ReallocationError::BeyondMaxCapacity;
 
 // Pushes so many numbers: that the capacities after these are so.
-fn grows<K: NonZeroInxGenericStack<u64>>(
-    rt: &impl Abort,
-    stack: &mut NonZeroInxStack<u64, K>,
-    capacities: &[usize],
-) -> Result<(), Fail> {
+fn grows<S: Numbers>(rt: &impl Abort, stack: &mut S, capacities: &[usize]) -> Result<(), Fail> {
     for capacity in capacities {
-        stack.push(7)?;
-        assert_eq!(rt; stack.capacity(), *capacity);
+        stack.put(7)?;
+        assert_eq!(rt; stack.bounds().0, *capacity);
     }
     Ok(())
 }
 
 #[test]
 fn a_heap_stack_grows_and_keeps_room_for_its_items(rt: HostRuntime) -> Result<(), Fail> {
-    let mut stack: NonZeroInxStack<u64, HeapStack<u64>> = NonZeroInxStack::new(rt.alloc());
+    let mut stack = OnHeap::empty(rt.alloc());
     grows(&rt, &mut stack, &[4, 4, 4, 4, 8])?;
     stack.clear();
-    stack.reallocate_min_capacity(4)?;
+    stack.reserve(4)?;
     grows(&rt, &mut stack, &[4, 4, 4])?;
-    stack.reallocate_min_capacity(0)?;
-    assert_eq!(rt; stack.capacity(), 3);
+    stack.reserve(0)?;
+    assert!(rt; stack.bounds() == (3, None));
     grows(&rt, &mut stack, &[6])
 }
 
 #[test]
 fn a_limited_stack_grows_to_its_limit(rt: HostRuntime) -> Result<(), Fail> {
-    let mut stack: NonZeroInxStack<u64, LimitedStack<u64>> = NonZeroInxStack::new(rt.alloc());
-    stack.set_max_capacity(6)?;
+    let mut stack = UpToLimit::empty(rt.alloc());
+    stack.set_limit(6)?;
     grows(&rt, &mut stack, &[4, 4, 4, 4, 6, 6])?;
-    assert!(rt; stack.push(7) == Err(BEYOND) && stack.len() == 6);
+    assert!(rt; stack.put(7) == Err(BEYOND) && stack.numbers().len() == 6);
     Ok(())
 }
 
 #[test]
 fn a_limit_leaves_the_room(rt: HostRuntime) -> Result<(), Fail> {
-    let mut stack: NonZeroInxStack<u64, LimitedStack<u64>> = NonZeroInxStack::with_min_capacity(
-        rt.alloc(),
-        8,
-    )?;
-    stack.set_max_capacity(2)?;
-    assert_eq!(rt; stack.capacity(), 2);
-    stack.set_max_capacity(100)?;
-    assert_eq!(rt; stack.capacity(), 8);
-    assert!(rt; stack.reallocate_min_capacity(101) == Err(BEYOND));
-    stack.reallocate_min_capacity(3)?;
-    assert_eq!(rt; stack.capacity(), 3);
+    let mut stack = UpToLimit::made(rt.alloc(), 8)?;
+    stack.set_limit(2)?;
+    assert!(rt; stack.bounds() == (2, Some(2)));
+    stack.set_limit(100)?;
+    assert!(rt; stack.bounds() == (8, Some(100)));
+    assert!(rt; stack.reserve(101) == Err(BEYOND));
+    stack.reserve(3)?;
+    assert!(rt; stack.bounds() == (3, Some(100)));
     Ok(())
 }
 
 #[test]
 fn a_fixed_stack_keeps_its_room(rt: HostRuntime) -> Result<(), Fail> {
-    let mut stack: NonZeroInxStack<u64, FixedStack<u64>> = NonZeroInxStack::with_min_capacity(
-        rt.alloc(),
-        2,
-    )?;
+    let mut stack = Fixed::made(rt.alloc(), 2)?;
     grows(&rt, &mut stack, &[2, 2])?;
-    assert!(rt; stack.push_within_capacity(7) == Err(NotWithinCapacityError));
-    assert!(rt; stack.push(7) == Err(BEYOND));
-    stack.reallocate_min_capacity(1)?;
-    assert_eq!(rt; stack.capacity(), 2);
+    assert!(rt; stack.put_within(7) == Err(NotWithinCapacityError));
+    assert!(rt; stack.put(7) == Err(BEYOND));
+    stack.reserve(1)?;
+    assert_eq!(rt; stack.bounds().0, 2);
     Ok(())
 }
 
 #[test]
 fn an_array_has_its_places_and_no_more(rt: HostRuntime) -> Result<(), Fail> {
-    let mut none: NonZeroInxStack<u64, ArrayStack<u64, 0>> = NonZeroInxStack::new(rt.alloc());
-    assert!(rt; none.push_within_capacity(7) == Err(NotWithinCapacityError));
-    assert!(rt; none.push(7) == Err(BEYOND));
-    let three: NonZeroInxStack<u64, ArrayStack<u64, 3>> = NonZeroInxStack::with_min_capacity(
-        rt.alloc(),
-        3,
-    )?;
-    assert!(rt; three.capacity() == 3 && three.max_capacity() == Some(3));
+    let mut none = InArray::<0>::empty(rt.alloc());
+    assert!(rt; none.put_within(7) == Err(NotWithinCapacityError));
+    assert!(rt; none.put(7) == Err(BEYOND));
+    let three = InArray::<3>::made(rt.alloc(), 3)?;
+    assert!(rt; three.bounds() == (3, Some(3)));
     Ok(())
 }
 
 // Lends two of three items.
-fn lends(
-    stack: &mut NonZeroInxStack<u64, HeapStack<u64>>,
-    i: usize,
-    j: usize,
-) -> Result<(u64, u64), GetDisjointMutError> {
+fn lends(stack: &mut OnHeap, i: usize, j: usize) -> Result<(u64, u64), GetDisjointMutError> {
     let first = NonZeroUsize::MIN;
     stack.with_disjoint_mut(
         first.saturating_add(i),
@@ -104,9 +85,9 @@ fn lends(
 
 #[test]
 fn two_of_three_items(rt: HostRuntime) -> Result<(), Fail> {
-    let mut stack: NonZeroInxStack<u64, HeapStack<u64>> = NonZeroInxStack::new(rt.alloc());
+    let mut stack = OnHeap::empty(rt.alloc());
     for number in 1..=3 {
-        stack.push(number)?;
+        stack.put(number)?;
     }
     assert!(rt; lends(&mut stack, 3, 3) == Err(GetDisjointMutError::IndexOutOfBounds));
     assert!(rt; lends(&mut stack, 1, 1) == Err(GetDisjointMutError::OverlappingIndices));

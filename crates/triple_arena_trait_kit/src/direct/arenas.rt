@@ -1,6 +1,8 @@
 //! New direct arenas over each stack.
 
 use crate::direct::tested_direct::Direct;
+use crate::token::Token;
+use crate::wrong::Wrong;
 use std::alloc::Global;
 use triple_arena_direct_arena::{DirectArena, DirectSlot};
 use triple_arena_ptr::Ptr;
@@ -8,7 +10,6 @@ use triple_arena_stack::{
     NonZeroInxArray, NonZeroInxBoxedSlice, NonZeroInxGenericStack, NonZeroInxLimitedVec,
     NonZeroInxVec,
 };
-use triple_arena_trait_kit::{Token, Wrong};
 use triple_arena_traits::ArenaTrait;
 
 pub type Heap<P> = NonZeroInxVec<DirectSlot<P, Token>>;

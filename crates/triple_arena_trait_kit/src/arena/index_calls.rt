@@ -5,11 +5,12 @@ ghost use Rattle.std.specs.Option.{option_map};
 ghost use Rattle.triple_arena_traits.specs.Entries.{look_up};
 ghost use Rattle.triple_arena_traits.specs.ArenaState.{entry, with_value};
 
+use crate::token::Token;
+use crate::told::Told;
 use std::mem;
 use triple_arena::{Arena, ArenaSlot, ArenaTrait};
 use triple_arena_ptr::{Ptr, PtrInx};
 use triple_arena_stack::NonZeroInxGenericStack;
-use triple_arena_trait_kit::{Token, Told};
 
 // Whether an entry stands at an index.
 fn has_entry<P: Ptr, T, S: NonZeroInxGenericStack<ArenaSlot<P, T>>>(

@@ -1,9 +1,6 @@
-//! What the tools of refused memory share: arenas over each stack, that tables of calls and answers are
-//! tried on.
-#![tactic(auto)]
+//! Arenas over each stack, as tables of calls are tried on them.
 
 mod arenas;
-pub mod direct;
 mod index_calls;
 mod own_calls;
 mod state;

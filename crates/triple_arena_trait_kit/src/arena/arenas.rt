@@ -1,6 +1,7 @@
 //! New arenas over each stack.
 
-use crate::tested_arena::Tested;
+use crate::arena::tested_arena::Tested;
+use crate::token::Token;
 use std::alloc::Global;
 use triple_arena::{Arena, ArenaSlot, ArenaTrait};
 use triple_arena_base::AllocError;
@@ -9,7 +10,6 @@ use triple_arena_stack::{
     NonZeroInxArray, NonZeroInxBoxedSlice, NonZeroInxGenericStack, NonZeroInxLimitedVec,
     NonZeroInxVec,
 };
-use triple_arena_trait_kit::Token;
 
 pub type Heap<P> = NonZeroInxVec<ArenaSlot<P, Token>>;
 

@@ -1,13 +1,17 @@
 //! An `Arena` that tables of calls are tried on.
 
-use crate::state::state_of;
-use crate::{index_calls, own_calls, writing_calls};
-use triple_arena::{Arena, ArenaInsertTrait, ArenaSlot, CompactArenaTrait, DisjointableArenaTrait};
+use crate::answers::answer_by_traits;
+use crate::arena::state::state_of;
+use crate::arena::{index_calls, own_calls, writing_calls};
+use crate::call::Call;
+use crate::numbered::Numbered;
+use crate::state::State;
+use crate::tested_arena::TestedArena;
+use crate::token::Token;
+use crate::told::{Told, told_raise};
+use triple_arena::{Arena, ArenaSlot};
 use triple_arena_ptr::Ptr;
 use triple_arena_stack::{NonZeroInxGenericStack, SetMaxCapacity};
-use triple_arena_trait_kit::{
-    Call, Numbered, State, TestedArena, Token, Told, answer_by_traits, told_raise,
-};
 
 /// An `Arena` that tables of calls are tried on.
 #[derive(Drop)]
@@ -21,34 +25,16 @@ pub struct WithLimit<P: Ptr, S: NonZeroInxGenericStack<ArenaSlot<P, Token>>> {
     pub tested: Tested<P, S>,
 }
 
-/// What is asked of any arena that has the traits of an `Arena`.
-pub trait Asked<P: Ptr, R> {
-    fn of<
-        A: ArenaInsertTrait<P, Token>
-            + CompactArenaTrait<P, Token>
-            + DisjointableArenaTrait<P, Token>,
-    >(self, arena: &mut A) -> R;
-}
-
-/// Asks an `Arena`: the one body that takes one as those traits, since each such body is slow to prove.
-pub fn ask<P: Ptr, S: NonZeroInxGenericStack<ArenaSlot<P, Token>>, R, A: Asked<P, R>>(
+// What a call answers that stands in a trait of arenas: the one body that takes an `Arena` as those,
+// since each such body is slow to prove.
+fn answer_as_any<P: Ptr, S: NonZeroInxGenericStack<ArenaSlot<P, Token>>>(
     arena: &mut Arena<P, Token, S>,
-    asked: A,
-) -> R {
-    asked.of(arena)
-}
-
-impl<P: Ptr> Asked<P, Told> for Call
+    call: Call,
+) -> Told
 where
     P::Gen: Numbered,
 {
-    fn of<
-        A: ArenaInsertTrait<P, Token>
-            + CompactArenaTrait<P, Token>
-            + DisjointableArenaTrait<P, Token>,
-    >(self, arena: &mut A) -> Told {
-        answer_by_traits(arena, self)
-    }
+    answer_by_traits(arena, call)
 }
 
 // What a call answers of an `Arena`.
@@ -93,7 +79,7 @@ where
         Call::AddToEach(added) => writing_calls::add_to_each(arena, added),
         Call::AddToEachEntry(added) => writing_calls::add_to_each_entry(arena, added),
         Call::AddToEachValue(added) => writing_calls::add_to_each_value(arena, added),
-        _ => ask(arena, call),
+        _ => answer_as_any(arena, call),
     }
 }
 

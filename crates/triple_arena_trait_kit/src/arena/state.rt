@@ -1,10 +1,13 @@
 //! The whole state of an `Arena`.
 
+use crate::free_list::FreeList;
+use crate::numbered::Numbered;
+use crate::shown::Shown;
+use crate::state::{SLOTS, State};
 use std::num::NonZeroUsize;
 use triple_arena::{Arena, ArenaSlot, ArenaTrait, FreeLink};
 use triple_arena_ptr::{Ptr, PtrInx};
 use triple_arena_stack::NonZeroInxGenericStack;
-use triple_arena_trait_kit::{Numbered, SLOTS, Shown, State};
 
 /// The state of `arena`; of more than `SLOTS` slots, the first.
 pub fn state_of<P: Ptr, T: Shown, S: NonZeroInxGenericStack<ArenaSlot<P, T>>>(
@@ -18,18 +21,17 @@ where
         len: arena.len(),
         capacity: arena.capacity(),
         limit: arena.max_capacity(),
-        counter: arena.generation().told_number(),
+        counter: Some(arena.generation().told_number()),
         slots: slots.len(),
         entries: entries_in(slots),
         free: free_of(arena),
     }
 }
 
-/// The free indexes of `arena` in the order in which insertion takes them, and then 0; of more than
-/// `SLOTS`, the first.
+/// The free list of `arena`.
 pub fn free_of<P: Ptr, T, S: NonZeroInxGenericStack<ArenaSlot<P, T>>>(
     arena: &Arena<P, T, S>,
-) -> [usize; SLOTS] {
+) -> FreeList {
     free_in(
         arena.backing().as_slice(),
         slot_index(arena.freelist_root()),
@@ -66,23 +68,24 @@ fn link_of<P: Ptr, T>(slots: &[ArenaSlot<P, T>], inx: NonZeroUsize) -> Option<&F
     }
 }
 
-// The free indexes of these slots from the first on. In the place of one that does not lead back to
-// the one before stands `usize::MAX`.
-fn free_in<P: Ptr, T>(slots: &[ArenaSlot<P, T>], first: Option<NonZeroUsize>) -> [usize; SLOTS] {
+// The free list of these slots, which begins at this index.
+fn free_in<P: Ptr, T>(slots: &[ArenaSlot<P, T>], first: Option<NonZeroUsize>) -> FreeList {
     let mut free = [0; SLOTS];
     let mut last = None;
     let mut next = first;
     for place in 0..SLOTS {
-        if let Some(inx) = next {
-            let link = link_of(slots, inx);
-            let leads_back = matches!(link, Some(link) if link.before(inx) == last);
-            free[place] = if leads_back { inx.get() } else { usize::MAX };
-            last = next;
-            next = match link {
-                Some(link) => link.after(inx),
-                None => None,
-            };
+        let Some(inx) = next else {
+            return FreeList::Indexes(free);
+        };
+        let Some(link) = link_of(slots, inx) else {
+            return FreeList::Broken;
+        };
+        if link.before(inx) != last {
+            return FreeList::Broken;
         }
+        free[place] = inx.get();
+        last = next;
+        next = link.after(inx);
     }
-    free
+    FreeList::Indexes(free)
 }

@@ -1,0 +1,8 @@
+//! What no clause of these arenas says: that their calls succeed, also at large sizes, worked examples,
+//! texts, and loops.
+
+mod chains;
+mod compaction;
+mod direct;
+mod over_a_stack;
+mod strict;

@@ -52,9 +52,9 @@ fn a_value_holds_pointers_of_two_types(rt: HostRuntime) -> Result<(), Fail> {
         Q2[2](2): (P0[2](2), Q2[1](2))}",
     )?;
     // a value goes from an arena into one of another type
-    let taken = texts.remove(hello).allow();
-    assert!(rt; taken == Some("hello"));
     let mut others: Arena<Q2, &'static str> = Arena::new(rt.alloc());
-    others.insert("hello")?;
+    if let Some(taken) = texts.remove(hello).allow() {
+        others.insert(taken)?;
+    }
     is_shown(rt.alloc(), &others, r#"{Q2[1](2): "hello"}"#)
 }

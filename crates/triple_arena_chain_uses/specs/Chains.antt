@@ -2,7 +2,8 @@
 use Rattle.std.specs.Prelude.{◌≡◌, ◌≢◌, ◌↔◌, ◌⊎◌, ℕ, ◌-◌, ◌==◌, ◌||◌, cond, List, [], ◌∷◌, map, Option, Some, None, IsSome, Contains}
 use Rattle.std.specs.Option.{option_map, option_and_then, option_eq}
 use Rattle.triple_arena_ptr.specs.Pointers.{Pointer, is_same}
-use Rattle.triple_arena.specs.Entries.{look_up, entry_count}
+use Rattle.triple_arena.specs.Entries.{entry_in, look_up, entry_count}
+use Rattle.triple_arena.specs.Items.{with_item}
 use Rattle.triple_arena.specs.ArenaState.{map_entry}
 use Rattle.triple_arena_chain_uses.specs.declared.link.Link.{Link}
 use Rattle.triple_arena_chain_uses.specs.declared.place.Place.{Place}
@@ -119,6 +120,10 @@ module _ {T : Type 0} where
 
   abbrev pub with_value : T → Node T → Node T
   with_value value node = record node { value = value }
+
+  -- the same chains with another value in the entry at an index, if there is one
+  abbrev pub with_value_at : ChainState T → ℕ → T → ChainState T
+  with_value_at s i value = record s { slots = with_item s.slots i (option_map (map_entry (with_value value)) (entry_in s.slots i)) }
 
   -- a node whose neighbours have other names
   abbrev pub renamed : (Pointer → Pointer) → Node T → Node T

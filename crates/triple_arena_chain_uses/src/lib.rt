@@ -6,6 +6,7 @@ pub mod chains;
 mod compaction;
 mod ends;
 pub mod laws;
+mod lending;
 pub mod link;
 pub mod place;
 mod removal;

@@ -7,11 +7,10 @@ ghost use Rattle.triple_arena_ptr.specs.Pointers.{Pointer, is_same};
 ghost use Rattle.triple_arena_ptr.specs.Numbers.{greatest_index};
 ghost use Rattle.triple_arena_stack.specs.Capacity.{IsFullAtLimit, CanGrow};
 ghost use Rattle.triple_arena.specs.Entries.{look_up, entry_count};
-ghost use Rattle.triple_arena_chain_uses.specs.Chains.{node_slots, value_at, changed, with_value, with_after, with_before, IsThere, IsInserted, IsRemoved, IsLinked, IsRefusedRoom};
+ghost use Rattle.triple_arena_chain_uses.specs.Chains.{node_slots, value_at, changed, with_after, with_before, IsThere, IsInserted, IsRemoved, IsLinked, IsRefusedRoom};
 
 use crate::link::Link;
 use crate::place::ChainError;
-use std::mem;
 use triple_arena::{ArenaInsertTrait, ArenaTrait};
 use triple_arena_base::ReallocationError;
 use triple_arena_ptr::{Ptr, PtrInx};
@@ -67,28 +66,6 @@ pub(crate) fn lead_back<P: Ptr, T, A: ArenaTrait<P, Link<P, T>>>(
         return;
     };
     link.before = before;
-}
-
-// Writes another value, and gives the one that stood there; nothing changes where the pointer finds
-// nothing.
-pub(crate) fn write<P: Ptr, T: Drop, A: ArenaTrait<P, Link<P, T>>>(
-    arena: &mut A,
-    p: P,
-    value: T,
-) -> Option<T>
-    ensures answer { result
-        ≡ value_at (look_up (node_slots P.numbers (A.slots arena.old))) (P.numbers p) }
-    ensures nodes { IsSome result → (q : Pointer)
-        → look_up (node_slots P.numbers (A.slots arena.new)) q
-        ≡ changed (Some (P.numbers p)) (with_value value) q
-        (look_up (node_slots P.numbers (A.slots arena.old)) q) }
-    ensures kept { result ≡ None → arena.new ≡ arena.old }
-    ensures len { entry_count (A.slots arena.new) ≡ entry_count (A.slots arena.old) }
-    ensures capacity { A.capacity arena.new ≡ A.capacity arena.old }
-    ensures limit { A.limit arena.new ≡ A.limit arena.old }
-{
-    let link = arena.get_mut(p)?;
-    Some(mem::replace(&mut link.value, value))
 }
 
 // Puts a value in, which leads to these two, and to which none leads yet.

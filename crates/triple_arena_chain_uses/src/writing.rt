@@ -1,14 +1,13 @@
-//! A value that is written.
+//! The value under a pointer, for writing.
 
-ghost use Rattle.std.specs.Prelude.{◌≡◌, None, Some, IfOk, OnOk, OnErr, Err};
-ghost use Rattle.std.specs.Result.{IfErr};
-ghost use Rattle.triple_arena_chain_uses.specs.Chains.{nodes, value_at, IsWritten};
+ghost use Rattle.std.specs.Borrow.{sem, LendsIf};
+ghost use Rattle.std.specs.Prelude.{◌≡◌, IsSome};
+ghost use Rattle.std.specs.Option.{option_copied_mut};
+ghost use Rattle.triple_arena_chain_uses.specs.Chains.{nodes, value_at, with_value_at, IsWritten};
 
 use crate::chains::Chains;
 use crate::link::Link;
-use crate::place::ChainError;
-use crate::steps::write;
-use triple_arena::{ArenaInsertTrait, CompactArenaTrait};
+use triple_arena::{ArenaInsertTrait, ArenaTrait, CompactArenaTrait, LendingArena};
 use triple_arena_ptr::Ptr;
 
 impl<P: Ptr, T, A: CompactArenaTrait<P, Link<P, T>> + ArenaInsertTrait<P, Link<P, T>>> Chains<
@@ -16,27 +15,17 @@ impl<P: Ptr, T, A: CompactArenaTrait<P, Link<P, T>> + ArenaInsertTrait<P, Link<P
     T,
     A,
 > {
-    /// Puts another value under a pointer, and gives the one that stood there.
-    ///
-    /// `NoEntry` exactly where the pointer finds nothing; then nothing changes, and the value is
-    /// dropped.
-    pub fn replace(&mut self, p: P, value: T) -> Result<T, ChainError>
-    where
-        T: Drop,
-        ensures value { IfOk result (λ was.
-            value_at (nodes self.old) (P.numbers p) ≡ Some was) }
-        ensures written { OnOk result
-            (IsWritten (nodes self.old) (P.numbers p) value (nodes self.new)) }
-        ensures len { self.new.len ≡ self.old.len }
-        ensures capacity { self.new.capacity ≡ self.old.capacity }
-        ensures limit { self.new.limit ≡ self.old.limit }
-        ensures no_entry { OnErr result (nodes self.old (P.numbers p) ≡ None) }
-        ensures refusal { IfErr result (λ refusal. refusal ≡ ChainError.NoEntry) }
-        ensures refused { OnErr result (self.new ≡ self.old) }
+    /// The value under a pointer, for writing; none exactly where the pointer finds nothing. What is
+    /// written stands there, and all else stays.
+    pub fn get_mut(&mut self, p: P) -> Option<&mut T>
+        ensures value { option_copied_mut result ≡ value_at (nodes self.old) (P.numbers p) }
+        ensures* writes_back { sem 𝓛 (LendsIf ⟦<Chains<P, T, A> as LendingArena>⟧.arena_row T.row
+            self.entry result (with_value_at self.old (P.numbers p).0) self.old) }
+        ensures written { IsSome (nodes self.old (P.numbers p)) → (value : T)
+            → IsWritten (nodes self.old) (P.numbers p) value
+            (nodes (with_value_at self.old (P.numbers p).0 value)) }
     {
-        let Some(was) = write(&mut self.arena, p, value) else {
-            return Err(ChainError::NoEntry);
-        };
-        Ok(was)
+        let link = self.arena.get_mut(p)?;
+        Some(&mut link.value)
     }
 }

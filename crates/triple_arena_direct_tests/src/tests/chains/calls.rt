@@ -33,15 +33,19 @@ fn one_to_four<
     Ok((one, two, three, four))
 }
 
-fn lists_and_removes<
+fn lists_removes_and_writes<
     P: Ptr,
     A: CompactArenaTrait<P, Link<P, u64>> + ArenaInsertTrait<P, Link<P, u64>> + Drop,
->(alloc: Global) -> Result<[[u64; 4]; 2], ChainError> {
+>(alloc: Global) -> Result<[[u64; 4]; 3], ChainError> {
     let mut chains: Chains<P, u64, A> = Chains::new(alloc);
-    let (one, two, _three, _four) = one_to_four(&mut chains)?;
+    let (one, two, three, _four) = one_to_four(&mut chains)?;
     let all = four_from(&chains, one);
     let _two = chains.remove(two)?;
-    Ok([all, four_from(&chains, one)])
+    let three_left = four_from(&chains, one);
+    if let Some(value) = chains.get_mut(three) {
+        *value = 7;
+    }
+    Ok([all, three_left, four_from(&chains, one)])
 }
 
 fn cuts_and_joins<
@@ -99,8 +103,8 @@ fn walks_and_removes<
 #[test]
 fn each_call_over_an_arena(rt: HostRuntime) {
     assert_eq!(rt;
-        lists_and_removes::<P0, Arena<P0, Link<P0, u64>>>(rt.alloc()),
-        Ok([[1, 2, 3, 4], [1, 3, 4, 0]])
+        lists_removes_and_writes::<P0, Arena<P0, Link<P0, u64>>>(rt.alloc()),
+        Ok([[1, 2, 3, 4], [1, 3, 4, 0], [1, 7, 4, 0]])
     );
     assert_eq!(rt;
         cuts_and_joins::<P0, Arena<P0, Link<P0, u64>>>(rt.alloc()),

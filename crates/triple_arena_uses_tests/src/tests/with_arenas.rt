@@ -15,6 +15,7 @@ mod named_entries;
 mod netlist;
 mod ports;
 mod side_table;
+mod tables;
 mod whole_program;
 
 use triple_arena_ptr::{P0, Ptr};

@@ -22,9 +22,9 @@ impl<P: Ptr, T, A: CompactArenaTrait<P, Link<P, T>> + ArenaInsertTrait<P, Link<P
     T,
     A,
 > {
-    /// Moves the entries to the indexes from 1 on, in the order of their indexes, and renames their
-    /// neighbours with them: every chain has the values that it had, in its order. The map tells the
-    /// new pointer of each entry.
+    /// Compresses the arena (`compress_recast`), and renames the neighbours of the entries with them:
+    /// every chain has the values that it had, in its order. The map tells the new pointer of each
+    /// entry; no clause tells which it is.
     ///
     /// `NoMemory`, and only where there is an entry and memory for the map is refused; then nothing
     /// changes. It isn't refused for a pointer that leads nowhere: in chains there is none.

@@ -5,7 +5,7 @@ pub mod StrictAnswers
 pub mod StrictCalls
 pub mod Gone
 pub mod laws
--- What clauses of callers name of the room behind this door: direct arenas.
+-- What clauses of callers name of the inner crate behind this door: direct arenas.
 pub use Rattle.triple_arena_direct_arena.specs.DirectState
 pub use Rattle.triple_arena_direct_arena.specs.DirectSlot
 pub use Rattle.triple_arena_direct_arena.specs.DirectLayout

@@ -185,7 +185,7 @@ impl<P: Ptr, T, S: NonZeroInxGenericStack<ArenaSlot<P, T>>> StrictArena<P, T, S>
 
     /// The counter: the generation of the next entry. Where generations count, no entry is of a greater
     /// one, so that the history that begins with the pointers of the entries fits, whatever was done
-    /// before; and the calls that end entries are refused exactly where `PtrGen::is_max` holds of it.
+    /// before; calls that would end entries are `Exhausted` exactly where `PtrGen::is_max` holds of it.
     pub fn generation(&self) -> P::Gen
         ensures number { P.Gen.number result ≡ self.now.counter }
         ensures history { P.Gen.generations.counting ≡ true

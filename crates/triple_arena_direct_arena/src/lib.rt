@@ -1,4 +1,4 @@
-//! Arenas whose entries are put under pointers of the caller's choice. It is a room behind
+//! Arenas whose entries are put under pointers of the caller's choice. It is an inner crate behind
 //! `triple_arena_direct`, apart so that it is proved beside the `Arena`.
 #![tactic(auto)]
 

@@ -1,5 +1,5 @@
-//! The slots of an `Arena`, and the free list that runs through them. It is a room behind `triple_arena`,
-//! apart for the memory that their proofs take together.
+//! The slots of an `Arena`, and the free list that runs through them. It is an inner crate
+//! behind `triple_arena`, apart for the memory that their proofs take together.
 #![tactic(auto)]
 
 mod arena_steps;

@@ -44,9 +44,9 @@ pub trait CompactArenaTrait<P: Ptr, T>: ArenaTrait<P, T> {
     /// were given before may come to name later entries. Where it doesn't count them, each entry
     /// keeps its generation, and the answer is `Success`.
     ///
-    /// Without a reset and without a wrap it is one model call: it ends every pointer, and gives those
-    /// that stand after it (`history`). In each case a history can begin with these, if one fitted
-    /// before (`begun`).
+    /// Where it counts them, without a reset and a wrap, it is one model call: it ends every pointer,
+    /// and gives those that stand after it (`history`). In each case a history can begin with these,
+    /// if one fitted before (`begun`).
     ///
     /// It takes no memory, limit and capacity stay, and it goes through the slots once.
     fn compress_with<F: FnMut(P, T, P) -> T>(

@@ -91,7 +91,7 @@ pub fn capacity_under_limit<T>()
 
 /// A new arena is well formed, and each step of a well-formed arena leaves it so: an insertion
 /// where there is a place, a removal where there is an entry, a limit that no entry stands past,
-/// slots that are laid out within the capacity, and every other step.
+/// slots that are laid out within the capacity, and other steps.
 pub fn well_formed_stays<T>()
     ensures new { (room : ℕ) (limit : Option ℕ) (greatest counter : ℕ)
         → IsWellFormed {T = T} (new_arena room limit greatest counter) }

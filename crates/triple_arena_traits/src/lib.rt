@@ -1,4 +1,4 @@
-//! What an arena is: the traits of arenas, and all that is written over them. It is a room behind
+//! What an arena is: the traits of arenas, and all that is written over them. It is an inner crate behind
 //! `triple_arena`, apart so that both arenas stand on it and are proved side by side.
 #![tactic(auto)]
 

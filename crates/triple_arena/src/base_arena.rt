@@ -49,8 +49,8 @@ use triple_arena_traits::{
 /// A generational arena over a stack of slots.
 ///
 /// Each insertion gives the new entry a pointer whose generation is the arena's counter; removal,
-/// invalidation and clearing raise the counter once, and tell of a wrap. With generations that do
-/// not count, a pointer names whatever stands at its index.
+/// invalidation and clearing of entries raise the counter once, and tell of a wrap. With generations
+/// that do not count, a pointer names whatever stands at its index.
 ///
 /// Insertion takes a free index: the one that was freed last, or the least one where the free list
 /// was tidied since (`canonicalize_freelist`, `reallocate_min_capacity`, cloning). Where none is

@@ -1,20 +1,21 @@
 //! The arena.
 
 ghost use Rattle.std.specs.Prelude.{◌≡◌, ℕ, List, Option, ◌≤◌, ◌<◌, ◌+◌, ◌==◌, ◌∷◌, ◌↔◌, ◌≢◌, cond, false, [], map, length, is_some, IsSome, IfSome, IsOk, IfOk, OnOk, OnErr, Some, None, Err, IsTrue, slice_get, option_copied, min, MatchOption, ◌-◌, ◌*◌, ◌^◌};
-ghost use Rattle.std.specs.Borrow.{sem};
+ghost use Rattle.std.specs.Borrow.{sem, LendsIf};
 ghost use Rattle.std.specs.Int.NonZero.{non_zero_usize_get};
-ghost use Rattle.std.specs.Option.{option_map, option_and_then};
+ghost use Rattle.std.specs.Option.{option_map, option_and_then, option_copied_mut};
 ghost use Rattle.triple_arena_ptr.specs.Numbers.{greatest_index, raise, wraps, first_generation};
 ghost use Rattle.triple_arena_ptr.specs.Pointers.{Pointer};
 ghost use Rattle.triple_arena_stack.specs.Capacity.{IsWithin, IsBeyond, IsAtLimit, IsFullAtLimit, CanGrow};
 ghost use Rattle.triple_arena_stack.specs.StackKind.{IsOfKind};
 ghost use Rattle.triple_arena_stack.specs.Disjoint.{DisjointAnswer, MayWork, Worked};
 ghost use Rattle.triple_arena_traits.specs.Items.{item};
-ghost use Rattle.triple_arena_traits.specs.Entries.{look_up};
+ghost use Rattle.triple_arena_traits.specs.Entries.{look_up, entry_in, entry_count, IsFirst, IsLast};
+ghost use Rattle.triple_arena_traits.specs.Walks.{IsAtFirst};
 ghost use Rattle.triple_arena_traits.specs.ArenaState.{ArenaState, new_arena, slot_count, capacity, arena_len, entry, with_value, is_free, IsWellFormed};
 ghost use Rattle.triple_arena_traits.specs.Insertion.{next_pointer, inserted};
 ghost use Rattle.triple_arena_traits.specs.SlotSteps.{RisesByAtMost, IsTouched, touched, insertion_steps};
-ghost use Rattle.triple_arena_traits.specs.Ending.{removed, invalidated, cleared, told};
+ghost use Rattle.triple_arena_traits.specs.Ending.{removed, invalidated, cleared, told, told_of, map_told};
 ghost use Rattle.triple_arena_traits.specs.FreeList.{tidied, without_free_end, IsTidied};
 ghost use Rattle.triple_arena_traits.specs.Reallocation.{with_room_for, reallocated, KeepsRoom, grown, EndsBy, ready_for_limit, with_limit};
 ghost use Rattle.triple_arena_slots.specs.Slot.{entry_of};
@@ -22,7 +23,7 @@ ghost use Rattle.triple_arena_slots.specs.Layout.{IsLinked};
 ghost use Rattle.triple_arena_traits.specs.DisjointEntries.{value_of};
 ghost use Rattle.triple_arena_traits.specs.Values.{with_values_of};
 ghost use Rattle.triple_arena_traits.specs.Lent.{lends_values};
-ghost use Rattle.triple_arena_traits.specs.Histories.{resizing, Fits, Continues, CountsUp};
+ghost use Rattle.triple_arena_traits.specs.Histories.{History, resizing, invalidation, removal, remains, Fits, Continues, CountsUp};
 
 mod advancer;
 mod compaction;
@@ -93,6 +94,8 @@ impl<P: Ptr, T, S: NonZeroInxGenericStack<ArenaSlot<P, T>>> Model for Arena<P, T
         (greatest_index P.Inx.greatest) a.slots.slots.steps.count) };
 }
 
+// Where the body of a method makes calls, the trait's clauses are written out, since inheriting them makes each
+// call dearer to prove.
 impl<P: Ptr, T, S: NonZeroInxGenericStack<ArenaSlot<P, T>>> ArenaTrait<P, T> for Arena<P, T, S> {
     ghost use Rattle.std.specs.Prelude.{refl};
     ghost use Rattle.std.proofs.Common.{ap, subst, sym};
@@ -198,7 +201,24 @@ impl<P: Ptr, T, S: NonZeroInxGenericStack<ArenaSlot<P, T>>> ArenaTrait<P, T> for
         self.slots.max_capacity()
     }
 
-    fn reallocate_min_capacity(&mut self, min_capacity: usize) -> Result<(), ReallocationError> {
+    fn reallocate_min_capacity(&mut self, min_capacity: usize) -> Result<(), ReallocationError>
+        ensures done { OnOk result (IsTouched (reallocated S.kind self.old min_capacity) self.new) }
+        ensures refused { OnErr result (IsTouched (tidied self.old) self.new) }
+        ensures within { OnOk result
+            ((min_capacity ≤ greatest_index P.Inx.greatest)
+            × IsWithin self.old.limit min_capacity) }
+        ensures beyond { (result ≡ Err ReallocationError.BeyondMaxCapacity)
+            ↔ ((min_capacity ≤ greatest_index P.Inx.greatest)
+            × IsBeyond self.old.limit min_capacity) }
+        ensures succeeds { min_capacity ≤ greatest_index P.Inx.greatest
+            → IsWithin self.old.limit min_capacity
+            → KeepsRoom S.kind self.old min_capacity → IsOk result }
+        ensures with_memory { min_capacity ≤ greatest_index P.Inx.greatest
+            → IsWithin self.old.limit min_capacity
+            → S.has_memory (reallocated S.kind self.old min_capacity).room → IsOk result }
+        ensures place { OnOk result (min_capacity ≤ capacity self.new) }
+        ensures history { Continues Fits self.old (resizing ∷ []) self.new }
+    {
         self.canonicalize_freelist();
         if min_capacity > P::Inx::max_index().get() {
             return Err(ReallocationError::AllocError);
@@ -218,16 +238,31 @@ impl<P: Ptr, T, S: NonZeroInxGenericStack<ArenaSlot<P, T>>> ArenaTrait<P, T> for
         Some(self.counter)
     }
 
-    fn get(&self, p: P) -> Option<&T> {
+    fn get(&self, p: P) -> Option<&T>
+        ensures value { option_copied result ≡ look_up self.now.slots (P.numbers p) }
+        ensures history { (h : History) → Fits h self.now
+            → is_some result ≡ remains h (P.numbers p) }
+    {
         self.slot(p.inx())?.look_up(p.generation())
     }
 
-    fn get_mut(&mut self, p: P) -> Option<&mut T> {
+    fn get_mut(&mut self, p: P) -> Option<&mut T>
+        ensures value { option_copied_mut result ≡ look_up self.old.slots (P.numbers p) }
+        ensures* writes_back { sem 𝓛 (LendsIf ⟦<Arena<P, T, S> as LendingArena>⟧.arena_row T.row
+            self.entry result (with_value self.old (P.numbers p).0) self.old) }
+        ensures history { (h : History) → Fits h self.old
+            → is_some result ≡ remains h (P.numbers p) }
+        ensures written { (value : T) → Continues Fits self.old []
+            (with_value self.old (P.numbers p).0 value) }
+    {
         let inx = self.find(p)?;
         Some(self.slots.value_mut(inx))
     }
 
-    fn get_inx(&self, inx: P::Inx) -> Option<(P::Gen, &T)> {
+    fn get_inx(&self, inx: P::Inx) -> Option<(P::Gen, &T)>
+        ensures { option_map (λ e. (P.Gen.number e.0, e.1.now)) result
+            ≡ entry_in self.now.slots (P.Inx.number inx) }
+    {
         self.slot(inx)?.entry()
     }
 
@@ -236,22 +271,37 @@ impl<P: Ptr, T, S: NonZeroInxGenericStack<ArenaSlot<P, T>>> ArenaTrait<P, T> for
         Some(generation)
     }
 
-    fn get_inx_mut(&mut self, inx: P::Inx) -> Option<&mut T> {
+    fn get_inx_mut(&mut self, inx: P::Inx) -> Option<&mut T>
+        ensures value { option_copied_mut result
+            ≡ option_map (λ e. e.1) (entry_in self.old.slots (P.Inx.number inx)) }
+        ensures* writes_back { sem 𝓛 (LendsIf ⟦<Arena<P, T, S> as LendingArena>⟧.arena_row T.row
+            self.entry result (with_value self.old (P.Inx.number inx)) self.old) }
+        ensures written { (value : T) → Continues Fits self.old []
+            (with_value self.old (P.Inx.number inx) value) }
+    {
         let inx = self.find_inx(inx)?;
         Some(self.slots.value_mut(inx))
     }
 
-    fn find_first_inx_ptr(&self) -> Option<P> {
+    fn find_first_inx_ptr(&self) -> Option<P>
+        ensures { MatchOption result (entry_count self.now.slots ≡ 0)
+            (λ p. IsFirst self.now.slots (P.numbers p)) }
+    {
         let inx = first_live::<P, T, ArenaSlot<P, T>, S>(self.slots.stack())?;
         Some(self.ptr_at(inx))
     }
 
-    fn find_last_inx_ptr(&self) -> Option<P> {
+    fn find_last_inx_ptr(&self) -> Option<P>
+        ensures { MatchOption result (entry_count self.now.slots ≡ 0)
+            (λ p. IsLast self.now.slots (P.numbers p)) }
+    {
         let inx = last_live::<P, T, ArenaSlot<P, T>, S>(self.slots.stack())?;
         Some(self.ptr_at(inx))
     }
 
-    fn advancer(&self) -> PtrAdvancer<P> {
+    fn advancer(&self) -> PtrAdvancer<P>
+        ensures { IsAtFirst self.now.slots result }
+    {
         PtrAdvancer::from(first_live::<P, T, ArenaSlot<P, T>, S>(self.slots.stack()))
     }
 
@@ -259,7 +309,27 @@ impl<P: Ptr, T, S: NonZeroInxGenericStack<ArenaSlot<P, T>>> ArenaTrait<P, T> for
         PtrAdvancer::at(inx, reverse)
     }
 
-    fn invalidate(&mut self, p: P) -> InvalidationResult<P> {
+    fn invalidate(&mut self, p: P) -> InvalidationResult<P>
+        ensures answer { map_told P.numbers result ≡ told_of (wraps P.Gen.generations self.old.counter)
+            (option_map (λ _. ((P.numbers p).0, raise P.Gen.generations self.old.counter))
+            (look_up self.old.slots (P.numbers p))) }
+        ensures done { IsSome (look_up self.old.slots (P.numbers p))
+            → IsTouched (invalidated (raise P.Gen.generations) self.old (P.numbers p).0) self.new }
+        ensures found { IsSome (look_up self.old.slots (P.numbers p))
+            → look_up self.new.slots ((P.numbers p).0, raise P.Gen.generations self.old.counter)
+            ≡ look_up self.old.slots (P.numbers p) }
+        ensures gone { raise P.Gen.generations self.old.counter ≢ (P.numbers p).1
+            → look_up self.new.slots (P.numbers p) ≡ None }
+        ensures others { (q : Pointer) → q.0 ≢ (P.numbers p).0
+            → look_up self.new.slots q ≡ look_up self.old.slots q }
+        ensures unchanged { look_up self.old.slots (P.numbers p) ≡ None
+            → IsTouched self.old self.new }
+        ensures bounded { RisesByAtMost 6 self.old.steps self.new.steps }
+        ensures history { IsSome (look_up self.old.slots (P.numbers p))
+            → CountsUp P.Gen.generations (wraps P.Gen.generations self.old.counter)
+            → Continues Fits self.old (invalidation (P.numbers p)
+            ((P.numbers p).0, raise P.Gen.generations self.old.counter) ∷ []) self.new }
+    {
         let Some(inx) = self.look_for(p) else {
             return InvalidationResult::InvalidPtr;
         };
@@ -269,7 +339,21 @@ impl<P: Ptr, T, S: NonZeroInxGenericStack<ArenaSlot<P, T>>> ArenaTrait<P, T> for
         told_valid(wrapped, P::_from_raw(p.inx(), counter))
     }
 
-    fn remove(&mut self, p: P) -> InvalidationResult<T> {
+    fn remove(&mut self, p: P) -> InvalidationResult<T>
+        ensures answer { result ≡ told_of (wraps P.Gen.generations self.old.counter)
+            (look_up self.old.slots (P.numbers p)) }
+        ensures done { IsSome (look_up self.old.slots (P.numbers p))
+            → IsTouched (removed (raise P.Gen.generations) self.old (P.numbers p).0) self.new }
+        ensures gone { look_up self.new.slots (P.numbers p) ≡ None }
+        ensures others { (q : Pointer) → q ≢ P.numbers p
+            → look_up self.new.slots q ≡ look_up self.old.slots q }
+        ensures unchanged { look_up self.old.slots (P.numbers p) ≡ None
+            → IsTouched self.old self.new }
+        ensures bounded { RisesByAtMost 6 self.old.steps self.new.steps }
+        ensures history { IsSome (look_up self.old.slots (P.numbers p))
+            → CountsUp P.Gen.generations (wraps P.Gen.generations self.old.counter)
+            → Continues Fits self.old (removal (P.numbers p) ∷ []) self.new }
+    {
         let Some(inx) = self.look_for(p) else {
             return InvalidationResult::InvalidPtr;
         };
@@ -277,7 +361,23 @@ impl<P: Ptr, T, S: NonZeroInxGenericStack<ArenaSlot<P, T>>> ArenaTrait<P, T> for
         told_valid(wrapped, value)
     }
 
-    fn remove_inx(&mut self, inx: P::Inx) -> InvalidationResult<(P::Gen, T)> {
+    fn remove_inx(&mut self, inx: P::Inx) -> InvalidationResult<(P::Gen, T)>
+        ensures answer { map_told (λ e. (P.Gen.number e.0, e.1)) result
+            ≡ told_of (wraps P.Gen.generations self.old.counter)
+            (entry_in self.old.slots (P.Inx.number inx)) }
+        ensures done { IsSome (entry_in self.old.slots (P.Inx.number inx))
+            → IsTouched (removed (raise P.Gen.generations) self.old (P.Inx.number inx)) self.new }
+        ensures gone { entry_in self.new.slots (P.Inx.number inx) ≡ None }
+        ensures others { (q : Pointer) → q.0 ≢ P.Inx.number inx
+            → look_up self.new.slots q ≡ look_up self.old.slots q }
+        ensures unchanged { entry_in self.old.slots (P.Inx.number inx) ≡ None
+            → IsTouched self.old self.new }
+        ensures bounded { RisesByAtMost 6 self.old.steps self.new.steps }
+        ensures history { (generation : ℕ) (value : T)
+            → entry_in self.old.slots (P.Inx.number inx) ≡ Some (generation, value)
+            → CountsUp P.Gen.generations (wraps P.Gen.generations self.old.counter)
+            → Continues Fits self.old (removal (P.Inx.number inx, generation) ∷ []) self.new }
+    {
         let Some(inx) = self.look_at(inx) else {
             return InvalidationResult::InvalidPtr;
         };

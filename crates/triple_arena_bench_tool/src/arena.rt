@@ -5,13 +5,13 @@
 mod plain;
 mod table;
 
-use crate::timing::{RUNS, Timed, Timing, over_arena, print};
+use crate::timing::{RUNS, Timed, Timing, now, over_arena, print, since};
 use plain::Plain;
 use rand_core::Rng;
 use rand_pcg::Pcg64Mcg;
 use std::alloc::Global;
-use std::io::{self, Print};
-use std::time::{Clock, Instant};
+use std::io::Print;
+use std::time::Clock;
 use table::{InArena, Table};
 use triple_arena::{ArenaInsertTrait, CompactArenaTrait};
 use triple_arena_ptr::{P0, Ptr, SmallPtr};
@@ -90,16 +90,14 @@ fn time<R: Print + Clock, T: Table>(
     for _ in 0..RUNS {
         least = least.least(time_once::<R, T>(rt, alloc, size, &mut names)?);
     }
-    print_all(rt, name, size, least)?;
-    Ok(())
-}
-
-fn print_all(rt: &impl Print, name: &str, size: u32, timings: Timings) -> io::Result<()> {
-    print(rt, name, size, "insert", size, timings.insert)?;
-    print(rt, name, size, "get", size, timings.get)?;
-    print(rt, name, size, "churn", size, timings.churn)?;
-    print(rt, name, size, "iterate", size, timings.iterate)?;
-    print(rt, name, size, "clear", 1, timings.clear)
+    let operations = [
+        ("insert", size, least.insert),
+        ("get", size, least.get),
+        ("churn", size, least.churn),
+        ("iterate", size, least.iterate),
+        ("clear", 1, least.clear),
+    ];
+    print(rt, name, size, &operations)
 }
 
 // The names are those of an earlier run, so that none of the later runs is the first to touch them.
@@ -113,10 +111,10 @@ fn time_once<C: Clock, T: Table>(
     names.clear();
     Ok(Timings {
         insert: time_insert(rt, size, &mut table, names)?,
-        get: time_get(rt, size, &table, names)?,
+        get: time_get(rt, size, &table, names),
         churn: time_churn(rt, size, &mut table, names)?,
-        iterate: time_iterate(rt, &table)?,
-        clear: time_clear(rt, &mut table)?,
+        iterate: time_iterate(rt, &table),
+        clear: time_clear(rt, &mut table),
     })
 }
 
@@ -129,32 +127,27 @@ fn time_insert<T: Table>(
     names: &mut Vec<T::Name>,
 ) -> anyhow::Result<Timing> {
     let mut random = new_random();
-    let start = Instant::now(rt)?;
+    let start = now(rt);
     for _ in 0..size {
         names.push(table.put(random.next_u64())?)?;
     }
-    let time = start.elapsed(rt)?;
+    let time = since(rt, start);
     let sum = table.sum_all();
     Ok(Timing { time, sum })
 }
 
 #[inline(never)]
-fn time_get<T: Table>(
-    rt: &impl Clock,
-    size: u32,
-    table: &T,
-    names: &[T::Name],
-) -> anyhow::Result<Timing> {
+fn time_get<T: Table>(rt: &impl Clock, size: u32, table: &T, names: &[T::Name]) -> Timing {
     let mut random = new_random();
     let mut sum = 0u64;
-    let start = Instant::now(rt)?;
+    let start = now(rt);
     for _ in 0..size {
         if let Some(name) = names.get(below(&mut random, size)) {
             sum = sum.wrapping_add(table.read(*name));
         }
     }
-    let time = start.elapsed(rt)?;
-    Ok(Timing { time, sum })
+    let time = since(rt, start);
+    Timing { time, sum }
 }
 
 #[inline(never)]
@@ -166,32 +159,32 @@ fn time_churn<T: Table>(
 ) -> anyhow::Result<Timing> {
     let mut random = new_random();
     let mut sum = 0u64;
-    let start = Instant::now(rt)?;
+    let start = now(rt);
     for _ in 0..size {
         if let Some(name) = names.get_mut(below(&mut random, size)) {
             sum = sum.wrapping_add(table.take_out(*name));
             *name = table.put(random.next_u64())?;
         }
     }
-    let time = start.elapsed(rt)?;
+    let time = since(rt, start);
     Ok(Timing { time, sum })
 }
 
 // The numbers lie as the churn left them.
 #[inline(never)]
-fn time_iterate<T: Table>(rt: &impl Clock, table: &T) -> anyhow::Result<Timing> {
-    let start = Instant::now(rt)?;
+fn time_iterate<T: Table>(rt: &impl Clock, table: &T) -> Timing {
+    let start = now(rt);
     let sum = table.sum_all();
-    let time = start.elapsed(rt)?;
-    Ok(Timing { time, sum })
+    let time = since(rt, start);
+    Timing { time, sum }
 }
 
 // The sum is of what is still there afterwards.
 #[inline(never)]
-fn time_clear<T: Table>(rt: &impl Clock, table: &mut T) -> anyhow::Result<Timing> {
-    let start = Instant::now(rt)?;
+fn time_clear<T: Table>(rt: &impl Clock, table: &mut T) -> Timing {
+    let start = now(rt);
     table.take_out_all();
-    let time = start.elapsed(rt)?;
+    let time = since(rt, start);
     let sum = table.sum_all();
-    Ok(Timing { time, sum })
+    Timing { time, sum }
 }

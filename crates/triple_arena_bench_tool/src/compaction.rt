@@ -2,11 +2,11 @@
 //! link that is renamed, and of a plain vector.
 
 use crate::entry::{Entry, Node, sum_of, sum_of_places};
-use crate::timing::{RUNS, Timed, Timing, over_arena, print};
+use crate::timing::{RUNS, Timed, Timing, now, over_arena, print, since};
 use std::alloc::Global;
 use std::io::Print;
 use std::marker::PhantomData;
-use std::time::{Clock, Instant};
+use std::time::Clock;
 use triple_arena::{ArenaInsertTrait, CompactArenaTrait};
 use triple_arena_direct::compress_recast;
 use triple_arena_ptr::P0;
@@ -153,16 +153,15 @@ fn time<R: Print + Clock, G: Gapped>(
     for _ in 0..RUNS {
         least = least.least(time_once::<R, G>(rt, alloc, size)?);
     }
-    print(rt, name, size, "compact", size.div_ceil(2), least)?;
-    Ok(())
+    print(rt, name, size, &[("compact", size.div_ceil(2), least)])
 }
 
 // The sum is of what is there afterwards.
 fn time_once<C: Clock, G: Gapped>(rt: &C, alloc: Global, size: u32) -> anyhow::Result<Timing> {
     let mut table = G::even_numbers(alloc, size)?;
-    let start = Instant::now(rt)?;
+    let start = now(rt);
     table.close_gaps(alloc)?;
-    let time = start.elapsed(rt)?;
+    let time = since(rt, start);
     let sum = table.sum();
     Ok(Timing { time, sum })
 }

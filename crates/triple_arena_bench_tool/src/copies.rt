@@ -2,11 +2,11 @@
 //! of general use and with the small one, and of a plain vector.
 
 use crate::arena::{below, new_random};
-use crate::entry::{insert_each, sum_of, sum_of_places};
-use crate::timing::{RUNS, Timing, print};
+use crate::entry::{insert_each, places, sum_of, sum_of_places};
+use crate::timing::{RUNS, Timing, now, print, since};
 use std::alloc::Global;
 use std::io::Print;
-use std::time::{Clock, Instant};
+use std::time::Clock;
 use triple_arena::{
     Arena, ArenaCloneFromWith, ArenaDirectInsertTrait, ArenaInsertTrait, ArenaTrait,
     CompactArenaTrait,
@@ -38,13 +38,15 @@ fn time<
     for _ in 0..RUNS {
         clone = clone.least(time_clone::<R, P, A>(rt, alloc, &arena)?);
         let mut filled = D::with_min_capacity(alloc, pointers.len())?;
-        direct = direct.least(time_direct::<R, P, D>(rt, &mut filled, &pointers)?);
-        get = get.least(time_direct_get::<R, P, D>(rt, size, &filled, &pointers)?);
+        direct = direct.least(time_direct::<R, P, D>(rt, &mut filled, &pointers));
+        get = get.least(time_direct_get::<R, P, D>(rt, size, &filled, &pointers));
     }
-    print(rt, name, size, "clone", size, clone)?;
-    print(rt, name, size, "direct", size, direct)?;
-    print(rt, name, size, "direct get", size, get)?;
-    Ok(())
+    let operations = [
+        ("clone", size, clone),
+        ("direct", size, direct),
+        ("direct get", size, get),
+    ];
+    print(rt, name, size, &operations)
 }
 
 #[inline(never)]
@@ -53,9 +55,9 @@ fn time_clone<C: Clock, P: Ptr, A: ArenaCloneFromWith<P, u64> + CompactArenaTrai
     alloc: Global,
     arena: &A,
 ) -> anyhow::Result<Timing> {
-    let start = Instant::now(rt)?;
+    let start = now(rt);
     let clone = arena.clone(alloc)?;
-    let time = start.elapsed(rt)?;
+    let time = since(rt, start);
     let sum = sum_of(&clone);
     Ok(Timing { time, sum })
 }
@@ -66,16 +68,16 @@ fn time_direct<C: Clock, P: Ptr, D: ArenaDirectInsertTrait<P, u64> + CompactAren
     rt: &C,
     arena: &mut D,
     pointers: &[P],
-) -> anyhow::Result<Timing> {
-    let start = Instant::now(rt)?;
+) -> Timing {
+    let start = now(rt);
     for (number, p) in pointers.iter().enumerate() {
         if arena.can_direct_insert(*p) {
             arena.direct_insert_reserved(*p, number as u64);
         }
     }
-    let time = start.elapsed(rt)?;
+    let time = since(rt, start);
     let sum = sum_of(&*arena);
-    Ok(Timing { time, sum })
+    Timing { time, sum }
 }
 
 #[inline(never)]
@@ -84,33 +86,29 @@ fn time_direct_get<C: Clock, P: Ptr, D: ArenaTrait<P, u64>>(
     size: u32,
     arena: &D,
     pointers: &[P],
-) -> anyhow::Result<Timing> {
+) -> Timing {
     let mut random = new_random();
     let mut sum = 0u64;
-    let start = Instant::now(rt)?;
+    let start = now(rt);
     for _ in 0..size {
         if let Some(p) = pointers.get(below(&mut random, size)) {
             sum = sum.wrapping_add(arena.get(*p).copied().unwrap_or(0));
         }
     }
-    let time = start.elapsed(rt)?;
-    Ok(Timing { time, sum })
+    let time = since(rt, start);
+    Timing { time, sum }
 }
 
 // A vector of numbers is cloned, and as many numbers are pushed onto a new one.
 fn time_vector<R: Print + Clock>(rt: &R, alloc: Global, size: u32) -> anyhow::Result<()> {
-    let mut numbers = Vec::with_capacity(alloc, size as usize)?;
-    for number in 0..size {
-        numbers.push(Some(number as u64))?;
-    }
+    let numbers = places(alloc, size)?;
     let (mut clone, mut direct) = (Timing::LONGEST, Timing::LONGEST);
     for _ in 0..RUNS {
         clone = clone.least(time_vector_clone(rt, alloc, &numbers)?);
         direct = direct.least(time_vector_writes(rt, alloc, numbers.len())?);
     }
-    print(rt, "vector", size, "clone", size, clone)?;
-    print(rt, "vector", size, "direct", size, direct)?;
-    Ok(())
+    let operations = [("clone", size, clone), ("direct", size, direct)];
+    print(rt, "vector", size, &operations)
 }
 
 #[inline(never)]
@@ -119,10 +117,10 @@ fn time_vector_clone<C: Clock>(
     alloc: Global,
     numbers: &[Option<u64>],
 ) -> anyhow::Result<Timing> {
-    let start = Instant::now(rt)?;
+    let start = now(rt);
     let mut clone = Vec::new(alloc);
     clone.extend_from_slice(numbers)?;
-    let time = start.elapsed(rt)?;
+    let time = since(rt, start);
     let sum = sum_of_places(&clone);
     Ok(Timing { time, sum })
 }
@@ -131,11 +129,11 @@ fn time_vector_clone<C: Clock>(
 #[inline(never)]
 fn time_vector_writes<C: Clock>(rt: &C, alloc: Global, size: usize) -> anyhow::Result<Timing> {
     let mut numbers = Vec::with_capacity(alloc, size)?;
-    let start = Instant::now(rt)?;
+    let start = now(rt);
     for number in 0..size {
         numbers.push(Some(number as u64))?;
     }
-    let time = start.elapsed(rt)?;
+    let time = since(rt, start);
     let sum = sum_of_places(&numbers);
     Ok(Timing { time, sum })
 }

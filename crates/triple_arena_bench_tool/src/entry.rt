@@ -48,6 +48,15 @@ pub fn insert_each<P: Ptr, A: ArenaInsertTrait<P, u64>>(
     Ok(pointers)
 }
 
+/// A vector of the numbers below `size`, each in its place.
+pub fn places(alloc: Global, size: u32) -> anyhow::Result<Vec<Option<u64>>> {
+    let mut numbers = Vec::with_capacity(alloc, size as usize)?;
+    for number in 0..size {
+        numbers.push(Some(number as u64))?;
+    }
+    Ok(numbers)
+}
+
 /// The sum of all numbers, modulo 2^64, in the order in which they lie. It is inlined where it is timed, as a walk is
 /// in the code of a user.
 #[inline(always)]

@@ -1,15 +1,20 @@
 //! The direct arena.
 
-ghost use Rattle.std.specs.Prelude.{◌≡◌, ◌≢◌, ℕ, List, Option, IfOk, ◌≤◌, ◌<◌, ◌+◌, ◌^◌, ◌↔◌, false, [], map, length, is_some, IsSome, IfSome, IsOk, OnOk, OnErr, Some, None, Err, option_copied, min, MatchOption, ◌-◌};
+ghost use Rattle.std.specs.Prelude.{◌≡◌, ◌≢◌, ℕ, List, Option, IfOk, ◌≤◌, ◌<◌, ◌+◌, ◌^◌, ◌↔◌, ◌∷◌, false, [], map, length, is_some, IsSome, IfSome, IsOk, OnOk, OnErr, Some, None, Err, option_copied, min, MatchOption, ◌-◌};
 ghost use Rattle.std.specs.Int.NonZero.{non_zero_usize_get};
-ghost use Rattle.std.specs.Borrow.{sem};
-ghost use Rattle.std.specs.Option.{option_and_then};
+ghost use Rattle.std.specs.Borrow.{sem, LendsIf};
+ghost use Rattle.std.specs.Option.{option_map, option_and_then, option_copied_mut};
 ghost use Rattle.triple_arena_ptr.specs.Numbers.{greatest_index};
+ghost use Rattle.triple_arena_ptr.specs.Pointers.{Pointer};
 ghost use Rattle.triple_arena_stack.specs.Capacity.{IsWithin, IsBeyond};
-ghost use Rattle.triple_arena_stack.specs.StackKind.{IsOfKind};
-ghost use Rattle.triple_arena_traits.specs.Entries.{entry_in, look_up};
+ghost use Rattle.triple_arena_stack.specs.StackKind.{IsOfKind, made_room, made_limit, CanHold, TakesNoMemory};
+ghost use Rattle.triple_arena_traits.specs.Entries.{entry_in, look_up, entry_count, IsFirst, IsLast};
+ghost use Rattle.triple_arena_traits.specs.Walks.{IsAtFirst};
+ghost use Rattle.triple_arena_traits.specs.Ending.{told_of, map_told};
+ghost use Rattle.triple_arena_traits.specs.SlotSteps.{RisesByAtMost};
+ghost use Rattle.triple_arena_traits.specs.Histories.{History, resizing, removal, remains, Continues, CountsUp};
 ghost use Rattle.triple_arena_traits.specs.DirectInsertion.{IsVacant};
-ghost use Rattle.triple_arena_traits.specs.DisjointEntries.{value_of};
+ghost use Rattle.triple_arena_traits.specs.DisjointEntries.{value_of, DisjointPtrAnswer, DisjointInxAnswer, MayWorkAtEntries, WorkedAtEntries};
 ghost use Rattle.triple_arena_traits.specs.FreeList.{last_index};
 ghost use Rattle.triple_arena_stack.specs.Disjoint.{DisjointAnswer, MayWork, Worked};
 ghost use Rattle.triple_arena_direct_arena.specs.DirectState.{DirectState, new_direct, generation_of, direct_slot_count, direct_len, direct_capacity, SlotsFit, direct_with_value, inserted_at, direct_removed, direct_cleared, direct_shortened, direct_with_room_for, direct_reallocated, direct_with_limit};
@@ -145,7 +150,17 @@ impl<P: Ptr, T, S: NonZeroInxGenericStack<DirectSlot<P, T>>> ArenaTrait<P, T>
         DirectArena::over(S::new(alloc))
     }
 
-    fn with_min_capacity(alloc: Global, min_capacity: usize) -> Result<Self, AllocError> {
+    // The trait's clauses are written out, since inheriting them makes each call dearer to prove.
+    fn with_min_capacity(alloc: Global, min_capacity: usize) -> Result<Self, AllocError>
+        ensures made { IfOk result (λ arena. arena ≡ new_direct (made_room S.kind min_capacity)
+            (made_limit S.kind min_capacity) (greatest_index P.Inx.greatest)) }
+        ensures holds { OnOk result
+            ((min_capacity ≤ greatest_index P.Inx.greatest) × CanHold S.kind min_capacity) }
+        ensures succeeds { min_capacity ≤ greatest_index P.Inx.greatest
+            → TakesNoMemory S.kind min_capacity → IsOk result }
+        ensures with_memory { min_capacity ≤ greatest_index P.Inx.greatest
+            → CanHold S.kind min_capacity → S.has_memory min_capacity → IsOk result }
+    {
         if min_capacity > P::Inx::max_index().get() {
             return Err(AllocError);
         }
@@ -173,7 +188,25 @@ impl<P: Ptr, T, S: NonZeroInxGenericStack<DirectSlot<P, T>>> ArenaTrait<P, T>
     /// Changes the room so that there is place for `min_capacity` slots, and for those that are in
     /// use. First free slots at the end go, as far as there are more slots than `min_capacity`; that
     /// stays done where the rest is refused.
-    fn reallocate_min_capacity(&mut self, min_capacity: usize) -> Result<(), ReallocationError> {
+    fn reallocate_min_capacity(&mut self, min_capacity: usize) -> Result<(), ReallocationError>
+        ensures done { OnOk result (self.new ≡ direct_reallocated S.kind self.old min_capacity) }
+        ensures refused { OnErr result (self.new ≡ direct_shortened self.old min_capacity) }
+        ensures within { OnOk result
+            ((min_capacity ≤ greatest_index P.Inx.greatest)
+            × IsWithin self.old.limit min_capacity) }
+        ensures beyond { (result ≡ Err ReallocationError.BeyondMaxCapacity)
+            ↔ ((min_capacity ≤ greatest_index P.Inx.greatest)
+            × IsBeyond self.old.limit min_capacity) }
+        ensures succeeds { min_capacity ≤ greatest_index P.Inx.greatest
+            → IsWithin self.old.limit min_capacity
+            → (direct_reallocated S.kind self.old min_capacity).room ≡ self.old.room
+            → IsOk result }
+        ensures with_memory { min_capacity ≤ greatest_index P.Inx.greatest
+            → IsWithin self.old.limit min_capacity
+            → S.has_memory (direct_reallocated S.kind self.old min_capacity).room → IsOk result }
+        ensures place { OnOk result (min_capacity ≤ direct_capacity self.new) }
+        ensures history { Continues (λ _ _. ⊥) self.old (resizing ∷ []) self.new }
+    {
         self.shorten(min_capacity);
         if min_capacity > P::Inx::max_index().get() {
             return Err(ReallocationError::AllocError);
@@ -193,16 +226,29 @@ impl<P: Ptr, T, S: NonZeroInxGenericStack<DirectSlot<P, T>>> ArenaTrait<P, T>
         None
     }
 
-    fn get(&self, p: P) -> Option<&T> {
+    fn get(&self, p: P) -> Option<&T>
+        ensures value { option_copied result ≡ look_up self.now.slots (P.numbers p) }
+        ensures history { (h : History) → ⊥ → is_some result ≡ remains h (P.numbers p) }
+    {
         self.slot(p.inx())?.look_up(p.generation())
     }
 
-    fn get_mut(&mut self, p: P) -> Option<&mut T> {
+    fn get_mut(&mut self, p: P) -> Option<&mut T>
+        ensures value { option_copied_mut result ≡ look_up self.old.slots (P.numbers p) }
+        ensures* writes_back { sem 𝓛 (LendsIf ⟦<DirectArena<P, T, S> as LendingArena>⟧.arena_row
+            T.row self.entry result (direct_with_value self.old (P.numbers p).0) self.old) }
+        ensures history { (h : History) → ⊥ → is_some result ≡ remains h (P.numbers p) }
+        ensures written { (value : T) → Continues (λ _ _. ⊥) self.old []
+            (direct_with_value self.old (P.numbers p).0 value) }
+    {
         let inx = self.find(p)?;
         Some(self.slots.value_mut(inx))
     }
 
-    fn get_inx(&self, inx: P::Inx) -> Option<(P::Gen, &T)> {
+    fn get_inx(&self, inx: P::Inx) -> Option<(P::Gen, &T)>
+        ensures { option_map (λ e. (P.Gen.number e.0, e.1.now)) result
+            ≡ entry_in self.now.slots (P.Inx.number inx) }
+    {
         self.slot(inx)?.entry()
     }
 
@@ -211,22 +257,37 @@ impl<P: Ptr, T, S: NonZeroInxGenericStack<DirectSlot<P, T>>> ArenaTrait<P, T>
         Some(generation)
     }
 
-    fn get_inx_mut(&mut self, inx: P::Inx) -> Option<&mut T> {
+    fn get_inx_mut(&mut self, inx: P::Inx) -> Option<&mut T>
+        ensures value { option_copied_mut result
+            ≡ option_map (λ e. e.1) (entry_in self.old.slots (P.Inx.number inx)) }
+        ensures* writes_back { sem 𝓛 (LendsIf ⟦<DirectArena<P, T, S> as LendingArena>⟧.arena_row
+            T.row self.entry result (direct_with_value self.old (P.Inx.number inx)) self.old) }
+        ensures written { (value : T) → Continues (λ _ _. ⊥) self.old []
+            (direct_with_value self.old (P.Inx.number inx) value) }
+    {
         let inx = self.find_inx(inx)?;
         Some(self.slots.value_mut(inx))
     }
 
-    fn find_first_inx_ptr(&self) -> Option<P> {
+    fn find_first_inx_ptr(&self) -> Option<P>
+        ensures { MatchOption result (entry_count self.now.slots ≡ 0)
+            (λ p. IsFirst self.now.slots (P.numbers p)) }
+    {
         let inx = self.first_live()?;
         Some(self.ptr_at(inx))
     }
 
-    fn find_last_inx_ptr(&self) -> Option<P> {
+    fn find_last_inx_ptr(&self) -> Option<P>
+        ensures { MatchOption result (entry_count self.now.slots ≡ 0)
+            (λ p. IsLast self.now.slots (P.numbers p)) }
+    {
         let inx = self.last_live()?;
         Some(self.ptr_at(inx))
     }
 
-    fn advancer(&self) -> PtrAdvancer<P> {
+    fn advancer(&self) -> PtrAdvancer<P>
+        ensures { IsAtFirst self.now.slots result }
+    {
         PtrAdvancer::from(self.first_live())
     }
 
@@ -241,7 +302,19 @@ impl<P: Ptr, T, S: NonZeroInxGenericStack<DirectSlot<P, T>>> ArenaTrait<P, T>
         InvalidationResult::Success(p)
     }
 
-    fn remove(&mut self, p: P) -> InvalidationResult<T> {
+    fn remove(&mut self, p: P) -> InvalidationResult<T>
+        ensures answer { result ≡ told_of false (look_up self.old.slots (P.numbers p)) }
+        ensures done { IsSome (look_up self.old.slots (P.numbers p))
+            → self.new ≡ direct_removed self.old (P.numbers p).0 }
+        ensures gone { look_up self.new.slots (P.numbers p) ≡ None }
+        ensures others { (q : Pointer) → q ≢ P.numbers p
+            → look_up self.new.slots q ≡ look_up self.old.slots q }
+        ensures unchanged { look_up self.old.slots (P.numbers p) ≡ None → self.new ≡ self.old }
+        ensures bounded { RisesByAtMost 6 0 0 }
+        ensures history { IsSome (look_up self.old.slots (P.numbers p))
+            → CountsUp P.Gen.generations false
+            → Continues (λ _ _. ⊥) self.old (removal (P.numbers p) ∷ []) self.new }
+    {
         let Some(inx) = self.find(p) else {
             return InvalidationResult::InvalidPtr;
         };
@@ -249,7 +322,23 @@ impl<P: Ptr, T, S: NonZeroInxGenericStack<DirectSlot<P, T>>> ArenaTrait<P, T>
         InvalidationResult::Success(value)
     }
 
-    fn remove_inx(&mut self, inx: P::Inx) -> InvalidationResult<(P::Gen, T)> {
+    fn remove_inx(&mut self, inx: P::Inx) -> InvalidationResult<(P::Gen, T)>
+        ensures answer { map_told (λ e. (P.Gen.number e.0, e.1)) result
+            ≡ told_of false (entry_in self.old.slots (P.Inx.number inx)) }
+        ensures done { IsSome (entry_in self.old.slots (P.Inx.number inx))
+            → self.new ≡ direct_removed self.old (P.Inx.number inx) }
+        ensures gone { entry_in self.new.slots (P.Inx.number inx) ≡ None }
+        ensures others { (q : Pointer) → q.0 ≢ P.Inx.number inx
+            → look_up self.new.slots q ≡ look_up self.old.slots q }
+        ensures unchanged { entry_in self.old.slots (P.Inx.number inx) ≡ None
+            → self.new ≡ self.old }
+        ensures bounded { RisesByAtMost 6 0 0 }
+        ensures history { (generation : ℕ) (value : T)
+            → entry_in self.old.slots (P.Inx.number inx) ≡ Some (generation, value)
+            → CountsUp P.Gen.generations false
+            → Continues (λ _ _. ⊥) self.old (removal (P.Inx.number inx, generation) ∷ [])
+            self.new }
+    {
         let Some(inx) = self.find_inx(inx) else {
             return InvalidationResult::InvalidPtr;
         };
@@ -351,7 +440,15 @@ impl<P: Ptr, T, S: NonZeroInxGenericStack<DirectSlot<P, T>>> ArenaDirectInsertTr
     // are free
     ghost inserted_at = { inserted_at };
 
-    fn direct_insert_reserved(&mut self, p: P, t: T) {
+    fn direct_insert_reserved(&mut self, p: P, t: T)
+        requires { IsVacant self.old.slots (direct_capacity self.old) (P.numbers p).0 }
+        ensures inserted { self.new ≡ inserted_at self.old (P.numbers p) t }
+        ensures found { look_up self.new.slots (P.numbers p) ≡ Some t }
+        ensures others { (q : Pointer) → q ≢ P.numbers p
+            → look_up self.new.slots q ≡ look_up self.old.slots q }
+        ensures limit { self.new.limit ≡ self.old.limit }
+        ensures capacity { direct_capacity self.new ≡ direct_capacity self.old }
+    {
         // By its clauses, it is at most the greatest index.
         let _capacity = self.capacity();
         let inx = P::Inx::try_into_usize(p.inx()).unwrap();
@@ -374,7 +471,20 @@ impl<P: Ptr, T, S: NonZeroInxGenericStack<DirectSlot<P, T>>> DisjointableArenaTr
         first: P,
         second: P,
         f: F,
-    ) -> Result<R, GetDisjointMutError> {
+    ) -> Result<R, GetDisjointMutError>
+        requires { (P.numbers first).0 ≢ (P.numbers second).0 → MayWork F.FnOnce f
+            (look_up self.old.slots (P.numbers first))
+            (look_up self.old.slots (P.numbers second)) }
+        ensures variant { DisjointPtrAnswer self.old.slots
+            (P.numbers first) (P.numbers second) result }
+        ensures refused { OnErr result (self.new ≡ self.old) }
+        ensures worked { IfOk result (λ r. Worked F.FnOnce f
+            (look_up self.old.slots (P.numbers first))
+            (look_up self.old.slots (P.numbers second))
+            r (λ x y. self.new ≡ direct_with_value
+            (direct_with_value self.old (P.numbers first).0 x) (P.numbers second).0 y)) }
+        ensures history { Continues (λ _ _. ⊥) self.old [] self.new }
+    {
         let (Some(first), Some(second)) = (self.find(first), self.find(second)) else {
             return Err(GetDisjointMutError::IndexOutOfBounds);
         };
@@ -389,7 +499,21 @@ impl<P: Ptr, T, S: NonZeroInxGenericStack<DirectSlot<P, T>>> DisjointableArenaTr
         first: P::Inx,
         second: P::Inx,
         f: F,
-    ) -> Result<R, GetDisjointMutError> {
+    ) -> Result<R, GetDisjointMutError>
+        requires { P.Inx.number first ≢ P.Inx.number second
+            → MayWorkAtEntries P.Gen.number F.FnOnce f
+            (entry_in self.old.slots (P.Inx.number first))
+            (entry_in self.old.slots (P.Inx.number second)) }
+        ensures variant { DisjointInxAnswer self.old.slots
+            (P.Inx.number first) (P.Inx.number second) result }
+        ensures refused { OnErr result (self.new ≡ self.old) }
+        ensures worked { IfOk result (λ r. WorkedAtEntries P.Gen.number F.FnOnce f
+            (entry_in self.old.slots (P.Inx.number first))
+            (entry_in self.old.slots (P.Inx.number second))
+            r (λ x y. self.new ≡ direct_with_value
+            (direct_with_value self.old (P.Inx.number first) x) (P.Inx.number second) y)) }
+        ensures history { Continues (λ _ _. ⊥) self.old [] self.new }
+    {
         let (i, j) = self.two_slots(first, second)?;
         let (Some(a), Some(b)) = (self.generation_at(first), self.generation_at(second)) else {
             return Err(GetDisjointMutError::IndexOutOfBounds);

@@ -1,6 +1,6 @@
 //! The place of a value that is not inserted yet.
 
-ghost use Rattle.std.specs.Prelude.{◌≡◌, IfOk};
+ghost use Rattle.std.specs.Prelude.{◌≡◌, ◌↔◌, IfOk, IsTrue};
 ghost use Rattle.std.specs.Borrow.{sem, Lends};
 ghost use Rattle.triple_arena_traits.specs.DirectInsertion.{IsVacant, DirectInsertAnswer};
 ghost use Rattle.triple_arena_direct_arena.specs.DirectState.{direct_capacity, inserted_at};
@@ -36,7 +36,12 @@ impl<'a, P: Ptr, T, S: NonZeroInxGenericStack<DirectSlot<P, T>>> ArenaDirectInse
     ghost has_place = { λ entry. IsVacant (direct_entry_arena entry).slots
         (direct_capacity (direct_entry_arena entry)) (P.numbers (direct_entry_pointer entry)).0 };
 
-    fn has_place(&self) -> bool {
+    // The trait's clause is written out, since inheriting it makes each call dearer to prove.
+    fn has_place(&self) -> bool
+        ensures { IsTrue result ↔ IsVacant (direct_entry_arena self.now).slots
+            (direct_capacity (direct_entry_arena self.now))
+            (P.numbers (direct_entry_pointer self.now)).0 }
+    {
         self.arena.can_direct_insert(self.p)
     }
 

@@ -1,7 +1,9 @@
 //! Direct arenas of pointers as recasters, and the items that a direct arena holds.
 
 ghost use Rattle.std.specs.Prelude.{◌≡◌};
+ghost use Rattle.triple_arena_base.specs.Held.{recast_items, recast_answer};
 ghost use Rattle.triple_arena_traits.specs.Entries.{look_up};
+ghost use Rattle.triple_arena_traits.specs.HeldSlots.{held_slots, refill_slots};
 
 use crate::direct_arena::DirectArena;
 use crate::slot::DirectSlot;
@@ -31,14 +33,23 @@ impl<P: Ptr, S: NonZeroInxGenericStack<DirectSlot<P, P>>> Recaster for DirectAre
 impl<I, P: Ptr, T: Recast<I>, S: NonZeroInxGenericStack<DirectSlot<P, T>>> Recast<I>
     for DirectArena<P, T, S> {
     ghost use Rattle.std.proofs.Common.{ap};
-    ghost use Rattle.triple_arena_traits.specs.HeldSlots.{held_slots, refill_slots, slots_held_refill, slots_refill_held, slots_refill_refill};
+    ghost use Rattle.triple_arena_traits.specs.HeldSlots.{slots_held_refill, slots_refill_held, slots_refill_refill};
 
     ghost held = { λ s. held_slots T.held T.refill s.slots };
 
     // nothing but the held items changes
     ghost refill = { λ s l. record s { slots = refill_slots T.held T.refill s.slots l } };
 
-    fn recast<R: Recaster<Item = I>>(&mut self, recaster: &R) -> Result<(), I> {
+    // The trait's clauses are written out, since inheriting them makes each call dearer to prove.
+    fn recast<R: Recaster<Item = I>>(&mut self, recaster: &R) -> Result<(), I>
+        ensures after { self.new ≡ record self.old {
+          slots = refill_slots T.held T.refill
+              self.old.slots (recast_items (R.image recaster.now)
+              (held_slots T.held T.refill self.old.slots));
+        } }
+        ensures answer { result ≡ recast_answer (R.image recaster.now)
+            (held_slots T.held T.refill self.old.slots) }
+    {
         recast_entries(self, recaster)
     }
 

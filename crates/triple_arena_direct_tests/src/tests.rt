@@ -1,7 +1,6 @@
 //! What no clause of these arenas says: that their calls succeed, also at large sizes, worked examples,
 //! texts, and loops.
 
-mod chains;
 mod compaction;
 mod direct;
 mod over_a_stack;

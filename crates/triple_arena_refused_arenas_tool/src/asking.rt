@@ -3,9 +3,10 @@
 use triple_arena::ArenaInsertTrait;
 use triple_arena_base::ReallocationError;
 use triple_arena_ptr::P0;
+use triple_arena_test_kit::inx;
 use triple_arena_trait_kit::refused::{End, Report};
 use triple_arena_trait_kit::{
-    Call, FreeList, State, TestedArena, Told, Wrong, follow, has_state, inx, is_told, step,
+    Call, FreeList, State, TestedArena, Told, Wrong, follow, has_state, is_told, step,
 };
 
 /// What a call tells that is refused memory.

@@ -8,10 +8,11 @@ use triple_arena_direct::{
     DirectArena, StrictArena, StrictCompactError, compress_recast, compress_recaster,
 };
 use triple_arena_ptr::{P0, Ptr};
+use triple_arena_test_kit::{index_number, pointer};
 use triple_arena_trait_kit::arena::state_of;
 use triple_arena_trait_kit::direct::direct_state_of;
 use triple_arena_trait_kit::refused::{End, Report};
-use triple_arena_trait_kit::{State, Told, Wrong, index_number, is_told, pointer};
+use triple_arena_trait_kit::{State, Told, Wrong, is_told};
 
 /// A number and a link.
 pub type Node = (u64, Option<P0>);

@@ -10,10 +10,11 @@ use triple_arena::{
 use triple_arena_base::{AllocError, CloneFromError, ReallocationError};
 use triple_arena_direct::DirectArena;
 use triple_arena_ptr::{P0, Ptr, PtrGen};
+use triple_arena_test_kit::{Numbered, inx, pointer};
 use triple_arena_trait_kit::arena::state_of;
 use triple_arena_trait_kit::direct::direct_state_of;
 use triple_arena_trait_kit::refused::{End, Report, ask};
-use triple_arena_trait_kit::{Numbered, SLOTS, State, Wrong, inx, pointer};
+use triple_arena_trait_kit::{SLOTS, State, Wrong};
 
 type Costlies = Arena<P0, Costly>;
 

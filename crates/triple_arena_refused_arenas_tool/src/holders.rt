@@ -14,9 +14,10 @@ use triple_arena_direct::{
     CompactBothError, StrictArena, StrictCompactError, compress_recast_both, compress_recast_with,
 };
 use triple_arena_ptr::{P0, Ptr, Q2};
+use triple_arena_test_kit::{index_number, pointer};
 use triple_arena_trait_kit::arena::state_of;
 use triple_arena_trait_kit::refused::{End, Report};
-use triple_arena_trait_kit::{Shown, State, Told, Wrong, index_number, pointer};
+use triple_arena_trait_kit::{Shown, State, Told, Wrong};
 
 // The number of which a pointer is shown: 100 times its index, and its generation.
 fn shown_pointer(index: usize, generation: u64) -> u64 {

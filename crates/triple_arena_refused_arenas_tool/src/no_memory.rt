@@ -15,15 +15,14 @@ use triple_arena_stack::{
     ArrayStack, FixedStack, HeapStack, LimitedStack, NonZeroInxArray, NonZeroInxBoxedSlice,
     NonZeroInxGenericStack, NonZeroInxStack, NonZeroInxVec, SetMaxCapacity,
 };
+use triple_arena_test_kit::{inx, pointer};
 use triple_arena_trait_kit::arena::{Fixed, Heap, Limited, Places, WithLimit, with_room};
 use triple_arena_trait_kit::direct::{
     Direct, DirectWithLimit, Fixed as DirectFixed, Heap as DirectHeap, InArray,
     Limited as DirectLimited, with_room as direct_with_room,
 };
 use triple_arena_trait_kit::refused::{End, Report};
-use triple_arena_trait_kit::{
-    Call, NOT_DRAINED, TestedArena, Token, Told, Wrong, follow, inx, is_told, pointer,
-};
+use triple_arena_trait_kit::{Call, NOT_DRAINED, TestedArena, Token, Told, Wrong, follow, is_told};
 
 // That this holds, at the row of a table.
 fn holds(row: usize, holds: bool) -> Result<(), Wrong> {

@@ -13,9 +13,10 @@ use triple_arena_session::{
 use triple_arena_stack::{
     NonZeroInxArray, NonZeroInxBoxedSlice, NonZeroInxGenericStack, NonZeroInxLimitedVec,
 };
+use triple_arena_test_kit::{index_number, inx};
 use triple_arena_trait_kit::arena::free_of;
 use triple_arena_trait_kit::refused::{End, Report};
-use triple_arena_trait_kit::{FreeList, SLOTS, Wrong, index_number, inx};
+use triple_arena_trait_kit::{FreeList, SLOTS, Wrong};
 
 pub type Slot = ArenaSlot<P0, Node<u64, P0>>;
 

@@ -1,4 +1,4 @@
-//! Tests of commands, replies, sessions and the program, by public calls alone.
+//! Tests of commands, replies, sessions, their users and the program, by public calls alone.
 #![tactic(auto)]
 
 #[cfg(test)]

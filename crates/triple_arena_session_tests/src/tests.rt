@@ -1,4 +1,5 @@
-//! What no clause of commands and sessions says.
+//! What no clause of commands, of sessions and of their users says.
 
 mod command_texts;
+mod session_users;
 mod sessions;

@@ -20,6 +20,11 @@ use Rattle.triple_arena_traits.specs.laws.LengthLaws.{live_slot}
 use Rattle.triple_arena_slots.proofs.Links.{free_at, left_linked}
 use Rattle.triple_arena_slots.proofs.Tidying.{vacant_within}
 
+-- one that left the end is one less, whatever is written to the others' links
+pub popped_length : {A B : Type 0} (f : A → B) (new mid old : List A) → map f new ≡ map f mid → mid ≡ take (length old - 1) old → 0 < length old → length new + 1 ≡ length old
+popped_length f new mid old same popped some =
+    omega (arith, ap length same, length-map new f, length-map mid f, ap length popped, length-take-le (length old - 1) old (omega arith), some)
+
 -- of the indexes up to a number those up to a lower one are left
 up_to-less : (n m : ℕ) (xs : List ℕ) → n ≤ m → up_to n (up_to m xs) ≡ up_to n xs
 up_to-less n m [] h = refl

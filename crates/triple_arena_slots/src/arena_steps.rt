@@ -296,9 +296,7 @@ impl<P: Ptr, T, S: NonZeroInxGenericStack<ArenaSlot<P, T>>> Slots<P, T, S> {
             + (touch_if (option_map non_zero_usize_get previous)
             + touch_if (option_map non_zero_usize_get next)) }
     {
-        if previous.is_none() {
-            self.root = next;
-        }
+        self.root = if previous.is_none() { next } else { self.root };
         self.link_on(previous, next);
         self.link_back(next, previous);
     }

@@ -4,11 +4,14 @@
 
 mod calls;
 mod copies;
+mod direct_calls;
 mod drops;
 mod entries;
 mod generic_callers;
 mod little_memory;
 mod loops;
+mod numbers;
 mod pointer_types;
 mod sizes;
 mod texts;
+mod transfers;

@@ -1,7 +1,6 @@
 //! What calls answer of any arena that has the traits.
 
 use crate::call::{Call, Kind};
-use crate::numbered::Numbered;
 use crate::seen::answer_to_read;
 use crate::token::Token;
 use crate::told::{
@@ -10,6 +9,7 @@ use crate::told::{
 };
 use crate::{pair_calls, walk_calls};
 use triple_arena_ptr::Ptr;
+use triple_arena_test_kit::Numbered;
 use triple_arena_traits::{
     ArenaInsertTrait, ArenaTrait, CompactArenaTrait, DisjointableArenaTrait,
 };

@@ -1,7 +1,7 @@
 //! Calls of an arena as values, so that a test is a table of calls and their answers.
 
-use crate::numbered::{Numbered, named_index, pointer};
 use triple_arena_ptr::Ptr;
+use triple_arena_test_kit::{Numbered, named_index, pointer};
 
 /// A call. A pointer is given by the numbers of its index and its generation, a new value by its
 /// number.

@@ -5,12 +5,12 @@ ghost use Rattle.std.specs.Prelude.{◌≡◌, ℕ, Some, OnOk, OnErr};
 ghost use Rattle.triple_arena_traits.specs.Entries.{entry_in, look_up};
 ghost use Rattle.triple_arena_traits.specs.DisjointEntries.{DisjointPtrAnswer, DisjointInxAnswer};
 
-use crate::numbered::Numbered;
 use crate::token::Token;
 use crate::told::{Told, told_exchanged, told_lent};
 use std::mem;
 use triple_arena_base::GetDisjointMutError;
 use triple_arena_ptr::{Ptr, PtrGen, PtrInx};
+use triple_arena_test_kit::Numbered;
 use triple_arena_traits::DisjointableArenaTrait;
 
 // Exchanges the values under two pointers of any arena.

@@ -1,10 +1,10 @@
 //! What the calls answer that read an arena.
 
 use crate::call::Call;
-use crate::numbered::Numbered;
 use crate::token::Token;
 use crate::told::{Told, told_found, told_held, told_value};
 use triple_arena_ptr::Ptr;
+use triple_arena_test_kit::Numbered;
 use triple_arena_traits::ArenaTrait;
 
 // What each call answers that reads an arena, at one pointer. They are made at once: one body without

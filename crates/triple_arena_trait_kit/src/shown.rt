@@ -1,8 +1,8 @@
 //! Values of which a table tells a number.
 
-use crate::numbered::{Numbered, numbers_of};
 use crate::token::Token;
 use triple_arena_ptr::Ptr;
+use triple_arena_test_kit::{Numbered, numbers_of};
 
 /// A value of which a table tells a number.
 pub trait Shown {

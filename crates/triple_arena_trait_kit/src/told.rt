@@ -1,12 +1,12 @@
 //! What a call answers, by numbers.
 
-use crate::numbered::{Numbered, numbers_of};
 use crate::token::Token;
 use triple_arena_base::{
     DirectInsertionError, GetDisjointMutError, InvalidationOption, InvalidationResult,
     NotWithinCapacityError, ReallocationError,
 };
 use triple_arena_ptr::Ptr;
+use triple_arena_test_kit::{Numbered, numbers_of};
 
 /// What stands for a pointer where a walk met none.
 pub const NO_POINTER: (usize, u64) = (0, 0);

@@ -1,11 +1,11 @@
 //! Walks over any arena that has them, and what they met.
 
 use crate::call::Call;
-use crate::numbered::{Numbered, index_number, numbers_of};
 use crate::token::Token;
 use crate::told::{NO_ENTRY, NO_POINTER, NO_VALUE, NOT_DRAINED, Told, told_raise};
 use triple_arena_base::{Advancer, InvalidationOption};
 use triple_arena_ptr::Ptr;
+use triple_arena_test_kit::{Numbered, index_number, numbers_of};
 use triple_arena_traits::CompactArenaTrait;
 
 // The index and the generation of a pointer, if there is one.

@@ -18,7 +18,10 @@ impl<'a, P: Ptr, T, S: NonZeroInxGenericStack<ArenaSlot<P, T>>> IntoIterator
 
     ghost into_iter_gives = { λ arena iter. iter ≡ entries arena.now.slots };
 
-    fn into_iter(self) -> Iter<'a, P, T, Arena<P, T, S>> {
+    // The trait's clause is written out, since inheriting it makes each call dearer to prove.
+    fn into_iter(self) -> Iter<'a, P, T, Arena<P, T, S>>
+        ensures { result ≡ entries self.now.slots }
+    {
         self.iter()
     }
 }

@@ -1,5 +1,6 @@
 //! Steps of an advancer over an arena.
 
+ghost use Rattle.std.specs.Prelude.{◌<◌, IsSome};
 ghost use Rattle.std.specs.Option.{option_map};
 ghost use Rattle.triple_arena_ptr.specs.Numbers.{greatest_index};
 ghost use Rattle.triple_arena_traits.specs.Walks.{steps_left, Steps};
@@ -22,8 +23,15 @@ impl<P: Ptr, T, S: NonZeroInxGenericStack<ArenaSlot<P, T>>> Advancer<Arena<P, T,
     ghost left = { λ s _. steps_left (greatest_index P.Inx.greatest) s };
 
     #[tactic(auto, using(triple_arena_traits::specs::laws::WalkLaws::fewer_left))]
+    // The trait's clauses are written out, since inheriting them makes each call dearer to prove.
     #[inline(always)]
-    fn advance(&mut self, arena: &Arena<P, T, S>) -> Option<P> {
+    fn advance(&mut self, arena: &Arena<P, T, S>) -> Option<P>
+        ensures steps { Steps (greatest_index P.Inx.greatest) arena.now.slots self.old
+            (option_map P.numbers result) self.new }
+        ensures fewer { IsSome result
+            → steps_left (greatest_index P.Inx.greatest) self.new
+            < steps_left (greatest_index P.Inx.greatest) self.old }
+    {
         // By its clauses, no slot is past the greatest index.
         let _capacity = arena.capacity();
         self.step::<T, ArenaSlot<P, T>, S>(arena.slots.stack())

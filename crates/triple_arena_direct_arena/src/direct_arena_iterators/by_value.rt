@@ -21,7 +21,10 @@ impl<P: Ptr, T: Drop> IntoIterator for DirectArena<P, T, NonZeroInxVec<DirectSlo
 
     ghost into_iter_gives = { λ arena drain. drain ≡ entries arena.slots };
 
-    fn into_iter(self) -> Entries<P, T, NonZeroInxVec<DirectSlot<P, T>>> {
+    // The trait's clause is written out, since inheriting it makes each call dearer to prove.
+    fn into_iter(self) -> Entries<P, T, NonZeroInxVec<DirectSlot<P, T>>>
+        ensures { result ≡ entries self.slots }
+    {
         CapacityDrain::over(self)
     }
 }
@@ -33,7 +36,9 @@ impl<P: Ptr, T: Drop> IntoIterator for DirectArena<P, T, NonZeroInxLimitedVec<Di
 
     ghost into_iter_gives = { λ arena drain. drain ≡ entries arena.slots };
 
-    fn into_iter(self) -> Entries<P, T, NonZeroInxLimitedVec<DirectSlot<P, T>>> {
+    fn into_iter(self) -> Entries<P, T, NonZeroInxLimitedVec<DirectSlot<P, T>>>
+        ensures { result ≡ entries self.slots }
+    {
         CapacityDrain::over(self)
     }
 }
@@ -45,7 +50,9 @@ impl<P: Ptr, T: Drop> IntoIterator for DirectArena<P, T, NonZeroInxBoxedSlice<Di
 
     ghost into_iter_gives = { λ arena drain. drain ≡ entries arena.slots };
 
-    fn into_iter(self) -> Entries<P, T, NonZeroInxBoxedSlice<DirectSlot<P, T>>> {
+    fn into_iter(self) -> Entries<P, T, NonZeroInxBoxedSlice<DirectSlot<P, T>>>
+        ensures { result ≡ entries self.slots }
+    {
         CapacityDrain::over(self)
     }
 }
@@ -58,7 +65,9 @@ impl<P: Ptr, T: Drop, const LIMIT: usize> IntoIterator
 
     ghost into_iter_gives = { λ arena drain. drain ≡ entries arena.slots };
 
-    fn into_iter(self) -> Entries<P, T, NonZeroInxArray<DirectSlot<P, T>, LIMIT>> {
+    fn into_iter(self) -> Entries<P, T, NonZeroInxArray<DirectSlot<P, T>, LIMIT>>
+        ensures { result ≡ entries self.slots }
+    {
         CapacityDrain::over(self)
     }
 }

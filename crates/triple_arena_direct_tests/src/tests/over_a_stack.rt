@@ -6,7 +6,7 @@ use triple_arena::{ArenaDirectInsertEntryTrait, ArenaDirectInsertTrait, ArenaSlo
 use triple_arena_direct::{DirectArena, DirectSlot, StrictArena};
 use triple_arena_ptr::P0;
 use triple_arena_stack::{NonZeroInxGenericStack, NonZeroInxLimitedVec, NonZeroInxVec};
-use triple_arena_trait_kit::pointer;
+use triple_arena_test_kit::pointer;
 
 type Places = NonZeroInxLimitedVec<DirectSlot<P0, u64>>;
 

@@ -7,7 +7,7 @@ use std::test::Fail;
 use triple_arena_base::CompactError;
 use triple_arena_direct::{CompactBothError, StrictArena, StrictCompactError, StrictError};
 use triple_arena_ptr::{P0, P4, Ptr};
-use triple_arena_trait_kit::{B, is_shown, pointer};
+use triple_arena_test_kit::{B, is_shown, pointer};
 
 // A number, and a link.
 type Node = (u64, Option<B>);
@@ -40,7 +40,7 @@ fn nothing_ends_at_the_end_of_the_counter(rt: HostRuntime) -> Result<(), Fail> {
     nodes.insert((2, Some(p)))?;
     nodes.insert_within_capacity((3, None))?;
     let text = "{B[1](ff): (1, None), B[2](ff): (2, Some(B[1](ff))), B[3](ff): (3, None)}";
-    is_shown(rt.alloc(), &nodes, text)
+    Ok(is_shown(rt.alloc(), &nodes, text)?)
 }
 
 #[test]
@@ -88,7 +88,7 @@ fn links_follow_a_compaction(rt: HostRuntime) -> Result<(), Fail> {
     let map = nodes.compress_recast(rt.alloc());
     is_shown(rt.alloc(), &map, "Ok({B[2](2): B[1](4), B[3](2): B[2](4)})")?;
     let text = "{B[1](4): (2, None), B[2](4): (3, Some(B[1](4)))}";
-    is_shown(rt.alloc(), nodes.arena(), text)
+    Ok(is_shown(rt.alloc(), nodes.arena(), text)?)
 }
 
 #[test]

@@ -8,9 +8,11 @@ use std::fmt;
 use std::num::NonZeroUsize;
 use triple_arena_base::{
     Advancer, AllocError, ChainInsertionError, CloneFromError, CompactError, DirectInsertionError,
-    GetDisjointMutError, InvalidationResult, MaxCapacityReductionError, NonZeroUsizeIterator,
-    NotWithinCapacityError, OrdInsertionError, ReallocationError, nzusize_iter,
+    GetDisjointMutError, InvalidationOption, InvalidationResult, MaxCapacityReductionError,
+    NonZeroUsizeIterator, NotWithinCapacityError, OrdInsertionError, ReallocationError,
+    nzusize_iter,
 };
+use triple_arena_test_kit::{is, is_shown};
 
 /// Whether Display writes this text.
 pub fn displays<T: fmt::Display>(alloc: Global, value: &T, text: &str) -> bool {
@@ -58,11 +60,14 @@ const OF_TWO_PLACES: &[(GetDisjointMutError, &str)] = &[
 #[test]
 fn refusals_of_stacks_have_their_texts(rt: HostRuntime) {
     let alloc = rt.alloc();
-    assert!(rt; displays(alloc, &AllocError, "memory allocation failed"));
-    assert!(rt; displays(alloc, &MaxCapacityReductionError, NO_LOWER_LIMIT));
-    assert!(rt; displays(alloc, &NotWithinCapacityError, NO_PLACE));
-    assert!(rt; display(alloc, OF_GROWTH));
-    assert!(rt; display(alloc, OF_TWO_PLACES));
+    let no_memory = displays(alloc, &AllocError, "memory allocation failed");
+    is(no_memory, true).expect(&rt, "the text of AllocError");
+    let no_lower = displays(alloc, &MaxCapacityReductionError, NO_LOWER_LIMIT);
+    is(no_lower, true).expect(&rt, "the text of MaxCapacityReductionError");
+    let no_place = displays(alloc, &NotWithinCapacityError, NO_PLACE);
+    is(no_place, true).expect(&rt, "the text of NotWithinCapacityError");
+    is(display(alloc, OF_GROWTH), true).expect(&rt, "the texts of ReallocationError");
+    is(display(alloc, OF_TWO_PLACES), true).expect(&rt, "the texts of GetDisjointMutError");
 }
 
 const AT_AN_INDEX: &[(DirectInsertionError, &str)] = &[
@@ -118,32 +123,35 @@ const OF_COMPACTION: &[(CompactError<u8>, &str)] = &[
 #[test]
 fn refusals_of_arenas_have_their_texts(rt: HostRuntime) {
     let alloc = rt.alloc();
-    assert!(rt; display(alloc, AT_AN_INDEX));
-    assert!(rt; display(alloc, INTO_A_CHAIN));
-    assert!(rt; display(alloc, IN_ORDER));
-    assert!(rt; display(alloc, OF_CLONING));
-    assert!(rt; display(alloc, OF_COMPACTION));
-}
-
-/// Whether Debug writes this text.
-pub fn debugs<T: fmt::Debug>(alloc: Global, value: &T, text: &str) -> bool {
-    match format!(in alloc; "{value:?}") {
-        Ok(written) => written.as_str() == text,
-        Err(_) => false,
-    }
+    is(display(alloc, AT_AN_INDEX), true).expect(&rt, "the texts of DirectInsertionError");
+    is(display(alloc, INTO_A_CHAIN), true).expect(&rt, "the texts of ChainInsertionError");
+    is(display(alloc, IN_ORDER), true).expect(&rt, "the texts of OrdInsertionError");
+    is(display(alloc, OF_CLONING), true).expect(&rt, "the texts of CloneFromError");
+    is(display(alloc, OF_COMPACTION), true).expect(&rt, "the texts of CompactError");
 }
 
 #[test]
 fn refusals_and_answers_are_written_by_their_names(rt: HostRuntime) {
     let alloc = rt.alloc();
-    assert!(rt; debugs(alloc, &AllocError, "AllocError"));
+    is_shown(alloc, &AllocError, "AllocError").expect(&rt, "AllocError");
     let beyond = ReallocationError::BeyondMaxCapacity;
-    assert!(rt; debugs(alloc, &beyond, "BeyondMaxCapacity"));
-    assert!(rt; debugs(alloc, &CompactError::Unresolved(3u8), "Unresolved(3)"));
+    is_shown(alloc, &beyond, "BeyondMaxCapacity").expect(&rt, "ReallocationError");
+    let unresolved = CompactError::Unresolved(3u8);
+    is_shown(alloc, &unresolved, "Unresolved(3)").expect(&rt, "CompactError");
     let overflow = InvalidationResult::GenerationOverflow(3u8);
-    assert!(rt; debugs(alloc, &overflow, "GenerationOverflow(3)"));
+    is_shown(alloc, &overflow, "GenerationOverflow(3)").expect(&rt, "an overflow");
     let invalid = InvalidationResult::<u8>::InvalidPtr;
-    assert!(rt; debugs(alloc, &invalid, "InvalidPtr"));
+    is_shown(alloc, &invalid, "InvalidPtr").expect(&rt, "an invalid pointer");
+}
+
+#[test]
+fn an_overflow_is_told(rt: HostRuntime) {
+    let done = InvalidationOption::GenerationOverflow(3u8);
+    is(done.is_overflow(), true).expect(&rt, "of a call that is always done");
+    let done = InvalidationResult::GenerationOverflow(3u8);
+    is(done.is_overflow(), true).expect(&rt, "of a call on a pointer");
+    let invalid = InvalidationResult::<u8>::InvalidPtr;
+    is(invalid.is_overflow(), false).expect(&rt, "of a call on an invalid pointer");
 }
 
 // The range between two numbers; an end of 0 is none.
@@ -162,9 +170,10 @@ fn last(numbers: &mut NonZeroUsizeIterator) -> usize {
 
 #[test]
 fn ranges_from_either_end(rt: HostRuntime) {
-    assert!(rt; range(3, 2).next().is_none());
+    is(range(3, 2).next(), None).expect(&rt, "an empty range");
     let mut greatest = range(usize::MAX, usize::MAX);
-    assert!(rt; greatest.next() == Some(NonZeroUsize::MAX) && greatest.next().is_none());
+    is(greatest.next(), Some(NonZeroUsize::MAX)).expect(&rt, "the greatest number");
+    is(greatest.next(), None).expect(&rt, "what follows it");
     let mut numbers = range(2, 4);
     let taken = [
         last(&mut numbers),
@@ -172,7 +181,7 @@ fn ranges_from_either_end(rt: HostRuntime) {
         last(&mut numbers),
         last(&mut numbers),
     ];
-    assert!(rt; taken == [4, 3, 2, 0]);
+    is(taken, [4, 3, 2, 0]).expect(&rt, "numbers from the back");
 }
 
 /// The numbers from a place on that are below the number walked over.
@@ -224,7 +233,7 @@ fn an_advancer_ends(rt: HostRuntime) {
         place: 2,
         over: false,
     };
-    assert!(rt; steps(from_two, &5) == 3);
+    is(steps(from_two, &5), 3).expect(&rt, "numbers from 2 to 4");
     let nowhere: Below = Advancer::<u64>::empty();
-    assert!(rt; steps(nowhere, &5) == 0);
+    is(steps(nowhere, &5), 0).expect(&rt, "numbers from nowhere");
 }

@@ -3,10 +3,10 @@
 
 mod calls;
 mod client;
-mod client_calls;
 mod drops;
 mod entries;
+mod items;
 mod memory;
-mod numbers;
 mod rows;
 mod sizes;
+mod tables;

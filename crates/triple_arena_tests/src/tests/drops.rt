@@ -2,23 +2,24 @@
 
 ghost use Rattle.std.specs.Prelude.{◌≡◌, ⊤};
 
+use crate::tests::direct_calls::DirectCalls;
+use crate::tests::entries::WithEntries;
+use crate::tests::transfers::TakesOver;
 use std::alloc::{AllocError, Global};
 use std::cell::Cell;
 use std::marker::Model;
 use std::process::Abort;
 use std::rc::Rc;
-use std::test::Fail;
 use triple_arena::{
-    Arena, ArenaCloneFromWith, ArenaDirectInsertEntryTrait, ArenaDirectInsertTrait,
-    ArenaInsertEntryTrait, ArenaInsertTrait, ArenaSlot, ArenaTrait, CompactArenaTrait,
+    Arena, ArenaCloneFromWith, ArenaDirectInsertTrait, ArenaInsertTrait, ArenaSlot, ArenaTrait,
+    CompactArenaTrait,
 };
 use triple_arena_direct_arena::{DirectArena, DirectSlot};
 use triple_arena_ptr::{P0, Ptr, PtrGen};
 use triple_arena_stack::{
-    NonZeroInxArray, NonZeroInxBoxedSlice, NonZeroInxGenericStack, NonZeroInxLimitedVec,
-    NonZeroInxVec,
+    NonZeroInxArray, NonZeroInxBoxedSlice, NonZeroInxLimitedVec, NonZeroInxVec,
 };
-use triple_arena_trait_kit::{inx, pointer};
+use triple_arena_test_kit::{inx, is, pointer};
 
 // How many values there are.
 type Live = Rc<Cell<u64>>;
@@ -56,7 +57,14 @@ impl Clone for Value {
     }
 }
 
+type OverStack<S> = Arena<P0, Value, S>;
+
 type Slot = ArenaSlot<P0, Value>;
+
+// No value, which is counted.
+fn no_values(rt: &impl Abort, alloc: Global) -> Live {
+    Rc::new(alloc, Cell::new(0)).expect(rt, "memory")
+}
 
 // A new value, which is counted.
 fn new_value(live: &Live) -> Value {
@@ -76,121 +84,96 @@ fn takes_one<A: CompactArenaTrait<P0, Value>>(arena: &mut A, live: &Live) -> boo
     is_held && live.get() == before.wrapping_sub(1)
 }
 
-// Each call that ends or replaces a value, of an arena with values at its first four indexes under the
-// generation 2, which is without values then.
-fn each_ending<A: CompactArenaTrait<P0, Value>>(
-    rt: &impl Abort,
-    alloc: Global,
-    arena: &mut A,
-    live: &Live,
-) -> Result<(), Fail> {
-    assert!(rt; live.get() == 4 && arena.len() == 4);
-    match arena.get_mut(pointer(1, 2)) {
-        Some(held) => *held = new_value(live),
-        None => assert!(rt; false),
-    }
-    assert!(rt; arena.remove(pointer(1, 1)).is_invalid());
-    arena.reallocate_min_capacity(4)?;
-    assert_eq!(rt; live.get(), 4);
-    // a value that is taken out isn't dropped before
-    let taken = arena.remove(pointer(3, 2));
-    assert!(rt; taken.is_success() && live.get() == 4);
-    drop(taken);
-    drop(arena.remove_inx(inx(4)));
-    assert!(rt; arena.invalidate(pointer(2, 2)).is_success());
-    assert_eq!(rt; live.get(), 2);
-    drop(arena.compress(false));
-    assert_eq!(rt; live.get(), 2);
-    assert!(rt; takes_one(arena, live));
-    assert_eq!(rt; live.get(), 0);
-    Ok(())
-}
-
-// Inserts by an entry, and writes another value over it: whether there was an entry.
-fn writes_over_entry<T: Drop, S: NonZeroInxGenericStack<ArenaSlot<P0, T>>>(
-    arena: &mut Arena<P0, T, S>,
-    first: T,
-    second: T,
-) -> bool {
-    match arena.entry_insert() {
-        Ok(entry) => {
-            *entry.insert(first) = second;
+// Writes another value over that under a pointer: whether there is one.
+fn writes_over<A: CompactArenaTrait<P0, Value>>(arena: &mut A, p: P0, value: Value) -> bool {
+    match arena.get_mut(p) {
+        Some(held) => {
+            *held = value;
             true
         }
-        Err(_) => false,
+        None => false,
     }
+}
+
+// Each call that ends or replaces a value, of an arena with values at its first four indexes under the
+// generation 2, which is without values then.
+fn each_ending<A: CompactArenaTrait<P0, Value>>(rt: &impl Abort, arena: &mut A, live: &Live) {
+    is(live.get(), 4).expect(rt, "the count");
+    is(arena.len(), 4).expect(rt, "the length");
+    let is_written = writes_over(arena, pointer(1, 2), new_value(live));
+    is(is_written, true).expect(rt, "whether the first is there");
+    is(arena.remove(pointer(1, 1)).is_invalid(), true).expect(rt, "whether a pointer is refused");
+    arena.reallocate_min_capacity(4).expect(rt, "memory");
+    is(live.get(), 4).expect(rt, "the count");
+    // a value that is taken out isn't dropped before
+    let taken = arena.remove(pointer(3, 2));
+    is(taken.is_success(), true).expect(rt, "whether the third is taken");
+    is(live.get(), 4).expect(rt, "the count");
+    drop(taken);
+    drop(arena.remove_inx(inx(4)));
+    let renewed = arena.invalidate(pointer(2, 2));
+    is(renewed.is_success(), true).expect(rt, "whether the second is there");
+    is(live.get(), 2).expect(rt, "the count");
+    drop(arena.compress(false));
+    is(live.get(), 2).expect(rt, "the count");
+    is(takes_one(arena, live), true).expect(rt, "whether what is held stays");
+    is(live.get(), 0).expect(rt, "the count");
 }
 
 // Each insertion into a new arena of four places, the endings, and values that are cleared and dropped.
-fn each_drop<S: NonZeroInxGenericStack<Slot> + Drop>(
-    rt: &impl Abort,
-    alloc: Global,
-    live: &Live,
-) -> Result<(), Fail> {
-    let mut arena: Arena<P0, Value, S> = Arena::with_min_capacity(alloc, 4)?;
-    arena.insert(new_value(live))?;
-    arena.insert_reallocating(new_value(live))?;
-    assert!(rt; arena.insert_within_capacity(new_value(live)).is_ok());
-    assert!(rt; arena.entry_insert().is_ok());
-    assert!(rt; writes_over_entry(&mut arena, new_value(live), new_value(live)));
+fn each_drop<
+    A: ArenaInsertTrait<P0, Value> + CompactArenaTrait<P0, Value> + WithEntries<P0, Value> + Drop,
+>(rt: &impl Abort, alloc: Global, live: &Live) {
+    let mut arena = A::with_min_capacity(alloc, 4).expect(rt, "memory");
+    arena.insert(new_value(live)).expect(rt, "a place");
+    arena
+        .insert_reallocating(new_value(live))
+        .expect(rt, "a place");
+    arena
+        .insert_within_capacity(new_value(live))
+        .expect(rt, "a place");
+    arena.entry_pointer().expect(rt, "a place");
+    arena
+        .enter(new_value(live), new_value(live))
+        .expect(rt, "a place");
     // a value that the capacity refuses
-    assert!(rt; arena.insert_within_capacity(new_value(live)).is_err());
-    each_ending(rt, alloc, &mut arena, live)?;
-    arena.insert(new_value(live))?;
+    let refused = arena.insert_within_capacity(new_value(live));
+    is(refused.is_err(), true).expect(rt, "the refusal");
+    each_ending(rt, &mut arena, live);
+    arena.insert(new_value(live)).expect(rt, "a place");
     drop(arena.clear());
-    assert_eq!(rt; live.get(), 0);
-    arena.insert(new_value(live))?;
+    is(live.get(), 0).expect(rt, "the count");
+    arena.insert(new_value(live)).expect(rt, "a place");
     drop(arena);
-    assert_eq!(rt; live.get(), 0);
-    Ok(())
+    is(live.get(), 0).expect(rt, "the count");
 }
 
 #[test]
-fn each_value_of_an_arena_is_dropped_once(rt: HostRuntime) -> Result<(), Fail> {
-    let (alloc, live) = (rt.alloc(), Rc::new(rt.alloc(), Cell::new(0))?);
-    each_drop::<NonZeroInxVec<Slot>>(&rt, alloc, &live)?;
-    each_drop::<NonZeroInxLimitedVec<Slot>>(&rt, alloc, &live)?;
-    each_drop::<NonZeroInxBoxedSlice<Slot>>(&rt, alloc, &live)?;
-    each_drop::<NonZeroInxArray<Slot, 4>>(&rt, alloc, &live)
+fn each_value_of_an_arena_is_dropped_once(rt: HostRuntime) {
+    let (alloc, live) = (rt.alloc(), no_values(&rt, rt.alloc()));
+    each_drop::<OverStack<NonZeroInxVec<Slot>>>(&rt, alloc, &live);
+    each_drop::<OverStack<NonZeroInxLimitedVec<Slot>>>(&rt, alloc, &live);
+    each_drop::<OverStack<NonZeroInxBoxedSlice<Slot>>>(&rt, alloc, &live);
+    each_drop::<OverStack<NonZeroInxArray<Slot, 4>>>(&rt, alloc, &live);
 }
 
 // Each insertion into a full arena that has no way to grow.
+fn is_refused_growth<A: ArenaInsertTrait<P0, Value>>(rt: &impl Abort, arena: &mut A, live: &Live) {
+    is(arena.insert(new_value(live)).is_err(), true).expect(rt, "the refusal");
+    is(live.get(), 0).expect(rt, "the count");
+    is(arena.insert_reallocating(new_value(live)).is_err(), true).expect(rt, "the refusal");
+    is(live.get(), 0).expect(rt, "the count");
+}
+
 #[test]
-fn a_value_that_growth_refuses_is_dropped_once(rt: HostRuntime) -> Result<(), Fail> {
-    let (alloc, live) = (rt.alloc(), Rc::new(rt.alloc(), Cell::new(0))?);
-    let mut arena: Arena<P0, Value, NonZeroInxLimitedVec<Slot>> = Arena::new(alloc);
-    assert!(rt; arena.insert(new_value(&live)).is_err() && live.get() == 0);
-    assert!(rt; arena.insert_reallocating(new_value(&live)).is_err() && live.get() == 0);
-    Ok(())
+fn a_value_that_growth_refuses_is_dropped_once(rt: HostRuntime) {
+    let live = no_values(&rt, rt.alloc());
+    let mut arena: OverStack<NonZeroInxLimitedVec<Slot>> = Arena::new(rt.alloc());
+    is_refused_growth(&rt, &mut arena, &live);
 }
 
-// Inserts by the entry under a pointer of the generation 2, and writes another value over it, if there is
-// one: whether there was an entry.
-fn is_placed<T: Drop, S: NonZeroInxGenericStack<DirectSlot<P0, T>>>(
-    arena: &mut DirectArena<P0, T, S>,
-    index: usize,
-    first: T,
-    second: Option<T>,
-) -> bool {
-    match arena.direct_insert_within_capacity(pointer(index, 2)) {
-        Ok(entry) => {
-            let held = entry.insert(first);
-            if let Some(second) = second {
-                *held = second;
-            }
-            true
-        }
-        Err(_) => false,
-    }
-}
-
-// Inserts under a pointer of the generation 2, if there is a place: whether there was.
-fn is_put<T: Drop, A: ArenaDirectInsertTrait<P0, T>>(
-    arena: &mut A,
-    index: usize,
-    value: T,
-) -> bool {
-    let p = pointer(index, 2);
+// Inserts under a pointer, if there is a place: whether there was.
+fn is_put<T: Drop, A: ArenaDirectInsertTrait<P0, T>>(arena: &mut A, p: P0, value: T) -> bool {
     if !arena.can_direct_insert(p) {
         return false;
     }
@@ -198,36 +181,49 @@ fn is_put<T: Drop, A: ArenaDirectInsertTrait<P0, T>>(
     true
 }
 
-// So of a direct arena.
-fn each_direct_drop<S: NonZeroInxGenericStack<DirectSlot<P0, Value>> + Drop>(
+// Each insertion into a new direct arena of four places.
+fn each_direct_insertion<A: ArenaDirectInsertTrait<P0, Value> + DirectCalls<P0, Value>>(
     rt: &impl Abort,
-    alloc: Global,
+    arena: &mut A,
     live: &Live,
-) -> Result<(), Fail> {
-    let mut arena: DirectArena<P0, Value, S> = DirectArena::with_min_capacity(alloc, 4)?;
-    assert!(rt; is_placed(&mut arena, 4, new_value(live), None));
-    assert!(rt; is_placed(&mut arena, 1, new_value(live), Some(new_value(live))));
-    assert!(rt; arena.direct_insert_within_capacity(pointer(2, 2)).is_ok());
-    assert!(rt; is_put(&mut arena, 2, new_value(live)));
-    assert!(rt; is_put(&mut arena, 3, new_value(live)));
-    each_ending(rt, alloc, &mut arena, live)?;
-    assert!(rt; is_placed(&mut arena, 4, new_value(live), None));
-    assert!(rt; is_placed(&mut arena, 2, new_value(live), None));
-    drop(arena.remove(pointer(4, 2)));
-    assert!(rt; arena.pop_free_end_slots(2) == 2 && live.get() == 1);
-    drop(arena.clear());
-    assert_eq!(rt; live.get(), 0);
-    assert!(rt; is_placed(&mut arena, 3, new_value(live), None));
-    drop(arena);
-    assert_eq!(rt; live.get(), 0);
-    Ok(())
+) {
+    let (first, second) = (new_value(live), Some(new_value(live)));
+    is(arena.is_placed(pointer(4, 2), new_value(live), None), true).expect(rt, "the fourth place");
+    is(arena.is_placed(pointer(1, 2), first, second), true).expect(rt, "the first place");
+    is(arena.is_entered(pointer(2, 2)), true).expect(rt, "an entry");
+    is(is_put(arena, pointer(2, 2), new_value(live)), true).expect(rt, "the second place");
+    is(is_put(arena, pointer(3, 2), new_value(live)), true).expect(rt, "the third place");
 }
 
+// Those insertions, the endings, and values that are cleared and dropped.
+fn each_direct_drop<
+    A: ArenaDirectInsertTrait<P0, Value>
+        + CompactArenaTrait<P0, Value>
+        + DirectCalls<P0, Value>
+        + Drop,
+>(rt: &impl Abort, alloc: Global, live: &Live) {
+    let mut arena = A::with_min_capacity(alloc, 4).expect(rt, "memory");
+    each_direct_insertion(rt, &mut arena, live);
+    each_ending(rt, &mut arena, live);
+    is(arena.is_placed(pointer(4, 2), new_value(live), None), true).expect(rt, "the fourth place");
+    is(arena.is_placed(pointer(2, 2), new_value(live), None), true).expect(rt, "the second place");
+    drop(arena.remove(pointer(4, 2)));
+    is(arena.pop_free(2), 2).expect(rt, "how many free slots are at the end");
+    is(live.get(), 1).expect(rt, "the count");
+    drop(arena.clear());
+    is(live.get(), 0).expect(rt, "the count");
+    is(arena.is_placed(pointer(3, 2), new_value(live), None), true).expect(rt, "the third place");
+    drop(arena);
+    is(live.get(), 0).expect(rt, "the count");
+}
+
+type OverDirect<S> = DirectArena<P0, Value, S>;
+
 #[test]
-fn each_value_of_a_direct_arena_is_dropped_once(rt: HostRuntime) -> Result<(), Fail> {
-    let (alloc, live) = (rt.alloc(), Rc::new(rt.alloc(), Cell::new(0))?);
-    each_direct_drop::<NonZeroInxVec<DirectSlot<P0, Value>>>(&rt, alloc, &live)?;
-    each_direct_drop::<NonZeroInxArray<DirectSlot<P0, Value>, 4>>(&rt, alloc, &live)
+fn each_value_of_a_direct_arena_is_dropped_once(rt: HostRuntime) {
+    let (alloc, live) = (rt.alloc(), no_values(&rt, rt.alloc()));
+    each_direct_drop::<OverDirect<NonZeroInxVec<DirectSlot<P0, Value>>>>(&rt, alloc, &live);
+    each_direct_drop::<OverDirect<NonZeroInxArray<DirectSlot<P0, Value>, 4>>>(&rt, alloc, &live);
 }
 
 // Clones by a closure that refuses the second value: whether none was refused. It is of any values: a
@@ -257,60 +253,72 @@ fn each_clone<A: ArenaCloneFromWith<P0, Value> + CompactArenaTrait<P0, Value> + 
     target: &mut A,
     live: &Live,
 ) {
-    assert!(rt; live.get() == 3 && target.len() == 1);
-    assert!(rt; target.clone_from(source).is_ok() && live.get() == 4);
-    let is_cloned = clones_but_second(target, source);
-    assert!(rt; !is_cloned && target.len() == 1 && live.get() == 3);
-    let copy = source.clone(alloc);
-    assert!(rt; copy.is_ok() && live.get() == 5);
+    is(live.get(), 3).expect(rt, "the count");
+    is(target.len(), 1).expect(rt, "the length");
+    target.clone_from(source).expect(rt, "memory");
+    is(live.get(), 4).expect(rt, "the count");
+    is(clones_but_second(target, source), false).expect(rt, "whether none was refused");
+    is(target.len(), 1).expect(rt, "the length");
+    is(live.get(), 3).expect(rt, "the count");
+    let copy = source.clone(alloc).expect(rt, "memory");
+    is(live.get(), 5).expect(rt, "the count");
     drop(copy);
-    assert_eq!(rt; live.get(), 3);
+    is(live.get(), 3).expect(rt, "the count");
 }
 
-// Whether the values of an arena go over to another.
-fn goes_over<T: Drop>(target: &mut Arena<P0, T>, source: &mut Arena<P0, T>) -> bool {
-    let generation = <P0 as Ptr>::Gen::two();
-    let answer = target.transfer_reallocating(
-        generation,
-        source,
-        |_old, taken, _new| taken.allow(),
-    );
-    answer.is_ok()
-}
-
-fn goes_over_to_direct<T: Drop>(
-    target: &mut DirectArena<P0, T>,
-    source: &mut Arena<P0, T>,
-) -> bool {
-    let generation = <P0 as Ptr>::Gen::two();
-    let answer = target.transfer_reallocating(
-        generation,
-        source,
-        |_old, taken, _new| taken.allow(),
-    );
-    answer.is_ok()
-}
-
-// An arena of so many values.
-fn values(alloc: Global, live: &Live, count: u64) -> Result<Arena<P0, Value>, Fail> {
-    let mut arena: Arena<P0, Value> = Arena::new(alloc);
+// Inserts so many values.
+fn put_values<A: ArenaInsertTrait<P0, Value>>(
+    rt: &impl Abort,
+    arena: &mut A,
+    live: &Live,
+    count: u64,
+) {
     for _ in 0..count {
-        arena.insert(new_value(live))?;
+        arena.insert(new_value(live)).expect(rt, "memory");
     }
-    Ok(arena)
+}
+
+// Clones of two values, and these go over to the target.
+fn each_copy<
+    A: ArenaInsertTrait<P0, Value>
+        + ArenaCloneFromWith<P0, Value>
+        + CompactArenaTrait<P0, Value>
+        + TakesOver<P0, P0, A>
+        + Drop,
+>(rt: &impl Abort, alloc: Global, source: &mut A, target: &mut A, live: &Live) {
+    put_values(rt, source, live, 2);
+    put_values(rt, target, live, 1);
+    each_clone(rt, alloc, source, target, live);
+    target
+        .take_over(<P0 as Ptr>::Gen::two(), source)
+        .expect(rt, "memory");
+    is(live.get(), 2).expect(rt, "the count");
+}
+
+// The values of an arena go over to a direct one, of which clones are made.
+fn each_direct_copy<
+    A: CompactArenaTrait<P0, Value>,
+    B: ArenaCloneFromWith<P0, Value>
+        + CompactArenaTrait<P0, Value>
+        + DirectCalls<P0, Value>
+        + TakesOver<P0, P0, A>
+        + Drop,
+>(rt: &impl Abort, alloc: Global, source: &mut A, direct: &mut B, live: &Live) {
+    let mut other = B::with_min_capacity(alloc, 1).expect(rt, "memory");
+    is(other.is_placed(pointer(1, 2), new_value(live), None), true).expect(rt, "the place");
+    direct
+        .take_over(<P0 as Ptr>::Gen::two(), source)
+        .expect(rt, "memory");
+    is(live.get(), 3).expect(rt, "the count");
+    each_clone(rt, alloc, direct, &mut other, live);
 }
 
 #[test]
-fn a_value_that_is_copied_is_dropped_once(rt: HostRuntime) -> Result<(), Fail> {
-    let (alloc, live) = (rt.alloc(), Rc::new(rt.alloc(), Cell::new(0))?);
-    let mut source = values(alloc, &live, 2)?;
-    let mut target = values(alloc, &live, 1)?;
-    each_clone(&rt, alloc, &source, &mut target, &live);
-    assert!(rt; goes_over(&mut target, &mut source) && live.get() == 2);
-    let mut direct: DirectArena<P0, Value> = DirectArena::with_min_capacity(alloc, 1)?;
-    assert!(rt; is_placed(&mut direct, 1, new_value(&live), None));
-    let mut other: DirectArena<P0, Value> = DirectArena::new(alloc);
-    assert!(rt; goes_over_to_direct(&mut other, &mut target) && live.get() == 3);
-    each_clone(&rt, alloc, &other, &mut direct, &live);
-    Ok(())
+fn a_value_that_is_copied_is_dropped_once(rt: HostRuntime) {
+    let (alloc, live) = (rt.alloc(), no_values(&rt, rt.alloc()));
+    let mut source: Arena<P0, Value> = Arena::new(alloc);
+    let mut target: Arena<P0, Value> = Arena::new(alloc);
+    each_copy(&rt, alloc, &mut source, &mut target, &live);
+    let mut direct: DirectArena<P0, Value> = DirectArena::new(alloc);
+    each_direct_copy(&rt, alloc, &mut target, &mut direct, &live);
 }

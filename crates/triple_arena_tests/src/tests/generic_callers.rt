@@ -4,12 +4,11 @@ ghost use Rattle.std.specs.Prelude.{◌≡◌, ◌≢◌, ℕ, None, Some, OnOk,
 ghost use Rattle.triple_arena_traits.specs.Entries.{look_up};
 
 use std::mem;
-use std::test::Fail;
-use triple_arena::{Arena, ArenaInsertTrait, ArenaSlot, ArenaTrait};
+use std::process::Abort;
+use triple_arena::{Arena, ArenaInsertTrait, ArenaTrait};
 use triple_arena_base::{InvalidationResult, ReallocationError};
 use triple_arena_ptr::{P0, Ptr};
-use triple_arena_stack::NonZeroInxLimitedVec;
-use triple_arena_trait_kit::pointer;
+use triple_arena_test_kit::is;
 
 // Puts another value under a pointer, and gives the one that stood there.
 fn exchange<P: Ptr, T, A: ArenaTrait<P, T>>(arena: &mut A, p: P, t: T) -> Result<T, T>
@@ -46,45 +45,18 @@ fn take<P: Ptr, T, A: ArenaTrait<P, T>>(arena: &mut A, p: P) -> InvalidationResu
     arena.remove(p)
 }
 
-// Makes place for one more entry, and inserts there.
-fn insert_in_new_place<P: Ptr, T: Drop, A: ArenaInsertTrait<P, T>>(
-    arena: &mut A,
-    t: T,
-) -> Result<P, ReallocationError> {
-    arena.reallocate_min_capacity(arena.len().saturating_add(1))?;
-    if arena.len() >= arena.capacity() {
-        return Err(ReallocationError::AllocError);
-    }
-    Ok(arena.insert_reserved(t))
+// Each of these calls on a new arena.
+fn is_called<A: ArenaInsertTrait<P0, u64>>(rt: &impl Abort, arena: &mut A) {
+    let first = put(arena, 10).expect(rt, "memory");
+    let second = put(arena, 20).expect(rt, "memory");
+    is(exchange(arena, first, 11), Ok(10)).expect(rt, "the value before");
+    is(take(arena, first), InvalidationResult::Success(11)).expect(rt, "the value taken");
+    is(exchange(arena, first, 12), Err(12)).expect(rt, "the refusal");
+    is(arena.get(second).copied(), Some(20)).expect(rt, "the other value");
 }
 
 #[test]
-fn callers_over_any_arena(rt: HostRuntime) -> Result<(), Fail> {
+fn callers_over_any_arena(rt: HostRuntime) {
     let mut arena: Arena<P0, u64> = Arena::new(rt.alloc());
-    let (first, second) = (put(&mut arena, 10)?, put(&mut arena, 20)?);
-    assert!(rt; exchange(&mut arena, first, 11) == Ok(10));
-    assert!(rt; take(&mut arena, first) == InvalidationResult::Success(11));
-    assert!(rt; exchange(&mut arena, first, 12) == Err(12));
-    assert!(rt; arena.get(second).copied() == Some(20));
-    Ok(())
-}
-
-#[test]
-fn a_reallocation_and_then_a_reserved_insertion(rt: HostRuntime) -> Result<(), Fail> {
-    let mut arena: Arena<P0, u64> = Arena::new(rt.alloc());
-    for index in 1..100 {
-        assert_eq!(rt; insert_in_new_place(&mut arena, 7)?, pointer(index, 2));
-        assert_eq!(rt; arena.capacity(), index);
-    }
-    Ok(())
-}
-
-#[test]
-fn a_reallocation_past_the_limit_inserts_nothing(rt: HostRuntime) -> Result<(), Fail> {
-    let mut arena: Arena<P0, u64, NonZeroInxLimitedVec<ArenaSlot<P0, u64>>> =
-        Arena::with_min_capacity(rt.alloc(), 1)?;
-    insert_in_new_place(&mut arena, 7)?;
-    let refused = Err(ReallocationError::BeyondMaxCapacity);
-    assert!(rt; insert_in_new_place(&mut arena, 8) == refused && arena.len() == 1);
-    Ok(())
+    is_called(&rt, &mut arena);
 }

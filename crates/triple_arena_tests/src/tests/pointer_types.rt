@@ -1,60 +1,91 @@
 //! Arenas on each type of pointers, and values that hold pointers of two.
 
 use std::alloc::Global;
+use std::fmt::Debug;
 use std::process::Abort;
-use std::test::Fail;
 use triple_arena::{Arena, ArenaCloneFromWith, ArenaInsertTrait, ArenaTrait, CompactArenaTrait};
 use triple_arena_ptr::{P0, P1, P2, P3, P4, P5, Ptr, PtrNoGen, Q2};
-use triple_arena_trait_kit::{B, Narrow, Wide, is_shown};
+use triple_arena_test_kit::{B, Narrow, Wide, is, is_shown};
 
 // A few calls of an arena on the heap, and its text then.
-fn is_used<P: Ptr>(rt: &impl Abort, alloc: Global, text: &str) -> Result<(), Fail> {
-    let mut arena: Arena<P, u64> = Arena::new(alloc);
-    let (first, second) = (arena.insert(1)?, arena.insert(2)?);
-    assert!(rt; arena.remove(first).is_success() && arena.contains(second));
-    arena.insert(3)?;
-    arena.reallocate_min_capacity(9)?;
-    assert!(rt; arena.len() == 2 && arena.capacity() == 9);
-    is_shown(alloc, &arena, text)?;
-    let mut copy = arena.clone(alloc)?;
+fn is_used<
+    P: Ptr,
+    A: ArenaInsertTrait<P, u64>
+        + ArenaCloneFromWith<P, u64>
+        + CompactArenaTrait<P, u64>
+        + Debug
+        + Drop,
+>(rt: &impl Abort, alloc: Global, text: &str) {
+    let mut arena = A::new(alloc);
+    let first = arena.insert(1).expect(rt, "memory");
+    let second = arena.insert(2).expect(rt, "memory");
+    is(arena.remove(first).is_success(), true).expect(rt, "whether the first is removed");
+    is(arena.contains(second), true).expect(rt, "whether the second stays");
+    arena.insert(3).expect(rt, "memory");
+    arena.reallocate_min_capacity(9).expect(rt, "memory");
+    is(arena.len(), 2).expect(rt, "the length");
+    is(arena.capacity(), 9).expect(rt, "the capacity");
+    is_shown(alloc, &arena, text).expect(rt, "the arena");
+    let mut copy = arena.clone(alloc).expect(rt, "memory");
     drop(copy.compress(true));
-    assert!(rt; copy.len() == 2 && copy.contains(second) && copy.clear().is_success());
-    Ok(())
+    is(copy.len(), 2).expect(rt, "the length of the clone");
+    is(copy.contains(second), true).expect(rt, "whether the clone has the second");
+    is(copy.clear().is_success(), true).expect(rt, "whether the clone is cleared");
 }
 
 #[test]
-fn an_arena_on_each_type_of_pointers(rt: HostRuntime) -> Result<(), Fail> {
+fn an_arena_on_each_type_of_pointers(rt: HostRuntime) {
     let alloc = rt.alloc();
-    is_used::<P0>(&rt, alloc, "{P0[1](3): 3, P0[2](2): 2}")?;
-    is_used::<P1>(&rt, alloc, "{P1[1](3): 3, P1[2](2): 2}")?;
-    is_used::<P2>(&rt, alloc, "{P2[1](3): 3, P2[2](2): 2}")?;
-    is_used::<P3>(&rt, alloc, "{P3[1](3): 3, P3[2](2): 2}")?;
-    is_used::<P4>(&rt, alloc, "{P4[1]: 3, P4[2]: 2}")?;
-    is_used::<P5>(&rt, alloc, "{P5[1]: 3, P5[2]: 2}")?;
-    is_used::<Q2>(&rt, alloc, "{Q2[1](3): 3, Q2[2](2): 2}")?;
-    is_used::<PtrNoGen<P0>>(&rt, alloc, "{P0[1]: 3, P0[2]: 2}")?;
-    is_used::<B>(&rt, alloc, "{B[1](3): 3, B[2](2): 2}")?;
-    is_used::<Narrow>(&rt, alloc, "{PtrOf[1](3): 3, PtrOf[2](2): 2}")?;
-    is_used::<Wide>(&rt, alloc, "{PtrOf[1](3): 3, PtrOf[2](2): 2}")
+    is_used::<P0, Arena<P0, u64>>(&rt, alloc, "{P0[1](3): 3, P0[2](2): 2}");
+    is_used::<P1, Arena<P1, u64>>(&rt, alloc, "{P1[1](3): 3, P1[2](2): 2}");
+    is_used::<P2, Arena<P2, u64>>(&rt, alloc, "{P2[1](3): 3, P2[2](2): 2}");
+    is_used::<P3, Arena<P3, u64>>(&rt, alloc, "{P3[1](3): 3, P3[2](2): 2}");
+    is_used::<P4, Arena<P4, u64>>(&rt, alloc, "{P4[1]: 3, P4[2]: 2}");
+    is_used::<P5, Arena<P5, u64>>(&rt, alloc, "{P5[1]: 3, P5[2]: 2}");
+    is_used::<Q2, Arena<Q2, u64>>(&rt, alloc, "{Q2[1](3): 3, Q2[2](2): 2}");
+    is_used::<PtrNoGen<P0>, Arena<PtrNoGen<P0>, u64>>(&rt, alloc, "{P0[1]: 3, P0[2]: 2}");
+    is_used::<B, Arena<B, u64>>(&rt, alloc, "{B[1](3): 3, B[2](2): 2}");
+    is_used::<Narrow, Arena<Narrow, u64>>(&rt, alloc, "{PtrOf[1](3): 3, PtrOf[2](2): 2}");
+    is_used::<Wide, Arena<Wide, u64>>(&rt, alloc, "{PtrOf[1](3): 3, PtrOf[2](2): 2}");
+}
+
+// The pointer of the second of two texts.
+fn put_texts<A: ArenaInsertTrait<P0, &'static str>>(rt: &impl Abort, texts: &mut A) -> P0 {
+    texts.insert("test").expect(rt, "memory");
+    texts.insert("hello").expect(rt, "memory")
+}
+
+// Of two values the first holds the invalid pointer, and the second that of the first.
+fn put_pairs<A: ArenaInsertTrait<Q2, (P0, Q2)>>(rt: &impl Abort, pairs: &mut A, text: P0) {
+    let first = pairs.insert((text, Q2::invalid())).expect(rt, "memory");
+    pairs.insert((text, first)).expect(rt, "memory");
+}
+
+// Moves a value from an arena into one of another type.
+fn move_text<A: ArenaTrait<P0, &'static str>, B: ArenaInsertTrait<Q2, &'static str>>(
+    rt: &impl Abort,
+    texts: &mut A,
+    others: &mut B,
+    text: P0,
+) {
+    let taken = texts.remove(text).allow().expect(rt, "the text");
+    others.insert(taken).expect(rt, "memory");
 }
 
 #[test]
-fn a_value_holds_pointers_of_two_types(rt: HostRuntime) -> Result<(), Fail> {
+fn a_value_holds_pointers_of_two_types(rt: HostRuntime) {
     let mut texts: Arena<P0, &'static str> = Arena::new(rt.alloc());
-    let (_test, hello) = (texts.insert("test")?, texts.insert("hello")?);
+    let hello = put_texts(&rt, &mut texts);
     let mut pairs: Arena<Q2, (P0, Q2)> = Arena::new(rt.alloc());
-    let first = pairs.insert((hello, Q2::invalid()))?;
-    pairs.insert((hello, first))?;
+    put_pairs(&rt, &mut pairs, hello);
     is_shown(
         rt.alloc(),
         &pairs,
         "{Q2[1](2): (P0[2](2), Q2[ffffffffffffffff](1)), \
         Q2[2](2): (P0[2](2), Q2[1](2))}",
-    )?;
-    // a value goes from an arena into one of another type
+    )
+    .expect(&rt, "the pairs");
     let mut others: Arena<Q2, &'static str> = Arena::new(rt.alloc());
-    if let Some(taken) = texts.remove(hello).allow() {
-        others.insert(taken)?;
-    }
-    is_shown(rt.alloc(), &others, r#"{Q2[1](2): "hello"}"#)
+    move_text(&rt, &mut texts, &mut others, hello);
+    is_shown(rt.alloc(), &others, r#"{Q2[1](2): "hello"}"#).expect(&rt, "the others");
 }

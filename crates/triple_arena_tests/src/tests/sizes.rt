@@ -2,64 +2,66 @@
 
 use std::alloc::Global;
 use std::process::Abort;
-use std::test::Fail;
 use triple_arena::{
     Arena, ArenaCloneFromWith, ArenaInsertTrait, ArenaSlot, ArenaTrait, CompactArenaTrait,
 };
 use triple_arena_ptr::P0;
-use triple_arena_stack::{
-    NonZeroInxArray, NonZeroInxGenericStack, NonZeroInxLimitedVec, NonZeroInxVec,
-};
-use triple_arena_trait_kit::pointer;
+use triple_arena_stack::{NonZeroInxArray, NonZeroInxLimitedVec, NonZeroInxVec};
+use triple_arena_test_kit::{is, pointer};
 
 // 5000 insertions, the ends of every second, and as many insertions again; then a clone and a compression.
-fn thousands<S: NonZeroInxGenericStack<ArenaSlot<P0, u64>> + Drop>(
-    rt: &impl Abort,
-    alloc: Global,
-    arena: &mut Arena<P0, u64, S>,
-) -> Result<(), Fail> {
+fn thousands<
+    A: ArenaInsertTrait<P0, u64> + CompactArenaTrait<P0, u64>,
+    B: ArenaCloneFromWith<P0, u64> + CompactArenaTrait<P0, u64>,
+>(rt: &impl Abort, arena: &mut A, copy: &mut B) {
     for number in 1..=5000 {
-        assert_eq!(rt; arena.insert(number)?, pointer(number as usize, 2));
+        is(arena.insert(number), Ok(pointer(number as usize, 2))).expect(rt, "an insertion");
     }
     for half in 1..=2500 {
-        assert!(rt; arena.remove(pointer(2 * half, 2)).is_success());
+        is(arena.remove(pointer(2 * half, 2)).is_success(), true).expect(rt, "a removal");
     }
     for _ in 0..2500 {
-        arena.insert(0)?;
+        arena.insert(0).expect(rt, "memory");
     }
-    assert_eq!(rt; arena.len(), 5000);
-    let mut copy: Arena<P0, u64> = Arena::new(alloc);
-    copy.clone_from(arena)?;
-    assert!(rt; copy.compress(false).is_success() && copy.contains(pointer(5000, 2503)));
-    Ok(())
+    is(arena.len(), 5000).expect(rt, "the length");
+    copy.clone_from(arena).expect(rt, "memory");
+    is(copy.compress(false).is_success(), true).expect(rt, "whether no counter wrapped");
+    is(copy.contains(pointer(5000, 2503)), true).expect(rt, "whether the last entry is there");
 }
 
 #[test]
-fn thousands_of_entries(rt: HostRuntime) -> Result<(), Fail> {
+fn thousands_of_entries(rt: HostRuntime) {
+    let mut copy: Arena<P0, u64> = Arena::new(rt.alloc());
     let mut growing: Arena<P0, u64> = Arena::new(rt.alloc());
-    thousands(&rt, rt.alloc(), &mut growing)?;
-    assert_eq!(rt; growing.capacity(), 8192);
+    thousands(&rt, &mut growing, &mut copy);
+    is(growing.capacity(), 8192).expect(&rt, "the capacity");
+}
+
+#[test]
+fn thousands_of_entries_up_to_a_limit(rt: HostRuntime) {
+    let mut copy: Arena<P0, u64> = Arena::new(rt.alloc());
     let mut limited: Arena<P0, u64, NonZeroInxLimitedVec<ArenaSlot<P0, u64>>> =
-        Arena::with_min_capacity(rt.alloc(), 5000)?;
-    thousands(&rt, rt.alloc(), &mut limited)
+        Arena::with_min_capacity(rt.alloc(), 5000).expect(&rt, "memory");
+    thousands(&rt, &mut limited, &mut copy);
 }
 
 // Of three values the second is removed, and a fourth is inserted.
-fn four_values<S: NonZeroInxGenericStack<ArenaSlot<P0, ()>> + Drop>(
-    rt: &impl Abort,
-    alloc: Global,
-) -> Result<(), Fail> {
-    let mut arena: Arena<P0, (), S> = Arena::new(alloc);
-    let (first, second, third) = (arena.insert(())?, arena.insert(())?, arena.insert(())?);
-    assert!(rt; arena.remove(second).is_success());
-    let fourth = arena.insert(())?;
-    assert!(rt; arena.contains(first) && arena.contains(third) && arena.contains(fourth));
-    assert!(rt; !arena.contains(second) && arena.len() == 3);
-    Ok(())
+fn four_values<A: ArenaInsertTrait<P0, ()> + Drop>(rt: &impl Abort, alloc: Global) {
+    let mut arena = A::new(alloc);
+    let first = arena.insert(()).expect(rt, "memory");
+    let second = arena.insert(()).expect(rt, "memory");
+    let third = arena.insert(()).expect(rt, "memory");
+    is(arena.remove(second).is_success(), true).expect(rt, "whether the second is removed");
+    let fourth = arena.insert(()).expect(rt, "memory");
+    is(arena.contains(first), true).expect(rt, "whether the first is there");
+    is(arena.contains(third), true).expect(rt, "whether the third is there");
+    is(arena.contains(fourth), true).expect(rt, "whether the fourth is there");
+    is(arena.contains(second), false).expect(rt, "the second");
+    is(arena.len(), 3).expect(rt, "the length");
 }
 
 #[test]
-fn values_of_no_size_have_their_pointers(rt: HostRuntime) -> Result<(), Fail> {
-    four_values::<NonZeroInxVec<ArenaSlot<P0, ()>>>(&rt, rt.alloc())?;
-    four_values::<NonZeroInxArray<ArenaSlot<P0, ()>, 3>>(&rt, rt.alloc())
+fn values_of_no_size_have_their_pointers(rt: HostRuntime) {
+    four_values::<Arena<P0, (), NonZeroInxVec<ArenaSlot<P0, ()>>>>(&rt, rt.alloc());
+    four_values::<Arena<P0, (), NonZeroInxArray<ArenaSlot<P0, ()>, 3>>>(&rt, rt.alloc());
 }

@@ -4,100 +4,128 @@ use std::alloc::Global;
 use std::fmt;
 use std::fmt::{Debug, Write};
 use std::process::Abort;
-use std::test::Fail;
 use triple_arena::{Arena, ArenaInsertTrait, ArenaSlot, ArenaTrait};
 use triple_arena_ptr::{P0, P4, Ptr, Q2};
 use triple_arena_stack::{
-    NonZeroInxArray, NonZeroInxBoxedSlice, NonZeroInxGenericStack, NonZeroInxLimitedVec,
-    NonZeroInxVec,
+    NonZeroInxArray, NonZeroInxBoxedSlice, NonZeroInxLimitedVec, NonZeroInxVec,
 };
-use triple_arena_trait_kit::{Narrow, is_shown};
+use triple_arena_test_kit::{Narrow, is, is_shown};
 
-// An arena over a stack with room for three: of three values the second goes, and the third gets a new
-// pointer.
-fn two_left<P: Ptr, S: NonZeroInxGenericStack<ArenaSlot<P, u64>> + Drop>(
-    alloc: Global,
-) -> Result<Arena<P, u64, S>, Fail> {
-    let mut arena: Arena<P, u64, S> = Arena::with_min_capacity(alloc, 3)?;
-    arena.insert(7)?;
-    let (second, third) = (arena.insert(6)?, arena.insert(8)?);
+// An arena with room for three: of three values the second goes, and the third gets a new pointer.
+fn two_left<P: Ptr, A: ArenaInsertTrait<P, u64> + Drop>(rt: &impl Abort, alloc: Global) -> A {
+    let mut arena = A::with_min_capacity(alloc, 3).expect(rt, "memory");
+    arena.insert(7).expect(rt, "memory");
+    let second = arena.insert(6).expect(rt, "memory");
+    let third = arena.insert(8).expect(rt, "memory");
     drop(arena.remove(second));
     drop(arena.invalidate(third));
-    Ok(arena)
+    arena
 }
 
+// The text of such an arena.
+fn stands_by_index<P: Ptr, A: ArenaInsertTrait<P, u64> + Debug + Drop>(
+    rt: &impl Abort,
+    alloc: Global,
+    text: &str,
+) {
+    let arena: A = two_left(rt, alloc);
+    is_shown(alloc, &arena, text).expect(rt, "the arena");
+}
+
+type OnHeap<P> = Arena<P, u64, NonZeroInxVec<ArenaSlot<P, u64>>>;
+
+type UpToLimit<P> = Arena<P, u64, NonZeroInxLimitedVec<ArenaSlot<P, u64>>>;
+
+type Fixed<P> = Arena<P, u64, NonZeroInxBoxedSlice<ArenaSlot<P, u64>>>;
+
+type InArray<P> = Arena<P, u64, NonZeroInxArray<ArenaSlot<P, u64>, 3>>;
+
 #[test]
-fn entries_stand_by_index_over_each_stack(rt: HostRuntime) -> Result<(), Fail> {
+fn entries_stand_by_index_over_each_stack(rt: HostRuntime) {
     let alloc = rt.alloc();
-    let heap = two_left::<P0, NonZeroInxVec<ArenaSlot<P0, u64>>>(alloc)?;
-    is_shown(alloc, &heap, "{P0[1](2): 7, P0[3](4): 8}")?;
-    let limited = two_left::<Q2, NonZeroInxLimitedVec<ArenaSlot<Q2, u64>>>(alloc)?;
-    is_shown(alloc, &limited, "{Q2[1](2): 7, Q2[3](4): 8}")?;
-    let fixed = two_left::<P4, NonZeroInxBoxedSlice<ArenaSlot<P4, u64>>>(alloc)?;
-    is_shown(alloc, &fixed, "{P4[1]: 7, P4[3]: 8}")?;
-    let array = two_left::<Narrow, NonZeroInxArray<ArenaSlot<Narrow, u64>, 3>>(alloc)?;
-    is_shown(alloc, &array, "{PtrOf[1](2): 7, PtrOf[3](4): 8}")
+    stands_by_index::<P0, OnHeap<P0>>(&rt, alloc, "{P0[1](2): 7, P0[3](4): 8}");
+    stands_by_index::<Q2, UpToLimit<Q2>>(&rt, alloc, "{Q2[1](2): 7, Q2[3](4): 8}");
+    stands_by_index::<P4, Fixed<P4>>(&rt, alloc, "{P4[1]: 7, P4[3]: 8}");
+    stands_by_index::<Narrow, InArray<Narrow>>(&rt, alloc, "{PtrOf[1](2): 7, PtrOf[3](4): 8}");
+}
+
+// A new arena of texts, and one of two.
+fn texts_are_shown<A: ArenaInsertTrait<P0, &'static str> + Debug>(
+    rt: &impl Abort,
+    alloc: Global,
+    texts: &mut A,
+) {
+    is_shown(alloc, texts, "{}").expect(rt, "the arena without entries");
+    texts.insert("test").expect(rt, "memory");
+    texts.insert("hello").expect(rt, "memory");
+    is_shown(alloc, texts, r#"{P0[1](2): "test", P0[2](2): "hello"}"#).expect(rt, "the texts");
+}
+
+// One of values that hold pointers.
+fn links_are_shown<A: ArenaInsertTrait<P0, (u64, Option<P0>)> + Debug>(
+    rt: &impl Abort,
+    alloc: Global,
+    links: &mut A,
+) {
+    let first = links.insert((42, None)).expect(rt, "memory");
+    links.insert((1337, Some(first))).expect(rt, "memory");
+    let text = "{P0[1](2): (42, None), P0[2](2): (1337, Some(P0[1](2)))}";
+    is_shown(alloc, links, text).expect(rt, "the links");
 }
 
 #[test]
-fn a_value_has_its_own_text(rt: HostRuntime) -> Result<(), Fail> {
+fn a_value_has_its_own_text(rt: HostRuntime) {
     let mut texts: Arena<P0, &'static str> = Arena::new(rt.alloc());
-    is_shown(rt.alloc(), &texts, "{}")?;
-    texts.insert("test")?;
-    texts.insert("hello")?;
-    is_shown(
-        rt.alloc(),
-        &texts,
-        r#"{P0[1](2): "test", P0[2](2): "hello"}"#,
-    )?;
+    texts_are_shown(&rt, rt.alloc(), &mut texts);
     let mut links: Arena<P0, (u64, Option<P0>)> = Arena::new(rt.alloc());
-    let first = links.insert((42, None))?;
-    links.insert((1337, Some(first)))?;
-    let text = "{P0[1](2): (42, None), P0[2](2): (1337, Some(P0[1](2)))}";
-    is_shown(rt.alloc(), &links, text)
+    links_are_shown(&rt, rt.alloc(), &mut links);
 }
 
-// Takes so many pieces of a text, and refuses each one behind them.
+// Takes so many bytes of a text, and refuses each piece that is longer than what is left of them.
 #[derive(Drop)]
 struct Refusing {
-    pieces_left: usize,
+    bytes_left: usize,
     refusals: usize,
 }
 
 impl Write for Refusing {
-    fn write_str(&mut self, _text: &str) -> fmt::Result {
-        if self.pieces_left == 0 {
-            self.refusals = self.refusals.saturating_add(1);
-            return Err(fmt::Error);
+    fn write_str(&mut self, text: &str) -> fmt::Result {
+        match self.bytes_left.checked_sub(text.len()) {
+            Some(left) => {
+                self.bytes_left = left;
+                Ok(())
+            }
+            None => {
+                self.refusals = self.refusals.saturating_add(1);
+                Err(fmt::Error)
+            }
         }
-        self.pieces_left -= 1;
-        Ok(())
     }
 }
 
-// Writes an arena to a writer that takes so many pieces: how many more it takes then, or how many it
+// Writes an arena to a writer that takes so many bytes: how many more it takes then, or how many pieces it
 // refused.
-fn written<A: Debug>(arena: &A, pieces_left: usize) -> Result<usize, usize> {
+fn written<A: Debug>(arena: &A, bytes_left: usize) -> Result<usize, usize> {
     let mut writer = Refusing {
-        pieces_left,
+        bytes_left,
         refusals: 0,
     };
     match write!(writer, "{arena:?}") {
-        Ok(()) => Ok(writer.pieces_left),
+        Ok(()) => Ok(writer.bytes_left),
         Err(fmt::Error) => Err(writer.refusals),
     }
 }
 
-#[test]
-fn a_writer_that_fails_is_asked_no_more(rt: HostRuntime) -> Result<(), Fail> {
-    let arena = two_left::<P0, NonZeroInxVec<ArenaSlot<P0, u64>>>(rt.alloc())?;
-    let pieces = match written(&arena, 100) {
-        Ok(left) => usize::saturating_sub(100, left),
-        Err(_refusals) => 0,
-    };
-    assert!(rt; pieces > 0);
-    for pieces_left in 0..pieces {
-        assert!(rt; written(&arena, pieces_left) == Err(1));
+// Each failure before the last byte of the text ends the writing.
+fn is_asked_no_more<A: Debug>(rt: &impl Abort, arena: &A, text: &str) {
+    for bytes_left in 0..text.len() {
+        is(written(arena, bytes_left), Err(1)).expect(rt, "how many pieces are refused");
     }
-    Ok(())
+    is(written(arena, text.len()), Ok(0)).expect(rt, "how many bytes are left");
+}
+
+#[test]
+fn a_writer_that_fails_is_asked_no_more(rt: HostRuntime) {
+    let arena: OnHeap<P0> = two_left(&rt, rt.alloc());
+    is_asked_no_more(&rt, &arena, "{P0[1](2): 7, P0[3](4): 8}");
 }

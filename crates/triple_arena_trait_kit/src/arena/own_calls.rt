@@ -4,13 +4,13 @@ ghost use Rattle.std.specs.Prelude.{◌<◌};
 ghost use Rattle.triple_arena_traits.specs.ArenaState.{arena_len, capacity};
 ghost use Rattle.triple_arena.specs.InsertEntry.{entry_arena};
 
-use crate::numbered::Numbered;
 use crate::token::Token;
 use crate::told::{Told, told_pointer};
 use triple_arena::{Arena, ArenaInsertEntry, ArenaInsertEntryTrait, ArenaSlot};
 use triple_arena_base::{MaxCapacityReductionError, NotWithinCapacityError};
 use triple_arena_ptr::Ptr;
 use triple_arena_stack::{NonZeroInxGenericStack, SetMaxCapacity};
+use triple_arena_test_kit::Numbered;
 
 // Inserts by an entry that must have its place, through the trait of entries alone: the pointer
 // that it told, and the number that then stands there.

@@ -1,13 +1,13 @@
 //! The whole state of an `Arena`.
 
 use crate::free_list::FreeList;
-use crate::numbered::Numbered;
 use crate::shown::Shown;
 use crate::state::{SLOTS, State};
 use std::num::NonZeroUsize;
 use triple_arena::{Arena, ArenaSlot, ArenaTrait, FreeLink};
 use triple_arena_ptr::{Ptr, PtrInx};
 use triple_arena_stack::NonZeroInxGenericStack;
+use triple_arena_test_kit::Numbered;
 
 /// The state of `arena`; of more than `SLOTS` slots, the first.
 pub fn state_of<P: Ptr, T: Shown, S: NonZeroInxGenericStack<ArenaSlot<P, T>>>(

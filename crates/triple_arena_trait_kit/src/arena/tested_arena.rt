@@ -4,7 +4,6 @@ use crate::answers::answer_by_traits;
 use crate::arena::state::state_of;
 use crate::arena::{index_calls, own_calls, writing_calls};
 use crate::call::Call;
-use crate::numbered::Numbered;
 use crate::state::State;
 use crate::tested_arena::TestedArena;
 use crate::token::Token;
@@ -12,6 +11,7 @@ use crate::told::{Told, told_raise};
 use triple_arena::{Arena, ArenaSlot};
 use triple_arena_ptr::Ptr;
 use triple_arena_stack::{NonZeroInxGenericStack, SetMaxCapacity};
+use triple_arena_test_kit::Numbered;
 
 /// An `Arena` that tables of calls are tried on.
 #[derive(Drop)]

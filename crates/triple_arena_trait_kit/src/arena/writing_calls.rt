@@ -2,13 +2,13 @@
 
 ghost use Rattle.triple_arena_traits.specs.Values.{SamePointers};
 
-use crate::numbered::Numbered;
 use crate::token::Token;
 use crate::told::{NO_ENTRY, NO_VALUE, Told};
 use crate::walk_calls::entry_numbers;
 use triple_arena::{Arena, ArenaSlot};
 use triple_arena_ptr::Ptr;
 use triple_arena_stack::NonZeroInxGenericStack;
+use triple_arena_test_kit::Numbered;
 
 /// Adds a number to each value in a loop over the arena.
 pub fn add_to_each<P: Ptr, S: NonZeroInxGenericStack<ArenaSlot<P, Token>>>(

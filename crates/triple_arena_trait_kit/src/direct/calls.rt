@@ -3,13 +3,13 @@
 
 use crate::answers::{answer_of_any, answer_of_two, answer_to_walk};
 use crate::call::{Call, Kind};
-use crate::numbered::Numbered;
 use crate::seen::answer_to_read;
 use crate::token::Token;
 use crate::told::Told;
 use triple_arena_direct_arena::{DirectArena, DirectSlot};
 use triple_arena_ptr::Ptr;
 use triple_arena_stack::NonZeroInxGenericStack;
+use triple_arena_test_kit::Numbered;
 use triple_arena_traits::{
     ArenaDirectInsertEntryTrait, ArenaDirectInsertTrait, ArenaTrait, CompactArenaTrait,
     DisjointableArenaTrait,

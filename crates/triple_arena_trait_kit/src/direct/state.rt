@@ -1,12 +1,12 @@
 //! The whole state of a direct arena.
 
 use crate::free_list::FreeList;
-use crate::numbered::Numbered;
 use crate::shown::Shown;
 use crate::state::{SLOTS, State};
 use triple_arena_direct_arena::{DirectArena, DirectSlot};
 use triple_arena_ptr::Ptr;
 use triple_arena_stack::NonZeroInxGenericStack;
+use triple_arena_test_kit::Numbered;
 use triple_arena_traits::ArenaTrait;
 
 // The numbers of the generation and of the value of the entry in a slot, if there is one.

@@ -3,7 +3,6 @@
 use crate::call::Call;
 use crate::direct::calls::OfTokens;
 use crate::direct::state::direct_state_of;
-use crate::numbered::Numbered;
 use crate::state::State;
 use crate::tested_arena::TestedArena;
 use crate::token::Token;
@@ -11,6 +10,7 @@ use crate::told::Told;
 use triple_arena_direct_arena::{DirectArena, DirectSlot};
 use triple_arena_ptr::Ptr;
 use triple_arena_stack::{NonZeroInxGenericStack, SetMaxCapacity};
+use triple_arena_test_kit::Numbered;
 
 /// A direct arena that tables of calls are tried on.
 #[derive(Drop)]

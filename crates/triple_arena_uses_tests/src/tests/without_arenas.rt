@@ -2,7 +2,7 @@
 
 mod beside;
 mod counting_stack;
-mod insertions;
+pub mod insertions;
 mod small_ptr;
 mod undo;
 mod walks;

@@ -8,7 +8,7 @@ use triple_arena::{Arena, ArenaInsertTrait, ArenaTrait};
 use triple_arena_base::Recast;
 use triple_arena_direct::{StrictArena, compress_recast_with, unresolved};
 use triple_arena_ptr::{P0, Q2};
-use triple_arena_trait_kit::pointer;
+use triple_arena_test_kit::pointer;
 
 // A number, and a link.
 type Node = (u64, Option<P0>);

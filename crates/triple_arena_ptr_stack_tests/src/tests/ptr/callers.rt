@@ -5,6 +5,7 @@ ghost use Rattle.triple_arena_ptr.specs.Pointers.{is_same};
 
 use super::pointers::at;
 use triple_arena_ptr::{P0, P4, Ptr};
+use triple_arena_test_kit::is;
 
 // Whether two pointers are one.
 fn are_one<P: Ptr>(p: P, q: P) -> bool
@@ -56,6 +57,6 @@ fn is_first_its_parts<P: Ptr>() -> bool {
 
 #[test]
 fn a_pointer_is_its_clone_and_its_parts(rt: HostRuntime) {
-    assert!(rt; is_first_its_parts::<P0>());
-    assert!(rt; is_first_its_parts::<P4>());
+    is(is_first_its_parts::<P0>(), true).expect(&rt, "P0");
+    is(is_first_its_parts::<P4>(), true).expect(&rt, "P4");
 }

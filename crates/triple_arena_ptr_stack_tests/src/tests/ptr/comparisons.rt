@@ -9,6 +9,7 @@ use std::cmp::Ordering;
 use std::fmt;
 use std::hash::{DefaultHasher, Hash, Hasher};
 use triple_arena_ptr::{P0, P1, P2, P3, P4, P5, Ptr, PtrGen, PtrInx, PtrNoGen, Q2};
+use triple_arena_test_kit::is;
 
 // The hash of a value.
 fn hash_of<T: Hash>(value: &T) -> u64 {
@@ -92,13 +93,13 @@ fn is_whole<P: Ptr + Default + fmt::Display>(
 #[test]
 fn every_pointer_type_is_whole(rt: HostRuntime) {
     let alloc = rt.alloc();
-    assert!(rt; is_whole::<P0>(alloc, "P0", true, "P0[1a](2)"));
-    assert!(rt; is_whole::<P1>(alloc, "P1", true, "P1[1a](2)"));
-    assert!(rt; is_whole::<P2>(alloc, "P2", true, "P2[1a](2)"));
-    assert!(rt; is_whole::<P3>(alloc, "P3", true, "P3[1a](2)"));
-    assert!(rt; is_whole::<P4>(alloc, "P4", false, "P4[1a]"));
-    assert!(rt; is_whole::<P5>(alloc, "P5", false, "P5[1a]"));
-    assert!(rt; is_whole::<Q2>(alloc, "Q2", true, "Q2[1a](2)"));
-    assert!(rt; is_whole::<PtrNoGen<P2>>(alloc, "P2", false, "P2[1a]"));
-    assert!(rt; is_whole::<B>(alloc, "B", true, "B[1a](2)"));
+    is(is_whole::<P0>(alloc, "P0", true, "P0[1a](2)"), true).expect(&rt, "P0");
+    is(is_whole::<P1>(alloc, "P1", true, "P1[1a](2)"), true).expect(&rt, "P1");
+    is(is_whole::<P2>(alloc, "P2", true, "P2[1a](2)"), true).expect(&rt, "P2");
+    is(is_whole::<P3>(alloc, "P3", true, "P3[1a](2)"), true).expect(&rt, "P3");
+    is(is_whole::<P4>(alloc, "P4", false, "P4[1a]"), true).expect(&rt, "P4");
+    is(is_whole::<P5>(alloc, "P5", false, "P5[1a]"), true).expect(&rt, "P5");
+    is(is_whole::<Q2>(alloc, "Q2", true, "Q2[1a](2)"), true).expect(&rt, "Q2");
+    is(is_whole::<PtrNoGen<P2>>(alloc, "P2", false, "P2[1a]"), true).expect(&rt, "PtrNoGen of P2");
+    is(is_whole::<B>(alloc, "B", true, "B[1a](2)"), true).expect(&rt, "B");
 }

@@ -5,6 +5,7 @@ ghost use Rattle.std.specs.Iterator.{YieldsFirstBy, at_most};
 
 use std::mem;
 use triple_arena_ptr::{P0, P1, P2, P3, P4, P5, Ptr, Q2};
+use triple_arena_test_kit::is;
 
 // A pointer and the value at a place, in an `Option`.
 fn found<P: Ptr>(items: &mut [u64], p: P, place: usize) -> Option<(P, &mut u64)>
@@ -96,18 +97,18 @@ fn is_q2_held() -> bool {
 
 #[test]
 fn each_pointer_beside_a_lent_value(rt: HostRuntime) {
-    assert!(rt; is_p0_held());
-    assert!(rt; is_p1_held());
-    assert!(rt; is_p2_held());
-    assert!(rt; is_p3_held());
-    assert!(rt; is_p4_held());
-    assert!(rt; is_p5_held());
-    assert!(rt; is_q2_held());
+    is(is_p0_held(), true).expect(&rt, "P0");
+    is(is_p1_held(), true).expect(&rt, "P1");
+    is(is_p2_held(), true).expect(&rt, "P2");
+    is(is_p3_held(), true).expect(&rt, "P3");
+    is(is_p4_held(), true).expect(&rt, "P4");
+    is(is_p5_held(), true).expect(&rt, "P5");
+    is(is_q2_held(), true).expect(&rt, "Q2");
 }
 
 #[test]
 fn no_pointer_beside_a_value_past_the_end(rt: HostRuntime) {
-    assert!(rt; found(&mut [1, 2], P0::invalid(), 2).is_none());
+    is(found(&mut [1, 2], P0::invalid(), 2).is_none(), true).expect(&rt, "past the end");
 }
 
 #[test]
@@ -115,11 +116,11 @@ fn a_pointer_beside_a_lent_value_in_a_result(rt: HostRuntime) {
     let p = P0::invalid();
     let mut value = 1;
     if let Ok((q, lent)) = allowed(&mut value, p, true) {
-        assert!(rt; q == p);
+        is(q == p, true).expect(&rt, "the pointer");
         *lent = 2;
     }
-    assert!(rt; value == 2);
-    assert!(rt; allowed(&mut value, p, false).is_err());
+    is(value, 2).expect(&rt, "the value");
+    is(allowed(&mut value, p, false).is_err(), true).expect(&rt, "what isn't allowed");
 }
 
 #[test]
@@ -130,8 +131,8 @@ fn a_pointer_beside_each_lent_value(rt: HostRuntime) {
         p,
         values: &mut values,
     }) {
-        assert!(rt; q == p);
+        is(q == p, true).expect(&rt, "the pointer");
         *value = value.wrapping_add(1);
     }
-    assert!(rt; values == [8, 8]);
+    is(values, [8, 8]).expect(&rt, "the values");
 }

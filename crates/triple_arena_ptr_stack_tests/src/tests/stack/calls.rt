@@ -1,60 +1,61 @@
 //! Each call that may be refused memory, where there is memory, over each of the four stacks.
 
-use super::numbers::{Fixed, InArray, Numbers, OnHeap, UpToLimit, WithLimit};
-use std::alloc::Global;
+use super::items::{Fixed, InArray, OnHeap, UpToLimit};
+use super::tables::Answer::{At, Done, Limit, NoPlace};
+use super::tables::Call::{
+    AsSlice, Entry, EntryReallocating, EntryWithin, MaxCapacity, Push, PushReallocating,
+    PushWithin, Reallocate,
+};
+use super::tables::{BEYOND, Row, calls, calls_below};
 use std::mem;
-use std::process::Abort;
-use std::test::Fail;
-use triple_arena_base::ReallocationError;
 use triple_arena_stack::{pair_if, pair_of};
+use triple_arena_test_kit::is;
 
-// Each call on a stack that is made with four places.
-fn each_call<S: Numbers + Drop>(rt: &impl Abort, alloc: Global) -> Result<(), Fail> {
-    let mut stack = S::made(alloc, 4)?;
-    assert_eq!(rt; stack.put(1)?, 1);
-    assert_eq!(rt; stack.put_reallocating(2)?, 2);
-    assert_eq!(rt; stack.put_within(3)?, 3);
-    assert_eq!(rt; stack.enter(None)?, 4);
-    assert_eq!(rt; stack.enter_reallocating(None)?, 4);
-    stack.enter_within(4, 5)?;
-    stack.reserve(4)?;
-    assert!(rt; stack.put_within(6).is_err());
-    assert_eq!(rt; stack.numbers(), [1, 2, 3, 5].as_slice());
-    Ok(())
-}
-
-#[test]
-fn each_call_on_each_stack(rt: HostRuntime) -> Result<(), Fail> {
-    each_call::<OnHeap>(&rt, rt.alloc())?;
-    each_call::<UpToLimit>(&rt, rt.alloc())?;
-    each_call::<Fixed>(&rt, rt.alloc())?;
-    each_call::<InArray<4>>(&rt, rt.alloc())
-}
-
-// Pushes by each call that grows a stack, from no room on.
-fn grow<S: Numbers>(stack: &mut S) -> Result<(), ReallocationError> {
-    stack.put(1)?;
-    stack.reserve(0)?;
-    stack.put_reallocating(2)?;
-    stack.enter(Some(3))?;
-    stack.reserve(0)?;
-    stack.enter_reallocating(Some(4))?;
-    stack.reserve(9)
-}
+// On a stack that is made with four places.
+const EACH_CALL: &[Row<'_>] = &[
+    (Push(1), At(1), 4),
+    (PushReallocating(2), At(2), 4),
+    (PushWithin(3), At(3), 4),
+    (Entry(None), At(4), 4),
+    (EntryReallocating(None), At(4), 4),
+    (EntryWithin(4, 5), Done, 4),
+    (Reallocate(4), Done, 4),
+    (PushWithin(6), NoPlace, 4),
+    (AsSlice(&[1, 2, 3, 5]), Done, 4),
+];
 
 #[test]
-fn each_call_grows_a_stack(rt: HostRuntime) -> Result<(), Fail> {
-    let mut on_heap = OnHeap::empty(rt.alloc());
-    grow(&mut on_heap)?;
-    assert_eq!(rt; on_heap.numbers(), [1, 2, 3, 4].as_slice());
-    assert!(rt; on_heap.bounds() == (9, None));
-    let mut limited = UpToLimit::empty(rt.alloc());
-    assert!(rt; grow(&mut limited) == Err(ReallocationError::BeyondMaxCapacity));
-    limited.set_limit(9)?;
-    grow(&mut limited)?;
-    assert_eq!(rt; limited.numbers(), [1, 2, 3, 4].as_slice());
-    assert!(rt; limited.bounds() == (9, Some(9)));
-    Ok(())
+fn each_call_on_each_stack(rt: HostRuntime) {
+    let (alloc, room) = (rt.alloc(), Some(4));
+    calls::<OnHeap<u64>>(alloc, room, EACH_CALL).expect(&rt, "on the heap");
+    calls::<UpToLimit<u64>>(alloc, room, EACH_CALL).expect(&rt, "up to a limit");
+    calls::<Fixed<u64>>(alloc, room, EACH_CALL).expect(&rt, "in a room that stays");
+    calls::<InArray<u64, 4>>(alloc, room, EACH_CALL).expect(&rt, "in an array");
+}
+
+// From no room on.
+const GROWTH: &[Row<'_>] = &[
+    (Push(1), At(1), 4),
+    (Reallocate(0), Done, 1),
+    (PushReallocating(2), At(2), 2),
+    (Entry(Some(3)), At(3), 4),
+    (Reallocate(0), Done, 3),
+    (EntryReallocating(Some(4)), At(4), 6),
+    (Reallocate(9), Done, 9),
+    (AsSlice(&[1, 2, 3, 4]), Done, 9),
+];
+
+// The limit of a new stack, and another.
+const BELOW_LIMITS: &[(usize, &[Row<'_>])] = &[
+    (0, &[(Push(1), BEYOND, 0)]),
+    (9, GROWTH),
+    (9, &[(MaxCapacity, Limit(Some(9)), 9)]),
+];
+
+#[test]
+fn each_call_grows_a_stack(rt: HostRuntime) {
+    calls::<OnHeap<u64>>(rt.alloc(), None, GROWTH).expect(&rt, "on the heap");
+    calls_below::<UpToLimit<u64>>(rt.alloc(), None, BELOW_LIMITS).expect(&rt, "up to a limit");
 }
 
 // Two of three numbers, tenfold by `pair_of`: what stood there.
@@ -80,7 +81,10 @@ fn are_exchanged(numbers: &mut [u64], i: usize, j: usize) -> bool {
 #[test]
 fn two_of_a_slice(rt: HostRuntime) {
     let mut numbers = [1, 2, 3];
-    assert!(rt; made_tenfold(&mut numbers) == (3, 1) && numbers == [10, 2, 30]);
-    assert!(rt; !are_exchanged(&mut numbers, 1, 1) && !are_exchanged(&mut numbers, 0, 3));
-    assert!(rt; are_exchanged(&mut numbers, 0, 1) && numbers == [2, 10, 30]);
+    is(made_tenfold(&mut numbers), (3, 1)).expect(&rt, "what was lent");
+    is(numbers, [10, 2, 30]).expect(&rt, "what was written");
+    is(are_exchanged(&mut numbers, 1, 1), false).expect(&rt, "one place twice");
+    is(are_exchanged(&mut numbers, 0, 3), false).expect(&rt, "a place past the end");
+    is(are_exchanged(&mut numbers, 0, 1), true).expect(&rt, "two places");
+    is(numbers, [2, 10, 30]).expect(&rt, "two numbers exchanged");
 }

@@ -6,6 +6,7 @@ ghost use Rattle.triple_arena_stack.specs.Capacity.{stack_capacity, room_for_one
 ghost use Rattle.triple_arena_stack.specs.StackKind.{IsOfKind, new_room, new_limit, made_room, made_limit, reallocated_room};
 ghost use Rattle.triple_arena_stack.specs.Disjoint.{DisjointAnswer, set_both};
 
+use super::items::OnHeap;
 use std::alloc::Global;
 use std::mem;
 use std::num::NonZeroUsize;
@@ -13,6 +14,7 @@ use triple_arena_base::{
     AllocError, GetDisjointMutError, NotWithinCapacityError, ReallocationError,
 };
 use triple_arena_stack::NonZeroInxGenericStack;
+use triple_arena_test_kit::is;
 
 /// A slot as an arena has it: free, with the next free slot, or holding a value.
 #[derive(Drop)]
@@ -260,4 +262,43 @@ pub fn overwrite<T: Drop, S: NonZeroInxGenericStack<Slot<T>>>(
         }
         None => false,
     }
+}
+
+const ONE: NonZeroUsize = NonZeroUsize::MIN;
+
+// Writes over a value, and takes it.
+fn overwritten<S: NonZeroInxGenericStack<Slot<u64>>>(holding: &mut Holding<S>) -> Option<u64> {
+    let _ = put(&mut holding.slots, 6);
+    let _ = overwrite(holding, ONE, 7);
+    take_value(&mut holding.slots, ONE, 0)
+}
+
+// Takes the second of two slots, after it was exchanged with the first, and whose place is taken again then.
+fn taken<S: NonZeroInxGenericStack<Slot<u64>>>(slots: &mut S) -> Option<Slot<u64>> {
+    let _ = put_growing(slots, 8);
+    let _ = exchange(slots, ONE, ONE.saturating_add(1));
+    free(slots, ONE, 3);
+    let taken = take_last(slots);
+    if slots.len() < slots.capacity() {
+        put_over(slots, 9, 4);
+    }
+    taken
+}
+
+// Takes all slots, and tells the capacity then, and whether it has reached the limit.
+fn emptied<S: NonZeroInxGenericStack<Slot<u64>>>(
+    slots: &mut S,
+) -> (Result<usize, ReallocationError>, bool) {
+    empty(slots);
+    (reserve(slots, 2), is_at_limit(slots))
+}
+
+#[test]
+fn each_call_of_the_client(rt: HostRuntime) {
+    let slots: OnHeap<Slot<u64>> = made(rt.alloc(), 2);
+    let mut holding = Holding { slots };
+    is(overwritten(&mut holding), Some(7)).expect(&rt, "the value that was written");
+    let last = taken(&mut holding.slots);
+    is(matches!(last, Some(Slot::Free(0))), true).expect(&rt, "the slot that was taken");
+    is(emptied(&mut holding.slots), (Ok(2), false)).expect(&rt, "the capacity, and no limit");
 }

@@ -5,13 +5,13 @@ ghost use Rattle.std.specs.Int.NonZero.{non_zero_usize_get};
 ghost use Rattle.triple_arena_stack.specs.Capacity.{room_for_one_more};
 
 use std::num::NonZeroUsize;
-use std::test::Fail;
 use triple_arena_base::{NotWithinCapacityError, ReallocationError};
 use triple_arena_stack::{
     ArrayStack, FixedStack, HeapStack, LimitedStack, NonZeroInxArrayPushEntry,
     NonZeroInxBoxedSlicePushEntry, NonZeroInxGenericStack, NonZeroInxGenericStackPushEntryTrait,
     NonZeroInxLimitedVecPushEntry, NonZeroInxStack, NonZeroInxVecPushEntry, PushEntry,
 };
+use triple_arena_test_kit::is;
 
 // Takes an entry of any stack and lets it go: nothing is pushed, and its room stays.
 fn index_of_entry<T, K: NonZeroInxGenericStack<T>>(
@@ -43,13 +43,13 @@ fn push_and_write<T: Drop, K: NonZeroInxGenericStack<T>>(
 }
 
 #[test]
-fn a_dropped_entry_leaves_its_room(rt: HostRuntime) -> Result<(), Fail> {
+fn a_dropped_entry_leaves_its_room(rt: HostRuntime) {
     let mut stack: NonZeroInxStack<u64, HeapStack<u64>> = NonZeroInxStack::new(rt.alloc());
-    assert_eq!(rt; index_of_entry(&mut stack)?.get(), 1);
-    assert!(rt; stack.is_empty() && stack.capacity() == 4);
-    push_and_write(&mut stack, 9, 1)?;
-    assert_eq!(rt; stack.as_slice(), [1].as_slice());
-    Ok(())
+    is(index_of_entry(&mut stack), Ok(NonZeroUsize::MIN)).expect(&rt, "the index of an entry");
+    is(stack.is_empty(), true).expect(&rt, "no item");
+    is(stack.capacity(), 4).expect(&rt, "the room of the entry");
+    is(push_and_write(&mut stack, 9, 1).is_ok(), true).expect(&rt, "a push by an entry");
+    is(stack.as_slice(), [1].as_slice()).expect(&rt, "the items");
 }
 
 // The entry of each stack has a name of its own: this function is there to be typed.

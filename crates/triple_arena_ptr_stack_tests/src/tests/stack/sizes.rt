@@ -1,37 +1,30 @@
 //! Stacks of thousands of items, and room for more than a hundred thousand.
 
-use super::numbers::{Fixed, Numbers, OnHeap, UpToLimit, WithLimit};
-use std::process::Abort;
-use std::test::Fail;
-use triple_arena_base::ReallocationError;
+use super::items::{Fixed, OnHeap, UpToLimit};
+use super::tables::Answer::{Done, Limit};
+use super::tables::Call::{MaxCapacity, Push, PushUpTo, Reallocate};
+use super::tables::{BEYOND, Row, calls, calls_below};
 
-// Pushes each number from 1 to 5000 on an empty stack, which comes to the index of its number.
-fn thousands_on<S: Numbers>(rt: &impl Abort, stack: &mut S) -> Result<(), Fail> {
-    for number in 1..=5000 {
-        assert_eq!(rt; stack.put(number as u64)?, number);
-    }
-    Ok(())
-}
+const GROWING: &[Row<'_>] = &[
+    (PushUpTo(5000), Done, 8192),
+    (MaxCapacity, Limit(None), 8192),
+];
+
+const UP_TO_5000: &[Row<'_>] = &[(PushUpTo(5000), Done, 5000), (Push(0), BEYOND, 5000)];
+
+const IN_A_ROOM: &[Row<'_>] = &[(PushUpTo(5000), Done, 5000)];
 
 #[test]
-fn thousands_of_items_on_each_stack(rt: HostRuntime) -> Result<(), Fail> {
-    let mut growing = OnHeap::empty(rt.alloc());
-    thousands_on(&rt, &mut growing)?;
-    assert!(rt; growing.bounds() == (8192, None));
-    let mut limited = UpToLimit::empty(rt.alloc());
-    limited.set_limit(5000)?;
-    thousands_on(&rt, &mut limited)?;
-    assert!(rt; limited.put(0) == Err(ReallocationError::BeyondMaxCapacity));
-    let mut fixed = Fixed::made(rt.alloc(), 5000)?;
-    thousands_on(&rt, &mut fixed)
+fn thousands_of_items_on_each_stack(rt: HostRuntime) {
+    let alloc = rt.alloc();
+    calls::<OnHeap<u64>>(alloc, None, GROWING).expect(&rt, "on the heap");
+    calls_below::<UpToLimit<u64>>(alloc, None, &[(5000, UP_TO_5000)]).expect(&rt, "up to a limit");
+    calls::<Fixed<u64>>(alloc, Some(5000), IN_A_ROOM).expect(&rt, "in a room that stays");
 }
 
 // A stack is not made with so much room.
 #[test]
-fn a_limited_stack_makes_room_for_many_items(rt: HostRuntime) -> Result<(), Fail> {
-    let mut stack = UpToLimit::empty(rt.alloc());
-    stack.set_limit(200_000)?;
-    stack.reserve(150_000)?;
-    assert_eq!(rt; stack.bounds().0, 150_000);
-    Ok(())
+fn a_limited_stack_makes_room_for_many_items(rt: HostRuntime) {
+    let rows = &[(Reallocate(150_000), Done, 150_000)];
+    calls_below::<UpToLimit<u64>>(rt.alloc(), None, &[(200_000, rows)]).expect(&rt, "its room");
 }

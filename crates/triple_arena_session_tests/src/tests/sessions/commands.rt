@@ -33,38 +33,17 @@ impl Trial for NoMoreRoom {
 // Inserts so many.
 fn fills(rt: &impl Abort, alloc: Global, session: &mut impl Asked, count: u8) {
     for name in 1..count as usize + 1 {
-        answers_so(
-            rt,
-            alloc,
-            session,
-            b"insert 1 -\n",
-            format!(in alloc; "given {name}\n"),
-        );
+        let lines = format!(in alloc; "given {name}\n").expect(rt, "memory");
+        answers_text(rt, alloc, session, b"insert 1 -\n", lines.as_bytes());
     }
 }
 
 // Inserts and removes so many times, which raises the counter as often.
 fn comes_and_goes(rt: &impl Abort, alloc: Global, session: &mut impl Asked, count: u8) {
     for name in 1..count as usize + 1 {
-        let text = format!(in alloc; "insert 1 -\nremove {name}\n");
-        let lines = format!(in alloc; "given {name}\nremoved 1 -\n");
-        match text {
-            Ok(text) => answers_so(rt, alloc, session, text.as_str().as_bytes(), lines),
-            Err(_) => panic!(rt; "there is memory"),
-        }
-    }
-}
-
-fn answers_so(
-    rt: &impl Abort,
-    alloc: Global,
-    session: &mut impl Asked,
-    text: &[u8],
-    lines: Result<String, std::alloc::AllocError>,
-) {
-    match lines {
-        Ok(lines) => answers_text(rt, alloc, session, text, lines.as_str().as_bytes()),
-        Err(_) => panic!(rt; "there is memory"),
+        let text = format!(in alloc; "insert 1 -\nremove {name}\n").expect(rt, "memory");
+        let lines = format!(in alloc; "given {name}\nremoved 1 -\n").expect(rt, "memory");
+        answers_text(rt, alloc, session, text.as_bytes(), lines.as_bytes());
     }
 }
 

@@ -1,14 +1,14 @@
 //! Sizes at which a session that gives up late would show.
 
-use super::program::{WELL, args_of};
-use super::steps::{Asked, Kind, Trial, replies, try_new, try_strict};
+use super::program::writes_lines;
+use super::steps::{Asked, Kind, Trial, replies, try_new};
 use super::texts::answers_text;
 use std::alloc::Global;
 use std::fmt;
 use std::fmt::Write as _;
 use std::process::Abort;
-use triple_arena_ptr::P0;
-use triple_arena_session::{Command, Reply, run_program};
+use triple_arena_session::{Command, Reply};
+use triple_arena_test_kit::is;
 
 // So many commands that take no memory are answered by as many replies.
 #[derive(Drop)]
@@ -20,13 +20,13 @@ impl Trial for RunsMany {
     fn pass(&self, rt: &impl Abort, alloc: Global, session: &mut impl Asked) {
         let mut commands = Vec::new(alloc);
         for _ in 0..self.commands {
-            assert!(rt; commands.push(Command::Len).is_ok());
+            commands.push(Command::Len).expect(rt, "memory");
         }
-        let Some(told) = session.answers(commands.as_slice()) else {
-            panic!(rt; "there is memory");
-        };
-        assert!(rt; told.len() == self.commands);
-        assert!(rt; told.iter().all(|reply| *reply == Reply::Count(0)));
+        let told = session.answers(commands.as_slice()).expect(rt, "memory");
+        is(told.len(), self.commands).expect(rt, "how many replies there are");
+        for reply in &told {
+            is(reply, &Reply::Count(0)).expect(rt, "each reply");
+        }
     }
 }
 
@@ -39,7 +39,7 @@ fn a_run_of_tens_of_thousands_of_commands_is_answered(rt: HostRuntime) {
 #[test]
 fn a_strict_run_of_tens_of_thousands_of_commands_is_answered(rt: HostRuntime) {
     let trial = RunsMany { commands: 70_000 };
-    try_strict::<P0>(&rt, rt.alloc(), &trial);
+    try_new(&rt, rt.alloc(), Kind::Strict, &trial);
 }
 
 // A text of 70,000 insertions is answered by as many names, and the next one counts their entries.
@@ -49,8 +49,8 @@ impl Trial for RunsLines {
     fn pass(&self, rt: &impl Abort, alloc: Global, session: &mut impl Asked) {
         let (mut text, mut given) = (String::new(alloc), String::new(alloc));
         for name in 1..=70_000 {
-            assert!(rt; text.push_str("insert 7 -\n").is_ok());
-            assert!(rt; writeln!(given, "given {name}").is_ok());
+            text.push_str("insert 7 -\n").expect(rt, "memory");
+            writeln!(given, "given {name}").expect(rt, "memory");
         }
         answers_text(rt, alloc, session, text.as_bytes(), given.as_bytes());
         answers_text(rt, alloc, session, b"len\n", b"count 70000\n");
@@ -59,7 +59,7 @@ impl Trial for RunsLines {
 
 #[test]
 fn a_strict_text_of_tens_of_thousands_of_lines_is_answered(rt: HostRuntime) {
-    try_strict::<P0>(&rt, rt.alloc(), &RunsLines);
+    try_new(&rt, rt.alloc(), Kind::Strict, &RunsLines);
 }
 
 // So many insertions give as many names, each of which finds its entry.
@@ -69,13 +69,13 @@ impl Trial for GivesMany {
     fn pass(&self, rt: &impl Abort, _alloc: Global, session: &mut impl Asked) {
         for name in 1..=70_000 {
             let given = Reply::Given(name, false);
-            assert!(rt; replies(session, Command::Insert(name as u64, None), &given));
+            replies(rt, session, Command::Insert(name as u64, None), &given);
         }
         for name in 1..=70_000 {
             let found = Reply::Found(name as u64, None);
-            assert!(rt; replies(session, Command::Get(name), &found));
+            replies(rt, session, Command::Get(name), &found);
         }
-        assert!(rt; replies(session, Command::Get(70_001), &Reply::Nothing));
+        replies(rt, session, Command::Get(70_001), &Reply::Nothing);
     }
 }
 
@@ -101,14 +101,11 @@ impl Trial for ShowsMany {
     fn pass(&self, rt: &impl Abort, alloc: Global, session: &mut impl Asked) {
         for name in 1..=1000 {
             let given = Reply::Given(name, false);
-            assert!(rt; replies(session, Command::Insert(7, None), &given));
+            replies(rt, session, Command::Insert(7, None), &given);
         }
         let mut wanted = String::new(alloc);
-        assert!(rt; write_entries(&mut wanted, 1000).is_ok());
-        match session.answer(Command::Show) {
-            Reply::Line(text) => assert!(rt; text == wanted),
-            _ => panic!(rt; "there is memory"),
-        }
+        write_entries(&mut wanted, 1000).expect(rt, "memory");
+        replies(rt, session, Command::Show, &Reply::Line(wanted));
     }
 }
 
@@ -126,11 +123,6 @@ fn the_program_has_thousands_of_places(rt: HostRuntime) {
         &["strict", "fixed", "3000"],
     ];
     for words in rows {
-        let args = args_of(rt.alloc(), words);
-        let mut input = b"capacity\n".as_slice();
-        let (outcome, output) = run_program(args, rt.alloc(), &mut input, Vec::new(rt.alloc()));
-        let written = output.unwrap_or(Vec::new(rt.alloc()));
-        assert!(rt; outcome == WELL);
-        assert!(rt; written.as_slice() == b"count 3000\n".as_slice());
+        writes_lines(&rt, rt.alloc(), words, b"capacity\n", b"count 3000\n");
     }
 }

@@ -7,6 +7,7 @@ use std::alloc::Global;
 use std::io::{BufWriter, ErrorKind};
 use std::process::Abort;
 use triple_arena_session::{Command, Reply, TextError};
+use triple_arena_test_kit::is;
 
 // Tries a session of general use.
 fn tries(rt: &impl Abort, alloc: Global, trial: &impl Trial) {
@@ -58,7 +59,7 @@ impl Trial for FailsToRead<'_> {
         let extent = session.extent();
         let mut input = ByteReader::failing(self.text, self.reads_before, self.failure, self.times);
         answers(rt, alloc, session, &mut input, Err(TextError::Read), b"");
-        assert!(rt; session.extent() == extent);
+        is(session.extent(), extent).expect(rt, "the extent after a read that failed");
         let (text, lines) = (b"get 1\ninsert 8 -\n", b"found 7 -\ngiven 2\n");
         answers_text(rt, alloc, session, text, lines);
     }
@@ -130,7 +131,7 @@ fn finds_up_to(rt: &impl Abort, session: &mut impl Asked, datum: u64, given: usi
         } else {
             Reply::Nothing
         };
-        assert!(rt; replies(session, Command::Get(name), &reply), "at {name}");
+        replies(rt, session, Command::Get(name), &reply);
     }
 }
 
@@ -149,7 +150,7 @@ impl Trial for ReadsPieces {
         let mut input = ByteReader::new(text.as_flattened(), self.reads_before, self.failure);
         let mut output = Vec::new(alloc);
         let answer = session.runs(alloc, &mut input, &mut output);
-        assert!(rt; answer == self.outcome);
+        is(answer, self.outcome).expect(rt, "how a run ended");
         finds_up_to(rt, session, 5, self.given, 101);
     }
 }
@@ -211,9 +212,10 @@ impl Trial for StopsWriting {
     fn pass(&self, rt: &impl Abort, alloc: Global, session: &mut impl Asked) {
         let output = ShortWriter::of_pieces(1, self.writes_before, self.failure);
         let ended = runs_to(alloc, session, self.text, output, self.lines);
-        assert!(rt; ended == (self.end, true), "at {}", self.writes_before);
+        let told = (self.writes_before, ended);
+        is(told, (self.writes_before, (self.end, true))).expect(rt, "how a run ended at a write");
         finds_up_to(rt, session, 1, self.ran, 4);
-        assert!(rt; session.extent().0 == self.ran);
+        is(session.extent().0, self.ran).expect(rt, "how many entries there are");
     }
 }
 
@@ -389,9 +391,7 @@ fn flushes_to(
     text: &[u8],
     writes_before: usize,
 ) -> End {
-    let Ok(output) = BufWriter::new(alloc, ShortWriter::new(writes_before)) else {
-        panic!(rt; "there is memory");
-    };
+    let output = BufWriter::new(alloc, ShortWriter::new(writes_before)).expect(rt, "memory");
     let mut input = text;
     let (outcome, written) = session.runs_and_flushes(alloc, &mut input, output);
     (outcome, written.lines_ended(), written.len)
@@ -409,8 +409,8 @@ pub struct Flushes<'a> {
 impl Trial for Flushes<'_> {
     fn pass(&self, rt: &impl Abort, alloc: Global, session: &mut impl Asked) {
         let ended = flushes_to(rt, alloc, session, self.text, self.writes_before);
-        assert!(rt; ended == self.end);
-        assert!(rt; replies(session, Command::Get(1), &self.reply));
+        is(ended, self.end).expect(rt, "how a run ended");
+        replies(rt, session, Command::Get(1), &self.reply);
     }
 }
 

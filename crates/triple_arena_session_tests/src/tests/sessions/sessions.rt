@@ -8,18 +8,21 @@ use triple_arena::ArenaSlot;
 use triple_arena_ptr::P0;
 use triple_arena_session::{Command, Node, Reply, Session};
 use triple_arena_stack::{NonZeroInxArray, NonZeroInxGenericStack};
+use triple_arena_test_kit::is;
 
 type Slot = ArenaSlot<P0, Node<u64, P0>>;
 
-// Whether a session is made with room for so many.
-fn has_places<S: NonZeroInxGenericStack<Slot> + Drop>(alloc: Global, room: usize) -> bool {
-    Session::<P0, u64, S>::with_min_capacity(alloc, room).is_ok()
+// Expects a session to be made with room for eight, and for no more.
+fn has_eight_places<S: NonZeroInxGenericStack<Slot> + Drop>(rt: &impl Abort, alloc: Global) {
+    for (room, is_made) in [(8, true), (9, false)] {
+        let made = Session::<P0, u64, S>::with_min_capacity(alloc, room);
+        is((room, made.is_ok()), (room, is_made)).expect(rt, "whether a session is made");
+    }
 }
 
 #[test]
 fn an_array_has_room_for_no_more_than_its_places(rt: HostRuntime) {
-    assert!(rt; has_places::<NonZeroInxArray<Slot, 8>>(rt.alloc(), 8));
-    assert!(rt; !has_places::<NonZeroInxArray<Slot, 8>>(rt.alloc(), 9));
+    has_eight_places::<NonZeroInxArray<Slot, 8>>(&rt, rt.alloc());
 }
 
 // The command at a position of 254 insertions, each before the removal of its name, and a last one.
@@ -44,12 +47,11 @@ fn reply_at(position: usize) -> Reply<u64> {
 
 // Expects a run to have ended with the reply at 507.
 fn ends_at_the_wrap(rt: &impl Abort, told: Option<Vec<Reply<u64>>>) {
-    let Some(told) = told else {
-        panic!(rt; "there is memory");
-    };
-    assert!(rt; told.len() == 508);
+    let told = told.expect(rt, "memory");
+    is(told.len(), 508).expect(rt, "how many commands were run");
     for (position, reply) in told.iter().enumerate() {
-        assert!(rt; *reply == reply_at(position), "at {position}");
+        let wanted = reply_at(position);
+        is((position, reply), (position, &wanted)).expect(rt, "the reply at a position");
     }
 }
 
@@ -67,6 +69,6 @@ impl Trial for EndsRunAtWrap {
         let commands: [Command<u64>; 509] = array::from_fn(command_at);
         ends_at_the_wrap(rt, session.answers(&commands));
         follow(rt, session, &[(Command::Get(255), Reply::Nothing)]);
-        assert!(rt; session.extent().0 == 0);
+        is(session.extent().0, 0).expect(rt, "how many entries there are");
     }
 }

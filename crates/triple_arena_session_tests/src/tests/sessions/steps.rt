@@ -10,7 +10,7 @@ use triple_arena_session::{
     run_text_strict, run_text_strict_and_flush,
 };
 use triple_arena_stack::{NonZeroInxGenericStack, NonZeroInxVec};
-use triple_arena_trait_kit::{B, Narrow, Numbered};
+use triple_arena_test_kit::{B, Narrow, Numbered, is};
 
 /// How many entries an arena holds, for how many it has room, and the generation of its counter.
 pub type Extent = (usize, usize, u64);
@@ -128,15 +128,21 @@ where
     )
 }
 
-/// Whether a command is answered so.
-pub fn replies(session: &mut impl Asked, command: Command<u64>, reply: &Reply<u64>) -> bool {
-    session.answer(command) == *reply
+/// Expects a command to be answered so.
+pub fn replies(
+    rt: &impl Abort,
+    session: &mut impl Asked,
+    command: Command<u64>,
+    reply: &Reply<u64>,
+) {
+    let told = session.answer(command);
+    is((command, &told), (command, reply)).expect(rt, "the reply to a command");
 }
 
 /// Makes each step, and expects its reply.
 pub fn follow(rt: &impl Abort, session: &mut impl Asked, steps: &[(Command<u64>, Reply<u64>)]) {
     for (command, reply) in steps {
-        assert!(rt; replies(session, *command, reply), "at {command:?}");
+        replies(rt, session, *command, reply);
     }
 }
 
@@ -155,6 +161,10 @@ pub enum Kind {
     ByteGenerations,
     /// Indexes of a byte.
     ByteIndexes,
+    /// A strict session at the pointer of general use, over the heap.
+    Strict,
+    /// A strict one at generations of a byte.
+    StrictByteGenerations,
 }
 
 type Slot<P> = ArenaSlot<P, Node<u64, P>>;
@@ -166,6 +176,10 @@ pub fn try_new(rt: &impl Abort, alloc: Global, kind: Kind, trial: &impl Trial) {
         Kind::General => try_at::<P0, NonZeroInxVec<Slot<P0>>>(rt, alloc, trial),
         Kind::ByteGenerations => try_at::<B, NonZeroInxVec<Slot<B>>>(rt, alloc, trial),
         Kind::ByteIndexes => try_at::<Narrow, NonZeroInxVec<Slot<Narrow>>>(rt, alloc, trial),
+        Kind::Strict => try_strict_at::<P0, NonZeroInxVec<Slot<P0>>>(rt, alloc, trial),
+        Kind::StrictByteGenerations => {
+            try_strict_at::<B, NonZeroInxVec<Slot<B>>>(rt, alloc, trial);
+        }
     }
 }
 
@@ -183,12 +197,16 @@ where
     trial.pass(rt, alloc, &mut session);
 }
 
-/// Tries a new strict session over the heap, at a pointer.
-pub fn try_strict<P: Ptr>(rt: &impl Abort, alloc: Global, trial: &impl Trial)
+// Tries a new strict session at a pointer and a stack.
+fn try_strict_at<P: Ptr, S: NonZeroInxGenericStack<Slot<P>> + Drop>(
+    rt: &impl Abort,
+    alloc: Global,
+    trial: &impl Trial,
+)
 where
     P::Gen: Numbered,
 {
     assert!(rt; P::Gen::counts());
-    let mut session: StrictSession<P, u64> = StrictSession::with_new_arena(alloc);
+    let mut session: StrictSession<P, u64, S> = StrictSession::with_new_arena(alloc);
     trial.pass(rt, alloc, &mut session);
 }

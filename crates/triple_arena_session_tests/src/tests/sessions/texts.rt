@@ -5,6 +5,7 @@ use std::alloc::Global;
 use std::io::Read;
 use std::process::Abort;
 use triple_arena_session::TextError;
+use triple_arena_test_kit::is;
 
 /// Expects a run to have ended so, and these lines to be all that its output holds.
 pub fn expect(
@@ -14,8 +15,7 @@ pub fn expect(
     outcome: Result<(), TextError>,
     lines: &[u8],
 ) {
-    assert!(rt; answer == outcome, "at {outcome:?}");
-    assert_eq!(rt; written, lines);
+    is((answer, written), (outcome, lines)).expect(rt, "how a run ended, and its lines");
 }
 
 /// Runs what a reader gives in a session, and expects this outcome, and these lines as all that the

@@ -1,37 +1,58 @@
-use std::alloc::Global;
 use std::process::Abort;
 use triple_arena_ptr::P0;
+use triple_arena_test_kit::is;
 use triple_arena_uses::guest_book::GuestBook;
 
-fn arrived(book: &mut GuestBook, number: u32) -> Option<P0> {
-    book.arrive(number).ok()
+/// The calls of a book of guests, without clauses.
+trait Guests {
+    fn arrived(&mut self, number: u32) -> Option<P0>;
+
+    fn left(&mut self, p: P0) -> Option<u32>;
+
+    fn found(&self, p: P0) -> Option<u32>;
+
+    /// Whether just these came, in this order.
+    fn has_come(&self, all: &[P0]) -> bool;
+
+    fn is_wrapped(&self) -> bool;
 }
 
-fn found(book: &GuestBook, p: P0) -> Option<u32> {
-    book.get(p).copied()
+impl Guests for GuestBook {
+    fn arrived(&mut self, number: u32) -> Option<P0> {
+        self.arrive(number).ok()
+    }
+
+    fn left(&mut self, p: P0) -> Option<u32> {
+        self.leave(p)
+    }
+
+    fn found(&self, p: P0) -> Option<u32> {
+        self.get(p).copied()
+    }
+
+    fn has_come(&self, all: &[P0]) -> bool {
+        self.came() == all
+    }
+
+    fn is_wrapped(&self) -> bool {
+        self.wrapped()
+    }
 }
 
 // What is found of a guest who left and of one who came then, and whether the book has both, with
 // pointers that differ, and no wrap.
-fn told(alloc: Global) -> Option<([Option<u32>; 3], [bool; 3])> {
-    let mut book = GuestBook::new(alloc);
-    let first = arrived(&mut book, 7)?;
-    let left = book.leave(first);
-    let second = arrived(&mut book, 8)?;
-    Some((
-        [left, found(&book, first), found(&book, second)],
-        [
-            book.came() == [first, second].as_slice(),
-            first != second,
-            !book.wrapped(),
-        ],
-    ))
+fn told<B: Guests>(rt: &impl Abort, book: &mut B) -> ([Option<u32>; 3], [bool; 3]) {
+    let first = book.arrived(7).expect(rt, "memory");
+    let left = book.left(first);
+    let second = book.arrived(8).expect(rt, "memory");
+    let found = [left, book.found(first), book.found(second)];
+    let has_both = book.has_come(&[first, second]);
+    (found, [has_both, first != second, !book.is_wrapped()])
 }
 
 #[test]
 fn nobody_gets_the_pointer_of_one_who_left(rt: HostRuntime) {
-    assert_eq!(rt;
-        told(rt.alloc()),
-        Some(([Some(7), None, Some(8)], [true; 3]))
-    );
+    let wanted = ([Some(7), None, Some(8)], [true; 3]);
+    let mut book = GuestBook::new(rt.alloc());
+    is(told(&rt, &mut book), wanted).expect(&rt, "who is there, and who came");
 }

@@ -1,12 +1,11 @@
-use super::numbers;
+use super::Numbers;
 use std::alloc::Global;
 use std::process::Abort;
 use triple_arena::{Arena, ArenaInsertTrait, ArenaTrait};
-use triple_arena_ptr::{P0, Ptr};
+use triple_arena_ptr::P0;
+use triple_arena_test_kit::{is, numbers_of};
 use triple_arena_uses::holders::{LinkBorder, Named, Names, compact_with_border, compact_with_two};
 use triple_arena_uses::{Link, Port};
-
-type Numbers = (usize, u64);
 
 fn link() -> Link {
     Link {
@@ -15,27 +14,26 @@ fn link() -> Link {
     }
 }
 
-// A link under (2, 2) behind a gap.
-fn links(alloc: Global) -> Option<(Arena<P0, Link>, P0)> {
-    let mut links: Arena<P0, Link> = Arena::new(alloc);
-    let gone = links.insert(link()).ok()?;
-    let kept = links.insert(link()).ok()?;
+// The pointer of a link behind a gap.
+fn behind_a_gap<A: ArenaInsertTrait<P0, Link>>(rt: &impl Abort, links: &mut A) -> P0 {
+    let gone = links.insert(link()).expect(rt, "memory");
+    let kept = links.insert(link()).expect(rt, "memory");
     drop(links.remove(gone));
-    Some((links, kept))
+    kept
 }
 
 // Two ports, and a row of the table of names.
-fn border(alloc: Global, link: P0) -> Option<LinkBorder> {
+fn border(rt: &impl Abort, alloc: Global, link: P0) -> LinkBorder {
     let mut ports = Vec::new(alloc);
-    ports.push(Port::Open).ok()?;
-    ports.push(Port::Input(link)).ok()?;
+    ports.push(Port::Open).expect(rt, "memory");
+    ports.push(Port::Input(link)).expect(rt, "memory");
     let mut rows = Vec::new(alloc);
-    let name = String::from_str(alloc, "clock").ok()?;
-    rows.push(Named { name, link }).ok()?;
-    Some(LinkBorder {
+    let name = String::from_str(alloc, "clock").expect(rt, "memory");
+    rows.push(Named { name, link }).expect(rt, "memory");
+    LinkBorder {
         ports,
         names: Names { rows },
-    })
+    }
 }
 
 // What the second port and the first name lead to.
@@ -47,31 +45,26 @@ fn seen(border: &LinkBorder) -> Option<(Numbers, Numbers)> {
     if row.name.as_str() != "clock" {
         return None;
     }
-    Some((numbers(*port), numbers(row.link)))
-}
-
-// What the border of the link leads to once that is compacted.
-fn with_border(alloc: Global) -> Option<(Numbers, Numbers)> {
-    let (mut links, kept) = links(alloc)?;
-    let mut border = border(alloc, kept)?;
-    drop(compact_with_border(&mut links, &mut border, alloc).ok()?);
-    seen(&border)
+    Some((numbers_of(*port), numbers_of(row.link)))
 }
 
 #[test]
 fn ports_and_names_follow(rt: HostRuntime) {
-    assert_eq!(rt; with_border(rt.alloc()), Some(((1, 4), (1, 4))));
+    let mut links: Arena<P0, Link> = Arena::new(rt.alloc());
+    let mut border = border(&rt, rt.alloc(), behind_a_gap(&rt, &mut links));
+    let map = compact_with_border(&mut links, &mut border, rt.alloc());
+    is(map.is_ok(), true).expect(&rt, "memory");
+    is(seen(&border), Some(((1, 4), (1, 4)))).expect(&rt, "what the border leads to");
 }
 
 // The same of two holders that are in no struct together.
-fn with_two(alloc: Global) -> Option<(Numbers, Numbers)> {
-    let (mut links, kept) = links(alloc)?;
-    let (mut first, mut second) = (kept, Some(kept));
-    drop(compact_with_two(&mut links, &mut first, &mut second, alloc).ok()?);
-    Some((numbers(first), numbers(second?)))
-}
-
 #[test]
 fn two_holders_follow(rt: HostRuntime) {
-    assert_eq!(rt; with_two(rt.alloc()), Some(((1, 4), (1, 4))));
+    let mut links: Arena<P0, Link> = Arena::new(rt.alloc());
+    let kept = behind_a_gap(&rt, &mut links);
+    let (mut first, mut second) = (kept, Some(kept));
+    let map = compact_with_two(&mut links, &mut first, &mut second, rt.alloc());
+    is(map.is_ok(), true).expect(&rt, "memory");
+    let led_to = (numbers_of(first), second.map(numbers_of));
+    is(led_to, ((1, 4), Some((1, 4)))).expect(&rt, "what the two lead to");
 }

@@ -1,28 +1,22 @@
+use crate::tests::without_arenas::insertions::second_and_fourth;
 use std::alloc::Global;
 use std::process::Abort;
-use triple_arena::{Arena, ArenaInsertTrait, ArenaTrait};
-use triple_arena_base::ReallocationError;
+use triple_arena::{Arena, ArenaInsertTrait};
 use triple_arena_ptr::P0;
+use triple_arena_test_kit::is;
 use triple_arena_uses::into_values::into_values;
 
 // Four values, of which the first and the third are removed, and a fifth that takes the third's
 // place.
-fn three(alloc: Global) -> Result<Arena<P0, u64>, ReallocationError> {
-    let mut arena = Arena::new(alloc);
-    let first = arena.insert(1)?;
-    arena.insert(2)?;
-    let third = arena.insert(3)?;
-    arena.insert(4)?;
-    drop(arena.remove(first));
-    drop(arena.remove(third));
-    arena.insert(5)?;
-    Ok(arena)
+fn three<A: ArenaInsertTrait<P0, u64> + Drop>(rt: &impl Abort, alloc: Global) -> A {
+    let mut arena: A = second_and_fourth(rt, alloc, [1, 2, 3, 4]);
+    arena.insert(5).expect(rt, "a place");
+    arena
 }
 
 #[test]
 fn values_come_by_index(rt: HostRuntime) {
-    let values = three(rt.alloc())
-        .ok()
-        .and_then(|arena| into_values(rt.alloc(), arena).ok());
-    assert!(rt; values.is_some_and(|all| all.as_slice() == [2, 5, 4].as_slice()));
+    let arena: Arena<P0, u64> = three(&rt, rt.alloc());
+    let values = into_values(rt.alloc(), arena).expect(&rt, "memory");
+    is(values.as_slice(), [2, 5, 4].as_slice()).expect(&rt, "values by index");
 }

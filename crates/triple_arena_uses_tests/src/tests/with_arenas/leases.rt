@@ -1,50 +1,69 @@
-use std::alloc::Global;
 use std::process::Abort;
 use triple_arena_direct::StrictError;
+use triple_arena_test_kit::is;
 use triple_arena_uses::{Lease, Leases, Ticket};
+
+/// The calls of a registry of leases, without clauses.
+trait Registry {
+    fn issued(&mut self, lease: Lease) -> Option<Ticket>;
+
+    fn revoked(&mut self, ticket: Ticket) -> Result<Lease, StrictError>;
+
+    fn redeemed(&self, ticket: Ticket) -> Option<Lease>;
+}
+
+impl Registry for Leases {
+    fn issued(&mut self, lease: Lease) -> Option<Ticket> {
+        self.issue(lease).ok()
+    }
+
+    fn revoked(&mut self, ticket: Ticket) -> Result<Lease, StrictError> {
+        self.revoke(ticket)
+    }
+
+    fn redeemed(&self, ticket: Ticket) -> Option<Lease> {
+        self.redeem(ticket).copied()
+    }
+}
 
 fn lease(item: u64) -> Lease {
     Lease { item, holder: 1 }
 }
 
 // Issues a lease of this item and revokes it; its ticket.
-fn came_and_went(leases: &mut Leases, item: u64) -> Option<Ticket> {
-    let ticket = leases.issue(lease(item)).ok()?;
-    let ended = leases.revoke(ticket);
-    (ended == Ok(lease(item))).then_some(ticket)
+fn came_and_went<R: Registry>(rt: &impl Abort, leases: &mut R, item: u64) -> Ticket {
+    let ticket = leases.issued(lease(item)).expect(rt, "memory");
+    is(leases.revoked(ticket), Ok(lease(item))).expect(rt, "the lease that ended");
+    ticket
 }
 
-// A registry in which 253 leases came and went, all at one index, and the ticket of the first.
-fn used_up(alloc: Global) -> Option<(Leases, Ticket)> {
-    let mut leases = Leases::new(alloc);
-    let first = came_and_went(&mut leases, 1)?;
+// The ticket of the first of 253 leases that came and went, all at one index.
+fn first_of_all<R: Registry>(rt: &impl Abort, leases: &mut R) -> Ticket {
+    let first = came_and_went(rt, leases, 1);
     for item in 2..254 {
-        came_and_went(&mut leases, item)?;
+        came_and_went(rt, leases, item);
     }
-    Some((leases, first))
+    first
 }
 
-// What revoking answers then of the first ticket, and of one that is issued then, which is redeemed
-// before and after.
-fn told(alloc: Global) -> Option<([StrictError; 2], [bool; 3])> {
-    let (mut leases, first) = used_up(alloc)?;
-    let last = leases.issue(lease(254)).ok()?;
-    let is_there = leases.redeem(last) == Some(&lease(254));
-    let refusals = [leases.revoke(first).err()?, leases.revoke(last).err()?];
-    Some((
-        refusals,
-        [
-            is_there,
-            leases.redeem(last) == Some(&lease(254)),
-            leases.redeem(first).is_none(),
-        ],
-    ))
+// What revoking answers then of the first ticket, and of one that is issued then, and what is found
+// under that before and after, and under the first.
+fn told<R: Registry>(
+    rt: &impl Abort,
+    leases: &mut R,
+) -> ([Result<Lease, StrictError>; 2], [Option<Lease>; 3]) {
+    let first = first_of_all(rt, leases);
+    let last = leases.issued(lease(254)).expect(rt, "memory");
+    let before = leases.redeemed(last);
+    let refusals = [leases.revoked(first), leases.revoked(last)];
+    let after = leases.redeemed(last);
+    (refusals, [before, after, leases.redeemed(first)])
 }
 
 #[test]
 fn a_ticket_is_never_valid_again(rt: HostRuntime) {
-    assert_eq!(rt;
-        told(rt.alloc()),
-        Some(([StrictError::InvalidPtr, StrictError::Exhausted], [true; 3]))
-    );
+    let refusals = [Err(StrictError::InvalidPtr), Err(StrictError::Exhausted)];
+    let wanted = (refusals, [Some(lease(254)), Some(lease(254)), None]);
+    let mut leases = Leases::new(rt.alloc());
+    is(told(&rt, &mut leases), wanted).expect(&rt, "the first ticket and the last");
 }

@@ -1,63 +1,76 @@
-use super::numbers;
+use super::{Numbers, Renames};
 use std::alloc::Global;
 use std::process::Abort;
-use triple_arena::ArenaTrait;
+use triple_arena_base::Recast;
 use triple_arena_direct::DirectArena;
 use triple_arena_ptr::P0;
+use triple_arena_test_kit::{is, numbers_of};
 use triple_arena_uses::links::Link;
 use triple_arena_uses::netlist::Netlist;
 
-// Each gate is wired to its target.
-type Wired = Netlist<P0, Link>;
+/// The calls of a netlist, without clauses.
+pub trait Gates<G> {
+    type Map: Renames<P0> + Drop;
 
-type Numbers = (usize, u64);
+    fn added(&mut self, gate: G) -> Option<P0>;
 
-fn added(wired: &mut Wired, weight: u32, target: Option<P0>) -> Option<P0> {
-    wired.add(Link { weight, target }).ok()
+    fn removed(&mut self, p: P0) -> Option<G>;
+
+    fn found(&self, p: P0) -> Option<&G>;
+
+    fn compacted(&mut self, alloc: Global) -> Option<Self::Map>;
 }
 
-fn removed(wired: &mut Wired, p: P0) -> Option<u32> {
-    Some(wired.remove(p)?.weight)
+impl<G: Recast<P0> + Drop> Gates<G> for Netlist<P0, G> {
+    type Map = DirectArena<P0, P0>;
+
+    fn added(&mut self, gate: G) -> Option<P0> {
+        self.add(gate).ok()
+    }
+
+    fn removed(&mut self, p: P0) -> Option<G> {
+        self.remove(p)
+    }
+
+    fn found(&self, p: P0) -> Option<&G> {
+        self.get(p)
+    }
+
+    fn compacted(&mut self, alloc: Global) -> Option<DirectArena<P0, P0>> {
+        Some(self.compact(alloc).ok()?.allow())
+    }
+}
+
+fn gate(weight: u32, target: Option<P0>) -> Link {
+    Link { weight, target }
 }
 
 // The weight of a gate, and index and generation of the one that it is wired to.
-fn gate(wired: &Wired, p: P0) -> Option<(u32, Option<Numbers>)> {
-    let gate = wired.get(p)?;
-    Some((gate.weight, gate.target.map(numbers)))
+fn told<W: Gates<Link>>(wired: &W, p: P0) -> Option<(u32, Option<Numbers>)> {
+    let gate = wired.found(p)?;
+    Some((gate.weight, gate.target.map(numbers_of)))
 }
 
-// The map of a compaction, or none where it is refused.
-fn compacted(wired: &mut Wired, alloc: Global) -> Option<DirectArena<P0, P0>> {
-    Some(wired.compact(alloc).ok()?.allow())
-}
-
-fn renamed(map: &DirectArena<P0, P0>, p: P0) -> Option<P0> {
-    map.get(p).copied()
-}
-
-// Gates at the indexes 1 and 3, the second wired to the first.
-fn two_gates(wired: &mut Wired) -> Option<(P0, P0)> {
-    let first = added(wired, 10, None)?;
-    let between = added(wired, 20, None)?;
-    let second = added(wired, 30, Some(first))?;
-    removed(wired, between)?;
-    Some((first, second))
-}
-
-fn a_wire_after_compaction(alloc: Global) -> Option<[Option<(u32, Option<Numbers>)>; 3]> {
-    let mut wired = Netlist::new(alloc);
-    let (first, second) = two_gates(&mut wired)?;
-    let map = compacted(&mut wired, alloc)?;
-    let moved = renamed(&map, second)?;
-    Some([
-        gate(&wired, second),
-        gate(&wired, renamed(&map, first)?),
-        gate(&wired, moved),
-    ])
+// Gates at the indexes 1 and 3, the second wired to the first, once they are moved: what is found
+// under the second's old pointer, and under both new ones.
+fn after_compaction<W: Gates<Link>>(
+    rt: &impl Abort,
+    alloc: Global,
+    wired: &mut W,
+) -> [Option<(u32, Option<Numbers>)>; 3] {
+    let first = wired.added(gate(10, None)).expect(rt, "memory");
+    let between = wired.added(gate(20, None)).expect(rt, "memory");
+    let second = wired.added(gate(30, Some(first))).expect(rt, "memory");
+    wired.removed(between).expect(rt, "a gate");
+    let map = wired.compacted(alloc).expect(rt, "memory");
+    let first = map.renamed(first).expect(rt, "the first gate");
+    let moved = map.renamed(second).expect(rt, "the second gate");
+    [told(wired, second), told(wired, first), told(wired, moved)]
 }
 
 #[test]
 fn a_wire_follows_its_gate(rt: HostRuntime) {
-    let wanted = Some([None, Some((10, None)), Some((30, Some((1, 4))))]);
-    assert_eq!(rt; a_wire_after_compaction(rt.alloc()), wanted);
+    let wanted = [None, Some((10, None)), Some((30, Some((1, 4))))];
+    let mut wired: Netlist<P0, Link> = Netlist::new(rt.alloc());
+    is(after_compaction(&rt, rt.alloc(), &mut wired), wanted).expect(&rt, "gates by pointers");
 }

@@ -1,30 +1,16 @@
+use super::insertions::second_and_fourth;
 use std::alloc::Global;
 use std::process::Abort;
 use triple_arena::{Arena, ArenaInsertTrait, CompactArenaTrait};
-use triple_arena_ptr::{P0, Ptr};
+use triple_arena_ptr::P0;
+use triple_arena_test_kit::{is, numbers_of};
 use triple_arena_uses::walks::{
     add, add_one, count, drain_three, pointers, remove_all, renew_all, take_all,
 };
 
-fn put<A: ArenaInsertTrait<P0, u64>>(arena: &mut A, number: u64) -> Option<P0> {
-    arena.insert(number).ok()
-}
-
 // The numbers 20 and 40 at the indexes 2 and 4, with free slots before each, and the counter 4.
-fn two_of_four<A: ArenaInsertTrait<P0, u64> + Drop>(alloc: Global) -> Option<A> {
-    let mut arena = A::new(alloc);
-    let first = put(&mut arena, 10)?;
-    let _second = put(&mut arena, 20)?;
-    let third = put(&mut arena, 30)?;
-    let _fourth = put(&mut arena, 40)?;
-    let _ = arena.remove(first);
-    let _ = arena.remove(third);
-    Some(arena)
-}
-
-// Index and generation of a pointer.
-fn numbers(p: P0) -> (usize, u64) {
-    (p.inx().get(), p.generation().get())
+fn two_of_four<A: ArenaInsertTrait<P0, u64> + Drop>(rt: &impl Abort, alloc: Global) -> A {
+    second_and_fourth(rt, alloc, [10, 20, 30, 40])
 }
 
 // Whether these are the pointers of two such indexes and generations.
@@ -32,7 +18,7 @@ fn are_at(all: &[P0], wanted: [(usize, u64); 2]) -> bool {
     let [first, second] = all else {
         return false;
     };
-    [numbers(*first), numbers(*second)] == wanted
+    [numbers_of(*first), numbers_of(*second)] == wanted
 }
 
 // Whether these are all values, in the order of their pointers.
@@ -46,71 +32,78 @@ fn is_empty<A: CompactArenaTrait<P0, u64>>(arena: &A) -> bool {
 }
 
 fn meets_each<A: CompactArenaTrait<P0, u64> + ArenaInsertTrait<P0, u64> + Drop>(
+    rt: &impl Abort,
     alloc: Global,
-) -> Option<bool> {
-    let arena: A = two_of_four(alloc)?;
-    let all = pointers(&arena, alloc).ok()?;
-    Some(count(&arena) == 2 && are_at(&all, [(2, 2), (4, 2)]))
+) -> bool {
+    let arena: A = two_of_four(rt, alloc);
+    let all = pointers(&arena, alloc).expect(rt, "memory");
+    count(&arena) == 2 && are_at(&all, [(2, 2), (4, 2)])
 }
 
 fn writes_each<A: CompactArenaTrait<P0, u64> + ArenaInsertTrait<P0, u64> + Drop>(
+    rt: &impl Abort,
     alloc: Global,
-) -> Option<bool> {
-    let mut arena: A = two_of_four(alloc)?;
+) -> bool {
+    let mut arena: A = two_of_four(rt, alloc);
     add_one(&mut arena);
     let is_written = has_values(&arena, [21, 41]);
     add(&mut arena, u64::MAX - 40);
-    Some(is_written && has_values(&arena, [u64::MAX - 19, 0]))
+    is_written && has_values(&arena, [u64::MAX - 19, 0])
 }
 
 fn renews_each<A: CompactArenaTrait<P0, u64> + ArenaInsertTrait<P0, u64> + Drop>(
+    rt: &impl Abort,
     alloc: Global,
-) -> Option<bool> {
-    let mut arena: A = two_of_four(alloc)?;
-    let renewed = renew_all(&mut arena, alloc).ok()?;
-    Some(are_at(&renewed, [(2, 5), (4, 6)]) && has_values(&arena, [20, 40]))
+) -> bool {
+    let mut arena: A = two_of_four(rt, alloc);
+    let renewed = renew_all(&mut arena, alloc).expect(rt, "memory");
+    are_at(&renewed, [(2, 5), (4, 6)]) && has_values(&arena, [20, 40])
 }
 
 fn removes_each<A: CompactArenaTrait<P0, u64> + ArenaInsertTrait<P0, u64> + Drop>(
+    rt: &impl Abort,
     alloc: Global,
-) -> Option<bool> {
-    let mut arena: A = two_of_four(alloc)?;
+) -> bool {
+    let mut arena: A = two_of_four(rt, alloc);
     remove_all(&mut arena);
-    Some(is_empty(&arena))
+    is_empty(&arena)
 }
 
 fn takes_each<A: CompactArenaTrait<P0, u64> + ArenaInsertTrait<P0, u64> + Drop>(
+    rt: &impl Abort,
     alloc: Global,
-) -> Option<bool> {
-    let mut arena: A = two_of_four(alloc)?;
+) -> bool {
+    let mut arena: A = two_of_four(rt, alloc);
     take_all(&mut arena);
-    Some(is_empty(&arena))
+    is_empty(&arena)
 }
 
 fn drains_each<A: CompactArenaTrait<P0, u64> + ArenaInsertTrait<P0, u64> + Drop>(
+    rt: &impl Abort,
     alloc: Global,
-) -> Option<bool> {
-    let mut arena: A = two_of_four(alloc)?;
-    let _fifth = put(&mut arena, 50)?;
-    let _sixth = put(&mut arena, 60)?;
+) -> bool {
+    let mut arena: A = two_of_four(rt, alloc);
+    arena.insert(50).expect(rt, "a place");
+    arena.insert(60).expect(rt, "a place");
     drain_three(&mut arena);
-    Some(is_empty(&arena))
+    is_empty(&arena)
 }
 
 fn walks<A: CompactArenaTrait<P0, u64> + ArenaInsertTrait<P0, u64> + Drop>(
+    rt: &impl Abort,
     alloc: Global,
-) -> [Option<bool>; 6] {
+) -> [bool; 6] {
     [
-        meets_each::<A>(alloc),
-        writes_each::<A>(alloc),
-        renews_each::<A>(alloc),
-        removes_each::<A>(alloc),
-        takes_each::<A>(alloc),
-        drains_each::<A>(alloc),
+        meets_each::<A>(rt, alloc),
+        writes_each::<A>(rt, alloc),
+        renews_each::<A>(rt, alloc),
+        removes_each::<A>(rt, alloc),
+        takes_each::<A>(rt, alloc),
+        drains_each::<A>(rt, alloc),
     ]
 }
 
 #[test]
 fn each_entry_is_met_written_renewed_and_taken_out(rt: HostRuntime) {
-    assert_eq!(rt; walks::<Arena<P0, u64>>(rt.alloc()), [Some(true); 6]);
+    is(walks::<Arena<P0, u64>>(&rt, rt.alloc()), [true; 6]).expect(&rt, "each walk");
 }

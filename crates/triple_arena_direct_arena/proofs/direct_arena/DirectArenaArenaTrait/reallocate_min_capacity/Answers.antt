@@ -1,4 +1,4 @@
-use Rattle.triple_arena_direct_arena.proofs.Refused.{below_above}
+use Rattle.triple_arena_direct_arena.proofs.Refused.{below_above, not_beyond}
 use Rattle.triple_arena_direct_arena.proofs.Resizing.{on_ok}
 use Rattle.triple_arena_direct_arena.specs.DirectState.{DirectState, direct_with_room_for}
 use Rattle.triple_arena_stack.specs.Capacity.{IsWithin, IsBeyond}
@@ -10,7 +10,7 @@ pub returns-then-min_capacity-get-clause-refused : goal.returns-then-min_capacit
 returns-then-min_capacity-get-clause-refused g c = c.shorten.ensures
 
 pub returns-then-min_capacity-get-clause-beyond : goal.returns-then-min_capacity-get-clause-beyond
-returns-then-min_capacity-get-clause-beyond g c = (λ e. absurd (cc), λ h. absurd (below_above _ _ (subst (λ n. n < c.args.min_capacity) (c.get.ensures.value ∙ c.max_index.ensures) c.if-min_capacity-get.true) h.0))
+returns-then-min_capacity-get-clause-beyond g c = (λ e. absurd (not_beyond e), λ h. absurd (below_above _ _ (subst (λ n. n < c.args.min_capacity) (c.get.ensures.value ∙ c.max_index.ensures) c.if-min_capacity-get.true) h.0))
 
 pub returns-then-min_capacity-get-clause-succeeds : goal.returns-then-min_capacity-get-clause-succeeds
 returns-then-min_capacity-get-clause-succeeds g c within allowed keeps = absurd (below_above _ _ (subst (λ n. n < c.args.min_capacity) (c.get.ensures.value ∙ c.max_index.ensures) c.if-min_capacity-get.true) within)

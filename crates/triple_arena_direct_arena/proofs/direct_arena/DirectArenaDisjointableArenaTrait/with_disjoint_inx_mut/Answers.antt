@@ -1,9 +1,11 @@
-use Rattle.std.proofs.Common.{◌≡◌, ◌∙◌, IsSome, refl, sym, subst, inl, inr}
+use Rattle.std.proofs.Common.{◌≡◌, ◌∙◌, IsSome, refl, sym, ap, subst, inl, inr}
+use Rattle.std.specs.Option.{option_map}
 use Rattle.std.specs.Int.NonZero.{non_zero_usize_get}
 use Rattle.triple_arena_traits.specs.Entries.{entry_in}
 use Rattle.triple_arena_traits.proofs.Pairs.{entry_by_parts}
 use Rattle.triple_arena_traits.proofs.Present.{some_mapped, none_mapped}
 use Rattle.triple_arena_traits.proofs.Refused.{err_is, if_err, on_err, refused_inx}
+use Rattle.triple_arena_direct_arena.specs.DirectState.{direct_with_value}
 use Rattle.triple_arena_direct_arena.proofs.direct_arena.DirectArenaDisjointableArenaTrait.with_disjoint_inx_mut.Goals.{in_default-via-in-Some+in_default, in_default-via-in_default}
 use Rattle.triple_arena_direct_arena.proofs.direct_arena.DirectArenaDisjointableArenaTrait.with_disjoint_inx_mut.Goals as goal
 
@@ -19,10 +21,13 @@ returns-clause-worked g c =
       second_value = w.second_value;
       first_left = w.first_left;
       second_left = w.second_left;
-      first_is = entry_by_parts c.args.self.now.slots _ _ _ _ at_first (rw c.in-Some-Some.is-0 at c.generation_at.ensures) w.first_is;
-      second_is = entry_by_parts c.args.self.now.slots _ _ _ _ at_second (rw c.in-Some-Some.is-1 at c.generation_at-2.ensures) w.second_is;
+      first_is = entry_by_parts c.args.self.now.slots _ _ _ _ at_first (sym (ap (option_map g.P.Gen.PtrGen.number) c.in-Some-Some.is-0) ∙ c.generation_at.ensures) w.first_is;
+      second_is = entry_by_parts c.args.self.now.slots _ _ _ _ at_second (sym (ap (option_map g.P.Gen.PtrGen.number) c.in-Some-Some.is-1) ∙ c.generation_at-2.ensures) w.second_is;
       called = record { first = w.called.first; second = w.called.second; shows = w.called.shows; left = w.called.left; met = w.called.met; leaves = w.called.leaves };
-      left = rw (at_first, at_second) at w.left;
+      left =
+          w.left
+          ∙ ap (λ n. direct_with_value (direct_with_value c.args.self.now n w.first_left) (non_zero_usize_get c.in_ok-i.j) w.second_left) at_first
+          ∙ ap (λ n. direct_with_value (direct_with_value c.args.self.now (g.P.Inx.PtrInx.number c.args.first) w.first_left) n w.second_left) at_second;
     }
 
 pub returns-in_default-clause-variant : goal.returns-in_default-clause-variant
@@ -30,15 +35,15 @@ returns-in_default-clause-variant g c =
     inr (
       c.in_ok-i.ensures.variant,
       elim c.in_default.branch [
-        | in_default-via-in-Some+in_default w ↦ inr (none_mapped _ _ (rw w.in_default.is-1 at c.generation_at-2.ensures))
-        | in_default-via-in_default w ↦ inl (none_mapped _ _ (rw w.in_default.is-0 at c.generation_at.ensures))
+        | in_default-via-in-Some+in_default w ↦ inr (none_mapped _ _ (sym (ap (option_map g.P.Gen.PtrGen.number) w.in_default.is-1) ∙ c.generation_at-2.ensures))
+        | in_default-via-in_default w ↦ inl (none_mapped _ _ (sym (ap (option_map g.P.Gen.PtrGen.number) w.in_default.is-0) ∙ c.generation_at.ensures))
       ],
     )
 
 pub returns-clause-variant : goal.returns-clause-variant
 returns-clause-variant g c = (
-  some_mapped _ _ _ (sym (rw c.in-Some-Some.is-0 at c.generation_at.ensures)) refl,
-  some_mapped _ _ _ (sym (rw c.in-Some-Some.is-1 at c.generation_at-2.ensures)) refl,
+  some_mapped _ _ _ (sym c.generation_at.ensures ∙ ap (option_map g.P.Gen.PtrGen.number) c.in-Some-Some.is-0) refl,
+  some_mapped _ _ _ (sym c.generation_at-2.ensures ∙ ap (option_map g.P.Gen.PtrGen.number) c.in-Some-Some.is-1) refl,
   c.in_ok-i.ensures.variant.2,
 )
 
@@ -47,8 +52,8 @@ work_on_two-requires-clause-callable g c κs within =
     let slots = c.args.self.now.slots in
     λ x y at_x at_y.
     c.requires c.in_ok-i.ensures.variant.2 c.in-Some-Some.a c.in-Some-Some.b x y
-    (entry_by_parts slots _ _ _ _ c.in_ok-i.ensures.numbers.0 (rw c.in-Some-Some.is-0 at c.generation_at.ensures) at_x)
-    (entry_by_parts slots _ _ _ _ c.in_ok-i.ensures.numbers.1 (rw c.in-Some-Some.is-1 at c.generation_at-2.ensures) at_y)
+    (entry_by_parts slots _ _ _ _ c.in_ok-i.ensures.numbers.0 (sym (ap (option_map g.P.Gen.PtrGen.number) c.in-Some-Some.is-0) ∙ c.generation_at.ensures) at_x)
+    (entry_by_parts slots _ _ _ _ c.in_ok-i.ensures.numbers.1 (sym (ap (option_map g.P.Gen.PtrGen.number) c.in-Some-Some.is-1) ∙ c.generation_at-2.ensures) at_y)
 
 pub returns-in_err-i-clause-variant : goal.returns-in_err-i-clause-variant
 returns-in_err-i-clause-variant g c =
@@ -70,11 +75,11 @@ returns-in_default-clause-history g c h fits = absurd fits
 
 pub work_on_two-requires-clause-first : goal.work_on_two-requires-clause-first
 work_on_two-requires-clause-first g c κs within =
-    subst (λ n. IsSome (entry_in c.args.self.now.slots n)) (sym c.in_ok-i.ensures.numbers.0) (some_mapped _ _ _ (sym (rw c.in-Some-Some.is-0 at c.generation_at.ensures)) refl)
+    subst (λ n. IsSome (entry_in c.args.self.now.slots n)) (sym c.in_ok-i.ensures.numbers.0) (some_mapped _ _ _ (sym c.generation_at.ensures ∙ ap (option_map g.P.Gen.PtrGen.number) c.in-Some-Some.is-0) refl)
 
 pub work_on_two-requires-clause-second : goal.work_on_two-requires-clause-second
 work_on_two-requires-clause-second g c κs within =
-    subst (λ n. IsSome (entry_in c.args.self.now.slots n)) (sym c.in_ok-i.ensures.numbers.1) (some_mapped _ _ _ (sym (rw c.in-Some-Some.is-1 at c.generation_at-2.ensures)) refl)
+    subst (λ n. IsSome (entry_in c.args.self.now.slots n)) (sym c.in_ok-i.ensures.numbers.1) (some_mapped _ _ _ (sym c.generation_at-2.ensures ∙ ap (option_map g.P.Gen.PtrGen.number) c.in-Some-Some.is-1) refl)
 
 pub work_on_two-requires-clause-apart : goal.work_on_two-requires-clause-apart
 work_on_two-requires-clause-apart g c κs within same = c.in_ok-i.ensures.variant.2 (sym c.in_ok-i.ensures.numbers.0 ∙ same ∙ c.in_ok-i.ensures.numbers.1)

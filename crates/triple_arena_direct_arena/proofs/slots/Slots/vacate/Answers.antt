@@ -1,4 +1,4 @@
-use Rattle.std.proofs.Common.{◌∙◌}
+use Rattle.std.proofs.Common.{◌∙◌, map, IsSome, ap, subst}
 use Rattle.std.specs.Int.NonZero.{non_zero_usize_get}
 use Rattle.triple_arena_traits.specs.laws.ItemLaws.{map-with_item}
 use Rattle.triple_arena_direct_arena.specs.DirectSlot.{direct_slot_entry}
@@ -12,7 +12,7 @@ replace-requires g c =
 
 pub into_entry-requires-after_bounds : goal.into_entry-requires-after_bounds
 into_entry-requires-after_bounds g c κs within =
-    rw (← entry_item (direct_slot_entry g.P.Gen.PtrGen.number) (g.S.NonZeroInxGenericStack.items c.args.self.now.stack) (non_zero_usize_get c.args.inx) c.replace.result c.replace.ensures.value) c.requires
+    subst IsSome (entry_item (direct_slot_entry g.P.Gen.PtrGen.number) (g.S.NonZeroInxGenericStack.items c.args.self.now.stack) (non_zero_usize_get c.args.inx) c.replace.result c.replace.ensures.value) c.requires
 
 pub returns-clause-entry : goal.returns-clause-entry
 returns-clause-entry g c =
@@ -20,5 +20,5 @@ returns-clause-entry g c =
 
 pub returns-clause-slots : goal.returns-clause-slots
 returns-clause-slots g c =
-    rw (c.replace.ensures.stack, g.met.S.NonZeroInxGenericStack.items_with_items)
-    (map-with_item (direct_slot_entry g.P.Gen.PtrGen.number) (g.S.NonZeroInxGenericStack.items c.args.self.now.stack) (non_zero_usize_get c.args.inx) Free)
+    ap (map (direct_slot_entry g.P.Gen.PtrGen.number)) (ap g.S.NonZeroInxGenericStack.items c.replace.ensures.stack ∙ g.met.S.NonZeroInxGenericStack.items_with_items _ _)
+    ∙ map-with_item (direct_slot_entry g.P.Gen.PtrGen.number) (g.S.NonZeroInxGenericStack.items c.args.self.now.stack) (non_zero_usize_get c.args.inx) Free

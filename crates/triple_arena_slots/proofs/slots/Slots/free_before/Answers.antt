@@ -42,3 +42,11 @@ link_back-requires-clause-indexed g c κs within =
 pub link_back-requires-clause-previous_indexed : goal.link_back-requires-clause-previous_indexed
 link_back-requires-clause-previous_indexed g c κs within = λ j e.
     subst (λ i. i ≤ greatest_index g.P.Inx.PtrInx.greatest) (same_Some _ _ e) (there_indexed (g.S.NonZeroInxGenericStack.items c.args.self.now.slots.stack) (non_zero_usize_get c.args.inx) _ c.requires.indexed c.requires.there)
+
+pub returns-clause-room : goal.returns-clause-room
+returns-clause-room g c =
+    c.link_back.ensures.room ∙ ap g.S.NonZeroInxGenericStack.room c.put-old.ensures.stack ∙ g.met.S.NonZeroInxGenericStack.room_with_items _ _
+
+pub returns-clause-limit : goal.returns-clause-limit
+returns-clause-limit g c =
+    c.link_back.ensures.limit ∙ ap g.S.NonZeroInxGenericStack.limit c.put-old.ensures.stack ∙ g.met.S.NonZeroInxGenericStack.limit_with_items _ _

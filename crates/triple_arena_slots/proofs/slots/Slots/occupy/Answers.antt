@@ -57,3 +57,11 @@ returns-in-None-clause-steps g c s len shows =
 pub returns-in-Some-clause-steps : goal.returns-in-Some-clause-steps
 returns-in-Some-clause-steps g c s len shows =
     omega (arith, c.put.ensures.steps, c.unlink.ensures.steps, ap touch_if c.after.ensures, steps-filled g.P.Gen.PtrGen.number _ _ len c.into_link-link.result s (c.put.ensures.value ∙ ap Some c.into_link-link.ensures) (rw c.in-Some.is at shows))
+
+pub returns-in-Some-clause-room : goal.returns-in-Some-clause-room
+returns-in-Some-clause-room g c =
+    c.unlink.ensures.room ∙ ap g.S.NonZeroInxGenericStack.room c.put.ensures.stack ∙ g.met.S.NonZeroInxGenericStack.room_with_items _ _
+
+pub returns-in-Some-clause-limit : goal.returns-in-Some-clause-limit
+returns-in-Some-clause-limit g c =
+    c.unlink.ensures.limit ∙ ap g.S.NonZeroInxGenericStack.limit c.put.ensures.stack ∙ g.met.S.NonZeroInxGenericStack.limit_with_items _ _

@@ -7,7 +7,7 @@ use Rattle.triple_arena_traits.specs.laws.ItemLaws.{item_last}
 use Rattle.triple_arena_slots.specs.Slot.{entry_of}
 use Rattle.triple_arena_slots.proofs.Links.{can_leave}
 use Rattle.triple_arena_slots.proofs.Unlinking.{no_entry_at}
-use Rattle.triple_arena_slots.proofs.FreeEnd.{item-popped, Shows-without_last}
+use Rattle.triple_arena_slots.proofs.FreeEnd.{item-popped, popped_length, Shows-without_last}
 use Rattle.triple_arena_slots.proofs.slots.Slots.pop_free.Goals as goal
 
 pub into_link-link-requires-after_bounds : goal.into_link-link-requires-after_bounds
@@ -41,3 +41,22 @@ returns-clause-shows g c s len shows =
     let found = item_last items inx c.pop.result c.unwrap-inx.result.ok last c.pop.ensures.value in
     let popped = ap g.S.NonZeroInxGenericStack.items c.pop.ensures.stack ∙ g.met.S.NonZeroInxGenericStack.items_with_items _ _ in
     Shows-without_last g.P.Gen.PtrGen.number items (take (length items - 1) items) _ _ _ inx len c.into_link-link.result s last (found ∙ ap Some c.into_link-link.ensures) (item-popped items inx last) (sym (take-map (entry_of g.P.Gen.PtrGen.number) (length items - 1) items)) (rw (popped, c.before-2.ensures, c.after.ensures) at c.unlink.ensures.leaves) shows
+
+pub pop-requires-after_bounds : goal.pop-requires-after_bounds
+pop-requires-after_bounds g c κs within =
+    let last : non_zero_usize_get c.unwrap-inx.result ≡ length (g.S.NonZeroInxGenericStack.items c.args.self.now.slots.stack) = sym (ap number_or_zero c.unwrap-inx.ensures) ∙ c.index_of.ensures ∙ c.len.ensures in
+    omega (arith, last, c.unwrap-inx.result.ok)
+
+pub returns-clause-popped : goal.returns-clause-popped
+returns-clause-popped g c =
+    let popped = ap g.S.NonZeroInxGenericStack.items c.pop.ensures.stack ∙ g.met.S.NonZeroInxGenericStack.items_with_items _ _ in
+    let last : non_zero_usize_get c.unwrap-inx.result ≡ length (g.S.NonZeroInxGenericStack.items c.args.self.now.slots.stack) = sym (ap number_or_zero c.unwrap-inx.ensures) ∙ c.index_of.ensures ∙ c.len.ensures in
+    popped_length (entry_of g.P.Gen.PtrGen.number) _ _ _ c.unlink.ensures.leaves.entries popped (omega (arith, last, c.unwrap-inx.result.ok))
+
+pub returns-clause-room : goal.returns-clause-room
+returns-clause-room g c =
+    c.unlink.ensures.room ∙ ap g.S.NonZeroInxGenericStack.room c.pop.ensures.stack ∙ g.met.S.NonZeroInxGenericStack.room_with_items _ _
+
+pub returns-clause-limit : goal.returns-clause-limit
+returns-clause-limit g c =
+    c.unlink.ensures.limit ∙ ap g.S.NonZeroInxGenericStack.limit c.pop.ensures.stack ∙ g.met.S.NonZeroInxGenericStack.limit_with_items _ _

@@ -1,10 +1,10 @@
 //! A large circuit that is compacted, beside a plain model of it: vectors of numbers.
 
+use super::Wiring;
 use std::alloc::Global;
-use std::num::{NonZeroU64, NonZeroUsize};
 use std::process::Abort;
-use triple_arena::ArenaTrait;
 use triple_arena_ptr::{P0, Ptr, Q2};
+use triple_arena_test_kit::{Numbered, is, pointer};
 use triple_arena_uses::circuit::Circuit;
 
 // How many cells are added, and how many nets.
@@ -14,36 +14,38 @@ const COUNT: usize = 100_000;
 const NETS_APART: usize = 5_000;
 
 // A cell in three is removed, and no net leads to it.
-fn cells(circuit: &mut Circuit, alloc: Global) -> Option<Vec<P0>> {
+fn cells<C: Wiring>(rt: &impl Abort, alloc: Global, circuit: &mut C) -> Vec<P0> {
     let mut all = Vec::new(alloc);
     for number in 0..COUNT {
-        all.push(circuit.add_cell(number as u32, alloc).ok()?).ok()?;
+        let c = circuit.added_cell(number as u32, alloc);
+        all.push(c.expect(rt, "memory")).expect(rt, "memory");
     }
     let mut kept = Vec::new(alloc);
     for (number, c) in all.into_iter().enumerate() {
         if number % 3 == 0 {
-            circuit.remove_cell(c).ok()?;
+            is(circuit.removes_cell(c), true).expect(rt, "a cell without nets");
         } else {
-            kept.push(c).ok()?;
+            kept.push(c).expect(rt, "memory");
         }
     }
-    Some(kept)
+    kept
 }
 
-fn nets(circuit: &mut Circuit, alloc: Global) -> Option<Vec<Q2>> {
+fn nets<C: Wiring>(rt: &impl Abort, alloc: Global, circuit: &mut C) -> Vec<Q2> {
     let mut all = Vec::new(alloc);
     for number in 0..COUNT {
-        all.push(circuit.add_net(number as u64, alloc).ok()?).ok()?;
+        let n = circuit.added_net(number as u64, alloc);
+        all.push(n.expect(rt, "memory")).expect(rt, "memory");
     }
     let mut kept = Vec::new(alloc);
     for (number, n) in all.into_iter().enumerate() {
         if number % NETS_APART == 0 {
-            circuit.remove_net(n).ok()?;
+            is(circuit.removes_net(n), true).expect(rt, "a net without cells");
         } else {
-            kept.push(n).ok()?;
+            kept.push(n).expect(rt, "memory");
         }
     }
-    Some(kept)
+    kept
 }
 
 // The place among these cells of the one that drives the net of a number, and of the one that reads
@@ -57,76 +59,80 @@ fn sink_of(net: usize, cells: usize) -> usize {
 }
 
 // Each net is driven by one cell, and read by another.
-fn connect(circuit: &mut Circuit, cells: &[P0], nets: &[Q2]) -> Option<()> {
+fn connect<C: Wiring>(rt: &impl Abort, circuit: &mut C, cells: &[P0], nets: &[Q2]) {
     for (number, n) in nets.iter().enumerate() {
-        let driver = cells.get(driver_of(number, cells.len()))?;
-        let sink = cells.get(sink_of(number, cells.len()))?;
-        circuit.drive(*n, *driver).ok()?;
-        circuit.connect(*n, *sink).ok()?;
+        let driver = cells.get(driver_of(number, cells.len()));
+        let sink = cells.get(sink_of(number, cells.len()));
+        let is_driven = circuit.drives(*n, *driver.expect(rt, "a driver"));
+        let is_read = circuit.connects(*n, *sink.expect(rt, "a sink"));
+        is((is_driven, is_read), (true, true)).expect(rt, "a net with its ends");
     }
-    Some(())
 }
 
 // The pointer of the entry at a place, once so many entries were removed before the compaction:
 // each removal raises the counter, which begins at 2, and the compaction raises it once.
-fn cell_at(place: usize, removed: usize) -> Option<P0> {
-    let inx = NonZeroUsize::new(place.wrapping_add(1))?;
-    let generation = NonZeroU64::new((removed as u64).wrapping_add(3))?;
-    Some(P0::_from_raw(inx, generation))
-}
-
-fn net_at(place: usize, removed: usize) -> Option<Q2> {
-    let cell = cell_at(place, removed)?;
-    Some(Q2::_from_raw(cell.inx(), cell.generation()))
+fn moved<P: Ptr>(place: usize, removed: usize) -> P
+where
+    P::Gen: Numbered,
+{
+    pointer(place.wrapping_add(1), (removed as u64).wrapping_add(3))
 }
 
 // Whether the net of a number leads from and to the cells that it led from and to, and is what its
 // reader reads at this place.
-fn is_kept(circuit: &Circuit, number: usize, sizes: [usize; 2], place: usize) -> Option<bool> {
+fn is_kept<C: Wiring>(
+    rt: &impl Abort,
+    circuit: &C,
+    number: usize,
+    sizes: [usize; 2],
+    place: usize,
+) -> bool {
     let [cells, nets] = sizes;
     let (gone_cells, gone_nets) = (COUNT.saturating_sub(cells), COUNT.saturating_sub(nets));
-    let driver = cell_at(driver_of(number, cells), gone_cells)?;
-    let sink = cell_at(sink_of(number, cells), gone_cells)?;
-    let n = net_at(number, gone_nets)?;
-    let net = circuit.net(n)?;
-    let reader = circuit.cell(sink)?;
+    let driver: P0 = moved(driver_of(number, cells), gone_cells);
+    let sink: P0 = moved(sink_of(number, cells), gone_cells);
+    let n: Q2 = moved(number, gone_nets);
+    let net = circuit.found_net(n).expect(rt, "the net");
+    let reader = circuit.found_cell(sink).expect(rt, "its reader");
     let leads = net.driver == Some(driver) && net.sinks.as_slice() == [sink].as_slice();
-    Some(leads && reader.reads.get(place) == Some(&n))
+    leads && reader.reads.get(place) == Some(&n)
 }
 
 // Whether each net is kept, and each cell reads no more than its nets, in their order.
-fn are_kept(circuit: &Circuit, alloc: Global, sizes: [usize; 2]) -> Option<bool> {
+fn are_kept<C: Wiring>(rt: &impl Abort, alloc: Global, circuit: &C, sizes: [usize; 2]) -> bool {
     let [cells, nets] = sizes;
     let mut reads = Vec::new(alloc);
     for _cell in 0..cells {
-        reads.push(0usize).ok()?;
+        reads.push(0usize).expect(rt, "memory");
     }
     for number in 0..nets {
-        let count = reads.get_mut(sink_of(number, cells))?;
-        if !is_kept(circuit, number, sizes, *count)? {
-            return Some(false);
+        let count = reads.get_mut(sink_of(number, cells)).expect(rt, "a sink");
+        if !is_kept(rt, circuit, number, sizes, *count) {
+            return false;
         }
         *count = count.wrapping_add(1);
     }
     for (place, count) in reads.iter().enumerate() {
-        let c = cell_at(place, COUNT.saturating_sub(cells))?;
-        if circuit.cell(c)?.reads.len() != *count {
-            return Some(false);
+        let c = moved(place, COUNT.saturating_sub(cells));
+        let cell = circuit.found_cell(c).expect(rt, "a cell");
+        if cell.reads.len() != *count {
+            return false;
         }
     }
-    Some(true)
+    true
 }
 
-fn compacted(alloc: Global) -> Option<bool> {
-    let mut circuit = Circuit::new(alloc);
-    let cells = cells(&mut circuit, alloc)?;
-    let nets = nets(&mut circuit, alloc)?;
-    connect(&mut circuit, &cells, &nets)?;
-    drop(circuit.compact(alloc).ok()?);
-    are_kept(&circuit, alloc, [cells.len(), nets.len()])
+// Whether a new circuit is as its model once it is large, and compacted.
+fn is_kept_at_large<C: Wiring>(rt: &impl Abort, alloc: Global, circuit: &mut C) -> bool {
+    let cells = cells(rt, alloc, circuit);
+    let nets = nets(rt, alloc, circuit);
+    connect(rt, circuit, &cells, &nets);
+    let _maps = circuit.compacted(alloc).expect(rt, "memory");
+    are_kept(rt, alloc, circuit, [cells.len(), nets.len()])
 }
 
 #[test]
 fn a_large_circuit_is_as_its_model(rt: HostRuntime) {
-    assert_eq!(rt; compacted(rt.alloc()), Some(true));
+    let mut circuit = Circuit::new(rt.alloc());
+    is(is_kept_at_large(&rt, rt.alloc(), &mut circuit), true).expect(&rt, "as its model");
 }

@@ -1,0 +1,130 @@
+use std::alloc::Global;
+use std::process::Abort;
+use triple_arena::{Arena, ArenaInsertTrait, ArenaTrait, CompactArenaTrait};
+use triple_arena_base::Advancer;
+use triple_arena_chain_uses::{Chains, Link, Place};
+use triple_arena_ptr::{P0, Ptr};
+use triple_arena_test_kit::is;
+
+// The first four values from a pointer on, with 0 for each that is missing.
+fn four_from<P: Ptr, A: CompactArenaTrait<P, Link<P, u64>> + ArenaInsertTrait<P, Link<P, u64>>>(
+    chains: &Chains<P, u64, A>,
+    first: P,
+) -> [u64; 4] {
+    let mut values = [0; 4];
+    let mut at = Some(first);
+    for value in values.iter_mut() {
+        if let Some(p) = at {
+            *value = chains.get(p).copied().unwrap_or(0);
+            at = chains.after(p);
+        }
+    }
+    values
+}
+
+// The numbers from 1 to 4 in one chain, and their pointers.
+fn one_to_four<
+    P: Ptr,
+    A: CompactArenaTrait<P, Link<P, u64>> + ArenaInsertTrait<P, Link<P, u64>> + Drop,
+>(rt: &impl Abort, chains: &mut Chains<P, u64, A>) -> (P, P, P, P) {
+    let two = chains.insert_new(2).expect(rt, "memory");
+    let four = chains.insert(Place::After(two), 4).expect(rt, "memory");
+    let one = chains.insert(Place::Before(two), 1).expect(rt, "memory");
+    let three = chains.insert(Place::Before(four), 3).expect(rt, "memory");
+    (one, two, three, four)
+}
+
+// Writes a value, if there is one under the pointer.
+fn write<P: Ptr, A: CompactArenaTrait<P, Link<P, u64>> + ArenaInsertTrait<P, Link<P, u64>>>(
+    chains: &mut Chains<P, u64, A>,
+    p: P,
+    written: u64,
+) {
+    if let Some(value) = chains.get_mut(p) {
+        *value = written;
+    }
+}
+
+fn lists_removes_and_writes<
+    P: Ptr,
+    A: CompactArenaTrait<P, Link<P, u64>> + ArenaInsertTrait<P, Link<P, u64>> + Drop,
+>(rt: &impl Abort, alloc: Global) -> [[u64; 4]; 3] {
+    let mut chains: Chains<P, u64, A> = Chains::new(alloc);
+    let (one, two, three, _four) = one_to_four(rt, &mut chains);
+    let all = four_from(&chains, one);
+    chains.remove(two).expect(rt, "an entry");
+    let three_left = four_from(&chains, one);
+    write(&mut chains, three, 7);
+    [all, three_left, four_from(&chains, one)]
+}
+
+fn cuts_and_joins<
+    P: Ptr,
+    A: CompactArenaTrait<P, Link<P, u64>> + ArenaInsertTrait<P, Link<P, u64>> + Drop,
+>(rt: &impl Abort, alloc: Global) -> [[u64; 4]; 3] {
+    let mut chains: Chains<P, u64, A> = Chains::new(alloc);
+    let (one, two, three, four) = one_to_four(rt, &mut chains);
+    chains.cut_after(two).expect(rt, "an entry");
+    let first = four_from(&chains, one);
+    chains.join(four, one).expect(rt, "two ends");
+    let joined = four_from(&chains, three);
+    chains.cut_before(four).expect(rt, "an entry");
+    [first, joined, four_from(&chains, three)]
+}
+
+// A ring of the numbers from 1 to 4 but for 2, from 3 on, once it is compressed.
+fn compresses<
+    P: Ptr,
+    A: CompactArenaTrait<P, Link<P, u64>> + ArenaInsertTrait<P, Link<P, u64>> + Drop,
+>(rt: &impl Abort, alloc: Global) -> [u64; 4] {
+    let mut chains: Chains<P, u64, A> = Chains::new(alloc);
+    let (one, two, three, four) = one_to_four(rt, &mut chains);
+    chains.remove(two).expect(rt, "an entry");
+    chains.join(four, one).expect(rt, "two ends");
+    let map = chains.compress(alloc).expect(rt, "memory").allow();
+    let new = map.get(three).expect(rt, "the new pointer");
+    four_from(&chains, *new)
+}
+
+// The sum of the values that nine steps of a walk meet.
+fn sum_of_nine<P: Ptr, A: CompactArenaTrait<P, Link<P, u64>> + ArenaInsertTrait<P, Link<P, u64>>>(
+    chains: &Chains<P, u64, A>,
+    from: P,
+) -> u64 {
+    let mut sum: u64 = 0;
+    let mut advancer = chains.walk(from);
+    for _step in 0..9 {
+        if let Some(p) = advancer.advance(chains) {
+            let value = chains.get(p).copied().unwrap_or(0);
+            sum = sum.wrapping_add(value);
+        }
+    }
+    sum
+}
+
+// A ring of the numbers from 1 to 4 beside a chain of 5 alone: the sum of a walk round it from 3 on, how
+// many are taken out with it, and how many are left.
+fn walks_and_removes<
+    P: Ptr,
+    A: CompactArenaTrait<P, Link<P, u64>> + ArenaInsertTrait<P, Link<P, u64>> + Drop,
+>(rt: &impl Abort, alloc: Global) -> (u64, usize, usize) {
+    let mut chains: Chains<P, u64, A> = Chains::new(alloc);
+    let (one, _two, three, four) = one_to_four(rt, &mut chains);
+    chains.insert_new(5).expect(rt, "memory");
+    chains.join(four, one).expect(rt, "two ends");
+    let sum = sum_of_nine(&chains, three);
+    let removed = chains.remove_chain(three).expect(rt, "a chain");
+    (sum, removed, chains.len())
+}
+
+#[test]
+fn each_call_over_an_arena(rt: HostRuntime) {
+    let listed = lists_removes_and_writes::<P0, Arena<P0, Link<P0, u64>>>(&rt, rt.alloc());
+    is(listed, [[1, 2, 3, 4], [1, 3, 4, 0], [1, 7, 4, 0]]).expect(&rt, "a removal and a write");
+    let joined = cuts_and_joins::<P0, Arena<P0, Link<P0, u64>>>(&rt, rt.alloc());
+    is(joined, [[1, 2, 0, 0], [3, 4, 1, 2], [3, 0, 0, 0]]).expect(&rt, "cuts and a join");
+    let compressed = compresses::<P0, Arena<P0, Link<P0, u64>>>(&rt, rt.alloc());
+    is(compressed, [3, 4, 1, 3]).expect(&rt, "a ring that is compressed");
+    let walked = walks_and_removes::<P0, Arena<P0, Link<P0, u64>>>(&rt, rt.alloc());
+    is(walked, (10, 4, 1)).expect(&rt, "a walk and a removal");
+}

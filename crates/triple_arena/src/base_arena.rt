@@ -1,14 +1,13 @@
 //! The arena.
 
-ghost use Rattle.std.specs.Prelude.{◌≡◌, ℕ, List, Option, ◌≤◌, ◌<◌, ◌+◌, ◌==◌, ◌∷◌, ◌↔◌, ◌≢◌, cond, false, [], map, length, is_some, IsSome, IfSome, IsOk, IfOk, OnOk, OnErr, Some, None, Err, IsTrue, slice_get, option_copied, min, MatchOption, ◌-◌, ◌*◌, ◌^◌};
+ghost use Rattle.std.specs.Prelude.{◌≡◌, ℕ, ◌≤◌, ◌+◌, ◌==◌, ◌∷◌, ◌↔◌, ◌≢◌, cond, false, [], map, length, is_some, IsSome, IfSome, IsOk, OnOk, OnErr, Some, None, Err, slice_get, option_copied, MatchOption, ◌-◌, ◌*◌};
 ghost use Rattle.std.specs.Borrow.{sem, LendsIf};
 ghost use Rattle.std.specs.Int.NonZero.{non_zero_usize_get};
 ghost use Rattle.std.specs.Option.{option_map, option_and_then, option_copied_mut};
 ghost use Rattle.triple_arena_ptr.specs.Numbers.{greatest_index, raise, wraps, first_generation};
 ghost use Rattle.triple_arena_ptr.specs.Pointers.{Pointer};
-ghost use Rattle.triple_arena_stack.specs.Capacity.{IsWithin, IsBeyond, IsAtLimit, IsFullAtLimit, CanGrow};
+ghost use Rattle.triple_arena_stack.specs.Capacity.{IsWithin, IsBeyond};
 ghost use Rattle.triple_arena_stack.specs.StackKind.{IsOfKind};
-ghost use Rattle.triple_arena_stack.specs.Disjoint.{DisjointAnswer, MayWork, Worked};
 ghost use Rattle.triple_arena_traits.specs.Items.{item};
 ghost use Rattle.triple_arena_traits.specs.Entries.{look_up, entry_in, entry_count, IsFirst, IsLast};
 ghost use Rattle.triple_arena_traits.specs.Walks.{IsAtFirst};
@@ -17,10 +16,9 @@ ghost use Rattle.triple_arena_traits.specs.Insertion.{next_pointer, inserted};
 ghost use Rattle.triple_arena_traits.specs.SlotSteps.{RisesByAtMost, IsTouched, touched, insertion_steps};
 ghost use Rattle.triple_arena_traits.specs.Ending.{removed, invalidated, cleared, told, told_of, map_told};
 ghost use Rattle.triple_arena_traits.specs.FreeList.{tidied, without_free_end, IsTidied};
-ghost use Rattle.triple_arena_traits.specs.Reallocation.{with_room_for, reallocated, KeepsRoom, grown, EndsBy, ready_for_limit, with_limit};
+ghost use Rattle.triple_arena_traits.specs.Reallocation.{reallocated, KeepsRoom, grown};
 ghost use Rattle.triple_arena_slots.specs.Slot.{entry_of};
 ghost use Rattle.triple_arena_slots.specs.Layout.{IsLinked};
-ghost use Rattle.triple_arena_traits.specs.DisjointEntries.{value_of};
 ghost use Rattle.triple_arena_traits.specs.Values.{with_values_of};
 ghost use Rattle.triple_arena_traits.specs.Lent.{lends_values};
 ghost use Rattle.triple_arena_traits.specs.Histories.{History, resizing, invalidation, removal, remains, Fits, Continues, CountsUp};
@@ -28,24 +26,20 @@ ghost use Rattle.triple_arena_traits.specs.Histories.{History, resizing, invalid
 mod advancer;
 mod compaction;
 mod copies;
+mod disjoint;
+mod room;
 
 use crate::arena_iterators::PtrAdvancer;
 use std::alloc::Global;
 use std::marker::{Model, PhantomData};
 use std::num::NonZeroUsize;
-use triple_arena_base::{
-    AllocError, GetDisjointMutError, InvalidationOption, InvalidationResult,
-    MaxCapacityReductionError, ReallocationError,
-};
+use triple_arena_base::{AllocError, InvalidationOption, InvalidationResult, ReallocationError};
 use triple_arena_ptr::{Ptr, PtrGen, PtrInx};
 use triple_arena_slots::{ArenaSlot, Slots};
-use triple_arena_stack::{NonZeroInxGenericStack, NonZeroInxVec, SetMaxCapacity, grown_capacity};
+use triple_arena_stack::{NonZeroInxGenericStack, NonZeroInxVec};
 use triple_arena_traits::answers::{told, told_valid};
 use triple_arena_traits::entry_slots::{first_live, last_live, ptr_at};
-use triple_arena_traits::pair_call::{AtEntries, AtValues, PairCall};
-use triple_arena_traits::{
-    ArenaInsertTrait, ArenaTrait, DisjointableArenaTrait, EntrySlot, LendingArena, LentSlots,
-};
+use triple_arena_traits::{ArenaInsertTrait, ArenaTrait, EntrySlot, LendingArena, LentSlots};
 
 /// A generational arena over a stack of slots.
 ///
@@ -542,37 +536,6 @@ impl<P: Ptr, T, S: NonZeroInxGenericStack<ArenaSlot<P, T>>> ArenaInsertTrait<P, 
     ghost valid_grown = { well_formed-grown S.kind };
 }
 
-impl<P: Ptr, T, S: NonZeroInxGenericStack<ArenaSlot<P, T>>> DisjointableArenaTrait<P, T>
-    for Arena<P, T, S> {
-    fn with_disjoint_mut<R, F: FnOnce(&mut T, &mut T) -> R>(
-        &mut self,
-        first: P,
-        second: P,
-        f: F,
-    ) -> Result<R, GetDisjointMutError> {
-        let (Some(first), Some(second)) = (self.find(first), self.find(second)) else {
-            return Err(GetDisjointMutError::IndexOutOfBounds);
-        };
-        if first == second {
-            return Err(GetDisjointMutError::OverlappingIndices);
-        }
-        Ok(self.work_on_two(first, second, AtValues { f }))
-    }
-
-    fn with_disjoint_inx_mut<R, F: FnOnce(P::Gen, &mut T, P::Gen, &mut T) -> R>(
-        &mut self,
-        first: P::Inx,
-        second: P::Inx,
-        f: F,
-    ) -> Result<R, GetDisjointMutError> {
-        let (i, j) = self.two_slots(first, second)?;
-        let (Some(a), Some(b)) = (self.generation_at(first), self.generation_at(second)) else {
-            return Err(GetDisjointMutError::IndexOutOfBounds);
-        };
-        Ok(self.work_on_two(i, j, AtEntries { f, a, b }))
-    }
-}
-
 impl<P: Ptr, T, S: NonZeroInxGenericStack<ArenaSlot<P, T>>> Arena<P, T, S> {
     /// An arena without slots, over a stack that the caller has made, and that has no item: with its
     /// room and its limit. It takes no memory.
@@ -721,48 +684,6 @@ impl<P: Ptr, T, S: NonZeroInxGenericStack<ArenaSlot<P, T>>> Arena<P, T, S> {
         ptr_at::<P, T, ArenaSlot<P, T>, S>(self.slots.stack(), inx)
     }
 
-    // The numbers of two indexes that name two slots.
-    fn two_slots(
-        &self,
-        first: P::Inx,
-        second: P::Inx,
-    ) -> Result<(NonZeroUsize, NonZeroUsize), GetDisjointMutError>
-        ensures variant { DisjointAnswer (slot_count self.now)
-            (P.Inx.number first) (P.Inx.number second) result }
-        ensures numbers { IfOk result (λ both. (non_zero_usize_get both.0 ≡ P.Inx.number first)
-            × (non_zero_usize_get both.1 ≡ P.Inx.number second)) }
-    {
-        let stack = self.slots.stack();
-        let (Some(first), Some(second)) = (
-            P::Inx::try_into_usize(first),
-            P::Inx::try_into_usize(second),
-        ) else {
-            return Err(GetDisjointMutError::IndexOutOfBounds);
-        };
-        stack.check_disjoint(first, second)?;
-        Ok((first, second))
-    }
-
-    // Makes the call at the values of the entries at two indexes.
-    fn work_on_two<R, C: PairCall<T, R>>(
-        &mut self,
-        first: NonZeroUsize,
-        second: NonZeroUsize,
-        call: C,
-    ) -> R
-        requires first { IsSome (entry self.old (non_zero_usize_get first)) }
-        requires second { IsSome (entry self.old (non_zero_usize_get second)) }
-        requires apart { non_zero_usize_get first ≢ non_zero_usize_get second }
-        requires callable { MayWork C.calls call (value_of (entry self.old (non_zero_usize_get first)))
-            (value_of (entry self.old (non_zero_usize_get second))) }
-        ensures { Worked C.calls call (value_of (entry self.old (non_zero_usize_get first)))
-            (value_of (entry self.old (non_zero_usize_get second)))
-            result (λ x y. self.new ≡ with_value
-            (with_value self.old (non_zero_usize_get first) x) (non_zero_usize_get second) y) }
-    {
-        self.slots.work_on_two(first, second, call)
-    }
-
     // How many slots there are.
     pub(crate) fn slot_count(&self) -> usize
         ensures value { result ≡ slot_count self.now }
@@ -799,102 +720,5 @@ impl<P: Ptr, T, S: NonZeroInxGenericStack<ArenaSlot<P, T>>> Arena<P, T, S> {
         let (counter, wrapped) = P::Gen::generational_inc(self.counter);
         self.counter = counter;
         (taken, wrapped)
-    }
-
-    // Reallocates the stack, and leaves the slots as they are. It is rare, and kept out of insertion.
-    #[cold]
-    #[inline(never)]
-    fn reallocate(&mut self, min_capacity: usize) -> Result<(), ReallocationError>
-        ensures done { OnOk result (self.new ≡ with_room_for S.kind self.old min_capacity) }
-        ensures refused { OnErr result (self.new ≡ self.old) }
-        ensures within { OnOk result (IsWithin self.old.limit min_capacity) }
-        ensures beyond { (result ≡ Err ReallocationError.BeyondMaxCapacity)
-            ↔ IsBeyond self.old.limit min_capacity }
-        ensures succeeds { IsWithin self.old.limit min_capacity
-            → (with_room_for S.kind self.old min_capacity).room ≡ self.old.room → IsOk result }
-        ensures with_memory { IsWithin self.old.limit min_capacity
-            → S.has_memory (with_room_for S.kind self.old min_capacity).room → IsOk result }
-        ensures place { OnOk result (min_capacity ≤ greatest_index P.Inx.greatest
-            → min_capacity ≤ capacity self.new) }
-    {
-        self.slots.reallocate(min_capacity)
-    }
-
-    // Grows where there are as many entries as the capacity.
-    pub(crate) fn grow_if_full(&mut self) -> Result<(), ReallocationError>
-        ensures done { OnOk result (self.new ≡ grown S.kind self.old) }
-        ensures refused { OnErr result (self.new ≡ self.old) }
-        ensures has_place { OnOk result (arena_len self.new < capacity self.new) }
-        ensures beyond { (result ≡ Err ReallocationError.BeyondMaxCapacity)
-            ↔ IsFullAtLimit (capacity self.old) self.old.limit (arena_len self.old) }
-        ensures with_memory { CanGrow S.has_memory (capacity self.old) self.old.limit
-            (greatest_index P.Inx.greatest) → IsOk result }
-        ensures indexed { OnOk result (arena_len self.old ≡ capacity self.old
-            → capacity self.old < greatest_index P.Inx.greatest) }
-        ensures had_place { arena_len self.old < capacity self.old → IsOk result }
-        ensures well_formed { IsWellFormed self.old }
-    {
-        let capacity = self.capacity();
-        if self.len < capacity {
-            return Ok(());
-        }
-        let limit = self.slots.max_capacity();
-        if is_at_limit(limit, capacity) {
-            return Err(ReallocationError::BeyondMaxCapacity);
-        }
-        let greatest = P::Inx::max_index().get();
-        if capacity == greatest {
-            return Err(ReallocationError::AllocError);
-        }
-        self.reallocate(grown_capacity(capacity, limit, greatest))
-    }
-}
-
-// Whether the limit, if there is one, is reached at this capacity.
-fn is_at_limit(limit: Option<usize>, capacity: usize) -> bool
-    ensures { IsTrue result ↔ IsAtLimit limit capacity }
-{
-    match limit {
-        Some(most) => most <= capacity,
-        None => false,
-    }
-}
-
-impl<P: Ptr, T, S: SetMaxCapacity<ArenaSlot<P, T>>> Arena<P, T, S> {
-    /// Sets the limit to `max_capacity`, a number of slots. It takes no memory, and the room stays:
-    /// the capacity is then the smallest of room, limit and greatest index.
-    ///
-    /// Where the new limit is below the old one and the capacity, first the free list is
-    /// tidied, as by `canonicalize_freelist`; that stays done where the limit is refused.
-    ///
-    /// Refused exactly where an entry stands at an index past `max_capacity`; then all stays but the
-    /// free list, which is tidied.
-    pub fn set_max_capacity(&mut self, max_capacity: usize) -> Result<(), MaxCapacityReductionError>
-        ensures variant { IsOk result ↔ EndsBy self.old max_capacity }
-        ensures done { OnOk result (IsTouched (with_limit self.old max_capacity) self.new) }
-        ensures refused { OnErr result (IsTouched (tidied self.old) self.new) }
-        ensures history { Continues Fits self.old (resizing ∷ []) self.new }
-    {
-        self.make_ready_for_limit(max_capacity);
-        self.set_limit(max_capacity)
-    }
-
-    // Tidies the free list where the limit to come is below the capacity.
-    fn make_ready_for_limit(&mut self, limit: usize)
-        ensures state { IsTouched (ready_for_limit self.old limit) self.new }
-        ensures fits { slot_count self.old ≤ capacity self.old }
-    {
-        if limit < self.capacity() {
-            self.canonicalize_freelist();
-        }
-    }
-
-    // Sets the limit of the stack, and leaves the slots as they are.
-    fn set_limit(&mut self, limit: usize) -> Result<(), MaxCapacityReductionError>
-        ensures variant { IsOk result ↔ (slot_count self.old ≤ limit) }
-        ensures done { OnOk result (self.new ≡ record self.old { limit = Some limit }) }
-        ensures refused { OnErr result (self.new ≡ self.old) }
-    {
-        self.slots.set_max_capacity(limit)
     }
 }

@@ -9,8 +9,8 @@ use Rattle.triple_arena_traits.specs.laws.ItemLaws.{eq_true, eq_false}
 use Rattle.triple_arena_traits.specs.laws.WellFormedLaws.{live_entry}
 use Rattle.triple_arena_traits.proofs.SlotEntries.{none_of}
 use Rattle.triple_arena_traits.proofs.Pairs.{value_at_pointer, same_pointer}
-use Rattle.triple_arena.proofs.base_arena.ArenaDisjointableArenaTrait.with_disjoint_mut.Goals.{in_default-via-in-Some+in_default, in_default-via-in_default}
-use Rattle.triple_arena.proofs.base_arena.ArenaDisjointableArenaTrait.with_disjoint_mut.Goals as goal
+use Rattle.triple_arena.proofs.base_arena.disjoint.ArenaDisjointableArenaTrait.with_disjoint_mut.Goals.{in_default-via-in-Some+in_default, in_default-via-in_default}
+use Rattle.triple_arena.proofs.base_arena.disjoint.ArenaDisjointableArenaTrait.with_disjoint_mut.Goals as goal
 
 pub returns-clause-worked : goal.returns-clause-worked
 returns-clause-worked g c =

@@ -5,8 +5,8 @@ use Rattle.std.proofs.Common.{◌≡◌, refl, sym, inl, inr, ◌∙◌, IsSome,
 use Rattle.std.specs.Int.NonZero.{non_zero_usize_get}
 use Rattle.triple_arena_traits.proofs.Pairs.{entry_by_parts}
 use Rattle.triple_arena_traits.proofs.Present.{some_mapped, none_mapped}
-use Rattle.triple_arena.proofs.base_arena.ArenaDisjointableArenaTrait.with_disjoint_inx_mut.Goals.{in_default-via-in-Some+in_default, in_default-via-in_default}
-use Rattle.triple_arena.proofs.base_arena.ArenaDisjointableArenaTrait.with_disjoint_inx_mut.Goals as goal
+use Rattle.triple_arena.proofs.base_arena.disjoint.ArenaDisjointableArenaTrait.with_disjoint_inx_mut.Goals.{in_default-via-in-Some+in_default, in_default-via-in_default}
+use Rattle.triple_arena.proofs.base_arena.disjoint.ArenaDisjointableArenaTrait.with_disjoint_inx_mut.Goals as goal
 
 pub returns-clause-worked : goal.returns-clause-worked
 returns-clause-worked g c =

@@ -13,8 +13,8 @@ use triple_arena_traits::ArenaTrait;
 
 impl<P: Ptr, T: fmt::Debug, S: NonZeroInxGenericStack<DirectSlot<P, T>>> fmt::Debug
     for DirectArena<P, T, S> {
-    // The trait's clause is written out, since inheriting it makes each call dearer to prove.
     /// Writes `{pointer: value, ..}`, by index.
+    // The trait's clause is written out, since inheriting it makes each call dearer to prove.
     fn fmt<W: fmt::Write>(&self, f: &mut fmt::Formatter<W>) -> fmt::Result
         ensures writes { DisplaysOnOk W.write_str_gives f.old result None f.new }
     {

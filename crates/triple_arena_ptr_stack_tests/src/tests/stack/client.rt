@@ -273,16 +273,19 @@ fn overwritten<S: NonZeroInxGenericStack<Slot<u64>>>(holding: &mut Holding<S>) -
     take_value(&mut holding.slots, ONE, 0)
 }
 
-// Takes the second of two slots, after it was exchanged with the first, and whose place is taken again then.
-fn taken<S: NonZeroInxGenericStack<Slot<u64>>>(slots: &mut S) -> Option<Slot<u64>> {
-    let _ = put_growing(slots, 8);
+// Pushes a second slot, and takes it, after it was exchanged with the first; its place is taken again then. What the
+// push told, and the slot that was taken.
+fn taken<S: NonZeroInxGenericStack<Slot<u64>>>(
+    slots: &mut S,
+) -> (Result<NonZeroUsize, ReallocationError>, Option<Slot<u64>>) {
+    let pushed = put_growing(slots, 8);
     let _ = exchange(slots, ONE, ONE.saturating_add(1));
     free(slots, ONE, 3);
     let taken = take_last(slots);
     if slots.len() < slots.capacity() {
         put_over(slots, 9, 4);
     }
-    taken
+    (pushed, taken)
 }
 
 // Takes all slots, and tells the capacity then, and whether it has reached the limit.
@@ -298,7 +301,8 @@ fn each_call_of_the_client(rt: HostRuntime) {
     let slots: OnHeap<Slot<u64>> = made(rt.alloc(), 2);
     let mut holding = Holding { slots };
     is(overwritten(&mut holding), Some(7)).expect(&rt, "the value that was written");
-    let last = taken(&mut holding.slots);
+    let (pushed, last) = taken(&mut holding.slots);
+    is(pushed, Ok(ONE.saturating_add(1))).expect(&rt, "the index of the second slot");
     is(matches!(last, Some(Slot::Free(0))), true).expect(&rt, "the slot that was taken");
     is(emptied(&mut holding.slots), (Ok(2), false)).expect(&rt, "the capacity, and no limit");
 }

@@ -113,7 +113,6 @@ type Told = (
 // Of three cells and two nets, of which the second leads from the second cell to the third, the
 // first ones go: the pointers of the last ones.
 fn last_of_each<C: Wiring>(rt: &impl Abort, alloc: Global, circuit: &mut C) -> (P0, Q2) {
-    let alloc = alloc;
     let first = circuit.added_cell(1, alloc).expect(rt, "memory");
     let second = circuit.added_cell(2, alloc).expect(rt, "memory");
     let third = circuit.added_cell(3, alloc).expect(rt, "memory");

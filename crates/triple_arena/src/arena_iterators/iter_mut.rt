@@ -1,8 +1,8 @@
 //! The iterators that lend each value of an arena for writing.
 
-ghost use Rattle.std.specs.Prelude.{◌≡◌, ◌<◌, ◌^◌, [], ⊤, length};
+ghost use Rattle.std.specs.Prelude.{◌≡◌, ◌<◌, ◌^◌, [], length};
 ghost use Rattle.std.specs.Borrow.{sem};
-ghost use Rattle.std.specs.Iterator.{YieldsFirstBy, MakesProgress, item_count};
+ghost use Rattle.std.specs.Iterator.{YieldsFirstBy, item_count};
 ghost use Rattle.triple_arena_traits.specs.ArenaState.{ArenaState, arena_len};
 ghost use Rattle.triple_arena_traits.specs.Histories.{Fits, Continues};
 ghost use Rattle.triple_arena_traits.specs.Walks.{entries, values};
@@ -63,13 +63,8 @@ impl<'a, P: Ptr, T: 'a> Iterator for IterMut<'a, P, T> {
         (0, Some(self.left))
     }
 
-    // The trait's clauses are written out, since inheriting them makes each call dearer to prove.
     #[inline(always)]
-    fn next(&mut self) -> Option<(P, &'a mut T)>
-        ensures steps { YieldsFirstBy (λ item. (P.numbers item.0, item.1.now)) lent_rest self.old
-            result self.new }
-        ensures goes { MakesProgress (λ _. ⊤) (item_count lent_rest) self.old result self.new }
-    {
+    fn next(&mut self) -> Option<(P, &'a mut T)> {
         'slots: while self.left > 0 {
             let inx = self.next;
             self.left -= 1;

@@ -1,4 +1,4 @@
-//! Loops over arenas, also by value over each stack.
+//! Loops over arenas, also by value over each stack, and how many items iterators say that are left.
 
 use crate::tests::numbers::put_numbers;
 use std::alloc::Global;
@@ -79,4 +79,36 @@ fn a_loop_by_value_meets_each_entry_over_each_stack(rt: HostRuntime) {
     is(sums_taken(fixed.into_iter()), (11, 11)).expect(&rt, "the sums over a slice");
     let array: Arena<P0, u64, NonZeroInxArray<Slot, 6>> = three(&rt, alloc);
     is(sums_taken(array.into_iter()), (11, 11)).expect(&rt, "the sums over an array");
+}
+
+// Whether an iterator says no less than so many items are left, and no more.
+fn has_left<I: Iterator>(items: &I, left: usize) -> bool {
+    let (least, most) = items.size_hint();
+    least <= left && most.is_none_or(|most| left <= most)
+}
+
+// Of three entries: `iter`, `ptrs`, `vals`, and then a drain before and after its first step.
+fn hints<A: CompactArenaTrait<P0, u64>>(arena: &mut A) -> [bool; 5] {
+    let entries = has_left(&arena.iter(), 3);
+    let pointers = has_left(&arena.ptrs(), 3);
+    let values = has_left(&arena.vals(), 3);
+    let mut drain = arena.drain();
+    let all = has_left(&drain, 3);
+    drop(drain.next());
+    [entries, pointers, values, all, has_left(&drain, 2)]
+}
+
+// Of three entries that are lent to be written, and of three values.
+fn hints_of_loans(arena: &mut Arena<P0, u64>) -> [bool; 2] {
+    let entries = has_left(&arena.iter_mut(), 3);
+    [entries, has_left(&arena.vals_mut(), 3)]
+}
+
+#[test]
+fn each_iterator_bounds_what_is_left(rt: HostRuntime) {
+    let mut arena: Arena<P0, u64> = three(&rt, rt.alloc());
+    is(hints_of_loans(&mut arena), [true; 2]).expect(&rt, "of loans");
+    is(hints(&mut arena), [true; 5]).expect(&rt, "of any arena's");
+    let arena: Arena<P0, u64> = three(&rt, rt.alloc());
+    is(has_left(&arena.into_iter(), 3), true).expect(&rt, "of an arena by value");
 }

@@ -1,4 +1,5 @@
-//! What no clause of chains says: each call over an arena, through its bounds, and a cache beside the kit's.
+//! What no clause of chains says: each call over an arena, through its bounds, a cache beside the kit's, and drops.
 
 mod cache;
 mod calls;
+mod drops;

@@ -22,6 +22,22 @@ fn four_from<P: Ptr, A: CompactArenaTrait<P, Link<P, u64>> + ArenaInsertTrait<P,
     values
 }
 
+// The first four values from a pointer back, with 0 for each that is missing.
+fn four_back_from<
+    P: Ptr,
+    A: CompactArenaTrait<P, Link<P, u64>> + ArenaInsertTrait<P, Link<P, u64>>,
+>(chains: &Chains<P, u64, A>, last: P) -> [u64; 4] {
+    let mut values = [0; 4];
+    let mut at = Some(last);
+    for value in values.iter_mut() {
+        if let Some(p) = at {
+            *value = chains.get(p).copied().unwrap_or(0);
+            at = chains.before(p);
+        }
+    }
+    values
+}
+
 // The numbers from 1 to 4 in one chain, and their pointers.
 fn one_to_four<
     P: Ptr,
@@ -56,6 +72,17 @@ fn lists_removes_and_writes<
     let three_left = four_from(&chains, one);
     write(&mut chains, three, 7);
     [all, three_left, four_from(&chains, one)]
+}
+
+fn goes_back<
+    P: Ptr,
+    A: CompactArenaTrait<P, Link<P, u64>> + ArenaInsertTrait<P, Link<P, u64>> + Drop,
+>(rt: &impl Abort, alloc: Global) -> [[u64; 4]; 2] {
+    let mut chains: Chains<P, u64, A> = Chains::new(alloc);
+    let (_one, two, _three, four) = one_to_four(rt, &mut chains);
+    let all = four_back_from(&chains, four);
+    chains.remove(two).expect(rt, "an entry");
+    [all, four_back_from(&chains, four)]
 }
 
 fn cuts_and_joins<
@@ -115,6 +142,12 @@ fn walks_and_removes<
     let sum = sum_of_nine(&chains, three);
     let removed = chains.remove_chain(three).expect(rt, "a chain");
     (sum, removed, chains.len())
+}
+
+#[test]
+fn a_chain_read_backwards(rt: HostRuntime) {
+    let listed = goes_back::<P0, Arena<P0, Link<P0, u64>>>(&rt, rt.alloc());
+    is(listed, [[4, 3, 2, 1], [4, 3, 1, 0]]).expect(&rt, "all four, and then three");
 }
 
 #[test]

@@ -1,13 +1,15 @@
 //! Walks along a chain.
 
-ghost use Rattle.std.specs.Prelude.{◌≡◌, ◌+◌, cond, is_some};
+ghost use Rattle.std.specs.Prelude.{◌≡◌, ◌+◌, cond, is_some, map, IfOk, IsSome};
 ghost use Rattle.std.specs.Option.{option_map, option_eq};
 ghost use Rattle.triple_arena_ptr.specs.Pointers.{is_same};
-ghost use Rattle.triple_arena_chain_uses.specs.Chains.{nodes, begun_at, passed, Passes};
+ghost use Rattle.triple_arena_chain_uses.specs.Chains.{nodes, begun_at, passed, Passes, IsRest};
 
 use crate::chains::Chains;
+use crate::laws::walks_along_chains;
 use crate::link::Link;
 use crate::steps::are_same;
+use std::alloc::{AllocError, Global};
 use std::marker::Model;
 use triple_arena::{ArenaInsertTrait, CompactArenaTrait};
 use triple_arena_base::Advancer;
@@ -102,5 +104,24 @@ impl<P: Ptr, T, A: CompactArenaTrait<P, Link<P, T>> + ArenaInsertTrait<P, Link<P
             first: Some(p),
             left: self.len(),
         }
+    }
+
+    /// The pointers of a chain from one on, each once: to its end, or once round a ring. There is none
+    /// where the pointer finds nothing.
+    ///
+    /// Refused where memory is.
+    pub fn rest(&self, p: P, alloc: Global) -> Result<Vec<P>, AllocError>
+        ensures { IsSome (nodes self.now (P.numbers p)) → IfOk result
+            (λ all. IsRest (nodes self.now) (P.numbers p) (map P.numbers all.items)) }
+    {
+        // By its clauses, neighbours lead to each other, and entries are counted.
+        let _len = self.len();
+        walks_along_chains::<T>();
+        let mut all = Vec::new(alloc);
+        let mut advancer = self.walk(p);
+        'walk: while let Some(q) = advancer.advance(self) {
+            all.push(q)?;
+        }
+        Ok(all)
     }
 }

@@ -13,7 +13,7 @@ use Rattle.triple_arena.specs.Entries.{entry_in, look_up, ChangesAt}
 use Rattle.triple_arena.specs.Ending.{told_of, map_told}
 use Rattle.triple_arena.specs.FreeList.{IsRising}
 use Rattle.triple_arena.specs.Walks.{Stand, Steps, Walk, IsAtFirst}
-use Rattle.triple_arena.specs.laws.WalkLaws.{walk_more, rises_from, walk_sees}
+use Rattle.triple_arena.specs.laws.WalkLaws.{walk_more, rises_from}
 
 some_same : {A : Type 0} {x y : A} → Some x ≡ Some y → x ≡ y
 some_same e = cc
@@ -56,10 +56,6 @@ module _ {T : Type 0} where
       somewhere : (place : ℕ) → (place ≡ 0) ⊎ (1 ≤ place)
       somewhere zero = inl refl
       somewhere (suc place) = inr (omega arith)
-
-  pub all_answered : (greatest : ℕ) (old slots : List (Option (ℕ × T))) (b a : Stand) (told : List ℕ) → HasAnswered greatest old slots b told → Steps greatest slots b None a → (i : ℕ) → IsSome (entry_in old i) → Contains told i
-  all_answered greatest old slots b a told so_far s i live =
-      subst (λ is. Contains is i) so_far.answers (walk_sees greatest so_far.from so_far.turns b slots a i (so_far.first.all i live) so_far.walk s (so_far.lived i live) (so_far.live i live))
 
   -- pointers of lower indexes than one that was renewed stay valid
   pub still_valid : {P : Type 0} (numbers : P → Pointer) (slots left : List (Option (ℕ × T))) (low : ℕ) (all : List P) (new : P) → IsRising low (map (λ p. (numbers p).0) all ++ (numbers new).0 ∷ []) → All (λ p. IsSome (look_up slots (numbers p))) all → ((q : Pointer) → q.0 ≢ (numbers new).0 → look_up left q ≡ look_up slots q) → IsSome (look_up left (numbers new)) → All (λ p. IsSome (look_up left (numbers p))) (all ++ new ∷ [])

@@ -4,13 +4,15 @@
 //! cell read a net, or read it no more, does so on both sides, or on neither; who drives a net, the net
 //! alone knows (`ends.rt`). Compaction keeps each tie, or changes nothing (`compaction.rt`).
 
-ghost use Rattle.std.specs.Prelude.{◌≡◌, ◌≢◌, [], None, Some, IfOk, OnErr, option_copied};
+ghost use Rattle.std.specs.Prelude.{◌≡◌, ◌≢◌, ◌<◌, [], None, Some, IsOk, IfOk, OnErr, option_copied};
+ghost use Rattle.std.specs.Result.{IfErr};
 ghost use Rattle.std.proofs.Common.{refl, ap};
 ghost use Rattle.triple_arena_base.specs.Held.{held_itself, refill_itself, held_nothing, refill_nothing, held_option, refill_option};
 ghost use Rattle.triple_arena_base.specs.laws.HeldLaws.{itself_held_refill, itself_refill_held, itself_refill_refill, nothing_held_refill, option_held_refill, option_refill_held, option_refill_refill};
 ghost use Rattle.triple_arena_base.specs.HeldVecs.{held_vec, refill_vec, vec_held_refill, vec_refill_held, vec_refill_refill};
 ghost use Rattle.triple_arena_base.specs.HeldPairs.{both_held_refill, both_refill_held, both_refill_refill};
 ghost use Rattle.triple_arena_ptr.specs.Pointers.{Pointer};
+ghost use Rattle.triple_arena.specs.ArenaState.{arena_len, capacity};
 ghost use Rattle.triple_arena.specs.Entries.{look_up};
 ghost use Rattle.triple_arena_uses.specs.Entities.{p0_numbers};
 ghost use Rattle.triple_arena_uses.specs.Circuit.{q2_numbers, cell_at, net_at, cells_held, cells_refilled, nets_held, nets_refilled};
@@ -53,7 +55,7 @@ pub enum CircuitError {
     #[error("it is still in use")]
     InUse,
     /// Memory was refused.
-    #[error("memory was refused")]
+    #[error("memory was refused: {0}")]
     Memory(AllocError),
 }
 
@@ -176,7 +178,8 @@ impl Circuit {
 
     /// A new cell, which reads no net.
     ///
-    /// Where room or memory for it is refused, nothing changes.
+    /// `AllocError`, and nothing changes, only where there is no place, and memory is refused or each index
+    /// has a cell. `BeyondMaxCapacity` never comes, as the heap has no limit.
     pub fn add_cell(&mut self, kind: u32, alloc: Global) -> Result<P0, ReallocationError>
         ensures found { IfOk result (λ c. cell_at self.new (p0_numbers c)
             ≡ Some record { kind = kind; reads = [] }) }
@@ -184,8 +187,12 @@ impl Circuit {
         ensures others { IfOk result (λ c. (q : Pointer) → q ≢ p0_numbers c
             → cell_at self.new q ≡ cell_at self.old q) }
         ensures nets { self.new.nets ≡ self.old.nets }
+        ensures had_place { arena_len self.old.cells < capacity self.old.cells → IsOk result }
+        ensures refusal { IfErr result (λ e. e ≡ ReallocationError.AllocError) }
         ensures refused { OnErr result (self.new ≡ self.old) }
     {
+        // By its clauses, there is no limit.
+        let _limit = self.cells.max_capacity();
         self.cells.insert(Cell {
             kind,
             reads: Vec::new(alloc),
@@ -194,7 +201,8 @@ impl Circuit {
 
     /// A new net, which no cell drives, and none reads.
     ///
-    /// Where room or memory for it is refused, nothing changes.
+    /// `AllocError`, and nothing changes, only where there is no place, and memory is refused or each index
+    /// has a net. `BeyondMaxCapacity` never comes, as the heap has no limit.
     pub fn add_net(&mut self, label: u64, alloc: Global) -> Result<Q2, ReallocationError>
         ensures found { IfOk result (λ n. net_at self.new (q2_numbers n)
             ≡ Some record { label = label; driver = None; sinks = [] }) }
@@ -202,8 +210,12 @@ impl Circuit {
         ensures others { IfOk result (λ n. (q : Pointer) → q ≢ q2_numbers n
             → net_at self.new q ≡ net_at self.old q) }
         ensures cells { self.new.cells ≡ self.old.cells }
+        ensures had_place { arena_len self.old.nets < capacity self.old.nets → IsOk result }
+        ensures refusal { IfErr result (λ e. e ≡ ReallocationError.AllocError) }
         ensures refused { OnErr result (self.new ≡ self.old) }
     {
+        // By its clauses, there is no limit.
+        let _limit = self.nets.max_capacity();
         self.nets.insert(Net {
             label,
             driver: None,

@@ -159,9 +159,11 @@ pub fn compact_with_two<T: Recast<P0>, H: Recast<P0>, K: Recast<P0>>(
     first: &mut H,
     second: &mut K,
     alloc: Global,
-) -> Result<DirectArena<P0, P0>, CompactError<P0>>
-    ensures maps { IfOk result (λ map. MapsPointers p0_numbers (moved arena.old)
-        arena.old.slots map.slots) }
+) -> Result<InvalidationOption<DirectArena<P0, P0>>, CompactError<P0>>
+    ensures answer { IfOk result (λ answer. answer
+        ≡ told (moving_wraps arena.old) (allowed_option answer)) }
+    ensures maps { IfOk result (λ answer. MapsPointers p0_numbers (moved arena.old)
+        arena.old.slots (allowed_option answer).slots) }
     ensures found { OnOk result ((p : Pointer) → IsSome (look_up arena.old.slots p)
         → IsFoundRenamed p0_numbers (moved arena.old) T.held T.refill
         (look_up arena.old.slots p) (look_up arena.new.slots (moved arena.old p))) }
@@ -186,11 +188,22 @@ pub fn compact_with_two<T: Recast<P0>, H: Recast<P0>, K: Recast<P0>>(
     if let Some(p) = unresolved(arena, second) {
         return Err(CompactError::Unresolved(p));
     }
-    let map = compress_recast(arena, alloc, false)?.allow();
+    let answer = compress_recast(arena, alloc, false)?;
     // By their clauses, neither recast is refused, and both rename.
     holders_follow::<P0, T, H>();
     holders_follow::<P0, T, K>();
-    let _first = first.recast(&map);
-    let _second = second.recast(&map);
-    Ok(map)
+    let map = value_of(&answer);
+    let _first = first.recast(map);
+    let _second = second.recast(map);
+    Ok(answer)
+}
+
+// The value of either variant.
+fn value_of<T>(answer: &InvalidationOption<T>) -> &T
+    ensures { result.now ≡ allowed_option answer.now }
+{
+    match answer {
+        InvalidationOption::Success(value) => value,
+        InvalidationOption::GenerationOverflow(value) => value,
+    }
 }

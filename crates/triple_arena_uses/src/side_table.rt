@@ -3,20 +3,23 @@
 //! The notes lie in a direct arena that mirrors the arena of the entities: it is given each
 //! insertion and each removal. So a note stands under a pointer exactly where an entity does.
 
-ghost use Rattle.std.specs.Prelude.{◌≡◌, ◌≢◌, ◌<◌, ◌≤◌, None, Some, IsOk, IfOk, OnErr, is_some};
+ghost use Rattle.std.specs.Prelude.{◌≡◌, ◌≢◌, ◌<◌, ◌≤◌, None, Some, IsOk, IfOk, OnOk, OnErr, is_some};
 ghost use Rattle.triple_arena_ptr.specs.Pointers.{Pointer};
 ghost use Rattle.triple_arena.specs.ArenaState.{arena_len, capacity};
 ghost use Rattle.triple_arena.specs.Entries.{look_up};
 ghost use Rattle.triple_arena.specs.Insertion.{next_pointer};
 ghost use Rattle.triple_arena_direct.specs.DirectState.{direct_capacity};
+ghost use Rattle.triple_arena_direct.specs.Mirrors.{IsMirror};
 ghost use Rattle.triple_arena_uses.specs.Entities.{p0_numbers};
 ghost use Rattle.triple_arena_uses.specs.Notes.{Noted};
 
 use crate::Entity;
 use std::alloc::Global;
 use std::marker::Model;
-use triple_arena::{Arena, ArenaDirectInsertTrait, ArenaInsertTrait, ArenaTrait};
-use triple_arena_base::{AllocError, NotWithinCapacityError};
+use triple_arena::{
+    Arena, ArenaCloneFromWith, ArenaDirectInsertTrait, ArenaInsertTrait, ArenaTrait,
+};
+use triple_arena_base::{AllocError, CloneFromError, NotWithinCapacityError};
 use triple_arena_direct::{DirectArena, laws};
 use triple_arena_ptr::P0;
 
@@ -96,4 +99,20 @@ impl NotedEntities {
     {
         self.notes.get(p).copied()
     }
+}
+
+/// Puts a note beside each entity, in the place of whatever notes there were: then a note stands under a
+/// pointer exactly where an entity does.
+///
+/// Refused as `clone_from_with` is: where there is no room for so many notes, or with what refused one.
+pub fn note_each<E, M: FnMut(P0, &Entity) -> Result<u64, E>>(
+    entities: &Arena<P0, Entity>,
+    notes: &mut DirectArena<P0, u64>,
+    note_of: M,
+) -> Result<(), CloneFromError<E>>
+    requires { M.IsAlwaysCallable note_of }
+    ensures { OnOk result (IsMirror entities.now.slots notes.new.slots) }
+{
+    laws::clone_has_the_pointers::<P0, Entity, u64, E, M>();
+    notes.clone_from_with(entities, note_of)
 }

@@ -1,13 +1,16 @@
 //! Walks over any compact arena: its entries counted, collected, changed, renewed and taken out.
 
-ghost use Rattle.std.specs.Prelude.{◌≡◌, ◌+◌, ◌%◌, ◌^◌, ℕ, All, Contains, IfOk, IsSome, map};
+ghost use Rattle.std.specs.Prelude.{◌≡◌, ◌↔◌, ◌<◌, ◌+◌, ◌%◌, ◌^◌, ℕ, false, All, Contains, IfOk, IsSome, map};
+ghost use Rattle.std.specs.List.{range_with_len};
+ghost use Rattle.triple_arena_ptr.specs.Pointers.{Pointer};
 ghost use Rattle.triple_arena.specs.Entries.{entry_in, look_up, entry_count};
 ghost use Rattle.triple_arena.specs.FreeList.{IsRising};
 ghost use Rattle.triple_arena.specs.Walks.{entries, keys};
 
 use std::alloc::{AllocError, Global};
 use triple_arena::CompactArenaTrait;
-use triple_arena_base::Advancer;
+use triple_arena::laws::{compression_keeps_order, forward_walk, walk_in_order};
+use triple_arena_base::{Advancer, InvalidationOption};
 use triple_arena_ptr::Ptr;
 
 /// How many entries a walk meets.
@@ -24,15 +27,19 @@ pub fn count<P: Ptr, T, A: CompactArenaTrait<P, T>>(arena: &A) -> usize
     count
 }
 
-/// All pointers, in the order of their indexes.
+/// All pointers, in the order of their indexes: just those that find an entry.
 ///
 /// Refused where memory is.
 pub fn pointers<P: Ptr, T, A: CompactArenaTrait<P, T>>(
     arena: &A,
     alloc: Global,
 ) -> Result<Vec<P>, AllocError>
-    ensures { IfOk result (λ all. map P.numbers all.items ≡ keys (A.slots arena.now)) }
+    ensures keys { IfOk result (λ all. map P.numbers all.items ≡ keys (A.slots arena.now)) }
+    ensures rising { IfOk result (λ all. IsRising 1 (map (λ p. p.0) (map P.numbers all.items))) }
+    ensures live { IfOk result (λ all. (p : Pointer) → IsSome (look_up (A.slots arena.now) p)
+        ↔ Contains (map P.numbers all.items) p) }
 {
+    walk_in_order::<T>();
     let mut all = Vec::new(alloc);
     'walk: for p in arena.ptrs() {
         all.push(p)?;
@@ -75,6 +82,7 @@ pub fn renew_all<P: Ptr, T, A: CompactArenaTrait<P, T>>(
     ensures valid { IfOk result (λ all.
         All (λ p. IsSome (look_up (A.slots arena.new) (P.numbers p))) all.items) }
 {
+    forward_walk::<T>();
     let mut all = Vec::new(alloc);
     let mut advancer = arena.advancer();
     'walk: while let Some(p) = advancer.advance(arena) {
@@ -110,4 +118,19 @@ pub fn drain_three<P: Ptr, T: Drop, A: CompactArenaTrait<P, T>>(arena: &mut A)
     drop(drain.next());
     drop(drain.next());
     drop(drain.next());
+}
+
+/// Closes the gaps between the entries: they stand at the indexes from 1 to their number, in the order
+/// that they had, each with its value. Tells of a wrap as a compression does.
+pub fn close_gaps<P: Ptr, T, A: CompactArenaTrait<P, T>>(arena: &mut A) -> InvalidationOption<()>
+    ensures indexes { map (λ p. p.0) (keys (A.slots arena.new))
+        ≡ range_with_len 1 (entry_count (A.slots arena.old)) }
+    ensures order { (p q : Pointer) → IsSome (look_up (A.slots arena.old) p)
+        → IsSome (look_up (A.slots arena.old) q) → p.0 < q.0
+        → (A.rank arena.old false p).0 < (A.rank arena.old false q).0 }
+    ensures found { (p : Pointer) → IsSome (look_up (A.slots arena.old) p)
+        → look_up (A.slots arena.new) (A.rank arena.old false p) ≡ look_up (A.slots arena.old) p }
+{
+    compression_keeps_order::<P, T, A>();
+    arena.compress(false)
 }

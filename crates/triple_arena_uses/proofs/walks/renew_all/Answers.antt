@@ -1,9 +1,9 @@
-use Rattle.std.proofs.Common.{ap}
+use Rattle.std.proofs.Common.{ap, subst, Contains}
 use Rattle.std.proofs.lemmas.List.{map_push}
 use Rattle.std.proofs.lemmas.List.Elements.{All-nil}
 use Rattle.triple_arena_ptr.specs.Pointers.{Pointer}
 use Rattle.triple_arena.specs.laws.WalkLaws.{taken}
-use Rattle.triple_arena_uses.proofs.Renewing.{none_answered, one_answered, answers_rise, all_answered, still_valid, stays, renewed_is}
+use Rattle.triple_arena_uses.proofs.Renewing.{none_answered, one_answered, answers_rise, still_valid, stays, renewed_is}
 use Rattle.triple_arena_uses.proofs.walks.renew_all.Goals as goal
 
 pub walk-init : goal.walk-init
@@ -29,4 +29,8 @@ pub returns-clause-rising : goal.returns-clause-rising
 returns-clause-rising g c = answers_rise _ _ _ _ _ c.walk.invariant.answered
 
 pub returns-clause-all : goal.returns-clause-all
-returns-clause-all g c i live = all_answered _ _ _ _ _ _ c.walk.invariant.answered (g.met.A.CompactArenaTrait.advanced _ _ _ _ c.in_default.ensures.steps) i live
+returns-clause-all g c i live =
+    let so_far = c.walk.invariant.answered in
+    subst (λ is. Contains is i) so_far.answers
+    (c.forward_walk.ensures.sees _ _ so_far.from so_far.turns _ _ _ i so_far.first so_far.walk
+    (g.met.A.CompactArenaTrait.advanced _ _ _ _ c.in_default.ensures.steps) live (so_far.lived i live) (so_far.live i live))

@@ -1,4 +1,5 @@
-//! A large circuit that is compacted, beside a plain model of it: vectors of numbers.
+//! A large circuit that is compacted, beside a plain model of it: vectors of numbers; and a net with more
+//! sinks than 16 bits count.
 
 use super::Wiring;
 use std::alloc::Global;
@@ -9,6 +10,9 @@ use triple_arena_uses::circuit::Circuit;
 
 // How many cells are added, and how many nets.
 const COUNT: usize = 100_000;
+
+// How often one cell is connected to one net.
+const SINKS: usize = 70_000;
 
 // One net in so many is removed.
 const NETS_APART: usize = 5_000;
@@ -135,4 +139,23 @@ fn is_kept_at_large<C: Wiring>(rt: &impl Abort, alloc: Global, circuit: &mut C) 
 fn a_large_circuit_is_as_its_model(rt: HostRuntime) {
     let mut circuit = Circuit::new(rt.alloc());
     is(is_kept_at_large(&rt, rt.alloc(), &mut circuit), true).expect(&rt, "as its model");
+}
+
+// How many sinks a net has, and how many readings its cell, once the two are connected so often.
+fn joined_often<C: Wiring>(rt: &impl Abort, alloc: Global, circuit: &mut C) -> (usize, usize) {
+    let c = circuit.added_cell(1, alloc).expect(rt, "memory");
+    let n = circuit.added_net(10, alloc).expect(rt, "memory");
+    for _ in 0..SINKS {
+        is(circuit.connects(n, c), true).expect(rt, "memory for one more");
+    }
+    let net = circuit.found_net(n).expect(rt, "the net");
+    let cell = circuit.found_cell(c).expect(rt, "the cell");
+    (net.sinks.len(), cell.reads.len())
+}
+
+#[test]
+fn a_net_takes_seventy_thousand_sinks(rt: HostRuntime) {
+    let mut circuit = Circuit::new(rt.alloc());
+    let joined = joined_often(&rt, rt.alloc(), &mut circuit);
+    is(joined, (SINKS, SINKS)).expect(&rt, "all the sinks and readings");
 }

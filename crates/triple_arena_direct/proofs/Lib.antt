@@ -6,4 +6,5 @@ mod WrittenValues
 mod MappedAnswers
 mod Followed
 mod FollowedBoth
+mod Relations
 pub mod StrictAnswers

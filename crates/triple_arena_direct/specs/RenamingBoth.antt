@@ -5,7 +5,7 @@ use Rattle.std.specs.List.{AllZip}
 use Rattle.triple_arena_ptr.specs.Pointers.{Pointer}
 use Rattle.triple_arena_direct.specs.declared.errors.CompactBothError.{CompactBothError}
 use Rattle.triple_arena_direct.specs.declared.errors.CompactBothError.TheVariants.{First, Second}
-use Rattle.triple_arena_direct.specs.Renaming.{Refuses}
+use Rattle.triple_arena_direct.specs.Renaming.{Refuses, AllResolve, RefusesStray}
 
 -- the two kinds stand apart in a value: where pointers of one kind are put in it, those of the other stay
 abbrev pub StandApart : {P Q T : Type 0} → (T → List P) → (T → List P → T) → (T → List Q) → (T → List Q → T) → Type 0
@@ -42,3 +42,9 @@ module _ {P Q T : Type 0}
 abbrev pub RefusesBoth : {P Q : Type 0} (count : ℕ) (first : Option P) (count_too : ℕ) (first_too : Option Q) → CompactBothError P Q → Type 0
 RefusesBoth count first count_too first_too (First refusal) = Refuses count first refusal
 RefusesBoth count first count_too first_too (Second refusal) = (first ≡ None) × Refuses count_too first_too refusal
+
+-- the same in look-ups, where the values in the slots of each arena hold pointers to the other's alone
+abbrev pub RefusesBothStray : {P Q T U : Type 0} (numbers : P → Pointer) (numbers_too : Q → Pointer) (slots : List (Option (ℕ × T))) (held : U → List P) (slots_too : List (Option (ℕ × U))) (held_too : T → List Q) → CompactBothError P Q → Type 0
+RefusesBothStray numbers numbers_too slots held slots_too held_too (First refusal) = RefusesStray numbers slots held slots_too refusal
+RefusesBothStray numbers numbers_too slots held slots_too held_too (Second refusal) =
+    AllResolve numbers slots held slots_too × RefusesStray numbers_too slots_too held_too slots refusal

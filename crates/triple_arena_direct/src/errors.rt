@@ -40,9 +40,9 @@ impl<I> From<CompactError<I>> for StrictCompactError<I> {
 #[derive(Clone, Copy, Debug, PartialEq, Eq, Error)]
 pub enum CompactBothError<I, J> {
     /// Memory for the map of the first was refused, or a pointer to the first finds no entry.
-    #[error("the compaction of the first arena was refused")]
+    #[error("the compaction of the first arena was refused: {0}")]
     First(CompactError<I>),
     /// The first could be compacted; and so of the second.
-    #[error("the compaction of the second arena was refused")]
+    #[error("the compaction of the second arena was refused: {0}")]
     Second(CompactError<J>),
 }

@@ -4,6 +4,7 @@
 mod errors;
 mod indexing;
 mod lending_arena;
+mod reading;
 mod renaming;
 mod renaming_both;
 pub mod renaming_laws;
@@ -12,6 +13,7 @@ pub mod strict_laws;
 mod text;
 
 pub use errors::{CompactBothError, StrictCompactError, StrictError};
+pub use reading::Reading;
 pub use renaming::{compress_recast, compress_recast_with, compress_recaster, unresolved};
 pub use renaming_both::compress_recast_both;
 pub use strict_arena::StrictArena;

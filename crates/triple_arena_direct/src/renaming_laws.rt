@@ -1,6 +1,7 @@
-//! Laws of renaming: how holders follow a compaction, arenas among them.
+//! Laws of renaming: how holders follow a compaction, arenas among them, and what is read of values.
 
-ghost use Rattle.std.specs.Prelude.{◌≡◌, ℕ, List, Contains, Option, None, IsSome, Ok};
+ghost use Rattle.std.specs.Prelude.{◌≡◌, ◌++◌, ℕ, List, [], Contains, Option, None, IsSome, Ok};
+ghost use Rattle.std.specs.Option.{option_map};
 ghost use Rattle.triple_arena_base.specs.Held.{held_all, recast_items, recast_answer};
 ghost use Rattle.triple_arena_ptr.specs.Pointers.{Pointer};
 ghost use Rattle.triple_arena_traits.specs.Entries.{look_up, entry_count};
@@ -9,7 +10,10 @@ ghost use Rattle.triple_arena_traits.specs.HeldSlots.{held_slots, refill_slots};
 ghost use Rattle.triple_arena_traits.specs.Walks.{keys, values};
 ghost use Rattle.triple_arena_direct_arena.specs.DirectState.{DirectState};
 ghost use Rattle.triple_arena_direct.specs.Renaming.{MapsPointers, first_unresolved, Refuses, AllResolve, RefusesStray, IsRenamed, AreRenamed, IsFoundRenamed};
+ghost use Rattle.triple_arena_direct.specs.RenamingBoth.{IsFoundRenamedBoth, RefusesBoth, RefusesBothStray};
 
+use crate::errors::CompactBothError;
+use crate::reading::Reading;
 use triple_arena_base::{CompactError, Recast};
 use triple_arena_ptr::Ptr;
 
@@ -82,4 +86,63 @@ pub fn arenas_resolve<P: Ptr, T, U: Recast<P>>()
         → RefusesStray P.numbers slots U.held holders refusal }
     ensures same { (holders : List (Option (ℕ × U)))
         → held_slots U.held U.refill holders ≡ held_all U.held (values holders) }
+{}
+
+/// What is read of values follows their pointers ([`Reading`]): where what is found was renamed, what is
+/// read of it is renamed (`found`), and so it is under each pointer of an arena that was a holder
+/// (`arenas`).
+pub fn readings_follow<P: Ptr, U: Reading<P>>()
+    ensures found { (rename : Pointer → Pointer) (before after : Option U)
+        → IsFoundRenamed P.numbers rename U.held U.refill before after
+        → option_map U.read after ≡ option_map (U.renamed rename) (option_map U.read before) }
+    ensures arenas { (rename : Pointer → Pointer) (old new : ArenaState U) → IsRenamed P.numbers rename
+        (λ s. held_slots U.held U.refill s.slots)
+        (λ s l. record s { slots = refill_slots U.held U.refill s.slots l }) old new
+        → (q : Pointer) → option_map U.read (look_up new.slots q)
+        ≡ option_map (U.renamed rename) (option_map U.read (look_up old.slots q)) }
+{}
+
+/// So it is after a compaction of two arenas that point at each other: of values that hold none of the
+/// pointers `P` to their own arena, what is read of those to the other, `Q`, is renamed.
+pub fn readings_follow_both<P: Ptr, Q: Ptr, T: Recast<P> + Reading<Q>>()
+    ensures { ((v : T) → ⟦<T as Recast<P>>⟧.held v ≡ []) → (rename rename_too : Pointer → Pointer)
+        (before after : Option T) → IsFoundRenamedBoth
+        P.numbers rename ⟦<T as Recast<P>>⟧.held ⟦<T as Recast<P>>⟧.refill
+        Q.numbers rename_too ⟦<T as Recast<Q>>⟧.held ⟦<T as Recast<Q>>⟧.refill before after
+        → option_map T.read after ≡ option_map (T.renamed rename_too) (option_map T.read before) }
+{}
+
+/// As [`arenas_resolve`], of the pointers that the values of an arena hold to it, and then those that the
+/// values of another hold, which was compacted with it or was its holder (`all_with`, `stray_with`). A
+/// refusal tells of the other's pointers where the first values hold none.
+pub fn relations_resolve<P: Ptr, T: Recast<P>, U: Recast<P>>()
+    ensures all { (slots : List (Option (ℕ × T))) (holders : List (Option (ℕ × U)))
+        → first_unresolved P.numbers slots
+        (held_all T.held (values slots) ++ held_all U.held (values holders)) ≡ None
+        → AllResolve P.numbers slots U.held holders }
+    ensures all_with { (slots : List (Option (ℕ × T))) (holders : List (Option (ℕ × U)))
+        → first_unresolved P.numbers slots
+        (held_all T.held (values slots) ++ held_slots U.held U.refill holders) ≡ None
+        → AllResolve P.numbers slots U.held holders }
+    ensures stray_with { ((v : T) → T.held v ≡ []) → (slots : List (Option (ℕ × T)))
+        (holders : List (Option (ℕ × U))) (refusal : CompactError P) → Refuses (entry_count slots)
+        (first_unresolved P.numbers slots
+        (held_all T.held (values slots) ++ held_slots U.held U.refill holders)) refusal
+        → RefusesStray P.numbers slots U.held holders refusal }
+{}
+
+/// Why neither of two arenas was compacted, in look-ups, where the values of each hold none of the
+/// pointers to their own.
+pub fn relations_resolve_both<P: Ptr, Q: Ptr, T: Recast<P> + Recast<Q>, U: Recast<P> + Recast<Q>>()
+    ensures { ((v : T) → ⟦<T as Recast<P>>⟧.held v ≡ []) → ((v : U) → ⟦<U as Recast<Q>>⟧.held v ≡ [])
+        → (slots : List (Option (ℕ × T))) (slots_too : List (Option (ℕ × U)))
+        (refusal : CompactBothError P Q) → RefusesBoth
+        (entry_count slots) (first_unresolved P.numbers slots
+        (held_all ⟦<T as Recast<P>>⟧.held (values slots)
+        ++ held_all ⟦<U as Recast<P>>⟧.held (values slots_too)))
+        (entry_count slots_too) (first_unresolved Q.numbers slots_too
+        (held_all ⟦<U as Recast<Q>>⟧.held (values slots_too)
+        ++ held_all ⟦<T as Recast<Q>>⟧.held (values slots))) refusal
+        → RefusesBothStray P.numbers Q.numbers slots ⟦<U as Recast<P>>⟧.held
+        slots_too ⟦<T as Recast<Q>>⟧.held refusal }
 {}

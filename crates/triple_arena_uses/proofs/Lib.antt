@@ -3,4 +3,3 @@ pub mod Renewing
 pub mod Notes
 pub mod Rewiring
 pub mod Reading
-pub mod Circuits

@@ -14,8 +14,8 @@ use Rattle.triple_arena.specs.Entries.{look_up}
 use Rattle.triple_arena.specs.ArenaState.{ArenaState}
 use Rattle.triple_arena.specs.Compression.{rank, raised_if_any, wraps_after}
 use Rattle.triple_arena_direct.specs.Renaming.{AllResolve, RefusesStray}
+use Rattle.triple_arena_direct.specs.RenamingBoth.{RefusesBothStray}
 use Rattle.triple_arena_direct.specs.declared.errors.CompactBothError.{CompactBothError}
-use Rattle.triple_arena_direct.specs.declared.errors.CompactBothError.TheVariants.{First, Second}
 use Rattle.triple_arena_uses.specs.Entities.{p0_numbers}
 use Rattle.triple_arena_uses.specs.declared.circuit.Cell.{Cell}
 use Rattle.triple_arena_uses.specs.declared.circuit.Net.{Net}
@@ -172,5 +172,4 @@ abbrev pub NetsStay : Wiring → CompactError Q2 → Type 0
 NetsStay wiring = RefusesStray q2_numbers wiring.nets.slots nets_held wiring.cells.slots
 
 abbrev pub BothStay : Wiring → CompactBothError P0 Q2 → Type 0
-BothStay wiring (First refusal) = CellsStay wiring refusal
-BothStay wiring (Second refusal) = CellsAreThere wiring × NetsStay wiring refusal
+BothStay wiring = RefusesBothStray p0_numbers q2_numbers wiring.cells.slots cells_held wiring.nets.slots nets_held

@@ -4,13 +4,15 @@
 //! cell read a net, or read it no more, does so on both sides, or on neither; who drives a net, the net
 //! alone knows (`ends.rt`). Compaction keeps each tie, or changes nothing (`compaction.rt`).
 
-ghost use Rattle.std.specs.Prelude.{◌≡◌, ◌≢◌, ◌<◌, [], None, Some, IsOk, IfOk, OnErr, option_copied};
+ghost use Rattle.std.specs.Prelude.{◌≡◌, ◌≢◌, ◌<◌, [], map, None, Some, IsOk, IfOk, OnErr, option_copied};
+ghost use Rattle.std.specs.Option.{option_map};
 ghost use Rattle.std.specs.Result.{IfErr};
 ghost use Rattle.std.proofs.Common.{refl, ap};
 ghost use Rattle.triple_arena_base.specs.Held.{held_itself, refill_itself, held_nothing, refill_nothing, held_option, refill_option};
 ghost use Rattle.triple_arena_base.specs.laws.HeldLaws.{itself_held_refill, itself_refill_held, itself_refill_refill, nothing_held_refill, option_held_refill, option_refill_held, option_refill_refill};
 ghost use Rattle.triple_arena_base.specs.HeldVecs.{held_vec, refill_vec, vec_held_refill, vec_refill_held, vec_refill_refill};
 ghost use Rattle.triple_arena_base.specs.HeldPairs.{both_held_refill, both_refill_held, both_refill_refill};
+ghost use Rattle.triple_arena_base.specs.laws.ReadingLaws.{itself_follows, option_follows, vec_follows, both_follows};
 ghost use Rattle.triple_arena_ptr.specs.Pointers.{Pointer};
 ghost use Rattle.triple_arena.specs.ArenaState.{arena_len, capacity};
 ghost use Rattle.triple_arena.specs.Entries.{look_up};
@@ -25,6 +27,7 @@ use std::marker::Model;
 use thiserror::Error;
 use triple_arena::{Arena, ArenaInsertTrait, ArenaTrait};
 use triple_arena_base::{ReallocationError, Recast, Recaster, recast_both};
+use triple_arena_direct::Reading;
 use triple_arena_ptr::{P0, Q2};
 
 /// A cell: its kind, and the nets that it reads.
@@ -80,6 +83,22 @@ impl Recast<Q2> for Cell {
         cell.reads l m h k) };
 }
 
+/// Its nets are read in the order in which it reads them.
+impl Reading<Q2> for Cell {
+    ghost use Rattle.triple_arena_uses.specs.Circuit.{CellRead, cell_read, nets_renamed};
+
+    ghost Read = { CellRead };
+
+    ghost read = { cell_read };
+
+    ghost renamed = { nets_renamed };
+
+    ghost follows = { λ rename cell l names.
+        ap (λ reads. record { kind = cell.kind; reads = reads })
+        (vec_follows q2_numbers held_itself refill_itself q2_numbers (λ f. f)
+        (itself_follows q2_numbers) rename cell.reads l names) };
+}
+
 /// Holds no cell.
 impl Recast<P0> for Cell {
     ghost held = { held_nothing };
@@ -127,6 +146,29 @@ impl Recast<P0> for Net {
         (option_refill_refill held_itself refill_itself itself_refill_refill)
         (vec_refill_refill held_itself refill_itself itself_held_refill itself_refill_refill)
         (net.driver, net.sinks) l m h k) };
+}
+
+/// Its driver is read, if it has one, and its sinks in their order.
+impl Reading<P0> for Net {
+    ghost use Rattle.triple_arena_uses.specs.Circuit.{NetRead, net_read, cells_renamed};
+
+    ghost Read = { NetRead };
+
+    ghost read = { net_read };
+
+    ghost renamed = { cells_renamed };
+
+    ghost follows = { λ rename net l names.
+        ap (λ parts. record { label = net.label; driver = parts.0; sinks = parts.1 })
+        (both_follows p0_numbers
+        (held_option held_itself) (refill_option refill_itself)
+        (option_map p0_numbers) (λ f. option_map f)
+        (held_vec held_itself refill_itself) (refill_vec held_itself refill_itself)
+        (λ v. map p0_numbers v.items) (λ f. map f)
+        (option_follows p0_numbers held_itself refill_itself p0_numbers (λ f. f)
+        (itself_follows p0_numbers))
+        (vec_follows p0_numbers held_itself refill_itself p0_numbers (λ f. f)
+        (itself_follows p0_numbers)) rename (net.driver, net.sinks) l names) };
 }
 
 /// Holds no net.

@@ -4,7 +4,7 @@ use std::alloc::Global;
 use std::fmt::Display;
 use std::process::Abort;
 use std::test::Fail;
-use triple_arena_base::CompactError;
+use triple_arena_base::{CompactError, ReallocationError};
 use triple_arena_direct::{CompactBothError, StrictArena, StrictCompactError, StrictError};
 use triple_arena_ptr::{P0, P4, Ptr};
 use triple_arena_test_kit::{B, is_shown, pointer};
@@ -184,13 +184,14 @@ fn refusals_have_their_texts(rt: HostRuntime) -> Result<(), Fail> {
         &rt,
         alloc,
         first,
-        "the compaction of the first arena was refused",
+        "the compaction of the first arena was refused: a stored pointer does not resolve",
     )?;
-    let second = CompactBothError::<P0, P0>::Second(CompactError::Unresolved(P0::invalid()));
+    let no_memory = CompactError::Reallocation(ReallocationError::AllocError);
+    let second = CompactBothError::<P0, P0>::Second(no_memory);
     displays(
         &rt,
         alloc,
         second,
-        "the compaction of the second arena was refused",
+        "the compaction of the second arena was refused: the recaster could not be made",
     )
 }

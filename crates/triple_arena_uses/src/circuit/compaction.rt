@@ -16,7 +16,9 @@ ghost use Rattle.triple_arena_uses.specs.Circuit.{q2_numbers, cell_at, net_at, c
 use super::{Cell, Circuit, Net};
 use std::alloc::Global;
 use triple_arena_base::{CompactError, InvalidationOption};
-use triple_arena_direct::renaming_laws::{arenas_follow, arenas_resolve};
+use triple_arena_direct::renaming_laws::{
+    readings_follow, readings_follow_both, relations_resolve, relations_resolve_both,
+};
 use triple_arena_direct::{
     CompactBothError, DirectArena, compress_recast_both, compress_recast_with,
 };
@@ -60,9 +62,12 @@ impl Circuit {
         ensures refused { OnErr result (self.new ≡ self.old) }
         ensures refusal { IfErr result (BothStay self.old) }
     {
-        // By its clauses, look-ups tell what each refusal means.
-        arenas_resolve::<P0, Cell, Net>();
-        arenas_resolve::<Q2, Net, Cell>();
+        // By their clauses, what is read follows, and look-ups tell what each refusal means.
+        readings_follow_both::<P0, Q2, Cell>();
+        readings_follow_both::<Q2, P0, Net>();
+        relations_resolve::<P0, Cell, Net>();
+        relations_resolve::<Q2, Net, Cell>();
+        relations_resolve_both::<P0, Q2, Cell, Net>();
         compress_recast_both(&mut self.cells, &mut self.nets, alloc, false)
     }
 
@@ -89,10 +94,9 @@ impl Circuit {
         ensures refused { OnErr result (self.new ≡ self.old) }
         ensures refusal { IfErr result (CellsStay self.old) }
     {
-        // By their clauses, each net is found as before, with its cells renamed, and look-ups tell
-        // what each refusal means.
-        arenas_follow::<P0, Net>();
-        arenas_resolve::<P0, Cell, Net>();
+        // By their clauses, what is read of each net follows, and look-ups tell what each refusal means.
+        readings_follow::<P0, Net>();
+        relations_resolve::<P0, Cell, Net>();
         compress_recast_with(&mut self.cells, &mut self.nets, alloc, false)
     }
 
@@ -119,10 +123,9 @@ impl Circuit {
         ensures refused { OnErr result (self.new ≡ self.old) }
         ensures refusal { IfErr result (NetsStay self.old) }
     {
-        // By their clauses, each cell is found as before, with its nets renamed, and look-ups tell
-        // what each refusal means.
-        arenas_follow::<Q2, Cell>();
-        arenas_resolve::<Q2, Net, Cell>();
+        // By their clauses, what is read of each cell follows, and look-ups tell what each refusal means.
+        readings_follow::<Q2, Cell>();
+        relations_resolve::<Q2, Net, Cell>();
         compress_recast_with(&mut self.nets, &mut self.cells, alloc, false)
     }
 }

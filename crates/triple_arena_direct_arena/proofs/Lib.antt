@@ -7,3 +7,4 @@ pub mod Reading
 pub mod Refused
 pub mod Resizing
 pub mod Limits
+pub mod Occupying

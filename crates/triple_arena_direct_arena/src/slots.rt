@@ -83,13 +83,14 @@ impl<P: Ptr, T, S: NonZeroInxGenericStack<DirectSlot<P, T>>> Slots<P, T, S> {
         ensures room { S.room self.new.stack ≡ S.room self.old.stack }
         ensures limit { S.limit self.new.stack ≡ S.limit self.old.stack }
     {
+        let slot = DirectSlot::Allocated(generation, value);
+        // Right past the last slot it is pushed.
+        if self.stack.len() == inx.get() - 1 {
+            self.stack.push_reserved(slot);
+            return;
+        }
         extend::<P, T, DirectSlot<P, T>, S>(&mut self.stack, inx.get());
-        replace(
-            &mut self.stack,
-            inx,
-            DirectSlot::Allocated(generation, value),
-        )
-        .discard();
+        replace(&mut self.stack, inx, slot).discard();
     }
 
     // Takes out the entry at an index, and leaves its slot free.

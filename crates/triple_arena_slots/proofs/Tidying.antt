@@ -1,10 +1,11 @@
 -- How the free list is tidied.
 use Rattle.std.proofs.Common.{◌≡◌, ◌≢◌, ℕ, zero, suc, ◌+◌, ◌<◌, ◌≤◌, ◌==◌, true, false, List, [], ◌∷◌, map, length, drop, Option, Some, None, is_some, count_by, refl, sym, ap, subst, ◌∙◌, inl, inr, arith, true≢false}
 use Rattle.std.proofs.lemmas.Bool.{cases_eq}
-use Rattle.std.proofs.lemmas.List.{length-map, drop_all}
+use Rattle.std.proofs.lemmas.List.{length-map, drop_all, nil_from_length}
 use Rattle.std.proofs.lemmas.Option.{same_Some}
 use Rattle.triple_arena_traits.specs.Items.{item}
 use Rattle.triple_arena_traits.specs.ArenaState.{ArenaState, arena_len, capacity}
+use Rattle.triple_arena_traits.specs.Entries.{entry_count}
 use Rattle.triple_arena_traits.specs.FreeList.{trimmed, gaps, tidied, laid_out}
 use Rattle.triple_arena_slots.specs.Slot.{entry_of}
 use Rattle.triple_arena_traits.specs.laws.LengthLaws.{trimmed_live, live_slot}
@@ -15,7 +16,7 @@ use Rattle.triple_arena_traits.specs.laws.EntryLaws.{count_head}
 use Rattle.triple_arena_traits.specs.laws.WellFormedLaws.{count_tail}
 use Rattle.triple_arena_slots.proofs.TwoWay.{times, Once, Linked-led}
 use Rattle.triple_arena_slots.proofs.Links.{leads_of}
-use Rattle.triple_arena_traits.specs.laws.FreeListLaws.{gaps_above}
+use Rattle.triple_arena_traits.specs.laws.FreeListLaws.{gaps_above, gaps_total}
 use Rattle.triple_arena_traits.specs.laws.StepLaws.{IsWellFormed-laid_out, IsWellFormed-tidied}
 
 module _ {T : Type 0} where
@@ -45,6 +46,10 @@ module _ {T : Type 0} where
         | inr other ↦ omega (arith, count_tail at j (gaps (at + 1) xs) other, Once-gaps (at + 1) xs j)
       ]
   Once-gaps at (Some e ∷ xs) j = Once-gaps (at + 1) xs j
+
+  -- where each slot has an entry there is no gap
+  pub no_gaps : (at : ℕ) (xs : List (Option (ℕ × T))) → length xs ≤ entry_count xs → gaps at xs ≡ []
+  no_gaps at xs full = nil_from_length (gaps at xs) (omega (arith, gaps_total at xs, full))
 
 module _ {P T I G : Type 0} (number : G → ℕ) where
   -- the slots from `at` on link in rising order
@@ -96,6 +101,11 @@ module _ {P T I G : Type 0} (number : G → ℕ) where
 
   pub LinkedFrom-done : (old es : List (ArenaSlot P T I G)) (at : ℕ) (root : Option ℕ) → at ≡ 0 → LinkedFrom old es at root → IsLinked es root (gaps 1 (map (entry_of number) old))
   LinkedFrom-done old es at root none l = rw none at l.linked
+
+  -- slots that all have an entry link as they are, from nothing on
+  pub linked_full : (es : List (ArenaSlot P T I G)) (root : Option ℕ) → length es ≤ entry_count (map (entry_of number) es) → root ≡ None → IsLinked es root (gaps 1 (map (entry_of number) es))
+  linked_full es root full none =
+      rw (no_gaps 1 (map (entry_of number) es) (omega (arith, full, length-map es (entry_of number)))) none
 
   pub LinkedFrom-root : (old es : List (ArenaSlot P T I G)) (i : ℕ) (root : Option ℕ) → LinkedFrom old es i root → root ≢ Some i
   LinkedFrom-root old es i root l = root_past es root (i + 1) (drop i (map (entry_of number) old)) i (omega arith) l.linked

@@ -266,8 +266,12 @@ impl<P: Ptr, T, S: NonZeroInxGenericStack<ArenaSlot<P, T>>> Slots<P, T, S> {
         self.clear();
         let stack = self.slots.uncounted_stack_mut();
         let answer = copy_entries::<P, T, ArenaSlot<P, T>, S, U, E, A, M>(stack, source, f);
-        self.relink();
-        (count_live::<P, T, ArenaSlot<P, T>, S>(self.stack()), answer)
+        let count = count_live::<P, T, ArenaSlot<P, T>, S>(self.stack());
+        // Where each slot has an entry, there is no link to set.
+        if count < self.len() {
+            self.relink();
+        }
+        (count, answer)
     }
 
     /// Takes the entries of an arena out, one by one in order, and holds them alone, from index 1 on,

@@ -8,6 +8,8 @@ use Rattle.triple_arena_slots.specs.Slot.{entry_of}
 use Rattle.triple_arena_slots.specs.Layout.{IsLinked}
 use Rattle.triple_arena_slots.proofs.Refused.{copies_seen}
 use Rattle.triple_arena_slots.proofs.Resizing.{room_kept}
+use Rattle.triple_arena_slots.proofs.Tidying.{linked_full}
+use Rattle.triple_arena_slots.proofs.slots.Slots.copy.Goals.{then-count-len, else-count-len}
 use Rattle.triple_arena_slots.proofs.slots.Slots.copy.Goals as goal
 
 pub copy_entries-answer-requires-clause-empty : goal.copy_entries-answer-requires-clause-empty
@@ -23,25 +25,44 @@ relink-requires-after_bounds g c κs within = omega (arith, c.copy_entries-answe
 
 pub returns-clause-ends : goal.returns-clause-ends
 returns-clause-ends g c =
-    let f = entry_of g.P.Gen.PtrGen.number in
-    omega (arith, c.copy_entries-answer.ensures.ends, ap length c.relink.ensures.slots, length-map (g.S.NonZeroInxGenericStack.items c.relink.new.self.slots.stack) f, length-map (g.S.NonZeroInxGenericStack.items c.copy_entries-answer.new.stack) f)
+    elim c.if-count-len.branch [
+      | then-count-len w ↦ rw w.self-is (omega (arith, c.copy_entries-answer.ensures.ends, ap length w.relink.ensures.slots, length-map (g.S.NonZeroInxGenericStack.items w.relink.new.self.slots.stack) (entry_of g.P.Gen.PtrGen.number), length-map (g.S.NonZeroInxGenericStack.items c.copy_entries-answer.new.stack) (entry_of g.P.Gen.PtrGen.number)))
+      | else-count-len w ↦ rw w.self-is c.copy_entries-answer.ensures.ends
+    ]
 
 pub returns-clause-copied : goal.returns-clause-copied
 returns-clause-copied g c =
-    copies_seen _ _ c.args.f _ c.copy_entries-answer.result _ _ c.relink.ensures.slots c.copy_entries-answer.ensures.copied
+    elim c.if-count-len.branch [
+      | then-count-len w ↦ rw w.self-is (copies_seen _ _ c.args.f _ c.copy_entries-answer.result _ _ w.relink.ensures.slots c.copy_entries-answer.ensures.copied)
+      | else-count-len w ↦ rw w.self-is c.copy_entries-answer.ensures.copied
+    ]
 
 pub returns-clause-linked : goal.returns-clause-linked
 returns-clause-linked g c =
-    subst (λ slots. IsLinked (g.S.NonZeroInxGenericStack.items c.relink.new.self.slots.stack) (option_map non_zero_usize_get c.relink.new.self.root) (gaps 1 slots)) (sym c.relink.ensures.slots) c.relink.ensures.linked
+    elim c.if-count-len.branch [
+      | then-count-len w ↦ rw w.self-is (subst (λ slots. IsLinked (g.S.NonZeroInxGenericStack.items w.relink.new.self.slots.stack) (option_map non_zero_usize_get w.relink.new.self.root) (gaps 1 slots)) (sym w.relink.ensures.slots) w.relink.ensures.linked)
+      | else-count-len w ↦
+          let counted = c.count_live-count.ensures ∙ ap (λ s. entry_count (map (entry_of g.P.Gen.PtrGen.number) (g.S.NonZeroInxGenericStack.items s))) c.stack.ensures in
+          rw w.self-is (linked_full g.P.Gen.PtrGen.number (g.S.NonZeroInxGenericStack.items c.copy_entries-answer.new.stack) (option_map non_zero_usize_get c.clear.new.self.root) (omega (arith, w.if-count-len.false, c.len.ensures, counted)) (ap (option_map non_zero_usize_get) c.clear.ensures.root))
+    ]
 
 pub returns-clause-count : goal.returns-clause-count
 returns-clause-count g c =
-    c.count_live.ensures ∙ ap (λ s. entry_count (map (entry_of g.P.Gen.PtrGen.number) (g.S.NonZeroInxGenericStack.items s))) c.stack.ensures
+    elim c.if-count-len.branch [
+      | then-count-len w ↦ rw w.self-is (c.count_live-count.ensures ∙ ap (λ s. entry_count (map (entry_of g.P.Gen.PtrGen.number) (g.S.NonZeroInxGenericStack.items s))) c.stack.ensures ∙ ap entry_count (sym w.relink.ensures.slots))
+      | else-count-len w ↦ rw w.self-is (c.count_live-count.ensures ∙ ap (λ s. entry_count (map (entry_of g.P.Gen.PtrGen.number) (g.S.NonZeroInxGenericStack.items s))) c.stack.ensures)
+    ]
 
 pub returns-clause-room : goal.returns-clause-room
 returns-clause-room g c =
-    c.relink.ensures.room ∙ c.copy_entries-answer.ensures.room ∙ ap g.S.NonZeroInxGenericStack.room c.uncounted_stack_mut-stack.ensures.value ∙ c.clear.ensures.room
+    elim c.if-count-len.branch [
+      | then-count-len w ↦ rw w.self-is (w.relink.ensures.room ∙ c.copy_entries-answer.ensures.room ∙ ap g.S.NonZeroInxGenericStack.room c.uncounted_stack_mut-stack.ensures.value ∙ c.clear.ensures.room)
+      | else-count-len w ↦ rw w.self-is (c.copy_entries-answer.ensures.room ∙ ap g.S.NonZeroInxGenericStack.room c.uncounted_stack_mut-stack.ensures.value ∙ c.clear.ensures.room)
+    ]
 
 pub returns-clause-limit : goal.returns-clause-limit
 returns-clause-limit g c =
-    c.relink.ensures.limit ∙ c.copy_entries-answer.ensures.limit ∙ ap g.S.NonZeroInxGenericStack.limit c.uncounted_stack_mut-stack.ensures.value ∙ c.clear.ensures.limit
+    elim c.if-count-len.branch [
+      | then-count-len w ↦ rw w.self-is (w.relink.ensures.limit ∙ c.copy_entries-answer.ensures.limit ∙ ap g.S.NonZeroInxGenericStack.limit c.uncounted_stack_mut-stack.ensures.value ∙ c.clear.ensures.limit)
+      | else-count-len w ↦ rw w.self-is (c.copy_entries-answer.ensures.limit ∙ ap g.S.NonZeroInxGenericStack.limit c.uncounted_stack_mut-stack.ensures.value ∙ c.clear.ensures.limit)
+    ]

@@ -87,28 +87,27 @@ fn has_left<I: Iterator>(items: &I, left: usize) -> bool {
     least <= left && most.is_none_or(|most| left <= most)
 }
 
-// Of three entries: `iter`, `ptrs`, `vals`, and then a drain before and after its first step.
-fn hints<A: CompactArenaTrait<P0, u64>>(arena: &mut A) -> [bool; 5] {
-    let entries = has_left(&arena.iter(), 3);
+// Of three entries: `ptrs`, and then a drain before and after its first step.
+fn hints<A: CompactArenaTrait<P0, u64>>(arena: &mut A) -> [bool; 3] {
     let pointers = has_left(&arena.ptrs(), 3);
-    let values = has_left(&arena.vals(), 3);
     let mut drain = arena.drain();
     let all = has_left(&drain, 3);
     drop(drain.next());
-    [entries, pointers, values, all, has_left(&drain, 2)]
+    [pointers, all, has_left(&drain, 2)]
 }
 
-// Of three entries that are lent to be written, and of three values.
-fn hints_of_loans(arena: &mut Arena<P0, u64>) -> [bool; 2] {
-    let entries = has_left(&arena.iter_mut(), 3);
-    [entries, has_left(&arena.vals_mut(), 3)]
+// Of three entries that are lent, to be read and to be written, and of three values.
+fn hints_of_loans(arena: &mut Arena<P0, u64>) -> [bool; 4] {
+    let read = [has_left(&arena.iter(), 3), has_left(&arena.vals(), 3)];
+    let written = has_left(&arena.iter_mut(), 3);
+    [read[0], read[1], written, has_left(&arena.vals_mut(), 3)]
 }
 
 #[test]
 fn each_iterator_bounds_what_is_left(rt: HostRuntime) {
     let mut arena: Arena<P0, u64> = three(&rt, rt.alloc());
-    is(hints_of_loans(&mut arena), [true; 2]).expect(&rt, "of loans");
-    is(hints(&mut arena), [true; 5]).expect(&rt, "of any arena's");
+    is(hints_of_loans(&mut arena), [true; 4]).expect(&rt, "of loans");
+    is(hints(&mut arena), [true; 3]).expect(&rt, "of any arena's");
     let arena: Arena<P0, u64> = three(&rt, rt.alloc());
     is(has_left(&arena.into_iter(), 3), true).expect(&rt, "of an arena by value");
 }

@@ -7,7 +7,6 @@
 //! call it was, or what is wrong, is written.
 #![tactic(auto)]
 
-mod no_memory;
 mod programs;
 mod runs;
 mod sessions;
@@ -20,15 +19,14 @@ struct OfSessions;
 
 impl Calls for OfSessions {
     fn words(&self) -> &'static [&'static str] {
-        &["sessions", "runs", "programs", "none"]
+        &["sessions", "runs", "programs"]
     }
 
     fn make(&self, alloc: Global, word: &str, report: &mut Report) {
         match word {
             "sessions" => sessions::try_each(alloc, report),
             "runs" => runs::try_each(alloc, report),
-            "programs" => programs::try_each(alloc, report),
-            _ => no_memory::try_each(alloc, report),
+            _ => programs::try_each(alloc, report),
         }
     }
 }

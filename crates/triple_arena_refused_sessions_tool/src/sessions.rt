@@ -14,17 +14,16 @@ use triple_arena_stack::{
     NonZeroInxArray, NonZeroInxBoxedSlice, NonZeroInxGenericStack, NonZeroInxLimitedVec,
 };
 use triple_arena_test_kit::{index_number, inx};
-use triple_arena_trait_kit::arena::free_of;
 use triple_arena_trait_kit::refused::{End, Report};
-use triple_arena_trait_kit::{FreeList, SLOTS, Wrong};
+use triple_arena_trait_kit::{FreeList, SLOTS, Wrong, free_of};
 
-pub type Slot = ArenaSlot<P0, Node<u64, P0>>;
+type Slot = ArenaSlot<P0, Node<u64, P0>>;
 
-pub type Limited = NonZeroInxLimitedVec<Slot>;
+type Limited = NonZeroInxLimitedVec<Slot>;
 
-pub type Fixed = NonZeroInxBoxedSlice<Slot>;
+type Fixed = NonZeroInxBoxedSlice<Slot>;
 
-pub type InArray = NonZeroInxArray<Slot, 8>;
+type InArray = NonZeroInxArray<Slot, 8>;
 
 /// The arena of a session.
 type Entries<S> = Arena<P0, Node<u64, P0>, S>;
@@ -219,7 +218,7 @@ fn word_of(line: &'static str) -> &'static str {
 
 // A line and the text of its reply. Memory may be refused first, and then names, entries, length,
 // capacity, counter and free list are as they were; a reservation has tidied the last.
-pub fn answers<T: Asked>(session: &mut T, line: &'static str, text: &str) -> Result<End, Wrong> {
+fn answers<T: Asked>(session: &mut T, line: &'static str, text: &str) -> Result<End, Wrong> {
     let Some(command) = parse_command(line.as_bytes()) else {
         return Err(Wrong::Text(line));
     };

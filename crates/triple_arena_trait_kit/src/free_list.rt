@@ -1,14 +1,16 @@
 //! The free list of an arena.
 
-use crate::call::Call;
-use crate::state::SLOTS;
-use crate::told::Told;
+use std::num::NonZeroUsize;
+use triple_arena::{Arena, ArenaSlot, FreeLink};
+use triple_arena_ptr::{Ptr, PtrInx};
+use triple_arena_stack::NonZeroInxGenericStack;
+
+/// How many free indexes of an arena are shown.
+pub const SLOTS: usize = 256;
 
 /// The free list of an arena.
 #[derive(Clone, Copy, PartialEq)]
 pub enum FreeList {
-    /// A direct arena has none.
-    Missing,
     /// The free indexes in the order in which insertion takes them, and then 0; of more than `SLOTS`,
     /// the first.
     Indexes([usize; SLOTS]),
@@ -24,18 +26,49 @@ impl FreeList {
             _ => false,
         }
     }
+}
 
-    /// What a call answers that asks for the first indexes: `NoSuchCall` where there is no list, or a
-    /// broken one.
-    pub fn told(&self, call: Call) -> Told {
-        let FreeList::Indexes(free) = self else {
-            return Told::NoSuchCall;
-        };
-        match call {
-            Call::FirstFree => Told::Free([free[0], free[1], free[2]]),
-            Call::Root if free[0] == 0 => Told::Nothing,
-            Call::Root => Told::Size(free[0]),
-            _ => Told::NoSuchCall,
-        }
+/// The free list of `arena`.
+pub fn free_of<P: Ptr, T, S: NonZeroInxGenericStack<ArenaSlot<P, T>>>(
+    arena: &Arena<P, T, S>,
+) -> FreeList {
+    free_in(
+        arena.backing().as_slice(),
+        slot_index(arena.freelist_root()),
+    )
+}
+
+// The number of an index, if there is one that a slot can have.
+fn slot_index<I: PtrInx>(inx: Option<I>) -> Option<NonZeroUsize> {
+    I::try_into_usize(inx?)
+}
+
+// The link of a free slot.
+fn link_of<P: Ptr, T>(slots: &[ArenaSlot<P, T>], inx: NonZeroUsize) -> Option<&FreeLink<P::Inx>> {
+    match slots.get(inx.get() - 1) {
+        Some(ArenaSlot::Free(link)) => Some(link),
+        _ => None,
     }
+}
+
+// The free list of these slots, which begins at this index.
+fn free_in<P: Ptr, T>(slots: &[ArenaSlot<P, T>], first: Option<NonZeroUsize>) -> FreeList {
+    let mut free = [0; SLOTS];
+    let mut last = None;
+    let mut next = first;
+    for place in 0..SLOTS {
+        let Some(inx) = next else {
+            return FreeList::Indexes(free);
+        };
+        let Some(link) = link_of(slots, inx) else {
+            return FreeList::Broken;
+        };
+        if link.before(inx) != last {
+            return FreeList::Broken;
+        }
+        free[place] = inx.get();
+        last = next;
+        next = link.after(inx);
+    }
+    FreeList::Indexes(free)
 }

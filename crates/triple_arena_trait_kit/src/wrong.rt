@@ -1,6 +1,5 @@
 //! What a tool found to be wrong.
 
-use crate::told::Told;
 use std::alloc;
 use triple_arena_base::AllocError;
 
@@ -26,14 +25,5 @@ impl From<AllocError> for Wrong {
 impl From<alloc::AllocError> for Wrong {
     fn from(_refused: alloc::AllocError) -> Wrong {
         Wrong::NoMemory
-    }
-}
-
-/// That the call of this row told what was expected.
-pub fn is_told(row: usize, told: Told, expected: Told) -> Result<(), Wrong> {
-    if told == expected {
-        Ok(())
-    } else {
-        Err(Wrong::Answer(row))
     }
 }

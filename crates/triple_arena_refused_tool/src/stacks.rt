@@ -1,13 +1,13 @@
 //! Stacks: how they are made, pushes, entries and reallocations.
 
+use crate::report::{End, Report};
+use crate::wrong::{Wrong, holds};
 use std::alloc::Global;
 use triple_arena_base::{MaxCapacityReductionError, ReallocationError};
 use triple_arena_stack::{
     HeapStack, LimitedStack, NonZeroInxGenericStack, NonZeroInxGenericStackPushEntryTrait,
     NonZeroInxStack, SetMaxCapacity,
 };
-use triple_arena_trait_kit::Wrong;
-use triple_arena_trait_kit::refused::{End, Report};
 
 /// A call of a full stack, which asks for memory.
 #[derive(Clone, Copy)]
@@ -36,100 +36,89 @@ fn push_by<'a, E: NonZeroInxGenericStackPushEntryTrait<'a, u64> + Drop>(entry: E
     }
 }
 
-fn make<K: NonZeroInxGenericStack<u64>>(
+// What refuses a call, if something does.
+fn refusal_of<K: NonZeroInxGenericStack<u64>>(
     stack: &mut NonZeroInxStack<u64, K>,
     call: Call,
-) -> Result<(), ReallocationError> {
+) -> Option<ReallocationError> {
     let item = (stack.len() as u64).wrapping_add(1);
     match call {
-        Call::Push => {
-            stack.push(item)?;
-            Ok(())
-        }
-        Call::PushReallocating => {
-            stack.push_reallocating(item)?;
-            Ok(())
-        }
+        Call::Push => stack.push(item).err(),
+        Call::PushReallocating => stack.push_reallocating(item).err(),
         Call::EntryPush => match stack.entry_push() {
             Ok(entry) => {
                 push_by(entry, item);
-                Ok(())
+                None
             }
-            Err(refused) => Err(refused),
+            Err(refused) => Some(refused),
         },
         Call::EntryPushReallocating => match stack.entry_push_reallocating() {
             Ok(entry) => {
                 push_by(entry, item);
-                Ok(())
+                None
             }
-            Err(refused) => Err(refused),
+            Err(refused) => Some(refused),
         },
-        Call::ReallocateUp => stack.reallocate_min_capacity(100),
-        Call::ReallocateDown => stack.reallocate_min_capacity(0),
+        Call::ReallocateUp => stack.reallocate_min_capacity(100).err(),
+        Call::ReallocateDown => stack.reallocate_min_capacity(0).err(),
     }
 }
 
-// Whether a stack has so many items, each the number of its index, this capacity and this limit.
-fn stands<K: NonZeroInxGenericStack<u64>>(
-    stack: &NonZeroInxStack<u64, K>,
-    len: usize,
-    capacity: usize,
-    limit: Option<usize>,
-) -> bool {
-    let mut number = 0u64;
+// Length, capacity and limit of a stack, and whether each item is the number of its index.
+type Seen = (usize, usize, Option<usize>, bool);
+
+fn seen<K: NonZeroInxGenericStack<u64>>(stack: &NonZeroInxStack<u64, K>) -> Seen {
+    let (mut number, mut is_in_order) = (0u64, true);
     for item in stack.as_slice() {
         number = number.wrapping_add(1);
-        if *item != number {
-            return false;
-        }
+        is_in_order &= *item == number;
     }
-    stack.len() == len && stack.capacity() == capacity && stack.max_capacity() == limit
+    (
+        stack.len(),
+        stack.capacity(),
+        stack.max_capacity(),
+        is_in_order,
+    )
 }
 
 // Fills a stack up to its capacity; each item is the number of its index.
-fn fill<K: NonZeroInxGenericStack<u64>>(stack: &mut NonZeroInxStack<u64, K>) -> Result<(), Wrong> {
+fn fill<K: NonZeroInxGenericStack<u64>>(stack: &mut NonZeroInxStack<u64, K>) {
     for at in stack.len()..stack.capacity() {
-        if stack
-            .push_within_capacity((at as u64).wrapping_add(1))
-            .is_err()
-        {
-            return Err(Wrong::Answer(1));
-        }
+        let _pushed = stack.push_within_capacity((at as u64).wrapping_add(1));
     }
-    Ok(())
+}
+
+// What stands after a call of a stack of so many items and so much room. Reallocations leave the items.
+fn expected(call: Call, len: usize, room: usize, limit: Option<usize>) -> Seen {
+    let (items, places) = match call {
+        Call::ReallocateUp => (len, 100),
+        Call::ReallocateDown => (len, len),
+        _ => (len.saturating_add(1), room.saturating_mul(2)),
+    };
+    (items, places, limit, true)
 }
 
 // Fills a stack, and makes the call, and once more where memory is refused, which leaves it as it
-// was. Reallocations leave the items.
+// was.
 fn call_twice<K: NonZeroInxGenericStack<u64>>(
     stack: &mut NonZeroInxStack<u64, K>,
     call: Call,
     limit: Option<usize>,
 ) -> Result<End, Wrong> {
     if !matches!(call, Call::ReallocateDown) {
-        fill(stack)?;
+        fill(stack);
     }
-    let (len, room) = (stack.len(), stack.capacity());
-    let end = match make(stack, call) {
-        Ok(()) => End::Ample,
-        Err(ReallocationError::BeyondMaxCapacity) => return Err(Wrong::Answer(0)),
-        Err(ReallocationError::AllocError) => {
-            if !stands(stack, len, room, limit) || make(stack, call).is_err() {
-                return Err(Wrong::State(0));
-            }
-            End::Refused
-        }
-    };
-    let (items, places) = match call {
-        Call::ReallocateUp => (len, 100),
-        Call::ReallocateDown => (len, len),
-        _ => (len.saturating_add(1), room.saturating_mul(2)),
-    };
-    if stands(stack, items, places, limit) {
-        Ok(end)
-    } else {
-        Err(Wrong::State(1))
+    let before = seen(stack);
+    let mut refusal = refusal_of(stack, call);
+    let (mut end, mut is_left) = (End::Ample, true);
+    if refusal == Some(ReallocationError::AllocError) {
+        is_left = seen(stack) == before;
+        refusal = refusal_of(stack, call);
+        end = End::Refused;
     }
+    let stands = seen(stack) == expected(call, before.0, before.1, limit);
+    holds(is_left && stands && refusal.is_none(), Wrong::State(1))?;
+    Ok(end)
 }
 
 // Each call of a stack that was made with room for four.

@@ -1,0 +1,186 @@
+//! Compactions that make a map: memory for it is asked for before any link is looked at.
+
+use crate::arenas::{Direct, OnHeap, Strict};
+use crate::calls::{fill, filled, placed};
+use crate::links::Link;
+use crate::report::{End, Report};
+use crate::seen::Whole;
+use crate::state::State;
+use crate::told::{NO_MEMORY, Told, told_compaction, told_done};
+use crate::value::{Row, Value, plain, with_link};
+use crate::wrong::{Wrong, holds};
+use std::alloc::Global;
+use triple_arena::CompactArenaTrait;
+use triple_arena_direct::{StrictCompactError, compress_recast, compress_recaster};
+use triple_arena_ptr::P0;
+
+/// A compaction.
+#[derive(Clone, Copy)]
+enum Compaction {
+    /// By `compress_recaster`.
+    Mapped,
+    /// By `compress_recast`.
+    Renamed,
+}
+
+/// An arena that is compacted. It has no clauses, so that what is generic over it is quick to prove.
+trait Compacted: Whole {
+    /// What a compaction tells.
+    fn compact(&mut self, alloc: Global, call: Compaction) -> Told;
+}
+
+// What a compaction without a reset tells of any arena.
+fn compact_any<A: CompactArenaTrait<P0, Value>>(
+    arena: &mut A,
+    alloc: Global,
+    call: Compaction,
+) -> Told {
+    match call {
+        Compaction::Mapped => told_done(compress_recaster(arena, alloc, false)),
+        Compaction::Renamed => match compress_recast(arena, alloc, false) {
+            Ok(_map) => Told::Done,
+            Err(refusal) => told_compaction(refusal),
+        },
+    }
+}
+
+impl Compacted for OnHeap {
+    fn compact(&mut self, alloc: Global, call: Compaction) -> Told {
+        compact_any(self, alloc, call)
+    }
+}
+
+impl Compacted for Direct {
+    fn compact(&mut self, alloc: Global, call: Compaction) -> Told {
+        compact_any(self, alloc, call)
+    }
+}
+
+/// What a strict arena tells.
+pub fn told_strictly<T: Drop>(done: Result<T, StrictCompactError<P0>>) -> Told {
+    match done {
+        Ok(_map) => Told::Done,
+        Err(StrictCompactError::Exhausted) => Told::Otherwise,
+        Err(StrictCompactError::Compact(refusal)) => told_compaction(refusal),
+    }
+}
+
+/// It has the renaming alone.
+impl Compacted for Strict {
+    fn compact(&mut self, alloc: Global, _call: Compaction) -> Told {
+        told_strictly(self.compress_recast(alloc))
+    }
+}
+
+/// Whether the third node has moved to index 2, with this generation and this link, of a state.
+pub fn has_moved(state: &State, generation: u64, link: Link) -> bool {
+    let moved = Some((generation, with_link(3, link).shown()));
+    state.entries[1] == moved && state.entries[2].is_none()
+}
+
+// A compaction, and once more where memory is refused, which changes nothing. A dangling link
+// refuses it too, and changes nothing; else the third node has moved to index 2, with this
+// generation, and where links are renamed its own leads to the first, which has it too.
+fn compacts<A: Compacted>(
+    alloc: Global,
+    arena: &mut A,
+    call: Compaction,
+    link: Link,
+    generation: u64,
+) -> Result<End, Wrong> {
+    let before = arena.seen();
+    let mut told = arena.compact(alloc, call);
+    let (mut end, mut is_left) = (End::Ample, true);
+    if told == NO_MEMORY {
+        is_left = arena.seen() == before;
+        told = arena.compact(alloc, call);
+        end = End::Refused;
+    }
+    holds(is_left && told == told_with(link), Wrong::Answer(1))?;
+    let renamed = match call {
+        Compaction::Mapped => LINKED,
+        Compaction::Renamed => Some((1, generation)),
+    };
+    let left = arena.seen();
+    let stands = if link == LINKED {
+        has_moved(&left, generation, renamed)
+    } else {
+        left == before
+    };
+    holds(stands, Wrong::State(1))?;
+    Ok(end)
+}
+
+/// The link of the last of three nodes to the first.
+pub const LINKED: Link = Some((1, 2));
+
+/// The numbers of the invalid pointer, which leads to no entry.
+pub const INVALID: (usize, u64) = (usize::MAX, 1);
+
+/// A link of that pointer.
+pub const DANGLING: Link = Some(INVALID);
+
+/// What refuses a compaction for that link.
+pub const DANGLES: Told = Told::At(INVALID.0, INVALID.1);
+
+// What a compaction tells of a node with this link.
+fn told_with(link: Link) -> Told {
+    if link == LINKED { Told::Done } else { DANGLES }
+}
+
+// Three nodes: the second leads to the first, and the third has this link.
+fn nodes(link: Link) -> [Row; 3] {
+    [plain(1), with_link(2, LINKED), with_link(3, link)]
+}
+
+/// Three nodes, of which the second is removed where the third leads to an entry.
+pub fn arena(alloc: Global, link: Link) -> Result<OnHeap, Wrong> {
+    let removed: &[usize] = if link == LINKED { &[2] } else { &[] };
+    filled(alloc, 3, &nodes(link), removed)
+}
+
+fn direct(alloc: Global, link: Link) -> Result<Direct, Wrong> {
+    let rows = [(1, 2, plain(1)), (3, 2, with_link(3, link))];
+    placed(alloc, 3, &rows, 2)
+}
+
+/// Three nodes, of which the second is removed.
+pub fn strict(alloc: Global, link: Link) -> Result<Strict, Wrong> {
+    let mut arena = Strict::with_min_capacity(alloc, 3)?;
+    fill(alloc, &mut arena, &nodes(link), &[2])?;
+    Ok(arena)
+}
+
+fn on_arena(alloc: Global, call: Compaction, link: Link) -> Result<End, Wrong> {
+    compacts(alloc, &mut arena(alloc, link)?, call, link, 4)
+}
+
+fn on_direct(alloc: Global, call: Compaction, link: Link) -> Result<End, Wrong> {
+    compacts(alloc, &mut direct(alloc, link)?, call, link, 2)
+}
+
+fn on_strict(alloc: Global, link: Link) -> Result<End, Wrong> {
+    let call = Compaction::Renamed;
+    compacts(alloc, &mut strict(alloc, link)?, call, link, 4)
+}
+
+pub fn try_each(alloc: Global, report: &mut Report) {
+    let (mapped, renamed) = (Compaction::Mapped, Compaction::Renamed);
+    let (map, linked, dangling) = (
+        "compress_recaster",
+        "compress_recast",
+        "compress_recast with a dangling link",
+    );
+    report.note(map, "an arena", on_arena(alloc, mapped, LINKED));
+    report.note(linked, "an arena", on_arena(alloc, renamed, LINKED));
+    report.note(dangling, "an arena", on_arena(alloc, renamed, DANGLING));
+    report.note(map, "a direct arena", on_direct(alloc, mapped, LINKED));
+    report.note(linked, "a direct arena", on_direct(alloc, renamed, LINKED));
+    report.note(
+        dangling,
+        "a direct arena",
+        on_direct(alloc, renamed, DANGLING),
+    );
+    report.note(linked, "a strict arena", on_strict(alloc, LINKED));
+    report.note(dangling, "a strict arena", on_strict(alloc, DANGLING));
+}

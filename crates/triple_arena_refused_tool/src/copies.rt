@@ -11,29 +11,45 @@ use crate::value::{Row, Value, plain};
 use crate::wrong::{Wrong, holds};
 use std::alloc;
 use std::alloc::Global;
-use triple_arena::{ArenaCloneFromWith, CompactArenaTrait};
+use triple_arena::{Arena, ArenaCloneFromWith, ArenaSlot, CompactArenaTrait};
 use triple_arena_base::{AllocError, CloneFromError, ReallocationError};
+use triple_arena_direct::{DirectArena, DirectSlot};
 use triple_arena_ptr::{P0, Ptr, PtrGen};
+use triple_arena_stack::NonZeroInxGenericStack;
 
-/// An arena to which something is copied. Its own calls have no clauses, so that what is generic over it is quick
-/// to prove.
-trait Goal: ArenaCloneFromWith<P0, Value> + CompactArenaTrait<P0, Value> + Whole + Drop {
+/// What takes over the entries of another arena, of any values. It has no clauses here.
+trait TakesOver<T> {
+    fn take_over(&mut self, source: &mut Arena<P0, T>) -> Result<(), ReallocationError>;
+}
+
+impl<T: Drop, S: NonZeroInxGenericStack<ArenaSlot<P0, T>>> TakesOver<T> for Arena<P0, T, S> {
+    fn take_over(&mut self, source: &mut Arena<P0, T>) -> Result<(), ReallocationError> {
+        let generation = <P0 as Ptr>::Gen::two();
+        self.transfer_reallocating(generation, source, |_old, taken, _new| taken.allow())
+    }
+}
+
+impl<T: Drop, S: NonZeroInxGenericStack<DirectSlot<P0, T>>> TakesOver<T> for DirectArena<P0, T, S> {
+    fn take_over(&mut self, source: &mut Arena<P0, T>) -> Result<(), ReallocationError> {
+        let generation = <P0 as Ptr>::Gen::two();
+        self.transfer_reallocating(generation, source, |_old, taken, _new| taken.allow())
+    }
+}
+
+/// An arena to which something is copied.
+trait Goal: ArenaCloneFromWith<P0, Value>
+    + CompactArenaTrait<P0, Value>
+    + TakesOver<Value>
+    + Whole
+    + Drop {
     /// One with room for four.
     fn target(alloc: Global) -> Result<Self, Wrong>;
-
-    /// Takes over the entries of another.
-    fn take_over(&mut self, source: &mut OnHeap) -> Result<(), ReallocationError>;
 }
 
 impl Goal for OnHeap {
     // Four entries, of which all but the second are removed, which makes the counter 5.
     fn target(alloc: Global) -> Result<OnHeap, Wrong> {
         filled(alloc, 4, &numbers()[..4], &[3, 1, 4])
-    }
-
-    fn take_over(&mut self, source: &mut OnHeap) -> Result<(), ReallocationError> {
-        let generation = <P0 as Ptr>::Gen::two();
-        self.transfer_reallocating(generation, source, |_old, taken, _new| taken.allow())
     }
 }
 
@@ -42,11 +58,6 @@ impl Goal for Direct {
     fn target(alloc: Global) -> Result<Direct, Wrong> {
         let rows = [(1, 1, plain(1)), (3, 9, plain(3)), (4, 7, plain(4))];
         placed(alloc, 4, &rows, 4)
-    }
-
-    fn take_over(&mut self, source: &mut OnHeap) -> Result<(), ReallocationError> {
-        let generation = <P0 as Ptr>::Gen::two();
-        self.transfer_reallocating(generation, source, |_old, taken, _new| taken.allow())
     }
 }
 

@@ -1,12 +1,11 @@
-//! Values that are counted, in chains and in a cache: each is dropped once.
+//! Values that are counted, in chains: each is dropped once.
 
 use std::alloc::Global;
 use std::cell::Cell;
-use std::num::NonZeroUsize;
 use std::process::Abort;
 use std::rc::Rc;
 use triple_arena::{Arena, ArenaInsertTrait, CompactArenaTrait};
-use triple_arena_chain_uses::{Cache, Chains, Link, Place};
+use triple_arena_chain_uses::{Chains, Link, Place};
 use triple_arena_ptr::P0;
 use triple_arena_test_kit::{is, pointer};
 
@@ -104,46 +103,4 @@ fn each_drop<
 fn each_value_of_chains_is_dropped_once(rt: HostRuntime) {
     let live = no_values(&rt, rt.alloc());
     each_drop::<Arena<P0, Link<P0, Value>>>(&rt, rt.alloc(), &live);
-}
-
-// The calls of a cache, without clauses.
-trait Keeping {
-    // Puts a value under a key: whether it had one.
-    fn put_under(&mut self, rt: &impl Abort, key: u64, value: Value) -> bool;
-
-    // Uses a key: whether it has a value.
-    fn promote(&mut self, key: u64) -> bool;
-}
-
-impl Keeping for Cache<Value> {
-    fn put_under(&mut self, rt: &impl Abort, key: u64, value: Value) -> bool {
-        self.put(key, value).expect(rt, "memory").is_some()
-    }
-
-    fn promote(&mut self, key: u64) -> bool {
-        self.promote(key)
-    }
-}
-
-// Each call that ends or replaces a value of a cache of two.
-fn each_use<C: Keeping>(rt: &impl Abort, cache: &mut C, live: &Live) {
-    is(cache.put_under(rt, 1, new_value(live)), false).expect(rt, "a new key");
-    is(cache.put_under(rt, 2, new_value(live)), false).expect(rt, "another");
-    is(live.get(), 2).expect(rt, "the count");
-    is(cache.put_under(rt, 1, new_value(live)), true).expect(rt, "the first again");
-    is(live.get(), 2).expect(rt, "the count");
-    is(cache.promote(2), true).expect(rt, "a key that is used");
-    is(live.get(), 2).expect(rt, "the count");
-    is(cache.put_under(rt, 3, new_value(live)), false).expect(rt, "a third, for the first");
-    is(live.get(), 2).expect(rt, "the count");
-}
-
-#[test]
-fn each_value_of_a_cache_is_dropped_once(rt: HostRuntime) {
-    let live = no_values(&rt, rt.alloc());
-    let most = NonZeroUsize::new(2).unwrap_or(NonZeroUsize::MIN);
-    let mut cache: Cache<Value> = Cache::new(rt.alloc(), most).expect(&rt, "memory");
-    each_use(&rt, &mut cache, &live);
-    drop(cache);
-    is(live.get(), 0).expect(&rt, "the count");
 }

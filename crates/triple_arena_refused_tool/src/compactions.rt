@@ -10,7 +10,7 @@ use crate::told::{NO_MEMORY, Told, told_compaction, told_done};
 use crate::value::{Row, Value, plain, with_link};
 use crate::wrong::{Wrong, holds};
 use std::alloc::Global;
-use triple_arena::CompactArenaTrait;
+use triple_arena::{ArenaDirectInsertTrait, ArenaInsertTrait, CompactArenaTrait};
 use triple_arena_direct::{StrictCompactError, compress_recast, compress_recaster};
 use triple_arena_ptr::P0;
 
@@ -134,12 +134,19 @@ fn nodes(link: Link) -> [Row; 3] {
 }
 
 /// Three nodes, of which the second is removed where the third leads to an entry.
-pub fn arena(alloc: Global, link: Link) -> Result<OnHeap, Wrong> {
+pub fn linked_nodes<A: ArenaInsertTrait<P0, Value> + Drop>(
+    alloc: Global,
+    link: Link,
+) -> Result<A, Wrong> {
     let removed: &[usize] = if link == LINKED { &[2] } else { &[] };
     filled(alloc, 3, &nodes(link), removed)
 }
 
-fn direct(alloc: Global, link: Link) -> Result<Direct, Wrong> {
+// So of a direct arena.
+fn directly_linked<A: ArenaDirectInsertTrait<P0, Value> + Drop>(
+    alloc: Global,
+    link: Link,
+) -> Result<A, Wrong> {
     let rows = [(1, 2, plain(1)), (3, 2, with_link(3, link))];
     placed(alloc, 3, &rows, 2)
 }
@@ -151,36 +158,82 @@ pub fn strict(alloc: Global, link: Link) -> Result<Strict, Wrong> {
     Ok(arena)
 }
 
-fn on_arena(alloc: Global, call: Compaction, link: Link) -> Result<End, Wrong> {
-    compacts(alloc, &mut arena(alloc, link)?, call, link, 4)
+fn on_arena<A: Compacted + ArenaInsertTrait<P0, Value> + Drop>(
+    alloc: Global,
+    call: Compaction,
+    link: Link,
+) -> Result<End, Wrong> {
+    compacts(alloc, &mut linked_nodes::<A>(alloc, link)?, call, link, 4)
 }
 
-fn on_direct(alloc: Global, call: Compaction, link: Link) -> Result<End, Wrong> {
-    compacts(alloc, &mut direct(alloc, link)?, call, link, 2)
+fn on_direct<A: Compacted + ArenaDirectInsertTrait<P0, Value> + Drop>(
+    alloc: Global,
+    call: Compaction,
+    link: Link,
+) -> Result<End, Wrong> {
+    compacts(
+        alloc,
+        &mut directly_linked::<A>(alloc, link)?,
+        call,
+        link,
+        2,
+    )
 }
 
 fn on_strict(alloc: Global, link: Link) -> Result<End, Wrong> {
-    let call = Compaction::Renamed;
-    compacts(alloc, &mut strict(alloc, link)?, call, link, 4)
+    compacts(
+        alloc,
+        &mut strict(alloc, link)?,
+        Compaction::Renamed,
+        link,
+        4,
+    )
+}
+
+// The names of the compactions.
+const MAP: &str = "compress_recaster";
+
+const RENAMING: &str = "compress_recast";
+
+const DANGLING_RENAMING: &str = "compress_recast with a dangling link";
+
+fn each_of_arena<A: Compacted + ArenaInsertTrait<P0, Value> + Drop>(
+    alloc: Global,
+    report: &mut Report,
+) {
+    let (mapped, renamed) = (Compaction::Mapped, Compaction::Renamed);
+    let kind = "an arena";
+    report.note(MAP, kind, on_arena::<A>(alloc, mapped, LINKED));
+    report.note(RENAMING, kind, on_arena::<A>(alloc, renamed, LINKED));
+    report.note(
+        DANGLING_RENAMING,
+        kind,
+        on_arena::<A>(alloc, renamed, DANGLING),
+    );
+}
+
+fn each_of_direct<A: Compacted + ArenaDirectInsertTrait<P0, Value> + Drop>(
+    alloc: Global,
+    report: &mut Report,
+) {
+    let (mapped, renamed) = (Compaction::Mapped, Compaction::Renamed);
+    let kind = "a direct arena";
+    report.note(MAP, kind, on_direct::<A>(alloc, mapped, LINKED));
+    report.note(RENAMING, kind, on_direct::<A>(alloc, renamed, LINKED));
+    report.note(
+        DANGLING_RENAMING,
+        kind,
+        on_direct::<A>(alloc, renamed, DANGLING),
+    );
 }
 
 pub fn try_each(alloc: Global, report: &mut Report) {
-    let (mapped, renamed) = (Compaction::Mapped, Compaction::Renamed);
-    let (map, linked, dangling) = (
-        "compress_recaster",
-        "compress_recast",
-        "compress_recast with a dangling link",
-    );
-    report.note(map, "an arena", on_arena(alloc, mapped, LINKED));
-    report.note(linked, "an arena", on_arena(alloc, renamed, LINKED));
-    report.note(dangling, "an arena", on_arena(alloc, renamed, DANGLING));
-    report.note(map, "a direct arena", on_direct(alloc, mapped, LINKED));
-    report.note(linked, "a direct arena", on_direct(alloc, renamed, LINKED));
+    each_of_arena::<OnHeap>(alloc, report);
+    each_of_direct::<Direct>(alloc, report);
+    report.note(RENAMING, "a strict arena", on_strict(alloc, LINKED));
     report.note(
-        dangling,
-        "a direct arena",
-        on_direct(alloc, renamed, DANGLING),
+        DANGLING_RENAMING,
+        "a strict arena",
+        on_strict(alloc, DANGLING),
     );
-    report.note(linked, "a strict arena", on_strict(alloc, LINKED));
-    report.note(dangling, "a strict arena", on_strict(alloc, DANGLING));
 }

@@ -3,7 +3,9 @@
 
 use crate::arenas::{OnHeap, Strict};
 use crate::calls::filled;
-use crate::compactions::{DANGLES, DANGLING, LINKED, arena, has_moved, strict, told_strictly};
+use crate::compactions::{
+    DANGLES, DANGLING, LINKED, has_moved, linked_nodes, strict, told_strictly,
+};
 use crate::links::{Link, linked};
 use crate::report::{End, Report};
 use crate::seen::Whole;
@@ -12,7 +14,7 @@ use crate::told::{NO_MEMORY, Told, told_compaction};
 use crate::value::{Row, Value};
 use crate::wrong::{Wrong, holds};
 use std::alloc::Global;
-use triple_arena::{Arena, CompactArenaTrait};
+use triple_arena::{Arena, ArenaInsertTrait, CompactArenaTrait};
 use triple_arena_base::CompactError;
 use triple_arena_direct::{
     CompactBothError, DirectArena, compress_recast_both, compress_recast_with,
@@ -186,9 +188,12 @@ fn held(link: Link) -> Option<P0> {
     })
 }
 
-fn on_arena(alloc: Global, link: Link) -> Result<End, Wrong> {
+fn on_arena<A: ArenaInsertTrait<P0, Value> + CompactArenaTrait<P0, Value> + Whole + Drop>(
+    alloc: Global,
+    link: Link,
+) -> Result<End, Wrong> {
     let mut all = Beside {
-        arena: &mut arena(alloc, LINKED)?,
+        arena: &mut linked_nodes::<A>(alloc, LINKED)?,
         holder: held(link),
     };
     follows(alloc, &mut all, answer_with(link))
@@ -234,28 +239,41 @@ fn on_both(alloc: Global, net: Link, cell: Link, expected: Answer) -> Result<End
     follows(alloc, &mut all, expected)
 }
 
-pub fn try_each(alloc: Global, report: &mut Report) {
-    let (with, dangling) = (
-        "compress_recast_with",
-        "compress_recast_with and a dangling holder",
-    );
-    report.note(with, "an arena", on_arena(alloc, LINKED));
-    report.note(dangling, "an arena", on_arena(alloc, DANGLING));
-    report.note(with, "a strict arena", on_strict(alloc, LINKED));
-    report.note(dangling, "a strict arena", on_strict(alloc, DANGLING));
+// The names of the compactions beside a holder.
+const WITH: &str = "compress_recast_with";
+
+const WITH_DANGLING: &str = "compress_recast_with and a dangling holder";
+
+fn each_of_arena<A: ArenaInsertTrait<P0, Value> + CompactArenaTrait<P0, Value> + Whole + Drop>(
+    alloc: Global,
+    report: &mut Report,
+) {
+    report.note(WITH, "an arena", on_arena::<A>(alloc, LINKED));
+    report.note(WITH_DANGLING, "an arena", on_arena::<A>(alloc, DANGLING));
+}
+
+fn each_of_both(alloc: Global, report: &mut Report) {
+    let kind = "two arenas";
     report.note(
         "compress_recast_both",
-        "two arenas",
+        kind,
         on_both(alloc, BEHIND, BEHIND, Answer::Done),
     );
     report.note(
         "compress_recast_both and a net without its cell",
-        "two arenas",
+        kind,
         on_both(alloc, BEHIND, DANGLING, Answer::First(DANGLES)),
     );
     report.note(
         "compress_recast_both and a cell without its net",
-        "two arenas",
+        kind,
         on_both(alloc, DANGLING, BEHIND, Answer::Second(DANGLES)),
     );
+}
+
+pub fn try_each(alloc: Global, report: &mut Report) {
+    each_of_arena::<OnHeap>(alloc, report);
+    report.note(WITH, "a strict arena", on_strict(alloc, LINKED));
+    report.note(WITH_DANGLING, "a strict arena", on_strict(alloc, DANGLING));
+    each_of_both(alloc, report);
 }

@@ -1,5 +1,6 @@
-//! The texts of replies.
+//! The texts of replies, and the words of arguments.
 
+mod arguments;
 mod replies;
 
 use std::alloc::Global;

@@ -1,6 +1,5 @@
 //! The calls of an `Arena` that no line of the shell names.
 
-use crate::tests::numbers::put_numbers;
 use std::num::NonZeroU128;
 use std::process::Abort;
 use triple_arena::{
@@ -9,7 +8,7 @@ use triple_arena::{
 use triple_arena_base::Advancer;
 use triple_arena_ptr::{P0, Ptr};
 use triple_arena_stack::NonZeroInxGenericStack;
-use triple_arena_test_kit::{Wide, inx, is, is_shown, pointer};
+use triple_arena_test_kit::{Wide, inx, is, is_shown, pointer, put_numbers};
 
 #[test]
 fn a_default_slot_is_free(rt: HostRuntime) {
@@ -88,7 +87,7 @@ fn add_by_loop(arena: &mut Arena<P0, u64>, added: u64) {
 #[test]
 fn each_way_to_write_to_the_values(rt: HostRuntime) {
     let mut arena: Arena<P0, u64> = Arena::new(rt.alloc());
-    put_numbers(&rt, &mut arena, 3, &[]);
+    put_numbers(&mut arena, 3, &[]).expect(&rt, "memory");
     add_by_entries(&mut arena, 10);
     add_by_loop(&mut arena, 1000);
     is_written_to(&rt, &mut arena);
@@ -113,7 +112,7 @@ fn add_its_indexes<A: CompactArenaTrait<P0, u64>>(arena: &mut A) -> bool {
 #[test]
 fn a_compression_tells_a_closure_each_move(rt: HostRuntime) {
     let mut arena: Arena<P0, u64> = Arena::new(rt.alloc());
-    put_numbers(&rt, &mut arena, 3, &[2]);
+    put_numbers(&mut arena, 3, &[2]).expect(&rt, "memory");
     is(add_its_indexes(&mut arena), true).expect(&rt, "whether no counter wrapped");
     is_shown(rt.alloc(), &arena, "{P0[1](4): 111, P0[2](4): 233}").expect(&rt, "the arena");
 }
@@ -134,7 +133,7 @@ fn goes_on<A: ArenaInsertTrait<P0, u64>>(rt: &impl Abort, arena: &mut A) {
 #[test]
 fn an_advancer_goes_on_while_the_arena_changes(rt: HostRuntime) {
     let mut arena: Arena<P0, u64> = Arena::new(rt.alloc());
-    put_numbers(&rt, &mut arena, 5, &[2, 4]);
+    put_numbers(&mut arena, 5, &[2, 4]).expect(&rt, "memory");
     goes_on(&rt, &mut arena);
 }
 

@@ -1,6 +1,5 @@
 //! Loops over arenas, also by value over each stack, and how many items iterators say that are left.
 
-use crate::tests::numbers::put_numbers;
 use std::alloc::Global;
 use std::process::Abort;
 use triple_arena::arena_iterators::CapacityDrain;
@@ -10,14 +9,14 @@ use triple_arena_stack::{
     NonZeroInxArray, NonZeroInxBoxedSlice, NonZeroInxGenericStack, NonZeroInxLimitedVec,
     NonZeroInxVec,
 };
-use triple_arena_test_kit::is;
+use triple_arena_test_kit::{is, put_numbers};
 
 type Slot = ArenaSlot<P0, u64>;
 
 // An arena of six places, with entries at 2, 4 and 5, each of its index.
 fn three<A: ArenaInsertTrait<P0, u64> + Drop>(rt: &impl Abort, alloc: Global) -> A {
     let mut arena = A::with_min_capacity(alloc, 6).expect(rt, "memory");
-    put_numbers(rt, &mut arena, 6, &[1, 3, 6]);
+    put_numbers(&mut arena, 6, &[1, 3, 6]).expect(rt, "memory");
     arena
 }
 

@@ -33,20 +33,25 @@ fn is_used<
     is(copy.clear().is_success(), true).expect(rt, "whether the clone is cleared");
 }
 
+// So of the arena on the heap on pointers of a type, which is named here for all of them.
+fn serves<P: Ptr>(rt: &impl Abort, alloc: Global, text: &str) {
+    is_used::<P, Arena<P, u64>>(rt, alloc, text);
+}
+
 #[test]
 fn an_arena_on_each_type_of_pointers(rt: HostRuntime) {
     let alloc = rt.alloc();
-    is_used::<P0, Arena<P0, u64>>(&rt, alloc, "{P0[1](3): 3, P0[2](2): 2}");
-    is_used::<P1, Arena<P1, u64>>(&rt, alloc, "{P1[1](3): 3, P1[2](2): 2}");
-    is_used::<P2, Arena<P2, u64>>(&rt, alloc, "{P2[1](3): 3, P2[2](2): 2}");
-    is_used::<P3, Arena<P3, u64>>(&rt, alloc, "{P3[1](3): 3, P3[2](2): 2}");
-    is_used::<P4, Arena<P4, u64>>(&rt, alloc, "{P4[1]: 3, P4[2]: 2}");
-    is_used::<P5, Arena<P5, u64>>(&rt, alloc, "{P5[1]: 3, P5[2]: 2}");
-    is_used::<Q2, Arena<Q2, u64>>(&rt, alloc, "{Q2[1](3): 3, Q2[2](2): 2}");
-    is_used::<PtrNoGen<P0>, Arena<PtrNoGen<P0>, u64>>(&rt, alloc, "{P0[1]: 3, P0[2]: 2}");
-    is_used::<B, Arena<B, u64>>(&rt, alloc, "{B[1](3): 3, B[2](2): 2}");
-    is_used::<Narrow, Arena<Narrow, u64>>(&rt, alloc, "{PtrOf[1](3): 3, PtrOf[2](2): 2}");
-    is_used::<Wide, Arena<Wide, u64>>(&rt, alloc, "{PtrOf[1](3): 3, PtrOf[2](2): 2}");
+    serves::<P0>(&rt, alloc, "{P0[1](3): 3, P0[2](2): 2}");
+    serves::<P1>(&rt, alloc, "{P1[1](3): 3, P1[2](2): 2}");
+    serves::<P2>(&rt, alloc, "{P2[1](3): 3, P2[2](2): 2}");
+    serves::<P3>(&rt, alloc, "{P3[1](3): 3, P3[2](2): 2}");
+    serves::<P4>(&rt, alloc, "{P4[1]: 3, P4[2]: 2}");
+    serves::<P5>(&rt, alloc, "{P5[1]: 3, P5[2]: 2}");
+    serves::<Q2>(&rt, alloc, "{Q2[1](3): 3, Q2[2](2): 2}");
+    serves::<PtrNoGen<P0>>(&rt, alloc, "{P0[1]: 3, P0[2]: 2}");
+    serves::<B>(&rt, alloc, "{B[1](3): 3, B[2](2): 2}");
+    serves::<Narrow>(&rt, alloc, "{PtrOf[1](3): 3, PtrOf[2](2): 2}");
+    serves::<Wide>(&rt, alloc, "{PtrOf[1](3): 3, PtrOf[2](2): 2}");
 }
 
 // The pointer of the second of two texts.

@@ -6,7 +6,9 @@ use triple_arena::{
     Arena, ArenaCloneFromWith, ArenaInsertTrait, ArenaSlot, ArenaTrait, CompactArenaTrait,
 };
 use triple_arena_ptr::P0;
-use triple_arena_stack::{NonZeroInxArray, NonZeroInxLimitedVec, NonZeroInxVec};
+use triple_arena_stack::{
+    NonZeroInxArray, NonZeroInxGenericStack, NonZeroInxLimitedVec, NonZeroInxVec,
+};
 use triple_arena_test_kit::{is, pointer};
 
 // 5000 insertions, the ends of every second, and as many insertions again; then a clone and a compression.
@@ -60,8 +62,16 @@ fn four_values<A: ArenaInsertTrait<P0, ()> + Drop>(rt: &impl Abort, alloc: Globa
     is(arena.len(), 3).expect(rt, "the length");
 }
 
+// So over a stack, which alone a test names.
+fn four_values_over<S: NonZeroInxGenericStack<ArenaSlot<P0, ()>> + Drop>(
+    rt: &impl Abort,
+    alloc: Global,
+) {
+    four_values::<Arena<P0, (), S>>(rt, alloc);
+}
+
 #[test]
 fn values_of_no_size_have_their_pointers(rt: HostRuntime) {
-    four_values::<Arena<P0, (), NonZeroInxVec<ArenaSlot<P0, ()>>>>(&rt, rt.alloc());
-    four_values::<Arena<P0, (), NonZeroInxArray<ArenaSlot<P0, ()>, 3>>>(&rt, rt.alloc());
+    four_values_over::<NonZeroInxVec<ArenaSlot<P0, ()>>>(&rt, rt.alloc());
+    four_values_over::<NonZeroInxArray<ArenaSlot<P0, ()>, 3>>(&rt, rt.alloc());
 }

@@ -7,7 +7,8 @@ use std::process::Abort;
 use triple_arena::{Arena, ArenaInsertTrait, ArenaSlot, ArenaTrait};
 use triple_arena_ptr::{P0, P4, Ptr, Q2};
 use triple_arena_stack::{
-    NonZeroInxArray, NonZeroInxBoxedSlice, NonZeroInxLimitedVec, NonZeroInxVec,
+    NonZeroInxArray, NonZeroInxBoxedSlice, NonZeroInxGenericStack, NonZeroInxLimitedVec,
+    NonZeroInxVec,
 };
 use triple_arena_test_kit::{Narrow, is, is_shown};
 
@@ -32,21 +33,30 @@ fn stands_by_index<P: Ptr, A: ArenaInsertTrait<P, u64> + Debug + Drop>(
     is_shown(alloc, &arena, text).expect(rt, "the arena");
 }
 
-type OnHeap<P> = Arena<P, u64, NonZeroInxVec<ArenaSlot<P, u64>>>;
+// So over a stack, which alone a test names.
+fn stands_over<P: Ptr, S: NonZeroInxGenericStack<ArenaSlot<P, u64>> + Drop>(
+    rt: &impl Abort,
+    alloc: Global,
+    text: &str,
+) {
+    stands_by_index::<P, Arena<P, u64, S>>(rt, alloc, text);
+}
 
-type UpToLimit<P> = Arena<P, u64, NonZeroInxLimitedVec<ArenaSlot<P, u64>>>;
+type OnHeap<P> = NonZeroInxVec<ArenaSlot<P, u64>>;
 
-type Fixed<P> = Arena<P, u64, NonZeroInxBoxedSlice<ArenaSlot<P, u64>>>;
+type UpToLimit<P> = NonZeroInxLimitedVec<ArenaSlot<P, u64>>;
 
-type InArray<P> = Arena<P, u64, NonZeroInxArray<ArenaSlot<P, u64>, 3>>;
+type Fixed<P> = NonZeroInxBoxedSlice<ArenaSlot<P, u64>>;
+
+type InArray<P> = NonZeroInxArray<ArenaSlot<P, u64>, 3>;
 
 #[test]
 fn entries_stand_by_index_over_each_stack(rt: HostRuntime) {
     let alloc = rt.alloc();
-    stands_by_index::<P0, OnHeap<P0>>(&rt, alloc, "{P0[1](2): 7, P0[3](4): 8}");
-    stands_by_index::<Q2, UpToLimit<Q2>>(&rt, alloc, "{Q2[1](2): 7, Q2[3](4): 8}");
-    stands_by_index::<P4, Fixed<P4>>(&rt, alloc, "{P4[1]: 7, P4[3]: 8}");
-    stands_by_index::<Narrow, InArray<Narrow>>(&rt, alloc, "{PtrOf[1](2): 7, PtrOf[3](4): 8}");
+    stands_over::<P0, OnHeap<P0>>(&rt, alloc, "{P0[1](2): 7, P0[3](4): 8}");
+    stands_over::<Q2, UpToLimit<Q2>>(&rt, alloc, "{Q2[1](2): 7, Q2[3](4): 8}");
+    stands_over::<P4, Fixed<P4>>(&rt, alloc, "{P4[1]: 7, P4[3]: 8}");
+    stands_over::<Narrow, InArray<Narrow>>(&rt, alloc, "{PtrOf[1](2): 7, PtrOf[3](4): 8}");
 }
 
 // A new arena of texts, and one of two.
@@ -126,6 +136,6 @@ fn is_asked_no_more<A: Debug>(rt: &impl Abort, arena: &A, text: &str) {
 
 #[test]
 fn a_writer_that_fails_is_asked_no_more(rt: HostRuntime) {
-    let arena: OnHeap<P0> = two_left(&rt, rt.alloc());
+    let arena: Arena<P0, u64> = two_left(&rt, rt.alloc());
     is_asked_no_more(&rt, &arena, "{P0[1](2): 7, P0[3](4): 8}");
 }

@@ -5,6 +5,7 @@
 
 mod circuit;
 mod entity_table;
+mod exchange;
 mod first_arena;
 mod gates;
 mod graph;
@@ -12,6 +13,7 @@ mod guest_book;
 mod holders;
 mod into_values;
 mod leases;
+mod links;
 mod netlist;
 mod ports;
 mod side_table;

@@ -1,87 +1,39 @@
 //! Compaction that renames what a holder beside the arena holds, and the look for a dangling pointer of
 //! it.
 
-use std::alloc::{AllocError, Global};
+use crate::tests::compaction::{Node, filled};
+use crate::tests::strict::{Nodes, Strict};
+use std::alloc::Global;
 use std::fmt::Debug;
 use std::process::Abort;
-use triple_arena::{Arena, ArenaInsertTrait, ArenaTrait};
+use triple_arena::{Arena, ArenaInsertTrait, ArenaTrait, CompactArenaTrait};
 use triple_arena_base::Recast;
-use triple_arena_direct::{StrictArena, compress_recast_with, unresolved};
-use triple_arena_ptr::{P0, Q2};
-use triple_arena_test_kit::pointer;
+use triple_arena_direct::{compress_recast_with, unresolved};
+use triple_arena_ptr::{P0, Ptr, Q2};
+use triple_arena_test_kit::{B, Numbered, is, is_shown, pointer};
 
-// A number, and a link.
-type Node = (u64, Option<P0>);
-
-// Nodes under the pointers (2, 2) and (3, 2), the second with this link, behind a gap.
-fn nodes(alloc: Global, link: P0) -> Option<Arena<P0, Node>> {
-    let mut nodes = Arena::new(alloc);
-    for node in [(10, None), (20, None), (30, Some(link))] {
-        nodes.insert(node).ok()?;
-    }
-    drop(nodes.remove(pointer(1, 2)));
-    Some(nodes)
-}
-
-// An arena of pointers, the second under (2, 2).
-fn holder(alloc: Global, held: [P0; 2]) -> Option<Arena<Q2, P0>> {
-    let mut holder = Arena::new(alloc);
-    for p in Vec::from_array(alloc, held).ok()? {
-        holder.insert(p).ok()?;
-    }
-    Some(holder)
-}
-
-// What the look for a dangling pointer and the compaction answer, and both arenas then.
-fn compacted(alloc: Global, link: P0, held: [P0; 2]) -> Option<[Result<String, AllocError>; 4]> {
-    let mut nodes = nodes(alloc, link)?;
-    let mut holder = holder(alloc, held)?;
-    told_with(alloc, &mut nodes, &mut holder)
-}
-
-fn told_with<H: Recast<P0> + Debug>(
-    alloc: Global,
-    nodes: &mut Arena<P0, Node>,
-    holder: &mut H,
-) -> Option<[Result<String, AllocError>; 4]> {
-    let dangling = unresolved(nodes, holder);
-    let answer = compress_recast_with(nodes, holder, alloc, false);
-    Some([
-        format!(in alloc; "{dangling:?}"),
-        format!(in alloc; "{answer:?}"),
-        format!(in alloc; "{nodes:?}"),
-        format!(in alloc; "{holder:?}"),
-    ])
-}
-
-fn is_told(told: Option<[Result<String, AllocError>; 4]>, wanted: [&str; 4]) -> bool {
-    match &told {
-        Some([Ok(dangling), Ok(answer), Ok(nodes), Ok(holder)]) => {
-            [
-                dangling.as_str(),
-                answer.as_str(),
-                nodes.as_str(),
-                holder.as_str(),
-            ] == wanted
-        }
-        _ => false,
-    }
+// Nodes under the pointers (2, 2) and (3, 2), the second with a link to the first, behind a gap, and a holder of
+// both pointers.
+fn is_followed<
+    A: ArenaInsertTrait<P0, Node<P0>> + CompactArenaTrait<P0, Node<P0>> + Debug + Drop,
+    H: ArenaInsertTrait<Q2, P0> + Recast<P0> + Debug + Drop,
+>(rt: &impl Abort, alloc: Global) {
+    let linked = [(10, None), (20, None), (30, Some(pointer(2, 2)))];
+    let mut nodes: A = filled(alloc, &linked, &[1]).expect(rt, "memory for nodes");
+    let held = [pointer(3, 2), pointer(2, 2)];
+    let mut holder: H = filled(alloc, &held, &[]).expect(rt, "memory for a holder");
+    is(unresolved(&nodes, &mut holder), None).expect(rt, "a dangling pointer");
+    let answer = compress_recast_with(&mut nodes, &mut holder, alloc, false);
+    let text = "Ok(Success({P0[2](2): P0[1](4), P0[3](2): P0[2](4)}))";
+    is_shown(alloc, &answer, text).expect(rt, "the answer");
+    let text = "{P0[1](4): (20, None), P0[2](4): (30, Some(P0[1](4)))}";
+    is_shown(alloc, &nodes, text).expect(rt, "the nodes");
+    is_shown(alloc, &holder, "{Q2[1](2): P0[2](4), Q2[2](2): P0[1](4)}").expect(rt, "the holder");
 }
 
 #[test]
 fn a_holder_follows(rt: HostRuntime) {
-    let told = compacted(rt.alloc(), pointer(2, 2), [pointer(3, 2), pointer(2, 2)]);
-    assert!(rt;
-        is_told(
-            told,
-            [
-                "None",
-                "Ok(Success({P0[2](2): P0[1](4), P0[3](2): P0[2](4)}))",
-                "{P0[1](4): (20, None), P0[2](4): (30, Some(P0[1](4)))}",
-                "{Q2[1](2): P0[2](4), Q2[2](2): P0[1](4)}",
-            ]
-        )
-    );
+    is_followed::<Arena<P0, Node<P0>>, Arena<Q2, P0>>(&rt, rt.alloc());
 }
 
 // How many nodes are compacted beside a vector of the pointers to them.
@@ -89,7 +41,10 @@ const MANY: usize = 5000;
 
 // The node of a number, with a link to the next one, which the last has not: the indexes are by so many
 // above the numbers.
-fn numbered(number: usize, above: usize, generation: u64) -> Node {
+fn numbered<P: Ptr>(number: usize, above: usize, generation: u64) -> Node<P>
+where
+    P::Gen: Numbered,
+{
     let next = number.saturating_add(1).saturating_add(above);
     let link = if number == MANY {
         None
@@ -100,7 +55,10 @@ fn numbered(number: usize, above: usize, generation: u64) -> Node {
 }
 
 // Whether each pointer to the nodes, and each link from one to the next, is that of its number.
-fn are_renamed(nodes: &Arena<P0, Node>, holder: &[P0]) -> bool {
+fn are_renamed<P: Ptr, A: ArenaTrait<P, Node<P>>>(nodes: &A, holder: &[P]) -> bool
+where
+    P::Gen: Numbered,
+{
     let mut number = 0usize;
     for p in holder {
         number = number.saturating_add(1);
@@ -112,41 +70,44 @@ fn are_renamed(nodes: &Arena<P0, Node>, holder: &[P0]) -> bool {
     number == MANY && nodes.len() == MANY
 }
 
-// Whether all is renamed of a compaction of that many nodes, behind one that was removed, and of a vector
-// of their pointers.
-fn thousands_renamed(alloc: Global) -> Option<bool> {
-    let mut nodes: Arena<P0, Node> = Arena::new(alloc);
+// That many nodes behind one that is removed, compacted beside a vector of their pointers.
+fn renames_thousands<A: ArenaInsertTrait<P0, Node<P0>> + CompactArenaTrait<P0, Node<P0>> + Drop>(
+    rt: &impl Abort,
+    alloc: Global,
+) {
+    let mut nodes = A::new(alloc);
     let mut holder: Vec<P0> = Vec::new(alloc);
-    nodes.insert((0, None)).ok()?;
+    nodes.insert((0, None)).expect(rt, "memory");
     for number in 1..=MANY {
-        let p = nodes.insert(numbered(number, 1, 2)).ok()?;
-        holder.push(p).ok()?;
+        let p = nodes.insert(numbered(number, 1, 2)).expect(rt, "memory");
+        holder.push(p).expect(rt, "memory");
     }
     drop(nodes.remove(pointer(1, 2)));
-    drop(compress_recast_with(&mut nodes, &mut holder, alloc, false).ok()?);
-    Some(are_renamed(&nodes, holder.as_slice()))
+    let answer = compress_recast_with(&mut nodes, &mut holder, alloc, false);
+    is(answer.is_ok(), true).expect(rt, "whether it is compacted");
+    is(are_renamed(&nodes, holder.as_slice()), true).expect(rt, "whether all is renamed");
 }
 
 #[test]
 fn thousands_of_pointers_follow_an_arena(rt: HostRuntime) {
-    assert_eq!(rt; thousands_renamed(rt.alloc()), Some(true));
+    renames_thousands::<Arena<P0, Node<P0>>>(&rt, rt.alloc());
 }
 
 // So of a strict arena.
-fn thousands_renamed_strictly(alloc: Global) -> Option<bool> {
-    let mut nodes: StrictArena<P0, Node> = StrictArena::new(alloc);
-    let mut holder: Vec<P0> = Vec::new(alloc);
-    nodes.insert((0, None)).ok()?;
+fn renames_thousands_strictly<A: Strict>(rt: &impl Abort, alloc: Global, nodes: &mut A) {
+    let mut holder: Vec<B> = Vec::new(alloc);
+    nodes.insert((0, None)).expect(rt, "memory");
     for number in 1..=MANY {
-        let p = nodes.insert(numbered(number, 1, 2)).ok()?;
-        holder.push(p).ok()?;
+        let p = nodes.insert(numbered(number, 1, 2)).expect(rt, "memory");
+        holder.push(p).expect(rt, "memory");
     }
-    nodes.remove(pointer(1, 2)).ok()?;
-    drop(nodes.compress_recast_with(&mut holder, alloc).ok()?);
-    Some(are_renamed(nodes.arena(), holder.as_slice()))
+    is(nodes.remove(pointer(1, 2)), Ok((0, None))).expect(rt, "a removal");
+    let answer = nodes.compress_recast_with(&mut holder, alloc);
+    is(answer.is_ok(), true).expect(rt, "whether it is compacted");
+    is(are_renamed(nodes.arena(), holder.as_slice()), true).expect(rt, "whether all is renamed");
 }
 
 #[test]
 fn thousands_of_pointers_follow_a_strict_arena(rt: HostRuntime) {
-    assert_eq!(rt; thousands_renamed_strictly(rt.alloc()), Some(true));
+    renames_thousands_strictly(&rt, rt.alloc(), &mut Nodes::new(rt.alloc()));
 }

@@ -75,3 +75,32 @@ fn a_cache_of_the_last_used_answers_as_the_kits(rt: HostRuntime) {
     check_alike(&rt, &mut ours, &mut theirs, 100_000);
     is(ours.len(), 30).expect(&rt, "as many keys as it keeps");
 }
+
+// How many keys a large cache keeps.
+const KEPT: usize = 5_000;
+
+// How many are put into it.
+const PUT: u64 = 12_000;
+
+// How many of these go again, the first.
+const GONE: u64 = 7_000;
+
+// Puts each key with its own number, and uses all of them then: whether each is kept or gone.
+fn fills<C: Caches>(rt: &impl Abort, cache: &mut C) {
+    for key in 0..PUT {
+        is(cache.put_under(rt, key, key), None).expect(rt, "a new key");
+    }
+    is(cache.next_to_go(), Some(GONE)).expect(rt, "the key that goes next");
+    for key in 0..PUT {
+        let kept = if key < GONE { None } else { Some(key) };
+        is(cache.used(key), kept).expect(rt, "the value of a key");
+    }
+}
+
+#[test]
+fn a_cache_keeps_five_thousand_keys(rt: HostRuntime) {
+    let most = NonZeroUsize::new(KEPT).unwrap_or(NonZeroUsize::MIN);
+    let mut cache: Cache<u64> = Cache::new(rt.alloc(), most).expect(&rt, "memory");
+    fills(&rt, &mut cache);
+    is(cache.len(), KEPT).expect(&rt, "as many keys as it keeps");
+}

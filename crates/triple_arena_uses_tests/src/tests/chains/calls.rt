@@ -99,6 +99,18 @@ fn cuts_and_joins<
     [first, joined, four_from(&chains, three)]
 }
 
+// The number 5 behind those from 1 to 4, and whether it may stand behind 2 as well.
+fn pushes_back<
+    P: Ptr,
+    A: CompactArenaTrait<P, Link<P, u64>> + ArenaInsertTrait<P, Link<P, u64>> + Drop,
+>(rt: &impl Abort, alloc: Global) -> ([u64; 4], bool) {
+    let mut chains: Chains<P, u64, A> = Chains::new(alloc);
+    let (_one, two, _three, four) = one_to_four(rt, &mut chains);
+    chains.push_back(four, 5).expect(rt, "memory");
+    let again = chains.push_back(two, 5);
+    (four_from(&chains, two), again.is_ok())
+}
+
 // A ring of the numbers from 1 to 4 but for 2, from 3 on, once it is compressed.
 fn compresses<
     P: Ptr,
@@ -144,6 +156,19 @@ fn walks_and_removes<
     (sum, removed, chains.len())
 }
 
+// How many pointers the rest of a ring of four has, and the rest from a pointer that finds nothing.
+fn lengths_of_rests<
+    P: Ptr,
+    A: CompactArenaTrait<P, Link<P, u64>> + ArenaInsertTrait<P, Link<P, u64>> + Drop,
+>(rt: &impl Abort, alloc: Global) -> [usize; 2] {
+    let mut chains: Chains<P, u64, A> = Chains::new(alloc);
+    let (one, _two, three, four) = one_to_four(rt, &mut chains);
+    chains.join(four, one).expect(rt, "two ends");
+    let rest = chains.rest(three, alloc).expect(rt, "memory");
+    let nothing = chains.rest(P::invalid(), alloc).expect(rt, "memory");
+    [rest.len(), nothing.len()]
+}
+
 #[test]
 fn a_chain_read_backwards(rt: HostRuntime) {
     let listed = goes_back::<P0, Arena<P0, Link<P0, u64>>>(&rt, rt.alloc());
@@ -156,8 +181,84 @@ fn each_call_over_an_arena(rt: HostRuntime) {
     is(listed, [[1, 2, 3, 4], [1, 3, 4, 0], [1, 7, 4, 0]]).expect(&rt, "a removal and a write");
     let joined = cuts_and_joins::<P0, Arena<P0, Link<P0, u64>>>(&rt, rt.alloc());
     is(joined, [[1, 2, 0, 0], [3, 4, 1, 2], [3, 0, 0, 0]]).expect(&rt, "cuts and a join");
+    let pushed = pushes_back::<P0, Arena<P0, Link<P0, u64>>>(&rt, rt.alloc());
+    is(pushed, ([2, 3, 4, 5], false)).expect(&rt, "a value at the end, and none in the middle");
     let compressed = compresses::<P0, Arena<P0, Link<P0, u64>>>(&rt, rt.alloc());
     is(compressed, [3, 4, 1, 3]).expect(&rt, "a ring that is compressed");
     let walked = walks_and_removes::<P0, Arena<P0, Link<P0, u64>>>(&rt, rt.alloc());
     is(walked, (10, 4, 1)).expect(&rt, "a walk and a removal");
+    let rests = lengths_of_rests::<P0, Arena<P0, Link<P0, u64>>>(&rt, rt.alloc());
+    is(rests, [4, 0]).expect(&rt, "the rest of a ring, and of nothing");
+}
+
+// How many entries a large ring has, before one in three is taken out.
+const COUNT: u64 = 9_000;
+
+// The value that stands after one in that ring.
+fn next_value(value: u64) -> u64 {
+    if value % 3 == 0 {
+        value.wrapping_add(2)
+    } else {
+        value.wrapping_add(1)
+    }
+}
+
+// The pointers of a new chain of the numbers below that count, in their order.
+fn chain_of_thousands<
+    P: Ptr,
+    A: CompactArenaTrait<P, Link<P, u64>> + ArenaInsertTrait<P, Link<P, u64>> + Drop,
+>(rt: &impl Abort, alloc: Global, chains: &mut Chains<P, u64, A>) -> Vec<P> {
+    let mut all = Vec::new(alloc);
+    let mut last = chains.insert_new(0).expect(rt, "memory");
+    all.push(last).expect(rt, "memory");
+    for value in 1..COUNT {
+        last = chains.push_back(last, value).expect(rt, "memory");
+        all.push(last).expect(rt, "memory");
+    }
+    all
+}
+
+// How many steps of a walk answer, each with the value that comes next.
+fn count_of_walk<P: Ptr, A: CompactArenaTrait<P, Link<P, u64>> + ArenaInsertTrait<P, Link<P, u64>>>(
+    rt: &impl Abort,
+    chains: &Chains<P, u64, A>,
+    first: P,
+) -> usize {
+    let mut count: usize = 0;
+    let mut value = 0;
+    let mut advancer = chains.walk(first);
+    for _step in 0..COUNT {
+        if let Some(p) = advancer.advance(chains) {
+            is(chains.get(p).copied(), Some(value)).expect(rt, "the next value");
+            value = next_value(value);
+            count = count.wrapping_add(1);
+        }
+    }
+    count
+}
+
+// A ring of two thirds of the numbers, once it is compressed: how many a walk round it meets.
+fn ring_of_thousands<
+    P: Ptr,
+    A: CompactArenaTrait<P, Link<P, u64>> + ArenaInsertTrait<P, Link<P, u64>> + Drop,
+>(rt: &impl Abort, alloc: Global) -> usize {
+    let mut chains: Chains<P, u64, A> = Chains::new(alloc);
+    let all = chain_of_thousands(rt, alloc, &mut chains);
+    let first = *all.first().expect(rt, "the first");
+    let last = *all.last().expect(rt, "the last");
+    for (value, p) in all.iter().enumerate() {
+        if value % 3 == 1 {
+            chains.remove(*p).expect(rt, "an entry");
+        }
+    }
+    chains.join(last, first).expect(rt, "two ends");
+    let map = chains.compress(alloc).expect(rt, "memory").allow();
+    let new = map.get(first).expect(rt, "the new pointer");
+    count_of_walk(rt, &chains, *new)
+}
+
+#[test]
+fn a_ring_of_thousands_is_compressed_and_walked(rt: HostRuntime) {
+    let count = ring_of_thousands::<P0, Arena<P0, Link<P0, u64>>>(&rt, rt.alloc());
+    is(count, 6_000).expect(&rt, "each that is left, once");
 }

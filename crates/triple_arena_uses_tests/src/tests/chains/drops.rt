@@ -1,11 +1,12 @@
-//! Values that are counted, in chains: each is dropped once.
+//! Values that are counted, in chains and in a cache: each is dropped once.
 
 use std::alloc::Global;
 use std::cell::Cell;
+use std::num::NonZeroUsize;
 use std::process::Abort;
 use std::rc::Rc;
 use triple_arena::{Arena, ArenaInsertTrait, CompactArenaTrait};
-use triple_arena_chain_uses::{Chains, Link, Place};
+use triple_arena_chain_uses::{Cache, Chains, Link, Place};
 use triple_arena_ptr::P0;
 use triple_arena_test_kit::{is, pointer};
 
@@ -103,4 +104,44 @@ fn each_drop<
 fn each_value_of_chains_is_dropped_once(rt: HostRuntime) {
     let live = no_values(&rt, rt.alloc());
     each_drop::<Arena<P0, Link<P0, Value>>>(&rt, rt.alloc(), &live);
+}
+
+/// A cache of counted values, without clauses.
+trait Keeps {
+    /// Puts a new value under a key, and drops the one that it had: whether it had one.
+    fn keeps(&mut self, key: u64, live: &Live) -> Option<bool>;
+}
+
+impl Keeps for Cache<Value> {
+    fn keeps(&mut self, key: u64, live: &Live) -> Option<bool> {
+        match self.put(key, new_value(live)) {
+            Ok(had) => Some(had.is_some()),
+            Err(_refusal) => None,
+        }
+    }
+}
+
+// Puts into a cache of two keys: a value under each, another under the first, and one under a third key.
+fn each_put<C: Keeps>(rt: &impl Abort, cache: &mut C, live: &Live) {
+    is(cache.keeps(1, live), Some(false)).expect(rt, "a new key");
+    is(cache.keeps(2, live), Some(false)).expect(rt, "a new key");
+    is(live.get(), 2).expect(rt, "the count");
+    is(cache.keeps(1, live), Some(true)).expect(rt, "a key that it has");
+    is(live.get(), 2).expect(rt, "the count");
+    is(cache.keeps(3, live), Some(false)).expect(rt, "a new key");
+    is(live.get(), 2).expect(rt, "the count");
+}
+
+// Those calls on a new cache, which is let go then: no call `drop(cache)` has a proof.
+fn each_drop_of_a_cache(rt: &impl Abort, alloc: Global, live: &Live) {
+    let most = NonZeroUsize::new(2).unwrap_or(NonZeroUsize::MIN);
+    let mut cache: Cache<Value> = Cache::new(alloc, most).expect(rt, "memory");
+    each_put(rt, &mut cache, live);
+}
+
+#[test]
+fn each_value_of_a_cache_is_dropped_once(rt: HostRuntime) {
+    let live = no_values(&rt, rt.alloc());
+    each_drop_of_a_cache(&rt, rt.alloc(), &live);
+    is(live.get(), 0).expect(&rt, "the count");
 }

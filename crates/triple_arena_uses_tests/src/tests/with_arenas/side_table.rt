@@ -1,7 +1,11 @@
 use std::process::Abort;
+use triple_arena::{Arena, ArenaInsertTrait, ArenaTrait};
+use triple_arena_base::AllocError;
+use triple_arena_direct::DirectArena;
 use triple_arena_ptr::P0;
 use triple_arena_test_kit::is;
-use triple_arena_uses::side_table::NotedEntities;
+use triple_arena_uses::Entity;
+use triple_arena_uses::side_table::{NotedEntities, note_each};
 
 /// The calls of a side table, without clauses.
 trait Notes {
@@ -50,4 +54,40 @@ fn a_note_goes_with_its_entity(rt: HostRuntime) {
     let wanted = (true, [Some(7), Some(7), None, Some(8), Some(9)]);
     let mut table = NotedEntities::with_room(rt.alloc(), 2).expect(&rt, "memory");
     is(told(&rt, &mut table), wanted).expect(&rt, "notes by pointers");
+}
+
+fn entity(health: u32) -> Entity {
+    Entity {
+        health,
+        parent: None,
+    }
+}
+
+// The pointers of three entities, of which the first is gone.
+fn two_of_three<A: ArenaInsertTrait<P0, Entity>>(rt: &impl Abort, entities: &mut A) -> [P0; 3] {
+    let gone = entities.insert(entity(10)).expect(rt, "memory");
+    let second = entities.insert(entity(20)).expect(rt, "memory");
+    let third = entities.insert(entity(30)).expect(rt, "memory");
+    drop(entities.remove(gone));
+    [gone, second, third]
+}
+
+fn found<A: ArenaTrait<P0, u64>>(notes: &A, ps: [P0; 3]) -> [Option<u64>; 3] {
+    [
+        notes.get(ps[0]).copied(),
+        notes.get(ps[1]).copied(),
+        notes.get(ps[2]).copied(),
+    ]
+}
+
+#[test]
+fn a_note_is_put_beside_each_entity(rt: HostRuntime) {
+    let mut entities: Arena<P0, Entity> = Arena::new(rt.alloc());
+    let ps = two_of_three(&rt, &mut entities);
+    let mut notes: DirectArena<P0, u64> = DirectArena::new(rt.alloc());
+    let noted = note_each(&entities, &mut notes, |_p, entity: &Entity| {
+        Ok::<u64, AllocError>(u64::from(entity.health) + 1)
+    });
+    noted.expect(&rt, "memory");
+    is(found(&notes, ps), [None, Some(21), Some(31)]).expect(&rt, "notes by pointers");
 }

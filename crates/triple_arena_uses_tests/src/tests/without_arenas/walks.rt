@@ -5,7 +5,7 @@ use triple_arena::{Arena, ArenaInsertTrait, CompactArenaTrait};
 use triple_arena_ptr::P0;
 use triple_arena_test_kit::{is, numbers_of};
 use triple_arena_uses::walks::{
-    add, add_one, count, drain_three, pointers, remove_all, renew_all, take_all,
+    add, add_one, close_gaps, count, drain_three, pointers, remove_all, renew_all, take_all,
 };
 
 // The numbers 20 and 40 at the indexes 2 and 4, with free slots before each, and the counter 4.
@@ -60,6 +60,16 @@ fn renews_each<A: CompactArenaTrait<P0, u64> + ArenaInsertTrait<P0, u64> + Drop>
     are_at(&renewed, [(2, 5), (4, 6)]) && has_values(&arena, [20, 40])
 }
 
+fn closes_gaps<A: CompactArenaTrait<P0, u64> + ArenaInsertTrait<P0, u64> + Drop>(
+    rt: &impl Abort,
+    alloc: Global,
+) -> bool {
+    let mut arena: A = two_of_four(rt, alloc);
+    let is_told = close_gaps(&mut arena).is_success();
+    let all = pointers(&arena, alloc).expect(rt, "memory");
+    is_told && are_at(&all, [(1, 5), (2, 5)]) && has_values(&arena, [20, 40])
+}
+
 fn removes_each<A: CompactArenaTrait<P0, u64> + ArenaInsertTrait<P0, u64> + Drop>(
     rt: &impl Abort,
     alloc: Global,
@@ -92,11 +102,12 @@ fn drains_each<A: CompactArenaTrait<P0, u64> + ArenaInsertTrait<P0, u64> + Drop>
 fn walks<A: CompactArenaTrait<P0, u64> + ArenaInsertTrait<P0, u64> + Drop>(
     rt: &impl Abort,
     alloc: Global,
-) -> [bool; 6] {
+) -> [bool; 7] {
     [
         meets_each::<A>(rt, alloc),
         writes_each::<A>(rt, alloc),
         renews_each::<A>(rt, alloc),
+        closes_gaps::<A>(rt, alloc),
         removes_each::<A>(rt, alloc),
         takes_each::<A>(rt, alloc),
         drains_each::<A>(rt, alloc),
@@ -104,6 +115,6 @@ fn walks<A: CompactArenaTrait<P0, u64> + ArenaInsertTrait<P0, u64> + Drop>(
 }
 
 #[test]
-fn each_entry_is_met_written_renewed_and_taken_out(rt: HostRuntime) {
-    is(walks::<Arena<P0, u64>>(&rt, rt.alloc()), [true; 6]).expect(&rt, "each walk");
+fn each_entry_is_met_written_renewed_moved_and_taken_out(rt: HostRuntime) {
+    is(walks::<Arena<P0, u64>>(&rt, rt.alloc()), [true; 7]).expect(&rt, "each walk");
 }

@@ -1,13 +1,12 @@
 //! An arena where there is memory for nine places.
 
 use crate::tests::entries::WithEntries;
-use crate::tests::numbers::put_numbers;
 use std::num::NonZeroU64;
 use std::process::Abort;
 use triple_arena::{Arena, ArenaInsertTrait, ArenaSlot, ArenaTrait};
 use triple_arena_base::{NotWithinCapacityError, ReallocationError};
 use triple_arena_ptr::P0;
-use triple_arena_test_kit::{Scarce, is, is_shown, pointer};
+use triple_arena_test_kit::{Scarce, is, is_shown, pointer, put_numbers};
 
 type Little = Arena<P0, u64, Scarce<ArenaSlot<P0, u64>, 9>>;
 
@@ -31,7 +30,7 @@ fn is_left_as_it_was<A: ArenaInsertTrait<P0, u64> + WithEntries<P0, u64>>(
     rt: &impl Abort,
     arena: &mut A,
 ) {
-    put_numbers(rt, arena, 8, &[]);
+    put_numbers(arena, 8, &[]).expect(rt, "memory");
     // twice as many places as eight
     refuses_each_growth(rt, arena);
     let refused = Err(ReallocationError::AllocError);

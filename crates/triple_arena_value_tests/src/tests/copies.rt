@@ -2,7 +2,6 @@
 
 use crate::tests::direct_calls::DirectCalls;
 use crate::tests::entries::WithEntries;
-use crate::tests::numbers::put_numbers;
 use crate::tests::transfers::TakesOver;
 use std::alloc::Global;
 use std::fmt::Debug;
@@ -15,7 +14,7 @@ use triple_arena::{
 use triple_arena_base::CloneFromError;
 use triple_arena_direct_arena::DirectArena;
 use triple_arena_ptr::{P0, Ptr, Q2};
-use triple_arena_test_kit::{Narrow, Numbered, is, is_shown, pointer};
+use triple_arena_test_kit::{Narrow, Numbered, is, is_shown, pointer, put_numbers};
 
 // Clones a source of eight entries, and the clone back into it.
 fn keep_their_room<
@@ -34,7 +33,7 @@ fn keep_their_room<
 #[test]
 fn arenas_cloned_into_each_other_keep_their_room(rt: HostRuntime) {
     let mut first: Arena<P0, u64> = Arena::new(rt.alloc());
-    put_numbers(&rt, &mut first, 10, &[9, 10]);
+    put_numbers(&mut first, 10, &[9, 10]).expect(&rt, "memory");
     let mut second: Arena<P0, u64> = Arena::new(rt.alloc());
     keep_their_room(&rt, &mut first, &mut second);
 }
@@ -72,7 +71,7 @@ fn leaves_those_before<
 >(rt: &impl Abort, alloc: Global, source: &A) {
     for (refused, text, next) in REFUSED {
         let mut target = A::new(alloc);
-        put_numbers(rt, &mut target, 7, &[]);
+        put_numbers(&mut target, 7, &[]).expect(rt, "memory");
         let told = clone_but(&mut target, source, *refused);
         is(told, Err(CloneFromError::Map(*refused))).expect(rt, "the refusal");
         is_shown(alloc, &target, *text).expect(rt, "the target");
@@ -83,7 +82,7 @@ fn leaves_those_before<
 #[test]
 fn a_map_that_refuses_leaves_those_before(rt: HostRuntime) {
     let mut source: Arena<P0, u64> = Arena::new(rt.alloc());
-    put_numbers(&rt, &mut source, 5, &[2, 4]);
+    put_numbers(&mut source, 5, &[2, 4]).expect(&rt, "memory");
     leaves_those_before(&rt, rt.alloc(), &source);
 }
 
@@ -102,7 +101,7 @@ fn direct_one_has_those_before<
 #[test]
 fn a_map_that_refuses_leaves_those_before_in_a_direct_arena(rt: HostRuntime) {
     let mut source: Arena<P0, u64> = Arena::new(rt.alloc());
-    put_numbers(&rt, &mut source, 5, &[2, 4]);
+    put_numbers(&mut source, 5, &[2, 4]).expect(&rt, "memory");
     let mut direct: DirectArena<P0, u64> = DirectArena::new(rt.alloc());
     direct_one_has_those_before(&rt, rt.alloc(), &mut direct, &source);
 }
@@ -198,7 +197,7 @@ fn renumbers_and_empties<
 #[test]
 fn a_transfer_renumbers_and_empties_its_source(rt: HostRuntime) {
     let mut source: Arena<P0, u64> = Arena::new(rt.alloc());
-    put_numbers(&rt, &mut source, 3, &[1]);
+    put_numbers(&mut source, 3, &[1]).expect(&rt, "memory");
     let mut target: Arena<Q2, u64> = Arena::new(rt.alloc());
     let mut direct: DirectArena<Narrow, u64> = DirectArena::new(rt.alloc());
     renumbers_and_empties(&rt, rt.alloc(), &mut source, &mut target, &mut direct);

@@ -17,7 +17,8 @@ use triple_arena::{
 use triple_arena_direct_arena::{DirectArena, DirectSlot};
 use triple_arena_ptr::{P0, Ptr, PtrGen};
 use triple_arena_stack::{
-    NonZeroInxArray, NonZeroInxBoxedSlice, NonZeroInxLimitedVec, NonZeroInxVec,
+    NonZeroInxArray, NonZeroInxBoxedSlice, NonZeroInxGenericStack, NonZeroInxLimitedVec,
+    NonZeroInxVec,
 };
 use triple_arena_test_kit::{inx, is, pointer};
 
@@ -148,13 +149,22 @@ fn each_drop<
     is(live.get(), 0).expect(rt, "the count");
 }
 
+// So over a stack, which alone a test names.
+fn each_drop_over<S: NonZeroInxGenericStack<Slot> + Drop>(
+    rt: &impl Abort,
+    alloc: Global,
+    live: &Live,
+) {
+    each_drop::<OverStack<S>>(rt, alloc, live);
+}
+
 #[test]
 fn each_value_of_an_arena_is_dropped_once(rt: HostRuntime) {
     let (alloc, live) = (rt.alloc(), no_values(&rt, rt.alloc()));
-    each_drop::<OverStack<NonZeroInxVec<Slot>>>(&rt, alloc, &live);
-    each_drop::<OverStack<NonZeroInxLimitedVec<Slot>>>(&rt, alloc, &live);
-    each_drop::<OverStack<NonZeroInxBoxedSlice<Slot>>>(&rt, alloc, &live);
-    each_drop::<OverStack<NonZeroInxArray<Slot, 4>>>(&rt, alloc, &live);
+    each_drop_over::<NonZeroInxVec<Slot>>(&rt, alloc, &live);
+    each_drop_over::<NonZeroInxLimitedVec<Slot>>(&rt, alloc, &live);
+    each_drop_over::<NonZeroInxBoxedSlice<Slot>>(&rt, alloc, &live);
+    each_drop_over::<NonZeroInxArray<Slot, 4>>(&rt, alloc, &live);
 }
 
 // Each insertion into a full arena that has no way to grow.
@@ -217,13 +227,20 @@ fn each_direct_drop<
     is(live.get(), 0).expect(rt, "the count");
 }
 
-type OverDirect<S> = DirectArena<P0, Value, S>;
+// So over a stack, which alone a test names.
+fn each_direct_drop_over<S: NonZeroInxGenericStack<DirectSlot<P0, Value>> + Drop>(
+    rt: &impl Abort,
+    alloc: Global,
+    live: &Live,
+) {
+    each_direct_drop::<DirectArena<P0, Value, S>>(rt, alloc, live);
+}
 
 #[test]
 fn each_value_of_a_direct_arena_is_dropped_once(rt: HostRuntime) {
     let (alloc, live) = (rt.alloc(), no_values(&rt, rt.alloc()));
-    each_direct_drop::<OverDirect<NonZeroInxVec<DirectSlot<P0, Value>>>>(&rt, alloc, &live);
-    each_direct_drop::<OverDirect<NonZeroInxArray<DirectSlot<P0, Value>, 4>>>(&rt, alloc, &live);
+    each_direct_drop_over::<NonZeroInxVec<DirectSlot<P0, Value>>>(&rt, alloc, &live);
+    each_direct_drop_over::<NonZeroInxArray<DirectSlot<P0, Value>, 4>>(&rt, alloc, &live);
 }
 
 // Clones by a closure that refuses the second value: whether none was refused. It is of any values: a

@@ -317,12 +317,12 @@ module _ {T : Type 0} (nodes : Pointer → Option (Node (Option (ℕ × T)))) (b
     where
       there : {n : Node (Option (ℕ × T))} {o : Option (Node (Option (ℕ × T)))} → o ≡ Some n → o ≡ None → ⊥
       there e f = absurd (cc)
-  no_ends old value done Taken (inl some) = none_some (after_at nodes bare) (ap (option_and_then (λ (n : Node (Option (ℕ × T))). n.after)) done.found) some
+  no_ends old value done Taken (last_there, first_there, inl some) = none_some (after_at nodes bare) (ap (option_and_then (λ (n : Node (Option (ℕ × T))). n.after)) done.found) some
     where
       none_some : (o : Option Pointer) → o ≡ None → IsSome o → ⊥
       none_some None e some = absurd (cc)
       none_some (Some p) e some = absurd (cc)
-  no_ends old value done Taken (inr some) = none_some (before_at nodes bare) (ap (option_and_then (λ (n : Node (Option (ℕ × T))). n.before)) done.found) some
+  no_ends old value done Taken (last_there, first_there, inr some) = none_some (before_at nodes bare) (ap (option_and_then (λ (n : Node (Option (ℕ × T))). n.before)) done.found) some
     where
       none_some : (o : Option Pointer) → o ≡ None → IsSome o → ⊥
       none_some None e some = absurd (cc)

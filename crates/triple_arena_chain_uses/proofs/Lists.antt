@@ -84,6 +84,24 @@ module _ {T : Type 0} where
       first_in x r xs (zero, within, is) = (zero, omega arith, is)
       first_in x r xs (suc k, within, is) = absurd (omega (arith, within))
 
+  end_leads : (found : Pointer → Option (Node T)) (p : Pointer) (xs : List Pointer) → IsRun found (xs ++ p ∷ []) None → after_at found p ≡ None
+  end_leads found p [] run = run.1
+  end_leads found p (x ∷ xs) run = end_leads found p xs run.2
+
+  -- what leads on to nothing is met at the end of a run alone
+  pub end_once : (found : Pointer → Option (Node T)) (p : Pointer) (xs : List Pointer) → IsRun found (xs ++ p ∷ []) None → (r : Pointer) → Contains xs r → p ≢ r
+  end_once found p [] run r (k, within, is) same = omega (arith, within)
+  end_once found p (x ∷ xs) run r (zero, within, is) same = leads_on xs (sym run.1 ∙ ap (after_at found) (is ∙ sym same) ∙ end_leads found p xs run.2)
+    where
+      leads_on : (ys : List Pointer) → first_of (ys ++ p ∷ []) None ≡ None → ⊥
+      leads_on [] e = absurd (cc)
+      leads_on (y ∷ ys) e = absurd (cc)
+  end_once found p (x ∷ xs) run r (suc k, within, is) same = end_once found p xs run.2 r (k, omega (arith, within), is) same
+
+  pub values_pushed : (found : Pointer → Option (Node T)) (p : Pointer) (xs : List Pointer) (v : Option T) → values_at found (xs ++ p ∷ []) ++ v ∷ [] ≡ values_at found xs ++ value_at found p ∷ v ∷ []
+  values_pushed found p [] v = refl
+  values_pushed found p (x ∷ xs) v = ap (λ vs. value_at found x ∷ vs) (values_pushed found p xs v)
+
   pub moved_run : (old : Pointer → Option (Node T)) (rename : Pointer → Pointer) (new : Pointer → Option (Node T)) (ps : List Pointer) (rest : Option Pointer)
       → IsMoved old rename new → IsRun old ps rest → IsRun new (map rename ps) (option_map rename rest) × (values_at new (map rename ps) ≡ values_at old ps)
   moved_run old rename new [] rest moves run = (tt, refl)

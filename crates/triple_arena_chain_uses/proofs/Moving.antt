@@ -1,6 +1,6 @@
 -- Chains after a compaction.
-use Rattle.std.proofs.Common.{◌≡◌, ℕ, zero, suc, ◌<◌, List, [], ◌∷◌, map, Option, Some, None, IsSome, refl, sym, ap, ◌∙◌, subst, inl, inr, arith}
-use Rattle.std.specs.List.{Contains}
+use Rattle.std.proofs.Common.{◌≡◌, ℕ, zero, suc, ◌+◌, ◌<◌, ◌≤◌, List, [], ◌∷◌, map, Option, Some, None, IsSome, refl, sym, ap, ◌∙◌, subst, inl, inr, arith}
+use Rattle.std.specs.List.{Contains, range_with_len}
 use Rattle.std.specs.Option.{option_map, option_and_then}
 use Rattle.std.proofs.lemmas.List.Elements.{Contains-append_cases}
 use Rattle.triple_arena_base.specs.Held.{held_option, refill_option}
@@ -65,6 +65,19 @@ from_mapped f (p ∷ ks) q (zero, within, is) = (p, (zero, omega arith, refl), i
 from_mapped f (p ∷ ks) q (suc k, within, is) =
     let rest = from_mapped f ks q (k, omega arith, is) in
     (rest.0, (suc rest.1.0, omega (arith, rest.1.1), rest.1.2), rest.2)
+
+-- what is among so many numbers that follow each other is below the end of them
+below_end : (a n i : ℕ) → Contains (range_with_len a n) i → i < a + n
+below_end a zero i (k, within, is) = absurd (omega arith)
+below_end a (suc n) i (zero, within, is) = omega (arith, is)
+below_end a (suc n) i (suc k, within, is) = let rest = below_end (a + 1) n i (k, omega (arith, within), is) in omega (arith, rest)
+
+index_among : (ks : List Pointer) (q : Pointer) → Contains ks q → Contains (map (λ p. p.0) ks) q.0
+index_among [] q (k, within, is) = absurd (omega arith)
+index_among (p ∷ ks) q (zero, within, is) = (zero, omega arith, ap (λ p. p.0) is)
+index_among (p ∷ ks) q (suc k, within, is) =
+    let rest = index_among ks q (k, omega (arith, within), is) in
+    (suc rest.0, omega (arith, rest.1), rest.2)
 
 module _ {P : Type 0} (numbers : P → Pointer) (held : P → List P) (refill : P → List P → P) (holds_itself : (p : P) → held p ≡ p ∷ []) (refills : (p q : P) → refill p (q ∷ []) ≡ q) where
   -- an end that holds a pointer is that pointer
@@ -142,6 +155,15 @@ module _ {P : Type 0} (numbers : P → Pointer) (held : P → List P) (refill : 
               let from = from_mapped rename (keys old) q (subst (λ ps. Contains ps q) ks (live_key new q (some_read new q there))) in
               (from.0, read_some old from.0 (key_live old from.0 from.1), from.2);
         }
+
+    -- and no index is above the number of entries
+    pub packed : (rename : Pointer → Pointer) (old new : List (Option (ℕ × Link P T))) → keys new ≡ map rename (keys old)
+        → map (λ p. p.0) (map rename (keys old)) ≡ range_with_len 1 (entry_count old) → entry_count new ≡ entry_count old
+        → (p : Pointer) → IsSome (look_up (node_slots numbers new) p) → p.0 ≤ entry_count new
+    packed rename old new ks ranked count p there =
+        let among : Contains (map (λ (q : Pointer). q.0) (keys new)) p.0 = index_among (keys new) p (live_key new p (some_read new p there)) in
+        let below : p.0 < 1 + entry_count old = below_end 1 (entry_count old) p.0 (subst (λ is. Contains is p.0) (ap (map (λ (q : Pointer). q.0)) ks ∙ ranked) among) in
+        omega (arith, below, count)
 
     -- the map of a compaction, in chains
     pub maps_chains : {I : Type 0} (images : I → Pointer) (rename : Pointer → Pointer) (slots : List (Option (ℕ × Link P T))) (map_slots : List (Option (ℕ × I)))

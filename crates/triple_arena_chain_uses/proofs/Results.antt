@@ -1,9 +1,15 @@
 -- What is told of a result that is no refusal.
-use Rattle.std.proofs.Common.{◌≡◌, ◌↔◌, refl, ap, Result, Ok, Err}
+use Rattle.std.proofs.Common.{◌≡◌, ◌↔◌, ℕ, Option, None, refl, ap, subst, Result, Ok, Err}
 use Rattle.std.specs.Prelude.{IfOk, OnOk, OnErr}
 use Rattle.std.specs.Result.{IfErr}
+use Rattle.triple_arena_stack.specs.Capacity.{IsFullAtLimit, IsAtLimit}
+use Rattle.triple_arena_chain_uses.specs.Chains.{IsRefusedRoom}
 use Rattle.triple_arena_chain_uses.specs.declared.place.ChainError.{ChainError}
-use Rattle.triple_arena_chain_uses.specs.declared.place.ChainError.TheVariants.{NoEntry}
+use Rattle.triple_arena_chain_uses.specs.declared.place.ChainError.TheVariants.{NoEntry, Taken, NoRoom, NoMemory}
+
+pub if_ok_1 : {A E : Type 0} (F K : A → Type 0) (r : Result A E) → IfOk r F → ((x : A) → F x → K x) → IfOk r K
+if_ok_1 F K (Ok x) f gives = gives x f
+if_ok_1 F K (Err e) f gives = tt
 
 pub if_ok_3 : {A E : Type 0} (F G H K : A → Type 0) (r : Result A E) → IfOk r F → IfOk r G → IfOk r H → ((x : A) → F x → G x → H x → K x) → IfOk r K
 if_ok_3 F G H K (Ok x) f g h gives = gives x f g h
@@ -27,3 +33,12 @@ if_refused F K (Err e) f refused gives = gives e f
 pub surely : {A : Type 0} (F Q : Type 0) (r : Result A ChainError) → OnOk r F → IfErr r (λ refusal. refusal ≡ NoEntry) → ((r ≡ Err NoEntry) ↔ Q) → (Q → ⊥) → F
 surely F Q (Ok x) ok refusal when never = ok
 surely F Q (Err e) ok refusal when never = absurd (never (when.0 (ap Err refusal)))
+
+-- where there is no limit, memory was refused
+pub memory_refused : {A : Type 0} (capacity : ℕ) (limit : Option ℕ) (len : ℕ) (r : Result A ChainError) → limit ≡ None → IfErr r IsRefusedRoom → ((r ≡ Err NoRoom) ↔ IsFullAtLimit capacity limit len)
+    → IfErr r (λ refusal. refusal ≡ NoMemory)
+memory_refused capacity limit len (Ok x) none refused when = tt
+memory_refused capacity limit len (Err NoEntry) none refused when = absurd refused
+memory_refused capacity limit len (Err Taken) none refused when = absurd refused
+memory_refused capacity limit len (Err NoRoom) none refused when = absurd (subst (λ most. IsAtLimit most capacity) none (when.0 refl).1)
+memory_refused capacity limit len (Err NoMemory) none refused when = refl

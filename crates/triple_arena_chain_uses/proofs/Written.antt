@@ -1,5 +1,5 @@
 -- Chains in which a value is written.
-use Rattle.std.proofs.Common.{◌≡◌, ◌⊎◌, ℕ, List, map, inl, Option, Some, None, refl, sym, ap, ◌∙◌}
+use Rattle.std.proofs.Common.{◌≡◌, ◌⊎◌, ℕ, List, inl, Option, Some, None, refl, sym, ap, ◌∙◌}
 use Rattle.std.proofs.Math.Path.{fun_ext}
 use Rattle.std.specs.Option.{option_map, option_and_then}
 use Rattle.triple_arena_ptr.specs.Pointers.{Pointer}

@@ -213,7 +213,7 @@ IsRefusedRoom NoMemory = Unit {0}
 -- why two chains were not joined
 abbrev pub KeepsApart : {T : Type 0} → (Pointer → Option (Node T)) → (last first : Pointer) → ChainError → Type 0
 KeepsApart nodes last first NoEntry = (nodes last ≡ None) ⊎ (nodes first ≡ None)
-KeepsApart nodes last first Taken = IsSome (after_at nodes last) ⊎ IsSome (before_at nodes first)
+KeepsApart nodes last first Taken = IsSome (nodes last) × IsSome (nodes first) × (IsSome (after_at nodes last) ⊎ IsSome (before_at nodes first))
 KeepsApart nodes last first NoRoom = ⊥
 KeepsApart nodes last first NoMemory = ⊥
 

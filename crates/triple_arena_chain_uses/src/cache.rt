@@ -5,7 +5,6 @@ ghost use Rattle.std.specs.Int.NonZero.{non_zero_usize_get};
 ghost use Rattle.std.specs.Map.{lookup, remove_entry};
 ghost use Rattle.std.specs.Option.{option_map, option_and_then};
 ghost use Rattle.std.specs.Result.{IfErr};
-ghost use Rattle.triple_arena_chain_uses.specs.Chains.{IsRefusedRoom};
 ghost use Rattle.triple_arena_chain_uses.specs.Cache.{used_first};
 
 use crate::chains::Chains;
@@ -34,7 +33,7 @@ pub struct Cache<T> {
 }
 
 impl<T> Model for Cache<T> {
-    ghost use Rattle.std.specs.Prelude.{List};
+    ghost use Rattle.std.specs.Prelude.{◌≡◌, List, None};
     ghost use Rattle.triple_arena_ptr.specs.Pointers.{Pointer};
     ghost use Rattle.triple_arena_chain_uses.specs.Chains.{nodes, after_at};
     ghost use Rattle.triple_arena_chain_uses.specs.Cache.{CacheState, uses_from, place_in, IsOrder};
@@ -48,19 +47,20 @@ impl<T> Model for Cache<T> {
     } };
 
     ghost invariant = { λ c. (order : List Pointer) × IsOrder (nodes c.uses) c.uses.len
-        (⟦<P0 as Ptr>⟧.numbers c.bare) (place_in ⟦<P0 as Ptr>⟧.numbers c.places) c.most order };
+        (⟦<P0 as Ptr>⟧.numbers c.bare) (place_in ⟦<P0 as Ptr>⟧.numbers c.places) c.most order
+        × (c.uses.limit ≡ None) };
 }
 
 impl<T> Cache<T> {
     /// A cache without keys, which keeps this many at most.
     ///
-    /// Refused where there is no room, or no memory, for the entry without a key.
+    /// `NoMemory` where memory for the entry without a key is refused.
     pub fn new(alloc: Global, most: NonZeroUsize) -> Result<Self, ChainError>
     where
         T: Drop,
         ensures made { IfOk result (λ cache. cache
             ≡ record { entries = []; most = non_zero_usize_get most }) }
-        ensures refusal { IfErr result IsRefusedRoom }
+        ensures refusal { IfErr result (λ refusal. refusal ≡ ChainError.NoMemory) }
     {
         let mut uses = Chains::new(alloc);
         let bare = match uses.insert_new(None) {
@@ -145,8 +145,9 @@ impl<T> Cache<T> {
     /// Puts a value under a key, which is used by that, and gives the one that it had. Where it had
     /// none, and there are as many keys as are kept, the one that goes next goes.
     ///
-    /// Refused only where the key is new, by `NoRoom` or `NoMemory` for it; then nothing changes, and
-    /// the value is dropped.
+    /// `NoMemory`, and only where the key is new and memory for it is refused; then nothing changes, and
+    /// the value is dropped. A full cache takes no memory in its arena, but may in its map, by whose
+    /// clauses the place of a key that goes need not serve another.
     pub fn put(&mut self, key: u64, value: T) -> Result<Option<T>, ChainError>
     where
         T: Drop,
@@ -155,7 +156,7 @@ impl<T> Cache<T> {
             ∷ take (self.old.most - 1) (remove_entry (nat_eq key) self.old.entries)) }
         ensures most { self.new.most ≡ self.old.most }
         ensures fresh { OnErr result (lookup (nat_eq key) self.old.entries ≡ None) }
-        ensures refusal { IfErr result IsRefusedRoom }
+        ensures refusal { IfErr result (λ refusal. refusal ≡ ChainError.NoMemory) }
         ensures refused { OnErr result (self.new ≡ self.old) }
     {
         match self.renew(key, value) {
@@ -209,7 +210,7 @@ impl<T> Cache<T> {
         ensures put { OnOk result (self.new.entries
             ≡ (key, value) ∷ take (self.old.most - 1) self.old.entries) }
         ensures most { self.new.most ≡ self.old.most }
-        ensures refusal { IfErr result IsRefusedRoom }
+        ensures refusal { IfErr result (λ refusal. refusal ≡ ChainError.NoMemory) }
         ensures refused { OnErr result (self.new ≡ self.old) }
     {
         if self.is_full() {
@@ -236,7 +237,7 @@ impl<T> Cache<T> {
         ensures put { OnOk result (self.new.entries
             ≡ (key, value) ∷ take (self.old.most - 1) self.old.entries) }
         ensures most { self.new.most ≡ self.old.most }
-        ensures refusal { IfErr result IsRefusedRoom }
+        ensures refusal { IfErr result (λ refusal. refusal ≡ ChainError.NoMemory) }
         ensures refused { OnErr result (self.new ≡ self.old) }
     {
         if self.places.reserve(1).is_err() {
@@ -265,7 +266,7 @@ impl<T> Cache<T> {
         ensures put { OnOk result (self.new.entries
             ≡ (key, value) ∷ take (self.old.most - 1) self.old.entries) }
         ensures most { self.new.most ≡ self.old.most }
-        ensures refusal { IfErr result IsRefusedRoom }
+        ensures refusal { IfErr result (λ refusal. refusal ≡ ChainError.NoMemory) }
         ensures refused { OnErr result (self.new ≡ self.old) }
     {
         if self.places.reserve(1).is_err() {

@@ -101,7 +101,8 @@ impl<P: Ptr, T, A: CompactArenaTrait<P, Link<P, T>> + ArenaInsertTrait<P, Link<P
     /// A new chain of one value.
     ///
     /// `NoRoom` exactly where the arena is full and its limit is reached, else `NoMemory` where it is full and memory is
-    /// refused, or there is no greater index; then nothing changes, and the value is dropped.
+    /// refused, or there is no greater index; then nothing changes, and the value is dropped. Where the arena isn't full,
+    /// its capacity stays.
     pub fn insert_new(&mut self, value: T) -> Result<P, ChainError>
     where
         T: Drop,
@@ -116,7 +117,8 @@ impl<P: Ptr, T, A: CompactArenaTrait<P, Link<P, T>> + ArenaInsertTrait<P, Link<P
             ↔ IsFullAtLimit self.old.capacity self.old.limit (self.old.len) }
         ensures with_memory { CanGrow A.has_memory self.old.capacity self.old.limit
             (greatest_index P.Inx.greatest) → IsOk result }
-        ensures had_place { self.old.len < self.old.capacity → IsOk result }
+        ensures had_place { self.old.len < self.old.capacity
+            → IsOk result × (self.new.capacity ≡ self.old.capacity) }
     {
         insert_between(&mut self.arena, value, None, None)
     }
@@ -146,7 +148,8 @@ impl<P: Ptr, T, A: CompactArenaTrait<P, Link<P, T>> + ArenaInsertTrait<P, Link<P
             → CanGrow A.has_memory self.old.capacity self.old.limit
             (greatest_index P.Inx.greatest) → IsOk result }
         ensures had_place { IsSome (nodes self.old (place_at P.numbers place))
-            → self.old.len < self.old.capacity → IsOk result }
+            → self.old.len < self.old.capacity
+            → IsOk result × (self.new.capacity ≡ self.old.capacity) }
     {
         match self.ends(place) {
             Some((prev, next)) => insert_between(&mut self.arena, value, prev, next),
@@ -175,7 +178,8 @@ impl<P: Ptr, T, A: CompactArenaTrait<P, Link<P, T>> + ArenaInsertTrait<P, Link<P
         }
     }
 
-    /// Takes a value out of its chain, whose neighbours come to stand beside each other.
+    /// Takes a value out of its chain, whose neighbours come to stand beside each other. It tells no wrap
+    /// of the arena's counter, and no clause says what the pointer finds once later entries came.
     ///
     /// `NoEntry` exactly where the pointer finds nothing; then nothing changes.
     pub fn remove(&mut self, p: P) -> Result<T, ChainError>

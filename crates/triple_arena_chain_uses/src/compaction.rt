@@ -1,6 +1,6 @@
 //! Compaction, which keeps every chain.
 
-ghost use Rattle.std.specs.Prelude.{◌≡◌, ◌<◌, IfOk, OnErr};
+ghost use Rattle.std.specs.Prelude.{◌≡◌, ◌<◌, ◌≤◌, IsSome, IfOk, OnOk, OnErr};
 ghost use Rattle.std.specs.Result.{IfErr};
 ghost use Rattle.triple_arena_base.specs.Invalidation.{allowed_option};
 ghost use Rattle.triple_arena_ptr.specs.Pointers.{Pointer};
@@ -23,8 +23,9 @@ impl<P: Ptr, T, A: CompactArenaTrait<P, Link<P, T>> + ArenaInsertTrait<P, Link<P
     A,
 > {
     /// Compresses the arena (`compress_recast`), and renames the neighbours of the entries with them:
-    /// every chain has the values that it had, in its order. The map tells the new pointer of each
-    /// entry; no clause tells which it is.
+    /// every chain has the values that it had, in its order, and no index is above the number of
+    /// entries. The map tells the new pointer of each entry; no clause tells which it is. The answer
+    /// tells a wrap of the arena's counter, and generations don't begin anew, but no clause says so.
     ///
     /// `NoMemory`, and only where there is an entry and memory for the map is refused; then nothing
     /// changes. It isn't refused for a pointer that leads nowhere: in chains there is none.
@@ -35,6 +36,8 @@ impl<P: Ptr, T, A: CompactArenaTrait<P, Link<P, T>> + ArenaInsertTrait<P, Link<P
         ensures moved { IfOk result (λ answer. (rename : Pointer → Pointer)
             × MapsPointers P.numbers rename self.old.slots (allowed_option answer).slots
             × IsMoved (nodes self.old) rename (nodes self.new)) }
+        ensures packed { OnOk result ((p : Pointer) → IsSome (nodes self.new p)
+            → p.0 ≤ self.new.len) }
         ensures len { self.new.len ≡ self.old.len }
         ensures capacity { self.new.capacity ≡ self.old.capacity }
         ensures limit { self.new.limit ≡ self.old.limit }

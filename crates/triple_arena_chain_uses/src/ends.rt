@@ -65,8 +65,8 @@ impl<P: Ptr, T, A: CompactArenaTrait<P, Link<P, T>> + ArenaInsertTrait<P, Link<P
     /// Has a chain go on behind its last entry with another, from its first entry on. Where both are
     /// of one chain, it becomes a ring.
     ///
-    /// `NoEntry` where one of the pointers finds nothing, else `Taken` where the one has an entry
-    /// after it, or the other one before it; then nothing changes.
+    /// `NoEntry` exactly where one of the pointers finds nothing, else `Taken` exactly where the one
+    /// has an entry after it, or the other one before it; then nothing changes.
     pub fn join(&mut self, last: P, first: P) -> Result<(), ChainError>
         ensures joined { OnOk result (IsJoined (nodes self.old)
             (P.numbers last) (P.numbers first) (nodes self.new)) }

@@ -1,6 +1,7 @@
 //! Chains: doubly linked lists over any compact arena, to copy from.
 #![tactic(auto)]
 
+mod appending;
 pub mod cache;
 pub mod chains;
 mod compaction;

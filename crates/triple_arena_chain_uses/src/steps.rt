@@ -95,7 +95,8 @@ pub(crate) fn put<P: Ptr, T: Drop, A: ArenaInsertTrait<P, Link<P, T>>>(
     ensures limit { OnOk result (A.limit arena.new ≡ A.limit arena.old) }
     ensures with_memory { CanGrow A.has_memory (A.capacity arena.old) (A.limit arena.old)
         (greatest_index P.Inx.greatest) → IsOk result }
-    ensures had_place { entry_count (A.slots arena.old) < A.capacity arena.old → IsOk result }
+    ensures had_place { entry_count (A.slots arena.old) < A.capacity arena.old
+        → IsOk result × (A.capacity arena.new ≡ A.capacity arena.old) }
 {
     arena.insert(Link {
         value,
@@ -169,7 +170,8 @@ pub(crate) fn insert_between<P: Ptr, T: Drop, A: ArenaInsertTrait<P, Link<P, T>>
     ensures limit { OnOk result (A.limit arena.new ≡ A.limit arena.old) }
     ensures with_memory { CanGrow A.has_memory (A.capacity arena.old) (A.limit arena.old)
         (greatest_index P.Inx.greatest) → IsOk result }
-    ensures had_place { entry_count (A.slots arena.old) < A.capacity arena.old → IsOk result }
+    ensures had_place { entry_count (A.slots arena.old) < A.capacity arena.old
+        → IsOk result × (A.capacity arena.new ≡ A.capacity arena.old) }
 {
     match put(arena, value, prev, next) {
         Ok(q) => {

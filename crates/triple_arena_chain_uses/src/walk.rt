@@ -1,6 +1,6 @@
 //! Walks along a chain.
 
-ghost use Rattle.std.specs.Prelude.{◌≡◌, ◌+◌, cond, is_some, map, IfOk, IsSome};
+ghost use Rattle.std.specs.Prelude.{◌≡◌, ◌+◌, [], cond, is_some, map, None, IfOk, IsSome};
 ghost use Rattle.std.specs.Option.{option_map, option_eq};
 ghost use Rattle.triple_arena_ptr.specs.Pointers.{is_same};
 ghost use Rattle.triple_arena_chain_uses.specs.Chains.{nodes, begun_at, passed, Passes, IsRest};
@@ -111,8 +111,10 @@ impl<P: Ptr, T, A: CompactArenaTrait<P, Link<P, T>> + ArenaInsertTrait<P, Link<P
     ///
     /// Refused where memory is.
     pub fn rest(&self, p: P, alloc: Global) -> Result<Vec<P>, AllocError>
-        ensures { IsSome (nodes self.now (P.numbers p)) → IfOk result
+        ensures rest { IsSome (nodes self.now (P.numbers p)) → IfOk result
             (λ all. IsRest (nodes self.now) (P.numbers p) (map P.numbers all.items)) }
+        ensures nothing { nodes self.now (P.numbers p) ≡ None
+            → IfOk result (λ all. all.items ≡ []) }
     {
         // By its clauses, neighbours lead to each other, and entries are counted.
         let _len = self.len();

@@ -6,8 +6,10 @@ ghost use Rattle.triple_arena_session.specs.Kind.TheVariants.{Heap};
 ghost use Rattle.triple_arena_session.specs.KindRun.{IsStepOfKind};
 ghost use Rattle.triple_arena_session.specs.SessionCalls.{GivesOnceToWrap};
 
+use crate::HeapSlots;
 use triple_arena_base::AllocError;
 use triple_arena_ptr::P0;
+use triple_arena_session::laws::session_runs_keep_histories;
 use triple_arena_session::{Command, Reply, Session};
 
 /// Runs commands in a session without an entry, whatever it did before, and gives their replies. The
@@ -20,5 +22,6 @@ pub fn audited(
     ensures once { IfOk result (λ replies. GivesOnceToWrap (IsStepOfKind Heap)
         session.old (take (length replies.items) commands.now) replies.items) }
 {
+    session_runs_keep_histories::<P0, u64, HeapSlots>();
     session.run(commands)
 }

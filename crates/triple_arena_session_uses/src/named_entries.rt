@@ -1,7 +1,10 @@
 //! Entries by name: commands to a new session, answered as by a store of names.
 
-ghost use Rattle.std.specs.Prelude.{◌≡◌, ◌+◌, ◌⊎◌, ℕ, true, false, Some, Result, IfOk, IfSome, OnErr, take, length};
+ghost use Rattle.std.specs.Prelude.{◌≡◌, ◌+◌, ◌-◌, ◌⊎◌, ℕ, List, true, false, Some, Result, IfOk, IfSome, OnErr, take, length, slice_get, Contains};
 ghost use Rattle.std.specs.List.{list_all, list_any};
+ghost use Rattle.triple_arena_session.specs.Lines.{lines_of};
+ghost use Rattle.triple_arena_session.specs.Forms.{HasForm};
+ghost use Rattle.triple_arena_session.specs.Command.{Command};
 ghost use Rattle.triple_arena_session.specs.NameStore.{next_name};
 ghost use Rattle.triple_arena_session.specs.Runs.{IsRun, TellsOfNoWrap, EndsInWrap};
 ghost use Rattle.triple_arena_session.specs.StoreRuns.{AnswersAsStore, is_named, is_no_memory, seen, ample, erase};
@@ -18,7 +21,7 @@ use std::alloc::Global;
 use std::io::Read;
 use triple_arena_base::AllocError;
 use triple_arena_ptr::P0;
-use triple_arena_session::laws::names_are_new;
+use triple_arena_session::laws::{forms_are_exact, lines_are_exact, names_are_new};
 use triple_arena_session::{
     Command, Reply, Session, StrictSession, TextError, run_text, run_text_strict,
 };
@@ -58,7 +61,8 @@ pub fn enter(session: &mut Session<P0, u64>, number: u64) -> Option<usize>
 }
 
 /// Runs a text in a sound session up to its first malformed line, and gives the number of this
-/// line. The session is sound then, and another text may follow. `None` where it ended otherwise.
+/// line, which has no line break and the form of no command. The session is sound then, and another
+/// text may follow. `None` where it ended otherwise.
 pub fn run_to_malformed(
     session: &mut Session<P0, u64>,
     alloc: Global,
@@ -66,8 +70,13 @@ pub fn run_to_malformed(
     output: &mut Vec<u8>,
 ) -> Option<usize>
     requires sound { IsSound session.old }
-    ensures sound { IfSome result (λ line. IsSound session.new) }
+    ensures malformed { IfSome result (λ number. (line : List ℕ)
+        × (slice_get (lines_of text.now) (number - 1) ≡ Some line) × (¬ (Contains line 10))
+        × ((command : Command ℕ) → ¬ (HasForm line command))) }
+    ensures sound { IfSome result (λ number. IsSound session.new) }
 {
+    lines_are_exact();
+    forms_are_exact();
     let mut input = text;
     match run_text(session, alloc, &mut input, output) {
         Err(TextError::Malformed(line)) => Some(line),

@@ -3,10 +3,14 @@
 //! The notes lie in a direct arena that mirrors the arena of the entities: it is given each
 //! insertion and each removal. So a note stands under a pointer exactly where an entity does.
 
-ghost use Rattle.std.specs.Prelude.{◌≡◌, ◌≢◌, ◌<◌, ◌≤◌, None, Some, IsOk, IfOk, OnOk, OnErr, is_some};
+ghost use Rattle.std.specs.Prelude.{◌≡◌, ◌≢◌, ◌<◌, ◌≤◌, ℕ, List, Option, None, Some, Result, IsOk, IfOk, OnOk, OnErr, is_some};
 ghost use Rattle.triple_arena_ptr.specs.Pointers.{Pointer};
 ghost use Rattle.triple_arena.specs.ArenaState.{arena_len, capacity};
-ghost use Rattle.triple_arena.specs.Entries.{look_up};
+ghost use Rattle.triple_arena.specs.Entries.{look_up, KeepsEntries};
+ghost use Rattle.triple_arena.specs.FreeList.{last_index};
+ghost use Rattle.triple_arena.specs.Walks.{entries};
+ghost use Rattle.triple_arena.specs.Copying.{Copies};
+ghost use Rattle.triple_arena.specs.Cloning.{IsCloneAnswer, IsRoomRefusal};
 ghost use Rattle.triple_arena.specs.Insertion.{next_pointer};
 ghost use Rattle.triple_arena_direct.specs.DirectState.{direct_capacity};
 ghost use Rattle.triple_arena_direct.specs.Mirrors.{IsMirror};
@@ -101,17 +105,26 @@ impl NotedEntities {
     }
 }
 
-/// Puts a note beside each entity, in the place of whatever notes there were: then a note stands under a
-/// pointer exactly where an entity does.
+/// Puts a note beside each entity, in the place of whatever notes there were: then a note stands
+/// under a pointer exactly where an entity does. Each is what `note_of` gave at its entity, which
+/// is called at them in the order of their indexes.
 ///
-/// Refused as `clone_from_with` is: where there is no room for so many notes, or with what refused one.
+/// Refused as `clone_from_with` is: where there is no room for so many notes, which comes only
+/// where the last index is above the capacity, or with what refused one; then those that were given
+/// before stand.
 pub fn note_each<E, M: FnMut(P0, &Entity) -> Result<u64, E>>(
     entities: &Arena<P0, Entity>,
     notes: &mut DirectArena<P0, u64>,
     note_of: M,
 ) -> Result<(), CloneFromError<E>>
     requires { M.IsAlwaysCallable note_of }
-    ensures { OnOk result (IsMirror entities.now.slots notes.new.slots) }
+    ensures mirror { OnOk result (IsMirror entities.now.slots notes.new.slots) }
+    ensures noted { (answer : Result (Unit {0}) E) → IsCloneAnswer answer result
+        → (given : List (Option (ℕ × ℕ)))
+        × Copies p0_numbers M.step note_of (entries entities.now.slots) answer given
+        × KeepsEntries given notes.new.slots }
+    ensures short { IsRoomRefusal result
+        → direct_capacity notes.old < last_index entities.now.slots }
 {
     laws::clone_has_the_pointers::<P0, Entity, u64, E, M>();
     notes.clone_from_with(entities, note_of)

@@ -4,6 +4,7 @@ ghost use Rattle.std.specs.Prelude.{◌≡◌, ◌↔◌, ◌<◌, ◌+◌, ◌%
 ghost use Rattle.std.specs.List.{range_with_len};
 ghost use Rattle.triple_arena_ptr.specs.Pointers.{Pointer};
 ghost use Rattle.triple_arena.specs.Entries.{entry_in, look_up, entry_count};
+ghost use Rattle.triple_arena.specs.Ending.{told};
 ghost use Rattle.triple_arena.specs.FreeList.{IsRising};
 ghost use Rattle.triple_arena.specs.Walks.{entries, keys};
 
@@ -120,9 +121,11 @@ pub fn drain_three<P: Ptr, T: Drop, A: CompactArenaTrait<P, T>>(arena: &mut A)
     drop(drain.next());
 }
 
-/// Closes the gaps between the entries: they stand at the indexes from 1 to their number, in the order
-/// that they had, each with its value. Tells of a wrap as a compression does.
+/// Closes the gaps between the entries: they stand at the indexes from 1 to their number, in the
+/// order that they had, each with its value. Limit and capacity stay. Tells of a wrap as a
+/// compression does.
 pub fn close_gaps<P: Ptr, T, A: CompactArenaTrait<P, T>>(arena: &mut A) -> InvalidationOption<()>
+    ensures answer { result ≡ told (A.compression_wraps arena.old false) tt }
     ensures indexes { map (λ p. p.0) (keys (A.slots arena.new))
         ≡ range_with_len 1 (entry_count (A.slots arena.old)) }
     ensures order { (p q : Pointer) → IsSome (look_up (A.slots arena.old) p)
@@ -130,6 +133,8 @@ pub fn close_gaps<P: Ptr, T, A: CompactArenaTrait<P, T>>(arena: &mut A) -> Inval
         → (A.rank arena.old false p).0 < (A.rank arena.old false q).0 }
     ensures found { (p : Pointer) → IsSome (look_up (A.slots arena.old) p)
         → look_up (A.slots arena.new) (A.rank arena.old false p) ≡ look_up (A.slots arena.old) p }
+    ensures limit { A.limit arena.new ≡ A.limit arena.old }
+    ensures capacity { A.capacity arena.new ≡ A.capacity arena.old }
 {
     compression_keeps_order::<P, T, A>();
     arena.compress(false)

@@ -9,8 +9,13 @@ if_ok : {E : Type 0} (Q : Type 0) (r : Result (Unit {0}) (CloneFromError E)) →
 if_ok Q (Ok x) by = by refl
 if_ok Q (Err e) by = tt
 
-pub returns : goal.returns
-returns g c =
+pub returns-clause-mirror : goal.returns-clause-mirror
+returns-clause-mirror g c =
     if_ok _ c.clone_from_with.result (λ is.
     let copied = c.clone_from_with.ensures.cloned (Ok tt) is in
     c.clone_has_the_pointers.ensures.pointers _ _ copied.0 _ copied.1 (kept-cloned heap c.args.notes.now (last_index c.args.entities.now.slots) None copied.0 c.clone_from_with.new.self copied.2))
+
+pub returns-clause-noted : goal.returns-clause-noted
+returns-clause-noted g c = λ answer is.
+    let copied = c.clone_from_with.ensures.cloned answer is in
+    (copied.0, copied.1, kept-cloned heap c.args.notes.now (last_index c.args.entities.now.slots) None copied.0 c.clone_from_with.new.self copied.2)

@@ -1,5 +1,5 @@
 use Rattle.std.specs.Prelude.{[]}
-use Rattle.std.proofs.Common.{suc, ◌≡◌, ℕ, nat_eq, ap, ◌∙◌, arith}
+use Rattle.std.proofs.Common.{suc, ◌≡◌, ℕ, nat_eq, Err, ap, ◌∙◌, arith}
 use Rattle.std.specs.Map.{lookup}
 use Rattle.std.specs.Option.{option_map}
 use Rattle.triple_arena_ptr.specs.Pointers.{Pointer}
@@ -8,6 +8,7 @@ use Rattle.triple_arena_chain_uses.specs.Cache.{place_in}
 use Rattle.triple_arena_chain_uses.proofs.Caching.{on_ok, new_order}
 use Rattle.triple_arena_chain_uses.specs.Chains.{IsJoined}
 use Rattle.triple_arena_chain_uses.proofs.Ordering.{entries_read}
+use Rattle.triple_arena_chain_uses.proofs.Results.{memory_refused}
 use Rattle.triple_arena_chain_uses.proofs.cache.Cache.new.Goals as goal
 
 abbrev numbers : ℕ × ℕ → Pointer
@@ -19,7 +20,7 @@ invariant_of-result g c =
     let one : c.join-ring.new.self.len ≡ 1 = omega (arith, c.join-ring.ensures.len, c.in-Ok.ensures.len, c.new-uses.ensures.len) in
     let is = new_order (nodes c.insert_new.new.self) (numbers c.in-Ok.bare) (nodes c.new-uses.result) c.in-Ok.ensures.inserted (nodes c.join-ring.new.self) joined c.len-len.ensures.linked c.join-ring.new.self.len one
     (place_in numbers c.new-places.result) (λ k. ap (λ es. option_map numbers (lookup (nat_eq k) es)) c.new-places.ensures.empty) c.get.result (omega (arith, c.get.ensures.nonzero)) in
-    ([], is)
+    ([], is, c.join-ring.ensures.limit ∙ c.in-Ok.ensures.limit ∙ c.new-uses.ensures.limit)
 
 pub returns-clause-made : goal.returns-clause-made
 returns-clause-made g c =
@@ -29,3 +30,7 @@ returns-clause-made g c =
     (place_in numbers c.new-places.result) (λ k. ap (λ es. option_map numbers (lookup (nat_eq k) es)) c.new-places.ensures.empty) c.get.result (omega (arith, c.get.ensures.nonzero)) in
     ap (λ es. record { entries = es; most = c.get.result }) (entries_read (nodes c.join-ring.new.self) c.join-ring.new.self.len (numbers c.in-Ok.bare) (place_in numbers c.new-places.result) c.get.result [] is)
     ∙ ap (λ m. record { entries = []; most = m }) c.get.ensures.value
+
+pub returns-in-Err-clause-refusal : goal.returns-in-Err-clause-refusal
+returns-in-Err-clause-refusal g c =
+    memory_refused c.new-uses.result.capacity c.new-uses.result.limit c.new-uses.result.len (Err c.in-Err.refusal) c.new-uses.ensures.limit c.in-Err.ensures.refusal c.in-Err.ensures.no_room

@@ -31,7 +31,7 @@ unwrap-q-requires g c =
     let p = numbers c.in-Some.p.now in
     let removed : IsRemoved (nodes c.self.inside.uses) p (nodes c.remove-taken.new.self) = on_ok (IsRemoved (nodes c.self.inside.uses) p (nodes c.remove-taken.new.self)) c.remove-taken.result c.unwrap-pair.result c.unwrap-pair.ensures c.remove-taken.ensures.removed in
     let one : c.remove-taken.new.self.len + 1 ≡ c.self.inside.uses.len = on_ok (c.remove-taken.new.self.len + 1 ≡ c.self.inside.uses.len) c.remove-taken.result c.unwrap-pair.result c.unwrap-pair.ensures c.remove-taken.ensures.len in
-    c.insert-put.ensures.had_place (bare_stays (nodes c.self.inside.uses) c.self.inside.uses.len (numbers c.self.inside.bare) (place_in numbers c.self.inside.places) c.self.inside.most c.self.invariant.0 c.self.invariant.1 c.args.key p at (nodes c.remove-taken.new.self) removed) (omega (arith, one, c.remove-taken.ensures.capacity, c.len-len.ensures.fits))
+    (c.insert-put.ensures.had_place (bare_stays (nodes c.self.inside.uses) c.self.inside.uses.len (numbers c.self.inside.bare) (place_in numbers c.self.inside.places) c.self.inside.most c.self.invariant.0 c.self.invariant.1 c.args.key p at (nodes c.remove-taken.new.self) removed) (omega (arith, one, c.remove-taken.ensures.capacity, c.len-len.ensures.fits))).0
 
 pub unwrap-was-requires : goal.unwrap-was-requires
 unwrap-was-requires g c =
@@ -51,8 +51,11 @@ invariant_of-self g c =
     let put = if_ok (λ (q : ℕ × ℕ). IsInserted (nodes c.remove-taken.new.self) (Some (numbers c.self.inside.bare)) (after_at (nodes c.remove-taken.new.self) (numbers c.self.inside.bare)) (numbers q) (Some (c.args.key, c.args.value)) (nodes c.insert-put.new.self)) c.insert-put.result c.unwrap-q.result c.unwrap-q.ensures c.insert-put.ensures.inserted in
     let again : c.insert-put.new.self.len ≡ c.remove-taken.new.self.len + 1 = on_ok (c.insert-put.new.self.len ≡ c.remove-taken.new.self.len + 1) c.insert-put.result c.unwrap-q.result c.unwrap-q.ensures c.insert-put.ensures.len in
     let updates = on_ok (Updates nat_eq c.self.inside.places c.insert-placed.new.self c.args.key (Some c.unwrap-q.result)) c.insert-placed.result c.unwrap-was_at.result c.unwrap-was_at.ensures c.insert-placed.ensures.updates in
+    let turns =
     turned (nodes c.self.inside.uses) c.self.inside.uses.len (numbers c.self.inside.bare) (place_in numbers c.self.inside.places) c.self.inside.most c.self.invariant.0 c.self.invariant.1 c.args.key p at (nodes c.remove-taken.new.self) c.remove-taken.new.self.len removed one c.args.key c.args.value (inl refl) (numbers c.unwrap-q.result) (nodes c.insert-put.new.self) c.insert-put.new.self.len put again
-    (place_in numbers c.insert-placed.new.self) (λ r. put_again numbers c.args.key r c.unwrap-q.result (get nat_eq c.self.inside.places r) (get nat_eq c.insert-placed.new.self r) (updates.0 r))
+    (place_in numbers c.insert-placed.new.self) (λ r. put_again numbers c.args.key r c.unwrap-q.result (get nat_eq c.self.inside.places r) (get nat_eq c.insert-placed.new.self r) (updates.0 r)) in
+    let limit : c.insert-put.new.self.limit ≡ c.remove-taken.new.self.limit = on_ok (c.insert-put.new.self.limit ≡ c.remove-taken.new.self.limit) c.insert-put.result c.unwrap-q.result c.unwrap-q.ensures c.insert-put.ensures.limit in
+    (turns.0, turns.1, limit ∙ c.remove-taken.ensures.limit ∙ c.self.invariant.2)
 
 pub returns-clause-had : goal.returns-clause-had
 returns-clause-had g c =

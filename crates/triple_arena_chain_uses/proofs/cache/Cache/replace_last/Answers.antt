@@ -14,7 +14,7 @@ abbrev numbers : ℕ × ℕ → Pointer
 numbers p = (suc p.0, suc p.1)
 
 pub invariant_of-self : goal.invariant_of-self
-invariant_of-self g c = (c.self.invariant.0, same_places (nodes c.self.inside.uses) c.self.inside.uses.len (numbers c.self.inside.bare) (place_in numbers c.self.inside.places) (place_in numbers c.reserve.new.self) c.self.inside.most c.self.invariant.0 c.self.invariant.1 (λ k. ap (option_map numbers) (c.reserve.ensures.entries.2 k)))
+invariant_of-self g c = (c.self.invariant.0, same_places (nodes c.self.inside.uses) c.self.inside.uses.len (numbers c.self.inside.bare) (place_in numbers c.self.inside.places) (place_in numbers c.reserve.new.self) c.self.inside.most c.self.invariant.0 c.self.invariant.1 (λ k. ap (option_map numbers) (c.reserve.ensures.entries.2 k)), c.self.invariant.2)
 
 pub unwrap-p-requires : goal.unwrap-p-requires
 unwrap-p-requires g c = some_of_map numbers c.before-last.result (subst IsSome (sym c.before-last.ensures) (has_before (nodes c.self.inside.uses) c.self.inside.uses.len (numbers c.self.inside.bare) (place_in numbers c.self.inside.places) c.self.inside.most c.self.invariant.0 c.self.invariant.1))
@@ -45,7 +45,7 @@ unwrap-q-requires g c =
     let last = full_last (nodes c.self.inside.uses) c.self.inside.uses.len (numbers c.self.inside.bare) (place_in numbers c.self.inside.places) c.self.inside.most c.self.invariant.0 c.self.invariant.1 p before full in
     let removed : IsRemoved (nodes c.self.inside.uses) p (nodes c.remove-taken.new.self) = on_ok (IsRemoved (nodes c.self.inside.uses) p (nodes c.remove-taken.new.self)) c.remove-taken.result c.unwrap-pair.result c.unwrap-pair.ensures c.remove-taken.ensures.removed in
     let one : c.remove-taken.new.self.len + 1 ≡ c.self.inside.uses.len = on_ok (c.remove-taken.new.self.len + 1 ≡ c.self.inside.uses.len) c.remove-taken.result c.unwrap-pair.result c.unwrap-pair.ensures c.remove-taken.ensures.len in
-    c.insert-put.ensures.had_place (bare_stays (nodes c.self.inside.uses) c.self.inside.uses.len (numbers c.self.inside.bare) (place_in numbers c.self.inside.places) c.self.inside.most c.self.invariant.0 c.self.invariant.1 last.key p last.place_is (nodes c.remove-taken.new.self) removed) (omega (arith, one, c.remove-taken.ensures.capacity, c.len-len.ensures.fits))
+    (c.insert-put.ensures.had_place (bare_stays (nodes c.self.inside.uses) c.self.inside.uses.len (numbers c.self.inside.bare) (place_in numbers c.self.inside.places) c.self.inside.most c.self.invariant.0 c.self.invariant.1 last.key p last.place_is (nodes c.remove-taken.new.self) removed) (omega (arith, one, c.remove-taken.ensures.capacity, c.len-len.ensures.fits))).0
 
 pub invariant_of-self-2 : goal.invariant_of-self-2
 invariant_of-self-2 g c =
@@ -62,9 +62,12 @@ invariant_of-self-2 g c =
     let put = if_ok (λ (q : ℕ × ℕ). IsInserted (nodes c.remove-taken.new.self) (Some (numbers c.self.inside.bare)) (after_at (nodes c.remove-taken.new.self) (numbers c.self.inside.bare)) (numbers q) (Some (c.args.key, c.args.value)) (nodes c.insert-put.new.self)) c.insert-put.result c.unwrap-q.result c.unwrap-q.ensures c.insert-put.ensures.inserted in
     let again : c.insert-put.new.self.len ≡ c.remove-taken.new.self.len + 1 = on_ok (c.insert-put.new.self.len ≡ c.remove-taken.new.self.len + 1) c.insert-put.result c.unwrap-q.result c.unwrap-q.ensures c.insert-put.ensures.len in
     let updates = on_ok (Updates nat_eq c.remove-place.new.self c.insert-placed.new.self c.args.key (Some c.unwrap-q.result)) c.insert-placed.result c.unwrap-was_at.result c.unwrap-was_at.ensures c.insert-placed.ensures.updates in
+    let turns =
     turned (nodes c.self.inside.uses) c.self.inside.uses.len (numbers c.self.inside.bare) (place_in numbers c.self.inside.places) c.self.inside.most c.self.invariant.0 c.self.invariant.1 last.key p last.place_is (nodes c.remove-taken.new.self) c.remove-taken.new.self.len removed one c.args.key c.args.value (inr (fresh_place (nodes c.self.inside.uses) c.self.inside.uses.len (numbers c.self.inside.bare) (place_in numbers c.self.inside.places) c.self.inside.most c.self.invariant.0 c.self.invariant.1 c.args.key fresh)) (numbers c.unwrap-q.result) (nodes c.insert-put.new.self) c.insert-put.new.self.len put again
     (place_in numbers c.insert-placed.new.self) (λ r. replaced_in numbers last.key c.args.key r c.unwrap-q.result (get nat_eq c.self.inside.places r) (get nat_eq c.remove-place.new.self r) (get nat_eq c.insert-placed.new.self r)
-    (c.remove-place.ensures.updates.0 r ∙ ap (λ k. cond (nat_eq k r) None (get nat_eq c.reserve.new.self r)) key_is ∙ ap (cond (nat_eq last.key r) None) (c.reserve.ensures.entries.2 r)) (updates.0 r))
+    (c.remove-place.ensures.updates.0 r ∙ ap (λ k. cond (nat_eq k r) None (get nat_eq c.reserve.new.self r)) key_is ∙ ap (cond (nat_eq last.key r) None) (c.reserve.ensures.entries.2 r)) (updates.0 r)) in
+    let limit : c.insert-put.new.self.limit ≡ c.remove-taken.new.self.limit = on_ok (c.insert-put.new.self.limit ≡ c.remove-taken.new.self.limit) c.insert-put.result c.unwrap-q.result c.unwrap-q.ensures c.insert-put.ensures.limit in
+    (turns.0, turns.1, limit ∙ c.remove-taken.ensures.limit ∙ c.self.invariant.2)
 
 pub returns-clause-put : goal.returns-clause-put
 returns-clause-put g c =

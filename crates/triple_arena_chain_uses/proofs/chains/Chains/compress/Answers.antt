@@ -4,7 +4,7 @@ use Rattle.triple_arena_ptr.specs.Pointers.{Pointer}
 use Rattle.triple_arena.specs.Entries.{look_up, entry_count}
 use Rattle.triple_arena_direct.specs.Renaming.{MapsPointers}
 use Rattle.triple_arena_chain_uses.specs.Chains.{nodes, node_slots, IsLinked, IsMoved}
-use Rattle.triple_arena_chain_uses.proofs.Moving.{linked_moved, is_moved, maps_chains, only_memory}
+use Rattle.triple_arena_chain_uses.proofs.Moving.{linked_moved, is_moved, packed, maps_chains, only_memory}
 use Rattle.triple_arena_chain_uses.proofs.Results.{either_way_2, if_refused}
 use Rattle.triple_arena_chain_uses.proofs.chains.Chains.compress.Goals as goal
 
@@ -39,6 +39,11 @@ returns-clause-moved g c =
       maps_chains numbers g.P.Recast.held g.P.Recast.refill g.met.P.Ptr.holds_itself g.met.P.Ptr.refills numbers rename old _ c.in-Ok.ensures.maps,
       is_moved numbers g.P.Recast.held g.P.Recast.refill g.met.P.Ptr.holds_itself g.met.P.Ptr.refills rename old new c.in-Ok.ensures.keys c.in-Ok.ensures.found,
     )
+
+pub returns-clause-packed : goal.returns-clause-packed
+returns-clause-packed g c =
+    packed g.P.Ptr.numbers g.P.Recast.held g.P.Recast.refill g.met.P.Ptr.holds_itself g.met.P.Ptr.refills (g.A.CompactArenaTrait.rank c.self.inside.arena false)
+    (g.A.ArenaTrait.slots c.self.inside.arena) (g.A.ArenaTrait.slots c.compress_recast.new.this) c.in-Ok.ensures.keys (g.met.A.CompactArenaTrait.ranked c.self.inside.arena false) c.compress_recast.ensures.len
 
 pub returns-in_default-clause-refusal : goal.returns-in_default-clause-refusal
 returns-in_default-clause-refusal g c =

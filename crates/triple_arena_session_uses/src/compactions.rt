@@ -1,0 +1,91 @@
+//! What compaction leaves unseen.
+
+ghost use Rattle.std.specs.Prelude.{◌≡◌, ◌++◌, ◌⊎◌, ℕ, true, false, IfOk, length, take};
+ghost use Rattle.std.specs.List.{list_all, list_any};
+ghost use Rattle.triple_arena_session.specs.Runs.{TellsOfNoWrap, EndsInWrap};
+ghost use Rattle.triple_arena_session.specs.StoreRuns.{is_named, is_no_memory, seen, ample, erase};
+ghost use Rattle.triple_arena_session.specs.StrictStore.{tells_exhausted};
+ghost use Rattle.triple_arena_session.specs.Shown.{shown, IsSound};
+ghost use Rattle.triple_arena_session.specs.ElevenCommands.{eleven_commands, nine_replies};
+
+use crate::named_entries::answers;
+use std::alloc::Global;
+use triple_arena_base::AllocError;
+use triple_arena_ptr::P0;
+use triple_arena_session::laws::{
+    compaction_is_unseen, eleven_commands_answered, strict_compaction_is_unseen,
+};
+use triple_arena_session::{Command, Reply, Session, StrictSession};
+
+/// Runs commands in a sound session, as its `run` does, and gives their replies: one to each
+/// command, or up to the first that tells of a wrap. Refused only where there is no memory for the
+/// list of replies.
+///
+/// At any time of the run, as long as all commands up to then are named ones and none was refused
+/// for want of memory, compactions changed no other reply.
+pub fn unseen_at_any_time(
+    session: &mut Session<P0, u64>,
+    commands: &[Command<u64>],
+) -> Result<Vec<Reply<u64>>, AllocError>
+    requires sound { IsSound session.old }
+    ensures whole { IfOk result (λ replies.
+        (TellsOfNoWrap replies.items × (length replies.items ≡ length commands.now))
+        ⊎ EndsInWrap replies.items) }
+    ensures unseen { IfOk result (λ replies. (count : ℕ)
+        → let ran = take count (take (length replies.items) commands.now) in
+        let told = take count replies.items in
+        list_all is_named ran ≡ true → list_any is_no_memory told ≡ false
+        → seen ran told ≡ ample (shown session.old) (erase ran)) }
+{
+    compaction_is_unseen::<u64>();
+    session.run(commands)
+}
+
+/// Runs commands in a strict session and then others, and gives the replies to both. Refused only
+/// where there is no memory for a list of replies; the first commands may have run then.
+///
+/// Two runs are as one: where all are named commands, and none was refused for want of memory or of
+/// a raise, compactions among the first commands change no reply to the others either.
+pub fn answers_in_two_runs(
+    session: &mut StrictSession<P0, u64>,
+    first: &[Command<u64>],
+    others: &[Command<u64>],
+) -> Result<(Vec<Reply<u64>>, Vec<Reply<u64>>), AllocError>
+    ensures unseen { IfOk result (λ told.
+        let all = first.now ++ others.now in
+        let replies = told.0.items ++ told.1.items in
+        list_all is_named all ≡ true → list_any is_no_memory replies ≡ false
+        → list_any tells_exhausted replies ≡ false
+        → seen all replies ≡ ample (shown session.old) (erase all)) }
+{
+    strict_compaction_is_unseen::<u64>();
+    let told = session.run(first)?;
+    let more = session.run(others)?;
+    Ok((told, more))
+}
+
+/// The replies to the eleven commands of the law in a new session over the heap. Two of these
+/// compact, the first in vain. Where all were answered, and none was refused memory, the replies to
+/// the other nine are those that a store of names gives without the two. Refused only where there
+/// is no memory for the list of replies.
+pub fn answers_to_eleven(alloc: Global) -> Result<Vec<Reply<u64>>, AllocError>
+    ensures nine { IfOk result (λ replies.
+        length replies.items ≡ 11 → list_any is_no_memory replies.items ≡ false
+        → seen eleven_commands replies.items ≡ nine_replies) }
+{
+    let commands = [
+        Command::Insert(1, None),
+        Command::Insert(2, Some(1)),
+        Command::Remove(1),
+        Command::Insert(3, Some(2)),
+        Command::Compact,
+        Command::Set(2, 2, None),
+        Command::Compact,
+        Command::Get(3),
+        Command::Get(1),
+        Command::InsertWithin(4, Some(3)),
+        Command::Len,
+    ];
+    eleven_commands_answered();
+    answers(alloc, &commands)
+}

@@ -1,10 +1,10 @@
 //! A chain that grows at its end, as a list of values.
 
-ghost use Rattle.std.specs.Prelude.{◌≡◌, ◌+◌, ◌<◌, List, [], ◌∷◌, ◌++◌, None, Some, Err, IsOk, IsSome, IfOk, OnOk, OnErr};
+ghost use Rattle.std.specs.Prelude.{◌≡◌, ◌+◌, ◌<◌, ◌≤◌, ◌↔◌, List, [], ◌∷◌, ◌++◌, None, Some, Err, IsOk, IsSome, IfOk, OnOk, OnErr};
 ghost use Rattle.std.specs.Result.{IfErr};
 ghost use Rattle.triple_arena_ptr.specs.Pointers.{Pointer};
 ghost use Rattle.triple_arena_ptr.specs.Numbers.{greatest_index};
-ghost use Rattle.triple_arena_stack.specs.Capacity.{CanGrow};
+ghost use Rattle.triple_arena_stack.specs.Capacity.{CanGrow, IsFullAtLimit};
 ghost use Rattle.triple_arena_chain_uses.specs.Chains.{nodes, after_at, IsInserted, IsRun, values_at, IsRefusedRoom};
 
 use crate::chains::Chains;
@@ -35,6 +35,7 @@ impl<P: Ptr, T, A: CompactArenaTrait<P, Link<P, T>> + ArenaInsertTrait<P, Link<P
         ensures inserted { IfOk result (λ q. IsInserted (nodes self.old)
             (Some (P.numbers last)) None (P.numbers q) value (nodes self.new)) }
         ensures len { OnOk result (self.new.len ≡ self.old.len + 1) }
+        ensures capacity { OnOk result (self.old.capacity ≤ self.new.capacity) }
         ensures limit { OnOk result (self.new.limit ≡ self.old.limit) }
         ensures refused { OnErr result (self.new ≡ self.old) }
         ensures no_entry { nodes self.old (P.numbers last) ≡ None
@@ -43,6 +44,10 @@ impl<P: Ptr, T, A: CompactArenaTrait<P, Link<P, T>> + ArenaInsertTrait<P, Link<P
             → result ≡ Err ChainError.Taken }
         ensures refusal { IsSome (nodes self.old (P.numbers last))
             → after_at (nodes self.old) (P.numbers last) ≡ None → IfErr result IsRefusedRoom }
+        ensures no_room { IsSome (nodes self.old (P.numbers last))
+            → after_at (nodes self.old) (P.numbers last) ≡ None
+            → ((result ≡ Err ChainError.NoRoom)
+            ↔ IsFullAtLimit self.old.capacity self.old.limit (self.old.len)) }
         ensures with_memory { IsSome (nodes self.old (P.numbers last))
             → after_at (nodes self.old) (P.numbers last) ≡ None
             → CanGrow A.has_memory self.old.capacity self.old.limit

@@ -100,9 +100,9 @@ impl<P: Ptr, T, A: CompactArenaTrait<P, Link<P, T>> + ArenaInsertTrait<P, Link<P
 
     /// A new chain of one value.
     ///
-    /// `NoRoom` exactly where the arena is full and its limit is reached, else `NoMemory` where it is full and memory is
-    /// refused, or there is no greater index; then nothing changes, and the value is dropped. Where the arena isn't full,
-    /// its capacity stays.
+    /// `NoRoom` exactly where the arena is full and its limit is reached, else `NoMemory` where it is
+    /// full and memory is refused, or there is no greater index; then nothing changes, and the value
+    /// is dropped. Where the arena isn't full, its capacity stays.
     pub fn insert_new(&mut self, value: T) -> Result<P, ChainError>
     where
         T: Drop,

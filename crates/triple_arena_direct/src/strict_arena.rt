@@ -591,9 +591,10 @@ impl<P: Ptr, T, S: NonZeroInxGenericStack<ArenaSlot<P, T>>> StrictArena<P, T, S>
     /// As [`Self::compress_recast`], and renames each pointer that `holder` holds, too, as
     /// [`crate::compress_recast_with`] of an `Arena` without a reset.
     ///
-    /// `Exhausted` as of [`Self::compress_recast`], and first, whatever the holder holds. Else `Compact` with its refusal: `Reallocation` as there, and then `Unresolved` exactly
-    /// where a value or the holder holds a pointer that finds no entry, with the first one, those of
-    /// the values first. In each case nothing has changed, in the arena or in the holder.
+    /// `Exhausted` as of [`Self::compress_recast`], and first, whatever the holder holds. Else `Compact`
+    /// with its refusal: `Reallocation` as there, and then `Unresolved` exactly where a value or the
+    /// holder holds a pointer that finds no entry, with the first one, those of the values first. In each
+    /// case nothing has changed, in the arena or in the holder.
     pub fn compress_recast_with<H: Recast<P>>(
         &mut self,
         holder: &mut H,

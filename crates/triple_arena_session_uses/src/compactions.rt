@@ -1,8 +1,15 @@
 //! What compaction leaves unseen.
 
-ghost use Rattle.std.specs.Prelude.{◌≡◌, ◌++◌, ◌⊎◌, ℕ, true, false, IfOk, length, take};
+ghost use Rattle.std.specs.Prelude.{◌≡◌, ◌++◌, ◌⊎◌, ℕ, List, true, false, IfOk, OnErr, length, take};
 ghost use Rattle.std.specs.List.{list_all, list_any};
-ghost use Rattle.triple_arena_session.specs.Runs.{TellsOfNoWrap, EndsInWrap};
+ghost use Rattle.triple_arena_ptr.specs.Numbers.{counting_to};
+ghost use Rattle.triple_arena_stack.specs.StackKind.StackKind.{heap};
+ghost use Rattle.triple_arena_session.specs.Reply.{Reply};
+ghost use Rattle.triple_arena_session.specs.Kind.TheVariants.{Heap};
+ghost use Rattle.triple_arena_session.specs.KindRun.{greatest, first_of_kind, IsStepOfKind};
+ghost use Rattle.triple_arena_session.specs.SessionState.{SessionState};
+ghost use Rattle.triple_arena_session.specs.StrictSession.{IsStrictSessionStep};
+ghost use Rattle.triple_arena_session.specs.Runs.{IsRun, RunsToWrap, TellsOfNoWrap, EndsInWrap};
 ghost use Rattle.triple_arena_session.specs.StoreRuns.{is_named, is_no_memory, seen, ample, erase};
 ghost use Rattle.triple_arena_session.specs.StrictStore.{tells_exhausted};
 ghost use Rattle.triple_arena_session.specs.Shown.{shown, IsSound};
@@ -19,7 +26,7 @@ use triple_arena_session::{Command, Reply, Session, StrictSession};
 
 /// Runs commands in a sound session, as its `run` does, and gives their replies: one to each
 /// command, or up to the first that tells of a wrap. Refused only where there is no memory for the
-/// list of replies.
+/// list of replies; then no command has run.
 ///
 /// At any time of the run, as long as all commands up to then are named ones and none was refused
 /// for want of memory, compactions changed no other reply.
@@ -28,6 +35,10 @@ pub fn unseen_at_any_time(
     commands: &[Command<u64>],
 ) -> Result<Vec<Reply<u64>>, AllocError>
     requires sound { IsSound session.old }
+    ensures ran { IfOk result (λ replies.
+        RunsToWrap (IsStepOfKind Heap) session.old commands.now replies.items session.new) }
+    ensures refused { OnErr result (session.new ≡ session.old) }
+    ensures sound { IfOk result (λ replies. TellsOfNoWrap replies.items → IsSound session.new) }
     ensures whole { IfOk result (λ replies.
         (TellsOfNoWrap replies.items × (length replies.items ≡ length commands.now))
         ⊎ EndsInWrap replies.items) }
@@ -42,7 +53,7 @@ pub fn unseen_at_any_time(
 }
 
 /// Runs commands in a strict session and then others, and gives the replies to both. Refused only
-/// where there is no memory for a list of replies; the first commands may have run then.
+/// where there is no memory for a list of replies; then none of them has run, or the first alone have.
 ///
 /// Two runs are as one: where all are named commands, and none was refused for want of memory or of
 /// a raise, compactions among the first commands change no reply to the others either.
@@ -51,6 +62,14 @@ pub fn answers_in_two_runs(
     first: &[Command<u64>],
     others: &[Command<u64>],
 ) -> Result<(Vec<Reply<u64>>, Vec<Reply<u64>>), AllocError>
+    ensures ran { IfOk result (λ told.
+        IsRun (IsStrictSessionStep heap (λ _. ⊥) (counting_to greatest)) session.old
+        (first.now ++ others.now) (told.0.items ++ told.1.items) session.new) }
+    ensures refused { OnErr result ((session.new ≡ session.old)
+        ⊎ ((replies : List (Reply ℕ)) × IsRun (IsStrictSessionStep heap (λ _. ⊥) (counting_to greatest))
+        session.old first.now replies session.new)) }
+    ensures whole { IfOk result (λ told. (length told.0.items ≡ length first.now)
+        × (length told.1.items ≡ length others.now)) }
     ensures unseen { IfOk result (λ told.
         let all = first.now ++ others.now in
         let replies = told.0.items ++ told.1.items in
@@ -69,6 +88,8 @@ pub fn answers_in_two_runs(
 /// the other nine are those that a store of names gives without the two. Refused only where there
 /// is no memory for the list of replies.
 pub fn answers_to_eleven(alloc: Global) -> Result<Vec<Reply<u64>>, AllocError>
+    ensures ran { IfOk result (λ replies. (after : SessionState ℕ)
+        × RunsToWrap (IsStepOfKind Heap) (first_of_kind Heap) eleven_commands replies.items after) }
     ensures nine { IfOk result (λ replies.
         length replies.items ≡ 11 → list_any is_no_memory replies.items ≡ false
         → seen eleven_commands replies.items ≡ nine_replies) }

@@ -1,20 +1,25 @@
 //! Entries by name: commands to a new session, answered as by a store of names.
 
-ghost use Rattle.std.specs.Prelude.{◌≡◌, ◌+◌, ◌-◌, ◌⊎◌, ℕ, List, true, false, Some, Result, IfOk, IfSome, OnErr, take, length, slice_get, Contains};
+ghost use Rattle.std.specs.Prelude.{◌≡◌, ◌+◌, ◌-◌, ◌⊎◌, ℕ, List, true, false, Some, None, Result, is_ok, IfOk, IfSome, OnErr, take, length, slice_get, Contains};
 ghost use Rattle.std.specs.List.{list_all, list_any};
 ghost use Rattle.triple_arena_session.specs.Lines.{lines_of};
 ghost use Rattle.triple_arena_session.specs.Forms.{HasForm};
 ghost use Rattle.triple_arena_session.specs.Command.{Command};
-ghost use Rattle.triple_arena_session.specs.NameStore.{next_name};
-ghost use Rattle.triple_arena_session.specs.Runs.{IsRun, TellsOfNoWrap, EndsInWrap};
+ghost use Rattle.triple_arena_session.specs.NameStore.{next_name, IsStoreStep};
+ghost use Rattle.triple_arena_session.specs.Runs.{IsRun, RunsToWrap, TellsOfNoWrap, EndsInWrap};
 ghost use Rattle.triple_arena_session.specs.StoreRuns.{AnswersAsStore, is_named, is_no_memory, seen, ample, erase};
 ghost use Rattle.triple_arena_session.specs.Kind.TheVariants.{Heap};
 ghost use Rattle.triple_arena_session.specs.StrictStore.{tells_exhausted, StrictStore, IsStrictStoreStep};
 ghost use Rattle.triple_arena_session.specs.SessionState.{SessionState};
 ghost use Rattle.triple_arena_session.specs.Shown.{shown, IsSound};
-ghost use Rattle.triple_arena_session.specs.KindRun.{greatest};
-ghost use Rattle.triple_arena_session.specs.StrictSession.{strictly_shown};
-ghost use Rattle.triple_arena_session.specs.StrictText.{IsStrictStoreText};
+ghost use Rattle.triple_arena_session.specs.KindRun.{greatest, first_of_kind, IsStepOfKind};
+ghost use Rattle.triple_arena_session.specs.TextRun.{StopsAtLine};
+ghost use Rattle.triple_arena_session.specs.Command.TheVariants.{Insert};
+ghost use Rattle.triple_arena_session.specs.Reply.TheVariants.{Given};
+ghost use Rattle.triple_arena_ptr.specs.Numbers.{counting_to};
+ghost use Rattle.triple_arena_stack.specs.StackKind.StackKind.{heap};
+ghost use Rattle.triple_arena_session.specs.StrictSession.{IsStrictSessionStep, strictly_shown};
+ghost use Rattle.triple_arena_session.specs.StrictText.{IsStrictStoreText, IsWholeTextRun};
 ghost use Rattle.triple_arena_session.specs.StoreText.{first_store, first_strict_store};
 
 use std::alloc::Global;
@@ -31,6 +36,8 @@ use triple_arena_session::{
 /// memory for the list of replies. Where the commands that ran are named ones, and no
 /// memory was refused, compactions change no other reply.
 pub fn answers(alloc: Global, commands: &[Command<u64>]) -> Result<Vec<Reply<u64>>, AllocError>
+    ensures ran { IfOk result (λ replies. (after : SessionState ℕ)
+        × RunsToWrap (IsStepOfKind Heap) (first_of_kind Heap) commands.now replies.items after) }
     ensures whole { IfOk result (λ replies.
         (TellsOfNoWrap replies.items × (length replies.items ≡ length commands.now))
         ⊎ EndsInWrap replies.items) }
@@ -46,12 +53,16 @@ pub fn answers(alloc: Global, commands: &[Command<u64>]) -> Result<Vec<Reply<u64
 }
 
 /// Enters a number that links to nothing in a sound session, and gives its name, which is the next
-/// one. `None` where no index is free or memory was refused, of which no clause says more.
+/// one and has the number then; all other rows stay. `None` where no index is free or memory was
+/// refused, of which no clause says more; then what the session shows stays. It is sound.
 pub fn enter(session: &mut Session<P0, u64>, number: u64) -> Option<usize>
     requires sound { IsSound session.old }
     ensures next { IfSome result (λ name. name ≡ next_name (shown session.old)) }
+    ensures entered { IfSome result (λ name. IsStoreStep
+        (shown session.old) (Insert number None) (Given name false) (shown session.new)) }
     ensures later { IfSome result (λ name. next_name (shown session.new) ≡ name + 1) }
-    ensures sound { IfSome result (λ name. IsSound session.new) }
+    ensures stays { result ≡ None → shown session.new ≡ shown session.old }
+    ensures sound { IsSound session.new }
 {
     names_are_new::<u64>();
     match session.step(Command::Insert(number, None)) {
@@ -61,8 +72,9 @@ pub fn enter(session: &mut Session<P0, u64>, number: u64) -> Option<usize>
 }
 
 /// Runs a text in a sound session up to its first malformed line, and gives the number of this
-/// line, which has no line break and the form of no command. The session is sound then, and another
-/// text may follow. `None` where it ended otherwise.
+/// line, which has no line break and the form of no command; the lines before it were answered. The
+/// session is sound then, and another text may follow. `None` where it ended otherwise, of which no
+/// clause says more.
 pub fn run_to_malformed(
     session: &mut Session<P0, u64>,
     alloc: Global,
@@ -70,6 +82,8 @@ pub fn run_to_malformed(
     output: &mut Vec<u8>,
 ) -> Option<usize>
     requires sound { IsSound session.old }
+    ensures ran { IfSome result (λ number. StopsAtLine (IsStepOfKind Heap) number
+        (lines_of text.now) session.old session.new (Some output.old.items) (Some output.new.items)) }
     ensures malformed { IfSome result (λ number. (line : List ℕ)
         × (slice_get (lines_of text.now) (number - 1) ≡ Some line) × (¬ (Contains line 10))
         × ((command : Command ℕ) → ¬ (HasForm line command))) }
@@ -104,14 +118,17 @@ pub fn strict_answers(
     session.run(commands)
 }
 
-/// Runs a text in a strict session, and tells whether it ran to its end. The session is sound after it,
-/// however it ended, and another text may follow.
+/// Runs a text in a strict session, as `run_text_strict` does, and tells whether it ran to its end. The
+/// session is sound after it, however it ended, and another text may follow.
 pub fn runs_to_its_end(
     session: &mut StrictSession<P0, u64>,
     alloc: Global,
     text: &[u8],
     output: &mut Vec<u8>,
 ) -> bool
+    ensures ran { (outcome : Result (Unit {0}) TextError) × (result ≡ is_ok outcome)
+        × IsWholeTextRun (IsStrictSessionStep heap (λ _. ⊥) (counting_to greatest)) (Some text.now) outcome
+        session.old session.new (Some output.old.items) (Some output.new.items) }
     ensures sound { IsSound session.new }
 {
     let mut input = text;

@@ -1,18 +1,20 @@
 //! The raises that are left to the counter of a strict session.
 
 ghost use Rattle.std.specs.Prelude.{◌≡◌, ◌+◌, ◌↔◌, true, false};
+ghost use Rattle.triple_arena_ptr.specs.Numbers.{counting_to};
+ghost use Rattle.triple_arena_stack.specs.StackKind.StackKind.{heap};
 ghost use Rattle.triple_arena_session.specs.Reply.TheVariants.{Exhausted};
 ghost use Rattle.triple_arena_session.specs.StrictStore.{tells_exhausted, used, is_spent};
 ghost use Rattle.triple_arena_session.specs.KindRun.{greatest};
 ghost use Rattle.triple_arena_session.specs.Shown.{shown};
-ghost use Rattle.triple_arena_session.specs.StrictSession.{strictly_shown};
+ghost use Rattle.triple_arena_session.specs.StrictSession.{IsStrictSessionStep, strictly_shown};
 
 use crate::HeapSlots;
 use triple_arena_ptr::P0;
 use triple_arena_session::laws::{strict_session_steps_as_store, strict_store_is_exact};
 use triple_arena_session::{Command, Reply, StrictSession};
 
-/// Runs a command in a strict session, and gives its reply. It is `Exhausted` exactly where the
+/// Runs a command in a strict session, as its `step` does, and gives its reply. It is `Exhausted` exactly where the
 /// command needs a raise of the counter and none is left, and then nothing that the session shows
 /// changes.
 ///
@@ -20,6 +22,8 @@ use triple_arena_session::{Command, Reply, StrictSession};
 /// (`counted`). Those that are left then lead from the counter just to the greatest generation
 /// (`exact`).
 pub fn step_counted(session: &mut StrictSession<P0, u64>, command: Command<u64>) -> Reply<u64>
+    ensures step { IsStrictSessionStep heap (λ _. ⊥) (counting_to greatest)
+        session.old command result session.new }
     ensures spent { (result ≡ Exhausted)
         ↔ (is_spent (strictly_shown greatest session.old) command ≡ true) }
     ensures unchanged { result ≡ Exhausted

@@ -2,12 +2,13 @@
 //!
 //! The clauses speak of look-ups alone: what each pointer finds before a call, and after it.
 
-ghost use Rattle.std.specs.Prelude.{◌≡◌, ◌≢◌, ◌+◌, ◌*◌, ◌-◌, None, Some, IfOk, OnErr, IsSome, is_some, false, option_copied};
+ghost use Rattle.std.specs.Prelude.{◌≡◌, ◌≢◌, ◌<◌, ◌↔◌, ◌+◌, ◌*◌, ◌-◌, None, Some, Err, IsOk, IfOk, OnErr, IsSome, is_some, false, option_copied};
 ghost use Rattle.std.specs.Option.{option_map, option_and_then};
 ghost use Rattle.triple_arena_ptr.specs.Pointers.{Pointer};
+ghost use Rattle.triple_arena_stack.specs.Capacity.{IsFullAtLimit};
 ghost use Rattle.triple_arena.specs.Items.{item};
 ghost use Rattle.triple_arena.specs.Entries.{look_up};
-ghost use Rattle.triple_arena.specs.ArenaState.{entry, slot_count, is_free};
+ghost use Rattle.triple_arena.specs.ArenaState.{entry, arena_len, capacity, slot_count, is_free};
 ghost use Rattle.triple_arena.specs.SlotSteps.{RisesByAtMost};
 ghost use Rattle.triple_arena.specs.Values.{SamePointers};
 ghost use Rattle.triple_arena_uses.specs.Entities.{p0_numbers, spawned, damaged, healed};
@@ -63,6 +64,9 @@ impl<S: NonZeroInxGenericStack<ArenaSlot<P0, Entity>>> EntityTable<S> {
         ensures others { IfOk result (λ p. (q : Pointer) → q ≢ p0_numbers p
             → look_up self.new.slots q ≡ look_up self.old.slots q) }
         ensures refused { OnErr result (self.new ≡ self.old) }
+        ensures beyond { (result ≡ Err ReallocationError.BeyondMaxCapacity)
+            ↔ IsFullAtLimit (capacity self.old) self.old.limit (arena_len self.old) }
+        ensures had_place { arena_len self.old < capacity self.old → IsOk result }
     {
         self.entities.insert(Entity {
             health: 100,
@@ -107,7 +111,8 @@ impl<S: NonZeroInxGenericStack<ArenaSlot<P0, Entity>>> EntityTable<S> {
         Some(entity.health)
     }
 
-    /// Takes health from each entity. Who is there stays, each under its pointer.
+    /// Takes health from each entity. Who is there stays, each under its pointer; that no health is
+    /// forgotten, no clause says, as of any loop that writes.
     pub fn damage_all(&mut self, by: u32)
         ensures { SamePointers self.old self.new }
     {

@@ -1,7 +1,8 @@
 //! Calls of a strict arena, one after another: what a list of them gives.
 
-ghost use Rattle.std.specs.Prelude.{◌≡◌, ◌≢◌, ◌<◌, ◌++◌, true, Some, IsOk, IfOk, OnOk, OnErr};
+ghost use Rattle.std.specs.Prelude.{◌≡◌, ◌≢◌, ◌<◌, ◌↔◌, ◌++◌, true, Some, Err, IsOk, IfOk, OnOk, OnErr};
 ghost use Rattle.triple_arena_ptr.specs.Pointers.{Pointer};
+ghost use Rattle.triple_arena_stack.specs.Capacity.{IsFullAtLimit};
 ghost use Rattle.triple_arena.specs.Entries.{look_up};
 ghost use Rattle.triple_arena.specs.ArenaState.{arena_len, capacity};
 ghost use Rattle.triple_arena.specs.SlotSteps.{IsTouched};
@@ -15,7 +16,8 @@ use triple_arena_direct::{StrictArena, StrictError};
 use triple_arena_ptr::Ptr;
 
 /// Takes the value of a pointer out, and puts another in, each as its call does or refuses it:
-/// where the one came out there is a place for the other, and where there was a place before.
+/// where the one came out there is a place for the other, and where there was a place before. Else
+/// the other is `BeyondMaxCapacity` exactly where the arena is full and can't have more capacity.
 /// Entries under other pointers stay; where the other value is refused, nothing changes but how
 /// many slots were touched.
 ///
@@ -31,7 +33,11 @@ pub fn exchange<P: Ptr, T: Drop>(
     ensures found { IfOk result.1 (λ r. look_up arena.new.slots (P.numbers r) ≡ Some value) }
     ensures others { IfOk result.1 (λ r. (q : Pointer) → q ≢ P.numbers p → q.0 ≢ (P.numbers r).0
         → look_up arena.new.slots q ≡ look_up arena.old.slots q) }
+    ensures kept { OnErr result.0 (IfOk result.1 (λ r. (P.numbers p).0 ≢ (P.numbers r).0
+        → look_up arena.new.slots (P.numbers p) ≡ look_up arena.old.slots (P.numbers p))) }
     ensures refused { OnErr result.1 (IsTouched arena.old arena.new) }
+    ensures beyond { OnErr result.0 ((result.1 ≡ Err ReallocationError.BeyondMaxCapacity)
+        ↔ IsFullAtLimit (capacity arena.old) arena.old.limit (arena_len arena.old)) }
     ensures had_place { arena_len arena.old < capacity arena.old → IsOk result.1 }
     ensures made_place { OnOk result.0 (IsOk result.1) }
     ensures given_once { P.Gen.generations.counting ≡ true → (h : History) → Fits h arena.old

@@ -1,6 +1,7 @@
 //! A book of guests, which names each by a pointer that it never gave before.
 
-ghost use Rattle.std.specs.Prelude.{◌≡◌, ◌++◌, ◌∷◌, ◌&&◌, ◌||◌, [], false, map, None, Some, is_some, IfOk, OnErr, option_copied};
+ghost use Rattle.std.specs.Prelude.{◌≡◌, ◌≢◌, ◌++◌, ◌∷◌, ◌&&◌, ◌||◌, [], false, map, None, Some, is_some, IfOk, OnErr, option_copied};
+ghost use Rattle.triple_arena_ptr.specs.Pointers.{Pointer};
 ghost use Rattle.triple_arena.specs.Entries.{look_up};
 ghost use Rattle.triple_arena.specs.Histories.{has, AreDistinct};
 ghost use Rattle.triple_arena_uses.specs.Entities.{p0_numbers};
@@ -65,6 +66,8 @@ impl GuestBook {
             → IfOk result (λ p. has self.old.came (p0_numbers p) ≡ false) }
         ensures found { IfOk result (λ p. look_up self.new.guests.slots (p0_numbers p)
             ≡ Some guest) }
+        ensures others { IfOk result (λ p. (q : Pointer) → q ≢ p0_numbers p
+            → look_up self.new.guests.slots q ≡ look_up self.old.guests.slots q) }
         ensures came { IfOk result (λ p. self.new.came ≡ self.old.came ++ p0_numbers p ∷ []) }
         ensures refused { OnErr result (self.new ≡ self.old) }
         ensures wrapped { self.new.wrapped ≡ self.old.wrapped }
@@ -82,6 +85,8 @@ impl GuestBook {
     pub fn leave(&mut self, p: P0) -> Option<u32>
         ensures guest { result ≡ look_up self.old.guests.slots (p0_numbers p) }
         ensures gone { look_up self.new.guests.slots (p0_numbers p) ≡ None }
+        ensures others { (q : Pointer) → q ≢ p0_numbers p
+            → look_up self.new.guests.slots q ≡ look_up self.old.guests.slots q }
         ensures came { self.new.came ≡ self.old.came }
         ensures wrapped { self.new.wrapped
             ≡ self.old.wrapped || (is_some result && is_before_wrap self.old) }

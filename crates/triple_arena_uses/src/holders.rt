@@ -132,6 +132,7 @@ pub fn compact_with_border(
         ≡ told (moving_wraps links.old) (allowed_option answer)) }
     ensures maps { IfOk result (λ answer. MapsPointers p0_numbers (moved links.old)
         links.old.slots (allowed_option answer).slots) }
+    ensures count { arena_len links.new ≡ arena_len links.old }
     ensures links { OnOk result ((p : Pointer) → IsSome (look_up links.old.slots p)
         → IsFoundRenamed p0_numbers (moved links.old)
         ⟦<Link as Recast<P0>>⟧.held ⟦<Link as Recast<P0>>⟧.refill
@@ -164,6 +165,7 @@ pub fn compact_with_two<T: Recast<P0>, H: Recast<P0>, K: Recast<P0>>(
         ≡ told (moving_wraps arena.old) (allowed_option answer)) }
     ensures maps { IfOk result (λ answer. MapsPointers p0_numbers (moved arena.old)
         arena.old.slots (allowed_option answer).slots) }
+    ensures count { arena_len arena.new ≡ arena_len arena.old }
     ensures found { OnOk result ((p : Pointer) → IsSome (look_up arena.old.slots p)
         → IsFoundRenamed p0_numbers (moved arena.old) T.held T.refill
         (look_up arena.old.slots p) (look_up arena.new.slots (moved arena.old p))) }

@@ -3,6 +3,8 @@
 ghost use Rattle.std.specs.Prelude.{◌≡◌, ◌≤◌, OnOk, OnErr, IsOk};
 ghost use Rattle.triple_arena.specs.ArenaState.{arena_len, capacity};
 ghost use Rattle.triple_arena.specs.Entries.{entry_count};
+ghost use Rattle.triple_arena.specs.FreeList.{tidied};
+ghost use Rattle.triple_arena.specs.SlotSteps.{IsTouched};
 
 use triple_arena::{Arena, ArenaSlot, CompactArenaTrait};
 use triple_arena_base::ReallocationError;
@@ -10,7 +12,8 @@ use triple_arena_ptr::Ptr;
 use triple_arena_stack::NonZeroInxGenericStack;
 
 /// Moves the entries of one table to another, whose own are dropped, and whose pointers may be of
-/// another type: there they stand from index 1 on. Refused, both have the entries that they had.
+/// another type: there they stand from index 1 on. Refused, both have the entries that they had, and
+/// the free list of the one to which they were to go is tidied.
 pub fn move_over<
     P: Ptr,
     S: NonZeroInxGenericStack<ArenaSlot<P, u64>>,
@@ -20,6 +23,7 @@ pub fn move_over<
     ensures moved { OnOk result (arena_len to.new ≡ entry_count (A.slots from.old)) }
     ensures emptied { OnOk result (entry_count (A.slots from.new) ≡ 0) }
     ensures whole { OnErr result (from.new ≡ from.old) }
+    ensures refused { OnErr result (IsTouched (tidied to.old) to.new) }
     ensures fits { entry_count (A.slots from.old) ≤ capacity to.old → IsOk result }
 {
     to.transfer_reallocating(generation, from, |_old, taken, _new| taken.allow())

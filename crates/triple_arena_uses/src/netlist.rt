@@ -3,13 +3,16 @@
 //!
 //! Its compaction is proved to keep the wires: they are the old ones, both ends of each renamed.
 
-ghost use Rattle.std.specs.Prelude.{◌≡◌, ◌≢◌, map, None, Some, IfOk, OnErr, option_copied};
+ghost use Rattle.std.specs.Prelude.{◌≡◌, ◌≢◌, ◌<◌, map, false, None, Some, IsOk, IfOk, OnErr, option_copied};
 ghost use Rattle.std.specs.Result.{IfErr};
 ghost use Rattle.triple_arena_base.specs.Held.{held_all};
 ghost use Rattle.triple_arena_base.specs.Invalidation.{allowed_option};
+ghost use Rattle.triple_arena.specs.Ending.{told};
+ghost use Rattle.triple_arena_ptr.specs.Numbers.{wraps};
 ghost use Rattle.triple_arena_ptr.specs.Pointers.{Pointer};
 ghost use Rattle.triple_arena.specs.Entries.{look_up};
-ghost use Rattle.triple_arena.specs.ArenaState.{arena_len};
+ghost use Rattle.triple_arena.specs.ArenaState.{arena_len, capacity, entry};
+ghost use Rattle.triple_arena.specs.Compression.{wraps_after};
 ghost use Rattle.triple_arena.specs.Walks.{values};
 ghost use Rattle.triple_arena_direct.specs.Renaming.{MapsPointers, first_unresolved, Refuses};
 ghost use Rattle.triple_arena_uses.specs.Netlist.{wires, rewired};
@@ -46,14 +49,16 @@ impl<P: Ptr, G: Recast<P>> Netlist<P, G> {
         }
     }
 
-    /// A new gate.
+    /// A new gate. No gate stood at its index. Refused as an insertion into an arena is; then nothing changes.
     pub fn add(&mut self, gate: G) -> Result<P, ReallocationError>
     where
         G: Drop,
         ensures found { IfOk result (λ p. look_up self.new.slots (P.numbers p) ≡ Some gate) }
+        ensures free { IfOk result (λ p. entry self.old (P.numbers p).0 ≡ None) }
         ensures others { IfOk result (λ p. (q : Pointer) → q.0 ≢ (P.numbers p).0
             → look_up self.new.slots q ≡ look_up self.old.slots q) }
         ensures refused { OnErr result (self.new ≡ self.old) }
+        ensures had_place { arena_len self.old < capacity self.old → IsOk result }
     {
         self.gates.insert(gate)
     }
@@ -76,7 +81,7 @@ impl<P: Ptr, G: Recast<P>> Netlist<P, G> {
     }
 
     /// Moves the gates to the indexes from 1 on, and renames every wire with them. The map tells the
-    /// new pointer of each gate.
+    /// new pointer of each gate, and the answer tells whether the counter wrapped (`answer`).
     ///
     /// Refused with the first wire that leads nowhere, or where there is a gate and memory is refused
     /// (`Refuses`); then nothing changes.
@@ -84,6 +89,9 @@ impl<P: Ptr, G: Recast<P>> Netlist<P, G> {
         &mut self,
         alloc: Global,
     ) -> Result<InvalidationOption<DirectArena<P, P>>, CompactError<P>>
+        ensures answer { IfOk result (λ answer. answer
+            ≡ told (wraps_after (wraps P.Gen.generations) false self.old) (allowed_option answer)) }
+        ensures count { arena_len self.new ≡ arena_len self.old }
         ensures renamed { IfOk result (λ answer. (rename : Pointer → Pointer)
             × MapsPointers P.numbers rename self.old.slots (allowed_option answer).slots
             × (wires P.numbers G.held self.new.slots

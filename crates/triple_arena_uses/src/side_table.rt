@@ -47,21 +47,26 @@ impl Model for NotedEntities {
 }
 
 impl NotedEntities {
-    /// Room for so many entities, and as many notes.
+    /// Room for so many entities, and as many notes, and none of either yet.
     pub fn with_room(alloc: Global, room: usize) -> Result<Self, AllocError>
-        ensures { IfOk result (λ table. (q : Pointer) → look_up table.notes.slots q ≡ None) }
+        ensures none { IfOk result (λ table. (q : Pointer) → look_up table.notes.slots q ≡ None) }
+        ensures room { IfOk result (λ table. (room ≤ capacity table.entities)
+            × (room ≤ direct_capacity table.notes)) }
     {
         let entities = Arena::with_min_capacity(alloc, room)?;
         let notes = DirectArena::with_min_capacity(alloc, room)?;
         Ok(NotedEntities { entities, notes })
     }
 
-    /// A new entity of this health, with a note.
+    /// A new entity of this health, with a note. No note stood under its pointer. No clause says which
+    /// health the entity has.
     ///
     /// Refused only where there is no room for one of the two; then nothing changes.
     pub fn spawn(&mut self, health: u32, note: u64) -> Result<P0, NotWithinCapacityError>
         ensures noted { IfOk result
             (λ p. look_up self.new.notes.slots (p0_numbers p) ≡ Some note) }
+        ensures free { IfOk result
+            (λ p. look_up self.old.notes.slots (p0_numbers p) ≡ None) }
         ensures others { IfOk result (λ p. (q : Pointer) → q ≢ p0_numbers p
             → look_up self.new.notes.slots q ≡ look_up self.old.notes.slots q) }
         ensures refused { OnErr result (self.new ≡ self.old) }

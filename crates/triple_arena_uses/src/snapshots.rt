@@ -23,7 +23,7 @@ pub fn keep<P: Ptr, A: CompactArenaTrait<P, u64>, B: ArenaCloneFromWith<P, u64>>
 }
 
 /// Keeps a table as it is, and comes back to it: the entries of the table stay, under their pointers,
-/// and so does its capacity. `clones_keep_capacity` says the latter of any turns of clones; what it
+/// also in `kept`, and so does its capacity. `clones_keep_capacity` says the latter of any turns of clones; what it
 /// asks of each, the clauses of the calls tell. Refused as `clone_from` is.
 pub fn keep_and_come_back<
     P: Ptr,
@@ -31,6 +31,7 @@ pub fn keep_and_come_back<
     B: CompactArenaTrait<P, u64> + ArenaCloneFromWith<P, u64>,
 >(table: &mut A, kept: &mut B) -> Result<(), CloneFromError<AllocError>>
     ensures same_entries { OnOk result (KeepsEntries (A.slots table.old) (A.slots table.new)) }
+    ensures kept { OnOk result (KeepsEntries (A.slots table.old) (B.slots kept.new)) }
     ensures same_capacity { OnOk result (A.capacity table.new ≡ A.capacity table.old) }
 {
     laws::clones_keep_capacity::<P, u64, u64, A, B>();

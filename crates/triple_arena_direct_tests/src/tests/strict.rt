@@ -280,15 +280,15 @@ fn room_is_as_that_of_an_arena(rt: HostRuntime) {
 }
 
 fn takes_thousands<A: Strict>(rt: &impl Abort, nodes: &mut A) {
-    for number in 1..=5000 {
+    for number in 1..=50_000 {
         is(nodes.insert((0, None)), Ok(pointer(number, 2))).expect(rt, "an insertion");
     }
-    for number in 5001..=10_000 {
+    for number in 50_001..=100_000 {
         let inserted = nodes.insert_reallocating((0, None));
         is(inserted, Ok(pointer(number, 2))).expect(rt, "an insertion that reallocates");
     }
-    is(nodes.len(), 10_000).expect(rt, "the length");
-    is(nodes.capacity(), 16_384).expect(rt, "the capacity");
+    is(nodes.len(), 100_000).expect(rt, "the length");
+    is(nodes.capacity(), 131_072).expect(rt, "the capacity");
 }
 
 #[test]

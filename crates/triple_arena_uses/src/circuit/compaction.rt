@@ -29,7 +29,7 @@ impl Circuit {
     /// sides. The maps tell the new pointers, of the cells and of the nets.
     ///
     /// Refused exactly where a net leads to a cell that isn't there, or a cell reads a net that isn't,
-    /// with the first such pointer, one to a cell before one to a net; or where memory is refused
+    /// with such a pointer, one to a cell before one to a net; or where memory is refused
     /// (`BothStay`). Then nothing changes, of the cells or of the nets.
     pub fn compact(
         &mut self,
@@ -74,7 +74,7 @@ impl Circuit {
     /// Moves the cells to the indexes from 1 on, and renames them in every net. The map tells the
     /// new pointer of each cell.
     ///
-    /// Refused exactly where a net leads to a cell that isn't there, with the first such pointer, or
+    /// Refused exactly where a net leads to a cell that isn't there, with such a pointer, or
     /// where there is a cell and memory is refused (`CellsStay`); then nothing changes.
     pub fn compact_cells(
         &mut self,
@@ -103,7 +103,7 @@ impl Circuit {
     /// Moves the nets to the indexes from 1 on, and renames them in every cell. The map tells the
     /// new pointer of each net.
     ///
-    /// Refused exactly where a cell reads a net that isn't there, with the first such pointer, or
+    /// Refused exactly where a cell reads a net that isn't there, with such a pointer, or
     /// where there is a net and memory is refused (`NetsStay`); then nothing changes.
     pub fn compact_nets(
         &mut self,

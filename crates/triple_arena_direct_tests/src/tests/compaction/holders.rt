@@ -37,7 +37,7 @@ fn a_holder_follows(rt: HostRuntime) {
 }
 
 // How many nodes are compacted beside a vector of the pointers to them.
-const MANY: usize = 5000;
+const MANY: usize = 150_000;
 
 // The node of a number, with a link to the next one, which the last has not: the indexes are by so many
 // above the numbers.

@@ -31,34 +31,34 @@ impl Trial for RunsMany {
 }
 
 #[test]
-fn a_run_of_tens_of_thousands_of_commands_is_answered(rt: HostRuntime) {
-    let trial = RunsMany { commands: 70_000 };
+fn a_run_of_hundreds_of_thousands_of_commands_is_answered(rt: HostRuntime) {
+    let trial = RunsMany { commands: 210_000 };
     try_new(&rt, rt.alloc(), Kind::General, &trial);
 }
 
 #[test]
-fn a_strict_run_of_tens_of_thousands_of_commands_is_answered(rt: HostRuntime) {
-    let trial = RunsMany { commands: 70_000 };
+fn a_strict_run_of_hundreds_of_thousands_of_commands_is_answered(rt: HostRuntime) {
+    let trial = RunsMany { commands: 210_000 };
     try_new(&rt, rt.alloc(), Kind::Strict, &trial);
 }
 
-// A text of 70,000 insertions is answered by as many names, and the next one counts their entries.
+// A text of 210,000 insertions is answered by as many names, and the next one counts their entries.
 struct RunsLines;
 
 impl Trial for RunsLines {
     fn pass(&self, rt: &impl Abort, alloc: Global, session: &mut impl Asked) {
         let (mut text, mut given) = (String::new(alloc), String::new(alloc));
-        for name in 1..=70_000 {
+        for name in 1..=210_000 {
             text.push_str("insert 7 -\n").expect(rt, "memory");
             writeln!(given, "given {name}").expect(rt, "memory");
         }
         answers_text(rt, alloc, session, text.as_bytes(), given.as_bytes());
-        answers_text(rt, alloc, session, b"len\n", b"count 70000\n");
+        answers_text(rt, alloc, session, b"len\n", b"count 210000\n");
     }
 }
 
 #[test]
-fn a_strict_text_of_tens_of_thousands_of_lines_is_answered(rt: HostRuntime) {
+fn a_strict_text_of_hundreds_of_thousands_of_lines_is_answered(rt: HostRuntime) {
     try_new(&rt, rt.alloc(), Kind::Strict, &RunsLines);
 }
 

@@ -8,11 +8,9 @@ use Rattle.triple_arena_session.specs.StoreText.{first_store}
 use Rattle.triple_arena_session.specs.ElevenCommands.{eleven_commands}
 use Rattle.triple_arena_session_uses.proofs.compactions.answers_to_eleven.Goals as goal
 
-pub returns : goal.returns
-returns c =
-    record {
-      nine = IfOk-weaker c.answers.result _ _ (λ replies unseen. λ many enough.
-          let whole : take (length replies.items) eleven_commands ≡ eleven_commands = ap (λ n. take n eleven_commands) many in
-          let Unseen : List (Command ℕ) → Type 0 = λ ran. list_all is_named ran ≡ true → list_any is_no_memory replies.items ≡ false → seen ran replies.items ≡ ample (first_store Heap) (erase ran) in
-          subst Unseen whole unseen refl enough ∙ c.eleven_commands_answered.ensures.store) c.answers.ensures.unseen;
-    }
+pub returns-clause-nine : goal.returns-clause-nine
+returns-clause-nine c =
+    IfOk-weaker c.answers.result _ _ (λ replies unseen. λ many enough.
+    let whole : take (length replies.items) eleven_commands ≡ eleven_commands = ap (λ n. take n eleven_commands) many in
+    let Unseen : List (Command ℕ) → Type 0 = λ ran. list_all is_named ran ≡ true → list_any is_no_memory replies.items ≡ false → seen ran replies.items ≡ ample (first_store Heap) (erase ran) in
+    subst Unseen whole unseen refl enough ∙ c.eleven_commands_answered.ensures.store) c.answers.ensures.unseen

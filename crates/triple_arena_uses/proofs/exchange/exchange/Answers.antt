@@ -1,8 +1,9 @@
-use Rattle.std.proofs.Common.{◌≡◌, ◌≢◌, ℕ, ◌+◌, ◌<◌, ◌≤◌, ◌++◌, [], ◌∷◌, ◌∙◌, List, Bool, true, false, Option, Some, None, is_some, IsSome, Result, Ok, Err, IsOk, IfOk, OnOk, OnErr, refl, sym, ap, subst, arith, true≢false}
+use Rattle.std.proofs.Common.{◌≡◌, ◌≢◌, ℕ, ◌+◌, ◌<◌, ◌≤◌, ◌++◌, [], ◌∷◌, ◌∙◌, List, Bool, true, false, Option, Some, None, is_some, IsSome, Result, Ok, Err, IsOk, IfOk, OnOk, OnErr, ◌↔◌, refl, sym, ap, subst, arith, true≢false}
 use Rattle.std.proofs.lemmas.List.{append-nil}
 use Rattle.std.specs.Option.{option_and_then}
 use Rattle.triple_arena_ptr.specs.Numbers.{Generations, raise}
 use Rattle.triple_arena_ptr.specs.Pointers.{Pointer}
+use Rattle.triple_arena_stack.specs.Capacity.{IsFullAtLimit}
 use Rattle.triple_arena_stack.specs.StackKind.{StackKind}
 use Rattle.triple_arena_stack.specs.StackKind.StackKind.{heap}
 use Rattle.triple_arena.specs.Entries.{entry_in, look_up, value_of_generation}
@@ -56,6 +57,20 @@ module _ {T : Type 0} where
   unchanged s m t (Ok x) (Err e) same stays place = absurd (true≢false (sym place))
   unchanged s m t (Err d) (Err e) same stays place = subst (IsTouched s) (sym stays) same
 
+  -- where none came out, what stood under its pointer stays, unless the other stands at its index
+  kept_through : {A E B F : Type 0} (numbers : B → Pointer) (s m t : ArenaState T) (p : Pointer) (out : Result A E) (put : Result B F) → OnErr out (IsTouched s m)
+      → IfOk put (λ r. (q : Pointer) → q.0 ≢ (numbers r).0 → look_up t.slots q ≡ look_up m.slots q)
+      → OnErr out (IfOk put (λ r. p.0 ≢ (numbers r).0 → look_up t.slots p ≡ look_up s.slots p))
+  kept_through numbers s m t p (Ok x) put same stays = tt
+  kept_through numbers s m t p (Err e) (Ok r) same stays = λ apart. stays p apart ∙ ap (λ (a : ArenaState T). look_up a.slots p) same.0
+  kept_through numbers s m t p (Err e) (Err f) same stays = tt
+
+  -- and the arena is full at its limit exactly where it was
+  full_as_was : {A E : Type 0} (Q : Type 0) (s m : ArenaState T) (out : Result A E) → OnErr out (IsTouched s m)
+      → (Q ↔ IsFullAtLimit (capacity m) m.limit (arena_len m)) → OnErr out (Q ↔ IsFullAtLimit (capacity s) s.limit (arena_len s))
+  full_as_was Q s m (Ok x) same exact = tt
+  full_as_was Q s m (Err e) same exact = subst (λ (a : ArenaState T). Q ↔ IsFullAtLimit (capacity a) a.limit (arena_len a)) same.0 exact
+
   -- what neither call is at stays through both
   stays_through : {B F : Type 0} (numbers : B → Pointer) (s m t : ArenaState T) (p : Pointer) (put : Result B F) → ((q : Pointer) → q ≢ p → look_up m.slots q ≡ look_up s.slots q)
       → IfOk put (λ r. (q : Pointer) → q.0 ≢ (numbers r).0 → look_up t.slots q ≡ look_up m.slots q)
@@ -98,6 +113,15 @@ returns-clause-refused g c =
     (c.insert-put.ensures.had_place
     (place_after (raise gens) c.args.arena.now c.remove-taken.new.self (g.P.Ptr.numbers c.args.p) (is_exhausted gens c.args.arena.now)
     c.remove-taken.result c.remove-taken.ensures.answer c.len-len.ensures.fits c.remove-taken.ensures.done ok)).0))
+
+pub returns-clause-kept : goal.returns-clause-kept
+returns-clause-kept g c =
+    kept_through g.P.Ptr.numbers c.args.arena.now c.remove-taken.new.self c.insert-put.new.self (g.P.Ptr.numbers c.args.p) c.remove-taken.result c.insert-put.result
+    c.remove-taken.ensures.refused c.insert-put.ensures.others
+
+pub returns-clause-beyond : goal.returns-clause-beyond
+returns-clause-beyond g c =
+    full_as_was _ c.args.arena.now c.remove-taken.new.self c.remove-taken.result c.remove-taken.ensures.refused c.insert-put.ensures.beyond
 
 pub returns-clause-given_once : goal.returns-clause-given_once
 returns-clause-given_once g c counting h fits =

@@ -6,6 +6,7 @@ use Rattle.triple_arena_uses.proofs.snapshots.keep_and_come_back.Goals as goal
 pub returns : goal.returns
 returns g c = record {
   same_entries = on_ok c.clone_from-2.result _ (λ x is i. (rw is at c.clone_from-2.ensures.entries) i ∙ c.in_ok-clone_from.ensures.entries i);
+  kept = on_ok c.clone_from-2.result _ (λ x is i. c.in_ok-clone_from.ensures.entries i);
   same_capacity =
       on_ok c.clone_from-2.result _ (λ x is.
       let one_kind = clonable g.A.ArenaTrait.slots g.A.ArenaTrait.capacity g.A.ArenaCloneFromWith.clones in

@@ -192,7 +192,7 @@ fn each_call_over_an_arena(rt: HostRuntime) {
 }
 
 // How many entries a large ring has, before one in three is taken out.
-const COUNT: u64 = 9_000;
+const COUNT: u64 = 36_000;
 
 // The value that stands after one in that ring.
 fn next_value(value: u64) -> u64 {
@@ -260,5 +260,5 @@ fn ring_of_thousands<
 #[test]
 fn a_ring_of_thousands_is_compressed_and_walked(rt: HostRuntime) {
     let count = ring_of_thousands::<P0, Arena<P0, Link<P0, u64>>>(&rt, rt.alloc());
-    is(count, 6_000).expect(&rt, "each that is left, once");
+    is(count, 24_000).expect(&rt, "each that is left, once");
 }

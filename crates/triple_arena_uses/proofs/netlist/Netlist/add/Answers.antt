@@ -6,5 +6,8 @@ returns-clause-found g c = c.insert.ensures.found
 pub returns-clause-others : goal.returns-clause-others
 returns-clause-others g c = rw (← c.self.view_is) c.insert.ensures.others
 
+pub returns-clause-free : goal.returns-clause-free
+returns-clause-free g c = rw (← c.self.view_is) c.insert.ensures.free
+
 pub returns-clause-refused : goal.returns-clause-refused
 returns-clause-refused g c = rw (← c.self.view_is) c.insert.ensures.refused

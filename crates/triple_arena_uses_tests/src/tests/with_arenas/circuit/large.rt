@@ -9,7 +9,7 @@ use triple_arena_test_kit::{Numbered, is, pointer};
 use triple_arena_uses::circuit::Circuit;
 
 // How many cells are added, and how many nets.
-const COUNT: usize = 100_000;
+const COUNT: usize = 150_000;
 
 // How often one cell is connected to one net.
 const SINKS: usize = 70_000;

@@ -1,5 +1,4 @@
 //! What no clause of the users says: that their calls succeed where memory is there, and worked examples.
 
-mod chains;
 mod with_arenas;
 mod without_arenas;

@@ -28,8 +28,10 @@ ghost use Rattle.triple_arena_direct.specs.StrictCalls.{IsStrictStep, to_insert,
 mod ending;
 mod insert_entry;
 mod insertion;
+mod leaving;
 mod look_ups;
 mod room;
+mod walks;
 mod writing;
 
 use crate::errors::{StrictCompactError, StrictError};

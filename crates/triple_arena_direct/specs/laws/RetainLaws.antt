@@ -2,7 +2,7 @@
 use Rattle.std.proofs.Common.{◌≡◌, ◌≢◌, ℕ, ◌+◌, ◌<◌, ◌≤◌, ◌==◌, ◌&&◌, ◌||◌, Bool, true, false, not, cond, List, [], ◌∷◌, is_some, refl, sym, ap, ◌∙◌, inl, inr, arith, true≢false, if◌then◌else◌}
 use Rattle.std.specs.Prelude.{filter}
 use Rattle.std.specs.Option.{option_and_then}
-use Rattle.std.proofs.lemmas.Bool.{cases_eq, cases_Bool, and_parts}
+use Rattle.std.proofs.lemmas.Bool.{cases_eq}
 use Rattle.triple_arena_ptr.specs.Numbers.{Generations, raise, wraps}
 use Rattle.triple_arena_ptr.specs.Pointers.{Pointer, is_same}
 use Rattle.triple_arena_traits.specs.Entries.{look_up, value_of_generation}
@@ -10,12 +10,12 @@ use Rattle.triple_arena_traits.specs.ArenaState.{ArenaState, entry, arena_len}
 use Rattle.triple_arena_traits.specs.Ending.{removed}
 use Rattle.triple_arena_traits.specs.Compression.{raised_if_any}
 use Rattle.triple_arena_traits.specs.Walks.{keys}
-use Rattle.triple_arena_traits.specs.Histories.{has, clearing, is_live, CountsUp, Fits, Continues}
+use Rattle.triple_arena_traits.specs.Histories.{has, clearing, is_live, Fits, Continues}
 use Rattle.triple_arena_traits.specs.laws.EntryLaws.{slots-removed}
 use Rattle.triple_arena_traits.specs.laws.ItemLaws.{eq_true, eq_false}
 use Rattle.triple_arena_traits.specs.laws.WellFormedLaws.{counter-removed}
 use Rattle.triple_arena_traits.specs.laws.PointerListLaws.{has-keys, same_is, live_in}
-use Rattle.triple_arena_traits.specs.laws.HistoryLaws.{MovesPointers, Continues-moved, Continues-none, Fits-empty}
+use Rattle.triple_arena_traits.specs.laws.HistoryLaws.{Continues-moved, Continues-none, Fits-empty}
 use Rattle.triple_arena_direct.specs.StrictAnswers.{is_exhausted_for_any}
 use Rattle.triple_arena_direct.specs.StrictRetain.{without_entries, ended_entries, pointers_lost}
 

@@ -1,5 +1,5 @@
 -- Laws of strict calls: each takes every history that fits to one that fits, where generations count.
-use Rattle.std.proofs.Common.{◌≡◌, ℕ, ◌||◌, Bool, true, false, not, List, [], ◌∷◌, Ok, refl, sym, subst, inl, inr, true≢false}
+use Rattle.std.proofs.Common.{◌≡◌, ◌||◌, Bool, true, false, not, List, [], ◌∷◌, Ok, refl, sym, inl, inr, true≢false}
 use Rattle.triple_arena_ptr.specs.Pointers.{Pointer}
 use Rattle.triple_arena_ptr.specs.Numbers.{Generations}
 use Rattle.triple_arena_stack.specs.StackKind.{StackKind}

@@ -8,3 +8,4 @@ mod Followed
 mod FollowedBoth
 mod Relations
 pub mod StrictAnswers
+mod StrictSteps

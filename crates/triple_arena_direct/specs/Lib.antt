@@ -2,7 +2,9 @@
 pub mod Renaming
 pub mod RenamingBoth
 pub mod StrictAnswers
+pub mod StrictRetain
 pub mod StrictCalls
+pub mod StrictInsertEntry
 pub mod Gone
 pub mod laws
 -- What clauses of callers name of the inner crate behind this door: direct arenas.

@@ -2,6 +2,7 @@
 pub mod RenamingLaws
 pub mod RenamingBothLaws
 pub mod GoneLaws
+pub mod RetainLaws
 pub mod StrictAnswerLaws
 -- Of direct arenas.
 pub use Rattle.triple_arena_direct_arena.specs.laws.DirectSlotLaws

@@ -46,3 +46,25 @@ pub enum CompactBothError<I, J> {
     #[error("the compaction of the second arena was refused: {0}")]
     Second(CompactError<J>),
 }
+
+/// Neither of two strict arenas was compacted, and nothing changed.
+#[derive(Clone, Copy, Debug, PartialEq, Eq, Error)]
+pub enum StrictCompactBothError<I, J> {
+    /// The counter of one of them would have to be raised past the greatest generation.
+    #[error("the generation counter of an arena is at its greatest value")]
+    Exhausted,
+    /// Both could be raised, and the compaction was refused.
+    #[error("the compaction of two arenas was refused")]
+    Compact(CompactBothError<I, J>),
+}
+
+impl<I, J> From<CompactBothError<I, J>> for StrictCompactBothError<I, J> {
+    ghost use Rattle.std.specs.Prelude.{◌≡◌};
+    ghost use Rattle.triple_arena_direct.specs.declared.errors.StrictCompactBothError.TheVariants.{Compact};
+
+    ghost from_gives = { λ refusal e. e ≡ Compact refusal };
+
+    fn from(refusal: CompactBothError<I, J>) -> StrictCompactBothError<I, J> {
+        StrictCompactBothError::Compact(refusal)
+    }
+}

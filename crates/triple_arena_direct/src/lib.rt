@@ -12,11 +12,11 @@ mod strict_arena;
 pub mod strict_laws;
 mod text;
 
-pub use errors::{CompactBothError, StrictCompactError, StrictError};
+pub use errors::{CompactBothError, StrictCompactBothError, StrictCompactError, StrictError};
 pub use reading::Reading;
 pub use renaming::{compress_recast, compress_recast_with, compress_recaster, unresolved};
 pub use renaming_both::compress_recast_both;
-pub use strict_arena::StrictArena;
+pub use strict_arena::{StrictArena, StrictInsertEntry};
 pub use triple_arena_direct_arena::{
     ArenaDirectInsertEntry, DirectArena, DirectSlot, direct_arena_iterators, laws,
 };

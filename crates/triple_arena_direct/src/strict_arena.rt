@@ -25,8 +25,19 @@ ghost use Rattle.triple_arena_direct.specs.Gone.{IsGoneForGood};
 ghost use Rattle.triple_arena_direct.specs.StrictAnswers.{is_exhausted, is_exhausted_for_any, strict_of, strict_all, calls_if_ok, RefusesStrictly};
 ghost use Rattle.triple_arena_direct.specs.StrictCalls.{IsStrictStep, to_insert, to_write, to_remove, to_invalidate, to_clear, to_compress, to_reallocate};
 
+mod both;
+mod ending;
+mod insert_entry;
+mod insertion;
+mod leaving;
+mod look_ups;
+mod room;
+mod walks;
+mod writing;
+
 use crate::errors::{StrictCompactError, StrictError};
 use crate::{compress_recast, compress_recast_with};
+pub use insert_entry::StrictInsertEntry;
 use std::alloc::Global;
 use std::marker::Model;
 use triple_arena::arena_iterators::{Iter, Ptrs, Vals};

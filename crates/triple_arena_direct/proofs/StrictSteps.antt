@@ -1,0 +1,46 @@
+-- Steps of a strict arena, as its calls take them.
+use Rattle.std.proofs.Common.{◌≡◌, ℕ, ◌<◌, ◌∷◌, [], List, Option, Some, Result, Ok, Err, IfOk, OnOk, OnErr, refl, ap, inl, inr, arith}
+use Rattle.std.specs.Borrow.{MutBor}
+use Rattle.std.specs.Fn.{Once}
+use Rattle.triple_arena_ptr.specs.Numbers.{Generations}
+use Rattle.triple_arena_ptr.specs.Pointers.{Pointer}
+use Rattle.triple_arena_stack.specs.StackKind.{StackKind}
+use Rattle.triple_arena_stack.specs.Disjoint.{Worked}
+use Rattle.triple_arena_traits.specs.Entries.{entry_in, look_up}
+use Rattle.triple_arena_traits.specs.ArenaState.{ArenaState, arena_len, capacity, with_value, IsWellFormed}
+use Rattle.triple_arena_traits.specs.Insertion.{next_pointer, inserted}
+use Rattle.triple_arena_traits.specs.SlotSteps.{IsTouched, touched, insertion_steps}
+use Rattle.triple_arena_traits.specs.FreeList.{tidied}
+use Rattle.triple_arena_traits.specs.Reallocation.{with_limit}
+use Rattle.triple_arena_traits.specs.DisjointEntries.{WorkedAtEntries}
+use Rattle.triple_arena_traits.specs.Histories.{insertion, resizing}
+use Rattle.triple_arena_traits.specs.laws.EntryLaws.{same-grown}
+use Rattle.triple_arena_traits.specs.laws.ItemLaws.{eq_true}
+use Rattle.triple_arena_direct.specs.StrictCalls.{IsStrictStep, to_insert, to_write_each, to_limit}
+
+-- an entry is found under its pointer
+pub found_at : {T : Type 0} (slots : List (Option (ℕ × T))) (i generation : ℕ) (value : T) → entry_in slots i ≡ Some (generation, value) → look_up slots (i, generation) ≡ Some value
+found_at slots i generation value there = rw (there, eq_true generation generation refl) refl
+
+module _ {T : Type 0} (kind : StackKind) (generations : Generations) where
+  module _ {F R : Type 0} (calls : Once F (MutBor T × (MutBor T × Unit {0})) (R × (MutBor T × (MutBor T × Unit {0})))) where
+    -- two values were written, or none
+    pub wrote_two : {E : Type 0} (s t : ArenaState T) (p q : Pointer) (r : Result R E) (f : F) (first second : Option T) → IfOk r (λ x. Worked calls f first second x (λ a b. t ≡ with_value (with_value s p.0 a) q.0 b)) → OnOk r ((a b : T) × IsStrictStep kind generations s (to_write_each (p ∷ q ∷ []) (a ∷ b ∷ [])) [] t)
+    wrote_two s t p q (Ok x) f first second worked = (worked.first_left, worked.second_left, (refl, worked.left))
+    wrote_two s t p q (Err e) f first second worked = tt
+
+  -- and so at two indexes
+  pub wrote_two_at : {F G R E : Type 0} (number : G → ℕ) (calls : Once F (G × (MutBor T × (G × (MutBor T × Unit {0})))) (R × (MutBor T × (MutBor T × Unit {0})))) (s t : ArenaState T) (i j : ℕ) (r : Result R E) (f : F) (first second : Option (ℕ × T)) → IfOk r (λ x. WorkedAtEntries number calls f first second x (λ a b. t ≡ with_value (with_value s i a) j b)) → OnOk r ((p q : Pointer) × (a b : T) × (p.0 ≡ i) × (q.0 ≡ j) × IsStrictStep kind generations s (to_write_each (p ∷ q ∷ []) (a ∷ b ∷ [])) [] t)
+  wrote_two_at number calls s t i j (Ok x) f first second worked =
+      ((i, number worked.first_under), (j, number worked.second_under), worked.first_left, worked.second_left, refl, refl, (refl, worked.left))
+  wrote_two_at number calls s t i j (Err e) f first second worked = tt
+
+  -- a limit that was set, or refused
+  pub limited : {A E : Type 0} (s t : ArenaState T) (x : ℕ) (r : Result A E) → OnOk r (IsTouched (with_limit s x) t) → OnErr r (IsTouched (tidied s) t) → IsStrictStep kind generations s (to_limit x) (resizing ∷ []) t
+  limited s t x (Ok a) done refused = (refl, inl done)
+  limited s t x (Err e) done refused = (refl, inr refused)
+
+  -- an insertion where there is a place
+  pub reserved : (s t : ArenaState T) (p : Pointer) (value : T) → IsWellFormed s → arena_len s < capacity s → p ≡ next_pointer s → t ≡ touched (insertion_steps s) (inserted s value) → IsStrictStep kind generations s (to_insert value) (insertion p ∷ []) t
+  reserved s t p value well place pointer is =
+      (well, inr (ap (λ q. insertion q ∷ []) pointer, rw (same-grown kind s place, is) (refl, omega arith)))

@@ -1,0 +1,12 @@
+use Rattle.std.proofs.Common.{◌∷◌, []}
+use Rattle.triple_arena_traits.specs.Histories.{resizing}
+use Rattle.triple_arena_direct.specs.laws.GoneLaws.{up_to-continues, gone-continues}
+use Rattle.triple_arena_direct.proofs.strict_arena.StrictArena.remove_free_end_slots.Goals as goal
+
+pub invariant_of-self : goal.invariant_of-self
+invariant_of-self g c counts =
+    up_to-continues c.self.inside.arena c.remove_free_end_slots.new.self (c.self.invariant counts) (resizing ∷ []) c.remove_free_end_slots.ensures.history
+
+pub returns-clause-stays_gone : goal.returns-clause-stays_gone
+returns-clause-stays_gone g c =
+    rw (← c.self.view_is) (λ counts. gone-continues c.self.inside.arena c.remove_free_end_slots.new.self (c.self.invariant counts) (resizing ∷ []) c.remove_free_end_slots.ensures.history)

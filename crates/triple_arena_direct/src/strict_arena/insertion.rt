@@ -1,0 +1,76 @@
+//! Insertion into a strict arena that has a place.
+
+ghost use Rattle.std.specs.Prelude.{◌≡◌, ◌≢◌, ◌<◌, ◌↔◌, ◌∷◌, true, [], IsOk, OnOk, OnErr, Some, None, Err};
+ghost use Rattle.triple_arena_ptr.specs.Numbers.{greatest_index};
+ghost use Rattle.triple_arena_ptr.specs.Pointers.{Pointer};
+ghost use Rattle.triple_arena_stack.specs.Capacity.{IsFullAtLimit, CanGrow};
+ghost use Rattle.triple_arena_traits.specs.Entries.{look_up};
+ghost use Rattle.triple_arena_traits.specs.ArenaState.{arena_len, capacity, entry, IsWellFormed};
+ghost use Rattle.triple_arena_traits.specs.Insertion.{next_pointer, inserted};
+ghost use Rattle.triple_arena_traits.specs.SlotSteps.{RisesByAtMost, touched, insertion_steps};
+ghost use Rattle.triple_arena_traits.specs.Reallocation.{grown};
+ghost use Rattle.triple_arena_traits.specs.Histories.{insertion, Fits, Continues};
+ghost use Rattle.triple_arena_direct.specs.Gone.{IsGoneForGood};
+ghost use Rattle.triple_arena_direct.specs.StrictCalls.{IsStrictStep, to_insert};
+
+use super::StrictArena;
+use triple_arena::{ArenaInsertTrait, ArenaSlot};
+use triple_arena_base::ReallocationError;
+use triple_arena_ptr::{Ptr, PtrGen, PtrInx};
+use triple_arena_stack::NonZeroInxGenericStack;
+
+impl<P: Ptr, T, S: NonZeroInxGenericStack<ArenaSlot<P, T>>> StrictArena<P, T, S> {
+    /// The pointer that the next insertion gives, on the condition that there is a place without
+    /// growth, which `len` and `capacity` tell. No entry stands at its index, and it is none that is
+    /// gone for good.
+    pub fn next_ptr(&self) -> P
+        requires { arena_len self.now < capacity self.now }
+        ensures pointer { P.numbers result ≡ next_pointer self.now }
+        ensures free { entry self.now (P.numbers result).0 ≡ None }
+        ensures new { (q : Pointer) → IsGoneForGood self.now q → P.numbers result ≢ q }
+    {
+        self.arena.next_ptr()
+    }
+
+    /// Inserts `t` where no entry stood, and gives its pointer, on the condition that there is a
+    /// place without growth, which `len` and `capacity` tell. It takes no memory, and touches at most
+    /// 6 slots.
+    pub fn insert_reserved(&mut self, t: T) -> P
+        requires { arena_len self.old < capacity self.old }
+        ensures pointer { P.numbers result ≡ next_pointer self.old }
+        ensures free { entry self.old (P.numbers result).0 ≡ None }
+        ensures inserted { self.new ≡ touched (insertion_steps self.old) (inserted self.old t) }
+        ensures well_formed { IsWellFormed self.old }
+        ensures bounded { RisesByAtMost 6 self.old.steps self.new.steps }
+        ensures step { IsStrictStep S.kind P.Gen.generations
+            self.old (to_insert t) (insertion (P.numbers result) ∷ []) self.new }
+        ensures history { Continues Fits self.old (insertion (P.numbers result) ∷ []) self.new }
+        ensures new { (q : Pointer) → IsGoneForGood self.old q → P.numbers result ≢ q }
+        ensures stays_gone { P.Gen.generations.counting ≡ true
+            → (q : Pointer) → IsGoneForGood self.old q → IsGoneForGood self.new q }
+    {
+        self.arena.insert_reserved(t)
+    }
+
+    // Grows where there are as many entries as the capacity: by a place for a value, which is let go.
+    pub(super) fn grow_if_full(&mut self) -> Result<(), ReallocationError>
+        ensures done { OnOk result (self.new ≡ grown S.kind self.old) }
+        ensures refused { OnErr result (self.new ≡ self.old) }
+        ensures has_place { OnOk result (arena_len self.new < capacity self.new) }
+        ensures beyond { (result ≡ Err ReallocationError.BeyondMaxCapacity)
+            ↔ IsFullAtLimit (capacity self.old) self.old.limit (arena_len self.old) }
+        ensures with_memory { CanGrow S.has_memory (capacity self.old) self.old.limit
+            (greatest_index P.Inx.greatest) → IsOk result }
+        ensures indexed { OnOk result (arena_len self.old ≡ capacity self.old
+            → capacity self.old < greatest_index P.Inx.greatest) }
+        ensures had_place { arena_len self.old < capacity self.old → IsOk result × (self.new ≡ self.old) }
+        ensures well_formed { IsWellFormed self.old }
+        ensures history { Continues Fits self.old [] self.new }
+    {
+        match self.arena.entry_insert_reallocating() {
+            Ok(place) => drop(place),
+            Err(refusal) => return Err(refusal),
+        }
+        Ok(())
+    }
+}

@@ -1,0 +1,79 @@
+//! The limit of a strict arena, and its free list.
+
+ghost use Rattle.std.specs.Prelude.{◌≡◌, ◌+◌, ◌-◌, ◌*◌, ◌↔◌, ◌∷◌, true, false, [], IsOk, OnOk, OnErr};
+ghost use Rattle.triple_arena_ptr.specs.Pointers.{Pointer};
+ghost use Rattle.triple_arena_traits.specs.Items.{item};
+ghost use Rattle.triple_arena_traits.specs.Entries.{look_up};
+ghost use Rattle.triple_arena_traits.specs.ArenaState.{slot_count, arena_len, capacity, is_free};
+ghost use Rattle.triple_arena_traits.specs.SlotSteps.{RisesByAtMost, IsTouched};
+ghost use Rattle.triple_arena_traits.specs.FreeList.{tidied, without_free_end, IsTidied};
+ghost use Rattle.triple_arena_traits.specs.Reallocation.{EndsBy, with_limit};
+ghost use Rattle.triple_arena_traits.specs.Histories.{resizing, Fits, Continues};
+ghost use Rattle.triple_arena_direct.specs.Gone.{IsGoneForGood};
+ghost use Rattle.triple_arena_direct.specs.StrictCalls.{IsStrictStep, to_limit, to_tidy, to_give_up_end};
+
+use super::StrictArena;
+use triple_arena::ArenaSlot;
+use triple_arena_base::MaxCapacityReductionError;
+use triple_arena_ptr::{Ptr, PtrGen};
+use triple_arena_stack::{NonZeroInxGenericStack, SetMaxCapacity};
+
+impl<P: Ptr, T, S: NonZeroInxGenericStack<ArenaSlot<P, T>>> StrictArena<P, T, S> {
+    /// Tidies the free list: gives up the free slots past the last entry, and puts the other free
+    /// indexes in rising order.
+    pub fn canonicalize_freelist(&mut self)
+        ensures state { IsTouched (tidied self.old) self.new }
+        ensures tidied { IsTidied self.old self.new }
+        ensures step { IsStrictStep S.kind P.Gen.generations
+            self.old to_tidy (resizing ∷ []) self.new }
+        ensures history { Continues Fits self.old (resizing ∷ []) self.new }
+        ensures stays_gone { P.Gen.generations.counting ≡ true
+            → (q : Pointer) → IsGoneForGood self.old q → IsGoneForGood self.new q }
+    {
+        self.arena.canonicalize_freelist();
+    }
+
+    /// Gives up the free slots past the last entry. The other free indexes keep their order, and no
+    /// entry moves.
+    ///
+    /// It takes no memory, and touches at most 6 slots for each that it gives up, and 2 more.
+    pub fn remove_free_end_slots(&mut self)
+        ensures state { IsTouched (without_free_end self.old) self.new }
+        ensures bounded { RisesByAtMost (6 * (slot_count self.old - slot_count self.new) + 2)
+            self.old.steps self.new.steps }
+        ensures kept { (q : Pointer) → look_up self.new.slots q ≡ look_up self.old.slots q }
+        ensures same_len { arena_len self.new ≡ arena_len self.old }
+        ensures same_capacity { capacity self.new ≡ capacity self.old }
+        ensures ends_live { is_free (item self.new.slots (slot_count self.new)) ≡ false }
+        ensures step { IsStrictStep S.kind P.Gen.generations
+            self.old to_give_up_end (resizing ∷ []) self.new }
+        ensures history { Continues Fits self.old (resizing ∷ []) self.new }
+        ensures stays_gone { P.Gen.generations.counting ≡ true
+            → (q : Pointer) → IsGoneForGood self.old q → IsGoneForGood self.new q }
+    {
+        self.arena.remove_free_end_slots();
+    }
+}
+
+impl<P: Ptr, T, S: SetMaxCapacity<ArenaSlot<P, T>>> StrictArena<P, T, S> {
+    /// Sets the limit to `max_capacity`, a number of slots. It takes no memory, and the room stays:
+    /// the capacity is then the smallest of room, limit and greatest index.
+    ///
+    /// Where the new limit is below the old one and the capacity, first the free list is
+    /// tidied, as by `canonicalize_freelist`; that stays done where the limit is refused.
+    ///
+    /// Refused exactly where an entry stands at an index past `max_capacity`; then all stays but the
+    /// free list, which is tidied.
+    pub fn set_max_capacity(&mut self, max_capacity: usize) -> Result<(), MaxCapacityReductionError>
+        ensures variant { IsOk result ↔ EndsBy self.old max_capacity }
+        ensures done { OnOk result (IsTouched (with_limit self.old max_capacity) self.new) }
+        ensures refused { OnErr result (IsTouched (tidied self.old) self.new) }
+        ensures step { IsStrictStep S.kind P.Gen.generations
+            self.old (to_limit max_capacity) (resizing ∷ []) self.new }
+        ensures history { Continues Fits self.old (resizing ∷ []) self.new }
+        ensures stays_gone { P.Gen.generations.counting ≡ true
+            → (q : Pointer) → IsGoneForGood self.old q → IsGoneForGood self.new q }
+    {
+        self.arena.set_max_capacity(max_capacity)
+    }
+}

@@ -1,31 +1,29 @@
 //! The table of the pointers that were given, by name.
 
-ghost use Rattle.std.specs.Prelude.{◌≡◌, ◌+◌, ◌<◌, ◌++◌, ◌∷◌, [], length, map, nat_lt, true, None, Some, IsOk, IfSome, OnOk, OnErr};
+ghost use Rattle.std.specs.Prelude.{◌≡◌, ◌+◌, ◌<◌, ◌++◌, ◌∷◌, [], length, map, true, None, Some, IsOk, IfSome, OnOk, OnErr};
 ghost use Rattle.std.specs.List.{position};
+ghost use Rattle.std.specs.Option.{option_map};
 ghost use Rattle.triple_arena_base.specs.Held.{recast_item};
 ghost use Rattle.triple_arena_stack.specs.Capacity.{stack_capacity, most_places, room_for_one_more, HasPlace, CanGrow};
 ghost use Rattle.triple_arena_traits.specs.Items.{item, with_item};
 ghost use Rattle.triple_arena_ptr.specs.Pointers.{is_same};
 ghost use Rattle.triple_arena_commands.specs.PointerNames.{name_of};
-ghost use Rattle.triple_arena_commands.specs.NameLayout.{pointers_of, notes_of, Notes, RecastsAt};
+ghost use Rattle.triple_arena_commands.specs.NameLayout.{pointers_of, RecastsAt};
 
 use std::alloc::Global;
 use std::marker::Model;
 use std::num::NonZeroUsize;
 use triple_arena_base::{AllocError, ReallocationError, Recaster};
-use triple_arena_ptr::{Ptr, PtrGen, PtrInx};
+use triple_arena_ptr::Ptr;
 use triple_arena_stack::{NonZeroInxGenericStack, NonZeroInxStack, NonZeroInxVec};
 
 /// What a table keeps at one number.
 #[derive(Drop)]
-struct Row<P, G> {
+struct Row<P> {
     // The pointer of the name of this number.
     pointer: P,
     // The name that its entry is said to link to, or 0. A hint: what it tells is tried before it is used.
     link: usize,
-    // A generation at or above those of all pointers to the index of this number; 1 where there is no
-    // such pointer.
-    newest: G,
 }
 
 /// The pointers that were given, that of name 1 first, with room for so many of them.
@@ -33,26 +31,16 @@ struct Row<P, G> {
 /// The name of a pointer is the least place at which the table has it.
 #[derive(Drop)]
 pub struct NameTable<P: Ptr> {
-    rows: NonZeroInxVec<Row<P, P::Gen>>,
-    // Whether it is known that no pointer stands twice, and that each generation is noted. It is
-    // until a pointer comes that is no newer than all others of its index, as after a wrap, or has the
-    // generation 1, as where generations don't count.
-    distinct: bool,
+    rows: NonZeroInxVec<Row<P>>,
 }
 
 impl<P: Ptr> Model for NameTable<P> {
-    ghost use Rattle.std.specs.Prelude.{map};
     ghost use Rattle.triple_arena_stack.specs.StackState.{Roomed};
-    ghost use Rattle.triple_arena_commands.specs.NameLayout.{pointers_of, notes_of, Knows};
+    ghost use Rattle.triple_arena_commands.specs.NameLayout.{pointers_of};
 
     ghost Value = { Roomed P };
 
     ghost view = { λ t. record { items = pointers_of t.rows.items; room = t.rows.room } };
-
-    ghost invariant = { λ t. Knows t.distinct
-        (map P.numbers
-        (pointers_of t.rows.items))
-        (notes_of P.Gen.number t.rows.items) };
 }
 
 impl<P: Ptr> NameTable<P> {
@@ -63,7 +51,6 @@ impl<P: Ptr> NameTable<P> {
     {
         NameTable {
             rows: NonZeroInxVec::new(alloc),
-            distinct: true,
         }
     }
 
@@ -92,7 +79,7 @@ impl<P: Ptr> NameTable<P> {
     /// Pushes a pointer and gives its name, the number of its place, counted from 1. The table must
     /// have room, as after [`Self::make_room`]. It takes no memory, and the room stays.
     ///
-    /// The link is a hint for [`Self::link_name`]: the name that the entry of the pointer links to.
+    /// The link is a hint for [`Self::hinted_name`]: the name that the entry of the pointer links to.
     pub fn push(&mut self, p: P, link: Option<usize>) -> usize
         requires { length self.old.items < self.old.room }
         ensures number { result ≡ length self.old.items + 1 }
@@ -102,11 +89,8 @@ impl<P: Ptr> NameTable<P> {
         let row = Row {
             pointer: p,
             link: link.unwrap_or(0),
-            newest: P::Gen::one(),
         };
         let (inx, _row) = self.rows.push_reserved(row);
-        let newer = note(&mut self.rows, p);
-        self.distinct &= newer;
         inx.get()
     }
 
@@ -122,8 +106,6 @@ impl<P: Ptr> NameTable<P> {
             return;
         };
         row.pointer = p;
-        let newer = note(&mut self.rows, p);
-        self.distinct &= newer;
     }
 
     /// Replaces each pointer that has an image by this; the others stay, and so does the room. It
@@ -182,28 +164,24 @@ impl<P: Ptr> NameTable<P> {
         Some(row.pointer)
     }
 
-    /// The name of a pointer that the entry of the name `holder` links to: the least place at which
-    /// the table has it, and none exactly where it hasn't. It is found at once where the table has
-    /// the right hint, and else by looking through the table.
-    pub fn link_name(&self, holder: usize, p: P) -> Option<usize>
-        ensures { result ≡ name_of
-            (map P.numbers self.now.items)
-            (P.numbers p) }
+    /// The name that [`Self::hint`] gives of `holder`, if the table has this pointer at it. Where no pointer
+    /// stands twice in the table, that is the name of the pointer.
+    pub fn hinted_name(&self, holder: usize, p: P) -> Option<usize>
+        ensures { IfSome result (λ name. option_map P.numbers (item self.now.items name) ≡ Some (P.numbers p)) }
     {
         match self.hint(holder) {
-            Some(name) if self.is_name(name, p) => Some(name),
-            _ => self.search(p),
+            Some(name) if self.has_at(name, p) => Some(name),
+            _ => None,
         }
     }
 
-    // Whether it is known at once that a name is that of a pointer.
-    fn is_name(&self, name: usize, p: P) -> bool
-        ensures { result ≡ true → name_of
-            (map P.numbers self.now.items)
-            (P.numbers p) ≡ Some name }
+    // Whether the table has a pointer at the place of a name.
+    fn has_at(&self, name: usize, p: P) -> bool
+        ensures { result ≡ true
+            → option_map P.numbers (item self.now.items name) ≡ Some (P.numbers p) }
     {
         match self.pointer(name) {
-            Some(q) => self.distinct && are_same(q, p),
+            Some(q) => are_same(q, p),
             None => false,
         }
     }
@@ -215,8 +193,9 @@ impl<P: Ptr> NameTable<P> {
         if row.link == 0 { None } else { Some(row.link) }
     }
 
-    // The name of a pointer, by looking through the table.
-    fn search(&self, p: P) -> Option<usize>
+    /// The name of a pointer: the least place at which the table has it, and none exactly where it
+    /// hasn't. It is found by looking through the table.
+    pub fn name(&self, p: P) -> Option<usize>
         ensures { result ≡ name_of
             (map P.numbers self.now.items)
             (P.numbers p) }
@@ -248,35 +227,6 @@ fn make_place<T, K: NonZeroInxGenericStack<T>>(
     }
 }
 
-// Notes the generation of a pointer at its index where it is above what is noted there, and tells
-// whether it was.
-fn note<P: Ptr>(rows: &mut NonZeroInxVec<Row<P, P::Gen>>, p: P) -> bool
-    ensures pointers { pointers_of rows.new.items ≡ pointers_of rows.old.items }
-    ensures room { rows.new.room ≡ rows.old.room }
-    ensures noted { result ≡ true → Notes
-        (P.numbers p)
-        (notes_of P.Gen.number rows.old.items) (notes_of P.Gen.number rows.new.items) }
-{
-    let Some(inx) = P::Inx::try_into_usize(p.inx()) else {
-        return false;
-    };
-    let Some(row) = rows.get_mut(inx) else {
-        return false;
-    };
-    let newer = is_above(p.generation(), row.newest);
-    if newer {
-        row.newest = p.generation();
-    }
-    newer
-}
-
-// Whether a generation is above that which is noted.
-fn is_above<G: PtrGen>(generation: G, noted: G) -> bool
-    ensures { result ≡ nat_lt (G.number noted) (G.number generation) }
-{
-    noted < generation
-}
-
 // Whether two pointers are one.
 fn are_same<P: Ptr>(p: P, q: P) -> bool
     ensures { result ≡ is_same (P.numbers p)
@@ -286,7 +236,7 @@ fn are_same<P: Ptr>(p: P, q: P) -> bool
 }
 
 // The first position at which rows have a pointer.
-fn position_of<P: Ptr, G>(rows: &[Row<P, G>], p: P) -> Option<usize>
+fn position_of<P: Ptr>(rows: &[Row<P>], p: P) -> Option<usize>
     ensures position { result ≡ position
         (λ q. is_same q (P.numbers p))
         (map P.numbers
@@ -297,7 +247,7 @@ fn position_of<P: Ptr, G>(rows: &[Row<P, G>], p: P) -> Option<usize>
 }
 
 // The first position at which rows have an item that is equal to this one.
-fn first_row<T: PartialEq + Copy, G>(rows: &[Row<T, G>], item: T) -> Option<usize>
+fn first_row<T: PartialEq + Copy>(rows: &[Row<T>], item: T) -> Option<usize>
     ensures position { result ≡ position (λ row. T.eq row.pointer item) rows.now }
     ensures within { IfSome result (λ at. at < length rows.now) }
 {

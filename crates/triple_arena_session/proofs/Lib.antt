@@ -15,6 +15,7 @@ mod StoreInsertions
 mod Compacting
 mod Dangling
 mod StoreLaws
+mod KnownSound
 mod StoreRunLaws
 mod LastSteps
 mod StoreTextLaws

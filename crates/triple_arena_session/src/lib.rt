@@ -9,6 +9,7 @@ mod node;
 mod program;
 mod session;
 mod session_arena;
+mod session_body;
 mod strict_session;
 mod strict_text;
 mod text;

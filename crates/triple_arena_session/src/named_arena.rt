@@ -1,11 +1,11 @@
-//! The body of every session, strict or not.
+//! What each command does to the arena of a session and its names.
 
-ghost use Rattle.std.specs.Prelude.{◌≡◌, ◌≤◌, ◌==◌, [], IfOk, OnErr, IsOk, is_some, false};
+ghost use Rattle.std.specs.Prelude.{◌≡◌, ◌≤◌, ◌==◌, is_some, true, false};
 ghost use Rattle.std.specs.Option.{option_map};
 ghost use Rattle.triple_arena_ptr.specs.Numbers.{greatest_index};
 ghost use Rattle.triple_arena_traits.specs.Items.{item};
 ghost use Rattle.triple_arena_traits.specs.ArenaState.{arena_len, capacity, map_values};
-ghost use Rattle.triple_arena_commands.specs.Runs.{RunsToWrap};
+ghost use Rattle.triple_arena_traits.specs.Histories.{AreDistinct};
 ghost use Rattle.triple_arena_session.specs.SessionState.{new_session, node_of, named, link_name, link_pointer};
 ghost use Rattle.triple_arena_session.specs.SessionRun.{IsStep, refusal};
 ghost use Rattle.triple_arena_session.specs.Shown.{IsSound, IsArenaOver};
@@ -18,7 +18,7 @@ use std::alloc::Global;
 use std::fmt::Debug;
 use std::marker::{Model, PhantomData};
 use triple_arena::ArenaSlot;
-use triple_arena_base::{AllocError, CompactError, ReallocationError};
+use triple_arena_base::{CompactError, ReallocationError};
 use triple_arena_commands::{Command, NameTable, Reply};
 use triple_arena_ptr::{Ptr, PtrGen, PtrInx};
 use triple_arena_stack::NonZeroInxGenericStack;
@@ -33,8 +33,8 @@ pub(crate) struct NamedArena<
 > {
     pub(crate) arena: A,
     table: NameTable<P>,
-    // For the replies of a run, and for texts.
-    alloc: Global,
+    // For the replies of a run, for compactions and for texts.
+    pub(crate) alloc: Global,
     of: PhantomData<(X, S)>,
 }
 
@@ -72,18 +72,20 @@ impl<
         }
     }
 
-    /// The body of `step`: the reply to a command, and what it leaves. Over a strict arena it is `Exhausted`
-    /// where the command would raise a counter that stands at the greatest generation.
-    pub(crate) fn answer(&mut self, command: Command<X>) -> Reply<X>
+    /// The reply to a command, and what it leaves. Over a strict arena it is `Exhausted` where the command
+    /// would raise a counter that stands at the greatest generation. Whether it is known that no pointer
+    /// stands twice in the table (`distinct`) makes a difference to time alone.
+    pub(crate) fn answer(&mut self, command: Command<X>, distinct: bool) -> Reply<X>
     where
         X: Debug,
+        requires { distinct ≡ true → AreDistinct self.old.table }
         ensures { IsStepOf A.strict S.kind S.has_memory P.Gen.generations
             self.old command result self.new }
     {
         if A::is_strict() && self.is_refused(command) {
             return Reply::Exhausted;
         }
-        self.reply(command)
+        self.reply(command, distinct)
     }
 
     // Whether a command would raise a counter that stands at the greatest generation.
@@ -115,18 +117,19 @@ impl<
     }
 
     // The reply to a command that is not refused for want of a raise, and what it leaves.
-    fn reply(&mut self, command: Command<X>) -> Reply<X>
+    fn reply(&mut self, command: Command<X>, distinct: bool) -> Reply<X>
     where
         X: Debug,
-        requires { refuses A.strict P.Gen.generations self.old command ≡ false }
+        requires allowed { refuses A.strict P.Gen.generations self.old command ≡ false }
+        requires distinct { distinct ≡ true → AreDistinct self.old.table }
         ensures { IsStep S.kind S.has_memory P.Gen.generations self.old command result self.new }
     {
         match command {
             Command::Insert(datum, link) => self.insert(datum, link),
             Command::InsertWithin(datum, link) => self.insert_within(datum, link),
-            Command::Get(name) => self.get(name),
+            Command::Get(name) => self.get(name, distinct),
             Command::Set(name, datum, link) => self.set(name, datum, link),
-            Command::Remove(name) => self.remove(name),
+            Command::Remove(name) => self.remove(name, distinct),
             Command::Invalidate(name) => self.invalidate(name),
             Command::Clear => self.clear(),
             Command::Compact => self.compact(),
@@ -146,31 +149,6 @@ impl<
         let _len = self.arena.len();
         let _limit = self.arena.max_capacity();
         let _is_at_greatest = self.arena.is_at_greatest();
-    }
-
-    // The body of `run`: the replies to commands, up to the first wrap.
-    pub(crate) fn run_commands(
-        &mut self,
-        commands: &[Command<X>],
-    ) -> Result<Vec<Reply<X>>, AllocError>
-    where
-        X: Debug,
-        ensures ran { IfOk result (λ replies.
-            RunsToWrap (IsStepOf A.strict S.kind S.has_memory P.Gen.generations)
-            self.old commands.now replies.items self.new) }
-        ensures refused { OnErr result (self.new ≡ self.old) }
-        ensures succeeds { commands.now ≡ [] → IsOk result }
-    {
-        let mut replies = Vec::with_capacity(self.alloc, commands.len())?;
-        'commands: for command in commands {
-            let reply = self.answer(*command);
-            let wrapped = reply.tells_of_wrap();
-            replies.push_reserved(reply);
-            if wrapped {
-                return Ok(replies);
-            }
-        }
-        Ok(replies)
     }
 
     fn insert(&mut self, datum: X, link: Option<usize>) -> Reply<X>
@@ -218,7 +196,8 @@ impl<
         Reply::Given(self.table.push(p, link), false)
     }
 
-    fn get(&self, name: usize) -> Reply<X>
+    fn get(&self, name: usize, distinct: bool) -> Reply<X>
+        requires { distinct ≡ true → AreDistinct self.now.table }
         ensures { IsStep S.kind S.has_memory P.Gen.generations
             self.now (Command.Get name) result self.now }
     {
@@ -226,7 +205,7 @@ impl<
             return Reply::Nothing;
         };
         match self.arena.get(p) {
-            Some(node) => Reply::Found(node.datum, self.link_name(name, node.link)),
+            Some(node) => Reply::Found(node.datum, self.link_name(name, node.link, distinct)),
             None => Reply::Nothing,
         }
     }
@@ -252,9 +231,10 @@ impl<
         Reply::Done
     }
 
-    fn remove(&mut self, name: usize) -> Reply<X>
-        requires { refuses A.strict P.Gen.generations
+    fn remove(&mut self, name: usize, distinct: bool) -> Reply<X>
+        requires allowed { refuses A.strict P.Gen.generations
             self.old (Command.Remove name) ≡ false }
+        requires distinct { distinct ≡ true → AreDistinct self.old.table }
         ensures { IsStep S.kind S.has_memory P.Gen.generations
             self.old (Command.Remove name) result self.new }
     {
@@ -263,7 +243,11 @@ impl<
         };
         let (taken, wrapped) = self.arena.remove(p).overflowing();
         match taken {
-            Some(node) => Reply::Removed(node.datum, self.link_name(name, node.link), wrapped),
+            Some(node) => Reply::Removed(
+                node.datum,
+                self.link_name(name, node.link, distinct),
+                wrapped,
+            ),
             None => Reply::Invalid,
         }
     }
@@ -383,10 +367,17 @@ impl<
         }
     }
 
-    // The name of the pointer of a link that the entry of a name has.
-    fn link_name(&self, name: usize, link: Option<P>) -> Option<usize>
+    // The name of the pointer of a link that the entry of a name has. Where it is known that no pointer
+    // stands twice in the table, it is found at once if the table has the right hint, and else by
+    // looking through the table.
+    fn link_name(&self, name: usize, link: Option<P>, distinct: bool) -> Option<usize>
+        requires { distinct ≡ true → AreDistinct self.now.table }
         ensures { result ≡ link_name self.now.table (option_map P.numbers link) }
     {
-        self.table.link_name(name, link?)
+        let p = link?;
+        match self.table.hinted_name(name, p) {
+            Some(target) if distinct => Some(target),
+            _ => self.table.name(p),
+        }
     }
 }

@@ -18,8 +18,8 @@ ghost use Rattle.triple_arena_session.specs.SessionCalls.{calls_of, KeepsHistori
 ghost use Rattle.triple_arena_session.specs.Shown.{shown, IsSound, IsArenaOver};
 ghost use Rattle.triple_arena_session.specs.StoreRun.{EndsAsStore};
 
-use crate::named_arena::NamedArena;
 use crate::node::Node;
+use crate::session_body::SessionBody;
 use std::alloc::Global;
 use std::fmt::Debug;
 use std::marker::Model;
@@ -37,7 +37,7 @@ pub struct Session<
     X,
     S: NonZeroInxGenericStack<ArenaSlot<P, Node<X, P>>> = NonZeroInxVec<ArenaSlot<P, Node<X, P>>>,
 > {
-    pub(crate) inside: NamedArena<P, X, S, Arena<P, Node<X, P>, S>>,
+    pub(crate) inside: SessionBody<P, X, S, Arena<P, Node<X, P>, S>>,
 }
 
 impl<P: Ptr, X, S: NonZeroInxGenericStack<ArenaSlot<P, Node<X, P>>>> Model for Session<P, X, S> {
@@ -61,7 +61,7 @@ impl<P: Ptr, X: Copy, S: NonZeroInxGenericStack<ArenaSlot<P, Node<X, P>>>> Sessi
         ensures store { shown result ≡ new_store (new_room S.kind) (new_limit S.kind) (greatest_index P.Inx.greatest) }
     {
         Session {
-            inside: NamedArena::over(Arena::new(alloc), alloc),
+            inside: SessionBody::over(Arena::new(alloc), alloc),
         }
     }
 
@@ -86,7 +86,7 @@ impl<P: Ptr, X: Copy, S: NonZeroInxGenericStack<ArenaSlot<P, Node<X, P>>>> Sessi
     {
         let arena = Arena::with_min_capacity(alloc, min_capacity)?;
         Ok(Session {
-            inside: NamedArena::over(arena, alloc),
+            inside: SessionBody::over(arena, alloc),
         })
     }
 
@@ -94,7 +94,7 @@ impl<P: Ptr, X: Copy, S: NonZeroInxGenericStack<ArenaSlot<P, Node<X, P>>>> Sessi
     pub fn arena(&self) -> &Arena<P, Node<X, P>, S>
         ensures { map_values (node_of P.numbers) result.now ≡ self.now.arena }
     {
-        &self.inside.arena
+        self.inside.arena()
     }
 
     /// Runs a command, and gives its reply, the first that fits:

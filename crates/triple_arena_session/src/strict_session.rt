@@ -18,8 +18,8 @@ ghost use Rattle.triple_arena_session.specs.SessionCalls.{calls_of, RunsFreshly}
 ghost use Rattle.triple_arena_session.specs.Shown.{shown, IsSound, IsArenaOver};
 ghost use Rattle.triple_arena_session.specs.StrictSession.{is_refused, IsStrictSessionStep, strictly_shown};
 
-use crate::named_arena::NamedArena;
 use crate::node::Node;
+use crate::session_body::SessionBody;
 use std::alloc::Global;
 use std::fmt::Debug;
 use std::marker::Model;
@@ -40,7 +40,7 @@ pub struct StrictSession<
     X,
     S: NonZeroInxGenericStack<ArenaSlot<P, Node<X, P>>> = NonZeroInxVec<ArenaSlot<P, Node<X, P>>>,
 > {
-    pub(crate) inside: NamedArena<P, X, S, StrictArena<P, Node<X, P>, S>>,
+    pub(crate) inside: SessionBody<P, X, S, StrictArena<P, Node<X, P>, S>>,
 }
 
 impl<P: Ptr, X, S: NonZeroInxGenericStack<ArenaSlot<P, Node<X, P>>>> Model
@@ -73,7 +73,7 @@ impl<P: Ptr, X: Copy, S: NonZeroInxGenericStack<ArenaSlot<P, Node<X, P>>>> Stric
             ≡ P.Gen.generations.greatest - first_generation P.Gen.generations }
     {
         StrictSession {
-            inside: NamedArena::over(StrictArena::new(alloc), alloc),
+            inside: SessionBody::over(StrictArena::new(alloc), alloc),
         }
     }
 
@@ -102,7 +102,7 @@ impl<P: Ptr, X: Copy, S: NonZeroInxGenericStack<ArenaSlot<P, Node<X, P>>>> Stric
     {
         let arena = StrictArena::with_min_capacity(alloc, min_capacity)?;
         Ok(StrictSession {
-            inside: NamedArena::over(arena, alloc),
+            inside: SessionBody::over(arena, alloc),
         })
     }
 
@@ -110,7 +110,7 @@ impl<P: Ptr, X: Copy, S: NonZeroInxGenericStack<ArenaSlot<P, Node<X, P>>>> Stric
     pub fn arena(&self) -> &StrictArena<P, Node<X, P>, S>
         ensures { map_values (node_of P.numbers) result.now ≡ self.now.arena }
     {
-        &self.inside.arena
+        self.inside.arena()
     }
 
     /// Runs a command, and gives its reply, as `Session::step` does, but that it is `Exhausted` where

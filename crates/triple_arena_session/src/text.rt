@@ -9,10 +9,10 @@ ghost use Rattle.triple_arena_session.specs.SessionLayout.{IsStepOf};
 ghost use Rattle.triple_arena_session.specs.StoreText.{IsStoreText, LeavesStore};
 ghost use Rattle.triple_arena_session.specs.LineRun.{CommandEnds, LineEnds};
 
-use crate::named_arena::NamedArena;
 use crate::node::Node;
 use crate::session::Session;
 use crate::session_arena::SessionArena;
+use crate::session_body::SessionBody;
 use std::alloc::Global;
 use std::io::{BufWriter, Read, Write};
 use triple_arena::ArenaSlot;
@@ -64,7 +64,7 @@ pub(crate) fn read_and_run<
     R: Read,
     W: Write,
 >(
-    session: &mut NamedArena<P, u64, S, A>,
+    session: &mut SessionBody<P, u64, S, A>,
     alloc: Global,
     input: &mut R,
     output: &mut W,
@@ -121,7 +121,7 @@ pub(crate) fn run_and_flush<
     R: Read,
     W: Write + Drop,
 >(
-    session: &mut NamedArena<P, u64, S, A>,
+    session: &mut SessionBody<P, u64, S, A>,
     alloc: Global,
     input: &mut R,
     mut output: BufWriter<W>,
@@ -142,7 +142,7 @@ fn run_lines<
     S: NonZeroInxGenericStack<ArenaSlot<P, Node<u64, P>>>,
     A: SessionArena<P, Node<u64, P>, S>,
     W: Write,
->(session: &mut NamedArena<P, u64, S, A>, text: &[u8], output: &mut W) -> Result<(), TextError>
+>(session: &mut SessionBody<P, u64, S, A>, text: &[u8], output: &mut W) -> Result<(), TextError>
     ensures { IsTextRun (IsStepOf A.strict S.kind S.has_memory P.Gen.generations)
         (Some text.now) result
         session.old session.new (W.contents output.old) (W.contents output.new) }
@@ -184,7 +184,7 @@ fn run_line<
     A: SessionArena<P, Node<u64, P>, S>,
     W: Write,
 >(
-    session: &mut NamedArena<P, u64, S, A>,
+    session: &mut SessionBody<P, u64, S, A>,
     line: &[u8],
     output: &mut W,
     room: &mut [u8; LINE_ROOM],
@@ -206,7 +206,7 @@ fn run_command<
     A: SessionArena<P, Node<u64, P>, S>,
     W: Write,
 >(
-    session: &mut NamedArena<P, u64, S, A>,
+    session: &mut SessionBody<P, u64, S, A>,
     line: &[u8],
     output: &mut W,
     room: &mut [u8; LINE_ROOM],

@@ -1,12 +1,8 @@
 use Rattle.std.proofs.Common.{◌≡◌, ◌-◌, refl, sym, subst}
 use Rattle.std.specs.Int.NonZero.{non_zero_usize_get}
 use Rattle.triple_arena_stack.specs.StackState.{Roomed}
-use Rattle.triple_arena_commands.proofs.NameLemmas.{knows_same, unseen_write}
+use Rattle.triple_arena_commands.proofs.NameLemmas.{unseen_write}
 use Rattle.triple_arena_commands.proofs.name_table.NameTable.note_link.Goals as goal
-
-pub invariant_of-self-2 : goal.invariant_of-self-2
-invariant_of-self-2 g c =
-    knows_same g.P.Gen.PtrGen.number g.P.Ptr.numbers c.self.inside.distinct c.self.inside.rows.items (non_zero_usize_get c.in-Some.inx - 1) c.in-Some-get_mut.row.now (record c.in-Some-get_mut.row.now { link = c.unwrap_or-row.result }) c.in-Some-get_mut.ensures.value refl refl c.self.invariant
 
 pub returns : goal.returns
 returns g c =

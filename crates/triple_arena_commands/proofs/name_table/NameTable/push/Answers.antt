@@ -1,10 +1,6 @@
 use Rattle.std.proofs.Common.{◌+◌, ap, ◌∙◌}
-use Rattle.triple_arena_commands.proofs.NameLemmas.{knows_row_pushed, row_pushed, length-shown, room-shown}
+use Rattle.triple_arena_commands.proofs.NameLemmas.{row_pushed, length-shown, room-shown}
 use Rattle.triple_arena_commands.proofs.name_table.NameTable.push.Goals as goal
-
-pub invariant_of-self : goal.invariant_of-self
-invariant_of-self g c =
-    knows_row_pushed g.P.Gen.PtrGen.number g.P.Ptr.numbers c.self.inside.distinct c.note-newer.result c.self.inside.rows.items c.note-newer.new.rows.items c.self.invariant (record { pointer = c.args.p; link = c.unwrap_or.result; newest = c.one.result }) c.push_reserved-row.result.1.now c.push_reserved-row.ensures.value c.note-newer.ensures.pointers c.note-newer.ensures.noted
 
 pub push_reserved-row-requires : goal.push_reserved-row-requires
 push_reserved-row-requires g c =
@@ -19,7 +15,7 @@ returns-clause-number g c =
     ∙ ap (λ n. n + 1) (length-shown c.self.inside.rows.items c.self.inside.rows.room c.args.self.now c.self.view_is)
 
 pub returns-clause-items : goal.returns-clause-items
-returns-clause-items g c = c.note-newer.ensures.pointers ∙ row_pushed c.self.inside.rows.items c.args.self.now.items (record { pointer = c.args.p; link = c.unwrap_or.result; newest = c.one.result }) c.push_reserved-row.result.1.now (ap (λ t. t.items) c.self.view_is) c.push_reserved-row.ensures.value
+returns-clause-items g c = row_pushed c.self.inside.rows.items c.args.self.now.items (record { pointer = c.args.p; link = c.unwrap_or.result }) c.push_reserved-row.result.1.now (ap (λ t. t.items) c.self.view_is) c.push_reserved-row.ensures.value
 
 pub returns-clause-room : goal.returns-clause-room
-returns-clause-room g c = c.note-newer.ensures.room ∙ ap (λ t. t.room) c.self.view_is
+returns-clause-room g c = ap (λ t. t.room) c.self.view_is

@@ -1,7 +1,7 @@
 use Rattle.std.proofs.Common.{◌≡◌, ◌≤◌, length, take, vec_capacity}
 use Rattle.triple_arena_commands.specs.Runs.{IsRun, TellsOfNoWrap}
 use Rattle.triple_arena_session.specs.SessionLayout.{IsStepOf}
-use Rattle.triple_arena_session.proofs.named_arena.NamedArena.run_commands.Given as goal
+use Rattle.triple_arena_session.proofs.session_body.SessionBody.run_commands.Given as goal
 
 abbrev pub invariant-commands : goal.invariant-commands
 invariant-commands g l = record {

@@ -2,7 +2,7 @@ use Rattle.std.proofs.Common.{◌+◌, subst, sym, ap, ◌∙◌}
 use Rattle.std.proofs.lemmas.List.{length_push}
 use Rattle.triple_arena_commands.specs.laws.RunLaws.{IsRun-more, RunsToWrap-wrapped, TellsOfNoWrap-push}
 use Rattle.triple_arena_session.specs.SessionLayout.{IsStepOf}
-use Rattle.triple_arena_session.proofs.named_arena.NamedArena.run_commands.Goals as goal
+use Rattle.triple_arena_session.proofs.session_body.SessionBody.run_commands.Goals as goal
 
 pub returns-then-wrapped-clause-ran : goal.returns-then-wrapped-clause-ran
 returns-then-wrapped-clause-ran g c =

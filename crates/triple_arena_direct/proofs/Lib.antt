@@ -9,3 +9,4 @@ mod FollowedBoth
 mod Relations
 pub mod StrictAnswers
 mod StrictSteps
+mod Retaining

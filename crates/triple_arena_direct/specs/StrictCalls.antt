@@ -17,8 +17,8 @@ use Rattle.triple_arena_direct.specs.StrictAnswers.{is_exhausted, is_exhausted_f
 use Rattle.triple_arena_direct.specs.StrictRetain.{ended_entries, pointers_lost}
 
 -- a call that may change a strict arena: to insert a value; to write one under a pointer, or these under these pointers; to
--- remove or to invalidate a pointer; to clear; to retain all but those of these pointers; to compress, after which these values stand; to reallocate to so many; to
--- set a limit; to tidy the free list; to give up the free slots at the end
+-- remove or to invalidate a pointer; to clear; to retain all but those of these pointers; to compress, after which these
+-- values stand; to reallocate to so many; to set a limit; to tidy the free list; to give up the free slots at the end
 pub data StrictCall (T : Type 0) : Type 0 where
   to_insert : T → StrictCall T
   to_write : Pointer → T → StrictCall T

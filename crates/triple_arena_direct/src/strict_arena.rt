@@ -31,6 +31,7 @@ mod insert_entry;
 mod insertion;
 mod leaving;
 mod look_ups;
+mod retain;
 mod room;
 mod walks;
 mod writing;

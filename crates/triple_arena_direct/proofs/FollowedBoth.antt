@@ -1,8 +1,9 @@
--- An arena that was compressed and its own pointers renamed, where then those are renamed that its values hold to another.
+-- An arena that was compressed and its own pointers renamed, where then those are renamed that its values hold to another;
+-- and a holder of pointers to both.
 use Rattle.std.proofs.Common.{◌≡◌, ℕ, List, length, map, Option, None, ap, ◌∙◌}
 use Rattle.std.specs.List.{range_with_len}
 use Rattle.std.proofs.lemmas.Slice.Zip.{AllZip-long}
-use Rattle.triple_arena_base.specs.Held.{HoldsRefill, held_all}
+use Rattle.triple_arena_base.specs.Held.{HoldsRefill, recast_items, held_all}
 use Rattle.triple_arena_ptr.specs.Pointers.{Pointer}
 use Rattle.triple_arena_traits.specs.Items.{with_item}
 use Rattle.triple_arena_traits.specs.Entries.{look_up, entry_count}
@@ -10,8 +11,9 @@ use Rattle.triple_arena_traits.specs.Walks.{keys, values}
 use Rattle.triple_arena_traits.specs.Recasting.{written, recast_values}
 use Rattle.triple_arena_traits.specs.laws.CompressionLaws.{length-values}
 use Rattle.triple_arena_direct.specs.Renaming.{MapsPointers, first_unresolved, AreRenamed}
-use Rattle.triple_arena_direct.specs.RenamingBoth.{StandApart, AreRenamedBoth}
-use Rattle.triple_arena_direct.specs.laws.RenamingBothLaws.{all_too_stay, all_both_renamed}
+use Rattle.triple_arena_direct.specs.RenamingBoth.{StandApart, IsRenamedBoth, AreRenamedBoth}
+use Rattle.triple_arena_direct.specs.laws.RenamingLaws.{followed}
+use Rattle.triple_arena_direct.specs.laws.RenamingBothLaws.{too_stay, both_renamed, all_too_stay, all_both_renamed}
 use Rattle.triple_arena_direct.proofs.Resolving.{values_renamed}
 use Rattle.triple_arena_direct.proofs.Followed.{recast_compressed}
 
@@ -41,3 +43,20 @@ module _ {P Q T : Type 0}
       (values_renamed numbers_too here rename_too images maps held_too refill_too holds_too d.0 resolved) in
       let stand : values (slots new) ≡ news = there news new is (AllZip-long _ (values (slots old)) news both ∙ length-values (slots old)) in
       (rw stand both, rw stand is)
+
+module _ {P Q T V W : Type 0}
+    (numbers : P → Pointer) (rename : Pointer → Pointer) (held : T → List P) (refill : T → List P → T)
+    (numbers_too : Q → Pointer) (rename_too : Pointer → Pointer) (held_too : T → List Q) (refill_too : T → List Q → T)
+    (apart : StandApart held refill held_too refill_too) (holds : HoldsRefill held refill) (holds_too : HoldsRefill held_too refill_too)
+    (slots : List (Option (ℕ × V))) (images : List (Option (ℕ × P))) (maps : MapsPointers numbers rename slots images)
+    (slots_too : List (Option (ℕ × W))) (images_too : List (Option (ℕ × Q))) (maps_too : MapsPointers numbers_too rename_too slots_too images_too) where
+  -- a holder whose pointers each find an entry, and which follows by the one map and then by the other
+  pub holder_followed : (old mid new : T) → first_unresolved numbers slots (held old) ≡ None → first_unresolved numbers_too slots_too (held_too old) ≡ None
+      → mid ≡ refill old (recast_items (λ p. look_up images (numbers p)) (held old))
+      → new ≡ refill_too mid (recast_items (λ q. look_up images_too (numbers_too q)) (held_too mid))
+      → IsRenamedBoth numbers rename held refill numbers_too rename_too held_too refill_too old new
+  holder_followed old mid new none none_too is after =
+      let renamed = followed numbers rename held refill holds slots images maps old mid none is in
+      let stay = too_stay numbers rename held refill numbers_too rename_too held_too refill_too apart old mid renamed in
+      let renamed_too = followed numbers_too rename_too held_too refill_too holds_too slots_too images_too maps_too mid new (ap (first_unresolved numbers_too slots_too) stay ∙ none_too) after in
+      both_renamed numbers rename held refill numbers_too rename_too held_too refill_too apart old mid new renamed renamed_too

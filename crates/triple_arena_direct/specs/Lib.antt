@@ -1,4 +1,7 @@
--- Read first: Renaming and StrictAnswers; of what is handed on DirectState.
+-- Read first: Holding, Renaming and StrictAnswers; of what is handed on DirectState.
+pub mod Concrete
+pub mod HeldThree
+pub mod Holding
 pub mod Renaming
 pub mod RenamingBoth
 pub mod StrictAnswers

@@ -1,5 +1,6 @@
 -- What follows from the definitions.
 pub mod RenamingLaws
+pub mod ImageLaws
 pub mod RenamingBothLaws
 pub mod GoneLaws
 pub mod RetainLaws

@@ -11,12 +11,14 @@ pub mod renaming_laws;
 mod strict_arena;
 pub mod strict_laws;
 mod text;
+mod three_parts;
 
 pub use errors::{CompactBothError, StrictCompactBothError, StrictCompactError, StrictError};
 pub use reading::Reading;
 pub use renaming::{compress_recast, compress_recast_with, compress_recaster, unresolved};
-pub use renaming_both::compress_recast_both;
+pub use renaming_both::{compress_recast_both, compress_recast_both_with};
 pub use strict_arena::{StrictArena, StrictInsertEntry};
+pub use three_parts::recast_three;
 pub use triple_arena_direct_arena::{
     ArenaDirectInsertEntry, DirectArena, DirectSlot, direct_arena_iterators, laws,
 };

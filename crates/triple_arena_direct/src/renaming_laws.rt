@@ -1,7 +1,7 @@
 //! Laws of renaming: how holders follow a compaction, arenas among them, and what is read of values.
 
-ghost use Rattle.std.specs.Prelude.{◌≡◌, ◌++◌, ℕ, List, [], Contains, Option, None, IsSome, Ok};
-ghost use Rattle.std.specs.Option.{option_map};
+ghost use Rattle.std.specs.Prelude.{◌≡◌, ◌++◌, ℕ, List, [], Contains, Option, None, Some, IsSome, Ok};
+ghost use Rattle.std.specs.Option.{option_map, unwrap_or};
 ghost use Rattle.triple_arena_base.specs.Held.{held_all, recast_items, recast_answer};
 ghost use Rattle.triple_arena_ptr.specs.Pointers.{Pointer};
 ghost use Rattle.triple_arena_traits.specs.Entries.{look_up, entry_count};
@@ -9,6 +9,7 @@ ghost use Rattle.triple_arena_traits.specs.ArenaState.{ArenaState};
 ghost use Rattle.triple_arena_traits.specs.HeldSlots.{held_slots, refill_slots};
 ghost use Rattle.triple_arena_traits.specs.Walks.{keys, values};
 ghost use Rattle.triple_arena_direct_arena.specs.DirectState.{DirectState};
+ghost use Rattle.triple_arena_direct.specs.Concrete.{renamed_if_live};
 ghost use Rattle.triple_arena_direct.specs.Renaming.{MapsPointers, first_unresolved, Refuses, AllResolve, RefusesStray, IsRenamed, AreRenamed, IsFoundRenamed};
 ghost use Rattle.triple_arena_direct.specs.RenamingBoth.{IsFoundRenamedBoth, RefusesBoth, RefusesBothStray};
 
@@ -39,6 +40,24 @@ pub fn holders_follow<P: Ptr, T, H: Recast<P>>()
     ensures live { (slots : List (Option (ℕ × T))) (ps : List P) (p : P)
         → first_unresolved P.numbers slots ps ≡ None → Contains ps p
         → IsSome (look_up slots (P.numbers p)) }
+{}
+
+/// What the map of a compaction has of one pointer, as `map.get(p)` asks: where the pointer found an
+/// entry before, its new pointer (`live`); and only there (`image`). So `map.get(p)`, or the pointer
+/// itself where the map has none, is the pointer by which the entry is found, if there was one (`kept`).
+pub fn image_found<P: Ptr, T>()
+    ensures live { (rename : Pointer → Pointer) (slots : List (Option (ℕ × T)))
+        (images : List (Option (ℕ × P))) → MapsPointers P.numbers rename slots images
+        → (p : P) → IsSome (look_up slots (P.numbers p)) → (q : P)
+        × (look_up images (P.numbers p) ≡ Some q) × (P.numbers q ≡ rename (P.numbers p)) }
+    ensures image { (rename : Pointer → Pointer) (slots : List (Option (ℕ × T)))
+        (images : List (Option (ℕ × P))) → MapsPointers P.numbers rename slots images
+        → (p q : P) → look_up images (P.numbers p) ≡ Some q
+        → IsSome (look_up slots (P.numbers p)) × (P.numbers q ≡ rename (P.numbers p)) }
+    ensures kept { (rename : Pointer → Pointer) (slots : List (Option (ℕ × T)))
+        (images : List (Option (ℕ × P))) → MapsPointers P.numbers rename slots images
+        → (p : P) → P.numbers (unwrap_or (look_up images (P.numbers p)) p)
+        ≡ renamed_if_live rename slots (P.numbers p) }
 {}
 
 /// Arenas are holders, as their values are: one whose pointers of another arena were renamed has the
@@ -129,6 +148,20 @@ pub fn relations_resolve<P: Ptr, T: Recast<P>, U: Recast<P>>()
         (first_unresolved P.numbers slots
         (held_all T.held (values slots) ++ held_slots U.held U.refill holders)) refusal
         → RefusesStray P.numbers slots U.held holders refusal }
+{}
+
+/// So of two arenas and a holder beside them, as
+/// [`compress_recast_both_with`](crate::compress_recast_both_with) says: of the pointers to one arena, each
+/// that the values of the other hold finds an entry (`all`), and each that the holder holds (`holder`).
+pub fn holder_resolves<P: Ptr, T: Recast<P>, U: Recast<P>, H: Recast<P>>()
+    ensures all { (slots : List (Option (ℕ × T))) (holders : List (Option (ℕ × U))) (holder : H)
+        → first_unresolved P.numbers slots ((held_all T.held (values slots)
+        ++ held_all U.held (values holders)) ++ H.held holder) ≡ None
+        → AllResolve P.numbers slots U.held holders }
+    ensures holder { (slots : List (Option (ℕ × T))) (holders : List (Option (ℕ × U))) (holder : H)
+        → first_unresolved P.numbers slots ((held_all T.held (values slots)
+        ++ held_all U.held (values holders)) ++ H.held holder) ≡ None
+        → (p : P) → Contains (H.held holder) p → IsSome (look_up slots (P.numbers p)) }
 {}
 
 /// Why neither of two arenas was compacted, in look-ups, where the values of each hold none of the

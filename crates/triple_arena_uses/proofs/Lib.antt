@@ -1,4 +1,5 @@
 pub mod Mapping
+pub mod Naming
 pub mod Renewing
 pub mod Notes
 pub mod Rewiring

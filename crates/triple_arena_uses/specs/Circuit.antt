@@ -1,10 +1,8 @@
 -- A circuit: what is read of its cells and nets, and what its calls make of them.
 use Rattle.std.specs.Prelude.{◌≡◌, ◌-◌, ◌^◌, ℕ, suc, not, cond, ◌||◌, Bool, true, false, List, [], ◌∷◌, ◌++◌, map, Option, Some, None, IsSome}
+use Rattle.std.proofs.Common.{refl}
 use Rattle.std.specs.List.{filter, list_any}
 use Rattle.std.specs.Option.{option_map, option_map_or, option_and_then}
-use Rattle.triple_arena_base.specs.Held.{held_itself, refill_itself, held_option, refill_option}
-use Rattle.triple_arena_base.specs.HeldVecs.{held_vec, refill_vec}
-use Rattle.triple_arena_base.specs.HeldPairs.{held_both, refill_both}
 use Rattle.triple_arena_base.specs.declared.errors.CompactError.{CompactError}
 use Rattle.triple_arena_ptr.specs.Numbers.{counting_to, raise, wraps}
 use Rattle.triple_arena_ptr.specs.Pointers.{Pointer, is_same}
@@ -13,6 +11,7 @@ use Rattle.triple_arena_ptr.specs.declared.Q2.{Q2}
 use Rattle.triple_arena.specs.Entries.{look_up}
 use Rattle.triple_arena.specs.ArenaState.{ArenaState}
 use Rattle.triple_arena.specs.Compression.{rank, raised_if_any, wraps_after}
+use Rattle.triple_arena_direct.specs.Holding.{Holding, itself, nothing, option, vector, both, part}
 use Rattle.triple_arena_direct.specs.Renaming.{AllResolve, RefusesStray}
 use Rattle.triple_arena_direct.specs.RenamingBoth.{RefusesBothStray}
 use Rattle.triple_arena_direct.specs.declared.errors.CompactBothError.{CompactBothError}
@@ -126,21 +125,21 @@ pub record IsReadAsBefore (old new : Wiring) : Type 0 where
   pub cells : (c : Pointer) → cell_at new c ≡ cell_at old c
   pub nets : (n : Pointer) → net_at new n ≡ net_at old n
 
--- what recasting goes through: the pointers of a net's cells, and the net with others in their places
-abbrev pub cells_held : Net → List P0
-cells_held net = held_both (held_option held_itself) (refill_option refill_itself) (held_vec held_itself refill_itself) (refill_vec held_itself refill_itself) (net.driver, net.sinks)
+-- what recasting goes through: the pointers of a net's cells, and those of a cell's nets
+abbrev pub cells_in_net : Holding P0 Net
+cells_in_net =
+    part {S = Net} (λ net. (net.driver, net.sinks)) (λ net ends. record net { driver = ends.0; sinks = ends.1 }) (λ net a. refl) (λ net. refl) (λ net a b. refl)
+    (both (option itself) (vector itself))
 
-abbrev pub cells_refilled : Net → List P0 → Net
-cells_refilled net l =
-    let parts = refill_both (held_option held_itself) (refill_option refill_itself) (held_vec held_itself refill_itself) (refill_vec held_itself refill_itself) (net.driver, net.sinks) l in
-    record net { driver = parts.0; sinks = parts.1 }
+abbrev pub nets_in_cell : Holding Q2 Cell
+nets_in_cell = part {S = Cell} (λ cell. cell.reads) (λ cell reads. record cell { reads = reads }) (λ cell a. refl) (λ cell. refl) (λ cell a b. refl) (vector itself)
 
--- and those of a cell's nets
-abbrev pub nets_held : Cell → List Q2
-nets_held cell = held_vec held_itself refill_itself cell.reads
+-- a cell holds no cell, and a net no net
+abbrev pub cells_in_cell : Holding P0 Cell
+cells_in_cell = nothing
 
-abbrev pub nets_refilled : Cell → List Q2 → Cell
-nets_refilled cell l = record cell { reads = refill_vec held_itself refill_itself cell.reads l }
+abbrev pub nets_in_net : Holding Q2 Net
+nets_in_net = nothing
 
 -- a net whose cells were renamed, and a cell whose nets were
 abbrev pub cells_renamed : (Pointer → Pointer) → NetRead → NetRead
@@ -158,18 +157,18 @@ moving_wraps s = wraps_after (wraps (counting_to (2 ^ 64 - 1))) false s
 
 -- each cell to which a net leads is there, and each net that a cell reads
 abbrev pub CellsAreThere : Wiring → Type 0
-CellsAreThere wiring = AllResolve p0_numbers wiring.cells.slots cells_held wiring.nets.slots
+CellsAreThere wiring = AllResolve p0_numbers wiring.cells.slots cells_in_net.held wiring.nets.slots
 
 abbrev pub NetsAreThere : Wiring → Type 0
-NetsAreThere wiring = AllResolve q2_numbers wiring.nets.slots nets_held wiring.cells.slots
+NetsAreThere wiring = AllResolve q2_numbers wiring.nets.slots nets_in_cell.held wiring.cells.slots
 
 -- why the cells stay where they are: a net leads to one that isn't there, or memory was refused, and there is one; why the
 -- nets do; and why both do
 abbrev pub CellsStay : Wiring → CompactError P0 → Type 0
-CellsStay wiring = RefusesStray p0_numbers wiring.cells.slots cells_held wiring.nets.slots
+CellsStay wiring = RefusesStray p0_numbers wiring.cells.slots cells_in_net.held wiring.nets.slots
 
 abbrev pub NetsStay : Wiring → CompactError Q2 → Type 0
-NetsStay wiring = RefusesStray q2_numbers wiring.nets.slots nets_held wiring.cells.slots
+NetsStay wiring = RefusesStray q2_numbers wiring.nets.slots nets_in_cell.held wiring.cells.slots
 
 abbrev pub BothStay : Wiring → CompactBothError P0 Q2 → Type 0
-BothStay wiring = RefusesBothStray p0_numbers q2_numbers wiring.cells.slots cells_held wiring.nets.slots nets_held
+BothStay wiring = RefusesBothStray p0_numbers q2_numbers wiring.cells.slots cells_in_net.held wiring.nets.slots nets_in_cell.held

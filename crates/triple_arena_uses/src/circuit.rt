@@ -7,20 +7,19 @@
 ghost use Rattle.std.specs.Prelude.{◌≡◌, ◌≢◌, ◌<◌, [], map, None, Some, IsOk, IfOk, OnErr, option_copied};
 ghost use Rattle.std.specs.Option.{option_map};
 ghost use Rattle.std.specs.Result.{IfErr};
-ghost use Rattle.std.proofs.Common.{refl, ap};
-ghost use Rattle.triple_arena_base.specs.Held.{held_itself, refill_itself, held_nothing, refill_nothing, held_option, refill_option};
-ghost use Rattle.triple_arena_base.specs.laws.HeldLaws.{itself_held_refill, itself_refill_held, itself_refill_refill, nothing_held_refill, option_held_refill, option_refill_held, option_refill_refill};
-ghost use Rattle.triple_arena_base.specs.HeldVecs.{held_vec, refill_vec, vec_held_refill, vec_refill_held, vec_refill_refill};
-ghost use Rattle.triple_arena_base.specs.HeldPairs.{both_held_refill, both_refill_held, both_refill_refill};
+ghost use Rattle.std.proofs.Common.{ap};
+ghost use Rattle.triple_arena_base.specs.Held.{held_itself, refill_itself, held_option, refill_option};
+ghost use Rattle.triple_arena_base.specs.HeldVecs.{held_vec, refill_vec};
 ghost use Rattle.triple_arena_base.specs.laws.ReadingLaws.{itself_follows, option_follows, vec_follows, both_follows};
 ghost use Rattle.triple_arena_ptr.specs.Pointers.{Pointer};
 ghost use Rattle.triple_arena.specs.ArenaState.{arena_len, capacity};
 ghost use Rattle.triple_arena.specs.Entries.{look_up};
 ghost use Rattle.triple_arena_uses.specs.Entities.{p0_numbers};
-ghost use Rattle.triple_arena_uses.specs.Circuit.{q2_numbers, cell_at, net_at, cells_held, cells_refilled, nets_held, nets_refilled};
+ghost use Rattle.triple_arena_uses.specs.Circuit.{q2_numbers, cell_at, net_at, cells_in_cell, nets_in_cell, cells_in_net, nets_in_net};
 
 mod compaction;
 mod ends;
+pub mod names;
 
 use std::alloc::{AllocError, Global};
 use std::marker::Model;
@@ -64,23 +63,19 @@ pub enum CircuitError {
 
 /// Holds the nets that it reads.
 impl Recast<Q2> for Cell {
-    ghost held = { nets_held };
+    ghost held = { nets_in_cell.held };
 
-    ghost refill = { nets_refilled };
+    ghost refill = { nets_in_cell.refill };
 
     fn recast<R: Recaster<Item = Q2>>(&mut self, recaster: &R) -> Result<(), Q2> {
         self.reads.recast(recaster)
     }
 
-    ghost held_refill = { λ cell. vec_held_refill held_itself refill_itself
-        itself_held_refill cell.reads };
+    ghost held_refill = { nets_in_cell.held_refill };
 
-    ghost refill_held = { λ cell. ap (λ reads. record cell { reads = reads })
-        (vec_refill_held held_itself refill_itself itself_refill_held cell.reads) };
+    ghost refill_held = { nets_in_cell.refill_held };
 
-    ghost refill_refill = { λ cell l m h k. ap (λ reads. record cell { reads = reads })
-        (vec_refill_refill held_itself refill_itself itself_held_refill itself_refill_refill
-        cell.reads l m h k) };
+    ghost refill_refill = { nets_in_cell.refill_refill };
 }
 
 /// Its nets are read in the order in which it reads them.
@@ -101,51 +96,36 @@ impl Reading<Q2> for Cell {
 
 /// Holds no cell.
 impl Recast<P0> for Cell {
-    ghost held = { held_nothing };
+    ghost held = { cells_in_cell.held };
 
-    ghost refill = { refill_nothing };
+    ghost refill = { cells_in_cell.refill };
 
     fn recast<R: Recaster<Item = P0>>(&mut self, _recaster: &R) -> Result<(), P0> {
         Ok(())
     }
 
-    ghost held_refill = { nothing_held_refill };
+    ghost held_refill = { cells_in_cell.held_refill };
 
-    ghost refill_held = { λ _. refl };
+    ghost refill_held = { cells_in_cell.refill_held };
 
-    ghost refill_refill = { λ _ _ _ _ _. refl };
+    ghost refill_refill = { cells_in_cell.refill_refill };
 }
 
 /// Holds the cell that drives it, if one does, and then those that read it.
 impl Recast<P0> for Net {
-    ghost held = { cells_held };
+    ghost held = { cells_in_net.held };
 
-    ghost refill = { cells_refilled };
+    ghost refill = { cells_in_net.refill };
 
     fn recast<R: Recaster<Item = P0>>(&mut self, recaster: &R) -> Result<(), P0> {
         recast_both(&mut self.driver, &mut self.sinks, recaster)
     }
 
-    ghost held_refill = { λ net. both_held_refill
-        (held_option held_itself) (refill_option refill_itself)
-        (held_vec held_itself refill_itself) (refill_vec held_itself refill_itself)
-        (option_held_refill held_itself refill_itself itself_held_refill)
-        (vec_held_refill held_itself refill_itself itself_held_refill) (net.driver, net.sinks) };
+    ghost held_refill = { cells_in_net.held_refill };
 
-    ghost refill_held = { λ net. ap (λ parts. record net { driver = parts.0; sinks = parts.1 })
-        (both_refill_held (held_option held_itself) (refill_option refill_itself)
-        (held_vec held_itself refill_itself) (refill_vec held_itself refill_itself)
-        (option_refill_held held_itself refill_itself itself_refill_held)
-        (vec_refill_held held_itself refill_itself itself_refill_held) (net.driver, net.sinks)) };
+    ghost refill_held = { cells_in_net.refill_held };
 
-    ghost refill_refill = { λ net l m h k. ap (λ parts.
-        record net { driver = parts.0; sinks = parts.1 })
-        (both_refill_refill (held_option held_itself) (refill_option refill_itself)
-        (held_vec held_itself refill_itself) (refill_vec held_itself refill_itself)
-        (option_held_refill held_itself refill_itself itself_held_refill)
-        (option_refill_refill held_itself refill_itself itself_refill_refill)
-        (vec_refill_refill held_itself refill_itself itself_held_refill itself_refill_refill)
-        (net.driver, net.sinks) l m h k) };
+    ghost refill_refill = { cells_in_net.refill_refill };
 }
 
 /// Its driver is read, if it has one, and its sinks in their order.
@@ -173,19 +153,19 @@ impl Reading<P0> for Net {
 
 /// Holds no net.
 impl Recast<Q2> for Net {
-    ghost held = { held_nothing };
+    ghost held = { nets_in_net.held };
 
-    ghost refill = { refill_nothing };
+    ghost refill = { nets_in_net.refill };
 
     fn recast<R: Recaster<Item = Q2>>(&mut self, _recaster: &R) -> Result<(), Q2> {
         Ok(())
     }
 
-    ghost held_refill = { nothing_held_refill };
+    ghost held_refill = { nets_in_net.held_refill };
 
-    ghost refill_held = { λ _. refl };
+    ghost refill_held = { nets_in_net.refill_held };
 
-    ghost refill_refill = { λ _ _ _ _ _. refl };
+    ghost refill_refill = { nets_in_net.refill_refill };
 }
 
 /// A circuit of cells and nets, each named by the pointer that its insertion gave. The pointers of

@@ -2,8 +2,10 @@
 #![tactic(auto)]
 
 pub mod beside;
+pub mod beside_two;
 pub mod circuit;
 pub mod counting_stack;
+pub mod elements;
 pub mod entity_table;
 pub mod exchange;
 pub mod first_arena;
@@ -13,6 +15,7 @@ pub mod graph;
 pub mod guest_book;
 pub mod holders;
 pub mod into_values;
+pub mod labels;
 pub mod leases;
 pub mod links;
 pub mod moving;

@@ -16,7 +16,7 @@ module _ {P Q T : Type 0}
     (numbers_too : Q → Pointer) (rename_too : Pointer → Pointer) (held_too : T → List Q) (refill_too : T → List Q → T)
     (apart : StandApart held refill held_too refill_too) where
   -- those of the other kind stay, where those of one kind are renamed
-  too_stay : (old new : T) → IsRenamed numbers rename held refill old new → held_too new ≡ held_too old
+  pub too_stay : (old new : T) → IsRenamed numbers rename held refill old new → held_too new ≡ held_too old
   too_stay old new is = ap held_too is.filled ∙ apart.0 old (held new) (many_renamed numbers rename (held old) (held new) is.holds)
 
   pub all_too_stay : (olds news : List T) → AreRenamed numbers rename held refill olds news → held_all held_too news ≡ held_all held_too olds
@@ -26,7 +26,8 @@ module _ {P Q T : Type 0}
   all_too_stay (x ∷ olds) (y ∷ news) all =
       ap (λ l. l ++ held_all held_too news) (too_stay x y all.0) ∙ ap (λ l. held_too x ++ l) (all_too_stay olds news all.1)
 
-  both_renamed : (old mid new : T) → IsRenamed numbers rename held refill old mid → IsRenamed numbers_too rename_too held_too refill_too mid new
+  -- a value, where first those of one kind are renamed, and then those of the other
+  pub both_renamed : (old mid new : T) → IsRenamed numbers rename held refill old mid → IsRenamed numbers_too rename_too held_too refill_too mid new
       → IsRenamedBoth numbers rename held refill numbers_too rename_too held_too refill_too old new
   both_renamed old mid new is after =
       let same : held new ≡ held mid = ap held after.filled ∙ apart.1 mid (held_too new) (many_renamed numbers_too rename_too (held_too mid) (held_too new) after.holds) in
@@ -36,7 +37,7 @@ module _ {P Q T : Type 0}
         filled = after.filled ∙ ap (λ v. refill_too v (held_too new)) (is.filled ∙ ap (refill old) (sym same));
       }
 
-  -- values, where first those of one kind are renamed, and then those of the other
+  -- so of values
   pub all_both_renamed : (olds mids news : List T) → AreRenamed numbers rename held refill olds mids → AreRenamed numbers_too rename_too held_too refill_too mids news
       → AreRenamedBoth numbers rename held refill numbers_too rename_too held_too refill_too olds news
   all_both_renamed [] [] [] all after = tt

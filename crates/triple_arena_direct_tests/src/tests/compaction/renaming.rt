@@ -234,7 +234,10 @@ fn mapped<P: Ptr, A: ArenaInsertTrait<P, u64> + CompactArenaTrait<P, u64> + Drop
 fn a_map_has_a_million_pointers(rt: HostRuntime) {
     let asked = [pointer(2, 2), pointer(1_000_001, 2)];
     let told = mapped::<P0, Arena<P0, u64>>(rt.alloc(), 1_000_001, &[1], asked);
-    let wanted = ([Some(pointer(1, 4)), Some(pointer(1_000_000, 4))], 1_000_000);
+    let wanted = (
+        [Some(pointer(1, 4)), Some(pointer(1_000_000, 4))],
+        1_000_000,
+    );
     is(told, Some(wanted)).expect(&rt, "the map");
 }
 

@@ -26,6 +26,10 @@ pub some_is : {A : Type 0} (o : Option A) → IsSome o → (x : A) × (o ≡ Som
 some_is None some = absurd (cc)
 some_is (Some x) some = (x, refl)
 
+-- a pointer that finds something is of its own set
+pub itself : {K V : Type 0} (s : SurjectState K V) (p : Pointer) → IsSome (found_at s p) → AreTogether s p p
+itself s p some = (map_of_some (λ m. m.1) (found_at s p) some, refl)
+
 module _ {P K : Type 0} (numbers : P → Pointer) where
   -- what is read of a node
   abbrev pub read_key : Option (Node (Member P K)) → Option (K × Pointer)

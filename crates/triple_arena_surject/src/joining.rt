@@ -1,8 +1,9 @@
 //! Two sets made one.
 
-ghost use Rattle.std.specs.Prelude.{◌≡◌, ◌↔◌, ◌⊎◌, ◌+◌, None, Some, Ok, Err, IsSome, IfOk, OnErr};
+ghost use Rattle.std.specs.Prelude.{◌≡◌, ◌↔◌, ◌⊎◌, ◌+◌, None, Some, Ok, Err, IsSome, IfOk, OnOk, OnErr};
 ghost use Rattle.std.specs.Result.{IfErr};
-ghost use Rattle.triple_arena_surject.specs.Surject.{found_at, val_at, AreTogether, IsUnited, IsUnion, HasOneLess};
+ghost use Rattle.triple_arena_ptr.specs.Pointers.{Pointer};
+ghost use Rattle.triple_arena_surject.specs.Surject.{found_at, key_at, val_at, AreTogether, IsUnited, IsUnion, HasOneLess};
 
 use crate::member::{Member, Shared};
 use crate::refusal::SurjectError;
@@ -27,6 +28,9 @@ impl<
     pub fn union(&mut self, p: P, q: P) -> Result<Option<V>, SurjectError>
         ensures united { IfOk result (λ gives. IsSome gives
             → IsUnion self.old (P.numbers p) (P.numbers q) gives self.new) }
+        ensures together { OnOk result (AreTogether self.new (P.numbers p) (P.numbers q)) }
+        ensures stays { (r t : Pointer) → AreTogether self.old r t → AreTogether self.new r t }
+        ensures keys { (r : Pointer) → key_at self.new r ≡ key_at self.old r }
         ensures one { (result ≡ Ok None) ↔ AreTogether self.old (P.numbers p) (P.numbers q) }
         ensures len_keys { self.new.len_keys ≡ self.old.len_keys }
         ensures len_vals { IfOk result (λ gives. IsSome gives

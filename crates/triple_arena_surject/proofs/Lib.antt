@@ -1,0 +1,12 @@
+pub mod Runs
+pub mod Rounds
+pub mod Sound
+pub mod States
+pub mod Splicing
+pub mod Relabelling
+pub mod Uniting
+pub mod Leaving
+pub mod Changes
+pub mod Counting
+pub mod Renaming
+pub mod Results

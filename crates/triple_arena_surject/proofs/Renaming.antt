@@ -1,0 +1,123 @@
+-- What holds after a compaction: each set has its keys, under their new names.
+use Rattle.std.specs.Prelude.{List, [], ◌∷◌, map, Contains}
+use Rattle.std.proofs.Common.{◌≡◌, ℕ, zero, suc, length, Option, Some, None, IsSome, refl, sym, ap, ◌∙◌, subst, arith}
+use Rattle.std.proofs.lemmas.List.{length-map}
+use Rattle.std.specs.Option.{option_map}
+use Rattle.triple_arena_ptr.specs.Pointers.{Pointer}
+use Rattle.triple_arena.specs.Entries.{look_up, entry_count}
+use Rattle.triple_arena.specs.Walks.{keys, entries}
+use Rattle.triple_arena.specs.laws.WalkLaws.{live_key, key_live, keys_rising, length-entries}
+use Rattle.triple_arena_chain_uses.specs.Chains.{Node, ChainState, nodes, value_at, renamed, IsMoved, AreOnce}
+use Rattle.triple_arena_chain_uses.proofs.Lists.{in_head, in_tail, moved_run}
+use Rattle.triple_arena_surject.specs.declared.member.Member.{Member}
+use Rattle.triple_arena_surject.specs.declared.member.Shared.{Shared}
+use Rattle.triple_arena_surject.specs.Rings.{label, IsRound, IsRing, IsSound}
+use Rattle.triple_arena_surject.specs.Surject.{SurjectState, found_at, key_of, state_of, IsRenamed}
+use Rattle.triple_arena_surject.proofs.Counting.{as_many_once, in_map, one_to_one, once_rising}
+use Rattle.triple_arena_surject.proofs.Runs.{none_in, run_there}
+use Rattle.triple_arena_surject.proofs.Rounds.{labelled_there}
+use Rattle.triple_arena_surject.proofs.States.{some_of_map, map_of_some, found_is, read_same}
+
+module _ {P K : Type 0} (numbers : P → Pointer) (old new : ChainState (Member P K)) (rename : Pointer → Pointer) (moves : IsMoved (nodes old) rename (nodes new))
+    (counted : entry_count old.slots ≡ old.len) (recounted : entry_count new.slots ≡ new.len) (same : new.len ≡ old.len) where
+  many : (slots : List (Option (ℕ × Node (Member P K)))) → length (keys slots) ≡ entry_count slots
+  many slots = length-map (entries slots) (λ (e : Pointer × Node (Member P K)). e.0) ∙ length-entries slots
+
+  names_once : AreOnce (map rename (keys old.slots))
+  names_once =
+      as_many_once (keys new.slots) (map rename (keys old.slots)) (once_rising 1 (keys new.slots) (keys_rising new.slots))
+      (λ q within.
+      let from = moves.all q (key_live new.slots q within) in
+      subst (Contains (map rename (keys old.slots))) from.2 (in_map rename (keys old.slots) from.0 (live_key old.slots from.0 from.1)))
+      (omega (arith, length-map (keys old.slots) rename, many old.slots, many new.slots, counted, recounted, same))
+
+  pub rename_once : (p q : Pointer) → IsSome (nodes old p) → IsSome (nodes old q) → rename p ≡ rename q → p ≡ q
+  rename_once p q some there = one_to_one rename (keys old.slots) names_once p q (live_key old.slots p some) (live_key old.slots q there)
+
+  pub value_moved : (p : Pointer) → IsSome (nodes old p) → value_at (nodes new) (rename p) ≡ value_at (nodes old) p
+  value_moved p some = ap (option_map (λ (n : Node (Member P K)). n.value)) (moves.moved p some) ∙ by_node (nodes old p)
+    where
+      by_node : (o : Option (Node (Member P K))) → option_map (λ (n : Node (Member P K)). n.value) (option_map (renamed rename) o) ≡ option_map (λ (n : Node (Member P K)). n.value) o
+      by_node None = refl
+      by_node (Some node) = refl
+
+  label_moved : (p : Pointer) → IsSome (nodes old p) → label numbers (nodes new) (rename p) ≡ label numbers (nodes old) p
+  label_moved p some = ap (option_map (λ (m : Member P K). numbers m.set)) (value_moved p some)
+
+  from_name : (ps : List Pointer) (q : Pointer) → Contains (map rename ps) q → (p : Pointer) × Contains ps p × (rename p ≡ q)
+  from_name [] q within = absurd (none_in q within)
+  from_name (p ∷ ps) q (zero, within, is) = (p, in_head p ps, is)
+  from_name (p ∷ ps) q (suc k, within, is) =
+      let more = from_name ps q (k, omega (arith, within), is) in
+      (more.0, in_tail p more.0 ps more.1, more.2)
+
+  ring_moved : (c : Pointer) (n : ℕ) → IsRing numbers (nodes old) c n → IsRing numbers (nodes new) c n
+  ring_moved c n ring =
+      let p = ring.0 in
+      let rest = ring.1 in
+      let is : IsRound numbers (nodes old) c n p rest = ring.2 in
+      let there : (q : Pointer) → Contains (p ∷ rest) q → IsSome (nodes old q) = λ q within. run_there (nodes old) (p ∷ rest) (Some p) is.run q within in (
+        rename p,
+        map rename rest,
+        record {
+          run = (moved_run (nodes old) rename (nodes new) (p ∷ rest) (Some p) moves is.run).0;
+          apart = λ q within e.
+              let from = from_name rest q within in
+              is.apart from.0 from.1 (rename_once p from.0 (there p (in_head p rest)) (there from.0 (in_tail p from.0 rest from.1)) (e ∙ sym from.2));
+          among = λ q. (
+            λ of.
+                let from = moves.all q (labelled_there numbers (nodes new) q c of) in
+                let of_old : label numbers (nodes old) from.0 ≡ Some c = sym (label_moved from.0 from.1) ∙ ap (label numbers (nodes new)) from.2 ∙ of in
+                subst (Contains (map rename (p ∷ rest))) from.2 (in_map rename (p ∷ rest) from.0 ((is.among from.0).0 of_old)),
+            λ within.
+                let from = from_name (p ∷ rest) q within in
+                ap (label numbers (nodes new)) (sym from.2) ∙ label_moved from.0 (there from.0 from.1) ∙ (is.among from.0).1 from.1,
+          );
+          size = ap suc (length-map rest rename) ∙ is.size;
+        },
+      )
+
+  pub sound_moved : (count : Pointer → Option ℕ) → IsSound numbers (nodes old) count → IsSound numbers (nodes new) count
+  sound_moved count sound =
+      record {
+        counted = λ q c of.
+            let from = moves.all q (labelled_there numbers (nodes new) q c of) in
+            sound.counted from.0 c (sym (label_moved from.0 from.1) ∙ ap (label numbers (nodes new)) from.2 ∙ of);
+        rings = λ c n is. ring_moved c n (sound.rings c n is);
+      }
+
+  -- the state after it
+  module _ {V : Type 0} (slots : List (Option (ℕ × Shared V))) (capacity : ℕ) (limit : Option ℕ) where
+    abbrev before : SurjectState K V
+    before = state_of numbers old slots capacity limit
+
+    abbrev after : SurjectState K V
+    after = state_of numbers new slots capacity limit
+
+    there_before : (p : Pointer) → IsSome (found_at before p) → IsSome (nodes old p)
+    there_before p some = some_of_map (key_of numbers) (nodes old p) (subst IsSome (found_is numbers old slots capacity limit p) some)
+
+    pub there_after : (p : Pointer) → IsSome (found_at after p) → IsSome (nodes new p)
+    there_after p some = some_of_map (key_of numbers) (nodes new p) (subst IsSome (found_is numbers new slots capacity limit p) some)
+
+    pub renamed_state : IsRenamed before rename after
+    renamed_state =
+        record {
+          renamed = λ p some.
+              let there = there_before p some in
+              found_is numbers new slots capacity limit (rename p)
+              ∙ read_same numbers (nodes old p) (nodes new (rename p)) (value_moved p there)
+              ∙ sym (found_is numbers old slots capacity limit p);
+          all = λ q some.
+              let from = moves.all q (there_after q some) in
+              (from.0, subst IsSome (sym (found_is numbers old slots capacity limit from.0)) (map_of_some (key_of numbers) (nodes old from.0) from.1), from.2);
+          vals = λ c. refl;
+        }
+
+    pub maps_keys : {I : Type 0} (images : I → Pointer) (map_slots : List (Option (ℕ × I))) → ((p : Pointer) → option_map images (look_up map_slots p) ≡ option_map (λ _. rename p) (nodes old p))
+        → (p : Pointer) → option_map images (look_up map_slots p) ≡ option_map (λ _. rename p) (found_at before p)
+    maps_keys images map_slots maps p = maps p ∙ by_node (nodes old p) ∙ sym (ap (option_map (λ _. rename p)) (found_is numbers old slots capacity limit p))
+      where
+        by_node : (o : Option (Node (Member P K))) → option_map (λ _. rename p) o ≡ option_map (λ _. rename p) (option_map (key_of numbers) o)
+        by_node None = refl
+        by_node (Some node) = refl

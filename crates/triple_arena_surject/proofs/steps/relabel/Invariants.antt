@@ -1,0 +1,12 @@
+use Rattle.std.proofs.Common.{◌≡◌}
+use Rattle.triple_arena_chain_uses.specs.Chains.{nodes}
+use Rattle.triple_arena_surject.proofs.Relabelling.{IsPart}
+use Rattle.triple_arena_surject.proofs.steps.relabel.Given as goal
+
+abbrev pub invariant-round : goal.invariant-round
+invariant-round g l = record {
+  part : IsPart g.P.Ptr.numbers (nodes l.fn.keys) (nodes l.keys) l.count (g.P.Ptr.numbers l.fn.from) (g.P.Ptr.numbers l.at) l.set l.turn;
+  len : l.keys.len ≡ l.fn.keys.len;
+  capacity : l.keys.capacity ≡ l.fn.keys.capacity;
+  limit : l.keys.limit ≡ l.fn.keys.limit;
+}

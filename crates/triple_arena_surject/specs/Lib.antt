@@ -1,0 +1,3 @@
+-- Read first: Surject.
+pub mod Surject
+pub mod Rings

@@ -1,0 +1,116 @@
+//! New sets, and new keys of a set.
+
+ghost use Rattle.std.specs.Prelude.{◌≡◌, ◌≢◌, ◌≤◌, ◌<◌, ◌↔◌, ◌⊎◌, ◌+◌, None, Some, Err, IsOk, IsSome, IfOk, OnOk, OnErr};
+ghost use Rattle.std.specs.Result.{IfErr};
+ghost use Rattle.triple_arena_ptr.specs.Numbers.{greatest_index};
+ghost use Rattle.triple_arena_stack.specs.Capacity.{IsFullAtLimit, CanGrow};
+ghost use Rattle.triple_arena_surject.specs.Surject.{found_at, IsNewSet, IsAdded, IsSame, IsRefusedRoom};
+
+use crate::member::{Member, Shared};
+use crate::refusal::{SurjectError, told_of_chains, told_of_growth};
+use crate::steps::{count_keys, put, put_alone, set_of, take};
+use crate::surject::SurjectArena;
+use triple_arena::{ArenaInsertTrait, ArenaTrait, CompactArenaTrait};
+use triple_arena_chain_uses::{Link, Place};
+use triple_arena_ptr::{Ptr, PtrInx};
+
+impl<
+    P: Ptr,
+    K,
+    V,
+    A: CompactArenaTrait<P, Link<P, Member<P, K>>> + ArenaInsertTrait<P, Link<P, Member<P, K>>>,
+    B: ArenaInsertTrait<P, Shared<V>>,
+> SurjectArena<P, K, V, A, B> {
+    /// A new set of one key, with its value.
+    ///
+    /// `NoRoom` where the arena of values is full at its limit; else `NoMemory` where it is full and memory is
+    /// refused, or there is no greater index; then so for the arena of keys. Then each pointer finds what it found,
+    /// and key and value are dropped; the arena of values may have grown.
+    pub fn insert(&mut self, key: K, value: V) -> Result<P, SurjectError>
+    where
+        K: Drop,
+        V: Drop,
+        ensures inserted { IfOk result
+            (λ p. IsNewSet self.old (P.numbers p) key value self.new) }
+        ensures len_keys { OnOk result (self.new.len_keys ≡ self.old.len_keys + 1) }
+        ensures len_vals { OnOk result (self.new.len_vals ≡ self.old.len_vals + 1) }
+        ensures key_capacity { OnOk result (self.old.key_capacity ≤ self.new.key_capacity) }
+        ensures key_limit { OnOk result (self.new.key_limit ≡ self.old.key_limit) }
+        ensures val_capacity { OnOk result (self.old.val_capacity ≤ self.new.val_capacity) }
+        ensures val_limit { OnOk result (self.new.val_limit ≡ self.old.val_limit) }
+        ensures refused { OnErr result (IsSame self.old self.new) }
+        ensures refusal { IfErr result IsRefusedRoom }
+        ensures full_vals { IsFullAtLimit self.old.val_capacity self.old.val_limit self.old.len_vals
+            → result ≡ Err SurjectError.NoRoom }
+        ensures full_keys { self.old.len_vals < self.old.val_capacity
+            → ((result ≡ Err SurjectError.NoRoom)
+            ↔ IsFullAtLimit self.old.key_capacity self.old.key_limit self.old.len_keys) }
+        ensures with_memory { CanGrow A.has_memory self.old.key_capacity self.old.key_limit
+            (greatest_index P.Inx.greatest)
+            → CanGrow B.has_memory self.old.val_capacity self.old.val_limit
+            (greatest_index P.Inx.greatest) → IsOk result }
+        ensures had_place { self.old.len_keys < self.old.key_capacity
+            → self.old.len_vals < self.old.val_capacity
+            → IsOk result × (self.new.key_capacity ≡ self.old.key_capacity)
+            × (self.new.val_capacity ≡ self.old.val_capacity) }
+    {
+        match put(&mut self.sets, value) {
+            Ok(set) => match put_alone(&mut self.keys, Member { key, set }) {
+                Ok(p) => Ok(p),
+                Err(refusal) => {
+                    drop(take(&mut self.sets, set));
+                    Err(told_of_chains(refusal))
+                }
+            },
+            Err(refusal) => Err(told_of_growth(refusal)),
+        }
+    }
+
+    /// A new key in the set of a pointer.
+    ///
+    /// `NoEntry` exactly where the pointer finds nothing; else `NoRoom` exactly where the arena of keys is full at
+    /// its limit, else `NoMemory` where it is full and memory is refused, or there is no greater index. Then nothing
+    /// changes, and the key is dropped.
+    pub fn insert_key(&mut self, p: P, key: K) -> Result<P, SurjectError>
+    where
+        K: Drop,
+        ensures added { IfOk result
+            (λ q. IsAdded self.old (P.numbers p) (P.numbers q) key self.new) }
+        ensures len_keys { OnOk result (self.new.len_keys ≡ self.old.len_keys + 1) }
+        ensures len_vals { self.new.len_vals ≡ self.old.len_vals }
+        ensures key_capacity { OnOk result (self.old.key_capacity ≤ self.new.key_capacity) }
+        ensures key_limit { OnOk result (self.new.key_limit ≡ self.old.key_limit) }
+        ensures val_capacity { self.new.val_capacity ≡ self.old.val_capacity }
+        ensures val_limit { self.new.val_limit ≡ self.old.val_limit }
+        ensures refused { OnErr result (self.new ≡ self.old) }
+        ensures no_entry { (result ≡ Err SurjectError.NoEntry)
+            ↔ (found_at self.old (P.numbers p) ≡ None) }
+        ensures refusal { IsSome (found_at self.old (P.numbers p)) → IfErr result IsRefusedRoom }
+        ensures no_room { IsSome (found_at self.old (P.numbers p))
+            → ((result ≡ Err SurjectError.NoRoom)
+            ↔ IsFullAtLimit self.old.key_capacity self.old.key_limit self.old.len_keys) }
+        ensures with_memory { IsSome (found_at self.old (P.numbers p))
+            → CanGrow A.has_memory self.old.key_capacity self.old.key_limit
+            (greatest_index P.Inx.greatest) → IsOk result }
+        ensures had_place { IsSome (found_at self.old (P.numbers p))
+            → self.old.len_keys < self.old.key_capacity
+            → IsOk result × (self.new.key_capacity ≡ self.old.key_capacity) }
+    {
+        let Some(set) = set_of(&self.keys, p) else {
+            return Err(SurjectError::NoEntry);
+        };
+        // By its clauses, neighbours lead to each other.
+        let _len = self.keys.len();
+        let shared = self.sets.get(set);
+        let count = shared.unwrap().keys;
+        match self.keys.insert(Place::After(p), Member { key, set }) {
+            Ok(q) => {
+                // By its value, which is a number of 64 bits, one more key is counted.
+                let _more = self.keys.len();
+                count_keys(&mut self.sets, set, count + 1);
+                Ok(q)
+            }
+            Err(refusal) => Err(told_of_chains(refusal)),
+        }
+    }
+}

@@ -1,0 +1,90 @@
+//! Two sets made one.
+
+ghost use Rattle.std.specs.Prelude.{◌≡◌, ◌↔◌, ◌⊎◌, ◌+◌, None, Some, Ok, Err, IsSome, IfOk, OnOk, OnErr};
+ghost use Rattle.std.specs.Result.{IfErr};
+ghost use Rattle.triple_arena_ptr.specs.Pointers.{Pointer};
+ghost use Rattle.triple_arena_surject.specs.Surject.{found_at, key_at, val_at, AreTogether, IsUnited, IsUnion, HasOneLess};
+
+use crate::member::{Member, Shared};
+use crate::refusal::SurjectError;
+use crate::steps::{count_keys, relabel, set_of, splice, take};
+use crate::surject::SurjectArena;
+use triple_arena::{ArenaInsertTrait, ArenaTrait, CompactArenaTrait};
+use triple_arena_chain_uses::Link;
+use triple_arena_ptr::Ptr;
+
+impl<
+    P: Ptr,
+    K,
+    V,
+    A: CompactArenaTrait<P, Link<P, Member<P, K>>> + ArenaInsertTrait<P, Link<P, Member<P, K>>>,
+    B: ArenaInsertTrait<P, Shared<V>>,
+> SurjectArena<P, K, V, A, B> {
+    /// Makes one set of two. The value of the set with more keys stays, or of the first where both have as many; that
+    /// of the other comes back. Nothing comes back where both are one set, and nothing changes then. Every key stays
+    /// under its pointer. It takes no memory.
+    ///
+    /// `NoEntry` exactly where one of the pointers finds nothing; then nothing changes.
+    pub fn union(&mut self, p: P, q: P) -> Result<Option<V>, SurjectError>
+        ensures united { IfOk result (λ gives. IsSome gives
+            → IsUnion self.old (P.numbers p) (P.numbers q) gives self.new) }
+        ensures together { OnOk result (AreTogether self.new (P.numbers p) (P.numbers q)) }
+        ensures stays { (r t : Pointer) → AreTogether self.old r t → AreTogether self.new r t }
+        ensures keys { (r : Pointer) → key_at self.new r ≡ key_at self.old r }
+        ensures one { (result ≡ Ok None) ↔ AreTogether self.old (P.numbers p) (P.numbers q) }
+        ensures len_keys { self.new.len_keys ≡ self.old.len_keys }
+        ensures len_vals { IfOk result (λ gives. IsSome gives
+            → self.new.len_vals + 1 ≡ self.old.len_vals) }
+        ensures kept { result ≡ Ok None → self.new ≡ self.old }
+        ensures key_capacity { self.new.key_capacity ≡ self.old.key_capacity }
+        ensures key_limit { self.new.key_limit ≡ self.old.key_limit }
+        ensures val_capacity { self.new.val_capacity ≡ self.old.val_capacity }
+        ensures val_limit { self.new.val_limit ≡ self.old.val_limit }
+        ensures no_entry { (result ≡ Err SurjectError.NoEntry)
+            ↔ ((found_at self.old (P.numbers p) ≡ None) ⊎ (found_at self.old (P.numbers q) ≡ None)) }
+        ensures refusal { IfErr result (λ refusal. refusal ≡ SurjectError.NoEntry) }
+        ensures refused { OnErr result (self.new ≡ self.old) }
+    {
+        let Some(first) = self.len_key_set(p) else {
+            return Err(SurjectError::NoEntry);
+        };
+        let Some(second) = self.len_key_set(q) else {
+            return Err(SurjectError::NoEntry);
+        };
+        if self.in_same_set(p, q) {
+            return Ok(None);
+        }
+        if second <= first {
+            Ok(Some(self.take_in(p, q)))
+        } else {
+            Ok(Some(self.take_in(q, p)))
+        }
+    }
+
+    // Has one set take in the keys of another, and gives the value of that.
+    fn take_in(&mut self, kept: P, gone: P) -> V
+        requires kept { IsSome (found_at self.old (P.numbers kept)) }
+        requires gone { IsSome (found_at self.old (P.numbers gone)) }
+        requires apart { ¬ AreTogether self.old (P.numbers kept) (P.numbers gone) }
+        ensures gives { val_at self.old (P.numbers gone) ≡ Some result }
+        ensures united { IsUnited self.old (P.numbers kept) (P.numbers gone) self.new }
+        ensures fewer { HasOneLess self.old self.new }
+    {
+        // By its clauses, neighbours lead to each other.
+        let _len = self.keys.len();
+        let first = set_of(&self.keys, kept);
+        let set = first.unwrap();
+        let second = set_of(&self.keys, gone);
+        let other = second.unwrap();
+        let shared = self.sets.get(set);
+        let count = shared.unwrap().keys;
+        let taken = take(&mut self.sets, other);
+        let out = taken.unwrap();
+        relabel(&mut self.keys, gone, out.keys, set);
+        splice(&mut self.keys, kept, gone);
+        // By its clauses, there are at least as many keys as both sets have.
+        let _all = self.keys.len();
+        count_keys(&mut self.sets, set, count + out.keys);
+        out.value
+    }
+}

@@ -1,0 +1,16 @@
+//! Sets of keys, each key under a pointer of its own, and each set with one value: a door.
+#![tactic(auto)]
+
+mod compaction;
+mod inserting;
+mod joining;
+pub mod member;
+pub mod refusal;
+mod removing;
+mod steps;
+pub mod surject;
+mod valuing;
+
+pub use member::{Member, Shared};
+pub use refusal::SurjectError;
+pub use surject::SurjectArena;

@@ -1,0 +1,47 @@
+//! Another value for a set.
+
+ghost use Rattle.std.specs.Prelude.{◌≡◌, ◌↔◌, None, Some, Err, IfOk, OnOk, OnErr};
+ghost use Rattle.std.specs.Result.{IfErr};
+ghost use Rattle.triple_arena_surject.specs.Surject.{found_at, val_at, IsValued};
+
+use crate::member::{Member, Shared};
+use crate::refusal::SurjectError;
+use crate::steps::{replace, set_of};
+use crate::surject::SurjectArena;
+use triple_arena::{ArenaInsertTrait, ArenaTrait, CompactArenaTrait};
+use triple_arena_chain_uses::Link;
+use triple_arena_ptr::Ptr;
+
+impl<
+    P: Ptr,
+    K,
+    V,
+    A: CompactArenaTrait<P, Link<P, Member<P, K>>> + ArenaInsertTrait<P, Link<P, Member<P, K>>>,
+    B: ArenaInsertTrait<P, Shared<V>>,
+> SurjectArena<P, K, V, A, B> {
+    /// Puts another value for a pointer's set, and gives the one that it had.
+    ///
+    /// `NoEntry` exactly where the pointer finds nothing; then nothing changes, and the value is dropped.
+    pub fn replace_val(&mut self, p: P, value: V) -> Result<V, SurjectError>
+    where
+        V: Drop,
+        ensures was { IfOk result (λ was. val_at self.old (P.numbers p) ≡ Some was) }
+        ensures valued { OnOk result (IsValued self.old (P.numbers p) value self.new) }
+        ensures len_keys { self.new.len_keys ≡ self.old.len_keys }
+        ensures len_vals { self.new.len_vals ≡ self.old.len_vals }
+        ensures key_capacity { self.new.key_capacity ≡ self.old.key_capacity }
+        ensures key_limit { self.new.key_limit ≡ self.old.key_limit }
+        ensures val_capacity { self.new.val_capacity ≡ self.old.val_capacity }
+        ensures val_limit { self.new.val_limit ≡ self.old.val_limit }
+        ensures no_entry { (result ≡ Err SurjectError.NoEntry)
+            ↔ (found_at self.old (P.numbers p) ≡ None) }
+        ensures refusal { IfErr result (λ refusal. refusal ≡ SurjectError.NoEntry) }
+        ensures refused { OnErr result (self.new ≡ self.old) }
+    {
+        let Some(set) = set_of(&self.keys, p) else {
+            return Err(SurjectError::NoEntry);
+        };
+        let was = replace(&mut self.sets, set, value);
+        Ok(was.unwrap())
+    }
+}

@@ -7,4 +7,5 @@ mod MappedAnswers
 mod Followed
 mod FollowedBoth
 mod Relations
+mod Retained
 pub mod StrictAnswers

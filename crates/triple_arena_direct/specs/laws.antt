@@ -2,6 +2,7 @@
 pub mod RenamingLaws
 pub mod ImageLaws
 pub mod RenamingBothLaws
+pub mod RetainLaws
 pub mod GoneLaws
 pub mod StrictAnswerLaws
 -- Of direct arenas.

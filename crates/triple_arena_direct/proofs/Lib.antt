@@ -7,6 +7,7 @@ mod MappedAnswers
 mod Followed
 mod FollowedBoth
 mod Relations
+mod Retained
 pub mod StrictAnswers
 mod StrictSteps
 mod Retaining

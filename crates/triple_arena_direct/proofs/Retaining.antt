@@ -21,7 +21,7 @@ use Rattle.triple_arena_direct.specs.Gone.{IsUpToCounter}
 use Rattle.triple_arena_direct.specs.StrictAnswers.{is_exhausted_for_any}
 use Rattle.triple_arena_direct.specs.StrictCalls.{IsStrictStep, to_retain}
 use Rattle.triple_arena_direct.specs.StrictRetain.{Sorts, is_any, without_entries, ended_entries, emptied, pointers_lost}
-use Rattle.triple_arena_direct.specs.laws.RetainLaws.{kept-without, kept-ended, counter-without}
+use Rattle.triple_arena_direct.specs.laws.StrictRetainLaws.{kept-without, kept-ended, counter-without}
 use Rattle.triple_arena_direct.proofs.StrictAnswers.{step_done}
 
 any_last : {A : Type 0} (xs : List A) (x : A) → true ≡ is_any (xs ++ x ∷ [])

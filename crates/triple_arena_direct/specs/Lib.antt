@@ -4,6 +4,7 @@ pub mod HeldThree
 pub mod Holding
 pub mod Renaming
 pub mod RenamingBoth
+pub mod Retaining
 pub mod StrictAnswers
 pub mod StrictRetain
 pub mod StrictCalls

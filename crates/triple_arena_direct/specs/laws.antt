@@ -2,8 +2,9 @@
 pub mod RenamingLaws
 pub mod ImageLaws
 pub mod RenamingBothLaws
-pub mod GoneLaws
 pub mod RetainLaws
+pub mod GoneLaws
+pub mod StrictRetainLaws
 pub mod StrictAnswerLaws
 -- Of direct arenas.
 pub use Rattle.triple_arena_direct_arena.specs.laws.DirectSlotLaws

@@ -8,6 +8,7 @@ mod reading;
 mod renaming;
 mod renaming_both;
 pub mod renaming_laws;
+mod retaining;
 mod strict_arena;
 pub mod strict_laws;
 mod text;
@@ -17,6 +18,7 @@ pub use errors::{CompactBothError, StrictCompactBothError, StrictCompactError, S
 pub use reading::Reading;
 pub use renaming::{compress_recast, compress_recast_with, compress_recaster, unresolved};
 pub use renaming_both::{compress_recast_both, compress_recast_both_with};
+pub use retaining::retain;
 pub use strict_arena::{StrictArena, StrictInsertEntry};
 pub use three_parts::recast_three;
 pub use triple_arena_direct_arena::{

@@ -13,7 +13,7 @@ use Rattle.triple_arena_traits.specs.laws.EntryLaws.{slots-reallocated, slots-wi
 use Rattle.triple_arena_traits.specs.Histories.{ModelCall, insertion, resizing, is_live, Fits, Continues}
 use Rattle.triple_arena_traits.specs.laws.HistoryLaws.{Continues-touched, Continues-append, Continues-grown, Continues-inserted, Continues-written, Continues-removed, Continues-invalidated, Continues-cleared, Continues-compressed, Continues-resized, Continues-tidied, Continues-limited}
 use Rattle.triple_arena_direct.specs.StrictAnswers.{is_exhausted, is_exhausted_for_any}
-use Rattle.triple_arena_direct.specs.laws.RetainLaws.{Continues-ended}
+use Rattle.triple_arena_direct.specs.laws.StrictRetainLaws.{Continues-ended}
 use Rattle.triple_arena_direct.specs.StrictCalls.{StrictCall, to_insert, to_write, to_write_each, to_remove, to_invalidate, to_clear, to_retain, to_compress, to_reallocate, to_limit, to_tidy, to_give_up_end, IsUnless, cannot_end, IsStrictStep, AreStrictSteps}
 
 not_refused : (live exhausted : Bool) → (not live || exhausted) ≡ false → (live ≡ true) × (exhausted ≡ false)

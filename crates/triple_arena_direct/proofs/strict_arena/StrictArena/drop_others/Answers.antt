@@ -3,7 +3,7 @@ use Rattle.triple_arena_ptr.specs.Numbers.{raise}
 use Rattle.triple_arena_traits.specs.ArenaState.{ArenaState}
 use Rattle.triple_arena_traits.specs.Histories.{clearing}
 use Rattle.triple_arena_direct.specs.laws.GoneLaws.{up_to-continues, gone-continues, ended-continues}
-use Rattle.triple_arena_direct.specs.laws.RetainLaws.{lost_one}
+use Rattle.triple_arena_direct.specs.laws.StrictRetainLaws.{lost_one}
 use Rattle.triple_arena_direct.specs.laws.StrictAnswerLaws.{Continues-strict}
 use Rattle.triple_arena_direct.specs.StrictCalls.{to_retain}
 use Rattle.triple_arena_direct.specs.StrictRetain.{pointers_lost}

@@ -1,0 +1,20 @@
+use Rattle.std.proofs.Common.{◌≡◌, false, List, map}
+use Rattle.triple_arena_ptr.specs.Numbers.{greatest_index}
+use Rattle.triple_arena_ptr.specs.Pointers.{Pointer}
+use Rattle.triple_arena_traits.specs.Histories.{removal, CountsUp, Continues}
+use Rattle.triple_arena_traits.specs.Walks.{entries, entries_ahead, steps_left}
+use Rattle.triple_arena_direct.proofs.Retained.{GoesOn}
+use Rattle.triple_arena_direct.proofs.retaining.retain.Given as goal
+
+abbrev pub invariant-walk : goal.invariant-walk
+invariant-walk g l = record {
+  callable : goal.F-IsAlwaysCallable g l.keep;
+  forward : (g.A.ArenaTrait.stand l.advancer).reverse ≡ false;
+  goes_on : GoesOn g.P.Ptr.numbers (goal.F-step g) g.A.ArenaTrait.with_value g.A.ArenaTrait.removes g.A.ArenaTrait.ending_wraps l.fn.keep l.fn.this (entries (g.A.ArenaTrait.slots l.fn.this)) (entries_ahead (g.A.ArenaTrait.stand l.advancer) (g.A.ArenaTrait.slots l.this)) l.wrapped l.keep l.this;
+  limit : g.A.ArenaTrait.limit l.this ≡ g.A.ArenaTrait.limit l.fn.this;
+  capacity : g.A.ArenaTrait.capacity l.this ≡ g.A.ArenaTrait.capacity l.fn.this;
+  history : CountsUp g.P.Gen.PtrGen.generations l.wrapped → (gone : List Pointer) × Continues g.A.ArenaTrait.fits l.fn.this (map removal gone) l.this;
+}
+
+abbrev pub decreases-walk : goal.decreases-walk
+decreases-walk g l = steps_left (greatest_index g.P.Inx.PtrInx.greatest) (g.A.ArenaTrait.stand l.advancer)

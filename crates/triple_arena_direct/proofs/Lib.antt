@@ -10,3 +10,4 @@ mod Relations
 pub mod StrictAnswers
 mod StrictSteps
 mod Retaining
+mod Draining

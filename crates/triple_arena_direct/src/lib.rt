@@ -16,7 +16,7 @@ pub use errors::{CompactBothError, StrictCompactBothError, StrictCompactError, S
 pub use reading::Reading;
 pub use renaming::{compress_recast, compress_recast_with, compress_recaster, unresolved};
 pub use renaming_both::compress_recast_both;
-pub use strict_arena::{StrictArena, StrictInsertEntry};
+pub use strict_arena::{StrictArena, StrictDrain, StrictInsertEntry};
 pub use triple_arena_direct_arena::{
     ArenaDirectInsertEntry, DirectArena, DirectSlot, direct_arena_iterators, laws,
 };

@@ -11,3 +11,4 @@ mod Retained
 pub mod StrictAnswers
 mod StrictSteps
 mod Retaining
+mod Draining

@@ -19,7 +19,7 @@ pub use reading::Reading;
 pub use renaming::{compress_recast, compress_recast_with, compress_recaster, unresolved};
 pub use renaming_both::{compress_recast_both, compress_recast_both_with};
 pub use retaining::retain;
-pub use strict_arena::{StrictArena, StrictInsertEntry};
+pub use strict_arena::{StrictArena, StrictDrain, StrictInsertEntry};
 pub use three_parts::recast_three;
 pub use triple_arena_direct_arena::{
     ArenaDirectInsertEntry, DirectArena, DirectSlot, direct_arena_iterators, laws,

@@ -26,6 +26,7 @@ ghost use Rattle.triple_arena_direct.specs.StrictAnswers.{is_exhausted, is_exhau
 ghost use Rattle.triple_arena_direct.specs.StrictCalls.{IsStrictStep, to_insert, to_write, to_remove, to_invalidate, to_clear, to_compress, to_reallocate};
 
 mod both;
+mod drain;
 mod ending;
 mod insert_entry;
 mod insertion;
@@ -38,6 +39,7 @@ mod writing;
 
 use crate::errors::{StrictCompactError, StrictError};
 use crate::{compress_recast, compress_recast_with};
+pub use drain::StrictDrain;
 pub use insert_entry::StrictInsertEntry;
 use std::alloc::Global;
 use std::marker::Model;

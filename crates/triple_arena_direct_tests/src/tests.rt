@@ -5,3 +5,4 @@ mod compaction;
 mod direct;
 mod over_a_stack;
 mod strict;
+mod strict_calls;

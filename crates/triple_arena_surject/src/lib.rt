@@ -1,4 +1,4 @@
-//! Sets of keys, each key under a pointer of its own, and each set with one value: a door.
+//! Sets of keys, each key under a pointer of its own, and each set with one value: over chains, to copy from.
 #![tactic(auto)]
 
 mod compaction;

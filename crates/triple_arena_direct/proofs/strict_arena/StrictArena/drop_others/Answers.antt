@@ -7,7 +7,7 @@ use Rattle.triple_arena_direct.specs.laws.StrictRetainLaws.{lost_one}
 use Rattle.triple_arena_direct.specs.laws.StrictAnswerLaws.{Continues-strict}
 use Rattle.triple_arena_direct.specs.StrictCalls.{to_retain}
 use Rattle.triple_arena_direct.specs.StrictRetain.{pointers_lost}
-use Rattle.triple_arena_direct.proofs.Retaining.{retained, retained_step, retained_kept}
+use Rattle.triple_arena_direct.proofs.StrictRetaining.{retained, retained_step, retained_kept}
 use Rattle.triple_arena_direct.proofs.strict_arena.StrictArena.drop_others.Goals as goal
 
 pub invariant_of-self : goal.invariant_of-self

@@ -4,7 +4,7 @@ use Rattle.triple_arena_traits.specs.ArenaState.{ArenaState}
 use Rattle.triple_arena_traits.specs.Histories.{Fits, Continues}
 use Rattle.triple_arena_direct.specs.laws.GoneLaws.{up_to-continues}
 use Rattle.triple_arena_direct.specs.laws.StrictRetainLaws.{Continues-raised}
-use Rattle.triple_arena_direct.proofs.Retaining.{raised_any}
+use Rattle.triple_arena_direct.proofs.StrictRetaining.{raised_any}
 use Rattle.triple_arena_direct.proofs.strict_arena.StrictArena.raise_if_any.Goals as goal
 
 pub returns : goal.returns

@@ -1,4 +1,4 @@
-use Rattle.triple_arena_direct.proofs.Retaining.{emptied_removed, up_to_out}
+use Rattle.triple_arena_direct.proofs.StrictRetaining.{emptied_removed, up_to_out}
 use Rattle.triple_arena_direct.proofs.strict_arena.StrictArena.take_next.Goals as goal
 
 pub invariant_of-self : goal.invariant_of-self

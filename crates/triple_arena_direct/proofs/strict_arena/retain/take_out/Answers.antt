@@ -4,7 +4,7 @@ use Rattle.triple_arena_ptr.specs.Numbers.{raise, wraps}
 use Rattle.triple_arena_traits.specs.Ending.{told_of}
 use Rattle.triple_arena_traits.specs.laws.WalkLaws.{found}
 use Rattle.triple_arena_traits.proofs.Walking.{unwrapped, allowed_told}
-use Rattle.triple_arena_direct.proofs.Retaining.{taken_back}
+use Rattle.triple_arena_direct.proofs.StrictRetaining.{taken_back}
 use Rattle.triple_arena_direct.proofs.strict_arena.retain.take_out.Goals as goal
 
 pub returns-clause-value : goal.returns-clause-value

@@ -3,7 +3,7 @@ use Rattle.std.specs.Option.{option_copied}
 use Rattle.triple_arena_ptr.specs.Numbers.{greatest_index}
 use Rattle.triple_arena_traits.specs.laws.WalkLaws.{found}
 use Rattle.triple_arena_traits.proofs.CopyLemmas.{shared_some}
-use Rattle.triple_arena_direct.proofs.Retaining.{sort_start, sort_kept, sort_dropped, sort_end}
+use Rattle.triple_arena_direct.proofs.StrictRetaining.{sort_start, sort_kept, sort_dropped, sort_end}
 use Rattle.triple_arena_direct.proofs.strict_arena.retain.take_out_others.Goals as goal
 
 pub walk-init : goal.walk-init

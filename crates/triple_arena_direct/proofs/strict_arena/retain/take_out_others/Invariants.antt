@@ -1,6 +1,6 @@
 use Rattle.triple_arena_ptr.specs.Numbers.{greatest_index}
 use Rattle.triple_arena_traits.specs.Walks.{steps_left}
-use Rattle.triple_arena_direct.proofs.Retaining.{Sorted}
+use Rattle.triple_arena_direct.proofs.StrictRetaining.{Sorted}
 use Rattle.triple_arena_direct.proofs.strict_arena.retain.take_out_others.Given as goal
 
 abbrev pub invariant-walk : goal.invariant-walk

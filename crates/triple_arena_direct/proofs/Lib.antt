@@ -10,5 +10,5 @@ mod Relations
 mod Retained
 pub mod StrictAnswers
 mod StrictSteps
-mod Retaining
+mod StrictRetaining
 mod Draining

@@ -1,0 +1,5 @@
+//! Tests of sets of keys by their public calls.
+#![tactic(auto)]
+
+#[cfg(test)]
+mod tests;

@@ -2,3 +2,4 @@ pub mod Pairs
 pub mod Keeping
 pub mod Cloned
 mod Touched
+mod Growing

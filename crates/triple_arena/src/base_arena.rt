@@ -499,12 +499,8 @@ impl<P: Ptr, T, S: NonZeroInxGenericStack<ArenaSlot<P, T>>> ArenaInsertTrait<P, 
     }
 
     #[inline(always)]
-    fn insert_reallocating(&mut self, t: T) -> Result<P, ReallocationError>
-    where
-        T: Drop,
-    {
-        self.grow_if_full()?;
-        Ok(self.insert_reserved(t))
+    fn make_place(&mut self) -> Result<(), ReallocationError> {
+        self.grow_if_full()
     }
 
     ghost generation_next = { generation-next };

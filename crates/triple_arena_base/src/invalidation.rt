@@ -4,6 +4,7 @@ ghost use Rattle.std.specs.Prelude.{◌≡◌, true, false, Some, None, Ok, Err,
 ghost use Rattle.triple_arena_base.specs.Invalidation.{is_success_option, allowed_option, strict_option, overflowing_option, MapsOption, is_success, is_overflow, is_invalid, allowed, strict, overflowing, MapsResult, as_option, ForValue};
 
 /// What a call answers that always succeeds, and may have wrapped the generation counter.
+#[must_use]
 #[derive(Debug, Clone, Copy, Hash, PartialEq, Eq, Drop)]
 pub enum InvalidationOption<T> {
     /// The call was done, and the counter did not wrap.
@@ -74,6 +75,7 @@ impl<T> InvalidationOption<T> {
 
 /// What a call on a pointer answers: it may be invalid, and the call may have wrapped the
 /// generation counter.
+#[must_use]
 #[derive(Debug, Clone, Copy, Hash, PartialEq, Eq, Drop)]
 pub enum InvalidationResult<T> {
     /// The call was done, and the counter did not wrap.

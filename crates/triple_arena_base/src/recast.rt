@@ -25,8 +25,9 @@ pub trait Recaster {
 /// Both are tied by three laws, so that generic code knows what stands after `recast`.
 ///
 /// What the value holds is what `held` names, and nothing else: a pointer that it leaves out keeps
-/// its old name where entries are renamed, and no clause can find that. A type that holds none
-/// says so (`held_nothing`, `refill_nothing`).
+/// its old name where entries are renamed, and no clause of a library can find that: one of your own does
+/// that says what is read through each pointer afterwards. A type that holds none says so
+/// (`held_nothing`, `refill_nothing`).
 pub trait Recast<I> {
     /// The items that the value holds, in its order.
     ghost held: { Self → List I };

@@ -1,19 +1,23 @@
-//! Insertion, reading, churn, a walk and clearing of an arena, with the pointer of general use and with
-//! the small one, and of a plain vector with free indexes. What is timed isn't inlined, so that each table's loop is
-//! compiled alike.
+//! Insertion, reading, churn, a walk, clearing and removal: of an arena, with the pointer of general use and with the
+//! small one, of a strict arena with the first, of a slab, and of a plain vector with free indexes. What is timed isn't
+//! inlined, so that each table's loop is compiled alike.
 
+mod keyed;
 mod plain;
+mod strict;
 mod table;
 
 use crate::timing::{RUNS, Timed, Timing, now, over_arena, print, since};
 use plain::Plain;
 use rand_core::Rng;
 use rand_pcg::Pcg64Mcg;
+use slab::Slab;
 use std::alloc::Global;
 use std::io::Print;
 use std::time::Clock;
-use table::{InArena, Table};
+use table::{InArena, OwnTable, Table};
 use triple_arena::{ArenaInsertTrait, CompactArenaTrait};
+use triple_arena_direct::StrictArena;
 use triple_arena_ptr::{P0, Ptr, SmallPtr};
 
 /// A source of random numbers, which are the same in each run.
@@ -35,6 +39,7 @@ struct Timings {
     churn: Timing,
     iterate: Timing,
     clear: Timing,
+    remove: Timing,
 }
 
 impl Timings {
@@ -44,6 +49,7 @@ impl Timings {
         churn: Timing::LONGEST,
         iterate: Timing::LONGEST,
         clear: Timing::LONGEST,
+        remove: Timing::LONGEST,
     };
 
     fn least(self, later: Timings) -> Timings {
@@ -53,6 +59,7 @@ impl Timings {
             churn: self.churn.least(later.churn),
             iterate: self.iterate.least(later.iterate),
             clear: self.clear.least(later.clear),
+            remove: self.remove.least(later.remove),
         }
     }
 }
@@ -62,6 +69,8 @@ impl Timings {
 pub fn run(rt: &(impl Print + Clock), alloc: Global, size: u32) -> anyhow::Result<()> {
     over_arena::<_, P0, u64, Calls>(rt, alloc, "arena", size)?;
     over_arena::<_, SmallPtr, u64, Calls>(rt, alloc, "small", size)?;
+    time_strict(rt, alloc, size)?;
+    time::<_, Slab<u64>>(rt, alloc, "slab", size)?;
     time::<_, Plain>(rt, alloc, "vector", size)
 }
 
@@ -79,7 +88,7 @@ impl<P: Ptr> Timed<P, u64> for Calls {
     }
 }
 
-fn time<R: Print + Clock, T: Table>(
+fn time<R: Print + Clock, T: OwnTable>(
     rt: &R,
     alloc: Global,
     name: &str,
@@ -88,14 +97,31 @@ fn time<R: Print + Clock, T: Table>(
     let mut names = Vec::with_capacity(alloc, size as usize)?;
     let mut least = Timings::LONGEST;
     for _ in 0..RUNS {
-        least = least.least(time_once::<R, T>(rt, alloc, size, &mut names)?);
+        let mut table = T::empty(alloc);
+        least = least.least(time_once::<R, T>(rt, size, &mut table, &mut names)?);
     }
+    print_least(rt, name, size, least)
+}
+
+// A strict arena is owned here, by its name, since no generic function can own it.
+fn time_strict(rt: &(impl Print + Clock), alloc: Global, size: u32) -> anyhow::Result<()> {
+    let mut names = Vec::with_capacity(alloc, size as usize)?;
+    let mut least = Timings::LONGEST;
+    for _ in 0..RUNS {
+        let mut arena: StrictArena<P0, u64> = StrictArena::new(alloc);
+        least = least.least(time_once(rt, size, &mut arena, &mut names)?);
+    }
+    print_least(rt, "strict", size, least)
+}
+
+fn print_least(rt: &impl Print, name: &str, size: u32, least: Timings) -> anyhow::Result<()> {
     let operations = [
         ("insert", size, least.insert),
         ("get", size, least.get),
         ("churn", size, least.churn),
         ("iterate", size, least.iterate),
         ("clear", 1, least.clear),
+        ("remove", size, least.remove),
     ];
     print(rt, name, size, &operations)
 }
@@ -103,18 +129,18 @@ fn time<R: Print + Clock, T: Table>(
 // The names are those of an earlier run, so that none of the later runs is the first to touch them.
 fn time_once<C: Clock, T: Table>(
     rt: &C,
-    alloc: Global,
     size: u32,
+    table: &mut T,
     names: &mut Vec<T::Name>,
 ) -> anyhow::Result<Timings> {
-    let mut table = T::empty(alloc);
     names.clear();
     Ok(Timings {
-        insert: time_insert(rt, size, &mut table, names)?,
-        get: time_get(rt, size, &table, names),
-        churn: time_churn(rt, size, &mut table, names)?,
-        iterate: time_iterate(rt, &table),
-        clear: time_clear(rt, &mut table),
+        insert: time_insert(rt, size, table, names)?,
+        get: time_get(rt, size, table, names),
+        churn: time_churn(rt, size, table, names)?,
+        iterate: time_iterate(rt, table),
+        clear: time_clear(rt, table),
+        remove: time_remove(rt, size, table, names)?,
     })
 }
 
@@ -187,4 +213,23 @@ fn time_clear<T: Table>(rt: &impl Clock, table: &mut T) -> Timing {
     let time = since(rt, start);
     let sum = table.sum_all();
     Timing { time, sum }
+}
+
+// The table is filled anew before.
+#[inline(never)]
+fn time_remove<T: Table>(
+    rt: &impl Clock,
+    size: u32,
+    table: &mut T,
+    names: &mut Vec<T::Name>,
+) -> anyhow::Result<Timing> {
+    names.clear();
+    time_insert(rt, size, table, names)?;
+    let mut sum = 0u64;
+    let start = now(rt);
+    for name in names.iter() {
+        sum = sum.wrapping_add(table.take_out(*name));
+    }
+    let time = since(rt, start);
+    Ok(Timing { time, sum })
 }

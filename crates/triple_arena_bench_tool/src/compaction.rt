@@ -1,5 +1,5 @@
 //! Compaction where every second entry was removed: of an arena of numbers, of one of nodes, each with a
-//! link that is renamed, and of a plain vector.
+//! link that is renamed, and of plain vectors of both.
 
 use crate::entry::{Entry, Node, sum_of, sum_of_places};
 use crate::timing::{RUNS, Timed, Timing, now, over_arena, print, since};
@@ -99,6 +99,50 @@ impl Gapped for Vec<Option<u64>> {
     }
 }
 
+// A number, and the place of the node before it that stays.
+type PlainNode = (u64, Option<usize>);
+
+// A link that leads to a gap becomes none.
+impl Gapped for Vec<Option<PlainNode>> {
+    fn even_numbers(alloc: Global, size: u32) -> anyhow::Result<Self> {
+        let mut nodes = Vec::with_capacity(alloc, size as usize)?;
+        for number in 0..size {
+            let is_even = number % 2 == 0;
+            let before = (number as usize).checked_sub(2);
+            nodes.push(is_even.then_some((number as u64, before)))?;
+        }
+        Ok(nodes)
+    }
+
+    fn close_gaps(&mut self, alloc: Global) -> anyhow::Result<()> {
+        let new_places = new_places(alloc, self)?;
+        for (_number, link) in self.iter_mut().flatten() {
+            *link = link.and_then(|place| new_places.get(place).copied().flatten());
+        }
+        self.retain(|node| node.is_some());
+        Ok(())
+    }
+
+    fn sum(&self) -> u64 {
+        let mut sum = 0u64;
+        for (number, _link) in self.iter().flatten() {
+            sum = sum.wrapping_add(*number);
+        }
+        sum
+    }
+}
+
+// By place, where the node there goes as the gaps are closed, if there is one.
+fn new_places(alloc: Global, nodes: &[Option<PlainNode>]) -> anyhow::Result<Vec<Option<usize>>> {
+    let mut new_places = Vec::with_capacity(alloc, nodes.len())?;
+    let mut stays = 0usize;
+    for node in nodes.iter() {
+        new_places.push(node.is_some().then_some(stays))?;
+        stays = stays.wrapping_add(node.is_some() as usize);
+    }
+    Ok(new_places)
+}
+
 // Inserts an entry for each number below `size`, and removes those of the odd ones.
 fn every_second<T: Entry, A: ArenaInsertTrait<P0, T> + Drop>(
     alloc: Global,
@@ -126,7 +170,8 @@ fn every_second<T: Entry, A: ArenaInsertTrait<P0, T> + Drop>(
 pub fn run(rt: &(impl Print + Clock), alloc: Global, size: u32) -> anyhow::Result<()> {
     over_arena::<_, P0, u64, Compaction>(rt, alloc, "arena", size)?;
     over_arena::<_, P0, Node, Compaction>(rt, alloc, "nodes", size)?;
-    time::<_, Vec<Option<u64>>>(rt, alloc, "vector", size)
+    time::<_, Vec<Option<u64>>>(rt, alloc, "vector", size)?;
+    time::<_, Vec<Option<PlainNode>>>(rt, alloc, "vector_nodes", size)
 }
 
 // What is timed of an arena here.
@@ -156,9 +201,18 @@ fn time<R: Print + Clock, G: Gapped>(
     print(rt, name, size, &[("compact", size.div_ceil(2), least)])
 }
 
-// The sum is of what is there afterwards.
 fn time_once<C: Clock, G: Gapped>(rt: &C, alloc: Global, size: u32) -> anyhow::Result<Timing> {
     let mut table = G::even_numbers(alloc, size)?;
+    time_compaction(rt, alloc, &mut table)
+}
+
+// The sum is of what is there afterwards.
+#[inline(never)]
+fn time_compaction<C: Clock, G: Gapped>(
+    rt: &C,
+    alloc: Global,
+    table: &mut G,
+) -> anyhow::Result<Timing> {
     let start = now(rt);
     table.close_gaps(alloc)?;
     let time = since(rt, start);

@@ -1,12 +1,14 @@
 //! Walks that write each number, and drains: of an arena, with the pointer of general use and with the small one, and of
-//! a plain vector.
+//! a plain vector. Of a strict arena and of a slab, drains alone.
 
 use crate::entry::{insert_each, places, sum_of, sum_of_places};
 use crate::timing::{RUNS, Timing, now, print, since};
+use slab::Slab;
 use std::alloc::Global;
 use std::io::Print;
 use std::time::{Clock, Duration};
 use triple_arena::{Arena, ArenaInsertTrait, CompactArenaTrait};
+use triple_arena_direct::StrictArena;
 use triple_arena_ptr::{P0, Ptr, SmallPtr};
 
 /// Prints the least times of some walks that write so many numbers, and of some drains of as many, in
@@ -14,6 +16,8 @@ use triple_arena_ptr::{P0, Ptr, SmallPtr};
 pub fn run(rt: &(impl Print + Clock), alloc: Global, size: u32) -> anyhow::Result<()> {
     time::<_, P0, Arena<P0, u64>>(rt, alloc, "arena", size)?;
     time::<_, SmallPtr, Arena<SmallPtr, u64>>(rt, alloc, "small", size)?;
+    time_strict(rt, alloc, size)?;
+    time_slab(rt, alloc, size)?;
     time_vector(rt, alloc, size)
 }
 
@@ -59,6 +63,52 @@ fn time_drain<C: Clock, P: Ptr, A: CompactArenaTrait<P, u64>>(rt: &C, arena: &mu
     let start = now(rt);
     'walk: for taken in arena.drain() {
         let (_p, number) = taken.allow();
+        sum = sum.wrapping_add(number);
+    }
+    let time = since(rt, start);
+    Timing { time, sum }
+}
+
+fn time_strict<R: Print + Clock>(rt: &R, alloc: Global, size: u32) -> anyhow::Result<()> {
+    let mut arena: StrictArena<P0, u64> = StrictArena::new(alloc);
+    let mut drain = Timing::LONGEST;
+    for _ in 0..RUNS {
+        for number in 0..size {
+            arena.insert(number as u64)?;
+        }
+        drain = drain.least(time_strict_drain(rt, &mut arena)?);
+    }
+    print(rt, "strict", size, &[("drain", size, drain)])
+}
+
+#[inline(never)]
+fn time_strict_drain<C: Clock>(rt: &C, arena: &mut StrictArena<P0, u64>) -> anyhow::Result<Timing> {
+    let mut sum = 0u64;
+    let start = now(rt);
+    'walk: for (_p, number) in arena.drain()? {
+        sum = sum.wrapping_add(number);
+    }
+    let time = since(rt, start);
+    Ok(Timing { time, sum })
+}
+
+fn time_slab<R: Print + Clock>(rt: &R, alloc: Global, size: u32) -> anyhow::Result<()> {
+    let mut slab = Slab::with_capacity(alloc, size as usize)?;
+    let mut drain = Timing::LONGEST;
+    for _ in 0..RUNS {
+        for number in 0..size {
+            let _key = slab.insert(number as u64);
+        }
+        drain = drain.least(time_slab_drain(rt, &mut slab));
+    }
+    print(rt, "slab", size, &[("drain", size, drain)])
+}
+
+#[inline(never)]
+fn time_slab_drain(rt: &impl Clock, slab: &mut Slab<u64>) -> Timing {
+    let mut sum = 0u64;
+    let start = now(rt);
+    for number in slab.drain() {
         sum = sum.wrapping_add(number);
     }
     let time = since(rt, start);

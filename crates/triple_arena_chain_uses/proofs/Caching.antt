@@ -1,7 +1,7 @@
 -- A cache after each call, by what is told of its ring and of its map of places.
 use Rattle.std.specs.Prelude.{List, [], ◌∷◌, ◌++◌, Contains}
 use Rattle.std.proofs.Common.{◌≡◌, ◌≢◌, ◌⊎◌, ◌↔◌, ℕ, zero, suc, ◌+◌, ◌-◌, ◌≤◌, ◌<◌, nat_eq, Bool, true, false, cond, length, take, inl, inr, Option, Some, None, IsSome, Result, Ok, Err, IsOk, refl, sym, ap, ◌∙◌, subst, arith, length-append}
-use Rattle.std.specs.Prelude.{OnOk, IfOk, MatchOption}
+use Rattle.std.specs.Prelude.{OnOk, IfOk, IfSome, MatchOption}
 use Rattle.std.specs.Result.{IfErr}
 use Rattle.std.proofs.Math.Seq.{take-append_seam}
 use Rattle.std.proofs.lemmas.List.{append-nil}
@@ -9,13 +9,14 @@ use Rattle.std.proofs.lemmas.Bool.{eq-eqb}
 use Rattle.std.specs.Map.{lookup, remove_entry}
 use Rattle.std.specs.Option.{option_and_then, option_map}
 use Rattle.triple_arena_ptr.specs.Pointers.{Pointer}
-use Rattle.triple_arena_chain_uses.specs.declared.place.ChainError.{ChainError}
-use Rattle.triple_arena_chain_uses.specs.declared.place.ChainError.TheVariants.{NoEntry, Taken, NoRoom, NoMemory}
-use Rattle.triple_arena_chain_uses.specs.Chains.{Node, value_at, after_at, before_at, IsLinked, IsInserted, IsRemoved, IsJoined, IsRun, AreOnce, KeepsApart}
+use Rattle.triple_arena_chain.specs.declared.place.ChainError.{ChainError}
+use Rattle.triple_arena_chain.specs.declared.place.ChainError.TheVariants.{NoEntry, Taken, NoRoom, NoMemory}
+use Rattle.triple_arena_stack.specs.Capacity.{IsFullAtLimit, IsAtLimit}
+use Rattle.triple_arena_chain.specs.Chains.{IsRefusedRoom, Node, value_at, after_at, before_at, IsLinked, IsInserted, IsRemoved, IsJoined, IsRun, AreOnce, KeepsApart}
 use Rattle.triple_arena_chain_uses.specs.Cache.{use_at, uses_from, IsOrder}
-use Rattle.triple_arena_chain_uses.proofs.Linking.{same_pointer}
-use Rattle.triple_arena_chain_uses.proofs.Lists.{in_head}
-use Rattle.triple_arena_chain_uses.proofs.Nodes.{valued}
+use Rattle.triple_arena_chain.specs.laws.LinkLaws.{same_pointer}
+use Rattle.triple_arena_chain.specs.laws.RunLaws.{in_head}
+use Rattle.triple_arena_chain.specs.laws.NodeLaws.{valued}
 use Rattle.triple_arena_chain_uses.proofs.Ordering.{HaveOthers, once_before, all_once, read, read_one, read-append, length-read, removed_here, have_uses, not_bare, entries_read, value_looked_up, none_looked_up}
 use Rattle.triple_arena_chain_uses.proofs.Turning.{without, placing, same_places, valued_there, taken, added}
 
@@ -25,6 +26,9 @@ on_ok F r x is holds = subst (λ o. OnOk o F) is holds
 
 pub if_ok : {A E : Type 0} (F : A → Type 0) (r : Result A E) (x : A) → r ≡ Ok x → IfOk r F → F x
 if_ok F r x is holds = subst (λ o. IfOk o F) is holds
+
+pub if_some : {A : Type 0} (F : A → Type 0) (r : Option A) (x : A) → r ≡ Some x → IfSome r F → F x
+if_some F r x is holds = subst (λ o. IfSome o F) is holds
 
 pub surely_ok : {A : Type 0} (Q : Type 0) (r : Result A ChainError) → IfErr r (λ refusal. refusal ≡ NoEntry) → ((r ≡ Err NoEntry) ↔ Q) → (Q → ⊥) → IsOk r
 surely_ok Q (Ok x) refusal when never = refl
@@ -39,30 +43,31 @@ placed_in numbers k r q old new is = ap (option_map numbers) is ∙ by_test (nat
     by_test true = refl
     by_test false = refl
 
--- and after one goes and another is put
-pub replaced_in : {P : Type 0} (numbers : P → Pointer) (k l r : ℕ) (q : P) (old mid new : Option P) → mid ≡ cond (nat_eq k r) None old → new ≡ cond (nat_eq l r) (Some q) mid
+-- and after one goes and another, or the same, is put
+pub replaced_in : {P : Type 0} (numbers : P → Pointer) (k l r : ℕ) (q : P) (old new : Option P) → new ≡ cond (nat_eq l r) (Some q) (cond (nat_eq k r) None old)
     → option_map numbers new ≡ cond (nat_eq l r) (Some (numbers q)) (cond (nat_eq k r) None (option_map numbers old))
-replaced_in numbers k l r q old mid new gone is = placed_in numbers l r q mid new is ∙ ap (cond (nat_eq l r) (Some (numbers q))) (ap (option_map numbers) gone ∙ by_test (nat_eq k r))
+replaced_in numbers k l r q old new is = placed_in numbers l r q (cond (nat_eq k r) None old) new is ∙ ap (cond (nat_eq l r) (Some (numbers q))) (by_test (nat_eq k r))
   where
     by_test : (b : Bool) → option_map numbers (cond b None old) ≡ cond b None (option_map numbers old)
     by_test true = refl
     by_test false = refl
 
+-- a full cache has a key that goes next
+pub full_oldest : {T : Type 0} (Told : ℕ → Type 0) (entries : List (ℕ × T)) (most : ℕ) (r : Option ℕ) → MatchOption r (entries ≡ []) Told → length entries ≡ most → 0 < most → IsSome r
+full_oldest Told entries most None none full some = absurd (omega (arith, ap length none, full, some))
+full_oldest Told entries most (Some key) told full some = refl
+
 -- a key put again has its one place
-pub put_again : {P : Type 0} (numbers : P → Pointer) (k r : ℕ) (q : P) (old new : Option P) → new ≡ cond (nat_eq k r) (Some q) old
-    → option_map numbers new ≡ cond (nat_eq k r) (Some (numbers q)) (cond (nat_eq k r) None (option_map numbers old))
-put_again numbers k r q old new is = placed_in numbers k r q old new is ∙ by_test (nat_eq k r)
+pub put_again : {P : Type 0} (k r : ℕ) (q : P) (old new : Option P) → new ≡ cond (nat_eq k r) (Some q) old → new ≡ cond (nat_eq k r) (Some q) (cond (nat_eq k r) None old)
+put_again k r q old new is = is ∙ by_test (nat_eq k r)
   where
-    by_test : (b : Bool) → cond b (Some (numbers q)) (option_map numbers old) ≡ cond b (Some (numbers q)) (cond b None (option_map numbers old))
+    by_test : (b : Bool) → cond b (Some q) old ≡ cond b (Some q) (cond b None old)
     by_test true = refl
     by_test false = refl
 
--- what is in a pair that is this one
-pub value_of_pair : {T : Type 0} (k : ℕ) (v : T) (pair : ℕ × T) → Some (k, v) ≡ Some pair → v ≡ pair.1
-value_of_pair k v pair e = let same : (k, v) ≡ pair = cc in ap (λ x. x.1) same
-
-pub key_of_pair : {T : Type 0} (k : ℕ) (v : T) (pair : ℕ × T) → Some (k, v) ≡ Some pair → pair.0 ≡ k
-key_of_pair k v pair e = let same : pair ≡ (k, v) = cc in ap (λ x. x.0) same
+-- a pair that is this one
+pub pair_is_this : {T : Type 0} (k : ℕ) (v : T) (pair : ℕ × T) → Some (k, v) ≡ Some pair → (k, v) ≡ pair
+pair_is_this k v pair e = cc
 
 pub some_of_map : {A B : Type 0} (f : A → B) (o : Option A) → IsSome (option_map f o) → IsSome o
 some_of_map f None some = some
@@ -71,6 +76,15 @@ some_of_map f (Some x) some = refl
 pub none_some : {A : Type 0} (o : Option A) → o ≡ None → IsSome o → ⊥
 none_some None none some = absurd (cc)
 none_some (Some x) none some = absurd (cc)
+
+pub removed_one : {X : Type 0} (test : ℕ → Bool) (es : List (ℕ × X)) → IsSome (lookup test es) → length (remove_entry test es) + 1 ≡ length es
+removed_one {X = X} test [] some = absurd (none_some {A = X} None refl some)
+removed_one test (e ∷ es) some = by_test (test e.0) refl some (removed_one test es)
+  where
+    by_test : (b : Bool) → test e.0 ≡ b → IsSome (cond b (Some e.1) (lookup test es)) → (IsSome (lookup test es) → length (remove_entry test es) + 1 ≡ length es)
+        → length (cond (test e.0) es (e ∷ remove_entry test es)) + 1 ≡ length (e ∷ es)
+    by_test true is some more = ap (λ b. length (cond b es (e ∷ remove_entry test es)) + 1) is ∙ omega arith
+    by_test false is some more = ap (λ b. length (cond b es (e ∷ remove_entry test es)) + 1) is ∙ omega (arith, more some)
 
 -- a refusal that can't be is none
 pub if_not_refused : {A : Type 0} (r : Result A ChainError) (Says : ChainError → Type 0) → IfErr r Says → ((refusal : ChainError) → Says refusal → ⊥) → IsOk r
@@ -151,6 +165,13 @@ module _ {T : Type 0} (nodes : Pointer → Option (Node (Option (ℕ × T)))) (l
           some_none : {v : T} → Some v ≡ None → ⊥
           some_none e = absurd (cc)
 
+  pub has_place : (k : ℕ) → IsSome (lookup (nat_eq k) (uses_from len nodes (after_at nodes bare))) → IsSome (place k)
+  has_place k some = by_place (place k) refl
+    where
+      by_place : (o : Option Pointer) → place k ≡ o → IsSome o
+      by_place None at = absurd (none_some (lookup (nat_eq k) (uses_from len nodes (after_at nodes bare))) (none_peeked k at) some)
+      by_place (Some p) at = refl
+
   -- where an entry goes, there is room for one, and the keyless one is there still
   pub bare_stays : (k : ℕ) (p : Pointer) → place k ≡ Some p → (mid : Pointer → Option (Node (Option (ℕ × T)))) → IsRemoved nodes p mid → IsSome (mid bare)
   bare_stays k p at mid removed = valued (nodes bare) (mid bare) bare_there (removed.values bare (not_bare nodes len bare place most order is p (is.found k p at).0))
@@ -184,12 +205,6 @@ module _ {T : Type 0} (nodes : Pointer → Option (Node (Option (ℕ × T)))) (l
         entries_read new more bare (placing l q (without k place)) most (q ∷ left.0) turned_order.0
         ∙ turned_order.1
         ∙ ap (λ es. (l, v) ∷ es) (left.3 ∙ ap (remove_entry (nat_eq k)) (sym (entries_read nodes len bare place most order is)))
-
-    pub turned_fewer : length (remove_entry (nat_eq k) (uses_from len nodes (after_at nodes bare))) < most
-    turned_fewer =
-        let reads : remove_entry (nat_eq k) (uses_from len nodes (after_at nodes bare)) ≡ read mid left.0 = ap (remove_entry (nat_eq k)) (entries_read nodes len bare place most order is) ∙ sym left.3 in
-        let count : length (read mid left.0) ≡ length left.0 = length-read mid left.0 (have_uses mid fewer bare (without k place) most left.0 left.1) in
-        omega (arith, ap length reads, count, left.2, is.within)
 
   -- a key comes where there is room
   module _ (l : ℕ) (v : T) (fresh : place l ≡ None) (q : Pointer) (new : Pointer → Option (Node (Option (ℕ × T)))) (more : ℕ)
@@ -240,13 +255,6 @@ module _ {T : Type 0} (nodes : Pointer → Option (Node (Option (ℕ × T)))) (l
           at_end [] = in_head p []
           at_end (x ∷ xs) = let more = at_end xs in (suc more.0, omega (arith, more.1), more.2)
 
-  pub full_last : (p : Pointer) → before_at nodes bare ≡ Some p → length (uses_from len nodes (after_at nodes bare)) ≡ most → Last p
-  full_last p before full = by_side (first_or_last p before)
-    where
-      by_side : ((p ≡ bare) × (order ≡ [])) ⊎ Last p → Last p
-      by_side (inl none) = absurd (omega (arith, ap length none.1, full, length_entries, is.some))
-      by_side (inr last) = last
-
   pub has_before : IsSome (before_at nodes bare)
   has_before = let last = ends bare order is.run in subst IsSome (sym ((is.linked last.1 bare).0 last.3)) refl
 
@@ -282,16 +290,16 @@ module _ {T : Type 0} (nodes : Pointer → Option (Node (Option (ℕ × T)))) (l
           (read nodes last.front, last.value, last_entries p last)
 
   -- without the last they are the first ones
-  pub without_last : (p : Pointer) (last : Last p) → length (uses_from len nodes (after_at nodes bare)) ≡ most
-      → remove_entry (nat_eq last.key) (uses_from len nodes (after_at nodes bare)) ≡ take (most - 1) (uses_from len nodes (after_at nodes bare))
-  without_last p last full =
+  without_last : (p : Pointer) (last : Last p)
+      → remove_entry (nat_eq last.key) (uses_from len nodes (after_at nodes bare)) ≡ take (length (uses_from len nodes (after_at nodes bare)) - 1) (uses_from len nodes (after_at nodes bare))
+  without_last p last =
       let entries = last_entries p last in
-      let count : length (read nodes last.front) ≡ most - 1 =
-      omega (arith, ap length entries, full, length-append (read nodes last.front) ((last.key, last.value) ∷ [])) in
+      let count : length (read nodes last.front) ≡ length (uses_from len nodes (after_at nodes bare)) - 1 =
+      omega (arith, ap length entries, length-append (read nodes last.front) ((last.key, last.value) ∷ [])) in
       ap (remove_entry (nat_eq last.key)) (entries_read nodes len bare place most order is ∙ ap (read nodes) last.order_is)
       ∙ removed_here nodes last.key last.value last.front p [] others last.value_is
       ∙ ap (read nodes) (append-nil last.front)
-      ∙ sym (ap (take (most - 1)) entries ∙ ap (λ n. take n (read nodes last.front ++ (last.key, last.value) ∷ [])) (sym count) ∙ take-append_seam (read nodes last.front) ((last.key, last.value) ∷ []))
+      ∙ sym (ap (take (length (uses_from len nodes (after_at nodes bare)) - 1)) entries ∙ ap (λ n. take n (read nodes last.front ++ (last.key, last.value) ∷ [])) (sym count) ∙ take-append_seam (read nodes last.front) ((last.key, last.value) ∷ []))
     where
       apart : (r : Pointer) → Contains last.front r → p ≢ r
       apart = once_before last.front p [] (subst AreOnce last.order_is (all_once nodes len bare place most order is).1)
@@ -305,6 +313,27 @@ module _ {T : Type 0} (nodes : Pointer → Option (Node (Option (ℕ × T)))) (l
       others r within =
           let placed = is.placed r (subst (λ ps. Contains ps r) (sym last.order_is) (in_longer last.front r within)) in
           (placed.0, placed.1, λ e. apart r within (same_pointer p r (sym last.place_is ∙ ap place e ∙ placed.2)))
+
+  abbrev Goes : Option ℕ → Type 0
+  Goes r =
+      IfSome r (λ key. IsSome (lookup (nat_eq key) (uses_from len nodes (after_at nodes bare)))
+      × (remove_entry (nat_eq key) (uses_from len nodes (after_at nodes bare)) ≡ take (length (uses_from len nodes (after_at nodes bare)) - 1) (uses_from len nodes (after_at nodes bare))))
+
+  -- it has a value, and without it the others are left
+  pub oldest_goes : (p : Pointer) → before_at nodes bare ≡ Some p → (r : Option ℕ) → r ≡ option_map (λ (pair : ℕ × T). pair.0) (use_at nodes p)
+      → IfSome r (λ key. IsSome (lookup (nat_eq key) (uses_from len nodes (after_at nodes bare)))
+      × (remove_entry (nat_eq key) (uses_from len nodes (after_at nodes bare)) ≡ take (length (uses_from len nodes (after_at nodes bare)) - 1) (uses_from len nodes (after_at nodes bare))))
+  oldest_goes p before r r_is = by_side (first_or_last p before)
+    where
+      by_side : ((p ≡ bare) × (order ≡ [])) ⊎ Last p → Goes r
+      by_side (inl none) =
+          let nothing : r ≡ None = r_is ∙ ap (λ q. option_map (λ (pair : ℕ × T). pair.0) (use_at nodes q)) none.0 ∙ ap (λ v. option_map (λ (pair : ℕ × T). pair.0) (option_and_then (λ u. u) v)) is.keyless in
+          subst Goes (sym nothing) tt
+      by_side (inr last) =
+          let one : r ≡ Some last.key = r_is ∙ ap (λ v. option_map (λ (pair : ℕ × T). pair.0) (option_and_then (λ u. u) v)) last.value_is in
+          let found = is.found last.key p last.place_is in
+          let look = value_looked_up nodes len bare place most order is last.key p last.place_is found.1 found.2 in
+          subst Goes (sym one) (subst IsSome (sym look) refl, without_last p last)
 
 -- a cache that was just made: the keyless entry alone in its ring
 module _ {T : Type 0} (nodes : Pointer → Option (Node (Option (ℕ × T)))) (bare : Pointer) where
@@ -349,3 +378,12 @@ module _ {T : Type 0} (nodes : Pointer → Option (Node (Option (ℕ × T)))) (b
 
       none_some : {q : Pointer} → None ≡ Some q → ⊥
       none_some e = absurd (cc)
+
+-- where there is no limit, memory was refused
+pub memory_refused : {A : Type 0} (capacity : ℕ) (limit : Option ℕ) (len : ℕ) (r : Result A ChainError) → limit ≡ None → IfErr r IsRefusedRoom → ((r ≡ Err NoRoom) ↔ IsFullAtLimit capacity limit len)
+    → IfErr r (λ refusal. refusal ≡ NoMemory)
+memory_refused capacity limit len (Ok x) none refused when = tt
+memory_refused capacity limit len (Err NoEntry) none refused when = absurd refused
+memory_refused capacity limit len (Err Taken) none refused when = absurd refused
+memory_refused capacity limit len (Err NoRoom) none refused when = absurd (subst (λ most. IsAtLimit most capacity) none (when.0 refl).1)
+memory_refused capacity limit len (Err NoMemory) none refused when = refl

@@ -1,15 +1,3 @@
-pub mod Nodes
-pub mod Reading
-pub mod Linking
-pub mod Tying
-pub mod Results
-pub mod Moving
-pub mod Cutting
-pub mod Lists
-pub mod Joints
-pub mod Thinning
-pub mod Walking
 pub mod Ordering
 pub mod Turning
 pub mod Caching
-pub mod Written

@@ -5,11 +5,11 @@ use Rattle.std.proofs.lemmas.Bool.{eqb-true, eq-eqb}
 use Rattle.std.specs.Map.{lookup, remove_entry}
 use Rattle.std.specs.Option.{option_and_then}
 use Rattle.triple_arena_ptr.specs.Pointers.{Pointer}
-use Rattle.triple_arena_chain_uses.specs.Chains.{Node, value_at, after_at, first_of, IsRun, AreOnce}
+use Rattle.triple_arena_chain.specs.Chains.{Node, value_at, after_at, first_of, IsRun, AreOnce}
 use Rattle.triple_arena_chain_uses.specs.Cache.{use_at, put_before, uses_from, IsOrder}
-use Rattle.triple_arena_chain_uses.proofs.Linking.{same_pointer}
-use Rattle.triple_arena_chain_uses.proofs.Lists.{in_head, in_tail}
-use Rattle.triple_arena_chain_uses.proofs.Walking.{split_at, run_once}
+use Rattle.triple_arena_chain.specs.laws.LinkLaws.{same_pointer}
+use Rattle.triple_arena_chain.specs.laws.RunLaws.{in_head, in_tail}
+use Rattle.triple_arena_chain.specs.laws.RestLaws.{split_at, run_once}
 
 -- a place of a list is in a longer one
 in_front : (xs ys : List Pointer) (p : Pointer) → Contains xs p → Contains (xs ++ ys) p

@@ -5,11 +5,11 @@ use Rattle.std.proofs.lemmas.Bool.{eqb-true, eq-eqb}
 use Rattle.std.specs.Map.{remove_entry}
 use Rattle.std.specs.Option.{option_map}
 use Rattle.triple_arena_ptr.specs.Pointers.{Pointer}
-use Rattle.triple_arena_chain_uses.specs.Chains.{Node, value_at, after_at, IsInserted, IsRemoved, IsRun}
+use Rattle.triple_arena_chain.specs.Chains.{Node, value_at, after_at, IsInserted, IsRemoved, IsRun}
 use Rattle.triple_arena_chain_uses.specs.Cache.{IsOrder}
-use Rattle.triple_arena_chain_uses.proofs.Linking.{same_pointer, between_after, linked_inserted, linked_removed}
-use Rattle.triple_arena_chain_uses.proofs.Lists.{in_head, in_tail, inserted_after, removed_run, not_free}
-use Rattle.triple_arena_chain_uses.proofs.Walking.{in_rest}
+use Rattle.triple_arena_chain.specs.laws.LinkLaws.{same_pointer, between_after, linked_inserted, linked_removed}
+use Rattle.triple_arena_chain.specs.laws.RunLaws.{in_head, in_tail, inserted_after, removed_run, not_free}
+use Rattle.triple_arena_chain.specs.laws.RestLaws.{in_rest}
 use Rattle.triple_arena_chain_uses.proofs.Ordering.{with_one, not_eq, read, read_one, read_same, removed_here, not_bare, Around, around}
 
 -- the places of keys without one, and with another

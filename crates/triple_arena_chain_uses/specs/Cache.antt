@@ -4,7 +4,7 @@ use Rattle.std.specs.HashMap.{HashMap, get}
 use Rattle.std.specs.Map.{lookup, remove_entry}
 use Rattle.std.specs.Option.{option_map, option_and_then}
 use Rattle.triple_arena_ptr.specs.Pointers.{Pointer}
-use Rattle.triple_arena_chain_uses.specs.Chains.{Node, value_at, after_at, IsLinked, IsRun}
+use Rattle.triple_arena_chain.specs.Chains.{Node, value_at, after_at, IsLinked, IsRun}
 
 -- what a cache has: each key with its value, the last used first; and how many it keeps at most
 pub record CacheState (T : Type 0) : Type 0 where
@@ -23,6 +23,11 @@ module _ {T : Type 0} where
 
   abbrev pub used_first : ℕ → CacheState T → CacheState T
   used_first k s = record s { entries = put_first k (lookup (nat_eq k) s.entries) s.entries }
+
+  -- of a value that is given, or not, and one that was had: which stays, and which is left over, if one is
+  abbrev pub exchanged : (given : Option T) (had : T) → T × Option T
+  exchanged None had = (had, None)
+  exchanged (Some value) had = (value, Some had)
 
   -- the key and the value under a pointer; none where it finds nothing, or the one entry of the ring that has none
   abbrev pub use_at : (Pointer → Option (Node (Option (ℕ × T)))) → Pointer → Option (ℕ × T)

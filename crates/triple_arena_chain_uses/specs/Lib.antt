@@ -1,4 +1,1 @@
--- Read first: Chains.
-pub mod Links
-pub mod Chains
 pub mod Cache

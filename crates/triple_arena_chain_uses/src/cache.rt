@@ -1,20 +1,19 @@
 //! A cache of the keys last used: what a user makes of chains.
 
-ghost use Rattle.std.specs.Prelude.{◌≡◌, ℕ, ◌-◌, ◌≤◌, ◌<◌, List, [], ◌∷◌, ◌++◌, length, take, None, Some, IfOk, OnOk, OnErr, MatchOption, nat_eq, option_copied, is_some, true, false};
+ghost use Rattle.std.specs.Prelude.{◌≡◌, ℕ, ◌-◌, ◌≤◌, ◌<◌, ◌≢◌, ◌⊎◌, List, [], ◌∷◌, ◌++◌, length, take, cond, None, Some, IfOk, OnOk, OnErr, IfSome, IsSome, MatchOption, nat_eq, option_copied, is_some, true, false};
+ghost use Rattle.std.specs.HashMap.{get, spare};
 ghost use Rattle.std.specs.Int.NonZero.{non_zero_usize_get};
 ghost use Rattle.std.specs.Map.{lookup, remove_entry};
 ghost use Rattle.std.specs.Option.{option_map, option_and_then};
 ghost use Rattle.std.specs.Result.{IfErr};
-ghost use Rattle.triple_arena_chain_uses.specs.Cache.{used_first};
+ghost use Rattle.triple_arena_chain_uses.specs.Cache.{used_first, exchanged};
 
-use crate::chains::Chains;
-use crate::link::Link;
-use crate::place::{ChainError, Place};
 use std::alloc::Global;
 use std::collections::HashMap;
 use std::marker::Model;
 use std::num::NonZeroUsize;
 use triple_arena::Arena;
+use triple_arena_chain::{ChainError, Chains, Link, Place};
 use triple_arena_ptr::{P0, Ptr};
 
 /// Values under keys, of which it keeps those last used, and at most so many.
@@ -35,7 +34,7 @@ pub struct Cache<T> {
 impl<T> Model for Cache<T> {
     ghost use Rattle.std.specs.Prelude.{◌≡◌, List, None};
     ghost use Rattle.triple_arena_ptr.specs.Pointers.{Pointer};
-    ghost use Rattle.triple_arena_chain_uses.specs.Chains.{nodes, after_at};
+    ghost use Rattle.triple_arena_chain.specs.Chains.{nodes, after_at};
     ghost use Rattle.triple_arena_chain_uses.specs.Cache.{CacheState, uses_from, place_in, IsOrder};
 
     ghost Value = { CacheState T };
@@ -105,9 +104,12 @@ impl<T> Cache<T> {
 
     /// The key that goes next: the one whose last use is the longest ago.
     pub fn oldest(&self) -> Option<u64>
-        ensures { MatchOption result (self.now.entries ≡ [])
+        ensures oldest { MatchOption result (self.now.entries ≡ [])
             (λ key. (newer : List (ℕ × T)) × (value : T)
             × (self.now.entries ≡ newer ++ (key, value) ∷ [])) }
+        ensures goes { IfSome result (λ key. IsSome (lookup (nat_eq key) self.now.entries)
+            × (remove_entry (nat_eq key) self.now.entries
+            ≡ take (length self.now.entries - 1) self.now.entries)) }
     {
         let last = self.uses.before(self.bare);
         match last {
@@ -126,19 +128,12 @@ impl<T> Cache<T> {
         ensures had { result ≡ is_some (lookup (nat_eq key) self.old.entries) }
         ensures used { self.new ≡ used_first key self.old }
     {
-        let place = self.places.get(&key);
-        let Some(p) = place else {
+        let Some(_value) = self.peek(key) else {
             return false;
         };
-        let p = *p;
-        // By its clauses, no more entries than fit.
-        let _len = self.uses.len();
-        let taken = self.uses.remove(p);
-        let pair = taken.unwrap();
-        let put = self.uses.insert(Place::After(self.bare), pair);
-        let q = put.unwrap();
-        let placed: Result<_, _> = self.places.insert(key, q);
-        let _was_at = placed.unwrap();
+        let turned = self.give_way(key, key, None);
+        // Memory is refused to a new key alone.
+        let _left = turned.unwrap();
         true
     }
 
@@ -183,23 +178,15 @@ impl<T> Cache<T> {
         ensures given_back { IfErr result (λ given. given ≡ value) }
         ensures refused { OnErr result (self.new ≡ self.old) }
     {
-        let place = self.places.get(&key);
-        let Some(p) = place else {
+        let Some(_value) = self.peek(key) else {
             return Err(value);
         };
-        let p = *p;
-        // By its clauses, no more entries than fit.
-        let _len = self.uses.len();
-        let taken = self.uses.remove(p);
-        let pair = taken.unwrap();
-        let was = pair.unwrap();
-        let put = self
-            .uses
-            .insert(Place::After(self.bare), Some((key, value)));
-        let q = put.unwrap();
-        let placed: Result<_, _> = self.places.insert(key, q);
-        let _was_at = placed.unwrap();
-        Ok(was.1)
+        // By its clauses, no more keys than are kept.
+        let _len = self.len();
+        let turned = self.give_way(key, key, Some(value));
+        // Memory is refused to a new key alone.
+        let left = turned.unwrap();
+        Ok(left.unwrap())
     }
 
     // Puts a value under a new key; where there are as many as are kept, the one that goes next goes.
@@ -224,6 +211,7 @@ impl<T> Cache<T> {
     fn is_full(&self) -> bool
         ensures full { result ≡ true → length self.now.entries ≡ self.now.most }
         ensures room { result ≡ false → length self.now.entries < self.now.most }
+        ensures some { 0 < self.now.most }
     {
         self.uses.len() > self.most
     }
@@ -263,31 +251,90 @@ impl<T> Cache<T> {
         T: Drop,
         requires fresh { lookup (nat_eq key) self.old.entries ≡ None }
         requires full { length self.old.entries ≡ self.old.most }
+        requires some { 0 < self.old.most }
         ensures put { OnOk result (self.new.entries
             ≡ (key, value) ∷ take (self.old.most - 1) self.old.entries) }
         ensures most { self.new.most ≡ self.old.most }
         ensures refusal { IfErr result (λ refusal. refusal ≡ ChainError.NoMemory) }
         ensures refused { OnErr result (self.new ≡ self.old) }
     {
-        if self.places.reserve(1).is_err() {
+        let oldest = self.oldest();
+        let gone = oldest.unwrap();
+        match self.give_way(gone, key, Some(value)) {
+            Ok(_left) => Ok(()),
+            Err(refusal) => Err(refusal),
+        }
+    }
+
+    // A key goes, and one comes to stand first, the same or a new one: with this value, or where none is
+    // given, with that of the key that goes. Gives the value that goes with the key, if it does.
+    fn give_way(&mut self, gone: u64, key: u64, value: Option<T>) -> Result<Option<T>, ChainError>
+    where
+        T: Drop,
+        requires there { IsSome (lookup (nat_eq gone) self.old.entries) }
+        requires fresh { (key ≡ gone) ⊎ (lookup (nat_eq key) self.old.entries ≡ None) }
+        ensures put { IfOk result (λ left. (had : T)
+            × (lookup (nat_eq gone) self.old.entries ≡ Some had) × (left ≡ (exchanged value had).1)
+            × (self.new.entries
+            ≡ (key, (exchanged value had).0) ∷ remove_entry (nat_eq gone) self.old.entries)) }
+        ensures most { self.new.most ≡ self.old.most }
+        ensures refusal { IfErr result
+            (λ refusal. (refusal ≡ ChainError.NoMemory) × (key ≢ gone)) }
+        ensures refused { OnErr result (self.new ≡ self.old) }
+    {
+        if !have_place(&mut self.places, gone, key) {
             return Err(ChainError::NoMemory);
         }
         // By its clauses, no more entries than fit.
         let _len = self.uses.len();
-        let last = self.uses.before(self.bare);
-        let p = last.unwrap();
+        let place = self.places.get(&gone);
+        let at = place.unwrap();
+        let p = *at;
         let taken = self.uses.remove(p);
-        let pair = taken.unwrap();
-        let gone = pair.unwrap();
+        let told = taken.unwrap();
+        let pair = told.allow();
+        let had = pair.unwrap();
+        let (first, left) = exchange(value, had.1);
         let put = self
             .uses
-            .insert(Place::After(self.bare), Some((key, value)));
+            .insert(Place::After(self.bare), Some((key, first)));
         let q = put.unwrap();
-        let _place = self.places.remove(&gone.0);
-        let placed: Result<_, _> = self.places.insert(key, q);
-        let _was_at = placed.unwrap();
-        Ok(())
+        give_place(&mut self.places, gone, key, q);
+        Ok(left)
     }
+}
+
+// Of a value that is given, or not, and one that was had: which stays, and which is left over, if one is.
+fn exchange<T>(given: Option<T>, had: T) -> (T, Option<T>)
+    ensures { result ≡ exchanged given had }
+{
+    match given {
+        Some(value) => (value, Some(had)),
+        None => (had, None),
+    }
+}
+
+// Whether there is memory for the place of a key, which may be the one that goes.
+fn have_place(places: &mut HashMap<u64, P0>, gone: u64, key: u64) -> bool
+    ensures same { (k : ℕ) → get nat_eq places.new k ≡ get nat_eq places.old k }
+    ensures room { result ≡ true → (key ≡ gone) ⊎ (0 < spare places.new) }
+    ensures refused { result ≡ false → key ≢ gone }
+{
+    key == gone || places.reserve(1).is_ok()
+}
+
+// A key's place goes, and another key, or the same, has this one.
+fn give_place(places: &mut HashMap<u64, P0>, gone: u64, key: u64, place: P0)
+    requires there { IsSome (get nat_eq places.old gone) }
+    requires room { (key ≡ gone) ⊎ (0 < spare places.old) }
+    ensures { (k : ℕ) → get nat_eq places.new k ≡ cond (nat_eq key k) (Some place)
+        (cond (nat_eq gone k) None (get nat_eq places.old k)) }
+{
+    if key != gone {
+        let _gone = places.remove(&gone);
+    }
+    let placed: Result<_, _> = places.insert(key, place);
+    let _was_at = placed.unwrap();
 }
 
 // The value of what is read under a pointer, if it has a key.

@@ -1,22 +1,7 @@
-//! Chains: doubly linked lists over any compact arena, to copy from.
+//! Users of chains, to copy from: a cache of the keys last used, and waiting lists.
 #![tactic(auto)]
 
-mod appending;
 pub mod cache;
-pub mod chains;
-mod compaction;
-mod ends;
-pub mod laws;
-mod lending;
-pub mod link;
-pub mod place;
-mod removal;
-mod steps;
-pub mod walk;
-mod writing;
+pub mod waiting;
 
 pub use cache::Cache;
-pub use chains::Chains;
-pub use link::Link;
-pub use place::{ChainError, Place};
-pub use walk::ChainAdvancer;

@@ -8,6 +8,7 @@ mod Followed
 mod FollowedBoth
 mod Relations
 mod Retained
+mod Extended
 pub mod StrictAnswers
 mod StrictSteps
 mod StrictRetaining

@@ -1,6 +1,6 @@
 //! The strict arena.
 
-ghost use Rattle.std.specs.Prelude.{◌≡◌, ◌≢◌, ℕ, ◌≤◌, ◌<◌, ◌==◌, ◌&&◌, ◌↔◌, ◌∷◌, ◌++◌, [], List, map, false, true, not, cond, is_some, IsSome, IsOk, IfOk, OnOk, OnErr, Some, None, Err, length, option_copied};
+ghost use Rattle.std.specs.Prelude.{◌≡◌, ◌≢◌, ℕ, ◌≤◌, ◌<◌, ◌==◌, ◌&&◌, ◌↔◌, ◌∷◌, ◌++◌, [], List, map, false, true, not, cond, is_some, IsSome, IsOk, IsErrAnd, IfOk, OnOk, OnErr, Some, None, Err, length, option_copied};
 ghost use Rattle.std.specs.Borrow.{sem, LendsIf};
 ghost use Rattle.std.specs.Option.{option_map, option_copied_mut};
 ghost use Rattle.std.specs.Result.{IfErr, result_map_both};
@@ -41,11 +41,12 @@ use crate::errors::{StrictCompactError, StrictError};
 use crate::{compress_recast, compress_recast_with};
 pub use drain::StrictDrain;
 pub use insert_entry::StrictInsertEntry;
+pub use leaving::{into_arena, renew};
 use std::alloc::Global;
 use std::marker::Model;
 use triple_arena::arena_iterators::{Iter, Ptrs, Vals};
 use triple_arena::{
-    Arena, ArenaInsertTrait, ArenaSlot, ArenaTrait, CompactArenaTrait, LendingArena,
+    Arena, ArenaInsertTrait, ArenaSlot, ArenaTrait, CompactArenaTrait, InsertFailed, LendingArena,
 };
 use triple_arena_base::{AllocError, NotWithinCapacityError, ReallocationError, Recast, Recaster};
 use triple_arena_direct_arena::DirectArena;
@@ -275,6 +276,7 @@ impl<P: Ptr, T, S: NonZeroInxGenericStack<ArenaSlot<P, T>>> StrictArena<P, T, S>
     ///
     /// Refused exactly where there are as many entries as the capacity; then nothing changes, and `t`
     /// is dropped.
+    #[inline(always)]
     pub fn insert_within_capacity(&mut self, t: T) -> Result<P, NotWithinCapacityError>
     where
         T: Drop,
@@ -304,6 +306,7 @@ impl<P: Ptr, T, S: NonZeroInxGenericStack<ArenaSlot<P, T>>> StrictArena<P, T, S>
     /// `BeyondMaxCapacity` exactly where the arena is full and its limit is reached; else `AllocError`
     /// where it is full and memory is refused, or there is no greater index. Then nothing changes, and
     /// `t` is dropped.
+    #[inline(always)]
     pub fn insert_reallocating(&mut self, t: T) -> Result<P, ReallocationError>
     where
         T: Drop,
@@ -335,6 +338,7 @@ impl<P: Ptr, T, S: NonZeroInxGenericStack<ArenaSlot<P, T>>> StrictArena<P, T, S>
     }
 
     /// As [`Self::insert_reallocating`], and in words of look-ups too.
+    #[inline(always)]
     pub fn insert(&mut self, t: T) -> Result<P, ReallocationError>
     where
         T: Drop,
@@ -366,6 +370,39 @@ impl<P: Ptr, T, S: NonZeroInxGenericStack<ArenaSlot<P, T>>> StrictArena<P, T, S>
             → (q : Pointer) → IsGoneForGood self.old q → IsGoneForGood self.new q }
     {
         self.arena.insert(t)
+    }
+
+    /// As [`Self::insert`], but where it is refused, `t` comes back in the error.
+    pub fn try_insert(&mut self, t: T) -> Result<P, InsertFailed<T>>
+        ensures pointer { IfOk result (λ p. P.numbers p ≡ next_pointer self.old) }
+        ensures free { IfOk result (λ p. entry self.old (P.numbers p).0 ≡ None) }
+        ensures found { IfOk result (λ p. look_up self.new.slots (P.numbers p) ≡ Some t) }
+        ensures others { IfOk result (λ p. (q : Pointer) → q.0 ≢ (P.numbers p).0
+            → look_up self.new.slots q ≡ look_up self.old.slots q) }
+        ensures inserted { OnOk result
+            (IsTouched (inserted (grown S.kind self.old) t) self.new) }
+        ensures refused { OnErr result (self.new ≡ self.old) }
+        ensures value_returned { IfErr result (λ failed. failed.value ≡ t) }
+        ensures beyond { IsErrAnd result (λ failed. failed.error ≡ ReallocationError.BeyondMaxCapacity)
+            ↔ IsFullAtLimit (capacity self.old) self.old.limit (arena_len self.old) }
+        ensures with_memory { CanGrow S.has_memory (capacity self.old) self.old.limit
+            (greatest_index P.Inx.greatest) → IsOk result }
+        ensures indexed { OnOk result (arena_len self.old ≡ capacity self.old
+            → capacity self.old < greatest_index P.Inx.greatest) }
+        ensures had_place { arena_len self.old < capacity self.old
+            → IsOk result × IsTouched (inserted self.old t) self.new }
+        ensures place { OnOk result (arena_len (grown S.kind self.old)
+            < capacity (grown S.kind self.old)) }
+        ensures well_formed { IsWellFormed self.old }
+        ensures step { IsStrictStep S.kind P.Gen.generations
+            self.old (to_insert t) (calls_if_ok result (λ p. insertion (P.numbers p))) self.new }
+        ensures history { Continues Fits self.old
+            (calls_if_ok result (λ p. insertion (P.numbers p))) self.new }
+        ensures new { IfOk result (λ p. (q : Pointer) → IsGoneForGood self.old q → P.numbers p ≢ q) }
+        ensures stays_gone { P.Gen.generations.counting ≡ true
+            → (q : Pointer) → IsGoneForGood self.old q → IsGoneForGood self.new q }
+    {
+        self.arena.try_insert(t)
     }
 
     /// Takes out the entry under `p`, and gives its value. The counter is raised, and where generations

@@ -3,6 +3,7 @@
 
 mod compaction;
 mod direct;
+mod extending;
 mod over_a_stack;
 mod strict;
 mod strict_calls;

@@ -112,7 +112,7 @@ impl<T: Drop, S: NonZeroInxGenericStack<ArenaSlot<P0, T>>> StrictCalls<T>
     }
 }
 
-// What a call tells of a strict arena, which has no entries to insert by.
+// What a call tells of a strict arena, of which no entry call is tried here.
 fn answer_strictly<A: StrictCalls<Value>>(arena: &mut A, alloc: Global, call: Call) -> Told {
     match call {
         Call::Insert(row) => told_inserted(arena.put(row.value(alloc))),

@@ -38,3 +38,8 @@ pub use Rattle.triple_arena_commands.specs.declared.arguments.Outcome
 pub use Rattle.triple_arena_commands.specs.declared.command.Command
 pub use Rattle.triple_arena_commands.specs.declared.reply.Reply
 pub use Rattle.triple_arena_commands.specs.declared.text_error.TextError
+-- What they name of the arenas, pointers and stacks that a session begins over.
+pub use Rattle.triple_arena_ptr.specs.Numbers
+pub use Rattle.triple_arena_ptr.specs.Pointers
+pub use Rattle.triple_arena_stack.specs.StackKind
+pub use Rattle.triple_arena_traits.specs.ArenaState

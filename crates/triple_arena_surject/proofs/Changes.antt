@@ -1,15 +1,19 @@
 -- The state after each call, by what is told of keys and of values.
-use Rattle.std.specs.Prelude.{List}
+use Rattle.std.specs.Prelude.{List, map}
 use Rattle.std.proofs.Common.{◌≡◌, ◌≢◌, ◌⊎◌, ℕ, Option, Some, None, IsSome, refl, sym, ap, ◌∙◌, subst, inl, inr}
 use Rattle.std.specs.Option.{option_map, option_and_then}
 use Rattle.triple_arena_ptr.specs.Pointers.{Pointer}
-use Rattle.triple_arena.specs.Entries.{look_up}
-use Rattle.triple_arena_chain_uses.specs.Chains.{Node, ChainState, nodes, value_at, after_at, IsInserted, IsRemoved}
-use Rattle.triple_arena_chain_uses.proofs.Linking.{same_pointer, pointer_cases, leads_cases}
+use Rattle.triple_arena.specs.ArenaState.{map_entry}
+use Rattle.triple_arena.specs.Entries.{look_up, entry_in, entry_count, with_value_in}
+use Rattle.triple_arena.specs.Items.{with_item}
+use Rattle.triple_arena.specs.laws.ItemLaws.{map-with_item}
+use Rattle.triple_arena.specs.laws.LookUpLaws.{entry_at, found_mapped, written_there, written_elsewhere}
+use Rattle.triple_arena_chain.specs.Chains.{Node, ChainState, nodes, value_at, after_at, IsInserted, IsRemoved}
+use Rattle.triple_arena_chain.specs.laws.LinkLaws.{same_pointer, pointer_cases, leads_cases}
 use Rattle.triple_arena_surject.specs.declared.member.Member.{Member}
 use Rattle.triple_arena_surject.specs.declared.member.Shared.{Shared}
 use Rattle.triple_arena_surject.specs.Rings.{counts, label, with_set, with_keys, with_value, IsSound, IsRingOfOne}
-use Rattle.triple_arena_surject.specs.Surject.{SurjectState, found_at, key_at, set_at, named, val_at, AreTogether, IsNewSet, IsAdded, IsValued, IsUnited, IsKeyRemoved, IsSetRemoved, value_of, state_of}
+use Rattle.triple_arena_surject.specs.Surject.{SurjectState, found_at, key_at, set_at, named, val_at, AreTogether, AreOfBoth, IsNewSet, IsAdded, IsValued, IsUnited, IsKeyRemoved, IsSetRemoved, with_val, with_val_in, value_of, state_of}
 use Rattle.triple_arena_surject.proofs.Rounds.{one_label}
 use Rattle.triple_arena_surject.proofs.Sound.{none_there, label_stays}
 use Rattle.triple_arena_surject.proofs.States.{some_is, found_is, set_is, key_is, named_is, val_is, together, together_is, read_key, read_same}
@@ -33,7 +37,7 @@ module _ {V : Type 0} where
       ]
 
   -- another value of a set leaves what each counts
-  pub counts_valued : (slots slots' : List (Option (ℕ × Shared V))) (c : Pointer) (value : V) → look_up slots' c ≡ option_map (with_value value) (look_up slots c)
+  counts_valued : (slots slots' : List (Option (ℕ × Shared V))) (c : Pointer) (value : V) → look_up slots' c ≡ option_map (with_value value) (look_up slots c)
       → ((d : Pointer) → d ≢ c → look_up slots' d ≡ look_up slots d) → (d : Pointer) → counts slots' d ≡ counts slots d
   counts_valued slots slots' c value there same d =
       elim (pointer_cases d c) [
@@ -53,8 +57,49 @@ module _ {V : Type 0} where
   counted_with k None some = absurd (cc)
   counted_with k (Some shared) some = refl
 
+  -- a value is written to what is kept of a set
+  module _ (slots slots' : List (Option (ℕ × Shared V))) (c : Pointer) (shared : Shared V) (w : V) (found : look_up slots c ≡ Some shared)
+      (is : slots' ≡ with_value_in slots c.0 (record shared { value = w })) where
+    pub counts_written : (d : Pointer) → counts slots' d ≡ counts slots d
+    counts_written =
+        counts_valued slots slots' c w (ap (λ s. look_up s c) is ∙ written_there slots c shared (record shared { value = w }) found ∙ sym (ap (option_map (with_value w)) found))
+        (λ d other. ap (λ s. look_up s d) is ∙ written_elsewhere slots c shared (record shared { value = w }) found d other)
+
+    abbrev vals : List (Option (ℕ × V))
+    vals = map (option_map (map_entry value_of)) slots
+
+    vals_written : map (option_map (map_entry value_of)) slots' ≡ with_value_in vals c.0 w
+    vals_written =
+        ap (map (option_map (map_entry value_of))) is
+        ∙ map-with_item (option_map (map_entry value_of)) slots c.0 (option_map (λ e. (e.0, record shared { value = w })) (entry_in slots c.0))
+        ∙ ap (with_item vals c.0)
+        (ap (λ o. option_map (map_entry value_of) (option_map (λ e. (e.0, record shared { value = w })) o)) (entry_at slots c shared found)
+        ∙ sym (ap (option_map (λ e. (e.0, w))) (entry_at vals c shared.value (found_mapped value_of slots c ∙ ap (option_map value_of) found))))
+
+    pub state_written : {A P K : Type 0} (numbers : P → Pointer) (chains : ChainState A (Member P K)) (p : Pointer) (capacity more : ℕ) (limit other : Option ℕ)
+        → label numbers (nodes chains) p ≡ Some c → entry_count slots' ≡ entry_count slots → more ≡ capacity → other ≡ limit
+        → state_of numbers chains slots' more other ≡ with_val (state_of numbers chains slots capacity limit) (set_at (state_of numbers chains slots capacity limit) p) w
+    state_written numbers chains p capacity more limit other of len same_capacity same_limit =
+        ap (λ v. record (state_of numbers chains slots' more other) { vals = v })
+        (vals_written ∙ ap (λ o. with_val_in vals o w) (sym (set_is numbers chains slots capacity limit p ∙ of)))
+        ∙ ap (λ n. record (with_val (state_of numbers chains slots more other) (set_at (state_of numbers chains slots capacity limit) p) w) { len_vals = n }) len
+        ∙ ap (λ n. with_val (state_of numbers chains slots n other) (set_at (state_of numbers chains slots capacity limit) p) w) same_capacity
+        ∙ ap (λ l. with_val (state_of numbers chains slots capacity l) (set_at (state_of numbers chains slots capacity limit) p) w) same_limit
+
+-- the set of a pointer has the value that is written to it
+pub valued_so : {K V : Type 0} (s : SurjectState K V) (p c : Pointer) (was value : V) → set_at s p ≡ Some c → named s c ≡ Some was → IsValued s p value (with_val s (set_at s p) value)
+valued_so s p c was value of is =
+    subst (λ o. IsValued s p value (with_val s o value)) (sym of)
+    (record {
+      keys = λ q. refl;
+      value = λ q with. ap (option_and_then (named (with_val s (Some c) value))) (sym with.1 ∙ of) ∙ written_there s.vals c was value is;
+      others = λ q other.
+          val_same s (with_val s (Some c) value) q refl
+          (λ d of_d. written_elsewhere s.vals c was value is d (λ e. other (subst IsSome (sym of) refl, of ∙ sym (of_d ∙ ap Some e))));
+    })
+
 module _ {P K V : Type 0} (numbers : P → Pointer) where
-  module _ (chains chains' : ChainState (Member P K)) (slots slots' : List (Option (ℕ × Shared V))) (capacity capacity' : ℕ) (limit limit' : Option ℕ) where
+  module _ {A : Type 0} (chains chains' : ChainState A (Member P K)) (slots slots' : List (Option (ℕ × Shared V))) (capacity capacity' : ℕ) (limit limit' : Option ℕ) where
     abbrev old : SurjectState K V
     old = state_of numbers chains slots capacity limit
 
@@ -133,24 +178,6 @@ module _ {P K V : Type 0} (numbers : P → Pointer) where
           here : value_at (nodes chains') q ≡ Some member
           here = ap (option_map (λ (node : Node (Member P K)). node.value)) done.found
 
-    -- a set has another value
-    pub valued : (p c : Pointer) (value : V) → label numbers (nodes chains) p ≡ Some c → ((q : Pointer) → value_at (nodes chains') q ≡ value_at (nodes chains) q)
-        → IsSome (look_up slots c) → look_up slots' c ≡ option_map (with_value value) (look_up slots c) → ((d : Pointer) → d ≢ c → look_up slots' d ≡ look_up slots d) → IsValued old p value new
-    valued p c value of_p stays some there same =
-        record {
-          keys = λ q. found_same q (stays q);
-          value = λ q is.
-              val_is numbers chains' slots' capacity' limit' q c (label_stays numbers (nodes chains) (nodes chains') q (stays q) ∙ together_is numbers chains slots capacity limit p q c of_p is)
-              ∙ ap (option_map value_of) there ∙ by_some (look_up slots c) some;
-          others = λ q other.
-              val_same old new q (set_found q (found_same q (stays q)))
-              (λ d of. named_same d (same d (λ is. other (together numbers chains slots capacity limit p q c of_p (old_label q d of ∙ ap Some is)))));
-        }
-      where
-        by_some : (o : Option (Shared V)) → IsSome o → option_map value_of (option_map (with_value value) o) ≡ Some value
-        by_some None some = absurd (cc)
-        by_some (Some shared) some = refl
-
     -- two sets are one
     module _ (p q : Pointer) (set : P) (d : Pointer) (of_p : label numbers (nodes chains) p ≡ Some (numbers set)) (of_q : label numbers (nodes chains) q ≡ Some d) (apart : numbers set ≢ d)
         (moved : (r : Pointer) → label numbers (nodes chains) r ≡ Some d → value_at (nodes chains') r ≡ option_map (with_set set) (value_at (nodes chains) r))
@@ -182,7 +209,7 @@ module _ {P K V : Type 0} (numbers : P → Pointer) where
       now : (r : Pointer) → at_old r ≡ Some c → at_new r ≡ Some c
       now r of = keeps r (not_gone r of) ∙ of
 
-      name_of : (s : ChainState (Member P K)) (more : List (Option (ℕ × Shared V))) (room : ℕ) (most : Option ℕ) (x y : Pointer) → AreTogether (state_of {V = V} numbers s more room most) x y
+      name_of : (s : ChainState A (Member P K)) (more : List (Option (ℕ × Shared V))) (room : ℕ) (most : Option ℕ) (x y : Pointer) → AreTogether (state_of {V = V} numbers s more room most) x y
           → (e : Pointer) × (label numbers (nodes s) x ≡ Some e) × (label numbers (nodes s) y ≡ Some e)
       name_of s more room most x y is =
           let name = some_is (set_at (state_of {V = V} numbers s more room most) x) is.0 in
@@ -196,7 +223,7 @@ module _ {P K V : Type 0} (numbers : P → Pointer) where
       are_together x y e of also = together numbers chains' slots' capacity' limit' x y e of also
 
       abbrev Joined : Pointer → Pointer → Type 0
-      Joined x y = AreTogether old x y ⊎ ((AreTogether old p x × AreTogether old q y) ⊎ (AreTogether old q x × AreTogether old p y))
+      Joined x y = AreTogether old x y ⊎ AreOfBoth old p q x y
 
       to_joined : (x y : Pointer) → AreTogether new x y → Joined x y
       to_joined x y is =
@@ -250,8 +277,13 @@ module _ {P K V : Type 0} (numbers : P → Pointer) where
       pub united : IsUnited old p q new
       united =
           record {
+            apart = λ is. not_gone q (of_kept q is) of_q;
             keys = key_stays;
             joined = λ x y. (λ is. to_joined x y is, λ is. from_joined x y is);
+            names = λ x other.
+                set_is numbers chains' slots' capacity' limit' x
+                ∙ keeps x (λ of. other (was_together q x d of_q of))
+                ∙ sym (set_is numbers chains slots capacity limit x);
             value = λ x is.
                 val_is numbers chains' slots' capacity' limit' x c (moves x (of_gone x is)) ∙ ap (option_map value_of) all
                 ∙ value_kept k (look_up slots c) ∙ sym (val_is numbers chains slots capacity limit p c of_p);

@@ -1,21 +1,26 @@
--- Of pointers, each once, among as many others: those are each once too, and a renaming of the one into the other is one to one.
+-- Of pointers, each once: how many there are, beside others and among others.
 use Rattle.std.specs.Prelude.{List, [], ◌∷◌, ◌++◌, map, Contains}
-use Rattle.std.proofs.Common.{◌≡◌, ◌≢◌, ◌⊎◌, ◌≤◌, ◌+◌, ℕ, inl, inr, zero, suc, length, sym, ap, ◌∙◌, subst, arith, length-append}
+use Rattle.std.proofs.Common.{◌≡◌, ◌≢◌, ◌⊎◌, ◌≤◌, ◌+◌, ℕ, Option, None, IsSome, inl, inr, zero, suc, length, refl, sym, ap, ◌∙◌, subst, arith, length-append}
+use Rattle.std.proofs.lemmas.List.{length-map}
 use Rattle.std.proofs.lemmas.List.Elements.{Contains-append_left, Contains-append_right, Contains-append_cases}
 use Rattle.triple_arena_ptr.specs.Pointers.{Pointer}
+use Rattle.triple_arena.specs.Entries.{entry_count}
 use Rattle.triple_arena.specs.FreeList.{IsRising}
-use Rattle.triple_arena_chain_uses.specs.Chains.{AreOnce}
-use Rattle.triple_arena_chain_uses.proofs.Linking.{pointer_cases}
-use Rattle.triple_arena_chain_uses.proofs.Lists.{in_tail}
-use Rattle.triple_arena_chain_uses.proofs.Walking.{split_at, no_more}
-use Rattle.triple_arena_surject.proofs.Runs.{none_in, once_before, once_behind}
+use Rattle.triple_arena.specs.Walks.{keys, entries}
+use Rattle.triple_arena.specs.laws.WalkLaws.{live_key, key_live, keys_rising, length-entries}
+use Rattle.triple_arena_chain.specs.Chains.{ChainState, nodes, AreOnce}
+use Rattle.triple_arena_chain.specs.laws.LinkLaws.{pointer_cases}
+use Rattle.triple_arena_chain.specs.laws.RunLaws.{in_tail}
+use Rattle.triple_arena_chain.specs.laws.NodeLaws.{not_there}
+use Rattle.triple_arena_chain.specs.laws.RestLaws.{split_at, in_rest, no_more}
+use Rattle.triple_arena_surject.proofs.Runs.{none_in}
 
 -- what is behind a head
 tail_in : (y : Pointer) (ys : List Pointer) (p : Pointer) → y ≢ p → Contains (y ∷ ys) p → Contains ys p
 tail_in y ys p other (zero, within, is) = absurd (other is)
 tail_in y ys p other (suc k, within, is) = (k, omega (arith, within), is)
 
-is_in : (ys : List Pointer) (p : Pointer) → Contains ys p ⊎ (Contains ys p → ⊥)
+pub is_in : (ys : List Pointer) (p : Pointer) → Contains ys p ⊎ (Contains ys p → ⊥)
 is_in [] p = inr (none_in p)
 is_in (y ∷ ys) p =
     elim (pointer_cases y p) [
@@ -26,67 +31,10 @@ is_in (y ∷ ys) p =
       ]
     ]
 
-once_without : (front : List Pointer) (x : Pointer) (back : List Pointer) → AreOnce (front ++ x ∷ back) → AreOnce (front ++ back)
-once_without [] x back once = once.1
-once_without (a ∷ front) x back once = (λ q within. once.0 q (around front q within), once_without front x back once.1)
-  where
-    around : (xs : List Pointer) (q : Pointer) → Contains (xs ++ back) q → Contains (xs ++ x ∷ back) q
-    around xs q within =
-        elim (Contains-append_cases xs back q within) [
-          | inl there ↦ Contains-append_left xs (x ∷ back) q there
-          | inr there ↦ Contains-append_right xs (x ∷ back) q (in_tail x q back there)
-        ]
-
--- what is left of one that stands among a head and others, without it
-among_left : (xs : List Pointer) (y : Pointer) (ys front back : List Pointer) → xs ≡ front ++ y ∷ back → AreOnce (front ++ y ∷ back) → ((p : Pointer) → Contains xs p → Contains (y ∷ ys) p)
-    → (p : Pointer) → Contains front p ⊎ Contains back p → Contains ys p
-among_left xs y ys front back is once among p (inl within) =
-    tail_in y ys p (once_before front y back once p within) (among p (subst (λ zs. Contains zs p) (sym is) (Contains-append_left front (y ∷ back) p within)))
-among_left xs y ys front back is once among p (inr within) =
-    tail_in y ys p (once_behind front y back once p within) (among p (subst (λ zs. Contains zs p) (sym is) (Contains-append_right front (y ∷ back) p (in_tail y p back within))))
-
--- as many as are each once are each once
-pub as_many_once : (xs ys : List Pointer) → AreOnce xs → ((p : Pointer) → Contains xs p → Contains ys p) → length ys ≤ length xs → AreOnce ys
-as_many_once xs [] once among few = tt
-as_many_once xs (y ∷ ys) once among few = (
-  apart,
-  elim (is_in xs y) [
-    | inr none ↦ absurd (too_few (λ p within. tail_in y ys p (λ e. none (subst (Contains xs) (sym e) within)) (among p within)))
-    | inl there ↦
-        let split = split_at xs y there in
-        let once' : AreOnce (split.0 ++ y ∷ split.1) = subst AreOnce split.2 once in
-        let all : length xs ≡ length (split.0 ++ y ∷ split.1) = ap length split.2 in
-        as_many_once (split.0 ++ split.1) ys (once_without split.0 y split.1 once')
-        (λ p within. among_left xs y ys split.0 split.1 split.2 once' among p (Contains-append_cases split.0 split.1 p within))
-        (omega (arith, few, all, length-append split.0 split.1, length-append split.0 (y ∷ split.1)))
-  ],
-)
-  where
-    too_few : ((p : Pointer) → Contains xs p → Contains ys p) → ⊥
-    too_few within = let more = no_more xs ys once within in omega (arith, more, few)
-
-    again : (q : Pointer) → Contains ys q → y ≡ q → (p : Pointer) → Contains (y ∷ ys) p → Contains ys p
-    again q there same p (zero, within, is) = subst (Contains ys) (sym same ∙ is) there
-    again q there same p (suc k, within, is) = (k, omega (arith, within), is)
-
-    apart : (q : Pointer) → Contains ys q → y ≢ q
-    apart q there same = too_few (λ p within. again q there same p (among p within))
-
 pub in_map : (f : Pointer → Pointer) (xs : List Pointer) (p : Pointer) → Contains xs p → Contains (map f xs) (f p)
 in_map f [] p within = absurd (none_in p within)
 in_map f (x ∷ xs) p (zero, within, is) = (zero, omega arith, ap f is)
 in_map f (x ∷ xs) p (suc k, within, is) = in_tail (f x) (f p) (map f xs) (in_map f xs p (k, omega (arith, within), is))
-
--- names that are each once are of one pointer each
-pub one_to_one : (f : Pointer → Pointer) (xs : List Pointer) → AreOnce (map f xs) → (p q : Pointer) → Contains xs p → Contains xs q → f p ≡ f q → p ≡ q
-one_to_one f [] once p q within there same = absurd (none_in p within)
-one_to_one f (x ∷ xs) once p q (zero, within, is) (zero, there, at) same = sym is ∙ at
-one_to_one f (x ∷ xs) once p q (zero, within, is) (suc k, there, at) same =
-    absurd (once.0 (f q) (in_map f xs q (k, omega (arith, there), at)) (ap f is ∙ same))
-one_to_one f (x ∷ xs) once p q (suc k, within, is) (zero, there, at) same =
-    absurd (once.0 (f p) (in_map f xs p (k, omega (arith, within), is)) (ap f at ∙ sym same))
-one_to_one f (x ∷ xs) once p q (suc k, within, is) (suc l, there, at) same =
-    one_to_one f xs once.1 p q (k, omega (arith, within), is) (l, omega (arith, there), at) same
 
 -- pointers whose indexes rise are each once
 pub once_rising : (low : ℕ) (ps : List Pointer) → IsRising low (map (λ p. p.0) ps) → AreOnce ps
@@ -105,3 +53,83 @@ once_rising low (p ∷ ps) rising = (λ q within e. above (p.0 + 1) ps rising.1 
         let more = least (p.0 + 1) ps rising q within in
         let same : p.0 ≡ q.0 = ap (λ (x : Pointer). x.0) e in
         omega (arith, more, same)
+
+-- pointers each once, and others each once, are each once together
+pub once_both : (xs ys : List Pointer) → AreOnce xs → AreOnce ys → ((p : Pointer) → Contains xs p → Contains ys p → ⊥) → AreOnce (xs ++ ys)
+once_both [] ys once also apart = also
+once_both (x ∷ xs) ys once also apart = (
+  λ q within e. elim (Contains-append_cases xs ys q within) [
+    | inl there ↦ once.0 q there e
+    | inr there ↦ apart x (zero, omega arith, refl) (subst (Contains ys) (sym e) there)
+  ],
+  once_both xs ys once.1 also (λ p (k, within, is) there. apart p (suc k, omega (arith, within), is) there),
+)
+
+-- what is in two parts, each of which it has, is as many as both are
+pub parted : (all left gone : List Pointer) → AreOnce all → AreOnce left → AreOnce gone → ((p : Pointer) → Contains left p → Contains gone p → ⊥)
+    → ((p : Pointer) → Contains all p → Contains left p ⊎ Contains gone p) → ((p : Pointer) → Contains left p ⊎ Contains gone p → Contains all p)
+    → length left + length gone ≡ length all
+parted all left gone once once_left once_gone apart parts whole =
+    let few : length all ≤ length (left ++ gone) =
+    no_more all (left ++ gone) once (λ p within. elim (parts p within) [
+      | inl there ↦ Contains-append_left left gone p there
+      | inr there ↦ Contains-append_right left gone p there
+    ]) in
+    let many : length (left ++ gone) ≤ length all =
+    no_more (left ++ gone) all (once_both left gone once_left once_gone apart) (λ p within. whole p (Contains-append_cases left gone p within)) in
+    omega (arith, few, many, length-append left gone)
+
+-- there are as many keys in an arena as entries
+pub many_keys : {T : Type 0} (slots : List (Option (ℕ × T))) → length (keys slots) ≡ entry_count slots
+many_keys {T = T} slots = length-map (entries slots) (λ (e : Pointer × T). e.0) ∙ length-entries slots
+
+-- what is left where some entries, each once, are gone
+pub fewer : {A T : Type 0} (old new : ChainState A T) (gone : List Pointer) → entry_count old.slots ≡ old.len → entry_count new.slots ≡ new.len → AreOnce gone
+    → ((q : Pointer) → Contains gone q → IsSome (nodes old q) × (nodes new q ≡ None)) → ((q : Pointer) → (Contains gone q → ⊥) → nodes new q ≡ nodes old q) → new.len + length gone ≡ old.len
+fewer old new gone counted recounted once out same =
+    omega (
+      arith,
+      counted,
+      recounted,
+      many_keys old.slots,
+      many_keys new.slots,
+      parted (keys old.slots) (keys new.slots) gone (once_rising 1 (keys old.slots) (keys_rising old.slots)) (once_rising 1 (keys new.slots) (keys_rising new.slots)) once
+          (λ p left there. not_there (nodes new p) (out p there).1 (key_live new.slots p left)) parts whole,
+    )
+  where
+    parts : (p : Pointer) → Contains (keys old.slots) p → Contains (keys new.slots) p ⊎ Contains gone p
+    parts p within =
+        elim (is_in gone p) [
+          | inl there ↦ inr there
+          | inr none ↦ inl (live_key new.slots p (subst IsSome (sym (same p none)) (key_live old.slots p within)))
+        ]
+
+    whole : (p : Pointer) → Contains (keys new.slots) p ⊎ Contains gone p → Contains (keys old.slots) p
+    whole p (inr there) = live_key old.slots p (out p there).0
+    whole p (inl left) =
+        elim (is_in gone p) [
+          | inl there ↦ live_key old.slots p (out p there).0
+          | inr none ↦ live_key old.slots p (subst IsSome (same p none) (key_live new.slots p left))
+        ]
+
+-- as many names as pointers are of one pointer each
+pub one_to_one : (f : Pointer → Pointer) (xs ys : List Pointer) → AreOnce ys → ((q : Pointer) → Contains ys q → (p : Pointer) × Contains xs p × (f p ≡ q)) → length xs ≤ length ys
+    → (p q : Pointer) → Contains xs p → Contains xs q → f p ≡ f q → p ≡ q
+one_to_one f xs ys once from enough p q within there same =
+    elim (pointer_cases q p) [
+      | inl e ↦ sym e
+      | inr other ↦
+          let place = split_at xs q there in
+          let left : Contains (place.0 ++ place.1) p = in_rest place.0 q place.1 p (subst (λ zs. Contains zs p) place.2 within) other in
+          let few : length ys ≤ length (map f (place.0 ++ place.1)) = no_more ys (map f (place.0 ++ place.1)) once (λ x at. named place left x (from x at)) in
+          let all : length xs ≡ length (place.0 ++ q ∷ place.1) = ap length place.2 in
+          absurd (omega (arith, few, all, enough, length-map (place.0 ++ place.1) f, length-append place.0 place.1, length-append place.0 (q ∷ place.1)))
+    ]
+  where
+    named : (place : (front : List Pointer) × (back : List Pointer) × (xs ≡ front ++ q ∷ back)) → Contains (place.0 ++ place.1) p
+        → (x : Pointer) → (z : Pointer) × Contains xs z × (f z ≡ x) → Contains (map f (place.0 ++ place.1)) x
+    named place left x is =
+        elim (pointer_cases q is.0) [
+          | inl e ↦ subst (Contains (map f (place.0 ++ place.1))) (same ∙ ap f e ∙ is.2) (in_map f (place.0 ++ place.1) p left)
+          | inr away ↦ subst (Contains (map f (place.0 ++ place.1))) is.2 (in_map f (place.0 ++ place.1) is.0 (in_rest place.0 q place.1 is.0 (subst (λ zs. Contains zs is.0) place.2 is.1) away))
+        ]

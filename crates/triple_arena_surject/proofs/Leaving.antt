@@ -4,10 +4,10 @@ use Rattle.std.proofs.Common.{◌≡◌, ◌≢◌, ◌⊎◌, ℕ, inl, inr, ze
 use Rattle.std.proofs.lemmas.List.{append-nil}
 use Rattle.std.specs.Option.{option_map, option_and_then}
 use Rattle.triple_arena_ptr.specs.Pointers.{Pointer}
-use Rattle.triple_arena_chain_uses.specs.Chains.{Node, after_at, IsLinked, IsRun, IsRemoved, IsOfChain, IsChainRemoved}
-use Rattle.triple_arena_chain_uses.proofs.Linking.{same_pointer, pointer_cases, leads_cases}
-use Rattle.triple_arena_chain_uses.proofs.Lists.{in_head, in_tail, next_in, removed_run}
-use Rattle.triple_arena_chain_uses.proofs.Walking.{split_at}
+use Rattle.triple_arena_chain.specs.Chains.{Node, after_at, IsLinked, IsRun, IsRemoved, IsOfChain, IsChainRemoved}
+use Rattle.triple_arena_chain.specs.laws.LinkLaws.{same_pointer, pointer_cases, leads_cases}
+use Rattle.triple_arena_chain.specs.laws.RunLaws.{in_head, in_tail, next_in, removed_run}
+use Rattle.triple_arena_chain.specs.laws.RestLaws.{split_at}
 use Rattle.triple_arena_surject.specs.declared.member.Member.{Member}
 use Rattle.triple_arena_surject.specs.Rings.{label, IsRound, IsRing, IsSound}
 use Rattle.triple_arena_surject.proofs.Runs.{none_in, runs_on, run_front}

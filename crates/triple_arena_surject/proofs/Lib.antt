@@ -5,6 +5,7 @@ pub mod States
 pub mod Splicing
 pub mod Relabelling
 pub mod Uniting
+pub mod Unions
 pub mod Leaving
 pub mod Changes
 pub mod Counting

@@ -1,38 +1,30 @@
 -- What holds after a compaction: each set has its keys, under their new names.
 use Rattle.std.specs.Prelude.{List, [], ◌∷◌, map, Contains}
-use Rattle.std.proofs.Common.{◌≡◌, ℕ, zero, suc, length, Option, Some, None, IsSome, refl, sym, ap, ◌∙◌, subst, arith}
+use Rattle.std.proofs.Common.{◌≡◌, ℕ, zero, suc, Option, Some, None, IsSome, refl, sym, ap, ◌∙◌, subst, arith}
 use Rattle.std.proofs.lemmas.List.{length-map}
 use Rattle.std.specs.Option.{option_map}
 use Rattle.triple_arena_ptr.specs.Pointers.{Pointer}
 use Rattle.triple_arena.specs.Entries.{look_up, entry_count}
-use Rattle.triple_arena.specs.Walks.{keys, entries}
-use Rattle.triple_arena.specs.laws.WalkLaws.{live_key, key_live, keys_rising, length-entries}
-use Rattle.triple_arena_chain_uses.specs.Chains.{Node, ChainState, nodes, value_at, renamed, IsMoved, AreOnce}
-use Rattle.triple_arena_chain_uses.proofs.Lists.{in_head, in_tail, moved_run}
+use Rattle.triple_arena.specs.Walks.{keys}
+use Rattle.triple_arena.specs.laws.WalkLaws.{live_key, key_live, keys_rising}
+use Rattle.triple_arena_chain.specs.Chains.{Node, ChainState, nodes, value_at, renamed, IsMoved}
+use Rattle.triple_arena_chain.specs.laws.RunLaws.{in_head, in_tail, moved_run}
 use Rattle.triple_arena_surject.specs.declared.member.Member.{Member}
 use Rattle.triple_arena_surject.specs.declared.member.Shared.{Shared}
 use Rattle.triple_arena_surject.specs.Rings.{label, IsRound, IsRing, IsSound}
 use Rattle.triple_arena_surject.specs.Surject.{SurjectState, found_at, key_of, state_of, IsRenamed}
-use Rattle.triple_arena_surject.proofs.Counting.{as_many_once, in_map, one_to_one, once_rising}
+use Rattle.triple_arena_surject.proofs.Counting.{many_keys, in_map, one_to_one, once_rising}
 use Rattle.triple_arena_surject.proofs.Runs.{none_in, run_there}
 use Rattle.triple_arena_surject.proofs.Rounds.{labelled_there}
 use Rattle.triple_arena_surject.proofs.States.{some_of_map, map_of_some, found_is, read_same}
 
-module _ {P K : Type 0} (numbers : P → Pointer) (old new : ChainState (Member P K)) (rename : Pointer → Pointer) (moves : IsMoved (nodes old) rename (nodes new))
+module _ {A P K : Type 0} (numbers : P → Pointer) (old new : ChainState A (Member P K)) (rename : Pointer → Pointer) (moves : IsMoved (nodes old) rename (nodes new))
     (counted : entry_count old.slots ≡ old.len) (recounted : entry_count new.slots ≡ new.len) (same : new.len ≡ old.len) where
-  many : (slots : List (Option (ℕ × Node (Member P K)))) → length (keys slots) ≡ entry_count slots
-  many slots = length-map (entries slots) (λ (e : Pointer × Node (Member P K)). e.0) ∙ length-entries slots
-
-  names_once : AreOnce (map rename (keys old.slots))
-  names_once =
-      as_many_once (keys new.slots) (map rename (keys old.slots)) (once_rising 1 (keys new.slots) (keys_rising new.slots))
-      (λ q within.
-      let from = moves.all q (key_live new.slots q within) in
-      subst (Contains (map rename (keys old.slots))) from.2 (in_map rename (keys old.slots) from.0 (live_key old.slots from.0 from.1)))
-      (omega (arith, length-map (keys old.slots) rename, many old.slots, many new.slots, counted, recounted, same))
-
   pub rename_once : (p q : Pointer) → IsSome (nodes old p) → IsSome (nodes old q) → rename p ≡ rename q → p ≡ q
-  rename_once p q some there = one_to_one rename (keys old.slots) names_once p q (live_key old.slots p some) (live_key old.slots q there)
+  rename_once p q some there =
+      one_to_one rename (keys old.slots) (keys new.slots) (once_rising 1 (keys new.slots) (keys_rising new.slots))
+      (λ x within. let from = moves.all x (key_live new.slots x within) in (from.0, live_key old.slots from.0 from.1, from.2))
+      (omega (arith, many_keys old.slots, many_keys new.slots, counted, recounted, same)) p q (live_key old.slots p some) (live_key old.slots q there)
 
   pub value_moved : (p : Pointer) → IsSome (nodes old p) → value_at (nodes new) (rename p) ≡ value_at (nodes old) p
   value_moved p some = ap (option_map (λ (n : Node (Member P K)). n.value)) (moves.moved p some) ∙ by_node (nodes old p)

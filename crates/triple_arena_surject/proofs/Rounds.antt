@@ -1,18 +1,18 @@
 -- The ring of a set: from another of its keys on, where all leads on as before, and how many it has at most.
 use Rattle.std.specs.Prelude.{List, [], ◌∷◌, ◌++◌, Contains}
 use Rattle.std.proofs.Common.{◌≡◌, ◌≢◌, ◌⊎◌, ◌≤◌, ◌<◌, ℕ, inl, inr, zero, suc, length, Option, Some, None, IsSome, refl, sym, ap, ◌∙◌, subst, arith, length-append}
-use Rattle.std.proofs.lemmas.List.{length-map}
 use Rattle.std.proofs.lemmas.List.Elements.{Contains-append_cases}
 use Rattle.std.specs.Option.{option_map}
 use Rattle.triple_arena_ptr.specs.Pointers.{Pointer}
 use Rattle.triple_arena.specs.Entries.{look_up, entry_count}
-use Rattle.triple_arena.specs.Walks.{keys, entries}
-use Rattle.triple_arena.specs.laws.WalkLaws.{live_key, length-entries}
-use Rattle.triple_arena_chain_uses.specs.Chains.{Node, after_at, first_of, IsLinked, IsRun, AreOnce}
-use Rattle.triple_arena_chain_uses.proofs.Linking.{same_pointer}
-use Rattle.triple_arena_chain_uses.proofs.Walking.{split_at, no_more, run_once}
+use Rattle.triple_arena.specs.Walks.{keys}
+use Rattle.triple_arena.specs.laws.WalkLaws.{live_key}
+use Rattle.triple_arena_chain.specs.Chains.{Node, after_at, first_of, IsLinked, IsRun, AreOnce}
+use Rattle.triple_arena_chain.specs.laws.LinkLaws.{same_pointer}
+use Rattle.triple_arena_chain.specs.laws.RestLaws.{split_at, no_more, run_once}
 use Rattle.triple_arena_surject.specs.declared.member.Member.{Member}
 use Rattle.triple_arena_surject.specs.Rings.{label, IsRound, IsRing}
+use Rattle.triple_arena_surject.proofs.Counting.{many_keys}
 use Rattle.triple_arena_surject.proofs.Runs.{in_turn, once_before, once_behind, runs_on, run_front, run_back, run_stays, run_there}
 
 module _ {P K : Type 0} (numbers : P → Pointer) where
@@ -85,11 +85,10 @@ module _ {P K : Type 0} (numbers : P → Pointer) where
     -- there are no more keys of a set than there are keys
     pub no_more_keys : (slots : List (Option (ℕ × Node (Member P K)))) → ((q : Pointer) → nodes q ≡ look_up slots q) → IsRing numbers nodes c n → n ≤ entry_count slots
     no_more_keys slots read ring =
-        let all : length (keys slots) ≡ entry_count slots = length-map (entries slots) (λ (e : Pointer × Node (Member P K)). e.0) ∙ length-entries slots in
         let few : length (ring.0 ∷ ring.1) ≤ length (keys slots) =
         no_more (ring.0 ∷ ring.1) (keys slots) (round_once ring.0 ring.1 ring.2)
         (λ q within. live_key slots q (subst IsSome (read q) (run_there nodes (ring.0 ∷ ring.1) (Some ring.0) ring.2.run q within))) in
-        omega (arith, all, few, ring.2.size)
+        omega (arith, many_keys slots, few, ring.2.size)
 
   -- a ring whose keys lead on as before, and are the same, is that ring
   pub ring_stays : (old new : Pointer → Option (Node (Member P K))) (c : Pointer) (n : ℕ)

@@ -3,8 +3,8 @@ use Rattle.std.specs.Prelude.{List, [], ◌∷◌, ◌++◌, Contains}
 use Rattle.std.proofs.Common.{◌≡◌, ◌≢◌, inl, inr, zero, suc, Option, Some, IsSome, refl, sym, ◌∙◌, subst, arith}
 use Rattle.std.proofs.lemmas.List.Elements.{Contains-append_left, Contains-append_right, Contains-append_cases}
 use Rattle.triple_arena_ptr.specs.Pointers.{Pointer}
-use Rattle.triple_arena_chain_uses.specs.Chains.{Node, after_at, IsRun, first_of, AreOnce}
-use Rattle.triple_arena_chain_uses.proofs.Lists.{in_head, in_tail}
+use Rattle.triple_arena_chain.specs.Chains.{Node, after_at, IsRun, first_of, AreOnce}
+use Rattle.triple_arena_chain.specs.laws.RunLaws.{in_head, in_tail}
 
 pub none_in : (p : Pointer) → Contains [] p → ⊥
 none_in p (k, within, is) = absurd (omega arith)

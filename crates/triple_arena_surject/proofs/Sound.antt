@@ -3,11 +3,10 @@ use Rattle.std.specs.Prelude.{List, [], ◌∷◌, Contains}
 use Rattle.std.proofs.Common.{◌≡◌, ◌≢◌, ◌⊎◌, ◌+◌, ℕ, inl, inr, zero, suc, Option, Some, None, IsSome, refl, sym, ap, ◌∙◌, subst, arith}
 use Rattle.std.specs.Option.{option_map}
 use Rattle.triple_arena_ptr.specs.Pointers.{Pointer}
-use Rattle.triple_arena_chain_uses.specs.Chains.{Node, value_at, after_at, IsLinked, IsInserted}
-use Rattle.triple_arena_chain_uses.proofs.Linking.{same_pointer, pointer_cases}
-use Rattle.triple_arena_chain_uses.proofs.Lists.{in_head, in_tail, inserted_after}
-use Rattle.triple_arena_chain_uses.proofs.Ordering.{with_one}
-use Rattle.triple_arena_chain_uses.proofs.Walking.{in_rest}
+use Rattle.triple_arena_chain.specs.Chains.{Node, value_at, after_at, IsLinked, IsInserted}
+use Rattle.triple_arena_chain.specs.laws.LinkLaws.{same_pointer, pointer_cases}
+use Rattle.triple_arena_chain.specs.laws.RunLaws.{in_head, in_tail, inserted_after}
+use Rattle.triple_arena_chain.specs.laws.RestLaws.{in_rest}
 use Rattle.triple_arena_surject.specs.declared.member.Member.{Member}
 use Rattle.triple_arena_surject.specs.Rings.{label, IsRound, IsRing, IsSound, IsRingOfOne}
 use Rattle.triple_arena_surject.proofs.Runs.{none_in}
@@ -25,6 +24,11 @@ none_some x e = absurd (cc)
 
 pub same_number : (n m : ℕ) → Some n ≡ Some m → n ≡ m
 same_number n m e = cc
+
+-- one more behind the head
+behind_head : (p q : Pointer) (ps : List Pointer) (r : Pointer) → Contains (p ∷ ps) r → Contains (p ∷ q ∷ ps) r
+behind_head p q ps r (zero, within, is) = (zero, omega arith, is)
+behind_head p q ps r (suc k, within, is) = in_tail p r (q ∷ ps) (in_tail q r ps (k, omega (arith, within), is))
 
 module _ {P K : Type 0} (numbers : P → Pointer) where
   -- the same value under a pointer is of the same set
@@ -128,7 +132,7 @@ module _ {P K : Type 0} (numbers : P → Pointer) where
             among = λ r. (
               λ of. elim (pointer_cases r q) [
                 | inl e ↦ subst (Contains (p ∷ q ∷ rest)) (sym e) (in_tail p q (q ∷ rest) (in_head q rest))
-                | inr other ↦ with_one (p ∷ []) q rest r ((is.among r).0 (sym (away r other) ∙ of))
+                | inr other ↦ behind_head p q rest r ((is.among r).0 (sym (away r other) ∙ of))
               ],
               λ within. elim (pointer_cases r q) [
                 | inl e ↦ ap (label numbers new) e ∙ here

@@ -1,9 +1,9 @@
 -- Two rings made one: each of two pointers leads on to what the other led to.
 use Rattle.std.proofs.Common.{◌≡◌, ◌≢◌, Option, Some, None, IsSome, refl, sym, ap, ◌∙◌}
 use Rattle.triple_arena_ptr.specs.Pointers.{Pointer}
-use Rattle.triple_arena_chain_uses.specs.Chains.{Node, after_at, before_at, IsLinked, IsCut, IsJoined}
-use Rattle.triple_arena_chain_uses.proofs.Linking.{same_pointer, leads_on_there, leads_back_there}
-use Rattle.triple_arena_chain_uses.proofs.Nodes.{valued}
+use Rattle.triple_arena_chain.specs.Chains.{Node, after_at, before_at, IsLinked, IsCut, IsJoined}
+use Rattle.triple_arena_chain.specs.laws.LinkLaws.{same_pointer, leads_on_there, leads_back_there}
+use Rattle.triple_arena_chain.specs.laws.NodeLaws.{valued}
 use Rattle.triple_arena_surject.specs.Rings.{IsSpliced}
 
 module _ {T : Type 0} (old : Pointer → Option (Node T)) (linked : IsLinked old) (p q next then : Pointer) (apart : p ≢ q)

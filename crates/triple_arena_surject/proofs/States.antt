@@ -1,18 +1,19 @@
 -- What the state says of a pointer, by what is read of chains and values.
-use Rattle.std.specs.Prelude.{List, ◌∷◌}
-use Rattle.std.proofs.Common.{◌≡◌, ℕ, Option, Some, None, IsSome, refl, sym, ap, ◌∙◌, subst}
+use Rattle.std.specs.Prelude.{List, [], ◌∷◌}
+use Rattle.std.proofs.Common.{◌≡◌, ◌↔◌, ◌⊎◌, inl, inr, ℕ, Result, Err, Option, Some, None, IsSome, refl, sym, ap, ◌∙◌, subst}
 use Rattle.std.specs.Option.{option_map, option_and_then}
 use Rattle.triple_arena_ptr.specs.Pointers.{Pointer}
 use Rattle.triple_arena.specs.Entries.{look_up}
 use Rattle.triple_arena.specs.laws.LookUpLaws.{found_mapped}
-use Rattle.triple_arena_chain_uses.specs.Chains.{Node, ChainState, nodes, value_at, IsLinked}
-use Rattle.triple_arena_chain_uses.proofs.Lists.{in_head}
+use Rattle.triple_arena_chain.specs.Chains.{Node, ChainState, nodes, value_at, IsLinked}
+use Rattle.triple_arena_chain.specs.laws.RunLaws.{in_head}
 use Rattle.triple_arena_surject.specs.declared.member.Member.{Member}
 use Rattle.triple_arena_surject.specs.declared.member.Shared.{Shared}
-use Rattle.triple_arena_surject.specs.Rings.{counts, label, IsSound}
-use Rattle.triple_arena_surject.specs.Surject.{SurjectState, found_at, key_at, set_at, named, val_at, AreTogether, HasKeys, EachHasOther, key_of, value_of, state_of}
-use Rattle.triple_arena_surject.proofs.Rounds.{round_once}
-use Rattle.triple_arena_surject.proofs.Sound.{some_there}
+use Rattle.triple_arena_surject.specs.Rings.{counts, label, IsRound, IsSound}
+use Rattle.triple_arena_surject.specs.Surject.{SurjectState, found_at, key_at, set_at, named, val_at, AreTogether, AreKeys, HasKeys, EachHasOther, key_of, value_of, state_of}
+use Rattle.triple_arena_surject.proofs.Rounds.{round_once, ring_from}
+use Rattle.triple_arena_surject.proofs.Runs.{none_in}
+use Rattle.triple_arena_surject.proofs.Sound.{some_there, none_there}
 
 pub some_of_map : {A B : Type 0} (f : A → B) (o : Option A) → IsSome (option_map f o) → IsSome o
 some_of_map f None some = some
@@ -25,6 +26,24 @@ map_of_some f (Some x) some = refl
 pub some_is : {A : Type 0} (o : Option A) → IsSome o → (x : A) × (o ≡ Some x)
 some_is None some = absurd (cc)
 some_is (Some x) some = (x, refl)
+
+-- a pointer that finds something isn't told to find nothing
+pub never : {A E K V : Type 0} (s : SurjectState K V) (p : Pointer) (r : Result A E) (e : E) → IsSome (found_at s p) → (r ≡ Err e → ⊥) → (r ≡ Err e) ↔ (found_at s p ≡ None)
+never s p r e some other = (λ is. absurd (other is), λ none. absurd (none_there (found_at s p) none some))
+
+pub never_both : {A E K V : Type 0} (s : SurjectState K V) (p q : Pointer) (r : Result A E) (e : E) → IsSome (found_at s p) → IsSome (found_at s q) → (r ≡ Err e → ⊥)
+    → (r ≡ Err e) ↔ ((found_at s p ≡ None) ⊎ (found_at s q ≡ None))
+never_both s p q r e some also other = (
+  λ is. absurd (other is),
+  λ none. elim none [
+    | inl none_p ↦ absurd (none_there (found_at s p) none_p some)
+    | inr none_q ↦ absurd (none_there (found_at s q) none_q also)
+  ],
+)
+
+-- a pointer that finds nothing is of no set
+pub no_keys : {K V : Type 0} (s : SurjectState K V) (p : Pointer) → set_at s p ≡ None → AreKeys s p []
+no_keys s p none = record { once = tt; among = λ q. (λ is. absurd (none_there (set_at s p) none is.0), λ within. absurd (none_in q within)) }
 
 -- a pointer that finds something is of its own set
 pub itself : {K V : Type 0} (s : SurjectState K V) (p : Pointer) → IsSome (found_at s p) → AreTogether s p p
@@ -50,7 +69,7 @@ module _ {P K : Type 0} (numbers : P → Pointer) where
   read_same (Some o) None e = absurd (cc)
   read_same (Some o) (Some n) e = let same : n.value ≡ o.value = cc in ap (λ (m : Member P K). Some (m.key, numbers m.set)) same
 
-  module _ {V : Type 0} (chains : ChainState (Member P K)) (slots : List (Option (ℕ × Shared V))) (capacity : ℕ) (limit : Option ℕ) where
+  module _ {A V : Type 0} (chains : ChainState A (Member P K)) (slots : List (Option (ℕ × Shared V))) (capacity : ℕ) (limit : Option ℕ) where
     abbrev state : SurjectState K V
     state = state_of numbers chains slots capacity limit
 
@@ -72,8 +91,12 @@ module _ {P K : Type 0} (numbers : P → Pointer) where
     pub found_there : (p c : Pointer) → label numbers (nodes chains) p ≡ Some c → IsSome (found_at state p)
     found_there p c of = some_of_map (λ m. m.1) (found_at state p) (some_there (set_at state p) c (set_is p ∙ of))
 
-    pub label_there : (p : Pointer) → IsSome (found_at state p) → IsSome (label numbers (nodes chains) p)
+    label_there : (p : Pointer) → IsSome (found_at state p) → IsSome (label numbers (nodes chains) p)
     label_there p some = subst IsSome (set_is p) (map_of_some (λ m. m.1) (found_at state p) some)
+
+    -- what is told of the set of a pointer that finds something is told
+    pub set_there : (p : Pointer) → IsSome (found_at state p) → (o : Option P) → option_map numbers o ≡ label numbers (nodes chains) p → IsSome o
+    set_there p some o is = some_of_map numbers o (subst IsSome (sym is) (label_there p some))
 
     -- pointers are together where their sets have one name
     pub together : (p q c : Pointer) → label numbers (nodes chains) p ≡ Some c → label numbers (nodes chains) q ≡ Some c → AreTogether state p q
@@ -81,6 +104,15 @@ module _ {P K : Type 0} (numbers : P → Pointer) where
 
     pub together_is : (p q c : Pointer) → label numbers (nodes chains) p ≡ Some c → AreTogether state p q → label numbers (nodes chains) q ≡ Some c
     together_is p q c of is = sym (set_is q) ∙ sym is.1 ∙ set_is p ∙ of
+
+    -- the keys of a set are those of its ring
+    pub are_keys : IsLinked (nodes chains) → (p c : Pointer) (n : ℕ) (rest : List Pointer) → IsRound numbers (nodes chains) c n p rest → AreKeys state p (p ∷ rest)
+    are_keys linked p c n rest is =
+        let of = (is.among p).1 (in_head p rest) in
+        record {
+          once = round_once numbers (nodes chains) linked c n p rest is;
+          among = λ q. (λ is_of. (is.among q).0 (together_is p q c of is_of), λ within. together p q c of ((is.among q).1 within));
+        }
 
     module _ (sound : IsSound numbers (nodes chains) (counts slots)) where
       pub shared_there : (p c : Pointer) → label numbers (nodes chains) p ≡ Some c → IsSome (look_up slots c)
@@ -104,13 +136,5 @@ module _ {P K : Type 0} (numbers : P → Pointer) where
       -- a set has as many keys as it counts
       pub has_keys : IsLinked (nodes chains) → (p c : Pointer) (shared : Shared V) → label numbers (nodes chains) p ≡ Some c → look_up slots c ≡ Some shared → HasKeys state p shared.keys
       has_keys linked p c shared of is =
-          let ring = sound.rings c shared.keys (ap (option_map (λ (s : Shared V). s.keys)) is) in
-          record {
-            all = ring.0 ∷ ring.1;
-            once = round_once numbers (nodes chains) linked c shared.keys ring.0 ring.1 ring.2;
-            among = λ q. (
-              λ is. (ring.2.among q).0 (together_is p q c of is),
-              λ within. together p q c of ((ring.2.among q).1 within),
-            );
-            size = ring.2.size;
-          }
+          let from = ring_from numbers (nodes chains) linked c shared.keys (sound.rings c shared.keys (ap (option_map (λ (s : Shared V). s.keys)) is)) p of in
+          record { all = p ∷ from.0; are = are_keys linked p c shared.keys from.0 from.1; size = from.1.size }

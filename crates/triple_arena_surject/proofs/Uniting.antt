@@ -4,9 +4,9 @@ use Rattle.std.proofs.Common.{◌≡◌, ◌≢◌, ◌⊎◌, ◌+◌, ℕ, inl
 use Rattle.std.proofs.lemmas.List.Elements.{Contains-append_left, Contains-append_right, Contains-append_cases}
 use Rattle.std.specs.Option.{option_map}
 use Rattle.triple_arena_ptr.specs.Pointers.{Pointer}
-use Rattle.triple_arena_chain_uses.specs.Chains.{Node, value_at, after_at, IsLinked}
-use Rattle.triple_arena_chain_uses.proofs.Linking.{pointer_cases, leads_cases}
-use Rattle.triple_arena_chain_uses.proofs.Lists.{in_tail}
+use Rattle.triple_arena_chain.specs.Chains.{Node, value_at, after_at, IsLinked}
+use Rattle.triple_arena_chain.specs.laws.LinkLaws.{pointer_cases, leads_cases}
+use Rattle.triple_arena_chain.specs.laws.RunLaws.{in_tail}
 use Rattle.triple_arena_surject.specs.declared.member.Member.{Member}
 use Rattle.triple_arena_surject.specs.Rings.{label, with_set, IsRound, IsRing, IsSound, IsSpliced}
 use Rattle.triple_arena_surject.proofs.Runs.{first_of_both, runs_on, run_stays}

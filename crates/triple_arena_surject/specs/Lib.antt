@@ -1,3 +1,4 @@
 -- Read first: Surject.
 pub mod Surject
+pub mod Unions
 pub mod Rings

@@ -5,11 +5,11 @@ use Rattle.std.specs.Option.{option_map, option_and_then}
 use Rattle.triple_arena_ptr.specs.Pointers.{Pointer}
 use Rattle.triple_arena.specs.ArenaState.{map_entry}
 use Rattle.triple_arena.specs.Entries.{look_up, entry_count, with_value_in}
-use Rattle.triple_arena_chain_uses.specs.Chains.{Node, ChainState, AreOnce}
+use Rattle.triple_arena_chain.specs.Chains.{Node, ChainState, AreOnce}
 use Rattle.triple_arena_base.specs.declared.errors.ReallocationError.{ReallocationError}
 use Rattle.triple_arena_base.specs.declared.errors.ReallocationError.TheVariants as growth
-use Rattle.triple_arena_chain_uses.specs.declared.place.ChainError.{ChainError}
-use Rattle.triple_arena_chain_uses.specs.declared.place.ChainError.TheVariants as chain
+use Rattle.triple_arena_chain.specs.declared.place.ChainError.{ChainError}
+use Rattle.triple_arena_chain.specs.declared.place.ChainError.TheVariants as chain
 use Rattle.triple_arena_surject.specs.declared.member.Member.{Member}
 use Rattle.triple_arena_surject.specs.declared.member.Shared.{Shared}
 use Rattle.triple_arena_surject.specs.declared.refusal.SurjectError.{SurjectError}
@@ -27,6 +27,11 @@ pub record SurjectState (K V : Type 0) : Type 0 where
   pub key_limit : Option ℕ
   pub val_capacity : ℕ
   pub val_limit : Option ℕ
+
+-- values with another one under a name, if one is given
+abbrev pub with_val_in : {V : Type 0} → List (Option (ℕ × V)) → Option Pointer → V → List (Option (ℕ × V))
+with_val_in vals None value = vals
+with_val_in vals (Some c) value = with_value_in vals c.0 value
 
 module _ {K V : Type 0} where
   -- what is found under a pointer: a key, and the name of its set
@@ -51,12 +56,20 @@ module _ {K V : Type 0} where
   abbrev pub AreTogether : SurjectState K V → Pointer → Pointer → Type 0
   AreTogether s p q = IsSome (set_at s p) × (set_at s p ≡ set_at s q)
 
-  -- the set of a pointer has so many keys: these pointers, each once, are the ones of it
-  pub record HasKeys (s : SurjectState K V) (p : Pointer) (n : ℕ) : Type 0 where
-    pub all : List Pointer
+  -- these pointers, each once, are the ones of a pointer's set
+  pub record AreKeys (s : SurjectState K V) (p : Pointer) (all : List Pointer) : Type 0 where
     pub once : AreOnce all
     pub among : (q : Pointer) → AreTogether s p q ↔ Contains all q
+
+  -- the set of a pointer has so many keys
+  pub record HasKeys (s : SurjectState K V) (p : Pointer) (n : ℕ) : Type 0 where
+    pub all : List Pointer
+    pub are : AreKeys s p all
     pub size : length all ≡ n
+
+  -- two pointers are of these two sets, the one of the one and the other of the other
+  abbrev pub AreOfBoth : SurjectState K V → (p q r t : Pointer) → Type 0
+  AreOfBoth s p q r t = (AreTogether s p r × AreTogether s q t) ⊎ (AreTogether s q r × AreTogether s p t)
 
   -- each key has a value, and each value a key
   pub record EachHasOther (s : SurjectState K V) : Type 0 where
@@ -98,11 +111,13 @@ module _ {K V : Type 0} where
     pub value : (q : Pointer) → AreTogether old p q → val_at new q ≡ Some v
     pub others : (q : Pointer) → ¬ AreTogether old p q → val_at new q ≡ val_at old q
 
-  -- the sets of two pointers are one, with the value of the one; all else is as before
+  -- the sets of two pointers, which were two, are one, with the name and the value of the one; all else is as before
   pub record IsUnited (old : SurjectState K V) (kept gone : Pointer) (new : SurjectState K V) : Type 0 where
+    pub apart : ¬ AreTogether old kept gone
     pub keys : (q : Pointer) → key_at new q ≡ key_at old q
     pub joined : (q r : Pointer) → AreTogether new q r
-        ↔ (AreTogether old q r ⊎ ((AreTogether old kept q × AreTogether old gone r) ⊎ (AreTogether old gone q × AreTogether old kept r)))
+        ↔ (AreTogether old q r ⊎ AreOfBoth old kept gone q r)
+    pub names : (q : Pointer) → ¬ AreTogether old gone q → set_at new q ≡ set_at old q
     pub value : (q : Pointer) → AreTogether old gone q → val_at new q ≡ val_at old kept
     pub others : (q : Pointer) → ¬ AreTogether old gone q → val_at new q ≡ val_at old q
 
@@ -146,9 +161,9 @@ module _ {K V : Type 0} where
     pub all : (q : Pointer) → IsSome (found_at new q) → (p : Pointer) × IsSome (found_at old p) × (rename p ≡ q)
     pub vals : (c : Pointer) → named new c ≡ named old c
 
-  -- the same with another value in the set of a name
-  abbrev pub with_val : SurjectState K V → ℕ → V → SurjectState K V
-  with_val s i value = record s { vals = with_value_in s.vals i value }
+  -- the same with another value in the set of a name, if one is given
+  abbrev pub with_val : SurjectState K V → Option Pointer → V → SurjectState K V
+  with_val s name value = record s { vals = with_val_in s.vals name value }
 
 -- room or memory was refused
 abbrev pub IsRefusedRoom : SurjectError → Type 0
@@ -165,7 +180,7 @@ value_of shared = shared.value
 
 module _ {P K V : Type 0} (numbers : P → Pointer) where
   -- the sets of keys in chains, with their values in an arena
-  abbrev pub state_of : ChainState (Member P K) → List (Option (ℕ × Shared V)) → (capacity : ℕ) (limit : Option ℕ) → SurjectState K V
+  abbrev pub state_of : {A : Type 0} → ChainState A (Member P K) → List (Option (ℕ × Shared V)) → (capacity : ℕ) (limit : Option ℕ) → SurjectState K V
   state_of chains slots capacity limit = record {
     keys = map (option_map (map_entry (key_of numbers))) chains.slots;
     vals = map (option_map (map_entry value_of)) slots;

@@ -13,7 +13,7 @@ use crate::surject::SurjectArena;
 use std::alloc::Global;
 use triple_arena::{ArenaInsertTrait, CompactArenaTrait};
 use triple_arena_base::InvalidationOption;
-use triple_arena_chain_uses::Link;
+use triple_arena_chain::Link;
 use triple_arena_direct::DirectArena;
 use triple_arena_ptr::Ptr;
 

@@ -11,7 +11,7 @@ use crate::refusal::{SurjectError, told_of_chains, told_of_growth};
 use crate::steps::{count_keys, put, put_alone, set_of, take};
 use crate::surject::SurjectArena;
 use triple_arena::{ArenaInsertTrait, ArenaTrait, CompactArenaTrait};
-use triple_arena_chain_uses::{Link, Place};
+use triple_arena_chain::{Link, Place};
 use triple_arena_ptr::{Ptr, PtrInx};
 
 impl<
@@ -42,7 +42,15 @@ impl<
         ensures refusal { IfErr result IsRefusedRoom }
         ensures full_vals { IsFullAtLimit self.old.val_capacity self.old.val_limit self.old.len_vals
             → result ≡ Err SurjectError.NoRoom }
-        ensures full_keys { self.old.len_vals < self.old.val_capacity
+        ensures no_room { result ≡ Err SurjectError.NoRoom
+            → IsFullAtLimit self.old.val_capacity self.old.val_limit self.old.len_vals
+            ⊎ IsFullAtLimit self.old.key_capacity self.old.key_limit self.old.len_keys }
+        ensures no_memory { result ≡ Err SurjectError.NoMemory
+            → (self.old.val_capacity ≤ self.old.len_vals)
+            ⊎ (self.old.key_capacity ≤ self.old.len_keys) }
+        ensures full_keys { (self.old.len_vals < self.old.val_capacity)
+            ⊎ CanGrow B.has_memory self.old.val_capacity self.old.val_limit
+            (greatest_index P.Inx.greatest)
             → ((result ≡ Err SurjectError.NoRoom)
             ↔ IsFullAtLimit self.old.key_capacity self.old.key_limit self.old.len_keys) }
         ensures with_memory { CanGrow A.has_memory self.old.key_capacity self.old.key_limit

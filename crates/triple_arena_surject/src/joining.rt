@@ -1,16 +1,16 @@
 //! Two sets made one.
 
-ghost use Rattle.std.specs.Prelude.{◌≡◌, ◌↔◌, ◌⊎◌, ◌+◌, None, Some, Ok, Err, IsSome, IfOk, OnOk, OnErr};
+ghost use Rattle.std.specs.Prelude.{◌≡◌, ◌≢◌, ◌≤◌, ◌↔◌, ◌⊎◌, ◌+◌, ℕ, None, Some, Ok, Err, IsSome, IfOk, OnOk, OnErr};
 ghost use Rattle.std.specs.Result.{IfErr};
 ghost use Rattle.triple_arena_ptr.specs.Pointers.{Pointer};
-ghost use Rattle.triple_arena_surject.specs.Surject.{found_at, key_at, val_at, AreTogether, IsUnited, IsUnion, HasOneLess};
+ghost use Rattle.triple_arena_surject.specs.Surject.{found_at, key_at, set_at, val_at, AreTogether, AreOfBoth, HasKeys, IsUnited, IsUnion, HasOneLess};
 
 use crate::member::{Member, Shared};
 use crate::refusal::SurjectError;
 use crate::steps::{count_keys, relabel, set_of, splice, take};
 use crate::surject::SurjectArena;
 use triple_arena::{ArenaInsertTrait, ArenaTrait, CompactArenaTrait};
-use triple_arena_chain_uses::Link;
+use triple_arena_chain::Link;
 use triple_arena_ptr::Ptr;
 
 impl<
@@ -22,12 +22,17 @@ impl<
 > SurjectArena<P, K, V, A, B> {
     /// Makes one set of two. The value of the set with more keys stays, or of the first where both have as many; that
     /// of the other comes back. Nothing comes back where both are one set, and nothing changes then. Every key stays
-    /// under its pointer. It takes no memory.
+    /// under its pointer, and a key whose set has another name then is of a set at least twice as large. It takes no
+    /// memory.
     ///
     /// `NoEntry` exactly where one of the pointers finds nothing; then nothing changes.
     pub fn union(&mut self, p: P, q: P) -> Result<Option<V>, SurjectError>
         ensures united { IfOk result (λ gives. IsSome gives
             → IsUnion self.old (P.numbers p) (P.numbers q) gives self.new) }
+        ensures joined { (r t : Pointer) → AreTogether self.new r t
+            → AreTogether self.old r t ⊎ AreOfBoth self.old (P.numbers p) (P.numbers q) r t }
+        ensures doubles { (r : Pointer) (n m : ℕ) → set_at self.new r ≢ set_at self.old r
+            → HasKeys self.old r n → HasKeys self.new r m → n + n ≤ m }
         ensures together { OnOk result (AreTogether self.new (P.numbers p) (P.numbers q)) }
         ensures stays { (r t : Pointer) → AreTogether self.old r t → AreTogether self.new r t }
         ensures keys { (r : Pointer) → key_at self.new r ≡ key_at self.old r }

@@ -4,12 +4,15 @@
 mod compaction;
 mod inserting;
 mod joining;
+pub mod laws;
+mod lending;
 pub mod member;
 pub mod refusal;
 mod removing;
 mod steps;
 pub mod surject;
 mod valuing;
+mod walking;
 
 pub use member::{Member, Shared};
 pub use refusal::SurjectError;

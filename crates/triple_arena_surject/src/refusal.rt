@@ -5,7 +5,7 @@ ghost use Rattle.triple_arena_surject.specs.Surject.{told_of_chains, told_of_gro
 
 use thiserror::Error;
 use triple_arena_base::ReallocationError;
-use triple_arena_chain_uses::ChainError;
+use triple_arena_chain::ChainError;
 
 /// A call on sets of keys was refused, and each pointer finds what it found, with the same value.
 #[derive(Clone, Copy, Debug, PartialEq, Eq, Error)]

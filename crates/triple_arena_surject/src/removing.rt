@@ -1,16 +1,16 @@
 //! Keys that go, and whole sets.
 
-ghost use Rattle.std.specs.Prelude.{◌≡◌, ◌≢◌, ◌↔◌, ◌+◌, None, Some, Err, IsSome, IfOk, OnOk, OnErr, MatchOption};
+ghost use Rattle.std.specs.Prelude.{◌≡◌, ◌≢◌, ◌↔◌, ◌+◌, ℕ, None, Some, Err, IsSome, IfOk, OnOk, OnErr, MatchOption};
 ghost use Rattle.std.specs.Result.{IfErr};
 ghost use Rattle.triple_arena_ptr.specs.Pointers.{Pointer};
-ghost use Rattle.triple_arena_surject.specs.Surject.{found_at, key_at, val_at, AreTogether, IsKeyRemoved, IsSetRemoved};
+ghost use Rattle.triple_arena_surject.specs.Surject.{found_at, key_at, val_at, AreTogether, HasKeys, IsKeyRemoved, IsSetRemoved};
 
 use crate::member::{Member, Shared};
 use crate::refusal::SurjectError;
 use crate::steps::{count_keys, set_of, take};
 use crate::surject::SurjectArena;
 use triple_arena::{ArenaInsertTrait, ArenaTrait, CompactArenaTrait};
-use triple_arena_chain_uses::Link;
+use triple_arena_chain::Link;
 use triple_arena_ptr::Ptr;
 
 impl<
@@ -53,7 +53,8 @@ impl<
         let shared = self.sets.get(set);
         let count = shared.unwrap().keys;
         let removed = self.keys.remove(p);
-        let member = removed.unwrap();
+        let told = removed.unwrap();
+        let member = told.allow();
         if count == 1 {
             let taken = take(&mut self.sets, set);
             let out = taken.unwrap();
@@ -72,6 +73,8 @@ impl<
         K: Drop,
         ensures value { IfOk result (λ value. val_at self.old (P.numbers p) ≡ Some value) }
         ensures removed { OnOk result (IsSetRemoved self.old (P.numbers p) self.new) }
+        ensures len_keys { OnOk result ((n : ℕ) → HasKeys self.old (P.numbers p) n
+            → self.new.len_keys + n ≡ self.old.len_keys) }
         ensures len_vals { OnOk result (self.new.len_vals + 1 ≡ self.old.len_vals) }
         ensures key_capacity { self.new.key_capacity ≡ self.old.key_capacity }
         ensures key_limit { self.new.key_limit ≡ self.old.key_limit }
@@ -90,6 +93,8 @@ impl<
         let taken = take(&mut self.sets, set);
         let out = taken.unwrap();
         let _removed = self.keys.remove_chain(p);
+        // By its clauses, keys are counted.
+        let _left = self.keys.len();
         Ok(out.value)
     }
 }

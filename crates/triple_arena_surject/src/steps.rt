@@ -1,20 +1,20 @@
 //! Steps on the keys, and on the values of sets. Of rings they know nothing.
 
-ghost use Rattle.std.specs.Prelude.{◌≡◌, ◌≢◌, ◌≤◌, ◌<◌, ◌↔◌, ◌+◌, List, None, Some, Err, IsOk, IsSome, IfOk, OnOk, OnErr};
+ghost use Rattle.std.specs.Prelude.{◌≡◌, ◌≢◌, ◌≤◌, ◌<◌, ◌↔◌, ◌+◌, List, ◌∷◌, map, None, Some, Err, IsOk, IsSome, IfOk, OnOk, OnErr};
 ghost use Rattle.std.specs.Option.{option_map};
 ghost use Rattle.std.specs.Result.{IfErr};
 ghost use Rattle.triple_arena_ptr.specs.Pointers.{Pointer, is_same};
 ghost use Rattle.triple_arena_ptr.specs.Numbers.{greatest_index};
 ghost use Rattle.triple_arena_stack.specs.Capacity.{IsFullAtLimit, CanGrow};
 ghost use Rattle.triple_arena.specs.Entries.{look_up, entry_count};
-ghost use Rattle.triple_arena_chain_uses.specs.Chains.{nodes, value_at, after_at, before_at, IsCut, IsJoined, IsRefusedRoom};
-ghost use Rattle.triple_arena_surject.specs.Rings.{label, with_set, with_keys, with_value, IsRound, IsRingOfOne, IsSpliced};
+ghost use Rattle.triple_arena_chain.specs.Chains.{nodes, value_at, after_at, before_at, IsCut, IsJoined, IsRefusedRoom};
+ghost use Rattle.triple_arena_surject.specs.Rings.{label, with_set, with_keys, IsRound, IsRingOfOne, IsSpliced};
 
 use crate::member::{Member, Shared};
-use std::mem;
+use std::alloc::{AllocError, Global};
 use triple_arena::{ArenaInsertTrait, ArenaTrait, CompactArenaTrait};
 use triple_arena_base::ReallocationError;
-use triple_arena_chain_uses::{ChainError, Chains, Link};
+use triple_arena_chain::{ChainError, Chains, Link};
 use triple_arena_ptr::{Ptr, PtrInx};
 
 // Whether two pointers are one.
@@ -242,23 +242,31 @@ pub(crate) fn relabel<
     }
 }
 
-// Puts another value in, and gives the one that was there; nothing changes where its pointer finds
-// nothing.
-pub(crate) fn replace<P: Ptr, V: Drop, B: ArenaInsertTrait<P, Shared<V>>>(
-    sets: &mut B,
-    c: P,
-    value: V,
-) -> Option<V>
-    ensures was { result
-        ≡ option_map (λ shared. shared.value) (look_up (B.slots sets.old) (P.numbers c)) }
-    ensures there { look_up (B.slots sets.new) (P.numbers c)
-        ≡ option_map (with_value value) (look_up (B.slots sets.old) (P.numbers c)) }
-    ensures others { (d : Pointer) → d ≢ P.numbers c
-        → look_up (B.slots sets.new) d ≡ look_up (B.slots sets.old) d }
-    ensures len { entry_count (B.slots sets.new) ≡ entry_count (B.slots sets.old) }
-    ensures capacity { B.capacity sets.new ≡ B.capacity sets.old }
-    ensures limit { B.limit sets.new ≡ B.limit sets.old }
+// The pointers of a ring of so many, from one on.
+pub(crate) fn ring<
+    P: Ptr,
+    K,
+    A: CompactArenaTrait<P, Link<P, Member<P, K>>> + ArenaInsertTrait<P, Link<P, Member<P, K>>>,
+>(
+    keys: &Chains<P, Member<P, K>, A>,
+    from: P,
+    count: usize,
+    alloc: Global,
+) -> Result<Vec<P>, AllocError>
+    requires { (c : Pointer) × (rest : List Pointer)
+        × IsRound P.numbers (nodes keys.now) c count (P.numbers from) rest }
+    ensures { IfOk result (λ all. (c : Pointer) × (rest : List Pointer)
+        × IsRound P.numbers (nodes keys.now) c count (P.numbers from) rest
+        × (map P.numbers all.items ≡ P.numbers from ∷ rest)) }
 {
-    let shared = sets.get_mut(c)?;
-    Some(mem::replace(&mut shared.value, value))
+    // By its clauses, neighbours lead to each other.
+    let _len = keys.len();
+    let mut all = Vec::new(alloc);
+    let mut at = from;
+    'walk: for turn in 0..count {
+        all.push(at)?;
+        let after = keys.after(at);
+        at = after.unwrap();
+    }
+    Ok(all)
 }

@@ -1,6 +1,6 @@
 //! Sets of keys over any compact arena, and their values over any arena.
 
-ghost use Rattle.std.specs.Prelude.{◌≡◌, ◌≢◌, ◌≤◌, ◌↔◌, None, Some, IsSome, MatchOption, true, option_copied, min};
+ghost use Rattle.std.specs.Prelude.{◌≡◌, ◌≢◌, ◌≤◌, ◌↔◌, None, Some, IsSome, IfSome, MatchOption, true, option_copied, min};
 ghost use Rattle.std.specs.Option.{option_map};
 ghost use Rattle.triple_arena_ptr.specs.Pointers.{Pointer};
 ghost use Rattle.triple_arena_ptr.specs.Numbers.{greatest_index};
@@ -13,7 +13,7 @@ use crate::steps::{are_same, set_of};
 use std::alloc::Global;
 use std::marker::{Model, PhantomData};
 use triple_arena::{ArenaInsertTrait, ArenaTrait, CompactArenaTrait};
-use triple_arena_chain_uses::{Chains, Link};
+use triple_arena_chain::{Chains, Link};
 use triple_arena_ptr::{Ptr, PtrInx};
 
 /// Sets of keys, each key under the pointer that its insertion gave, and each set with one value, which all its keys
@@ -42,7 +42,7 @@ impl<
     B: ArenaInsertTrait<P, Shared<V>>,
 > Model for SurjectArena<P, K, V, A, B> {
     ghost use Rattle.triple_arena.specs.Entries.{look_up};
-    ghost use Rattle.triple_arena_chain_uses.specs.Chains.{nodes};
+    ghost use Rattle.triple_arena_chain.specs.Chains.{nodes};
     ghost use Rattle.triple_arena_surject.specs.Surject.{SurjectState, state_of};
     ghost use Rattle.triple_arena_surject.specs.Rings.{counts, IsSound};
 
@@ -134,8 +134,9 @@ impl<
         ensures keys { MatchOption result (found_at self.now (P.numbers p) ≡ None)
             (λ n. HasKeys self.now (P.numbers p) n) }
         ensures there { IsSome result → IsSome (found_at self.now (P.numbers p)) }
+        ensures fits { IfSome result (λ n. n ≤ self.now.len_keys) }
     {
-        // By its clauses, neighbours lead to each other.
+        // By its clauses, neighbours lead to each other, and keys are counted.
         let _len = self.keys.len();
         let set = set_of(&self.keys, p)?;
         match self.sets.get(set) {

@@ -1,15 +1,18 @@
-//! Another value for a set.
+//! The value of a set, for writing.
 
-ghost use Rattle.std.specs.Prelude.{◌≡◌, ◌↔◌, None, Some, Err, IfOk, OnOk, OnErr};
+ghost use Rattle.std.specs.Borrow.{sem, LendsIf};
+ghost use Rattle.std.specs.Prelude.{◌≡◌, ◌↔◌, None, Some, Err, IsSome, IfOk, OnOk, OnErr};
+ghost use Rattle.std.specs.Option.{option_copied_mut};
 ghost use Rattle.std.specs.Result.{IfErr};
-ghost use Rattle.triple_arena_surject.specs.Surject.{found_at, val_at, IsValued};
+ghost use Rattle.triple_arena_surject.specs.Surject.{found_at, set_at, val_at, with_val, IsValued};
 
 use crate::member::{Member, Shared};
 use crate::refusal::SurjectError;
-use crate::steps::{replace, set_of};
+use crate::steps::set_of;
 use crate::surject::SurjectArena;
-use triple_arena::{ArenaInsertTrait, ArenaTrait, CompactArenaTrait};
-use triple_arena_chain_uses::Link;
+use std::mem;
+use triple_arena::{ArenaInsertTrait, ArenaTrait, CompactArenaTrait, LendingArena};
+use triple_arena_chain::Link;
 use triple_arena_ptr::Ptr;
 
 impl<
@@ -19,6 +22,22 @@ impl<
     A: CompactArenaTrait<P, Link<P, Member<P, K>>> + ArenaInsertTrait<P, Link<P, Member<P, K>>>,
     B: ArenaInsertTrait<P, Shared<V>>,
 > SurjectArena<P, K, V, A, B> {
+    /// The value of a pointer's set, for writing; none exactly where the pointer finds nothing. What is written is what
+    /// all keys of the set find, and all else stays.
+    pub fn get_val_mut(&mut self, p: P) -> Option<&mut V>
+        ensures value { option_copied_mut result ≡ val_at self.old (P.numbers p) }
+        ensures some { IsSome result ↔ IsSome (found_at self.old (P.numbers p)) }
+        ensures* writes_back { sem 𝓛 (LendsIf ⟦<SurjectArena<P, K, V, A, B> as LendingArena>⟧.arena_row
+            V.row self.entry result (with_val self.old (set_at self.old (P.numbers p))) self.old) }
+        ensures written { IsSome (found_at self.old (P.numbers p)) → (value : V)
+            → IsValued self.old (P.numbers p) value
+            (with_val self.old (set_at self.old (P.numbers p)) value) }
+    {
+        let set = set_of(&self.keys, p)?;
+        let shared = self.sets.get_mut(set)?;
+        Some(&mut shared.value)
+    }
+
     /// Puts another value for a pointer's set, and gives the one that it had.
     ///
     /// `NoEntry` exactly where the pointer finds nothing; then nothing changes, and the value is dropped.
@@ -38,10 +57,9 @@ impl<
         ensures refusal { IfErr result (λ refusal. refusal ≡ SurjectError.NoEntry) }
         ensures refused { OnErr result (self.new ≡ self.old) }
     {
-        let Some(set) = set_of(&self.keys, p) else {
+        let Some(place) = self.get_val_mut(p) else {
             return Err(SurjectError::NoEntry);
         };
-        let was = replace(&mut self.sets, set, value);
-        Ok(was.unwrap())
+        Ok(mem::replace(place, value))
     }
 }

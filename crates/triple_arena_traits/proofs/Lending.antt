@@ -34,6 +34,14 @@ module _ {X G T : Type 0} (number : G → ℕ) (entry : X → Option (ℕ × T))
       by_entry None rest generation lent = absurd (cc)
       by_entry (Some e) rest generation lent = rw (same_Some _ _ generation, same_Some _ _ lent) refl
 
+  -- a first slot that lends its value has one of the entries
+  pub one_lent : (i j : ℕ) (y : X) (ys all : List X) (v : T) → all ≡ y ∷ ys → Some v ≡ value_of (entry y) → entries_from j (map entry ys) ≡ entries_from (i + 1) (map entry ys) → length (entries_from i (map entry all)) ≡ 1 + length (entries_from j (map entry ys))
+  one_lent i j y ys all v at lent behind = rw (at, behind) (by_entry (entry y) (entries_from (i + 1) (map entry ys)) lent)
+    where
+      by_entry : (q : Option (ℕ × T)) (rest : List (Pointer × T)) → Some v ≡ value_of q → length (put_entry true i q rest) ≡ 1 + length rest
+      by_entry None rest lent = absurd (cc)
+      by_entry (Some e) rest lent = omega arith
+
   -- a first slot that lends nothing has no entry
   pub first_passed : (i j : ℕ) (y : X) (ys all : List X) → all ≡ y ∷ ys → None ≡ value_of (entry y) → entries_from j (map entry ys) ≡ entries_from (i + 1) (map entry ys) → entries_from j (map entry ys) ≡ entries_from i (map entry all)
   first_passed i j y ys all at none behind = rw (at, behind) (by_entry (entry y) (entries_from (i + 1) (map entry ys)) none)

@@ -1,6 +1,6 @@
 //! Insertion into an arena that gives the pointers.
 
-ghost use Rattle.std.specs.Prelude.{◌≡◌, ◌≢◌, ℕ, ◌+◌, ◌≤◌, ◌<◌, ◌↔◌, ◌∷◌, [], IsOk, IfOk, OnOk, OnErr, None, Some, Err};
+ghost use Rattle.std.specs.Prelude.{◌≡◌, ◌≢◌, ℕ, ◌+◌, ◌≤◌, ◌<◌, ◌↔◌, ◌∷◌, [], IsOk, IfOk, IfErr, IsErrAnd, OnOk, OnErr, None, Some, Err};
 ghost use Rattle.triple_arena_ptr.specs.Numbers.{greatest_index};
 ghost use Rattle.triple_arena_ptr.specs.Pointers.{Pointer};
 ghost use Rattle.triple_arena_stack.specs.Capacity.{IsFullAtLimit, CanGrow};
@@ -9,6 +9,7 @@ ghost use Rattle.triple_arena_traits.specs.SlotSteps.{RisesByAtMost};
 ghost use Rattle.triple_arena_traits.specs.Histories.{insertion, Continues};
 
 use crate::arena_trait::ArenaTrait;
+use crate::insert_failed::InsertFailed;
 use triple_arena_base::{NotWithinCapacityError, ReallocationError};
 use triple_arena_ptr::{Ptr, PtrGen, PtrInx};
 
@@ -42,20 +43,16 @@ pub trait ArenaInsertTrait<P: Ptr, T>: ArenaTrait<P, T> {
         ensures bounded { RisesByAtMost 6 (Self.steps self.old) (Self.steps self.new) }
         ensures history { Continues Self.fits self.old (insertion (P.numbers result) ∷ []) self.new };
 
-    /// Inserts `t`, and gives its pointer. A full arena grows first: its capacity never falls, and
-    /// it has a place then. An `Arena` grows to 4 slots or to twice its capacity, as far as the
-    /// limit allows and there are indexes.
+    /// Makes a place for one more entry: a full arena grows, and any other stays as it is. Its capacity
+    /// never falls. An `Arena` grows to 4 slots or to twice its capacity, as far as the limit allows
+    /// and there are indexes.
     ///
     /// `BeyondMaxCapacity` exactly where the arena is full and its limit is reached; else
     /// `AllocError` where it is full and memory is refused, or there is no greater index. Then the
-    /// arena is unchanged, and `t` is dropped. Where the arena isn't full, no memory is taken; a full
-    /// one grows wherever limit, indexes and memory allow it.
-    fn insert_reallocating(&mut self, t: T) -> Result<P, ReallocationError>
-    where
-        T: Drop,
-        ensures pointer { IfOk result (λ p. P.numbers p ≡ next self.old) }
-        ensures free { IfOk result (λ p. entry_in (Self.slots self.old) (P.numbers p).0 ≡ None) }
-        ensures inserted { OnOk result (self.new ≡ inserted (grown self.old) t) }
+    /// arena is unchanged. Where the arena isn't full, no memory is taken; a full one grows wherever
+    /// limit, indexes and memory allow it.
+    fn make_place(&mut self) -> Result<(), ReallocationError>
+        ensures done { OnOk result (self.new ≡ grown self.old) }
         ensures refused { OnErr result (self.new ≡ self.old) }
         ensures beyond { (result ≡ Err ReallocationError.BeyondMaxCapacity)
             ↔ IsFullAtLimit
@@ -65,12 +62,10 @@ pub trait ArenaInsertTrait<P: Ptr, T>: ArenaTrait<P, T> {
         ensures indexed { OnOk result (entry_count (Self.slots self.old) ≡ Self.capacity self.old
             → Self.capacity self.old < greatest_index P.Inx.greatest) }
         ensures had_place { entry_count (Self.slots self.old) < Self.capacity self.old
-            → IsOk result × (self.new ≡ inserted self.old t) }
-        ensures place { OnOk result (entry_count (Self.slots (grown self.old))
-            < Self.capacity (grown self.old)) }
+            → IsOk result × (self.new ≡ self.old) }
+        ensures place { OnOk result (entry_count (Self.slots self.new) < Self.capacity self.new) }
         ensures valid { Self.valid self.old }
-        ensures history { IfOk result
-            (λ p. Continues Self.fits self.old (insertion (P.numbers p) ∷ []) self.new) };
+        ensures history { Continues Self.fits self.old [] self.new };
 
     // the generation of the next pointer is the one that the arena tells, where it tells one
     ghost generation_next: { (arena : Self) (generation : ℕ)
@@ -148,6 +143,41 @@ pub trait ArenaInsertTrait<P: Ptr, T>: ArenaTrait<P, T> {
         }
     }
 
+    /// Inserts `t`, and gives its pointer. A full arena grows first: its capacity never falls, and
+    /// it has a place then. An `Arena` grows to 4 slots or to twice its capacity, as far as the
+    /// limit allows and there are indexes.
+    ///
+    /// `BeyondMaxCapacity` exactly where the arena is full and its limit is reached; else
+    /// `AllocError` where it is full and memory is refused, or there is no greater index. Then the
+    /// arena is unchanged, and `t` is dropped. Where the arena isn't full, no memory is taken; a full
+    /// one grows wherever limit, indexes and memory allow it.
+    #[inline(always)]
+    final fn insert_reallocating(&mut self, t: T) -> Result<P, ReallocationError>
+    where
+        T: Drop,
+        ensures pointer { IfOk result (λ p. P.numbers p ≡ next self.old) }
+        ensures free { IfOk result (λ p. entry_in (Self.slots self.old) (P.numbers p).0 ≡ None) }
+        ensures inserted { OnOk result (self.new ≡ inserted (grown self.old) t) }
+        ensures refused { OnErr result (self.new ≡ self.old) }
+        ensures beyond { (result ≡ Err ReallocationError.BeyondMaxCapacity)
+            ↔ IsFullAtLimit
+            (Self.capacity self.old) (Self.limit self.old) (entry_count (Self.slots self.old)) }
+        ensures with_memory { CanGrow Self.has_memory (Self.capacity self.old) (Self.limit self.old)
+            (greatest_index P.Inx.greatest) → IsOk result }
+        ensures indexed { OnOk result (entry_count (Self.slots self.old) ≡ Self.capacity self.old
+            → Self.capacity self.old < greatest_index P.Inx.greatest) }
+        ensures had_place { entry_count (Self.slots self.old) < Self.capacity self.old
+            → IsOk result × (self.new ≡ inserted self.old t) }
+        ensures place { OnOk result (entry_count (Self.slots (grown self.old))
+            < Self.capacity (grown self.old)) }
+        ensures valid { Self.valid self.old }
+        ensures history { IfOk result
+            (λ p. Continues Self.fits self.old (insertion (P.numbers p) ∷ []) self.new) }
+    {
+        self.make_place()?;
+        Ok(self.insert_reserved(t))
+    }
+
     /// As [`Self::insert_reallocating`].
     #[inline(always)]
     final fn insert(&mut self, t: T) -> Result<P, ReallocationError>
@@ -176,5 +206,37 @@ pub trait ArenaInsertTrait<P: Ptr, T>: ArenaTrait<P, T> {
             (λ p. Continues Self.fits self.old (insertion (P.numbers p) ∷ []) self.new) }
     {
         self.insert_reallocating(t)
+    }
+
+    /// As [`Self::insert`], but where it is refused, `t` comes back in the error.
+    #[inline(always)]
+    final fn try_insert(&mut self, t: T) -> Result<P, InsertFailed<T>>
+        ensures pointer { IfOk result (λ p. P.numbers p ≡ next self.old) }
+        ensures free { IfOk result (λ p. entry_in (Self.slots self.old) (P.numbers p).0 ≡ None) }
+        ensures found { IfOk result (λ p. look_up (Self.slots self.new) (P.numbers p) ≡ Some t) }
+        ensures others { IfOk result (λ p. (q : Pointer) → q.0 ≢ (P.numbers p).0
+            → look_up (Self.slots self.new) q ≡ look_up (Self.slots self.old) q) }
+        ensures inserted { OnOk result (self.new ≡ inserted (grown self.old) t) }
+        ensures refused { OnErr result (self.new ≡ self.old) }
+        ensures value_returned { IfErr result (λ failed. failed.value ≡ t) }
+        ensures beyond { IsErrAnd result (λ failed. failed.error ≡ ReallocationError.BeyondMaxCapacity)
+            ↔ IsFullAtLimit
+            (Self.capacity self.old) (Self.limit self.old) (entry_count (Self.slots self.old)) }
+        ensures with_memory { CanGrow Self.has_memory (Self.capacity self.old) (Self.limit self.old)
+            (greatest_index P.Inx.greatest) → IsOk result }
+        ensures indexed { OnOk result (entry_count (Self.slots self.old) ≡ Self.capacity self.old
+            → Self.capacity self.old < greatest_index P.Inx.greatest) }
+        ensures had_place { entry_count (Self.slots self.old) < Self.capacity self.old
+            → IsOk result × (self.new ≡ inserted self.old t) }
+        ensures place { OnOk result (entry_count (Self.slots (grown self.old))
+            < Self.capacity (grown self.old)) }
+        ensures valid { Self.valid self.old }
+        ensures history { IfOk result
+            (λ p. Continues Self.fits self.old (insertion (P.numbers p) ∷ []) self.new) }
+    {
+        match self.make_place() {
+            Ok(()) => Ok(self.insert_reserved(t)),
+            Err(error) => Err(InsertFailed { value: t, error }),
+        }
     }
 }

@@ -1,6 +1,7 @@
+pub mod Leasing
 pub mod Mapping
 pub mod Naming
-pub mod Renewing
 pub mod Notes
-pub mod Rewiring
 pub mod Reading
+pub mod Renewing
+pub mod Rewiring

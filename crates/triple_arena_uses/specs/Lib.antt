@@ -9,5 +9,6 @@ pub mod Labels
 pub mod Names
 pub mod Notes
 pub mod Netlist
+pub mod Office
 pub mod Ports
 pub mod Tickets

@@ -5,10 +5,10 @@ ghost use Rattle.triple_arena_direct.specs.Concrete.{p0_numbers, q2_numbers, mov
 ghost use Rattle.triple_arena_direct.specs.RenamingBoth.{StandApart, IsRenamedBoth};
 
 use std::alloc::Global;
-use triple_arena::Arena;
-use triple_arena_base::{InvalidationOption, Recast};
-use triple_arena_direct::{CompactBothError, DirectArena, compress_recast_both_with};
-use triple_arena_ptr::{P0, Q2};
+use triple_arena_direct::{
+    Arena, CompactBothError, DirectArena, InvalidationOption, P0, Q2, Recast,
+    compress_recast_both_with,
+};
 
 /// The maps of two arenas.
 pub type Maps = (

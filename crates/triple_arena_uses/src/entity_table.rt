@@ -75,7 +75,8 @@ impl<S: NonZeroInxGenericStack<ArenaSlot<P0, Entity>>> EntityTable<S> {
     }
 
     /// Takes an entity away, and tells whether there was one. Its children keep its pointer, which
-    /// finds nothing then. However many entities there are, at most 6 slots are touched.
+    /// finds nothing then. However many entities there are, at most 6 slots are touched. It tells of no
+    /// wrap of the counter.
     pub fn despawn(&mut self, p: P0) -> bool
         ensures answer { result ≡ is_some (look_up self.old.slots (p0_numbers p)) }
         ensures gone { look_up self.new.slots (p0_numbers p) ≡ None }

@@ -49,7 +49,7 @@ impl Graph {
         Ok(true)
     }
 
-    /// Takes a node away, with the edges from it.
+    /// Takes a node away, with the edges from it, even if the counter wraps.
     pub fn remove(&mut self, p: P0) -> Option<Node> {
         self.nodes.remove(p).allow()
     }

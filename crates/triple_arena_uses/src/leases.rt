@@ -1,19 +1,29 @@
 //! A registry of leases, each under a ticket that is never valid again once its lease has ended.
 
-ghost use Rattle.std.specs.Prelude.{◌≡◌, ◌≢◌, ◌<◌, ◌+◌, None, Some, IsOk, IfOk, OnOk, OnErr, option_copied};
+ghost use Rattle.std.specs.Prelude.{◌≡◌, ◌≢◌, ◌<◌, ◌+◌, List, map, None, Some, false, IsSome, IsOk, IfOk, OnOk, OnErr, option_copied};
+ghost use Rattle.std.specs.Result.{IfErr};
+ghost use Rattle.std.proofs.Common.{refl};
+ghost use Rattle.triple_arena_base.specs.Held.{held_nothing, refill_nothing};
+ghost use Rattle.triple_arena_base.specs.laws.HeldLaws.{nothing_held_refill};
 ghost use Rattle.triple_arena_ptr.specs.Pointers.{Pointer};
 ghost use Rattle.triple_arena.specs.Entries.{look_up};
-ghost use Rattle.triple_arena.specs.ArenaState.{arena_len, capacity};
+ghost use Rattle.triple_arena.specs.ArenaState.{arena_len, capacity, with_value};
+ghost use Rattle.triple_arena.specs.Recasting.{written};
 ghost use Rattle.triple_arena.specs.SlotSteps.{RisesByAtMost, IsTouched};
+ghost use Rattle.triple_arena.specs.Walks.{entries, keys};
 ghost use Rattle.triple_arena_direct.specs.Gone.{IsGoneForGood};
+ghost use Rattle.triple_arena_direct.specs.Renaming.{first_unresolved, Refuses, IsUnresolved};
 ghost use Rattle.triple_arena_direct.specs.StrictAnswers.{strict_of};
-ghost use Rattle.triple_arena_uses.specs.Tickets.{ticket_numbers, are_used_up};
+ghost use Rattle.triple_arena_uses.specs.Tickets.{ticket_numbers, are_used_up, anew, handed};
 
 use crate::ticket::Ticket;
 use std::alloc::Global;
 use std::marker::Model;
-use triple_arena_base::ReallocationError;
-use triple_arena_direct::{StrictArena, StrictError};
+use triple_arena::Arena;
+use triple_arena::arena_iterators::Ptrs;
+use triple_arena_base::{CompactError, ReallocationError, Recast, Recaster};
+use triple_arena_direct::renaming_laws::holders_follow;
+use triple_arena_direct::{StrictArena, StrictError, renew, unresolved};
 
 /// What is leased, and to whom.
 #[derive(Clone, Copy, PartialEq, Eq, Debug)]
@@ -22,8 +32,37 @@ pub struct Lease {
     pub holder: u32,
 }
 
+impl Lease {
+    // Passes it on from one holder to another, if it is that one's.
+    fn pass_on(&mut self, from: u32, to: u32)
+        ensures { self.new ≡ handed from to self.old }
+    {
+        if self.holder == from {
+            self.holder = to;
+        }
+    }
+}
+
+/// Holds no ticket.
+impl Recast<Ticket> for Lease {
+    ghost held = { held_nothing };
+
+    ghost refill = { refill_nothing };
+
+    fn recast<R: Recaster<Item = Ticket>>(&mut self, _recaster: &R) -> Result<(), Ticket> {
+        Ok(())
+    }
+
+    ghost held_refill = { nothing_held_refill };
+
+    ghost refill_held = { λ _. refl };
+
+    ghost refill_refill = { λ _ _ _ _ _. refl };
+}
+
 /// A registry of leases. Whoever keeps the ticket of a lease that has ended finds nothing by it, for
-/// as long as the registry lasts: rather than give a ticket twice, it revokes no more leases.
+/// as long as the registry lasts: rather than give a ticket twice, it revokes no more leases, until it
+/// is renewed.
 #[derive(Drop)]
 pub struct Leases {
     leases: StrictArena<Ticket, Lease>,
@@ -96,5 +135,69 @@ impl Leases {
         ensures bounded { RisesByAtMost 6 self.old.steps self.new.steps }
     {
         self.leases.remove(ticket)
+    }
+
+    /// The tickets that have a lease, in the order of their indexes.
+    pub fn tickets(&self) -> Ptrs<'_, Ticket, Lease, Arena<Ticket, Lease>>
+        ensures { result ≡ keys self.now.slots }
+    {
+        self.leases.ptrs()
+    }
+
+    /// Hands each lease of one holder to another, under its ticket.
+    pub fn hand_over(&mut self, from: u32, to: u32)
+        ensures leases { entries self.new.slots
+            ≡ map (λ e. (e.0, handed from to e.1)) (entries self.old.slots) }
+        ensures written { (leases : List Lease)
+            × (self.new ≡ written with_value (keys self.old.slots) leases self.old) }
+        ensures stays_gone { (q : Pointer) → IsGoneForGood self.old q → IsGoneForGood self.new q }
+    {
+        self.leases
+            .for_each_mut(|_ticket, lease| lease.pass_on(from, to));
+    }
+
+    /// The same leases in another registry, whose tickets aren't used up: the leases get new tickets, and
+    /// each that is kept here is replaced by its new one. So each kept ticket finds the lease that it
+    /// found. An old ticket that isn't replaced may find another lease.
+    ///
+    /// Refused with the first kept ticket that finds no lease; else where there is a lease and memory is
+    /// refused. Then nothing changes, and the registry comes back.
+    pub fn renew(
+        self,
+        kept: &mut Vec<Ticket>,
+        alloc: Global,
+    ) -> Result<Leases, (Leases, CompactError<Ticket>)>
+        ensures found { IfOk result (λ new. (q : Pointer) → IsSome (look_up self.slots q)
+            → look_up new.slots (anew self q) ≡ look_up self.slots q) }
+        ensures kept { IfOk result (λ new.
+            map (λ ticket. look_up new.slots (ticket_numbers ticket)) kept.new.items
+            ≡ map (λ ticket. look_up self.slots (ticket_numbers ticket)) kept.old.items) }
+        ensures renamed { OnOk result (map ticket_numbers kept.new.items
+            ≡ map (anew self) (map ticket_numbers kept.old.items)) }
+        ensures resolved { OnOk result
+            (first_unresolved ticket_numbers self.slots kept.old.items ≡ None) }
+        ensures count { IfOk result (λ new. arena_len new ≡ arena_len self) }
+        ensures usable { IfOk result (λ new. are_used_up new ≡ false) }
+        ensures refusal { IfErr result (λ old. Refuses (arena_len self)
+            (first_unresolved ticket_numbers self.slots kept.old.items) old.1) }
+        ensures stray_first { IfErr result
+            (λ old. first_unresolved ticket_numbers self.slots kept.old.items ≢ None
+            → IsUnresolved old.1) }
+        ensures refused { IfErr result (λ old. old.0 ≡ self) }
+        ensures kept_refused { OnErr result (kept.new ≡ kept.old) }
+    {
+        let Leases { leases } = self;
+        if let Some(stray) = unresolved(leases.arena(), kept) {
+            return Err((Leases { leases }, CompactError::Unresolved(stray)));
+        }
+        match renew(leases, alloc) {
+            Ok((leases, tickets)) => {
+                // By its clauses, each kept ticket has a new one.
+                holders_follow::<Ticket, Lease, Vec<Ticket>>();
+                let _renamed = kept.recast(&tickets);
+                Ok(Leases { leases })
+            }
+            Err((leases, refusal)) => Err((Leases { leases }, refusal)),
+        }
     }
 }

@@ -20,12 +20,14 @@ pub mod leases;
 pub mod links;
 pub mod moving;
 pub mod netlist;
+pub mod office;
 pub mod ports;
 pub mod same_pointers;
 pub mod side_table;
 pub mod snapshots;
 pub mod ticket;
 pub mod undo;
+pub mod waiting;
 pub mod walks;
 pub mod wrong_steps;
 

@@ -6,10 +6,8 @@ ghost use Rattle.triple_arena.specs.Entries.{entry_count};
 ghost use Rattle.triple_arena.specs.FreeList.{tidied};
 ghost use Rattle.triple_arena.specs.SlotSteps.{IsTouched};
 
-use triple_arena::{Arena, ArenaSlot, CompactArenaTrait};
-use triple_arena_base::ReallocationError;
-use triple_arena_ptr::Ptr;
-use triple_arena_stack::NonZeroInxGenericStack;
+use triple_arena::prelude::*;
+use triple_arena::{Arena, ArenaSlot, NonZeroInxGenericStack, ReallocationError};
 
 /// Moves the entries of one table to another, whose own are dropped, and whose pointers may be of
 /// another type: there they stand from index 1 on. Refused, both have the entries that they had, and

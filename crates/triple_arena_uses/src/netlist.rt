@@ -63,7 +63,7 @@ impl<P: Ptr, G: Recast<P>> Netlist<P, G> {
         self.gates.insert(gate)
     }
 
-    /// Takes a gate away, with the wires from it.
+    /// Takes a gate away, with the wires from it, even if the counter wraps.
     pub fn remove(&mut self, p: P) -> Option<G>
         ensures answer { result ≡ look_up self.old.slots (P.numbers p) }
         ensures gone { look_up self.new.slots (P.numbers p) ≡ None }

@@ -89,7 +89,8 @@ impl NotedEntities {
         Ok(p)
     }
 
-    /// Takes an entity away, and its note, which it gives; none where there is no such entity.
+    /// Takes an entity away, and its note, which it gives; none where there is no such entity. It tells of no
+    /// wrap of the counter.
     pub fn despawn(&mut self, p: P0) -> Option<u64>
         ensures answer { result ≡ look_up self.old.notes.slots (p0_numbers p) }
         ensures gone { look_up self.new.notes.slots (p0_numbers p) ≡ None }

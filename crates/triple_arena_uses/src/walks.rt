@@ -71,7 +71,7 @@ pub fn add<P: Ptr, A: CompactArenaTrait<P, u64>>(arena: &mut A, n: u64)
     arena.for_each_mut(|_p, value| *value = value.wrapping_add(n));
 }
 
-/// Keeps the values from `least` on, each under its pointer; what is below goes.
+/// Keeps the values from `least` on, each under its pointer; what is below goes, even if the counter wraps.
 pub fn keep_from<P: Ptr, A: CompactArenaTrait<P, u64>>(arena: &mut A, least: u64)
     ensures { (q : Pointer) → look_up (A.slots arena.new) q
         ≡ kept_if (λ p v. nat_le least v) (λ p v. v) q (look_up (A.slots arena.old) q) }
@@ -102,7 +102,7 @@ pub fn renew_all<P: Ptr, T, A: CompactArenaTrait<P, T>>(
     Ok(all)
 }
 
-/// Takes out every entry, one by one, by an advancer.
+/// Takes out every entry, one by one, by an advancer. It tells of no wrap of the counter.
 pub fn remove_all<P: Ptr, T: Drop, A: CompactArenaTrait<P, T>>(arena: &mut A)
     ensures { entry_count (A.slots arena.new) ≡ 0 }
 {

@@ -1,6 +1,6 @@
 //! A vector of numbers with a vector of free indexes.
 
-use crate::arena::table::Table;
+use crate::arena::table::{OwnTable, Table};
 use crate::entry::sum_of_places;
 use std::alloc::Global;
 use triple_arena_base::ReallocationError;
@@ -14,13 +14,6 @@ pub struct Plain {
 
 impl Table for Plain {
     type Name = usize;
-
-    fn empty(alloc: Global) -> Self {
-        Plain {
-            numbers: Vec::new(alloc),
-            free: Vec::new(alloc),
-        }
-    }
 
     #[inline(always)]
     fn put(&mut self, number: u64) -> Result<usize, ReallocationError> {
@@ -45,6 +38,7 @@ impl Table for Plain {
         sum_of_places(&self.numbers)
     }
 
+    #[inline(always)]
     fn take_out(&mut self, inx: usize) -> u64 {
         let Some(number) = self.numbers.get_mut(inx).and_then(Option::take) else {
             return 0;
@@ -56,5 +50,14 @@ impl Table for Plain {
     fn take_out_all(&mut self) {
         self.numbers.clear();
         self.free.clear();
+    }
+}
+
+impl OwnTable for Plain {
+    fn empty(alloc: Global) -> Self {
+        Plain {
+            numbers: Vec::new(alloc),
+            free: Vec::new(alloc),
+        }
     }
 }

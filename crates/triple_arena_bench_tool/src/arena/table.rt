@@ -8,11 +8,8 @@ use triple_arena_base::ReallocationError;
 use triple_arena_ptr::Ptr;
 
 /// Numbers, each under the name that its insertion gave.
-pub trait Table: Drop {
+pub trait Table {
     type Name: Copy;
-
-    /// A table without numbers, and without room.
-    fn empty(alloc: Global) -> Self;
 
     fn put(&mut self, number: u64) -> Result<Self::Name, ReallocationError>;
 
@@ -28,6 +25,12 @@ pub trait Table: Drop {
     fn take_out_all(&mut self);
 }
 
+/// A table that a generic function can own.
+pub trait OwnTable: Table + Drop {
+    /// A table without numbers, and without room.
+    fn empty(alloc: Global) -> Self;
+}
+
 /// An arena of numbers, each under its pointer.
 #[derive(Drop)]
 pub struct InArena<P, A> {
@@ -38,13 +41,6 @@ pub struct InArena<P, A> {
 impl<P: Ptr, A: ArenaInsertTrait<P, u64> + CompactArenaTrait<P, u64> + Drop> Table
     for InArena<P, A> {
     type Name = P;
-
-    fn empty(alloc: Global) -> Self {
-        InArena {
-            arena: A::new(alloc),
-            pointers: PhantomData,
-        }
-    }
 
     #[inline(always)]
     fn put(&mut self, number: u64) -> Result<P, ReallocationError> {
@@ -59,11 +55,22 @@ impl<P: Ptr, A: ArenaInsertTrait<P, u64> + CompactArenaTrait<P, u64> + Drop> Tab
         sum_of(&self.arena)
     }
 
+    #[inline(always)]
     fn take_out(&mut self, name: P) -> u64 {
         self.arena.remove(name).allow().unwrap_or(0)
     }
 
     fn take_out_all(&mut self) {
-        self.arena.clear();
+        self.arena.clear().allow();
+    }
+}
+
+impl<P: Ptr, A: ArenaInsertTrait<P, u64> + CompactArenaTrait<P, u64> + Drop> OwnTable
+    for InArena<P, A> {
+    fn empty(alloc: Global) -> Self {
+        InArena {
+            arena: A::new(alloc),
+            pointers: PhantomData,
+        }
     }
 }

@@ -2,7 +2,7 @@ use std::alloc::Global;
 use std::process::Abort;
 use triple_arena::{Arena, ArenaInsertTrait, ArenaTrait, CompactArenaTrait};
 use triple_arena_base::Advancer;
-use triple_arena_chain_uses::{Chains, Link, Place};
+use triple_arena_chain::{Chains, Link, Place};
 use triple_arena_ptr::{P0, Ptr};
 use triple_arena_test_kit::is;
 
@@ -68,7 +68,7 @@ fn lists_removes_and_writes<
     let mut chains: Chains<P, u64, A> = Chains::new(alloc);
     let (one, two, three, _four) = one_to_four(rt, &mut chains);
     let all = four_from(&chains, one);
-    chains.remove(two).expect(rt, "an entry");
+    let _ = chains.remove(two).expect(rt, "an entry");
     let three_left = four_from(&chains, one);
     write(&mut chains, three, 7);
     [all, three_left, four_from(&chains, one)]
@@ -81,7 +81,7 @@ fn goes_back<
     let mut chains: Chains<P, u64, A> = Chains::new(alloc);
     let (_one, two, _three, four) = one_to_four(rt, &mut chains);
     let all = four_back_from(&chains, four);
-    chains.remove(two).expect(rt, "an entry");
+    let _ = chains.remove(two).expect(rt, "an entry");
     [all, four_back_from(&chains, four)]
 }
 
@@ -118,7 +118,7 @@ fn compresses<
 >(rt: &impl Abort, alloc: Global) -> [u64; 4] {
     let mut chains: Chains<P, u64, A> = Chains::new(alloc);
     let (one, two, three, four) = one_to_four(rt, &mut chains);
-    chains.remove(two).expect(rt, "an entry");
+    let _ = chains.remove(two).expect(rt, "an entry");
     chains.join(four, one).expect(rt, "two ends");
     let map = chains.compress(alloc).expect(rt, "memory").allow();
     let new = map.get(three).expect(rt, "the new pointer");
@@ -142,18 +142,18 @@ fn sum_of_nine<P: Ptr, A: CompactArenaTrait<P, Link<P, u64>> + ArenaInsertTrait<
 }
 
 // A ring of the numbers from 1 to 4 beside a chain of 5 alone: the sum of a walk round it from 3 on, how
-// many are taken out with it, and how many are left.
+// many are taken out with it, how many are left, and whether 3 is.
 fn walks_and_removes<
     P: Ptr,
     A: CompactArenaTrait<P, Link<P, u64>> + ArenaInsertTrait<P, Link<P, u64>> + Drop,
->(rt: &impl Abort, alloc: Global) -> (u64, usize, usize) {
+>(rt: &impl Abort, alloc: Global) -> (u64, usize, usize, bool) {
     let mut chains: Chains<P, u64, A> = Chains::new(alloc);
     let (one, _two, three, four) = one_to_four(rt, &mut chains);
     chains.insert_new(5).expect(rt, "memory");
     chains.join(four, one).expect(rt, "two ends");
     let sum = sum_of_nine(&chains, three);
     let removed = chains.remove_chain(three).expect(rt, "a chain");
-    (sum, removed, chains.len())
+    (sum, removed.allow(), chains.len(), chains.contains(three))
 }
 
 // How many pointers the rest of a ring of four has, and the rest from a pointer that finds nothing.
@@ -186,7 +186,7 @@ fn each_call_over_an_arena(rt: HostRuntime) {
     let compressed = compresses::<P0, Arena<P0, Link<P0, u64>>>(&rt, rt.alloc());
     is(compressed, [3, 4, 1, 3]).expect(&rt, "a ring that is compressed");
     let walked = walks_and_removes::<P0, Arena<P0, Link<P0, u64>>>(&rt, rt.alloc());
-    is(walked, (10, 4, 1)).expect(&rt, "a walk and a removal");
+    is(walked, (10, 4, 1, false)).expect(&rt, "a walk and a removal");
     let rests = lengths_of_rests::<P0, Arena<P0, Link<P0, u64>>>(&rt, rt.alloc());
     is(rests, [4, 0]).expect(&rt, "the rest of a ring, and of nothing");
 }
@@ -248,7 +248,7 @@ fn ring_of_thousands<
     let last = *all.last().expect(rt, "the last");
     for (value, p) in all.iter().enumerate() {
         if value % 3 == 1 {
-            chains.remove(*p).expect(rt, "an entry");
+            let _ = chains.remove(*p).expect(rt, "an entry");
         }
     }
     chains.join(last, first).expect(rt, "two ends");

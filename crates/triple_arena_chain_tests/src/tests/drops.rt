@@ -6,7 +6,9 @@ use std::num::NonZeroUsize;
 use std::process::Abort;
 use std::rc::Rc;
 use triple_arena::{Arena, ArenaInsertTrait, CompactArenaTrait};
-use triple_arena_chain_uses::{Cache, Chains, Link, Place};
+use triple_arena_base::InvalidationOption;
+use triple_arena_chain::{Chains, Link, Place};
+use triple_arena_chain_uses::Cache;
 use triple_arena_ptr::P0;
 use triple_arena_test_kit::{is, pointer};
 
@@ -76,7 +78,8 @@ fn each_ending<A: CompactArenaTrait<P0, Link<P0, Value>> + ArenaInsertTrait<P0, 
     is(live.get(), 4).expect(rt, "the count");
     drop(taken);
     is(live.get(), 3).expect(rt, "the count");
-    is(chains.remove_chain(second), Ok(2)).expect(rt, "how many go at once");
+    let gone = chains.remove_chain(second).expect(rt, "a chain");
+    is(gone, InvalidationOption::Success(2)).expect(rt, "how many go at once");
     is(live.get(), 1).expect(rt, "the count");
 }
 

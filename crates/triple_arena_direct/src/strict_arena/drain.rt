@@ -9,7 +9,7 @@ ghost use Rattle.triple_arena_traits.specs.ArenaState.{arena_len};
 ghost use Rattle.triple_arena_traits.specs.SlotSteps.{IsTouched};
 ghost use Rattle.triple_arena_traits.specs.Ending.{cleared};
 ghost use Rattle.triple_arena_traits.specs.Compression.{raised_if_any};
-ghost use Rattle.triple_arena_traits.specs.Walks.{steps_left, keys, Steps, IsBeforeAll};
+ghost use Rattle.triple_arena_traits.specs.Walks.{keys, Steps, IsBeforeAll};
 ghost use Rattle.triple_arena_traits.specs.Histories.{clearing, Fits, Continues};
 ghost use Rattle.triple_arena_direct.specs.StrictAnswers.{is_exhausted_for_any};
 ghost use Rattle.triple_arena_direct.specs.StrictCalls.{IsStrictStep, to_clear};
@@ -58,8 +58,7 @@ impl<'a, P: Ptr, T: Drop, S: NonZeroInxGenericStack<ArenaSlot<P, T>>> Iterator
         → StrictDrainStep P.numbers (strict_drain_arena before) item (strict_drain_arena after)
         × IsBeforeAll (strict_drain_arena after).slots (strict_drain_stand after)) };
 
-    ghost remaining = { λ drain.
-        at_most (steps_left (greatest_index P.Inx.greatest) (strict_drain_stand drain)) };
+    ghost remaining = { λ drain. at_most (arena_len (strict_drain_arena drain)) };
 
     fn next(&mut self) -> Option<(P, T)> {
         let (p, value) = self.arena.take_next(&mut self.advancer)?;
@@ -67,7 +66,15 @@ impl<'a, P: Ptr, T: Drop, S: NonZeroInxGenericStack<ArenaSlot<P, T>>> Iterator
     }
 
     fn size_hint(&self) -> (usize, Option<usize>) {
-        (0, None)
+        let left = self.len();
+        (left, Some(left))
+    }
+}
+
+impl<'a, P: Ptr, T: Drop, S: NonZeroInxGenericStack<ArenaSlot<P, T>>> ExactSizeIterator
+    for StrictDrain<'a, P, T, S> {
+    fn len(&self) -> usize {
+        self.arena.len()
     }
 }
 

@@ -6,7 +6,7 @@ ghost use Rattle.triple_arena_base.specs.Held.{held_all};
 ghost use Rattle.triple_arena_ptr.specs.Numbers.{first_generation};
 ghost use Rattle.triple_arena_ptr.specs.Pointers.{Pointer};
 ghost use Rattle.triple_arena_traits.specs.Entries.{look_up};
-ghost use Rattle.triple_arena_traits.specs.ArenaState.{arena_len, capacity};
+ghost use Rattle.triple_arena_traits.specs.ArenaState.{ArenaState, arena_len, capacity};
 ghost use Rattle.triple_arena_traits.specs.SlotSteps.{IsTouched};
 ghost use Rattle.triple_arena_traits.specs.Compression.{compressed, rank};
 ghost use Rattle.triple_arena_traits.specs.Walks.{keys, values};
@@ -22,60 +22,70 @@ use triple_arena_direct_arena::DirectArena;
 use triple_arena_ptr::{Ptr, PtrGen};
 use triple_arena_stack::NonZeroInxGenericStack;
 
-impl<P: Ptr, T, S: NonZeroInxGenericStack<ArenaSlot<P, T>>> StrictArena<P, T, S> {
-    /// The arena inside, as it is, by value; also where the counter is at its greatest value. The strict
-    /// arena ends, and with it its promise: calls of an `Arena` may wrap, set or reset the counter.
-    ///
-    /// By it the values leave: `for (p, value) in strict.into_arena()`.
-    pub fn into_arena(self) -> Arena<P, T, S>
-        ensures { result ≡ self }
-    {
+/// What is taken by value, so that its values leave it: strict arenas, over any stack. Callers have
+/// [`into_arena`] and [`renew`], since a method by value of an arena over any stack has no proved caller.
+pub trait Leaving<P: Ptr, T>: Sized {
+    /// The arena inside.
+    type Arena;
+
+    // what is in it
+    ghost state: { Self → ArenaState T };
+
+    // what is in the arena inside
+    ghost inside: { Self.Arena → ArenaState T };
+
+    /// As [`into_arena`].
+    fn open(self) -> Self::Arena
+        ensures { inside result ≡ state self };
+
+    /// As [`renew`].
+    fn begin_anew(self, alloc: Global) -> Result<(Self, DirectArena<P, P>), (Self, CompactError<P>)>
+    where
+        T: Recast<P>,
+        ensures maps { IfOk result (λ new. MapsPointers P.numbers
+            (rank (state self) (first_generation P.Gen.generations)) (state self).slots new.1.slots) }
+        ensures done { IfOk result (λ new. (held : List T)
+            × AreRenamed P.numbers (rank (state self) (first_generation P.Gen.generations))
+            T.held T.refill (values (state self).slots) held
+            × IsTouched (compressed (state self) (first_generation P.Gen.generations) held) (state new.0)) }
+        ensures keys { IfOk result (λ new. keys (state new.0).slots ≡ map
+            (rank (state self) (first_generation P.Gen.generations)) (keys (state self).slots)) }
+        ensures values { IfOk result (λ new. AreRenamed P.numbers
+            (rank (state self) (first_generation P.Gen.generations))
+            T.held T.refill (values (state self).slots) (values (state new.0).slots)) }
+        ensures found { IfOk result (λ new. (q : Pointer) → IsSome (look_up (state self).slots q)
+            → IsFoundRenamed P.numbers (rank (state self) (first_generation P.Gen.generations))
+            T.held T.refill (look_up (state self).slots q)
+            (look_up (state new.0).slots (rank (state self) (first_generation P.Gen.generations) q))) }
+        ensures resolved { OnOk result (first_unresolved P.numbers (state self).slots
+            (held_all T.held (values (state self).slots)) ≡ None) }
+        ensures counter { IfOk result
+            (λ new. (state new.0).counter ≡ first_generation P.Gen.generations) }
+        ensures len { IfOk result (λ new. arena_len (state new.0) ≡ arena_len (state self)) }
+        ensures limit { IfOk result (λ new. (state new.0).limit ≡ (state self).limit) }
+        ensures capacity { IfOk result (λ new. capacity (state new.0) ≡ capacity (state self)) }
+        ensures begun { P.Gen.generations.counting ≡ true
+            → IfOk result (λ new. Fits (begun_with (keys (state new.0).slots)) (state new.0)) }
+        ensures refusal { IfErr result (λ old. Refuses (arena_len (state self))
+            (first_unresolved P.numbers (state self).slots (held_all T.held (values (state self).slots))) old.1) }
+        ensures refused { IfErr result (λ old. state old.0 ≡ (state self)) };
+}
+
+impl<P: Ptr, T, S: NonZeroInxGenericStack<ArenaSlot<P, T>>> Leaving<P, T> for StrictArena<P, T, S> {
+    type Arena = Arena<P, T, S>;
+
+    ghost state = { λ strict. strict };
+
+    ghost inside = { λ arena. arena };
+
+    fn open(self) -> Arena<P, T, S> {
         let StrictArena { arena } = self;
         arena
     }
 
-    /// Another strict arena, with the same values in their order: from index 1 on, under the first
-    /// generation, which is its counter. Each pointer that a value holds is renamed, and the map leads
-    /// from each old pointer to the new one, so that holders follow, as after
-    /// [`crate::compress_recast`] with a reset. It is the way on where the counter is at its greatest
-    /// value: no call of it is `Exhausted` because of what was done before.
-    ///
-    /// **It is another arena**: the promise begins anew with the pointers that stand then. A pointer to
-    /// the old arena that wasn't renamed may find an entry, or come to name a later one.
-    ///
-    /// Refused as [`crate::compress_recast`]: `Reallocation` only where there is an entry and memory
-    /// for the map is refused, and then `Unresolved` exactly where a value holds a pointer that finds
-    /// no entry, with the first one. Then the arena comes back as it was.
-    pub fn renew(self, alloc: Global) -> Result<(Self, DirectArena<P, P>), (Self, CompactError<P>)>
+    fn begin_anew(self, alloc: Global) -> Result<(Self, DirectArena<P, P>), (Self, CompactError<P>)>
     where
         T: Recast<P>,
-        ensures maps { IfOk result (λ new. MapsPointers P.numbers
-            (rank self (first_generation P.Gen.generations)) self.slots new.1.slots) }
-        ensures done { IfOk result (λ new. (held : List T)
-            × AreRenamed P.numbers (rank self (first_generation P.Gen.generations))
-            T.held T.refill (values self.slots) held
-            × IsTouched (compressed self (first_generation P.Gen.generations) held) new.0) }
-        ensures keys { IfOk result (λ new. keys new.0.slots ≡ map
-            (rank self (first_generation P.Gen.generations)) (keys self.slots)) }
-        ensures values { IfOk result (λ new. AreRenamed P.numbers
-            (rank self (first_generation P.Gen.generations))
-            T.held T.refill (values self.slots) (values new.0.slots)) }
-        ensures found { IfOk result (λ new. (q : Pointer) → IsSome (look_up self.slots q)
-            → IsFoundRenamed P.numbers (rank self (first_generation P.Gen.generations))
-            T.held T.refill (look_up self.slots q)
-            (look_up new.0.slots (rank self (first_generation P.Gen.generations) q))) }
-        ensures resolved { OnOk result (first_unresolved P.numbers self.slots
-            (held_all T.held (values self.slots)) ≡ None) }
-        ensures counter { IfOk result
-            (λ new. new.0.counter ≡ first_generation P.Gen.generations) }
-        ensures len { IfOk result (λ new. arena_len new.0 ≡ arena_len self) }
-        ensures limit { IfOk result (λ new. new.0.limit ≡ self.limit) }
-        ensures capacity { IfOk result (λ new. capacity new.0 ≡ capacity self) }
-        ensures begun { P.Gen.generations.counting ≡ true
-            → IfOk result (λ new. Fits (begun_with (keys new.0.slots)) new.0) }
-        ensures refusal { IfErr result (λ old. Refuses (arena_len self)
-            (first_unresolved P.numbers self.slots (held_all T.held (values self.slots))) old.1) }
-        ensures refused { IfErr result (λ old. old.0 ≡ self) }
     {
         let StrictArena { mut arena } = self;
         match compress_recast(&mut arena, alloc, true) {
@@ -83,4 +93,61 @@ impl<P: Ptr, T, S: NonZeroInxGenericStack<ArenaSlot<P, T>>> StrictArena<P, T, S>
             Err(refusal) => Err((StrictArena { arena }, refusal)),
         }
     }
+}
+
+/// The arena inside a strict arena, as it is, by value; also where the counter is at its greatest value.
+/// The strict arena ends, and with it its promise: calls of an `Arena` may wrap, set or reset the counter.
+///
+/// By it the values leave: `for (p, value) in into_arena(strict)`.
+pub fn into_arena<P: Ptr, T, A: Leaving<P, T>>(strict: A) -> A::Arena
+    ensures { A.inside result ≡ A.state strict }
+{
+    strict.open()
+}
+
+/// Another strict arena, with the same values in their order: from index 1 on, under the first
+/// generation, which is its counter. Each pointer that a value holds is renamed, and the map leads
+/// from each old pointer to the new one, so that holders follow, as after
+/// [`crate::compress_recast`] with a reset. It is the way on where the counter is at its greatest
+/// value: no call of it is `Exhausted` because of what was done before.
+///
+/// **It is another arena**: the promise begins anew with the pointers that stand then. A pointer to
+/// the old arena that wasn't renamed may find an entry, or come to name a later one.
+///
+/// Refused as [`crate::compress_recast`]: with `Reallocation` only where there is an entry and memory
+/// for the map is refused, with `Unresolved` only where a value holds a pointer that finds no entry,
+/// with the first one. Where one does, it is refused in any case. Then the arena comes back as it was.
+pub fn renew<P: Ptr, T: Recast<P>, A: Leaving<P, T>>(
+    strict: A,
+    alloc: Global,
+) -> Result<(A, DirectArena<P, P>), (A, CompactError<P>)>
+    ensures maps { IfOk result (λ new. MapsPointers P.numbers
+        (rank (A.state strict) (first_generation P.Gen.generations)) (A.state strict).slots new.1.slots) }
+    ensures done { IfOk result (λ new. (held : List T)
+        × AreRenamed P.numbers (rank (A.state strict) (first_generation P.Gen.generations))
+        T.held T.refill (values (A.state strict).slots) held
+        × IsTouched (compressed (A.state strict) (first_generation P.Gen.generations) held) (A.state new.0)) }
+    ensures keys { IfOk result (λ new. keys (A.state new.0).slots ≡ map
+        (rank (A.state strict) (first_generation P.Gen.generations)) (keys (A.state strict).slots)) }
+    ensures values { IfOk result (λ new. AreRenamed P.numbers
+        (rank (A.state strict) (first_generation P.Gen.generations))
+        T.held T.refill (values (A.state strict).slots) (values (A.state new.0).slots)) }
+    ensures found { IfOk result (λ new. (q : Pointer) → IsSome (look_up (A.state strict).slots q)
+        → IsFoundRenamed P.numbers (rank (A.state strict) (first_generation P.Gen.generations))
+        T.held T.refill (look_up (A.state strict).slots q)
+        (look_up (A.state new.0).slots (rank (A.state strict) (first_generation P.Gen.generations) q))) }
+    ensures resolved { OnOk result (first_unresolved P.numbers (A.state strict).slots
+        (held_all T.held (values (A.state strict).slots)) ≡ None) }
+    ensures counter { IfOk result
+        (λ new. (A.state new.0).counter ≡ first_generation P.Gen.generations) }
+    ensures len { IfOk result (λ new. arena_len (A.state new.0) ≡ arena_len (A.state strict)) }
+    ensures limit { IfOk result (λ new. (A.state new.0).limit ≡ (A.state strict).limit) }
+    ensures capacity { IfOk result (λ new. capacity (A.state new.0) ≡ capacity (A.state strict)) }
+    ensures begun { P.Gen.generations.counting ≡ true
+        → IfOk result (λ new. Fits (begun_with (keys (A.state new.0).slots)) (A.state new.0)) }
+    ensures refusal { IfErr result (λ old. Refuses (arena_len (A.state strict))
+        (first_unresolved P.numbers (A.state strict).slots (held_all T.held (values (A.state strict).slots))) old.1) }
+    ensures refused { IfErr result (λ old. A.state old.0 ≡ (A.state strict)) }
+{
+    strict.begin_anew(alloc)
 }

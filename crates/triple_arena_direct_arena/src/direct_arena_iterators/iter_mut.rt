@@ -14,7 +14,7 @@ use std::marker::Model;
 use std::num::NonZeroUsize;
 use triple_arena_ptr::{Ptr, PtrGen, PtrInx};
 use triple_arena_stack::NonZeroInxGenericStack;
-use triple_arena_traits::{LendingArena, LentSlots};
+use triple_arena_traits::{ArenaTrait, LendingArena, LentSlots};
 
 /// The entries of a direct arena in the order of their indexes, each as its pointer and its value,
 /// which is lent for writing.
@@ -27,6 +27,8 @@ pub struct IterMut<'a, P: Ptr, T> {
     left: usize,
     // The index of the first of them.
     next: NonZeroUsize,
+    // How many entries are left.
+    entries_left: usize,
 }
 
 impl<'a, P: Ptr, T> Model for IterMut<'a, P, T> {
@@ -46,9 +48,11 @@ impl<'a, P: Ptr, T> Model for IterMut<'a, P, T> {
       s.slots.tie,
     ) };
 
-    // as many slots are left, and their indexes are of the index type
+    // as many slots and as many entries are left, and the indexes are of the index type
     ghost invariant = { λ s. (s.left ≡ length s.slots.now)
-        × (non_zero_usize_get s.next + s.left ≤ greatest_index P.Inx.greatest + 1) };
+        × (non_zero_usize_get s.next + s.left ≤ greatest_index P.Inx.greatest + 1)
+        × (s.entries_left ≡ length (entries_from (non_zero_usize_get s.next)
+        (map (direct_slot_entry P.Gen.number) s.slots.now))) };
 }
 
 impl<'a, P: Ptr, T: 'a> Iterator for IterMut<'a, P, T> {
@@ -59,7 +63,7 @@ impl<'a, P: Ptr, T: 'a> Iterator for IterMut<'a, P, T> {
     ghost remaining = { item_count lent_rest };
 
     fn size_hint(&self) -> (usize, Option<usize>) {
-        (0, Some(self.left))
+        (self.entries_left, Some(self.entries_left))
     }
 
     #[inline(always)]
@@ -71,10 +75,18 @@ impl<'a, P: Ptr, T: 'a> Iterator for IterMut<'a, P, T> {
             let generation = self.slots.generation();
             if let Some(value) = self.slots.pass() {
                 let inx = P::Inx::try_from_usize(inx).unwrap();
-                return Some((P::_from_raw(inx, generation.unwrap()), value));
+                let p = P::_from_raw(inx, generation.unwrap());
+                self.entries_left -= 1;
+                return Some((p, value));
             }
         }
         None
+    }
+}
+
+impl<'a, P: Ptr, T: 'a> ExactSizeIterator for IterMut<'a, P, T> {
+    fn len(&self) -> usize {
+        self.entries_left
     }
 }
 
@@ -113,6 +125,12 @@ impl<'a, P: Ptr, T: 'a> Iterator for ValsMut<'a, P, T> {
     }
 }
 
+impl<'a, P: Ptr, T: 'a> ExactSizeIterator for ValsMut<'a, P, T> {
+    fn len(&self) -> usize {
+        self.entries.len()
+    }
+}
+
 impl<P: Ptr, T, S: NonZeroInxGenericStack<DirectSlot<P, T>>> DirectArena<P, T, S> {
     /// The entries in the order of their indexes, each as its pointer and its value, for writing.
     ///
@@ -130,10 +148,12 @@ impl<P: Ptr, T, S: NonZeroInxGenericStack<DirectSlot<P, T>>> DirectArena<P, T, S
         ensures fits { direct_len self.old < 2 ^ 64 }
     {
         let left = self.slot_count();
+        let entries_left = self.len();
         IterMut {
             slots: self.lend_slots(),
             left,
             next: NonZeroUsize::MIN,
+            entries_left,
         }
     }
 

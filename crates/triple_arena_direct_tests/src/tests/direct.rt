@@ -148,14 +148,13 @@ fn add_two_to_each<A: Direct>(arena: &mut A) {
     add_one_to_values(arena.vals_mut());
 }
 
-// Whether an iterator says no less than so many items are left, and no more.
-fn has_left<I: Iterator>(items: &I, left: usize) -> bool {
-    let (least, most) = items.size_hint();
-    least <= left && most.is_none_or(|most| left <= most)
+// Whether an iterator tells that just so many items are left.
+fn has_left<I: ExactSizeIterator>(items: &I, left: usize) -> bool {
+    items.len() == left && items.size_hint() == (left, Some(left))
 }
 
 // Of three entries that are lent to be written, and of three values.
-fn hints_of_loans<A: Direct>(arena: &mut A) -> [bool; 2] {
+fn lengths_of_loans<A: Direct>(arena: &mut A) -> [bool; 2] {
     let entries = has_left(&arena.iter_mut(), 3);
     [entries, has_left(&arena.vals_mut(), 3)]
 }
@@ -172,7 +171,7 @@ fn sum_of(arena: &DirectArena<P0, u64>) -> u64 {
 fn loops_over_a_direct_arena(rt: HostRuntime) {
     let mut arena: DirectArena<P0, u64> = three(&rt, rt.alloc());
     add_two_to_each(&mut arena);
-    is(hints_of_loans(&mut arena), [true; 2]).expect(&rt, "what is left of loans");
+    is(lengths_of_loans(&mut arena), [true; 2]).expect(&rt, "what is left of loans");
     is(sum_of(&arena), 427).expect(&rt, "the sum");
 }
 

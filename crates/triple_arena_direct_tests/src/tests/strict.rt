@@ -3,10 +3,10 @@
 use std::alloc::Global;
 use std::fmt::{Debug, Display};
 use std::process::Abort;
-use triple_arena::{Arena, ArenaSlot};
+use triple_arena::{Arena, ArenaSlot, InsertFailed};
 use triple_arena_base::{CompactError, ReallocationError};
 use triple_arena_direct::{
-    CompactBothError, DirectArena, StrictArena, StrictCompactError, StrictError,
+    CompactBothError, DirectArena, StrictArena, StrictCompactError, StrictError, into_arena, renew,
 };
 use triple_arena_ptr::{P0, Ptr};
 use triple_arena_stack::{NonZeroInxGenericStack, NonZeroInxVec};
@@ -28,6 +28,8 @@ pub trait Strict: Debug {
     fn insert(&mut self, node: Node) -> Result<B, ReallocationError>;
 
     fn insert_reallocating(&mut self, node: Node) -> Result<B, ReallocationError>;
+
+    fn try_insert(&mut self, node: Node) -> Result<B, InsertFailed<Node>>;
 
     /// Whether there was a place.
     fn is_inserted_within_capacity(&mut self, node: Node) -> bool;
@@ -74,6 +76,10 @@ impl Strict for Nodes {
 
     fn insert_reallocating(&mut self, node: Node) -> Result<B, ReallocationError> {
         self.insert_reallocating(node)
+    }
+
+    fn try_insert(&mut self, node: Node) -> Result<B, InsertFailed<Node>> {
+        self.try_insert(node)
     }
 
     fn is_inserted_within_capacity(&mut self, node: Node) -> bool {
@@ -232,6 +238,37 @@ fn the_counter_comes_before_a_dangling_link(rt: HostRuntime) {
     );
 }
 
+// The nodes of `ends_nothing` under new pointers, of which one can end again.
+fn is_renewed<A: Strict>(rt: &impl Abort, alloc: Global, nodes: &mut A, map: &DirectArena<B, B>) {
+    let text = "{B[1](ff): B[1](2), B[2](ff): B[2](2), B[3](ff): B[3](2)}";
+    is_shown(alloc, map, text).expect(rt, "the map");
+    let text = "{B[1](2): (1, None), B[2](2): (2, Some(B[1](2))), B[3](2): (3, None)}";
+    is_shown(alloc, nodes, text).expect(rt, "the arena");
+    is(nodes.remove(pointer(3, 2)), Ok((3, None))).expect(rt, "a removal");
+    is(nodes.generation(), 3).expect(rt, "the counter");
+}
+
+#[test]
+fn a_strict_arena_is_renewed_at_the_end_of_the_counter(rt: HostRuntime) {
+    let mut nodes = Nodes::new(rt.alloc());
+    ends_nothing(&rt, rt.alloc(), &mut nodes);
+    match renew(nodes, rt.alloc()) {
+        Ok((mut nodes, map)) => is_renewed(&rt, rt.alloc(), &mut nodes, &map),
+        Err((_nodes, refusal)) => is(Err(refusal), Ok(())).expect(&rt, "the map's memory"),
+    }
+}
+
+#[test]
+fn the_values_of_a_strict_arena_leave_it(rt: HostRuntime) {
+    let mut nodes = Nodes::new(rt.alloc());
+    is_walked(&rt, &mut nodes);
+    let mut sum: u64 = 0;
+    for (_p, (number, _link)) in into_arena(nodes) {
+        sum = sum.saturating_add(number);
+    }
+    is(sum, 30).expect(&rt, "the sum of the numbers");
+}
+
 fn raises_once_more<A: Strict>(rt: &impl Abort, alloc: Global, nodes: &mut A) {
     raise_to(rt, nodes, 253);
     let p = nodes.insert((5, None)).expect(rt, "memory");
@@ -271,6 +308,8 @@ fn has_room<A: Strict>(rt: &impl Abort, nodes: &mut A) {
     is(nodes.capacity(), 4).expect(rt, "the capacity of three");
     is(nodes.reallocate_min_capacity(0), Ok(())).expect(rt, "a reallocation");
     is(nodes.capacity(), 3).expect(rt, "the capacity then");
+    let fourth = nodes.try_insert((4, None)).expect(rt, "memory");
+    is(nodes.get(fourth), Some((4, None))).expect(rt, "the fourth node");
 }
 
 #[test]

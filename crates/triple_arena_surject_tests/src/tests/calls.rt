@@ -1,7 +1,7 @@
 use std::alloc::Global;
 use std::process::Abort;
 use triple_arena::{Arena, ArenaInsertTrait, ArenaTrait, CompactArenaTrait};
-use triple_arena_chain_uses::Link;
+use triple_arena_chain::Link;
 use triple_arena_ptr::{P0, Ptr};
 use triple_arena_surject::{Member, Shared, SurjectArena};
 use triple_arena_surject_uses::nets::wire;
@@ -22,11 +22,17 @@ fn is_used<
     is(wire(sets, three, one).expect(rt, "two pins"), true).expect(rt, "two nets");
     is(wire(sets, three, two).expect(rt, "two pins"), false).expect(rt, "one net");
     is(sets.get_val(three).copied(), Some(20)).expect(rt, "the value of the larger set");
+    if let Some(value) = sets.get_val_mut(three) {
+        *value = 40;
+    }
+    is(sets.get_val(one).copied(), Some(40)).expect(rt, "the value that was written");
+    let keys = sets.key_set(two, alloc).expect(rt, "memory");
+    is(keys.len(), 3).expect(rt, "the keys of the set");
     is(sets.remove_key(one).expect(rt, "a key"), (1, None)).expect(rt, "a key of three");
     let map = sets.compress(alloc).expect(rt, "memory").allow();
     let three = map.get(three).copied().unwrap_or(P::invalid());
     is(sets.get_key(three).copied(), Some(3)).expect(rt, "the key under its new name");
-    is(sets.remove(three).expect(rt, "a set"), 20).expect(rt, "the value of the set");
+    is(sets.remove(three).expect(rt, "a set"), 40).expect(rt, "the value of the set");
     is((sets.len_keys(), sets.len_vals()), (0, 0)).expect(rt, "none");
 }
 

@@ -2,9 +2,10 @@ use rand_core::Rng;
 use rand_pcg::Pcg64Mcg;
 use std::process::Abort;
 use triple_arena::{Arena, ArenaInsertTrait, CompactArenaTrait};
-use triple_arena_chain_uses::Link;
+use triple_arena_chain::Link;
 use triple_arena_ptr::{P0, Ptr};
 use triple_arena_surject::{Member, Shared, SurjectArena};
+use triple_arena_surject_uses::nets::{name_net, wire};
 use triple_arena_test_kit::is;
 
 // How many pins there are at most, each at a place.
@@ -18,8 +19,14 @@ trait Nets<Q> {
     /// A pin on the net of another.
     fn put_beside(&mut self, rt: &impl Abort, place: usize, other: Q) -> Q;
 
-    /// A wire between two pins; the name of the net that is no more, if there were two.
-    fn wire(&mut self, rt: &impl Abort, pin: Q, other: Q) -> Option<u64>;
+    /// One net of those of two pins; the name of the net that is no more, if there were two.
+    fn merge(&mut self, rt: &impl Abort, pin: Q, other: Q) -> Option<u64>;
+
+    /// A wire between two pins; whether there were two nets.
+    fn wire(&mut self, rt: &impl Abort, pin: Q, other: Q) -> bool;
+
+    /// Another name for the net of a pin.
+    fn rename(&mut self, rt: &impl Abort, pin: Q, name: u64);
 
     /// Takes a pin off; its place, and the name of its net, if it was the last.
     fn cut_off(&mut self, rt: &impl Abort, pin: Q) -> (u64, Option<u64>);
@@ -77,7 +84,7 @@ impl Nets<usize> for Plain {
         place
     }
 
-    fn wire(&mut self, _rt: &impl Abort, pin: usize, other: usize) -> Option<u64> {
+    fn merge(&mut self, _rt: &impl Abort, pin: usize, other: usize) -> Option<u64> {
         let (first, second) = (self.at(pin), self.at(other));
         if first == second {
             return None;
@@ -95,6 +102,17 @@ impl Nets<usize> for Plain {
         }
         self.nets = self.nets.saturating_sub(1);
         self.name(gone)
+    }
+
+    fn wire(&mut self, rt: &impl Abort, pin: usize, other: usize) -> bool {
+        self.merge(rt, pin, other).is_some()
+    }
+
+    fn rename(&mut self, _rt: &impl Abort, pin: usize, name: u64) {
+        let net = self.at(pin);
+        if let Some(at) = self.names.get_mut(net.saturating_sub(1)) {
+            *at = name;
+        }
     }
 
     fn cut_off(&mut self, _rt: &impl Abort, pin: usize) -> (u64, Option<u64>) {
@@ -133,8 +151,16 @@ impl<
         self.insert_key(other, place as u64).expect(rt, "a pin")
     }
 
-    fn wire(&mut self, rt: &impl Abort, pin: P, other: P) -> Option<u64> {
+    fn merge(&mut self, rt: &impl Abort, pin: P, other: P) -> Option<u64> {
         self.union(pin, other).expect(rt, "two pins")
+    }
+
+    fn wire(&mut self, rt: &impl Abort, pin: P, other: P) -> bool {
+        wire(self, pin, other).expect(rt, "two pins")
+    }
+
+    fn rename(&mut self, rt: &impl Abort, pin: P, name: u64) {
+        is(name_net(self, pin, name), true).expect(rt, "a pin");
     }
 
     fn cut_off(&mut self, rt: &impl Abort, pin: P) -> (u64, Option<u64>) {
@@ -181,10 +207,14 @@ fn check_alike<Q: Copy, R: Copy, M: Nets<Q>, N: Nets<R>>(
                 None
             }
             (Some((p, s)), Some((q, r))) => {
-                if word % 4 == 0 {
-                    is(ours.wire(rt, p, q), theirs.wire(rt, s, r)).expect(rt, "a name that goes");
-                } else {
-                    is(ours.net(p, q), theirs.net(s, r)).expect(rt, "the net of a pin");
+                match word % 8 {
+                    0 => is(ours.merge(rt, p, q), theirs.merge(rt, s, r)).expect(rt, "a name"),
+                    1 => is(ours.wire(rt, p, q), theirs.wire(rt, s, r)).expect(rt, "two nets"),
+                    2 => {
+                        ours.rename(rt, p, name);
+                        theirs.rename(rt, s, name);
+                    }
+                    _ => is(ours.net(p, q), theirs.net(s, r)).expect(rt, "the net of a pin"),
                 }
                 Some((p, s))
             }

@@ -53,6 +53,9 @@ fn is_called<A: ArenaInsertTrait<P0, u64>>(rt: &impl Abort, arena: &mut A) {
     is(take(arena, first), InvalidationResult::Success(11)).expect(rt, "the value taken");
     is(exchange(arena, first, 12), Err(12)).expect(rt, "the refusal");
     is(arena.get(second).copied(), Some(20)).expect(rt, "the other value");
+    is(arena.make_place(), Ok(())).expect(rt, "a place");
+    let third = arena.try_insert(30).expect(rt, "memory");
+    is(arena.get(third).copied(), Some(30)).expect(rt, "the third value");
 }
 
 #[test]

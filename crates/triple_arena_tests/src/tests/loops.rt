@@ -80,14 +80,13 @@ fn a_loop_by_value_meets_each_entry_over_each_stack(rt: HostRuntime) {
     is(sums_taken(array.into_iter()), (11, 11)).expect(&rt, "the sums over an array");
 }
 
-// Whether an iterator says no less than so many items are left, and no more.
-fn has_left<I: Iterator>(items: &I, left: usize) -> bool {
-    let (least, most) = items.size_hint();
-    least <= left && most.is_none_or(|most| left <= most)
+// Whether an iterator tells that just so many items are left.
+fn has_left<I: ExactSizeIterator>(items: &I, left: usize) -> bool {
+    items.len() == left && items.size_hint() == (left, Some(left))
 }
 
 // Of three entries: `ptrs`, and then a drain before and after its first step.
-fn hints<A: CompactArenaTrait<P0, u64>>(arena: &mut A) -> [bool; 3] {
+fn lengths<A: CompactArenaTrait<P0, u64>>(arena: &mut A) -> [bool; 3] {
     let pointers = has_left(&arena.ptrs(), 3);
     let mut drain = arena.drain();
     let all = has_left(&drain, 3);
@@ -96,17 +95,17 @@ fn hints<A: CompactArenaTrait<P0, u64>>(arena: &mut A) -> [bool; 3] {
 }
 
 // Of three entries that are lent, to be read and to be written, and of three values.
-fn hints_of_loans(arena: &mut Arena<P0, u64>) -> [bool; 4] {
+fn lengths_of_loans(arena: &mut Arena<P0, u64>) -> [bool; 4] {
     let read = [has_left(&arena.iter(), 3), has_left(&arena.vals(), 3)];
     let written = has_left(&arena.iter_mut(), 3);
     [read[0], read[1], written, has_left(&arena.vals_mut(), 3)]
 }
 
 #[test]
-fn each_iterator_bounds_what_is_left(rt: HostRuntime) {
+fn each_iterator_tells_what_is_left(rt: HostRuntime) {
     let mut arena: Arena<P0, u64> = three(&rt, rt.alloc());
-    is(hints_of_loans(&mut arena), [true; 4]).expect(&rt, "of loans");
-    is(hints(&mut arena), [true; 3]).expect(&rt, "of any arena's");
+    is(lengths_of_loans(&mut arena), [true; 4]).expect(&rt, "of loans");
+    is(lengths(&mut arena), [true; 3]).expect(&rt, "of any arena's");
     let arena: Arena<P0, u64> = three(&rt, rt.alloc());
     is(has_left(&arena.into_iter(), 3), true).expect(&rt, "of an arena by value");
 }

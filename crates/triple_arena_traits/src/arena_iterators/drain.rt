@@ -3,9 +3,10 @@
 ghost use Rattle.std.specs.Prelude.{◌≡◌, ◌∷◌, [], length};
 ghost use Rattle.std.specs.Iterator.{YieldsFirstBy, at_most};
 ghost use Rattle.triple_arena_ptr.specs.Numbers.{greatest_index};
-ghost use Rattle.triple_arena_traits.specs.Walks.{steps_left, entries, keys};
+ghost use Rattle.triple_arena_traits.specs.Entries.{entry_count};
+ghost use Rattle.triple_arena_traits.specs.Walks.{entries, keys};
 ghost use Rattle.triple_arena_traits.specs.Histories.{clearing, CountsUp, Continues};
-ghost use Rattle.triple_arena_traits.specs.Drains.{DrainStep, TakeStep, IsDraining, drain_arena, drain_lender, drain_stand};
+ghost use Rattle.triple_arena_traits.specs.Drains.{DrainStep, TakeStep, IsDraining, drain_arena, drain_lender};
 
 use crate::answers::told;
 use crate::arena_trait::ArenaTrait;
@@ -63,8 +64,7 @@ impl<'a, P: Ptr, T: Drop, A: CompactArenaTrait<P, T>> Iterator for Drain<'a, P, 
         → DrainStep A.slots A.fits A.removes A.ending_wraps P.Gen.generations P.numbers
         (drain_arena before) item (drain_arena after) × IsDraining A.slots A.stand after) };
 
-    ghost remaining = { λ drain.
-        at_most (steps_left (greatest_index P.Inx.greatest) (drain_stand A.stand drain)) };
+    ghost remaining = { λ drain. at_most (entry_count (A.slots (drain_arena drain))) };
 
     fn next(&mut self) -> Option<InvalidationOption<(P, T)>> {
         let (p, taken) = take_next(&mut *self.arena, &mut self.advancer)?;
@@ -73,7 +73,14 @@ impl<'a, P: Ptr, T: Drop, A: CompactArenaTrait<P, T>> Iterator for Drain<'a, P, 
     }
 
     fn size_hint(&self) -> (usize, Option<usize>) {
-        (0, None)
+        let left = self.len();
+        (left, Some(left))
+    }
+}
+
+impl<'a, P: Ptr, T: Drop, A: CompactArenaTrait<P, T>> ExactSizeIterator for Drain<'a, P, T, A> {
+    fn len(&self) -> usize {
+        self.arena.len()
     }
 }
 
@@ -87,16 +94,16 @@ pub struct CapacityDrain<P: Ptr, T, A: CompactArenaTrait<P, T>> {
 }
 
 impl<P: Ptr, T, A: CompactArenaTrait<P, T>> Model for CapacityDrain<P, T, A> {
-    ghost use Rattle.std.specs.Prelude.{List, ◌≡◌, false};
+    ghost use Rattle.std.specs.Prelude.{List};
     ghost use Rattle.triple_arena_ptr.specs.Pointers.{Pointer};
-    ghost use Rattle.triple_arena_traits.specs.Walks.{entries_ahead};
+    ghost use Rattle.triple_arena_traits.specs.Walks.{entries, IsBeforeAll};
 
     // What is left.
     ghost Value = { List (Pointer × T) };
 
-    ghost view = { λ d. entries_ahead (A.stand d.advancer) (A.slots d.arena) };
+    ghost view = { λ d. entries (A.slots d.arena) };
 
-    ghost invariant = { λ d. (A.stand d.advancer).reverse ≡ false };
+    ghost invariant = { λ d. IsBeforeAll (A.slots d.arena) (A.stand d.advancer) };
 }
 
 impl<P: Ptr, T, A: CompactArenaTrait<P, T>> CapacityDrain<P, T, A> {
@@ -126,7 +133,15 @@ impl<P: Ptr, T: Drop, A: CompactArenaTrait<P, T> + Drop> Iterator for CapacityDr
     }
 
     fn size_hint(&self) -> (usize, Option<usize>) {
-        (0, None)
+        let left = self.len();
+        (left, Some(left))
+    }
+}
+
+impl<P: Ptr, T: Drop, A: CompactArenaTrait<P, T> + Drop> ExactSizeIterator
+    for CapacityDrain<P, T, A> {
+    fn len(&self) -> usize {
+        self.arena.len()
     }
 }
 

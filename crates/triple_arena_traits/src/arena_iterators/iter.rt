@@ -15,11 +15,13 @@ use triple_arena_ptr::Ptr;
 pub struct Iter<'a, P: Ptr, T, A: CompactArenaTrait<P, T>> {
     arena: &'a A,
     advancer: A::PtrAdvancer,
+    // How many are left.
+    left: usize,
     of: PhantomData<(P, T)>,
 }
 
 impl<'a, P: Ptr, T, A: CompactArenaTrait<P, T>> Model for Iter<'a, P, T, A> {
-    ghost use Rattle.std.specs.Prelude.{List, ◌≡◌, false};
+    ghost use Rattle.std.specs.Prelude.{List, ◌≡◌, false, length};
     ghost use Rattle.triple_arena_ptr.specs.Pointers.{Pointer};
     ghost use Rattle.triple_arena_traits.specs.Walks.{entries_ahead};
 
@@ -28,7 +30,8 @@ impl<'a, P: Ptr, T, A: CompactArenaTrait<P, T>> Model for Iter<'a, P, T, A> {
 
     ghost view = { λ i. entries_ahead (A.stand i.advancer) (A.slots i.arena.now) };
 
-    ghost invariant = { λ i. (A.stand i.advancer).reverse ≡ false };
+    ghost invariant = { λ i. ((A.stand i.advancer).reverse ≡ false)
+        × (i.left ≡ length (entries_ahead (A.stand i.advancer) (A.slots i.arena.now))) };
 }
 
 impl<'a, P: Ptr, T, A: CompactArenaTrait<P, T>> Iter<'a, P, T, A> {
@@ -38,6 +41,7 @@ impl<'a, P: Ptr, T, A: CompactArenaTrait<P, T>> Iter<'a, P, T, A> {
         Iter {
             arena,
             advancer: arena.advancer(),
+            left: arena.len(),
             of: PhantomData,
         }
     }
@@ -56,11 +60,18 @@ impl<'a, P: Ptr, T: 'a, A: CompactArenaTrait<P, T>> Iterator for Iter<'a, P, T, 
     fn next(&mut self) -> Option<(P, &'a T)> {
         let arena = self.arena;
         let p = self.advancer.advance(arena)?;
+        self.left -= 1;
         Some((p, arena.get(p).unwrap()))
     }
 
     fn size_hint(&self) -> (usize, Option<usize>) {
-        (0, None)
+        (self.left, Some(self.left))
+    }
+}
+
+impl<'a, P: Ptr, T: 'a, A: CompactArenaTrait<P, T>> ExactSizeIterator for Iter<'a, P, T, A> {
+    fn len(&self) -> usize {
+        self.left
     }
 }
 
@@ -69,11 +80,13 @@ impl<'a, P: Ptr, T: 'a, A: CompactArenaTrait<P, T>> Iterator for Iter<'a, P, T, 
 pub struct Ptrs<'a, P: Ptr, T, A: CompactArenaTrait<P, T>> {
     arena: &'a A,
     advancer: A::PtrAdvancer,
+    // How many are left.
+    left: usize,
     of: PhantomData<(P, T)>,
 }
 
 impl<'a, P: Ptr, T, A: CompactArenaTrait<P, T>> Model for Ptrs<'a, P, T, A> {
-    ghost use Rattle.std.specs.Prelude.{List, ◌≡◌, false};
+    ghost use Rattle.std.specs.Prelude.{List, ◌≡◌, false, length};
     ghost use Rattle.triple_arena_ptr.specs.Pointers.{Pointer};
     ghost use Rattle.triple_arena_traits.specs.Walks.{keys_ahead};
 
@@ -82,7 +95,8 @@ impl<'a, P: Ptr, T, A: CompactArenaTrait<P, T>> Model for Ptrs<'a, P, T, A> {
 
     ghost view = { λ i. keys_ahead (A.stand i.advancer) (A.slots i.arena.now) };
 
-    ghost invariant = { λ i. (A.stand i.advancer).reverse ≡ false };
+    ghost invariant = { λ i. ((A.stand i.advancer).reverse ≡ false)
+        × (i.left ≡ length (keys_ahead (A.stand i.advancer) (A.slots i.arena.now))) };
 }
 
 impl<'a, P: Ptr, T, A: CompactArenaTrait<P, T>> Ptrs<'a, P, T, A> {
@@ -92,6 +106,7 @@ impl<'a, P: Ptr, T, A: CompactArenaTrait<P, T>> Ptrs<'a, P, T, A> {
         Ptrs {
             arena,
             advancer: arena.advancer(),
+            left: arena.len(),
             of: PhantomData,
         }
     }
@@ -106,11 +121,19 @@ impl<'a, P: Ptr, T, A: CompactArenaTrait<P, T>> Iterator for Ptrs<'a, P, T, A> {
 
     #[inline(always)]
     fn next(&mut self) -> Option<P> {
-        self.advancer.advance(self.arena)
+        let p = self.advancer.advance(self.arena)?;
+        self.left -= 1;
+        Some(p)
     }
 
     fn size_hint(&self) -> (usize, Option<usize>) {
-        (0, None)
+        (self.left, Some(self.left))
+    }
+}
+
+impl<'a, P: Ptr, T: 'a, A: CompactArenaTrait<P, T>> ExactSizeIterator for Ptrs<'a, P, T, A> {
+    fn len(&self) -> usize {
+        self.left
     }
 }
 
@@ -154,6 +177,12 @@ impl<'a, P: Ptr, T: 'a, A: CompactArenaTrait<P, T>> Iterator for Vals<'a, P, T, 
     }
 
     fn size_hint(&self) -> (usize, Option<usize>) {
-        (0, None)
+        self.entries.size_hint()
+    }
+}
+
+impl<'a, P: Ptr, T: 'a, A: CompactArenaTrait<P, T>> ExactSizeIterator for Vals<'a, P, T, A> {
+    fn len(&self) -> usize {
+        self.entries.len()
     }
 }

@@ -1,5 +1,5 @@
 //! The ends of nets at cells: tied and untied on both sides, and looked for before a cell or a net
-//! goes.
+//! goes, which it does even if a counter wraps.
 
 ghost use Rattle.std.specs.Prelude.{◌≡◌, ◌≢◌, ◌+◌, ◌≤◌, true, false, None, Some, IsSome, IfOk, OnOk, OnErr, OnSome, IfNone};
 ghost use Rattle.std.specs.Option.{option_map};

@@ -52,6 +52,7 @@ impl Circuit {
         ensures refusal { IfErr result (BothStay self.old) }
     {
         let (cells, nets) = self.compact(alloc)?;
+        // The maps are right also where a counter wraps.
         let (cells, nets) = (cells.allow(), nets.allow());
         // By their clauses, the maps have the new pointer of each cell and net that was there.
         image_found::<P0, Cell>();

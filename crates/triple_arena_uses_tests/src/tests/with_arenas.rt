@@ -15,9 +15,11 @@ mod into_values;
 mod leases;
 mod links;
 mod netlist;
+mod office;
 mod ports;
 mod side_table;
 mod tables;
+mod waiting;
 
 use triple_arena::ArenaTrait;
 use triple_arena_direct::DirectArena;

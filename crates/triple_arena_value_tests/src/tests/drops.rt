@@ -173,6 +173,10 @@ fn is_refused_growth<A: ArenaInsertTrait<P0, Value>>(rt: &impl Abort, arena: &mu
     is(live.get(), 0).expect(rt, "the count");
     is(arena.insert_reallocating(new_value(live)).is_err(), true).expect(rt, "the refusal");
     is(live.get(), 0).expect(rt, "the count");
+    let given_back = arena.try_insert(new_value(live));
+    is(live.get(), 1).expect(rt, "the count with the value that came back");
+    drop(given_back);
+    is(live.get(), 0).expect(rt, "the count");
 }
 
 #[test]

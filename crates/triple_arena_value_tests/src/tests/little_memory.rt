@@ -3,7 +3,7 @@
 use crate::tests::entries::WithEntries;
 use std::num::NonZeroU64;
 use std::process::Abort;
-use triple_arena::{Arena, ArenaInsertTrait, ArenaSlot, ArenaTrait};
+use triple_arena::{Arena, ArenaInsertTrait, ArenaSlot, ArenaTrait, InsertFailed};
 use triple_arena_base::{NotWithinCapacityError, ReallocationError};
 use triple_arena_ptr::P0;
 use triple_arena_test_kit::{Scarce, is, is_shown, pointer, put_numbers};
@@ -18,6 +18,9 @@ fn refuses_each_growth<A: ArenaInsertTrait<P0, u64> + WithEntries<P0, u64>>(
     let refused = ReallocationError::AllocError;
     is(arena.insert(99), Err(refused)).expect(rt, "an insertion");
     is(arena.insert_reallocating(99), Err(refused)).expect(rt, "an insertion that reallocates");
+    let (value, error) = (99, refused);
+    is(arena.try_insert(99), Err(InsertFailed { value, error })).expect(rt, "the value");
+    is(arena.make_place(), Err(refused)).expect(rt, "a place");
     is(arena.entry_pointer(), Err(refused)).expect(rt, "an entry");
     is(arena.entry_pointer_reallocating(), Err(refused)).expect(rt, "an entry that reallocates");
     let full = NotWithinCapacityError;

@@ -1,7 +1,7 @@
 use Rattle.std.proofs.Common.{◌≡◌, ◌<◌, Some, IsSome, sym, ap, ◌∙◌, subst, arith}
 use Rattle.std.specs.Option.{option_map}
-use Rattle.triple_arena_chain_uses.specs.Chains.{nodes, after_at}
-use Rattle.triple_arena_surject.proofs.Relabelling.{IsPart, part_none, leads_on, one_more, moved_all, others_stay}
+use Rattle.triple_arena_chain.specs.Chains.{nodes, after_at}
+use Rattle.triple_arena_surject.proofs.Relabelling.{part_none, leads_on, one_more, moved_all, others_stay}
 use Rattle.triple_arena_surject.proofs.States.{some_of_map}
 use Rattle.triple_arena_surject.proofs.steps.relabel.Goals as goal
 
@@ -39,12 +39,8 @@ round-preserved g c =
 
 pub returns-clause-moved : goal.returns-clause-moved
 returns-clause-moved g c =
-    let all : c.round.turn ≡ c.args.count = omega arith in
-    moved_all g.P.Ptr.numbers (nodes c.args.keys.now) (nodes c.round.keys) c.args.count (g.P.Ptr.numbers c.args.from) (g.P.Ptr.numbers c.round.at) c.args.set
-    (subst (IsPart g.P.Ptr.numbers (nodes c.args.keys.now) (nodes c.round.keys) c.args.count (g.P.Ptr.numbers c.args.from) (g.P.Ptr.numbers c.round.at) c.args.set) all c.round.invariant.part)
+    moved_all g.P.Ptr.numbers (nodes c.args.keys.now) (nodes c.round.keys) c.args.count (g.P.Ptr.numbers c.args.from) (g.P.Ptr.numbers c.round.at) c.args.set c.round.turn c.round.invariant.part (omega arith)
 
 pub returns-clause-others : goal.returns-clause-others
 returns-clause-others g c =
-    let all : c.round.turn ≡ c.args.count = omega arith in
-    others_stay g.P.Ptr.numbers (nodes c.args.keys.now) (nodes c.round.keys) c.args.count (g.P.Ptr.numbers c.args.from) (g.P.Ptr.numbers c.round.at) c.args.set
-    (subst (IsPart g.P.Ptr.numbers (nodes c.args.keys.now) (nodes c.round.keys) c.args.count (g.P.Ptr.numbers c.args.from) (g.P.Ptr.numbers c.round.at) c.args.set) all c.round.invariant.part)
+    others_stay g.P.Ptr.numbers (nodes c.args.keys.now) (nodes c.round.keys) c.args.count (g.P.Ptr.numbers c.args.from) (g.P.Ptr.numbers c.round.at) c.args.set c.round.turn c.round.invariant.part (omega arith)

@@ -1,5 +1,5 @@
 use Rattle.std.proofs.Common.{◌≡◌}
-use Rattle.triple_arena_chain_uses.specs.Chains.{nodes}
+use Rattle.triple_arena_chain.specs.Chains.{nodes}
 use Rattle.triple_arena_surject.proofs.Relabelling.{IsPart}
 use Rattle.triple_arena_surject.proofs.steps.relabel.Given as goal
 

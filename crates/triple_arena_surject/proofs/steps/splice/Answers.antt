@@ -1,6 +1,6 @@
 use Rattle.std.proofs.Common.{◌≡◌, Some, sym, ap, ◌∙◌}
 use Rattle.std.specs.Option.{option_map}
-use Rattle.triple_arena_chain_uses.specs.Chains.{nodes, after_at}
+use Rattle.triple_arena_chain.specs.Chains.{nodes, after_at}
 use Rattle.triple_arena_surject.proofs.Splicing.{then_there, then_open, q_stays, next_there, q_open, next_open, spliced}
 use Rattle.triple_arena_surject.proofs.steps.splice.Goals as goal
 

@@ -67,3 +67,24 @@ fn a_ticket_is_never_valid_again(rt: HostRuntime) {
     let mut leases = Leases::new(rt.alloc());
     is(told(&rt, &mut leases), wanted).expect(&rt, "the first ticket and the last");
 }
+
+// The lease of a ticket that is replaced at the counter's end is found by its new one, and can end.
+fn is_revoked<R: Registry>(rt: &impl Abort, leases: &mut R, kept: &[Ticket]) {
+    let ticket = kept.first().copied().expect(rt, "a ticket");
+    is(leases.redeemed(ticket), Some(lease(254))).expect(rt, "the kept lease");
+    is(leases.revoked(ticket), Ok(lease(254))).expect(rt, "the lease that ended");
+}
+
+#[test]
+fn leases_are_renewed_when_their_tickets_are_used_up(rt: HostRuntime) {
+    let mut leases = Leases::new(rt.alloc());
+    first_of_all(&rt, &mut leases);
+    let last = leases.issued(lease(254)).expect(&rt, "memory");
+    is(leases.revoked(last), Err(StrictError::Exhausted)).expect(&rt, "a used up ticket");
+    let mut kept: Vec<Ticket> = Vec::new(rt.alloc());
+    kept.push(last).expect(&rt, "memory");
+    match leases.renew(&mut kept, rt.alloc()) {
+        Ok(mut leases) => is_revoked(&rt, &mut leases, &kept),
+        Err((_leases, refusal)) => is(Err(refusal), Ok(())).expect(&rt, "the map's memory"),
+    }
+}

@@ -4,10 +4,9 @@ use Rattle.std.specs.HashMap.{get, Updates}
 use Rattle.std.specs.Map.{lookup}
 use Rattle.std.specs.Option.{option_map}
 use Rattle.triple_arena_ptr.specs.Pointers.{Pointer}
-use Rattle.triple_arena_chain_uses.specs.Chains.{ChainState, nodes, after_at}
+use Rattle.triple_arena_chain.specs.Chains.{ChainState, nodes, after_at}
 use Rattle.triple_arena_chain_uses.specs.Cache.{CacheState, uses_from, place_in, IsOrder}
-use Rattle.triple_arena_chain_uses.proofs.Caching.{on_ok, placed_in, take_all, bare_there, fresh_place, grown, grown_entries}
-use Rattle.triple_arena_chain_uses.proofs.Results.{memory_refused}
+use Rattle.triple_arena_chain_uses.proofs.Caching.{memory_refused, on_ok, placed_in, take_all, bare_there, fresh_place, grown, grown_entries}
 use Rattle.triple_arena_chain_uses.proofs.Turning.{same_places}
 use Rattle.triple_arena_chain_uses.proofs.cache.Cache.add.Goals as goal
 
@@ -17,10 +16,15 @@ numbers p = (suc p.0, suc p.1)
 pub invariant_of-self : goal.invariant_of-self
 invariant_of-self g c = (c.self.invariant.0, same_places (nodes c.self.inside.uses) c.self.inside.uses.len (numbers c.self.inside.bare) (place_in numbers c.self.inside.places) (place_in numbers c.reserve.new.self) c.self.inside.most c.self.invariant.0 c.self.invariant.1 (λ k. ap (option_map numbers) (c.reserve.ensures.entries.2 k)), c.self.invariant.2)
 
+kept_order : {A T : Type 0} (old new : ChainState A (Option (ℕ × T))) → new ≡ old → (bare : Pointer) (place : ℕ → Option Pointer) (most : ℕ) (order : List Pointer)
+    → IsOrder (nodes old) old.len bare place most order → old.limit ≡ None → ((order : List Pointer) × IsOrder (nodes new) new.len bare place most order × (new.limit ≡ None))
+kept_order {A = A} {T = T} old new same bare place most order is unlimited =
+    subst (λ (u : ChainState A (Option (ℕ × T))). (order : List Pointer) × IsOrder (nodes u) u.len bare place most order × (u.limit ≡ None)) (sym same) (order, is, unlimited)
+
 pub invariant_of-self-in-Err : goal.invariant_of-self-in-Err
 invariant_of-self-in-Err g c =
-    subst (λ (u : ChainState (Option (ℕ × g.row.T.Denot))). (order : List Pointer) × IsOrder (nodes u) u.len (numbers c.self.inside.bare) (place_in numbers c.reserve.new.self) c.self.inside.most order × (u.limit ≡ None)) (sym c.in-Err.ensures.refused)
-    (c.self.invariant.0, same_places (nodes c.self.inside.uses) c.self.inside.uses.len (numbers c.self.inside.bare) (place_in numbers c.self.inside.places) (place_in numbers c.reserve.new.self) c.self.inside.most c.self.invariant.0 c.self.invariant.1 (λ k. ap (option_map numbers) (c.reserve.ensures.entries.2 k)), c.self.invariant.2)
+    kept_order c.self.inside.uses c.insert.new.self c.in-Err.ensures.refused (numbers c.self.inside.bare) (place_in numbers c.reserve.new.self) c.self.inside.most c.self.invariant.0
+    (same_places (nodes c.self.inside.uses) c.self.inside.uses.len (numbers c.self.inside.bare) (place_in numbers c.self.inside.places) (place_in numbers c.reserve.new.self) c.self.inside.most c.self.invariant.0 c.self.invariant.1 (λ k. ap (option_map numbers) (c.reserve.ensures.entries.2 k))) c.self.invariant.2
 
 pub invariant_of-self-in-Ok : goal.invariant_of-self-in-Ok
 invariant_of-self-in-Ok g c =

@@ -3,12 +3,11 @@ use Rattle.std.proofs.Common.{suc, ◌≡◌, ℕ, nat_eq, Err, ap, ◌∙◌, a
 use Rattle.std.specs.Map.{lookup}
 use Rattle.std.specs.Option.{option_map}
 use Rattle.triple_arena_ptr.specs.Pointers.{Pointer}
-use Rattle.triple_arena_chain_uses.specs.Chains.{nodes}
+use Rattle.triple_arena_chain.specs.Chains.{nodes}
 use Rattle.triple_arena_chain_uses.specs.Cache.{place_in}
-use Rattle.triple_arena_chain_uses.proofs.Caching.{on_ok, new_order}
-use Rattle.triple_arena_chain_uses.specs.Chains.{IsJoined}
+use Rattle.triple_arena_chain_uses.proofs.Caching.{on_ok, new_order, memory_refused}
+use Rattle.triple_arena_chain.specs.Chains.{IsJoined}
 use Rattle.triple_arena_chain_uses.proofs.Ordering.{entries_read}
-use Rattle.triple_arena_chain_uses.proofs.Results.{memory_refused}
 use Rattle.triple_arena_chain_uses.proofs.cache.Cache.new.Goals as goal
 
 abbrev numbers : ℕ × ℕ → Pointer

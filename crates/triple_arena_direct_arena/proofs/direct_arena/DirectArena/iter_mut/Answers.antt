@@ -1,4 +1,5 @@
-use Rattle.std.proofs.Common.{refl, ap, length, ◌∙◌, arith}
+use Rattle.std.proofs.Common.{refl, sym, ap, length, ◌∙◌, arith}
+use Rattle.std.proofs.lemmas.List.{length-map}
 use Rattle.triple_arena_traits.specs.Walks.{entries}
 use Rattle.triple_arena_direct_arena.proofs.Keeping.{keeps_pointers}
 use Rattle.triple_arena_traits.specs.laws.WalkLaws.{length-entries}
@@ -17,3 +18,10 @@ returns g c =
         fits = omega (arith, count_within c.args.self.now.slots);
       },
     )
+
+pub invariant_of-result-2 : goal.invariant_of-result-2
+invariant_of-result-2 g c = (
+  c.slot_count-left.ensures.value ∙ sym (ap length c.lend_slots.ensures.slots) ∙ length-map c.lend_slots.result.now _,
+  omega (arith, c.slot_count-left.ensures.indexed),
+  c.len-entries_left.ensures.value ∙ sym (ap length (ap entries c.lend_slots.ensures.slots) ∙ length-entries c.args.self.now.slots),
+)

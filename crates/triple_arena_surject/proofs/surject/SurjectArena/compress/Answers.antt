@@ -1,7 +1,7 @@
 use Rattle.std.proofs.Common.{sym, subst}
 use Rattle.triple_arena_base.specs.Invalidation.{allowed_option}
 use Rattle.triple_arena_ptr.specs.Pointers.{Pointer}
-use Rattle.triple_arena_chain_uses.specs.Chains.{nodes}
+use Rattle.triple_arena_chain.specs.Chains.{nodes}
 use Rattle.triple_arena_direct.specs.Renaming.{MapsPointers}
 use Rattle.triple_arena_surject.specs.Rings.{counts, IsSound}
 use Rattle.triple_arena_surject.specs.Surject.{IsRenamed, state_of}

@@ -1,6 +1,6 @@
 use Rattle.std.proofs.Common.{◌≤◌, IsSome, arith, sym, ap, ◌∙◌, subst, refl}
 use Rattle.std.specs.Option.{option_map}
-use Rattle.triple_arena_chain_uses.specs.Chains.{ChainState, nodes, value_at}
+use Rattle.triple_arena_chain.specs.Chains.{ChainState, nodes, value_at}
 use Rattle.triple_arena_surject.specs.declared.member.Member.{Member}
 use Rattle.triple_arena_surject.specs.Rings.{counts, IsSound}
 use Rattle.triple_arena_surject.specs.Surject.{IsNewSet, IsSame, state_of}
@@ -56,10 +56,10 @@ returns-in-Err-put_alone-clause-refused g c =
     (record {
       keys = λ q. found_same numbers keys c.put_alone.new.keys slots last (capacity sets) (capacity c.take.new.sets) (limit sets) (limit c.take.new.sets) q (ap (λ k. value_at (nodes k) q) refused);
       vals = λ d. named_same numbers keys c.put_alone.new.keys slots last (capacity sets) (capacity c.take.new.sets) (limit sets) (limit c.take.new.sets) d (same d);
-      len_keys = ap (λ (k : ChainState (Member g.row.P.Denot g.row.K.Denot)). k.len) refused;
+      len_keys = ap (λ (k : ChainState g.row.A.Denot (Member g.row.P.Denot g.row.K.Denot)). k.len) refused;
       len_vals = omega (arith, fewer, c.in-Ok.ensures.len);
-      key_capacity = subst (λ n. keys.capacity ≤ n) (sym (ap (λ (k : ChainState (Member g.row.P.Denot g.row.K.Denot)). k.capacity) refused)) (omega arith);
-      key_limit = ap (λ (k : ChainState (Member g.row.P.Denot g.row.K.Denot)). k.limit) refused;
+      key_capacity = subst (λ n. keys.capacity ≤ n) (sym (ap (λ (k : ChainState g.row.A.Denot (Member g.row.P.Denot g.row.K.Denot)). k.capacity) refused)) (omega arith);
+      key_limit = ap (λ (k : ChainState g.row.A.Denot (Member g.row.P.Denot g.row.K.Denot)). k.limit) refused;
       val_capacity = less;
       val_limit = c.take.ensures.limit ∙ c.in-Ok.ensures.limit;
     })

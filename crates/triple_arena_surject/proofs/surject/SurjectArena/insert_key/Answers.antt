@@ -1,14 +1,14 @@
 use Rattle.std.proofs.Common.{rules, ◌≡◌, ◌+◌, ◌≤◌, Some, IsSome, sym, ap, ◌∙◌, subst, refl, arith}
 use Rattle.std.specs.Option.{option_map}
 use Rattle.triple_arena.specs.Entries.{look_up, entry_count}
-use Rattle.triple_arena_chain_uses.specs.Chains.{nodes}
+use Rattle.triple_arena_chain.specs.Chains.{nodes}
 use Rattle.triple_arena_surject.specs.declared.member.Shared.{Shared}
 use Rattle.triple_arena_surject.specs.Rings.{counts}
 use Rattle.triple_arena_surject.specs.Surject.{IsAdded, found_at, state_of}
 use Rattle.triple_arena_surject.proofs.Results.{told_room}
 use Rattle.triple_arena_surject.proofs.Rounds.{no_more_keys, labelled_there}
-use Rattle.triple_arena_surject.proofs.Sound.{sound_added, none_there}
-use Rattle.triple_arena_surject.proofs.States.{shared_there, found_there, some_of_map}
+use Rattle.triple_arena_surject.proofs.Sound.{sound_added}
+use Rattle.triple_arena_surject.proofs.States.{shared_there, found_there, some_of_map, never}
 use Rattle.triple_arena_surject.proofs.Changes.{added_key, counted_with}
 use Rattle.triple_arena_surject.proofs.surject.SurjectArena.insert_key.Goals as goal
 
@@ -65,23 +65,17 @@ returns-in-Ok-clause-added g c =
 
 pub returns-in-Ok-clause-no_entry : goal.returns-in-Ok-clause-no_entry
 returns-in-Ok-clause-no_entry g c =
-    let numbers = g.P.Ptr.numbers in
     let sets = c.self.inside.sets in
-    let slots = g.B.ArenaTrait.slots sets in
-    let p = numbers c.args.p in
-    let there : IsSome (found_at c.args.self.now p) = subst (λ s. IsSome (found_at s p)) c.self.view_is
-    (found_there numbers c.self.inside.keys slots (g.B.ArenaTrait.capacity sets) (g.B.ArenaTrait.limit sets) p (numbers c.in-Some.set) (sym c.in-Some.ensures)) in
-    (λ e. absurd (cc), λ none. absurd (none_there (found_at c.args.self.now p) none there))
+    let p = g.P.Ptr.numbers c.args.p in
+    never c.args.self.now p _ _ (subst (λ s. IsSome (found_at s p)) c.self.view_is
+    (found_there g.P.Ptr.numbers c.self.inside.keys (g.B.ArenaTrait.slots sets) (g.B.ArenaTrait.capacity sets) (g.B.ArenaTrait.limit sets) p (g.P.Ptr.numbers c.in-Some.set) (sym c.in-Some.ensures)))
+    (λ e. absurd (cc))
 
 pub returns-in-Err-clause-no_entry : goal.returns-in-Err-clause-no_entry
 returns-in-Err-clause-no_entry g c =
-    let numbers = g.P.Ptr.numbers in
     let sets = c.self.inside.sets in
-    let slots = g.B.ArenaTrait.slots sets in
-    let p = numbers c.args.p in
-    let there : IsSome (found_at c.args.self.now p) = subst (λ s. IsSome (found_at s p)) c.self.view_is
-    (found_there numbers c.self.inside.keys slots (g.B.ArenaTrait.capacity sets) (g.B.ArenaTrait.limit sets) p (numbers c.in-Some.set) (sym c.in-Some.ensures)) in
-    let refused = c.in-Err.ensures.refusal (labelled_there numbers (nodes c.self.inside.keys) p (numbers c.in-Some.set) (sym c.in-Some.ensures)) in (
-      λ e. absurd (told_room c.in-Err.refusal refused (sym c.told_of_chains.ensures ∙ (cc))),
-      λ none. absurd (none_there (found_at c.args.self.now p) none there),
-    )
+    let p = g.P.Ptr.numbers c.args.p in
+    let refused = c.in-Err.ensures.refusal (labelled_there g.P.Ptr.numbers (nodes c.self.inside.keys) p (g.P.Ptr.numbers c.in-Some.set) (sym c.in-Some.ensures)) in
+    never c.args.self.now p _ _ (subst (λ s. IsSome (found_at s p)) c.self.view_is
+    (found_there g.P.Ptr.numbers c.self.inside.keys (g.B.ArenaTrait.slots sets) (g.B.ArenaTrait.capacity sets) (g.B.ArenaTrait.limit sets) p (g.P.Ptr.numbers c.in-Some.set) (sym c.in-Some.ensures)))
+    (λ e. told_room c.in-Err.refusal refused (sym c.told_of_chains.ensures ∙ (cc)))

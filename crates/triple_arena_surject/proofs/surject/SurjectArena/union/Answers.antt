@@ -1,7 +1,7 @@
-use Rattle.std.proofs.Common.{inl, inr, refl}
-use Rattle.triple_arena_surject.specs.Surject.{found_at, AreTogether}
-use Rattle.triple_arena_surject.proofs.Sound.{none_there}
-use Rattle.triple_arena_surject.proofs.States.{itself}
+use Rattle.std.proofs.Common.{inl, inr, refl, arith}
+use Rattle.triple_arena_surject.specs.Surject.{AreTogether}
+use Rattle.triple_arena_surject.proofs.States.{itself, never_both}
+use Rattle.triple_arena_surject.proofs.Unions.{twice}
 use Rattle.triple_arena_surject.proofs.surject.SurjectArena.union.Goals as goal
 
 pub take_in-requires-clause-kept : goal.take_in-requires-clause-kept
@@ -18,44 +18,51 @@ take_in-requires-else-second-first-clause-gone g c κs within = c.in-Some.ensure
 
 pub returns-then-second-first-clause-no_entry : goal.returns-then-second-first-clause-no_entry
 returns-then-second-first-clause-no_entry g c =
-    let numbers = g.P.Ptr.numbers in
-    let s = c.args.self.now in (
-      λ e. absurd (cc),
-      λ none. elim none [
-        | inl none_p ↦ absurd (none_there (found_at s (numbers c.args.p)) none_p (c.in-Some.ensures.there refl))
-        | inr none_q ↦ absurd (none_there (found_at s (numbers c.args.q)) none_q (c.in-Some-len_key_set.ensures.there refl))
-      ],
-    )
+    never_both c.args.self.now (g.P.Ptr.numbers c.args.p) (g.P.Ptr.numbers c.args.q) _ _ (c.in-Some.ensures.there refl) (c.in-Some-len_key_set.ensures.there refl) (λ e. absurd (cc))
 
 pub returns-else-second-first-clause-no_entry : goal.returns-else-second-first-clause-no_entry
 returns-else-second-first-clause-no_entry g c =
-    let numbers = g.P.Ptr.numbers in
-    let s = c.args.self.now in (
-      λ e. absurd (cc),
-      λ none. elim none [
-        | inl none_p ↦ absurd (none_there (found_at s (numbers c.args.p)) none_p (c.in-Some.ensures.there refl))
-        | inr none_q ↦ absurd (none_there (found_at s (numbers c.args.q)) none_q (c.in-Some-len_key_set.ensures.there refl))
-      ],
-    )
+    never_both c.args.self.now (g.P.Ptr.numbers c.args.p) (g.P.Ptr.numbers c.args.q) _ _ (c.in-Some.ensures.there refl) (c.in-Some-len_key_set.ensures.there refl) (λ e. absurd (cc))
 
 pub returns-then-second-first-clause-together : goal.returns-then-second-first-clause-together
 returns-then-second-first-clause-together g c =
-    let numbers = g.P.Ptr.numbers in
-    let s = c.args.self.now in
-    let itself_p : AreTogether s (numbers c.args.p) (numbers c.args.p) = itself s (numbers c.args.p) (c.in-Some.ensures.there refl) in
-    let itself_q : AreTogether s (numbers c.args.q) (numbers c.args.q) = itself s (numbers c.args.q) (c.in-Some-len_key_set.ensures.there refl) in
-    (c.take_in.ensures.united.joined (numbers c.args.p) (numbers c.args.q)).1 (inr (inl (itself_p, itself_q)))
+    let p = g.P.Ptr.numbers c.args.p in
+    let q = g.P.Ptr.numbers c.args.q in
+    let ends : AreTogether c.args.self.now p p × AreTogether c.args.self.now q q = (itself c.args.self.now p (c.in-Some.ensures.there refl), itself c.args.self.now q (c.in-Some-len_key_set.ensures.there refl)) in
+    (c.take_in.ensures.united.joined p q).1 (inr (inl ends))
 
 pub returns-then-second-first-clause-stays : goal.returns-then-second-first-clause-stays
 returns-then-second-first-clause-stays g c = λ r t is. (c.take_in.ensures.united.joined r t).1 (inl is)
 
 pub returns-else-second-first-clause-together : goal.returns-else-second-first-clause-together
 returns-else-second-first-clause-together g c =
-    let numbers = g.P.Ptr.numbers in
-    let s = c.args.self.now in
-    let itself_p : AreTogether s (numbers c.args.p) (numbers c.args.p) = itself s (numbers c.args.p) (c.in-Some.ensures.there refl) in
-    let itself_q : AreTogether s (numbers c.args.q) (numbers c.args.q) = itself s (numbers c.args.q) (c.in-Some-len_key_set.ensures.there refl) in
-    (c.take_in-else-second-first.ensures.united.joined (numbers c.args.p) (numbers c.args.q)).1 (inr (inr (itself_p, itself_q)))
+    let p = g.P.Ptr.numbers c.args.p in
+    let q = g.P.Ptr.numbers c.args.q in
+    let ends : AreTogether c.args.self.now p p × AreTogether c.args.self.now q q = (itself c.args.self.now p (c.in-Some.ensures.there refl), itself c.args.self.now q (c.in-Some-len_key_set.ensures.there refl)) in
+    (c.take_in-else-second-first.ensures.united.joined p q).1 (inr (inr ends))
 
 pub returns-else-second-first-clause-stays : goal.returns-else-second-first-clause-stays
 returns-else-second-first-clause-stays g c = λ r t is. (c.take_in-else-second-first.ensures.united.joined r t).1 (inl is)
+
+pub returns-then-second-first-clause-joined : goal.returns-then-second-first-clause-joined
+returns-then-second-first-clause-joined g c = λ r t is. (c.take_in.ensures.united.joined r t).0 is
+
+pub returns-else-second-first-clause-joined : goal.returns-else-second-first-clause-joined
+returns-else-second-first-clause-joined g c = λ r t is.
+    elim ((c.take_in-else-second-first.ensures.united.joined r t).0 is) [
+      | inl was ↦ inl was
+      | inr both ↦ elim both [
+        | inl ends ↦ inr (inr ends)
+        | inr ends ↦ inr (inl ends)
+      ]
+    ]
+
+pub returns-then-second-first-clause-doubles : goal.returns-then-second-first-clause-doubles
+returns-then-second-first-clause-doubles g c = λ r n m renamed has also.
+    twice c.args.self.now (g.P.Ptr.numbers c.args.p) (g.P.Ptr.numbers c.args.q) c.take_in.new.self c.take_in.ensures.united c.in-Some.first c.in-Some-len_key_set.second
+    c.in-Some.ensures.keys c.in-Some-len_key_set.ensures.keys c.if-second-first.true r n m renamed has also
+
+pub returns-else-second-first-clause-doubles : goal.returns-else-second-first-clause-doubles
+returns-else-second-first-clause-doubles g c = λ r n m renamed has also.
+    twice c.args.self.now (g.P.Ptr.numbers c.args.q) (g.P.Ptr.numbers c.args.p) c.take_in-else-second-first.new.self c.take_in-else-second-first.ensures.united c.in-Some-len_key_set.second c.in-Some.first
+    c.in-Some-len_key_set.ensures.keys c.in-Some.ensures.keys (omega arith) r n m renamed has also

@@ -1,7 +1,6 @@
 use Rattle.std.proofs.Common.{Some, None, refl}
 use Rattle.triple_arena_ptr.specs.Numbers.{greatest_index}
-use Rattle.triple_arena_traits.specs.laws.WalkLaws.{taken}
-use Rattle.triple_arena_direct.proofs.Draining.{next_drained}
+use Rattle.triple_arena_direct.proofs.Draining.{next_drained, fewer_taken}
 use Rattle.triple_arena_direct.proofs.strict_arena.drain.StrictDrainIterator.next.Goals as goal
 
 pub returns-in_err-p-clause-steps : goal.returns-in_err-p-clause-steps
@@ -26,7 +25,7 @@ returns-clause-steps g c =
 pub returns-clause-goes : goal.returns-clause-goes
 returns-clause-goes g c =
     record {
-      on = λ f. (tt, tt, (taken _ _ _ _ _ (rw c.in_ok-p.was at c.take_next.ensures.steps)).fewer);
+      on = λ f. (tt, tt, fewer_taken g.P.Ptr.numbers c.args.self.now.arena.now c.take_next.new.self (c.in_ok-p.p, c.in_ok-p.value) (rw c.in_ok-p.was at c.take_next.ensures.taken));
       keeps = tt;
       rests = λ f. tt;
     }

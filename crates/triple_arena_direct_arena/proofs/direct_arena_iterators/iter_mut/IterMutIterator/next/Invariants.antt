@@ -10,6 +10,7 @@ invariant-slots g l = record {
   rest : entries_from (non_zero_usize_get l.self-inside.next) (map (direct_slot_entry g.P.Gen.PtrGen.number) l.self-inside.slots.now)
       ≡ entries_from (non_zero_usize_get l.initial.self-inside.next) (map (direct_slot_entry g.P.Gen.PtrGen.number) l.initial.self-inside.slots.now);
   counted : l.self-inside.left ≡ length l.self-inside.slots.now;
+  entries : l.self-inside.entries_left ≡ l.initial.self-inside.entries_left;
   indexed : non_zero_usize_get l.self-inside.next + l.self-inside.left ≤ greatest_index g.P.Inx.PtrInx.greatest + 1;
 }
 

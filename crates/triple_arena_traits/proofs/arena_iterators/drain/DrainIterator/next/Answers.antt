@@ -1,7 +1,7 @@
 use Rattle.std.proofs.Common.{◌∙◌, ap, refl}
 use Rattle.triple_arena_base.specs.Invalidation.{overflowing_option}
-use Rattle.triple_arena_traits.specs.laws.WalkLaws.{none_left, answer_first, others_ahead, taken}
-use Rattle.triple_arena_traits.proofs.Walking.{overflowing_told}
+use Rattle.triple_arena_traits.specs.laws.WalkLaws.{none_left, answer_first, others_ahead}
+use Rattle.triple_arena_traits.proofs.Walking.{overflowing_told, fewer_removed}
 use Rattle.triple_arena_traits.proofs.arena_iterators.drain.DrainIterator.next.Goals as goal
 
 pub returns-in_err-p-clause-steps : goal.returns-in_err-p-clause-steps
@@ -22,8 +22,9 @@ returns-clause-steps g c =
 
 pub returns-clause-goes : goal.returns-clause-goes
 returns-clause-goes g c =
+    let step = rw c.in_ok-p.was at c.take_next.ensures.step in
     record {
-      on = λ f. (tt, tt, (taken _ _ _ _ _ (rw c.in_ok-p.was at c.take_next.ensures.step).2).fewer);
+      on = λ f. (tt, tt, fewer_removed g.A.ArenaTrait.slots c.args.self.now.arena.now c.take_next.new.arena (g.P.Ptr.numbers c.in_ok-p.p) step.0 step.3 (g.met.A.ArenaTrait.len_removed _ _ _ step.4.0));
       keeps = tt;
       rests = λ f. tt;
     }

@@ -1,10 +1,37 @@
-use Rattle.std.proofs.Common.{sym}
-use Rattle.triple_arena_traits.proofs.Walking.{first_key, one_fewer}
+use Rattle.std.proofs.Common.{◌∙◌, sym, ap, length, arith}
+use Rattle.std.proofs.lemmas.List.{length-map}
+use Rattle.triple_arena_traits.specs.Walks.{keys_of}
+use Rattle.triple_arena_traits.specs.laws.WalkLaws.{keys_taken, keys_none, ahead_after_none}
+use Rattle.triple_arena_traits.proofs.Walking.{stays_counted, one_counted}
 use Rattle.triple_arena_traits.proofs.arena_iterators.iter.PtrsIterator.next.Goals as goal
+
+pub overflow_sub-self : goal.overflow_sub-self
+overflow_sub-self g c =
+    (one_counted _ _ _ _ _ c.self.invariant.0 _ (c.self.invariant.1 ∙ length-map _ _) (g.met.A.CompactArenaTrait.advanced _ _ _ _ (rw c.in_ok-p.was at c.advance.ensures.steps))).1
 
 pub returns-clause-steps : goal.returns-clause-steps
 returns-clause-steps g c =
-    rw (sym c.self.view_is) (first_key g.P.Ptr.numbers _ _ _ _ c.advance.result c.self.invariant (g.met.A.CompactArenaTrait.advanced _ _ _ _ c.advance.ensures.steps))
+    sym c.self.view_is ∙ keys_taken _ _ _ _ _ c.self.invariant.0 (g.met.A.CompactArenaTrait.advanced _ _ _ _ (rw c.in_ok-p.was at c.advance.ensures.steps))
 
 pub returns-clause-goes : goal.returns-clause-goes
-returns-clause-goes g c = one_fewer g.P.Ptr.numbers _ _ c.advance.result (returns-clause-steps g c)
+returns-clause-goes g c =
+    record {
+      on = λ f. (tt, tt, omega (arith, ap length (returns-clause-steps g c)));
+      keeps = tt;
+      rests = λ f. tt;
+    }
+
+pub returns-in_err-p-clause-steps : goal.returns-in_err-p-clause-steps
+returns-in_err-p-clause-steps g c =
+    let step = g.met.A.CompactArenaTrait.advanced _ _ _ _ (rw c.in_err-p.was at c.advance.ensures.steps) in
+    rw c.from_residual.ensures (sym c.self.view_is ∙ keys_none _ _ _ _ step, ap keys_of (ahead_after_none _ _ _ _ c.self.invariant.0 step))
+
+pub invariant_of-self : goal.invariant_of-self
+invariant_of-self g c =
+    let counted = stays_counted _ _ _ _ _ c.self.invariant.0 (c.self.invariant.1 ∙ length-map _ _) (g.met.A.CompactArenaTrait.advanced _ _ _ _ (rw c.in_err-p.was at c.advance.ensures.steps)) in
+    (counted.0, counted.1 ∙ sym (length-map _ _))
+
+pub invariant_of-self-2 : goal.invariant_of-self-2
+invariant_of-self-2 g c =
+    let counted = one_counted _ _ _ _ _ c.self.invariant.0 _ (c.self.invariant.1 ∙ length-map _ _) (g.met.A.CompactArenaTrait.advanced _ _ _ _ (rw c.in_ok-p.was at c.advance.ensures.steps)) in
+    (counted.0, counted.2 ∙ sym (length-map _ _))

@@ -1,0 +1,4 @@
+-- Read first: Chains.
+pub mod Links
+pub mod Chains
+pub mod laws

@@ -1,0 +1,14 @@
+use Rattle.std.proofs.Common.{◌≡◌, List}
+use Rattle.triple_arena_ptr.specs.Pointers.{Pointer}
+use Rattle.triple_arena_traits.specs.Walks.{values_of}
+use Rattle.triple_arena_direct.specs.Extending.{all_inserted, EntriesCame}
+use Rattle.triple_arena_direct.proofs.extending.extend.Given as goal
+
+abbrev pub invariant-each : goal.invariant-each
+invariant-each g l = record {
+  came : List (Pointer × g.row.T.Denot);
+  yielded : values_of came ≡ l.yielded;
+  entries : EntriesCame g.A.ArenaTrait.slots g.A.ArenaTrait.fits l.fn.this came l.this;
+  done : l.this ≡ all_inserted g.A.ArenaInsertTrait.inserted g.A.ArenaInsertTrait.grown l.fn.this (values_of came);
+  limit : g.A.ArenaTrait.limit l.this ≡ g.A.ArenaTrait.limit l.fn.this;
+}

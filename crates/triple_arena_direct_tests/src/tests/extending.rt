@@ -1,0 +1,36 @@
+//! Values that come from an iterator.
+
+use std::process::Abort;
+use triple_arena::{Arena, ArenaInsertTrait, ArenaSlot, ArenaTrait, InsertFailed};
+use triple_arena_base::ReallocationError;
+use triple_arena_direct::{extend, from_iter};
+use triple_arena_ptr::P0;
+use triple_arena_stack::NonZeroInxArray;
+use triple_arena_test_kit::{is, is_shown};
+
+// Of five values three find a place: the fourth comes back, and the fifth is left.
+fn takes_three<A: ArenaInsertTrait<P0, u64>>(rt: &impl Abort, arena: &mut A) {
+    let mut values = 1..6;
+    let (value, error) = (4, ReallocationError::BeyondMaxCapacity);
+    is(
+        extend(arena, &mut values),
+        Err(InsertFailed { value, error }),
+    )
+    .expect(rt, "the refusal");
+    is(arena.len(), 3).expect(rt, "the length");
+    is(values.next(), Some(5)).expect(rt, "the value that is left");
+}
+
+#[test]
+fn values_come_until_one_is_refused(rt: HostRuntime) {
+    let mut arena: Arena<P0, u64, NonZeroInxArray<ArenaSlot<P0, u64>, 3>> = Arena::new(rt.alloc());
+    takes_three(&rt, &mut arena);
+    let text = "{P0[1](2): 1, P0[2](2): 2, P0[3](2): 3}";
+    is_shown(rt.alloc(), &arena, text).expect(&rt, "the arena");
+}
+
+#[test]
+fn an_arena_is_made_of_what_comes(rt: HostRuntime) {
+    let arena: Arena<P0, u64> = from_iter(rt.alloc(), 1..3).expect(&rt, "memory");
+    is_shown(rt.alloc(), &arena, "{P0[1](2): 1, P0[2](2): 2}").expect(&rt, "the arena");
+}

@@ -1,0 +1,3 @@
+pub mod Loop
+pub mod Text
+pub mod Marks

@@ -1,0 +1,82 @@
+-- How the values of each type stand as bytes, with the law, in one term: of these a struct's is made.
+use Rattle.std.specs.Prelude.{◌≡◌, ℕ, ◌<◌, ◌^◌, Bool, true, List, [], ◌∷◌, length, Option, IfSome}
+use Rattle.std.proofs.Common.{refl}
+use Rattle.std.specs.Int.{Width, to_le_bytes}
+use Rattle.std.specs.List.{AllByRecursion}
+use Rattle.std.specs.Str.{is_utf8}
+use Rattle.triple_arena_snapshot.specs.Coding.{Coding}
+use Rattle.triple_arena_snapshot.specs.Codings.{byte_at_front, number_at_front, unit_at_front, bool_bytes, bool_at_front, option_bytes, option_at_front, pair_bytes, pair_at_front, list_bytes, list_at_front, text_bytes, text_at_front, positive_at_front, index_at_front}
+use Rattle.triple_arena_snapshot.specs.laws.CodingLaws.{IsWide, number_again, bool_again, positive_again, option_again, pair_again, list_again, text_again, index_again}
+
+-- a byte
+abbrev pub byte : Coding ℕ
+byte = record { fits = λ n. n < 2 ^ 8; encoding = λ n. n ∷ []; decoding = byte_at_front; decodes = λ n rest fits. refl }
+
+-- a number of this width
+abbrev pub number : (w : Width) (limit : ℕ) → IsWide w limit → Coding ℕ
+number w limit wide = record { fits = λ n. n < limit; encoding = to_le_bytes w; decoding = number_at_front w; decodes = number_again w limit wide }
+
+-- nothing, and the truth
+abbrev pub unit : Coding (Unit {0})
+unit = record { fits = λ u. Unit {0}; encoding = λ u. 0 ∷ []; decoding = unit_at_front; decodes = λ u rest fits. refl }
+
+abbrev pub bool : Coding Bool
+bool = record { fits = λ b. Unit {0}; encoding = bool_bytes; decoding = bool_at_front; decodes = bool_again }
+
+-- a value or none
+abbrev pub option : {K : Type 0} → Coding K → Coding (Option K)
+option c = record {
+  fits = λ o. IfSome o c.fits;
+  encoding = option_bytes c.encoding;
+  decoding = option_at_front c.decoding;
+  decodes = option_again c.fits c.encoding c.decoding c.decodes;
+}
+
+-- one value and then another: a struct of three fields is a field and then the two others
+abbrev pub both : {K L : Type 0} → Coding K → Coding L → Coding (K × L)
+both c d = record {
+  fits = λ p. c.fits p.0 × d.fits p.1;
+  encoding = pair_bytes c.encoding d.encoding;
+  decoding = pair_at_front c.decoding d.decoding;
+  decodes = pair_again c.fits c.encoding c.decoding c.decodes d.fits d.encoding d.decoding d.decodes;
+}
+
+-- values in order
+abbrev pub list : {K : Type 0} → Coding K → Coding (List K)
+list c = record {
+  fits = λ ks. (length ks < 2 ^ 64) × AllByRecursion c.fits ks;
+  encoding = list_bytes c.encoding;
+  decoding = list_at_front c.decoding;
+  decodes = list_again c.fits c.encoding c.decoding c.decodes;
+}
+
+-- text, by the bytes of its UTF-8
+abbrev pub text : Coding (List ℕ)
+text = record {
+  fits = λ bytes. (length bytes < 2 ^ 64) × (is_utf8 bytes ≡ true);
+  encoding = text_bytes;
+  decoding = text_at_front;
+  decodes = text_again;
+}
+
+-- a number that isn't 0
+abbrev pub positive : Coding ℕ → Coding ℕ
+positive c = record {
+  fits = λ n. (0 < n) × c.fits n;
+  encoding = c.encoding;
+  decoding = positive_at_front c.decoding;
+  decodes = positive_again c.fits c.encoding c.decoding c.decodes;
+}
+
+-- the numbers of a pointer: its index and its generation
+abbrev pub pointer : Coding ℕ → Coding ℕ → Coding (ℕ × ℕ)
+pointer index generation = both (positive index) (positive generation)
+
+-- the numbers of a pointer without a generation: its index, and 1
+abbrev pub bare_pointer : Coding ℕ → Coding (ℕ × ℕ)
+bare_pointer index = record {
+  fits = λ p. (positive index).fits p.0 × (p.1 ≡ 1);
+  encoding = λ p. index.encoding p.0;
+  decoding = index_at_front (positive index).decoding;
+  decodes = index_again (positive index).fits index.encoding (positive index).decoding (positive index).decodes;
+}

@@ -1,0 +1,6 @@
+-- Read first: Coding.
+pub mod Coding
+pub mod Codings
+pub mod Layouts
+pub mod Files
+pub mod laws

@@ -1,0 +1,3 @@
+pub mod ChangeLaws
+pub mod CodingLaws
+pub mod FileLaws

@@ -1,0 +1,119 @@
+//! Numbers as bytes, the lowest first.
+
+ghost use Rattle.std.specs.Prelude.{◌≡◌, ℕ, ◌^◌};
+ghost use Rattle.std.specs.Int.{w16, w32, w64};
+ghost use Rattle.triple_arena_snapshot.specs.Coding.{Gives};
+ghost use Rattle.triple_arena_snapshot.specs.Codings.{number_at_front};
+ghost use Rattle.triple_arena_snapshot.specs.Layouts.{byte, number};
+ghost use Rattle.triple_arena_snapshot.specs.laws.CodingLaws.{wide16, wide32, wide64};
+
+use crate::codec::Codec;
+use crate::fault::{DecodeError, Fault};
+use std::alloc::Global;
+use triple_arena_base::AllocError;
+
+/// One byte.
+impl Codec for u8 {
+    ghost Content = { ℕ };
+
+    ghost content = { λ n. n };
+
+    ghost coding = { byte };
+
+    fn encode(&self, out: &mut Vec<u8>) -> Result<(), AllocError> {
+        Ok(out.extend_from_slice(&[*self])?)
+    }
+
+    fn decode(_alloc: Global, bytes: &[u8]) -> Result<(Self, &[u8]), DecodeError> {
+        match bytes {
+            [] => Err(DecodeError::Malformed(Fault::Cut, 0)),
+            [byte, rest @ ..] => Ok((*byte, rest)),
+        }
+    }
+}
+
+/// Two bytes, the lowest first.
+impl Codec for u16 {
+    ghost Content = { ℕ };
+
+    ghost content = { λ n. n };
+
+    ghost coding = { number w16 (2 ^ 16) wide16 };
+
+    fn encode(&self, out: &mut Vec<u8>) -> Result<(), AllocError> {
+        Ok(out.extend_from_slice(&self.to_le_bytes())?)
+    }
+
+    fn decode(_alloc: Global, bytes: &[u8]) -> Result<(Self, &[u8]), DecodeError> {
+        if bytes.len() < 2 {
+            return Err(DecodeError::Malformed(Fault::Cut, bytes.len()));
+        }
+        let (front, rest) = bytes.split_at(2);
+        let number = u16::from_le_bytes([front[0], front[1]]);
+        Ok((number, rest))
+    }
+}
+
+/// Four bytes, the lowest first.
+impl Codec for u32 {
+    ghost Content = { ℕ };
+
+    ghost content = { λ n. n };
+
+    ghost coding = { number w32 (2 ^ 32) wide32 };
+
+    fn encode(&self, out: &mut Vec<u8>) -> Result<(), AllocError> {
+        Ok(out.extend_from_slice(&self.to_le_bytes())?)
+    }
+
+    fn decode(_alloc: Global, bytes: &[u8]) -> Result<(Self, &[u8]), DecodeError> {
+        if bytes.len() < 4 {
+            return Err(DecodeError::Malformed(Fault::Cut, bytes.len()));
+        }
+        let (front, rest) = bytes.split_at(4);
+        let number = u32::from_le_bytes([front[0], front[1], front[2], front[3]]);
+        Ok((number, rest))
+    }
+}
+
+/// Eight bytes, the lowest first.
+impl Codec for u64 {
+    ghost Content = { ℕ };
+
+    ghost content = { λ n. n };
+
+    ghost coding = { number w64 (2 ^ 64) wide64 };
+
+    fn encode(&self, out: &mut Vec<u8>) -> Result<(), AllocError> {
+        Ok(out.extend_from_slice(&self.to_le_bytes())?)
+    }
+
+    fn decode(_alloc: Global, bytes: &[u8]) -> Result<(Self, &[u8]), DecodeError> {
+        if bytes.len() < 8 {
+            return Err(DecodeError::Malformed(Fault::Cut, bytes.len()));
+        }
+        let (front, rest) = bytes.split_at(8);
+        let number = u64::from_le_bytes([
+            front[0], front[1], front[2], front[3], front[4], front[5], front[6], front[7],
+        ]);
+        Ok((number, rest))
+    }
+}
+
+/// As `u64`.
+impl Codec for usize {
+    ghost Content = { ℕ };
+
+    ghost content = { λ n. n };
+
+    ghost coding = { number w64 (2 ^ 64) wide64 };
+
+    fn encode(&self, out: &mut Vec<u8>) -> Result<(), AllocError> {
+        (*self as u64).encode(out)
+    }
+
+    fn decode(alloc: Global, bytes: &[u8]) -> Result<(Self, &[u8]), DecodeError> {
+        let (number, rest) = u64::decode(alloc, bytes)?;
+        Ok((number as usize, rest))
+    }
+}

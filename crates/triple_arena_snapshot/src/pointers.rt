@@ -1,0 +1,170 @@
+//! Pointers as bytes: the index and then the generation, each in the width of its type.
+
+ghost use Rattle.std.specs.Prelude.{◌≡◌, ℕ, suc, ◌^◌};
+ghost use Rattle.std.specs.Int.{w16, w32, w64};
+ghost use Rattle.triple_arena_ptr.specs.Pointers.{Pointer};
+ghost use Rattle.triple_arena_snapshot.specs.Layouts.{byte, number, pointer, bare_pointer};
+ghost use Rattle.triple_arena_snapshot.specs.laws.CodingLaws.{wide16, wide32, wide64};
+
+use crate::codec::Codec;
+use crate::fault::DecodeError;
+use std::alloc::Global;
+use std::num::{NonZeroU8, NonZeroU16, NonZeroU32, NonZeroU64, NonZeroUsize};
+use triple_arena_base::AllocError;
+use triple_arena_ptr::{P0, P1, P2, P3, P4, P5, Ptr, Q2, SmallPtr};
+
+/// Sixteen bytes.
+impl Codec for P0 {
+    ghost Content = { Pointer };
+
+    ghost content = { λ p. (suc p.0, suc p.1) };
+
+    ghost coding = { pointer (number w64 (2 ^ 64) wide64) (number w64 (2 ^ 64) wide64) };
+
+    fn encode(&self, out: &mut Vec<u8>) -> Result<(), AllocError> {
+        self.inx().encode(out)?;
+        self.generation().encode(out)
+    }
+
+    fn decode(alloc: Global, bytes: &[u8]) -> Result<(Self, &[u8]), DecodeError> {
+        let (inx, rest) = NonZeroUsize::decode(alloc, bytes)?;
+        let (generation, rest) = NonZeroU64::decode(alloc, rest)?;
+        Ok((P0::_from_raw(inx, generation), rest))
+    }
+}
+
+/// Sixteen bytes.
+impl Codec for Q2 {
+    ghost Content = { Pointer };
+
+    ghost content = { λ p. (suc p.0, suc p.1) };
+
+    ghost coding = { pointer (number w64 (2 ^ 64) wide64) (number w64 (2 ^ 64) wide64) };
+
+    fn encode(&self, out: &mut Vec<u8>) -> Result<(), AllocError> {
+        self.inx().encode(out)?;
+        self.generation().encode(out)
+    }
+
+    fn decode(alloc: Global, bytes: &[u8]) -> Result<(Self, &[u8]), DecodeError> {
+        let (inx, rest) = NonZeroUsize::decode(alloc, bytes)?;
+        let (generation, rest) = NonZeroU64::decode(alloc, rest)?;
+        Ok((Q2::_from_raw(inx, generation), rest))
+    }
+}
+
+/// Ten bytes.
+impl Codec for P1 {
+    ghost Content = { Pointer };
+
+    ghost content = { λ p. (suc p.0, suc p.1) };
+
+    ghost coding = { pointer (number w16 (2 ^ 16) wide16) (number w64 (2 ^ 64) wide64) };
+
+    fn encode(&self, out: &mut Vec<u8>) -> Result<(), AllocError> {
+        self.inx().encode(out)?;
+        self.generation().encode(out)
+    }
+
+    fn decode(alloc: Global, bytes: &[u8]) -> Result<(Self, &[u8]), DecodeError> {
+        let (inx, rest) = NonZeroU16::decode(alloc, bytes)?;
+        let (generation, rest) = NonZeroU64::decode(alloc, rest)?;
+        Ok((P1::_from_raw(inx, generation), rest))
+    }
+}
+
+/// Ten bytes.
+impl Codec for P2 {
+    ghost Content = { Pointer };
+
+    ghost content = { λ p. (suc p.0, suc p.1) };
+
+    ghost coding = { pointer (number w64 (2 ^ 64) wide64) (number w16 (2 ^ 16) wide16) };
+
+    fn encode(&self, out: &mut Vec<u8>) -> Result<(), AllocError> {
+        self.inx().encode(out)?;
+        self.generation().encode(out)
+    }
+
+    fn decode(alloc: Global, bytes: &[u8]) -> Result<(Self, &[u8]), DecodeError> {
+        let (inx, rest) = NonZeroUsize::decode(alloc, bytes)?;
+        let (generation, rest) = NonZeroU16::decode(alloc, rest)?;
+        Ok((P2::_from_raw(inx, generation), rest))
+    }
+}
+
+/// Four bytes.
+impl Codec for P3 {
+    ghost Content = { Pointer };
+
+    ghost content = { λ p. (suc p.0, suc p.1) };
+
+    ghost coding = { pointer (number w16 (2 ^ 16) wide16) (number w16 (2 ^ 16) wide16) };
+
+    fn encode(&self, out: &mut Vec<u8>) -> Result<(), AllocError> {
+        self.inx().encode(out)?;
+        self.generation().encode(out)
+    }
+
+    fn decode(alloc: Global, bytes: &[u8]) -> Result<(Self, &[u8]), DecodeError> {
+        let (inx, rest) = NonZeroU16::decode(alloc, bytes)?;
+        let (generation, rest) = NonZeroU16::decode(alloc, rest)?;
+        Ok((P3::_from_raw(inx, generation), rest))
+    }
+}
+
+/// Eight bytes.
+impl Codec for SmallPtr {
+    ghost Content = { Pointer };
+
+    ghost content = { λ p. (suc p.0, suc p.1) };
+
+    ghost coding = { pointer (number w32 (2 ^ 32) wide32) (number w32 (2 ^ 32) wide32) };
+
+    fn encode(&self, out: &mut Vec<u8>) -> Result<(), AllocError> {
+        self.inx().encode(out)?;
+        self.generation().encode(out)
+    }
+
+    fn decode(alloc: Global, bytes: &[u8]) -> Result<(Self, &[u8]), DecodeError> {
+        let (inx, rest) = NonZeroU32::decode(alloc, bytes)?;
+        let (generation, rest) = NonZeroU32::decode(alloc, rest)?;
+        Ok((SmallPtr::_from_raw(inx, generation), rest))
+    }
+}
+
+/// Eight bytes.
+impl Codec for P4 {
+    ghost Content = { Pointer };
+
+    ghost content = { λ p. (suc p, 1) };
+
+    ghost coding = { bare_pointer (number w64 (2 ^ 64) wide64) };
+
+    fn encode(&self, out: &mut Vec<u8>) -> Result<(), AllocError> {
+        self.inx().encode(out)
+    }
+
+    fn decode(alloc: Global, bytes: &[u8]) -> Result<(Self, &[u8]), DecodeError> {
+        let (inx, rest) = NonZeroUsize::decode(alloc, bytes)?;
+        Ok((P4::_from_raw(inx, ()), rest))
+    }
+}
+
+/// One byte.
+impl Codec for P5 {
+    ghost Content = { Pointer };
+
+    ghost content = { λ p. (suc p, 1) };
+
+    ghost coding = { bare_pointer byte };
+
+    fn encode(&self, out: &mut Vec<u8>) -> Result<(), AllocError> {
+        self.inx().encode(out)
+    }
+
+    fn decode(alloc: Global, bytes: &[u8]) -> Result<(Self, &[u8]), DecodeError> {
+        let (inx, rest) = NonZeroU8::decode(alloc, bytes)?;
+        Ok((P5::_from_raw(inx, ()), rest))
+    }
+}

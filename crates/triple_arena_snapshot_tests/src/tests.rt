@@ -1,0 +1,5 @@
+//! Values as bytes: each type once, a struct of its user's, bad bytes, and files.
+
+mod bytes;
+mod files;
+mod flip_flop;

@@ -1,0 +1,184 @@
+//! Each type once with ample memory, as a body that always refuses is proved too; and bytes that are
+//! no value's.
+
+use crate::tests::flip_flop::FlipFlop;
+use std::alloc::Global;
+use std::num::{NonZeroU8, NonZeroU16, NonZeroU32, NonZeroU64, NonZeroUsize};
+use std::test::*;
+use triple_arena_base::AllocError;
+use triple_arena_ptr::{P0, P1, P2, P3, P4, P5, Ptr, Q2, SmallPtr};
+use triple_arena_snapshot::{Codec, DecodeError, Fault, from_bytes, to_bytes};
+
+/// What went otherwise.
+#[derive(Debug, Drop)]
+pub enum Unlike {
+    Refused(AllocError),
+    Written(Vec<u8>),
+    Unread(DecodeError),
+    Read,
+}
+
+impl From<AllocError> for Unlike {
+    fn from(refusal: AllocError) -> Unlike {
+        Unlike::Refused(refusal)
+    }
+}
+
+impl From<DecodeError> for Unlike {
+    fn from(refusal: DecodeError) -> Unlike {
+        Unlike::Unread(refusal)
+    }
+}
+
+/// That the value's bytes are these, and that it is read of them.
+fn has_bytes<T: Codec + PartialEq + Drop>(
+    alloc: Global,
+    value: &T,
+    bytes: &[u8],
+) -> Result<(), Unlike> {
+    let written = to_bytes(value, alloc)?;
+    if written.as_slice() != bytes {
+        return Err(Unlike::Written(written));
+    }
+    let read: T = from_bytes(alloc, bytes)?;
+    if read != *value {
+        return Err(Unlike::Read);
+    }
+    Ok(())
+}
+
+/// That bytes are refused for this fault, and how many are left where it is.
+fn is_refused<T: Codec + Drop>(
+    alloc: Global,
+    bytes: &[u8],
+    fault: Fault,
+    left: usize,
+) -> Result<(), Unlike> {
+    match from_bytes::<T>(alloc, bytes) {
+        Ok(_) => Err(Unlike::Read),
+        Err(refusal) if refusal == DecodeError::Malformed(fault, left) => Ok(()),
+        Err(refusal) => Err(Unlike::Unread(refusal)),
+    }
+}
+
+#[test]
+fn each_number_has_its_bytes(rt: HostRuntime) {
+    let alloc = rt.alloc();
+    has_bytes(alloc, &(), &[0]).expect(&rt, "()");
+    has_bytes(alloc, &false, &[0]).expect(&rt, "false");
+    has_bytes(alloc, &true, &[1]).expect(&rt, "true");
+    has_bytes(alloc, &0xabu8, &[0xab]).expect(&rt, "u8");
+    has_bytes(alloc, &0x0102u16, &[2, 1]).expect(&rt, "u16");
+    has_bytes(alloc, &0x01020304u32, &[4, 3, 2, 1]).expect(&rt, "u32");
+    has_bytes(alloc, &0x0102030405060708u64, &[8, 7, 6, 5, 4, 3, 2, 1]).expect(&rt, "u64");
+    has_bytes(alloc, &0x0201usize, &[1, 2, 0, 0, 0, 0, 0, 0]).expect(&rt, "usize");
+    has_bytes(alloc, &NonZeroU8::MIN, &[1]).expect(&rt, "NonZeroU8");
+    has_bytes(alloc, &NonZeroU16::MIN, &[1, 0]).expect(&rt, "NonZeroU16");
+    has_bytes(alloc, &NonZeroU32::MIN, &[1, 0, 0, 0]).expect(&rt, "NonZeroU32");
+    has_bytes(alloc, &NonZeroU64::MIN, &[1, 0, 0, 0, 0, 0, 0, 0]).expect(&rt, "NonZeroU64");
+    has_bytes(alloc, &NonZeroUsize::MIN, &[1, 0, 0, 0, 0, 0, 0, 0]).expect(&rt, "NonZeroUsize");
+}
+
+#[test]
+fn each_pointer_has_its_bytes(rt: HostRuntime) {
+    let alloc = rt.alloc();
+    let wide = (NonZeroUsize::MIN, NonZeroU64::MAX);
+    let byte = NonZeroU8::MAX;
+    has_bytes(
+        alloc,
+        &P0::_from_raw(wide.0, wide.1),
+        &[
+            1, 0, 0, 0, 0, 0, 0, 0, 255, 255, 255, 255, 255, 255, 255, 255,
+        ],
+    )
+    .expect(&rt, "P0");
+    has_bytes(
+        alloc,
+        &Q2::_from_raw(wide.0, wide.1),
+        &[
+            1, 0, 0, 0, 0, 0, 0, 0, 255, 255, 255, 255, 255, 255, 255, 255,
+        ],
+    )
+    .expect(&rt, "Q2");
+    has_bytes(
+        alloc,
+        &P1::_from_raw(NonZeroU16::MIN, wide.1),
+        &[1, 0, 255, 255, 255, 255, 255, 255, 255, 255],
+    )
+    .expect(&rt, "P1");
+    has_bytes(
+        alloc,
+        &P2::_from_raw(wide.0, NonZeroU16::MAX),
+        &[1, 0, 0, 0, 0, 0, 0, 0, 255, 255],
+    )
+    .expect(&rt, "P2");
+    has_bytes(
+        alloc,
+        &P3::_from_raw(NonZeroU16::MIN, NonZeroU16::MAX),
+        &[1, 0, 255, 255],
+    )
+    .expect(&rt, "P3");
+    has_bytes(alloc, &P4::_from_raw(wide.0, ()), &[1, 0, 0, 0, 0, 0, 0, 0]).expect(&rt, "P4");
+    has_bytes(alloc, &P5::_from_raw(byte, ()), &[255]).expect(&rt, "P5");
+    has_bytes(
+        alloc,
+        &SmallPtr::_from_raw(NonZeroU32::MIN, NonZeroU32::MAX),
+        &[1, 0, 0, 0, 255, 255, 255, 255],
+    )
+    .expect(&rt, "SmallPtr");
+}
+
+#[test]
+fn what_holds_values_has_their_bytes(rt: HostRuntime) {
+    let alloc = rt.alloc();
+    has_bytes(alloc, &(1u8, Some(true)), &[1, 1, 1]).expect(&rt, "a pair");
+    has_bytes(alloc, &None::<u8>, &[0]).expect(&rt, "None");
+    let numbers = Vec::from_slice(alloc, &[1u8, 2]).expect(&rt, "memory");
+    has_bytes(alloc, &numbers, &[2, 0, 0, 0, 0, 0, 0, 0, 1, 2]).expect(&rt, "a vector");
+    let text = String::from_str(alloc, "è").expect(&rt, "memory");
+    has_bytes(alloc, &text, &[2, 0, 0, 0, 0, 0, 0, 0, 0xc3, 0xa8]).expect(&rt, "a text");
+    let first = P0::_from_raw(NonZeroUsize::MIN, NonZeroU64::MIN);
+    let flip_flop = FlipFlop {
+        inputs: Vec::from_slice(alloc, &[first]).expect(&rt, "memory"),
+        clock: None,
+        switched: 7,
+    };
+    has_bytes(
+        alloc,
+        &flip_flop,
+        &[
+            1, 0, 0, 0, 0, 0, 0, 0, 1, 0, 0, 0, 0, 0, 0, 0, 1, 0, 0, 0, 0, 0, 0, 0, 0, 7, 0, 0, 0,
+            0, 0, 0, 0,
+        ],
+    )
+    .expect(&rt, "a struct");
+}
+
+#[test]
+fn bad_bytes_are_refused(rt: HostRuntime) {
+    let alloc = rt.alloc();
+    is_refused::<()>(alloc, &[], Fault::Cut, 0).expect(&rt, "no bytes");
+    is_refused::<()>(alloc, &[1, 0], Fault::Flag, 2).expect(&rt, "() isn't 1");
+    is_refused::<bool>(alloc, &[2], Fault::Flag, 1).expect(&rt, "no truth");
+    is_refused::<Option<u8>>(alloc, &[2, 0], Fault::Flag, 2).expect(&rt, "no option");
+    is_refused::<Option<u8>>(alloc, &[1], Fault::Cut, 0).expect(&rt, "nothing behind the flag");
+    is_refused::<u32>(alloc, &[1, 2, 3], Fault::Cut, 3).expect(&rt, "three bytes of four");
+    is_refused::<u8>(alloc, &[1, 2, 3], Fault::Trailing, 2).expect(&rt, "two more");
+    is_refused::<P5>(alloc, &[0], Fault::Zero, 1).expect(&rt, "no index");
+    is_refused::<P3>(alloc, &[1, 0, 0, 0], Fault::Zero, 2).expect(&rt, "no generation");
+    is_refused::<Vec<u8>>(
+        alloc,
+        &[255, 255, 255, 255, 255, 255, 255, 255, 1],
+        Fault::Cut,
+        0,
+    )
+    .expect(&rt, "fewer than the count");
+    is_refused::<String>(alloc, &[2, 0, 0, 0, 0, 0, 0, 0, 0xc3], Fault::Cut, 1).expect(
+        &rt,
+        "half a letter",
+    );
+    is_refused::<String>(alloc, &[1, 0, 0, 0, 0, 0, 0, 0, 0xc3, 1], Fault::Text, 2).expect(
+        &rt,
+        "no letter",
+    );
+}

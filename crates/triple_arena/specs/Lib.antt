@@ -1,5 +1,6 @@
 -- Read first: InsertEntry; of what is handed on ArenaState, Insertion, Ending and Histories.
 pub mod InsertEntry
+pub mod Restored
 pub mod laws
 -- What clauses of callers name of the inner crates behind this door: what an arena is, and its slots.
 pub use Rattle.triple_arena_traits.specs.Items

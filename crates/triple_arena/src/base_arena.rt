@@ -19,6 +19,7 @@ ghost use Rattle.triple_arena_traits.specs.FreeList.{tidied, without_free_end, I
 ghost use Rattle.triple_arena_traits.specs.Reallocation.{reallocated, KeepsRoom, grown};
 ghost use Rattle.triple_arena_slots.specs.Slot.{entry_of};
 ghost use Rattle.triple_arena_slots.specs.Layout.{IsLinked};
+ghost use Rattle.triple_arena.specs.Restored.{arena_over};
 ghost use Rattle.triple_arena_traits.specs.Values.{with_values_of};
 ghost use Rattle.triple_arena_traits.specs.Lent.{lends_values};
 ghost use Rattle.triple_arena_traits.specs.Histories.{History, resizing, invalidation, removal, remains, Fits, Continues, CountsUp};
@@ -38,7 +39,7 @@ use triple_arena_ptr::{Ptr, PtrGen, PtrInx};
 use triple_arena_slots::{ArenaSlot, Slots};
 use triple_arena_stack::{NonZeroInxGenericStack, NonZeroInxVec};
 use triple_arena_traits::answers::{told, told_valid};
-use triple_arena_traits::entry_slots::{first_live, last_live, ptr_at};
+use triple_arena_traits::entry_slots::{count_live, first_live, last_live, ptr_at};
 use triple_arena_traits::{ArenaInsertTrait, ArenaTrait, EntrySlot, LendingArena, LentSlots};
 
 /// A generational arena over a stack of slots.
@@ -544,6 +545,30 @@ impl<P: Ptr, T, S: NonZeroInxGenericStack<ArenaSlot<P, T>>> Arena<P, T, S> {
             slots: Slots::over(stack),
             len: 0,
             counter: P::Gen::two(),
+        }
+    }
+
+    /// An arena over a stack whose slots stand, each free or with an entry, with this counter and
+    /// the free indexes in this order: with the stack's room and limit. Whatever the free slots link
+    /// to is linked anew. It takes no memory, and looks at each slot.
+    ///
+    /// The generation of an entry may be past the counter, as it is once the counter wrapped or was
+    /// set.
+    pub fn over_slots(stack: S, counter: P::Gen, free: &[NonZeroUsize]) -> Self
+        requires { IsWellFormed (arena_over (map (entry_of P.Gen.number) (S.items stack))
+            (P.Gen.number counter) (map non_zero_usize_get free.now) (S.room stack)
+            (S.limit stack) (greatest_index P.Inx.greatest)) }
+        ensures { IsTouched (arena_over (map (entry_of P.Gen.number) (S.items stack))
+            (P.Gen.number counter) (map non_zero_usize_get free.now) (S.room stack)
+            (S.limit stack) (greatest_index P.Inx.greatest)) result }
+    {
+        let len = count_live::<P, T, ArenaSlot<P, T>, S>(&stack);
+        let mut slots = Slots::over(stack);
+        slots.link(free);
+        Arena {
+            slots,
+            len,
+            counter,
         }
     }
 

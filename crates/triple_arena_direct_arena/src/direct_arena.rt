@@ -17,7 +17,7 @@ ghost use Rattle.triple_arena_traits.specs.DirectInsertion.{IsVacant};
 ghost use Rattle.triple_arena_traits.specs.DisjointEntries.{value_of, DisjointPtrAnswer, DisjointInxAnswer, MayWorkAtEntries, WorkedAtEntries};
 ghost use Rattle.triple_arena_traits.specs.FreeList.{last_index};
 ghost use Rattle.triple_arena_stack.specs.Disjoint.{DisjointAnswer, MayWork, Worked};
-ghost use Rattle.triple_arena_direct_arena.specs.DirectState.{DirectState, new_direct, generation_of, direct_slot_count, direct_len, direct_capacity, SlotsFit, direct_with_value, inserted_at, direct_removed, direct_cleared, direct_shortened, direct_with_room_for, direct_reallocated, direct_with_limit};
+ghost use Rattle.triple_arena_direct_arena.specs.DirectState.{DirectState, new_direct, generation_of, direct_slot_count, direct_len, direct_capacity, SlotsFit, direct_with_value, inserted_at, direct_removed, direct_cleared, direct_shortened, direct_with_room_for, direct_reallocated, direct_with_slots, direct_with_limit};
 ghost use Rattle.triple_arena_traits.specs.Lent.{lends_values};
 ghost use Rattle.triple_arena_direct_arena.specs.DirectValues.{direct_with_values_of};
 ghost use Rattle.triple_arena_direct_arena.specs.DirectSlot.{direct_slot_entry};
@@ -39,7 +39,7 @@ use triple_arena_base::{
 use triple_arena_ptr::{Ptr, PtrGen, PtrInx};
 use triple_arena_stack::{NonZeroInxGenericStack, NonZeroInxVec, SetMaxCapacity};
 use triple_arena_traits::entry_slots::{
-    first_live, last_live, ptr_at, shorten, slot_at, work_on_two,
+    count_live, first_live, last_live, ptr_at, shorten, slot_at, work_on_two,
 };
 use triple_arena_traits::pair_call::{AtEntries, AtValues, PairCall};
 use triple_arena_traits::{
@@ -533,6 +533,22 @@ impl<P: Ptr, T, S: NonZeroInxGenericStack<DirectSlot<P, T>>> DirectArena<P, T, S
         DirectArena {
             slots: Slots::over(stack),
             len: 0,
+        }
+    }
+
+    /// An arena over a stack whose slots stand, each free or with an entry: with its room and its
+    /// limit. It takes no memory, and looks at each slot.
+    pub fn over_slots(stack: S) -> Self
+        requires { length (S.items stack) ≤ greatest_index P.Inx.greatest }
+        ensures { result ≡ direct_with_slots (new_direct (S.room stack) (S.limit stack)
+            (greatest_index P.Inx.greatest)) (map (direct_slot_entry P.Gen.number) (S.items stack)) }
+    {
+        // By its clause, there are no more items.
+        let _capacity = stack.capacity();
+        let len = count_live::<P, T, DirectSlot<P, T>, S>(&stack);
+        DirectArena {
+            slots: Slots::over(stack),
+            len,
         }
     }
 

@@ -2,6 +2,7 @@ pub mod TwoWay
 pub mod Links
 pub mod Unlinking
 pub mod Tidying
+pub mod Linking
 pub mod FreeEnd
 pub mod Compaction
 pub mod Refused

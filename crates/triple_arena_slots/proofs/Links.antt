@@ -56,7 +56,7 @@ module _ {T : Type 0} where
 
 module _ {P T I G : Type 0} where
   -- the chain from a link is the list that it links
-  chain_from : (es : List (ArenaSlot P T I G)) (fuel : ℕ) (last from : Option ℕ) (free : List ℕ) → length free ≤ fuel → Linked (after es) (before es) last from free → chain es fuel from ≡ free
+  pub chain_from : (es : List (ArenaSlot P T I G)) (fuel : ℕ) (last from : Option ℕ) (free : List ℕ) → length free ≤ fuel → Linked (after es) (before es) last from free → chain es fuel from ≡ free
   chain_from es zero last from [] fits linked = refl
   chain_from es (suc fuel) last from [] fits linked = rw linked refl
   chain_from es zero last from (i ∷ rest) fits linked = absurd (omega arith)

@@ -20,7 +20,7 @@ times_head i rest = omega (arith, count_head i rest)
 times_rest : (i j : ℕ) (rest : List ℕ) → times j rest ≤ times j (i ∷ rest)
 times_rest i j rest = omega (arith, sum_by-cons (λ k. cond (k == j) 1 0) i rest)
 
-times-append : (j : ℕ) (xs ys : List ℕ) → times j (xs ++ ys) ≡ times j xs + times j ys
+pub times-append : (j : ℕ) (xs ys : List ℕ) → times j (xs ++ ys) ≡ times j xs + times j ys
 times-append j xs ys = sum_by-append (λ k. cond (k == j) 1 0) xs ys
 
 -- the same links along a list keep it

@@ -1,6 +1,6 @@
 //! The steps of an arena, as its slots take them, and the free list that runs through them.
 
-ghost use Rattle.std.specs.Prelude.{◌≡◌, ◌≢◌, ◌<◌, ◌≤◌, ◌+◌, ◌*◌, ◌-◌, ◌^◌, ℕ, map, length, Some, None, is_some, IsSome, IfSome};
+ghost use Rattle.std.specs.Prelude.{◌≡◌, ◌≢◌, ◌<◌, ◌≤◌, ◌+◌, ◌*◌, ◌-◌, ◌^◌, ◌==◌, ℕ, cond, count_by, map, length, Some, None, is_some, IsSome, IfSome};
 ghost use Rattle.std.specs.Int.NonZero.{non_zero_usize_get};
 ghost use Rattle.std.specs.Option.{option_map};
 ghost use Rattle.triple_arena_ptr.specs.Numbers.{greatest_index};
@@ -207,6 +207,28 @@ impl<P: Ptr, T, S: NonZeroInxGenericStack<ArenaSlot<P, T>>> Slots<P, T, S> {
                 self.free(inx).discard();
             }
             next = index_of(inx.get() - 1);
+        }
+    }
+
+    /// Links the free slots in this order, which has the index of each once.
+    pub fn link(&mut self, free: &[NonZeroUsize])
+        requires indexed { length (S.items self.old.slots.stack) ≤ greatest_index P.Inx.greatest }
+        requires once { (i : ℕ) → count_by (λ j. j == i) (map non_zero_usize_get free.now)
+            ≡ cond (is_free (item (map (entry_of P.Gen.number) (S.items self.old.slots.stack)) i))
+            1 0 }
+        ensures slots { map (entry_of P.Gen.number) (S.items self.new.slots.stack)
+            ≡ map (entry_of P.Gen.number) (S.items self.old.slots.stack) }
+        ensures linked { IsLinked (S.items self.new.slots.stack)
+            (option_map non_zero_usize_get self.new.root) (map non_zero_usize_get free.now) }
+        ensures room { S.room self.new.slots.stack ≡ S.room self.old.slots.stack }
+        ensures limit { S.limit self.new.slots.stack ≡ S.limit self.old.slots.stack }
+        ensures steps { self.old.slots.steps.count ≤ self.new.slots.steps.count }
+    {
+        self.root = None;
+        let mut at = free.len();
+        'links: while at > 0 {
+            at -= 1;
+            self.free(free[at]).discard();
         }
     }
 

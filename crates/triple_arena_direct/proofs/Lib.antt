@@ -9,6 +9,7 @@ mod FollowedBoth
 mod Relations
 mod Retained
 mod Extended
+mod MapValues
 pub mod StrictAnswers
 mod StrictSteps
 mod StrictRetaining

@@ -6,6 +6,7 @@ mod errors;
 mod extending;
 mod indexing;
 mod lending_arena;
+mod map_values;
 pub mod prelude;
 mod ptr_kind;
 mod reading;
@@ -20,6 +21,7 @@ mod three_parts;
 
 pub use errors::{CompactBothError, StrictCompactBothError, StrictCompactError, StrictError};
 pub use extending::{extend, from_iter};
+pub use map_values::{recast_hash_values, recast_values};
 pub use ptr_kind::PtrKind;
 pub use reading::Reading;
 pub use renaming::{compress_recast, compress_recast_with, compress_recaster, unresolved};

@@ -1,7 +1,7 @@
 //! Laws of renaming: how holders follow a compaction, arenas among them, and what is read of values.
 
 ghost use Rattle.std.specs.Prelude.{◌≡◌, ◌++◌, ℕ, List, [], Contains, Option, None, Some, IsSome, Ok};
-ghost use Rattle.std.specs.Option.{option_map, unwrap_or};
+ghost use Rattle.std.specs.Option.{option_map, option_and_then, unwrap_or};
 ghost use Rattle.triple_arena_base.specs.Held.{held_all, recast_items, recast_answer};
 ghost use Rattle.triple_arena_ptr.specs.Pointers.{Pointer};
 ghost use Rattle.triple_arena_traits.specs.Entries.{look_up, entry_count};
@@ -58,6 +58,42 @@ pub fn image_found<P: Ptr, T>()
         (images : List (Option (ℕ × P))) → MapsPointers P.numbers rename slots images
         → (p : P) → P.numbers (unwrap_or (look_up images (P.numbers p)) p)
         ≡ renamed_if_live rename slots (P.numbers p) }
+{}
+
+/// Names follow: where a name leads by a pointer that was recast by the map of a compaction, as
+/// [`recast_values`](crate::recast_values) does it, it leads to the new pointer of its entry, or, where
+/// that was gone before, to where it led (`led`). What was read under the name, of an entry that was
+/// there, is read under it, if it is none of the pointers that values hold: of a cell its kind (`read`).
+pub fn names_follow<P: Ptr, T: Recast<P>, R>()
+    ensures led { (rename : Pointer → Pointer) (slots : List (Option (ℕ × T)))
+        (images : List (Option (ℕ × P))) → MapsPointers P.numbers rename slots images
+        → (before after : Option P) → after ≡ option_map (λ p. P.refill p
+        (recast_items (λ q. look_up images (P.numbers q)) (P.held p))) before
+        → option_map P.numbers after
+        ≡ option_map (renamed_if_live rename slots) (option_map P.numbers before) }
+    ensures read { (read : T → R) → ((v : T) (ps : List P) → read (T.refill v ps) ≡ read v)
+        → (rename : Pointer → Pointer) (slots news : List (Option (ℕ × T)))
+        → ((p : Pointer) → IsSome (look_up slots p) → IsFoundRenamed P.numbers rename
+        T.held T.refill (look_up slots p) (look_up news (rename p)))
+        → (led : Option Pointer) (value : R)
+        → option_and_then (λ p. option_map read (look_up slots p)) led ≡ Some value
+        → option_and_then (λ p. option_map read (look_up news p))
+        (option_map (renamed_if_live rename slots) led) ≡ Some value }
+{}
+
+/// So is what is read under a name after a compaction of two arenas that point at each other.
+pub fn names_follow_both<P: Ptr, Q: Ptr, T: Recast<P> + Recast<Q>, R>()
+    ensures { (read : T → R) → ((v : T) (ps : List P) (qs : List Q)
+        → read (⟦<T as Recast<Q>>⟧.refill (⟦<T as Recast<P>>⟧.refill v ps) qs) ≡ read v)
+        → (rename rename_too : Pointer → Pointer) (slots news : List (Option (ℕ × T)))
+        → ((p : Pointer) → IsSome (look_up slots p) → IsFoundRenamedBoth
+        P.numbers rename ⟦<T as Recast<P>>⟧.held ⟦<T as Recast<P>>⟧.refill
+        Q.numbers rename_too ⟦<T as Recast<Q>>⟧.held ⟦<T as Recast<Q>>⟧.refill
+        (look_up slots p) (look_up news (rename p)))
+        → (led : Option Pointer) (value : R)
+        → option_and_then (λ p. option_map read (look_up slots p)) led ≡ Some value
+        → option_and_then (λ p. option_map read (look_up news p))
+        (option_map (renamed_if_live rename slots) led) ≡ Some value }
 {}
 
 /// Arenas are holders, as their values are: one whose pointers of another arena were renamed has the

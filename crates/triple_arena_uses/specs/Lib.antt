@@ -7,6 +7,7 @@ pub mod Guests
 pub mod Holders
 pub mod Labels
 pub mod Names
+pub mod NamesBesideTwo
 pub mod Notes
 pub mod Netlist
 pub mod Office

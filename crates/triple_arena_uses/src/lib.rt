@@ -19,6 +19,7 @@ pub mod labels;
 pub mod leases;
 pub mod links;
 pub mod moving;
+pub mod names_beside_two;
 pub mod netlist;
 pub mod office;
 pub mod ports;

@@ -1,3 +1,5 @@
+pub mod Entering
+pub mod Exchanging
 pub mod Leasing
 pub mod Mapping
 pub mod Naming

@@ -1,5 +1,5 @@
 -- The tickets of leases.
-use Rattle.std.specs.Prelude.{ℕ, suc, ◌-◌, ◌^◌, ◌==◌, Bool, true, cond}
+use Rattle.std.specs.Prelude.{ℕ, suc, ◌+◌, ◌-◌, ◌*◌, ◌^◌, ◌==◌, Bool, true, cond}
 use Rattle.triple_arena_ptr.specs.Numbers.{counting_to}
 use Rattle.triple_arena_ptr.specs.Pointers.{Pointer}
 use Rattle.triple_arena.specs.ArenaState.{ArenaState}
@@ -23,3 +23,11 @@ anew leases = rank leases 2
 -- a lease, handed from one holder to another, if it is that one's
 abbrev pub handed : (from to : ℕ) → Lease → Lease
 handed from to lease = record lease { holder = cond (lease.holder == from) to lease.holder }
+
+-- the number of an item that is numbered by the ticket of its lease: the index, and then a byte, the generation
+abbrev pub number_of : Pointer → ℕ
+number_of ticket = ticket.0 * 256 + ticket.1
+
+-- a lease, in the hands of another's holder
+abbrev pub in_hands_of : Lease → Lease → Lease
+in_hands_of other lease = record lease { holder = other.holder }

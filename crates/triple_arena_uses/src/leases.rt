@@ -1,6 +1,6 @@
 //! A registry of leases, each under a ticket that is never valid again once its lease has ended.
 
-ghost use Rattle.std.specs.Prelude.{◌≡◌, ◌≢◌, ◌<◌, ◌+◌, List, map, None, Some, false, IsSome, IsOk, IfOk, OnOk, OnErr, option_copied};
+ghost use Rattle.std.specs.Prelude.{◌≡◌, ◌≢◌, ◌<◌, ◌+◌, ◌^◌, List, map, None, Some, false, IsSome, IsOk, IfOk, OnOk, OnErr, option_copied};
 ghost use Rattle.std.specs.Result.{IfErr};
 ghost use Rattle.std.proofs.Common.{refl};
 ghost use Rattle.triple_arena_base.specs.Held.{held_nothing, refill_nothing};
@@ -10,20 +10,22 @@ ghost use Rattle.triple_arena.specs.Entries.{look_up};
 ghost use Rattle.triple_arena.specs.ArenaState.{arena_len, capacity, with_value};
 ghost use Rattle.triple_arena.specs.Recasting.{written};
 ghost use Rattle.triple_arena.specs.SlotSteps.{RisesByAtMost, IsTouched};
+ghost use Rattle.triple_arena.specs.DisjointEntries.{DisjointPtrAnswer};
 ghost use Rattle.triple_arena.specs.Walks.{entries, keys};
 ghost use Rattle.triple_arena_direct.specs.Gone.{IsGoneForGood};
 ghost use Rattle.triple_arena_direct.specs.Renaming.{first_unresolved, Refuses, IsUnresolved};
 ghost use Rattle.triple_arena_direct.specs.StrictAnswers.{strict_of};
-ghost use Rattle.triple_arena_uses.specs.Tickets.{ticket_numbers, are_used_up, anew, handed};
+ghost use Rattle.triple_arena_uses.specs.Tickets.{ticket_numbers, are_used_up, anew, handed, number_of, in_hands_of};
 
 use crate::ticket::Ticket;
 use std::alloc::Global;
 use std::marker::Model;
-use triple_arena::Arena;
 use triple_arena::arena_iterators::Ptrs;
-use triple_arena_base::{CompactError, ReallocationError, Recast, Recaster};
+use triple_arena::{Arena, ArenaInsertEntryTrait};
+use triple_arena_base::{CompactError, GetDisjointMutError, ReallocationError, Recast, Recaster};
 use triple_arena_direct::renaming_laws::holders_follow;
 use triple_arena_direct::{StrictArena, StrictError, renew, unresolved};
+use triple_arena_ptr::Ptr;
 
 /// What is leased, and to whom.
 #[derive(Clone, Copy, PartialEq, Eq, Debug)]
@@ -58,6 +60,13 @@ impl Recast<Ticket> for Lease {
     ghost refill_held = { λ _. refl };
 
     ghost refill_refill = { λ _ _ _ _ _. refl };
+}
+
+// The number of a ticket.
+fn item_number(ticket: Ticket) -> u64
+    ensures { result ≡ number_of (ticket_numbers ticket) }
+{
+    u64::from(ticket.inx().get()) * 256 + u64::from(ticket.generation().get())
 }
 
 /// A registry of leases. Whoever keeps the ticket of a lease that has ended finds nothing by it, for
@@ -111,6 +120,38 @@ impl Leases {
         self.leases.insert(lease)
     }
 
+    /// A new lease of an item that has no number yet, and its ticket. The item gets the number of that very
+    /// ticket (`number_of`), which no other ticket has; so until the registry is renewed, no item gets a
+    /// number twice.
+    ///
+    /// Refused as [`Self::issue`]; then nothing changes.
+    pub fn issue_numbered(&mut self, holder: u32) -> Result<Ticket, ReallocationError>
+        ensures found { IfOk result (λ ticket. look_up self.new.slots (ticket_numbers ticket)
+            ≡ Some (record { item = number_of (ticket_numbers ticket); holder = holder })) }
+        ensures number { IfOk result (λ ticket. (q : Pointer) → q.1 < 2 ^ 8
+            → number_of q ≡ number_of (ticket_numbers ticket) → q ≡ ticket_numbers ticket) }
+        ensures free { IfOk result (λ ticket. look_up self.old.slots (ticket_numbers ticket)
+            ≡ None) }
+        ensures new { IfOk result
+            (λ ticket. (q : Pointer) → IsGoneForGood self.old q → ticket_numbers ticket ≢ q) }
+        ensures others { IfOk result (λ ticket. (q : Pointer) → q ≢ ticket_numbers ticket
+            → look_up self.new.slots q ≡ look_up self.old.slots q) }
+        ensures stays_gone { (q : Pointer) → IsGoneForGood self.old q → IsGoneForGood self.new q }
+        ensures counter { self.new.counter ≡ self.old.counter }
+        ensures had_place { arena_len self.old < capacity self.old → IsOk result }
+        ensures refused { OnErr result (self.new ≡ self.old) }
+    {
+        match self.leases.entry_insert() {
+            Ok(place) => {
+                let ticket = place.ptr();
+                let item = item_number(ticket);
+                place.insert(Lease { item, holder });
+                Ok(ticket)
+            }
+            Err(refusal) => Err(refusal),
+        }
+    }
+
     /// The lease of a ticket; none exactly where it has ended, or the ticket was never issued.
     pub fn redeem(&self, ticket: Ticket) -> Option<&Lease>
         ensures { option_copied result ≡ look_up self.now.slots (ticket_numbers ticket) }
@@ -154,6 +195,32 @@ impl Leases {
     {
         self.leases
             .for_each_mut(|_ticket, lease| lease.pass_on(from, to));
+    }
+
+    /// Exchanges the holders of two leases. Both keep their tickets and their items.
+    ///
+    /// `IndexOutOfBounds` where either ticket has no lease, `OverlappingIndices` where the tickets are one
+    /// that has a lease. Then nothing changes.
+    pub fn swap_holders(&mut self, first: Ticket, second: Ticket) -> Result<(), GetDisjointMutError>
+        ensures variant { DisjointPtrAnswer self.old.slots
+            (ticket_numbers first) (ticket_numbers second) result }
+        ensures first { OnOk result ((one other : Lease)
+            → look_up self.old.slots (ticket_numbers first) ≡ Some one
+            → look_up self.old.slots (ticket_numbers second) ≡ Some other
+            → look_up self.new.slots (ticket_numbers first) ≡ Some (in_hands_of other one)) }
+        ensures second { OnOk result ((one other : Lease)
+            → look_up self.old.slots (ticket_numbers first) ≡ Some one
+            → look_up self.old.slots (ticket_numbers second) ≡ Some other
+            → look_up self.new.slots (ticket_numbers second) ≡ Some (in_hands_of one other)) }
+        ensures others { (q : Pointer) → q ≢ ticket_numbers first → q ≢ ticket_numbers second
+            → look_up self.new.slots q ≡ look_up self.old.slots q }
+        ensures stays_gone { (q : Pointer) → IsGoneForGood self.old q → IsGoneForGood self.new q }
+        ensures counter { self.new.counter ≡ self.old.counter }
+        ensures refused { OnErr result (self.new ≡ self.old) }
+    {
+        self.leases.with_disjoint_mut(first, second, |one, other| {
+            std::mem::swap(&mut one.holder, &mut other.holder);
+        })
     }
 
     /// The same leases in another registry, whose tickets aren't used up: the leases get new tickets, and

@@ -1,9 +1,7 @@
 pub mod Reading
 pub mod Tying
-pub mod Results
 pub mod Moving
 pub mod Cutting
 pub mod Joints
 pub mod Thinning
 pub mod Written
-pub mod Telling

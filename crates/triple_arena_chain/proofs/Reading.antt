@@ -28,17 +28,6 @@ module _ {P T : Type 0} (numbers : P → Pointer) where
           ∙ sym (ap (option_map change) (ap (look_up (node_slots numbers slots)) here ∙ read_link slots (numbers at) ∙ ap (option_map (node_of numbers)) is))
       by_same false e = ap (option_map (node_of numbers)) (written_elsewhere slots (numbers at) link new is q (λ same. true≢false (sym (same_itself (numbers at)) ∙ ap (λ r. is_same r (numbers at)) (sym same) ∙ e))) ∙ sym (read_link slots q)
 
-  -- of a pointer that finds nothing there is nothing to change
-  pub changed_nothing : (slots : List (Option (ℕ × Link P T))) (at : P) (change : Node T → Node T) → look_up slots (numbers at) ≡ None
-      → (q : Pointer) → look_up (node_slots numbers slots) q ≡ changed (Some (numbers at)) change q (look_up (node_slots numbers slots) q)
-  changed_nothing slots at change none q = by_same (is_same q (numbers at)) refl
-    where
-      by_same : (b : Bool) → is_same q (numbers at) ≡ b → look_up (node_slots numbers slots) q ≡ cond b (option_map change (look_up (node_slots numbers slots) q)) (look_up (node_slots numbers slots) q)
-      by_same true e =
-          let nothing : look_up (node_slots numbers slots) q ≡ None = ap (look_up (node_slots numbers slots)) (same_is q (numbers at) e) ∙ read_link slots (numbers at) ∙ ap (option_map (node_of numbers)) none in
-          nothing ∙ sym (ap (option_map change) nothing)
-      by_same false e = refl
-
   -- where two slots find the same under a pointer, so do they with their links as they are read
   pub same_link : (old new : List (Option (ℕ × Link P T))) (r : Pointer) → look_up new r ≡ look_up old r → look_up (node_slots numbers new) r ≡ look_up (node_slots numbers old) r
   same_link old new r same = read_link new r ∙ ap (option_map (node_of numbers)) same ∙ sym (read_link old r)

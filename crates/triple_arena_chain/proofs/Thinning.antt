@@ -5,6 +5,7 @@ use Rattle.triple_arena_ptr.specs.Pointers.{Pointer}
 use Rattle.triple_arena_chain.specs.Chains.{Node, after_at, before_at, IsLinked, IsRemoved, IsRun, LeadsTo, IsOfChain, IsChainRemoved, IsAlone, IsBeside}
 use Rattle.triple_arena_chain.specs.laws.LinkLaws.{pointer_cases, leads_cases, same_pointer, leads_back_there, leads_on_there}
 use Rattle.triple_arena_chain.specs.laws.NodeLaws.{not_there, valued, unvalued, same_node}
+use Rattle.triple_arena_chain.specs.laws.RunLaws.{runs_on}
 
 module _ {T : Type 0} where
   -- of a pointer's chain some entries are gone, and the others are of one chain still; every other pointer finds what it found
@@ -15,13 +16,6 @@ module _ {T : Type 0} where
 
   pub thinned_none : (old : Pointer → Option (Node T)) (p : Pointer) → IsThinned old p old
   thinned_none old p = record { part = λ q of. of; rest = λ q of. inr of; others = λ q other. refl }
-
-  -- one run goes on with another
-  runs_on : (nodes : Pointer → Option (Node T)) (xs : List Pointer) (y : Pointer) (ys : List Pointer) (rest : Option Pointer)
-      → IsRun nodes xs (Some y) → IsRun nodes (y ∷ ys) rest → IsRun nodes (xs ++ y ∷ ys) rest
-  runs_on nodes [] y ys rest run more = more
-  runs_on nodes (x ∷ []) y ys rest run more = (run.0, run.1, more)
-  runs_on nodes (x ∷ z ∷ xs) y ys rest run more = (run.0, run.1, runs_on nodes (z ∷ xs) y ys rest run.2 more)
 
   leads_over : (nodes : Pointer → Option (Node T)) (x y z : Pointer) → LeadsTo nodes x y → LeadsTo nodes y z → LeadsTo nodes x z
   leads_over nodes x y z on more = (on.0 ++ y ∷ more.0, runs_on nodes (x ∷ on.0) y more.0 (Some z) on.1 more.1)

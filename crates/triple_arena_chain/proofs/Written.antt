@@ -1,6 +1,5 @@
 -- Chains in which a value is written.
-use Rattle.std.proofs.Common.{◌≡◌, ◌⊎◌, ℕ, List, inl, Option, Some, None, refl, sym, ap, ◌∙◌}
-use Rattle.std.proofs.Math.Path.{fun_ext}
+use Rattle.std.proofs.Common.{◌≡◌, ℕ, List, Option, Some, None, refl, sym, ap, ◌∙◌}
 use Rattle.std.specs.Option.{option_map, option_and_then}
 use Rattle.triple_arena_ptr.specs.Pointers.{Pointer}
 use Rattle.triple_arena.specs.ArenaState.{map_entry}
@@ -13,13 +12,6 @@ use Rattle.triple_arena_chain.specs.Chains.{Node, node_of, node_slots, value_at,
 use Rattle.triple_arena_chain.specs.laws.LinkLaws.{same_pointer}
 use Rattle.triple_arena_chain.proofs.Reading.{read_link, changed_link}
 use Rattle.triple_arena_chain.proofs.Tying.{kept, there, elsewhere}
-
--- one loan ends as another where it does so at each value
-pub lends_alike : {N T S : Type 0} (name : N) (F G : T → S) → ((w : T) → F w ≡ G w) → ◌≡◌ {A = (N × (T → S)) ⊎ S} (inl (name, F)) (inl (name, G))
-lends_alike {N = N} {T = T} {S = S} name F G same = ap (ended N T S name) (fun_ext same)
-  where
-    ended : (N T S : Type 0) → N → (T → S) → (N × (T → S)) ⊎ S
-    ended N T S name H = inl (name, H)
 
 module _ {T : Type 0} (old new : Pointer → Option (Node T)) (p : Pointer) (value : T)
     (written : (q : Pointer) → new q ≡ changed (Some p) (with_value value) q (old q)) where

@@ -11,6 +11,7 @@ ghost use Rattle.triple_arena_stack.specs.StackKind.{new_room, new_limit};
 ghost use Rattle.triple_arena.specs.Ending.{told};
 ghost use Rattle.triple_arena.specs.Entries.{entry_count};
 ghost use Rattle.triple_arena.specs.Histories.{History, insertion, removal, remains, CountsUp, Continues};
+ghost use Rattle.triple_arena_chain.specs.Endings.{EndsAt};
 ghost use Rattle.triple_arena_chain.specs.Chains.{Node, nodes, value_at, before_at, after_at, IsLinked, place_at, place_before, place_after, IsInserted, IsRemoved, IsRefusedRoom};
 
 use crate::link::Link;
@@ -211,6 +212,8 @@ impl<P: Ptr, T, A: CompactArenaTrait<P, Link<P, T>> + ArenaInsertTrait<P, Link<P
             ≡ told (A.ending_wraps self.old.arena) (allowed_option answer)) }
         ensures removed { OnOk result
             (IsRemoved (nodes self.old) (P.numbers p) (nodes self.new)) }
+        ensures ended { OnOk result
+            (EndsAt A.removes A.with_value self.old.arena (P.numbers p).0 self.new.arena) }
         ensures len { OnOk result (self.new.len + 1 ≡ self.old.len) }
         ensures capacity { self.new.capacity ≡ self.old.capacity }
         ensures limit { self.new.limit ≡ self.old.limit }

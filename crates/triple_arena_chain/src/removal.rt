@@ -6,6 +6,7 @@ ghost use Rattle.std.specs.Result.{IfErr};
 ghost use Rattle.triple_arena_base.specs.Invalidation.{allowed_option, is_success_option};
 ghost use Rattle.triple_arena_ptr.specs.Pointers.{Pointer, is_same};
 ghost use Rattle.triple_arena.specs.Histories.{removal, CountsUp, Continues};
+ghost use Rattle.triple_arena_chain.specs.Endings.{EndsAt, EndInTurn};
 ghost use Rattle.triple_arena_chain.specs.Chains.{nodes, IsLinked, IsAlone, IsBeside, IsRemoved, IsChainRemoved};
 
 use crate::chains::Chains;
@@ -21,8 +22,8 @@ impl<P: Ptr, T, A: CompactArenaTrait<P, Link<P, T>> + ArenaInsertTrait<P, Link<P
     T,
     A,
 > {
-    /// Takes out every entry of a pointer's chain, open or a ring, and gives how many those were. The
-    /// answer tells a wrap of the arena's counter where one of these removals wraps it.
+    /// Takes out every entry of a pointer's chain, open or a ring, and gives how many those were.
+    /// `GenerationOverflow` exactly where one of these removals wraps the arena's counter (`wrap`).
     ///
     /// `NoEntry` exactly where the pointer finds nothing; then nothing changes.
     pub fn remove_chain(&mut self, p: P) -> Result<InvalidationOption<usize>, ChainError>
@@ -32,6 +33,9 @@ impl<P: Ptr, T, A: CompactArenaTrait<P, Link<P, T>> + ArenaInsertTrait<P, Link<P
             (IsChainRemoved (nodes self.old) (P.numbers p) (nodes self.new)) }
         ensures len { IfOk result
             (λ answer. self.new.len + allowed_option answer ≡ self.old.len) }
+        ensures wrap { IfOk result (λ answer. (gone : List Pointer)
+            × EndInTurn A.removes A.with_value A.ending_wraps self.old.arena gone
+            (not (is_success_option answer)) self.new.arena) }
         ensures capacity { self.new.capacity ≡ self.old.capacity }
         ensures limit { self.new.limit ≡ self.old.limit }
         ensures no_entry { (result ≡ Err ChainError.NoEntry)
@@ -65,6 +69,7 @@ impl<P: Ptr, T, A: CompactArenaTrait<P, Link<P, T>> + ArenaInsertTrait<P, Link<P
         ensures capacity { self.new.capacity ≡ self.old.capacity }
         ensures limit { self.new.limit ≡ self.old.limit }
         ensures wrapped { result ≡ A.ending_wraps self.old.arena }
+        ensures ended { EndsAt A.removes A.with_value self.old.arena (P.numbers p).0 self.new.arena }
         ensures history { CountsUp P.Gen.generations result
             → Continues A.fits self.old.arena (removal (P.numbers p) ∷ []) self.new.arena }
     {

@@ -1,6 +1,6 @@
 //! Steps on the links of an arena. Of neighbours that lead to each other they know nothing.
 
-ghost use Rattle.std.specs.Prelude.{◌≡◌, ◌≢◌, ◌≤◌, ◌<◌, ◌↔◌, ◌+◌, [], ◌∷◌, None, Some, Err, IsOk, IsSome, IfOk, OnOk, OnErr};
+ghost use Rattle.std.specs.Prelude.{◌≡◌, ◌≢◌, ℕ, ◌≤◌, ◌<◌, ◌↔◌, ◌+◌, List, [], ◌∷◌, None, Some, Err, IsOk, IsSome, IfOk, OnOk, OnErr};
 ghost use Rattle.std.specs.Option.{option_map};
 ghost use Rattle.std.specs.Result.{IfErr};
 ghost use Rattle.triple_arena_base.specs.Invalidation.{allowed_option};
@@ -11,6 +11,7 @@ ghost use Rattle.triple_arena.specs.Ending.{told};
 ghost use Rattle.triple_arena.specs.Entries.{look_up, entry_count};
 ghost use Rattle.triple_arena.specs.Histories.{insertion, removal, CountsUp, Continues};
 ghost use Rattle.triple_arena_chain.specs.Chains.{node_slots, value_at, changed, with_after, with_before, IsThere, IsInserted, IsRemoved, IsLinked, IsRefusedRoom};
+ghost use Rattle.triple_arena_chain.specs.Endings.{with_values, EndsAt};
 
 use crate::link::Link;
 use crate::place::ChainError;
@@ -38,6 +39,8 @@ pub(crate) fn lead_on<P: Ptr, T, A: ArenaTrait<P, Link<P, T>>>(
     ensures len { entry_count (A.slots arena.new) ≡ entry_count (A.slots arena.old) }
     ensures capacity { A.capacity arena.new ≡ A.capacity arena.old }
     ensures limit { A.limit arena.new ≡ A.limit arena.old }
+    ensures written { (writes : List (ℕ × Link P T))
+        × (arena.new ≡ with_values A.with_value arena.old writes) }
     ensures history { Continues A.fits arena.old [] arena.new }
 {
     let Some(at) = at else {
@@ -62,6 +65,8 @@ pub(crate) fn lead_back<P: Ptr, T, A: ArenaTrait<P, Link<P, T>>>(
     ensures len { entry_count (A.slots arena.new) ≡ entry_count (A.slots arena.old) }
     ensures capacity { A.capacity arena.new ≡ A.capacity arena.old }
     ensures limit { A.limit arena.new ≡ A.limit arena.old }
+    ensures written { (writes : List (ℕ × Link P T))
+        × (arena.new ≡ with_values A.with_value arena.old writes) }
     ensures history { Continues A.fits arena.old [] arena.new }
 {
     let Some(at) = at else {
@@ -121,6 +126,7 @@ pub(crate) fn take<P: Ptr, T, A: ArenaTrait<P, Link<P, T>>>(
     requires { IsSome (look_up (A.slots arena.old) (P.numbers p)) }
     ensures link { look_up (A.slots arena.old) (P.numbers p) ≡ Some (allowed_option result) }
     ensures answer { result ≡ told (A.ending_wraps arena.old) (allowed_option result) }
+    ensures done { A.removes arena.old (P.numbers p).0 arena.new }
     ensures gone { look_up (node_slots P.numbers (A.slots arena.new)) (P.numbers p) ≡ None }
     ensures others { (r : Pointer) → r ≢ P.numbers p
         → look_up (node_slots P.numbers (A.slots arena.new)) r
@@ -150,6 +156,8 @@ pub(crate) fn tie<P: Ptr, T, A: ArenaTrait<P, Link<P, T>>>(
     ensures len { entry_count (A.slots arena.new) ≡ entry_count (A.slots arena.old) }
     ensures capacity { A.capacity arena.new ≡ A.capacity arena.old }
     ensures limit { A.limit arena.new ≡ A.limit arena.old }
+    ensures written { (writes : List (ℕ × Link P T))
+        × (arena.new ≡ with_values A.with_value arena.old writes) }
     ensures history { Continues A.fits arena.old [] arena.new }
 {
     lead_on(arena, prev, after);
@@ -210,6 +218,7 @@ pub(crate) fn unlink<P: Ptr, T, A: ArenaTrait<P, Link<P, T>>>(
     ensures removed { IsRemoved
         (look_up (node_slots P.numbers (A.slots arena.old))) (P.numbers p)
         (look_up (node_slots P.numbers (A.slots arena.new))) }
+    ensures ended { EndsAt A.removes A.with_value arena.old (P.numbers p).0 arena.new }
     ensures len { entry_count (A.slots arena.new) + 1 ≡ entry_count (A.slots arena.old) }
     ensures capacity { A.capacity arena.new ≡ A.capacity arena.old }
     ensures limit { A.limit arena.new ≡ A.limit arena.old }

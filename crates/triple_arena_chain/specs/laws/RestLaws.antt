@@ -7,7 +7,7 @@ use Rattle.triple_arena_ptr.specs.Pointers.{Pointer, is_same}
 use Rattle.triple_arena.specs.laws.PointerListLaws.{same_is, same_itself}
 use Rattle.triple_arena_chain.specs.Chains.{Node, after_at, before_at, IsLinked, IsRun, ChainStand, begun_at, passed, AreOnce, Answers, IsRest}
 use Rattle.triple_arena_chain.specs.laws.LinkLaws.{same_pointer, leads_back_there}
-use Rattle.triple_arena_chain.specs.laws.RunLaws.{in_head, in_tail}
+use Rattle.triple_arena_chain.specs.laws.RunLaws.{in_head, in_tail, run_there}
 use Rattle.triple_arena_chain.specs.laws.NodeLaws.{not_there}
 
 -- the places around one of a list
@@ -142,7 +142,7 @@ module _ {T : Type 0} (nodes : Pointer → Option (Node T)) (linked : IsLinked n
       let gone = goes (begun_at p left) r rs answers in
       let same : p ≡ r = same_pointer p r answers.1.0 in
       let once : AreOnce (r ∷ rs) = run_once r rs gone.then gone.run (λ q within e. gone.never q within (ap Some (same ∙ e))) in
-      let few : length (r ∷ rs) ≤ length all = no_more (r ∷ rs) all once (λ q within. among q (all_there (r ∷ rs) gone.then gone.run q within)) in
+      let few : length (r ∷ rs) ≤ length all = no_more (r ∷ rs) all once (λ q within. among q (run_there nodes (r ∷ rs) gone.then gone.run q within)) in
       record {
         then = gone.then;
         run = gone.run;
@@ -156,8 +156,3 @@ module _ {T : Type 0} (nodes : Pointer → Option (Node T)) (linked : IsLinked n
           ]
         ];
       }
-    where
-      all_there : (qs : List Pointer) (rest : Option Pointer) → IsRun nodes qs rest → (q : Pointer) → Contains qs q → IsSome (nodes q)
-      all_there [] rest run q (k, within, is) = absurd (omega arith)
-      all_there (x ∷ xs) rest run q (zero, within, is) = subst (λ y. IsSome (nodes y)) is run.0
-      all_there (x ∷ xs) rest run q (suc k, within, is) = all_there xs rest run.2 q (k, omega (arith, within), is)

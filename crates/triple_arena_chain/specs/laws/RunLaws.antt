@@ -4,6 +4,7 @@ use Rattle.std.proofs.Common.{◌≡◌, ◌≢◌, ◌⊎◌, inl, inr, zero, s
 use Rattle.std.specs.Option.{option_map, option_and_then}
 use Rattle.triple_arena_ptr.specs.Pointers.{Pointer}
 use Rattle.triple_arena_chain.specs.Chains.{Node, value_at, after_at, before_at, IsLinked, IsInserted, IsRemoved, IsMoved, renamed, first_of, IsRun, values_at}
+use Rattle.triple_arena_chain.specs.laws.LinkLaws.{same_pointer}
 use Rattle.triple_arena_chain.specs.laws.NodeLaws.{valued}
 
 pub in_head : (p : Pointer) (ps : List Pointer) → Contains (p ∷ ps) p
@@ -12,15 +13,52 @@ in_head p ps = (zero, omega arith, refl)
 pub in_tail : (p q : Pointer) (ps : List Pointer) → Contains ps q → Contains (p ∷ ps) q
 in_tail p q ps (k, within, is) = (suc k, omega (arith, within), is)
 
-in_back : (xs : List Pointer) (p q : Pointer) (ys : List Pointer) → Contains ys q → Contains (xs ++ p ∷ ys) q
-in_back [] p q ys within = in_tail p q ys within
-in_back (x ∷ xs) p q ys within = in_tail x q (xs ++ p ∷ ys) (in_back xs p q ys within)
+pub none_in : (p : Pointer) → Contains [] p → ⊥
+none_in p (k, within, is) = absurd (omega arith)
+
+-- what comes first in two lists
+pub first_of_both : (xs : List Pointer) (y : Pointer) (ys : List Pointer) (rest : Option Pointer) → first_of (xs ++ y ∷ ys) rest ≡ first_of xs (Some y)
+first_of_both [] y ys rest = refl
+first_of_both (x ∷ xs) y ys rest = refl
 
 pub first_before : (xs : List Pointer) (p : Pointer) (ys zs : List Pointer) (rest : Option Pointer) → first_of (xs ++ p ∷ ys) rest ≡ first_of (xs ++ p ∷ zs) rest
 first_before [] p ys zs rest = refl
 first_before (x ∷ xs) p ys zs rest = refl
 
 module _ {T : Type 0} where
+  -- one run goes on with another
+  pub runs_on : (nodes : Pointer → Option (Node T)) (xs : List Pointer) (y : Pointer) (ys : List Pointer) (rest : Option Pointer)
+      → IsRun nodes xs (Some y) → IsRun nodes (y ∷ ys) rest → IsRun nodes (xs ++ y ∷ ys) rest
+  runs_on nodes [] y ys rest run more = more
+  runs_on nodes (x ∷ []) y ys rest run more = (run.0, run.1, more)
+  runs_on nodes (x ∷ z ∷ xs) y ys rest run more = (run.0, run.1, runs_on nodes (z ∷ xs) y ys rest run.2 more)
+
+  -- and is two runs
+  pub run_front : (nodes : Pointer → Option (Node T)) (xs : List Pointer) (y : Pointer) (ys : List Pointer) (rest : Option Pointer)
+      → IsRun nodes (xs ++ y ∷ ys) rest → IsRun nodes xs (Some y)
+  run_front nodes [] y ys rest run = tt
+  run_front nodes (x ∷ []) y ys rest run = (run.0, run.1, tt)
+  run_front nodes (x ∷ z ∷ xs) y ys rest run = (run.0, run.1, run_front nodes (z ∷ xs) y ys rest run.2)
+
+  pub run_back : (nodes : Pointer → Option (Node T)) (xs : List Pointer) (y : Pointer) (ys : List Pointer) (rest : Option Pointer)
+      → IsRun nodes (xs ++ y ∷ ys) rest → IsRun nodes (y ∷ ys) rest
+  run_back nodes [] y ys rest run = run
+  run_back nodes (x ∷ xs) y ys rest run = run_back nodes xs y ys rest run.2
+
+  -- a run whose pointers lead on as before is a run
+  pub run_stays : (old new : Pointer → Option (Node T)) (ps : List Pointer) (rest : Option Pointer) → IsRun old ps rest
+      → ((p : Pointer) → Contains ps p → IsSome (new p) × (after_at new p ≡ after_at old p)) → IsRun new ps rest
+  run_stays old new [] rest run same = tt
+  run_stays old new (p ∷ ps) rest run same =
+      let here = same p (in_head p ps) in
+      (here.0, here.1 ∙ run.1, run_stays old new ps rest run.2 (λ q within. same q (in_tail p q ps within)))
+
+  -- each of a run is there
+  pub run_there : (nodes : Pointer → Option (Node T)) (ps : List Pointer) (rest : Option Pointer) → IsRun nodes ps rest → (q : Pointer) → Contains ps q → IsSome (nodes q)
+  run_there nodes [] rest run q within = absurd (none_in q within)
+  run_there nodes (p ∷ ps) rest run q (zero, within, is) = subst (λ r. IsSome (nodes r)) is run.0
+  run_there nodes (p ∷ ps) rest run q (suc k, within, is) = run_there nodes ps rest run.2 q (k, omega (arith, within), is)
+
   -- a run whose pointers lead on as before is a run, of the same values
   pub stays : (old new : Pointer → Option (Node T)) (ps : List Pointer) (rest : Option Pointer) → IsRun old ps rest
       → ((p : Pointer) → Contains ps p → IsSome (old p) → (value_at new p ≡ value_at old p) × (after_at new p ≡ after_at old p))
@@ -50,7 +88,7 @@ module _ {T : Type 0} where
       → ((r : Pointer) → Contains xs r → p ≢ r) → ((r : Pointer) → Contains ys r → p ≢ r)
       → IsRun new (xs ++ p ∷ q ∷ ys) rest × (values_at new (xs ++ p ∷ q ∷ ys) ≡ values_at old xs ++ value_at old p ∷ Some value ∷ values_at old ys)
   inserted_after old p q value new [] ys rest done run before behind =
-      let later = inserted_elsewhere old (Some p) (after_at old p) q value new ys rest done run.2 (λ r within e. behind r within (same_of p r e)) in
+      let later = inserted_elsewhere old (Some p) (after_at old p) q value new ys rest done run.2 (λ r within e. behind r within (same_pointer p r e)) in
       let other = not_free old p q run.0 done.free in
       let there : IsSome (new q) = subst IsSome (sym done.found) refl in
       let next : after_at new q ≡ first_of ys rest = ap (option_and_then (λ (n : Node T). n.after)) done.found ∙ run.1 in
@@ -61,9 +99,6 @@ module _ {T : Type 0} where
             ∙ ap (λ vs. value_at old p ∷ Some value ∷ vs) later.1,
       )
     where
-      same_of : (a b : Pointer) → Some a ≡ Some b → a ≡ b
-      same_of a b e = cc
-
       led : (nodes : Pointer → Option (Node T)) (a b : Pointer) → after_at nodes a ≡ Some b → IsSome (nodes a)
       led nodes a b e = by_node (nodes a) e
         where
@@ -71,15 +106,12 @@ module _ {T : Type 0} where
           by_node None e = absurd (cc)
           by_node (Some node) e = refl
   inserted_after old p q value new (x ∷ xs) ys rest done run before behind =
-      let one = inserted_elsewhere old (Some p) (after_at old p) q value new (x ∷ []) (first_of (xs ++ p ∷ ys) rest) done (run.0, run.1, tt) (λ r within e. before r (first_in x r xs within) (same_of p r e)) in
+      let one = inserted_elsewhere old (Some p) (after_at old p) q value new (x ∷ []) (first_of (xs ++ p ∷ ys) rest) done (run.0, run.1, tt) (λ r within e. before r (first_in x r xs within) (same_pointer p r e)) in
       let later = inserted_after old p q value new xs ys rest done run.2 (λ r within. before r (in_tail x r xs within)) behind in (
         (one.0.0, one.0.1 ∙ first_before xs p ys (q ∷ ys) rest, later.0),
         ap (λ v. v ∷ values_at new (xs ++ p ∷ q ∷ ys)) (done.values x (not_free old x q run.0 done.free)) ∙ ap (λ vs. value_at old x ∷ vs) later.1,
       )
     where
-      same_of : (a b : Pointer) → Some a ≡ Some b → a ≡ b
-      same_of a b e = cc
-
       first_in : (x r : Pointer) (xs : List Pointer) → Contains (x ∷ []) r → Contains (x ∷ xs) r
       first_in x r xs (zero, within, is) = (zero, omega arith, is)
       first_in x r xs (suc k, within, is) = absurd (omega (arith, within))
@@ -143,12 +175,9 @@ module _ {T : Type 0} where
   next_in nodes [] rest r p run (k, within, is) leads = absurd (omega arith)
   next_in nodes (x ∷ ps) rest r p run (zero, within, is) leads = by_next ps (sym run.1 ∙ ap (after_at nodes) is ∙ leads)
     where
-      same_of : (a b : Pointer) → Some a ≡ Some b → a ≡ b
-      same_of a b e = cc
-
       by_next : (qs : List Pointer) → first_of qs rest ≡ Some p → Contains (x ∷ qs) p ⊎ (rest ≡ Some p)
       by_next [] e = inr e
-      by_next (q ∷ qs) e = inl (in_tail x p (q ∷ qs) (zero, omega arith, same_of q p e))
+      by_next (q ∷ qs) e = inl (in_tail x p (q ∷ qs) (zero, omega arith, same_pointer q p e))
   next_in nodes (x ∷ ps) rest r p run (suc k, within, is) leads =
       elim (next_in nodes ps rest r p run.2 (k, omega (arith, within), is) leads) [
         | inl there ↦ inl (in_tail x p ps there)
@@ -170,15 +199,9 @@ module _ {T : Type 0} where
       let other : x ≢ p = λ e. before x (in_head x []) (sym e) in
       let on : after_at new x ≡ first_of ys rest = done.after_prev x other ((linked x p).0 run.1) ∙ run.2.1 in
       ((valued (old x) (new x) run.0 (done.values x other), on, later.0), ap (λ v. v ∷ values_at new ys) (done.values x other) ∙ ap (λ vs. value_at old x ∷ vs) later.1)
-    where
-      none_in : (r : Pointer) → Contains [] r → ⊥
-      none_in r (k, within, is) = absurd (omega arith)
   removed_run old p new (x ∷ y ∷ xs) ys rest linked done run before behind apart_from =
       let later = removed_run old p new (y ∷ xs) ys rest linked done run.2 (λ r within. before r (in_tail x r (y ∷ xs) within)) behind apart_from in
       let other : x ≢ p = λ e. before x (in_head x (y ∷ xs)) (sym e) in
       let next : y ≢ p = λ e. before y (in_tail x y (y ∷ xs) (in_head y xs)) (sym e) in
-      let apart : before_at old p ≢ Some x = λ e. next (same_of y p (sym run.1 ∙ (linked x p).1 e)) in
+      let apart : before_at old p ≢ Some x = λ e. next (same_pointer y p (sym run.1 ∙ (linked x p).1 e)) in
       ((valued (old x) (new x) run.0 (done.values x other), done.afters x other apart ∙ run.1, later.0), ap (λ v. v ∷ values_at new (y ∷ xs ++ ys)) (done.values x other) ∙ ap (λ vs. value_at old x ∷ vs) later.1)
-    where
-      same_of : (a b : Pointer) → Some a ≡ Some b → a ≡ b
-      same_of a b e = cc

@@ -1,6 +1,6 @@
 use Rattle.std.proofs.Common.{ap, ◌∙◌}
 use Rattle.triple_arena_chain.proofs.Reading.{others_stay}
-use Rattle.triple_arena_chain.proofs.Results.{if_ok_3, on_ok_1}
+use Rattle.triple_arena_chain.specs.laws.ResultLaws.{if_ok_3, on_ok_1}
 use Rattle.triple_arena_chain.proofs.steps.put.Goals as goal
 
 pub returns-clause-others : goal.returns-clause-others

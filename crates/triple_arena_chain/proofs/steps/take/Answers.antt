@@ -1,7 +1,7 @@
 use Rattle.std.proofs.Common.{ap, ◌∙◌}
 use Rattle.triple_arena_base.specs.Invalidation.{is_invalid, as_option}
 use Rattle.triple_arena_chain.proofs.Reading.{same_link}
-use Rattle.triple_arena_chain.proofs.Telling.{not_invalid, told_there}
+use Rattle.triple_arena_chain.specs.laws.TellingLaws.{not_invalid, told_there}
 use Rattle.triple_arena_chain.proofs.steps.take.Goals as goal
 
 pub unwrap-requires : goal.unwrap-requires

@@ -5,7 +5,7 @@ use Rattle.triple_arena.specs.Ending.{told}
 use Rattle.triple_arena.specs.Entries.{look_up}
 use Rattle.triple_arena_chain.specs.Chains.{Node, node_of, node_slots, changed, with_after, with_before}
 use Rattle.triple_arena_chain.proofs.Reading.{read_link}
-use Rattle.triple_arena_chain.proofs.Telling.{told_parts, allowed_told}
+use Rattle.triple_arena_chain.specs.laws.TellingLaws.{told_parts, allowed_told}
 use Rattle.triple_arena_chain.proofs.Tying.{is_removed}
 use Rattle.triple_arena_chain.proofs.steps.unlink.Goals as goal
 
@@ -19,6 +19,9 @@ returns-clause-removed g c =
     let node : look_up (node_slots numbers slots) (numbers c.args.p) ≡ Some (node_of numbers c.overflowing-link.result.0) = read_link numbers slots (numbers c.args.p) ∙ ap (option_map (node_of numbers)) found in
     is_removed (look_up (node_slots numbers slots)) mid _ (numbers c.args.p) c.requires.linked c.take-taken.ensures.gone c.take-taken.ensures.others
     (λ r. c.tie.ensures.nodes r ∙ ap (λ o. changed (option_and_then (λ n. n.after) o) (with_before (option_and_then (λ n. n.before) o)) r (changed (option_and_then (λ n. n.before) o) (with_after (option_and_then (λ n. n.after) o)) r (mid r))) (sym node))
+
+pub returns-clause-ended : goal.returns-clause-ended
+returns-clause-ended g c = (c.take-taken.new.arena, c.tie.ensures.written.0, c.take-taken.ensures.done, c.tie.ensures.written.1)
 
 pub returns-clause-value : goal.returns-clause-value
 returns-clause-value g c =

@@ -8,7 +8,7 @@ use Rattle.triple_arena.specs.Walks.{keys}
 use Rattle.triple_arena_direct.specs.Renaming.{MapsPointers}
 use Rattle.triple_arena_chain.specs.Chains.{nodes, node_slots, IsLinked, IsMoved}
 use Rattle.triple_arena_chain.proofs.Moving.{linked_moved, is_moved, packed, maps_chains, only_memory}
-use Rattle.triple_arena_chain.proofs.Results.{either_way_2, if_refused}
+use Rattle.triple_arena_chain.specs.laws.ResultLaws.{either_way_2, if_refused}
 use Rattle.triple_arena_chain.proofs.chains.Chains.compress.Goals as goal
 
 pub invariant_of-self : goal.invariant_of-self

@@ -3,7 +3,8 @@ use Rattle.triple_arena.specs.Entries.{look_up}
 use Rattle.triple_arena.specs.Histories.{Continues}
 use Rattle.triple_arena.specs.laws.LookUpLaws.{entry_at}
 use Rattle.triple_arena_chain.specs.Chains.{nodes, value_at, with_value_at, put_value_in, put_value, IsWritten}
-use Rattle.triple_arena_chain.proofs.Written.{lends_alike, value_read, state_written, linked_after, written_there}
+use Rattle.triple_arena_chain.specs.laws.ResultLaws.{lends_alike}
+use Rattle.triple_arena_chain.proofs.Written.{value_read, state_written, linked_after, written_there}
 use Rattle.triple_arena_chain.proofs.chains.Chains.get_mut.Goals as goal
 
 pub invariant_of-self-lent : goal.invariant_of-self-lent

@@ -5,7 +5,7 @@ use Rattle.triple_arena.specs.Entries.{look_up}
 use Rattle.triple_arena.specs.Histories.{insertion, Continues}
 use Rattle.triple_arena_chain.specs.Chains.{nodes, node_slots, place_at, place_before, place_after, IsLinked, IsThere, IsBetween}
 use Rattle.triple_arena_chain.specs.laws.LinkLaws.{place_before_there, place_after_there, place_between, linked_inserted}
-use Rattle.triple_arena_chain.proofs.Results.{either_way}
+use Rattle.triple_arena_chain.specs.laws.ResultLaws.{either_way}
 use Rattle.triple_arena_chain.proofs.chains.Chains.insert.Goals as goal
 
 pub insert_between-requires-clause-prev : goal.insert_between-requires-clause-prev

@@ -4,7 +4,7 @@ use Rattle.triple_arena.specs.Entries.{look_up}
 use Rattle.triple_arena.specs.Histories.{insertion, Continues}
 use Rattle.triple_arena_chain.specs.Chains.{node_slots, IsLinked}
 use Rattle.triple_arena_chain.specs.laws.LinkLaws.{linked_inserted, between_none}
-use Rattle.triple_arena_chain.proofs.Results.{either_way}
+use Rattle.triple_arena_chain.specs.laws.ResultLaws.{either_way}
 use Rattle.triple_arena_chain.proofs.chains.Chains.insert_new.Goals as goal
 
 pub invariant_of-self : goal.invariant_of-self

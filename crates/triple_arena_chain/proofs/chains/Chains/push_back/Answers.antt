@@ -3,7 +3,7 @@ use Rattle.std.proofs.Common.{◌≡◌, None, Some, sym, ◌∙◌, arith}
 use Rattle.triple_arena_ptr.specs.Pointers.{Pointer}
 use Rattle.triple_arena_chain.specs.Chains.{nodes}
 use Rattle.triple_arena_chain.specs.laws.RunLaws.{end_once, values_pushed}
-use Rattle.triple_arena_chain.proofs.Results.{if_ok_1}
+use Rattle.triple_arena_chain.specs.laws.ResultLaws.{if_ok_1}
 use Rattle.triple_arena_chain.proofs.chains.Chains.push_back.Goals as goal
 
 none_in : (p r : Pointer) → Contains [] r → p ≡ r → ⊥

@@ -1,8 +1,9 @@
 use Rattle.std.proofs.Common.{◌≡◌, ◌-◌, ◌||◌, [], ◌∷◌, ◌++◌, not, IsSome, refl, sym, ap, subst, ◌∙◌, arith}
 use Rattle.triple_arena_base.specs.Invalidation.{allowed_option, is_success_option}
 use Rattle.triple_arena_chain.specs.Chains.{nodes}
+use Rattle.triple_arena_chain.specs.Endings.{EndInTurn}
 use Rattle.triple_arena_chain.specs.laws.NodeLaws.{value_there}
-use Rattle.triple_arena_chain.proofs.Telling.{neither, one_more, allowed_told, wrap_told}
+use Rattle.triple_arena_chain.specs.laws.TellingLaws.{neither, one_more, allowed_told, wrap_told, ends_then}
 use Rattle.triple_arena_chain.proofs.Thinning.{thinned_none, beside_there, still, one_less, none_left}
 use Rattle.triple_arena_chain.proofs.chains.Chains.remove_chain.Goals as goal
 
@@ -15,6 +16,7 @@ chain-init g c =
       fewer = omega (arith, c.len-all.ensures.value);
       capacity = refl;
       limit = refl;
+      wrap = ([], (refl, refl));
       history = λ up. ([], λ h fits. fits);
     }
 
@@ -37,6 +39,13 @@ chain-preserved g c =
       fewer = omega (arith, c.let_go-wrapped.ensures.len, c.chain.invariant.fewer);
       capacity = cc;
       limit = cc;
+      wrap = (
+        c.chain.invariant.wrap.0 ++ q ∷ [],
+        subst (λ w. EndInTurn g.A.ArenaTrait.removes g.A.ArenaTrait.with_value g.A.ArenaTrait.ending_wraps c.args.self.now.arena (c.chain.invariant.wrap.0 ++ q ∷ []) (c.chain.wrapped || w) c.let_go-wrapped.new.self.arena)
+            (sym c.let_go-wrapped.ensures.wrapped)
+            (ends_then g.A.ArenaTrait.with_value g.A.ArenaTrait.removes g.A.ArenaTrait.ending_wraps c.args.self.now.arena c.chain.invariant.wrap.0 c.chain.wrapped c.chain.self.arena q c.let_go-wrapped.new.self.arena
+            c.chain.invariant.wrap.1 c.let_go-wrapped.ensures.ended),
+      );
       history = λ up.
           let parts = neither c.chain.wrapped c.let_go-wrapped.result up.1 in
           let before = c.chain.invariant.history (up.0, parts.0) in
@@ -55,6 +64,18 @@ returns-clause-len g c =
     let count : allowed_option c.telling.result ≡ c.len-all.result - c.len.result =
     ap allowed_option c.telling.ensures ∙ allowed_told (c.chain.wrapped || c.let_go-wrapped-2.result) (c.len-all.result - c.len.result) in
     omega (arith, count, c.let_go-wrapped-2.ensures.len, c.chain.invariant.fewer, c.len-all.ensures.value, c.len.ensures.value)
+
+pub returns-clause-wrap : goal.returns-clause-wrap
+returns-clause-wrap g c =
+    let p = g.P.Ptr.numbers c.args.p in
+    let wrap : (c.chain.wrapped || g.A.ArenaTrait.ending_wraps c.chain.self.arena) ≡ not (is_success_option c.telling.result) =
+    ap (λ w. c.chain.wrapped || w) (sym c.let_go-wrapped-2.ensures.wrapped)
+    ∙ sym (ap (λ r. not (is_success_option r)) c.telling.ensures ∙ wrap_told (c.chain.wrapped || c.let_go-wrapped-2.result) (c.len-all.result - c.len.result)) in (
+      c.chain.invariant.wrap.0 ++ p ∷ [],
+      subst (λ w. EndInTurn g.A.ArenaTrait.removes g.A.ArenaTrait.with_value g.A.ArenaTrait.ending_wraps c.args.self.now.arena (c.chain.invariant.wrap.0 ++ p ∷ []) w c.let_go-wrapped-2.new.self.arena) wrap
+          (ends_then g.A.ArenaTrait.with_value g.A.ArenaTrait.removes g.A.ArenaTrait.ending_wraps c.args.self.now.arena c.chain.invariant.wrap.0 c.chain.wrapped c.chain.self.arena p c.let_go-wrapped-2.new.self.arena
+          c.chain.invariant.wrap.1 c.let_go-wrapped-2.ensures.ended),
+    )
 
 pub returns-clause-history : goal.returns-clause-history
 returns-clause-history g c = λ up.

@@ -2,6 +2,7 @@ use Rattle.std.proofs.Common.{◌≡◌, ◌≤◌, List, map, IsSome}
 use Rattle.triple_arena_ptr.specs.Pointers.{Pointer}
 use Rattle.triple_arena.specs.Histories.{removal, CountsUp, Continues}
 use Rattle.triple_arena_chain.specs.Chains.{nodes}
+use Rattle.triple_arena_chain.specs.Endings.{EndInTurn}
 use Rattle.triple_arena_chain.proofs.Thinning.{IsThinned}
 use Rattle.triple_arena_chain.proofs.chains.Chains.remove_chain.Given as goal
 
@@ -12,6 +13,7 @@ invariant-chain g l = record {
   fewer : l.self.len ≤ l.all;
   capacity : l.self.capacity ≡ l.fn.self.capacity;
   limit : l.self.limit ≡ l.fn.self.limit;
+  wrap : (gone : List Pointer) × EndInTurn g.A.ArenaTrait.removes g.A.ArenaTrait.with_value g.A.ArenaTrait.ending_wraps l.fn.self.arena gone l.wrapped l.self.arena;
   history : CountsUp g.P.Gen.PtrGen.generations l.wrapped → (gone : List Pointer) × Continues g.A.ArenaTrait.fits l.fn.self.arena (map removal gone) l.self.arena;
 }
 

@@ -1,9 +1,8 @@
--- What is told of a result that is no refusal.
-use Rattle.std.proofs.Common.{◌≡◌, ◌↔◌, refl, ap, Result, Ok, Err}
+-- What is told of results, and of loans.
+use Rattle.std.proofs.Common.{◌≡◌, ◌⊎◌, inl, refl, ap, subst, Result, Ok, Err}
+use Rattle.std.proofs.Math.Path.{fun_ext}
 use Rattle.std.specs.Prelude.{IfOk, OnOk, OnErr}
 use Rattle.std.specs.Result.{IfErr}
-use Rattle.triple_arena_chain.specs.declared.place.ChainError.{ChainError}
-use Rattle.triple_arena_chain.specs.declared.place.ChainError.TheVariants.{NoEntry}
 
 pub if_ok_1 : {A E : Type 0} (F K : A → Type 0) (r : Result A E) → IfOk r F → ((x : A) → F x → K x) → IfOk r K
 if_ok_1 F K (Ok x) f gives = gives x f
@@ -31,7 +30,21 @@ pub if_refused : {A E : Type 0} (F : E → Type 0) (K : Type 0) (r : Result A E)
 if_refused F K (Ok x) f refused gives = absurd (refused x refl)
 if_refused F K (Err e) f refused gives = gives e f
 
--- where the one refusal says what doesn't hold, there is none
-pub surely : {A : Type 0} (F Q : Type 0) (r : Result A ChainError) → OnOk r F → IfErr r (λ refusal. refusal ≡ NoEntry) → ((r ≡ Err NoEntry) ↔ Q) → (Q → ⊥) → F
-surely F Q (Ok x) ok refusal when never = ok
-surely F Q (Err e) ok refusal when never = absurd (never (when.0 (ap Err refusal)))
+-- what holds of a result that is told to be Ok
+pub on_ok : {A E : Type 0} (F : Type 0) (r : Result A E) (x : A) → r ≡ Ok x → OnOk r F → F
+on_ok F r x is holds = subst (λ o. OnOk o F) is holds
+
+pub if_ok : {A E : Type 0} (F : A → Type 0) (r : Result A E) (x : A) → r ≡ Ok x → IfOk r F → F x
+if_ok F r x is holds = subst (λ o. IfOk o F) is holds
+
+-- and of one that is none
+pub on_err : {A E : Type 0} (F : Type 0) (r : Result A E) → OnErr r F → ((x : A) → r ≡ Ok x → ⊥) → F
+on_err F (Ok x) holds refused = absurd (refused x refl)
+on_err F (Err e) holds refused = holds
+
+-- one loan ends as another where it does so at each value
+pub lends_alike : {N T S : Type 0} (name : N) (F G : T → S) → ((w : T) → F w ≡ G w) → ◌≡◌ {A = (N × (T → S)) ⊎ S} (inl (name, F)) (inl (name, G))
+lends_alike {N = N} {T = T} {S = S} name F G same = ap (ended N T S name) (fun_ext same)
+  where
+    ended : (N T S : Type 0) → N → (T → S) → (N × (T → S)) ⊎ S
+    ended N T S name H = inl (name, H)

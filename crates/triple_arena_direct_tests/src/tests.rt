@@ -4,7 +4,6 @@
 mod compaction;
 mod direct;
 mod extending;
-mod map_values;
 mod over_a_stack;
 mod strict;
 mod strict_calls;

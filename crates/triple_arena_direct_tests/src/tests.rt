@@ -4,6 +4,7 @@
 mod compaction;
 mod direct;
 mod extending;
+mod map_values;
 mod over_a_stack;
 mod strict;
 mod strict_calls;

@@ -1,10 +1,10 @@
 -- An arena that was written is read again.
-use Rattle.std.proofs.Common.{◌≡◌, ℕ, ◌^◌, ◌<◌, true, List, [], ◌∷◌, ◌++◌, length, Option, Some, None, Ok, refl, ap, ◌∙◌, append_assoc, arith}
+use Rattle.std.proofs.Common.{◌≡◌, ℕ, ◌^◌, ◌<◌, true, List, ◌∷◌, ◌++◌, Option, Some, None, refl, ap, ◌∙◌, append_assoc, arith}
 use Rattle.std.specs.Int.{w64, to_le_bytes}
 use Rattle.std.proofs.lemmas.Bool.{eq-eqb}
 use Rattle.triple_arena_ptr.specs.Numbers.{greatest_index}
 use Rattle.triple_arena_snapshot.specs.Coding.{Decoded}
-use Rattle.triple_arena_snapshot.specs.Codings.{number_at_front, pair_bytes}
+use Rattle.triple_arena_snapshot.specs.Codings.{pair_bytes}
 use Rattle.triple_arena_snapshot.specs.ArenaCodings.{most_slots, headed_bytes, headed_at_front, are_free, arena_at_front}
 use Rattle.triple_arena_snapshot.specs.laws.CodingLaws.{IsReadAgain, wide64, number_again}
 

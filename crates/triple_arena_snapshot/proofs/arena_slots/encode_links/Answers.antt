@@ -1,4 +1,4 @@
-use Rattle.std.proofs.Common.{◌≡◌, ap}
+use Rattle.std.proofs.Common.{ap}
 use Rattle.std.specs.Int.NonZero.{non_zero_usize_get}
 use Rattle.std.specs.Option.{option_map}
 use Rattle.triple_arena_snapshot.proofs.LinkBytes.{writes_on, fits_on, written_at_none, fits_at_none, written_at_end, fits_at_end}

@@ -1,4 +1,4 @@
-use Rattle.std.proofs.Common.{◌≡◌, ◌∙◌, Bool, List, map, not, is_some, refl, sym}
+use Rattle.std.proofs.Common.{◌≡◌, ◌∙◌, map, not, is_some, refl, sym}
 use Rattle.std.specs.Int.NonZero.{non_zero_usize_get}
 use Rattle.triple_arena_slots.specs.Slot.{entry_of}
 use Rattle.triple_arena_snapshot.proofs.ArenaBytes.{map_twice}

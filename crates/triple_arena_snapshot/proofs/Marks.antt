@@ -1,5 +1,5 @@
 -- Bytes that end within a mark.
-use Rattle.std.proofs.Common.{◌≡◌, ℕ, ◌<◌, List, [], ◌∷◌, length, drop, Ok, Err, refl, sym, ◌∙◌, arith}
+use Rattle.std.proofs.Common.{◌≡◌, ℕ, ◌<◌, List, [], ◌∷◌, length, drop, Err, sym, ◌∙◌, arith}
 use Rattle.std.proofs.lemmas.List.{at_drop_more}
 use Rattle.triple_arena_snapshot.specs.declared.fault.Fault.{Fault}
 use Rattle.triple_arena_snapshot.specs.declared.fault.Fault.TheVariants.{Cut}

@@ -3,7 +3,7 @@ use Rattle.std.specs.Prelude.{ℕ, zero, suc, ◌==◌, nat_lt, if◌then◌else
 use Rattle.std.specs.Int.{Width, w64, byte_len, to_le_bytes, from_le_bytes}
 use Rattle.std.specs.List.{flat_map}
 use Rattle.std.specs.Str.{is_utf8}
-use Rattle.triple_arena_snapshot.specs.declared.fault.Fault.TheVariants.{Cut, Flag, Zero, Text}
+use Rattle.triple_arena_snapshot.specs.declared.fault.Fault.TheVariants.{Cut, Flag, Zero, Text, Slots}
 use Rattle.triple_arena_snapshot.specs.Coding.{Decoded, ◌>>=◌}
 
 -- a byte
@@ -81,3 +81,8 @@ positive_at_front decoding bytes = decoding bytes >>= λ n. if n.0 == 0 then Err
 -- a pointer of a type without generations is its index; the number of its generation is 1
 abbrev pub index_at_front : (List ℕ → Decoded ℕ) → List ℕ → Decoded (ℕ × ℕ)
 index_at_front decoding bytes = decoding bytes >>= λ n. Ok ((n.0, 1), n.1)
+
+-- values in order, so many at most: a count past them is refused before a value is read
+abbrev pub list_within : {K : Type 0} → ℕ → (List ℕ → Decoded K) → List ℕ → Decoded (List K)
+list_within most decoding bytes =
+    number_at_front w64 bytes >>= λ n. if nat_lt most n.0 then Err (Slots, length bytes) else many_at_front decoding n.0 n.1

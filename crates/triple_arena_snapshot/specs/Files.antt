@@ -1,11 +1,11 @@
 -- A file: a mark and a version, a value's bytes, and a sum over these.
-use Rattle.std.specs.Prelude.{◌≡◌, ◌≢◌, ℕ, ◌+◌, ◌-◌, ◌%◌, ◌^◌, ◌<◌, ◌==◌, ◌&&◌, nat_lt, if◌then◌else◌, List, [], ◌∷◌, ◌++◌, length, take, drop, Result, Ok, Err, codes}
+use Rattle.std.specs.Prelude.{◌≡◌, ℕ, ◌+◌, ◌-◌, ◌%◌, ◌^◌, ◌==◌, ◌&&◌, nat_lt, if◌then◌else◌, List, [], ◌∷◌, ◌++◌, length, take, drop, Result, Ok, Err, codes}
 use Rattle.std.specs.Int.{w32, to_le_bytes, from_le_bytes}
 use Rattle.triple_arena_snapshot.specs.declared.fault.Fault.{Fault}
 use Rattle.triple_arena_snapshot.specs.declared.fault.Fault.TheVariants.{Cut, Mark, Version, Sum}
 use Rattle.triple_arena_snapshot.specs.declared.fault.LoadError.{LoadError}
 use Rattle.triple_arena_snapshot.specs.declared.fault.LoadError.TheVariants as errors
-use Rattle.triple_arena_snapshot.specs.Coding.{Reading, Decoded, ◌>>=◌, whole, Coding}
+use Rattle.triple_arena_snapshot.specs.Coding.{Reading, Decoded, ◌>>=◌, whole}
 
 abbrev pub mark : List ℕ
 mark = codes "triarena"

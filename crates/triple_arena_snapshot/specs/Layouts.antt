@@ -1,5 +1,5 @@
 -- How the values of each type stand as bytes, with the law, in one term: of these a struct's is made.
-use Rattle.std.specs.Prelude.{◌≡◌, ℕ, ◌<◌, ◌^◌, Bool, true, List, [], ◌∷◌, length, Option, IfSome}
+use Rattle.std.specs.Prelude.{◌≡◌, ℕ, ◌<◌, ◌^◌, Bool, true, List, [], ◌∷◌, length, Option, IfSome, Ok}
 use Rattle.std.proofs.Common.{refl}
 use Rattle.std.specs.Int.{Width, to_le_bytes}
 use Rattle.std.specs.List.{AllByRecursion}
@@ -22,6 +22,10 @@ unit = record { fits = λ u. Unit {0}; encoding = λ u. 0 ∷ []; decoding = uni
 
 abbrev pub bool : Coding Bool
 bool = record { fits = λ b. Unit {0}; encoding = bool_bytes; decoding = bool_at_front; decodes = bool_again }
+
+-- a number that is known, and takes no byte
+abbrev pub nothing : ℕ → Coding ℕ
+nothing known = record { fits = λ n. n ≡ known; encoding = λ n. []; decoding = λ bytes. Ok (known, bytes); decodes = λ n rest is. rw is refl }
 
 -- a value or none
 abbrev pub option : {K : Type 0} → Coding K → Coding (Option K)

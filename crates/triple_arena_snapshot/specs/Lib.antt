@@ -3,4 +3,6 @@ pub mod Coding
 pub mod Codings
 pub mod Layouts
 pub mod Files
+pub mod ArenaCodings
+pub mod ArenaLayouts
 pub mod laws

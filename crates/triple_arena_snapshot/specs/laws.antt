@@ -1,3 +1,4 @@
 pub mod ChangeLaws
 pub mod CodingLaws
 pub mod FileLaws
+pub mod ArenaCodingLaws

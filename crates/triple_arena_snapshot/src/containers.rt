@@ -163,7 +163,7 @@ fn split_front(bytes: &[u8], count: usize) -> Result<(&[u8], &[u8]), DecodeError
 }
 
 /// Writes each value, in order.
-fn encode_all<T: Codec>(values: &[T], out: &mut Vec<u8>) -> Result<(), AllocError>
+pub(crate) fn encode_all<T: Codec>(values: &[T], out: &mut Vec<u8>) -> Result<(), AllocError>
     ensures written { OnOk result (out.new.items
         ≡ out.old.items ++ flat_map T.coding.encoding (map T.content values.now)) }
     ensures fits { OnOk result (AllByRecursion T.coding.fits (map T.content values.now)) }

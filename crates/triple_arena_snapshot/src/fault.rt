@@ -16,6 +16,12 @@ pub enum Fault {
     Zero,
     /// A text isn't UTF-8.
     Text,
+    /// An arena's pointers are of another width.
+    Width,
+    /// An arena has more slots than fit.
+    Slots,
+    /// An arena's free list isn't that of its free slots, each once.
+    FreeList,
     /// Bytes stand behind the last value.
     Trailing,
     /// The file doesn't begin with the mark.

@@ -1,15 +1,25 @@
-//! Values as bytes, and read back: numbers, pointers and what is made of them, and no arena yet. It
+//! Values as bytes, and read back: numbers, pointers, what is made of them, and arenas. It
 //! stands beside the doors, apart because none of them needs it.
 #![tactic(auto)]
 
+mod arena_slots;
+mod arenas;
 mod codec;
 mod containers;
+mod direct_arenas;
 mod fault;
 mod file;
+mod free_lists;
+mod generations;
+pub mod laws;
 mod non_zero;
 mod numbers;
 mod pointers;
+mod stacks;
 
+pub use arenas::{decode_arena, encode_arena};
 pub use codec::{Codec, from_bytes, to_bytes};
+pub use direct_arenas::{decode_direct_arena, encode_direct_arena};
 pub use fault::{DecodeError, Fault, LoadError};
 pub use file::{load, save};
+pub use generations::GenerationCodec;

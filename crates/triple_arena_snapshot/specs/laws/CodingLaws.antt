@@ -1,5 +1,5 @@
 -- What was written is read again, whatever stands behind it.
-use Rattle.std.proofs.Common.{◌≡◌, ℕ, suc, ◌^◌, ◌<◌, true, false, ltb, List, [], ◌∷◌, ◌++◌, length, Some, None, Ok, refl, sym, ap, ◌∙◌, append_assoc, arith}
+use Rattle.std.proofs.Common.{◌≡◌, ℕ, suc, ◌^◌, ◌<◌, ◌≤◌, true, false, ltb, List, [], ◌∷◌, ◌++◌, length, Some, None, Ok, refl, sym, ap, ◌∙◌, append_assoc, arith}
 use Rattle.std.specs.Prelude.{IfSome}
 use Rattle.std.specs.Int.{Width, w16, w32, w64, byte_len, to_le_bytes, from_le_bytes}
 use Rattle.std.specs.List.{flat_map, AllByRecursion}
@@ -9,7 +9,7 @@ use Rattle.std.proofs.lemmas.List.{take_at, drop_at, length-append, append-nil}
 use Rattle.std.proofs.lemmas.List.Concat.{flat_map-cons}
 use Rattle.std.proofs.lemmas.Nat.{from_le_bytes-to_le_bytes_2, from_le_bytes-to_le_bytes_4, from_le_bytes-to_le_bytes_8}
 use Rattle.triple_arena_snapshot.specs.Coding.{Decoded, whole, Coding}
-use Rattle.triple_arena_snapshot.specs.Codings.{number_at_front, option_bytes, option_at_front, bool_bytes, bool_at_front, pair_bytes, pair_at_front, list_bytes, many_at_front, list_at_front, text_bytes, text_at_front, positive_at_front, index_at_front}
+use Rattle.triple_arena_snapshot.specs.Codings.{number_at_front, option_bytes, option_at_front, bool_bytes, bool_at_front, pair_bytes, pair_at_front, list_bytes, many_at_front, list_at_front, list_within, text_bytes, text_at_front, positive_at_front, index_at_front}
 
 -- what is read of what was written, with anything behind it
 abbrev pub IsReadAgain : {K : Type 0} → (K → Type 0) → (K → List ℕ) → (List ℕ → Decoded K) → Type 0
@@ -64,6 +64,12 @@ module _ {K : Type 0} (fits : K → Type 0) (encoding : K → List ℕ) (decodin
   list_again ks rest h =
       ap (list_at_front decoding) (append_assoc (to_le_bytes w64 (length ks)) (flat_map encoding ks) rest)
       ∙ rw (number_again w64 (2 ^ 64) wide64 (length ks) (flat_map encoding ks ++ rest) h.0) (many_again ks rest h.1)
+
+  pub within_again : (most : ℕ) → most < 2 ^ 64 → IsReadAgain (λ ks. (length ks ≤ most) × AllByRecursion fits ks) (list_bytes encoding) (list_within most decoding)
+  within_again most small ks rest h =
+      let test : ltb most (length ks) ≡ false = le-ltb _ _ h.0 in
+      ap (list_within most decoding) (append_assoc (to_le_bytes w64 (length ks)) (flat_map encoding ks) rest)
+      ∙ rw (number_again w64 (2 ^ 64) wide64 (length ks) (flat_map encoding ks ++ rest) (omega (arith, h.0, small)), test) (many_again ks rest h.1)
 
 pub text_again : IsReadAgain (λ text. (length text < 2 ^ 64) × (is_utf8 text ≡ true)) text_bytes text_at_front
 text_again text rest h =

@@ -1,12 +1,12 @@
 -- A file is read again, and its sums find each change of one byte.
-use Rattle.std.proofs.Common.{◌≡◌, ◌≢◌, ℕ, zero, suc, ◌+◌, ◌-◌, ◌%◌, ◌^◌, ◌<◌, ◌≤◌, ◌==◌, ◌&&◌, Bool, true, false, cond, ltb, List, [], ◌∷◌, ◌++◌, length, take, drop, Ok, Err, refl, sym, ap, ◌∙◌, append_assoc, arith}
+use Rattle.std.proofs.Common.{◌≡◌, ◌≢◌, ℕ, ◌+◌, ◌-◌, ◌%◌, ◌^◌, ◌<◌, ◌==◌, true, false, ltb, List, [], ◌∷◌, ◌++◌, length, Ok, refl, sym, arith}
 use Rattle.std.specs.Int.{w32, to_le_bytes, from_le_bytes}
 use Rattle.std.proofs.lemmas.Bool.{le-ltb, eq-eqb}
 use Rattle.std.proofs.lemmas.List.{take_at, drop_at, length-append}
 use Rattle.std.proofs.lemmas.Nat.{from_le_bytes-to_le_bytes_4}
 use Rattle.triple_arena_snapshot.specs.declared.fault.Fault.{Fault}
-use Rattle.triple_arena_snapshot.specs.Coding.{Reading, ◌>>=◌, whole, Coding}
-use Rattle.triple_arena_snapshot.specs.Files.{mark, version, sums_from, sums, seal, file_of, behind, unsealed, sealed_in, payload_in, at_offset, file_reading}
+use Rattle.triple_arena_snapshot.specs.Coding.{Coding}
+use Rattle.triple_arena_snapshot.specs.Files.{sums_from, sums, seal, file_of, behind, sealed_in, file_reading}
 use Rattle.triple_arena_snapshot.specs.laws.CodingLaws.{whole_again}
 
 -- both sums are below 2 ^ 32

@@ -1,4 +1,3 @@
-use Rattle.std.proofs.Common.{arith}
 use Rattle.triple_arena_snapshot.specs.Files.{behind}
 use Rattle.triple_arena_snapshot.proofs.Marks.{cut_short}
 use Rattle.triple_arena_snapshot.proofs.file.behind.Goals as goal

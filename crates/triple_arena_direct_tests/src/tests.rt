@@ -7,3 +7,4 @@ mod extending;
 mod over_a_stack;
 mod strict;
 mod strict_calls;
+mod strict_ends;

@@ -8,3 +8,4 @@ mod map_values;
 mod over_a_stack;
 mod strict;
 mod strict_calls;
+mod strict_ends;

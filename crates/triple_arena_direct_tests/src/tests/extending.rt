@@ -8,6 +8,9 @@ use triple_arena_ptr::P0;
 use triple_arena_stack::NonZeroInxArray;
 use triple_arena_test_kit::{is, is_shown};
 
+// An arena that a fourth value finds full.
+type OfThree = Arena<P0, u64, NonZeroInxArray<ArenaSlot<P0, u64>, 3>>;
+
 // Of five values three find a place: the fourth comes back, and the fifth is left.
 fn takes_three<A: ArenaInsertTrait<P0, u64>>(rt: &impl Abort, arena: &mut A) {
     let mut values = 1..6;
@@ -23,7 +26,7 @@ fn takes_three<A: ArenaInsertTrait<P0, u64>>(rt: &impl Abort, arena: &mut A) {
 
 #[test]
 fn values_come_until_one_is_refused(rt: HostRuntime) {
-    let mut arena: Arena<P0, u64, NonZeroInxArray<ArenaSlot<P0, u64>, 3>> = Arena::new(rt.alloc());
+    let mut arena: OfThree = Arena::new(rt.alloc());
     takes_three(&rt, &mut arena);
     let text = "{P0[1](2): 1, P0[2](2): 2, P0[3](2): 3}";
     is_shown(rt.alloc(), &arena, text).expect(&rt, "the arena");
@@ -33,4 +36,11 @@ fn values_come_until_one_is_refused(rt: HostRuntime) {
 fn an_arena_is_made_of_what_comes(rt: HostRuntime) {
     let arena: Arena<P0, u64> = from_iter(rt.alloc(), 1..3).expect(&rt, "memory");
     is_shown(rt.alloc(), &arena, "{P0[1](2): 1, P0[2](2): 2}").expect(&rt, "the arena");
+}
+
+#[test]
+fn no_arena_is_made_of_more_than_its_limit(rt: HostRuntime) {
+    let made: Result<OfThree, InsertFailed<u64>> = from_iter(rt.alloc(), 1..6);
+    let (value, error) = (4, ReallocationError::BeyondMaxCapacity);
+    is(made.err(), Some(InsertFailed { value, error })).expect(&rt, "the refusal");
 }

@@ -259,6 +259,20 @@ fn a_strict_arena_is_renewed_at_the_end_of_the_counter(rt: HostRuntime) {
 }
 
 #[test]
+fn a_dangling_link_refuses_a_renewal(rt: HostRuntime) {
+    let mut nodes = Nodes::new(rt.alloc());
+    Strict::insert(&mut nodes, (1, Some(pointer(9, 9)))).expect(&rt, "memory");
+    let wanted = CompactError::Unresolved(pointer(9, 9));
+    match renew(nodes, rt.alloc()) {
+        Ok(_renewed) => is(Ok(()), Err(wanted)).expect(&rt, "the refusal"),
+        Err((nodes, refusal)) => {
+            is(refusal, wanted).expect(&rt, "the refusal");
+            is_shown(rt.alloc(), &nodes, "{B[1](2): (1, Some(B[9](9)))}").expect(&rt, "the arena");
+        }
+    }
+}
+
+#[test]
 fn the_values_of_a_strict_arena_leave_it(rt: HostRuntime) {
     let mut nodes = Nodes::new(rt.alloc());
     is_walked(&rt, &mut nodes);

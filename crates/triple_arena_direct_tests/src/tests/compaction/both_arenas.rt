@@ -10,9 +10,9 @@ use std::fmt::Debug;
 use std::process::Abort;
 use triple_arena::{Arena, ArenaInsertTrait, CompactArenaTrait};
 use triple_arena_base::{Recast, Recaster};
-use triple_arena_direct::compress_recast_both;
+use triple_arena_direct::{StrictArena, compress_recast_both};
 use triple_arena_ptr::{P0, Ptr, Q2};
-use triple_arena_test_kit::{is_shown, pointer};
+use triple_arena_test_kit::{inx, is, is_shown, pointer};
 
 // What points to a cell and to a net, or to either, or to nothing.
 #[derive(Clone, Copy, Debug, Drop)]
@@ -99,4 +99,47 @@ fn follow<
 #[test]
 fn both_arenas_follow_each_other(rt: HostRuntime) {
     follow::<Arena<P0, Ends>, Arena<Q2, Ends>>(&rt, rt.alloc());
+}
+
+/// Insertion and removal of a strict arena, without clauses.
+trait Strictly {
+    fn is_put(&mut self, ends: Ends) -> bool;
+
+    fn is_taken_at(&mut self, index: usize) -> bool;
+}
+
+impl<P: Ptr> Strictly for StrictArena<P, Ends> {
+    fn is_put(&mut self, ends: Ends) -> bool {
+        self.insert(ends).is_ok()
+    }
+
+    fn is_taken_at(&mut self, index: usize) -> bool {
+        self.remove_inx(inx(index)).is_ok()
+    }
+}
+
+// Three, of which the first goes.
+fn put_behind_a_gap<A: Strictly>(rt: &impl Abort, arena: &mut A, linked: &[Ends]) {
+    for ends in linked {
+        is(arena.is_put(*ends), true).expect(rt, "memory");
+    }
+    is(arena.is_taken_at(1), true).expect(rt, "a removal");
+}
+
+#[test]
+fn strict_arenas_follow_each_other(rt: HostRuntime) {
+    let mut cells: StrictArena<P0, Ends> = StrictArena::new(rt.alloc());
+    put_behind_a_gap(&rt, &mut cells, &[at(0, 0), at(3, 2), at(0, 3)]);
+    let mut nets: StrictArena<Q2, Ends> = StrictArena::new(rt.alloc());
+    put_behind_a_gap(&rt, &mut nets, &[at(0, 0), at(2, 3), at(3, 0)]);
+    let answer = cells.compress_recast_both(&mut nets, rt.alloc());
+    let text = "Ok(({P0[2](2): P0[1](4), P0[3](2): P0[2](4)}, \
+        {Q2[2](2): Q2[1](4), Q2[3](2): Q2[2](4)}))";
+    is_shown(rt.alloc(), &answer, text).expect(&rt, "the answer");
+    let text = "{P0[1](4): Ends { cell: Some(P0[2](4)), net: Some(Q2[1](4)) }, \
+        P0[2](4): Ends { cell: None, net: Some(Q2[2](4)) }}";
+    is_shown(rt.alloc(), &cells, text).expect(&rt, "the cells");
+    let text = "{Q2[1](4): Ends { cell: Some(P0[1](4)), net: Some(Q2[2](4)) }, \
+        Q2[2](4): Ends { cell: Some(P0[2](4)), net: None }}";
+    is_shown(rt.alloc(), &nets, text).expect(&rt, "the nets");
 }

@@ -1,4 +1,5 @@
 use std::process::Abort;
+use triple_arena_base::{CompactError, GetDisjointMutError};
 use triple_arena_direct::StrictError;
 use triple_arena_test_kit::is;
 use triple_arena_uses::{Lease, Leases, Ticket};
@@ -6,6 +7,10 @@ use triple_arena_uses::{Lease, Leases, Ticket};
 /// The calls of a registry of leases, without clauses.
 trait Registry {
     fn issued(&mut self, lease: Lease) -> Option<Ticket>;
+
+    fn numbered(&mut self, holder: u32) -> Option<Ticket>;
+
+    fn swapped(&mut self, first: Ticket, second: Ticket) -> Result<(), GetDisjointMutError>;
 
     fn revoked(&mut self, ticket: Ticket) -> Result<Lease, StrictError>;
 
@@ -15,6 +20,14 @@ trait Registry {
 impl Registry for Leases {
     fn issued(&mut self, lease: Lease) -> Option<Ticket> {
         self.issue(lease).ok()
+    }
+
+    fn numbered(&mut self, holder: u32) -> Option<Ticket> {
+        self.issue_numbered(holder).ok()
+    }
+
+    fn swapped(&mut self, first: Ticket, second: Ticket) -> Result<(), GetDisjointMutError> {
+        self.swap_holders(first, second)
     }
 
     fn revoked(&mut self, ticket: Ticket) -> Result<Lease, StrictError> {
@@ -86,5 +99,52 @@ fn leases_are_renewed_when_their_tickets_are_used_up(rt: HostRuntime) {
     match leases.renew(&mut kept, rt.alloc()) {
         Ok(mut leases) => is_revoked(&rt, &mut leases, &kept),
         Err((_leases, refusal)) => is(Err(refusal), Ok(())).expect(&rt, "the map's memory"),
+    }
+}
+
+// Of two leases the second's item is numbered by its ticket, of index 2 and generation 2; they exchange their holders.
+fn are_swapped<R: Registry>(rt: &impl Abort, leases: &mut R) {
+    let first = leases.issued(lease(7)).expect(rt, "memory");
+    let second = leases.numbered(5).expect(rt, "memory");
+    is(leases.swapped(first, second), Ok(())).expect(rt, "an exchange");
+    let (left, right) = (
+        Lease { item: 7, holder: 5 },
+        Lease {
+            item: 514,
+            holder: 1,
+        },
+    );
+    is(leases.redeemed(first), Some(left)).expect(rt, "the first lease");
+    is(leases.redeemed(second), Some(right)).expect(rt, "the second lease");
+    let one = Err(GetDisjointMutError::OverlappingIndices);
+    is(leases.swapped(second, second), one).expect(rt, "an exchange of one");
+}
+
+#[test]
+fn leases_exchange_their_holders(rt: HostRuntime) {
+    are_swapped(&rt, &mut Leases::new(rt.alloc()));
+}
+
+// The lease of a registry that came back from a renewal is found by its ticket, which was kept.
+fn is_kept<R: Registry>(rt: &impl Abort, leases: &R, kept: &[Ticket]) {
+    let ticket = kept.first().copied().expect(rt, "a ticket");
+    is(leases.redeemed(ticket), Some(lease(2))).expect(rt, "the kept lease");
+}
+
+#[test]
+fn a_stray_ticket_refuses_a_renewal(rt: HostRuntime) {
+    let mut leases = Leases::new(rt.alloc());
+    let stray = came_and_went(&rt, &mut leases, 1);
+    let last = leases.issued(lease(2)).expect(&rt, "memory");
+    let mut kept: Vec<Ticket> = Vec::new(rt.alloc());
+    kept.push(last).expect(&rt, "memory");
+    kept.push(stray).expect(&rt, "memory");
+    let wanted = CompactError::Unresolved(stray);
+    match leases.renew(&mut kept, rt.alloc()) {
+        Ok(_leases) => is(Ok(()), Err(wanted)).expect(&rt, "the refusal"),
+        Err((leases, refusal)) => {
+            is(refusal, wanted).expect(&rt, "the refusal");
+            is_kept(&rt, &leases, &kept);
+        }
     }
 }

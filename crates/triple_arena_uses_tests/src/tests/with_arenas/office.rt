@@ -1,5 +1,7 @@
 use std::process::Abort;
 use triple_arena::{Arena, ArenaInsertTrait, ArenaTrait};
+use triple_arena_base::CompactError;
+use triple_arena_direct::CompactBothError;
 use triple_arena_test_kit::{is, is_shown};
 use triple_arena_uses::office::{Desk, DeskPtr, Worker, WorkerPtr, compact_office};
 
@@ -43,4 +45,31 @@ fn workers_and_desks_follow(rt: HostRuntime) {
     is_shown(rt.alloc(), &workers, text).expect(&rt, "the workers");
     let text = "{P0[1](4): Desk { room: 5, owner: Some(P0[1](4)) }}";
     is_shown(rt.alloc(), &desks, text).expect(&rt, "the desks");
+}
+
+// A worker at a desk that is gone: the desk's pointer.
+fn leaves_a_desk<A: ArenaInsertTrait<WorkerPtr, Worker>, B: ArenaInsertTrait<DeskPtr, Desk>>(
+    rt: &impl Abort,
+    workers: &mut A,
+    desks: &mut B,
+) -> DeskPtr {
+    let gone = desks.insert(desk(None)).expect(rt, "memory");
+    workers
+        .insert(worker(None, Some(gone)))
+        .expect(rt, "memory");
+    drop(desks.remove(gone));
+    gone
+}
+
+#[test]
+fn an_office_with_a_desk_that_is_gone_stays_as_it_is(rt: HostRuntime) {
+    let mut workers: Arena<WorkerPtr, Worker> = Arena::new(rt.alloc());
+    let mut desks: Arena<DeskPtr, Desk> = Arena::new(rt.alloc());
+    let gone = leaves_a_desk(&rt, &mut workers, &mut desks);
+    let answer = compact_office(&mut workers, &mut desks, rt.alloc());
+    let wanted = CompactBothError::Second(CompactError::Unresolved(gone));
+    is(answer.err(), Some(wanted)).expect(&rt, "the refusal");
+    let text = "{P0[1](2): Worker { badge: 1, leader: None, desk: Some(P0[1](2)) }}";
+    is_shown(rt.alloc(), &workers, text).expect(&rt, "the workers");
+    is_shown(rt.alloc(), &desks, "{}").expect(&rt, "the desks");
 }

@@ -1,10 +1,13 @@
 //! Waiting lists, many of them in one arena.
 
 ghost use Rattle.std.specs.Prelude.{◌≡◌, [], ◌∷◌, None, Some, IfOk, OnOk, OnErr};
+ghost use Rattle.triple_arena_base.specs.Invalidation.{allowed_option};
+ghost use Rattle.triple_arena.specs.Ending.{told};
 ghost use Rattle.triple_arena.specs.Histories.{removal, CountsUp, Continues};
 ghost use Rattle.triple_arena_chain.specs.Chains.{nodes, value_at, after_at};
 
 use triple_arena::{ArenaInsertTrait, ArenaTrait, CompactArenaTrait};
+use triple_arena_base::InvalidationOption;
 use triple_arena_chain::{ChainError, Chains, Link};
 use triple_arena_ptr::{Ptr, PtrGen};
 
@@ -26,23 +29,22 @@ pub fn enqueue<P: Ptr, A: CompactArenaTrait<P, Link<P, u64>> + ArenaInsertTrait<
     }
 }
 
-/// Takes a number out of its list, and gives it. As long as the counter of the arena doesn't wrap, its
-/// pointer has ended (`ended`), and finds no later number.
+/// Takes a number out of its list, and gives it, and tells a wrap exactly where the counter of the arena
+/// wraps. Where it doesn't, the number's pointer has ended (`ended`), and finds no later number.
 ///
 /// Refused exactly as `remove` is; then nothing changes.
 pub fn serve<P: Ptr, A: CompactArenaTrait<P, Link<P, u64>> + ArenaInsertTrait<P, Link<P, u64>>>(
     lists: &mut Chains<P, u64, A>,
     p: P,
-) -> Result<u64, ChainError>
+) -> Result<InvalidationOption<u64>, ChainError>
     ensures number { IfOk result
-        (λ number. value_at (nodes lists.old) (P.numbers p) ≡ Some number) }
+        (λ answer. value_at (nodes lists.old) (P.numbers p) ≡ Some (allowed_option answer)) }
+    ensures answer { IfOk result (λ answer. answer
+        ≡ told (A.ending_wraps lists.old.arena) (allowed_option answer)) }
     ensures gone { OnOk result (nodes lists.new (P.numbers p) ≡ None) }
     ensures ended { OnOk result (CountsUp P.Gen.generations (A.ending_wraps lists.old.arena)
         → Continues A.fits lists.old.arena (removal (P.numbers p) ∷ []) lists.new.arena) }
     ensures refused { OnErr result (lists.new ≡ lists.old) }
 {
-    match lists.remove(p) {
-        Ok(answer) => Ok(answer.allow()),
-        Err(refusal) => Err(refusal),
-    }
+    lists.remove(p)
 }

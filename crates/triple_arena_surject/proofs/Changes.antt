@@ -19,7 +19,7 @@ use Rattle.triple_arena_surject.proofs.Sound.{none_there, label_stays}
 use Rattle.triple_arena_surject.proofs.States.{some_is, found_is, set_is, key_is, named_is, val_is, together, together_is, read_key, read_same}
 
 -- the value is the same where the set's name is, and what that names
-pub val_same : {K V : Type 0} (s t : SurjectState K V) (p : Pointer) → set_at t p ≡ set_at s p → ((c : Pointer) → set_at s p ≡ Some c → named t c ≡ named s c) → val_at t p ≡ val_at s p
+pub val_same : {A K V : Type 0} (s t : SurjectState A K V) (p : Pointer) → set_at t p ≡ set_at s p → ((c : Pointer) → set_at s p ≡ Some c → named t c ≡ named s c) → val_at t p ≡ val_at s p
 val_same s t p same names = ap (option_and_then (named t)) same ∙ by_name (set_at s p) names
   where
     by_name : (o : Option Pointer) → ((c : Pointer) → o ≡ Some c → named t c ≡ named s c) → option_and_then (named t) o ≡ option_and_then (named s) o
@@ -87,7 +87,7 @@ module _ {V : Type 0} where
         ∙ ap (λ l. with_val (state_of numbers chains slots capacity l) (set_at (state_of numbers chains slots capacity limit) p) w) same_limit
 
 -- the set of a pointer has the value that is written to it
-pub valued_so : {K V : Type 0} (s : SurjectState K V) (p c : Pointer) (was value : V) → set_at s p ≡ Some c → named s c ≡ Some was → IsValued s p value (with_val s (set_at s p) value)
+pub valued_so : {A K V : Type 0} (s : SurjectState A K V) (p c : Pointer) (was value : V) → set_at s p ≡ Some c → named s c ≡ Some was → IsValued s p value (with_val s (set_at s p) value)
 valued_so s p c was value of is =
     subst (λ o. IsValued s p value (with_val s o value)) (sym of)
     (record {
@@ -100,10 +100,10 @@ valued_so s p c was value of is =
 
 module _ {P K V : Type 0} (numbers : P → Pointer) where
   module _ {A : Type 0} (chains chains' : ChainState A (Member P K)) (slots slots' : List (Option (ℕ × Shared V))) (capacity capacity' : ℕ) (limit limit' : Option ℕ) where
-    abbrev old : SurjectState K V
+    abbrev old : SurjectState A K V
     old = state_of numbers chains slots capacity limit
 
-    abbrev new : SurjectState K V
+    abbrev new : SurjectState A K V
     new = state_of numbers chains' slots' capacity' limit'
 
     -- a pointer finds the same key of the same set

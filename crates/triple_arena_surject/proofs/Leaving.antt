@@ -6,11 +6,10 @@ use Rattle.std.specs.Option.{option_map, option_and_then}
 use Rattle.triple_arena_ptr.specs.Pointers.{Pointer}
 use Rattle.triple_arena_chain.specs.Chains.{Node, after_at, IsLinked, IsRun, IsRemoved, IsOfChain, IsChainRemoved}
 use Rattle.triple_arena_chain.specs.laws.LinkLaws.{same_pointer, pointer_cases, leads_cases}
-use Rattle.triple_arena_chain.specs.laws.RunLaws.{in_head, in_tail, next_in, removed_run}
+use Rattle.triple_arena_chain.specs.laws.RunLaws.{in_head, in_tail, next_in, removed_run, none_in, runs_on, run_front}
 use Rattle.triple_arena_chain.specs.laws.RestLaws.{split_at}
 use Rattle.triple_arena_surject.specs.declared.member.Member.{Member}
 use Rattle.triple_arena_surject.specs.Rings.{label, IsRound, IsRing, IsSound}
-use Rattle.triple_arena_surject.proofs.Runs.{none_in, runs_on, run_front}
 use Rattle.triple_arena_surject.proofs.Rounds.{one_label, no_label, round_once, ring_from}
 use Rattle.triple_arena_surject.proofs.Sound.{none_some, label_stays, sound_kept, sound_but}
 use Rattle.triple_arena_surject.proofs.States.{some_is}

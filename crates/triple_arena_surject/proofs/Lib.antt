@@ -1,4 +1,3 @@
-pub mod Runs
 pub mod Rounds
 pub mod Sound
 pub mod States
@@ -8,6 +7,5 @@ pub mod Uniting
 pub mod Unions
 pub mod Leaving
 pub mod Changes
-pub mod Counting
 pub mod Renaming
 pub mod Results

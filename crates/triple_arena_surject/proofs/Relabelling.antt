@@ -7,10 +7,10 @@ use Rattle.std.specs.Option.{option_map}
 use Rattle.triple_arena_ptr.specs.Pointers.{Pointer}
 use Rattle.triple_arena_chain.specs.Chains.{Node, value_at, after_at, first_of, IsLinked, IsRun, AreOnce}
 use Rattle.triple_arena_chain.specs.laws.LinkLaws.{same_pointer}
-use Rattle.triple_arena_chain.specs.laws.RunLaws.{in_head}
+use Rattle.triple_arena_chain.specs.laws.RunLaws.{in_head, none_in, run_back}
+use Rattle.triple_arena_chain.specs.laws.OnceLaws.{once_before}
 use Rattle.triple_arena_surject.specs.declared.member.Member.{Member}
 use Rattle.triple_arena_surject.specs.Rings.{label, with_set, IsRound}
-use Rattle.triple_arena_surject.proofs.Runs.{none_in, once_before, run_back}
 use Rattle.triple_arena_surject.proofs.Rounds.{round_once}
 
 module _ {P K : Type 0} (numbers : P → Pointer) where

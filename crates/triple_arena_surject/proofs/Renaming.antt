@@ -8,13 +8,12 @@ use Rattle.triple_arena.specs.Entries.{look_up, entry_count}
 use Rattle.triple_arena.specs.Walks.{keys}
 use Rattle.triple_arena.specs.laws.WalkLaws.{live_key, key_live, keys_rising}
 use Rattle.triple_arena_chain.specs.Chains.{Node, ChainState, nodes, value_at, renamed, IsMoved}
-use Rattle.triple_arena_chain.specs.laws.RunLaws.{in_head, in_tail, moved_run}
+use Rattle.triple_arena_chain.specs.laws.RunLaws.{in_head, in_tail, moved_run, none_in, run_there}
+use Rattle.triple_arena_chain.specs.laws.OnceLaws.{many_keys, in_map, one_to_one, once_rising}
 use Rattle.triple_arena_surject.specs.declared.member.Member.{Member}
 use Rattle.triple_arena_surject.specs.declared.member.Shared.{Shared}
 use Rattle.triple_arena_surject.specs.Rings.{label, IsRound, IsRing, IsSound}
 use Rattle.triple_arena_surject.specs.Surject.{SurjectState, found_at, key_of, state_of, IsRenamed}
-use Rattle.triple_arena_surject.proofs.Counting.{many_keys, in_map, one_to_one, once_rising}
-use Rattle.triple_arena_surject.proofs.Runs.{none_in, run_there}
 use Rattle.triple_arena_surject.proofs.Rounds.{labelled_there}
 use Rattle.triple_arena_surject.proofs.States.{some_of_map, map_of_some, found_is, read_same}
 
@@ -80,10 +79,10 @@ module _ {A P K : Type 0} (numbers : P → Pointer) (old new : ChainState A (Mem
 
   -- the state after it
   module _ {V : Type 0} (slots : List (Option (ℕ × Shared V))) (capacity : ℕ) (limit : Option ℕ) where
-    abbrev before : SurjectState K V
+    abbrev before : SurjectState A K V
     before = state_of numbers old slots capacity limit
 
-    abbrev after : SurjectState K V
+    abbrev after : SurjectState A K V
     after = state_of numbers new slots capacity limit
 
     there_before : (p : Pointer) → IsSome (found_at before p) → IsSome (nodes old p)

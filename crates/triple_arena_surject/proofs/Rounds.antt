@@ -10,10 +10,10 @@ use Rattle.triple_arena.specs.laws.WalkLaws.{live_key}
 use Rattle.triple_arena_chain.specs.Chains.{Node, after_at, first_of, IsLinked, IsRun, AreOnce}
 use Rattle.triple_arena_chain.specs.laws.LinkLaws.{same_pointer}
 use Rattle.triple_arena_chain.specs.laws.RestLaws.{split_at, no_more, run_once}
+use Rattle.triple_arena_chain.specs.laws.RunLaws.{runs_on, run_front, run_back, run_stays, run_there}
+use Rattle.triple_arena_chain.specs.laws.OnceLaws.{in_turn, once_before, once_behind, many_keys}
 use Rattle.triple_arena_surject.specs.declared.member.Member.{Member}
 use Rattle.triple_arena_surject.specs.Rings.{label, IsRound, IsRing}
-use Rattle.triple_arena_surject.proofs.Counting.{many_keys}
-use Rattle.triple_arena_surject.proofs.Runs.{in_turn, once_before, once_behind, runs_on, run_front, run_back, run_stays, run_there}
 
 module _ {P K : Type 0} (numbers : P → Pointer) where
   -- what has a name is there, and has no other

@@ -5,11 +5,10 @@ use Rattle.std.specs.Option.{option_map}
 use Rattle.triple_arena_ptr.specs.Pointers.{Pointer}
 use Rattle.triple_arena_chain.specs.Chains.{Node, value_at, after_at, IsLinked, IsInserted}
 use Rattle.triple_arena_chain.specs.laws.LinkLaws.{same_pointer, pointer_cases}
-use Rattle.triple_arena_chain.specs.laws.RunLaws.{in_head, in_tail, inserted_after}
+use Rattle.triple_arena_chain.specs.laws.RunLaws.{in_head, in_tail, inserted_after, none_in}
 use Rattle.triple_arena_chain.specs.laws.RestLaws.{in_rest}
 use Rattle.triple_arena_surject.specs.declared.member.Member.{Member}
 use Rattle.triple_arena_surject.specs.Rings.{label, IsRound, IsRing, IsSound, IsRingOfOne}
-use Rattle.triple_arena_surject.proofs.Runs.{none_in}
 use Rattle.triple_arena_surject.proofs.Rounds.{labelled_there, one_label, no_label, ring_from, ring_stays}
 
 pub some_there : {A : Type 0} (o : Option A) (x : A) → o ≡ Some x → IsSome o

@@ -17,13 +17,7 @@ module _ {T : Type 0} (old : Pointer → Option (Node T)) (linked : IsLinked old
   ends : then ≢ next
   ends e = apart (same_pointer p q (sym ((linked p next).0 on_p) ∙ sym (ap (before_at old) e) ∙ (linked q then).0 on_q))
 
-  pub p_there : IsSome (old p)
-  p_there = leads_on_there old p next on_p
-
   module _ (first : Pointer → Option (Node T)) (cut : IsCut old (Some p) (after_at old p) first) where
-    pub q_there : IsSome (first q)
-    q_there = valued (old q) (first q) (leads_on_there old q then on_q) (cut.values q)
-
     still_on : after_at first q ≡ Some then
     still_on = cut.afters q (other_some p q apart) ∙ on_q
 
@@ -31,14 +25,8 @@ module _ {T : Type 0} (old : Pointer → Option (Node T)) (linked : IsLinked old
       stays : (r : Pointer) → IsSome (old r) → IsSome (second r)
       stays r some = valued (first r) (second r) (valued (old r) (first r) some (cut.values r)) (cuts.values r)
 
-      pub p_stays : IsSome (second p)
-      p_stays = stays p p_there
-
       pub then_there : IsSome (second then)
       then_there = stays then (leads_back_there old then q ((linked q then).0 on_q))
-
-      pub p_open : after_at second p ≡ None
-      p_open = cuts.afters p (other_some q p back) ∙ cut.after_prev p refl
 
       pub then_open : before_at second then ≡ None
       then_open = cuts.before_next then still_on

@@ -1,18 +1,17 @@
 -- What the state says of a pointer, by what is read of chains and values.
 use Rattle.std.specs.Prelude.{List, [], ◌∷◌}
-use Rattle.std.proofs.Common.{◌≡◌, ◌↔◌, ◌⊎◌, inl, inr, ℕ, Result, Err, Option, Some, None, IsSome, refl, sym, ap, ◌∙◌, subst}
+use Rattle.std.proofs.Common.{◌≡◌, ◌↔◌, ◌⊎◌, inl, inr, ℕ, Result, Err, Option, Some, None, is_some, IsSome, refl, sym, ap, ◌∙◌, subst}
 use Rattle.std.specs.Option.{option_map, option_and_then}
 use Rattle.triple_arena_ptr.specs.Pointers.{Pointer}
 use Rattle.triple_arena.specs.Entries.{look_up}
 use Rattle.triple_arena.specs.laws.LookUpLaws.{found_mapped}
 use Rattle.triple_arena_chain.specs.Chains.{Node, ChainState, nodes, value_at, IsLinked}
-use Rattle.triple_arena_chain.specs.laws.RunLaws.{in_head}
+use Rattle.triple_arena_chain.specs.laws.RunLaws.{in_head, none_in}
 use Rattle.triple_arena_surject.specs.declared.member.Member.{Member}
 use Rattle.triple_arena_surject.specs.declared.member.Shared.{Shared}
 use Rattle.triple_arena_surject.specs.Rings.{counts, label, IsRound, IsSound}
 use Rattle.triple_arena_surject.specs.Surject.{SurjectState, found_at, key_at, set_at, named, val_at, AreTogether, AreKeys, HasKeys, EachHasOther, key_of, value_of, state_of}
 use Rattle.triple_arena_surject.proofs.Rounds.{round_once, ring_from}
-use Rattle.triple_arena_surject.proofs.Runs.{none_in}
 use Rattle.triple_arena_surject.proofs.Sound.{some_there, none_there}
 
 pub some_of_map : {A B : Type 0} (f : A → B) (o : Option A) → IsSome (option_map f o) → IsSome o
@@ -28,10 +27,10 @@ some_is None some = absurd (cc)
 some_is (Some x) some = (x, refl)
 
 -- a pointer that finds something isn't told to find nothing
-pub never : {A E K V : Type 0} (s : SurjectState K V) (p : Pointer) (r : Result A E) (e : E) → IsSome (found_at s p) → (r ≡ Err e → ⊥) → (r ≡ Err e) ↔ (found_at s p ≡ None)
+pub never : {R E A K V : Type 0} (s : SurjectState A K V) (p : Pointer) (r : Result R E) (e : E) → IsSome (found_at s p) → (r ≡ Err e → ⊥) → (r ≡ Err e) ↔ (found_at s p ≡ None)
 never s p r e some other = (λ is. absurd (other is), λ none. absurd (none_there (found_at s p) none some))
 
-pub never_both : {A E K V : Type 0} (s : SurjectState K V) (p q : Pointer) (r : Result A E) (e : E) → IsSome (found_at s p) → IsSome (found_at s q) → (r ≡ Err e → ⊥)
+pub never_both : {R E A K V : Type 0} (s : SurjectState A K V) (p q : Pointer) (r : Result R E) (e : E) → IsSome (found_at s p) → IsSome (found_at s q) → (r ≡ Err e → ⊥)
     → (r ≡ Err e) ↔ ((found_at s p ≡ None) ⊎ (found_at s q ≡ None))
 never_both s p q r e some also other = (
   λ is. absurd (other is),
@@ -42,11 +41,11 @@ never_both s p q r e some also other = (
 )
 
 -- a pointer that finds nothing is of no set
-pub no_keys : {K V : Type 0} (s : SurjectState K V) (p : Pointer) → set_at s p ≡ None → AreKeys s p []
+pub no_keys : {A K V : Type 0} (s : SurjectState A K V) (p : Pointer) → set_at s p ≡ None → AreKeys s p []
 no_keys s p none = record { once = tt; among = λ q. (λ is. absurd (none_there (set_at s p) none is.0), λ within. absurd (none_in q within)) }
 
 -- a pointer that finds something is of its own set
-pub itself : {K V : Type 0} (s : SurjectState K V) (p : Pointer) → IsSome (found_at s p) → AreTogether s p p
+pub itself : {A K V : Type 0} (s : SurjectState A K V) (p : Pointer) → IsSome (found_at s p) → AreTogether s p p
 itself s p some = (map_of_some (λ m. m.1) (found_at s p) some, refl)
 
 module _ {P K : Type 0} (numbers : P → Pointer) where
@@ -70,11 +69,18 @@ module _ {P K : Type 0} (numbers : P → Pointer) where
   read_same (Some o) (Some n) e = let same : n.value ≡ o.value = cc in ap (λ (m : Member P K). Some (m.key, numbers m.set)) same
 
   module _ {A V : Type 0} (chains : ChainState A (Member P K)) (slots : List (Option (ℕ × Shared V))) (capacity : ℕ) (limit : Option ℕ) where
-    abbrev state : SurjectState K V
+    abbrev state : SurjectState A K V
     state = state_of numbers chains slots capacity limit
 
     pub found_is : (p : Pointer) → found_at state p ≡ read_key (nodes chains p)
     found_is p = found_mapped (key_of numbers) chains.slots p
+
+    pub there_is : (p : Pointer) → is_some (nodes chains p) ≡ is_some (found_at state p)
+    there_is p = by_node (nodes chains p) ∙ sym (ap is_some (found_is p))
+      where
+        by_node : (o : Option (Node (Member P K))) → is_some o ≡ is_some (read_key o)
+        by_node None = refl
+        by_node (Some node) = refl
 
     pub set_is : (p : Pointer) → set_at state p ≡ label numbers (nodes chains) p
     set_is p = ap (option_map (λ m. m.1)) (found_is p) ∙ set_read (nodes chains p)

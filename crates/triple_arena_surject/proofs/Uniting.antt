@@ -6,10 +6,9 @@ use Rattle.std.specs.Option.{option_map}
 use Rattle.triple_arena_ptr.specs.Pointers.{Pointer}
 use Rattle.triple_arena_chain.specs.Chains.{Node, value_at, after_at, IsLinked}
 use Rattle.triple_arena_chain.specs.laws.LinkLaws.{pointer_cases, leads_cases}
-use Rattle.triple_arena_chain.specs.laws.RunLaws.{in_tail}
+use Rattle.triple_arena_chain.specs.laws.RunLaws.{in_tail, first_of_both, runs_on, run_stays}
 use Rattle.triple_arena_surject.specs.declared.member.Member.{Member}
 use Rattle.triple_arena_surject.specs.Rings.{label, with_set, IsRound, IsRing, IsSound, IsSpliced}
-use Rattle.triple_arena_surject.proofs.Runs.{first_of_both, runs_on, run_stays}
 use Rattle.triple_arena_surject.proofs.Rounds.{labelled_there, one_label, ring_from}
 use Rattle.triple_arena_surject.proofs.Sound.{some_there, none_some, same_number, label_stays, sound_kept}
 

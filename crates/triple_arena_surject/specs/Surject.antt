@@ -15,10 +15,11 @@ use Rattle.triple_arena_surject.specs.declared.member.Shared.{Shared}
 use Rattle.triple_arena_surject.specs.declared.refusal.SurjectError.{SurjectError}
 use Rattle.triple_arena_surject.specs.declared.refusal.SurjectError.TheVariants.{NoEntry, NoRoom, NoMemory}
 
--- sets of keys: by index, the generation of the entry that stands there, its key and the name of its set, or nothing; the
--- values, each under the name of its set; how many keys and values there are, how many of each fit without growth, and how many
--- are allowed, if there is a limit
-pub record SurjectState (K V : Type 0) : Type 0 where
+-- sets of keys: the arena of the keys, of whose counter and history it alone tells; by index, the generation of the entry that
+-- stands there, its key and the name of its set, or nothing; the values, each under the name of its set; how many keys and
+-- values there are, how many of each fit without growth, and how many are allowed, if there is a limit
+pub record SurjectState (A K V : Type 0) : Type 0 where
+  pub arena : A
   pub keys : List (Option (ℕ × (K × Pointer)))
   pub vals : List (Option (ℕ × V))
   pub len_keys : ℕ
@@ -33,54 +34,55 @@ abbrev pub with_val_in : {V : Type 0} → List (Option (ℕ × V)) → Option Po
 with_val_in vals None value = vals
 with_val_in vals (Some c) value = with_value_in vals c.0 value
 
-module _ {K V : Type 0} where
+module _ {A K V : Type 0} where
   -- what is found under a pointer: a key, and the name of its set
-  abbrev pub found_at : SurjectState K V → Pointer → Option (K × Pointer)
+  abbrev pub found_at : SurjectState A K V → Pointer → Option (K × Pointer)
   found_at s p = look_up s.keys p
 
-  abbrev pub key_at : SurjectState K V → Pointer → Option K
+  abbrev pub key_at : SurjectState A K V → Pointer → Option K
   key_at s p = option_map (λ m. m.0) (found_at s p)
 
-  abbrev pub set_at : SurjectState K V → Pointer → Option Pointer
+  abbrev pub set_at : SurjectState A K V → Pointer → Option Pointer
   set_at s p = option_map (λ m. m.1) (found_at s p)
 
   -- the value of a set, by its name
-  abbrev pub named : SurjectState K V → Pointer → Option V
+  abbrev pub named : SurjectState A K V → Pointer → Option V
   named s c = look_up s.vals c
 
   -- the value that a pointer's key has with all keys of its set
-  abbrev pub val_at : SurjectState K V → Pointer → Option V
+  abbrev pub val_at : SurjectState A K V → Pointer → Option V
   val_at s p = option_and_then (named s) (set_at s p)
 
   -- two pointers are of one set
-  abbrev pub AreTogether : SurjectState K V → Pointer → Pointer → Type 0
+  abbrev pub AreTogether : SurjectState A K V → Pointer → Pointer → Type 0
   AreTogether s p q = IsSome (set_at s p) × (set_at s p ≡ set_at s q)
 
   -- these pointers, each once, are the ones of a pointer's set
-  pub record AreKeys (s : SurjectState K V) (p : Pointer) (all : List Pointer) : Type 0 where
+  pub record AreKeys (s : SurjectState A K V) (p : Pointer) (all : List Pointer) : Type 0 where
     pub once : AreOnce all
     pub among : (q : Pointer) → AreTogether s p q ↔ Contains all q
 
   -- the set of a pointer has so many keys
-  pub record HasKeys (s : SurjectState K V) (p : Pointer) (n : ℕ) : Type 0 where
+  pub record HasKeys (s : SurjectState A K V) (p : Pointer) (n : ℕ) : Type 0 where
     pub all : List Pointer
     pub are : AreKeys s p all
     pub size : length all ≡ n
 
   -- two pointers are of these two sets, the one of the one and the other of the other
-  abbrev pub AreOfBoth : SurjectState K V → (p q r t : Pointer) → Type 0
+  abbrev pub AreOfBoth : SurjectState A K V → (p q r t : Pointer) → Type 0
   AreOfBoth s p q r t = (AreTogether s p r × AreTogether s q t) ⊎ (AreTogether s q r × AreTogether s p t)
 
   -- each key has a value, and each value a key
-  pub record EachHasOther (s : SurjectState K V) : Type 0 where
+  pub record EachHasOther (s : SurjectState A K V) : Type 0 where
     pub valued : (p : Pointer) → IsSome (found_at s p) → IsSome (val_at s p)
     pub keyed : (c : Pointer) → IsSome (named s c) → (p : Pointer) × (set_at s p ≡ Some c)
 
-  -- every pointer finds the same key in the same set, and every set has the same value; there are as many of both, and no fewer
-  -- fit
-  pub record IsSame (old new : SurjectState K V) : Type 0 where
+  -- every pointer finds the same key in the same set, and every set has the same value; the arena of the keys is the same,
+  -- there are as many of both, and no fewer fit
+  pub record IsSame (old new : SurjectState A K V) : Type 0 where
     pub keys : (q : Pointer) → found_at new q ≡ found_at old q
     pub vals : (c : Pointer) → named new c ≡ named old c
+    pub arena : new.arena ≡ old.arena
     pub len_keys : new.len_keys ≡ old.len_keys
     pub len_vals : new.len_vals ≡ old.len_vals
     pub key_capacity : old.key_capacity ≤ new.key_capacity
@@ -89,7 +91,7 @@ module _ {K V : Type 0} where
     pub val_limit : new.val_limit ≡ old.val_limit
 
   -- a key stands under a pointer that found nothing before, alone in a set with this value; all else is as before
-  pub record IsNewSet (old : SurjectState K V) (p : Pointer) (k : K) (v : V) (new : SurjectState K V) : Type 0 where
+  pub record IsNewSet (old : SurjectState A K V) (p : Pointer) (k : K) (v : V) (new : SurjectState A K V) : Type 0 where
     pub free : found_at old p ≡ None
     pub key : key_at new p ≡ Some k
     pub value : val_at new p ≡ Some v
@@ -98,7 +100,7 @@ module _ {K V : Type 0} where
     pub vals : (q : Pointer) → q ≢ p → val_at new q ≡ val_at old q
 
   -- a key stands under a pointer that found nothing before, in the set of another; all else is as before
-  pub record IsAdded (old : SurjectState K V) (p q : Pointer) (k : K) (new : SurjectState K V) : Type 0 where
+  pub record IsAdded (old : SurjectState A K V) (p q : Pointer) (k : K) (new : SurjectState A K V) : Type 0 where
     pub free : found_at old q ≡ None
     pub key : key_at new q ≡ Some k
     pub set : set_at new q ≡ set_at old p
@@ -106,13 +108,13 @@ module _ {K V : Type 0} where
     pub vals : (c : Pointer) → named new c ≡ named old c
 
   -- the set of a pointer has another value; all else is as before
-  pub record IsValued (old : SurjectState K V) (p : Pointer) (v : V) (new : SurjectState K V) : Type 0 where
+  pub record IsValued (old : SurjectState A K V) (p : Pointer) (v : V) (new : SurjectState A K V) : Type 0 where
     pub keys : (q : Pointer) → found_at new q ≡ found_at old q
     pub value : (q : Pointer) → AreTogether old p q → val_at new q ≡ Some v
     pub others : (q : Pointer) → ¬ AreTogether old p q → val_at new q ≡ val_at old q
 
   -- the sets of two pointers, which were two, are one, with the name and the value of the one; all else is as before
-  pub record IsUnited (old : SurjectState K V) (kept gone : Pointer) (new : SurjectState K V) : Type 0 where
+  pub record IsUnited (old : SurjectState A K V) (kept gone : Pointer) (new : SurjectState A K V) : Type 0 where
     pub apart : ¬ AreTogether old kept gone
     pub keys : (q : Pointer) → key_at new q ≡ key_at old q
     pub joined : (q r : Pointer) → AreTogether new q r
@@ -122,20 +124,20 @@ module _ {K V : Type 0} where
     pub others : (q : Pointer) → ¬ AreTogether old gone q → val_at new q ≡ val_at old q
 
   -- the set of the one pointer has at least as many keys as that of the other, or more
-  abbrev pub HasAsMany : SurjectState K V → Pointer → Pointer → Type 0
+  abbrev pub HasAsMany : SurjectState A K V → Pointer → Pointer → Type 0
   HasAsMany s p q = (n m : ℕ) × HasKeys s p n × HasKeys s q m × (m ≤ n)
 
-  abbrev pub HasMore : SurjectState K V → Pointer → Pointer → Type 0
+  abbrev pub HasMore : SurjectState A K V → Pointer → Pointer → Type 0
   HasMore s p q = (n m : ℕ) × HasKeys s p n × HasKeys s q m × (m < n)
 
   -- what a union of two sets leaves, and the value that comes back: that of the second, unless it has more keys
-  abbrev pub IsUnion : (old : SurjectState K V) (p q : Pointer) (gives : Option V) (new : SurjectState K V) → Type 0
+  abbrev pub IsUnion : (old : SurjectState A K V) (p q : Pointer) (gives : Option V) (new : SurjectState A K V) → Type 0
   IsUnion old p q gives new =
       (HasAsMany old p q × (gives ≡ val_at old q) × IsUnited old p q new)
       ⊎ (HasMore old q p × (gives ≡ val_at old p) × IsUnited old q p new)
 
   -- there is one value less, and as much room as before for keys and values
-  pub record HasOneLess (old new : SurjectState K V) : Type 0 where
+  pub record HasOneLess (old new : SurjectState A K V) : Type 0 where
     pub len_keys : new.len_keys ≡ old.len_keys
     pub len_vals : new.len_vals + 1 ≡ old.len_vals
     pub key_capacity : new.key_capacity ≡ old.key_capacity
@@ -144,25 +146,25 @@ module _ {K V : Type 0} where
     pub val_limit : new.val_limit ≡ old.val_limit
 
   -- what stood under a pointer is gone; all else is as before
-  pub record IsKeyRemoved (old : SurjectState K V) (p : Pointer) (new : SurjectState K V) : Type 0 where
+  pub record IsKeyRemoved (old : SurjectState A K V) (p : Pointer) (new : SurjectState A K V) : Type 0 where
     pub gone : found_at new p ≡ None
     pub others : (q : Pointer) → q ≢ p → found_at new q ≡ found_at old q
     pub vals : (q : Pointer) → q ≢ p → val_at new q ≡ val_at old q
 
   -- every key of a pointer's set is gone; all else is as before
-  pub record IsSetRemoved (old : SurjectState K V) (p : Pointer) (new : SurjectState K V) : Type 0 where
+  pub record IsSetRemoved (old : SurjectState A K V) (p : Pointer) (new : SurjectState A K V) : Type 0 where
     pub gone : (q : Pointer) → AreTogether old p q → found_at new q ≡ None
     pub others : (q : Pointer) → ¬ AreTogether old p q → found_at new q ≡ found_at old q
     pub vals : (q : Pointer) → ¬ AreTogether old p q → val_at new q ≡ val_at old q
 
   -- each key stands under the new name of its pointer, in the set that it was in, and no other does; the values stay
-  pub record IsRenamed (old : SurjectState K V) (rename : Pointer → Pointer) (new : SurjectState K V) : Type 0 where
+  pub record IsRenamed (old : SurjectState A K V) (rename : Pointer → Pointer) (new : SurjectState A K V) : Type 0 where
     pub renamed : (p : Pointer) → IsSome (found_at old p) → found_at new (rename p) ≡ found_at old p
     pub all : (q : Pointer) → IsSome (found_at new q) → (p : Pointer) × IsSome (found_at old p) × (rename p ≡ q)
     pub vals : (c : Pointer) → named new c ≡ named old c
 
   -- the same with another value in the set of a name, if one is given
-  abbrev pub with_val : SurjectState K V → Option Pointer → V → SurjectState K V
+  abbrev pub with_val : SurjectState A K V → Option Pointer → V → SurjectState A K V
   with_val s name value = record s { vals = with_val_in s.vals name value }
 
 -- room or memory was refused
@@ -180,8 +182,9 @@ value_of shared = shared.value
 
 module _ {P K V : Type 0} (numbers : P → Pointer) where
   -- the sets of keys in chains, with their values in an arena
-  abbrev pub state_of : {A : Type 0} → ChainState A (Member P K) → List (Option (ℕ × Shared V)) → (capacity : ℕ) (limit : Option ℕ) → SurjectState K V
+  abbrev pub state_of : {A : Type 0} → ChainState A (Member P K) → List (Option (ℕ × Shared V)) → (capacity : ℕ) (limit : Option ℕ) → SurjectState A K V
   state_of chains slots capacity limit = record {
+    arena = chains.arena;
     keys = map (option_map (map_entry (key_of numbers))) chains.slots;
     vals = map (option_map (map_entry value_of)) slots;
     len_keys = chains.len;

@@ -1,9 +1,12 @@
 //! Compaction of the keys, which keeps every set.
 
-ghost use Rattle.std.specs.Prelude.{◌≡◌, ◌<◌, ◌≤◌, IsSome, IfOk, OnOk, OnErr};
+ghost use Rattle.std.specs.Prelude.{◌≡◌, ◌<◌, ◌≤◌, false, [], ◌∷◌, IsSome, IfOk, OnOk, OnErr};
 ghost use Rattle.std.specs.Result.{IfErr};
 ghost use Rattle.triple_arena_base.specs.Invalidation.{allowed_option};
 ghost use Rattle.triple_arena_ptr.specs.Pointers.{Pointer};
+ghost use Rattle.triple_arena.specs.Ending.{told};
+ghost use Rattle.triple_arena.specs.Histories.{History, compression, begun_with, CountsUp, Continues};
+ghost use Rattle.triple_arena.specs.Walks.{keys};
 ghost use Rattle.triple_arena_direct.specs.Renaming.{MapsPointers};
 ghost use Rattle.triple_arena_surject.specs.Surject.{found_at, IsRenamed};
 
@@ -11,11 +14,11 @@ use crate::member::{Member, Shared};
 use crate::refusal::SurjectError;
 use crate::surject::SurjectArena;
 use std::alloc::Global;
-use triple_arena::{ArenaInsertTrait, CompactArenaTrait};
+use triple_arena::{ArenaInsertTrait, ArenaTrait, CompactArenaTrait};
 use triple_arena_base::InvalidationOption;
 use triple_arena_chain::Link;
 use triple_arena_direct::DirectArena;
-use triple_arena_ptr::Ptr;
+use triple_arena_ptr::{Ptr, PtrGen};
 
 impl<
     P: Ptr,
@@ -25,14 +28,17 @@ impl<
     B: ArenaInsertTrait<P, Shared<V>>,
 > SurjectArena<P, K, V, A, B> {
     /// Compresses the arena of keys: each key has a new pointer, which the map tells, in the set that it was in, and
-    /// no index is above the number of keys. Values stay where they are. The answer tells a wrap of the arena's
-    /// counter, and generations don't begin anew, but no clause says so.
+    /// no index is above the number of keys. Values stay where they are. The answer tells a wrap exactly where the
+    /// compression wraps the counter of that arena. Generations don't begin anew: where the counter doesn't wrap, no
+    /// pointer that was given before finds anything (`history`).
     ///
     /// `NoMemory`, and only where there is a key and memory for the map is refused; then nothing changes.
     pub fn compress(
         &mut self,
         alloc: Global,
     ) -> Result<InvalidationOption<DirectArena<P, P>>, SurjectError>
+        ensures answer { IfOk result (λ answer. answer
+            ≡ told (A.compression_wraps self.old.arena false) (allowed_option answer)) }
         ensures renamed { IfOk result (λ answer. (rename : Pointer → Pointer)
             × MapsPointers P.numbers rename self.old.keys (allowed_option answer).slots
             × IsRenamed self.old rename self.new) }
@@ -47,6 +53,12 @@ impl<
         ensures refusal { IfErr result
             (λ refusal. (refusal ≡ SurjectError.NoMemory) × (0 < self.old.len_keys)) }
         ensures refused { OnErr result (self.new ≡ self.old) }
+        ensures history { OnOk result
+            (CountsUp P.Gen.generations (A.compression_wraps self.old.arena false)
+            → Continues A.fits self.old.arena (compression (keys (A.slots self.old.arena))
+            (keys (A.slots self.new.arena)) ∷ []) self.new.arena) }
+        ensures begun { OnOk result ((h : History) → A.fits h self.old.arena
+            → A.fits (begun_with (keys (A.slots self.new.arena))) self.new.arena) }
     {
         // By its clauses, keys are counted.
         let _before = self.keys.len();

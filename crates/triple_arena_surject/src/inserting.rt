@@ -1,14 +1,15 @@
 //! New sets, and new keys of a set.
 
-ghost use Rattle.std.specs.Prelude.{◌≡◌, ◌≢◌, ◌≤◌, ◌<◌, ◌↔◌, ◌⊎◌, ◌+◌, None, Some, Err, IsOk, IsSome, IfOk, OnOk, OnErr};
+ghost use Rattle.std.specs.Prelude.{◌≡◌, ◌≢◌, ◌≤◌, ◌<◌, ◌↔◌, ◌⊎◌, ◌+◌, [], ◌∷◌, None, Some, Err, IsOk, IsSome, IfOk, OnOk, OnErr};
 ghost use Rattle.std.specs.Result.{IfErr};
 ghost use Rattle.triple_arena_ptr.specs.Numbers.{greatest_index};
 ghost use Rattle.triple_arena_stack.specs.Capacity.{IsFullAtLimit, CanGrow};
+ghost use Rattle.triple_arena.specs.Histories.{insertion, Continues};
 ghost use Rattle.triple_arena_surject.specs.Surject.{found_at, IsNewSet, IsAdded, IsSame, IsRefusedRoom};
 
 use crate::member::{Member, Shared};
 use crate::refusal::{SurjectError, told_of_chains, told_of_growth};
-use crate::steps::{count_keys, put, put_alone, set_of, take};
+use crate::steps::{count_keys, put, put_alone, set_of, size_of, take};
 use crate::surject::SurjectArena;
 use triple_arena::{ArenaInsertTrait, ArenaTrait, CompactArenaTrait};
 use triple_arena_chain::{Link, Place};
@@ -61,6 +62,8 @@ impl<
             → self.old.len_vals < self.old.val_capacity
             → IsOk result × (self.new.key_capacity ≡ self.old.key_capacity)
             × (self.new.val_capacity ≡ self.old.val_capacity) }
+        ensures history { IfOk result (λ p. Continues A.fits self.old.arena
+            (insertion (P.numbers p) ∷ []) self.new.arena) }
     {
         match put(&mut self.sets, value) {
             Ok(set) => match put_alone(&mut self.keys, Member { key, set }) {
@@ -103,14 +106,15 @@ impl<
         ensures had_place { IsSome (found_at self.old (P.numbers p))
             → self.old.len_keys < self.old.key_capacity
             → IsOk result × (self.new.key_capacity ≡ self.old.key_capacity) }
+        ensures history { IfOk result (λ q. Continues A.fits self.old.arena
+            (insertion (P.numbers q) ∷ []) self.new.arena) }
     {
         let Some(set) = set_of(&self.keys, p) else {
             return Err(SurjectError::NoEntry);
         };
         // By its clauses, neighbours lead to each other.
         let _len = self.keys.len();
-        let shared = self.sets.get(set);
-        let count = shared.unwrap().keys;
+        let count = size_of(&self.sets, set);
         match self.keys.insert(Place::After(p), Member { key, set }) {
             Ok(q) => {
                 // By its value, which is a number of 64 bits, one more key is counted.

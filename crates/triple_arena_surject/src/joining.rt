@@ -1,13 +1,14 @@
 //! Two sets made one.
 
-ghost use Rattle.std.specs.Prelude.{◌≡◌, ◌≢◌, ◌≤◌, ◌↔◌, ◌⊎◌, ◌+◌, ℕ, None, Some, Ok, Err, IsSome, IfOk, OnOk, OnErr};
+ghost use Rattle.std.specs.Prelude.{◌≡◌, ◌≢◌, ◌≤◌, ◌↔◌, ◌⊎◌, ◌+◌, ℕ, [], None, Some, Ok, Err, IsSome, IfOk, OnOk, OnErr};
 ghost use Rattle.std.specs.Result.{IfErr};
 ghost use Rattle.triple_arena_ptr.specs.Pointers.{Pointer};
+ghost use Rattle.triple_arena.specs.Histories.{Continues};
 ghost use Rattle.triple_arena_surject.specs.Surject.{found_at, key_at, set_at, val_at, AreTogether, AreOfBoth, HasKeys, IsUnited, IsUnion, HasOneLess};
 
 use crate::member::{Member, Shared};
 use crate::refusal::SurjectError;
-use crate::steps::{count_keys, relabel, set_of, splice, take};
+use crate::steps::{count_keys, relabel, set_of, size_of, splice, take};
 use crate::surject::SurjectArena;
 use triple_arena::{ArenaInsertTrait, ArenaTrait, CompactArenaTrait};
 use triple_arena_chain::Link;
@@ -49,6 +50,7 @@ impl<
             ↔ ((found_at self.old (P.numbers p) ≡ None) ⊎ (found_at self.old (P.numbers q) ≡ None)) }
         ensures refusal { IfErr result (λ refusal. refusal ≡ SurjectError.NoEntry) }
         ensures refused { OnErr result (self.new ≡ self.old) }
+        ensures history { Continues A.fits self.old.arena [] self.new.arena }
     {
         let Some(first) = self.len_key_set(p) else {
             return Err(SurjectError::NoEntry);
@@ -74,6 +76,7 @@ impl<
         ensures gives { val_at self.old (P.numbers gone) ≡ Some result }
         ensures united { IsUnited self.old (P.numbers kept) (P.numbers gone) self.new }
         ensures fewer { HasOneLess self.old self.new }
+        ensures history { Continues A.fits self.old.arena [] self.new.arena }
     {
         // By its clauses, neighbours lead to each other.
         let _len = self.keys.len();
@@ -81,8 +84,7 @@ impl<
         let set = first.unwrap();
         let second = set_of(&self.keys, gone);
         let other = second.unwrap();
-        let shared = self.sets.get(set);
-        let count = shared.unwrap().keys;
+        let count = size_of(&self.sets, set);
         let taken = take(&mut self.sets, other);
         let out = taken.unwrap();
         relabel(&mut self.keys, gone, out.keys, set);

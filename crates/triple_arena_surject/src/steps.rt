@@ -1,19 +1,22 @@
 //! Steps on the keys, and on the values of sets. Of rings they know nothing.
 
-ghost use Rattle.std.specs.Prelude.{◌≡◌, ◌≢◌, ◌≤◌, ◌<◌, ◌↔◌, ◌+◌, List, ◌∷◌, map, None, Some, Err, IsOk, IsSome, IfOk, OnOk, OnErr};
+ghost use Rattle.std.specs.Prelude.{◌≡◌, ◌≢◌, ◌≤◌, ◌<◌, ◌↔◌, ◌+◌, not, List, [], ◌∷◌, map, None, Some, Err, IsOk, IsSome, IfOk, OnOk, OnErr};
 ghost use Rattle.std.specs.Option.{option_map};
 ghost use Rattle.std.specs.Result.{IfErr};
+ghost use Rattle.triple_arena_base.specs.Invalidation.{allowed_option, is_success_option};
 ghost use Rattle.triple_arena_ptr.specs.Pointers.{Pointer, is_same};
 ghost use Rattle.triple_arena_ptr.specs.Numbers.{greatest_index};
 ghost use Rattle.triple_arena_stack.specs.Capacity.{IsFullAtLimit, CanGrow};
+ghost use Rattle.triple_arena.specs.Ending.{told};
 ghost use Rattle.triple_arena.specs.Entries.{look_up, entry_count};
+ghost use Rattle.triple_arena.specs.Histories.{insertion, Continues};
 ghost use Rattle.triple_arena_chain.specs.Chains.{nodes, value_at, after_at, before_at, IsCut, IsJoined, IsRefusedRoom};
-ghost use Rattle.triple_arena_surject.specs.Rings.{label, with_set, with_keys, IsRound, IsRingOfOne, IsSpliced};
+ghost use Rattle.triple_arena_surject.specs.Rings.{counts, label, with_set, with_keys, IsRound, IsRingOfOne, IsSpliced};
 
 use crate::member::{Member, Shared};
 use std::alloc::{AllocError, Global};
 use triple_arena::{ArenaInsertTrait, ArenaTrait, CompactArenaTrait};
-use triple_arena_base::ReallocationError;
+use triple_arena_base::{InvalidationOption, ReallocationError};
 use triple_arena_chain::{ChainError, Chains, Link};
 use triple_arena_ptr::{Ptr, PtrInx};
 
@@ -22,6 +25,19 @@ pub(crate) fn are_same<P: Ptr>(p: P, q: P) -> bool
     ensures { result ≡ is_same (P.numbers p) (P.numbers q) }
 {
     p == q
+}
+
+// An answer, by whether the counter wrapped.
+pub(crate) fn telling<X>(wrapped: bool, x: X) -> InvalidationOption<X>
+    ensures value { allowed_option result ≡ x }
+    ensures told { result ≡ told wrapped (allowed_option result) }
+    ensures wrap { not (is_success_option result) ≡ wrapped }
+{
+    if wrapped {
+        InvalidationOption::GenerationOverflow(x)
+    } else {
+        InvalidationOption::Success(x)
+    }
 }
 
 // The pointer of the set of a key; none where the key's pointer finds nothing.
@@ -34,6 +50,17 @@ pub(crate) fn set_of<
 {
     let member = keys.get(p)?;
     Some(member.set)
+}
+
+// How many keys a set counts, or 0 where its pointer finds none.
+pub(crate) fn size_of<P: Ptr, V, B: ArenaInsertTrait<P, Shared<V>>>(sets: &B, c: P) -> usize
+    ensures { IsSome (look_up (B.slots sets.now) (P.numbers c))
+        → counts (B.slots sets.now) (P.numbers c) ≡ Some result }
+{
+    match sets.get(c) {
+        Some(shared) => shared.keys,
+        None => 0,
+    }
 }
 
 // Puts a value in, with one key.
@@ -115,6 +142,7 @@ pub(crate) fn put_set<
     ensures len { keys.new.len ≡ keys.old.len }
     ensures capacity { keys.new.capacity ≡ keys.old.capacity }
     ensures limit { keys.new.limit ≡ keys.old.limit }
+    ensures history { Continues A.fits keys.old.arena [] keys.new.arena }
 {
     let Some(member) = keys.get_mut(p) else {
         return;
@@ -134,6 +162,7 @@ pub(crate) fn cut<
     ensures len { keys.new.len ≡ keys.old.len }
     ensures capacity { keys.new.capacity ≡ keys.old.capacity }
     ensures limit { keys.new.limit ≡ keys.old.limit }
+    ensures history { Continues A.fits keys.old.arena [] keys.new.arena }
 {
     let _cut = keys.cut_after(p);
 }
@@ -153,6 +182,7 @@ pub(crate) fn join<
     ensures len { keys.new.len ≡ keys.old.len }
     ensures capacity { keys.new.capacity ≡ keys.old.capacity }
     ensures limit { keys.new.limit ≡ keys.old.limit }
+    ensures history { Continues A.fits keys.old.arena [] keys.new.arena }
 {
     let _joined = keys.join(last, first);
 }
@@ -176,6 +206,8 @@ pub(crate) fn put_alone<
         (greatest_index P.Inx.greatest) → IsOk result }
     ensures had_place { keys.old.len < keys.old.capacity
         → IsOk result × (keys.new.capacity ≡ keys.old.capacity) }
+    ensures history { IfOk result
+        (λ p. Continues A.fits keys.old.arena (insertion (P.numbers p) ∷ []) keys.new.arena) }
 {
     match keys.insert_new(member) {
         Ok(p) => {
@@ -199,6 +231,7 @@ pub(crate) fn splice<
     ensures len { keys.new.len ≡ keys.old.len }
     ensures capacity { keys.new.capacity ≡ keys.old.capacity }
     ensures limit { keys.new.limit ≡ keys.old.limit }
+    ensures history { Continues A.fits keys.old.arena [] keys.new.arena }
 {
     // By its clauses, neighbours lead to each other.
     let _len = keys.len();
@@ -231,6 +264,7 @@ pub(crate) fn relabel<
     ensures len { keys.new.len ≡ keys.old.len }
     ensures capacity { keys.new.capacity ≡ keys.old.capacity }
     ensures limit { keys.new.limit ≡ keys.old.limit }
+    ensures history { Continues A.fits keys.old.arena [] keys.new.arena }
 {
     // By its clauses, neighbours lead to each other.
     let _len = keys.len();

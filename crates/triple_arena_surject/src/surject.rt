@@ -1,11 +1,12 @@
 //! Sets of keys over any compact arena, and their values over any arena.
 
-ghost use Rattle.std.specs.Prelude.{◌≡◌, ◌≢◌, ◌≤◌, ◌↔◌, None, Some, IsSome, IfSome, MatchOption, true, option_copied, min};
+ghost use Rattle.std.specs.Prelude.{◌≡◌, ◌≢◌, ◌≤◌, ◌↔◌, None, Some, is_some, IsSome, IfSome, MatchOption, true, option_copied, min};
 ghost use Rattle.std.specs.Option.{option_map};
 ghost use Rattle.triple_arena_ptr.specs.Pointers.{Pointer};
 ghost use Rattle.triple_arena_ptr.specs.Numbers.{greatest_index};
 ghost use Rattle.triple_arena_stack.specs.Capacity.{stack_capacity};
 ghost use Rattle.triple_arena_stack.specs.StackKind.{new_room, new_limit};
+ghost use Rattle.triple_arena.specs.Histories.{History, remains};
 ghost use Rattle.triple_arena_surject.specs.Surject.{found_at, key_at, set_at, val_at, AreTogether, HasKeys, EachHasOther};
 
 use crate::member::{Member, Shared};
@@ -46,7 +47,7 @@ impl<
     ghost use Rattle.triple_arena_surject.specs.Surject.{SurjectState, state_of};
     ghost use Rattle.triple_arena_surject.specs.Rings.{counts, IsSound};
 
-    ghost Value = { SurjectState K V };
+    ghost Value = { SurjectState A K V };
 
     ghost view = { λ s. state_of P.numbers s.keys
         (B.slots s.sets) (B.capacity s.sets) (B.limit s.sets) };
@@ -63,6 +64,7 @@ impl<
 > SurjectArena<P, K, V, A, B> {
     /// No sets, with room and limit of a new stack for keys and for values. It takes no memory.
     pub fn new(alloc: Global) -> Self
+        ensures arena { result.arena ≡ A.empty (new_room A.kind) (new_limit A.kind) }
         ensures none { (q : Pointer) → found_at result q ≡ None }
         ensures len_keys { result.len_keys ≡ 0 }
         ensures len_vals { result.len_vals ≡ 0 }
@@ -95,6 +97,15 @@ impl<
         ensures onto { EachHasOther self.now }
     {
         self.sets.len()
+    }
+
+    /// Whether a pointer finds a key. By a history of the arena of keys, it is one that was given and has not ended
+    /// (`history`).
+    pub fn contains(&self, p: P) -> bool
+        ensures value { result ≡ is_some (found_at self.now (P.numbers p)) }
+        ensures history { (h : History) → A.fits h self.now.arena → result ≡ remains h (P.numbers p) }
+    {
+        self.keys.contains(p)
     }
 
     /// The key under a pointer; none exactly where it finds nothing.

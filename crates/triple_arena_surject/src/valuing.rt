@@ -46,6 +46,7 @@ impl<
         V: Drop,
         ensures was { IfOk result (λ was. val_at self.old (P.numbers p) ≡ Some was) }
         ensures valued { OnOk result (IsValued self.old (P.numbers p) value self.new) }
+        ensures arena { self.new.arena ≡ self.old.arena }
         ensures len_keys { self.new.len_keys ≡ self.old.len_keys }
         ensures len_vals { self.new.len_vals ≡ self.old.len_vals }
         ensures key_capacity { self.new.key_capacity ≡ self.old.key_capacity }

@@ -4,7 +4,7 @@ ghost use Rattle.std.specs.Prelude.{map, IfOk};
 ghost use Rattle.triple_arena_surject.specs.Surject.{AreKeys};
 
 use crate::member::{Member, Shared};
-use crate::steps::{ring, set_of};
+use crate::steps::{ring, set_of, size_of};
 use crate::surject::SurjectArena;
 use std::alloc::{AllocError, Global};
 use triple_arena::{ArenaInsertTrait, ArenaTrait, CompactArenaTrait};
@@ -28,8 +28,7 @@ impl<
             Some(set) => {
                 // By its clauses, neighbours lead to each other.
                 let _len = self.keys.len();
-                let shared = self.sets.get(set);
-                let count = shared.unwrap().keys;
+                let count = size_of(&self.sets, set);
                 ring(&self.keys, p, count, alloc)
             }
             None => Ok(Vec::new(alloc)),

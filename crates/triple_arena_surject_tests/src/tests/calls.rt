@@ -28,11 +28,14 @@ fn is_used<
     is(sets.get_val(one).copied(), Some(40)).expect(rt, "the value that was written");
     let keys = sets.key_set(two, alloc).expect(rt, "memory");
     is(keys.len(), 3).expect(rt, "the keys of the set");
-    is(sets.remove_key(one).expect(rt, "a key"), (1, None)).expect(rt, "a key of three");
+    let gone = sets.remove_key(one).expect(rt, "a key").allow();
+    is(gone, (1, None)).expect(rt, "a key of three");
+    is((sets.contains(one), sets.contains(two)), (false, true)).expect(rt, "the others");
     let map = sets.compress(alloc).expect(rt, "memory").allow();
     let three = map.get(three).copied().unwrap_or(P::invalid());
     is(sets.get_key(three).copied(), Some(3)).expect(rt, "the key under its new name");
-    is(sets.remove(three).expect(rt, "a set"), 40).expect(rt, "the value of the set");
+    let value = sets.remove(three).expect(rt, "a set").allow();
+    is(value, 40).expect(rt, "the value of the set");
     is((sets.len_keys(), sets.len_vals()), (0, 0)).expect(rt, "none");
 }
 

@@ -164,7 +164,7 @@ impl<
     }
 
     fn cut_off(&mut self, rt: &impl Abort, pin: P) -> (u64, Option<u64>) {
-        self.remove_key(pin).expect(rt, "a pin")
+        self.remove_key(pin).expect(rt, "a pin").allow()
     }
 
     fn net(&self, pin: P, other: P) -> (Option<u64>, usize, bool) {

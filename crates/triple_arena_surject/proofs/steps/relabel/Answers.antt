@@ -11,6 +11,7 @@ round-init g c = record {
   len = cc;
   capacity = cc;
   limit = cc;
+  history = λ h fits. fits;
 }
 
 pub unwrap-at-requires : goal.unwrap-at-requires
@@ -35,6 +36,7 @@ round-preserved g c =
       len = cc;
       capacity = cc;
       limit = cc;
+      history = λ h fits. c.put_set.ensures.history h (c.round.invariant.history h fits);
     }
 
 pub returns-clause-moved : goal.returns-clause-moved

@@ -1,4 +1,5 @@
-use Rattle.std.proofs.Common.{◌≡◌}
+use Rattle.std.proofs.Common.{◌≡◌, []}
+use Rattle.triple_arena.specs.Histories.{Continues}
 use Rattle.triple_arena_chain.specs.Chains.{nodes}
 use Rattle.triple_arena_surject.proofs.Relabelling.{IsPart}
 use Rattle.triple_arena_surject.proofs.steps.relabel.Given as goal
@@ -9,4 +10,5 @@ invariant-round g l = record {
   len : l.keys.len ≡ l.fn.keys.len;
   capacity : l.keys.capacity ≡ l.fn.keys.capacity;
   limit : l.keys.limit ≡ l.fn.keys.limit;
+  history : Continues g.A.ArenaTrait.fits l.fn.keys.arena [] l.keys.arena;
 }

@@ -1,11 +1,14 @@
-use Rattle.std.proofs.Common.{sym, subst}
+use Rattle.std.proofs.Common.{◌≡◌, false, [], ◌∷◌, sym, subst}
 use Rattle.triple_arena_base.specs.Invalidation.{allowed_option}
 use Rattle.triple_arena_ptr.specs.Pointers.{Pointer}
+use Rattle.triple_arena.specs.Ending.{told}
+use Rattle.triple_arena.specs.Histories.{History, compression, begun_with, CountsUp, Continues}
+use Rattle.triple_arena.specs.Walks.{keys}
 use Rattle.triple_arena_chain.specs.Chains.{nodes}
 use Rattle.triple_arena_direct.specs.Renaming.{MapsPointers}
 use Rattle.triple_arena_surject.specs.Rings.{counts, IsSound}
 use Rattle.triple_arena_surject.specs.Surject.{IsRenamed, state_of}
-use Rattle.triple_arena_surject.proofs.Results.{on_err}
+use Rattle.triple_arena_chain.specs.laws.ResultLaws.{on_err}
 use Rattle.triple_arena_surject.proofs.Renaming.{sound_moved, renamed_state, there_after, maps_keys}
 use Rattle.triple_arena_surject.proofs.surject.SurjectArena.compress.Goals as goal
 
@@ -45,3 +48,18 @@ returns-clause-packed g c = λ p some.
     c.in-Ok.ensures.packed p
     (there_after g.P.Ptr.numbers c.self.inside.keys c.compress.new.self moved.0 moved.2 c.len-before.ensures.counted c.len-after.ensures.counted c.compress.ensures.len
     (g.B.ArenaTrait.slots sets) (g.B.ArenaTrait.capacity sets) (g.B.ArenaTrait.limit sets) p some)
+
+pub returns-clause-answer : goal.returns-clause-answer
+returns-clause-answer g c = subst (λ s. c.in-Ok.answer ≡ told (g.A.CompactArenaTrait.compression_wraps s.arena false) (allowed_option c.in-Ok.answer)) c.self.view_is c.in-Ok.ensures.answer
+
+pub returns-clause-history : goal.returns-clause-history
+returns-clause-history g c =
+    let slots = g.A.ArenaTrait.slots in
+    let new = c.compress.new.self.arena in
+    subst (λ s. CountsUp g.P.Gen.PtrGen.generations (g.A.CompactArenaTrait.compression_wraps s.arena false)
+    → Continues g.A.ArenaTrait.fits s.arena (compression (keys (slots s.arena)) (keys (slots new)) ∷ []) new) c.self.view_is c.in-Ok.ensures.history
+
+pub returns-clause-begun : goal.returns-clause-begun
+returns-clause-begun g c =
+    let new = c.compress.new.self.arena in
+    subst (λ s. (h : History) → g.A.ArenaTrait.fits h s.arena → g.A.ArenaTrait.fits (begun_with (keys (g.A.ArenaTrait.slots new))) new) c.self.view_is c.in-Ok.ensures.begun

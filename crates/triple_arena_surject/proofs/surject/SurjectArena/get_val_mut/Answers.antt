@@ -1,21 +1,14 @@
-use Rattle.std.proofs.Common.{rules, ◌≡◌, ◌⊎◌, inl, None, Some, IsSome, refl, sym, ap, ◌∙◌, subst}
-use Rattle.std.proofs.Math.Path.{fun_ext}
+use Rattle.std.proofs.Common.{rules, ◌≡◌, None, Some, IsSome, refl, sym, ap, ◌∙◌, subst}
 use Rattle.std.specs.Option.{option_map}
 use Rattle.triple_arena.specs.Entries.{look_up}
 use Rattle.triple_arena_chain.specs.Chains.{nodes}
+use Rattle.triple_arena_chain.specs.laws.ResultLaws.{lends_alike}
 use Rattle.triple_arena_surject.specs.Rings.{counts}
 use Rattle.triple_arena_surject.specs.Surject.{found_at, set_at, val_at, with_val, IsValued, value_of}
 use Rattle.triple_arena_surject.proofs.Sound.{sound_recounted, none_there}
 use Rattle.triple_arena_surject.proofs.States.{shared_there, found_there, set_is, named_is, val_is}
 use Rattle.triple_arena_surject.proofs.Changes.{counts_written, state_written, valued_so}
 use Rattle.triple_arena_surject.proofs.surject.SurjectArena.get_val_mut.Goals as goal
-
--- one loan ends as another where it does so at each value
-lends_alike : {N T S : Type 0} (name : N) (F G : T → S) → ((w : T) → F w ≡ G w) → ◌≡◌ {A = (N × (T → S)) ⊎ S} (inl (name, F)) (inl (name, G))
-lends_alike {N = N} {T = T} {S = S} name F G same = ap (ended N T S name) (fun_ext same)
-  where
-    ended : (N T S : Type 0) → N → (T → S) → (N × (T → S)) ⊎ S
-    ended N T S name H = inl (name, H)
 
 pub invariant_of-self-lent : goal.invariant_of-self-lent
 invariant_of-self-lent g c w =

@@ -1,5 +1,6 @@
-use Rattle.std.proofs.Common.{◌≤◌, IsSome, arith, sym, ap, ◌∙◌, subst, refl}
+use Rattle.std.proofs.Common.{◌≤◌, [], ◌∷◌, IsSome, arith, sym, ap, ◌∙◌, subst, refl}
 use Rattle.std.specs.Option.{option_map}
+use Rattle.triple_arena.specs.Histories.{insertion, Continues}
 use Rattle.triple_arena_chain.specs.Chains.{ChainState, nodes, value_at}
 use Rattle.triple_arena_surject.specs.declared.member.Member.{Member}
 use Rattle.triple_arena_surject.specs.Rings.{counts, IsSound}
@@ -27,6 +28,10 @@ returns-in-Ok-put_alone-clause-inserted g c =
     (new_set numbers c.self.inside.keys c.put_alone.new.keys slots slots' (g.B.ArenaTrait.capacity c.self.inside.sets) (g.B.ArenaTrait.capacity c.put.new.sets)
     (g.B.ArenaTrait.limit c.self.inside.sets) (g.B.ArenaTrait.limit c.put.new.sets) c.self.invariant p (record { key = c.args.key; set = c.in-Ok.set }) c.args.value c.in-Ok-put_alone.ensures.alone
     c.in-Ok.ensures.free c.in-Ok.ensures.found c.in-Ok.ensures.others)
+
+pub returns-in-Ok-put_alone-clause-history : goal.returns-in-Ok-put_alone-clause-history
+returns-in-Ok-put_alone-clause-history g c =
+    subst (λ s. Continues g.A.ArenaTrait.fits s.arena (insertion (g.P.Ptr.numbers c.in-Ok-put_alone.p) ∷ []) c.put_alone.new.keys.arena) c.self.view_is c.in-Ok-put_alone.ensures.history
 
 pub invariant_of-self-in-Err-put_alone : goal.invariant_of-self-in-Err-put_alone
 invariant_of-self-in-Err-put_alone g c =
@@ -56,6 +61,7 @@ returns-in-Err-put_alone-clause-refused g c =
     (record {
       keys = λ q. found_same numbers keys c.put_alone.new.keys slots last (capacity sets) (capacity c.take.new.sets) (limit sets) (limit c.take.new.sets) q (ap (λ k. value_at (nodes k) q) refused);
       vals = λ d. named_same numbers keys c.put_alone.new.keys slots last (capacity sets) (capacity c.take.new.sets) (limit sets) (limit c.take.new.sets) d (same d);
+      arena = ap (λ (k : ChainState g.row.A.Denot (Member g.row.P.Denot g.row.K.Denot)). k.arena) refused;
       len_keys = ap (λ (k : ChainState g.row.A.Denot (Member g.row.P.Denot g.row.K.Denot)). k.len) refused;
       len_vals = omega (arith, fewer, c.in-Ok.ensures.len);
       key_capacity = subst (λ n. keys.capacity ≤ n) (sym (ap (λ (k : ChainState g.row.A.Denot (Member g.row.P.Denot g.row.K.Denot)). k.capacity) refused)) (omega arith);

@@ -1,6 +1,7 @@
-use Rattle.std.proofs.Common.{rules, ◌≡◌, ◌+◌, ◌≤◌, Some, IsSome, sym, ap, ◌∙◌, subst, refl, arith}
+use Rattle.std.proofs.Common.{◌+◌, ◌≤◌, [], ◌∷◌, IsSome, sym, ap, ◌∙◌, subst, refl, arith}
 use Rattle.std.specs.Option.{option_map}
 use Rattle.triple_arena.specs.Entries.{look_up, entry_count}
+use Rattle.triple_arena.specs.Histories.{insertion, Continues}
 use Rattle.triple_arena_chain.specs.Chains.{nodes}
 use Rattle.triple_arena_surject.specs.declared.member.Shared.{Shared}
 use Rattle.triple_arena_surject.specs.Rings.{counts}
@@ -8,18 +9,9 @@ use Rattle.triple_arena_surject.specs.Surject.{IsAdded, found_at, state_of}
 use Rattle.triple_arena_surject.proofs.Results.{told_room}
 use Rattle.triple_arena_surject.proofs.Rounds.{no_more_keys, labelled_there}
 use Rattle.triple_arena_surject.proofs.Sound.{sound_added}
-use Rattle.triple_arena_surject.proofs.States.{shared_there, found_there, some_of_map, never}
+use Rattle.triple_arena_surject.proofs.States.{shared_there, found_there, never}
 use Rattle.triple_arena_surject.proofs.Changes.{added_key, counted_with}
 use Rattle.triple_arena_surject.proofs.surject.SurjectArena.insert_key.Goals as goal
-
-pub unwrap-requires : goal.unwrap-requires
-unwrap-requires g c =
-    let numbers = g.P.Ptr.numbers in
-    let sets = c.self.inside.sets in
-    let slots = g.B.ArenaTrait.slots sets in
-    let name = numbers c.in-Some.set in
-    let some = shared_there numbers c.self.inside.keys slots (g.B.ArenaTrait.capacity sets) (g.B.ArenaTrait.limit sets) c.self.invariant (numbers c.args.p) name (sym c.in-Some.ensures) in
-    some_of_map (λ x. x.now) c.get-shared.result (subst IsSome (sym c.get-shared.ensures.value) some)
 
 pub overflow_add-count : goal.overflow_add-count
 overflow_add-count g c =
@@ -27,10 +19,10 @@ overflow_add-count g c =
     let keys = c.self.inside.keys in
     let slots = g.B.ArenaTrait.slots c.self.inside.sets in
     let name = numbers c.in-Some.set in
-    let shared = c.unwrap.result.now in
-    let is : look_up slots name ≡ Some shared = search rules in
-    let few : shared.keys ≤ entry_count keys.slots = no_more_keys numbers (nodes keys) c.len-len.ensures.linked name shared.keys keys.slots (λ q. refl)
-    (c.self.invariant.rings name shared.keys (ap (option_map (λ (s : Shared g.row.V.Denot). s.keys)) is)) in
+    let sets = c.self.inside.sets in
+    let counted = c.size_of-count.ensures (shared_there numbers keys slots (g.B.ArenaTrait.capacity sets) (g.B.ArenaTrait.limit sets) c.self.invariant (numbers c.args.p) name (sym c.in-Some.ensures)) in
+    let few : c.size_of-count.result ≤ entry_count keys.slots = no_more_keys numbers (nodes keys) c.len-len.ensures.linked name c.size_of-count.result keys.slots (λ q. refl)
+    (c.self.invariant.rings name c.size_of-count.result counted) in
     omega (arith, few, c.len-len.ensures.counted, c.in-Ok.ensures.len, c.len-more.ensures.value)
 
 pub invariant_of-self : goal.invariant_of-self
@@ -39,11 +31,11 @@ invariant_of-self g c =
     let slots = g.B.ArenaTrait.slots c.self.inside.sets in
     let slots' = g.B.ArenaTrait.slots c.count_keys.new.sets in
     let name = numbers c.in-Some.set in
-    let shared = c.unwrap.result.now in
-    let is : look_up slots name ≡ Some shared = search rules in
-    sound_added numbers (nodes c.self.inside.keys) (nodes c.insert.new.self) (counts slots) (counts slots') c.self.invariant c.len-len.ensures.linked (numbers c.args.p) (numbers c.in-Ok.q) shared.keys
-    (record { key = c.args.key; set = c.in-Some.set }) c.in-Ok.ensures.inserted (sym c.in-Some.ensures) (ap (option_map (λ (s : Shared g.row.V.Denot). s.keys)) is)
-    (ap (option_map (λ (s : Shared g.row.V.Denot). s.keys)) c.count_keys.ensures.there ∙ counted_with (shared.keys + 1) (look_up slots name) (subst IsSome (sym is) refl))
+    let sets = c.self.inside.sets in
+    let there = shared_there numbers c.self.inside.keys slots (g.B.ArenaTrait.capacity sets) (g.B.ArenaTrait.limit sets) c.self.invariant (numbers c.args.p) name (sym c.in-Some.ensures) in
+    sound_added numbers (nodes c.self.inside.keys) (nodes c.insert.new.self) (counts slots) (counts slots') c.self.invariant c.len-len.ensures.linked (numbers c.args.p) (numbers c.in-Ok.q) c.size_of-count.result
+    (record { key = c.args.key; set = c.in-Some.set }) c.in-Ok.ensures.inserted (sym c.in-Some.ensures) (c.size_of-count.ensures there)
+    (ap (option_map (λ (s : Shared g.row.V.Denot). s.keys)) c.count_keys.ensures.there ∙ counted_with (c.size_of-count.result + 1) (look_up slots name) there)
     (λ d other. ap (option_map (λ (s : Shared g.row.V.Denot). s.keys)) (c.count_keys.ensures.others d other))
 
 pub returns-in-Ok-clause-added : goal.returns-in-Ok-clause-added
@@ -56,12 +48,14 @@ returns-in-Ok-clause-added g c =
     let sets' = c.count_keys.new.sets in
     let slots = g.B.ArenaTrait.slots sets in
     let slots' = g.B.ArenaTrait.slots sets' in
-    let shared = c.unwrap.result.now in
     let p = numbers c.args.p in
     let q = numbers c.in-Ok.q in
     subst (λ s. IsAdded s p q c.args.key (state_of numbers c.insert.new.self slots' (capacity sets') (limit sets'))) c.self.view_is
-    (added_key numbers keys c.insert.new.self slots slots' (capacity sets) (capacity sets') (limit sets) (limit sets') c.self.invariant p q (record { key = c.args.key; set = c.in-Some.set }) (shared.keys + 1)
+    (added_key numbers keys c.insert.new.self slots slots' (capacity sets) (capacity sets') (limit sets) (limit sets') c.self.invariant p q (record { key = c.args.key; set = c.in-Some.set }) (c.size_of-count.result + 1)
     c.in-Ok.ensures.inserted (sym c.in-Some.ensures) c.count_keys.ensures.there c.count_keys.ensures.others)
+
+pub returns-in-Ok-clause-history : goal.returns-in-Ok-clause-history
+returns-in-Ok-clause-history g c = subst (λ s. Continues g.A.ArenaTrait.fits s.arena (insertion (g.P.Ptr.numbers c.in-Ok.q) ∷ []) c.insert.new.self.arena) c.self.view_is c.in-Ok.ensures.history
 
 pub returns-in-Ok-clause-no_entry : goal.returns-in-Ok-clause-no_entry
 returns-in-Ok-clause-no_entry g c =

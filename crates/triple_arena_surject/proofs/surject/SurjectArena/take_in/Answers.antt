@@ -1,14 +1,15 @@
-use Rattle.std.proofs.Common.{rules, ◌≡◌, ◌≢◌, ◌+◌, ◌≤◌, ℕ, List, Option, Some, IsSome, sym, ap, ◌∙◌, subst, refl, arith}
+use Rattle.std.proofs.Common.{◌≡◌, ◌≢◌, ◌+◌, ◌≤◌, ℕ, List, [], Option, Some, IsSome, sym, ap, ◌∙◌, subst, refl, arith}
 use Rattle.std.specs.Option.{option_map}
 use Rattle.triple_arena_ptr.specs.Pointers.{Pointer}
 use Rattle.triple_arena.specs.Entries.{look_up, entry_count}
+use Rattle.triple_arena.specs.Histories.{Continues}
 use Rattle.triple_arena_chain.specs.Chains.{ChainState, nodes}
 use Rattle.triple_arena_surject.specs.declared.member.Member.{Member}
 use Rattle.triple_arena_surject.specs.declared.member.Shared.{Shared}
 use Rattle.triple_arena_surject.specs.Rings.{counts, label, with_keys, IsRing}
 use Rattle.triple_arena_surject.specs.Surject.{found_at, val_at, AreTogether, IsUnited, value_of, state_of}
 use Rattle.triple_arena_surject.proofs.Rounds.{one_label, no_more_keys, ring_from, leads_in_ring}
-use Rattle.triple_arena_surject.proofs.States.{shared_there, set_there, val_is, together, some_of_map}
+use Rattle.triple_arena_surject.proofs.States.{shared_there, set_there, val_is, together}
 use Rattle.triple_arena_surject.proofs.Changes.{counted_with}
 use Rattle.triple_arena_surject.proofs.Changes as changes
 use Rattle.triple_arena_surject.proofs.Uniting.{ring_both, sound_united}
@@ -54,14 +55,14 @@ module _ (g : Over) (c : After-unwrap-out g) where
   apart : name ≢ other
   apart e = c.requires.apart (subst (λ s. AreTogether s p q) c.self.view_is (together numbers keys slots room most p q name of_p (of_q ∙ ap Some (sym e))))
 
-  abbrev shared : Shared g.row.V.Denot
-  shared = c.unwrap.result.now
+  abbrev count : ℕ
+  count = c.size_of-count.result
 
-  is_p : look_up slots name ≡ Some shared
-  is_p = search rules
+  shares : IsSome (look_up slots name)
+  shares = shared_there numbers keys slots room most c.self.invariant p name of_p
 
-  has_p : counts slots name ≡ Some shared.keys
-  has_p = ap (option_map (λ (s : Shared g.row.V.Denot). s.keys)) is_p
+  has_p : counts slots name ≡ Some count
+  has_p = c.size_of-count.ensures shares
 
   abbrev out : Shared g.row.V.Denot
   out = c.unwrap-out.result
@@ -83,13 +84,6 @@ unwrap-other-requires g c =
     let sets = c.self.inside.sets in
     set_there g.P.Ptr.numbers c.self.inside.keys (g.B.ArenaTrait.slots sets) (g.B.ArenaTrait.capacity sets) (g.B.ArenaTrait.limit sets) (g.P.Ptr.numbers c.args.gone)
     (subst (λ s. IsSome (found_at s (g.P.Ptr.numbers c.args.gone))) (sym c.self.view_is) c.requires.gone) c.set_of-second.result c.set_of-second.ensures
-
-pub unwrap-requires : goal.unwrap-requires
-unwrap-requires g c =
-    let sets = c.self.inside.sets in
-    let some = shared_there g.P.Ptr.numbers c.self.inside.keys (g.B.ArenaTrait.slots sets) (g.B.ArenaTrait.capacity sets) (g.B.ArenaTrait.limit sets) c.self.invariant
-    (g.P.Ptr.numbers c.args.kept) (g.P.Ptr.numbers c.unwrap-set.result) (sym c.set_of-first.ensures ∙ ap (option_map g.P.Ptr.numbers) c.unwrap-set.ensures) in
-    some_of_map (λ x. x.now) c.get-shared.result (subst IsSome (sym c.get-shared.ensures.value) some)
 
 pub unwrap-out-requires : goal.unwrap-out-requires
 unwrap-out-requires g c =
@@ -113,7 +107,7 @@ pub splice-requires-clause-next : goal.splice-requires-clause-next
 splice-requires-clause-next g c κs within =
     let at = (goal.at.splice-requires-clause-next g c).After-unwrap-out in
     subst IsSome (sym (c.relabel.ensures.afters (p g at)))
-    (leads_in_ring (numbers g at) (nodes (keys g at)) c.len-len.ensures.linked (name g at) (shared g at).keys (c.self.invariant.rings (name g at) (shared g at).keys (has_p g at)) (p g at) (of_p g at))
+    (leads_in_ring (numbers g at) (nodes (keys g at)) c.len-len.ensures.linked (name g at) (count g at) (c.self.invariant.rings (name g at) (count g at) (has_p g at)) (p g at) (of_p g at))
 
 pub splice-requires-clause-then : goal.splice-requires-clause-then
 splice-requires-clause-then g c κs within =
@@ -125,25 +119,25 @@ pub overflow_add-count : goal.overflow_add-count
 overflow_add-count g c =
     let at = (goal.at.overflow_add-count g c).After-unwrap-out in
     let new = c.splice.new.keys in
-    let ring : IsRing (numbers g at) (nodes new) (name g at) ((shared g at).keys + (out g at).keys) =
+    let ring : IsRing (numbers g at) (nodes new) (name g at) (count g at + (out g at).keys) =
     ring_both (numbers g at) (nodes (keys g at)) (nodes c.relabel.new.keys) (nodes new) c.len-len.ensures.linked (p g at) (q g at) c.unwrap-set.result (other g at) (of_p g at) (of_q g at) (apart g at)
     c.relabel.ensures.moved c.relabel.ensures.others c.relabel.ensures.afters c.splice.ensures.spliced
-    (counts (slots g at)) (counts (slots g at)) c.self.invariant (shared g at).keys (out g at).keys (has_p g at) (has_q g at) in
-    let few : (shared g at).keys + (out g at).keys ≤ entry_count new.slots =
-    no_more_keys (numbers g at) (nodes new) c.len-all.ensures.linked (name g at) ((shared g at).keys + (out g at).keys) new.slots (λ r. refl) ring in
+    (counts (slots g at)) (counts (slots g at)) c.self.invariant (count g at) (out g at).keys (has_p g at) (has_q g at) in
+    let few : count g at + (out g at).keys ≤ entry_count new.slots =
+    no_more_keys (numbers g at) (nodes new) c.len-all.ensures.linked (name g at) (count g at + (out g at).keys) new.slots (λ r. refl) ring in
     omega (arith, few, c.len-all.ensures.counted, c.len-all.ensures.value)
 
 pub invariant_of-self : goal.invariant_of-self
 invariant_of-self g c =
     let at = (goal.at.invariant_of-self g c).After-unwrap-out in
     let slots' = g.B.ArenaTrait.slots c.count_keys.new.sets in
-    let count = (shared g at).keys + (out g at).keys in
-    let all : look_up slots' (name g at) ≡ option_map (with_keys count) (look_up (slots g at) (name g at)) =
-    c.count_keys.ensures.there ∙ ap (option_map (with_keys count)) (c.take-taken.ensures.others (name g at) (apart g at)) in
+    let both = count g at + (out g at).keys in
+    let all : look_up slots' (name g at) ≡ option_map (with_keys both) (look_up (slots g at) (name g at)) =
+    c.count_keys.ensures.there ∙ ap (option_map (with_keys both)) (c.take-taken.ensures.others (name g at) (apart g at)) in
     sound_united (numbers g at) (nodes (keys g at)) (nodes c.relabel.new.keys) (nodes c.splice.new.keys) c.len-len.ensures.linked (p g at) (q g at) c.unwrap-set.result (other g at) (of_p g at) (of_q g at) (apart g at)
     c.relabel.ensures.moved c.relabel.ensures.others c.relabel.ensures.afters c.splice.ensures.spliced
-    (counts (slots g at)) (counts slots') c.self.invariant (shared g at).keys (out g at).keys (has_p g at) (has_q g at)
-    (ap (option_map (λ (s : Shared g.row.V.Denot). s.keys)) all ∙ counted_with count (look_up (slots g at) (name g at)) (subst IsSome (sym (is_p g at)) refl))
+    (counts (slots g at)) (counts slots') c.self.invariant (count g at) (out g at).keys (has_p g at) (has_q g at)
+    (ap (option_map (λ (s : Shared g.row.V.Denot). s.keys)) all ∙ counted_with both (look_up (slots g at) (name g at)) (shares g at))
     (ap (option_map (λ (s : Shared g.row.V.Denot). s.keys)) (c.count_keys.ensures.others (other g at) (λ e. apart g at (sym e)) ∙ c.take-taken.ensures.gone))
     (λ e far away. ap (option_map (λ (s : Shared g.row.V.Denot). s.keys)) (c.count_keys.ensures.others e far ∙ c.take-taken.ensures.others e away))
 
@@ -158,10 +152,13 @@ returns-clause-united g c =
     let at = (goal.at.returns-clause-united g c).After-unwrap-out in
     let sets' = c.count_keys.new.sets in
     let slots' = g.B.ArenaTrait.slots sets' in
-    let count = (shared g at).keys + (out g at).keys in
+    let both = count g at + (out g at).keys in
     subst (λ s. IsUnited s (p g at) (q g at) (state_of (numbers g at) c.splice.new.keys slots' (g.B.ArenaTrait.capacity sets') (g.B.ArenaTrait.limit sets'))) c.self.view_is
     (changes.united (numbers g at) (keys g at) c.splice.new.keys (slots g at) slots' (room g at) (g.B.ArenaTrait.capacity sets') (most g at) (g.B.ArenaTrait.limit sets')
     (p g at) (q g at) c.unwrap-set.result (other g at) (of_p g at) (of_q g at) (apart g at)
     (λ r of. c.splice.ensures.spliced.values r ∙ c.relabel.ensures.moved r (of ∙ sym (of_q g at))) (λ r away. c.splice.ensures.spliced.values r ∙ c.relabel.ensures.others r (λ e. away (e ∙ of_q g at)))
-    count (c.count_keys.ensures.there ∙ ap (option_map (with_keys count)) (c.take-taken.ensures.others (name g at) (apart g at)))
+    both (c.count_keys.ensures.there ∙ ap (option_map (with_keys both)) (c.take-taken.ensures.others (name g at) (apart g at)))
     (λ e far away. c.count_keys.ensures.others e far ∙ c.take-taken.ensures.others e away))
+
+pub returns-clause-history : goal.returns-clause-history
+returns-clause-history g c = subst (λ s. Continues g.A.ArenaTrait.fits s.arena [] c.splice.new.keys.arena) c.self.view_is (λ h fits. c.splice.ensures.history h (c.relabel.ensures.history h fits))

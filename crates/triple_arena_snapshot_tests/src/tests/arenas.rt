@@ -1,0 +1,155 @@
+//! Arenas as bytes: the worked example of the format's page, bytes that are no arena, and arenas that
+//! go on once they are loaded.
+
+use std::num::NonZeroU16;
+use std::test::*;
+use triple_arena::prelude::*;
+use triple_arena::{
+    Arena, ArenaSlot, NonZeroInxArray, NonZeroInxGenericStack, NonZeroInxLimitedVec, NonZeroInxVec,
+    P0, P3, Q2,
+};
+use triple_arena_direct_arena::{DirectArena, DirectSlot};
+use triple_arena_snapshot::{
+    DecodeError, Fault, decode_arena, decode_direct_arena, encode_arena, encode_direct_arena,
+    from_bytes, load, save, to_bytes,
+};
+
+/// An arena of three slots, of which the last has the value 9 under the generation 2; the counter is
+/// 4, and the free indexes are 2 and then 1.
+const ARENA: [u8; 49] = [
+    0xff, 0xff, 0, 0, 0, 0, 0, 0, 2, 3, 0, 0, 0, 0, 0, 0, 0, 0, 0, 1, 2, 0, 9, 4, 0, 2, 0, 0, 0, 0,
+    0, 0, 0, 2, 0, 0, 0, 0, 0, 0, 0, 1, 0, 0, 0, 0, 0, 0, 0,
+];
+
+#[test]
+fn the_worked_example_is_written_and_read(rt: HostRuntime) {
+    let alloc = rt.alloc();
+    let mut arena: Arena<P3, u8> = Arena::new(alloc);
+    let first = arena.insert(7).expect(&rt, "memory");
+    let second = arena.insert(8).expect(&rt, "memory");
+    arena.insert(9).expect(&rt, "memory");
+    drop(arena.remove(first));
+    drop(arena.remove(second));
+    let written = to_bytes(&arena, alloc).expect(&rt, "memory");
+    assert!(rt; written.as_slice() == ARENA.as_slice());
+    let read: Arena<P3, u8> = from_bytes(alloc, &ARENA).expect(&rt, "an arena");
+    let again = to_bytes(&read, alloc).expect(&rt, "memory");
+    assert!(rt; again.as_slice() == ARENA.as_slice());
+}
+
+/// A byte of it, another in its place, the fault, and how many bytes are left there.
+const BAD: &[(usize, u8, Fault, usize)] = &[
+    (0, 0xfe, Fault::Width, 49),
+    (8, 8, Fault::Width, 41),
+    (11, 1, Fault::Slots, 40),
+    (17, 2, Fault::Flag, 32),
+    (20, 0, Fault::Zero, 29),
+    (23, 0, Fault::Zero, 26),
+    (25, 1, Fault::FreeList, 24),
+    (33, 1, Fault::FreeList, 24),
+    (33, 3, Fault::FreeList, 24),
+    (33, 4, Fault::FreeList, 24),
+    (33, 0, Fault::Zero, 16),
+    (41, 2, Fault::FreeList, 24),
+];
+
+#[test]
+fn bytes_of_no_arena_are_refused(rt: HostRuntime) {
+    let alloc = rt.alloc();
+    for (at, byte, fault, left) in BAD {
+        let mut bytes = ARENA;
+        if let Some(place) = bytes.get_mut(*at) {
+            *place = *byte;
+        }
+        let stack: NonZeroInxVec<ArenaSlot<P3, u8>> = NonZeroInxVec::new(alloc);
+        let refusal = decode_arena(stack, alloc, &bytes).err();
+        assert!(rt; refusal == Some(DecodeError::Malformed(*fault, *left)));
+    }
+}
+
+#[test]
+fn a_loaded_arena_goes_on_as_the_saved_one(rt: HostRuntime) {
+    let alloc = rt.alloc();
+    let mut arena: Arena<P0, u64> = Arena::new(alloc);
+    let stale = arena.insert(10).expect(&rt, "memory");
+    let kept = arena.insert(20).expect(&rt, "memory");
+    drop(arena.remove(stale));
+    let file = save(&arena, alloc).expect(&rt, "memory");
+    let mut loaded: Arena<P0, u64> = load(alloc, &file).expect(&rt, "the file");
+    assert!(rt; loaded.get(kept).copied() == Some(20));
+    assert!(rt; loaded.get(stale).is_none());
+    let next = arena.insert(30).expect(&rt, "memory");
+    let same = loaded.insert(30).expect(&rt, "memory");
+    assert!(rt; next == same);
+}
+
+#[test]
+fn an_arena_is_read_over_each_stack(rt: HostRuntime) {
+    let alloc = rt.alloc();
+    let limited: NonZeroInxLimitedVec<ArenaSlot<P3, u8>> = NonZeroInxLimitedVec::with_min_capacity(
+        alloc, 3,
+    ).expect(&rt, "memory");
+    let (over_limited, _rest) = decode_arena(limited, alloc, &ARENA).expect(&rt, "an arena");
+    let array: NonZeroInxArray<ArenaSlot<P3, u8>, 3> = NonZeroInxArray::new(alloc);
+    let (over_array, _rest) = decode_arena(array, alloc, &ARENA).expect(&rt, "an arena");
+    let mut bytes = Vec::new(alloc);
+    encode_arena(&over_limited, &mut bytes).expect(&rt, "memory");
+    assert!(rt; bytes.as_slice() == ARENA.as_slice());
+    bytes.clear();
+    encode_arena(&over_array, &mut bytes).expect(&rt, "memory");
+    assert!(rt; bytes.as_slice() == ARENA.as_slice());
+    let short: NonZeroInxLimitedVec<ArenaSlot<P3, u8>> = NonZeroInxLimitedVec::with_min_capacity(
+        alloc, 2,
+    ).expect(&rt, "memory");
+    let refusal = decode_arena(short, alloc, &ARENA).err();
+    assert!(rt; refusal == Some(DecodeError::Malformed(Fault::Slots, 40)));
+}
+
+/// The direct arena of the same entry.
+const DIRECT: [u8; 23] = [
+    0xff, 0xff, 0, 0, 0, 0, 0, 0, 2, 3, 0, 0, 0, 0, 0, 0, 0, 0, 0, 1, 2, 0, 9,
+];
+
+#[test]
+fn a_direct_arena_is_read_and_written(rt: HostRuntime) {
+    let alloc = rt.alloc();
+    let read: DirectArena<P3, u8> = from_bytes(alloc, &DIRECT).expect(&rt, "an arena");
+    assert!(rt; read.len() == 1);
+    let written = to_bytes(&read, alloc).expect(&rt, "memory");
+    assert!(rt; written.as_slice() == DIRECT.as_slice());
+    let array: NonZeroInxArray<DirectSlot<P3, u8>, 3> = NonZeroInxArray::new(alloc);
+    let (over_array, _rest) = decode_direct_arena(array, alloc, &DIRECT).expect(&rt, "an arena");
+    let mut bytes = Vec::new(alloc);
+    encode_direct_arena(&over_array, &mut bytes).expect(&rt, "memory");
+    assert!(rt; bytes.as_slice() == DIRECT.as_slice());
+}
+
+#[test]
+fn two_arenas_that_point_at_each_other_are_one_file(rt: HostRuntime) {
+    let alloc = rt.alloc();
+    let mut cells: Arena<P0, (u64, Option<Q2>)> = Arena::new(alloc);
+    let mut nets: Arena<Q2, (u64, Option<P0>)> = Arena::new(alloc);
+    let cell = cells.insert((1, None)).expect(&rt, "memory");
+    let net = nets.insert((2, Some(cell))).expect(&rt, "memory");
+    if let Some(value) = cells.get_mut(cell) {
+        value.1 = Some(net);
+    }
+    let file = save(&(cells, nets), alloc).expect(&rt, "memory");
+    let read: (Arena<P0, (u64, Option<Q2>)>, Arena<Q2, (u64, Option<P0>)>) = load(
+        alloc, &file,
+    ).expect(&rt, "the file");
+    assert!(rt; read.0.get(cell).copied() == Some((1, Some(net))));
+    assert!(rt; read.1.get(net).copied() == Some((2, Some(cell))));
+}
+
+#[test]
+fn a_counter_at_its_end_is_loaded_so(rt: HostRuntime) {
+    let alloc = rt.alloc();
+    let mut arena: Arena<P3, u8> = Arena::new(alloc);
+    arena.set_generation(NonZeroU16::MAX);
+    let last = arena.insert(1).expect(&rt, "memory");
+    let bytes = to_bytes(&arena, alloc).expect(&rt, "memory");
+    let mut read: Arena<P3, u8> = from_bytes(alloc, &bytes).expect(&rt, "an arena");
+    assert!(rt; read.generation() == NonZeroU16::MAX);
+    assert!(rt; read.remove(last) == arena.remove(last));
+}

@@ -552,8 +552,9 @@ impl<P: Ptr, T, S: NonZeroInxGenericStack<ArenaSlot<P, T>>> Arena<P, T, S> {
     /// the free indexes in this order: with the stack's room and limit. Whatever the free slots link
     /// to is linked anew. It takes no memory, and looks at each slot.
     ///
-    /// The generation of an entry may be past the counter, as it is once the counter wrapped or was
-    /// set.
+    /// It asks that this is an arena (`IsWellFormed`): the free indexes are those of the free slots, each
+    /// once, and there are no more slots than fit. The generation of an entry may be past the counter, as
+    /// it is once the counter wrapped or was set.
     pub fn over_slots(stack: S, counter: P::Gen, free: &[NonZeroUsize]) -> Self
         requires { IsWellFormed (arena_over (map (entry_of P.Gen.number) (S.items stack))
             (P.Gen.number counter) (map non_zero_usize_get free.now) (S.room stack)

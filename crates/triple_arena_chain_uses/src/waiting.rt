@@ -1,10 +1,11 @@
 //! Waiting lists, many of them in one arena.
 
-ghost use Rattle.std.specs.Prelude.{◌≡◌, [], ◌∷◌, None, Some, IfOk, OnOk, OnErr};
+ghost use Rattle.std.specs.Prelude.{◌≡◌, ◌<◌, [], ◌∷◌, None, Some, IsOk, IsSome, IfOk, OnOk, OnErr};
+ghost use Rattle.std.specs.Option.{option_map};
 ghost use Rattle.triple_arena_base.specs.Invalidation.{allowed_option};
 ghost use Rattle.triple_arena.specs.Ending.{told};
 ghost use Rattle.triple_arena.specs.Histories.{removal, CountsUp, Continues};
-ghost use Rattle.triple_arena_chain.specs.Chains.{nodes, value_at, after_at};
+ghost use Rattle.triple_arena_chain.specs.Chains.{nodes, value_at, after_at, IsInserted};
 
 use triple_arena::{ArenaInsertTrait, ArenaTrait, CompactArenaTrait};
 use triple_arena_base::InvalidationOption;
@@ -13,7 +14,7 @@ use triple_arena_ptr::{Ptr, PtrGen};
 
 /// Puts a number at the end of the list whose last entry is told, or begins a list where none is, and
 /// gives the pointer of its entry, which is the last of that list then. Refused as `push_back` and
-/// `insert_new` are; then nothing changes.
+/// `insert_new` are, and not where the last entry is one and there is room; then nothing changes.
 pub fn enqueue<P: Ptr, A: CompactArenaTrait<P, Link<P, u64>> + ArenaInsertTrait<P, Link<P, u64>>>(
     lists: &mut Chains<P, u64, A>,
     last: Option<P>,
@@ -21,6 +22,12 @@ pub fn enqueue<P: Ptr, A: CompactArenaTrait<P, Link<P, u64>> + ArenaInsertTrait<
 ) -> Result<P, ChainError>
     ensures found { IfOk result (λ q. value_at (nodes lists.new) (P.numbers q) ≡ Some number) }
     ensures last { IfOk result (λ q. after_at (nodes lists.new) (P.numbers q) ≡ None) }
+    ensures inserted { IfOk result (λ q. IsInserted (nodes lists.old)
+        (option_map P.numbers last) None (P.numbers q) number (nodes lists.new)) }
+    ensures begins { last ≡ None → lists.old.len < lists.old.capacity → IsOk result }
+    ensures goes_on { (p : P) → last ≡ Some p → IsSome (nodes lists.old (P.numbers p))
+        → after_at (nodes lists.old) (P.numbers p) ≡ None
+        → lists.old.len < lists.old.capacity → IsOk result }
     ensures refused { OnErr result (lists.new ≡ lists.old) }
 {
     match last {

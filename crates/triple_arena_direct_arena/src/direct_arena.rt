@@ -537,7 +537,8 @@ impl<P: Ptr, T, S: NonZeroInxGenericStack<DirectSlot<P, T>>> DirectArena<P, T, S
     }
 
     /// An arena over a stack whose slots stand, each free or with an entry: with its room and its
-    /// limit. It takes no memory, and looks at each slot.
+    /// limit. It asks for no more slots than there are indexes. It takes no memory, and looks at each
+    /// slot.
     pub fn over_slots(stack: S) -> Self
         requires { length (S.items stack) ≤ greatest_index P.Inx.greatest }
         ensures { result ≡ direct_with_slots (new_direct (S.room stack) (S.limit stack)

@@ -1,11 +1,16 @@
 //! Labels of cells and nets, beside two arenas that point at each other: all three follow one compaction,
 //! or nothing changes.
 
-ghost use Rattle.std.specs.Prelude.{◌≡◌, IsSome, OnOk, OnErr, map};
+ghost use Rattle.std.specs.Prelude.{◌≡◌, ◌++◌, IsSome, OnOk, OnErr, map};
+ghost use Rattle.std.specs.Result.{IfErr};
+ghost use Rattle.triple_arena_base.specs.Held.{held_all};
 ghost use Rattle.triple_arena_ptr.specs.Pointers.{Pointer};
+ghost use Rattle.triple_arena.specs.ArenaState.{arena_len};
 ghost use Rattle.triple_arena.specs.Entries.{look_up};
+ghost use Rattle.triple_arena.specs.Walks.{values};
 ghost use Rattle.triple_arena_direct.specs.Concrete.{p0_numbers, q2_numbers, moved};
-ghost use Rattle.triple_arena_direct.specs.RenamingBoth.{IsRenamedBoth, IsFoundRenamedBoth};
+ghost use Rattle.triple_arena_direct.specs.Renaming.{first_unresolved};
+ghost use Rattle.triple_arena_direct.specs.RenamingBoth.{IsRenamedBoth, IsFoundRenamedBoth, RefusesBoth};
 ghost use Rattle.triple_arena_uses.specs.Circuit.{cells_in_cell, nets_in_cell, cells_in_net, nets_in_net};
 ghost use Rattle.triple_arena_uses.specs.Labels.{cells_labelled, nets_labelled, label_read, label_renamed};
 
@@ -89,6 +94,15 @@ pub fn compact_labelled(
         ≡ map (label_renamed (moved cells.old)) (map (label_read p0_numbers) labels.old.cells.items)) }
     ensures labels_of_nets { OnOk result (map (label_read q2_numbers) labels.new.nets.items
         ≡ map (label_renamed (moved nets.old)) (map (label_read q2_numbers) labels.old.nets.items)) }
+    ensures refusal { IfErr result (RefusesBoth
+        (arena_len cells.old) (first_unresolved p0_numbers cells.old.slots
+        ((held_all cells_in_cell.held (values cells.old.slots)
+        ++ held_all cells_in_net.held (values nets.old.slots))
+        ++ cells_labelled.held labels.old))
+        (arena_len nets.old) (first_unresolved q2_numbers nets.old.slots
+        ((held_all nets_in_net.held (values nets.old.slots)
+        ++ held_all nets_in_cell.held (values cells.old.slots))
+        ++ nets_labelled.held labels.old))) }
     ensures cells_refused { OnErr result (cells.new ≡ cells.old) }
     ensures nets_refused { OnErr result (nets.new ≡ nets.old) }
     ensures labels_refused { OnErr result (labels.new ≡ labels.old) }

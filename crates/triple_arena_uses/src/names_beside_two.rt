@@ -1,13 +1,18 @@
 //! Names of cells and nets, in maps: each leads to what it led to, once both arenas are compacted.
 
-ghost use Rattle.std.specs.Prelude.{◌≡◌, IsSome, Some, OnOk, OnErr};
+ghost use Rattle.std.specs.Prelude.{◌≡◌, ◌++◌, IsSome, Some, OnOk, OnErr};
 ghost use Rattle.std.specs.BTreeMap.{get};
 ghost use Rattle.std.specs.Option.{option_map};
+ghost use Rattle.std.specs.Result.{IfErr};
 ghost use Rattle.std.specs.String.{string_cmp};
+ghost use Rattle.triple_arena_direct.specs.ArenaState.{arena_len};
 ghost use Rattle.triple_arena_direct.specs.Concrete.{p0_numbers, q2_numbers, moved, renamed_if_live};
 ghost use Rattle.triple_arena_direct.specs.Entries.{look_up};
+ghost use Rattle.triple_arena_direct.specs.Held.{held_all};
 ghost use Rattle.triple_arena_direct.specs.Pointers.{Pointer};
-ghost use Rattle.triple_arena_direct.specs.RenamingBoth.{StandApart, IsRenamedBoth, IsFoundRenamedBoth};
+ghost use Rattle.triple_arena_direct.specs.Renaming.{first_unresolved};
+ghost use Rattle.triple_arena_direct.specs.RenamingBoth.{StandApart, IsRenamedBoth, IsFoundRenamedBoth, RefusesBoth};
+ghost use Rattle.triple_arena_direct.specs.Walks.{values};
 ghost use Rattle.triple_arena_uses.specs.NamesBesideTwo.{cells_in_cell, nets_in_cell, cells_in_net, nets_in_net, kind_named, label_named};
 
 use std::alloc::Global;
@@ -158,6 +163,15 @@ pub fn compact_named<H: Recast<P0> + Recast<Q2>>(
     ensures labels { OnOk result ((name : _) (label : _)
         → label_named netlist.old.nets netlist.old.net_names name ≡ Some label
         → label_named netlist.new.nets netlist.new.net_names name ≡ Some label) }
+    ensures refusal { IfErr result (RefusesBoth
+        (arena_len netlist.old.cells) (first_unresolved p0_numbers netlist.old.cells.slots
+        ((held_all cells_in_cell.held (values netlist.old.cells.slots)
+        ++ held_all cells_in_net.held (values netlist.old.nets.slots))
+        ++ ⟦<H as Recast<P0>>⟧.held pins.old))
+        (arena_len netlist.old.nets) (first_unresolved q2_numbers netlist.old.nets.slots
+        ((held_all nets_in_net.held (values netlist.old.nets.slots)
+        ++ held_all nets_in_cell.held (values netlist.old.cells.slots))
+        ++ ⟦<H as Recast<Q2>>⟧.held pins.old))) }
     ensures refused { OnErr result (netlist.new ≡ netlist.old) }
     ensures pins_refused { OnErr result (pins.new ≡ pins.old) }
 {

@@ -1,18 +1,12 @@
 -- What making a place leaves.
-use Rattle.std.proofs.Common.{◌≡◌, ◌<◌, ◌∙◌, [], Result, Ok, Err, IsOk, OnOk, OnErr, true≢false, sym}
+use Rattle.std.proofs.Common.{◌≡◌, [], Result, Ok, Err, OnOk, OnErr}
 use Rattle.triple_arena_stack.specs.StackKind.{StackKind}
-use Rattle.triple_arena_traits.specs.ArenaState.{ArenaState, arena_len, capacity}
+use Rattle.triple_arena_traits.specs.ArenaState.{ArenaState}
 use Rattle.triple_arena_traits.specs.Reallocation.{grown}
 use Rattle.triple_arena_traits.specs.Histories.{Fits, Continues}
-use Rattle.triple_arena_traits.specs.laws.EntryLaws.{same-grown}
 use Rattle.triple_arena_traits.specs.laws.HistoryLaws.{Continues-grown}
 
 module _ {T A E : Type 0} (kind : StackKind) (s t : ArenaState T) where
-  -- an arena that has a place stays as it is
-  pub place_kept : (r : Result A E) → OnOk r (t ≡ grown kind s) → arena_len s < capacity s → IsOk r → IsOk r × (t ≡ s)
-  place_kept (Ok x) done has ok = (ok, done ∙ same-grown kind s has)
-  place_kept (Err e) done has ok = absurd (true≢false (sym ok))
-
   -- a history goes on
   pub grown_or_same : (r : Result A E) → OnOk r (t ≡ grown kind s) → OnErr r (t ≡ s) → Continues Fits s [] t
   grown_or_same (Ok x) done refused = Continues-grown kind s t done

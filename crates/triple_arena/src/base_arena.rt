@@ -1,25 +1,21 @@
 //! The arena.
 
-ghost use Rattle.std.specs.Prelude.{◌≡◌, ℕ, ◌≤◌, ◌+◌, ◌==◌, ◌∷◌, ◌↔◌, ◌≢◌, cond, false, [], map, length, is_some, IsSome, IfSome, IsOk, OnOk, OnErr, Some, None, Err, slice_get, option_copied, MatchOption, ◌-◌, ◌*◌};
+ghost use Rattle.std.specs.Prelude.{◌≡◌, ℕ, ◌≤◌, ◌==◌, ◌∷◌, ◌↔◌, ◌≢◌, cond, false, [], map, length, is_some, IsSome, IsOk, OnOk, OnErr, Some, None, Err, option_copied, MatchOption};
 ghost use Rattle.std.specs.Borrow.{sem, LendsIf};
 ghost use Rattle.std.specs.Int.NonZero.{non_zero_usize_get};
-ghost use Rattle.std.specs.Option.{option_map, option_and_then, option_copied_mut};
+ghost use Rattle.std.specs.Option.{option_map, option_copied_mut};
 ghost use Rattle.triple_arena_ptr.specs.Numbers.{greatest_index, raise, wraps, first_generation};
 ghost use Rattle.triple_arena_ptr.specs.Pointers.{Pointer};
 ghost use Rattle.triple_arena_stack.specs.Capacity.{IsWithin, IsBeyond};
 ghost use Rattle.triple_arena_stack.specs.StackKind.{IsOfKind};
-ghost use Rattle.triple_arena_traits.specs.Items.{item};
 ghost use Rattle.triple_arena_traits.specs.Entries.{look_up, entry_in, entry_count, IsFirst, IsLast};
 ghost use Rattle.triple_arena_traits.specs.Walks.{IsAtFirst};
-ghost use Rattle.triple_arena_traits.specs.ArenaState.{ArenaState, new_arena, slot_count, capacity, arena_len, entry, with_value, is_free, IsWellFormed};
-ghost use Rattle.triple_arena_traits.specs.Insertion.{next_pointer, inserted};
-ghost use Rattle.triple_arena_traits.specs.SlotSteps.{RisesByAtMost, IsTouched, touched, insertion_steps};
-ghost use Rattle.triple_arena_traits.specs.Ending.{removed, invalidated, cleared, told, told_of, map_told};
-ghost use Rattle.triple_arena_traits.specs.FreeList.{tidied, without_free_end, IsTidied};
-ghost use Rattle.triple_arena_traits.specs.Reallocation.{reallocated, KeepsRoom, grown};
+ghost use Rattle.triple_arena_traits.specs.ArenaState.{ArenaState, new_arena, capacity, arena_len, with_value, IsWellFormed};
+ghost use Rattle.triple_arena_traits.specs.SlotSteps.{RisesByAtMost, IsTouched};
+ghost use Rattle.triple_arena_traits.specs.Ending.{removed, invalidated, cleared, told_of, map_told};
+ghost use Rattle.triple_arena_traits.specs.FreeList.{tidied};
+ghost use Rattle.triple_arena_traits.specs.Reallocation.{reallocated, KeepsRoom};
 ghost use Rattle.triple_arena_slots.specs.Slot.{entry_of};
-ghost use Rattle.triple_arena_slots.specs.Layout.{IsLinked};
-ghost use Rattle.triple_arena.specs.Restored.{arena_over};
 ghost use Rattle.triple_arena_traits.specs.Values.{with_values_of};
 ghost use Rattle.triple_arena_traits.specs.Lent.{lends_values};
 ghost use Rattle.triple_arena_traits.specs.Histories.{History, resizing, invalidation, removal, remains, Fits, Continues, CountsUp};
@@ -27,20 +23,25 @@ ghost use Rattle.triple_arena_traits.specs.Histories.{History, resizing, invalid
 mod advancer;
 mod compaction;
 mod copies;
+mod counter;
 mod disjoint;
+mod ending;
+mod free_list;
+mod insertion;
+mod look_ups;
+mod over;
 mod room;
 
 use crate::arena_iterators::PtrAdvancer;
 use std::alloc::Global;
 use std::marker::{Model, PhantomData};
-use std::num::NonZeroUsize;
 use triple_arena_base::{AllocError, InvalidationOption, InvalidationResult, ReallocationError};
 use triple_arena_ptr::{Ptr, PtrGen, PtrInx};
 use triple_arena_slots::{ArenaSlot, Slots};
 use triple_arena_stack::{NonZeroInxGenericStack, NonZeroInxVec};
-use triple_arena_traits::answers::{told, told_valid};
-use triple_arena_traits::entry_slots::{count_live, first_live, last_live, ptr_at};
-use triple_arena_traits::{ArenaInsertTrait, ArenaTrait, EntrySlot, LendingArena, LentSlots};
+use triple_arena_traits::answers::answer_on_valid;
+use triple_arena_traits::entry_slots::{first_live, last_live};
+use triple_arena_traits::{ArenaTrait, EntrySlot, LendingArena, LentSlots};
 
 /// A generational arena over a stack of slots.
 ///
@@ -331,7 +332,7 @@ impl<P: Ptr, T, S: NonZeroInxGenericStack<ArenaSlot<P, T>>> ArenaTrait<P, T> for
         let (counter, wrapped) = P::Gen::generational_inc(self.counter);
         self.slots.restamp(inx, counter);
         self.counter = counter;
-        told_valid(wrapped, P::_from_raw(p.inx(), counter))
+        answer_on_valid(wrapped, P::_from_raw(p.inx(), counter))
     }
 
     fn remove(&mut self, p: P) -> InvalidationResult<T>
@@ -353,7 +354,7 @@ impl<P: Ptr, T, S: NonZeroInxGenericStack<ArenaSlot<P, T>>> ArenaTrait<P, T> for
             return InvalidationResult::InvalidPtr;
         };
         let ((_generation, value), wrapped) = self.take(inx);
-        told_valid(wrapped, value)
+        answer_on_valid(wrapped, value)
     }
 
     fn remove_inx(&mut self, inx: P::Inx) -> InvalidationResult<(P::Gen, T)>
@@ -377,7 +378,7 @@ impl<P: Ptr, T, S: NonZeroInxGenericStack<ArenaSlot<P, T>>> ArenaTrait<P, T> for
             return InvalidationResult::InvalidPtr;
         };
         let (taken, wrapped) = self.take(inx);
-        told_valid(wrapped, taken)
+        answer_on_valid(wrapped, taken)
     }
 
     fn clear(&mut self) -> InvalidationOption<()>
@@ -470,250 +471,7 @@ impl<P: Ptr, T, S: NonZeroInxGenericStack<ArenaSlot<P, T>>> ArenaTrait<P, T> for
     ghost capacity_tidied = { λ _ _ _ same. ap capacity same.0 };
 }
 
-impl<P: Ptr, T, S: NonZeroInxGenericStack<ArenaSlot<P, T>>> ArenaInsertTrait<P, T>
-    for Arena<P, T, S> {
-    ghost use Rattle.std.proofs.Common.{ap};
-    ghost use Rattle.triple_arena_traits.specs.laws.EntryLaws.{slots-inserted, limit-inserted, capacity-inserted, slots-grown, limit-grown, next-grown, well_formed-grown, capacity-grown, same-grown, generation-next};
-    ghost use Rattle.triple_arena_traits.specs.laws.LengthLaws.{len-inserted, len-grown};
-    ghost use Rattle.triple_arena.specs.laws.TouchedLaws.{grown_touched};
-
-    // the first free index, or one past the last slot, under the counter
-    ghost next = { next_pointer };
-
-    // the value stands there, and the index is free no longer
-    ghost inserted = { λ s value. touched (insertion_steps s) (inserted s value) };
-
-    // a full arena has room for 4 slots or for twice its capacity, as far as the limit allows and
-    // there are indexes
-    ghost grown = { grown S.kind };
-
-    fn next_ptr(&self) -> P {
-        let inx = self.slots.place();
-        P::_from_raw(P::Inx::try_from_usize(inx).unwrap(), self.counter)
-    }
-
-    fn insert_reserved(&mut self, t: T) -> P {
-        let p = self.next_ptr();
-        self.slots.occupy(self.counter, t);
-        self.len += 1;
-        p
-    }
-
-    #[inline(always)]
-    fn make_place(&mut self) -> Result<(), ReallocationError> {
-        self.grow_if_full()
-    }
-
-    ghost generation_next = { generation-next };
-
-    ghost slots_inserted = { slots-inserted };
-
-    ghost len_inserted = { len-inserted };
-
-    ghost limit_inserted = { limit-inserted };
-
-    ghost capacity_inserted = { capacity-inserted };
-
-    ghost next_unchanged = { λ _ _ same. ap next_pointer same.0 };
-
-    ghost grown_unchanged = { grown_touched S.kind };
-
-    ghost same_grown = { same-grown S.kind };
-
-    ghost slots_grown = { slots-grown S.kind };
-
-    ghost len_grown = { len-grown S.kind };
-
-    ghost capacity_grown = { capacity-grown S.kind };
-
-    ghost limit_grown = { limit-grown S.kind };
-
-    ghost next_grown = { next-grown S.kind };
-
-    ghost valid_grown = { well_formed-grown S.kind };
-}
-
 impl<P: Ptr, T, S: NonZeroInxGenericStack<ArenaSlot<P, T>>> Arena<P, T, S> {
-    /// An arena without slots, over a stack that the caller has made, and that has no item: with its
-    /// room and its limit. It takes no memory.
-    pub fn over(stack: S) -> Self
-        requires { S.items stack ≡ [] }
-        ensures { result ≡ new_arena (S.room stack) (S.limit stack) (greatest_index P.Inx.greatest)
-            (first_generation P.Gen.generations) }
-    {
-        Arena {
-            slots: Slots::over(stack),
-            len: 0,
-            counter: P::Gen::two(),
-        }
-    }
-
-    /// An arena over a stack whose slots stand, each free or with an entry, with this counter and
-    /// the free indexes in this order: with the stack's room and limit. Whatever the free slots link
-    /// to is linked anew. It takes no memory, and looks at each slot.
-    ///
-    /// It asks that this is an arena (`IsWellFormed`): the free indexes are those of the free slots, each
-    /// once, and there are no more slots than fit. The generation of an entry may be past the counter, as
-    /// it is once the counter wrapped or was set.
-    pub fn over_slots(stack: S, counter: P::Gen, free: &[NonZeroUsize]) -> Self
-        requires { IsWellFormed (arena_over (map (entry_of P.Gen.number) (S.items stack))
-            (P.Gen.number counter) (map non_zero_usize_get free.now) (S.room stack)
-            (S.limit stack) (greatest_index P.Inx.greatest)) }
-        ensures { IsTouched (arena_over (map (entry_of P.Gen.number) (S.items stack))
-            (P.Gen.number counter) (map non_zero_usize_get free.now) (S.room stack)
-            (S.limit stack) (greatest_index P.Inx.greatest)) result }
-    {
-        let len = count_live::<P, T, ArenaSlot<P, T>, S>(&stack);
-        let mut slots = Slots::over(stack);
-        slots.link(free);
-        Arena {
-            slots,
-            len,
-            counter,
-        }
-    }
-
-    /// The counter: the generation of the next entry.
-    pub fn generation(&self) -> P::Gen
-        ensures { P.Gen.number result ≡ self.now.counter }
-    {
-        self.counter
-    }
-
-    /// Sets the counter. Pointers that were given before may come to name later entries.
-    pub fn set_generation(&mut self, generation: P::Gen)
-        ensures { self.new ≡ record self.old { counter = P.Gen.number generation } }
-    {
-        self.counter = generation;
-    }
-
-    /// Raises the counter, as `generational_inc` of its type does: past the greatest generation it
-    /// begins anew at 2, and the answer tells of that wrap.
-    pub fn inc_generation(&mut self) -> InvalidationOption<()>
-        ensures answer { result ≡ told (wraps P.Gen.generations self.old.counter) tt }
-        ensures state { self.new
-            ≡ record self.old { counter = raise P.Gen.generations self.old.counter } }
-        ensures history { CountsUp P.Gen.generations (wraps P.Gen.generations
-            self.old.counter) → Continues Fits self.old [] self.new }
-    {
-        let (counter, wrapped) = P::Gen::generational_inc(self.counter);
-        self.counter = counter;
-        told(wrapped, ())
-    }
-
-    /// Tidies the free list: gives up the free slots past the last entry, and puts the other free
-    /// indexes in rising order.
-    pub fn canonicalize_freelist(&mut self)
-        ensures state { IsTouched (tidied self.old) self.new }
-        ensures tidied { IsTidied self.old self.new }
-        ensures history { Continues Fits self.old (resizing ∷ []) self.new }
-    {
-        self.slots.tidy();
-    }
-
-    /// Gives up the free slots past the last entry. The other free indexes keep their order, and no
-    /// entry moves.
-    ///
-    /// It takes no memory, and touches at most 6 slots for each that it gives up, and 2 more.
-    pub fn remove_free_end_slots(&mut self)
-        ensures state { IsTouched (without_free_end self.old) self.new }
-        ensures bounded { RisesByAtMost (6 * (slot_count self.old - slot_count self.new) + 2)
-            self.old.steps self.new.steps }
-        ensures kept { (q : Pointer) → look_up self.new.slots q ≡ look_up self.old.slots q }
-        ensures same_len { arena_len self.new ≡ arena_len self.old }
-        ensures same_capacity { capacity self.new ≡ capacity self.old }
-        ensures ends_live { is_free (item self.new.slots (slot_count self.new)) ≡ false }
-        ensures history { Continues Fits self.old (resizing ∷ []) self.new }
-    {
-        self.slots.remove_free_end();
-    }
-
-    /// The free index that the next insertion takes, if any is free.
-    pub fn freelist_root(&self) -> Option<P::Inx>
-        ensures { option_map P.Inx.number result ≡ slice_get self.now.free 0 }
-    {
-        P::Inx::try_from_usize(self.slots.root()?)
-    }
-
-    /// The stack of the slots. The free ones link to each other in the order in which insertion takes
-    /// them, from `freelist_root` on and back.
-    pub fn backing(&self) -> &S
-        ensures slots { map (entry_of P.Gen.number) (S.items result.now) ≡ self.now.slots }
-        ensures room { S.room result.now ≡ self.now.room }
-        ensures limit { S.limit result.now ≡ self.now.limit }
-        ensures links { IsLinked (S.items result.now) (slice_get self.now.free 0) self.now.free }
-    {
-        self.slots.stack()
-    }
-
-    // The slot of an index, if there is one.
-    fn slot(&self, inx: P::Inx) -> Option<&ArenaSlot<P, T>>
-        ensures entry { option_and_then (entry_of P.Gen.number) (option_copied result)
-            ≡ entry self.now (P.Inx.number inx) }
-        ensures within { IsSome (entry self.now (P.Inx.number inx))
-            → P.Inx.number inx ≤ greatest_index P.Inx.greatest }
-    {
-        self.slots.peek(P::Inx::try_into_usize(inx)?)
-    }
-
-    // The index of a pointer, if the pointer is valid.
-    fn find(&self, p: P) -> Option<NonZeroUsize>
-        ensures index { IfSome result (λ inx. non_zero_usize_get inx ≡ (P.numbers p).0) }
-        ensures live { is_some result ≡ is_some (look_up self.now.slots (P.numbers p)) }
-    {
-        let slot = self.slot(p.inx())?;
-        slot.look_up(p.generation())?;
-        P::Inx::try_into_usize(p.inx())
-    }
-
-    // The index of a pointer, if the pointer is valid. It touches at most one slot.
-    fn look_for(&mut self, p: P) -> Option<NonZeroUsize>
-        ensures index { IfSome result (λ inx. non_zero_usize_get inx ≡ (P.numbers p).0) }
-        ensures live { is_some result ≡ is_some (look_up self.old.slots (P.numbers p)) }
-        ensures unchanged { IsTouched self.old self.new }
-        ensures steps { self.new.steps ≤ self.old.steps + 1 }
-    {
-        self.slots.find(p)
-    }
-
-    // An index, if an entry stands there. It touches at most one slot.
-    fn look_at(&mut self, inx: P::Inx) -> Option<NonZeroUsize>
-        ensures index { IfSome result (λ i. non_zero_usize_get i ≡ P.Inx.number inx) }
-        ensures live { is_some result ≡ is_some (entry self.old (P.Inx.number inx)) }
-        ensures unchanged { IsTouched self.old self.new }
-        ensures steps { self.new.steps ≤ self.old.steps + 1 }
-    {
-        self.slots.find_inx(inx)
-    }
-
-    // An index, if an entry stands there.
-    fn find_inx(&self, inx: P::Inx) -> Option<NonZeroUsize>
-        ensures index { IfSome result (λ i. non_zero_usize_get i ≡ P.Inx.number inx) }
-        ensures live { is_some result ≡ is_some (entry self.now (P.Inx.number inx)) }
-    {
-        match self.slot(inx) {
-            Some(slot) if slot.is_live() => P::Inx::try_into_usize(inx),
-            _ => None,
-        }
-    }
-
-    // The pointer of the entry at an index.
-    pub(crate) fn ptr_at(&self, inx: NonZeroUsize) -> P
-        requires { IsSome (entry self.now (non_zero_usize_get inx)) }
-        ensures { (h : ℕ) × (v : T) × (entry self.now (non_zero_usize_get inx) ≡ Some (h, v))
-            × (P.numbers result ≡ (non_zero_usize_get inx, h)) }
-    {
-        ptr_at::<P, T, ArenaSlot<P, T>, S>(self.slots.stack(), inx)
-    }
-
-    // How many slots there are.
-    pub(crate) fn slot_count(&self) -> usize
-        ensures value { result ≡ slot_count self.now }
-        ensures indexed { result ≤ greatest_index P.Inx.greatest }
-    {
-        self.slots.len()
-    }
-
     // The slots, so that their values alone can be written.
     pub(crate) fn lend_slots(&mut self) -> LentSlots<'_, P, T, ArenaSlot<P, T>>
         ensures* writes_back { sem 𝓛 (lends_values ⟦<Arena<P, T, S> as LendingArena>⟧.arena_row
@@ -725,22 +483,5 @@ impl<P: Ptr, T, S: NonZeroInxGenericStack<ArenaSlot<P, T>>> Arena<P, T, S> {
             at: slots.as_mut_ptr(),
             mark: PhantomData,
         }
-    }
-
-    // Takes out the entry at an index, and tells whether the counter wrapped.
-    fn take(&mut self, inx: NonZeroUsize) -> ((P::Gen, T), bool)
-        requires { IsSome (entry self.old (non_zero_usize_get inx)) }
-        ensures entry { entry self.old (non_zero_usize_get inx)
-            ≡ Some (P.Gen.number result.0.0, result.0.1) }
-        ensures wrapped { result.1 ≡ wraps P.Gen.generations self.old.counter }
-        ensures state { IsTouched (removed (raise P.Gen.generations) self.old
-            (non_zero_usize_get inx)) self.new }
-        ensures steps { self.new.steps ≤ self.old.steps + 2 }
-    {
-        let taken = self.slots.vacate(inx);
-        self.len -= 1;
-        let (counter, wrapped) = P::Gen::generational_inc(self.counter);
-        self.counter = counter;
-        (taken, wrapped)
     }
 }

@@ -147,7 +147,7 @@ impl<P: Ptr, T, S: NonZeroInxGenericStack<ArenaSlot<P, T>>> Arena<P, T, S> {
         ensures* refused { sem 𝓛 (entry_rests
             ⟦<Arena<P, T, S> as LendingArena>⟧.arena_row self.entry result) }
     {
-        self.grow_if_full()?;
+        self.make_place()?;
         Ok(ArenaInsertEntry { arena: self })
     }
 

@@ -6,6 +6,7 @@ mod compaction;
 mod copies;
 mod end_slots;
 mod entry;
+mod snapshots;
 mod stack;
 mod timing;
 mod walks;
@@ -16,7 +17,7 @@ use std::io::Print;
 use std::time::Clock;
 
 const USAGE: &str =
-    "usage: triple_arena_bench_tool stack | arena SIZES... | walk SIZES... | compact SIZES... | copy SIZES... | ends SIZES...";
+    "usage: triple_arena_bench_tool stack | arena SIZES... | walk SIZES... | compact SIZES... | copy SIZES... | ends SIZES... | snapshot SIZES...";
 
 // Times what a word names, at a size.
 fn run(rt: &(impl Print + Clock), alloc: Global, what: &str, size: u32) -> anyhow::Result<()> {
@@ -26,6 +27,7 @@ fn run(rt: &(impl Print + Clock), alloc: Global, what: &str, size: u32) -> anyho
         "compact" => compaction::run(rt, alloc, size),
         "copy" => copies::run(rt, alloc, size),
         "ends" => end_slots::run(rt, alloc, size),
+        "snapshot" => snapshots::run(rt, alloc, size),
         _ => Ok(println!(rt; "{USAGE}")?),
     }
 }

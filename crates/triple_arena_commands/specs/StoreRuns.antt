@@ -38,17 +38,17 @@ module _ {X : Type 0} where
   AnswersAsStore s commands replies = ⊥
 
   -- the replies of the store where no memory is refused
-  abbrev pub ample : Store X → List (Command X) → List (Reply X)
-  ample s [] = []
-  ample s (command ∷ commands) = (store_answer s command).0 ∷ ample (store_answer s command).1 commands
+  abbrev pub replies_with_memory : Store X → List (Command X) → List (Reply X)
+  replies_with_memory s [] = []
+  replies_with_memory s (command ∷ commands) = (store_answer s command).0 ∷ replies_with_memory (store_answer s command).1 commands
 
   -- the commands without compactions
-  abbrev pub erase : List (Command X) → List (Command X)
-  erase commands = filter (λ command. not (is_compact command)) commands
+  abbrev pub without_compactions : List (Command X) → List (Command X)
+  without_compactions commands = filter (λ command. not (is_compact command)) commands
 
   -- the replies to all commands but compactions, their bools read as false
-  abbrev pub seen : List (Command X) → List (Reply X) → List (Reply X)
-  seen [] replies = []
-  seen commands [] = []
-  seen (command ∷ commands) (reply ∷ replies) =
-      if is_compact command then seen commands replies else without_wrap reply ∷ seen commands replies
+  abbrev pub replies_without_compactions : List (Command X) → List (Reply X) → List (Reply X)
+  replies_without_compactions [] replies = []
+  replies_without_compactions commands [] = []
+  replies_without_compactions (command ∷ commands) (reply ∷ replies) =
+      if is_compact command then replies_without_compactions commands replies else without_wrap reply ∷ replies_without_compactions commands replies

@@ -4,7 +4,7 @@ ghost use Rattle.std.specs.Prelude.{◌≡◌, ◌∷◌, ◌++◌, ℕ, List, S
 ghost use Rattle.triple_arena_commands.specs.Lines.{words_of};
 ghost use Rattle.triple_arena_commands.specs.CommandText.{number_of, link_of, bare_of, numbered, linked, set_of, command_of_words, command_of};
 
-use crate::lines::split_first;
+use crate::splitting::split_first;
 use crate::words::{parse_link, parse_number, read_link, read_number};
 
 /// One command of a session. Names are numbers from 1, in the order of giving.

@@ -10,7 +10,7 @@ ghost use Rattle.triple_arena_commands.specs.declared.reply.Reply.TheVariants.{G
 ghost use Rattle.triple_arena_commands.specs.ReplyText.{tells_of_wrap};
 ghost use Rattle.triple_arena_commands.specs.Runs.{IsRun};
 ghost use Rattle.triple_arena_commands.specs.NameStore.{Store, next_name, row_count, row, is_good_link, HasEnded, row_dangles, IsStoreStep, MayReply};
-ghost use Rattle.triple_arena_commands.specs.StoreRuns.{is_named, is_no_memory, AnswersAsStore, ample, erase, seen};
+ghost use Rattle.triple_arena_commands.specs.StoreRuns.{is_named, is_no_memory, AnswersAsStore, replies_with_memory, without_compactions, replies_without_compactions};
 ghost use Rattle.triple_arena_commands.specs.StrictStore.{StrictStore, tells_exhausted, used, is_spent, IsStrictStoreStep};
 ghost use Rattle.triple_arena_commands.specs.Forms.{FormsAreExact, LinesAreExact};
 
@@ -59,7 +59,7 @@ pub fn compaction_is_unseen<X>()
     ensures { (s : Store X) (commands : List (Command X)) (replies : List (Reply X))
         → AnswersAsStore s commands replies → list_all is_named commands ≡ true
         → list_any is_no_memory replies ≡ false
-        → seen commands replies ≡ ample s (erase commands) }
+        → replies_without_compactions commands replies ≡ replies_with_memory s (without_compactions commands) }
 {}
 
 /// A strict store of names answers as the store that it has, and tells of no wrap, but that a command
@@ -84,5 +84,5 @@ pub fn strict_compaction_is_unseen<X>()
     ensures { (s t : StrictStore X) (commands : List (Command X)) (replies : List (Reply X))
         → IsRun IsStrictStoreStep s commands replies t → list_all is_named commands ≡ true
         → list_any is_no_memory replies ≡ false → list_any tells_exhausted replies ≡ false
-        → seen commands replies ≡ ample s.store (erase commands) }
+        → replies_without_compactions commands replies ≡ replies_with_memory s.store (without_compactions commands) }
 {}

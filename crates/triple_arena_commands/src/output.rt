@@ -6,8 +6,8 @@ ghost use Rattle.std.specs.Io.KnownBytes.{Appends, Keeps};
 ghost use Rattle.triple_arena_commands.specs.ReplyText.{reply_line};
 ghost use Rattle.triple_arena_commands.specs.TextRun.{AppendsCut, IsFlushed};
 
-use crate::line::{LINE_ROOM, put_line};
 use crate::reply::{Reply, parts_of};
+use crate::reply_line::{LINE_ROOM, put_line};
 use crate::text_error::TextError;
 use std::io::{BufWriter, ErrorKind, Write};
 

@@ -25,7 +25,7 @@ use triple_arena_base::{
 use triple_arena_direct_arena::{DirectArena, DirectSlot};
 use triple_arena_ptr::{Ptr, PtrGen, PtrInx};
 use triple_arena_stack::NonZeroInxGenericStack;
-use triple_arena_traits::ends::last_index;
+use triple_arena_traits::last_index::last_index;
 use triple_arena_traits::{ArenaCloneFromWith, ArenaTrait, CompactArenaTrait, recast_entries};
 
 /// Compresses the arena, and gives the map from each old pointer of an entry to its new one: a

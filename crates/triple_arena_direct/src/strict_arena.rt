@@ -173,6 +173,9 @@ impl<P: Ptr, T, S: NonZeroInxGenericStack<ArenaSlot<P, T>>> StrictArena<P, T, S>
             → IsWithin self.old.limit min_capacity
             → S.has_memory (reallocated S.kind self.old min_capacity).room → IsOk result }
         ensures place { OnOk result (min_capacity ≤ capacity self.new) }
+        ensures kept { (q : Pointer) → look_up self.new.slots q ≡ look_up self.old.slots q }
+        ensures same_len { arena_len self.new ≡ arena_len self.old }
+        ensures limit { self.new.limit ≡ self.old.limit }
         ensures step { IsStrictStep S.kind P.Gen.generations
             self.old (to_reallocate min_capacity) (resizing ∷ []) self.new }
         ensures history { Continues Fits self.old (resizing ∷ []) self.new }
@@ -505,7 +508,10 @@ impl<P: Ptr, T, S: NonZeroInxGenericStack<ArenaSlot<P, T>>> StrictArena<P, T, S>
 
     /// Moves the entries to the indexes from 1 on, in their order, under the counter, which is raised
     /// once before if there is an entry; as [`CompactArenaTrait::compress_with`] of an `Arena` without
-    /// a reset.
+    /// a reset. Limit and capacity stay.
+    ///
+    /// Where generations count, it is one model call: it ends every pointer, and gives those that stand
+    /// after it (`history`), with which a history can begin, too (`begun`).
     ///
     /// `Exhausted` exactly where there is an entry and the counter is at its greatest value. Then
     /// nothing changes, and `f` is not called.
@@ -524,6 +530,8 @@ impl<P: Ptr, T, S: NonZeroInxGenericStack<ArenaSlot<P, T>>> StrictArena<P, T, S>
             (keys self.old.slots)) }
         ensures refused { OnErr result (self.new ≡ self.old) }
         ensures len { arena_len self.new ≡ arena_len self.old }
+        ensures limit { self.new.limit ≡ self.old.limit }
+        ensures capacity { capacity self.new ≡ capacity self.old }
         ensures step { (new : List T) × IsStrictStep S.kind P.Gen.generations
             self.old (to_compress new)
             (calls_if_ok result (λ _. compression (keys self.old.slots) (keys self.new.slots)))
@@ -531,6 +539,8 @@ impl<P: Ptr, T, S: NonZeroInxGenericStack<ArenaSlot<P, T>>> StrictArena<P, T, S>
         ensures history { P.Gen.generations.counting ≡ true → Continues Fits self.old
             (calls_if_ok result (λ _. compression (keys self.old.slots) (keys self.new.slots)))
             self.new }
+        ensures begun { P.Gen.generations.counting ≡ true
+            → Fits (begun_with (keys self.new.slots)) self.new }
         ensures gone_for_good { P.Gen.generations.counting ≡ true → OnOk result
             ((q : Pointer) → IsSome (look_up self.old.slots q) → IsGoneForGood self.new q) }
         ensures stays_gone { P.Gen.generations.counting ≡ true
@@ -560,6 +570,8 @@ impl<P: Ptr, T, S: NonZeroInxGenericStack<ArenaSlot<P, T>>> StrictArena<P, T, S>
             ≡ look_up self.old.slots q) }
         ensures refused { OnErr result (self.new ≡ self.old) }
         ensures len { arena_len self.new ≡ arena_len self.old }
+        ensures limit { self.new.limit ≡ self.old.limit }
+        ensures capacity { capacity self.new ≡ capacity self.old }
         ensures step { (new : List T) × IsStrictStep S.kind P.Gen.generations
             self.old (to_compress new)
             (calls_if_ok result (λ _. compression (keys self.old.slots) (keys self.new.slots)))
@@ -567,6 +579,8 @@ impl<P: Ptr, T, S: NonZeroInxGenericStack<ArenaSlot<P, T>>> StrictArena<P, T, S>
         ensures history { P.Gen.generations.counting ≡ true → Continues Fits self.old
             (calls_if_ok result (λ _. compression (keys self.old.slots) (keys self.new.slots)))
             self.new }
+        ensures begun { P.Gen.generations.counting ≡ true
+            → Fits (begun_with (keys self.new.slots)) self.new }
         ensures gone_for_good { P.Gen.generations.counting ≡ true → OnOk result
             ((q : Pointer) → IsSome (look_up self.old.slots q) → IsGoneForGood self.new q) }
         ensures stays_gone { P.Gen.generations.counting ≡ true
@@ -621,12 +635,16 @@ impl<P: Ptr, T, S: NonZeroInxGenericStack<ArenaSlot<P, T>>> StrictArena<P, T, S>
             (first_unresolved P.numbers self.old.slots (held_all T.held (values self.old.slots)))) }
         ensures refused { OnErr result (self.new ≡ self.old) }
         ensures len { arena_len self.new ≡ arena_len self.old }
+        ensures limit { self.new.limit ≡ self.old.limit }
+        ensures capacity { capacity self.new ≡ capacity self.old }
         ensures step { OnOk result ((new : List T) × IsStrictStep S.kind P.Gen.generations
             self.old (to_compress new)
             (compression (keys self.old.slots) (keys self.new.slots) ∷ []) self.new) }
         ensures history { P.Gen.generations.counting ≡ true → Continues Fits self.old
             (calls_if_ok result (λ _. compression (keys self.old.slots) (keys self.new.slots)))
             self.new }
+        ensures begun { P.Gen.generations.counting ≡ true
+            → Fits (begun_with (keys self.new.slots)) self.new }
         ensures gone_for_good { P.Gen.generations.counting ≡ true → OnOk result
             ((q : Pointer) → IsSome (look_up self.old.slots q) → IsGoneForGood self.new q) }
         ensures stays_gone { P.Gen.generations.counting ≡ true
@@ -686,12 +704,16 @@ impl<P: Ptr, T, S: NonZeroInxGenericStack<ArenaSlot<P, T>>> StrictArena<P, T, S>
         ensures refused { OnErr result (self.new ≡ self.old) }
         ensures holder_refused { OnErr result (holder.new ≡ holder.old) }
         ensures len { arena_len self.new ≡ arena_len self.old }
+        ensures limit { self.new.limit ≡ self.old.limit }
+        ensures capacity { capacity self.new ≡ capacity self.old }
         ensures step { OnOk result ((new : List T) × IsStrictStep S.kind P.Gen.generations
             self.old (to_compress new)
             (compression (keys self.old.slots) (keys self.new.slots) ∷ []) self.new) }
         ensures history { P.Gen.generations.counting ≡ true → Continues Fits self.old
             (calls_if_ok result (λ _. compression (keys self.old.slots) (keys self.new.slots)))
             self.new }
+        ensures begun { P.Gen.generations.counting ≡ true
+            → Fits (begun_with (keys self.new.slots)) self.new }
         ensures gone_for_good { P.Gen.generations.counting ≡ true → OnOk result
             ((q : Pointer) → IsSome (look_up self.old.slots q) → IsGoneForGood self.new q) }
         ensures stays_gone { P.Gen.generations.counting ≡ true
@@ -720,9 +742,12 @@ impl<P: Ptr, T, S: NonZeroInxGenericStack<ArenaSlot<P, T>>> StrictArena<P, T, S>
         self.is_exhausted() && self.contains(p)
     }
 
-    // Whether a raise of the counter would wrap it, and there is an entry.
+    // Whether a raise of the counter would wrap it, and there is an entry. Where generations count, a history
+    // can begin with the pointers that stand (`begun`).
     fn is_exhausted_for_any(&self) -> bool
-        ensures { result ≡ is_exhausted_for_any P.Gen.generations self.now }
+        ensures value { result ≡ is_exhausted_for_any P.Gen.generations self.now }
+        ensures begun { P.Gen.generations.counting ≡ true
+            → Fits (begun_with (keys self.now.slots)) self.now }
     {
         !self.arena.is_empty() && self.is_exhausted()
     }

@@ -1,9 +1,9 @@
 //! The direct arena.
 
-ghost use Rattle.std.specs.Prelude.{◌≡◌, ◌≢◌, ℕ, List, Option, IfOk, ◌≤◌, ◌<◌, ◌+◌, ◌^◌, ◌↔◌, ◌∷◌, false, [], map, length, is_some, IsSome, IfSome, IsOk, OnOk, OnErr, Some, None, Err, option_copied, min, MatchOption, ◌-◌};
+ghost use Rattle.std.specs.Prelude.{◌≡◌, ◌≢◌, ℕ, IfOk, ◌≤◌, ◌↔◌, ◌∷◌, false, [], map, length, is_some, IsSome, IsOk, OnOk, OnErr, Some, None, Err, option_copied, MatchOption};
 ghost use Rattle.std.specs.Int.NonZero.{non_zero_usize_get};
 ghost use Rattle.std.specs.Borrow.{sem, LendsIf};
-ghost use Rattle.std.specs.Option.{option_map, option_and_then, option_copied_mut};
+ghost use Rattle.std.specs.Option.{option_map, option_copied_mut};
 ghost use Rattle.triple_arena_ptr.specs.Numbers.{greatest_index};
 ghost use Rattle.triple_arena_ptr.specs.Pointers.{Pointer};
 ghost use Rattle.triple_arena_stack.specs.Capacity.{IsWithin, IsBeyond};
@@ -13,11 +13,7 @@ ghost use Rattle.triple_arena_traits.specs.Walks.{IsAtFirst};
 ghost use Rattle.triple_arena_traits.specs.Ending.{told_of, map_told};
 ghost use Rattle.triple_arena_traits.specs.SlotSteps.{RisesByAtMost};
 ghost use Rattle.triple_arena_traits.specs.Histories.{History, resizing, removal, remains, Continues, CountsUp};
-ghost use Rattle.triple_arena_traits.specs.DirectInsertion.{IsVacant};
-ghost use Rattle.triple_arena_traits.specs.DisjointEntries.{value_of, DisjointPtrAnswer, DisjointInxAnswer, MayWorkAtEntries, WorkedAtEntries};
-ghost use Rattle.triple_arena_traits.specs.FreeList.{last_index};
-ghost use Rattle.triple_arena_stack.specs.Disjoint.{DisjointAnswer, MayWork, Worked};
-ghost use Rattle.triple_arena_direct_arena.specs.DirectState.{DirectState, new_direct, generation_of, direct_slot_count, direct_len, direct_capacity, SlotsFit, direct_with_value, inserted_at, direct_removed, direct_cleared, direct_shortened, direct_with_room_for, direct_reallocated, direct_with_slots, direct_with_limit};
+ghost use Rattle.triple_arena_direct_arena.specs.DirectState.{DirectState, new_direct, generation_of, direct_len, direct_capacity, SlotsFit, direct_with_value, direct_removed, direct_cleared, direct_shortened, direct_reallocated};
 ghost use Rattle.triple_arena_traits.specs.Lent.{lends_values};
 ghost use Rattle.triple_arena_direct_arena.specs.DirectValues.{direct_with_values_of};
 ghost use Rattle.triple_arena_direct_arena.specs.DirectSlot.{direct_slot_entry};
@@ -25,26 +21,22 @@ ghost use Rattle.triple_arena_direct_arena.specs.DirectSlot.{direct_slot_entry};
 mod advancer;
 mod compaction;
 mod copies;
+mod disjoint;
+mod insertion;
+mod look_ups;
+mod over;
+mod room;
 
 use crate::direct_arena_iterators::PtrAdvancer;
+use crate::direct_slots::DirectSlots;
 use crate::slot::DirectSlot;
-use crate::slots::Slots;
 use std::alloc::Global;
 use std::marker::{Model, PhantomData};
 use std::num::NonZeroUsize;
-use triple_arena_base::{
-    AllocError, GetDisjointMutError, InvalidationOption, InvalidationResult,
-    MaxCapacityReductionError, ReallocationError,
-};
+use triple_arena_base::{AllocError, InvalidationOption, InvalidationResult, ReallocationError};
 use triple_arena_ptr::{Ptr, PtrGen, PtrInx};
-use triple_arena_stack::{NonZeroInxGenericStack, NonZeroInxVec, SetMaxCapacity};
-use triple_arena_traits::entry_slots::{
-    count_live, first_live, last_live, ptr_at, shorten, slot_at, work_on_two,
-};
-use triple_arena_traits::pair_call::{AtEntries, AtValues, PairCall};
-use triple_arena_traits::{
-    ArenaDirectInsertTrait, ArenaTrait, DisjointableArenaTrait, EntrySlot, LendingArena, LentSlots,
-};
+use triple_arena_stack::{NonZeroInxGenericStack, NonZeroInxVec};
+use triple_arena_traits::{ArenaTrait, EntrySlot, LendingArena, LentSlots};
 
 /// An arena over a stack of slots, whose entries are put under pointers of the caller's choice: it
 /// has no counter and no free list.
@@ -56,7 +48,7 @@ pub struct DirectArena<
     T,
     S: NonZeroInxGenericStack<DirectSlot<P, T>> = NonZeroInxVec<DirectSlot<P, T>>,
 > {
-    slots: Slots<P, T, S>,
+    slots: DirectSlots<P, T, S>,
     // How many entries there are.
     len: usize,
 }
@@ -431,213 +423,7 @@ impl<P: Ptr, T, S: NonZeroInxGenericStack<DirectSlot<P, T>>> ArenaTrait<P, T>
     ghost capacity_tidied = { λ _ _ _. ap direct_capacity };
 }
 
-impl<P: Ptr, T, S: NonZeroInxGenericStack<DirectSlot<P, T>>> ArenaDirectInsertTrait<P, T>
-    for DirectArena<P, T, S> {
-    ghost use Rattle.std.specs.Prelude.{refl};
-    ghost use Rattle.triple_arena_direct_arena.specs.laws.DirectInsertionLaws.{slots-inserted_at, len-inserted_at};
-
-    // the value stands at the index, under the generation, and the slots that were missing below
-    // are free
-    ghost inserted_at = { inserted_at };
-
-    fn direct_insert_reserved(&mut self, p: P, t: T)
-        requires { IsVacant self.old.slots (direct_capacity self.old) (P.numbers p).0 }
-        ensures inserted { self.new ≡ inserted_at self.old (P.numbers p) t }
-        ensures found { look_up self.new.slots (P.numbers p) ≡ Some t }
-        ensures others { (q : Pointer) → q ≢ P.numbers p
-            → look_up self.new.slots q ≡ look_up self.old.slots q }
-        ensures limit { self.new.limit ≡ self.old.limit }
-        ensures capacity { direct_capacity self.new ≡ direct_capacity self.old }
-    {
-        // By its clauses, it is at most the greatest index.
-        let _capacity = self.capacity();
-        let inx = P::Inx::try_into_usize(p.inx()).unwrap();
-        self.put(inx, p.generation(), t);
-    }
-
-    ghost slots_inserted_at = { slots-inserted_at };
-
-    ghost len_inserted_at = { len-inserted_at };
-
-    ghost limit_inserted_at = { λ _ _ _. refl };
-
-    ghost capacity_inserted_at = { λ _ _ _. refl };
-}
-
-impl<P: Ptr, T, S: NonZeroInxGenericStack<DirectSlot<P, T>>> DisjointableArenaTrait<P, T>
-    for DirectArena<P, T, S> {
-    fn with_disjoint_mut<R, F: FnOnce(&mut T, &mut T) -> R>(
-        &mut self,
-        first: P,
-        second: P,
-        f: F,
-    ) -> Result<R, GetDisjointMutError>
-        requires { (P.numbers first).0 ≢ (P.numbers second).0 → MayWork F.FnOnce f
-            (look_up self.old.slots (P.numbers first))
-            (look_up self.old.slots (P.numbers second)) }
-        ensures variant { DisjointPtrAnswer self.old.slots
-            (P.numbers first) (P.numbers second) result }
-        ensures refused { OnErr result (self.new ≡ self.old) }
-        ensures worked { IfOk result (λ r. Worked F.FnOnce f
-            (look_up self.old.slots (P.numbers first))
-            (look_up self.old.slots (P.numbers second))
-            r (λ x y. self.new ≡ direct_with_value
-            (direct_with_value self.old (P.numbers first).0 x) (P.numbers second).0 y)) }
-        ensures history { Continues (λ _ _. ⊥) self.old [] self.new }
-    {
-        let (Some(first), Some(second)) = (self.find(first), self.find(second)) else {
-            return Err(GetDisjointMutError::IndexOutOfBounds);
-        };
-        if first == second {
-            return Err(GetDisjointMutError::OverlappingIndices);
-        }
-        Ok(self.work_on_two(first, second, AtValues { f }))
-    }
-
-    fn with_disjoint_inx_mut<R, F: FnOnce(P::Gen, &mut T, P::Gen, &mut T) -> R>(
-        &mut self,
-        first: P::Inx,
-        second: P::Inx,
-        f: F,
-    ) -> Result<R, GetDisjointMutError>
-        requires { P.Inx.number first ≢ P.Inx.number second
-            → MayWorkAtEntries P.Gen.number F.FnOnce f
-            (entry_in self.old.slots (P.Inx.number first))
-            (entry_in self.old.slots (P.Inx.number second)) }
-        ensures variant { DisjointInxAnswer self.old.slots
-            (P.Inx.number first) (P.Inx.number second) result }
-        ensures refused { OnErr result (self.new ≡ self.old) }
-        ensures worked { IfOk result (λ r. WorkedAtEntries P.Gen.number F.FnOnce f
-            (entry_in self.old.slots (P.Inx.number first))
-            (entry_in self.old.slots (P.Inx.number second))
-            r (λ x y. self.new ≡ direct_with_value
-            (direct_with_value self.old (P.Inx.number first) x) (P.Inx.number second) y)) }
-        ensures history { Continues (λ _ _. ⊥) self.old [] self.new }
-    {
-        let (i, j) = self.two_slots(first, second)?;
-        let (Some(a), Some(b)) = (self.generation_at(first), self.generation_at(second)) else {
-            return Err(GetDisjointMutError::IndexOutOfBounds);
-        };
-        Ok(self.work_on_two(i, j, AtEntries { f, a, b }))
-    }
-}
-
 impl<P: Ptr, T, S: NonZeroInxGenericStack<DirectSlot<P, T>>> DirectArena<P, T, S> {
-    /// An arena without slots, over a stack that the caller has made, and that has no item: with its
-    /// room and its limit. It takes no memory.
-    pub fn over(stack: S) -> Self
-        requires { S.items stack ≡ [] }
-        ensures { result ≡ new_direct (S.room stack) (S.limit stack)
-            (greatest_index P.Inx.greatest) }
-    {
-        DirectArena {
-            slots: Slots::over(stack),
-            len: 0,
-        }
-    }
-
-    /// An arena over a stack whose slots stand, each free or with an entry: with its room and its
-    /// limit. It asks for no more slots than there are indexes. It takes no memory, and looks at each
-    /// slot.
-    pub fn over_slots(stack: S) -> Self
-        requires { length (S.items stack) ≤ greatest_index P.Inx.greatest }
-        ensures { result ≡ direct_with_slots (new_direct (S.room stack) (S.limit stack)
-            (greatest_index P.Inx.greatest)) (map (direct_slot_entry P.Gen.number) (S.items stack)) }
-    {
-        // By its clause, there are no more items.
-        let _capacity = stack.capacity();
-        let len = count_live::<P, T, DirectSlot<P, T>, S>(&stack);
-        DirectArena {
-            slots: Slots::over(stack),
-            len,
-        }
-    }
-
-    /// The stack of the slots.
-    pub fn backing(&self) -> &S
-        ensures slots { map (direct_slot_entry P.Gen.number) (S.items result.now) ≡ self.now.slots }
-        ensures room { S.room result.now ≡ self.now.room }
-        ensures limit { S.limit result.now ≡ self.now.limit }
-    {
-        &self.slots.stack
-    }
-
-    /// Pops free slots at the end, at most `num`, and tells how many. It takes no memory, and no
-    /// entry moves.
-    pub fn pop_free_end_slots(&mut self, num: usize) -> usize
-        ensures state { self.new ≡ direct_shortened self.old (direct_slot_count self.old - num) }
-        ensures popped { result ≡ direct_slot_count self.old - direct_slot_count self.new }
-    {
-        let before = self.slots.stack.len();
-        self.shorten(before.saturating_sub(num));
-        before.saturating_sub(self.slots.stack.len())
-    }
-
-    // The slot of an index, if there is one.
-    fn slot(&self, inx: P::Inx) -> Option<&DirectSlot<P, T>>
-        ensures entry { option_and_then (direct_slot_entry P.Gen.number) (option_copied result)
-            ≡ entry_in self.now.slots (P.Inx.number inx) }
-        ensures within { IsSome (entry_in self.now.slots (P.Inx.number inx))
-            → P.Inx.number inx ≤ greatest_index P.Inx.greatest }
-    {
-        slot_at(&self.slots.stack, P::Inx::try_into_usize(inx)?)
-    }
-
-    // The index of a pointer, if the pointer is valid.
-    fn find(&self, p: P) -> Option<NonZeroUsize>
-        ensures index { IfSome result (λ inx. non_zero_usize_get inx ≡ (P.numbers p).0) }
-        ensures live { is_some result ≡ is_some (look_up self.now.slots (P.numbers p)) }
-    {
-        let _value = self.slot(p.inx())?.look_up(p.generation())?;
-        P::Inx::try_into_usize(p.inx())
-    }
-
-    // An index, if an entry stands there.
-    fn find_inx(&self, inx: P::Inx) -> Option<NonZeroUsize>
-        ensures index { IfSome result (λ i. non_zero_usize_get i ≡ P.Inx.number inx) }
-        ensures live { is_some result ≡ is_some (entry_in self.now.slots (P.Inx.number inx)) }
-    {
-        let _entry = self.slot(inx)?.entry()?;
-        P::Inx::try_into_usize(inx)
-    }
-
-    // The pointer of the entry at an index.
-    pub(crate) fn ptr_at(&self, inx: NonZeroUsize) -> P
-        requires { IsSome (entry_in self.now.slots (non_zero_usize_get inx)) }
-        ensures { (h : ℕ) × (v : T) × (entry_in self.now.slots (non_zero_usize_get inx) ≡ Some (h, v))
-            × (P.numbers result ≡ (non_zero_usize_get inx, h)) }
-    {
-        ptr_at::<P, T, DirectSlot<P, T>, S>(&self.slots.stack, inx)
-    }
-
-    // The least index of an entry, if there is one.
-    fn first_live(&self) -> Option<NonZeroUsize>
-        ensures { MatchOption result
-            ((i : ℕ) → entry_in self.now.slots i ≡ None)
-            (λ inx. IsSome (entry_in self.now.slots (non_zero_usize_get inx))
-            × ((i : ℕ) → i < non_zero_usize_get inx → entry_in self.now.slots i ≡ None)) }
-    {
-        first_live::<P, T, DirectSlot<P, T>, S>(&self.slots.stack)
-    }
-
-    // The greatest index of an entry, if there is one.
-    fn last_live(&self) -> Option<NonZeroUsize>
-        ensures { MatchOption result
-            ((i : ℕ) → entry_in self.now.slots i ≡ None)
-            (λ inx. IsSome (entry_in self.now.slots (non_zero_usize_get inx))
-            × ((i : ℕ) → non_zero_usize_get inx < i → entry_in self.now.slots i ≡ None)) }
-    {
-        last_live::<P, T, DirectSlot<P, T>, S>(&self.slots.stack)
-    }
-
-    // How many slots there are.
-    pub(crate) fn slot_count(&self) -> usize
-        ensures value { result ≡ direct_slot_count self.now }
-        ensures indexed { result ≤ greatest_index P.Inx.greatest }
-    {
-        self.slots.stack.len()
-    }
-
     // The slots, so that their values alone can be written.
     pub(crate) fn lend_slots(&mut self) -> LentSlots<'_, P, T, DirectSlot<P, T>>
         ensures* writes_back { sem 𝓛 (lends_values
@@ -652,57 +438,6 @@ impl<P: Ptr, T, S: NonZeroInxGenericStack<DirectSlot<P, T>>> DirectArena<P, T, S
         }
     }
 
-    // The numbers of two indexes that name two slots.
-    fn two_slots(
-        &self,
-        first: P::Inx,
-        second: P::Inx,
-    ) -> Result<(NonZeroUsize, NonZeroUsize), GetDisjointMutError>
-        ensures variant { DisjointAnswer (direct_slot_count self.now)
-            (P.Inx.number first) (P.Inx.number second) result }
-        ensures numbers { IfOk result (λ both. (non_zero_usize_get both.0 ≡ P.Inx.number first)
-            × (non_zero_usize_get both.1 ≡ P.Inx.number second)) }
-    {
-        let stack = &self.slots.stack;
-        let first = P::Inx::try_into_usize(first).ok_or(GetDisjointMutError::IndexOutOfBounds)?;
-        let second = P::Inx::try_into_usize(second).ok_or(GetDisjointMutError::IndexOutOfBounds)?;
-        stack.check_disjoint(first, second)?;
-        Ok((first, second))
-    }
-
-    // Makes the call at the values of the entries at two indexes.
-    fn work_on_two<R, C: PairCall<T, R>>(
-        &mut self,
-        first: NonZeroUsize,
-        second: NonZeroUsize,
-        call: C,
-    ) -> R
-        requires first { IsSome (entry_in self.old.slots (non_zero_usize_get first)) }
-        requires second { IsSome (entry_in self.old.slots (non_zero_usize_get second)) }
-        requires apart { non_zero_usize_get first ≢ non_zero_usize_get second }
-        requires callable { MayWork C.calls call
-            (value_of (entry_in self.old.slots (non_zero_usize_get first)))
-            (value_of (entry_in self.old.slots (non_zero_usize_get second))) }
-        ensures { Worked C.calls call
-            (value_of (entry_in self.old.slots (non_zero_usize_get first)))
-            (value_of (entry_in self.old.slots (non_zero_usize_get second)))
-            result (λ x y. self.new ≡ direct_with_value
-            (direct_with_value self.old (non_zero_usize_get first) x)
-            (non_zero_usize_get second) y) }
-    {
-        work_on_two::<P, T, DirectSlot<P, T>, S, R, C>(&mut self.slots.stack, first, second, call)
-    }
-
-    // Puts an entry at an index where none stands.
-    fn put(&mut self, inx: NonZeroUsize, generation: P::Gen, value: T)
-        requires { IsVacant self.old.slots (direct_capacity self.old) (non_zero_usize_get inx) }
-        ensures { self.new ≡ inserted_at self.old
-            (non_zero_usize_get inx, P.Gen.number generation) value }
-    {
-        self.slots.occupy(inx, generation, value);
-        self.len += 1;
-    }
-
     // Takes out the entry at an index.
     fn take(&mut self, inx: NonZeroUsize) -> (P::Gen, T)
         requires { IsSome (entry_in self.old.slots (non_zero_usize_get inx)) }
@@ -712,61 +447,5 @@ impl<P: Ptr, T, S: NonZeroInxGenericStack<DirectSlot<P, T>>> DirectArena<P, T, S
     {
         self.len -= 1;
         self.slots.vacate(inx)
-    }
-
-    // Pops the free slots at the end, as long as there are more slots than `len`.
-    fn shorten(&mut self, len: usize)
-        ensures { self.new ≡ direct_shortened self.old len }
-    {
-        shorten::<P, T, DirectSlot<P, T>, S>(&mut self.slots.stack, len);
-    }
-
-    // Reallocates the stack, and leaves the slots as they are.
-    fn reallocate(&mut self, min_capacity: usize) -> Result<(), ReallocationError>
-        ensures done { OnOk result (self.new ≡ direct_with_room_for S.kind self.old min_capacity) }
-        ensures refused { OnErr result (self.new ≡ self.old) }
-        ensures within { OnOk result (IsWithin self.old.limit min_capacity) }
-        ensures beyond { (result ≡ Err ReallocationError.BeyondMaxCapacity)
-            ↔ IsBeyond self.old.limit min_capacity }
-        ensures succeeds { IsWithin self.old.limit min_capacity
-            → (direct_with_room_for S.kind self.old min_capacity).room ≡ self.old.room
-            → IsOk result }
-        ensures with_memory { IsWithin self.old.limit min_capacity
-            → S.has_memory (direct_with_room_for S.kind self.old min_capacity).room → IsOk result }
-        ensures place { OnOk result (min_capacity ≤ greatest_index P.Inx.greatest
-            → min_capacity ≤ direct_capacity self.new) }
-    {
-        // By its clause, room and limit are those of the stack's kind.
-        let _limit = self.slots.stack.max_capacity();
-        self.slots.stack.reallocate_min_capacity(min_capacity)
-    }
-}
-
-impl<P: Ptr, T, S: SetMaxCapacity<DirectSlot<P, T>>> DirectArena<P, T, S> {
-    /// Sets the limit to `max_capacity`, a number of slots. It takes no memory, and the room stays:
-    /// the capacity is then the smallest of room, limit and greatest index.
-    ///
-    /// First free slots at the end go, as far as there are more slots than `max_capacity`; that
-    /// stays done where the limit is refused. Refused exactly where more slots are left, and so
-    /// exactly where an entry stands past `max_capacity`.
-    pub fn set_max_capacity(&mut self, max_capacity: usize) -> Result<(), MaxCapacityReductionError>
-        ensures variant { IsOk result
-            ↔ (direct_slot_count (direct_shortened self.old max_capacity) ≤ max_capacity) }
-        ensures bound { IsOk result ↔ (last_index self.old.slots ≤ max_capacity) }
-        ensures done { OnOk result (self.new
-            ≡ direct_with_limit (direct_shortened self.old max_capacity) max_capacity) }
-        ensures refused { OnErr result (self.new ≡ direct_shortened self.old max_capacity) }
-    {
-        self.shorten(max_capacity);
-        self.set_limit(max_capacity)
-    }
-
-    // Sets the limit of the stack, and leaves the slots as they are.
-    fn set_limit(&mut self, limit: usize) -> Result<(), MaxCapacityReductionError>
-        ensures variant { IsOk result ↔ (direct_slot_count self.old ≤ limit) }
-        ensures done { OnOk result (self.new ≡ direct_with_limit self.old limit) }
-        ensures refused { OnErr result (self.new ≡ self.old) }
-    {
-        self.slots.stack.set_max_capacity(limit)
     }
 }

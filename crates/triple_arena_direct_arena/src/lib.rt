@@ -4,13 +4,13 @@
 
 mod direct_arena;
 pub mod direct_arena_iterators;
+mod direct_slots;
 mod indexing;
 mod insert_entry;
 pub mod laws;
 mod lending_arena;
 mod recasting;
 mod slot;
-mod slots;
 mod text;
 
 pub use direct_arena::DirectArena;

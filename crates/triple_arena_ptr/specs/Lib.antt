@@ -3,3 +3,4 @@ pub mod Numbers
 pub mod NonZeroValues
 pub mod Pointers
 pub mod PointerText
+pub mod PairComparisons

@@ -20,12 +20,15 @@ suc_cancels : (m n : ℕ) → suc m ≡ suc n → m ≡ n
 suc_cancels m n e = omega (arith, e)
 
 -- equal parts make an equal whole
-same_whole : {A B C : Type 0} (make : A → B → C) (a b : A) (c d : B)
+pub same_whole : {A B C : Type 0} (make : A → B → C) (a b : A) (c d : B)
     → a ≡ b → c ≡ d → make a c ≡ make b d
 same_whole make a b c d e f = ap (λ x. make x c) e ∙ ap (make b) f
 
+pub same_pair_of : {A B : Type 0} (p q : A × B) → p.0 ≡ q.0 → p.1 ≡ q.1 → p ≡ q
+same_pair_of p q e f = same_whole (λ a b. (a, b)) p.0 q.0 p.1 q.1 e f
+
 pub same_pair : (p q : ℕ × ℕ) → p.0 ≡ q.0 → p.1 ≡ q.1 → p ≡ q
-same_pair p q e f = same_whole (λ m n. (m, n)) p.0 q.0 p.1 q.1 e f
+same_pair = same_pair_of
 
 -- two positive numbers are the ones after those before them
 pub remade : {C : Type 0} (make : ℕ → ℕ → C) (m n : ℕ) → 0 < m → 0 < n

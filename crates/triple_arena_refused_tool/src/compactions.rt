@@ -11,7 +11,7 @@ use crate::value::{Row, Value, plain, with_link};
 use crate::wrong::{Wrong, holds};
 use std::alloc::Global;
 use triple_arena::{ArenaDirectInsertTrait, ArenaInsertTrait, CompactArenaTrait};
-use triple_arena_direct::{StrictCompactError, compress_recast, compress_recaster};
+use triple_arena_direct::{StrictCompactError, compress_recast, compress_recaster, renew};
 use triple_arena_ptr::P0;
 
 /// A compaction.
@@ -190,6 +190,29 @@ fn on_strict(alloc: Global, link: Link) -> Result<End, Wrong> {
     )
 }
 
+// How a renewal ended: whether the third node has moved to index 2, under the first generation, as the first has.
+fn renewed(left: &State, end: End) -> Result<End, Wrong> {
+    holds(has_moved(left, 2, LINKED), Wrong::State(1))?;
+    Ok(end)
+}
+
+// A renewal, and where memory is refused once more, of the arena that comes back as it was.
+fn renews(alloc: Global) -> Result<End, Wrong> {
+    let arena = strict(alloc, LINKED)?;
+    let before = arena.seen();
+    match renew(arena, alloc) {
+        Ok((arena, _map)) => renewed(&arena.seen(), End::Ample),
+        Err((arena, refusal)) => {
+            let is_left = told_compaction(refusal) == NO_MEMORY && arena.seen() == before;
+            holds(is_left, Wrong::State(1))?;
+            match renew(arena, alloc) {
+                Ok((arena, _map)) => renewed(&arena.seen(), End::Refused),
+                Err(_refused) => Err(Wrong::Answer(1)),
+            }
+        }
+    }
+}
+
 // The names of the compactions.
 const MAP: &str = "compress_recaster";
 
@@ -236,4 +259,5 @@ pub fn try_each(alloc: Global, report: &mut Report) {
         "a strict arena",
         on_strict(alloc, DANGLING),
     );
+    report.note("renew", "a strict arena", renews(alloc));
 }

@@ -9,7 +9,7 @@ use Rattle.triple_arena_commands.specs.ReplyText.{tells_of_wrap}
 use Rattle.triple_arena_commands.specs.StrictStore.{UnlessExhausted}
 use Rattle.triple_arena_session.specs.SessionState.{SessionState}
 use Rattle.triple_arena_session.specs.SessionRun.{IsStep}
-use Rattle.triple_arena_session.specs.SessionLayout.{refuses, IsStepOf}
+use Rattle.triple_arena_session.specs.SessionLayout.{refuses, IsStepStrictIf}
 use Rattle.triple_arena_session.specs.Shown.{IsSound, IsArenaOver}
 use Rattle.triple_arena_session.proofs.Soundness.{sound_over}
 use Rattle.triple_arena_session.proofs.StoreLaws.{StepIsStores}
@@ -18,7 +18,7 @@ not_told : (b : Bool) → not b ≡ true → b ≡ false
 not_told true e = absurd (true≢false (sym e))
 not_told false e = refl
 
-module _ {X : Type 0} (strict : Bool) (kind : StackKind) (has_memory : ℕ → Type 0) (generations : Generations) (s : SessionState X) (command : Command X) (reply : Reply X) (t : SessionState X) (over : IsArenaOver kind s.arena) (step : IsStepOf strict kind has_memory generations s command reply t) where
+module _ {X : Type 0} (strict : Bool) (kind : StackKind) (has_memory : ℕ → Type 0) (generations : Generations) (s : SessionState X) (command : Command X) (reply : Reply X) (t : SessionState X) (over : IsArenaOver kind s.arena) (step : IsStepStrictIf strict kind has_memory generations s command reply t) where
   -- a step of a session, strict or not, where the reply tells of no wrap
   kept_sound : generations.counting ≡ true → IsSound s → tells_of_wrap reply ≡ false → IsSound t
   kept_sound counts sound quiet = by (refuses strict generations s command) step

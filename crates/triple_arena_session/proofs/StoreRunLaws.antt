@@ -10,7 +10,7 @@ use Rattle.triple_arena_commands.specs.declared.reply.Reply.{Reply}
 use Rattle.triple_arena_commands.specs.ReplyText.{tells_of_wrap}
 use Rattle.triple_arena_commands.specs.NameStore.{Store, IsStoreStep}
 use Rattle.triple_arena_commands.specs.Runs.{IsRun, TellsOfNoWrap, EndsInWrap, RunsToWrap}
-use Rattle.triple_arena_commands.specs.StoreRuns.{is_named, is_no_memory, AnswersAsStore, ample, erase, seen}
+use Rattle.triple_arena_commands.specs.StoreRuns.{is_named, is_no_memory, AnswersAsStore, replies_with_memory, without_compactions, replies_without_compactions}
 use Rattle.triple_arena_commands.specs.laws.UnseenLaws.{without_wrap-quiet, CompactionIsUnseen}
 use Rattle.triple_arena_session.specs.SessionState.{SessionState}
 use Rattle.triple_arena_session.specs.SessionRun.{IsStep}
@@ -95,7 +95,7 @@ module _ {X : Type 0} (kind : StackKind) (has_memory : ℕ → Type 0) (generati
 
   -- and compaction changes no other reply
   pub RunIsUnseen : (s : SessionState X) (commands : List (Command X)) (replies : List (Reply X)) (t : SessionState X) → SoundOver kind s → RunsToWrap Step s commands replies t
-      → list_all is_named (take (length replies) commands) ≡ true → list_any is_no_memory replies ≡ false → seen (take (length replies) commands) replies ≡ ample (shown s) (erase (take (length replies) commands))
+      → list_all is_named (take (length replies) commands) ≡ true → list_any is_no_memory replies ≡ false → replies_without_compactions (take (length replies) commands) replies ≡ replies_with_memory (shown s) (without_compactions (take (length replies) commands))
   RunIsUnseen s commands replies t sound ran named enough =
       CompactionIsUnseen (shown s) (take (length replies) commands) replies (RunAnswersAsStore s commands replies t sound ran) named enough
 

@@ -14,7 +14,7 @@ use Rattle.triple_arena_commands.specs.declared.reply.Reply.TheVariants.{Exhaust
 use Rattle.triple_arena_commands.specs.ReplyText.{tells_of_wrap}
 use Rattle.triple_arena_commands.specs.Runs.{IsRun, TellsOfNoWrap, RunsToWrap}
 use Rattle.triple_arena_commands.specs.laws.RunLaws.{TellsOfNoWrap-nil, TellsOfNoWrap-first}
-use Rattle.triple_arena_commands.specs.StoreRuns.{is_named, is_no_memory, ample, erase, seen}
+use Rattle.triple_arena_commands.specs.StoreRuns.{is_named, is_no_memory, replies_with_memory, without_compactions, replies_without_compactions}
 use Rattle.triple_arena_commands.specs.StrictStore.{tells_success, tells_exhausted, UnlessExhausted, raises_row, used, is_spent, IsCountedStep, IsStrictStoreStep}
 use Rattle.triple_arena_commands.specs.laws.StrictStoreLaws.{unless_so, refused_where, made_where, StrictIsUnseen}
 use Rattle.triple_arena_session.specs.SessionState.{SessionState, named}
@@ -152,7 +152,7 @@ module _ {X : Type 0} (kind : StackKind) (has_memory : ℕ → Type 0) (generati
 
   -- compaction changes no other reply, as long as neither the refusal nor a want of memory comes
   pub StrictRunIsUnseen : (s : SessionState X) (commands : List (Command X)) (replies : List (Reply X)) (t : SessionState X) → StrictlySound s → IsRun StrictStep s commands replies t
-      → list_all is_named commands ≡ true → list_any is_no_memory replies ≡ false → list_any tells_exhausted replies ≡ false → seen commands replies ≡ ample (shown s) (erase commands)
+      → list_all is_named commands ≡ true → list_any is_no_memory replies ≡ false → list_any tells_exhausted replies ≡ false → replies_without_compactions commands replies ≡ replies_with_memory (shown s) (without_compactions commands)
   StrictRunIsUnseen s commands replies t sound run named enough other =
       StrictIsUnseen (strictly_shown generations.greatest s) (strictly_shown generations.greatest t) commands replies (StrictRunIsStores s commands replies t sound run).stores named enough other
 

@@ -20,7 +20,7 @@ use Rattle.triple_arena_session.specs.SessionState.{SessionState}
 use Rattle.triple_arena_session.specs.KindRun.{greatest, first_session, RunsStrictlyOver, RunsKindStrictly}
 use Rattle.triple_arena_session.specs.ProgramRun.{RunsProgram}
 use Rattle.triple_arena_session.specs.StoreText.{IsAnsweredText, first_strict_store, AnswersFreshly, AnswersProgram}
-use Rattle.triple_arena_session.specs.SessionLayout.{IsStepOf}
+use Rattle.triple_arena_session.specs.SessionLayout.{IsStepStrictIf}
 use Rattle.triple_arena_session.specs.Shown.{IsSound, IsArenaOver}
 use Rattle.triple_arena_session.specs.StrictSession.{IsStrictSessionStep, strictly_shown}
 use Rattle.triple_arena_session.specs.StrictText.{IsWholeTextRun, IsWholeFlushedRun, RunsStrictStore, BringsStrictStore, IsStrictStoreText}
@@ -104,10 +104,10 @@ module _ (kind : StackKind) (has_memory : ℕ → Type 0) (generations : Generat
 
 -- the lines of a text leave a strict session sound, whatever the writer tells
 pub StrictLinesKeepSound : (strict : Bool) (kind : StackKind) (has_memory : ℕ → Type 0) (generations : Generations) (s t : SessionState ℕ) (old new : Option (List ℕ)) (bytes : List ℕ) (outcome : Result (Unit {0}) TextError) → strict ≡ true → generations.counting ≡ true
-    → IsArenaOver kind s.arena → s.arena.counter ≤ generations.greatest → IsSound s → IsTextRun (IsStepOf strict kind has_memory generations) (Some bytes) outcome s t old new → IsSound t
+    → IsArenaOver kind s.arena → s.arena.counter ≤ generations.greatest → IsSound s → IsTextRun (IsStepStrictIf strict kind has_memory generations) (Some bytes) outcome s t old new → IsSound t
 StrictLinesKeepSound strict kind has_memory generations s t old new bytes outcome is counts over within sound ran =
     (StrictTextIsStores kind has_memory generations s t old new counts (record { sound = sound_over kind s sound over; within = within }) (Some bytes) outcome
-    (subst (λ b. IsTextRun (IsStepOf b kind has_memory generations) (Some bytes) outcome s t old new) is ran)).0
+    (subst (λ b. IsTextRun (IsStepStrictIf b kind has_memory generations) (Some bytes) outcome s t old new) is ran)).0
 
 -- the run over a stack of a kind, from a strict session that has given no name
 over_kind : (kind : StackKind) (has_memory : ℕ → Type 0) (room : ℕ) (limit : Option ℕ) (text : Option (List ℕ)) (outcome : Result (Unit {0}) TextError) (old new : Option (List ℕ)) → IsOfKind kind room limit

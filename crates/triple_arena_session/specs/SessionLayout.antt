@@ -26,5 +26,5 @@ module _ {X : Type 0} where
   refuses strict generations s command = strict && is_refused generations s command
 
   -- a step of a session that is strict, or is not
-  abbrev pub IsStepOf : (strict : Bool) (kind : StackKind) (has_memory : ℕ → Type 0) (generations : Generations) (before : SessionState X) (command : Command X) (reply : Reply X) (after : SessionState X) → Type 0
-  IsStepOf strict kind has_memory generations = IsStrictly (refuses strict generations) (IsStep kind has_memory generations)
+  abbrev pub IsStepStrictIf : (strict : Bool) (kind : StackKind) (has_memory : ℕ → Type 0) (generations : Generations) (before : SessionState X) (command : Command X) (reply : Reply X) (after : SessionState X) → Type 0
+  IsStepStrictIf strict kind has_memory generations = IsStrictly (refuses strict generations) (IsStep kind has_memory generations)

@@ -15,7 +15,7 @@ use Rattle.triple_arena_commands.specs.ReplyText.{reply_lines}
 use Rattle.triple_arena_commands.specs.Runs.{IsRun, TellsOfNoWrap, EndsInWrap}
 use Rattle.triple_arena_commands.specs.TextRun.{StandFor, IsMalformed, AnswersToWrap}
 use Rattle.triple_arena_commands.specs.NameStore.{Store, new_store, IsStoreStep}
-use Rattle.triple_arena_commands.specs.StoreRuns.{is_named, is_no_memory, AnswersAsStore, ample, erase, seen}
+use Rattle.triple_arena_commands.specs.StoreRuns.{is_named, is_no_memory, AnswersAsStore, replies_with_memory, without_compactions, replies_without_compactions}
 use Rattle.triple_arena_commands.specs.StrictStore.{StrictStore}
 use Rattle.triple_arena_session.specs.SessionState.{SessionState}
 use Rattle.triple_arena_session.specs.SessionCalls.{GivesOnceToWrap}
@@ -45,7 +45,7 @@ IsAnsweredText Answers text outcome old new = Unit {0}
 abbrev pub AnswersUnseen : Store ℕ → List (Command ℕ) → List (Reply ℕ) → Type 0
 AnswersUnseen s commands replies =
     AnswersAsStore s commands replies
-    × (list_all is_named commands ≡ true → list_any is_no_memory replies ≡ false → seen commands replies ≡ ample s (erase commands))
+    × (list_all is_named commands ≡ true → list_any is_no_memory replies ≡ false → replies_without_compactions commands replies ≡ replies_with_memory s (without_compactions commands))
 
 -- the text was answered as by the store
 abbrev pub IsStoreText : (store : Store ℕ) (text : Option (List ℕ)) (outcome : Result (Unit {0}) TextError) (old new : Option (List ℕ)) → Type 0

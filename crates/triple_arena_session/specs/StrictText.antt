@@ -10,7 +10,7 @@ use Rattle.triple_arena_commands.specs.Lines.{lines_of}
 use Rattle.triple_arena_commands.specs.ReplyText.{reply_lines}
 use Rattle.triple_arena_commands.specs.Runs.{IsRun}
 use Rattle.triple_arena_commands.specs.TextRun.{StandFor, IsMalformed, AnswersLines, IsTextRun, IsFlushedRun}
-use Rattle.triple_arena_commands.specs.StoreRuns.{is_named, is_no_memory, ample, erase, seen}
+use Rattle.triple_arena_commands.specs.StoreRuns.{is_named, is_no_memory, replies_with_memory, without_compactions, replies_without_compactions}
 use Rattle.triple_arena_commands.specs.StrictStore.{tells_exhausted, StrictStore, IsStrictStoreStep}
 
 module _ {S : Type 0} (Step : S → Command ℕ → Reply ℕ → S → Type 0) where
@@ -30,7 +30,7 @@ module _ {S : Type 0} (Step : S → Command ℕ → Reply ℕ → S → Type 0) 
 abbrev pub RunsStrictStore : (before after : StrictStore ℕ) (lines : List (List ℕ)) (replies : List (Reply ℕ)) → Type 0
 RunsStrictStore s t lines replies =
     (commands : List (Command ℕ)) × StandFor lines commands × IsRun IsStrictStoreStep s commands replies t
-    × (list_all is_named commands ≡ true → list_any is_no_memory replies ≡ false → list_any tells_exhausted replies ≡ false → seen commands replies ≡ ample s.store (erase commands))
+    × (list_all is_named commands ≡ true → list_any is_no_memory replies ≡ false → list_any tells_exhausted replies ≡ false → replies_without_compactions commands replies ≡ replies_with_memory s.store (without_compactions commands))
 
 -- so these lines did, and the reply lines were written
 abbrev pub BringsStrictStore : (before after : StrictStore ℕ) (lines : List (List ℕ)) (old new : Option (List ℕ)) → Type 0

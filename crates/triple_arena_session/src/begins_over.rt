@@ -67,7 +67,7 @@ impl<P: Ptr, X: Copy> BeginsOver<P, X, Arena<P, Node<X, P>, HeapSlots<P, X>>>
 
     fn new(arena: Arena<P, Node<X, P>, HeapSlots<P, X>>, alloc: Global) -> Self {
         Session {
-            inside: SessionBody::over(arena, alloc),
+            body: SessionBody::over(arena, alloc),
         }
     }
 }
@@ -82,7 +82,7 @@ impl<P: Ptr, X: Copy> BeginsOver<P, X, Arena<P, Node<X, P>, LimitedSlots<P, X>>>
 
     fn new(arena: Arena<P, Node<X, P>, LimitedSlots<P, X>>, alloc: Global) -> Self {
         Session {
-            inside: SessionBody::over(arena, alloc),
+            body: SessionBody::over(arena, alloc),
         }
     }
 }
@@ -97,7 +97,7 @@ impl<P: Ptr, X: Copy> BeginsOver<P, X, Arena<P, Node<X, P>, FixedSlots<P, X>>>
 
     fn new(arena: Arena<P, Node<X, P>, FixedSlots<P, X>>, alloc: Global) -> Self {
         Session {
-            inside: SessionBody::over(arena, alloc),
+            body: SessionBody::over(arena, alloc),
         }
     }
 }
@@ -115,7 +115,7 @@ impl<P: Ptr, X: Copy, const LIMIT: usize> BeginsOver<
 
     fn new(arena: Arena<P, Node<X, P>, ArraySlots<P, X, LIMIT>>, alloc: Global) -> Self {
         Session {
-            inside: SessionBody::over(arena, alloc),
+            body: SessionBody::over(arena, alloc),
         }
     }
 }
@@ -130,7 +130,7 @@ impl<P: Ptr, X: Copy> BeginsOver<P, X, StrictArena<P, Node<X, P>, HeapSlots<P, X
 
     fn new(arena: StrictArena<P, Node<X, P>, HeapSlots<P, X>>, alloc: Global) -> Self {
         StrictSession {
-            inside: SessionBody::over(arena, alloc),
+            body: SessionBody::over(arena, alloc),
         }
     }
 }
@@ -145,7 +145,7 @@ impl<P: Ptr, X: Copy> BeginsOver<P, X, StrictArena<P, Node<X, P>, LimitedSlots<P
 
     fn new(arena: StrictArena<P, Node<X, P>, LimitedSlots<P, X>>, alloc: Global) -> Self {
         StrictSession {
-            inside: SessionBody::over(arena, alloc),
+            body: SessionBody::over(arena, alloc),
         }
     }
 }
@@ -160,7 +160,7 @@ impl<P: Ptr, X: Copy> BeginsOver<P, X, StrictArena<P, Node<X, P>, FixedSlots<P, 
 
     fn new(arena: StrictArena<P, Node<X, P>, FixedSlots<P, X>>, alloc: Global) -> Self {
         StrictSession {
-            inside: SessionBody::over(arena, alloc),
+            body: SessionBody::over(arena, alloc),
         }
     }
 }
@@ -178,7 +178,7 @@ impl<P: Ptr, X: Copy, const LIMIT: usize> BeginsOver<
 
     fn new(arena: StrictArena<P, Node<X, P>, ArraySlots<P, X, LIMIT>>, alloc: Global) -> Self {
         StrictSession {
-            inside: SessionBody::over(arena, alloc),
+            body: SessionBody::over(arena, alloc),
         }
     }
 }

@@ -11,7 +11,7 @@ ghost use Rattle.triple_arena_commands.specs.declared.reply.Reply.TheVariants.{E
 ghost use Rattle.triple_arena_commands.specs.ReplyText.{tells_of_wrap};
 ghost use Rattle.triple_arena_commands.specs.Runs.{IsRun, TellsOfNoWrap};
 ghost use Rattle.triple_arena_commands.specs.NameStore.{Store, new_store, IsStoreStep};
-ghost use Rattle.triple_arena_commands.specs.StoreRuns.{is_named, is_no_memory, without_wrap, ample, erase, seen};
+ghost use Rattle.triple_arena_commands.specs.StoreRuns.{is_named, is_no_memory, without_wrap, replies_with_memory, without_compactions, replies_without_compactions};
 ghost use Rattle.triple_arena_commands.specs.StrictStore.{tells_exhausted, IsStrictStoreStep};
 ghost use Rattle.triple_arena_session.specs.SessionState.{SessionState};
 ghost use Rattle.triple_arena_session.specs.SessionRun.{IsStep};
@@ -190,7 +190,7 @@ pub fn strict_session_runs_as_store<
         → IsRun (IsStrictSessionStep S.kind S.has_memory P.Gen.generations) s commands replies t
         → list_all is_named commands ≡ true → list_any is_no_memory replies ≡ false
         → list_any tells_exhausted replies ≡ false
-        → seen commands replies ≡ ample (shown s) (erase commands) }
+        → replies_without_compactions commands replies ≡ replies_with_memory (shown s) (without_compactions commands) }
 {}
 
 /// Eleven commands in a new session over the heap, computed: the first of two compactions finds a
@@ -198,7 +198,8 @@ pub fn strict_session_runs_as_store<
 /// replies are the same, and they are those of a store of names.
 pub fn eleven_commands_answered()
     ensures answered { model_replies (first_session 0 None) eleven_commands ≡ eleven_replies }
-    ensures without { model_replies (first_session 0 None) (erase eleven_commands) ≡ nine_replies }
-    ensures others { seen eleven_commands eleven_replies ≡ nine_replies }
-    ensures store { ample (new_store 0 None greatest) (erase eleven_commands) ≡ nine_replies }
+    ensures without { model_replies (first_session 0 None) (without_compactions eleven_commands) ≡ nine_replies }
+    ensures others { replies_without_compactions eleven_commands eleven_replies ≡ nine_replies }
+    ensures store { replies_with_memory (new_store 0 None greatest) (without_compactions eleven_commands)
+        ≡ nine_replies }
 {}

@@ -10,7 +10,7 @@ ghost use Rattle.triple_arena_session.specs.SessionState.{new_session, node_of, 
 ghost use Rattle.triple_arena_session.specs.SessionRun.{IsStep, refusal};
 ghost use Rattle.triple_arena_session.specs.Shown.{IsSound, IsArenaOver};
 ghost use Rattle.triple_arena_session.specs.StrictSession.{raises_counter, is_refused};
-ghost use Rattle.triple_arena_session.specs.SessionLayout.{refuses, IsStepOf};
+ghost use Rattle.triple_arena_session.specs.SessionLayout.{refuses, IsStepStrictIf};
 
 use crate::node::Node;
 use crate::session_arena::SessionArena;
@@ -79,7 +79,7 @@ impl<
     where
         X: Debug,
         requires { distinct ≡ true → AreDistinct self.old.table }
-        ensures { IsStepOf A.strict S.kind S.has_memory P.Gen.generations
+        ensures { IsStepStrictIf A.strict S.kind S.has_memory P.Gen.generations
             self.old command result self.new }
     {
         if A::is_strict() && self.is_refused(command) {
@@ -141,11 +141,10 @@ impl<
     }
 
     // Tells what is true of the arena of any session, and does nothing.
-    pub(crate) fn tell_arena(&self)
+    pub(crate) fn tell_arena_over_stack(&self)
         ensures over { IsArenaOver S.kind self.now.arena }
         ensures within { self.now.arena.counter ≤ P.Gen.generations.greatest }
     {
-        // By their clauses, together.
         let _len = self.arena.len();
         let _limit = self.arena.max_capacity();
         let _is_at_greatest = self.arena.is_at_greatest();
@@ -304,7 +303,7 @@ impl<
         ensures { IsStep S.kind S.has_memory P.Gen.generations
             self.old (Command.Reserve count) result self.new }
     {
-        // By its clause, the greatest index of the arena is that of its pointers.
+        // The greatest index of the arena is that of its pointers.
         let _capacity = self.arena.capacity();
         match self.arena.reallocate_min_capacity(count) {
             Ok(()) => Reply::Done,

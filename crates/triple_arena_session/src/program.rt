@@ -4,7 +4,7 @@ ghost use Rattle.std.specs.Prelude.{◌≡◌, IsErr, IsNone};
 ghost use Rattle.std.specs.Io.Buffered.{writer_contents};
 ghost use Rattle.triple_arena_stack.specs.StackKind.{new_room, new_limit, made_room, made_limit};
 ghost use Rattle.triple_arena_commands.specs.Program.{asked_mode};
-ghost use Rattle.triple_arena_session.specs.KindRun.{RunsKind, RunsOver, RunsKindStrictly, RunsStrictlyOver, RunsMode, first_session};
+ghost use Rattle.triple_arena_session.specs.KindRun.{RunsKind, RunsOver, RunsKindStrictly, RunsStrictlyOver, first_session};
 ghost use Rattle.triple_arena_session.specs.ProgramRun.{RunsProgram};
 ghost use Rattle.triple_arena_session.specs.StoreText.{IsAnsweredText, AnswersFreshly, AnswersProgram};
 
@@ -60,47 +60,18 @@ pub fn run_program<R: Read, W: Write + Drop>(
     ensures store { AnswersProgram W.contents (asked_mode args) (R.remaining input.old)
         result.0 output result.1 }
 {
-    run_asked(args, alloc, input, output)
-}
-
-// The body of `run_program`, whose clause on the store follows from these: runs the program in the session
-// that its arguments ask for, if they ask for one.
-fn run_asked<R: Read, W: Write + Drop>(
-    args: io::Result<Vec<String>>,
-    alloc: Global,
-    input: &mut R,
-    output: W,
-) -> (Outcome, Option<W>)
-    ensures run { RunsProgram W.contents (asked_mode args) (R.remaining input.old)
-        result.0 output result.1 }
-    ensures unread { IsErr (asked_mode args) → input.new ≡ input.old }
-    ensures unbegun { IsNone result.1 → input.new ≡ input.old }
-{
     match asked_mode(&args) {
         Ok(mode) => match BufWriter::with_capacity(alloc, OUTPUT_BUFFER, output) {
             Ok(output) => {
-                let (answer, output) = run_mode(mode, alloc, input, output);
+                let (answer, output) = match mode {
+                    (false, kind) => run_kind(kind, alloc, input, output),
+                    (true, kind) => run_in_new_strict_session(kind, alloc, input, output),
+                };
                 (Outcome::Ran(answer), Some(output))
             }
             Err(_) => (Outcome::Ran(Err(TextError::NoMemory)), None),
         },
         Err(outcome) => (outcome, Some(output)),
-    }
-}
-
-// Runs a text in a new session of a kind, a strict one or not.
-fn run_mode<R: Read, W: Write + Drop>(
-    mode: (bool, Kind),
-    alloc: Global,
-    input: &mut R,
-    output: BufWriter<W>,
-) -> (Result<(), TextError>, W)
-    ensures { RunsMode mode (R.remaining input.old) result.0
-        (writer_contents W.contents output) (W.contents result.1) }
-{
-    match mode {
-        (false, kind) => run_over(kind, alloc, input, output),
-        (true, kind) => run_strictly(kind, alloc, input, output),
     }
 }
 
@@ -114,6 +85,7 @@ fn run_mode<R: Read, W: Write + Drop>(
 /// Up to the first reply that tells of a wrap, and but where the writer failed, what is written is
 /// what a new store of names answers, each pointer that was given is new, and compactions change no
 /// other line, as `Session::run` says. This is said of readers and writers that tell their bytes.
+#[tactic(auto, using(crate::proofs::StoreTextLaws::RunsKindFreshly))]
 pub fn run_kind<R: Read, W: Write + Drop>(
     kind: Kind,
     alloc: Global,
@@ -123,20 +95,6 @@ pub fn run_kind<R: Read, W: Write + Drop>(
     ensures run { RunsKind kind (R.remaining input.old) result.0
         (writer_contents W.contents output) (W.contents result.1) }
     ensures store { IsAnsweredText (AnswersFreshly kind) (R.remaining input.old) result.0
-        (writer_contents W.contents output) (W.contents result.1) }
-{
-    run_over(kind, alloc, input, output)
-}
-
-// The body of `run_kind`, whose clause on the store follows from this one: runs a text in a new session of a
-// kind.
-fn run_over<R: Read, W: Write + Drop>(
-    kind: Kind,
-    alloc: Global,
-    input: &mut R,
-    output: BufWriter<W>,
-) -> (Result<(), TextError>, W)
-    ensures { RunsKind kind (R.remaining input.old) result.0
         (writer_contents W.contents output) (W.contents result.1) }
 {
     match kind {
@@ -180,7 +138,7 @@ fn run_made<S: NonZeroInxGenericStack<Slot> + Drop, R: Read, W: Write + Drop>(
 }
 
 // Runs a text in a new strict session of a kind.
-fn run_strictly<R: Read, W: Write + Drop>(
+fn run_in_new_strict_session<R: Read, W: Write + Drop>(
     kind: Kind,
     alloc: Global,
     input: &mut R,

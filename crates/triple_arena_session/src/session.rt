@@ -10,7 +10,7 @@ ghost use Rattle.triple_arena_commands.specs.declared.reply.Reply.TheVariants.{E
 ghost use Rattle.triple_arena_commands.specs.ReplyText.{tells_of_wrap};
 ghost use Rattle.triple_arena_commands.specs.Runs.{IsRun, TellsOfNoWrap, RunsToWrap};
 ghost use Rattle.triple_arena_commands.specs.NameStore.{Store, new_store, IsStoreStep};
-ghost use Rattle.triple_arena_commands.specs.StoreRuns.{is_named, is_no_memory, without_wrap, AnswersAsStore, ample, erase, seen};
+ghost use Rattle.triple_arena_commands.specs.StoreRuns.{is_named, is_no_memory, without_wrap, AnswersAsStore, replies_with_memory, without_compactions, replies_without_compactions};
 ghost use Rattle.triple_arena_commands.specs.StrictStore.{tells_exhausted};
 ghost use Rattle.triple_arena_session.specs.SessionState.{SessionState, node_of, new_session};
 ghost use Rattle.triple_arena_session.specs.SessionRun.{IsStep};
@@ -37,7 +37,7 @@ pub struct Session<
     X,
     S: NonZeroInxGenericStack<ArenaSlot<P, Node<X, P>>> = NonZeroInxVec<ArenaSlot<P, Node<X, P>>>,
 > {
-    pub(crate) inside: SessionBody<P, X, S, Arena<P, Node<X, P>, S>>,
+    pub(crate) body: SessionBody<P, X, S, Arena<P, Node<X, P>, S>>,
 }
 
 impl<P: Ptr, X, S: NonZeroInxGenericStack<ArenaSlot<P, Node<X, P>>>> Model for Session<P, X, S> {
@@ -45,7 +45,7 @@ impl<P: Ptr, X, S: NonZeroInxGenericStack<ArenaSlot<P, Node<X, P>>>> Model for S
 
     ghost Value = { SessionState X };
 
-    ghost view = { λ s. s.inside };
+    ghost view = { λ s. s.body };
 }
 
 impl<P: Ptr, X: Copy, S: NonZeroInxGenericStack<ArenaSlot<P, Node<X, P>>>> Session<P, X, S> {
@@ -61,7 +61,7 @@ impl<P: Ptr, X: Copy, S: NonZeroInxGenericStack<ArenaSlot<P, Node<X, P>>>> Sessi
         ensures store { shown result ≡ new_store (new_room S.kind) (new_limit S.kind) (greatest_index P.Inx.greatest) }
     {
         Session {
-            inside: SessionBody::over(Arena::new(alloc), alloc),
+            body: SessionBody::over(Arena::new(alloc), alloc),
         }
     }
 
@@ -86,7 +86,7 @@ impl<P: Ptr, X: Copy, S: NonZeroInxGenericStack<ArenaSlot<P, Node<X, P>>>> Sessi
     {
         let arena = Arena::with_min_capacity(alloc, min_capacity)?;
         Ok(Session {
-            inside: SessionBody::over(arena, alloc),
+            body: SessionBody::over(arena, alloc),
         })
     }
 
@@ -94,7 +94,7 @@ impl<P: Ptr, X: Copy, S: NonZeroInxGenericStack<ArenaSlot<P, Node<X, P>>>> Sessi
     pub fn arena(&self) -> &Arena<P, Node<X, P>, S>
         ensures { map_values (node_of P.numbers) result.now ≡ self.now.arena }
     {
-        self.inside.arena()
+        self.body.arena()
     }
 
     /// Runs a command, and gives its reply, the first that fits:
@@ -143,8 +143,8 @@ impl<P: Ptr, X: Copy, S: NonZeroInxGenericStack<ArenaSlot<P, Node<X, P>>>> Sessi
         ensures never { result ≢ Exhausted }
         ensures arena { IsArenaOver S.kind self.old.arena }
     {
-        self.inside.tell_arena();
-        self.inside.answer(command)
+        self.body.tell_arena_over_stack();
+        self.body.answer(command)
     }
 
     /// Runs the commands in order, and gives their replies, up to the first reply that tells of a
@@ -198,11 +198,12 @@ impl<P: Ptr, X: Copy, S: NonZeroInxGenericStack<ArenaSlot<P, Node<X, P>>>> Sessi
             → IfOk result (λ replies.
             let ran = take (length replies.items) commands.now in
             list_all is_named ran ≡ true → list_any is_no_memory replies.items ≡ false
-            → seen ran replies.items ≡ ample (shown self.old) (erase ran)) }
+            → replies_without_compactions ran replies.items
+            ≡ replies_with_memory (shown self.old) (without_compactions ran)) }
         ensures never { IfOk result (λ replies. list_any tells_exhausted replies.items ≡ false) }
         ensures arena { IsArenaOver S.kind self.old.arena }
     {
-        self.inside.tell_arena();
-        self.inside.run_commands(commands)
+        self.body.tell_arena_over_stack();
+        self.body.run_commands(commands)
     }
 }

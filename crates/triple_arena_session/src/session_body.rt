@@ -5,7 +5,7 @@ ghost use Rattle.triple_arena_traits.specs.ArenaState.{arena_len, map_values};
 ghost use Rattle.triple_arena_commands.specs.Runs.{RunsToWrap};
 ghost use Rattle.triple_arena_session.specs.SessionState.{new_session, node_of};
 ghost use Rattle.triple_arena_session.specs.Shown.{IsSound, IsArenaOver};
-ghost use Rattle.triple_arena_session.specs.SessionLayout.{IsStepOf};
+ghost use Rattle.triple_arena_session.specs.SessionLayout.{IsStepStrictIf};
 
 use crate::named_arena::NamedArena;
 use crate::node::Node;
@@ -79,11 +79,11 @@ impl<
     }
 
     // Tells what is true of the arena of any session, and does nothing.
-    pub(crate) fn tell_arena(&self)
+    pub(crate) fn tell_arena_over_stack(&self)
         ensures over { IsArenaOver S.kind self.now.arena }
         ensures within { self.now.arena.counter ≤ P.Gen.generations.greatest }
     {
-        self.named.tell_arena();
+        self.named.tell_arena_over_stack();
     }
 
     /// The body of `step`: the reply to a command, and what it leaves. Over a strict arena it is `Exhausted`
@@ -91,10 +91,10 @@ impl<
     pub(crate) fn answer(&mut self, command: Command<X>) -> Reply<X>
     where
         X: Debug,
-        ensures { IsStepOf A.strict S.kind S.has_memory P.Gen.generations
+        ensures { IsStepStrictIf A.strict S.kind S.has_memory P.Gen.generations
             self.old command result self.new }
     {
-        self.named.tell_arena();
+        self.named.tell_arena_over_stack();
         let reply = self.named.answer(command, self.sound);
         self.sound &= !reply.tells_of_wrap();
         reply
@@ -108,7 +108,7 @@ impl<
     where
         X: Debug,
         ensures ran { IfOk result (λ replies.
-            RunsToWrap (IsStepOf A.strict S.kind S.has_memory P.Gen.generations)
+            RunsToWrap (IsStepStrictIf A.strict S.kind S.has_memory P.Gen.generations)
             self.old commands.now replies.items self.new) }
         ensures refused { OnErr result (self.new ≡ self.old) }
         ensures succeeds { commands.now ≡ [] → IsOk result }

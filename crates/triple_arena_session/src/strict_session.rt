@@ -11,7 +11,7 @@ ghost use Rattle.triple_arena_commands.specs.declared.reply.Reply.TheVariants.{E
 ghost use Rattle.triple_arena_commands.specs.ReplyText.{tells_of_wrap};
 ghost use Rattle.triple_arena_commands.specs.Runs.{IsRun, TellsOfNoWrap};
 ghost use Rattle.triple_arena_commands.specs.NameStore.{new_store};
-ghost use Rattle.triple_arena_commands.specs.StoreRuns.{is_named, is_no_memory, ample, erase, seen};
+ghost use Rattle.triple_arena_commands.specs.StoreRuns.{is_named, is_no_memory, replies_with_memory, without_compactions, replies_without_compactions};
 ghost use Rattle.triple_arena_commands.specs.StrictStore.{tells_exhausted, IsStrictStoreStep};
 ghost use Rattle.triple_arena_session.specs.SessionState.{node_of, new_session};
 ghost use Rattle.triple_arena_session.specs.SessionCalls.{calls_of, RunsFreshly};
@@ -40,7 +40,7 @@ pub struct StrictSession<
     X,
     S: NonZeroInxGenericStack<ArenaSlot<P, Node<X, P>>> = NonZeroInxVec<ArenaSlot<P, Node<X, P>>>,
 > {
-    pub(crate) inside: SessionBody<P, X, S, StrictArena<P, Node<X, P>, S>>,
+    pub(crate) body: SessionBody<P, X, S, StrictArena<P, Node<X, P>, S>>,
 }
 
 impl<P: Ptr, X, S: NonZeroInxGenericStack<ArenaSlot<P, Node<X, P>>>> Model
@@ -51,10 +51,10 @@ impl<P: Ptr, X, S: NonZeroInxGenericStack<ArenaSlot<P, Node<X, P>>>> Model
 
     ghost Value = { SessionState X };
 
-    ghost view = { λ s. s.inside };
+    ghost view = { λ s. s.body };
 
     // no step wraps the counter, and a session may be unsound after a wrap alone
-    ghost invariant = { λ s. P.Gen.generations.counting ≡ true → IsSound s.inside };
+    ghost invariant = { λ s. P.Gen.generations.counting ≡ true → IsSound s.body };
 }
 
 impl<P: Ptr, X: Copy, S: NonZeroInxGenericStack<ArenaSlot<P, Node<X, P>>>> StrictSession<P, X, S> {
@@ -73,7 +73,7 @@ impl<P: Ptr, X: Copy, S: NonZeroInxGenericStack<ArenaSlot<P, Node<X, P>>>> Stric
             ≡ P.Gen.generations.greatest - first_generation P.Gen.generations }
     {
         StrictSession {
-            inside: SessionBody::over(StrictArena::new(alloc), alloc),
+            body: SessionBody::over(StrictArena::new(alloc), alloc),
         }
     }
 
@@ -102,7 +102,7 @@ impl<P: Ptr, X: Copy, S: NonZeroInxGenericStack<ArenaSlot<P, Node<X, P>>>> Stric
     {
         let arena = StrictArena::with_min_capacity(alloc, min_capacity)?;
         Ok(StrictSession {
-            inside: SessionBody::over(arena, alloc),
+            body: SessionBody::over(arena, alloc),
         })
     }
 
@@ -110,7 +110,7 @@ impl<P: Ptr, X: Copy, S: NonZeroInxGenericStack<ArenaSlot<P, Node<X, P>>>> Stric
     pub fn arena(&self) -> &StrictArena<P, Node<X, P>, S>
         ensures { map_values (node_of P.numbers) result.now ≡ self.now.arena }
     {
-        self.inside.arena()
+        self.body.arena()
     }
 
     /// Runs a command, and gives its reply, as `Session::step` does, but that it is `Exhausted` where
@@ -145,8 +145,8 @@ impl<P: Ptr, X: Copy, S: NonZeroInxGenericStack<ArenaSlot<P, Node<X, P>>>> Stric
         ensures within { self.old.arena.counter ≤ P.Gen.generations.greatest }
     {
         self.tell_begun();
-        self.inside.tell_arena();
-        self.inside.answer(command)
+        self.body.tell_arena_over_stack();
+        self.body.answer(command)
     }
 
     /// Runs the commands in order, all of them, and gives their replies, one to each.
@@ -180,15 +180,16 @@ impl<P: Ptr, X: Copy, S: NonZeroInxGenericStack<ArenaSlot<P, Node<X, P>>>> Stric
         ensures unseen { P.Gen.generations.counting ≡ true → IfOk result (λ replies.
             list_all is_named commands.now ≡ true → list_any is_no_memory replies.items ≡ false
             → list_any tells_exhausted replies.items ≡ false
-            → seen commands.now replies.items ≡ ample (shown self.old) (erase commands.now)) }
+            → replies_without_compactions commands.now replies.items
+            ≡ replies_with_memory (shown self.old) (without_compactions commands.now)) }
         ensures begun { P.Gen.generations.counting ≡ true
             → Fits (begun_with (keys self.old.arena.slots)) self.old.arena }
         ensures arena { IsArenaOver S.kind self.old.arena }
         ensures within { self.old.arena.counter ≤ P.Gen.generations.greatest }
     {
         self.tell_begun();
-        self.inside.tell_arena();
-        self.inside.run_commands(commands)
+        self.body.tell_arena_over_stack();
+        self.body.run_commands(commands)
     }
     // Tells that the pointers of the entries of any strict session begin a history, and does nothing.
     pub(crate) fn tell_begun(&self)
@@ -196,7 +197,6 @@ impl<P: Ptr, X: Copy, S: NonZeroInxGenericStack<ArenaSlot<P, Node<X, P>>>> Stric
             → Fits (begun_with (keys self.now.arena.slots)) self.now.arena }
     {
         let arena = self.arena();
-        // By its clause.
         let _generation = arena.generation();
     }
 }

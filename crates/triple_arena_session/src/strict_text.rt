@@ -52,8 +52,8 @@ pub fn run_text_strict<
     ensures within { session.old.arena.counter ≤ P.Gen.generations.greatest }
 {
     session.tell_begun();
-    session.inside.tell_arena();
-    read_and_run(&mut session.inside, alloc, input, output)
+    session.body.tell_arena_over_stack();
+    read_and_run(&mut session.body, alloc, input, output)
 }
 
 /// Runs a text as `run_text_strict` does, over a buffered writer. The writer is flushed once when the
@@ -89,6 +89,6 @@ pub fn run_text_strict_and_flush<
     ensures within { session.old.arena.counter ≤ P.Gen.generations.greatest }
 {
     session.tell_begun();
-    session.inside.tell_arena();
-    run_and_flush(&mut session.inside, alloc, input, output)
+    session.body.tell_arena_over_stack();
+    run_and_flush(&mut session.body, alloc, input, output)
 }

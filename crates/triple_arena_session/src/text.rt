@@ -5,9 +5,9 @@ ghost use Rattle.std.specs.Io.Buffered.{writer_contents};
 ghost use Rattle.triple_arena_commands.specs.TextRun.{IsTextRun, IsFlushedRun};
 ghost use Rattle.triple_arena_session.specs.SessionRun.{IsStep};
 ghost use Rattle.triple_arena_session.specs.Shown.{shown, IsSound, IsArenaOver};
-ghost use Rattle.triple_arena_session.specs.SessionLayout.{IsStepOf};
+ghost use Rattle.triple_arena_session.specs.SessionLayout.{IsStepStrictIf};
 ghost use Rattle.triple_arena_session.specs.StoreText.{IsStoreText, LeavesStore};
-ghost use Rattle.triple_arena_session.specs.LineRun.{CommandEnds, LineEnds};
+ghost use Rattle.triple_arena_session.specs.LineRun.{LineEnds};
 
 use crate::node::Node;
 use crate::session::Session;
@@ -51,8 +51,8 @@ pub fn run_text<P: Ptr, S: NonZeroInxGenericStack<ArenaSlot<P, Node<u64, P>>>, R
         session.old session.new (W.contents output.old) (W.contents output.new) }
     ensures arena { IsArenaOver S.kind session.old.arena }
 {
-    session.inside.tell_arena();
-    read_and_run(&mut session.inside, alloc, input, output)
+    session.body.tell_arena_over_stack();
+    read_and_run(&mut session.body, alloc, input, output)
 }
 
 /// The body of `run_text`, of a session of any arena: reads a text to its end and runs its lines. One over a
@@ -69,13 +69,13 @@ pub(crate) fn read_and_run<
     input: &mut R,
     output: &mut W,
 ) -> Result<(), TextError>
-    ensures run { IsTextRun (IsStepOf A.strict S.kind S.has_memory P.Gen.generations)
+    ensures run { IsTextRun (IsStepStrictIf A.strict S.kind S.has_memory P.Gen.generations)
         (R.remaining input.old) result
         session.old session.new (W.contents output.old) (W.contents output.new) }
     ensures kept { A.strict ≡ true → P.Gen.generations.counting ≡ true
         → IsSound session.old → IsSound session.new }
 {
-    session.tell_arena();
+    session.tell_arena_over_stack();
     let text = read_text(alloc, input)?;
     run_lines(session, text.as_slice(), output)
 }
@@ -108,8 +108,8 @@ pub fn run_text_and_flush<
         result.0 session.old session.new (writer_contents W.contents output) (W.contents result.1) }
     ensures arena { IsArenaOver S.kind session.old.arena }
 {
-    session.inside.tell_arena();
-    run_and_flush(&mut session.inside, alloc, input, output)
+    session.body.tell_arena_over_stack();
+    run_and_flush(&mut session.body, alloc, input, output)
 }
 
 /// The body of `run_text_and_flush`, of a session of any arena: runs a text, and flushes the writer
@@ -126,7 +126,7 @@ pub(crate) fn run_and_flush<
     input: &mut R,
     mut output: BufWriter<W>,
 ) -> (Result<(), TextError>, W)
-    ensures run { IsFlushedRun (IsStepOf A.strict S.kind S.has_memory P.Gen.generations)
+    ensures run { IsFlushedRun (IsStepStrictIf A.strict S.kind S.has_memory P.Gen.generations)
         (R.remaining input.old) result.0
         session.old session.new (writer_contents W.contents output) (W.contents result.1) }
     ensures kept { A.strict ≡ true → P.Gen.generations.counting ≡ true
@@ -143,7 +143,7 @@ fn run_lines<
     A: SessionArena<P, Node<u64, P>, S>,
     W: Write,
 >(session: &mut SessionBody<P, u64, S, A>, text: &[u8], output: &mut W) -> Result<(), TextError>
-    ensures { IsTextRun (IsStepOf A.strict S.kind S.has_memory P.Gen.generations)
+    ensures { IsTextRun (IsStepStrictIf A.strict S.kind S.has_memory P.Gen.generations)
         (Some text.now) result
         session.old session.new (W.contents output.old) (W.contents output.new) }
 {
@@ -177,7 +177,7 @@ enum LineEnd {
     Unwritten,
 }
 
-// Runs a line, which may have no bytes. The room is for the line of the reply.
+// Runs the command of a line, which may have no bytes, and writes the line of its reply. The room is for that.
 fn run_line<
     P: Ptr,
     S: NonZeroInxGenericStack<ArenaSlot<P, Node<u64, P>>>,
@@ -189,31 +189,12 @@ fn run_line<
     output: &mut W,
     room: &mut [u8; LINE_ROOM],
 ) -> LineEnd
-    ensures { LineEnds (IsStepOf A.strict S.kind S.has_memory P.Gen.generations) result line.now
+    ensures { LineEnds (IsStepStrictIf A.strict S.kind S.has_memory P.Gen.generations) result line.now
         session.old session.new (W.contents output.old) (W.contents output.new) }
 {
     if line.is_empty() {
-        LineEnd::Answered
-    } else {
-        run_command(session, line, output, room)
+        return LineEnd::Answered;
     }
-}
-
-// Runs the command of a line, and writes the line of its reply.
-fn run_command<
-    P: Ptr,
-    S: NonZeroInxGenericStack<ArenaSlot<P, Node<u64, P>>>,
-    A: SessionArena<P, Node<u64, P>, S>,
-    W: Write,
->(
-    session: &mut SessionBody<P, u64, S, A>,
-    line: &[u8],
-    output: &mut W,
-    room: &mut [u8; LINE_ROOM],
-) -> LineEnd
-    ensures { CommandEnds (IsStepOf A.strict S.kind S.has_memory P.Gen.generations) result line.now
-        session.old session.new (W.contents output.old) (W.contents output.new) }
-{
     let Some(command) = parse_command(line) else {
         return LineEnd::Malformed;
     };

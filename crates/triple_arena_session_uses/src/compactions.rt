@@ -10,7 +10,7 @@ ghost use Rattle.triple_arena_session.specs.KindRun.{greatest, first_of_kind, Is
 ghost use Rattle.triple_arena_session.specs.SessionState.{SessionState};
 ghost use Rattle.triple_arena_session.specs.StrictSession.{IsStrictSessionStep};
 ghost use Rattle.triple_arena_session.specs.Runs.{IsRun, RunsToWrap, TellsOfNoWrap, EndsInWrap};
-ghost use Rattle.triple_arena_session.specs.StoreRuns.{is_named, is_no_memory, seen, ample, erase};
+ghost use Rattle.triple_arena_session.specs.StoreRuns.{is_named, is_no_memory, replies_without_compactions, replies_with_memory, without_compactions};
 ghost use Rattle.triple_arena_session.specs.StrictStore.{tells_exhausted};
 ghost use Rattle.triple_arena_session.specs.Shown.{shown, IsSound};
 ghost use Rattle.triple_arena_session.specs.ElevenCommands.{eleven_commands, nine_replies};
@@ -46,7 +46,7 @@ pub fn unseen_at_any_time(
         → let ran = take count (take (length replies.items) commands.now) in
         let told = take count replies.items in
         list_all is_named ran ≡ true → list_any is_no_memory told ≡ false
-        → seen ran told ≡ ample (shown session.old) (erase ran)) }
+        → replies_without_compactions ran told ≡ replies_with_memory (shown session.old) (without_compactions ran)) }
 {
     compaction_is_unseen::<u64>();
     session.run(commands)
@@ -75,7 +75,7 @@ pub fn answers_in_two_runs(
         let replies = told.0.items ++ told.1.items in
         list_all is_named all ≡ true → list_any is_no_memory replies ≡ false
         → list_any tells_exhausted replies ≡ false
-        → seen all replies ≡ ample (shown session.old) (erase all)) }
+        → replies_without_compactions all replies ≡ replies_with_memory (shown session.old) (without_compactions all)) }
 {
     strict_compaction_is_unseen::<u64>();
     let told = session.run(first)?;
@@ -92,7 +92,7 @@ pub fn answers_to_eleven(alloc: Global) -> Result<Vec<Reply<u64>>, AllocError>
         × RunsToWrap (IsStepOfKind Heap) (first_of_kind Heap) eleven_commands replies.items after) }
     ensures nine { IfOk result (λ replies.
         length replies.items ≡ 11 → list_any is_no_memory replies.items ≡ false
-        → seen eleven_commands replies.items ≡ nine_replies) }
+        → replies_without_compactions eleven_commands replies.items ≡ nine_replies) }
 {
     let commands = [
         Command::Insert(1, None),

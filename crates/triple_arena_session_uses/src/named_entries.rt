@@ -7,7 +7,7 @@ ghost use Rattle.triple_arena_session.specs.Forms.{HasForm};
 ghost use Rattle.triple_arena_session.specs.Command.{Command};
 ghost use Rattle.triple_arena_session.specs.NameStore.{next_name, IsStoreStep};
 ghost use Rattle.triple_arena_session.specs.Runs.{IsRun, RunsToWrap, TellsOfNoWrap, EndsInWrap};
-ghost use Rattle.triple_arena_session.specs.StoreRuns.{AnswersAsStore, is_named, is_no_memory, seen, ample, erase};
+ghost use Rattle.triple_arena_session.specs.StoreRuns.{AnswersAsStore, is_named, is_no_memory, replies_without_compactions, replies_with_memory, without_compactions};
 ghost use Rattle.triple_arena_session.specs.Kind.TheVariants.{Heap};
 ghost use Rattle.triple_arena_session.specs.StrictStore.{tells_exhausted, StrictStore, IsStrictStoreStep};
 ghost use Rattle.triple_arena_session.specs.SessionState.{SessionState};
@@ -46,7 +46,8 @@ pub fn answers(alloc: Global, commands: &[Command<u64>]) -> Result<Vec<Reply<u64
     ensures unseen { IfOk result (λ replies.
         let ran = take (length replies.items) commands.now in
         list_all is_named ran ≡ true → list_any is_no_memory replies.items ≡ false
-        → seen ran replies.items ≡ ample (first_store Heap) (erase ran)) }
+        → replies_without_compactions ran replies.items
+        ≡ replies_with_memory (first_store Heap) (without_compactions ran)) }
 {
     let mut session: Session<P0, u64> = Session::with_new_arena(alloc);
     session.run(commands)
@@ -112,7 +113,8 @@ pub fn strict_answers(
     ensures unseen { IfOk result (λ replies.
         list_all is_named commands.now ≡ true → list_any is_no_memory replies.items ≡ false
         → list_any tells_exhausted replies.items ≡ false
-        → seen commands.now replies.items ≡ ample (first_store Heap) (erase commands.now)) }
+        → replies_without_compactions commands.now replies.items
+        ≡ replies_with_memory (first_store Heap) (without_compactions commands.now)) }
 {
     let mut session: StrictSession<P0, u64> = StrictSession::with_new_arena(alloc);
     session.run(commands)

@@ -2,7 +2,8 @@
 //! behind `triple_arena`, apart for the memory that their proofs take together.
 #![tactic(auto)]
 
-mod arena_steps;
+mod entries;
+mod free_list;
 mod slot;
 mod slot_stack;
 mod slot_steps;

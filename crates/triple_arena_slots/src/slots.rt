@@ -208,7 +208,7 @@ impl<P: Ptr, T, S: NonZeroInxGenericStack<ArenaSlot<P, T>>> Slots<P, T, S> {
             (S.limit self.new.slots.stack)) }
         ensures steps { self.new.slots.steps.count ≡ self.old.slots.steps.count }
     {
-        // By its clause, room and limit are those of the stack's kind.
+        // Room and limit are those of the stack's kind.
         let _limit = self.slots.max_capacity();
         self.slots
             .uncounted_stack_mut()

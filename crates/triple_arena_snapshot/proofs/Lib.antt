@@ -5,3 +5,5 @@ pub mod ArenaBytes
 pub mod FreeLists
 pub mod LinkBytes
 pub mod ArenaParts
+pub mod Writes
+pub mod Loads

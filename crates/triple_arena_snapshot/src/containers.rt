@@ -153,7 +153,7 @@ impl Codec for String {
 }
 
 /// The first bytes, so many, and those behind them.
-fn split_front(bytes: &[u8], count: usize) -> Result<(&[u8], &[u8]), DecodeError>
+pub(crate) fn split_front(bytes: &[u8], count: usize) -> Result<(&[u8], &[u8]), DecodeError>
     ensures { Gives (λ x. (x.0.now, x.1.now)) result (front_of count bytes.now) }
 {
     if bytes.len() < count {

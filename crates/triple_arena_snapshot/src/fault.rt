@@ -2,42 +2,57 @@
 
 ghost use Rattle.std.specs.Prelude.{◌≡◌};
 ghost use Rattle.triple_arena_snapshot.specs.declared.fault.DecodeError.TheVariants.{Memory};
+ghost use Rattle.triple_arena_snapshot.specs.declared.fault.SaveError.TheVariants as saving;
 
 use std::alloc::{AllocError, AllocFailed};
+use thiserror::Error;
 
 /// What is wrong with bytes.
-#[derive(Clone, Copy, Debug, PartialEq, Eq)]
+#[derive(Clone, Copy, Debug, PartialEq, Eq, Error)]
 pub enum Fault {
     /// The bytes end within a value.
+    #[error("the bytes end within a value")]
     Cut,
     /// A byte is neither of the two that may stand there.
+    #[error("a byte is neither of the two that may stand there")]
     Flag,
     /// An index or a generation is 0.
+    #[error("an index or a generation is 0")]
     Zero,
     /// A text isn't UTF-8.
+    #[error("a text is not UTF-8")]
     Text,
     /// An arena's pointers are of another width.
+    #[error("the pointers of an arena are of another width")]
     Width,
     /// An arena has more slots than fit.
+    #[error("an arena has more slots than fit")]
     Slots,
     /// An arena's free list isn't that of its free slots, each once.
+    #[error("the free list of an arena is not that of its free slots")]
     FreeList,
     /// Bytes stand behind the last value.
+    #[error("bytes stand behind the value")]
     Trailing,
     /// The file doesn't begin with the mark.
+    #[error("the file does not begin with the mark")]
     Mark,
     /// The file is of another version of the format.
+    #[error("the file is of another version")]
     Version,
     /// The file's sums are not those of its bytes.
+    #[error("the sums are not those of the bytes")]
     Sum,
 }
 
 /// Why no value was read.
-#[derive(Clone, Copy, Debug, PartialEq, Eq)]
+#[derive(Clone, Copy, Debug, PartialEq, Eq, Error)]
 pub enum DecodeError {
     /// Memory was refused.
+    #[error("memory was refused")]
     Memory,
     /// The first fault in the bytes, and how many bytes were left where what it is about begins.
+    #[error("no such value, {1} bytes before the end: {0}")]
     Malformed(Fault, usize),
 }
 
@@ -58,10 +73,35 @@ impl<T: Drop> From<AllocFailed<T>> for DecodeError {
 }
 
 /// Why no value was loaded.
-#[derive(Clone, Copy, Debug, PartialEq, Eq)]
+#[derive(Clone, Copy, Debug, PartialEq, Eq, Error)]
 pub enum LoadError {
     /// Memory was refused.
+    #[error("memory was refused")]
     Memory,
+    /// The reader failed, or hadn't ended after so many reads that it isn't read on.
+    #[error("the reader failed")]
+    Read,
     /// The first fault in the file, and the offset at which what it is about begins.
+    #[error("no such file at byte {1}: {0}")]
     Malformed(Fault, usize),
+}
+
+/// Why no file was written.
+#[derive(Clone, Copy, Debug, PartialEq, Eq, Error)]
+pub enum SaveError {
+    /// Memory was refused. No byte was written.
+    #[error("memory was refused")]
+    Memory,
+    /// The writer failed, took no byte, or interrupted one write 4294967296 times. A front of the
+    /// file was written, and not all of it.
+    #[error("the writer failed")]
+    Write,
+}
+
+impl From<triple_arena_base::AllocError> for SaveError {
+    ghost from_gives = { λ _ e. e ≡ saving.Memory };
+
+    fn from(_e: triple_arena_base::AllocError) -> SaveError {
+        SaveError::Memory
+    }
 }

@@ -1,6 +1,12 @@
-//! Values as bytes: each type once, a struct of its user's, bad bytes, and files.
+//! Values as bytes: each type once, a struct of its user's, bad bytes, and files; and files that are
+//! written and read: a byte at a time, with failures, over each stack, and of many random states.
 
 mod arenas;
 mod bytes;
+mod circuits;
+mod devices;
 mod files;
 mod flip_flop;
+mod random;
+mod round_trips;
+mod streams;

@@ -80,7 +80,7 @@ impl<T: Default + Drop, const LIMIT: usize> NonZeroInxGenericStack<T> for ArrayS
     }
 
     fn capacity(&self) -> usize {
-        // By its clause, there are no more items than places.
+        // There are no more items than places.
         let _len = self.items.len();
         LIMIT
     }

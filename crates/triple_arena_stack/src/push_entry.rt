@@ -135,7 +135,7 @@ impl<'a, T, K: NonZeroInxGenericStack<T>> NonZeroInxGenericStackPushEntryTrait<'
     }
 
     fn inx(&self) -> NonZeroUsize {
-        // By its clause, there are no more items than fit.
+        // There are no more items than fit.
         let _capacity = self.stack.capacity();
         NonZeroUsize::MIN.saturating_add(self.stack.len())
     }

@@ -17,7 +17,7 @@ pub fn told<A>(wrapped: bool, x: A) -> InvalidationOption<A>
 }
 
 /// The answer on a valid pointer, by whether the counter wrapped.
-pub fn told_valid<A>(wrapped: bool, x: A) -> InvalidationResult<A>
+pub fn answer_on_valid<A>(wrapped: bool, x: A) -> InvalidationResult<A>
     ensures { result ≡ told_of wrapped (Some x) }
 {
     if wrapped {

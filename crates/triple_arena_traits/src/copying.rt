@@ -59,7 +59,7 @@ pub fn copy_entries<
     ensures room { S.room stack.new ≡ S.room stack.old }
     ensures limit { S.limit stack.new ≡ S.limit stack.old }
 {
-    // By its clauses, no slot is past the greatest index.
+    // No slot is past the greatest index.
     let _capacity = source.capacity();
     let mut advancer = source.advancer();
     'walk: while let Some(p) = advancer.advance(source) {

@@ -17,25 +17,25 @@ pub trait PairCall<T, R> {
 }
 
 /// A closure that takes the values alone.
-pub struct AtValues<F> {
+pub struct ValuesCall<F> {
     /// The closure.
     pub f: F,
 }
 
-impl<T, R, F: FnOnce(&mut T, &mut T) -> R> PairCall<T, R> for AtValues<F> {
+impl<T, R, F: FnOnce(&mut T, &mut T) -> R> PairCall<T, R> for ValuesCall<F> {
     ghost calls = { record {
       pre = λ call. F.FnOnce.pre call.f;
       post = λ call. F.FnOnce.post call.f;
     } };
 
     fn at(self, first: &mut T, second: &mut T) -> R {
-        let AtValues { f } = self;
+        let ValuesCall { f } = self;
         f(first, second)
     }
 }
 
 /// A closure that takes each value after its generation.
-pub struct AtEntries<F, G> {
+pub struct EntriesCall<F, G> {
     /// The closure.
     pub f: F,
     /// The generation of the first value.
@@ -44,14 +44,14 @@ pub struct AtEntries<F, G> {
     pub b: G,
 }
 
-impl<T, R, G, F: FnOnce(G, &mut T, G, &mut T) -> R> PairCall<T, R> for AtEntries<F, G> {
+impl<T, R, G, F: FnOnce(G, &mut T, G, &mut T) -> R> PairCall<T, R> for EntriesCall<F, G> {
     ghost calls = { record {
       pre = λ call. (after_generations F.FnOnce call.a call.b).pre call.f;
       post = λ call. (after_generations F.FnOnce call.a call.b).post call.f;
     } };
 
     fn at(self, first: &mut T, second: &mut T) -> R {
-        let AtEntries { f, a, b } = self;
+        let EntriesCall { f, a, b } = self;
         f(a, first, b, second)
     }
 }

@@ -213,7 +213,7 @@ impl Circuit {
         ensures refusal { IfErr result (λ e. e ≡ ReallocationError.AllocError) }
         ensures refused { OnErr result (self.new ≡ self.old) }
     {
-        // By its clauses, there is no limit.
+        // There is no limit.
         let _limit = self.cells.max_capacity();
         self.cells.insert(Cell {
             kind,
@@ -236,7 +236,7 @@ impl Circuit {
         ensures refusal { IfErr result (λ e. e ≡ ReallocationError.AllocError) }
         ensures refused { OnErr result (self.new ≡ self.old) }
     {
-        // By its clauses, there is no limit.
+        // There is no limit.
         let _limit = self.nets.max_capacity();
         self.nets.insert(Net {
             label,

@@ -51,7 +51,7 @@ pub fn exchange<P: Ptr, T: Drop>(
         → (q : Pointer) → IsGoneForGood arena.old q → IsGoneForGood arena.new q }
 {
     strict_calls_are_fresh::<T>();
-    // By its clauses, no more entries than fit.
+    // No more entries than fit.
     let _len = arena.len();
     let taken = arena.remove(p);
     let put = arena.insert(value);

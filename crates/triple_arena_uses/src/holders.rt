@@ -191,7 +191,7 @@ pub fn compact_with_two<T: Recast<P0>, H: Recast<P0>, K: Recast<P0>>(
         return Err(CompactError::Unresolved(p));
     }
     let answer = compress_recast(arena, alloc, false)?;
-    // By their clauses, neither recast is refused, and both rename.
+    // Neither recast is refused, and both rename.
     holders_follow::<P0, T, H>();
     holders_follow::<P0, T, K>();
     let map = value_of(&answer);

@@ -259,7 +259,7 @@ impl Leases {
         }
         match renew(leases, alloc) {
             Ok((leases, tickets)) => {
-                // By its clauses, each kept ticket has a new one.
+                // Each kept ticket has a new one.
                 holders_follow::<Ticket, Lease, Vec<Ticket>>();
                 let _renamed = kept.recast(&tickets);
                 Ok(Leases { leases })

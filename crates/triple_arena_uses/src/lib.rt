@@ -1,6 +1,7 @@
 //! Users of pointers, stacks, the traits of arenas and arenas, a file each, to copy from.
 #![tactic(auto)]
 
+pub mod badge;
 pub mod beside;
 pub mod beside_two;
 pub mod circuit;

@@ -184,7 +184,7 @@ pub fn compact_named<H: Recast<P0> + Recast<Q2>>(
     )?;
     // The maps are right also where a counter wraps.
     let (cells, nets) = (cells.allow(), nets.allow());
-    // By their clauses, each name leads to what it led to.
+    // Each name leads to what it led to.
     names_follow::<P0, Cell, Kind>();
     names_follow::<Q2, Net, u64>();
     names_follow_both::<P0, Q2, Cell, Kind>();

@@ -20,7 +20,7 @@ use triple_arena_ptr::Ptr;
 pub fn count<P: Ptr, T, A: CompactArenaTrait<P, T>>(arena: &A) -> usize
     ensures { result ≡ entry_count (A.slots arena.now) }
 {
-    // By its clauses, no more entries than a `usize` counts.
+    // No more entries than a `usize` counts.
     let _len = arena.len();
     let mut advancer = arena.advancer();
     let mut count = 0;

@@ -32,7 +32,7 @@ impl<P: Ptr, T, S: NonZeroInxGenericStack<ArenaSlot<P, T>>> Advancer<Arena<P, T,
             → steps_left (greatest_index P.Inx.greatest) self.new
             < steps_left (greatest_index P.Inx.greatest) self.old }
     {
-        // By its clauses, no slot is past the greatest index.
+        // No slot is past the greatest index.
         let _capacity = arena.capacity();
         self.step::<T, ArenaSlot<P, T>, S>(arena.slots.stack())
     }

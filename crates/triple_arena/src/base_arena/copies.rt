@@ -20,7 +20,7 @@ use triple_arena_base::{CloneFromError, InvalidationOption, ReallocationError};
 use triple_arena_ptr::{Ptr, PtrGen, PtrInx};
 use triple_arena_slots::ArenaSlot;
 use triple_arena_stack::NonZeroInxGenericStack;
-use triple_arena_traits::ends::last_index;
+use triple_arena_traits::last_index::last_index;
 use triple_arena_traits::{ArenaCloneFromWith, ArenaTrait, CompactArenaTrait};
 
 impl<P: Ptr, T, S: NonZeroInxGenericStack<ArenaSlot<P, T>>> ArenaCloneFromWith<P, T>

@@ -12,7 +12,7 @@ use triple_arena_base::GetDisjointMutError;
 use triple_arena_ptr::{Ptr, PtrInx};
 use triple_arena_slots::ArenaSlot;
 use triple_arena_stack::NonZeroInxGenericStack;
-use triple_arena_traits::pair_call::{AtEntries, AtValues, PairCall};
+use triple_arena_traits::pair_call::{EntriesCall, PairCall, ValuesCall};
 use triple_arena_traits::{ArenaTrait, DisjointableArenaTrait};
 
 impl<P: Ptr, T, S: NonZeroInxGenericStack<ArenaSlot<P, T>>> DisjointableArenaTrait<P, T>
@@ -29,7 +29,7 @@ impl<P: Ptr, T, S: NonZeroInxGenericStack<ArenaSlot<P, T>>> DisjointableArenaTra
         if first == second {
             return Err(GetDisjointMutError::OverlappingIndices);
         }
-        Ok(self.work_on_two(first, second, AtValues { f }))
+        Ok(self.work_on_two(first, second, ValuesCall { f }))
     }
 
     fn with_disjoint_inx_mut<R, F: FnOnce(P::Gen, &mut T, P::Gen, &mut T) -> R>(
@@ -42,7 +42,7 @@ impl<P: Ptr, T, S: NonZeroInxGenericStack<ArenaSlot<P, T>>> DisjointableArenaTra
         let (Some(a), Some(b)) = (self.generation_at(first), self.generation_at(second)) else {
             return Err(GetDisjointMutError::IndexOutOfBounds);
         };
-        Ok(self.work_on_two(i, j, AtEntries { f, a, b }))
+        Ok(self.work_on_two(i, j, EntriesCall { f, a, b }))
     }
 }
 

@@ -1,19 +1,19 @@
-//! The room of an arena: its growth, and its limit.
+//! The room of an arena, and its limit.
 
-ghost use Rattle.std.specs.Prelude.{◌≡◌, ◌≤◌, ◌<◌, ◌∷◌, ◌↔◌, [], IsOk, OnOk, OnErr, Some, Err, IsTrue};
+ghost use Rattle.std.specs.Prelude.{◌≡◌, ◌≤◌, ◌∷◌, ◌↔◌, [], IsOk, OnOk, OnErr, Some, Err};
 ghost use Rattle.triple_arena_ptr.specs.Numbers.{greatest_index};
-ghost use Rattle.triple_arena_stack.specs.Capacity.{IsWithin, IsBeyond, IsAtLimit, IsFullAtLimit, CanGrow};
-ghost use Rattle.triple_arena_traits.specs.ArenaState.{slot_count, capacity, arena_len, IsWellFormed};
+ghost use Rattle.triple_arena_stack.specs.Capacity.{IsWithin, IsBeyond};
+ghost use Rattle.triple_arena_traits.specs.ArenaState.{slot_count, capacity};
 ghost use Rattle.triple_arena_traits.specs.SlotSteps.{IsTouched};
 ghost use Rattle.triple_arena_traits.specs.FreeList.{tidied};
-ghost use Rattle.triple_arena_traits.specs.Reallocation.{with_room_for, grown, EndsBy, ready_for_limit, with_limit};
+ghost use Rattle.triple_arena_traits.specs.Reallocation.{with_room_for, EndsBy, ready_for_limit, with_limit};
 ghost use Rattle.triple_arena_traits.specs.Histories.{resizing, Fits, Continues};
 
 use crate::base_arena::Arena;
 use triple_arena_base::{MaxCapacityReductionError, ReallocationError};
 use triple_arena_ptr::{Ptr, PtrInx};
 use triple_arena_slots::ArenaSlot;
-use triple_arena_stack::{NonZeroInxGenericStack, SetMaxCapacity, grown_capacity};
+use triple_arena_stack::{NonZeroInxGenericStack, SetMaxCapacity};
 use triple_arena_traits::ArenaTrait;
 
 impl<P: Ptr, T, S: NonZeroInxGenericStack<ArenaSlot<P, T>>> Arena<P, T, S> {
@@ -34,45 +34,6 @@ impl<P: Ptr, T, S: NonZeroInxGenericStack<ArenaSlot<P, T>>> Arena<P, T, S> {
             → min_capacity ≤ capacity self.new) }
     {
         self.slots.reallocate(min_capacity)
-    }
-
-    // Grows where there are as many entries as the capacity.
-    pub(crate) fn grow_if_full(&mut self) -> Result<(), ReallocationError>
-        ensures done { OnOk result (self.new ≡ grown S.kind self.old) }
-        ensures refused { OnErr result (self.new ≡ self.old) }
-        ensures has_place { OnOk result (arena_len self.new < capacity self.new) }
-        ensures beyond { (result ≡ Err ReallocationError.BeyondMaxCapacity)
-            ↔ IsFullAtLimit (capacity self.old) self.old.limit (arena_len self.old) }
-        ensures with_memory { CanGrow S.has_memory (capacity self.old) self.old.limit
-            (greatest_index P.Inx.greatest) → IsOk result }
-        ensures indexed { OnOk result (arena_len self.old ≡ capacity self.old
-            → capacity self.old < greatest_index P.Inx.greatest) }
-        ensures had_place { arena_len self.old < capacity self.old → IsOk result }
-        ensures well_formed { IsWellFormed self.old }
-    {
-        let capacity = self.capacity();
-        if self.len < capacity {
-            return Ok(());
-        }
-        let limit = self.slots.max_capacity();
-        if is_at_limit(limit, capacity) {
-            return Err(ReallocationError::BeyondMaxCapacity);
-        }
-        let greatest = P::Inx::max_index().get();
-        if capacity == greatest {
-            return Err(ReallocationError::AllocError);
-        }
-        self.reallocate(grown_capacity(capacity, limit, greatest))
-    }
-}
-
-// Whether the limit, if there is one, is reached at this capacity.
-fn is_at_limit(limit: Option<usize>, capacity: usize) -> bool
-    ensures { IsTrue result ↔ IsAtLimit limit capacity }
-{
-    match limit {
-        Some(most) => most <= capacity,
-        None => false,
     }
 }
 

@@ -10,7 +10,7 @@ use Rattle.triple_arena_commands.specs.ReplyText.{tells_of_wrap}
 use Rattle.triple_arena_commands.specs.Runs.{IsRun, TellsOfNoWrap}
 use Rattle.triple_arena_commands.specs.laws.RunLaws.{TellsOfNoWrap-nil, TellsOfNoWrap-first}
 use Rattle.triple_arena_commands.specs.NameStore.{NameRow, Store, row_count, row, is_good_link, with_row, give_row, grown_store, store_refusal, insert_row_unless, get_row_reply, act_on_row, row_dangles, store_answer, IsStoreStep}
-use Rattle.triple_arena_commands.specs.StoreRuns.{is_named, is_no_memory, AnswersAsStore, ample, erase, seen}
+use Rattle.triple_arena_commands.specs.StoreRuns.{is_named, is_no_memory, AnswersAsStore, replies_with_memory, without_compactions, replies_without_compactions}
 use Rattle.triple_arena_commands.specs.laws.UnseenLaws.{without_wrap-quiet, CompactionIsUnseen}
 use Rattle.triple_arena_commands.specs.StrictStore.{tells_exhausted, UnlessExhausted, StrictStore, used, is_spent, IsCountedStep, IsStrictStoreStep}
 
@@ -143,5 +143,5 @@ module _ {X : Type 0} where
 
   -- compaction is unseen by whoever asks a strict store, as long as neither this refusal nor a want of memory comes
   pub StrictIsUnseen : (s t : StrictStore X) (commands : List (Command X)) (replies : List (Reply X)) → IsRun IsStrictStoreStep s commands replies t → list_all is_named commands ≡ true → list_any is_no_memory replies ≡ false → list_any tells_exhausted replies ≡ false
-      → seen commands replies ≡ ample s.store (erase commands)
+      → replies_without_compactions commands replies ≡ replies_with_memory s.store (without_compactions commands)
   StrictIsUnseen s t commands replies run named enough other = CompactionIsUnseen s.store commands replies (StrictRunAnswers s t commands replies run other) named enough

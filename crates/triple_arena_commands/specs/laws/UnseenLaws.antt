@@ -8,7 +8,7 @@ use Rattle.triple_arena_commands.specs.declared.reply.Reply.{Reply}
 use Rattle.triple_arena_commands.specs.declared.reply.Reply.TheVariants.{NoMemory, Given, Removed, Cleared, Compacted}
 use Rattle.triple_arena_commands.specs.ReplyText.{tells_of_wrap}
 use Rattle.triple_arena_commands.specs.NameStore.{Store, store_answer, IsStoreStep}
-use Rattle.triple_arena_commands.specs.StoreRuns.{is_named, is_compact, is_no_memory, without_wrap, AnswersAsStore, ample, erase, seen}
+use Rattle.triple_arena_commands.specs.StoreRuns.{is_named, is_compact, is_no_memory, without_wrap, AnswersAsStore, replies_with_memory, without_compactions, replies_without_compactions}
 
 -- a reply that tells of no wrap has no bool, or one that is false
 pub without_wrap-quiet : {X : Type 0} (reply : Reply X) → tells_of_wrap reply ≡ false → without_wrap reply ≡ reply
@@ -39,7 +39,7 @@ module _ {X : Type 0} where
 
   -- where no reply tells of a want of memory, the replies to all named commands but compactions are those that the store
   -- gives to these commands alone
-  pub CompactionIsUnseen : (s : Store X) (commands : List (Command X)) (replies : List (Reply X)) → AnswersAsStore s commands replies → list_all is_named commands ≡ true → list_any is_no_memory replies ≡ false → seen commands replies ≡ ample s (erase commands)
+  pub CompactionIsUnseen : (s : Store X) (commands : List (Command X)) (replies : List (Reply X)) → AnswersAsStore s commands replies → list_all is_named commands ≡ true → list_any is_no_memory replies ≡ false → replies_without_compactions commands replies ≡ replies_with_memory s (without_compactions commands)
   CompactionIsUnseen s [] [] run named enough = refl
   CompactionIsUnseen s [] (reply ∷ replies) run named enough = absurd run
   CompactionIsUnseen s (command ∷ commands) [] run named enough = absurd run
@@ -53,10 +53,10 @@ module _ {X : Type 0} where
       both false true e = absurd (true≢false e)
       both false false e = (refl, refl)
 
-      by : (b : Bool) → is_compact command ≡ b → (without_wrap reply, run.0) ≡ store_answer s command → seen commands replies ≡ ample run.0 (erase commands)
-          → (if b then seen commands replies else without_wrap reply ∷ seen commands replies) ≡ ample s (cond (not b) (command ∷ erase commands) (erase commands))
+      by : (b : Bool) → is_compact command ≡ b → (without_wrap reply, run.0) ≡ store_answer s command → replies_without_compactions commands replies ≡ replies_with_memory run.0 (without_compactions commands)
+          → (if b then replies_without_compactions commands replies else without_wrap reply ∷ replies_without_compactions commands replies) ≡ replies_with_memory s (cond (not b) (command ∷ without_compactions commands) (without_compactions commands))
       by true is step later =
-          later ∙ ap (λ u. ample u (erase commands)) (ap (λ (o : Reply X × Store X). o.1) step ∙ compact_stays s command is)
+          later ∙ ap (λ u. replies_with_memory u (without_compactions commands)) (ap (λ (o : Reply X × Store X). o.1) step ∙ compact_stays s command is)
       by false is step later =
-          ap (λ r. r ∷ seen commands replies) (ap (λ (o : Reply X × Store X). o.0) step)
-          ∙ ap (λ rest. (store_answer s command).0 ∷ rest) (later ∙ ap (λ u. ample u (erase commands)) (ap (λ (o : Reply X × Store X). o.1) step))
+          ap (λ r. r ∷ replies_without_compactions commands replies) (ap (λ (o : Reply X × Store X). o.0) step)
+          ∙ ap (λ rest. (store_answer s command).0 ∷ rest) (later ∙ ap (λ u. replies_with_memory u (without_compactions commands)) (ap (λ (o : Reply X × Store X). o.1) step))

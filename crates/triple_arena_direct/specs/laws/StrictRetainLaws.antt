@@ -6,14 +6,14 @@ use Rattle.std.proofs.lemmas.Bool.{cases_eq}
 use Rattle.triple_arena_ptr.specs.Numbers.{Generations, raise, wraps}
 use Rattle.triple_arena_ptr.specs.Pointers.{Pointer, is_same}
 use Rattle.triple_arena_traits.specs.Entries.{look_up, value_of_generation}
-use Rattle.triple_arena_traits.specs.ArenaState.{ArenaState, entry, arena_len}
+use Rattle.triple_arena_traits.specs.ArenaState.{ArenaState, entry, arena_len, capacity}
 use Rattle.triple_arena_traits.specs.Ending.{removed}
 use Rattle.triple_arena_traits.specs.Compression.{raised_if_any}
 use Rattle.triple_arena_traits.specs.Walks.{keys}
 use Rattle.triple_arena_traits.specs.Histories.{has, clearing, is_live, Fits, Continues}
-use Rattle.triple_arena_traits.specs.laws.EntryLaws.{slots-removed}
+use Rattle.triple_arena_traits.specs.laws.EntryLaws.{slots-removed, capacity-removed}
 use Rattle.triple_arena_traits.specs.laws.ItemLaws.{eq_true, eq_false}
-use Rattle.triple_arena_traits.specs.laws.WellFormedLaws.{counter-removed}
+use Rattle.triple_arena_traits.specs.laws.WellFormedLaws.{counter-removed, limit-removed}
 use Rattle.triple_arena_traits.specs.laws.PointerListLaws.{has-keys, same_is, live_in}
 use Rattle.triple_arena_traits.specs.laws.HistoryLaws.{Continues-moved, Continues-none, Fits-empty}
 use Rattle.triple_arena_direct.specs.StrictAnswers.{is_exhausted_for_any}
@@ -102,7 +102,26 @@ module _ {T : Type 0} where
   counter-without [] s = refl
   counter-without (p ∷ ps) s = counter-without ps (removed (λ n. n) s p.0) ∙ counter-removed (λ n. n) s p.0
 
+  -- limit and capacity stay
+  limit-without : (gone : List Pointer) (s : ArenaState T) → (without_entries gone s).limit ≡ s.limit
+  limit-without [] s = refl
+  limit-without (p ∷ ps) s = limit-without ps (removed (λ n. n) s p.0) ∙ limit-removed (λ n. n) s p.0
+
+  capacity-without : (gone : List Pointer) (s : ArenaState T) → capacity (without_entries gone s) ≡ capacity s
+  capacity-without [] s = refl
+  capacity-without (p ∷ ps) s =
+      let t : ArenaState T = removed (λ n. n) s p.0 in
+      capacity-without ps t ∙ capacity-removed (λ n. n) s p.0 t refl
+
   module _ (raises : ℕ → ℕ) where
+    pub limit-ended : (gone : List Pointer) (s : ArenaState T) → (ended_entries raises gone s).limit ≡ s.limit
+    limit-ended [] s = refl
+    limit-ended (p ∷ ps) s = limit-without (p ∷ ps) s
+
+    pub capacity-ended : (gone : List Pointer) (s : ArenaState T) → capacity (ended_entries raises gone s) ≡ capacity s
+    capacity-ended [] s = refl
+    capacity-ended (p ∷ ps) s = capacity-without (p ∷ ps) s
+
     -- what stands stays under its pointer
     pub kept-ended : (gone : List Pointer) (s : ArenaState T) (q : Pointer) → is_live (ended_entries raises gone s) q ≡ true → look_up (ended_entries raises gone s).slots q ≡ look_up s.slots q
     kept-ended [] s q live = refl

@@ -6,11 +6,11 @@ ghost use Rattle.triple_arena_base.specs.Held.{held_all};
 ghost use Rattle.triple_arena_ptr.specs.Numbers.{raise};
 ghost use Rattle.triple_arena_ptr.specs.Pointers.{Pointer};
 ghost use Rattle.triple_arena_traits.specs.Entries.{look_up};
-ghost use Rattle.triple_arena_traits.specs.ArenaState.{arena_len};
+ghost use Rattle.triple_arena_traits.specs.ArenaState.{arena_len, capacity};
 ghost use Rattle.triple_arena_traits.specs.SlotSteps.{IsTouched};
 ghost use Rattle.triple_arena_traits.specs.Compression.{compressed, raised_if_any};
 ghost use Rattle.triple_arena_traits.specs.Walks.{keys, values};
-ghost use Rattle.triple_arena_traits.specs.Histories.{compression, Fits, Continues};
+ghost use Rattle.triple_arena_traits.specs.Histories.{begun_with, compression, Fits, Continues};
 ghost use Rattle.triple_arena_direct.specs.Renaming.{MapsPointers, first_unresolved};
 ghost use Rattle.triple_arena_direct.specs.RenamingBoth.{StandApart, AreRenamedBoth, IsFoundRenamedBoth};
 ghost use Rattle.triple_arena_direct.specs.Gone.{IsGoneForGood};
@@ -74,12 +74,16 @@ impl<P: Ptr, T, S: NonZeroInxGenericStack<ArenaSlot<P, T>>> StrictArena<P, T, S>
             (held_all ⟦<T as Recast<P>>⟧.held (values self.old.slots)
             ++ held_all ⟦<U as Recast<P>>⟧.held (values second.old.slots)) ≡ None) }
         ensures first_len { arena_len self.new ≡ arena_len self.old }
+        ensures first_limit { self.new.limit ≡ self.old.limit }
+        ensures first_capacity { capacity self.new ≡ capacity self.old }
         ensures first_step { OnOk result ((new : List T) × IsStrictStep S.kind P.Gen.generations
             self.old (to_compress new)
             (compression (keys self.old.slots) (keys self.new.slots) ∷ []) self.new) }
         ensures first_history { P.Gen.generations.counting ≡ true → Continues Fits self.old
             (calls_if_ok result (λ _. compression (keys self.old.slots) (keys self.new.slots)))
             self.new }
+        ensures first_begun { P.Gen.generations.counting ≡ true → OnOk result
+            (Fits (begun_with (keys self.new.slots)) self.new) }
         ensures first_gone_for_good { P.Gen.generations.counting ≡ true → OnOk result
             ((q : Pointer) → IsSome (look_up self.old.slots q) → IsGoneForGood self.new q) }
         ensures first_stays_gone { P.Gen.generations.counting ≡ true
@@ -109,12 +113,16 @@ impl<P: Ptr, T, S: NonZeroInxGenericStack<ArenaSlot<P, T>>> StrictArena<P, T, S>
             (held_all ⟦<U as Recast<Q>>⟧.held (values second.old.slots)
             ++ held_all ⟦<T as Recast<Q>>⟧.held (values self.old.slots)) ≡ None) }
         ensures second_len { arena_len second.new ≡ arena_len second.old }
+        ensures second_limit { second.new.limit ≡ second.old.limit }
+        ensures second_capacity { capacity second.new ≡ capacity second.old }
         ensures second_step { OnOk result ((new : List U) × IsStrictStep Z.kind Q.Gen.generations
             second.old (to_compress new)
             (compression (keys second.old.slots) (keys second.new.slots) ∷ []) second.new) }
         ensures second_history { Q.Gen.generations.counting ≡ true → Continues Fits second.old
             (calls_if_ok result (λ _. compression (keys second.old.slots) (keys second.new.slots)))
             second.new }
+        ensures second_begun { Q.Gen.generations.counting ≡ true → OnOk result
+            (Fits (begun_with (keys second.new.slots)) second.new) }
         ensures second_gone_for_good { Q.Gen.generations.counting ≡ true → OnOk result
             ((q : Pointer) → IsSome (look_up second.old.slots q) → IsGoneForGood second.new q) }
         ensures second_stays_gone { Q.Gen.generations.counting ≡ true

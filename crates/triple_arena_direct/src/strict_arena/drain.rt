@@ -1,16 +1,19 @@
 //! Draining a strict arena.
 
-ghost use Rattle.std.specs.Prelude.{◌≡◌, ◌↔◌, ◌∷◌, true, false, [], IsOk, IfOk, Some, None};
+ghost use Rattle.std.specs.Prelude.{◌≡◌, ◌↔◌, ◌∷◌, true, false, [], IsOk, IfOk, IsSome, Some, None};
 ghost use Rattle.std.specs.Borrow.{sem};
 ghost use Rattle.std.specs.Iterator.{at_most};
 ghost use Rattle.std.specs.Option.{option_map};
 ghost use Rattle.triple_arena_ptr.specs.Numbers.{greatest_index, raise};
+ghost use Rattle.triple_arena_ptr.specs.Pointers.{Pointer};
+ghost use Rattle.triple_arena_traits.specs.Entries.{look_up};
 ghost use Rattle.triple_arena_traits.specs.ArenaState.{arena_len};
 ghost use Rattle.triple_arena_traits.specs.SlotSteps.{IsTouched};
 ghost use Rattle.triple_arena_traits.specs.Ending.{cleared};
 ghost use Rattle.triple_arena_traits.specs.Compression.{raised_if_any};
 ghost use Rattle.triple_arena_traits.specs.Walks.{keys, Steps, IsBeforeAll};
 ghost use Rattle.triple_arena_traits.specs.Histories.{clearing, Fits, Continues};
+ghost use Rattle.triple_arena_direct.specs.Gone.{IsGoneForGood};
 ghost use Rattle.triple_arena_direct.specs.StrictAnswers.{is_exhausted_for_any};
 ghost use Rattle.triple_arena_direct.specs.StrictCalls.{IsStrictStep, to_clear};
 ghost use Rattle.triple_arena_direct.specs.StrictRetain.{emptied};
@@ -101,6 +104,12 @@ impl<P: Ptr, T, S: NonZeroInxGenericStack<ArenaSlot<P, T>>> StrictArena<P, T, S>
             (emptied (strict_drain_arena drain))) }
         ensures history { P.Gen.generations.counting ≡ true → IfOk result (λ drain. Continues Fits
             self.old (clearing (keys self.old.slots) ∷ []) (emptied (strict_drain_arena drain))) }
+        ensures gone_for_good { P.Gen.generations.counting ≡ true → IfOk result
+            (λ drain. (q : Pointer) → IsSome (look_up self.old.slots q)
+            → IsGoneForGood (emptied (strict_drain_arena drain)) q) }
+        ensures stays_gone { P.Gen.generations.counting ≡ true → IfOk result
+            (λ drain. (q : Pointer) → IsGoneForGood self.old q
+            → IsGoneForGood (emptied (strict_drain_arena drain)) q) }
         ensures same_reference { IfOk result
             (λ drain. strict_drain_lender drain ≡ self.entry.ghost_name) }
         ensures* refused { sem 𝓛 (strict_drain_rests
@@ -116,11 +125,16 @@ impl<P: Ptr, T, S: NonZeroInxGenericStack<ArenaSlot<P, T>>> StrictArena<P, T, S>
         })
     }
 
-    // Raises the counter if there is an entry, where it isn't exhausted.
+    // Raises the counter if there is an entry, where it isn't exhausted. Once all is dropped then, each pointer that
+    // had an entry is gone for good.
     fn raise_if_any(&mut self)
         requires { is_exhausted_for_any P.Gen.generations self.old ≡ false }
-        ensures { self.new ≡ record self.old
+        ensures state { self.new ≡ record self.old
             { counter = raised_if_any (raise P.Gen.generations) self.old } }
+        ensures gone_for_good { P.Gen.generations.counting ≡ true → (q : Pointer)
+            → IsSome (look_up self.old.slots q) → IsGoneForGood (emptied self.new) q }
+        ensures stays_gone { P.Gen.generations.counting ≡ true → (q : Pointer)
+            → IsGoneForGood self.old q → IsGoneForGood (emptied self.new) q }
     {
         let any = !self.arena.is_empty();
         raise_if(&mut self.arena, any);

@@ -1,10 +1,11 @@
 //! The place of a value that is not inserted into a strict arena yet.
 
-ghost use Rattle.std.specs.Prelude.{◌≡◌, ◌≢◌, ◌<◌, ◌↔◌, ◌∷◌, true, [], IsOk, IfOk, IsOkAnd, OnOk, None, Err};
+ghost use Rattle.std.specs.Prelude.{◌≡◌, ◌≢◌, ◌<◌, ◌↔◌, ◌∷◌, true, [], IsOk, IfOk, IsOkAnd, OnOk, Some, None, Err};
 ghost use Rattle.std.specs.Borrow.{sem, Lends};
 ghost use Rattle.triple_arena_ptr.specs.Numbers.{greatest_index};
 ghost use Rattle.triple_arena_ptr.specs.Pointers.{Pointer};
 ghost use Rattle.triple_arena_stack.specs.Capacity.{IsFullAtLimit, CanGrow};
+ghost use Rattle.triple_arena_traits.specs.Entries.{look_up};
 ghost use Rattle.triple_arena_traits.specs.ArenaState.{arena_len, capacity, entry, IsWellFormed};
 ghost use Rattle.triple_arena_traits.specs.Insertion.{next_pointer, inserted};
 ghost use Rattle.triple_arena_traits.specs.SlotSteps.{touched, insertion_steps};
@@ -59,6 +60,13 @@ impl<'a, P: Ptr, T, S: NonZeroInxGenericStack<ArenaSlot<P, T>>> ArenaInsertEntry
         ensures value { result.now ≡ t }
         ensures free { entry (strict_entry_arena self.entry)
             (next_pointer (strict_entry_arena self.entry)).0 ≡ None }
+        ensures found { (value : T) → look_up
+            (inserted (strict_entry_arena self.entry) value).slots
+            (next_pointer (strict_entry_arena self.entry)) ≡ Some value }
+        ensures others { (value : T) (q : Pointer)
+            → q ≢ next_pointer (strict_entry_arena self.entry)
+            → look_up (inserted (strict_entry_arena self.entry) value).slots q
+            ≡ look_up (strict_entry_arena self.entry).slots q }
         ensures* writes_back { sem 𝓛 (Lends
             ⟦<StrictArena<P, T, S> as LendingArena>⟧.arena_row
             T.row (strict_entry_reference self.entry) result
@@ -75,6 +83,9 @@ impl<'a, P: Ptr, T, S: NonZeroInxGenericStack<ArenaSlot<P, T>>> ArenaInsertEntry
             (inserted (strict_entry_arena self.entry) value)) }
         ensures new { (q : Pointer) → IsGoneForGood (strict_entry_arena self.entry) q
             → next_pointer (strict_entry_arena self.entry) ≢ q }
+        ensures stays_gone { (value : T) (q : Pointer) → IsGoneForGood (strict_entry_arena self.entry) q
+            → IsGoneForGood (touched (insertion_steps (strict_entry_arena self.entry))
+            (inserted (strict_entry_arena self.entry) value)) q }
     {
         let StrictInsertEntry { arena } = self;
         let p = arena.insert_reserved(t);
@@ -105,14 +116,21 @@ impl<P: Ptr, T, S: NonZeroInxGenericStack<ArenaSlot<P, T>>> StrictArena<P, T, S>
         Ok(StrictInsertEntry { arena: self })
     }
 
-    /// A place for one more value; a full arena grows first.
+    /// A place for one more value; a full arena grows first. No entry moves (`kept`), and the place has the
+    /// pointer that was the next one before (`next`).
     ///
     /// Refused as [`Self::insert_reallocating`] is; then the arena is unchanged.
     pub fn entry_insert_reallocating(
         &mut self,
     ) -> Result<StrictInsertEntry<'_, P, T, S>, ReallocationError>
         ensures arena { IfOk result (λ place. strict_entry_arena place ≡ grown S.kind self.old) }
+        ensures next { IfOk result
+            (λ place. next_pointer (strict_entry_arena place) ≡ next_pointer self.old) }
+        ensures kept { IfOk result (λ place. (q : Pointer)
+            → look_up (strict_entry_arena place).slots q ≡ look_up self.old.slots q) }
         ensures history { IfOk result (λ place. Continues Fits self.old [] (strict_entry_arena place)) }
+        ensures stays_gone { IfOk result (λ place. (q : Pointer) → IsGoneForGood self.old q
+            → IsGoneForGood (strict_entry_arena place) q) }
         ensures has_place { IfOk result
             (λ place. arena_len (strict_entry_arena place) < capacity (strict_entry_arena place)) }
         ensures beyond { (result ≡ Err ReallocationError.BeyondMaxCapacity)
@@ -136,7 +154,13 @@ impl<P: Ptr, T, S: NonZeroInxGenericStack<ArenaSlot<P, T>>> StrictArena<P, T, S>
     /// As [`Self::entry_insert_reallocating`].
     pub fn entry_insert(&mut self) -> Result<StrictInsertEntry<'_, P, T, S>, ReallocationError>
         ensures arena { IfOk result (λ place. strict_entry_arena place ≡ grown S.kind self.old) }
+        ensures next { IfOk result
+            (λ place. next_pointer (strict_entry_arena place) ≡ next_pointer self.old) }
+        ensures kept { IfOk result (λ place. (q : Pointer)
+            → look_up (strict_entry_arena place).slots q ≡ look_up self.old.slots q) }
         ensures history { IfOk result (λ place. Continues Fits self.old [] (strict_entry_arena place)) }
+        ensures stays_gone { IfOk result (λ place. (q : Pointer) → IsGoneForGood self.old q
+            → IsGoneForGood (strict_entry_arena place) q) }
         ensures has_place { IfOk result
             (λ place. arena_len (strict_entry_arena place) < capacity (strict_entry_arena place)) }
         ensures beyond { (result ≡ Err ReallocationError.BeyondMaxCapacity)

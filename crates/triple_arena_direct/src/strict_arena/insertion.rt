@@ -39,6 +39,9 @@ impl<P: Ptr, T, S: NonZeroInxGenericStack<ArenaSlot<P, T>>> StrictArena<P, T, S>
         requires { arena_len self.old < capacity self.old }
         ensures pointer { P.numbers result ≡ next_pointer self.old }
         ensures free { entry self.old (P.numbers result).0 ≡ None }
+        ensures found { look_up self.new.slots (P.numbers result) ≡ Some t }
+        ensures others { (q : Pointer) → q ≢ P.numbers result
+            → look_up self.new.slots q ≡ look_up self.old.slots q }
         ensures inserted { self.new ≡ touched (insertion_steps self.old) (inserted self.old t) }
         ensures well_formed { IsWellFormed self.old }
         ensures bounded { RisesByAtMost 6 self.old.steps self.new.steps }
@@ -65,7 +68,10 @@ impl<P: Ptr, T, S: NonZeroInxGenericStack<ArenaSlot<P, T>>> StrictArena<P, T, S>
             → capacity self.old < greatest_index P.Inx.greatest) }
         ensures had_place { arena_len self.old < capacity self.old → IsOk result × (self.new ≡ self.old) }
         ensures well_formed { IsWellFormed self.old }
+        ensures next { next_pointer self.new ≡ next_pointer self.old }
+        ensures kept { (q : Pointer) → look_up self.new.slots q ≡ look_up self.old.slots q }
         ensures history { Continues Fits self.old [] self.new }
+        ensures stays_gone { (q : Pointer) → IsGoneForGood self.old q → IsGoneForGood self.new q }
     {
         match self.arena.entry_insert_reallocating() {
             Ok(place) => drop(place),

@@ -4,6 +4,7 @@ ghost use Rattle.std.specs.Prelude.{◌≡◌, ◌∷◌, true, false, cond, Lis
 ghost use Rattle.triple_arena_ptr.specs.Numbers.{raise};
 ghost use Rattle.triple_arena_ptr.specs.Pointers.{Pointer};
 ghost use Rattle.triple_arena_traits.specs.Entries.{look_up};
+ghost use Rattle.triple_arena_traits.specs.ArenaState.{capacity};
 ghost use Rattle.triple_arena_traits.specs.SlotSteps.{IsTouched};
 ghost use Rattle.triple_arena_traits.specs.Ending.{removed};
 ghost use Rattle.triple_arena_traits.specs.Walks.{entries};
@@ -24,7 +25,7 @@ impl<P: Ptr, T, S: NonZeroInxGenericStack<ArenaSlot<P, T>>> StrictArena<P, T, S>
     /// Asks `f` of each entry, in the order of the indexes, at its pointer and its value, and drops those
     /// that it doesn't keep. What it keeps stays under its pointer. The counter is raised once, if an
     /// entry was dropped; so where generations count, their pointers are gone for good
-    /// (`IsGoneForGood`).
+    /// (`IsGoneForGood`). Limit and capacity stay.
     ///
     /// `Exhausted` exactly where there is an entry and the counter is at its greatest value, also where
     /// `f` would keep all. Then nothing changes, and `f` is not called.
@@ -40,6 +41,8 @@ impl<P: Ptr, T, S: NonZeroInxGenericStack<ArenaSlot<P, T>>> StrictArena<P, T, S>
         ensures refused { OnErr result (self.new ≡ self.old) }
         ensures kept { (q : Pointer) → IsSome (look_up self.new.slots q)
             → look_up self.new.slots q ≡ look_up self.old.slots q }
+        ensures limit { self.new.limit ≡ self.old.limit }
+        ensures capacity { capacity self.new ≡ capacity self.old }
         ensures step { (gone : List Pointer) × IsStrictStep S.kind P.Gen.generations
             self.old (to_retain gone)
             (calls_if_ok result (λ _. clearing (pointers_lost self.old self.new))) self.new }
@@ -69,6 +72,8 @@ impl<P: Ptr, T, S: NonZeroInxGenericStack<ArenaSlot<P, T>>> StrictArena<P, T, S>
             × IsTouched (ended_entries (raise P.Gen.generations) gone self.old) self.new }
         ensures kept { (q : Pointer) → IsSome (look_up self.new.slots q)
             → look_up self.new.slots q ≡ look_up self.old.slots q }
+        ensures limit { self.new.limit ≡ self.old.limit }
+        ensures capacity { capacity self.new ≡ capacity self.old }
         ensures step { (gone : List Pointer) × IsStrictStep S.kind P.Gen.generations
             self.old (to_retain gone) (clearing (pointers_lost self.old self.new) ∷ []) self.new }
         ensures history { P.Gen.generations.counting ≡ true → Continues Fits self.old

@@ -1,6 +1,6 @@
 //! The limit of a strict arena, and its free list.
 
-ghost use Rattle.std.specs.Prelude.{◌≡◌, ◌+◌, ◌-◌, ◌*◌, ◌↔◌, ◌∷◌, true, false, [], IsOk, OnOk, OnErr};
+ghost use Rattle.std.specs.Prelude.{◌≡◌, ◌+◌, ◌-◌, ◌*◌, ◌↔◌, ◌∷◌, true, false, [], IsOk, Some, OnOk, OnErr};
 ghost use Rattle.triple_arena_ptr.specs.Pointers.{Pointer};
 ghost use Rattle.triple_arena_traits.specs.Items.{item};
 ghost use Rattle.triple_arena_traits.specs.Entries.{look_up};
@@ -20,10 +20,13 @@ use triple_arena_stack::{NonZeroInxGenericStack, SetMaxCapacity};
 
 impl<P: Ptr, T, S: NonZeroInxGenericStack<ArenaSlot<P, T>>> StrictArena<P, T, S> {
     /// Tidies the free list: gives up the free slots past the last entry, and puts the other free
-    /// indexes in rising order.
+    /// indexes in rising order. No entry moves.
     pub fn canonicalize_freelist(&mut self)
         ensures state { IsTouched (tidied self.old) self.new }
         ensures tidied { IsTidied self.old self.new }
+        ensures kept { (q : Pointer) → look_up self.new.slots q ≡ look_up self.old.slots q }
+        ensures same_len { arena_len self.new ≡ arena_len self.old }
+        ensures same_capacity { capacity self.new ≡ capacity self.old }
         ensures step { IsStrictStep S.kind P.Gen.generations
             self.old to_tidy (resizing ∷ []) self.new }
         ensures history { Continues Fits self.old (resizing ∷ []) self.new }
@@ -68,6 +71,9 @@ impl<P: Ptr, T, S: SetMaxCapacity<ArenaSlot<P, T>>> StrictArena<P, T, S> {
         ensures variant { IsOk result ↔ EndsBy self.old max_capacity }
         ensures done { OnOk result (IsTouched (with_limit self.old max_capacity) self.new) }
         ensures refused { OnErr result (IsTouched (tidied self.old) self.new) }
+        ensures kept { (q : Pointer) → look_up self.new.slots q ≡ look_up self.old.slots q }
+        ensures same_len { arena_len self.new ≡ arena_len self.old }
+        ensures limit { OnOk result (self.new.limit ≡ Some max_capacity) }
         ensures step { IsStrictStep S.kind P.Gen.generations
             self.old (to_limit max_capacity) (resizing ∷ []) self.new }
         ensures history { Continues Fits self.old (resizing ∷ []) self.new }

@@ -17,7 +17,7 @@ use crate::slot::DirectSlot;
 use triple_arena_base::{CloneFromError, InvalidationOption, ReallocationError};
 use triple_arena_ptr::{Ptr, PtrGen, PtrInx};
 use triple_arena_stack::NonZeroInxGenericStack;
-use triple_arena_traits::ends::last_index;
+use triple_arena_traits::last_index::last_index;
 use triple_arena_traits::{ArenaCloneFromWith, ArenaTrait, CompactArenaTrait};
 
 impl<P: Ptr, T, S: NonZeroInxGenericStack<DirectSlot<P, T>>> ArenaCloneFromWith<P, T>

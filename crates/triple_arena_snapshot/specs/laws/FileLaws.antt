@@ -1,13 +1,14 @@
 -- A file is read again, and its sums find each change of one byte.
-use Rattle.std.proofs.Common.{◌≡◌, ◌≢◌, ℕ, ◌+◌, ◌-◌, ◌%◌, ◌^◌, ◌<◌, ◌==◌, true, false, ltb, List, [], ◌∷◌, ◌++◌, length, Ok, refl, sym, arith}
-use Rattle.std.specs.Int.{w32, to_le_bytes, from_le_bytes}
+use Rattle.std.proofs.Common.{◌≡◌, ◌≢◌, ℕ, ◌+◌, ◌-◌, ◌%◌, ◌^◌, ◌<◌, ◌==◌, true, false, ltb, List, [], ◌∷◌, ◌++◌, length, Ok, refl, sym, ap, arith}
+use Rattle.std.specs.Int.{w32, w64, to_le_bytes, from_le_bytes}
 use Rattle.std.proofs.lemmas.Bool.{le-ltb, eq-eqb}
 use Rattle.std.proofs.lemmas.List.{take_at, drop_at, length-append}
 use Rattle.std.proofs.lemmas.Nat.{from_le_bytes-to_le_bytes_4}
 use Rattle.triple_arena_snapshot.specs.declared.fault.Fault.{Fault}
 use Rattle.triple_arena_snapshot.specs.Coding.{Coding}
-use Rattle.triple_arena_snapshot.specs.Files.{sums_from, sums, seal, file_of, behind, sealed_in, file_reading}
-use Rattle.triple_arena_snapshot.specs.laws.CodingLaws.{whole_again}
+use Rattle.triple_arena_snapshot.specs.Codings.{front_of}
+use Rattle.triple_arena_snapshot.specs.Files.{sums_from, sums, seal, file_of, behind, unsealed, sealed_in, file_reading}
+use Rattle.triple_arena_snapshot.specs.laws.CodingLaws.{wide64, number_again, whole_again}
 
 -- both sums are below 2 ^ 32
 pub sums_below : (low high : ℕ) (bytes : List ℕ) → low < 2 ^ 32 → high < 2 ^ 32 → ((sums_from low high bytes).0 < 2 ^ 32) × ((sums_from low high bytes).1 < 2 ^ 32)
@@ -38,18 +39,27 @@ behind_again : (marked : List ℕ) (fault : Fault) (rest : List ℕ) → behind 
 behind_again [] fault rest = refl
 behind_again (m ∷ marked) fault rest = rw (eq-eqb m m refl) (behind_again marked fault rest)
 
-sealed_again : (payload : List ℕ) → sealed_in (payload ++ seal payload) ≡ Ok payload
-sealed_again payload =
-    let all = payload ++ seal payload in
-    let n : length all ≡ length payload + 8 = length-append payload (seal payload) in
-    let test : ltb (length all) 8 ≡ false = le-ltb _ _ (omega (arith, n)) in
-    let m : length all - 8 ≡ length payload = omega (arith, n) in
+-- all of the bytes in front are taken
+front_again : (xs ys : List ℕ) (n : ℕ) → length xs ≡ n → front_of n (xs ++ ys) ≡ Ok (xs, ys)
+front_again xs ys n long =
+    let test : ltb (length (xs ++ ys)) n ≡ false = le-ltb _ _ (omega (arith, long, length-append xs ys)) in
+    rw (test, take_at xs ys n long, drop_at xs ys n long) refl
+
+unsealed_again : (payload : List ℕ) → unsealed payload (seal payload) ≡ Ok payload
+unsealed_again payload =
     let below = sums_below 0 0 payload (omega arith) (omega arith) in
     let low : ((sums payload).0 == from_le_bytes w32 (to_le_bytes w32 (sums payload).0)) ≡ true = eq-eqb _ _ (sym (from_le_bytes-to_le_bytes_4 (sums payload).0 below.0)) in
     let high : ((sums payload).1 == from_le_bytes w32 (to_le_bytes w32 (sums payload).1)) ≡ true = eq-eqb _ _ (sym (from_le_bytes-to_le_bytes_4 (sums payload).1 below.1)) in
-    rw (test, m, take_at payload (seal payload) (length payload) refl, drop_at payload (seal payload) (length payload) refl)
-    (rw (low, high) refl)
+    rw (low, high) refl
+
+sealed_again : (payload : List ℕ) → length payload < 2 ^ 64 → sealed_in (to_le_bytes w64 (length payload) ++ (payload ++ seal payload)) ≡ Ok payload
+sealed_again payload few =
+    rw (number_again w64 (2 ^ 64) wide64 (length payload) (payload ++ seal payload) few, front_again payload (seal payload) (length payload) refl) (unsealed_again payload)
 
 -- what was saved is loaded again
-pub file_again : {K : Type 0} (c : Coding K) (k : K) → c.fits k → file_reading c.decoding (file_of (c.encoding k)) ≡ Ok k
-file_again c k fits = rw (sealed_again (c.encoding k), whole_again c k fits) refl
+pub file_again : {K : Type 0} (c : Coding K) (k : K) → length (c.encoding k) < 2 ^ 64 → c.fits k → file_reading c.decoding (file_of (c.encoding k)) ≡ Ok k
+file_again c k few fits = rw (sealed_again (c.encoding k) few, whole_again c k fits) refl
+
+-- the bytes of a value are fewer than those of its file
+pub few_in_file : (payload bytes : List ℕ) → bytes ≡ file_of payload → length bytes < 2 ^ 64 → length payload < 2 ^ 64
+few_in_file payload bytes e few = omega (arith, ap length e, length-append payload (seal payload), few)

@@ -11,7 +11,7 @@ use triple_arena::{
 use triple_arena_direct_arena::{DirectArena, DirectSlot};
 use triple_arena_snapshot::{
     DecodeError, Fault, decode_arena, decode_direct_arena, encode_arena, encode_direct_arena,
-    from_bytes, load, save, to_bytes,
+    from_bytes, from_file_bytes, to_bytes, to_file_bytes,
 };
 
 /// An arena of three slots, of which the last has the value 9 under the generation 2; the counter is
@@ -74,8 +74,8 @@ fn a_loaded_arena_goes_on_as_the_saved_one(rt: HostRuntime) {
     let stale = arena.insert(10).expect(&rt, "memory");
     let kept = arena.insert(20).expect(&rt, "memory");
     drop(arena.remove(stale));
-    let file = save(&arena, alloc).expect(&rt, "memory");
-    let mut loaded: Arena<P0, u64> = load(alloc, &file).expect(&rt, "the file");
+    let file = to_file_bytes(&arena, alloc).expect(&rt, "memory");
+    let mut loaded: Arena<P0, u64> = from_file_bytes(alloc, &file).expect(&rt, "the file");
     assert!(rt; loaded.get(kept).copied() == Some(20));
     assert!(rt; loaded.get(stale).is_none());
     let next = arena.insert(30).expect(&rt, "memory");
@@ -134,8 +134,8 @@ fn two_arenas_that_point_at_each_other_are_one_file(rt: HostRuntime) {
     if let Some(value) = cells.get_mut(cell) {
         value.1 = Some(net);
     }
-    let file = save(&(cells, nets), alloc).expect(&rt, "memory");
-    let read: (Arena<P0, (u64, Option<Q2>)>, Arena<Q2, (u64, Option<P0>)>) = load(
+    let file = to_file_bytes(&(cells, nets), alloc).expect(&rt, "memory");
+    let read: (Arena<P0, (u64, Option<Q2>)>, Arena<Q2, (u64, Option<P0>)>) = from_file_bytes(
         alloc, &file,
     ).expect(&rt, "the file");
     assert!(rt; read.0.get(cell).copied() == Some((1, Some(net))));

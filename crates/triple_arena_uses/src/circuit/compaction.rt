@@ -62,7 +62,7 @@ impl Circuit {
         ensures refused { OnErr result (self.new ≡ self.old) }
         ensures refusal { IfErr result (BothStay self.old) }
     {
-        // By their clauses, what is read follows, and look-ups tell what each refusal means.
+        // What is read follows, and look-ups tell what each refusal means.
         readings_follow_both::<P0, Q2, Cell>();
         readings_follow_both::<Q2, P0, Net>();
         relations_resolve::<P0, Cell, Net>();
@@ -94,7 +94,7 @@ impl Circuit {
         ensures refused { OnErr result (self.new ≡ self.old) }
         ensures refusal { IfErr result (CellsStay self.old) }
     {
-        // By their clauses, what is read of each net follows, and look-ups tell what each refusal means.
+        // What is read of each net follows, and look-ups tell what each refusal means.
         readings_follow::<P0, Net>();
         relations_resolve::<P0, Cell, Net>();
         compress_recast_with(&mut self.cells, &mut self.nets, alloc, false)
@@ -123,7 +123,7 @@ impl Circuit {
         ensures refused { OnErr result (self.new ≡ self.old) }
         ensures refusal { IfErr result (NetsStay self.old) }
     {
-        // By their clauses, what is read of each cell follows, and look-ups tell what each refusal means.
+        // What is read of each cell follows, and look-ups tell what each refusal means.
         readings_follow::<Q2, Cell>();
         relations_resolve::<Q2, Net, Cell>();
         compress_recast_with(&mut self.nets, &mut self.cells, alloc, false)

@@ -54,7 +54,7 @@ impl Circuit {
         let (cells, nets) = self.compact(alloc)?;
         // The maps are right also where a counter wraps.
         let (cells, nets) = (cells.allow(), nets.allow());
-        // By their clauses, the maps have the new pointer of each cell and net that was there.
+        // The maps have the new pointer of each cell and net that was there.
         image_found::<P0, Cell>();
         image_found::<Q2, Net>();
         names.retain(|_name, place| {

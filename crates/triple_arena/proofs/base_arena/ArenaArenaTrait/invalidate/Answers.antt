@@ -95,7 +95,7 @@ returns-clause-answer g c =
     let found = entry_of_value c.args.self.now.slots p.0 p.1 (sym c.in-Some.ensures.live) in
     let at = g.met.P.Ptr.numbers_of c._from_raw.result
     ∙ pointer_is _ _ p.0 n (ap g.P.Inx.PtrInx.number (c._from_raw.ensures.index ∙ c.inx.ensures) ∙ sym (ap (λ (q : Pointer). q.0) (g.met.P.Ptr.numbers_of c.args.p))) (ap g.P.Gen.PtrGen.number c._from_raw.ensures.generation ∙ c.generational_inc-counter.ensures.raised ∙ ap (λ (s : ArenaState g.row.T.Denot). raise g.P.Gen.PtrGen.generations s.counter) (c.self.view_is ∙ c.in-Some.ensures.unchanged.0)) in
-    told_mapped g.P.Ptr.numbers c.told_valid.result _ (wraps g.P.Gen.PtrGen.generations c.args.self.now.counter) (option_map (λ (v : g.row.T.Denot). (p.0, n)) (look_up c.args.self.now.slots p)) c._from_raw.result c.told_valid.ensures
+    told_mapped g.P.Ptr.numbers c.answer_on_valid.result _ (wraps g.P.Gen.PtrGen.generations c.args.self.now.counter) (option_map (λ (v : g.row.T.Denot). (p.0, n)) (look_up c.args.self.now.slots p)) c._from_raw.result c.answer_on_valid.ensures
     (c.generational_inc-counter.ensures.wrapped ∙ ap (λ (s : ArenaState g.row.T.Denot). wraps g.P.Gen.PtrGen.generations s.counter) (c.self.view_is ∙ c.in-Some.ensures.unchanged.0))
     (ap (option_map (λ (v : g.row.T.Denot). (p.0, n))) found.2 ∙ ap Some (sym at))
 

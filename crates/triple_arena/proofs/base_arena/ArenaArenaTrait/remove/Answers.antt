@@ -48,7 +48,7 @@ take-generation-requires-after_bounds g c κs within =
 pub returns-clause-answer : goal.returns-clause-answer
 returns-clause-answer g c =
     let p = g.P.Ptr.numbers c.args.p in
-    told_found _ _ (wraps g.P.Gen.PtrGen.generations c.args.self.now.counter) (look_up c.args.self.now.slots p) _ c.told_valid.ensures (c.take-generation.ensures.wrapped ∙ ap (λ (s : ArenaState g.row.T.Denot). wraps g.P.Gen.PtrGen.generations s.counter) c.in-Some.ensures.unchanged.0)
+    told_found _ _ (wraps g.P.Gen.PtrGen.generations c.args.self.now.counter) (look_up c.args.self.now.slots p) _ c.answer_on_valid.ensures (c.take-generation.ensures.wrapped ∙ ap (λ (s : ArenaState g.row.T.Denot). wraps g.P.Gen.PtrGen.generations s.counter) c.in-Some.ensures.unchanged.0)
     (value_of_entry c.args.self.now p.0 _ p.1 _ (ap (entry c.args.self.now) (sym c.in-Some.ensures.index) ∙ sym (ap (λ (s : ArenaState g.row.T.Denot). entry s (non_zero_usize_get c.in-Some.inx)) c.in-Some.ensures.unchanged.0) ∙ c.take-generation.ensures.entry) (sym c.in-Some.ensures.live))
 
 pub returns-clause-gone : goal.returns-clause-gone

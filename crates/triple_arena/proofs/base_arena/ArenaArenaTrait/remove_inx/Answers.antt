@@ -46,7 +46,7 @@ take-taken-requires-after_bounds g c κs within =
 
 pub returns-clause-answer : goal.returns-clause-answer
 returns-clause-answer g c =
-    told_mapped (λ (e : g.row.P-Gen.Denot × g.row.T.Denot). (g.P.Gen.PtrGen.number e.0, e.1)) c.told_valid.result _ (wraps g.P.Gen.PtrGen.generations c.args.self.now.counter) (entry c.args.self.now (g.P.Inx.PtrInx.number c.args.inx)) c.take-taken.result.0 c.told_valid.ensures (c.take-taken.ensures.wrapped ∙ ap (λ (s : ArenaState g.row.T.Denot). wraps g.P.Gen.PtrGen.generations s.counter) c.in-Some.ensures.unchanged.0)
+    told_mapped (λ (e : g.row.P-Gen.Denot × g.row.T.Denot). (g.P.Gen.PtrGen.number e.0, e.1)) c.answer_on_valid.result _ (wraps g.P.Gen.PtrGen.generations c.args.self.now.counter) (entry c.args.self.now (g.P.Inx.PtrInx.number c.args.inx)) c.take-taken.result.0 c.answer_on_valid.ensures (c.take-taken.ensures.wrapped ∙ ap (λ (s : ArenaState g.row.T.Denot). wraps g.P.Gen.PtrGen.generations s.counter) c.in-Some.ensures.unchanged.0)
     (ap (entry c.args.self.now) (sym c.in-Some.ensures.index) ∙ sym (ap (λ (s : ArenaState g.row.T.Denot). entry s (non_zero_usize_get c.in-Some.inx)) c.in-Some.ensures.unchanged.0) ∙ c.take-taken.ensures.entry)
 
 pub returns-clause-gone : goal.returns-clause-gone

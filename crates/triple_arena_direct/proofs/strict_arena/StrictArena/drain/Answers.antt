@@ -18,18 +18,20 @@ returns g c =
     let s : ArenaState g.row.T.Denot = c.args.self.now in
     let gens = g.P.Gen.PtrGen.generations in
     let kind = g.S.NonZeroInxGenericStack.kind in
-    let allowed = sym c.is_exhausted_for_any.ensures ∙ c.if-is_exhausted_for_any.false in
+    let allowed = sym c.is_exhausted_for_any.ensures.value ∙ c.if-is_exhausted_for_any.false in
     let left : ArenaState g.row.T.Denot = emptied (record s { counter = raised_if_any (raise gens) s }) in
     let step : IsStrictStep kind gens s to_clear (clearing (keys s.slots) ∷ []) left =
     step_done s left (cleared (raise gens) s) (clearing (keys s.slots)) (is_exhausted_for_any gens s) (clearing (keys s.slots) ∷ []) allowed refl (refl, omega arith) in (
       (refl, λ w. refl, tt),
       record {
         variant = (λ _. allowed, λ _. refl);
-        arena = c.raise_if_any.ensures;
+        arena = c.raise_if_any.ensures.state;
         draining = rw (← c.self.view_is) (before_first c.self.inside.arena c.advancer.result c.advancer.ensures);
-        leaves = rw c.raise_if_any.ensures (refl, omega arith);
-        step = rw c.raise_if_any.ensures step;
-        history = λ counts. rw c.raise_if_any.ensures (Continues-strict kind gens counts s to_clear (clearing (keys s.slots) ∷ []) left step);
+        leaves = rw c.raise_if_any.ensures.state (refl, omega arith);
+        step = rw c.raise_if_any.ensures.state step;
+        history = λ counts. rw c.raise_if_any.ensures.state (Continues-strict kind gens counts s to_clear (clearing (keys s.slots) ∷ []) left step);
+        gone_for_good = c.raise_if_any.ensures.gone_for_good;
+        stays_gone = c.raise_if_any.ensures.stays_gone;
         same_reference = refl;
         refused = tt;
       },

@@ -1,9 +1,9 @@
-use Rattle.std.proofs.Common.{◌∷◌, [], is_some, ap}
+use Rattle.std.proofs.Common.{◌∷◌, [], is_some, ap, ◌∙◌}
 use Rattle.triple_arena_ptr.specs.Numbers.{raise}
-use Rattle.triple_arena_traits.specs.ArenaState.{ArenaState}
+use Rattle.triple_arena_traits.specs.ArenaState.{ArenaState, capacity}
 use Rattle.triple_arena_traits.specs.Histories.{clearing}
 use Rattle.triple_arena_direct.specs.laws.GoneLaws.{up_to-continues, gone-continues, ended-continues}
-use Rattle.triple_arena_direct.specs.laws.StrictRetainLaws.{lost_one}
+use Rattle.triple_arena_direct.specs.laws.StrictRetainLaws.{lost_one, limit-ended, capacity-ended}
 use Rattle.triple_arena_direct.specs.laws.StrictAnswerLaws.{Continues-strict}
 use Rattle.triple_arena_direct.specs.StrictCalls.{to_retain}
 use Rattle.triple_arena_direct.specs.StrictRetain.{pointers_lost}
@@ -36,6 +36,8 @@ returns g c =
     rw (← c.self.view_is) (record {
       done = (out.0, out.1, out.2, is);
       kept = retained_kept kind gens s new out.0 is;
+      limit = ap (λ (t : ArenaState g.row.T.Denot). t.limit) is.0 ∙ limit-ended (raise gens) out.0 s;
+      capacity = ap capacity is.0 ∙ capacity-ended (raise gens) out.0 s;
       step = (out.0, stepped);
       history = λ counts. Continues-strict kind gens counts s (to_retain out.0) (calls ∷ []) new stepped;
       gone_for_good = λ counts q was none.

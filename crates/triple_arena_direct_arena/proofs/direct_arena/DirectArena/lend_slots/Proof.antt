@@ -73,18 +73,18 @@ use Rattle.triple_arena_direct_arena.specs.DirectLends.{direct_refilled}
 use Rattle.triple_arena_traits.proofs.KeptSlots.{filled-own, length-filled, refilled}
 use Rattle.triple_arena_direct_arena.proofs.Keeping.{kept_within}
 use Rattle.triple_arena_direct_arena.specs.declared.slot.DirectSlot.{DirectSlot}
-use Rattle.triple_arena_direct_arena.specs.declared.slots.Slots.{Slots}
+use Rattle.triple_arena_direct_arena.specs.declared.direct_slots.DirectSlots.{DirectSlots}
 use Rattle.triple_arena_traits.specs.declared.lent_slots.LentSlots.{LentSlots}
 use Rattle.triple_arena_direct_arena.specs.contracts.slot.DirectSlot as S-type
-use Rattle.triple_arena_direct_arena.specs.contracts.slots.Slots as Slots-type
+use Rattle.triple_arena_direct_arena.specs.contracts.direct_slots.DirectSlots as DirectSlots-type
 use Rattle.triple_arena_traits.specs.contracts.lent_slots.LentSlots as L-type
 use Rattle.triple_arena_direct_arena.specs.contracts.slot.DirectSlotEntrySlot.TheImpl as Slot-impl
 use Rattle.triple_arena_direct_arena.specs.contracts.direct_arena.DirectArena as A-type
 use Rattle.triple_arena_direct_arena.specs.contracts.direct_arena.DirectArena.TheInside as I-type
 use Rattle.triple_arena_direct_arena.specs.contracts.direct_arena.DirectArena.lend_slots as F
-use Rattle.triple_arena_direct_arena.specs.contracts.slots.Slots.as_mut_slice as G-fn
-use Rattle.triple_arena_direct_arena.proofs.slots.Slots.as_mut_slice.Met.{met}
-use Rattle.triple_arena_direct_arena.proofs.slots.Slots.TheLaws as Slots-laws
+use Rattle.triple_arena_direct_arena.specs.contracts.direct_slots.DirectSlots.as_mut_slice as G-fn
+use Rattle.triple_arena_direct_arena.proofs.direct_slots.DirectSlots.as_mut_slice.Met.{met}
+use Rattle.triple_arena_direct_arena.proofs.direct_slots.DirectSlots.TheLaws as DirectSlots-laws
 use Rattle.triple_arena_direct_arena.specs.contracts.direct_arena.DirectArena.lend_slots.Key.{name as #self}
 use Rattle.triple_arena_direct_arena.proofs.direct_arena.DirectArena.lend_slots.Statement as stated
 use Rattle.triple_arena_direct_arena.proofs.direct_arena.DirectArena.lend_slots.Code as code
@@ -142,10 +142,10 @@ module _ (P T S I G : RattleType) (P-Ptr : gPtr.Ghosts P.Denot I.Denot G.Denot) 
 
   -- the slots
   abbrev Slr : RattleType
-  Slr = Slots-type.the_row rP rT rS rI rG
+  Slr = DirectSlots-type.the_row rP rT rS rI rG
 
   abbrev D : Type 0
-  D = Slots P.Denot T.Denot S.Denot I.Denot G.Denot
+  D = DirectSlots P.Denot T.Denot S.Denot I.Denot G.Denot
 
   -- the arena, and its fields
   abbrev Ar : RattleType
@@ -319,7 +319,7 @@ module _ (P T S I G : RattleType) (P-Ptr : gPtr.Ghosts P.Denot I.Denot G.Denot) 
 
         field_of : ent 𝓤 (sem 𝓛 (part_at Inside full_share a rb ro)) (sep 𝓤 (sem 𝓛 (part_at Slr full_share t rb (ro + off))) Back)
         unfolding part_of
-        field_of = field_out 𝓛 full_share [] ms ((Slots-laws.the_row_laws rP rT rS rI rG (copied_laws 0 P LP) (param_laws 1 T LT) (param_laws 2 S LS) (copied_laws 3 I LI) (copied_laws 4 G LG)).lawful 𝓛, (uint_Lawful 𝓛 w64, tt)) (t, (a.len, tt)) rb ro 0
+        field_of = field_out 𝓛 full_share [] ms ((DirectSlots-laws.the_row_laws rP rT rS rI rG (copied_laws 0 P LP) (param_laws 1 T LT) (param_laws 2 S LS) (copied_laws 3 I LI) (copied_laws 4 G LG)).lawful 𝓛, (uint_Lawful 𝓛 w64, tt)) (t, (a.len, tt)) rb ro 0
 
         -- with slots whose values were written it is an arena again
         back : view a ≡ d → good a → (w : St) → ent 𝓤 (sep 𝓤 (sem 𝓛 ((mem Slr).own_at (put t (items t.stack) w) rb (ro + off))) Back) (sem 𝓛 ((mem Ar).own_at (direct_with_values_of d w) rb ro))
@@ -456,7 +456,7 @@ lend_slots_spec 𝓤 𝓛 𝓜 𝓡 wired P T S I G LP LT LS LI LG CP CI CG P-Pt
     P-Gen-PartialOrd-dict P-Gen-Ord P-Gen-Ord-dict S-NonZeroInxGenericStack S-NonZeroInxGenericStack-dict LP LT LS
     LI LG
     (record { of_items = m25.items_with_items; of_room = m25.room_with_items; of_limit = m25.limit_with_items }) 𝓤 𝓛 𝓜 𝓡 wired
-    (met 𝓤 𝓛 𝓜 𝓡 (code.calls-triple_arena_direct_arena::slots::Slots::as_mut_slice 𝓡.env wired) P T S I G LP LT LS LI LG CP CI
+    (met 𝓤 𝓛 𝓜 𝓡 (code.calls-triple_arena_direct_arena::direct_slots::DirectSlots::as_mut_slice 𝓡.env wired) P T S I G LP LT LS LI LG CP CI
     CG P-Ptr P-Ptr-dict P-Debug P-Debug-dict P-Hash P-Hash-dict P-Eq P-Eq-dict P-PartialEq P-PartialEq-dict P-Clone
     P-Clone-dict P-PartialOrd P-PartialOrd-dict P-Ord P-Ord-dict P-Recast P-Recast-dict P-Inx-PtrInx
     P-Inx-PtrInx-dict P-Inx-Debug P-Inx-Debug-dict P-Inx-Hash P-Inx-Hash-dict P-Inx-Eq P-Inx-Eq-dict P-Inx-PartialEq

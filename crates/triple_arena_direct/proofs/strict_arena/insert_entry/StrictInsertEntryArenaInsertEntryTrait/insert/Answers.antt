@@ -8,7 +8,7 @@ use Rattle.triple_arena_traits.specs.Insertion.{inserted, next_pointer}
 use Rattle.triple_arena_traits.specs.SlotSteps.{touched, insertion_steps}
 use Rattle.triple_arena_traits.specs.laws.HistoryLaws.{Continues-inserted, Continues-touched}
 use Rattle.triple_arena_traits.specs.Histories.{insertion}
-use Rattle.triple_arena_direct.proofs.StrictSteps.{reserved}
+use Rattle.triple_arena_direct.proofs.StrictSteps.{reserved, others_inserted, gone_inserted}
 use Rattle.triple_arena_direct.proofs.strict_arena.insert_entry.StrictInsertEntryArenaInsertEntryTrait.insert.Goals as goal
 
 pub unwrap-requires : goal.unwrap-requires
@@ -27,9 +27,12 @@ returns g c =
       record {
         value = same_Some _ _ ((rw c.unwrap.ensures at c.get_mut.ensures.value) ∙ found);
         free = subst (λ (q : Pointer). entry s q.0 ≡ None) c.insert_reserved-p.ensures.pointer c.insert_reserved-p.ensures.free;
+        found = λ v. found_inserted s (inserted s v) (next_pointer s) v c.insert_reserved-p.ensures.well_formed refl refl;
+        others = λ v. others_inserted s v c.insert_reserved-p.ensures.well_formed;
         writes_back = tt;
         step = λ v. reserved g.S.NonZeroInxGenericStack.kind g.P.Gen.PtrGen.generations s _ (next_pointer s) v c.insert_reserved-p.ensures.well_formed c.requires refl refl;
         history = λ v. Continues-touched s (inserted s v) _ (insertion (next_pointer s) ∷ []) (refl, omega arith) (Continues-inserted s (inserted s v) _ v c.insert_reserved-p.ensures.well_formed refl refl);
+        stays_gone = λ v. gone_inserted (insertion_steps s) s v c.insert_reserved-p.ensures.well_formed;
         new = λ q gone is. omega (arith, gone.1, ap (λ (p : Pointer). p.1) is);
       },
     )

@@ -1,0 +1,60 @@
+//! Insertion into a direct arena.
+
+ghost use Rattle.std.specs.Prelude.{◌≡◌, ◌≢◌, Some};
+ghost use Rattle.std.specs.Int.NonZero.{non_zero_usize_get};
+ghost use Rattle.triple_arena_ptr.specs.Pointers.{Pointer};
+ghost use Rattle.triple_arena_traits.specs.Entries.{look_up};
+ghost use Rattle.triple_arena_traits.specs.DirectInsertion.{IsVacant};
+ghost use Rattle.triple_arena_direct_arena.specs.DirectState.{direct_capacity, inserted_at};
+
+use crate::direct_arena::DirectArena;
+use crate::slot::DirectSlot;
+use std::num::NonZeroUsize;
+use triple_arena_ptr::{Ptr, PtrGen, PtrInx};
+use triple_arena_stack::NonZeroInxGenericStack;
+use triple_arena_traits::{ArenaDirectInsertTrait, ArenaTrait};
+
+impl<P: Ptr, T, S: NonZeroInxGenericStack<DirectSlot<P, T>>> ArenaDirectInsertTrait<P, T>
+    for DirectArena<P, T, S> {
+    ghost use Rattle.std.specs.Prelude.{refl};
+    ghost use Rattle.triple_arena_direct_arena.specs.laws.DirectInsertionLaws.{slots-inserted_at, len-inserted_at};
+
+    // the value stands at the index, under the generation, and the slots that were missing below
+    // are free
+    ghost inserted_at = { inserted_at };
+
+    fn direct_insert_reserved(&mut self, p: P, t: T)
+        requires { IsVacant self.old.slots (direct_capacity self.old) (P.numbers p).0 }
+        ensures inserted { self.new ≡ inserted_at self.old (P.numbers p) t }
+        ensures found { look_up self.new.slots (P.numbers p) ≡ Some t }
+        ensures others { (q : Pointer) → q ≢ P.numbers p
+            → look_up self.new.slots q ≡ look_up self.old.slots q }
+        ensures limit { self.new.limit ≡ self.old.limit }
+        ensures capacity { direct_capacity self.new ≡ direct_capacity self.old }
+    {
+        // The capacity is at most the greatest index.
+        let _capacity = self.capacity();
+        let inx = P::Inx::try_into_usize(p.inx()).unwrap();
+        self.put(inx, p.generation(), t);
+    }
+
+    ghost slots_inserted_at = { slots-inserted_at };
+
+    ghost len_inserted_at = { len-inserted_at };
+
+    ghost limit_inserted_at = { λ _ _ _. refl };
+
+    ghost capacity_inserted_at = { λ _ _ _. refl };
+}
+
+impl<P: Ptr, T, S: NonZeroInxGenericStack<DirectSlot<P, T>>> DirectArena<P, T, S> {
+    // Puts an entry at an index where none stands.
+    fn put(&mut self, inx: NonZeroUsize, generation: P::Gen, value: T)
+        requires { IsVacant self.old.slots (direct_capacity self.old) (non_zero_usize_get inx) }
+        ensures { self.new ≡ inserted_at self.old
+            (non_zero_usize_get inx, P.Gen.number generation) value }
+    {
+        self.slots.occupy(inx, generation, value);
+        self.len += 1;
+    }
+}

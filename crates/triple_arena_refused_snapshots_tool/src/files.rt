@@ -1,0 +1,70 @@
+//! A writer that asks for no memory, and files by the format's page.
+
+use std::io;
+use std::io::{ErrorKind, Write};
+
+/// How many bytes it holds.
+pub const ROOM: usize = 128;
+
+/// Holds what is written.
+#[derive(Drop)]
+pub struct Held {
+    bytes: [u8; ROOM],
+    len: usize,
+}
+
+impl Held {
+    pub fn new() -> Held {
+        Held {
+            bytes: [0; ROOM],
+            len: 0,
+        }
+    }
+
+    /// Whether it holds these bytes, and no others.
+    pub fn is(&self, bytes: &[u8]) -> bool {
+        match self.bytes.get(..self.len) {
+            Some(held) => held == bytes,
+            None => false,
+        }
+    }
+}
+
+impl Write for Held {
+    fn write(&mut self, buf: &[u8]) -> io::Result<usize> {
+        let count = buf.len().min(ROOM.saturating_sub(self.len));
+        for byte in &buf[..count] {
+            if let Some(place) = self.bytes.get_mut(self.len) {
+                *place = *byte;
+                self.len = self.len.saturating_add(1);
+            }
+        }
+        match count {
+            0 => Err(io::Error::from(ErrorKind::WriteZero)),
+            _ => Ok(count),
+        }
+    }
+
+    fn flush(&mut self) -> io::Result<()> {
+        Ok(())
+    }
+}
+
+/// The file of a vector of two texts, "a" and "bc".
+pub const TEXTS: &[u8] = &[
+    116, 114, 105, 97, 114, 101, 110, 97, 1, 27, 0, 0, 0, 0, 0, 0, 0, 2, 0, 0, 0, 0, 0, 0, 0, 1, 0,
+    0, 0, 0, 0, 0, 0, 97, 2, 0, 0, 0, 0, 0, 0, 0, 98, 99, 43, 1, 0, 0, 175, 5, 0, 0,
+];
+
+/// The file of the arena of the format's page.
+pub const ARENA: &[u8] = &[
+    116, 114, 105, 97, 114, 101, 110, 97, 1, 49, 0, 0, 0, 0, 0, 0, 0, 255, 255, 0, 0, 0, 0, 0, 0,
+    2, 3, 0, 0, 0, 0, 0, 0, 0, 0, 0, 1, 2, 0, 9, 4, 0, 2, 0, 0, 0, 0, 0, 0, 0, 2, 0, 0, 0, 0, 0, 0,
+    0, 1, 0, 0, 0, 0, 0, 0, 0, 24, 2, 0, 0, 116, 99, 0, 0,
+];
+
+/// The file of the direct arena of the same entry.
+pub const DIRECT: &[u8] = &[
+    116, 114, 105, 97, 114, 101, 110, 97, 1, 23, 0, 0, 0, 0, 0, 0, 0, 255, 255, 0, 0, 0, 0, 0, 0,
+    2, 3, 0, 0, 0, 0, 0, 0, 0, 0, 0, 1, 2, 0, 9, 15, 2, 0, 0, 46, 45, 0, 0,
+];

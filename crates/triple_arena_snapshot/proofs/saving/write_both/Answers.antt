@@ -1,0 +1,8 @@
+use Rattle.std.proofs.lemmas.Result.{on_err_weaker}
+use Rattle.triple_arena_snapshot.proofs.Writes.{cut_later}
+use Rattle.triple_arena_snapshot.proofs.saving.write_both.Goals as goal
+
+pub returns-clause-err : goal.returns-clause-err
+returns-clause-err g c =
+    let held = g.W.Write.contents in
+    on_err_weaker c.write_all-2.result (cut_later (held c.args.output.now) (held c.write_all.new.output) (held c.write_all-2.new.output) c.args.first.now c.args.second.now c.in_ok-write_all.ensures.ok) c.write_all-2.ensures.err

@@ -18,7 +18,9 @@ pub use triple_arena_base::{
     InvalidationOption, InvalidationResult, MaxCapacityReductionError, NotWithinCapacityError,
     ReallocationError, Recast, Recaster, recast_both,
 };
-pub use triple_arena_ptr::{P0, P1, P2, P3, P4, P5, Ptr, PtrGen, PtrInx, PtrNoGen, Q2, SmallPtr};
+pub use triple_arena_ptr::{
+    NamedPtr, P0, P1, P2, P3, P4, P5, Ptr, PtrGen, PtrInx, PtrName, PtrNoGen, Q2, SmallPtr,
+};
 pub use triple_arena_slots::{ArenaSlot, FreeLink};
 pub use triple_arena_stack::{
     ArrayStack, FixedStack, HeapStack, LimitedStack, NonZeroInxArray, NonZeroInxBoxedSlice,

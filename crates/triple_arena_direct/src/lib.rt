@@ -34,10 +34,10 @@ pub use triple_arena::{
     ArenaDirectInsertTrait, ArenaInsertEntry, ArenaInsertEntryTrait, ArenaInsertTrait, ArenaSlot,
     ArenaTrait, ArrayStack, CloneFromError, CompactArenaTrait, CompactError, DirectInsertionError,
     DisjointableArenaTrait, FixedStack, FreeLink, GetDisjointMutError, HeapStack, InsertFailed,
-    InvalidationOption, InvalidationResult, LimitedStack, MaxCapacityReductionError,
+    InvalidationOption, InvalidationResult, LimitedStack, MaxCapacityReductionError, NamedPtr,
     NonZeroInxArray, NonZeroInxBoxedSlice, NonZeroInxGenericStack, NonZeroInxLimitedVec,
-    NonZeroInxVec, NotWithinCapacityError, P0, P1, P2, P3, P4, P5, Ptr, PtrGen, PtrInx, PtrNoGen,
-    Q2, ReallocationError, Recast, Recaster, SetMaxCapacity, SmallPtr, arena_iterators,
+    NonZeroInxVec, NotWithinCapacityError, P0, P1, P2, P3, P4, P5, Ptr, PtrGen, PtrInx, PtrName,
+    PtrNoGen, Q2, ReallocationError, Recast, Recaster, SetMaxCapacity, SmallPtr, arena_iterators,
     recast_both,
 };
 pub use triple_arena_direct_arena::{

@@ -1,12 +1,12 @@
-//! Look-ups in a strict arena by index.
+//! Look-ups in a strict arena, by pointer and by index.
 
-ghost use Rattle.std.specs.Prelude.{◌≡◌, ℕ, true, [], Some, MatchOption, option_copied};
+ghost use Rattle.std.specs.Prelude.{◌≡◌, ℕ, [], true, is_some, IsSome, Some, option_copied, MatchOption};
 ghost use Rattle.std.specs.Borrow.{sem, LendsIf};
 ghost use Rattle.std.specs.Option.{option_map, option_copied_mut};
 ghost use Rattle.triple_arena_ptr.specs.Pointers.{Pointer};
-ghost use Rattle.triple_arena_traits.specs.Entries.{IsFirst, IsLast};
+ghost use Rattle.triple_arena_traits.specs.Entries.{look_up, IsFirst, IsLast};
 ghost use Rattle.triple_arena_traits.specs.ArenaState.{arena_len, entry, with_value};
-ghost use Rattle.triple_arena_traits.specs.Histories.{Fits, Continues};
+ghost use Rattle.triple_arena_traits.specs.Histories.{History, remains, Fits, Continues};
 ghost use Rattle.triple_arena_direct.specs.Gone.{IsGoneForGood};
 ghost use Rattle.triple_arena_direct.specs.StrictCalls.{IsStrictStep, to_write};
 
@@ -16,6 +16,41 @@ use triple_arena_ptr::{Ptr, PtrGen, PtrInx};
 use triple_arena_stack::NonZeroInxGenericStack;
 
 impl<P: Ptr, T, S: NonZeroInxGenericStack<ArenaSlot<P, T>>> StrictArena<P, T, S> {
+    /// Whether `p` is valid.
+    pub fn contains(&self, p: P) -> bool
+        ensures value { result ≡ is_some (look_up self.now.slots (P.numbers p)) }
+        ensures history { (h : History) → Fits h self.now → result ≡ remains h (P.numbers p) }
+    {
+        self.arena.contains(p)
+    }
+
+    /// The value under `p`; none exactly where `p` is invalid.
+    pub fn get(&self, p: P) -> Option<&T>
+        ensures value { option_copied result ≡ look_up self.now.slots (P.numbers p) }
+        ensures history { (h : History) → Fits h self.now
+            → is_some result ≡ remains h (P.numbers p) }
+    {
+        self.arena.get(p)
+    }
+
+    /// The value under `p`, for writing; none exactly where `p` is invalid.
+    pub fn get_mut(&mut self, p: P) -> Option<&mut T>
+        ensures value { option_copied_mut result ≡ look_up self.old.slots (P.numbers p) }
+        ensures* writes_back { sem 𝓛 (LendsIf ⟦<StrictArena<P, T, S> as LendingArena>⟧.arena_row T.row
+            self.entry result (with_value self.old (P.numbers p).0) self.old) }
+        ensures history { (h : History) → Fits h self.old
+            → is_some result ≡ remains h (P.numbers p) }
+        ensures step { IsSome (look_up self.old.slots (P.numbers p)) → (value : T)
+            → IsStrictStep S.kind P.Gen.generations self.old
+            (to_write (P.numbers p) value) [] (with_value self.old (P.numbers p).0 value) }
+        ensures written { (value : T) → Continues Fits self.old []
+            (with_value self.old (P.numbers p).0 value) }
+        ensures stays_gone { P.Gen.generations.counting ≡ true → (value : T) (q : Pointer)
+            → IsGoneForGood self.old q → IsGoneForGood (with_value self.old (P.numbers p).0 value) q }
+    {
+        self.arena.get_mut(p)
+    }
+
     /// The generation and the value of the entry at `inx`; none exactly where there is no entry.
     pub fn get_inx(&self, inx: P::Inx) -> Option<(P::Gen, &T)>
         ensures { option_map (λ e. (P.Gen.number e.0, e.1.now)) result

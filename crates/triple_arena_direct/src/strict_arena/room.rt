@@ -1,24 +1,61 @@
-//! The limit of a strict arena, and its free list.
+//! The room of a strict arena, its limit, and its free list.
 
-ghost use Rattle.std.specs.Prelude.{◌≡◌, ◌+◌, ◌-◌, ◌*◌, ◌↔◌, ◌∷◌, true, false, [], IsOk, Some, OnOk, OnErr};
+ghost use Rattle.std.specs.Prelude.{◌≡◌, ◌≤◌, ◌↔◌, ◌∷◌, [], false, true, IsOk, OnOk, OnErr, Some, Err, ◌+◌, ◌-◌, ◌*◌};
+ghost use Rattle.triple_arena_ptr.specs.Numbers.{greatest_index};
 ghost use Rattle.triple_arena_ptr.specs.Pointers.{Pointer};
-ghost use Rattle.triple_arena_traits.specs.Items.{item};
+ghost use Rattle.triple_arena_stack.specs.Capacity.{IsWithin, IsBeyond};
 ghost use Rattle.triple_arena_traits.specs.Entries.{look_up};
 ghost use Rattle.triple_arena_traits.specs.ArenaState.{slot_count, arena_len, capacity, is_free};
 ghost use Rattle.triple_arena_traits.specs.SlotSteps.{RisesByAtMost, IsTouched};
 ghost use Rattle.triple_arena_traits.specs.FreeList.{tidied, without_free_end, IsTidied};
-ghost use Rattle.triple_arena_traits.specs.Reallocation.{EndsBy, with_limit};
+ghost use Rattle.triple_arena_traits.specs.Reallocation.{reallocated, KeepsRoom, EndsBy, with_limit};
 ghost use Rattle.triple_arena_traits.specs.Histories.{resizing, Fits, Continues};
 ghost use Rattle.triple_arena_direct.specs.Gone.{IsGoneForGood};
-ghost use Rattle.triple_arena_direct.specs.StrictCalls.{IsStrictStep, to_limit, to_tidy, to_give_up_end};
+ghost use Rattle.triple_arena_direct.specs.StrictCalls.{IsStrictStep, to_reallocate, to_limit, to_tidy, to_give_up_end};
+ghost use Rattle.triple_arena_traits.specs.Items.{item};
 
 use super::StrictArena;
-use triple_arena::ArenaSlot;
-use triple_arena_base::MaxCapacityReductionError;
-use triple_arena_ptr::{Ptr, PtrGen};
+use triple_arena::{ArenaSlot, ArenaTrait};
+use triple_arena_base::{MaxCapacityReductionError, ReallocationError};
+use triple_arena_ptr::{Ptr, PtrGen, PtrInx};
 use triple_arena_stack::{NonZeroInxGenericStack, SetMaxCapacity};
 
 impl<P: Ptr, T, S: NonZeroInxGenericStack<ArenaSlot<P, T>>> StrictArena<P, T, S> {
+    /// Changes the room so that there is place for `min_capacity` entries, and for the slots that are
+    /// in use. First the free list is tidied, and that stays done where the rest is refused.
+    ///
+    /// `AllocError` where `min_capacity` is past the greatest index; else `BeyondMaxCapacity` exactly
+    /// where the limit is below it; else `AllocError` where memory is refused. Where the room stays the
+    /// same, no memory is taken.
+    pub fn reallocate_min_capacity(&mut self, min_capacity: usize) -> Result<(), ReallocationError>
+        ensures done { OnOk result
+            (IsTouched (reallocated S.kind self.old min_capacity) self.new) }
+        ensures refused { OnErr result (IsTouched (tidied self.old) self.new) }
+        ensures within { OnOk result
+            ((min_capacity ≤ greatest_index P.Inx.greatest)
+            × IsWithin self.old.limit min_capacity) }
+        ensures beyond { (result ≡ Err ReallocationError.BeyondMaxCapacity)
+            ↔ ((min_capacity ≤ greatest_index P.Inx.greatest)
+            × IsBeyond self.old.limit min_capacity) }
+        ensures succeeds { min_capacity ≤ greatest_index P.Inx.greatest
+            → IsWithin self.old.limit min_capacity
+            → KeepsRoom S.kind self.old min_capacity → IsOk result }
+        ensures with_memory { min_capacity ≤ greatest_index P.Inx.greatest
+            → IsWithin self.old.limit min_capacity
+            → S.has_memory (reallocated S.kind self.old min_capacity).room → IsOk result }
+        ensures place { OnOk result (min_capacity ≤ capacity self.new) }
+        ensures kept { (q : Pointer) → look_up self.new.slots q ≡ look_up self.old.slots q }
+        ensures same_len { arena_len self.new ≡ arena_len self.old }
+        ensures limit { self.new.limit ≡ self.old.limit }
+        ensures step { IsStrictStep S.kind P.Gen.generations
+            self.old (to_reallocate min_capacity) (resizing ∷ []) self.new }
+        ensures history { Continues Fits self.old (resizing ∷ []) self.new }
+        ensures stays_gone { P.Gen.generations.counting ≡ true
+            → (q : Pointer) → IsGoneForGood self.old q → IsGoneForGood self.new q }
+    {
+        self.arena.reallocate_min_capacity(min_capacity)
+    }
+
     /// Tidies the free list: gives up the free slots past the last entry, and puts the other free
     /// indexes in rising order. No entry moves.
     pub fn canonicalize_freelist(&mut self)

@@ -3,16 +3,37 @@
 ghost use Rattle.std.specs.Prelude.{◌≡◌, ◌<◌, IsSome};
 ghost use Rattle.std.specs.Option.{option_map};
 ghost use Rattle.triple_arena_ptr.specs.Numbers.{greatest_index};
-ghost use Rattle.triple_arena_traits.specs.Walks.{standing_at, steps_left, entries, Steps, IsAtFirst};
+ghost use Rattle.triple_arena_traits.specs.Walks.{entries, keys, values, standing_at, steps_left, Steps, IsAtFirst};
 
 use super::StrictArena;
-use triple_arena::arena_iterators::{Iter, PtrAdvancer};
-use triple_arena::{Arena, ArenaSlot, ArenaTrait};
+use triple_arena::arena_iterators::{Iter, PtrAdvancer, Ptrs, Vals};
+use triple_arena::{Arena, ArenaSlot, ArenaTrait, CompactArenaTrait};
 use triple_arena_base::Advancer;
 use triple_arena_ptr::{Ptr, PtrInx};
 use triple_arena_stack::NonZeroInxGenericStack;
 
 impl<P: Ptr, T, S: NonZeroInxGenericStack<ArenaSlot<P, T>>> StrictArena<P, T, S> {
+    /// The pointers of the entries, in the order of their indexes.
+    pub fn ptrs(&self) -> Ptrs<'_, P, T, Arena<P, T, S>>
+        ensures { result ≡ keys self.now.slots }
+    {
+        self.arena.ptrs()
+    }
+
+    /// The values of the entries, in the order of their indexes.
+    pub fn vals(&self) -> Vals<'_, P, T, Arena<P, T, S>>
+        ensures { result ≡ values self.now.slots }
+    {
+        self.arena.vals()
+    }
+
+    /// The pointers and the values of the entries, in the order of their indexes.
+    pub fn iter(&self) -> Iter<'_, P, T, Arena<P, T, S>>
+        ensures { result ≡ entries self.now.slots }
+    {
+        self.arena.iter()
+    }
+
     /// A forward advancer at the entry of least index, or nowhere where there is no entry.
     pub fn advancer(&self) -> PtrAdvancer<P>
         ensures { IsAtFirst self.now.slots result }

@@ -1,5 +1,5 @@
 -- The tickets of leases.
-use Rattle.std.specs.Prelude.{ℕ, suc, ◌+◌, ◌-◌, ◌*◌, ◌^◌, ◌==◌, Bool, true, cond}
+use Rattle.std.specs.Prelude.{ℕ, suc, ◌+◌, ◌-◌, ◌*◌, ◌^◌, ◌==◌, Bool, true, not, cond}
 use Rattle.triple_arena_ptr.specs.Numbers.{counting_to}
 use Rattle.triple_arena_ptr.specs.Pointers.{Pointer}
 use Rattle.triple_arena.specs.ArenaState.{ArenaState}
@@ -31,3 +31,7 @@ number_of ticket = ticket.0 * 256 + ticket.1
 -- a lease, in the hands of another's holder
 abbrev pub in_hands_of : Lease → Lease → Lease
 in_hands_of other lease = record lease { holder = other.holder }
+
+-- whether a lease is in other hands than this holder's
+abbrev pub is_of_another : (holder : ℕ) → Pointer → Lease → Bool
+is_of_another holder ticket lease = not (lease.holder == holder)

@@ -1,6 +1,6 @@
 //! A registry of leases, each under a ticket that is never valid again once its lease has ended.
 
-ghost use Rattle.std.specs.Prelude.{◌≡◌, ◌≢◌, ◌<◌, ◌+◌, ◌^◌, List, map, None, Some, false, IsSome, IsOk, IfOk, OnOk, OnErr, option_copied};
+ghost use Rattle.std.specs.Prelude.{◌≡◌, ◌≢◌, ◌<◌, ◌+◌, ◌^◌, ◌==◌, cond, List, map, None, Some, false, IsSome, IsOk, IfOk, OnOk, OnErr, option_copied};
 ghost use Rattle.std.specs.Result.{IfErr};
 ghost use Rattle.std.proofs.Common.{refl};
 ghost use Rattle.triple_arena_base.specs.Held.{held_nothing, refill_nothing};
@@ -14,8 +14,9 @@ ghost use Rattle.triple_arena.specs.DisjointEntries.{DisjointPtrAnswer};
 ghost use Rattle.triple_arena.specs.Walks.{entries, keys};
 ghost use Rattle.triple_arena_direct.specs.Gone.{IsGoneForGood};
 ghost use Rattle.triple_arena_direct.specs.Renaming.{first_unresolved, Refuses, IsUnresolved};
-ghost use Rattle.triple_arena_direct.specs.StrictAnswers.{strict_of};
-ghost use Rattle.triple_arena_uses.specs.Tickets.{ticket_numbers, are_used_up, anew, handed, number_of, in_hands_of};
+ghost use Rattle.triple_arena_direct.specs.StrictAnswers.{strict_of, strict_all};
+ghost use Rattle.triple_arena_direct.specs.laws.RetainLaws.{kept_if};
+ghost use Rattle.triple_arena_uses.specs.Tickets.{ticket_numbers, are_used_up, anew, handed, number_of, in_hands_of, is_of_another};
 
 use crate::ticket::Ticket;
 use std::alloc::Global;
@@ -176,6 +177,24 @@ impl Leases {
         ensures bounded { RisesByAtMost 6 self.old.steps self.new.steps }
     {
         self.leases.remove(ticket)
+    }
+
+    /// Ends all leases of one holder together. Under each other ticket is the lease that was there, and
+    /// no lease is found under theirs any more.
+    ///
+    /// `Exhausted` exactly where there is a lease, of whatever holder, and the tickets are used up
+    /// (`are_used_up`). Then nothing changes.
+    pub fn revoke_all(&mut self, holder: u32) -> Result<(), StrictError>
+        ensures answer { result
+            ≡ strict_all (cond (arena_len self.old == 0) false (are_used_up self.old)) }
+        ensures found { OnOk result ((q : Pointer) → look_up self.new.slots q
+            ≡ kept_if (is_of_another holder) (λ q lease. lease) q (look_up self.old.slots q)) }
+        ensures gone_for_good { (q : Pointer) → IsSome (look_up self.old.slots q)
+            → look_up self.new.slots q ≡ None → IsGoneForGood self.new q }
+        ensures stays_gone { (q : Pointer) → IsGoneForGood self.old q → IsGoneForGood self.new q }
+        ensures refused { OnErr result (self.new ≡ self.old) }
+    {
+        self.leases.retain(|_ticket, lease| lease.holder != holder)
     }
 
     /// The tickets that have a lease, in the order of their indexes.

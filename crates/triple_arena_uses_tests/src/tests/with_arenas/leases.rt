@@ -14,6 +14,8 @@ trait Registry {
 
     fn revoked(&mut self, ticket: Ticket) -> Result<Lease, StrictError>;
 
+    fn revoked_all(&mut self, holder: u32) -> Result<(), StrictError>;
+
     fn redeemed(&self, ticket: Ticket) -> Option<Lease>;
 }
 
@@ -32,6 +34,10 @@ impl Registry for Leases {
 
     fn revoked(&mut self, ticket: Ticket) -> Result<Lease, StrictError> {
         self.revoke(ticket)
+    }
+
+    fn revoked_all(&mut self, holder: u32) -> Result<(), StrictError> {
+        self.revoke_all(holder)
     }
 
     fn redeemed(&self, ticket: Ticket) -> Option<Lease> {
@@ -123,6 +129,26 @@ fn are_swapped<R: Registry>(rt: &impl Abort, leases: &mut R) {
 #[test]
 fn leases_exchange_their_holders(rt: HostRuntime) {
     are_swapped(&rt, &mut Leases::new(rt.alloc()));
+}
+
+// Of three leases the first and the third are the first holder's, and end together.
+fn all_are_revoked<R: Registry>(rt: &impl Abort, leases: &mut R) {
+    let first = leases.issued(lease(7)).expect(rt, "memory");
+    let second = leases.numbered(5).expect(rt, "memory");
+    let third = leases.issued(lease(8)).expect(rt, "memory");
+    is(leases.revoked_all(1), Ok(())).expect(rt, "the end of all leases of a holder");
+    let left = Lease {
+        item: 514,
+        holder: 5,
+    };
+    is(leases.redeemed(first), None).expect(rt, "the first lease");
+    is(leases.redeemed(second), Some(left)).expect(rt, "the second lease");
+    is(leases.redeemed(third), None).expect(rt, "the third lease");
+}
+
+#[test]
+fn all_leases_of_a_holder_are_revoked(rt: HostRuntime) {
+    all_are_revoked(&rt, &mut Leases::new(rt.alloc()));
 }
 
 // The lease of a registry that came back from a renewal is found by its ticket, which was kept.

@@ -1,3 +1,4 @@
+pub mod Options
 pub mod Rounds
 pub mod Sound
 pub mod States
@@ -8,4 +9,3 @@ pub mod Unions
 pub mod Leaving
 pub mod Changes
 pub mod Renaming
-pub mod Results

@@ -1,17 +1,17 @@
 -- A ring that is gone along from one of its keys on, and whose keys come to be of another set, one by one.
 use Rattle.std.specs.Prelude.{List, [], ◌∷◌, ◌++◌, Contains}
-use Rattle.std.proofs.Common.{◌≡◌, ◌≢◌, ◌+◌, ◌<◌, ◌≤◌, ℕ, inl, inr, zero, suc, length, Option, Some, IsSome, refl, sym, ap, ◌∙◌, subst, arith, append_assoc, length-append}
-use Rattle.std.proofs.lemmas.List.{append-nil}
-use Rattle.std.proofs.lemmas.List.Elements.{Contains-append_left, Contains-append_right, Contains-append_cases}
+use Rattle.std.proofs.Common.{◌≡◌, ◌≢◌, ◌+◌, ◌<◌, ◌≤◌, ℕ, inl, inr, length, Option, Some, IsSome, refl, sym, ap, ◌∙◌, subst, arith, append_assoc, length-append}
+use Rattle.std.proofs.lemmas.List.{append-nil, nil_from_length}
+use Rattle.std.proofs.lemmas.List.Elements.{Contains-append_left, Contains-push, Contains-push_cases}
 use Rattle.std.specs.Option.{option_map}
 use Rattle.triple_arena_ptr.specs.Pointers.{Pointer}
 use Rattle.triple_arena_chain.specs.Chains.{Node, value_at, after_at, first_of, IsLinked, IsRun, AreOnce}
 use Rattle.triple_arena_chain.specs.laws.LinkLaws.{same_pointer}
-use Rattle.triple_arena_chain.specs.laws.RunLaws.{in_head, none_in, run_back}
+use Rattle.triple_arena_chain.specs.laws.RunLaws.{in_head, run_back}
 use Rattle.triple_arena_chain.specs.laws.OnceLaws.{once_before}
 use Rattle.triple_arena_surject.specs.declared.member.Member.{Member}
 use Rattle.triple_arena_surject.specs.Rings.{label, with_set, IsRound}
-use Rattle.triple_arena_surject.proofs.Rounds.{round_once}
+use Rattle.triple_arena_surject.proofs.Rounds.{first_some, round_once}
 
 module _ {P K : Type 0} (numbers : P → Pointer) where
   -- these keys of a ring, from this one on, are passed, and next is this one
@@ -49,11 +49,7 @@ module _ {P K : Type 0} (numbers : P → Pointer) where
 
       -- it leads on to another
       pub leads_along : IsSome (after_at nodes at)
-      leads_along = subst IsSome (sym leads) (first_some left.0)
-        where
-          first_some : (ps : List Pointer) → IsSome (first_of ps (Some from))
-          first_some [] = refl
-          first_some (p ∷ ps) = refl
+      leads_along = subst IsSome (sym leads) (first_some left.0 from)
 
       pub not_done : Contains done at → ⊥
       not_done within = once_before done at left.0 (subst AreOnce whole is.once) at within refl
@@ -71,11 +67,7 @@ module _ {P K : Type 0} (numbers : P → Pointer) where
           }
 
     pub along_all : n ≤ length done → done ≡ from ∷ is.rest
-    along_all many = sym (append-nil done) ∙ ap (λ ts. done ++ ts) (sym (none_left is.todo (omega (arith, all, many)))) ∙ sym is.parts
-      where
-        none_left : (ps : List Pointer) → length ps ≡ 0 → ps ≡ []
-        none_left [] none = refl
-        none_left (p ∷ ps) none = absurd (omega (arith, none))
+    along_all many = sym (append-nil done) ∙ ap (λ ts. done ++ ts) (sym (nil_from_length is.todo (omega (arith, all, many)))) ∙ sym is.parts
 
   -- so many of them are of another set
   pub record IsPart (old cur : Pointer → Option (Node (Member P K))) (n : ℕ) (from at : Pointer) (set : P) (i : ℕ) : Type 0 where
@@ -85,18 +77,6 @@ module _ {P K : Type 0} (numbers : P → Pointer) where
     pub moved : (q : Pointer) → Contains done q → value_at cur q ≡ option_map (with_set set) (value_at old q)
     pub others : (q : Pointer) → (Contains done q → ⊥) → value_at cur q ≡ value_at old q
     pub afters : (q : Pointer) → after_at cur q ≡ after_at old q
-
-  pub part_none : (old : Pointer → Option (Node (Member P K))) → IsLinked old → (c : Pointer) (n : ℕ) (from : Pointer) (set : P) (rest : List Pointer)
-      → IsRound numbers old c n from rest → IsPart old old n from from set 0
-  part_none old linked c n from set rest is =
-      record {
-        done = [];
-        count = refl;
-        along = along_none old linked c n from rest is;
-        moved = λ q within. absurd (none_in q within);
-        others = λ q other. refl;
-        afters = λ q. refl;
-      }
 
   module _ (old cur : Pointer → Option (Node (Member P K))) (n : ℕ) (from at : Pointer) (set : P) (i : ℕ) (part : IsPart old cur n from at set i) where
     module _ (less : i < n) where
@@ -114,21 +94,17 @@ module _ {P K : Type 0} (numbers : P → Pointer) where
             done = part.done ++ at ∷ [];
             count = omega (arith, part.count, length-append part.done (at ∷ []));
             along = along_more old n from at part.done part.along fewer then (sym (part.afters at) ∙ sym (same at) ∙ on);
-            moved = λ q within. elim (Contains-append_cases part.done (at ∷ []) q within) [
+            moved = λ q within. elim (Contains-push_cases part.done at q within) [
               | inl before ↦ away q (λ e. not_done old n from at part.done part.along fewer (subst (Contains part.done) e before)) ∙ part.moved q before
-              | inr last ↦ moved_last q last
+              | inr is ↦
+                  subst (λ r. value_at new r ≡ option_map (with_set set) (value_at old r)) is
+                  (there ∙ ap (option_map (with_set set)) (part.others at (not_done old n from at part.done part.along fewer)))
             ];
             others = λ q other.
-                away q (λ e. other (Contains-append_right part.done (at ∷ []) q (subst (Contains (at ∷ [])) (sym e) (in_head at []))))
+                away q (λ e. other (subst (Contains (part.done ++ at ∷ [])) (sym e) (Contains-push part.done at)))
                 ∙ part.others q (λ before. other (Contains-append_left part.done (at ∷ []) q before));
             afters = λ q. same q ∙ part.afters q;
           }
-        where
-          moved_last : (q : Pointer) → Contains (at ∷ []) q → value_at new q ≡ option_map (with_set set) (value_at old q)
-          moved_last q (zero, within, is) =
-              subst (λ r. value_at new r ≡ option_map (with_set set) (value_at old r)) is
-              (there ∙ ap (option_map (with_set set)) (part.others at (not_done old n from at part.done part.along fewer)))
-          moved_last q (suc k, within, is) = absurd (omega (arith, within))
 
     module _ (many : n ≤ i) where
       done_is : part.done ≡ from ∷ part.along.rest

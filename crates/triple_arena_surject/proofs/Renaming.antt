@@ -13,9 +13,10 @@ use Rattle.triple_arena_chain.specs.laws.OnceLaws.{many_keys, in_map, one_to_one
 use Rattle.triple_arena_surject.specs.declared.member.Member.{Member}
 use Rattle.triple_arena_surject.specs.declared.member.Shared.{Shared}
 use Rattle.triple_arena_surject.specs.Rings.{label, IsRound, IsRing, IsSound}
-use Rattle.triple_arena_surject.specs.Surject.{SurjectState, found_at, key_of, state_of, IsRenamed}
+use Rattle.triple_arena_surject.specs.Surject.{SurjectState, found_at, key_of, IsRenamed}
 use Rattle.triple_arena_surject.proofs.Rounds.{labelled_there}
-use Rattle.triple_arena_surject.proofs.States.{some_of_map, map_of_some, found_is, read_same}
+use Rattle.triple_arena_surject.proofs.Options.{some_of_map, map_of_some}
+use Rattle.triple_arena_surject.proofs.States.{IsRead, read_same}
 
 module _ {A P K : Type 0} (numbers : P → Pointer) (old new : ChainState A (Member P K)) (rename : Pointer → Pointer) (moves : IsMoved (nodes old) rename (nodes new))
     (counted : entry_count old.slots ≡ old.len) (recounted : entry_count new.slots ≡ new.len) (same : new.len ≡ old.len) where
@@ -78,36 +79,23 @@ module _ {A P K : Type 0} (numbers : P → Pointer) (old new : ChainState A (Mem
       }
 
   -- the state after it
-  module _ {V : Type 0} (slots : List (Option (ℕ × Shared V))) (capacity : ℕ) (limit : Option ℕ) where
-    abbrev before : SurjectState A K V
-    before = state_of numbers old slots capacity limit
-
-    abbrev after : SurjectState A K V
-    after = state_of numbers new slots capacity limit
-
-    there_before : (p : Pointer) → IsSome (found_at before p) → IsSome (nodes old p)
-    there_before p some = some_of_map (key_of numbers) (nodes old p) (subst IsSome (found_is numbers old slots capacity limit p) some)
-
-    pub there_after : (p : Pointer) → IsSome (found_at after p) → IsSome (nodes new p)
-    there_after p some = some_of_map (key_of numbers) (nodes new p) (subst IsSome (found_is numbers new slots capacity limit p) some)
-
-    pub renamed_state : IsRenamed before rename after
+  module _ {V : Type 0} {slots : List (Option (ℕ × Shared V))} {s t : SurjectState A K V} (was : IsRead numbers (nodes old) slots s) (is : IsRead numbers (nodes new) slots t) where
+    pub renamed_state : IsRenamed s rename t
     renamed_state =
         record {
           renamed = λ p some.
-              let there = there_before p some in
-              found_is numbers new slots capacity limit (rename p)
-              ∙ read_same numbers (nodes old p) (nodes new (rename p)) (value_moved p there)
-              ∙ sym (found_is numbers old slots capacity limit p);
+              is.keys (rename p)
+              ∙ read_same numbers (nodes old p) (nodes new (rename p)) (value_moved p (some_of_map (key_of numbers) (nodes old p) (subst IsSome (was.keys p) some)))
+              ∙ sym (was.keys p);
           all = λ q some.
-              let from = moves.all q (there_after q some) in
-              (from.0, subst IsSome (sym (found_is numbers old slots capacity limit from.0)) (map_of_some (key_of numbers) (nodes old from.0) from.1), from.2);
-          vals = λ c. refl;
+              let from = moves.all q (some_of_map (key_of numbers) (nodes new q) (subst IsSome (is.keys q) some)) in
+              (from.0, subst IsSome (sym (was.keys from.0)) (map_of_some (key_of numbers) (nodes old from.0) from.1), from.2);
+          vals = λ c. is.vals c ∙ sym (was.vals c);
         }
 
     pub maps_keys : {I : Type 0} (images : I → Pointer) (map_slots : List (Option (ℕ × I))) → ((p : Pointer) → option_map images (look_up map_slots p) ≡ option_map (λ _. rename p) (nodes old p))
-        → (p : Pointer) → option_map images (look_up map_slots p) ≡ option_map (λ _. rename p) (found_at before p)
-    maps_keys images map_slots maps p = maps p ∙ by_node (nodes old p) ∙ sym (ap (option_map (λ _. rename p)) (found_is numbers old slots capacity limit p))
+        → (p : Pointer) → option_map images (look_up map_slots p) ≡ option_map (λ _. rename p) (found_at s p)
+    maps_keys images map_slots maps p = maps p ∙ by_node (nodes old p) ∙ sym (ap (option_map (λ _. rename p)) (was.keys p))
       where
         by_node : (o : Option (Node (Member P K))) → option_map (λ _. rename p) o ≡ option_map (λ _. rename p) (option_map (key_of numbers) o)
         by_node None = refl

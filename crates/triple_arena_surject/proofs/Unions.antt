@@ -10,6 +10,7 @@ use Rattle.triple_arena_chain.specs.laws.RestLaws.{no_more}
 use Rattle.triple_arena_chain.specs.laws.OnceLaws.{once_both}
 use Rattle.triple_arena_surject.specs.Surject.{SurjectState, set_at, AreTogether, AreOfBoth, HasKeys, IsUnited, IsUnion}
 use Rattle.triple_arena_surject.specs.Unions.{AreUnions, last_of, IsRenamedOften}
+use Rattle.triple_arena_surject.proofs.Options.{some_there, none_there}
 
 twice_more : (a j : ℕ) → a * 2 ^ (j + 1) ≡ (a + a) * 2 ^ j
 twice_more a j = rw (add-one, pow-suc) (omega arith)
@@ -24,14 +25,11 @@ module _ {A K V : Type 0} where
   pub together_cases : (s : SurjectState A K V) (p q : Pointer) → AreTogether s p q ⊎ (AreTogether s p q → ⊥)
   together_cases s p q = by_name (set_at s p) refl
     where
-      none_is : IsSome {T = Pointer} None → ⊥
-      none_is some = absurd (cc)
-
       by_name : (o : Option Pointer) → set_at s p ≡ o → AreTogether s p q ⊎ (AreTogether s p q → ⊥)
-      by_name None is = inr (λ both. none_is (subst IsSome is both.0))
+      by_name None is = inr (λ both. none_there (set_at s p) is both.0)
       by_name (Some c) is =
           elim (leads_cases (set_at s q) c) [
-            | inl of ↦ inl (subst IsSome (sym is) refl, is ∙ sym of)
+            | inl of ↦ inl (some_there (set_at s p) c is, is ∙ sym of)
             | inr other ↦ inr (λ both. other (sym both.1 ∙ is))
           ]
 

@@ -1,5 +1,5 @@
 -- What always holds of the keys: those of a set stand in one ring of a chain, and the set's value counts them.
-use Rattle.std.specs.Prelude.{◌≡◌, ◌≢◌, ◌↔◌, ℕ, List, ◌∷◌, length, Option, None, Some, IsSome, Contains}
+use Rattle.std.specs.Prelude.{◌≡◌, ◌≢◌, ◌↔◌, ℕ, ◌+◌, List, ◌∷◌, length, Option, None, Some, IsSome, Contains}
 use Rattle.std.specs.Option.{option_map}
 use Rattle.triple_arena_ptr.specs.Pointers.{Pointer}
 use Rattle.triple_arena.specs.Entries.{look_up}
@@ -40,6 +40,11 @@ with_keys keys shared = record shared { keys = keys }
 
 abbrev pub with_value : {V : Type 0} → V → Shared V → Shared V
 with_value value shared = record shared { value = value }
+
+-- a set counts one key less; or it had one, and is gone, and this value comes out
+abbrev pub CountsLess : {V : Type 0} → (before after : Option (Shared V)) (out : Option V) → Type 0
+CountsLess before after None = (n : ℕ) × (option_map (λ shared. shared.keys) before ≡ Some (n + 2)) × (after ≡ option_map (with_keys (n + 1)) before)
+CountsLess before after (Some value) = (before ≡ Some (record { value = value; keys = 1 })) × (after ≡ None)
 
 module _ {T : Type 0} where
   -- a value stands under a pointer that found nothing before, alone in a ring; all else is as before

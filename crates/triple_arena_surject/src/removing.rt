@@ -11,7 +11,7 @@ ghost use Rattle.triple_arena_surject.specs.Surject.{found_at, key_at, val_at, A
 
 use crate::member::{Member, Shared};
 use crate::refusal::SurjectError;
-use crate::steps::{count_keys, set_of, size_of, take, telling};
+use crate::steps::{count_less, set_of, take, telling};
 use crate::surject::SurjectArena;
 use triple_arena::{ArenaInsertTrait, ArenaTrait, CompactArenaTrait};
 use triple_arena_base::InvalidationOption;
@@ -63,18 +63,11 @@ impl<
         };
         // By its clauses, neighbours lead to each other.
         let _len = self.keys.len();
-        let count = size_of(&self.sets, set);
         let removed = self.keys.remove(p);
         let answer = removed.unwrap();
         let (member, wrapped) = answer.overflowing();
-        if count == 1 {
-            let taken = take(&mut self.sets, set);
-            let out = taken.unwrap();
-            Ok(telling(wrapped, (member.key, Some(out.value))))
-        } else {
-            count_keys(&mut self.sets, set, count - 1);
-            Ok(telling(wrapped, (member.key, None)))
-        }
+        let value = count_less(&mut self.sets, set);
+        Ok(telling(wrapped, (member.key, value)))
     }
 
     /// Takes a whole set out, and gives its value; its keys are dropped.

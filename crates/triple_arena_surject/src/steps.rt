@@ -1,6 +1,6 @@
 //! Steps on the keys, and on the values of sets. Of rings they know nothing.
 
-ghost use Rattle.std.specs.Prelude.{◌≡◌, ◌≢◌, ◌≤◌, ◌<◌, ◌↔◌, ◌+◌, not, List, [], ◌∷◌, map, None, Some, Err, IsOk, IsSome, IfOk, OnOk, OnErr};
+ghost use Rattle.std.specs.Prelude.{◌≡◌, ◌≢◌, ◌≤◌, ◌<◌, ◌↔◌, ◌+◌, ℕ, not, List, [], ◌∷◌, map, None, Some, Err, IsOk, IsSome, IfOk, OnOk, OnErr, MatchOption};
 ghost use Rattle.std.specs.Option.{option_map};
 ghost use Rattle.std.specs.Result.{IfErr};
 ghost use Rattle.triple_arena_base.specs.Invalidation.{allowed_option, is_success_option};
@@ -11,7 +11,7 @@ ghost use Rattle.triple_arena.specs.Ending.{told};
 ghost use Rattle.triple_arena.specs.Entries.{look_up, entry_count};
 ghost use Rattle.triple_arena.specs.Histories.{insertion, Continues};
 ghost use Rattle.triple_arena_chain.specs.Chains.{nodes, value_at, after_at, before_at, IsCut, IsJoined, IsRefusedRoom};
-ghost use Rattle.triple_arena_surject.specs.Rings.{counts, label, with_set, with_keys, IsRound, IsRingOfOne, IsSpliced};
+ghost use Rattle.triple_arena_surject.specs.Rings.{counts, label, with_set, with_keys, CountsLess, IsRound, IsRingOfOne, IsSpliced};
 
 use crate::member::{Member, Shared};
 use std::alloc::{AllocError, Global};
@@ -128,6 +128,33 @@ pub(crate) fn count_keys<P: Ptr, V, B: ArenaInsertTrait<P, Shared<V>>>(
     shared.keys = keys;
 }
 
+// Has a set count one key less; with its last key it goes, and its value comes back.
+pub(crate) fn count_less<P: Ptr, V, B: ArenaInsertTrait<P, Shared<V>>>(
+    sets: &mut B,
+    c: P,
+) -> Option<V>
+    requires counted { (n : ℕ) × (counts (B.slots sets.old) (P.numbers c) ≡ Some (n + 1)) }
+    ensures less { CountsLess (look_up (B.slots sets.old) (P.numbers c))
+        (look_up (B.slots sets.new) (P.numbers c)) result }
+    ensures others { (d : Pointer) → d ≢ P.numbers c
+        → look_up (B.slots sets.new) d ≡ look_up (B.slots sets.old) d }
+    ensures len { MatchOption result
+        (entry_count (B.slots sets.new) ≡ entry_count (B.slots sets.old))
+        (λ _. entry_count (B.slots sets.new) + 1 ≡ entry_count (B.slots sets.old)) }
+    ensures capacity { B.capacity sets.new ≡ B.capacity sets.old }
+    ensures limit { B.limit sets.new ≡ B.limit sets.old }
+{
+    let count = size_of(sets, c);
+    if count == 1 {
+        let taken = take(sets, c);
+        let out = taken.unwrap();
+        Some(out.value)
+    } else {
+        count_keys(sets, c, count - 1);
+        None
+    }
+}
+
 // Has the key of a pointer be of another set; nothing changes where it finds nothing.
 pub(crate) fn put_set<
     P: Ptr,
@@ -156,7 +183,7 @@ pub(crate) fn cut<
     K,
     A: CompactArenaTrait<P, Link<P, Member<P, K>>> + ArenaInsertTrait<P, Link<P, Member<P, K>>>,
 >(keys: &mut Chains<P, Member<P, K>, A>, p: P)
-    requires { IsSome (nodes keys.old (P.numbers p)) }
+    requires there { IsSome (nodes keys.old (P.numbers p)) }
     ensures cut { IsCut (nodes keys.old)
         (Some (P.numbers p)) (after_at (nodes keys.old) (P.numbers p)) (nodes keys.new) }
     ensures len { keys.new.len ≡ keys.old.len }
@@ -251,7 +278,7 @@ pub(crate) fn relabel<
     K,
     A: CompactArenaTrait<P, Link<P, Member<P, K>>> + ArenaInsertTrait<P, Link<P, Member<P, K>>>,
 >(keys: &mut Chains<P, Member<P, K>, A>, from: P, count: usize, set: P)
-    requires { (c : Pointer) × (rest : List Pointer)
+    requires round { (c : Pointer) × (rest : List Pointer)
         × IsRound P.numbers (nodes keys.old) c count (P.numbers from) rest }
     ensures moved { (q : Pointer) → label P.numbers (nodes keys.old) q
         ≡ label P.numbers (nodes keys.old) (P.numbers from)
@@ -287,7 +314,7 @@ pub(crate) fn ring<
     count: usize,
     alloc: Global,
 ) -> Result<Vec<P>, AllocError>
-    requires { (c : Pointer) × (rest : List Pointer)
+    requires round { (c : Pointer) × (rest : List Pointer)
         × IsRound P.numbers (nodes keys.now) c count (P.numbers from) rest }
     ensures { IfOk result (λ all. (c : Pointer) × (rest : List Pointer)
         × IsRound P.numbers (nodes keys.now) c count (P.numbers from) rest

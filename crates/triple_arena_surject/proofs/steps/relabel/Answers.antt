@@ -1,13 +1,21 @@
-use Rattle.std.proofs.Common.{◌≡◌, ◌<◌, Some, IsSome, sym, ap, ◌∙◌, subst, arith}
+use Rattle.std.proofs.Common.{◌≡◌, ◌<◌, [], Some, IsSome, refl, sym, ap, ◌∙◌, subst, arith}
 use Rattle.std.specs.Option.{option_map}
 use Rattle.triple_arena_chain.specs.Chains.{nodes, after_at}
-use Rattle.triple_arena_surject.proofs.Relabelling.{part_none, leads_on, one_more, moved_all, others_stay}
-use Rattle.triple_arena_surject.proofs.States.{some_of_map}
+use Rattle.triple_arena_chain.specs.laws.RunLaws.{none_in}
+use Rattle.triple_arena_surject.proofs.Relabelling.{along_none, leads_on, one_more, moved_all, others_stay}
+use Rattle.triple_arena_surject.proofs.Options.{some_of_map}
 use Rattle.triple_arena_surject.proofs.steps.relabel.Goals as goal
 
 pub round-init : goal.round-init
 round-init g c = record {
-  part = part_none g.P.Ptr.numbers (nodes c.args.keys.now) c.len-len.ensures.linked c.requires.0 c.args.count (g.P.Ptr.numbers c.args.from) c.args.set c.requires.1 c.requires.2;
+  part = record {
+    done = [];
+    count = refl;
+    along = along_none g.P.Ptr.numbers (nodes c.args.keys.now) c.len-len.ensures.linked c.requires.round.0 c.args.count (g.P.Ptr.numbers c.args.from) c.requires.round.1 c.requires.round.2;
+    moved = λ q within. absurd (none_in q within);
+    others = λ q other. refl;
+    afters = λ q. refl;
+  };
   len = cc;
   capacity = cc;
   limit = cc;

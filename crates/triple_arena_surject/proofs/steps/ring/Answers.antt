@@ -3,13 +3,13 @@ use Rattle.std.proofs.lemmas.List.{length-map, map_push}
 use Rattle.std.specs.Option.{option_map}
 use Rattle.triple_arena_chain.specs.Chains.{nodes, after_at}
 use Rattle.triple_arena_surject.proofs.Relabelling.{along_none, leads_along, along_more, along_all}
-use Rattle.triple_arena_surject.proofs.States.{some_of_map}
+use Rattle.triple_arena_surject.proofs.Options.{some_of_map}
 use Rattle.triple_arena_surject.proofs.steps.ring.Goals as goal
 
 pub walk-init : goal.walk-init
 walk-init g c =
     rw c.new-all.ensures.items (record {
-      along = along_none g.P.Ptr.numbers (nodes c.args.keys.now) c.len-len.ensures.linked c.requires.0 c.args.count (g.P.Ptr.numbers c.args.from) c.requires.1 c.requires.2;
+      along = along_none g.P.Ptr.numbers (nodes c.args.keys.now) c.len-len.ensures.linked c.requires.round.0 c.args.count (g.P.Ptr.numbers c.args.from) c.requires.round.1 c.requires.round.2;
       count = refl;
     })
 

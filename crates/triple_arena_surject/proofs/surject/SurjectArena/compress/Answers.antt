@@ -1,15 +1,15 @@
-use Rattle.std.proofs.Common.{◌≡◌, false, [], ◌∷◌, sym, subst}
+use Rattle.std.proofs.Common.{◌≡◌, false, [], ◌∷◌, IsSome, refl, sym, subst}
 use Rattle.triple_arena_base.specs.Invalidation.{allowed_option}
-use Rattle.triple_arena_ptr.specs.Pointers.{Pointer}
 use Rattle.triple_arena.specs.Ending.{told}
 use Rattle.triple_arena.specs.Histories.{History, compression, begun_with, CountsUp, Continues}
 use Rattle.triple_arena.specs.Walks.{keys}
 use Rattle.triple_arena_chain.specs.Chains.{nodes}
-use Rattle.triple_arena_direct.specs.Renaming.{MapsPointers}
 use Rattle.triple_arena_surject.specs.Rings.{counts, IsSound}
-use Rattle.triple_arena_surject.specs.Surject.{IsRenamed, state_of}
+use Rattle.triple_arena_surject.specs.Surject.{key_of}
 use Rattle.triple_arena_chain.specs.laws.ResultLaws.{on_err}
-use Rattle.triple_arena_surject.proofs.Renaming.{sound_moved, renamed_state, there_after, maps_keys}
+use Rattle.triple_arena_surject.proofs.Options.{some_of_map}
+use Rattle.triple_arena_surject.proofs.States.{read}
+use Rattle.triple_arena_surject.proofs.Renaming.{sound_moved, renamed_state, maps_keys}
 use Rattle.triple_arena_surject.proofs.surject.SurjectArena.compress.Goals as goal
 
 pub invariant_of-self : goal.invariant_of-self
@@ -30,24 +30,19 @@ returns-clause-renamed g c =
     let keys = c.self.inside.keys in
     let keys' = c.compress.new.self in
     let sets = c.self.inside.sets in
-    let slots = g.B.ArenaTrait.slots sets in
-    let capacity = g.B.ArenaTrait.capacity sets in
-    let limit = g.B.ArenaTrait.limit sets in
     let moved = c.in-Ok.ensures.moved in
-    let images = (allowed_option c.in-Ok.answer).slots in
-    subst (λ s. (to : Pointer → Pointer) × MapsPointers numbers to s.keys images × IsRenamed s to (state_of numbers keys' slots capacity limit)) c.self.view_is (
+    let was = read numbers keys (g.B.ArenaTrait.slots sets) (g.B.ArenaTrait.capacity sets) (g.B.ArenaTrait.limit sets) c.args.self.now c.self.view_is in
+    let is = read numbers keys' (g.B.ArenaTrait.slots sets) (g.B.ArenaTrait.capacity sets) (g.B.ArenaTrait.limit sets) _ refl in (
       moved.0,
-      maps_keys numbers keys keys' moved.0 moved.2 c.len-before.ensures.counted c.len-after.ensures.counted c.compress.ensures.len slots capacity limit numbers images moved.1,
-      renamed_state numbers keys keys' moved.0 moved.2 c.len-before.ensures.counted c.len-after.ensures.counted c.compress.ensures.len slots capacity limit,
+      maps_keys numbers keys keys' moved.0 moved.2 c.len-before.ensures.counted c.len-after.ensures.counted c.compress.ensures.len was is numbers (allowed_option c.in-Ok.answer).slots moved.1,
+      renamed_state numbers keys keys' moved.0 moved.2 c.len-before.ensures.counted c.len-after.ensures.counted c.compress.ensures.len was is,
     )
 
 pub returns-clause-packed : goal.returns-clause-packed
 returns-clause-packed g c = λ p some.
     let sets = c.self.inside.sets in
-    let moved = c.in-Ok.ensures.moved in
-    c.in-Ok.ensures.packed p
-    (there_after g.P.Ptr.numbers c.self.inside.keys c.compress.new.self moved.0 moved.2 c.len-before.ensures.counted c.len-after.ensures.counted c.compress.ensures.len
-    (g.B.ArenaTrait.slots sets) (g.B.ArenaTrait.capacity sets) (g.B.ArenaTrait.limit sets) p some)
+    let is = read g.P.Ptr.numbers c.compress.new.self (g.B.ArenaTrait.slots sets) (g.B.ArenaTrait.capacity sets) (g.B.ArenaTrait.limit sets) _ refl in
+    c.in-Ok.ensures.packed p (some_of_map (key_of g.P.Ptr.numbers) (nodes c.compress.new.self p) (subst IsSome (is.keys p) some))
 
 pub returns-clause-answer : goal.returns-clause-answer
 returns-clause-answer g c = subst (λ s. c.in-Ok.answer ≡ told (g.A.CompactArenaTrait.compression_wraps s.arena false) (allowed_option c.in-Ok.answer)) c.self.view_is c.in-Ok.ensures.answer

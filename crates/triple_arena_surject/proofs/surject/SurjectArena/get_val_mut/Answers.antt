@@ -1,12 +1,12 @@
-use Rattle.std.proofs.Common.{rules, ◌≡◌, None, Some, IsSome, refl, sym, ap, ◌∙◌, subst}
+use Rattle.std.proofs.Common.{rules, ◌≡◌, Some, refl, sym, ap, ◌∙◌}
 use Rattle.std.specs.Option.{option_map}
 use Rattle.triple_arena.specs.Entries.{look_up}
 use Rattle.triple_arena_chain.specs.Chains.{nodes}
 use Rattle.triple_arena_chain.specs.laws.ResultLaws.{lends_alike}
 use Rattle.triple_arena_surject.specs.Rings.{counts}
-use Rattle.triple_arena_surject.specs.Surject.{found_at, set_at, val_at, with_val, IsValued, value_of}
-use Rattle.triple_arena_surject.proofs.Sound.{sound_recounted, none_there}
-use Rattle.triple_arena_surject.proofs.States.{shared_there, found_there, set_is, named_is, val_is}
+use Rattle.triple_arena_surject.specs.Surject.{set_at, with_val, value_of}
+use Rattle.triple_arena_surject.proofs.Sound.{sound_recounted}
+use Rattle.triple_arena_surject.proofs.States.{read, no_share, found_there, set_is, val_is}
 use Rattle.triple_arena_surject.proofs.Changes.{counts_written, state_written, valued_so}
 use Rattle.triple_arena_surject.proofs.surject.SurjectArena.get_val_mut.Goals as goal
 
@@ -26,32 +26,25 @@ returns g c =
     let keys = c.self.inside.keys in
     let sets = c.self.inside.sets in
     let slots = g.B.ArenaTrait.slots sets in
-    let room = g.B.ArenaTrait.capacity sets in
-    let most = g.B.ArenaTrait.limit sets in
     let p = numbers c.args.p in
     let name = numbers c.in_ok-set.set in
     let shared = c.in_ok-shared.shared.now in
     let found : look_up slots name ≡ Some shared = search rules in
-    let of = sym c.in_ok-set.ensures in (
+    let of = sym c.in_ok-set.ensures in
+    let is = read numbers keys slots (g.B.ArenaTrait.capacity sets) (g.B.ArenaTrait.limit sets) c.args.self.now c.self.view_is in (
       lends_alike _ _ _ (λ w.
-          state_written slots _ name shared w found (g.met.B.ArenaTrait.slots_with_value sets name.0 (record shared { value = w })) numbers keys p room _ most _ of
+          state_written slots _ name shared w found (g.met.B.ArenaTrait.slots_with_value sets name.0 (record shared { value = w })) numbers keys p (g.B.ArenaTrait.capacity sets) _ (g.B.ArenaTrait.limit sets) _ of
           (g.met.B.ArenaTrait.len_with_value sets name.0 (record shared { value = w })) (g.met.B.ArenaTrait.capacity_with_value sets name.0 (record shared { value = w }))
           (g.met.B.ArenaTrait.limit_with_value sets name.0 (record shared { value = w }))
           ∙ ap (λ s. with_val s (set_at s p) w) c.self.view_is),
       record {
-        value = subst (λ s. Some shared.value ≡ val_at s p) c.self.view_is (sym (val_is numbers keys slots room most p name of ∙ ap (option_map value_of) found));
-        some = (λ _. subst (λ s. IsSome (found_at s p)) c.self.view_is (found_there numbers keys slots room most p name of), λ _. refl);
+        value = sym (val_is is p name of ∙ ap (option_map value_of) found);
+        some = (λ _. found_there is p name of, λ _. refl);
         writes_back = tt;
-        written = λ _ value. subst (λ s. IsValued s p value (with_val s (set_at s p) value)) c.self.view_is
-            (valued_so _ p name shared.value value (set_is numbers keys slots room most p ∙ of) (named_is numbers keys slots room most name ∙ ap (option_map value_of) found));
+        written = λ _ value. valued_so c.args.self.now p name shared.value value (set_is is p ∙ of) (is.vals name ∙ ap (option_map value_of) found);
       },
     )
 
 pub returns-in_err-shared : goal.returns-in_err-shared
 returns-in_err-shared g c =
-    let s = c.self.inside in
-    let slots = g.B.ArenaTrait.slots s.sets in
-    let name = g.P.Ptr.numbers c.in_ok-set.set in
-    let none : look_up slots name ≡ None = sym c.in_err-shared.ensures.value in
-    absurd (none_there (look_up slots name) none
-    (shared_there g.P.Ptr.numbers s.keys slots (g.B.ArenaTrait.capacity s.sets) (g.B.ArenaTrait.limit s.sets) c.self.invariant (g.P.Ptr.numbers c.args.p) name (sym c.in_ok-set.ensures)))
+    absurd (no_share (g.B.ArenaTrait.slots c.self.inside.sets) c.self.invariant (g.P.Ptr.numbers c.args.p) (g.P.Ptr.numbers c.in_ok-set.set) (sym c.in_ok-set.ensures) (sym c.in_err-shared.ensures.value))

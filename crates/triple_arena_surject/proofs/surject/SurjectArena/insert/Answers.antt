@@ -1,33 +1,29 @@
 use Rattle.std.proofs.Common.{◌≤◌, [], ◌∷◌, IsSome, arith, sym, ap, ◌∙◌, subst, refl}
 use Rattle.std.specs.Option.{option_map}
 use Rattle.triple_arena.specs.Histories.{insertion, Continues}
-use Rattle.triple_arena_chain.specs.Chains.{ChainState, nodes, value_at}
-use Rattle.triple_arena_surject.specs.declared.member.Member.{Member}
+use Rattle.triple_arena.specs.laws.LookUpLaws.{found_mapped}
+use Rattle.triple_arena_chain.specs.Chains.{nodes}
 use Rattle.triple_arena_surject.specs.Rings.{counts, IsSound}
-use Rattle.triple_arena_surject.specs.Surject.{IsNewSet, IsSame, state_of}
+use Rattle.triple_arena_surject.specs.Surject.{IsSame, value_of, state_of}
 use Rattle.triple_arena_surject.proofs.Sound.{sound_alone, sound_recounted}
-use Rattle.triple_arena_surject.proofs.Changes.{new_set, put_back, found_same, named_same}
+use Rattle.triple_arena_surject.proofs.States.{read}
+use Rattle.triple_arena_surject.proofs.Changes.{new_set, put_back}
 use Rattle.triple_arena_surject.proofs.surject.SurjectArena.insert.Goals as goal
 
 pub invariant_of-self : goal.invariant_of-self
 invariant_of-self g c =
-    let numbers = g.P.Ptr.numbers in
-    let slots = g.B.ArenaTrait.slots c.self.inside.sets in
-    let slots' = g.B.ArenaTrait.slots c.put.new.sets in
-    sound_alone numbers (nodes c.self.inside.keys) (nodes c.put_alone.new.keys) (counts slots) (counts slots') c.self.invariant (numbers c.in-Ok-put_alone.p)
-    (record { key = c.args.key; set = c.in-Ok.set }) c.in-Ok-put_alone.ensures.alone (ap (option_map (λ s. s.keys)) c.in-Ok.ensures.free) (ap (option_map (λ s. s.keys)) c.in-Ok.ensures.found)
-    (λ d other. ap (option_map (λ s. s.keys)) (c.in-Ok.ensures.others d other))
+    let alone = c.in-Ok-put_alone.ensures.alone in
+    sound_alone g.P.Ptr.numbers (nodes c.self.inside.keys) (nodes c.put_alone.new.keys) (counts (g.B.ArenaTrait.slots c.self.inside.sets)) (counts (g.B.ArenaTrait.slots c.put.new.sets)) c.self.invariant
+    (g.P.Ptr.numbers c.in-Ok-put_alone.p) (record { key = c.args.key; set = c.in-Ok.set }) alone.free alone.found alone.values (λ d other. ap (option_map (λ s. s.keys)) (c.in-Ok.ensures.others d other))
+    alone.after alone.afters (ap (option_map (λ s. s.keys)) c.in-Ok.ensures.free) (ap (option_map (λ s. s.keys)) c.in-Ok.ensures.found)
 
 pub returns-in-Ok-put_alone-clause-inserted : goal.returns-in-Ok-put_alone-clause-inserted
 returns-in-Ok-put_alone-clause-inserted g c =
     let numbers = g.P.Ptr.numbers in
-    let slots = g.B.ArenaTrait.slots c.self.inside.sets in
-    let slots' = g.B.ArenaTrait.slots c.put.new.sets in
-    let p = numbers c.in-Ok-put_alone.p in
-    subst (λ s. IsNewSet s p c.args.key c.args.value (state_of numbers c.put_alone.new.keys slots' (g.B.ArenaTrait.capacity c.put.new.sets) (g.B.ArenaTrait.limit c.put.new.sets))) c.self.view_is
-    (new_set numbers c.self.inside.keys c.put_alone.new.keys slots slots' (g.B.ArenaTrait.capacity c.self.inside.sets) (g.B.ArenaTrait.capacity c.put.new.sets)
-    (g.B.ArenaTrait.limit c.self.inside.sets) (g.B.ArenaTrait.limit c.put.new.sets) c.self.invariant p (record { key = c.args.key; set = c.in-Ok.set }) c.args.value c.in-Ok-put_alone.ensures.alone
-    c.in-Ok.ensures.free c.in-Ok.ensures.found c.in-Ok.ensures.others)
+    let sets = c.put.new.sets in
+    new_set (read numbers c.self.inside.keys (g.B.ArenaTrait.slots c.self.inside.sets) _ _ c.args.self.now c.self.view_is)
+    (read numbers c.put_alone.new.keys (g.B.ArenaTrait.slots sets) (g.B.ArenaTrait.capacity sets) (g.B.ArenaTrait.limit sets) _ refl)
+    c.self.invariant (numbers c.in-Ok-put_alone.p) (record { key = c.args.key; set = c.in-Ok.set }) c.args.value c.in-Ok-put_alone.ensures.alone c.in-Ok.ensures.free c.in-Ok.ensures.found c.in-Ok.ensures.others
 
 pub returns-in-Ok-put_alone-clause-history : goal.returns-in-Ok-put_alone-clause-history
 returns-in-Ok-put_alone-clause-history g c =
@@ -35,37 +31,33 @@ returns-in-Ok-put_alone-clause-history g c =
 
 pub invariant_of-self-in-Err-put_alone : goal.invariant_of-self-in-Err-put_alone
 invariant_of-self-in-Err-put_alone g c =
-    let numbers = g.P.Ptr.numbers in
-    let slots = g.B.ArenaTrait.slots c.self.inside.sets in
-    let slots' = g.B.ArenaTrait.slots c.put.new.sets in
-    let last = g.B.ArenaTrait.slots c.take.new.sets in
-    let same = put_back slots slots' last (numbers c.in-Ok.set) c.in-Ok.ensures.free c.in-Ok.ensures.others c.take.ensures.gone c.take.ensures.others in
-    subst (λ k. IsSound numbers (nodes k) (counts last)) (sym c.in-Err-put_alone.ensures.refused)
-    (sound_recounted numbers (nodes c.self.inside.keys) (counts slots) (counts last) (λ d. ap (option_map (λ s. s.keys)) (same d)) c.self.invariant)
+    let slots = g.B.ArenaTrait.slots in
+    let last = slots c.take.new.sets in
+    let same = put_back (slots c.self.inside.sets) (slots c.put.new.sets) last (g.P.Ptr.numbers c.in-Ok.set) c.in-Ok.ensures.free c.in-Ok.ensures.others c.take.ensures.gone c.take.ensures.others in
+    subst (λ k. IsSound g.P.Ptr.numbers (nodes k) (counts last)) (sym c.in-Err-put_alone.ensures.refused)
+    (sound_recounted g.P.Ptr.numbers (nodes c.self.inside.keys) (counts (slots c.self.inside.sets)) (counts last) (λ d. ap (option_map (λ s. s.keys)) (same d)) c.self.invariant)
 
 pub returns-in-Err-put_alone-clause-refused : goal.returns-in-Err-put_alone-clause-refused
 returns-in-Err-put_alone-clause-refused g c =
-    let numbers = g.P.Ptr.numbers in
-    let capacity = g.B.ArenaTrait.capacity in
-    let limit = g.B.ArenaTrait.limit in
     let keys = c.self.inside.keys in
     let sets = c.self.inside.sets in
-    let slots = g.B.ArenaTrait.slots sets in
-    let slots' = g.B.ArenaTrait.slots c.put.new.sets in
-    let last = g.B.ArenaTrait.slots c.take.new.sets in
-    let refused = c.in-Err-put_alone.ensures.refused in
-    let same = put_back slots slots' last (numbers c.in-Ok.set) c.in-Ok.ensures.free c.in-Ok.ensures.others c.take.ensures.gone c.take.ensures.others in
+    let last = c.take.new.sets in
+    let slots = g.B.ArenaTrait.slots in
+    let capacity = g.B.ArenaTrait.capacity in
+    let limit = g.B.ArenaTrait.limit in
+    let same = put_back (slots sets) (slots c.put.new.sets) (slots last) (g.P.Ptr.numbers c.in-Ok.set) c.in-Ok.ensures.free c.in-Ok.ensures.others c.take.ensures.gone c.take.ensures.others in
     let fewer = c.take.ensures.len (subst IsSome (sym (c.take.ensures.answer ∙ c.in-Ok.ensures.found)) refl) in
-    let less : capacity sets ≤ capacity c.take.new.sets = omega (arith, c.in-Ok.ensures.capacity, c.take.ensures.capacity) in
-    subst (λ s. IsSame s (state_of numbers c.put_alone.new.keys last (capacity c.take.new.sets) (limit c.take.new.sets))) c.self.view_is
+    let less : capacity sets ≤ capacity last = omega (arith, c.in-Ok.ensures.capacity, c.take.ensures.capacity) in
+    subst (λ s. IsSame s (state_of g.P.Ptr.numbers c.put_alone.new.keys (slots last) (capacity last) (limit last))) c.self.view_is
+    (subst (λ k. IsSame (state_of g.P.Ptr.numbers keys (slots sets) (capacity sets) (limit sets)) (state_of g.P.Ptr.numbers k (slots last) (capacity last) (limit last))) (sym c.in-Err-put_alone.ensures.refused)
     (record {
-      keys = λ q. found_same numbers keys c.put_alone.new.keys slots last (capacity sets) (capacity c.take.new.sets) (limit sets) (limit c.take.new.sets) q (ap (λ k. value_at (nodes k) q) refused);
-      vals = λ d. named_same numbers keys c.put_alone.new.keys slots last (capacity sets) (capacity c.take.new.sets) (limit sets) (limit c.take.new.sets) d (same d);
-      arena = ap (λ (k : ChainState g.row.A.Denot (Member g.row.P.Denot g.row.K.Denot)). k.arena) refused;
-      len_keys = ap (λ (k : ChainState g.row.A.Denot (Member g.row.P.Denot g.row.K.Denot)). k.len) refused;
+      keys = λ q. refl;
+      vals = λ d. found_mapped value_of (slots last) d ∙ ap (option_map value_of) (same d) ∙ sym (found_mapped value_of (slots sets) d);
+      arena = refl;
+      len_keys = refl;
       len_vals = omega (arith, fewer, c.in-Ok.ensures.len);
-      key_capacity = subst (λ n. keys.capacity ≤ n) (sym (ap (λ (k : ChainState g.row.A.Denot (Member g.row.P.Denot g.row.K.Denot)). k.capacity) refused)) (omega arith);
-      key_limit = ap (λ (k : ChainState g.row.A.Denot (Member g.row.P.Denot g.row.K.Denot)). k.limit) refused;
+      key_capacity = omega arith;
+      key_limit = refl;
       val_capacity = less;
       val_limit = c.take.ensures.limit ∙ c.in-Ok.ensures.limit;
-    })
+    }))

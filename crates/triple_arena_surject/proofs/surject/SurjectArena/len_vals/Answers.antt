@@ -1,10 +1,5 @@
-use Rattle.std.proofs.Common.{subst}
-use Rattle.triple_arena_surject.specs.Surject.{EachHasOther}
-use Rattle.triple_arena_surject.proofs.States.{onto}
+use Rattle.triple_arena_surject.proofs.States.{read, onto}
 use Rattle.triple_arena_surject.proofs.surject.SurjectArena.len_vals.Goals as goal
 
 pub returns-clause-onto : goal.returns-clause-onto
-returns-clause-onto g c =
-    let s = c.self.inside in
-    subst EachHasOther c.self.view_is
-    (onto g.P.Ptr.numbers s.keys (g.B.ArenaTrait.slots s.sets) (g.B.ArenaTrait.capacity s.sets) (g.B.ArenaTrait.limit s.sets) c.self.invariant)
+returns-clause-onto g c = onto (read g.P.Ptr.numbers c.self.inside.keys (g.B.ArenaTrait.slots c.self.inside.sets) _ _ _ c.self.view_is) c.self.invariant

@@ -1,5 +1,4 @@
 use Rattle.std.proofs.Common.{inl, inr, refl, arith}
-use Rattle.triple_arena_surject.specs.Surject.{AreTogether}
 use Rattle.triple_arena_surject.proofs.States.{itself, never_both}
 use Rattle.triple_arena_surject.proofs.Unions.{twice}
 use Rattle.triple_arena_surject.proofs.surject.SurjectArena.union.Goals as goal
@@ -28,8 +27,7 @@ pub returns-then-second-first-clause-together : goal.returns-then-second-first-c
 returns-then-second-first-clause-together g c =
     let p = g.P.Ptr.numbers c.args.p in
     let q = g.P.Ptr.numbers c.args.q in
-    let ends : AreTogether c.args.self.now p p × AreTogether c.args.self.now q q = (itself c.args.self.now p (c.in-Some.ensures.there refl), itself c.args.self.now q (c.in-Some-len_key_set.ensures.there refl)) in
-    (c.take_in.ensures.united.joined p q).1 (inr (inl ends))
+    (c.take_in.ensures.united.joined p q).1 (inr (inl (itself c.args.self.now p (c.in-Some.ensures.there refl), itself c.args.self.now q (c.in-Some-len_key_set.ensures.there refl))))
 
 pub returns-then-second-first-clause-stays : goal.returns-then-second-first-clause-stays
 returns-then-second-first-clause-stays g c = λ r t is. (c.take_in.ensures.united.joined r t).1 (inl is)
@@ -38,8 +36,7 @@ pub returns-else-second-first-clause-together : goal.returns-else-second-first-c
 returns-else-second-first-clause-together g c =
     let p = g.P.Ptr.numbers c.args.p in
     let q = g.P.Ptr.numbers c.args.q in
-    let ends : AreTogether c.args.self.now p p × AreTogether c.args.self.now q q = (itself c.args.self.now p (c.in-Some.ensures.there refl), itself c.args.self.now q (c.in-Some-len_key_set.ensures.there refl)) in
-    (c.take_in-else-second-first.ensures.united.joined p q).1 (inr (inr ends))
+    (c.take_in-else-second-first.ensures.united.joined p q).1 (inr (inr (itself c.args.self.now p (c.in-Some.ensures.there refl), itself c.args.self.now q (c.in-Some-len_key_set.ensures.there refl))))
 
 pub returns-else-second-first-clause-stays : goal.returns-else-second-first-clause-stays
 returns-else-second-first-clause-stays g c = λ r t is. (c.take_in-else-second-first.ensures.united.joined r t).1 (inl is)

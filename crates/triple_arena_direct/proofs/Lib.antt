@@ -14,3 +14,4 @@ pub mod StrictAnswers
 mod StrictSteps
 mod StrictRetaining
 mod Draining
+mod StrictFiles

@@ -11,6 +11,7 @@ pub mod StrictRetain
 pub mod StrictCalls
 pub mod StrictInsertEntry
 pub mod StrictDrains
+pub mod StrictFiles
 pub mod Gone
 pub mod laws
 -- What clauses of callers name of the inner crate behind this door: direct arenas.

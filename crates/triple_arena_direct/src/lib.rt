@@ -27,7 +27,10 @@ pub use reading::Reading;
 pub use renaming::{compress_recast, compress_recast_with, compress_recaster, unresolved};
 pub use renaming_both::{compress_recast_both, compress_recast_both_with};
 pub use retaining::retain;
-pub use strict_arena::{StrictArena, StrictDrain, StrictInsertEntry, into_arena, renew};
+pub use strict_arena::{
+    StrictArena, StrictDrain, StrictInsertEntry, into_arena, load_strict_arena, renew,
+    save_strict_arena,
+};
 pub use three_parts::recast_three;
 pub use triple_arena::{
     Advancer, AllocError, Arena, ArenaCloneFromWith, ArenaDirectInsertEntryTrait,

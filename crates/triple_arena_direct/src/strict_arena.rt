@@ -14,6 +14,7 @@ mod both;
 mod compaction;
 mod drain;
 mod ending;
+mod files;
 mod insert_entry;
 mod insertion;
 mod leaving;
@@ -24,6 +25,7 @@ mod walks;
 mod writing;
 
 pub use drain::StrictDrain;
+pub use files::{load_strict_arena, save_strict_arena};
 pub use insert_entry::StrictInsertEntry;
 pub use leaving::{into_arena, renew};
 use std::alloc::Global;

@@ -31,6 +31,9 @@ pub enum Fault {
     /// An arena's free list isn't that of its free slots, each once.
     #[error("the free list of an arena is not that of its free slots")]
     FreeList,
+    /// An entry of a strict arena is of a generation past the counter.
+    #[error("an entry of a strict arena is of a generation past the counter")]
+    Counter,
     /// Bytes stand behind the last value.
     #[error("bytes stand behind the value")]
     Trailing,

@@ -1,10 +1,11 @@
 //! What holds of arenas that were written and read back.
 
-ghost use Rattle.std.specs.Prelude.{◌≡◌, map};
+ghost use Rattle.std.specs.Prelude.{◌≡◌, [], map};
 ghost use Rattle.std.specs.Option.{option_map};
 ghost use Rattle.triple_arena_ptr.specs.Pointers.{Pointer};
 ghost use Rattle.triple_arena_traits.specs.ArenaState.{ArenaState, map_entry};
 ghost use Rattle.triple_arena_traits.specs.Entries.{look_up};
+ghost use Rattle.triple_arena_traits.specs.Histories.{Fits, Continues};
 ghost use Rattle.triple_arena_traits.specs.Insertion.{next_pointer};
 ghost use Rattle.triple_arena_direct_arena.specs.DirectState.{DirectState};
 ghost use Rattle.triple_arena_snapshot.specs.ArenaCodings.{arena_content};
@@ -12,8 +13,8 @@ ghost use Rattle.triple_arena_snapshot.specs.ArenaCodings.{arena_content};
 use crate::codec::Codec;
 
 /// An arena with the contents of another answers as it does: each pointer finds a value of the same
-/// content, or nothing in both, and the next insertion gives the same pointer. So does an arena that
-/// was read, beside the one that was written.
+/// content, or nothing in both, the next insertion gives the same pointer, and each history of pointers
+/// that fitted the other fits it. So does an arena that was read, beside the one that was written.
 pub fn read_answers_as_written<T: Codec>()
     ensures look_ups { (written read : ArenaState T) (p : Pointer)
         → arena_content T.content read ≡ arena_content T.content written
@@ -22,6 +23,9 @@ pub fn read_answers_as_written<T: Codec>()
     ensures next { (written read : ArenaState T)
         → arena_content T.content read ≡ arena_content T.content written
         → next_pointer read ≡ next_pointer written }
+    ensures history { (written read : ArenaState T)
+        → arena_content T.content read ≡ arena_content T.content written
+        → Continues Fits written [] read }
     ensures direct_look_ups { (written read : DirectState T) (p : Pointer)
         → map (option_map (map_entry T.content)) read.slots
         ≡ map (option_map (map_entry T.content)) written.slots

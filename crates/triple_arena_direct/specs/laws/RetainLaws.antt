@@ -170,17 +170,18 @@ module _ {A P T F : Type 0} (numbers : P → Pointer) (step : F → P → MutBor
             ap (option_and_then (value_of_generation q.1)) now ∙ looked q.0 e.0 q.1 e.1 ∙ sym (ap (λ o. kept_if test made q (option_and_then (value_of_generation q.1) o)) is)
 
 -- so of a strict arena, whose closure sees the values alone
-module _ {P T F : Type 0} (numbers : P → Pointer) (step : F → P → Bor T → Bool → F → Type 0) (test : Pointer → T → Bool)
-    (answers : (f after : F) (p : P) (x : Bor T) (keeps : Bool) → step f p x keeps after → keeps ≡ test (numbers p) x.now) where
-  asked_is : (f after : F) (x : Pointer × T) (keeps : Bool) → AskedAt numbers step f x.0 x.1 keeps after → keeps ≡ test x.0 x.1
-  asked_is f after x keeps asked =
-      answers f after asked.pointer asked.shown keeps asked.called ∙ ap (λ p. test p asked.shown.now) asked.names ∙ ap (test x.0) asked.shows
+module _ {P T F : Type 0} (numbers : P → Pointer) (step : F → P → Bor T → Bool → F → Type 0) (test : Pointer → T → Bool) (f : F)
+    (answers : (after : F) (p : P) (x : Bor T) (keeps : Bool) → step f p x keeps after → (keeps ≡ test (numbers p) x.now) × (after ≡ f)) where
+  asked_is : (after : F) (x : Pointer × T) (keeps : Bool) → AskedAt numbers step f x.0 x.1 keeps after → (keeps ≡ test x.0 x.1) × (after ≡ f)
+  asked_is after x keeps asked =
+      let told = answers after asked.pointer asked.shown keeps asked.called in
+      (told.0 ∙ ap (λ p. test p asked.shown.now) asked.names ∙ ap (test x.0) asked.shows, told.1)
 
   -- an index without one of these entries keeps what it has
-  out_elsewhere : (f last : F) (es : List (Pointer × T)) (gone : List Pointer) → Sorts numbers step f es gone last → (i : ℕ)
+  out_elsewhere : (g last : F) (es : List (Pointer × T)) (gone : List Pointer) → Sorts numbers step g es gone last → (i : ℕ)
       → ((k : ℕ) (e : Pointer × T) → slice_get es k ≡ Some e → e.0.0 ≡ i → ⊥) → (s : ArenaState T) → entry (without_entries gone s) i ≡ entry s i
-  out_elsewhere f last [] gone sorts i away s = ap (λ ps. entry (without_entries ps s) i) sorts.0
-  out_elsewhere f last (x ∷ es) gone (keeps, after, others, asked, is, sorts) i away s =
+  out_elsewhere g last [] gone sorts i away s = ap (λ ps. entry (without_entries ps s) i) sorts.0
+  out_elsewhere g last (x ∷ es) gone (keeps, after, others, asked, is, sorts) i away s =
       ap (λ ps. entry (without_entries ps s) i) is ∙ by (λ t. out_elsewhere after last es others sorts i (λ k e at. away (suc k) e at) t) keeps
     where
       by : ((t : ArenaState T) → entry (without_entries others t) i ≡ entry t i) → (b : Bool) → entry (without_entries (cond b others (x.0 ∷ others)) s) i ≡ entry s i
@@ -190,11 +191,11 @@ module _ {P T F : Type 0} (numbers : P → Pointer) (step : F → P → Bor T �
           ∙ (slots-removed (λ n. n) s x.0.0 (removed (λ n. n) s x.0.0) refl).others i (λ same. away zero x refl (sym same))
 
   -- the entry that is asked first
-  out_first : (low : ℕ) (f last : F) (x : Pointer × T) (es : List (Pointer × T)) (gone : List Pointer) → IsRising low (map (λ e. e.0.0) (x ∷ es))
+  out_first : (low : ℕ) (last : F) (x : Pointer × T) (es : List (Pointer × T)) (gone : List Pointer) → IsRising low (map (λ e. e.0.0) (x ∷ es))
       → Sorts numbers step f (x ∷ es) gone last → (s : ArenaState T) → entry s x.0.0 ≡ Some (x.0.1, x.1)
       → entry (without_entries gone s) x.0.0 ≡ cond (test x.0 x.1) (Some (x.0.1, x.1)) None
-  out_first low f last x es gone rising (keeps, after, others, asked, is, sorts) s stands =
-      ap (λ ps. entry (without_entries ps s) x.0.0) is ∙ by keeps ∙ ap (λ b. cond b (Some (x.0.1, x.1)) None) (asked_is f after x keeps asked)
+  out_first low last x es gone rising (keeps, after, others, asked, is, sorts) s stands =
+      ap (λ ps. entry (without_entries ps s) x.0.0) is ∙ by keeps ∙ ap (λ b. cond b (Some (x.0.1, x.1)) None) (asked_is after x keeps asked).0
     where
       later : (t : ArenaState T) → entry (without_entries others t) x.0.0 ≡ entry t x.0.0
       later t = out_elsewhere after last es others sorts x.0.0 (λ k e at same. omega (arith, rising_at (x.0.0 + 1) es k e rising.1 at, same)) t
@@ -204,16 +205,17 @@ module _ {P T F : Type 0} (numbers : P → Pointer) (step : F → P → Bor T �
       by false = later (removed (λ n. n) s x.0.0) ∙ (slots-removed (λ n. n) s x.0.0 (removed (λ n. n) s x.0.0) refl).there
 
   -- and any of them
-  out_there : (low : ℕ) (f last : F) (es : List (Pointer × T)) (gone : List Pointer) → IsRising low (map (λ e. e.0.0) es)
+  out_there : (low : ℕ) (last : F) (es : List (Pointer × T)) (gone : List Pointer) → IsRising low (map (λ e. e.0.0) es)
       → Sorts numbers step f es gone last → (s : ArenaState T) (k : ℕ) (e : Pointer × T) → slice_get es k ≡ Some e → entry s e.0.0 ≡ Some (e.0.1, e.1)
       → entry (without_entries gone s) e.0.0 ≡ cond (test e.0 e.1) (Some (e.0.1, e.1)) None
-  out_there low f last [] gone rising sorts s k e at stands = absurd (cc)
-  out_there low f last (x ∷ es) gone rising sorts s zero e at stands =
+  out_there low last [] gone rising sorts s k e at stands = absurd (cc)
+  out_there low last (x ∷ es) gone rising sorts s zero e at stands =
       let same : x ≡ e = cc in
       subst (λ (y : Pointer × T). entry s y.0.0 ≡ Some (y.0.1, y.1) → entry (without_entries gone s) y.0.0 ≡ cond (test y.0 y.1) (Some (y.0.1, y.1)) None) same
-      (out_first low f last x es gone rising sorts s) stands
-  out_there low f last (x ∷ es) gone rising (keeps, after, others, asked, is, sorts) s (suc k) e at stands =
-      ap (λ ps. entry (without_entries ps s) e.0.0) is ∙ by (λ t here. out_there (x.0.0 + 1) after last es others rising.1 sorts t k e at here) keeps
+      (out_first low last x es gone rising sorts s) stands
+  out_there low last (x ∷ es) gone rising (keeps, after, others, asked, is, sorts) s (suc k) e at stands =
+      let same : Sorts numbers step f es others last = subst (λ g. Sorts numbers step g es others last) (asked_is after x keeps asked).1 sorts in
+      ap (λ ps. entry (without_entries ps s) e.0.0) is ∙ by (λ t here. out_there (x.0.0 + 1) last es others rising.1 same t k e at here) keeps
     where
       by : ((t : ArenaState T) → entry t e.0.0 ≡ Some (e.0.1, e.1) → entry (without_entries others t) e.0.0 ≡ cond (test e.0 e.1) (Some (e.0.1, e.1)) None) → (b : Bool)
           → entry (without_entries (cond b others (x.0 ∷ others)) s) e.0.0 ≡ cond (test e.0 e.1) (Some (e.0.1, e.1)) None
@@ -242,9 +244,9 @@ module _ {P T F : Type 0} (numbers : P → Pointer) (step : F → P → Bor T �
       own true is = ap (λ t. cond t (Some v) None) (eq_true g g refl) ∙ ap (λ t. cond t (Some v) None) is ∙ sym (ap (kept_if test (λ p w. w) (i, g)) (ap (λ t. cond t (Some v) None) (eq_true g g refl)))
       own false is = ap (λ t. cond t (Some v) None) is ∙ sym (ap (kept_if test (λ p w. w) (i, g)) (ap (λ t. cond t (Some v) None) (eq_true g g refl)))
 
-  out_found : (s : ArenaState T) (f last : F) (gone : List Pointer) → Sorts numbers step f (entries s.slots) gone last
+  out_found : (s : ArenaState T) (last : F) (gone : List Pointer) → Sorts numbers step f (entries s.slots) gone last
       → (q : Pointer) → look_up (without_entries gone s).slots q ≡ kept_if test (λ p v. v) q (look_up s.slots q)
-  out_found s f last gone sorts q = by_entry (entry s q.0) refl
+  out_found s last gone sorts q = by_entry (entry s q.0) refl
     where
       by_entry : (o : Option (ℕ × T)) → entry s q.0 ≡ o → look_up (without_entries gone s).slots q ≡ kept_if test (λ p v. v) q (look_up s.slots q)
       by_entry None none =
@@ -257,15 +259,15 @@ module _ {P T F : Type 0} (numbers : P → Pointer) (step : F → P → Bor T �
           let nth = nth_found s.slots p (rw found refl) in
           let value : nth.0 ≡ e.1 = same_Some _ _ (sym nth.2 ∙ found) in
           let at = entry_of_walk s.slots nth.1 p e.1 nth.3 (nth.4 ∙ ap Some value) in
-          let now = out_there 1 f last (entries s.slots) gone (rising_of_keys 1 (entries s.slots) (keys_rising s.slots)) sorts s nth.1 (p, e.1) at is in
+          let now = out_there 1 last (entries s.slots) gone (rising_of_keys 1 (entries s.slots) (keys_rising s.slots)) sorts s nth.1 (p, e.1) at is in
           ap (option_and_then (value_of_generation q.1)) now ∙ seen_if q.0 e.0 q.1 e.1 (test p e.1) refl
           ∙ sym (ap (λ o. kept_if test (λ p v. v) q (option_and_then (value_of_generation q.1) o)) is)
 
   -- under each pointer is what it found, where the closure keeps that
-  pub sorted_found : (raises : ℕ → ℕ) (s t : ArenaState T) (f last : F) (gone : List Pointer) → Sorts numbers step f (entries s.slots) gone last
+  pub sorted_found : (raises : ℕ → ℕ) (s t : ArenaState T) (last : F) (gone : List Pointer) → Sorts numbers step f (entries s.slots) gone last
       → IsTouched (ended_entries raises gone s) t → (q : Pointer) → look_up t.slots q ≡ kept_if test (λ p v. v) q (look_up s.slots q)
-  sorted_found raises s t f last gone sorts is q =
-      ap (λ (u : ArenaState T). look_up u.slots q) is.0 ∙ by_gone gone ∙ out_found s f last gone sorts q
+  sorted_found raises s t last gone sorts is q =
+      ap (λ (u : ArenaState T). look_up u.slots q) is.0 ∙ by_gone gone ∙ out_found s last gone sorts q
     where
       by_gone : (ps : List Pointer) → look_up (ended_entries raises ps s).slots q ≡ look_up (without_entries ps s).slots q
       by_gone [] = refl

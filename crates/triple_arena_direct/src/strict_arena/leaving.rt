@@ -1,6 +1,7 @@
 //! The ways out of a strict arena: what is in it leaves it, and its promise ends with it.
 
 ghost use Rattle.std.specs.Prelude.{◌≡◌, map, List, None, IsSome, IfOk, OnOk, true};
+ghost use Rattle.std.specs.Io.KnownBytes.{Appends};
 ghost use Rattle.std.specs.Result.{IfErr};
 ghost use Rattle.triple_arena_base.specs.Held.{held_all};
 ghost use Rattle.triple_arena_ptr.specs.Numbers.{first_generation};
@@ -11,15 +12,21 @@ ghost use Rattle.triple_arena_traits.specs.SlotSteps.{IsTouched};
 ghost use Rattle.triple_arena_traits.specs.Compression.{compressed, rank};
 ghost use Rattle.triple_arena_traits.specs.Walks.{keys, values};
 ghost use Rattle.triple_arena_traits.specs.Histories.{begun_with, Fits};
+ghost use Rattle.triple_arena_direct.specs.StrictFiles.{FitsStrictly};
+ghost use Rattle.triple_arena_snapshot.specs.ArenaCodings.{arena_content};
+ghost use Rattle.triple_arena_snapshot.specs.ArenaLayouts.{arena_coding};
+ghost use Rattle.triple_arena_snapshot.specs.Files.{file_of, SaveFails};
 ghost use Rattle.triple_arena_direct.specs.Renaming.{MapsPointers, first_unresolved, AreRenamed, IsFoundRenamed, Refuses};
 
 use super::StrictArena;
 use crate::compress_recast;
 use std::alloc::Global;
+use std::io::Write;
 use triple_arena::{Arena, ArenaSlot};
 use triple_arena_base::{CompactError, Recast};
 use triple_arena_direct_arena::DirectArena;
 use triple_arena_ptr::{Ptr, PtrGen};
+use triple_arena_snapshot::{Codec, GenerationCodec, SaveError, save_arena};
 use triple_arena_stack::NonZeroInxGenericStack;
 
 /// What is taken by value, so that its values leave it: strict arenas, over any stack. Callers have
@@ -37,6 +44,22 @@ pub trait Leaving<P: Ptr, T>: Sized {
     /// As [`into_arena`].
     fn open(self) -> Self::Arena
         ensures { inside result ≡ state self };
+
+    /// Writes its file, as [`crate::save_strict_arena`] does.
+    fn write_file<W: Write>(&self, alloc: Global, output: &mut W) -> Result<(), SaveError>
+    where
+        T: Codec,
+        P::Gen: GenerationCodec,
+        ensures written { OnOk result (Appends (W.contents output.old) (W.contents output.new)
+            (file_of ((arena_coding P.Inx.greatest P.Gen.width (state self.now).limit P.Gen.numbered
+            T.coding).encoding (arena_content T.content (state self.now))))) }
+        ensures fits { OnOk result (FitsStrictly P.Gen.generations.counting
+            (arena_coding P.Inx.greatest P.Gen.width (state self.now).limit P.Gen.numbered T.coding)
+            (arena_content T.content (state self.now))) }
+        ensures refused { IfErr result (λ e. SaveFails e (W.contents output.old)
+            (W.contents output.new) (file_of ((arena_coding P.Inx.greatest P.Gen.width
+            (state self.now).limit P.Gen.numbered T.coding).encoding
+            (arena_content T.content (state self.now))))) };
 
     /// As [`renew`].
     fn begin_anew(self, alloc: Global) -> Result<(Self, DirectArena<P, P>), (Self, CompactError<P>)>
@@ -81,6 +104,14 @@ impl<P: Ptr, T, S: NonZeroInxGenericStack<ArenaSlot<P, T>>> Leaving<P, T> for St
     fn open(self) -> Arena<P, T, S> {
         let StrictArena { arena } = self;
         arena
+    }
+
+    fn write_file<W: Write>(&self, alloc: Global, output: &mut W) -> Result<(), SaveError>
+    where
+        T: Codec,
+        P::Gen: GenerationCodec,
+    {
+        save_arena(&self.arena, alloc, output)
     }
 
     fn begin_anew(self, alloc: Global) -> Result<(Self, DirectArena<P, P>), (Self, CompactError<P>)>

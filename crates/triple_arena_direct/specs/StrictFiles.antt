@@ -1,0 +1,20 @@
+-- Files of strict arenas.
+use Rattle.std.specs.Prelude.{◌≡◌, ℕ, nat_lt, ◌&&◌, Bool, false, if◌then◌else◌, List, Option, Err, Ok}
+use Rattle.std.specs.List.{list_any}
+use Rattle.triple_arena_traits.specs.Walks.{keys}
+use Rattle.triple_arena_snapshot.specs.declared.fault.Fault.TheVariants.{Counter}
+use Rattle.triple_arena_snapshot.specs.Coding.{Coding, Reading, ◌>>=◌}
+
+module _ {K : Type 0} where
+  -- an entry is of a generation past the counter
+  abbrev pub is_any_past : (counter : ℕ) → List (Option (ℕ × K)) → Bool
+  is_any_past counter slots = list_any (λ p. nat_lt counter p.1) (keys slots)
+
+  -- what is read of a strict arena's file, by what is read of an arena's: where generations count, no entry may be of one past
+  -- the counter
+  abbrev pub up_to_counter : (counting : Bool) → Reading (List (Option (ℕ × K)) × (ℕ × List ℕ)) → Reading (List (Option (ℕ × K)) × (ℕ × List ℕ))
+  up_to_counter counting read = read >>= λ k. if counting && is_any_past k.1.0 k.0 then Err (Counter, 17) else Ok k
+
+  -- what fits in a file of a strict arena
+  abbrev pub FitsStrictly : (counting : Bool) → Coding (List (Option (ℕ × K)) × (ℕ × List ℕ)) → List (Option (ℕ × K)) × (ℕ × List ℕ) → Type 0
+  FitsStrictly counting coding k = coding.fits k × ((counting && is_any_past k.1.0 k.0) ≡ false)

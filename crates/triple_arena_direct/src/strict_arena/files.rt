@@ -1,0 +1,156 @@
+//! Strict arenas in files: each goes on in one place alone, here or where it is loaded.
+
+ghost use Rattle.std.specs.Prelude.{◌≡◌, ◌≢◌, ◌<◌, ◌^◌, ◌++◌, ◌∷◌, ◌&&◌, nat_lt, ℕ, List, Option, Some, Ok, [], true, OnOk, IfOk, IfErr, IfSome, IsErr};
+ghost use Rattle.std.specs.Io.KnownBytes.{Appends, IsAtEnd};
+ghost use Rattle.std.specs.Option.{option_map};
+ghost use Rattle.triple_arena_ptr.specs.Pointers.{Pointer};
+ghost use Rattle.triple_arena_traits.specs.Entries.{look_up};
+ghost use Rattle.triple_arena_traits.specs.ArenaState.{ArenaState};
+ghost use Rattle.triple_arena_traits.specs.Insertion.{next_pointer};
+ghost use Rattle.triple_arena_traits.specs.Walks.{keys};
+ghost use Rattle.triple_arena_traits.specs.Histories.{begun_with, Fits};
+ghost use Rattle.triple_arena_direct.specs.Gone.{IsGoneForGood};
+ghost use Rattle.triple_arena_direct.specs.StrictFiles.{is_any_past, up_to_counter, FitsStrictly};
+ghost use Rattle.triple_arena_snapshot.specs.ArenaCodings.{arena_content};
+ghost use Rattle.triple_arena_snapshot.specs.ArenaLayouts.{arena_coding};
+ghost use Rattle.triple_arena_snapshot.specs.Files.{file_of, file_reading, SaveFails, LoadsFrom};
+
+use super::StrictArena;
+use super::leaving::Leaving;
+use std::alloc::Global;
+use std::cmp::Ordering;
+use std::io::{Read, Write};
+use triple_arena::{Arena, ArenaSlot, ArenaTrait, CompactArenaTrait};
+use triple_arena_ptr::{Ptr, PtrGen};
+use triple_arena_snapshot::laws::read_answers_as_written;
+use triple_arena_snapshot::{Codec, Fault, GenerationCodec, LoadError, SaveError, load_arena};
+use triple_arena_stack::NonZeroInxGenericStack;
+
+/// Writes the file of a strict arena, which ends here, and goes on where the file is loaded, by
+/// [`load_strict_arena`]. The file is that of the arena inside, as
+/// [`triple_arena_snapshot::save_arena`] writes it; this arena comes back, as [`crate::into_arena`] gives
+/// it, for who has a use for its values yet.
+///
+/// Refused as there; then the strict arena comes back as it was.
+pub fn save_strict_arena<P: Ptr, T: Codec, A: Leaving<P, T>, W: Write>(
+    strict: A,
+    alloc: Global,
+    output: &mut W,
+) -> Result<A::Arena, (A, SaveError)>
+where
+    P::Gen: GenerationCodec,
+    ensures written { OnOk result (Appends (W.contents output.old) (W.contents output.new)
+        (file_of ((arena_coding P.Inx.greatest P.Gen.width (A.state strict).limit P.Gen.numbered
+        T.coding).encoding (arena_content T.content (A.state strict))))) }
+    ensures fits { OnOk result (FitsStrictly P.Gen.generations.counting
+        (arena_coding P.Inx.greatest P.Gen.width (A.state strict).limit P.Gen.numbered T.coding)
+        (arena_content T.content (A.state strict))) }
+    ensures inside { IfOk result (λ arena. A.inside arena ≡ A.state strict) }
+    ensures refused { IfErr result (λ old. A.state old.0 ≡ A.state strict) }
+    ensures cut { IfErr result (λ old. SaveFails old.1 (W.contents output.old)
+        (W.contents output.new) (file_of ((arena_coding P.Inx.greatest P.Gen.width
+        (A.state strict).limit P.Gen.numbered T.coding).encoding
+        (arena_content T.content (A.state strict))))) }
+{
+    match strict.write_file(alloc, output) {
+        Ok(()) => Ok(strict.open()),
+        Err(refusal) => Err((strict, refusal)),
+    }
+}
+
+/// The strict arena whose file the reader has left, over a stack without items: with its room and its
+/// limit. It goes on as the one that was saved: each pointer finds what it found (`found`), what was
+/// gone for good is (`gone`), and the next insertion gives the same pointer (`next`).
+///
+/// Of two loads of one file nothing is promised that holds of both together, nor of a file that
+/// [`save_strict_arena`] didn't write: they may give the same pointers.
+///
+/// Refused as [`triple_arena_snapshot::load_arena`]; and then with `Counter`, at the value's first
+/// byte, where generations count and an entry is of one past the counter.
+pub fn load_strict_arena<
+    P: Ptr,
+    T: Codec + Drop,
+    S: NonZeroInxGenericStack<ArenaSlot<P, T>> + Drop,
+    R: Read,
+>(stack: S, alloc: Global, input: &mut R) -> Result<StrictArena<P, T, S>, LoadError>
+where
+    P::Gen: GenerationCodec,
+    requires { S.items stack ≡ [] }
+    ensures read { IfSome (R.remaining input.old) (λ bytes. LoadsFrom (arena_content T.content) result
+        (up_to_counter P.Gen.generations.counting (file_reading (arena_coding P.Inx.greatest
+        P.Gen.width (S.limit stack) P.Gen.numbered T.coding).decoding bytes))) }
+    // What was saved is loaded, unless memory is refused or the reader fails.
+    ensures again { (k : List (Option (ℕ × T.Content)) × (ℕ × List ℕ))
+        → FitsStrictly P.Gen.generations.counting (arena_coding P.Inx.greatest P.Gen.width
+        (S.limit stack) P.Gen.numbered T.coding) k
+        → R.remaining input.old ≡ Some (file_of
+        ((arena_coding P.Inx.greatest P.Gen.width (S.limit stack) P.Gen.numbered T.coding).encoding k))
+        → LoadsFrom (arena_content T.content) result (Ok k) }
+    // A file of which one byte was changed is refused.
+    ensures change_found { (saved front rest : List ℕ) (b c : ℕ) → b < 256 → b ≢ c
+        → file_of saved ≡ front ++ b ∷ rest → R.remaining input.old ≡ Some (front ++ c ∷ rest)
+        → IsErr result }
+    ensures limit { IfOk result (λ strict. strict.limit ≡ S.limit stack) }
+    ensures end { OnOk result (IsAtEnd (R.remaining input.new)) }
+    ensures found { (saved : ArenaState T) → FitsStrictly P.Gen.generations.counting
+        (arena_coding P.Inx.greatest P.Gen.width (S.limit stack) P.Gen.numbered T.coding)
+        (arena_content T.content saved)
+        → R.remaining input.old ≡ Some (file_of ((arena_coding P.Inx.greatest P.Gen.width
+        (S.limit stack) P.Gen.numbered T.coding).encoding (arena_content T.content saved)))
+        → IfOk result (λ strict. (q : Pointer)
+        → option_map T.content (look_up strict.slots q) ≡ option_map T.content (look_up saved.slots q)) }
+    ensures next { (saved : ArenaState T) → FitsStrictly P.Gen.generations.counting
+        (arena_coding P.Inx.greatest P.Gen.width (S.limit stack) P.Gen.numbered T.coding)
+        (arena_content T.content saved)
+        → R.remaining input.old ≡ Some (file_of ((arena_coding P.Inx.greatest P.Gen.width
+        (S.limit stack) P.Gen.numbered T.coding).encoding (arena_content T.content saved)))
+        → IfOk result (λ strict. next_pointer strict ≡ next_pointer saved) }
+    ensures gone { (saved : ArenaState T) → FitsStrictly P.Gen.generations.counting
+        (arena_coding P.Inx.greatest P.Gen.width (S.limit stack) P.Gen.numbered T.coding)
+        (arena_content T.content saved)
+        → R.remaining input.old ≡ Some (file_of ((arena_coding P.Inx.greatest P.Gen.width
+        (S.limit stack) P.Gen.numbered T.coding).encoding (arena_content T.content saved)))
+        → IfOk result (λ strict. (q : Pointer) → IsGoneForGood saved q → IsGoneForGood strict q) }
+    ensures history { P.Gen.generations.counting ≡ true
+        → IfOk result (λ strict. Fits (begun_with (keys strict.slots)) strict) }
+{
+    // What is read answers as what was written.
+    read_answers_as_written::<T>();
+    let arena = load_arena(stack, alloc, input)?;
+    if is_past_counter(&arena) {
+        return Err(LoadError::Malformed(Fault::Counter, 17));
+    }
+    Ok(StrictArena { arena })
+}
+
+// Whether generations count, and an entry is of one past the counter.
+fn is_past_counter<P: Ptr, T, S: NonZeroInxGenericStack<ArenaSlot<P, T>>>(
+    arena: &Arena<P, T, S>,
+) -> bool
+    ensures { result ≡ (P.Gen.generations.counting
+        && is_any_past arena.now.counter arena.now.slots) }
+{
+    P::Gen::counts() && is_any_past(arena)
+}
+
+// Whether an entry is of a generation past the counter.
+fn is_any_past<P: Ptr, T, S: NonZeroInxGenericStack<ArenaSlot<P, T>>>(
+    arena: &Arena<P, T, S>,
+) -> bool
+    ensures { result ≡ is_any_past arena.now.counter arena.now.slots }
+{
+    let counter = arena.generation();
+    'entries: for p in arena.ptrs() {
+        if is_past(p.generation(), counter) {
+            return true;
+        }
+    }
+    false
+}
+
+// Whether a generation is past a counter.
+fn is_past<G: PtrGen>(generation: G, counter: G) -> bool
+    ensures { result ≡ nat_lt (G.number counter) (G.number generation) }
+{
+    generation.cmp(&counter) == Ordering::Greater
+}

@@ -4,6 +4,7 @@
 mod arenas;
 mod bytes;
 mod circuits;
+mod coupons;
 mod devices;
 mod files;
 mod flip_flop;

@@ -1,20 +1,26 @@
 //! A circuit that outlives its process: cells in one arena and nets in another, which point at each
-//! other, and one file of both. Each pointer that was given finds the same once the file is loaded.
+//! other, and one file of both.
+//!
+//! Its clauses say what is read under each pointer. Once a circuit is loaded, each pointer that was
+//! given finds what it found when it was saved, and the next cell and the next net get the pointers
+//! that they would have got.
 
-ghost use Rattle.std.specs.Prelude.{◌≡◌, ◌^◌, ℕ, List, Option, map, suc};
-ghost use Rattle.std.specs.Int.{w32, w64};
+ghost use Rattle.std.specs.Prelude.{◌≡◌, ◌≢◌, ◌∷◌, [], Option, None, Some, Ok, IfOk, IfErr, IfSome, OnOk, OnErr, option_copied};
+ghost use Rattle.std.specs.Io.KnownBytes.{Appends, IsAtEnd};
 ghost use Rattle.std.specs.Option.{option_map};
-ghost use Rattle.triple_arena_ptr.specs.Numbers.{greatest_index};
 ghost use Rattle.triple_arena_ptr.specs.Pointers.{Pointer};
-ghost use Rattle.triple_arena_snapshot.specs.Layouts.{both, list, number, option, pointer};
-ghost use Rattle.triple_arena_snapshot.specs.laws.CodingLaws.{wide32, wide64};
+ghost use Rattle.triple_arena.specs.Entries.{look_up};
+ghost use Rattle.triple_arena.specs.Insertion.{next_pointer};
+ghost use Rattle.triple_arena.specs.Histories.{Fits, Continues};
+ghost use Rattle.triple_arena_snapshot.specs.Files.{file_of, file_reading, LoadsFrom, SaveFails};
+ghost use Rattle.triple_arena_snapshot_uses.specs.Circuit.{Parts, p0_numbers, q2_numbers, cell_at, net_at, circuit_content, circuit_coding};
 
 use std::alloc::Global;
 use std::io::{Read, Write};
 use triple_arena::{Arena, ArenaInsertTrait, ArenaTrait};
 use triple_arena_base::{AllocError, ReallocationError};
 use triple_arena_ptr::{P0, Q2};
-use triple_arena_snapshot::{Codec, DecodeError, LoadError, SaveError, load, save};
+use triple_arena_snapshot::{Codec, DecodeError, LoadError, SaveError, laws, load, save};
 
 /// A cell: its kind, and the nets that it reads.
 #[derive(Debug, PartialEq, Drop)]
@@ -32,12 +38,13 @@ pub struct Net {
 
 /// The kind, and then the nets.
 impl Codec for Cell {
-    ghost Content = { ℕ × List Pointer };
+    ghost use Rattle.triple_arena_snapshot_uses.specs.Circuit.{CellRead, cell_read, cell_coding};
 
-    ghost content = { λ cell. (cell.kind, map (λ p. (suc p.0, suc p.1)) cell.reads.items) };
+    ghost Content = { CellRead };
 
-    ghost coding = { both (number w32 (2 ^ 32) wide32)
-        (list (pointer (number w64 (2 ^ 64) wide64) (number w64 (2 ^ 64) wide64))) };
+    ghost content = { cell_read };
+
+    ghost coding = { cell_coding };
 
     fn encode(&self, out: &mut Vec<u8>) -> Result<(), AllocError> {
         self.kind.encode(out)?;
@@ -54,12 +61,13 @@ impl Codec for Cell {
 
 /// The label, and then the driver.
 impl Codec for Net {
-    ghost Content = { ℕ × Option Pointer };
+    ghost use Rattle.triple_arena_snapshot_uses.specs.Circuit.{NetRead, net_read, net_coding};
 
-    ghost content = { λ net. (net.label, option_map (λ p. (suc p.0, suc p.1)) net.driver) };
+    ghost Content = { NetRead };
 
-    ghost coding = { both (number w64 (2 ^ 64) wide64)
-        (option (pointer (number w64 (2 ^ 64) wide64) (number w64 (2 ^ 64) wide64))) };
+    ghost content = { net_read };
+
+    ghost coding = { net_coding };
 
     fn encode(&self, out: &mut Vec<u8>) -> Result<(), AllocError> {
         self.label.encode(out)?;
@@ -83,45 +91,117 @@ pub struct Circuit {
 
 impl Circuit {
     /// A circuit without cells and nets.
-    pub fn new(alloc: Global) -> Self {
+    pub fn new(alloc: Global) -> Self
+        ensures cells { (c : Pointer) → cell_at result.parts c ≡ None }
+        ensures nets { (n : Pointer) → net_at result.parts n ≡ None }
+    {
         Circuit {
             parts: (Arena::new(alloc), Arena::new(alloc)),
         }
     }
 
-    /// A new cell that reads one net.
-    pub fn add_cell(&mut self, kind: u32, net: Q2, alloc: Global) -> Result<P0, ReallocationError> {
+    /// A new cell that reads one net, whether there is such a net or not.
+    ///
+    /// Refused where memory is, or where each index has a cell; then nothing changes.
+    pub fn add_cell(&mut self, kind: u32, net: Q2, alloc: Global) -> Result<P0, ReallocationError>
+        ensures found { IfOk result (λ c. cell_at self.new.parts (p0_numbers c)
+            ≡ Some (kind, q2_numbers net ∷ [])) }
+        ensures free { IfOk result (λ c. cell_at self.old.parts (p0_numbers c) ≡ None) }
+        ensures next { IfOk result (λ c. p0_numbers c ≡ next_pointer self.old.parts.0) }
+        ensures others { IfOk result (λ c. (q : Pointer) → q ≢ p0_numbers c
+            → cell_at self.new.parts q ≡ cell_at self.old.parts q) }
+        ensures nets { self.new.parts.1 ≡ self.old.parts.1 }
+        ensures refused { OnErr result (self.new ≡ self.old) }
+    {
         let reads = Vec::from_slice(alloc, &[net])?;
         self.parts.0.insert(Cell { kind, reads })
     }
 
-    /// A new net, which a cell drives, or none.
-    pub fn add_net(&mut self, label: u64, driver: Option<P0>) -> Result<Q2, ReallocationError> {
+    /// A new net, which a cell drives, or none, whether there is such a cell or not.
+    ///
+    /// Refused where memory is, or where each index has a net; then nothing changes.
+    pub fn add_net(&mut self, label: u64, driver: Option<P0>) -> Result<Q2, ReallocationError>
+        ensures found { IfOk result (λ n. net_at self.new.parts (q2_numbers n)
+            ≡ Some (label, option_map p0_numbers driver)) }
+        ensures free { IfOk result (λ n. net_at self.old.parts (q2_numbers n) ≡ None) }
+        ensures next { IfOk result (λ n. q2_numbers n ≡ next_pointer self.old.parts.1) }
+        ensures others { IfOk result (λ n. (q : Pointer) → q ≢ q2_numbers n
+            → net_at self.new.parts q ≡ net_at self.old.parts q) }
+        ensures cells { self.new.parts.0 ≡ self.old.parts.0 }
+        ensures refused { OnErr result (self.new ≡ self.old) }
+    {
         self.parts.1.insert(Net { label, driver })
     }
 
     /// The cell under a pointer.
-    pub fn cell(&self, c: P0) -> Option<&Cell> {
+    pub fn cell(&self, c: P0) -> Option<&Cell>
+        ensures { option_copied result ≡ look_up self.now.parts.0.slots (p0_numbers c) }
+    {
         self.parts.0.get(c)
     }
 
     /// The net under a pointer.
-    pub fn net(&self, n: Q2) -> Option<&Net> {
+    pub fn net(&self, n: Q2) -> Option<&Net>
+        ensures { option_copied result ≡ look_up self.now.parts.1.slots (q2_numbers n) }
+    {
         self.parts.1.get(n)
     }
 
-    /// Takes a net away.
-    pub fn remove_net(&mut self, n: Q2) -> Option<Net> {
+    /// Takes a net away, even if the counter of nets wraps. A cell that reads it keeps its pointer, which
+    /// finds nothing then.
+    pub fn remove_net(&mut self, n: Q2) -> Option<Net>
+        ensures taken { result ≡ look_up self.old.parts.1.slots (q2_numbers n) }
+        ensures gone { net_at self.new.parts (q2_numbers n) ≡ None }
+        ensures others { (q : Pointer) → q ≢ q2_numbers n → net_at self.new.parts q ≡ net_at self.old.parts q }
+        ensures cells { self.new.parts.0 ≡ self.old.parts.0 }
+    {
         self.parts.1.remove(n).allow()
     }
 
-    /// Writes both arenas as one file.
-    pub fn save<W: Write>(&self, alloc: Global, output: &mut W) -> Result<(), SaveError> {
+    /// Writes both arenas as one file, by writes alone: who passes a writer with a buffer flushes it.
+    ///
+    /// `Memory`, and no byte is written, or `Write`, where the writer failed: then a front of the file is,
+    /// and not all of it.
+    pub fn save<W: Write>(&self, alloc: Global, output: &mut W) -> Result<(), SaveError>
+        ensures written { OnOk result (Appends (W.contents output.old) (W.contents output.new)
+            (file_of (circuit_coding.encoding (circuit_content self.now.parts)))) }
+        ensures fits { OnOk result (circuit_coding.fits (circuit_content self.now.parts)) }
+        ensures refused { IfErr result (λ e. SaveFails e (W.contents output.old)
+            (W.contents output.new) (file_of (circuit_coding.encoding (circuit_content self.now.parts)))) }
+    {
         save(&self.parts, alloc, output)
     }
 
-    /// The circuit whose file the reader has left.
-    pub fn load<R: Read>(alloc: Global, input: &mut R) -> Result<Circuit, LoadError> {
+    /// The circuit whose file the reader has left, which is read to its end.
+    ///
+    /// `Memory` or `Read`, where memory is refused or the reader fails; or `Malformed`, with the first
+    /// fault in the file and its offset.
+    pub fn load<R: Read>(alloc: Global, input: &mut R) -> Result<Circuit, LoadError>
+        ensures read { IfSome (R.remaining input.old) (λ bytes. LoadsFrom (λ circuit. circuit_content circuit.parts) result
+            (file_reading circuit_coding.decoding bytes)) }
+        // Of the file of a circuit that was saved: each pointer finds what it found, the next ones are the
+        // same, and each history that fitted fits.
+        ensures again { (saved : Parts) → circuit_coding.fits (circuit_content saved)
+            → R.remaining input.old ≡ Some (file_of (circuit_coding.encoding (circuit_content saved)))
+            → LoadsFrom (λ circuit. circuit_content circuit.parts) result (Ok (circuit_content saved)) }
+        ensures cells { (saved : Parts) → circuit_coding.fits (circuit_content saved)
+            → R.remaining input.old ≡ Some (file_of (circuit_coding.encoding (circuit_content saved)))
+            → IfOk result (λ loaded. (c : Pointer) → cell_at loaded.parts c ≡ cell_at saved c) }
+        ensures nets { (saved : Parts) → circuit_coding.fits (circuit_content saved)
+            → R.remaining input.old ≡ Some (file_of (circuit_coding.encoding (circuit_content saved)))
+            → IfOk result (λ loaded. (n : Pointer) → net_at loaded.parts n ≡ net_at saved n) }
+        ensures next { (saved : Parts) → circuit_coding.fits (circuit_content saved)
+            → R.remaining input.old ≡ Some (file_of (circuit_coding.encoding (circuit_content saved)))
+            → IfOk result (λ loaded. (next_pointer loaded.parts.0 ≡ next_pointer saved.0)
+            × (next_pointer loaded.parts.1 ≡ next_pointer saved.1)) }
+        ensures history { (saved : Parts) → circuit_coding.fits (circuit_content saved)
+            → R.remaining input.old ≡ Some (file_of (circuit_coding.encoding (circuit_content saved)))
+            → IfOk result (λ loaded. Continues Fits saved.0 [] loaded.parts.0
+            × Continues Fits saved.1 [] loaded.parts.1) }
+        ensures end { OnOk result (IsAtEnd (R.remaining input.new)) }
+    {
+        laws::read_answers_as_written::<Cell>();
+        laws::read_answers_as_written::<Net>();
         match load(alloc, input) {
             Ok(parts) => Ok(Circuit { parts }),
             Err(refusal) => Err(refusal),

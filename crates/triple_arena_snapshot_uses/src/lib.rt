@@ -2,5 +2,7 @@
 #![tactic(auto)]
 
 pub mod circuit;
+pub mod coupons;
 
 pub use circuit::{Cell, Circuit, Net};
+pub use coupons::Coupons;

@@ -1,0 +1,35 @@
+-- Coupons, and their file.
+use Rattle.std.specs.Prelude.{ℕ, ◌^◌, ◌-◌, suc, Bool, true, List, Option, None}
+use Rattle.std.specs.Int.{w16, w64}
+use Rattle.triple_arena_ptr.specs.Numbers.{counting_to}
+use Rattle.triple_arena_ptr.specs.Pointers.{Pointer}
+use Rattle.triple_arena_ptr.specs.declared.P3.{P3}
+use Rattle.triple_arena.specs.ArenaState.{ArenaState}
+use Rattle.triple_arena_direct.specs.StrictAnswers.{is_exhausted}
+use Rattle.triple_arena_direct.specs.StrictFiles.{FitsStrictly}
+use Rattle.triple_arena_snapshot.specs.Coding.{Coding}
+use Rattle.triple_arena_snapshot.specs.Layouts.{number, positive}
+use Rattle.triple_arena_snapshot.specs.laws.CodingLaws.{wide16, wide64}
+use Rattle.triple_arena_snapshot.specs.ArenaCodings.{arena_content}
+use Rattle.triple_arena_snapshot.specs.ArenaLayouts.{arena_coding}
+use Rattle.triple_arena_snapshot.specs.Files.{file_of}
+
+-- the numbers of a coupon's index and of its generation
+abbrev pub coupon_numbers : P3 → Pointer
+coupon_numbers coupon = (suc coupon.0, suc coupon.1)
+
+-- were a coupon redeemed, it could be given again
+abbrev pub are_used_up : ArenaState ℕ → Bool
+are_used_up coupons = is_exhausted (counting_to (2 ^ 16 - 1)) coupons
+
+-- how coupons stand in a file
+abbrev pub coupon_coding : Coding (List (Option (ℕ × ℕ)) × (ℕ × List ℕ))
+coupon_coding = arena_coding (2 ^ 16 - 1) 2 None (positive (number w16 (2 ^ 16) wide16)) (number w64 (2 ^ 64) wide64)
+
+-- what fits in a file of coupons
+abbrev pub FitInFile : ArenaState ℕ → Type 0
+FitInFile coupons = FitsStrictly true coupon_coding (arena_content (λ n. n) coupons)
+
+-- their file
+abbrev pub file_of_coupons : ArenaState ℕ → List ℕ
+file_of_coupons coupons = file_of (coupon_coding.encoding (arena_content (λ n. n) coupons))

@@ -1,0 +1,3 @@
+-- What the clauses of users say.
+pub mod Circuit
+pub mod Coupons

@@ -1,5 +1,5 @@
 -- The first word of a line, by the bytes at the front, and what commands make of it.
-use Rattle.std.proofs.Common.{◌≡◌, ℕ, ◌+◌, ◌-◌, ◌*◌, ◌^◌, ◌<◌, ◌≤◌, Bool, true, false, cond, List, [], ◌∷◌, ◌++◌, Option, None, Some, suc, length, take, drop, slice_index, sym, ap, ◌∙◌, refl, subst, arith, nat_eq, take_all, take-append-drop, length-take-le, true≢false}
+use Rattle.std.proofs.Common.{◌≡◌, ℕ, ◌+◌, ◌-◌, ◌*◌, ◌^◌, ◌<◌, ◌≤◌, Bool, true, false, cond, List, [], ◌∷◌, ◌++◌, Option, None, Some, suc, length, take, drop, slice_index, sym, ap, ◌∙◌, refl, subst, arith, nat_eq, take_all, length-drop, take-append-drop, length-take-le, true≢false}
 use Rattle.std.specs.Prelude.{codes, ◌||◌}
 use Rattle.std.specs.Option.{option_map, option_and_then}
 use Rattle.std.specs.Char.{is_ascii_digit, digit_value}
@@ -259,6 +259,10 @@ module _ (verb : List ℕ) (made : ℕ → Command ℕ) (takes : (n : ℕ) → n
 
   number_after : (text : List ℕ) → option_map made (number_of text) ≡ command_of_words (verb ∷ words_of text)
   number_after text = let some = parts-some is_space text in by_words text some.0 some.1 some.2 ∙ sym (ap (λ words. command_of_words (verb ∷ words)) some.2)
+
+-- what follows the first bytes of a line, as a pattern of a slice gives it
+pub rest_after : (n : ℕ) (line : List ℕ) → take (length line - n) (drop n line) ≡ drop n line
+rest_after n line = take_all (length line - n) (drop n line) (omega (arith, length-drop n line))
 
 pub get_line : (line text : List ℕ) → line ≡ codes "get " ++ text → option_map Get (number_of text) ≡ command_of line
 get_line line text e = number_after (codes "get") Get (λ n. refl) (λ d l. refl) refl text ∙ sym (ap command_of e ∙ ap command_of_words (front_of (codes "get") text refl))

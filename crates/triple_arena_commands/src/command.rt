@@ -1,6 +1,6 @@
 //! Commands, and the lines that stand for them.
 
-ghost use Rattle.std.specs.Prelude.{◌≡◌, ◌∷◌, ◌++◌, ℕ, List, Some, IfSome, codes};
+ghost use Rattle.std.specs.Prelude.{◌≡◌, ◌∷◌, ℕ, List, Some, codes};
 ghost use Rattle.triple_arena_commands.specs.Lines.{words_of};
 ghost use Rattle.triple_arena_commands.specs.CommandText.{number_of, link_of, bare_of, numbered, linked, set_of, command_of_words, command_of};
 
@@ -49,45 +49,14 @@ pub enum Command<X> {
 pub fn parse_command(line: &[u8]) -> Option<Command<u64>>
     ensures { result ≡ command_of line.now }
 {
-    if let Some(rest) = after_get(line) {
-        Some(Command::Get(parse_number(rest)? as usize))
-    } else if let Some(rest) = after_insert(line) {
+    if let [b'g', b'e', b't', b' ', name @ ..] = line {
+        Some(Command::Get(parse_number(name)? as usize))
+    } else if let [b'i', b'n', b's', b'e', b'r', b't', b' ', rest @ ..] = line {
         parse_insertion(rest)
-    } else if let Some(rest) = after_remove(line) {
-        Some(Command::Remove(parse_number(rest)? as usize))
+    } else if let [b'r', b'e', b'm', b'o', b'v', b'e', b' ', name @ ..] = line {
+        Some(Command::Remove(parse_number(name)? as usize))
     } else {
         parse_any(line)
-    }
-}
-
-// Each of these gives what follows a verb and a space, where a line begins so.
-#[inline(always)]
-fn after_get(line: &[u8]) -> Option<&[u8]>
-    ensures { IfSome result (λ rest. line.now ≡ codes "get " ++ rest.now) }
-{
-    match line {
-        [b'g', b'e', b't', b' ', rest @ ..] => Some(rest),
-        _ => None,
-    }
-}
-
-#[inline(always)]
-fn after_insert(line: &[u8]) -> Option<&[u8]>
-    ensures { IfSome result (λ rest. line.now ≡ codes "insert " ++ rest.now) }
-{
-    match line {
-        [b'i', b'n', b's', b'e', b'r', b't', b' ', rest @ ..] => Some(rest),
-        _ => None,
-    }
-}
-
-#[inline(always)]
-fn after_remove(line: &[u8]) -> Option<&[u8]>
-    ensures { IfSome result (λ rest. line.now ≡ codes "remove " ++ rest.now) }
-{
-    match line {
-        [b'r', b'e', b'm', b'o', b'v', b'e', b' ', rest @ ..] => Some(rest),
-        _ => None,
     }
 }
 

@@ -221,7 +221,7 @@ fn make_place<T, K: NonZeroInxGenericStack<T>>(
         (K.limit stack.old) most_places → IsOk result }
     ensures refused { OnErr result (stack.new ≡ stack.old) }
 {
-    match stack.entry_push() {
+    match stack.entry_push_reallocating() {
         Ok(_entry) => Ok(()),
         Err(refusal) => Err(refusal),
     }

@@ -1,6 +1,6 @@
 //! The first line of a text, and the first word of a line.
 
-ghost use Rattle.std.specs.Prelude.{◌≡◌, ◌==◌, ◌+◌, ◌∷◌, length, position};
+ghost use Rattle.std.specs.Prelude.{◌≡◌, ◌+◌, ◌∷◌, length};
 ghost use Rattle.std.specs.Option.{option_copied};
 ghost use Rattle.triple_arena_commands.specs.Lines.{parts_of, parts_after, length_after};
 
@@ -12,14 +12,8 @@ pub fn split_first(bytes: &[u8], at: u8) -> (&[u8], Option<&[u8]>)
     ensures parts { parts_of at bytes.now ≡ result.0.now ∷ parts_after at (option_copied result.1) }
     ensures length { length result.0.now + length_after (option_copied result.1) ≡ length bytes.now }
 {
-    match position_of(bytes, at) {
+    match memchr(at, bytes) {
         Some(index) => (&bytes[..index], Some(&bytes[index + 1..])),
         None => (bytes, None),
     }
-}
-
-fn position_of(bytes: &[u8], at: u8) -> Option<usize>
-    ensures { result ≡ position (λ byte. byte == at) bytes.now }
-{
-    memchr(at, bytes)
 }

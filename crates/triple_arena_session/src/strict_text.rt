@@ -10,11 +10,11 @@ ghost use Rattle.triple_arena_session.specs.StrictText.{IsWholeTextRun, IsWholeF
 
 use crate::node::Node;
 use crate::strict_session::StrictSession;
-use crate::text::{read_and_run, run_and_flush};
+use crate::text::read_and_run;
 use std::alloc::Global;
 use std::io::{BufWriter, Read, Write};
 use triple_arena::ArenaSlot;
-use triple_arena_commands::TextError;
+use triple_arena_commands::{TextError, flush_after};
 use triple_arena_ptr::Ptr;
 use triple_arena_stack::NonZeroInxGenericStack;
 
@@ -90,5 +90,7 @@ pub fn run_text_strict_and_flush<
 {
     session.tell_begun();
     session.body.tell_arena_over_stack();
-    run_and_flush(&mut session.body, alloc, input, output)
+    let mut output = output;
+    let outcome = read_and_run(&mut session.body, alloc, input, &mut output);
+    flush_after(outcome, output)
 }

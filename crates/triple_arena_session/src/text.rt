@@ -55,7 +55,7 @@ pub fn run_text<P: Ptr, S: NonZeroInxGenericStack<ArenaSlot<P, Node<u64, P>>>, R
     read_and_run(&mut session.body, alloc, input, output)
 }
 
-/// The body of `run_text`, of a session of any arena: reads a text to its end and runs its lines. One over a
+/// The run of a text in a session of any arena: reads the text to its end and runs its lines. One over a
 /// strict arena stays sound (`kept`), also where the reader doesn't tell its bytes.
 pub(crate) fn read_and_run<
     P: Ptr,
@@ -109,30 +109,8 @@ pub fn run_text_and_flush<
     ensures arena { IsArenaOver S.kind session.old.arena }
 {
     session.body.tell_arena_over_stack();
-    run_and_flush(&mut session.body, alloc, input, output)
-}
-
-/// The body of `run_text_and_flush`, of a session of any arena: runs a text, and flushes the writer
-/// after it.
-pub(crate) fn run_and_flush<
-    P: Ptr,
-    S: NonZeroInxGenericStack<ArenaSlot<P, Node<u64, P>>>,
-    A: SessionArena<P, Node<u64, P>, S>,
-    R: Read,
-    W: Write + Drop,
->(
-    session: &mut SessionBody<P, u64, S, A>,
-    alloc: Global,
-    input: &mut R,
-    mut output: BufWriter<W>,
-) -> (Result<(), TextError>, W)
-    ensures run { IsFlushedRun (IsStepStrictIf A.strict S.kind S.has_memory P.Gen.generations)
-        (R.remaining input.old) result.0
-        session.old session.new (writer_contents W.contents output) (W.contents result.1) }
-    ensures kept { A.strict ≡ true → P.Gen.generations.counting ≡ true
-        → IsSound session.old → IsSound session.new }
-{
-    let outcome = read_and_run(session, alloc, input, &mut output);
+    let mut output = output;
+    let outcome = read_and_run(&mut session.body, alloc, input, &mut output);
     flush_after(outcome, output)
 }
 

@@ -228,7 +228,7 @@ impl<P: Ptr, T, S: NonZeroInxGenericStack<ArenaSlot<P, T>>> SessionArena<P, T, S
     where
         T: Drop,
     {
-        ArenaInsertTrait::insert(self, t)
+        ArenaInsertTrait::insert_reallocating(self, t)
     }
 
     fn remove(&mut self, p: P) -> InvalidationResult<T> {

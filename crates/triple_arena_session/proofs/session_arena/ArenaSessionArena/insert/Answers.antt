@@ -7,7 +7,7 @@ use Rattle.triple_arena_session.proofs.session_arena.ArenaSessionArena.insert.Go
 
 pub returns-clause-inserted : goal.returns-clause-inserted
 returns-clause-inserted g c =
-    uncounted-counted c.insert.result _ (inserted (grown g.S.NonZeroInxGenericStack.kind c.args.self.now) c.args.t) c.insert.new.self _ (uncounted-grown_inserted g.S.NonZeroInxGenericStack.kind c.args.self.now c.args.t) c.insert.ensures.inserted
+    uncounted-counted c.insert_reallocating.result _ (inserted (grown g.S.NonZeroInxGenericStack.kind c.args.self.now) c.args.t) c.insert_reallocating.new.self _ (uncounted-grown_inserted g.S.NonZeroInxGenericStack.kind c.args.self.now c.args.t) c.insert_reallocating.ensures.inserted
 
 pub returns-clause-had_place : goal.returns-clause-had_place
-returns-clause-had_place g c = λ less. let had = c.insert.ensures.had_place less in (had.0, ap uncounted had.1 ∙ uncounted-inserted c.args.self.now c.args.t)
+returns-clause-had_place g c = λ less. let had = c.insert_reallocating.ensures.had_place less in (had.0, ap uncounted had.1 ∙ uncounted-inserted c.args.self.now c.args.t)

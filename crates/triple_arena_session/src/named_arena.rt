@@ -8,7 +8,7 @@ ghost use Rattle.triple_arena_traits.specs.ArenaState.{arena_len, capacity, map_
 ghost use Rattle.triple_arena_traits.specs.Histories.{AreDistinct};
 ghost use Rattle.triple_arena_session.specs.SessionState.{new_session, node_of, named, link_name, link_pointer};
 ghost use Rattle.triple_arena_session.specs.SessionRun.{IsStep, refusal};
-ghost use Rattle.triple_arena_session.specs.Shown.{IsSound, IsArenaOver};
+ghost use Rattle.triple_arena_session.specs.Shown.{IsSound};
 ghost use Rattle.triple_arena_session.specs.StrictSession.{raises_counter, is_refused};
 ghost use Rattle.triple_arena_session.specs.SessionLayout.{refuses, IsStepStrictIf};
 
@@ -138,16 +138,6 @@ impl<
             Command::Reserve(count) => self.reserve(count),
             Command::Show => self.show(),
         }
-    }
-
-    // Tells what is true of the arena of any session, and does nothing.
-    pub(crate) fn tell_arena_over_stack(&self)
-        ensures over { IsArenaOver S.kind self.now.arena }
-        ensures within { self.now.arena.counter ≤ P.Gen.generations.greatest }
-    {
-        let _len = self.arena.len();
-        let _limit = self.arena.max_capacity();
-        let _is_at_greatest = self.arena.is_at_greatest();
     }
 
     fn insert(&mut self, datum: X, link: Option<usize>) -> Reply<X>

@@ -83,7 +83,10 @@ impl<
         ensures over { IsArenaOver S.kind self.now.arena }
         ensures within { self.now.arena.counter ≤ P.Gen.generations.greatest }
     {
-        self.named.tell_arena_over_stack();
+        let arena = &self.named.arena;
+        let _len = arena.len();
+        let _limit = arena.max_capacity();
+        let _is_at_greatest = arena.is_at_greatest();
     }
 
     /// The body of `step`: the reply to a command, and what it leaves. Over a strict arena it is `Exhausted`
@@ -94,7 +97,7 @@ impl<
         ensures { IsStepStrictIf A.strict S.kind S.has_memory P.Gen.generations
             self.old command result self.new }
     {
-        self.named.tell_arena_over_stack();
+        self.tell_arena_over_stack();
         let reply = self.named.answer(command, self.sound);
         self.sound &= !reply.tells_of_wrap();
         reply

@@ -61,7 +61,7 @@ impl<P: Ptr, T, A: CompactArenaTrait<P, Link<P, T>> + ArenaInsertTrait<P, Link<P
         ensures history { IfOk result (λ q. Continues A.fits self.old.arena
             (insertion (P.numbers q) ∷ []) self.new.arena) }
     {
-        // By its clauses, how lists of pointers follow an insertion.
+        // How lists of pointers follow an insertion.
         chains_as_lists::<T>();
         match self.after(last) {
             Some(_next) => Err(ChainError::Taken),

@@ -60,7 +60,7 @@ impl<P: Ptr, T, A: CompactArenaTrait<P, Link<P, T>> + ArenaInsertTrait<P, Link<P
         ensures begun { OnOk result ((h : History) → A.fits h self.old.arena
             → A.fits (begun_with (keys (A.slots self.new.arena))) self.new.arena) }
     {
-        // By its clauses, a refusal tells of a pointer that finds nothing, or of memory.
+        // A refusal tells of a pointer that finds nothing, or of memory.
         arenas_resolve::<P, Link<P, T>, Link<P, T>>();
         let Ok(answer) = compress_recast(&mut self.arena, alloc, false) else {
             return Err(ChainError::NoMemory);

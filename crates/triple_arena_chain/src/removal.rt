@@ -87,7 +87,7 @@ impl<P: Ptr, T, A: CompactArenaTrait<P, Link<P, T>> + ArenaInsertTrait<P, Link<P
         ensures none { result ≡ None → IsAlone (nodes self.now) (P.numbers p) }
         ensures linked { IsLinked (nodes self.now) }
     {
-        // By its clauses, neighbours lead to each other.
+        // Neighbours lead to each other.
         let _len = self.len();
         match other(p, self.after(p)) {
             Some(q) => Some(q),

@@ -116,7 +116,7 @@ impl<P: Ptr, T, A: CompactArenaTrait<P, Link<P, T>> + ArenaInsertTrait<P, Link<P
         ensures nothing { nodes self.now (P.numbers p) ≡ None
             → IfOk result (λ all. all.items ≡ []) }
     {
-        // By its clauses, neighbours lead to each other, and entries are counted.
+        // Neighbours lead to each other, and entries are counted.
         let _len = self.len();
         walks_along_chains::<T>();
         let mut all = Vec::new(alloc);

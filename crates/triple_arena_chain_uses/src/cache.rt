@@ -69,7 +69,7 @@ impl<T> Cache<T> {
         let ring = uses.join(bare, bare);
         // It had no neighbour, so it has itself for one now.
         ring.unwrap();
-        // By its clauses, neighbours lead to each other.
+        // Neighbours lead to each other.
         let _len = uses.len();
         let places = HashMap::new(alloc);
         Ok(Cache {
@@ -181,7 +181,7 @@ impl<T> Cache<T> {
         let Some(_value) = self.peek(key) else {
             return Err(value);
         };
-        // By its clauses, no more keys than are kept.
+        // No more keys than are kept.
         let _len = self.len();
         let turned = self.give_way(key, key, Some(value));
         // Memory is refused to a new key alone.
@@ -285,7 +285,7 @@ impl<T> Cache<T> {
         if !have_place(&mut self.places, gone, key) {
             return Err(ChainError::NoMemory);
         }
-        // By its clauses, no more entries than fit.
+        // No more entries than fit.
         let _len = self.uses.len();
         let place = self.places.get(&gone);
         let at = place.unwrap();

@@ -90,7 +90,7 @@ pub(crate) fn payload_of(alloc: Global, bytes: &[u8]) -> Result<&[u8], LoadError
     ensures few { length bytes.now < 2 ^ 64 }
     ensures small { (i : ℕ) → get_or bytes.now i 0 < 256 }
 {
-    // By its clause, there are no more than fit.
+    // There are no more than fit.
     let _len = bytes.len();
     match payload_in(alloc, bytes) {
         Ok(payload) => Ok(payload),

@@ -60,7 +60,7 @@ impl<
         ensures begun { OnOk result ((h : History) → A.fits h self.old.arena
             → A.fits (begun_with (keys (A.slots self.new.arena))) self.new.arena) }
     {
-        // By its clauses, keys are counted.
+        // Keys are counted.
         let _before = self.keys.len();
         let Ok(answer) = self.keys.compress(alloc) else {
             return Err(SurjectError::NoMemory);

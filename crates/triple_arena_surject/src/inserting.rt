@@ -112,7 +112,7 @@ impl<
         let Some(set) = set_of(&self.keys, p) else {
             return Err(SurjectError::NoEntry);
         };
-        // By its clauses, neighbours lead to each other.
+        // Neighbours lead to each other.
         let _len = self.keys.len();
         let count = size_of(&self.sets, set);
         match self.keys.insert(Place::After(p), Member { key, set }) {

@@ -78,7 +78,7 @@ impl<
         ensures fewer { HasOneLess self.old self.new }
         ensures history { Continues A.fits self.old.arena [] self.new.arena }
     {
-        // By its clauses, neighbours lead to each other.
+        // Neighbours lead to each other.
         let _len = self.keys.len();
         let first = set_of(&self.keys, kept);
         let set = first.unwrap();
@@ -89,7 +89,7 @@ impl<
         let out = taken.unwrap();
         relabel(&mut self.keys, gone, out.keys, set);
         splice(&mut self.keys, kept, gone);
-        // By its clauses, there are at least as many keys as both sets have.
+        // There are at least as many keys as both sets have.
         let _all = self.keys.len();
         count_keys(&mut self.sets, set, count + out.keys);
         out.value

@@ -61,7 +61,7 @@ impl<
         let Some(set) = set_of(&self.keys, p) else {
             return Err(SurjectError::NoEntry);
         };
-        // By its clauses, neighbours lead to each other.
+        // Neighbours lead to each other.
         let _len = self.keys.len();
         let removed = self.keys.remove(p);
         let answer = removed.unwrap();
@@ -101,14 +101,14 @@ impl<
         let Some(set) = set_of(&self.keys, p) else {
             return Err(SurjectError::NoEntry);
         };
-        // By its clauses, neighbours lead to each other.
+        // Neighbours lead to each other.
         let _len = self.keys.len();
         let taken = take(&mut self.sets, set);
         let out = taken.unwrap();
         let removed = self.keys.remove_chain(p);
         let answer = removed.unwrap();
         let (_keys, wrapped) = answer.overflowing();
-        // By its clauses, keys are counted.
+        // Keys are counted.
         let _left = self.keys.len();
         Ok(telling(wrapped, out.value))
     }

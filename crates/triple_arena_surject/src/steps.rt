@@ -260,7 +260,7 @@ pub(crate) fn splice<
     ensures limit { keys.new.limit ≡ keys.old.limit }
     ensures history { Continues A.fits keys.old.arena [] keys.new.arena }
 {
-    // By its clauses, neighbours lead to each other.
+    // Neighbours lead to each other.
     let _len = keys.len();
     let after_p = keys.after(p);
     let next = after_p.unwrap();
@@ -293,7 +293,7 @@ pub(crate) fn relabel<
     ensures limit { keys.new.limit ≡ keys.old.limit }
     ensures history { Continues A.fits keys.old.arena [] keys.new.arena }
 {
-    // By its clauses, neighbours lead to each other.
+    // Neighbours lead to each other.
     let _len = keys.len();
     let mut at = from;
     'round: for turn in 0..count {
@@ -320,7 +320,7 @@ pub(crate) fn ring<
         × IsRound P.numbers (nodes keys.now) c count (P.numbers from) rest
         × (map P.numbers all.items ≡ P.numbers from ∷ rest)) }
 {
-    // By its clauses, neighbours lead to each other.
+    // Neighbours lead to each other.
     let _len = keys.len();
     let mut all = Vec::new(alloc);
     let mut at = from;

@@ -147,7 +147,7 @@ impl<
         ensures there { IsSome result → IsSome (found_at self.now (P.numbers p)) }
         ensures fits { IfSome result (λ n. n ≤ self.now.len_keys) }
     {
-        // By its clauses, neighbours lead to each other, and keys are counted.
+        // Neighbours lead to each other, and keys are counted.
         let _len = self.keys.len();
         let set = set_of(&self.keys, p)?;
         match self.sets.get(set) {

@@ -26,7 +26,7 @@ impl<
     {
         match set_of(&self.keys, p) {
             Some(set) => {
-                // By its clauses, neighbours lead to each other.
+                // Neighbours lead to each other.
                 let _len = self.keys.len();
                 let count = size_of(&self.sets, set);
                 ring(&self.keys, p, count, alloc)

@@ -24,7 +24,7 @@ use triple_arena_ptr::{Ptr, PtrInx};
 
 /// Writes an arena's bytes at the end of `out`: the greatest index of its pointers, the width of
 /// their generations, its slots, its counter, and the free indexes in the order in which insertion
-/// takes them. Where memory is refused, some of them may stand there.
+/// takes them. Where memory is refused, nothing is said of what stands in `out`.
 pub fn encode_arena<P: Ptr, T: Codec, S: NonZeroInxGenericStack<ArenaSlot<P, T>>>(
     arena: &Arena<P, T, S>,
     out: &mut Vec<u8>,
@@ -38,8 +38,8 @@ where
         ((arena_coding P.Inx.greatest P.Gen.width arena.now.limit P.Gen.numbered T.coding).fits
         (arena_content T.content arena.now)) }
 {
-    // By their clauses, there are no more slots than limit and indexes allow, and the free list is
-    // that of the free ones.
+    // There are no more slots than limit and indexes allow, and the free list is that of the free
+    // ones.
     let _capacity = arena.capacity();
     let _len = arena.len();
     encode_header::<P>(out)?;
@@ -67,7 +67,7 @@ where
     let (stack, rest) = decode_stack(stack, P::Inx::max_index().get(), alloc, rest)?;
     let (counter, rest) = P::Gen::decode_generation(alloc, rest)?;
     let (free, behind) = <Vec<NonZeroUsize> as Codec>::decode(alloc, rest)?;
-    // By its clause, there are no more slots than fit.
+    // There are no more slots than fit.
     let _capacity = stack.capacity();
     let indexes = free.as_slice();
     let ordered = are_free::<P, T>(stack.as_slice(), indexes, alloc)?;
@@ -118,7 +118,7 @@ fn first_free<P: Ptr, T, S: NonZeroInxGenericStack<ArenaSlot<P, T>>>(
 ) -> Option<NonZeroUsize>
     ensures { option_map non_zero_usize_get result ≡ slice_get arena.now.free 0 }
 {
-    // By their clauses, it is that of a slot, and these are within the indexes.
+    // The first free index is that of a slot, and slots are within the indexes.
     let _capacity = arena.capacity();
     let _len = arena.len();
     P::Inx::try_into_usize(arena.freelist_root()?)

@@ -10,7 +10,8 @@ use triple_arena_base::AllocError;
 /// A value that can be written as bytes and read back.
 ///
 /// Of a value its `content` is written: the value without where it lies in memory. The `coding` says
-/// which bytes a content has and what is read of bytes, and has the law that ties both.
+/// which bytes a content has and what is read of bytes, and has the law that ties both. What of a value
+/// its content leaves out doesn't come back.
 pub trait Codec {
     // what is written of a value, and of what type that is
     ghost Content: { Type 0 };
@@ -20,8 +21,8 @@ pub trait Codec {
     // how contents stand as bytes
     ghost coding: { Coding Content };
 
-    /// Writes the value's bytes at the end of `out`. Where memory is refused, some of them may stand
-    /// there.
+    /// Writes the value's bytes at the end of `out`. Where memory is refused, nothing is said of what
+    /// stands there.
     fn encode(&self, out: &mut Vec<u8>) -> Result<(), AllocError>
         ensures written { OnOk result
             (out.new.items ≡ out.old.items ++ coding.encoding (content self.now)) }

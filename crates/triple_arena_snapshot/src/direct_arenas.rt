@@ -56,7 +56,8 @@ where
 }
 
 /// Writes a direct arena's bytes at the end of `out`: the greatest index of its pointers, the width
-/// of their generations, and its slots. Where memory is refused, some of them may stand there.
+/// of their generations, and its slots. Where memory is refused, nothing is said of what stands in
+/// `out`.
 pub fn encode_direct_arena<P: Ptr, T: Codec, S: NonZeroInxGenericStack<DirectSlot<P, T>>>(
     arena: &DirectArena<P, T, S>,
     out: &mut Vec<u8>,
@@ -70,7 +71,7 @@ where
         ((direct_arena_coding P.Inx.greatest P.Gen.width arena.now.limit P.Gen.numbered T.coding).fits
         (map (option_map (map_entry T.content)) arena.now.slots)) }
 {
-    // By its clauses, there are no more slots than limit and indexes allow.
+    // There are no more slots than limit and indexes allow.
     let _capacity = arena.capacity();
     encode_header::<P>(out)?;
     encode_items(arena.backing().as_slice(), out)

@@ -13,11 +13,11 @@ pub enum Fault {
     /// The bytes end within a value.
     #[error("the bytes end within a value")]
     Cut,
-    /// A byte is neither of the two that may stand there.
-    #[error("a byte is neither of the two that may stand there")]
+    /// A byte is none of those that may stand there.
+    #[error("a byte is none of those that may stand there")]
     Flag,
-    /// An index or a generation is 0.
-    #[error("an index or a generation is 0")]
+    /// A number is 0 that may not be: an index, a generation, or a `NonZero` number.
+    #[error("a number is 0 that may not be")]
     Zero,
     /// A text isn't UTF-8.
     #[error("a text is not UTF-8")]
@@ -55,7 +55,7 @@ pub enum DecodeError {
     #[error("memory was refused")]
     Memory,
     /// The first fault in the bytes, and how many bytes were left where what it is about begins.
-    #[error("no such value, {1} bytes before the end: {0}")]
+    #[error("malformed {1} bytes before the end: {0}")]
     Malformed(Fault, usize),
 }
 
@@ -81,11 +81,11 @@ pub enum LoadError {
     /// Memory was refused.
     #[error("memory was refused")]
     Memory,
-    /// The reader failed, or hadn't ended after so many reads that it isn't read on.
+    /// The reader failed, or hadn't ended after as many reads as std's `read_to_end` makes.
     #[error("the reader failed")]
     Read,
     /// The first fault in the file, and the offset at which what it is about begins.
-    #[error("no such file at byte {1}: {0}")]
+    #[error("malformed at byte {1}: {0}")]
     Malformed(Fault, usize),
 }
 

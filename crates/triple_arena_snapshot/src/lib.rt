@@ -1,5 +1,5 @@
-//! Values as bytes, and read back: numbers, pointers, what is made of them, and arenas. It
-//! stands beside the doors, apart because none of them needs it.
+//! Values as bytes, and read back: numbers, pointers, what is made of them, and arenas. Strict arenas have their files in
+//! `triple_arena_direct`, which stands on it. It is a door.
 #![tactic(auto)]
 
 mod arena_slots;
@@ -17,6 +17,7 @@ mod non_zero;
 mod numbers;
 mod pointers;
 mod saving;
+mod signed;
 mod stacks;
 
 pub use arenas::{decode_arena, encode_arena};

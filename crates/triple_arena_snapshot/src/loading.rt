@@ -45,8 +45,9 @@ pub fn load<T: Codec + Drop, R: Read>(alloc: Global, input: &mut R) -> Result<T,
     }
 }
 
-/// The arena whose file the reader has left, over a stack without items: with its room and its limit.
-/// All else is as at [`load`].
+/// The arena whose file the reader has left, over a stack without items, whose limit it has, and whose
+/// room grows where the slots need more. Where it is refused the stack is gone. All else is as at
+/// [`load`].
 pub fn load_arena<
     P: Ptr,
     T: Codec + Drop,
@@ -78,8 +79,8 @@ where
     }
 }
 
-/// The direct arena whose file the reader has left, over a stack without items: with its room and its
-/// limit. All else is as at [`load`].
+/// The direct arena whose file the reader has left, over a stack without items, as [`load_arena`]. All
+/// else is as at [`load`].
 pub fn load_direct_arena<
     P: Ptr,
     T: Codec + Drop,

@@ -2,14 +2,14 @@
 
 ghost use Rattle.std.specs.Prelude.{◌≡◌, ℕ, ◌^◌};
 ghost use Rattle.std.specs.Int.{w16, w32, w64};
-ghost use Rattle.std.specs.Int.NonZero.{non_zero_u8_get, non_zero_u16_get, non_zero_u32_get, non_zero_u64_get, non_zero_usize_get};
-ghost use Rattle.triple_arena_snapshot.specs.Layouts.{byte, number, positive};
+ghost use Rattle.std.specs.Int.NonZero.{non_zero_u8_get, non_zero_u16_get, non_zero_u32_get, non_zero_u64_get, non_zero_u128_get, non_zero_usize_get};
+ghost use Rattle.triple_arena_snapshot.specs.Layouts.{byte, number, positive, long_number};
 ghost use Rattle.triple_arena_snapshot.specs.laws.CodingLaws.{wide16, wide32, wide64};
 
 use crate::codec::Codec;
 use crate::fault::{DecodeError, Fault};
 use std::alloc::Global;
-use std::num::{NonZeroU8, NonZeroU16, NonZeroU32, NonZeroU64, NonZeroUsize};
+use std::num::{NonZeroU8, NonZeroU16, NonZeroU32, NonZeroU64, NonZeroU128, NonZeroUsize};
 use triple_arena_base::AllocError;
 
 /// As `u8`.
@@ -90,6 +90,27 @@ impl Codec for NonZeroU64 {
     fn decode(alloc: Global, bytes: &[u8]) -> Result<(Self, &[u8]), DecodeError> {
         let (number, rest) = u64::decode(alloc, bytes)?;
         match NonZeroU64::new(number) {
+            Some(number) => Ok((number, rest)),
+            None => Err(DecodeError::Malformed(Fault::Zero, bytes.len())),
+        }
+    }
+}
+
+/// As `u128`.
+impl Codec for NonZeroU128 {
+    ghost Content = { ℕ };
+
+    ghost content = { non_zero_u128_get };
+
+    ghost coding = { positive long_number };
+
+    fn encode(&self, out: &mut Vec<u8>) -> Result<(), AllocError> {
+        self.get().encode(out)
+    }
+
+    fn decode(alloc: Global, bytes: &[u8]) -> Result<(Self, &[u8]), DecodeError> {
+        let (number, rest) = u128::decode(alloc, bytes)?;
+        match NonZeroU128::new(number) {
             Some(number) => Ok((number, rest)),
             None => Err(DecodeError::Malformed(Fault::Zero, bytes.len())),
         }

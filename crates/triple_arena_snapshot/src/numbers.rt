@@ -4,7 +4,7 @@ ghost use Rattle.std.specs.Prelude.{◌≡◌, ℕ, ◌^◌};
 ghost use Rattle.std.specs.Int.{w16, w32, w64};
 ghost use Rattle.triple_arena_snapshot.specs.Coding.{Gives};
 ghost use Rattle.triple_arena_snapshot.specs.Codings.{number_at_front};
-ghost use Rattle.triple_arena_snapshot.specs.Layouts.{byte, number};
+ghost use Rattle.triple_arena_snapshot.specs.Layouts.{byte, number, long_number};
 ghost use Rattle.triple_arena_snapshot.specs.laws.CodingLaws.{wide16, wide32, wide64};
 
 use crate::codec::Codec;
@@ -97,6 +97,26 @@ impl Codec for u64 {
             front[0], front[1], front[2], front[3], front[4], front[5], front[6], front[7],
         ]);
         Ok((number, rest))
+    }
+}
+
+/// Sixteen bytes, the lowest first.
+impl Codec for u128 {
+    ghost Content = { ℕ };
+
+    ghost content = { λ n. n };
+
+    ghost coding = { long_number };
+
+    fn encode(&self, out: &mut Vec<u8>) -> Result<(), AllocError> {
+        ((*self % (1 << 64)) as u64).encode(out)?;
+        ((*self / (1 << 64)) as u64).encode(out)
+    }
+
+    fn decode(alloc: Global, bytes: &[u8]) -> Result<(Self, &[u8]), DecodeError> {
+        let (low, rest) = u64::decode(alloc, bytes)?;
+        let (high, rest) = u64::decode(alloc, rest)?;
+        Ok((((high as u128) << 64) | low as u128, rest))
     }
 }
 

@@ -3,15 +3,18 @@
 ghost use Rattle.std.specs.Prelude.{◌≡◌, ℕ, suc, ◌^◌};
 ghost use Rattle.std.specs.Int.{w16, w32, w64};
 ghost use Rattle.triple_arena_ptr.specs.Pointers.{Pointer};
-ghost use Rattle.triple_arena_snapshot.specs.Layouts.{byte, number, pointer, bare_pointer};
+ghost use Rattle.triple_arena_snapshot.specs.Layouts.{byte, number, both, pointer, bare_pointer};
 ghost use Rattle.triple_arena_snapshot.specs.laws.CodingLaws.{wide16, wide32, wide64};
 
 use crate::codec::Codec;
 use crate::fault::DecodeError;
+use crate::generations::GenerationCodec;
 use std::alloc::Global;
 use std::num::{NonZeroU8, NonZeroU16, NonZeroU32, NonZeroU64, NonZeroUsize};
 use triple_arena_base::AllocError;
-use triple_arena_ptr::{P0, P1, P2, P3, P4, P5, Ptr, Q2, SmallPtr};
+use triple_arena_ptr::{
+    NamedPtr, P0, P1, P2, P3, P4, P5, Plain, Ptr, PtrInx, PtrName, PtrNoGen, Q2, SmallPtr,
+};
 
 /// Sixteen bytes.
 impl Codec for P0 {
@@ -166,5 +169,47 @@ impl Codec for P5 {
     fn decode(alloc: Global, bytes: &[u8]) -> Result<(Self, &[u8]), DecodeError> {
         let (inx, rest) = NonZeroU8::decode(alloc, bytes)?;
         Ok((P5::_from_raw(inx, ()), rest))
+    }
+}
+
+/// The index as its type has it, and the generation in its bytes.
+impl<N: PtrName, I: Plain, G: Plain> Codec for NamedPtr<N, I, G>
+where
+    I::NonZero: PtrInx + Codec,
+    G::NonZero: GenerationCodec,
+{
+    ghost Content = { I.NonZero.Content × ℕ };
+
+    ghost content = { λ p. (I.NonZero.content (I.value_after p.0), G.NonZero.number (G.value_after p.1)) };
+
+    ghost coding = { both I.NonZero.coding G.NonZero.numbered };
+
+    fn encode(&self, out: &mut Vec<u8>) -> Result<(), AllocError> {
+        self.inx().encode(out)?;
+        self.generation().encode_generation(out)
+    }
+
+    fn decode(alloc: Global, bytes: &[u8]) -> Result<(Self, &[u8]), DecodeError> {
+        let (inx, rest) = I::NonZero::decode(alloc, bytes)?;
+        let (generation, rest) = G::NonZero::decode_generation(alloc, rest)?;
+        Ok((NamedPtr::_from_raw(inx, generation), rest))
+    }
+}
+
+/// The index, as its type has it.
+impl<I: PtrInx + Codec, P: Ptr<Inx = I>> Codec for PtrNoGen<P, I> {
+    ghost Content = { I.Content };
+
+    ghost content = { λ p. I.content p };
+
+    ghost coding = { I.coding };
+
+    fn encode(&self, out: &mut Vec<u8>) -> Result<(), AllocError> {
+        self.inx().encode(out)
+    }
+
+    fn decode(alloc: Global, bytes: &[u8]) -> Result<(Self, &[u8]), DecodeError> {
+        let (inx, rest) = I::decode(alloc, bytes)?;
+        Ok((PtrNoGen::_from_raw(inx, ()), rest))
     }
 }

@@ -8,7 +8,7 @@ use Rattle.std.proofs.lemmas.Bool.{le-ltb, ne_eqb}
 use Rattle.std.proofs.lemmas.List.{take_at, drop_at, length-append, append-nil}
 use Rattle.std.proofs.lemmas.List.Concat.{flat_map-cons}
 use Rattle.std.proofs.lemmas.Nat.{from_le_bytes-to_le_bytes_2, from_le_bytes-to_le_bytes_4, from_le_bytes-to_le_bytes_8}
-use Rattle.triple_arena_snapshot.specs.Coding.{Decoded, whole, Coding}
+use Rattle.triple_arena_snapshot.specs.Coding.{Decoded, whole, Coding, ◌>>=◌}
 use Rattle.triple_arena_snapshot.specs.Codings.{number_at_front, option_bytes, option_at_front, bool_bytes, bool_at_front, pair_bytes, pair_at_front, list_bytes, many_at_front, list_at_front, list_within, text_bytes, text_at_front, positive_at_front, index_at_front}
 
 -- what is read of what was written, with anything behind it
@@ -47,6 +47,9 @@ module _ {K : Type 0} (fits : K → Type 0) (encoding : K → List ℕ) (decodin
   pub option_again : IsReadAgain (λ o. IfSome o fits) (option_bytes encoding) (option_at_front decoding)
   option_again None rest h = refl
   option_again (Some k) rest h = rw (again k rest h) refl
+
+  pub through_again : {L : Type 0} (as_other : L → K) (of_other : K → L) → IsReadAgain (λ l. fits (as_other l) × (of_other (as_other l) ≡ l)) (λ l. encoding (as_other l)) (λ bytes. decoding bytes >>= λ x. Ok (of_other x.0, x.1))
+  through_again as_other of_other l rest h = rw (again (as_other l) rest h.0) (ap (λ x. Ok (x, rest)) h.1)
 
   pub pair_again : {L : Type 0} (fits_too : L → Type 0) (second : L → List ℕ) (decoding_too : List ℕ → Decoded L) → IsReadAgain fits_too second decoding_too
       → IsReadAgain (λ p. fits p.0 × fits_too p.1) (pair_bytes encoding second) (pair_at_front decoding decoding_too)

@@ -11,7 +11,7 @@ module _ {K : Type 0} where
   is_any_past counter slots = list_any (λ p. nat_lt counter p.1) (keys slots)
 
   -- what is read of a strict arena's file, by what is read of an arena's: where generations count, no entry may be of one past
-  -- the counter
+  -- the counter, which is a fault of the value as a whole, whose first byte stands at 17
   abbrev pub up_to_counter : (counting : Bool) → Reading (List (Option (ℕ × K)) × (ℕ × List ℕ)) → Reading (List (Option (ℕ × K)) × (ℕ × List ℕ))
   up_to_counter counting read = read >>= λ k. if counting && is_any_past k.1.0 k.0 then Err (Counter, 17) else Ok k
 

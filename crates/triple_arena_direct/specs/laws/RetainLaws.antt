@@ -49,6 +49,31 @@ module _ {T : Type 0} where
   rising_at low (x ∷ es) zero e rising at = let same : x ≡ e = cc in subst (λ (y : Pointer × T). low ≤ y.0.0) same rising.0
   rising_at low (x ∷ es) (suc k) e rising at = let later = rising_at (x.0.0 + 1) es k e rising.1 at in omega (arith, later, rising.0)
 
+  -- the indexes of a walk, by its entries
+  rising_indexes : (low : ℕ) (es : List (Pointer × T)) → IsRising low (map (λ p. p.0) (keys_of es)) → IsRising low (map (λ e. e.0.0) es)
+  rising_indexes low [] rising = tt
+  rising_indexes low (e ∷ es) rising = (rising.0, rising_indexes (e.0.0 + 1) es rising.1)
+
+module _ {T : Type 0} (test : Pointer → T → Bool) (made : Pointer → T → T) where
+  looked_same : (g : ℕ) (w : T) (b : Bool) → option_and_then (value_of_generation g) (cond b (Some (g, w)) None) ≡ cond b (Some w) None
+  looked_same g w true = ap (λ t. cond t (Some w) None) (eq_true g g refl)
+  looked_same g w false = refl
+
+  looked_other : (g h : ℕ) (w : T) (b : Bool) → g ≢ h → option_and_then (value_of_generation h) (cond b (Some (g, w)) None) ≡ None
+  looked_other g h w true other = ap (λ t. cond t (Some w) None) (eq_false g h other)
+  looked_other g h w false other = refl
+
+  looked : (i g h : ℕ) (v : T) → option_and_then (value_of_generation h) (cond (test (i, g) v) (Some (g, made (i, g) v)) None) ≡ kept_if test made (i, h) (option_and_then (value_of_generation h) (Some (g, v)))
+  looked i g h v =
+      elim (cases_eq g h) [
+        | inl alike ↦
+            subst (λ n. option_and_then (value_of_generation n) (cond (test (i, g) v) (Some (g, made (i, g) v)) None) ≡ kept_if test made (i, n) (option_and_then (value_of_generation n) (Some (g, v)))) alike
+            (looked_same g (made (i, g) v) (test (i, g) v) ∙ sym (ap (kept_if test made (i, g)) (ap (λ t. cond t (Some v) None) (eq_true g g refl))))
+        | inr other ↦
+            looked_other g h (made (i, g) v) (test (i, g) v) other
+            ∙ sym (ap (kept_if test made (i, h)) (ap (λ t. cond t (Some v) None) (eq_false g h other)))
+      ]
+
 module _ {A P T F : Type 0} (numbers : P → Pointer) (step : F → P → MutBor T → Bool → MutBor T → F → Type 0)
     (with_value : A → ℕ → T → A) (removes : A → ℕ → A → Type 0) (wraps : A → Bool) (slots : A → List (Option (ℕ × T)))
     (sets : (a : A) (i : ℕ) (v : T) → slots (with_value a i v) ≡ with_value_in (slots a) i v)
@@ -127,29 +152,6 @@ module _ {A P T F : Type 0} (numbers : P → Pointer) (step : F → P → MutBor
         there (x.0.0 + 1) es left new later last rising.1 (subst (λ g. Trace g left es later last new) s.0 t) k e at
         (s.2 e.0.0 (λ clash. absurd (omega (arith, clash, above))) ∙ entry)
 
-    looked_same : (g : ℕ) (w : T) (b : Bool) → option_and_then (value_of_generation g) (cond b (Some (g, w)) None) ≡ cond b (Some w) None
-    looked_same g w true = ap (λ t. cond t (Some w) None) (eq_true g g refl)
-    looked_same g w false = refl
-
-    looked_other : (g h : ℕ) (w : T) (b : Bool) → g ≢ h → option_and_then (value_of_generation h) (cond b (Some (g, w)) None) ≡ None
-    looked_other g h w true other = ap (λ t. cond t (Some w) None) (eq_false g h other)
-    looked_other g h w false other = refl
-
-    looked : (i g h : ℕ) (v : T) → option_and_then (value_of_generation h) (cond (test (i, g) v) (Some (g, made (i, g) v)) None) ≡ kept_if test made (i, h) (option_and_then (value_of_generation h) (Some (g, v)))
-    looked i g h v =
-        elim (cases_eq g h) [
-          | inl alike ↦
-              subst (λ n. option_and_then (value_of_generation n) (cond (test (i, g) v) (Some (g, made (i, g) v)) None) ≡ kept_if test made (i, n) (option_and_then (value_of_generation n) (Some (g, v)))) alike
-              (looked_same g (made (i, g) v) (test (i, g) v) ∙ sym (ap (kept_if test made (i, g)) (ap (λ t. cond t (Some v) None) (eq_true g g refl))))
-          | inr other ↦
-              looked_other g h (made (i, g) v) (test (i, g) v) other
-              ∙ sym (ap (kept_if test made (i, h)) (ap (λ t. cond t (Some v) None) (eq_false g h other)))
-        ]
-
-    rising_indexes : (low : ℕ) (es : List (Pointer × T)) → IsRising low (map (λ p. p.0) (keys_of es)) → IsRising low (map (λ e. e.0.0) es)
-    rising_indexes low [] rising = tt
-    rising_indexes low (e ∷ es) rising = (rising.0, rising_indexes (e.0.0 + 1) es rising.1)
-
     -- under each pointer is what the closure says of what it found
     pub retained_found : (old new : A) (wrapped : Bool) (last : F) → Trace f old (entries (slots old)) wrapped last new
         → (q : Pointer) → look_up (slots new) q ≡ kept_if test made q (look_up (slots old) q)
@@ -167,7 +169,7 @@ module _ {A P T F : Type 0} (numbers : P → Pointer) (step : F → P → MutBor
             let value : nth.0 ≡ e.1 = same_Some _ _ (sym nth.2 ∙ found) in
             let at = entry_of_walk (slots old) nth.1 p e.1 nth.3 (nth.4 ∙ ap Some value) in
             let now = there 1 (entries (slots old)) old new wrapped last (rising_indexes 1 (entries (slots old)) (keys_rising (slots old))) t nth.1 (p, e.1) at is in
-            ap (option_and_then (value_of_generation q.1)) now ∙ looked q.0 e.0 q.1 e.1 ∙ sym (ap (λ o. kept_if test made q (option_and_then (value_of_generation q.1) o)) is)
+            ap (option_and_then (value_of_generation q.1)) now ∙ looked test made q.0 e.0 q.1 e.1 ∙ sym (ap (λ o. kept_if test made q (option_and_then (value_of_generation q.1) o)) is)
 
 -- so of a strict arena, whose closure sees the values alone
 module _ {P T F : Type 0} (numbers : P → Pointer) (step : F → P → Bor T → Bool → F → Type 0) (test : Pointer → T → Bool) (f : F)
@@ -224,26 +226,6 @@ module _ {P T F : Type 0} (numbers : P → Pointer) (step : F → P → Bor T �
           later (removed (λ n. n) s x.0.0)
           ((slots-removed (λ n. n) s x.0.0 (removed (λ n. n) s x.0.0) refl).others e.0.0 (λ same. omega (arith, rising_at (x.0.0 + 1) es k e rising.1 at, same)) ∙ stands)
 
-  rising_of_keys : (low : ℕ) (es : List (Pointer × T)) → IsRising low (map (λ p. p.0) (keys_of es)) → IsRising low (map (λ e. e.0.0) es)
-  rising_of_keys low [] rising = tt
-  rising_of_keys low (e ∷ es) rising = (rising.0, rising_of_keys (e.0.0 + 1) es rising.1)
-
-  -- what a pointer finds at an entry that is kept or gone
-  seen_if : (i g h : ℕ) (v : T) (b : Bool) → b ≡ test (i, g) v → option_and_then (value_of_generation h) (cond b (Some (g, v)) None) ≡ kept_if test (λ p w. w) (i, h) (option_and_then (value_of_generation h) (Some (g, v)))
-  seen_if i g h v b told =
-      elim (cases_eq g h) [
-        | inl same ↦ subst (λ n. option_and_then (value_of_generation n) (cond b (Some (g, v)) None) ≡ kept_if test (λ p w. w) (i, n) (option_and_then (value_of_generation n) (Some (g, v)))) same (own b told)
-        | inr other ↦ none b other ∙ sym (ap (kept_if test (λ p w. w) (i, h)) (ap (λ t. cond t (Some v) None) (eq_false g h other)))
-      ]
-    where
-      none : (c : Bool) → g ≢ h → option_and_then (value_of_generation h) (cond c (Some (g, v)) None) ≡ None
-      none true other = ap (λ t. cond t (Some v) None) (eq_false g h other)
-      none false other = refl
-
-      own : (c : Bool) → c ≡ test (i, g) v → option_and_then (value_of_generation g) (cond c (Some (g, v)) None) ≡ kept_if test (λ p w. w) (i, g) (option_and_then (value_of_generation g) (Some (g, v)))
-      own true is = ap (λ t. cond t (Some v) None) (eq_true g g refl) ∙ ap (λ t. cond t (Some v) None) is ∙ sym (ap (kept_if test (λ p w. w) (i, g)) (ap (λ t. cond t (Some v) None) (eq_true g g refl)))
-      own false is = ap (λ t. cond t (Some v) None) is ∙ sym (ap (kept_if test (λ p w. w) (i, g)) (ap (λ t. cond t (Some v) None) (eq_true g g refl)))
-
   out_found : (s : ArenaState T) (last : F) (gone : List Pointer) → Sorts numbers step f (entries s.slots) gone last
       → (q : Pointer) → look_up (without_entries gone s).slots q ≡ kept_if test (λ p v. v) q (look_up s.slots q)
   out_found s last gone sorts q = by_entry (entry s q.0) refl
@@ -259,8 +241,8 @@ module _ {P T F : Type 0} (numbers : P → Pointer) (step : F → P → Bor T �
           let nth = nth_found s.slots p (rw found refl) in
           let value : nth.0 ≡ e.1 = same_Some _ _ (sym nth.2 ∙ found) in
           let at = entry_of_walk s.slots nth.1 p e.1 nth.3 (nth.4 ∙ ap Some value) in
-          let now = out_there 1 last (entries s.slots) gone (rising_of_keys 1 (entries s.slots) (keys_rising s.slots)) sorts s nth.1 (p, e.1) at is in
-          ap (option_and_then (value_of_generation q.1)) now ∙ seen_if q.0 e.0 q.1 e.1 (test p e.1) refl
+          let now = out_there 1 last (entries s.slots) gone (rising_indexes 1 (entries s.slots) (keys_rising s.slots)) sorts s nth.1 (p, e.1) at is in
+          ap (option_and_then (value_of_generation q.1)) now ∙ looked test (λ p v. v) q.0 e.0 q.1 e.1
           ∙ sym (ap (λ o. kept_if test (λ p v. v) q (option_and_then (value_of_generation q.1) o)) is)
 
   -- under each pointer is what it found, where the closure keeps that

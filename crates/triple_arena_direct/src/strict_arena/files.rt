@@ -8,7 +8,7 @@ ghost use Rattle.triple_arena_traits.specs.Entries.{look_up};
 ghost use Rattle.triple_arena_traits.specs.ArenaState.{ArenaState};
 ghost use Rattle.triple_arena_traits.specs.Insertion.{next_pointer};
 ghost use Rattle.triple_arena_traits.specs.Walks.{keys};
-ghost use Rattle.triple_arena_traits.specs.Histories.{begun_with, Fits};
+ghost use Rattle.triple_arena_traits.specs.Histories.{begun_with, Fits, Continues};
 ghost use Rattle.triple_arena_direct.specs.Gone.{IsGoneForGood};
 ghost use Rattle.triple_arena_direct.specs.StrictFiles.{is_any_past, up_to_counter, FitsStrictly};
 ghost use Rattle.triple_arena_snapshot.specs.ArenaCodings.{arena_content};
@@ -58,15 +58,16 @@ where
     }
 }
 
-/// The strict arena whose file the reader has left, over a stack without items: with its room and its
-/// limit. It goes on as the one that was saved: each pointer finds what it found (`found`), what was
-/// gone for good is (`gone`), and the next insertion gives the same pointer (`next`).
+/// The strict arena whose file the reader has left, over a stack without items, whose limit it has. It
+/// goes on as the one that was saved: each pointer finds what it found (`found`), what was
+/// gone for good is (`gone`), the next insertion gives the same pointer (`next`), and each history that
+/// fitted fits (`history`). Of any file a history can begin with the pointers loaded (`begun`).
 ///
 /// Of two loads of one file nothing is promised that holds of both together, nor of a file that
 /// [`save_strict_arena`] didn't write: they may give the same pointers.
 ///
-/// Refused as [`triple_arena_snapshot::load_arena`]; and then with `Counter`, at the value's first
-/// byte, where generations count and an entry is of one past the counter.
+/// Refused as [`triple_arena_snapshot::load_arena`]; and then with `Counter`, at offset 17, the value's
+/// first byte, where generations count and an entry is of one past the counter.
 pub fn load_strict_arena<
     P: Ptr,
     T: Codec + Drop,
@@ -111,7 +112,13 @@ where
         → R.remaining input.old ≡ Some (file_of ((arena_coding P.Inx.greatest P.Gen.width
         (S.limit stack) P.Gen.numbered T.coding).encoding (arena_content T.content saved)))
         → IfOk result (λ strict. (q : Pointer) → IsGoneForGood saved q → IsGoneForGood strict q) }
-    ensures history { P.Gen.generations.counting ≡ true
+    ensures history { (saved : ArenaState T) → FitsStrictly P.Gen.generations.counting
+        (arena_coding P.Inx.greatest P.Gen.width (S.limit stack) P.Gen.numbered T.coding)
+        (arena_content T.content saved)
+        → R.remaining input.old ≡ Some (file_of ((arena_coding P.Inx.greatest P.Gen.width
+        (S.limit stack) P.Gen.numbered T.coding).encoding (arena_content T.content saved)))
+        → IfOk result (λ strict. Continues Fits saved [] strict) }
+    ensures begun { P.Gen.generations.counting ≡ true
         → IfOk result (λ strict. Fits (begun_with (keys strict.slots)) strict) }
 {
     // What is read answers as what was written.

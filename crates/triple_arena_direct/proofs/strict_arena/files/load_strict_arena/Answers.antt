@@ -35,5 +35,9 @@ returns-clause-gone g c = λ saved fits is.
     gone_in_same g.T.Codec.content saved c.in_ok-arena.arena (ok_is _ _ _ refl (c.in_ok-arena.ensures.again (arena_content g.T.Codec.content saved) fits.0 is))
 
 pub returns-clause-history : goal.returns-clause-history
-returns-clause-history g c counts =
+returns-clause-history g c = λ saved fits is.
+    c.read_answers_as_written.ensures.history saved c.in_ok-arena.arena (sym (ok_is _ _ _ refl (c.in_ok-arena.ensures.again (arena_content g.T.Codec.content saved) fits.0 is)))
+
+pub returns-clause-begun : goal.returns-clause-begun
+returns-clause-begun g c counts =
     Fits-keys c.in_ok-arena.arena (counted_up_to c.in_ok-arena.arena g.P.Gen.PtrGen.generations.counting (search rules) counts)

@@ -6,13 +6,13 @@ use Rattle.triple_arena_ptr.specs.Pointers.{Pointer}
 use Rattle.triple_arena_ptr.specs.declared.P3.{P3}
 use Rattle.triple_arena.specs.ArenaState.{ArenaState}
 use Rattle.triple_arena_direct.specs.StrictAnswers.{is_exhausted}
-use Rattle.triple_arena_direct.specs.StrictFiles.{FitsStrictly}
-use Rattle.triple_arena_snapshot.specs.Coding.{Coding}
+use Rattle.triple_arena_direct.specs.StrictFiles.{FitsStrictly, up_to_counter}
+use Rattle.triple_arena_snapshot.specs.Coding.{Coding, Reading}
 use Rattle.triple_arena_snapshot.specs.Layouts.{number, positive}
 use Rattle.triple_arena_snapshot.specs.laws.CodingLaws.{wide16, wide64}
 use Rattle.triple_arena_snapshot.specs.ArenaCodings.{arena_content}
 use Rattle.triple_arena_snapshot.specs.ArenaLayouts.{arena_coding}
-use Rattle.triple_arena_snapshot.specs.Files.{file_of}
+use Rattle.triple_arena_snapshot.specs.Files.{file_of, file_reading}
 
 -- the numbers of a coupon's index and of its generation
 abbrev pub coupon_numbers : P3 → Pointer
@@ -22,14 +22,25 @@ coupon_numbers coupon = (suc coupon.0, suc coupon.1)
 abbrev pub are_used_up : ArenaState ℕ → Bool
 are_used_up coupons = is_exhausted (counting_to (2 ^ 16 - 1)) coupons
 
+-- what a file has of coupons
+abbrev pub CouponsContent : Type 0
+CouponsContent = List (Option (ℕ × ℕ)) × (ℕ × List ℕ)
+
+abbrev pub coupons_content : ArenaState ℕ → CouponsContent
+coupons_content coupons = arena_content (λ n. n) coupons
+
 -- how coupons stand in a file
-abbrev pub coupon_coding : Coding (List (Option (ℕ × ℕ)) × (ℕ × List ℕ))
+abbrev pub coupon_coding : Coding CouponsContent
 coupon_coding = arena_coding (2 ^ 16 - 1) 2 None (positive (number w16 (2 ^ 16) wide16)) (number w64 (2 ^ 64) wide64)
+
+-- what is read of a file
+abbrev pub coupons_reading : List ℕ → Reading CouponsContent
+coupons_reading bytes = up_to_counter true (file_reading coupon_coding.decoding bytes)
 
 -- what fits in a file of coupons
 abbrev pub FitInFile : ArenaState ℕ → Type 0
-FitInFile coupons = FitsStrictly true coupon_coding (arena_content (λ n. n) coupons)
+FitInFile coupons = FitsStrictly true coupon_coding (coupons_content coupons)
 
 -- their file
 abbrev pub file_of_coupons : ArenaState ℕ → List ℕ
-file_of_coupons coupons = file_of (coupon_coding.encoding (arena_content (λ n. n) coupons))
+file_of_coupons coupons = file_of (coupon_coding.encoding (coupons_content coupons))

@@ -5,13 +5,14 @@
 //! given finds what it found when it was saved, and the next cell and the next net get the pointers
 //! that they would have got.
 
-ghost use Rattle.std.specs.Prelude.{◌≡◌, ◌≢◌, ◌∷◌, [], Option, None, Some, Ok, IfOk, IfErr, IfSome, OnOk, OnErr, option_copied};
+ghost use Rattle.std.specs.Prelude.{◌≡◌, ◌≢◌, ◌∷◌, ◌-◌, ◌^◌, [], false, Option, None, Some, Ok, IfOk, IfErr, IfSome, IsSome, OnOk, OnErr, option_copied};
 ghost use Rattle.std.specs.Io.KnownBytes.{Appends, IsAtEnd};
 ghost use Rattle.std.specs.Option.{option_map};
+ghost use Rattle.triple_arena_ptr.specs.Numbers.{counting_to, wraps};
 ghost use Rattle.triple_arena_ptr.specs.Pointers.{Pointer};
 ghost use Rattle.triple_arena.specs.Entries.{look_up};
 ghost use Rattle.triple_arena.specs.Insertion.{next_pointer};
-ghost use Rattle.triple_arena.specs.Histories.{Fits, Continues};
+ghost use Rattle.triple_arena.specs.Histories.{insertion, removal, Fits, Continues};
 ghost use Rattle.triple_arena_snapshot.specs.Files.{file_of, file_reading, LoadsFrom, SaveFails};
 ghost use Rattle.triple_arena_snapshot_uses.specs.Circuit.{Parts, p0_numbers, q2_numbers, cell_at, net_at, circuit_content, circuit_coding};
 
@@ -111,6 +112,8 @@ impl Circuit {
         ensures others { IfOk result (λ c. (q : Pointer) → q ≢ p0_numbers c
             → cell_at self.new.parts q ≡ cell_at self.old.parts q) }
         ensures nets { self.new.parts.1 ≡ self.old.parts.1 }
+        ensures history { IfOk result (λ c. Continues Fits self.old.parts.0
+            (insertion (p0_numbers c) ∷ []) self.new.parts.0) }
         ensures refused { OnErr result (self.new ≡ self.old) }
     {
         let reads = Vec::from_slice(alloc, &[net])?;
@@ -128,6 +131,8 @@ impl Circuit {
         ensures others { IfOk result (λ n. (q : Pointer) → q ≢ q2_numbers n
             → net_at self.new.parts q ≡ net_at self.old.parts q) }
         ensures cells { self.new.parts.0 ≡ self.old.parts.0 }
+        ensures history { IfOk result (λ n. Continues Fits self.old.parts.1
+            (insertion (q2_numbers n) ∷ []) self.new.parts.1) }
         ensures refused { OnErr result (self.new ≡ self.old) }
     {
         self.parts.1.insert(Net { label, driver })
@@ -154,6 +159,8 @@ impl Circuit {
         ensures gone { net_at self.new.parts (q2_numbers n) ≡ None }
         ensures others { (q : Pointer) → q ≢ q2_numbers n → net_at self.new.parts q ≡ net_at self.old.parts q }
         ensures cells { self.new.parts.0 ≡ self.old.parts.0 }
+        ensures history { IsSome result → wraps (counting_to (2 ^ 64 - 1)) self.old.parts.1.counter ≡ false
+            → Continues Fits self.old.parts.1 (removal (q2_numbers n) ∷ []) self.new.parts.1 }
     {
         self.parts.1.remove(n).allow()
     }

@@ -1,8 +1,8 @@
 //! Coupons that outlive their process: one that was redeemed is never valid again, here or where their
 //! file is loaded.
 
-ghost use Rattle.std.specs.Prelude.{◌≡◌, ◌≢◌, ℕ, None, Some, OnOk, OnErr, IfOk, IfErr};
-ghost use Rattle.std.specs.Io.KnownBytes.{Appends};
+ghost use Rattle.std.specs.Prelude.{◌≡◌, ◌≢◌, ℕ, None, Some, Ok, OnOk, OnErr, IfOk, IfErr, IfSome};
+ghost use Rattle.std.specs.Io.KnownBytes.{Appends, IsAtEnd};
 ghost use Rattle.triple_arena_ptr.specs.Pointers.{Pointer};
 ghost use Rattle.triple_arena.specs.ArenaState.{ArenaState};
 ghost use Rattle.triple_arena.specs.Entries.{look_up};
@@ -10,8 +10,8 @@ ghost use Rattle.triple_arena.specs.Insertion.{next_pointer};
 ghost use Rattle.triple_arena.specs.SlotSteps.{IsTouched};
 ghost use Rattle.triple_arena_direct.specs.Gone.{IsGoneForGood};
 ghost use Rattle.triple_arena_direct.specs.StrictAnswers.{strict_of};
-ghost use Rattle.triple_arena_snapshot.specs.Files.{SaveFails};
-ghost use Rattle.triple_arena_snapshot_uses.specs.Coupons.{coupon_numbers, are_used_up, FitInFile, file_of_coupons};
+ghost use Rattle.triple_arena_snapshot.specs.Files.{SaveFails, LoadsFrom};
+ghost use Rattle.triple_arena_snapshot_uses.specs.Coupons.{coupon_numbers, are_used_up, coupons_content, coupons_reading, FitInFile, file_of_coupons};
 
 use std::alloc::Global;
 use std::io::{Read, Write};
@@ -106,7 +106,14 @@ impl Coupons {
 
     /// The coupons whose file the reader has left: each that could be redeemed can be, and each that was
     /// redeemed never can, where the file is opened this once.
+    ///
+    /// Refused as a file of a strict arena is, by the first fault and its offset.
     pub fn open<R: Read>(alloc: Global, input: &mut R) -> Result<Coupons, LoadError>
+        ensures read { IfSome (R.remaining input.old)
+            (λ bytes. LoadsFrom coupons_content result (coupons_reading bytes)) }
+        ensures again { (saved : ArenaState ℕ) → FitInFile saved
+            → R.remaining input.old ≡ Some (file_of_coupons saved)
+            → LoadsFrom coupons_content result (Ok (coupons_content saved)) }
         ensures found { (saved : ArenaState ℕ) → FitInFile saved
             → R.remaining input.old ≡ Some (file_of_coupons saved)
             → IfOk result (λ coupons. (q : Pointer)
@@ -118,6 +125,7 @@ impl Coupons {
         ensures next { (saved : ArenaState ℕ) → FitInFile saved
             → R.remaining input.old ≡ Some (file_of_coupons saved)
             → IfOk result (λ coupons. next_pointer coupons ≡ next_pointer saved) }
+        ensures end { OnOk result (IsAtEnd (R.remaining input.new)) }
     {
         match load_strict_arena(NonZeroInxVec::new(alloc), alloc, input) {
             Ok(coupons) => Ok(Coupons { coupons }),

@@ -21,6 +21,16 @@ impl Held {
         }
     }
 
+    /// Holds these too, as far as there is room.
+    pub fn hold(&mut self, bytes: &[u8]) {
+        for byte in bytes {
+            if let Some(place) = self.bytes.get_mut(self.len) {
+                *place = *byte;
+                self.len = self.len.saturating_add(1);
+            }
+        }
+    }
+
     /// Whether it holds these bytes, and no others.
     pub fn is(&self, bytes: &[u8]) -> bool {
         match self.bytes.get(..self.len) {
@@ -33,12 +43,7 @@ impl Held {
 impl Write for Held {
     fn write(&mut self, buf: &[u8]) -> io::Result<usize> {
         let count = buf.len().min(ROOM.saturating_sub(self.len));
-        for byte in &buf[..count] {
-            if let Some(place) = self.bytes.get_mut(self.len) {
-                *place = *byte;
-                self.len = self.len.saturating_add(1);
-            }
-        }
+        self.hold(&buf[..count]);
         match count {
             0 => Err(io::Error::from(ErrorKind::WriteZero)),
             _ => Ok(count),

@@ -1,14 +1,15 @@
-//! What is saved and loaded: texts, an arena, and a direct arena.
+//! What is saved and loaded: texts, an arena, a direct arena, and a strict one.
 
 use crate::files::{ARENA, DIRECT, Held, TEXTS};
 use std::alloc::Global;
 use triple_arena::{
-    Arena, ArenaInsertTrait, ArenaTrait, CompactArenaTrait, NonZeroInxGenericStack, NonZeroInxVec,
-    P3, Ptr,
+    Arena, ArenaInsertTrait, ArenaTrait, NonZeroInxGenericStack, NonZeroInxVec, P3, Ptr,
 };
+use triple_arena_direct::{StrictArena, load_strict_arena, save_strict_arena};
 use triple_arena_direct_arena::DirectArena;
 use triple_arena_snapshot::{
-    LoadError, SaveError, load, load_arena, load_direct_arena, save, save_arena, save_direct_arena,
+    GenerationCodec, LoadError, SaveError, from_file_bytes, load, load_arena, load_direct_arena,
+    save, save_arena, save_direct_arena, to_file_bytes,
 };
 use triple_arena_trait_kit::Wrong;
 use triple_arena_trait_kit::refused::{End, Report};
@@ -18,12 +19,10 @@ trait Kept: Sized {
     /// As it stands in its file.
     fn make(alloc: Global) -> Result<Self, Wrong>;
 
-    fn save(&self, alloc: Global, output: &mut Held) -> Result<(), SaveError>;
+    /// Writes its file; refused, it comes back.
+    fn save(self, alloc: Global, output: &mut Held) -> Result<(), (Self, SaveError)>;
 
     fn load(alloc: Global, input: &mut &[u8]) -> Result<Self, LoadError>;
-
-    /// Whether it is as it stands in its file.
-    fn is_whole(&self) -> bool;
 }
 
 impl Kept for Vec<String> {
@@ -38,79 +37,138 @@ impl Kept for Vec<String> {
         Ok(texts)
     }
 
-    fn save(&self, alloc: Global, output: &mut Held) -> Result<(), SaveError> {
-        save(self, alloc, output)
+    fn save(self, alloc: Global, output: &mut Held) -> Result<(), (Self, SaveError)> {
+        match save(&self, alloc, output) {
+            Ok(()) => Ok(()),
+            Err(refusal) => Err((self, refusal)),
+        }
     }
 
     fn load(alloc: Global, input: &mut &[u8]) -> Result<Self, LoadError> {
         load(alloc, input)
     }
+}
 
-    fn is_whole(&self) -> bool {
-        match self.as_slice() {
-            [first, second] => first.as_str() == "a" && second.as_str() == "bc",
-            _ => false,
+/// The same texts, whose file is made as bytes, and read of them.
+#[derive(Drop)]
+struct InBytes {
+    texts: Vec<String>,
+}
+
+impl Kept for InBytes {
+    fn make(alloc: Global) -> Result<Self, Wrong> {
+        let texts = Kept::make(alloc)?;
+        Ok(InBytes { texts })
+    }
+
+    fn save(self, alloc: Global, output: &mut Held) -> Result<(), (Self, SaveError)> {
+        match to_file_bytes(&self.texts, alloc) {
+            Ok(file) => {
+                output.hold(&file);
+                Ok(())
+            }
+            Err(refusal) => Err((self, SaveError::from(refusal))),
         }
+    }
+
+    fn load(alloc: Global, input: &mut &[u8]) -> Result<Self, LoadError> {
+        let texts = from_file_bytes(alloc, input)?;
+        Ok(InBytes { texts })
     }
 }
 
-impl Kept for Arena<P3, u8> {
+impl<P: Ptr> Kept for Arena<P, u8>
+where
+    P::Gen: GenerationCodec,
+{
     fn make(alloc: Global) -> Result<Self, Wrong> {
         let mut arena = Arena::new(alloc);
-        let mut given: [P3; 3] = [P3::invalid(); 3];
-        for (value, place) in [7u8, 8, 9].into_iter().zip(given.iter_mut()) {
-            match arena.insert(value) {
-                Ok(p) => *place = p,
-                Err(_) => return Err(Wrong::NoMemory),
-            }
-        }
-        drop(arena.remove(given[0]));
-        drop(arena.remove(given[1]));
+        let first = put(&mut arena, 7)?;
+        let second = put(&mut arena, 8)?;
+        put(&mut arena, 9)?;
+        drop(arena.remove(first));
+        drop(arena.remove(second));
         Ok(arena)
     }
 
-    fn save(&self, alloc: Global, output: &mut Held) -> Result<(), SaveError> {
-        save_arena(self, alloc, output)
+    fn save(self, alloc: Global, output: &mut Held) -> Result<(), (Self, SaveError)> {
+        match save_arena(&self, alloc, output) {
+            Ok(()) => Ok(()),
+            Err(refusal) => Err((self, refusal)),
+        }
     }
 
     fn load(alloc: Global, input: &mut &[u8]) -> Result<Self, LoadError> {
         load_arena(NonZeroInxVec::new(alloc), alloc, input)
     }
-
-    fn is_whole(&self) -> bool {
-        self.len() == 1 && self.vals().all(|value| *value == 9)
-    }
 }
 
-impl Kept for DirectArena<P3, u8> {
+impl<P: Ptr> Kept for DirectArena<P, u8>
+where
+    P::Gen: GenerationCodec,
+{
     fn make(alloc: Global) -> Result<Self, Wrong> {
-        match load_direct_arena(NonZeroInxVec::new(alloc), alloc, &mut DIRECT) {
-            Ok(arena) => Ok(arena),
-            Err(LoadError::Memory) => Err(Wrong::NoMemory),
-            Err(_) => Err(Wrong::Answer(0)),
-        }
+        of_load(Self::load(alloc, &mut DIRECT))
     }
 
-    fn save(&self, alloc: Global, output: &mut Held) -> Result<(), SaveError> {
-        save_direct_arena(self, alloc, output)
+    fn save(self, alloc: Global, output: &mut Held) -> Result<(), (Self, SaveError)> {
+        match save_direct_arena(&self, alloc, output) {
+            Ok(()) => Ok(()),
+            Err(refusal) => Err((self, refusal)),
+        }
     }
 
     fn load(alloc: Global, input: &mut &[u8]) -> Result<Self, LoadError> {
         load_direct_arena(NonZeroInxVec::new(alloc), alloc, input)
     }
+}
 
-    fn is_whole(&self) -> bool {
-        self.len() == 1 && self.vals().all(|value| *value == 9)
+impl<P: Ptr> Kept for StrictArena<P, u8>
+where
+    P::Gen: GenerationCodec,
+{
+    fn make(alloc: Global) -> Result<Self, Wrong> {
+        of_load(Self::load(alloc, &mut ARENA))
+    }
+
+    fn save(self, alloc: Global, output: &mut Held) -> Result<(), (Self, SaveError)> {
+        match save_strict_arena(self, alloc, output) {
+            Ok(_arena) => Ok(()),
+            Err(refused) => Err(refused),
+        }
+    }
+
+    fn load(alloc: Global, input: &mut &[u8]) -> Result<Self, LoadError> {
+        load_strict_arena(NonZeroInxVec::new(alloc), alloc, input)
     }
 }
 
-// A save that was refused memory has written no byte.
-fn saves<K: Kept + Drop>(alloc: Global, file: &[u8]) -> Result<End, Wrong> {
-    let kept = K::make(alloc)?;
+// What was loaded to begin with.
+fn of_load<K>(loaded: Result<K, LoadError>) -> Result<K, Wrong> {
+    match loaded {
+        Ok(kept) => Ok(kept),
+        Err(LoadError::Memory) => Err(Wrong::NoMemory),
+        Err(_) => Err(Wrong::Answer(2)),
+    }
+}
+
+// A new entry.
+fn put<P: Ptr>(arena: &mut Arena<P, u8>, value: u8) -> Result<P, Wrong> {
+    match arena.insert(value) {
+        Ok(p) => Ok(p),
+        Err(_) => Err(Wrong::NoMemory),
+    }
+}
+
+// A save that was refused memory has written no byte, and leaves what it was to save.
+fn writes<K: Kept + Drop>(kept: K, alloc: Global, file: &[u8]) -> Result<End, Wrong> {
     let mut held = Held::new();
     let end = match kept.save(alloc, &mut held) {
         Ok(()) => End::Ample,
-        Err(SaveError::Memory) if held.is(&[]) && kept.save(alloc, &mut held).is_ok() => {
+        Err((kept, SaveError::Memory)) => {
+            if !held.is(&[]) || kept.save(alloc, &mut held).is_err() {
+                return Err(Wrong::Answer(1));
+            }
             End::Refused
         }
         Err(_) => return Err(Wrong::Answer(0)),
@@ -122,41 +180,55 @@ fn saves<K: Kept + Drop>(alloc: Global, file: &[u8]) -> Result<End, Wrong> {
     }
 }
 
-// A load that was refused memory has made nothing.
+fn saves<K: Kept + Drop>(alloc: Global, file: &[u8]) -> Result<End, Wrong> {
+    writes(K::make(alloc)?, alloc, file)
+}
+
+// A load that was refused memory has made nothing. What is loaded is saved again.
 fn loads<K: Kept + Drop>(alloc: Global, file: &[u8]) -> Result<End, Wrong> {
-    let (kept, end) = match K::load(alloc, &mut &*file) {
-        Ok(kept) => (kept, End::Ample),
+    match K::load(alloc, &mut &*file) {
+        Ok(kept) => writes(kept, alloc, file),
         Err(LoadError::Memory) => match K::load(alloc, &mut &*file) {
-            Ok(kept) => (kept, End::Refused),
-            Err(_) => return Err(Wrong::Answer(1)),
+            Ok(kept) => {
+                writes(kept, alloc, file)?;
+                Ok(End::Refused)
+            }
+            Err(_) => Err(Wrong::Answer(4)),
         },
-        Err(_) => return Err(Wrong::Answer(0)),
-    };
-    if kept.is_whole() {
-        Ok(end)
-    } else {
-        Err(Wrong::State(0))
+        Err(_) => Err(Wrong::Answer(3)),
     }
 }
 
 /// Saves each.
 pub fn save_each(alloc: Global, report: &mut Report) {
     report.note("save", "texts", saves::<Vec<String>>(alloc, TEXTS));
+    report.note("save", "texts as bytes", saves::<InBytes>(alloc, TEXTS));
     report.note("save", "an arena", saves::<Arena<P3, u8>>(alloc, ARENA));
     report.note(
         "save",
         "a direct arena",
         saves::<DirectArena<P3, u8>>(alloc, DIRECT),
     );
+    report.note(
+        "save",
+        "a strict arena",
+        saves::<StrictArena<P3, u8>>(alloc, ARENA),
+    );
 }
 
 /// Loads each.
 pub fn load_each(alloc: Global, report: &mut Report) {
     report.note("load", "texts", loads::<Vec<String>>(alloc, TEXTS));
+    report.note("load", "texts as bytes", loads::<InBytes>(alloc, TEXTS));
     report.note("load", "an arena", loads::<Arena<P3, u8>>(alloc, ARENA));
     report.note(
         "load",
         "a direct arena",
         loads::<DirectArena<P3, u8>>(alloc, DIRECT),
+    );
+    report.note(
+        "load",
+        "a strict arena",
+        loads::<StrictArena<P3, u8>>(alloc, ARENA),
     );
 }

@@ -1,13 +1,38 @@
 //! Each type once with ample memory, as a body that always refuses is proved too; and bytes that are
 //! no value's.
 
+ghost use Rattle.std.specs.Prelude.{codes};
+
 use crate::tests::flip_flop::FlipFlop;
 use std::alloc::Global;
-use std::num::{NonZeroU8, NonZeroU16, NonZeroU32, NonZeroU64, NonZeroUsize};
+use std::num::{NonZeroU8, NonZeroU16, NonZeroU32, NonZeroU64, NonZeroU128, NonZeroUsize};
 use std::test::*;
 use triple_arena_base::AllocError;
-use triple_arena_ptr::{P0, P1, P2, P3, P4, P5, Ptr, Q2, SmallPtr};
+use triple_arena_direct::PtrKind;
+use triple_arena_ptr::{NamedPtr, P0, P1, P2, P3, P4, P5, Ptr, PtrName, PtrNoGen, Q2, SmallPtr};
 use triple_arena_snapshot::{Codec, DecodeError, Fault, from_bytes, to_bytes};
+
+/// The name of pointers of two widths.
+#[derive(Hash, Clone, Copy, PartialEq, Eq, PartialOrd, Ord)]
+struct Uneven;
+
+impl PtrName for Uneven {
+    ghost type_name = { codes "Uneven" };
+
+    fn name() -> &'static str {
+        "Uneven"
+    }
+}
+
+type Short = NamedPtr<Uneven, u16, u8>;
+
+type Bare = NamedPtr<Uneven, u32, ()>;
+
+type Long = NamedPtr<Uneven, u8, u128>;
+
+const WIDE: u128 = 0x0102030405060708090a0b0c0d0e0f10;
+
+const WIDE_BYTES: [u8; 16] = [16, 15, 14, 13, 12, 11, 10, 9, 8, 7, 6, 5, 4, 3, 2, 1];
 
 /// What went otherwise.
 #[derive(Debug, Drop)]
@@ -71,12 +96,25 @@ fn each_number_has_its_bytes(rt: HostRuntime) {
     has_bytes(alloc, &0x0102u16, &[2, 1]).expect(&rt, "u16");
     has_bytes(alloc, &0x01020304u32, &[4, 3, 2, 1]).expect(&rt, "u32");
     has_bytes(alloc, &0x0102030405060708u64, &[8, 7, 6, 5, 4, 3, 2, 1]).expect(&rt, "u64");
+    has_bytes(alloc, &WIDE, &WIDE_BYTES).expect(&rt, "u128");
     has_bytes(alloc, &0x0201usize, &[1, 2, 0, 0, 0, 0, 0, 0]).expect(&rt, "usize");
     has_bytes(alloc, &NonZeroU8::MIN, &[1]).expect(&rt, "NonZeroU8");
     has_bytes(alloc, &NonZeroU16::MIN, &[1, 0]).expect(&rt, "NonZeroU16");
     has_bytes(alloc, &NonZeroU32::MIN, &[1, 0, 0, 0]).expect(&rt, "NonZeroU32");
     has_bytes(alloc, &NonZeroU64::MIN, &[1, 0, 0, 0, 0, 0, 0, 0]).expect(&rt, "NonZeroU64");
+    has_bytes(alloc, &NonZeroU128::MAX, &[255; 16]).expect(&rt, "NonZeroU128");
     has_bytes(alloc, &NonZeroUsize::MIN, &[1, 0, 0, 0, 0, 0, 0, 0]).expect(&rt, "NonZeroUsize");
+}
+
+#[test]
+fn each_signed_number_has_its_bytes(rt: HostRuntime) {
+    let alloc = rt.alloc();
+    has_bytes(alloc, &-1i8, &[0xff]).expect(&rt, "i8");
+    has_bytes(alloc, &i16::MIN, &[0, 0x80]).expect(&rt, "i16");
+    has_bytes(alloc, &-2i32, &[0xfe, 0xff, 0xff, 0xff]).expect(&rt, "i32");
+    has_bytes(alloc, &0x0102030405060708i64, &[8, 7, 6, 5, 4, 3, 2, 1]).expect(&rt, "i64");
+    has_bytes(alloc, &-1i128, &[0xff; 16]).expect(&rt, "i128");
+    has_bytes(alloc, &-256isize, &[0, 255, 255, 255, 255, 255, 255, 255]).expect(&rt, "isize");
 }
 
 #[test]
@@ -126,6 +164,38 @@ fn each_pointer_has_its_bytes(rt: HostRuntime) {
         &[1, 0, 0, 0, 255, 255, 255, 255],
     )
     .expect(&rt, "SmallPtr");
+}
+
+#[test]
+fn a_pointer_made_of_others_has_its_bytes(rt: HostRuntime) {
+    let alloc = rt.alloc();
+    let (inx, generation) = (NonZeroU16::MIN, NonZeroU8::MAX);
+    has_bytes(alloc, &Short::_from_raw(inx, generation), &[1, 0, 255]).expect(&rt, "a named one");
+    has_bytes(
+        alloc,
+        &Bare::_from_raw(NonZeroU32::MAX, ()),
+        &[255, 255, 255, 255],
+    )
+    .expect(&rt, "a named one without a generation");
+    let long = Long::_from_raw(NonZeroU8::MAX, NonZeroU128::MIN);
+    has_bytes(
+        alloc,
+        &long,
+        &[255, 1, 0, 0, 0, 0, 0, 0, 0, 0, 0, 0, 0, 0, 0, 0, 0],
+    )
+    .expect(&rt, "a named one of a long generation");
+    has_bytes(alloc, &PtrNoGen::<P1>::_from_raw(inx, ()), &[1, 0]).expect(
+        &rt,
+        "one whose generation was left out",
+    );
+    has_bytes(
+        alloc,
+        &PtrKind::<P3, 1>::_from_raw(inx, NonZeroU16::MAX),
+        &[1, 0, 255, 255],
+    )
+    .expect(&rt, "one of a kind");
+    is_refused::<Short>(alloc, &[1, 0, 0], Fault::Zero, 1).expect(&rt, "no generation");
+    is_refused::<PtrNoGen<P1>>(alloc, &[0, 0], Fault::Zero, 2).expect(&rt, "no index");
 }
 
 #[test]

@@ -26,7 +26,7 @@ trait Saved<P>: Sized {
     /// The pointer that the next entry gets, unless a place for it is refused.
     fn next(&mut self) -> Option<P>;
 
-    /// The arena that is loaded from what this one saves.
+    /// The arena that is loaded from what this one saves, and is saved alike.
     fn come_back(&self, rt: &impl Abort, alloc: Global) -> Self;
 }
 
@@ -55,7 +55,10 @@ where
 
     fn come_back(&self, rt: &impl Abort, alloc: Global) -> Self {
         let file = to_file_bytes(self, alloc).expect(rt, "memory");
-        from_file_bytes(alloc, &file).expect(rt, "the file")
+        let loaded: Self = from_file_bytes(alloc, &file).expect(rt, "the file");
+        let again = to_file_bytes(&loaded, alloc).expect(rt, "memory");
+        is(again.as_slice() == file.as_slice(), true).expect(rt, "the file of what was loaded");
+        loaded
     }
 }
 

@@ -1,10 +1,15 @@
 //! Each arena over each stack, from a file and to it.
 
+ghost use Rattle.std.specs.Prelude.{◌≡◌, []};
+
+use std::alloc::Global;
+use std::process::Abort;
 use std::test::*;
 use triple_arena::{
     ArenaSlot, NonZeroInxArray, NonZeroInxBoxedSlice, NonZeroInxGenericStack, NonZeroInxLimitedVec,
     NonZeroInxVec, P3,
 };
+use triple_arena_direct::{load_strict_arena, save_strict_arena};
 use triple_arena_direct_arena::DirectSlot;
 use triple_arena_snapshot::{
     Fault, LoadError, load_arena, load_direct_arena, save_arena, save_direct_arena,
@@ -28,59 +33,106 @@ type Slot = ArenaSlot<P3, u8>;
 
 type Direct = DirectSlot<P3, u8>;
 
+// What a save writes of the arena that is loaded over this stack.
+fn arena_again<S: NonZeroInxGenericStack<Slot> + Drop>(
+    stack: S,
+    alloc: Global,
+) -> Result<Vec<u8>, LoadError>
+    requires { S.items stack ≡ [] }
+{
+    let arena = load_arena(stack, alloc, &mut ARENA.as_slice())?;
+    let mut written = Vec::new(alloc);
+    match save_arena(&arena, alloc, &mut written) {
+        Ok(()) => Ok(written),
+        Err(_) => Err(LoadError::Memory),
+    }
+}
+
+// The same of a strict arena, whose file is that of the arena inside.
+fn strict_arena_again<S: NonZeroInxGenericStack<Slot> + Drop>(
+    stack: S,
+    alloc: Global,
+) -> Result<Vec<u8>, LoadError>
+    requires { S.items stack ≡ [] }
+{
+    let strict = load_strict_arena(stack, alloc, &mut ARENA.as_slice())?;
+    let mut written = Vec::new(alloc);
+    match save_strict_arena(strict, alloc, &mut written) {
+        Ok(_arena) => Ok(written),
+        Err(_) => Err(LoadError::Memory),
+    }
+}
+
+// The same of the direct arena.
+fn direct_arena_again<S: NonZeroInxGenericStack<Direct> + Drop>(
+    stack: S,
+    alloc: Global,
+) -> Result<Vec<u8>, LoadError>
+    requires { S.items stack ≡ [] }
+{
+    let arena = load_direct_arena(stack, alloc, &mut DIRECT.as_slice())?;
+    let mut written = Vec::new(alloc);
+    match save_direct_arena(&arena, alloc, &mut written) {
+        Ok(()) => Ok(written),
+        Err(_) => Err(LoadError::Memory),
+    }
+}
+
+// That this is the file, whole.
+fn is_file(rt: &impl Abort, written: Result<Vec<u8>, LoadError>, file: &[u8]) {
+    let written = written.expect(rt, "the file");
+    is(written.as_slice() == file, true).expect(rt, "the file of what was loaded");
+}
+
 #[test]
 fn an_arena_is_loaded_over_each_stack(rt: HostRuntime) {
     let alloc = rt.alloc();
-    let mut written = Vec::new(alloc);
     let on_heap: NonZeroInxVec<Slot> = NonZeroInxVec::new(alloc);
-    let arena = load_arena(on_heap, alloc, &mut ARENA.as_slice()).expect(&rt, "on the heap");
-    save_arena(&arena, alloc, &mut written).expect(&rt, "memory");
+    is_file(&rt, arena_again(on_heap, alloc), &ARENA);
     let limited: NonZeroInxLimitedVec<Slot> = NonZeroInxLimitedVec::with_min_capacity(
         alloc, 3,
     ).expect(&rt, "memory");
-    let arena = load_arena(limited, alloc, &mut ARENA.as_slice()).expect(&rt, "limited");
-    save_arena(&arena, alloc, &mut written).expect(&rt, "memory");
+    is_file(&rt, arena_again(limited, alloc), &ARENA);
     let boxed: NonZeroInxBoxedSlice<Slot> = NonZeroInxBoxedSlice::with_min_capacity(
         alloc, 3,
     ).expect(&rt, "memory");
-    let arena = load_arena(boxed, alloc, &mut ARENA.as_slice()).expect(&rt, "fixed");
-    save_arena(&arena, alloc, &mut written).expect(&rt, "memory");
+    is_file(&rt, arena_again(boxed, alloc), &ARENA);
     let array: NonZeroInxArray<Slot, 3> = NonZeroInxArray::new(alloc);
-    let arena = load_arena(array, alloc, &mut ARENA.as_slice()).expect(&rt, "in an array");
-    save_arena(&arena, alloc, &mut written).expect(&rt, "memory");
-    for (i, byte) in written.iter().enumerate() {
-        is(*byte, ARENA[i % 74]).expect(&rt, "a byte of the file");
-    }
-    is(written.len(), 296).expect(&rt, "four files");
+    is_file(&rt, arena_again(array, alloc), &ARENA);
+}
+
+#[test]
+fn a_strict_arena_is_loaded_over_each_stack(rt: HostRuntime) {
+    let alloc = rt.alloc();
+    let on_heap: NonZeroInxVec<Slot> = NonZeroInxVec::new(alloc);
+    is_file(&rt, strict_arena_again(on_heap, alloc), &ARENA);
+    let limited: NonZeroInxLimitedVec<Slot> = NonZeroInxLimitedVec::with_min_capacity(
+        alloc, 3,
+    ).expect(&rt, "memory");
+    is_file(&rt, strict_arena_again(limited, alloc), &ARENA);
+    let boxed: NonZeroInxBoxedSlice<Slot> = NonZeroInxBoxedSlice::with_min_capacity(
+        alloc, 3,
+    ).expect(&rt, "memory");
+    is_file(&rt, strict_arena_again(boxed, alloc), &ARENA);
+    let array: NonZeroInxArray<Slot, 3> = NonZeroInxArray::new(alloc);
+    is_file(&rt, strict_arena_again(array, alloc), &ARENA);
 }
 
 #[test]
 fn a_direct_arena_is_loaded_over_each_stack(rt: HostRuntime) {
     let alloc = rt.alloc();
-    let mut written = Vec::new(alloc);
     let on_heap: NonZeroInxVec<Direct> = NonZeroInxVec::new(alloc);
-    let arena = load_direct_arena(on_heap, alloc, &mut DIRECT.as_slice()).expect(
-        &rt,
-        "on the heap",
-    );
-    save_direct_arena(&arena, alloc, &mut written).expect(&rt, "memory");
+    is_file(&rt, direct_arena_again(on_heap, alloc), &DIRECT);
     let limited: NonZeroInxLimitedVec<Direct> = NonZeroInxLimitedVec::with_min_capacity(
         alloc, 3,
     ).expect(&rt, "memory");
-    let arena = load_direct_arena(limited, alloc, &mut DIRECT.as_slice()).expect(&rt, "limited");
-    save_direct_arena(&arena, alloc, &mut written).expect(&rt, "memory");
+    is_file(&rt, direct_arena_again(limited, alloc), &DIRECT);
     let boxed: NonZeroInxBoxedSlice<Direct> = NonZeroInxBoxedSlice::with_min_capacity(
         alloc, 3,
     ).expect(&rt, "memory");
-    let arena = load_direct_arena(boxed, alloc, &mut DIRECT.as_slice()).expect(&rt, "fixed");
-    save_direct_arena(&arena, alloc, &mut written).expect(&rt, "memory");
+    is_file(&rt, direct_arena_again(boxed, alloc), &DIRECT);
     let array: NonZeroInxArray<Direct, 3> = NonZeroInxArray::new(alloc);
-    let arena = load_direct_arena(array, alloc, &mut DIRECT.as_slice()).expect(&rt, "in an array");
-    save_direct_arena(&arena, alloc, &mut written).expect(&rt, "memory");
-    for (i, byte) in written.iter().enumerate() {
-        is(*byte, DIRECT[i % 48]).expect(&rt, "a byte of the file");
-    }
-    is(written.len(), 192).expect(&rt, "four files");
+    is_file(&rt, direct_arena_again(array, alloc), &DIRECT);
 }
 
 #[test]

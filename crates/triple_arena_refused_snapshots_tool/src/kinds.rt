@@ -123,26 +123,6 @@ where
     }
 }
 
-impl<P: Ptr> Kept for StrictArena<P, u8>
-where
-    P::Gen: GenerationCodec,
-{
-    fn make(alloc: Global) -> Result<Self, Wrong> {
-        of_load(Self::load(alloc, &mut ARENA))
-    }
-
-    fn save(self, alloc: Global, output: &mut Held) -> Result<(), (Self, SaveError)> {
-        match save_strict_arena(self, alloc, output) {
-            Ok(_arena) => Ok(()),
-            Err(refused) => Err(refused),
-        }
-    }
-
-    fn load(alloc: Global, input: &mut &[u8]) -> Result<Self, LoadError> {
-        load_strict_arena(NonZeroInxVec::new(alloc), alloc, input)
-    }
-}
-
 // What was loaded to begin with.
 fn of_load<K>(loaded: Result<K, LoadError>) -> Result<K, Wrong> {
     match loaded {
@@ -173,6 +153,11 @@ fn writes<K: Kept + Drop>(kept: K, alloc: Global, file: &[u8]) -> Result<End, Wr
         }
         Err(_) => return Err(Wrong::Answer(0)),
     };
+    holds(&held, file, end)
+}
+
+// That the writer holds the file.
+fn holds(held: &Held, file: &[u8], end: End) -> Result<End, Wrong> {
     if held.is(file) {
         Ok(end)
     } else {
@@ -199,6 +184,69 @@ fn loads<K: Kept + Drop>(alloc: Global, file: &[u8]) -> Result<End, Wrong> {
     }
 }
 
+// The same of a strict arena: it has no proved drop of its own, so it is of no type parameter.
+fn writes_strictly<P: Ptr>(
+    strict: StrictArena<P, u8>,
+    alloc: Global,
+    file: &[u8],
+) -> Result<End, Wrong>
+where
+    P::Gen: GenerationCodec,
+{
+    let mut held = Held::new();
+    match save_strict_arena(strict, alloc, &mut held) {
+        Ok(_arena) => holds(&held, file, End::Ample),
+        Err((strict, SaveError::Memory)) => {
+            let was_empty = held.is(&[]);
+            match save_strict_arena(strict, alloc, &mut held) {
+                Ok(_arena) => {
+                    if !was_empty {
+                        return Err(Wrong::Answer(1));
+                    }
+                    holds(&held, file, End::Refused)
+                }
+                Err(_refused) => Err(Wrong::Answer(1)),
+            }
+        }
+        Err(_refused) => Err(Wrong::Answer(0)),
+    }
+}
+
+fn load_strictly<P: Ptr>(alloc: Global, file: &[u8]) -> Result<StrictArena<P, u8>, LoadError>
+where
+    P::Gen: GenerationCodec,
+{
+    load_strict_arena(NonZeroInxVec::new(alloc), alloc, &mut &*file)
+}
+
+fn saves_strictly<P: Ptr>(alloc: Global, file: &[u8]) -> Result<End, Wrong>
+where
+    P::Gen: GenerationCodec,
+{
+    match load_strictly::<P>(alloc, file) {
+        Ok(strict) => writes_strictly(strict, alloc, file),
+        Err(LoadError::Memory) => Err(Wrong::NoMemory),
+        Err(_) => Err(Wrong::Answer(2)),
+    }
+}
+
+fn loads_strictly<P: Ptr>(alloc: Global, file: &[u8]) -> Result<End, Wrong>
+where
+    P::Gen: GenerationCodec,
+{
+    match load_strictly::<P>(alloc, file) {
+        Ok(strict) => writes_strictly(strict, alloc, file),
+        Err(LoadError::Memory) => match load_strictly::<P>(alloc, file) {
+            Ok(strict) => {
+                writes_strictly(strict, alloc, file)?;
+                Ok(End::Refused)
+            }
+            Err(_) => Err(Wrong::Answer(4)),
+        },
+        Err(_) => Err(Wrong::Answer(3)),
+    }
+}
+
 /// Saves each.
 pub fn save_each(alloc: Global, report: &mut Report) {
     report.note("save", "texts", saves::<Vec<String>>(alloc, TEXTS));
@@ -209,11 +257,7 @@ pub fn save_each(alloc: Global, report: &mut Report) {
         "a direct arena",
         saves::<DirectArena<P3, u8>>(alloc, DIRECT),
     );
-    report.note(
-        "save",
-        "a strict arena",
-        saves::<StrictArena<P3, u8>>(alloc, ARENA),
-    );
+    report.note("save", "a strict arena", saves_strictly::<P3>(alloc, ARENA));
 }
 
 /// Loads each.
@@ -226,9 +270,5 @@ pub fn load_each(alloc: Global, report: &mut Report) {
         "a direct arena",
         loads::<DirectArena<P3, u8>>(alloc, DIRECT),
     );
-    report.note(
-        "load",
-        "a strict arena",
-        loads::<StrictArena<P3, u8>>(alloc, ARENA),
-    );
+    report.note("load", "a strict arena", loads_strictly::<P3>(alloc, ARENA));
 }

@@ -1,18 +1,18 @@
 //! The arena.
 
-ghost use Rattle.std.specs.Prelude.{◌≡◌, ℕ, ◌≤◌, ◌==◌, ◌∷◌, ◌↔◌, ◌≢◌, cond, false, [], map, length, is_some, IsSome, IsOk, OnOk, OnErr, Some, None, Err, option_copied, MatchOption};
+ghost use Rattle.std.specs.Prelude.{◌≡◌, ℕ, ◌≤◌, ◌==◌, ◌∷◌, ◌↔◌, ◌≢◌, [], map, length, is_some, IsSome, IsOk, OnOk, OnErr, Some, None, Err, option_copied, MatchOption};
 ghost use Rattle.std.specs.Borrow.{sem, LendsIf};
 ghost use Rattle.std.specs.Int.NonZero.{non_zero_usize_get};
 ghost use Rattle.std.specs.Option.{option_map, option_copied_mut};
-ghost use Rattle.triple_arena_ptr.specs.Numbers.{greatest_index, raise, wraps, first_generation};
+ghost use Rattle.triple_arena_ptr.specs.Numbers.{greatest_index, raise, wraps};
 ghost use Rattle.triple_arena_ptr.specs.Pointers.{Pointer};
 ghost use Rattle.triple_arena_stack.specs.Capacity.{IsWithin, IsBeyond};
 ghost use Rattle.triple_arena_stack.specs.StackKind.{IsOfKind};
 ghost use Rattle.triple_arena_traits.specs.Entries.{look_up, entry_in, entry_count, IsFirst, IsLast};
 ghost use Rattle.triple_arena_traits.specs.Walks.{IsAtFirst};
-ghost use Rattle.triple_arena_traits.specs.ArenaState.{ArenaState, new_arena, capacity, arena_len, with_value, IsWellFormed};
+ghost use Rattle.triple_arena_traits.specs.ArenaState.{ArenaState, capacity, arena_len, with_value, IsWellFormed};
 ghost use Rattle.triple_arena_traits.specs.SlotSteps.{RisesByAtMost, IsTouched};
-ghost use Rattle.triple_arena_traits.specs.Ending.{removed, invalidated, cleared, told_of, map_told};
+ghost use Rattle.triple_arena_traits.specs.Ending.{removed, invalidated, told_of, map_told};
 ghost use Rattle.triple_arena_traits.specs.FreeList.{tidied};
 ghost use Rattle.triple_arena_traits.specs.Reallocation.{reallocated, KeepsRoom};
 ghost use Rattle.triple_arena_slots.specs.Slot.{entry_of};
@@ -31,6 +31,7 @@ mod insertion;
 mod look_ups;
 mod over;
 mod room;
+mod states;
 
 use crate::arena_iterators::PtrAdvancer;
 use std::alloc::Global;
@@ -93,74 +94,20 @@ impl<P: Ptr, T, S: NonZeroInxGenericStack<ArenaSlot<P, T>>> Model for Arena<P, T
 // Where the body of a method makes calls, the trait's clauses are written out, since inheriting them makes each
 // call dearer to prove.
 impl<P: Ptr, T, S: NonZeroInxGenericStack<ArenaSlot<P, T>>> ArenaTrait<P, T> for Arena<P, T, S> {
-    ghost use Rattle.std.specs.Prelude.{refl};
     ghost use Rattle.std.proofs.Common.{ap, subst, sym};
-    ghost use Rattle.triple_arena_traits.specs.laws.EntryLaws.{slots-cleared};
-    ghost use Rattle.triple_arena_traits.specs.laws.LengthLaws.{len-with_value};
-    ghost use Rattle.triple_arena_traits.specs.laws.WellFormedLaws.{IsWellFormed-touched};
-    ghost use Rattle.triple_arena.specs.laws.TouchedLaws.{removed_slots, removed_len, removed_limit, removed_capacity, invalidated_slots, invalidated_len, reallocated_slots, reallocated_len, tidied_slots, tidied_len, Continues-unchanged};
+    ghost use Rattle.triple_arena.specs.laws.TouchedLaws.{reallocated_slots, reallocated_len};
 
     type PtrAdvancer = PtrAdvancer<P>;
 
     // an advancer is seen as its stand
     ghost stand = { λ s. s };
 
-    // the entries of the slots, and nothing for a free one
-    ghost slots = { λ s. s.slots };
-
-    // the free list has each free index once, and the slots are no more than fit
-    ghost valid = { IsWellFormed };
-
-    // the smallest of room, limit and greatest index
-    ghost capacity = { capacity };
-
-    ghost limit = { λ s. s.limit };
-
     ghost kind = { S.kind };
 
     ghost has_memory = { S.has_memory };
 
-    // no slot, and the first generation as the counter
-    ghost empty = { λ room limit. new_arena room limit (greatest_index P.Inx.greatest)
-        (first_generation P.Gen.generations) };
-
-    // the counter
-    ghost next_generation = { λ s. Some s.counter };
-
-    // no pointer is given twice, and exactly those that were given and have not ended are valid
-    ghost fits = { Fits };
-
-    ghost with_value = { with_value };
-
-    // the count of the slots that were touched
-    ghost steps = { λ s. s.steps };
-
-    // nothing else changed
-    ghost unchanged = { IsTouched };
-
-    // the counter is raised, and the entry has it as its generation
-    ghost invalidates = { λ old i new. IsTouched (invalidated (raise P.Gen.generations) old i) new };
-
-    // the raised counter
-    ghost renewed = { λ s _. raise P.Gen.generations s.counter };
-
-    // the counter is raised; the last slot goes, and any other becomes the first free one
-    ghost removes = { λ old i new. IsTouched (removed (raise P.Gen.generations) old i) new };
-
-    // the counter is the greatest generation
-    ghost ending_wraps = { λ s. wraps P.Gen.generations s.counter };
-
-    // no slot is left; the counter is raised once if there was an entry
-    ghost clears = { λ old new. new ≡ cleared (raise P.Gen.generations) old };
-
-    // there was an entry, and the counter is the greatest generation
-    ghost clearing_wraps = { λ s. cond (arena_len s == 0) false (wraps P.Gen.generations s.counter) };
-
     // the free list is tidied, and then the room is changed as the stack's kind does it
     ghost reallocates = { λ old m new. IsTouched (reallocated S.kind old m) new };
-
-    // the free list is tidied
-    ghost tidies = { λ old _ new. IsTouched (tidied old) new };
 
     // the room that the stack's kind makes of it, once the free list is tidied, is the old one
     ghost keeps_room = { KeepsRoom S.kind };
@@ -394,81 +341,16 @@ impl<P: Ptr, T, S: NonZeroInxGenericStack<ArenaSlot<P, T>>> ArenaTrait<P, T> for
         self.inc_generation()
     }
 
-    ghost slots_empty = { λ _ _. refl };
-
-    ghost limit_empty = { λ _ _. refl };
-
-    ghost capacity_empty = { λ _ _. refl };
-
-    ghost slots_with_value = { λ _ _ _. refl };
-
-    ghost len_with_value = { len-with_value };
-
-    ghost limit_with_value = { λ _ _ _. refl };
-
-    ghost capacity_with_value = { λ _ _ _. refl };
-
-    ghost slots_removed = { removed_slots (raise P.Gen.generations) };
-
-    ghost len_removed = { removed_len (raise P.Gen.generations) };
-
-    ghost limit_removed = { removed_limit (raise P.Gen.generations) };
-
-    ghost capacity_removed = { removed_capacity (raise P.Gen.generations) };
-
-    ghost slots_unchanged = { λ _ _ same. ap (λ s. s.slots) same.0 };
-
-    ghost valid_unchanged = { IsWellFormed-touched };
-
-    ghost limit_unchanged = { λ _ _ same. ap (λ s. s.limit) same.0 };
-
-    ghost capacity_unchanged = { λ _ _ same. ap capacity same.0 };
-
-    ghost generation_unchanged = { λ _ _ same. ap (λ s. Some s.counter) same.0 };
-
-    ghost renewed_unchanged = { λ _ _ _ same. ap (λ s. raise P.Gen.generations s.counter) same.0 };
-
-    ghost ending_wraps_unchanged = { λ _ _ same. ap (λ s. wraps P.Gen.generations s.counter) same.0 };
-
-    ghost clearing_wraps_unchanged = { λ _ _ same.
-        ap (λ s. cond (arena_len s == 0) false (wraps P.Gen.generations s.counter)) same.0 };
-
     ghost keeps_room_unchanged = { λ _ _ m same. subst (λ s. KeepsRoom S.kind s m) (sym same.0) };
 
     ghost gets_room_unchanged = { λ _ _ m same.
         subst (λ s. S.has_memory (reallocated S.kind s m).room) (sym same.0) };
-
-    ghost fits_unchanged = { Continues-unchanged };
-
-    ghost slots_invalidated = { invalidated_slots (raise P.Gen.generations) };
-
-    ghost len_invalidated = { invalidated_len (raise P.Gen.generations) };
-
-    ghost limit_invalidated = { λ _ _ _ same. ap (λ s. s.limit) same.0 };
-
-    ghost capacity_invalidated = { λ _ _ _ same. ap capacity same.0 };
-
-    ghost slots_cleared = { slots-cleared (raise P.Gen.generations) };
-
-    ghost len_cleared = { λ _ _. ap arena_len };
-
-    ghost limit_cleared = { λ _ _. ap (λ s. s.limit) };
-
-    ghost capacity_cleared = { λ _ _. ap capacity };
 
     ghost slots_reallocated = { reallocated_slots S.kind };
 
     ghost len_reallocated = { reallocated_len S.kind };
 
     ghost limit_reallocated = { λ _ _ _ same. ap (λ s. s.limit) same.0 };
-
-    ghost slots_tidied = { λ old _. tidied_slots old };
-
-    ghost len_tidied = { λ old _. tidied_len old };
-
-    ghost limit_tidied = { λ _ _ _ same. ap (λ s. s.limit) same.0 };
-
-    ghost capacity_tidied = { λ _ _ _ same. ap capacity same.0 };
 }
 
 impl<P: Ptr, T, S: NonZeroInxGenericStack<ArenaSlot<P, T>>> Arena<P, T, S> {

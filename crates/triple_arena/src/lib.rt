@@ -28,6 +28,6 @@ pub use triple_arena_stack::{
 };
 pub use triple_arena_traits::{
     ArenaCloneFromWith, ArenaDirectInsertEntryTrait, ArenaDirectInsertTrait, ArenaInsertTrait,
-    ArenaTrait, CompactArenaTrait, DisjointableArenaTrait, InsertFailed, LendingArena, laws,
-    recast_entries,
+    ArenaLaws, ArenaStates, ArenaTrait, CompactArenaTrait, DisjointableArenaTrait, InsertFailed,
+    LendingArena, laws, recast_entries,
 };

@@ -13,7 +13,7 @@ ghost use Rattle.triple_arena_traits.specs.Walks.{IsAtFirst};
 ghost use Rattle.triple_arena_traits.specs.Ending.{told_of, map_told};
 ghost use Rattle.triple_arena_traits.specs.SlotSteps.{RisesByAtMost};
 ghost use Rattle.triple_arena_traits.specs.Histories.{History, resizing, removal, remains, Continues, CountsUp};
-ghost use Rattle.triple_arena_direct_arena.specs.DirectState.{DirectState, new_direct, generation_of, direct_len, direct_capacity, SlotsFit, direct_with_value, direct_removed, direct_cleared, direct_shortened, direct_reallocated};
+ghost use Rattle.triple_arena_direct_arena.specs.DirectState.{DirectState, new_direct, direct_len, direct_capacity, SlotsFit, direct_with_value, direct_removed, direct_shortened, direct_reallocated};
 ghost use Rattle.triple_arena_traits.specs.Lent.{lends_values};
 ghost use Rattle.triple_arena_direct_arena.specs.DirectValues.{direct_with_values_of};
 ghost use Rattle.triple_arena_direct_arena.specs.DirectSlot.{direct_slot_entry};
@@ -26,6 +26,7 @@ mod insertion;
 mod look_ups;
 mod over;
 mod room;
+mod states;
 
 use crate::direct_arena_iterators::PtrAdvancer;
 use crate::direct_slots::DirectSlots;
@@ -70,67 +71,20 @@ impl<P: Ptr, T, S: NonZeroInxGenericStack<DirectSlot<P, T>>> Model for DirectAre
 
 impl<P: Ptr, T, S: NonZeroInxGenericStack<DirectSlot<P, T>>> ArenaTrait<P, T>
     for DirectArena<P, T, S> {
-    ghost use Rattle.std.specs.Prelude.{refl};
     ghost use Rattle.std.proofs.Common.{ap, subst, sym};
-    ghost use Rattle.triple_arena_direct_arena.specs.laws.DirectStepLaws.{len-with_value, slots-removed, len-removed, slots-kept, slots-cleared, slots-tidied, len-tidied, slots-reallocated, len-reallocated};
+    ghost use Rattle.triple_arena_direct_arena.specs.laws.DirectStepLaws.{slots-reallocated, len-reallocated};
 
     type PtrAdvancer = PtrAdvancer<P>;
 
     // an advancer is seen as its stand
     ghost stand = { λ s. s };
 
-    // the entries of the slots, and nothing for a free one
-    ghost slots = { λ s. s.slots };
-
-    // the slots are no more than fit
-    ghost valid = { SlotsFit };
-
-    // the smallest of room, limit and greatest index
-    ghost capacity = { direct_capacity };
-
-    ghost limit = { λ s. s.limit };
-
     ghost kind = { S.kind };
 
     ghost has_memory = { S.has_memory };
 
-    // no slot
-    ghost empty = { λ room limit. new_direct room limit (greatest_index P.Inx.greatest) };
-
-    // an insertion is told its generation
-    ghost next_generation = { λ _. None };
-
-    // none, since insertion is told the pointer
-    ghost fits = { λ _ _. ⊥ };
-
-    ghost with_value = { direct_with_value };
-
-    // nothing is counted
-    ghost steps = { λ _. 0 };
-
-    ghost unchanged = { λ old new. new ≡ old };
-
-    // all stays, the generation too
-    ghost invalidates = { λ old _ new. new ≡ old };
-
-    ghost renewed = { λ s i. generation_of (entry_in s.slots i) };
-
-    // the slot is free
-    ghost removes = { λ old i new. new ≡ direct_removed old i };
-
-    // there is no counter
-    ghost ending_wraps = { λ _. false };
-
-    // no slot is left
-    ghost clears = { λ old new. new ≡ direct_cleared old };
-
-    ghost clearing_wraps = { λ _. false };
-
     // free slots past the new capacity go, and then the room is changed as the stack's kind does it
     ghost reallocates = { λ old m new. new ≡ direct_reallocated S.kind old m };
-
-    // free slots past the capacity that was asked for go
-    ghost tidies = { λ old m new. new ≡ direct_shortened old m };
 
     // the room that the stack's kind makes of it, once those slots are gone, is the old one
     ghost keeps_room = { λ s m. (direct_reallocated S.kind s m).room ≡ s.room };
@@ -346,81 +300,17 @@ impl<P: Ptr, T, S: NonZeroInxGenericStack<DirectSlot<P, T>>> ArenaTrait<P, T>
         InvalidationOption::Success(())
     }
 
-    ghost slots_empty = { λ _ _. refl };
-
-    ghost limit_empty = { λ _ _. refl };
-
-    ghost capacity_empty = { λ _ _. refl };
-
-    ghost slots_with_value = { λ _ _ _. refl };
-
-    ghost len_with_value = { len-with_value };
-
-    ghost limit_with_value = { λ _ _ _. refl };
-
-    ghost capacity_with_value = { λ _ _ _. refl };
-
-    ghost slots_removed = { slots-removed };
-
-    ghost len_removed = { len-removed };
-
-    ghost limit_removed = { λ _ _ _. ap (λ s. s.limit) };
-
-    ghost capacity_removed = { λ _ _ _. ap direct_capacity };
-
-    ghost slots_unchanged = { λ _ _. ap (λ s. s.slots) };
-
-    ghost valid_unchanged = { λ _ _ same. subst SlotsFit (sym same) };
-
-    ghost limit_unchanged = { λ _ _. ap (λ s. s.limit) };
-
-    ghost capacity_unchanged = { λ _ _. ap direct_capacity };
-
-    ghost generation_unchanged = { λ _ _ _. refl };
-
-    ghost renewed_unchanged = { λ _ _ i. ap (λ s. generation_of (entry_in s.slots i)) };
-
-    ghost ending_wraps_unchanged = { λ _ _ _. refl };
-
-    ghost clearing_wraps_unchanged = { λ _ _ _. refl };
-
     ghost keeps_room_unchanged = { λ _ _ m same.
         subst (λ s. (direct_reallocated S.kind s m).room ≡ s.room) (sym same) };
 
     ghost gets_room_unchanged = { λ _ _ m same.
         subst (λ s. S.has_memory (direct_reallocated S.kind s m).room) (sym same) };
 
-    ghost fits_unchanged = { λ _ _ _ _ none. none };
-
-    ghost slots_invalidated = { slots-kept };
-
-    ghost len_invalidated = { λ _ _ _. ap direct_len };
-
-    ghost limit_invalidated = { λ _ _ _. ap (λ s. s.limit) };
-
-    ghost capacity_invalidated = { λ _ _ _. ap direct_capacity };
-
-    ghost slots_cleared = { slots-cleared };
-
-    ghost len_cleared = { λ _ _. ap direct_len };
-
-    ghost limit_cleared = { λ _ _. ap (λ s. s.limit) };
-
-    ghost capacity_cleared = { λ _ _. ap direct_capacity };
-
     ghost slots_reallocated = { slots-reallocated S.kind };
 
     ghost len_reallocated = { len-reallocated S.kind };
 
     ghost limit_reallocated = { λ _ _ _. ap (λ s. s.limit) };
-
-    ghost slots_tidied = { slots-tidied };
-
-    ghost len_tidied = { len-tidied };
-
-    ghost limit_tidied = { λ _ _ _. ap (λ s. s.limit) };
-
-    ghost capacity_tidied = { λ _ _ _. ap direct_capacity };
 }
 
 impl<P: Ptr, T, S: NonZeroInxGenericStack<DirectSlot<P, T>>> DirectArena<P, T, S> {

@@ -20,7 +20,7 @@ impl<
         P.Ptr.own P.Debug P.Hash.own P.PartialEq P.PartialOrd.own P.Ord.own P.Recast
         P.Inx.PtrInx.own P.Inx.Debug P.Inx.Hash.own P.Inx.PartialEq P.Inx.PartialOrd.own
         P.Inx.Ord.own P.Gen.PtrGen.own P.Gen.Debug P.Gen.Hash.own P.Gen.PartialEq
-        P.Gen.PartialOrd.own P.Gen.Ord.own A.CompactArenaTrait.own A.ArenaTrait.own
-        A.PtrAdvancer.Advancer A.ArenaInsertTrait.own B.ArenaInsertTrait.own B.ArenaTrait.own
+        P.Gen.PartialOrd.own P.Gen.Ord.own A.CompactArenaTrait.own A.ArenaTrait.own A.ArenaStates
+        A.PtrAdvancer.Advancer A.ArenaInsertTrait.own B.ArenaInsertTrait.own B.ArenaTrait.own B.ArenaStates
         B.PtrAdvancer.Advancer };
 }

@@ -7,10 +7,10 @@ use Rattle.triple_arena_chain.proofs.steps.lead_back.Goals as goal
 
 pub returns-clause-nodes : goal.returns-clause-nodes
 returns-clause-nodes g c = λ q.
-    let slots = g.A.ArenaTrait.slots c.args.arena.now in
+    let slots = g.A.ArenaStates.slots c.args.arena.now in
     let change = with_before {T = g.row.T.Denot} (option_map g.P.Ptr.numbers c.args.before) in
     let found : look_up slots (g.P.Ptr.numbers c.in-Some.at) ≡ Some c.in-Some-get_mut.link.now = search rules in
-    ap (λ s. look_up (node_slots g.P.Ptr.numbers s) q) (g.met.A.ArenaTrait.slots_with_value c.args.arena.now (g.P.Ptr.numbers c.in-Some.at).0 (record c.in-Some-get_mut.link.now { before = c.args.before }))
+    ap (λ s. look_up (node_slots g.P.Ptr.numbers s) q) (g.met.A.ArenaLaws.slots_with_value c.args.arena.now (g.P.Ptr.numbers c.in-Some.at).0 (record c.in-Some-get_mut.link.now { before = c.args.before }))
     ∙ changed_link g.P.Ptr.numbers slots c.in-Some.at c.in-Some-get_mut.link.now (record c.in-Some-get_mut.link.now { before = c.args.before }) change found refl q
     ∙ ap (λ at. changed (option_map g.P.Ptr.numbers at) change q (look_up (node_slots g.P.Ptr.numbers slots) q)) (sym c.in-Some.is)
 

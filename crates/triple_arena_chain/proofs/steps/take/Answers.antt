@@ -14,4 +14,4 @@ pub returns-clause-answer : goal.returns-clause-answer
 returns-clause-answer g c = (told_there _ _ _ (c.unwrap.ensures ∙ ap as_option c.remove.ensures.answer)).1
 
 pub returns-clause-others : goal.returns-clause-others
-returns-clause-others g c = λ r other. same_link g.P.Ptr.numbers (g.A.ArenaTrait.slots c.args.arena.now) (g.A.ArenaTrait.slots c.remove.new.self) r (c.remove.ensures.others r other)
+returns-clause-others g c = λ r other. same_link g.P.Ptr.numbers (g.A.ArenaStates.slots c.args.arena.now) (g.A.ArenaStates.slots c.remove.new.self) r (c.remove.ensures.others r other)

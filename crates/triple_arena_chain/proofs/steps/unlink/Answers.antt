@@ -12,9 +12,9 @@ use Rattle.triple_arena_chain.proofs.steps.unlink.Goals as goal
 pub returns-clause-removed : goal.returns-clause-removed
 returns-clause-removed g c =
     let numbers = g.P.Ptr.numbers in
-    let slots = g.A.ArenaTrait.slots c.args.arena.now in
-    let mid = look_up (node_slots numbers (g.A.ArenaTrait.slots c.take-taken.new.arena)) in
-    let parts = told_parts (g.A.ArenaTrait.ending_wraps c.args.arena.now) c.take-taken.result c.overflowing-link.result c.take-taken.ensures.answer c.overflowing-link.ensures in
+    let slots = g.A.ArenaStates.slots c.args.arena.now in
+    let mid = look_up (node_slots numbers (g.A.ArenaStates.slots c.take-taken.new.arena)) in
+    let parts = told_parts (g.A.ArenaStates.ending_wraps c.args.arena.now) c.take-taken.result c.overflowing-link.result c.take-taken.ensures.answer c.overflowing-link.ensures in
     let found : look_up slots (numbers c.args.p) ≡ Some c.overflowing-link.result.0 = c.take-taken.ensures.link ∙ ap Some (sym parts.0) in
     let node : look_up (node_slots numbers slots) (numbers c.args.p) ≡ Some (node_of numbers c.overflowing-link.result.0) = read_link numbers slots (numbers c.args.p) ∙ ap (option_map (node_of numbers)) found in
     is_removed (look_up (node_slots numbers slots)) mid _ (numbers c.args.p) c.requires.linked c.take-taken.ensures.gone c.take-taken.ensures.others
@@ -26,17 +26,17 @@ returns-clause-ended g c = (c.take-taken.new.arena, c.tie.ensures.written.0, c.t
 pub returns-clause-value : goal.returns-clause-value
 returns-clause-value g c =
     let numbers = g.P.Ptr.numbers in
-    let slots = g.A.ArenaTrait.slots c.args.arena.now in
-    let parts = told_parts (g.A.ArenaTrait.ending_wraps c.args.arena.now) c.take-taken.result c.overflowing-link.result c.take-taken.ensures.answer c.overflowing-link.ensures in
+    let slots = g.A.ArenaStates.slots c.args.arena.now in
+    let parts = told_parts (g.A.ArenaStates.ending_wraps c.args.arena.now) c.take-taken.result c.overflowing-link.result c.take-taken.ensures.answer c.overflowing-link.ensures in
     let found : look_up slots (numbers c.args.p) ≡ Some c.overflowing-link.result.0 = c.take-taken.ensures.link ∙ ap Some (sym parts.0) in
     ap (option_map (λ (n : Node g.row.T.Denot). n.value)) (read_link numbers slots (numbers c.args.p) ∙ ap (option_map (node_of numbers)) found)
     ∙ ap Some (sym (allowed_told c.overflowing-link.result.1 c.overflowing-link.result.0.value) ∙ sym (ap allowed_option c.telling.ensures))
 
 pub returns-clause-answer : goal.returns-clause-answer
 returns-clause-answer g c =
-    let parts = told_parts (g.A.ArenaTrait.ending_wraps c.args.arena.now) c.take-taken.result c.overflowing-link.result c.take-taken.ensures.answer c.overflowing-link.ensures in
+    let parts = told_parts (g.A.ArenaStates.ending_wraps c.args.arena.now) c.take-taken.result c.overflowing-link.result c.take-taken.ensures.answer c.overflowing-link.ensures in
     c.telling.ensures ∙ ap (λ b. told b c.overflowing-link.result.0.value) parts.1
-    ∙ ap (told (g.A.ArenaTrait.ending_wraps c.args.arena.now)) (sym (allowed_told c.overflowing-link.result.1 c.overflowing-link.result.0.value) ∙ sym (ap allowed_option c.telling.ensures))
+    ∙ ap (told (g.A.ArenaStates.ending_wraps c.args.arena.now)) (sym (allowed_told c.overflowing-link.result.1 c.overflowing-link.result.0.value) ∙ sym (ap allowed_option c.telling.ensures))
 
 pub returns-clause-history : goal.returns-clause-history
 returns-clause-history g c = λ up h fits. c.tie.ensures.history _ (c.take-taken.ensures.history up h fits)

@@ -12,12 +12,12 @@ use Rattle.triple_arena_direct.proofs.Extended.{none_came, one_came, all_more, v
 use Rattle.triple_arena_direct.proofs.extending.extend.Goals as goal
 
 pub each-init : goal.each-init
-each-init g c = record { came = []; yielded = refl; entries = none_came g.A.ArenaTrait.slots g.A.ArenaTrait.fits _; done = refl; limit = refl }
+each-init g c = record { came = []; yielded = refl; entries = none_came g.A.ArenaStates.slots g.A.ArenaStates.fits _; done = refl; limit = refl }
 
 pub each-preserved : goal.each-preserved
 each-preserved g c =
     let law = g.met.A.ArenaInsertTrait in
-    let slots = g.A.ArenaTrait.slots in
+    let slots = g.A.ArenaStates.slots in
     let inserted = g.A.ArenaInsertTrait.inserted in
     let grown = g.A.ArenaInsertTrait.grown in
     let inv = c.each.invariant in
@@ -29,17 +29,17 @@ each-preserved g c =
     record {
       came = inv.came ++ entry ∷ [];
       yielded = values_more inv.came entry ∙ ap (λ l. l ++ x ∷ []) inv.yielded;
-      entries = one_came slots g.A.ArenaTrait.fits c.args.this.now mid c.try_insert.new.self entry.0 x c.in-Ok.ensures.free c.in-Ok.ensures.others inv.came inv.entries c.in-Ok.ensures.found more c.in-Ok.ensures.history;
+      entries = one_came slots g.A.ArenaStates.fits c.args.this.now mid c.try_insert.new.self entry.0 x c.in-Ok.ensures.free c.in-Ok.ensures.others inv.came inv.entries c.in-Ok.ensures.found more c.in-Ok.ensures.history;
       done = c.in-Ok.ensures.inserted ∙ ap (λ a. inserted (grown a) x) inv.done
           ∙ sym (all_more inserted grown c.args.this.now (values_of inv.came) x) ∙ ap (all_inserted inserted grown c.args.this.now) (sym (values_more inv.came entry));
-      limit = ap g.A.ArenaTrait.limit c.in-Ok.ensures.inserted ∙ law.limit_inserted (grown mid) x ∙ law.limit_grown mid ∙ inv.limit;
+      limit = ap g.A.ArenaStates.limit c.in-Ok.ensures.inserted ∙ law.limit_inserted (grown mid) x ∙ law.limit_grown mid ∙ inv.limit;
     }
 
 pub returns-in-Err : goal.returns-in-Err
 returns-in-Err g c =
-    let slots = g.A.ArenaTrait.slots in
-    let capacity = g.A.ArenaTrait.capacity in
-    let limit = g.A.ArenaTrait.limit in
+    let slots = g.A.ArenaStates.slots in
+    let capacity = g.A.ArenaStates.capacity in
+    let limit = g.A.ArenaStates.limit in
     let next = g.U.IntoIter.Iterator.next_gives in
     let inv = c.each.invariant in
     let it = c.into_iter-value-iterator in
@@ -49,7 +49,7 @@ returns-in-Err g c =
         it.result,
         inv.came,
         it.ensures.into_iter_gives,
-        subst (EntriesCame slots g.A.ArenaTrait.fits c.args.this.now inv.came) (sym same) inv.entries,
+        subst (EntriesCame slots g.A.ArenaStates.fits c.args.this.now inv.came) (sym same) inv.entries,
         same ∙ inv.done,
         (
           c.next.new.self,

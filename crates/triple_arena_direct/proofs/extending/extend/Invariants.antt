@@ -8,7 +8,7 @@ abbrev pub invariant-each : goal.invariant-each
 invariant-each g l = record {
   came : List (Pointer × g.row.T.Denot);
   yielded : values_of came ≡ l.yielded;
-  entries : EntriesCame g.A.ArenaTrait.slots g.A.ArenaTrait.fits l.fn.this came l.this;
+  entries : EntriesCame g.A.ArenaStates.slots g.A.ArenaStates.fits l.fn.this came l.this;
   done : l.this ≡ all_inserted g.A.ArenaInsertTrait.inserted g.A.ArenaInsertTrait.grown l.fn.this (values_of came);
-  limit : g.A.ArenaTrait.limit l.this ≡ g.A.ArenaTrait.limit l.fn.this;
+  limit : g.A.ArenaStates.limit l.this ≡ g.A.ArenaStates.limit l.fn.this;
 }

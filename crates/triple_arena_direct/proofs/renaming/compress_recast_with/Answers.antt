@@ -8,7 +8,7 @@ use Rattle.triple_arena_direct.proofs.renaming.compress_recast_with.Goals as goa
 
 pub compress_renaming-answer-requires-clause-resolved : goal.compress_renaming-answer-requires-clause-resolved
 compress_renaming-answer-requires-clause-resolved g c κs within =
-    let slots = g.A.ArenaTrait.slots c.args.this.now in
+    let slots = g.A.ArenaStates.slots c.args.this.now in
     rw c.in_ok-pointers.ensures.unchanged
     (front_resolved g.P.Ptr.numbers slots (held_all g.T.Recast.held (values slots)) (g.H.Recast.held c.args.holder.now) c.in_ok-pointers.ensures.resolved).0
 
@@ -26,7 +26,7 @@ returns-clause-found g c = rw c.in_ok-pointers.ensures.unchanged at c.compress_r
 pub returns-clause-renamed : goal.returns-clause-renamed
 returns-clause-renamed g c =
     let old = c.args.this.now in
-    let slots = g.A.ArenaTrait.slots old in
+    let slots = g.A.ArenaStates.slots old in
     let images = c.compress_renaming-answer.new.images.slots in
     let held = g.H.Recast.held in
     let resolved = front_resolved g.P.Ptr.numbers slots (held_all g.T.Recast.held (values slots)) (held c.args.holder.now) c.in_ok-pointers.ensures.resolved in

@@ -11,15 +11,15 @@ use Rattle.triple_arena_direct.proofs.renaming_both.compress_recast_both_with.Go
 
 pub compress_renaming-first_answer-requires-clause-resolved : goal.compress_renaming-first_answer-requires-clause-resolved
 compress_renaming-first_answer-requires-clause-resolved g c κs within =
-    let slots = g.A.ArenaTrait.slots c.args.first.now in
+    let slots = g.A.ArenaStates.slots c.args.first.now in
     let same = c.in-Ok-resolved_beside.ensures.beside_unchanged ∙ c.in-Ok.ensures.unchanged in
-    rw same (three_resolved g.P.Ptr.numbers slots (held_all g.T.Recast-1.held (values slots)) (held_all g.U.Recast-1.held (values (g.B.ArenaTrait.slots c.args.second.now))) (g.H.Recast-1.held c.args.holder.now) c.in-Ok.ensures.resolved).0
+    rw same (three_resolved g.P.Ptr.numbers slots (held_all g.T.Recast-1.held (values slots)) (held_all g.U.Recast-1.held (values (g.B.ArenaStates.slots c.args.second.now))) (g.H.Recast-1.held c.args.holder.now) c.in-Ok.ensures.resolved).0
 
 pub compress_renaming-second_answer-requires-clause-resolved : goal.compress_renaming-second_answer-requires-clause-resolved
 compress_renaming-second_answer-requires-clause-resolved g c κs within =
-    let slots = g.B.ArenaTrait.slots c.resolved_beside.new.beside in
+    let slots = g.B.ArenaStates.slots c.resolved_beside.new.beside in
     rw c.in-Ok-resolved_beside.ensures.unchanged
-    (three_resolved g.Q.Ptr.numbers slots (held_all g.U.Recast-2.held (values slots)) (held_all g.T.Recast-2.held (values (g.A.ArenaTrait.slots c.resolved_beside.new.this))) (g.H.Recast-2.held c.resolved_beside.new.holder) c.in-Ok-resolved_beside.ensures.resolved).0
+    (three_resolved g.Q.Ptr.numbers slots (held_all g.U.Recast-2.held (values slots)) (held_all g.T.Recast-2.held (values (g.A.ArenaStates.slots c.resolved_beside.new.this))) (g.H.Recast-2.held c.resolved_beside.new.holder) c.in-Ok-resolved_beside.ensures.resolved).0
 
 pub returns-clause-first_maps : goal.returns-clause-first_maps
 returns-clause-first_maps g c =
@@ -32,15 +32,15 @@ returns-clause-first_done g c =
     let new = c.recast_entries-renamed.new.arena in
     let same = c.in-Ok-resolved_beside.ensures.beside_unchanged ∙ c.in-Ok.ensures.unchanged in
     let same_too = c.in-Ok-resolved_beside.ensures.unchanged ∙ c.in-Ok.ensures.beside_unchanged in
-    let slots_too = g.B.ArenaTrait.slots c.args.second.now in
-    let none = (three_resolved g.Q.Ptr.numbers slots_too (held_all g.U.Recast-2.held (values slots_too)) (held_all g.T.Recast-2.held (values (g.A.ArenaTrait.slots old))) (g.H.Recast-2.held c.resolved_beside.new.holder)
+    let slots_too = g.B.ArenaStates.slots c.args.second.now in
+    let none = (three_resolved g.Q.Ptr.numbers slots_too (held_all g.U.Recast-2.held (values slots_too)) (held_all g.T.Recast-2.held (values (g.A.ArenaStates.slots old))) (g.H.Recast-2.held c.resolved_beside.new.holder)
     (rw (c.in-Ok.ensures.unchanged, c.in-Ok.ensures.beside_unchanged) at c.in-Ok-resolved_beside.ensures.resolved)).1 in
     let follows = followed_both g.P.Ptr.numbers (g.A.CompactArenaTrait.rank old c.args.reset_generation) g.T.Recast-1.held g.T.Recast-1.refill
     g.Q.Ptr.numbers (g.B.CompactArenaTrait.rank c.args.second.now c.args.reset_generation) g.T.Recast-2.held g.T.Recast-2.refill c.requires.first_apart g.met.T.Recast-2.held_refill
-    g.A.ArenaTrait.slots g.A.ArenaTrait.with_value old c.compress_renaming-first_answer.new.this new (g.A.CompactArenaTrait.compresses old c.args.reset_generation)
+    g.A.ArenaStates.slots g.A.ArenaStates.with_value old c.compress_renaming-first_answer.new.this new (g.A.CompactArenaTrait.compresses old c.args.reset_generation)
     (g.met.A.CompactArenaTrait.compresses_with_value old c.args.reset_generation) (g.met.A.CompactArenaTrait.values_compressed old c.args.reset_generation) (g.met.A.CompactArenaTrait.ranked old c.args.reset_generation)
     slots_too c.compress_renaming-second_answer.new.images.slots (rw same_too at c.compress_renaming-second_answer.ensures.maps) (rw same at c.compress_renaming-first_answer.ensures.done) (rw same at c.compress_renaming-first_answer.ensures.keys) none c.recast_entries-renamed.ensures.after in
-    (values (g.A.ArenaTrait.slots new), follows.0, follows.1)
+    (values (g.A.ArenaStates.slots new), follows.0, follows.1)
 
 pub returns-clause-first_values : goal.returns-clause-first_values
 unfolding returns-clause-first_done
@@ -53,13 +53,13 @@ returns-clause-first_found g c =
     let same = c.in-Ok-resolved_beside.ensures.beside_unchanged ∙ c.in-Ok.ensures.unchanged in
     found_both g.P.Ptr.numbers rank g.T.Recast-1.held g.T.Recast-1.refill
     g.Q.Ptr.numbers (g.B.CompactArenaTrait.rank c.args.second.now c.args.reset_generation) g.T.Recast-2.held g.T.Recast-2.refill
-    rank (g.A.ArenaTrait.slots old) (g.A.ArenaTrait.slots c.recast_entries-renamed.new.arena)
+    rank (g.A.ArenaStates.slots old) (g.A.ArenaStates.slots c.recast_entries-renamed.new.arena)
     (c.recast_entries-renamed.ensures.keys ∙ (rw same at c.compress_renaming-first_answer.ensures.keys)) (returns-clause-first_values g c)
 
 pub returns-clause-first_len : goal.returns-clause-first_len
 returns-clause-first_len g c =
     let same = c.in-Ok-resolved_beside.ensures.beside_unchanged ∙ c.in-Ok.ensures.unchanged in
-    sym (length-keys (g.A.ArenaTrait.slots c.recast_entries-renamed.new.arena)) ∙ ap length c.recast_entries-renamed.ensures.keys ∙ length-keys (g.A.ArenaTrait.slots c.compress_renaming-first_answer.new.this)
+    sym (length-keys (g.A.ArenaStates.slots c.recast_entries-renamed.new.arena)) ∙ ap length c.recast_entries-renamed.ensures.keys ∙ length-keys (g.A.ArenaStates.slots c.compress_renaming-first_answer.new.this)
     ∙ (rw same at c.compress_renaming-first_answer.ensures.len)
 
 pub returns-clause-first_history : goal.returns-clause-first_history
@@ -83,14 +83,14 @@ returns-clause-second_done g c =
     let new = c.recast_entries-also_renamed.new.arena in
     let same = c.in-Ok-resolved_beside.ensures.unchanged ∙ c.in-Ok.ensures.beside_unchanged in
     let same_too = c.in-Ok-resolved_beside.ensures.beside_unchanged ∙ c.in-Ok.ensures.unchanged in
-    let slots_too = g.A.ArenaTrait.slots c.args.first.now in
-    let none = (three_resolved g.P.Ptr.numbers slots_too (held_all g.T.Recast-1.held (values slots_too)) (held_all g.U.Recast-1.held (values (g.B.ArenaTrait.slots old))) (g.H.Recast-1.held c.args.holder.now) c.in-Ok.ensures.resolved).1 in
+    let slots_too = g.A.ArenaStates.slots c.args.first.now in
+    let none = (three_resolved g.P.Ptr.numbers slots_too (held_all g.T.Recast-1.held (values slots_too)) (held_all g.U.Recast-1.held (values (g.B.ArenaStates.slots old))) (g.H.Recast-1.held c.args.holder.now) c.in-Ok.ensures.resolved).1 in
     let follows = followed_both g.Q.Ptr.numbers (g.B.CompactArenaTrait.rank old c.args.reset_generation) g.U.Recast-2.held g.U.Recast-2.refill
     g.P.Ptr.numbers (g.A.CompactArenaTrait.rank c.args.first.now c.args.reset_generation) g.U.Recast-1.held g.U.Recast-1.refill c.requires.second_apart g.met.U.Recast-1.held_refill
-    g.B.ArenaTrait.slots g.B.ArenaTrait.with_value old c.compress_renaming-second_answer.new.this new (g.B.CompactArenaTrait.compresses old c.args.reset_generation)
+    g.B.ArenaStates.slots g.B.ArenaStates.with_value old c.compress_renaming-second_answer.new.this new (g.B.CompactArenaTrait.compresses old c.args.reset_generation)
     (g.met.B.CompactArenaTrait.compresses_with_value old c.args.reset_generation) (g.met.B.CompactArenaTrait.values_compressed old c.args.reset_generation) (g.met.B.CompactArenaTrait.ranked old c.args.reset_generation)
     slots_too c.compress_renaming-first_answer.new.images.slots (rw same_too at c.compress_renaming-first_answer.ensures.maps) (rw same at c.compress_renaming-second_answer.ensures.done) (rw same at c.compress_renaming-second_answer.ensures.keys) none c.recast_entries-also_renamed.ensures.after in
-    (values (g.B.ArenaTrait.slots new), follows.0, follows.1)
+    (values (g.B.ArenaStates.slots new), follows.0, follows.1)
 
 pub returns-clause-second_values : goal.returns-clause-second_values
 unfolding returns-clause-second_done
@@ -103,13 +103,13 @@ returns-clause-second_found g c =
     let same = c.in-Ok-resolved_beside.ensures.unchanged ∙ c.in-Ok.ensures.beside_unchanged in
     found_both g.Q.Ptr.numbers rank g.U.Recast-2.held g.U.Recast-2.refill
     g.P.Ptr.numbers (g.A.CompactArenaTrait.rank c.args.first.now c.args.reset_generation) g.U.Recast-1.held g.U.Recast-1.refill
-    rank (g.B.ArenaTrait.slots old) (g.B.ArenaTrait.slots c.recast_entries-also_renamed.new.arena)
+    rank (g.B.ArenaStates.slots old) (g.B.ArenaStates.slots c.recast_entries-also_renamed.new.arena)
     (c.recast_entries-also_renamed.ensures.keys ∙ (rw same at c.compress_renaming-second_answer.ensures.keys)) (returns-clause-second_values g c)
 
 pub returns-clause-second_len : goal.returns-clause-second_len
 returns-clause-second_len g c =
     let same = c.in-Ok-resolved_beside.ensures.unchanged ∙ c.in-Ok.ensures.beside_unchanged in
-    sym (length-keys (g.B.ArenaTrait.slots c.recast_entries-also_renamed.new.arena)) ∙ ap length c.recast_entries-also_renamed.ensures.keys ∙ length-keys (g.B.ArenaTrait.slots c.compress_renaming-second_answer.new.this)
+    sym (length-keys (g.B.ArenaStates.slots c.recast_entries-also_renamed.new.arena)) ∙ ap length c.recast_entries-also_renamed.ensures.keys ∙ length-keys (g.B.ArenaStates.slots c.compress_renaming-second_answer.new.this)
     ∙ (rw same at c.compress_renaming-second_answer.ensures.len)
 
 pub returns-clause-second_history : goal.returns-clause-second_history
@@ -126,8 +126,8 @@ pub returns-clause-renamed : goal.returns-clause-renamed
 returns-clause-renamed g c =
     let first = c.args.first.now in
     let second = c.args.second.now in
-    let slots = g.A.ArenaTrait.slots first in
-    let slots_too = g.B.ArenaTrait.slots second in
+    let slots = g.A.ArenaStates.slots first in
+    let slots_too = g.B.ArenaStates.slots second in
     let images = c.compress_renaming-first_answer.new.images.slots in
     let same = c.in-Ok-resolved_beside.ensures.beside_unchanged ∙ c.in-Ok.ensures.unchanged in
     let same_too = c.in-Ok-resolved_beside.ensures.unchanged ∙ c.in-Ok.ensures.beside_unchanged in

@@ -12,33 +12,33 @@ use Rattle.triple_arena_direct.proofs.renaming_both.resolved_beside.Goals as goa
 pub returns-in_err-all-clause-refusal : goal.returns-in_err-all-clause-refusal
 returns-in_err-all-clause-refusal g c unlimited =
     let refused = c.in_err-all.ensures.refusal unlimited in
-    let slots = g.A.ArenaTrait.slots c.args.this.now in
+    let slots = g.A.ArenaStates.slots c.args.this.now in
     let own = held_all g.T.Recast.held (values slots) in
-    let others = held_all g.U.Recast.held (values (g.B.ArenaTrait.slots c.args.beside.now)) in
+    let others = held_all g.U.Recast.held (values (g.B.ArenaStates.slots c.args.beside.now)) in
     let first = first_unresolved g.P.Ptr.numbers slots own in
     let refuses : IfErr c.from_residual.result (Refuses (entry_count slots) first) = search rules in
     refuses_more (entry_count slots) first _ (λ p some. first_before g.P.Ptr.numbers slots (own ++ others) (g.H.Recast.held c.args.holder.now) p (first_before g.P.Ptr.numbers slots own others p some)) c.from_residual.result refuses
 
 pub returns-in-Err-clause-refusal : goal.returns-in-Err-clause-refusal
 returns-in-Err-clause-refusal g c unlimited =
-    let slots = g.A.ArenaTrait.slots c.args.this.now in
+    let slots = g.A.ArenaStates.slots c.args.this.now in
     let own = held_all g.T.Recast.held (values slots) in
-    let others = held_all g.U.Recast.held (values (g.B.ArenaTrait.slots c.args.beside.now)) in
+    let others = held_all g.U.Recast.held (values (g.B.ArenaStates.slots c.args.beside.now)) in
     first_before g.P.Ptr.numbers slots (own ++ others) (g.H.Recast.held c.args.holder.now) c.in-Err.p
     (first_behind g.P.Ptr.numbers slots own others c.in_ok-all.ensures.resolved
     ∙ one_unresolved g.P.Ptr.numbers slots (λ p. look_up c.in_ok-all.all.slots (g.P.Ptr.numbers p)) c.in_ok-all.ensures.own others c.in-Err.p (sym c.in-Err.ensures.answer))
 
 pub returns-in-Err-clause-beside_unchanged : goal.returns-in-Err-clause-beside_unchanged
 returns-in-Err-clause-beside_unchanged g c =
-    let slots = g.A.ArenaTrait.slots c.args.this.now in
-    unchanged g.P.Ptr.numbers slots g.U.Recast.held g.U.Recast.refill g.met.U.Recast.refill_held g.B.ArenaTrait.slots g.B.ArenaTrait.with_value g.met.B.CompactArenaTrait.with_value_same g.met.B.ArenaTrait.slots_with_value
+    let slots = g.A.ArenaStates.slots c.args.this.now in
+    unchanged g.P.Ptr.numbers slots g.U.Recast.held g.U.Recast.refill g.met.U.Recast.refill_held g.B.ArenaStates.slots g.B.ArenaStates.with_value g.met.B.CompactArenaTrait.with_value_same g.met.B.ArenaLaws.slots_with_value
     (λ p. look_up c.in_ok-all.all.slots (g.P.Ptr.numbers p)) c.args.beside.now c.recast_entries.new.arena c.in_ok-all.ensures.own c.recast_entries.ensures.after
 
 pub returns-in-Err-recast-clause-refusal : goal.returns-in-Err-recast-clause-refusal
 returns-in-Err-recast-clause-refusal g c unlimited =
-    let slots = g.A.ArenaTrait.slots c.args.this.now in
+    let slots = g.A.ArenaStates.slots c.args.this.now in
     let own = held_all g.T.Recast.held (values slots) in
-    let others = held_all g.U.Recast.held (values (g.B.ArenaTrait.slots c.args.beside.now)) in
+    let others = held_all g.U.Recast.held (values (g.B.ArenaStates.slots c.args.beside.now)) in
     let held = g.H.Recast.held c.args.holder.now in
     let image = λ (p : g.row.P.Denot). look_up c.in_ok-all.all.slots (g.P.Ptr.numbers p) in
     first_behind g.P.Ptr.numbers slots (own ++ others) held
@@ -47,31 +47,31 @@ returns-in-Err-recast-clause-refusal g c unlimited =
 
 pub returns-in-Err-recast-clause-beside_unchanged : goal.returns-in-Err-recast-clause-beside_unchanged
 returns-in-Err-recast-clause-beside_unchanged g c =
-    let slots = g.A.ArenaTrait.slots c.args.this.now in
-    unchanged g.P.Ptr.numbers slots g.U.Recast.held g.U.Recast.refill g.met.U.Recast.refill_held g.B.ArenaTrait.slots g.B.ArenaTrait.with_value g.met.B.CompactArenaTrait.with_value_same g.met.B.ArenaTrait.slots_with_value
+    let slots = g.A.ArenaStates.slots c.args.this.now in
+    unchanged g.P.Ptr.numbers slots g.U.Recast.held g.U.Recast.refill g.met.U.Recast.refill_held g.B.ArenaStates.slots g.B.ArenaStates.with_value g.met.B.CompactArenaTrait.with_value_same g.met.B.ArenaLaws.slots_with_value
     (λ p. look_up c.in_ok-all.all.slots (g.P.Ptr.numbers p)) c.args.beside.now c.recast_entries.new.arena c.in_ok-all.ensures.own c.recast_entries.ensures.after
 
 pub returns-in-Err-recast-clause-holder_unchanged : goal.returns-in-Err-recast-clause-holder_unchanged
 returns-in-Err-recast-clause-holder_unchanged g c =
-    let slots = g.A.ArenaTrait.slots c.args.this.now in
+    let slots = g.A.ArenaStates.slots c.args.this.now in
     holder_stays g.P.Ptr.numbers slots g.H.Recast.held g.H.Recast.refill g.met.H.Recast.refill_held (λ p. look_up c.in_ok-all.all.slots (g.P.Ptr.numbers p)) c.in_ok-all.ensures.own c.args.holder.now c.recast.new.self c.recast.ensures.after
 
 pub returns-in-Ok-recast-clause-beside_unchanged : goal.returns-in-Ok-recast-clause-beside_unchanged
 returns-in-Ok-recast-clause-beside_unchanged g c =
-    let slots = g.A.ArenaTrait.slots c.args.this.now in
-    unchanged g.P.Ptr.numbers slots g.U.Recast.held g.U.Recast.refill g.met.U.Recast.refill_held g.B.ArenaTrait.slots g.B.ArenaTrait.with_value g.met.B.CompactArenaTrait.with_value_same g.met.B.ArenaTrait.slots_with_value
+    let slots = g.A.ArenaStates.slots c.args.this.now in
+    unchanged g.P.Ptr.numbers slots g.U.Recast.held g.U.Recast.refill g.met.U.Recast.refill_held g.B.ArenaStates.slots g.B.ArenaStates.with_value g.met.B.CompactArenaTrait.with_value_same g.met.B.ArenaLaws.slots_with_value
     (λ p. look_up c.in_ok-all.all.slots (g.P.Ptr.numbers p)) c.args.beside.now c.recast_entries.new.arena c.in_ok-all.ensures.own c.recast_entries.ensures.after
 
 pub returns-in-Ok-recast-clause-holder_unchanged : goal.returns-in-Ok-recast-clause-holder_unchanged
 returns-in-Ok-recast-clause-holder_unchanged g c =
-    let slots = g.A.ArenaTrait.slots c.args.this.now in
+    let slots = g.A.ArenaStates.slots c.args.this.now in
     holder_stays g.P.Ptr.numbers slots g.H.Recast.held g.H.Recast.refill g.met.H.Recast.refill_held (λ p. look_up c.in_ok-all.all.slots (g.P.Ptr.numbers p)) c.in_ok-all.ensures.own c.args.holder.now c.recast.new.self c.recast.ensures.after
 
 pub returns-in-Ok-recast-clause-resolved : goal.returns-in-Ok-recast-clause-resolved
 returns-in-Ok-recast-clause-resolved g c =
-    let slots = g.A.ArenaTrait.slots c.args.this.now in
+    let slots = g.A.ArenaStates.slots c.args.this.now in
     let own = held_all g.T.Recast.held (values slots) in
-    let others = held_all g.U.Recast.held (values (g.B.ArenaTrait.slots c.args.beside.now)) in
+    let others = held_all g.U.Recast.held (values (g.B.ArenaStates.slots c.args.beside.now)) in
     let held = g.H.Recast.held c.args.holder.now in
     let image = λ (p : g.row.P.Denot). look_up c.in_ok-all.all.slots (g.P.Ptr.numbers p) in
     first_behind g.P.Ptr.numbers slots (own ++ others) held

@@ -31,34 +31,34 @@ walk-preserved g c =
 pub end_unless-wrapped-requires-clause-live : goal.end_unless-wrapped-requires-clause-live
 end_unless-wrapped-requires-clause-live g c κs within =
     let live = (g.met.A.CompactArenaTrait.advanced _ _ _ _ c.in-Some.ensures.steps).answers.0 in
-    rw (g.met.A.ArenaTrait.slots_with_value _ _ _) (still_there _ (g.P.Ptr.numbers c.in-Some.p) _ live)
+    rw (g.met.A.ArenaLaws.slots_with_value _ _ _) (still_there _ (g.P.Ptr.numbers c.in-Some.p) _ live)
 
 pub walk-preserved-in-Some-get_mut : goal.walk-preserved-in-Some-get_mut
 walk-preserved-in-Some-get_mut g c =
     let steps = g.met.A.CompactArenaTrait.advanced _ _ _ _ c.in-Some.ensures.steps in
-    let changed = changed_somehow g.P.Ptr.numbers (goal.F-step g) g.A.ArenaTrait.with_value g.A.ArenaTrait.removes g.A.ArenaTrait.ending_wraps g.A.ArenaTrait.slots g.met.A.ArenaTrait.slots_with_value g.met.A.ArenaTrait.slots_removed
+    let changed = changed_somehow g.P.Ptr.numbers (goal.F-step g) g.A.ArenaStates.with_value g.A.ArenaStates.removes g.A.ArenaStates.ending_wraps g.A.ArenaStates.slots g.met.A.ArenaLaws.slots_with_value g.met.A.ArenaLaws.slots_removed
     c.keep-kept.result c.walk.this c.end_unless-wrapped.new.this _ _ c.end_unless-wrapped.ensures.done in
     let rest = ahead_changed _ _ _ _ _ _ changed.0 steps changed.1 in
     let is = ahead_taken _ _ _ _ _ c.walk.invariant.forward steps _ (sym c.in-Some-get_mut.ensures.value) ∙ ap (λ es. (g.P.Ptr.numbers c.in-Some.p, c.in-Some-get_mut.value.now) ∷ es) (sym rest) in
     record {
       callable = search of_calls;
       forward = forward_stays _ _ _ _ _ steps ∙ c.walk.invariant.forward;
-      goes_on = goes_on g.P.Ptr.numbers (goal.F-step g) g.A.ArenaTrait.with_value g.A.ArenaTrait.removes g.A.ArenaTrait.ending_wraps _ _ _ _ _ _ _ _ _ c.end_unless-wrapped.result _ _ is
-          (asked g.P.Ptr.numbers (goal.F-step g) g.A.ArenaTrait.with_value g.A.ArenaTrait.removes g.A.ArenaTrait.ending_wraps c.walk.keep _ c.in-Some.p c.in-Some-get_mut.value _ c.keep-kept.result c.end_unless-wrapped.result c.keep-kept.new.self _ c.keep-kept.ensures c.end_unless-wrapped.ensures.done c.end_unless-wrapped.ensures.wrapped)
+      goes_on = goes_on g.P.Ptr.numbers (goal.F-step g) g.A.ArenaStates.with_value g.A.ArenaStates.removes g.A.ArenaStates.ending_wraps _ _ _ _ _ _ _ _ _ c.end_unless-wrapped.result _ _ is
+          (asked g.P.Ptr.numbers (goal.F-step g) g.A.ArenaStates.with_value g.A.ArenaStates.removes g.A.ArenaStates.ending_wraps c.walk.keep _ c.in-Some.p c.in-Some-get_mut.value _ c.keep-kept.result c.end_unless-wrapped.result c.keep-kept.new.self _ c.keep-kept.ensures c.end_unless-wrapped.ensures.done c.end_unless-wrapped.ensures.wrapped)
           c.walk.invariant.goes_on;
-      limit = c.end_unless-wrapped.ensures.limit ∙ g.met.A.ArenaTrait.limit_with_value _ _ _ ∙ c.walk.invariant.limit;
-      capacity = c.end_unless-wrapped.ensures.capacity ∙ g.met.A.ArenaTrait.capacity_with_value _ _ _ ∙ c.walk.invariant.capacity;
+      limit = c.end_unless-wrapped.ensures.limit ∙ g.met.A.ArenaLaws.limit_with_value _ _ _ ∙ c.walk.invariant.limit;
+      capacity = c.end_unless-wrapped.ensures.capacity ∙ g.met.A.ArenaLaws.capacity_with_value _ _ _ ∙ c.walk.invariant.capacity;
       history = λ up.
           let parts = neither _ _ up.1 in
           let before = c.walk.invariant.history (up.0, parts.0) in
           let after = c.end_unless-wrapped.ensures.history (up.0, parts.1) in
-          (before.0 ++ after.0, λ h fits. subst (λ k. g.A.ArenaTrait.fits k c.end_unless-wrapped.new.this) (sym (gone_more h before.0 after.0)) (after.1 _ (c.get_mut.ensures.written _ _ (before.1 h fits))));
+          (before.0 ++ after.0, λ h fits. subst (λ k. g.A.ArenaStates.fits k c.end_unless-wrapped.new.this) (sym (gone_more h before.0 after.0)) (after.1 _ (c.get_mut.ensures.written _ _ (before.1 h fits))));
     }
 
 pub returns-clause-retained : goal.returns-clause-retained
 returns-clause-retained g c =
     let wrapped = ap (λ r. not (is_success_option r)) c.told.ensures ∙ told_is c.walk.wrapped in
-    (c.walk.keep, rw wrapped (ends g.P.Ptr.numbers (goal.F-step g) g.A.ArenaTrait.with_value g.A.ArenaTrait.removes g.A.ArenaTrait.ending_wraps _ _ _ _ _ _ _ (ahead_none _ _ _ _ (g.met.A.CompactArenaTrait.advanced _ _ _ _ c.in_default.ensures.steps)) c.walk.invariant.goes_on))
+    (c.walk.keep, rw wrapped (ends g.P.Ptr.numbers (goal.F-step g) g.A.ArenaStates.with_value g.A.ArenaStates.removes g.A.ArenaStates.ending_wraps _ _ _ _ _ _ _ (ahead_none _ _ _ _ (g.met.A.CompactArenaTrait.advanced _ _ _ _ c.in_default.ensures.steps)) c.walk.invariant.goes_on))
 
 pub returns-clause-history : goal.returns-clause-history
 returns-clause-history g c =

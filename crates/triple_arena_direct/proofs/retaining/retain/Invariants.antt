@@ -10,10 +10,10 @@ abbrev pub invariant-walk : goal.invariant-walk
 invariant-walk g l = record {
   callable : goal.F-IsAlwaysCallable g l.keep;
   forward : (g.A.ArenaTrait.stand l.advancer).reverse ≡ false;
-  goes_on : GoesOn g.P.Ptr.numbers (goal.F-step g) g.A.ArenaTrait.with_value g.A.ArenaTrait.removes g.A.ArenaTrait.ending_wraps l.fn.keep l.fn.this (entries (g.A.ArenaTrait.slots l.fn.this)) (entries_ahead (g.A.ArenaTrait.stand l.advancer) (g.A.ArenaTrait.slots l.this)) l.wrapped l.keep l.this;
-  limit : g.A.ArenaTrait.limit l.this ≡ g.A.ArenaTrait.limit l.fn.this;
-  capacity : g.A.ArenaTrait.capacity l.this ≡ g.A.ArenaTrait.capacity l.fn.this;
-  history : CountsUp g.P.Gen.PtrGen.generations l.wrapped → (gone : List Pointer) × Continues g.A.ArenaTrait.fits l.fn.this (map removal gone) l.this;
+  goes_on : GoesOn g.P.Ptr.numbers (goal.F-step g) g.A.ArenaStates.with_value g.A.ArenaStates.removes g.A.ArenaStates.ending_wraps l.fn.keep l.fn.this (entries (g.A.ArenaStates.slots l.fn.this)) (entries_ahead (g.A.ArenaTrait.stand l.advancer) (g.A.ArenaStates.slots l.this)) l.wrapped l.keep l.this;
+  limit : g.A.ArenaStates.limit l.this ≡ g.A.ArenaStates.limit l.fn.this;
+  capacity : g.A.ArenaStates.capacity l.this ≡ g.A.ArenaStates.capacity l.fn.this;
+  history : CountsUp g.P.Gen.PtrGen.generations l.wrapped → (gone : List Pointer) × Continues g.A.ArenaStates.fits l.fn.this (map removal gone) l.this;
 }
 
 abbrev pub decreases-walk : goal.decreases-walk

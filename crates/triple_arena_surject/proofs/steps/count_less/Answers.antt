@@ -9,7 +9,7 @@ use Rattle.triple_arena_surject.proofs.steps.count_less.Goals as goal
 
 pub returns-else-count-eq1-clause-less : goal.returns-else-count-eq1-clause-less
 returns-else-count-eq1-clause-less g c =
-    let slots = g.B.ArenaTrait.slots c.args.sets.now in
+    let slots = g.B.ArenaStates.slots c.args.sets.now in
     let at = g.P.Ptr.numbers c.args.c in
     let count = c.size_of-count.result in
     let had = c.requires.counted in

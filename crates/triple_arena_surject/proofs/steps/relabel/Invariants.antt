@@ -10,5 +10,5 @@ invariant-round g l = record {
   len : l.keys.len ≡ l.fn.keys.len;
   capacity : l.keys.capacity ≡ l.fn.keys.capacity;
   limit : l.keys.limit ≡ l.fn.keys.limit;
-  history : Continues g.A.ArenaTrait.fits l.fn.keys.arena [] l.keys.arena;
+  history : Continues g.A.ArenaStates.fits l.fn.keys.arena [] l.keys.arena;
 }

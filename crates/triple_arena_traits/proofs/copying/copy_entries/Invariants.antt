@@ -9,7 +9,7 @@ invariant-walk g l =
     goal.M-IsAlwaysCallable g l.f
     × (g.S.NonZeroInxGenericStack.room l.stack ≡ g.S.NonZeroInxGenericStack.room l.initial.stack)
     × (g.S.NonZeroInxGenericStack.limit l.stack ≡ g.S.NonZeroInxGenericStack.limit l.initial.stack)
-    × Copied g.P.Ptr.numbers (goal.M-step g) l.initial.f (g.A.ArenaTrait.slots l.source) (g.A.ArenaTrait.stand l.advancer) l.f
+    × Copied g.P.Ptr.numbers (goal.M-step g) l.initial.f (g.A.ArenaStates.slots l.source) (g.A.ArenaTrait.stand l.advancer) l.f
     (map g.X.EntrySlot.entry (g.S.NonZeroInxGenericStack.items l.stack))
 
 abbrev pub decreases-walk : goal.decreases-walk

@@ -10,7 +10,7 @@ use Rattle.triple_arena_traits.proofs.last_index.last_index.Goals as goal
 
 pub unwrap-requires : goal.unwrap-requires
 unwrap-requires g c =
-    let slots = g.A.ArenaTrait.slots c.args.arena.now in
+    let slots = g.A.ArenaStates.slots c.args.arena.now in
     let p = g.P.Ptr.numbers c.in-Some.p in
     let last = rw c.in-Some.is at c.find_last_inx_ptr.ensures in
     let live : IsSome (entry_in slots p.0) = rw (found slots p last.live).entry refl in
@@ -19,7 +19,7 @@ unwrap-requires g c =
 
 pub returns-in-Some : goal.returns-in-Some
 returns-in-Some g c =
-    let slots = g.A.ArenaTrait.slots c.args.arena.now in
+    let slots = g.A.ArenaStates.slots c.args.arena.now in
     let p = g.P.Ptr.numbers c.in-Some.p in
     let last = rw c.in-Some.is at c.find_last_inx_ptr.ensures in
     let live : IsSome (entry_in slots p.0) = rw (found slots p last.live).entry refl in
@@ -33,5 +33,5 @@ returns-in-Some g c =
 
 pub returns-in-None : goal.returns-in-None
 returns-in-None g c =
-    let slots = g.A.ArenaTrait.slots c.args.arena.now in
+    let slots = g.A.ArenaStates.slots c.args.arena.now in
     record { value = end_none slots (λ i. none_of_none slots i (rw c.in-None.is at c.find_last_inx_ptr.ensures)); indexed = omega arith; fits = omega arith }

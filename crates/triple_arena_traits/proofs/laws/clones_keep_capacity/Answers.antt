@@ -7,7 +7,7 @@ returns g c =
     record {
       fits = g.met.A.ArenaCloneFromWith.capacity_cloned;
       kept = clones_keep_capacity
-          (clonable g.A.ArenaTrait.slots g.A.ArenaTrait.capacity g.A.ArenaCloneFromWith.clones)
-          (clonable g.B.ArenaTrait.slots g.B.ArenaTrait.capacity g.B.ArenaCloneFromWith.clones)
+          (clonable g.A.ArenaStates.slots g.A.ArenaStates.capacity g.A.ArenaCloneFromWith.clones)
+          (clonable g.B.ArenaStates.slots g.B.ArenaStates.capacity g.B.ArenaCloneFromWith.clones)
           g.met.A.ArenaCloneFromWith.capacity_cloned g.met.B.ArenaCloneFromWith.capacity_cloned;
     }

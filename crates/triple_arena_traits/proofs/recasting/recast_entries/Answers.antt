@@ -28,12 +28,12 @@ walk-preserved g c =
     let w = rw (keys_taken _ _ _ _ _ c.walk.invariant.0 steps) at c.walk.invariant.1 in
     let k = g.P.Ptr.numbers c.in-Some.p in
     let keys = keys_kept _ _ _ _ _ _ _ _ c.args.arena.now c.walk.arena k _ c.recast.new.self w in
-    let same = ahead_by_keys (g.A.ArenaTrait.stand c.advance.new.self) (g.A.ArenaTrait.slots (g.A.ArenaTrait.with_value c.walk.arena k.0 c.recast.new.self)) (g.A.ArenaTrait.slots c.walk.arena) keys in (
+    let same = ahead_by_keys (g.A.ArenaTrait.stand c.advance.new.self) (g.A.ArenaStates.slots (g.A.ArenaStates.with_value c.walk.arena k.0 c.recast.new.self)) (g.A.ArenaStates.slots c.walk.arena) keys in (
       forward_stays _ _ _ _ _ steps ∙ c.walk.invariant.0,
       rw same (walk_ok _ _ _ _ _ _ _ _ c.args.arena.now c.walk.arena k _ c.unwrap-value.result.now c.recast.new.self w
           (sym (ap option_copied_mut c.unwrap-value.ensures) ∙ c.get_mut.ensures.value) c.recast.ensures.after (sym c.recast.ensures.answer ∙ c.in_ok-recast.was)),
-      g.met.A.ArenaTrait.limit_with_value _ _ _ ∙ c.walk.invariant.2,
-      g.met.A.ArenaTrait.capacity_with_value _ _ _ ∙ c.walk.invariant.3,
+      g.met.A.ArenaLaws.limit_with_value _ _ _ ∙ c.walk.invariant.2,
+      g.met.A.ArenaLaws.capacity_with_value _ _ _ ∙ c.walk.invariant.3,
       λ h fits. c.get_mut.ensures.written _ h (c.walk.invariant.4 h fits),
       keys ∙ c.walk.invariant.5,
     )
@@ -62,10 +62,10 @@ returns-in_err-recast-clause-keys g c =
     keys_kept _ _ _ _ _ _ _ _ c.args.arena.now c.walk.arena (g.P.Ptr.numbers c.in-Some.p) _ c.recast.new.self w ∙ c.walk.invariant.5
 
 pub returns-in_err-recast-clause-limit : goal.returns-in_err-recast-clause-limit
-returns-in_err-recast-clause-limit g c = g.met.A.ArenaTrait.limit_with_value _ _ _ ∙ c.walk.invariant.2
+returns-in_err-recast-clause-limit g c = g.met.A.ArenaLaws.limit_with_value _ _ _ ∙ c.walk.invariant.2
 
 pub returns-in_err-recast-clause-capacity : goal.returns-in_err-recast-clause-capacity
-returns-in_err-recast-clause-capacity g c = g.met.A.ArenaTrait.capacity_with_value _ _ _ ∙ c.walk.invariant.3
+returns-in_err-recast-clause-capacity g c = g.met.A.ArenaLaws.capacity_with_value _ _ _ ∙ c.walk.invariant.3
 
 pub returns-in_err-recast-clause-history : goal.returns-in_err-recast-clause-history
 returns-in_err-recast-clause-history g c = λ h fits. c.get_mut.ensures.written _ h (c.walk.invariant.4 h fits)

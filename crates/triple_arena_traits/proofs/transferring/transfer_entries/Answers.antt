@@ -50,7 +50,7 @@ returns g c =
     let end = transfer_end _ _ _ _ _ _ _ _ _ _ _ c.args.f c.args.source.now c.walk.f c.walk.source _ _ _ c.walk.invariant.3 d.0 in
     record {
       transferred = rw d.1 end.0;
-      emptied = ap (λ a. entry_count (g.A.ArenaTrait.slots a)) d.1 ∙ end.1;
+      emptied = ap (λ a. entry_count (g.A.ArenaStates.slots a)) d.1 ∙ end.1;
       count = sym (length-map (g.S.NonZeroInxGenericStack.items c.walk.stack) g.X.EntrySlot.entry) ∙ end.2;
       room = c.walk.invariant.1;
       limit = c.walk.invariant.2;

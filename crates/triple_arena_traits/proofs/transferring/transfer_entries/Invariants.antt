@@ -9,7 +9,7 @@ invariant-walk g l =
     goal.M-IsAlwaysCallable g l.f
     × (g.S.NonZeroInxGenericStack.room l.stack ≡ g.S.NonZeroInxGenericStack.room l.initial.stack)
     × (g.S.NonZeroInxGenericStack.limit l.stack ≡ g.S.NonZeroInxGenericStack.limit l.initial.stack)
-    × Transferred g.Q.Ptr.numbers g.P.Ptr.numbers (goal.M-step g) g.A.ArenaTrait.slots g.A.ArenaTrait.fits g.A.ArenaTrait.removes g.A.ArenaTrait.ending_wraps g.Q.Gen.PtrGen.generations g.met.A.ArenaTrait.slots_removed
+    × Transferred g.Q.Ptr.numbers g.P.Ptr.numbers (goal.M-step g) g.A.ArenaStates.slots g.A.ArenaStates.fits g.A.ArenaStates.removes g.A.ArenaStates.ending_wraps g.Q.Gen.PtrGen.generations g.met.A.ArenaLaws.slots_removed
     (greatest_index g.Q.Inx.PtrInx.greatest) (g.P.Gen.PtrGen.number l.fn.generation)
     l.initial.f l.initial.source l.f l.source (g.A.ArenaTrait.stand l.advancer) (map g.X.EntrySlot.entry (g.S.NonZeroInxGenericStack.items l.stack))
 

@@ -9,8 +9,8 @@ returns g c = record {
   kept = on_ok c.clone_from-2.result _ (λ x is i. c.in_ok-clone_from.ensures.entries i);
   same_capacity =
       on_ok c.clone_from-2.result _ (λ x is.
-      let one_kind = clonable g.A.ArenaTrait.slots g.A.ArenaTrait.capacity g.A.ArenaCloneFromWith.clones in
-      let other_kind = clonable g.B.ArenaTrait.slots g.B.ArenaTrait.capacity g.B.ArenaCloneFromWith.clones in
+      let one_kind = clonable g.A.ArenaStates.slots g.A.ArenaStates.capacity g.A.ArenaCloneFromWith.clones in
+      let other_kind = clonable g.B.ArenaStates.slots g.B.ArenaStates.capacity g.B.ArenaCloneFromWith.clones in
       let there = c.in_ok-clone_from.ensures in
       let first = there.cloned (Ok tt) refl in
       let back = c.clone_from-2.ensures in

@@ -18,7 +18,7 @@ walk-preserved-in-Some-get_mut g c =
     let steps = g.met.A.CompactArenaTrait.advanced _ _ _ _ c.in-Some.ensures.steps in
     record {
       forward = forward_stays _ _ _ _ _ steps ∙ c.walk.invariant.forward;
-      so_far = rw (g.met.A.ArenaTrait.slots_with_value _ _ _) (made_more _ _ _ _ _ _ _ _ _ c.walk.invariant.forward steps (sym c.in-Some-get_mut.ensures.value) refl c.walk.invariant.so_far);
+      so_far = rw (g.met.A.ArenaLaws.slots_with_value _ _ _) (made_more _ _ _ _ _ _ _ _ _ c.walk.invariant.forward steps (sym c.in-Some-get_mut.ensures.value) refl c.walk.invariant.so_far);
     }
 
 pub returns : goal.returns

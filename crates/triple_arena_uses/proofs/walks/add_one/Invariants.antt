@@ -7,7 +7,7 @@ use Rattle.triple_arena_uses.proofs.walks.add_one.Given as goal
 abbrev pub invariant-walk : goal.invariant-walk
 invariant-walk g l = record {
   forward : (g.A.ArenaTrait.stand l.advancer).reverse ≡ false;
-  so_far : IsMadeSoFar (λ e. (e.0, (e.1 + 1) % 2 ^ 64)) (entries (g.A.ArenaTrait.slots l.fn.arena)) (g.A.ArenaTrait.stand l.advancer) (g.A.ArenaTrait.slots l.arena);
+  so_far : IsMadeSoFar (λ e. (e.0, (e.1 + 1) % 2 ^ 64)) (entries (g.A.ArenaStates.slots l.fn.arena)) (g.A.ArenaTrait.stand l.advancer) (g.A.ArenaStates.slots l.arena);
 }
 
 abbrev pub decreases-walk : goal.decreases-walk

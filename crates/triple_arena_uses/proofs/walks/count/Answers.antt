@@ -5,7 +5,7 @@ use Rattle.triple_arena_uses.proofs.walks.count.Goals as goal
 pub walk-init : goal.walk-init
 walk-init g c = (
   c.advancer-advancer.ensures.forward,
-  omega (arith, ap length (ahead_first _ _ c.advancer-advancer.ensures), length-entries (g.A.ArenaTrait.slots c.args.arena.now)),
+  omega (arith, ap length (ahead_first _ _ c.advancer-advancer.ensures), length-entries (g.A.ArenaStates.slots c.args.arena.now)),
 )
 
 pub overflow_add-count : goal.overflow_add-count

@@ -18,7 +18,7 @@ walk-preserved g c =
     let live = steps.answers.0 in
     let renewed = renewed_is g.P.Ptr.numbers c.invalidate.result c.unwrap.result c.allow.result _ _ _ c.invalidate.ensures.answer live c.unwrap.ensures c.allow.ensures in
     let index = ap (λ (q : Pointer). q.0) renewed in
-    let answered = one_answered _ _ _ _ _ _ _ _ c.walk.invariant.answered steps (stays _ _ _ _ (g.met.A.ArenaTrait.slots_invalidated _ _ _ (c.invalidate.ensures.done live))) in
+    let answered = one_answered _ _ _ _ _ _ _ _ c.walk.invariant.answered steps (stays _ _ _ _ (g.met.A.ArenaLaws.slots_invalidated _ _ _ (c.invalidate.ensures.done live))) in
     rw c.in_ok-push.ensures.items (record {
       answered = rw (map_push (λ p. (g.P.Ptr.numbers p).0) c.walk.all.items c.allow.result, index) answered;
       valid = still_valid g.P.Ptr.numbers _ _ 1 c.walk.all.items c.allow.result (rw index (answers_rise _ _ _ _ _ answered)) c.walk.invariant.valid (rw index c.invalidate.ensures.others)

@@ -7,9 +7,9 @@ use Rattle.triple_arena_uses.proofs.walks.renew_all.Given as goal
 
 abbrev pub invariant-walk : goal.invariant-walk
 invariant-walk g l = record {
-  answered : HasAnswered (greatest_index g.P.Inx.PtrInx.greatest) (g.A.ArenaTrait.slots l.fn.arena) (g.A.ArenaTrait.slots l.arena) (g.A.ArenaTrait.stand l.advancer)
+  answered : HasAnswered (greatest_index g.P.Inx.PtrInx.greatest) (g.A.ArenaStates.slots l.fn.arena) (g.A.ArenaStates.slots l.arena) (g.A.ArenaTrait.stand l.advancer)
       (map (λ p. (g.P.Ptr.numbers p).0) l.all.items);
-  valid : All (λ p. IsSome (look_up (g.A.ArenaTrait.slots l.arena) (g.P.Ptr.numbers p))) l.all.items;
+  valid : All (λ p. IsSome (look_up (g.A.ArenaStates.slots l.arena) (g.P.Ptr.numbers p))) l.all.items;
 }
 
 abbrev pub decreases-walk : goal.decreases-walk

@@ -14,28 +14,28 @@ use Rattle.triple_arena_chain.proofs.chains.Chains.compress.Goals as goal
 pub invariant_of-self : goal.invariant_of-self
 invariant_of-self g c =
     let numbers = g.P.Ptr.numbers in
-    let old = g.A.ArenaTrait.slots c.self.inside.arena in
-    let new = g.A.ArenaTrait.slots c.compress_recast.new.this in
+    let old = g.A.ArenaStates.slots c.self.inside.arena in
+    let new = g.A.ArenaStates.slots c.compress_recast.new.this in
     let rename = g.A.CompactArenaTrait.rank c.self.inside.arena false in
     either_way_2 _ _ _ (IsLinked (look_up (node_slots numbers new))) c.compress_recast.result c.compress_recast.ensures.keys c.compress_recast.ensures.found c.compress_recast.ensures.refused
     (λ ks found. linked_moved (look_up (node_slots numbers old)) rename (look_up (node_slots numbers new)) c.self.invariant (is_moved numbers g.P.Recast.held g.P.Recast.refill g.met.P.Ptr.holds_itself g.met.P.Ptr.refills rename old new ks found))
-    (λ same. subst (λ a. IsLinked (look_up (node_slots numbers (g.A.ArenaTrait.slots a)))) (sym same) c.self.invariant)
+    (λ same. subst (λ a. IsLinked (look_up (node_slots numbers (g.A.ArenaStates.slots a)))) (sym same) c.self.invariant)
 
 pub invariant_of-self-2 : goal.invariant_of-self-2
 invariant_of-self-2 g c =
     let numbers = g.P.Ptr.numbers in
-    let old = g.A.ArenaTrait.slots c.self.inside.arena in
-    let new = g.A.ArenaTrait.slots c.compress_recast.new.this in
+    let old = g.A.ArenaStates.slots c.self.inside.arena in
+    let new = g.A.ArenaStates.slots c.compress_recast.new.this in
     let rename = g.A.CompactArenaTrait.rank c.self.inside.arena false in
     either_way_2 _ _ _ (IsLinked (look_up (node_slots numbers new))) c.compress_recast.result c.compress_recast.ensures.keys c.compress_recast.ensures.found c.compress_recast.ensures.refused
     (λ ks found. linked_moved (look_up (node_slots numbers old)) rename (look_up (node_slots numbers new)) c.self.invariant (is_moved numbers g.P.Recast.held g.P.Recast.refill g.met.P.Ptr.holds_itself g.met.P.Ptr.refills rename old new ks found))
-    (λ same. subst (λ a. IsLinked (look_up (node_slots numbers (g.A.ArenaTrait.slots a)))) (sym same) c.self.invariant)
+    (λ same. subst (λ a. IsLinked (look_up (node_slots numbers (g.A.ArenaStates.slots a)))) (sym same) c.self.invariant)
 
 pub returns-clause-moved : goal.returns-clause-moved
 returns-clause-moved g c =
     let numbers = g.P.Ptr.numbers in
-    let old = g.A.ArenaTrait.slots c.self.inside.arena in
-    let new = g.A.ArenaTrait.slots c.compress_recast.new.this in
+    let old = g.A.ArenaStates.slots c.self.inside.arena in
+    let new = g.A.ArenaStates.slots c.compress_recast.new.this in
     let rename = g.A.CompactArenaTrait.rank c.self.inside.arena false in
     subst (λ s. (to : Pointer → Pointer) × MapsPointers numbers to s.slots (allowed_option c.in-Ok.answer).slots × IsMoved (nodes s) to (look_up (node_slots numbers new))) c.self.view_is (
       rename,
@@ -46,11 +46,11 @@ returns-clause-moved g c =
 pub returns-clause-packed : goal.returns-clause-packed
 returns-clause-packed g c =
     packed g.P.Ptr.numbers g.P.Recast.held g.P.Recast.refill g.met.P.Ptr.holds_itself g.met.P.Ptr.refills (g.A.CompactArenaTrait.rank c.self.inside.arena false)
-    (g.A.ArenaTrait.slots c.self.inside.arena) (g.A.ArenaTrait.slots c.compress_recast.new.this) c.in-Ok.ensures.keys (g.met.A.CompactArenaTrait.ranked c.self.inside.arena false) c.compress_recast.ensures.len
+    (g.A.ArenaStates.slots c.self.inside.arena) (g.A.ArenaStates.slots c.compress_recast.new.this) c.in-Ok.ensures.keys (g.met.A.CompactArenaTrait.ranked c.self.inside.arena false) c.compress_recast.ensures.len
 
 pub returns-in_default-clause-refusal : goal.returns-in_default-clause-refusal
 returns-in_default-clause-refusal g c =
-    let old = g.A.ArenaTrait.slots c.self.inside.arena in
+    let old = g.A.ArenaStates.slots c.self.inside.arena in
     let some : 0 < entry_count old =
     if_refused _ _ c.compress_recast.result c.compress_recast.ensures.refusal c.in_default.not-Ok
     (λ refusal refuses. only_memory g.P.Ptr.numbers g.P.Recast.held g.P.Recast.refill g.met.P.Ptr.holds_itself g.met.P.Ptr.refills old c.self.invariant refusal (c.arenas_resolve.ensures.stray old old refusal refuses)) in
@@ -62,7 +62,7 @@ returns-clause-answer g c = subst (λ s. c.in-Ok.answer ≡ told (g.A.CompactAre
 pub returns-clause-ranked : goal.returns-clause-ranked
 returns-clause-ranked g c =
     let numbers = g.P.Ptr.numbers in
-    let old = g.A.ArenaTrait.slots c.self.inside.arena in
+    let old = g.A.ArenaStates.slots c.self.inside.arena in
     let rename = g.A.CompactArenaTrait.rank c.self.inside.arena false in
     subst (λ s. MapsPointers numbers (g.A.CompactArenaTrait.rank s.arena false) s.slots (allowed_option c.in-Ok.answer).slots) c.self.view_is
     (maps_chains numbers g.P.Recast.held g.P.Recast.refill g.met.P.Ptr.holds_itself g.met.P.Ptr.refills numbers rename old _ c.in-Ok.ensures.maps)
@@ -70,8 +70,8 @@ returns-clause-ranked g c =
 pub returns-clause-history : goal.returns-clause-history
 returns-clause-history g c =
     subst (λ s. CountsUp g.P.Gen.PtrGen.generations (g.A.CompactArenaTrait.compression_wraps s.arena false)
-    → Continues g.A.ArenaTrait.fits s.arena (compression (keys (g.A.ArenaTrait.slots s.arena)) (keys (g.A.ArenaTrait.slots c.compress_recast.new.this)) ∷ []) c.compress_recast.new.this) c.self.view_is (c.in-Ok.ensures.history refl)
+    → Continues g.A.ArenaStates.fits s.arena (compression (keys (g.A.ArenaStates.slots s.arena)) (keys (g.A.ArenaStates.slots c.compress_recast.new.this)) ∷ []) c.compress_recast.new.this) c.self.view_is (c.in-Ok.ensures.history refl)
 
 pub returns-clause-begun : goal.returns-clause-begun
 returns-clause-begun g c =
-    subst (λ s. (h : History) → g.A.ArenaTrait.fits h s.arena → g.A.ArenaTrait.fits (begun_with (keys (g.A.ArenaTrait.slots c.compress_recast.new.this))) c.compress_recast.new.this) c.self.view_is c.in-Ok.ensures.begun
+    subst (λ s. (h : History) → g.A.ArenaStates.fits h s.arena → g.A.ArenaStates.fits (begun_with (keys (g.A.ArenaStates.slots c.compress_recast.new.this))) c.compress_recast.new.this) c.self.view_is c.in-Ok.ensures.begun

@@ -38,17 +38,17 @@ invariant_of-self g c =
     let between : IsBetween (nodes c.args.self.now) prev next =
     subst (λ at. IsBetween (nodes c.args.self.now) at next) (sym before) (subst (IsBetween (nodes c.args.self.now) (place_before numbers (nodes c.args.self.now) c.args.place)) (sym after)
     (place_between numbers (nodes c.args.self.now) linked c.args.place there)) in
-    let old = look_up (node_slots numbers (g.A.ArenaTrait.slots c.self.inside.arena)) in
-    let new = look_up (node_slots numbers (g.A.ArenaTrait.slots c.insert_between.new.arena)) in
+    let old = look_up (node_slots numbers (g.A.ArenaStates.slots c.self.inside.arena)) in
+    let new = look_up (node_slots numbers (g.A.ArenaStates.slots c.insert_between.new.arena)) in
     let fits : IsBetween old prev next = subst (λ s. IsBetween (nodes s) prev next) (sym c.self.view_is) between in
     either_way _ _ (IsLinked new) c.insert_between.result c.insert_between.ensures.inserted c.insert_between.ensures.refused
     (λ q done. linked_inserted old prev next (numbers q) c.args.value new c.self.invariant fits done)
-    (λ same. subst (λ a. IsLinked (look_up (node_slots numbers (g.A.ArenaTrait.slots a)))) (sym same) c.self.invariant)
+    (λ same. subst (λ a. IsLinked (look_up (node_slots numbers (g.A.ArenaStates.slots a)))) (sym same) c.self.invariant)
 
 pub returns-in-Some-clause-grown : goal.returns-in-Some-clause-grown
 returns-in-Some-clause-grown g c =
-    subst (λ s. OnOk c.insert_between.result (g.A.ArenaTrait.capacity c.insert_between.new.arena ≡ g.A.ArenaTrait.capacity (g.A.ArenaInsertTrait.grown s.arena))) c.self.view_is c.insert_between.ensures.grown
+    subst (λ s. OnOk c.insert_between.result (g.A.ArenaStates.capacity c.insert_between.new.arena ≡ g.A.ArenaStates.capacity (g.A.ArenaInsertTrait.grown s.arena))) c.self.view_is c.insert_between.ensures.grown
 
 pub returns-in-Some-clause-history : goal.returns-in-Some-clause-history
 returns-in-Some-clause-history g c =
-    subst (λ s. IfOk c.insert_between.result (λ q. Continues g.A.ArenaTrait.fits s.arena (insertion (g.P.Ptr.numbers q) ∷ []) c.insert_between.new.arena)) c.self.view_is c.insert_between.ensures.history
+    subst (λ s. IfOk c.insert_between.result (λ q. Continues g.A.ArenaStates.fits s.arena (insertion (g.P.Ptr.numbers q) ∷ []) c.insert_between.new.arena)) c.self.view_is c.insert_between.ensures.history

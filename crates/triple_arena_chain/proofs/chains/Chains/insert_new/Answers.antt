@@ -9,16 +9,16 @@ use Rattle.triple_arena_chain.proofs.chains.Chains.insert_new.Goals as goal
 
 pub invariant_of-self : goal.invariant_of-self
 invariant_of-self g c =
-    let old = look_up (node_slots g.P.Ptr.numbers (g.A.ArenaTrait.slots c.self.inside.arena)) in
-    let new = look_up (node_slots g.P.Ptr.numbers (g.A.ArenaTrait.slots c.insert_between.new.arena)) in
+    let old = look_up (node_slots g.P.Ptr.numbers (g.A.ArenaStates.slots c.self.inside.arena)) in
+    let new = look_up (node_slots g.P.Ptr.numbers (g.A.ArenaStates.slots c.insert_between.new.arena)) in
     either_way _ _ (IsLinked new) c.insert_between.result c.insert_between.ensures.inserted c.insert_between.ensures.refused
     (λ q done. linked_inserted old None None (g.P.Ptr.numbers q) c.args.value new c.self.invariant (between_none old) done)
-    (λ same. subst (λ a. IsLinked (look_up (node_slots g.P.Ptr.numbers (g.A.ArenaTrait.slots a)))) (sym same) c.self.invariant)
+    (λ same. subst (λ a. IsLinked (look_up (node_slots g.P.Ptr.numbers (g.A.ArenaStates.slots a)))) (sym same) c.self.invariant)
 
 pub returns-clause-grown : goal.returns-clause-grown
 returns-clause-grown g c =
-    subst (λ s. OnOk c.insert_between.result (g.A.ArenaTrait.capacity c.insert_between.new.arena ≡ g.A.ArenaTrait.capacity (g.A.ArenaInsertTrait.grown s.arena))) c.self.view_is c.insert_between.ensures.grown
+    subst (λ s. OnOk c.insert_between.result (g.A.ArenaStates.capacity c.insert_between.new.arena ≡ g.A.ArenaStates.capacity (g.A.ArenaInsertTrait.grown s.arena))) c.self.view_is c.insert_between.ensures.grown
 
 pub returns-clause-history : goal.returns-clause-history
 returns-clause-history g c =
-    subst (λ s. IfOk c.insert_between.result (λ q. Continues g.A.ArenaTrait.fits s.arena (insertion (g.P.Ptr.numbers q) ∷ []) c.insert_between.new.arena)) c.self.view_is c.insert_between.ensures.history
+    subst (λ s. IfOk c.insert_between.result (λ q. Continues g.A.ArenaStates.fits s.arena (insertion (g.P.Ptr.numbers q) ∷ []) c.insert_between.new.arena)) c.self.view_is c.insert_between.ensures.history

@@ -10,8 +10,8 @@ use Rattle.triple_arena_chain.proofs.chains.Chains.join.Goals as goal
 pub invariant_of-self : goal.invariant_of-self
 invariant_of-self g c =
     let numbers = g.P.Ptr.numbers in
-    let slots = g.A.ArenaTrait.slots c.self.inside.arena in
-    let new = look_up (node_slots numbers (g.A.ArenaTrait.slots c.tie.new.arena)) in
+    let slots = g.A.ArenaStates.slots c.self.inside.arena in
+    let new = look_up (node_slots numbers (g.A.ArenaStates.slots c.tie.new.arena)) in
     let end : look_up slots (numbers c.args.last) ≡ Some c.in-Some.end.now = search rules in
     let start : look_up slots (numbers c.args.first) ≡ Some c.in-Some-get.start.now = search rules in
     let done =
@@ -23,8 +23,8 @@ invariant_of-self g c =
 pub returns-clause-joined : goal.returns-clause-joined
 returns-clause-joined g c =
     let numbers = g.P.Ptr.numbers in
-    let slots = g.A.ArenaTrait.slots c.self.inside.arena in
-    let new = look_up (node_slots numbers (g.A.ArenaTrait.slots c.tie.new.arena)) in
+    let slots = g.A.ArenaStates.slots c.self.inside.arena in
+    let new = look_up (node_slots numbers (g.A.ArenaStates.slots c.tie.new.arena)) in
     let end : look_up slots (numbers c.args.last) ≡ Some c.in-Some.end.now = search rules in
     let start : look_up slots (numbers c.args.first) ≡ Some c.in-Some-get.start.now = search rules in
     let done =
@@ -36,8 +36,8 @@ returns-clause-joined g c =
 pub returns-clause-open_after : goal.returns-clause-open_after
 returns-clause-open_after g c =
     let numbers = g.P.Ptr.numbers in
-    let slots = g.A.ArenaTrait.slots c.self.inside.arena in
-    let new = look_up (node_slots numbers (g.A.ArenaTrait.slots c.tie.new.arena)) in
+    let slots = g.A.ArenaStates.slots c.self.inside.arena in
+    let new = look_up (node_slots numbers (g.A.ArenaStates.slots c.tie.new.arena)) in
     let end : look_up slots (numbers c.args.last) ≡ Some c.in-Some.end.now = search rules in
     let start : look_up slots (numbers c.args.first) ≡ Some c.in-Some-get.start.now = search rules in
     let done =
@@ -49,8 +49,8 @@ returns-clause-open_after g c =
 pub returns-clause-open_before : goal.returns-clause-open_before
 returns-clause-open_before g c =
     let numbers = g.P.Ptr.numbers in
-    let slots = g.A.ArenaTrait.slots c.self.inside.arena in
-    let new = look_up (node_slots numbers (g.A.ArenaTrait.slots c.tie.new.arena)) in
+    let slots = g.A.ArenaStates.slots c.self.inside.arena in
+    let new = look_up (node_slots numbers (g.A.ArenaStates.slots c.tie.new.arena)) in
     let end : look_up slots (numbers c.args.last) ≡ Some c.in-Some.end.now = search rules in
     let start : look_up slots (numbers c.args.first) ≡ Some c.in-Some-get.start.now = search rules in
     let done =
@@ -60,4 +60,4 @@ returns-clause-open_before g c =
     subst (λ s. before_at (nodes s) (numbers c.args.first) ≡ None) c.self.view_is done.3
 
 pub returns-clause-history : goal.returns-clause-history
-returns-clause-history g c = subst (λ s. Continues g.A.ArenaTrait.fits s.arena [] c.tie.new.arena) c.self.view_is c.tie.ensures.history
+returns-clause-history g c = subst (λ s. Continues g.A.ArenaStates.fits s.arena [] c.tie.new.arena) c.self.view_is c.tie.ensures.history

@@ -41,15 +41,15 @@ chain-preserved g c =
       limit = cc;
       wrap = (
         c.chain.invariant.wrap.0 ++ q ∷ [],
-        subst (λ w. EndInTurn g.A.ArenaTrait.removes g.A.ArenaTrait.with_value g.A.ArenaTrait.ending_wraps c.args.self.now.arena (c.chain.invariant.wrap.0 ++ q ∷ []) (c.chain.wrapped || w) c.let_go-wrapped.new.self.arena)
+        subst (λ w. EndInTurn g.A.ArenaStates.removes g.A.ArenaStates.with_value g.A.ArenaStates.ending_wraps c.args.self.now.arena (c.chain.invariant.wrap.0 ++ q ∷ []) (c.chain.wrapped || w) c.let_go-wrapped.new.self.arena)
             (sym c.let_go-wrapped.ensures.wrapped)
-            (ends_then g.A.ArenaTrait.with_value g.A.ArenaTrait.removes g.A.ArenaTrait.ending_wraps c.args.self.now.arena c.chain.invariant.wrap.0 c.chain.wrapped c.chain.self.arena q c.let_go-wrapped.new.self.arena
+            (ends_then g.A.ArenaStates.with_value g.A.ArenaStates.removes g.A.ArenaStates.ending_wraps c.args.self.now.arena c.chain.invariant.wrap.0 c.chain.wrapped c.chain.self.arena q c.let_go-wrapped.new.self.arena
             c.chain.invariant.wrap.1 c.let_go-wrapped.ensures.ended),
       );
       history = λ up.
           let parts = neither c.chain.wrapped c.let_go-wrapped.result up.1 in
           let before = c.chain.invariant.history (up.0, parts.0) in
-          (before.0 ++ q ∷ [], λ h fits. subst (λ k. g.A.ArenaTrait.fits k c.let_go-wrapped.new.self.arena) (sym (one_more h before.0 q)) (c.let_go-wrapped.ensures.history (up.0, parts.1) _ (before.1 h fits)));
+          (before.0 ++ q ∷ [], λ h fits. subst (λ k. g.A.ArenaStates.fits k c.let_go-wrapped.new.self.arena) (sym (one_more h before.0 q)) (c.let_go-wrapped.ensures.history (up.0, parts.1) _ (before.1 h fits)));
     }
 
 pub returns-clause-removed : goal.returns-clause-removed
@@ -68,12 +68,12 @@ returns-clause-len g c =
 pub returns-clause-wrap : goal.returns-clause-wrap
 returns-clause-wrap g c =
     let p = g.P.Ptr.numbers c.args.p in
-    let wrap : (c.chain.wrapped || g.A.ArenaTrait.ending_wraps c.chain.self.arena) ≡ not (is_success_option c.telling.result) =
+    let wrap : (c.chain.wrapped || g.A.ArenaStates.ending_wraps c.chain.self.arena) ≡ not (is_success_option c.telling.result) =
     ap (λ w. c.chain.wrapped || w) (sym c.let_go-wrapped-2.ensures.wrapped)
     ∙ sym (ap (λ r. not (is_success_option r)) c.telling.ensures ∙ wrap_told (c.chain.wrapped || c.let_go-wrapped-2.result) (c.len-all.result - c.len.result)) in (
       c.chain.invariant.wrap.0 ++ p ∷ [],
-      subst (λ w. EndInTurn g.A.ArenaTrait.removes g.A.ArenaTrait.with_value g.A.ArenaTrait.ending_wraps c.args.self.now.arena (c.chain.invariant.wrap.0 ++ p ∷ []) w c.let_go-wrapped-2.new.self.arena) wrap
-          (ends_then g.A.ArenaTrait.with_value g.A.ArenaTrait.removes g.A.ArenaTrait.ending_wraps c.args.self.now.arena c.chain.invariant.wrap.0 c.chain.wrapped c.chain.self.arena p c.let_go-wrapped-2.new.self.arena
+      subst (λ w. EndInTurn g.A.ArenaStates.removes g.A.ArenaStates.with_value g.A.ArenaStates.ending_wraps c.args.self.now.arena (c.chain.invariant.wrap.0 ++ p ∷ []) w c.let_go-wrapped-2.new.self.arena) wrap
+          (ends_then g.A.ArenaStates.with_value g.A.ArenaStates.removes g.A.ArenaStates.ending_wraps c.args.self.now.arena c.chain.invariant.wrap.0 c.chain.wrapped c.chain.self.arena p c.let_go-wrapped-2.new.self.arena
           c.chain.invariant.wrap.1 c.let_go-wrapped-2.ensures.ended),
     )
 
@@ -84,4 +84,4 @@ returns-clause-history g c = λ up.
     ap (λ r. not (is_success_option r)) c.telling.ensures ∙ wrap_told (c.chain.wrapped || c.let_go-wrapped-2.result) (c.len-all.result - c.len.result) in
     let parts = neither c.chain.wrapped c.let_go-wrapped-2.result (sym wrap ∙ up.1) in
     let before = c.chain.invariant.history (up.0, parts.0) in
-    (before.0 ++ p ∷ [], λ h fits. subst (λ k. g.A.ArenaTrait.fits k c.let_go-wrapped-2.new.self.arena) (sym (one_more h before.0 p)) (c.let_go-wrapped-2.ensures.history (up.0, parts.1) _ (before.1 h fits)))
+    (before.0 ++ p ∷ [], λ h fits. subst (λ k. g.A.ArenaStates.fits k c.let_go-wrapped-2.new.self.arena) (sym (one_more h before.0 p)) (c.let_go-wrapped-2.ensures.history (up.0, parts.1) _ (before.1 h fits)))

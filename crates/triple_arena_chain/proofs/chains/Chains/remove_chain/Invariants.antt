@@ -13,8 +13,8 @@ invariant-chain g l = record {
   fewer : l.self.len ≤ l.all;
   capacity : l.self.capacity ≡ l.fn.self.capacity;
   limit : l.self.limit ≡ l.fn.self.limit;
-  wrap : (gone : List Pointer) × EndInTurn g.A.ArenaTrait.removes g.A.ArenaTrait.with_value g.A.ArenaTrait.ending_wraps l.fn.self.arena gone l.wrapped l.self.arena;
-  history : CountsUp g.P.Gen.PtrGen.generations l.wrapped → (gone : List Pointer) × Continues g.A.ArenaTrait.fits l.fn.self.arena (map removal gone) l.self.arena;
+  wrap : (gone : List Pointer) × EndInTurn g.A.ArenaStates.removes g.A.ArenaStates.with_value g.A.ArenaStates.ending_wraps l.fn.self.arena gone l.wrapped l.self.arena;
+  history : CountsUp g.P.Gen.PtrGen.generations l.wrapped → (gone : List Pointer) × Continues g.A.ArenaStates.fits l.fn.self.arena (map removal gone) l.self.arena;
 }
 
 abbrev pub decreases-chain : goal.decreases-chain

@@ -14,7 +14,7 @@ use Rattle.triple_arena_surject.proofs.surject.SurjectArena.compress.Goals as go
 
 pub invariant_of-self : goal.invariant_of-self
 invariant_of-self g c =
-    let slots = g.B.ArenaTrait.slots c.self.inside.sets in
+    let slots = g.B.ArenaStates.slots c.self.inside.sets in
     subst (λ k. IsSound g.P.Ptr.numbers (nodes k) (counts slots)) (sym (on_err _ c.compress.result c.compress.ensures.refused c.in_default.not-Ok)) c.self.invariant
 
 pub invariant_of-self-2 : goal.invariant_of-self-2
@@ -22,7 +22,7 @@ invariant_of-self-2 g c =
     let keys = c.self.inside.keys in
     let keys' = c.compress.new.self in
     let moved = c.in-Ok.ensures.moved in
-    sound_moved g.P.Ptr.numbers keys keys' moved.0 moved.2 c.len-before.ensures.counted c.len-after.ensures.counted c.compress.ensures.len (counts (g.B.ArenaTrait.slots c.self.inside.sets)) c.self.invariant
+    sound_moved g.P.Ptr.numbers keys keys' moved.0 moved.2 c.len-before.ensures.counted c.len-after.ensures.counted c.compress.ensures.len (counts (g.B.ArenaStates.slots c.self.inside.sets)) c.self.invariant
 
 pub returns-clause-renamed : goal.returns-clause-renamed
 returns-clause-renamed g c =
@@ -31,8 +31,8 @@ returns-clause-renamed g c =
     let keys' = c.compress.new.self in
     let sets = c.self.inside.sets in
     let moved = c.in-Ok.ensures.moved in
-    let was = read numbers keys (g.B.ArenaTrait.slots sets) (g.B.ArenaTrait.capacity sets) (g.B.ArenaTrait.limit sets) c.args.self.now c.self.view_is in
-    let is = read numbers keys' (g.B.ArenaTrait.slots sets) (g.B.ArenaTrait.capacity sets) (g.B.ArenaTrait.limit sets) _ refl in (
+    let was = read numbers keys (g.B.ArenaStates.slots sets) (g.B.ArenaStates.capacity sets) (g.B.ArenaStates.limit sets) c.args.self.now c.self.view_is in
+    let is = read numbers keys' (g.B.ArenaStates.slots sets) (g.B.ArenaStates.capacity sets) (g.B.ArenaStates.limit sets) _ refl in (
       moved.0,
       maps_keys numbers keys keys' moved.0 moved.2 c.len-before.ensures.counted c.len-after.ensures.counted c.compress.ensures.len was is numbers (allowed_option c.in-Ok.answer).slots moved.1,
       renamed_state numbers keys keys' moved.0 moved.2 c.len-before.ensures.counted c.len-after.ensures.counted c.compress.ensures.len was is,
@@ -41,7 +41,7 @@ returns-clause-renamed g c =
 pub returns-clause-packed : goal.returns-clause-packed
 returns-clause-packed g c = λ p some.
     let sets = c.self.inside.sets in
-    let is = read g.P.Ptr.numbers c.compress.new.self (g.B.ArenaTrait.slots sets) (g.B.ArenaTrait.capacity sets) (g.B.ArenaTrait.limit sets) _ refl in
+    let is = read g.P.Ptr.numbers c.compress.new.self (g.B.ArenaStates.slots sets) (g.B.ArenaStates.capacity sets) (g.B.ArenaStates.limit sets) _ refl in
     c.in-Ok.ensures.packed p (some_of_map (key_of g.P.Ptr.numbers) (nodes c.compress.new.self p) (subst IsSome (is.keys p) some))
 
 pub returns-clause-answer : goal.returns-clause-answer
@@ -49,12 +49,12 @@ returns-clause-answer g c = subst (λ s. c.in-Ok.answer ≡ told (g.A.CompactAre
 
 pub returns-clause-history : goal.returns-clause-history
 returns-clause-history g c =
-    let slots = g.A.ArenaTrait.slots in
+    let slots = g.A.ArenaStates.slots in
     let new = c.compress.new.self.arena in
     subst (λ s. CountsUp g.P.Gen.PtrGen.generations (g.A.CompactArenaTrait.compression_wraps s.arena false)
-    → Continues g.A.ArenaTrait.fits s.arena (compression (keys (slots s.arena)) (keys (slots new)) ∷ []) new) c.self.view_is c.in-Ok.ensures.history
+    → Continues g.A.ArenaStates.fits s.arena (compression (keys (slots s.arena)) (keys (slots new)) ∷ []) new) c.self.view_is c.in-Ok.ensures.history
 
 pub returns-clause-begun : goal.returns-clause-begun
 returns-clause-begun g c =
     let new = c.compress.new.self.arena in
-    subst (λ s. (h : History) → g.A.ArenaTrait.fits h s.arena → g.A.ArenaTrait.fits (begun_with (keys (g.A.ArenaTrait.slots new))) new) c.self.view_is c.in-Ok.ensures.begun
+    subst (λ s. (h : History) → g.A.ArenaStates.fits h s.arena → g.A.ArenaStates.fits (begun_with (keys (g.A.ArenaStates.slots new))) new) c.self.view_is c.in-Ok.ensures.begun

@@ -13,29 +13,29 @@ use Rattle.triple_arena_surject.proofs.surject.SurjectArena.get_val_mut.Goals as
 pub invariant_of-self-lent : goal.invariant_of-self-lent
 invariant_of-self-lent g c w =
     let sets = c.self.inside.sets in
-    let slots = g.B.ArenaTrait.slots sets in
+    let slots = g.B.ArenaStates.slots sets in
     let name = g.P.Ptr.numbers c.in_ok-set.set in
     let shared = c.in_ok-shared.shared.now in
     let found : look_up slots name ≡ Some shared = search rules in
     sound_recounted g.P.Ptr.numbers (nodes c.self.inside.keys) (counts slots) _
-    (counts_written slots _ name shared w found (g.met.B.ArenaTrait.slots_with_value sets name.0 (record shared { value = w }))) c.self.invariant
+    (counts_written slots _ name shared w found (g.met.B.ArenaLaws.slots_with_value sets name.0 (record shared { value = w }))) c.self.invariant
 
 pub returns : goal.returns
 returns g c =
     let numbers = g.P.Ptr.numbers in
     let keys = c.self.inside.keys in
     let sets = c.self.inside.sets in
-    let slots = g.B.ArenaTrait.slots sets in
+    let slots = g.B.ArenaStates.slots sets in
     let p = numbers c.args.p in
     let name = numbers c.in_ok-set.set in
     let shared = c.in_ok-shared.shared.now in
     let found : look_up slots name ≡ Some shared = search rules in
     let of = sym c.in_ok-set.ensures in
-    let is = read numbers keys slots (g.B.ArenaTrait.capacity sets) (g.B.ArenaTrait.limit sets) c.args.self.now c.self.view_is in (
+    let is = read numbers keys slots (g.B.ArenaStates.capacity sets) (g.B.ArenaStates.limit sets) c.args.self.now c.self.view_is in (
       lends_alike _ _ _ (λ w.
-          state_written slots _ name shared w found (g.met.B.ArenaTrait.slots_with_value sets name.0 (record shared { value = w })) numbers keys p (g.B.ArenaTrait.capacity sets) _ (g.B.ArenaTrait.limit sets) _ of
-          (g.met.B.ArenaTrait.len_with_value sets name.0 (record shared { value = w })) (g.met.B.ArenaTrait.capacity_with_value sets name.0 (record shared { value = w }))
-          (g.met.B.ArenaTrait.limit_with_value sets name.0 (record shared { value = w }))
+          state_written slots _ name shared w found (g.met.B.ArenaLaws.slots_with_value sets name.0 (record shared { value = w })) numbers keys p (g.B.ArenaStates.capacity sets) _ (g.B.ArenaStates.limit sets) _ of
+          (g.met.B.ArenaLaws.len_with_value sets name.0 (record shared { value = w })) (g.met.B.ArenaLaws.capacity_with_value sets name.0 (record shared { value = w }))
+          (g.met.B.ArenaLaws.limit_with_value sets name.0 (record shared { value = w }))
           ∙ ap (λ s. with_val s (set_at s p) w) c.self.view_is),
       record {
         value = sym (val_is is p name of ∙ ap (option_map value_of) found);
@@ -47,4 +47,4 @@ returns g c =
 
 pub returns-in_err-shared : goal.returns-in_err-shared
 returns-in_err-shared g c =
-    absurd (no_share (g.B.ArenaTrait.slots c.self.inside.sets) c.self.invariant (g.P.Ptr.numbers c.args.p) (g.P.Ptr.numbers c.in_ok-set.set) (sym c.in_ok-set.ensures) (sym c.in_err-shared.ensures.value))
+    absurd (no_share (g.B.ArenaStates.slots c.self.inside.sets) c.self.invariant (g.P.Ptr.numbers c.args.p) (g.P.Ptr.numbers c.in_ok-set.set) (sym c.in_ok-set.ensures) (sym c.in_err-shared.ensures.value))

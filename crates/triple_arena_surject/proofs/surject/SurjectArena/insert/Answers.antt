@@ -13,7 +13,7 @@ use Rattle.triple_arena_surject.proofs.surject.SurjectArena.insert.Goals as goal
 pub invariant_of-self : goal.invariant_of-self
 invariant_of-self g c =
     let alone = c.in-Ok-put_alone.ensures.alone in
-    sound_alone g.P.Ptr.numbers (nodes c.self.inside.keys) (nodes c.put_alone.new.keys) (counts (g.B.ArenaTrait.slots c.self.inside.sets)) (counts (g.B.ArenaTrait.slots c.put.new.sets)) c.self.invariant
+    sound_alone g.P.Ptr.numbers (nodes c.self.inside.keys) (nodes c.put_alone.new.keys) (counts (g.B.ArenaStates.slots c.self.inside.sets)) (counts (g.B.ArenaStates.slots c.put.new.sets)) c.self.invariant
     (g.P.Ptr.numbers c.in-Ok-put_alone.p) (record { key = c.args.key; set = c.in-Ok.set }) alone.free alone.found alone.values (λ d other. ap (option_map (λ s. s.keys)) (c.in-Ok.ensures.others d other))
     alone.after alone.afters (ap (option_map (λ s. s.keys)) c.in-Ok.ensures.free) (ap (option_map (λ s. s.keys)) c.in-Ok.ensures.found)
 
@@ -21,17 +21,17 @@ pub returns-in-Ok-put_alone-clause-inserted : goal.returns-in-Ok-put_alone-claus
 returns-in-Ok-put_alone-clause-inserted g c =
     let numbers = g.P.Ptr.numbers in
     let sets = c.put.new.sets in
-    new_set (read numbers c.self.inside.keys (g.B.ArenaTrait.slots c.self.inside.sets) _ _ c.args.self.now c.self.view_is)
-    (read numbers c.put_alone.new.keys (g.B.ArenaTrait.slots sets) (g.B.ArenaTrait.capacity sets) (g.B.ArenaTrait.limit sets) _ refl)
+    new_set (read numbers c.self.inside.keys (g.B.ArenaStates.slots c.self.inside.sets) _ _ c.args.self.now c.self.view_is)
+    (read numbers c.put_alone.new.keys (g.B.ArenaStates.slots sets) (g.B.ArenaStates.capacity sets) (g.B.ArenaStates.limit sets) _ refl)
     c.self.invariant (numbers c.in-Ok-put_alone.p) (record { key = c.args.key; set = c.in-Ok.set }) c.args.value c.in-Ok-put_alone.ensures.alone c.in-Ok.ensures.free c.in-Ok.ensures.found c.in-Ok.ensures.others
 
 pub returns-in-Ok-put_alone-clause-history : goal.returns-in-Ok-put_alone-clause-history
 returns-in-Ok-put_alone-clause-history g c =
-    subst (λ s. Continues g.A.ArenaTrait.fits s.arena (insertion (g.P.Ptr.numbers c.in-Ok-put_alone.p) ∷ []) c.put_alone.new.keys.arena) c.self.view_is c.in-Ok-put_alone.ensures.history
+    subst (λ s. Continues g.A.ArenaStates.fits s.arena (insertion (g.P.Ptr.numbers c.in-Ok-put_alone.p) ∷ []) c.put_alone.new.keys.arena) c.self.view_is c.in-Ok-put_alone.ensures.history
 
 pub invariant_of-self-in-Err-put_alone : goal.invariant_of-self-in-Err-put_alone
 invariant_of-self-in-Err-put_alone g c =
-    let slots = g.B.ArenaTrait.slots in
+    let slots = g.B.ArenaStates.slots in
     let last = slots c.take.new.sets in
     let same = put_back (slots c.self.inside.sets) (slots c.put.new.sets) last (g.P.Ptr.numbers c.in-Ok.set) c.in-Ok.ensures.free c.in-Ok.ensures.others c.take.ensures.gone c.take.ensures.others in
     subst (λ k. IsSound g.P.Ptr.numbers (nodes k) (counts last)) (sym c.in-Err-put_alone.ensures.refused)
@@ -42,9 +42,9 @@ returns-in-Err-put_alone-clause-refused g c =
     let keys = c.self.inside.keys in
     let sets = c.self.inside.sets in
     let last = c.take.new.sets in
-    let slots = g.B.ArenaTrait.slots in
-    let capacity = g.B.ArenaTrait.capacity in
-    let limit = g.B.ArenaTrait.limit in
+    let slots = g.B.ArenaStates.slots in
+    let capacity = g.B.ArenaStates.capacity in
+    let limit = g.B.ArenaStates.limit in
     let same = put_back (slots sets) (slots c.put.new.sets) (slots last) (g.P.Ptr.numbers c.in-Ok.set) c.in-Ok.ensures.free c.in-Ok.ensures.others c.take.ensures.gone c.take.ensures.others in
     let fewer = c.take.ensures.len (subst IsSome (sym (c.take.ensures.answer ∙ c.in-Ok.ensures.found)) refl) in
     let less : capacity sets ≤ capacity last = omega (arith, c.in-Ok.ensures.capacity, c.take.ensures.capacity) in

@@ -28,8 +28,8 @@ module _ (g : Over) (c : After-overflowing-keys g) where
   abbrev name : Pointer
   name = g.P.Ptr.numbers c.in-Some.set
 
-  is : IsRead g.P.Ptr.numbers (nodes c.self.inside.keys) (g.B.ArenaTrait.slots c.self.inside.sets) c.args.self.now
-  is = read g.P.Ptr.numbers c.self.inside.keys (g.B.ArenaTrait.slots c.self.inside.sets) _ _ c.args.self.now c.self.view_is
+  is : IsRead g.P.Ptr.numbers (nodes c.self.inside.keys) (g.B.ArenaStates.slots c.self.inside.sets) c.args.self.now
+  is = read g.P.Ptr.numbers c.self.inside.keys (g.B.ArenaStates.slots c.self.inside.sets) _ _ c.args.self.now c.self.view_is
 
   of : label g.P.Ptr.numbers (nodes c.self.inside.keys) p ≡ Some name
   of = sym c.in-Some.ensures
@@ -38,10 +38,10 @@ module _ (g : Over) (c : After-overflowing-keys g) where
   done = on_ok _ c.remove_chain-removed.result c.unwrap-answer.result c.unwrap-answer.ensures c.remove_chain-removed.ensures.removed
 
   gone : (r : Pointer) → label g.P.Ptr.numbers (nodes c.self.inside.keys) r ≡ Some name → nodes c.remove_chain-removed.new.self r ≡ None
-  gone = set_gone g.P.Ptr.numbers (nodes c.self.inside.keys) (counts (g.B.ArenaTrait.slots c.self.inside.sets)) c.len-len.ensures.linked c.self.invariant p name of (nodes c.remove_chain-removed.new.self) done
+  gone = set_gone g.P.Ptr.numbers (nodes c.self.inside.keys) (counts (g.B.ArenaStates.slots c.self.inside.sets)) c.len-len.ensures.linked c.self.invariant p name of (nodes c.remove_chain-removed.new.self) done
 
   others : (r : Pointer) → (label g.P.Ptr.numbers (nodes c.self.inside.keys) r ≡ Some name → ⊥) → nodes c.remove_chain-removed.new.self r ≡ nodes c.self.inside.keys r
-  others = others_same g.P.Ptr.numbers (nodes c.self.inside.keys) (counts (g.B.ArenaTrait.slots c.self.inside.sets)) c.len-len.ensures.linked c.self.invariant p name of (nodes c.remove_chain-removed.new.self) done
+  others = others_same g.P.Ptr.numbers (nodes c.self.inside.keys) (counts (g.B.ArenaStates.slots c.self.inside.sets)) c.len-len.ensures.linked c.self.invariant p name of (nodes c.remove_chain-removed.new.self) done
 
 -- what is told of a wrap is what the chains told
 module _ (g : Over) (c : After-telling g) where
@@ -53,13 +53,13 @@ module _ (g : Over) (c : After-telling g) where
 
 pub unwrap-out-requires : goal.unwrap-out-requires
 unwrap-out-requires g c =
-    subst IsSome (sym c.take-taken.ensures.answer) (shared_there (g.B.ArenaTrait.slots c.self.inside.sets) c.self.invariant (g.P.Ptr.numbers c.args.p) (g.P.Ptr.numbers c.in-Some.set) (sym c.in-Some.ensures))
+    subst IsSome (sym c.take-taken.ensures.answer) (shared_there (g.B.ArenaStates.slots c.self.inside.sets) c.self.invariant (g.P.Ptr.numbers c.args.p) (g.P.Ptr.numbers c.in-Some.set) (sym c.in-Some.ensures))
 
 pub invariant_of-self : goal.invariant_of-self
 invariant_of-self g c =
     let at = (goal.at.invariant_of-self g c).After-overflowing-keys in
-    sound_without g.P.Ptr.numbers (nodes c.self.inside.keys) (counts (g.B.ArenaTrait.slots c.self.inside.sets)) c.len-len.ensures.linked c.self.invariant (p g at) (name g at) (of g at)
-    (nodes c.remove_chain-removed.new.self) (done g at) (counts (g.B.ArenaTrait.slots c.take-taken.new.sets))
+    sound_without g.P.Ptr.numbers (nodes c.self.inside.keys) (counts (g.B.ArenaStates.slots c.self.inside.sets)) c.len-len.ensures.linked c.self.invariant (p g at) (name g at) (of g at)
+    (nodes c.remove_chain-removed.new.self) (done g at) (counts (g.B.ArenaStates.slots c.take-taken.new.sets))
     (ap (option_map (λ (s : Shared g.row.V.Denot). s.keys)) c.take-taken.ensures.gone) (λ d other. ap (option_map (λ (s : Shared g.row.V.Denot). s.keys)) (c.take-taken.ensures.others d other))
 
 pub returns-clause-value : goal.returns-clause-value
@@ -71,7 +71,7 @@ pub returns-clause-removed : goal.returns-clause-removed
 returns-clause-removed g c =
     let at = (goal.at.returns-clause-removed g c).After-overflowing-keys in
     let sets = c.take-taken.new.sets in
-    set_removed (is g at) (read g.P.Ptr.numbers c.remove_chain-removed.new.self (g.B.ArenaTrait.slots sets) (g.B.ArenaTrait.capacity sets) (g.B.ArenaTrait.limit sets) _ refl)
+    set_removed (is g at) (read g.P.Ptr.numbers c.remove_chain-removed.new.self (g.B.ArenaStates.slots sets) (g.B.ArenaStates.capacity sets) (g.B.ArenaStates.limit sets) _ refl)
     (p g at) (name g at) (of g at) (gone g at) (others g at) c.take-taken.ensures.others
 
 pub returns-clause-len_keys : goal.returns-clause-len_keys
@@ -93,9 +93,9 @@ returns-clause-no_entry g c =
 pub returns-clause-wrap : goal.returns-clause-wrap
 returns-clause-wrap g c =
     told_so g (goal.at.returns-clause-wrap g c).After-telling
-    (λ w arena. (gone : List Pointer) × EndInTurn g.A.ArenaTrait.removes g.A.ArenaTrait.with_value g.A.ArenaTrait.ending_wraps arena gone w c.remove_chain-removed.new.self.arena) c.remove_chain-removed.ensures.wrap
+    (λ w arena. (gone : List Pointer) × EndInTurn g.A.ArenaStates.removes g.A.ArenaStates.with_value g.A.ArenaStates.ending_wraps arena gone w c.remove_chain-removed.new.self.arena) c.remove_chain-removed.ensures.wrap
 
 pub returns-clause-history : goal.returns-clause-history
 returns-clause-history g c =
     told_so g (goal.at.returns-clause-history g c).After-telling
-    (λ w arena. CountsUp g.P.Gen.PtrGen.generations w → (gone : List Pointer) × Continues g.A.ArenaTrait.fits arena (map removal gone) c.remove_chain-removed.new.self.arena) c.remove_chain-removed.ensures.history
+    (λ w arena. CountsUp g.P.Gen.PtrGen.generations w → (gone : List Pointer) × Continues g.A.ArenaStates.fits arena (map removal gone) c.remove_chain-removed.new.self.arena) c.remove_chain-removed.ensures.history

@@ -23,20 +23,20 @@ module _ (g : Over) (c : After-overflowing-member g) where
   done : IsRemoved (nodes c.self.inside.keys) (g.P.Ptr.numbers c.args.p) (nodes c.remove-removed.new.self)
   done = on_ok _ c.remove-removed.result c.unwrap-answer.result c.unwrap-answer.ensures c.remove-removed.ensures.removed
 
-  parts : (c.overflowing-member.result.0 ≡ allowed_option c.unwrap-answer.result) × (c.overflowing-member.result.1 ≡ g.A.ArenaTrait.ending_wraps c.self.inside.keys.arena)
+  parts : (c.overflowing-member.result.0 ≡ allowed_option c.unwrap-answer.result) × (c.overflowing-member.result.1 ≡ g.A.ArenaStates.ending_wraps c.self.inside.keys.arena)
   parts =
-      told_parts (g.A.ArenaTrait.ending_wraps c.self.inside.keys.arena) c.unwrap-answer.result c.overflowing-member.result
-      (if_ok (λ r. r ≡ told (g.A.ArenaTrait.ending_wraps c.self.inside.keys.arena) (allowed_option r)) c.remove-removed.result c.unwrap-answer.result c.unwrap-answer.ensures c.remove-removed.ensures.answer)
+      told_parts (g.A.ArenaStates.ending_wraps c.self.inside.keys.arena) c.unwrap-answer.result c.overflowing-member.result
+      (if_ok (λ r. r ≡ told (g.A.ArenaStates.ending_wraps c.self.inside.keys.arena) (allowed_option r)) c.remove-removed.result c.unwrap-answer.result c.unwrap-answer.ensures c.remove-removed.ensures.answer)
       c.overflowing-member.ensures
 
 pub count_less-value-requires-clause-counted : goal.count_less-value-requires-clause-counted
 count_less-value-requires-clause-counted g c κs within =
-    counted_at g.P.Ptr.numbers (nodes c.self.inside.keys) (counts (g.B.ArenaTrait.slots c.self.inside.sets)) c.len-len.ensures.linked c.self.invariant (g.P.Ptr.numbers c.args.p) (g.P.Ptr.numbers c.in-Some.set) (sym c.in-Some.ensures)
+    counted_at g.P.Ptr.numbers (nodes c.self.inside.keys) (counts (g.B.ArenaStates.slots c.self.inside.sets)) c.len-len.ensures.linked c.self.invariant (g.P.Ptr.numbers c.args.p) (g.P.Ptr.numbers c.in-Some.set) (sym c.in-Some.ensures)
 
 pub invariant_of-self : goal.invariant_of-self
 invariant_of-self g c =
-    let slots = g.B.ArenaTrait.slots c.self.inside.sets in
-    let slots' = g.B.ArenaTrait.slots c.count_less-value.new.sets in
+    let slots = g.B.ArenaStates.slots c.self.inside.sets in
+    let slots' = g.B.ArenaStates.slots c.count_less-value.new.sets in
     let name = g.P.Ptr.numbers c.in-Some.set in
     sound_less g.P.Ptr.numbers (nodes c.self.inside.keys) (counts slots) c.len-len.ensures.linked c.self.invariant (g.P.Ptr.numbers c.args.p) name (sym c.in-Some.ensures)
     (nodes c.remove-removed.new.self) (done g (goal.at.invariant_of-self g c).After-overflowing-member) (counts slots')
@@ -45,7 +45,7 @@ invariant_of-self g c =
 
 pub returns-clause-key : goal.returns-clause-key
 returns-clause-key g c =
-    let is = read g.P.Ptr.numbers c.self.inside.keys (g.B.ArenaTrait.slots c.self.inside.sets) _ _ c.args.self.now c.self.view_is in
+    let is = read g.P.Ptr.numbers c.self.inside.keys (g.B.ArenaStates.slots c.self.inside.sets) _ _ c.args.self.now c.self.view_is in
     rw c.telling.ensures.value
     (key_is is (g.P.Ptr.numbers c.args.p)
     ∙ ap (option_map (λ (m : Member g.row.P.Denot g.row.K.Denot). m.key))
@@ -54,12 +54,12 @@ returns-clause-key g c =
 
 pub returns-clause-no_entry : goal.returns-clause-no_entry
 returns-clause-no_entry g c =
-    let is = read g.P.Ptr.numbers c.self.inside.keys (g.B.ArenaTrait.slots c.self.inside.sets) _ _ c.args.self.now c.self.view_is in
+    let is = read g.P.Ptr.numbers c.self.inside.keys (g.B.ArenaStates.slots c.self.inside.sets) _ _ c.args.self.now c.self.view_is in
     never c.args.self.now (g.P.Ptr.numbers c.args.p) _ _ (found_there is (g.P.Ptr.numbers c.args.p) (g.P.Ptr.numbers c.in-Some.set) (sym c.in-Some.ensures)) (λ e. absurd (cc))
 
 pub returns-clause-value : goal.returns-clause-value
 returns-clause-value g c =
-    let slots = g.B.ArenaTrait.slots in
+    let slots = g.B.ArenaStates.slots in
     let name = g.P.Ptr.numbers c.in-Some.set in
     rw c.telling.ensures.value
     (value_out (read g.P.Ptr.numbers c.self.inside.keys (slots c.self.inside.sets) _ _ c.args.self.now c.self.view_is) c.len-len.ensures.linked c.self.invariant (g.P.Ptr.numbers c.args.p) name (sym c.in-Some.ensures)
@@ -67,7 +67,7 @@ returns-clause-value g c =
 
 pub returns-clause-none : goal.returns-clause-none
 returns-clause-none g c =
-    let slots = g.B.ArenaTrait.slots in
+    let slots = g.B.ArenaStates.slots in
     let name = g.P.Ptr.numbers c.in-Some.set in
     rw c.telling.ensures.value
     (other_left (read g.P.Ptr.numbers c.self.inside.keys (slots c.self.inside.sets) _ _ c.args.self.now c.self.view_is) c.len-len.ensures.linked c.self.invariant (g.P.Ptr.numbers c.args.p) name (sym c.in-Some.ensures)
@@ -77,8 +77,8 @@ pub returns-clause-removed : goal.returns-clause-removed
 returns-clause-removed g c =
     let numbers = g.P.Ptr.numbers in
     let sets = c.count_less-value.new.sets in
-    key_removed (read numbers c.self.inside.keys (g.B.ArenaTrait.slots c.self.inside.sets) _ _ c.args.self.now c.self.view_is)
-    (read numbers c.remove-removed.new.self (g.B.ArenaTrait.slots sets) (g.B.ArenaTrait.capacity sets) (g.B.ArenaTrait.limit sets) _ refl)
+    key_removed (read numbers c.self.inside.keys (g.B.ArenaStates.slots c.self.inside.sets) _ _ c.args.self.now c.self.view_is)
+    (read numbers c.remove-removed.new.self (g.B.ArenaStates.slots sets) (g.B.ArenaStates.capacity sets) (g.B.ArenaStates.limit sets) _ refl)
     c.len-len.ensures.linked c.self.invariant (numbers c.args.p) (numbers c.in-Some.set) (sym c.in-Some.ensures) (done g (goal.at.returns-clause-removed g c).After-overflowing-member)
     c.count_less-value.result c.count_less-value.ensures.less c.count_less-value.ensures.others
 
@@ -86,14 +86,14 @@ pub returns-clause-answer : goal.returns-clause-answer
 returns-clause-answer g c =
     c.telling.ensures.told
     ∙ ap (λ w. told w (allowed_option c.telling.result))
-    (subst (λ s. c.overflowing-member.result.1 ≡ g.A.ArenaTrait.ending_wraps s.arena) c.self.view_is (parts g (goal.at.returns-clause-answer g c).After-overflowing-member).1)
+    (subst (λ s. c.overflowing-member.result.1 ≡ g.A.ArenaStates.ending_wraps s.arena) c.self.view_is (parts g (goal.at.returns-clause-answer g c).After-overflowing-member).1)
 
 pub returns-clause-ended : goal.returns-clause-ended
 returns-clause-ended g c =
-    subst (λ s. EndsAt g.A.ArenaTrait.removes g.A.ArenaTrait.with_value s.arena (g.P.Ptr.numbers c.args.p).0 c.remove-removed.new.self.arena) c.self.view_is
+    subst (λ s. EndsAt g.A.ArenaStates.removes g.A.ArenaStates.with_value s.arena (g.P.Ptr.numbers c.args.p).0 c.remove-removed.new.self.arena) c.self.view_is
     (on_ok _ c.remove-removed.result c.unwrap-answer.result c.unwrap-answer.ensures c.remove-removed.ensures.ended)
 
 pub returns-clause-history : goal.returns-clause-history
 returns-clause-history g c =
-    subst (λ s. CountsUp g.P.Gen.PtrGen.generations (g.A.ArenaTrait.ending_wraps s.arena) → Continues g.A.ArenaTrait.fits s.arena (removal (g.P.Ptr.numbers c.args.p) ∷ []) c.remove-removed.new.self.arena) c.self.view_is
+    subst (λ s. CountsUp g.P.Gen.PtrGen.generations (g.A.ArenaStates.ending_wraps s.arena) → Continues g.A.ArenaStates.fits s.arena (removal (g.P.Ptr.numbers c.args.p) ∷ []) c.remove-removed.new.self.arena) c.self.view_is
     (on_ok _ c.remove-removed.result c.unwrap-answer.result c.unwrap-answer.ensures c.remove-removed.ensures.history)

@@ -30,8 +30,8 @@ module _ (g : Over) (c : After-unwrap-out g) where
   abbrev other : Pointer
   other = g.P.Ptr.numbers c.unwrap-other.result
 
-  is : IsRead g.P.Ptr.numbers (nodes c.self.inside.keys) (g.B.ArenaTrait.slots c.self.inside.sets) c.args.self.now
-  is = read g.P.Ptr.numbers c.self.inside.keys (g.B.ArenaTrait.slots c.self.inside.sets) _ _ c.args.self.now c.self.view_is
+  is : IsRead g.P.Ptr.numbers (nodes c.self.inside.keys) (g.B.ArenaStates.slots c.self.inside.sets) c.args.self.now
+  is = read g.P.Ptr.numbers c.self.inside.keys (g.B.ArenaStates.slots c.self.inside.sets) _ _ c.args.self.now c.self.view_is
 
   of_p : label g.P.Ptr.numbers (nodes c.self.inside.keys) p ≡ Some name
   of_p = sym c.set_of-first.ensures ∙ ap (option_map g.P.Ptr.numbers) c.unwrap-set.ensures
@@ -42,27 +42,27 @@ module _ (g : Over) (c : After-unwrap-out g) where
   apart : name ≢ other
   apart e = c.requires.apart (together is p q name of_p (of_q ∙ ap Some (sym e)))
 
-  has_p : counts (g.B.ArenaTrait.slots c.self.inside.sets) name ≡ Some c.size_of-count.result
-  has_p = c.size_of-count.ensures (shared_there (g.B.ArenaTrait.slots c.self.inside.sets) c.self.invariant p name of_p)
+  has_p : counts (g.B.ArenaStates.slots c.self.inside.sets) name ≡ Some c.size_of-count.result
+  has_p = c.size_of-count.ensures (shared_there (g.B.ArenaStates.slots c.self.inside.sets) c.self.invariant p name of_p)
 
-  is_q : look_up (g.B.ArenaTrait.slots c.self.inside.sets) other ≡ Some c.unwrap-out.result
+  is_q : look_up (g.B.ArenaStates.slots c.self.inside.sets) other ≡ Some c.unwrap-out.result
   is_q = sym c.take-taken.ensures.answer ∙ c.unwrap-out.ensures
 
-  has_q : counts (g.B.ArenaTrait.slots c.self.inside.sets) other ≡ Some c.unwrap-out.result.keys
+  has_q : counts (g.B.ArenaStates.slots c.self.inside.sets) other ≡ Some c.unwrap-out.result.keys
   has_q = ap (option_map (λ (s : Shared g.row.V.Denot). s.keys)) is_q
 
 pub unwrap-set-requires : goal.unwrap-set-requires
 unwrap-set-requires g c =
-    set_there (read g.P.Ptr.numbers c.self.inside.keys (g.B.ArenaTrait.slots c.self.inside.sets) _ _ c.args.self.now c.self.view_is) (g.P.Ptr.numbers c.args.kept) c.requires.kept c.set_of-first.result c.set_of-first.ensures
+    set_there (read g.P.Ptr.numbers c.self.inside.keys (g.B.ArenaStates.slots c.self.inside.sets) _ _ c.args.self.now c.self.view_is) (g.P.Ptr.numbers c.args.kept) c.requires.kept c.set_of-first.result c.set_of-first.ensures
 
 pub unwrap-other-requires : goal.unwrap-other-requires
 unwrap-other-requires g c =
-    set_there (read g.P.Ptr.numbers c.self.inside.keys (g.B.ArenaTrait.slots c.self.inside.sets) _ _ c.args.self.now c.self.view_is) (g.P.Ptr.numbers c.args.gone) c.requires.gone c.set_of-second.result c.set_of-second.ensures
+    set_there (read g.P.Ptr.numbers c.self.inside.keys (g.B.ArenaStates.slots c.self.inside.sets) _ _ c.args.self.now c.self.view_is) (g.P.Ptr.numbers c.args.gone) c.requires.gone c.set_of-second.result c.set_of-second.ensures
 
 pub unwrap-out-requires : goal.unwrap-out-requires
 unwrap-out-requires g c =
     subst IsSome (sym c.take-taken.ensures.answer)
-    (shared_there (g.B.ArenaTrait.slots c.self.inside.sets) c.self.invariant
+    (shared_there (g.B.ArenaStates.slots c.self.inside.sets) c.self.invariant
     (g.P.Ptr.numbers c.args.gone) (g.P.Ptr.numbers c.unwrap-other.result) (sym c.set_of-second.ensures ∙ ap (option_map g.P.Ptr.numbers) c.unwrap-other.ensures))
 
 pub relabel-requires-clause-round : goal.relabel-requires-clause-round
@@ -102,7 +102,7 @@ overflow_add-count g c =
     c.relabel.ensures.moved c.relabel.ensures.others c.relabel.ensures.afters c.splice.ensures.spliced in
     let ring : IsRing g.P.Ptr.numbers (nodes new) (name g at) (count + out) =
     ring_both g.P.Ptr.numbers old (nodes new) (p g at) (q g at) c.unwrap-set.result (other g at) is c.len-len.ensures.linked
-    (counts (g.B.ArenaTrait.slots c.self.inside.sets)) (counts (g.B.ArenaTrait.slots c.self.inside.sets)) c.self.invariant count out (has_p g at) (has_q g at) in
+    (counts (g.B.ArenaStates.slots c.self.inside.sets)) (counts (g.B.ArenaStates.slots c.self.inside.sets)) c.self.invariant count out (has_p g at) (has_q g at) in
     let few : count + out ≤ entry_count new.slots = no_more_keys g.P.Ptr.numbers (nodes new) c.len-all.ensures.linked (name g at) (count + out) new.slots (λ r. refl) ring in
     omega (arith, few, c.len-all.ensures.counted, c.len-all.ensures.value)
 
@@ -110,14 +110,14 @@ pub invariant_of-self : goal.invariant_of-self
 invariant_of-self g c =
     let at = (goal.at.invariant_of-self g c).After-unwrap-out in
     let old = nodes c.self.inside.keys in
-    let slots = g.B.ArenaTrait.slots c.self.inside.sets in
+    let slots = g.B.ArenaStates.slots c.self.inside.sets in
     let count = c.size_of-count.result in
     let out = c.unwrap-out.result.keys in
     let is = merged g.P.Ptr.numbers old (nodes c.relabel.new.keys) (nodes c.splice.new.keys) (p g at) (q g at) c.unwrap-set.result (other g at) (of_p g at) (of_q g at) (apart g at)
     c.relabel.ensures.moved c.relabel.ensures.others c.relabel.ensures.afters c.splice.ensures.spliced in
     let all = c.count_keys.ensures.there ∙ ap (option_map (with_keys (count + out))) (c.take-taken.ensures.others (name g at) (apart g at)) in
     sound_united g.P.Ptr.numbers old (nodes c.splice.new.keys) (p g at) (q g at) c.unwrap-set.result (other g at) is c.len-len.ensures.linked
-    (counts slots) (counts (g.B.ArenaTrait.slots c.count_keys.new.sets)) c.self.invariant count out (has_p g at) (has_q g at)
+    (counts slots) (counts (g.B.ArenaStates.slots c.count_keys.new.sets)) c.self.invariant count out (has_p g at) (has_q g at)
     (ap (option_map (λ (s : Shared g.row.V.Denot). s.keys)) all ∙ counted_with (count + out) (look_up slots (name g at)) count (has_p g at))
     (ap (option_map (λ (s : Shared g.row.V.Denot). s.keys)) (c.count_keys.ensures.others (other g at) (λ e. apart g at (sym e)) ∙ c.take-taken.ensures.gone))
     (λ e far away. ap (option_map (λ (s : Shared g.row.V.Denot). s.keys)) (c.count_keys.ensures.others e far ∙ c.take-taken.ensures.others e away))
@@ -136,10 +136,10 @@ returns-clause-united g c =
     let both = c.size_of-count.result + c.unwrap-out.result.keys in
     let merge = merged g.P.Ptr.numbers old (nodes c.relabel.new.keys) new (p g at) (q g at) c.unwrap-set.result (other g at) (of_p g at) (of_q g at) (apart g at)
     c.relabel.ensures.moved c.relabel.ensures.others c.relabel.ensures.afters c.splice.ensures.spliced in
-    sets_united (is g at) (read g.P.Ptr.numbers c.splice.new.keys (g.B.ArenaTrait.slots sets) (g.B.ArenaTrait.capacity sets) (g.B.ArenaTrait.limit sets) _ refl)
+    sets_united (is g at) (read g.P.Ptr.numbers c.splice.new.keys (g.B.ArenaStates.slots sets) (g.B.ArenaStates.capacity sets) (g.B.ArenaStates.limit sets) _ refl)
     (p g at) (q g at) c.unwrap-set.result (other g at) both merge
     (c.count_keys.ensures.there ∙ ap (option_map (with_keys both)) (c.take-taken.ensures.others (name g at) (apart g at)))
     (λ e far away. c.count_keys.ensures.others e far ∙ c.take-taken.ensures.others e away)
 
 pub returns-clause-history : goal.returns-clause-history
-returns-clause-history g c = subst (λ s. Continues g.A.ArenaTrait.fits s.arena [] c.splice.new.keys.arena) c.self.view_is (λ h fits. c.splice.ensures.history h (c.relabel.ensures.history h fits))
+returns-clause-history g c = subst (λ s. Continues g.A.ArenaStates.fits s.arena [] c.splice.new.keys.arena) c.self.view_is (λ h fits. c.splice.ensures.history h (c.relabel.ensures.history h fits))

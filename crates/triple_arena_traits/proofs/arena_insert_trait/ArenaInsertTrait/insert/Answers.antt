@@ -6,7 +6,7 @@ use Rattle.triple_arena_traits.proofs.arena_insert_trait.ArenaInsertTrait.insert
 pub returns-clause-found : goal.returns-clause-found
 returns-clause-found g c =
     let law = g.met.Self.ArenaInsertTrait in
-    let slots = g.Self.ArenaTrait.slots in
+    let slots = g.Self.ArenaStates.slots in
     let next = g.Self.ArenaInsertTrait.next in
     let old = c.args.self.now in
     let grown = g.Self.ArenaInsertTrait.grown old in
@@ -17,7 +17,7 @@ returns-clause-found g c =
 pub returns-clause-others : goal.returns-clause-others
 returns-clause-others g c =
     let law = g.met.Self.ArenaInsertTrait in
-    let slots = g.Self.ArenaTrait.slots in
+    let slots = g.Self.ArenaStates.slots in
     let next = g.Self.ArenaInsertTrait.next in
     let old = c.args.self.now in
     let grown = g.Self.ArenaInsertTrait.grown old in

@@ -12,7 +12,7 @@ returns-clause-had_place g c has = (
 
 pub returns-clause-place : goal.returns-clause-place
 returns-clause-place g c =
-    subst (λ s. entry_count (g.Self.ArenaTrait.slots s) < g.Self.ArenaTrait.capacity s) c.in_ok-make_place.ensures.done c.in_ok-make_place.ensures.place
+    subst (λ s. entry_count (g.Self.ArenaStates.slots s) < g.Self.ArenaStates.capacity s) c.in_ok-make_place.ensures.done c.in_ok-make_place.ensures.place
 
 pub returns-clause-history : goal.returns-clause-history
 returns-clause-history g c h fits =
@@ -59,7 +59,7 @@ pub returns-clause-free : goal.returns-clause-free
 returns-clause-free g c =
     let i = (g.P.Ptr.numbers c.insert_reserved.result).0 in
     sym (g.met.Self.ArenaInsertTrait.slots_grown c.args.self.now i)
-    ∙ ap (λ s. entry_in (g.Self.ArenaTrait.slots s) i) (sym c.in_ok-make_place.ensures.done) ∙ c.insert_reserved.ensures.free
+    ∙ ap (λ s. entry_in (g.Self.ArenaStates.slots s) i) (sym c.in_ok-make_place.ensures.done) ∙ c.insert_reserved.ensures.free
 
 pub returns-clause-inserted : goal.returns-clause-inserted
 returns-clause-inserted g c =

@@ -8,6 +8,6 @@ use Rattle.triple_arena_traits.proofs.arena_iterators.drain.take_next.Goals as g
 pub returns : goal.returns
 returns g c =
     let steps = g.met.A.CompactArenaTrait.advanced _ _ _ _ (rw c.in_ok-p.was at c.advance.ensures.steps) in
-    let f = found (g.A.ArenaTrait.slots c.args.arena.now) (g.P.Ptr.numbers c.in_ok-p.p) steps.answers.0 in
-    let answer = c.remove.ensures.answer ∙ ap (told_of (g.A.ArenaTrait.ending_wraps c.args.arena.now)) f.looked_up in
+    let f = found (g.A.ArenaStates.slots c.args.arena.now) (g.P.Ptr.numbers c.in_ok-p.p) steps.answers.0 in
+    let answer = c.remove.ensures.answer ∙ ap (told_of (g.A.ArenaStates.ending_wraps c.args.arena.now)) f.looked_up in
     record { step = (f.value, unwrapped _ _ _ (c.unwrap.ensures ∙ ap as_option answer), steps, f.looked_up, (c.remove.ensures.done steps.answers.0, c.remove.ensures.history steps.answers.0)) }

@@ -15,8 +15,8 @@ returns-clause-keys g c =
 
 pub returns-clause-values : goal.returns-clause-values
 returns-clause-values g c =
-    g.met.Self.CompactArenaTrait.values_compressed _ _ _ _ (returns-clause-done g c) (length-values (g.Self.ArenaTrait.slots c.args.self.now))
+    g.met.Self.CompactArenaTrait.values_compressed _ _ _ _ (returns-clause-done g c) (length-values (g.Self.ArenaStates.slots c.args.self.now))
 
 pub returns-clause-found : goal.returns-clause-found
 returns-clause-found g c =
-    found_renamed (g.Self.ArenaTrait.slots c.args.self.now) (g.Self.ArenaTrait.slots c.compress_with.new.self) (g.Self.CompactArenaTrait.rank c.args.self.now c.args.reset_generation) (returns-clause-keys g c) (returns-clause-values g c)
+    found_renamed (g.Self.ArenaStates.slots c.args.self.now) (g.Self.ArenaStates.slots c.compress_with.new.self) (g.Self.CompactArenaTrait.rank c.args.self.now c.args.reset_generation) (returns-clause-keys g c) (returns-clause-values g c)

@@ -29,12 +29,12 @@ walk-preserved-in-Some-get_mut g c =
     record {
       callable = search of_calls;
       forward = forward_stays _ _ _ _ _ steps ∙ c.walk.invariant.forward;
-      goes_on = rw (g.met.Self.ArenaTrait.slots_with_value _ _ _) (goes_on g.P.Ptr.numbers (goal.F-step g) _ _ _ _ _ _ _ _ _ _ _ c.walk.invariant.forward steps (sym c.in-Some-get_mut.ensures.value)
+      goes_on = rw (g.met.Self.ArenaLaws.slots_with_value _ _ _) (goes_on g.P.Ptr.numbers (goal.F-step g) _ _ _ _ _ _ _ _ _ _ _ c.walk.invariant.forward steps (sym c.in-Some-get_mut.ensures.value)
           (called_at g.P.Ptr.numbers (goal.F-step g) c.walk.f c.in-Some.p c.in-Some-get_mut.value c.f.result _ c.f.new.self c.f.ensures)
           c.walk.invariant.goes_on);
-      wrote = rw (g.met.Self.ArenaTrait.slots_with_value _ _ _) (wrote_one _ _ _ _ _ _ (g.P.Ptr.numbers c.in-Some.p) _ (keys_taken _ _ _ _ _ c.walk.invariant.forward steps ∙ ap (λ ks. g.P.Ptr.numbers c.in-Some.p ∷ ks) (sym (ap keys_of (ahead_written _ _ _ _ _ _ steps)))) c.walk.invariant.wrote);
-      limit = g.met.Self.ArenaTrait.limit_with_value _ _ _ ∙ c.walk.invariant.limit;
-      capacity = g.met.Self.ArenaTrait.capacity_with_value _ _ _ ∙ c.walk.invariant.capacity;
+      wrote = rw (g.met.Self.ArenaLaws.slots_with_value _ _ _) (wrote_one _ _ _ _ _ _ (g.P.Ptr.numbers c.in-Some.p) _ (keys_taken _ _ _ _ _ c.walk.invariant.forward steps ∙ ap (λ ks. g.P.Ptr.numbers c.in-Some.p ∷ ks) (sym (ap keys_of (ahead_written _ _ _ _ _ _ steps)))) c.walk.invariant.wrote);
+      limit = g.met.Self.ArenaLaws.limit_with_value _ _ _ ∙ c.walk.invariant.limit;
+      capacity = g.met.Self.ArenaLaws.capacity_with_value _ _ _ ∙ c.walk.invariant.capacity;
       history = λ h fits. c.get_mut.ensures.written _ h (c.walk.invariant.history h fits);
     }
 

@@ -9,11 +9,11 @@ abbrev pub invariant-walk : goal.invariant-walk
 invariant-walk g l = record {
   callable : goal.F-IsAlwaysCallable g l.f;
   forward : (g.Self.ArenaTrait.stand l.advancer).reverse ≡ false;
-  goes_on : GoesOn g.P.Ptr.numbers (goal.F-step g) l.fn.f (entries (g.Self.ArenaTrait.slots l.fn.self)) (g.Self.ArenaTrait.stand l.advancer) (g.Self.ArenaTrait.slots l.self) l.f;
-  wrote : Wrote g.Self.ArenaTrait.with_value (keys (g.Self.ArenaTrait.slots l.fn.self)) (keys_ahead (g.Self.ArenaTrait.stand l.advancer) (g.Self.ArenaTrait.slots l.self)) l.fn.self l.self;
-  limit : g.Self.ArenaTrait.limit l.self ≡ g.Self.ArenaTrait.limit l.fn.self;
-  capacity : g.Self.ArenaTrait.capacity l.self ≡ g.Self.ArenaTrait.capacity l.fn.self;
-  history : Continues g.Self.ArenaTrait.fits l.fn.self [] l.self;
+  goes_on : GoesOn g.P.Ptr.numbers (goal.F-step g) l.fn.f (entries (g.Self.ArenaStates.slots l.fn.self)) (g.Self.ArenaTrait.stand l.advancer) (g.Self.ArenaStates.slots l.self) l.f;
+  wrote : Wrote g.Self.ArenaStates.with_value (keys (g.Self.ArenaStates.slots l.fn.self)) (keys_ahead (g.Self.ArenaTrait.stand l.advancer) (g.Self.ArenaStates.slots l.self)) l.fn.self l.self;
+  limit : g.Self.ArenaStates.limit l.self ≡ g.Self.ArenaStates.limit l.fn.self;
+  capacity : g.Self.ArenaStates.capacity l.self ≡ g.Self.ArenaStates.capacity l.fn.self;
+  history : Continues g.Self.ArenaStates.fits l.fn.self [] l.self;
 }
 
 abbrev pub decreases-walk : goal.decreases-walk

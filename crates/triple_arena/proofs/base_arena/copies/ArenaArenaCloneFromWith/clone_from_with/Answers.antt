@@ -22,12 +22,12 @@ returns-in_err-make_room-clause-fits g c =
 pub returns-clause-same_end : goal.returns-clause-same_end
 returns-clause-same_end g c =
     let h = c.hold_copies.ensures in
-    unrefused_end _ _ c.args.map (g.A.ArenaTrait.slots c.args.source.now) h.0 c.hold_copies.new.self.slots c.hold_copies.result c.map_err.result c.map_err.ensures.variant h.1 (λ i. ap (λ (s : ArenaState g.row.T.Denot). entry_in s.slots i) h.2.0)
+    unrefused_end _ _ c.args.map (g.A.ArenaStates.slots c.args.source.now) h.0 c.hold_copies.new.self.slots c.hold_copies.result c.map_err.result c.map_err.ensures.variant h.1 (λ i. ap (λ (s : ArenaState g.row.T.Denot). entry_in s.slots i) h.2.0)
 
 pub returns-clause-fits : goal.returns-clause-fits
 returns-clause-fits g c =
     let h = c.hold_copies.ensures in
-    let ends = copy_ends _ _ c.args.map (g.A.ArenaTrait.slots c.args.source.now) _ h.0 c.hold_copies.new.self.slots h.1 (λ i. ap (λ (s : ArenaState g.row.T.Denot). entry_in s.slots i) h.2.0) in
+    let ends = copy_ends _ _ c.args.map (g.A.ArenaStates.slots c.args.source.now) _ h.0 c.hold_copies.new.self.slots h.1 (λ i. ap (λ (s : ArenaState g.row.T.Denot). entry_in s.slots i) h.2.0) in
     let size : capacity c.hold_copies.new.self ≡ capacity c.make_room.new.self = ap capacity h.2.0 in
     omega (arith, ends, size, c.in_ok-make_room.ensures.place, c.last_index.ensures.value)
 
@@ -60,7 +60,7 @@ returns-in_err-make_room-clause-same_end g c = on_ok_err _ _ (err_is _ _ c.from_
 
 pub returns-in_err-make_room-clause-source_fits : goal.returns-in_err-make_room-clause-source_fits
 returns-in_err-make_room-clause-source_fits g c =
-    subst (λ n. n ≤ g.A.ArenaTrait.capacity c.args.source.now) c.last_index.ensures.value c.last_index.ensures.fits
+    subst (λ n. n ≤ g.A.ArenaStates.capacity c.args.source.now) c.last_index.ensures.value c.last_index.ensures.fits
 
 pub returns-clause-cloned : goal.returns-clause-cloned
 returns-clause-cloned g c answer is =
@@ -86,4 +86,4 @@ returns-clause-with_memory g c allowed memory refused = no_refusal c.hold_copies
 
 pub returns-clause-source_fits : goal.returns-clause-source_fits
 returns-clause-source_fits g c =
-    subst (λ n. n ≤ g.A.ArenaTrait.capacity c.args.source.now) c.last_index.ensures.value c.last_index.ensures.fits
+    subst (λ n. n ≤ g.A.ArenaStates.capacity c.args.source.now) c.last_index.ensures.value c.last_index.ensures.fits

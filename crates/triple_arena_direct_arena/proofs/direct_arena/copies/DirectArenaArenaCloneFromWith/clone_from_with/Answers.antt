@@ -26,19 +26,19 @@ returns-in_err-make_room-clause-fits g c =
 pub returns-in-Ok-clause-same_end : goal.returns-in-Ok-clause-same_end
 returns-in-Ok-clause-same_end g c =
     let h = c.in-Ok.ensures in
-    copy_same_end _ _ c.args.map (g.A.ArenaTrait.slots c.args.source.now) h.0 c.hold_copies.new.self.slots h.1 (λ i. ap (λ (s : DirectState g.row.T.Denot). entry_in s.slots i) h.2)
+    copy_same_end _ _ c.args.map (g.A.ArenaStates.slots c.args.source.now) h.0 c.hold_copies.new.self.slots h.1 (λ i. ap (λ (s : DirectState g.row.T.Denot). entry_in s.slots i) h.2)
 
 pub returns-in-Ok-clause-fits : goal.returns-in-Ok-clause-fits
 returns-in-Ok-clause-fits g c =
     let h = c.in-Ok.ensures in
-    let ends = copy_ends _ _ c.args.map (g.A.ArenaTrait.slots c.args.source.now) _ h.0 c.hold_copies.new.self.slots h.1 (λ i. ap (λ (s : DirectState g.row.T.Denot). entry_in s.slots i) h.2) in
+    let ends = copy_ends _ _ c.args.map (g.A.ArenaStates.slots c.args.source.now) _ h.0 c.hold_copies.new.self.slots h.1 (λ i. ap (λ (s : DirectState g.row.T.Denot). entry_in s.slots i) h.2) in
     let size : direct_capacity c.hold_copies.new.self ≡ direct_capacity c.make_room.new.self = ap direct_capacity h.2 in
     omega (arith, ends, size, c.in_ok-make_room.ensures.place, c.last_index.ensures.value)
 
 pub returns-in-Err-clause-fits : goal.returns-in-Err-clause-fits
 returns-in-Err-clause-fits g c =
     let h = c.in-Err.ensures in
-    let ends = copy_ends _ _ c.args.map (g.A.ArenaTrait.slots c.args.source.now) _ h.0 c.hold_copies.new.self.slots h.1 (λ i. ap (λ (s : DirectState g.row.T.Denot). entry_in s.slots i) h.2) in
+    let ends = copy_ends _ _ c.args.map (g.A.ArenaStates.slots c.args.source.now) _ h.0 c.hold_copies.new.self.slots h.1 (λ i. ap (λ (s : DirectState g.row.T.Denot). entry_in s.slots i) h.2) in
     let size : direct_capacity c.hold_copies.new.self ≡ direct_capacity c.make_room.new.self = ap direct_capacity h.2 in
     omega (arith, ends, size, c.in_ok-make_room.ensures.place, c.last_index.ensures.value)
 
@@ -73,7 +73,7 @@ returns-in_err-make_room-clause-same_end g c = on_ok_err _ _ (err_is _ _ c.from_
 
 pub returns-in_err-make_room-clause-source_fits : goal.returns-in_err-make_room-clause-source_fits
 returns-in_err-make_room-clause-source_fits g c =
-    subst (λ n. n ≤ g.A.ArenaTrait.capacity c.args.source.now) c.last_index.ensures.value c.last_index.ensures.fits
+    subst (λ n. n ≤ g.A.ArenaStates.capacity c.args.source.now) c.last_index.ensures.value c.last_index.ensures.fits
 
 pub returns-in-Ok-clause-cloned : goal.returns-in-Ok-clause-cloned
 returns-in-Ok-clause-cloned g c answer is =
@@ -96,7 +96,7 @@ returns-in-Ok-clause-with_memory g c allowed memory refused = refused
 
 pub returns-in-Ok-clause-source_fits : goal.returns-in-Ok-clause-source_fits
 returns-in-Ok-clause-source_fits g c =
-    subst (λ n. n ≤ g.A.ArenaTrait.capacity c.args.source.now) c.last_index.ensures.value c.last_index.ensures.fits
+    subst (λ n. n ≤ g.A.ArenaStates.capacity c.args.source.now) c.last_index.ensures.value c.last_index.ensures.fits
 
 pub returns-in-Err-clause-refused : goal.returns-in-Err-clause-refused
 returns-in-Err-clause-refused g c refused = absurd refused
@@ -113,4 +113,4 @@ returns-in-Err-clause-with_memory g c allowed memory refused = refused
 
 pub returns-in-Err-clause-source_fits : goal.returns-in-Err-clause-source_fits
 returns-in-Err-clause-source_fits g c =
-    subst (λ n. n ≤ g.A.ArenaTrait.capacity c.args.source.now) c.last_index.ensures.value c.last_index.ensures.fits
+    subst (λ n. n ≤ g.A.ArenaStates.capacity c.args.source.now) c.last_index.ensures.value c.last_index.ensures.fits

@@ -14,7 +14,7 @@ pub returns-clause-steps : goal.returns-clause-steps
 returns-clause-steps g c =
     let step = rw c.in_ok-p.was at c.take_next.ensures.step in
     let value = sym (c.allow.ensures ∙ ap allowed_option step.1 ∙ allowed_told _ _) in
-    sym c.self.view_is ∙ first_drained _ _ _ _ c.self.invariant _ _ _ step.2 (step.3 ∙ ap Some value) (g.met.A.ArenaTrait.slots_removed _ _ _ step.4.0)
+    sym c.self.view_is ∙ first_drained _ _ _ _ c.self.invariant _ _ _ step.2 (step.3 ∙ ap Some value) (g.met.A.ArenaLaws.slots_removed _ _ _ step.4.0)
 
 pub returns-clause-goes : goal.returns-clause-goes
 returns-clause-goes g c =
@@ -32,4 +32,4 @@ invariant_of-self g c =
 pub invariant_of-self-2 : goal.invariant_of-self-2
 invariant_of-self-2 g c =
     let step = rw c.in_ok-p.was at c.take_next.ensures.step in
-    others_ahead _ _ _ _ _ _ c.self.invariant step.2 (g.met.A.ArenaTrait.slots_removed _ _ _ step.4.0)
+    others_ahead _ _ _ _ _ _ c.self.invariant step.2 (g.met.A.ArenaLaws.slots_removed _ _ _ step.4.0)

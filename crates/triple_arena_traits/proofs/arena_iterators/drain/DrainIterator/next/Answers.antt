@@ -16,7 +16,7 @@ returns-clause-steps g c =
       refl,
       λ draining. (
         (_, step.0, rw taken at c.told.ensures, answer_first _ _ _ _ _ draining step.2, step.3, step.4),
-        others_ahead _ _ _ _ _ _ draining step.2 (g.met.A.ArenaTrait.slots_removed _ _ _ step.4.0),
+        others_ahead _ _ _ _ _ _ draining step.2 (g.met.A.ArenaLaws.slots_removed _ _ _ step.4.0),
       ),
     )
 
@@ -24,7 +24,7 @@ pub returns-clause-goes : goal.returns-clause-goes
 returns-clause-goes g c =
     let step = rw c.in_ok-p.was at c.take_next.ensures.step in
     record {
-      on = λ f. (tt, tt, fewer_removed g.A.ArenaTrait.slots c.args.self.now.arena.now c.take_next.new.arena (g.P.Ptr.numbers c.in_ok-p.p) step.0 step.3 (g.met.A.ArenaTrait.len_removed _ _ _ step.4.0));
+      on = λ f. (tt, tt, fewer_removed g.A.ArenaStates.slots c.args.self.now.arena.now c.take_next.new.arena (g.P.Ptr.numbers c.in_ok-p.p) step.0 step.3 (g.met.A.ArenaLaws.len_removed _ _ _ step.4.0));
       keeps = tt;
       rests = λ f. tt;
     }

@@ -13,6 +13,7 @@ ghost use Rattle.triple_arena_ptr.specs.Pointers.{Pointer};
 ghost use Rattle.triple_arena.specs.Entries.{look_up};
 ghost use Rattle.triple_arena.specs.Insertion.{next_pointer};
 ghost use Rattle.triple_arena.specs.Histories.{insertion, removal, Fits, Continues};
+ghost use Rattle.triple_arena.specs.SlotSteps.{IsTouched};
 ghost use Rattle.triple_arena_snapshot.specs.Files.{file_of, file_reading, LoadsFrom, SaveFails};
 ghost use Rattle.triple_arena_snapshot_uses.specs.Circuit.{Parts, p0_numbers, q2_numbers, cell_at, net_at, circuit_content, circuit_coding};
 
@@ -153,7 +154,7 @@ impl Circuit {
     }
 
     /// Takes a net away, even if the counter of nets wraps. A cell that reads it keeps its pointer, which
-    /// finds nothing then.
+    /// finds nothing then. Where there is no such net, nothing changes but how many slots were touched.
     pub fn remove_net(&mut self, n: Q2) -> Option<Net>
         ensures taken { result ≡ look_up self.old.parts.1.slots (q2_numbers n) }
         ensures gone { net_at self.new.parts (q2_numbers n) ≡ None }
@@ -161,6 +162,7 @@ impl Circuit {
         ensures cells { self.new.parts.0 ≡ self.old.parts.0 }
         ensures history { IsSome result → wraps (counting_to (2 ^ 64 - 1)) self.old.parts.1.counter ≡ false
             → Continues Fits self.old.parts.1 (removal (q2_numbers n) ∷ []) self.new.parts.1 }
+        ensures unchanged { result ≡ None → IsTouched self.old.parts.1 self.new.parts.1 }
     {
         self.parts.1.remove(n).allow()
     }

@@ -25,11 +25,11 @@ use triple_arena_snapshot::{Codec, DecodeError};
 /// The arenas are an `Arena<CellPtr, Cell>` and an `Arena<NetPtr, Net>` then. Clauses see the pointer
 /// of `P`, so that its numbers are those of that.
 #[derive(Hash, Copy, PartialEq, Eq, PartialOrd, Ord)]
-pub struct PtrKind<P: Ptr, const KIND: usize> {
+pub struct PtrKind<P, const KIND: usize> {
     ptr: P,
 }
 
-impl<P: Ptr, const KIND: usize> Clone for PtrKind<P, KIND> {
+impl<P: Copy, const KIND: usize> Clone for PtrKind<P, KIND> {
     ghost use Rattle.std.specs.Prelude.{⊤};
 
     ghost is_clone = { λ p q. q ≡ p };
@@ -41,7 +41,7 @@ impl<P: Ptr, const KIND: usize> Clone for PtrKind<P, KIND> {
     }
 }
 
-impl<P: Ptr, const KIND: usize> Model for PtrKind<P, KIND> {
+impl<P, const KIND: usize> Model for PtrKind<P, KIND> {
     // The pointer of `P`.
     ghost Value = { P };
 

@@ -134,14 +134,14 @@ impl<P: Ptr, T, S: NonZeroInxGenericStack<ArenaSlot<P, T>>> ArenaTrait<P, T> for
         ensures allowed { IsWithin self.now.limit result }
         ensures greatest { self.now.greatest ≡ greatest_index P.Inx.greatest }
     {
-        self.slots.capacity().min(P::Inx::max_index().get())
+        self.slots.slots.capacity().min(P::Inx::max_index().get())
     }
 
     fn max_capacity(&self) -> Option<usize>
         ensures value { result ≡ self.now.limit }
         ensures of_kind { IsOfKind S.kind self.now.room self.now.limit }
     {
-        self.slots.max_capacity()
+        self.slots.slots.max_capacity()
     }
 
     fn reallocate_min_capacity(&mut self, min_capacity: usize) -> Result<(), ReallocationError>
@@ -199,7 +199,7 @@ impl<P: Ptr, T, S: NonZeroInxGenericStack<ArenaSlot<P, T>>> ArenaTrait<P, T> for
             (with_value self.old (P.numbers p).0 value) }
     {
         let inx = self.find(p)?;
-        Some(self.slots.value_mut(inx))
+        Some(self.slots.slots.value_mut(inx))
     }
 
     fn get_inx(&self, inx: P::Inx) -> Option<(P::Gen, &T)>
@@ -223,14 +223,14 @@ impl<P: Ptr, T, S: NonZeroInxGenericStack<ArenaSlot<P, T>>> ArenaTrait<P, T> for
             (with_value self.old (P.Inx.number inx) value) }
     {
         let inx = self.find_inx(inx)?;
-        Some(self.slots.value_mut(inx))
+        Some(self.slots.slots.value_mut(inx))
     }
 
     fn find_first_inx_ptr(&self) -> Option<P>
         ensures { MatchOption result (entry_count self.now.slots ≡ 0)
             (λ p. IsFirst self.now.slots (P.numbers p)) }
     {
-        let inx = first_live::<P, T, ArenaSlot<P, T>, S>(self.slots.stack())?;
+        let inx = first_live::<P, T, ArenaSlot<P, T>, S>(self.slots.slots.uncounted_stack())?;
         Some(self.ptr_at(inx))
     }
 
@@ -238,14 +238,16 @@ impl<P: Ptr, T, S: NonZeroInxGenericStack<ArenaSlot<P, T>>> ArenaTrait<P, T> for
         ensures { MatchOption result (entry_count self.now.slots ≡ 0)
             (λ p. IsLast self.now.slots (P.numbers p)) }
     {
-        let inx = last_live::<P, T, ArenaSlot<P, T>, S>(self.slots.stack())?;
+        let inx = last_live::<P, T, ArenaSlot<P, T>, S>(self.slots.slots.uncounted_stack())?;
         Some(self.ptr_at(inx))
     }
 
     fn advancer(&self) -> PtrAdvancer<P>
         ensures { IsAtFirst self.now.slots result }
     {
-        PtrAdvancer::from(first_live::<P, T, ArenaSlot<P, T>, S>(self.slots.stack()))
+        PtrAdvancer::from(first_live::<P, T, ArenaSlot<P, T>, S>(
+            self.slots.slots.uncounted_stack(),
+        ))
     }
 
     fn advancer_inx(&self, inx: P::Inx, reverse: bool) -> PtrAdvancer<P> {

@@ -1,11 +1,4 @@
--- Read first: Holding, Renaming and StrictAnswers; of what is handed on DirectState.
-pub mod Concrete
-pub mod Extending
-pub mod HeldThree
-pub mod Holding
-pub mod Renaming
-pub mod RenamingBoth
-pub mod Retaining
+-- Read first: StrictAnswers; of what is handed on Holding, Renaming and DirectState.
 pub mod StrictAnswers
 pub mod StrictRetain
 pub mod StrictCalls
@@ -14,11 +7,18 @@ pub mod StrictDrains
 pub mod StrictFiles
 pub mod Gone
 pub mod laws
--- What clauses of callers name of the inner crate behind this door: direct arenas.
+-- What clauses of callers name of the inner crates behind this door: what goes over any arena, and direct arenas.
+pub use Rattle.triple_arena_recasting.specs.Concrete
+pub use Rattle.triple_arena_recasting.specs.Extending
+pub use Rattle.triple_arena_recasting.specs.HeldThree
+pub use Rattle.triple_arena_recasting.specs.Holding
+pub use Rattle.triple_arena_recasting.specs.Renaming
+pub use Rattle.triple_arena_recasting.specs.RenamingBoth
+pub use Rattle.triple_arena_recasting.specs.Retaining
+pub use Rattle.triple_arena_recasting.specs.declared.errors.CompactBothError
 pub use Rattle.triple_arena_direct_arena.specs.DirectState
 pub use Rattle.triple_arena_direct_arena.specs.DirectSlot
 pub use Rattle.triple_arena_direct_arena.specs.DirectLayout
-pub use Rattle.triple_arena_direct_arena.specs.DirectLends
 pub use Rattle.triple_arena_direct_arena.specs.DirectValues
 pub use Rattle.triple_arena_direct_arena.specs.Mirrors
 pub use Rattle.triple_arena_direct_arena.specs.DirectInsertEntry

@@ -5,8 +5,8 @@ use Rattle.triple_arena_ptr.specs.Pointers.{Pointer}
 use Rattle.triple_arena_traits.specs.ArenaState.{ArenaState, arena_len}
 use Rattle.triple_arena_traits.specs.Compression.{raised_if_any, rank}
 use Rattle.triple_arena_traits.specs.Histories.{ModelCall}
-use Rattle.triple_arena_direct.specs.Renaming.{Refuses}
-use Rattle.triple_arena_direct.specs.RenamingBoth.{RefusesBoth}
+use Rattle.triple_arena_recasting.specs.Renaming.{Refuses}
+use Rattle.triple_arena_recasting.specs.RenamingBoth.{RefusesBoth}
 use Rattle.triple_arena_direct.specs.declared.errors.StrictError.{StrictError}
 use Rattle.triple_arena_direct.specs.declared.errors.StrictError.TheVariants.{InvalidPtr, Exhausted}
 use Rattle.triple_arena_direct.specs.declared.errors.StrictCompactError.{StrictCompactError}

@@ -1,7 +1,8 @@
-//! The refusals of strict arenas, and of compactions of two arenas.
+//! The refusals of strict arenas.
 
 use thiserror::Error;
 use triple_arena_base::CompactError;
+use triple_arena_recasting::CompactBothError;
 
 /// A call on a strict arena was refused, and nothing changed.
 #[derive(Clone, Copy, Debug, PartialEq, Eq, Error)]
@@ -34,17 +35,6 @@ impl<I> From<CompactError<I>> for StrictCompactError<I> {
     fn from(refusal: CompactError<I>) -> StrictCompactError<I> {
         StrictCompactError::Compact(refusal)
     }
-}
-
-/// Neither of two arenas was compacted, and nothing changed.
-#[derive(Clone, Copy, Debug, PartialEq, Eq, Error)]
-pub enum CompactBothError<I, J> {
-    /// Memory for the map of the first was refused, or a pointer to the first finds no entry.
-    #[error("the compaction of the first arena was refused: {0}")]
-    First(CompactError<I>),
-    /// The first could be compacted; and so of the second.
-    #[error("the compaction of the second arena was refused: {0}")]
-    Second(CompactError<J>),
 }
 
 /// Neither of two strict arenas was compacted, and nothing changed.

@@ -1,8 +1,8 @@
 //! The traits by which arenas and pointers are called: `use triple_arena_direct::prelude::*;`.
 
-pub use crate::reading::Reading;
 pub use triple_arena::prelude::{
     Advancer, ArenaCloneFromWith, ArenaDirectInsertEntryTrait, ArenaDirectInsertTrait,
     ArenaInsertEntryTrait, ArenaInsertTrait, ArenaTrait, CompactArenaTrait, DisjointableArenaTrait,
     Ptr, PtrGen, PtrInx, Recast, Recaster,
 };
+pub use triple_arena_recasting::Reading;

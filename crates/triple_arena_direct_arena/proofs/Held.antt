@@ -21,7 +21,8 @@ use Rattle.triple_arena_direct_arena.specs.laws.DirectStepLaws.{len-with_value, 
 use Rattle.triple_arena_direct_arena.specs.laws.DirectInsertionLaws.{length-extended, slots-inserted_at, len-inserted_at}
 use Rattle.triple_arena_direct_arena.specs.DirectSlot.{direct_slot_entry, direct_with_slot_value}
 use Rattle.triple_arena_direct_arena.specs.laws.DirectSlotLaws.{slot_entry-written}
-use Rattle.triple_arena_direct_arena.specs.DirectLayout.{direct_of, direct_entry_at, direct_with_value_at, Counts}
+use Rattle.triple_arena_direct_arena.specs.DirectLayout.{direct_of, Counts}
+use Rattle.triple_arena_slots.specs.Lends.{with_value_at}
 use Rattle.triple_arena_direct_arena.specs.declared.slot.DirectSlot.{DirectSlot}
 use Rattle.triple_arena_traits.proofs.SlotEntries.{entry_item}
 
@@ -129,12 +130,12 @@ module _ {P T I G : Type 0} (number : G → ℕ) where
       let is : direct_of number es room limit greatest ≡ s = rw (slots, r, l, g) refl in
       (rw is counts, is)
 
-  written : (es : List (DirectSlot P T I G)) (i : ℕ) (w : T) → map (direct_slot_entry number) (direct_with_value_at es i (item es i) w) ≡ with_value_in (map (direct_slot_entry number) es) i w
+  written : (es : List (DirectSlot P T I G)) (i : ℕ) (w : T) → map (direct_slot_entry number) (with_value_at direct_with_slot_value es i (item es i) w) ≡ with_value_in (map (direct_slot_entry number) es) i w
   written es i w = by_item (item es i) refl
     where
-      by_item : (o : Option (DirectSlot P T I G)) → item es i ≡ o → map (direct_slot_entry number) (direct_with_value_at es i o w) ≡ with_value_in (map (direct_slot_entry number) es) i w
+      by_item : (o : Option (DirectSlot P T I G)) → item es i ≡ o → map (direct_slot_entry number) (with_value_at direct_with_slot_value es i o w) ≡ with_value_in (map (direct_slot_entry number) es) i w
       by_item None none =
-          sym (with_item-past (map (direct_slot_entry number) es) i (option_map (λ (e : ℕ × T). (e.0, w)) (direct_entry_at number es i)) (item-map_none (direct_slot_entry number) es i none))
+          sym (with_item-past (map (direct_slot_entry number) es) i (option_map (λ (e : ℕ × T). (e.0, w)) (entry_in (map (direct_slot_entry number) es) i)) (item-map_none (direct_slot_entry number) es i none))
       by_item (Some x) found =
           map-with_item (direct_slot_entry number) es i (direct_with_slot_value x w)
           ∙ ap (with_item (map (direct_slot_entry number) es) i) (slot_entry-written number x w ∙ ap (option_map (λ (e : ℕ × T). (e.0, w))) (sym (entry_item (direct_slot_entry number) es i x found)))
@@ -144,12 +145,12 @@ module _ {P T I G : Type 0} (number : G → ℕ) where
   both_written es es' i j x y apart w =
       let one : List (DirectSlot P T I G) = with_item es i (direct_with_slot_value w.first x) in
       let there : item one j ≡ Some w.second = item-with_other es i j (direct_with_slot_value w.first x) (λ e. apart (sym e)) ∙ w.at_second in
-      let first : map (direct_slot_entry number) one ≡ with_value_in (map (direct_slot_entry number) es) i x = ap (λ o. map (direct_slot_entry number) (direct_with_value_at es i o x)) (sym w.at_first) ∙ written es i x in
-      let second : map (direct_slot_entry number) (with_item one j (direct_with_slot_value w.second y)) ≡ with_value_in (map (direct_slot_entry number) one) j y = ap (λ o. map (direct_slot_entry number) (direct_with_value_at one j o y)) (sym there) ∙ written one j y in
+      let first : map (direct_slot_entry number) one ≡ with_value_in (map (direct_slot_entry number) es) i x = ap (λ o. map (direct_slot_entry number) (with_value_at direct_with_slot_value es i o x)) (sym w.at_first) ∙ written es i x in
+      let second : map (direct_slot_entry number) (with_item one j (direct_with_slot_value w.second y)) ≡ with_value_in (map (direct_slot_entry number) one) j y = ap (λ o. map (direct_slot_entry number) (with_value_at direct_with_slot_value one j o y)) (sym there) ∙ written one j y in
       ap (map (direct_slot_entry number)) w.written ∙ second ∙ ap (λ xs. with_value_in xs j y) first
 
   -- the arena after a write through a borrow of a value
-  pub lent : (es es' : List (DirectSlot P T I G)) (len room room' : ℕ) (limit limit' : Option ℕ) (greatest : ℕ) (s : DirectState T) (i : ℕ) (w : T) → Counts len (direct_of number es room limit greatest) → direct_of number es room limit greatest ≡ s → es' ≡ direct_with_value_at es i (item es i) w → room' ≡ room → limit' ≡ limit → Counts len (direct_of number es' room' limit' greatest) × (direct_of number es' room' limit' greatest ≡ direct_with_value s i w)
+  pub lent : (es es' : List (DirectSlot P T I G)) (len room room' : ℕ) (limit limit' : Option ℕ) (greatest : ℕ) (s : DirectState T) (i : ℕ) (w : T) → Counts len (direct_of number es room limit greatest) → direct_of number es room limit greatest ≡ s → es' ≡ with_value_at direct_with_slot_value es i (item es i) w → room' ≡ room → limit' ≡ limit → Counts len (direct_of number es' room' limit' greatest) × (direct_of number es' room' limit' greatest ≡ direct_with_value s i w)
   lent es es' len room room' limit limit' greatest s i w own is put r l =
       made es' len room' limit' greatest (direct_with_value s i w)
       (ap (map (direct_slot_entry number)) put ∙ written es i w ∙ ap (λ (t : DirectState T). with_value_in t.slots i w) is)

@@ -1,23 +1,13 @@
 -- A direct arena whose stack was asked for other room, or for another limit.
 use Rattle.std.proofs.Common.{◌≡◌, ℕ, ◌≤◌, List, map, length, Option, Some, Result, Ok, Err, IsOk, OnOk, OnErr, None, refl, sym, ap, subst, ◌∙◌, arith}
 use Rattle.std.proofs.lemmas.List.{length-map}
-use Rattle.triple_arena_stack.specs.StackKind.{StackKind, reallocated_room, IsOfKind}
-use Rattle.triple_arena_stack.specs.Capacity.{stack_capacity, IsWithin}
-use Rattle.triple_arena_traits.proofs.Growth.{place_made}
-use Rattle.triple_arena_direct_arena.specs.DirectState.{DirectState, direct_slot_count, direct_capacity, direct_with_room_for, direct_with_limit}
+use Rattle.triple_arena_stack.specs.StackKind.{StackKind, reallocated_room}
+use Rattle.triple_arena_stack.specs.Capacity.{stack_capacity}
+use Rattle.triple_arena_direct_arena.specs.DirectState.{DirectState, direct_slot_count, direct_with_room_for, direct_with_limit}
 use Rattle.triple_arena_direct_arena.specs.DirectSlot.{direct_slot_entry}
 use Rattle.triple_arena_direct_arena.specs.DirectLayout.{direct_of, Counts}
 use Rattle.triple_arena_direct_arena.specs.declared.slot.DirectSlot.{DirectSlot}
 use Rattle.triple_arena_direct_arena.proofs.Held.{made, Counts-room}
-
--- what holds after a success holds after what follows from it
-pub on_ok : {A E : Type 0} (r : Result A E) {P Q : Type 0} → (P → Q) → OnOk r P → OnOk r Q
-on_ok (Ok x) f h = f h
-on_ok (Err e) f h = h
-
-pub on_err : {A E : Type 0} (r : Result A E) {P Q : Type 0} → (P → Q) → OnErr r P → OnErr r Q
-on_err (Ok x) f h = h
-on_err (Err e) f h = f h
 
 capacity_within : (room : ℕ) (limit : Option ℕ) → stack_capacity room limit ≤ room
 capacity_within room None = omega arith
@@ -59,9 +49,3 @@ module _ {P T I G : Type 0} (number : G → ℕ) where
   pub room_asked : (kind : StackKind) (es : List (DirectSlot P T I G)) (room : ℕ) (limit : Option ℕ) (greatest : ℕ) (s : DirectState T) (m : ℕ) → direct_of number es room limit greatest ≡ s → reallocated_room kind room (length es) m ≡ (direct_with_room_for kind s m).room
   room_asked kind es room limit greatest s m is =
       ap (λ n. reallocated_room kind n (length es) m) (ap (λ (t : DirectState T). t.room) is) ∙ ap (λ n. reallocated_room kind s.room n m) (size_is es room limit greatest s is)
-
--- the places that a reallocation makes
-pub places_made : {T A E : Type 0} (kind : StackKind) (s new : DirectState T) (m most : ℕ) (r : Result A E) → most ≡ s.greatest → IsOfKind kind s.room s.limit → OnOk r (new ≡ direct_with_room_for kind s m) → OnOk r (IsWithin s.limit m) → OnOk r (m ≤ most → m ≤ direct_capacity new)
-places_made kind s new m most (Ok x) top of_kind is within =
-    λ low. rw is (let made_place = place_made kind s.room (direct_slot_count s) m s.limit of_kind within in omega (arith, made_place, low, top))
-places_made kind s new m most (Err e) top of_kind is within = tt

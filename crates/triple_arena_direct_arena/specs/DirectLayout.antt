@@ -1,9 +1,7 @@
 -- How a direct arena lies in its slots. No public clause cites this module.
-use Rattle.std.specs.Prelude.{◌≡◌, ℕ, List, map, Option, Some, None}
-use Rattle.triple_arena_traits.specs.Items.{with_item}
-use Rattle.triple_arena_traits.specs.Entries.{entry_in}
+use Rattle.std.specs.Prelude.{◌≡◌, ℕ, List, map, Option}
 use Rattle.triple_arena_direct_arena.specs.DirectState.{DirectState, direct_len, SlotsFit}
-use Rattle.triple_arena_direct_arena.specs.DirectSlot.{direct_slot_entry, direct_with_slot_value}
+use Rattle.triple_arena_direct_arena.specs.DirectSlot.{direct_slot_entry}
 use Rattle.triple_arena_direct_arena.specs.declared.slot.DirectSlot.{DirectSlot}
 
 module _ {P T I G : Type 0} where
@@ -11,15 +9,6 @@ module _ {P T I G : Type 0} where
   abbrev pub direct_of : (number : G → ℕ) (es : List (DirectSlot P T I G)) (room : ℕ) (limit : Option ℕ) (greatest : ℕ) → DirectState T
   direct_of number es room limit greatest =
       record { slots = map (direct_slot_entry number) es; room = room; limit = limit; greatest = greatest }
-
-  -- the generation and value that stand at an index
-  abbrev pub direct_entry_at : (G → ℕ) → List (DirectSlot P T I G) → ℕ → Option (ℕ × T)
-  direct_entry_at number es i = entry_in (map (direct_slot_entry number) es) i
-
-  -- the slots with another value in the entry at an index
-  abbrev pub direct_with_value_at : List (DirectSlot P T I G) → ℕ → Option (DirectSlot P T I G) → T → List (DirectSlot P T I G)
-  direct_with_value_at es i None value = es
-  direct_with_value_at es i (Some slot) value = with_item es i (direct_with_slot_value slot value)
 
 -- the count of entries is that of the state, and its slots fit
 pub record Counts {T : Type 0} (len : ℕ) (s : DirectState T) : Type 0 where

@@ -2,7 +2,6 @@
 pub mod DirectState
 pub mod DirectSlot
 pub mod DirectLayout
-pub mod DirectLends
 pub mod DirectValues
 pub mod Mirrors
 pub mod DirectInsertEntry

@@ -29,14 +29,15 @@ mod room;
 mod states;
 
 use crate::direct_arena_iterators::PtrAdvancer;
-use crate::direct_slots::DirectSlots;
 use crate::slot::DirectSlot;
 use std::alloc::Global;
 use std::marker::{Model, PhantomData};
 use std::num::NonZeroUsize;
 use triple_arena_base::{AllocError, InvalidationOption, InvalidationResult, ReallocationError};
 use triple_arena_ptr::{Ptr, PtrGen, PtrInx};
+use triple_arena_slots::SlotStack;
 use triple_arena_stack::{NonZeroInxGenericStack, NonZeroInxVec};
+use triple_arena_traits::entry_slots::{first_live, last_live};
 use triple_arena_traits::{ArenaTrait, EntrySlot, LendingArena, LentSlots};
 
 /// An arena over a stack of slots, whose entries are put under pointers of the caller's choice: it
@@ -49,7 +50,7 @@ pub struct DirectArena<
     T,
     S: NonZeroInxGenericStack<DirectSlot<P, T>> = NonZeroInxVec<DirectSlot<P, T>>,
 > {
-    slots: DirectSlots<P, T, S>,
+    slots: SlotStack<P, T, DirectSlot<P, T>, S>,
     // How many entries there are.
     len: usize,
 }
@@ -121,14 +122,14 @@ impl<P: Ptr, T, S: NonZeroInxGenericStack<DirectSlot<P, T>>> ArenaTrait<P, T>
         ensures allowed { IsWithin self.now.limit result }
         ensures greatest { self.now.greatest ≡ greatest_index P.Inx.greatest }
     {
-        self.slots.stack.capacity().min(P::Inx::max_index().get())
+        self.slots.capacity().min(P::Inx::max_index().get())
     }
 
     fn max_capacity(&self) -> Option<usize>
         ensures value { result ≡ self.now.limit }
         ensures of_kind { IsOfKind S.kind self.now.room self.now.limit }
     {
-        self.slots.stack.max_capacity()
+        self.slots.max_capacity()
     }
 
     /// Changes the room so that there is place for `min_capacity` slots, and for those that are in
@@ -219,7 +220,7 @@ impl<P: Ptr, T, S: NonZeroInxGenericStack<DirectSlot<P, T>>> ArenaTrait<P, T>
         ensures { MatchOption result (entry_count self.now.slots ≡ 0)
             (λ p. IsFirst self.now.slots (P.numbers p)) }
     {
-        let inx = self.first_live()?;
+        let inx = first_live::<P, T, DirectSlot<P, T>, S>(self.slots.uncounted_stack())?;
         Some(self.ptr_at(inx))
     }
 
@@ -227,14 +228,14 @@ impl<P: Ptr, T, S: NonZeroInxGenericStack<DirectSlot<P, T>>> ArenaTrait<P, T>
         ensures { MatchOption result (entry_count self.now.slots ≡ 0)
             (λ p. IsLast self.now.slots (P.numbers p)) }
     {
-        let inx = self.last_live()?;
+        let inx = last_live::<P, T, DirectSlot<P, T>, S>(self.slots.uncounted_stack())?;
         Some(self.ptr_at(inx))
     }
 
     fn advancer(&self) -> PtrAdvancer<P>
         ensures { IsAtFirst self.now.slots result }
     {
-        PtrAdvancer::from(self.first_live())
+        PtrAdvancer::from(first_live::<P, T, DirectSlot<P, T>, S>(self.slots.uncounted_stack()))
     }
 
     fn advancer_inx(&self, inx: P::Inx, reverse: bool) -> PtrAdvancer<P> {
@@ -295,7 +296,7 @@ impl<P: Ptr, T, S: NonZeroInxGenericStack<DirectSlot<P, T>>> ArenaTrait<P, T>
     where
         T: Drop,
     {
-        self.slots.stack.clear();
+        self.slots.uncounted_stack_mut().clear();
         self.len = 0;
         InvalidationOption::Success(())
     }
@@ -314,6 +315,9 @@ impl<P: Ptr, T, S: NonZeroInxGenericStack<DirectSlot<P, T>>> ArenaTrait<P, T>
 }
 
 impl<P: Ptr, T, S: NonZeroInxGenericStack<DirectSlot<P, T>>> DirectArena<P, T, S> {
+    ghost use Rattle.triple_arena_slots.specs.Lends.{lends_refilled};
+    ghost use Rattle.triple_arena_direct_arena.specs.contracts.slot.DirectSlot.{the_row};
+
     // The slots, so that their values alone can be written.
     pub(crate) fn lend_slots(&mut self) -> LentSlots<'_, P, T, DirectSlot<P, T>>
         ensures* writes_back { sem 𝓛 (lends_values
@@ -321,11 +325,21 @@ impl<P: Ptr, T, S: NonZeroInxGenericStack<DirectSlot<P, T>>> DirectArena<P, T, S
             self.entry result.tie (direct_with_values_of self.old)) }
         ensures slots { map (direct_slot_entry P.Gen.number) result.now ≡ self.old.slots }
     {
-        let slots = self.slots.as_mut_slice();
+        let slots = Self::slice_of(&mut self.slots);
         LentSlots {
             at: slots.as_mut_ptr(),
             mark: PhantomData,
         }
+    }
+
+    // All slots, for writing: the proof by hand of the function before names a call of these types alone.
+    fn slice_of(slots: &mut SlotStack<P, T, DirectSlot<P, T>, S>) -> &mut [DirectSlot<P, T>]
+        ensures* writes_back { sem 𝓛 (lends_refilled P.row T.row
+            (the_row P.row T.row P.Inx.row P.Gen.row) S.row P.Inx.row P.Gen.row
+            S.items S.with_items slots.entry result) }
+        ensures value { result.now ≡ S.items slots.old.stack }
+    {
+        slots.as_mut_slice()
     }
 
     // Takes out the entry at an index.
@@ -336,6 +350,6 @@ impl<P: Ptr, T, S: NonZeroInxGenericStack<DirectSlot<P, T>>> DirectArena<P, T, S
         ensures state { self.new ≡ direct_removed self.old (non_zero_usize_get inx) }
     {
         self.len -= 1;
-        self.slots.vacate(inx)
+        self.slots.put(inx, DirectSlot::Free).into_entry()
     }
 }

@@ -4,7 +4,6 @@
 
 mod direct_arena;
 pub mod direct_arena_iterators;
-mod direct_slots;
 mod indexing;
 mod insert_entry;
 pub mod laws;

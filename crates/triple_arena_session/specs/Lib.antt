@@ -4,7 +4,6 @@ pub mod SessionState
 pub mod SessionLayout
 pub mod Compaction
 pub mod SessionRun
-pub mod LineRun
 pub mod KindRun
 pub mod ProgramRun
 pub mod Shown

@@ -1,16 +1,16 @@
 //! What each command does to the arena of a session and its names.
 
-ghost use Rattle.std.specs.Prelude.{◌≡◌, ◌≤◌, ◌==◌, is_some, true, false};
+ghost use Rattle.std.specs.Prelude.{◌≡◌, ◌≤◌, ◌==◌, true, false};
 ghost use Rattle.std.specs.Option.{option_map};
 ghost use Rattle.triple_arena_ptr.specs.Numbers.{greatest_index};
 ghost use Rattle.triple_arena_traits.specs.Items.{item};
 ghost use Rattle.triple_arena_traits.specs.ArenaState.{arena_len, capacity, map_values};
 ghost use Rattle.triple_arena_traits.specs.Histories.{AreDistinct};
-ghost use Rattle.triple_arena_session.specs.SessionState.{new_session, node_of, named, link_name, link_pointer};
+ghost use Rattle.triple_arena_session.specs.SessionState.{new_session, node_of, link_name, link_pointer};
 ghost use Rattle.triple_arena_session.specs.SessionRun.{IsStep, refusal};
 ghost use Rattle.triple_arena_session.specs.Shown.{IsSound};
 ghost use Rattle.triple_arena_session.specs.StrictSession.{raises_counter, is_refused};
-ghost use Rattle.triple_arena_session.specs.SessionLayout.{refuses, IsStepStrictIf};
+ghost use Rattle.triple_arena_session.specs.SessionLayout.{refuses};
 
 use crate::node::Node;
 use crate::session_arena::SessionArena;
@@ -72,24 +72,8 @@ impl<
         }
     }
 
-    /// The reply to a command, and what it leaves. Over a strict arena it is `Exhausted` where the command
-    /// would raise a counter that stands at the greatest generation. Whether it is known that no pointer
-    /// stands twice in the table (`distinct`) makes a difference to time alone.
-    pub(crate) fn answer(&mut self, command: Command<X>, distinct: bool) -> Reply<X>
-    where
-        X: Debug,
-        requires { distinct ≡ true → AreDistinct self.old.table }
-        ensures { IsStepStrictIf A.strict S.kind S.has_memory P.Gen.generations
-            self.old command result self.new }
-    {
-        if A::is_strict() && self.is_refused(command) {
-            return Reply::Exhausted;
-        }
-        self.reply(command, distinct)
-    }
-
-    // Whether a command would raise a counter that stands at the greatest generation.
-    fn is_refused(&self, command: Command<X>) -> bool
+    /// Whether a command would raise a counter that stands at the greatest generation.
+    pub(crate) fn is_refused(&self, command: Command<X>) -> bool
         ensures { result ≡ is_refused P.Gen.generations self.now command }
     {
         self.arena.is_at_greatest() && self.raises(command)
@@ -100,24 +84,18 @@ impl<
         ensures { result ≡ raises_counter self.now command }
     {
         match command {
-            Command::Remove(name) | Command::Invalidate(name) => self.is_live(name),
+            Command::Remove(name) | Command::Invalidate(name) => match self.pointer(name) {
+                Some(p) => self.arena.get(p).is_some(),
+                None => false,
+            },
             Command::Clear | Command::Compact => 0 < self.arena.len(),
             _ => false,
         }
     }
 
-    // Whether an entry stands under a name.
-    fn is_live(&self, name: usize) -> bool
-        ensures { result ≡ is_some (named self.now name) }
-    {
-        match self.pointer(name) {
-            Some(p) => self.arena.get(p).is_some(),
-            None => false,
-        }
-    }
-
-    // The reply to a command that is not refused for want of a raise, and what it leaves.
-    fn reply(&mut self, command: Command<X>, distinct: bool) -> Reply<X>
+    /// The reply to a command that is not refused for want of a raise, and what it leaves. Whether it is
+    /// known that no pointer stands twice in the table (`distinct`) makes a difference to time alone.
+    pub(crate) fn reply(&mut self, command: Command<X>, distinct: bool) -> Reply<X>
     where
         X: Debug,
         requires allowed { refuses A.strict P.Gen.generations self.old command ≡ false }

@@ -94,7 +94,7 @@ impl<P: Ptr, X: Copy, S: NonZeroInxGenericStack<ArenaSlot<P, Node<X, P>>>> Sessi
     pub fn arena(&self) -> &Arena<P, Node<X, P>, S>
         ensures { map_values (node_of P.numbers) result.now ≡ self.now.arena }
     {
-        self.body.arena()
+        &self.body.named.arena
     }
 
     /// Runs a command, and gives its reply, the first that fits:

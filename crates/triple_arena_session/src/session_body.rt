@@ -71,13 +71,6 @@ impl<
         }
     }
 
-    /// The arena.
-    pub(crate) fn arena(&self) -> &A
-        ensures { map_values (node_of P.numbers) (A.state result.now) ≡ self.now.arena }
-    {
-        &self.named.arena
-    }
-
     // Tells what is true of the arena of any session, and does nothing.
     pub(crate) fn tell_arena_over_stack(&self)
         ensures over { IsArenaOver S.kind self.now.arena }
@@ -98,7 +91,10 @@ impl<
             self.old command result self.new }
     {
         self.tell_arena_over_stack();
-        let reply = self.named.answer(command, self.sound);
+        if A::is_strict() && self.named.is_refused(command) {
+            return Reply::Exhausted;
+        }
+        let reply = self.named.reply(command, self.sound);
         self.sound &= !reply.tells_of_wrap();
         reply
     }

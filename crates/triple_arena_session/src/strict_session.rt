@@ -110,7 +110,7 @@ impl<P: Ptr, X: Copy, S: NonZeroInxGenericStack<ArenaSlot<P, Node<X, P>>>> Stric
     pub fn arena(&self) -> &StrictArena<P, Node<X, P>, S>
         ensures { map_values (node_of P.numbers) result.now ≡ self.now.arena }
     {
-        self.body.arena()
+        &self.body.named.arena
     }
 
     /// Runs a command, and gives its reply, as `Session::step` does, but that it is `Exhausted` where

@@ -52,7 +52,6 @@ pub fn run_text_strict<
     ensures within { session.old.arena.counter ≤ P.Gen.generations.greatest }
 {
     session.tell_begun();
-    session.body.tell_arena_over_stack();
     read_and_run(&mut session.body, alloc, input, output)
 }
 
@@ -89,7 +88,6 @@ pub fn run_text_strict_and_flush<
     ensures within { session.old.arena.counter ≤ P.Gen.generations.greatest }
 {
     session.tell_begun();
-    session.body.tell_arena_over_stack();
     let mut output = output;
     let outcome = read_and_run(&mut session.body, alloc, input, &mut output);
     flush_after(outcome, output)

@@ -1,13 +1,12 @@
 //! The run of a text: from the bytes of a reader to the bytes of a writer.
 
-ghost use Rattle.std.specs.Prelude.{◌≡◌, true, Some};
+ghost use Rattle.std.specs.Prelude.{◌≡◌, ◌≤◌, true, Some};
 ghost use Rattle.std.specs.Io.Buffered.{writer_contents};
 ghost use Rattle.triple_arena_commands.specs.TextRun.{IsTextRun, IsFlushedRun};
 ghost use Rattle.triple_arena_session.specs.SessionRun.{IsStep};
 ghost use Rattle.triple_arena_session.specs.Shown.{shown, IsSound, IsArenaOver};
 ghost use Rattle.triple_arena_session.specs.SessionLayout.{IsStepStrictIf};
 ghost use Rattle.triple_arena_session.specs.StoreText.{IsStoreText, LeavesStore};
-ghost use Rattle.triple_arena_session.specs.LineRun.{LineEnds};
 
 use crate::node::Node;
 use crate::session::Session;
@@ -51,7 +50,6 @@ pub fn run_text<P: Ptr, S: NonZeroInxGenericStack<ArenaSlot<P, Node<u64, P>>>, R
         session.old session.new (W.contents output.old) (W.contents output.new) }
     ensures arena { IsArenaOver S.kind session.old.arena }
 {
-    session.body.tell_arena_over_stack();
     read_and_run(&mut session.body, alloc, input, output)
 }
 
@@ -74,6 +72,8 @@ pub(crate) fn read_and_run<
         session.old session.new (W.contents output.old) (W.contents output.new) }
     ensures kept { A.strict ≡ true → P.Gen.generations.counting ≡ true
         → IsSound session.old → IsSound session.new }
+    ensures over { IsArenaOver S.kind session.old.arena }
+    ensures within { session.old.arena.counter ≤ P.Gen.generations.greatest }
 {
     session.tell_arena_over_stack();
     let text = read_text(alloc, input)?;
@@ -108,13 +108,12 @@ pub fn run_text_and_flush<
         result.0 session.old session.new (writer_contents W.contents output) (W.contents result.1) }
     ensures arena { IsArenaOver S.kind session.old.arena }
 {
-    session.body.tell_arena_over_stack();
     let mut output = output;
     let outcome = read_and_run(&mut session.body, alloc, input, &mut output);
     flush_after(outcome, output)
 }
 
-// Runs the lines of a text.
+// Runs the lines of a text. A line of no bytes is passed over. The room is for the line of each reply.
 fn run_lines<
     P: Ptr,
     S: NonZeroInxGenericStack<ArenaSlot<P, Node<u64, P>>>,
@@ -130,11 +129,17 @@ fn run_lines<
     let mut room = [0; LINE_ROOM];
     'lines: loop {
         let (line, after) = split_first(rest, b'\n');
-        match run_line(session, line, output, &mut room) {
-            LineEnd::Answered => {}
-            LineEnd::Wrapped => return Ok(()),
-            LineEnd::Malformed => return Err(TextError::Malformed(before + 1)),
-            LineEnd::Unwritten => return Err(TextError::Write),
+        if !line.is_empty() {
+            let Some(command) = parse_command(line) else {
+                return Err(TextError::Malformed(before + 1));
+            };
+            let reply = session.answer(command);
+            let Ok(()) = write_reply_in(output, &reply, &mut room) else {
+                return Err(TextError::Write);
+            };
+            if reply.tells_of_wrap() {
+                return Ok(());
+            }
         }
         match after {
             None => return Ok(()),
@@ -143,44 +148,5 @@ fn run_lines<
                 before += 1;
             }
         }
-    }
-}
-
-/// How the run of one line ended.
-#[derive(Clone, Copy)]
-enum LineEnd {
-    Answered,
-    Wrapped,
-    Malformed,
-    Unwritten,
-}
-
-// Runs the command of a line, which may have no bytes, and writes the line of its reply. The room is for that.
-fn run_line<
-    P: Ptr,
-    S: NonZeroInxGenericStack<ArenaSlot<P, Node<u64, P>>>,
-    A: SessionArena<P, Node<u64, P>, S>,
-    W: Write,
->(
-    session: &mut SessionBody<P, u64, S, A>,
-    line: &[u8],
-    output: &mut W,
-    room: &mut [u8; LINE_ROOM],
-) -> LineEnd
-    ensures { LineEnds (IsStepStrictIf A.strict S.kind S.has_memory P.Gen.generations) result line.now
-        session.old session.new (W.contents output.old) (W.contents output.new) }
-{
-    if line.is_empty() {
-        return LineEnd::Answered;
-    }
-    let Some(command) = parse_command(line) else {
-        return LineEnd::Malformed;
-    };
-    let reply = session.answer(command);
-    let wrapped = reply.tells_of_wrap();
-    match write_reply_in(output, &reply, room) {
-        Ok(()) if wrapped => LineEnd::Wrapped,
-        Ok(()) => LineEnd::Answered,
-        Err(_) => LineEnd::Unwritten,
     }
 }

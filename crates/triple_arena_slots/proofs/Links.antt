@@ -10,8 +10,9 @@ use Rattle.triple_arena_traits.specs.ArenaState.{ArenaState, capacity, slot_coun
 use Rattle.triple_arena_traits.specs.Insertion.{place_among, place, inserted_among, inserted}
 use Rattle.triple_arena_traits.specs.SlotSteps.{steps_among, insertion_steps}
 use Rattle.triple_arena_traits.specs.Ending.{removed}
-use Rattle.triple_arena_slots.specs.Slot.{entry_of, touch_if, next_free, previous_free, next_in, previous_in, with_slot_generation}
-use Rattle.triple_arena_slots.specs.Layout.{entry_at, Linked, led_to, after, before, chain, state_of, IsLinked, Begins, CanLeave, Leaves, Shows, with_value_at}
+use Rattle.triple_arena_slots.specs.Slot.{entry_of, touch_if, next_free, previous_free, next_in, previous_in, with_slot_value, with_slot_generation}
+use Rattle.triple_arena_slots.specs.Layout.{entry_at, Linked, led_to, after, before, chain, state_of, IsLinked, Begins, CanLeave, Leaves, Shows}
+use Rattle.triple_arena_slots.specs.Lends.{with_value_at}
 use Rattle.triple_arena_slots.specs.Link.{Link}
 use Rattle.triple_arena_slots.specs.declared.slot.ArenaSlot.{ArenaSlot}
 use Rattle.triple_arena_slots.specs.declared.slot.ArenaSlot.TheVariants.{Free, Allocated}
@@ -378,10 +379,10 @@ module _ {P T I G : Type 0} where
         Shows-with_entry number es root i len g v found.0 s found.1 shows
 
     -- another value in the entry at an index
-    pub Shows-with_value : (es : List (ArenaSlot P T I G)) (root : Option ℕ) (i len : ℕ) (w : T) (s : ArenaState T) → IsSome (entry_at number es i) → Shows number es root len s → Shows number (with_value_at es i (item es i) w) root len (with_value s i w)
+    pub Shows-with_value : (es : List (ArenaSlot P T I G)) (root : Option ℕ) (i len : ℕ) (w : T) (s : ArenaState T) → IsSome (entry_at number es i) → Shows number es root len s → Shows number (with_value_at with_slot_value es i (item es i) w) root len (with_value s i w)
     Shows-with_value es root i len w s live shows = by_item (item es i) refl
       where
-        by_item : (o : Option (ArenaSlot P T I G)) → item es i ≡ o → Shows number (with_value_at es i o w) root len (with_value s i w)
+        by_item : (o : Option (ArenaSlot P T I G)) → item es i ≡ o → Shows number (with_value_at with_slot_value es i o w) root len (with_value s i w)
         by_item None h = absurd (true≢false (sym (rw (item-map_none (entry_of number) es i h) at live)))
         by_item (Some (Free link)) h = absurd (true≢false (sym (rw (entry_item (entry_of number) es i (Free link) h) at live)))
         by_item (Some (Allocated g v)) h =
@@ -413,7 +414,7 @@ module _ {P T I G : Type 0} where
     one_more es root len s at_root shows room = omega (arith, full_at_none number es root len s at_root shows, room)
 
     -- the arena after a write through a borrow of a value
-    pub lent : (es es' : List (ArenaSlot P T I G)) (root : Option ℕ) (len counter room room' : ℕ) (limit limit' : Option ℕ) (greatest steps : ℕ) (s : ArenaState T) (i : ℕ) (w : T) → Shows number es root len (state_of number es root counter room limit greatest steps) → state_of number es root counter room limit greatest steps ≡ s → IsSome (entry_at number es i) → es' ≡ with_value_at es i (item es i) w → room' ≡ room → limit' ≡ limit → Shows number es' root len (state_of number es' root counter room' limit' greatest steps) × (state_of number es' root counter room' limit' greatest steps ≡ with_value s i w)
+    pub lent : (es es' : List (ArenaSlot P T I G)) (root : Option ℕ) (len counter room room' : ℕ) (limit limit' : Option ℕ) (greatest steps : ℕ) (s : ArenaState T) (i : ℕ) (w : T) → Shows number es root len (state_of number es root counter room limit greatest steps) → state_of number es root counter room limit greatest steps ≡ s → IsSome (entry_at number es i) → es' ≡ with_value_at with_slot_value es i (item es i) w → room' ≡ room → limit' ≡ limit → Shows number es' root len (state_of number es' root counter room' limit' greatest steps) × (state_of number es' root counter room' limit' greatest steps ≡ with_value s i w)
     lent es es' root len counter room room' limit limit' greatest steps s i w own is live written r l =
         carried es es' root root len len counter counter room room' limit limit' greatest steps steps s (with_value s i w) own is (λ shows. rw written (Shows-with_value es root i len w s live shows)) (ap (λ t. t.counter) is) (r ∙ ap (λ t. t.room) is) (l ∙ ap (λ t. t.limit) is) (ap (λ t. t.greatest) is) (ap (λ t. t.steps) is)
 

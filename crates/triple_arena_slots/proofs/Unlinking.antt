@@ -1,13 +1,13 @@
 -- What writes to the links of single slots make of all links.
-use Rattle.std.proofs.Common.{◌≡◌, ◌≢◌, ℕ, zero, suc, ◌-◌, ◌<◌, ◌≤◌, List, [], ◌∷◌, map, length, slice_get, Option, Some, None, IsSome, MatchOption, refl, sym, ap, subst, ◌∙◌, inl, inr, arith, true≢false}
+use Rattle.std.proofs.Common.{◌≡◌, ◌≢◌, ℕ, ◌≤◌, List, map, length, Option, Some, None, IsSome, MatchOption, refl, sym, ap, subst, ◌∙◌, inl, inr, arith, true≢false}
 use Rattle.std.proofs.lemmas.Bool.{cases_eq}
 use Rattle.std.proofs.lemmas.List.{length-map}
 use Rattle.std.proofs.lemmas.Option.{same_Some}
 use Rattle.std.specs.Option.{option_map}
 use Rattle.triple_arena_traits.specs.Items.{item, with_item}
-use Rattle.triple_arena_traits.specs.laws.ItemLaws.{map-with_item, item_within, item-map, item-with_same, item-with_other, with_item_same, item-map_some, item-map_none, joined}
+use Rattle.triple_arena_traits.specs.laws.ItemLaws.{map-with_item, item_within, item-map, item-with_same, item-with_other, with_item_same, item-map_some}
 use Rattle.triple_arena_slots.specs.Slot.{entry_of, next_free, previous_free, next_in, previous_in, LinksTo}
-use Rattle.triple_arena_slots.specs.Layout.{led_to, LeadsTo, Begins, Leaves, entry_at}
+use Rattle.triple_arena_slots.specs.Layout.{led_to, LeadsTo, Begins, Leaves}
 use Rattle.triple_arena_slots.specs.Link.{Link}
 use Rattle.triple_arena_slots.specs.declared.slot.ArenaSlot.{ArenaSlot}
 use Rattle.triple_arena_slots.specs.declared.slot.ArenaSlot.TheVariants.{Free}
@@ -24,23 +24,7 @@ there_indexed xs i greatest indexed there = by_item (item xs i) refl there
 pub same_indexed : {A B : Type 0} (f : A → B) (new old : List A) (greatest : ℕ) → map f new ≡ map f old → length old ≤ greatest → length new ≤ greatest
 same_indexed f new old greatest same indexed = omega (arith, ap length same, length-map new f, length-map old f, indexed)
 
--- a list that is not empty has a last item
-there_at : {A : Type 0} (xs : List A) (k : ℕ) → k < length xs → IsSome (slice_get xs k)
-there_at [] k h = absurd (omega arith)
-there_at (x ∷ xs) zero h = refl
-there_at (x ∷ xs) (suc k) h = there_at xs k (omega arith)
-
-pub last_there : {A : Type 0} (xs : List A) → 0 < length xs → IsSome (slice_get xs (length xs - 1))
-last_there xs some = there_at xs (length xs - 1) (omega (arith, some))
-
 module _ {P T I G : Type 0} (number : G → ℕ) where
-  -- the entry at the index of a slot is that slot's
-  pub entry_found : (es : List (ArenaSlot P T I G)) (i : ℕ) (slot : ArenaSlot P T I G) → item es i ≡ Some slot → entry_at number es i ≡ entry_of number slot
-  entry_found es i slot found = ap joined (item-map_some (entry_of number) es i slot found)
-
-  pub entry_missing : (es : List (ArenaSlot P T I G)) (i : ℕ) → item es i ≡ None → entry_at number es i ≡ None
-  entry_missing es i missing = ap joined (item-map_none (entry_of number) es i missing)
-
   -- the slot of an index where the state has a free one
   pub free_slot_at : (es : List (ArenaSlot P T I G)) (i : ℕ) → item (map (entry_of number) es) i ≡ Some None → (slot : ArenaSlot P T I G) × (item es i ≡ Some slot)
   free_slot_at es i vacant = by_item (item es i) refl

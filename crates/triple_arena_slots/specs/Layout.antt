@@ -5,7 +5,7 @@ use Rattle.triple_arena_traits.specs.Items.{item, with_item}
 use Rattle.triple_arena_traits.specs.Entries.{entry_in}
 use Rattle.triple_arena_traits.specs.ArenaState.{ArenaState, IsWellFormed, arena_len, slot_count}
 use Rattle.triple_arena_traits.specs.FreeList.{up_to}
-use Rattle.triple_arena_slots.specs.Slot.{entry_of, next_in, previous_in, with_slot_value}
+use Rattle.triple_arena_slots.specs.Slot.{entry_of, next_in, previous_in}
 use Rattle.triple_arena_slots.specs.declared.slot.ArenaSlot.{ArenaSlot}
 
 -- from a link on, each index leads to the next and back to the one before, and the last leads to none
@@ -92,11 +92,6 @@ module _ {P T I G : Type 0} where
   -- the generation and value that stand at an index
   abbrev pub entry_at : (G → ℕ) → List (ArenaSlot P T I G) → ℕ → Option (ℕ × T)
   entry_at number es i = entry_in (map (entry_of number) es) i
-
-  -- the slots with another value in the entry at an index
-  abbrev pub with_value_at : List (ArenaSlot P T I G) → ℕ → Option (ArenaSlot P T I G) → T → List (ArenaSlot P T I G)
-  with_value_at es i None value = es
-  with_value_at es i (Some slot) value = with_item es i (with_slot_value slot value)
 
 -- the state without the last slot, which leaves the free list
 abbrev pub without_last : {T : Type 0} → ArenaState T → ArenaState T

@@ -1,21 +1,18 @@
-//! The entries of the slots: the place of one, and how one is found, put in, taken out, and given another generation.
+//! The entries of the slots: the place of one, and how one is put in, taken out, and given another generation.
 
-ghost use Rattle.std.specs.Prelude.{◌≡◌, ◌<◌, ◌≤◌, ◌+◌, ◌-◌, ◌^◌, ℕ, map, length, Some, None, is_some, IsSome, IfSome};
+ghost use Rattle.std.specs.Prelude.{◌≡◌, ◌<◌, ◌≤◌, ◌+◌, ◌-◌, ◌^◌, ℕ, length, Some, None, IsSome};
 ghost use Rattle.std.specs.Int.NonZero.{non_zero_usize_get};
 ghost use Rattle.triple_arena_ptr.specs.Numbers.{greatest_index};
 ghost use Rattle.triple_arena_stack.specs.Capacity.{stack_capacity};
-ghost use Rattle.triple_arena_traits.specs.Items.{item, with_item};
 ghost use Rattle.triple_arena_traits.specs.ArenaState.{ArenaState, arena_len, capacity};
 ghost use Rattle.triple_arena_traits.specs.Insertion.{place, inserted};
 ghost use Rattle.triple_arena_traits.specs.Ending.{removed};
-ghost use Rattle.triple_arena_traits.specs.Entries.{look_up, with_generation_in};
-ghost use Rattle.triple_arena_slots.specs.Slot.{entry_of};
+ghost use Rattle.triple_arena_traits.specs.Entries.{with_generation_in};
 ghost use Rattle.triple_arena_slots.specs.Layout.{entry_at};
 ghost use Rattle.triple_arena_traits.specs.SlotSteps.{RisesByAtMost, insertion_steps};
 
 use crate::slot::ArenaSlot;
 use crate::slots::Slots;
-use std::mem;
 use std::num::NonZeroUsize;
 use triple_arena_ptr::{Ptr, PtrGen, PtrInx};
 use triple_arena_stack::NonZeroInxGenericStack;
@@ -33,42 +30,8 @@ impl<P: Ptr, T, S: NonZeroInxGenericStack<ArenaSlot<P, T>>> Slots<P, T, S> {
     {
         match self.root {
             Some(inx) => inx,
-            None => NonZeroUsize::MIN.saturating_add(self.len()),
+            None => NonZeroUsize::MIN.saturating_add(self.slots.len()),
         }
-    }
-
-    /// The index of a pointer, if the entry there has the generation of the pointer. It touches at
-    /// most one slot.
-    pub fn find(&mut self, p: P) -> Option<NonZeroUsize>
-        requires { length (S.items self.old.slots.stack) ≤ greatest_index P.Inx.greatest }
-        ensures index { IfSome result (λ inx. non_zero_usize_get inx ≡ (P.numbers p).0) }
-        ensures live { is_some result ≡ is_some (look_up
-            (map (entry_of P.Gen.number) (S.items self.old.slots.stack)) (P.numbers p)) }
-        ensures stack { self.new.slots.stack ≡ self.old.slots.stack }
-        ensures root { self.new.root ≡ self.old.root }
-        ensures bounded { RisesByAtMost 1 self.old.slots.steps.count self.new.slots.steps.count }
-    {
-        let inx = P::Inx::try_into_usize(p.inx())?;
-        let generation = self.slots.look(inx)?;
-        if generation == p.generation() {
-            Some(inx)
-        } else {
-            None
-        }
-    }
-
-    /// The number of an index, if an entry stands there. It touches at most one slot.
-    pub fn find_inx(&mut self, inx: P::Inx) -> Option<NonZeroUsize>
-        requires { length (S.items self.old.slots.stack) ≤ greatest_index P.Inx.greatest }
-        ensures index { IfSome result (λ i. non_zero_usize_get i ≡ P.Inx.number inx) }
-        ensures live { is_some result
-            ≡ is_some (entry_at P.Gen.number (S.items self.old.slots.stack) (P.Inx.number inx)) }
-        ensures stack { self.new.slots.stack ≡ self.old.slots.stack }
-        ensures root { self.new.root ≡ self.old.root }
-        ensures bounded { RisesByAtMost 1 self.old.slots.steps.count self.new.slots.steps.count }
-    {
-        let inx = P::Inx::try_into_usize(inx)?;
-        if self.has_entry(inx) { Some(inx) } else { None }
     }
 
     /// Puts an entry at the place of an insertion, where there is one. It touches one slot, or two
@@ -93,7 +56,7 @@ impl<P: Ptr, T, S: NonZeroInxGenericStack<ArenaSlot<P, T>>> Slots<P, T, S> {
         match self.root {
             None => self.slots.push(slot),
             Some(inx) => {
-                let link = self.put(inx, slot).into_link();
+                let link = self.slots.put(inx, slot).into_link();
                 // It is the first, so none comes before it.
                 self.unlink(None, link.after(inx));
             }
@@ -118,7 +81,7 @@ impl<P: Ptr, T, S: NonZeroInxGenericStack<ArenaSlot<P, T>>> Slots<P, T, S> {
         ensures limit { S.limit self.new.slots.stack ≡ S.limit self.old.slots.stack }
         ensures bounded { RisesByAtMost 2 self.old.slots.steps.count self.new.slots.steps.count }
     {
-        if inx.get() == self.len() {
+        if inx.get() == self.slots.len() {
             return self.slots.pop().into_entry();
         }
         self.free(inx).into_entry()
@@ -139,28 +102,5 @@ impl<P: Ptr, T, S: NonZeroInxGenericStack<ArenaSlot<P, T>>> Slots<P, T, S> {
         ensures steps { self.new.slots.steps.count ≡ self.old.slots.steps.count + 1 }
     {
         self.slots.touch(inx).set_generation(generation);
-    }
-
-    // Puts a slot in the place of the one at an index, which it gives.
-    pub(crate) fn put(&mut self, inx: NonZeroUsize, slot: ArenaSlot<P, T>) -> ArenaSlot<P, T>
-        requires { IsSome (item (S.items self.old.slots.stack) (non_zero_usize_get inx)) }
-        ensures value { item (S.items self.old.slots.stack) (non_zero_usize_get inx) ≡ Some result }
-        ensures stack { self.new.slots.stack ≡ S.with_items self.old.slots.stack
-            (with_item (S.items self.old.slots.stack) (non_zero_usize_get inx) slot) }
-        ensures root { self.new.root ≡ self.old.root }
-        ensures steps { self.new.slots.steps.count ≡ self.old.slots.steps.count + 1 }
-    {
-        mem::replace(self.slots.touch(inx), slot)
-    }
-
-    // Whether an entry stands at an index.
-    pub(crate) fn has_entry(&mut self, inx: NonZeroUsize) -> bool
-        ensures value { result ≡ is_some (entry_at P.Gen.number (S.items self.old.slots.stack)
-            (non_zero_usize_get inx)) }
-        ensures stack { self.new.slots.stack ≡ self.old.slots.stack }
-        ensures root { self.new.root ≡ self.old.root }
-        ensures steps { self.new.slots.steps.count ≡ self.old.slots.steps.count + 1 }
-    {
-        self.slots.look(inx).is_some()
     }
 }

@@ -79,9 +79,9 @@ impl<P: Ptr, T, S: NonZeroInxGenericStack<ArenaSlot<P, T>>> Slots<P, T, S> {
         ensures steps { self.old.slots.steps.count ≤ self.new.slots.steps.count }
     {
         self.root = None;
-        let mut next = index_of(self.len());
+        let mut next = index_of(self.slots.len());
         'links: while let Some(inx) = next {
-            if !self.has_entry(inx) {
+            if !self.slots.has_entry(inx) {
                 self.free(inx).discard();
             }
             next = index_of(inx.get() - 1);
@@ -153,7 +153,7 @@ impl<P: Ptr, T, S: NonZeroInxGenericStack<ArenaSlot<P, T>>> Slots<P, T, S> {
     {
         let slot = ArenaSlot::Free(FreeLink::first(next, inx));
         self.root = Some(inx);
-        let old = self.put(inx, slot);
+        let old = self.slots.put(inx, slot);
         self.link_back(next, Some(inx));
         old
     }
@@ -173,7 +173,7 @@ impl<P: Ptr, T, S: NonZeroInxGenericStack<ArenaSlot<P, T>>> Slots<P, T, S> {
         ensures limit { S.limit self.new.slots.stack ≡ S.limit self.old.slots.stack }
         ensures bounded { RisesByAtMost 3 self.old.slots.steps.count self.new.slots.steps.count }
     {
-        let inx = index_of(self.len()).unwrap();
+        let inx = index_of(self.slots.len()).unwrap();
         let link = self.slots.pop().into_link();
         self.unlink(link.before(inx), link.after(inx));
     }
@@ -255,8 +255,8 @@ impl<P: Ptr, T, S: NonZeroInxGenericStack<ArenaSlot<P, T>>> Slots<P, T, S> {
         ensures root { self.new.root ≡ self.old.root }
         ensures bounded { RisesByAtMost 1 self.old.slots.steps.count self.new.slots.steps.count }
     {
-        match index_of(self.len()) {
-            Some(inx) => !self.has_entry(inx),
+        match index_of(self.slots.len()) {
+            Some(inx) => !self.slots.has_entry(inx),
             None => false,
         }
     }

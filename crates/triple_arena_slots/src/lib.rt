@@ -1,5 +1,5 @@
-//! The slots of an `Arena`, and the free list that runs through them. It is an inner crate
-//! behind `triple_arena`, apart for the memory that their proofs take together.
+//! The stack of slots that each arena has, and the free list that runs through those of an `Arena`. It is an
+//! inner crate behind the arenas, apart for the memory that their proofs take together.
 #![tactic(auto)]
 
 mod entries;
@@ -10,4 +10,5 @@ mod slot_steps;
 mod slots;
 
 pub use slot::{ArenaSlot, FreeLink};
+pub use slot_stack::SlotStack;
 pub use slots::Slots;

@@ -1,13 +1,11 @@
 //! The slots of an arena: what is lent of them, and what changes many of them at once.
 
-ghost use Rattle.std.specs.Prelude.{◌≡◌, ◌≢◌, ◌≤◌, ◌↔◌, ℕ, List, [], map, length, Some, None, IsSome, IsOk, OnOk, OnErr, Err, option_copied};
+ghost use Rattle.std.specs.Prelude.{◌≡◌, ◌≤◌, ℕ, List, [], map, length, None};
 ghost use Rattle.std.specs.Borrow.{sem};
 ghost use Rattle.std.specs.Int.NonZero.{non_zero_usize_get};
 ghost use Rattle.std.specs.Option.{option_map};
 ghost use Rattle.triple_arena_ptr.specs.Numbers.{greatest_index};
-ghost use Rattle.triple_arena_stack.specs.StackKind.{reallocated_room, IsOfKind};
-ghost use Rattle.triple_arena_stack.specs.Capacity.{stack_capacity, IsWithin, IsBeyond};
-ghost use Rattle.triple_arena_traits.specs.Items.{item};
+ghost use Rattle.triple_arena_stack.specs.Capacity.{stack_capacity};
 ghost use Rattle.triple_arena_traits.specs.ArenaState.{ArenaState};
 ghost use Rattle.triple_arena_traits.specs.Entries.{entry_count};
 ghost use Rattle.triple_arena_traits.specs.FreeList.{last_index, gaps};
@@ -16,23 +14,16 @@ ghost use Rattle.triple_arena_traits.specs.Compression.{compressed, rank};
 ghost use Rattle.triple_arena_traits.specs.Moves.{Moves};
 ghost use Rattle.triple_arena_traits.specs.Copying.{Copies};
 ghost use Rattle.triple_arena_traits.specs.Transfers.{Transfers};
-ghost use Rattle.triple_arena_slots.specs.Slot.{entry_of, with_slot_value};
-ghost use Rattle.triple_arena_slots.specs.Layout.{IsLinked, entry_at};
-ghost use Rattle.triple_arena_stack.specs.Disjoint.{MayWork, Worked};
-ghost use Rattle.triple_arena_traits.specs.DisjointEntries.{value_of};
-ghost use Rattle.triple_arena_traits.specs.SlotPairs.{WritesTwo};
+ghost use Rattle.triple_arena_slots.specs.Slot.{entry_of};
+ghost use Rattle.triple_arena_slots.specs.Layout.{IsLinked};
 
 use crate::slot::ArenaSlot;
 use crate::slot_stack::SlotStack;
 use std::num::NonZeroUsize;
-use triple_arena_base::{InvalidationOption, MaxCapacityReductionError, ReallocationError};
+use triple_arena_base::InvalidationOption;
 use triple_arena_ptr::{Ptr, PtrGen, PtrInx};
-use triple_arena_stack::{NonZeroInxGenericStack, SetMaxCapacity};
-use triple_arena_traits::copying::copy_entries;
-use triple_arena_traits::entry_slots::{count_live, work_on_two};
-use triple_arena_traits::pair_call::PairCall;
-use triple_arena_traits::transferring::transfer_entries;
-use triple_arena_traits::{CompactArenaTrait, EntrySlot, close_up};
+use triple_arena_stack::NonZeroInxGenericStack;
+use triple_arena_traits::{CompactArenaTrait, close_up};
 
 /// The slots of an arena. Each free one links to the next and to the one before, beginning at the
 /// root.
@@ -44,13 +35,14 @@ use triple_arena_traits::{CompactArenaTrait, EntrySlot, close_up};
 /// which the arena counts.
 #[derive(Drop)]
 pub struct Slots<P: Ptr, T, S: NonZeroInxGenericStack<ArenaSlot<P, T>>> {
-    pub(crate) slots: SlotStack<P, T, S>,
+    /// The slots in their stack.
+    pub slots: SlotStack<P, T, ArenaSlot<P, T>, S>,
     // The first free slot, if there is one.
     pub(crate) root: Option<NonZeroUsize>,
 }
 
 impl<P: Ptr, T, S: NonZeroInxGenericStack<ArenaSlot<P, T>>> Slots<P, T, S> {
-    ghost use Rattle.triple_arena_slots.specs.Lends.{lends_slot_value, lends_slots};
+    ghost use Rattle.triple_arena_slots.specs.Lends.{lends_slots};
     ghost use Rattle.triple_arena_slots.specs.Shown.{SlotsShow};
 
     /// The slots of a stack that has none.
@@ -65,82 +57,6 @@ impl<P: Ptr, T, S: NonZeroInxGenericStack<ArenaSlot<P, T>>> Slots<P, T, S> {
         }
     }
 
-    /// The stack, to look at.
-    pub fn stack(&self) -> &S
-        ensures { result.now ≡ self.now.slots.stack }
-    {
-        self.slots.uncounted_stack()
-    }
-
-    /// The slot of an index, to look at. It touches this one, uncounted.
-    pub fn peek(&self, inx: NonZeroUsize) -> Option<&ArenaSlot<P, T>>
-        ensures { option_copied result
-            ≡ item (S.items self.now.slots.stack) (non_zero_usize_get inx) }
-    {
-        self.slots.peek(inx)
-    }
-
-    /// How many slots there are.
-    pub fn len(&self) -> usize
-        ensures { result ≡ length (S.items self.now.slots.stack) }
-    {
-        self.slots.len()
-    }
-
-    /// The value of the entry at an index, for writing.
-    pub fn value_mut(&mut self, inx: NonZeroUsize) -> &mut T
-        requires { IsSome (entry_at P.Gen.number (S.items self.old.slots.stack)
-            (non_zero_usize_get inx)) }
-        ensures* writes_back { sem 𝓛 (lends_slot_value P.row T.row S.row P.Inx.row P.Gen.row
-            P.Inx.PtrInx.own P.Inx.Debug P.Inx.Hash.own P.Inx.PartialEq P.Inx.PartialOrd.own
-            P.Inx.Ord.own S.items S.with_items self.entry (non_zero_usize_get inx) result) }
-        ensures value { option_map (λ e. e.1)
-            (entry_at P.Gen.number (S.items self.old.slots.stack) (non_zero_usize_get inx))
-            ≡ Some result.now }
-    {
-        let slot = self.slots.uncounted_stack_mut().get_mut(inx).unwrap();
-        slot.value_mut()
-    }
-
-    /// Makes the call at the values of the entries at two indexes. Both are lent to it at once; what
-    /// it writes stands there, and no other slot changes.
-    pub fn work_on_two<R, C: PairCall<T, R>>(
-        &mut self,
-        first: NonZeroUsize,
-        second: NonZeroUsize,
-        call: C,
-    ) -> R
-        requires first { IsSome (entry_at P.Gen.number (S.items self.old.slots.stack)
-            (non_zero_usize_get first)) }
-        requires second { IsSome (entry_at P.Gen.number (S.items self.old.slots.stack)
-            (non_zero_usize_get second)) }
-        requires apart { non_zero_usize_get first ≢ non_zero_usize_get second }
-        requires callable { MayWork C.calls call
-            (value_of (entry_at P.Gen.number (S.items self.old.slots.stack)
-            (non_zero_usize_get first)))
-            (value_of (entry_at P.Gen.number (S.items self.old.slots.stack)
-            (non_zero_usize_get second))) }
-        ensures worked { Worked C.calls call
-            (value_of (entry_at P.Gen.number (S.items self.old.slots.stack)
-            (non_zero_usize_get first)))
-            (value_of (entry_at P.Gen.number (S.items self.old.slots.stack)
-            (non_zero_usize_get second)))
-            result (WritesTwo with_slot_value (S.items self.old.slots.stack)
-            (S.items self.new.slots.stack)
-            (non_zero_usize_get first) (non_zero_usize_get second)) }
-        ensures root { self.new.root ≡ self.old.root }
-        ensures room { S.room self.new.slots.stack ≡ S.room self.old.slots.stack }
-        ensures limit { S.limit self.new.slots.stack ≡ S.limit self.old.slots.stack }
-        ensures steps { self.new.slots.steps.count ≡ self.old.slots.steps.count }
-    {
-        work_on_two::<P, T, ArenaSlot<P, T>, S, R, C>(
-            self.slots.uncounted_stack_mut(),
-            first,
-            second,
-            call,
-        )
-    }
-
     /// The slots, for writing.
     pub fn as_mut_slice(&mut self) -> &mut [ArenaSlot<P, T>]
         ensures* writes_back { sem 𝓛 (lends_slots P.row T.row S.row P.Inx.row P.Gen.row
@@ -148,7 +64,7 @@ impl<P: Ptr, T, S: NonZeroInxGenericStack<ArenaSlot<P, T>>> Slots<P, T, S> {
             P.Inx.Ord.own S.items S.with_items self.entry result) }
         ensures value { result.now ≡ S.items self.old.slots.stack }
     {
-        self.slots.uncounted_stack_mut().as_mut_slice()
+        self.slots.as_mut_slice()
     }
 
     /// Drops all slots.
@@ -163,56 +79,6 @@ impl<P: Ptr, T, S: NonZeroInxGenericStack<ArenaSlot<P, T>>> Slots<P, T, S> {
     {
         self.slots.uncounted_stack_mut().clear();
         self.root = None;
-    }
-
-    /// How many slots there may be without growth, the indexes aside.
-    pub fn capacity(&self) -> usize
-        ensures value { result ≡ stack_capacity (S.room self.now.slots.stack)
-            (S.limit self.now.slots.stack) }
-        ensures within { length (S.items self.now.slots.stack) ≤ result }
-    {
-        self.slots.capacity()
-    }
-
-    /// The limit of the stack, if there is one.
-    pub fn max_capacity(&self) -> Option<usize>
-        ensures value { result ≡ S.limit self.now.slots.stack }
-        ensures of_kind { IsOfKind S.kind (S.room self.now.slots.stack)
-            (S.limit self.now.slots.stack) }
-    {
-        self.slots.max_capacity()
-    }
-
-    /// Reallocates the stack, and leaves the slots as they are.
-    pub fn reallocate(&mut self, min_capacity: usize) -> Result<(), ReallocationError>
-        ensures items { S.items self.new.slots.stack ≡ S.items self.old.slots.stack }
-        ensures root { self.new.root ≡ self.old.root }
-        ensures limit { S.limit self.new.slots.stack ≡ S.limit self.old.slots.stack }
-        ensures room { OnOk result (S.room self.new.slots.stack ≡ reallocated_room S.kind
-            (S.room self.old.slots.stack) (length (S.items self.old.slots.stack)) min_capacity) }
-        ensures refused { OnErr result (S.room self.new.slots.stack ≡ S.room self.old.slots.stack) }
-        ensures within { OnOk result (IsWithin (S.limit self.old.slots.stack) min_capacity) }
-        ensures beyond { (result ≡ Err ReallocationError.BeyondMaxCapacity)
-            ↔ IsBeyond (S.limit self.old.slots.stack) min_capacity }
-        ensures succeeds { IsWithin (S.limit self.old.slots.stack) min_capacity
-            → reallocated_room S.kind
-            (S.room self.old.slots.stack) (length (S.items self.old.slots.stack)) min_capacity
-            ≡ S.room self.old.slots.stack
-            → IsOk result }
-        ensures with_memory { IsWithin (S.limit self.old.slots.stack) min_capacity
-            → S.has_memory (reallocated_room S.kind
-            (S.room self.old.slots.stack) (length (S.items self.old.slots.stack)) min_capacity)
-            → IsOk result }
-        ensures place { OnOk result
-            (min_capacity ≤ stack_capacity (S.room self.new.slots.stack)
-            (S.limit self.new.slots.stack)) }
-        ensures steps { self.new.slots.steps.count ≡ self.old.slots.steps.count }
-    {
-        // Room and limit are those of the stack's kind.
-        let _limit = self.slots.max_capacity();
-        self.slots
-            .uncounted_stack_mut()
-            .reallocate_min_capacity(min_capacity)
     }
 
     /// Moves the entries to the first slots, in their order, under this generation, with the values
@@ -264,11 +130,9 @@ impl<P: Ptr, T, S: NonZeroInxGenericStack<ArenaSlot<P, T>>> Slots<P, T, S> {
         ensures steps { self.old.slots.steps.count ≤ self.new.slots.steps.count }
     {
         self.clear();
-        let stack = self.slots.uncounted_stack_mut();
-        let answer = copy_entries::<P, T, ArenaSlot<P, T>, S, U, E, A, M>(stack, source, f);
-        let count = count_live::<P, T, ArenaSlot<P, T>, S>(self.stack());
+        let (count, answer) = self.slots.copy(source, f);
         // Where each slot has an entry, there is no link to set.
-        if count < self.len() {
+        if count < self.slots.len() {
             self.relink();
         }
         (count, answer)
@@ -300,26 +164,6 @@ impl<P: Ptr, T, S: NonZeroInxGenericStack<ArenaSlot<P, T>>> Slots<P, T, S> {
         ensures steps { self.new.slots.steps.count ≡ self.old.slots.steps.count }
     {
         self.clear();
-        let stack = self.slots.uncounted_stack_mut();
-        transfer_entries::<P, T, ArenaSlot<P, T>, S, Q, U, A, M>(stack, generation, source, f);
-        self.slots.len()
-    }
-}
-
-impl<P: Ptr, T, S: SetMaxCapacity<ArenaSlot<P, T>>> Slots<P, T, S> {
-    /// Sets the limit of the stack, and leaves the slots as they are.
-    pub fn set_max_capacity(&mut self, max_capacity: usize) -> Result<(), MaxCapacityReductionError>
-        ensures variant { IsOk result ↔ (length (S.items self.old.slots.stack) ≤ max_capacity) }
-        ensures items { S.items self.new.slots.stack ≡ S.items self.old.slots.stack }
-        ensures root { self.new.root ≡ self.old.root }
-        ensures room { S.room self.new.slots.stack ≡ S.room self.old.slots.stack }
-        ensures limit { OnOk result (S.limit self.new.slots.stack ≡ Some max_capacity) }
-        ensures refused { OnErr result
-            (S.limit self.new.slots.stack ≡ S.limit self.old.slots.stack) }
-        ensures steps { self.new.slots.steps.count ≡ self.old.slots.steps.count }
-    {
-        self.slots
-            .uncounted_stack_mut()
-            .set_max_capacity(max_capacity)
+        self.slots.take_over(generation, source, f)
     }
 }

@@ -1,5 +1,6 @@
 pub mod Loop
 pub mod Text
+pub mod Whole
 pub mod Marks
 pub mod ArenaBytes
 pub mod FreeLists

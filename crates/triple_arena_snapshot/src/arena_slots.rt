@@ -1,17 +1,20 @@
 //! The slots of an arena as bytes, and their free list.
 
-ghost use Rattle.std.specs.Prelude.{◌≡◌, ◌++◌, ℕ, Option, map, OnOk};
+ghost use Rattle.std.specs.Prelude.{◌≡◌, ◌++◌, ℕ, Option, map, OnOk, option_copied};
 ghost use Rattle.std.specs.Int.NonZero.{non_zero_usize_get};
 ghost use Rattle.std.specs.List.{flat_map, AllByRecursion};
 ghost use Rattle.std.specs.Option.{option_map};
+ghost use Rattle.triple_arena_traits.specs.Items.{item};
 ghost use Rattle.triple_arena_traits.specs.ArenaState.{map_entry};
 ghost use Rattle.triple_arena_slots.specs.Slot.{entry_of};
 ghost use Rattle.triple_arena_slots.specs.Layout.{after, chain};
+ghost use Rattle.triple_arena_snapshot.specs.Coding.{Gives};
 ghost use Rattle.triple_arena_snapshot.specs.Layouts.{option, both};
 ghost use Rattle.triple_arena_snapshot.specs.ArenaLayouts.{index};
 
 use crate::codec::Codec;
-use crate::fault::{DecodeError, Fault};
+use crate::entries::{decode_entry, encode_entry};
+use crate::fault::DecodeError;
 use crate::generations::GenerationCodec;
 use std::alloc::Global;
 use std::num::NonZeroUsize;
@@ -31,28 +34,28 @@ where
 
     ghost coding = { option (both P.Gen.numbered T.coding) };
 
-    fn encode(&self, out: &mut Vec<u8>) -> Result<(), AllocError> {
-        match self {
-            ArenaSlot::Free(_) => 0u8.encode(out),
-            ArenaSlot::Allocated(generation, value) => {
-                1u8.encode(out)?;
-                generation.encode_generation(out)?;
-                value.encode(out)
-            }
-        }
+    // The trait's clauses are written out, since inheriting them makes each call dearer to prove.
+    fn encode(&self, out: &mut Vec<u8>) -> Result<(), AllocError>
+        ensures written { OnOk result (out.new.items ≡ out.old.items
+            ++ (option (both P.Gen.numbered T.coding)).encoding
+            (option_map (map_entry T.content) (entry_of P.Gen.number self.now))) }
+        ensures fits { OnOk result ((option (both P.Gen.numbered T.coding)).fits
+            (option_map (map_entry T.content) (entry_of P.Gen.number self.now))) }
+    {
+        encode_entry(self.entry(), out)
     }
 
-    fn decode(alloc: Global, bytes: &[u8]) -> Result<(Self, &[u8]), DecodeError> {
-        match bytes {
-            [] => Err(DecodeError::Malformed(Fault::Cut, 0)),
-            [0, rest @ ..] => Ok((ArenaSlot::vacant(), rest)),
-            [1, rest @ ..] => {
-                let (generation, rest) = P::Gen::decode_generation(alloc, rest)?;
-                let (value, rest) = T::decode(alloc, rest)?;
-                Ok((ArenaSlot::Allocated(generation, value), rest))
-            }
-            [_, ..] => Err(DecodeError::Malformed(Fault::Flag, bytes.len())),
-        }
+    fn decode(alloc: Global, bytes: &[u8]) -> Result<(Self, &[u8]), DecodeError>
+        ensures read { Gives
+            (λ x. (option_map (map_entry T.content) (entry_of P.Gen.number x.0), x.1.now)) result
+            ((option (both P.Gen.numbered T.coding)).decoding bytes.now) }
+    {
+        let (entry, rest) = decode_entry::<P::Gen, T>(alloc, bytes)?;
+        let slot = match entry {
+            None => ArenaSlot::vacant(),
+            Some((generation, value)) => ArenaSlot::Allocated(generation, value),
+        };
+        Ok((slot, rest))
     }
 }
 
@@ -85,9 +88,16 @@ pub(crate) fn encode_links<P: Ptr, T>(
 fn after<P: Ptr, T>(slots: &[ArenaSlot<P, T>], inx: NonZeroUsize) -> Option<NonZeroUsize>
     ensures { option_map non_zero_usize_get result ≡ after slots.now (non_zero_usize_get inx) }
 {
-    match slots.get(inx.get() - 1) {
+    match item(slots, inx) {
         Some(ArenaSlot::Free(link)) => link.after(inx),
         Some(ArenaSlot::Allocated(_, _)) => None,
         None => None,
     }
+}
+
+// The item of a number, if there is one.
+fn item<X>(items: &[X], number: NonZeroUsize) -> Option<&X>
+    ensures { option_copied result ≡ item items.now (non_zero_usize_get number) }
+{
+    items.get(number.get() - 1)
 }

@@ -88,11 +88,22 @@ where
 
     ghost coding = { arena_coding P.Inx.greatest P.Gen.width None P.Gen.numbered T.coding };
 
-    fn encode(&self, out: &mut Vec<u8>) -> Result<(), AllocError> {
+    // The trait's clauses are written out, since inheriting them makes each call dearer to prove.
+    fn encode(&self, out: &mut Vec<u8>) -> Result<(), AllocError>
+        ensures written { OnOk result (out.new.items ≡ out.old.items
+            ++ (arena_coding P.Inx.greatest P.Gen.width None P.Gen.numbered T.coding).encoding
+            (arena_content T.content self.now)) }
+        ensures fits { OnOk result
+            ((arena_coding P.Inx.greatest P.Gen.width None P.Gen.numbered T.coding).fits
+            (arena_content T.content self.now)) }
+    {
         encode_arena(self, out)
     }
 
-    fn decode(alloc: Global, bytes: &[u8]) -> Result<(Self, &[u8]), DecodeError> {
+    fn decode(alloc: Global, bytes: &[u8]) -> Result<(Self, &[u8]), DecodeError>
+        ensures read { Gives (λ x. (arena_content T.content x.0, x.1.now)) result
+            ((arena_coding P.Inx.greatest P.Gen.width None P.Gen.numbered T.coding).decoding bytes.now) }
+    {
         decode_arena(NonZeroInxVec::new(alloc), alloc, bytes)
     }
 }

@@ -9,7 +9,8 @@ ghost use Rattle.triple_arena_snapshot.specs.Layouts.{option, both};
 ghost use Rattle.triple_arena_snapshot.specs.ArenaLayouts.{direct_arena_coding};
 
 use crate::codec::Codec;
-use crate::fault::{DecodeError, Fault};
+use crate::entries::{decode_entry, encode_entry};
+use crate::fault::DecodeError;
 use crate::generations::GenerationCodec;
 use crate::stacks::{behind_header, decode_stack, encode_header, encode_items};
 use std::alloc::Global;
@@ -17,7 +18,7 @@ use triple_arena_base::AllocError;
 use triple_arena_direct_arena::{DirectArena, DirectSlot};
 use triple_arena_ptr::{Ptr, PtrInx};
 use triple_arena_stack::{NonZeroInxGenericStack, NonZeroInxVec};
-use triple_arena_traits::ArenaTrait;
+use triple_arena_traits::{ArenaTrait, EntrySlot};
 
 /// A byte 0; or a byte 1, the generation and the value.
 impl<P: Ptr, T: Codec> Codec for DirectSlot<P, T>
@@ -30,28 +31,28 @@ where
 
     ghost coding = { option (both P.Gen.numbered T.coding) };
 
-    fn encode(&self, out: &mut Vec<u8>) -> Result<(), AllocError> {
-        match self {
-            DirectSlot::Free => 0u8.encode(out),
-            DirectSlot::Allocated(generation, value) => {
-                1u8.encode(out)?;
-                generation.encode_generation(out)?;
-                value.encode(out)
-            }
-        }
+    // The trait's clauses are written out, since inheriting them makes each call dearer to prove.
+    fn encode(&self, out: &mut Vec<u8>) -> Result<(), AllocError>
+        ensures written { OnOk result (out.new.items ≡ out.old.items
+            ++ (option (both P.Gen.numbered T.coding)).encoding
+            (option_map (map_entry T.content) (direct_slot_entry P.Gen.number self.now))) }
+        ensures fits { OnOk result ((option (both P.Gen.numbered T.coding)).fits
+            (option_map (map_entry T.content) (direct_slot_entry P.Gen.number self.now))) }
+    {
+        encode_entry(self.entry(), out)
     }
 
-    fn decode(alloc: Global, bytes: &[u8]) -> Result<(Self, &[u8]), DecodeError> {
-        match bytes {
-            [] => Err(DecodeError::Malformed(Fault::Cut, 0)),
-            [0, rest @ ..] => Ok((DirectSlot::Free, rest)),
-            [1, rest @ ..] => {
-                let (generation, rest) = P::Gen::decode_generation(alloc, rest)?;
-                let (value, rest) = T::decode(alloc, rest)?;
-                Ok((DirectSlot::Allocated(generation, value), rest))
-            }
-            [_, ..] => Err(DecodeError::Malformed(Fault::Flag, bytes.len())),
-        }
+    fn decode(alloc: Global, bytes: &[u8]) -> Result<(Self, &[u8]), DecodeError>
+        ensures read { Gives
+            (λ x. (option_map (map_entry T.content) (direct_slot_entry P.Gen.number x.0), x.1.now)) result
+            ((option (both P.Gen.numbered T.coding)).decoding bytes.now) }
+    {
+        let (entry, rest) = decode_entry::<P::Gen, T>(alloc, bytes)?;
+        let slot = match entry {
+            None => DirectSlot::Free,
+            Some((generation, value)) => DirectSlot::Allocated(generation, value),
+        };
+        Ok((slot, rest))
     }
 }
 
@@ -108,11 +109,22 @@ where
 
     ghost coding = { direct_arena_coding P.Inx.greatest P.Gen.width None P.Gen.numbered T.coding };
 
-    fn encode(&self, out: &mut Vec<u8>) -> Result<(), AllocError> {
+    fn encode(&self, out: &mut Vec<u8>) -> Result<(), AllocError>
+        ensures written { OnOk result (out.new.items ≡ out.old.items
+            ++ (direct_arena_coding P.Inx.greatest P.Gen.width None P.Gen.numbered T.coding).encoding
+            (map (option_map (map_entry T.content)) self.now.slots)) }
+        ensures fits { OnOk result
+            ((direct_arena_coding P.Inx.greatest P.Gen.width None P.Gen.numbered T.coding).fits
+            (map (option_map (map_entry T.content)) self.now.slots)) }
+    {
         encode_direct_arena(self, out)
     }
 
-    fn decode(alloc: Global, bytes: &[u8]) -> Result<(Self, &[u8]), DecodeError> {
+    fn decode(alloc: Global, bytes: &[u8]) -> Result<(Self, &[u8]), DecodeError>
+        ensures read { Gives (λ x. (map (option_map (map_entry T.content)) x.0.slots, x.1.now)) result
+            ((direct_arena_coding P.Inx.greatest P.Gen.width None P.Gen.numbered T.coding).decoding
+            bytes.now) }
+    {
         decode_direct_arena(NonZeroInxVec::new(alloc), alloc, bytes)
     }
 }

@@ -7,6 +7,7 @@ mod arenas;
 mod codec;
 mod containers;
 mod direct_arenas;
+mod entries;
 mod fault;
 mod file;
 mod free_lists;

@@ -1,8 +1,9 @@
 //! Pointers as bytes: the index and then the generation, each in the width of its type.
 
-ghost use Rattle.std.specs.Prelude.{◌≡◌, ℕ, suc, ◌^◌};
+ghost use Rattle.std.specs.Prelude.{◌≡◌, ◌++◌, ℕ, suc, ◌^◌, OnOk};
 ghost use Rattle.std.specs.Int.{w16, w32, w64};
 ghost use Rattle.triple_arena_ptr.specs.Pointers.{Pointer};
+ghost use Rattle.triple_arena_snapshot.specs.Coding.{Gives};
 ghost use Rattle.triple_arena_snapshot.specs.Layouts.{byte, number, both, pointer, bare_pointer};
 ghost use Rattle.triple_arena_snapshot.specs.laws.CodingLaws.{wide16, wide32, wide64};
 
@@ -184,12 +185,29 @@ where
 
     ghost coding = { both I.NonZero.coding G.NonZero.numbered };
 
-    fn encode(&self, out: &mut Vec<u8>) -> Result<(), AllocError> {
+    // The trait's clauses are written out here and below, since inheriting them makes each call dearer to
+    // prove.
+    fn encode(&self, out: &mut Vec<u8>) -> Result<(), AllocError>
+        ensures written { OnOk result (out.new.items ≡ out.old.items
+            ++ (both I.NonZero.coding G.NonZero.numbered).encoding
+            (I.NonZero.content (I.value_after self.now.0), G.NonZero.number (G.value_after self.now.1))) }
+        ensures fits { OnOk result ((both I.NonZero.coding G.NonZero.numbered).fits
+            (I.NonZero.content (I.value_after self.now.0), G.NonZero.number (G.value_after self.now.1))) }
+    {
         self.inx().encode(out)?;
         self.generation().encode_generation(out)
     }
 
-    fn decode(alloc: Global, bytes: &[u8]) -> Result<(Self, &[u8]), DecodeError> {
+    fn decode(alloc: Global, bytes: &[u8]) -> Result<(Self, &[u8]), DecodeError>
+        ensures read { Gives (λ x. (
+          (
+            I.NonZero.content (I.value_after x.0.0),
+            G.NonZero.number (G.value_after x.0.1),
+          ),
+          x.1.now,
+        )) result
+            ((both I.NonZero.coding G.NonZero.numbered).decoding bytes.now) }
+    {
         let (inx, rest) = I::NonZero::decode(alloc, bytes)?;
         let (generation, rest) = G::NonZero::decode_generation(alloc, rest)?;
         Ok((NamedPtr::_from_raw(inx, generation), rest))
@@ -204,11 +222,17 @@ impl<I: PtrInx + Codec, P: Ptr<Inx = I>> Codec for PtrNoGen<P, I> {
 
     ghost coding = { I.coding };
 
-    fn encode(&self, out: &mut Vec<u8>) -> Result<(), AllocError> {
+    fn encode(&self, out: &mut Vec<u8>) -> Result<(), AllocError>
+        ensures written { OnOk result
+            (out.new.items ≡ out.old.items ++ I.coding.encoding (I.content self.now)) }
+        ensures fits { OnOk result (I.coding.fits (I.content self.now)) }
+    {
         self.inx().encode(out)
     }
 
-    fn decode(alloc: Global, bytes: &[u8]) -> Result<(Self, &[u8]), DecodeError> {
+    fn decode(alloc: Global, bytes: &[u8]) -> Result<(Self, &[u8]), DecodeError>
+        ensures read { Gives (λ x. (I.content x.0, x.1.now)) result (I.coding.decoding bytes.now) }
+    {
         let (inx, rest) = I::decode(alloc, bytes)?;
         Ok((PtrNoGen::_from_raw(inx, ()), rest))
     }

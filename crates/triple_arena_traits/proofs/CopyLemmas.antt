@@ -16,7 +16,7 @@ use Rattle.triple_arena_traits.specs.Entries.{entry_in, look_up, entry_count, Ke
 use Rattle.triple_arena_traits.specs.laws.EntryLaws.{entry-trimmed}
 use Rattle.triple_arena_traits.specs.FreeList.{trimmed, last_index, IsRising}
 use Rattle.triple_arena_traits.specs.Walks.{Stand, Steps, IsAtFirst, entries_from, entries, entries_ahead, keys, keys_ahead}
-use Rattle.triple_arena_traits.specs.laws.WalkLaws.{taken, found, live_within, forward_stays, ahead_taken, ahead_first, ahead_none, keys_first, keys_taken, keys_rising, live_key, key_live}
+use Rattle.triple_arena_traits.specs.laws.WalkLaws.{taken, found, live_within, forward_stays, ahead_taken, ahead_first, ahead_none, keys_first, keys_taken, keys_rising, live_key, key_live, length-entries}
 use Rattle.triple_arena_traits.specs.Copying.{Mapping, put_after, mapped_from, mapped_to, MapTurn, Copies}
 use Rattle.triple_arena_traits.specs.Cloning.{IsCloneAnswer}
 use Rattle.triple_arena_traits.specs.laws.FreeListLaws.{trimmed_last}
@@ -53,6 +53,11 @@ module _ {T : Type 0} where
       ∙ ap (λ l. l ++ ((1 + length xs + length (replicate {A = Option (ℕ × T)} n None), p.1), t) ∷ []) (gap_entries (1 + length xs) n)
       ∙ ap (λ m. ((m, p.1), t) ∷ []) at
       )
+
+  -- and there is one entry more
+  pub count-put_after : (xs : List (Option (ℕ × T))) (p : Pointer) (t : T) → length xs < p.0 → entry_count (put_after xs p t) ≡ entry_count xs + 1
+  count-put_after xs p t past =
+      omega (arith, length-entries (put_after xs p t), length-entries xs, ap length (entries-put_after xs p t past) ∙ length-append (entries xs) ((p, t) ∷ []))
 
   live-put_after : (xs : List (Option (ℕ × T))) (p : Pointer) (t : T) → is_free (item (put_after xs p t) (length (put_after xs p t))) ≡ false
   live-put_after xs p t =

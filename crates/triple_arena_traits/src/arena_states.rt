@@ -101,8 +101,8 @@ pub trait ArenaLaws<P: Ptr, T>: ArenaStates<P, T> {
         → Self.capacity new ≡ Self.capacity old };
 
     // where nothing changed but the count, entries, limit, capacity and next generation are the same,
-    // an ending is told and renewed as before, a reallocation asks for the same room, and each
-    // history that fitted fits
+    // an arena that was valid is, an ending is told and renewed as before, and each history that
+    // fitted fits
     ghost slots_unchanged: { (old new : Self) → Self.unchanged old new → Self.slots new ≡ Self.slots old };
 
     ghost valid_unchanged: { (old new : Self) → Self.unchanged old new → Self.valid old → Self.valid new };

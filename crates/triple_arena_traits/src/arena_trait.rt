@@ -252,6 +252,8 @@ pub trait ArenaTrait<P: Ptr, T>: ArenaLaws<P, T> {
         ensures history { CountsUp P.Gen.generations (Self.clearing_wraps self.old)
             → Continues Self.fits self.old (clearing (keys (Self.slots self.old)) ∷ []) self.new };
 
+    // where nothing changed but the count, a reallocation that left the room as it is leaves it so,
+    // and one for whose room memory was there has it
     ghost keeps_room_unchanged: { (old new : Self) (m : ℕ) → Self.unchanged old new
         → keeps_room old m → keeps_room new m };
 

@@ -14,7 +14,7 @@ use Rattle.triple_arena.specs.Compression.{rank, raised_if_any, wraps_after}
 use Rattle.triple_arena_direct.specs.Holding.{Holding, itself, nothing, option, vector, both, part}
 use Rattle.triple_arena_direct.specs.Renaming.{AllResolve, RefusesStray}
 use Rattle.triple_arena_direct.specs.RenamingBoth.{RefusesBothStray}
-use Rattle.triple_arena_direct.specs.declared.errors.CompactBothError.{CompactBothError}
+use Rattle.triple_arena_direct.specs.CompactBothError.{CompactBothError}
 use Rattle.triple_arena_uses.specs.Entities.{p0_numbers}
 use Rattle.triple_arena_uses.specs.declared.circuit.Cell.{Cell}
 use Rattle.triple_arena_uses.specs.declared.circuit.Net.{Net}

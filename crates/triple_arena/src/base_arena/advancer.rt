@@ -34,7 +34,7 @@ impl<P: Ptr, T, S: NonZeroInxGenericStack<ArenaSlot<P, T>>> Advancer<Arena<P, T,
     {
         // No slot is past the greatest index.
         let _capacity = arena.capacity();
-        self.step::<T, ArenaSlot<P, T>, S>(arena.slots.stack())
+        self.step::<T, ArenaSlot<P, T>, S>(arena.slots.slots.uncounted_stack())
     }
 
     fn empty() -> Self {

@@ -58,7 +58,7 @@ impl<P: Ptr, T, S: NonZeroInxGenericStack<ArenaSlot<P, T>>> Arena<P, T, S> {
         ensures numbers { IfOk result (λ both. (non_zero_usize_get both.0 ≡ P.Inx.number first)
             × (non_zero_usize_get both.1 ≡ P.Inx.number second)) }
     {
-        let stack = self.slots.stack();
+        let stack = self.slots.slots.uncounted_stack();
         let (Some(first), Some(second)) = (
             P::Inx::try_into_usize(first),
             P::Inx::try_into_usize(second),
@@ -86,6 +86,6 @@ impl<P: Ptr, T, S: NonZeroInxGenericStack<ArenaSlot<P, T>>> Arena<P, T, S> {
             result (λ x y. self.new ≡ with_value
             (with_value self.old (non_zero_usize_get first) x) (non_zero_usize_get second) y) }
     {
-        self.slots.work_on_two(first, second, call)
+        self.slots.slots.work_on_two(first, second, call)
     }
 }

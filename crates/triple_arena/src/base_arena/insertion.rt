@@ -66,7 +66,7 @@ impl<P: Ptr, T, S: NonZeroInxGenericStack<ArenaSlot<P, T>>> ArenaInsertTrait<P, 
         if self.len < capacity {
             return Ok(());
         }
-        let limit = self.slots.max_capacity();
+        let limit = self.slots.slots.max_capacity();
         if is_at_limit(limit, capacity) {
             return Err(ReallocationError::BeyondMaxCapacity);
         }

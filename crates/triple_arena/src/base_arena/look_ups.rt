@@ -25,7 +25,7 @@ impl<P: Ptr, T, S: NonZeroInxGenericStack<ArenaSlot<P, T>>> Arena<P, T, S> {
         ensures within { IsSome (entry self.now (P.Inx.number inx))
             → P.Inx.number inx ≤ greatest_index P.Inx.greatest }
     {
-        self.slots.peek(P::Inx::try_into_usize(inx)?)
+        self.slots.slots.peek(P::Inx::try_into_usize(inx)?)
     }
 
     // The index of a pointer, if the pointer is valid.
@@ -33,8 +33,7 @@ impl<P: Ptr, T, S: NonZeroInxGenericStack<ArenaSlot<P, T>>> Arena<P, T, S> {
         ensures index { IfSome result (λ inx. non_zero_usize_get inx ≡ (P.numbers p).0) }
         ensures live { is_some result ≡ is_some (look_up self.now.slots (P.numbers p)) }
     {
-        let slot = self.slot(p.inx())?;
-        slot.look_up(p.generation())?;
+        let _value = self.slot(p.inx())?.look_up(p.generation())?;
         P::Inx::try_into_usize(p.inx())
     }
 
@@ -45,7 +44,7 @@ impl<P: Ptr, T, S: NonZeroInxGenericStack<ArenaSlot<P, T>>> Arena<P, T, S> {
         ensures unchanged { IsTouched self.old self.new }
         ensures steps { self.new.steps ≤ self.old.steps + 1 }
     {
-        self.slots.find(p)
+        self.slots.slots.find(p)
     }
 
     // An index, if an entry stands there. It touches at most one slot.
@@ -55,7 +54,7 @@ impl<P: Ptr, T, S: NonZeroInxGenericStack<ArenaSlot<P, T>>> Arena<P, T, S> {
         ensures unchanged { IsTouched self.old self.new }
         ensures steps { self.new.steps ≤ self.old.steps + 1 }
     {
-        self.slots.find_inx(inx)
+        self.slots.slots.find_inx(inx)
     }
 
     // An index, if an entry stands there.
@@ -75,7 +74,7 @@ impl<P: Ptr, T, S: NonZeroInxGenericStack<ArenaSlot<P, T>>> Arena<P, T, S> {
         ensures { (h : ℕ) × (v : T) × (entry self.now (non_zero_usize_get inx) ≡ Some (h, v))
             × (P.numbers result ≡ (non_zero_usize_get inx, h)) }
     {
-        ptr_at::<P, T, ArenaSlot<P, T>, S>(self.slots.stack(), inx)
+        ptr_at::<P, T, ArenaSlot<P, T>, S>(self.slots.slots.uncounted_stack(), inx)
     }
 
     // How many slots there are.
@@ -83,6 +82,6 @@ impl<P: Ptr, T, S: NonZeroInxGenericStack<ArenaSlot<P, T>>> Arena<P, T, S> {
         ensures value { result ≡ slot_count self.now }
         ensures indexed { result ≤ greatest_index P.Inx.greatest }
     {
-        self.slots.len()
+        self.slots.slots.len()
     }
 }

@@ -64,6 +64,6 @@ impl<P: Ptr, T, S: NonZeroInxGenericStack<ArenaSlot<P, T>>> Arena<P, T, S> {
         ensures limit { S.limit result.now ≡ self.now.limit }
         ensures links { IsLinked (S.items result.now) (slice_get self.now.free 0) self.now.free }
     {
-        self.slots.stack()
+        self.slots.slots.uncounted_stack()
     }
 }

@@ -11,20 +11,20 @@ ghost use Rattle.triple_arena_traits.specs.SlotSteps.{IsTouched};
 ghost use Rattle.triple_arena_traits.specs.Compression.{compressed, raised_if_any};
 ghost use Rattle.triple_arena_traits.specs.Walks.{keys, values};
 ghost use Rattle.triple_arena_traits.specs.Histories.{begun_with, compression, Fits, Continues};
-ghost use Rattle.triple_arena_direct.specs.Renaming.{MapsPointers, first_unresolved};
-ghost use Rattle.triple_arena_direct.specs.RenamingBoth.{StandApart, AreRenamedBoth, IsFoundRenamedBoth};
+ghost use Rattle.triple_arena_recasting.specs.Renaming.{MapsPointers, first_unresolved};
+ghost use Rattle.triple_arena_recasting.specs.RenamingBoth.{StandApart, AreRenamedBoth, IsFoundRenamedBoth};
 ghost use Rattle.triple_arena_direct.specs.Gone.{IsGoneForGood};
 ghost use Rattle.triple_arena_direct.specs.StrictAnswers.{is_exhausted_for_any, calls_if_ok, strict_rank, RefusesBothStrictly};
 ghost use Rattle.triple_arena_direct.specs.StrictCalls.{IsStrictStep, to_compress};
 
 use super::StrictArena;
-use crate::compress_recast_both;
 use crate::errors::StrictCompactBothError;
 use std::alloc::Global;
 use triple_arena::ArenaSlot;
 use triple_arena_base::Recast;
 use triple_arena_direct_arena::DirectArena;
 use triple_arena_ptr::{Ptr, PtrGen};
+use triple_arena_recasting::compress_recast_both;
 use triple_arena_stack::NonZeroInxGenericStack;
 
 impl<P: Ptr, T, S: NonZeroInxGenericStack<ArenaSlot<P, T>>> StrictArena<P, T, S> {

@@ -12,19 +12,19 @@ ghost use Rattle.triple_arena_traits.specs.Compression.{compressed, raised_if_an
 ghost use Rattle.triple_arena_traits.specs.Moves.{Moves};
 ghost use Rattle.triple_arena_traits.specs.Walks.{entries, keys, values};
 ghost use Rattle.triple_arena_traits.specs.Histories.{begun_with, compression, Fits, Continues};
-ghost use Rattle.triple_arena_direct.specs.Renaming.{MapsPointers, first_unresolved, IsRenamed, AreRenamed, IsFoundRenamed};
+ghost use Rattle.triple_arena_recasting.specs.Renaming.{MapsPointers, first_unresolved, IsRenamed, AreRenamed, IsFoundRenamed};
 ghost use Rattle.triple_arena_direct.specs.Gone.{IsGoneForGood};
 ghost use Rattle.triple_arena_direct.specs.StrictAnswers.{is_exhausted_for_any, strict_all, calls_if_ok, RefusesStrictly};
 ghost use Rattle.triple_arena_direct.specs.StrictCalls.{IsStrictStep, to_compress};
 
 use super::StrictArena;
 use crate::errors::{StrictCompactError, StrictError};
-use crate::{compress_recast, compress_recast_with};
 use std::alloc::Global;
 use triple_arena::{ArenaSlot, ArenaTrait, CompactArenaTrait};
 use triple_arena_base::Recast;
 use triple_arena_direct_arena::DirectArena;
 use triple_arena_ptr::{Ptr, PtrGen};
+use triple_arena_recasting::{compress_recast, compress_recast_with};
 use triple_arena_stack::NonZeroInxGenericStack;
 
 impl<P: Ptr, T, S: NonZeroInxGenericStack<ArenaSlot<P, T>>> StrictArena<P, T, S> {

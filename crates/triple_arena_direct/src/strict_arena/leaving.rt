@@ -16,16 +16,16 @@ ghost use Rattle.triple_arena_direct.specs.StrictFiles.{FitsStrictly};
 ghost use Rattle.triple_arena_snapshot.specs.ArenaCodings.{arena_content};
 ghost use Rattle.triple_arena_snapshot.specs.ArenaLayouts.{arena_coding};
 ghost use Rattle.triple_arena_snapshot.specs.Files.{file_of, SaveFails};
-ghost use Rattle.triple_arena_direct.specs.Renaming.{MapsPointers, first_unresolved, AreRenamed, IsFoundRenamed, Refuses};
+ghost use Rattle.triple_arena_recasting.specs.Renaming.{MapsPointers, first_unresolved, AreRenamed, IsFoundRenamed, Refuses};
 
 use super::StrictArena;
-use crate::compress_recast;
 use std::alloc::Global;
 use std::io::Write;
 use triple_arena::{Arena, ArenaSlot};
 use triple_arena_base::{CompactError, Recast};
 use triple_arena_direct_arena::DirectArena;
 use triple_arena_ptr::{Ptr, PtrGen};
+use triple_arena_recasting::compress_recast;
 use triple_arena_snapshot::{Codec, GenerationCodec, SaveError, save_arena};
 use triple_arena_stack::NonZeroInxGenericStack;
 

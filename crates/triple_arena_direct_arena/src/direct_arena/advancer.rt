@@ -34,7 +34,7 @@ impl<P: Ptr, T, S: NonZeroInxGenericStack<DirectSlot<P, T>>> Advancer<DirectAren
     {
         // No slot is past the greatest index.
         let _capacity = arena.capacity();
-        self.step::<T, DirectSlot<P, T>, S>(&arena.slots.stack)
+        self.step::<T, DirectSlot<P, T>, S>(arena.slots.uncounted_stack())
     }
 
     fn empty() -> Self {

@@ -33,7 +33,7 @@ impl<P: Ptr, T, S: NonZeroInxGenericStack<DirectSlot<P, T>>> CompactArenaTrait<P
         _reset_generation: bool,
         f: F,
     ) -> InvalidationOption<()> {
-        close_up::<P, T, DirectSlot<P, T>, S, F>(&mut self.slots.stack, None, f);
+        close_up::<P, T, DirectSlot<P, T>, S, F>(self.slots.uncounted_stack_mut(), None, f);
         InvalidationOption::Success(())
     }
 

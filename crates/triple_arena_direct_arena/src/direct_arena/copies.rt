@@ -123,6 +123,7 @@ impl<P: Ptr, T, S: NonZeroInxGenericStack<DirectSlot<P, T>>> DirectArena<P, T, S
         ensures emptied { entry_count (A.slots source.new) ≡ 0 }
         ensures counted { direct_len self.new ≡ entry_count (A.slots source.old) }
     {
+        self.slots.uncounted_stack_mut().clear();
         self.len = self.slots.take_over(generation, source, f);
     }
 
@@ -163,6 +164,7 @@ impl<P: Ptr, T, S: NonZeroInxGenericStack<DirectSlot<P, T>>> DirectArena<P, T, S
             × Copies P.numbers M.step f (entries (A.slots source.now)) result new
             × (self.new ≡ direct_with_slots self.old new) }
     {
+        self.slots.uncounted_stack_mut().clear();
         let (len, answer) = self.slots.copy(source, f);
         self.len = len;
         answer

@@ -14,7 +14,6 @@ use std::num::NonZeroUsize;
 use triple_arena_base::GetDisjointMutError;
 use triple_arena_ptr::{Ptr, PtrGen, PtrInx};
 use triple_arena_stack::NonZeroInxGenericStack;
-use triple_arena_traits::entry_slots::work_on_two;
 use triple_arena_traits::pair_call::{EntriesCall, PairCall, ValuesCall};
 use triple_arena_traits::{ArenaTrait, DisjointableArenaTrait};
 
@@ -88,7 +87,7 @@ impl<P: Ptr, T, S: NonZeroInxGenericStack<DirectSlot<P, T>>> DirectArena<P, T, S
         ensures numbers { IfOk result (λ both. (non_zero_usize_get both.0 ≡ P.Inx.number first)
             × (non_zero_usize_get both.1 ≡ P.Inx.number second)) }
     {
-        let stack = &self.slots.stack;
+        let stack = self.slots.uncounted_stack();
         let first = P::Inx::try_into_usize(first).ok_or(GetDisjointMutError::IndexOutOfBounds)?;
         let second = P::Inx::try_into_usize(second).ok_or(GetDisjointMutError::IndexOutOfBounds)?;
         stack.check_disjoint(first, second)?;
@@ -115,6 +114,6 @@ impl<P: Ptr, T, S: NonZeroInxGenericStack<DirectSlot<P, T>>> DirectArena<P, T, S
             (direct_with_value self.old (non_zero_usize_get first) x)
             (non_zero_usize_get second) y) }
     {
-        work_on_two::<P, T, DirectSlot<P, T>, S, R, C>(&mut self.slots.stack, first, second, call)
+        self.slots.work_on_two(first, second, call)
     }
 }

@@ -1,18 +1,24 @@
 //! Insertion into a direct arena.
 
-ghost use Rattle.std.specs.Prelude.{◌≡◌, ◌≢◌, Some};
+ghost use Rattle.std.specs.Prelude.{◌≡◌, ◌≢◌, ◌≤◌, map, Some, None};
 ghost use Rattle.std.specs.Int.NonZero.{non_zero_usize_get};
 ghost use Rattle.triple_arena_ptr.specs.Pointers.{Pointer};
-ghost use Rattle.triple_arena_traits.specs.Entries.{look_up};
+ghost use Rattle.triple_arena_stack.specs.Capacity.{stack_capacity};
+ghost use Rattle.triple_arena_traits.specs.Items.{with_item};
+ghost use Rattle.triple_arena_traits.specs.Entries.{entry_in, look_up};
+ghost use Rattle.triple_arena_traits.specs.FreeEnd.{extended};
 ghost use Rattle.triple_arena_traits.specs.DirectInsertion.{IsVacant};
+ghost use Rattle.triple_arena_direct_arena.specs.DirectSlot.{direct_slot_entry};
 ghost use Rattle.triple_arena_direct_arena.specs.DirectState.{direct_capacity, inserted_at};
 
 use crate::direct_arena::DirectArena;
 use crate::slot::DirectSlot;
 use std::num::NonZeroUsize;
 use triple_arena_ptr::{Ptr, PtrGen, PtrInx};
+use triple_arena_slots::SlotStack;
 use triple_arena_stack::NonZeroInxGenericStack;
-use triple_arena_traits::{ArenaDirectInsertTrait, ArenaTrait};
+use triple_arena_traits::entry_slots::extend;
+use triple_arena_traits::{ArenaDirectInsertTrait, ArenaTrait, EntrySlot};
 
 impl<P: Ptr, T, S: NonZeroInxGenericStack<DirectSlot<P, T>>> ArenaDirectInsertTrait<P, T>
     for DirectArena<P, T, S> {
@@ -54,7 +60,36 @@ impl<P: Ptr, T, S: NonZeroInxGenericStack<DirectSlot<P, T>>> DirectArena<P, T, S
         ensures { self.new ≡ inserted_at self.old
             (non_zero_usize_get inx, P.Gen.number generation) value }
     {
-        self.slots.occupy(inx, generation, value);
+        occupy(
+            &mut self.slots,
+            inx,
+            DirectSlot::Allocated(generation, value),
+        );
         self.len += 1;
     }
+}
+
+// Puts a slot at an index where no entry stands; the slots that are missing below it are free.
+fn occupy<P: Ptr, T, S: NonZeroInxGenericStack<DirectSlot<P, T>>>(
+    slots: &mut SlotStack<P, T, DirectSlot<P, T>, S>,
+    inx: NonZeroUsize,
+    slot: DirectSlot<P, T>,
+)
+    requires within { non_zero_usize_get inx
+        ≤ stack_capacity (S.room slots.old.stack) (S.limit slots.old.stack) }
+    requires free { entry_in (map (direct_slot_entry P.Gen.number) (S.items slots.old.stack))
+        (non_zero_usize_get inx) ≡ None }
+    ensures slots { map (direct_slot_entry P.Gen.number) (S.items slots.new.stack) ≡ with_item
+        (extended (map (direct_slot_entry P.Gen.number) (S.items slots.old.stack))
+        (non_zero_usize_get inx)) (non_zero_usize_get inx) (direct_slot_entry P.Gen.number slot) }
+    ensures room { S.room slots.new.stack ≡ S.room slots.old.stack }
+    ensures limit { S.limit slots.new.stack ≡ S.limit slots.old.stack }
+{
+    // Right past the last slot it is pushed.
+    if slots.len() == inx.get() - 1 {
+        slots.push(slot);
+        return;
+    }
+    extend::<P, T, DirectSlot<P, T>, S>(slots.uncounted_stack_mut(), inx.get());
+    slots.put(inx, slot).discard();
 }

@@ -1,6 +1,6 @@
 //! Where an entry of a direct arena stands, by its pointer or its index.
 
-ghost use Rattle.std.specs.Prelude.{◌≡◌, ℕ, ◌≤◌, ◌<◌, is_some, IsSome, IfSome, Some, None, option_copied, MatchOption};
+ghost use Rattle.std.specs.Prelude.{◌≡◌, ℕ, ◌≤◌, is_some, IsSome, IfSome, Some, option_copied};
 ghost use Rattle.std.specs.Int.NonZero.{non_zero_usize_get};
 ghost use Rattle.std.specs.Option.{option_and_then};
 ghost use Rattle.triple_arena_ptr.specs.Numbers.{greatest_index};
@@ -14,7 +14,7 @@ use std::num::NonZeroUsize;
 use triple_arena_ptr::{Ptr, PtrGen, PtrInx};
 use triple_arena_stack::NonZeroInxGenericStack;
 use triple_arena_traits::EntrySlot;
-use triple_arena_traits::entry_slots::{first_live, last_live, ptr_at, slot_at};
+use triple_arena_traits::entry_slots::ptr_at;
 
 impl<P: Ptr, T, S: NonZeroInxGenericStack<DirectSlot<P, T>>> DirectArena<P, T, S> {
     // The slot of an index, if there is one.
@@ -24,7 +24,7 @@ impl<P: Ptr, T, S: NonZeroInxGenericStack<DirectSlot<P, T>>> DirectArena<P, T, S
         ensures within { IsSome (entry_in self.now.slots (P.Inx.number inx))
             → P.Inx.number inx ≤ greatest_index P.Inx.greatest }
     {
-        slot_at(&self.slots.stack, P::Inx::try_into_usize(inx)?)
+        self.slots.peek(P::Inx::try_into_usize(inx)?)
     }
 
     // The index of a pointer, if the pointer is valid.
@@ -51,27 +51,7 @@ impl<P: Ptr, T, S: NonZeroInxGenericStack<DirectSlot<P, T>>> DirectArena<P, T, S
         ensures { (h : ℕ) × (v : T) × (entry_in self.now.slots (non_zero_usize_get inx) ≡ Some (h, v))
             × (P.numbers result ≡ (non_zero_usize_get inx, h)) }
     {
-        ptr_at::<P, T, DirectSlot<P, T>, S>(&self.slots.stack, inx)
-    }
-
-    // The least index of an entry, if there is one.
-    pub(super) fn first_live(&self) -> Option<NonZeroUsize>
-        ensures { MatchOption result
-            ((i : ℕ) → entry_in self.now.slots i ≡ None)
-            (λ inx. IsSome (entry_in self.now.slots (non_zero_usize_get inx))
-            × ((i : ℕ) → i < non_zero_usize_get inx → entry_in self.now.slots i ≡ None)) }
-    {
-        first_live::<P, T, DirectSlot<P, T>, S>(&self.slots.stack)
-    }
-
-    // The greatest index of an entry, if there is one.
-    pub(super) fn last_live(&self) -> Option<NonZeroUsize>
-        ensures { MatchOption result
-            ((i : ℕ) → entry_in self.now.slots i ≡ None)
-            (λ inx. IsSome (entry_in self.now.slots (non_zero_usize_get inx))
-            × ((i : ℕ) → non_zero_usize_get inx < i → entry_in self.now.slots i ≡ None)) }
-    {
-        last_live::<P, T, DirectSlot<P, T>, S>(&self.slots.stack)
+        ptr_at::<P, T, DirectSlot<P, T>, S>(self.slots.uncounted_stack(), inx)
     }
 
     // How many slots there are.
@@ -79,6 +59,6 @@ impl<P: Ptr, T, S: NonZeroInxGenericStack<DirectSlot<P, T>>> DirectArena<P, T, S
         ensures value { result ≡ direct_slot_count self.now }
         ensures indexed { result ≤ greatest_index P.Inx.greatest }
     {
-        self.slots.stack.len()
+        self.slots.len()
     }
 }

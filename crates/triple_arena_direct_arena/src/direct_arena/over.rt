@@ -6,9 +6,9 @@ ghost use Rattle.triple_arena_direct_arena.specs.DirectState.{new_direct, direct
 ghost use Rattle.triple_arena_direct_arena.specs.DirectSlot.{direct_slot_entry};
 
 use crate::direct_arena::DirectArena;
-use crate::direct_slots::DirectSlots;
 use crate::slot::DirectSlot;
 use triple_arena_ptr::{Ptr, PtrGen, PtrInx};
+use triple_arena_slots::SlotStack;
 use triple_arena_stack::NonZeroInxGenericStack;
 use triple_arena_traits::entry_slots::count_live;
 
@@ -21,7 +21,7 @@ impl<P: Ptr, T, S: NonZeroInxGenericStack<DirectSlot<P, T>>> DirectArena<P, T, S
             (greatest_index P.Inx.greatest) }
     {
         DirectArena {
-            slots: DirectSlots::over(stack),
+            slots: SlotStack::over(stack),
             len: 0,
         }
     }
@@ -38,7 +38,7 @@ impl<P: Ptr, T, S: NonZeroInxGenericStack<DirectSlot<P, T>>> DirectArena<P, T, S
         let _capacity = stack.capacity();
         let len = count_live::<P, T, DirectSlot<P, T>, S>(&stack);
         DirectArena {
-            slots: DirectSlots::over(stack),
+            slots: SlotStack::over(stack),
             len,
         }
     }
@@ -49,6 +49,6 @@ impl<P: Ptr, T, S: NonZeroInxGenericStack<DirectSlot<P, T>>> DirectArena<P, T, S
         ensures room { S.room result.now ≡ self.now.room }
         ensures limit { S.limit result.now ≡ self.now.limit }
     {
-        &self.slots.stack
+        self.slots.uncounted_stack()
     }
 }

@@ -29,9 +29,7 @@ impl<P: Ptr, T, S: NonZeroInxGenericStack<DirectSlot<P, T>>> DirectArena<P, T, S
         ensures place { OnOk result (min_capacity ≤ greatest_index P.Inx.greatest
             → min_capacity ≤ direct_capacity self.new) }
     {
-        // Room and limit are those of the stack's kind.
-        let _limit = self.slots.stack.max_capacity();
-        self.slots.stack.reallocate_min_capacity(min_capacity)
+        self.slots.reallocate(min_capacity)
     }
 
     /// Pops free slots at the end, at most `num`, and tells how many. It takes no memory, and no
@@ -40,16 +38,16 @@ impl<P: Ptr, T, S: NonZeroInxGenericStack<DirectSlot<P, T>>> DirectArena<P, T, S
         ensures state { self.new ≡ direct_shortened self.old (direct_slot_count self.old - num) }
         ensures popped { result ≡ direct_slot_count self.old - direct_slot_count self.new }
     {
-        let before = self.slots.stack.len();
+        let before = self.slots.len();
         self.shorten(before.saturating_sub(num));
-        before.saturating_sub(self.slots.stack.len())
+        before.saturating_sub(self.slots.len())
     }
 
     // Pops the free slots at the end, as long as there are more slots than `len`.
     pub(super) fn shorten(&mut self, len: usize)
         ensures { self.new ≡ direct_shortened self.old len }
     {
-        shorten::<P, T, DirectSlot<P, T>, S>(&mut self.slots.stack, len);
+        shorten::<P, T, DirectSlot<P, T>, S>(self.slots.uncounted_stack_mut(), len);
     }
 }
 
@@ -78,6 +76,6 @@ impl<P: Ptr, T, S: SetMaxCapacity<DirectSlot<P, T>>> DirectArena<P, T, S> {
         ensures done { OnOk result (self.new ≡ direct_with_limit self.old limit) }
         ensures refused { OnErr result (self.new ≡ self.old) }
     {
-        self.slots.stack.set_max_capacity(limit)
+        self.slots.set_max_capacity(limit)
     }
 }

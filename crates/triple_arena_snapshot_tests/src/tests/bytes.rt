@@ -89,81 +89,87 @@ fn is_refused<T: Codec + Drop>(
 #[test]
 fn each_number_has_its_bytes(rt: HostRuntime) {
     let alloc = rt.alloc();
-    has_bytes(alloc, &(), &[0]).expect(&rt, "()");
-    has_bytes(alloc, &false, &[0]).expect(&rt, "false");
-    has_bytes(alloc, &true, &[1]).expect(&rt, "true");
-    has_bytes(alloc, &0xabu8, &[0xab]).expect(&rt, "u8");
-    has_bytes(alloc, &0x0102u16, &[2, 1]).expect(&rt, "u16");
-    has_bytes(alloc, &0x01020304u32, &[4, 3, 2, 1]).expect(&rt, "u32");
-    has_bytes(alloc, &0x0102030405060708u64, &[8, 7, 6, 5, 4, 3, 2, 1]).expect(&rt, "u64");
+    let flags = ((), (false, true));
+    has_bytes(alloc, &flags, &[0, 0, 1]).expect(&rt, "(), false and true");
+    let short = (0xabu8, (0x0102u16, 0x01020304u32));
+    has_bytes(alloc, &short, &[0xab, 2, 1, 4, 3, 2, 1]).expect(&rt, "u8, u16 and u32");
+    let long = (0x0102030405060708u64, 0x0201usize);
+    has_bytes(
+        alloc,
+        &long,
+        &[8, 7, 6, 5, 4, 3, 2, 1, 1, 2, 0, 0, 0, 0, 0, 0],
+    )
+    .expect(&rt, "u64 and usize");
     has_bytes(alloc, &WIDE, &WIDE_BYTES).expect(&rt, "u128");
-    has_bytes(alloc, &0x0201usize, &[1, 2, 0, 0, 0, 0, 0, 0]).expect(&rt, "usize");
-    has_bytes(alloc, &NonZeroU8::MIN, &[1]).expect(&rt, "NonZeroU8");
-    has_bytes(alloc, &NonZeroU16::MIN, &[1, 0]).expect(&rt, "NonZeroU16");
-    has_bytes(alloc, &NonZeroU32::MIN, &[1, 0, 0, 0]).expect(&rt, "NonZeroU32");
-    has_bytes(alloc, &NonZeroU64::MIN, &[1, 0, 0, 0, 0, 0, 0, 0]).expect(&rt, "NonZeroU64");
+    let short = (NonZeroU8::MIN, (NonZeroU16::MIN, NonZeroU32::MIN));
+    has_bytes(alloc, &short, &[1, 1, 0, 1, 0, 0, 0]).expect(&rt, "NonZeroU8, U16 and U32");
+    let long = (NonZeroU64::MIN, NonZeroUsize::MIN);
+    has_bytes(
+        alloc,
+        &long,
+        &[1, 0, 0, 0, 0, 0, 0, 0, 1, 0, 0, 0, 0, 0, 0, 0],
+    )
+    .expect(&rt, "NonZeroU64 and NonZeroUsize");
     has_bytes(alloc, &NonZeroU128::MAX, &[255; 16]).expect(&rt, "NonZeroU128");
-    has_bytes(alloc, &NonZeroUsize::MIN, &[1, 0, 0, 0, 0, 0, 0, 0]).expect(&rt, "NonZeroUsize");
 }
 
 #[test]
 fn each_signed_number_has_its_bytes(rt: HostRuntime) {
     let alloc = rt.alloc();
-    has_bytes(alloc, &-1i8, &[0xff]).expect(&rt, "i8");
-    has_bytes(alloc, &i16::MIN, &[0, 0x80]).expect(&rt, "i16");
-    has_bytes(alloc, &-2i32, &[0xfe, 0xff, 0xff, 0xff]).expect(&rt, "i32");
-    has_bytes(alloc, &0x0102030405060708i64, &[8, 7, 6, 5, 4, 3, 2, 1]).expect(&rt, "i64");
+    let short = (-1i8, (i16::MIN, -2i32));
+    has_bytes(alloc, &short, &[0xff, 0, 0x80, 0xfe, 0xff, 0xff, 0xff]).expect(
+        &rt,
+        "i8, i16 and i32",
+    );
+    let long = (0x0102030405060708i64, -256isize);
+    has_bytes(
+        alloc,
+        &long,
+        &[8, 7, 6, 5, 4, 3, 2, 1, 0, 255, 255, 255, 255, 255, 255, 255],
+    )
+    .expect(&rt, "i64 and isize");
     has_bytes(alloc, &-1i128, &[0xff; 16]).expect(&rt, "i128");
-    has_bytes(alloc, &-256isize, &[0, 255, 255, 255, 255, 255, 255, 255]).expect(&rt, "isize");
 }
 
 #[test]
 fn each_pointer_has_its_bytes(rt: HostRuntime) {
     let alloc = rt.alloc();
-    let wide = (NonZeroUsize::MIN, NonZeroU64::MAX);
-    let byte = NonZeroU8::MAX;
+    let (word, byte) = (NonZeroUsize::MIN, NonZeroU8::MAX);
+    let (short, last) = (NonZeroU16::MIN, NonZeroU64::MAX);
+    let wide = (P0::_from_raw(word, last), Q2::_from_raw(word, last));
     has_bytes(
         alloc,
-        &P0::_from_raw(wide.0, wide.1),
+        &wide,
         &[
-            1, 0, 0, 0, 0, 0, 0, 0, 255, 255, 255, 255, 255, 255, 255, 255,
+            1, 0, 0, 0, 0, 0, 0, 0, 255, 255, 255, 255, 255, 255, 255, 255, 1, 0, 0, 0, 0, 0, 0, 0,
+            255, 255, 255, 255, 255, 255, 255, 255,
         ],
     )
-    .expect(&rt, "P0");
+    .expect(&rt, "P0 and Q2");
+    let uneven = (
+        P1::_from_raw(short, last),
+        P2::_from_raw(word, NonZeroU16::MAX),
+    );
     has_bytes(
         alloc,
-        &Q2::_from_raw(wide.0, wide.1),
+        &uneven,
         &[
-            1, 0, 0, 0, 0, 0, 0, 0, 255, 255, 255, 255, 255, 255, 255, 255,
+            1, 0, 255, 255, 255, 255, 255, 255, 255, 255, 1, 0, 0, 0, 0, 0, 0, 0, 255, 255,
         ],
     )
-    .expect(&rt, "Q2");
+    .expect(&rt, "P1 and P2");
+    let small = (
+        P3::_from_raw(short, NonZeroU16::MAX),
+        SmallPtr::_from_raw(NonZeroU32::MIN, NonZeroU32::MAX),
+    );
     has_bytes(
         alloc,
-        &P1::_from_raw(NonZeroU16::MIN, wide.1),
-        &[1, 0, 255, 255, 255, 255, 255, 255, 255, 255],
+        &small,
+        &[1, 0, 255, 255, 1, 0, 0, 0, 255, 255, 255, 255],
     )
-    .expect(&rt, "P1");
-    has_bytes(
-        alloc,
-        &P2::_from_raw(wide.0, NonZeroU16::MAX),
-        &[1, 0, 0, 0, 0, 0, 0, 0, 255, 255],
-    )
-    .expect(&rt, "P2");
-    has_bytes(
-        alloc,
-        &P3::_from_raw(NonZeroU16::MIN, NonZeroU16::MAX),
-        &[1, 0, 255, 255],
-    )
-    .expect(&rt, "P3");
-    has_bytes(alloc, &P4::_from_raw(wide.0, ()), &[1, 0, 0, 0, 0, 0, 0, 0]).expect(&rt, "P4");
-    has_bytes(alloc, &P5::_from_raw(byte, ()), &[255]).expect(&rt, "P5");
-    has_bytes(
-        alloc,
-        &SmallPtr::_from_raw(NonZeroU32::MIN, NonZeroU32::MAX),
-        &[1, 0, 0, 0, 255, 255, 255, 255],
-    )
-    .expect(&rt, "SmallPtr");
+    .expect(&rt, "P3 and SmallPtr");
+    let bare = (P4::_from_raw(word, ()), P5::_from_raw(byte, ()));
+    has_bytes(alloc, &bare, &[1, 0, 0, 0, 0, 0, 0, 0, 255]).expect(&rt, "P4 and P5");
 }
 
 #[test]

@@ -9,4 +9,4 @@ returns-clause-run g c =
 pub returns-clause-store : goal.returns-clause-store
 returns-clause-store g c =
     rw (← c.session.view_is) (λ counts. (StrictTextIsStores g.S.NonZeroInxGenericStack.kind g.S.NonZeroInxGenericStack.has_memory g.P.Gen.PtrGen.generations c.session.inside.body c.read_and_run.new.session (g.W.Write.contents c.args.output.now) _ counts
-    (record { sound = sound_over g.S.NonZeroInxGenericStack.kind c.session.inside.body (c.session.invariant counts) c.tell_arena_over_stack.ensures.over; within = c.tell_arena_over_stack.ensures.within }) (g.R.Read.remaining c.args.input.now) c.read_and_run.result c.read_and_run.ensures.run).1)
+    (record { sound = sound_over g.S.NonZeroInxGenericStack.kind c.session.inside.body (c.session.invariant counts) c.read_and_run.ensures.over; within = c.read_and_run.ensures.within }) (g.R.Read.remaining c.args.input.now) c.read_and_run.result c.read_and_run.ensures.run).1)

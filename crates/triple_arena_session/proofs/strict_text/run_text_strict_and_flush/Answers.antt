@@ -12,4 +12,4 @@ pub returns-clause-store : goal.returns-clause-store
 returns-clause-store g c =
     let ran = IsFlushedRun-after _ (g.R.Read.remaining c.args.input.now) c.read_and_run-outcome.result c.flush_after.result.0 _ _ _ _ _ c.read_and_run-outcome.ensures.run c.flush_after.ensures in
     rw (← c.session.view_is) (λ counts. (StrictFlushedIsStores g.S.NonZeroInxGenericStack.kind g.S.NonZeroInxGenericStack.has_memory g.P.Gen.PtrGen.generations c.session.inside.body c.read_and_run-outcome.new.session _ _ counts
-    (record { sound = sound_over g.S.NonZeroInxGenericStack.kind c.session.inside.body (c.session.invariant counts) c.tell_arena_over_stack.ensures.over; within = c.tell_arena_over_stack.ensures.within }) (g.R.Read.remaining c.args.input.now) c.flush_after.result.0 ran).1)
+    (record { sound = sound_over g.S.NonZeroInxGenericStack.kind c.session.inside.body (c.session.invariant counts) c.read_and_run-outcome.ensures.over; within = c.read_and_run-outcome.ensures.within }) (g.R.Read.remaining c.args.input.now) c.flush_after.result.0 ran).1)

@@ -6,4 +6,4 @@ use Rattle.triple_arena.proofs.base_arena.Arena.backing.Goals as goal
 pub returns-clause-links : goal.returns-clause-links
 returns-clause-links g c =
     let shows = subst (Shows g.P.Gen.PtrGen.number _ _ _) c.self.view_is c.self.invariant in
-    rw c.stack.ensures (linked_from_first _ _ c.args.self.now.free shows.linked)
+    rw c.uncounted_stack.ensures (linked_from_first _ _ c.args.self.now.free shows.linked)

@@ -1,7 +1,5 @@
 use Rattle.std.proofs.Common.{◌∙◌, is_some, refl, ap, arith}
 use Rattle.std.proofs.lemmas.List.{length-map}
-use Rattle.std.specs.Int.NonZero.{non_zero_usize_get}
-use Rattle.std.specs.Option.{option_map}
 use Rattle.triple_arena_traits.specs.Entries.{look_up}
 use Rattle.triple_arena_traits.specs.ArenaState.{ArenaState}
 use Rattle.triple_arena_slots.specs.Slot.{entry_of}
@@ -14,8 +12,8 @@ find-requires-after_bounds g c κs within =
 
 pub invariant_of-self : goal.invariant_of-self
 invariant_of-self g c =
-    (carried g.P.Gen.PtrGen.number _ (g.S.NonZeroInxGenericStack.items c.find.new.self.slots.stack) _ (option_map non_zero_usize_get c.find.new.self.root) c.self.inside.len c.self.inside.len _ _ _ _ _ _ _ _ _ c.args.self.now (record c.args.self.now { steps = c.find.new.self.slots.steps.count }) c.self.invariant c.self.view_is
-    (λ shows. rw (c.find.ensures.stack, c.find.ensures.root) (Shows-steps g.P.Gen.PtrGen.number _ _ _ c.find.new.self.slots.steps.count _ shows))
+    (carried g.P.Gen.PtrGen.number _ (g.S.NonZeroInxGenericStack.items c.find.new.self.stack) _ _ c.self.inside.len c.self.inside.len _ _ _ _ _ _ _ _ _ c.args.self.now (record c.args.self.now { steps = c.find.new.self.steps.count }) c.self.invariant c.self.view_is
+    (λ shows. rw c.find.ensures.stack (Shows-steps g.P.Gen.PtrGen.number _ _ _ c.find.new.self.steps.count _ shows))
     (ap (λ s. s.counter) c.self.view_is)
     (ap g.S.NonZeroInxGenericStack.room c.find.ensures.stack ∙ ap (λ s. s.room) c.self.view_is)
     (ap g.S.NonZeroInxGenericStack.limit c.find.ensures.stack ∙ ap (λ s. s.limit) c.self.view_is)
@@ -26,8 +24,8 @@ returns-clause-live g c = c.find.ensures.live ∙ ap (λ (s : ArenaState g.row.T
 
 pub returns-clause-unchanged : goal.returns-clause-unchanged
 returns-clause-unchanged g c = (
-  (carried g.P.Gen.PtrGen.number _ (g.S.NonZeroInxGenericStack.items c.find.new.self.slots.stack) _ (option_map non_zero_usize_get c.find.new.self.root) c.self.inside.len c.self.inside.len _ _ _ _ _ _ _ _ _ c.args.self.now (record c.args.self.now { steps = c.find.new.self.slots.steps.count }) c.self.invariant c.self.view_is
-      (λ shows. rw (c.find.ensures.stack, c.find.ensures.root) (Shows-steps g.P.Gen.PtrGen.number _ _ _ c.find.new.self.slots.steps.count _ shows))
+  (carried g.P.Gen.PtrGen.number _ (g.S.NonZeroInxGenericStack.items c.find.new.self.stack) _ _ c.self.inside.len c.self.inside.len _ _ _ _ _ _ _ _ _ c.args.self.now (record c.args.self.now { steps = c.find.new.self.steps.count }) c.self.invariant c.self.view_is
+      (λ shows. rw c.find.ensures.stack (Shows-steps g.P.Gen.PtrGen.number _ _ _ c.find.new.self.steps.count _ shows))
       (ap (λ s. s.counter) c.self.view_is)
       (ap g.S.NonZeroInxGenericStack.room c.find.ensures.stack ∙ ap (λ s. s.room) c.self.view_is)
       (ap g.S.NonZeroInxGenericStack.limit c.find.ensures.stack ∙ ap (λ s. s.limit) c.self.view_is)

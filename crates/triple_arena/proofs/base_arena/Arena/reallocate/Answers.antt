@@ -3,19 +3,17 @@ use Rattle.triple_arena_ptr.specs.Numbers.{greatest_index}
 use Rattle.triple_arena_stack.specs.Capacity.{stack_capacity, IsWithin, IsBeyond}
 use Rattle.triple_arena_stack.specs.StackKind.{reallocated_room}
 use Rattle.triple_arena_base.specs.declared.errors.ReallocationError.TheVariants.{BeyondMaxCapacity}
-use Rattle.std.specs.Option.{option_map}
-use Rattle.std.specs.Int.NonZero.{non_zero_usize_get}
-use Rattle.std.proofs.Common.{◌≡◌, ◌↔◌, Err, IsOk, OnOk, ap}
+use Rattle.std.proofs.Common.{◌≡◌, ◌↔◌, Err, IsOk, OnOk, refl}
 use Rattle.triple_arena.proofs.base_arena.Arena.reallocate.Goals as goal
 
 pub invariant_of-self : goal.invariant_of-self
-invariant_of-self g c = (room_changed g.P.Gen.PtrGen.number c.reallocate.result g.S.NonZeroInxGenericStack.kind _ _ _ _ _ _ _ _ _ _ _ _ _ c.args.min_capacity c.args.self.now c.self.invariant c.self.view_is c.reallocate.ensures.items (ap (option_map non_zero_usize_get) c.reallocate.ensures.root) c.reallocate.ensures.limit c.reallocate.ensures.room c.reallocate.ensures.refused c.reallocate.ensures.steps).0
+invariant_of-self g c = (room_changed g.P.Gen.PtrGen.number c.reallocate.result g.S.NonZeroInxGenericStack.kind _ _ _ _ _ _ _ _ _ _ _ _ _ c.args.min_capacity c.args.self.now c.self.invariant c.self.view_is c.reallocate.ensures.items refl c.reallocate.ensures.limit c.reallocate.ensures.room c.reallocate.ensures.refused c.reallocate.ensures.steps).0
 
 pub returns-clause-done : goal.returns-clause-done
-returns-clause-done g c = (room_changed g.P.Gen.PtrGen.number c.reallocate.result g.S.NonZeroInxGenericStack.kind _ _ _ _ _ _ _ _ _ _ _ _ _ c.args.min_capacity c.args.self.now c.self.invariant c.self.view_is c.reallocate.ensures.items (ap (option_map non_zero_usize_get) c.reallocate.ensures.root) c.reallocate.ensures.limit c.reallocate.ensures.room c.reallocate.ensures.refused c.reallocate.ensures.steps).1
+returns-clause-done g c = (room_changed g.P.Gen.PtrGen.number c.reallocate.result g.S.NonZeroInxGenericStack.kind _ _ _ _ _ _ _ _ _ _ _ _ _ c.args.min_capacity c.args.self.now c.self.invariant c.self.view_is c.reallocate.ensures.items refl c.reallocate.ensures.limit c.reallocate.ensures.room c.reallocate.ensures.refused c.reallocate.ensures.steps).1
 
 pub returns-clause-refused : goal.returns-clause-refused
-returns-clause-refused g c = (room_changed g.P.Gen.PtrGen.number c.reallocate.result g.S.NonZeroInxGenericStack.kind _ _ _ _ _ _ _ _ _ _ _ _ _ c.args.min_capacity c.args.self.now c.self.invariant c.self.view_is c.reallocate.ensures.items (ap (option_map non_zero_usize_get) c.reallocate.ensures.root) c.reallocate.ensures.limit c.reallocate.ensures.room c.reallocate.ensures.refused c.reallocate.ensures.steps).2
+returns-clause-refused g c = (room_changed g.P.Gen.PtrGen.number c.reallocate.result g.S.NonZeroInxGenericStack.kind _ _ _ _ _ _ _ _ _ _ _ _ _ c.args.min_capacity c.args.self.now c.self.invariant c.self.view_is c.reallocate.ensures.items refl c.reallocate.ensures.limit c.reallocate.ensures.room c.reallocate.ensures.refused c.reallocate.ensures.steps).2
 
 pub returns-clause-within : goal.returns-clause-within
 returns-clause-within g c = as_shown g.P.Gen.PtrGen.number _ _ _ _ _ _ _ _ c.args.self.now (λ room limit n. OnOk c.reallocate.result (IsWithin limit c.args.min_capacity)) c.self.invariant c.self.view_is c.reallocate.ensures.within
@@ -30,4 +28,4 @@ pub returns-clause-with_memory : goal.returns-clause-with_memory
 returns-clause-with_memory g c = as_shown g.P.Gen.PtrGen.number _ _ _ _ _ _ _ _ c.args.self.now (λ room limit n. IsWithin limit c.args.min_capacity → g.S.NonZeroInxGenericStack.has_memory (reallocated_room g.S.NonZeroInxGenericStack.kind room n c.args.min_capacity) → IsOk c.reallocate.result) c.self.invariant c.self.view_is c.reallocate.ensures.with_memory
 
 pub returns-clause-place : goal.returns-clause-place
-returns-clause-place g c = placed c.reallocate.result c.args.min_capacity (stack_capacity (g.S.NonZeroInxGenericStack.room c.reallocate.new.self.slots.stack) (g.S.NonZeroInxGenericStack.limit c.reallocate.new.self.slots.stack)) (greatest_index g.P.Inx.PtrInx.greatest) c.reallocate.ensures.place
+returns-clause-place g c = placed c.reallocate.result c.args.min_capacity (stack_capacity (g.S.NonZeroInxGenericStack.room c.reallocate.new.self.stack) (g.S.NonZeroInxGenericStack.limit c.reallocate.new.self.stack)) (greatest_index g.P.Inx.PtrInx.greatest) c.reallocate.ensures.place

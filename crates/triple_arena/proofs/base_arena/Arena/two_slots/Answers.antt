@@ -9,14 +9,14 @@ use Rattle.triple_arena.proofs.base_arena.Arena.two_slots.Goals as goal
 
 pub returns-in_err-check_disjoint-clause-variant : goal.returns-in_err-check_disjoint-clause-variant
 returns-in_err-check_disjoint-clause-variant g c =
-    rw (err_is c.from_residual.result c.in_err-check_disjoint.field-0.0 c.from_residual.ensures.1) (of_same (λ n i j. IsRefused n i j c.in_err-check_disjoint.field-0.0) _ _ _ _ _ _ (sym (length-map (g.S.NonZeroInxGenericStack.items c.self.inside.slots.slots.stack) (entry_of g.P.Gen.PtrGen.number)) ∙ ap slot_count c.self.view_is) (rw c.in-Some-Some.is-0 at c.try_into_usize.ensures.number) (rw c.in-Some-Some.is-1 at c.try_into_usize-2.ensures.number) (rw c.stack-stack.ensures at c.in_err-check_disjoint.ensures))
+    rw (err_is c.from_residual.result c.in_err-check_disjoint.field-0.0 c.from_residual.ensures.1) (of_same (λ n i j. IsRefused n i j c.in_err-check_disjoint.field-0.0) _ _ _ _ _ _ (sym (length-map (g.S.NonZeroInxGenericStack.items c.self.inside.slots.slots.stack) (entry_of g.P.Gen.PtrGen.number)) ∙ ap slot_count c.self.view_is) (rw c.in-Some-Some.is-0 at c.try_into_usize.ensures.number) (rw c.in-Some-Some.is-1 at c.try_into_usize-2.ensures.number) (rw c.uncounted_stack-stack.ensures at c.in_err-check_disjoint.ensures))
 
 pub returns-in_err-check_disjoint-clause-numbers : goal.returns-in_err-check_disjoint-clause-numbers
 returns-in_err-check_disjoint-clause-numbers g c = if_err c.from_residual.result c.in_err-check_disjoint.field-0.0 (err_is c.from_residual.result c.in_err-check_disjoint.field-0.0 c.from_residual.ensures.1) _
 
 pub returns-clause-variant : goal.returns-clause-variant
 returns-clause-variant g c =
-    of_same AreTwo _ _ _ _ _ _ (sym (length-map (g.S.NonZeroInxGenericStack.items c.self.inside.slots.slots.stack) (entry_of g.P.Gen.PtrGen.number)) ∙ ap slot_count c.self.view_is) (rw c.in-Some-Some.is-0 at c.try_into_usize.ensures.number) (rw c.in-Some-Some.is-1 at c.try_into_usize-2.ensures.number) (rw c.stack-stack.ensures at c.in_ok-check_disjoint.ensures)
+    of_same AreTwo _ _ _ _ _ _ (sym (length-map (g.S.NonZeroInxGenericStack.items c.self.inside.slots.slots.stack) (entry_of g.P.Gen.PtrGen.number)) ∙ ap slot_count c.self.view_is) (rw c.in-Some-Some.is-0 at c.try_into_usize.ensures.number) (rw c.in-Some-Some.is-1 at c.try_into_usize-2.ensures.number) (rw c.uncounted_stack-stack.ensures at c.in_ok-check_disjoint.ensures)
 
 pub returns-clause-numbers : goal.returns-clause-numbers
 returns-clause-numbers g c = (rw c.in-Some-Some.is-0 at c.try_into_usize.ensures.number, rw c.in-Some-Some.is-1 at c.try_into_usize-2.ensures.number)

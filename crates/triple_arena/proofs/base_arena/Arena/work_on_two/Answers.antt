@@ -1,6 +1,5 @@
 use Rattle.std.proofs.Common.{◌∙◌, ap, refl}
 use Rattle.std.specs.Int.NonZero.{non_zero_usize_get}
-use Rattle.std.specs.Option.{option_map}
 use Rattle.triple_arena_traits.specs.ArenaState.{with_value}
 use Rattle.triple_arena_traits.specs.laws.WellFormedLaws.{entry_value_read}
 use Rattle.triple_arena_slots.proofs.Links.{carried}
@@ -12,8 +11,8 @@ invariant_of-self g c =
     let i = non_zero_usize_get c.args.first in
     let j = non_zero_usize_get c.args.second in
     let w = c.work_on_two.ensures.worked in
-    (carried g.P.Gen.PtrGen.number _ (g.S.NonZeroInxGenericStack.items c.work_on_two.new.self.slots.stack) _ (option_map non_zero_usize_get c.work_on_two.new.self.root) c.self.inside.len c.self.inside.len _ _ _ _ _ _ _ _ _ c.args.self.now (with_value (with_value c.args.self.now i w.first_left) j w.second_left) c.self.invariant c.self.view_is
-    (λ shows. rw c.work_on_two.ensures.root (Shows-two_written g.P.Gen.PtrGen.number _ _ _ i j c.self.inside.len w.first_left w.second_left c.args.self.now c.requires.apart c.requires.first c.requires.second w.left shows))
+    (carried g.P.Gen.PtrGen.number _ (g.S.NonZeroInxGenericStack.items c.work_on_two.new.self.stack) _ _ c.self.inside.len c.self.inside.len _ _ _ _ _ _ _ _ _ c.args.self.now (with_value (with_value c.args.self.now i w.first_left) j w.second_left) c.self.invariant c.self.view_is
+    (λ shows. Shows-two_written g.P.Gen.PtrGen.number _ _ _ i j c.self.inside.len w.first_left w.second_left c.args.self.now c.requires.apart c.requires.first c.requires.second w.left shows)
     (ap (λ s. s.counter) c.self.view_is)
     (c.work_on_two.ensures.room ∙ ap (λ s. s.room) c.self.view_is)
     (c.work_on_two.ensures.limit ∙ ap (λ s. s.limit) c.self.view_is)
@@ -32,8 +31,8 @@ returns g c =
       first_is = entry_value_read c.args.self.now _ i i _ c.self.view_is refl w.first_is;
       second_is = entry_value_read c.args.self.now _ j j _ c.self.view_is refl w.second_is;
       called = w.called;
-      left = (carried g.P.Gen.PtrGen.number _ (g.S.NonZeroInxGenericStack.items c.work_on_two.new.self.slots.stack) _ (option_map non_zero_usize_get c.work_on_two.new.self.root) c.self.inside.len c.self.inside.len _ _ _ _ _ _ _ _ _ c.args.self.now (with_value (with_value c.args.self.now i w.first_left) j w.second_left) c.self.invariant c.self.view_is
-          (λ shows. rw c.work_on_two.ensures.root (Shows-two_written g.P.Gen.PtrGen.number _ _ _ i j c.self.inside.len w.first_left w.second_left c.args.self.now c.requires.apart c.requires.first c.requires.second w.left shows))
+      left = (carried g.P.Gen.PtrGen.number _ (g.S.NonZeroInxGenericStack.items c.work_on_two.new.self.stack) _ _ c.self.inside.len c.self.inside.len _ _ _ _ _ _ _ _ _ c.args.self.now (with_value (with_value c.args.self.now i w.first_left) j w.second_left) c.self.invariant c.self.view_is
+          (λ shows. Shows-two_written g.P.Gen.PtrGen.number _ _ _ i j c.self.inside.len w.first_left w.second_left c.args.self.now c.requires.apart c.requires.first c.requires.second w.left shows)
           (ap (λ s. s.counter) c.self.view_is)
           (c.work_on_two.ensures.room ∙ ap (λ s. s.room) c.self.view_is)
           (c.work_on_two.ensures.limit ∙ ap (λ s. s.limit) c.self.view_is)

@@ -6,4 +6,4 @@ use Rattle.triple_arena.proofs.base_arena.ArenaArenaTrait.find_last_inx_ptr.Goal
 
 pub returns-in_err-inx : goal.returns-in_err-inx
 returns-in_err-inx g c =
-    rw c.from_residual.ensures (subst (λ s. entry_count s.slots ≡ 0) c.self.view_is (none_counted (map (entry_of g.P.Gen.PtrGen.number) (g.S.NonZeroInxGenericStack.items c.self.inside.slots.slots.stack)) (rw (c.in_err-inx.was, c.stack.ensures) at c.last_live.ensures)))
+    rw c.from_residual.ensures (subst (λ s. entry_count s.slots ≡ 0) c.self.view_is (none_counted (map (entry_of g.P.Gen.PtrGen.number) (g.S.NonZeroInxGenericStack.items c.self.inside.slots.slots.stack)) (rw (c.in_err-inx.was, c.uncounted_stack.ensures) at c.last_live.ensures)))

@@ -1,5 +1,5 @@
 -- `lend_slots` lends the slots of an arena so that their values alone can change. It is proved by hand, since it makes a raw
--- pointer. The token of the lifetime is halved. One half opens the arena, whose slots are lent to `as_mut_slice` with the
+-- pointer. The token of the lifetime is halved. One half opens the arena, whose slots are lent to `slice_of` with the
 -- other; what that lends is turned into a loan of these slots with other values, and what it gives back closes the arena,
 -- whose invariant holds of them (`put_keeps`). The names of what the bounds bring are those of the function's statement, as
 -- `rt check --generated` prints it. Assumes `Logic`.
@@ -69,22 +69,23 @@ use Rattle.triple_arena_direct_arena.specs.DirectSlot.{direct_slot_entry, direct
 use Rattle.triple_arena_direct_arena.specs.laws.DirectSlotLaws.{with_own_slot_value}
 use Rattle.triple_arena_direct_arena.specs.DirectValues.{direct_with_values_of}
 use Rattle.triple_arena_traits.specs.Kept.{filled_all, Kept}
-use Rattle.triple_arena_direct_arena.specs.DirectLends.{direct_refilled}
+use Rattle.triple_arena_slots.specs.Lends.{refilled as with_slots}
 use Rattle.triple_arena_traits.proofs.KeptSlots.{filled-own, length-filled, refilled}
 use Rattle.triple_arena_direct_arena.proofs.Keeping.{kept_within}
 use Rattle.triple_arena_direct_arena.specs.declared.slot.DirectSlot.{DirectSlot}
-use Rattle.triple_arena_direct_arena.specs.declared.direct_slots.DirectSlots.{DirectSlots}
+use Rattle.triple_arena_slots.specs.declared.slot_stack.SlotStack.{SlotStack}
 use Rattle.triple_arena_traits.specs.declared.lent_slots.LentSlots.{LentSlots}
 use Rattle.triple_arena_direct_arena.specs.contracts.slot.DirectSlot as S-type
-use Rattle.triple_arena_direct_arena.specs.contracts.direct_slots.DirectSlots as DirectSlots-type
+use Rattle.triple_arena_slots.specs.contracts.slot_stack.SlotStack as SlotStack-type
 use Rattle.triple_arena_traits.specs.contracts.lent_slots.LentSlots as L-type
 use Rattle.triple_arena_direct_arena.specs.contracts.slot.DirectSlotEntrySlot.TheImpl as Slot-impl
 use Rattle.triple_arena_direct_arena.specs.contracts.direct_arena.DirectArena as A-type
 use Rattle.triple_arena_direct_arena.specs.contracts.direct_arena.DirectArena.TheInside as I-type
 use Rattle.triple_arena_direct_arena.specs.contracts.direct_arena.DirectArena.lend_slots as F
-use Rattle.triple_arena_direct_arena.specs.contracts.direct_slots.DirectSlots.as_mut_slice as G-fn
-use Rattle.triple_arena_direct_arena.proofs.direct_slots.DirectSlots.as_mut_slice.Met.{met}
-use Rattle.triple_arena_direct_arena.proofs.direct_slots.DirectSlots.TheLaws as DirectSlots-laws
+use Rattle.triple_arena_direct_arena.specs.contracts.direct_arena.DirectArena.slice_of as G-fn
+use Rattle.triple_arena_direct_arena.proofs.direct_arena.DirectArena.slice_of.Met.{met}
+use Rattle.triple_arena_direct_arena.proofs.slot.DirectSlot.TheLaws as S-laws
+use Rattle.triple_arena_slots.proofs.slot_stack.SlotStack.TheLaws as SlotStack-laws
 use Rattle.triple_arena_direct_arena.specs.contracts.direct_arena.DirectArena.lend_slots.Key.{name as #self}
 use Rattle.triple_arena_direct_arena.proofs.direct_arena.DirectArena.lend_slots.Statement as stated
 use Rattle.triple_arena_direct_arena.proofs.direct_arena.DirectArena.lend_slots.Code as code
@@ -142,10 +143,10 @@ module _ (P T S I G : RattleType) (P-Ptr : gPtr.Ghosts P.Denot I.Denot G.Denot) 
 
   -- the slots
   abbrev Slr : RattleType
-  Slr = DirectSlots-type.the_row rP rT rS rI rG
+  Slr = SlotStack-type.the_row rP rT Sr rS rI rG
 
   abbrev D : Type 0
-  D = DirectSlots P.Denot T.Denot S.Denot I.Denot G.Denot
+  D = SlotStack P.Denot T.Denot X S.Denot I.Denot G.Denot
 
   -- the arena, and its fields
   abbrev Ar : RattleType
@@ -229,7 +230,7 @@ module _ (P T S I G : RattleType) (P-Ptr : gPtr.Ghosts P.Denot I.Denot G.Denot) 
 
   -- the slots of the arena once values were written
   abbrev put : D → List X → St → D
-  put t xs s = direct_refilled rP rT rS rI rG items with_items t (filled_all direct_with_slot_value xs s.slots)
+  put t xs s = with_slots rP rT Sr rS rI rG items with_items t (filled_all direct_with_slot_value xs s.slots)
 
   -- three laws of the stack
   pub record StackLaws : Type 0 where
@@ -319,7 +320,7 @@ module _ (P T S I G : RattleType) (P-Ptr : gPtr.Ghosts P.Denot I.Denot G.Denot) 
 
         field_of : ent 𝓤 (sem 𝓛 (part_at Inside full_share a rb ro)) (sep 𝓤 (sem 𝓛 (part_at Slr full_share t rb (ro + off))) Back)
         unfolding part_of
-        field_of = field_out 𝓛 full_share [] ms ((DirectSlots-laws.the_row_laws rP rT rS rI rG (copied_laws 0 P LP) (param_laws 1 T LT) (param_laws 2 S LS) (copied_laws 3 I LI) (copied_laws 4 G LG)).lawful 𝓛, (uint_Lawful 𝓛 w64, tt)) (t, (a.len, tt)) rb ro 0
+        field_of = field_out 𝓛 full_share [] ms ((SlotStack-laws.the_row_laws rP rT Sr rS rI rG (copied_laws 0 P LP) (param_laws 1 T LT) (S-laws.the_row_laws rP rT rI rG (copied_laws 0 P LP) (param_laws 1 T LT) (copied_laws 3 I LI) (copied_laws 4 G LG)) (param_laws 2 S LS) (copied_laws 3 I LI) (copied_laws 4 G LG)).lawful 𝓛, (uint_Lawful 𝓛 w64, tt)) (t, (a.len, tt)) rb ro 0
 
         -- with slots whose values were written it is an arena again
         back : view a ≡ d → good a → (w : St) → ent 𝓤 (sep 𝓤 (sem 𝓛 ((mem Slr).own_at (put t (items t.stack) w) rb (ro + off))) Back) (sem 𝓛 ((mem Ar).own_at (direct_with_values_of d w) rb ro))
@@ -367,7 +368,7 @@ module _ (P T S I G : RattleType) (P-Ptr : gPtr.Ghosts P.Denot I.Denot G.Denot) 
             use1 𝓛 (raw (Called.pre z)) (id⊢ 𝓤 _) $
             calls_at ! fm Called callee z (and_then ! (get ! refl) (no_more !)) (λ v.
             use1 𝓛 (later (some (λ (r : MutBor (List X)). ((‵ (flft κ (right q)) ⊛ others) ⊛ ‵ ((MutSlice (named 0) κ Sr).own_val r (v ∷ []))) ⊛
-            some (λ (ws : Unit {0} × Unit {0}). ‵ (lasts called_end κs (lent_slots, tt) ws) ⊛ (‵ (follows Slr (Array Sr 0) δ r.ghost_name (direct_refilled rP rT rS rI rG items with_items t)) ⊛ raw (fact 𝓤 (r.now ≡ es))))))) (id⊢ 𝓤 _) $
+            some (λ (ws : Unit {0} × Unit {0}). ‵ (lasts called_end κs (lent_slots, tt) ws) ⊛ (‵ (follows Slr (Array Sr 0) δ r.ghost_name (with_slots rP rT Sr rS rI rG items with_items t)) ⊛ raw (fact 𝓤 (r.now ≡ es))))))) (id⊢ 𝓤 _) $
             await ! tt $ pick ! (λ r. split ! $ split ! $
             let b : ℕ = r.ref_ptr.0 in let o : ℕ = r.ref_ptr.1 in let ρ : GName = r.ghost_name in let xs : List X = r.now in let n' : ℕ = length xs in
             move ! (2 ∷ []) $ pick ! (λ ws. split ! $ drop ! $ split ! $ move ! (1 ∷ []) $ heard ! _ (λ is.
@@ -392,8 +393,8 @@ module _ (P T S I G : RattleType) (P-Ptr : gPtr.Ghosts P.Denot I.Denot G.Denot) 
             (takes_part 𝓛 (Arr (mem Sr) n') (KeptBy xs) G₂ κ (right q) b o b o ρ (emp 𝓤) back₁ ((coded_list Sr.coded).code xs) ((coded_list Sr.coded).code xs) d) $ await ! tt $ pick ! (λ ν. split3 ! $
             -- [obs; the borrow; half with what follows; the others; what follows; the right; the aged borrow; what is left; obs; auth]
             move ! (2 ∷ []) $ split ! $ move ! (5 ∷ 1 ∷ []) $
-            use2 𝓛 (‵ (follows Slr Ar δ ν (λ w. direct_refilled rP rT rS rI rG items with_items t (filled_all direct_with_slot_value xs w.slots)))) (follows_then 𝓛 Slr (Array Sr 0) Ar (direct_refilled rP rT rS rI rG items with_items t) G₂ δ ρ ν) $
-            rewrite ! 0 (λ (zs : List X). ‵ (follows Slr Ar δ ν (λ w. direct_refilled rP rT rS rI rG items with_items t (filled_all direct_with_slot_value zs w.slots)))) is refl $
+            use2 𝓛 (‵ (follows Slr Ar δ ν (λ w. with_slots rP rT Sr rS rI rG items with_items t (filled_all direct_with_slot_value xs w.slots)))) (follows_then 𝓛 Slr (Array Sr 0) Ar (with_slots rP rT Sr rS rI rG items with_items t) G₂ δ ρ ν) $
+            rewrite ! 0 (λ (zs : List X). ‵ (follows Slr Ar δ ν (λ w. with_slots rP rT Sr rS rI rG items with_items t (filled_all direct_with_slot_value zs w.slots)))) is refl $
             -- [what follows; half; obs; the borrow; the others; the right; the aged borrow; what is left; obs; auth]
             move ! (6 ∷ 8 ∷ 9 ∷ 5 ∷ 0 ∷ 7 ∷ []) $ group ! 6 $
             use1 𝓛 (later (‵ (flft κ (left q)) ⊛ ‵ (follows Ar Ar γ ν (direct_with_values_of d))))
@@ -456,7 +457,7 @@ lend_slots_spec 𝓤 𝓛 𝓜 𝓡 wired P T S I G LP LT LS LI LG CP CI CG P-Pt
     P-Gen-PartialOrd-dict P-Gen-Ord P-Gen-Ord-dict S-NonZeroInxGenericStack S-NonZeroInxGenericStack-dict LP LT LS
     LI LG
     (record { of_items = m25.items_with_items; of_room = m25.room_with_items; of_limit = m25.limit_with_items }) 𝓤 𝓛 𝓜 𝓡 wired
-    (met 𝓤 𝓛 𝓜 𝓡 (code.calls-triple_arena_direct_arena::direct_slots::DirectSlots::as_mut_slice 𝓡.env wired) P T S I G LP LT LS LI LG CP CI
+    (met 𝓤 𝓛 𝓜 𝓡 (code.calls-triple_arena_direct_arena::direct_arena::DirectArena::slice_of 𝓡.env wired) P T S I G LP LT LS LI LG CP CI
     CG P-Ptr P-Ptr-dict P-Debug P-Debug-dict P-Hash P-Hash-dict P-Eq P-Eq-dict P-PartialEq P-PartialEq-dict P-Clone
     P-Clone-dict P-PartialOrd P-PartialOrd-dict P-Ord P-Ord-dict P-Recast P-Recast-dict P-Inx-PtrInx
     P-Inx-PtrInx-dict P-Inx-Debug P-Inx-Debug-dict P-Inx-Hash P-Inx-Hash-dict P-Inx-Eq P-Inx-Eq-dict P-Inx-PartialEq

@@ -7,7 +7,7 @@ use Rattle.triple_arena_direct_arena.proofs.direct_arena.DirectArena.slot.Goals 
 
 pub returns-clause-entry : goal.returns-clause-entry
 returns-clause-entry g c =
-    slot_read (direct_slot_entry g.P.Gen.PtrGen.number) (g.S.NonZeroInxGenericStack.items c.self.inside.slots.stack) _ _ _ _ c.slot_at.ensures (ap (λ s. s.slots) c.self.view_is) c.in_ok-try_into_usize.ensures.number
+    slot_read (direct_slot_entry g.P.Gen.PtrGen.number) (g.S.NonZeroInxGenericStack.items c.self.inside.slots.stack) _ _ _ _ c.peek.ensures (ap (λ s. s.slots) c.self.view_is) c.in_ok-try_into_usize.ensures.number
 
 pub returns-clause-within : goal.returns-clause-within
 returns-clause-within g c live = entry_indexed _ _ _ (g.P.Inx.PtrInx.number c.args.inx) c.self.invariant c.self.view_is live

@@ -3,6 +3,7 @@ use Rattle.std.proofs.lemmas.List.{length-map}
 use Rattle.triple_arena_traits.proofs.TransferLemmas.{closed_up_slots}
 use Rattle.triple_arena_direct_arena.specs.DirectState.{direct_len, direct_capacity, direct_with_slots}
 use Rattle.triple_arena_direct_arena.specs.DirectSlot.{direct_slot_entry}
+use Rattle.triple_arena_slots.proofs.Resizing.{room_kept}
 use Rattle.triple_arena_direct_arena.proofs.Held.{made, Counts-slots}
 use Rattle.triple_arena_direct_arena.proofs.direct_arena.DirectArena.take_over.Goals as goal
 
@@ -15,8 +16,8 @@ invariant_of-self g c =
     let size = length-map items (direct_slot_entry g.P.Gen.PtrGen.number) ∙ taken.ensures.many in
     let fits : length xs ≤ direct_capacity c.args.self.now = omega (arith, size, c.requires.fits) in
     (made g.P.Gen.PtrGen.number _ _ _ _ _ (direct_with_slots c.args.self.now xs) refl
-    (taken.ensures.room ∙ ap (λ s. s.room) c.self.view_is)
-    (taken.ensures.limit ∙ ap (λ s. s.limit) c.self.view_is)
+    (taken.ensures.room ∙ ap g.S.NonZeroInxGenericStack.room c.clear.ensures ∙ g.met.S.NonZeroInxGenericStack.room_with_items _ _ ∙ ap g.S.NonZeroInxGenericStack.room c.uncounted_stack_mut.ensures.value ∙ ap (λ s. s.room) c.self.view_is)
+    (taken.ensures.limit ∙ ap g.S.NonZeroInxGenericStack.limit c.clear.ensures ∙ g.met.S.NonZeroInxGenericStack.limit_with_items _ _ ∙ ap g.S.NonZeroInxGenericStack.limit c.uncounted_stack_mut.ensures.value ∙ ap (λ s. s.limit) c.self.view_is)
     (ap (λ s. s.greatest) c.self.view_is)
     (Counts-slots _ c.args.self.now xs (taken.ensures.count ∙ sym size ∙ sym full.1) fits)).0
 
@@ -29,8 +30,8 @@ returns g c =
     let size = length-map items (direct_slot_entry g.P.Gen.PtrGen.number) ∙ taken.ensures.many in
     let fits : length xs ≤ direct_capacity c.args.self.now = omega (arith, size, c.requires.fits) in
     let both = made g.P.Gen.PtrGen.number _ _ _ _ _ (direct_with_slots c.args.self.now xs) refl
-    (taken.ensures.room ∙ ap (λ s. s.room) c.self.view_is)
-    (taken.ensures.limit ∙ ap (λ s. s.limit) c.self.view_is)
+    (taken.ensures.room ∙ ap g.S.NonZeroInxGenericStack.room c.clear.ensures ∙ g.met.S.NonZeroInxGenericStack.room_with_items _ _ ∙ ap g.S.NonZeroInxGenericStack.room c.uncounted_stack_mut.ensures.value ∙ ap (λ s. s.room) c.self.view_is)
+    (taken.ensures.limit ∙ ap g.S.NonZeroInxGenericStack.limit c.clear.ensures ∙ g.met.S.NonZeroInxGenericStack.limit_with_items _ _ ∙ ap g.S.NonZeroInxGenericStack.limit c.uncounted_stack_mut.ensures.value ∙ ap (λ s. s.limit) c.self.view_is)
     (ap (λ s. s.greatest) c.self.view_is)
     (Counts-slots _ c.args.self.now xs (taken.ensures.count ∙ sym size ∙ sym full.1) fits) in
     record {
@@ -38,3 +39,12 @@ returns g c =
       emptied = taken.ensures.emptied;
       counted = ap direct_len both.1 ∙ full.1 ∙ size;
     }
+
+pub take_over-self-inside-requires-clause-empty : goal.take_over-self-inside-requires-clause-empty
+take_over-self-inside-requires-clause-empty g c κs within = ap g.S.NonZeroInxGenericStack.items c.clear.ensures ∙ g.met.S.NonZeroInxGenericStack.items_with_items _ _
+
+pub take_over-self-inside-requires-clause-fits : goal.take_over-self-inside-requires-clause-fits
+take_over-self-inside-requires-clause-fits g c κs within =
+    room_kept _ _ _ _ _ (ap g.S.NonZeroInxGenericStack.room c.clear.ensures ∙ g.met.S.NonZeroInxGenericStack.room_with_items _ _ ∙ ap g.S.NonZeroInxGenericStack.room c.uncounted_stack_mut.ensures.value)
+    (ap g.S.NonZeroInxGenericStack.limit c.clear.ensures ∙ g.met.S.NonZeroInxGenericStack.limit_with_items _ _ ∙ ap g.S.NonZeroInxGenericStack.limit c.uncounted_stack_mut.ensures.value)
+    (omega (arith, c.requires.fits, ap direct_capacity c.self.view_is))

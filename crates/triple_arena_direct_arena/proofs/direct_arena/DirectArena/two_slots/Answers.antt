@@ -14,7 +14,7 @@ returns-clause-numbers g c = (
 pub returns-clause-variant : goal.returns-clause-variant
 returns-clause-variant g c =
     let both = returns-clause-numbers g c in
-    of_same AreTwo _ _ _ _ _ _ (size_is g.P.Gen.PtrGen.number _ _ _ _ c.args.self.now c.self.view_is) both.0 both.1 c.in_ok-check_disjoint.ensures
+    of_same AreTwo _ _ _ _ _ _ (size_is g.P.Gen.PtrGen.number _ _ _ _ c.args.self.now c.self.view_is) both.0 both.1 (rw c.uncounted_stack-stack.ensures at c.in_ok-check_disjoint.ensures)
 
 pub returns-in_err-check_disjoint-clause-variant : goal.returns-in_err-check_disjoint-clause-variant
 returns-in_err-check_disjoint-clause-variant g c =
@@ -23,7 +23,7 @@ returns-in_err-check_disjoint-clause-variant g c =
     (of_same (λ n i j. IsRefused n i j e) _ _ _ _ _ _ (size_is g.P.Gen.PtrGen.number _ _ _ _ c.args.self.now c.self.view_is)
     (number_found _ _ _ _ _ c.in_ok-first.ensures.value c.try_into_usize.ensures.number)
     (number_found _ _ _ _ _ c.in_ok-second.ensures.value c.try_into_usize-2.ensures.number)
-    c.in_err-check_disjoint.ensures)
+    (rw c.uncounted_stack-stack.ensures at c.in_err-check_disjoint.ensures))
 
 pub returns-in_err-first-clause-variant : goal.returns-in_err-first-clause-variant
 returns-in_err-first-clause-variant g c =

@@ -1,5 +1,5 @@
 use Rattle.triple_arena_direct_arena.proofs.Refused.{below_above, not_beyond}
-use Rattle.triple_arena_direct_arena.proofs.Resizing.{on_ok}
+use Rattle.triple_arena_traits.proofs.Growth.{on_ok}
 use Rattle.triple_arena_direct_arena.specs.DirectState.{DirectState, direct_with_room_for}
 use Rattle.triple_arena_stack.specs.Capacity.{IsWithin, IsBeyond}
 use Rattle.triple_arena_base.specs.declared.errors.ReallocationError.TheVariants.{BeyondMaxCapacity}

@@ -48,7 +48,7 @@ returns-in-Some-clause-shows g c s len shows room stamped =
     let inx = non_zero_usize_get c.in-Some.inx in
     let put = ap g.S.NonZeroInxGenericStack.items c.put.ensures.stack ∙ g.met.S.NonZeroInxGenericStack.items_with_items _ _ in
     (Shows-filled g.P.Gen.PtrGen.number items _ _ inx len c.into_link-link.result c.args.generation c.args.value s room stamped (c.put.ensures.value ∙ ap Some c.into_link-link.ensures)
-    (rw c.after.ensures at (rw c.in-Some.is at (rw c.put.ensures.root at (rw put at c.unlink.ensures.leaves)))) (rw c.in-Some.is at shows)).1
+    (rw c.after.ensures at (rw c.in-Some.is at (rw put at c.unlink.ensures.leaves))) (rw c.in-Some.is at shows)).1
 
 pub returns-in-None-clause-steps : goal.returns-in-None-clause-steps
 returns-in-None-clause-steps g c s len shows =

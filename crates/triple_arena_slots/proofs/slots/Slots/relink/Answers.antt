@@ -23,11 +23,11 @@ free-requires-clause-there g c κs within =
 
 pub free-requires-clause-other : goal.free-requires-clause-other
 free-requires-clause-other g c κs within =
-    rw c.has_entry.ensures.root (LinkedFrom-root g.P.Gen.PtrGen.number _ _ _ _ (rw c.in-Some.is at c.links.invariant.5))
+    LinkedFrom-root g.P.Gen.PtrGen.number _ _ _ _ (rw c.in-Some.is at c.links.invariant.5)
 
 pub free-requires-clause-root_free : goal.free-requires-clause-root_free
 free-requires-clause-root_free g c κs within =
-    rw (c.has_entry.ensures.stack, c.has_entry.ensures.root) c.links.invariant.5.vacant
+    rw c.has_entry.ensures.stack c.links.invariant.5.vacant
 
 pub links-preserved : goal.links-preserved
 links-preserved g c =
@@ -40,7 +40,7 @@ links-preserved g c =
     elim c.if-not-has_entry.branch [
       | then-not-has_entry w ↦
           let vacant : item (map (entry_of g.P.Gen.PtrGen.number) items) inx ≡ Some None = vacant_within (map (entry_of g.P.Gen.PtrGen.number) items) inx c.in-Some.inx.ok (omega (arith, below, length-map items (entry_of g.P.Gen.PtrGen.number))) (sym c.has_entry.ensures.value ∙ w.if-not-has_entry.true) in
-          let begins = rw (c.has_entry.ensures.stack, c.has_entry.ensures.root) at w.free.ensures.begins in
+          let begins = rw c.has_entry.ensures.stack at w.free.ensures.begins in
           let size = Begins-length g.P.Gen.PtrGen.number items _ _ inx begins in
           rw (w.self-is, next) (
             w.free.ensures.room ∙ ap g.S.NonZeroInxGenericStack.room c.has_entry.ensures.stack ∙ c.links.invariant.0,
@@ -50,7 +50,7 @@ links-preserved g c =
             omega (arith, size, below),
             rw w.free.ensures.root (LinkedFrom-free g.P.Gen.PtrGen.number _ items _ inx _ _ here linked vacant begins),
           )
-      | else-not-has_entry w ↦ rw (w.self-is, next, c.has_entry.ensures.stack, c.has_entry.ensures.root) (
+      | else-not-has_entry w ↦ rw (w.self-is, next, c.has_entry.ensures.stack) (
         c.links.invariant.0,
         c.links.invariant.1,
         c.links.invariant.2,

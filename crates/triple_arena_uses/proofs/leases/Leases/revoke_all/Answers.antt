@@ -1,6 +1,6 @@
 use Rattle.std.proofs.Common.{rules}
 use Rattle.std.proofs.lemmas.Result.{on_ok_weaker}
-use Rattle.triple_arena_direct.specs.laws.RetainLaws.{sorted_found}
+use Rattle.triple_arena_direct.specs.laws.SortLaws.{sorted_found}
 use Rattle.triple_arena_uses.specs.Tickets.{ticket_numbers, is_of_another}
 use Rattle.triple_arena_uses.proofs.leases.Leases.revoke_all.Goals as goal
 

@@ -11,29 +11,29 @@ use Rattle.triple_arena_direct_arena.proofs.direct_arena.compaction.DirectArenaC
 
 pub close_up-requires-clause-indexed : goal.close_up-requires-clause-indexed
 close_up-requires-clause-indexed g c =
-    omega (arith, c.self.invariant.fits, length-map (g.S.NonZeroInxGenericStack.items c.self.inside.slots.stack) (direct_slot_entry g.P.Gen.PtrGen.number))
+    rw c.uncounted_stack_mut.ensures.value (omega (arith, c.self.invariant.fits, length-map (g.S.NonZeroInxGenericStack.items c.self.inside.slots.stack) (direct_slot_entry g.P.Gen.PtrGen.number)))
 
 pub invariant_of-self : goal.invariant_of-self
 invariant_of-self g c =
-    let m = c.close_up.ensures.moved in
+    let m = rw c.uncounted_stack_mut.ensures.value at c.close_up.ensures.moved in
     let closed = closed_state g.P.Ptr.numbers (goal.F-step g) c.args.f (map (direct_slot_entry g.P.Gen.PtrGen.number) (g.S.NonZeroInxGenericStack.items c.self.inside.slots.stack)) _ c.args.self.now m.0 (ap (λ s. s.slots) c.self.view_is) m.1 m.2 in
     (made g.P.Gen.PtrGen.number _ _ _ _ _ (direct_compressed c.args.self.now m.0)
     closed.1
-    (c.close_up.ensures.room ∙ ap (λ s. s.room) c.self.view_is)
-    (c.close_up.ensures.limit ∙ ap (λ s. s.limit) c.self.view_is)
+    ((rw c.uncounted_stack_mut.ensures.value at c.close_up.ensures.room) ∙ ap (λ s. s.room) c.self.view_is)
+    ((rw c.uncounted_stack_mut.ensures.value at c.close_up.ensures.limit) ∙ ap (λ s. s.limit) c.self.view_is)
     (ap (λ s. s.greatest) c.self.view_is)
     (Counts-compressed _ c.args.self.now m.0 closed.2 (subst (Counts _) c.self.view_is c.self.invariant))).0
 
 pub returns-clause-moved : goal.returns-clause-moved
 returns-clause-moved g c =
-    let m = c.close_up.ensures.moved in
+    let m = rw c.uncounted_stack_mut.ensures.value at c.close_up.ensures.moved in
     let closed = closed_state g.P.Ptr.numbers (goal.F-step g) c.args.f (map (direct_slot_entry g.P.Gen.PtrGen.number) (g.S.NonZeroInxGenericStack.items c.self.inside.slots.stack)) _ c.args.self.now m.0 (ap (λ s. s.slots) c.self.view_is) m.1 m.2 in (
       m.0,
       closed.0,
       (made g.P.Gen.PtrGen.number _ _ _ _ _ (direct_compressed c.args.self.now m.0)
           closed.1
-          (c.close_up.ensures.room ∙ ap (λ s. s.room) c.self.view_is)
-          (c.close_up.ensures.limit ∙ ap (λ s. s.limit) c.self.view_is)
+          ((rw c.uncounted_stack_mut.ensures.value at c.close_up.ensures.room) ∙ ap (λ s. s.room) c.self.view_is)
+          ((rw c.uncounted_stack_mut.ensures.value at c.close_up.ensures.limit) ∙ ap (λ s. s.limit) c.self.view_is)
           (ap (λ s. s.greatest) c.self.view_is)
           (Counts-compressed _ c.args.self.now m.0 closed.2 (subst (Counts _) c.self.view_is c.self.invariant))).1,
     )

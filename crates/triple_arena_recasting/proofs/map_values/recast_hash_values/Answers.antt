@@ -1,0 +1,12 @@
+use Rattle.std.proofs.Common.{rules}
+use Rattle.triple_arena_base.specs.Held.{recast_items}
+use Rattle.triple_arena_recasting.proofs.MapValues.{written_value, written_keys}
+use Rattle.triple_arena_recasting.proofs.map_values.recast_hash_values.Goals as goal
+
+pub returns-clause-values : goal.returns-clause-values
+returns-clause-values g c name =
+    written_value _ _ (λ v. g.V.Recast.refill v (recast_items (g.R.Recaster.image c.args.map.now) (g.V.Recast.held v))) (λ k v b w f t. search rules) _ _ c.retain.ensures.filtered (g.K.PartialEq.eq name)
+
+pub returns-clause-keys : goal.returns-clause-keys
+returns-clause-keys g c =
+    written_keys _ _ (λ v. g.V.Recast.refill v (recast_items (g.R.Recaster.image c.args.map.now) (g.V.Recast.held v))) (λ k v b w f t. search rules) _ _ c.retain.ensures.filtered

@@ -1,0 +1,6 @@
+-- What follows from the definitions.
+pub mod RenamingLaws
+pub mod ImageLaws
+pub mod NameLaws
+pub mod RenamingBothLaws
+pub mod RetainLaws

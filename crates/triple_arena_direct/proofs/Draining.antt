@@ -1,5 +1,5 @@
 -- One step of a drain of a strict arena.
-use Rattle.std.proofs.Common.{ℕ, ◌+◌, ◌<◌, Option, Some, None, refl, arith}
+use Rattle.std.proofs.Common.{ℕ, ◌<◌, Option, Some, None, refl, arith}
 use Rattle.std.specs.Option.{option_map}
 use Rattle.triple_arena_ptr.specs.Pointers.{Pointer}
 use Rattle.triple_arena_traits.specs.ArenaState.{ArenaState, arena_len}

@@ -1,4 +1,4 @@
-//! Strict arenas, and pointer types of one form. It is a door, and hands on compaction of any arena with recasting, direct
+//! Strict arenas, and pointer types that differ by a number. It is a door, and hands on compaction of any arena with recasting, direct
 //! arenas, and what `triple_arena` has for callers.
 #![tactic(auto)]
 

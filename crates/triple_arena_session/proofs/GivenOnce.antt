@@ -1,5 +1,5 @@
 -- A run of a session without entries gives each pointer once.
-use Rattle.std.proofs.Common.{◌≡◌, ℕ, true, List, [], take, refl}
+use Rattle.std.proofs.Common.{◌≡◌, ℕ, true, List, [], take}
 use Rattle.triple_arena_ptr.specs.Numbers.{Generations}
 use Rattle.triple_arena_stack.specs.StackKind.{StackKind}
 use Rattle.triple_arena_traits.specs.ArenaState.{arena_len}

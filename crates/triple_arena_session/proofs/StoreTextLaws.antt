@@ -1,5 +1,5 @@
 -- What the program writes is what the store of names answers that its session shows, and each pointer is given once.
-use Rattle.std.proofs.Common.{◌≡◌, ◌⊎◌, ℕ, ◌-◌, Bool, true, List, Option, Some, None, Result, Ok, Err, take, refl, sym, ap, subst, inl, inr}
+use Rattle.std.proofs.Common.{◌≡◌, ◌⊎◌, ℕ, ◌-◌, true, List, Option, Some, None, Result, Ok, Err, take, refl, sym, ap, subst, inl, inr}
 use Rattle.triple_arena_ptr.specs.Numbers.{counting_to, Generations, greatest_index, first_generation}
 use Rattle.triple_arena_stack.specs.StackKind.{StackKind, IsOfKind}
 use Rattle.triple_arena_stack.specs.StackKind.StackKind.{heap, limited, fixed, array}

@@ -1,5 +1,5 @@
 -- Eleven commands, two of them compactions, and the replies to them.
-use Rattle.std.specs.Prelude.{ℕ, true, false, List, [], ◌∷◌, Some, None}
+use Rattle.std.specs.Prelude.{ℕ, false, List, [], ◌∷◌, Some, None}
 use Rattle.triple_arena_ptr.specs.Numbers.{counting_to}
 use Rattle.triple_arena_stack.specs.StackKind.StackKind.{heap}
 use Rattle.triple_arena_commands.specs.declared.command.Command.{Command}

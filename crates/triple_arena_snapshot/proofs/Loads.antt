@@ -1,5 +1,5 @@
 -- Files that a reader gave, by what is read of their bytes.
-use Rattle.std.proofs.Common.{◌≡◌, ◌≢◌, ℕ, ◌^◌, ◌<◌, ◌++◌, ◌∷◌, List, Option, None, Some, IfSome, Result, Ok, Err, length, get_or, refl, sym, ap, ◌∙◌, subst, inl, inr}
+use Rattle.std.proofs.Common.{◌≡◌, ◌≢◌, ℕ, ◌^◌, ◌<◌, ◌++◌, ◌∷◌, List, Option, None, Some, IfSome, Result, Ok, Err, length, get_or, sym, ap, ◌∙◌, subst, inl, inr}
 use Rattle.std.specs.Prelude.{IsErr, ◌⊎◌}
 use Rattle.triple_arena_snapshot.specs.declared.fault.LoadError.{LoadError}
 use Rattle.triple_arena_snapshot.specs.declared.fault.LoadError.TheVariants as errors

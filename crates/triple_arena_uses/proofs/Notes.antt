@@ -1,10 +1,8 @@
 -- How a side table stays beside its table.
-use Rattle.std.proofs.Common.{◌≡◌, ◌≢◌, ◌⊎◌, ℕ, List, [], Option, None, is_some, sym, ap, ◌∙◌, inl, inr}
+use Rattle.std.proofs.Common.{◌≡◌, ◌≢◌, ◌⊎◌, ℕ, List, Option, None, is_some, sym, ap, ◌∙◌, inl, inr}
 use Rattle.std.proofs.lemmas.Bool.{cases_eq}
-use Rattle.std.specs.Option.{option_and_then}
 use Rattle.triple_arena_ptr.specs.Pointers.{Pointer}
-use Rattle.triple_arena.specs.Entries.{look_up, value_of_generation}
-use Rattle.triple_arena.specs.laws.ItemLaws.{joined, item_nil}
+use Rattle.triple_arena.specs.Entries.{look_up}
 use Rattle.triple_arena.specs.laws.PointerListLaws.{pointer_is}
 use Rattle.triple_arena_direct.specs.Mirrors.{IsMirror}
 

@@ -1,5 +1,5 @@
 -- A book of guests: who is there, who came, and whether pointers may come again.
-use Rattle.std.specs.Prelude.{◌≡◌, ◌-◌, ◌^◌, ℕ, Bool, true, false, List}
+use Rattle.std.specs.Prelude.{◌≡◌, ◌-◌, ◌^◌, ℕ, Bool, false, List}
 use Rattle.triple_arena_ptr.specs.Numbers.{counting_to, wraps}
 use Rattle.triple_arena_ptr.specs.Pointers.{Pointer}
 use Rattle.triple_arena.specs.ArenaState.{ArenaState}

@@ -1,5 +1,5 @@
 -- What a port holds, case by case.
-use Rattle.std.specs.Prelude.{Option, List, [], refl}
+use Rattle.std.specs.Prelude.{List, [], refl}
 use Rattle.std.proofs.Common.{ap}
 use Rattle.triple_arena_base.specs.Held.{HoldsRefill, KeepsHeld, LastRefills, held_option, refill_option}
 use Rattle.triple_arena_base.specs.laws.HeldLaws.{nothing_held_refill, option_held_refill, option_refill_held, option_refill_refill}

@@ -1,5 +1,5 @@
 -- The tickets of leases.
-use Rattle.std.specs.Prelude.{ℕ, suc, ◌+◌, ◌-◌, ◌*◌, ◌^◌, ◌==◌, Bool, true, not, cond}
+use Rattle.std.specs.Prelude.{ℕ, suc, ◌+◌, ◌-◌, ◌*◌, ◌^◌, ◌==◌, Bool, not, cond}
 use Rattle.triple_arena_ptr.specs.Numbers.{counting_to}
 use Rattle.triple_arena_ptr.specs.Pointers.{Pointer}
 use Rattle.triple_arena.specs.ArenaState.{ArenaState}

@@ -1,6 +1,6 @@
 -- A file of which one byte was changed is none: what is read of it is a fault.
 use Rattle.std.proofs.Common.{◌≡◌, ◌≢◌, ℕ, zero, suc, ◌+◌, ◌-◌, ◌<◌, Bool, true, false, ltb, List, [], ◌∷◌, ◌++◌, length, get_or, take, drop, Result, Ok, Err, refl, sym, ap, subst, ◌∙◌, arith, append-nil}
-use Rattle.std.specs.Prelude.{◌==◌, ◌&&◌, if◌then◌else◌, IsErr}
+use Rattle.std.specs.Prelude.{◌==◌, if◌then◌else◌, IsErr}
 use Rattle.std.specs.Int.{w32, w64, to_le_bytes, from_le_bytes}
 use Rattle.std.proofs.lemmas.Bool.{eqb-true, ltb-false, and_parts}
 use Rattle.std.proofs.lemmas.List.{take_at, length-append, append_cancel_left, take-append-drop, length-take-le, length-drop, get_or-drop, drop_at}

@@ -1,7 +1,5 @@
-use Rattle.std.proofs.Common.{◌≡◌, ◌∙◌, ◌+◌, ◌-◌, Some, None, is_some, length, map, drop, sym, ap, subst, arith, ◌∷◌}
+use Rattle.std.proofs.Common.{◌≡◌, ◌∙◌, ◌+◌, ◌-◌, is_some, map, sym, ap, arith}
 use Rattle.std.specs.Int.NonZero.{non_zero_usize_get}
-use Rattle.std.specs.Option.{option_map}
-use Rattle.triple_arena_traits.specs.Items.{item}
 use Rattle.triple_arena_traits.proofs.SlotEntries.{entry_item}
 use Rattle.triple_arena_slots.specs.Slot.{entry_of}
 use Rattle.triple_arena_slots.proofs.Linking.{vacant_entry, read_here, next_one, LinkedBehind-next}

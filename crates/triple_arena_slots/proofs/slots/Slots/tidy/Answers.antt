@@ -1,4 +1,4 @@
-use Rattle.std.proofs.Common.{◌≡◌, ◌∙◌, map, length, ap, arith}
+use Rattle.std.proofs.Common.{◌∙◌, map, length, ap, arith}
 use Rattle.std.proofs.lemmas.List.{length-map}
 use Rattle.triple_arena_traits.specs.FreeList.{trimmed}
 use Rattle.triple_arena_traits.specs.laws.FreeListLaws.{trimmed_length}

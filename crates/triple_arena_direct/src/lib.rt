@@ -1,5 +1,5 @@
-//! Strict arenas, and pointer types that differ by a number. It is a door, and hands on compaction of any arena with recasting, direct
-//! arenas, and what `triple_arena` has for callers.
+//! Strict arenas, and pointer types that differ by a number. It is a door, and hands on what is called over any arena
+//! (compaction with recasting, `retain`, `extend`), direct arenas, and what `triple_arena` has for callers.
 #![tactic(auto)]
 
 mod errors;

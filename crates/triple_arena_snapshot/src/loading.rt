@@ -46,8 +46,9 @@ pub fn load<T: Codec + Drop, R: Read>(alloc: Global, input: &mut R) -> Result<T,
 }
 
 /// The arena whose file the reader has left, over a stack without items, whose limit it has, and whose
-/// room grows where the slots need more. Where it is refused the stack is gone. All else is as at
-/// [`load`].
+/// room grows where the slots need more. What was saved under another limit is loaded where there are no
+/// more slots than this one allows ([`crate::laws::fits_under_another_limit`]). Where it is refused the stack is
+/// gone. All else is as at [`load`].
 pub fn load_arena<
     P: Ptr,
     T: Codec + Drop,

@@ -1,5 +1,6 @@
 //! Values as bytes: each type once, a struct of its user's, bad bytes, and files; and files that are
-//! written and read: a byte at a time, with failures, over each stack, and of many random states.
+//! written and read: a byte at a time, with failures, over each stack, of many random states, and of
+//! thousands of entries.
 
 mod arenas;
 mod bytes;
@@ -10,4 +11,6 @@ mod files;
 mod flip_flop;
 mod random;
 mod round_trips;
+mod set_points;
+mod sizes;
 mod streams;

@@ -3,6 +3,8 @@
 
 pub mod circuit;
 pub mod coupons;
+pub mod set_points;
 
 pub use circuit::{Cell, Circuit, Net};
 pub use coupons::Coupons;
+pub use set_points::{PLACES, SetPoints, load_set_points};

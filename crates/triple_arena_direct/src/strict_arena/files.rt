@@ -61,10 +61,13 @@ where
 /// The strict arena whose file the reader has left, over a stack without items, whose limit it has. It
 /// goes on as the one that was saved: each pointer finds what it found (`found`), what was
 /// gone for good is (`gone`), the next insertion gives the same pointer (`next`), and each history that
-/// fitted fits (`history`). Of any file a history can begin with the pointers loaded (`begun`).
+/// fitted fits (`history`).
 ///
-/// Of two loads of one file nothing is promised that holds of both together, nor of a file that
-/// [`save_strict_arena`] didn't write: they may give the same pointers.
+/// Of any file, what is read of it is said (`read`), and a history can begin with the pointers loaded
+/// (`begun`): none of them is given again. What was given before is promised only of one load of a file
+/// that [`save_strict_arena`] wrote: two loads of one file give the same pointers. Where the stack has another
+/// limit than that of the arena that was saved, [`triple_arena_snapshot::laws::fits_under_another_limit`] tells
+/// what fits.
 ///
 /// Refused as [`triple_arena_snapshot::load_arena`]; and then with `Counter`, at offset 17, the value's
 /// first byte, where generations count and an entry is of one past the counter.

@@ -1,12 +1,7 @@
-use Rattle.std.proofs.Common.{◌≡◌, ℕ, Option, Some, None, refl, sym, ◌∙◌}
-use Rattle.std.specs.Option.{option_map}
+use Rattle.std.proofs.Common.{sym, ◌∙◌}
 use Rattle.triple_arena_snapshot_uses.specs.Coupons.{coupons_content}
+use Rattle.triple_arena_snapshot_uses.proofs.Contents.{same_numbers}
 use Rattle.triple_arena_snapshot_uses.proofs.coupons.Coupons.open.Goals as goal
-
--- a number is its own content
-same_numbers : (o : Option ℕ) → option_map (λ n. n) o ≡ o
-same_numbers None = refl
-same_numbers (Some n) = refl
 
 pub returns-in-Ok-clause-found : goal.returns-in-Ok-clause-found
 returns-in-Ok-clause-found g c = λ saved fits is q. sym (same_numbers _) ∙ c.in-Ok.ensures.found saved fits is q ∙ same_numbers _

@@ -1,5 +1,7 @@
 //! Arenas of thousands of entries, and counts of slots that no bytes stand behind.
 
+ghost use Rattle.std.specs.Prelude.{◌≡◌, []};
+
 use std::alloc::Global;
 use std::process::Abort;
 use std::test::*;
@@ -17,7 +19,9 @@ use triple_arena_test_kit::{is, pointer};
 const ENTRIES: u64 = 6000;
 
 // A new stack for an arena's slots.
-fn slots(alloc: Global) -> NonZeroInxVec<ArenaSlot<P0, u64>> {
+fn slots(alloc: Global) -> NonZeroInxVec<ArenaSlot<P0, u64>>
+    ensures { result.items ≡ [] }
+{
     NonZeroInxVec::new(alloc)
 }
 

@@ -1,9 +1,14 @@
-use Rattle.std.proofs.Common.{◌≡◌, Result, Ok, sym, ap, subst}
+use Rattle.std.proofs.Common.{◌≡◌, Result, Ok, Err, sym, ap, subst}
 use Rattle.triple_arena_snapshot.specs.declared.fault.LoadError.{LoadError}
+use Rattle.triple_arena_snapshot.specs.Coding.{Reading}
 use Rattle.triple_arena_snapshot.specs.Files.{LoadsFrom}
-use Rattle.triple_arena_snapshot_uses.specs.Circuit.{Parts, circuit_content}
-use Rattle.triple_arena_snapshot_uses.proofs.Contents.{read_or}
+use Rattle.triple_arena_snapshot_uses.specs.Circuit.{Parts, CircuitContent, circuit_content}
 use Rattle.triple_arena_snapshot_uses.proofs.circuit.Circuit.load.Goals as goal
+
+-- what was read, or another
+abbrev read_or : CircuitContent → Reading CircuitContent → CircuitContent
+read_or other (Ok k) = k
+read_or other (Err e) = other
 
 loaded_again : (saved loaded : Parts) (result : Result Parts LoadError) → result ≡ Ok loaded → LoadsFrom circuit_content result (Ok (circuit_content saved))
     → LoadsFrom circuit_content (Ok loaded) (Ok (circuit_content saved))

@@ -29,6 +29,7 @@ mod ending;
 mod free_list;
 mod insertion;
 mod look_ups;
+mod on_heap;
 mod over;
 mod room;
 mod states;
@@ -177,6 +178,12 @@ impl<P: Ptr, T, S: NonZeroInxGenericStack<ArenaSlot<P, T>>> ArenaTrait<P, T> for
         self.len
     }
 
+    fn is_empty(&self) -> bool
+        ensures { result ≡ (arena_len self.now == 0) }
+    {
+        self.len == 0
+    }
+
     fn singular_generation(&self) -> Option<P::Gen> {
         Some(self.counter)
     }
@@ -187,6 +194,13 @@ impl<P: Ptr, T, S: NonZeroInxGenericStack<ArenaSlot<P, T>>> ArenaTrait<P, T> for
             → is_some result ≡ remains h (P.numbers p) }
     {
         self.slot(p.inx())?.look_up(p.generation())
+    }
+
+    fn contains(&self, p: P) -> bool
+        ensures value { result ≡ is_some (look_up self.now.slots (P.numbers p)) }
+        ensures history { (h : History) → Fits h self.now → result ≡ remains h (P.numbers p) }
+    {
+        self.get(p).is_some()
     }
 
     fn get_mut(&mut self, p: P) -> Option<&mut T>
@@ -284,6 +298,7 @@ impl<P: Ptr, T, S: NonZeroInxGenericStack<ArenaSlot<P, T>>> ArenaTrait<P, T> for
         answer_on_valid(wrapped, P::_from_raw(p.inx(), counter))
     }
 
+    #[inline(always)]
     fn remove(&mut self, p: P) -> InvalidationResult<T>
         ensures answer { result ≡ told_of (wraps P.Gen.generations self.old.counter)
             (look_up self.old.slots (P.numbers p)) }

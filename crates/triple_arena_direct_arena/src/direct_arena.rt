@@ -1,6 +1,6 @@
 //! The direct arena.
 
-ghost use Rattle.std.specs.Prelude.{◌≡◌, ◌≢◌, ℕ, IfOk, ◌≤◌, ◌↔◌, ◌∷◌, false, [], map, length, is_some, IsSome, IsOk, OnOk, OnErr, Some, None, Err, option_copied, MatchOption};
+ghost use Rattle.std.specs.Prelude.{◌≡◌, ◌==◌, ◌≢◌, ℕ, IfOk, ◌≤◌, ◌↔◌, ◌∷◌, false, [], map, length, is_some, IsSome, IsOk, OnOk, OnErr, Some, None, Err, option_copied, MatchOption};
 ghost use Rattle.std.specs.Int.NonZero.{non_zero_usize_get};
 ghost use Rattle.std.specs.Borrow.{sem, LendsIf};
 ghost use Rattle.std.specs.Option.{option_map, option_copied_mut};
@@ -24,6 +24,7 @@ mod copies;
 mod disjoint;
 mod insertion;
 mod look_ups;
+mod on_heap;
 mod over;
 mod room;
 mod states;
@@ -169,6 +170,12 @@ impl<P: Ptr, T, S: NonZeroInxGenericStack<DirectSlot<P, T>>> ArenaTrait<P, T>
         self.len
     }
 
+    fn is_empty(&self) -> bool
+        ensures { result ≡ (direct_len self.now == 0) }
+    {
+        self.len == 0
+    }
+
     fn singular_generation(&self) -> Option<P::Gen> {
         None
     }
@@ -178,6 +185,13 @@ impl<P: Ptr, T, S: NonZeroInxGenericStack<DirectSlot<P, T>>> ArenaTrait<P, T>
         ensures history { (h : History) → ⊥ → is_some result ≡ remains h (P.numbers p) }
     {
         self.slot(p.inx())?.look_up(p.generation())
+    }
+
+    fn contains(&self, p: P) -> bool
+        ensures value { result ≡ is_some (look_up self.now.slots (P.numbers p)) }
+        ensures history { (h : History) → ⊥ → result ≡ remains h (P.numbers p) }
+    {
+        self.get(p).is_some()
     }
 
     fn get_mut(&mut self, p: P) -> Option<&mut T>

@@ -36,6 +36,7 @@ impl<P: Ptr, T, S: NonZeroInxGenericStack<ArenaSlot<P, T>>> Slots<P, T, S> {
 
     /// Puts an entry at the place of an insertion, where there is one. It touches one slot, or two
     /// where two are free.
+    #[inline(always)]
     pub fn occupy(&mut self, generation: P::Gen, value: T)
         requires indexed { length (S.items self.old.slots.stack) ≤ greatest_index P.Inx.greatest }
         requires shown { (s : ArenaState T) × (len : ℕ)
@@ -65,6 +66,7 @@ impl<P: Ptr, T, S: NonZeroInxGenericStack<ArenaSlot<P, T>>> Slots<P, T, S> {
 
     /// Takes out the entry at an index: the last slot goes, and any other becomes the first free
     /// one. It touches at most two slots.
+    #[inline(always)]
     pub fn vacate(&mut self, inx: NonZeroUsize) -> (P::Gen, T)
         requires indexed { length (S.items self.old.slots.stack) ≤ greatest_index P.Inx.greatest }
         requires live { IsSome (entry_at P.Gen.number (S.items self.old.slots.stack)

@@ -112,7 +112,9 @@ impl<P: Ptr, T, S: NonZeroInxGenericStack<ArenaSlot<P, T>>> Slots<P, T, S> {
 
     // Puts a free slot at an index, as the first of the free list, and gives the slot that it
     // replaces. What was first is told as it is known in each case, so that the compiler branches on
-    // it: a choice between two indexes would make each removal wait for the insertion before it.
+    // it: a choice between two indexes would make each removal wait for the insertion before it. It is
+    // inlined, so that the slot isn't copied through memory.
+    #[inline(always)]
     pub(crate) fn free(&mut self, inx: NonZeroUsize) -> ArenaSlot<P, T>
         requires indexed { length (S.items self.old.slots.stack) ≤ greatest_index P.Inx.greatest }
         requires there { IsSome (item (S.items self.old.slots.stack) (non_zero_usize_get inx)) }
@@ -136,6 +138,7 @@ impl<P: Ptr, T, S: NonZeroInxGenericStack<ArenaSlot<P, T>>> Slots<P, T, S> {
     }
 
     // Puts a free slot at an index, as the first of the free list, before this one, if there is one.
+    #[inline(always)]
     fn free_before(&mut self, next: Option<NonZeroUsize>, inx: NonZeroUsize) -> ArenaSlot<P, T>
         requires indexed { length (S.items self.old.slots.stack) ≤ greatest_index P.Inx.greatest }
         requires there { IsSome (item (S.items self.old.slots.stack) (non_zero_usize_get inx)) }

@@ -170,6 +170,7 @@ impl<P: Ptr, T, X: EntrySlot<P, T>, S: NonZeroInxGenericStack<X>> SlotStack<P, T
 
     /// The index of a pointer, if the entry there has the generation of the pointer. It touches at
     /// most one slot.
+    #[inline(always)]
     pub fn find(&mut self, p: P) -> Option<NonZeroUsize>
         requires { length (S.items self.old.stack) ≤ greatest_index P.Inx.greatest }
         ensures index { IfSome result (λ inx. non_zero_usize_get inx ≡ (P.numbers p).0) }

@@ -29,6 +29,20 @@ pub trait ArenaDirectInsertTrait<P: Ptr, T>: ArenaTrait<P, T> {
         ensures limit { Self.limit self.new ≡ Self.limit self.old }
         ensures capacity { Self.capacity self.new ≡ Self.capacity self.old };
 
+    /// Whether an insertion under `p` has a place, and else why not.
+    ///
+    /// `NotWithinCapacity` exactly where the index of `p` is above the capacity, else
+    /// `ExistingElementAtIndex` exactly where an entry stands there.
+    fn check_direct_insert(&self, p: P) -> Result<(), DirectInsertionError>
+        ensures { DirectInsertAnswer (Self.slots self.now) (Self.capacity self.now)
+            (P.numbers p).0 result };
+
+    /// Whether an insertion under `p` has a place: its index is at most the capacity, and no entry
+    /// stands there.
+    fn can_direct_insert(&self, p: P) -> bool
+        ensures { IsTrue result
+            ↔ IsVacant (Self.slots self.now) (Self.capacity self.now) (P.numbers p).0 };
+
     // an insertion puts the value under the pointer, so that there is one entry more, and leaves
     // every other entry, limit and capacity
     ghost slots_inserted_at: { (arena : Self) (p : Pointer) (value : T) → 0 < p.0
@@ -45,34 +59,6 @@ pub trait ArenaDirectInsertTrait<P: Ptr, T>: ArenaTrait<P, T> {
 
     ghost capacity_inserted_at: { (arena : Self) (p : Pointer) (value : T)
         → Self.capacity (inserted_at arena p value) ≡ Self.capacity arena };
-
-    /// Whether an insertion under `p` has a place, and else why not.
-    ///
-    /// `NotWithinCapacity` exactly where the index of `p` is above the capacity, else
-    /// `ExistingElementAtIndex` exactly where an entry stands there.
-    final fn check_direct_insert(&self, p: P) -> Result<(), DirectInsertionError>
-        ensures { DirectInsertAnswer (Self.slots self.now) (Self.capacity self.now)
-            (P.numbers p).0 result }
-    {
-        let capacity = self.capacity();
-        match P::Inx::try_into_usize(p.inx()) {
-            Some(inx) if inx.get() <= capacity => {}
-            _ => return Err(DirectInsertionError::NotWithinCapacity),
-        }
-        match self.generation_at(p.inx()) {
-            Some(_generation) => Err(DirectInsertionError::ExistingElementAtIndex),
-            None => Ok(()),
-        }
-    }
-
-    /// Whether an insertion under `p` has a place: its index is at most the capacity, and no entry
-    /// stands there.
-    final fn can_direct_insert(&self, p: P) -> bool
-        ensures { IsTrue result
-            ↔ IsVacant (Self.slots self.now) (Self.capacity self.now) (P.numbers p).0 }
-    {
-        self.check_direct_insert(p).is_ok()
-    }
 }
 
 /// What can be done with a place under a pointer of the caller's choice.

@@ -67,6 +67,112 @@ pub trait ArenaInsertTrait<P: Ptr, T>: ArenaTrait<P, T> {
         ensures valid { Self.valid self.old }
         ensures history { Continues Self.fits self.old [] self.new };
 
+    /// Inserts `t`, and gives its pointer. It takes no memory, and touches at most 6 slots, where the
+    /// arena counts them.
+    ///
+    /// Refused exactly where there are as many entries as the capacity; then the arena is
+    /// unchanged, and `t` is dropped.
+    fn insert_within_capacity(&mut self, t: T) -> Result<P, NotWithinCapacityError>
+    where
+        T: Drop,
+        ensures variant { IsOk result
+            ↔ (entry_count (Self.slots self.old) < Self.capacity self.old) }
+        ensures pointer { IfOk result (λ p. P.numbers p ≡ next self.old) }
+        ensures free { IfOk result (λ p. entry_in (Self.slots self.old) (P.numbers p).0 ≡ None) }
+        ensures found { IfOk result (λ p. look_up (Self.slots self.new) (P.numbers p) ≡ Some t) }
+        ensures others { IfOk result (λ p. (q : Pointer) → q.0 ≢ (P.numbers p).0
+            → look_up (Self.slots self.new) q ≡ look_up (Self.slots self.old) q) }
+        ensures inserted { OnOk result (self.new ≡ inserted self.old t) }
+        ensures refused { OnErr result (self.new ≡ self.old) }
+        ensures valid { Self.valid self.old }
+        ensures bounded { RisesByAtMost 6 (Self.steps self.old) (Self.steps self.new) }
+        ensures history { IfOk result
+            (λ p. Continues Self.fits self.old (insertion (P.numbers p) ∷ []) self.new) };
+
+    /// Inserts `t`, and gives its pointer. A full arena grows first: its capacity never falls, and
+    /// it has a place then. An `Arena` grows to 4 slots or to twice its capacity, as far as the
+    /// limit allows and there are indexes.
+    ///
+    /// `BeyondMaxCapacity` exactly where the arena is full and its limit is reached; else
+    /// `AllocError` where it is full and memory is refused, or there is no greater index. Then the
+    /// arena is unchanged, and `t` is dropped. Where the arena isn't full, no memory is taken; a full
+    /// one grows wherever limit, indexes and memory allow it.
+    fn insert_reallocating(&mut self, t: T) -> Result<P, ReallocationError>
+    where
+        T: Drop,
+        ensures pointer { IfOk result (λ p. P.numbers p ≡ next self.old) }
+        ensures free { IfOk result (λ p. entry_in (Self.slots self.old) (P.numbers p).0 ≡ None) }
+        ensures found { IfOk result (λ p. look_up (Self.slots self.new) (P.numbers p) ≡ Some t) }
+        ensures others { IfOk result (λ p. (q : Pointer) → q.0 ≢ (P.numbers p).0
+            → look_up (Self.slots self.new) q ≡ look_up (Self.slots self.old) q) }
+        ensures inserted { OnOk result (self.new ≡ inserted (grown self.old) t) }
+        ensures refused { OnErr result (self.new ≡ self.old) }
+        ensures beyond { (result ≡ Err ReallocationError.BeyondMaxCapacity)
+            ↔ IsFullAtLimit
+            (Self.capacity self.old) (Self.limit self.old) (entry_count (Self.slots self.old)) }
+        ensures with_memory { CanGrow Self.has_memory (Self.capacity self.old) (Self.limit self.old)
+            (greatest_index P.Inx.greatest) → IsOk result }
+        ensures indexed { OnOk result (entry_count (Self.slots self.old) ≡ Self.capacity self.old
+            → Self.capacity self.old < greatest_index P.Inx.greatest) }
+        ensures had_place { entry_count (Self.slots self.old) < Self.capacity self.old
+            → IsOk result × (self.new ≡ inserted self.old t) }
+        ensures place { OnOk result (entry_count (Self.slots (grown self.old))
+            < Self.capacity (grown self.old)) }
+        ensures valid { Self.valid self.old }
+        ensures history { IfOk result
+            (λ p. Continues Self.fits self.old (insertion (P.numbers p) ∷ []) self.new) };
+
+    /// As [`Self::insert_reallocating`].
+    fn insert(&mut self, t: T) -> Result<P, ReallocationError>
+    where
+        T: Drop,
+        ensures pointer { IfOk result (λ p. P.numbers p ≡ next self.old) }
+        ensures free { IfOk result (λ p. entry_in (Self.slots self.old) (P.numbers p).0 ≡ None) }
+        ensures found { IfOk result (λ p. look_up (Self.slots self.new) (P.numbers p) ≡ Some t) }
+        ensures others { IfOk result (λ p. (q : Pointer) → q.0 ≢ (P.numbers p).0
+            → look_up (Self.slots self.new) q ≡ look_up (Self.slots self.old) q) }
+        ensures inserted { OnOk result (self.new ≡ inserted (grown self.old) t) }
+        ensures refused { OnErr result (self.new ≡ self.old) }
+        ensures beyond { (result ≡ Err ReallocationError.BeyondMaxCapacity)
+            ↔ IsFullAtLimit
+            (Self.capacity self.old) (Self.limit self.old) (entry_count (Self.slots self.old)) }
+        ensures with_memory { CanGrow Self.has_memory (Self.capacity self.old) (Self.limit self.old)
+            (greatest_index P.Inx.greatest) → IsOk result }
+        ensures indexed { OnOk result (entry_count (Self.slots self.old) ≡ Self.capacity self.old
+            → Self.capacity self.old < greatest_index P.Inx.greatest) }
+        ensures had_place { entry_count (Self.slots self.old) < Self.capacity self.old
+            → IsOk result × (self.new ≡ inserted self.old t) }
+        ensures place { OnOk result (entry_count (Self.slots (grown self.old))
+            < Self.capacity (grown self.old)) }
+        ensures valid { Self.valid self.old }
+        ensures history { IfOk result
+            (λ p. Continues Self.fits self.old (insertion (P.numbers p) ∷ []) self.new) };
+
+    /// As [`Self::insert`], but where it is refused, `t` comes back in the error.
+    fn try_insert(&mut self, t: T) -> Result<P, InsertFailed<T>>
+        ensures pointer { IfOk result (λ p. P.numbers p ≡ next self.old) }
+        ensures free { IfOk result (λ p. entry_in (Self.slots self.old) (P.numbers p).0 ≡ None) }
+        ensures found { IfOk result (λ p. look_up (Self.slots self.new) (P.numbers p) ≡ Some t) }
+        ensures others { IfOk result (λ p. (q : Pointer) → q.0 ≢ (P.numbers p).0
+            → look_up (Self.slots self.new) q ≡ look_up (Self.slots self.old) q) }
+        ensures inserted { OnOk result (self.new ≡ inserted (grown self.old) t) }
+        ensures refused { OnErr result (self.new ≡ self.old) }
+        ensures value_returned { IfErr result (λ failed. failed.value ≡ t) }
+        ensures beyond { IsErrAnd result (λ failed. failed.error ≡ ReallocationError.BeyondMaxCapacity)
+            ↔ IsFullAtLimit
+            (Self.capacity self.old) (Self.limit self.old) (entry_count (Self.slots self.old)) }
+        ensures with_memory { CanGrow Self.has_memory (Self.capacity self.old) (Self.limit self.old)
+            (greatest_index P.Inx.greatest) → IsOk result }
+        ensures indexed { OnOk result (entry_count (Self.slots self.old) ≡ Self.capacity self.old
+            → Self.capacity self.old < greatest_index P.Inx.greatest) }
+        ensures had_place { entry_count (Self.slots self.old) < Self.capacity self.old
+            → IsOk result × (self.new ≡ inserted self.old t) }
+        ensures place { OnOk result (entry_count (Self.slots (grown self.old))
+            < Self.capacity (grown self.old)) }
+        ensures valid { Self.valid self.old }
+        ensures history { IfOk result
+            (λ p. Continues Self.fits self.old (insertion (P.numbers p) ∷ []) self.new) };
+
     // the generation of the next pointer is the one that the arena tells, where it tells one
     ghost generation_next: { (arena : Self) (generation : ℕ)
         → Self.next_generation arena ≡ Some generation → (next arena).1 ≡ generation };
@@ -112,131 +218,4 @@ pub trait ArenaInsertTrait<P: Ptr, T>: ArenaTrait<P, T> {
     ghost next_grown: { (arena : Self) → next (grown arena) ≡ next arena };
 
     ghost valid_grown: { (arena : Self) → Self.valid arena → Self.valid (grown arena) };
-
-    /// Inserts `t`, and gives its pointer. It takes no memory, and touches at most 6 slots, where the
-    /// arena counts them.
-    ///
-    /// Refused exactly where there are as many entries as the capacity; then the arena is
-    /// unchanged, and `t` is dropped.
-    #[inline(always)]
-    final fn insert_within_capacity(&mut self, t: T) -> Result<P, NotWithinCapacityError>
-    where
-        T: Drop,
-        ensures variant { IsOk result
-            ↔ (entry_count (Self.slots self.old) < Self.capacity self.old) }
-        ensures pointer { IfOk result (λ p. P.numbers p ≡ next self.old) }
-        ensures free { IfOk result (λ p. entry_in (Self.slots self.old) (P.numbers p).0 ≡ None) }
-        ensures found { IfOk result (λ p. look_up (Self.slots self.new) (P.numbers p) ≡ Some t) }
-        ensures others { IfOk result (λ p. (q : Pointer) → q.0 ≢ (P.numbers p).0
-            → look_up (Self.slots self.new) q ≡ look_up (Self.slots self.old) q) }
-        ensures inserted { OnOk result (self.new ≡ inserted self.old t) }
-        ensures refused { OnErr result (self.new ≡ self.old) }
-        ensures valid { Self.valid self.old }
-        ensures bounded { RisesByAtMost 6 (Self.steps self.old) (Self.steps self.new) }
-        ensures history { IfOk result
-            (λ p. Continues Self.fits self.old (insertion (P.numbers p) ∷ []) self.new) }
-    {
-        if self.len() < self.capacity() {
-            Ok(self.insert_reserved(t))
-        } else {
-            Err(NotWithinCapacityError)
-        }
-    }
-
-    /// Inserts `t`, and gives its pointer. A full arena grows first: its capacity never falls, and
-    /// it has a place then. An `Arena` grows to 4 slots or to twice its capacity, as far as the
-    /// limit allows and there are indexes.
-    ///
-    /// `BeyondMaxCapacity` exactly where the arena is full and its limit is reached; else
-    /// `AllocError` where it is full and memory is refused, or there is no greater index. Then the
-    /// arena is unchanged, and `t` is dropped. Where the arena isn't full, no memory is taken; a full
-    /// one grows wherever limit, indexes and memory allow it.
-    #[inline(always)]
-    final fn insert_reallocating(&mut self, t: T) -> Result<P, ReallocationError>
-    where
-        T: Drop,
-        ensures pointer { IfOk result (λ p. P.numbers p ≡ next self.old) }
-        ensures free { IfOk result (λ p. entry_in (Self.slots self.old) (P.numbers p).0 ≡ None) }
-        ensures inserted { OnOk result (self.new ≡ inserted (grown self.old) t) }
-        ensures refused { OnErr result (self.new ≡ self.old) }
-        ensures beyond { (result ≡ Err ReallocationError.BeyondMaxCapacity)
-            ↔ IsFullAtLimit
-            (Self.capacity self.old) (Self.limit self.old) (entry_count (Self.slots self.old)) }
-        ensures with_memory { CanGrow Self.has_memory (Self.capacity self.old) (Self.limit self.old)
-            (greatest_index P.Inx.greatest) → IsOk result }
-        ensures indexed { OnOk result (entry_count (Self.slots self.old) ≡ Self.capacity self.old
-            → Self.capacity self.old < greatest_index P.Inx.greatest) }
-        ensures had_place { entry_count (Self.slots self.old) < Self.capacity self.old
-            → IsOk result × (self.new ≡ inserted self.old t) }
-        ensures place { OnOk result (entry_count (Self.slots (grown self.old))
-            < Self.capacity (grown self.old)) }
-        ensures valid { Self.valid self.old }
-        ensures history { IfOk result
-            (λ p. Continues Self.fits self.old (insertion (P.numbers p) ∷ []) self.new) }
-    {
-        self.make_place()?;
-        Ok(self.insert_reserved(t))
-    }
-
-    /// As [`Self::insert_reallocating`].
-    #[inline(always)]
-    final fn insert(&mut self, t: T) -> Result<P, ReallocationError>
-    where
-        T: Drop,
-        ensures pointer { IfOk result (λ p. P.numbers p ≡ next self.old) }
-        ensures free { IfOk result (λ p. entry_in (Self.slots self.old) (P.numbers p).0 ≡ None) }
-        ensures found { IfOk result (λ p. look_up (Self.slots self.new) (P.numbers p) ≡ Some t) }
-        ensures others { IfOk result (λ p. (q : Pointer) → q.0 ≢ (P.numbers p).0
-            → look_up (Self.slots self.new) q ≡ look_up (Self.slots self.old) q) }
-        ensures inserted { OnOk result (self.new ≡ inserted (grown self.old) t) }
-        ensures refused { OnErr result (self.new ≡ self.old) }
-        ensures beyond { (result ≡ Err ReallocationError.BeyondMaxCapacity)
-            ↔ IsFullAtLimit
-            (Self.capacity self.old) (Self.limit self.old) (entry_count (Self.slots self.old)) }
-        ensures with_memory { CanGrow Self.has_memory (Self.capacity self.old) (Self.limit self.old)
-            (greatest_index P.Inx.greatest) → IsOk result }
-        ensures indexed { OnOk result (entry_count (Self.slots self.old) ≡ Self.capacity self.old
-            → Self.capacity self.old < greatest_index P.Inx.greatest) }
-        ensures had_place { entry_count (Self.slots self.old) < Self.capacity self.old
-            → IsOk result × (self.new ≡ inserted self.old t) }
-        ensures place { OnOk result (entry_count (Self.slots (grown self.old))
-            < Self.capacity (grown self.old)) }
-        ensures valid { Self.valid self.old }
-        ensures history { IfOk result
-            (λ p. Continues Self.fits self.old (insertion (P.numbers p) ∷ []) self.new) }
-    {
-        self.insert_reallocating(t)
-    }
-
-    /// As [`Self::insert`], but where it is refused, `t` comes back in the error.
-    #[inline(always)]
-    final fn try_insert(&mut self, t: T) -> Result<P, InsertFailed<T>>
-        ensures pointer { IfOk result (λ p. P.numbers p ≡ next self.old) }
-        ensures free { IfOk result (λ p. entry_in (Self.slots self.old) (P.numbers p).0 ≡ None) }
-        ensures found { IfOk result (λ p. look_up (Self.slots self.new) (P.numbers p) ≡ Some t) }
-        ensures others { IfOk result (λ p. (q : Pointer) → q.0 ≢ (P.numbers p).0
-            → look_up (Self.slots self.new) q ≡ look_up (Self.slots self.old) q) }
-        ensures inserted { OnOk result (self.new ≡ inserted (grown self.old) t) }
-        ensures refused { OnErr result (self.new ≡ self.old) }
-        ensures value_returned { IfErr result (λ failed. failed.value ≡ t) }
-        ensures beyond { IsErrAnd result (λ failed. failed.error ≡ ReallocationError.BeyondMaxCapacity)
-            ↔ IsFullAtLimit
-            (Self.capacity self.old) (Self.limit self.old) (entry_count (Self.slots self.old)) }
-        ensures with_memory { CanGrow Self.has_memory (Self.capacity self.old) (Self.limit self.old)
-            (greatest_index P.Inx.greatest) → IsOk result }
-        ensures indexed { OnOk result (entry_count (Self.slots self.old) ≡ Self.capacity self.old
-            → Self.capacity self.old < greatest_index P.Inx.greatest) }
-        ensures had_place { entry_count (Self.slots self.old) < Self.capacity self.old
-            → IsOk result × (self.new ≡ inserted self.old t) }
-        ensures place { OnOk result (entry_count (Self.slots (grown self.old))
-            < Self.capacity (grown self.old)) }
-        ensures valid { Self.valid self.old }
-        ensures history { IfOk result
-            (λ p. Continues Self.fits self.old (insertion (P.numbers p) ∷ []) self.new) }
-    {
-        match self.make_place() {
-            Ok(()) => Ok(self.insert_reserved(t)),
-            Err(error) => Err(InsertFailed { value: t, error }),
-        }
-    }
 }

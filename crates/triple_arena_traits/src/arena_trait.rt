@@ -114,6 +114,10 @@ pub trait ArenaTrait<P: Ptr, T>: ArenaLaws<P, T> {
         ensures fits { entry_count (Self.slots self.now) ≤ Self.capacity self.now }
         ensures valid { Self.valid self.now };
 
+    /// Whether there is no entry.
+    fn is_empty(&self) -> bool
+        ensures { result ≡ (entry_count (Self.slots self.now) == 0) };
+
     /// The generation of the next insertion; none where an insertion is told its generation.
     fn singular_generation(&self) -> Option<P::Gen>
         ensures { option_map P.Gen.number result ≡ Self.next_generation self.now };
@@ -123,6 +127,11 @@ pub trait ArenaTrait<P: Ptr, T>: ArenaLaws<P, T> {
         ensures value { option_copied result ≡ look_up (Self.slots self.now) (P.numbers p) }
         ensures history { (h : History) → Self.fits h self.now
             → is_some result ≡ remains h (P.numbers p) };
+
+    /// Whether `p` is valid.
+    fn contains(&self, p: P) -> bool
+        ensures value { result ≡ is_some (look_up (Self.slots self.now) (P.numbers p)) }
+        ensures history { (h : History) → Self.fits h self.now → result ≡ remains h (P.numbers p) };
 
     /// The value under `p`, for writing; none exactly where `p` is invalid.
     fn get_mut(&mut self, p: P) -> Option<&mut T>
@@ -269,19 +278,4 @@ pub trait ArenaTrait<P: Ptr, T>: ArenaLaws<P, T> {
 
     ghost limit_reallocated: { (old : Self) (m : ℕ) (new : Self) → reallocates old m new
         → Self.limit new ≡ Self.limit old };
-
-    /// Whether there is no entry.
-    final fn is_empty(&self) -> bool
-        ensures { result ≡ (entry_count (Self.slots self.now) == 0) }
-    {
-        self.len() == 0
-    }
-
-    /// Whether `p` is valid.
-    final fn contains(&self, p: P) -> bool
-        ensures value { result ≡ is_some (look_up (Self.slots self.now) (P.numbers p)) }
-        ensures history { (h : History) → Self.fits h self.now → result ≡ remains h (P.numbers p) }
-    {
-        self.get(p).is_some()
-    }
 }

@@ -15,6 +15,7 @@ use triple_arena_stack::NonZeroInxGenericStack;
 
 impl<P: Ptr, T, S: NonZeroInxGenericStack<ArenaSlot<P, T>>> Arena<P, T, S> {
     // Takes out the entry at an index, and tells whether the counter wrapped.
+    #[inline(always)]
     pub(super) fn take(&mut self, inx: NonZeroUsize) -> ((P::Gen, T), bool)
         requires { IsSome (entry self.old (non_zero_usize_get inx)) }
         ensures entry { entry self.old (non_zero_usize_get inx)

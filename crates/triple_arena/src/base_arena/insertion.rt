@@ -10,11 +10,11 @@ ghost use Rattle.triple_arena_traits.specs.Reallocation.{grown};
 ghost use Rattle.triple_arena_traits.specs.Histories.{Fits, Continues};
 
 use crate::base_arena::Arena;
-use triple_arena_base::ReallocationError;
+use triple_arena_base::{NotWithinCapacityError, ReallocationError};
 use triple_arena_ptr::{Ptr, PtrInx};
 use triple_arena_slots::ArenaSlot;
 use triple_arena_stack::{NonZeroInxGenericStack, grown_capacity};
-use triple_arena_traits::{ArenaInsertTrait, ArenaTrait};
+use triple_arena_traits::{ArenaInsertTrait, ArenaTrait, InsertFailed};
 
 impl<P: Ptr, T, S: NonZeroInxGenericStack<ArenaSlot<P, T>>> ArenaInsertTrait<P, T>
     for Arena<P, T, S> {
@@ -38,6 +38,7 @@ impl<P: Ptr, T, S: NonZeroInxGenericStack<ArenaSlot<P, T>>> ArenaInsertTrait<P, 
         P::_from_raw(P::Inx::try_from_usize(inx).unwrap(), self.counter)
     }
 
+    #[inline(always)]
     fn insert_reserved(&mut self, t: T) -> P {
         let p = self.next_ptr();
         self.slots.occupy(self.counter, t);
@@ -75,6 +76,45 @@ impl<P: Ptr, T, S: NonZeroInxGenericStack<ArenaSlot<P, T>>> ArenaInsertTrait<P, 
             return Err(ReallocationError::AllocError);
         }
         self.reallocate(grown_capacity(capacity, limit, greatest))
+    }
+
+    #[inline(always)]
+    fn insert_within_capacity(&mut self, t: T) -> Result<P, NotWithinCapacityError>
+    where
+        T: Drop,
+    {
+        if self.len() < self.capacity() {
+            Ok(self.insert_reserved(t))
+        } else {
+            Err(NotWithinCapacityError)
+        }
+    }
+
+    #[inline(always)]
+    fn insert_reallocating(&mut self, t: T) -> Result<P, ReallocationError>
+    where
+        T: Drop,
+    {
+        match self.make_place() {
+            Ok(()) => Ok(self.insert_reserved(t)),
+            Err(error) => Err(error),
+        }
+    }
+
+    #[inline(always)]
+    fn insert(&mut self, t: T) -> Result<P, ReallocationError>
+    where
+        T: Drop,
+    {
+        self.insert_reallocating(t)
+    }
+
+    #[inline(always)]
+    fn try_insert(&mut self, t: T) -> Result<P, InsertFailed<T>> {
+        match self.make_place() {
+            Ok(()) => Ok(self.insert_reserved(t)),
+            Err(error) => Err(InsertFailed { value: t, error }),
+        }
     }
 
     ghost generation_next = { generation-next };

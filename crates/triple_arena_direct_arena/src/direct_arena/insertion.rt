@@ -1,19 +1,20 @@
 //! Insertion into a direct arena.
 
-ghost use Rattle.std.specs.Prelude.{◌≡◌, ◌≢◌, ◌≤◌, map, Some, None};
+ghost use Rattle.std.specs.Prelude.{◌≡◌, ◌≢◌, ◌≤◌, ◌↔◌, map, IsTrue, Some, None};
 ghost use Rattle.std.specs.Int.NonZero.{non_zero_usize_get};
 ghost use Rattle.triple_arena_ptr.specs.Pointers.{Pointer};
 ghost use Rattle.triple_arena_stack.specs.Capacity.{stack_capacity};
 ghost use Rattle.triple_arena_traits.specs.Items.{with_item};
 ghost use Rattle.triple_arena_traits.specs.Entries.{entry_in, look_up};
 ghost use Rattle.triple_arena_traits.specs.FreeEnd.{extended};
-ghost use Rattle.triple_arena_traits.specs.DirectInsertion.{IsVacant};
+ghost use Rattle.triple_arena_traits.specs.DirectInsertion.{IsVacant, DirectInsertAnswer};
 ghost use Rattle.triple_arena_direct_arena.specs.DirectSlot.{direct_slot_entry};
 ghost use Rattle.triple_arena_direct_arena.specs.DirectState.{direct_capacity, inserted_at};
 
 use crate::direct_arena::DirectArena;
 use crate::slot::DirectSlot;
 use std::num::NonZeroUsize;
+use triple_arena_base::DirectInsertionError;
 use triple_arena_ptr::{Ptr, PtrGen, PtrInx};
 use triple_arena_slots::SlotStack;
 use triple_arena_stack::NonZeroInxGenericStack;
@@ -42,6 +43,27 @@ impl<P: Ptr, T, S: NonZeroInxGenericStack<DirectSlot<P, T>>> ArenaDirectInsertTr
         let _capacity = self.capacity();
         let inx = P::Inx::try_into_usize(p.inx()).unwrap();
         self.put(inx, p.generation(), t);
+    }
+
+    fn check_direct_insert(&self, p: P) -> Result<(), DirectInsertionError>
+        ensures { DirectInsertAnswer self.now.slots (direct_capacity self.now) (P.numbers p).0 result }
+    {
+        let capacity = self.capacity();
+        match P::Inx::try_into_usize(p.inx()) {
+            Some(inx) if inx.get() <= capacity => {}
+            _ => return Err(DirectInsertionError::NotWithinCapacity),
+        }
+        match self.generation_at(p.inx()) {
+            Some(_generation) => Err(DirectInsertionError::ExistingElementAtIndex),
+            None => Ok(()),
+        }
+    }
+
+    fn can_direct_insert(&self, p: P) -> bool
+        ensures { IsTrue result
+            ↔ IsVacant self.now.slots (direct_capacity self.now) (P.numbers p).0 }
+    {
+        self.check_direct_insert(p).is_ok()
     }
 
     ghost slots_inserted_at = { slots-inserted_at };

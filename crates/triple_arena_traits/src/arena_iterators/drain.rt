@@ -66,6 +66,7 @@ impl<'a, P: Ptr, T: Drop, A: CompactArenaTrait<P, T>> Iterator for Drain<'a, P, 
 
     ghost remaining = { λ drain. at_most (entry_count (A.slots (drain_arena drain))) };
 
+    #[inline(always)]
     fn next(&mut self) -> Option<InvalidationOption<(P, T)>> {
         let (p, taken) = take_next(&mut *self.arena, &mut self.advancer)?;
         let (value, wrapped) = taken.overflowing();
@@ -146,6 +147,7 @@ impl<P: Ptr, T: Drop, A: CompactArenaTrait<P, T> + Drop> ExactSizeIterator
 }
 
 // Goes on to the next entry, and takes it out.
+#[inline(always)]
 pub(crate) fn take_next<P: Ptr, T, A: CompactArenaTrait<P, T>>(
     arena: &mut A,
     advancer: &mut A::PtrAdvancer,

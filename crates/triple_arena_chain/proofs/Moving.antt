@@ -13,8 +13,8 @@ use Rattle.triple_arena.specs.Entries.{look_up, entry_count}
 use Rattle.triple_arena.specs.Walks.{keys}
 use Rattle.triple_arena.specs.laws.LookUpLaws.{pointer_follows}
 use Rattle.triple_arena.specs.laws.WalkLaws.{live_key, key_live}
-use Rattle.triple_arena_direct.specs.Renaming.{MapsPointers, IsStray, IsFoundRenamed, RefusesStray}
-use Rattle.triple_arena_direct.specs.laws.RenamingLaws.{found_read}
+use Rattle.triple_arena_recasting.specs.Renaming.{MapsPointers, IsStray, IsFoundRenamed, RefusesStray}
+use Rattle.triple_arena_recasting.specs.laws.RenamingLaws.{found_read}
 use Rattle.triple_arena_chain.specs.declared.link.Link.{Link}
 use Rattle.triple_arena_chain.specs.Links.{link_held, link_refill}
 use Rattle.triple_arena_chain.specs.Chains.{Node, node_of, node_slots, renamed, after_at, before_at, IsLinked, IsMoved}

@@ -7,7 +7,7 @@ ghost use Rattle.triple_arena_ptr.specs.Pointers.{Pointer};
 ghost use Rattle.triple_arena.specs.Ending.{told};
 ghost use Rattle.triple_arena.specs.Histories.{History, compression, begun_with, CountsUp, Continues};
 ghost use Rattle.triple_arena.specs.Walks.{keys};
-ghost use Rattle.triple_arena_direct.specs.Renaming.{MapsPointers};
+ghost use Rattle.triple_arena_recasting.specs.Renaming.{MapsPointers};
 ghost use Rattle.triple_arena_chain.specs.Chains.{nodes, IsMoved};
 
 use crate::chains::Chains;
@@ -16,9 +16,10 @@ use crate::place::ChainError;
 use std::alloc::Global;
 use triple_arena::{ArenaInsertTrait, ArenaTrait, CompactArenaTrait};
 use triple_arena_base::InvalidationOption;
-use triple_arena_direct::renaming_laws::arenas_resolve;
-use triple_arena_direct::{DirectArena, compress_recast};
+use triple_arena_direct_arena::DirectArena;
 use triple_arena_ptr::{Ptr, PtrGen};
+use triple_arena_recasting::compress_recast;
+use triple_arena_recasting::renaming_laws::arenas_resolve;
 
 impl<P: Ptr, T, A: CompactArenaTrait<P, Link<P, T>> + ArenaInsertTrait<P, Link<P, T>>> Chains<
     P,

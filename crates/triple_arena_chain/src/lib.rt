@@ -17,4 +17,5 @@ mod writing;
 pub use chains::Chains;
 pub use link::Link;
 pub use place::{ChainError, Place};
+pub use triple_arena_direct_arena::DirectArena;
 pub use walk::ChainAdvancer;

@@ -7,7 +7,7 @@ ghost use Rattle.triple_arena_ptr.specs.Pointers.{Pointer};
 ghost use Rattle.triple_arena.specs.Ending.{told};
 ghost use Rattle.triple_arena.specs.Histories.{History, compression, begun_with, CountsUp, Continues};
 ghost use Rattle.triple_arena.specs.Walks.{keys};
-ghost use Rattle.triple_arena_direct.specs.Renaming.{MapsPointers};
+ghost use Rattle.triple_arena_recasting.specs.Renaming.{MapsPointers};
 ghost use Rattle.triple_arena_surject.specs.Surject.{found_at, IsRenamed};
 
 use crate::member::{Member, Shared};
@@ -17,7 +17,7 @@ use std::alloc::Global;
 use triple_arena::{ArenaInsertTrait, ArenaTrait, CompactArenaTrait};
 use triple_arena_base::InvalidationOption;
 use triple_arena_chain::Link;
-use triple_arena_direct::DirectArena;
+use triple_arena_direct_arena::DirectArena;
 use triple_arena_ptr::{Ptr, PtrGen};
 
 impl<

@@ -17,3 +17,4 @@ mod walking;
 pub use member::{Member, Shared};
 pub use refusal::SurjectError;
 pub use surject::SurjectArena;
+pub use triple_arena_direct_arena::DirectArena;

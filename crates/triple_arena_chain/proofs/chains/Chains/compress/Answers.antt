@@ -5,7 +5,7 @@ use Rattle.triple_arena.specs.Entries.{look_up, entry_count}
 use Rattle.triple_arena.specs.Ending.{told}
 use Rattle.triple_arena.specs.Histories.{History, compression, begun_with, CountsUp, Continues}
 use Rattle.triple_arena.specs.Walks.{keys}
-use Rattle.triple_arena_direct.specs.Renaming.{MapsPointers}
+use Rattle.triple_arena_recasting.specs.Renaming.{MapsPointers}
 use Rattle.triple_arena_chain.specs.Chains.{nodes, node_slots, IsLinked, IsMoved}
 use Rattle.triple_arena_chain.proofs.Moving.{linked_moved, is_moved, packed, maps_chains, only_memory}
 use Rattle.triple_arena_chain.specs.laws.ResultLaws.{either_way_2, if_refused}

@@ -1,7 +1,8 @@
-//! Users of chains, to copy from: a cache of the keys last used, and waiting lists.
+//! Users of chains and of sets of keys, to copy from: a cache of the keys last used, waiting lists, and nets of a circuit.
 #![tactic(auto)]
 
 pub mod cache;
+pub mod nets;
 pub mod waiting;
 
 pub use cache::Cache;

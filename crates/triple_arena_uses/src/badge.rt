@@ -3,7 +3,6 @@
 ghost use Rattle.std.specs.Prelude.{◌≡◌, suc, codes, Some, None, IfOk};
 ghost use Rattle.triple_arena.specs.Entries.{look_up};
 
-use triple_arena::prelude::*;
 use triple_arena::{Arena, ReallocationError};
 use triple_arena_ptr::{NamedPtr, PtrName};
 

@@ -5,7 +5,7 @@
 
 use std::alloc::{AllocError, Global};
 use std::collections::HashSet;
-use triple_arena::{Arena, ArenaInsertTrait, ArenaTrait};
+use triple_arena::Arena;
 use triple_arena_base::ReallocationError;
 use triple_arena_ptr::P0;
 
@@ -27,7 +27,7 @@ impl Graph {
     /// A graph without nodes.
     pub fn new(alloc: Global) -> Self {
         Graph {
-            nodes: Arena::new(alloc),
+            nodes: Arena::on_heap(alloc),
             alloc,
         }
     }

@@ -9,7 +9,7 @@ ghost use Rattle.triple_arena_uses.specs.Guests.{BookState, is_before_wrap};
 
 use std::alloc::Global;
 use std::marker::Model;
-use triple_arena::{Arena, ArenaInsertTrait, ArenaTrait};
+use triple_arena::Arena;
 use triple_arena_base::{InvalidationResult, ReallocationError};
 use triple_arena_ptr::P0;
 
@@ -52,7 +52,7 @@ impl GuestBook {
         ensures wrapped { result.wrapped ≡ false }
     {
         GuestBook {
-            guests: Arena::new(alloc),
+            guests: Arena::on_heap(alloc),
             came: Vec::new(alloc),
             wrapped: false,
         }

@@ -4,7 +4,7 @@ ghost use Rattle.std.specs.Prelude.{◌≡◌, IfOk};
 ghost use Rattle.triple_arena.specs.Walks.{values};
 
 use std::alloc::{AllocError, Global};
-use triple_arena::{Arena, ArenaTrait};
+use triple_arena::Arena;
 use triple_arena_ptr::Ptr;
 
 /// The values of an arena, in the order of their indexes.

@@ -1,19 +1,17 @@
 //! Walks over any compact arena: its entries counted, collected, changed, renewed and taken out.
 
-ghost use Rattle.std.specs.Prelude.{◌≡◌, nat_le, ◌↔◌, ◌<◌, ◌+◌, ◌%◌, ◌^◌, ℕ, false, All, Contains, IfOk, IsSome, map};
+ghost use Rattle.std.specs.Prelude.{◌≡◌, ◌↔◌, ◌<◌, ◌+◌, ◌%◌, ◌^◌, ℕ, false, All, Contains, IfOk, IsSome, map};
 ghost use Rattle.std.specs.List.{range_with_len};
 ghost use Rattle.triple_arena_ptr.specs.Pointers.{Pointer};
 ghost use Rattle.triple_arena.specs.Entries.{entry_in, look_up, entry_count};
 ghost use Rattle.triple_arena.specs.Ending.{told};
 ghost use Rattle.triple_arena.specs.FreeList.{IsRising};
 ghost use Rattle.triple_arena.specs.Walks.{entries, keys};
-ghost use Rattle.triple_arena_direct.specs.laws.RetainLaws.{kept_if};
 
 use std::alloc::{AllocError, Global};
 use triple_arena::CompactArenaTrait;
 use triple_arena::laws::{compression_keeps_order, forward_walk, walk_in_order};
 use triple_arena_base::{Advancer, InvalidationOption};
-use triple_arena_direct::retain;
 use triple_arena_ptr::Ptr;
 
 /// How many entries a walk meets.
@@ -69,14 +67,6 @@ pub fn add<P: Ptr, A: CompactArenaTrait<P, u64>>(arena: &mut A, n: u64)
         ≡ map (λ e. (e.0, (e.1 + n) % 2 ^ 64)) (entries (A.slots arena.old)) }
 {
     arena.for_each_mut(|_p, value| *value = value.wrapping_add(n));
-}
-
-/// Keeps the values from `least` on, each under its pointer; what is below goes, even if the counter wraps.
-pub fn keep_from<P: Ptr, A: CompactArenaTrait<P, u64>>(arena: &mut A, least: u64)
-    ensures { (q : Pointer) → look_up (A.slots arena.new) q
-        ≡ kept_if (λ p v. nat_le least v) (λ p v. v) q (look_up (A.slots arena.old) q) }
-{
-    let _answer = retain(arena, |_p, value| least <= *value);
 }
 
 /// Gives each entry a new pointer where the arena counts generations, in the order of the indexes,

@@ -7,5 +7,5 @@ use Rattle.triple_arena_uses.proofs.guest_book.GuestBook.new.Goals as goal
 
 pub invariant_of-result : goal.invariant_of-result
 invariant_of-result c kept =
-    let none : [] ≡ map p0_numbers c.new-2.result.items = search rules in
-    (begun_with [], Fits-empty c.new.result (ap arena_len c.new.ensures), none)
+    let none : [] ≡ map p0_numbers c.new.result.items = search rules in
+    (begun_with [], Fits-empty c.on_heap.result (ap arena_len c.on_heap.ensures), none)

@@ -1,0 +1,5 @@
+use Rattle.std.proofs.lemmas.Result.{on_ok_weaker}
+use Rattle.triple_arena_direct_uses.proofs.circuit.Circuit.compact_cells.Goals as goal
+
+pub returns-clause-nets : goal.returns-clause-nets
+returns-clause-nets c = rw (← c.self.view_is) (on_ok_weaker c.compress_recast_with.result (c.readings_follow.ensures.arenas _ _ _) c.compress_recast_with.ensures.renamed)

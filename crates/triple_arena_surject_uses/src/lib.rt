@@ -1,4 +1,0 @@
-//! Users of sets of keys, to copy from.
-#![tactic(auto)]
-
-pub mod nets;

@@ -1,4 +1,4 @@
-//! Tests of chains by their public calls.
+//! Tests of chains and of sets of keys by their public calls.
 #![tactic(auto)]
 
 #[cfg(test)]

@@ -1,5 +1,12 @@
-//! What no clause of chains says: each call over an arena, through its bounds, a cache beside the kit's, and drops.
+//! What no clause of chains and of sets of keys says: that their calls succeed where memory is there, a cache beside
+//! the kit's, sets beside a plain model, sizes, and drops.
 
 mod cache;
 mod calls;
+mod chains;
 mod drops;
+mod model;
+mod pointers;
+mod sets;
+mod sizes;
+mod values;

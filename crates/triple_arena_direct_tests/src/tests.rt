@@ -5,7 +5,7 @@ mod compaction;
 mod direct;
 mod extending;
 mod map_values;
-mod over_a_stack;
+mod shown;
 mod strict;
 mod strict_calls;
 mod strict_ends;

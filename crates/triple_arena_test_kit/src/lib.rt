@@ -1,17 +1,15 @@
 //! What tests share, and in part the tools that refuse memory: assertions as calls, pointers of each
-//! kind, a stack whose memory ends, and arenas of numbers.
+//! kind, and a stack whose memory ends.
 #![tactic(auto)]
 
 mod assertions;
 mod b;
 mod numbered;
-mod numbers;
 mod pointers;
 mod scarce_stack;
 
 pub use assertions::{Unequal, Unlike, is, is_shown};
 pub use b::B;
 pub use numbered::{Numbered, index_number, inx, named_index, numbers_of, pointer};
-pub use numbers::put_numbers;
 pub use pointers::{Narrow, PtrOf, Wide};
 pub use scarce_stack::Scarce;

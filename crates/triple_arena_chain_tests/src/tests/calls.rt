@@ -1,264 +1,183 @@
+//! Worked examples of each call, of chains and of sets of keys.
+
+use crate::tests::chains::Answer::{Done, Entries, Four, Is, NoValue, Refused, Value};
+use crate::tests::chains::Call::{
+    Advance, Backwards, Compress, Contains, CutAfter, CutBefore, InsertAfter, InsertBefore,
+    InsertNew, Join, Onwards, PushBack, Remove, RemoveChain, Rest, Walk, Write,
+};
+use crate::tests::chains::{Answer, Row, Wrong};
+use crate::tests::sets::{Answer as Told, Call};
+use crate::tests::{chains, sets};
 use std::alloc::Global;
 use std::process::Abort;
-use triple_arena::{Arena, ArenaInsertTrait, ArenaTrait, CompactArenaTrait};
-use triple_arena_base::Advancer;
-use triple_arena_chain::{Chains, Link, Place};
-use triple_arena_ptr::{P0, Ptr};
-use triple_arena_test_kit::is;
+use triple_arena_chain::ChainError::{NoEntry, Taken};
 
-// The first four values from a pointer on, with 0 for each that is missing.
-fn four_from<P: Ptr, A: CompactArenaTrait<P, Link<P, u64>> + ArenaInsertTrait<P, Link<P, u64>>>(
-    chains: &Chains<P, u64, A>,
-    first: P,
-) -> [u64; 4] {
-    let mut values = [0; 4];
-    let mut at = Some(first);
-    for value in values.iter_mut() {
-        if let Some(p) = at {
-            *value = chains.get(p).copied().unwrap_or(0);
-            at = chains.after(p);
-        }
+// The entry of each value in a chain from 1 to 4, and one that isn't there.
+const ONE: usize = 2;
+
+const TWO: usize = 0;
+
+const THREE: usize = 3;
+
+const FOUR: usize = 1;
+
+const NONE: usize = 9;
+
+const ONE_TO_FOUR: &[Row] = &[
+    (InsertNew(2), Done, 1),
+    (InsertAfter(TWO, 4), Done, 2),
+    (InsertBefore(TWO, 1), Done, 3),
+    (InsertBefore(FOUR, 3), Done, 4),
+];
+
+// Makes the calls of a table behind those.
+fn follow(rt: &impl Abort, alloc: Global, rows: &[Row]) -> Result<(), Wrong> {
+    let mut all = Vec::new(alloc);
+    for row in ONE_TO_FOUR {
+        all.push(*row).expect(rt, "memory");
     }
-    values
-}
-
-// The first four values from a pointer back, with 0 for each that is missing.
-fn four_back_from<
-    P: Ptr,
-    A: CompactArenaTrait<P, Link<P, u64>> + ArenaInsertTrait<P, Link<P, u64>>,
->(chains: &Chains<P, u64, A>, last: P) -> [u64; 4] {
-    let mut values = [0; 4];
-    let mut at = Some(last);
-    for value in values.iter_mut() {
-        if let Some(p) = at {
-            *value = chains.get(p).copied().unwrap_or(0);
-            at = chains.before(p);
-        }
+    for row in rows {
+        all.push(*row).expect(rt, "memory");
     }
-    values
+    chains::follow(rt, alloc, all.as_slice())
 }
 
-// The numbers from 1 to 4 in one chain, and their pointers.
-fn one_to_four<
-    P: Ptr,
-    A: CompactArenaTrait<P, Link<P, u64>> + ArenaInsertTrait<P, Link<P, u64>> + Drop,
->(rt: &impl Abort, chains: &mut Chains<P, u64, A>) -> (P, P, P, P) {
-    let two = chains.insert_new(2).expect(rt, "memory");
-    let four = chains.insert(Place::After(two), 4).expect(rt, "memory");
-    let one = chains.insert(Place::Before(two), 1).expect(rt, "memory");
-    let three = chains.insert(Place::Before(four), 3).expect(rt, "memory");
-    (one, two, three, four)
-}
-
-// Writes a value, if there is one under the pointer.
-fn write<P: Ptr, A: CompactArenaTrait<P, Link<P, u64>> + ArenaInsertTrait<P, Link<P, u64>>>(
-    chains: &mut Chains<P, u64, A>,
-    p: P,
-    written: u64,
-) {
-    if let Some(value) = chains.get_mut(p) {
-        *value = written;
-    }
-}
-
-fn lists_removes_and_writes<
-    P: Ptr,
-    A: CompactArenaTrait<P, Link<P, u64>> + ArenaInsertTrait<P, Link<P, u64>> + Drop,
->(rt: &impl Abort, alloc: Global) -> [[u64; 4]; 3] {
-    let mut chains: Chains<P, u64, A> = Chains::new(alloc);
-    let (one, two, three, _four) = one_to_four(rt, &mut chains);
-    let all = four_from(&chains, one);
-    let _ = chains.remove(two).expect(rt, "an entry");
-    let three_left = four_from(&chains, one);
-    write(&mut chains, three, 7);
-    [all, three_left, four_from(&chains, one)]
-}
-
-fn goes_back<
-    P: Ptr,
-    A: CompactArenaTrait<P, Link<P, u64>> + ArenaInsertTrait<P, Link<P, u64>> + Drop,
->(rt: &impl Abort, alloc: Global) -> [[u64; 4]; 2] {
-    let mut chains: Chains<P, u64, A> = Chains::new(alloc);
-    let (_one, two, _three, four) = one_to_four(rt, &mut chains);
-    let all = four_back_from(&chains, four);
-    let _ = chains.remove(two).expect(rt, "an entry");
-    [all, four_back_from(&chains, four)]
-}
-
-fn cuts_and_joins<
-    P: Ptr,
-    A: CompactArenaTrait<P, Link<P, u64>> + ArenaInsertTrait<P, Link<P, u64>> + Drop,
->(rt: &impl Abort, alloc: Global) -> [[u64; 4]; 3] {
-    let mut chains: Chains<P, u64, A> = Chains::new(alloc);
-    let (one, two, three, four) = one_to_four(rt, &mut chains);
-    chains.cut_after(two).expect(rt, "an entry");
-    let first = four_from(&chains, one);
-    chains.join(four, one).expect(rt, "two ends");
-    let joined = four_from(&chains, three);
-    chains.cut_before(four).expect(rt, "an entry");
-    [first, joined, four_from(&chains, three)]
-}
-
-// The number 5 behind those from 1 to 4, and whether it may stand behind 2 as well.
-fn pushes_back<
-    P: Ptr,
-    A: CompactArenaTrait<P, Link<P, u64>> + ArenaInsertTrait<P, Link<P, u64>> + Drop,
->(rt: &impl Abort, alloc: Global) -> ([u64; 4], bool) {
-    let mut chains: Chains<P, u64, A> = Chains::new(alloc);
-    let (_one, two, _three, four) = one_to_four(rt, &mut chains);
-    chains.push_back(four, 5).expect(rt, "memory");
-    let again = chains.push_back(two, 5);
-    (four_from(&chains, two), again.is_ok())
-}
-
-// A ring of the numbers from 1 to 4 but for 2, from 3 on, once it is compressed.
-fn compresses<
-    P: Ptr,
-    A: CompactArenaTrait<P, Link<P, u64>> + ArenaInsertTrait<P, Link<P, u64>> + Drop,
->(rt: &impl Abort, alloc: Global) -> [u64; 4] {
-    let mut chains: Chains<P, u64, A> = Chains::new(alloc);
-    let (one, two, three, four) = one_to_four(rt, &mut chains);
-    let _ = chains.remove(two).expect(rt, "an entry");
-    chains.join(four, one).expect(rt, "two ends");
-    let map = chains.compress(alloc).expect(rt, "memory").allow();
-    let new = map.get(three).expect(rt, "the new pointer");
-    four_from(&chains, *new)
-}
-
-// The sum of the values that nine steps of a walk meet.
-fn sum_of_nine<P: Ptr, A: CompactArenaTrait<P, Link<P, u64>> + ArenaInsertTrait<P, Link<P, u64>>>(
-    chains: &Chains<P, u64, A>,
-    from: P,
-) -> u64 {
-    let mut sum: u64 = 0;
-    let mut advancer = chains.walk(from);
-    for _step in 0..9 {
-        if let Some(p) = advancer.advance(chains) {
-            let value = chains.get(p).copied().unwrap_or(0);
-            sum = sum.wrapping_add(value);
-        }
-    }
-    sum
-}
-
-// A ring of the numbers from 1 to 4 beside a chain of 5 alone: the sum of a walk round it from 3 on, how
-// many are taken out with it, how many are left, and whether 3 is.
-fn walks_and_removes<
-    P: Ptr,
-    A: CompactArenaTrait<P, Link<P, u64>> + ArenaInsertTrait<P, Link<P, u64>> + Drop,
->(rt: &impl Abort, alloc: Global) -> (u64, usize, usize, bool) {
-    let mut chains: Chains<P, u64, A> = Chains::new(alloc);
-    let (one, _two, three, four) = one_to_four(rt, &mut chains);
-    chains.insert_new(5).expect(rt, "memory");
-    chains.join(four, one).expect(rt, "two ends");
-    let sum = sum_of_nine(&chains, three);
-    let removed = chains.remove_chain(three).expect(rt, "a chain");
-    (sum, removed.allow(), chains.len(), chains.contains(three))
-}
-
-// How many pointers the rest of a ring of four has, and the rest from a pointer that finds nothing.
-fn lengths_of_rests<
-    P: Ptr,
-    A: CompactArenaTrait<P, Link<P, u64>> + ArenaInsertTrait<P, Link<P, u64>> + Drop,
->(rt: &impl Abort, alloc: Global) -> [usize; 2] {
-    let mut chains: Chains<P, u64, A> = Chains::new(alloc);
-    let (one, _two, three, four) = one_to_four(rt, &mut chains);
-    chains.join(four, one).expect(rt, "two ends");
-    let rest = chains.rest(three, alloc).expect(rt, "memory");
-    let nothing = chains.rest(P::invalid(), alloc).expect(rt, "memory");
-    [rest.len(), nothing.len()]
-}
+const READ_BACKWARDS: &[Row] = &[
+    (Backwards(FOUR), Four([4, 3, 2, 1]), 4),
+    (Remove(TWO), Answer::Taken(2, 4), 3),
+    (Backwards(FOUR), Four([4, 3, 1, 0]), 3),
+];
 
 #[test]
 fn a_chain_read_backwards(rt: HostRuntime) {
-    let listed = goes_back::<P0, Arena<P0, Link<P0, u64>>>(&rt, rt.alloc());
-    is(listed, [[4, 3, 2, 1], [4, 3, 1, 0]]).expect(&rt, "all four, and then three");
+    follow(&rt, rt.alloc(), READ_BACKWARDS).expect(&rt, "its answers");
 }
+
+const REMOVED_AND_WRITTEN: &[Row] = &[
+    (Onwards(ONE), Four([1, 2, 3, 4]), 4),
+    (Remove(TWO), Answer::Taken(2, 4), 3),
+    (Onwards(ONE), Four([1, 3, 4, 0]), 3),
+    (Write(THREE, 7), Is(true), 3),
+    (Onwards(ONE), Four([1, 7, 4, 0]), 3),
+];
 
 #[test]
-fn each_call_over_an_arena(rt: HostRuntime) {
-    let listed = lists_removes_and_writes::<P0, Arena<P0, Link<P0, u64>>>(&rt, rt.alloc());
-    is(listed, [[1, 2, 3, 4], [1, 3, 4, 0], [1, 7, 4, 0]]).expect(&rt, "a removal and a write");
-    let joined = cuts_and_joins::<P0, Arena<P0, Link<P0, u64>>>(&rt, rt.alloc());
-    is(joined, [[1, 2, 0, 0], [3, 4, 1, 2], [3, 0, 0, 0]]).expect(&rt, "cuts and a join");
-    let pushed = pushes_back::<P0, Arena<P0, Link<P0, u64>>>(&rt, rt.alloc());
-    is(pushed, ([2, 3, 4, 5], false)).expect(&rt, "a value at the end, and none in the middle");
-    let compressed = compresses::<P0, Arena<P0, Link<P0, u64>>>(&rt, rt.alloc());
-    is(compressed, [3, 4, 1, 3]).expect(&rt, "a ring that is compressed");
-    let walked = walks_and_removes::<P0, Arena<P0, Link<P0, u64>>>(&rt, rt.alloc());
-    is(walked, (10, 4, 1, false)).expect(&rt, "a walk and a removal");
-    let rests = lengths_of_rests::<P0, Arena<P0, Link<P0, u64>>>(&rt, rt.alloc());
-    is(rests, [4, 0]).expect(&rt, "the rest of a ring, and of nothing");
+fn values_are_removed_and_written(rt: HostRuntime) {
+    follow(&rt, rt.alloc(), REMOVED_AND_WRITTEN).expect(&rt, "their answers");
 }
 
-// How many entries a large ring has, before one in three is taken out.
-const COUNT: u64 = 36_000;
-
-// The value that stands after one in that ring.
-fn next_value(value: u64) -> u64 {
-    if value % 3 == 0 {
-        value.wrapping_add(2)
-    } else {
-        value.wrapping_add(1)
-    }
-}
-
-// The pointers of a new chain of the numbers below that count, in their order.
-fn chain_of_thousands<
-    P: Ptr,
-    A: CompactArenaTrait<P, Link<P, u64>> + ArenaInsertTrait<P, Link<P, u64>> + Drop,
->(rt: &impl Abort, alloc: Global, chains: &mut Chains<P, u64, A>) -> Vec<P> {
-    let mut all = Vec::new(alloc);
-    let mut last = chains.insert_new(0).expect(rt, "memory");
-    all.push(last).expect(rt, "memory");
-    for value in 1..COUNT {
-        last = chains.push_back(last, value).expect(rt, "memory");
-        all.push(last).expect(rt, "memory");
-    }
-    all
-}
-
-// How many steps of a walk answer, each with the value that comes next.
-fn count_of_walk<P: Ptr, A: CompactArenaTrait<P, Link<P, u64>> + ArenaInsertTrait<P, Link<P, u64>>>(
-    rt: &impl Abort,
-    chains: &Chains<P, u64, A>,
-    first: P,
-) -> usize {
-    let mut count: usize = 0;
-    let mut value = 0;
-    let mut advancer = chains.walk(first);
-    for _step in 0..COUNT {
-        if let Some(p) = advancer.advance(chains) {
-            is(chains.get(p).copied(), Some(value)).expect(rt, "the next value");
-            value = next_value(value);
-            count = count.wrapping_add(1);
-        }
-    }
-    count
-}
-
-// A ring of two thirds of the numbers, once it is compressed: how many a walk round it meets.
-fn ring_of_thousands<
-    P: Ptr,
-    A: CompactArenaTrait<P, Link<P, u64>> + ArenaInsertTrait<P, Link<P, u64>> + Drop,
->(rt: &impl Abort, alloc: Global) -> usize {
-    let mut chains: Chains<P, u64, A> = Chains::new(alloc);
-    let all = chain_of_thousands(rt, alloc, &mut chains);
-    let first = *all.first().expect(rt, "the first");
-    let last = *all.last().expect(rt, "the last");
-    for (value, p) in all.iter().enumerate() {
-        if value % 3 == 1 {
-            let _ = chains.remove(*p).expect(rt, "an entry");
-        }
-    }
-    chains.join(last, first).expect(rt, "two ends");
-    let map = chains.compress(alloc).expect(rt, "memory").allow();
-    let new = map.get(first).expect(rt, "the new pointer");
-    count_of_walk(rt, &chains, *new)
-}
+const CUT_AND_JOINED: &[Row] = &[
+    (CutAfter(TWO), Done, 4),
+    (Onwards(ONE), Four([1, 2, 0, 0]), 4),
+    (Join(FOUR, ONE), Done, 4),
+    (Onwards(THREE), Four([3, 4, 1, 2]), 4),
+    (CutBefore(FOUR), Done, 4),
+    (Onwards(THREE), Four([3, 0, 0, 0]), 4),
+];
 
 #[test]
-fn a_ring_of_thousands_is_compressed_and_walked(rt: HostRuntime) {
-    let count = ring_of_thousands::<P0, Arena<P0, Link<P0, u64>>>(&rt, rt.alloc());
-    is(count, 24_000).expect(&rt, "each that is left, once");
+fn chains_are_cut_and_joined(rt: HostRuntime) {
+    follow(&rt, rt.alloc(), CUT_AND_JOINED).expect(&rt, "their answers");
+}
+
+const PUSHED_BACK: &[Row] = &[
+    (PushBack(FOUR, 5), Done, 5),
+    (PushBack(TWO, 5), Refused(Taken), 5),
+    (Onwards(TWO), Four([2, 3, 4, 5]), 5),
+];
+
+#[test]
+fn a_value_is_pushed_back_at_the_end_alone(rt: HostRuntime) {
+    follow(&rt, rt.alloc(), PUSHED_BACK).expect(&rt, "its answers");
+}
+
+const COMPRESSED: &[Row] = &[
+    (Remove(TWO), Answer::Taken(2, 4), 3),
+    (Join(FOUR, ONE), Done, 3),
+    (Compress, Done, 3),
+    (Onwards(THREE), Four([3, 4, 1, 3]), 3),
+];
+
+#[test]
+fn a_ring_is_compressed(rt: HostRuntime) {
+    follow(&rt, rt.alloc(), COMPRESSED).expect(&rt, "its answers");
+}
+
+// Beside a chain of 5 alone.
+const WALKED_AND_REMOVED: &[Row] = &[
+    (InsertNew(5), Done, 5),
+    (Join(FOUR, ONE), Done, 5),
+    (Walk(THREE), Done, 5),
+    (Advance, Value(3), 5),
+    (Advance, Value(4), 5),
+    (Advance, Value(1), 5),
+    (Advance, Value(2), 5),
+    (Advance, NoValue, 5),
+    (Advance, NoValue, 5),
+    (RemoveChain(THREE), Entries(4), 1),
+    (Contains(THREE), Is(false), 1),
+];
+
+#[test]
+fn a_ring_is_walked_and_removed(rt: HostRuntime) {
+    follow(&rt, rt.alloc(), WALKED_AND_REMOVED).expect(&rt, "its answers");
+}
+
+const RESTS: &[Row] = &[
+    (Rest(THREE), Entries(2), 4),
+    (Join(FOUR, ONE), Done, 4),
+    (Rest(THREE), Entries(4), 4),
+    (Rest(NONE), Entries(0), 4),
+];
+
+#[test]
+fn the_rest_of_a_chain_a_ring_and_nothing(rt: HostRuntime) {
+    follow(&rt, rt.alloc(), RESTS).expect(&rt, "their answers");
+}
+
+const REFUSED: &[Row] = &[
+    (InsertBefore(NONE, 5), Refused(NoEntry), 4),
+    (InsertAfter(NONE, 5), Refused(NoEntry), 4),
+    (PushBack(NONE, 5), Refused(NoEntry), 4),
+    (Write(NONE, 5), Is(false), 4),
+    (Remove(NONE), Refused(NoEntry), 4),
+    (RemoveChain(NONE), Refused(NoEntry), 4),
+    (CutBefore(NONE), Refused(NoEntry), 4),
+    (CutAfter(NONE), Refused(NoEntry), 4),
+    (Join(FOUR, NONE), Refused(NoEntry), 4),
+    (Join(NONE, ONE), Refused(NoEntry), 4),
+    (Join(THREE, ONE), Refused(Taken), 4),
+    (Join(FOUR, TWO), Refused(Taken), 4),
+    (Onwards(ONE), Four([1, 2, 3, 4]), 4),
+    (Backwards(FOUR), Four([4, 3, 2, 1]), 4),
+];
+
+#[test]
+fn calls_that_are_refused_change_nothing(rt: HostRuntime) {
+    follow(&rt, rt.alloc(), REFUSED).expect(&rt, "their answers");
+}
+
+// Three pins on one net and one on another are wired, renamed and taken off.
+const WIRED: &[sets::Row] = &[
+    (Call::Insert(1, 10), Told::Done, 1, 1),
+    (Call::InsertKey(0, 2), Told::Done, 2, 1),
+    (Call::Insert(3, 30), Told::Done, 3, 2),
+    (Call::ReplaceVal(1, 20), Told::Val(10), 3, 2),
+    (Call::Wire(2, 0), Told::Is(true), 3, 1),
+    (Call::Wire(2, 1), Told::Is(false), 3, 1),
+    (Call::Net(2, 0), Told::OnNet(Some(20), Some(3), true), 3, 1),
+    (Call::Write(2, 40), Told::Is(true), 3, 1),
+    (Call::Net(0, 2), Told::OnNet(Some(40), Some(3), true), 3, 1),
+    (Call::KeySet(1), Told::Keys(3), 3, 1),
+    (Call::RemoveKey(0), Told::Gone(1, None), 2, 1),
+    (Call::Contains(0), Told::Is(false), 2, 1),
+    (Call::Contains(1), Told::Is(true), 2, 1),
+    (Call::Compress, Told::Done, 2, 1),
+    (Call::GetKey(2), Told::Key(Some(3)), 2, 1),
+    (Call::Remove(2), Told::Val(40), 0, 0),
+];
+
+#[test]
+fn each_call_of_sets(rt: HostRuntime) {
+    sets::follow(&rt, rt.alloc(), WIRED).expect(&rt, "their answers");
 }

@@ -6,6 +6,7 @@ mod audit;
 mod begun_sessions;
 mod compactions;
 mod named_entries;
+mod new_sessions;
 mod raises;
 mod rows;
 mod whole_program;

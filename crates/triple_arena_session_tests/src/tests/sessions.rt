@@ -2,12 +2,10 @@
 //! no clause states.
 
 mod begun_sessions;
-mod commands;
+mod counters;
 mod devices;
+mod kinds;
 mod large_sizes;
 mod program;
 mod runs;
-mod sessions;
-mod steps;
-mod strict_sessions;
 mod texts;

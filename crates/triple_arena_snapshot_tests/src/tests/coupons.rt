@@ -5,7 +5,7 @@ use std::alloc::Global;
 use std::io::ErrorKind;
 use std::process::Abort;
 use std::test::*;
-use triple_arena::{Arena, ArenaInsertTrait, ArenaTrait, NonZeroInxGenericStack, NonZeroInxVec};
+use triple_arena::{Arena, NonZeroInxGenericStack, NonZeroInxVec};
 use triple_arena_direct::{StrictArena, StrictError, load_strict_arena};
 use triple_arena_ptr::{P3, Ptr};
 use triple_arena_snapshot::{Fault, LoadError, SaveError, save_arena};
@@ -61,7 +61,7 @@ fn coupons_whose_file_is_refused_come_back(rt: HostRuntime) {
 
 // An entry that was inserted before the counter was set back.
 fn set_back(rt: &impl Abort, alloc: Global) -> Arena<P3, u8> {
-    let mut arena: Arena<P3, u8> = Arena::new(alloc);
+    let mut arena: Arena<P3, u8> = Arena::on_heap(alloc);
     arena.set_generation(pointer::<P3>(1, 5).generation());
     arena.insert(1).expect(rt, "memory");
     arena.set_generation(pointer::<P3>(1, 4).generation());

@@ -33,37 +33,31 @@ type Slot = ArenaSlot<P3, u8>;
 
 type Direct = DirectSlot<P3, u8>;
 
-// What a save writes of the arena that is loaded over this stack.
+// What a save writes of the arena that is loaded over this stack, or of the strict arena, whose file is that of the arena
+// inside.
 fn arena_again<S: NonZeroInxGenericStack<Slot> + Drop>(
     stack: S,
     alloc: Global,
+    is_strict: bool,
 ) -> Result<Vec<u8>, LoadError>
     requires { S.items stack ≡ [] }
 {
-    let arena = load_arena(stack, alloc, &mut ARENA.as_slice())?;
     let mut written = Vec::new(alloc);
-    match save_arena(&arena, alloc, &mut written) {
-        Ok(()) => Ok(written),
-        Err(_) => Err(LoadError::Memory),
+    let is_saved = if is_strict {
+        let strict = load_strict_arena(stack, alloc, &mut ARENA.as_slice())?;
+        save_strict_arena(strict, alloc, &mut written).is_ok()
+    } else {
+        let arena = load_arena(stack, alloc, &mut ARENA.as_slice())?;
+        save_arena(&arena, alloc, &mut written).is_ok()
+    };
+    if is_saved {
+        Ok(written)
+    } else {
+        Err(LoadError::Memory)
     }
 }
 
-// The same of a strict arena, whose file is that of the arena inside.
-fn strict_arena_again<S: NonZeroInxGenericStack<Slot> + Drop>(
-    stack: S,
-    alloc: Global,
-) -> Result<Vec<u8>, LoadError>
-    requires { S.items stack ≡ [] }
-{
-    let strict = load_strict_arena(stack, alloc, &mut ARENA.as_slice())?;
-    let mut written = Vec::new(alloc);
-    match save_strict_arena(strict, alloc, &mut written) {
-        Ok(_arena) => Ok(written),
-        Err(_) => Err(LoadError::Memory),
-    }
-}
-
-// The same of the direct arena.
+// So of the direct arena.
 fn direct_arena_again<S: NonZeroInxGenericStack<Direct> + Drop>(
     stack: S,
     alloc: Global,
@@ -84,38 +78,30 @@ fn is_file(rt: &impl Abort, written: Result<Vec<u8>, LoadError>, file: &[u8]) {
     is(written.as_slice() == file, true).expect(rt, "the file of what was loaded");
 }
 
-#[test]
-fn an_arena_is_loaded_over_each_stack(rt: HostRuntime) {
-    let alloc = rt.alloc();
+// That an arena is loaded over each stack, or a strict one.
+fn is_loaded_over_each_stack(rt: &impl Abort, alloc: Global, is_strict: bool) {
     let on_heap: NonZeroInxVec<Slot> = NonZeroInxVec::new(alloc);
-    is_file(&rt, arena_again(on_heap, alloc), &ARENA);
+    is_file(rt, arena_again(on_heap, alloc, is_strict), &ARENA);
     let limited: NonZeroInxLimitedVec<Slot> = NonZeroInxLimitedVec::with_min_capacity(
         alloc, 3,
-    ).expect(&rt, "memory");
-    is_file(&rt, arena_again(limited, alloc), &ARENA);
+    ).expect(rt, "memory");
+    is_file(rt, arena_again(limited, alloc, is_strict), &ARENA);
     let boxed: NonZeroInxBoxedSlice<Slot> = NonZeroInxBoxedSlice::with_min_capacity(
         alloc, 3,
-    ).expect(&rt, "memory");
-    is_file(&rt, arena_again(boxed, alloc), &ARENA);
+    ).expect(rt, "memory");
+    is_file(rt, arena_again(boxed, alloc, is_strict), &ARENA);
     let array: NonZeroInxArray<Slot, 3> = NonZeroInxArray::new(alloc);
-    is_file(&rt, arena_again(array, alloc), &ARENA);
+    is_file(rt, arena_again(array, alloc, is_strict), &ARENA);
+}
+
+#[test]
+fn an_arena_is_loaded_over_each_stack(rt: HostRuntime) {
+    is_loaded_over_each_stack(&rt, rt.alloc(), false);
 }
 
 #[test]
 fn a_strict_arena_is_loaded_over_each_stack(rt: HostRuntime) {
-    let alloc = rt.alloc();
-    let on_heap: NonZeroInxVec<Slot> = NonZeroInxVec::new(alloc);
-    is_file(&rt, strict_arena_again(on_heap, alloc), &ARENA);
-    let limited: NonZeroInxLimitedVec<Slot> = NonZeroInxLimitedVec::with_min_capacity(
-        alloc, 3,
-    ).expect(&rt, "memory");
-    is_file(&rt, strict_arena_again(limited, alloc), &ARENA);
-    let boxed: NonZeroInxBoxedSlice<Slot> = NonZeroInxBoxedSlice::with_min_capacity(
-        alloc, 3,
-    ).expect(&rt, "memory");
-    is_file(&rt, strict_arena_again(boxed, alloc), &ARENA);
-    let array: NonZeroInxArray<Slot, 3> = NonZeroInxArray::new(alloc);
-    is_file(&rt, strict_arena_again(array, alloc), &ARENA);
+    is_loaded_over_each_stack(&rt, rt.alloc(), true);
 }
 
 #[test]

@@ -1,8 +1,7 @@
 //! Set points that are saved on the heap, and loaded over an array.
 
 use std::test::*;
-use triple_arena::prelude::*;
-use triple_arena::{Arena, P0};
+use triple_arena::{Arena, ArenaInsertTrait, ArenaTrait, P0};
 use triple_arena_snapshot::{Fault, LoadError, to_file_bytes};
 use triple_arena_snapshot_uses::{PLACES, load_set_points};
 use triple_arena_test_kit::is;
@@ -10,7 +9,7 @@ use triple_arena_test_kit::is;
 #[test]
 fn set_points_are_loaded_over_an_array(rt: HostRuntime) {
     let alloc = rt.alloc();
-    let mut edited: Arena<P0, u64> = Arena::new(alloc);
+    let mut edited: Arena<P0, u64> = Arena::on_heap(alloc);
     let low = edited.insert(180).expect(&rt, "memory");
     let gone = edited.insert(200).expect(&rt, "memory");
     let high = edited.insert(240).expect(&rt, "memory");

@@ -5,8 +5,9 @@ ghost use Rattle.std.specs.Prelude.{◌≡◌, []};
 use std::alloc::Global;
 use std::process::Abort;
 use std::test::*;
-use triple_arena::prelude::*;
-use triple_arena::{Arena, ArenaSlot, NonZeroInxGenericStack, NonZeroInxVec, P0};
+use triple_arena::{
+    Arena, ArenaDirectInsertTrait, ArenaSlot, ArenaTrait, NonZeroInxGenericStack, NonZeroInxVec, P0,
+};
 use triple_arena_direct::{load_strict_arena, save_strict_arena};
 use triple_arena_direct_arena::{DirectArena, DirectSlot};
 use triple_arena_snapshot::{
@@ -27,7 +28,7 @@ fn slots(alloc: Global) -> NonZeroInxVec<ArenaSlot<P0, u64>>
 
 // An arena of so many entries, of which every second one was removed, and their pointers.
 fn thinned(rt: &impl Abort, alloc: Global) -> (Arena<P0, u64>, Vec<P0>) {
-    let mut arena: Arena<P0, u64> = Arena::new(alloc);
+    let mut arena: Arena<P0, u64> = Arena::on_heap(alloc);
     let mut given = Vec::new(alloc);
     for i in 0..ENTRIES {
         let p = arena.insert(i).expect(rt, "memory");

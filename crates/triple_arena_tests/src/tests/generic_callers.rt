@@ -4,7 +4,6 @@ ghost use Rattle.std.specs.Prelude.{◌≡◌, ◌≢◌, ℕ, None, Some, OnOk,
 ghost use Rattle.triple_arena_traits.specs.Entries.{look_up};
 
 use std::mem;
-use std::process::Abort;
 use triple_arena::{Arena, ArenaInsertTrait, ArenaTrait};
 use triple_arena_base::{InvalidationResult, ReallocationError};
 use triple_arena_ptr::{P0, Ptr};
@@ -45,21 +44,16 @@ fn take<P: Ptr, T, A: ArenaTrait<P, T>>(arena: &mut A, p: P) -> InvalidationResu
     arena.remove(p)
 }
 
-// Each of these calls on a new arena.
-fn is_called<A: ArenaInsertTrait<P0, u64>>(rt: &impl Abort, arena: &mut A) {
-    let first = put(arena, 10).expect(rt, "memory");
-    let second = put(arena, 20).expect(rt, "memory");
-    is(exchange(arena, first, 11), Ok(10)).expect(rt, "the value before");
-    is(take(arena, first), InvalidationResult::Success(11)).expect(rt, "the value taken");
-    is(exchange(arena, first, 12), Err(12)).expect(rt, "the refusal");
-    is(arena.get(second).copied(), Some(20)).expect(rt, "the other value");
-    is(arena.make_place(), Ok(())).expect(rt, "a place");
-    let third = arena.try_insert(30).expect(rt, "memory");
-    is(arena.get(third).copied(), Some(30)).expect(rt, "the third value");
-}
-
 #[test]
 fn callers_over_any_arena(rt: HostRuntime) {
-    let mut arena: Arena<P0, u64> = Arena::new(rt.alloc());
-    is_called(&rt, &mut arena);
+    let mut arena: Arena<P0, u64> = Arena::on_heap(rt.alloc());
+    let first = put(&mut arena, 10).expect(&rt, "memory");
+    let second = put(&mut arena, 20).expect(&rt, "memory");
+    is(exchange(&mut arena, first, 11), Ok(10)).expect(&rt, "the value before");
+    is(take(&mut arena, first), InvalidationResult::Success(11)).expect(&rt, "the value taken");
+    is(exchange(&mut arena, first, 12), Err(12)).expect(&rt, "the refusal");
+    is(arena.get(second).copied(), Some(20)).expect(&rt, "the other value");
+    is(arena.make_place(), Ok(())).expect(&rt, "a place");
+    let third = arena.try_insert(30).expect(&rt, "memory");
+    is(arena.get(third).copied(), Some(30)).expect(&rt, "the third value");
 }

@@ -1,22 +1,15 @@
 //! Arenas on each type of pointers, and values that hold pointers of two.
 
+use crate::tests::arenas::has_text;
 use std::alloc::Global;
-use std::fmt::Debug;
 use std::process::Abort;
-use triple_arena::{Arena, ArenaCloneFromWith, ArenaInsertTrait, ArenaTrait, CompactArenaTrait};
+use triple_arena::Arena;
 use triple_arena_ptr::{P0, P1, P2, P3, P4, P5, Ptr, PtrNoGen, Q2};
-use triple_arena_test_kit::{B, Narrow, Wide, is, is_shown};
+use triple_arena_test_kit::{B, Narrow, Wide, is};
 
-// A few calls of an arena on the heap, and its text then.
-fn is_used<
-    P: Ptr,
-    A: ArenaInsertTrait<P, u64>
-        + ArenaCloneFromWith<P, u64>
-        + CompactArenaTrait<P, u64>
-        + Debug
-        + Drop,
->(rt: &impl Abort, alloc: Global, text: &str) {
-    let mut arena = A::new(alloc);
+// A few calls of an arena on pointers of a type, and its text then.
+fn serves<P: Ptr>(rt: &impl Abort, alloc: Global, text: &str) {
+    let mut arena: Arena<P, u64> = Arena::on_heap(alloc);
     let first = arena.insert(1).expect(rt, "memory");
     let second = arena.insert(2).expect(rt, "memory");
     is(arena.remove(first).is_success(), true).expect(rt, "whether the first is removed");
@@ -25,17 +18,12 @@ fn is_used<
     arena.reallocate_min_capacity(9).expect(rt, "memory");
     is(arena.len(), 2).expect(rt, "the length");
     is(arena.capacity(), 9).expect(rt, "the capacity");
-    is_shown(alloc, &arena, text).expect(rt, "the arena");
+    has_text(alloc, &arena, text).expect(rt, "the arena");
     let mut copy = arena.clone(alloc).expect(rt, "memory");
     drop(copy.compress(true));
     is(copy.len(), 2).expect(rt, "the length of the clone");
     is(copy.contains(second), true).expect(rt, "whether the clone has the second");
     is(copy.clear().is_success(), true).expect(rt, "whether the clone is cleared");
-}
-
-// So of the arena on the heap on pointers of a type, which is named here for all of them.
-fn serves<P: Ptr>(rt: &impl Abort, alloc: Global, text: &str) {
-    is_used::<P, Arena<P, u64>>(rt, alloc, text);
 }
 
 #[test]
@@ -54,43 +42,24 @@ fn an_arena_on_each_type_of_pointers(rt: HostRuntime) {
     serves::<Wide>(&rt, alloc, "{PtrOf[1](3): 3, PtrOf[2](2): 2}");
 }
 
-// The pointer of the second of two texts.
-fn put_texts<A: ArenaInsertTrait<P0, &'static str>>(rt: &impl Abort, texts: &mut A) -> P0 {
-    texts.insert("test").expect(rt, "memory");
-    texts.insert("hello").expect(rt, "memory")
-}
-
-// Of two values the first holds the invalid pointer, and the second that of the first.
-fn put_pairs<A: ArenaInsertTrait<Q2, (P0, Q2)>>(rt: &impl Abort, pairs: &mut A, text: P0) {
-    let first = pairs.insert((text, Q2::invalid())).expect(rt, "memory");
-    pairs.insert((text, first)).expect(rt, "memory");
-}
-
-// Moves a value from an arena into one of another type.
-fn move_text<A: ArenaTrait<P0, &'static str>, B: ArenaInsertTrait<Q2, &'static str>>(
-    rt: &impl Abort,
-    texts: &mut A,
-    others: &mut B,
-    text: P0,
-) {
-    let taken = texts.remove(text).allow().expect(rt, "the text");
-    others.insert(taken).expect(rt, "memory");
-}
-
 #[test]
 fn a_value_holds_pointers_of_two_types(rt: HostRuntime) {
-    let mut texts: Arena<P0, &'static str> = Arena::new(rt.alloc());
-    let hello = put_texts(&rt, &mut texts);
-    let mut pairs: Arena<Q2, (P0, Q2)> = Arena::new(rt.alloc());
-    put_pairs(&rt, &mut pairs, hello);
-    is_shown(
-        rt.alloc(),
+    let alloc = rt.alloc();
+    let mut texts: Arena<P0, &'static str> = Arena::on_heap(alloc);
+    texts.insert("test").expect(&rt, "memory");
+    let hello = texts.insert("hello").expect(&rt, "memory");
+    let mut pairs: Arena<Q2, (P0, Q2)> = Arena::on_heap(alloc);
+    let first = pairs.insert((hello, Q2::invalid())).expect(&rt, "memory");
+    pairs.insert((hello, first)).expect(&rt, "memory");
+    has_text(
+        alloc,
         &pairs,
         "{Q2[1](2): (P0[2](2), Q2[ffffffffffffffff](1)), \
         Q2[2](2): (P0[2](2), Q2[1](2))}",
     )
     .expect(&rt, "the pairs");
-    let mut others: Arena<Q2, &'static str> = Arena::new(rt.alloc());
-    move_text(&rt, &mut texts, &mut others, hello);
-    is_shown(rt.alloc(), &others, r#"{Q2[1](2): "hello"}"#).expect(&rt, "the others");
+    let mut others: Arena<Q2, &'static str> = Arena::on_heap(alloc);
+    let taken = texts.remove(hello).allow().expect(&rt, "the text");
+    others.insert(taken).expect(&rt, "memory");
+    has_text(alloc, &others, r#"{Q2[1](2): "hello"}"#).expect(&rt, "the others");
 }

@@ -1,5 +1,6 @@
 //! The text of an arena.
 
+use crate::tests::arenas::has_text;
 use std::alloc::Global;
 use std::fmt;
 use std::fmt::{Debug, Write};
@@ -12,9 +13,12 @@ use triple_arena_stack::{
 };
 use triple_arena_test_kit::{Narrow, is, is_shown};
 
-// An arena with room for three: of three values the second goes, and the third gets a new pointer.
-fn two_left<P: Ptr, A: ArenaInsertTrait<P, u64> + Drop>(rt: &impl Abort, alloc: Global) -> A {
-    let mut arena = A::with_min_capacity(alloc, 3).expect(rt, "memory");
+// An arena over a stack with room for three: of three values the second goes, and the third gets a new pointer.
+fn two_left<P: Ptr, S: NonZeroInxGenericStack<ArenaSlot<P, u64>> + Drop>(
+    rt: &impl Abort,
+    alloc: Global,
+) -> Arena<P, u64, S> {
+    let mut arena: Arena<P, u64, S> = Arena::with_min_capacity(alloc, 3).expect(rt, "memory");
     arena.insert(7).expect(rt, "memory");
     let second = arena.insert(6).expect(rt, "memory");
     let third = arena.insert(8).expect(rt, "memory");
@@ -24,22 +28,13 @@ fn two_left<P: Ptr, A: ArenaInsertTrait<P, u64> + Drop>(rt: &impl Abort, alloc: 
 }
 
 // The text of such an arena.
-fn stands_by_index<P: Ptr, A: ArenaInsertTrait<P, u64> + Debug + Drop>(
+fn stands_by_index<P: Ptr, S: NonZeroInxGenericStack<ArenaSlot<P, u64>> + Drop>(
     rt: &impl Abort,
     alloc: Global,
     text: &str,
 ) {
-    let arena: A = two_left(rt, alloc);
+    let arena = two_left::<P, S>(rt, alloc);
     is_shown(alloc, &arena, text).expect(rt, "the arena");
-}
-
-// So over a stack, which alone a test names.
-fn stands_over<P: Ptr, S: NonZeroInxGenericStack<ArenaSlot<P, u64>> + Drop>(
-    rt: &impl Abort,
-    alloc: Global,
-    text: &str,
-) {
-    stands_by_index::<P, Arena<P, u64, S>>(rt, alloc, text);
 }
 
 type OnHeap<P> = NonZeroInxVec<ArenaSlot<P, u64>>;
@@ -53,42 +48,25 @@ type InArray<P> = NonZeroInxArray<ArenaSlot<P, u64>, 3>;
 #[test]
 fn entries_stand_by_index_over_each_stack(rt: HostRuntime) {
     let alloc = rt.alloc();
-    stands_over::<P0, OnHeap<P0>>(&rt, alloc, "{P0[1](2): 7, P0[3](4): 8}");
-    stands_over::<Q2, UpToLimit<Q2>>(&rt, alloc, "{Q2[1](2): 7, Q2[3](4): 8}");
-    stands_over::<P4, Fixed<P4>>(&rt, alloc, "{P4[1]: 7, P4[3]: 8}");
-    stands_over::<Narrow, InArray<Narrow>>(&rt, alloc, "{PtrOf[1](2): 7, PtrOf[3](4): 8}");
-}
-
-// A new arena of texts, and one of two.
-fn texts_are_shown<A: ArenaInsertTrait<P0, &'static str> + Debug>(
-    rt: &impl Abort,
-    alloc: Global,
-    texts: &mut A,
-) {
-    is_shown(alloc, texts, "{}").expect(rt, "the arena without entries");
-    texts.insert("test").expect(rt, "memory");
-    texts.insert("hello").expect(rt, "memory");
-    is_shown(alloc, texts, r#"{P0[1](2): "test", P0[2](2): "hello"}"#).expect(rt, "the texts");
-}
-
-// One of values that hold pointers.
-fn links_are_shown<A: ArenaInsertTrait<P0, (u64, Option<P0>)> + Debug>(
-    rt: &impl Abort,
-    alloc: Global,
-    links: &mut A,
-) {
-    let first = links.insert((42, None)).expect(rt, "memory");
-    links.insert((1337, Some(first))).expect(rt, "memory");
-    let text = "{P0[1](2): (42, None), P0[2](2): (1337, Some(P0[1](2)))}";
-    is_shown(alloc, links, text).expect(rt, "the links");
+    stands_by_index::<P0, OnHeap<P0>>(&rt, alloc, "{P0[1](2): 7, P0[3](4): 8}");
+    stands_by_index::<Q2, UpToLimit<Q2>>(&rt, alloc, "{Q2[1](2): 7, Q2[3](4): 8}");
+    stands_by_index::<P4, Fixed<P4>>(&rt, alloc, "{P4[1]: 7, P4[3]: 8}");
+    stands_by_index::<Narrow, InArray<Narrow>>(&rt, alloc, "{PtrOf[1](2): 7, PtrOf[3](4): 8}");
 }
 
 #[test]
 fn a_value_has_its_own_text(rt: HostRuntime) {
-    let mut texts: Arena<P0, &'static str> = Arena::new(rt.alloc());
-    texts_are_shown(&rt, rt.alloc(), &mut texts);
-    let mut links: Arena<P0, (u64, Option<P0>)> = Arena::new(rt.alloc());
-    links_are_shown(&rt, rt.alloc(), &mut links);
+    let alloc = rt.alloc();
+    let mut texts: Arena<P0, &'static str> = Arena::on_heap(alloc);
+    has_text(alloc, &texts, "{}").expect(&rt, "the arena without entries");
+    texts.insert("test").expect(&rt, "memory");
+    texts.insert("hello").expect(&rt, "memory");
+    has_text(alloc, &texts, r#"{P0[1](2): "test", P0[2](2): "hello"}"#).expect(&rt, "the texts");
+    let mut links: Arena<P0, (u64, Option<P0>)> = Arena::on_heap(alloc);
+    let first = links.insert((42, None)).expect(&rt, "memory");
+    links.insert((1337, Some(first))).expect(&rt, "memory");
+    let text = "{P0[1](2): (42, None), P0[2](2): (1337, Some(P0[1](2)))}";
+    has_text(alloc, &links, text).expect(&rt, "the links");
 }
 
 // Takes so many bytes of a text, and refuses each piece that is longer than what is left of them.
@@ -136,6 +114,6 @@ fn is_asked_no_more<A: Debug>(rt: &impl Abort, arena: &A, text: &str) {
 
 #[test]
 fn a_writer_that_fails_is_asked_no_more(rt: HostRuntime) {
-    let arena: Arena<P0, u64> = two_left(&rt, rt.alloc());
+    let arena = two_left::<P0, OnHeap<P0>>(&rt, rt.alloc());
     is_asked_no_more(&rt, &arena, "{P0[1](2): 7, P0[3](4): 8}");
 }

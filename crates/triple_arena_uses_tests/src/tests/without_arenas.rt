@@ -2,7 +2,7 @@
 
 mod beside;
 mod counting_stack;
-pub mod insertions;
 mod small_ptr;
 mod undo;
+pub mod values;
 mod walks;

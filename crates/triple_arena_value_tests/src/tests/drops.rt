@@ -2,9 +2,8 @@
 
 ghost use Rattle.std.specs.Prelude.{◌≡◌, ⊤};
 
-use crate::tests::direct_calls::DirectCalls;
-use crate::tests::entries::WithEntries;
-use crate::tests::transfers::TakesOver;
+use crate::tests::direct_calls::{is_entered, is_placed};
+use crate::tests::entries::{enter, pointer_of_entry};
 use std::alloc::{AllocError, Global};
 use std::cell::Cell;
 use std::marker::Model;
@@ -121,11 +120,10 @@ fn each_ending<A: CompactArenaTrait<P0, Value>>(rt: &impl Abort, arena: &mut A, 
     is(live.get(), 0).expect(rt, "the count");
 }
 
-// Each insertion into a new arena of four places, the endings, and values that are cleared and dropped.
-fn each_drop<
-    A: ArenaInsertTrait<P0, Value> + CompactArenaTrait<P0, Value> + WithEntries<P0, Value> + Drop,
->(rt: &impl Abort, alloc: Global, live: &Live) {
-    let mut arena = A::with_min_capacity(alloc, 4).expect(rt, "memory");
+// Each insertion into a new arena of four places over a stack, the endings, and values that are cleared and
+// dropped.
+fn each_drop<S: NonZeroInxGenericStack<Slot> + Drop>(rt: &impl Abort, alloc: Global, live: &Live) {
+    let mut arena: OverStack<S> = Arena::with_min_capacity(alloc, 4).expect(rt, "memory");
     arena.insert(new_value(live)).expect(rt, "a place");
     arena
         .insert_reallocating(new_value(live))
@@ -133,10 +131,8 @@ fn each_drop<
     arena
         .insert_within_capacity(new_value(live))
         .expect(rt, "a place");
-    arena.entry_pointer().expect(rt, "a place");
-    arena
-        .enter(new_value(live), new_value(live))
-        .expect(rt, "a place");
+    pointer_of_entry(&mut arena).expect(rt, "a place");
+    enter(&mut arena, new_value(live), new_value(live)).expect(rt, "a place");
     // a value that the capacity refuses
     let refused = arena.insert_within_capacity(new_value(live));
     is(refused.is_err(), true).expect(rt, "the refusal");
@@ -149,45 +145,37 @@ fn each_drop<
     is(live.get(), 0).expect(rt, "the count");
 }
 
-// So over a stack, which alone a test names.
-fn each_drop_over<S: NonZeroInxGenericStack<Slot> + Drop>(
-    rt: &impl Abort,
-    alloc: Global,
-    live: &Live,
-) {
-    each_drop::<OverStack<S>>(rt, alloc, live);
-}
-
 #[test]
 fn each_value_of_an_arena_is_dropped_once(rt: HostRuntime) {
     let (alloc, live) = (rt.alloc(), no_values(&rt, rt.alloc()));
-    each_drop_over::<NonZeroInxVec<Slot>>(&rt, alloc, &live);
-    each_drop_over::<NonZeroInxLimitedVec<Slot>>(&rt, alloc, &live);
-    each_drop_over::<NonZeroInxBoxedSlice<Slot>>(&rt, alloc, &live);
-    each_drop_over::<NonZeroInxArray<Slot, 4>>(&rt, alloc, &live);
+    each_drop::<NonZeroInxVec<Slot>>(&rt, alloc, &live);
+    each_drop::<NonZeroInxLimitedVec<Slot>>(&rt, alloc, &live);
+    each_drop::<NonZeroInxBoxedSlice<Slot>>(&rt, alloc, &live);
+    each_drop::<NonZeroInxArray<Slot, 4>>(&rt, alloc, &live);
 }
 
-// Each insertion into a full arena that has no way to grow.
-fn is_refused_growth<A: ArenaInsertTrait<P0, Value>>(rt: &impl Abort, arena: &mut A, live: &Live) {
-    is(arena.insert(new_value(live)).is_err(), true).expect(rt, "the refusal");
-    is(live.get(), 0).expect(rt, "the count");
-    is(arena.insert_reallocating(new_value(live)).is_err(), true).expect(rt, "the refusal");
-    is(live.get(), 0).expect(rt, "the count");
-    let given_back = arena.try_insert(new_value(live));
-    is(live.get(), 1).expect(rt, "the count with the value that came back");
-    drop(given_back);
-    is(live.get(), 0).expect(rt, "the count");
-}
-
+// An arena that has no way to grow refuses each insertion.
 #[test]
 fn a_value_that_growth_refuses_is_dropped_once(rt: HostRuntime) {
     let live = no_values(&rt, rt.alloc());
     let mut arena: OverStack<NonZeroInxLimitedVec<Slot>> = Arena::new(rt.alloc());
-    is_refused_growth(&rt, &mut arena, &live);
+    is(arena.insert(new_value(&live)).is_err(), true).expect(&rt, "the refusal");
+    is(live.get(), 0).expect(&rt, "the count");
+    is(arena.insert_reallocating(new_value(&live)).is_err(), true).expect(&rt, "the refusal");
+    is(live.get(), 0).expect(&rt, "the count");
+    let given_back = arena.try_insert(new_value(&live));
+    is(live.get(), 1).expect(&rt, "the count with the value that came back");
+    drop(given_back);
+    is(live.get(), 0).expect(&rt, "the count");
 }
 
+// A direct arena over a stack.
+type Direct<S> = DirectArena<P0, Value, S>;
+
+type InDirect = DirectSlot<P0, Value>;
+
 // Inserts under a pointer, if there is a place: whether there was.
-fn is_put<T: Drop, A: ArenaDirectInsertTrait<P0, T>>(arena: &mut A, p: P0, value: T) -> bool {
+fn is_put<S: NonZeroInxGenericStack<InDirect>>(arena: &mut Direct<S>, p: P0, value: Value) -> bool {
     if !arena.can_direct_insert(p) {
         return false;
     }
@@ -195,56 +183,42 @@ fn is_put<T: Drop, A: ArenaDirectInsertTrait<P0, T>>(arena: &mut A, p: P0, value
     true
 }
 
-// Each insertion into a new direct arena of four places.
-fn each_direct_insertion<A: ArenaDirectInsertTrait<P0, Value> + DirectCalls<P0, Value>>(
-    rt: &impl Abort,
-    arena: &mut A,
-    live: &Live,
-) {
-    let (first, second) = (new_value(live), Some(new_value(live)));
-    is(arena.is_placed(pointer(4, 2), new_value(live), None), true).expect(rt, "the fourth place");
-    is(arena.is_placed(pointer(1, 2), first, second), true).expect(rt, "the first place");
-    is(arena.is_entered(pointer(2, 2)), true).expect(rt, "an entry");
-    is(is_put(arena, pointer(2, 2), new_value(live)), true).expect(rt, "the second place");
-    is(is_put(arena, pointer(3, 2), new_value(live)), true).expect(rt, "the third place");
-}
-
-// Those insertions, the endings, and values that are cleared and dropped.
-fn each_direct_drop<
-    A: ArenaDirectInsertTrait<P0, Value>
-        + CompactArenaTrait<P0, Value>
-        + DirectCalls<P0, Value>
-        + Drop,
->(rt: &impl Abort, alloc: Global, live: &Live) {
-    let mut arena = A::with_min_capacity(alloc, 4).expect(rt, "memory");
-    each_direct_insertion(rt, &mut arena, live);
-    each_ending(rt, &mut arena, live);
-    is(arena.is_placed(pointer(4, 2), new_value(live), None), true).expect(rt, "the fourth place");
-    is(arena.is_placed(pointer(2, 2), new_value(live), None), true).expect(rt, "the second place");
-    drop(arena.remove(pointer(4, 2)));
-    is(arena.pop_free(2), 2).expect(rt, "how many free slots are at the end");
-    is(live.get(), 1).expect(rt, "the count");
-    drop(arena.clear());
-    is(live.get(), 0).expect(rt, "the count");
-    is(arena.is_placed(pointer(3, 2), new_value(live), None), true).expect(rt, "the third place");
-    drop(arena);
-    is(live.get(), 0).expect(rt, "the count");
-}
-
-// So over a stack, which alone a test names.
-fn each_direct_drop_over<S: NonZeroInxGenericStack<DirectSlot<P0, Value>> + Drop>(
+// Each insertion into a new direct arena of four places over a stack, the endings, and values that are cleared
+// and dropped.
+fn each_direct_drop<S: NonZeroInxGenericStack<InDirect> + Drop>(
     rt: &impl Abort,
     alloc: Global,
     live: &Live,
 ) {
-    each_direct_drop::<DirectArena<P0, Value, S>>(rt, alloc, live);
+    let mut arena: Direct<S> = DirectArena::with_min_capacity(alloc, 4).expect(rt, "memory");
+    let is_fourth = is_placed(&mut arena, pointer(4, 2), new_value(live), None);
+    is(is_fourth, true).expect(rt, "the fourth place");
+    let (first, second) = (new_value(live), Some(new_value(live)));
+    is(is_placed(&mut arena, pointer(1, 2), first, second), true).expect(rt, "the first place");
+    is(is_entered(&mut arena, pointer(2, 2)), true).expect(rt, "an entry");
+    is(is_put(&mut arena, pointer(2, 2), new_value(live)), true).expect(rt, "the second place");
+    is(is_put(&mut arena, pointer(3, 2), new_value(live)), true).expect(rt, "the third place");
+    each_ending(rt, &mut arena, live);
+    let is_fourth = is_placed(&mut arena, pointer(4, 2), new_value(live), None);
+    is(is_fourth, true).expect(rt, "the fourth place");
+    let is_second = is_placed(&mut arena, pointer(2, 2), new_value(live), None);
+    is(is_second, true).expect(rt, "the second place");
+    drop(arena.remove(pointer(4, 2)));
+    is(arena.pop_free_end_slots(2), 2).expect(rt, "how many free slots are at the end");
+    is(live.get(), 1).expect(rt, "the count");
+    drop(arena.clear());
+    is(live.get(), 0).expect(rt, "the count");
+    let is_third = is_placed(&mut arena, pointer(3, 2), new_value(live), None);
+    is(is_third, true).expect(rt, "the third place");
+    drop(arena);
+    is(live.get(), 0).expect(rt, "the count");
 }
 
 #[test]
 fn each_value_of_a_direct_arena_is_dropped_once(rt: HostRuntime) {
     let (alloc, live) = (rt.alloc(), no_values(&rt, rt.alloc()));
-    each_direct_drop_over::<NonZeroInxVec<DirectSlot<P0, Value>>>(&rt, alloc, &live);
-    each_direct_drop_over::<NonZeroInxArray<DirectSlot<P0, Value>, 4>>(&rt, alloc, &live);
+    each_direct_drop::<NonZeroInxVec<InDirect>>(&rt, alloc, &live);
+    each_direct_drop::<NonZeroInxArray<InDirect, 4>>(&rt, alloc, &live);
 }
 
 // Clones by a closure that refuses the second value: whether none was refused. It is of any values: a
@@ -287,59 +261,30 @@ fn each_clone<A: ArenaCloneFromWith<P0, Value> + CompactArenaTrait<P0, Value> + 
     is(live.get(), 3).expect(rt, "the count");
 }
 
-// Inserts so many values.
-fn put_values<A: ArenaInsertTrait<P0, Value>>(
-    rt: &impl Abort,
-    arena: &mut A,
-    live: &Live,
-    count: u64,
-) {
-    for _ in 0..count {
-        arena.insert(new_value(live)).expect(rt, "memory");
-    }
-}
-
-// Clones of two values, and these go over to the target.
-fn each_copy<
-    A: ArenaInsertTrait<P0, Value>
-        + ArenaCloneFromWith<P0, Value>
-        + CompactArenaTrait<P0, Value>
-        + TakesOver<P0, P0, A>
-        + Drop,
->(rt: &impl Abort, alloc: Global, source: &mut A, target: &mut A, live: &Live) {
-    put_values(rt, source, live, 2);
-    put_values(rt, target, live, 1);
-    each_clone(rt, alloc, source, target, live);
-    target
-        .take_over(<P0 as Ptr>::Gen::two(), source)
-        .expect(rt, "memory");
-    is(live.get(), 2).expect(rt, "the count");
-}
-
-// The values of an arena go over to a direct one, of which clones are made.
-fn each_direct_copy<
-    A: CompactArenaTrait<P0, Value>,
-    B: ArenaCloneFromWith<P0, Value>
-        + CompactArenaTrait<P0, Value>
-        + DirectCalls<P0, Value>
-        + TakesOver<P0, P0, A>
-        + Drop,
->(rt: &impl Abort, alloc: Global, source: &mut A, direct: &mut B, live: &Live) {
-    let mut other = B::with_min_capacity(alloc, 1).expect(rt, "memory");
-    is(other.is_placed(pointer(1, 2), new_value(live), None), true).expect(rt, "the place");
-    direct
-        .take_over(<P0 as Ptr>::Gen::two(), source)
-        .expect(rt, "memory");
-    is(live.get(), 3).expect(rt, "the count");
-    each_clone(rt, alloc, direct, &mut other, live);
-}
-
 #[test]
 fn a_value_that_is_copied_is_dropped_once(rt: HostRuntime) {
     let (alloc, live) = (rt.alloc(), no_values(&rt, rt.alloc()));
-    let mut source: Arena<P0, Value> = Arena::new(alloc);
-    let mut target: Arena<P0, Value> = Arena::new(alloc);
-    each_copy(&rt, alloc, &mut source, &mut target, &live);
+    let mut source: Arena<P0, Value> = Arena::on_heap(alloc);
+    source.insert(new_value(&live)).expect(&rt, "memory");
+    source.insert(new_value(&live)).expect(&rt, "memory");
+    let mut target: Arena<P0, Value> = Arena::on_heap(alloc);
+    target.insert(new_value(&live)).expect(&rt, "memory");
+    each_clone(&rt, alloc, &source, &mut target, &live);
+    // the values go over to the target, and then to a direct arena
+    let two = <P0 as Ptr>::Gen::two();
+    target
+        .transfer_reallocating(two, &mut source, |_old, taken, _new| taken.allow())
+        .expect(&rt, "memory");
+    is(live.get(), 2).expect(&rt, "the count");
+    let mut other: DirectArena<P0, Value> = DirectArena::with_min_capacity(alloc, 1).expect(
+        &rt, "memory",
+    );
+    let is_first = is_placed(&mut other, pointer(1, 2), new_value(&live), None);
+    is(is_first, true).expect(&rt, "the place");
     let mut direct: DirectArena<P0, Value> = DirectArena::new(alloc);
-    each_direct_copy(&rt, alloc, &mut target, &mut direct, &live);
+    direct
+        .transfer_reallocating(two, &mut target, |_old, taken, _new| taken.allow())
+        .expect(&rt, "memory");
+    is(live.get(), 3).expect(&rt, "the count");
+    each_clone(&rt, alloc, &direct, &mut other, &live);
 }

@@ -5,10 +5,10 @@ ghost use Rattle.triple_arena_base.specs.Held.{held_itself, refill_itself, held_
 ghost use Rattle.triple_arena_base.specs.laws.HeldLaws.{itself_held_refill, itself_refill_held, itself_refill_refill, option_held_refill, option_refill_held, option_refill_refill};
 
 use crate::tests::compaction::filled;
+use crate::tests::shown::{arena_is_shown, strict_is_shown};
 use std::alloc::Global;
-use std::fmt::Debug;
 use std::process::Abort;
-use triple_arena::{Arena, ArenaInsertTrait, CompactArenaTrait};
+use triple_arena::Arena;
 use triple_arena_base::{Recast, Recaster};
 use triple_arena_direct::{StrictArena, compress_recast_both};
 use triple_arena_ptr::{P0, Ptr, Q2};
@@ -75,71 +75,63 @@ fn at(cell: usize, net: usize) -> Ends {
     }
 }
 
-// Cells and nets under (2, 2) and (3, 2), behind gaps.
-fn follow<
-    A: ArenaInsertTrait<P0, Ends> + CompactArenaTrait<P0, Ends> + Debug + Drop,
-    B: ArenaInsertTrait<Q2, Ends> + CompactArenaTrait<Q2, Ends> + Debug + Drop,
->(rt: &impl Abort, alloc: Global) {
-    let linked = [at(0, 0), at(3, 2), at(0, 3)];
-    let mut cells: A = filled(alloc, &linked, &[1]).expect(rt, "memory for cells");
-    let linked = [at(0, 0), at(2, 3), at(3, 0)];
-    let mut nets: B = filled(alloc, &linked, &[1]).expect(rt, "memory for nets");
-    let answer = compress_recast_both(&mut cells, &mut nets, alloc, false);
-    let text = "Ok((Success({P0[2](2): P0[1](4), P0[3](2): P0[2](4)}), \
-        Success({Q2[2](2): Q2[1](4), Q2[3](2): Q2[2](4)})))";
-    is_shown(alloc, &answer, text).expect(rt, "the answer");
-    let text = "{P0[1](4): Ends { cell: Some(P0[2](4)), net: Some(Q2[1](4)) }, \
-        P0[2](4): Ends { cell: None, net: Some(Q2[2](4)) }}";
-    is_shown(alloc, &cells, text).expect(rt, "the cells");
-    let text = "{Q2[1](4): Ends { cell: Some(P0[1](4)), net: Some(Q2[2](4)) }, \
-        Q2[2](4): Ends { cell: Some(P0[2](4)), net: None }}";
-    is_shown(alloc, &nets, text).expect(rt, "the nets");
+// Cells and nets under (2, 2) and (3, 2), behind gaps, and what they are once they are compacted.
+const CELLS: &str = "{P0[1](4): Ends { cell: Some(P0[2](4)), net: Some(Q2[1](4)) }, \
+    P0[2](4): Ends { cell: None, net: Some(Q2[2](4)) }}";
+
+const NETS: &str = "{Q2[1](4): Ends { cell: Some(P0[1](4)), net: Some(Q2[2](4)) }, \
+    Q2[2](4): Ends { cell: Some(P0[2](4)), net: None }}";
+
+fn linked_cells() -> [Ends; 3] {
+    [at(0, 0), at(3, 2), at(0, 3)]
+}
+
+fn linked_nets() -> [Ends; 3] {
+    [at(0, 0), at(2, 3), at(3, 0)]
 }
 
 #[test]
 fn both_arenas_follow_each_other(rt: HostRuntime) {
-    follow::<Arena<P0, Ends>, Arena<Q2, Ends>>(&rt, rt.alloc());
+    let alloc = rt.alloc();
+    let mut cells: Arena<P0, Ends> = filled(alloc, &linked_cells(), &[1]).expect(
+        &rt,
+        "memory for cells",
+    );
+    let mut nets: Arena<Q2, Ends> = filled(alloc, &linked_nets(), &[1]).expect(
+        &rt,
+        "memory for nets",
+    );
+    let answer = compress_recast_both(&mut cells, &mut nets, alloc, false);
+    let text = "Ok((Success({P0[2](2): P0[1](4), P0[3](2): P0[2](4)}), \
+        Success({Q2[2](2): Q2[1](4), Q2[3](2): Q2[2](4)})))";
+    is_shown(alloc, &answer, text).expect(&rt, "the answer");
+    arena_is_shown(alloc, &cells, CELLS).expect(&rt, "the cells");
+    arena_is_shown(alloc, &nets, NETS).expect(&rt, "the nets");
 }
 
-/// Insertion and removal of a strict arena, without clauses.
-trait Strictly {
-    fn is_put(&mut self, ends: Ends) -> bool;
-
-    fn is_taken_at(&mut self, index: usize) -> bool;
-}
-
-impl<P: Ptr> Strictly for StrictArena<P, Ends> {
-    fn is_put(&mut self, ends: Ends) -> bool {
-        self.insert(ends).is_ok()
-    }
-
-    fn is_taken_at(&mut self, index: usize) -> bool {
-        self.remove_inx(inx(index)).is_ok()
-    }
-}
-
-// Three, of which the first goes.
-fn put_behind_a_gap<A: Strictly>(rt: &impl Abort, arena: &mut A, linked: &[Ends]) {
+// A strict arena of three, of which the first is gone.
+fn behind_a_gap<P: Ptr>(
+    rt: &impl Abort,
+    alloc: Global,
+    linked: &[Ends; 3],
+) -> StrictArena<P, Ends> {
+    let mut arena = StrictArena::new(alloc);
     for ends in linked {
-        is(arena.is_put(*ends), true).expect(rt, "memory");
+        is(arena.insert(*ends).is_ok(), true).expect(rt, "memory");
     }
-    is(arena.is_taken_at(1), true).expect(rt, "a removal");
+    is(arena.remove_inx(inx(1)).is_ok(), true).expect(rt, "a removal");
+    arena
 }
 
 #[test]
 fn strict_arenas_follow_each_other(rt: HostRuntime) {
-    let mut cells: StrictArena<P0, Ends> = StrictArena::new(rt.alloc());
-    put_behind_a_gap(&rt, &mut cells, &[at(0, 0), at(3, 2), at(0, 3)]);
-    let mut nets: StrictArena<Q2, Ends> = StrictArena::new(rt.alloc());
-    put_behind_a_gap(&rt, &mut nets, &[at(0, 0), at(2, 3), at(3, 0)]);
-    let answer = cells.compress_recast_both(&mut nets, rt.alloc());
+    let alloc = rt.alloc();
+    let mut cells: StrictArena<P0, Ends> = behind_a_gap(&rt, alloc, &linked_cells());
+    let mut nets: StrictArena<Q2, Ends> = behind_a_gap(&rt, alloc, &linked_nets());
+    let answer = cells.compress_recast_both(&mut nets, alloc);
     let text = "Ok(({P0[2](2): P0[1](4), P0[3](2): P0[2](4)}, \
         {Q2[2](2): Q2[1](4), Q2[3](2): Q2[2](4)}))";
-    is_shown(rt.alloc(), &answer, text).expect(&rt, "the answer");
-    let text = "{P0[1](4): Ends { cell: Some(P0[2](4)), net: Some(Q2[1](4)) }, \
-        P0[2](4): Ends { cell: None, net: Some(Q2[2](4)) }}";
-    is_shown(rt.alloc(), &cells, text).expect(&rt, "the cells");
-    let text = "{Q2[1](4): Ends { cell: Some(P0[1](4)), net: Some(Q2[2](4)) }, \
-        Q2[2](4): Ends { cell: Some(P0[2](4)), net: None }}";
-    is_shown(rt.alloc(), &nets, text).expect(&rt, "the nets");
+    is_shown(alloc, &answer, text).expect(&rt, "the answer");
+    strict_is_shown(alloc, &cells, CELLS).expect(&rt, "the cells");
+    strict_is_shown(alloc, &nets, NETS).expect(&rt, "the nets");
 }

@@ -1,39 +1,45 @@
 //! Compaction that renames what a holder beside the arena holds, and the look for a dangling pointer of
 //! it.
 
-use crate::tests::compaction::{Node, filled};
-use crate::tests::strict::{Nodes, Strict};
+use crate::tests::compaction::{Node, Recasting, answer_is_shown, filled};
+use crate::tests::shown::arena_is_shown;
+use crate::tests::strict::Nodes;
 use std::alloc::Global;
-use std::fmt::Debug;
-use std::process::Abort;
-use triple_arena::{Arena, ArenaInsertTrait, ArenaTrait, CompactArenaTrait};
+use triple_arena::Arena;
 use triple_arena_base::Recast;
 use triple_arena_direct::{compress_recast_with, unresolved};
 use triple_arena_ptr::{P0, Ptr, Q2};
-use triple_arena_test_kit::{B, Numbered, is, is_shown, pointer};
+use triple_arena_test_kit::{B, Numbered, is, pointer};
+
+// Compacts nodes beside a holder.
+fn compact_with<P: Ptr, H: Recast<P>>(
+    nodes: &mut Arena<P, Node<P>>,
+    holder: &mut H,
+    alloc: Global,
+) -> Recasting<P> {
+    compress_recast_with(nodes, holder, alloc, false)
+}
 
 // Nodes under the pointers (2, 2) and (3, 2), the second with a link to the first, behind a gap, and a holder of
 // both pointers.
-fn is_followed<
-    A: ArenaInsertTrait<P0, Node<P0>> + CompactArenaTrait<P0, Node<P0>> + Debug + Drop,
-    H: ArenaInsertTrait<Q2, P0> + Recast<P0> + Debug + Drop,
->(rt: &impl Abort, alloc: Global) {
-    let linked = [(10, None), (20, None), (30, Some(pointer(2, 2)))];
-    let mut nodes: A = filled(alloc, &linked, &[1]).expect(rt, "memory for nodes");
-    let held = [pointer(3, 2), pointer(2, 2)];
-    let mut holder: H = filled(alloc, &held, &[]).expect(rt, "memory for a holder");
-    is(unresolved(&nodes, &mut holder), None).expect(rt, "a dangling pointer");
-    let answer = compress_recast_with(&mut nodes, &mut holder, alloc, false);
-    let text = "Ok(Success({P0[2](2): P0[1](4), P0[3](2): P0[2](4)}))";
-    is_shown(alloc, &answer, text).expect(rt, "the answer");
-    let text = "{P0[1](4): (20, None), P0[2](4): (30, Some(P0[1](4)))}";
-    is_shown(alloc, &nodes, text).expect(rt, "the nodes");
-    is_shown(alloc, &holder, "{Q2[1](2): P0[2](4), Q2[2](2): P0[1](4)}").expect(rt, "the holder");
-}
-
 #[test]
 fn a_holder_follows(rt: HostRuntime) {
-    is_followed::<Arena<P0, Node<P0>>, Arena<Q2, P0>>(&rt, rt.alloc());
+    let alloc = rt.alloc();
+    let linked = [(10, None), (20, None), (30, Some(pointer(2, 2)))];
+    let mut nodes: Arena<P0, Node<P0>> = filled(alloc, &linked, &[1]).expect(
+        &rt,
+        "memory for nodes",
+    );
+    let held: [P0; 2] = [pointer(3, 2), pointer(2, 2)];
+    let mut holder: Arena<Q2, P0> = filled(alloc, &held, &[]).expect(&rt, "memory for a holder");
+    is(unresolved(&nodes, &mut holder), None).expect(&rt, "a dangling pointer");
+    let answer = compact_with(&mut nodes, &mut holder, alloc);
+    let text = "Ok(Success({P0[2](2): P0[1](4), P0[3](2): P0[2](4)}))";
+    answer_is_shown(alloc, &answer, text).expect(&rt, "the answer");
+    let text = "{P0[1](4): (20, None), P0[2](4): (30, Some(P0[1](4)))}";
+    arena_is_shown(alloc, &nodes, text).expect(&rt, "the nodes");
+    let text = "{Q2[1](2): P0[2](4), Q2[2](2): P0[1](4)}";
+    arena_is_shown(alloc, &holder, text).expect(&rt, "the holder");
 }
 
 // How many nodes are compacted beside a vector of the pointers to them.
@@ -55,7 +61,7 @@ where
 }
 
 // Whether each pointer to the nodes, and each link from one to the next, is that of its number.
-fn are_renamed<P: Ptr, A: ArenaTrait<P, Node<P>>>(nodes: &A, holder: &[P]) -> bool
+fn are_renamed<P: Ptr>(nodes: &Arena<P, Node<P>>, holder: &[P]) -> bool
 where
     P::Gen: Numbered,
 {
@@ -71,43 +77,35 @@ where
 }
 
 // That many nodes behind one that is removed, compacted beside a vector of their pointers.
-fn renames_thousands<A: ArenaInsertTrait<P0, Node<P0>> + CompactArenaTrait<P0, Node<P0>> + Drop>(
-    rt: &impl Abort,
-    alloc: Global,
-) {
-    let mut nodes = A::new(alloc);
-    let mut holder: Vec<P0> = Vec::new(alloc);
-    nodes.insert((0, None)).expect(rt, "memory");
-    for number in 1..=MANY {
-        let p = nodes.insert(numbered(number, 1, 2)).expect(rt, "memory");
-        holder.push(p).expect(rt, "memory");
-    }
-    drop(nodes.remove(pointer(1, 2)));
-    let answer = compress_recast_with(&mut nodes, &mut holder, alloc, false);
-    is(answer.is_ok(), true).expect(rt, "whether it is compacted");
-    is(are_renamed(&nodes, holder.as_slice()), true).expect(rt, "whether all is renamed");
-}
-
 #[test]
 fn thousands_of_pointers_follow_an_arena(rt: HostRuntime) {
-    renames_thousands::<Arena<P0, Node<P0>>>(&rt, rt.alloc());
+    let alloc = rt.alloc();
+    let mut nodes: Arena<P0, Node<P0>> = Arena::on_heap(alloc);
+    let mut holder: Vec<P0> = Vec::new(alloc);
+    nodes.insert((0, None)).expect(&rt, "memory");
+    for number in 1..=MANY {
+        let p = nodes.insert(numbered(number, 1, 2)).expect(&rt, "memory");
+        holder.push(p).expect(&rt, "memory");
+    }
+    drop(nodes.remove(pointer(1, 2)));
+    let answer = compact_with(&mut nodes, &mut holder, alloc);
+    is(answer.is_ok(), true).expect(&rt, "whether it is compacted");
+    is(are_renamed(&nodes, holder.as_slice()), true).expect(&rt, "whether all is renamed");
 }
 
 // So of a strict arena.
-fn renames_thousands_strictly<A: Strict>(rt: &impl Abort, alloc: Global, nodes: &mut A) {
-    let mut holder: Vec<B> = Vec::new(alloc);
-    nodes.insert((0, None)).expect(rt, "memory");
-    for number in 1..=MANY {
-        let p = nodes.insert(numbered(number, 1, 2)).expect(rt, "memory");
-        holder.push(p).expect(rt, "memory");
-    }
-    is(nodes.remove(pointer(1, 2)), Ok((0, None))).expect(rt, "a removal");
-    let answer = nodes.compress_recast_with(&mut holder, alloc);
-    is(answer.is_ok(), true).expect(rt, "whether it is compacted");
-    is(are_renamed(nodes.arena(), holder.as_slice()), true).expect(rt, "whether all is renamed");
-}
-
 #[test]
 fn thousands_of_pointers_follow_a_strict_arena(rt: HostRuntime) {
-    renames_thousands_strictly(&rt, rt.alloc(), &mut Nodes::new(rt.alloc()));
+    let alloc = rt.alloc();
+    let mut nodes = Nodes::new(alloc);
+    let mut holder: Vec<B> = Vec::new(alloc);
+    nodes.insert((0, None)).expect(&rt, "memory");
+    for number in 1..=MANY {
+        let p = nodes.insert(numbered(number, 1, 2)).expect(&rt, "memory");
+        holder.push(p).expect(&rt, "memory");
+    }
+    is(nodes.remove(pointer(1, 2)), Ok((0, None))).expect(&rt, "a removal");
+    let answer = nodes.compress_recast_with(&mut holder, alloc);
+    is(answer.is_ok(), true).expect(&rt, "whether it is compacted");
+    is(are_renamed(nodes.arena(), holder.as_slice()), true).expect(&rt, "whether all is renamed");
 }

@@ -52,7 +52,7 @@ impl<'a, P: Ptr + 'static> Iterator for Beside<'a, P> {
 }
 
 // Whether a pointer of a type is held beside a lent value, through which another is written. It is
-// a macro and no function with a parameter, since each function is to be a caller at its very type.
+// a macro and no function with a parameter, since the caller is to be one at its very type.
 macro_rules! is_held {
     ($pointer:ident) => {{
         let mut values = [1, 2];
@@ -67,43 +67,15 @@ macro_rules! is_held {
     }};
 }
 
-fn is_p0_held() -> bool {
-    is_held!(P0)
-}
-
-fn is_p1_held() -> bool {
-    is_held!(P1)
-}
-
-fn is_p2_held() -> bool {
-    is_held!(P2)
-}
-
-fn is_p3_held() -> bool {
-    is_held!(P3)
-}
-
-fn is_p4_held() -> bool {
-    is_held!(P4)
-}
-
-fn is_p5_held() -> bool {
-    is_held!(P5)
-}
-
-fn is_q2_held() -> bool {
-    is_held!(Q2)
-}
-
 #[test]
 fn each_pointer_beside_a_lent_value(rt: HostRuntime) {
-    is(is_p0_held(), true).expect(&rt, "P0");
-    is(is_p1_held(), true).expect(&rt, "P1");
-    is(is_p2_held(), true).expect(&rt, "P2");
-    is(is_p3_held(), true).expect(&rt, "P3");
-    is(is_p4_held(), true).expect(&rt, "P4");
-    is(is_p5_held(), true).expect(&rt, "P5");
-    is(is_q2_held(), true).expect(&rt, "Q2");
+    is(is_held!(P0), true).expect(&rt, "P0");
+    is(is_held!(P1), true).expect(&rt, "P1");
+    is(is_held!(P2), true).expect(&rt, "P2");
+    is(is_held!(P3), true).expect(&rt, "P3");
+    is(is_held!(P4), true).expect(&rt, "P4");
+    is(is_held!(P5), true).expect(&rt, "P5");
+    is(is_held!(Q2), true).expect(&rt, "Q2");
 }
 
 #[test]

@@ -1,12 +1,11 @@
 //! Each call that may be refused memory, where there is memory, over each of the four stacks.
 
-use super::items::{Fixed, InArray, OnHeap, UpToLimit};
 use super::tables::Answer::{At, Done, Limit, NoPlace};
 use super::tables::Call::{
     AsSlice, Entry, EntryReallocating, EntryWithin, MaxCapacity, Push, PushReallocating,
     PushWithin, Reallocate,
 };
-use super::tables::{BEYOND, Row, calls, calls_below};
+use super::tables::{BEYOND, Row, Stacks};
 use std::mem;
 use triple_arena_stack::{pair_if, pair_of};
 use triple_arena_test_kit::is;
@@ -26,11 +25,16 @@ const EACH_CALL: &[Row<'_>] = &[
 
 #[test]
 fn each_call_on_each_stack(rt: HostRuntime) {
-    let (alloc, room) = (rt.alloc(), Some(4));
-    calls::<OnHeap<u64>>(alloc, room, EACH_CALL).expect(&rt, "on the heap");
-    calls::<UpToLimit<u64>>(alloc, room, EACH_CALL).expect(&rt, "up to a limit");
-    calls::<Fixed<u64>>(alloc, room, EACH_CALL).expect(&rt, "in a room that stays");
-    calls::<InArray<u64, 4>>(alloc, room, EACH_CALL).expect(&rt, "in an array");
+    let (stacks, room) = (Stacks::new(rt.alloc()), Some(4));
+    stacks.on_heap(room, EACH_CALL).expect(&rt, "on the heap");
+    let limited = stacks.up_to_limit(room, &[(None, EACH_CALL)]);
+    limited.expect(&rt, "up to a limit");
+    stacks
+        .fixed(room, EACH_CALL)
+        .expect(&rt, "in a room that stays");
+    stacks
+        .in_array::<4>(room, EACH_CALL)
+        .expect(&rt, "in an array");
 }
 
 // From no room on.
@@ -46,16 +50,19 @@ const GROWTH: &[Row<'_>] = &[
 ];
 
 // The limit of a new stack, and another.
-const BELOW_LIMITS: &[(usize, &[Row<'_>])] = &[
-    (0, &[(Push(1), BEYOND, 0)]),
-    (9, GROWTH),
-    (9, &[(MaxCapacity, Limit(Some(9)), 9)]),
+const BELOW_LIMITS: &[(Option<usize>, &[Row<'_>])] = &[
+    (Some(0), &[(Push(1), BEYOND, 0)]),
+    (Some(9), GROWTH),
+    (Some(9), &[(MaxCapacity, Limit(Some(9)), 9)]),
 ];
 
 #[test]
 fn each_call_grows_a_stack(rt: HostRuntime) {
-    calls::<OnHeap<u64>>(rt.alloc(), None, GROWTH).expect(&rt, "on the heap");
-    calls_below::<UpToLimit<u64>>(rt.alloc(), None, BELOW_LIMITS).expect(&rt, "up to a limit");
+    let stacks = Stacks::new(rt.alloc());
+    stacks.on_heap(None, GROWTH).expect(&rt, "on the heap");
+    stacks
+        .up_to_limit(None, BELOW_LIMITS)
+        .expect(&rt, "up to a limit");
 }
 
 // Two of three numbers, tenfold by `pair_of`: what stood there.

@@ -6,14 +6,13 @@ ghost use Rattle.triple_arena_stack.specs.Capacity.{stack_capacity, room_for_one
 ghost use Rattle.triple_arena_stack.specs.StackKind.{IsOfKind, new_room, new_limit, made_room, made_limit, reallocated_room};
 ghost use Rattle.triple_arena_stack.specs.Disjoint.{DisjointAnswer, set_both};
 
-use super::items::OnHeap;
 use std::alloc::Global;
 use std::mem;
 use std::num::NonZeroUsize;
 use triple_arena_base::{
     AllocError, GetDisjointMutError, NotWithinCapacityError, ReallocationError,
 };
-use triple_arena_stack::NonZeroInxGenericStack;
+use triple_arena_stack::{NonZeroInxGenericStack, NonZeroInxVec};
 use triple_arena_test_kit::is;
 
 /// A slot as an arena has it: free, with the next free slot, or holding a value.
@@ -298,7 +297,7 @@ fn emptied<S: NonZeroInxGenericStack<Slot<u64>>>(
 
 #[test]
 fn each_call_of_the_client(rt: HostRuntime) {
-    let slots: OnHeap<Slot<u64>> = made(rt.alloc(), 2);
+    let slots: NonZeroInxVec<Slot<u64>> = made(rt.alloc(), 2);
     let mut holding = Holding { slots };
     is(overwritten(&mut holding), Some(7)).expect(&rt, "the value that was written");
     let (pushed, last) = taken(&mut holding.slots);

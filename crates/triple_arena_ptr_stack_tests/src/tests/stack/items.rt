@@ -1,70 +1,42 @@
-//! Stacks of items. Their calls have no clauses here, so that tests which make many are quick to prove.
+//! Items of stacks, and calls of stacks of them, which have no clauses here, so that tables, which make many, are quick
+//! to prove.
 
-use super::tables::{Answer, Item};
-use std::alloc::Global;
+use super::tables::Answer;
+use std::cell::Cell;
 use std::num::NonZeroUsize;
-use triple_arena_base::{
-    AllocError, MaxCapacityReductionError, NotWithinCapacityError, ReallocationError,
-};
+use std::rc::Rc;
+use triple_arena_base::{NotWithinCapacityError, ReallocationError};
 use triple_arena_stack::{
-    ArrayStack, FixedStack, HeapStack, LimitedStack, NonZeroInxGenericStack,
-    NonZeroInxGenericStackPushEntryTrait, NonZeroInxStack, SetMaxCapacity,
+    NonZeroInxGenericStack, NonZeroInxGenericStackPushEntryTrait, NonZeroInxStack,
 };
 
-pub type OnHeap<T> = NonZeroInxStack<T, HeapStack<T>>;
+/// How many items were dropped.
+pub type Drops = Rc<Cell<u64>>;
 
-pub type UpToLimit<T> = NonZeroInxStack<T, LimitedStack<T>>;
+/// An item with its number, which counts its drop, if drops are counted.
+#[derive(Default)]
+pub struct Item {
+    pub number: u64,
+    pub drops: Option<Drops>,
+}
 
-pub type Fixed<T> = NonZeroInxStack<T, FixedStack<T>>;
+impl Item {
+    /// Its number; where drops are counted, how many items were dropped.
+    pub fn told(&self) -> u64 {
+        match &self.drops {
+            Some(drops) => drops.get(),
+            None => self.number,
+        }
+    }
+}
 
-pub type InArray<T, const N: usize> = NonZeroInxStack<T, ArrayStack<T, N>>;
-
-/// A stack of items. Each call is that of a stack which is named, and answers as tables have it.
-pub trait Items<T> {
-    /// By `new`.
-    fn empty(alloc: Global) -> Self;
-
-    /// By `with_min_capacity`.
-    fn made(alloc: Global, room: usize) -> Result<Self, AllocError>;
-
-    /// By `push`.
-    fn put(&mut self, item: T) -> Answer;
-
-    /// By `push_reallocating`.
-    fn put_reallocating(&mut self, item: T) -> Answer;
-
-    /// By `push_within_capacity`.
-    fn put_within(&mut self, item: T) -> Answer;
-
-    /// By `entry_push`, which is let go without an item.
-    fn enter(&mut self, item: Option<T>) -> Answer;
-
-    /// By `entry_push_reallocating`, which is let go without an item.
-    fn enter_reallocating(&mut self, item: Option<T>) -> Answer;
-
-    /// By `entry_push_within_capacity` the first item, over which the second is written.
-    fn enter_within(&mut self, first: T, second: T) -> Answer;
-
-    /// By `pop`; the item is dropped.
-    fn take(&mut self) -> Answer;
-
-    /// By `clear`.
-    fn take_all(&mut self) -> Answer;
-
-    /// By `reallocate_min_capacity`.
-    fn reserve(&mut self, min_capacity: usize) -> Answer;
-
-    /// By `check_disjoint`.
-    fn are_two(&self, first: NonZeroUsize, second: NonZeroUsize) -> Answer;
-
-    /// By `with_disjoint_mut`.
-    fn lend(&mut self, first: NonZeroUsize, second: NonZeroUsize) -> Answer;
-
-    /// All items.
-    fn items(&self) -> &[T];
-
-    /// The capacity and the limit.
-    fn bounds(&self) -> (usize, Option<usize>);
+impl Drop for Item {
+    fn drop(self) {
+        let Item { number: _, drops } = self;
+        if let Some(drops) = drops {
+            drops.set(drops.get().wrapping_add(1));
+        }
+    }
 }
 
 fn pushed(answer: Result<NonZeroUsize, ReallocationError>) -> Answer {
@@ -74,10 +46,28 @@ fn pushed(answer: Result<NonZeroUsize, ReallocationError>) -> Answer {
     }
 }
 
+/// By `push`.
+pub fn put<S: NonZeroInxGenericStack<Item>>(stack: &mut S, item: Item) -> Answer {
+    pushed(stack.push(item))
+}
+
+/// By `push_reallocating`.
+pub fn put_reallocating<S: NonZeroInxGenericStack<Item>>(stack: &mut S, item: Item) -> Answer {
+    pushed(stack.push_reallocating(item))
+}
+
+/// By `push_within_capacity`.
+pub fn put_within<S: NonZeroInxGenericStack<Item>>(stack: &mut S, item: Item) -> Answer {
+    match stack.push_within_capacity(item) {
+        Ok(index) => Answer::At(index.get()),
+        Err(NotWithinCapacityError) => Answer::NoPlace,
+    }
+}
+
 // The index of an entry that has its place, by which an item is pushed, if there is one.
-fn entered<'a, T: Drop + 'a, E: NonZeroInxGenericStackPushEntryTrait<'a, T> + Drop>(
+fn entered<'a, E: NonZeroInxGenericStackPushEntryTrait<'a, Item> + Drop>(
     entry: E,
-    item: Option<T>,
+    item: Option<Item>,
 ) -> Answer {
     if !entry.has_place() {
         return Answer::NoPlace;
@@ -89,104 +79,99 @@ fn entered<'a, T: Drop + 'a, E: NonZeroInxGenericStackPushEntryTrait<'a, T> + Dr
     Answer::At(index)
 }
 
-impl<T: Item, K: NonZeroInxGenericStack<T>> Items<T> for NonZeroInxStack<T, K> {
-    fn empty(alloc: Global) -> Self {
-        NonZeroInxStack::new(alloc)
-    }
-
-    fn made(alloc: Global, room: usize) -> Result<Self, AllocError> {
-        NonZeroInxStack::with_min_capacity(alloc, room)
-    }
-
-    fn put(&mut self, item: T) -> Answer {
-        pushed(self.push(item))
-    }
-
-    fn put_reallocating(&mut self, item: T) -> Answer {
-        pushed(self.push_reallocating(item))
-    }
-
-    fn put_within(&mut self, item: T) -> Answer {
-        match self.push_within_capacity(item) {
-            Ok(index) => Answer::At(index.get()),
-            Err(NotWithinCapacityError) => Answer::NoPlace,
-        }
-    }
-
-    fn enter(&mut self, item: Option<T>) -> Answer {
-        match self.entry_push() {
-            Ok(entry) => entered(entry, item),
-            Err(refusal) => Answer::Refused(refusal),
-        }
-    }
-
-    fn enter_reallocating(&mut self, item: Option<T>) -> Answer {
-        match self.entry_push_reallocating() {
-            Ok(entry) => entered(entry, item),
-            Err(refusal) => Answer::Refused(refusal),
-        }
-    }
-
-    fn enter_within(&mut self, first: T, second: T) -> Answer {
-        match self.entry_push_within_capacity() {
-            Ok(entry) => {
-                *entry.push(first) = second;
-                Answer::Done
-            }
-            Err(NotWithinCapacityError) => Answer::NoPlace,
-        }
-    }
-
-    fn take(&mut self) -> Answer {
-        match self.pop() {
-            Some(item) => Answer::Item(item.number()),
-            None => Answer::NoItem,
-        }
-    }
-
-    fn take_all(&mut self) -> Answer {
-        self.clear();
-        Answer::Done
-    }
-
-    fn reserve(&mut self, min_capacity: usize) -> Answer {
-        match self.reallocate_min_capacity(min_capacity) {
-            Ok(()) => Answer::Done,
-            Err(refusal) => Answer::Refused(refusal),
-        }
-    }
-
-    fn are_two(&self, first: NonZeroUsize, second: NonZeroUsize) -> Answer {
-        match self.check_disjoint(first, second) {
-            Ok(()) => Answer::Done,
-            Err(refusal) => Answer::NoPair(refusal),
-        }
-    }
-
-    fn lend(&mut self, first: NonZeroUsize, second: NonZeroUsize) -> Answer {
-        match self.with_disjoint_mut(first, second, |a, b| (a.number(), b.number())) {
-            Ok((a, b)) => Answer::Pair(a, b),
-            Err(refusal) => Answer::NoPair(refusal),
-        }
-    }
-
-    fn items(&self) -> &[T] {
-        self.as_slice()
-    }
-
-    fn bounds(&self) -> (usize, Option<usize>) {
-        (self.capacity(), self.max_capacity())
+/// By `entry_push`, which is let go without an item.
+pub fn enter<K: NonZeroInxGenericStack<Item>>(
+    stack: &mut NonZeroInxStack<Item, K>,
+    item: Option<Item>,
+) -> Answer {
+    match stack.entry_push() {
+        Ok(entry) => entered(entry, item),
+        Err(refusal) => Answer::Refused(refusal),
     }
 }
 
-/// One whose limit can be set.
-pub trait WithLimit {
-    /// By `set_max_capacity`.
-    fn set_limit(&mut self, limit: usize) -> Result<(), MaxCapacityReductionError>;
+/// By `entry_push_reallocating`, which is let go without an item.
+pub fn enter_reallocating<K: NonZeroInxGenericStack<Item>>(
+    stack: &mut NonZeroInxStack<Item, K>,
+    item: Option<Item>,
+) -> Answer {
+    match stack.entry_push_reallocating() {
+        Ok(entry) => entered(entry, item),
+        Err(refusal) => Answer::Refused(refusal),
+    }
 }
 
-impl<T, K: SetMaxCapacity<T>> WithLimit for NonZeroInxStack<T, K> {
-    fn set_limit(&mut self, limit: usize) -> Result<(), MaxCapacityReductionError> {
-        self.set_max_capacity(limit)
+/// By `entry_push_within_capacity` the first item, over which the second is written.
+pub fn enter_within<K: NonZeroInxGenericStack<Item>>(
+    stack: &mut NonZeroInxStack<Item, K>,
+    first: Item,
+    second: Item,
+) -> Answer {
+    match stack.entry_push_within_capacity() {
+        Ok(entry) => {
+            *entry.push(first) = second;
+            Answer::Done
+        }
+        Err(NotWithinCapacityError) => Answer::NoPlace,
+    }
+}
+
+/// By `pop`; the item is dropped.
+pub fn take<S: NonZeroInxGenericStack<Item>>(stack: &mut S) -> Answer {
+    match stack.pop() {
+        Some(item) => Answer::Item(item.told()),
+        None => Answer::NoItem,
+    }
+}
+
+/// By `clear`.
+pub fn take_all<S: NonZeroInxGenericStack<Item>>(stack: &mut S) -> Answer {
+    stack.clear();
+    Answer::Done
+}
+
+/// By `reallocate_min_capacity`.
+pub fn reserve<S: NonZeroInxGenericStack<Item>>(stack: &mut S, min_capacity: usize) -> Answer {
+    match stack.reallocate_min_capacity(min_capacity) {
+        Ok(()) => Answer::Done,
+        Err(refusal) => Answer::Refused(refusal),
+    }
+}
+
+/// By `as_slice`, whether it has these items; else how many it has, or the first that is another.
+pub fn has_items<S: NonZeroInxGenericStack<Item>>(stack: &S, numbers: &[u64]) -> Answer {
+    let items = stack.as_slice();
+    if items.len() != numbers.len() {
+        return Answer::Items(items.len());
+    }
+    for (item, number) in items.iter().zip(numbers) {
+        if item.told() != *number {
+            return Answer::Item(item.told());
+        }
+    }
+    Answer::Done
+}
+
+/// By `check_disjoint`.
+pub fn are_two<S: NonZeroInxGenericStack<Item>>(
+    stack: &S,
+    first: NonZeroUsize,
+    second: NonZeroUsize,
+) -> Answer {
+    match stack.check_disjoint(first, second) {
+        Ok(()) => Answer::Done,
+        Err(refusal) => Answer::NoPair(refusal),
+    }
+}
+
+/// By `with_disjoint_mut`.
+pub fn lend<S: NonZeroInxGenericStack<Item>>(
+    stack: &mut S,
+    first: NonZeroUsize,
+    second: NonZeroUsize,
+) -> Answer {
+    match stack.with_disjoint_mut(first, second, |a, b| (a.told(), b.told())) {
+        Ok((a, b)) => Answer::Pair(a, b),
+        Err(refusal) => Answer::NoPair(refusal),
     }
 }

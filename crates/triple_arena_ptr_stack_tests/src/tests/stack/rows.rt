@@ -1,11 +1,10 @@
 //! Worked examples: how stacks grow, keep their room and heed their limit, and which two items they lend.
 
-use super::items::{Fixed, InArray, OnHeap, UpToLimit};
 use super::tables::Answer::{At, Done, Item, Limit, NoItem, NoPair, NoPlace, Pair};
 use super::tables::Call::{
     CheckDisjoint, Clear, MaxCapacity, Pop, Push, PushWithin, Reallocate, WithDisjoint,
 };
-use super::tables::{BEYOND, Row, calls, calls_below};
+use super::tables::{BEYOND, Row, Stacks};
 use triple_arena_base::GetDisjointMutError::{IndexOutOfBounds, OverlappingIndices};
 
 const ON_THE_HEAP: &[Row<'_>] = &[
@@ -26,7 +25,8 @@ const ON_THE_HEAP: &[Row<'_>] = &[
 
 #[test]
 fn a_heap_stack_grows_and_keeps_room_for_its_items(rt: HostRuntime) {
-    calls::<OnHeap<u64>>(rt.alloc(), None, ON_THE_HEAP).expect(&rt, "its answers");
+    let stacks = Stacks::new(rt.alloc());
+    stacks.on_heap(None, ON_THE_HEAP).expect(&rt, "its answers");
 }
 
 const UP_TO_SIX: &[Row<'_>] = &[
@@ -41,14 +41,15 @@ const UP_TO_SIX: &[Row<'_>] = &[
 
 #[test]
 fn a_limited_stack_grows_to_its_limit(rt: HostRuntime) {
-    calls_below::<UpToLimit<u64>>(rt.alloc(), None, &[(6, UP_TO_SIX)]).expect(&rt, "its answers");
+    let limited = Stacks::new(rt.alloc()).up_to_limit(None, &[(Some(6), UP_TO_SIX)]);
+    limited.expect(&rt, "its answers");
 }
 
 // With room for eight.
-const OF_TWO_LIMITS: &[(usize, &[Row<'_>])] = &[
-    (2, &[(MaxCapacity, Limit(Some(2)), 2)]),
+const OF_TWO_LIMITS: &[(Option<usize>, &[Row<'_>])] = &[
+    (Some(2), &[(MaxCapacity, Limit(Some(2)), 2)]),
     (
-        100,
+        Some(100),
         &[
             (MaxCapacity, Limit(Some(100)), 8),
             (Reallocate(101), BEYOND, 8),
@@ -59,7 +60,10 @@ const OF_TWO_LIMITS: &[(usize, &[Row<'_>])] = &[
 
 #[test]
 fn a_limit_leaves_the_room(rt: HostRuntime) {
-    calls_below::<UpToLimit<u64>>(rt.alloc(), Some(8), OF_TWO_LIMITS).expect(&rt, "its answers");
+    let stacks = Stacks::new(rt.alloc());
+    stacks
+        .up_to_limit(Some(8), OF_TWO_LIMITS)
+        .expect(&rt, "its answers");
 }
 
 // With room for two.
@@ -73,17 +77,22 @@ const IN_A_ROOM: &[Row<'_>] = &[
 
 #[test]
 fn a_fixed_stack_keeps_its_room(rt: HostRuntime) {
-    calls::<Fixed<u64>>(rt.alloc(), Some(2), IN_A_ROOM).expect(&rt, "its answers");
+    let stacks = Stacks::new(rt.alloc());
+    stacks.fixed(Some(2), IN_A_ROOM).expect(&rt, "its answers");
 }
 
 const WITHOUT_A_PLACE: &[Row<'_>] = &[(PushWithin(7), NoPlace, 0), (Push(7), BEYOND, 0)];
 
 #[test]
 fn an_array_has_its_places_and_no_more(rt: HostRuntime) {
-    let alloc = rt.alloc();
-    calls::<InArray<u64, 0>>(alloc, None, WITHOUT_A_PLACE).expect(&rt, "without a place");
+    let stacks = Stacks::new(rt.alloc());
+    stacks
+        .in_array::<0>(None, WITHOUT_A_PLACE)
+        .expect(&rt, "without a place");
     let three = &[(MaxCapacity, Limit(Some(3)), 3)];
-    calls::<InArray<u64, 3>>(alloc, Some(3), three).expect(&rt, "with three");
+    stacks
+        .in_array::<3>(Some(3), three)
+        .expect(&rt, "with three");
 }
 
 // In three places.
@@ -104,9 +113,16 @@ const TWO_OF_THREE: &[Row<'_>] = &[
 
 #[test]
 fn two_of_three_items(rt: HostRuntime) {
-    let (alloc, room) = (rt.alloc(), Some(3));
-    calls::<OnHeap<u64>>(alloc, room, TWO_OF_THREE).expect(&rt, "on the heap");
-    calls::<UpToLimit<u64>>(alloc, room, TWO_OF_THREE).expect(&rt, "up to a limit");
-    calls::<Fixed<u64>>(alloc, room, TWO_OF_THREE).expect(&rt, "in a room that stays");
-    calls::<InArray<u64, 3>>(alloc, room, TWO_OF_THREE).expect(&rt, "in an array");
+    let (stacks, room) = (Stacks::new(rt.alloc()), Some(3));
+    stacks
+        .on_heap(room, TWO_OF_THREE)
+        .expect(&rt, "on the heap");
+    let limited = stacks.up_to_limit(room, &[(None, TWO_OF_THREE)]);
+    limited.expect(&rt, "up to a limit");
+    stacks
+        .fixed(room, TWO_OF_THREE)
+        .expect(&rt, "in a room that stays");
+    stacks
+        .in_array::<3>(room, TWO_OF_THREE)
+        .expect(&rt, "in an array");
 }

@@ -1,9 +1,8 @@
 //! Stacks of thousands of items, and room for more than a hundred thousand.
 
-use super::items::{Fixed, OnHeap, UpToLimit};
 use super::tables::Answer::{Done, Limit};
 use super::tables::Call::{MaxCapacity, Push, PushUpTo, Reallocate};
-use super::tables::{BEYOND, Row, calls, calls_below};
+use super::tables::{BEYOND, Row, Stacks};
 
 const GROWING: &[Row<'_>] = &[
     (PushUpTo(5000), Done, 8192),
@@ -16,15 +15,19 @@ const IN_A_ROOM: &[Row<'_>] = &[(PushUpTo(5000), Done, 5000)];
 
 #[test]
 fn thousands_of_items_on_each_stack(rt: HostRuntime) {
-    let alloc = rt.alloc();
-    calls::<OnHeap<u64>>(alloc, None, GROWING).expect(&rt, "on the heap");
-    calls_below::<UpToLimit<u64>>(alloc, None, &[(5000, UP_TO_5000)]).expect(&rt, "up to a limit");
-    calls::<Fixed<u64>>(alloc, Some(5000), IN_A_ROOM).expect(&rt, "in a room that stays");
+    let stacks = Stacks::new(rt.alloc());
+    stacks.on_heap(None, GROWING).expect(&rt, "on the heap");
+    let limited = stacks.up_to_limit(None, &[(Some(5000), UP_TO_5000)]);
+    limited.expect(&rt, "up to a limit");
+    stacks
+        .fixed(Some(5000), IN_A_ROOM)
+        .expect(&rt, "in a room that stays");
 }
 
 // A stack is not made with so much room.
 #[test]
 fn a_limited_stack_makes_room_for_many_items(rt: HostRuntime) {
     let rows = &[(Reallocate(150_000), Done, 150_000)];
-    calls_below::<UpToLimit<u64>>(rt.alloc(), None, &[(200_000, rows)]).expect(&rt, "its room");
+    let limited = Stacks::new(rt.alloc()).up_to_limit(None, &[(Some(200_000), rows)]);
+    limited.expect(&rt, "its room");
 }

@@ -1,45 +1,20 @@
 //! Tables of calls of a stack, each with its answer.
 
-use super::items::{Items, WithLimit};
+ghost use Rattle.std.specs.Prelude.{◌<◌};
+
+use super::items::{
+    Drops, Item, are_two, enter, enter_reallocating, enter_within, has_items, lend, put,
+    put_reallocating, put_within, reserve, take, take_all,
+};
 use std::alloc::Global;
 use std::num::NonZeroUsize;
 use triple_arena_base::{
     AllocError, GetDisjointMutError, MaxCapacityReductionError, ReallocationError,
 };
-
-/// What a stack of a table holds.
-pub trait Item: Drop {
-    /// The number that tells it.
-    fn number(&self) -> u64;
-}
-
-impl Item for u64 {
-    fn number(&self) -> u64 {
-        *self
-    }
-}
-
-/// What makes the items of a table from their numbers.
-pub trait Source<T> {
-    fn item(&self, number: u64) -> T;
-
-    /// What is measured after each call: the capacity of the stack, or how many items were dropped.
-    fn measure<S: Items<T>>(&self, stack: &S) -> usize;
-}
-
-/// Where an item is its number.
-#[derive(Clone, Copy)]
-pub struct Itself;
-
-impl Source<u64> for Itself {
-    fn item(&self, number: u64) -> u64 {
-        number
-    }
-
-    fn measure<S: Items<u64>>(&self, stack: &S) -> usize {
-        stack.bounds().0
-    }
-}
+use triple_arena_stack::{
+    ArrayStack, FixedStack, HeapStack, LimitedStack, NonZeroInxGenericStack, NonZeroInxStack,
+    SetMaxCapacity,
+};
 
 /// A call of a stack, of items by their numbers and at places from 0 on.
 #[derive(Clone, Copy)]
@@ -89,7 +64,8 @@ pub const BEYOND: Answer = Answer::Refused(ReallocationError::BeyondMaxCapacity)
 /// Where there is no memory.
 pub const NO_MEMORY: Answer = Answer::Refused(ReallocationError::AllocError);
 
-/// A call, what it answers, and what is measured after it.
+/// A call, what it answers, and what is measured after it: the capacity of the stack, or how many items were dropped,
+/// where they are counted.
 pub type Row<'a> = (Call<'a>, Answer, usize);
 
 /// What a table tells wrong of a stack.
@@ -108,118 +84,165 @@ fn index(place: usize) -> NonZeroUsize {
     NonZeroUsize::MIN.saturating_add(place)
 }
 
-fn push_up_to<T, S: Items<T>, M: Source<T>>(stack: &mut S, source: &M, last: usize) -> Answer {
-    for number in 1..=last {
-        let told = stack.put(source.item(number as u64));
-        if told != Answer::At(number) {
-            return told;
-        }
-    }
-    Answer::Done
-}
-
-// The item of this number, if there is a number.
-fn item_of<T, M: Source<T>>(source: &M, number: Option<u64>) -> Option<T> {
-    match number {
-        Some(number) => Some(source.item(number)),
-        None => None,
-    }
-}
-
-// Whether a stack has these items; else how many it has, or the first that is another.
-fn has_items<T: Item, S: Items<T>>(stack: &S, numbers: &[u64]) -> Answer {
-    let items = stack.items();
-    if items.len() != numbers.len() {
-        return Answer::Items(items.len());
-    }
-    for (item, number) in items.iter().zip(numbers) {
-        if item.number() != *number {
-            return Answer::Item(item.number());
-        }
-    }
-    Answer::Done
-}
-
-fn asked<T: Item, S: Items<T>, M: Source<T>>(stack: &mut S, source: &M, call: Call<'_>) -> Answer {
-    match call {
-        Call::Push(number) => stack.put(source.item(number)),
-        Call::PushReallocating(number) => stack.put_reallocating(source.item(number)),
-        Call::PushWithin(number) => stack.put_within(source.item(number)),
-        Call::PushUpTo(last) => push_up_to(stack, source, last),
-        Call::Entry(number) => stack.enter(item_of(source, number)),
-        Call::EntryReallocating(number) => stack.enter_reallocating(item_of(source, number)),
-        Call::EntryWithin(first, second) => {
-            stack.enter_within(source.item(first), source.item(second))
-        }
-        Call::Pop => stack.take(),
-        Call::Clear => stack.take_all(),
-        Call::Reallocate(min_capacity) => stack.reserve(min_capacity),
-        Call::MaxCapacity => Answer::Limit(stack.bounds().1),
-        Call::AsSlice(numbers) => has_items(stack, numbers),
-        Call::CheckDisjoint(i, j) => stack.are_two(index(i), index(j)),
-        Call::WithDisjoint(i, j) => stack.lend(index(i), index(j)),
-    }
-}
-
-/// Makes the calls of a table, one after another.
-pub fn follow<T: Item, S: Items<T>, M: Source<T>>(
-    stack: &mut S,
-    source: &M,
-    rows: &[Row<'_>],
-) -> Result<(), Wrong> {
-    let mut number: usize = 0;
-    for (call, wanted, after) in rows {
-        number = number.wrapping_add(1);
-        let told = asked(stack, source, *call);
-        let measured = source.measure(stack);
-        if told != *wanted || measured != *after {
-            return Err(Wrong::Row(number, told, measured));
-        }
-    }
-    Ok(())
-}
-
-/// A table of a stack of numbers, which is new or made with a room.
-pub fn calls<S: Items<u64> + Drop>(
+/// What makes the stacks of tables, and their items.
+#[derive(Drop)]
+pub struct Stacks {
     alloc: Global,
-    room: Option<usize>,
-    rows: &[Row<'_>],
-) -> Result<(), Wrong> {
-    let mut stack: S = made(alloc, room)?;
-    follow(&mut stack, &Itself, rows)
+    drops: Option<Drops>,
 }
 
-/// Tables of one whose limit can be set, each with the limit that is set before.
-pub fn calls_below<S: Items<u64> + WithLimit + Drop>(
-    alloc: Global,
-    room: Option<usize>,
-    limits: &[(usize, &[Row<'_>])],
-) -> Result<(), Wrong> {
-    let mut stack: S = made(alloc, room)?;
-    for (limit, rows) in limits {
-        follow_below(&mut stack, *limit, rows)?;
+impl Stacks {
+    pub fn new(alloc: Global) -> Stacks {
+        Stacks { alloc, drops: None }
     }
-    Ok(())
+
+    /// Such whose items count their drops here.
+    pub fn counting(alloc: Global, drops: &Drops) -> Stacks {
+        Stacks {
+            alloc,
+            drops: drops.clone().ok(),
+        }
+    }
+
+    /// Makes the calls of a table on a stack on the heap, which is new or made with a room.
+    pub fn on_heap(&self, room: Option<usize>, rows: &[Row<'_>]) -> Result<(), Wrong> {
+        self.calls::<HeapStack<Item>>(room, rows)
+    }
+
+    /// So of tables on one whose limit can be set, each with the limit that is set before, if there is one.
+    pub fn up_to_limit(
+        &self,
+        room: Option<usize>,
+        tables: &[(Option<usize>, &[Row<'_>])],
+    ) -> Result<(), Wrong> {
+        let mut stack = self.made::<LimitedStack<Item>>(room)?;
+        for (limit, rows) in tables {
+            if let Some(limit) = limit {
+                set_limit(&mut stack, *limit)?;
+            }
+            self.follow(&mut stack, rows)?;
+        }
+        Ok(())
+    }
+
+    /// So on one whose room stays.
+    pub fn fixed(&self, room: Option<usize>, rows: &[Row<'_>]) -> Result<(), Wrong> {
+        self.calls::<FixedStack<Item>>(room, rows)
+    }
+
+    /// So in an array, whose size has a bound.
+    pub fn in_array<const N: usize>(
+        &self,
+        room: Option<usize>,
+        rows: &[Row<'_>],
+    ) -> Result<(), Wrong>
+        requires { N < 1000 }
+    {
+        self.calls::<ArrayStack<Item, N>>(room, rows)
+    }
+
+    fn calls<K: NonZeroInxGenericStack<Item> + Drop>(
+        &self,
+        room: Option<usize>,
+        rows: &[Row<'_>],
+    ) -> Result<(), Wrong> {
+        let mut stack = self.made::<K>(room)?;
+        self.follow(&mut stack, rows)
+    }
+
+    fn made<K: NonZeroInxGenericStack<Item>>(
+        &self,
+        room: Option<usize>,
+    ) -> Result<NonZeroInxStack<Item, K>, Wrong> {
+        let Some(room) = room else {
+            return Ok(NonZeroInxStack::new(self.alloc));
+        };
+        match NonZeroInxStack::with_min_capacity(self.alloc, room) {
+            Ok(stack) => Ok(stack),
+            Err(AllocError) => Err(Wrong::NotMade),
+        }
+    }
+
+    fn follow<K: NonZeroInxGenericStack<Item>>(
+        &self,
+        stack: &mut NonZeroInxStack<Item, K>,
+        rows: &[Row<'_>],
+    ) -> Result<(), Wrong> {
+        let mut number: usize = 0;
+        for (call, wanted, after) in rows {
+            number = number.wrapping_add(1);
+            let told = self.asked(stack, *call);
+            let measured = match &self.drops {
+                Some(drops) => drops.get() as usize,
+                None => stack.capacity(),
+            };
+            if told != *wanted || measured != *after {
+                return Err(Wrong::Row(number, told, measured));
+            }
+        }
+        Ok(())
+    }
+
+    fn asked<K: NonZeroInxGenericStack<Item>>(
+        &self,
+        stack: &mut NonZeroInxStack<Item, K>,
+        call: Call<'_>,
+    ) -> Answer {
+        match call {
+            Call::Push(number) => put(stack, self.item(number)),
+            Call::PushReallocating(number) => put_reallocating(stack, self.item(number)),
+            Call::PushWithin(number) => put_within(stack, self.item(number)),
+            Call::PushUpTo(last) => self.push_up_to(stack, last),
+            Call::Entry(number) => enter(stack, self.item_of(number)),
+            Call::EntryReallocating(number) => enter_reallocating(stack, self.item_of(number)),
+            Call::EntryWithin(first, second) => {
+                enter_within(stack, self.item(first), self.item(second))
+            }
+            Call::Pop => take(stack),
+            Call::Clear => take_all(stack),
+            Call::Reallocate(min_capacity) => reserve(stack, min_capacity),
+            Call::MaxCapacity => Answer::Limit(stack.max_capacity()),
+            Call::AsSlice(numbers) => has_items(stack, numbers),
+            Call::CheckDisjoint(i, j) => are_two(stack, index(i), index(j)),
+            Call::WithDisjoint(i, j) => lend(stack, index(i), index(j)),
+        }
+    }
+
+    fn push_up_to<S: NonZeroInxGenericStack<Item>>(&self, stack: &mut S, last: usize) -> Answer {
+        for number in 1..=last {
+            let told = put(stack, self.item(number as u64));
+            if told != Answer::At(number) {
+                return told;
+            }
+        }
+        Answer::Done
+    }
+
+    fn item(&self, number: u64) -> Item {
+        Item {
+            number,
+            drops: match &self.drops {
+                Some(drops) => drops.clone().ok(),
+                None => None,
+            },
+        }
+    }
+
+    // The item of this number, if there is a number.
+    fn item_of(&self, number: Option<u64>) -> Option<Item> {
+        match number {
+            Some(number) => Some(self.item(number)),
+            None => None,
+        }
+    }
 }
 
-fn follow_below<S: Items<u64> + WithLimit>(
-    stack: &mut S,
+fn set_limit<T, K: SetMaxCapacity<T>>(
+    stack: &mut NonZeroInxStack<T, K>,
     limit: usize,
-    rows: &[Row<'_>],
 ) -> Result<(), Wrong> {
-    match stack.set_limit(limit) {
-        Ok(()) => follow(stack, &Itself, rows),
+    match stack.set_max_capacity(limit) {
+        Ok(()) => Ok(()),
         Err(MaxCapacityReductionError) => Err(Wrong::NoLimit(limit)),
-    }
-}
-
-/// A stack that is new, or made with a room.
-pub fn made<T, S: Items<T>>(alloc: Global, room: Option<usize>) -> Result<S, Wrong> {
-    let Some(room) = room else {
-        return Ok(S::empty(alloc));
-    };
-    match S::made(alloc, room) {
-        Ok(stack) => Ok(stack),
-        Err(AllocError) => Err(Wrong::NotMade),
     }
 }

@@ -1,34 +1,21 @@
 //! The texts of replies.
 
-use super::says;
-use std::alloc::{AllocError, Global};
+use std::alloc::Global;
 use std::process::Abort;
 use triple_arena_session::{Reply, write_reply};
+use triple_arena_test_kit::is;
 
-// Expects each to be a reply's text, its line to be the same and a line break, and ` wrapped` to
-// stand at its end just where the reply tells of a wrap.
-fn each_is_written(rt: &impl Abort, alloc: Global, rows: &[(Reply<u64>, &str)]) {
-    for (reply, text) in rows {
-        assert!(rt;
-            is_written(alloc, reply, *text) && says(alloc, reply, *text),
-            "{text}"
-        );
-        assert!(rt;
-            reply.tells_of_wrap() == text.ends_with("wrapped"),
-            "{text}"
-        );
-    }
-}
-
-// Whether this and a line break are a reply's line.
-fn is_written(alloc: Global, reply: &Reply<u64>, text: &str) -> bool {
+// Expects this to be a reply's text, and its line to be the same and a line break.
+fn is_written(rt: &impl Abort, alloc: Global, reply: &Reply<u64>, text: &str) {
     let mut line = Vec::new(alloc);
-    write_reply(&mut line, reply).is_ok()
-        && line.pop() == Some(b'\n')
-        && line.as_slice() == text.as_bytes()
+    is(write_reply(&mut line, reply), Ok(())).expect(rt, text);
+    is(line.pop(), Some(b'\n')).expect(rt, text);
+    is(line.as_slice(), text.as_bytes()).expect(rt, text);
+    let shown = format!(in alloc; "{reply}").expect(rt, "memory");
+    is(shown.as_str(), text).expect(rt, "the text of a reply");
 }
 
-/// The last is the longest.
+/// The last is the longest. ` wrapped` stands at the end just where the reply tells of a wrap.
 #[test]
 fn writes_each_reply(rt: HostRuntime) {
     let rows: &[(Reply<u64>, &str)] = &[
@@ -62,19 +49,19 @@ fn writes_each_reply(rt: HostRuntime) {
             "removed 18446744073709551615 18446744073709551615 wrapped",
         ),
     ];
-    each_is_written(&rt, rt.alloc(), rows);
+    for (reply, text) in rows {
+        is_written(&rt, rt.alloc(), reply, *text);
+        let tells = (*text, reply.tells_of_wrap());
+        is(tells, (*text, text.ends_with("wrapped"))).expect(&rt, "whether it tells of a wrap");
+    }
 }
 
 /// One of them is longer than the line of any other reply.
 #[test]
-fn writes_a_text_as_it_stands(rt: HostRuntime) -> Result<(), AllocError> {
+fn writes_a_text_as_it_stands(rt: HostRuntime) {
     let long = "0123456789012345678901234567890123456789012345678901234567890123456789 wrapped";
     for text in ["", "{}", long] {
-        let reply = Reply::Line(format!(in rt.alloc(); "{text}")?);
-        assert!(rt;
-            is_written(rt.alloc(), &reply, text) && says(rt.alloc(), &reply, text),
-            "{text}"
-        );
+        let shown = String::from_str(rt.alloc(), text).expect(&rt, "memory");
+        is_written(&rt, rt.alloc(), &Reply::Line(shown), text);
     }
-    Ok(())
 }

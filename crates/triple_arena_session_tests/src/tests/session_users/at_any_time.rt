@@ -1,6 +1,6 @@
-use triple_arena_session::{Command, Reply, Session, StrictSession};
+use super::new_sessions::{new_session, new_strict_session, replies};
+use triple_arena_session::Command;
 use triple_arena_session_uses::at_any_time::{shown_at_any_time, strictly_shown_at_any_time};
-use triple_arena_test_kit::is;
 
 #[test]
 fn each_command_of_a_run_is_answered(rt: HostRuntime) {
@@ -9,15 +9,11 @@ fn each_command_of_a_run_is_answered(rt: HostRuntime) {
         Command::Remove(1),
         Command::Get(1),
     ];
-    let replies = [
-        Reply::Given(1, false),
-        Reply::Removed(7, None, false),
-        Reply::Nothing,
-    ];
-    let mut session = Session::with_new_arena(rt.alloc());
-    let told = shown_at_any_time(&mut session, &commands).expect(&rt, "memory");
-    is(told.as_slice(), replies.as_slice()).expect(&rt, "the replies");
-    let mut session = StrictSession::with_new_arena(rt.alloc());
-    let told = strictly_shown_at_any_time(&mut session, &commands).expect(&rt, "memory");
-    is(told.as_slice(), replies.as_slice()).expect(&rt, "the strict replies");
+    let lines = "given 1\nremoved 7 -\nnothing\n";
+    let mut session = new_session(&rt, rt.alloc(), 0);
+    let told = shown_at_any_time(&mut session, &commands);
+    replies(&rt, rt.alloc(), told, lines);
+    let mut session = new_strict_session(rt.alloc());
+    let told = strictly_shown_at_any_time(&mut session, &commands);
+    replies(&rt, rt.alloc(), told, lines);
 }

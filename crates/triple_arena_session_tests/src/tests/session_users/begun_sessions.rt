@@ -1,8 +1,9 @@
+//! A session over an arena with a limit; that a strict one begins is tried where new ones are made.
+
 use triple_arena::{Arena, ArenaTrait};
-use triple_arena_direct::StrictArena;
 use triple_arena_ptr::P0;
 use triple_arena_session::{Command, Node, Reply};
-use triple_arena_session_uses::begun_sessions::{LimitedSlots, begin, begin_strictly};
+use triple_arena_session_uses::begun_sessions::{LimitedSlots, begin};
 use triple_arena_test_kit::is;
 
 /// The limit allows one entry.
@@ -16,11 +17,4 @@ fn a_session_begins_under_a_limit(rt: HostRuntime) {
     let refused = session.step(Command::Insert(8, None));
     is((name, found), (1, Reply::Found(7, None))).expect(&rt, "the entry");
     is(refused, Reply::BeyondMaxCapacity).expect(&rt, "one entry more");
-}
-
-#[test]
-fn a_strict_session_begins(rt: HostRuntime) {
-    let mut session = begin_strictly(StrictArena::new(rt.alloc()), rt.alloc());
-    let entered = session.step(Command::Insert(8, None));
-    is(entered, Reply::Given(1, false)).expect(&rt, "an entry");
 }

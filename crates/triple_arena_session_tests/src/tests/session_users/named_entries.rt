@@ -1,4 +1,5 @@
-use triple_arena_session::{Command, Reply, Session, StrictSession};
+use super::new_sessions::{new_session, new_strict_session, replies};
+use triple_arena_session::Command;
 use triple_arena_session_uses::named_entries::{
     answers, answers_after_a_text, enter, run_to_malformed, runs_to_its_end, strict_answers,
 };
@@ -16,25 +17,20 @@ fn names_find_what_they_name(rt: HostRuntime) {
         Command::Compact,
         Command::Get(3),
     ];
-    let replies = [
-        Reply::Given(1, false),
-        Reply::Given(2, false),
-        Reply::Given(3, false),
-        Reply::Removed(10, None, false),
-        Reply::Unresolved,
-        Reply::Done,
-        Reply::Compacted(false),
-        Reply::Found(30, Some(2)),
-    ];
-    let told = answers(rt.alloc(), &commands).expect(&rt, "memory");
-    is(told.as_slice(), replies.as_slice()).expect(&rt, "the replies");
-    let told = strict_answers(rt.alloc(), &commands).expect(&rt, "memory");
-    is(told.as_slice(), replies.as_slice()).expect(&rt, "the strict replies");
+    let lines =
+        "given 1\ngiven 2\ngiven 3\nremoved 10 -\nunresolved\ndone\ncompacted\nfound 30 2\n";
+    replies(&rt, rt.alloc(), answers(rt.alloc(), &commands), lines);
+    replies(
+        &rt,
+        rt.alloc(),
+        strict_answers(rt.alloc(), &commands),
+        lines,
+    );
 }
 
 #[test]
 fn each_number_gets_the_next_name(rt: HostRuntime) {
-    let mut session = Session::with_new_arena(rt.alloc());
+    let mut session = new_session(&rt, rt.alloc(), 0);
     let first = enter(&mut session, 7).expect(&rt, "memory");
     let second = enter(&mut session, 7).expect(&rt, "memory");
     is([first, second], [1, 2]).expect(&rt, "names of two numbers");
@@ -42,38 +38,36 @@ fn each_number_gets_the_next_name(rt: HostRuntime) {
 
 #[test]
 fn a_text_follows_one_with_a_malformed_line(rt: HostRuntime) {
-    let mut session = Session::with_new_arena(rt.alloc());
+    let mut session = new_session(&rt, rt.alloc(), 0);
     let mut output = Vec::new(rt.alloc());
-    let text = b"insert 1 -\ninsert 2\nlen\n".as_slice();
+    let text = "insert 1 -\ninsert 2\nlen\n".as_bytes();
     let line = run_to_malformed(&mut session, rt.alloc(), text, &mut output);
     let line = line.expect(&rt, "a malformed line");
-    let none = run_to_malformed(&mut session, rt.alloc(), b"get 1\n", &mut output);
+    let none = run_to_malformed(&mut session, rt.alloc(), "get 1\n".as_bytes(), &mut output);
     is((line, none), (2, None)).expect(&rt, "malformed lines");
-    let wanted = b"given 1\nfound 1 -\n".as_slice();
+    let wanted = "given 1\nfound 1 -\n".as_bytes();
     is(output.as_slice(), wanted).expect(&rt, "the replies");
 }
 
 #[test]
 fn a_text_follows_another_in_a_strict_session(rt: HostRuntime) {
-    let mut session = StrictSession::with_new_arena(rt.alloc());
+    let mut session = new_strict_session(rt.alloc());
     let mut output = Vec::new(rt.alloc());
-    let text = b"insert 1 -\ninsert 2\n".as_slice();
+    let text = "insert 1 -\ninsert 2\n".as_bytes();
     let stops = runs_to_its_end(&mut session, rt.alloc(), text, &mut output);
-    let ends = runs_to_its_end(&mut session, rt.alloc(), b"get 1\n", &mut output);
+    let ends = runs_to_its_end(&mut session, rt.alloc(), "get 1\n".as_bytes(), &mut output);
     is((stops, ends), (false, true)).expect(&rt, "whether they ran to their ends");
-    let wanted = b"given 1\nfound 1 -\n".as_slice();
+    let wanted = "given 1\nfound 1 -\n".as_bytes();
     is(output.as_slice(), wanted).expect(&rt, "the replies");
 }
 
 #[test]
 fn commands_follow_a_text_in_a_strict_session(rt: HostRuntime) {
-    let mut session = StrictSession::with_new_arena(rt.alloc());
+    let mut session = new_strict_session(rt.alloc());
     let mut output = Vec::new(rt.alloc());
-    let mut text = b"insert 1 -\ninsert 2\n".as_slice();
+    let mut text = "insert 1 -\ninsert 2\n".as_bytes();
     let commands = [Command::Insert(3, Some(1)), Command::Get(2)];
-    let replies = answers_after_a_text(&mut session, rt.alloc(), &mut text, &mut output, &commands);
-    let replies = replies.expect(&rt, "memory");
-    let wanted = [Reply::Given(2, false), Reply::Found(3, Some(1))];
-    is(replies.as_slice(), wanted.as_slice()).expect(&rt, "the replies to the commands");
-    is(output.as_slice(), b"given 1\n".as_slice()).expect(&rt, "the replies to the text");
+    let told = answers_after_a_text(&mut session, rt.alloc(), &mut text, &mut output, &commands);
+    replies(&rt, rt.alloc(), told, "given 2\nfound 3 1\n");
+    is(output.as_slice(), "given 1\n".as_bytes()).expect(&rt, "the replies to the text");
 }

@@ -5,45 +5,32 @@ ghost use Rattle.std.specs.Prelude.{◌≡◌, IfOk};
 use std::io;
 use std::io::{ErrorKind, Read, Write};
 
-/// Gives a text one byte a read, and fails so many times, from the read of a given number on.
-#[derive(Drop)]
-pub struct ByteReader<'a> {
-    pub rest: &'a [u8],
-    pub reads_before: usize,
+/// How a reader gives its text: so many bytes a read at most, and after so many reads it fails so, this
+/// many times.
+#[derive(Clone, Copy)]
+pub struct Reads {
+    pub most: usize,
+    pub before: usize,
     pub failure: ErrorKind,
     pub times: usize,
 }
 
-impl<'a> ByteReader<'a> {
-    /// Fails once.
-    pub fn new(text: &'a [u8], reads_before: usize, failure: ErrorKind) -> ByteReader<'a> {
-        ByteReader::failing(text, reads_before, failure, 1)
-    }
-
-    pub fn failing(
-        text: &'a [u8],
-        reads_before: usize,
-        failure: ErrorKind,
-        times: usize,
-    ) -> ByteReader<'a> {
-        ByteReader {
-            rest: text,
-            reads_before,
-            failure,
-            times,
-        }
-    }
+/// Gives its text.
+#[derive(Drop)]
+pub struct PieceReader<'a> {
+    pub rest: &'a [u8],
+    pub reads: Reads,
 }
 
-impl<'a> Read for ByteReader<'a> {
+impl<'a> Read for PieceReader<'a> {
     fn read(&mut self, buf: &mut [u8]) -> io::Result<usize> {
-        if 0 < self.reads_before {
-            self.reads_before -= 1;
-        } else if 0 < self.times {
-            self.times -= 1;
-            return Err(io::Error::from(self.failure));
+        if 0 < self.reads.before {
+            self.reads.before -= 1;
+        } else if 0 < self.reads.times {
+            self.reads.times -= 1;
+            return Err(io::Error::from(self.reads.failure));
         }
-        let size = buf.len().min(1);
+        let size = buf.len().min(self.reads.most);
         self.rest.read(&mut buf[..size])
     }
 }
@@ -61,82 +48,58 @@ pub enum WriteFailure {
     Interrupted(usize),
 }
 
-/// Holds up to 256 bytes, takes at most so many at a write, and fails at the write of a given
-/// number and, where its failure says no other, after it. It counts its flushes.
-#[derive(Drop)]
-pub struct ShortWriter {
-    pub bytes: [u8; 256],
-    pub len: usize,
+/// How a writer takes its bytes: so many a write at most, and after so many writes the next is refused
+/// so, with those after it where the failure says no other.
+#[derive(Clone, Copy)]
+pub struct Writes {
     pub most: usize,
-    pub writes_before: usize,
+    pub before: usize,
     pub failure: WriteFailure,
+}
+
+/// Holds what was written, and counts its flushes.
+#[derive(Drop)]
+pub struct PieceWriter {
+    pub bytes: Vec<u8>,
+    pub writes: Writes,
     pub flushes: usize,
 }
 
-impl ShortWriter {
-    /// Takes all of a write.
-    pub fn new(writes_before: usize) -> ShortWriter {
-        ShortWriter::of_pieces(256, writes_before, WriteFailure::Error(ErrorKind::Other))
-    }
-
-    pub fn of_pieces(most: usize, writes_before: usize, failure: WriteFailure) -> ShortWriter {
-        ShortWriter {
-            bytes: [0; 256],
-            len: 0,
-            most,
-            writes_before,
-            failure,
-            flushes: 0,
-        }
-    }
-
+impl PieceWriter {
     // What the write answers that is refused: it takes no byte.
     fn refuse(&mut self) -> io::Result<usize>
         ensures { IfOk result (λ count. count ≡ 0) }
     {
-        match self.failure {
+        match self.writes.failure {
             WriteFailure::Error(kind) => Err(io::Error::from(kind)),
             WriteFailure::Once(kind) => {
-                self.writes_before = usize::MAX;
+                self.writes.before = usize::MAX;
                 Err(io::Error::from(kind))
             }
             WriteFailure::TakesNone => Ok(0),
             WriteFailure::Interrupted(times) => {
                 if times > 1 {
-                    self.failure = WriteFailure::Interrupted(times - 1);
+                    self.writes.failure = WriteFailure::Interrupted(times - 1);
                 } else {
-                    self.writes_before = usize::MAX;
+                    self.writes.before = usize::MAX;
                 }
                 Err(io::Error::from(ErrorKind::Interrupted))
             }
         }
     }
-
-    /// Whether what it holds is the front of a text.
-    pub fn is_front_of(&self, text: &[u8]) -> bool {
-        self.len <= 256 && text.starts_with(&self.bytes[..self.len])
-    }
-
-    /// How many lines it holds to their end.
-    pub fn lines_ended(&self) -> usize {
-        self.bytes.iter().filter(|byte| **byte == b'\n').count()
-    }
 }
 
-impl Write for ShortWriter {
+impl Write for PieceWriter {
     fn write(&mut self, buf: &[u8]) -> io::Result<usize> {
-        let piece = &buf[..buf.len().min(self.most)];
-        if self.writes_before == 0 || self.len > 256 || 256 - self.len < piece.len() {
+        if self.writes.before == 0 {
             return self.refuse();
         }
-        self.writes_before -= 1;
-        for byte in piece {
-            if self.len < 256 {
-                self.bytes[self.len] = *byte;
-                self.len += 1;
-            }
+        self.writes.before -= 1;
+        let piece = &buf[..buf.len().min(self.writes.most)];
+        match self.bytes.extend_from_slice(piece) {
+            Ok(()) => Ok(piece.len()),
+            Err(_) => Err(io::Error::from(ErrorKind::OutOfMemory)),
         }
-        Ok(piece.len())
     }
 
     fn flush(&mut self) -> io::Result<()> {

@@ -1,109 +1,58 @@
 use std::num::NonZeroUsize;
-use std::process::Abort;
-use triple_arena::ArenaSlot;
 use triple_arena_ptr::{P0, Ptr, PtrGen};
-use triple_arena_stack::{NonZeroInxGenericStack, NonZeroInxVec};
 use triple_arena_test_kit::is;
 use triple_arena_uses::{Entity, EntityTable};
 
-type Slot = ArenaSlot<P0, Entity>;
-
-/// The calls of a table of entities, without clauses.
-trait Entities {
-    fn spawned(&mut self, parent: Option<P0>) -> Option<P0>;
-
-    fn despawned(&mut self, p: P0) -> bool;
-
-    fn damaged(&mut self, p: P0, by: u32) -> Option<u32>;
-
-    fn damaged_all(&mut self, by: u32);
-
-    /// Heals an entity, if it is there.
-    fn healed(&mut self, p: P0);
-
-    fn entity(&self, p: P0) -> Option<Entity>;
-}
-
-impl<S: NonZeroInxGenericStack<Slot>> Entities for EntityTable<S> {
-    fn spawned(&mut self, parent: Option<P0>) -> Option<P0> {
-        self.spawn(parent).ok()
-    }
-
-    fn despawned(&mut self, p: P0) -> bool {
-        self.despawn(p)
-    }
-
-    fn damaged(&mut self, p: P0, by: u32) -> Option<u32> {
-        self.damage(p, by)
-    }
-
-    fn damaged_all(&mut self, by: u32) {
-        self.damage_all(by);
-    }
-
-    fn healed(&mut self, p: P0) {
-        if self.get(p).is_some() {
-            self.heal(p);
-        }
-    }
-
-    fn entity(&self, p: P0) -> Option<Entity> {
-        self.get(p).copied()
+fn heal_if_there(table: &mut EntityTable, p: P0) {
+    if table.get(p).is_some() {
+        table.heal(p);
     }
 }
 
-// What is told of a mother and her child, of the child after she is gone, and of a sister that comes
-// then.
-fn family<T: Entities>(
-    rt: &impl Abort,
-    table: &mut T,
-) -> ([bool; 2], [Option<u32>; 5], [Option<Entity>; 2]) {
-    let mother = table.spawned(None).expect(rt, "memory");
-    let child = table.spawned(Some(mother)).expect(rt, "memory");
-    let hurt = table.damaged(child, 30);
-    let gone = [table.despawned(mother), table.despawned(mother)];
-    let sister = table.spawned(Some(mother)).expect(rt, "memory");
-    let of_mother = table.damaged(mother, 1);
-    let found = [table.entity(mother), table.entity(child)];
-    let dead = table.damaged(child, 100);
-    table.healed(child);
-    let whole = table.damaged(child, 0);
-    let of_sister = table.damaged(sister, 0);
-    (gone, [hurt, of_mother, dead, whole, of_sister], found)
-}
-
+// A mother and her child, the child after she is gone, and a sister that comes then: no other entity is
+// taken for the mother.
 #[test]
 fn a_child_outlives_its_parent(rt: HostRuntime) {
+    let mut table: EntityTable = EntityTable::new(rt.alloc());
+    let mother = table.spawn(None).expect(&rt, "memory");
+    let child = table.spawn(Some(mother)).expect(&rt, "memory");
+    let hurt = table.damage(child, 30);
+    let gone = [table.despawn(mother), table.despawn(mother)];
+    is(gone, [true, false]).expect(&rt, "that the mother goes once");
+    let sister = table.spawn(Some(mother)).expect(&rt, "memory");
+    let of_mother = table.damage(mother, 1);
+    let found = [table.get(mother).copied(), table.get(child).copied()];
     let first = P0::_from_raw(NonZeroUsize::MIN, PtrGen::two());
-    let child = Entity {
+    let left = Entity {
         health: 70,
         parent: Some(first),
     };
-    let health = [Some(70), None, Some(0), Some(100), Some(100)];
-    let wanted = ([true, false], health, [None, Some(child)]);
-    let mut table: EntityTable<NonZeroInxVec<Slot>> = EntityTable::new(rt.alloc());
-    is(family(&rt, &mut table), wanted).expect(&rt, "no other entity is taken for the mother");
+    is(found, [None, Some(left)]).expect(&rt, "the mother and her child");
+    let dead = table.damage(child, 100);
+    heal_if_there(&mut table, child);
+    let whole = table.damage(child, 0);
+    let of_sister = table.damage(sister, 0);
+    let health = [hurt, of_mother, dead, whole, of_sister];
+    let wanted = [Some(70), None, Some(0), Some(100), Some(100)];
+    is(health, wanted).expect(&rt, "the health of each");
 }
 
-// The health of three entities, the second of which is gone, after all are damaged.
-fn after_damage<T: Entities>(rt: &impl Abort, table: &mut T) -> [Option<u32>; 4] {
-    let first = table.spawned(None).expect(rt, "memory");
-    let second = table.spawned(None).expect(rt, "memory");
-    let third = table.spawned(None).expect(rt, "memory");
-    let hurt = table.damaged(third, 80);
-    let _gone = table.despawned(second);
-    table.damaged_all(30);
-    [
-        hurt,
-        table.damaged(first, 0),
-        table.damaged(second, 0),
-        table.damaged(third, 0),
-    ]
-}
-
+// Of three entities the second is gone when all are damaged.
 #[test]
 fn each_entity_is_damaged(rt: HostRuntime) {
+    let mut table: EntityTable = EntityTable::new(rt.alloc());
+    let first = table.spawn(None).expect(&rt, "memory");
+    let second = table.spawn(None).expect(&rt, "memory");
+    let third = table.spawn(None).expect(&rt, "memory");
+    let hurt = table.damage(third, 80);
+    let _gone = table.despawn(second);
+    table.damage_all(30);
+    let health = [
+        hurt,
+        table.damage(first, 0),
+        table.damage(second, 0),
+        table.damage(third, 0),
+    ];
     let wanted = [Some(20), Some(70), None, Some(0)];
-    let mut table: EntityTable<NonZeroInxVec<Slot>> = EntityTable::new(rt.alloc());
-    is(after_damage(&rt, &mut table), wanted).expect(&rt, "the health of each");
+    is(health, wanted).expect(&rt, "the health of each");
 }

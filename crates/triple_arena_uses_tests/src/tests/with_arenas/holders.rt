@@ -1,10 +1,12 @@
 use super::Numbers;
 use std::alloc::Global;
 use std::process::Abort;
-use triple_arena::{Arena, ArenaInsertTrait, ArenaTrait};
+use triple_arena::Arena;
+use triple_arena_direct_uses::holders::{
+    LinkBorder, Named, Names, compact_with_border, compact_with_two,
+};
 use triple_arena_ptr::P0;
 use triple_arena_test_kit::{is, numbers_of};
-use triple_arena_uses::holders::{LinkBorder, Named, Names, compact_with_border, compact_with_two};
 use triple_arena_uses::{Link, Port};
 
 fn link() -> Link {
@@ -15,7 +17,7 @@ fn link() -> Link {
 }
 
 // The pointer of a link behind a gap.
-fn behind_a_gap<A: ArenaInsertTrait<P0, Link>>(rt: &impl Abort, links: &mut A) -> P0 {
+fn behind_a_gap(rt: &impl Abort, links: &mut Arena<P0, Link>) -> P0 {
     let gone = links.insert(link()).expect(rt, "memory");
     let kept = links.insert(link()).expect(rt, "memory");
     drop(links.remove(gone));
@@ -50,7 +52,7 @@ fn seen(border: &LinkBorder) -> Option<(Numbers, Numbers)> {
 
 #[test]
 fn ports_and_names_follow(rt: HostRuntime) {
-    let mut links: Arena<P0, Link> = Arena::new(rt.alloc());
+    let mut links: Arena<P0, Link> = Arena::on_heap(rt.alloc());
     let mut border = border(&rt, rt.alloc(), behind_a_gap(&rt, &mut links));
     let map = compact_with_border(&mut links, &mut border, rt.alloc());
     is(map.is_ok(), true).expect(&rt, "memory");
@@ -60,7 +62,7 @@ fn ports_and_names_follow(rt: HostRuntime) {
 // The same of two holders that are in no struct together.
 #[test]
 fn two_holders_follow(rt: HostRuntime) {
-    let mut links: Arena<P0, Link> = Arena::new(rt.alloc());
+    let mut links: Arena<P0, Link> = Arena::on_heap(rt.alloc());
     let kept = behind_a_gap(&rt, &mut links);
     let (mut first, mut second) = (kept, Some(kept));
     let map = compact_with_two(&mut links, &mut first, &mut second, rt.alloc());

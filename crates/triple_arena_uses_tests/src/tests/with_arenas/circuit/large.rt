@@ -1,12 +1,11 @@
 //! A large circuit that is compacted, beside a plain model of it: vectors of numbers; and a net with more
 //! sinks than 16 bits count.
 
-use super::Wiring;
 use std::alloc::Global;
 use std::process::Abort;
+use triple_arena_direct_uses::circuit::Circuit;
 use triple_arena_ptr::{P0, Ptr, Q2};
 use triple_arena_test_kit::{Numbered, is, pointer};
-use triple_arena_uses::circuit::Circuit;
 
 // How many cells are added, and how many nets.
 const COUNT: usize = 150_000;
@@ -18,16 +17,16 @@ const SINKS: usize = 70_000;
 const NETS_APART: usize = 5_000;
 
 // A cell in three is removed, and no net leads to it.
-fn cells<C: Wiring>(rt: &impl Abort, alloc: Global, circuit: &mut C) -> Vec<P0> {
+fn cells(rt: &impl Abort, alloc: Global, circuit: &mut Circuit) -> Vec<P0> {
     let mut all = Vec::new(alloc);
     for number in 0..COUNT {
-        let c = circuit.added_cell(number as u32, alloc);
+        let c = circuit.add_cell(number as u32, alloc);
         all.push(c.expect(rt, "memory")).expect(rt, "memory");
     }
     let mut kept = Vec::new(alloc);
     for (number, c) in all.into_iter().enumerate() {
         if number % 3 == 0 {
-            is(circuit.removes_cell(c), true).expect(rt, "a cell without nets");
+            is(circuit.remove_cell(c).is_ok(), true).expect(rt, "a cell without nets");
         } else {
             kept.push(c).expect(rt, "memory");
         }
@@ -35,16 +34,16 @@ fn cells<C: Wiring>(rt: &impl Abort, alloc: Global, circuit: &mut C) -> Vec<P0> 
     kept
 }
 
-fn nets<C: Wiring>(rt: &impl Abort, alloc: Global, circuit: &mut C) -> Vec<Q2> {
+fn nets(rt: &impl Abort, alloc: Global, circuit: &mut Circuit) -> Vec<Q2> {
     let mut all = Vec::new(alloc);
     for number in 0..COUNT {
-        let n = circuit.added_net(number as u64, alloc);
+        let n = circuit.add_net(number as u64, alloc);
         all.push(n.expect(rt, "memory")).expect(rt, "memory");
     }
     let mut kept = Vec::new(alloc);
     for (number, n) in all.into_iter().enumerate() {
         if number % NETS_APART == 0 {
-            is(circuit.removes_net(n), true).expect(rt, "a net without cells");
+            is(circuit.remove_net(n).is_ok(), true).expect(rt, "a net without cells");
         } else {
             kept.push(n).expect(rt, "memory");
         }
@@ -63,13 +62,13 @@ fn sink_of(net: usize, cells: usize) -> usize {
 }
 
 // Each net is driven by one cell, and read by another.
-fn connect<C: Wiring>(rt: &impl Abort, circuit: &mut C, cells: &[P0], nets: &[Q2]) {
+fn connect(rt: &impl Abort, circuit: &mut Circuit, cells: &[P0], nets: &[Q2]) {
     for (number, n) in nets.iter().enumerate() {
         let driver = cells.get(driver_of(number, cells.len()));
         let sink = cells.get(sink_of(number, cells.len()));
-        let is_driven = circuit.drives(*n, *driver.expect(rt, "a driver"));
-        let is_read = circuit.connects(*n, *sink.expect(rt, "a sink"));
-        is((is_driven, is_read), (true, true)).expect(rt, "a net with its ends");
+        let is_driven = circuit.drive(*n, *driver.expect(rt, "a driver"));
+        let is_read = circuit.connect(*n, *sink.expect(rt, "a sink"));
+        is((is_driven, is_read), (Ok(()), Ok(()))).expect(rt, "a net with its ends");
     }
 }
 
@@ -84,9 +83,9 @@ where
 
 // Whether the net of a number leads from and to the cells that it led from and to, and is what its
 // reader reads at this place.
-fn is_kept<C: Wiring>(
+fn is_kept(
     rt: &impl Abort,
-    circuit: &C,
+    circuit: &Circuit,
     number: usize,
     sizes: [usize; 2],
     place: usize,
@@ -96,14 +95,14 @@ fn is_kept<C: Wiring>(
     let driver: P0 = moved(driver_of(number, cells), gone_cells);
     let sink: P0 = moved(sink_of(number, cells), gone_cells);
     let n: Q2 = moved(number, gone_nets);
-    let net = circuit.found_net(n).expect(rt, "the net");
-    let reader = circuit.found_cell(sink).expect(rt, "its reader");
+    let net = circuit.net(n).expect(rt, "the net");
+    let reader = circuit.cell(sink).expect(rt, "its reader");
     let leads = net.driver == Some(driver) && net.sinks.as_slice() == [sink].as_slice();
     leads && reader.reads.get(place) == Some(&n)
 }
 
 // Whether each net is kept, and each cell reads no more than its nets, in their order.
-fn are_kept<C: Wiring>(rt: &impl Abort, alloc: Global, circuit: &C, sizes: [usize; 2]) -> bool {
+fn are_kept(rt: &impl Abort, alloc: Global, circuit: &Circuit, sizes: [usize; 2]) -> bool {
     let [cells, nets] = sizes;
     let mut reads = Vec::new(alloc);
     for _cell in 0..cells {
@@ -118,7 +117,7 @@ fn are_kept<C: Wiring>(rt: &impl Abort, alloc: Global, circuit: &C, sizes: [usiz
     }
     for (place, count) in reads.iter().enumerate() {
         let c = moved(place, COUNT.saturating_sub(cells));
-        let cell = circuit.found_cell(c).expect(rt, "a cell");
+        let cell = circuit.cell(c).expect(rt, "a cell");
         if cell.reads.len() != *count {
             return false;
         }
@@ -127,11 +126,11 @@ fn are_kept<C: Wiring>(rt: &impl Abort, alloc: Global, circuit: &C, sizes: [usiz
 }
 
 // Whether a new circuit is as its model once it is large, and compacted.
-fn is_kept_at_large<C: Wiring>(rt: &impl Abort, alloc: Global, circuit: &mut C) -> bool {
+fn is_kept_at_large(rt: &impl Abort, alloc: Global, circuit: &mut Circuit) -> bool {
     let cells = cells(rt, alloc, circuit);
     let nets = nets(rt, alloc, circuit);
     connect(rt, circuit, &cells, &nets);
-    let _maps = circuit.compacted(alloc).expect(rt, "memory");
+    let _maps = circuit.compact(alloc).expect(rt, "memory");
     are_kept(rt, alloc, circuit, [cells.len(), nets.len()])
 }
 
@@ -142,14 +141,14 @@ fn a_large_circuit_is_as_its_model(rt: HostRuntime) {
 }
 
 // How many sinks a net has, and how many readings its cell, once the two are connected so often.
-fn joined_often<C: Wiring>(rt: &impl Abort, alloc: Global, circuit: &mut C) -> (usize, usize) {
-    let c = circuit.added_cell(1, alloc).expect(rt, "memory");
-    let n = circuit.added_net(10, alloc).expect(rt, "memory");
+fn joined_often(rt: &impl Abort, alloc: Global, circuit: &mut Circuit) -> (usize, usize) {
+    let c = circuit.add_cell(1, alloc).expect(rt, "memory");
+    let n = circuit.add_net(10, alloc).expect(rt, "memory");
     for _ in 0..SINKS {
-        is(circuit.connects(n, c), true).expect(rt, "memory for one more");
+        is(circuit.connect(n, c), Ok(())).expect(rt, "memory for one more");
     }
-    let net = circuit.found_net(n).expect(rt, "the net");
-    let cell = circuit.found_cell(c).expect(rt, "the cell");
+    let net = circuit.net(n).expect(rt, "the net");
+    let cell = circuit.cell(c).expect(rt, "the cell");
     (net.sinks.len(), cell.reads.len())
 }
 

@@ -1,5 +1,0 @@
-//! Tests of sets of keys by their public calls.
-#![tactic(auto)]
-
-#[cfg(test)]
-mod tests;

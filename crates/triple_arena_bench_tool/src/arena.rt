@@ -2,12 +2,13 @@
 //! small one, of a strict arena with the first, of a slab, and of a plain vector with free indexes. What is timed isn't
 //! inlined, so that each table's loop is compiled alike.
 
+mod general;
 mod keyed;
 mod plain;
 mod strict;
 mod table;
 
-use crate::timing::{RUNS, Timed, Timing, now, over_arena, print, since};
+use crate::timing::{RUNS, Timing, now, print, since};
 use plain::Plain;
 use rand_core::Rng;
 use rand_pcg::Pcg64Mcg;
@@ -15,10 +16,10 @@ use slab::Slab;
 use std::alloc::Global;
 use std::io::Print;
 use std::time::Clock;
-use table::{InArena, OwnTable, Table};
-use triple_arena::{ArenaInsertTrait, CompactArenaTrait};
+use table::{OwnTable, Table};
+use triple_arena::Arena;
 use triple_arena_direct::StrictArena;
-use triple_arena_ptr::{P0, Ptr, SmallPtr};
+use triple_arena_ptr::{P0, SmallPtr};
 
 /// A source of random numbers, which are the same in each run.
 pub fn new_random() -> Pcg64Mcg {
@@ -67,25 +68,11 @@ impl Timings {
 /// Prints the least times of some runs with so many numbers, in nanoseconds for each number; clearing
 /// is one call, and its time is that of the call.
 pub fn run(rt: &(impl Print + Clock), alloc: Global, size: u32) -> anyhow::Result<()> {
-    over_arena::<_, P0, u64, Calls>(rt, alloc, "arena", size)?;
-    over_arena::<_, SmallPtr, u64, Calls>(rt, alloc, "small", size)?;
+    time::<_, Arena<P0, u64>>(rt, alloc, "arena", size)?;
+    time::<_, Arena<SmallPtr, u64>>(rt, alloc, "small", size)?;
     time_strict(rt, alloc, size)?;
     time::<_, Slab<u64>>(rt, alloc, "slab", size)?;
     time::<_, Plain>(rt, alloc, "vector", size)
-}
-
-// What is timed of an arena here.
-struct Calls;
-
-impl<P: Ptr> Timed<P, u64> for Calls {
-    fn time<R: Print + Clock, A: ArenaInsertTrait<P, u64> + CompactArenaTrait<P, u64> + Drop>(
-        rt: &R,
-        alloc: Global,
-        name: &str,
-        size: u32,
-    ) -> anyhow::Result<()> {
-        time::<R, InArena<P, A>>(rt, alloc, name, size)
-    }
 }
 
 fn time<R: Print + Clock, T: OwnTable>(

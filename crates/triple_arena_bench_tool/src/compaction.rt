@@ -2,12 +2,11 @@
 //! link that is renamed, and of plain vectors of both.
 
 use crate::entry::{Entry, Node, sum_of, sum_of_places};
-use crate::timing::{RUNS, Timed, Timing, now, over_arena, print, since};
+use crate::timing::{RUNS, Timing, now, print, since};
 use std::alloc::Global;
 use std::io::Print;
-use std::marker::PhantomData;
 use std::time::Clock;
-use triple_arena::{ArenaInsertTrait, CompactArenaTrait};
+use triple_arena::{Arena, CompactArenaTrait};
 use triple_arena_direct::compress_recast;
 use triple_arena_ptr::P0;
 
@@ -22,60 +21,35 @@ trait Gapped: Drop {
     fn sum(&self) -> u64;
 }
 
-// An entry of an arena that closes its gaps.
-trait Moved: Entry {
-    fn close_gaps<A: CompactArenaTrait<P0, Self>>(
-        arena: &mut A,
-        alloc: Global,
-    ) -> anyhow::Result<()>;
-}
+impl Gapped for Arena<P0, u64> {
+    fn even_numbers(alloc: Global, size: u32) -> anyhow::Result<Self> {
+        every_second(alloc, size)
+    }
 
-impl Moved for u64 {
-    fn close_gaps<A: CompactArenaTrait<P0, u64>>(
-        arena: &mut A,
-        _alloc: Global,
-    ) -> anyhow::Result<()> {
-        arena
-            .compress_with(false, |_old, number, _new| number)
+    fn close_gaps(&mut self, _alloc: Global) -> anyhow::Result<()> {
+        self.compress_with(false, |_old, number, _new| number)
             .allow();
         Ok(())
+    }
+
+    fn sum(&self) -> u64 {
+        sum_of(self)
     }
 }
 
 // The links are renamed too.
-impl Moved for Node {
-    fn close_gaps<A: CompactArenaTrait<P0, Node>>(
-        arena: &mut A,
-        alloc: Global,
-    ) -> anyhow::Result<()> {
-        let _new_pointers = compress_recast(arena, alloc, false)?;
-        Ok(())
-    }
-}
-
-// An arena of such entries.
-#[derive(Drop)]
-struct Entries<T, A> {
-    arena: A,
-    entries: PhantomData<T>,
-}
-
-impl<T: Moved, A: ArenaInsertTrait<P0, T> + CompactArenaTrait<P0, T> + Drop> Gapped
-    for Entries<T, A> {
+impl Gapped for Arena<P0, Node> {
     fn even_numbers(alloc: Global, size: u32) -> anyhow::Result<Self> {
-        let arena: A = every_second(alloc, size)?;
-        Ok(Entries {
-            arena,
-            entries: PhantomData,
-        })
+        every_second(alloc, size)
     }
 
     fn close_gaps(&mut self, alloc: Global) -> anyhow::Result<()> {
-        T::close_gaps(&mut self.arena, alloc)
+        let _new_pointers = compress_recast(self, alloc, false)?;
+        Ok(())
     }
 
     fn sum(&self) -> u64 {
-        sum_of(&self.arena)
+        sum_of(self)
     }
 }
 
@@ -144,11 +118,8 @@ fn new_places(alloc: Global, nodes: &[Option<PlainNode>]) -> anyhow::Result<Vec<
 }
 
 // Inserts an entry for each number below `size`, and removes those of the odd ones.
-fn every_second<T: Entry, A: ArenaInsertTrait<P0, T> + Drop>(
-    alloc: Global,
-    size: u32,
-) -> anyhow::Result<A> {
-    let mut arena = A::new(alloc);
+fn every_second<T: Entry>(alloc: Global, size: u32) -> anyhow::Result<Arena<P0, T>> {
+    let mut arena = Arena::on_heap(alloc);
     let mut even: Vec<P0> = Vec::with_capacity(alloc, size as usize)?;
     let mut odd: Vec<P0> = Vec::with_capacity(alloc, size as usize)?;
     for number in 0..size {
@@ -168,24 +139,10 @@ fn every_second<T: Entry, A: ArenaInsertTrait<P0, T> + Drop>(
 /// Prints the least times of some compactions of so many places, in nanoseconds for each entry that
 /// stays, and the sum of what stays.
 pub fn run(rt: &(impl Print + Clock), alloc: Global, size: u32) -> anyhow::Result<()> {
-    over_arena::<_, P0, u64, Compaction>(rt, alloc, "arena", size)?;
-    over_arena::<_, P0, Node, Compaction>(rt, alloc, "nodes", size)?;
+    time::<_, Arena<P0, u64>>(rt, alloc, "arena", size)?;
+    time::<_, Arena<P0, Node>>(rt, alloc, "nodes", size)?;
     time::<_, Vec<Option<u64>>>(rt, alloc, "vector", size)?;
     time::<_, Vec<Option<PlainNode>>>(rt, alloc, "vector_nodes", size)
-}
-
-// What is timed of an arena here.
-struct Compaction;
-
-impl<T: Moved> Timed<P0, T> for Compaction {
-    fn time<R: Print + Clock, A: ArenaInsertTrait<P0, T> + CompactArenaTrait<P0, T> + Drop>(
-        rt: &R,
-        alloc: Global,
-        name: &str,
-        size: u32,
-    ) -> anyhow::Result<()> {
-        time::<R, Entries<T, A>>(rt, alloc, name, size)
-    }
 }
 
 fn time<R: Print + Clock, G: Gapped>(

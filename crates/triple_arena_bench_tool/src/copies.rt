@@ -7,39 +7,37 @@ use crate::timing::{RUNS, Timing, now, print, since};
 use std::alloc::Global;
 use std::io::Print;
 use std::time::Clock;
-use triple_arena::{
-    Arena, ArenaCloneFromWith, ArenaDirectInsertTrait, ArenaInsertTrait, ArenaTrait,
-    CompactArenaTrait,
-};
+use triple_arena::{Arena, ArenaDirectInsertTrait, ArenaTrait};
 use triple_arena_direct::DirectArena;
 use triple_arena_ptr::{P0, Ptr, SmallPtr};
 
 /// Prints the least times of some clones of so many numbers, and of some insertions of as many under the
 /// pointers that they have, in nanoseconds for each number.
 pub fn run(rt: &(impl Print + Clock), alloc: Global, size: u32) -> anyhow::Result<()> {
-    time::<_, P0, Arena<P0, u64>, DirectArena<P0, u64>>(rt, alloc, "arena", size)?;
-    time::<_, SmallPtr, Arena<SmallPtr, u64>, DirectArena<SmallPtr, u64>>(
-        rt, alloc, "small", size,
-    )?;
+    time::<_, P0>(rt, alloc, "arena", size)?;
+    time::<_, SmallPtr>(rt, alloc, "small", size)?;
     time_vector(rt, alloc, size)
 }
 
 // An arena is cloned, and a direct arena takes the pointers of its entries.
-fn time<
-    R: Print + Clock,
-    P: Ptr,
-    A: ArenaInsertTrait<P, u64> + ArenaCloneFromWith<P, u64> + CompactArenaTrait<P, u64> + Drop,
-    D: ArenaDirectInsertTrait<P, u64> + CompactArenaTrait<P, u64> + Drop,
->(rt: &R, alloc: Global, name: &str, size: u32) -> anyhow::Result<()> {
-    let mut arena = A::new(alloc);
-    let pointers = insert_each::<P, A>(alloc, &mut arena, size)?;
+fn time<R: Print + Clock, P: Ptr>(
+    rt: &R,
+    alloc: Global,
+    name: &str,
+    size: u32,
+) -> anyhow::Result<()> {
+    let mut arena: Arena<P, u64> = Arena::on_heap(alloc);
+    let pointers = insert_each(alloc, &mut arena, size)?;
     let mut clone = Timing::LONGEST;
     let (mut direct, mut get) = (Timing::LONGEST, Timing::LONGEST);
     for _ in 0..RUNS {
-        clone = clone.least(time_clone::<R, P, A>(rt, alloc, &arena)?);
-        let mut filled = D::with_min_capacity(alloc, pointers.len())?;
-        direct = direct.least(time_direct::<R, P, D>(rt, &mut filled, &pointers));
-        get = get.least(time_direct_get::<R, P, D>(rt, size, &filled, &pointers));
+        clone = clone.least(time_clone(rt, alloc, &arena)?);
+        let mut filled: DirectArena<P, u64> = DirectArena::with_min_capacity(
+            alloc,
+            pointers.len(),
+        )?;
+        direct = direct.least(time_direct(rt, &mut filled, &pointers));
+        get = get.least(time_direct_get(rt, size, &filled, &pointers));
     }
     let operations = [
         ("clone", size, clone),
@@ -50,10 +48,10 @@ fn time<
 }
 
 #[inline(never)]
-fn time_clone<C: Clock, P: Ptr, A: ArenaCloneFromWith<P, u64> + CompactArenaTrait<P, u64> + Drop>(
+fn time_clone<C: Clock, P: Ptr>(
     rt: &C,
     alloc: Global,
-    arena: &A,
+    arena: &Arena<P, u64>,
 ) -> anyhow::Result<Timing> {
     let start = now(rt);
     let clone = arena.clone(alloc)?;
@@ -64,9 +62,9 @@ fn time_clone<C: Clock, P: Ptr, A: ArenaCloneFromWith<P, u64> + CompactArenaTrai
 
 // The arena was made with the room.
 #[inline(never)]
-fn time_direct<C: Clock, P: Ptr, D: ArenaDirectInsertTrait<P, u64> + CompactArenaTrait<P, u64>>(
+fn time_direct<C: Clock, P: Ptr>(
     rt: &C,
-    arena: &mut D,
+    arena: &mut DirectArena<P, u64>,
     pointers: &[P],
 ) -> Timing {
     let start = now(rt);
@@ -76,15 +74,18 @@ fn time_direct<C: Clock, P: Ptr, D: ArenaDirectInsertTrait<P, u64> + CompactAren
         }
     }
     let time = since(rt, start);
-    let sum = sum_of(&*arena);
+    let mut sum = 0u64;
+    for p in pointers.iter() {
+        sum = sum.wrapping_add(arena.get(*p).copied().unwrap_or(0));
+    }
     Timing { time, sum }
 }
 
 #[inline(never)]
-fn time_direct_get<C: Clock, P: Ptr, D: ArenaTrait<P, u64>>(
+fn time_direct_get<C: Clock, P: Ptr>(
     rt: &C,
     size: u32,
-    arena: &D,
+    arena: &DirectArena<P, u64>,
     pointers: &[P],
 ) -> Timing {
     let mut random = new_random();

@@ -1,7 +1,7 @@
 //! What the arenas and the vectors that are timed hold.
 
 use std::alloc::Global;
-use triple_arena::{ArenaInsertTrait, CompactArenaTrait};
+use triple_arena::{Arena, CompactArenaTrait};
 use triple_arena_ptr::{P0, Ptr};
 
 /// A number, and the pointer of the node before it that stays.
@@ -36,9 +36,9 @@ impl Entry for Node {
 }
 
 /// Inserts the numbers below `size`.
-pub fn insert_each<P: Ptr, A: ArenaInsertTrait<P, u64>>(
+pub fn insert_each<P: Ptr>(
     alloc: Global,
-    arena: &mut A,
+    arena: &mut Arena<P, u64>,
     size: u32,
 ) -> anyhow::Result<Vec<P>> {
     let mut pointers = Vec::with_capacity(alloc, size as usize)?;
@@ -60,7 +60,7 @@ pub fn places(alloc: Global, size: u32) -> anyhow::Result<Vec<Option<u64>>> {
 /// The sum of all numbers, modulo 2^64, in the order in which they lie. It is inlined where it is timed, as a walk is
 /// in the code of a user.
 #[inline(always)]
-pub fn sum_of<'a, P: Ptr, T: Entry + 'a, A: CompactArenaTrait<P, T>>(arena: &'a A) -> u64 {
+pub fn sum_of<P: Ptr, T: Entry>(arena: &Arena<P, T>) -> u64 {
     let mut sum = 0u64;
     let mut entries = arena.vals();
     'sum: while let Some(entry) = entries.next() {

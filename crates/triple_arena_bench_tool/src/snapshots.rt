@@ -4,9 +4,7 @@ use crate::timing::{RUNS, Timing, now, print, since};
 use std::alloc::Global;
 use std::io::Print;
 use std::time::Clock;
-use triple_arena::{
-    Arena, ArenaInsertTrait, ArenaTrait, CompactArenaTrait, NonZeroInxGenericStack, NonZeroInxVec,
-};
+use triple_arena::{Arena, CompactArenaTrait, NonZeroInxGenericStack, NonZeroInxVec};
 use triple_arena_ptr::{P0, Ptr};
 use triple_arena_snapshot::{load_arena, save_arena};
 
@@ -15,7 +13,7 @@ type Entry = (u64, Option<P0>);
 /// Prints the least times of some saves and loads of an arena of so many entries, each with a number
 /// and the pointer of the one before it, in nanoseconds for each entry; and of the loops.
 pub fn run(rt: &(impl Print + Clock), alloc: Global, size: u32) -> anyhow::Result<()> {
-    let mut arena: Arena<P0, Entry> = Arena::new(alloc);
+    let mut arena: Arena<P0, Entry> = Arena::on_heap(alloc);
     let mut last = P0::invalid();
     for number in 0..size {
         last = arena.insert((number as u64, Some(last)))?;

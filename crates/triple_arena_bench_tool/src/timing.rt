@@ -3,8 +3,6 @@
 use std::alloc::Global;
 use std::io::Print;
 use std::time::{Clock, Duration, Instant};
-use triple_arena::{Arena, ArenaInsertTrait, CompactArenaTrait};
-use triple_arena_ptr::Ptr;
 
 /// How often all is timed, the least of which counts.
 pub const RUNS: usize = 5;
@@ -64,25 +62,4 @@ pub fn print(
         println!(rt; "{name} {size} {operation} {nanoseconds:.1} {}", timing.sum)?;
     }
     Ok(())
-}
-
-/// What is timed of an arena of such values, whichever it is.
-pub trait Timed<P: Ptr, T> {
-    /// Prints the least times of some runs over so many values.
-    fn time<R: Print + Clock, A: ArenaInsertTrait<P, T> + CompactArenaTrait<P, T> + Drop>(
-        rt: &R,
-        alloc: Global,
-        name: &str,
-        size: u32,
-    ) -> anyhow::Result<()>;
-}
-
-/// Times an `Arena`.
-pub fn over_arena<R: Print + Clock, P: Ptr, T: Drop, W: Timed<P, T>>(
-    rt: &R,
-    alloc: Global,
-    name: &str,
-    size: u32,
-) -> anyhow::Result<()> {
-    W::time::<R, Arena<P, T>>(rt, alloc, name, size)
 }

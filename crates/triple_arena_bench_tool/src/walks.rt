@@ -7,38 +7,21 @@ use slab::Slab;
 use std::alloc::Global;
 use std::io::Print;
 use std::time::{Clock, Duration};
-use triple_arena::{Arena, ArenaInsertTrait, CompactArenaTrait};
+use triple_arena::{Arena, CompactArenaTrait};
 use triple_arena_direct::StrictArena;
 use triple_arena_ptr::{P0, Ptr, SmallPtr};
 
 /// Prints the least times of some walks that write so many numbers, and of some drains of as many, in
 /// nanoseconds for each number.
 pub fn run(rt: &(impl Print + Clock), alloc: Global, size: u32) -> anyhow::Result<()> {
-    time::<_, P0, Arena<P0, u64>>(rt, alloc, "arena", size)?;
-    time::<_, SmallPtr, Arena<SmallPtr, u64>>(rt, alloc, "small", size)?;
+    time::<_, P0>(rt, alloc, "arena", size)?;
+    time::<_, SmallPtr>(rt, alloc, "small", size)?;
     time_strict(rt, alloc, size)?;
     time_slab(rt, alloc, size)?;
     time_vector(rt, alloc, size)
 }
 
-// An arena of which a walk that writes each number is timed.
-trait Walked: Drop {
-    fn time_write<C: Clock>(&mut self, rt: &C) -> Option<Duration>;
-}
-
-impl<P: Ptr> Walked for Arena<P, u64> {
-    #[inline(never)]
-    fn time_write<C: Clock>(&mut self, rt: &C) -> Option<Duration> {
-        let start = now(rt);
-        let mut numbers = self.vals_mut();
-        'walk: while let Some(number) = numbers.next() {
-            *number = number.wrapping_mul(3);
-        }
-        since(rt, start)
-    }
-}
-
-fn time<R: Print + Clock, P: Ptr, A: ArenaInsertTrait<P, u64> + CompactArenaTrait<P, u64> + Walked>(
+fn time<R: Print + Clock, P: Ptr>(
     rt: &R,
     alloc: Global,
     name: &str,
@@ -46,15 +29,25 @@ fn time<R: Print + Clock, P: Ptr, A: ArenaInsertTrait<P, u64> + CompactArenaTrai
 ) -> anyhow::Result<()> {
     let (mut write, mut drain) = (Timing::LONGEST, Timing::LONGEST);
     for _ in 0..RUNS {
-        let mut arena = A::new(alloc);
-        let _pointers = insert_each::<P, A>(alloc, &mut arena, size)?;
-        let time = arena.time_write(rt);
+        let mut arena: Arena<P, u64> = Arena::on_heap(alloc);
+        let _pointers = insert_each(alloc, &mut arena, size)?;
+        let time = time_write(rt, &mut arena);
         let sum = sum_of(&arena);
         write = write.least(Timing { time, sum });
-        drain = drain.least(time_drain::<R, P, A>(rt, &mut arena));
+        drain = drain.least(time_drain::<R, P, Arena<P, u64>>(rt, &mut arena));
     }
     let operations = [("write", size, write), ("drain", size, drain)];
     print(rt, name, size, &operations)
+}
+
+#[inline(never)]
+fn time_write<C: Clock, P: Ptr>(rt: &C, arena: &mut Arena<P, u64>) -> Option<Duration> {
+    let start = now(rt);
+    let mut numbers = arena.vals_mut();
+    'walk: while let Some(number) = numbers.next() {
+        *number = number.wrapping_mul(3);
+    }
+    since(rt, start)
 }
 
 #[inline(never)]

@@ -12,7 +12,7 @@ mod runs;
 mod sessions;
 
 use std::alloc::Global;
-use triple_arena_trait_kit::refused::{Calls, Report, make_asked};
+use triple_arena_refused_kit::{Calls, Report, make_asked};
 
 /// Calls of sessions.
 struct OfSessions;

@@ -5,9 +5,8 @@ use crate::runs::Ended;
 use std::alloc::Global;
 use std::io;
 use std::io::{BufWriter, Cursor};
+use triple_arena_refused_kit::{End, Report, Wrong};
 use triple_arena_session::{Kind, Outcome, TextError, run_kind, run_program};
-use triple_arena_trait_kit::Wrong;
-use triple_arena_trait_kit::refused::{End, Report};
 
 const TEXT: &[u8] = b"insert 1 -\n";
 

@@ -6,9 +6,8 @@ use std::alloc::Global;
 use std::io;
 use std::io::{Cursor, Read};
 use triple_arena_ptr::P0;
+use triple_arena_refused_kit::{End, Report, Wrong, free_indexes};
 use triple_arena_session::{Command, Reply, Session, StrictSession, TextError};
-use triple_arena_trait_kit::refused::{End, Report};
-use triple_arena_trait_kit::{FreeList, SLOTS, Wrong};
 
 // What was refused where nothing has run.
 const WHOLE: &str = "all";
@@ -57,7 +56,7 @@ fn has_run<T: Asked>(session: &mut T, before: &View, replies: &[Reply<u64>]) -> 
     let left = seen(session);
     let is_left = left.names == names
         && left.extent == (len, 8, 3)
-        && left.free == FreeList::Indexes([0; SLOTS]);
+        && left.free == free_indexes(&[]);
     let is_counted = replies.len() == 5 && replies.get(4) == Some(&Reply::Count(len));
     match given {
         7 if is_counted && is_left => Ok(End::Ample),
@@ -188,32 +187,47 @@ impl Text {
             _ => Err(Wrong::Text(self.name)),
         }
     }
+}
 
-    fn runs(&self, alloc: Global) -> Result<End, Wrong> {
+/// What runs in a session of three names: the commands, or a text.
+#[derive(Clone, Copy)]
+enum Run {
+    Commands,
+    Text(&'static Text),
+}
+
+impl Run {
+    fn runs_in<T: Asked>(self, alloc: Global, session: &mut T) -> Result<End, Wrong> {
+        match self {
+            Run::Commands => runs_commands(session),
+            Run::Text(text) => text.runs_in(alloc, session),
+        }
+    }
+
+    fn runs(self, alloc: Global) -> Result<End, Wrong> {
         let mut session: Session<P0, u64> = Session::with_new_arena(alloc);
+        self.runs_in(alloc, &mut session)
+    }
+
+    fn runs_strictly(self, alloc: Global) -> Result<End, Wrong> {
+        let mut session: StrictSession<P0, u64> = StrictSession::with_new_arena(alloc);
         self.runs_in(alloc, &mut session)
     }
 }
 
-fn runs_strictly(alloc: Global) -> Result<End, Wrong> {
-    let mut session: StrictSession<P0, u64> = StrictSession::with_new_arena(alloc);
-    TAKES_MEMORY.runs_in(alloc, &mut session)
-}
-
-fn run(alloc: Global) -> Result<End, Wrong> {
-    let mut session: Session<P0, u64> = Session::with_new_arena(alloc);
-    runs_commands(&mut session)
-}
-
-fn run_strict(alloc: Global) -> Result<End, Wrong> {
-    let mut session: StrictSession<P0, u64> = StrictSession::with_new_arena(alloc);
-    runs_commands(&mut session)
-}
-
 pub fn try_each(alloc: Global, report: &mut Report) {
-    report.note("run", "a session", run(alloc));
-    report.note("run", "a strict session", run_strict(alloc));
-    report.note("run_text", TAKES_NONE.name, TAKES_NONE.runs(alloc));
-    report.note("run_text", TAKES_MEMORY.name, TAKES_MEMORY.runs(alloc));
-    report.note("run_text_strict", TAKES_MEMORY.name, runs_strictly(alloc));
+    let (none, memory) = (Run::Text(&TAKES_NONE), Run::Text(&TAKES_MEMORY));
+    report.note("run", "a session", Run::Commands.runs(alloc));
+    report.note(
+        "run",
+        "a strict session",
+        Run::Commands.runs_strictly(alloc),
+    );
+    report.note("run_text", TAKES_NONE.name, none.runs(alloc));
+    report.note("run_text", TAKES_MEMORY.name, memory.runs(alloc));
+    report.note(
+        "run_text_strict",
+        TAKES_MEMORY.name,
+        memory.runs_strictly(alloc),
+    );
 }

@@ -6,6 +6,7 @@ use std::fmt::Write as _;
 use std::io::{Read, Write};
 use triple_arena::{Arena, ArenaSlot, ArenaTrait};
 use triple_arena_ptr::{P0, Ptr};
+use triple_arena_refused_kit::{End, FreeList, Report, SLOTS, Wrong, free_of};
 use triple_arena_session::{
     BeginsOver, Command, Node, Reply, Session, StrictSession, TextError, parse_command, run_text,
     run_text_strict,
@@ -14,8 +15,6 @@ use triple_arena_stack::{
     NonZeroInxArray, NonZeroInxBoxedSlice, NonZeroInxGenericStack, NonZeroInxLimitedVec,
 };
 use triple_arena_test_kit::{index_number, inx};
-use triple_arena_trait_kit::refused::{End, Report};
-use triple_arena_trait_kit::{FreeList, SLOTS, Wrong, free_of};
 
 type Slot = ArenaSlot<P0, Node<u64, P0>>;
 
@@ -316,59 +315,38 @@ fn is_empty_with_eight(extent: (usize, usize, u64)) -> Result<End, Wrong> {
     }
 }
 
-// A session that grows up to a limit of eight.
-fn limited(alloc: Global) -> Result<Session<P0, u64, Limited>, Wrong> {
-    let mut arena: Entries<Limited> = Arena::new(alloc);
-    if arena.set_max_capacity(8).is_err() {
-        return Err(Wrong::Answer(0));
-    }
-    Ok(Session::new(arena, alloc))
-}
-
-// A session of fixed room for eight.
-fn fixed(alloc: Global) -> Result<Session<P0, u64, Fixed>, Wrong> {
-    Ok(Session::with_min_capacity(alloc, 8)?)
-}
-
-fn strict_limited(alloc: Global) -> Result<StrictSession<P0, u64, Limited>, Wrong> {
-    Ok(StrictSession::with_min_capacity(alloc, 8)?)
-}
-
-fn strict_fixed(alloc: Global) -> Result<StrictSession<P0, u64, Fixed>, Wrong> {
-    Ok(StrictSession::with_min_capacity(alloc, 8)?)
-}
-
-// Each row but `show` in a session that needs memory for its room, where that could be made. Each names its type: one
-// that is generic in its stack can't be dropped.
+// Each row but `show` in a session of room for eight, where that could be made: up to a limit, and of fixed room. Each
+// names its type: one that is generic in its stack can't be dropped.
 fn each_row_limited(alloc: Global, report: &mut Report) {
     let kind = "a session under a limit";
-    match limited(alloc) {
-        Ok(mut session) => each_row(&mut session, kind, false, report),
-        Err(wrong) => report.note("made", kind, Err(wrong)),
+    let mut arena: Entries<Limited> = Arena::new(alloc);
+    match arena.set_max_capacity(8) {
+        Ok(()) => each_row(&mut Session::new(arena, alloc), kind, false, report),
+        Err(_refused) => report.note("made", kind, Err(Wrong::Answer(0))),
     }
 }
 
 fn each_row_fixed(alloc: Global, report: &mut Report) {
     let kind = "a session of fixed room";
-    match fixed(alloc) {
+    match Session::<P0, u64, Fixed>::with_min_capacity(alloc, 8) {
         Ok(mut session) => each_row(&mut session, kind, false, report),
-        Err(wrong) => report.note("made", kind, Err(wrong)),
+        Err(_refused) => report.note("made", kind, Err(Wrong::NoMemory)),
     }
 }
 
 fn each_row_strict_limited(alloc: Global, report: &mut Report) {
     let kind = "a limited strict session";
-    match strict_limited(alloc) {
+    match StrictSession::<P0, u64, Limited>::with_min_capacity(alloc, 8) {
         Ok(mut session) => each_row(&mut session, kind, false, report),
-        Err(wrong) => report.note("made", kind, Err(wrong)),
+        Err(_refused) => report.note("made", kind, Err(Wrong::NoMemory)),
     }
 }
 
 fn each_row_strict_fixed(alloc: Global, report: &mut Report) {
     let kind = "a strict session of fixed room";
-    match strict_fixed(alloc) {
+    match StrictSession::<P0, u64, Fixed>::with_min_capacity(alloc, 8) {
         Ok(mut session) => each_row(&mut session, kind, false, report),
-        Err(wrong) => report.note("made", kind, Err(wrong)),
+        Err(_refused) => report.note("made", kind, Err(Wrong::NoMemory)),
     }
 }
 

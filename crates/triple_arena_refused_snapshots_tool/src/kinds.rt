@@ -7,12 +7,11 @@ use triple_arena::{
 };
 use triple_arena_direct::{StrictArena, load_strict_arena, save_strict_arena};
 use triple_arena_direct_arena::DirectArena;
+use triple_arena_refused_kit::{End, Report, Wrong};
 use triple_arena_snapshot::{
     GenerationCodec, LoadError, SaveError, from_file_bytes, load, load_arena, load_direct_arena,
     save, save_arena, save_direct_arena, to_file_bytes,
 };
-use triple_arena_trait_kit::Wrong;
-use triple_arena_trait_kit::refused::{End, Report};
 
 /// What can be saved and loaded, each by its own calls.
 trait Kept: Sized {

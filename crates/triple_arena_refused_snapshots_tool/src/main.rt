@@ -10,7 +10,7 @@ mod files;
 mod kinds;
 
 use std::alloc::Global;
-use triple_arena_trait_kit::refused::{Calls, Report, make_asked};
+use triple_arena_refused_kit::{Calls, Report, make_asked};
 
 /// Saves and loads.
 struct OfSnapshots;

@@ -1,46 +1,15 @@
 //! Arenas, direct arenas and strict arenas: how they are made, insertions and reallocations.
 
-use crate::calls::{Call, Tried, fill, placed};
-use crate::free_list::{FreeList, free_list};
-use crate::report::{End, Report};
-use crate::state::{SLOTS, State};
+use crate::calls::{Call, Tried, make_each};
+use crate::direct::Direct;
+use crate::limited::{LIMIT, Limited};
+use crate::on_heap::OnHeap;
+use crate::state::{State, no_entries};
+use crate::strict::Strict;
 use crate::told::{NO_MEMORY, Told};
-use crate::value::{Row, Value, plain};
-use crate::wrong::{Wrong, holds};
+use crate::value::{Row, plain};
 use std::alloc::Global;
-use triple_arena::{Arena, ArenaSlot, ArenaTrait};
-use triple_arena_direct::{DirectArena, StrictArena};
-use triple_arena_ptr::P0;
-use triple_arena_stack::NonZeroInxLimitedVec;
-
-/// An arena on the heap.
-pub type OnHeap = Arena<P0, Value>;
-
-/// A direct arena on the heap.
-pub type Direct = DirectArena<P0, Value>;
-
-/// A strict arena on the heap.
-pub type Strict = StrictArena<P0, Value>;
-
-// An arena under a limit.
-type Limited = Arena<P0, Value, NonZeroInxLimitedVec<ArenaSlot<P0, Value>>>;
-
-// The limit that is set where one can be.
-const LIMIT: Option<usize> = Some(200);
-
-// An arena with this room.
-fn on_heap(alloc: Global, room: usize) -> Result<OnHeap, Wrong> {
-    Ok(OnHeap::with_min_capacity(alloc, room)?)
-}
-
-// So one to which the limit is set.
-fn limited(alloc: Global, room: usize) -> Result<Limited, Wrong> {
-    let mut arena = Limited::with_min_capacity(alloc, room)?;
-    match arena.set_max_capacity(200) {
-        Ok(()) => Ok(arena),
-        Err(_refused) => Err(Wrong::Answer(0)),
-    }
-}
+use triple_arena_refused_kit::{End, FreeList, Report, SLOTS, Wrong, free_indexes, holds};
 
 // The name of a call, and the call.
 type Named = (&'static str, Call);
@@ -52,19 +21,21 @@ const NINE: Row = Row {
     net: None,
 };
 
-// Insertions that ask for memory.
+// Insertions that ask for memory, of an arena.
 const INSERTIONS: &[Named] = &[
     ("insert", Call::Insert(NINE)),
     ("insert_reallocating", Call::InsertReallocating(NINE)),
-];
-
-// So by entries.
-const ENTRY_INSERTIONS: &[Named] = &[
     ("entry_insert", Call::EntryInsert(NINE)),
     (
         "entry_insert_reallocating",
         Call::EntryInsertReallocating(NINE),
     ),
+];
+
+// So of a strict one, without those by entries.
+const STRICT_INSERTIONS: &[Named] = &[
+    ("insert", Call::Insert(NINE)),
+    ("insert_reallocating", Call::InsertReallocating(NINE)),
 ];
 
 // Makes a call, and once more where memory is refused, which leaves `left`.
@@ -143,36 +114,35 @@ fn each_growth<A: Tried>(
     }
 }
 
-// So into one that inserts by entries too, where it could be made.
-fn grow<A: Tried + Drop>(
-    alloc: Global,
-    made: Result<A, Wrong>,
-    limit: Option<usize>,
-    kind: &'static str,
-    report: &mut Report,
-) {
-    match made {
-        Ok(mut arena) => {
-            each_growth(alloc, &mut arena, limit, INSERTIONS, kind, report);
-            each_growth(alloc, &mut arena, limit, ENTRY_INSERTIONS, kind, report);
-        }
+// So into one of each kind, where it could be made. What is generic can't drop it.
+fn grow(alloc: Global, report: &mut Report) {
+    let kind = "an arena";
+    match OnHeap::with_room(alloc, 4) {
+        Ok(mut arena) => each_growth(alloc, &mut arena, None, INSERTIONS, kind, report),
         Err(wrong) => report.note("made", kind, Err(wrong)),
     }
 }
 
-// So into a strict arena, which has no entries to insert by. It names its type: one that is generic can't be dropped.
+fn grow_limited(alloc: Global, report: &mut Report) {
+    let (kind, limit) = ("an arena under a limit", Some(LIMIT));
+    match Limited::with_room(alloc, 4) {
+        Ok(mut arena) => each_growth(alloc, &mut arena, limit, INSERTIONS, kind, report),
+        Err(wrong) => report.note("made", kind, Err(wrong)),
+    }
+}
+
 fn grow_strict(alloc: Global, report: &mut Report) {
     let kind = "a strict arena";
-    match Strict::with_min_capacity(alloc, 4) {
-        Ok(mut arena) => each_growth(alloc, &mut arena, None, INSERTIONS, kind, report),
-        Err(_refused) => report.note("made", kind, Err(Wrong::NoMemory)),
+    match Strict::with_room(alloc, 4) {
+        Ok(mut arena) => each_growth(alloc, &mut arena, None, STRICT_INSERTIONS, kind, report),
+        Err(wrong) => report.note("made", kind, Err(wrong)),
     }
 }
 
 // What stands in four slots of which the second and the fourth have entries, of these generations, and of their
 // indexes as numbers.
 fn two_left(first: u64, second: u64, limit: Option<usize>, counter: Option<u64>) -> State {
-    let mut entries = [None; SLOTS];
+    let mut entries = no_entries();
     entries[1] = Some((first, 2));
     entries[3] = Some((second, 4));
     State {
@@ -207,12 +177,21 @@ fn goes_up_and_down<A: Tried>(
     Ok(end)
 }
 
+// Removals of five of seven entries.
+const FIVE_REMOVALS: &[Call] = &[
+    Call::Remove(1),
+    Call::Remove(3),
+    Call::Remove(7),
+    Call::Remove(6),
+    Call::Remove(5),
+];
+
 // Reallocations of an arena of seven places, of which five were freed, so that its free list is tidied.
 fn reallocates<A: Tried>(alloc: Global, arena: &mut A, limit: Option<usize>) -> Result<End, Wrong> {
     let is_filled = fill_to(alloc, arena, 7);
-    fill(alloc, arena, &[], &[1, 3, 7, 6, 5])?;
+    make_each(alloc, arena, FIVE_REMOVALS)?;
     let left = State {
-        free: free_list(&[1, 3]),
+        free: free_indexes(&[1, 3]),
         ..two_left(2, 2, limit, Some(7))
     };
     let end = goes_up_and_down(alloc, arena, 4, &left)?;
@@ -225,7 +204,7 @@ fn reallocates<A: Tried>(alloc: Global, arena: &mut A, limit: Option<usize>) -> 
 // still 8, and the free list is tidied, so that the next insertion takes the first index. All else is as it was.
 fn worked<A: Tried>(alloc: Global, arena: &mut A) -> Result<End, Wrong> {
     let is_filled = fill_to(alloc, arena, 5);
-    fill(alloc, arena, &[], &[1, 3])?;
+    make_each(alloc, arena, &[Call::Remove(1), Call::Remove(3)])?;
     let before = arena.seen();
     let told = arena.answer(alloc, Call::Reallocate(100));
     let left = arena.seen();
@@ -235,10 +214,10 @@ fn worked<A: Tried>(alloc: Global, arena: &mut A) -> Result<End, Wrong> {
     };
     let expected = State {
         capacity,
-        free: free_list(&[1, 3]),
+        free: free_indexes(&[1, 3]),
         ..before
     };
-    let is_left = before.free == free_list(&[3, 1]) && left == expected;
+    let is_left = before.free == free_indexes(&[3, 1]) && left == expected;
     let inserts = arena.answer(alloc, Call::Insert(plain(6))) == Told::At(1, 4);
     let is_done = arena.answer(alloc, Call::Reallocate(100)) == Told::Done;
     let then = arena.seen();
@@ -247,47 +226,43 @@ fn worked<A: Tried>(alloc: Global, arena: &mut A) -> Result<End, Wrong> {
     Ok(end)
 }
 
-fn reallocate_on_heap(alloc: Global) -> Result<End, Wrong> {
-    reallocates(alloc, &mut on_heap(alloc, 8)?, None)
+fn reallocates_on_heap(alloc: Global) -> Result<End, Wrong> {
+    reallocates(alloc, &mut OnHeap::with_room(alloc, 8)?, None)
 }
 
-fn reallocate_under_limit(alloc: Global) -> Result<End, Wrong> {
-    reallocates(alloc, &mut limited(alloc, 8)?, LIMIT)
+fn reallocates_limited(alloc: Global) -> Result<End, Wrong> {
+    reallocates(alloc, &mut Limited::with_room(alloc, 8)?, Some(LIMIT))
 }
 
-fn reallocate_strict(alloc: Global) -> Result<End, Wrong> {
-    reallocates(alloc, &mut Strict::with_min_capacity(alloc, 8)?, None)
-}
-
-// Entries at 2 and 4, and free slots at the end.
-fn reallocate_direct(alloc: Global) -> Result<End, Wrong> {
-    let rows = [(7, 9, plain(7)), (2, 1, plain(2)), (4, 5, plain(4))];
-    let mut arena: Direct = placed(alloc, 8, &rows, 7)?;
-    goes_up_and_down(alloc, &mut arena, 7, &two_left(1, 5, None, None))
+fn reallocates_strict(alloc: Global) -> Result<End, Wrong> {
+    reallocates(alloc, &mut Strict::with_room(alloc, 8)?, None)
 }
 
 fn worked_on_heap(alloc: Global) -> Result<End, Wrong> {
-    worked(alloc, &mut on_heap(alloc, 8)?)
+    worked(alloc, &mut OnHeap::with_room(alloc, 8)?)
+}
+
+// Entries at 2 and 4, and free slots at the end.
+fn reallocates_direct(alloc: Global) -> Result<End, Wrong> {
+    let calls = [
+        Call::Place(7, 9, plain(7)),
+        Call::Place(2, 1, plain(2)),
+        Call::Place(4, 5, plain(4)),
+        Call::Remove(7),
+    ];
+    let mut arena = Direct::with_room(alloc, 8)?;
+    make_each(alloc, &mut arena, &calls)?;
+    goes_up_and_down(alloc, &mut arena, 7, &two_left(1, 5, None, None))
 }
 
 pub fn try_each(alloc: Global, report: &mut Report) {
-    grow(alloc, on_heap(alloc, 4), None, "an arena", report);
-    grow(
-        alloc,
-        limited(alloc, 4),
-        LIMIT,
-        "an arena under a limit",
-        report,
-    );
+    grow(alloc, report);
+    grow_limited(alloc, report);
     grow_strict(alloc, report);
     let call = "reallocate_min_capacity";
-    report.note(call, "an arena", reallocate_on_heap(alloc));
+    report.note(call, "an arena", reallocates_on_heap(alloc));
     report.note(call, "an arena of five", worked_on_heap(alloc));
-    report.note(
-        call,
-        "an arena under a limit",
-        reallocate_under_limit(alloc),
-    );
-    report.note(call, "a strict arena", reallocate_strict(alloc));
-    report.note(call, "a direct arena", reallocate_direct(alloc));
+    report.note(call, "an arena under a limit", reallocates_limited(alloc));
+    report.note(call, "a strict arena", reallocates_strict(alloc));
+    report.note(call, "a direct arena", reallocates_direct(alloc));
 }

@@ -1,121 +1,23 @@
 //! Compactions that make a map: memory for it is asked for before any link is looked at.
 
-use crate::arenas::{Direct, OnHeap, Strict};
-use crate::calls::{fill, filled, placed};
-use crate::links::Link;
-use crate::report::{End, Report};
-use crate::seen::Whole;
+use crate::calls::{Call, Tried, make_each};
+use crate::compacting::{Compacted, Compaction};
+use crate::direct::Direct;
+use crate::links::{Link, link_of, linked};
+use crate::on_heap::OnHeap;
 use crate::state::State;
-use crate::told::{NO_MEMORY, Told, told_compaction, told_done};
-use crate::value::{Row, Value, plain, with_link};
-use crate::wrong::{Wrong, holds};
+use crate::strict::Strict;
+use crate::told::{NO_MEMORY, Told};
+use crate::value::{plain, with_link};
 use std::alloc::Global;
-use triple_arena::{ArenaDirectInsertTrait, ArenaInsertTrait, CompactArenaTrait};
-use triple_arena_direct::{StrictCompactError, compress_recast, compress_recaster, renew};
 use triple_arena_ptr::P0;
-
-/// A compaction.
-#[derive(Clone, Copy)]
-enum Compaction {
-    /// By `compress_recaster`.
-    Mapped,
-    /// By `compress_recast`.
-    Renamed,
-}
-
-/// An arena that is compacted. It has no clauses, so that what is generic over it is quick to prove.
-trait Compacted: Whole {
-    /// What a compaction tells.
-    fn compact(&mut self, alloc: Global, call: Compaction) -> Told;
-}
-
-// What a compaction without a reset tells of any arena.
-fn compact_any<A: CompactArenaTrait<P0, Value>>(
-    arena: &mut A,
-    alloc: Global,
-    call: Compaction,
-) -> Told {
-    match call {
-        Compaction::Mapped => told_done(compress_recaster(arena, alloc, false)),
-        Compaction::Renamed => match compress_recast(arena, alloc, false) {
-            Ok(_map) => Told::Done,
-            Err(refusal) => told_compaction(refusal),
-        },
-    }
-}
-
-impl Compacted for OnHeap {
-    fn compact(&mut self, alloc: Global, call: Compaction) -> Told {
-        compact_any(self, alloc, call)
-    }
-}
-
-impl Compacted for Direct {
-    fn compact(&mut self, alloc: Global, call: Compaction) -> Told {
-        compact_any(self, alloc, call)
-    }
-}
-
-/// What a strict arena tells.
-pub fn told_strictly<T: Drop>(done: Result<T, StrictCompactError<P0>>) -> Told {
-    match done {
-        Ok(_map) => Told::Done,
-        Err(StrictCompactError::Exhausted) => Told::Otherwise,
-        Err(StrictCompactError::Compact(refusal)) => told_compaction(refusal),
-    }
-}
-
-/// It has the renaming alone.
-impl Compacted for Strict {
-    fn compact(&mut self, alloc: Global, _call: Compaction) -> Told {
-        told_strictly(self.compress_recast(alloc))
-    }
-}
-
-/// Whether the third node has moved to index 2, with this generation and this link, of a state.
-pub fn has_moved(state: &State, generation: u64, link: Link) -> bool {
-    let moved = Some((generation, with_link(3, link).shown()));
-    state.entries[1] == moved && state.entries[2].is_none()
-}
-
-// A compaction, and once more where memory is refused, which changes nothing. A dangling link
-// refuses it too, and changes nothing; else the third node has moved to index 2, with this
-// generation, and where links are renamed its own leads to the first, which has it too.
-fn compacts<A: Compacted>(
-    alloc: Global,
-    arena: &mut A,
-    call: Compaction,
-    link: Link,
-    generation: u64,
-) -> Result<End, Wrong> {
-    let before = arena.seen();
-    let mut told = arena.compact(alloc, call);
-    let (mut end, mut is_left) = (End::Ample, true);
-    if told == NO_MEMORY {
-        is_left = arena.seen() == before;
-        told = arena.compact(alloc, call);
-        end = End::Refused;
-    }
-    holds(is_left && told == told_with(link), Wrong::Answer(1))?;
-    let renamed = match call {
-        Compaction::Mapped => LINKED,
-        Compaction::Renamed => Some((1, generation)),
-    };
-    let left = arena.seen();
-    let stands = if link == LINKED {
-        has_moved(&left, generation, renamed)
-    } else {
-        left == before
-    };
-    holds(stands, Wrong::State(1))?;
-    Ok(end)
-}
+use triple_arena_refused_kit::{End, Report, Wrong, holds};
 
 /// The link of the last of three nodes to the first.
 pub const LINKED: Link = Some((1, 2));
 
 /// The numbers of the invalid pointer, which leads to no entry.
-pub const INVALID: (usize, u64) = (usize::MAX, 1);
+const INVALID: (usize, u64) = (usize::MAX, 1);
 
 /// A link of that pointer.
 pub const DANGLING: Link = Some(INVALID);
@@ -123,141 +25,174 @@ pub const DANGLING: Link = Some(INVALID);
 /// What refuses a compaction for that link.
 pub const DANGLES: Told = Told::At(INVALID.0, INVALID.1);
 
-// What a compaction tells of a node with this link.
-fn told_with(link: Link) -> Told {
-    if link == LINKED { Told::Done } else { DANGLES }
+/// A compaction, and where the third of three nodes leads, and a holder beside the arena.
+#[derive(Clone, Copy)]
+pub struct Case {
+    pub compaction: Compaction,
+    pub link: Link,
+    pub holder: Link,
 }
 
-// Three nodes: the second leads to the first, and the third has this link.
-fn nodes(link: Link) -> [Row; 3] {
-    [plain(1), with_link(2, LINKED), with_link(3, link)]
+impl Case {
+    // Whether one of both leads to no entry.
+    fn dangles(&self) -> bool {
+        self.link == DANGLING || self.holder == DANGLING
+    }
+
+    // Where the third node leads then, under this generation.
+    fn link_then(&self, generation: u64) -> Link {
+        match self.compaction {
+            Compaction::Mapped => self.link,
+            _ => Some((1, generation)),
+        }
+    }
+
+    // Where the holder of the third node leads then.
+    fn holder_then(&self, generation: u64) -> Link {
+        match self.holder {
+            Some(_third) => Some((2, generation)),
+            None => None,
+        }
+    }
 }
 
-/// Three nodes, of which the second is removed where the third leads to an entry.
-pub fn linked_nodes<A: ArenaInsertTrait<P0, Value> + Drop>(
+// Whether the third node has moved to index 2, with this generation and this link, of a state.
+fn has_moved(state: &State, generation: u64, link: Link) -> bool {
+    let moved = Some((generation, with_link(3, link).shown()));
+    state.entries[1] == moved && state.entries[2].is_none()
+}
+
+// A compaction, and once more where memory is refused, which changes nothing. A dangling link
+// refuses it too, and changes nothing; else the third node has moved to index 2, with this
+// generation, and where links are renamed its own leads to the first, which has it too.
+fn compacts<A: Tried + Compacted>(
     alloc: Global,
-    link: Link,
-) -> Result<A, Wrong> {
-    let removed: &[usize] = if link == LINKED { &[2] } else { &[] };
-    filled(alloc, 3, &nodes(link), removed)
+    arena: &mut A,
+    case: &Case,
+    generation: u64,
+) -> Result<End, Wrong> {
+    let mut holder: Option<P0> = linked(case.holder);
+    let before = arena.seen();
+    let mut told = arena.compact(alloc, case.compaction, &mut holder);
+    let (mut end, mut is_left) = (End::Ample, true);
+    if told == NO_MEMORY {
+        is_left = arena.seen() == before && link_of(holder) == case.holder;
+        told = arena.compact(alloc, case.compaction, &mut holder);
+        end = End::Refused;
+    }
+    let (left, held) = (arena.seen(), link_of(holder));
+    let (expected, stands) = if case.dangles() {
+        (DANGLES, left == before && held == case.holder)
+    } else {
+        let has_moved = has_moved(&left, generation, case.link_then(generation));
+        (
+            Told::Done,
+            has_moved && held == case.holder_then(generation),
+        )
+    };
+    holds(is_left && told == expected, Wrong::Answer(1))?;
+    holds(stands, Wrong::State(1))?;
+    Ok(end)
 }
 
-// So of a direct arena.
-fn directly_linked<A: ArenaDirectInsertTrait<P0, Value> + Drop>(
-    alloc: Global,
-    link: Link,
-) -> Result<A, Wrong> {
-    let rows = [(1, 2, plain(1)), (3, 2, with_link(3, link))];
-    placed(alloc, 3, &rows, 2)
+// Three nodes, of which the second is removed: the third has this link.
+fn nodes(link: Link) -> [Call; 4] {
+    [
+        Call::Insert(plain(1)),
+        Call::Insert(with_link(2, LINKED)),
+        Call::Insert(with_link(3, link)),
+        Call::Remove(2),
+    ]
 }
 
-/// Three nodes, of which the second is removed.
-pub fn strict(alloc: Global, link: Link) -> Result<Strict, Wrong> {
-    let mut arena = Strict::with_min_capacity(alloc, 3)?;
-    fill(alloc, &mut arena, &nodes(link), &[2])?;
+/// Compacts an arena.
+pub fn on_heap(alloc: Global, case: &Case) -> Result<End, Wrong> {
+    let mut arena = OnHeap::with_room(alloc, 3)?;
+    make_each(alloc, &mut arena, &nodes(case.link))?;
+    compacts(alloc, &mut arena, case, 4)
+}
+
+// A strict arena of three nodes.
+fn strict_nodes(alloc: Global, link: Link) -> Result<Strict, Wrong> {
+    let mut arena = Strict::with_room(alloc, 3)?;
+    make_each(alloc, &mut arena, &nodes(link))?;
     Ok(arena)
 }
 
-fn on_arena<A: Compacted + ArenaInsertTrait<P0, Value> + Drop>(
-    alloc: Global,
-    call: Compaction,
-    link: Link,
-) -> Result<End, Wrong> {
-    compacts(alloc, &mut linked_nodes::<A>(alloc, link)?, call, link, 4)
+/// Compacts a strict arena.
+pub fn strictly(alloc: Global, case: &Case) -> Result<End, Wrong> {
+    compacts(alloc, &mut strict_nodes(alloc, case.link)?, case, 4)
 }
 
-fn on_direct<A: Compacted + ArenaDirectInsertTrait<P0, Value> + Drop>(
-    alloc: Global,
-    call: Compaction,
-    link: Link,
-) -> Result<End, Wrong> {
-    compacts(
-        alloc,
-        &mut directly_linked::<A>(alloc, link)?,
-        call,
-        link,
-        2,
-    )
+// Compacts a direct arena without the second node.
+fn directly(alloc: Global, case: &Case) -> Result<End, Wrong> {
+    let nodes = [
+        Call::Place(1, 2, plain(1)),
+        Call::Place(3, 2, with_link(3, case.link)),
+    ];
+    let mut arena = Direct::with_room(alloc, 3)?;
+    make_each(alloc, &mut arena, &nodes)?;
+    compacts(alloc, &mut arena, case, 2)
 }
 
-fn on_strict(alloc: Global, link: Link) -> Result<End, Wrong> {
-    compacts(
-        alloc,
-        &mut strict(alloc, link)?,
-        Compaction::Renamed,
-        link,
-        4,
-    )
-}
-
-// How a renewal ended: whether the third node has moved to index 2, under the first generation, as the first has.
-fn renewed(left: &State, end: End) -> Result<End, Wrong> {
-    holds(has_moved(left, 2, LINKED), Wrong::State(1))?;
+// How a renewal ended: the third node has moved to index 2, under the first generation, as the first has.
+fn renewed(arena: &Strict, told: Told, is_left: bool, end: End) -> Result<End, Wrong> {
+    holds(told == Told::Done, Wrong::Answer(1))?;
+    holds(
+        is_left && has_moved(&arena.seen(), 2, LINKED),
+        Wrong::State(1),
+    )?;
     Ok(end)
 }
 
 // A renewal, and where memory is refused once more, of the arena that comes back as it was.
 fn renews(alloc: Global) -> Result<End, Wrong> {
-    let arena = strict(alloc, LINKED)?;
+    let arena = strict_nodes(alloc, LINKED)?;
     let before = arena.seen();
-    match renew(arena, alloc) {
-        Ok((arena, _map)) => renewed(&arena.seen(), End::Ample),
-        Err((arena, refusal)) => {
-            let is_left = told_compaction(refusal) == NO_MEMORY && arena.seen() == before;
-            holds(is_left, Wrong::State(1))?;
-            match renew(arena, alloc) {
-                Ok((arena, _map)) => renewed(&arena.seen(), End::Refused),
-                Err(_refused) => Err(Wrong::Answer(1)),
-            }
-        }
+    let (arena, told) = arena.renewed(alloc);
+    if told != NO_MEMORY {
+        return renewed(&arena, told, true, End::Ample);
     }
+    let is_left = arena.seen() == before;
+    let (arena, told) = arena.renewed(alloc);
+    renewed(&arena, told, is_left, End::Refused)
 }
 
-// The names of the compactions.
-const MAP: &str = "compress_recaster";
+// The names of compactions, and the compactions: without a holder.
+const MAPPED: (&str, Case) = (
+    "compress_recaster",
+    Case {
+        compaction: Compaction::Mapped,
+        link: LINKED,
+        holder: None,
+    },
+);
 
-const RENAMING: &str = "compress_recast";
+const RENAMED: (&str, Case) = (
+    "compress_recast",
+    Case {
+        compaction: Compaction::Renamed,
+        link: LINKED,
+        holder: None,
+    },
+);
 
-const DANGLING_RENAMING: &str = "compress_recast with a dangling link";
-
-fn each_of_arena<A: Compacted + ArenaInsertTrait<P0, Value> + Drop>(
-    alloc: Global,
-    report: &mut Report,
-) {
-    let (mapped, renamed) = (Compaction::Mapped, Compaction::Renamed);
-    let kind = "an arena";
-    report.note(MAP, kind, on_arena::<A>(alloc, mapped, LINKED));
-    report.note(RENAMING, kind, on_arena::<A>(alloc, renamed, LINKED));
-    report.note(
-        DANGLING_RENAMING,
-        kind,
-        on_arena::<A>(alloc, renamed, DANGLING),
-    );
-}
-
-fn each_of_direct<A: Compacted + ArenaDirectInsertTrait<P0, Value> + Drop>(
-    alloc: Global,
-    report: &mut Report,
-) {
-    let (mapped, renamed) = (Compaction::Mapped, Compaction::Renamed);
-    let kind = "a direct arena";
-    report.note(MAP, kind, on_direct::<A>(alloc, mapped, LINKED));
-    report.note(RENAMING, kind, on_direct::<A>(alloc, renamed, LINKED));
-    report.note(
-        DANGLING_RENAMING,
-        kind,
-        on_direct::<A>(alloc, renamed, DANGLING),
-    );
-}
+const DANGLING_RENAMED: (&str, Case) = (
+    "compress_recast with a dangling link",
+    Case {
+        compaction: Compaction::Renamed,
+        link: DANGLING,
+        holder: None,
+    },
+);
 
 pub fn try_each(alloc: Global, report: &mut Report) {
-    each_of_arena::<OnHeap>(alloc, report);
-    each_of_direct::<Direct>(alloc, report);
-    report.note(RENAMING, "a strict arena", on_strict(alloc, LINKED));
-    report.note(
-        DANGLING_RENAMING,
-        "a strict arena",
-        on_strict(alloc, DANGLING),
-    );
+    for (name, case) in &[MAPPED, RENAMED, DANGLING_RENAMED] {
+        report.note(*name, "an arena", on_heap(alloc, case));
+        report.note(*name, "a direct arena", directly(alloc, case));
+    }
+    for (name, case) in &[RENAMED, DANGLING_RENAMED] {
+        report.note(*name, "a strict arena", strictly(alloc, case));
+    }
     report.note("renew", "a strict arena", renews(alloc));
 }

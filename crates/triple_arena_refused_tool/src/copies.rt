@@ -1,84 +1,81 @@
 //! Clones, whose values ask for memory too, and transfers.
 
-use crate::arenas::{Direct, OnHeap};
-use crate::asked::ask;
-use crate::calls::{filled, placed};
-use crate::report::{End, Report};
-use crate::seen::Whole;
-use crate::state::{SLOTS, State};
-use crate::told::{NO_MEMORY, Told, told_done};
-use crate::value::{Row, Value, plain};
-use crate::wrong::{Wrong, holds};
-use std::alloc;
+use crate::calls::{Call, Tried, make_each};
+use crate::copying::{Copied, Copying, Goal, Refusal};
+use crate::direct::Direct;
+use crate::on_heap::OnHeap;
+use crate::state::{State, no_entries};
+use crate::value::plain;
 use std::alloc::Global;
-use triple_arena::{Arena, ArenaCloneFromWith, ArenaSlot, CompactArenaTrait};
-use triple_arena_base::{AllocError, CloneFromError, ReallocationError};
-use triple_arena_direct::{DirectArena, DirectSlot};
-use triple_arena_ptr::{P0, Ptr, PtrGen};
-use triple_arena_stack::NonZeroInxGenericStack;
+use triple_arena_refused_kit::{End, Report, Wrong, holds};
 
-/// What takes over the entries of another arena, of any values. It has no clauses here.
-trait TakesOver<T> {
-    fn take_over(&mut self, source: &mut Arena<P0, T>) -> Result<(), ReallocationError>;
+// An arena with room for four: four entries, of which all but the second are removed, which makes the counter 5.
+fn target(alloc: Global) -> Result<OnHeap, Wrong> {
+    let calls = [
+        Call::Insert(plain(1)),
+        Call::Insert(plain(2)),
+        Call::Insert(plain(3)),
+        Call::Insert(plain(4)),
+        Call::Remove(3),
+        Call::Remove(1),
+        Call::Remove(4),
+    ];
+    let mut arena = OnHeap::with_room(alloc, 4)?;
+    make_each(alloc, &mut arena, &calls)?;
+    Ok(arena)
 }
 
-impl<T: Drop, S: NonZeroInxGenericStack<ArenaSlot<P0, T>>> TakesOver<T> for Arena<P0, T, S> {
-    fn take_over(&mut self, source: &mut Arena<P0, T>) -> Result<(), ReallocationError> {
-        let generation = <P0 as Ptr>::Gen::two();
-        self.transfer_reallocating(generation, source, |_old, taken, _new| taken.allow())
-    }
+// A direct arena of this room, after these calls.
+fn direct(alloc: Global, room: usize, calls: &[Call]) -> Result<Direct, Wrong> {
+    let mut arena = Direct::with_room(alloc, room)?;
+    make_each(alloc, &mut arena, calls)?;
+    Ok(arena)
 }
 
-impl<T: Drop, S: NonZeroInxGenericStack<DirectSlot<P0, T>>> TakesOver<T> for DirectArena<P0, T, S> {
-    fn take_over(&mut self, source: &mut Arena<P0, T>) -> Result<(), ReallocationError> {
-        let generation = <P0 as Ptr>::Gen::two();
-        self.transfer_reallocating(generation, source, |_old, taken, _new| taken.allow())
-    }
+// One with room for four: two entries with a gap between them, and a free slot at the end.
+fn direct_target(alloc: Global) -> Result<Direct, Wrong> {
+    let calls = [
+        Call::Place(1, 1, plain(1)),
+        Call::Place(3, 9, plain(3)),
+        Call::Place(4, 7, plain(4)),
+        Call::Remove(4),
+    ];
+    direct(alloc, 4, &calls)
 }
 
-/// An arena to which something is copied.
-trait Goal: ArenaCloneFromWith<P0, Value>
-    + CompactArenaTrait<P0, Value>
-    + TakesOver<Value>
-    + Whole
-    + Drop {
-    /// One with room for four.
-    fn target(alloc: Global) -> Result<Self, Wrong>;
-}
-
-impl Goal for OnHeap {
-    // Four entries, of which all but the second are removed, which makes the counter 5.
-    fn target(alloc: Global) -> Result<OnHeap, Wrong> {
-        filled(alloc, 4, &numbers()[..4], &[3, 1, 4])
-    }
-}
-
-impl Goal for Direct {
-    // Two entries with a gap between them, and a free slot at the end.
-    fn target(alloc: Global) -> Result<Direct, Wrong> {
-        let rows = [(1, 1, plain(1)), (3, 9, plain(3)), (4, 7, plain(4))];
-        placed(alloc, 4, &rows, 4)
-    }
-}
-
-// The numbers up to five.
-fn numbers() -> [Row; 5] {
-    [plain(1), plain(2), plain(3), plain(4), plain(5)]
+// The numbers up to five, and no more room.
+fn numbers(alloc: Global) -> Result<OnHeap, Wrong> {
+    let calls = [
+        Call::Insert(plain(1)),
+        Call::Insert(plain(2)),
+        Call::Insert(plain(3)),
+        Call::Insert(plain(4)),
+        Call::Insert(plain(5)),
+    ];
+    let mut arena = OnHeap::with_room(alloc, 5)?;
+    make_each(alloc, &mut arena, &calls)?;
+    Ok(arena)
 }
 
 // Five entries, of which the second and the fourth are removed, which makes the counter 4.
 fn source(alloc: Global) -> Result<OnHeap, Wrong> {
-    filled(alloc, 5, &numbers(), &[2, 4])
+    let mut source = numbers(alloc)?;
+    make_each(alloc, &mut source, &[Call::Remove(2), Call::Remove(4)])?;
+    Ok(source)
 }
 
 fn direct_source(alloc: Global) -> Result<Direct, Wrong> {
-    let rows = [(5, 2, plain(5)), (1, 9, plain(1)), (3, 1, plain(3))];
-    placed(alloc, 5, &rows, 2)
+    let calls = [
+        Call::Place(5, 2, plain(5)),
+        Call::Place(1, 9, plain(1)),
+        Call::Place(3, 1, plain(3)),
+    ];
+    direct(alloc, 5, &calls)
 }
 
 // What stands where so many entries of the source were cloned, in an arena that had this state.
 fn cloned(before: &State, count: usize) -> State {
-    let mut entries = [None; SLOTS];
+    let mut entries = no_entries();
     for at in 0..3 {
         if at < count {
             entries[2 * at] = Some((2, 2 * at as u64 + 1));
@@ -92,53 +89,6 @@ fn cloned(before: &State, count: usize) -> State {
         ..*before
     };
     state.tidied()
-}
-
-// What refused a clone.
-#[derive(Clone, Copy, PartialEq)]
-enum Refusal {
-    Room,
-    Value,
-    Limit,
-}
-
-fn refusal_of<E: Drop>(refused: CloneFromError<E>) -> Refusal {
-    match refused {
-        CloneFromError::Reallocation(ReallocationError::AllocError) => Refusal::Room,
-        CloneFromError::Map(_refused) => Refusal::Value,
-        CloneFromError::Reallocation(ReallocationError::BeyondMaxCapacity) => Refusal::Limit,
-    }
-}
-
-// What refuses a clone into an arena, if something does. It has no clauses, so that its callers are quick to prove.
-fn refusal_into<A: ArenaCloneFromWith<P0, Value>, B: CompactArenaTrait<P0, Value>>(
-    target: &mut A,
-    source: &B,
-) -> Option<Refusal> {
-    match target.clone_from(source) {
-        Ok(()) => None,
-        Err(refused) => Some(refusal_of(refused)),
-    }
-}
-
-// So by a closure that asks for memory, and how often it was called.
-fn refusal_by_closure<A: ArenaCloneFromWith<P0, Value>, B: CompactArenaTrait<P0, Value>>(
-    alloc: Global,
-    target: &mut A,
-    source: &B,
-) -> (Option<Refusal>, usize) {
-    let mut calls = 0usize;
-    let answer = target.clone_from_with(source, |_p, value: &Value| -> Result<Value, AllocError> {
-        calls = calls.saturating_add(1);
-        match ask(alloc) {
-            Ok(()) => Ok(plain(value.number).value(alloc)),
-            Err(alloc::AllocError) => Err(AllocError),
-        }
-    });
-    match answer {
-        Ok(()) => (None, calls),
-        Err(refused) => (Some(refusal_of(refused)), calls),
-    }
 }
 
 // The values that are cloned, in their order.
@@ -164,49 +114,39 @@ fn ended(end: Option<End>, it: bool) -> Result<End, Wrong> {
     }
 }
 
+// How often a closure was called by a clone that ended so, of which so many values stand: up to its first refusal.
+fn calls_up_to(copying: Copying, end: Option<End>, count: usize) -> usize {
+    match copying {
+        Copying::ByClosure if end != Some(End::Refused) => count.saturating_add(1),
+        _ => 0,
+    }
+}
+
+// What a clone tells of which all three values stand.
+fn all_cloned(copying: Copying) -> Copied {
+    match copying {
+        Copying::ByClosure => (None, 3),
+        _ => (None, 0),
+    }
+}
+
 // A clone into an arena, and once more where it is refused.
-fn clones_into<A: Goal, B: Goal>(target: &mut A, source: &B) -> Result<End, Wrong> {
+fn clones_into<A: Tried + Goal>(
+    target: &mut A,
+    source: &mut OnHeap,
+    copying: Copying,
+) -> Result<End, Wrong> {
     let (before, of_source) = (target.seen(), source.seen());
-    let mut refusal = refusal_into(target, source);
-    let mut end = Some(End::Ample);
-    if let Some(refused) = refusal {
-        end = end_at(refused, &before, &target.seen());
-        refusal = refusal_into(target, source);
+    let mut copied = target.take(source, copying);
+    let (mut end, mut is_called) = (Some(End::Ample), true);
+    if let (Some(refusal), calls) = copied {
+        let seen = target.seen();
+        end = end_at(refusal, &before, &seen);
+        is_called = calls == calls_up_to(copying, end, seen.len);
+        copied = target.take(source, copying);
     }
     let is_cloned = target.seen() == cloned(&before, 3) && source.seen() == of_source;
-    ended(end, is_cloned && refusal.is_none())
-}
-
-// How often a closure was called by a clone that ended so, of which so many values stand.
-fn calls_up_to(end: Option<End>, count: usize) -> usize {
-    if end == Some(End::Refused) {
-        0
-    } else {
-        count.saturating_add(1)
-    }
-}
-
-// Clones by a closure, which is called up to its first refusal, and once more where it is refused.
-fn clones_with<A: Goal, B: Goal>(alloc: Global, target: &mut A, source: &B) -> Result<End, Wrong> {
-    let before = target.seen();
-    let (mut refusal, mut calls) = refusal_by_closure(alloc, target, source);
-    let (mut end, mut is_called) = (Some(End::Ample), true);
-    if let Some(refused) = refusal {
-        let seen = target.seen();
-        end = end_at(refused, &before, &seen);
-        is_called = calls == calls_up_to(end, seen.len);
-        (refusal, calls) = refusal_by_closure(alloc, target, source);
-    }
-    let is_cloned = target.seen() == cloned(&before, 3) && refusal.is_none();
-    ended(end, is_cloned && is_called && calls == 3)
-}
-
-// The state of a clone, or what refuses it.
-fn state_of_clone<A: Goal>(alloc: Global, source: &A) -> Result<State, Refusal> {
-    match source.clone(alloc) {
-        Ok(copy) => Ok(copy.seen()),
-        Err(refused) => Err(refusal_of(refused)),
-    }
+    ended(end, is_cloned && is_called && copied == all_cloned(copying))
 }
 
 // How a clone ended that was refused, and that leaves nothing.
@@ -220,13 +160,13 @@ fn end_of(refusal: Refusal) -> Option<End> {
 
 // A clone, and once more where it is refused. It is as its original, which stays as it was, but
 // that the free list is tidied.
-fn clones<A: Goal>(alloc: Global, source: &A) -> Result<End, Wrong> {
+fn clones<A: Tried + Goal>(alloc: Global, source: &A) -> Result<End, Wrong> {
     let before = source.seen();
-    let mut told = state_of_clone(alloc, source);
+    let mut told = source.state_of_clone(alloc);
     let mut end = Some(End::Ample);
     if let Err(refusal) = told {
         end = end_of(refusal);
-        told = state_of_clone(alloc, source);
+        told = source.state_of_clone(alloc);
     }
     let is_cloned = told == Ok(before.refused()) && source.seen() == before;
     ended(end, is_cloned)
@@ -234,7 +174,7 @@ fn clones<A: Goal>(alloc: Global, source: &A) -> Result<End, Wrong> {
 
 // What stands where five entries went over, from index 1 on, under generation 2.
 fn gone_over(before: &State) -> State {
-    let mut entries = [None; SLOTS];
+    let mut entries = no_entries();
     for at in 0..5 {
         entries[at] = Some((2, at as u64 + 1));
     }
@@ -250,69 +190,68 @@ fn gone_over(before: &State) -> State {
 }
 
 // Five entries go over to an arena with room for four, and once more where that is refused.
-fn goes_over<A: Goal>(target: &mut A, source: &mut OnHeap) -> Result<End, Wrong> {
+fn goes_over<A: Tried + Goal>(target: &mut A, source: &mut OnHeap) -> Result<End, Wrong> {
     let (before, of_source) = (target.seen(), source.seen());
-    let mut told = told_done(target.take_over(source));
+    let mut told = target.take(source, Copying::Transferred);
     let (mut end, mut is_left) = (End::Ample, true);
-    if told == NO_MEMORY {
+    if told == (Some(Refusal::Room), 0) {
         is_left = source.seen() == of_source && target.seen() == before.refused();
-        told = told_done(target.take_over(source));
+        told = target.take(source, Copying::Transferred);
         end = End::Refused;
     }
     let is_gone = source.seen().len == 0 && target.seen() == gone_over(&before);
-    holds(is_left && is_gone && told == Told::Done, Wrong::State(3))?;
+    holds(is_left && is_gone && told == (None, 0), Wrong::State(3))?;
     Ok(end)
 }
 
-fn clone_from<A: Goal, B: Goal>(alloc: Global, source: &B) -> Result<End, Wrong> {
-    let mut target = A::target(alloc)?;
-    clones_into(&mut target, source)
+fn transfer(alloc: Global) -> Result<End, Wrong> {
+    let mut source = numbers(alloc)?;
+    goes_over(&mut target(alloc)?, &mut source)
 }
 
-fn clone_from_with<A: Goal, B: Goal>(alloc: Global, source: &B) -> Result<End, Wrong> {
-    let mut target = A::target(alloc)?;
-    clones_with(alloc, &mut target, source)
+fn direct_transfer(alloc: Global) -> Result<End, Wrong> {
+    let mut source = numbers(alloc)?;
+    goes_over(&mut direct_target(alloc)?, &mut source)
 }
 
-fn transfer<A: Goal>(alloc: Global) -> Result<End, Wrong> {
-    let mut source: OnHeap = filled(alloc, 5, &numbers(), &[])?;
-    let mut target = A::target(alloc)?;
-    goes_over(&mut target, &mut source)
+fn clone_into(alloc: Global, source: &mut OnHeap, copying: Copying) -> Result<End, Wrong> {
+    clones_into(&mut target(alloc)?, source, copying)
+}
+
+fn clone_directly(alloc: Global, source: &mut OnHeap, copying: Copying) -> Result<End, Wrong> {
+    clones_into(&mut direct_target(alloc)?, source, copying)
 }
 
 fn direct_clone(alloc: Global) -> Result<End, Wrong> {
     clones(alloc, &direct_source(alloc)?)
 }
 
-// Each clone of this source into an arena.
-fn each_clone<A: Goal, B: Goal>(
-    alloc: Global,
-    source: &B,
-    kind: &'static str,
-    report: &mut Report,
-) {
-    report.note("clone_from", kind, clone_from::<A, B>(alloc, source));
-    report.note(
-        "clone_from_with",
-        kind,
-        clone_from_with::<A, B>(alloc, source),
-    );
-}
+// Each clone of an arena into another.
+const CLONES: &[(&str, Copying)] = &[
+    ("clone_from", Copying::Cloned),
+    ("clone_from_with", Copying::ByClosure),
+];
 
 // Each clone of an arena.
-fn each_clone_of(alloc: Global, source: &OnHeap, report: &mut Report) {
+fn each_clone_of(alloc: Global, source: &mut OnHeap, report: &mut Report) {
     report.note("clone", "an arena", clones(alloc, source));
-    each_clone::<OnHeap, OnHeap>(alloc, source, "an arena", report);
-    each_clone::<Direct, OnHeap>(alloc, source, "a direct arena", report);
+    for (name, copying) in CLONES {
+        report.note(*name, "an arena", clone_into(alloc, source, *copying));
+        report.note(
+            *name,
+            "a direct arena",
+            clone_directly(alloc, source, *copying),
+        );
+    }
 }
 
 pub fn try_each(alloc: Global, report: &mut Report) {
     match source(alloc) {
-        Ok(source) => each_clone_of(alloc, &source, report),
+        Ok(mut source) => each_clone_of(alloc, &mut source, report),
         Err(wrong) => report.note("made", "an arena", Err(wrong)),
     }
     report.note("clone", "a direct arena", direct_clone(alloc));
     let call = "transfer_reallocating";
-    report.note(call, "an arena", transfer::<OnHeap>(alloc));
-    report.note(call, "a direct arena", transfer::<Direct>(alloc));
+    report.note(call, "an arena", transfer(alloc));
+    report.note(call, "a direct arena", direct_transfer(alloc));
 }

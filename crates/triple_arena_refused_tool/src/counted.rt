@@ -4,10 +4,10 @@ ghost use Rattle.std.proofs.Common.{ap};
 ghost use Rattle.triple_arena_base.specs.Held.{held_option, refill_option};
 ghost use Rattle.triple_arena_base.specs.laws.HeldLaws.{option_held_refill, option_refill_held, option_refill_refill};
 
-use crate::asked::ask;
 use std::alloc::{AllocError, Global};
 use std::cell::Cell;
 use triple_arena_base::{Recast, Recaster};
+use triple_arena_refused_kit::ask;
 
 /// A number and a link. Its clone makes a request for memory.
 pub struct Counted<'a, P: Copy> {

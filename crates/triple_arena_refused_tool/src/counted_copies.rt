@@ -3,15 +3,16 @@
 
 ghost use Rattle.std.specs.Prelude.{◌≡◌};
 
+use crate::compacting::{Compaction, compact_arena};
+use crate::copying::{Copying, copy};
 use crate::counted::Counted;
-use crate::report::{End, Report};
-use crate::wrong::{Wrong, holds};
+use crate::on_heap::with_room;
+use crate::told::{NO_MEMORY, Told};
 use std::alloc::Global;
 use std::cell::Cell;
-use triple_arena::{Arena, ArenaCloneFromWith, ArenaInsertTrait, ArenaTrait, CompactArenaTrait};
-use triple_arena_base::{CompactError, Recast};
-use triple_arena_direct::compress_recast;
-use triple_arena_ptr::{P0, Ptr, PtrGen};
+use triple_arena::Arena;
+use triple_arena_ptr::{P0, Ptr};
+use triple_arena_refused_kit::{End, Report, Wrong, holds};
 use triple_arena_stack::{HeapStack, NonZeroInxGenericStack, NonZeroInxStack};
 
 type Value<'a> = Counted<'a, P0>;
@@ -23,8 +24,8 @@ fn value(alloc: Global, live: &Cell<u64>) -> Value<'_> {
     Counted::new(7, None, alloc, live)
 }
 
-// Inserts a value into any arena, where there is a place.
-fn put<T: Drop, A: ArenaInsertTrait<P0, T>>(arena: &mut A, value: T) -> Result<(), Wrong> {
+// Inserts a value, where there is a place.
+fn put<T: Drop>(arena: &mut Arena<P0, T>, value: T) -> Result<(), Wrong> {
     holds(
         arena.insert_within_capacity(value).is_ok(),
         Wrong::Answer(0),
@@ -33,7 +34,7 @@ fn put<T: Drop, A: ArenaInsertTrait<P0, T>>(arena: &mut A, value: T) -> Result<(
 
 // An arena of so many values, and no more room.
 fn values(alloc: Global, count: usize, live: &Cell<u64>) -> Result<Values<'_>, Wrong> {
-    let mut arena = Values::with_min_capacity(alloc, count)?;
+    let mut arena = with_room(alloc, count)?;
     for _ in 0..count {
         put(&mut arena, value(alloc, live))?;
     }
@@ -56,11 +57,7 @@ fn ended(was_refused: bool, it: bool) -> Result<End, Wrong> {
 }
 
 // Whether a clone is made, of which there are three values more.
-fn is_cloned<T: Clone + Drop, A: ArenaCloneFromWith<P0, T> + CompactArenaTrait<P0, T> + Drop>(
-    alloc: Global,
-    source: &A,
-    live: &Cell<u64>,
-) -> bool
+fn is_cloned<T: Clone + Drop>(alloc: Global, source: &Arena<P0, T>, live: &Cell<u64>) -> bool
     requires { (x y : T) → T.is_clone x y → y ≡ x }
 {
     match source.clone(alloc) {
@@ -79,42 +76,24 @@ fn clone(alloc: Global) -> Result<End, Wrong> {
     ended(was_refused, are_left && is_made && are_there(&live, 3))
 }
 
-// Whether a clone into an arena is made, and whether there are as many values as both hold.
-fn is_cloned_into<T: Clone + Drop, A: ArenaCloneFromWith<P0, T>, B: CompactArenaTrait<P0, T>>(
-    target: &mut A,
-    source: &B,
-    live: &Cell<u64>,
-) -> (bool, bool)
-    requires { (x y : T) → T.is_clone x y → y ≡ x }
-{
-    let is_made = target.clone_from(source).is_ok();
-    let count = source.len().saturating_add(target.len());
-    (is_made, are_there(live, count))
+// Whether a copy is made.
+fn is_copied<'a>(target: &mut Values<'a>, source: &mut Values<'a>, copying: Copying) -> bool {
+    copy(target, source, copying) == (None, 0)
 }
 
-// One into an arena of two lets those go, and keeps what was cloned.
+// A clone into an arena of two lets those go, and keeps what was cloned.
 fn clone_from(alloc: Global) -> Result<End, Wrong> {
     let live = Cell::new(0);
-    let source = values(alloc, 3, &live)?;
+    let mut source = values(alloc, 3, &live)?;
     let mut target = values(alloc, 2, &live)?;
-    let (mut is_made, are_left) = is_cloned_into(&mut target, &source, &live);
+    let mut is_made = is_copied(&mut target, &mut source, Copying::Cloned);
+    let count = source.len().saturating_add(target.len());
+    let are_left = are_there(&live, count);
     let was_refused = !is_made;
     if was_refused {
-        (is_made, _) = is_cloned_into(&mut target, &source, &live);
+        is_made = is_copied(&mut target, &mut source, Copying::Cloned);
     }
     ended(was_refused, are_left && is_made && are_there(&live, 6))
-}
-
-// Whether the values of an arena go over to another. It is of any values: a closure whose values have a
-// lifetime isn't covered here.
-fn go_over<T: Drop>(target: &mut Arena<P0, T>, source: &mut Arena<P0, T>) -> bool {
-    let generation = <P0 as Ptr>::Gen::two();
-    let answer = target.transfer_reallocating(
-        generation,
-        source,
-        |_old, taken, _new| taken.allow(),
-    );
-    answer.is_ok()
 }
 
 // Three values go over to an arena of two, which lets its own go, and none where that is refused.
@@ -122,36 +101,30 @@ fn transfer(alloc: Global) -> Result<End, Wrong> {
     let live = Cell::new(0);
     let mut source = values(alloc, 3, &live)?;
     let mut target = values(alloc, 2, &live)?;
-    let was_refused = !go_over(&mut target, &mut source);
+    let was_refused = !is_copied(&mut target, &mut source, Copying::Transferred);
     let are_left = !was_refused || are_there(&live, 5);
-    let is_made = !was_refused || go_over(&mut target, &mut source);
+    let is_made = !was_refused || is_copied(&mut target, &mut source, Copying::Transferred);
     ended(was_refused, are_left && is_made && are_there(&live, 3))
 }
 
-// What refuses a compaction of any arena, if something does.
-fn refusal_of<T: Recast<P0>, A: CompactArenaTrait<P0, T>>(
-    arena: &mut A,
-    alloc: Global,
-) -> Option<CompactError<P0>> {
-    compress_recast(arena, alloc, false).err()
-}
-
-fn is_room<P: Ptr>(refusal: Option<CompactError<P>>) -> bool {
-    matches!(refusal, Some(CompactError::Reallocation(_)))
+// What a compaction that renames links tells.
+fn compact_once(arena: &mut Values<'_>, alloc: Global) -> Told {
+    let mut holder = None;
+    compact_arena(arena, alloc, Compaction::Renamed, &mut holder)
 }
 
 // A compaction lets no value go, where a link leads to no entry and where none is there.
 fn compact(alloc: Global, link: Option<P0>) -> Result<End, Wrong> {
     let live = Cell::new(0);
-    let mut arena = Values::with_min_capacity(alloc, 1)?;
+    let mut arena = with_room(alloc, 1)?;
     put(&mut arena, Counted::new(7, link, alloc, &live))?;
-    let mut refusal = refusal_of(&mut arena, alloc);
+    let mut told = compact_once(&mut arena, alloc);
     let are_left = are_there(&live, 1);
-    let was_refused = is_room(refusal);
+    let was_refused = told == NO_MEMORY;
     if was_refused {
-        refusal = refusal_of(&mut arena, alloc);
+        told = compact_once(&mut arena, alloc);
     }
-    let is_told = refusal.is_none() == link.is_none();
+    let is_told = (told == Told::Done) == link.is_none();
     ended(was_refused, are_left && is_told && are_there(&live, 1))
 }
 

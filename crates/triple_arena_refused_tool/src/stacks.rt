@@ -1,9 +1,8 @@
 //! Stacks: how they are made, pushes, entries and reallocations.
 
-use crate::report::{End, Report};
-use crate::wrong::{Wrong, holds};
 use std::alloc::Global;
 use triple_arena_base::{MaxCapacityReductionError, ReallocationError};
+use triple_arena_refused_kit::{End, Report, Wrong, holds};
 use triple_arena_stack::{
     HeapStack, LimitedStack, NonZeroInxGenericStack, NonZeroInxGenericStackPushEntryTrait,
     NonZeroInxStack, SetMaxCapacity,

@@ -1,9 +1,14 @@
 //! All that an arena shows of itself, to compare before and after a call.
 
-use crate::free_list::FreeList;
+use triple_arena_refused_kit::{FreeList, SLOTS};
 
-/// How many slots of an arena are shown: more than any here has.
-pub const SLOTS: usize = 64;
+/// By index from 1, the number of the generation of each entry, and that of which its value is shown.
+pub type Entries = [Option<(u64, u64)>; SLOTS];
+
+/// Those of an arena without entries.
+pub fn no_entries() -> Entries {
+    [None; SLOTS]
+}
 
 /// The whole state of an arena of no more than `SLOTS` slots.
 #[derive(Clone, Copy, PartialEq)]
@@ -14,13 +19,12 @@ pub struct State {
     // a direct arena has none
     pub counter: Option<u64>,
     pub slots: usize,
-    // by index from 1, the number of the generation of the entry, and that of which its value is shown
-    pub entries: [Option<(u64, u64)>; SLOTS],
+    pub entries: Entries,
     pub free: FreeList,
 }
 
 // How many slots there are up to the last entry.
-fn slots_up_to_last(entries: &[Option<(u64, u64)>; SLOTS]) -> usize {
+fn slots_up_to_last(entries: &Entries) -> usize {
     let mut slots = 0;
     for at in 0..SLOTS {
         if entries[at].is_some() {
@@ -31,7 +35,7 @@ fn slots_up_to_last(entries: &[Option<(u64, u64)>; SLOTS]) -> usize {
 }
 
 // The indexes up to this one that have no entry, in rising order.
-fn free_up_to(slots: usize, entries: &[Option<(u64, u64)>; SLOTS]) -> [usize; SLOTS] {
+fn free_up_to(slots: usize, entries: &Entries) -> [usize; SLOTS] {
     let mut free = [0; SLOTS];
     let mut place = 0;
     for at in 0..SLOTS {

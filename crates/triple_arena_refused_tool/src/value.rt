@@ -4,12 +4,11 @@ ghost use Rattle.std.proofs.Common.{ap};
 ghost use Rattle.triple_arena_base.specs.Held.{held_itself, refill_itself, held_option, refill_option};
 ghost use Rattle.triple_arena_base.specs.laws.HeldLaws.{itself_held_refill, itself_refill_held, itself_refill_refill, option_held_refill, option_refill_held, option_refill_refill};
 
-use crate::asked::ask;
 use crate::links::{Link, link_of, linked, shown_link};
-use crate::seen::Shown;
 use std::alloc::{AllocError, Global};
 use triple_arena_base::{Recast, Recaster};
 use triple_arena_ptr::{P0, Q2};
+use triple_arena_refused_kit::ask;
 
 /// A number, and what it points to in an arena of each of two types of pointers. Its clone makes a request for
 /// memory.
@@ -57,7 +56,8 @@ impl Row {
         }
     }
 
-    /// The number of which its value is shown.
+    /// The number of which its value is shown: its own, 100 times that of its link, and 1000000 times that of the other.
+    /// Rows have smaller numbers.
     pub fn shown(self) -> u64 {
         let link = shown_link(self.link).wrapping_mul(100);
         let net = shown_link(self.net).wrapping_mul(1_000_000);
@@ -65,10 +65,9 @@ impl Row {
     }
 }
 
-/// The number, 100 times that of which its link is shown, and 1000000 times that of the other. Rows have smaller
-/// numbers.
-impl Shown for Value {
-    fn shown(&self) -> u64 {
+impl Value {
+    /// The number of which it is shown, as its row.
+    pub fn shown(&self) -> u64 {
         let row = Row {
             number: self.number,
             link: link_of(self.link),

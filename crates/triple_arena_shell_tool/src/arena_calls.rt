@@ -1,73 +1,74 @@
 //! The calls of an `Arena`.
 
-use crate::calls_of_any::{Line, Numbered, Stop, Value, call_by_traits, generation, size};
-use crate::entries::{entry_insert, entry_insert_reallocating, entry_insert_within_capacity};
-use crate::state::{free, show_state, slots};
+use crate::calls::{
+    Answer, Numbered, Stop, Value, change, exchange, generation, given, insert, read, shown, walk,
+};
+use crate::entries::{
+    insert_by_entry, insert_by_entry_reallocating, insert_by_entry_within_capacity,
+};
+use crate::state::{free_indexes, state};
+use std::alloc::Global;
 use triple_arena::{Arena, ArenaSlot};
 use triple_arena_ptr::Ptr;
-use triple_arena_stack::{NonZeroInxGenericStack, SetMaxCapacity};
+use triple_arena_stack::NonZeroInxGenericStack;
 
 /// A call of an `Arena` over any stack.
-pub fn call_arena<R: Print, P: Ptr, S: NonZeroInxGenericStack<ArenaSlot<P, Value>>>(
-    line: &Line<'_, R>,
+///
+/// Each group of calls is asked whether the call is one of its own: to none of its own, or to one whose words are wrong,
+/// it answers `Malformed`, and has changed nothing.
+pub fn call_arena<P: Ptr, S: NonZeroInxGenericStack<ArenaSlot<P, Value>>>(
+    alloc: Global,
     arena: &mut Arena<P, Value, S>,
     call: &[&str],
-) -> Result<(), Stop>
+) -> Answer
 where
     P::Gen: Numbered,
 {
     match *call {
-        ["show"] => line.answer(arena),
-        ["state"] => show_state(line, arena),
-        ["slots"] => slots(line, arena),
-        ["free"] => free(line, arena),
-        ["freelist_root"] => line.answer(&arena.freelist_root()),
-        ["canonicalize_freelist"] => line.answer(&arena.canonicalize_freelist()),
-        ["remove_free_end_slots"] => line.answer(&arena.remove_free_end_slots()),
-        ["generation"] => line.answer(&arena.generation()),
-        ["set_generation", g] => set_generation(line, arena, g),
-        ["inc_generation"] => line.answer(&arena.inc_generation()),
-        ["entry_insert", ref value @ ..] => entry_insert(line, arena, value),
-        ["entry_insert_reallocating", ref value @ ..] => {
-            entry_insert_reallocating(line, arena, value)
+        ["show"] => shown(alloc, arena),
+        ["state"] => state(alloc, arena),
+        ["slots"] => shown(alloc, &arena.backing().as_slice().len()),
+        ["free"] => shown(alloc, &free_indexes(alloc, arena)?),
+        ["freelist_root"] => shown(alloc, &arena.freelist_root()),
+        ["canonicalize_freelist"] => shown(alloc, &arena.canonicalize_freelist()),
+        ["remove_free_end_slots"] => shown(alloc, &arena.remove_free_end_slots()),
+        ["generation"] => shown(alloc, &arena.generation()),
+        ["set_generation", g] => shown(alloc, &arena.set_generation(generation(g)?)),
+        ["inc_generation"] => shown(alloc, &arena.inc_generation()),
+        ["entry_insert", ref new @ ..] => shown(alloc, &insert_by_entry(arena, given(new)?)),
+        ["entry_insert_reallocating", ref new @ ..] => {
+            shown(alloc, &insert_by_entry_reallocating(arena, given(new)?))
         }
-        ["entry_insert_within_capacity", ref value @ ..] => {
-            entry_insert_within_capacity(line, arena, value)
+        ["entry_insert_within_capacity", ref new @ ..] => {
+            shown(alloc, &insert_by_entry_within_capacity(arena, given(new)?))
         }
-        _ => call_by_traits(line, arena, call),
+        _ => call_in_groups(alloc, arena, call),
     }
 }
 
-fn set_generation<R: Print, P: Ptr, S: NonZeroInxGenericStack<ArenaSlot<P, Value>>>(
-    line: &Line<'_, R>,
-    arena: &mut Arena<P, Value, S>,
-    g: &str,
-) -> Result<(), Stop>
-where
-    P::Gen: Numbered,
-{
-    line.answer(&arena.set_generation(generation(g)?))
-}
-
-/// A call of one over a stack whose limit can be set.
-pub fn call_limited<R: Print, P: Ptr, S: SetMaxCapacity<ArenaSlot<P, Value>>>(
-    line: &Line<'_, R>,
+fn call_in_groups<P: Ptr, S: NonZeroInxGenericStack<ArenaSlot<P, Value>>>(
+    alloc: Global,
     arena: &mut Arena<P, Value, S>,
     call: &[&str],
-) -> Result<(), Stop>
+) -> Answer
 where
     P::Gen: Numbered,
 {
-    match *call {
-        ["set_max_capacity", n] => set_max_capacity(line, arena, n),
-        _ => call_arena(line, arena, call),
+    match insert(alloc, arena, call) {
+        Err(Stop::Malformed) => {}
+        answered => return answered,
     }
-}
-
-fn set_max_capacity<R: Print, P: Ptr, S: SetMaxCapacity<ArenaSlot<P, Value>>>(
-    line: &Line<'_, R>,
-    arena: &mut Arena<P, Value, S>,
-    n: &str,
-) -> Result<(), Stop> {
-    line.answer(&arena.set_max_capacity(size(n)?))
+    match read(alloc, arena, call) {
+        Err(Stop::Malformed) => {}
+        answered => return answered,
+    }
+    match change(alloc, arena, call) {
+        Err(Stop::Malformed) => {}
+        answered => return answered,
+    }
+    match exchange(alloc, arena, call) {
+        Err(Stop::Malformed) => {}
+        answered => return answered,
+    }
+    walk(alloc, arena, call)
 }

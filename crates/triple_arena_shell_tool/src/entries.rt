@@ -4,32 +4,15 @@ ghost use Rattle.std.specs.Prelude.{◌<◌};
 ghost use Rattle.triple_arena_traits.specs.ArenaState.{arena_len, capacity};
 ghost use Rattle.triple_arena.specs.InsertEntry.{entry_arena};
 
-use crate::calls_of_any::{Line, Stop, Value, value};
+use crate::calls::Value;
 use triple_arena::{Arena, ArenaInsertEntry, ArenaInsertEntryTrait, ArenaSlot};
 use triple_arena_base::{NotWithinCapacityError, ReallocationError};
 use triple_arena_ptr::Ptr;
 use triple_arena_stack::NonZeroInxGenericStack;
 
-// The value that words give, if they give one.
-fn given(words: &[&str]) -> Result<Option<Value>, Stop> {
-    match *words {
-        [] => Ok(None),
-        [v] => Ok(Some(value(v)?)),
-        _ => Err(Stop::Malformed),
-    }
-}
-
-/// The call `entry_insert`, by which a value is inserted, if the words have one.
-pub fn entry_insert<R: Print, P: Ptr, S: NonZeroInxGenericStack<ArenaSlot<P, Value>>>(
-    line: &Line<'_, R>,
-    arena: &mut Arena<P, Value, S>,
-    words: &[&str],
-) -> Result<(), Stop> {
-    let new = given(words)?;
-    line.answer(&told(arena, new))
-}
-
-fn told<P: Ptr, S: NonZeroInxGenericStack<ArenaSlot<P, Value>>>(
+/// The pointer that the entry of `entry_insert` tells, by which a value is inserted, if there is one; else the entry is
+/// let go.
+pub fn insert_by_entry<P: Ptr, S: NonZeroInxGenericStack<ArenaSlot<P, Value>>>(
     arena: &mut Arena<P, Value, S>,
     new: Option<Value>,
 ) -> Result<P, ReallocationError> {
@@ -39,17 +22,8 @@ fn told<P: Ptr, S: NonZeroInxGenericStack<ArenaSlot<P, Value>>>(
     }
 }
 
-/// So of `entry_insert_reallocating`.
-pub fn entry_insert_reallocating<R: Print, P: Ptr, S: NonZeroInxGenericStack<ArenaSlot<P, Value>>>(
-    line: &Line<'_, R>,
-    arena: &mut Arena<P, Value, S>,
-    words: &[&str],
-) -> Result<(), Stop> {
-    let new = given(words)?;
-    line.answer(&told_reallocating(arena, new))
-}
-
-fn told_reallocating<P: Ptr, S: NonZeroInxGenericStack<ArenaSlot<P, Value>>>(
+/// So by `entry_insert_reallocating`.
+pub fn insert_by_entry_reallocating<P: Ptr, S: NonZeroInxGenericStack<ArenaSlot<P, Value>>>(
     arena: &mut Arena<P, Value, S>,
     new: Option<Value>,
 ) -> Result<P, ReallocationError> {
@@ -59,17 +33,8 @@ fn told_reallocating<P: Ptr, S: NonZeroInxGenericStack<ArenaSlot<P, Value>>>(
     }
 }
 
-/// So of `entry_insert_within_capacity`.
-pub fn entry_insert_within_capacity<
-    R: Print,
-    P: Ptr,
-    S: NonZeroInxGenericStack<ArenaSlot<P, Value>>,
->(line: &Line<'_, R>, arena: &mut Arena<P, Value, S>, words: &[&str]) -> Result<(), Stop> {
-    let new = given(words)?;
-    line.answer(&told_within_capacity(arena, new))
-}
-
-fn told_within_capacity<P: Ptr, S: NonZeroInxGenericStack<ArenaSlot<P, Value>>>(
+/// So by `entry_insert_within_capacity`.
+pub fn insert_by_entry_within_capacity<P: Ptr, S: NonZeroInxGenericStack<ArenaSlot<P, Value>>>(
     arena: &mut Arena<P, Value, S>,
     new: Option<Value>,
 ) -> Result<P, NotWithinCapacityError> {
@@ -79,7 +44,6 @@ fn told_within_capacity<P: Ptr, S: NonZeroInxGenericStack<ArenaSlot<P, Value>>>(
     }
 }
 
-// The pointer that an entry tells, by which a value is inserted, if there is one; else the entry is let go.
 fn told_by<P: Ptr, S: NonZeroInxGenericStack<ArenaSlot<P, Value>>>(
     entry: ArenaInsertEntry<'_, P, Value, S>,
     new: Option<Value>,

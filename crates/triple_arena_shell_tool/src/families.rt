@@ -1,28 +1,11 @@
 //! The arenas that lines may name, by the type of their pointers.
 
-use crate::calls_of_any::{B, Stop, Value};
-use crate::held::{Either, Limited, Over};
+use crate::calls::Stop;
+use crate::held::OverAny;
 use crate::lines::follow_family;
 use std::alloc::Global;
-use triple_arena::{Arena, ArenaSlot};
 use triple_arena_ptr::{P0, P4, P5};
-use triple_arena_stack::{
-    NonZeroInxArray, NonZeroInxBoxedSlice, NonZeroInxLimitedVec, NonZeroInxVec,
-};
-
-type OnHeap<P> = Over<Arena<P, Value, NonZeroInxVec<ArenaSlot<P, Value>>>>;
-
-type UpToLimit<P> = Limited<Arena<P, Value, NonZeroInxLimitedVec<ArenaSlot<P, Value>>>>;
-
-type Fixed<P> = Over<Arena<P, Value, NonZeroInxBoxedSlice<ArenaSlot<P, Value>>>>;
-
-type InArray<P> = Over<Arena<P, Value, NonZeroInxArray<ArenaSlot<P, Value>, 8>>>;
-
-// An arena over the heap, with a limit or without.
-type OverTwo<P> = Either<OnHeap<P>, UpToLimit<P>>;
-
-// An arena over any of the four stacks.
-type OverAny<P> = Either<OverTwo<P>, Either<Fixed<P>, InArray<P>>>;
+use triple_arena_test_kit::B;
 
 /// Arenas whose pointers are of one type.
 #[derive(Clone, Copy)]
@@ -72,7 +55,7 @@ fn follow_p4<R: Print + Input>(
     alloc: Global,
     number: &mut u64,
 ) -> Result<Option<Family>, Stop> {
-    follow_family::<R, OverTwo<P4>>(rt, alloc, number)
+    follow_family::<R, OverAny<P4>>(rt, alloc, number)
 }
 
 fn follow_p5<R: Print + Input>(
@@ -80,7 +63,7 @@ fn follow_p5<R: Print + Input>(
     alloc: Global,
     number: &mut u64,
 ) -> Result<Option<Family>, Stop> {
-    follow_family::<R, OverTwo<P5>>(rt, alloc, number)
+    follow_family::<R, OverAny<P5>>(rt, alloc, number)
 }
 
 fn follow_b<R: Print + Input>(

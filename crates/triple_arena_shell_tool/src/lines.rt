@@ -1,11 +1,12 @@
 //! The lines of a transcript, one after another.
 
-use crate::calls_of_any::{Line, Stop, is_out, size};
+use crate::calls::{Answer, Stop, size};
 use crate::families::{Family, family_of};
 use crate::held::Held;
 use crate::help::HELP;
 use crate::shelf::Shelf;
 use std::alloc::Global;
+use std::io;
 
 /// Follows lines on arenas of one family, up to a line that names another, if there is one.
 pub fn follow_family<R: Print + Input, H: Held + Drop>(
@@ -44,7 +45,7 @@ fn without_end(line: &str) -> &str {
     }
 }
 
-// Follows a line; the family that it names, if it names one.
+// Follows a line, and writes it; the family that it names, if it names one.
 fn follow<R: Print, H: Held + Drop>(
     rt: &R,
     alloc: Global,
@@ -66,8 +67,17 @@ fn follow<R: Print, H: Held + Drop>(
     }
     let asked = before_answer(line);
     let words: Vec<&str> = asked.split_whitespace().collect(alloc)?;
-    call(&Line { rt, alloc, asked }, shelf, &words)?;
+    let answer = call(alloc, shelf, &words)?;
+    is_out(println!(rt; "{asked} -> {answer}"))?;
     Ok(None)
+}
+
+// That what was written is out.
+fn is_out(written: io::Result<()>) -> Result<(), Stop> {
+    match written {
+        Ok(()) => Ok(()),
+        Err(_) => Err(Stop::Write),
+    }
 }
 
 // A line without the answer of an earlier run.
@@ -78,17 +88,13 @@ fn before_answer(line: &str) -> &str {
     }
 }
 
-// Makes the call of these words, and answers it.
-fn call<R: Print, H: Held + Drop>(
-    line: &Line<'_, R>,
-    shelf: &mut Shelf<H>,
-    words: &[&str],
-) -> Result<(), Stop> {
+// Makes the call of these words.
+fn call<H: Held + Drop>(alloc: Global, shelf: &mut Shelf<H>, words: &[&str]) -> Answer {
     match *words {
-        ["new", name, kind] => shelf.make(line, name, kind, None),
-        ["new", name, kind, room] => shelf.make(line, name, kind, Some(size(room)?)),
-        ["drop", name] => shelf.end(line, name),
-        [name, ref call @ ..] => shelf.call(line, name, call),
+        ["new", name, kind] => shelf.make(alloc, name, kind, None),
+        ["new", name, kind, room] => shelf.make(alloc, name, kind, Some(size(room)?)),
+        ["drop", name] => shelf.end(alloc, name),
+        [name, ref call @ ..] => shelf.call(alloc, name, call),
         [] => Err(Stop::Malformed),
     }
 }

@@ -3,7 +3,7 @@
 #![tactic(auto)]
 
 mod arena_calls;
-mod calls_of_any;
+mod calls;
 mod entries;
 mod families;
 mod held;

@@ -1,6 +1,6 @@
 //! Arenas under their names.
 
-use crate::calls_of_any::{Line, Stop};
+use crate::calls::{Answer, Stop, shown};
 use crate::held::Held;
 use std::alloc::Global;
 use triple_arena_base::AllocError;
@@ -28,22 +28,15 @@ impl<H: Held + Drop> Shelf<H> {
 
     /// Makes an arena of the kind that a word names, and puts it under a name, where it takes the place of another. Where
     /// memory is refused to it, that other one stays.
-    pub fn make<R: Print>(
-        &mut self,
-        line: &Line<'_, R>,
-        name: &str,
-        kind: &str,
-        room: Option<usize>,
-    ) -> Result<(), Stop> {
-        if !H::is_kind(kind) {
-            return Err(Stop::Malformed);
+    pub fn make(&mut self, alloc: Global, name: &str, kind: &str, room: Option<usize>) -> Answer {
+        match H::make(alloc, kind, room) {
+            Ok(Some(held)) => {
+                self.put(alloc, name, held)?;
+                shown(alloc, &Ok::<(), AllocError>(()))
+            }
+            Ok(None) => Err(Stop::Malformed),
+            Err(refused) => shown(alloc, &Err::<(), AllocError>(refused)),
         }
-        let made = match H::make(line.alloc, kind, room) {
-            Ok(held) => self.put(line.alloc, name, held),
-            Err(refused) => return line.answer(&Err::<(), AllocError>(refused)),
-        };
-        made?;
-        line.answer(&Ok::<(), AllocError>(()))
     }
 
     fn put(&mut self, alloc: Global, name: &str, held: H) -> Result<(), Stop> {
@@ -65,27 +58,18 @@ impl<H: Held + Drop> Shelf<H> {
     }
 
     /// Lets the arena of this name go.
-    pub fn end<R: Print>(&mut self, line: &Line<'_, R>, name: &str) -> Result<(), Stop> {
+    pub fn end(&mut self, alloc: Global, name: &str) -> Answer {
         if !self.take_away(name) {
             return Err(Stop::Malformed);
         }
-        line.answer(&())
+        shown(alloc, &())
     }
 
-    /// Makes a call of the arena of this name, and answers it.
-    pub fn call<R: Print>(
-        &mut self,
-        line: &Line<'_, R>,
-        name: &str,
-        call: &[&str],
-    ) -> Result<(), Stop> {
-        self.find(name)?.call(line, call)
-    }
-
-    fn find(&mut self, name: &str) -> Result<&mut H, Stop> {
+    /// Makes a call of the arena of this name.
+    pub fn call(&mut self, alloc: Global, name: &str, call: &[&str]) -> Answer {
         for named in self.arenas.iter_mut() {
             if named.name.as_str() == name {
-                return Ok(&mut named.held);
+                return named.held.call(alloc, call);
             }
         }
         Err(Stop::Malformed)

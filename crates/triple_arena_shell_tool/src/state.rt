@@ -1,44 +1,28 @@
 //! What an `Arena` is made of.
 
-use crate::calls_of_any::{Line, Stop, Value, bounds};
+use crate::calls::{Answer, Stop, Value};
 use std::alloc::Global;
 use std::num::NonZeroUsize;
-use triple_arena::{Arena, ArenaSlot};
+use triple_arena::{Arena, ArenaSlot, ArenaTrait};
 use triple_arena_ptr::{Ptr, PtrInx};
 use triple_arena_stack::NonZeroInxGenericStack;
 
-/// How many slots it has.
-pub fn slots<R: Print, P: Ptr, S: NonZeroInxGenericStack<ArenaSlot<P, Value>>>(
-    line: &Line<'_, R>,
+/// Its whole state: length, capacity and limit, counter, slots, free indexes and entries.
+pub fn state<P: Ptr, S: NonZeroInxGenericStack<ArenaSlot<P, Value>>>(
+    alloc: Global,
     arena: &Arena<P, Value, S>,
-) -> Result<(), Stop> {
-    line.answer(&arena.backing().as_slice().len())
+) -> Answer {
+    let bounds = (arena.len(), arena.capacity(), arena.max_capacity());
+    let generation = arena.generation();
+    let slots = arena.backing().as_slice().len();
+    let free = free_indexes(alloc, arena)?;
+    Ok(format!(in alloc;
+        "{bounds:?} generation {generation:?} slots {slots} free {free:?} {arena:?}"
+    )?)
 }
 
 /// Its free indexes, in the order in which insertion takes them.
-pub fn free<R: Print, P: Ptr, S: NonZeroInxGenericStack<ArenaSlot<P, Value>>>(
-    line: &Line<'_, R>,
-    arena: &Arena<P, Value, S>,
-) -> Result<(), Stop> {
-    line.answer(&free_indexes(line.alloc, arena)?)
-}
-
-/// Its whole state: length, capacity and limit, counter, slots, free indexes and entries.
-pub fn show_state<R: Print, P: Ptr, S: NonZeroInxGenericStack<ArenaSlot<P, Value>>>(
-    line: &Line<'_, R>,
-    arena: &Arena<P, Value, S>,
-) -> Result<(), Stop> {
-    let bounds = bounds(arena);
-    let generation = arena.generation();
-    let slots = arena.backing().as_slice().len();
-    let free = free_indexes(line.alloc, arena)?;
-    let state = format!(in line.alloc;
-        "{bounds:?} generation {generation:?} slots {slots} free {free:?} {arena:?}"
-    )?;
-    line.answer_in_words(state.as_str())
-}
-
-fn free_indexes<P: Ptr, S: NonZeroInxGenericStack<ArenaSlot<P, Value>>>(
+pub fn free_indexes<P: Ptr, S: NonZeroInxGenericStack<ArenaSlot<P, Value>>>(
     alloc: Global,
     arena: &Arena<P, Value, S>,
 ) -> Result<Vec<usize>, Stop> {

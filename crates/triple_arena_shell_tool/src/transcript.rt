@@ -1,6 +1,6 @@
 //! Transcripts, from their first line to their last.
 
-use crate::calls_of_any::Stop;
+use crate::calls::Stop;
 use crate::families::{Family, follow};
 use std::alloc::Global;
 

@@ -1,6 +1,7 @@
 //! A strict arena of numbers, each under its pointer.
 
 use crate::arena::table::Table;
+use crate::entry::sum_of;
 use triple_arena_base::ReallocationError;
 use triple_arena_direct::StrictArena;
 use triple_arena_ptr::P0;
@@ -18,12 +19,7 @@ impl Table for StrictArena<P0, u64> {
     }
 
     fn sum_all(&self) -> u64 {
-        let mut sum = 0u64;
-        let mut numbers = self.vals();
-        'sum: while let Some(number) = numbers.next() {
-            sum = sum.wrapping_add(*number);
-        }
-        sum
+        sum_of(self.arena())
     }
 
     #[inline(always)]

@@ -1,11 +1,7 @@
-//! What an arena and a plain vector both do.
+//! What each table does, arena or not.
 
-use crate::entry::sum_of;
 use std::alloc::Global;
-use std::marker::PhantomData;
-use triple_arena::{ArenaInsertTrait, CompactArenaTrait};
 use triple_arena_base::ReallocationError;
-use triple_arena_ptr::Ptr;
 
 /// Numbers, each under the name that its insertion gave.
 pub trait Table {
@@ -29,48 +25,4 @@ pub trait Table {
 pub trait OwnTable: Table + Drop {
     /// A table without numbers, and without room.
     fn empty(alloc: Global) -> Self;
-}
-
-/// An arena of numbers, each under its pointer.
-#[derive(Drop)]
-pub struct InArena<P, A> {
-    arena: A,
-    pointers: PhantomData<P>,
-}
-
-impl<P: Ptr, A: ArenaInsertTrait<P, u64> + CompactArenaTrait<P, u64> + Drop> Table
-    for InArena<P, A> {
-    type Name = P;
-
-    #[inline(always)]
-    fn put(&mut self, number: u64) -> Result<P, ReallocationError> {
-        self.arena.insert(number)
-    }
-
-    fn read(&self, name: P) -> u64 {
-        self.arena.get(name).copied().unwrap_or(0)
-    }
-
-    fn sum_all(&self) -> u64 {
-        sum_of(&self.arena)
-    }
-
-    #[inline(always)]
-    fn take_out(&mut self, name: P) -> u64 {
-        self.arena.remove(name).allow().unwrap_or(0)
-    }
-
-    fn take_out_all(&mut self) {
-        self.arena.clear().allow();
-    }
-}
-
-impl<P: Ptr, A: ArenaInsertTrait<P, u64> + CompactArenaTrait<P, u64> + Drop> OwnTable
-    for InArena<P, A> {
-    fn empty(alloc: Global) -> Self {
-        InArena {
-            arena: A::new(alloc),
-            pointers: PhantomData,
-        }
-    }
 }

@@ -1,6 +1,6 @@
 //! Which calls are made, and which of their requests is refused.
 
-use crate::refused::report::Report;
+use crate::report::Report;
 use std::alloc::{AllocError, Global};
 use std::io::Read;
 

@@ -5,12 +5,14 @@ use triple_arena::{Arena, ArenaSlot, FreeLink};
 use triple_arena_ptr::{Ptr, PtrInx};
 use triple_arena_stack::NonZeroInxGenericStack;
 
-/// How many free indexes of an arena are shown.
-pub const SLOTS: usize = 256;
+/// How many slots of an arena are shown: more than any has that a tool makes.
+pub const SLOTS: usize = 64;
 
 /// The free list of an arena.
 #[derive(Clone, Copy, PartialEq)]
 pub enum FreeList {
+    /// A direct arena has none.
+    Missing,
     /// The free indexes in the order in which insertion takes them, and then 0; of more than `SLOTS`,
     /// the first.
     Indexes([usize; SLOTS]),
@@ -26,6 +28,19 @@ impl FreeList {
             _ => false,
         }
     }
+}
+
+/// The free list of these indexes.
+pub fn free_indexes(indexes: &[usize]) -> FreeList {
+    let mut free = [0; SLOTS];
+    let mut place = 0;
+    for index in indexes {
+        if place < SLOTS {
+            free[place] = *index;
+            place += 1;
+        }
+    }
+    FreeList::Indexes(free)
 }
 
 /// The free list of `arena`.

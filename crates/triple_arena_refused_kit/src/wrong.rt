@@ -1,16 +1,16 @@
-//! What the tool found to be wrong.
+//! What a tool found to be wrong.
 
 use std::alloc;
 use triple_arena_base::AllocError;
 
-/// The first thing that the tool found to be wrong, and at which of its looks.
+/// The first thing that a tool found to be wrong, and at which of its looks, or at which row of a table.
 #[derive(Clone, Copy, Debug)]
 pub enum Wrong {
     /// A call told another answer than was expected.
     Answer(usize),
     /// After a call another state stood than was expected.
     State(usize),
-    /// A line or a text was answered otherwise.
+    /// A text was answered otherwise, or was another one than this.
     Text(&'static str),
     /// There was no memory for what calls are tried on.
     NoMemory,

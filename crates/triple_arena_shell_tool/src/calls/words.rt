@@ -1,7 +1,7 @@
 //! The words of a line: values, sizes, indexes, generations and pointers.
 
-use crate::calls_of_any::numbered::Numbered;
-use crate::calls_of_any::stop::Stop;
+use crate::calls::numbered::Numbered;
+use crate::calls::stop::Stop;
 use std::num::NonZeroUsize;
 use triple_arena_ptr::{Ptr, PtrInx};
 
@@ -13,6 +13,15 @@ pub fn value(word: &str) -> Result<Value, Stop> {
     match word.parse() {
         Ok(number) => Ok(number),
         Err(_) => Err(Stop::Malformed),
+    }
+}
+
+/// The value that words give, if they give one.
+pub fn given(words: &[&str]) -> Result<Option<Value>, Stop> {
+    match *words {
+        [] => Ok(None),
+        [v] => Ok(Some(value(v)?)),
+        _ => Err(Stop::Malformed),
     }
 }
 

@@ -1,10 +1,9 @@
 //! Generations by their numbers.
 
 use std::num::{NonZeroU8, NonZeroU64};
-use triple_arena_ptr::PtrGen;
 
 /// A generation that a line gives by its number.
-pub trait Numbered: PtrGen {
+pub trait Numbered {
     /// The generation of this number.
     fn of_number(number: u64) -> Option<Self>;
 }

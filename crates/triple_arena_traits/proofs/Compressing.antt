@@ -233,9 +233,6 @@ number_of_given number None own = refl
 number_of_given number (Some g) own = refl
 
 -- a slot that nothing is taken out of has no entry
-pub none_unpacked : {G T : Type 0} (number : G → ℕ) (o : Option (G × T)) (e : Option (ℕ × T)) → option_map (λ y. (number y.0, y.1)) o ≡ e → o ≡ None → e ≡ None
-none_unpacked number o e packed is = sym packed ∙ ap (option_map (λ y. (number y.0, y.1))) is
-
 module _ {X T : Type 0} (entry : X → Option (ℕ × T)) where
   pub slot_freed : (es es1 : List X) (i : ℕ) (x : X) → entry x ≡ None → es1 ≡ with_item es i x → map entry es1 ≡ with_item (map entry es) i None
   slot_freed es es1 i x free is = ap (map entry) is ∙ map-with_item entry es i x ∙ ap (with_item (map entry es) i) free

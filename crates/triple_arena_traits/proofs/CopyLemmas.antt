@@ -255,6 +255,10 @@ beyond_told r s refusal room told beyond y = (
       told ∙ ap (λ x. Err (Reallocation x)) same,
 )
 
+pub lent_found : {U : Type 0} (o : Option (Bor U)) → IsSome (option_copied o) → IsSome o
+lent_found None found = found
+lent_found (Some x) found = refl
+
 pub shared_some : {U : Type 0} (o : Option (Bor U)) (v : U) → option_copied o ≡ Some v → IsSome o
 shared_some None v e = absurd (cc)
 shared_some (Some x) v e = refl

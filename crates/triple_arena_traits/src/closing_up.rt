@@ -9,7 +9,7 @@ ghost use Rattle.triple_arena_traits.specs.Compression.{rank_in, placed};
 ghost use Rattle.triple_arena_traits.specs.Moves.{Moves};
 
 use crate::entry_slot::EntrySlot;
-use crate::entry_slots::replace;
+use crate::entry_slots::{replace, slot_at};
 use std::num::NonZeroUsize;
 use triple_arena_ptr::{Ptr, PtrGen, PtrInx};
 use triple_arena_stack::NonZeroInxGenericStack;
@@ -40,7 +40,8 @@ pub fn close_up<
     let mut to = 0;
     'moves: for at in 0..stack.len() {
         let inx = NonZeroUsize::MIN.saturating_add(at);
-        if let Some((own, value)) = replace(stack, inx, X::vacant()).unpack() {
+        if slot_at(&*stack, inx).unwrap().is_live() {
+            let (own, value) = replace(stack, inx, X::vacant()).into_entry();
             let onto = NonZeroUsize::MIN.saturating_add(to);
             let new_generation = generation.unwrap_or(own);
             let given = f(pointer(inx, own), value, pointer(onto, new_generation));

@@ -213,7 +213,7 @@ impl<P: Ptr, T, S: NonZeroInxGenericStack<ArenaSlot<P, T>>> ArenaTrait<P, T> for
             (with_value self.old (P.numbers p).0 value) }
     {
         let inx = self.find(p)?;
-        Some(self.slots.slots.value_mut(inx))
+        Some(self.slots.slots.uncounted_value_mut(inx))
     }
 
     fn get_inx(&self, inx: P::Inx) -> Option<(P::Gen, &T)>
@@ -237,7 +237,7 @@ impl<P: Ptr, T, S: NonZeroInxGenericStack<ArenaSlot<P, T>>> ArenaTrait<P, T> for
             (with_value self.old (P.Inx.number inx) value) }
     {
         let inx = self.find_inx(inx)?;
-        Some(self.slots.slots.value_mut(inx))
+        Some(self.slots.slots.uncounted_value_mut(inx))
     }
 
     fn find_first_inx_ptr(&self) -> Option<P>

@@ -49,6 +49,7 @@ pub enum Command<X> {
 pub fn parse_command(line: &[u8]) -> Option<Command<u64>>
     ensures { result ≡ command_of line.now }
 {
+    // These three are told by their first bytes, which is quicker; `parse_any` tells every verb.
     if let [b'g', b'e', b't', b' ', name @ ..] = line {
         Some(Command::Get(parse_number(name)? as usize))
     } else if let [b'i', b'n', b's', b'e', b'r', b't', b' ', rest @ ..] = line {

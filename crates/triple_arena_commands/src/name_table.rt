@@ -181,7 +181,7 @@ impl<P: Ptr> NameTable<P> {
             → option_map P.numbers (item self.now.items name) ≡ Some (P.numbers p) }
     {
         match self.pointer(name) {
-            Some(q) => are_same(q, p),
+            Some(q) => q == p,
             None => false,
         }
     }
@@ -225,14 +225,6 @@ fn make_place<T, K: NonZeroInxGenericStack<T>>(
         Ok(_entry) => Ok(()),
         Err(refusal) => Err(refusal),
     }
-}
-
-// Whether two pointers are one.
-fn are_same<P: Ptr>(p: P, q: P) -> bool
-    ensures { result ≡ is_same (P.numbers p)
-        (P.numbers q) }
-{
-    p == q
 }
 
 // The first position at which rows have a pointer.

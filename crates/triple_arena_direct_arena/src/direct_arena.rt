@@ -203,7 +203,7 @@ impl<P: Ptr, T, S: NonZeroInxGenericStack<DirectSlot<P, T>>> ArenaTrait<P, T>
             (direct_with_value self.old (P.numbers p).0 value) }
     {
         let inx = self.find(p)?;
-        Some(self.slots.value_mut(inx))
+        Some(self.slots.uncounted_value_mut(inx))
     }
 
     fn get_inx(&self, inx: P::Inx) -> Option<(P::Gen, &T)>
@@ -227,7 +227,7 @@ impl<P: Ptr, T, S: NonZeroInxGenericStack<DirectSlot<P, T>>> ArenaTrait<P, T>
             (direct_with_value self.old (P.Inx.number inx) value) }
     {
         let inx = self.find_inx(inx)?;
-        Some(self.slots.value_mut(inx))
+        Some(self.slots.uncounted_value_mut(inx))
     }
 
     fn find_first_inx_ptr(&self) -> Option<P>
@@ -353,7 +353,7 @@ impl<P: Ptr, T, S: NonZeroInxGenericStack<DirectSlot<P, T>>> DirectArena<P, T, S
             S.items S.with_items slots.entry result) }
         ensures value { result.now ≡ S.items slots.old.stack }
     {
-        slots.as_mut_slice()
+        slots.uncounted_as_mut_slice()
     }
 
     // Takes out the entry at an index.

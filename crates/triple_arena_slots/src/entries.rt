@@ -1,4 +1,5 @@
 //! The entries of the slots: the place of one, and how one is put in, taken out, and given another generation.
+//! Each touch of a slot is counted here.
 
 ghost use Rattle.std.specs.Prelude.{◌≡◌, ◌<◌, ◌≤◌, ◌+◌, ◌-◌, ◌^◌, ℕ, length, Some, None, IsSome};
 ghost use Rattle.std.specs.Int.NonZero.{non_zero_usize_get};

@@ -1,4 +1,4 @@
-//! The free list that runs through the slots.
+//! The free list that runs through the slots. Each touch of a slot is counted here.
 
 ghost use Rattle.std.specs.Prelude.{◌≡◌, ◌≢◌, ◌≤◌, ◌+◌, ◌*◌, ◌-◌, ◌==◌, ℕ, cond, count_by, map, length, Some, None, IsSome};
 ghost use Rattle.std.specs.Int.NonZero.{non_zero_usize_get};
@@ -6,7 +6,7 @@ ghost use Rattle.std.specs.Option.{option_map};
 ghost use Rattle.triple_arena_ptr.specs.Numbers.{greatest_index};
 ghost use Rattle.triple_arena_traits.specs.Items.{item};
 ghost use Rattle.triple_arena_traits.specs.ArenaState.{ArenaState, is_free};
-ghost use Rattle.triple_arena_traits.specs.FreeList.{gaps, tidied, without_free_end};
+ghost use Rattle.triple_arena_traits.specs.FreeList.{gaps, without_free_end};
 ghost use Rattle.triple_arena_traits.specs.Places.{number_or_zero};
 ghost use Rattle.triple_arena_slots.specs.Slot.{entry_of, next_in, previous_in, touch_if};
 ghost use Rattle.triple_arena_slots.specs.Layout.{IsLinked, LeadsTo, Begins, CanLeave, Leaves, without_last};
@@ -18,7 +18,6 @@ use std::num::NonZeroUsize;
 use triple_arena_ptr::{Ptr, PtrGen, PtrInx};
 use triple_arena_stack::NonZeroInxGenericStack;
 use triple_arena_traits::EntrySlot;
-use triple_arena_traits::entry_slots::shorten;
 
 impl<P: Ptr, T, S: NonZeroInxGenericStack<ArenaSlot<P, T>>> Slots<P, T, S> {
     ghost use Rattle.triple_arena_slots.specs.Shown.{SlotsShow, IsShown};
@@ -28,21 +27,6 @@ impl<P: Ptr, T, S: NonZeroInxGenericStack<ArenaSlot<P, T>>> Slots<P, T, S> {
         ensures { result ≡ self.now.root }
     {
         self.root
-    }
-
-    /// Pops the free slots at the end, and links the others in rising order.
-    pub fn tidy(&mut self)
-        requires { length (S.items self.old.slots.stack) ≤ greatest_index P.Inx.greatest }
-        ensures shows { (s : ArenaState T) (len : ℕ)
-            → SlotsShow P.Gen.number S.items self.old len s
-            → SlotsShow P.Gen.number S.items self.new len (tidied s) }
-        ensures room { S.room self.new.slots.stack ≡ S.room self.old.slots.stack }
-        ensures limit { S.limit self.new.slots.stack ≡ S.limit self.old.slots.stack }
-        ensures steps { self.old.slots.steps.count ≤ self.new.slots.steps.count }
-    {
-        // They leave no link behind: all are set anew.
-        shorten::<P, T, ArenaSlot<P, T>, S>(self.slots.uncounted_stack_mut(), 0);
-        self.relink();
     }
 
     /// Pops the free slots at the end, and takes them out of the free list. The rest of it keeps its

@@ -8,6 +8,7 @@ mod slot;
 mod slot_stack;
 mod slot_steps;
 mod slots;
+mod uncounted;
 
 pub use slot::{ArenaSlot, FreeLink};
 pub use slot_stack::SlotStack;

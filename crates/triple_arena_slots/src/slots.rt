@@ -8,7 +8,7 @@ ghost use Rattle.triple_arena_ptr.specs.Numbers.{greatest_index};
 ghost use Rattle.triple_arena_stack.specs.Capacity.{stack_capacity};
 ghost use Rattle.triple_arena_traits.specs.ArenaState.{ArenaState};
 ghost use Rattle.triple_arena_traits.specs.Entries.{entry_count};
-ghost use Rattle.triple_arena_traits.specs.FreeList.{last_index, gaps};
+ghost use Rattle.triple_arena_traits.specs.FreeList.{last_index, gaps, tidied};
 ghost use Rattle.triple_arena_traits.specs.Walks.{entries};
 ghost use Rattle.triple_arena_traits.specs.Compression.{compressed, rank};
 ghost use Rattle.triple_arena_traits.specs.Moves.{Moves};
@@ -23,13 +23,15 @@ use std::num::NonZeroUsize;
 use triple_arena_base::InvalidationOption;
 use triple_arena_ptr::{Ptr, PtrGen, PtrInx};
 use triple_arena_stack::NonZeroInxGenericStack;
+use triple_arena_traits::entry_slots::shorten;
 use triple_arena_traits::{CompactArenaTrait, close_up};
 
 /// The slots of an arena. Each free one links to the next and to the one before, beginning at the
 /// root.
 ///
-/// Only through `SlotStack` does it reach a slot. What it lends isn't counted, nor what this file
-/// changes of many slots at once, but for the links that `copy` sets; `tidy` pops uncounted.
+/// Only through `SlotStack` does it reach a slot. What this file's calls lend, or do to many slots, isn't
+/// counted, but for the links that `copy` and `tidy` set; the calls of `entries.rt` and `free_list.rt` count
+/// each touch.
 ///
 /// The clauses speak of the arena states that the slots show, together with the number of entries,
 /// which the arena counts.
@@ -64,7 +66,7 @@ impl<P: Ptr, T, S: NonZeroInxGenericStack<ArenaSlot<P, T>>> Slots<P, T, S> {
             P.Inx.Ord.own S.items S.with_items self.entry result) }
         ensures value { result.now ≡ S.items self.old.slots.stack }
     {
-        self.slots.as_mut_slice()
+        self.slots.uncounted_as_mut_slice()
     }
 
     /// Drops all slots.
@@ -79,6 +81,21 @@ impl<P: Ptr, T, S: NonZeroInxGenericStack<ArenaSlot<P, T>>> Slots<P, T, S> {
     {
         self.slots.uncounted_stack_mut().clear();
         self.root = None;
+    }
+
+    /// Pops the free slots at the end, and links the others in rising order.
+    pub fn tidy(&mut self)
+        requires { length (S.items self.old.slots.stack) ≤ greatest_index P.Inx.greatest }
+        ensures shows { (s : ArenaState T) (len : ℕ)
+            → SlotsShow P.Gen.number S.items self.old len s
+            → SlotsShow P.Gen.number S.items self.new len (tidied s) }
+        ensures room { S.room self.new.slots.stack ≡ S.room self.old.slots.stack }
+        ensures limit { S.limit self.new.slots.stack ≡ S.limit self.old.slots.stack }
+        ensures steps { self.old.slots.steps.count ≤ self.new.slots.steps.count }
+    {
+        // They leave no link behind: all are set anew.
+        shorten::<P, T, ArenaSlot<P, T>, S>(self.slots.uncounted_stack_mut(), 0);
+        self.relink();
     }
 
     /// Moves the entries to the first slots, in their order, under this generation, with the values
@@ -130,7 +147,7 @@ impl<P: Ptr, T, S: NonZeroInxGenericStack<ArenaSlot<P, T>>> Slots<P, T, S> {
         ensures steps { self.old.slots.steps.count ≤ self.new.slots.steps.count }
     {
         self.clear();
-        let (count, answer) = self.slots.copy(source, f);
+        let (count, answer) = self.slots.uncounted_copy(source, f);
         // Where each slot has an entry, there is no link to set.
         if count < self.slots.len() {
             self.relink();
@@ -164,6 +181,6 @@ impl<P: Ptr, T, S: NonZeroInxGenericStack<ArenaSlot<P, T>>> Slots<P, T, S> {
         ensures steps { self.new.slots.steps.count ≡ self.old.slots.steps.count }
     {
         self.clear();
-        self.slots.take_over(generation, source, f)
+        self.slots.uncounted_take_over(generation, source, f)
     }
 }

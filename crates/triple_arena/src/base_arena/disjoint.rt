@@ -86,6 +86,6 @@ impl<P: Ptr, T, S: NonZeroInxGenericStack<ArenaSlot<P, T>>> Arena<P, T, S> {
             result (λ x y. self.new ≡ with_value
             (with_value self.old (non_zero_usize_get first) x) (non_zero_usize_get second) y) }
     {
-        self.slots.slots.work_on_two(first, second, call)
+        self.slots.slots.uncounted_work_on_two(first, second, call)
     }
 }

@@ -33,7 +33,7 @@ impl<P: Ptr, T, S: NonZeroInxGenericStack<ArenaSlot<P, T>>> Arena<P, T, S> {
         ensures place { OnOk result (min_capacity ≤ greatest_index P.Inx.greatest
             → min_capacity ≤ capacity self.new) }
     {
-        self.slots.slots.reallocate(min_capacity)
+        self.slots.slots.uncounted_reallocate(min_capacity)
     }
 }
 
@@ -72,6 +72,6 @@ impl<P: Ptr, T, S: SetMaxCapacity<ArenaSlot<P, T>>> Arena<P, T, S> {
         ensures done { OnOk result (self.new ≡ record self.old { limit = Some limit }) }
         ensures refused { OnErr result (self.new ≡ self.old) }
     {
-        self.slots.slots.set_max_capacity(limit)
+        self.slots.slots.uncounted_set_max_capacity(limit)
     }
 }

@@ -124,7 +124,7 @@ impl<P: Ptr, T, S: NonZeroInxGenericStack<DirectSlot<P, T>>> DirectArena<P, T, S
         ensures counted { direct_len self.new ≡ entry_count (A.slots source.old) }
     {
         self.slots.uncounted_stack_mut().clear();
-        self.len = self.slots.take_over(generation, source, f);
+        self.len = self.slots.uncounted_take_over(generation, source, f);
     }
 
     // Reallocates where so many are past the capacity.
@@ -165,7 +165,7 @@ impl<P: Ptr, T, S: NonZeroInxGenericStack<DirectSlot<P, T>>> DirectArena<P, T, S
             × (self.new ≡ direct_with_slots self.old new) }
     {
         self.slots.uncounted_stack_mut().clear();
-        let (len, answer) = self.slots.copy(source, f);
+        let (len, answer) = self.slots.uncounted_copy(source, f);
         self.len = len;
         answer
     }

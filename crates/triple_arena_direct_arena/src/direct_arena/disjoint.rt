@@ -114,6 +114,6 @@ impl<P: Ptr, T, S: NonZeroInxGenericStack<DirectSlot<P, T>>> DirectArena<P, T, S
             (direct_with_value self.old (non_zero_usize_get first) x)
             (non_zero_usize_get second) y) }
     {
-        self.slots.work_on_two(first, second, call)
+        self.slots.uncounted_work_on_two(first, second, call)
     }
 }

@@ -29,7 +29,7 @@ impl<P: Ptr, T, S: NonZeroInxGenericStack<DirectSlot<P, T>>> DirectArena<P, T, S
         ensures place { OnOk result (min_capacity ≤ greatest_index P.Inx.greatest
             → min_capacity ≤ direct_capacity self.new) }
     {
-        self.slots.reallocate(min_capacity)
+        self.slots.uncounted_reallocate(min_capacity)
     }
 
     /// Pops free slots at the end, at most `num`, and tells how many. It takes no memory, and no
@@ -76,6 +76,6 @@ impl<P: Ptr, T, S: SetMaxCapacity<DirectSlot<P, T>>> DirectArena<P, T, S> {
         ensures done { OnOk result (self.new ≡ direct_with_limit self.old limit) }
         ensures refused { OnErr result (self.new ≡ self.old) }
     {
-        self.slots.set_max_capacity(limit)
+        self.slots.uncounted_set_max_capacity(limit)
     }
 }

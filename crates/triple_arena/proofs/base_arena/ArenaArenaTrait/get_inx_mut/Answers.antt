@@ -19,12 +19,12 @@ invariant_of-self-lent g c w =
 pub returns : goal.returns
 returns g c =
     let live = subst (λ n. IsSome (entry_at g.P.Gen.PtrGen.number (g.S.NonZeroInxGenericStack.items c.self.inside.slots.slots.stack) n)) (sym c.in_ok-inx.ensures.index) (sym c.in_ok-inx.ensures.live) in (
-      ap (λ (F : g.row.T.Denot → ArenaState g.row.T.Denot). inl (c.value_mut.result.ghost_name, F)) (fun_ext (λ w.
+      ap (λ (F : g.row.T.Denot → ArenaState g.row.T.Denot). inl (c.uncounted_value_mut.result.ghost_name, F)) (fun_ext (λ w.
           (lent g.P.Gen.PtrGen.number _ _ _ _ _ _ _ _ _ _ _ c.args.self.now (non_zero_usize_get c.in_ok-inx.inx) w c.self.invariant c.self.view_is live
           (g.met.S.NonZeroInxGenericStack.items_with_items _ _) (g.met.S.NonZeroInxGenericStack.room_with_items _ _) (g.met.S.NonZeroInxGenericStack.limit_with_items _ _)).1
           ∙ ap (λ n. with_value c.args.self.now n w) c.in_ok-inx.ensures.index)),
       record {
-        value = sym (entry_value_read c.args.self.now _ (g.P.Inx.PtrInx.number c.args.inx) (non_zero_usize_get c.in_ok-inx.inx) _ c.self.view_is c.in_ok-inx.ensures.index c.value_mut.ensures.value);
+        value = sym (entry_value_read c.args.self.now _ (g.P.Inx.PtrInx.number c.args.inx) (non_zero_usize_get c.in_ok-inx.inx) _ c.self.view_is c.in_ok-inx.ensures.index c.uncounted_value_mut.ensures.value);
         writes_back = tt;
         written = Continues-written c.args.self.now (g.P.Inx.PtrInx.number c.args.inx);
       },
@@ -33,8 +33,8 @@ returns g c =
 pub invariant_of-self : goal.invariant_of-self
 invariant_of-self g c = c.self.invariant
 
-pub value_mut-requires-after_bounds : goal.value_mut-requires-after_bounds
-value_mut-requires-after_bounds g c κs within =
+pub uncounted_value_mut-requires-after_bounds : goal.uncounted_value_mut-requires-after_bounds
+uncounted_value_mut-requires-after_bounds g c κs within =
     subst (λ n. IsSome (entry_at g.P.Gen.PtrGen.number (g.S.NonZeroInxGenericStack.items c.self.inside.slots.slots.stack) n)) (sym c.in_ok-inx.ensures.index) (sym c.in_ok-inx.ensures.live)
 
 pub returns-in_err-inx : goal.returns-in_err-inx

@@ -20,11 +20,11 @@ invariant_of-self-lent g c w =
 pub returns : goal.returns
 returns g c =
     let live = subst (λ n. IsSome (entry_at g.P.Gen.PtrGen.number (g.S.NonZeroInxGenericStack.items c.self.inside.slots.slots.stack) n)) (sym c.in_ok-inx.ensures.index) (live_entry (map (entry_of g.P.Gen.PtrGen.number) (g.S.NonZeroInxGenericStack.items c.self.inside.slots.slots.stack)) (g.P.Ptr.numbers c.args.p) (sym c.in_ok-inx.ensures.live)) in (
-      ap (λ (F : g.row.T.Denot → ArenaState g.row.T.Denot). inl (c.value_mut.result.ghost_name, F)) (fun_ext (λ w.
+      ap (λ (F : g.row.T.Denot → ArenaState g.row.T.Denot). inl (c.uncounted_value_mut.result.ghost_name, F)) (fun_ext (λ w.
           (lent g.P.Gen.PtrGen.number _ _ _ _ _ _ _ _ _ _ _ c.args.self.now (non_zero_usize_get c.in_ok-inx.inx) w c.self.invariant c.self.view_is live
           (g.met.S.NonZeroInxGenericStack.items_with_items _ _) (g.met.S.NonZeroInxGenericStack.room_with_items _ _) (g.met.S.NonZeroInxGenericStack.limit_with_items _ _)).1
           ∙ ap (λ n. with_value c.args.self.now n w) c.in_ok-inx.ensures.index)),
-      let value = sym (value_read c.args.self.now _ (g.P.Ptr.numbers c.args.p) (non_zero_usize_get c.in_ok-inx.inx) _ c.self.view_is c.in_ok-inx.ensures.index (sym c.in_ok-inx.ensures.live) c.value_mut.ensures.value) in
+      let value = sym (value_read c.args.self.now _ (g.P.Ptr.numbers c.args.p) (non_zero_usize_get c.in_ok-inx.inx) _ c.self.view_is c.in_ok-inx.ensures.index (sym c.in_ok-inx.ensures.live) c.uncounted_value_mut.ensures.value) in
           record {
             value = value;
             writes_back = tt;

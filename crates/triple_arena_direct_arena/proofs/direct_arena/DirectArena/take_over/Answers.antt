@@ -9,7 +9,7 @@ use Rattle.triple_arena_direct_arena.proofs.direct_arena.DirectArena.take_over.G
 
 pub invariant_of-self : goal.invariant_of-self
 invariant_of-self g c =
-    let taken = c.take_over-self-inside in
+    let taken = c.uncounted_take_over-self-inside in
     let items = g.S.NonZeroInxGenericStack.items taken.new.self.stack in
     let xs = map (direct_slot_entry g.P.Gen.PtrGen.number) items in
     let full = closed_up_slots (g.P.Gen.PtrGen.number c.args.generation) _ xs taken.ensures.transferred.stands in
@@ -23,7 +23,7 @@ invariant_of-self g c =
 
 pub returns : goal.returns
 returns g c =
-    let taken = c.take_over-self-inside in
+    let taken = c.uncounted_take_over-self-inside in
     let items = g.S.NonZeroInxGenericStack.items taken.new.self.stack in
     let xs = map (direct_slot_entry g.P.Gen.PtrGen.number) items in
     let full = closed_up_slots (g.P.Gen.PtrGen.number c.args.generation) _ xs taken.ensures.transferred.stands in
@@ -40,11 +40,11 @@ returns g c =
       counted = ap direct_len both.1 ∙ full.1 ∙ size;
     }
 
-pub take_over-self-inside-requires-clause-empty : goal.take_over-self-inside-requires-clause-empty
-take_over-self-inside-requires-clause-empty g c κs within = ap g.S.NonZeroInxGenericStack.items c.clear.ensures ∙ g.met.S.NonZeroInxGenericStack.items_with_items _ _
+pub uncounted_take_over-self-inside-requires-clause-empty : goal.uncounted_take_over-self-inside-requires-clause-empty
+uncounted_take_over-self-inside-requires-clause-empty g c κs within = ap g.S.NonZeroInxGenericStack.items c.clear.ensures ∙ g.met.S.NonZeroInxGenericStack.items_with_items _ _
 
-pub take_over-self-inside-requires-clause-fits : goal.take_over-self-inside-requires-clause-fits
-take_over-self-inside-requires-clause-fits g c κs within =
+pub uncounted_take_over-self-inside-requires-clause-fits : goal.uncounted_take_over-self-inside-requires-clause-fits
+uncounted_take_over-self-inside-requires-clause-fits g c κs within =
     room_kept _ _ _ _ _ (ap g.S.NonZeroInxGenericStack.room c.clear.ensures ∙ g.met.S.NonZeroInxGenericStack.room_with_items _ _ ∙ ap g.S.NonZeroInxGenericStack.room c.uncounted_stack_mut.ensures.value)
     (ap g.S.NonZeroInxGenericStack.limit c.clear.ensures ∙ g.met.S.NonZeroInxGenericStack.limit_with_items _ _ ∙ ap g.S.NonZeroInxGenericStack.limit c.uncounted_stack_mut.ensures.value)
     (omega (arith, c.requires.fits, ap direct_capacity c.self.view_is))

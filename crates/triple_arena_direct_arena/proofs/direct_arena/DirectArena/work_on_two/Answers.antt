@@ -10,11 +10,11 @@ pub invariant_of-self : goal.invariant_of-self
 invariant_of-self g c =
     let i = non_zero_usize_get c.args.first in
     let j = non_zero_usize_get c.args.second in
-    let w = c.work_on_two.ensures.worked in
+    let w = c.uncounted_work_on_two.ensures.worked in
     (made g.P.Gen.PtrGen.number _ _ _ _ _ (direct_with_value (direct_with_value c.args.self.now i w.first_left) j w.second_left)
     (both_written g.P.Gen.PtrGen.number _ _ i j w.first_left w.second_left c.requires.apart w.left ∙ ap (λ s. with_value_in (with_value_in s.slots i w.first_left) j w.second_left) c.self.view_is)
-    (c.work_on_two.ensures.room ∙ ap (λ s. s.room) c.self.view_is)
-    (c.work_on_two.ensures.limit ∙ ap (λ s. s.limit) c.self.view_is)
+    (c.uncounted_work_on_two.ensures.room ∙ ap (λ s. s.room) c.self.view_is)
+    (c.uncounted_work_on_two.ensures.limit ∙ ap (λ s. s.limit) c.self.view_is)
     (ap (λ s. s.greatest) c.self.view_is)
     (Counts-with_value _ (direct_with_value c.args.self.now i w.first_left) j w.second_left (Counts-with_value _ c.args.self.now i w.first_left (subst (Counts _) c.self.view_is c.self.invariant)))).0
 
@@ -22,7 +22,7 @@ pub returns : goal.returns
 returns g c =
     let i = non_zero_usize_get c.args.first in
     let j = non_zero_usize_get c.args.second in
-    let w = c.work_on_two.ensures.worked in
+    let w = c.uncounted_work_on_two.ensures.worked in
     record {
       first_value = w.first_value;
       second_value = w.second_value;
@@ -33,8 +33,8 @@ returns g c =
       called = w.called;
       left = (made g.P.Gen.PtrGen.number _ _ _ _ _ (direct_with_value (direct_with_value c.args.self.now i w.first_left) j w.second_left)
           (both_written g.P.Gen.PtrGen.number _ _ i j w.first_left w.second_left c.requires.apart w.left ∙ ap (λ s. with_value_in (with_value_in s.slots i w.first_left) j w.second_left) c.self.view_is)
-          (c.work_on_two.ensures.room ∙ ap (λ s. s.room) c.self.view_is)
-          (c.work_on_two.ensures.limit ∙ ap (λ s. s.limit) c.self.view_is)
+          (c.uncounted_work_on_two.ensures.room ∙ ap (λ s. s.room) c.self.view_is)
+          (c.uncounted_work_on_two.ensures.limit ∙ ap (λ s. s.limit) c.self.view_is)
           (ap (λ s. s.greatest) c.self.view_is)
           (Counts-with_value _ (direct_with_value c.args.self.now i w.first_left) j w.second_left (Counts-with_value _ c.args.self.now i w.first_left (subst (Counts _) c.self.view_is c.self.invariant)))).1;
     }

@@ -12,12 +12,12 @@ invariant_of-self-lent g c w =
 
 pub returns : goal.returns
 returns g c = (
-  ap (λ (F : g.row.T.Denot → DirectState g.row.T.Denot). inl (c.value_mut.result.ghost_name, F)) (fun_ext (λ w.
+  ap (λ (F : g.row.T.Denot → DirectState g.row.T.Denot). inl (c.uncounted_value_mut.result.ghost_name, F)) (fun_ext (λ w.
       (lent g.P.Gen.PtrGen.number _ _ _ _ _ _ _ _ c.args.self.now (non_zero_usize_get c.in_ok-inx.inx) w c.self.invariant c.self.view_is
       (g.met.S.NonZeroInxGenericStack.items_with_items _ _) (g.met.S.NonZeroInxGenericStack.room_with_items _ _) (g.met.S.NonZeroInxGenericStack.limit_with_items _ _)).1
       ∙ ap (λ n. direct_with_value c.args.self.now n w) c.in_ok-inx.ensures.index)),
   record {
-    value = sym (value_read _ c.args.self.now.slots (g.P.Ptr.numbers c.args.p) (non_zero_usize_get c.in_ok-inx.inx) _ (ap (λ s. s.slots) c.self.view_is) c.in_ok-inx.ensures.index (sym c.in_ok-inx.ensures.live) c.value_mut.ensures.value);
+    value = sym (value_read _ c.args.self.now.slots (g.P.Ptr.numbers c.args.p) (non_zero_usize_get c.in_ok-inx.inx) _ (ap (λ s. s.slots) c.self.view_is) c.in_ok-inx.ensures.index (sym c.in_ok-inx.ensures.live) c.uncounted_value_mut.ensures.value);
     writes_back = tt;
     history = λ h none. absurd none;
     written = λ value h none. none;

@@ -1,8 +1,10 @@
 -- Pointers that are gone for good.
-use Rattle.std.specs.Prelude.{◌≡◌, ◌<◌, ◌≤◌, IsTrue, None}
+use Rattle.std.specs.Prelude.{◌≡◌, ◌<◌, ◌≤◌, ℕ, nat_lt, Bool, IsTrue, List, Option, None}
+use Rattle.std.specs.List.{list_any}
 use Rattle.triple_arena_ptr.specs.Pointers.{Pointer}
 use Rattle.triple_arena_traits.specs.Entries.{look_up}
 use Rattle.triple_arena_traits.specs.ArenaState.{ArenaState}
+use Rattle.triple_arena_traits.specs.Walks.{keys}
 use Rattle.triple_arena_traits.specs.Histories.{is_live}
 
 module _ {T : Type 0} where
@@ -14,3 +16,8 @@ module _ {T : Type 0} where
   -- counter has left behind, so that no entry gets it any more
   abbrev pub IsGoneForGood : ArenaState T → Pointer → Type 0
   IsGoneForGood s p = (look_up s.slots p ≡ None) × (p.1 < s.counter)
+
+module _ {K : Type 0} where
+  -- an entry is of a generation past the counter
+  abbrev pub is_any_past : (counter : ℕ) → List (Option (ℕ × K)) → Bool
+  is_any_past counter slots = list_any (λ p. nat_lt counter p.1) (keys slots)

@@ -1,5 +1,6 @@
 -- What follows from the definitions.
 pub mod GoneLaws
+pub mod UpToCounterLaws
 pub mod StrictRetainLaws
 pub mod StrictAnswerLaws
 pub mod SortLaws

@@ -1,21 +1,18 @@
-//! Strict arenas, and pointer types that differ by a number. It is a door, and hands on what is called over any arena
-//! (compaction with recasting, `retain`, `extend`), direct arenas, and what `triple_arena` has for callers.
+//! Strict arenas. It is a door, and hands on what is called over any arena (compaction with recasting, `retain`, `extend`),
+//! direct arenas, pointer types that differ by a number, and what `triple_arena` has for callers.
 #![tactic(auto)]
 
 mod errors;
 mod indexing;
 mod lending_arena;
 pub mod prelude;
-mod ptr_kind;
 mod strict_arena;
 pub mod strict_laws;
 mod text;
 
 pub use errors::{StrictCompactBothError, StrictCompactError, StrictError};
-pub use ptr_kind::PtrKind;
 pub use strict_arena::{
-    StrictArena, StrictDrain, StrictInsertEntry, into_arena, load_strict_arena, renew,
-    save_strict_arena,
+    Leaving, StrictArena, StrictDrain, StrictInsertEntry, into_arena, into_strict, renew,
 };
 pub use triple_arena::{
     Advancer, AllocError, Arena, ArenaCloneFromWith, ArenaDirectInsertEntryTrait,
@@ -31,6 +28,7 @@ pub use triple_arena::{
 pub use triple_arena_direct_arena::{
     ArenaDirectInsertEntry, DirectArena, DirectSlot, direct_arena_iterators, laws,
 };
+pub use triple_arena_ptr::PtrKind;
 pub use triple_arena_recasting::{
     CompactBothError, Reading, compress_recast, compress_recast_both, compress_recast_both_with,
     compress_recast_with, compress_recaster, extend, from_iter, recast_hash_values, recast_three,

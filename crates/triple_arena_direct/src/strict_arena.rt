@@ -14,7 +14,7 @@ mod both;
 mod compaction;
 mod drain;
 mod ending;
-mod files;
+mod entering;
 mod insert_entry;
 mod insertion;
 mod leaving;
@@ -25,9 +25,9 @@ mod walks;
 mod writing;
 
 pub use drain::StrictDrain;
-pub use files::{load_strict_arena, save_strict_arena};
+pub use entering::into_strict;
 pub use insert_entry::StrictInsertEntry;
-pub use leaving::{into_arena, renew};
+pub use leaving::{Leaving, into_arena, renew};
 use std::alloc::Global;
 use std::marker::Model;
 use triple_arena::{Arena, ArenaSlot, ArenaTrait};
@@ -36,8 +36,8 @@ use triple_arena_ptr::{Ptr, PtrGen, PtrInx};
 use triple_arena_stack::{NonZeroInxGenericStack, NonZeroInxVec};
 
 /// An arena whose counter never wraps: what would raise it past the greatest generation is refused,
-/// and changes nothing. So where generations count, no pointer is ever given twice, and one that has
-/// ended is gone for good (`IsGoneForGood`): for that a caller keeps no history.
+/// and changes nothing. So where generations count, it gives no pointer twice, nor one with which it
+/// began, and one that has ended is gone for good (`IsGoneForGood`): for that a caller keeps no history.
 ///
 /// No call sets or resets its counter, or copies another to it. Insertion goes on when the counter is at
 /// its greatest value, and look-ups do; entries can't be ended any more then.
@@ -65,7 +65,8 @@ impl<P: Ptr, T, S: NonZeroInxGenericStack<ArenaSlot<P, T>>> Model for StrictAren
 
     ghost view = { λ s. s.arena };
 
-    // no call sets the counter back, so that no entry is of a generation above it
+    // no entry is of a generation above the counter: no call sets that back, and no arena becomes one
+    // where it isn't so
     ghost invariant = { λ s. P.Gen.generations.counting ≡ true → IsUpToCounter s.arena };
 
     ghost inverse = { λ s. record { arena = s } };

@@ -5,12 +5,12 @@ use std::alloc::Global;
 use triple_arena::{
     Arena, ArenaInsertTrait, ArenaTrait, NonZeroInxGenericStack, NonZeroInxVec, P3, Ptr,
 };
-use triple_arena_direct::{StrictArena, load_strict_arena, save_strict_arena};
+use triple_arena_direct::StrictArena;
 use triple_arena_direct_arena::DirectArena;
 use triple_arena_refused_kit::{End, Report, Wrong};
 use triple_arena_snapshot::{
     GenerationCodec, LoadError, SaveError, from_file_bytes, load, load_arena, load_direct_arena,
-    save, save_arena, save_direct_arena, to_file_bytes,
+    load_strict_arena, save, save_arena, save_direct_arena, save_strict_arena, to_file_bytes,
 };
 
 /// What can be saved and loaded, each by its own calls.

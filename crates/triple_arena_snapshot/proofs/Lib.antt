@@ -8,3 +8,4 @@ pub mod LinkBytes
 pub mod ArenaParts
 pub mod Writes
 pub mod Loads
+mod StrictFiles

@@ -5,4 +5,5 @@ pub mod Layouts
 pub mod Files
 pub mod ArenaCodings
 pub mod ArenaLayouts
+pub mod StrictFiles
 pub mod laws

@@ -1,5 +1,4 @@
-//! Values as bytes, and read back: numbers, pointers, what is made of them, and arenas. Strict arenas have their files in
-//! `triple_arena_direct`, which stands on it. It is a door.
+//! Values as bytes, and read back: numbers, pointers, what is made of them, and arenas, strict ones too. It is a door.
 #![tactic(auto)]
 
 mod arena_slots;
@@ -20,6 +19,7 @@ mod pointers;
 mod saving;
 mod signed;
 mod stacks;
+mod strict_arenas;
 
 pub use arenas::{decode_arena, encode_arena};
 pub use codec::{Codec, from_bytes, to_bytes};
@@ -29,3 +29,4 @@ pub use file::{from_file_bytes, to_file_bytes};
 pub use generations::GenerationCodec;
 pub use loading::{load, load_arena, load_direct_arena};
 pub use saving::{save, save_arena, save_direct_arena};
+pub use strict_arenas::{load_strict_arena, save_strict_arena};

@@ -14,7 +14,7 @@ use std::alloc::Global;
 use std::num::{NonZeroU8, NonZeroU16, NonZeroU32, NonZeroU64, NonZeroUsize};
 use triple_arena_base::AllocError;
 use triple_arena_ptr::{
-    NamedPtr, P0, P1, P2, P3, P4, P5, Plain, Ptr, PtrInx, PtrName, PtrNoGen, Q2, SmallPtr,
+    NamedPtr, P0, P1, P2, P3, P4, P5, Plain, Ptr, PtrInx, PtrKind, PtrName, PtrNoGen, Q2, SmallPtr,
 };
 
 /// Sixteen bytes.
@@ -235,5 +235,23 @@ impl<I: PtrInx + Codec, P: Ptr<Inx = I>> Codec for PtrNoGen<P, I> {
     {
         let (inx, rest) = I::decode(alloc, bytes)?;
         Ok((PtrNoGen::_from_raw(inx, ()), rest))
+    }
+}
+
+/// The bytes of `P`.
+impl<P: Ptr + Codec, const KIND: usize> Codec for PtrKind<P, KIND> {
+    ghost Content = { P.Content };
+
+    ghost content = { P.content };
+
+    ghost coding = { P.coding };
+
+    fn encode(&self, out: &mut Vec<u8>) -> Result<(), AllocError> {
+        self.ptr().encode(out)
+    }
+
+    fn decode(alloc: Global, bytes: &[u8]) -> Result<(Self, &[u8]), DecodeError> {
+        let (ptr, rest) = P::decode(alloc, bytes)?;
+        Ok((PtrKind::of(ptr), rest))
     }
 }

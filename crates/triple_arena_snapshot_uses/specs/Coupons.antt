@@ -6,13 +6,13 @@ use Rattle.triple_arena_ptr.specs.Pointers.{Pointer}
 use Rattle.triple_arena_ptr.specs.declared.P3.{P3}
 use Rattle.triple_arena.specs.ArenaState.{ArenaState}
 use Rattle.triple_arena_direct.specs.StrictAnswers.{is_exhausted}
-use Rattle.triple_arena_direct.specs.StrictFiles.{FitsStrictly, up_to_counter}
 use Rattle.triple_arena_snapshot.specs.Coding.{Coding, Reading}
 use Rattle.triple_arena_snapshot.specs.Layouts.{number, positive}
 use Rattle.triple_arena_snapshot.specs.laws.CodingLaws.{wide16, wide64}
 use Rattle.triple_arena_snapshot.specs.ArenaCodings.{arena_content}
 use Rattle.triple_arena_snapshot.specs.ArenaLayouts.{arena_coding}
 use Rattle.triple_arena_snapshot.specs.Files.{file_of, file_reading}
+use Rattle.triple_arena_snapshot.specs.StrictFiles.{FitsStrictly, up_to_counter}
 
 -- the numbers of a coupon's index and of its generation
 abbrev pub coupon_numbers : P3 → Pointer

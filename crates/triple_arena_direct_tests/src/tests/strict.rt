@@ -4,10 +4,10 @@ use crate::tests::shown::{arena_is_shown, direct_is_shown, strict_is_shown};
 use std::alloc::Global;
 use std::fmt::Display;
 use std::process::Abort;
-use triple_arena::ArenaSlot;
+use triple_arena::{Arena, ArenaSlot};
 use triple_arena_base::{CompactError, ReallocationError};
 use triple_arena_direct::{
-    CompactBothError, StrictArena, StrictCompactError, StrictError, into_arena, renew,
+    CompactBothError, StrictArena, StrictCompactError, StrictError, into_arena, into_strict, renew,
 };
 use triple_arena_ptr::{P0, Ptr};
 use triple_arena_stack::{NonZeroInxGenericStack, NonZeroInxVec};
@@ -223,6 +223,21 @@ fn the_values_of_a_strict_arena_leave_it(rt: HostRuntime) {
         sum = sum.saturating_add(number);
     }
     is(sum, 30).expect(&rt, "the sum of the numbers");
+}
+
+// What the strict arena finds under a pointer that this one becomes; nothing where it becomes none.
+fn found_strictly(arena: Arena<B, Node>, p: B) -> Option<Node> {
+    match into_strict(arena) {
+        Ok(nodes) => nodes.get(p).copied(),
+        Err(_arena) => None,
+    }
+}
+
+#[test]
+fn an_arena_becomes_a_strict_one(rt: HostRuntime) {
+    let mut arena: Arena<B, Node> = Arena::on_heap(rt.alloc());
+    let p = arena.insert((10, None)).expect(&rt, "memory");
+    is(found_strictly(arena, p), Some((10, None))).expect(&rt, "the node");
 }
 
 #[test]

@@ -8,7 +8,7 @@ use std::alloc::Global;
 use std::cmp::Ordering;
 use std::fmt;
 use std::hash::{DefaultHasher, Hash, Hasher};
-use triple_arena_ptr::{P0, P1, P2, P3, P4, P5, Ptr, PtrGen, PtrInx, PtrNoGen, Q2};
+use triple_arena_ptr::{P0, P1, P2, P3, P4, P5, Ptr, PtrGen, PtrInx, PtrKind, PtrNoGen, Q2};
 use triple_arena_test_kit::is;
 
 // The hash of a value.
@@ -101,5 +101,18 @@ fn every_pointer_type_is_whole(rt: HostRuntime) {
     is(is_whole::<P5>(alloc, "P5", false, "P5[1a]"), true).expect(&rt, "P5");
     is(is_whole::<Q2>(alloc, "Q2", true, "Q2[1a](2)"), true).expect(&rt, "Q2");
     is(is_whole::<PtrNoGen<P2>>(alloc, "P2", false, "P2[1a]"), true).expect(&rt, "PtrNoGen of P2");
+    is(
+        is_whole::<PtrKind<P3, 1>>(alloc, "P3", true, "P3[1a](2)"),
+        true,
+    )
+    .expect(&rt, "a kind of P3");
     is(is_whole::<B>(alloc, "B", true, "B[1a](2)"), true).expect(&rt, "B");
+}
+
+#[test]
+fn a_pointer_of_a_kind_is_made_of_one_of_its_form(rt: HostRuntime) {
+    let p = at::<P0>(26).expect(&rt, "a pointer");
+    let kind: PtrKind<P0, 1> = PtrKind::of(p);
+    is(kind, at(26).expect(&rt, "the pointer of the kind")).expect(&rt, "its numbers");
+    is(kind.ptr(), p).expect(&rt, "the pointer of its form");
 }

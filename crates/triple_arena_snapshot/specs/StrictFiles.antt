@@ -1,15 +1,10 @@
 -- Files of strict arenas.
-use Rattle.std.specs.Prelude.{◌≡◌, ℕ, nat_lt, ◌&&◌, Bool, false, if◌then◌else◌, List, Option, Err, Ok}
-use Rattle.std.specs.List.{list_any}
-use Rattle.triple_arena_traits.specs.Walks.{keys}
+use Rattle.std.specs.Prelude.{◌≡◌, ℕ, ◌&&◌, Bool, false, if◌then◌else◌, List, Option, Err, Ok}
+use Rattle.triple_arena_direct.specs.Gone.{is_any_past}
 use Rattle.triple_arena_snapshot.specs.declared.fault.Fault.TheVariants.{Counter}
 use Rattle.triple_arena_snapshot.specs.Coding.{Coding, Reading, ◌>>=◌}
 
 module _ {K : Type 0} where
-  -- an entry is of a generation past the counter
-  abbrev pub is_any_past : (counter : ℕ) → List (Option (ℕ × K)) → Bool
-  is_any_past counter slots = list_any (λ p. nat_lt counter p.1) (keys slots)
-
   -- what is read of a strict arena's file, by what is read of an arena's: where generations count, no entry may be of one past
   -- the counter, which is a fault of the value as a whole, whose first byte stands at 17
   abbrev pub up_to_counter : (counting : Bool) → Reading (List (Option (ℕ × K)) × (ℕ × List ℕ)) → Reading (List (Option (ℕ × K)) × (ℕ × List ℕ))

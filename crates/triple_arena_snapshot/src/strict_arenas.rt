@@ -1,6 +1,6 @@
-//! Strict arenas in files: each goes on in one place alone, here or where it is loaded.
+//! Strict arenas in files: each ends where it is saved, and goes on where its file is loaded.
 
-ghost use Rattle.std.specs.Prelude.{◌≡◌, ◌≢◌, ◌<◌, ◌^◌, ◌++◌, ◌∷◌, ◌&&◌, nat_lt, ℕ, List, Option, Some, Ok, [], true, OnOk, IfOk, IfErr, IfSome, IsErr};
+ghost use Rattle.std.specs.Prelude.{◌≡◌, ◌≢◌, ◌<◌, ◌^◌, ◌++◌, ◌∷◌, ℕ, List, Option, Some, Ok, [], true, OnOk, IfOk, IfErr, IfSome, IsErr};
 ghost use Rattle.std.specs.Io.KnownBytes.{Appends, IsAtEnd};
 ghost use Rattle.std.specs.Option.{option_map};
 ghost use Rattle.triple_arena_ptr.specs.Pointers.{Pointer};
@@ -10,29 +10,63 @@ ghost use Rattle.triple_arena_traits.specs.Insertion.{next_pointer};
 ghost use Rattle.triple_arena_traits.specs.Walks.{keys};
 ghost use Rattle.triple_arena_traits.specs.Histories.{begun_with, Fits, Continues};
 ghost use Rattle.triple_arena_direct.specs.Gone.{IsGoneForGood};
-ghost use Rattle.triple_arena_direct.specs.StrictFiles.{is_any_past, up_to_counter, FitsStrictly};
+ghost use Rattle.triple_arena_snapshot.specs.StrictFiles.{up_to_counter, FitsStrictly};
 ghost use Rattle.triple_arena_snapshot.specs.ArenaCodings.{arena_content};
 ghost use Rattle.triple_arena_snapshot.specs.ArenaLayouts.{arena_coding};
 ghost use Rattle.triple_arena_snapshot.specs.Files.{file_of, file_reading, SaveFails, LoadsFrom};
 
-use super::StrictArena;
-use super::leaving::Leaving;
+use crate::codec::Codec;
+use crate::fault::{Fault, LoadError, SaveError};
+use crate::generations::GenerationCodec;
+use crate::laws::read_answers_as_written;
+use crate::loading::load_arena;
+use crate::saving::save_arena;
 use std::alloc::Global;
-use std::cmp::Ordering;
 use std::io::{Read, Write};
-use triple_arena::{Arena, ArenaSlot, ArenaTrait, CompactArenaTrait};
-use triple_arena_ptr::{Ptr, PtrGen};
-use triple_arena_snapshot::laws::read_answers_as_written;
-use triple_arena_snapshot::{Codec, Fault, GenerationCodec, LoadError, SaveError, load_arena};
-use triple_arena_stack::NonZeroInxGenericStack;
+use triple_arena::{ArenaSlot, NonZeroInxGenericStack};
+use triple_arena_direct::{Leaving, StrictArena, into_arena, into_strict};
+use triple_arena_ptr::Ptr;
+
+/// What is saved by value, so that it ends where its file is written: strict arenas, over any stack.
+/// Callers have [`save_strict_arena`], a function, as they have of every way out of a strict arena.
+pub trait SavedStrictly<P: Ptr, T>: Leaving<P, T> {
+    /// Writes its file, as [`save_strict_arena`] does.
+    fn write_file<W: Write>(&self, alloc: Global, output: &mut W) -> Result<(), SaveError>
+    where
+        T: Codec,
+        P::Gen: GenerationCodec,
+        ensures written { OnOk result (Appends (W.contents output.old) (W.contents output.new)
+            (file_of ((arena_coding P.Inx.greatest P.Gen.width (Self.state self.now).limit P.Gen.numbered
+            T.coding).encoding (arena_content T.content (Self.state self.now))))) }
+        ensures fits { OnOk result (FitsStrictly P.Gen.generations.counting (arena_coding
+            P.Inx.greatest P.Gen.width (Self.state self.now).limit P.Gen.numbered T.coding)
+            (arena_content T.content (Self.state self.now))) }
+        ensures refused { IfErr result (λ e. SaveFails e (W.contents output.old)
+            (W.contents output.new) (file_of ((arena_coding P.Inx.greatest P.Gen.width
+            (Self.state self.now).limit P.Gen.numbered T.coding).encoding
+            (arena_content T.content (Self.state self.now))))) };
+}
+
+impl<P: Ptr, T, S: NonZeroInxGenericStack<ArenaSlot<P, T>>> SavedStrictly<P, T>
+    for StrictArena<P, T, S> {
+    fn write_file<W: Write>(&self, alloc: Global, output: &mut W) -> Result<(), SaveError>
+    where
+        T: Codec,
+        P::Gen: GenerationCodec,
+    {
+        // A history can begin with its pointers: so none is past the counter.
+        let _counter = self.generation();
+        save_arena(self.arena(), alloc, output)
+    }
+}
 
 /// Writes the file of a strict arena, which ends here, and goes on where the file is loaded, by
 /// [`load_strict_arena`]. The file is that of the arena inside, as
-/// [`triple_arena_snapshot::save_arena`] writes it; this arena comes back, as [`crate::into_arena`] gives
+/// [`crate::save_arena`] writes it; this arena comes back, as [`into_arena`] gives
 /// it, for who has a use for its values yet.
 ///
 /// Refused as there; then the strict arena comes back as it was.
-pub fn save_strict_arena<P: Ptr, T: Codec, A: Leaving<P, T>, W: Write>(
+pub fn save_strict_arena<P: Ptr, T: Codec, A: SavedStrictly<P, T>, W: Write>(
     strict: A,
     alloc: Global,
     output: &mut W,
@@ -53,7 +87,7 @@ where
         (arena_content T.content (A.state strict))))) }
 {
     match strict.write_file(alloc, output) {
-        Ok(()) => Ok(strict.open()),
+        Ok(()) => Ok(into_arena(strict)),
         Err(refusal) => Err((strict, refusal)),
     }
 }
@@ -65,11 +99,11 @@ where
 ///
 /// Of any file, what is read of it is said (`read`), and a history can begin with the pointers loaded
 /// (`begun`): none of them is given again. What was given before is promised only of one load of a file
-/// that [`save_strict_arena`] wrote: two loads of one file give the same pointers. Where the stack has another
-/// limit than that of the arena that was saved, [`triple_arena_snapshot::laws::fits_under_another_limit`] tells
-/// what fits.
+/// that [`save_strict_arena`] wrote: two loads of one file give the same pointers, and so does the arena that
+/// came back, made strict again. Where the stack has another limit than that of the arena that was saved,
+/// [`crate::laws::fits_under_another_limit`] tells what fits.
 ///
-/// Refused as [`triple_arena_snapshot::load_arena`]; and then with `Counter`, at offset 17, the value's
+/// Refused as [`crate::load_arena`]; and then with `Counter`, at offset 17, the value's
 /// first byte, where generations count and an entry is of one past the counter.
 pub fn load_strict_arena<
     P: Ptr,
@@ -127,40 +161,8 @@ where
     // What is read answers as what was written.
     read_answers_as_written::<T>();
     let arena = load_arena(stack, alloc, input)?;
-    if is_past_counter(&arena) {
-        return Err(LoadError::Malformed(Fault::Counter, 17));
+    match into_strict(arena) {
+        Ok(strict) => Ok(strict),
+        Err(_) => Err(LoadError::Malformed(Fault::Counter, 17)),
     }
-    Ok(StrictArena { arena })
-}
-
-// Whether generations count, and an entry is of one past the counter.
-fn is_past_counter<P: Ptr, T, S: NonZeroInxGenericStack<ArenaSlot<P, T>>>(
-    arena: &Arena<P, T, S>,
-) -> bool
-    ensures { result ≡ (P.Gen.generations.counting
-        && is_any_past arena.now.counter arena.now.slots) }
-{
-    P::Gen::counts() && is_any_past(arena)
-}
-
-// Whether an entry is of a generation past the counter.
-fn is_any_past<P: Ptr, T, S: NonZeroInxGenericStack<ArenaSlot<P, T>>>(
-    arena: &Arena<P, T, S>,
-) -> bool
-    ensures { result ≡ is_any_past arena.now.counter arena.now.slots }
-{
-    let counter = arena.generation();
-    'entries: for p in arena.ptrs() {
-        if is_past(p.generation(), counter) {
-            return true;
-        }
-    }
-    false
-}
-
-// Whether a generation is past a counter.
-fn is_past<G: PtrGen>(generation: G, counter: G) -> bool
-    ensures { result ≡ nat_lt (G.number counter) (G.number generation) }
-{
-    generation.cmp(&counter) == Ordering::Greater
 }

@@ -6,12 +6,12 @@ ghost use Rattle.triple_arena_base.specs.Held.{held_itself, refill_itself};
 ghost use Rattle.triple_arena_base.specs.laws.HeldLaws.{itself_held_refill, itself_refill_held, itself_refill_refill};
 ghost use Rattle.triple_arena_ptr.specs.PointerText.{pointer_text};
 
-use std::alloc::{AllocError, Global};
+use crate::ptr::Ptr;
+use crate::text::fmt_pointer;
+use std::alloc::AllocError;
 use std::fmt;
 use std::marker::Model;
 use triple_arena_base::{Recast, Recaster};
-use triple_arena_ptr::{Ptr, fmt_pointer};
-use triple_arena_snapshot::{Codec, DecodeError};
 
 /// A pointer of the index, the generation and the text of `P`, in a type of its own for each number
 /// `KIND`: so that a pointer of one arena doesn't compile as that of another, and the kinds of pointers
@@ -48,6 +48,22 @@ impl<P, const KIND: usize> Model for PtrKind<P, KIND> {
     ghost view = { λ p. p.ptr };
 
     ghost inverse = { λ p. record { ptr = p } };
+}
+
+impl<P, const KIND: usize> PtrKind<P, KIND> {
+    /// The pointer of this kind whose index and generation `ptr` has.
+    pub fn of(ptr: P) -> Self
+        ensures { result ≡ ptr }
+    {
+        PtrKind { ptr }
+    }
+
+    /// The pointer of `P` that has its index and generation.
+    pub fn ptr(self) -> P
+        ensures { result ≡ self }
+    {
+        self.ptr
+    }
 }
 
 impl<P: Ptr, const KIND: usize> Ptr for PtrKind<P, KIND> {
@@ -145,22 +161,4 @@ impl<P: Ptr, const KIND: usize> Recast<PtrKind<P, KIND>> for PtrKind<P, KIND> {
     ghost refill_held = { itself_refill_held };
 
     ghost refill_refill = { itself_refill_refill };
-}
-
-/// The bytes of `P`.
-impl<P: Ptr + Codec, const KIND: usize> Codec for PtrKind<P, KIND> {
-    ghost Content = { P.Content };
-
-    ghost content = { P.content };
-
-    ghost coding = { P.coding };
-
-    fn encode(&self, out: &mut Vec<u8>) -> Result<(), triple_arena_base::AllocError> {
-        self.ptr.encode(out)
-    }
-
-    fn decode(alloc: Global, bytes: &[u8]) -> Result<(Self, &[u8]), DecodeError> {
-        let (ptr, rest) = P::decode(alloc, bytes)?;
-        Ok((PtrKind { ptr }, rest))
-    }
 }

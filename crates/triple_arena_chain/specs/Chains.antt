@@ -27,6 +27,12 @@ pub record ChainState (A T : Type 0) : Type 0 where
   pub capacity : ℕ
   pub limit : Option ℕ
 
+-- as many entries, and the same capacity and limit
+pub record KeepsSize {A T : Type 0} (old new : ChainState A T) : Type 0 where
+  pub len : new.len ≡ old.len
+  pub same_capacity : new.capacity ≡ old.capacity
+  pub same_limit : new.limit ≡ old.limit
+
 -- where an advancer stands: the pointer that it answers next, the one that it began at, and how many it may answer after the
 -- next
 pub record ChainStand : Type 0 where

@@ -2,7 +2,9 @@
 pub mod Links
 pub mod Chains
 pub mod Endings
+pub mod Compaction
 pub mod laws
 -- What clauses of callers name of a compaction, and of the map that it gives.
+pub use Rattle.triple_arena_recasting.specs.Compacted
 pub use Rattle.triple_arena_recasting.specs.Renaming
 pub use Rattle.triple_arena_direct_arena.specs.DirectState

@@ -28,6 +28,8 @@ impl<P: Ptr, T, A: CompactArenaTrait<P, Link<P, T>> + ArenaInsertTrait<P, Link<P
     pub fn push_back(&mut self, last: P, value: T) -> Result<P, ChainError>
     where
         T: Drop,
+        // Done: the value stands behind the last entry, so that the chain lists one value more. A full arena
+        // has grown as its own insertions have it grow.
         ensures listed { IfOk result (λ q. (ps : List Pointer)
             → IsRun (nodes self.old) (ps ++ P.numbers last ∷ []) None
             → IsRun (nodes self.new) (ps ++ P.numbers last ∷ P.numbers q ∷ []) None
@@ -38,6 +40,12 @@ impl<P: Ptr, T, A: CompactArenaTrait<P, Link<P, T>> + ArenaInsertTrait<P, Link<P
         ensures len { OnOk result (self.new.len ≡ self.old.len + 1) }
         ensures capacity { OnOk result (self.old.capacity ≤ self.new.capacity) }
         ensures limit { OnOk result (self.new.limit ≡ self.old.limit) }
+        ensures grown { OnOk result (self.new.capacity ≡ A.capacity (A.grown self.old.arena)) }
+        ensures history { IfOk result (λ q. Continues A.fits self.old.arena
+            (insertion (P.numbers q) ∷ []) self.new.arena) }
+
+        // Refused: nothing has changed. The pointer found nothing, an entry stood after it, or room or memory
+        // was refused.
         ensures refused { OnErr result (self.new ≡ self.old) }
         ensures no_entry { nodes self.old (P.numbers last) ≡ None
             → result ≡ Err ChainError.NoEntry }
@@ -49,6 +57,8 @@ impl<P: Ptr, T, A: CompactArenaTrait<P, Link<P, T>> + ArenaInsertTrait<P, Link<P
             → after_at (nodes self.old) (P.numbers last) ≡ None
             → ((result ≡ Err ChainError.NoRoom)
             ↔ IsFullAtLimit self.old.capacity self.old.limit (self.old.len)) }
+
+        // Behind a last entry it isn't refused where memory is there, nor where a place is.
         ensures with_memory { IsSome (nodes self.old (P.numbers last))
             → after_at (nodes self.old) (P.numbers last) ≡ None
             → CanGrow A.has_memory self.old.capacity self.old.limit
@@ -57,9 +67,6 @@ impl<P: Ptr, T, A: CompactArenaTrait<P, Link<P, T>> + ArenaInsertTrait<P, Link<P
             → after_at (nodes self.old) (P.numbers last) ≡ None
             → self.old.len < self.old.capacity
             → IsOk result × (self.new.capacity ≡ self.old.capacity) }
-        ensures grown { OnOk result (self.new.capacity ≡ A.capacity (A.grown self.old.arena)) }
-        ensures history { IfOk result (λ q. Continues A.fits self.old.arena
-            (insertion (P.numbers q) ∷ []) self.new.arena) }
     {
         // How lists of pointers follow an insertion.
         chains_as_lists::<T>();

@@ -57,9 +57,12 @@ impl<P: Ptr, T, A: CompactArenaTrait<P, Link<P, T>> + ArenaInsertTrait<P, Link<P
 > {
     /// Chains without entries, with the room and the limit of a new stack. It takes no memory.
     pub fn new(alloc: Global) -> Self
+        // The arena is a new one, and has no entries.
         ensures arena { result.arena ≡ A.empty (new_room A.kind) (new_limit A.kind) }
         ensures none { (q : Pointer) → nodes result q ≡ None }
         ensures len { result.len ≡ 0 }
+
+        // Its room is that of a new stack.
         ensures capacity { result.capacity ≡ min (stack_capacity (new_room A.kind)
             (new_limit A.kind)) (greatest_index P.Inx.greatest) }
         ensures limit { result.limit ≡ new_limit A.kind }
@@ -123,22 +126,27 @@ impl<P: Ptr, T, A: CompactArenaTrait<P, Link<P, T>> + ArenaInsertTrait<P, Link<P
     pub fn insert_new(&mut self, value: T) -> Result<P, ChainError>
     where
         T: Drop,
+        // Done: the value stands alone in a chain. A full arena has grown as its own insertions have it grow.
         ensures inserted { IfOk result (λ q.
             IsInserted (nodes self.old) None None (P.numbers q) value (nodes self.new)) }
         ensures len { OnOk result (self.new.len ≡ self.old.len + 1) }
         ensures capacity { OnOk result (self.old.capacity ≤ self.new.capacity) }
         ensures limit { OnOk result (self.new.limit ≡ self.old.limit) }
+        ensures grown { OnOk result (self.new.capacity ≡ A.capacity (A.grown self.old.arena)) }
+        ensures history { IfOk result (λ q. Continues A.fits self.old.arena
+            (insertion (P.numbers q) ∷ []) self.new.arena) }
+
+        // Refused: nothing has changed, and room or memory was refused.
         ensures refused { OnErr result (self.new ≡ self.old) }
         ensures refusal { IfErr result IsRefusedRoom }
         ensures no_room { (result ≡ Err ChainError.NoRoom)
             ↔ IsFullAtLimit self.old.capacity self.old.limit (self.old.len) }
+
+        // It isn't refused where memory is there, nor where a place is.
         ensures with_memory { CanGrow A.has_memory self.old.capacity self.old.limit
             (greatest_index P.Inx.greatest) → IsOk result }
         ensures had_place { self.old.len < self.old.capacity
             → IsOk result × (self.new.capacity ≡ self.old.capacity) }
-        ensures grown { OnOk result (self.new.capacity ≡ A.capacity (A.grown self.old.arena)) }
-        ensures history { IfOk result (λ q. Continues A.fits self.old.arena
-            (insertion (P.numbers q) ∷ []) self.new.arena) }
     {
         insert_between(&mut self.arena, value, None, None)
     }
@@ -149,6 +157,7 @@ impl<P: Ptr, T, A: CompactArenaTrait<P, Link<P, T>> + ArenaInsertTrait<P, Link<P
     pub fn insert(&mut self, place: Place<P>, value: T) -> Result<P, ChainError>
     where
         T: Drop,
+        // Done: the value stands at the place. A full arena has grown as its own insertions have it grow.
         ensures inserted { IfOk result (λ q. IsInserted (nodes self.old)
             (place_before P.numbers (nodes self.old) place)
             (place_after P.numbers (nodes self.old) place)
@@ -156,6 +165,11 @@ impl<P: Ptr, T, A: CompactArenaTrait<P, Link<P, T>> + ArenaInsertTrait<P, Link<P
         ensures len { OnOk result (self.new.len ≡ self.old.len + 1) }
         ensures capacity { OnOk result (self.old.capacity ≤ self.new.capacity) }
         ensures limit { OnOk result (self.new.limit ≡ self.old.limit) }
+        ensures grown { OnOk result (self.new.capacity ≡ A.capacity (A.grown self.old.arena)) }
+        ensures history { IfOk result (λ q. Continues A.fits self.old.arena
+            (insertion (P.numbers q) ∷ []) self.new.arena) }
+
+        // Refused: nothing has changed. The place's pointer found nothing, or room or memory was refused.
         ensures refused { OnErr result (self.new ≡ self.old) }
         ensures no_entry { (result ≡ Err ChainError.NoEntry)
             ↔ (nodes self.old (place_at P.numbers place) ≡ None) }
@@ -164,15 +178,14 @@ impl<P: Ptr, T, A: CompactArenaTrait<P, Link<P, T>> + ArenaInsertTrait<P, Link<P
         ensures no_room { IsSome (nodes self.old (place_at P.numbers place))
             → ((result ≡ Err ChainError.NoRoom)
             ↔ IsFullAtLimit self.old.capacity self.old.limit (self.old.len)) }
+
+        // Where the pointer finds an entry, it isn't refused where memory is there, nor where a place is.
         ensures with_memory { IsSome (nodes self.old (place_at P.numbers place))
             → CanGrow A.has_memory self.old.capacity self.old.limit
             (greatest_index P.Inx.greatest) → IsOk result }
         ensures had_place { IsSome (nodes self.old (place_at P.numbers place))
             → self.old.len < self.old.capacity
             → IsOk result × (self.new.capacity ≡ self.old.capacity) }
-        ensures grown { OnOk result (self.new.capacity ≡ A.capacity (A.grown self.old.arena)) }
-        ensures history { IfOk result (λ q. Continues A.fits self.old.arena
-            (insertion (P.numbers q) ∷ []) self.new.arena) }
     {
         match self.ends(place) {
             Some((prev, next)) => insert_between(&mut self.arena, value, prev, next),
@@ -206,6 +219,7 @@ impl<P: Ptr, T, A: CompactArenaTrait<P, Link<P, T>> + ArenaInsertTrait<P, Link<P
     /// `NoEntry` exactly where the pointer finds nothing; then nothing changes. `GenerationOverflow`
     /// exactly where the removal from the arena wraps its counter (`answer`).
     pub fn remove(&mut self, p: P) -> Result<InvalidationOption<T>, ChainError>
+        // Done: the value comes back, told with a wrap if there was one, and its entry is gone.
         ensures value { IfOk result (λ answer.
             value_at (nodes self.old) (P.numbers p) ≡ Some (allowed_option answer)) }
         ensures answer { IfOk result (λ answer. answer
@@ -215,14 +229,18 @@ impl<P: Ptr, T, A: CompactArenaTrait<P, Link<P, T>> + ArenaInsertTrait<P, Link<P
         ensures ended { OnOk result
             (EndsAt A.removes A.with_value self.old.arena (P.numbers p).0 self.new.arena) }
         ensures len { OnOk result (self.new.len + 1 ≡ self.old.len) }
-        ensures capacity { self.new.capacity ≡ self.old.capacity }
-        ensures limit { self.new.limit ≡ self.old.limit }
+        ensures history { OnOk result (CountsUp P.Gen.generations (A.ending_wraps self.old.arena)
+            → Continues A.fits self.old.arena (removal (P.numbers p) ∷ []) self.new.arena) }
+
+        // Refused: nothing has changed, and the pointer found nothing.
+        ensures refused { OnErr result (self.new ≡ self.old) }
         ensures no_entry { (result ≡ Err ChainError.NoEntry)
             ↔ (nodes self.old (P.numbers p) ≡ None) }
         ensures refusal { IfErr result (λ refusal. refusal ≡ ChainError.NoEntry) }
-        ensures refused { OnErr result (self.new ≡ self.old) }
-        ensures history { OnOk result (CountsUp P.Gen.generations (A.ending_wraps self.old.arena)
-            → Continues A.fits self.old.arena (removal (P.numbers p) ∷ []) self.new.arena) }
+
+        // In each case the room stays.
+        ensures capacity { self.new.capacity ≡ self.old.capacity }
+        ensures limit { self.new.limit ≡ self.old.limit }
     {
         let Some(_link) = self.arena.get(p) else {
             return Err(ChainError::NoEntry);

@@ -3,7 +3,7 @@
 ghost use Rattle.std.specs.Prelude.{◌≡◌, ◌≢◌, ◌↔◌, ◌⊎◌, [], None, Some, IsSome, OnOk, OnErr, Err};
 ghost use Rattle.std.specs.Result.{IfErr};
 ghost use Rattle.triple_arena.specs.Histories.{Continues};
-ghost use Rattle.triple_arena_chain.specs.Chains.{nodes, before_at, after_at, IsCut, IsJoined, KeepsApart};
+ghost use Rattle.triple_arena_chain.specs.Chains.{nodes, before_at, after_at, KeepsSize, IsCut, IsJoined, KeepsApart};
 
 use crate::chains::Chains;
 use crate::link::Link;
@@ -22,15 +22,18 @@ impl<P: Ptr, T, A: CompactArenaTrait<P, Link<P, T>> + ArenaInsertTrait<P, Link<P
     ///
     /// `NoEntry` exactly where the pointer finds nothing; then nothing changes.
     pub fn cut_after(&mut self, p: P) -> Result<(), ChainError>
+        // Done: the entry, which was there, is the last of its chain.
         ensures cut { OnOk result (IsCut (nodes self.old)
             (Some (P.numbers p)) (after_at (nodes self.old) (P.numbers p)) (nodes self.new)) }
-        ensures len { self.new.len ≡ self.old.len }
-        ensures capacity { self.new.capacity ≡ self.old.capacity }
-        ensures limit { self.new.limit ≡ self.old.limit }
         ensures there { OnOk result (IsSome (nodes self.old (P.numbers p))) }
+
+        // Refused: nothing has changed, and the pointer found nothing.
+        ensures refused { OnErr result (self.new ≡ self.old) }
         ensures no_entry { OnErr result (nodes self.old (P.numbers p) ≡ None) }
         ensures refusal { IfErr result (λ refusal. refusal ≡ ChainError.NoEntry) }
-        ensures refused { OnErr result (self.new ≡ self.old) }
+
+        // In each case there are as many entries and as much room, and a history goes on as it is.
+        ensures size { KeepsSize self.old self.new }
         ensures history { Continues A.fits self.old.arena [] self.new.arena }
     {
         let Some(link) = self.arena.get(p) else {
@@ -46,15 +49,18 @@ impl<P: Ptr, T, A: CompactArenaTrait<P, Link<P, T>> + ArenaInsertTrait<P, Link<P
     ///
     /// `NoEntry` exactly where the pointer finds nothing; then nothing changes.
     pub fn cut_before(&mut self, p: P) -> Result<(), ChainError>
+        // Done: the entry, which was there, is the first of its chain.
         ensures cut { OnOk result (IsCut (nodes self.old)
             (before_at (nodes self.old) (P.numbers p)) (Some (P.numbers p)) (nodes self.new)) }
-        ensures len { self.new.len ≡ self.old.len }
-        ensures capacity { self.new.capacity ≡ self.old.capacity }
-        ensures limit { self.new.limit ≡ self.old.limit }
         ensures there { OnOk result (IsSome (nodes self.old (P.numbers p))) }
+
+        // Refused: nothing has changed, and the pointer found nothing.
+        ensures refused { OnErr result (self.new ≡ self.old) }
         ensures no_entry { OnErr result (nodes self.old (P.numbers p) ≡ None) }
         ensures refusal { IfErr result (λ refusal. refusal ≡ ChainError.NoEntry) }
-        ensures refused { OnErr result (self.new ≡ self.old) }
+
+        // In each case there are as many entries and as much room, and a history goes on as it is.
+        ensures size { KeepsSize self.old self.new }
         ensures history { Continues A.fits self.old.arena [] self.new.arena }
     {
         let Some(link) = self.arena.get(p) else {
@@ -71,13 +77,14 @@ impl<P: Ptr, T, A: CompactArenaTrait<P, Link<P, T>> + ArenaInsertTrait<P, Link<P
     /// `NoEntry` exactly where one of the pointers finds nothing, else `Taken` exactly where the one
     /// has an entry after it, or the other one before it; then nothing changes.
     pub fn join(&mut self, last: P, first: P) -> Result<(), ChainError>
+        // Done: the one chain, which was open there, goes on with the other.
         ensures joined { OnOk result (IsJoined (nodes self.old)
             (P.numbers last) (P.numbers first) (nodes self.new)) }
         ensures open_after { OnOk result (after_at (nodes self.old) (P.numbers last) ≡ None) }
         ensures open_before { OnOk result (before_at (nodes self.old) (P.numbers first) ≡ None) }
-        ensures len { self.new.len ≡ self.old.len }
-        ensures capacity { self.new.capacity ≡ self.old.capacity }
-        ensures limit { self.new.limit ≡ self.old.limit }
+
+        // Refused: nothing has changed. A pointer found nothing, or one had that neighbour.
+        ensures refused { OnErr result (self.new ≡ self.old) }
         ensures refusal { IfErr result
             (KeepsApart (nodes self.old) (P.numbers last) (P.numbers first)) }
         ensures no_entry { (result ≡ Err ChainError.NoEntry)
@@ -85,7 +92,9 @@ impl<P: Ptr, T, A: CompactArenaTrait<P, Link<P, T>> + ArenaInsertTrait<P, Link<P
             ⊎ (nodes self.old (P.numbers first) ≡ None)) }
         ensures taken { (result ≡ Err ChainError.Taken)
             ↔ KeepsApart (nodes self.old) (P.numbers last) (P.numbers first) ChainError.Taken }
-        ensures refused { OnErr result (self.new ≡ self.old) }
+
+        // In each case there are as many entries and as much room, and a history goes on as it is.
+        ensures size { KeepsSize self.old self.new }
         ensures history { Continues A.fits self.old.arena [] self.new.arena }
     {
         let Some(end) = self.arena.get(last) else {

@@ -29,6 +29,7 @@ impl<P: Ptr, T, A: CompactArenaTrait<P, Link<P, T>> + ArenaInsertTrait<P, Link<P
     pub fn remove_chain(&mut self, p: P) -> Result<InvalidationOption<usize>, ChainError>
     where
         T: Drop,
+        // Done: the entries of the chain are gone, so many as comes back, told with a wrap if there was one.
         ensures removed { OnOk result
             (IsChainRemoved (nodes self.old) (P.numbers p) (nodes self.new)) }
         ensures len { IfOk result
@@ -36,15 +37,19 @@ impl<P: Ptr, T, A: CompactArenaTrait<P, Link<P, T>> + ArenaInsertTrait<P, Link<P
         ensures wrap { IfOk result (λ answer. (gone : List Pointer)
             × EndInTurn A.removes A.with_value A.ending_wraps self.old.arena gone
             (not (is_success_option answer)) self.new.arena) }
-        ensures capacity { self.new.capacity ≡ self.old.capacity }
-        ensures limit { self.new.limit ≡ self.old.limit }
-        ensures no_entry { (result ≡ Err ChainError.NoEntry)
-            ↔ (nodes self.old (P.numbers p) ≡ None) }
-        ensures refusal { IfErr result (λ refusal. refusal ≡ ChainError.NoEntry) }
-        ensures refused { OnErr result (self.new ≡ self.old) }
         ensures history { IfOk result (λ answer.
             CountsUp P.Gen.generations (not (is_success_option answer)) → (gone : List Pointer)
             × Continues A.fits self.old.arena (map removal gone) self.new.arena) }
+
+        // Refused: nothing has changed, and the pointer found nothing.
+        ensures refused { OnErr result (self.new ≡ self.old) }
+        ensures no_entry { (result ≡ Err ChainError.NoEntry)
+            ↔ (nodes self.old (P.numbers p) ≡ None) }
+        ensures refusal { IfErr result (λ refusal. refusal ≡ ChainError.NoEntry) }
+
+        // In each case the room stays.
+        ensures capacity { self.new.capacity ≡ self.old.capacity }
+        ensures limit { self.new.limit ≡ self.old.limit }
     {
         let Some(_value) = self.get(p) else {
             return Err(ChainError::NoEntry);

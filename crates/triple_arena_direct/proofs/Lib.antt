@@ -1,5 +1,5 @@
 pub mod StrictAnswers
+mod StrictCompacting
 mod StrictSteps
 mod StrictRetaining
 mod Draining
-mod StrictFiles

@@ -2,12 +2,13 @@
 pub mod StrictAnswers
 pub mod StrictRetain
 pub mod StrictCalls
+pub mod StrictCompacted
 pub mod StrictInsertEntry
 pub mod StrictDrains
-pub mod StrictFiles
 pub mod Gone
 pub mod laws
 -- What clauses of callers name of the inner crates behind this door: what goes over any arena, and direct arenas.
+pub use Rattle.triple_arena_recasting.specs.Compacted
 pub use Rattle.triple_arena_recasting.specs.Concrete
 pub use Rattle.triple_arena_recasting.specs.Extending
 pub use Rattle.triple_arena_recasting.specs.HeldThree

@@ -34,9 +34,14 @@ impl<P: Ptr, T, S: NonZeroInxGenericStack<ArenaSlot<P, T>>> IndexMut<P> for Stri
     /// The value under `p`, for writing. The pointer must be valid, which `contains` tells.
     fn index_mut(&mut self, p: P) -> &mut T
         requires { IsSome (look_up self.old.slots (P.numbers p)) }
+
+        // The value is lent; once the loan ends, what was written stands in its place, and nothing
+        // else has changed.
         ensures value { look_up self.old.slots (P.numbers p) ≡ Some result.now }
         ensures* writes_back { sem 𝓛 (Lends ⟦<StrictArena<P, T, S> as LendingArena>⟧.arena_row T.row
             self.entry result (with_value self.old (P.numbers p).0)) }
+
+        // It is a strict call, by which every history goes on, and what was gone for good stays so.
         ensures step { (value : T) → IsStrictStep S.kind P.Gen.generations self.old
             (to_write (P.numbers p) value) [] (with_value self.old (P.numbers p).0 value) }
         ensures written { (value : T)

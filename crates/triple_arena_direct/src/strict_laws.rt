@@ -18,6 +18,7 @@ ghost use Rattle.triple_arena_direct.specs.StrictCalls.{StrictCall, IsStrictStep
 /// (`live`), and what is gone for good stays so (`stays_gone`). Gone in an arena without entries is
 /// each pointer of a generation below the counter (`below`), as that of `Ptr::invalid`.
 pub fn strict_calls_are_fresh<T>()
+    // A call takes every history that fits to one that fits, and so do calls one after another.
     ensures call { (kind : StackKind) (generations : Generations) (s : ArenaState T)
         (call : StrictCall T) (calls : List ModelCall) (t : ArenaState T)
         → generations.counting ≡ true
@@ -26,6 +27,9 @@ pub fn strict_calls_are_fresh<T>()
         (steps : List (StrictCall T)) (calls : List ModelCall) (t : ArenaState T)
         → generations.counting ≡ true
         → AreStrictSteps kind generations s steps calls t → Continues Fits s calls t }
+
+    // So from any history that fits on, no pointer is given twice, entries are under those that
+    // remain, and what is gone for good stays so.
     ensures given_once { (kind : StackKind) (generations : Generations) (s : ArenaState T)
         (steps : List (StrictCall T)) (calls : List ModelCall) (t : ArenaState T) (h : History)
         → generations.counting ≡ true → Fits h s → AreStrictSteps kind generations s steps calls t
@@ -38,6 +42,8 @@ pub fn strict_calls_are_fresh<T>()
         (steps : List (StrictCall T)) (calls : List ModelCall) (t : ArenaState T) (h : History)
         → generations.counting ≡ true → Fits h s → AreStrictSteps kind generations s steps calls t
         → (p : Pointer) → IsGoneForGood s p → IsGoneForGood t p }
+
+    // Without entries, each pointer of a generation below the counter is gone.
     ensures below { (s : ArenaState T) (p : Pointer) → arena_len s ≡ 0 → p.1 < s.counter
         → IsGoneForGood s p }
 {}

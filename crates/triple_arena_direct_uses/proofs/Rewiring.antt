@@ -29,6 +29,6 @@ module _ {P T : Type 0} (numbers : P → Pointer) (rename : Pointer → Pointer)
       ∙ sym (map-append (rewired rename) (map (λ p. (k, numbers p)) (held v)) (wires_of numbers held ks vs))
 
 -- what a compaction tells that was not refused: by which renaming its map goes, and the wires
-pub told_if_ok : {A E K V F : Type 0} (M : F → A → Type 0) (W : F → Type 0) (rename : F) (r : Result A E) → IfOk r (M rename) → OnOk r K → OnOk r V → (K → V → W rename) → IfOk r (λ answer. (f : F) × M f answer × W f)
-told_if_ok M W rename (Ok answer) maps ks vs wires = (rename, maps, wires ks vs)
-told_if_ok M W rename (Err refusal) maps ks vs wires = tt
+pub told_if_ok : {A E K F : Type 0} (M : F → A → Type 0) (W : F → Type 0) (rename : F) (r : Result A E) → IfOk r (M rename) → OnOk r K → (K → W rename) → IfOk r (λ answer. (f : F) × M f answer × W f)
+told_if_ok M W rename (Ok answer) maps is wires = (rename, maps, wires is)
+told_if_ok M W rename (Err refusal) maps is wires = tt

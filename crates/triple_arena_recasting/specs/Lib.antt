@@ -1,4 +1,5 @@
 -- Read first: Holding and Renaming.
+pub mod Compacted
 pub mod Concrete
 pub mod Extending
 pub mod HeldThree

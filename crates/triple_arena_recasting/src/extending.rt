@@ -27,18 +27,25 @@ pub fn extend<P: Ptr, T: Drop, A: ArenaInsertTrait<P, T>, U: IntoIterator<Item =
 ) -> Result<(), InsertFailed<T>>
     requires { (it : U.IntoIter) → U.into_iter_gives values it
         → U.IntoIter.can_next it × IsFinite (U.IntoIter.remaining it) }
+
+    // These values came and were inserted, and the iterator has ended, or has lent the next.
     ensures came { (it : U.IntoIter) × (came : List (Pointer × T)) × U.into_iter_gives values it
         × EntriesCame A.slots A.fits this.old came this.new
         × (this.new ≡ all_inserted A.inserted A.grown this.old (values_of came))
         × MatchResult result (λ _. Drains U.IntoIter.next_gives it (values_of came))
         (λ failed. (rest : U.IntoIter) × YieldsThen
         U.IntoIter.next_gives it (values_of came) (Some failed.value) rest) }
+
+    // Refused: the arena was full, and could not grow; its limit was reached exactly where the
+    // error says so.
     ensures beyond { IfErr result (λ failed. (failed.error ≡ ReallocationError.BeyondMaxCapacity)
         ↔ IsFullAtLimit (A.capacity this.new) (A.limit this.new) (entry_count (A.slots this.new))) }
     ensures with_memory { IfErr result (λ _. CanGrow A.has_memory (A.capacity this.new)
         (A.limit this.new) (greatest_index P.Inx.greatest) → ⊥) }
     ensures was_full { IfErr result (λ _.
         entry_count (A.slots this.new) < A.capacity this.new → ⊥) }
+
+    // In each case the limit stays.
     ensures limit { A.limit this.new ≡ A.limit this.old }
 {
     'each: for value in values {

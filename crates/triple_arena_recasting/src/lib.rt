@@ -1,5 +1,5 @@
 //! What is called over any arena: compaction that renames held pointers, values that come from an iterator, and entries that
-//! a closure keeps. It is an inner crate behind `triple_arena_direct`, apart so that it is proved beside `triple_arena_snapshot`.
+//! a closure keeps. It is an inner crate behind `triple_arena_direct`, apart so that it is proved beside `triple_arena`.
 #![tactic(auto)]
 
 mod errors;

@@ -1,6 +1,6 @@
 //! Compaction that tells the new pointers, and that renames those which the values hold.
 
-ghost use Rattle.std.specs.Prelude.{◌≡◌, ◌≤◌, ◌⊎◌, ◌∷◌, ◌++◌, false, List, [], map, length, None, Some, IsSome, IsOk, OnOk, OnErr, IfOk};
+ghost use Rattle.std.specs.Prelude.{◌≡◌, ◌≤◌, ◌⊎◌, ◌∷◌, ◌++◌, false, [], map, length, None, Some, IsSome, IsOk, OnOk, OnErr, IfOk};
 ghost use Rattle.std.specs.Option.{option_map};
 ghost use Rattle.std.specs.Result.{IfErr};
 ghost use Rattle.triple_arena_base.specs.Held.{held_all};
@@ -14,7 +14,8 @@ ghost use Rattle.triple_arena_traits.specs.FreeList.{last_index};
 ghost use Rattle.triple_arena_traits.specs.Ending.{told};
 ghost use Rattle.triple_arena_traits.specs.Histories.{History, compression, begun_with, CountsUp, Continues};
 ghost use Rattle.triple_arena_traits.specs.Walks.{keys, values};
-ghost use Rattle.triple_arena_recasting.specs.Renaming.{MapsPointers, first_unresolved, IsRenamed, AreRenamed, IsFoundRenamed, RefusesMemory, Refuses, IsUnresolved, MapHasMemory};
+ghost use Rattle.triple_arena_recasting.specs.Compacted.{TellsMap, KeepsSize, IsCompactedKeeping, IsCompactedRenaming};
+ghost use Rattle.triple_arena_recasting.specs.Renaming.{MapsPointers, first_unresolved, IsRenamed, RefusesMemory, Refuses, IsUnresolved, MapHasMemory};
 
 use std::alloc::Global;
 use std::convert::Infallible;
@@ -38,29 +39,21 @@ pub fn compress_recaster<P: Ptr, T, A: CompactArenaTrait<P, T>>(
     alloc: Global,
     reset_generation: bool,
 ) -> Result<InvalidationOption<DirectArena<P, P>>, ReallocationError>
-    ensures answer { IfOk result (λ answer. answer
-        ≡ told (A.compression_wraps this.old reset_generation) (allowed_option answer)) }
-    ensures maps { IfOk result (λ answer. MapsPointers P.numbers (A.rank this.old reset_generation)
-        (A.slots this.old) (allowed_option answer).slots) }
-    ensures done { OnOk result (A.compresses this.old reset_generation
-        (values (A.slots this.old)) this.new) }
-    ensures found { OnOk result ((p : Pointer) → IsSome (look_up (A.slots this.old) p)
-        → look_up (A.slots this.new) (A.rank this.old reset_generation p)
-        ≡ look_up (A.slots this.old) p) }
-    ensures keys { OnOk result (keys (A.slots this.new)
-        ≡ map (A.rank this.old reset_generation) (keys (A.slots this.old))) }
-    ensures values { OnOk result (values (A.slots this.new) ≡ values (A.slots this.old)) }
-    ensures len { entry_count (A.slots this.new) ≡ entry_count (A.slots this.old) }
-    ensures limit { A.limit this.new ≡ A.limit this.old }
-    ensures capacity { A.capacity this.new ≡ A.capacity this.old }
-    ensures history { OnOk result (reset_generation ≡ false
-        → CountsUp P.Gen.generations (A.compression_wraps this.old reset_generation)
-        → Continues A.fits this.old
-        (compression (keys (A.slots this.old)) (keys (A.slots this.new)) ∷ []) this.new) }
-    ensures begun { OnOk result ((h : History) → A.fits h this.old
-        → A.fits (begun_with (keys (A.slots this.new))) this.new) }
-    ensures refusal { IfErr result (RefusesMemory (entry_count (A.slots this.old))) }
+    // Done: the map leads from the old pointers to the new ones. The arena is compacted, and no value
+    // changes.
+    ensures map { IfOk result (TellsMap P.numbers (A.rank this.old reset_generation) (A.slots this.old)
+        (A.compression_wraps this.old reset_generation)) }
+    ensures compacted { OnOk result (IsCompactedKeeping A.slots A.fits
+        (A.compresses this.old reset_generation) (A.rank this.old reset_generation)
+        P.Gen.generations (A.compression_wraps this.old reset_generation) reset_generation
+        this.old this.new) }
+
+    // Refused: nothing has changed, and the error tells why.
     ensures refused { OnErr result (this.new ≡ this.old) }
+    ensures refusal { IfErr result (RefusesMemory (entry_count (A.slots this.old))) }
+
+    // In each case entries are as many as before, and limit and capacity stay.
+    ensures size { KeepsSize A.slots A.limit A.capacity this.old this.new }
 {
     let mut all = own_map(this, alloc)?;
     let answer = this.compress(reset_generation);
@@ -79,37 +72,25 @@ pub fn compress_recast<P: Ptr, T: Recast<P>, A: CompactArenaTrait<P, T>>(
     alloc: Global,
     reset_generation: bool,
 ) -> Result<InvalidationOption<DirectArena<P, P>>, CompactError<P>>
-    ensures answer { IfOk result (λ answer. answer
-        ≡ told (A.compression_wraps this.old reset_generation) (allowed_option answer)) }
-    ensures maps { IfOk result (λ answer. MapsPointers P.numbers (A.rank this.old reset_generation)
-        (A.slots this.old) (allowed_option answer).slots) }
-    ensures done { OnOk result ((new : List T)
-        × AreRenamed P.numbers (A.rank this.old reset_generation) T.held T.refill
-        (values (A.slots this.old)) new
-        × A.compresses this.old reset_generation new this.new) }
-    ensures keys { OnOk result (keys (A.slots this.new)
-        ≡ map (A.rank this.old reset_generation) (keys (A.slots this.old))) }
-    ensures values { OnOk result (AreRenamed P.numbers (A.rank this.old reset_generation)
-        T.held T.refill (values (A.slots this.old)) (values (A.slots this.new))) }
-    ensures found { OnOk result ((p : Pointer) → IsSome (look_up (A.slots this.old) p)
-        → IsFoundRenamed P.numbers (A.rank this.old reset_generation) T.held T.refill
-        (look_up (A.slots this.old) p)
-        (look_up (A.slots this.new) (A.rank this.old reset_generation p))) }
+    // Done: the map leads from the old pointers to the new ones. The arena is compacted, and each
+    // pointer that its values hold is renamed. Each of these found an entry.
+    ensures map { IfOk result (TellsMap P.numbers (A.rank this.old reset_generation) (A.slots this.old)
+        (A.compression_wraps this.old reset_generation)) }
+    ensures compacted { OnOk result (IsCompactedRenaming A.slots A.fits
+        (A.compresses this.old reset_generation) (A.rank this.old reset_generation)
+        P.Gen.generations (A.compression_wraps this.old reset_generation) reset_generation
+        P.numbers T.held T.refill this.old this.new) }
     ensures resolved { OnOk result (first_unresolved P.numbers (A.slots this.old)
         (held_all T.held (values (A.slots this.old))) ≡ None) }
-    ensures len { entry_count (A.slots this.new) ≡ entry_count (A.slots this.old) }
-    ensures limit { A.limit this.new ≡ A.limit this.old }
-    ensures capacity { A.capacity this.new ≡ A.capacity this.old }
-    ensures history { OnOk result (reset_generation ≡ false
-        → CountsUp P.Gen.generations (A.compression_wraps this.old reset_generation)
-        → Continues A.fits this.old
-        (compression (keys (A.slots this.old)) (keys (A.slots this.new)) ∷ []) this.new) }
-    ensures begun { OnOk result ((h : History) → A.fits h this.old
-        → A.fits (begun_with (keys (A.slots this.new))) this.new) }
+
+    // Refused: nothing has changed, and the error tells why.
+    ensures refused { OnErr result (this.new ≡ this.old) }
     ensures refusal { IfErr result (Refuses (entry_count (A.slots this.old))
         (first_unresolved P.numbers (A.slots this.old)
         (held_all T.held (values (A.slots this.old))))) }
-    ensures refused { OnErr result (this.new ≡ this.old) }
+
+    // In each case entries are as many as before, and limit and capacity stay.
+    ensures size { KeepsSize A.slots A.limit A.capacity this.old this.new }
 {
     let mut images = resolved_map(this, alloc)?;
     let answer = compress_renaming(this, &mut images, reset_generation);
@@ -135,40 +116,27 @@ pub fn compress_recast_with<P: Ptr, T: Recast<P>, A: CompactArenaTrait<P, T>, H:
     alloc: Global,
     reset_generation: bool,
 ) -> Result<InvalidationOption<DirectArena<P, P>>, CompactError<P>>
-    ensures answer { IfOk result (λ answer. answer
-        ≡ told (A.compression_wraps this.old reset_generation) (allowed_option answer)) }
-    ensures maps { IfOk result (λ answer. MapsPointers P.numbers (A.rank this.old reset_generation)
-        (A.slots this.old) (allowed_option answer).slots) }
-    ensures done { OnOk result ((new : List T)
-        × AreRenamed P.numbers (A.rank this.old reset_generation) T.held T.refill
-        (values (A.slots this.old)) new
-        × A.compresses this.old reset_generation new this.new) }
-    ensures keys { OnOk result (keys (A.slots this.new)
-        ≡ map (A.rank this.old reset_generation) (keys (A.slots this.old))) }
-    ensures values { OnOk result (AreRenamed P.numbers (A.rank this.old reset_generation)
-        T.held T.refill (values (A.slots this.old)) (values (A.slots this.new))) }
-    ensures found { OnOk result ((p : Pointer) → IsSome (look_up (A.slots this.old) p)
-        → IsFoundRenamed P.numbers (A.rank this.old reset_generation) T.held T.refill
-        (look_up (A.slots this.old) p)
-        (look_up (A.slots this.new) (A.rank this.old reset_generation p))) }
+    // Done: the map leads from the old pointers to the new ones. The arena is compacted, and each
+    // pointer that its values hold is renamed. Each of these found an entry.
+    ensures map { IfOk result (TellsMap P.numbers (A.rank this.old reset_generation) (A.slots this.old)
+        (A.compression_wraps this.old reset_generation)) }
+    ensures compacted { OnOk result (IsCompactedRenaming A.slots A.fits
+        (A.compresses this.old reset_generation) (A.rank this.old reset_generation)
+        P.Gen.generations (A.compression_wraps this.old reset_generation) reset_generation
+        P.numbers T.held T.refill this.old this.new) }
     ensures renamed { OnOk result (IsRenamed P.numbers (A.rank this.old reset_generation)
         H.held H.refill holder.old holder.new) }
     ensures resolved { OnOk result (first_unresolved P.numbers (A.slots this.old)
         (held_all T.held (values (A.slots this.old)) ++ H.held holder.old) ≡ None) }
-    ensures len { entry_count (A.slots this.new) ≡ entry_count (A.slots this.old) }
-    ensures limit { A.limit this.new ≡ A.limit this.old }
-    ensures capacity { A.capacity this.new ≡ A.capacity this.old }
-    ensures history { OnOk result (reset_generation ≡ false
-        → CountsUp P.Gen.generations (A.compression_wraps this.old reset_generation)
-        → Continues A.fits this.old
-        (compression (keys (A.slots this.old)) (keys (A.slots this.new)) ∷ []) this.new) }
-    ensures begun { OnOk result ((h : History) → A.fits h this.old
-        → A.fits (begun_with (keys (A.slots this.new))) this.new) }
+
+    // Refused: nothing has changed, and the error tells why.
+    ensures refused { OnErr result ((this.new ≡ this.old) × (holder.new ≡ holder.old)) }
     ensures refusal { IfErr result (Refuses (entry_count (A.slots this.old))
         (first_unresolved P.numbers (A.slots this.old)
         (held_all T.held (values (A.slots this.old)) ++ H.held holder.old))) }
-    ensures refused { OnErr result (this.new ≡ this.old) }
-    ensures holder_refused { OnErr result (holder.new ≡ holder.old) }
+
+    // In each case entries are as many as before, and limit and capacity stay.
+    ensures size { KeepsSize A.slots A.limit A.capacity this.old this.new }
 {
     let mut pointers = resolved_with(this, holder, alloc)?;
     let answer = compress_renaming(this, &mut pointers, reset_generation);
@@ -233,30 +201,18 @@ pub(crate) fn compress_renaming<P: Ptr, T: Recast<P>, A: CompactArenaTrait<P, T>
     requires own { keys images.old.slots ≡ keys (A.slots this.old) }
     requires resolved { first_unresolved P.numbers (A.slots this.old)
         (held_all T.held (values (A.slots this.old))) ≡ None }
+
+    // The map has the new pointers, the arena is compacted, and tells of a wrap.
     ensures answer { result ≡ told (A.compression_wraps this.old reset_generation) tt }
     ensures maps { MapsPointers P.numbers (A.rank this.old reset_generation)
         (A.slots this.old) images.new.slots }
-    ensures done { (new : List T)
-        × AreRenamed P.numbers (A.rank this.old reset_generation) T.held T.refill
-        (values (A.slots this.old)) new
-        × A.compresses this.old reset_generation new this.new }
-    ensures keys { keys (A.slots this.new)
-        ≡ map (A.rank this.old reset_generation) (keys (A.slots this.old)) }
-    ensures values { AreRenamed P.numbers (A.rank this.old reset_generation)
-        T.held T.refill (values (A.slots this.old)) (values (A.slots this.new)) }
-    ensures found { (p : Pointer) → IsSome (look_up (A.slots this.old) p)
-        → IsFoundRenamed P.numbers (A.rank this.old reset_generation) T.held T.refill
-        (look_up (A.slots this.old) p)
-        (look_up (A.slots this.new) (A.rank this.old reset_generation p)) }
-    ensures len { entry_count (A.slots this.new) ≡ entry_count (A.slots this.old) }
-    ensures limit { A.limit this.new ≡ A.limit this.old }
-    ensures capacity { A.capacity this.new ≡ A.capacity this.old }
-    ensures history { reset_generation ≡ false
-        → CountsUp P.Gen.generations (A.compression_wraps this.old reset_generation)
-        → Continues A.fits this.old
-        (compression (keys (A.slots this.old)) (keys (A.slots this.new)) ∷ []) this.new }
-    ensures begun { (h : History) → A.fits h this.old
-        → A.fits (begun_with (keys (A.slots this.new))) this.new }
+    ensures compacted { IsCompactedRenaming A.slots A.fits
+        (A.compresses this.old reset_generation) (A.rank this.old reset_generation)
+        P.Gen.generations (A.compression_wraps this.old reset_generation) reset_generation
+        P.numbers T.held T.refill this.old this.new }
+
+    // Entries are as many as before, and limit and capacity stay.
+    ensures size { KeepsSize A.slots A.limit A.capacity this.old this.new }
 {
     let answer = this.compress(reset_generation);
     put_pointers(images, this);
@@ -274,15 +230,20 @@ fn resolved_with<
     H: Recast<P>,
     K: NonZeroInxGenericStack<DirectSlot<P, P>> + Drop,
 >(this: &mut A, holder: &mut H, alloc: Global) -> Result<DirectArena<P, P, K>, CompactError<P>>
+    // Done: the map is of the arena's pointers, and each that is held finds an entry.
     ensures keys { IfOk result (λ all. keys all.slots ≡ keys (A.slots this.old)) }
     ensures resolved { OnOk result (first_unresolved P.numbers (A.slots this.old)
         (held_all T.held (values (A.slots this.old)) ++ H.held holder.old) ≡ None) }
+
+    // Refused: the error tells why, and it is not memory that is there.
     ensures refusal { new_limit K.kind ≡ None
         → IfErr result (Refuses (entry_count (A.slots this.old))
         (first_unresolved P.numbers (A.slots this.old)
         (held_all T.held (values (A.slots this.old)) ++ H.held holder.old))) }
     ensures with_memory { MapHasMemory K.kind K.has_memory (last_index (A.slots this.old))
         → IfErr result IsUnresolved }
+
+    // In each case nothing has changed.
     ensures unchanged { this.new ≡ this.old }
     ensures holder_unchanged { holder.new ≡ holder.old }
 {
@@ -301,17 +262,23 @@ pub(crate) fn resolved_map<
     A: CompactArenaTrait<P, T>,
     K: NonZeroInxGenericStack<DirectSlot<P, P>> + Drop,
 >(this: &mut A, alloc: Global) -> Result<DirectArena<P, P, K>, CompactError<P>>
+    // Done: the map is of the arena's pointers, each as its own image, and each that is held finds
+    // an entry.
     ensures keys { IfOk result (λ all. keys all.slots ≡ keys (A.slots this.old)) }
     ensures own { IfOk result (λ all. (p : P) → look_up all.slots (P.numbers p)
         ≡ option_map (λ _. p) (look_up (A.slots this.old) (P.numbers p))) }
     ensures resolved { OnOk result (first_unresolved P.numbers (A.slots this.old)
         (held_all T.held (values (A.slots this.old))) ≡ None) }
+
+    // Refused: the error tells why, and it is not memory that is there.
     ensures refusal { new_limit K.kind ≡ None
         → IfErr result (Refuses (entry_count (A.slots this.old))
         (first_unresolved P.numbers (A.slots this.old)
         (held_all T.held (values (A.slots this.old))))) }
     ensures with_memory { MapHasMemory K.kind K.has_memory (last_index (A.slots this.old))
         → IfErr result IsUnresolved }
+
+    // In each case nothing has changed.
     ensures unchanged { this.new ≡ this.old }
 {
     let all = own_map(this, alloc)?;

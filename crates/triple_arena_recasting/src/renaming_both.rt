@@ -1,20 +1,17 @@
 //! Compaction of two arenas that point at each other.
 
-ghost use Rattle.std.specs.Prelude.{◌≡◌, ◌∷◌, ◌++◌, false, List, [], map, None, IsSome, OnOk, OnErr, IfOk};
+ghost use Rattle.std.specs.Prelude.{◌≡◌, ◌++◌, None, OnOk, OnErr, IfOk};
 ghost use Rattle.std.specs.Result.{IfErr};
 ghost use Rattle.std.proofs.Common.{refl};
 ghost use Rattle.triple_arena_base.specs.Held.{held_all, held_nothing, refill_nothing, recast_items};
 ghost use Rattle.triple_arena_base.specs.laws.HeldLaws.{nothing_held_refill};
-ghost use Rattle.triple_arena_base.specs.Invalidation.{allowed_option};
-ghost use Rattle.triple_arena_ptr.specs.Pointers.{Pointer};
 ghost use Rattle.triple_arena_traits.specs.Entries.{look_up, entry_count};
 ghost use Rattle.triple_arena_stack.specs.StackKind.{new_limit};
-ghost use Rattle.triple_arena_traits.specs.Ending.{told};
 ghost use Rattle.triple_arena_traits.specs.FreeList.{last_index};
-ghost use Rattle.triple_arena_traits.specs.Histories.{History, compression, begun_with, CountsUp, Continues};
 ghost use Rattle.triple_arena_traits.specs.Walks.{keys, values};
-ghost use Rattle.triple_arena_recasting.specs.Renaming.{MapsPointers, first_unresolved, Refuses, IsUnresolved, MapHasMemory};
-ghost use Rattle.triple_arena_recasting.specs.RenamingBoth.{StandApart, IsRenamedBoth, AreRenamedBoth, IsFoundRenamedBoth, RefusesBoth};
+ghost use Rattle.triple_arena_recasting.specs.Compacted.{TellsMap, KeepsSize, IsCompactedBoth, ResolveBoth};
+ghost use Rattle.triple_arena_recasting.specs.Renaming.{first_unresolved, Refuses, IsUnresolved, MapHasMemory};
+ghost use Rattle.triple_arena_recasting.specs.RenamingBoth.{StandApart, IsRenamedBoth, RefusesBoth};
 
 use crate::errors::CompactBothError;
 use crate::renaming::{compress_renaming, resolved_map};
@@ -64,82 +61,36 @@ pub fn compress_recast_both<
         ⟦<T as Recast<Q>>⟧.held ⟦<T as Recast<Q>>⟧.refill }
     requires second_apart { StandApart ⟦<U as Recast<Q>>⟧.held ⟦<U as Recast<Q>>⟧.refill
         ⟦<U as Recast<P>>⟧.held ⟦<U as Recast<P>>⟧.refill }
-    ensures first_answer { IfOk result (λ answers. answers.0
-        ≡ told (A.compression_wraps first.old reset_generation) (allowed_option answers.0)) }
-    ensures first_maps { IfOk result (λ answers. MapsPointers P.numbers
-        (A.rank first.old reset_generation)
-        (A.slots first.old) (allowed_option answers.0).slots) }
-    ensures first_done { OnOk result ((new : List T) × AreRenamedBoth P.numbers
-        (A.rank first.old reset_generation) ⟦<T as Recast<P>>⟧.held ⟦<T as Recast<P>>⟧.refill
+
+    // Done: each map leads from the old pointers of its arena to the new ones. Each arena is compacted,
+    // and each pointer of both kinds that its values hold is renamed. Each of these found an entry.
+    ensures maps { IfOk result (λ answers.
+        TellsMap P.numbers (A.rank first.old reset_generation) (A.slots first.old)
+        (A.compression_wraps first.old reset_generation) answers.0
+        × TellsMap Q.numbers (B.rank second.old reset_generation) (B.slots second.old)
+        (B.compression_wraps second.old reset_generation) answers.1) }
+    ensures first { OnOk result (IsCompactedBoth A.slots A.fits
+        (A.compresses first.old reset_generation) (A.rank first.old reset_generation)
+        P.Gen.generations (A.compression_wraps first.old reset_generation) reset_generation
+        P.numbers ⟦<T as Recast<P>>⟧.held ⟦<T as Recast<P>>⟧.refill
         Q.numbers (B.rank second.old reset_generation)
-        ⟦<T as Recast<Q>>⟧.held ⟦<T as Recast<Q>>⟧.refill
-        (values (A.slots first.old)) new
-        × A.compresses first.old reset_generation new first.new) }
-    ensures first_keys { OnOk result (keys (A.slots first.new)
-        ≡ map (A.rank first.old reset_generation) (keys (A.slots first.old))) }
-    ensures first_values { OnOk result (AreRenamedBoth P.numbers
-        (A.rank first.old reset_generation) ⟦<T as Recast<P>>⟧.held ⟦<T as Recast<P>>⟧.refill
-        Q.numbers (B.rank second.old reset_generation)
-        ⟦<T as Recast<Q>>⟧.held ⟦<T as Recast<Q>>⟧.refill
-        (values (A.slots first.old)) (values (A.slots first.new))) }
-    ensures first_found { OnOk result ((p : Pointer) → IsSome (look_up (A.slots first.old) p)
-        → IsFoundRenamedBoth P.numbers
-        (A.rank first.old reset_generation) ⟦<T as Recast<P>>⟧.held ⟦<T as Recast<P>>⟧.refill
-        Q.numbers (B.rank second.old reset_generation)
-        ⟦<T as Recast<Q>>⟧.held ⟦<T as Recast<Q>>⟧.refill
-        (look_up (A.slots first.old) p)
-        (look_up (A.slots first.new) (A.rank first.old reset_generation p))) }
-    ensures first_resolved { OnOk result (first_unresolved P.numbers (A.slots first.old)
+        ⟦<T as Recast<Q>>⟧.held ⟦<T as Recast<Q>>⟧.refill first.old first.new) }
+    ensures second { OnOk result (IsCompactedBoth B.slots B.fits
+        (B.compresses second.old reset_generation) (B.rank second.old reset_generation)
+        Q.Gen.generations (B.compression_wraps second.old reset_generation) reset_generation
+        Q.numbers ⟦<U as Recast<Q>>⟧.held ⟦<U as Recast<Q>>⟧.refill
+        P.numbers (A.rank first.old reset_generation)
+        ⟦<U as Recast<P>>⟧.held ⟦<U as Recast<P>>⟧.refill second.old second.new) }
+    ensures resolved { OnOk result (ResolveBoth
+        (first_unresolved P.numbers (A.slots first.old)
         (held_all ⟦<T as Recast<P>>⟧.held (values (A.slots first.old))
-        ++ held_all ⟦<U as Recast<P>>⟧.held (values (B.slots second.old))) ≡ None) }
-    ensures first_len { entry_count (A.slots first.new) ≡ entry_count (A.slots first.old) }
-    ensures first_limit { A.limit first.new ≡ A.limit first.old }
-    ensures first_capacity { A.capacity first.new ≡ A.capacity first.old }
-    ensures first_history { OnOk result (reset_generation ≡ false
-        → CountsUp P.Gen.generations (A.compression_wraps first.old reset_generation)
-        → Continues A.fits first.old
-        (compression (keys (A.slots first.old)) (keys (A.slots first.new)) ∷ []) first.new) }
-    ensures first_begun { OnOk result ((h : History) → A.fits h first.old
-        → A.fits (begun_with (keys (A.slots first.new))) first.new) }
-    ensures first_refused { OnErr result (first.new ≡ first.old) }
-    ensures second_answer { IfOk result (λ answers. answers.1
-        ≡ told (B.compression_wraps second.old reset_generation) (allowed_option answers.1)) }
-    ensures second_maps { IfOk result (λ answers. MapsPointers Q.numbers
-        (B.rank second.old reset_generation)
-        (B.slots second.old) (allowed_option answers.1).slots) }
-    ensures second_done { OnOk result ((new : List U) × AreRenamedBoth Q.numbers
-        (B.rank second.old reset_generation) ⟦<U as Recast<Q>>⟧.held ⟦<U as Recast<Q>>⟧.refill
-        P.numbers (A.rank first.old reset_generation)
-        ⟦<U as Recast<P>>⟧.held ⟦<U as Recast<P>>⟧.refill
-        (values (B.slots second.old)) new
-        × B.compresses second.old reset_generation new second.new) }
-    ensures second_keys { OnOk result (keys (B.slots second.new)
-        ≡ map (B.rank second.old reset_generation) (keys (B.slots second.old))) }
-    ensures second_values { OnOk result (AreRenamedBoth Q.numbers
-        (B.rank second.old reset_generation) ⟦<U as Recast<Q>>⟧.held ⟦<U as Recast<Q>>⟧.refill
-        P.numbers (A.rank first.old reset_generation)
-        ⟦<U as Recast<P>>⟧.held ⟦<U as Recast<P>>⟧.refill
-        (values (B.slots second.old)) (values (B.slots second.new))) }
-    ensures second_found { OnOk result ((p : Pointer) → IsSome (look_up (B.slots second.old) p)
-        → IsFoundRenamedBoth Q.numbers
-        (B.rank second.old reset_generation) ⟦<U as Recast<Q>>⟧.held ⟦<U as Recast<Q>>⟧.refill
-        P.numbers (A.rank first.old reset_generation)
-        ⟦<U as Recast<P>>⟧.held ⟦<U as Recast<P>>⟧.refill
-        (look_up (B.slots second.old) p)
-        (look_up (B.slots second.new) (B.rank second.old reset_generation p))) }
-    ensures second_resolved { OnOk result (first_unresolved Q.numbers (B.slots second.old)
+        ++ held_all ⟦<U as Recast<P>>⟧.held (values (B.slots second.old))))
+        (first_unresolved Q.numbers (B.slots second.old)
         (held_all ⟦<U as Recast<Q>>⟧.held (values (B.slots second.old))
-        ++ held_all ⟦<T as Recast<Q>>⟧.held (values (A.slots first.old))) ≡ None) }
-    ensures second_len { entry_count (B.slots second.new) ≡ entry_count (B.slots second.old) }
-    ensures second_limit { B.limit second.new ≡ B.limit second.old }
-    ensures second_capacity { B.capacity second.new ≡ B.capacity second.old }
-    ensures second_history { OnOk result (reset_generation ≡ false
-        → CountsUp Q.Gen.generations (B.compression_wraps second.old reset_generation)
-        → Continues B.fits second.old
-        (compression (keys (B.slots second.old)) (keys (B.slots second.new)) ∷ []) second.new) }
-    ensures second_begun { OnOk result ((h : History) → B.fits h second.old
-        → B.fits (begun_with (keys (B.slots second.new))) second.new) }
-    ensures second_refused { OnErr result (second.new ≡ second.old) }
+        ++ held_all ⟦<T as Recast<Q>>⟧.held (values (A.slots first.old))))) }
+
+    // Refused: nothing has changed, and the error tells why.
+    ensures refused { OnErr result ((first.new ≡ first.old) × (second.new ≡ second.old)) }
     ensures refusal { IfErr result (RefusesBoth
         (entry_count (A.slots first.old)) (first_unresolved P.numbers (A.slots first.old)
         (held_all ⟦<T as Recast<P>>⟧.held (values (A.slots first.old))
@@ -147,6 +98,10 @@ pub fn compress_recast_both<
         (entry_count (B.slots second.old)) (first_unresolved Q.numbers (B.slots second.old)
         (held_all ⟦<U as Recast<Q>>⟧.held (values (B.slots second.old))
         ++ held_all ⟦<T as Recast<Q>>⟧.held (values (A.slots first.old))))) }
+
+    // In each case entries are as many as before, and limit and capacity stay.
+    ensures sizes { KeepsSize A.slots A.limit A.capacity first.old first.new
+        × KeepsSize B.slots B.limit B.capacity second.old second.new }
 {
     compress_recast_both_with(first, second, &mut NoHolder, alloc, reset_generation)
 }
@@ -188,89 +143,43 @@ pub fn compress_recast_both_with<
         ⟦<U as Recast<P>>⟧.held ⟦<U as Recast<P>>⟧.refill }
     requires holder_apart { StandApart ⟦<H as Recast<P>>⟧.held ⟦<H as Recast<P>>⟧.refill
         ⟦<H as Recast<Q>>⟧.held ⟦<H as Recast<Q>>⟧.refill }
-    ensures first_answer { IfOk result (λ answers. answers.0
-        ≡ told (A.compression_wraps first.old reset_generation) (allowed_option answers.0)) }
-    ensures first_maps { IfOk result (λ answers. MapsPointers P.numbers
-        (A.rank first.old reset_generation)
-        (A.slots first.old) (allowed_option answers.0).slots) }
-    ensures first_done { OnOk result ((new : List T) × AreRenamedBoth P.numbers
-        (A.rank first.old reset_generation) ⟦<T as Recast<P>>⟧.held ⟦<T as Recast<P>>⟧.refill
+
+    // Done: each map leads from the old pointers of its arena to the new ones. Each arena is compacted,
+    // and each pointer of both kinds that its values hold is renamed. Each of these found an entry.
+    ensures maps { IfOk result (λ answers.
+        TellsMap P.numbers (A.rank first.old reset_generation) (A.slots first.old)
+        (A.compression_wraps first.old reset_generation) answers.0
+        × TellsMap Q.numbers (B.rank second.old reset_generation) (B.slots second.old)
+        (B.compression_wraps second.old reset_generation) answers.1) }
+    ensures first { OnOk result (IsCompactedBoth A.slots A.fits
+        (A.compresses first.old reset_generation) (A.rank first.old reset_generation)
+        P.Gen.generations (A.compression_wraps first.old reset_generation) reset_generation
+        P.numbers ⟦<T as Recast<P>>⟧.held ⟦<T as Recast<P>>⟧.refill
         Q.numbers (B.rank second.old reset_generation)
-        ⟦<T as Recast<Q>>⟧.held ⟦<T as Recast<Q>>⟧.refill
-        (values (A.slots first.old)) new
-        × A.compresses first.old reset_generation new first.new) }
-    ensures first_keys { OnOk result (keys (A.slots first.new)
-        ≡ map (A.rank first.old reset_generation) (keys (A.slots first.old))) }
-    ensures first_values { OnOk result (AreRenamedBoth P.numbers
-        (A.rank first.old reset_generation) ⟦<T as Recast<P>>⟧.held ⟦<T as Recast<P>>⟧.refill
-        Q.numbers (B.rank second.old reset_generation)
-        ⟦<T as Recast<Q>>⟧.held ⟦<T as Recast<Q>>⟧.refill
-        (values (A.slots first.old)) (values (A.slots first.new))) }
-    ensures first_found { OnOk result ((p : Pointer) → IsSome (look_up (A.slots first.old) p)
-        → IsFoundRenamedBoth P.numbers
-        (A.rank first.old reset_generation) ⟦<T as Recast<P>>⟧.held ⟦<T as Recast<P>>⟧.refill
-        Q.numbers (B.rank second.old reset_generation)
-        ⟦<T as Recast<Q>>⟧.held ⟦<T as Recast<Q>>⟧.refill
-        (look_up (A.slots first.old) p)
-        (look_up (A.slots first.new) (A.rank first.old reset_generation p))) }
-    ensures first_resolved { OnOk result (first_unresolved P.numbers (A.slots first.old)
-        ((held_all ⟦<T as Recast<P>>⟧.held (values (A.slots first.old))
-        ++ held_all ⟦<U as Recast<P>>⟧.held (values (B.slots second.old)))
-        ++ ⟦<H as Recast<P>>⟧.held holder.old) ≡ None) }
-    ensures first_len { entry_count (A.slots first.new) ≡ entry_count (A.slots first.old) }
-    ensures first_limit { A.limit first.new ≡ A.limit first.old }
-    ensures first_capacity { A.capacity first.new ≡ A.capacity first.old }
-    ensures first_history { OnOk result (reset_generation ≡ false
-        → CountsUp P.Gen.generations (A.compression_wraps first.old reset_generation)
-        → Continues A.fits first.old
-        (compression (keys (A.slots first.old)) (keys (A.slots first.new)) ∷ []) first.new) }
-    ensures first_begun { OnOk result ((h : History) → A.fits h first.old
-        → A.fits (begun_with (keys (A.slots first.new))) first.new) }
-    ensures first_refused { OnErr result (first.new ≡ first.old) }
-    ensures second_answer { IfOk result (λ answers. answers.1
-        ≡ told (B.compression_wraps second.old reset_generation) (allowed_option answers.1)) }
-    ensures second_maps { IfOk result (λ answers. MapsPointers Q.numbers
-        (B.rank second.old reset_generation)
-        (B.slots second.old) (allowed_option answers.1).slots) }
-    ensures second_done { OnOk result ((new : List U) × AreRenamedBoth Q.numbers
-        (B.rank second.old reset_generation) ⟦<U as Recast<Q>>⟧.held ⟦<U as Recast<Q>>⟧.refill
+        ⟦<T as Recast<Q>>⟧.held ⟦<T as Recast<Q>>⟧.refill first.old first.new) }
+    ensures second { OnOk result (IsCompactedBoth B.slots B.fits
+        (B.compresses second.old reset_generation) (B.rank second.old reset_generation)
+        Q.Gen.generations (B.compression_wraps second.old reset_generation) reset_generation
+        Q.numbers ⟦<U as Recast<Q>>⟧.held ⟦<U as Recast<Q>>⟧.refill
         P.numbers (A.rank first.old reset_generation)
-        ⟦<U as Recast<P>>⟧.held ⟦<U as Recast<P>>⟧.refill
-        (values (B.slots second.old)) new
-        × B.compresses second.old reset_generation new second.new) }
-    ensures second_keys { OnOk result (keys (B.slots second.new)
-        ≡ map (B.rank second.old reset_generation) (keys (B.slots second.old))) }
-    ensures second_values { OnOk result (AreRenamedBoth Q.numbers
-        (B.rank second.old reset_generation) ⟦<U as Recast<Q>>⟧.held ⟦<U as Recast<Q>>⟧.refill
-        P.numbers (A.rank first.old reset_generation)
-        ⟦<U as Recast<P>>⟧.held ⟦<U as Recast<P>>⟧.refill
-        (values (B.slots second.old)) (values (B.slots second.new))) }
-    ensures second_found { OnOk result ((p : Pointer) → IsSome (look_up (B.slots second.old) p)
-        → IsFoundRenamedBoth Q.numbers
-        (B.rank second.old reset_generation) ⟦<U as Recast<Q>>⟧.held ⟦<U as Recast<Q>>⟧.refill
-        P.numbers (A.rank first.old reset_generation)
-        ⟦<U as Recast<P>>⟧.held ⟦<U as Recast<P>>⟧.refill
-        (look_up (B.slots second.old) p)
-        (look_up (B.slots second.new) (B.rank second.old reset_generation p))) }
-    ensures second_resolved { OnOk result (first_unresolved Q.numbers (B.slots second.old)
-        ((held_all ⟦<U as Recast<Q>>⟧.held (values (B.slots second.old))
-        ++ held_all ⟦<T as Recast<Q>>⟧.held (values (A.slots first.old)))
-        ++ ⟦<H as Recast<Q>>⟧.held holder.old) ≡ None) }
-    ensures second_len { entry_count (B.slots second.new) ≡ entry_count (B.slots second.old) }
-    ensures second_limit { B.limit second.new ≡ B.limit second.old }
-    ensures second_capacity { B.capacity second.new ≡ B.capacity second.old }
-    ensures second_history { OnOk result (reset_generation ≡ false
-        → CountsUp Q.Gen.generations (B.compression_wraps second.old reset_generation)
-        → Continues B.fits second.old
-        (compression (keys (B.slots second.old)) (keys (B.slots second.new)) ∷ []) second.new) }
-    ensures second_begun { OnOk result ((h : History) → B.fits h second.old
-        → B.fits (begun_with (keys (B.slots second.new))) second.new) }
-    ensures second_refused { OnErr result (second.new ≡ second.old) }
-    ensures renamed { OnOk result (IsRenamedBoth P.numbers
-        (A.rank first.old reset_generation) ⟦<H as Recast<P>>⟧.held ⟦<H as Recast<P>>⟧.refill
+        ⟦<U as Recast<P>>⟧.held ⟦<U as Recast<P>>⟧.refill second.old second.new) }
+    ensures renamed { OnOk result (IsRenamedBoth
+        P.numbers (A.rank first.old reset_generation) ⟦<H as Recast<P>>⟧.held ⟦<H as Recast<P>>⟧.refill
         Q.numbers (B.rank second.old reset_generation)
         ⟦<H as Recast<Q>>⟧.held ⟦<H as Recast<Q>>⟧.refill holder.old holder.new) }
-    ensures holder_refused { OnErr result (holder.new ≡ holder.old) }
+    ensures resolved { OnOk result (ResolveBoth
+        (first_unresolved P.numbers (A.slots first.old)
+        ((held_all ⟦<T as Recast<P>>⟧.held (values (A.slots first.old))
+        ++ held_all ⟦<U as Recast<P>>⟧.held (values (B.slots second.old)))
+        ++ ⟦<H as Recast<P>>⟧.held holder.old))
+        (first_unresolved Q.numbers (B.slots second.old)
+        ((held_all ⟦<U as Recast<Q>>⟧.held (values (B.slots second.old))
+        ++ held_all ⟦<T as Recast<Q>>⟧.held (values (A.slots first.old)))
+        ++ ⟦<H as Recast<Q>>⟧.held holder.old))) }
+
+    // Refused: nothing has changed, and the error tells why.
+    ensures refused { OnErr result ((first.new ≡ first.old) × (second.new ≡ second.old)
+        × (holder.new ≡ holder.old)) }
     ensures refusal { IfErr result (RefusesBoth
         (entry_count (A.slots first.old)) (first_unresolved P.numbers (A.slots first.old)
         ((held_all ⟦<T as Recast<P>>⟧.held (values (A.slots first.old))
@@ -280,6 +189,10 @@ pub fn compress_recast_both_with<
         ((held_all ⟦<U as Recast<Q>>⟧.held (values (B.slots second.old))
         ++ held_all ⟦<T as Recast<Q>>⟧.held (values (A.slots first.old)))
         ++ ⟦<H as Recast<Q>>⟧.held holder.old))) }
+
+    // In each case entries are as many as before, and limit and capacity stay.
+    ensures sizes { KeepsSize A.slots A.limit A.capacity first.old first.new
+        × KeepsSize B.slots B.limit B.capacity second.old second.new }
 {
     let mut firsts = match resolved_beside(first, second, holder, alloc) {
         Ok(map) => map,
@@ -319,10 +232,13 @@ fn resolved_beside<
     holder: &mut H,
     alloc: Global,
 ) -> Result<DirectArena<P, P, K>, CompactError<P>>
+    // Done: the map is of the arena's pointers, and each that is held finds an entry.
     ensures keys { IfOk result (λ all. keys all.slots ≡ keys (A.slots this.old)) }
     ensures resolved { OnOk result (first_unresolved P.numbers (A.slots this.old)
         ((held_all T.held (values (A.slots this.old))
         ++ held_all U.held (values (B.slots beside.old))) ++ H.held holder.old) ≡ None) }
+
+    // Refused: the error tells why, and it is not memory that is there.
     ensures refusal { new_limit K.kind ≡ None
         → IfErr result (Refuses (entry_count (A.slots this.old))
         (first_unresolved P.numbers (A.slots this.old)
@@ -330,6 +246,8 @@ fn resolved_beside<
         ++ held_all U.held (values (B.slots beside.old))) ++ H.held holder.old))) }
     ensures with_memory { MapHasMemory K.kind K.has_memory (last_index (A.slots this.old))
         → IfErr result IsUnresolved }
+
+    // In each case nothing has changed.
     ensures unchanged { this.new ≡ this.old }
     ensures beside_unchanged { beside.new ≡ beside.old }
     ensures holder_unchanged { holder.new ≡ holder.old }

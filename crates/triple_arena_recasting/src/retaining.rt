@@ -46,10 +46,14 @@ pub fn retain<P: Ptr, T: Drop, A: CompactArenaTrait<P, T>, F: FnMut(P, &mut T) -
 // Takes out the entry under a valid pointer, unless it is kept, and tells whether that wrapped the counter.
 fn end_unless<P: Ptr, T: Drop, A: CompactArenaTrait<P, T>>(this: &mut A, p: P, kept: bool) -> bool
     requires live { IsSome (look_up (A.slots this.old) (P.numbers p)) }
+
+    // The entry stays, or is removed, as told; limit and capacity stay.
     ensures done { StaysOrGoes A.removes kept this.old (P.numbers p).0 this.new }
     ensures wrapped { result ≡ cond kept false (A.ending_wraps this.old) }
     ensures limit { A.limit this.new ≡ A.limit this.old }
     ensures capacity { A.capacity this.new ≡ A.capacity this.old }
+
+    // Without a wrap, where generations count, a history goes on by removals.
     ensures history { CountsUp P.Gen.generations result
         → (gone : List Pointer) × Continues A.fits this.old (map removal gone) this.new }
 {

@@ -133,6 +133,9 @@ pub(crate) trait SessionArena<P: Ptr, T, S: NonZeroInxGenericStack<ArenaSlot<P, 
         T: Recast<P>,
         requires { (strict && wraps_after (wraps P.Gen.generations) false
             (state self.old)) ≡ false }
+
+        // Done: the map leads from the old pointers to the new ones. The arena is compressed, and each
+        // pointer that its values hold is renamed. Each of these found an entry.
         ensures answer { IfOk result (λ answer. answer
             ≡ told (wraps_after (wraps P.Gen.generations) false (state self.old))
             (allowed_option answer)) }
@@ -146,10 +149,12 @@ pub(crate) trait SessionArena<P: Ptr, T, S: NonZeroInxGenericStack<ArenaSlot<P, 
             (raised_if_any (raise P.Gen.generations) (state self.old)) new)) }
         ensures resolved { OnOk result (first_unresolved P.numbers (state self.old).slots
             (held_all T.held (values (state self.old).slots)) ≡ None) }
+
+        // Refused: nothing has changed, and it is known why.
+        ensures refused { OnErr result (state self.new ≡ state self.old) }
         ensures refusal { IfErr result (Refuses (arena_len (state self.old))
             (first_unresolved P.numbers (state self.old).slots
-            (held_all T.held (values (state self.old).slots)))) }
-        ensures refused { OnErr result (state self.new ≡ state self.old) };
+            (held_all T.held (values (state self.old).slots)))) };
 
     final fn len(&self) -> usize
         ensures value { result ≡ arena_len (state self.now) }

@@ -136,6 +136,31 @@ module _ {A K V : Type 0} where
       (HasAsMany old p q × (gives ≡ val_at old q) × IsUnited old p q new)
       ⊎ (HasMore old q p × (gives ≡ val_at old p) × IsUnited old q p new)
 
+  -- there are as many keys and values, and as much room as before for both
+  pub record KeepsSize (old new : SurjectState A K V) : Type 0 where
+    pub len_keys : new.len_keys ≡ old.len_keys
+    pub len_vals : new.len_vals ≡ old.len_vals
+    pub key_capacity : new.key_capacity ≡ old.key_capacity
+    pub key_limit : new.key_limit ≡ old.key_limit
+    pub val_capacity : new.val_capacity ≡ old.val_capacity
+    pub val_limit : new.val_limit ≡ old.val_limit
+
+  -- there is as much room as before for keys and values
+  pub record HasSameRoom (old new : SurjectState A K V) : Type 0 where
+    pub key_capacity : new.key_capacity ≡ old.key_capacity
+    pub key_limit : new.key_limit ≡ old.key_limit
+    pub val_capacity : new.val_capacity ≡ old.val_capacity
+    pub val_limit : new.val_limit ≡ old.val_limit
+
+  -- there is one key more and one value more, and no less room for both
+  pub record HasOneMore (old new : SurjectState A K V) : Type 0 where
+    pub len_keys : new.len_keys ≡ old.len_keys + 1
+    pub len_vals : new.len_vals ≡ old.len_vals + 1
+    pub key_capacity : old.key_capacity ≤ new.key_capacity
+    pub key_limit : new.key_limit ≡ old.key_limit
+    pub val_capacity : old.val_capacity ≤ new.val_capacity
+    pub val_limit : new.val_limit ≡ old.val_limit
+
   -- there is one value less, and as much room as before for keys and values
   pub record HasOneLess (old new : SurjectState A K V) : Type 0 where
     pub len_keys : new.len_keys ≡ old.len_keys

@@ -4,7 +4,7 @@ ghost use Rattle.std.specs.Prelude.{◌≡◌, ◌≢◌, ◌≤◌, ◌↔◌, 
 ghost use Rattle.std.specs.Result.{IfErr};
 ghost use Rattle.triple_arena_ptr.specs.Pointers.{Pointer};
 ghost use Rattle.triple_arena.specs.Histories.{Continues};
-ghost use Rattle.triple_arena_surject.specs.Surject.{found_at, key_at, set_at, val_at, AreTogether, AreOfBoth, HasKeys, IsUnited, IsUnion, HasOneLess};
+ghost use Rattle.triple_arena_surject.specs.Surject.{found_at, key_at, set_at, val_at, AreTogether, AreOfBoth, HasKeys, IsUnited, IsUnion, HasSameRoom, HasOneLess};
 
 use crate::member::{Member, Shared};
 use crate::refusal::SurjectError;
@@ -28,28 +28,35 @@ impl<
     ///
     /// `NoEntry` exactly where one of the pointers finds nothing; then nothing changes.
     pub fn union(&mut self, p: P, q: P) -> Result<Option<V>, SurjectError>
+        // Done: where they were two sets, they are one, and the value of the one comes back.
         ensures united { IfOk result (λ gives. IsSome gives
             → IsUnion self.old (P.numbers p) (P.numbers q) gives self.new) }
-        ensures joined { (r t : Pointer) → AreTogether self.new r t
-            → AreTogether self.old r t ⊎ AreOfBoth self.old (P.numbers p) (P.numbers q) r t }
-        ensures doubles { (r : Pointer) (n m : ℕ) → set_at self.new r ≢ set_at self.old r
-            → HasKeys self.old r n → HasKeys self.new r m → n + n ≤ m }
         ensures together { OnOk result (AreTogether self.new (P.numbers p) (P.numbers q)) }
-        ensures stays { (r t : Pointer) → AreTogether self.old r t → AreTogether self.new r t }
-        ensures keys { (r : Pointer) → key_at self.new r ≡ key_at self.old r }
-        ensures one { (result ≡ Ok None) ↔ AreTogether self.old (P.numbers p) (P.numbers q) }
-        ensures len_keys { self.new.len_keys ≡ self.old.len_keys }
         ensures len_vals { IfOk result (λ gives. IsSome gives
             → self.new.len_vals + 1 ≡ self.old.len_vals) }
+
+        // Where they were one set, nothing comes back, and nothing has changed.
+        ensures one { (result ≡ Ok None) ↔ AreTogether self.old (P.numbers p) (P.numbers q) }
         ensures kept { result ≡ Ok None → self.new ≡ self.old }
-        ensures key_capacity { self.new.key_capacity ≡ self.old.key_capacity }
-        ensures key_limit { self.new.key_limit ≡ self.old.key_limit }
-        ensures val_capacity { self.new.val_capacity ≡ self.old.val_capacity }
-        ensures val_limit { self.new.val_limit ≡ self.old.val_limit }
+
+        // Refused: nothing has changed, and one of the pointers found nothing.
+        ensures refused { OnErr result (self.new ≡ self.old) }
         ensures no_entry { (result ≡ Err SurjectError.NoEntry)
             ↔ ((found_at self.old (P.numbers p) ≡ None) ⊎ (found_at self.old (P.numbers q) ≡ None)) }
         ensures refusal { IfErr result (λ refusal. refusal ≡ SurjectError.NoEntry) }
-        ensures refused { OnErr result (self.new ≡ self.old) }
+
+        // In each case who was together is, and no others are but by this union. Each key stays under its pointer, and one
+        // whose set has another name is of a set twice as large.
+        ensures stays { (r t : Pointer) → AreTogether self.old r t → AreTogether self.new r t }
+        ensures joined { (r t : Pointer) → AreTogether self.new r t
+            → AreTogether self.old r t ⊎ AreOfBoth self.old (P.numbers p) (P.numbers q) r t }
+        ensures keys { (r : Pointer) → key_at self.new r ≡ key_at self.old r }
+        ensures doubles { (r : Pointer) (n m : ℕ) → set_at self.new r ≢ set_at self.old r
+            → HasKeys self.old r n → HasKeys self.new r m → n + n ≤ m }
+
+        // There are as many keys and as much room, and a history goes on as it is.
+        ensures len_keys { self.new.len_keys ≡ self.old.len_keys }
+        ensures room { HasSameRoom self.old self.new }
         ensures history { Continues A.fits self.old.arena [] self.new.arena }
     {
         let Some(first) = self.len_key_set(p) else {

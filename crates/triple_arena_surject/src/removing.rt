@@ -7,7 +7,7 @@ ghost use Rattle.triple_arena_ptr.specs.Pointers.{Pointer};
 ghost use Rattle.triple_arena.specs.Ending.{told};
 ghost use Rattle.triple_arena.specs.Histories.{removal, CountsUp, Continues};
 ghost use Rattle.triple_arena_chain.specs.Endings.{EndsAt, EndInTurn};
-ghost use Rattle.triple_arena_surject.specs.Surject.{found_at, key_at, val_at, AreTogether, HasKeys, IsKeyRemoved, IsSetRemoved};
+ghost use Rattle.triple_arena_surject.specs.Surject.{found_at, key_at, val_at, AreTogether, HasKeys, HasSameRoom, IsKeyRemoved, IsSetRemoved};
 
 use crate::member::{Member, Shared};
 use crate::refusal::SurjectError;
@@ -31,6 +31,8 @@ impl<
     /// removal from the arena of keys wraps its counter (`answer`). A wrap in the arena of values isn't told: its
     /// pointers are seen by nobody.
     pub fn remove_key(&mut self, p: P) -> Result<InvalidationOption<(K, Option<V>)>, SurjectError>
+        // Done: the key is gone, and comes back, told with a wrap if there was one; with it the value of its set, if it was
+        // the last one there.
         ensures key { IfOk result (λ answer.
             key_at self.old (P.numbers p) ≡ Some (allowed_option answer).0) }
         ensures value { IfOk result (λ answer. IsSome (allowed_option answer).1
@@ -47,16 +49,17 @@ impl<
         ensures len_vals { IfOk result (λ answer. MatchOption (allowed_option answer).1
             (self.new.len_vals ≡ self.old.len_vals)
             (λ _. self.new.len_vals + 1 ≡ self.old.len_vals)) }
-        ensures key_capacity { self.new.key_capacity ≡ self.old.key_capacity }
-        ensures key_limit { self.new.key_limit ≡ self.old.key_limit }
-        ensures val_capacity { self.new.val_capacity ≡ self.old.val_capacity }
-        ensures val_limit { self.new.val_limit ≡ self.old.val_limit }
+        ensures history { OnOk result (CountsUp P.Gen.generations (A.ending_wraps self.old.arena)
+            → Continues A.fits self.old.arena (removal (P.numbers p) ∷ []) self.new.arena) }
+
+        // Refused: nothing has changed, and the pointer found nothing.
+        ensures refused { OnErr result (self.new ≡ self.old) }
         ensures no_entry { (result ≡ Err SurjectError.NoEntry)
             ↔ (found_at self.old (P.numbers p) ≡ None) }
         ensures refusal { IfErr result (λ refusal. refusal ≡ SurjectError.NoEntry) }
-        ensures refused { OnErr result (self.new ≡ self.old) }
-        ensures history { OnOk result (CountsUp P.Gen.generations (A.ending_wraps self.old.arena)
-            → Continues A.fits self.old.arena (removal (P.numbers p) ∷ []) self.new.arena) }
+
+        // In each case the room stays.
+        ensures room { HasSameRoom self.old self.new }
     {
         let Some(set) = set_of(&self.keys, p) else {
             return Err(SurjectError::NoEntry);
@@ -77,6 +80,7 @@ impl<
     pub fn remove(&mut self, p: P) -> Result<InvalidationOption<V>, SurjectError>
     where
         K: Drop,
+        // Done: the set is gone with all its keys, and its value comes back, told with a wrap if there was one.
         ensures value { IfOk result (λ answer.
             val_at self.old (P.numbers p) ≡ Some (allowed_option answer)) }
         ensures wrap { IfOk result (λ answer. (gone : List Pointer)
@@ -86,17 +90,18 @@ impl<
         ensures len_keys { OnOk result ((n : ℕ) → HasKeys self.old (P.numbers p) n
             → self.new.len_keys + n ≡ self.old.len_keys) }
         ensures len_vals { OnOk result (self.new.len_vals + 1 ≡ self.old.len_vals) }
-        ensures key_capacity { self.new.key_capacity ≡ self.old.key_capacity }
-        ensures key_limit { self.new.key_limit ≡ self.old.key_limit }
-        ensures val_capacity { self.new.val_capacity ≡ self.old.val_capacity }
-        ensures val_limit { self.new.val_limit ≡ self.old.val_limit }
-        ensures no_entry { (result ≡ Err SurjectError.NoEntry)
-            ↔ (found_at self.old (P.numbers p) ≡ None) }
-        ensures refusal { IfErr result (λ refusal. refusal ≡ SurjectError.NoEntry) }
-        ensures refused { OnErr result (self.new ≡ self.old) }
         ensures history { IfOk result (λ answer.
             CountsUp P.Gen.generations (not (is_success_option answer)) → (gone : List Pointer)
             × Continues A.fits self.old.arena (map removal gone) self.new.arena) }
+
+        // Refused: nothing has changed, and the pointer found nothing.
+        ensures refused { OnErr result (self.new ≡ self.old) }
+        ensures no_entry { (result ≡ Err SurjectError.NoEntry)
+            ↔ (found_at self.old (P.numbers p) ≡ None) }
+        ensures refusal { IfErr result (λ refusal. refusal ≡ SurjectError.NoEntry) }
+
+        // In each case the room stays.
+        ensures room { HasSameRoom self.old self.new }
     {
         let Some(set) = set_of(&self.keys, p) else {
             return Err(SurjectError::NoEntry);

@@ -64,10 +64,13 @@ impl<
 > SurjectArena<P, K, V, A, B> {
     /// No sets, with room and limit of a new stack for keys and for values. It takes no memory.
     pub fn new(alloc: Global) -> Self
+        // The arena of keys is a new one, and there are no keys and no sets.
         ensures arena { result.arena ≡ A.empty (new_room A.kind) (new_limit A.kind) }
         ensures none { (q : Pointer) → found_at result q ≡ None }
         ensures len_keys { result.len_keys ≡ 0 }
         ensures len_vals { result.len_vals ≡ 0 }
+
+        // There is the room of new stacks.
         ensures key_capacity { result.key_capacity ≡ min (stack_capacity (new_room A.kind)
             (new_limit A.kind)) (greatest_index P.Inx.greatest) }
         ensures key_limit { result.key_limit ≡ new_limit A.kind }

@@ -4,7 +4,7 @@ ghost use Rattle.std.specs.Borrow.{sem, LendsIf};
 ghost use Rattle.std.specs.Prelude.{◌≡◌, ◌↔◌, None, Some, Err, IsSome, IfOk, OnOk, OnErr};
 ghost use Rattle.std.specs.Option.{option_copied_mut};
 ghost use Rattle.std.specs.Result.{IfErr};
-ghost use Rattle.triple_arena_surject.specs.Surject.{found_at, set_at, val_at, with_val, IsValued};
+ghost use Rattle.triple_arena_surject.specs.Surject.{found_at, set_at, val_at, with_val, IsValued, KeepsSize};
 
 use crate::member::{Member, Shared};
 use crate::refusal::SurjectError;
@@ -44,19 +44,19 @@ impl<
     pub fn replace_val(&mut self, p: P, value: V) -> Result<V, SurjectError>
     where
         V: Drop,
+        // Done: the set has this value, and the one that it had comes back.
         ensures was { IfOk result (λ was. val_at self.old (P.numbers p) ≡ Some was) }
         ensures valued { OnOk result (IsValued self.old (P.numbers p) value self.new) }
-        ensures arena { self.new.arena ≡ self.old.arena }
-        ensures len_keys { self.new.len_keys ≡ self.old.len_keys }
-        ensures len_vals { self.new.len_vals ≡ self.old.len_vals }
-        ensures key_capacity { self.new.key_capacity ≡ self.old.key_capacity }
-        ensures key_limit { self.new.key_limit ≡ self.old.key_limit }
-        ensures val_capacity { self.new.val_capacity ≡ self.old.val_capacity }
-        ensures val_limit { self.new.val_limit ≡ self.old.val_limit }
+
+        // Refused: nothing has changed, and the pointer found nothing.
+        ensures refused { OnErr result (self.new ≡ self.old) }
         ensures no_entry { (result ≡ Err SurjectError.NoEntry)
             ↔ (found_at self.old (P.numbers p) ≡ None) }
         ensures refusal { IfErr result (λ refusal. refusal ≡ SurjectError.NoEntry) }
-        ensures refused { OnErr result (self.new ≡ self.old) }
+
+        // In each case there are as many keys and sets in the same arena, and as much room.
+        ensures arena { self.new.arena ≡ self.old.arena }
+        ensures size { KeepsSize self.old self.new }
     {
         let Some(place) = self.get_val_mut(p) else {
             return Err(SurjectError::NoEntry);

@@ -21,10 +21,6 @@ pub either_way : {A E : Type 0} (F : A → Type 0) (G K : Type 0) (r : Result A 
 either_way F G K (Ok x) f g ok err = ok x f
 either_way F G K (Err e) f g ok err = err g
 
-pub either_way_2 : {A E : Type 0} (F G H K : Type 0) (r : Result A E) → OnOk r F → OnOk r G → OnErr r H → (F → G → K) → (H → K) → K
-either_way_2 F G H K (Ok x) f g h ok err = ok f g
-either_way_2 F G H K (Err e) f g h ok err = err h
-
 -- what follows from a refusal
 pub if_refused : {A E : Type 0} (F : E → Type 0) (K : Type 0) (r : Result A E) → IfErr r F → ((x : A) → r ≡ Ok x → ⊥) → ((e : E) → F e → K) → K
 if_refused F K (Ok x) f refused gives = absurd (refused x refl)

@@ -1,5 +1,5 @@
 -- Laws of strict calls: each takes every history that fits to one that fits, where generations count.
-use Rattle.std.proofs.Common.{◌≡◌, ◌||◌, Bool, true, false, not, List, [], ◌∷◌, Ok, refl, sym, inl, inr, true≢false}
+use Rattle.std.proofs.Common.{◌≡◌, ◌||◌, Bool, true, false, not, List, [], ◌∷◌, Ok, arith, refl, sym, inl, inr, true≢false}
 use Rattle.triple_arena_ptr.specs.Pointers.{Pointer}
 use Rattle.triple_arena_ptr.specs.Numbers.{Generations}
 use Rattle.triple_arena_stack.specs.StackKind.{StackKind}
@@ -9,6 +9,8 @@ use Rattle.triple_arena_traits.specs.SlotSteps.{IsTouched}
 use Rattle.triple_arena_traits.specs.FreeList.{tidied, without_free_end}
 use Rattle.triple_arena_traits.specs.Reallocation.{grown, reallocated, with_limit}
 use Rattle.triple_arena_traits.specs.Recasting.{written}
+use Rattle.triple_arena_traits.specs.Walks.{values}
+use Rattle.triple_arena_traits.specs.laws.CompressionLaws.{length-values}
 use Rattle.triple_arena_traits.specs.laws.EntryLaws.{slots-reallocated, slots-without_free_end, next-grown, well_formed-grown}
 use Rattle.triple_arena_traits.specs.Histories.{ModelCall, insertion, resizing, is_live, Fits, Continues}
 use Rattle.triple_arena_traits.specs.laws.HistoryLaws.{Continues-touched, Continues-append, Continues-grown, Continues-inserted, Continues-written, Continues-removed, Continues-invalidated, Continues-cleared, Continues-compressed, Continues-resized, Continues-tidied, Continues-limited}
@@ -22,6 +24,10 @@ not_refused true false h = (refl, refl)
 not_refused false exhausted h = absurd (true≢false h)
 
 module _ {T : Type 0} where
+  -- a compression that is refused is a call too, which does nothing
+  pub refused_compression : (kind : StackKind) (generations : Generations) (s : ArenaState T) → is_exhausted_for_any generations s ≡ true → IsStrictStep kind generations s (to_compress (values s.slots)) [] s
+  refused_compression kind generations s exhausted = (length-values s.slots, rw exhausted (refl, (refl, omega arith)))
+
   Continues-unless : (refused : Bool) (call : ModelCall) (after s : ArenaState T) (calls : List ModelCall) (t : ArenaState T) → IsUnless refused call after s calls t → (refused ≡ false → Continues Fits s (call ∷ []) after) → Continues Fits s calls t
   Continues-unless true call after s calls t is done = rw is.0 (Continues-touched s s t [] is.1 (λ h fits. fits))
   Continues-unless false call after s calls t is done = rw is.0 (Continues-touched s after t (call ∷ []) is.1 (done refl))

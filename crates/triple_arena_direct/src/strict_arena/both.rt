@@ -1,21 +1,15 @@
 //! Compaction of two strict arenas that point at each other.
 
-ghost use Rattle.std.specs.Prelude.{◌≡◌, ◌⊎◌, ◌↔◌, ◌∷◌, ◌++◌, true, List, [], map, None, Err, IsSome, OnOk, OnErr, IfOk};
+ghost use Rattle.std.specs.Prelude.{◌≡◌, ◌⊎◌, ◌↔◌, ◌++◌, true, false, Err, OnOk, OnErr, IfOk};
 ghost use Rattle.std.specs.Result.{IfErr};
 ghost use Rattle.triple_arena_base.specs.Held.{held_all};
-ghost use Rattle.triple_arena_ptr.specs.Numbers.{raise};
-ghost use Rattle.triple_arena_ptr.specs.Pointers.{Pointer};
-ghost use Rattle.triple_arena_traits.specs.Entries.{look_up};
-ghost use Rattle.triple_arena_traits.specs.ArenaState.{arena_len, capacity};
-ghost use Rattle.triple_arena_traits.specs.SlotSteps.{IsTouched};
-ghost use Rattle.triple_arena_traits.specs.Compression.{compressed, raised_if_any};
-ghost use Rattle.triple_arena_traits.specs.Walks.{keys, values};
-ghost use Rattle.triple_arena_traits.specs.Histories.{begun_with, compression, Fits, Continues};
+ghost use Rattle.triple_arena_traits.specs.ArenaState.{arena_len};
+ghost use Rattle.triple_arena_traits.specs.Walks.{values};
+ghost use Rattle.triple_arena_recasting.specs.Compacted.{ResolveBoth};
 ghost use Rattle.triple_arena_recasting.specs.Renaming.{MapsPointers, first_unresolved};
-ghost use Rattle.triple_arena_recasting.specs.RenamingBoth.{StandApart, AreRenamedBoth, IsFoundRenamedBoth};
-ghost use Rattle.triple_arena_direct.specs.Gone.{IsGoneForGood};
-ghost use Rattle.triple_arena_direct.specs.StrictAnswers.{is_exhausted_for_any, calls_if_ok, strict_rank, RefusesBothStrictly};
-ghost use Rattle.triple_arena_direct.specs.StrictCalls.{IsStrictStep, to_compress};
+ghost use Rattle.triple_arena_recasting.specs.RenamingBoth.{StandApart};
+ghost use Rattle.triple_arena_direct.specs.StrictAnswers.{is_exhausted_for_any, strict_rank, RefusesBothStrictly};
+ghost use Rattle.triple_arena_direct.specs.StrictCompacted.{IsStrictlyBoth, IsStrictCompaction, KeepsStrictSize};
 
 use super::StrictArena;
 use crate::errors::StrictCompactBothError;
@@ -33,8 +27,8 @@ impl<P: Ptr, T, S: NonZeroInxGenericStack<ArenaSlot<P, T>>> StrictArena<P, T, S>
     /// [`crate::compress_recast_both`] of `Arena`s without a reset.
     ///
     /// `Exhausted` exactly where in either arena there is an entry and its counter is at its greatest
-    /// value; else `Compact` with its refusal: `First` is of this arena. In each case nothing has
-    /// changed, in either arena.
+    /// value; else `Compact` with its refusal: `First` is of this arena. Refused, nothing has changed,
+    /// in either arena.
     ///
     /// The two kinds of pointers have to stand apart in a value (`StandApart`): where they are in fields
     /// of their own, a caller proves it with no file.
@@ -50,84 +44,36 @@ impl<P: Ptr, T, S: NonZeroInxGenericStack<ArenaSlot<P, T>>> StrictArena<P, T, S>
             ⟦<T as Recast<Q>>⟧.held ⟦<T as Recast<Q>>⟧.refill }
         requires second_apart { StandApart ⟦<U as Recast<Q>>⟧.held ⟦<U as Recast<Q>>⟧.refill
             ⟦<U as Recast<P>>⟧.held ⟦<U as Recast<P>>⟧.refill }
-        ensures first_maps { IfOk result (λ images. MapsPointers P.numbers
-            (strict_rank P.Gen.generations self.old) self.old.slots images.0.slots) }
-        ensures first_done { OnOk result ((new : List T) × AreRenamedBoth P.numbers
-            (strict_rank P.Gen.generations self.old) ⟦<T as Recast<P>>⟧.held ⟦<T as Recast<P>>⟧.refill
-            Q.numbers (strict_rank Q.Gen.generations second.old) ⟦<T as Recast<Q>>⟧.held ⟦<T as Recast<Q>>⟧.refill
-            (values self.old.slots) new
-            × IsTouched (compressed self.old
-            (raised_if_any (raise P.Gen.generations) self.old) new) self.new) }
-        ensures first_keys { OnOk result (keys self.new.slots
-            ≡ map (strict_rank P.Gen.generations self.old) (keys self.old.slots)) }
-        ensures first_values { OnOk result (AreRenamedBoth P.numbers
-            (strict_rank P.Gen.generations self.old) ⟦<T as Recast<P>>⟧.held ⟦<T as Recast<P>>⟧.refill
-            Q.numbers (strict_rank Q.Gen.generations second.old) ⟦<T as Recast<Q>>⟧.held ⟦<T as Recast<Q>>⟧.refill
-            (values self.old.slots) (values self.new.slots)) }
-        ensures first_found { OnOk result ((q : Pointer) → IsSome (look_up self.old.slots q)
-            → IsFoundRenamedBoth P.numbers
-            (strict_rank P.Gen.generations self.old) ⟦<T as Recast<P>>⟧.held ⟦<T as Recast<P>>⟧.refill
-            Q.numbers (strict_rank Q.Gen.generations second.old) ⟦<T as Recast<Q>>⟧.held ⟦<T as Recast<Q>>⟧.refill
-            (look_up self.old.slots q)
-            (look_up self.new.slots (strict_rank P.Gen.generations self.old q))) }
-        ensures first_resolved { OnOk result (first_unresolved P.numbers self.old.slots
+
+        // Done: each map leads from the old pointers of its arena to the new ones. Each arena is
+        // compacted, and each pointer of both kinds that its values hold is renamed. Each of these found
+        // an entry. Of each it is one strict call.
+        ensures maps { IfOk result (λ images.
+            MapsPointers P.numbers (strict_rank P.Gen.generations self.old)
+            self.old.slots images.0.slots
+            × MapsPointers Q.numbers (strict_rank Q.Gen.generations second.old)
+            second.old.slots images.1.slots) }
+        ensures first { OnOk result (IsStrictlyBoth P.Gen.generations false self.old
+            P.numbers ⟦<T as Recast<P>>⟧.held ⟦<T as Recast<P>>⟧.refill
+            Q.numbers (strict_rank Q.Gen.generations second.old)
+            ⟦<T as Recast<Q>>⟧.held ⟦<T as Recast<Q>>⟧.refill self.new) }
+        ensures second { OnOk result (IsStrictlyBoth Q.Gen.generations false second.old
+            Q.numbers ⟦<U as Recast<Q>>⟧.held ⟦<U as Recast<Q>>⟧.refill
+            P.numbers (strict_rank P.Gen.generations self.old)
+            ⟦<U as Recast<P>>⟧.held ⟦<U as Recast<P>>⟧.refill second.new) }
+        ensures resolved { OnOk result (ResolveBoth
+            (first_unresolved P.numbers self.old.slots
             (held_all ⟦<T as Recast<P>>⟧.held (values self.old.slots)
-            ++ held_all ⟦<U as Recast<P>>⟧.held (values second.old.slots)) ≡ None) }
-        ensures first_len { arena_len self.new ≡ arena_len self.old }
-        ensures first_limit { self.new.limit ≡ self.old.limit }
-        ensures first_capacity { capacity self.new ≡ capacity self.old }
-        ensures first_step { OnOk result ((new : List T) × IsStrictStep S.kind P.Gen.generations
-            self.old (to_compress new)
-            (compression (keys self.old.slots) (keys self.new.slots) ∷ []) self.new) }
-        ensures first_history { P.Gen.generations.counting ≡ true → Continues Fits self.old
-            (calls_if_ok result (λ _. compression (keys self.old.slots) (keys self.new.slots)))
-            self.new }
-        ensures first_begun { P.Gen.generations.counting ≡ true → OnOk result
-            (Fits (begun_with (keys self.new.slots)) self.new) }
-        ensures first_gone_for_good { P.Gen.generations.counting ≡ true → OnOk result
-            ((q : Pointer) → IsSome (look_up self.old.slots q) → IsGoneForGood self.new q) }
-        ensures first_stays_gone { P.Gen.generations.counting ≡ true
-            → (q : Pointer) → IsGoneForGood self.old q → IsGoneForGood self.new q }
-        ensures first_refused { OnErr result (self.new ≡ self.old) }
-        ensures second_maps { IfOk result (λ images. MapsPointers Q.numbers
-            (strict_rank Q.Gen.generations second.old) second.old.slots images.1.slots) }
-        ensures second_done { OnOk result ((new : List U) × AreRenamedBoth Q.numbers
-            (strict_rank Q.Gen.generations second.old) ⟦<U as Recast<Q>>⟧.held ⟦<U as Recast<Q>>⟧.refill
-            P.numbers (strict_rank P.Gen.generations self.old) ⟦<U as Recast<P>>⟧.held ⟦<U as Recast<P>>⟧.refill
-            (values second.old.slots) new
-            × IsTouched (compressed second.old
-            (raised_if_any (raise Q.Gen.generations) second.old) new) second.new) }
-        ensures second_keys { OnOk result (keys second.new.slots
-            ≡ map (strict_rank Q.Gen.generations second.old) (keys second.old.slots)) }
-        ensures second_values { OnOk result (AreRenamedBoth Q.numbers
-            (strict_rank Q.Gen.generations second.old) ⟦<U as Recast<Q>>⟧.held ⟦<U as Recast<Q>>⟧.refill
-            P.numbers (strict_rank P.Gen.generations self.old) ⟦<U as Recast<P>>⟧.held ⟦<U as Recast<P>>⟧.refill
-            (values second.old.slots) (values second.new.slots)) }
-        ensures second_found { OnOk result ((q : Pointer) → IsSome (look_up second.old.slots q)
-            → IsFoundRenamedBoth Q.numbers
-            (strict_rank Q.Gen.generations second.old) ⟦<U as Recast<Q>>⟧.held ⟦<U as Recast<Q>>⟧.refill
-            P.numbers (strict_rank P.Gen.generations self.old) ⟦<U as Recast<P>>⟧.held ⟦<U as Recast<P>>⟧.refill
-            (look_up second.old.slots q)
-            (look_up second.new.slots (strict_rank Q.Gen.generations second.old q))) }
-        ensures second_resolved { OnOk result (first_unresolved Q.numbers second.old.slots
+            ++ held_all ⟦<U as Recast<P>>⟧.held (values second.old.slots)))
+            (first_unresolved Q.numbers second.old.slots
             (held_all ⟦<U as Recast<Q>>⟧.held (values second.old.slots)
-            ++ held_all ⟦<T as Recast<Q>>⟧.held (values self.old.slots)) ≡ None) }
-        ensures second_len { arena_len second.new ≡ arena_len second.old }
-        ensures second_limit { second.new.limit ≡ second.old.limit }
-        ensures second_capacity { capacity second.new ≡ capacity second.old }
-        ensures second_step { OnOk result ((new : List U) × IsStrictStep Z.kind Q.Gen.generations
-            second.old (to_compress new)
-            (compression (keys second.old.slots) (keys second.new.slots) ∷ []) second.new) }
-        ensures second_history { Q.Gen.generations.counting ≡ true → Continues Fits second.old
-            (calls_if_ok result (λ _. compression (keys second.old.slots) (keys second.new.slots)))
-            second.new }
-        ensures second_begun { Q.Gen.generations.counting ≡ true → OnOk result
-            (Fits (begun_with (keys second.new.slots)) second.new) }
-        ensures second_gone_for_good { Q.Gen.generations.counting ≡ true → OnOk result
-            ((q : Pointer) → IsSome (look_up second.old.slots q) → IsGoneForGood second.new q) }
-        ensures second_stays_gone { Q.Gen.generations.counting ≡ true
-            → (q : Pointer) → IsGoneForGood second.old q → IsGoneForGood second.new q }
-        ensures second_refused { OnErr result (second.new ≡ second.old) }
+            ++ held_all ⟦<T as Recast<Q>>⟧.held (values self.old.slots)))) }
+        ensures fresh { OnOk result (
+            IsStrictCompaction S.kind P.Gen.generations self.old self.new
+            × IsStrictCompaction Z.kind Q.Gen.generations second.old second.new) }
+
+        // Refused: nothing has changed, and the error tells why.
+        ensures refused { OnErr result ((self.new ≡ self.old) × (second.new ≡ second.old)) }
         ensures exhausted { (result ≡ Err StrictCompactBothError.Exhausted)
             ↔ ((is_exhausted_for_any P.Gen.generations self.old ≡ true)
             ⊎ (is_exhausted_for_any Q.Gen.generations second.old ≡ true)) }
@@ -138,6 +84,9 @@ impl<P: Ptr, T, S: NonZeroInxGenericStack<ArenaSlot<P, T>>> StrictArena<P, T, S>
             (arena_len second.old) (first_unresolved Q.numbers second.old.slots
             (held_all ⟦<U as Recast<Q>>⟧.held (values second.old.slots)
             ++ held_all ⟦<T as Recast<Q>>⟧.held (values self.old.slots)))) }
+
+        // In each case entries are as many as before, and limit and capacity stay.
+        ensures sizes { KeepsStrictSize self.old self.new × KeepsStrictSize second.old second.new }
     {
         if self.is_exhausted_for_any() {
             return Err(StrictCompactBothError::Exhausted);

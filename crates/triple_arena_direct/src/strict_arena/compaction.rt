@@ -1,21 +1,18 @@
 //! Compaction of a strict arena.
 
-ghost use Rattle.std.specs.Prelude.{◌≡◌, ◌↔◌, ◌∷◌, ◌++◌, [], List, map, true, IsSome, IfOk, OnOk, OnErr, None, Err};
+ghost use Rattle.std.specs.Prelude.{◌≡◌, ◌↔◌, ◌++◌, List, map, true, false, IfOk, OnOk, OnErr, None, Err};
 ghost use Rattle.std.specs.Result.{IfErr};
 ghost use Rattle.triple_arena_base.specs.Held.{held_all};
 ghost use Rattle.triple_arena_ptr.specs.Numbers.{raise};
-ghost use Rattle.triple_arena_ptr.specs.Pointers.{Pointer};
-ghost use Rattle.triple_arena_traits.specs.Entries.{look_up};
-ghost use Rattle.triple_arena_traits.specs.ArenaState.{arena_len, capacity};
+ghost use Rattle.triple_arena_traits.specs.ArenaState.{arena_len};
 ghost use Rattle.triple_arena_traits.specs.SlotSteps.{IsTouched};
-ghost use Rattle.triple_arena_traits.specs.Compression.{compressed, raised_if_any, rank};
+ghost use Rattle.triple_arena_traits.specs.Compression.{compressed, raised_if_any};
+ghost use Rattle.triple_arena_traits.specs.Histories.{begun_with, Fits};
 ghost use Rattle.triple_arena_traits.specs.Moves.{Moves};
 ghost use Rattle.triple_arena_traits.specs.Walks.{entries, keys, values};
-ghost use Rattle.triple_arena_traits.specs.Histories.{begun_with, compression, Fits, Continues};
-ghost use Rattle.triple_arena_recasting.specs.Renaming.{MapsPointers, first_unresolved, IsRenamed, AreRenamed, IsFoundRenamed};
-ghost use Rattle.triple_arena_direct.specs.Gone.{IsGoneForGood};
-ghost use Rattle.triple_arena_direct.specs.StrictAnswers.{is_exhausted_for_any, strict_all, calls_if_ok, RefusesStrictly};
-ghost use Rattle.triple_arena_direct.specs.StrictCalls.{IsStrictStep, to_compress};
+ghost use Rattle.triple_arena_recasting.specs.Renaming.{MapsPointers, first_unresolved, IsRenamed};
+ghost use Rattle.triple_arena_direct.specs.StrictAnswers.{is_exhausted_for_any, strict_all, strict_rank, RefusesStrictly};
+ghost use Rattle.triple_arena_direct.specs.StrictCompacted.{IsStrictlyKeeping, IsStrictlyRenaming, IsStrictCompaction, KeepsStrictSize};
 
 use super::StrictArena;
 use crate::errors::{StrictCompactError, StrictError};
@@ -33,40 +30,34 @@ impl<P: Ptr, T, S: NonZeroInxGenericStack<ArenaSlot<P, T>>> StrictArena<P, T, S>
     /// a reset. Limit and capacity stay.
     ///
     /// Where generations count, it is one model call: it ends every pointer, and gives those that stand
-    /// after it (`history`), with which a history can begin, too (`begun`).
+    /// after it (`history` of `fresh`), with which a history can begin, too (`begun`).
     ///
     /// `Exhausted` exactly where there is an entry and the counter is at its greatest value. Then
     /// nothing changes, and `f` is not called.
     pub fn compress_with<F: FnMut(P, T, P) -> T>(&mut self, f: F) -> Result<(), StrictError>
         requires callable { F.IsAlwaysCallable f }
-        ensures answer { result
-            ≡ strict_all (is_exhausted_for_any P.Gen.generations self.old) }
+
+        // Done: the entries stand at their ranks, with the values that `f` gave. It is one strict call.
         ensures moved { OnOk result ((new : List T)
-            × Moves P.numbers F.step
-            (rank self.old (raised_if_any (raise P.Gen.generations) self.old)) f
+            × Moves P.numbers F.step (strict_rank P.Gen.generations self.old) f
             (entries self.old.slots) new
             × IsTouched (compressed self.old
             (raised_if_any (raise P.Gen.generations) self.old) new) self.new) }
-        ensures keys { OnOk result (keys self.new.slots ≡ map
-            (rank self.old (raised_if_any (raise P.Gen.generations) self.old))
-            (keys self.old.slots)) }
+        ensures keys { OnOk result (keys self.new.slots
+            ≡ map (strict_rank P.Gen.generations self.old) (keys self.old.slots)) }
+        ensures fresh { OnOk result
+            (IsStrictCompaction S.kind P.Gen.generations self.old self.new) }
+
+        // Refused: nothing has changed, and the error tells why.
         ensures refused { OnErr result (self.new ≡ self.old) }
-        ensures len { arena_len self.new ≡ arena_len self.old }
-        ensures limit { self.new.limit ≡ self.old.limit }
-        ensures capacity { capacity self.new ≡ capacity self.old }
-        ensures step { (new : List T) × IsStrictStep S.kind P.Gen.generations
-            self.old (to_compress new)
-            (calls_if_ok result (λ _. compression (keys self.old.slots) (keys self.new.slots)))
-            self.new }
-        ensures history { P.Gen.generations.counting ≡ true → Continues Fits self.old
-            (calls_if_ok result (λ _. compression (keys self.old.slots) (keys self.new.slots)))
-            self.new }
+        ensures answer { result
+            ≡ strict_all (is_exhausted_for_any P.Gen.generations self.old) }
+
+        // In each case entries are as many as before, and limit and capacity stay. Where generations
+        // count, a history can begin.
+        ensures size { KeepsStrictSize self.old self.new }
         ensures begun { P.Gen.generations.counting ≡ true
             → Fits (begun_with (keys self.new.slots)) self.new }
-        ensures gone_for_good { P.Gen.generations.counting ≡ true → OnOk result
-            ((q : Pointer) → IsSome (look_up self.old.slots q) → IsGoneForGood self.new q) }
-        ensures stays_gone { P.Gen.generations.counting ≡ true
-            → (q : Pointer) → IsGoneForGood self.old q → IsGoneForGood self.new q }
     {
         if self.is_exhausted_for_any() {
             return Err(StrictError::Exhausted);
@@ -77,36 +68,22 @@ impl<P: Ptr, T, S: NonZeroInxGenericStack<ArenaSlot<P, T>>> StrictArena<P, T, S>
 
     /// As [`Self::compress_with`], and no value changes.
     pub fn compress(&mut self) -> Result<(), StrictError>
+        // Done: the entries stand at their ranks, with their values. It is one strict call.
+        ensures compacted { OnOk result
+            (IsStrictlyKeeping P.Gen.generations false self.old self.new) }
+        ensures fresh { OnOk result
+            (IsStrictCompaction S.kind P.Gen.generations self.old self.new) }
+
+        // Refused: nothing has changed, and the error tells why.
+        ensures refused { OnErr result (self.new ≡ self.old) }
         ensures answer { result
             ≡ strict_all (is_exhausted_for_any P.Gen.generations self.old) }
-        ensures done { OnOk result (IsTouched (compressed self.old
-            (raised_if_any (raise P.Gen.generations) self.old)
-            (values self.old.slots)) self.new) }
-        ensures keys { OnOk result (keys self.new.slots ≡ map
-            (rank self.old (raised_if_any (raise P.Gen.generations) self.old))
-            (keys self.old.slots)) }
-        ensures values { values self.new.slots ≡ values self.old.slots }
-        ensures found { OnOk result ((q : Pointer) → IsSome (look_up self.old.slots q)
-            → look_up self.new.slots (rank self.old
-            (raised_if_any (raise P.Gen.generations) self.old) q)
-            ≡ look_up self.old.slots q) }
-        ensures refused { OnErr result (self.new ≡ self.old) }
-        ensures len { arena_len self.new ≡ arena_len self.old }
-        ensures limit { self.new.limit ≡ self.old.limit }
-        ensures capacity { capacity self.new ≡ capacity self.old }
-        ensures step { (new : List T) × IsStrictStep S.kind P.Gen.generations
-            self.old (to_compress new)
-            (calls_if_ok result (λ _. compression (keys self.old.slots) (keys self.new.slots)))
-            self.new }
-        ensures history { P.Gen.generations.counting ≡ true → Continues Fits self.old
-            (calls_if_ok result (λ _. compression (keys self.old.slots) (keys self.new.slots)))
-            self.new }
+
+        // In each case entries are as many as before, and limit and capacity stay. Where generations
+        // count, a history can begin.
+        ensures size { KeepsStrictSize self.old self.new }
         ensures begun { P.Gen.generations.counting ≡ true
             → Fits (begun_with (keys self.new.slots)) self.new }
-        ensures gone_for_good { P.Gen.generations.counting ≡ true → OnOk result
-            ((q : Pointer) → IsSome (look_up self.old.slots q) → IsGoneForGood self.new q) }
-        ensures stays_gone { P.Gen.generations.counting ≡ true
-            → (q : Pointer) → IsGoneForGood self.old q → IsGoneForGood self.new q }
     {
         if self.is_exhausted_for_any() {
             return Err(StrictError::Exhausted);
@@ -122,55 +99,37 @@ impl<P: Ptr, T, S: NonZeroInxGenericStack<ArenaSlot<P, T>>> StrictArena<P, T, S>
     /// `Exhausted` exactly where there is an entry and the counter is at its greatest value; else
     /// `Compact` with its refusal: `Reallocation` only where there is an entry and memory for the map
     /// is refused, and then `Unresolved` exactly where a value holds a pointer that finds no entry,
-    /// with the first one. In each case nothing has changed.
+    /// with the first one. Refused, nothing has changed.
     pub fn compress_recast(
         &mut self,
         alloc: Global,
     ) -> Result<DirectArena<P, P>, StrictCompactError<P>>
     where
         T: Recast<P>,
+        // Done: the map leads from the old pointers to the new ones. The arena is compacted, and each
+        // pointer that its values hold is renamed. Each of these found an entry. It is one strict call.
         ensures maps { IfOk result (λ images. MapsPointers P.numbers
-            (rank self.old (raised_if_any (raise P.Gen.generations) self.old))
-            self.old.slots images.slots) }
-        ensures done { OnOk result ((new : List T)
-            × AreRenamed P.numbers
-            (rank self.old (raised_if_any (raise P.Gen.generations) self.old))
-            T.held T.refill (values self.old.slots) new
-            × IsTouched (compressed self.old
-            (raised_if_any (raise P.Gen.generations) self.old) new) self.new) }
-        ensures keys { OnOk result (keys self.new.slots ≡ map
-            (rank self.old (raised_if_any (raise P.Gen.generations) self.old))
-            (keys self.old.slots)) }
-        ensures values { OnOk result (AreRenamed P.numbers
-            (rank self.old (raised_if_any (raise P.Gen.generations) self.old))
-            T.held T.refill (values self.old.slots) (values self.new.slots)) }
-        ensures found { OnOk result ((q : Pointer) → IsSome (look_up self.old.slots q)
-            → IsFoundRenamed P.numbers
-            (rank self.old (raised_if_any (raise P.Gen.generations) self.old))
-            T.held T.refill (look_up self.old.slots q) (look_up self.new.slots
-            (rank self.old (raised_if_any (raise P.Gen.generations) self.old) q))) }
+            (strict_rank P.Gen.generations self.old) self.old.slots images.slots) }
+        ensures compacted { OnOk result (IsStrictlyRenaming P.Gen.generations false self.old
+            P.numbers T.held T.refill self.new) }
         ensures resolved { OnOk result (first_unresolved P.numbers self.old.slots
             (held_all T.held (values self.old.slots)) ≡ None) }
+        ensures fresh { OnOk result
+            (IsStrictCompaction S.kind P.Gen.generations self.old self.new) }
+
+        // Refused: nothing has changed, and the error tells why.
+        ensures refused { OnErr result (self.new ≡ self.old) }
         ensures exhausted { (result ≡ Err StrictCompactError.Exhausted)
             ↔ (is_exhausted_for_any P.Gen.generations self.old ≡ true) }
         ensures refusal { IfErr result (RefusesStrictly (arena_len self.old)
-            (first_unresolved P.numbers self.old.slots (held_all T.held (values self.old.slots)))) }
-        ensures refused { OnErr result (self.new ≡ self.old) }
-        ensures len { arena_len self.new ≡ arena_len self.old }
-        ensures limit { self.new.limit ≡ self.old.limit }
-        ensures capacity { capacity self.new ≡ capacity self.old }
-        ensures step { OnOk result ((new : List T) × IsStrictStep S.kind P.Gen.generations
-            self.old (to_compress new)
-            (compression (keys self.old.slots) (keys self.new.slots) ∷ []) self.new) }
-        ensures history { P.Gen.generations.counting ≡ true → Continues Fits self.old
-            (calls_if_ok result (λ _. compression (keys self.old.slots) (keys self.new.slots)))
-            self.new }
+            (first_unresolved P.numbers self.old.slots
+            (held_all T.held (values self.old.slots)))) }
+
+        // In each case entries are as many as before, and limit and capacity stay. Where generations
+        // count, a history can begin.
+        ensures size { KeepsStrictSize self.old self.new }
         ensures begun { P.Gen.generations.counting ≡ true
             → Fits (begun_with (keys self.new.slots)) self.new }
-        ensures gone_for_good { P.Gen.generations.counting ≡ true → OnOk result
-            ((q : Pointer) → IsSome (look_up self.old.slots q) → IsGoneForGood self.new q) }
-        ensures stays_gone { P.Gen.generations.counting ≡ true
-            → (q : Pointer) → IsGoneForGood self.old q → IsGoneForGood self.new q }
     {
         if self.is_exhausted_for_any() {
             return Err(StrictCompactError::Exhausted);
@@ -184,8 +143,8 @@ impl<P: Ptr, T, S: NonZeroInxGenericStack<ArenaSlot<P, T>>> StrictArena<P, T, S>
     ///
     /// `Exhausted` as of [`Self::compress_recast`], and first, whatever the holder holds. Else `Compact`
     /// with its refusal: `Reallocation` as there, and then `Unresolved` exactly where a value or the
-    /// holder holds a pointer that finds no entry, with the first one, those of the values first. In each
-    /// case nothing has changed, in the arena or in the holder.
+    /// holder holds a pointer that finds no entry, with the first one, those of the values first. Refused,
+    /// nothing has changed, in the arena or in the holder.
     pub fn compress_recast_with<H: Recast<P>>(
         &mut self,
         holder: &mut H,
@@ -193,53 +152,33 @@ impl<P: Ptr, T, S: NonZeroInxGenericStack<ArenaSlot<P, T>>> StrictArena<P, T, S>
     ) -> Result<DirectArena<P, P>, StrictCompactError<P>>
     where
         T: Recast<P>,
+        // Done: the map leads from the old pointers to the new ones. The arena is compacted, and each
+        // pointer that its values or the holder hold is renamed. Each of these found an entry. It is one
+        // strict call.
         ensures maps { IfOk result (λ images. MapsPointers P.numbers
-            (rank self.old (raised_if_any (raise P.Gen.generations) self.old))
-            self.old.slots images.slots) }
-        ensures done { OnOk result ((new : List T)
-            × AreRenamed P.numbers
-            (rank self.old (raised_if_any (raise P.Gen.generations) self.old))
-            T.held T.refill (values self.old.slots) new
-            × IsTouched (compressed self.old
-            (raised_if_any (raise P.Gen.generations) self.old) new) self.new) }
-        ensures keys { OnOk result (keys self.new.slots ≡ map
-            (rank self.old (raised_if_any (raise P.Gen.generations) self.old))
-            (keys self.old.slots)) }
-        ensures values { OnOk result (AreRenamed P.numbers
-            (rank self.old (raised_if_any (raise P.Gen.generations) self.old))
-            T.held T.refill (values self.old.slots) (values self.new.slots)) }
-        ensures found { OnOk result ((q : Pointer) → IsSome (look_up self.old.slots q)
-            → IsFoundRenamed P.numbers
-            (rank self.old (raised_if_any (raise P.Gen.generations) self.old))
-            T.held T.refill (look_up self.old.slots q) (look_up self.new.slots
-            (rank self.old (raised_if_any (raise P.Gen.generations) self.old) q))) }
+            (strict_rank P.Gen.generations self.old) self.old.slots images.slots) }
+        ensures compacted { OnOk result (IsStrictlyRenaming P.Gen.generations false self.old
+            P.numbers T.held T.refill self.new) }
         ensures renamed { OnOk result (IsRenamed P.numbers
-            (rank self.old (raised_if_any (raise P.Gen.generations) self.old))
-            H.held H.refill holder.old holder.new) }
+            (strict_rank P.Gen.generations self.old) H.held H.refill holder.old holder.new) }
         ensures resolved { OnOk result (first_unresolved P.numbers self.old.slots
             (held_all T.held (values self.old.slots) ++ H.held holder.old) ≡ None) }
+        ensures fresh { OnOk result
+            (IsStrictCompaction S.kind P.Gen.generations self.old self.new) }
+
+        // Refused: nothing has changed, and the error tells why.
+        ensures refused { OnErr result ((self.new ≡ self.old) × (holder.new ≡ holder.old)) }
         ensures exhausted { (result ≡ Err StrictCompactError.Exhausted)
             ↔ (is_exhausted_for_any P.Gen.generations self.old ≡ true) }
         ensures refusal { IfErr result (RefusesStrictly (arena_len self.old)
             (first_unresolved P.numbers self.old.slots
             (held_all T.held (values self.old.slots) ++ H.held holder.old))) }
-        ensures refused { OnErr result (self.new ≡ self.old) }
-        ensures holder_refused { OnErr result (holder.new ≡ holder.old) }
-        ensures len { arena_len self.new ≡ arena_len self.old }
-        ensures limit { self.new.limit ≡ self.old.limit }
-        ensures capacity { capacity self.new ≡ capacity self.old }
-        ensures step { OnOk result ((new : List T) × IsStrictStep S.kind P.Gen.generations
-            self.old (to_compress new)
-            (compression (keys self.old.slots) (keys self.new.slots) ∷ []) self.new) }
-        ensures history { P.Gen.generations.counting ≡ true → Continues Fits self.old
-            (calls_if_ok result (λ _. compression (keys self.old.slots) (keys self.new.slots)))
-            self.new }
+
+        // In each case entries are as many as before, and limit and capacity stay. Where generations
+        // count, a history can begin.
+        ensures size { KeepsStrictSize self.old self.new }
         ensures begun { P.Gen.generations.counting ≡ true
             → Fits (begun_with (keys self.new.slots)) self.new }
-        ensures gone_for_good { P.Gen.generations.counting ≡ true → OnOk result
-            ((q : Pointer) → IsSome (look_up self.old.slots q) → IsGoneForGood self.new q) }
-        ensures stays_gone { P.Gen.generations.counting ≡ true
-            → (q : Pointer) → IsGoneForGood self.old q → IsGoneForGood self.new q }
     {
         if self.is_exhausted_for_any() {
             Err(StrictCompactError::Exhausted)

@@ -92,11 +92,16 @@ impl<P: Ptr, T, S: NonZeroInxGenericStack<ArenaSlot<P, T>>> StrictArena<P, T, S>
     pub fn drain(&mut self) -> Result<StrictDrain<'_, P, T, S>, StrictError>
     where
         T: Drop,
+        // Done: the counter is raised if there is an entry, and the drain begins before all
+        // entries.
         ensures variant { IsOk result ↔ (is_exhausted_for_any P.Gen.generations self.old ≡ false) }
         ensures arena { IfOk result (λ drain. strict_drain_arena drain ≡ record self.old
             { counter = raised_if_any (raise P.Gen.generations) self.old }) }
         ensures draining { IfOk result
             (λ drain. IsBeforeAll (strict_drain_arena drain).slots (strict_drain_stand drain)) }
+
+        // Let go, it leaves an empty arena, as one strict call: where generations count, a history
+        // goes on by it, the pointers of all entries are gone for good, and what was gone stays so.
         ensures leaves { IfOk result (λ drain. IsTouched (cleared (raise P.Gen.generations) self.old)
             (emptied (strict_drain_arena drain))) }
         ensures step { IfOk result (λ drain. IsStrictStep S.kind P.Gen.generations
@@ -110,6 +115,8 @@ impl<P: Ptr, T, S: NonZeroInxGenericStack<ArenaSlot<P, T>>> StrictArena<P, T, S>
         ensures stays_gone { P.Gen.generations.counting ≡ true → IfOk result
             (λ drain. (q : Pointer) → IsGoneForGood self.old q
             → IsGoneForGood (emptied (strict_drain_arena drain)) q) }
+
+        // It holds this arena until then. Refused: nothing changes.
         ensures same_reference { IfOk result
             (λ drain. strict_drain_lender drain ≡ self.entry.ghost_name) }
         ensures* refused { sem 𝓛 (strict_drain_rests

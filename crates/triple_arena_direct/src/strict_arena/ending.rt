@@ -29,6 +29,8 @@ impl<P: Ptr, T, S: NonZeroInxGenericStack<ArenaSlot<P, T>>> StrictArena<P, T, S>
     /// `InvalidPtr` exactly where `p` is invalid; else `Exhausted` exactly where the counter is at its
     /// greatest value. Then nothing changes but how many slots were touched.
     pub fn remove(&mut self, p: P) -> Result<T, StrictError>
+        // Done, the entry is gone; refused, nothing changes but the count of touches. Other
+        // pointers find what they found.
         ensures answer { result ≡ strict_of (is_exhausted P.Gen.generations self.old)
             (look_up self.old.slots (P.numbers p)) }
         ensures done { OnOk result (IsTouched
@@ -38,6 +40,9 @@ impl<P: Ptr, T, S: NonZeroInxGenericStack<ArenaSlot<P, T>>> StrictArena<P, T, S>
         ensures gone { OnOk result (look_up self.new.slots (P.numbers p) ≡ None) }
         ensures others { (q : Pointer) → q ≢ P.numbers p
             → look_up self.new.slots q ≡ look_up self.old.slots q }
+
+        // It is one strict call: where generations count, a history goes on by it, the pointer is
+        // gone for good, and what was gone for good stays so.
         ensures step { IsStrictStep S.kind P.Gen.generations
             self.old (to_remove (P.numbers p)) (calls_if_ok result (λ _. removal (P.numbers p))) self.new }
         ensures history { P.Gen.generations.counting ≡ true → Continues Fits self.old
@@ -60,6 +65,8 @@ impl<P: Ptr, T, S: NonZeroInxGenericStack<ArenaSlot<P, T>>> StrictArena<P, T, S>
     /// `InvalidPtr` exactly where `p` is invalid; else `Exhausted` exactly where the counter is at its
     /// greatest value. Then nothing changes but how many slots were touched.
     pub fn invalidate(&mut self, p: P) -> Result<P, StrictError>
+        // Done, the entry has another pointer; refused, nothing changes but the count of touches.
+        // Pointers to other indexes find what they found.
         ensures answer { result_map_both P.numbers (λ e. e) result
             ≡ strict_of (is_exhausted P.Gen.generations self.old) (option_map
             (λ _. ((P.numbers p).0, raise P.Gen.generations self.old.counter))
@@ -74,6 +81,9 @@ impl<P: Ptr, T, S: NonZeroInxGenericStack<ArenaSlot<P, T>>> StrictArena<P, T, S>
             → OnOk result (look_up self.new.slots (P.numbers p) ≡ None) }
         ensures others { (q : Pointer) → q.0 ≢ (P.numbers p).0
             → look_up self.new.slots q ≡ look_up self.old.slots q }
+
+        // It is one strict call: where generations count, a history goes on by it, the old pointer
+        // is gone for good, and what was gone for good stays so.
         ensures step { IsStrictStep S.kind P.Gen.generations
             self.old (to_invalidate (P.numbers p))
             (calls_if_ok result (λ q. invalidation (P.numbers p) (P.numbers q))) self.new }
@@ -98,12 +108,16 @@ impl<P: Ptr, T, S: NonZeroInxGenericStack<ArenaSlot<P, T>>> StrictArena<P, T, S>
     pub fn clear(&mut self) -> Result<(), StrictError>
     where
         T: Drop,
+        // Done, no entry is left; refused, nothing changes.
         ensures answer { result
             ≡ strict_all (is_exhausted_for_any P.Gen.generations self.old) }
         ensures done { OnOk result (self.new
             ≡ cleared (raise P.Gen.generations) self.old) }
         ensures refused { OnErr result (self.new ≡ self.old) }
         ensures gone { OnOk result ((q : Pointer) → look_up self.new.slots q ≡ None) }
+
+        // It is one strict call: where generations count, a history goes on by it, the pointers of
+        // all entries are gone for good, and what was gone for good stays so.
         ensures step { IsStrictStep S.kind P.Gen.generations
             self.old to_clear (calls_if_ok result (λ _. clearing (keys self.old.slots))) self.new }
         ensures history { P.Gen.generations.counting ≡ true → Continues Fits self.old
@@ -127,6 +141,8 @@ impl<P: Ptr, T, S: NonZeroInxGenericStack<ArenaSlot<P, T>>> StrictArena<P, T, S>
     /// `InvalidPtr` exactly where there is no entry; else `Exhausted` exactly where the counter is at
     /// its greatest value. Then nothing changes but how many slots were touched.
     pub fn remove_inx(&mut self, inx: P::Inx) -> Result<(P::Gen, T), StrictError>
+        // Done, the entry is gone; refused, nothing changes but the count of touches. Other
+        // pointers find what they found.
         ensures answer { result_map_both (λ e. (P.Gen.number e.0, e.1)) (λ e. e) result
             ≡ strict_of (is_exhausted P.Gen.generations self.old)
             (entry self.old (P.Inx.number inx)) }
@@ -137,6 +153,9 @@ impl<P: Ptr, T, S: NonZeroInxGenericStack<ArenaSlot<P, T>>> StrictArena<P, T, S>
         ensures gone { OnOk result (entry self.new (P.Inx.number inx) ≡ None) }
         ensures others { (q : Pointer) → q.0 ≢ P.Inx.number inx
             → look_up self.new.slots q ≡ look_up self.old.slots q }
+
+        // It is one strict call: where generations count, a history goes on by it, the entry's
+        // pointer is gone for good, and what was gone for good stays so.
         ensures step { (p : Pointer) → p.0 ≡ P.Inx.number inx
             → IfOk result (λ e. p.1 ≡ P.Gen.number e.0)
             → IsStrictStep S.kind P.Gen.generations

@@ -57,6 +57,9 @@ impl<'a, P: Ptr, T, S: NonZeroInxGenericStack<ArenaSlot<P, T>>> ArenaInsertEntry
 
     fn insert(self, t: T) -> &'a mut T
         requires { arena_len (strict_entry_arena self) < capacity (strict_entry_arena self) }
+
+        // The value is lent; once the loan ends, what was written stands under the next pointer, at
+        // an index where no entry stood.
         ensures value { result.now ≡ t }
         ensures free { entry (strict_entry_arena self.entry)
             (next_pointer (strict_entry_arena self.entry)).0 ≡ None }
@@ -72,6 +75,9 @@ impl<'a, P: Ptr, T, S: NonZeroInxGenericStack<ArenaSlot<P, T>>> ArenaInsertEntry
             T.row (strict_entry_reference self.entry) result
             (λ value. touched (insertion_steps (strict_entry_arena self.entry))
             (inserted (strict_entry_arena self.entry) value))) }
+
+        // It is one strict call: a history goes on by the insertion, the pointer is none that was
+        // gone for good, and such stay so.
         ensures step { (value : T) → IsStrictStep S.kind P.Gen.generations
             (strict_entry_arena self.entry) (to_insert value)
             (insertion (next_pointer (strict_entry_arena self.entry)) ∷ [])
@@ -101,6 +107,7 @@ impl<P: Ptr, T, S: NonZeroInxGenericStack<ArenaSlot<P, T>>> StrictArena<P, T, S>
     pub fn entry_insert_within_capacity(
         &mut self,
     ) -> Result<StrictInsertEntry<'_, P, T, S>, NotWithinCapacityError>
+        // Done: the place is of this arena, which hasn't changed. Refused: nor has it.
         ensures variant { IsOk result ↔ (arena_len self.old < capacity self.old) }
         ensures arena { IfOk result (λ place. strict_entry_arena place ≡ self.old) }
         ensures history { IfOk result (λ place. Continues Fits self.old [] (strict_entry_arena place)) }
@@ -123,6 +130,8 @@ impl<P: Ptr, T, S: NonZeroInxGenericStack<ArenaSlot<P, T>>> StrictArena<P, T, S>
     pub fn entry_insert_reallocating(
         &mut self,
     ) -> Result<StrictInsertEntry<'_, P, T, S>, ReallocationError>
+        // Done: the place has the pointer that was the next one, and the arena may have grown; no
+        // entry has moved.
         ensures arena { IfOk result (λ place. strict_entry_arena place ≡ grown S.kind self.old) }
         ensures next { IfOk result
             (λ place. next_pointer (strict_entry_arena place) ≡ next_pointer self.old) }
@@ -133,6 +142,9 @@ impl<P: Ptr, T, S: NonZeroInxGenericStack<ArenaSlot<P, T>>> StrictArena<P, T, S>
             → IsGoneForGood (strict_entry_arena place) q) }
         ensures has_place { IfOk result
             (λ place. arena_len (strict_entry_arena place) < capacity (strict_entry_arena place)) }
+
+        // Only an arena that is full is refused, for its limit, for memory, or for want of an
+        // index.
         ensures beyond { (result ≡ Err ReallocationError.BeyondMaxCapacity)
             ↔ IsFullAtLimit (capacity self.old) self.old.limit (arena_len self.old) }
         ensures with_memory { CanGrow S.has_memory (capacity self.old) self.old.limit
@@ -141,6 +153,8 @@ impl<P: Ptr, T, S: NonZeroInxGenericStack<ArenaSlot<P, T>>> StrictArena<P, T, S>
             → capacity self.old < greatest_index P.Inx.greatest) }
         ensures had_place { arena_len self.old < capacity self.old
             → IsOkAnd result (λ place. strict_entry_arena place ≡ self.old) }
+
+        // The place holds this arena. Refused: nothing changes.
         ensures same_reference { IfOk result
             (λ place. strict_entry_lender place ≡ self.entry.ghost_name) }
         ensures well_formed { IsWellFormed self.old }
@@ -153,6 +167,8 @@ impl<P: Ptr, T, S: NonZeroInxGenericStack<ArenaSlot<P, T>>> StrictArena<P, T, S>
 
     /// As [`Self::entry_insert_reallocating`].
     pub fn entry_insert(&mut self) -> Result<StrictInsertEntry<'_, P, T, S>, ReallocationError>
+        // Done: the place has the pointer that was the next one, and the arena may have grown; no
+        // entry has moved.
         ensures arena { IfOk result (λ place. strict_entry_arena place ≡ grown S.kind self.old) }
         ensures next { IfOk result
             (λ place. next_pointer (strict_entry_arena place) ≡ next_pointer self.old) }
@@ -163,6 +179,9 @@ impl<P: Ptr, T, S: NonZeroInxGenericStack<ArenaSlot<P, T>>> StrictArena<P, T, S>
             → IsGoneForGood (strict_entry_arena place) q) }
         ensures has_place { IfOk result
             (λ place. arena_len (strict_entry_arena place) < capacity (strict_entry_arena place)) }
+
+        // Only an arena that is full is refused, for its limit, for memory, or for want of an
+        // index.
         ensures beyond { (result ≡ Err ReallocationError.BeyondMaxCapacity)
             ↔ IsFullAtLimit (capacity self.old) self.old.limit (arena_len self.old) }
         ensures with_memory { CanGrow S.has_memory (capacity self.old) self.old.limit
@@ -171,6 +190,8 @@ impl<P: Ptr, T, S: NonZeroInxGenericStack<ArenaSlot<P, T>>> StrictArena<P, T, S>
             → capacity self.old < greatest_index P.Inx.greatest) }
         ensures had_place { arena_len self.old < capacity self.old
             → IsOkAnd result (λ place. strict_entry_arena place ≡ self.old) }
+
+        // The place holds this arena. Refused: nothing changes.
         ensures same_reference { IfOk result
             (λ place. strict_entry_lender place ≡ self.entry.ghost_name) }
         ensures well_formed { IsWellFormed self.old }

@@ -30,6 +30,7 @@ impl<P: Ptr, T, S: NonZeroInxGenericStack<ArenaSlot<P, T>>> StrictArena<P, T, S>
     pub fn insert_within_capacity(&mut self, t: T) -> Result<P, NotWithinCapacityError>
     where
         T: Drop,
+        // Done: the value stands under the next pointer, at an index where no entry stood.
         ensures variant { IsOk result ↔ (arena_len self.old < capacity self.old) }
         ensures pointer { IfOk result (λ p. P.numbers p ≡ next_pointer self.old) }
         ensures free { IfOk result (λ p. entry self.old (P.numbers p).0 ≡ None) }
@@ -37,9 +38,14 @@ impl<P: Ptr, T, S: NonZeroInxGenericStack<ArenaSlot<P, T>>> StrictArena<P, T, S>
         ensures others { IfOk result (λ p. (q : Pointer) → q.0 ≢ (P.numbers p).0
             → look_up self.new.slots q ≡ look_up self.old.slots q) }
         ensures inserted { OnOk result (IsTouched (inserted self.old t) self.new) }
+
+        // Refused: nothing changes. In each case few slots are touched.
         ensures refused { OnErr result (self.new ≡ self.old) }
         ensures bounded { RisesByAtMost 6 self.old.steps self.new.steps }
         ensures well_formed { IsWellFormed self.old }
+
+        // It is one strict call: a history goes on by the insertion, the pointer is none that was
+        // gone for good, and such stay so.
         ensures step { IsStrictStep S.kind P.Gen.generations
             self.old (to_insert t) (calls_if_ok result (λ p. insertion (P.numbers p))) self.new }
         ensures history { Continues Fits self.old
@@ -60,10 +66,15 @@ impl<P: Ptr, T, S: NonZeroInxGenericStack<ArenaSlot<P, T>>> StrictArena<P, T, S>
     pub fn insert_reallocating(&mut self, t: T) -> Result<P, ReallocationError>
     where
         T: Drop,
+        // Done: the value stands under the next pointer, at an index where no entry stood; a full
+        // arena has grown.
         ensures pointer { IfOk result (λ p. P.numbers p ≡ next_pointer self.old) }
         ensures free { IfOk result (λ p. entry self.old (P.numbers p).0 ≡ None) }
         ensures inserted { OnOk result
             (IsTouched (inserted (grown S.kind self.old) t) self.new) }
+
+        // Refused: nothing changes, and only an arena that is full is refused, for its limit, for
+        // memory, or for want of an index.
         ensures refused { OnErr result (self.new ≡ self.old) }
         ensures beyond { (result ≡ Err ReallocationError.BeyondMaxCapacity)
             ↔ IsFullAtLimit (capacity self.old) self.old.limit (arena_len self.old) }
@@ -76,6 +87,9 @@ impl<P: Ptr, T, S: NonZeroInxGenericStack<ArenaSlot<P, T>>> StrictArena<P, T, S>
         ensures place { OnOk result (arena_len (grown S.kind self.old)
             < capacity (grown S.kind self.old)) }
         ensures well_formed { IsWellFormed self.old }
+
+        // It is one strict call: a history goes on by the insertion, the pointer is none that was
+        // gone for good, and such stay so.
         ensures step { IsStrictStep S.kind P.Gen.generations
             self.old (to_insert t) (calls_if_ok result (λ p. insertion (P.numbers p))) self.new }
         ensures history { Continues Fits self.old
@@ -92,6 +106,8 @@ impl<P: Ptr, T, S: NonZeroInxGenericStack<ArenaSlot<P, T>>> StrictArena<P, T, S>
     pub fn insert(&mut self, t: T) -> Result<P, ReallocationError>
     where
         T: Drop,
+        // Done: the value stands under the next pointer, at an index where no entry stood; a full
+        // arena has grown.
         ensures pointer { IfOk result (λ p. P.numbers p ≡ next_pointer self.old) }
         ensures free { IfOk result (λ p. entry self.old (P.numbers p).0 ≡ None) }
         ensures found { IfOk result (λ p. look_up self.new.slots (P.numbers p) ≡ Some t) }
@@ -99,6 +115,9 @@ impl<P: Ptr, T, S: NonZeroInxGenericStack<ArenaSlot<P, T>>> StrictArena<P, T, S>
             → look_up self.new.slots q ≡ look_up self.old.slots q) }
         ensures inserted { OnOk result
             (IsTouched (inserted (grown S.kind self.old) t) self.new) }
+
+        // Refused: nothing changes, and only an arena that is full is refused, for its limit, for
+        // memory, or for want of an index.
         ensures refused { OnErr result (self.new ≡ self.old) }
         ensures beyond { (result ≡ Err ReallocationError.BeyondMaxCapacity)
             ↔ IsFullAtLimit (capacity self.old) self.old.limit (arena_len self.old) }
@@ -111,6 +130,9 @@ impl<P: Ptr, T, S: NonZeroInxGenericStack<ArenaSlot<P, T>>> StrictArena<P, T, S>
         ensures place { OnOk result (arena_len (grown S.kind self.old)
             < capacity (grown S.kind self.old)) }
         ensures well_formed { IsWellFormed self.old }
+
+        // It is one strict call: a history goes on by the insertion, the pointer is none that was
+        // gone for good, and such stay so.
         ensures step { IsStrictStep S.kind P.Gen.generations
             self.old (to_insert t) (calls_if_ok result (λ p. insertion (P.numbers p))) self.new }
         ensures history { Continues Fits self.old
@@ -124,6 +146,8 @@ impl<P: Ptr, T, S: NonZeroInxGenericStack<ArenaSlot<P, T>>> StrictArena<P, T, S>
 
     /// As [`Self::insert`], but where it is refused, `t` comes back in the error.
     pub fn try_insert(&mut self, t: T) -> Result<P, InsertFailed<T>>
+        // Done: the value stands under the next pointer, at an index where no entry stood; a full
+        // arena has grown.
         ensures pointer { IfOk result (λ p. P.numbers p ≡ next_pointer self.old) }
         ensures free { IfOk result (λ p. entry self.old (P.numbers p).0 ≡ None) }
         ensures found { IfOk result (λ p. look_up self.new.slots (P.numbers p) ≡ Some t) }
@@ -131,6 +155,9 @@ impl<P: Ptr, T, S: NonZeroInxGenericStack<ArenaSlot<P, T>>> StrictArena<P, T, S>
             → look_up self.new.slots q ≡ look_up self.old.slots q) }
         ensures inserted { OnOk result
             (IsTouched (inserted (grown S.kind self.old) t) self.new) }
+
+        // Refused: nothing changes, and the value comes back; only an arena that is full is
+        // refused, for its limit, for memory, or for want of an index.
         ensures refused { OnErr result (self.new ≡ self.old) }
         ensures value_returned { IfErr result (λ failed. failed.value ≡ t) }
         ensures beyond { IsErrAnd result (λ failed. failed.error ≡ ReallocationError.BeyondMaxCapacity)
@@ -144,6 +171,9 @@ impl<P: Ptr, T, S: NonZeroInxGenericStack<ArenaSlot<P, T>>> StrictArena<P, T, S>
         ensures place { OnOk result (arena_len (grown S.kind self.old)
             < capacity (grown S.kind self.old)) }
         ensures well_formed { IsWellFormed self.old }
+
+        // It is one strict call: a history goes on by the insertion, the pointer is none that was
+        // gone for good, and such stay so.
         ensures step { IsStrictStep S.kind P.Gen.generations
             self.old (to_insert t) (calls_if_ok result (λ p. insertion (P.numbers p))) self.new }
         ensures history { Continues Fits self.old
@@ -172,6 +202,9 @@ impl<P: Ptr, T, S: NonZeroInxGenericStack<ArenaSlot<P, T>>> StrictArena<P, T, S>
     /// 6 slots.
     pub fn insert_reserved(&mut self, t: T) -> P
         requires { arena_len self.old < capacity self.old }
+
+        // The value stands under the next pointer, at an index where no entry stood, and few slots
+        // are touched.
         ensures pointer { P.numbers result ≡ next_pointer self.old }
         ensures free { entry self.old (P.numbers result).0 ≡ None }
         ensures found { look_up self.new.slots (P.numbers result) ≡ Some t }
@@ -180,6 +213,9 @@ impl<P: Ptr, T, S: NonZeroInxGenericStack<ArenaSlot<P, T>>> StrictArena<P, T, S>
         ensures inserted { self.new ≡ touched (insertion_steps self.old) (inserted self.old t) }
         ensures well_formed { IsWellFormed self.old }
         ensures bounded { RisesByAtMost 6 self.old.steps self.new.steps }
+
+        // It is one strict call: a history goes on by the insertion, the pointer is none that was
+        // gone for good, and such stay so.
         ensures step { IsStrictStep S.kind P.Gen.generations
             self.old (to_insert t) (insertion (P.numbers result) ∷ []) self.new }
         ensures history { Continues Fits self.old (insertion (P.numbers result) ∷ []) self.new }
@@ -192,9 +228,13 @@ impl<P: Ptr, T, S: NonZeroInxGenericStack<ArenaSlot<P, T>>> StrictArena<P, T, S>
 
     // Grows where there are as many entries as the capacity: by a place for a value, which is let go.
     pub(super) fn grow_if_full(&mut self) -> Result<(), ReallocationError>
+        // Done, there is a place; refused, nothing changes.
         ensures done { OnOk result (self.new ≡ grown S.kind self.old) }
         ensures refused { OnErr result (self.new ≡ self.old) }
         ensures has_place { OnOk result (arena_len self.new < capacity self.new) }
+
+        // Only an arena that is full is refused, for its limit, for memory, or for want of an
+        // index.
         ensures beyond { (result ≡ Err ReallocationError.BeyondMaxCapacity)
             ↔ IsFullAtLimit (capacity self.old) self.old.limit (arena_len self.old) }
         ensures with_memory { CanGrow S.has_memory (capacity self.old) self.old.limit
@@ -203,6 +243,8 @@ impl<P: Ptr, T, S: NonZeroInxGenericStack<ArenaSlot<P, T>>> StrictArena<P, T, S>
             → capacity self.old < greatest_index P.Inx.greatest) }
         ensures had_place { arena_len self.old < capacity self.old → IsOk result × (self.new ≡ self.old) }
         ensures well_formed { IsWellFormed self.old }
+
+        // In each case the next pointer, what each finds, and every history stay.
         ensures next { next_pointer self.new ≡ next_pointer self.old }
         ensures kept { (q : Pointer) → look_up self.new.slots q ≡ look_up self.old.slots q }
         ensures history { Continues Fits self.old [] self.new }

@@ -1,36 +1,28 @@
 //! The ways out of a strict arena: what is in it leaves it, and its promise ends with it.
 
-ghost use Rattle.std.specs.Prelude.{◌≡◌, map, List, None, IsSome, IfOk, OnOk, true};
-ghost use Rattle.std.specs.Io.KnownBytes.{Appends};
+ghost use Rattle.std.specs.Prelude.{◌≡◌, None, IfOk, OnOk, true};
 ghost use Rattle.std.specs.Result.{IfErr};
 ghost use Rattle.triple_arena_base.specs.Held.{held_all};
 ghost use Rattle.triple_arena_ptr.specs.Numbers.{first_generation};
-ghost use Rattle.triple_arena_ptr.specs.Pointers.{Pointer};
-ghost use Rattle.triple_arena_traits.specs.Entries.{look_up};
-ghost use Rattle.triple_arena_traits.specs.ArenaState.{ArenaState, arena_len, capacity};
-ghost use Rattle.triple_arena_traits.specs.SlotSteps.{IsTouched};
-ghost use Rattle.triple_arena_traits.specs.Compression.{compressed, rank};
+ghost use Rattle.triple_arena_traits.specs.ArenaState.{ArenaState, arena_len};
+ghost use Rattle.triple_arena_traits.specs.Compression.{rank};
 ghost use Rattle.triple_arena_traits.specs.Walks.{keys, values};
 ghost use Rattle.triple_arena_traits.specs.Histories.{begun_with, Fits};
-ghost use Rattle.triple_arena_direct.specs.StrictFiles.{FitsStrictly};
-ghost use Rattle.triple_arena_snapshot.specs.ArenaCodings.{arena_content};
-ghost use Rattle.triple_arena_snapshot.specs.ArenaLayouts.{arena_coding};
-ghost use Rattle.triple_arena_snapshot.specs.Files.{file_of, SaveFails};
-ghost use Rattle.triple_arena_recasting.specs.Renaming.{MapsPointers, first_unresolved, AreRenamed, IsFoundRenamed, Refuses};
+ghost use Rattle.triple_arena_recasting.specs.Renaming.{MapsPointers, first_unresolved, Refuses};
+ghost use Rattle.triple_arena_direct.specs.StrictCompacted.{IsStrictlyRenaming, KeepsStrictSize};
 
 use super::StrictArena;
 use std::alloc::Global;
-use std::io::Write;
 use triple_arena::{Arena, ArenaSlot};
 use triple_arena_base::{CompactError, Recast};
 use triple_arena_direct_arena::DirectArena;
 use triple_arena_ptr::{Ptr, PtrGen};
 use triple_arena_recasting::compress_recast;
-use triple_arena_snapshot::{Codec, GenerationCodec, SaveError, save_arena};
 use triple_arena_stack::NonZeroInxGenericStack;
 
 /// What is taken by value, so that its values leave it: strict arenas, over any stack. Callers have
 /// [`into_arena`] and [`renew`], since a method by value of an arena over any stack has no proved caller.
+/// It is public for crates with a way out of their own, whose trait stands on it, as that of files.
 pub trait Leaving<P: Ptr, T>: Sized {
     /// The arena inside.
     type Arena;
@@ -45,53 +37,28 @@ pub trait Leaving<P: Ptr, T>: Sized {
     fn open(self) -> Self::Arena
         ensures { inside result ≡ state self };
 
-    /// Writes its file, as [`crate::save_strict_arena`] does.
-    fn write_file<W: Write>(&self, alloc: Global, output: &mut W) -> Result<(), SaveError>
-    where
-        T: Codec,
-        P::Gen: GenerationCodec,
-        ensures written { OnOk result (Appends (W.contents output.old) (W.contents output.new)
-            (file_of ((arena_coding P.Inx.greatest P.Gen.width (state self.now).limit P.Gen.numbered
-            T.coding).encoding (arena_content T.content (state self.now))))) }
-        ensures fits { OnOk result (FitsStrictly P.Gen.generations.counting
-            (arena_coding P.Inx.greatest P.Gen.width (state self.now).limit P.Gen.numbered T.coding)
-            (arena_content T.content (state self.now))) }
-        ensures refused { IfErr result (λ e. SaveFails e (W.contents output.old)
-            (W.contents output.new) (file_of ((arena_coding P.Inx.greatest P.Gen.width
-            (state self.now).limit P.Gen.numbered T.coding).encoding
-            (arena_content T.content (state self.now))))) };
-
     /// As [`renew`].
     fn begin_anew(self, alloc: Global) -> Result<(Self, DirectArena<P, P>), (Self, CompactError<P>)>
     where
         T: Recast<P>,
+        // Done: the map leads from the old pointers to the new ones. The new arena is the old one, compacted
+        // with a reset, with each pointer renamed that its values hold. Each of these found an entry. Its
+        // counter is the first one, and where generations count, a history can begin.
         ensures maps { IfOk result (λ new. MapsPointers P.numbers
             (rank (state self) (first_generation P.Gen.generations)) (state self).slots new.1.slots) }
-        ensures done { IfOk result (λ new. (held : List T)
-            × AreRenamed P.numbers (rank (state self) (first_generation P.Gen.generations))
-            T.held T.refill (values (state self).slots) held
-            × IsTouched (compressed (state self) (first_generation P.Gen.generations) held) (state new.0)) }
-        ensures keys { IfOk result (λ new. keys (state new.0).slots ≡ map
-            (rank (state self) (first_generation P.Gen.generations)) (keys (state self).slots)) }
-        ensures values { IfOk result (λ new. AreRenamed P.numbers
-            (rank (state self) (first_generation P.Gen.generations))
-            T.held T.refill (values (state self).slots) (values (state new.0).slots)) }
-        ensures found { IfOk result (λ new. (q : Pointer) → IsSome (look_up (state self).slots q)
-            → IsFoundRenamed P.numbers (rank (state self) (first_generation P.Gen.generations))
-            T.held T.refill (look_up (state self).slots q)
-            (look_up (state new.0).slots (rank (state self) (first_generation P.Gen.generations) q))) }
+        ensures compacted { IfOk result (λ new. IsStrictlyRenaming P.Gen.generations true (state self)
+            P.numbers T.held T.refill (state new.0)) }
         ensures resolved { OnOk result (first_unresolved P.numbers (state self).slots
             (held_all T.held (values (state self).slots)) ≡ None) }
-        ensures counter { IfOk result
-            (λ new. (state new.0).counter ≡ first_generation P.Gen.generations) }
-        ensures len { IfOk result (λ new. arena_len (state new.0) ≡ arena_len (state self)) }
-        ensures limit { IfOk result (λ new. (state new.0).limit ≡ (state self).limit) }
-        ensures capacity { IfOk result (λ new. capacity (state new.0) ≡ capacity (state self)) }
+        ensures counter { IfOk result (λ new. (state new.0).counter ≡ first_generation P.Gen.generations) }
         ensures begun { P.Gen.generations.counting ≡ true
             → IfOk result (λ new. Fits (begun_with (keys (state new.0).slots)) (state new.0)) }
+        ensures size { IfOk result (λ new. KeepsStrictSize (state self) (state new.0)) }
+
+        // Refused: the arena comes back as it was, and the error tells why.
+        ensures refused { IfErr result (λ old. state old.0 ≡ state self) }
         ensures refusal { IfErr result (λ old. Refuses (arena_len (state self))
-            (first_unresolved P.numbers (state self).slots (held_all T.held (values (state self).slots))) old.1) }
-        ensures refused { IfErr result (λ old. state old.0 ≡ (state self)) };
+            (first_unresolved P.numbers (state self).slots (held_all T.held (values (state self).slots))) old.1) };
 }
 
 impl<P: Ptr, T, S: NonZeroInxGenericStack<ArenaSlot<P, T>>> Leaving<P, T> for StrictArena<P, T, S> {
@@ -104,14 +71,6 @@ impl<P: Ptr, T, S: NonZeroInxGenericStack<ArenaSlot<P, T>>> Leaving<P, T> for St
     fn open(self) -> Arena<P, T, S> {
         let StrictArena { arena } = self;
         arena
-    }
-
-    fn write_file<W: Write>(&self, alloc: Global, output: &mut W) -> Result<(), SaveError>
-    where
-        T: Codec,
-        P::Gen: GenerationCodec,
-    {
-        save_arena(&self.arena, alloc, output)
     }
 
     fn begin_anew(self, alloc: Global) -> Result<(Self, DirectArena<P, P>), (Self, CompactError<P>)>
@@ -152,33 +111,24 @@ pub fn renew<P: Ptr, T: Recast<P>, A: Leaving<P, T>>(
     strict: A,
     alloc: Global,
 ) -> Result<(A, DirectArena<P, P>), (A, CompactError<P>)>
+    // Done: the map leads from the old pointers to the new ones. The new arena is the old one, compacted
+    // with a reset, with each pointer renamed that its values hold. Each of these found an entry. Its
+    // counter is the first one, and where generations count, a history can begin.
     ensures maps { IfOk result (λ new. MapsPointers P.numbers
         (rank (A.state strict) (first_generation P.Gen.generations)) (A.state strict).slots new.1.slots) }
-    ensures done { IfOk result (λ new. (held : List T)
-        × AreRenamed P.numbers (rank (A.state strict) (first_generation P.Gen.generations))
-        T.held T.refill (values (A.state strict).slots) held
-        × IsTouched (compressed (A.state strict) (first_generation P.Gen.generations) held) (A.state new.0)) }
-    ensures keys { IfOk result (λ new. keys (A.state new.0).slots ≡ map
-        (rank (A.state strict) (first_generation P.Gen.generations)) (keys (A.state strict).slots)) }
-    ensures values { IfOk result (λ new. AreRenamed P.numbers
-        (rank (A.state strict) (first_generation P.Gen.generations))
-        T.held T.refill (values (A.state strict).slots) (values (A.state new.0).slots)) }
-    ensures found { IfOk result (λ new. (q : Pointer) → IsSome (look_up (A.state strict).slots q)
-        → IsFoundRenamed P.numbers (rank (A.state strict) (first_generation P.Gen.generations))
-        T.held T.refill (look_up (A.state strict).slots q)
-        (look_up (A.state new.0).slots (rank (A.state strict) (first_generation P.Gen.generations) q))) }
+    ensures compacted { IfOk result (λ new. IsStrictlyRenaming P.Gen.generations true (A.state strict)
+        P.numbers T.held T.refill (A.state new.0)) }
     ensures resolved { OnOk result (first_unresolved P.numbers (A.state strict).slots
         (held_all T.held (values (A.state strict).slots)) ≡ None) }
-    ensures counter { IfOk result
-        (λ new. (A.state new.0).counter ≡ first_generation P.Gen.generations) }
-    ensures len { IfOk result (λ new. arena_len (A.state new.0) ≡ arena_len (A.state strict)) }
-    ensures limit { IfOk result (λ new. (A.state new.0).limit ≡ (A.state strict).limit) }
-    ensures capacity { IfOk result (λ new. capacity (A.state new.0) ≡ capacity (A.state strict)) }
+    ensures counter { IfOk result (λ new. (A.state new.0).counter ≡ first_generation P.Gen.generations) }
     ensures begun { P.Gen.generations.counting ≡ true
         → IfOk result (λ new. Fits (begun_with (keys (A.state new.0).slots)) (A.state new.0)) }
+    ensures size { IfOk result (λ new. KeepsStrictSize (A.state strict) (A.state new.0)) }
+
+    // Refused: the arena comes back as it was, and the error tells why.
+    ensures refused { IfErr result (λ old. A.state old.0 ≡ A.state strict) }
     ensures refusal { IfErr result (λ old. Refuses (arena_len (A.state strict))
         (first_unresolved P.numbers (A.state strict).slots (held_all T.held (values (A.state strict).slots))) old.1) }
-    ensures refused { IfErr result (λ old. A.state old.0 ≡ (A.state strict)) }
 {
     strict.begin_anew(alloc)
 }

@@ -35,11 +35,15 @@ impl<P: Ptr, T, S: NonZeroInxGenericStack<ArenaSlot<P, T>>> StrictArena<P, T, S>
 
     /// The value under `p`, for writing; none exactly where `p` is invalid.
     pub fn get_mut(&mut self, p: P) -> Option<&mut T>
+        // Of a valid pointer the value is lent; once the loan ends, what was written stands in its
+        // place.
         ensures value { option_copied_mut result ≡ look_up self.old.slots (P.numbers p) }
         ensures* writes_back { sem 𝓛 (LendsIf ⟦<StrictArena<P, T, S> as LendingArena>⟧.arena_row T.row
             self.entry result (with_value self.old (P.numbers p).0) self.old) }
         ensures history { (h : History) → Fits h self.old
             → is_some result ≡ remains h (P.numbers p) }
+
+        // It is a strict call, by which every history goes on, and what was gone for good stays so.
         ensures step { IsSome (look_up self.old.slots (P.numbers p)) → (value : T)
             → IsStrictStep S.kind P.Gen.generations self.old
             (to_write (P.numbers p) value) [] (with_value self.old (P.numbers p).0 value) }
@@ -69,10 +73,13 @@ impl<P: Ptr, T, S: NonZeroInxGenericStack<ArenaSlot<P, T>>> StrictArena<P, T, S>
 
     /// The value of the entry at `inx`, for writing; none exactly where there is no entry.
     pub fn get_inx_mut(&mut self, inx: P::Inx) -> Option<&mut T>
+        // Of an entry the value is lent; once the loan ends, what was written stands in its place.
         ensures value { option_copied_mut result
             ≡ option_map (λ e. e.1) (entry self.old (P.Inx.number inx)) }
         ensures* writes_back { sem 𝓛 (LendsIf ⟦<StrictArena<P, T, S> as LendingArena>⟧.arena_row T.row
             self.entry result (with_value self.old (P.Inx.number inx)) self.old) }
+
+        // It is a strict call, by which every history goes on, and what was gone for good stays so.
         ensures step { (generation : ℕ) (was value : T)
             → entry self.old (P.Inx.number inx) ≡ Some (generation, was)
             → IsStrictStep S.kind P.Gen.generations self.old

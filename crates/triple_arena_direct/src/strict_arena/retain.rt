@@ -33,6 +33,9 @@ impl<P: Ptr, T, S: NonZeroInxGenericStack<ArenaSlot<P, T>>> StrictArena<P, T, S>
     where
         T: Drop,
         requires callable { F.IsAlwaysCallable f }
+
+        // Done, the entries are gone that the calls didn't keep; refused, nothing changes. Others
+        // stay, and so do limit and capacity.
         ensures answer { result
             ≡ strict_all (is_exhausted_for_any P.Gen.generations self.old) }
         ensures done { OnOk result ((gone : List Pointer) × (last : F)
@@ -43,6 +46,9 @@ impl<P: Ptr, T, S: NonZeroInxGenericStack<ArenaSlot<P, T>>> StrictArena<P, T, S>
             → look_up self.new.slots q ≡ look_up self.old.slots q }
         ensures limit { self.new.limit ≡ self.old.limit }
         ensures capacity { capacity self.new ≡ capacity self.old }
+
+        // It is one strict call: where generations count, a history goes on by it, the pointers
+        // that were lost are gone for good, and what was gone for good stays so.
         ensures step { (gone : List Pointer) × IsStrictStep S.kind P.Gen.generations
             self.old (to_retain gone)
             (calls_if_ok result (λ _. clearing (pointers_lost self.old self.new))) self.new }
@@ -67,6 +73,9 @@ impl<P: Ptr, T, S: NonZeroInxGenericStack<ArenaSlot<P, T>>> StrictArena<P, T, S>
         T: Drop,
         requires callable { F.IsAlwaysCallable f }
         requires allowed { is_exhausted_for_any P.Gen.generations self.old ≡ false }
+
+        // The entries are gone that the calls didn't keep. Others stay, and so do limit and
+        // capacity.
         ensures done { (gone : List Pointer) × (last : F)
             × Sorts P.numbers F.step f (entries self.old.slots) gone last
             × IsTouched (ended_entries (raise P.Gen.generations) gone self.old) self.new }
@@ -74,6 +83,9 @@ impl<P: Ptr, T, S: NonZeroInxGenericStack<ArenaSlot<P, T>>> StrictArena<P, T, S>
             → look_up self.new.slots q ≡ look_up self.old.slots q }
         ensures limit { self.new.limit ≡ self.old.limit }
         ensures capacity { capacity self.new ≡ capacity self.old }
+
+        // It is one strict call: where generations count, a history goes on by it, the pointers
+        // that were lost are gone for good, and what was gone for good stays so.
         ensures step { (gone : List Pointer) × IsStrictStep S.kind P.Gen.generations
             self.old (to_retain gone) (clearing (pointers_lost self.old self.new) ∷ []) self.new }
         ensures history { P.Gen.generations.counting ≡ true → Continues Fits self.old

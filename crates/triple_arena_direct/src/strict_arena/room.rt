@@ -28,9 +28,12 @@ impl<P: Ptr, T, S: NonZeroInxGenericStack<ArenaSlot<P, T>>> StrictArena<P, T, S>
     /// where the limit is below it; else `AllocError` where memory is refused. Where the room stays the
     /// same, no memory is taken.
     pub fn reallocate_min_capacity(&mut self, min_capacity: usize) -> Result<(), ReallocationError>
+        // Done, there is room for so many; refused, the free list is tidied alone.
         ensures done { OnOk result
             (IsTouched (reallocated S.kind self.old min_capacity) self.new) }
         ensures refused { OnErr result (IsTouched (tidied self.old) self.new) }
+
+        // When it is refused, and when not.
         ensures within { OnOk result
             ((min_capacity ≤ greatest_index P.Inx.greatest)
             × IsWithin self.old.limit min_capacity) }
@@ -43,10 +46,15 @@ impl<P: Ptr, T, S: NonZeroInxGenericStack<ArenaSlot<P, T>>> StrictArena<P, T, S>
         ensures with_memory { min_capacity ≤ greatest_index P.Inx.greatest
             → IsWithin self.old.limit min_capacity
             → S.has_memory (reallocated S.kind self.old min_capacity).room → IsOk result }
+
+        // Done, so many fit. In each case every pointer finds what it found, and the limit stays.
         ensures place { OnOk result (min_capacity ≤ capacity self.new) }
         ensures kept { (q : Pointer) → look_up self.new.slots q ≡ look_up self.old.slots q }
         ensures same_len { arena_len self.new ≡ arena_len self.old }
         ensures limit { self.new.limit ≡ self.old.limit }
+
+        // It is one strict call, done or refused: a history goes on by a `resizing`, and what was
+        // gone for good stays so.
         ensures step { IsStrictStep S.kind P.Gen.generations
             self.old (to_reallocate min_capacity) (resizing ∷ []) self.new }
         ensures history { Continues Fits self.old (resizing ∷ []) self.new }
@@ -59,11 +67,15 @@ impl<P: Ptr, T, S: NonZeroInxGenericStack<ArenaSlot<P, T>>> StrictArena<P, T, S>
     /// Tidies the free list: gives up the free slots past the last entry, and puts the other free
     /// indexes in rising order. No entry moves.
     pub fn canonicalize_freelist(&mut self)
+        // The free list is tidied, every pointer finds what it found, and the capacity stays.
         ensures state { IsTouched (tidied self.old) self.new }
         ensures tidied { IsTidied self.old self.new }
         ensures kept { (q : Pointer) → look_up self.new.slots q ≡ look_up self.old.slots q }
         ensures same_len { arena_len self.new ≡ arena_len self.old }
         ensures same_capacity { capacity self.new ≡ capacity self.old }
+
+        // It is one strict call: a history goes on by a `resizing`, and what was gone for good
+        // stays so.
         ensures step { IsStrictStep S.kind P.Gen.generations
             self.old to_tidy (resizing ∷ []) self.new }
         ensures history { Continues Fits self.old (resizing ∷ []) self.new }
@@ -78,6 +90,8 @@ impl<P: Ptr, T, S: NonZeroInxGenericStack<ArenaSlot<P, T>>> StrictArena<P, T, S>
     ///
     /// It takes no memory, and touches at most 6 slots for each that it gives up, and 2 more.
     pub fn remove_free_end_slots(&mut self)
+        // The free slots past the last entry are gone, every pointer finds what it found, and the
+        // capacity stays.
         ensures state { IsTouched (without_free_end self.old) self.new }
         ensures bounded { RisesByAtMost (6 * (slot_count self.old - slot_count self.new) + 2)
             self.old.steps self.new.steps }
@@ -85,6 +99,9 @@ impl<P: Ptr, T, S: NonZeroInxGenericStack<ArenaSlot<P, T>>> StrictArena<P, T, S>
         ensures same_len { arena_len self.new ≡ arena_len self.old }
         ensures same_capacity { capacity self.new ≡ capacity self.old }
         ensures ends_live { is_free (item self.new.slots (slot_count self.new)) ≡ false }
+
+        // It is one strict call: a history goes on by a `resizing`, and what was gone for good
+        // stays so.
         ensures step { IsStrictStep S.kind P.Gen.generations
             self.old to_give_up_end (resizing ∷ []) self.new }
         ensures history { Continues Fits self.old (resizing ∷ []) self.new }
@@ -105,12 +122,17 @@ impl<P: Ptr, T, S: SetMaxCapacity<ArenaSlot<P, T>>> StrictArena<P, T, S> {
     /// Refused exactly where an entry stands at an index past `max_capacity`; then all stays but the
     /// free list, which is tidied.
     pub fn set_max_capacity(&mut self, max_capacity: usize) -> Result<(), MaxCapacityReductionError>
+        // Done, the limit is set; refused, the free list is tidied alone. Every pointer finds what
+        // it found.
         ensures variant { IsOk result ↔ EndsBy self.old max_capacity }
         ensures done { OnOk result (IsTouched (with_limit self.old max_capacity) self.new) }
         ensures refused { OnErr result (IsTouched (tidied self.old) self.new) }
         ensures kept { (q : Pointer) → look_up self.new.slots q ≡ look_up self.old.slots q }
         ensures same_len { arena_len self.new ≡ arena_len self.old }
         ensures limit { OnOk result (self.new.limit ≡ Some max_capacity) }
+
+        // It is one strict call, done or refused: a history goes on by a `resizing`, and what was
+        // gone for good stays so.
         ensures step { IsStrictStep S.kind P.Gen.generations
             self.old (to_limit max_capacity) (resizing ∷ []) self.new }
         ensures history { Continues Fits self.old (resizing ∷ []) self.new }

@@ -24,12 +24,16 @@ impl<P: Ptr, T, S: NonZeroInxGenericStack<ArenaSlot<P, T>>> StrictArena<P, T, S>
     /// writing. Nothing but values changes (`written`), and it takes no memory.
     pub fn for_each_mut<F: FnMut(P, &mut T)>(&mut self, f: F)
         requires callable { F.IsAlwaysCallable f }
+
+        // Each value is as the call at its entry left it, and nothing else changes.
         ensures visited { (last : F) × Visits P.numbers F.step f
             (entries self.old.slots) (entries self.new.slots) last }
         ensures written { (values : List T)
             × (self.new ≡ written with_value (keys self.old.slots) values self.old) }
         ensures limit { self.new.limit ≡ self.old.limit }
         ensures capacity { capacity self.new ≡ capacity self.old }
+
+        // It is a strict call, by which every history goes on, and what was gone for good stays so.
         ensures step { (values : List T) × IsStrictStep S.kind P.Gen.generations
             self.old (to_write_each (keys self.old.slots) values) [] self.new }
         ensures history { Continues Fits self.old [] self.new }
@@ -53,6 +57,8 @@ impl<P: Ptr, T, S: NonZeroInxGenericStack<ArenaSlot<P, T>>> StrictArena<P, T, S>
         requires { (P.numbers first).0 ≢ (P.numbers second).0 → MayWork F.FnOnce f
             (look_up self.old.slots (P.numbers first))
             (look_up self.old.slots (P.numbers second)) }
+
+        // Done, what the call wrote stands at both; refused, nothing changes.
         ensures variant { DisjointPtrAnswer self.old.slots
             (P.numbers first) (P.numbers second) result }
         ensures refused { OnErr result (self.new ≡ self.old) }
@@ -61,6 +67,8 @@ impl<P: Ptr, T, S: NonZeroInxGenericStack<ArenaSlot<P, T>>> StrictArena<P, T, S>
             (look_up self.old.slots (P.numbers second))
             r (λ x y. self.new ≡ with_value
             (with_value self.old (P.numbers first).0 x) (P.numbers second).0 y)) }
+
+        // It is a strict call, by which every history goes on, and what was gone for good stays so.
         ensures step { OnOk result ((x y : T) × IsStrictStep S.kind P.Gen.generations
             self.old (to_write_each (P.numbers first ∷ P.numbers second ∷ []) (x ∷ y ∷ [])) [] self.new) }
         ensures history { Continues Fits self.old [] self.new }
@@ -86,6 +94,8 @@ impl<P: Ptr, T, S: NonZeroInxGenericStack<ArenaSlot<P, T>>> StrictArena<P, T, S>
             → MayWorkAtEntries P.Gen.number F.FnOnce f
             (entry self.old (P.Inx.number first))
             (entry self.old (P.Inx.number second)) }
+
+        // Done, what the call wrote stands at both; refused, nothing changes.
         ensures variant { DisjointInxAnswer self.old.slots
             (P.Inx.number first) (P.Inx.number second) result }
         ensures refused { OnErr result (self.new ≡ self.old) }
@@ -94,6 +104,8 @@ impl<P: Ptr, T, S: NonZeroInxGenericStack<ArenaSlot<P, T>>> StrictArena<P, T, S>
             (entry self.old (P.Inx.number second))
             r (λ x y. self.new ≡ with_value
             (with_value self.old (P.Inx.number first) x) (P.Inx.number second) y)) }
+
+        // It is a strict call, by which every history goes on, and what was gone for good stays so.
         ensures step { OnOk result ((p q : Pointer) × (x y : T)
             × (p.0 ≡ P.Inx.number first) × (q.0 ≡ P.Inx.number second)
             × IsStrictStep S.kind P.Gen.generations

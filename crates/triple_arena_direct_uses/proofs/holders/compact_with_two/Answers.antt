@@ -11,12 +11,12 @@ use Rattle.triple_arena_direct_uses.proofs.holders.compact_with_two.Goals as goa
 pub returns-clause-first : goal.returns-clause-first
 returns-clause-first g c =
     c.holders_follow.ensures.renamed _ c.args.arena.now.slots _ c.args.first.now c.recast-first.new.self
-    (rw (← c.value_of-map.ensures) at c.in_ok-answer.ensures.maps) (sym c.in_default.ensures.first) (rw c.unresolved.ensures.unchanged at c.recast-first.ensures.after)
+    (rw (← c.value_of-map.ensures) at c.in_ok-answer.ensures.map.maps) (sym c.in_default.ensures.first) (rw c.unresolved.ensures.unchanged at c.recast-first.ensures.after)
 
 pub returns-clause-second : goal.returns-clause-second
 returns-clause-second g c =
     c.holders_follow-2.ensures.renamed _ c.args.arena.now.slots _ c.args.second.now c.recast-second.new.self
-    (rw (← c.value_of-map.ensures) at c.in_ok-answer.ensures.maps) (sym c.in_default-unresolved.ensures.first) (rw c.unresolved-2.ensures.unchanged at c.recast-second.ensures.after)
+    (rw (← c.value_of-map.ensures) at c.in_ok-answer.ensures.map.maps) (sym c.in_default-unresolved.ensures.first) (rw c.unresolved-2.ensures.unchanged at c.recast-second.ensures.after)
 
 pub returns-in-Some-clause-refusal : goal.returns-in-Some-clause-refusal
 returns-in-Some-clause-refusal g c = first_before p0_numbers c.args.arena.now.slots _ _ _ (sym c.in-Some.ensures.first)

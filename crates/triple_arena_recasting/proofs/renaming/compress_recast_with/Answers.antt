@@ -3,7 +3,7 @@ use Rattle.triple_arena_base.specs.Held.{recast_items, held_all}
 use Rattle.triple_arena_traits.specs.Entries.{look_up}
 use Rattle.triple_arena_traits.specs.Walks.{values}
 use Rattle.triple_arena_recasting.specs.laws.RenamingLaws.{front_resolved, followed}
-use Rattle.triple_arena_recasting.proofs.MappedAnswers.{value_mapped}
+use Rattle.triple_arena_recasting.proofs.MappedAnswers.{told_mapped, value_mapped}
 use Rattle.triple_arena_recasting.proofs.renaming.compress_recast_with.Goals as goal
 
 pub compress_renaming-answer-requires-clause-resolved : goal.compress_renaming-answer-requires-clause-resolved
@@ -12,16 +12,19 @@ compress_renaming-answer-requires-clause-resolved g c κs within =
     rw c.in_ok-pointers.ensures.unchanged
     (front_resolved g.P.Ptr.numbers slots (held_all g.T.Recast.held (values slots)) (g.H.Recast.held c.args.holder.now) c.in_ok-pointers.ensures.resolved).0
 
-pub returns-clause-maps : goal.returns-clause-maps
-returns-clause-maps g c =
-    rw (value_mapped _ c.compress_renaming-answer.new.images c.compress_renaming-answer.result c.map.result (λ t y r. search rules) c.map.ensures)
-    (rw c.in_ok-pointers.ensures.unchanged at c.compress_renaming-answer.ensures.maps)
+pub returns-clause-map : goal.returns-clause-map
+returns-clause-map g c =
+    let same = c.in_ok-pointers.ensures.unchanged in
+    record {
+      tells = told_mapped _ _ _ c.compress_renaming-answer.result c.map.result (rw same at c.compress_renaming-answer.ensures.answer) c.map.ensures;
+      maps = rw (value_mapped _ c.compress_renaming-answer.new.images c.compress_renaming-answer.result c.map.result (λ t y r. search rules) c.map.ensures) (rw same at c.compress_renaming-answer.ensures.maps);
+    }
 
-pub returns-clause-done : goal.returns-clause-done
-returns-clause-done g c = rw c.in_ok-pointers.ensures.unchanged at c.compress_renaming-answer.ensures.done
+pub returns-clause-compacted : goal.returns-clause-compacted
+returns-clause-compacted g c = rw c.in_ok-pointers.ensures.unchanged at c.compress_renaming-answer.ensures.compacted
 
-pub returns-clause-found : goal.returns-clause-found
-returns-clause-found g c = rw c.in_ok-pointers.ensures.unchanged at c.compress_renaming-answer.ensures.found
+pub returns-clause-size : goal.returns-clause-size
+returns-clause-size g c = rw c.in_ok-pointers.ensures.unchanged at c.compress_renaming-answer.ensures.size
 
 pub returns-clause-renamed : goal.returns-clause-renamed
 returns-clause-renamed g c =
@@ -33,9 +36,3 @@ returns-clause-renamed g c =
     let is = c.recast-renamed.ensures.after ∙ ap (λ (h : g.row.H.Denot). g.H.Recast.refill h (recast_items (λ p. look_up images (g.P.Ptr.numbers p)) (held h))) c.in_ok-pointers.ensures.holder_unchanged in
     followed g.P.Ptr.numbers (g.A.CompactArenaTrait.rank old c.args.reset_generation) held g.H.Recast.refill g.met.H.Recast.held_refill slots images
     (rw c.in_ok-pointers.ensures.unchanged at c.compress_renaming-answer.ensures.maps) c.args.holder.now c.recast-renamed.new.self resolved.1 is
-
-pub returns-clause-history : goal.returns-clause-history
-returns-clause-history g c = rw c.in_ok-pointers.ensures.unchanged at c.compress_renaming-answer.ensures.history
-
-pub returns-clause-begun : goal.returns-clause-begun
-returns-clause-begun g c = rw c.in_ok-pointers.ensures.unchanged at c.compress_renaming-answer.ensures.begun

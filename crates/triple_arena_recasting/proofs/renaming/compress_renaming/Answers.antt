@@ -23,58 +23,41 @@ returns-clause-maps g c =
     renames g.P.Ptr.numbers (g.A.CompactArenaTrait.rank old c.args.reset_generation) (g.A.ArenaStates.slots old) c.put_pointers.new.target.slots
     (c.put_pointers.ensures.keys ∙ c.requires.own) (c.put_pointers.ensures.values ∙ c.compress-answer.ensures.keys)
 
-pub returns-clause-done : goal.returns-clause-done
-returns-clause-done g c =
+pub returns-clause-compacted : goal.returns-clause-compacted
+returns-clause-compacted g c =
     let old = c.args.this.now in
+    let new = c.recast_entries-renamed.new.arena in
     let slots = g.A.ArenaStates.slots old in
     let rank = g.A.CompactArenaTrait.rank old c.args.reset_generation in
     let image : g.row.P.Denot → Option g.row.P.Denot = λ p. look_up c.put_pointers.new.target.slots (g.P.Ptr.numbers p) in
-    let ks = c.compress-answer.ensures.keys in (
-      recast_values g.T.Recast.held g.T.Recast.refill image (values slots),
-      values_renamed g.P.Ptr.numbers slots rank c.put_pointers.new.target.slots (returns-clause-maps g c) g.T.Recast.held g.T.Recast.refill g.met.T.Recast.held_refill (values slots) c.requires.resolved,
-      recast_compressed g.T.Recast.held g.T.Recast.refill image g.A.ArenaStates.slots g.A.ArenaStates.with_value
-          (g.A.CompactArenaTrait.compresses old c.args.reset_generation) (g.met.A.CompactArenaTrait.compresses_with_value old c.args.reset_generation)
-          rank old c.compress-answer.new.self c.recast_entries-renamed.new.arena (values slots) (g.met.A.CompactArenaTrait.ranked old c.args.reset_generation)
-          (length-values slots) c.compress-answer.ensures.done ks c.compress-answer.ensures.values c.recast_entries-renamed.ensures.after,
-    )
+    let ks = c.compress-answer.ensures.keys in
+    let made = recast_values g.T.Recast.held g.T.Recast.refill image (values slots) in
+    let all : AreRenamed g.P.Ptr.numbers rank g.T.Recast.held g.T.Recast.refill (values slots) made =
+    values_renamed g.P.Ptr.numbers slots rank c.put_pointers.new.target.slots (returns-clause-maps g c) g.T.Recast.held g.T.Recast.refill g.met.T.Recast.held_refill (values slots) c.requires.resolved in
+    let left = recast_compressed g.T.Recast.held g.T.Recast.refill image g.A.ArenaStates.slots g.A.ArenaStates.with_value
+    (g.A.CompactArenaTrait.compresses old c.args.reset_generation) (g.met.A.CompactArenaTrait.compresses_with_value old c.args.reset_generation)
+    rank old c.compress-answer.new.self new (values slots) (g.met.A.CompactArenaTrait.ranked old c.args.reset_generation)
+    (length-values slots) c.compress-answer.ensures.done ks c.compress-answer.ensures.values c.recast_entries-renamed.ensures.after in
+    let long = AllZip-long _ (values slots) made all ∙ length-values slots in
+    let stand = g.met.A.CompactArenaTrait.keys_compressed old c.args.reset_generation made new left long in
+    let there = g.met.A.CompactArenaTrait.values_compressed old c.args.reset_generation made new left long in
+    let renamed = subst (AreRenamed g.P.Ptr.numbers rank g.T.Recast.held g.T.Recast.refill (values slots)) (sym there) all in
+    record {
+      ranked = stand;
+      made = renamed;
+      left = rw there left;
+      found = found_renamed g.P.Ptr.numbers rank g.T.Recast.held g.T.Recast.refill rank slots (g.A.ArenaStates.slots new) stand renamed;
+      history = λ unset up h fits. rw (stand ∙ sym ks) (c.recast_entries-renamed.ensures.history _ (c.compress-answer.ensures.history unset up h fits));
+      begun = λ h fits. rw (stand ∙ sym ks) (c.recast_entries-renamed.ensures.history _ (c.compress-answer.ensures.begun h fits));
+    }
 
-pub returns-clause-keys : goal.returns-clause-keys
-returns-clause-keys g c =
-    let d = returns-clause-done g c in
+pub returns-clause-size : goal.returns-clause-size
+returns-clause-size g c =
     let old = c.args.this.now in
-    g.met.A.CompactArenaTrait.keys_compressed old c.args.reset_generation d.0 c.recast_entries-renamed.new.arena d.2
-    (AllZip-long _ (values (g.A.ArenaStates.slots old)) d.0 d.1 ∙ length-values (g.A.ArenaStates.slots old))
-
-pub returns-clause-values : goal.returns-clause-values
-returns-clause-values g c =
-    let d = returns-clause-done g c in
-    let old = c.args.this.now in
-    let there = g.met.A.CompactArenaTrait.values_compressed old c.args.reset_generation d.0 c.recast_entries-renamed.new.arena d.2
-    (AllZip-long _ (values (g.A.ArenaStates.slots old)) d.0 d.1 ∙ length-values (g.A.ArenaStates.slots old)) in
-    subst (AreRenamed g.P.Ptr.numbers (g.A.CompactArenaTrait.rank old c.args.reset_generation) g.T.Recast.held g.T.Recast.refill (values (g.A.ArenaStates.slots old))) (sym there) d.1
-
-pub returns-clause-found : goal.returns-clause-found
-returns-clause-found g c =
-    let old = c.args.this.now in
-    let rank = g.A.CompactArenaTrait.rank old c.args.reset_generation in
-    found_renamed g.P.Ptr.numbers rank g.T.Recast.held g.T.Recast.refill rank (g.A.ArenaStates.slots old) (g.A.ArenaStates.slots c.recast_entries-renamed.new.arena) (returns-clause-keys g c) (returns-clause-values g c)
-
-pub returns-clause-len : goal.returns-clause-len
-returns-clause-len g c =
-    let old = c.args.this.now in
-    sym (length-keys (g.A.ArenaStates.slots c.recast_entries-renamed.new.arena)) ∙ ap length (returns-clause-keys g c)
-    ∙ length-map (keys (g.A.ArenaStates.slots old)) (g.A.CompactArenaTrait.rank old c.args.reset_generation) ∙ length-keys (g.A.ArenaStates.slots old)
-
-pub returns-clause-limit : goal.returns-clause-limit
-returns-clause-limit g c = let d = returns-clause-done g c in g.met.A.CompactArenaTrait.limit_compressed _ _ _ _ d.2
-
-pub returns-clause-capacity : goal.returns-clause-capacity
-returns-clause-capacity g c = let d = returns-clause-done g c in g.met.A.CompactArenaTrait.capacity_compressed _ _ _ _ d.2
-
-pub returns-clause-history : goal.returns-clause-history
-returns-clause-history g c unset up h fits =
-    rw (returns-clause-keys g c ∙ sym c.compress-answer.ensures.keys) (c.recast_entries-renamed.ensures.history _ (c.compress-answer.ensures.history unset up h fits))
-
-pub returns-clause-begun : goal.returns-clause-begun
-returns-clause-begun g c h fits =
-    rw (returns-clause-keys g c ∙ sym c.compress-answer.ensures.keys) (c.recast_entries-renamed.ensures.history _ (c.compress-answer.ensures.begun h fits))
+    let is = returns-clause-compacted g c in
+    record {
+      len = sym (length-keys (g.A.ArenaStates.slots c.recast_entries-renamed.new.arena)) ∙ ap length is.ranked
+          ∙ length-map (keys (g.A.ArenaStates.slots old)) (g.A.CompactArenaTrait.rank old c.args.reset_generation) ∙ length-keys (g.A.ArenaStates.slots old);
+      same_limit = g.met.A.CompactArenaTrait.limit_compressed _ _ _ _ is.left;
+      same_capacity = g.met.A.CompactArenaTrait.capacity_compressed _ _ _ _ is.left;
+    }

@@ -1,41 +1,31 @@
-use Rattle.std.proofs.Common.{refl, sym, ap, ◌∷◌, [], ◌∙◌}
-use Rattle.triple_arena_traits.specs.ArenaState.{ArenaState}
-use Rattle.triple_arena_traits.specs.laws.CompressionLaws.{length-values}
+use Rattle.std.proofs.Common.{sym, ap, ◌∙◌}
+use Rattle.triple_arena_traits.specs.Histories.{begun_with}
 use Rattle.triple_arena_traits.specs.Walks.{keys, values}
-use Rattle.triple_arena_traits.specs.Histories.{begun_with, compression}
-use Rattle.triple_arena_direct.specs.laws.GoneLaws.{up_to-continues, gone-continues}
 use Rattle.triple_arena_direct.specs.StrictAnswers.{is_exhausted_for_any}
-use Rattle.triple_arena_direct.proofs.StrictAnswers.{step_refused, step_done, all_gone}
+use Rattle.triple_arena_direct.proofs.StrictCompacting.{still_up_to, compacted_strictly}
 use Rattle.triple_arena_direct.proofs.strict_arena.StrictArena.compress.Goals as goal
 
-pub returns-then-is_exhausted_for_any-clause-step : goal.returns-then-is_exhausted_for_any-clause-step
-returns-then-is_exhausted_for_any-clause-step g c =
-    let s = c.args.self.now in
-    (values s.slots, (length-values s.slots, step_refused s _ _ _ (sym c.is_exhausted_for_any.ensures.value ∙ c.if-is_exhausted_for_any.true)))
-
-pub returns-clause-step : goal.returns-clause-step
-returns-clause-step g c =
-    let s : ArenaState g.row.T.Denot = c.self.inside.arena in
+pub returns-clause-compacted : goal.returns-clause-compacted
+returns-clause-compacted g c =
+    let is = c.compress-answer.ensures in
     let allowed = ap (is_exhausted_for_any g.P.Gen.PtrGen.generations) c.self.view_is ∙ sym c.is_exhausted_for_any.ensures.value ∙ c.if-is_exhausted_for_any.false in
-    let done = c.compress-answer.ensures.done in
-    rw (← c.self.view_is) (values s.slots, (length-values s.slots, step_done s _ _ _ _ _ allowed (ap (λ (t : ArenaState g.row.T.Denot). compression (keys s.slots) (keys t.slots) ∷ []) done.0) done))
+    rw (← c.self.view_is) (record {
+      ranked = is.keys;
+      made = is.values;
+      left = rw is.values is.done;
+      found = is.found;
+      history = λ unset up. is.history unset (up.0, allowed);
+      begun = is.begun;
+    })
+
+pub returns-clause-fresh : goal.returns-clause-fresh
+returns-clause-fresh g c = rw (← c.self.view_is) (compacted_strictly g.S.NonZeroInxGenericStack.kind g.P.Gen.PtrGen.generations c.self.inside.arena c.compress-answer.new.self (values c.self.inside.arena.slots)
+    c.self.invariant (ap (is_exhausted_for_any g.P.Gen.PtrGen.generations) c.self.view_is ∙ sym c.is_exhausted_for_any.ensures.value ∙ c.if-is_exhausted_for_any.false) c.compress-answer.ensures.done c.compress-answer.ensures.len)
 
 pub invariant_of-self : goal.invariant_of-self
-invariant_of-self g c counts =
-    let allowed = ap (is_exhausted_for_any g.P.Gen.PtrGen.generations) c.self.view_is ∙ sym c.is_exhausted_for_any.ensures.value ∙ c.if-is_exhausted_for_any.false in
-    up_to-continues c.self.inside.arena c.compress-answer.new.self (c.self.invariant counts) (compression (keys c.self.inside.arena.slots) (keys c.compress-answer.new.self.slots) ∷ []) (c.compress-answer.ensures.history refl (counts, allowed))
-
-pub returns-clause-gone_for_good : goal.returns-clause-gone_for_good
-returns-clause-gone_for_good g c =
-    let allowed = ap (is_exhausted_for_any g.P.Gen.PtrGen.generations) c.self.view_is ∙ sym c.is_exhausted_for_any.ensures.value ∙ c.if-is_exhausted_for_any.false in
-    rw (← c.self.view_is) (λ counts. all_gone c.self.inside.arena c.compress-answer.new.self (compression (keys c.self.inside.arena.slots) (keys c.compress-answer.new.self.slots)) (c.self.invariant counts) (c.compress-answer.ensures.history refl (counts, allowed)) refl)
-
-pub returns-clause-stays_gone : goal.returns-clause-stays_gone
-returns-clause-stays_gone g c =
-    let allowed = ap (is_exhausted_for_any g.P.Gen.PtrGen.generations) c.self.view_is ∙ sym c.is_exhausted_for_any.ensures.value ∙ c.if-is_exhausted_for_any.false in
-    rw (← c.self.view_is) (λ counts. gone-continues c.self.inside.arena c.compress-answer.new.self (c.self.invariant counts) (compression (keys c.self.inside.arena.slots) (keys c.compress-answer.new.self.slots) ∷ []) (c.compress-answer.ensures.history refl (counts, allowed)))
+invariant_of-self g c = still_up_to g.S.NonZeroInxGenericStack.kind g.P.Gen.PtrGen.generations c.self.inside.arena c.compress-answer.new.self (values c.self.inside.arena.slots)
+    c.self.invariant (ap (is_exhausted_for_any g.P.Gen.PtrGen.generations) c.self.view_is ∙ sym c.is_exhausted_for_any.ensures.value ∙ c.if-is_exhausted_for_any.false) c.compress-answer.ensures.done c.compress-answer.ensures.len
 
 pub returns-clause-begun : goal.returns-clause-begun
 returns-clause-begun g c counts =
-    let s : ArenaState g.row.T.Denot = c.self.inside.arena in
-    c.compress-answer.ensures.begun (begun_with (keys s.slots)) (rw (← c.self.view_is) at (c.is_exhausted_for_any.ensures.begun counts))
+    c.compress-answer.ensures.begun (begun_with (keys c.self.inside.arena.slots)) (rw (← c.self.view_is) at (c.is_exhausted_for_any.ensures.begun counts))

@@ -1,50 +1,28 @@
-use Rattle.std.proofs.Common.{refl, sym, ap, ◌∷◌, [], ◌∙◌}
-use Rattle.triple_arena_traits.specs.ArenaState.{ArenaState}
-use Rattle.triple_arena_traits.specs.Walks.{keys}
-use Rattle.triple_arena_traits.specs.Histories.{begun_with, compression}
-use Rattle.triple_arena_direct.specs.laws.GoneLaws.{up_to-continues, gone-continues}
+use Rattle.std.proofs.Common.{sym, ap, ◌∙◌}
+use Rattle.triple_arena_traits.specs.Histories.{begun_with}
+use Rattle.triple_arena_traits.specs.Walks.{keys, values}
 use Rattle.triple_arena_direct.specs.StrictAnswers.{is_exhausted_for_any}
-use Rattle.triple_arena_direct.proofs.StrictAnswers.{step_done, moved_len, all_gone}
+use Rattle.triple_arena_direct.proofs.StrictCompacting.{unwrapped, still_up_to, compacted_strictly}
 use Rattle.triple_arena_direct.proofs.strict_arena.StrictArena.compress_recast_with.Goals as goal
 
-pub returns-in_ok-answer-clause-step : goal.returns-in_ok-answer-clause-step
-returns-in_ok-answer-clause-step g c =
-    let s : ArenaState g.row.T.Denot = c.self.inside.arena in
-    let allowed = ap (is_exhausted_for_any g.P.Gen.PtrGen.generations) c.self.view_is ∙ sym c.is_exhausted_for_any.ensures.value ∙ c.if-is_exhausted_for_any.false in
-    let done = c.in_ok-answer.ensures.done in
-    rw (← c.self.view_is) (done.0, (moved_len s _ _ done.0 done.2 c.in_ok-answer.ensures.len, step_done s _ _ _ _ _ allowed (ap (λ (t : ArenaState g.row.T.Denot). compression (keys s.slots) (keys t.slots) ∷ []) done.2.0) done.2))
-
 pub returns-in_ok-answer-clause-maps : goal.returns-in_ok-answer-clause-maps
-returns-in_ok-answer-clause-maps g c = rw c.allow.ensures (rw (← c.self.view_is) c.in_ok-answer.ensures.maps)
+returns-in_ok-answer-clause-maps g c = rw c.allow.ensures (rw (← c.self.view_is) c.in_ok-answer.ensures.map.maps)
 
-pub returns-in_ok-answer-clause-found : goal.returns-in_ok-answer-clause-found
-returns-in_ok-answer-clause-found g c = rw (← c.self.view_is) c.in_ok-answer.ensures.found
+pub returns-in_ok-answer-clause-compacted : goal.returns-in_ok-answer-clause-compacted
+returns-in_ok-answer-clause-compacted g c = rw (← c.self.view_is) (unwrapped _ (ap (is_exhausted_for_any g.P.Gen.PtrGen.generations) c.self.view_is ∙ sym c.is_exhausted_for_any.ensures.value ∙ c.if-is_exhausted_for_any.false) c.in_ok-answer.ensures.compacted)
 
-pub returns-in_ok-answer-clause-history : goal.returns-in_ok-answer-clause-history
-returns-in_ok-answer-clause-history g c counts =
-    let allowed = ap (is_exhausted_for_any g.P.Gen.PtrGen.generations) c.self.view_is ∙ sym c.is_exhausted_for_any.ensures.value ∙ c.if-is_exhausted_for_any.false in
-    rw (← c.self.view_is) (c.in_ok-answer.ensures.history refl (counts, allowed))
+pub returns-in_ok-answer-clause-fresh : goal.returns-in_ok-answer-clause-fresh
+returns-in_ok-answer-clause-fresh g c = rw (← c.self.view_is) (compacted_strictly g.S.NonZeroInxGenericStack.kind g.P.Gen.PtrGen.generations c.self.inside.arena c.compress_recast_with.new.this (values c.compress_recast_with.new.this.slots)
+    c.self.invariant (ap (is_exhausted_for_any g.P.Gen.PtrGen.generations) c.self.view_is ∙ sym c.is_exhausted_for_any.ensures.value ∙ c.if-is_exhausted_for_any.false) c.in_ok-answer.ensures.compacted.left c.in_ok-answer.ensures.size.len)
 
 pub invariant_of-self-else-is_exhausted_for_any : goal.invariant_of-self-else-is_exhausted_for_any
-invariant_of-self-else-is_exhausted_for_any g c counts =
-    let allowed = ap (is_exhausted_for_any g.P.Gen.PtrGen.generations) c.self.view_is ∙ sym c.is_exhausted_for_any.ensures.value ∙ c.if-is_exhausted_for_any.false in
-    up_to-continues c.self.inside.arena c.compress_recast_with.new.this (c.self.invariant counts) (compression (keys c.self.inside.arena.slots) (keys c.compress_recast_with.new.this.slots) ∷ []) (c.in_ok-answer.ensures.history refl (counts, allowed))
-
-pub returns-in_ok-answer-clause-gone_for_good : goal.returns-in_ok-answer-clause-gone_for_good
-returns-in_ok-answer-clause-gone_for_good g c =
-    let allowed = ap (is_exhausted_for_any g.P.Gen.PtrGen.generations) c.self.view_is ∙ sym c.is_exhausted_for_any.ensures.value ∙ c.if-is_exhausted_for_any.false in
-    rw (← c.self.view_is) (λ counts. all_gone c.self.inside.arena c.compress_recast_with.new.this (compression (keys c.self.inside.arena.slots) (keys c.compress_recast_with.new.this.slots)) (c.self.invariant counts) (c.in_ok-answer.ensures.history refl (counts, allowed)) refl)
-
-pub returns-in_ok-answer-clause-stays_gone : goal.returns-in_ok-answer-clause-stays_gone
-returns-in_ok-answer-clause-stays_gone g c =
-    let allowed = ap (is_exhausted_for_any g.P.Gen.PtrGen.generations) c.self.view_is ∙ sym c.is_exhausted_for_any.ensures.value ∙ c.if-is_exhausted_for_any.false in
-    rw (← c.self.view_is) (λ counts. gone-continues c.self.inside.arena c.compress_recast_with.new.this (c.self.invariant counts) (compression (keys c.self.inside.arena.slots) (keys c.compress_recast_with.new.this.slots) ∷ []) (c.in_ok-answer.ensures.history refl (counts, allowed)))
+invariant_of-self-else-is_exhausted_for_any g c = still_up_to g.S.NonZeroInxGenericStack.kind g.P.Gen.PtrGen.generations c.self.inside.arena c.compress_recast_with.new.this (values c.compress_recast_with.new.this.slots)
+    c.self.invariant (ap (is_exhausted_for_any g.P.Gen.PtrGen.generations) c.self.view_is ∙ sym c.is_exhausted_for_any.ensures.value ∙ c.if-is_exhausted_for_any.false) c.in_ok-answer.ensures.compacted.left c.in_ok-answer.ensures.size.len
 
 pub returns-in_err-answer-clause-begun : goal.returns-in_err-answer-clause-begun
 returns-in_err-answer-clause-begun g c counts =
-    rw (c.in_err-answer.ensures.refused, c.self.view_is) (c.is_exhausted_for_any.ensures.begun counts)
+    rw (c.in_err-answer.ensures.refused.0, c.self.view_is) (c.is_exhausted_for_any.ensures.begun counts)
 
 pub returns-in_ok-answer-clause-begun : goal.returns-in_ok-answer-clause-begun
 returns-in_ok-answer-clause-begun g c counts =
-    let s : ArenaState g.row.T.Denot = c.self.inside.arena in
-    c.in_ok-answer.ensures.begun (begun_with (keys s.slots)) (rw (← c.self.view_is) at (c.is_exhausted_for_any.ensures.begun counts))
+    c.in_ok-answer.ensures.compacted.begun (begun_with (keys c.self.inside.arena.slots)) (rw (← c.self.view_is) at (c.is_exhausted_for_any.ensures.begun counts))

@@ -20,7 +20,7 @@ returns-in-Ok-clause-kept c =
     let renamed = c.holders_follow.ensures.renamed (anew s) s.slots c.in-Ok.tickets.slots c.args.kept.now c.recast-renamed.new.self
     c.in-Ok.ensures.maps (sym none) (rw c.unresolved.ensures.unchanged at c.recast-renamed.ensures.after) in
     rw (← c.self.view_is) (kept_found ticket_numbers (anew s) s.slots c.in-Ok.leases.slots
-    (λ q live. (c.in-Ok.ensures.found q live).filled ∙ nothing_filled _) c.args.kept.now.items c.recast-renamed.new.self.items none renamed.holds)
+    (λ q live. (c.in-Ok.ensures.compacted.found q live).filled ∙ nothing_filled _) c.args.kept.now.items c.recast-renamed.new.self.items none renamed.holds)
 
 pub returns-in-Ok-clause-renamed : goal.returns-in-Ok-clause-renamed
 returns-in-Ok-clause-renamed c =

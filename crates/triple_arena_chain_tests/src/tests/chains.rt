@@ -1,11 +1,11 @@
-//! Tables of calls of chains, each with its answer. What a function takes that names chains hardly depends on how many
-//! calls it makes, so that one makes them all.
+//! Tables of calls of chains, each with its answer. Calls are made over any arena, a few in each function: one function that
+//! makes them all takes many times their seconds.
 
 use crate::tests::pointers::Pointers;
-use crate::tests::values::{Value, new_value, no_values};
+use crate::tests::values::{Live, Value, new_value, no_values};
 use std::alloc::Global;
 use std::process::Abort;
-use triple_arena::Arena;
+use triple_arena::{Arena, ArenaInsertTrait, CompactArenaTrait};
 use triple_arena_base::{Advancer, InvalidationOption};
 use triple_arena_chain::{ChainAdvancer, ChainError, Chains, DirectArena, Link, Place};
 use triple_arena_ptr::P0;
@@ -62,7 +62,7 @@ pub type Row = (Call, Answer, usize);
 #[derive(Debug, Drop)]
 pub enum Wrong {
     /// The call of this row, from 1, answers so, or there are so many entries, or so many values after it.
-    Row(usize, Answer, usize, usize),
+    Row(usize, Option<Answer>, usize, usize),
     /// So many values are left where the chains are dropped.
     Left(usize),
 }
@@ -71,87 +71,156 @@ pub enum Wrong {
 pub fn follow(rt: &impl Abort, alloc: Global, rows: &[Row]) -> Result<(), Wrong> {
     let live = no_values(rt, alloc);
     let mut chains: Chains<P0, Value, Arena<P0, Link<P0, Value>>> = Chains::new(alloc);
+    follow_on(rt, alloc, &mut chains, &live, rows)?;
+    drop(chains);
+    match live.get() {
+        0 => Ok(()),
+        left => Err(Wrong::Left(left)),
+    }
+}
+
+// Makes them on these chains.
+fn follow_on<A: CompactArenaTrait<P0, Link<P0, Value>> + ArenaInsertTrait<P0, Link<P0, Value>>>(
+    rt: &impl Abort,
+    alloc: Global,
+    chains: &mut Chains<P0, Value, A>,
+    live: &Live,
+    rows: &[Row],
+) -> Result<(), Wrong> {
     let mut entries = Pointers::new(alloc);
     let mut walk = chains.walk(entries.at(0));
     let mut number: usize = 0;
     for (call, wanted, len) in rows {
         number = number.wrapping_add(1);
-        let told = match *call {
-            Call::InsertNew(value) => {
-                inserted(rt, &mut entries, chains.insert_new(new_value(&live, value)))
-            }
-            Call::InsertBefore(at, value) => {
-                let place = Place::Before(entries.at(at));
-                let told = chains.insert(place, new_value(&live, value));
-                inserted(rt, &mut entries, told)
-            }
-            Call::InsertAfter(at, value) => {
-                let place = Place::After(entries.at(at));
-                let told = chains.insert(place, new_value(&live, value));
-                inserted(rt, &mut entries, told)
-            }
-            Call::PushBack(at, value) => {
-                let last = entries.at(at);
-                let told = chains.push_back(last, new_value(&live, value));
-                inserted(rt, &mut entries, told)
-            }
-            Call::Write(at, value) => match chains.get_mut(entries.at(at)) {
-                Some(held) => {
-                    write(held, new_value(&live, value));
-                    Answer::Is(true)
-                }
-                None => Answer::Is(false),
-            },
-            Call::Remove(at) => taken(chains.remove(entries.at(at)), live.get()),
-            Call::RemoveChain(at) => counted(chains.remove_chain(entries.at(at))),
-            Call::CutBefore(at) => done(chains.cut_before(entries.at(at))),
-            Call::CutAfter(at) => done(chains.cut_after(entries.at(at))),
-            Call::Join(last, first) => done(chains.join(entries.at(last), entries.at(first))),
-            Call::Compress => renamed(&mut entries, chains.compress(alloc)),
-            Call::Contains(at) => Answer::Is(chains.contains(entries.at(at))),
-            Call::Onwards(at) => {
-                let mut four = [0; 4];
-                let mut next = Some(entries.at(at));
-                for value in four.iter_mut() {
-                    if let Some(p) = next {
-                        *value = number_of(chains.get(p)).unwrap_or(0);
-                        next = chains.after(p);
-                    }
-                }
-                Answer::Four(four)
-            }
-            Call::Backwards(at) => {
-                let mut four = [0; 4];
-                let mut next = Some(entries.at(at));
-                for value in four.iter_mut() {
-                    if let Some(p) = next {
-                        *value = number_of(chains.get(p)).unwrap_or(0);
-                        next = chains.before(p);
-                    }
-                }
-                Answer::Four(four)
-            }
-            Call::Rest(at) => {
-                let rest = chains.rest(entries.at(at), alloc).expect(rt, "memory");
-                Answer::Entries(rest.len())
-            }
-            Call::Walk(at) => {
-                begin(&mut walk, chains.walk(entries.at(at)));
-                Answer::Done
-            }
-            Call::Advance => match walk.advance(&chains) {
-                Some(p) => met(chains.get(p)),
-                None => Answer::NoValue,
-            },
-        };
-        if told != *wanted || chains.len() != *len || live.get() != *len {
+        let told = inserting(rt, chains, &mut entries, live, *call)
+            .or(ending(alloc, chains, &mut entries, live, *call))
+            .or(linking(chains, &entries, live, *call))
+            .or(reading(rt, alloc, chains, &entries, *call))
+            .or(walking(chains, &mut walk, &entries, *call));
+        if told != Some(*wanted) || chains.len() != *len || live.get() != *len {
             return Err(Wrong::Row(number, told, chains.len(), live.get()));
         }
     }
-    drop(chains);
-    match live.get() {
-        0 => Ok(()),
-        left => Err(Wrong::Left(left)),
+    Ok(())
+}
+
+// The answer of a call that inserts.
+fn inserting<A: CompactArenaTrait<P0, Link<P0, Value>> + ArenaInsertTrait<P0, Link<P0, Value>>>(
+    rt: &impl Abort,
+    chains: &mut Chains<P0, Value, A>,
+    entries: &mut Pointers,
+    live: &Live,
+    call: Call,
+) -> Option<Answer> {
+    let told = match call {
+        Call::InsertNew(value) => chains.insert_new(new_value(live, value)),
+        Call::InsertBefore(at, value) => {
+            chains.insert(Place::Before(entries.at(at)), new_value(live, value))
+        }
+        Call::InsertAfter(at, value) => {
+            chains.insert(Place::After(entries.at(at)), new_value(live, value))
+        }
+        Call::PushBack(at, value) => chains.push_back(entries.at(at), new_value(live, value)),
+        _ => return None,
+    };
+    Some(inserted(rt, entries, told))
+}
+
+// The answer of a call that ends entries or pointers.
+fn ending<A: CompactArenaTrait<P0, Link<P0, Value>> + ArenaInsertTrait<P0, Link<P0, Value>>>(
+    alloc: Global,
+    chains: &mut Chains<P0, Value, A>,
+    entries: &mut Pointers,
+    live: &Live,
+    call: Call,
+) -> Option<Answer> {
+    match call {
+        Call::Remove(at) => Some(taken(chains.remove(entries.at(at)), live.get())),
+        Call::RemoveChain(at) => Some(counted(chains.remove_chain(entries.at(at)))),
+        Call::Compress => Some(renamed(entries, chains.compress(alloc))),
+        _ => None,
+    }
+}
+
+// The answer of a call that writes a value or links.
+fn linking<A: CompactArenaTrait<P0, Link<P0, Value>> + ArenaInsertTrait<P0, Link<P0, Value>>>(
+    chains: &mut Chains<P0, Value, A>,
+    entries: &Pointers,
+    live: &Live,
+    call: Call,
+) -> Option<Answer> {
+    match call {
+        Call::Write(at, value) => Some(Answer::Is(match chains.get_mut(entries.at(at)) {
+            Some(held) => {
+                write(held, new_value(live, value));
+                true
+            }
+            None => false,
+        })),
+        Call::CutBefore(at) => Some(done(chains.cut_before(entries.at(at)))),
+        Call::CutAfter(at) => Some(done(chains.cut_after(entries.at(at)))),
+        Call::Join(last, first) => Some(done(chains.join(entries.at(last), entries.at(first)))),
+        _ => None,
+    }
+}
+
+// The answer of a call that reads.
+fn reading<A: CompactArenaTrait<P0, Link<P0, Value>> + ArenaInsertTrait<P0, Link<P0, Value>>>(
+    rt: &impl Abort,
+    alloc: Global,
+    chains: &Chains<P0, Value, A>,
+    entries: &Pointers,
+    call: Call,
+) -> Option<Answer> {
+    match call {
+        Call::Contains(at) => Some(Answer::Is(chains.contains(entries.at(at)))),
+        Call::Onwards(at) => {
+            let mut four = [0; 4];
+            let mut next = Some(entries.at(at));
+            for value in four.iter_mut() {
+                if let Some(p) = next {
+                    *value = number_of(chains.get(p)).unwrap_or(0);
+                    next = chains.after(p);
+                }
+            }
+            Some(Answer::Four(four))
+        }
+        Call::Backwards(at) => {
+            let mut four = [0; 4];
+            let mut next = Some(entries.at(at));
+            for value in four.iter_mut() {
+                if let Some(p) = next {
+                    *value = number_of(chains.get(p)).unwrap_or(0);
+                    next = chains.before(p);
+                }
+            }
+            Some(Answer::Four(four))
+        }
+        Call::Rest(at) => {
+            let rest = chains.rest(entries.at(at), alloc).expect(rt, "memory");
+            Some(Answer::Entries(rest.len()))
+        }
+        _ => None,
+    }
+}
+
+// The answer of a call that walks.
+fn walking<A: CompactArenaTrait<P0, Link<P0, Value>> + ArenaInsertTrait<P0, Link<P0, Value>>>(
+    chains: &Chains<P0, Value, A>,
+    walk: &mut ChainAdvancer<P0>,
+    entries: &Pointers,
+    call: Call,
+) -> Option<Answer> {
+    match call {
+        Call::Walk(at) => {
+            *walk = chains.walk(entries.at(at));
+            Some(Answer::Done)
+        }
+        Call::Advance => match walk.advance(chains) {
+            Some(p) => Some(met(chains.get(p))),
+            None => Some(Answer::NoValue),
+        },
+        _ => None,
     }
 }
 
@@ -211,10 +280,6 @@ fn number_of(value: Option<&Value>) -> Option<u64> {
         Some(value) => Some(value.number),
         None => None,
     }
-}
-
-fn begin(walk: &mut ChainAdvancer<P0>, new: ChainAdvancer<P0>) {
-    *walk = new;
 }
 
 fn met(value: Option<&Value>) -> Answer {

@@ -1,9 +1,9 @@
-//! Tables of calls of sets of keys, each with its answer. As of chains, one function makes all calls.
+//! Tables of calls of sets of keys, each with its answer. As of chains, calls are made over any arenas, a few in each function.
 
 use crate::tests::pointers::Pointers;
 use std::alloc::Global;
 use std::process::Abort;
-use triple_arena::Arena;
+use triple_arena::{Arena, ArenaInsertTrait, CompactArenaTrait};
 use triple_arena_base::InvalidationOption;
 use triple_arena_chain::Link;
 use triple_arena_chain_uses::nets::{name_net, wire};
@@ -62,7 +62,7 @@ pub type Row = (Call, Answer, usize, usize);
 #[derive(Debug, Drop)]
 pub struct Wrong {
     row: usize,
-    told: Answer,
+    told: Option<Answer>,
     keys: usize,
     sets: usize,
 }
@@ -76,43 +76,30 @@ pub fn follow(rt: &impl Abort, alloc: Global, rows: &[Row]) -> Result<(), Wrong>
         Arena<P0, Link<P0, Member<P0, u64>>>,
         Arena<P0, Shared<u64>>,
     > = SurjectArena::new(alloc);
+    follow_on(rt, alloc, &mut sets, rows)
+}
+
+// Makes them on these sets.
+fn follow_on<
+    A: CompactArenaTrait<P0, Link<P0, Member<P0, u64>>>
+        + ArenaInsertTrait<P0, Link<P0, Member<P0, u64>>>,
+    B: ArenaInsertTrait<P0, Shared<u64>>,
+>(
+    rt: &impl Abort,
+    alloc: Global,
+    sets: &mut SurjectArena<P0, u64, u64, A, B>,
+    rows: &[Row],
+) -> Result<(), Wrong> {
     let mut keys = Pointers::new(alloc);
     let mut row: usize = 0;
     for (call, wanted, len_keys, len_vals) in rows {
         row = row.wrapping_add(1);
-        let told = match *call {
-            Call::Insert(key, value) => inserted(rt, &mut keys, sets.insert(key, value)),
-            Call::InsertKey(at, key) => {
-                let p = keys.at(at);
-                inserted(rt, &mut keys, sets.insert_key(p, key))
-            }
-            Call::Union(first, second) => united(sets.union(keys.at(first), keys.at(second))),
-            Call::Wire(first, second) => wired(wire(&mut sets, keys.at(first), keys.at(second))),
-            Call::NameNet(at, name) => Answer::Is(name_net(&mut sets, keys.at(at), name)),
-            Call::Write(at, value) => match sets.get_val_mut(keys.at(at)) {
-                Some(held) => {
-                    *held = value;
-                    Answer::Is(true)
-                }
-                None => Answer::Is(false),
-            },
-            Call::ReplaceVal(at, value) => replaced(sets.replace_val(keys.at(at), value)),
-            Call::RemoveKey(at) => gone(sets.remove_key(keys.at(at))),
-            Call::Remove(at) => removed(sets.remove(keys.at(at))),
-            Call::Compress => renamed(&mut keys, sets.compress(alloc)),
-            Call::Contains(at) => Answer::Is(sets.contains(keys.at(at))),
-            Call::GetKey(at) => Answer::Key(sets.get_key(keys.at(at)).copied()),
-            Call::Net(at, other) => {
-                let (p, q) = (keys.at(at), keys.at(other));
-                let value = sets.get_val(p).copied();
-                Answer::OnNet(value, sets.len_key_set(p), sets.in_same_set(p, q))
-            }
-            Call::KeySet(at) => {
-                let all = sets.key_set(keys.at(at), alloc).expect(rt, "memory");
-                Answer::Keys(all.len())
-            }
-        };
-        if told != *wanted || sets.len_keys() != *len_keys || sets.len_vals() != *len_vals {
+        let told = inserting(rt, sets, &mut keys, *call)
+            .or(joining(sets, &keys, *call))
+            .or(writing(sets, &keys, *call))
+            .or(ending(alloc, sets, &mut keys, *call))
+            .or(reading(rt, alloc, sets, &keys, *call));
+        if told != Some(*wanted) || sets.len_keys() != *len_keys || sets.len_vals() != *len_vals {
             return Err(Wrong {
                 row,
                 told,
@@ -122,6 +109,105 @@ pub fn follow(rt: &impl Abort, alloc: Global, rows: &[Row]) -> Result<(), Wrong>
         }
     }
     Ok(())
+}
+
+// The answer of a call that inserts.
+fn inserting<
+    A: CompactArenaTrait<P0, Link<P0, Member<P0, u64>>>
+        + ArenaInsertTrait<P0, Link<P0, Member<P0, u64>>>,
+    B: ArenaInsertTrait<P0, Shared<u64>>,
+>(
+    rt: &impl Abort,
+    sets: &mut SurjectArena<P0, u64, u64, A, B>,
+    keys: &mut Pointers,
+    call: Call,
+) -> Option<Answer> {
+    let told = match call {
+        Call::Insert(key, value) => sets.insert(key, value),
+        Call::InsertKey(at, key) => sets.insert_key(keys.at(at), key),
+        _ => return None,
+    };
+    Some(inserted(rt, keys, told))
+}
+
+// The answer of a call that makes one set of two.
+fn joining<
+    A: CompactArenaTrait<P0, Link<P0, Member<P0, u64>>>
+        + ArenaInsertTrait<P0, Link<P0, Member<P0, u64>>>,
+    B: ArenaInsertTrait<P0, Shared<u64>>,
+>(sets: &mut SurjectArena<P0, u64, u64, A, B>, keys: &Pointers, call: Call) -> Option<Answer> {
+    match call {
+        Call::Union(first, second) => Some(united(sets.union(keys.at(first), keys.at(second)))),
+        Call::Wire(first, second) => Some(wired(wire(sets, keys.at(first), keys.at(second)))),
+        _ => None,
+    }
+}
+
+// The answer of a call that writes a value.
+fn writing<
+    A: CompactArenaTrait<P0, Link<P0, Member<P0, u64>>>
+        + ArenaInsertTrait<P0, Link<P0, Member<P0, u64>>>,
+    B: ArenaInsertTrait<P0, Shared<u64>>,
+>(sets: &mut SurjectArena<P0, u64, u64, A, B>, keys: &Pointers, call: Call) -> Option<Answer> {
+    match call {
+        Call::NameNet(at, name) => Some(Answer::Is(name_net(sets, keys.at(at), name))),
+        Call::Write(at, value) => Some(Answer::Is(match sets.get_val_mut(keys.at(at)) {
+            Some(held) => {
+                *held = value;
+                true
+            }
+            None => false,
+        })),
+        Call::ReplaceVal(at, value) => Some(replaced(sets.replace_val(keys.at(at), value))),
+        _ => None,
+    }
+}
+
+// The answer of a call that ends keys or pointers.
+fn ending<
+    A: CompactArenaTrait<P0, Link<P0, Member<P0, u64>>>
+        + ArenaInsertTrait<P0, Link<P0, Member<P0, u64>>>,
+    B: ArenaInsertTrait<P0, Shared<u64>>,
+>(
+    alloc: Global,
+    sets: &mut SurjectArena<P0, u64, u64, A, B>,
+    keys: &mut Pointers,
+    call: Call,
+) -> Option<Answer> {
+    match call {
+        Call::RemoveKey(at) => Some(gone(sets.remove_key(keys.at(at)))),
+        Call::Remove(at) => Some(removed(sets.remove(keys.at(at)))),
+        Call::Compress => Some(renamed(keys, sets.compress(alloc))),
+        _ => None,
+    }
+}
+
+// The answer of a call that reads.
+fn reading<
+    A: CompactArenaTrait<P0, Link<P0, Member<P0, u64>>>
+        + ArenaInsertTrait<P0, Link<P0, Member<P0, u64>>>,
+    B: ArenaInsertTrait<P0, Shared<u64>>,
+>(
+    rt: &impl Abort,
+    alloc: Global,
+    sets: &SurjectArena<P0, u64, u64, A, B>,
+    keys: &Pointers,
+    call: Call,
+) -> Option<Answer> {
+    match call {
+        Call::Contains(at) => Some(Answer::Is(sets.contains(keys.at(at)))),
+        Call::GetKey(at) => Some(Answer::Key(sets.get_key(keys.at(at)).copied())),
+        Call::Net(at, other) => {
+            let (p, q) = (keys.at(at), keys.at(other));
+            let value = sets.get_val(p).copied();
+            Some(Answer::OnNet(value, sets.len_key_set(p), sets.in_same_set(p, q)))
+        }
+        Call::KeySet(at) => {
+            let all = sets.key_set(keys.at(at), alloc).expect(rt, "memory");
+            Some(Answer::Keys(all.len()))
+        }
+        _ => None,
+    }
 }
 
 fn inserted(rt: &impl Abort, keys: &mut Pointers, told: Result<P0, SurjectError>) -> Answer {

@@ -15,7 +15,7 @@ ghost use Rattle.triple_arena_session.specs.StrictStore.{tells_exhausted};
 ghost use Rattle.triple_arena_session.specs.Shown.{shown, IsSound};
 ghost use Rattle.triple_arena_session.specs.ElevenCommands.{eleven_commands, nine_replies};
 
-use crate::named_entries::answers;
+use crate::first_session::answers;
 use std::alloc::Global;
 use triple_arena_base::AllocError;
 use triple_arena_ptr::P0;

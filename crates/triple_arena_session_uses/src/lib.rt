@@ -11,6 +11,7 @@ pub mod at_any_time;
 pub mod audit;
 pub mod begun_sessions;
 pub mod compactions;
+pub mod first_session;
 pub mod named_entries;
 pub mod raises;
 pub mod rows;

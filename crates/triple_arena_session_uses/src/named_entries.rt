@@ -1,18 +1,18 @@
-//! Entries by name: commands to a new session, answered as by a store of names.
+//! Entries by name: one that is entered, texts, and strict sessions, answered as by a store of names.
 
-ghost use Rattle.std.specs.Prelude.{◌≡◌, ◌+◌, ◌-◌, ◌⊎◌, ℕ, List, true, false, Some, None, Result, is_ok, IfOk, IfSome, OnErr, take, length, slice_get, Contains};
+ghost use Rattle.std.specs.Prelude.{◌≡◌, ◌+◌, ◌-◌, ℕ, List, true, false, Some, None, Result, is_ok, IfOk, IfSome, OnErr, length, slice_get, Contains};
 ghost use Rattle.std.specs.List.{list_all, list_any};
 ghost use Rattle.triple_arena_session.specs.Lines.{lines_of};
 ghost use Rattle.triple_arena_session.specs.Forms.{HasForm};
 ghost use Rattle.triple_arena_session.specs.Command.{Command};
 ghost use Rattle.triple_arena_session.specs.NameStore.{next_name, IsStoreStep};
-ghost use Rattle.triple_arena_session.specs.Runs.{IsRun, RunsToWrap, TellsOfNoWrap, EndsInWrap};
-ghost use Rattle.triple_arena_session.specs.StoreRuns.{AnswersAsStore, is_named, is_no_memory, replies_without_compactions, replies_with_memory, without_compactions};
+ghost use Rattle.triple_arena_session.specs.Runs.{IsRun};
+ghost use Rattle.triple_arena_session.specs.StoreRuns.{is_named, is_no_memory, replies_without_compactions, replies_with_memory, without_compactions};
 ghost use Rattle.triple_arena_session.specs.Kind.TheVariants.{Heap};
 ghost use Rattle.triple_arena_session.specs.StrictStore.{tells_exhausted, StrictStore, IsStrictStoreStep};
 ghost use Rattle.triple_arena_session.specs.SessionState.{SessionState};
 ghost use Rattle.triple_arena_session.specs.Shown.{shown, IsSound};
-ghost use Rattle.triple_arena_session.specs.KindRun.{greatest, first_of_kind, IsStepOfKind};
+ghost use Rattle.triple_arena_session.specs.KindRun.{greatest, IsStepOfKind};
 ghost use Rattle.triple_arena_session.specs.TextRun.{StopsAtLine};
 ghost use Rattle.triple_arena_session.specs.Command.TheVariants.{Insert};
 ghost use Rattle.triple_arena_session.specs.Reply.TheVariants.{Given};
@@ -30,28 +30,6 @@ use triple_arena_session::laws::{forms_are_exact, lines_are_exact, names_are_new
 use triple_arena_session::{
     Command, Reply, Session, StrictSession, TextError, run_text, run_text_strict,
 };
-
-/// The replies to commands in a new session over the heap: one to each command, or up to the first
-/// that tells of a wrap. They are those of a new store of names. Refused only where there is no
-/// memory for the list of replies. Where the commands that ran are named ones, and no
-/// memory was refused, compactions change no other reply.
-pub fn answers(alloc: Global, commands: &[Command<u64>]) -> Result<Vec<Reply<u64>>, AllocError>
-    ensures ran { IfOk result (λ replies. (after : SessionState ℕ)
-        × RunsToWrap (IsStepOfKind Heap) (first_of_kind Heap) commands.now replies.items after) }
-    ensures whole { IfOk result (λ replies.
-        (TellsOfNoWrap replies.items × (length replies.items ≡ length commands.now))
-        ⊎ EndsInWrap replies.items) }
-    ensures store { IfOk result (λ replies.
-        AnswersAsStore (first_store Heap) (take (length replies.items) commands.now) replies.items) }
-    ensures unseen { IfOk result (λ replies.
-        let ran = take (length replies.items) commands.now in
-        list_all is_named ran ≡ true → list_any is_no_memory replies.items ≡ false
-        → replies_without_compactions ran replies.items
-        ≡ replies_with_memory (first_store Heap) (without_compactions ran)) }
-{
-    let mut session: Session<P0, u64> = Session::with_new_arena(alloc);
-    session.run(commands)
-}
 
 /// Enters a number that links to nothing in a sound session, and gives its name, which is the next
 /// one and has the number then; all other rows stay. `None` where no index is free or memory was

@@ -9,6 +9,7 @@ mod coupons;
 mod devices;
 mod files;
 mod flip_flop;
+mod on_disk;
 mod random;
 mod round_trips;
 mod set_points;

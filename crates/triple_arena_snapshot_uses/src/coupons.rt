@@ -18,9 +18,9 @@ use std::io::{Read, Write};
 use std::marker::Model;
 use triple_arena::{NonZeroInxGenericStack, NonZeroInxVec};
 use triple_arena_base::ReallocationError;
-use triple_arena_direct::{StrictArena, StrictError, load_strict_arena, save_strict_arena};
+use triple_arena_direct::{StrictArena, StrictError};
 use triple_arena_ptr::P3;
-use triple_arena_snapshot::{LoadError, SaveError};
+use triple_arena_snapshot::{LoadError, SaveError, load_strict_arena, save_strict_arena};
 
 /// Coupons, each for so many cents. Whoever keeps a coupon that was redeemed gets nothing by it, in this
 /// process or in one that goes on with the file: rather than give a coupon twice, none is redeemed any

@@ -3,6 +3,7 @@
 
 pub mod circuit;
 pub mod coupons;
+pub mod on_disk;
 pub mod set_points;
 
 pub use circuit::{Cell, Circuit, Net};

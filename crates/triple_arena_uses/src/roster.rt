@@ -1,6 +1,7 @@
 //! A roster of players, each under a pointer: an arena in a struct of one's own.
 
-ghost use Rattle.std.specs.Prelude.{◌≡◌, ◌≢◌, None, Some, IfOk, OnErr, option_copied};
+ghost use Rattle.std.specs.Prelude.{◌≡◌, ◌≢◌, ◌<◌, None, Some, IfOk, OnErr, IsOk, option_copied};
+ghost use Rattle.triple_arena.specs.ArenaState.{arena_len, capacity};
 ghost use Rattle.triple_arena.specs.Entries.{look_up};
 ghost use Rattle.triple_arena.specs.Pointers.{Pointer};
 
@@ -34,12 +35,14 @@ impl<P: Ptr> Roster<P> {
         }
     }
 
-    /// A player joins, and has a pointer. Where memory is refused, nothing changes.
+    /// A player joins, and has a pointer. Refused where there is no place left and no memory for more; then
+    /// nothing changes.
     pub fn join(&mut self, player: u32) -> Result<P, ReallocationError>
         ensures found { IfOk result (λ p. look_up self.new.slots (P.numbers p) ≡ Some player) }
         ensures others { IfOk result (λ p. (q : Pointer) → q.0 ≢ (P.numbers p).0
             → look_up self.new.slots q ≡ look_up self.old.slots q) }
         ensures refused { OnErr result (self.new ≡ self.old) }
+        ensures had_place { arena_len self.old < capacity self.old → IsOk result }
     {
         self.players.insert(player)
     }

@@ -8,8 +8,9 @@ use std::alloc::Global;
 use std::num::{NonZeroU8, NonZeroU16, NonZeroU32, NonZeroU64, NonZeroU128, NonZeroUsize};
 use std::test::*;
 use triple_arena_base::AllocError;
-use triple_arena_direct::PtrKind;
-use triple_arena_ptr::{NamedPtr, P0, P1, P2, P3, P4, P5, Ptr, PtrName, PtrNoGen, Q2, SmallPtr};
+use triple_arena_ptr::{
+    NamedPtr, P0, P1, P2, P3, P4, P5, Ptr, PtrKind, PtrName, PtrNoGen, Q2, SmallPtr,
+};
 use triple_arena_snapshot::{Codec, DecodeError, Fault, from_bytes, to_bytes};
 
 /// The name of pointers of two widths.

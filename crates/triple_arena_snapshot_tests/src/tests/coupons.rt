@@ -6,9 +6,9 @@ use std::io::ErrorKind;
 use std::process::Abort;
 use std::test::*;
 use triple_arena::{Arena, NonZeroInxGenericStack, NonZeroInxVec};
-use triple_arena_direct::{StrictArena, StrictError, load_strict_arena};
+use triple_arena_direct::{StrictArena, StrictError};
 use triple_arena_ptr::{P3, Ptr};
-use triple_arena_snapshot::{Fault, LoadError, SaveError, save_arena};
+use triple_arena_snapshot::{Fault, LoadError, SaveError, load_strict_arena, save_arena};
 use triple_arena_snapshot_uses::Coupons;
 use triple_arena_test_kit::{is, pointer};
 

@@ -9,10 +9,10 @@ use triple_arena::{
     ArenaSlot, NonZeroInxArray, NonZeroInxBoxedSlice, NonZeroInxGenericStack, NonZeroInxLimitedVec,
     NonZeroInxVec, P3,
 };
-use triple_arena_direct::{load_strict_arena, save_strict_arena};
 use triple_arena_direct_arena::DirectSlot;
 use triple_arena_snapshot::{
-    Fault, LoadError, load_arena, load_direct_arena, save_arena, save_direct_arena,
+    Fault, LoadError, load_arena, load_direct_arena, load_strict_arena, save_arena,
+    save_direct_arena, save_strict_arena,
 };
 use triple_arena_test_kit::is;
 

@@ -8,11 +8,10 @@ use std::test::*;
 use triple_arena::{
     Arena, ArenaDirectInsertTrait, ArenaSlot, ArenaTrait, NonZeroInxGenericStack, NonZeroInxVec, P0,
 };
-use triple_arena_direct::{load_strict_arena, save_strict_arena};
 use triple_arena_direct_arena::{DirectArena, DirectSlot};
 use triple_arena_snapshot::{
     DecodeError, Fault, decode_arena, decode_direct_arena, load_arena, load_direct_arena,
-    save_arena, save_direct_arena,
+    load_strict_arena, save_arena, save_direct_arena, save_strict_arena,
 };
 use triple_arena_test_kit::{is, pointer};
 

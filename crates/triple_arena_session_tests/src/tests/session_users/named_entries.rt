@@ -1,7 +1,8 @@
 use super::new_sessions::{new_session, new_strict_session, replies};
 use triple_arena_session::Command;
+use triple_arena_session_uses::first_session::answers;
 use triple_arena_session_uses::named_entries::{
-    answers, answers_after_a_text, enter, run_to_malformed, runs_to_its_end, strict_answers,
+    answers_after_a_text, enter, run_to_malformed, runs_to_its_end, strict_answers,
 };
 use triple_arena_test_kit::is;
 

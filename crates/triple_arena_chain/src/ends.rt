@@ -83,7 +83,8 @@ impl<P: Ptr, T, A: CompactArenaTrait<P, Link<P, T>> + ArenaInsertTrait<P, Link<P
         ensures open_after { OnOk result (after_at (nodes self.old) (P.numbers last) ≡ None) }
         ensures open_before { OnOk result (before_at (nodes self.old) (P.numbers first) ≡ None) }
 
-        // Refused: nothing has changed. A pointer found nothing, or one had that neighbour.
+        // Refused: nothing has changed. A pointer found nothing, or the one had an entry after it, or the other
+        // one before it.
         ensures refused { OnErr result (self.new ≡ self.old) }
         ensures refusal { IfErr result
             (KeepsApart (nodes self.old) (P.numbers last) (P.numbers first)) }

@@ -29,7 +29,7 @@ impl<P: Ptr, T, A: CompactArenaTrait<P, Link<P, T>> + ArenaInsertTrait<P, Link<P
     pub fn remove_chain(&mut self, p: P) -> Result<InvalidationOption<usize>, ChainError>
     where
         T: Drop,
-        // Done: the entries of the chain are gone, so many as comes back, told with a wrap if there was one.
+        // Done: the entries of the chain are gone; how many comes back, told with a wrap if there was one.
         ensures removed { OnOk result
             (IsChainRemoved (nodes self.old) (P.numbers p) (nodes self.new)) }
         ensures len { IfOk result

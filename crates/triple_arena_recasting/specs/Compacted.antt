@@ -26,7 +26,7 @@ module _ {A T : Type 0} (slots : A → List (Option (ℕ × T))) where
 
   module _ (fits : History → A → Type 0) (compresses : List T → A → Type 0) (rank : Pointer → Pointer) (generations : Generations) (wraps reset : Bool) where
     -- each entry stands at the pointer that `rank` gives it, and is found there with a value that was made of the old one.
-    -- Without a reset and a wrap a history goes on, and in each case one can begin anew
+    -- Where generations count, without a reset or a wrap, a history goes on; in each case one can begin anew, if one fitted
     pub record IsCompacted (AreMade : List T → List T → Type 0) (IsFoundMade : Option T → Option T → Type 0) (old new : A) : Type 0 where
       pub ranked : keys (slots new) ≡ map rank (keys (slots old))
       pub made : AreMade (values (slots old)) (values (slots new))

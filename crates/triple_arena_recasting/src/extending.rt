@@ -28,7 +28,8 @@ pub fn extend<P: Ptr, T: Drop, A: ArenaInsertTrait<P, T>, U: IntoIterator<Item =
     requires { (it : U.IntoIter) → U.into_iter_gives values it
         → U.IntoIter.can_next it × IsFinite (U.IntoIter.remaining it) }
 
-    // These values came and were inserted, and the iterator has ended, or has lent the next.
+    // These values came and were inserted, and the iterator has ended, or has given one more, which was
+    // refused.
     ensures came { (it : U.IntoIter) × (came : List (Pointer × T)) × U.into_iter_gives values it
         × EntriesCame A.slots A.fits this.old came this.new
         × (this.new ≡ all_inserted A.inserted A.grown this.old (values_of came))

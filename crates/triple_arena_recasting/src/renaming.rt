@@ -117,7 +117,7 @@ pub fn compress_recast_with<P: Ptr, T: Recast<P>, A: CompactArenaTrait<P, T>, H:
     reset_generation: bool,
 ) -> Result<InvalidationOption<DirectArena<P, P>>, CompactError<P>>
     // Done: the map leads from the old pointers to the new ones. The arena is compacted, and each
-    // pointer that its values hold is renamed. Each of these found an entry.
+    // pointer that its values or the holder hold is renamed. Each of these found an entry.
     ensures map { IfOk result (TellsMap P.numbers (A.rank this.old reset_generation) (A.slots this.old)
         (A.compression_wraps this.old reset_generation)) }
     ensures compacted { OnOk result (IsCompactedRenaming A.slots A.fits
@@ -202,7 +202,7 @@ pub(crate) fn compress_renaming<P: Ptr, T: Recast<P>, A: CompactArenaTrait<P, T>
     requires resolved { first_unresolved P.numbers (A.slots this.old)
         (held_all T.held (values (A.slots this.old))) ≡ None }
 
-    // The map has the new pointers, the arena is compacted, and tells of a wrap.
+    // The map has the new pointers, the arena is compacted, and the answer tells of a wrap.
     ensures answer { result ≡ told (A.compression_wraps this.old reset_generation) tt }
     ensures maps { MapsPointers P.numbers (A.rank this.old reset_generation)
         (A.slots this.old) images.new.slots }
@@ -235,7 +235,7 @@ fn resolved_with<
     ensures resolved { OnOk result (first_unresolved P.numbers (A.slots this.old)
         (held_all T.held (values (A.slots this.old)) ++ H.held holder.old) ≡ None) }
 
-    // Refused: the error tells why, and it is not memory that is there.
+    // Refused: the error tells why, and memory isn't refused where it is there.
     ensures refusal { new_limit K.kind ≡ None
         → IfErr result (Refuses (entry_count (A.slots this.old))
         (first_unresolved P.numbers (A.slots this.old)
@@ -270,7 +270,7 @@ pub(crate) fn resolved_map<
     ensures resolved { OnOk result (first_unresolved P.numbers (A.slots this.old)
         (held_all T.held (values (A.slots this.old))) ≡ None) }
 
-    // Refused: the error tells why, and it is not memory that is there.
+    // Refused: the error tells why, and memory isn't refused where it is there.
     ensures refusal { new_limit K.kind ≡ None
         → IfErr result (Refuses (entry_count (A.slots this.old))
         (first_unresolved P.numbers (A.slots this.old)

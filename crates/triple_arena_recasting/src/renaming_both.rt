@@ -30,8 +30,8 @@ use triple_arena_traits::{ArenaTrait, CompactArenaTrait, recast_entries};
 /// pointer to the first, in its own values and then in the second's; then so of the second, its own
 /// values first. `First` or `Second` tells to which arena the refusal belongs: `Reallocation` only
 /// where that one has an entry, and else `Unresolved` with the first pointer to it that finds no
-/// entry. `Second` comes only where each pointer to the first finds one. In each case nothing has
-/// changed, in either arena.
+/// entry. `Second` comes only where each pointer to the first finds one. Refused, nothing has changed,
+/// in either arena.
 ///
 /// A type of values says of both kinds of pointers which it holds; of a kind that it holds none of,
 /// by `held_nothing`. So no relation is forgotten, but for a pointer that a `held` leaves out.
@@ -111,8 +111,8 @@ pub fn compress_recast_both<
 ///
 /// The holder is asked before anything changes, of each arena behind the values of both: first all
 /// that belongs to the first arena, and then so of the second. What is refused is as of
-/// [`compress_recast_both`], with the holder's pointers last. In each case nothing has changed, in
-/// either arena or in the holder.
+/// [`compress_recast_both`], with the holder's pointers last. Refused, nothing has changed, in either
+/// arena or in the holder.
 ///
 /// The holder says of both kinds of pointers which it holds, and they have to stand apart in it, too.
 /// A pointer that its `held` leaves out keeps its old name, and no clause can find that.
@@ -145,7 +145,8 @@ pub fn compress_recast_both_with<
         ⟦<H as Recast<Q>>⟧.held ⟦<H as Recast<Q>>⟧.refill }
 
     // Done: each map leads from the old pointers of its arena to the new ones. Each arena is compacted,
-    // and each pointer of both kinds that its values hold is renamed. Each of these found an entry.
+    // and each pointer of both kinds that its values or the holder hold is renamed. Each of these found
+    // an entry.
     ensures maps { IfOk result (λ answers.
         TellsMap P.numbers (A.rank first.old reset_generation) (A.slots first.old)
         (A.compression_wraps first.old reset_generation) answers.0
@@ -238,7 +239,7 @@ fn resolved_beside<
         ((held_all T.held (values (A.slots this.old))
         ++ held_all U.held (values (B.slots beside.old))) ++ H.held holder.old) ≡ None) }
 
-    // Refused: the error tells why, and it is not memory that is there.
+    // Refused: the error tells why, and memory isn't refused where it is there.
     ensures refusal { new_limit K.kind ≡ None
         → IfErr result (Refuses (entry_count (A.slots this.old))
         (first_unresolved P.numbers (A.slots this.old)

@@ -150,7 +150,7 @@ pub(crate) trait SessionArena<P: Ptr, T, S: NonZeroInxGenericStack<ArenaSlot<P, 
         ensures resolved { OnOk result (first_unresolved P.numbers (state self.old).slots
             (held_all T.held (values (state self.old).slots)) ≡ None) }
 
-        // Refused: nothing has changed, and it is known why.
+        // Refused: nothing has changed, and the error tells why.
         ensures refused { OnErr result (state self.new ≡ state self.old) }
         ensures refusal { IfErr result (Refuses (arena_len (state self.old))
             (first_unresolved P.numbers (state self.old).slots

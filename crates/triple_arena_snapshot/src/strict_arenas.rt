@@ -73,6 +73,7 @@ pub fn save_strict_arena<P: Ptr, T: Codec, A: SavedStrictly<P, T>, W: Write>(
 ) -> Result<A::Arena, (A, SaveError)>
 where
     P::Gen: GenerationCodec,
+    // Done: the file of the arena inside is written, which fits, and that arena comes back.
     ensures written { OnOk result (Appends (W.contents output.old) (W.contents output.new)
         (file_of ((arena_coding P.Inx.greatest P.Gen.width (A.state strict).limit P.Gen.numbered
         T.coding).encoding (arena_content T.content (A.state strict))))) }
@@ -80,6 +81,8 @@ where
         (arena_coding P.Inx.greatest P.Gen.width (A.state strict).limit P.Gen.numbered T.coding)
         (arena_content T.content (A.state strict))) }
     ensures inside { IfOk result (λ arena. A.inside arena ≡ A.state strict) }
+
+    // Refused: the strict arena comes back as it was, and the error tells how much was written.
     ensures refused { IfErr result (λ old. A.state old.0 ≡ A.state strict) }
     ensures cut { IfErr result (λ old. SaveFails old.1 (W.contents output.old)
         (W.contents output.new) (file_of ((arena_coding P.Inx.greatest P.Gen.width
@@ -114,9 +117,11 @@ pub fn load_strict_arena<
 where
     P::Gen: GenerationCodec,
     requires { S.items stack ≡ [] }
+    // What is read of any file.
     ensures read { IfSome (R.remaining input.old) (λ bytes. LoadsFrom (arena_content T.content) result
         (up_to_counter P.Gen.generations.counting (file_reading (arena_coding P.Inx.greatest
         P.Gen.width (S.limit stack) P.Gen.numbered T.coding).decoding bytes))) }
+
     // What was saved is loaded, unless memory is refused or the reader fails.
     ensures again { (k : List (Option (ℕ × T.Content)) × (ℕ × List ℕ))
         → FitsStrictly P.Gen.generations.counting (arena_coding P.Inx.greatest P.Gen.width
@@ -124,12 +129,18 @@ where
         → R.remaining input.old ≡ Some (file_of
         ((arena_coding P.Inx.greatest P.Gen.width (S.limit stack) P.Gen.numbered T.coding).encoding k))
         → LoadsFrom (arena_content T.content) result (Ok k) }
+
     // A file of which one byte was changed is refused.
     ensures change_found { (saved front rest : List ℕ) (b c : ℕ) → b < 256 → b ≢ c
         → file_of saved ≡ front ++ b ∷ rest → R.remaining input.old ≡ Some (front ++ c ∷ rest)
         → IsErr result }
+
+    // Loaded: the limit is that of the stack, and the reader is at its end.
     ensures limit { IfOk result (λ strict. strict.limit ≡ S.limit stack) }
     ensures end { OnOk result (IsAtEnd (R.remaining input.new)) }
+
+    // Loaded of what was saved: each pointer finds what it found, the next insertion gives the same pointer,
+    // what was gone for good is, and each history that fitted fits.
     ensures found { (saved : ArenaState T) → FitsStrictly P.Gen.generations.counting
         (arena_coding P.Inx.greatest P.Gen.width (S.limit stack) P.Gen.numbered T.coding)
         (arena_content T.content saved)
@@ -155,6 +166,8 @@ where
         → R.remaining input.old ≡ Some (file_of ((arena_coding P.Inx.greatest P.Gen.width
         (S.limit stack) P.Gen.numbered T.coding).encoding (arena_content T.content saved)))
         → IfOk result (λ strict. Continues Fits saved [] strict) }
+
+    // Loaded of any file: a history can begin with the pointers that stand.
     ensures begun { P.Gen.generations.counting ≡ true
         → IfOk result (λ strict. Fits (begun_with (keys strict.slots)) strict) }
 {

@@ -6,8 +6,8 @@ use Rattle.triple_arena.specs.Histories.{History, compression, begun_with, Count
 use Rattle.triple_arena.specs.Walks.{keys}
 use Rattle.triple_arena_surject.specs.Surject.{SurjectState, found_at, IsRenamed}
 
--- every key is in its set under its new name, and no index is above the number of keys. Without a wrap a history of the arena
--- of keys goes on, and in each case one can begin anew
+-- every key is in its set under its new name, and no index is above the number of keys. Where generations count, without a
+-- wrap, a history of the arena of keys goes on; in each case one can begin anew, if one fitted
 pub record KeepsSets {A K V X : Type 0} (slots : A → List (Option (ℕ × X))) (fits : History → A → Type 0) (generations : Generations) (wraps : Bool) (rename : Pointer → Pointer) (old new : SurjectState A K V) : Type 0 where
   pub renamed : IsRenamed old rename new
   pub packed : (p : Pointer) → IsSome (found_at new p) → p.0 ≤ new.len_keys

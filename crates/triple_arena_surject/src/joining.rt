@@ -28,7 +28,7 @@ impl<
     ///
     /// `NoEntry` exactly where one of the pointers finds nothing; then nothing changes.
     pub fn union(&mut self, p: P, q: P) -> Result<Option<V>, SurjectError>
-        // Done: where they were two sets, they are one, and the value of the one comes back.
+        // Done: where they were two sets, they are one, and the value of the set that goes comes back.
         ensures united { IfOk result (λ gives. IsSome gives
             → IsUnion self.old (P.numbers p) (P.numbers q) gives self.new) }
         ensures together { OnOk result (AreTogether self.new (P.numbers p) (P.numbers q)) }
@@ -45,8 +45,8 @@ impl<
             ↔ ((found_at self.old (P.numbers p) ≡ None) ⊎ (found_at self.old (P.numbers q) ≡ None)) }
         ensures refusal { IfErr result (λ refusal. refusal ≡ SurjectError.NoEntry) }
 
-        // In each case who was together is, and no others are but by this union. Each key stays under its pointer, and one
-        // whose set has another name is of a set twice as large.
+        // In each case those that were together are, and no others but by this union. Each key stays under its pointer, and
+        // one whose set has another name is of a set at least twice as large.
         ensures stays { (r t : Pointer) → AreTogether self.old r t → AreTogether self.new r t }
         ensures joined { (r t : Pointer) → AreTogether self.new r t
             → AreTogether self.old r t ⊎ AreOfBoth self.old (P.numbers p) (P.numbers q) r t }

@@ -27,11 +27,15 @@ pub trait Entering<P: Ptr, T>: Sized {
 
     /// As [`into_strict`].
     fn close(self) -> Result<Self::Strict, Self>
+        // Done: inside is the arena as it is, with no entry past its counter. Where generations count, a
+        // history can begin.
         ensures made { IfOk result (λ strict. state strict ≡ inside self) }
         ensures allowed { OnOk result ((P.Gen.generations.counting
             && is_any_past (inside self).counter (inside self).slots) ≡ false) }
         ensures begun { P.Gen.generations.counting ≡ true
             → IfOk result (λ strict. Fits (begun_with (keys (state strict).slots)) (state strict)) }
+
+        // Refused: an entry is past the counter, and the arena comes back as it was.
         ensures refusal { OnErr result ((P.Gen.generations.counting
             && is_any_past (inside self).counter (inside self).slots) ≡ true) }
         ensures refused { IfErr result (λ arena. inside arena ≡ inside self) };
@@ -59,11 +63,15 @@ impl<P: Ptr, T, S: NonZeroInxGenericStack<ArenaSlot<P, T>>> Entering<P, T> for A
 /// Refused exactly where generations count and an entry is of one past the counter, as after the counter
 /// wrapped or was set back; then the arena comes back as it was.
 pub fn into_strict<P: Ptr, T, A: Entering<P, T>>(arena: A) -> Result<A::Strict, A>
+    // Done: inside is the arena as it is, with no entry past its counter. Where generations count, a history
+    // can begin.
     ensures made { IfOk result (λ strict. A.state strict ≡ A.inside arena) }
     ensures allowed { OnOk result ((P.Gen.generations.counting
         && is_any_past (A.inside arena).counter (A.inside arena).slots) ≡ false) }
     ensures begun { P.Gen.generations.counting ≡ true
         → IfOk result (λ strict. Fits (begun_with (keys (A.state strict).slots)) (A.state strict)) }
+
+    // Refused: an entry is past the counter, and the arena comes back as it was.
     ensures refusal { OnErr result ((P.Gen.generations.counting
         && is_any_past (A.inside arena).counter (A.inside arena).slots) ≡ true) }
     ensures refused { IfErr result (λ old. A.inside old ≡ A.inside arena) }

@@ -1,5 +1,5 @@
 -- What an arena answers whose counter is not exhausted, as strict arenas answer it.
-use Rattle.std.proofs.Common.{◌≡◌, ◌<◌, ◌≤◌, arith, ℕ, ◌&&◌, ◌||◌, Bool, true, false, not, List, [], ◌∷◌, length, Option, Some, None, is_some, IsSome, Result, Ok, Err, IsOk, IfOk, OnOk, OnErr, refl, sym, ap, ◌∙◌, inl, inr, true≢false}
+use Rattle.std.proofs.Common.{◌≡◌, ◌<◌, ◌≤◌, arith, ℕ, ◌&&◌, ◌||◌, Bool, true, false, not, List, [], ◌∷◌, length, Option, Some, None, is_some, IsSome, Result, Ok, Err, IsOk, IfOk, OnOk, OnErr, refl, sym, ap, subst, ◌∙◌, inl, inr, true≢false}
 use Rattle.std.proofs.lemmas.Bool.{cases_lt}
 use Rattle.std.specs.Option.{option_map, ok_or}
 use Rattle.std.specs.Result.{result_map_both}
@@ -91,6 +91,15 @@ module _ {P A : Type 0} (numbers : P → Pointer) (q : Pointer) where
   on_renewed exhausted None (Ok x) Q is done = absurd cc
   on_renewed exhausted (Some y) (Ok x) Q is done = done refl
 
+  -- and of its pointer
+  pub at_renewed : (Q : Pointer → Type 0) (exhausted : Bool) (found : Option A) (r : Result P StrictError) → result_map_both numbers (λ e. e) r ≡ strict_of exhausted (option_map (λ _. q) found) → (IsSome found → Q q) → IfOk r (λ x. Q (numbers x))
+  at_renewed Q exhausted found (Err e) is done = tt
+  at_renewed Q exhausted None (Ok x) is done = absurd cc
+  at_renewed Q true (Some y) (Ok x) is done = absurd cc
+  at_renewed Q false (Some y) (Ok x) is done =
+      let same : numbers x ≡ q = cc in
+      subst Q (sym same) (done refl)
+
   pub step_renewed : {T : Type 0} (s t : ArenaState T) (exhausted : Bool) (found : Option A) (r : Result P StrictError) (call : Pointer → ModelCall) (after : ArenaState T) → result_map_both numbers (λ e. e) r ≡ strict_of exhausted (option_map (λ _. q) found) → OnOk r (IsTouched after t) → OnErr r (IsTouched s t) → IsUnless (not (is_some found) || exhausted) (call q) after s (calls_if_ok r (λ x. call (numbers x))) t
   step_renewed s t exhausted None (Ok x) call after is done kept = absurd cc
   step_renewed s t true (Some y) (Ok x) call after is done kept = absurd cc
@@ -100,6 +109,11 @@ module _ {P A : Type 0} (numbers : P → Pointer) (q : Pointer) where
   step_renewed s t exhausted None (Err e) call after is done kept = (refl, kept)
   step_renewed s t true (Some y) (Err e) call after is done kept = (refl, kept)
   step_renewed s t false (Some y) (Err e) call after is done kept = absurd cc
+
+-- where the counter is exhausted, and an entry stands, none can be ended
+pub cannot_end_if : (live exhausted : Bool) → (exhausted && live) ≡ true → (not live || exhausted) ≡ true
+cannot_end_if live true tested = rw tested refl
+cannot_end_if live false tested = absurd (true≢false (sym tested))
 
 -- a call that was refused, and one that was done, where it was tested before
 pub step_refused : {T : Type 0} (s after : ArenaState T) (call : ModelCall) (exhausted : Bool) → exhausted ≡ true → IsUnless exhausted call after s [] s
@@ -117,30 +131,6 @@ moved_len s t counter new is len = sym (count-closed_up counter new) ∙ sym (ap
 pub mapped_test : {A : Type 0} (q : Pointer) (exhausted : Bool) (found : Option A) → (exhausted && is_some found) ≡ false → (exhausted && is_some (option_map (λ (_ : A). q) found)) ≡ false
 mapped_test q exhausted None tested = tested
 mapped_test q exhausted (Some x) tested = tested
-
--- the history of a call that ends the entry of a pointer, where an exhausted counter was tested before
-module _ {T : Type 0} (kind : StackKind) (generations : Generations) (s t : ArenaState T) (p : Pointer) where
-  pub removed_history : (told : InvalidationResult T) (r : Result T StrictError) → r ≡ ok_or (allowed told) InvalidPtr → told ≡ told_of (is_exhausted generations s) (look_up s.slots p) → (is_exhausted generations s && is_some (look_up s.slots p)) ≡ false → (IsSome (look_up s.slots p) → IsTouched (removed (raise generations) s p.0) t) → (look_up s.slots p ≡ None → IsTouched s t) → generations.counting ≡ true → Continues Fits s (calls_if_ok r (λ _. removal p)) t
-  removed_history told r is answer tested done kept counts =
-      let exhausted = is_exhausted generations s in
-      let found = look_up s.slots p in
-      let strict : r ≡ strict_of exhausted found = is ∙ answered exhausted found told answer tested in
-      Continues-strict kind generations counts s (to_remove p) (calls_if_ok r (λ _. removal p)) t
-      (step_of s t exhausted found r (removal p) (removed (raise generations) s p.0) strict
-      (if_found exhausted found r (IsTouched (removed (raise generations) s p.0) t) strict done)
-      (kept_of s t exhausted found r strict tested kept))
-
-  pub invalidated_history : {P : Type 0} (numbers : P → Pointer) (told : InvalidationResult P) (r : Result P StrictError) → r ≡ ok_or (allowed told) InvalidPtr → map_told numbers told ≡ told_of (is_exhausted generations s) (option_map (λ _. (p.0, raise generations s.counter)) (look_up s.slots p)) → (is_exhausted generations s && is_some (look_up s.slots p)) ≡ false → (IsSome (look_up s.slots p) → IsTouched (invalidated (raise generations) s p.0) t) → (look_up s.slots p ≡ None → IsTouched s t) → generations.counting ≡ true → Continues Fits s (calls_if_ok r (λ q. invalidation p (numbers q))) t
-  invalidated_history numbers told r is answer tested done kept counts =
-      let exhausted = is_exhausted generations s in
-      let found = look_up s.slots p in
-      let q : Pointer = (p.0, raise generations s.counter) in
-      let strict : result_map_both numbers (λ e. e) r ≡ strict_of exhausted (option_map (λ _. q) found) =
-      ap (result_map_both numbers (λ e. e)) is ∙ mapped_answer numbers exhausted (option_map (λ _. q) found) told answer (mapped_test q exhausted found tested) in
-      Continues-strict kind generations counts s (to_invalidate p) (calls_if_ok r (λ x. invalidation p (numbers x))) t
-      (step_renewed numbers q s t exhausted found r (λ x. invalidation p x) (invalidated (raise generations) s p.0) strict
-      (on_renewed numbers q exhausted found r (IsTouched (invalidated (raise generations) s p.0) t) strict done)
-      (kept_renewed numbers q s t exhausted found r strict tested kept))
 
 -- an insertion is a step, which only a full arena refuses
 pub step_inserted : {P E T : Type 0} (numbers : P → Pointer) (kind : StackKind) (generations : Generations) (s t : ArenaState T) (value : T) (r : Result P E) → IsWellFormed s → (arena_len s < capacity s → IsOk r) → IfOk r (λ p. numbers p ≡ next_pointer s) → OnOk r (IsTouched (inserted (grown kind s) value) t) → OnErr r (t ≡ s) → IsStrictStep kind generations s (to_insert value) (calls_if_ok r (λ p. insertion (numbers p))) t

@@ -12,7 +12,7 @@ use Rattle.triple_arena_traits.specs.ArenaState.{ArenaState, arena_len, capacity
 use Rattle.triple_arena_traits.specs.Insertion.{next_pointer, inserted}
 use Rattle.triple_arena_traits.specs.SlotSteps.{IsTouched, touched, insertion_steps}
 use Rattle.triple_arena_traits.specs.FreeList.{tidied}
-use Rattle.triple_arena_traits.specs.Reallocation.{with_limit}
+use Rattle.triple_arena_traits.specs.Reallocation.{reallocated, with_limit}
 use Rattle.triple_arena_traits.specs.DisjointEntries.{WorkedAtEntries}
 use Rattle.triple_arena_traits.specs.Histories.{insertion, resizing}
 use Rattle.triple_arena_traits.specs.laws.EntryLaws.{by_case, same-grown, slots-inserted, slots-tidied}
@@ -22,7 +22,8 @@ use Rattle.triple_arena_traits.specs.laws.WellFormedLaws.{kept-inserted, place_f
 use Rattle.triple_arena_traits.specs.laws.LookUpLaws.{inserted_elsewhere}
 use Rattle.triple_arena_traits.proofs.Inserted.{found_inserted}
 use Rattle.triple_arena_direct.specs.Gone.{IsGoneForGood}
-use Rattle.triple_arena_direct.specs.StrictCalls.{IsStrictStep, to_insert, to_write_each, to_limit}
+use Rattle.triple_arena_direct.specs.StrictCalls.{IsStrictStep, to_insert, to_write_each, to_reallocate, to_limit}
+use Rattle.triple_arena_direct.specs.StrictDone.{KeepsLookUps}
 
 -- an entry is found under its pointer
 pub found_at : {T : Type 0} (slots : List (Option (ℕ × T))) (i generation : ℕ) (value : T) → entry_in slots i ≡ Some (generation, value) → look_up slots (i, generation) ≡ Some value
@@ -46,6 +47,11 @@ module _ {T : Type 0} (kind : StackKind) (generations : Generations) where
   limited s t x (Ok a) done refused = (refl, inl done)
   limited s t x (Err e) done refused = (refl, inr refused)
 
+  -- a reallocation that was done, or refused
+  pub reallocating : {A E : Type 0} (s t : ArenaState T) (m : ℕ) (r : Result A E) → OnOk r (IsTouched (reallocated kind s m) t) → OnErr r (IsTouched (tidied s) t) → IsStrictStep kind generations s (to_reallocate m) (resizing ∷ []) t
+  reallocating s t m (Ok a) done refused = (refl, inl done)
+  reallocating s t m (Err e) done refused = (refl, inr refused)
+
   -- an insertion where there is a place
   pub reserved : (s t : ArenaState T) (p : Pointer) (value : T) → IsWellFormed s → arena_len s < capacity s → p ≡ next_pointer s → t ≡ touched (insertion_steps s) (inserted s value) → IsStrictStep kind generations s (to_insert value) (insertion p ∷ []) t
   reserved s t p value well place pointer is =
@@ -65,18 +71,18 @@ module _ {T : Type 0} where
     omega (arith, gone.1, (kept-inserted s value).0),
   )
 
-module _ {A E T : Type 0} (s t : ArenaState T) where
-  -- a call that changes the room, or, where it is refused, tidies the free list alone, leaves what every pointer finds
-  pub kept_if_ok : (after : ArenaState T) (r : Result A E) → OnOk r (IsTouched after t) → OnErr r (IsTouched (tidied s) t) → KeepsEntries s.slots after.slots → (q : Pointer) → look_up t.slots q ≡ look_up s.slots q
-  kept_if_ok after (Ok a) done refused kept q =
-      ap (λ (u : ArenaState T). look_up u.slots q) done.0 ∙ ap (option_and_then (value_of_generation q.1)) (kept q.0)
-  kept_if_ok after (Err e) done refused kept q =
-      ap (λ (u : ArenaState T). look_up u.slots q) refused.0 ∙ ap (option_and_then (value_of_generation q.1)) (slots-tidied s (tidied s) refl q.0)
-
-  -- and the number of entries
-  pub len_if_ok : (after : ArenaState T) (r : Result A E) → OnOk r (IsTouched after t) → OnErr r (IsTouched (tidied s) t) → arena_len after ≡ arena_len s → arena_len t ≡ arena_len s
-  len_if_ok after (Ok a) done refused same = ap arena_len done.0 ∙ same
-  len_if_ok after (Err e) done refused same = ap arena_len refused.0 ∙ len-tidied s (tidied s) refl
+-- a call that changes the room, or, where it is refused, tidies the free list alone, leaves what every pointer finds
+pub kept_if_ok : {A E T : Type 0} (s t after : ArenaState T) (r : Result A E) → OnOk r (IsTouched after t) → OnErr r (IsTouched (tidied s) t) → KeepsEntries s.slots after.slots → arena_len after ≡ arena_len s → KeepsLookUps s t
+kept_if_ok s t after (Ok a) done refused kept same =
+    record {
+      kept = λ q. ap (λ (u : ArenaState _). look_up u.slots q) done.0 ∙ ap (option_and_then (value_of_generation q.1)) (kept q.0);
+      same_len = ap arena_len done.0 ∙ same;
+    }
+kept_if_ok s t after (Err e) done refused kept same =
+    record {
+      kept = λ q. ap (λ (u : ArenaState _). look_up u.slots q) refused.0 ∙ ap (option_and_then (value_of_generation q.1)) (slots-tidied s (tidied s) refl q.0);
+      same_len = ap arena_len refused.0 ∙ len-tidied s (tidied s) refl;
+    }
 
 module _ {T : Type 0} (s : ArenaState T) (x : ℕ) where
   -- a limit leaves every entry

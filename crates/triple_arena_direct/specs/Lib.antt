@@ -2,6 +2,7 @@
 pub mod StrictAnswers
 pub mod StrictRetain
 pub mod StrictCalls
+pub mod StrictDone
 pub mod StrictCompacted
 pub mod StrictInsertEntry
 pub mod StrictDrains

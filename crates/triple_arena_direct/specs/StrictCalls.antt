@@ -12,7 +12,8 @@ use Rattle.triple_arena_traits.specs.Reallocation.{reallocated, with_limit, grow
 use Rattle.triple_arena_traits.specs.Recasting.{written}
 use Rattle.triple_arena_traits.specs.Compression.{compressed, raised_if_any, closed_up}
 use Rattle.triple_arena_traits.specs.Walks.{keys}
-use Rattle.triple_arena_traits.specs.Histories.{ModelCall, insertion, removal, invalidation, clearing, compression, resizing, is_live}
+use Rattle.triple_arena_traits.specs.Histories.{ModelCall, insertion, removal, invalidation, clearing, compression, resizing, is_live, Fits, Continues}
+use Rattle.triple_arena_direct.specs.Gone.{IsGoneForGood}
 use Rattle.triple_arena_direct.specs.StrictAnswers.{is_exhausted, is_exhausted_for_any}
 use Rattle.triple_arena_direct.specs.StrictRetain.{ended_entries, pointers_lost}
 
@@ -85,3 +86,15 @@ module _ {T : Type 0} (kind : StackKind) (generations : Generations) where
   AreStrictSteps s (call ∷ rest) calls t =
       (m : ArenaState T) × (first second : List ModelCall)
       × IsStrictStep s call first m × AreStrictSteps m rest second t × (calls ≡ first ++ second)
+
+  -- one call, done or refused, as a step: a history goes on by its model calls, and what was gone for good stays so
+  pub record IsStrictCall (old : ArenaState T) (call : StrictCall T) (calls : List ModelCall) (new : ArenaState T) : Type 0 where
+    pub step : IsStrictStep old call calls new
+    pub history : Continues Fits old calls new
+    pub stays_gone : generations.counting ≡ true → (q : Pointer) → IsGoneForGood old q → IsGoneForGood new q
+
+  -- so where it may end entries, and so raise the counter: a history goes on where generations count
+  pub record IsStrictEnding (old : ArenaState T) (call : StrictCall T) (calls : List ModelCall) (new : ArenaState T) : Type 0 where
+    pub step : IsStrictStep old call calls new
+    pub history : generations.counting ≡ true → Continues Fits old calls new
+    pub stays_gone : generations.counting ≡ true → (q : Pointer) → IsGoneForGood old q → IsGoneForGood new q

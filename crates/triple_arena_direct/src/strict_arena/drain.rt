@@ -1,6 +1,6 @@
 //! Draining a strict arena.
 
-ghost use Rattle.std.specs.Prelude.{◌≡◌, ◌↔◌, ◌∷◌, true, false, [], IsOk, IfOk, IsSome, Some, None};
+ghost use Rattle.std.specs.Prelude.{◌≡◌, ◌↔◌, true, false, IsOk, IfOk, IfErr, IsSome, Some};
 ghost use Rattle.std.specs.Borrow.{sem};
 ghost use Rattle.std.specs.Iterator.{at_most};
 ghost use Rattle.std.specs.Option.{option_map};
@@ -9,15 +9,13 @@ ghost use Rattle.triple_arena_ptr.specs.Pointers.{Pointer};
 ghost use Rattle.triple_arena_traits.specs.Entries.{look_up};
 ghost use Rattle.triple_arena_traits.specs.ArenaState.{arena_len};
 ghost use Rattle.triple_arena_traits.specs.SlotSteps.{IsTouched};
-ghost use Rattle.triple_arena_traits.specs.Ending.{cleared};
 ghost use Rattle.triple_arena_traits.specs.Compression.{raised_if_any};
-ghost use Rattle.triple_arena_traits.specs.Walks.{keys, Steps, IsBeforeAll};
-ghost use Rattle.triple_arena_traits.specs.Histories.{clearing, Fits, Continues};
+ghost use Rattle.triple_arena_traits.specs.Walks.{Steps, IsBeforeAll};
 ghost use Rattle.triple_arena_direct.specs.Gone.{IsGoneForGood};
 ghost use Rattle.triple_arena_direct.specs.StrictAnswers.{is_exhausted_for_any};
-ghost use Rattle.triple_arena_direct.specs.StrictCalls.{IsStrictStep, to_clear};
 ghost use Rattle.triple_arena_direct.specs.StrictRetain.{emptied};
 ghost use Rattle.triple_arena_direct.specs.StrictDrains.{strict_drain_arena, strict_drain_lender, strict_drain_stand, strict_drain_rests, StrictDrainStep, TakesEntry};
+ghost use Rattle.triple_arena_direct.specs.StrictDone.{IsStrictlyDraining};
 
 use super::StrictArena;
 use super::retain::{raise_if, take_out};
@@ -92,31 +90,14 @@ impl<P: Ptr, T, S: NonZeroInxGenericStack<ArenaSlot<P, T>>> StrictArena<P, T, S>
     pub fn drain(&mut self) -> Result<StrictDrain<'_, P, T, S>, StrictError>
     where
         T: Drop,
-        // Done: the counter is raised if there is an entry, and the drain begins before all
-        // entries.
+        // Done: the drain begins before all entries, and let go it leaves an empty arena, as one strict
+        // call.
         ensures variant { IsOk result ↔ (is_exhausted_for_any P.Gen.generations self.old ≡ false) }
-        ensures arena { IfOk result (λ drain. strict_drain_arena drain ≡ record self.old
-            { counter = raised_if_any (raise P.Gen.generations) self.old }) }
-        ensures draining { IfOk result
-            (λ drain. IsBeforeAll (strict_drain_arena drain).slots (strict_drain_stand drain)) }
+        ensures done { IfOk result (λ drain. IsStrictlyDraining self.old P.Gen.generations S.kind
+            (strict_drain_stand drain) (strict_drain_arena drain)) }
 
-        // Let go, it leaves an empty arena, as one strict call: where generations count, a history
-        // goes on by it, the pointers of all entries are gone for good, and what was gone stays so.
-        ensures leaves { IfOk result (λ drain. IsTouched (cleared (raise P.Gen.generations) self.old)
-            (emptied (strict_drain_arena drain))) }
-        ensures step { IfOk result (λ drain. IsStrictStep S.kind P.Gen.generations
-            self.old to_clear (clearing (keys self.old.slots) ∷ [])
-            (emptied (strict_drain_arena drain))) }
-        ensures history { P.Gen.generations.counting ≡ true → IfOk result (λ drain. Continues Fits
-            self.old (clearing (keys self.old.slots) ∷ []) (emptied (strict_drain_arena drain))) }
-        ensures gone_for_good { P.Gen.generations.counting ≡ true → IfOk result
-            (λ drain. (q : Pointer) → IsSome (look_up self.old.slots q)
-            → IsGoneForGood (emptied (strict_drain_arena drain)) q) }
-        ensures stays_gone { P.Gen.generations.counting ≡ true → IfOk result
-            (λ drain. (q : Pointer) → IsGoneForGood self.old q
-            → IsGoneForGood (emptied (strict_drain_arena drain)) q) }
-
-        // It holds this arena until then. Refused: nothing changes.
+        // It holds this arena until then. Refused: the counter is exhausted, and nothing changes.
+        ensures exhausted { IfErr result (λ e. e ≡ StrictError.Exhausted) }
         ensures same_reference { IfOk result
             (λ drain. strict_drain_lender drain ≡ self.entry.ghost_name) }
         ensures* refused { sem 𝓛 (strict_drain_rests

@@ -8,12 +8,13 @@ ghost use Rattle.triple_arena_ptr.specs.Pointers.{Pointer};
 ghost use Rattle.triple_arena_traits.specs.Entries.{look_up};
 ghost use Rattle.triple_arena_traits.specs.ArenaState.{entry};
 ghost use Rattle.triple_arena_traits.specs.SlotSteps.{RisesByAtMost, IsTouched};
-ghost use Rattle.triple_arena_traits.specs.Ending.{removed, invalidated, cleared};
+ghost use Rattle.triple_arena_traits.specs.Ending.{cleared};
 ghost use Rattle.triple_arena_traits.specs.Walks.{keys};
 ghost use Rattle.triple_arena_traits.specs.Histories.{removal, invalidation, clearing, Fits, Continues};
 ghost use Rattle.triple_arena_direct.specs.Gone.{IsGoneForGood};
 ghost use Rattle.triple_arena_direct.specs.StrictAnswers.{is_exhausted, is_exhausted_for_any, strict_of, strict_all, calls_if_ok};
-ghost use Rattle.triple_arena_direct.specs.StrictCalls.{IsStrictStep, to_remove, to_invalidate, to_clear};
+ghost use Rattle.triple_arena_direct.specs.StrictCalls.{IsStrictStep, IsStrictEnding, to_remove, to_invalidate, to_clear};
+ghost use Rattle.triple_arena_direct.specs.StrictDone.{IsStrictlyRemoved, IsStrictlyRenewed};
 
 use super::StrictArena;
 use crate::errors::StrictError;
@@ -33,24 +34,16 @@ impl<P: Ptr, T, S: NonZeroInxGenericStack<ArenaSlot<P, T>>> StrictArena<P, T, S>
         // pointers find what they found.
         ensures answer { result ≡ strict_of (is_exhausted P.Gen.generations self.old)
             (look_up self.old.slots (P.numbers p)) }
-        ensures done { OnOk result (IsTouched
-            (removed (raise P.Gen.generations) self.old (P.numbers p).0) self.new) }
+        ensures done { OnOk result
+            (IsStrictlyRemoved self.old P.Gen.generations (P.numbers p) self.new) }
         ensures refused { OnErr result (IsTouched self.old self.new) }
         ensures bounded { RisesByAtMost 6 self.old.steps self.new.steps }
-        ensures gone { OnOk result (look_up self.new.slots (P.numbers p) ≡ None) }
         ensures others { (q : Pointer) → q ≢ P.numbers p
             → look_up self.new.slots q ≡ look_up self.old.slots q }
 
-        // It is one strict call: where generations count, a history goes on by it, the pointer is
-        // gone for good, and what was gone for good stays so.
-        ensures step { IsStrictStep S.kind P.Gen.generations
+        // It is one strict call, by which a history goes on where generations count.
+        ensures call { IsStrictEnding S.kind P.Gen.generations
             self.old (to_remove (P.numbers p)) (calls_if_ok result (λ _. removal (P.numbers p))) self.new }
-        ensures history { P.Gen.generations.counting ≡ true → Continues Fits self.old
-            (calls_if_ok result (λ _. removal (P.numbers p))) self.new }
-        ensures gone_for_good { P.Gen.generations.counting ≡ true
-            → OnOk result (IsGoneForGood self.new (P.numbers p)) }
-        ensures stays_gone { P.Gen.generations.counting ≡ true
-            → (q : Pointer) → IsGoneForGood self.old q → IsGoneForGood self.new q }
     {
         if self.is_exhausted_for(p) {
             return Err(StrictError::Exhausted);
@@ -71,28 +64,17 @@ impl<P: Ptr, T, S: NonZeroInxGenericStack<ArenaSlot<P, T>>> StrictArena<P, T, S>
             ≡ strict_of (is_exhausted P.Gen.generations self.old) (option_map
             (λ _. ((P.numbers p).0, raise P.Gen.generations self.old.counter))
             (look_up self.old.slots (P.numbers p))) }
-        ensures done { OnOk result (IsTouched
-            (invalidated (raise P.Gen.generations) self.old (P.numbers p).0) self.new) }
+        ensures done { IfOk result (λ q.
+            IsStrictlyRenewed self.old P.Gen.generations (P.numbers p) (P.numbers q) self.new) }
         ensures refused { OnErr result (IsTouched self.old self.new) }
         ensures bounded { RisesByAtMost 6 self.old.steps self.new.steps }
-        ensures found { IfOk result (λ q. look_up self.new.slots (P.numbers q)
-            ≡ look_up self.old.slots (P.numbers p)) }
-        ensures gone { P.Gen.generations.counting ≡ true
-            → OnOk result (look_up self.new.slots (P.numbers p) ≡ None) }
         ensures others { (q : Pointer) → q.0 ≢ (P.numbers p).0
             → look_up self.new.slots q ≡ look_up self.old.slots q }
 
-        // It is one strict call: where generations count, a history goes on by it, the old pointer
-        // is gone for good, and what was gone for good stays so.
-        ensures step { IsStrictStep S.kind P.Gen.generations
+        // It is one strict call, by which a history goes on where generations count.
+        ensures call { IsStrictEnding S.kind P.Gen.generations
             self.old (to_invalidate (P.numbers p))
             (calls_if_ok result (λ q. invalidation (P.numbers p) (P.numbers q))) self.new }
-        ensures history { P.Gen.generations.counting ≡ true → Continues Fits self.old
-            (calls_if_ok result (λ q. invalidation (P.numbers p) (P.numbers q))) self.new }
-        ensures gone_for_good { P.Gen.generations.counting ≡ true
-            → OnOk result (IsGoneForGood self.new (P.numbers p)) }
-        ensures stays_gone { P.Gen.generations.counting ≡ true
-            → (q : Pointer) → IsGoneForGood self.old q → IsGoneForGood self.new q }
     {
         if self.is_exhausted_for(p) {
             return Err(StrictError::Exhausted);
@@ -116,16 +98,12 @@ impl<P: Ptr, T, S: NonZeroInxGenericStack<ArenaSlot<P, T>>> StrictArena<P, T, S>
         ensures refused { OnErr result (self.new ≡ self.old) }
         ensures gone { OnOk result ((q : Pointer) → look_up self.new.slots q ≡ None) }
 
-        // It is one strict call: where generations count, a history goes on by it, the pointers of
-        // all entries are gone for good, and what was gone for good stays so.
-        ensures step { IsStrictStep S.kind P.Gen.generations
+        // It is one strict call: where generations count, a history goes on by it, and the pointers of
+        // all entries are gone for good.
+        ensures call { IsStrictEnding S.kind P.Gen.generations
             self.old to_clear (calls_if_ok result (λ _. clearing (keys self.old.slots))) self.new }
-        ensures history { P.Gen.generations.counting ≡ true → Continues Fits self.old
-            (calls_if_ok result (λ _. clearing (keys self.old.slots))) self.new }
         ensures gone_for_good { P.Gen.generations.counting ≡ true → OnOk result
             ((q : Pointer) → IsSome (look_up self.old.slots q) → IsGoneForGood self.new q) }
-        ensures stays_gone { P.Gen.generations.counting ≡ true
-            → (q : Pointer) → IsGoneForGood self.old q → IsGoneForGood self.new q }
     {
         if self.is_exhausted_for_any() {
             return Err(StrictError::Exhausted);
@@ -146,24 +124,21 @@ impl<P: Ptr, T, S: NonZeroInxGenericStack<ArenaSlot<P, T>>> StrictArena<P, T, S>
         ensures answer { result_map_both (λ e. (P.Gen.number e.0, e.1)) (λ e. e) result
             ≡ strict_of (is_exhausted P.Gen.generations self.old)
             (entry self.old (P.Inx.number inx)) }
-        ensures done { OnOk result (IsTouched
-            (removed (raise P.Gen.generations) self.old (P.Inx.number inx)) self.new) }
+        ensures done { IfOk result (λ e. IsStrictlyRemoved self.old P.Gen.generations
+            (P.Inx.number inx, P.Gen.number e.0) self.new) }
         ensures refused { OnErr result (IsTouched self.old self.new) }
         ensures bounded { RisesByAtMost 6 self.old.steps self.new.steps }
-        ensures gone { OnOk result (entry self.new (P.Inx.number inx) ≡ None) }
         ensures others { (q : Pointer) → q.0 ≢ P.Inx.number inx
             → look_up self.new.slots q ≡ look_up self.old.slots q }
 
-        // It is one strict call: where generations count, a history goes on by it, the entry's
-        // pointer is gone for good, and what was gone for good stays so.
+        // It is one strict call: where generations count, a history goes on by it, and what was gone
+        // for good stays so.
         ensures step { (p : Pointer) → p.0 ≡ P.Inx.number inx
             → IfOk result (λ e. p.1 ≡ P.Gen.number e.0)
             → IsStrictStep S.kind P.Gen.generations
             self.old (to_remove p) (calls_if_ok result (λ _. removal p)) self.new }
         ensures history { P.Gen.generations.counting ≡ true → Continues Fits self.old
             (calls_if_ok result (λ e. removal (P.Inx.number inx, P.Gen.number e.0))) self.new }
-        ensures gone_for_good { P.Gen.generations.counting ≡ true → IfOk result
-            (λ e. IsGoneForGood self.new (P.Inx.number inx, P.Gen.number e.0)) }
         ensures stays_gone { P.Gen.generations.counting ≡ true
             → (q : Pointer) → IsGoneForGood self.old q → IsGoneForGood self.new q }
     {

@@ -1,18 +1,18 @@
 //! The place of a value that is not inserted into a strict arena yet.
 
-ghost use Rattle.std.specs.Prelude.{◌≡◌, ◌≢◌, ◌<◌, ◌↔◌, ◌∷◌, true, [], IsOk, IfOk, IsOkAnd, OnOk, Some, None, Err};
+ghost use Rattle.std.specs.Prelude.{◌≡◌, ◌≢◌, ◌<◌, ◌↔◌, ◌∷◌, [], IsOk, IfOk, IsOkAnd, OnOk, None, Err};
 ghost use Rattle.std.specs.Borrow.{sem, Lends};
 ghost use Rattle.triple_arena_ptr.specs.Numbers.{greatest_index};
 ghost use Rattle.triple_arena_ptr.specs.Pointers.{Pointer};
 ghost use Rattle.triple_arena_stack.specs.Capacity.{IsFullAtLimit, CanGrow};
-ghost use Rattle.triple_arena_traits.specs.Entries.{look_up};
 ghost use Rattle.triple_arena_traits.specs.ArenaState.{arena_len, capacity, entry, IsWellFormed};
 ghost use Rattle.triple_arena_traits.specs.Insertion.{next_pointer, inserted};
 ghost use Rattle.triple_arena_traits.specs.SlotSteps.{touched, insertion_steps};
 ghost use Rattle.triple_arena_traits.specs.Reallocation.{grown};
 ghost use Rattle.triple_arena_traits.specs.Histories.{insertion, Fits, Continues};
 ghost use Rattle.triple_arena_direct.specs.Gone.{IsGoneForGood};
-ghost use Rattle.triple_arena_direct.specs.StrictCalls.{IsStrictStep, to_insert};
+ghost use Rattle.triple_arena_direct.specs.StrictCalls.{IsStrictCall, to_insert};
+ghost use Rattle.triple_arena_direct.specs.StrictDone.{IsStrictlyInserted, IsStrictlyGrown};
 ghost use Rattle.triple_arena_direct.specs.StrictInsertEntry.{strict_entry_arena, strict_entry_reference, strict_entry_lender, strict_entry_rests};
 
 use super::StrictArena;
@@ -49,6 +49,7 @@ impl<'a, P: Ptr, T, S: NonZeroInxGenericStack<ArenaSlot<P, T>>> ArenaInsertEntry
     fn ptr(&self) -> P
         requires { arena_len (strict_entry_arena self.now) < capacity (strict_entry_arena self.now) }
         ensures pointer { P.numbers result ≡ next_pointer (strict_entry_arena self.now) }
+        ensures free { entry (strict_entry_arena self.now) (P.numbers result).0 ≡ None }
         ensures new { (q : Pointer) → IsGoneForGood (strict_entry_arena self.now) q
             → P.numbers result ≢ q }
     {
@@ -58,37 +59,25 @@ impl<'a, P: Ptr, T, S: NonZeroInxGenericStack<ArenaSlot<P, T>>> ArenaInsertEntry
     fn insert(self, t: T) -> &'a mut T
         requires { arena_len (strict_entry_arena self) < capacity (strict_entry_arena self) }
 
-        // The value is lent; once the loan ends, what was written stands under the next pointer, at
-        // an index where no entry stood.
+        // The value is lent; once the loan ends, what was written stands under the next pointer.
         ensures value { result.now ≡ t }
-        ensures free { entry (strict_entry_arena self.entry)
-            (next_pointer (strict_entry_arena self.entry)).0 ≡ None }
-        ensures found { (value : T) → look_up
-            (inserted (strict_entry_arena self.entry) value).slots
-            (next_pointer (strict_entry_arena self.entry)) ≡ Some value }
-        ensures others { (value : T) (q : Pointer)
-            → q ≢ next_pointer (strict_entry_arena self.entry)
-            → look_up (inserted (strict_entry_arena self.entry) value).slots q
-            ≡ look_up (strict_entry_arena self.entry).slots q }
+        ensures done { (value : T) → IsStrictlyInserted
+            (strict_entry_arena self.entry) (strict_entry_arena self.entry) value
+            (next_pointer (strict_entry_arena self.entry))
+            (touched (insertion_steps (strict_entry_arena self.entry))
+            (inserted (strict_entry_arena self.entry) value)) }
         ensures* writes_back { sem 𝓛 (Lends
             ⟦<StrictArena<P, T, S> as LendingArena>⟧.arena_row
             T.row (strict_entry_reference self.entry) result
             (λ value. touched (insertion_steps (strict_entry_arena self.entry))
             (inserted (strict_entry_arena self.entry) value))) }
 
-        // It is one strict call: a history goes on by the insertion, the pointer is none that was
-        // gone for good, and such stay so.
-        ensures step { (value : T) → IsStrictStep S.kind P.Gen.generations
+        // It is one strict call, and what was gone for good stays so.
+        ensures call { (value : T) → IsStrictCall S.kind P.Gen.generations
             (strict_entry_arena self.entry) (to_insert value)
             (insertion (next_pointer (strict_entry_arena self.entry)) ∷ [])
             (touched (insertion_steps (strict_entry_arena self.entry))
             (inserted (strict_entry_arena self.entry) value)) }
-        ensures history { (value : T) → Continues Fits (strict_entry_arena self.entry)
-            (insertion (next_pointer (strict_entry_arena self.entry)) ∷ [])
-            (touched (insertion_steps (strict_entry_arena self.entry))
-            (inserted (strict_entry_arena self.entry) value)) }
-        ensures new { (q : Pointer) → IsGoneForGood (strict_entry_arena self.entry) q
-            → next_pointer (strict_entry_arena self.entry) ≢ q }
         ensures stays_gone { (value : T) (q : Pointer) → IsGoneForGood (strict_entry_arena self.entry) q
             → IsGoneForGood (touched (insertion_steps (strict_entry_arena self.entry))
             (inserted (strict_entry_arena self.entry) value)) q }
@@ -130,18 +119,10 @@ impl<P: Ptr, T, S: NonZeroInxGenericStack<ArenaSlot<P, T>>> StrictArena<P, T, S>
     pub fn entry_insert_reallocating(
         &mut self,
     ) -> Result<StrictInsertEntry<'_, P, T, S>, ReallocationError>
-        // Done: the place has the pointer that was the next one, and the arena may have grown; no
-        // entry has moved.
-        ensures arena { IfOk result (λ place. strict_entry_arena place ≡ grown S.kind self.old) }
-        ensures next { IfOk result
-            (λ place. next_pointer (strict_entry_arena place) ≡ next_pointer self.old) }
-        ensures kept { IfOk result (λ place. (q : Pointer)
-            → look_up (strict_entry_arena place).slots q ≡ look_up self.old.slots q) }
-        ensures history { IfOk result (λ place. Continues Fits self.old [] (strict_entry_arena place)) }
-        ensures stays_gone { IfOk result (λ place. (q : Pointer) → IsGoneForGood self.old q
-            → IsGoneForGood (strict_entry_arena place) q) }
-        ensures has_place { IfOk result
-            (λ place. arena_len (strict_entry_arena place) < capacity (strict_entry_arena place)) }
+        // Done: the place has the pointer that was the next one; a full arena has grown, and no entry
+        // has moved.
+        ensures done { IfOk result
+            (λ place. IsStrictlyGrown self.old S.kind (strict_entry_arena place)) }
 
         // Only an arena that is full is refused, for its limit, for memory, or for want of an
         // index.
@@ -167,18 +148,10 @@ impl<P: Ptr, T, S: NonZeroInxGenericStack<ArenaSlot<P, T>>> StrictArena<P, T, S>
 
     /// As [`Self::entry_insert_reallocating`].
     pub fn entry_insert(&mut self) -> Result<StrictInsertEntry<'_, P, T, S>, ReallocationError>
-        // Done: the place has the pointer that was the next one, and the arena may have grown; no
-        // entry has moved.
-        ensures arena { IfOk result (λ place. strict_entry_arena place ≡ grown S.kind self.old) }
-        ensures next { IfOk result
-            (λ place. next_pointer (strict_entry_arena place) ≡ next_pointer self.old) }
-        ensures kept { IfOk result (λ place. (q : Pointer)
-            → look_up (strict_entry_arena place).slots q ≡ look_up self.old.slots q) }
-        ensures history { IfOk result (λ place. Continues Fits self.old [] (strict_entry_arena place)) }
-        ensures stays_gone { IfOk result (λ place. (q : Pointer) → IsGoneForGood self.old q
-            → IsGoneForGood (strict_entry_arena place) q) }
-        ensures has_place { IfOk result
-            (λ place. arena_len (strict_entry_arena place) < capacity (strict_entry_arena place)) }
+        // Done: the place has the pointer that was the next one; a full arena has grown, and no entry
+        // has moved.
+        ensures done { IfOk result
+            (λ place. IsStrictlyGrown self.old S.kind (strict_entry_arena place)) }
 
         // Only an arena that is full is refused, for its limit, for memory, or for want of an
         // index.

@@ -1,19 +1,19 @@
 //! Insertion into a strict arena.
 
-ghost use Rattle.std.specs.Prelude.{◌≡◌, ◌≢◌, ◌<◌, ◌↔◌, ◌∷◌, [], true, IsOk, IsErrAnd, IfOk, OnOk, OnErr, Some, None, Err};
+ghost use Rattle.std.specs.Prelude.{◌≡◌, ◌≢◌, ◌<◌, ◌↔◌, ◌∷◌, [], IsOk, IsErrAnd, IfOk, OnOk, OnErr, None, Err};
 ghost use Rattle.std.specs.Result.{IfErr};
 ghost use Rattle.triple_arena_ptr.specs.Numbers.{greatest_index};
 ghost use Rattle.triple_arena_ptr.specs.Pointers.{Pointer};
 ghost use Rattle.triple_arena_stack.specs.Capacity.{IsFullAtLimit, CanGrow};
-ghost use Rattle.triple_arena_traits.specs.Entries.{look_up};
 ghost use Rattle.triple_arena_traits.specs.ArenaState.{arena_len, capacity, entry, IsWellFormed};
 ghost use Rattle.triple_arena_traits.specs.Insertion.{next_pointer, inserted};
 ghost use Rattle.triple_arena_traits.specs.SlotSteps.{RisesByAtMost, IsTouched, touched, insertion_steps};
 ghost use Rattle.triple_arena_traits.specs.Reallocation.{grown};
-ghost use Rattle.triple_arena_traits.specs.Histories.{insertion, Fits, Continues};
+ghost use Rattle.triple_arena_traits.specs.Histories.{insertion};
 ghost use Rattle.triple_arena_direct.specs.Gone.{IsGoneForGood};
 ghost use Rattle.triple_arena_direct.specs.StrictAnswers.{calls_if_ok};
-ghost use Rattle.triple_arena_direct.specs.StrictCalls.{IsStrictStep, to_insert};
+ghost use Rattle.triple_arena_direct.specs.StrictCalls.{IsStrictCall, to_insert};
+ghost use Rattle.triple_arena_direct.specs.StrictDone.{IsStrictlyInserted, IsStrictlyGrown};
 
 use super::StrictArena;
 use triple_arena::{ArenaInsertTrait, ArenaSlot, InsertFailed};
@@ -30,29 +30,18 @@ impl<P: Ptr, T, S: NonZeroInxGenericStack<ArenaSlot<P, T>>> StrictArena<P, T, S>
     pub fn insert_within_capacity(&mut self, t: T) -> Result<P, NotWithinCapacityError>
     where
         T: Drop,
-        // Done: the value stands under the next pointer, at an index where no entry stood.
+        // Done: the value stands under the next pointer.
         ensures variant { IsOk result ↔ (arena_len self.old < capacity self.old) }
-        ensures pointer { IfOk result (λ p. P.numbers p ≡ next_pointer self.old) }
-        ensures free { IfOk result (λ p. entry self.old (P.numbers p).0 ≡ None) }
-        ensures found { IfOk result (λ p. look_up self.new.slots (P.numbers p) ≡ Some t) }
-        ensures others { IfOk result (λ p. (q : Pointer) → q.0 ≢ (P.numbers p).0
-            → look_up self.new.slots q ≡ look_up self.old.slots q) }
-        ensures inserted { OnOk result (IsTouched (inserted self.old t) self.new) }
+        ensures done { IfOk result (λ p.
+            IsStrictlyInserted self.old self.old t (P.numbers p) self.new) }
 
         // Refused: nothing changes. In each case few slots are touched.
         ensures refused { OnErr result (self.new ≡ self.old) }
         ensures bounded { RisesByAtMost 6 self.old.steps self.new.steps }
-        ensures well_formed { IsWellFormed self.old }
 
-        // It is one strict call: a history goes on by the insertion, the pointer is none that was
-        // gone for good, and such stay so.
-        ensures step { IsStrictStep S.kind P.Gen.generations
+        // It is one strict call, by which a history goes on, done or refused.
+        ensures call { IsStrictCall S.kind P.Gen.generations
             self.old (to_insert t) (calls_if_ok result (λ p. insertion (P.numbers p))) self.new }
-        ensures history { Continues Fits self.old
-            (calls_if_ok result (λ p. insertion (P.numbers p))) self.new }
-        ensures new { IfOk result (λ p. (q : Pointer) → IsGoneForGood self.old q → P.numbers p ≢ q) }
-        ensures stays_gone { P.Gen.generations.counting ≡ true
-            → (q : Pointer) → IsGoneForGood self.old q → IsGoneForGood self.new q }
     {
         self.arena.insert_within_capacity(t)
     }
@@ -66,12 +55,9 @@ impl<P: Ptr, T, S: NonZeroInxGenericStack<ArenaSlot<P, T>>> StrictArena<P, T, S>
     pub fn insert_reallocating(&mut self, t: T) -> Result<P, ReallocationError>
     where
         T: Drop,
-        // Done: the value stands under the next pointer, at an index where no entry stood; a full
-        // arena has grown.
-        ensures pointer { IfOk result (λ p. P.numbers p ≡ next_pointer self.old) }
-        ensures free { IfOk result (λ p. entry self.old (P.numbers p).0 ≡ None) }
-        ensures inserted { OnOk result
-            (IsTouched (inserted (grown S.kind self.old) t) self.new) }
+        // Done: the value stands under the next pointer, in the arena, which has grown if it was full.
+        ensures done { IfOk result (λ p.
+            IsStrictlyInserted self.old (grown S.kind self.old) t (P.numbers p) self.new) }
 
         // Refused: nothing changes, and only an arena that is full is refused, for its limit, for
         // memory, or for want of an index.
@@ -84,37 +70,22 @@ impl<P: Ptr, T, S: NonZeroInxGenericStack<ArenaSlot<P, T>>> StrictArena<P, T, S>
             → capacity self.old < greatest_index P.Inx.greatest) }
         ensures had_place { arena_len self.old < capacity self.old
             → IsOk result × IsTouched (inserted self.old t) self.new }
-        ensures place { OnOk result (arena_len (grown S.kind self.old)
-            < capacity (grown S.kind self.old)) }
-        ensures well_formed { IsWellFormed self.old }
 
-        // It is one strict call: a history goes on by the insertion, the pointer is none that was
-        // gone for good, and such stay so.
-        ensures step { IsStrictStep S.kind P.Gen.generations
+        // It is one strict call, by which a history goes on, done or refused.
+        ensures call { IsStrictCall S.kind P.Gen.generations
             self.old (to_insert t) (calls_if_ok result (λ p. insertion (P.numbers p))) self.new }
-        ensures history { Continues Fits self.old
-            (calls_if_ok result (λ p. insertion (P.numbers p))) self.new }
-        ensures new { IfOk result (λ p. (q : Pointer) → IsGoneForGood self.old q → P.numbers p ≢ q) }
-        ensures stays_gone { P.Gen.generations.counting ≡ true
-            → (q : Pointer) → IsGoneForGood self.old q → IsGoneForGood self.new q }
     {
         self.arena.insert_reallocating(t)
     }
 
-    /// As [`Self::insert_reallocating`], and in words of look-ups too.
+    /// As [`Self::insert_reallocating`].
     #[inline(always)]
     pub fn insert(&mut self, t: T) -> Result<P, ReallocationError>
     where
         T: Drop,
-        // Done: the value stands under the next pointer, at an index where no entry stood; a full
-        // arena has grown.
-        ensures pointer { IfOk result (λ p. P.numbers p ≡ next_pointer self.old) }
-        ensures free { IfOk result (λ p. entry self.old (P.numbers p).0 ≡ None) }
-        ensures found { IfOk result (λ p. look_up self.new.slots (P.numbers p) ≡ Some t) }
-        ensures others { IfOk result (λ p. (q : Pointer) → q.0 ≢ (P.numbers p).0
-            → look_up self.new.slots q ≡ look_up self.old.slots q) }
-        ensures inserted { OnOk result
-            (IsTouched (inserted (grown S.kind self.old) t) self.new) }
+        // Done: the value stands under the next pointer, in the arena, which has grown if it was full.
+        ensures done { IfOk result (λ p.
+            IsStrictlyInserted self.old (grown S.kind self.old) t (P.numbers p) self.new) }
 
         // Refused: nothing changes, and only an arena that is full is refused, for its limit, for
         // memory, or for want of an index.
@@ -127,34 +98,19 @@ impl<P: Ptr, T, S: NonZeroInxGenericStack<ArenaSlot<P, T>>> StrictArena<P, T, S>
             → capacity self.old < greatest_index P.Inx.greatest) }
         ensures had_place { arena_len self.old < capacity self.old
             → IsOk result × IsTouched (inserted self.old t) self.new }
-        ensures place { OnOk result (arena_len (grown S.kind self.old)
-            < capacity (grown S.kind self.old)) }
-        ensures well_formed { IsWellFormed self.old }
 
-        // It is one strict call: a history goes on by the insertion, the pointer is none that was
-        // gone for good, and such stay so.
-        ensures step { IsStrictStep S.kind P.Gen.generations
+        // It is one strict call, by which a history goes on, done or refused.
+        ensures call { IsStrictCall S.kind P.Gen.generations
             self.old (to_insert t) (calls_if_ok result (λ p. insertion (P.numbers p))) self.new }
-        ensures history { Continues Fits self.old
-            (calls_if_ok result (λ p. insertion (P.numbers p))) self.new }
-        ensures new { IfOk result (λ p. (q : Pointer) → IsGoneForGood self.old q → P.numbers p ≢ q) }
-        ensures stays_gone { P.Gen.generations.counting ≡ true
-            → (q : Pointer) → IsGoneForGood self.old q → IsGoneForGood self.new q }
     {
         self.arena.insert(t)
     }
 
     /// As [`Self::insert`], but where it is refused, `t` comes back in the error.
     pub fn try_insert(&mut self, t: T) -> Result<P, InsertFailed<T>>
-        // Done: the value stands under the next pointer, at an index where no entry stood; a full
-        // arena has grown.
-        ensures pointer { IfOk result (λ p. P.numbers p ≡ next_pointer self.old) }
-        ensures free { IfOk result (λ p. entry self.old (P.numbers p).0 ≡ None) }
-        ensures found { IfOk result (λ p. look_up self.new.slots (P.numbers p) ≡ Some t) }
-        ensures others { IfOk result (λ p. (q : Pointer) → q.0 ≢ (P.numbers p).0
-            → look_up self.new.slots q ≡ look_up self.old.slots q) }
-        ensures inserted { OnOk result
-            (IsTouched (inserted (grown S.kind self.old) t) self.new) }
+        // Done: the value stands under the next pointer, in the arena, which has grown if it was full.
+        ensures done { IfOk result (λ p.
+            IsStrictlyInserted self.old (grown S.kind self.old) t (P.numbers p) self.new) }
 
         // Refused: nothing changes, and the value comes back; only an arena that is full is
         // refused, for its limit, for memory, or for want of an index.
@@ -168,19 +124,10 @@ impl<P: Ptr, T, S: NonZeroInxGenericStack<ArenaSlot<P, T>>> StrictArena<P, T, S>
             → capacity self.old < greatest_index P.Inx.greatest) }
         ensures had_place { arena_len self.old < capacity self.old
             → IsOk result × IsTouched (inserted self.old t) self.new }
-        ensures place { OnOk result (arena_len (grown S.kind self.old)
-            < capacity (grown S.kind self.old)) }
-        ensures well_formed { IsWellFormed self.old }
 
-        // It is one strict call: a history goes on by the insertion, the pointer is none that was
-        // gone for good, and such stay so.
-        ensures step { IsStrictStep S.kind P.Gen.generations
+        // It is one strict call, by which a history goes on, done or refused.
+        ensures call { IsStrictCall S.kind P.Gen.generations
             self.old (to_insert t) (calls_if_ok result (λ p. insertion (P.numbers p))) self.new }
-        ensures history { Continues Fits self.old
-            (calls_if_ok result (λ p. insertion (P.numbers p))) self.new }
-        ensures new { IfOk result (λ p. (q : Pointer) → IsGoneForGood self.old q → P.numbers p ≢ q) }
-        ensures stays_gone { P.Gen.generations.counting ≡ true
-            → (q : Pointer) → IsGoneForGood self.old q → IsGoneForGood self.new q }
     {
         self.arena.try_insert(t)
     }
@@ -203,25 +150,12 @@ impl<P: Ptr, T, S: NonZeroInxGenericStack<ArenaSlot<P, T>>> StrictArena<P, T, S>
     pub fn insert_reserved(&mut self, t: T) -> P
         requires { arena_len self.old < capacity self.old }
 
-        // The value stands under the next pointer, at an index where no entry stood, and few slots
-        // are touched.
-        ensures pointer { P.numbers result ≡ next_pointer self.old }
-        ensures free { entry self.old (P.numbers result).0 ≡ None }
-        ensures found { look_up self.new.slots (P.numbers result) ≡ Some t }
-        ensures others { (q : Pointer) → q ≢ P.numbers result
-            → look_up self.new.slots q ≡ look_up self.old.slots q }
+        // The value stands under the next pointer, few slots are touched, and it is one strict call.
+        ensures done { IsStrictlyInserted self.old self.old t (P.numbers result) self.new }
         ensures inserted { self.new ≡ touched (insertion_steps self.old) (inserted self.old t) }
-        ensures well_formed { IsWellFormed self.old }
         ensures bounded { RisesByAtMost 6 self.old.steps self.new.steps }
-
-        // It is one strict call: a history goes on by the insertion, the pointer is none that was
-        // gone for good, and such stay so.
-        ensures step { IsStrictStep S.kind P.Gen.generations
+        ensures call { IsStrictCall S.kind P.Gen.generations
             self.old (to_insert t) (insertion (P.numbers result) ∷ []) self.new }
-        ensures history { Continues Fits self.old (insertion (P.numbers result) ∷ []) self.new }
-        ensures new { (q : Pointer) → IsGoneForGood self.old q → P.numbers result ≢ q }
-        ensures stays_gone { P.Gen.generations.counting ≡ true
-            → (q : Pointer) → IsGoneForGood self.old q → IsGoneForGood self.new q }
     {
         self.arena.insert_reserved(t)
     }
@@ -229,9 +163,8 @@ impl<P: Ptr, T, S: NonZeroInxGenericStack<ArenaSlot<P, T>>> StrictArena<P, T, S>
     // Grows where there are as many entries as the capacity: by a place for a value, which is let go.
     pub(super) fn grow_if_full(&mut self) -> Result<(), ReallocationError>
         // Done, there is a place; refused, nothing changes.
-        ensures done { OnOk result (self.new ≡ grown S.kind self.old) }
+        ensures done { OnOk result (IsStrictlyGrown self.old S.kind self.new) }
         ensures refused { OnErr result (self.new ≡ self.old) }
-        ensures has_place { OnOk result (arena_len self.new < capacity self.new) }
 
         // Only an arena that is full is refused, for its limit, for memory, or for want of an
         // index.
@@ -243,12 +176,6 @@ impl<P: Ptr, T, S: NonZeroInxGenericStack<ArenaSlot<P, T>>> StrictArena<P, T, S>
             → capacity self.old < greatest_index P.Inx.greatest) }
         ensures had_place { arena_len self.old < capacity self.old → IsOk result × (self.new ≡ self.old) }
         ensures well_formed { IsWellFormed self.old }
-
-        // In each case the next pointer, what each finds, and every history stay.
-        ensures next { next_pointer self.new ≡ next_pointer self.old }
-        ensures kept { (q : Pointer) → look_up self.new.slots q ≡ look_up self.old.slots q }
-        ensures history { Continues Fits self.old [] self.new }
-        ensures stays_gone { (q : Pointer) → IsGoneForGood self.old q → IsGoneForGood self.new q }
     {
         match self.arena.entry_insert_reallocating() {
             Ok(place) => drop(place),

@@ -1,6 +1,6 @@
 //! Entries of a strict arena that are ended together.
 
-ghost use Rattle.std.specs.Prelude.{◌≡◌, ◌∷◌, true, false, cond, List, [], Some, None, IsSome, OnOk, OnErr};
+ghost use Rattle.std.specs.Prelude.{◌≡◌, ◌∷◌, true, false, cond, List, [], Some, IsSome, OnOk, OnErr};
 ghost use Rattle.triple_arena_ptr.specs.Numbers.{raise};
 ghost use Rattle.triple_arena_ptr.specs.Pointers.{Pointer};
 ghost use Rattle.triple_arena_traits.specs.Entries.{look_up};
@@ -8,10 +8,11 @@ ghost use Rattle.triple_arena_traits.specs.ArenaState.{capacity};
 ghost use Rattle.triple_arena_traits.specs.SlotSteps.{IsTouched};
 ghost use Rattle.triple_arena_traits.specs.Ending.{removed};
 ghost use Rattle.triple_arena_traits.specs.Walks.{entries};
-ghost use Rattle.triple_arena_traits.specs.Histories.{clearing, Fits, Continues};
+ghost use Rattle.triple_arena_traits.specs.Histories.{clearing};
 ghost use Rattle.triple_arena_direct.specs.Gone.{IsGoneForGood};
 ghost use Rattle.triple_arena_direct.specs.StrictAnswers.{is_exhausted_for_any, strict_all, calls_if_ok};
-ghost use Rattle.triple_arena_direct.specs.StrictCalls.{IsStrictStep, to_retain};
+ghost use Rattle.triple_arena_direct.specs.StrictCalls.{IsStrictEnding, to_retain};
+ghost use Rattle.triple_arena_direct.specs.StrictDone.{KeepsTheRest};
 ghost use Rattle.triple_arena_direct.specs.StrictRetain.{Sorts, without_entries, ended_entries, pointers_lost, is_any};
 
 use super::StrictArena;
@@ -28,37 +29,26 @@ impl<P: Ptr, T, S: NonZeroInxGenericStack<ArenaSlot<P, T>>> StrictArena<P, T, S>
     /// (`IsGoneForGood`). Limit and capacity stay.
     ///
     /// `Exhausted` exactly where there is an entry and the counter is at its greatest value, also where
-    /// `f` would keep all. Then nothing changes, and `f` is not called.
+    /// `f` would keep all. Then nothing changes, and `f` is not called, which no clause can say of it.
     pub fn retain<F: FnMut(P, &T) -> bool>(&mut self, f: F) -> Result<(), StrictError>
     where
         T: Drop,
         requires callable { F.IsAlwaysCallable f }
 
-        // Done, the entries are gone that the calls didn't keep; refused, nothing changes. Others
-        // stay, and so do limit and capacity.
+        // Done, the entries are gone that the calls didn't keep; refused, nothing changes.
         ensures answer { result
             ≡ strict_all (is_exhausted_for_any P.Gen.generations self.old) }
         ensures done { OnOk result ((gone : List Pointer) × (last : F)
             × Sorts P.numbers F.step f (entries self.old.slots) gone last
             × IsTouched (ended_entries (raise P.Gen.generations) gone self.old) self.new) }
         ensures refused { OnErr result (self.new ≡ self.old) }
-        ensures kept { (q : Pointer) → IsSome (look_up self.new.slots q)
-            → look_up self.new.slots q ≡ look_up self.old.slots q }
-        ensures limit { self.new.limit ≡ self.old.limit }
-        ensures capacity { capacity self.new ≡ capacity self.old }
 
-        // It is one strict call: where generations count, a history goes on by it, the pointers
-        // that were lost are gone for good, and what was gone for good stays so.
-        ensures step { (gone : List Pointer) × IsStrictStep S.kind P.Gen.generations
+        // In each case the others stay, and it is one strict call: where generations count, a history
+        // goes on by it.
+        ensures rest { KeepsTheRest self.old P.Gen.generations self.new }
+        ensures call { (gone : List Pointer) × IsStrictEnding S.kind P.Gen.generations
             self.old (to_retain gone)
             (calls_if_ok result (λ _. clearing (pointers_lost self.old self.new))) self.new }
-        ensures history { P.Gen.generations.counting ≡ true → Continues Fits self.old
-            (calls_if_ok result (λ _. clearing (pointers_lost self.old self.new))) self.new }
-        ensures gone_for_good { P.Gen.generations.counting ≡ true → (q : Pointer)
-            → IsSome (look_up self.old.slots q) → look_up self.new.slots q ≡ None
-            → IsGoneForGood self.new q }
-        ensures stays_gone { P.Gen.generations.counting ≡ true
-            → (q : Pointer) → IsGoneForGood self.old q → IsGoneForGood self.new q }
     {
         if self.is_exhausted_for_any() {
             return Err(StrictError::Exhausted);
@@ -74,27 +64,13 @@ impl<P: Ptr, T, S: NonZeroInxGenericStack<ArenaSlot<P, T>>> StrictArena<P, T, S>
         requires callable { F.IsAlwaysCallable f }
         requires allowed { is_exhausted_for_any P.Gen.generations self.old ≡ false }
 
-        // The entries are gone that the calls didn't keep. Others stay, and so do limit and
-        // capacity.
+        // The entries are gone that the calls didn't keep, and the others stay. It is one strict call.
         ensures done { (gone : List Pointer) × (last : F)
             × Sorts P.numbers F.step f (entries self.old.slots) gone last
             × IsTouched (ended_entries (raise P.Gen.generations) gone self.old) self.new }
-        ensures kept { (q : Pointer) → IsSome (look_up self.new.slots q)
-            → look_up self.new.slots q ≡ look_up self.old.slots q }
-        ensures limit { self.new.limit ≡ self.old.limit }
-        ensures capacity { capacity self.new ≡ capacity self.old }
-
-        // It is one strict call: where generations count, a history goes on by it, the pointers
-        // that were lost are gone for good, and what was gone for good stays so.
-        ensures step { (gone : List Pointer) × IsStrictStep S.kind P.Gen.generations
+        ensures rest { KeepsTheRest self.old P.Gen.generations self.new }
+        ensures call { (gone : List Pointer) × IsStrictEnding S.kind P.Gen.generations
             self.old (to_retain gone) (clearing (pointers_lost self.old self.new) ∷ []) self.new }
-        ensures history { P.Gen.generations.counting ≡ true → Continues Fits self.old
-            (clearing (pointers_lost self.old self.new) ∷ []) self.new }
-        ensures gone_for_good { P.Gen.generations.counting ≡ true → (q : Pointer)
-            → IsSome (look_up self.old.slots q) → look_up self.new.slots q ≡ None
-            → IsGoneForGood self.new q }
-        ensures stays_gone { P.Gen.generations.counting ≡ true
-            → (q : Pointer) → IsGoneForGood self.old q → IsGoneForGood self.new q }
     {
         let ended = take_out_others(&mut self.arena, f);
         raise_if(&mut self.arena, ended);

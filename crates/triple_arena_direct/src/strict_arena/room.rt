@@ -1,17 +1,15 @@
 //! The room of a strict arena, its limit, and its free list.
 
-ghost use Rattle.std.specs.Prelude.{◌≡◌, ◌≤◌, ◌↔◌, ◌∷◌, [], false, true, IsOk, OnOk, OnErr, Some, Err, ◌+◌, ◌-◌, ◌*◌};
+ghost use Rattle.std.specs.Prelude.{◌≡◌, ◌≤◌, ◌↔◌, ◌∷◌, [], false, IsOk, OnOk, OnErr, Some, Err, ◌+◌, ◌-◌, ◌*◌};
 ghost use Rattle.triple_arena_ptr.specs.Numbers.{greatest_index};
-ghost use Rattle.triple_arena_ptr.specs.Pointers.{Pointer};
 ghost use Rattle.triple_arena_stack.specs.Capacity.{IsWithin, IsBeyond};
-ghost use Rattle.triple_arena_traits.specs.Entries.{look_up};
-ghost use Rattle.triple_arena_traits.specs.ArenaState.{slot_count, arena_len, capacity, is_free};
+ghost use Rattle.triple_arena_traits.specs.ArenaState.{slot_count, capacity, is_free};
 ghost use Rattle.triple_arena_traits.specs.SlotSteps.{RisesByAtMost, IsTouched};
 ghost use Rattle.triple_arena_traits.specs.FreeList.{tidied, without_free_end, IsTidied};
 ghost use Rattle.triple_arena_traits.specs.Reallocation.{reallocated, KeepsRoom, EndsBy, with_limit};
-ghost use Rattle.triple_arena_traits.specs.Histories.{resizing, Fits, Continues};
-ghost use Rattle.triple_arena_direct.specs.Gone.{IsGoneForGood};
-ghost use Rattle.triple_arena_direct.specs.StrictCalls.{IsStrictStep, to_reallocate, to_limit, to_tidy, to_give_up_end};
+ghost use Rattle.triple_arena_traits.specs.Histories.{resizing};
+ghost use Rattle.triple_arena_direct.specs.StrictCalls.{IsStrictCall, to_reallocate, to_limit, to_tidy, to_give_up_end};
+ghost use Rattle.triple_arena_direct.specs.StrictDone.{IsStrictlyReallocated, KeepsLookUps};
 ghost use Rattle.triple_arena_traits.specs.Items.{item};
 
 use super::StrictArena;
@@ -29,14 +27,11 @@ impl<P: Ptr, T, S: NonZeroInxGenericStack<ArenaSlot<P, T>>> StrictArena<P, T, S>
     /// same, no memory is taken.
     pub fn reallocate_min_capacity(&mut self, min_capacity: usize) -> Result<(), ReallocationError>
         // Done, there is room for so many; refused, the free list is tidied alone.
-        ensures done { OnOk result
-            (IsTouched (reallocated S.kind self.old min_capacity) self.new) }
+        ensures done { OnOk result (IsStrictlyReallocated self.old S.kind
+            (greatest_index P.Inx.greatest) min_capacity self.new) }
         ensures refused { OnErr result (IsTouched (tidied self.old) self.new) }
 
         // When it is refused, and when not.
-        ensures within { OnOk result
-            ((min_capacity ≤ greatest_index P.Inx.greatest)
-            × IsWithin self.old.limit min_capacity) }
         ensures beyond { (result ≡ Err ReallocationError.BeyondMaxCapacity)
             ↔ ((min_capacity ≤ greatest_index P.Inx.greatest)
             × IsBeyond self.old.limit min_capacity) }
@@ -47,19 +42,13 @@ impl<P: Ptr, T, S: NonZeroInxGenericStack<ArenaSlot<P, T>>> StrictArena<P, T, S>
             → IsWithin self.old.limit min_capacity
             → S.has_memory (reallocated S.kind self.old min_capacity).room → IsOk result }
 
-        // Done, so many fit. In each case every pointer finds what it found, and the limit stays.
-        ensures place { OnOk result (min_capacity ≤ capacity self.new) }
-        ensures kept { (q : Pointer) → look_up self.new.slots q ≡ look_up self.old.slots q }
-        ensures same_len { arena_len self.new ≡ arena_len self.old }
+        // In each case every pointer finds what it found, and the limit stays.
+        ensures kept { KeepsLookUps self.old self.new }
         ensures limit { self.new.limit ≡ self.old.limit }
 
-        // It is one strict call, done or refused: a history goes on by a `resizing`, and what was
-        // gone for good stays so.
-        ensures step { IsStrictStep S.kind P.Gen.generations
+        // It is one strict call, done or refused: a history goes on by a `resizing`.
+        ensures call { IsStrictCall S.kind P.Gen.generations
             self.old (to_reallocate min_capacity) (resizing ∷ []) self.new }
-        ensures history { Continues Fits self.old (resizing ∷ []) self.new }
-        ensures stays_gone { P.Gen.generations.counting ≡ true
-            → (q : Pointer) → IsGoneForGood self.old q → IsGoneForGood self.new q }
     {
         self.arena.reallocate_min_capacity(min_capacity)
     }
@@ -70,17 +59,12 @@ impl<P: Ptr, T, S: NonZeroInxGenericStack<ArenaSlot<P, T>>> StrictArena<P, T, S>
         // The free list is tidied, every pointer finds what it found, and the capacity stays.
         ensures state { IsTouched (tidied self.old) self.new }
         ensures tidied { IsTidied self.old self.new }
-        ensures kept { (q : Pointer) → look_up self.new.slots q ≡ look_up self.old.slots q }
-        ensures same_len { arena_len self.new ≡ arena_len self.old }
+        ensures kept { KeepsLookUps self.old self.new }
         ensures same_capacity { capacity self.new ≡ capacity self.old }
 
-        // It is one strict call: a history goes on by a `resizing`, and what was gone for good
-        // stays so.
-        ensures step { IsStrictStep S.kind P.Gen.generations
+        // It is one strict call: a history goes on by a `resizing`.
+        ensures call { IsStrictCall S.kind P.Gen.generations
             self.old to_tidy (resizing ∷ []) self.new }
-        ensures history { Continues Fits self.old (resizing ∷ []) self.new }
-        ensures stays_gone { P.Gen.generations.counting ≡ true
-            → (q : Pointer) → IsGoneForGood self.old q → IsGoneForGood self.new q }
     {
         self.arena.canonicalize_freelist();
     }
@@ -95,18 +79,13 @@ impl<P: Ptr, T, S: NonZeroInxGenericStack<ArenaSlot<P, T>>> StrictArena<P, T, S>
         ensures state { IsTouched (without_free_end self.old) self.new }
         ensures bounded { RisesByAtMost (6 * (slot_count self.old - slot_count self.new) + 2)
             self.old.steps self.new.steps }
-        ensures kept { (q : Pointer) → look_up self.new.slots q ≡ look_up self.old.slots q }
-        ensures same_len { arena_len self.new ≡ arena_len self.old }
+        ensures kept { KeepsLookUps self.old self.new }
         ensures same_capacity { capacity self.new ≡ capacity self.old }
         ensures ends_live { is_free (item self.new.slots (slot_count self.new)) ≡ false }
 
-        // It is one strict call: a history goes on by a `resizing`, and what was gone for good
-        // stays so.
-        ensures step { IsStrictStep S.kind P.Gen.generations
+        // It is one strict call: a history goes on by a `resizing`.
+        ensures call { IsStrictCall S.kind P.Gen.generations
             self.old to_give_up_end (resizing ∷ []) self.new }
-        ensures history { Continues Fits self.old (resizing ∷ []) self.new }
-        ensures stays_gone { P.Gen.generations.counting ≡ true
-            → (q : Pointer) → IsGoneForGood self.old q → IsGoneForGood self.new q }
     {
         self.arena.remove_free_end_slots();
     }
@@ -127,17 +106,12 @@ impl<P: Ptr, T, S: SetMaxCapacity<ArenaSlot<P, T>>> StrictArena<P, T, S> {
         ensures variant { IsOk result ↔ EndsBy self.old max_capacity }
         ensures done { OnOk result (IsTouched (with_limit self.old max_capacity) self.new) }
         ensures refused { OnErr result (IsTouched (tidied self.old) self.new) }
-        ensures kept { (q : Pointer) → look_up self.new.slots q ≡ look_up self.old.slots q }
-        ensures same_len { arena_len self.new ≡ arena_len self.old }
+        ensures kept { KeepsLookUps self.old self.new }
         ensures limit { OnOk result (self.new.limit ≡ Some max_capacity) }
 
-        // It is one strict call, done or refused: a history goes on by a `resizing`, and what was
-        // gone for good stays so.
-        ensures step { IsStrictStep S.kind P.Gen.generations
+        // It is one strict call, done or refused: a history goes on by a `resizing`.
+        ensures call { IsStrictCall S.kind P.Gen.generations
             self.old (to_limit max_capacity) (resizing ∷ []) self.new }
-        ensures history { Continues Fits self.old (resizing ∷ []) self.new }
-        ensures stays_gone { P.Gen.generations.counting ≡ true
-            → (q : Pointer) → IsGoneForGood self.old q → IsGoneForGood self.new q }
     {
         self.arena.set_max_capacity(max_capacity)
     }

@@ -25,13 +25,18 @@ returns g c =
       (refl, λ w. refl, tt),
       record {
         variant = (λ _. allowed, λ _. refl);
-        arena = c.raise_if_any.ensures.state;
-        draining = rw (← c.self.view_is) (before_first c.self.inside.arena c.advancer.result c.advancer.ensures);
-        leaves = rw c.raise_if_any.ensures.state (refl, omega arith);
-        step = rw c.raise_if_any.ensures.state step;
-        history = λ counts. rw c.raise_if_any.ensures.state (Continues-strict kind gens counts s to_clear (clearing (keys s.slots) ∷ []) left step);
-        gone_for_good = c.raise_if_any.ensures.gone_for_good;
-        stays_gone = c.raise_if_any.ensures.stays_gone;
+        done = record {
+          arena = c.raise_if_any.ensures.state;
+          draining = rw (← c.self.view_is) (before_first c.self.inside.arena c.advancer.result c.advancer.ensures);
+          leaves = rw c.raise_if_any.ensures.state (refl, omega arith);
+          call = record {
+            step = rw c.raise_if_any.ensures.state step;
+            history = λ counts. rw c.raise_if_any.ensures.state (Continues-strict kind gens counts s to_clear (clearing (keys s.slots) ∷ []) left step);
+            stays_gone = c.raise_if_any.ensures.stays_gone;
+          };
+          gone_for_good = c.raise_if_any.ensures.gone_for_good;
+        };
+        exhausted = tt;
         same_reference = refl;
         refused = tt;
       },

@@ -1,8 +1,8 @@
-use Rattle.triple_arena_traits.specs.Reallocation.{grown}
 use Rattle.triple_arena_traits.specs.Histories.{insertion}
-use Rattle.triple_arena_direct.specs.laws.GoneLaws.{up_to-continues, gone-continues}
+use Rattle.triple_arena_direct.specs.laws.GoneLaws.{up_to-continues}
 use Rattle.triple_arena_direct.specs.StrictAnswers.{calls_if_ok}
-use Rattle.triple_arena_direct.proofs.StrictAnswers.{counted_inserted, counted_place, inserted_history, step_inserted}
+use Rattle.triple_arena_direct.proofs.StrictAnswers.{counted_place, inserted_history}
+use Rattle.triple_arena_direct.proofs.StrictDone.{inserted_grown, grown_call}
 use Rattle.triple_arena_direct.proofs.strict_arena.StrictArena.insert_reallocating.Goals as goal
 
 pub invariant_of-self : goal.invariant_of-self
@@ -11,22 +11,17 @@ invariant_of-self g c counts =
     (calls_if_ok c.insert_reallocating.result (λ p. insertion (g.P.Ptr.numbers p)))
     (inserted_history g.P.Ptr.numbers _ _ c.insert_reallocating.result c.insert_reallocating.ensures.history c.insert_reallocating.ensures.refused)
 
-pub returns-clause-step : goal.returns-clause-step
-returns-clause-step g c =
-    rw (← c.self.view_is) (step_inserted g.P.Ptr.numbers g.S.NonZeroInxGenericStack.kind g.P.Gen.PtrGen.generations
-    c.self.inside.arena c.insert_reallocating.new.self c.args.t c.insert_reallocating.result c.insert_reallocating.ensures.valid (λ less. (c.insert_reallocating.ensures.had_place less).0)
-    c.insert_reallocating.ensures.pointer (counted_inserted (grown g.S.NonZeroInxGenericStack.kind c.self.inside.arena) c.insert_reallocating.new.self c.args.t c.insert_reallocating.result c.insert_reallocating.ensures.inserted) c.insert_reallocating.ensures.refused)
-
-pub returns-clause-stays_gone : goal.returns-clause-stays_gone
-returns-clause-stays_gone g c =
-    rw (← c.self.view_is) (λ counts. gone-continues c.self.inside.arena c.insert_reallocating.new.self (c.self.invariant counts)
-    (calls_if_ok c.insert_reallocating.result (λ p. insertion (g.P.Ptr.numbers p)))
-    (inserted_history g.P.Ptr.numbers _ _ c.insert_reallocating.result c.insert_reallocating.ensures.history c.insert_reallocating.ensures.refused))
-
-pub returns-clause-inserted : goal.returns-clause-inserted
-returns-clause-inserted g c =
-    rw (← c.self.view_is) (counted_inserted (grown g.S.NonZeroInxGenericStack.kind c.self.inside.arena) c.insert_reallocating.new.self c.args.t c.insert_reallocating.result c.insert_reallocating.ensures.inserted)
+pub returns-clause-done : goal.returns-clause-done
+returns-clause-done g c =
+    let is = c.insert_reallocating.ensures in
+    rw (← c.self.view_is) (inserted_grown g.P.Ptr.numbers c.self.inside.arena c.insert_reallocating.new.self c.args.t g.S.NonZeroInxGenericStack.kind c.insert_reallocating.result is.valid is.pointer is.place is.inserted)
 
 pub returns-clause-had_place : goal.returns-clause-had_place
 returns-clause-had_place g c =
     rw (← c.self.view_is) (λ less. counted_place c.self.inside.arena c.insert_reallocating.new.self c.args.t c.insert_reallocating.result (c.insert_reallocating.ensures.had_place less))
+
+pub returns-clause-call : goal.returns-clause-call
+returns-clause-call g c =
+    let is = c.insert_reallocating.ensures in
+    rw (← c.self.view_is) (grown_call g.P.Ptr.numbers c.self.inside.arena c.insert_reallocating.new.self c.args.t g.S.NonZeroInxGenericStack.kind g.P.Gen.PtrGen.generations
+    c.insert_reallocating.result c.self.invariant is.valid is.pointer is.refused is.history (λ less. (is.had_place less).0) is.inserted)

@@ -5,3 +5,6 @@ pub mod Cutting
 pub mod Joints
 pub mod Thinning
 pub mod Written
+pub mod Sizes
+pub mod Emptied
+pub mod Listing

@@ -1,13 +1,13 @@
 -- What is read of the links of an arena, and what a write to one leaves.
 use Rattle.std.proofs.Common.{◌≡◌, ◌≢◌, ℕ, Bool, true, false, cond, List, Option, Some, None, refl, sym, ap, ◌∙◌}
 use Rattle.std.proofs.lemmas.Bool.{true≢false}
-use Rattle.std.specs.Option.{option_map}
+use Rattle.std.specs.Option.{option_map, option_and_then}
 use Rattle.triple_arena_ptr.specs.Pointers.{Pointer, is_same}
-use Rattle.triple_arena.specs.Entries.{entry_in, look_up, with_value_in}
+use Rattle.triple_arena.specs.Entries.{entry_in, look_up, value_of_generation, with_value_in}
 use Rattle.triple_arena.specs.laws.LookUpLaws.{found_mapped, written_there, written_elsewhere, inserted_elsewhere}
 use Rattle.triple_arena.specs.laws.PointerListLaws.{same_itself, same_is}
 use Rattle.triple_arena_chain.specs.declared.link.Link.{Link}
-use Rattle.triple_arena_chain.specs.Chains.{Node, node_of, node_slots, changed}
+use Rattle.triple_arena_chain.specs.Chains.{Node, node_of, node_slots, changed, IsPut}
 
 module _ {P T : Type 0} (numbers : P → Pointer) where
   pub read_link : (slots : List (Option (ℕ × Link P T))) (q : Pointer) → look_up (node_slots numbers slots) q ≡ option_map (node_of numbers) (look_up slots q)
@@ -32,8 +32,11 @@ module _ {P T : Type 0} (numbers : P → Pointer) where
   pub same_link : (old new : List (Option (ℕ × Link P T))) (r : Pointer) → look_up new r ≡ look_up old r → look_up (node_slots numbers new) r ≡ look_up (node_slots numbers old) r
   same_link old new r same = read_link new r ∙ ap (option_map (node_of numbers)) same ∙ sym (read_link old r)
 
-  -- an entry where none stood leaves every other pointer what it found
-  pub others_stay : (old new : List (Option (ℕ × Link P T))) (q : Pointer) (v : Link P T) → entry_in old q.0 ≡ None → look_up new q ≡ Some v
-      → ((r : Pointer) → r.0 ≢ q.0 → look_up new r ≡ look_up old r) → (r : Pointer) → r ≢ q → look_up (node_slots numbers new) r ≡ look_up (node_slots numbers old) r
-  others_stay old new q v free found others r other =
-      same_link old new r (inserted_elsewhere old new q v free found others r other)
+  -- an entry where none stood is put, and leaves every other pointer what it found
+  pub is_put : (old new : List (Option (ℕ × Link P T))) (q : Pointer) (v : Link P T) → entry_in old q.0 ≡ None → look_up new q ≡ Some v
+      → ((r : Pointer) → r.0 ≢ q.0 → look_up new r ≡ look_up old r) → IsPut (look_up (node_slots numbers old)) q (node_of numbers v) (look_up (node_slots numbers new))
+  is_put old new q v free found others = record {
+    free = read_link old q ∙ ap (λ e. option_map (node_of numbers) (option_and_then (value_of_generation q.1) e)) free;
+    found = read_link new q ∙ ap (option_map (node_of numbers)) found;
+    others = λ r other. same_link old new r (inserted_elsewhere old new q v free found others r other);
+  }

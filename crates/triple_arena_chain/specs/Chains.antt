@@ -83,6 +83,12 @@ module _ {T : Type 0} where
     pub after_prev : (p : Pointer) → prev ≡ Some p → after_at nodes p ≡ next
     pub before_next : (n : Pointer) → next ≡ Some n → before_at nodes n ≡ prev
 
+  -- a node stands under a pointer that found nothing before; all else is as before
+  pub record IsPut (old : Pointer → Option (Node T)) (q : Pointer) (node : Node T) (new : Pointer → Option (Node T)) : Type 0 where
+    pub free : old q ≡ None
+    pub found : new q ≡ Some node
+    pub others : (r : Pointer) → r ≢ q → new r ≡ old r
+
   -- a value stands under a pointer that found nothing before, between these neighbours, if there are any; they lead to it, and
   -- all else is as before
   pub record IsInserted (old : Pointer → Option (Node T)) (prev next : Option Pointer) (q : Pointer) (value : T) (new : Pointer → Option (Node T)) : Type 0 where
@@ -114,6 +120,11 @@ module _ {T : Type 0} where
   -- the chain of the one goes on with the chain of the other
   abbrev pub IsJoined : (old : Pointer → Option (Node T)) (last first : Pointer) (new : Pointer → Option (Node T)) → Type 0
   IsJoined old last first new = IsTied old (Some last) (Some first) (Some first) (Some last) new
+
+  -- none stands after the one, and none before the other
+  pub record AreOpen (nodes : Pointer → Option (Node T)) (last first : Pointer) : Type 0 where
+    pub open_after : after_at nodes last ≡ None
+    pub open_before : before_at nodes first ≡ None
 
   -- a chain is cut between two neighbours
   abbrev pub IsCut : (old : Pointer → Option (Node T)) (prev next : Option Pointer) (new : Pointer → Option (Node T)) → Type 0
@@ -150,6 +161,10 @@ module _ {T : Type 0} where
   -- the values under pointers, in their order
   abbrev pub values_at : (Pointer → Option (Node T)) → List Pointer → List (Option T)
   values_at nodes ps = map (value_at nodes) ps
+
+  -- these pointers stand one after another in a chain, before the given one or none, and have these values
+  abbrev pub Lists : (Pointer → Option (Node T)) → List Pointer → Option Pointer → List (Option T) → Type 0
+  Lists nodes ps rest values = IsRun nodes ps rest × (values_at nodes ps ≡ values)
 
   -- a step of an advancer: it answers the pointer at which it stands, if that is found, and passes it; else it stays
   abbrev pub Passes : (Pointer → Option (Node T)) → ChainStand → (answer : Option Pointer) → ChainStand → Type 0
@@ -253,3 +268,7 @@ module _ {P T : Type 0} (numbers : P → Pointer) where
 
   abbrev pub state_of : {A : Type 0} → A → List (Option (ℕ × Link P T)) → (capacity : ℕ) (limit : Option ℕ) → ChainState A T
   state_of arena slots capacity limit = record { arena = arena; slots = node_slots slots; len = entry_count slots; capacity = capacity; limit = limit }
+
+  -- the chains in an arena, as its words tell them
+  abbrev pub chains_in : {A : Type 0} → (A → List (Option (ℕ × Link P T))) → (A → ℕ) → (A → Option ℕ) → A → ChainState A T
+  chains_in slots capacity limit arena = state_of arena (slots arena) (capacity arena) (limit arena)

@@ -1,25 +1,23 @@
 //! Chains over any compact arena.
 
-ghost use Rattle.std.specs.Prelude.{◌≡◌, ◌≢◌, ◌≤◌, ◌<◌, ◌↔◌, ◌+◌, [], ◌∷◌, None, Some, Err, IsOk, IsSome, is_some, IfSome, IfOk, OnOk, OnErr, option_copied, min};
+ghost use Rattle.std.specs.Prelude.{◌≡◌, ◌≤◌, ◌↔◌, ◌+◌, ◌==◌, [], ◌∷◌, None, Some, Err, IsOk, IsSome, is_some, IfSome, IfOk, OnOk, OnErr, option_copied, min};
 ghost use Rattle.std.specs.Option.{option_map};
 ghost use Rattle.std.specs.Result.{IfErr};
-ghost use Rattle.triple_arena_base.specs.Invalidation.{allowed_option};
-ghost use Rattle.triple_arena_ptr.specs.Pointers.{Pointer};
 ghost use Rattle.triple_arena_ptr.specs.Numbers.{greatest_index};
-ghost use Rattle.triple_arena_stack.specs.Capacity.{stack_capacity, IsFullAtLimit, CanGrow};
-ghost use Rattle.triple_arena_stack.specs.StackKind.{new_room, new_limit};
-ghost use Rattle.triple_arena.specs.Ending.{told};
+ghost use Rattle.triple_arena_stack.specs.Capacity.{stack_capacity};
+ghost use Rattle.triple_arena_stack.specs.StackKind.{new_room, new_limit, made_room, made_limit, CanHold, TakesNoMemory};
 ghost use Rattle.triple_arena.specs.Entries.{entry_count};
-ghost use Rattle.triple_arena.specs.Histories.{History, insertion, removal, remains, CountsUp, Continues};
-ghost use Rattle.triple_arena_chain.specs.Endings.{EndsAt};
-ghost use Rattle.triple_arena_chain.specs.Chains.{Node, nodes, value_at, before_at, after_at, IsLinked, place_at, place_before, place_after, IsInserted, IsRemoved, IsRefusedRoom};
+ghost use Rattle.triple_arena.specs.Histories.{History, insertion, remains, Continues};
+ghost use Rattle.triple_arena_chain.specs.Endings.{EndsEntry};
+ghost use Rattle.triple_arena_chain.specs.Chains.{nodes, value_at, before_at, after_at, IsLinked, place_at, place_before, place_after, IsInserted, IsRemoved};
+ghost use Rattle.triple_arena_chain.specs.Room.{AreEmpty, KeepsRoom, HasOneMore, DependsOnRoom, TellsValue};
 
 use crate::link::Link;
 use crate::place::{ChainError, Place};
 use crate::steps::{insert_between, unlink};
 use std::alloc::Global;
 use std::marker::{Model, PhantomData};
-use triple_arena::{ArenaInsertTrait, ArenaTrait, CompactArenaTrait};
+use triple_arena::{AllocError, Arena, ArenaInsertTrait, ArenaTrait, CompactArenaTrait};
 use triple_arena_base::InvalidationOption;
 use triple_arena_ptr::{Ptr, PtrGen, PtrInx};
 
@@ -31,7 +29,7 @@ use triple_arena_ptr::{Ptr, PtrGen, PtrInx};
 pub struct Chains<
     P: Ptr,
     T,
-    A: CompactArenaTrait<P, Link<P, T>> + ArenaInsertTrait<P, Link<P, T>>,
+    A: CompactArenaTrait<P, Link<P, T>> + ArenaInsertTrait<P, Link<P, T>> = Arena<P, Link<P, T>>,
 > {
     pub(crate) arena: A,
     of: PhantomData<(P, T)>,
@@ -55,20 +53,66 @@ impl<P: Ptr, T, A: CompactArenaTrait<P, Link<P, T>> + ArenaInsertTrait<P, Link<P
     T,
     A,
 > {
-    /// Chains without entries, with the room and the limit of a new stack. It takes no memory.
+    /// Chains without entries in a new arena, with the room and the limit of a new stack. It takes no
+    /// memory.
     pub fn new(alloc: Global) -> Self
-        // The arena is a new one, and has no entries.
         ensures arena { result.arena ≡ A.empty (new_room A.kind) (new_limit A.kind) }
-        ensures none { (q : Pointer) → nodes result q ≡ None }
-        ensures len { result.len ≡ 0 }
+        ensures empty { AreEmpty (min (stack_capacity (new_room A.kind) (new_limit A.kind))
+            (greatest_index P.Inx.greatest)) (new_limit A.kind) result }
+    {
+        Chains::of_arena(A::new(alloc))
+    }
 
-        // Its room is that of a new stack.
-        ensures capacity { result.capacity ≡ min (stack_capacity (new_room A.kind)
-            (new_limit A.kind)) (greatest_index P.Inx.greatest) }
-        ensures limit { result.limit ≡ new_limit A.kind }
+    /// Chains without entries in a new arena, with room for `min_capacity`.
+    ///
+    /// Refused where the arena's own constructor with room is: past the greatest index, where the stack
+    /// can't hold so many, and where memory is refused, which it isn't where it is there.
+    pub fn with_min_capacity(alloc: Global, min_capacity: usize) -> Result<Self, AllocError>
+        // Done: there is room for so many.
+        ensures arena { IfOk result (λ chains. chains.arena
+            ≡ A.empty (made_room A.kind min_capacity) (made_limit A.kind min_capacity)) }
+        ensures empty { IfOk result (AreEmpty
+            (min (stack_capacity (made_room A.kind min_capacity) (made_limit A.kind min_capacity))
+            (greatest_index P.Inx.greatest)) (made_limit A.kind min_capacity)) }
+        ensures holds { OnOk result
+            ((min_capacity ≤ greatest_index P.Inx.greatest) × CanHold A.kind min_capacity) }
+
+        // It isn't refused where it takes no memory, nor where memory is there.
+        ensures succeeds { min_capacity ≤ greatest_index P.Inx.greatest
+            → TakesNoMemory A.kind min_capacity → IsOk result }
+        ensures with_memory { min_capacity ≤ greatest_index P.Inx.greatest
+            → CanHold A.kind min_capacity → A.has_memory min_capacity → IsOk result }
+    {
+        match A::with_min_capacity(alloc, min_capacity) {
+            Ok(arena) => Ok(Chains::of_arena(arena)),
+            Err(refusal) => Err(refusal),
+        }
+    }
+
+    /// Chains without entries in this arena, with its room, its limit and its counter. It takes no memory.
+    ///
+    /// Refused exactly where the arena has an entry; then it comes back.
+    pub fn over(arena: A) -> Result<Self, A>
+        ensures arena { IfOk result (λ chains. chains.arena ≡ arena) }
+        ensures empty { IfOk result (AreEmpty (A.capacity arena) (A.limit arena)) }
+        ensures back { IfErr result (λ back. back ≡ arena) }
+        ensures variant { IsOk result ↔ (entry_count (A.slots arena) ≡ 0) }
+    {
+        if arena.is_empty() {
+            Ok(Chains::of_arena(arena))
+        } else {
+            Err(arena)
+        }
+    }
+
+    // Chains in an arena, which has no entries.
+    fn of_arena(arena: A) -> Self
+        requires { entry_count (A.slots arena) ≡ 0 }
+        ensures arena { result.arena ≡ arena }
+        ensures empty { AreEmpty (A.capacity arena) (A.limit arena) result }
     {
         Chains {
-            arena: A::new(alloc),
+            arena,
             of: PhantomData,
         }
     }
@@ -81,6 +125,13 @@ impl<P: Ptr, T, A: CompactArenaTrait<P, Link<P, T>> + ArenaInsertTrait<P, Link<P
         ensures linked { IsLinked (nodes self.now) }
     {
         self.arena.len()
+    }
+
+    /// Whether there is no entry.
+    pub fn is_empty(&self) -> bool
+        ensures { result ≡ (self.now.len == 0) }
+    {
+        self.arena.is_empty()
     }
 
     /// The value under a pointer.
@@ -126,27 +177,17 @@ impl<P: Ptr, T, A: CompactArenaTrait<P, Link<P, T>> + ArenaInsertTrait<P, Link<P
     pub fn insert_new(&mut self, value: T) -> Result<P, ChainError>
     where
         T: Drop,
-        // Done: the value stands alone in a chain. A full arena has grown as its own insertions have it grow.
+        // Done: the value stands alone in a chain.
         ensures inserted { IfOk result (λ q.
             IsInserted (nodes self.old) None None (P.numbers q) value (nodes self.new)) }
-        ensures len { OnOk result (self.new.len ≡ self.old.len + 1) }
-        ensures capacity { OnOk result (self.old.capacity ≤ self.new.capacity) }
-        ensures limit { OnOk result (self.new.limit ≡ self.old.limit) }
-        ensures grown { OnOk result (self.new.capacity ≡ A.capacity (A.grown self.old.arena)) }
+        ensures size { OnOk result (HasOneMore A.capacity A.grown self.old self.new) }
         ensures history { IfOk result (λ q. Continues A.fits self.old.arena
             (insertion (P.numbers q) ∷ []) self.new.arena) }
 
         // Refused: nothing has changed, and room or memory was refused.
         ensures refused { OnErr result (self.new ≡ self.old) }
-        ensures refusal { IfErr result IsRefusedRoom }
-        ensures no_room { (result ≡ Err ChainError.NoRoom)
-            ↔ IsFullAtLimit self.old.capacity self.old.limit (self.old.len) }
-
-        // It isn't refused where memory is there, nor where a place is.
-        ensures with_memory { CanGrow A.has_memory self.old.capacity self.old.limit
-            (greatest_index P.Inx.greatest) → IsOk result }
-        ensures had_place { self.old.len < self.old.capacity
-            → IsOk result × (self.new.capacity ≡ self.old.capacity) }
+        ensures room { DependsOnRoom A.has_memory (greatest_index P.Inx.greatest)
+            self.old result }
     {
         insert_between(&mut self.arena, value, None, None)
     }
@@ -157,15 +198,12 @@ impl<P: Ptr, T, A: CompactArenaTrait<P, Link<P, T>> + ArenaInsertTrait<P, Link<P
     pub fn insert(&mut self, place: Place<P>, value: T) -> Result<P, ChainError>
     where
         T: Drop,
-        // Done: the value stands at the place. A full arena has grown as its own insertions have it grow.
+        // Done: the value stands at the place.
         ensures inserted { IfOk result (λ q. IsInserted (nodes self.old)
             (place_before P.numbers (nodes self.old) place)
             (place_after P.numbers (nodes self.old) place)
             (P.numbers q) value (nodes self.new)) }
-        ensures len { OnOk result (self.new.len ≡ self.old.len + 1) }
-        ensures capacity { OnOk result (self.old.capacity ≤ self.new.capacity) }
-        ensures limit { OnOk result (self.new.limit ≡ self.old.limit) }
-        ensures grown { OnOk result (self.new.capacity ≡ A.capacity (A.grown self.old.arena)) }
+        ensures size { OnOk result (HasOneMore A.capacity A.grown self.old self.new) }
         ensures history { IfOk result (λ q. Continues A.fits self.old.arena
             (insertion (P.numbers q) ∷ []) self.new.arena) }
 
@@ -173,19 +211,8 @@ impl<P: Ptr, T, A: CompactArenaTrait<P, Link<P, T>> + ArenaInsertTrait<P, Link<P
         ensures refused { OnErr result (self.new ≡ self.old) }
         ensures no_entry { (result ≡ Err ChainError.NoEntry)
             ↔ (nodes self.old (place_at P.numbers place) ≡ None) }
-        ensures refusal { IsSome (nodes self.old (place_at P.numbers place))
-            → IfErr result IsRefusedRoom }
-        ensures no_room { IsSome (nodes self.old (place_at P.numbers place))
-            → ((result ≡ Err ChainError.NoRoom)
-            ↔ IsFullAtLimit self.old.capacity self.old.limit (self.old.len)) }
-
-        // Where the pointer finds an entry, it isn't refused where memory is there, nor where a place is.
-        ensures with_memory { IsSome (nodes self.old (place_at P.numbers place))
-            → CanGrow A.has_memory self.old.capacity self.old.limit
-            (greatest_index P.Inx.greatest) → IsOk result }
-        ensures had_place { IsSome (nodes self.old (place_at P.numbers place))
-            → self.old.len < self.old.capacity
-            → IsOk result × (self.new.capacity ≡ self.old.capacity) }
+        ensures room { IsSome (nodes self.old (place_at P.numbers place))
+            → DependsOnRoom A.has_memory (greatest_index P.Inx.greatest) self.old result }
     {
         match self.ends(place) {
             Some((prev, next)) => insert_between(&mut self.arena, value, prev, next),
@@ -220,17 +247,13 @@ impl<P: Ptr, T, A: CompactArenaTrait<P, Link<P, T>> + ArenaInsertTrait<P, Link<P
     /// exactly where the removal from the arena wraps its counter (`answer`).
     pub fn remove(&mut self, p: P) -> Result<InvalidationOption<T>, ChainError>
         // Done: the value comes back, told with a wrap if there was one, and its entry is gone.
-        ensures value { IfOk result (λ answer.
-            value_at (nodes self.old) (P.numbers p) ≡ Some (allowed_option answer)) }
-        ensures answer { IfOk result (λ answer. answer
-            ≡ told (A.ending_wraps self.old.arena) (allowed_option answer)) }
+        ensures answer { IfOk result (TellsValue (A.ending_wraps self.old.arena)
+            (value_at (nodes self.old) (P.numbers p))) }
         ensures removed { OnOk result
             (IsRemoved (nodes self.old) (P.numbers p) (nodes self.new)) }
-        ensures ended { OnOk result
-            (EndsAt A.removes A.with_value self.old.arena (P.numbers p).0 self.new.arena) }
+        ensures ended { OnOk result (EndsEntry A.removes A.with_value A.fits P.Gen.generations
+            (A.ending_wraps self.old.arena) self.old.arena (P.numbers p) self.new.arena) }
         ensures len { OnOk result (self.new.len + 1 ≡ self.old.len) }
-        ensures history { OnOk result (CountsUp P.Gen.generations (A.ending_wraps self.old.arena)
-            → Continues A.fits self.old.arena (removal (P.numbers p) ∷ []) self.new.arena) }
 
         // Refused: nothing has changed, and the pointer found nothing.
         ensures refused { OnErr result (self.new ≡ self.old) }
@@ -239,8 +262,7 @@ impl<P: Ptr, T, A: CompactArenaTrait<P, Link<P, T>> + ArenaInsertTrait<P, Link<P
         ensures refusal { IfErr result (λ refusal. refusal ≡ ChainError.NoEntry) }
 
         // In each case the room stays.
-        ensures capacity { self.new.capacity ≡ self.old.capacity }
-        ensures limit { self.new.limit ≡ self.old.limit }
+        ensures room { KeepsRoom self.old self.new }
     {
         let Some(_link) = self.arena.get(p) else {
             return Err(ChainError::NoEntry);

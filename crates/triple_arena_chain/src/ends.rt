@@ -3,7 +3,7 @@
 ghost use Rattle.std.specs.Prelude.{◌≡◌, ◌≢◌, ◌↔◌, ◌⊎◌, [], None, Some, IsSome, OnOk, OnErr, Err};
 ghost use Rattle.std.specs.Result.{IfErr};
 ghost use Rattle.triple_arena.specs.Histories.{Continues};
-ghost use Rattle.triple_arena_chain.specs.Chains.{nodes, before_at, after_at, KeepsSize, IsCut, IsJoined, KeepsApart};
+ghost use Rattle.triple_arena_chain.specs.Chains.{nodes, before_at, after_at, KeepsSize, IsCut, IsJoined, AreOpen, KeepsApart};
 
 use crate::chains::Chains;
 use crate::link::Link;
@@ -80,8 +80,8 @@ impl<P: Ptr, T, A: CompactArenaTrait<P, Link<P, T>> + ArenaInsertTrait<P, Link<P
         // Done: the one chain, which was open there, goes on with the other.
         ensures joined { OnOk result (IsJoined (nodes self.old)
             (P.numbers last) (P.numbers first) (nodes self.new)) }
-        ensures open_after { OnOk result (after_at (nodes self.old) (P.numbers last) ≡ None) }
-        ensures open_before { OnOk result (before_at (nodes self.old) (P.numbers first) ≡ None) }
+        ensures open { OnOk result
+            (AreOpen (nodes self.old) (P.numbers last) (P.numbers first)) }
 
         // Refused: nothing has changed. A pointer found nothing, or the one had an entry after it, or the other
         // one before it.

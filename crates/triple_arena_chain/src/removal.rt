@@ -1,13 +1,16 @@
-//! A whole chain that is taken out.
+//! Whole chains that are taken out.
 
-ghost use Rattle.std.specs.Prelude.{◌≡◌, ◌≢◌, ◌+◌, ◌↔◌, not, List, [], ◌∷◌, map, None, Some, IsSome, IfSome, IfOk, OnOk, OnErr, Err};
+ghost use Rattle.std.specs.Prelude.{◌≡◌, ◌≢◌, ◌+◌, ◌↔◌, not, [], ◌∷◌, None, Some, IsSome, IfSome, IfOk, OnOk, OnErr, Err};
 ghost use Rattle.std.specs.Option.{option_map};
 ghost use Rattle.std.specs.Result.{IfErr};
 ghost use Rattle.triple_arena_base.specs.Invalidation.{allowed_option, is_success_option};
-ghost use Rattle.triple_arena_ptr.specs.Pointers.{Pointer, is_same};
-ghost use Rattle.triple_arena.specs.Histories.{removal, CountsUp, Continues};
-ghost use Rattle.triple_arena_chain.specs.Endings.{EndsAt, EndInTurn};
+ghost use Rattle.triple_arena_ptr.specs.Pointers.{Pointer};
+ghost use Rattle.triple_arena.specs.Ending.{told};
+ghost use Rattle.triple_arena.specs.Histories.{clearing, CountsUp, Continues};
+ghost use Rattle.triple_arena.specs.Walks.{keys};
+ghost use Rattle.triple_arena_chain.specs.Endings.{EndsEntry, EndsEntries};
 ghost use Rattle.triple_arena_chain.specs.Chains.{nodes, IsLinked, IsAlone, IsBeside, IsRemoved, IsChainRemoved};
+ghost use Rattle.triple_arena_chain.specs.Room.{AreEmpty, KeepsRoom};
 
 use crate::chains::Chains;
 use crate::link::Link;
@@ -34,12 +37,9 @@ impl<P: Ptr, T, A: CompactArenaTrait<P, Link<P, T>> + ArenaInsertTrait<P, Link<P
             (IsChainRemoved (nodes self.old) (P.numbers p) (nodes self.new)) }
         ensures len { IfOk result
             (λ answer. self.new.len + allowed_option answer ≡ self.old.len) }
-        ensures wrap { IfOk result (λ answer. (gone : List Pointer)
-            × EndInTurn A.removes A.with_value A.ending_wraps self.old.arena gone
-            (not (is_success_option answer)) self.new.arena) }
-        ensures history { IfOk result (λ answer.
-            CountsUp P.Gen.generations (not (is_success_option answer)) → (gone : List Pointer)
-            × Continues A.fits self.old.arena (map removal gone) self.new.arena) }
+        ensures ended { IfOk result (λ answer. EndsEntries A.removes A.with_value A.fits
+            P.Gen.generations A.ending_wraps self.old.arena (not (is_success_option answer))
+            self.new.arena) }
 
         // Refused: nothing has changed, and the pointer found nothing.
         ensures refused { OnErr result (self.new ≡ self.old) }
@@ -48,8 +48,7 @@ impl<P: Ptr, T, A: CompactArenaTrait<P, Link<P, T>> + ArenaInsertTrait<P, Link<P
         ensures refusal { IfErr result (λ refusal. refusal ≡ ChainError.NoEntry) }
 
         // In each case the room stays.
-        ensures capacity { self.new.capacity ≡ self.old.capacity }
-        ensures limit { self.new.limit ≡ self.old.limit }
+        ensures room { KeepsRoom self.old self.new }
     {
         let Some(_value) = self.get(p) else {
             return Err(ChainError::NoEntry);
@@ -63,6 +62,21 @@ impl<P: Ptr, T, A: CompactArenaTrait<P, Link<P, T>> + ArenaInsertTrait<P, Link<P
         Ok(telling(wrapped, all - self.len()))
     }
 
+    /// Takes out every entry, of all chains. `GenerationOverflow` exactly where clearing the arena wraps
+    /// its counter (`answer`).
+    pub fn clear(&mut self) -> InvalidationOption<()>
+    where
+        T: Drop,
+        ensures answer { result ≡ told (A.clearing_wraps self.old.arena) tt }
+        ensures empty { AreEmpty self.old.capacity self.old.limit self.new }
+        ensures cleared { A.clears self.old.arena self.new.arena }
+        ensures history { CountsUp P.Gen.generations (A.clearing_wraps self.old.arena)
+            → Continues A.fits self.old.arena (clearing (keys (A.slots self.old.arena)) ∷ [])
+            self.new.arena }
+    {
+        self.arena.clear()
+    }
+
     // Takes out the entry of a pointer, which is there, drops its value, and tells whether that wrapped
     // the arena's counter.
     fn let_go(&mut self, p: P) -> bool
@@ -71,12 +85,10 @@ impl<P: Ptr, T, A: CompactArenaTrait<P, Link<P, T>> + ArenaInsertTrait<P, Link<P
         requires { IsSome (nodes self.old (P.numbers p)) }
         ensures removed { IsRemoved (nodes self.old) (P.numbers p) (nodes self.new) }
         ensures len { self.new.len + 1 ≡ self.old.len }
-        ensures capacity { self.new.capacity ≡ self.old.capacity }
-        ensures limit { self.new.limit ≡ self.old.limit }
+        ensures room { KeepsRoom self.old self.new }
         ensures wrapped { result ≡ A.ending_wraps self.old.arena }
-        ensures ended { EndsAt A.removes A.with_value self.old.arena (P.numbers p).0 self.new.arena }
-        ensures history { CountsUp P.Gen.generations result
-            → Continues A.fits self.old.arena (removal (P.numbers p) ∷ []) self.new.arena }
+        ensures ended { EndsEntry A.removes A.with_value A.fits P.Gen.generations
+            (A.ending_wraps self.old.arena) self.old.arena (P.numbers p) self.new.arena }
     {
         let removed = self.remove(p);
         let answer = removed.unwrap();

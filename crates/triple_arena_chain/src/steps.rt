@@ -1,17 +1,16 @@
 //! Steps on the links of an arena. Of neighbours that lead to each other they know nothing.
 
-ghost use Rattle.std.specs.Prelude.{◌≡◌, ◌≢◌, ℕ, ◌≤◌, ◌<◌, ◌↔◌, ◌+◌, List, [], ◌∷◌, None, Some, Err, IsOk, IsSome, IfOk, OnOk, OnErr};
+ghost use Rattle.std.specs.Prelude.{◌≡◌, ◌≢◌, ℕ, ◌<◌, ◌↔◌, ◌+◌, List, [], ◌∷◌, None, Err, IsOk, IsSome, IfOk, OnOk, OnErr};
 ghost use Rattle.std.specs.Option.{option_map};
-ghost use Rattle.std.specs.Result.{IfErr};
-ghost use Rattle.triple_arena_base.specs.Invalidation.{allowed_option};
 ghost use Rattle.triple_arena_ptr.specs.Pointers.{Pointer, is_same};
 ghost use Rattle.triple_arena_ptr.specs.Numbers.{greatest_index};
 ghost use Rattle.triple_arena_stack.specs.Capacity.{IsFullAtLimit, CanGrow};
 ghost use Rattle.triple_arena.specs.Ending.{told};
 ghost use Rattle.triple_arena.specs.Entries.{look_up, entry_count};
 ghost use Rattle.triple_arena.specs.Histories.{insertion, removal, CountsUp, Continues};
-ghost use Rattle.triple_arena_chain.specs.Chains.{node_slots, value_at, changed, with_after, with_before, IsThere, IsInserted, IsRemoved, IsLinked, IsRefusedRoom};
-ghost use Rattle.triple_arena_chain.specs.Endings.{with_values, EndsAt};
+ghost use Rattle.triple_arena_chain.specs.Chains.{node_of, node_slots, value_at, changed, with_after, with_before, IsThere, IsPut, IsInserted, IsRemoved, IsLinked, KeepsSize, chains_in};
+ghost use Rattle.triple_arena_chain.specs.Endings.{with_values, EndsEntry};
+ghost use Rattle.triple_arena_chain.specs.Room.{KeepsRoom, HasOneMore, DependsOnRoom, TellsValue};
 
 use crate::link::Link;
 use crate::place::ChainError;
@@ -36,9 +35,8 @@ pub(crate) fn lead_on<P: Ptr, T, A: ArenaTrait<P, Link<P, T>>>(
     ensures nodes { (q : Pointer) → look_up (node_slots P.numbers (A.slots arena.new)) q
         ≡ changed (option_map P.numbers at) (with_after (option_map P.numbers after)) q
         (look_up (node_slots P.numbers (A.slots arena.old)) q) }
-    ensures len { entry_count (A.slots arena.new) ≡ entry_count (A.slots arena.old) }
-    ensures capacity { A.capacity arena.new ≡ A.capacity arena.old }
-    ensures limit { A.limit arena.new ≡ A.limit arena.old }
+    ensures size { KeepsSize (chains_in P.numbers A.slots A.capacity A.limit arena.old)
+        (chains_in P.numbers A.slots A.capacity A.limit arena.new) }
     ensures written { (writes : List (ℕ × Link P T))
         × (arena.new ≡ with_values A.with_value arena.old writes) }
     ensures history { Continues A.fits arena.old [] arena.new }
@@ -62,9 +60,8 @@ pub(crate) fn lead_back<P: Ptr, T, A: ArenaTrait<P, Link<P, T>>>(
     ensures nodes { (q : Pointer) → look_up (node_slots P.numbers (A.slots arena.new)) q
         ≡ changed (option_map P.numbers at) (with_before (option_map P.numbers before)) q
         (look_up (node_slots P.numbers (A.slots arena.old)) q) }
-    ensures len { entry_count (A.slots arena.new) ≡ entry_count (A.slots arena.old) }
-    ensures capacity { A.capacity arena.new ≡ A.capacity arena.old }
-    ensures limit { A.limit arena.new ≡ A.limit arena.old }
+    ensures size { KeepsSize (chains_in P.numbers A.slots A.capacity A.limit arena.old)
+        (chains_in P.numbers A.slots A.capacity A.limit arena.new) }
     ensures written { (writes : List (ℕ × Link P T))
         × (arena.new ≡ with_values A.with_value arena.old writes) }
     ensures history { Continues A.fits arena.old [] arena.new }
@@ -85,31 +82,21 @@ pub(crate) fn put<P: Ptr, T: Drop, A: ArenaInsertTrait<P, Link<P, T>>>(
     before: Option<P>,
     after: Option<P>,
 ) -> Result<P, ReallocationError>
-    ensures free { IfOk result (λ q.
-        look_up (node_slots P.numbers (A.slots arena.old)) (P.numbers q) ≡ None) }
-    ensures found { IfOk result (λ q.
-        look_up (node_slots P.numbers (A.slots arena.new)) (P.numbers q) ≡ Some record {
-          value = value;
-          before = option_map P.numbers before;
-          after = option_map P.numbers after;
-        }) }
-    ensures others { IfOk result (λ q. (r : Pointer) → r ≢ P.numbers q
-        → look_up (node_slots P.numbers (A.slots arena.new)) r
-        ≡ look_up (node_slots P.numbers (A.slots arena.old)) r) }
+    ensures put { IfOk result (λ q. IsPut
+        (look_up (node_slots P.numbers (A.slots arena.old))) (P.numbers q)
+        (node_of P.numbers record { value = value; before = before; after = after })
+        (look_up (node_slots P.numbers (A.slots arena.new)))) }
+    ensures size { OnOk result (HasOneMore A.capacity A.grown
+        (chains_in P.numbers A.slots A.capacity A.limit arena.old)
+        (chains_in P.numbers A.slots A.capacity A.limit arena.new)) }
+    ensures history { IfOk result
+        (λ q. Continues A.fits arena.old (insertion (P.numbers q) ∷ []) arena.new) }
     ensures refused { OnErr result (arena.new ≡ arena.old) }
     ensures beyond { (result ≡ Err ReallocationError.BeyondMaxCapacity) ↔ IsFullAtLimit
         (A.capacity arena.old) (A.limit arena.old) (entry_count (A.slots arena.old)) }
-    ensures len { OnOk result
-        (entry_count (A.slots arena.new) ≡ entry_count (A.slots arena.old) + 1) }
-    ensures capacity { OnOk result (A.capacity arena.old ≤ A.capacity arena.new) }
-    ensures limit { OnOk result (A.limit arena.new ≡ A.limit arena.old) }
     ensures with_memory { CanGrow A.has_memory (A.capacity arena.old) (A.limit arena.old)
         (greatest_index P.Inx.greatest) → IsOk result }
-    ensures had_place { entry_count (A.slots arena.old) < A.capacity arena.old
-        → IsOk result × (A.capacity arena.new ≡ A.capacity arena.old) }
-    ensures grown { OnOk result (A.capacity arena.new ≡ A.capacity (A.grown arena.old)) }
-    ensures history { IfOk result
-        (λ q. Continues A.fits arena.old (insertion (P.numbers q) ∷ []) arena.new) }
+    ensures had_place { entry_count (A.slots arena.old) < A.capacity arena.old → IsOk result }
 {
     arena.insert(Link {
         value,
@@ -124,16 +111,16 @@ pub(crate) fn take<P: Ptr, T, A: ArenaTrait<P, Link<P, T>>>(
     p: P,
 ) -> InvalidationOption<Link<P, T>>
     requires { IsSome (look_up (A.slots arena.old) (P.numbers p)) }
-    ensures link { look_up (A.slots arena.old) (P.numbers p) ≡ Some (allowed_option result) }
-    ensures answer { result ≡ told (A.ending_wraps arena.old) (allowed_option result) }
+    ensures answer { TellsValue (A.ending_wraps arena.old)
+        (look_up (A.slots arena.old) (P.numbers p)) result }
     ensures done { A.removes arena.old (P.numbers p).0 arena.new }
     ensures gone { look_up (node_slots P.numbers (A.slots arena.new)) (P.numbers p) ≡ None }
     ensures others { (r : Pointer) → r ≢ P.numbers p
         → look_up (node_slots P.numbers (A.slots arena.new)) r
         ≡ look_up (node_slots P.numbers (A.slots arena.old)) r }
     ensures len { entry_count (A.slots arena.new) + 1 ≡ entry_count (A.slots arena.old) }
-    ensures capacity { A.capacity arena.new ≡ A.capacity arena.old }
-    ensures limit { A.limit arena.new ≡ A.limit arena.old }
+    ensures room { KeepsRoom (chains_in P.numbers A.slots A.capacity A.limit arena.old)
+        (chains_in P.numbers A.slots A.capacity A.limit arena.new) }
     ensures history { CountsUp P.Gen.generations (A.ending_wraps arena.old)
         → Continues A.fits arena.old (removal (P.numbers p) ∷ []) arena.new }
 {
@@ -153,9 +140,8 @@ pub(crate) fn tie<P: Ptr, T, A: ArenaTrait<P, Link<P, T>>>(
         ≡ changed (option_map P.numbers next) (with_before (option_map P.numbers before)) q
         (changed (option_map P.numbers prev) (with_after (option_map P.numbers after)) q
         (look_up (node_slots P.numbers (A.slots arena.old)) q)) }
-    ensures len { entry_count (A.slots arena.new) ≡ entry_count (A.slots arena.old) }
-    ensures capacity { A.capacity arena.new ≡ A.capacity arena.old }
-    ensures limit { A.limit arena.new ≡ A.limit arena.old }
+    ensures size { KeepsSize (chains_in P.numbers A.slots A.capacity A.limit arena.old)
+        (chains_in P.numbers A.slots A.capacity A.limit arena.new) }
     ensures written { (writes : List (ℕ × Link P T))
         × (arena.new ≡ with_values A.with_value arena.old writes) }
     ensures history { Continues A.fits arena.old [] arena.new }
@@ -179,21 +165,14 @@ pub(crate) fn insert_between<P: Ptr, T: Drop, A: ArenaInsertTrait<P, Link<P, T>>
         (look_up (node_slots P.numbers (A.slots arena.old)))
         (option_map P.numbers prev) (option_map P.numbers next) (P.numbers q) value
         (look_up (node_slots P.numbers (A.slots arena.new)))) }
-    ensures refused { OnErr result (arena.new ≡ arena.old) }
-    ensures refusal { IfErr result IsRefusedRoom }
-    ensures no_room { (result ≡ Err ChainError.NoRoom) ↔ IsFullAtLimit
-        (A.capacity arena.old) (A.limit arena.old) (entry_count (A.slots arena.old)) }
-    ensures len { OnOk result
-        (entry_count (A.slots arena.new) ≡ entry_count (A.slots arena.old) + 1) }
-    ensures capacity { OnOk result (A.capacity arena.old ≤ A.capacity arena.new) }
-    ensures limit { OnOk result (A.limit arena.new ≡ A.limit arena.old) }
-    ensures with_memory { CanGrow A.has_memory (A.capacity arena.old) (A.limit arena.old)
-        (greatest_index P.Inx.greatest) → IsOk result }
-    ensures had_place { entry_count (A.slots arena.old) < A.capacity arena.old
-        → IsOk result × (A.capacity arena.new ≡ A.capacity arena.old) }
-    ensures grown { OnOk result (A.capacity arena.new ≡ A.capacity (A.grown arena.old)) }
+    ensures size { OnOk result (HasOneMore A.capacity A.grown
+        (chains_in P.numbers A.slots A.capacity A.limit arena.old)
+        (chains_in P.numbers A.slots A.capacity A.limit arena.new)) }
     ensures history { IfOk result
         (λ q. Continues A.fits arena.old (insertion (P.numbers q) ∷ []) arena.new) }
+    ensures refused { OnErr result (arena.new ≡ arena.old) }
+    ensures room { DependsOnRoom A.has_memory (greatest_index P.Inx.greatest)
+        (chains_in P.numbers A.slots A.capacity A.limit arena.old) result }
 {
     match put(arena, value, prev, next) {
         Ok(q) => {
@@ -212,18 +191,16 @@ pub(crate) fn unlink<P: Ptr, T, A: ArenaTrait<P, Link<P, T>>>(
 ) -> InvalidationOption<T>
     requires linked { IsLinked (look_up (node_slots P.numbers (A.slots arena.old))) }
     requires there { IsSome (look_up (A.slots arena.old) (P.numbers p)) }
-    ensures value { value_at (look_up (node_slots P.numbers (A.slots arena.old))) (P.numbers p)
-        ≡ Some (allowed_option result) }
-    ensures answer { result ≡ told (A.ending_wraps arena.old) (allowed_option result) }
+    ensures answer { TellsValue (A.ending_wraps arena.old)
+        (value_at (look_up (node_slots P.numbers (A.slots arena.old))) (P.numbers p)) result }
     ensures removed { IsRemoved
         (look_up (node_slots P.numbers (A.slots arena.old))) (P.numbers p)
         (look_up (node_slots P.numbers (A.slots arena.new))) }
-    ensures ended { EndsAt A.removes A.with_value arena.old (P.numbers p).0 arena.new }
+    ensures ended { EndsEntry A.removes A.with_value A.fits P.Gen.generations
+        (A.ending_wraps arena.old) arena.old (P.numbers p) arena.new }
     ensures len { entry_count (A.slots arena.new) + 1 ≡ entry_count (A.slots arena.old) }
-    ensures capacity { A.capacity arena.new ≡ A.capacity arena.old }
-    ensures limit { A.limit arena.new ≡ A.limit arena.old }
-    ensures history { CountsUp P.Gen.generations (A.ending_wraps arena.old)
-        → Continues A.fits arena.old (removal (P.numbers p) ∷ []) arena.new }
+    ensures room { KeepsRoom (chains_in P.numbers A.slots A.capacity A.limit arena.old)
+        (chains_in P.numbers A.slots A.capacity A.limit arena.new) }
 {
     let taken = take(arena, p);
     let (link, wrapped) = taken.overflowing();

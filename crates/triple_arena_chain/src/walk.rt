@@ -1,6 +1,6 @@
 //! Walks along a chain.
 
-ghost use Rattle.std.specs.Prelude.{◌≡◌, ◌+◌, [], cond, is_some, map, None, IfOk, IsSome};
+ghost use Rattle.std.specs.Prelude.{◌≡◌, ◌+◌, [], cond, is_some, map, None, IfOk, IsOkAnd, IsSome};
 ghost use Rattle.std.specs.Option.{option_map, option_eq};
 ghost use Rattle.triple_arena_ptr.specs.Pointers.{is_same};
 ghost use Rattle.triple_arena_chain.specs.Chains.{nodes, begun_at, passed, Passes, IsRest};
@@ -107,19 +107,22 @@ impl<P: Ptr, T, A: CompactArenaTrait<P, Link<P, T>> + ArenaInsertTrait<P, Link<P
     }
 
     /// The pointers of a chain from one on, each once: to its end, or once round a ring. There is none
-    /// where the pointer finds nothing.
+    /// where the pointer finds nothing, and then no memory is asked for.
     ///
     /// Refused where memory is.
     pub fn rest(&self, p: P, alloc: Global) -> Result<Vec<P>, AllocError>
         ensures rest { IsSome (nodes self.now (P.numbers p)) → IfOk result
             (λ all. IsRest (nodes self.now) (P.numbers p) (map P.numbers all.items)) }
         ensures nothing { nodes self.now (P.numbers p) ≡ None
-            → IfOk result (λ all. all.items ≡ []) }
+            → IsOkAnd result (λ all. all.items ≡ []) }
     {
         // Neighbours lead to each other, and entries are counted.
         let _len = self.len();
         walks_along_chains::<T>();
         let mut all = Vec::new(alloc);
+        if !self.contains(p) {
+            return Ok(all);
+        }
         let mut advancer = self.walk(p);
         'walk: while let Some(q) = advancer.advance(self) {
             all.push(q)?;

@@ -21,6 +21,10 @@ pub either_way : {A E : Type 0} (F : A → Type 0) (G K : Type 0) (r : Result A 
 either_way F G K (Ok x) f g ok err = ok x f
 either_way F G K (Err e) f g ok err = err g
 
+pub on_either : {A E : Type 0} (F G K : Type 0) (r : Result A E) → OnOk r F → OnErr r G → (F → K) → (G → K) → K
+on_either F G K (Ok x) f g ok err = ok f
+on_either F G K (Err e) f g ok err = err g
+
 -- what follows from a refusal
 pub if_refused : {A E : Type 0} (F : E → Type 0) (K : Type 0) (r : Result A E) → IfErr r F → ((x : A) → r ≡ Ok x → ⊥) → ((e : E) → F e → K) → K
 if_refused F K (Ok x) f refused gives = absurd (refused x refl)

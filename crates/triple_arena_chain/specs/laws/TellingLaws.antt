@@ -3,10 +3,11 @@ use Rattle.std.proofs.Common.{◌≡◌, ◌||◌, not, ℕ, Bool, true, false, 
 use Rattle.triple_arena_base.specs.Invalidation.{is_invalid, is_success_option, allowed_option, overflowing_option, as_option}
 use Rattle.triple_arena_base.specs.declared.invalidation.InvalidationOption.{InvalidationOption}
 use Rattle.triple_arena_base.specs.declared.invalidation.InvalidationOption.TheVariants.{Success, GenerationOverflow}
+use Rattle.triple_arena_ptr.specs.Numbers.{Generations}
 use Rattle.triple_arena_ptr.specs.Pointers.{Pointer}
 use Rattle.triple_arena.specs.Ending.{told, told_of}
 use Rattle.triple_arena.specs.Histories.{History, removal, and_then, followed_by}
-use Rattle.triple_arena_chain.specs.Endings.{with_values, EndsAt, EndInTurn}
+use Rattle.triple_arena_chain.specs.Endings.{with_values, EndsAt, EndInTurn, EndsEntry, EndsEntries}
 
 module _ {X : Type 0} where
   pub not_invalid : (wrapped : Bool) (o : Option X) → IsSome o → is_invalid (told_of wrapped o) ≡ false
@@ -91,3 +92,19 @@ module _ {A X : Type 0} (with_value : A → ℕ → X → A) where
         or_assoc : (a b c : Bool) → ((a || b) || c) ≡ (a || (b || c))
         or_assoc true b c = refl
         or_assoc false b c = refl
+
+    -- and as one record with its history
+    module _ (fits : History → A → Type 0) (generations : Generations) where
+      pub none_ends : (old : A) → EndsEntries removes with_value fits generations wraps old false old
+      none_ends old = record { gone = []; wrap = (refl, refl); history = λ up h fits. fits }
+
+      pub entry_ends_then : (old : A) (wrapped : Bool) (cur : A) (p : Pointer) (wraps_now : Bool) (new : A) → wraps_now ≡ wraps cur
+          → EndsEntries removes with_value fits generations wraps old wrapped cur → EndsEntry removes with_value fits generations (wraps cur) cur p new
+          → EndsEntries removes with_value fits generations wraps old (wrapped || wraps_now) new
+      entry_ends_then old wrapped cur p wraps_now new now before one = record {
+        gone = before.gone ++ p ∷ [];
+        wrap = subst (λ w. EndInTurn removes with_value wraps old (before.gone ++ p ∷ []) (wrapped || w) new) (sym now) (ends_then old before.gone wrapped cur p new before.wrap one.ended);
+        history = λ up h fit.
+            let parts = neither wrapped wraps_now up.1 in
+            subst (λ k. fits k new) (sym (one_more h before.gone p)) (one.history (up.0, sym now ∙ parts.1) _ (before.history (up.0, parts.0) h fit));
+      }

@@ -39,6 +39,7 @@ returns-clause-kept g c =
     let is = c.in-Ok.ensures.compacted in
     rw (← c.self.view_is) (record {
       moved = is_moved numbers g.P.Recast.held g.P.Recast.refill g.met.P.Ptr.holds_itself g.met.P.Ptr.refills rename old new is.ranked is.found;
+      ranked = is.ranked;
       packed = packed numbers g.P.Recast.held g.P.Recast.refill g.met.P.Ptr.holds_itself g.met.P.Ptr.refills rename old new is.ranked (g.met.A.CompactArenaTrait.ranked c.self.inside.arena false) c.compress_recast.ensures.size.len;
       history = is.history refl;
       begun = is.begun;

@@ -1,9 +1,11 @@
 use Rattle.std.proofs.Common.{rules, ◌≡◌, IsSome, sym, subst}
 use Rattle.std.specs.Option.{option_map}
 use Rattle.std.specs.Prelude.{[], ◌∷◌, IfOk, OnOk}
+use Rattle.triple_arena_ptr.specs.Numbers.{greatest_index}
 use Rattle.triple_arena.specs.Entries.{look_up}
 use Rattle.triple_arena.specs.Histories.{insertion, Continues}
-use Rattle.triple_arena_chain.specs.Chains.{nodes, node_slots, place_at, place_before, place_after, IsLinked, IsThere, IsBetween}
+use Rattle.triple_arena_chain.specs.Chains.{nodes, node_slots, chains_in, place_at, place_before, place_after, IsLinked, IsThere, IsBetween}
+use Rattle.triple_arena_chain.specs.Room.{HasOneMore, DependsOnRoom}
 use Rattle.triple_arena_chain.specs.laws.LinkLaws.{place_before_there, place_after_there, place_between, linked_inserted}
 use Rattle.triple_arena_chain.specs.laws.ResultLaws.{either_way}
 use Rattle.triple_arena_chain.proofs.chains.Chains.insert.Goals as goal
@@ -45,9 +47,12 @@ invariant_of-self g c =
     (λ q done. linked_inserted old prev next (numbers q) c.args.value new c.self.invariant fits done)
     (λ same. subst (λ a. IsLinked (look_up (node_slots numbers (g.A.ArenaStates.slots a)))) (sym same) c.self.invariant)
 
-pub returns-in-Some-clause-grown : goal.returns-in-Some-clause-grown
-returns-in-Some-clause-grown g c =
-    subst (λ s. OnOk c.insert_between.result (g.A.ArenaStates.capacity c.insert_between.new.arena ≡ g.A.ArenaStates.capacity (g.A.ArenaInsertTrait.grown s.arena))) c.self.view_is c.insert_between.ensures.grown
+pub returns-in-Some-clause-size : goal.returns-in-Some-clause-size
+returns-in-Some-clause-size g c =
+    subst (λ s. OnOk c.insert_between.result (HasOneMore g.A.ArenaStates.capacity g.A.ArenaInsertTrait.grown s (chains_in g.P.Ptr.numbers g.A.ArenaStates.slots g.A.ArenaStates.capacity g.A.ArenaStates.limit c.insert_between.new.arena))) c.self.view_is c.insert_between.ensures.size
+
+pub returns-in-Some-clause-room : goal.returns-in-Some-clause-room
+returns-in-Some-clause-room g c = λ there. subst (λ s. DependsOnRoom g.A.ArenaTrait.has_memory (greatest_index g.P.Inx.PtrInx.greatest) s c.insert_between.result) c.self.view_is c.insert_between.ensures.room
 
 pub returns-in-Some-clause-history : goal.returns-in-Some-clause-history
 returns-in-Some-clause-history g c =

@@ -1,9 +1,9 @@
-use Rattle.std.proofs.Common.{◌≡◌, ◌-◌, ◌||◌, [], ◌∷◌, ◌++◌, not, IsSome, refl, sym, ap, subst, ◌∙◌, arith}
+use Rattle.std.proofs.Common.{◌≡◌, ◌-◌, ◌||◌, not, IsSome, refl, sym, ap, subst, ◌∙◌, arith}
 use Rattle.triple_arena_base.specs.Invalidation.{allowed_option, is_success_option}
 use Rattle.triple_arena_chain.specs.Chains.{nodes}
-use Rattle.triple_arena_chain.specs.Endings.{EndInTurn}
+use Rattle.triple_arena_chain.specs.Endings.{EndsEntries}
 use Rattle.triple_arena_chain.specs.laws.NodeLaws.{value_there}
-use Rattle.triple_arena_chain.specs.laws.TellingLaws.{neither, one_more, allowed_told, wrap_told, ends_then}
+use Rattle.triple_arena_chain.specs.laws.TellingLaws.{allowed_told, wrap_told, none_ends, entry_ends_then}
 use Rattle.triple_arena_chain.proofs.Thinning.{thinned_none, beside_there, still, one_less, none_left}
 use Rattle.triple_arena_chain.proofs.chains.Chains.remove_chain.Goals as goal
 
@@ -14,10 +14,8 @@ chain-init g c =
       thin = thinned_none (nodes c.args.self.now) (g.P.Ptr.numbers c.args.p);
       there = there;
       fewer = omega (arith, c.len-all.ensures.value);
-      capacity = refl;
-      limit = refl;
-      wrap = ([], (refl, refl));
-      history = λ up. ([], λ h fits. fits);
+      room = record { capacity = refl; limit = refl };
+      ended = none_ends g.A.ArenaStates.with_value g.A.ArenaStates.removes g.A.ArenaStates.ending_wraps g.A.ArenaStates.fits g.P.Gen.PtrGen.generations c.args.self.now.arena;
     }
 
 pub let_go-wrapped-requires-after_bounds : goal.let_go-wrapped-requires-after_bounds
@@ -37,19 +35,10 @@ chain-preserved g c =
       thin = one_less old cur p c.in-Some-beside.ensures.linked c.chain.invariant.thin q new c.in-Some-beside.ensures.some c.let_go-wrapped.ensures.removed;
       there = still cur q new c.in-Some-beside.ensures.linked c.let_go-wrapped.ensures.removed p c.chain.invariant.there (λ e. c.in-Some-beside.ensures.some.0 (sym e));
       fewer = omega (arith, c.let_go-wrapped.ensures.len, c.chain.invariant.fewer);
-      capacity = cc;
-      limit = cc;
-      wrap = (
-        c.chain.invariant.wrap.0 ++ q ∷ [],
-        subst (λ w. EndInTurn g.A.ArenaStates.removes g.A.ArenaStates.with_value g.A.ArenaStates.ending_wraps c.args.self.now.arena (c.chain.invariant.wrap.0 ++ q ∷ []) (c.chain.wrapped || w) c.let_go-wrapped.new.self.arena)
-            (sym c.let_go-wrapped.ensures.wrapped)
-            (ends_then g.A.ArenaStates.with_value g.A.ArenaStates.removes g.A.ArenaStates.ending_wraps c.args.self.now.arena c.chain.invariant.wrap.0 c.chain.wrapped c.chain.self.arena q c.let_go-wrapped.new.self.arena
-            c.chain.invariant.wrap.1 c.let_go-wrapped.ensures.ended),
-      );
-      history = λ up.
-          let parts = neither c.chain.wrapped c.let_go-wrapped.result up.1 in
-          let before = c.chain.invariant.history (up.0, parts.0) in
-          (before.0 ++ q ∷ [], λ h fits. subst (λ k. g.A.ArenaStates.fits k c.let_go-wrapped.new.self.arena) (sym (one_more h before.0 q)) (c.let_go-wrapped.ensures.history (up.0, parts.1) _ (before.1 h fits)));
+      room = record { capacity = c.let_go-wrapped.ensures.room.capacity ∙ c.chain.invariant.room.capacity; limit = c.let_go-wrapped.ensures.room.limit ∙ c.chain.invariant.room.limit };
+      ended =
+          entry_ends_then g.A.ArenaStates.with_value g.A.ArenaStates.removes g.A.ArenaStates.ending_wraps g.A.ArenaStates.fits g.P.Gen.PtrGen.generations c.args.self.now.arena c.chain.wrapped c.chain.self.arena q
+          c.let_go-wrapped.result c.let_go-wrapped.new.self.arena c.let_go-wrapped.ensures.wrapped c.chain.invariant.ended c.let_go-wrapped.ensures.ended;
     }
 
 pub returns-clause-removed : goal.returns-clause-removed
@@ -65,23 +54,16 @@ returns-clause-len g c =
     ap allowed_option c.telling.ensures ∙ allowed_told (c.chain.wrapped || c.let_go-wrapped-2.result) (c.len-all.result - c.len.result) in
     omega (arith, count, c.let_go-wrapped-2.ensures.len, c.chain.invariant.fewer, c.len-all.ensures.value, c.len.ensures.value)
 
-pub returns-clause-wrap : goal.returns-clause-wrap
-returns-clause-wrap g c =
-    let p = g.P.Ptr.numbers c.args.p in
-    let wrap : (c.chain.wrapped || g.A.ArenaStates.ending_wraps c.chain.self.arena) ≡ not (is_success_option c.telling.result) =
-    ap (λ w. c.chain.wrapped || w) (sym c.let_go-wrapped-2.ensures.wrapped)
-    ∙ sym (ap (λ r. not (is_success_option r)) c.telling.ensures ∙ wrap_told (c.chain.wrapped || c.let_go-wrapped-2.result) (c.len-all.result - c.len.result)) in (
-      c.chain.invariant.wrap.0 ++ p ∷ [],
-      subst (λ w. EndInTurn g.A.ArenaStates.removes g.A.ArenaStates.with_value g.A.ArenaStates.ending_wraps c.args.self.now.arena (c.chain.invariant.wrap.0 ++ p ∷ []) w c.let_go-wrapped-2.new.self.arena) wrap
-          (ends_then g.A.ArenaStates.with_value g.A.ArenaStates.removes g.A.ArenaStates.ending_wraps c.args.self.now.arena c.chain.invariant.wrap.0 c.chain.wrapped c.chain.self.arena p c.let_go-wrapped-2.new.self.arena
-          c.chain.invariant.wrap.1 c.let_go-wrapped-2.ensures.ended),
-    )
+pub returns-clause-ended : goal.returns-clause-ended
+returns-clause-ended g c =
+    let wrap : (c.chain.wrapped || c.let_go-wrapped-2.result) ≡ not (is_success_option c.telling.result) =
+    sym (ap (λ r. not (is_success_option r)) c.telling.ensures ∙ wrap_told (c.chain.wrapped || c.let_go-wrapped-2.result) (c.len-all.result - c.len.result)) in
+    subst (λ w. EndsEntries g.A.ArenaStates.removes g.A.ArenaStates.with_value g.A.ArenaStates.fits g.P.Gen.PtrGen.generations g.A.ArenaStates.ending_wraps c.args.self.now.arena w c.let_go-wrapped-2.new.self.arena) wrap
+    (entry_ends_then g.A.ArenaStates.with_value g.A.ArenaStates.removes g.A.ArenaStates.ending_wraps g.A.ArenaStates.fits g.P.Gen.PtrGen.generations c.args.self.now.arena c.chain.wrapped c.chain.self.arena (g.P.Ptr.numbers c.args.p)
+    c.let_go-wrapped-2.result c.let_go-wrapped-2.new.self.arena c.let_go-wrapped-2.ensures.wrapped c.chain.invariant.ended c.let_go-wrapped-2.ensures.ended)
 
-pub returns-clause-history : goal.returns-clause-history
-returns-clause-history g c = λ up.
-    let p = g.P.Ptr.numbers c.args.p in
-    let wrap : not (is_success_option c.telling.result) ≡ (c.chain.wrapped || c.let_go-wrapped-2.result) =
-    ap (λ r. not (is_success_option r)) c.telling.ensures ∙ wrap_told (c.chain.wrapped || c.let_go-wrapped-2.result) (c.len-all.result - c.len.result) in
-    let parts = neither c.chain.wrapped c.let_go-wrapped-2.result (sym wrap ∙ up.1) in
-    let before = c.chain.invariant.history (up.0, parts.0) in
-    (before.0 ++ p ∷ [], λ h fits. subst (λ k. g.A.ArenaStates.fits k c.let_go-wrapped-2.new.self.arena) (sym (one_more h before.0 p)) (c.let_go-wrapped-2.ensures.history (up.0, parts.1) _ (before.1 h fits)))
+pub returns-clause-room : goal.returns-clause-room
+returns-clause-room g c = record {
+  capacity = c.let_go-wrapped-2.ensures.room.capacity ∙ c.chain.invariant.room.capacity;
+  limit = c.let_go-wrapped-2.ensures.room.limit ∙ c.chain.invariant.room.limit;
+}

@@ -1,0 +1,66 @@
+-- How many entries chains have and how much room, and how calls are answered by that room and by memory.
+use Rattle.std.specs.Prelude.{◌≡◌, ◌↔◌, ℕ, ◌+◌, ◌≤◌, ◌<◌, Bool, List, map, Option, None, Some, Result, Err, IsOk, OnOk}
+use Rattle.std.specs.Result.{IfErr}
+use Rattle.triple_arena_base.specs.Invalidation.{allowed_option}
+use Rattle.triple_arena_base.specs.declared.invalidation.InvalidationOption.{InvalidationOption}
+use Rattle.triple_arena_ptr.specs.Pointers.{Pointer}
+use Rattle.triple_arena_stack.specs.Capacity.{IsWithin, IsBeyond, IsFullAtLimit, CanGrow}
+use Rattle.triple_arena.specs.Ending.{told}
+use Rattle.triple_arena.specs.Walks.{entries}
+use Rattle.triple_arena_chain.specs.declared.place.ChainError.{ChainError}
+use Rattle.triple_arena_chain.specs.declared.place.ChainError.TheVariants.{NoRoom}
+use Rattle.triple_arena_chain.specs.Chains.{ChainState, nodes, IsRefusedRoom}
+
+module _ {A T : Type 0} where
+  -- no pointer finds anything; there is this capacity and this limit
+  pub record AreEmpty (capacity_is : ℕ) (limit_is : Option ℕ) (chains : ChainState A T) : Type 0 where
+    pub none : (q : Pointer) → nodes chains q ≡ None
+    pub len : chains.len ≡ 0
+    pub capacity : chains.capacity ≡ capacity_is
+    pub limit : chains.limit ≡ limit_is
+
+  -- the same capacity and limit
+  pub record KeepsRoom (old new : ChainState A T) : Type 0 where
+    pub capacity : new.capacity ≡ old.capacity
+    pub limit : new.limit ≡ old.limit
+
+  -- every pointer finds what it found, and as many entries are allowed
+  pub record KeepsNodes (old new : ChainState A T) : Type 0 where
+    pub found : (q : Pointer) → nodes new q ≡ nodes old q
+    pub len : new.len ≡ old.len
+    pub limit : new.limit ≡ old.limit
+
+  -- there is one entry more, and as much room or more: a full arena has grown as its own insertions have it grow, and where a
+  -- place was, the capacity stays
+  pub record HasOneMore (capacity_of : A → ℕ) (grown_from : A → A) (old new : ChainState A T) : Type 0 where
+    pub len : new.len ≡ old.len + 1
+    pub capacity : old.capacity ≤ new.capacity
+    pub limit : new.limit ≡ old.limit
+    pub grown : new.capacity ≡ capacity_of (grown_from old.arena)
+    pub had_place : old.len < old.capacity → new.capacity ≡ old.capacity
+
+  -- an insertion is refused for want of room exactly where the arena is full at its limit, else for want of memory; and neither
+  -- where memory is there, nor where a place is
+  pub record DependsOnRoom {X : Type 0} (has_memory : ℕ → Type 0) (greatest : ℕ) (old : ChainState A T) (result : Result X ChainError) : Type 0 where
+    pub refusal : IfErr result IsRefusedRoom
+    pub no_room : (result ≡ Err NoRoom) ↔ IsFullAtLimit old.capacity old.limit old.len
+    pub with_memory : CanGrow has_memory old.capacity old.limit greatest → IsOk result
+    pub had_place : old.len < old.capacity → IsOk result
+
+  -- the pointers and the values of all entries, in the order of their indexes
+  abbrev pub all_values : ChainState A T → List (Pointer × T)
+  all_values s = map (λ e. (e.0, e.1.value)) (entries s.slots)
+
+-- room for so many is refused for want of room exactly where it could be had but for the limit, else for want of memory or
+-- indexes; and neither where the room stays, nor where memory is there
+pub record DependsOnLimit {X : Type 0} (greatest min_capacity : ℕ) (limit : Option ℕ) (keeps_room gets_room : Type 0) (result : Result X ChainError) : Type 0 where
+  pub refusal : IfErr result IsRefusedRoom
+  pub within : OnOk result ((min_capacity ≤ greatest) × IsWithin limit min_capacity)
+  pub no_room : (result ≡ Err NoRoom) ↔ ((min_capacity ≤ greatest) × IsBeyond limit min_capacity)
+  pub succeeds : min_capacity ≤ greatest → IsWithin limit min_capacity → keeps_room → IsOk result
+  pub with_memory : min_capacity ≤ greatest → IsWithin limit min_capacity → gets_room → IsOk result
+
+-- the answer has the value that was found, and tells whether the counter wrapped
+pub record TellsValue {T : Type 0} (wraps : Bool) (found : Option T) (answer : InvalidationOption T) : Type 0 where
+  pub value : found ≡ Some (allowed_option answer)
+  pub tells : answer ≡ told wraps (allowed_option answer)
